@@ -3,7 +3,7 @@ use Rattle.std.proofs.Common.{◌≡◌, ℕ, [], refl, sym, subst}
 use Rattle.machine_shape.specs.declared.Shape.{Shape}
 use Rattle.machine_meaning.specs.Faults.{Faults}
 use Rattle.machine_meaning.specs.Defects.{Defects, IsFair}
-use Rattle.design_netlist.specs.declared.draft.Draft.{Draft}
+use Rattle.design_netlist.specs.declared.netlist_data.NetlistData.{NetlistData}
 use Rattle.design_netlist.specs.Checks.{IsChecked}
 use Rattle.map_network.specs.declared.network.Network.{Network}
 use Rattle.map_network.specs.Networks.{IsNetwork}
@@ -31,13 +31,13 @@ abbrev pub AreSure : Type 0
 AreSure = (m : Shape) (d : Defects) (f : Faults) (n : Network) (s : Short) → IsNetwork n → IsFair m d f → HasSoundParts m f n → ¬ IsShortInOrder m d n s
 
 abbrev pub IsOnly : Type 0
-IsOnly = (d : Draft) → IsDesign work.bench_design d → d ≡ bench_draft
+IsOnly = (d : NetlistData) → IsDesign work.bench_design d → d ≡ bench_draft
 
 abbrev pub LeaveRoom : Type 0
 LeaveRoom = (m : Shape) (n : ℕ) (f : Faults) → m.counts ≡ work.bench_counts → AreBenchFaults m n f → HasSoundParts m f (plain_network bench_draft)
 
 abbrev pub AreNetworks : Type 0
-AreNetworks = (d : Draft) → IsChecked d → IsNetwork (plain_network d)
+AreNetworks = (d : NetlistData) → IsChecked d → IsNetwork (plain_network d)
 
 module _ (sure : AreSure) (networks : AreNetworks) (only : IsOnly) (room : LeaveRoom) (n : ℕ) (old new : Around) (right : BenchRight n new.rig.machine.faults) where
   memory-excused : (refusal : Refusal) → OnlyMemory refusal → IsExcused refusal old new
@@ -49,9 +49,9 @@ module _ (sure : AreSure) (networks : AreNetworks) (only : IsOnly) (room : Leave
   run-excused before refused.Memory stops = tt
   run-excused before refusal stops = absurd stops
 
-  never-short : (m : Shape) (draft : Draft) (l : Listed) → m.counts ≡ work.bench_counts → IsDesign work.bench_design draft → IsListed m old.rig.loads new.rig l → (place : ShortPlace) → IsNoRoom l.list draft place → ⊥
+  never-short : (m : Shape) (draft : NetlistData) (l : Listed) → m.counts ≡ work.bench_counts → IsDesign work.bench_design draft → IsListed m old.rig.loads new.rig l → (place : ShortPlace) → IsNoRoom l.list draft place → ⊥
   never-short m draft l is design listed place short =
-      let sound : HasSoundParts m right.faults (plain_network draft) = subst (λ (x : Draft). HasSoundParts m right.faults (plain_network x)) (sym (only draft design)) (room m n right.faults is (right.made m is)) in
+      let sound : HasSoundParts m right.faults (plain_network draft) = subst (λ (x : NetlistData). HasSoundParts m right.faults (plain_network x)) (sym (only draft design)) (room m n right.faults is (right.made m is)) in
       let lacks : IsShortInOrder m l.list.list (plain_network draft) place.short =
       subst (λ (x : Network). IsShortInOrder m l.list.list x place.short) short.plain (subst (λ (s : Shape). IsShortInOrder s l.list.list short.network place.short) listed.shape short.short) in
       sure m l.list.list right.faults (plain_network draft) place.short (networks draft design.checked) (listed.right.fair right.faults right.faults_told) sound lacks

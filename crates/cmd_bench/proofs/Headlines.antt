@@ -7,7 +7,7 @@ use Rattle.base_io.specs.Sink.{Wrote}
 use Rattle.machine_shape.specs.declared.Shape.{Shape}
 use Rattle.machine_meaning.specs.Faults.{Faults}
 use Rattle.machine_meaning.specs.Defects.{Covers}
-use Rattle.design_netlist.specs.declared.draft.Draft.{Draft}
+use Rattle.design_netlist.specs.declared.netlist_data.NetlistData.{NetlistData}
 use Rattle.map_network.specs.Plain.{plain_network}
 use Rattle.place_plan.specs.Plans.{nets_in}
 use Rattle.place_route.specs.RightImages.{IsRightImage}
@@ -30,9 +30,9 @@ vectors-wide n width one =
 
 module _ (tables : length (plain_network bench_draft).tables ≡ 17) (nets : nets_in (plain_network bench_draft) ≡ 18) (n : ℕ) where
   -- the numbers of the design's plain network
-  pub summary-is : (draft : Draft) (ones loads : ℕ) → draft ≡ bench_draft → bench_summary n draft ones loads ≡ summary_text n 17 18 ones loads
+  pub summary-is : (draft : NetlistData) (ones loads : ℕ) → draft ≡ bench_draft → bench_summary n draft ones loads ≡ summary_text n 17 18 ones loads
   summary-is draft ones loads is =
-      ap (λ (x : Draft). bench_summary n x ones loads) is
+      ap (λ (x : NetlistData). bench_summary n x ones loads) is
       ∙ (ap (λ t. summary_text n t (nets_in (plain_network bench_draft)) ones loads) tables ∙ ap (λ k. summary_text n 17 k ones loads) nets)
 
   module _ (only : IsOnly) (old new : Outside) where
@@ -46,7 +46,7 @@ module _ (tables : length (plain_network bench_draft).tables ≡ 17) (nets : net
     benched text wrote (inr (m, counts, inr (u, attached, inr (draft, design, inr (l, listed, inr (i, laid, inr (ones, run, inl h))))))) = let line = h.1 in absurd (cc)
     benched text wrote (inr (m, counts, inr (u, attached, inr (draft, design, inr (l, listed, inr (i, laid, inr (ones, run, inr (more, is, h)))))))) =
         let the = only draft design in
-        let one : length i.inputs ≡ 1 = laid.0.inputs ∙ ap (λ (x : Draft). length x.inputs) the in
+        let one : length i.inputs ≡ 1 = laid.0.inputs ∙ ap (λ (x : NetlistData). length x.inputs) the in
         let line = is ∙ (ap (λ t. bench_summary n draft ones (new.rig.loads - old.rig.loads) ++ t) h.0 ∙ (append-nil _ ∙ summary-is draft ones (new.rig.loads - old.rig.loads) the)) in
         let right : (f : Faults) → new.rig.machine.faults ≡ Some f → IsRightImage f i draft = λ f told.
         laid.0.right f (subst (λ (s : Shape). Covers s l.list.list f) (sym listed.shape) (listed.right.covers f told)) in
@@ -63,7 +63,7 @@ module _ (tables : length (plain_network bench_draft).tables ≡ 17) (nets : net
           is_image = laid.0.image;
           image_shape = laid.0.shape ∙ listed.shape;
           one_input = one;
-          two_outputs = laid.0.outputs ∙ ap (λ (x : Draft). length x.outputs) the;
+          two_outputs = laid.0.outputs ∙ ap (λ (x : NetlistData). length x.outputs) the;
           routed = laid.0.routed;
           config = run.config;
           drives = run.drives;

@@ -3,8 +3,8 @@ use Rattle.std.proofs.Common.{◌≡◌, ℕ, zero, suc, ◌<◌, slice_index_or
 use Rattle.machine_shape.specs.declared.Counts.{Counts}
 use Rattle.machine_shape.specs.declared.Field.{Field}
 use Rattle.machine_shape.specs.declared.Field.TheVariants.{Modules, Chips, Hextants, Tables, Ports, Lines, Pins}
-use Rattle.machine_shape.specs.declared.Which.{Which}
-use Rattle.machine_shape.specs.declared.Which.TheVariants as which
+use Rattle.machine_shape.specs.declared.LimitedCount.{LimitedCount}
+use Rattle.machine_shape.specs.declared.LimitedCount.TheVariants as which
 use Rattle.machine_shape.specs.declared.ShapeFault.{ShapeFault}
 use Rattle.machine_shape.specs.declared.ShapeFault.TheVariants.{Zero, Limit}
 use Rattle.machine_shape.specs.Counts.{levels_from}
@@ -33,7 +33,7 @@ no_zero Ports has = no_port has.0 has.1 has.2
 no_zero Lines has = no_line has.0 has.1 has.2
 no_zero Pins e = omega (arith, e)
 
-within : (which : Which) → most_of which < amount_of bench_counts which → ⊥
+within : (which : LimitedCount) → most_of which < amount_of bench_counts which → ⊥
 unfolding levels_from
 within which.Tables e = omega (arith, e)
 within which.Wires e = omega (arith, e)

@@ -4,7 +4,7 @@ use Rattle.std.specs.Prelude.{codes}
 use Rattle.std.specs.Fmt.{digits}
 use Rattle.base_text.specs.Lines.{logical_lines, texts_of}
 use Rattle.base_text.specs.Bytes.{physical_lines}
-use Rattle.design_netlist.specs.declared.draft.LatchDef.{LatchDef}
+use Rattle.design_netlist.specs.declared.netlist_data.LatchDef.{LatchDef}
 use Rattle.design_flatten.specs.declared.model.Model.{Model}
 use Rattle.design_flatten.specs.declared.model.Piece.{Piece}
 use Rattle.design_flatten.specs.declared.model.Piece.TheVariants.{Names, Latch}

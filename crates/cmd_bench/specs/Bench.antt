@@ -5,7 +5,7 @@ use Rattle.std.specs.Fmt.{decimal}
 use Rattle.base_io.specs.Counts.{next_count}
 use Rattle.machine_shape.specs.declared.Shape.{Shape}
 use Rattle.machine_meaning.specs.Faults.{Faults}
-use Rattle.design_netlist.specs.declared.draft.Draft.{Draft}
+use Rattle.design_netlist.specs.declared.netlist_data.NetlistData.{NetlistData}
 use Rattle.design_blif.specs.Designs.{IsDesign}
 use Rattle.map_network.specs.Plain.{plain_network}
 use Rattle.place_plan.specs.Plans.{nets_in}
@@ -64,7 +64,7 @@ OnlyMemory refusal = ⊥
 abbrev pub makes_shape : Step Shape
 makes_shape = record { stops = OnlyMemory; gives = λ m. m.counts ≡ work.bench_counts }
 
-abbrev pub makes_design : Step Draft
+abbrev pub makes_design : Step NetlistData
 makes_design = record { stops = OnlyMemory; gives = IsDesign work.bench_design }
 
 -- the machine of a shape, under the name of the number
@@ -101,23 +101,23 @@ runs n i before rig = record { stops = NotRun before rig; gives = IsBenchRun n i
 -- ---- the command
 
 -- the summary has the numbers of the design's plain network
-abbrev pub bench_summary : (n : ℕ) → Draft → (ones loads : ℕ) → List ℕ
+abbrev pub bench_summary : (n : ℕ) → NetlistData → (ones loads : ℕ) → List ℕ
 bench_summary n draft ones loads = summary_text n (length (plain_network draft).tables) (nets_in (plain_network draft)) ones loads
 
 -- The summary is written, with the loads that were made since the command began
-abbrev pub ones_written : (n : ℕ) → Draft → (begun : ℕ) → (here : Type 0) → RigState → (ones : ℕ) → Course
+abbrev pub ones_written : (n : ℕ) → NetlistData → (begun : ℕ) → (here : Type 0) → RigState → (ones : ℕ) → Course
 ones_written n draft begun here rig ones = write (bench_summary n draft ones (rig.loads - begun)) here (done here)
 
 -- The image is loaded and the vectors are driven
-abbrev pub image_run : (n : ℕ) → Draft → Listed → (begun : ℕ) → (here : Type 0) → RigState → ImageValue → Course
+abbrev pub image_run : (n : ℕ) → NetlistData → Listed → (begun : ℕ) → (here : Type 0) → RigState → ImageValue → Course
 image_run n draft l begun here rig i = after (runs n i l.loads rig) here (ones_written n draft begun here rig)
 
 -- The design is laid on what the list leaves free, and run. No load is made before that
-abbrev pub design_laid : (n : ℕ) → Draft → (begun : ℕ) → (here : Type 0) → RigState → Listed → Course
+abbrev pub design_laid : (n : ℕ) → NetlistData → (begun : ℕ) → (here : Type 0) → RigState → Listed → Course
 design_laid n draft begun here rig l = after (lays l.list draft) (here × (rig.loads ≡ l.loads)) (image_run n draft l begun here rig)
 
 -- The defects of the machine are listed
-abbrev pub machine_listed : (n : ℕ) → Around → Around → Shape → Draft → Course
+abbrev pub machine_listed : (n : ℕ) → Around → Around → Shape → NetlistData → Course
 machine_listed n old new m draft =
     after (lists m old.rig.loads new.rig) (new.store ≡ old.store) (design_laid n draft old.rig.loads (new.store ≡ old.store) new.rig)
 

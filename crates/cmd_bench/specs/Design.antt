@@ -2,10 +2,10 @@
 use Rattle.std.specs.Prelude.{ℕ, ◌+◌, false, List, [], ◌∷◌, ◌++◌, map, codes}
 use Rattle.std.specs.List.{range_with_len}
 use Rattle.std.specs.Fmt.{decimal}
-use Rattle.design_netlist.specs.declared.draft.Draft.{Draft}
-use Rattle.design_netlist.specs.declared.draft.Cover.{Cover}
-use Rattle.design_netlist.specs.declared.draft.LatchDef.{LatchDef}
-use Rattle.design_netlist.specs.declared.draft.Lit.TheVariants.{Zero, One}
+use Rattle.design_netlist.specs.declared.netlist_data.NetlistData.{NetlistData}
+use Rattle.design_netlist.specs.declared.netlist_data.Cover.{Cover}
+use Rattle.design_netlist.specs.declared.netlist_data.LatchDef.{LatchDef}
+use Rattle.design_netlist.specs.declared.netlist_data.Lit.TheVariants.{Zero, One}
 use Rattle.design_netlist.specs.Drafts.{word}
 
 -- the input, what it and the last latch give together, the last latch, and the other latches in their order
@@ -27,7 +27,7 @@ abbrev pub bench_latches : List LatchDef
 bench_latches = latch_from 1 3 7 ∷ map bench_latch (range_with_len 0 14) ++ latch_from 17 2 22 ∷ []
 
 -- one input, two outputs, one cover and sixteen latches
-abbrev pub bench_draft : Draft
+abbrev pub bench_draft : NetlistData
 bench_draft = record {
   names = bench_names;
   inputs = word 2 0 ∷ [];

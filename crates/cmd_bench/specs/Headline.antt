@@ -4,7 +4,7 @@ use Rattle.base_io.specs.Counts.{next_count}
 use Rattle.base_io.specs.Sink.{Wrote}
 use Rattle.machine_shape.specs.declared.Shape.{Shape}
 use Rattle.machine_meaning.specs.Faults.{Faults}
-use Rattle.design_netlist.specs.declared.draft.Draft.{Draft}
+use Rattle.design_netlist.specs.declared.netlist_data.NetlistData.{NetlistData}
 use Rattle.design_netlist.specs.Rows.{AreRows}
 use Rattle.design_blif.specs.Designs.{IsDesign}
 use Rattle.machine_image.specs.Images.{ImageValue, IsImage, drive_of, image_row}
@@ -27,7 +27,7 @@ pub record IsBenched (n : ℕ) (old new : Outside) : Type 0 where
   pub made : Listed
   pub is_listed : IsListed shape old.rig.loads new.rig made
   pub loads : new.rig.loads ≡ next_count made.loads
-  pub draft : Draft
+  pub draft : NetlistData
   pub design : IsDesign work.bench_design draft
   -- the session's configuration is that of an image with a pin for each input and output of the design
   pub image : ImageValue

@@ -5,7 +5,7 @@ use Rattle.base_io.specs.Store.{StoreState}
 use Rattle.machine_text.specs.Machine.{IsMachine}
 use Rattle.machine_defects.specs.Lists.{DefectList}
 use Rattle.machine_defects.specs.Faults.{IsText}
-use Rattle.design_netlist.specs.declared.draft.Draft.{Draft}
+use Rattle.design_netlist.specs.declared.netlist_data.NetlistData.{NetlistData}
 use Rattle.design_blif.specs.Designs.{IsDesign}
 use Rattle.machine_image.specs.Images.{ImageValue, image_bytes}
 use Rattle.cmd_steps.specs.Outside.{StandsIn}
@@ -23,7 +23,7 @@ abbrev pub image_written : (files : List (List ℕ)) → StoreState → StoreSta
 image_written files old new i = write (image_bytes i) (StandsIn files old new) (done (StandsIn files old new))
 
 -- The design is laid on what the list leaves free, and its image is written
-abbrev pub design_laid : (files : List (List ℕ)) → StoreState → StoreState → DefectList → Draft → Course
+abbrev pub design_laid : (files : List (List ℕ)) → StoreState → StoreState → DefectList → NetlistData → Course
 design_laid files old new d draft = after (lays d draft) (StandsIn files old new) (image_written files old new)
 
 -- The machine is read, then the list and the design, which is laid
@@ -41,7 +41,7 @@ pub record CompileFiles : Type 0 where
 -- all files are told and right
 pub record AreRightFiles (t : CompileFiles) : Type 0 where
   pub list : DefectList
-  pub draft : Draft
+  pub draft : NetlistData
   pub machine : IsRightFile t.machine (λ bytes. IsMachine bytes list.shape.counts)
   pub defects : IsRightFile t.defects (λ bytes. IsText list.shape bytes list)
   pub design : IsRightFile t.design (λ bytes. IsDesign bytes draft)

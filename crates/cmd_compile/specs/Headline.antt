@@ -3,7 +3,7 @@ use Rattle.std.specs.Prelude.{◌≡◌, ℕ, List, [], ◌∷◌, ◌++◌}
 use Rattle.base_io.specs.Told.{IfTold}
 use Rattle.base_io.specs.Sink.{Wrote}
 use Rattle.machine_defects.specs.Lists.{DefectList}
-use Rattle.design_netlist.specs.declared.draft.Draft.{Draft}
+use Rattle.design_netlist.specs.declared.netlist_data.NetlistData.{NetlistData}
 use Rattle.machine_image.specs.Images.{ImageValue, image_bytes}
 use Rattle.cmd_steps.specs.Outside.{Outside}
 use Rattle.cmd_steps.specs.Texts.{IsMachineText, IsDefectsText, IsDesignText}
@@ -13,7 +13,7 @@ use Rattle.place_design.specs.Laying.{IsImageFor, HasRoom}
 -- for the design under all faults that the list covers. There is room for the design on the list
 pub record IsCompiled (machine defects design : List ℕ) (old new : Outside) : Type 0 where
   pub list : DefectList
-  pub draft : Draft
+  pub draft : NetlistData
   pub image : ImageValue
   pub asked : new.store.asked ≡ old.store.asked ++ machine ∷ defects ∷ design ∷ []
   pub machine_is : IfTold (old.store.contents machine) (λ bytes. IsMachineText bytes list.shape)

@@ -1,7 +1,7 @@
 -- What the command `eval` comes to.
 use Rattle.std.proofs.Common.{◌≡◌, ℕ, List, [], ◌∷◌, ◌++◌, length, None, refl, subst, inl, inr}
 use Rattle.base_io.specs.Told.{IfTold}
-use Rattle.design_netlist.specs.declared.draft.Draft.{Draft}
+use Rattle.design_netlist.specs.declared.netlist_data.NetlistData.{NetlistData}
 use Rattle.cmd_steps.specs.Files.{says_at}
 use Rattle.cmd_steps.specs.Lines.{outputs_line}
 use Rattle.cmd_steps.specs.Outside.{Around}
@@ -18,7 +18,7 @@ use Rattle.cmd_eval.specs.Eval.{eval_rows, eval_course, eval_job, EvalRight}
 module _ (design vectors : List ℕ) (old new : Around) where
   module _ (right : EvalRight (old.store.contents design) (old.store.contents vectors)) where
     -- vectors of the right design have no fault
-    same-fault : (draft : Draft) → IfTold (old.store.contents design) (λ bytes. IsDesignText bytes draft) → (says_at (length draft.inputs) right.said.bytes).fault ≡ None
+    same-fault : (draft : NetlistData) → IfTold (old.store.contents design) (λ bytes. IsDesignText bytes draft) → (says_at (length draft.inputs) right.said.bytes).fault ≡ None
     same-fault draft is =
         let only = rw right.file.is_told at is in
         subst (λ d. (says_at (length d.inputs) right.said.bytes).fault ≡ None) (only.only right.draft right.file.says) right.said.no_fault

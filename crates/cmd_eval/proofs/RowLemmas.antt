@@ -3,7 +3,7 @@ use Rattle.std.proofs.Common.{◌≡◌, ◌≤◌, ℕ, Bool, false, List, [], 
 use Rattle.std.specs.Prelude.{Result, Ok, Err}
 use Rattle.base_io.specs.Store.{StoreState}
 use Rattle.base_io.specs.Sink.{SinkState}
-use Rattle.design_netlist.specs.declared.draft.Draft.{Draft}
+use Rattle.design_netlist.specs.declared.netlist_data.NetlistData.{NetlistData}
 use Rattle.design_netlist.specs.Rows.{AreRows}
 use Rattle.rig.specs.Rig.{RigState}
 use Rattle.design_vectors.specs.declared.vectors.VectorsFail.{VectorsFail}
@@ -28,7 +28,7 @@ use Rattle.cmd_eval.specs.Eval.{eval_rows}
 use Rattle.cmd_eval.specs.Evaluations.{IsSized, IsReady, TakesRow, RowGives, at_rows}
 
 -- rows that go on from here follow on those that were made
-abbrev RowsGoOn : Draft → (taken made : List (List Bool)) → Run → Type 0
+abbrev RowsGoOn : NetlistData → (taken made : List (List Bool)) → Run → Type 0
 RowsGoOn draft taken made run = (vs rs : List (List Bool)) → RowsLeft run vs rs → AreRows draft (taken ++ vs) (made ++ rs)
 
 -- no row is left for no vectors
@@ -37,7 +37,7 @@ none-left (Netlist e) = tt
 none-left (Network e) = tt
 
 -- vectors were taken and their rows made, whatever the rig is: some were written, and the rest wait
-pub record IsRunning (draft : Draft) (before : StoreState) (old : SinkState) (rows : Evaluation) (store : StoreState) (sink : SinkState) : Type 0 where
+pub record IsRunning (draft : NetlistData) (before : StoreState) (old : SinkState) (rows : Evaluation) (store : StoreState) (sink : SinkState) : Type 0 where
   pub netlist : rows.eval.netlist ≡ draft
   pub sized : IsSized rows
   pub taken : List (List Bool)
@@ -45,7 +45,7 @@ pub record IsRunning (draft : Draft) (before : StoreState) (old : SinkState) (ro
   pub written : (rig : RigState) → AreWritten (length draft.inputs) (outside before rig old) rows.vectors rows.block.text (outside store rig sink) taken made
   pub go_on : RowsGoOn draft taken made rows.eval.run
 
-pub running-start : (draft : Draft) (rows : Evaluation) (store : StoreState) (sink : SinkState) → IsReady draft rows → IsBegun store → IsRunning draft store sink rows store sink
+pub running-start : (draft : NetlistData) (rows : Evaluation) (store : StoreState) (sink : SinkState) → IsReady draft rows → IsBegun store → IsRunning draft store sink rows store sink
 running-start draft rows store sink ready begun = record {
   netlist = ready.eval.netlist;
   sized = ready.sized;
@@ -56,15 +56,15 @@ running-start draft rows store sink ready begun = record {
 }
 
 -- the rows so far are those of the vectors so far
-rows-of : (draft : Draft) (taken made : List (List Bool)) (run : Run) → RowsGoOn draft taken made run → AreRows draft taken made
+rows-of : (draft : NetlistData) (taken made : List (List Bool)) (run : Run) → RowsGoOn draft taken made run → AreRows draft taken made
 rows-of draft taken made run go_on = rw (append-nil taken, append-nil made) at (go_on [] [] (none-left run))
 
 -- one more vector and its row
-go-on-more : (draft : Draft) (taken made : List (List Bool)) (eval eval' : DesignState) (vector row : List Bool) → IsRowStep eval vector row eval' → RowsGoOn draft taken made eval.run → RowsGoOn draft (taken ++ vector ∷ []) (made ++ row ∷ []) eval'.run
+go-on-more : (draft : NetlistData) (taken made : List (List Bool)) (eval eval' : DesignState) (vector row : List Bool) → IsRowStep eval vector row eval' → RowsGoOn draft taken made eval.run → RowsGoOn draft (taken ++ vector ∷ []) (made ++ row ∷ []) eval'.run
 go-on-more draft taken made eval eval' vector row step go_on vs rs h =
     rw (append_assoc taken, append_assoc made) (go_on (vector ∷ vs) (row ∷ rs) (step.rows vs rs h))
 
-module _ (draft : Draft) (before : StoreState) (old : SinkState) (rows rows' : Evaluation) (store store' : StoreState) (sink sink' : SinkState) (so_far : IsRunning draft before old rows store sink) (stays : StaysOpen store store') where
+module _ (draft : NetlistData) (before : StoreState) (old : SinkState) (rows rows' : Evaluation) (store store' : StoreState) (sink sink' : SinkState) (so_far : IsRunning draft before old rows store sink) (stays : StaysOpen store store') where
   abbrev work : RowWork
   work = eval_rows draft (file_of before) store'.current
 

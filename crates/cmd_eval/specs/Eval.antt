@@ -2,7 +2,7 @@
 use Rattle.std.specs.Prelude.{◌≡◌, ℕ, List, [], ◌∷◌, ◌++◌, length, Option, Some}
 use Rattle.base_io.specs.Told.{Told}
 use Rattle.base_io.specs.Store.{StoreState, StorePlace}
-use Rattle.design_netlist.specs.declared.draft.Draft.{Draft}
+use Rattle.design_netlist.specs.declared.netlist_data.NetlistData.{NetlistData}
 use Rattle.design_netlist.specs.Rows.{AreRows}
 use Rattle.design_blif.specs.Designs.{IsDesign}
 use Rattle.cmd_steps.specs.Files.{AreRightVectors}
@@ -14,7 +14,7 @@ use Rattle.cmd_steps.specs.Jobs.{Job}
 use Rattle.cmd_steps.specs.declared.design_file.DesignFile.TheVariants.{Design}
 
 -- the rows of a design, for which no memory is wanted
-abbrev pub eval_rows : Draft → Told → Option StorePlace → RowWork
+abbrev pub eval_rows : NetlistData → Told → Option StorePlace → RowWork
 eval_rows draft told place = record {
   width = length draft.inputs;
   told = told;
@@ -31,7 +31,7 @@ IsAtFirst vectors store = store.current ≡ Some (record { name = vectors; at = 
 
 -- the vectors are opened, the line `outputs` is written before the first of them is read, and then the rows. These files were
 -- read before, the last first
-abbrev pub design_evaluated : (vectors : List ℕ) → (files : List (List ℕ)) → StoreState → StoreState → Draft → Course
+abbrev pub design_evaluated : (vectors : List ℕ) → (files : List (List ℕ)) → StoreState → StoreState → NetlistData → Course
 design_evaluated vectors files old new draft =
     after (opens (old.contents vectors)) (StandsIn (vectors ∷ files) old new) (λ _.
     write outputs_line (IsAtFirst vectors new)
@@ -45,7 +45,7 @@ eval_course design vectors old new =
 
 -- both texts are told and right
 pub record EvalRight (design vectors : Told) : Type 0 where
-  pub draft : Draft
+  pub draft : NetlistData
   pub file : IsRightFile design (λ bytes. IsDesign bytes draft)
   pub said : AreRightVectors vectors (length draft.inputs)
 

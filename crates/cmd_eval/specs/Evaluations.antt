@@ -2,7 +2,7 @@
 use Rattle.std.specs.Prelude.{◌≡◌, Bool, true, false, [], length}
 use Rattle.base_io.specs.Store.{StoreState}
 use Rattle.base_io.specs.Sink.{SinkState}
-use Rattle.design_netlist.specs.declared.draft.Draft.{Draft}
+use Rattle.design_netlist.specs.declared.netlist_data.NetlistData.{NetlistData}
 use Rattle.cmd_eval.specs.Runs.{IsFirstOf, IsRowStep}
 use Rattle.design_vectors.specs.Readings.{new_reading}
 use Rattle.cmd_eval.specs.declared.evaluation.Evaluation.{Evaluation}
@@ -18,7 +18,7 @@ pub record IsSized (rows : Evaluation) : Type 0 where
   pub block : rows.block.width ≡ length rows.eval.netlist.outputs
 
 -- nothing was read yet
-pub record IsReady (draft : Draft) (rows : Evaluation) : Type 0 where
+pub record IsReady (draft : NetlistData) (rows : Evaluation) : Type 0 where
   pub eval : IsFirstOf draft rows.eval
   pub vectors : rows.vectors ≡ new_reading (length draft.inputs) most_vector_bytes
   pub none : rows.block.text ≡ []

@@ -2,7 +2,7 @@
 use Rattle.std.specs.Prelude.{◌≡◌, ℕ, Bool, List, [], ◌∷◌, ◌++◌, length}
 use Rattle.base_io.specs.Told.{IfTold}
 use Rattle.base_io.specs.Sink.{Wrote}
-use Rattle.design_netlist.specs.declared.draft.Draft.{Draft}
+use Rattle.design_netlist.specs.declared.netlist_data.NetlistData.{NetlistData}
 use Rattle.design_netlist.specs.Rows.{AreRows}
 use Rattle.cmd_steps.specs.Files.{AreAll}
 use Rattle.cmd_steps.specs.Lines.{output_text}
@@ -11,7 +11,7 @@ use Rattle.cmd_steps.specs.Texts.{IsDesignText}
 
 -- The line `outputs` and the design's rows for the vectors of the file are written, and the vectors were read to their end
 pub record IsEvaled (design vectors : List ℕ) (old new : Outside) : Type 0 where
-  pub draft : Draft
+  pub draft : NetlistData
   pub all_vectors : List (List Bool)
   pub rows : List (List Bool)
   pub asked : new.store.asked ≡ old.store.asked ++ design ∷ vectors ∷ []

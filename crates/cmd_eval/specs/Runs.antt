@@ -1,6 +1,6 @@
 -- A design that is run by its covers, or by a network.
 use Rattle.std.specs.Prelude.{◌≡◌, ◌∷◌, List, Bool, length}
-use Rattle.design_netlist.specs.declared.draft.Draft.{Draft}
+use Rattle.design_netlist.specs.declared.netlist_data.NetlistData.{NetlistData}
 use Rattle.design_netlist.specs.Rows.{RowsFrom, AreRows}
 use Rattle.map_eval.specs.Evals.{NetworkState, RowsOn}
 use Rattle.cmd_eval.specs.declared.engine.Run.{Run}
@@ -8,7 +8,7 @@ use Rattle.cmd_eval.specs.declared.engine.Run.TheVariants.{Netlist, Network}
 
 -- a design, and what it is run by
 pub record DesignState : Type 0 where
-  pub netlist : Draft
+  pub netlist : NetlistData
   pub run : Run
 
 -- rows for these vectors, from here on
@@ -17,21 +17,21 @@ RowsLeft (Netlist e) vectors rows = RowsFrom e.netlist e.state vectors rows
 RowsLeft (Network e) vectors rows = RowsOn e vectors rows
 
 -- it has the design's inputs and outputs
-pub record HasWidths (draft : Draft) (e : NetworkState) : Type 0 where
+pub record HasWidths (draft : NetlistData) (e : NetworkState) : Type 0 where
   pub inputs : e.network.inputs ≡ length draft.inputs
   pub outputs : length e.network.outputs ≡ length draft.outputs
 
-abbrev pub IsRunOf : Draft → Run → Type 0
+abbrev pub IsRunOf : NetlistData → Run → Type 0
 IsRunOf draft (Netlist e) = e.netlist ≡ draft
 IsRunOf draft (Network e) = HasWidths draft e
 
 -- a network at its first cycle, whose rows are the design's
-pub record IsNetworkOf (draft : Draft) (e : NetworkState) : Type 0 where
+pub record IsNetworkOf (draft : NetlistData) (e : NetworkState) : Type 0 where
   pub widths : HasWidths draft e
   pub rows : (vectors rows : List (List Bool)) → RowsOn e vectors rows → AreRows draft vectors rows
 
 -- rows from here on are the design's
-pub record IsFirstOf (draft : Draft) (e : DesignState) : Type 0 where
+pub record IsFirstOf (draft : NetlistData) (e : DesignState) : Type 0 where
   pub netlist : e.netlist ≡ draft
   pub rows : (vectors rows : List (List Bool)) → RowsLeft e.run vectors rows → AreRows draft vectors rows
 

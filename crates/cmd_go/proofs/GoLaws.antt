@@ -5,7 +5,7 @@ use Rattle.machine_meaning.specs.Faults.{Faults}
 use Rattle.machine_meaning.specs.Defects.{Defects}
 use Rattle.machine_meaning.specs.Tight.{IsTight}
 use Rattle.machine_defects.specs.Text.{text_of}
-use Rattle.design_netlist.specs.declared.draft.Draft.{Draft}
+use Rattle.design_netlist.specs.declared.netlist_data.NetlistData.{NetlistData}
 use Rattle.design_netlist.specs.Checks.{IsChecked}
 use Rattle.map_network.specs.declared.network.Network.{Network}
 use Rattle.map_network.specs.Networks.{IsNetwork}
@@ -32,7 +32,7 @@ abbrev pub AreSure : Type 0
 AreSure = (m : Shape) (d : Defects) (f : Faults) (n : Network) (s : Short) → IsNetwork n → IsTight m d f → HasStandingRoom m f n → ¬ IsShortInOrder m d n s
 
 abbrev pub AreNetworks : Type 0
-AreNetworks = (d : Draft) → IsChecked d → IsNetwork (plain_network d)
+AreNetworks = (d : NetlistData) → IsChecked d → IsNetwork (plain_network d)
 
 module _ (machine name design vectors : List ℕ) where
   abbrev pub words : Words
@@ -71,7 +71,7 @@ module _ (machine name design vectors : List ℕ) where
 
       module _ (sure : AreSure) (networks : AreNetworks) where
         -- room on the list that stands there, or standing parts of the machine
-        has-room : (front : List ℕ) (m : Shape) (draft : Draft) → IsChecked draft
+        has-room : (front : List ℕ) (m : Shape) (draft : NetlistData) → IsChecked draft
             → IfList m front (λ d. HasRoom d draft) ⊎ HasPartsFor new.rig.machine.faults m draft
             → (l : Listed) → IsListed m old.rig.loads new.rig l → front ≡ text_of l.list
             → (place : ShortPlace) → IsNoRoom l.list draft place → ⊥

@@ -4,7 +4,7 @@ use Rattle.base_io.specs.Told.{Told}
 use Rattle.machine_shape.specs.declared.Shape.{Shape}
 use Rattle.machine_meaning.specs.Faults.{Faults}
 use Rattle.machine_text.specs.Machine.{IsMachine}
-use Rattle.design_netlist.specs.declared.draft.Draft.{Draft}
+use Rattle.design_netlist.specs.declared.netlist_data.NetlistData.{NetlistData}
 use Rattle.design_netlist.specs.Rows.{AreRows}
 use Rattle.design_blif.specs.Designs.{IsDesign}
 use Rattle.map_network.specs.declared.network.Network.{Network}
@@ -23,7 +23,7 @@ use Rattle.run_image.specs.Laid.{Laid}
 use Rattle.run_image.specs.Runs.{RunBegin, machine_listed, IfList, HasOutputs}
 
 -- the design as what is laid: by its plain network, and with its rows
-abbrev pub design_laid : Draft → Laid
+abbrev pub design_laid : NetlistData → Laid
 design_laid draft = record { lays = λ d. lays d draft; width = length draft.inputs; rows = λ vectors rows. AreRows draft vectors rows }
 
 abbrev pub go_begin : Around → (machine design vectors : List ℕ) → RunBegin
@@ -54,13 +54,13 @@ go_files old machine design vectors =
 -- all files are told and right
 pub record AreGoTexts (t : GoFiles) : Type 0 where
   pub shape : Shape
-  pub draft : Draft
+  pub draft : NetlistData
   pub machine : IsRightFile t.machine (λ bytes. IsMachine bytes shape.counts)
   pub design : IsRightFile t.design (λ bytes. IsDesign bytes draft)
   pub vectors : AreRightVectors t.vectors (length draft.inputs)
 
 -- the faults of the machine are told, and as many parts stand as the plain network has
-pub record HasPartsFor (told : Option Faults) (m : Shape) (draft : Draft) : Type 0 where
+pub record HasPartsFor (told : Option Faults) (m : Shape) (draft : NetlistData) : Type 0 where
   pub faults : Faults
   pub faults_told : told ≡ Some faults
   pub network : Network

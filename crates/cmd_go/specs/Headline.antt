@@ -9,7 +9,7 @@ use Rattle.machine_meaning.specs.Defects.{Covers, IsFair}
 use Rattle.machine_meaning.specs.Tight.{IsTight}
 use Rattle.machine_defects.specs.Lists.{DefectList, IsDefectList}
 use Rattle.machine_defects.specs.Text.{text_of}
-use Rattle.design_netlist.specs.declared.draft.Draft.{Draft}
+use Rattle.design_netlist.specs.declared.netlist_data.NetlistData.{NetlistData}
 use Rattle.design_netlist.specs.Rows.{AreRows}
 use Rattle.machine_image.specs.Images.{ImageValue}
 use Rattle.place_route.specs.RightImages.{IsRightImage}
@@ -23,7 +23,7 @@ use Rattle.run_image.specs.Headline.{IsAskedInOrder, IsWrittenWhole, UsesNothing
 -- Of the rig's one session: its configuration, with a list of input pins and a list of output pins, is `image`
 pub record IsGone (machine name design vectors : List ℕ) (old new : Outside) : Type 0 where
   pub shape : Shape
-  pub draft : Draft
+  pub draft : NetlistData
   pub made : Listed
   pub image : ImageValue
   pub all_vectors : List (List Bool)
@@ -55,7 +55,7 @@ pub record IsWellGone (machine name design vectors : List ℕ) (old new : Outsid
 
 -- The plain network of the design fits, in order, on the list that stands written
 pub record HasRoomLeft (machine design : List ℕ) (old new : Outside) : Type 0 where
-  pub draft : Draft
+  pub draft : NetlistData
   pub list : DefectList
   pub rest : List ℕ
   pub machine_is : IfTold (old.store.contents machine) (λ bytes. IsMachineText bytes list.shape)

@@ -5,7 +5,7 @@ use Rattle.machine_meaning.specs.Defects.{Covers}
 use Rattle.machine_meaning.specs.Faults.{Faults}
 use Rattle.machine_defects.specs.Lists.{DefectList}
 use Rattle.machine_defects.specs.Faults.{IsText}
-use Rattle.design_netlist.specs.declared.draft.Draft.{Draft}
+use Rattle.design_netlist.specs.declared.netlist_data.NetlistData.{NetlistData}
 use Rattle.machine_image.specs.Images.{ImageValue}
 use Rattle.place_route.specs.RightImages.{IsRightImage}
 use Rattle.map_text.specs.Remapped.{HaveSameRows}
@@ -18,7 +18,7 @@ use Rattle.cmd_map.specs.Headline.{IsFitted}
 use Rattle.cmd_map.specs.Chain.{HoldsText, WroteRightImage, FitsThenCompiles}
 
 -- an image that is right for a design is right for one with the same rows
-right-for : (f : Faults) (i : ImageValue) (d e : Draft) → HaveSameRows d e → IsRightImage f i e → IsRightImage f i d
+right-for : (f : Faults) (i : ImageValue) (d e : NetlistData) → HaveSameRows d e → IsRightImage f i e → IsRightImage f i d
 right-for f i d e same right = λ vectors reads widths run. (same.rows vectors _).1 (right vectors reads widths run)
 
 module _ (machine defects design name : List ℕ) (old new handed : Outside) (f : IsFitted machine defects design old new) (h : HoldsText machine defects name f.text old handed.store) where
@@ -58,7 +58,7 @@ module _ (machine defects design name : List ℕ) (old new handed : Outside) (f 
         written = c.written;
         right = λ faults covers.
             let right : IsRightImage faults c.image c.draft = c.image_for.right faults (subst (λ (l : DefectList). Covers l.shape l.list faults) lists covers) in
-            right-for faults c.image f.draft f.mapped f.wrote.remapped.another.same (subst (λ (d : Draft). IsRightImage faults c.image d) (sym drafts) right);
+            right-for faults c.image f.draft f.mapped f.wrote.remapped.another.same (subst (λ (d : NetlistData). IsRightImage faults c.image d) (sym drafts) right);
       }
 
   pub fits-then-compiles : FitsThenCompiles machine defects design name old new handed f

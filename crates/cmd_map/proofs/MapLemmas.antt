@@ -2,7 +2,7 @@
 use Rattle.std.proofs.Common.{◌≡◌, [], refl}
 use Rattle.std.specs.Prelude.{Result, Ok, Err}
 use Rattle.machine_defects.specs.Lists.{DefectList}
-use Rattle.design_netlist.specs.declared.draft.Draft.{Draft}
+use Rattle.design_netlist.specs.declared.netlist_data.NetlistData.{NetlistData}
 use Rattle.map_network.specs.Plain.{plain_network}
 use Rattle.map_text.specs.Remapped.{HasPlan, MayStandFor}
 use Rattle.map_text.specs.declared.text.Remapped.{Remapped}
@@ -21,7 +21,7 @@ use Rattle.cmd_steps.proofs.Taking.{took-stop}
 use Rattle.cmd_map.specs.Maps.{NotMapped, maps_within}
 
 -- a plan of the plain network is room
-pub room-of : (d : DefectList) (draft : Draft) → HasPlan d draft → HasRoom d draft
+pub room-of : (d : DefectList) (draft : NetlistData) → HasPlan d draft → HasRoom d draft
 room-of d draft h = record { network = plain_network draft; plan = h.plan; plain = refl; fits = h.fits }
 
 -- there is no plan for the design as given, and so no text

@@ -6,7 +6,7 @@ use Rattle.base_io.specs.Sink.{Wrote}
 use Rattle.machine_meaning.specs.Defects.{Covers}
 use Rattle.machine_meaning.specs.Faults.{Faults}
 use Rattle.machine_defects.specs.Lists.{DefectList}
-use Rattle.design_netlist.specs.declared.draft.Draft.{Draft}
+use Rattle.design_netlist.specs.declared.netlist_data.NetlistData.{NetlistData}
 use Rattle.machine_image.specs.Images.{ImageValue, image_bytes}
 use Rattle.place_route.specs.RightImages.{IsRightImage}
 use Rattle.cmd_steps.specs.Outside.{Outside}
@@ -25,7 +25,7 @@ pub record HoldsText (machine defects name text : List ℕ) (old : Outside) (sto
   pub text_told : store.contents name ≡ holds text
 
 -- an image is written that is right for the design under all faults that the list covers
-pub record WroteRightImage (list : DefectList) (draft : Draft) (old new : Outside) : Type 0 where
+pub record WroteRightImage (list : DefectList) (draft : NetlistData) (old new : Outside) : Type 0 where
   pub image : ImageValue
   pub written : Wrote old.sink.written new.sink.written (image_bytes image)
   pub right : (f : Faults) → Covers list.shape list.list f → IsRightImage f image draft

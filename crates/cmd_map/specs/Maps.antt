@@ -3,7 +3,7 @@ use Rattle.std.specs.Prelude.{◌≡◌, ℕ, List, [], ◌∷◌}
 use Rattle.base_io.specs.Told.{Told}
 use Rattle.base_io.specs.Store.{StoreState}
 use Rattle.machine_defects.specs.Lists.{DefectList}
-use Rattle.design_netlist.specs.declared.draft.Draft.{Draft}
+use Rattle.design_netlist.specs.declared.netlist_data.NetlistData.{NetlistData}
 use Rattle.design_blif.specs.Designs.{IsDesign}
 use Rattle.map_text.specs.Remapped.{MayStandFor}
 use Rattle.map_text.specs.declared.text.Remapped.{Remapped}
@@ -62,7 +62,7 @@ fit_course machine defects design = listed_course (λ told m. reads_text Design 
 
 -- the design's file is told and right
 pub record MapRight (design : Told) : Type 0 where
-  pub draft : Draft
+  pub draft : NetlistData
   pub file : IsRightFile design (λ bytes. IsDesign bytes draft)
 
 -- The rig isn't asked

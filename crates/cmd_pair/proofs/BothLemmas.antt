@@ -5,7 +5,7 @@ use Rattle.std.specs.List.{All}
 use Rattle.machine_meaning.specs.Defects.{Covers}
 use Rattle.machine_meaning.specs.Faults.{Faults}
 use Rattle.machine_defects.specs.Lists.{DefectList}
-use Rattle.design_netlist.specs.declared.draft.Draft.{Draft}
+use Rattle.design_netlist.specs.declared.netlist_data.NetlistData.{NetlistData}
 use Rattle.map_network.specs.declared.network.Network.{Network}
 use Rattle.map_network.specs.Plain.{IsPlainNetwork}
 use Rattle.map_network.specs.Rows.{HasRowsOf}
@@ -33,7 +33,7 @@ use Rattle.cmd_pair.proofs.RowsOfBoth.{both-rows}
 
 -- ---- what is laid
 
-module _ (d : DefectList) (first second : Draft) (n o : Network) (first_is : IsPlainNetwork first n) (second_is : IsPlainNetwork second o) where
+module _ (d : DefectList) (first second : NetlistData) (n o : Network) (first_is : IsPlainNetwork first n) (second_is : IsPlainNetwork second o) where
   -- there is no place
   joint-stops : (stop : Stop) → PlanStops d (joint_of first second) stop → StepStops (lays_both d first second) stop
   joint-stops (Refused (refused.Room place)) stops = record { shape = stops.0; short = stops.1 }
@@ -51,7 +51,7 @@ module _ (d : DefectList) (first second : Draft) (n o : Network) (first_is : IsP
     outputs-are : length whole.outputs ≡ length n.outputs + length o.outputs
     outputs-are = rw (tenants.outputs, length-append one.outputs other.outputs, first_pins.outputs, second_pins.outputs) refl
 
-    pub both-image : IsImage whole → whole.config.shape ≡ d.shape → IsFreeImage d.list whole → ((f : Faults) → Covers d.shape d.list f → StandApart f whole one other) → ((netlist : Draft) (f : Faults) → HasRowsOf n netlist → Covers d.shape d.list f → IsRightImage f one netlist) → ((netlist : Draft) (f : Faults) → HasRowsOf o netlist → Covers d.shape d.list f → IsRightImage f other netlist) → ((f : Faults) → Covers d.shape d.list f → ReadsRows f whole (joint.AreBothRows n o)) → IsRoutedInOrder d.shape d.list (joint_network n o) whole → HaveRoom d.shape d.list n o → (lays_both d first second).gives whole
+    pub both-image : IsImage whole → whole.config.shape ≡ d.shape → IsFreeImage d.list whole → ((f : Faults) → Covers d.shape d.list f → StandApart f whole one other) → ((netlist : NetlistData) (f : Faults) → HasRowsOf n netlist → Covers d.shape d.list f → IsRightImage f one netlist) → ((netlist : NetlistData) (f : Faults) → HasRowsOf o netlist → Covers d.shape d.list f → IsRightImage f other netlist) → ((f : Faults) → Covers d.shape d.list f → ReadsRows f whole (joint.AreBothRows n o)) → IsRoutedInOrder d.shape d.list (joint_network n o) whole → HaveRoom d.shape d.list n o → (lays_both d first second).gives whole
     both-image image shape free apart first_right second_right rows routed room = (
       record {
         image = image;
@@ -75,7 +75,7 @@ module _ (d : DefectList) (first second : Draft) (n o : Network) (first_is : IsP
 
 -- ---- the step
 
-module _ (d : DefectList) (first second : Draft) where
+module _ (d : DefectList) (first second : NetlistData) where
   both-counted : (stop : Stop) (o : Outside) → StepStops (lays_both d first second) stop → IsCounted ⊥ stop o o
   both-counted (Refused (refused.Room place)) o stops = tt
   both-counted (Refused refused.Memory) o stops = tt

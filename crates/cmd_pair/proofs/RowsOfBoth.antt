@@ -3,7 +3,7 @@ use Rattle.std.proofs.Common.{◌≡◌, ◌∙◌, ◌+◌, ℕ, Bool, List, []
 use Rattle.std.specs.List.{All, AllByRecursion}
 use Rattle.std.proofs.lemmas.List.{take-append-drop, length-drop}
 use Rattle.std.proofs.lemmas.List.Elements.{recursion_from_All}
-use Rattle.design_netlist.specs.declared.draft.Draft.{Draft}
+use Rattle.design_netlist.specs.declared.netlist_data.NetlistData.{NetlistData}
 use Rattle.design_netlist.specs.Rows as netlist
 use Rattle.map_network.specs.declared.network.Network.{Network}
 use Rattle.map_network.specs.Rows.{HasRowsOf}
@@ -28,7 +28,7 @@ parts-are n k (row ∷ rows) wide =
     let first : take n row ++ take k (drop n row) ≡ row = ap (λ (r : List Bool). take n row ++ r) (rest-is n k row wide.0) ∙ take-append-drop n row in
     ap (λ (rs : List (List Bool)). row ∷ rs) (parts-are n k rows wide.1) ∙ sym (ap (λ (r : List Bool). r ∷ side_by_side (map (joint.part 0 n) rows) (map (joint.part n k) rows)) first)
 
-module _ (n o : Network) (first second : Draft) (first_rows : HasRowsOf n first) (second_rows : HasRowsOf o second) (first_inputs : n.inputs ≡ length first.inputs) where
+module _ (n o : Network) (first second : NetlistData) (first_rows : HasRowsOf n first) (second_rows : HasRowsOf o second) (first_inputs : n.inputs ≡ length first.inputs) where
   pub both-rows : (vectors rows : List (List Bool)) → All (λ v. length v ≡ n.inputs + o.inputs) vectors → joint.AreBothRows n o vectors rows → AreBothRows first second vectors rows
   both-rows vectors rows wide both = record {
     first_rows = map (joint.part 0 (length n.outputs)) rows;

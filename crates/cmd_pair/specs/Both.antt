@@ -3,7 +3,7 @@ use Rattle.std.specs.Prelude.{◌≡◌, ◌+◌, ◌<◌, Bool, List, [], ◌�
 use Rattle.machine_meaning.specs.Defects.{Covers}
 use Rattle.machine_meaning.specs.Faults.{Faults}
 use Rattle.machine_defects.specs.Lists.{DefectList}
-use Rattle.design_netlist.specs.declared.draft.Draft.{Draft}
+use Rattle.design_netlist.specs.declared.netlist_data.NetlistData.{NetlistData}
 use Rattle.design_netlist.specs.Rows.{AreRows}
 use Rattle.map_network.specs.declared.network.Network.{Network}
 use Rattle.map_network.specs.Plain.{plain_network}
@@ -31,7 +31,7 @@ side_by_side (row ∷ rows) (other ∷ others) = (row ++ other) ∷ side_by_side
 
 -- The first bits of each vector are the first design's, as many as it has inputs, and those behind them the second's. Each row is
 -- the first design's and then the second's
-pub record AreBothRows (first second : Draft) (vectors rows : List (List Bool)) : Type 0 where
+pub record AreBothRows (first second : NetlistData) (vectors rows : List (List Bool)) : Type 0 where
   pub first_rows : List (List Bool)
   pub second_rows : List (List Bool)
   pub are_first : AreRows first (map (take (length first.inputs)) vectors) first_rows
@@ -45,19 +45,19 @@ abbrev pub CanBeNumbered : Network → Network → Type 0
 CanBeNumbered n o = (n.inputs + o.inputs < 4294967296) × (length n.tables + length o.tables < 4294967296)
 
 -- the joint network of the plain networks of the two designs
-abbrev pub joint_of : Draft → Draft → Network
+abbrev pub joint_of : NetlistData → NetlistData → Network
 joint_of first second = joint_network (plain_network first) (plain_network second)
 
 -- its in-order plan fits the list
-abbrev pub BothHaveRoom : DefectList → Draft → Draft → Type 0
+abbrev pub BothHaveRoom : DefectList → NetlistData → NetlistData → Type 0
 BothHaveRoom d first second = HaveRoom d.shape d.list (plain_network first) (plain_network second)
 
 -- or it is short of something
-abbrev pub BothLackRoom : DefectList → Draft → Draft → Type 0
+abbrev pub BothLackRoom : DefectList → NetlistData → NetlistData → Type 0
 BothLackRoom d first second = (short : Short) × IsShortInOrder d.shape d.list (joint_of first second) short
 
 -- and this is the first thing that it is short of
-pub record IsNoRoomForBoth (d : DefectList) (first second : Draft) (place : ShortPlace) : Type 0 where
+pub record IsNoRoomForBoth (d : DefectList) (first second : NetlistData) (place : ShortPlace) : Type 0 where
   pub shape : place.shape ≡ d.shape
   pub short : IsShortInOrder d.shape d.list (joint_of first second) place.short
 
@@ -67,7 +67,7 @@ pub record IsNoRoomForBoth (d : DefectList) (first second : Draft) (place : Shor
 -- the list leaves free, closes and switches on nothing that the joint network doesn't need on its in-order plan, and reads the rows of
 -- both under all faults that the list covers. What of it is each design's uses no wire of the other's, runs as it does alone, and is
 -- right for that design
-pub record IsImageForBoth (d : DefectList) (first second : Draft) (i : ImageValue) : Type 0 where
+pub record IsImageForBoth (d : DefectList) (first second : NetlistData) (i : ImageValue) : Type 0 where
   pub image : IsImage i
   pub shape : i.config.shape ≡ d.shape
   pub inputs : length i.inputs ≡ length first.inputs + length second.inputs
@@ -82,19 +82,19 @@ pub record IsImageForBoth (d : DefectList) (first second : Draft) (i : ImageValu
   pub first_right : (f : Faults) → Covers d.shape d.list f → IsRightImage f first_image first
   pub second_right : (f : Faults) → Covers d.shape d.list f → IsRightImage f second_image second
 
-abbrev pub NotBothLaid : DefectList → Draft → Draft → Refusal → Type 0
+abbrev pub NotBothLaid : DefectList → NetlistData → NetlistData → Refusal → Type 0
 NotBothLaid d first second (refused.Room place) = IsNoRoomForBoth d first second place
 NotBothLaid d first second refused.Memory = Unit {0}
 NotBothLaid d first second refusal = ⊥
 
-abbrev pub lays_both : DefectList → Draft → Draft → Step ImageValue
+abbrev pub lays_both : DefectList → NetlistData → NetlistData → Step ImageValue
 lays_both d first second = record {
   stops = NotBothLaid d first second;
   gives = λ i. IsImageForBoth d first second i × BothHaveRoom d first second;
 }
 
 -- the two designs as what is laid
-abbrev pub both_laid : Draft → Draft → Laid
+abbrev pub both_laid : NetlistData → NetlistData → Laid
 both_laid first second = record {
   lays = λ d. lays_both d first second;
   width = length first.inputs + length second.inputs;

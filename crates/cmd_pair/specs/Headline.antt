@@ -9,7 +9,7 @@ use Rattle.machine_meaning.specs.Defects.{Covers, IsFair}
 use Rattle.machine_meaning.specs.Tight.{IsTight}
 use Rattle.machine_defects.specs.Lists.{DefectList, IsDefectList}
 use Rattle.machine_defects.specs.Text.{text_of}
-use Rattle.design_netlist.specs.declared.draft.Draft.{Draft}
+use Rattle.design_netlist.specs.declared.netlist_data.NetlistData.{NetlistData}
 use Rattle.machine_image.specs.Images.{ImageValue}
 use Rattle.place_route.specs.RightImages.{IsRightImage, ReadsRows}
 use Rattle.place_route.specs.RoutedImages.{IsRoutedInOrder}
@@ -25,8 +25,8 @@ use Rattle.cmd_pair.specs.Both.{AreBothRows, BothHaveRoom, joint_of}
 -- that are each design's, `first_image` and `second_image`, share no wire
 pub record IsPaired (machine name first second vectors : List ℕ) (old new : Outside) : Type 0 where
   pub shape : Shape
-  pub first_draft : Draft
-  pub second_draft : Draft
+  pub first_draft : NetlistData
+  pub second_draft : NetlistData
   pub made : Listed
   pub image : ImageValue
   pub all_vectors : List (List Bool)
@@ -63,8 +63,8 @@ pub record IsPaired (machine name first second vectors : List ℕ) (old new : Ou
 
 -- The in-order plan of the joint network of the plain networks of the two designs fits the list that stands written
 pub record HaveRoomLeft (machine first second : List ℕ) (old new : Outside) : Type 0 where
-  pub first_draft : Draft
-  pub second_draft : Draft
+  pub first_draft : NetlistData
+  pub second_draft : NetlistData
   pub list : DefectList
   pub rest : List ℕ
   pub machine_is : IfTold (old.store.contents machine) (λ bytes. IsMachineText bytes list.shape)

@@ -3,7 +3,7 @@ use Rattle.std.specs.Prelude.{ℕ, ◌+◌, ◌≤◌, List, [], ◌∷◌, leng
 use Rattle.base_io.specs.Told.{Told}
 use Rattle.machine_shape.specs.declared.Shape.{Shape}
 use Rattle.machine_text.specs.Machine.{IsMachine}
-use Rattle.design_netlist.specs.declared.draft.Draft.{Draft}
+use Rattle.design_netlist.specs.declared.netlist_data.NetlistData.{NetlistData}
 use Rattle.design_blif.specs.Designs.{IsDesign}
 use Rattle.cmd_steps.specs.Files.{AreRightVectors, vectors_at}
 use Rattle.cmd_steps.specs.Outside.{Around}
@@ -21,7 +21,7 @@ pair_begin old machine first second vectors =
     record { begun = old.store; failures = old.rig.failures; files = second ∷ first ∷ machine ∷ []; vectors = vectors }
 
 -- The second design is read, and the machine is listed
-abbrev pub second_read : (machine first second vectors : List ℕ) → Around → Around → Shape → Draft → Course
+abbrev pub second_read : (machine first second vectors : List ℕ) → Around → Around → Shape → NetlistData → Course
 second_read machine first second vectors old new m one =
     after (reads_design Second (old.store.contents second)) (Unloaded (second ∷ first ∷ machine ∷ []) old new)
     (λ other. machine_listed (both_laid one other) m old.rig.loads (pair_begin old machine first second vectors) new)
@@ -57,8 +57,8 @@ pair_files old machine first second vectors = record {
 -- all files are told and right
 pub record ArePairTexts (t : PairFiles) : Type 0 where
   pub shape : Shape
-  pub first_draft : Draft
-  pub second_draft : Draft
+  pub first_draft : NetlistData
+  pub second_draft : NetlistData
   pub machine : IsRightFile t.machine (λ bytes. IsMachine bytes shape.counts)
   pub first : IsRightFile t.first (λ bytes. IsDesign bytes first_draft)
   pub second : IsRightFile t.second (λ bytes. IsDesign bytes second_draft)

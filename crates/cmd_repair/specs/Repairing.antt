@@ -4,7 +4,7 @@ use Rattle.std.specs.FinSet as set
 use Rattle.machine_meaning.specs.Defects.{Covers}
 use Rattle.machine_meaning.specs.Faults.{Faults, IsFaultless}
 use Rattle.machine_defects.specs.Lists.{DefectList}
-use Rattle.design_netlist.specs.declared.draft.Draft.{Draft}
+use Rattle.design_netlist.specs.declared.netlist_data.NetlistData.{NetlistData}
 use Rattle.place_plan.specs.declared.short.Short.{Short}
 use Rattle.machine_image.specs.Images.{ImageValue, IsImage}
 use Rattle.machine_image.specs.Parts.{IsFreeImage}
@@ -41,7 +41,7 @@ pub record IsRepairOf (d : DefectList) (old new : ImageValue) : Type 0 where
   pub repair : IsRepair d.list old new
   pub free : IsFreeImage d.list new
   pub rows : HasSameRows d.list old new
-  pub right : (f none : Faults) (draft : Draft) → Covers d.shape d.list f → IsFaultless none → IsRightImage none old draft →
+  pub right : (f none : Faults) (draft : NetlistData) → Covers d.shape d.list f → IsFaultless none → IsRightImage none old draft →
       IsRightImage f new draft
 
 -- the repair plan of the image has room on the list

@@ -6,7 +6,7 @@ use Rattle.machine_shape.specs.declared.Shape.{Shape}
 use Rattle.machine_text.specs.Machine.{IsMachine}
 use Rattle.machine_defects.specs.Lists.{DefectList}
 use Rattle.machine_defects.specs.Faults.{IsText}
-use Rattle.design_netlist.specs.declared.draft.Draft.{Draft}
+use Rattle.design_netlist.specs.declared.netlist_data.NetlistData.{NetlistData}
 use Rattle.design_blif.specs.Designs.{IsDesign}
 use Rattle.machine_image.specs.Images.{ImageValue, IsImage, image_bytes}
 use Rattle.rig.specs.Rig.{Asked}
@@ -33,7 +33,7 @@ module _ (old new : Around) where
   defects-excused bytes m d is within Memory stops = tt
   defects-excused bytes m d is within refusal stops = absurd stops
 
-  pub design-excused : (file : DesignFile) (bytes : List ℕ) (draft : Draft) → IsDesign bytes draft → length bytes ≤ most_bytes → (refusal : Refusal) → NoDesign file (holds bytes) refusal → IsExcused refusal old new
+  pub design-excused : (file : DesignFile) (bytes : List ℕ) (draft : NetlistData) → IsDesign bytes draft → length bytes ≤ most_bytes → (refusal : Refusal) → NoDesign file (holds bytes) refusal → IsExcused refusal old new
   design-excused file bytes draft is within (Design place) stops = absurd (stops.1.1 draft is within)
   design-excused file bytes draft is within Store stops = tt
   design-excused file bytes draft is within Memory stops = tt

@@ -3,8 +3,8 @@ use Rattle.std.proofs.Common.{◌≡◌, ℕ, zero, suc, ◌+◌, ◌≤◌, Lis
 use Rattle.std.proofs.lemmas.List.{length-map}
 use Rattle.machine_shape.specs.Shape.{pins_of}
 use Rattle.machine_image.specs.Images.{ImageValue, IsImage}
-use Rattle.design_netlist.specs.declared.draft.Draft.{Draft}
-use Rattle.design_netlist.specs.declared.draft.PortDef.{PortDef}
+use Rattle.design_netlist.specs.declared.netlist_data.NetlistData.{NetlistData}
+use Rattle.design_netlist.specs.declared.netlist_data.PortDef.{PortDef}
 use Rattle.design_netlist.specs.Drafts.{signal_at, drive_words, cover_drive}
 use Rattle.design_netlist.specs.Checks.{IsChecked}
 use Rattle.design_netlist.proofs.ListLemmas.{few_numbers}
@@ -18,7 +18,7 @@ signals-at (w ∷ words) zero = refl
 signals-at (w ∷ words) (suc k) = signals-at words k
 
 -- each drives a signal of its own
-pub inputs-few : (d : Draft) → IsChecked d → length d.inputs ≤ 65535
+pub inputs-few : (d : NetlistData) → IsChecked d → length d.inputs ≤ 65535
 inputs-few d checked =
     let drives = drive_words d in
     let size : length (map signal_of drives) ≡ length drives = length-map drives signal_of in

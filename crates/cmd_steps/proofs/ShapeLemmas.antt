@@ -9,7 +9,7 @@ use Rattle.machine_shape.specs.Walk.{size, tables_in, wires_in, crosses_in, node
 use Rattle.machine_text.specs.Machine.{IsMachine}
 use Rattle.machine_defects.specs.Lists.{DefectList}
 use Rattle.machine_defects.specs.Faults.{IsText}
-use Rattle.design_netlist.specs.declared.draft.Draft.{Draft}
+use Rattle.design_netlist.specs.declared.netlist_data.NetlistData.{NetlistData}
 use Rattle.design_blif.specs.Designs.{IsDesign}
 use Rattle.machine_image.specs.Images.{ImageValue, IsImage, Reads, image_bytes}
 use Rattle.cmd_steps.specs.Texts.{reads_machine, reads_defects, reads_design, reads_text, reads_image, IsMachineText, IsDefectsText, IsDesignText}
@@ -41,19 +41,19 @@ one-machine told bytes m n is right gives =
     let text : IsMachineText bytes n = rw is at gives in
     same-shape m n (text.only m.counts right)
 
-pub one-design : (file : DesignFile) (told : Told) (bytes : List ℕ) (draft other : Draft) → told ≡ holds bytes → IsDesign bytes draft → (reads_design file told).gives other → draft ≡ other
+pub one-design : (file : DesignFile) (told : Told) (bytes : List ℕ) (draft other : NetlistData) → told ≡ holds bytes → IsDesign bytes draft → (reads_design file told).gives other → draft ≡ other
 one-design file told bytes draft other is right gives =
     let text : IsDesignText bytes other = rw is at gives in
     text.only draft right
 
-abbrev pub with_text : List ℕ → Draft → DesignText
+abbrev pub with_text : List ℕ → NetlistData → DesignText
 with_text text draft = record { text = text; netlist = draft }
 
-pub one-text : (file : DesignFile) (told : Told) (bytes : List ℕ) (draft : Draft) (other : DesignText) → told ≡ holds bytes → IsDesign bytes draft → (reads_text file told).gives other → with_text bytes draft ≡ other
+pub one-text : (file : DesignFile) (told : Told) (bytes : List ℕ) (draft : NetlistData) (other : DesignText) → told ≡ holds bytes → IsDesign bytes draft → (reads_text file told).gives other → with_text bytes draft ≡ other
 one-text file told bytes draft other is right gives =
     let same : other.text ≡ bytes = rw is at gives.file in
     let text : IsDesignText bytes other.netlist = subst (λ t. IsDesignText t other.netlist) same gives.design in
-    ap (λ (d : Draft). with_text bytes d) (text.only draft right) ∙ ap (λ t. with_text t other.netlist) (sym same)
+    ap (λ (d : NetlistData). with_text bytes d) (text.only draft right) ∙ ap (λ t. with_text t other.netlist) (sym same)
 
 pub one-list : (told : Told) (bytes : List ℕ) (m : Shape) (d other : DefectList) → told ≡ holds bytes → d.shape ≡ m → IsText d.shape bytes d → (reads_defects told m).gives other → d ≡ other
 one-list told bytes m d other is shape right gives =

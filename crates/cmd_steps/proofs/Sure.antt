@@ -5,7 +5,7 @@ use Rattle.machine_shape.specs.declared.Shape.{Shape}
 use Rattle.machine_text.specs.Machine.{IsMachine}
 use Rattle.machine_defects.specs.Lists.{DefectList}
 use Rattle.machine_defects.specs.Faults.{IsText}
-use Rattle.design_netlist.specs.declared.draft.Draft.{Draft}
+use Rattle.design_netlist.specs.declared.netlist_data.NetlistData.{NetlistData}
 use Rattle.design_blif.specs.Designs.{IsDesign}
 use Rattle.machine_image.specs.Images.{ImageValue, IsImage, image_bytes}
 use Rattle.base_text.specs.Size.{most_bytes}
@@ -72,13 +72,13 @@ module _ {old new : Around} {told : Told} {bytes : List ℕ} (is : told ≡ hold
     excused = λ refusal stops. defects-excused old new bytes d.shape d right within refusal (rw is at stops);
   }
 
-  pub design-sure : (file : DesignFile) (draft : Draft) → IsDesign bytes draft → IsSure (reads_design file told) draft old new
+  pub design-sure : (file : DesignFile) (draft : NetlistData) → IsDesign bytes draft → IsSure (reads_design file told) draft old new
   design-sure file draft right = record {
     only = λ other. one-design file told bytes draft other is right;
     excused = λ refusal stops. design-excused old new file bytes draft right within refusal (rw is at stops);
   }
 
-  pub text-sure : (file : DesignFile) (draft : Draft) → IsDesign bytes draft → IsSure (reads_text file told) (with_text bytes draft) old new
+  pub text-sure : (file : DesignFile) (draft : NetlistData) → IsDesign bytes draft → IsSure (reads_text file told) (with_text bytes draft) old new
   text-sure file draft right = record {
     only = λ other. one-text file told bytes draft other is right;
     excused = λ refusal stops. design-excused old new file bytes draft right within refusal (rw is at stops);

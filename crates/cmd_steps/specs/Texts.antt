@@ -9,7 +9,7 @@ use Rattle.machine_text.specs.Faults.{IsFault}
 use Rattle.machine_faults.specs.declared.kind.FaultsFault.TheVariants.{At}
 use Rattle.machine_defects.specs.Lists.{DefectList}
 use Rattle.machine_defects.specs.Faults.{IsText, IsFaultAt}
-use Rattle.design_netlist.specs.declared.draft.Draft.{Draft}
+use Rattle.design_netlist.specs.declared.netlist_data.NetlistData.{NetlistData}
 use Rattle.design_netlist.specs.declared.fault.DesignKind.{DesignKind}
 use Rattle.design_blif.specs.Designs.{IsDesign, IsDesignFault}
 use Rattle.machine_image.specs.Images.{ImageValue, IsImage, image_bytes, IsImageFault, Reads}
@@ -75,14 +75,14 @@ reads_defects told m = record { stops = NoDefects told m; gives = λ d. (d.shape
 -- ---- designs
 
 -- the bytes are the text of this design, and of no other
-pub record IsDesignText (bytes : List ℕ) (draft : Draft) : Type 0 where
+pub record IsDesignText (bytes : List ℕ) (draft : NetlistData) : Type 0 where
   pub text : IsDesign bytes draft
   pub within : length bytes ≤ most_bytes
-  pub only : (other : Draft) → IsDesign bytes other → other ≡ draft
+  pub only : (other : NetlistData) → IsDesign bytes other → other ≡ draft
 
 -- the bytes are the text of no design
 abbrev pub IsNoDesign : List ℕ → Type 0
-IsNoDesign bytes = (draft : Draft) → IsDesign bytes draft → length bytes ≤ most_bytes → ⊥
+IsNoDesign bytes = (draft : NetlistData) → IsDesign bytes draft → length bytes ≤ most_bytes → ⊥
 
 abbrev pub NoDesign : DesignFile → Told → Refusal → Type 0
 NoDesign file told (refused.Design place) =
@@ -91,7 +91,7 @@ NoDesign file told refused.Store = Unit {0}
 NoDesign file told refused.Memory = Unit {0}
 NoDesign file told refusal = ⊥
 
-abbrev pub reads_design : DesignFile → Told → Step Draft
+abbrev pub reads_design : DesignFile → Told → Step NetlistData
 reads_design file told = record { stops = NoDesign file told; gives = λ draft. IfTold told (λ bytes. IsDesignText bytes draft) }
 
 -- the bytes are those of the file, and the text of this design, and of no other

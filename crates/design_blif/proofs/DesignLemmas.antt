@@ -1,7 +1,7 @@
 -- What models are refused as is the first fault of their text, and a text has one design.
 use Rattle.std.proofs.Common.{ℕ, ◌≡◌, ◌∙◌, ◌≤◌, List, Result, Ok, Err, length, refl, sym, subst}
 use Rattle.std.specs.Prelude.{IfErr}
-use Rattle.design_netlist.specs.declared.draft.Draft.{Draft}
+use Rattle.design_netlist.specs.declared.netlist_data.NetlistData.{NetlistData}
 use Rattle.design_netlist.specs.declared.fault.DesignFault.{DesignFault}
 use Rattle.design_netlist.specs.declared.fault.DesignFault.TheVariants as fault
 use Rattle.design_flatten.specs.declared.model.Model.{Model}
@@ -17,12 +17,12 @@ module _ (bytes : List ℕ) (few : length bytes ≤ 16777216) (ms : List Model) 
   in_models fault.Memory h = tt
   in_models (fault.At n k) h = InModels few ms text h
 
-  pub design_refused : (r : Result Draft DesignFault) → IfErr r (IsRefusalOfModels ms) → IfErr r (IsRefusalOfBytes bytes)
+  pub design_refused : (r : Result NetlistData DesignFault) → IfErr r (IsRefusalOfModels ms) → IfErr r (IsRefusalOfBytes bytes)
   design_refused (Ok n) h = tt
   design_refused (Err e) h = in_models e h
 
 -- the text of a design is the text of no other
-pub one_design : (bytes : List ℕ) (a b : Draft) → IsDesign bytes a → IsDesign bytes b → a ≡ b
+pub one_design : (bytes : List ℕ) (a b : NetlistData) → IsDesign bytes a → IsDesign bytes b → a ≡ b
 one_design bytes a b one other =
     let same : other.models ≡ one.models = other.text.models_are ∙ sym one.text.models_are in
     one_netlist one.models a b one.netlist (subst (λ x. IsNetlistOf x b) same other.netlist)

@@ -7,8 +7,8 @@ use Rattle.design_netlist.specs.declared.fault.DesignFault.{DesignFault}
 use Rattle.std.proofs.lemmas.Bool.{eqb-true}
 use Rattle.std.proofs.lemmas.List.{length-map}
 use Rattle.base_text.specs.Lines.{LogicalLine, is_bad_line}
-use Rattle.design_netlist.specs.declared.draft.Cover.{Cover}
-use Rattle.design_netlist.specs.declared.draft.Lit.{Lit}
+use Rattle.design_netlist.specs.declared.netlist_data.Cover.{Cover}
+use Rattle.design_netlist.specs.declared.netlist_data.Lit.{Lit}
 use Rattle.design_netlist.specs.declared.fault.DesignKind.{DesignKind}
 use Rattle.design_netlist.specs.declared.fault.DesignKind.TheVariants as kind
 use Rattle.design_flatten.specs.declared.model.Model.{Model}

@@ -8,7 +8,7 @@ use Rattle.std.proofs.lemmas.List.{length-take, length-drop, length-map, length-
 use Rattle.base_text.specs.Bytes.{is_blank, physical_lines, uncommented, joining_part, words_of}
 use Rattle.base_text.specs.Lines.{Text, LogicalLine, line_of, texts_of, in_front, onto_next, with_words, logical_lines}
 use Rattle.base_text.proofs.LinesLemmas.{cases_part}
-use Rattle.design_netlist.specs.declared.draft.PortDef.{PortDef}
+use Rattle.design_netlist.specs.declared.netlist_data.PortDef.{PortDef}
 use Rattle.design_netlist.specs.declared.fault.DesignFault.{DesignFault}
 use Rattle.design_netlist.specs.declared.fault.DesignKind.{DesignKind}
 use Rattle.design_netlist.specs.declared.fault.DesignKind.TheVariants as kind

@@ -1,6 +1,6 @@
 -- What the reader holds is what the lines so far say.
 use Rattle.design_flatten.specs.declared.model.Piece.{Piece}
-use Rattle.design_netlist.specs.declared.draft.Cover.{Cover}
+use Rattle.design_netlist.specs.declared.netlist_data.Cover.{Cover}
 use Rattle.std.proofs.Common.{nat_le, ◌≡◌, ℕ, ◌-◌, ◌<◌, Bool, true, false, not, cond, List, [], ◌∷◌, ◌++◌, Option, Some, None, length, map, take, drop, slice_index, refl, sym, ap, ◌∙◌, subst, arith, append_assoc, inl, inr, ◌&&◌, ◌==◌, option_map}
 use Rattle.std.specs.List.{flat_map}
 use Rattle.std.specs.Option.{option_or, option_to_list}
@@ -11,14 +11,14 @@ use Rattle.std.proofs.lemmas.List.Sums.{fold-append}
 use Rattle.base_text.specs.Lines.{LogicalLine}
 use Rattle.design_netlist.specs.declared.fault.DesignKind.{DesignKind}
 use Rattle.design_netlist.specs.declared.fault.DesignKind.TheVariants as kind
-use Rattle.design_netlist.specs.declared.draft.PortDef.{PortDef}
-use Rattle.design_netlist.specs.declared.draft.LatchDef.{LatchDef}
+use Rattle.design_netlist.specs.declared.netlist_data.PortDef.{PortDef}
+use Rattle.design_netlist.specs.declared.netlist_data.LatchDef.{LatchDef}
 use Rattle.design_blif.specs.declared.head.Head.{Head}
 use Rattle.design_blif.specs.declared.head.Head.TheVariants as head
 use Rattle.design_blif.specs.Names.{names_after, name_number, with_name}
 use Rattle.design_blif.specs.Parts.{formal_of, actual_of, pairs_of, nth_word, port_defs, new_sum, with_row, pattern, lit_of, is_off, row_words, is_right_row, init_of, control_of}
 use Rattle.design_flatten.specs.declared.model.Piece.TheVariants.{Names, Latch, Inst}
-use Rattle.design_netlist.specs.declared.draft.Lit.{Lit}
+use Rattle.design_netlist.specs.declared.netlist_data.Lit.{Lit}
 use Rattle.design_blif.specs.Seen.{Seen}
 use Rattle.design_blif.specs.Faults.{IsNew, placed_fault, line_fault, row_fault, same_bool}
 use Rattle.design_blif.specs.Steps.{State, after_head, new_latch, new_inst, closed_pieces}

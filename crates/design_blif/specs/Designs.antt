@@ -1,7 +1,7 @@
 -- What the text of a design is; and beside it, which fault of a text that is none comes first.
 use Rattle.std.specs.Prelude.{ℕ, ◌≡◌, ◌<◌, ◌≤◌, true, List, Err, length}
 use Rattle.base_text.specs.Lines.{logical_lines}
-use Rattle.design_netlist.specs.declared.draft.Draft.{Draft}
+use Rattle.design_netlist.specs.declared.netlist_data.NetlistData.{NetlistData}
 use Rattle.design_netlist.specs.declared.fault.DesignKind.{DesignKind}
 use Rattle.design_netlist.specs.declared.fault.DesignKind.TheVariants.{Limit}
 use Rattle.design_netlist.specs.declared.fault.DesignFault.{DesignFault}
@@ -14,7 +14,7 @@ use Rattle.design_blif.specs.Grammar.{AreModels}
 use Rattle.design_blif.specs.Faults.{reading}
 
 -- the bytes are the text of models, and the draft is the netlist of their substituted design, which is sound
-pub record IsDesign (bytes : List ℕ) (draft : Draft) : Type 0 where
+pub record IsDesign (bytes : List ℕ) (draft : NetlistData) : Type 0 where
   pub models : List Model
   pub text : AreModels bytes models
   pub netlist : IsNetlistOf models draft

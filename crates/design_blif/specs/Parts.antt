@@ -3,10 +3,10 @@ use Rattle.std.specs.Prelude.{ℕ, ◌-◌, ◌==◌, Bool, false, not, ◌&&◌
 use Rattle.std.specs.Prelude.{None, length, map, take, slice_index, slice_index_or}
 use Rattle.std.specs.List.{list_all, before_first, after_first}
 use Rattle.std.specs.Str.{bytes_eq}
-use Rattle.design_netlist.specs.declared.draft.Lit.{Lit}
-use Rattle.design_netlist.specs.declared.draft.Lit.TheVariants.{Zero, One, Any}
-use Rattle.design_netlist.specs.declared.draft.Cover.{Cover}
-use Rattle.design_netlist.specs.declared.draft.PortDef.{PortDef}
+use Rattle.design_netlist.specs.declared.netlist_data.Lit.{Lit}
+use Rattle.design_netlist.specs.declared.netlist_data.Lit.TheVariants.{Zero, One, Any}
+use Rattle.design_netlist.specs.declared.netlist_data.Cover.{Cover}
+use Rattle.design_netlist.specs.declared.netlist_data.PortDef.{PortDef}
 use Rattle.design_flatten.specs.declared.model.PairDef.{PairDef}
 use Rattle.design_blif.specs.Names.{numbers}
 

@@ -1,6 +1,6 @@
 -- What the lines above a line say of it.
 use Rattle.std.specs.Prelude.{ℕ, Bool, List, Option}
-use Rattle.design_netlist.specs.declared.draft.Cover.{Cover}
+use Rattle.design_netlist.specs.declared.netlist_data.Cover.{Cover}
 
 -- of the lines of a model: whether a line stands there, whether the last is `.end`, the names, the cover whose rows go on, and
 -- the control of the latches

@@ -7,8 +7,8 @@ use Rattle.design_netlist.specs.declared.fault.DesignKind.{DesignKind}
 use Rattle.design_blif.specs.declared.kind.Refusal.{Refusal}
 use Rattle.design_blif.specs.declared.head.Head.{Head}
 use Rattle.design_blif.specs.declared.head.Head.TheVariants as head
-use Rattle.design_netlist.specs.declared.draft.PortDef.{PortDef}
-use Rattle.design_netlist.specs.declared.draft.LatchDef.{LatchDef}
+use Rattle.design_netlist.specs.declared.netlist_data.PortDef.{PortDef}
+use Rattle.design_netlist.specs.declared.netlist_data.LatchDef.{LatchDef}
 use Rattle.design_blif.specs.Heads.{head_of}
 use Rattle.design_blif.specs.Names.{names_after, numbers}
 use Rattle.design_blif.specs.Refusals.{IsRefusedAs}

@@ -10,7 +10,7 @@ ghost use Rattle.design_blif.specs.Runs.{run, text_start, whole, Gives};
 ghost use Rattle.design_blif.specs.Faults.{reading};
 ghost use Rattle.design_blif.specs.Grammar.{AreModels};
 ghost use Rattle.design_blif.specs.Designs.{IsDesign, IsRefusalOfBytes};
-ghost use Rattle.design_netlist.specs.declared.draft.Draft.{Draft};
+ghost use Rattle.design_netlist.specs.declared.netlist_data.NetlistData.{NetlistData};
 ghost use Rattle.design_netlist.specs.declared.fault.DesignFault.TheVariants.{Memory};
 
 use crate::names::ModelNames;
@@ -103,7 +103,7 @@ pub fn read_blif(alloc: Global, bytes: &[u8]) -> Result<Netlist, DesignFault>
     ensures found { IfOk result (λ n. IsDesign bytes.now n × (length bytes.now ≤ 16777216)) }
     ensures refused { IfErr result (IsRefusalOfBytes bytes.now) }
     // Designs that are within the limit are read.
-    ensures only { (d : Draft) → IsDesign bytes.now d → length bytes.now ≤ 16777216 → MatchResult result (λ n. n ≡ d) (λ e. e ≡ Memory) }
+    ensures only { (d : NetlistData) → IsDesign bytes.now d → length bytes.now ≤ 16777216 → MatchResult result (λ n. n ≡ d) (λ e. e ≡ Memory) }
 {
     if bytes.len() > MOST_BYTES {
         return Err(DesignFault::At {

@@ -2,7 +2,7 @@
 use Rattle.std.proofs.Common.{◌≡◌, ◌⊎◌, ℕ, ◌+◌, ◌%◌, ◌<◌, ◌&&◌, ◌==◌, Bool, List, length, sym, ap, subst, ◌∙◌, inl, inr, arith, get_or-set_same, get_or-set_other}
 use Rattle.std.specs.Prelude.{not, if◌then◌else◌, slice_set}
 use Rattle.std.proofs.lemmas.Bool.{cases_eq}
-use Rattle.design_netlist.specs.declared.draft.Cover.{Cover}
+use Rattle.design_netlist.specs.declared.netlist_data.Cover.{Cover}
 use Rattle.design_netlist.specs.Covers.{truth}
 use Rattle.design_netlist.specs.Lanes.{is_bit, lane_bits}
 use Rattle.design_netlist.specs.Valuations.{number_at, bit_at}

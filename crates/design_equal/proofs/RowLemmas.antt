@@ -3,9 +3,9 @@ use Rattle.std.proofs.Common.{◌≡◌, ◌⊎◌, ℕ, suc, ◌+◌, ◌<◌, 
 use Rattle.std.specs.Prelude.{◌↔◌}
 use Rattle.std.proofs.lemmas.Bool.{cases_lt}
 use Rattle.std.proofs.lemmas.List.{get_or-map, length-map, length-replicate, get_or_past}
-use Rattle.design_netlist.specs.declared.draft.Draft.{Draft}
-use Rattle.design_netlist.specs.declared.draft.LatchDef.{LatchDef}
-use Rattle.design_netlist.specs.declared.draft.PortDef.{PortDef}
+use Rattle.design_netlist.specs.declared.netlist_data.NetlistData.{NetlistData}
+use Rattle.design_netlist.specs.declared.netlist_data.LatchDef.{LatchDef}
+use Rattle.design_netlist.specs.declared.netlist_data.PortDef.{PortDef}
 use Rattle.design_netlist.specs.Checks.{IsChecked}
 use Rattle.design_netlist.specs.Drafts.{word, signal_at, IsDriven}
 use Rattle.design_netlist.specs.Rows.{IsRightValuation, RowsFrom, AreRows, outputs_in, next_state, first_state}
@@ -41,7 +41,7 @@ GraphRows g outs state (vector ∷ vectors) (row ∷ rows) =
     (length vector ≡ g.inputs) × (row ≡ map (literal_in (bit_of (node_bits g state vector))) outs)
     × GraphRows g outs (next_of g (bit_of (node_bits g state vector))) vectors rows
 
-module _ (g : Graph) (d : Draft) (labels : List ℕ) (is : IsLabelled g d labels) where
+module _ (g : Graph) (d : NetlistData) (labels : List ℕ) (is : IsLabelled g d labels) where
   -- the latches' bits in a state of the graph's latches
   abbrev held : List Bool → LatchDef → Bool
   held state l = literal_in (bit_of (node_bits g state (replicate g.inputs false))) (label_at labels l.out)
@@ -147,7 +147,7 @@ module _ (g : Graph) (d : Draft) (labels : List ℕ) (is : IsLabelled g d labels
       (λ r. subst (λ s. RowsFrom d s vectors rows) (sym first_is) (rows_are vectors rows (first_of_graph g) (length-map g.latches (λ (x : GraphLatch). x.init)) r)),
     )
 
-pub alike : (g : Graph) (a b : Draft) (first second : List ℕ) (vectors rows : List (List Bool)) → IsChecked a → IsChecked b → DoAgree g a first b second → AreRows a vectors rows ↔ AreRows b vectors rows
+pub alike : (g : Graph) (a b : NetlistData) (first second : List ℕ) (vectors rows : List (List Bool)) → IsChecked a → IsChecked b → DoAgree g a first b second → AreRows a vectors rows ↔ AreRows b vectors rows
 alike g a b first second vectors rows ca cb both =
     let one : AreRows a vectors rows ↔ GraphRows g (output_labels a first) (first_of_graph g) vectors rows = rows_both g a first both.first_is ca vectors rows in
     let other : AreRows b vectors rows ↔ GraphRows g (output_labels b second) (first_of_graph g) vectors rows = rows_both g b second both.second_is cb vectors rows in (

@@ -1,7 +1,7 @@
 -- Designs whose signals are labelled by literals of a graph.
 use Rattle.std.specs.Prelude.{ℕ, ◌≡◌, ◌⊎◌, ◌==◌, ◌<◌, ◌+◌, ◌*◌, List, Bool, length, map, slice_index_or}
-use Rattle.design_netlist.specs.declared.draft.Draft.{Draft}
-use Rattle.design_netlist.specs.declared.draft.LatchDef.{LatchDef}
+use Rattle.design_netlist.specs.declared.netlist_data.NetlistData.{NetlistData}
+use Rattle.design_netlist.specs.declared.netlist_data.LatchDef.{LatchDef}
 use Rattle.design_netlist.specs.Covers.{cover_at, truth}
 use Rattle.design_netlist.specs.Drafts.{signal_at, IsDriven}
 use Rattle.design_netlist.specs.Words.{latch_at}
@@ -33,7 +33,7 @@ abbrev pub IsLatchOf : Graph → List ℕ → LatchDef → Type 0
 IsLatchOf g labels l = ((k : ℕ) × IsLatchAt g labels l k) ⊎ IsConstantLatch labels l
 
 -- the k-th label is at signal k
-pub record IsLabelled (g : Graph) (d : Draft) (labels : List ℕ) : Type 0 where
+pub record IsLabelled (g : Graph) (d : NetlistData) (labels : List ℕ) : Type 0 where
   pub graph : IsGraph g
   pub count : length labels ≡ length d.names
   pub within : (s : ℕ) → s < length labels → node_of (label_at labels s) < node_count g
@@ -45,11 +45,11 @@ pub record IsLabelled (g : Graph) (d : Draft) (labels : List ℕ) : Type 0 where
   pub others : (s : ℕ) → s < length d.names → (IsDriven d s → ⊥) → label_at labels s ≡ 0
 
 -- the labels of the outputs, in order
-abbrev pub output_labels : Draft → List ℕ → List ℕ
+abbrev pub output_labels : NetlistData → List ℕ → List ℕ
 output_labels d labels = map (λ p. label_at labels p.signal) d.outputs
 
 -- both designs are labelled by the graph, and their outputs have the same labels
-pub record DoAgree (g : Graph) (a : Draft) (first : List ℕ) (b : Draft) (second : List ℕ) : Type 0 where
+pub record DoAgree (g : Graph) (a : NetlistData) (first : List ℕ) (b : NetlistData) (second : List ℕ) : Type 0 where
   pub first_is : IsLabelled g a first
   pub second_is : IsLabelled g b second
   pub outputs : output_labels a first ≡ output_labels b second

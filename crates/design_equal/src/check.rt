@@ -13,7 +13,7 @@ use crate::nodes::{is_graph, node_count};
 use crate::plan::Scratch;
 use crate::ports::{are_within, have_inputs, have_latches, have_same, have_zeros};
 use crate::wide::is_multiplied;
-use design_netlist::{Cover, Draft, Netlist};
+use design_netlist::{Cover, Netlist, NetlistData};
 use std::alloc::{AllocError, Global};
 
 /// Whether the label of the cover's output has its truth, by words or by products.
@@ -63,7 +63,7 @@ fn are_met(
 fn is_labelled_by(
     alloc: Global,
     graph: &Graph,
-    draft: &Draft,
+    draft: &NetlistData,
     labels: &[u32],
 ) -> Result<bool, AllocError>
     requires checked { IsChecked draft.now }

@@ -1,7 +1,7 @@
 //! Laws about the definitions, as contracts.
 
 ghost use Rattle.std.specs.Prelude.{◌↔◌, ℕ, Bool, List};
-ghost use Rattle.design_netlist.specs.declared.draft.Draft.{Draft};
+ghost use Rattle.design_netlist.specs.declared.netlist_data.NetlistData.{NetlistData};
 ghost use Rattle.design_netlist.specs.Checks.{IsChecked};
 ghost use Rattle.design_netlist.specs.Rows.{AreRows};
 ghost use Rattle.design_equal.specs.declared.graph.Graph.{Graph};
@@ -10,6 +10,6 @@ ghost use Rattle.design_equal.specs.Labels.{DoAgree};
 /// Two checked designs that are labelled by one graph, and whose outputs in order have the same labels, have the same rows for
 /// every list of vectors.
 pub fn labelled_alike()
-    ensures { (g : Graph) (a b : Draft) (first second : List ℕ) (vectors rows : List (List Bool)) → IsChecked a → IsChecked b →
+    ensures { (g : Graph) (a b : NetlistData) (first second : List ℕ) (vectors rows : List (List Bool)) → IsChecked a → IsChecked b →
         DoAgree g a first b second → (AreRows a vectors rows ↔ AreRows b vectors rows) }
 {}

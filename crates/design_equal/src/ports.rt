@@ -10,7 +10,7 @@ ghost use Rattle.design_equal.specs.Labels.{label_at, IsLatchAt, IsLatchOf};
 use crate::graph::Graph;
 use crate::nodes::first_latch;
 use crate::steps::label_at;
-use design_netlist::{Draft, LatchDef, PortDef, drives_of};
+use design_netlist::{LatchDef, NetlistData, PortDef, drives_of};
 use std::alloc::{AllocError, Global};
 
 /// Whether all labels are literals of nodes, of which there are so many.
@@ -130,7 +130,7 @@ fn are_zero(marks: &[bool], labels: &[u32]) -> bool
 }
 
 /// Whether each signal that nothing drives has the label of the constant 0.
-pub fn have_zeros(alloc: Global, draft: &Draft, labels: &[u32]) -> Result<bool, AllocError>
+pub fn have_zeros(alloc: Global, draft: &NetlistData, labels: &[u32]) -> Result<bool, AllocError>
     requires { (k : ℕ) → k < length (drive_words draft.now) → signal_at (drive_words draft.now) k < length draft.now.names }
     ensures { IfOk result (λ zeros. IsTrue zeros
         → (s : ℕ) → s < length draft.now.names → (IsDriven draft.now s → ⊥) → label_at labels.now s ≡ 0) }

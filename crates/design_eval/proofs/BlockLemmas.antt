@@ -3,10 +3,10 @@ use Rattle.std.proofs.Common.{◌≡◌, ◌⊎◌, ℕ, ◌+◌, ◌<◌, ◌�
 use Rattle.std.proofs.lemmas.Bool.{cases_lt}
 use Rattle.std.proofs.lemmas.List.{length-replicate, get_or-replicate, get_or_past}
 use Rattle.std.proofs.lemmas.Simd.{map-map}
-use Rattle.design_netlist.specs.declared.draft.Cover.{Cover}
-use Rattle.design_netlist.specs.declared.draft.Draft.{Draft}
-use Rattle.design_netlist.specs.declared.draft.LatchDef.{LatchDef}
-use Rattle.design_netlist.specs.declared.draft.PortDef.{PortDef}
+use Rattle.design_netlist.specs.declared.netlist_data.Cover.{Cover}
+use Rattle.design_netlist.specs.declared.netlist_data.NetlistData.{NetlistData}
+use Rattle.design_netlist.specs.declared.netlist_data.LatchDef.{LatchDef}
+use Rattle.design_netlist.specs.declared.netlist_data.PortDef.{PortDef}
 use Rattle.design_netlist.specs.Checks.{IsChecked}
 use Rattle.design_netlist.specs.Drafts.{IsDriven}
 use Rattle.design_netlist.specs.Valuations.{number_at, bit_at, IsSettled}
@@ -24,16 +24,16 @@ zero-word n s = by (cases_lt s n)
     by (inl lt) = get_or-replicate n s 0 0 lt
     by (inr ge) = get_or_past (replicate n 0) s 0 (omega (arith, ge, length-replicate {A = ℕ} n 0))
 
-pub block-first : (d draft : Draft) (b : Block) (n : ℕ) → draft ≡ d → n ≡ length draft.names → b.words.items ≡ replicate n 0 → b.count ≡ 0 → IsBlock d b
+pub block-first : (d draft : NetlistData) (b : Block) (n : ℕ) → draft ≡ d → n ≡ length draft.names → b.words.items ≡ replicate n 0 → b.count ≡ 0 → IsBlock d b
 block-first d draft b n e size zeros none =
-    subst (λ (x : Draft). IsBlock x b) e (record {
+    subst (λ (x : NetlistData). IsBlock x b) e (record {
       size = ap (λ (ws : List ℕ). length ws) zeros ∙ length-replicate {A = ℕ} n 0 ∙ size;
       few = omega (arith, none);
       hold = λ j lj. absurd (omega (arith, none));
       others = λ j lj s free. lane-at b.words.items j s ∙ ap (λ (ws : List ℕ). is_bit (number_at ws s) j) zeros ∙ ap (λ (w : ℕ). is_bit w j) (zero-word n s) ∙ no-bit j;
     })
 
-module _ (d : Draft) (is : IsChecked d) where
+module _ (d : NetlistData) (is : IsChecked d) where
   -- words that changed at inputs alone, and were settled
   pub block-filled : (old b : Block) (ins mid : List ℕ) (covers : List Cover) → ins ≡ signals d.inputs → covers ≡ d.covers → IsBlock d old → length mid ≡ length old.words.items → HaveKept ins old.words.items mid → length b.words.items ≡ length mid → ((j : ℕ) → j < 64 → IsSettled covers (bit_at (lane_bits mid j)) (bit_at (lane_bits b.words.items j))) → b.count ≤ 64 → IsBlock d b
   block-filled old b ins mid covers i e block size kept len settled few = record {
@@ -58,7 +58,7 @@ empty-map f [] (b ∷ bs) e h = absurd (omega arith)
 empty-map f (x ∷ xs) bs e h = absurd (omega arith)
 
 -- a lane in which the inputs have the vector has its row
-pub row-of-lane : (d : Draft) (b : Block) (j : ℕ) (ins outs : List ℕ) (vector row : List Bool) → IsBlock d b → j < b.count → length d.latches ≡ 0 → ins ≡ signals d.inputs → outs ≡ signals d.outputs → map (bit_at (lane_bits b.words.items j)) ins ≡ vector → row ≡ map (bit_at (lane_bits b.words.items j)) outs → IsRowOf d vector row
+pub row-of-lane : (d : NetlistData) (b : Block) (j : ℕ) (ins outs : List ℕ) (vector row : List Bool) → IsBlock d b → j < b.count → length d.latches ≡ 0 → ins ≡ signals d.inputs → outs ≡ signals d.outputs → map (bit_at (lane_bits b.words.items j)) ins ≡ vector → row ≡ map (bit_at (lane_bits b.words.items j)) outs → IsRowOf d vector row
 row-of-lane d b j ins outs vector row block lj latches i o v r state len = record {
   given = given;
   right = record {

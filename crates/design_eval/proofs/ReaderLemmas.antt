@@ -9,7 +9,7 @@ use Rattle.std.proofs.Math.Seq.{get_or-append_seam}
 use Rattle.std.proofs.lemmas.List.{get_or-map, get_or-take, length-map, length-take, length-take-le, get_or_append_left}
 use Rattle.std.proofs.lemmas.List.Elements.{Contains-append_left, Contains-append_right}
 use Rattle.std.proofs.lemmas.List.Sorted.{Contains-permutation, IsNonDecreasingBy-from_sort}
-use Rattle.design_netlist.specs.declared.draft.Cover.{Cover}
+use Rattle.design_netlist.specs.declared.netlist_data.Cover.{Cover}
 use Rattle.design_netlist.specs.Valuations.{number_at}
 use Rattle.design_eval.specs.declared.readers.Readers.{Readers}
 use Rattle.design_eval.specs.Readers.{reader_key, HaveKeys, AreListed, ins_at, AreKeys, AreInOrder, IsFrom, Splits, AreStarts, AreReaders}

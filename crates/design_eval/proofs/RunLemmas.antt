@@ -6,10 +6,10 @@ use Rattle.std.proofs.lemmas.Bool.{cases_lt}
 use Rattle.std.specs.List.{flat_map}
 use Rattle.std.proofs.lemmas.List.{length-append, length-map, length-replicate, map-append, get_or-map, get_or_append_left, get_or-append-add, get_or-replicate, get_or_past}
 use Rattle.std.proofs.lemmas.Simd.{map-map}
-use Rattle.design_netlist.specs.declared.draft.Cover.{Cover}
-use Rattle.design_netlist.specs.declared.draft.Draft.{Draft}
-use Rattle.design_netlist.specs.declared.draft.LatchDef.{LatchDef}
-use Rattle.design_netlist.specs.declared.draft.PortDef.{PortDef}
+use Rattle.design_netlist.specs.declared.netlist_data.Cover.{Cover}
+use Rattle.design_netlist.specs.declared.netlist_data.NetlistData.{NetlistData}
+use Rattle.design_netlist.specs.declared.netlist_data.LatchDef.{LatchDef}
+use Rattle.design_netlist.specs.declared.netlist_data.PortDef.{PortDef}
 use Rattle.design_netlist.specs.Covers.{no_cover, cover_at, IsCoverOver}
 use Rattle.design_netlist.specs.Drafts.{word, signal_at, cover_drive, latch_drive, cover_reads, latch_read, drive_words, reads_of, IsDriven}
 use Rattle.design_netlist.specs.Valuations.{number_at, bit_at, IsOrder, IsSettled}
@@ -42,22 +42,22 @@ outs latches = map (λ (l : LatchDef). l.out) latches
 abbrev pub froms : List LatchDef → List ℕ
 froms latches = map (λ (l : LatchDef). l.from) latches
 
-abbrev front : Draft → List ℕ
+abbrev front : NetlistData → List ℕ
 front d = signals d.inputs ++ map (λ (c : Cover). c.out) d.covers
 
-drive-signals : (d : Draft) → signals (drive_words d) ≡ front d ++ outs d.latches
+drive-signals : (d : NetlistData) → signals (drive_words d) ≡ front d ++ outs d.latches
 drive-signals d =
     map-append (λ (w : PortDef). w.signal) (d.inputs ++ map cover_drive d.covers) (map latch_drive d.latches) ∙
     ap (λ (xs : List ℕ). xs ++ signals (map latch_drive d.latches)) (map-append (λ (w : PortDef). w.signal) d.inputs (map cover_drive d.covers) ∙ ap (λ (xs : List ℕ). signals d.inputs ++ xs) (map-map (λ (w : PortDef). w.signal) cover_drive d.covers)) ∙
     ap (λ (xs : List ℕ). front d ++ xs) (map-map (λ (w : PortDef). w.signal) latch_drive d.latches)
 
-read-signals : (d : Draft) → signals (reads_of d) ≡ (signals d.outputs ++ signals (flat_map cover_reads d.covers)) ++ froms d.latches
+read-signals : (d : NetlistData) → signals (reads_of d) ≡ (signals d.outputs ++ signals (flat_map cover_reads d.covers)) ++ froms d.latches
 read-signals d =
     map-append (λ (w : PortDef). w.signal) (d.outputs ++ flat_map cover_reads d.covers) (map latch_read d.latches) ∙
     ap (λ (xs : List ℕ). xs ++ signals (map latch_read d.latches)) (map-append (λ (w : PortDef). w.signal) d.outputs (flat_map cover_reads d.covers)) ∙
     ap (λ (xs : List ℕ). (signals d.outputs ++ signals (flat_map cover_reads d.covers)) ++ xs) (map-map (λ (w : PortDef). w.signal) latch_read d.latches)
 
-module _ (d : Draft) (is : IsChecked d) where
+module _ (d : NetlistData) (is : IsChecked d) where
   drive-at : (k : ℕ) → k < length (signals (drive_words d)) → get_or (signals (drive_words d)) k 0 ≡ signal_at (drive_words d) k
   drive-at k lk = get_or-map (λ (w : PortDef). w.signal) (drive_words d) k (word 0 0) 0 (omega (arith, length-map (drive_words d) (λ (w : PortDef). w.signal)))
 
@@ -219,7 +219,7 @@ module _ (d : Draft) (is : IsChecked d) where
 pub below-at : (m n : ℕ) (xs ys : List ℕ) → xs ≡ ys → m ≡ n → AreBelow n ys → AreBelow m xs
 below-at m n xs ys e f h = rw (e, f) h
 
-pub covers-made : (d : Draft) (covers : List Cover) (n : ℕ) → IsChecked d → covers ≡ d.covers → n ≡ length d.names → (i : ℕ) → i < length covers → IsCoverOver (cover_at covers i) n
+pub covers-made : (d : NetlistData) (covers : List Cover) (n : ℕ) → IsChecked d → covers ≡ d.covers → n ≡ length d.names → (i : ℕ) → i < length covers → IsCoverOver (cover_at covers i) n
 covers-made d covers n is e f = rw (e, f) is.made.covers
 
 -- a slice that was written back over a vector
@@ -244,9 +244,9 @@ held-first p hints word n marks last values state m room h e l v s = record {
     zero : (n k : ℕ) → bit_at (replicate n false) k ≡ false
     zero n k = elim (cases_lt k n) [ inl lt ↦ get_or-replicate n k false false lt | inr ge ↦ get_or_past (replicate n false) k false (omega (arith, ge, length-replicate n false)) ]
 
-pub plan-is : (d draft : Draft) (covers : List Cover) (p : Plan) (turns : List Turn) (reads : List ℕ) (n : ℕ) → draft ≡ d → covers ≡ draft.covers → turns ≡ p.turns.items → reads ≡ p.wiring.reads.items → n ≡ length draft.names → IsWiring draft p.wiring → AreTurns covers p.turns.items → length turns + length reads ≤ 65535 → AreReaders covers (places turns) n p.readers → AreListed p.readers (length turns) reads → AreQuick covers p.turns.items p.quicks.items → IsPlan d p
+pub plan-is : (d draft : NetlistData) (covers : List Cover) (p : Plan) (turns : List Turn) (reads : List ℕ) (n : ℕ) → draft ≡ d → covers ≡ draft.covers → turns ≡ p.turns.items → reads ≡ p.wiring.reads.items → n ≡ length draft.names → IsWiring draft p.wiring → AreTurns covers p.turns.items → length turns + length reads ≤ 65535 → AreReaders covers (places turns) n p.readers → AreListed p.readers (length turns) reads → AreQuick covers p.turns.items p.quicks.items → IsPlan d p
 plan-is d draft covers p turns reads n e f t i m w a few r l q =
-    subst (λ (x : Draft). IsPlan x p) e (record {
+    subst (λ (x : NetlistData). IsPlan x p) e (record {
       wiring = w;
       turns = subst (λ (cs : List Cover). AreTurns cs p.turns.items) f a;
       quicks = subst (λ (cs : List Cover). AreQuick cs p.turns.items p.quicks.items) f q;
@@ -259,9 +259,9 @@ plan-is d draft covers p turns reads n e f t i m w a few r l q =
     })
 
 -- nothing was evaluated yet
-pub ready-first : (d draft : Draft) (latches : List LatchDef) (values state : List Bool) (n : ℕ) → draft ≡ d → n ≡ length draft.names → values ≡ replicate n false → latches ≡ draft.latches → state ≡ map (λ (l : LatchDef). l.init) latches → AreReady d values state
+pub ready-first : (d draft : NetlistData) (latches : List LatchDef) (values state : List Bool) (n : ℕ) → draft ≡ d → n ≡ length draft.names → values ≡ replicate n false → latches ≡ draft.latches → state ≡ map (λ (l : LatchDef). l.init) latches → AreReady d values state
 ready-first d draft latches values state n e size v at s =
-    subst (λ (x : Draft). AreReady x values state) e (record {
+    subst (λ (x : NetlistData). AreReady x values state) e (record {
       signals = ap (λ (xs : List Bool). length xs) v ∙ length-replicate n false ∙ size;
       latches = ap (λ (xs : List Bool). length xs) s ∙ length-map latches (λ (l : LatchDef). l.init) ∙ ap (λ (xs : List LatchDef). length xs) at;
       others = λ k none. ap (λ (xs : List Bool). bit_at xs k) v ∙ by k (cases_lt k n);
@@ -271,7 +271,7 @@ ready-first d draft latches values state n e size v at s =
     by k (inl lt) = get_or-replicate n k false false lt
     by k (inr ge) = get_or_past (replicate n false) k false (omega (arith, ge, length-replicate n false))
 
-pub marked-first : (d : Draft) (p : Plan) (marks values : List Bool) (n : ℕ) → IsPlan d p → n ≡ 65536 → marks ≡ replicate n true → IsMarked d p marks values
+pub marked-first : (d : NetlistData) (p : Plan) (marks values : List Bool) (n : ℕ) → IsPlan d p → n ≡ 65536 → marks ≡ replicate n true → IsMarked d p marks values
 marked-first d p marks values n plan size e = record {
   size = ap (λ (xs : List Bool). length xs) e ∙ length-replicate n true ∙ size;
   kept = fresh-kept d.covers (places p.turns.items) marks values n (omega (arith, size, plan.few, turns-size p.turns.items)) e;

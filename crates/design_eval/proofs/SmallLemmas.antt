@@ -3,7 +3,7 @@ use Rattle.std.proofs.Common.{◌≡◌, ◌⊎◌, ℕ, zero, suc, ◌+◌, ◌
 use Rattle.std.specs.Prelude.{slice_set}
 use Rattle.std.proofs.lemmas.Bool.{cases_eq}
 use Rattle.std.proofs.lemmas.List.{take-map, get_or-take, length-take-le}
-use Rattle.design_netlist.specs.declared.draft.Cover.{Cover}
+use Rattle.design_netlist.specs.declared.netlist_data.Cover.{Cover}
 use Rattle.design_eval.specs.Tables.{truth_at, address, six_bits, AreCells, AreWires}
 use Rattle.design_eval.specs.declared.readers.Readers.{Readers}
 use Rattle.design_eval.specs.declared.turns.Turn.{Turn}

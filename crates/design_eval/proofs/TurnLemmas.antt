@@ -1,7 +1,7 @@
 -- Covers in their turns.
 use Rattle.std.proofs.Common.{◌≡◌, ℕ, ◌+◌, ◌<◌, ◌≤◌, Bool, List, [], ◌∷◌, ◌++◌, None, length, take, map, sym, ap, subst, ◌∙◌, arith}
 use Rattle.std.proofs.lemmas.List.{length-map, map-append, get_or-map, take_more, take_all}
-use Rattle.design_netlist.specs.declared.draft.Cover.{Cover}
+use Rattle.design_netlist.specs.declared.netlist_data.Cover.{Cover}
 use Rattle.design_netlist.specs.Covers.{no_cover, cover_at, truth, IsCoverOver}
 use Rattle.design_netlist.specs.Valuations.{number_at, bit_at, IsOrder, IsSettled, IsSettledTo}
 use Rattle.design_netlist.proofs.EvalLemmas.{settle_more, settle_all}

@@ -1,6 +1,6 @@
 -- Bits of signals, in a list by their numbers, and what is kept of a design between two vectors.
 use Rattle.std.specs.Prelude.{◌≡◌, ℕ, ◌<◌, List, [], ◌∷◌, Bool, false, length, map, slice_set, slice_index_or}
-use Rattle.design_netlist.specs.declared.draft.Draft.{Draft}
+use Rattle.design_netlist.specs.declared.netlist_data.NetlistData.{NetlistData}
 use Rattle.design_netlist.specs.Drafts.{IsDriven}
 use Rattle.design_netlist.specs.Valuations.{bit_at}
 use Rattle.design_eval.specs.declared.wiring.Wiring.{Wiring}
@@ -20,14 +20,14 @@ abbrev pub AreApart : List ℕ → Type 0
 AreApart ss = (j k : ℕ) → j < k → k < length ss → slice_index_or ss j 0 ≡ slice_index_or ss k 0 → ⊥
 
 -- the signals of a design that are written and read at each vector
-pub record IsWiring (d : Draft) (w : Wiring) : Type 0 where
+pub record IsWiring (d : NetlistData) (w : Wiring) : Type 0 where
   pub inputs : w.inputs.items ≡ map (λ p. p.signal) d.inputs
   pub outputs : w.outputs.items ≡ map (λ p. p.signal) d.outputs
   pub drives : w.drives.items ≡ map (λ l. l.out) d.latches
   pub reads : w.reads.items ≡ map (λ l. l.from) d.latches
 
 -- what is kept between two vectors: a bit for each signal, 0 where nothing drives it, and a bit for each latch
-pub record AreReady (d : Draft) (values state : List Bool) : Type 0 where
+pub record AreReady (d : NetlistData) (values state : List Bool) : Type 0 where
   pub signals : length values ≡ length d.names
   pub latches : length state ≡ length d.latches
   pub others : (s : ℕ) → (IsDriven d s → ⊥) → bit_at values s ≡ false

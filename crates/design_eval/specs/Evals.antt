@@ -1,14 +1,14 @@
 -- A design that is run, vector by vector.
 use Rattle.std.specs.Prelude.{◌≡◌, ℕ, List, Bool}
-use Rattle.design_netlist.specs.declared.draft.Draft.{Draft}
+use Rattle.design_netlist.specs.declared.netlist_data.NetlistData.{NetlistData}
 use Rattle.design_netlist.specs.Rows.{IsRightValuation, outputs_in, next_state, first_state}
 
 -- a design, and what its latches give next
 pub record EvalState : Type 0 where
-  pub netlist : Draft
+  pub netlist : NetlistData
   pub state : List Bool
 
-abbrev pub first_eval : Draft → EvalState
+abbrev pub first_eval : NetlistData → EvalState
 first_eval netlist = record { netlist = netlist; state = first_state netlist }
 
 -- at a vector: the row is the outputs in a right valuation, and the latches take what they read in it

@@ -1,6 +1,6 @@
 -- What is known of a design before it is run, and what is kept of its covers.
 use Rattle.std.specs.Prelude.{◌≡◌, ℕ, ◌+◌, ◌<◌, ◌≤◌, List, Bool, length}
-use Rattle.design_netlist.specs.declared.draft.Draft.{Draft}
+use Rattle.design_netlist.specs.declared.netlist_data.NetlistData.{NetlistData}
 use Rattle.design_netlist.specs.Covers.{cover_at, truth}
 use Rattle.design_netlist.specs.Valuations.{bit_at}
 use Rattle.design_eval.specs.declared.plan.Plan.{Plan}
@@ -12,7 +12,7 @@ use Rattle.design_eval.specs.Marks.{AreKept, AreTaken}
 use Rattle.design_eval.specs.Latches.{HaveBits}
 
 -- what is known of a design
-pub record IsPlan (d : Draft) (p : Plan) : Type 0 where
+pub record IsPlan (d : NetlistData) (p : Plan) : Type 0 where
   pub wiring : IsWiring d p.wiring
   pub turns : AreTurns d.covers p.turns.items
   pub quicks : AreQuick d.covers p.turns.items p.quicks.items
@@ -22,7 +22,7 @@ pub record IsPlan (d : Draft) (p : Plan) : Type 0 where
   pub room : length p.turns.items + length p.wiring.reads.items ≤ 65535
 
 -- each cover that isn't marked has the truth of its inputs' bits
-pub record IsMarked (d : Draft) (p : Plan) (marks values : List Bool) : Type 0 where
+pub record IsMarked (d : NetlistData) (p : Plan) (marks values : List Bool) : Type 0 where
   pub size : length marks ≡ 65536
   pub kept : AreKept d.covers (places p.turns.items) 0 marks values
 
@@ -34,5 +34,5 @@ pub record IsHeld (p : Plan) (hints : List ℕ) (marks last state values : List 
   pub taken : AreTaken (length p.turns.items) p.wiring.reads.items state marks values
 
 -- all covers have their truths
-abbrev pub AllHold : Draft → List Bool → Type 0
+abbrev pub AllHold : NetlistData → List Bool → Type 0
 AllHold d values = (i : ℕ) → i < length d.covers → bit_at values (cover_at d.covers i).out ≡ truth (bit_at values) (cover_at d.covers i)

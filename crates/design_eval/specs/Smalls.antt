@@ -1,6 +1,6 @@
 -- Covers as tables of 16 cells, looked up by the bits of at most four inputs.
 use Rattle.std.specs.Prelude.{◌≡◌, ◌<◌, ℕ, List, Bool, false, Option, None, Some, length, slice_index_or}
-use Rattle.design_netlist.specs.declared.draft.Cover.{Cover}
+use Rattle.design_netlist.specs.declared.netlist_data.Cover.{Cover}
 use Rattle.design_netlist.specs.Covers.{cover_at, truth, IsCoverOver}
 use Rattle.design_eval.specs.declared.smalls.Small.{Small}
 use Rattle.design_eval.specs.declared.smalls.Quick.{Quick}

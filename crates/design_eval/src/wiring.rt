@@ -3,7 +3,7 @@
 ghost use Rattle.std.specs.Prelude.{◌≡◌, map, IfOk};
 ghost use Rattle.design_eval.specs.Bits.{IsWiring};
 
-use design_netlist::{Draft, LatchDef, PortDef};
+use design_netlist::{LatchDef, NetlistData, PortDef};
 use std::alloc::{AllocError, Global};
 
 /// Signals in the order of the design's lists.
@@ -41,7 +41,7 @@ fn reads_of(alloc: Global, latches: &[LatchDef]) -> Result<Vec<u32>, AllocError>
 }
 
 /// The signals of a design.
-pub fn wiring_of(alloc: Global, draft: &Draft) -> Result<Wiring, AllocError>
+pub fn wiring_of(alloc: Global, draft: &NetlistData) -> Result<Wiring, AllocError>
     ensures { IfOk result (IsWiring draft.now) }
 {
     let inputs = signals_of(alloc, draft.inputs.as_slice())?;

@@ -2,10 +2,10 @@
 use Rattle.std.proofs.Common.{◌≡◌, ℕ, zero, suc, ◌+◌, ◌<◌, ◌≤◌, cond, eqb, List, [], ◌∷◌, ◌++◌, length, map, refl, sym, ap, ◌∙◌, arith, inl, inr, ◌⊎◌}
 use Rattle.std.specs.List.{flat_map}
 use Rattle.std.proofs.lemmas.Bool.{cases_eq, cases_lt, eq-eqb, ne_eqb}
-use Rattle.design_netlist.specs.declared.draft.Draft.{Draft}
-use Rattle.design_netlist.specs.declared.draft.Cover.{Cover}
-use Rattle.design_netlist.specs.declared.draft.LatchDef.{LatchDef}
-use Rattle.design_netlist.specs.declared.draft.PortDef.{PortDef}
+use Rattle.design_netlist.specs.declared.netlist_data.NetlistData.{NetlistData}
+use Rattle.design_netlist.specs.declared.netlist_data.Cover.{Cover}
+use Rattle.design_netlist.specs.declared.netlist_data.LatchDef.{LatchDef}
+use Rattle.design_netlist.specs.declared.netlist_data.PortDef.{PortDef}
 use Rattle.design_netlist.specs.Orders.{IsBefore}
 use Rattle.design_netlist.specs.Drafts.{word, signal_at, line_at, cover_drive, latch_drive, cover_reads, latch_read, drive_words, reads_of}
 use Rattle.design_netlist.specs.Checks.{IsDoubledIn}
@@ -181,7 +181,7 @@ module _ (signals : List Signal) (s : ℕ) where
 in_three : (s : ℕ) (all xs ys zs words : List PortDef) → all ≡ (xs ++ ys) ++ zs → count s xs + (count s ys + count s zs) ≡ count s words → count s all ≡ count s words
 in_three s all xs ys zs words e h = omega (arith, ap (count s) e, count-append s (xs ++ ys) zs, count-append s xs ys, h)
 
-module _ (ms : List Model) (lines : List (Line Signal)) (d : Draft) (h : IsReadFrom ms lines d) where
+module _ (ms : List Model) (lines : List (Line Signal)) (d : NetlistData) (h : IsReadFrom ms lines d) where
   abbrev S : List Signal
   S = signals_of lines
 

@@ -2,8 +2,8 @@
 use Rattle.std.proofs.Common.{◌≡◌, ℕ, zero, suc, ◌+◌, ◌<◌, Bool, true, false, cond, nat_lt, List, [], ◌∷◌, ◌++◌, length, map, get_or, refl, sym, ap, ◌∙◌, subst, arith}
 use Rattle.std.proofs.lemmas.List.{length-map}
 use Rattle.std.specs.Str.{bytes_eq}
-use Rattle.design_netlist.specs.declared.draft.Lit.{Lit}
-use Rattle.design_netlist.specs.declared.draft.PortDef.{PortDef}
+use Rattle.design_netlist.specs.declared.netlist_data.Lit.{Lit}
+use Rattle.design_netlist.specs.declared.netlist_data.PortDef.{PortDef}
 use Rattle.design_flatten.specs.declared.model.Model.{Model}
 use Rattle.design_flatten.specs.declared.model.Piece.{Piece}
 use Rattle.design_flatten.specs.declared.model.Piece.TheVariants as piece

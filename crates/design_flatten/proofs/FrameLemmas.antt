@@ -4,7 +4,7 @@ use Rattle.design_flatten.specs.declared.given.Given.{Given}
 use Rattle.design_flatten.specs.Given.{looked_up, place_of}
 use Rattle.std.specs.List.{slice_get}
 use Rattle.std.proofs.lemmas.Bool.{cases_Bool, cond-true, cond-false, ltb-false, le-ltb}
-use Rattle.design_netlist.specs.declared.draft.PortDef.{PortDef}
+use Rattle.design_netlist.specs.declared.netlist_data.PortDef.{PortDef}
 use Rattle.design_flatten.specs.declared.model.Model.{Model}
 use Rattle.design_flatten.specs.declared.model.Piece.{Piece}
 use Rattle.design_flatten.specs.declared.model.Piece.TheVariants as piece

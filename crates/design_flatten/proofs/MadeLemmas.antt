@@ -5,10 +5,10 @@ use Rattle.std.proofs.lemmas.Bool.{or_parts, ltb-false}
 use Rattle.std.proofs.lemmas.List.{length-map}
 use Rattle.std.proofs.lemmas.List.Elements.{All-nil, All-cons, All-append}
 use Rattle.std.proofs.lemmas.List.Sums.{sum_by-cons}
-use Rattle.design_netlist.specs.declared.draft.Draft.{Draft}
-use Rattle.design_netlist.specs.declared.draft.Cover.{Cover}
-use Rattle.design_netlist.specs.declared.draft.LatchDef.{LatchDef}
-use Rattle.design_netlist.specs.declared.draft.PortDef.{PortDef}
+use Rattle.design_netlist.specs.declared.netlist_data.NetlistData.{NetlistData}
+use Rattle.design_netlist.specs.declared.netlist_data.Cover.{Cover}
+use Rattle.design_netlist.specs.declared.netlist_data.LatchDef.{LatchDef}
+use Rattle.design_netlist.specs.declared.netlist_data.PortDef.{PortDef}
 use Rattle.design_netlist.specs.Covers.{cover_at, no_cover, IsCoverOver}
 use Rattle.design_netlist.specs.Drafts.{word, word_at, cover_characters, IsWellMade}
 use Rattle.design_netlist.specs.Words.{latch_at}
@@ -151,7 +151,7 @@ module _ (ms : List Model) (right : HaveRightRows ms) (lines : List (Line Signal
   fit : LinesFit lines
   fit = subst LinesFit (sym within.substituted.reached) (lines_fit ms right within.replaced)
 
-  pub well_made : (d : Draft) → IsReadFrom ms lines d → length (first_model ms).outputs ≤ 16777216 → IsWellMade d
+  pub well_made : (d : NetlistData) → IsReadFrom ms lines d → length (first_model ms).outputs ≤ 16777216 → IsWellMade d
   well_made d h few =
       let len : length S ≡ length d.names = sym (ap length h.names ∙ length-map S (printed ms)) in
       let covers = subst (All (IsOver S)) (sym h.covers) (each S (IsOver S) (cover_on S) (cover_below S) lines (lines_known lines) fit) in

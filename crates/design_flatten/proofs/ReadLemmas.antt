@@ -2,8 +2,8 @@
 use Rattle.std.proofs.Common.{◌≡◌, ℕ, ◌+◌, ◌≤◌, true, false, List, [], Some, None, Result, Ok, Err, length, refl, sym, ap, ◌∙◌, subst, arith, nat_lt}
 use Rattle.std.specs.Prelude.{IfOk, IfErr, MatchResult, slice_index_or}
 use Rattle.std.proofs.lemmas.Bool.{le-ltb}
-use Rattle.design_netlist.specs.declared.draft.Cover.{Cover}
-use Rattle.design_netlist.specs.declared.draft.Draft.{Draft}
+use Rattle.design_netlist.specs.declared.netlist_data.Cover.{Cover}
+use Rattle.design_netlist.specs.declared.netlist_data.NetlistData.{NetlistData}
 use Rattle.design_netlist.specs.declared.fault.DesignFault.{DesignFault}
 use Rattle.design_netlist.specs.declared.fault.DesignFault.TheVariants as fault
 use Rattle.design_netlist.specs.declared.fault.DesignKind.TheVariants as kind
@@ -42,7 +42,7 @@ within_is ms s h le = record {
   within = not_over (lines_of ms s) s.sink.signals s.sink.room h.sink.signals h.sink.room le;
 }
 
-pub not_limit : (ms : List Model) (d : Draft) → IsNetlistOf ms d → IsTooMuch ms → ⊥
+pub not_limit : (ms : List Model) (d : NetlistData) → IsNetlistOf ms d → IsTooMuch ms → ⊥
 not_limit ms d is h =
     let design = is.read.design in
     let no : false ≡ true = sym design.within ∙ h design.replaced is.lines design.most design.substituted in cc
@@ -51,7 +51,7 @@ pub not_other : (cs : List Clocked) (line : ℕ) → AreOneControl cs → IsCont
 not_other cs line one h = let other = h.1.1 in other.3 (one other.0 h.0 other.1 h.1.0)
 
 -- the controls of any netlist of the models
-pub its_controls : (ms : List Model) (d : Draft) (lines : List (Line Signal)) → IsNetlistOf ms d → IsWithin ms lines → AreOneControl (controls_of ms lines)
+pub its_controls : (ms : List Model) (d : NetlistData) (lines : List (Line Signal)) → IsNetlistOf ms d → IsWithin ms lines → AreOneControl (controls_of ms lines)
 its_controls ms d lines is w =
     let same : is.lines ≡ lines = one_design ms is.read.design.replaced w.replaced is.lines lines is.read.design.substituted w.substituted in
     subst (λ x. AreOneControl (controls_of ms x)) same is.read.one_control
@@ -59,7 +59,7 @@ its_controls ms d lines is w =
 -- ---- words
 
 -- in any netlist of the models that is checked
-pub clean_words : (ms : List Model) (d : Draft) (lines : List (Line Signal)) → IsNetlistOf ms d → IsChecked d → IsWithin ms lines → IsFirstDoubled lines None × IsFirstUndriven lines None
+pub clean_words : (ms : List Model) (d : NetlistData) (lines : List (Line Signal)) → IsNetlistOf ms d → IsChecked d → IsWithin ms lines → IsFirstDoubled lines None × IsFirstUndriven lines None
 clean_words ms d lines is checked w =
     let same : is.lines ≡ lines = one_design ms is.read.design.replaced w.replaced is.lines lines is.read.design.substituted w.substituted in
     let h : IsReadFrom ms lines d = subst (λ x. IsReadFrom ms x d) same is.read.netlist in
@@ -76,23 +76,23 @@ read_fault ms lines line name k clean none first l n = (lines, clean, (none, (k,
 
 -- ---- what is read
 
-pub readings_are : (r : Result Draft DesignFault) (ms : List Model) (lines : List (Line Signal)) → IsClean ms lines → IsFirstDoubled lines None → IsFirstUndriven lines None → IfOk r (IsReadFrom ms lines) → IfOk r (IsReading ms)
+pub readings_are : (r : Result NetlistData DesignFault) (ms : List Model) (lines : List (Line Signal)) → IsClean ms lines → IsFirstDoubled lines None → IsFirstUndriven lines None → IfOk r (IsReadFrom ms lines) → IfOk r (IsReading ms)
 readings_are (Ok d) ms lines clean undoubled driven h = record { lines = lines; clean = clean; netlist = h; undoubled = undoubled; driven = driven }
 readings_are (Err e) ms lines clean undoubled driven h = tt
 
-pub made_are : (r : Result Draft DesignFault) (ms : List Model) (lines : List (Line Signal)) → HaveRightRows ms → IsWithin ms lines → length (first_model ms).outputs ≤ 16777216 → IfOk r (IsReadFrom ms lines) → IfOk r (λ d. IsWellMade d)
+pub made_are : (r : Result NetlistData DesignFault) (ms : List Model) (lines : List (Line Signal)) → HaveRightRows ms → IsWithin ms lines → length (first_model ms).outputs ≤ 16777216 → IfOk r (IsReadFrom ms lines) → IfOk r (λ d. IsWellMade d)
 made_are (Ok d) ms lines right within few h = well_made ms right lines within d h few
 made_are (Err e) ms lines right within few h = tt
 
 -- ---- what the check of the netlist says
 
-pub is_netlist_of : (ms : List Model) (d : Draft) → IsReading ms d → IsNetlistOf ms d
+pub is_netlist_of : (ms : List Model) (d : NetlistData) → IsReading ms d → IsNetlistOf ms d
 is_netlist_of ms d is = record {
   lines = is.lines;
   read = record { rules = is.clean.rules; design = is.clean.design; one_control = is.clean.one_control; netlist = is.netlist };
 }
 
-is_fault : (ms : List Model) (d : Draft) (e : DesignFault) → IsReading ms d → IsRefusalOf d e → IsRefusalOfModels ms e
+is_fault : (ms : List Model) (d : NetlistData) (e : DesignFault) → IsReading ms d → IsRefusalOf d e → IsRefusalOfModels ms e
 is_fault ms d fault.Memory is h = tt
 is_fault ms d (fault.At line (kind.Doubled name)) is h =
     let first = h.1 in
@@ -107,14 +107,14 @@ is_fault ms d (fault.At line (kind.Cyclic name)) is h =
     (is.lines, is.clean, (is.undoubled, is.driven, (k, subst P covers h.3, h.4 ∙ ap (λ cs. cover_line cs k) covers, h.5 ∙ (λ i. slice_index_or (is.netlist.names i) (cover_at (covers i) k).out []))))
 is_fault ms d (fault.At line _) is h = absurd h
 
-pub refused_is : (r : Result Draft DesignFault) (ms : List Model) (d : Draft) → IsReading ms d → IfErr r (λ e. IsRefusalOf d e) → IfErr r (IsRefusalOfModels ms)
+pub refused_is : (r : Result NetlistData DesignFault) (ms : List Model) (d : NetlistData) → IsReading ms d → IfErr r (λ e. IsRefusalOf d e) → IfErr r (IsRefusalOfModels ms)
 refused_is (Ok n) ms d is h = tt
 refused_is (Err e) ms d is h = is_fault ms d e is h
 
-pub found_is : (r : Result Draft DesignFault) (ms : List Model) (d : Draft) → IsReading ms d → IfOk r (λ n. (n ≡ d) × IsChecked d) → IfOk r (λ n. IsNetlistOf ms n × IsChecked n)
+pub found_is : (r : Result NetlistData DesignFault) (ms : List Model) (d : NetlistData) → IsReading ms d → IfOk r (λ n. (n ≡ d) × IsChecked d) → IfOk r (λ n. IsNetlistOf ms n × IsChecked n)
 found_is (Ok n) ms d is h = (subst (IsNetlistOf ms) (sym h.0) (is_netlist_of ms d is), subst IsChecked (sym h.0) h.1)
 found_is (Err e) ms d is h = tt
 
-pub only_is : (r : Result Draft DesignFault) (ms : List Model) (d : Draft) → IsReading ms d → IfOk r (λ n. (n ≡ d) × IsChecked d) → (IsChecked d → IfErr r (λ e. e ≡ fault.Memory)) → (f : Draft) → IsNetlistOf ms f → IsChecked f → MatchResult r (λ n. n ≡ f) (λ e. e ≡ fault.Memory)
+pub only_is : (r : Result NetlistData DesignFault) (ms : List Model) (d : NetlistData) → IsReading ms d → IfOk r (λ n. (n ≡ d) × IsChecked d) → (IsChecked d → IfErr r (λ e. e ≡ fault.Memory)) → (f : NetlistData) → IsNetlistOf ms f → IsChecked f → MatchResult r (λ n. n ≡ f) (λ e. e ≡ fault.Memory)
 only_is (Ok n) ms d is found only f isf checked = found.0 ∙ one_netlist ms d f (is_netlist_of ms d is) isf
 only_is (Err e) ms d is found only f isf checked = only (subst IsChecked (one_netlist ms f d isf (is_netlist_of ms d is)) checked)

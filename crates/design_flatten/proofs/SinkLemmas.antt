@@ -2,7 +2,7 @@
 use Rattle.std.proofs.Common.{◌≡◌, ℕ, ◌+◌, ◌<◌, ◌||◌, false, List, [], ◌∷◌, ◌++◌, None, map, refl, sym, ap, ◌∙◌, subst, arith}
 use Rattle.std.specs.List.{flat_map}
 use Rattle.std.proofs.lemmas.List.{map_push}
-use Rattle.design_netlist.specs.declared.draft.PortDef.{PortDef}
+use Rattle.design_netlist.specs.declared.netlist_data.PortDef.{PortDef}
 use Rattle.design_flatten.specs.declared.model.Signal.{Signal}
 use Rattle.design_flatten.specs.declared.placed.Placed.{Placed}
 use Rattle.design_flatten.specs.declared.refusal.Refusal.{Refusal}

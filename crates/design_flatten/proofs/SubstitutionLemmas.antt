@@ -1,7 +1,7 @@
 -- There is one substituted design, and one netlist that is read from it.
 use Rattle.std.proofs.Common.{◌≡◌, ℕ, zero, suc, ◌+◌, ◌-◌, false, ◌||◌, List, [], ◌∷◌, refl, sym, ap, ◌∙◌, subst, arith, inl, inr}
 use Rattle.std.proofs.lemmas.Bool.{cases_lt}
-use Rattle.design_netlist.specs.declared.draft.Draft.{Draft}
+use Rattle.design_netlist.specs.declared.netlist_data.NetlistData.{NetlistData}
 use Rattle.design_flatten.specs.declared.model.Model.{Model}
 use Rattle.design_flatten.specs.declared.model.Signal.{Signal}
 use Rattle.design_flatten.specs.Lines.{Part, InputPart, OutputPart, CoverPart, LatchPart, UsePart, Line, is_use}
@@ -40,13 +40,13 @@ module _ (ms : List Model) (j k : ℕ) (xs ys : List (Line Signal)) (one : IsSub
     | inr le ↦ let same : (j - k) + k ≡ j = omega arith in one.reached ∙ ap (after ms) (sym same) ∙ stays_after ms k none_after_other (j - k) ∙ sym other.reached
   ]
 
-draft_eq : {a b : Draft} → a.names ≡ b.names → a.inputs ≡ b.inputs → a.outputs ≡ b.outputs → a.covers ≡ b.covers → a.latches ≡ b.latches → a ≡ b
+draft_eq : {a b : NetlistData} → a.names ≡ b.names → a.inputs ≡ b.inputs → a.outputs ≡ b.outputs → a.covers ≡ b.covers → a.latches ≡ b.latches → a ≡ b
 draft_eq p q r s t = λ i. record { names = p i; inputs = q i; outputs = r i; covers = s i; latches = t i }
 
-one_reading : (ms : List Model) (lines : List (Line Signal)) (a b : Draft) → IsReadFrom ms lines a → IsReadFrom ms lines b → a ≡ b
+one_reading : (ms : List Model) (lines : List (Line Signal)) (a b : NetlistData) → IsReadFrom ms lines a → IsReadFrom ms lines b → a ≡ b
 one_reading ms lines a b h k = draft_eq (h.names ∙ sym k.names) (h.inputs ∙ sym k.inputs) (h.outputs ∙ sym k.outputs) (h.covers ∙ sym k.covers) (h.latches ∙ sym k.latches)
 
-pub one_netlist : (ms : List Model) (a b : Draft) → IsNetlistOf ms a → IsNetlistOf ms b → a ≡ b
+pub one_netlist : (ms : List Model) (a b : NetlistData) → IsNetlistOf ms a → IsNetlistOf ms b → a ≡ b
 one_netlist ms a b h k =
     let same : h.lines ≡ k.lines = one_design ms h.read.design.replaced k.read.design.replaced h.lines k.lines h.read.design.substituted k.read.design.substituted in
     one_reading ms k.lines a b (subst (λ x. IsReadFrom ms x a) same h.read.netlist) k.read.netlist

@@ -4,8 +4,8 @@ use Rattle.std.specs.Prelude.{is_some}
 use Rattle.std.specs.List.{All}
 use Rattle.std.proofs.lemmas.Bool.{cases_lt}
 use Rattle.std.proofs.lemmas.List.{take_all}
-use Rattle.design_netlist.specs.declared.draft.Draft.{Draft}
-use Rattle.design_netlist.specs.declared.draft.PortDef.{PortDef}
+use Rattle.design_netlist.specs.declared.netlist_data.NetlistData.{NetlistData}
+use Rattle.design_netlist.specs.declared.netlist_data.PortDef.{PortDef}
 use Rattle.design_netlist.specs.Orders.{IsBefore, IsFirst}
 use Rattle.design_netlist.specs.Drafts.{word, word_at, signal_at, line_at, drive_words, reads_of}
 use Rattle.design_netlist.specs.Checks.{IsChecked}
@@ -61,7 +61,7 @@ module _ (drives reads : List PortDef) (firsts : List (Option ℕ)) (count : ℕ
 
 -- ---- of a checked netlist
 
-pub once_none : (d : Draft) → IsChecked d → NoneDoubled (drive_words d)
+pub once_none : (d : NetlistData) → IsChecked d → NoneDoubled (drive_words d)
 once_none d checked k lk dbl = elim (cases_lt dbl.0 k) [
   | inl lt ↦ checked.once dbl.0 k lt lk dbl.3
   | inr le ↦ elim (cases_lt k dbl.0) [
@@ -73,5 +73,5 @@ once_none d checked k lk dbl = elim (cases_lt dbl.0 k) [
   ]
 ]
 
-pub driven_none : (d : Draft) → IsChecked d → NoneUndriven (drive_words d) (reads_of d)
+pub driven_none : (d : NetlistData) → IsChecked d → NoneUndriven (drive_words d) (reads_of d)
 driven_none d checked k lk undriven = undriven (checked.driven k lk)

@@ -1,7 +1,7 @@
 -- The words that drive, as they come: the first of each signal, and the first that has the signal of an earlier one.
 use Rattle.std.specs.Prelude.{ℕ, ◌≡◌, Bool, ◌==◌, ◌&&◌, ◌||◌, nat_lt, List, Option, None, Some, option_map, map, length, slice_index_or}
 use Rattle.std.specs.Prelude.{if◌then◌else◌}
-use Rattle.design_netlist.specs.declared.draft.PortDef.{PortDef}
+use Rattle.design_netlist.specs.declared.netlist_data.PortDef.{PortDef}
 use Rattle.design_netlist.specs.Orders.{IsFirst}
 use Rattle.design_netlist.specs.Drafts.{word_at, signal_at, line_at}
 use Rattle.design_netlist.specs.Checks.{IsDoubledIn}

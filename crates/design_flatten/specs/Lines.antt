@@ -1,7 +1,7 @@
 -- The lines of models and of the substituted design.
 use Rattle.std.specs.Prelude.{ℕ, ◌+◌, ◌≡◌, length, Bool, true, false, List, [], ◌∷◌, ◌++◌, map, Option, option_map}
-use Rattle.design_netlist.specs.declared.draft.Lit.{Lit}
-use Rattle.design_netlist.specs.declared.draft.PortDef.{PortDef}
+use Rattle.design_netlist.specs.declared.netlist_data.Lit.{Lit}
+use Rattle.design_netlist.specs.declared.netlist_data.PortDef.{PortDef}
 use Rattle.design_flatten.specs.declared.model.PairDef.{PairDef}
 use Rattle.design_flatten.specs.declared.model.Piece.{Piece}
 use Rattle.design_flatten.specs.declared.model.Piece.TheVariants as piece

@@ -4,10 +4,10 @@ use Rattle.std.specs.Prelude.{slice_index_or}
 use Rattle.std.specs.List.{flat_map, list_any, position_or_len}
 use Rattle.std.specs.Str.{bytes_eq}
 use Rattle.std.specs.Fmt.{decimal}
-use Rattle.design_netlist.specs.declared.draft.Draft.{Draft}
-use Rattle.design_netlist.specs.declared.draft.Cover.{Cover}
-use Rattle.design_netlist.specs.declared.draft.LatchDef.{LatchDef}
-use Rattle.design_netlist.specs.declared.draft.PortDef.{PortDef}
+use Rattle.design_netlist.specs.declared.netlist_data.NetlistData.{NetlistData}
+use Rattle.design_netlist.specs.declared.netlist_data.Cover.{Cover}
+use Rattle.design_netlist.specs.declared.netlist_data.LatchDef.{LatchDef}
+use Rattle.design_netlist.specs.declared.netlist_data.PortDef.{PortDef}
 use Rattle.design_flatten.specs.declared.model.Model.{Model}
 use Rattle.design_flatten.specs.declared.model.Signal.{Signal}
 use Rattle.design_flatten.specs.Lines.{Control, GivenControl, NamedControl, Part, InputPart, OutputPart, CoverPart, LatchPart, UsePart, Line}
@@ -114,7 +114,7 @@ module _ (signals : List Signal) where
       by _ = []
 
 -- the draft is the netlist that these lines spell
-pub record IsReadFrom (models : List Model) (lines : List (Line Signal)) (draft : Draft) : Type 0 where
+pub record IsReadFrom (models : List Model) (lines : List (Line Signal)) (draft : NetlistData) : Type 0 where
   pub names : draft.names ≡ map (printed models) (signals_of lines)
   pub inputs : draft.inputs ≡ flat_map (input_on (signals_of lines)) lines
   pub outputs : draft.outputs ≡ flat_map (output_on (signals_of lines)) lines
@@ -129,13 +129,13 @@ pub record IsWithin (models : List Model) (lines : List (Line Signal)) : Type 0 
   pub within : is_over lines ≡ false
 
 -- the rules are kept, the lines are the substituted design, there is one control, and the draft is what they spell
-pub record IsRead (models : List Model) (lines : List (Line Signal)) (draft : Draft) : Type 0 where
+pub record IsRead (models : List Model) (lines : List (Line Signal)) (draft : NetlistData) : Type 0 where
   pub rules : KeepsRules models
   pub design : IsWithin models lines
   pub one_control : AreOneControl (controls_of models lines)
   pub netlist : IsReadFrom models lines draft
 
 -- the draft is the netlist that is read from the substituted design of the models
-pub record IsNetlistOf (models : List Model) (draft : Draft) : Type 0 where
+pub record IsNetlistOf (models : List Model) (draft : NetlistData) : Type 0 where
   pub lines : List (Line Signal)
   pub read : IsRead models lines draft

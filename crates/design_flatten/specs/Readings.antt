@@ -1,6 +1,6 @@
 -- A netlist in which each signal is driven once.
 use Rattle.std.specs.Prelude.{List, None}
-use Rattle.design_netlist.specs.declared.draft.Draft.{Draft}
+use Rattle.design_netlist.specs.declared.netlist_data.NetlistData.{NetlistData}
 use Rattle.design_flatten.specs.declared.model.Model.{Model}
 use Rattle.design_flatten.specs.declared.model.Signal.{Signal}
 use Rattle.design_flatten.specs.Lines.{Line}
@@ -9,7 +9,7 @@ use Rattle.design_flatten.specs.Words.{IsFirstDoubled, IsFirstUndriven}
 use Rattle.design_flatten.specs.Faults.{IsClean}
 
 -- the draft is read from the substituted design, no signal of which is driven twice, and each that is read is driven
-pub record IsReading (models : List Model) (draft : Draft) : Type 0 where
+pub record IsReading (models : List Model) (draft : NetlistData) : Type 0 where
   pub lines : List (Line Signal)
   pub clean : IsClean models lines
   pub netlist : IsReadFrom models lines draft

@@ -1,7 +1,7 @@
 -- The signals of the substituted design, and its size.
 use Rattle.std.specs.Prelude.{ℕ, ◌==◌, ◌+◌, ◌&&◌, ◌||◌, nat_lt, Bool, List, [], ◌∷◌, ◌++◌, fold, length, if◌then◌else◌}
 use Rattle.std.specs.List.{list_any, flat_map, position_or_len, sum_by}
-use Rattle.design_netlist.specs.declared.draft.Lit.{Lit}
+use Rattle.design_netlist.specs.declared.netlist_data.Lit.{Lit}
 use Rattle.design_flatten.specs.declared.model.Signal.{Signal}
 use Rattle.design_flatten.specs.Lines.{Part, InputPart, OutputPart, CoverPart, LatchPart, UsePart, Line}
 

@@ -1,8 +1,8 @@
 -- The words of the substituted design that drive signals and those that read them, and which of them comes first.
 use Rattle.std.specs.Prelude.{ℕ, ◌≡◌, ◌<◌, List, [], ◌∷◌, map, length, Option}
 use Rattle.std.specs.List.{flat_map}
-use Rattle.design_netlist.specs.declared.draft.Cover.{Cover}
-use Rattle.design_netlist.specs.declared.draft.PortDef.{PortDef}
+use Rattle.design_netlist.specs.declared.netlist_data.Cover.{Cover}
+use Rattle.design_netlist.specs.declared.netlist_data.PortDef.{PortDef}
 use Rattle.design_netlist.specs.Orders.{IsFirst}
 use Rattle.design_netlist.specs.Covers.{cover_line, IsOnCycle}
 use Rattle.design_netlist.specs.Drafts.{word, signal_at, line_at}

@@ -1,7 +1,7 @@
 //! Several models, read as one netlist.
 
 ghost use Rattle.std.specs.Prelude.{◌≡◌, ◌≤◌, length, IfOk, IfErr, MatchResult};
-ghost use Rattle.design_netlist.specs.declared.draft.Draft.{Draft};
+ghost use Rattle.design_netlist.specs.declared.netlist_data.NetlistData.{NetlistData};
 ghost use Rattle.design_netlist.specs.declared.fault.DesignFault.TheVariants.{Memory};
 ghost use Rattle.design_netlist.specs.Checks.{IsChecked};
 ghost use Rattle.design_flatten.specs.Faults.{IsRefusalOfModels};
@@ -33,7 +33,7 @@ pub fn flatten(alloc: Global, models: Vec<Model>) -> Result<Netlist, DesignFault
     requires outputs { length (first_model models.items).outputs ≤ 16777216 }
     ensures found { IfOk result (λ n. IsNetlistOf models.items n × IsChecked n) }
     ensures refused { IfErr result (IsRefusalOfModels models.items) }
-    ensures only { (d : Draft) → IsNetlistOf models.items d → IsChecked d → MatchResult result (λ n. n ≡ d) (λ e. e ≡ Memory) }
+    ensures only { (d : NetlistData) → IsNetlistOf models.items d → IsChecked d → MatchResult result (λ n. n ≡ d) (λ e. e ≡ Memory) }
 {
     check_uses(alloc, &models)?;
     let draft = read(alloc, &models)?;

@@ -3,7 +3,7 @@
 //! Words go by line number, and for one number by the order in which they come. What is kept grows with the signals, not with the words.
 
 ghost use Rattle.std.specs.Prelude.{◌≡◌, ◌<◌, ◌==◌, ℕ, List, ◌++◌, ◌∷◌, [], Some, None, OnOk, IfErr, vec_len, if◌then◌else◌};
-ghost use Rattle.design_netlist.specs.declared.draft.PortDef.{PortDef as WordValue};
+ghost use Rattle.design_netlist.specs.declared.netlist_data.PortDef.{PortDef as WordValue};
 ghost use Rattle.design_flatten.specs.declared.refusal.Refusal.TheVariants.{Memory};
 ghost use Rattle.design_flatten.specs.Drives.{AreDrives, first_at, is_nearer, nearest, first_with, doubled_with};
 

@@ -1,7 +1,7 @@
 //! The netlist that the substituted design spells.
 
 ghost use Rattle.std.specs.Prelude.{◌≡◌, ◌<◌, ◌≤◌, length, map, None, IfOk, OnOk, IfErr};
-ghost use Rattle.design_netlist.specs.declared.draft.Draft.{Draft as DraftValue};
+ghost use Rattle.design_netlist.specs.declared.netlist_data.NetlistData.{NetlistData as DraftValue};
 ghost use Rattle.design_netlist.specs.declared.fault.DesignFault.TheVariants.{Memory};
 ghost use Rattle.design_netlist.specs.Checks.{IsChecked};
 ghost use Rattle.design_netlist.specs.Drafts.{IsWellMade};
@@ -23,7 +23,7 @@ use crate::refusal::Refusal;
 use crate::words::first_undriven;
 use crate::work::{Substituted, substitute};
 use base_lists::Items;
-use design_netlist::{DesignFault, DesignKind, Draft, Name, Names};
+use design_netlist::{DesignFault, DesignKind, Name, Names, NetlistData};
 use std::alloc::{AllocError, Global};
 
 /// The names of the signals of the first model.
@@ -144,7 +144,7 @@ fn draft_of(
     models: &[Model],
     found: &Substituted<'_>,
     names: Names,
-) -> Result<Draft, DesignFault>
+) -> Result<NetlistData, DesignFault>
     requires kept { IsSubstitution models.now found.now }
     requires held { map placed_line found.now.sink.placed.items ≡ lines_of models.now found.now }
     requires names { names ≡ map (printed models.now) (signals_of (lines_of models.now found.now)) }
@@ -152,7 +152,7 @@ fn draft_of(
     ensures refused { IfErr result (λ e. e ≡ Memory) }
 {
     let lists = lists_of(alloc, &found.sink.signals, &found.sink.placed)?;
-    Ok(Draft {
+    Ok(NetlistData {
         names,
         inputs: Items::new(lists.inputs),
         outputs: Items::new(lists.outputs),
@@ -162,7 +162,7 @@ fn draft_of(
 }
 
 /// The netlist that is read from the substituted design of models that keep the rules, where each signal is driven once.
-pub fn read(alloc: Global, models: &[Model]) -> Result<Draft, DesignFault>
+pub fn read(alloc: Global, models: &[Model]) -> Result<NetlistData, DesignFault>
     requires rules { KeepsRules models.now }
     requires rows { HaveRightRows models.now }
     requires outputs { length (first_model models.now).outputs ≤ 16777216 }

@@ -3,7 +3,7 @@
 ghost use Rattle.std.specs.Prelude.{◌≡◌, ◌++◌, List, map, fold, None, OnOk, IfErr};
 ghost use Rattle.std.specs.List.{flat_map};
 ghost use Rattle.std.specs.Option.{option_to_list};
-ghost use Rattle.design_netlist.specs.declared.draft.PortDef.{PortDef as WordValue};
+ghost use Rattle.design_netlist.specs.declared.netlist_data.PortDef.{PortDef as WordValue};
 ghost use Rattle.design_netlist.specs.Drafts.{word};
 ghost use Rattle.design_netlist.specs.Words.{sooner};
 ghost use Rattle.design_flatten.specs.declared.refusal.Refusal.TheVariants.{Memory};

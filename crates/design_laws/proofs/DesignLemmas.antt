@@ -2,7 +2,7 @@
 use Rattle.std.proofs.Common.{◌≡◌, ℕ, true, List, [], ◌∷◌, map, refl, sym, ap, ◌∙◌, subst}
 use Rattle.std.specs.Prelude.{◌↔◌}
 use Rattle.base_text.specs.Lines.{LogicalLine, logical_lines}
-use Rattle.design_netlist.specs.declared.draft.Draft.{Draft}
+use Rattle.design_netlist.specs.declared.netlist_data.NetlistData.{NetlistData}
 use Rattle.design_flatten.specs.Netlists.{IsNetlistOf}
 use Rattle.design_blif.specs.Grammar.{Statement, ModelText, statements_of, names_of, inputs_of, outputs_of, clocks_of, parts_of, models_of, model_lines, name_of, spelled_model, is_some_model, kind_of, AreRight}
 use Rattle.design_blif.specs.Designs.{IsDesign}
@@ -14,7 +14,7 @@ use Rattle.design_laws.proofs.TextLemmas.{IsFineLine, KeepsLine, each_statement,
 use Rattle.design_laws.proofs.ModelLemmas.{spelled_by, is_netlist}
 use Rattle.design_laws.proofs.ModelLemmas as model
 
-module _ (bytes : List ℕ) (d : Draft) (single : AreOfOneModel (logical_lines true bytes)) (right : AreRight [] (logical_lines true bytes)) where
+module _ (bytes : List ℕ) (d : NetlistData) (single : AreOfOneModel (logical_lines true bytes)) (right : AreRight [] (logical_lines true bytes)) where
   abbrev ls : List LogicalLine
   ls = logical_lines true bytes
 
@@ -59,5 +59,5 @@ module _ (bytes : List ℕ) (d : Draft) (single : AreOfOneModel (logical_lines t
     checked = h.checked;
   }
 
-pub one_model_law : (bytes : List ℕ) (d : Draft) → AreOfOneModel (logical_lines true bytes) → IsDesign bytes d ↔ IsShortDesign bytes d
+pub one_model_law : (bytes : List ℕ) (d : NetlistData) → AreOfOneModel (logical_lines true bytes) → IsDesign bytes d ↔ IsShortDesign bytes d
 one_model_law bytes d single = (λ h. to_short bytes d single h.text.right h, λ h. from_short bytes d single h.right h)

@@ -6,8 +6,8 @@ use Rattle.std.proofs.lemmas.Bool.{ltb-false, le-ltb}
 use Rattle.std.proofs.lemmas.Grind.{flat_map-append}
 use Rattle.std.proofs.lemmas.List.Sums.{sum_by-append}
 use Rattle.std.proofs.lemmas.List.{map-append, length-map}
-use Rattle.design_netlist.specs.declared.draft.Draft.{Draft}
-use Rattle.design_netlist.specs.declared.draft.Cover.{Cover}
+use Rattle.design_netlist.specs.declared.netlist_data.NetlistData.{NetlistData}
+use Rattle.design_netlist.specs.declared.netlist_data.Cover.{Cover}
 use Rattle.design_flatten.specs.declared.model.Model.{Model}
 use Rattle.design_flatten.specs.declared.model.Signal.{Signal}
 use Rattle.design_flatten.specs.Lines.{Part, InputPart, OutputPart, CoverPart, LatchPart, UsePart, Line, NamedControl, input_line, output_line, piece_line, number_of_line, ordered_lines, with_place, with_places, next_place, lines_of_model, is_use}
@@ -240,7 +240,7 @@ module _ (name : List ℕ) (ss : List Statement) (fine : Each (λ s. IsFine (kin
 
   -- ---- both ways
 
-  pub spelled_by : (d : Draft) → IsNetlistOf models d → IsSpelledBy ss d × (length d.names ≤ 65535) × (sum_by rows_size d.covers ≤ 16777216)
+  pub spelled_by : (d : NetlistData) → IsNetlistOf models d → IsSpelledBy ss d × (length d.names ≤ 65535) × (sum_by rows_size d.covers ≤ 16777216)
   spelled_by d h =
       let same : h.lines ≡ lines = one_design models h.read.design.replaced 0 h.lines lines h.read.design.substituted substituted in
       let r : IsReadFrom models lines d = subst (λ x. IsReadFrom models x d) same h.read.netlist in
@@ -253,7 +253,7 @@ module _ (name : List ℕ) (ss : List Statement) (fine : Each (λ s. IsFine (kin
         omega (arith, parts.1, size_are, ap (sum_by rows_size) cs),
       )
 
-  pub is_netlist : (d : Draft) → IsSpelledBy ss d → length d.names ≤ 65535 → sum_by rows_size d.covers ≤ 16777216 → IsNetlistOf models d
+  pub is_netlist : (d : NetlistData) → IsSpelledBy ss d → length d.names ≤ 65535 → sum_by rows_size d.covers ≤ 16777216 → IsNetlistOf models d
   is_netlist d s few small =
       let within : is_over lines ≡ false = not_over lines (omega (arith, few, few_are, ap length s.names)) (omega (arith, small, size_are, ap (sum_by rows_size) s.covers)) in
       let most : 0 ≤ 65535 = omega arith in

@@ -3,9 +3,9 @@ use Rattle.std.specs.Prelude.{ℕ, ◌≡◌, ◌+◌, ◌≤◌, Bool, true, fa
 use Rattle.std.specs.List.{list_any, flat_map, sum_by, count_by}
 use Rattle.std.specs.Option.{option_to_list}
 use Rattle.base_text.specs.Lines.{LogicalLine, logical_lines}
-use Rattle.design_netlist.specs.declared.draft.Draft.{Draft}
-use Rattle.design_netlist.specs.declared.draft.Cover.{Cover}
-use Rattle.design_netlist.specs.declared.draft.LatchDef.{LatchDef}
+use Rattle.design_netlist.specs.declared.netlist_data.NetlistData.{NetlistData}
+use Rattle.design_netlist.specs.declared.netlist_data.Cover.{Cover}
+use Rattle.design_netlist.specs.declared.netlist_data.LatchDef.{LatchDef}
 use Rattle.design_netlist.specs.Checks.{IsChecked}
 use Rattle.design_blif.specs.declared.head.Head.{Head}
 use Rattle.design_blif.specs.declared.head.Head.TheVariants as head
@@ -41,7 +41,7 @@ abbrev pub latches_of : List (List ℕ) → List Statement → List LatchDef
 latches_of names statements = flat_map (λ s. latches_on names (kind_of s.head) s.head) statements
 
 -- the signals are numbered by first appearance; the inputs and the outputs are the words of their lines strung together
-pub record IsSpelledBy (statements : List Statement) (draft : Draft) : Type 0 where
+pub record IsSpelledBy (statements : List Statement) (draft : NetlistData) : Type 0 where
   pub names : draft.names ≡ names_of statements
   pub inputs : draft.inputs ≡ inputs_of (names_of statements) statements
   pub outputs : draft.outputs ≡ outputs_of (names_of statements) statements
@@ -53,7 +53,7 @@ abbrev pub rows_size : Cover → ℕ
 rows_size c = sum_by (λ row. length row + 1) c.rows
 
 -- each line is right, by those above it; the draft is what they spell, within the limits; and it is sound
-pub record IsShortDesign (bytes : List ℕ) (draft : Draft) : Type 0 where
+pub record IsShortDesign (bytes : List ℕ) (draft : NetlistData) : Type 0 where
   pub right : AreRight [] (logical_lines true bytes)
   pub netlist : IsSpelledBy (statements_of (logical_lines true bytes)) draft
   pub few : length draft.names ≤ 65535

@@ -3,9 +3,9 @@ use Rattle.std.proofs.Common.{◌≡◌, ℕ, ◌+◌, ◌<◌, ◌≤◌, true,
 use Rattle.std.specs.Prelude.{is_some}
 use Rattle.std.proofs.lemmas.Bool.{cases_lt}
 use Rattle.std.proofs.lemmas.List.{get_or-map, get_or_append_left, get_or-append-add, length-map, length-append, take_all}
-use Rattle.design_netlist.specs.declared.draft.Cover.{Cover}
-use Rattle.design_netlist.specs.declared.draft.Draft.{Draft}
-use Rattle.design_netlist.specs.declared.draft.PortDef.{PortDef}
+use Rattle.design_netlist.specs.declared.netlist_data.Cover.{Cover}
+use Rattle.design_netlist.specs.declared.netlist_data.NetlistData.{NetlistData}
+use Rattle.design_netlist.specs.declared.netlist_data.PortDef.{PortDef}
 use Rattle.design_netlist.specs.declared.checks.Found.TheVariants.{Undriven, Cyclic}
 use Rattle.design_netlist.specs.Orders.{IsBefore, IsFirst}
 use Rattle.design_netlist.specs.Covers.{cover_at, no_cover}
@@ -17,7 +17,7 @@ use Rattle.design_netlist.proofs.OrderLemmas.{first_same}
 use Rattle.design_netlist.proofs.WordLemmas.{IsFree, place, place_first, at_place, fold_place}
 
 -- where the output of a cover stands among the words that drive
-module _ (d : Draft) where
+module _ (d : NetlistData) where
   pub cover_place : (i : ℕ) → i < length d.covers → length d.inputs + i < length (drive_words d)
   cover_place i li =
       omega (arith, length-append (d.inputs ++ map cover_drive d.covers) (map latch_drive d.latches), length-append d.inputs (map cover_drive d.covers), length-map d.covers cover_drive)
@@ -45,7 +45,7 @@ few_covers covers signals below apart =
     out_at : (k : ℕ) → k < length covers → get_or (map (λ (c : Cover). c.out) covers) k 0 ≡ (cover_at covers k).out
     out_at k lk = get_or-map (λ (c : Cover). c.out) covers k no_cover 0 lk
 
-module _ (d : Draft) where
+module _ (d : NetlistData) where
   pub once_of : IsFirstDoubled d None → (j k : ℕ) → j < k → k < length (drive_words d) → signal_at (drive_words d) j ≡ signal_at (drive_words d) k → ⊥
   once_of none j k lt lk e =
       elim (cases_lt (line_at (drive_words d) k) (line_at (drive_words d) j)) [

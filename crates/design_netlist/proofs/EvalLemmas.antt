@@ -4,9 +4,9 @@ use Rattle.std.specs.Prelude.{not, if◌then◌else◌, slice_set}
 use Rattle.std.proofs.lemmas.Bool.{cases_eq}
 use Rattle.std.proofs.lemmas.Grind.{get_or_default_zero}
 use Rattle.std.proofs.lemmas.List.{length-set}
-use Rattle.design_netlist.specs.declared.draft.Cover.{Cover}
-use Rattle.design_netlist.specs.declared.draft.Lit.{Lit}
-use Rattle.design_netlist.specs.declared.draft.Lit.TheVariants.{Zero}
+use Rattle.design_netlist.specs.declared.netlist_data.Cover.{Cover}
+use Rattle.design_netlist.specs.declared.netlist_data.Lit.{Lit}
+use Rattle.design_netlist.specs.declared.netlist_data.Lit.TheVariants.{Zero}
 use Rattle.design_netlist.specs.Covers.{cover_at, fits, matches, some_matches, truth}
 use Rattle.design_netlist.specs.Valuations.{number_at, bit_at, IsOrder, IsSettled, IsSettledTo}
 use Rattle.design_netlist.proofs.ValuationLemmas.{same_truth}

@@ -10,8 +10,8 @@ use Rattle.std.proofs.lemmas.List.FromFn.{get_or-map-range_with_len}
 use Rattle.std.proofs.Math.ListN.{get_or-map}
 use Rattle.std.proofs.lemmas.Nat.Bits.{bit_at_and, bit_at_or, bit_at_not, bit_at_ones, bit_at-zero, bit_at-lt}
 use Rattle.design_netlist.proofs.BitLemmas.{two_bits, six_places}
-use Rattle.design_netlist.specs.declared.draft.Lit.{Lit}
-use Rattle.design_netlist.specs.declared.draft.Lit.TheVariants.{Zero}
+use Rattle.design_netlist.specs.declared.netlist_data.Lit.{Lit}
+use Rattle.design_netlist.specs.declared.netlist_data.Lit.TheVariants.{Zero}
 use Rattle.design_netlist.specs.Covers.{fits, matches, some_matches}
 use Rattle.design_netlist.specs.Valuations.{number_at, bit_at}
 use Rattle.design_netlist.specs.Lanes.{is_bit, lane_bits}

@@ -3,9 +3,9 @@ use Rattle.std.proofs.Common.{◌⊎◌, ℕ, suc, ◌-◌, ◌<◌, ◌≤◌, 
 use Rattle.std.specs.List.{flat_map}
 use Rattle.std.proofs.lemmas.Bool.{cases_lt}
 use Rattle.std.proofs.lemmas.List.{get_or-map, get_or_append_left, get_or-append_right, length-map, length-append}
-use Rattle.design_netlist.specs.declared.draft.Cover.{Cover}
-use Rattle.design_netlist.specs.declared.draft.Draft.{Draft}
-use Rattle.design_netlist.specs.declared.draft.PortDef.{PortDef}
+use Rattle.design_netlist.specs.declared.netlist_data.Cover.{Cover}
+use Rattle.design_netlist.specs.declared.netlist_data.NetlistData.{NetlistData}
+use Rattle.design_netlist.specs.declared.netlist_data.PortDef.{PortDef}
 use Rattle.design_netlist.specs.Covers.{cover_at, no_cover, IsCoverOver}
 use Rattle.design_netlist.specs.Drafts.{word, signal_at, cover_drive, latch_drive, cover_reads, latch_read, cover_characters, IsWellMade}
 use Rattle.design_netlist.specs.Words.{AreWithin, AreLatchesBelow}
@@ -33,7 +33,7 @@ module _ (count : ℕ) where
   within_inputs (c ∷ cs) h =
       within_append (cover_reads c) (flat_map cover_reads cs) (within_map (word c.line) 0 c.ins (h 0 (omega arith)).ins) (within_inputs cs (λ i li. h (suc i) (omega arith)))
 
-module _ (d : Draft) where
+module _ (d : NetlistData) where
   pub inputs_of : IsWellMade d → AreWithin (length d.names) d.inputs
   inputs_of made = within_left (length d.names) d.inputs (map cover_drive d.covers) (within_left (length d.names) (d.inputs ++ map cover_drive d.covers) (map latch_drive d.latches) made.drives)
 

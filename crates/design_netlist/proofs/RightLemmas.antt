@@ -4,10 +4,10 @@ use Rattle.std.specs.List.{All, Contains}
 use Rattle.std.proofs.Math.Dec.{eqb}
 use Rattle.std.proofs.lemmas.Bool.{cases_lt, eq-eqb}
 use Rattle.std.proofs.lemmas.List.{get_or-map, get_or_append_left, get_or-append-add, length-map, length-append}
-use Rattle.design_netlist.specs.declared.draft.Cover.{Cover}
-use Rattle.design_netlist.specs.declared.draft.Draft.{Draft}
-use Rattle.design_netlist.specs.declared.draft.LatchDef.{LatchDef}
-use Rattle.design_netlist.specs.declared.draft.PortDef.{PortDef}
+use Rattle.design_netlist.specs.declared.netlist_data.Cover.{Cover}
+use Rattle.design_netlist.specs.declared.netlist_data.NetlistData.{NetlistData}
+use Rattle.design_netlist.specs.declared.netlist_data.LatchDef.{LatchDef}
+use Rattle.design_netlist.specs.declared.netlist_data.PortDef.{PortDef}
 use Rattle.design_netlist.specs.Covers.{cover_at}
 use Rattle.design_netlist.specs.Drafts.{word, signal_at, cover_drive, latch_drive, drive_words, IsDriven}
 use Rattle.design_netlist.specs.Valuations.{IsSettled}
@@ -56,7 +56,7 @@ first_bit_none [] bs s h = refl
 first_bit_none (x ∷ xs) [] s h = refl
 first_bit_none (x ∷ xs) (b ∷ bs) s h = ap (λ c. cond c b (first_bit xs bs s)) (not_equal x s (h 0 (omega arith))) ∙ first_bit_none xs bs s (λ k lk. h (suc k) (omega arith))
 
-module _ (d : Draft) where
+module _ (d : NetlistData) where
   inputs_covers : List PortDef
   inputs_covers = d.inputs ++ map cover_drive d.covers
 

@@ -1,7 +1,7 @@
 -- Each step of the search keeps what it knows.
 use Rattle.std.proofs.Common.{◌≡◌, ℕ, ◌+◌, ◌-◌, ◌<◌, ◌≤◌, ◌⊎◌, List, length, refl, sym, ap, subst, ◌∙◌, inl, inr, arith}
 use Rattle.std.proofs.lemmas.Bool.{cases_eq, cases_lt}
-use Rattle.design_netlist.specs.declared.draft.Cover.{Cover}
+use Rattle.design_netlist.specs.declared.netlist_data.Cover.{Cover}
 use Rattle.design_netlist.specs.declared.search.State.{State}
 use Rattle.design_netlist.specs.declared.search.State.TheVariants.{New, Open, Done}
 use Rattle.design_netlist.specs.declared.search.Group.{Group}

@@ -4,7 +4,7 @@ use Rattle.std.specs.Prelude.{slice_set}
 use Rattle.std.proofs.lemmas.Grind.{get_or_default_zero}
 use Rattle.std.proofs.lemmas.List.{get_or-take, get_or-set_other, length-append, length-set, length-take, length-replicate, get_or_append_left, get_or-append-add, take_more}
 use Rattle.std.proofs.Math.Seq.{get_or-append_seam}
-use Rattle.design_netlist.specs.declared.draft.Cover.{Cover}
+use Rattle.design_netlist.specs.declared.netlist_data.Cover.{Cover}
 use Rattle.design_netlist.specs.declared.search.State.{State}
 use Rattle.design_netlist.specs.declared.search.State.TheVariants.{New, Open, Done}
 use Rattle.design_netlist.specs.declared.search.Group.{Group}

@@ -4,7 +4,7 @@ use Rattle.std.specs.Prelude.{not, if◌then◌else◌}
 use Rattle.std.proofs.Math.Dec.{eqb}
 use Rattle.std.proofs.lemmas.Bool.{cases_eq, eqb-true, eq-eqb}
 use Rattle.std.proofs.lemmas.Grind.{get_or_default_zero}
-use Rattle.design_netlist.specs.declared.draft.Cover.{Cover}
+use Rattle.design_netlist.specs.declared.netlist_data.Cover.{Cover}
 use Rattle.design_netlist.specs.Covers.{cover_at, Reads, some_matches, truth, IsOnCycle}
 use Rattle.design_netlist.specs.Drivers.{IsDriver, IsDriverBelow}
 use Rattle.design_netlist.specs.Valuations.{number_at, IsSettled, HasOneValuation}

@@ -1,6 +1,6 @@
 -- Groups of covers that reach one another.
 use Rattle.std.specs.Prelude.{ℕ, ◌≡◌, ◌<◌, ◌↔◌, List, map, length}
-use Rattle.design_netlist.specs.declared.draft.Cover.{Cover}
+use Rattle.design_netlist.specs.declared.netlist_data.Cover.{Cover}
 use Rattle.design_netlist.specs.declared.search.State.{State}
 use Rattle.design_netlist.specs.Covers.{Reaches}
 use Rattle.design_netlist.specs.Searches.{search_number}

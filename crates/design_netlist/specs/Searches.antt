@@ -1,6 +1,6 @@
 -- What the search for cycles keeps.
 use Rattle.std.specs.Prelude.{ℕ, ◌≡◌, ◌<◌, ◌≤◌, ◌+◌, ◌⊎◌, List, [], ◌∷◌, Option, None, Some, slice_index_or, length, ◌-◌}
-use Rattle.design_netlist.specs.declared.draft.Cover.{Cover}
+use Rattle.design_netlist.specs.declared.netlist_data.Cover.{Cover}
 use Rattle.design_netlist.specs.declared.search.State.{State}
 use Rattle.design_netlist.specs.declared.search.State.TheVariants.{New, Open, Done}
 use Rattle.design_netlist.specs.declared.search.Group.{Group}

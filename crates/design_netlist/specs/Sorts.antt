@@ -1,6 +1,6 @@
 -- What the search for cycles finds.
 use Rattle.std.specs.Prelude.{List, None, Some, length}
-use Rattle.design_netlist.specs.declared.draft.Cover.{Cover}
+use Rattle.design_netlist.specs.declared.netlist_data.Cover.{Cover}
 use Rattle.design_netlist.specs.declared.cycles.Sorted.{Sorted}
 use Rattle.design_netlist.specs.declared.cycles.Sorted.TheVariants.{Order, Cyclic}
 use Rattle.design_netlist.specs.Orders.{IsFirst}

@@ -1,6 +1,6 @@
 -- The search's state, as the code has it.
 use Rattle.std.specs.Prelude.{ℕ, ◌≡◌, ◌<◌, ◌≤◌, ◌+◌, ◌-◌, List, length}
-use Rattle.design_netlist.specs.declared.draft.Cover.{Cover}
+use Rattle.design_netlist.specs.declared.netlist_data.Cover.{Cover}
 use Rattle.design_netlist.specs.declared.search.Group.{Group}
 use Rattle.design_netlist.specs.declared.search.Search.{Search}
 use Rattle.design_netlist.specs.Searches.{IsSearch, AreHandled, IsListed, work, start_at, waits_at}

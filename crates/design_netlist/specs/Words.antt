@@ -1,8 +1,8 @@
 -- The tables of the words that drive, and what is found with them.
 use Rattle.std.specs.Prelude.{ℕ, ◌≡◌, ◌<◌, List, Option, None, Some, false, length, slice_index_or, is_some, if◌then◌else◌, nat_lt}
-use Rattle.design_netlist.specs.declared.draft.Draft.{Draft}
-use Rattle.design_netlist.specs.declared.draft.LatchDef.{LatchDef}
-use Rattle.design_netlist.specs.declared.draft.PortDef.{PortDef}
+use Rattle.design_netlist.specs.declared.netlist_data.NetlistData.{NetlistData}
+use Rattle.design_netlist.specs.declared.netlist_data.LatchDef.{LatchDef}
+use Rattle.design_netlist.specs.declared.netlist_data.PortDef.{PortDef}
 use Rattle.design_netlist.specs.declared.checks.Found.{Found}
 use Rattle.design_netlist.specs.declared.checks.Found.TheVariants.{Doubled, Undriven, Cyclic, Order}
 use Rattle.design_netlist.specs.Orders.{IsFirst}
@@ -42,7 +42,7 @@ abbrev pub sooner : List (Option ℕ) → Option PortDef → PortDef → Option 
 sooner firsts found w = if is_some (place_at firsts w.signal) then found else nearer found w
 
 -- no signal is driven twice, and each that is read is driven
-pub record IsDrivenOnce (d : Draft) : Type 0 where
+pub record IsDrivenOnce (d : NetlistData) : Type 0 where
   pub made : IsWellMade d
   pub undoubled : IsFirstDoubled d None
   pub once : (j k : ℕ) → j < k → k < length (drive_words d) → signal_at (drive_words d) j ≡ signal_at (drive_words d) k → ⊥
@@ -50,7 +50,7 @@ pub record IsDrivenOnce (d : Draft) : Type 0 where
   pub driven : (k : ℕ) → k < length (reads_of d) → IsDriven d (signal_at (reads_of d) k)
 
 -- the word of the first fault, or that there is none
-abbrev pub IsFoundIn : Draft → Found → Type 0
+abbrev pub IsFoundIn : NetlistData → Found → Type 0
 IsFoundIn d (Doubled w) = (k : ℕ) × IsFirstDoubled d (Some k) × (w ≡ word_at (drive_words d) k)
 IsFoundIn d (Undriven w) = IsFirstDoubled d None × (k : ℕ) × IsFirstUndriven d (Some k) × (w ≡ word_at (reads_of d) k)
 IsFoundIn d (Cyclic w) = IsDrivenOnce d × (k : ℕ) × IsFirstCyclic d (Some k) × (w ≡ cover_drive (cover_at d.covers k))

@@ -7,10 +7,10 @@ ghost use Rattle.design_netlist.specs.Checks.{IsChecked, IsRefusalOf};
 ghost use Rattle.design_netlist.specs.Words.{IsDrivenOnce, IsFoundIn};
 
 use crate::cycles::{Sorted, sort_covers};
-use crate::draft::{Draft, Name, PortDef};
 use crate::drives::{drivers_of, drives_of, first_doubled, first_words};
 use crate::fault::{DesignFault, DesignKind};
 use crate::netlist::Netlist;
+use crate::netlist_data::{Name, NetlistData, PortDef};
 use crate::reads::first_undriven;
 use std::alloc::{AllocError, Global};
 
@@ -28,7 +28,7 @@ pub enum Found {
 }
 
 /// Sorts the covers, or finds the first that is on a cycle.
-fn sort(alloc: Global, draft: &Draft) -> Result<Found, AllocError>
+fn sort(alloc: Global, draft: &NetlistData) -> Result<Found, AllocError>
     requires { IsDrivenOnce draft.now }
     ensures { IfOk result (λ found. IsFoundIn draft.now found) }
 {
@@ -44,7 +44,7 @@ fn sort(alloc: Global, draft: &Draft) -> Result<Found, AllocError>
 }
 
 /// Looks for what is wrong: first for signals that are driven twice, then for those that are not driven.
-fn look(alloc: Global, draft: &Draft) -> Result<Found, AllocError>
+fn look(alloc: Global, draft: &NetlistData) -> Result<Found, AllocError>
     requires { IsWellMade draft.now }
     ensures { IfOk result (λ found. IsFoundIn draft.now found) }
 {
@@ -60,7 +60,7 @@ fn look(alloc: Global, draft: &Draft) -> Result<Found, AllocError>
 }
 
 /// The signal's name.
-fn name_of(alloc: Global, draft: &Draft, signal: u32) -> Result<Name, AllocError>
+fn name_of(alloc: Global, draft: &NetlistData, signal: u32) -> Result<Name, AllocError>
     requires { signal < length draft.now.names }
     ensures { IfOk result (λ name. name ≡ name_at draft.now signal) }
 {
@@ -79,7 +79,7 @@ fn name_of(alloc: Global, draft: &Draft, signal: u32) -> Result<Name, AllocError
 /// `Doubled`, `Undriven` and `Cyclic`, in this order, each at the first word by line and on one line by place:
 /// inputs, outputs, covers, latches, and the inputs of a cover in their order. The name is the signal's.
 /// `Memory` where memory is wanting. A refusal drops the draft.
-pub fn check(alloc: Global, draft: Draft) -> Result<Netlist, DesignFault>
+pub fn check(alloc: Global, draft: NetlistData) -> Result<Netlist, DesignFault>
     requires { IsWellMade draft }
     ensures found { IfOk result (λ netlist. (netlist ≡ draft) × IsChecked draft) }
     ensures refused { IfErr result (λ fault. IsRefusalOf draft fault) }

@@ -8,7 +8,7 @@ ghost use Rattle.design_netlist.specs.Orders.{IsFirst, is_sooner};
 ghost use Rattle.design_netlist.specs.Sorts.{AreSorted};
 ghost use Rattle.design_netlist.specs.Searches.{AreNumbered};
 
-use crate::draft::Cover;
+use crate::netlist_data::Cover;
 use crate::search::{State, number_covers, number_of};
 use std::alloc::{AllocError, Global};
 

@@ -10,7 +10,7 @@ ghost use Rattle.design_netlist.specs.Drafts.{signal_at, line_at, cover_drive, l
 ghost use Rattle.design_netlist.specs.Checks.{IsDoubledIn};
 ghost use Rattle.design_netlist.specs.Words.{AreFirstWords};
 
-use crate::draft::{Cover, Draft, LatchDef, PortDef};
+use crate::netlist_data::{Cover, LatchDef, NetlistData, PortDef};
 use std::alloc::{AllocError, Global};
 
 /// Adds the outputs of the covers.
@@ -42,7 +42,7 @@ fn push_latches(words: &mut Vec<PortDef>, latches: &[LatchDef]) -> Result<(), Al
 }
 
 /// The words that drive: inputs, then the outputs of covers, then those of latches.
-pub fn drives_of(alloc: Global, draft: &Draft) -> Result<Vec<PortDef>, AllocError>
+pub fn drives_of(alloc: Global, draft: &NetlistData) -> Result<Vec<PortDef>, AllocError>
     ensures { IfOk result (λ words. words.items ≡ drive_words draft.now) }
 {
     let mut words = Vec::from_slice(alloc, draft.inputs.as_slice())?;

@@ -4,7 +4,7 @@ ghost use Rattle.std.specs.Prelude.{◌≡◌, ◌<◌, ℕ, [], length, slice_i
 ghost use Rattle.design_netlist.specs.Covers.{fits, matches, truth, cover_of};
 ghost use Rattle.design_netlist.specs.Valuations.{bit_at};
 
-use crate::draft::{Cube, Lit};
+use crate::netlist_data::{Cube, Lit};
 
 fn fits(lit: Lit, bit: bool) -> bool
     ensures { result ≡ fits lit bit }

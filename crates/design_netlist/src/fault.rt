@@ -3,7 +3,7 @@
 ghost use Rattle.std.specs.Prelude.{◌≡◌};
 ghost use Rattle.design_netlist.specs.declared.fault.DesignFault.TheVariants.{Memory};
 
-use crate::draft::Name;
+use crate::netlist_data::Name;
 use std::alloc::{AllocError, AllocFailed};
 use thiserror::Error;
 

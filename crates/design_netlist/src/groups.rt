@@ -5,8 +5,8 @@ ghost use Rattle.design_netlist.specs.Covers.{cover_at};
 ghost use Rattle.design_netlist.specs.Groups.{AreGroups, numbers_of};
 ghost use Rattle.design_netlist.specs.Words.{AreBelow};
 
-use crate::draft::Cover;
 use crate::drives::drivers_of;
+use crate::netlist_data::Cover;
 use crate::search::{State, number_covers, number_of};
 use std::alloc::{AllocError, Global};
 

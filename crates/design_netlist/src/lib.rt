@@ -8,7 +8,6 @@
 
 mod checks;
 mod cycles;
-mod draft;
 mod drives;
 mod eval;
 mod fault;
@@ -16,6 +15,7 @@ mod groups;
 pub mod laws;
 mod names;
 mod netlist;
+mod netlist_data;
 mod reads;
 mod search;
 mod shared;
@@ -23,13 +23,13 @@ mod well_made;
 mod word_truth;
 
 pub use checks::check;
-pub use draft::{Cover, Cube, Draft, LatchDef, Lit, Name, PortDef};
 pub use drives::{drives_of, first_doubled, first_words};
 pub use eval::truth_of;
 pub use fault::{DesignFault, DesignKind};
 pub use groups::groups_of;
 pub use names::Names;
 pub use netlist::Netlist;
+pub use netlist_data::{Cover, Cube, LatchDef, Lit, Name, NetlistData, PortDef};
 pub use reads::nearer;
 pub use shared::{Beginning, Shared};
 pub use word_truth::{cover_word, lane_word};

@@ -3,7 +3,7 @@
 ghost use Rattle.std.specs.Prelude.{◌≡◌, ◌<◌, ◌++◌, ◌∷◌, [], length, map, IfOk, OnOk, MatchOption, slice_index_or};
 ghost use Rattle.design_netlist.specs.Names.{beginning_at, text_in, texts_of, joined, whole, front};
 
-use crate::draft::Name;
+use crate::netlist_data::Name;
 use crate::shared::{Beginning, Shared};
 use base_lists::Items;
 use std::alloc::{AllocError, AllocFailed, Global};

@@ -2,23 +2,23 @@
 
 ghost use Rattle.std.specs.Prelude.{◌≡◌};
 
-use crate::draft::Draft;
+use crate::netlist_data::NetlistData;
 use std::marker::Model;
 
 /// A design in which each signal that is read is driven, none is driven twice, and no cover is on a cycle.
 #[derive(Debug, Drop)]
 pub struct Netlist {
-    draft: Draft,
+    draft: NetlistData,
     /// The covers, each after those that it reads.
     order: Vec<u32>,
 }
 
 impl Model for Netlist {
-    ghost use Rattle.design_netlist.specs.declared.draft.Draft.{Draft};
+    ghost use Rattle.design_netlist.specs.declared.netlist_data.NetlistData.{NetlistData};
     ghost use Rattle.design_netlist.specs.Checks.{IsChecked};
     ghost use Rattle.design_netlist.specs.Valuations.{IsOrder};
 
-    ghost Value = { Draft };
+    ghost Value = { NetlistData };
 
     ghost view = { λ n. n.draft };
 
@@ -30,7 +30,7 @@ impl Netlist {
     ghost use Rattle.design_netlist.specs.Valuations.{IsOrder};
 
     /// A design with an order of its covers. Takes no memory.
-    pub(crate) fn new(draft: Draft, order: Vec<u32>) -> Self
+    pub(crate) fn new(draft: NetlistData, order: Vec<u32>) -> Self
         requires checked { IsChecked draft }
         requires order { IsOrder draft.covers order.items }
         ensures { result ≡ draft }
@@ -39,7 +39,7 @@ impl Netlist {
     }
 
     /// The design. Takes no memory.
-    pub fn parts(&self) -> &Draft
+    pub fn parts(&self) -> &NetlistData
         ensures parts { result.now ≡ self.now }
         ensures checked { IsChecked self.now }
     {

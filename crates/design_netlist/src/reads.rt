@@ -6,7 +6,7 @@ ghost use Rattle.design_netlist.specs.Covers.{cover_at, IsCoverOver};
 ghost use Rattle.design_netlist.specs.Drafts.{cover_reads, latch_read, reads_of};
 ghost use Rattle.design_netlist.specs.Words.{nearer, sooner, AreWithin};
 
-use crate::draft::{Cover, Draft, LatchDef, PortDef};
+use crate::netlist_data::{Cover, LatchDef, NetlistData, PortDef};
 
 /// The word that was found, or another one on an earlier line.
 pub fn nearer(found: Option<PortDef>, word: PortDef) -> Option<PortDef>
@@ -103,7 +103,7 @@ fn among_latches(
 }
 
 /// The first word that reads a signal which nothing drives.
-pub fn first_undriven(firsts: &[Option<usize>], draft: &Draft) -> Option<PortDef>
+pub fn first_undriven(firsts: &[Option<usize>], draft: &NetlistData) -> Option<PortDef>
     requires reads { AreWithin (length firsts.now) (reads_of draft.now) }
     requires covers { (i : ℕ) → i < length draft.now.covers → IsCoverOver (cover_at draft.now.covers i) (length firsts.now) }
     ensures { result ≡ fold (sooner firsts.now) None (reads_of draft.now) }

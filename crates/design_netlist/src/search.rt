@@ -9,7 +9,7 @@ ghost use Rattle.design_netlist.specs.Searches.{AreNumbered};
 ghost use Rattle.design_netlist.specs.States.{IsSearching, left_of, IsLast, IsLastOf, IsReadFromLast};
 ghost use Rattle.design_netlist.specs.declared.search.State.TheVariants.{New};
 
-use crate::draft::Cover;
+use crate::netlist_data::Cover;
 use std::alloc::{AllocError, Global};
 
 /// How far the search has come with a cover.

@@ -1,6 +1,6 @@
 //! The parts of names that share beginnings.
 
-use crate::draft::Name;
+use crate::netlist_data::Name;
 
 /// A text with which names may begin.
 #[derive(Debug, Drop)]

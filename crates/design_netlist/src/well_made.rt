@@ -5,7 +5,7 @@ ghost use Rattle.design_netlist.specs.Covers.{cover_at, IsCoverOver};
 ghost use Rattle.design_netlist.specs.Drafts.{cover_characters, row_characters, IsWellMade};
 ghost use Rattle.design_netlist.specs.Words.{AreWithin, AreBelow, AreLatchesBelow};
 
-use crate::draft::{Cover, Cube, Draft, LatchDef, PortDef};
+use crate::netlist_data::{Cover, Cube, LatchDef, NetlistData, PortDef};
 
 const MOST_NAMES: usize = 65_535;
 
@@ -108,7 +108,7 @@ fn have_few_characters(covers: &[Cover]) -> bool
     true
 }
 
-impl Draft {
+impl NetlistData {
     /// Whether signals are below the number of names, rows are as long as their cover's inputs, and there are at
     /// most 65,535 names, 16,777,216 outputs and 16,777,216 characters of rows, one for each output among them.
     pub fn is_well_made(&self) -> bool

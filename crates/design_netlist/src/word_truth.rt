@@ -6,7 +6,7 @@ ghost use Rattle.design_netlist.specs.Lanes.{is_bit, lane_bits};
 ghost use Rattle.design_netlist.specs.Valuations.{bit_at};
 ghost use Rattle.design_netlist.specs.Words.{AreBelow};
 
-use crate::draft::{Cover, Cube, Lit};
+use crate::netlist_data::{Cover, Cube, Lit};
 
 /// At each of six places the word that has the bits of its lanes' numbers there.
 const PLACES: [u64; 6] = [

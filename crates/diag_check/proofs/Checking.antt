@@ -12,10 +12,10 @@ use Rattle.diag_evidence.specs.Kept.{Kept, HoldsFor, IsMore}
 use Rattle.diag_known.specs.Field.{IsFieldOf, ClosedIf}
 use Rattle.diag_growth.specs.Tables.{SeatedAreKept, fresh_tables, keeps_table}
 use Rattle.diag_known.specs.declared.field.Field.{Field}
-use Rattle.diag_known.specs.declared.step.Step.{Step}
+use Rattle.diag_known.specs.declared.verified_wire.VerifiedWire.{VerifiedWire}
 use Rattle.diag_known.proofs.Counting.{many_more, many_size}
 use Rattle.diag_sweep.specs.Marks.{undecided}
-use Rattle.diag_sweep.specs.declared.bad.Bad.{Bad}
+use Rattle.diag_sweep.specs.declared.defect_marks.DefectMarks.{DefectMarks}
 use Rattle.diag_check.specs.Fields.{IsFewFor}
 use Rattle.diag_check.specs.Looks.{AreRoutesKnown, KeepsTableOf, AreSeated, RoutesIf, TablesIf, WholeIf, TakesInField, TakesAtMost, HasClosed, HasTablesOn}
 use Rattle.diag_check.specs.Skeleton.{HasSkeleton}
@@ -28,7 +28,7 @@ use Rattle.diag_check.proofs.Looking.{routes_stay, tables_kept, tests_keep}
 use Rattle.diag_check.proofs.Wholly.{AreLaws, routes_known, seated}
 
 -- growth reaches all that an unharmed image needs
-pub routes_if : (told : Option Faults) (old new : Kept) (ss : List Step) (i : ImageValue) (used : List Bool) (a : Field) (answer : Bool) → AreLaws i.config.shape → IsImage i → AreUsed i used → IsFieldOf i.config.shape a → new.shape ≡ i.config.shape →
+pub routes_if : (told : Option Faults) (old new : Kept) (ss : List VerifiedWire) (i : ImageValue) (used : List Bool) (a : Field) (answer : Bool) → AreLaws i.config.shape → IsImage i → AreUsed i used → IsFieldOf i.config.shape a → new.shape ≡ i.config.shape →
     ClosedIf told new a ss → ((f : Faults) → told ≡ Some f → HoldsFor old f → HoldsFor new f) → (AreRoutesKnown new ss i → IsTrue answer) → RoutesIf told old new ss i a answer
 routes_if told old new ss i used a answer laws right are fits shape closed holds_on known = record { at = at }
   where
@@ -41,7 +41,7 @@ routes_if told old new ss i used a answer laws right are fits shape closed holds
         )
 
 -- the tests of the tables that are on keep what the image needs of them, where they are seated
-pub tables_if : (told : Option Faults) (k l : Kept) (ss : List Step) (i : ImageValue) (tables : List Table) (answer : Bool) → ((t : ℕ) → count_by (λ (y : Table). y.0 == t) tables ≡ (if is_some (setting_of i.config t) then 1 else 0)) →
+pub tables_if : (told : Option Faults) (k l : Kept) (ss : List VerifiedWire) (i : ImageValue) (tables : List Table) (answer : Bool) → ((t : ℕ) → count_by (λ (y : Table). y.0 == t) tables ≡ (if is_some (setting_of i.config t) then 1 else 0)) →
     SeatedAreKept told k l ss tables → (KeepsTables l i → IsTrue answer) → TablesIf told k ss i answer
 tables_if told k l ss i tables answer counts kept known = record {
   at = λ f is holds parts seated_all. known (tables_kept l i (to_set (λ (t : Table). t.0) tables (λ q. is_some (setting_of i.config q)) counts (KeepsTableOf l i)
@@ -98,7 +98,7 @@ yes_if told k i answer nothing whole = record { at = λ f is unharmed. whole.at 
 
 -- ---- the sweep around an image
 
-pub loads_swept : (k : Kept) (b : Bad) (a : Field) (used : List Bool) (before after : ℕ) → 2 * size_of a.crosses + size_of a.wires ≤ 170 * size_of used → after ≤ before + (2 * undecided k b a + size_of a.wires) → after ≤ before + 170 * size_of used
+pub loads_swept : (k : Kept) (b : DefectMarks) (a : Field) (used : List Bool) (before after : ℕ) → 2 * size_of a.crosses + size_of a.wires ≤ 170 * size_of used → after ≤ before + (2 * undecided k b a + size_of a.wires) → after ≤ before + 170 * size_of used
 loads_swept k b a used before after paid took = let few = undecided_few in omega (arith, paid, took, few)
   where
     undecided_few : undecided k b a ≤ size_of a.crosses

@@ -13,7 +13,7 @@ use Rattle.machine_image.specs.Images.{ImageValue}
 use Rattle.diag_evidence.specs.Kept.{Kept, HoldsFor, IsMore, keeps_wire, keeps_pair}
 use Rattle.diag_known.specs.Known.{KnownWires, HasWire, IsAt, IsKnown}
 use Rattle.diag_growth.specs.Tables.{SeatedAreKept}
-use Rattle.diag_known.specs.declared.step.Step.{Step}
+use Rattle.diag_known.specs.declared.verified_wire.VerifiedWire.{VerifiedWire}
 use Rattle.diag_growth.specs.Seats.{KeepsTable}
 use Rattle.diag_check.specs.Looks.{KeepsTableOf, AreSeated}
 use Rattle.diag_check.specs.Soundly.{KeepsRoutes, KeepsTables, PartsAreSound}
@@ -31,7 +31,7 @@ module _ (k : Kept) (known : KnownWires) (is : IsKnown k known) where
   pair_kept turned w u a b differ = by (cases_eq a.place b.place) (cases_lt a.place b.place)
     where
       same : a.place ≡ b.place → w ≡ u
-      same e = sym a.at.wire ∙ ap (λ (s : Step). s.wire.0) (let one = a.at.here in let other = b.at.here in let at = sym one ∙ ap (slice_get known.steps) e ∙ other in let is_ : a.at.step ≡ b.at.step = cc in is_) ∙ b.at.wire
+      same e = sym a.at.wire ∙ ap (λ (s : VerifiedWire). s.wire.0) (let one = a.at.here in let other = b.at.here in let at = sym one ∙ ap (slice_get known.steps) e ∙ other in let is_ : a.at.step ≡ b.at.step = cc in is_) ∙ b.at.wire
 
       by : (a.place ≡ b.place) ⊎ (a.place ≡ b.place → ⊥) → (a.place < b.place) ⊎ (b.place ≤ a.place) → keeps_pair k w u ≡ true
       by (inl e) less = absurd (differ (same e))
@@ -68,7 +68,7 @@ right_of : {m : Shape} {f : Faults} {t : ℕ} → IsSoundTable m f t → IsRight
 right_of sound = record { cells = sound.cells; register = sound.register }
 
 -- the tests of seated tables keep them
-pub tests_keep : (told : Option Faults) (k l : Kept) (ss : List Step) (i : ImageValue) (f : Faults) (tables : List Table) → SeatedAreKept told k l ss tables → told ≡ Some f → HoldsFor k f → PartsAreSound f i → AreSeated k ss i →
+pub tests_keep : (told : Option Faults) (k l : Kept) (ss : List VerifiedWire) (i : ImageValue) (f : Faults) (tables : List Table) → SeatedAreKept told k l ss tables → told ≡ Some f → HoldsFor k f → PartsAreSound f i → AreSeated k ss i →
     All (λ t. is_some (setting_of i.config t.0) ≡ true) tables → All (λ t. KeepsTableOf l i t.0) tables
 tests_keep told k l ss i f tables kept is holds parts seated on j d within =
     let t = get_or tables j d in

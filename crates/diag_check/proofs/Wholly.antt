@@ -21,7 +21,7 @@ use Rattle.diag_evidence.specs.Kept.{Kept, keeps_cross}
 use Rattle.diag_known.specs.Field.{IsFieldOf, IsClosed}
 use Rattle.diag_known.specs.Known.{HasWire, IsKeptCrossOf}
 use Rattle.diag_known.specs.declared.field.Field.{Field}
-use Rattle.diag_known.specs.declared.step.Step.{Step}
+use Rattle.diag_known.specs.declared.verified_wire.VerifiedWire.{VerifiedWire}
 use Rattle.diag_check.specs.Looks.{AreRoutesKnown}
 use Rattle.diag_check.specs.Skeleton.{IsMet, IsOwn, own_pin, own_port, HasSkeleton}
 use Rattle.diag_check.specs.Soundly.{IsUnharmed}
@@ -77,7 +77,7 @@ without = record {
 
 module _ (i : ImageValue) (laws : AreLaws i.config.shape) (within : (w : ℕ) → Uses i w → w < wires_of i.config.shape)
     (f : Faults) (unharmed : IsUnharmed f i) (a : Field) (fits : IsFieldOf i.config.shape a) (sk : HasSkeleton i a)
-    (k : Kept) (shape : k.shape ≡ i.config.shape) (ss : List Step) (grown : IsClosed k f a (HasWire ss)) where
+    (k : Kept) (shape : k.shape ≡ i.config.shape) (ss : List VerifiedWire) (grown : IsClosed k f a (HasWire ss)) where
   abbrev m : Shape
   m = i.config.shape
 

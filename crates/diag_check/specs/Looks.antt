@@ -10,12 +10,12 @@ use Rattle.machine_image.specs.Parts.{Uses}
 use Rattle.diag_evidence.specs.Kept.{Kept, HoldsFor, keeps_cross, keeps_cell, keeps_register}
 use Rattle.diag_known.specs.Known.{HasWire, IsKeptCrossOf}
 use Rattle.diag_known.specs.declared.field.Field.{Field}
-use Rattle.diag_known.specs.declared.step.Step.{Step}
+use Rattle.diag_known.specs.declared.verified_wire.VerifiedWire.{VerifiedWire}
 use Rattle.diag_check.specs.Skeleton.{HasSkeleton}
 use Rattle.diag_check.specs.Soundly.{PartsAreSound, IsUnharmed}
 
 -- the used wires are known, and the closed crosspoints kept
-pub record AreRoutesKnown (k : Kept) (ss : List Step) (i : ImageValue) : Type 0 where
+pub record AreRoutesKnown (k : Kept) (ss : List VerifiedWire) (i : ImageValue) : Type 0 where
   pub wires : (w : ℕ) → Uses i w → HasWire ss w
   pub crosses : (x : ℕ) → is_closed i.config x ≡ true → keeps_cross k x ≡ true
 
@@ -25,16 +25,16 @@ pub record KeepsTableOf (k : Kept) (i : ImageValue) (t : ℕ) : Type 0 where
   pub register : (s : Setting) → setting_of i.config t ≡ Some s → s.latched ≡ true → keeps_register k t ≡ true
 
 -- each switched-on table is seated in known wires and kept crosspoints
-abbrev pub AreSeated : Kept → List Step → ImageValue → Type 0
+abbrev pub AreSeated : Kept → List VerifiedWire → ImageValue → Type 0
 AreSeated k ss i = (t : ℕ) → IsSome (setting_of i.config t) → IsSeated k.shape (HasWire ss) (IsKeptCrossOf k) t
 
 -- Where the faults are told, what was kept is true of them, they leave the image unharmed and the field has its skeleton, the answer is
 -- yes, and the tables are seated.
-pub record RoutesIf (told : Option Faults) (old new : Kept) (ss : List Step) (i : ImageValue) (a : Field) (yes : Bool) : Type 0 where
+pub record RoutesIf (told : Option Faults) (old new : Kept) (ss : List VerifiedWire) (i : ImageValue) (a : Field) (yes : Bool) : Type 0 where
   pub at : (f : Faults) → told ≡ Some f → HoldsFor old f → IsUnharmed f i → HasSkeleton i a → IsTrue yes × AreSeated new ss i
 
 -- Where they are told, what was kept is true of them, the image's parts are sound and its tables are seated, it is yes.
-pub record TablesIf (told : Option Faults) (k : Kept) (ss : List Step) (i : ImageValue) (yes : Bool) : Type 0 where
+pub record TablesIf (told : Option Faults) (k : Kept) (ss : List VerifiedWire) (i : ImageValue) (yes : Bool) : Type 0 where
   pub at : (f : Faults) → told ≡ Some f → HoldsFor k f → PartsAreSound f i → AreSeated k ss i → IsTrue yes
 
 -- Where they are told, what was kept is true of them, they leave the image unharmed and the field has its skeleton, it is found that the

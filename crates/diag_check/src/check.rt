@@ -16,10 +16,10 @@ use crate::laws::kept_images_run_soundly;
 use crate::look::{keeps_routes, keeps_tables};
 use crate::marks::{Parts, parts_of};
 use base_bits::BitSet;
-use diag_evidence::Proof;
+use diag_evidence::Facts;
 use diag_evidence::laws::{kept_facts_are_sound, tests_add_up};
 use diag_growth::{Field, Known, grow, test_tables};
-use diag_sweep::{Bad, growth_after_a_sweep_is_paid, sweep};
+use diag_sweep::{DefectMarks, growth_after_a_sweep_is_paid, sweep};
 use machine_image::Image;
 use machine_meaning::{parts_of_served_nodes_stand, without_faults_all_is_sound};
 use machine_shape::{
@@ -31,21 +31,21 @@ use std::alloc::Global;
 // Grows in a field, and looks whether the image's wires are known and its crosspoints kept then.
 fn grow_over(
     rig: &mut Box<dyn Rig>,
-    proof: &mut Proof,
+    facts: &mut Facts,
     known: &mut Known,
     field: &Field,
     image: &Image,
     used: &BitSet,
 ) -> Result<bool, RigFail>
-    requires attached { shape_of (rig_state rig.old) ≡ Some proof.old.shape }
-    requires known { IsKnown proof.old known.old }
-    requires field { IsFieldOf proof.old.shape field.now }
-    requires image { image.now.config.shape ≡ proof.old.shape }
+    requires attached { shape_of (rig_state rig.old) ≡ Some facts.old.shape }
+    requires known { IsKnown facts.old known.old }
+    requires field { IsFieldOf facts.old.shape field.now }
+    requires image { image.now.config.shape ≡ facts.old.shape }
     requires used { AreUsed image.now used.now }
-    ensures known { IsKnown proof.new known.new }
-    ensures keeps { IfOk result (λ yes. IsTrue yes → KeepsRoutes proof.new image.now) }
-    ensures whole { IfOk result (RoutesIf (rig_state rig.old).machine.faults proof.old proof.new known.new.steps image.now field.now) }
-    ensures advances { Advances (rig_state rig.old) (rig_state rig.new) proof.old proof.new }
+    ensures known { IsKnown facts.new known.new }
+    ensures keeps { IfOk result (λ yes. IsTrue yes → KeepsRoutes facts.new image.now) }
+    ensures whole { IfOk result (RoutesIf (rig_state rig.old).machine.faults facts.old facts.new known.new.steps image.now field.now) }
+    ensures advances { Advances (rig_state rig.old) (rig_state rig.new) facts.old facts.new }
     ensures loads { (rig_state rig.new).loads ≤ (rig_state rig.old).loads + (8 * size_of field.now.crosses + 3 * size_of field.now.wires) }
     ensures cause { IsErrOf result RigFail.Failed → Rose (rig_state rig.old).failures (rig_state rig.new).failures }
 {
@@ -54,8 +54,8 @@ fn grow_over(
     each_wire_has_a_home();
     without_faults_all_is_sound();
     parts_of_served_nodes_stand();
-    match grow(rig, proof, known, field) {
-        Ok(()) => Ok(keeps_routes(proof, known, image, used)),
+    match grow(rig, facts, known, field) {
+        Ok(()) => Ok(keeps_routes(facts, known, image, used)),
         Err(fail) => Err(fail),
     }
 }
@@ -63,24 +63,24 @@ fn grow_over(
 // Tests the image's tables, and looks whether what it needs of them is kept then.
 fn look_at_tables(
     rig: &mut Box<dyn Rig>,
-    proof: &mut Proof,
+    facts: &mut Facts,
     known: &Known,
     image: &Image,
 ) -> Result<bool, RigFail>
-    requires attached { shape_of (rig_state rig.old) ≡ Some proof.old.shape }
-    requires known { IsKnown proof.old known.now }
-    requires image { image.now.config.shape ≡ proof.old.shape }
-    ensures keeps { IfOk result (λ yes. IsTrue yes → KeepsTables proof.new image.now) }
-    ensures whole { IfOk result (TablesIf (rig_state rig.old).machine.faults proof.old known.now.steps image.now) }
-    ensures advances { Advances (rig_state rig.old) (rig_state rig.new) proof.old proof.new }
+    requires attached { shape_of (rig_state rig.old) ≡ Some facts.old.shape }
+    requires known { IsKnown facts.old known.now }
+    requires image { image.now.config.shape ≡ facts.old.shape }
+    ensures keeps { IfOk result (λ yes. IsTrue yes → KeepsTables facts.new image.now) }
+    ensures whole { IfOk result (TablesIf (rig_state rig.old).machine.faults facts.old known.now.steps image.now) }
+    ensures advances { Advances (rig_state rig.old) (rig_state rig.new) facts.old facts.new }
     ensures loads { (ts : List ℕ) → ((t : ℕ) → IsSome (setting_of image.now.config t) → Contains ts t) →
         (rig_state rig.new).loads ≤ (rig_state rig.old).loads + 130 * length ts }
     ensures cause { IsErrOf result RigFail.Failed → Rose (rig_state rig.old).failures (rig_state rig.new).failures }
 {
     without_faults_all_is_sound();
     let config = image.config();
-    match test_tables(rig, proof, known, config.tables_on()) {
-        Ok(()) => Ok(keeps_tables(proof, image)),
+    match test_tables(rig, facts, known, config.tables_on()) {
+        Ok(()) => Ok(keeps_tables(facts, image)),
         Err(fail) => Err(fail),
     }
 }
@@ -88,33 +88,33 @@ fn look_at_tables(
 // Tests the image in a field. It answers nothing where that doesn't reach all its wires and crosspoints.
 fn check_in(
     rig: &mut Box<dyn Rig>,
-    proof: &mut Proof,
+    facts: &mut Facts,
     known: &mut Known,
     field: &Field,
     image: &Image,
     used: &BitSet,
 ) -> Result<Option<bool>, RigFail>
-    requires attached { shape_of (rig_state rig.old) ≡ Some proof.old.shape }
-    requires known { IsKnown proof.old known.old }
-    requires field { IsFieldOf proof.old.shape field.now }
-    requires image { image.now.config.shape ≡ proof.old.shape }
+    requires attached { shape_of (rig_state rig.old) ≡ Some facts.old.shape }
+    requires known { IsKnown facts.old known.old }
+    requires field { IsFieldOf facts.old.shape field.now }
+    requires image { image.now.config.shape ≡ facts.old.shape }
     requires used { AreUsed image.now used.now }
-    ensures known { IfOk result (λ found. IfNone found (IsKnown proof.new known.new)) }
-    ensures keeps { IfOk result (λ found. found ≡ Some true → KeepsParts proof.new image.now) }
-    ensures whole { IfOk result (FieldIf (rig_state rig.old).machine.faults proof.old image.now field.now) }
-    ensures advances { Advances (rig_state rig.old) (rig_state rig.new) proof.old proof.new }
+    ensures known { IfOk result (λ found. IfNone found (IsKnown facts.new known.new)) }
+    ensures keeps { IfOk result (λ found. found ≡ Some true → KeepsParts facts.new image.now) }
+    ensures whole { IfOk result (FieldIf (rig_state rig.old).machine.faults facts.old image.now field.now) }
+    ensures advances { Advances (rig_state rig.old) (rig_state rig.new) facts.old facts.new }
     ensures loads { TakesInField image.now field.now (rig_state rig.old).loads (rig_state rig.new).loads }
     ensures none { IfOk result (λ found. IfNone found
         ((rig_state rig.new).loads ≤ (rig_state rig.old).loads + (8 * size_of field.now.crosses + 3 * size_of field.now.wires))) }
     ensures cause { IsErrOf result RigFail.Failed → Rose (rig_state rig.old).failures (rig_state rig.new).failures }
 {
     tests_add_up();
-    match grow_over(rig, proof, known, field, image, used) {
+    match grow_over(rig, facts, known, field, image, used) {
         Ok(true) => {}
         Ok(false) => return Ok(None),
         Err(fail) => return Err(fail),
     }
-    match look_at_tables(rig, proof, known, image) {
+    match look_at_tables(rig, facts, known, image) {
         Ok(yes) => Ok(Some(yes)),
         Err(fail) => Err(fail),
     }
@@ -135,18 +135,18 @@ fn is_paid(field: &Field, used: &BitSet) -> bool
 fn sweep_around(
     alloc: Global,
     rig: &mut Box<dyn Rig>,
-    proof: &mut Proof,
+    facts: &mut Facts,
     known: &mut Known,
     image: &Image,
     parts: &Parts,
 ) -> Result<(), RigFail>
-    requires attached { shape_of (rig_state rig.old) ≡ Some proof.old.shape }
-    requires known { IsKnown proof.old known.old }
-    requires image { image.now.config.shape ≡ proof.old.shape }
+    requires attached { shape_of (rig_state rig.old) ≡ Some facts.old.shape }
+    requires known { IsKnown facts.old known.old }
+    requires image { image.now.config.shape ≡ facts.old.shape }
     requires used { AreUsed image.now parts.now.used }
     requires nodes { AreInvolved image.now parts.now.nodes }
-    ensures known { IsKnown proof.new known.new }
-    ensures advances { Advances (rig_state rig.old) (rig_state rig.new) proof.old proof.new }
+    ensures known { IsKnown facts.new known.new }
+    ensures advances { Advances (rig_state rig.old) (rig_state rig.new) facts.old facts.new }
     ensures loads { (rig_state rig.new).loads ≤ (rig_state rig.old).loads + 170 * size_of parts.now.used }
     ensures cause { IsErrOf result RigFail.Failed → Rose (rig_state rig.old).failures (rig_state rig.new).failures }
 {
@@ -158,11 +158,11 @@ fn sweep_around(
     if !is_paid(&field, &parts.used) {
         return Ok(());
     }
-    let Ok(mut bad) = Bad::none(alloc, &proof.shape()) else {
+    let Ok(mut bad) = DefectMarks::none(alloc, &facts.shape()) else {
         return Err(RigFail::Memory);
     };
     let config = image.config();
-    sweep(rig, proof, known, &mut bad, &field, config.tables_on())
+    sweep(rig, facts, known, &mut bad, &field, config.tables_on())
 }
 
 // Sweeps around the image, and then tests it in two fields, the second with a further port and line of each node, for where one of
@@ -170,17 +170,17 @@ fn sweep_around(
 fn check_with(
     alloc: Global,
     rig: &mut Box<dyn Rig>,
-    proof: &mut Proof,
+    facts: &mut Facts,
     image: &Image,
     parts: &Parts,
 ) -> Result<bool, RigFail>
-    requires attached { shape_of (rig_state rig.old) ≡ Some proof.old.shape }
-    requires image { image.now.config.shape ≡ proof.old.shape }
+    requires attached { shape_of (rig_state rig.old) ≡ Some facts.old.shape }
+    requires image { image.now.config.shape ≡ facts.old.shape }
     requires used { AreUsed image.now parts.now.used }
     requires nodes { AreInvolved image.now parts.now.nodes }
-    ensures keeps { IfOk result (λ yes. IsTrue yes → KeepsParts proof.new image.now) }
-    ensures whole { IfOk result (WholeIf (rig_state rig.old).machine.faults proof.old image.now) }
-    ensures advances { Advances (rig_state rig.old) (rig_state rig.new) proof.old proof.new }
+    ensures keeps { IfOk result (λ yes. IsTrue yes → KeepsParts facts.new image.now) }
+    ensures whole { IfOk result (WholeIf (rig_state rig.old).machine.faults facts.old image.now) }
+    ensures advances { Advances (rig_state rig.old) (rig_state rig.new) facts.old facts.new }
     ensures loads { TakesAtMost image.now parts.now.nodes parts.now.used (rig_state rig.old).loads (rig_state rig.new).loads }
     ensures cause { IsErrOf result RigFail.Failed → Rose (rig_state rig.old).failures (rig_state rig.new).failures }
 {
@@ -191,19 +191,19 @@ fn check_with(
     let Ok(wide) = field_of(alloc, image, parts, 3) else {
         return Err(RigFail::Memory);
     };
-    let Ok(mut known) = Known::new(alloc, &proof.shape()) else {
+    let Ok(mut known) = Known::new(alloc, &facts.shape()) else {
         return Err(RigFail::Memory);
     };
-    match sweep_around(alloc, rig, proof, &mut known, image, parts) {
+    match sweep_around(alloc, rig, facts, &mut known, image, parts) {
         Ok(()) => {}
         Err(fail) => return Err(fail),
     }
-    match check_in(rig, proof, &mut known, &narrow, image, &parts.used) {
+    match check_in(rig, facts, &mut known, &narrow, image, &parts.used) {
         Ok(Some(yes)) => return Ok(yes),
         Ok(None) => {}
         Err(fail) => return Err(fail),
     }
-    match check_in(rig, proof, &mut known, &wide, image, &parts.used) {
+    match check_in(rig, facts, &mut known, &wide, image, &parts.used) {
         Ok(Some(yes)) => Ok(yes),
         Ok(None) => Ok(false),
         Err(fail) => Err(fail),
@@ -239,8 +239,8 @@ pub fn quick_check(
     let Ok(parts) = parts_of(alloc, image) else {
         return Err(RigFail::Memory);
     };
-    let Ok(mut proof) = Proof::new(alloc, *shape) else {
+    let Ok(mut facts) = Facts::new(alloc, *shape) else {
         return Err(RigFail::Memory);
     };
-    check_with(alloc, rig, &mut proof, image, &parts)
+    check_with(alloc, rig, &mut facts, image, &parts)
 }

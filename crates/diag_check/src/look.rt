@@ -10,35 +10,35 @@ ghost use Rattle.diag_check.specs.Soundly.{KeepsRoutes, KeepsTables};
 ghost use Rattle.diag_check.specs.Used.{AreUsed};
 
 use base_bits::BitSet;
-use diag_evidence::Proof;
+use diag_evidence::Facts;
 use diag_evidence::laws::kept_facts_are_sound;
 use diag_growth::Known;
 use machine_image::Image;
 use machine_shape::{Cross, Table, Wire};
 
 // Whether a wire is kept and known.
-fn has_wire(proof: &Proof, known: &Known, w: Wire) -> bool
-    requires kept { w.0 < wires_of proof.now.shape }
+fn has_wire(facts: &Facts, known: &Known, w: Wire) -> bool
+    requires kept { w.0 < wires_of facts.now.shape }
     requires known { w.0 < wires_of known.now.shape }
-    ensures { IsTrue result ↔ ((keeps_wire proof.now w.0 ≡ true) × HasWire known.now.steps w.0) }
+    ensures { IsTrue result ↔ ((keeps_wire facts.now w.0 ≡ true) × HasWire known.now.steps w.0) }
 {
-    if !proof.keeps_wire(w) {
+    if !facts.keeps_wire(w) {
         return false;
     }
     known.has(w)
 }
 
 // Whether all of these wires are kept and known.
-fn has_each(proof: &Proof, known: &Known, used: &BitSet) -> bool
-    requires kept { length used.now ≡ wires_of proof.now.shape }
+fn has_each(facts: &Facts, known: &Known, used: &BitSet) -> bool
+    requires kept { length used.now ≡ wires_of facts.now.shape }
     requires known { length used.now ≡ wires_of known.now.shape }
-    ensures { IsTrue result ↔ ((w : ℕ) → has_number used.now w ≡ true → (keeps_wire proof.now w ≡ true) × HasWire known.now.steps w) }
+    ensures { IsTrue result ↔ ((w : ℕ) → has_number used.now w ≡ true → (keeps_wire facts.now w ≡ true) × HasWire known.now.steps w) }
 {
     'wires: for w in 0..used.len() {
         if !used.has(w) {
             continue;
         }
-        if !has_wire(proof, known, Wire(w)) {
+        if !has_wire(facts, known, Wire(w)) {
             return false;
         }
     }
@@ -46,26 +46,26 @@ fn has_each(proof: &Proof, known: &Known, used: &BitSet) -> bool
 }
 
 // The same. Each two known wires are kept apart, which no look at the wires one by one shows.
-fn has_wires(proof: &Proof, known: &Known, used: &BitSet) -> bool
-    requires known { IsKnown proof.now known.now }
-    requires used { length used.now ≡ wires_of proof.now.shape }
-    ensures wires { IsTrue result → (w : ℕ) → has_number used.now w ≡ true → keeps_wire proof.now w ≡ true }
+fn has_wires(facts: &Facts, known: &Known, used: &BitSet) -> bool
+    requires known { IsKnown facts.now known.now }
+    requires used { length used.now ≡ wires_of facts.now.shape }
+    ensures wires { IsTrue result → (w : ℕ) → has_number used.now w ≡ true → keeps_wire facts.now w ≡ true }
     ensures pairs { IsTrue result → (w u : ℕ) → has_number used.now w ≡ true → has_number used.now u ≡ true → w ≢ u →
-        keeps_pair proof.now w u ≡ true }
-    ensures all { ((w : ℕ) → has_number used.now w ≡ true → (keeps_wire proof.now w ≡ true) × HasWire known.now.steps w) →
+        keeps_pair facts.now w u ≡ true }
+    ensures all { ((w : ℕ) → has_number used.now w ≡ true → (keeps_wire facts.now w ≡ true) × HasWire known.now.steps w) →
         IsTrue result }
 {
     kept_facts_are_sound();
-    has_each(proof, known, used)
+    has_each(facts, known, used)
 }
 
 // Whether all of these crosspoints are kept.
-fn keeps_crosses(proof: &Proof, crosses: &[Cross]) -> bool
-    requires { All (λ x. x.0 < crosses_of proof.now.shape) crosses.now }
-    ensures { IsTrue result ↔ All (λ x. keeps_cross proof.now x.0 ≡ true) crosses.now }
+fn keeps_crosses(facts: &Facts, crosses: &[Cross]) -> bool
+    requires { All (λ x. x.0 < crosses_of facts.now.shape) crosses.now }
+    ensures { IsTrue result ↔ All (λ x. keeps_cross facts.now x.0 ≡ true) crosses.now }
 {
     'crosses: for j in 0..crosses.len() {
-        if !proof.keeps_cross(crosses[j]) {
+        if !facts.keeps_cross(crosses[j]) {
             return false;
         }
     }
@@ -73,28 +73,28 @@ fn keeps_crosses(proof: &Proof, crosses: &[Cross]) -> bool
 }
 
 /// Whether an image's used wires are known and its closed crosspoints are kept.
-pub(crate) fn keeps_routes(proof: &Proof, known: &Known, image: &Image, used: &BitSet) -> bool
-    requires shape { image.now.config.shape ≡ proof.now.shape }
-    requires known { IsKnown proof.now known.now }
+pub(crate) fn keeps_routes(facts: &Facts, known: &Known, image: &Image, used: &BitSet) -> bool
+    requires shape { image.now.config.shape ≡ facts.now.shape }
+    requires known { IsKnown facts.now known.now }
     requires used { AreUsed image.now used.now }
-    ensures keeps { IsTrue result → KeepsRoutes proof.now image.now }
-    ensures all { AreRoutesKnown proof.now known.now.steps image.now → IsTrue result }
+    ensures keeps { IsTrue result → KeepsRoutes facts.now image.now }
+    ensures all { AreRoutesKnown facts.now known.now.steps image.now → IsTrue result }
     ensures right { IsImage image.now }
 {
     let config = image.config();
-    if !has_wires(proof, known, used) {
+    if !has_wires(facts, known, used) {
         return false;
     }
-    keeps_crosses(proof, config.closed())
+    keeps_crosses(facts, config.closed())
 }
 
 // Whether all cells of a table are kept.
-fn keeps_cells(proof: &Proof, table: Table) -> bool
-    requires { table.0 < tables_of proof.now.shape }
-    ensures { IsTrue result ↔ ((a : ℕ) → a < 64 → keeps_cell proof.now table.0 a ≡ true) }
+fn keeps_cells(facts: &Facts, table: Table) -> bool
+    requires { table.0 < tables_of facts.now.shape }
+    ensures { IsTrue result ↔ ((a : ℕ) → a < 64 → keeps_cell facts.now table.0 a ≡ true) }
 {
     'cells: for address in 0..64 {
-        if !proof.keeps_cell(table, address) {
+        if !facts.keeps_cell(table, address) {
             return false;
         }
     }
@@ -102,12 +102,12 @@ fn keeps_cells(proof: &Proof, table: Table) -> bool
 }
 
 // Whether what the image needs of a table is kept. The register of a table that isn't latched has no effect.
-fn keeps_table(proof: &Proof, image: &Image, table: Table) -> bool
-    requires shape { image.now.config.shape ≡ proof.now.shape }
-    requires table { table.0 < tables_of proof.now.shape }
-    ensures { IsTrue result ↔ KeepsTableOf proof.now image.now table.0 }
+fn keeps_table(facts: &Facts, image: &Image, table: Table) -> bool
+    requires shape { image.now.config.shape ≡ facts.now.shape }
+    requires table { table.0 < tables_of facts.now.shape }
+    ensures { IsTrue result ↔ KeepsTableOf facts.now image.now table.0 }
 {
-    if !keeps_cells(proof, table) {
+    if !keeps_cells(facts, table) {
         return false;
     }
     let Some(setting) = image.config().setting(table) else {
@@ -116,17 +116,17 @@ fn keeps_table(proof: &Proof, image: &Image, table: Table) -> bool
     if !setting.latched {
         return true;
     }
-    proof.keeps_register(table)
+    facts.keeps_register(table)
 }
 
 // Whether what the image needs of these tables is kept.
-fn keeps_each(proof: &Proof, image: &Image, tables: &[Table]) -> bool
-    requires shape { image.now.config.shape ≡ proof.now.shape }
-    requires tables { All (λ t. t.0 < tables_of proof.now.shape) tables.now }
-    ensures { IsTrue result ↔ All (λ t. KeepsTableOf proof.now image.now t.0) tables.now }
+fn keeps_each(facts: &Facts, image: &Image, tables: &[Table]) -> bool
+    requires shape { image.now.config.shape ≡ facts.now.shape }
+    requires tables { All (λ t. t.0 < tables_of facts.now.shape) tables.now }
+    ensures { IsTrue result ↔ All (λ t. KeepsTableOf facts.now image.now t.0) tables.now }
 {
     'tables: for j in 0..tables.len() {
-        if !keeps_table(proof, image, tables[j]) {
+        if !keeps_table(facts, image, tables[j]) {
             return false;
         }
     }
@@ -134,10 +134,10 @@ fn keeps_each(proof: &Proof, image: &Image, tables: &[Table]) -> bool
 }
 
 /// Whether what an image needs of its switched-on tables is kept.
-pub(crate) fn keeps_tables(proof: &Proof, image: &Image) -> bool
-    requires shape { image.now.config.shape ≡ proof.now.shape }
-    ensures { IsTrue result ↔ KeepsTables proof.now image.now }
+pub(crate) fn keeps_tables(facts: &Facts, image: &Image) -> bool
+    requires shape { image.now.config.shape ≡ facts.now.shape }
+    ensures { IsTrue result ↔ KeepsTables facts.now image.now }
 {
     let config = image.config();
-    keeps_each(proof, image, config.tables_on())
+    keeps_each(facts, image, config.tables_on())
 }

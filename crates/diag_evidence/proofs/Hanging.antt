@@ -20,7 +20,7 @@ use Rattle.machine_config.specs.Groups.{among}
 use Rattle.machine_config.proofs.Distance.{change_at_a_distance}
 use Rattle.rig.specs.Rig.{RigState}
 use Rattle.diag_tests.specs.Routes.{other_end}
-use Rattle.diag_evidence.specs.declared.hangs.Hang.{Hang}
+use Rattle.diag_evidence.specs.declared.hangs.WireTest.{WireTest}
 use Rattle.diag_evidence.specs.Kept.{Kept, HoldsFor, Gains, Advances}
 use Rattle.diag_evidence.specs.Forests.{Trees, HangsOn, is_laid, IsForest, KeepsForest, KnowsForest}
 use Rattle.diag_evidence.specs.Looks.{IsLook, differ, parts, read_under}
@@ -32,64 +32,64 @@ use Rattle.diag_evidence.proofs.Seeing.{g, row_under, standing, pin_inside, part
 use Rattle.diag_evidence.proofs.Unfitting.{StandsAt, stands_at, all_pass, one_place, num_in, end_is}
 
 -- a hang to name one beyond a list by
-abbrev some_hang : Hang
+abbrev some_hang : WireTest
 some_hang = record { wire = record { 0 = 0 }; over = record { 0 = 0 }; other = record { 0 = 0 } }
 
 abbrev some_foot : Foot
 some_foot = (record { 0 = 0 }, record { 0 = 0 })
 
 -- conditions on hangs, of which the pins are left out
-pub record AreHung (trees : Trees) (hs : List Hang) : Type 0 where
+pub record AreHung (trees : Trees) (hs : List WireTest) : Type 0 where
   pub over : All (λ h. IsFoot trees (over_of h)) hs
   pub other : All (λ h. IsFoot trees (over_of (turned h))) hs
   pub wires : IsDistinct (λ a b. a == b) (map (λ h. h.wire.0) hs)
 
-wires_turned : (hs : List Hang) → map (λ (h : Hang). h.wire.0) (map turned hs) ≡ map (λ (h : Hang). h.wire.0) hs
+wires_turned : (hs : List WireTest) → map (λ (h : WireTest). h.wire.0) (map turned hs) ≡ map (λ (h : WireTest). h.wire.0) hs
 wires_turned [] = refl
 wires_turned (h ∷ hs) = ap (λ ws. h.wire.0 ∷ ws) (wires_turned hs)
 
-pub hung_turned : {trees : Trees} {hs : List Hang} → AreHung trees hs → AreHung trees (map turned hs)
+pub hung_turned : {trees : Trees} {hs : List WireTest} → AreHung trees hs → AreHung trees (map turned hs)
 hung_turned {trees} {hs} h = record {
   over = All-map (λ h. IsFoot trees (over_of h)) turned hs h.other;
   other = All-map (λ h. IsFoot trees (over_of (turned h))) turned hs h.over;
   wires = subst (IsDistinct (λ a b. a == b)) (sym (wires_turned hs)) h.wires;
 }
 
-pub overs_feet : {trees : Trees} (hs : List Hang) → All (λ h. IsFoot trees (over_of h)) hs → All (IsFoot trees) (overs hs)
+pub overs_feet : {trees : Trees} (hs : List WireTest) → All (λ h. IsFoot trees (over_of h)) hs → All (IsFoot trees) (overs hs)
 overs_feet {trees} hs all = All-map (IsFoot trees) over_of hs all
 
-overs_wires : (hs : List Hang) → map (λ (foot : Foot). foot.0.0) (overs hs) ≡ map (λ (h : Hang). h.wire.0) hs
+overs_wires : (hs : List WireTest) → map (λ (foot : Foot). foot.0.0) (overs hs) ≡ map (λ (h : WireTest). h.wire.0) hs
 overs_wires [] = refl
 overs_wires (h ∷ hs) = ap (λ ws. h.wire.0 ∷ ws) (overs_wires hs)
 
-pub overs_once : {trees : Trees} {hs : List Hang} → AreHung trees hs → IsDistinct (λ a b. a == b) (map (λ (foot : Foot). foot.0.0) (overs hs))
+pub overs_once : {trees : Trees} {hs : List WireTest} → AreHung trees hs → IsDistinct (λ a b. a == b) (map (λ (foot : Foot). foot.0.0) (overs hs))
 overs_once {trees} {hs} h = subst (IsDistinct (λ a b. a == b)) (sym (overs_wires hs)) h.wires
 
 -- a crosspoint of feet over first crosspoints
-pub over_stands : (hs : List Hang) (x : ℕ) → among (feet_crosses (overs hs)) x ≡ true → StandsAt (λ (h : Hang). h.over.0) hs x
-over_stands hs x is = stands_at (λ (h : Hang). h.over.0) hs x (subst (λ xs. among xs x ≡ true) (same hs) is)
+pub over_stands : (hs : List WireTest) (x : ℕ) → among (feet_crosses (overs hs)) x ≡ true → StandsAt (λ (h : WireTest). h.over.0) hs x
+over_stands hs x is = stands_at (λ (h : WireTest). h.over.0) hs x (subst (λ xs. among xs x ≡ true) (same hs) is)
   where
-    same : (hs : List Hang) → feet_crosses (overs hs) ≡ map (λ (h : Hang). h.over.0) hs
+    same : (hs : List WireTest) → feet_crosses (overs hs) ≡ map (λ (h : WireTest). h.over.0) hs
     same [] = refl
     same (h ∷ hs) = ap (λ xs. h.over.0 ∷ xs) (same hs)
 
-pub over_among : (hs : List Hang) (i : ℕ) → i < length hs → among (feet_crosses (overs hs)) (get_or hs i some_hang).over.0 ≡ true
+pub over_among : (hs : List WireTest) (i : ℕ) → i < length hs → among (feet_crosses (overs hs)) (get_or hs i some_hang).over.0 ≡ true
 over_among [] i below = absurd (omega (arith, below))
 over_among (h ∷ hs) zero below = or_left (h.over.0 == h.over.0) (among (feet_crosses (overs hs)) h.over.0) (grind (arith, nat_tests))
 over_among (h ∷ hs) (suc i) below = or_right (h.over.0 == (get_or hs i some_hang).over.0) (among (feet_crosses (overs hs)) (get_or hs i some_hang).over.0) (over_among hs i (omega (arith, below)))
 
 -- a hang of those that pass a test is one of all
-record ComesFrom (p : Hang → Bool) (hs : List Hang) (h : Hang) : Type 0 where
+record ComesFrom (p : WireTest → Bool) (hs : List WireTest) (h : WireTest) : Type 0 where
   place : ℕ
   below : place < length hs
   is : get_or hs place some_hang ≡ h
   passes : p h ≡ true
 
-comes_from : (p : Hang → Bool) (hs : List Hang) (j : ℕ) → j < length (filter p hs) → ComesFrom p hs (get_or (filter p hs) j some_hang)
+comes_from : (p : WireTest → Bool) (hs : List WireTest) (j : ℕ) → j < length (filter p hs) → ComesFrom p hs (get_or (filter p hs) j some_hang)
 comes_from p [] j below = absurd (omega (arith, below))
 comes_from p (h ∷ hs) j below = by (comes_from p hs) (p h) refl j below
   where
-    later : {k : Hang} → ComesFrom p hs k → ComesFrom p (h ∷ hs) k
+    later : {k : WireTest} → ComesFrom p hs k → ComesFrom p (h ∷ hs) k
     later c = let b = c.below in record { place = suc c.place; below = omega (arith, b); is = c.is; passes = c.passes }
 
     by : ((j : ℕ) → j < length (filter p hs) → ComesFrom p hs (get_or (filter p hs) j some_hang)) → (t : Bool) → p h ≡ t → (j : ℕ) → j < length (cond t (h ∷ filter p hs) (filter p hs)) →
@@ -99,14 +99,14 @@ comes_from p (h ∷ hs) j below = by (comes_from p hs) (p h) refl j below
     by more false e j below = later (more j below)
 
 -- Two looks, of which the second opens first crosspoints of hangs alone.
-module _ {told : Option Faults} (trees : Trees) (hs : List Hang) (rows without : List Pins) (close less : ℕ → Bool) (look : IsLook told trees.shape close rows) (later : IsLook told trees.shape less without)
+module _ {told : Option Faults} (trees : Trees) (hs : List WireTest) (rows without : List Pins) (close less : ℕ → Bool) (look : IsLook told trees.shape close rows) (later : IsLook told trees.shape less without)
     (fewer : (y : ℕ) → less y ≡ true → close y ≡ true) (opened : (y : ℕ) → close y ≡ true → less y ≡ false → among (feet_crosses (overs hs)) y ≡ true) (shut : (x : ℕ) → is_laid trees x ≡ true → close x ≡ true)
     (forest : IsForest trees) (hung : AreHung trees hs) (f : Faults) (is : told ≡ Some f) (free : (x : ℕ) → is_laid trees x ≡ true → stuck_cross f x ≡ None) where
   -- a first crosspoint that is shown isn't stuck
   pub shown_free : (i : ℕ) → i < length hs → is_shown trees hs rows without (get_or hs i some_hang) ≡ true → stuck_cross f (get_or hs i some_hang).over.0 ≡ None
   shown_free i below yes_ = change_at_a_distance f G H h.over.0 q _ _ _ look.off later.off q_inside opens (row_under look f is p p_small) (row_under later f is p p_small) (differ_so _ _ both.0)
     where
-      h : Hang
+      h : WireTest
       h = get_or hs i some_hang
 
       G : Configuration
@@ -136,10 +136,10 @@ module _ {told : Option Faults} (trees : Trees) (hs : List Hang) (rows without :
       far : (y a b : ℕ) → is_closed G y ≢ is_closed H y → y ≢ h.over.0 → Ends (ends_of G.shape y) a b → Joined (net_of G.shape f (is_closed G)) (pin_wire G.shape q) a → Joined (net_of G.shape f (is_closed G)) (pin_wire G.shape q) b → ⊥
       far y a b change n ends_ j l = by (is_closed G y) (is_closed H y) refl refl
         where
-          by_hang : StandsAt (λ (h : Hang). h.over.0) hs y → ⊥
+          by_hang : StandsAt (λ (h : WireTest). h.over.0) hs y → ⊥
           by_hang s = by_wire (ℕ_discrete o.wire.0 h.wire.0)
             where
-              o : Hang
+              o : WireTest
               o = get_or hs s.place some_hang
 
               foot : IsFoot trees (over_of o)
@@ -155,7 +155,7 @@ module _ {told : Option Faults} (trees : Trees) (hs : List Hang) (rows without :
               ends_too = subst (λ n. Ends (ends_of n y) o.wire.0 end) (sym look.shape) (subst (λ x. Ends (ends_of trees.shape x) o.wire.0 end) (s.at some_hang) foot.ends)
 
               by_wire : Dec (o.wire.0 ≡ h.wire.0) → ⊥
-              by_wire (yes e) = n (sym (s.at some_hang) ∙ ap (λ k. (get_or hs k some_hang).over.0) (one_place (λ (h : Hang). h.wire.0) hs hung.wires s.place i some_hang s.below below e))
+              by_wire (yes e) = n (sym (s.at some_hang) ∙ ap (λ k. (get_or hs k some_hang).over.0) (one_place (λ (h : WireTest). h.wire.0) hs hung.wires s.place i some_hang s.below below e))
               by_wire (no d) = by_end (end_is ends_ ends_too)
                 where
                   parted : parts rows r q ≡ true
@@ -194,22 +194,22 @@ module _ {told : Option Faults} (trees : Trees) (hs : List Hang) (rows without :
   shown_holds others_ closing view laid on = seen_on_holds view f is trees refl forest free laid (shown trees hs rows without)
       (overs_feet (filter (is_shown trees hs rows without) hs) (All-filter (is_shown trees hs rows without) (λ h. IsFoot trees (over_of h)) hs hung.over)) free_of on_of
     where
-      p : Hang → Bool
+      p : WireTest → Bool
       p = is_shown trees hs rows without
 
       free_of : (x : ℕ) → among (feet_crosses (shown trees hs rows without)) x ≡ true → stuck_cross f x ≡ None
       free_of x is_in = by (over_stands (filter p hs) x is_in)
         where
-          by : StandsAt (λ (h : Hang). h.over.0) (filter p hs) x → stuck_cross f x ≡ None
+          by : StandsAt (λ (h : WireTest). h.over.0) (filter p hs) x → stuck_cross f x ≡ None
           by s = let c = comes_from p hs s.place s.below in
-              subst (λ y. stuck_cross f y ≡ None) (ap (λ (h : Hang). h.over.0) c.is ∙ s.at some_hang) (shown_free c.place c.below (ap p c.is ∙ c.passes))
+              subst (λ y. stuck_cross f y ≡ None) (ap (λ (h : WireTest). h.over.0) c.is ∙ s.at some_hang) (shown_free c.place c.below (ap p c.is ∙ c.passes))
 
       on_of : (x : ℕ) → among (feet_crosses (shown trees hs rows without)) x ≡ true → closing x ≡ true
       on_of x is_in = by (over_stands (filter p hs) x is_in)
         where
-          by : StandsAt (λ (h : Hang). h.over.0) (filter p hs) x → closing x ≡ true
+          by : StandsAt (λ (h : WireTest). h.over.0) (filter p hs) x → closing x ≡ true
           by s = let c = comes_from p hs s.place s.below in
-              on x (subst (λ y. among (feet_crosses (overs hs)) y ≡ true) (ap (λ (h : Hang). h.over.0) c.is ∙ s.at some_hang) (over_among hs c.place c.below))
+              on x (subst (λ y. among (feet_crosses (overs hs)) y ≡ true) (ap (λ (h : WireTest). h.over.0) c.is ∙ s.at some_hang) (over_among hs c.place c.below))
 
 -- crosspoints of two lists of feet
 among_both : (a b : List Foot) (x : ℕ) → among (feet_crosses (a ++ b)) x ≡ (among (feet_crosses a) x || among (feet_crosses b) x)
@@ -236,7 +236,7 @@ bool_right false true c e n = absurd (false≢true (sym n))
 bool_right false false c e n = e
 
 -- the three looks
-module _ {told : Option Faults} (k : Kept) (trees : Trees) (hs : List Hang) (rows no_over no_other : List Pins) (forest : IsForest trees) (keeps : KeepsForest k trees) (hung : AreHung trees hs)
+module _ {told : Option Faults} (k : Kept) (trees : Trees) (hs : List WireTest) (rows no_over no_other : List Pins) (forest : IsForest trees) (keeps : KeepsForest k trees) (hung : AreHung trees hs)
     (look : IsLook told trees.shape (closes trees (all_feet hs)) rows) (over_look : IsLook told trees.shape (closes trees (others hs)) no_over) (other_look : IsLook told trees.shape (closes trees (overs hs)) no_other) where
   closes_all : (x : ℕ) → closes trees (all_feet hs) x ≡ (is_laid trees x || (among (feet_crosses (overs hs)) x || among (feet_crosses (others hs)) x))
   closes_all x = ap (λ t. is_laid trees x || t) (among_both (overs hs) (others hs) x)
@@ -278,8 +278,8 @@ module _ {told : Option Faults} (k : Kept) (trees : Trees) (hs : List Hang) (row
 pub feet_below : {trees : Trees} (feet : List Foot) → All (IsFoot trees) feet → All (λ foot. foot.1.0 < crosses_of trees.shape) feet
 feet_below feet all k d below = (all k d below).cross
 
-pub all_are_feet : {trees : Trees} (hs : List Hang) → All (λ h. IsFoot trees (over_of h)) hs → All (λ h. IsFoot trees (over_of (turned h))) hs → All (IsFoot trees) (all_feet hs)
+pub all_are_feet : {trees : Trees} (hs : List WireTest) → All (λ h. IsFoot trees (over_of h)) hs → All (λ h. IsFoot trees (over_of (turned h))) hs → All (IsFoot trees) (all_feet hs)
 all_are_feet {trees} hs over other = All-append (IsFoot trees) (overs hs) (others hs) (overs_feet hs over) (overs_feet (map turned hs) (All-map (λ h. IsFoot trees (over_of h)) turned hs other))
 
-pub shown_feet : {trees : Trees} (hs : List Hang) (rows without : List Pins) → All (λ h. IsFoot trees (over_of h)) hs → All (IsFoot trees) (shown trees hs rows without)
+pub shown_feet : {trees : Trees} (hs : List WireTest) (rows without : List Pins) → All (λ h. IsFoot trees (over_of h)) hs → All (IsFoot trees) (shown trees hs rows without)
 shown_feet {trees} hs rows without over = overs_feet (filter (is_shown trees hs rows without) hs) (All-filter (is_shown trees hs rows without) (λ h. IsFoot trees (over_of h)) hs over)

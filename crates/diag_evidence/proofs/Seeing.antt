@@ -107,17 +107,17 @@ module _ {told : Option Faults} {m : Shape} {close : ℕ → Bool} {rows : List 
 
   -- a pin that swings is joined to no stuck wire
   pub swing_unheld : (p : ℕ) → p < pins_of m → swings rows p ≡ true → (b : Bool) → ¬ IsHeld (circuit_of f g) (pin_wire g.shape p) b
-  swing_unheld p below swing = by (some_of (λ row. not (differ (get_or row p true) false)) rows both.0) (some_of (λ row. not (differ (get_or row p true) true)) rows both.1)
+  swing_unheld p below test_stuck = by (some_of (λ row. not (differ (get_or row p true) false)) rows both.0) (some_of (λ row. not (differ (get_or row p true) true)) rows both.1)
     where
       both : (reads_somewhere rows p false ≡ true) × (reads_somewhere rows p true ≡ true)
-      both = and_parts (reads_somewhere rows p false) (reads_somewhere rows p true) swing
+      both = and_parts (reads_somewhere rows p false) (reads_somewhere rows p true) test_stuck
 
       by : IsSome_of (λ row. not (differ (get_or row p true) false)) rows → IsSome_of (λ row. not (differ (get_or row p true) true)) rows → (b : Bool) → ¬ IsHeld (circuit_of f g) (pin_wire g.shape p) b
       by s t = let e = all_rows in let a = s.below in let b = t.below in
           two_readings f g p (here_below below) (one_row s.place (omega (arith, e, a))) (one_row t.place (omega (arith, e, b))) (bit_is _ _ (s.holds [])) (bit_is _ _ (t.holds []))
 
   pub swing_clear : (p w : ℕ) → p < pins_of m → swings rows p ≡ true → Joined net (pin_wire g.shape p) w → IsClear m f w
-  swing_clear p w below swing j u s = none_by (stuck_wire f u) (λ b e. swing_unheld p below swing b
+  swing_clear p w below test_stuck j u s = none_by (stuck_wire f u) (λ b e. swing_unheld p below test_stuck b
       (record { place = u; joined = Joined-trans j (Joined-Shorted g.shape f (is_closed g) (subst (λ n. Shorted n f w u) (sym look.shape) s)); stuck = e }))
 
   -- A forest whose crosspoints aren't stuck, in a look that closes them.
@@ -156,7 +156,7 @@ module _ {told : Option Faults} {m : Shape} {close : ℕ → Bool} {rows : List 
       where
         clear : (w : ℕ) (o : Option ℕ) → pin_of trees w ≡ o → option_map_or (λ p. swings rows p) o false ≡ true → IsClear m f w
         clear w None e no_ = absurd (false≢true no_)
-        clear w (Some p) e swing = swing_clear p w (pin_inside w p e) swing (standing w p e)
+        clear w (Some p) e test_stuck = swing_clear p w (pin_inside w p e) test_stuck (standing w p e)
 
         unshorted : (a b : ℕ) → HangApart trees rows a b → ¬ Shorted m f a b
         unshorted a b s j = part_unshorted s.other s.one b a (pin_inside b s.other s.second) (pin_inside a s.one s.first) s.part (standing b s.other s.second) (standing a s.one s.first) (Joined-sym j)

@@ -4,7 +4,7 @@ use Rattle.std.specs.Prelude.{map}
 use Rattle.std.proofs.lemmas.List.Elements.{All-map}
 use Rattle.machine_meaning.specs.Faults.{Faults}
 use Rattle.rig.specs.Rig.{RigState}
-use Rattle.diag_evidence.specs.declared.hangs.Hang.{Hang}
+use Rattle.diag_evidence.specs.declared.hangs.WireTest.{WireTest}
 use Rattle.diag_evidence.specs.declared.hangs.Views.{Views}
 use Rattle.diag_evidence.specs.Kept.{Kept, IsMore, Gains, Advances}
 use Rattle.diag_evidence.specs.Forests.{Trees, IsForest, KnowsForest}
@@ -15,10 +15,10 @@ use Rattle.diag_evidence.proofs.KeptLemmas.{more_by_gain}
 use Rattle.diag_evidence.proofs.Hanging.{AreHung, hung_turned, overs_feet, overs_once, hung_advances}
 use Rattle.diag_evidence.proofs.Marked.{still_unfit, still_unclear, unfit_new, unclear_new, unfit_then, unclear_then, unfit_all, unclear_all, unfit_later, unclear_later}
 
-pub are_hung : {trees : Trees} {hs : List Hang} → AreHangs trees hs → AreHung trees hs
+pub are_hung : {trees : Trees} {hs : List WireTest} → AreHangs trees hs → AreHung trees hs
 are_hung h = record { over = h.over; other = h.other; wires = h.wires }
 
-module _ (told : Option Faults) (trees : Trees) (hs : List Hang) (views : Views) (yes : Bool) (viewed : HasViewed told trees hs views yes) (k l : Kept) where
+module _ (told : Option Faults) (trees : Trees) (hs : List WireTest) (views : Views) (yes : Bool) (viewed : HasViewed told trees hs views yes) (k l : Kept) where
   pub tried_silent : {before after : ℕ} (was were : List Bool) → yes ≡ false → after ≤ before + 1 → l ≡ k → HasTried told trees hs before after k l was was were were
   tried_silent was were e once same = silent views.all.rows viewed.all (viewed.answers ∙ e) once same refl refl
 

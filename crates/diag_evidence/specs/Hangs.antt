@@ -14,7 +14,7 @@ use Rattle.machine_config.specs.Configuration.{Configuration, is_closed}
 use Rattle.machine_config.specs.Tests.{AreOff}
 use Rattle.base_bits.specs.Numbers.{has_number}
 use Rattle.diag_tests.specs.Routes.{other_end}
-use Rattle.diag_evidence.specs.declared.hangs.Hang.{Hang}
+use Rattle.diag_evidence.specs.declared.hangs.WireTest.{WireTest}
 use Rattle.diag_evidence.specs.Forests.{Trees, HangsOn, pin_of, is_hung, is_laid}
 use Rattle.diag_evidence.specs.Kept.{Kept, HoldsFor, Gain, Gains, nothing}
 use Rattle.diag_evidence.specs.Looks.{IsLook, differ, swings, parts, hangs_apart, read_free, read_under}
@@ -24,21 +24,21 @@ abbrev pub Foot : Type 0
 Foot = Wire × Cross
 
 -- the foot over the first crosspoint of a hang
-abbrev pub over_of : Hang → Foot
+abbrev pub over_of : WireTest → Foot
 over_of h = (h.wire, h.over)
 
 -- the hang whose crosspoints have changed places
-abbrev pub turned : Hang → Hang
+abbrev pub turned : WireTest → WireTest
 turned h = record { wire = h.wire; over = h.other; other = h.over }
 
 -- the feet over first crosspoints, over second ones, and all
-abbrev pub overs : List Hang → List Foot
+abbrev pub overs : List WireTest → List Foot
 overs hs = map over_of hs
 
-abbrev pub others : List Hang → List Foot
+abbrev pub others : List WireTest → List Foot
 others hs = overs (map turned hs)
 
-abbrev pub all_feet : List Hang → List Foot
+abbrev pub all_feet : List WireTest → List Foot
 all_feet hs = overs hs ++ others hs
 
 -- the pin of the tree to which the crosspoint leads
@@ -59,7 +59,7 @@ pub record AreFeet (trees : Trees) (feet : List Foot) : Type 0 where
   pub wires : IsDistinct (λ a b. a == b) (map (λ foot. foot.0.0) feet)
   pub pins : IsDistinct (λ a b. a == b) (map (pin_at trees) feet)
 
-pub record AreHangs (trees : Trees) (hs : List Hang) : Type 0 where
+pub record AreHangs (trees : Trees) (hs : List WireTest) : Type 0 where
   pub over : All (λ h. IsFoot trees (over_of h)) hs
   pub other : All (λ h. IsFoot trees (over_of (turned h))) hs
   pub wires : IsDistinct (λ a b. a == b) (map (λ h. h.wire.0) hs)
@@ -144,35 +144,35 @@ pub record HasMarked (trees : Trees) (feet : List Foot) (rows : List Pins) (was 
   pub unfit : (w : ℕ) → has_number is w ≡ (is_unfit_in trees feet rows w || has_number was w)
   pub unclear : (w : ℕ) → has_number are w ≡ (is_unclear_in trees feet rows w || has_number were w)
 
--- the one look of `tell_each`
+-- the one look of `screen_wires`
 pub record HasTold (told : Option Faults) (trees : Trees) (feet : List Foot) (rows : List Pins) (was is were are : List Bool) : Type 0 where
   pub look : IsLook told trees.shape (closes trees feet) rows
   pub marks : HasMarked trees feet rows was is were are
 
 -- the pins at which a hang ends: p over its first crosspoint, q over its second
-abbrev pub pin_p : Trees → Hang → ℕ
+abbrev pub pin_p : Trees → WireTest → ℕ
 pin_p trees h = pin_at trees (over_of h)
 
-abbrev pub pin_q : Trees → Hang → ℕ
+abbrev pub pin_q : Trees → WireTest → ℕ
 pin_q trees h = pin_at trees (over_of (turned h))
 
 -- some q reads 1 with nothing driven, and 0 with its p driven
-abbrev pub some_answers : Trees → List Hang → List Pins → Bool
+abbrev pub some_answers : Trees → List WireTest → List Pins → Bool
 some_answers trees hs rows = list_any (λ h. read_free rows (pin_q trees h) && not (read_under rows (pin_p trees h) (pin_q trees h))) hs
 
 -- from this pin, of a hang of this wire, parts the p of each other hang
-abbrev pub others_part_from : Trees → List Hang → List Pins → ℕ → ℕ → Bool
+abbrev pub others_part_from : Trees → List WireTest → List Pins → ℕ → ℕ → Bool
 others_part_from trees hs rows w q = list_all (λ o. (o.wire.0 == w) || parts rows (pin_p trees o) q) hs
 
 -- The first crosspoint of a hang is shown where q reads otherwise without the first ones, while p alone is driven, and where the p of
 -- each other hang parts from this q.
-abbrev pub is_shown : Trees → List Hang → List Pins → List Pins → Hang → Bool
+abbrev pub is_shown : Trees → List WireTest → List Pins → List Pins → WireTest → Bool
 is_shown trees hs rows without h =
     differ (read_under rows (pin_p trees h) (pin_q trees h)) (read_under without (pin_p trees h) (pin_q trees h))
     && others_part_from trees hs rows h.wire.0 (pin_q trees h)
 
 -- the feet over first crosspoints that are shown
-abbrev pub shown : Trees → List Hang → List Pins → List Pins → List Foot
+abbrev pub shown : Trees → List WireTest → List Pins → List Pins → List Foot
 shown trees hs rows without = overs (filter (is_shown trees hs rows without) hs)
 
 -- a wire hangs on a pin that parts from this one, over the forest or a foot
@@ -199,7 +199,7 @@ seen_on trees feet rows = record nothing {
 
 -- The second and third look: in one the second crosspoints alone are closed beside the forest, in the other the first ones. The feet
 -- over second crosspoints that are shown are seen in the former, the others in the latter.
-pub record HasHungOn (told : Option Faults) (trees : Trees) (hs : List Hang) (rows : List Pins) (old new : Kept)
+pub record HasHungOn (told : Option Faults) (trees : Trees) (hs : List WireTest) (rows : List Pins) (old new : Kept)
     (was is were are : List Bool) : Type 0 where
   pub without_over : List Pins
   pub over_look : IsLook told trees.shape (closes trees (others hs)) without_over
@@ -213,9 +213,9 @@ pub record HasHungOn (told : Option Faults) (trees : Trees) (hs : List Hang) (ro
   pub first_marks : HasMarked trees (others hs) without_over was some were few
   pub second_marks : HasMarked trees (overs hs) without_other some is few are
 
--- What `hang_each` leaves, where the rig counted so many loads before and after: where no pin answers in the first look, all as it was,
+-- What `test_wires` leaves, where the rig counted so many loads before and after: where no pin answers in the first look, all as it was,
 -- and no other look is made.
-pub data HasTried (told : Option Faults) (trees : Trees) (hs : List Hang) (before after : ℕ) (old new : Kept)
+pub data HasTried (told : Option Faults) (trees : Trees) (hs : List WireTest) (before after : ℕ) (old new : Kept)
     (was is were are : List Bool) : Type 0 where
   silent : (rows : List Pins) → IsLook told trees.shape (closes trees (all_feet hs)) rows →
       some_answers trees hs rows ≡ false → after ≤ before + 1 → new ≡ old → is ≡ was → are ≡ were →

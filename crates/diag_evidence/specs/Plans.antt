@@ -2,7 +2,7 @@
 use Rattle.std.specs.Prelude.{◌≡◌, ℕ, Bool, true, false, Option, List, map}
 use Rattle.machine_meaning.specs.Faults.{Faults}
 use Rattle.machine_meaning.specs.Circuit.{Pins}
-use Rattle.diag_evidence.specs.declared.hangs.Hang.{Hang}
+use Rattle.diag_evidence.specs.declared.hangs.WireTest.{WireTest}
 use Rattle.diag_evidence.specs.declared.hangs.Plan.{Plan}
 use Rattle.diag_evidence.specs.declared.hangs.Views.{Views}
 use Rattle.diag_evidence.specs.Forests.{Trees}
@@ -11,7 +11,7 @@ use Rattle.diag_evidence.specs.Hangs.{Foot, turned, overs, others, all_feet, clo
 use Rattle.diag_evidence.specs.Looks.{IsLook, look_drives}
 
 -- what is closed in the looks, and how they are driven
-pub record IsPlan (hs : List Hang) (pins : ℕ) (plan : Plan) : Type 0 where
+pub record IsPlan (hs : List WireTest) (pins : ℕ) (plan : Plan) : Type 0 where
   pub turned_are : plan.turned.items ≡ map turned hs
   pub overs_are : plan.overs.items ≡ overs hs
   pub others_are : plan.others.items ≡ others hs
@@ -25,14 +25,14 @@ pub record AreViews (pins : ℕ) (views : Views) : Type 0 where
   pub without_other : views.without_other.pins ≡ pins
 
 -- what the looks are: the first, and where some pin answers in it the two others
-pub record HasViewed (told : Option Faults) (trees : Trees) (hs : List Hang) (views : Views) (yes : Bool) : Type 0 where
+pub record HasViewed (told : Option Faults) (trees : Trees) (hs : List WireTest) (views : Views) (yes : Bool) : Type 0 where
   pub all : IsLook told trees.shape (closes trees (all_feet hs)) views.all.rows
   pub answers : some_answers trees hs views.all.rows ≡ yes
   pub without_over : yes ≡ true → IsLook told trees.shape (closes trees (others hs)) views.without_over.rows
   pub without_other : yes ≡ true → IsLook told trees.shape (closes trees (overs hs)) views.without_other.rows
 
 -- what is kept and marked by the looks
-pub record HasLearnt (trees : Trees) (hs : List Hang) (views : Views) (old new : Kept) (was is were are : List Bool) : Type 0 where
+pub record HasLearnt (trees : Trees) (hs : List WireTest) (views : Views) (old new : Kept) (was is were are : List Bool) : Type 0 where
   pub mid : Kept
   pub first : Gains (seen_on trees (shown trees (map turned hs) views.all.rows views.without_other.rows) views.without_over.rows) old mid
   pub second : Gains (seen_on trees (shown trees hs views.all.rows views.without_over.rows) views.without_other.rows) mid new

@@ -5,14 +5,14 @@ ghost use Rattle.machine_config.specs.Tests.{IsDrivenAlone, AreReleased};
 ghost use Rattle.diag_tests.specs.Configs.{IsLoopConfig, IsCellConfig};
 ghost use Rattle.diag_tests.specs.Routes.{IsRoute, cross_numbers};
 
-use crate::Proof;
+use crate::Facts;
 use diag_tests::{Route, close_loop};
 use machine_config::{Config, Setting};
 use machine_shape::{Cross, Table};
 use rig::PinBits;
 use std::alloc::AllocError;
 
-impl Proof {
+impl Facts {
     // A configuration of the machine.
     pub(crate) fn config(&mut self) -> Result<Config, AllocError>
         ensures shape { IfOk result (λ g. g.config.shape ≡ self.old.shape) }

@@ -3,7 +3,7 @@ ghost use Rattle.std.specs.Prelude.{◌≡◌, ◌≢◌, ◌<◌, ◌≤◌, �
 ghost use Rattle.machine_shape.specs.Shape.{Ends, ends_of, pin_wire, crosses_of, wires_of, pins_of};
 ghost use Rattle.diag_evidence.specs.Forests.{IsForest, KeepsForest, CanLay, bare, with_planted, with_laid, pin_of, is_hung};
 
-use crate::Proof;
+use crate::Facts;
 use machine_shape::{Cross, Shape, Wire, the_numbering_is_sound};
 use std::alloc::{AllocError, Global};
 use std::marker::Model;
@@ -119,15 +119,15 @@ impl Forest {
     }
 
     // Whether `lay` would lay this.
-    fn can_lay(&self, proof: &Proof, cross: Cross, from: Wire, to: Wire) -> bool
-        requires shape { self.now.shape ≡ proof.now.shape }
+    fn can_lay(&self, facts: &Facts, cross: Cross, from: Wire, to: Wire) -> bool
+        requires shape { self.now.shape ≡ facts.now.shape }
         requires cross { cross.0 < crosses_of self.now.shape }
         requires from { from.0 < wires_of self.now.shape }
         requires to { to.0 < wires_of self.now.shape }
-        ensures yes { IsTrue result → CanLay proof.now self.now cross.0 from.0 to.0 }
-        ensures no { result ≡ false → CanLay proof.now self.now cross.0 from.0 to.0 → ⊥ }
+        ensures yes { IsTrue result → CanLay facts.now self.now cross.0 from.0 to.0 }
+        ensures no { result ≡ false → CanLay facts.now self.now cross.0 from.0 to.0 → ⊥ }
     {
-        if !proof.keeps_cross(cross) {
+        if !facts.keeps_cross(cross) {
             return false;
         }
         if !are_ends(self.shape, cross, from, to) {
@@ -147,23 +147,23 @@ impl Forest {
     /// or is a pin of the machine. After a refusal nothing has changed.
     pub fn lay(
         &mut self,
-        proof: &Proof,
+        facts: &Facts,
         cross: Cross,
         from: Wire,
         to: Wire,
     ) -> Result<bool, AllocError>
-        requires shape { self.old.shape ≡ proof.now.shape }
+        requires shape { self.old.shape ≡ facts.now.shape }
         requires cross { cross.0 < crosses_of self.old.shape }
         requires from { from.0 < wires_of self.old.shape }
         requires to { to.0 < wires_of self.old.shape }
-        ensures laid { IfOk result (λ yes. IsTrue yes → CanLay proof.now self.old cross.0 from.0 to.0
+        ensures laid { IfOk result (λ yes. IsTrue yes → CanLay facts.now self.old cross.0 from.0 to.0
             × (self.new ≡ with_laid self.old cross from.0 to.0)) }
-        ensures no { IfOk result (λ yes. yes ≡ false → (CanLay proof.now self.old cross.0 from.0 to.0 → ⊥) × (self.new ≡ self.old)) }
+        ensures no { IfOk result (λ yes. yes ≡ false → (CanLay facts.now self.old cross.0 from.0 to.0 → ⊥) × (self.new ≡ self.old)) }
         ensures refused { OnErr result (self.new ≡ self.old) }
-        ensures keeps { KeepsForest proof.now self.old → KeepsForest proof.now self.new }
+        ensures keeps { KeepsForest facts.now self.old → KeepsForest facts.now self.new }
         ensures shape { self.new.shape ≡ self.old.shape }
     {
-        if !self.can_lay(proof, cross, from, to) {
+        if !self.can_lay(facts, cross, from, to) {
             return Ok(false);
         }
         self.crosses.push(cross)?;

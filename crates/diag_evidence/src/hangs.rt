@@ -13,7 +13,7 @@ ghost use Rattle.diag_evidence.specs.Plans.{IsPlan, AreViews, HasViewed, HasLear
 
 use crate::feet::{mark_unfit, pin_at};
 use crate::looks::look_drives;
-use crate::{Forest, Looks, Proof};
+use crate::{Facts, Forest, Looks};
 use base_bits::BitSet;
 use machine_shape::{Cross, Shape, Wire};
 use rig::{PinBits, Rig, RigFail};
@@ -21,7 +21,7 @@ use std::alloc::{AllocError, Global};
 
 /// A wire under test, with two crosspoints from it to wires that hang on different pins.
 #[derive(Clone, Copy, Debug, PartialEq, Eq)]
-pub struct Hang {
+pub struct WireTest {
     pub wire: Wire,
     pub over: Cross,
     pub other: Cross,
@@ -31,7 +31,7 @@ pub struct Hang {
 #[derive(Drop)]
 struct Plan {
     // The hangs whose crosspoints have changed places.
-    turned: Vec<Hang>,
+    turned: Vec<WireTest>,
     overs: Vec<(Wire, Cross)>,
     others: Vec<(Wire, Cross)>,
     all: Vec<(Wire, Cross)>,
@@ -47,12 +47,12 @@ struct Views {
 }
 
 // The hangs whose crosspoints have changed places.
-fn turned(alloc: Global, hangs: &[Hang]) -> Result<Vec<Hang>, AllocError>
+fn turned(alloc: Global, hangs: &[WireTest]) -> Result<Vec<WireTest>, AllocError>
     ensures { IfOk result (λ v. v.items ≡ map turned hangs.now) }
 {
     let mut turned = Vec::new(alloc);
     'hangs: for k in 0..hangs.len() {
-        turned.push(Hang {
+        turned.push(WireTest {
             wire: hangs[k].wire,
             over: hangs[k].other,
             other: hangs[k].over,
@@ -62,7 +62,7 @@ fn turned(alloc: Global, hangs: &[Hang]) -> Result<Vec<Hang>, AllocError>
 }
 
 // Adds the feet over the first crosspoints of hangs.
-fn add_overs(feet: &mut Vec<(Wire, Cross)>, hangs: &[Hang]) -> Result<(), AllocError>
+fn add_overs(feet: &mut Vec<(Wire, Cross)>, hangs: &[WireTest]) -> Result<(), AllocError>
     ensures { OnOk result (feet.new.items ≡ feet.old.items ++ overs hangs.now) }
 {
     'hangs: for k in 0..hangs.len() {
@@ -72,7 +72,7 @@ fn add_overs(feet: &mut Vec<(Wire, Cross)>, hangs: &[Hang]) -> Result<(), AllocE
 }
 
 // The feet over the first crosspoints of hangs.
-fn overs(alloc: Global, hangs: &[Hang]) -> Result<Vec<(Wire, Cross)>, AllocError>
+fn overs(alloc: Global, hangs: &[WireTest]) -> Result<Vec<(Wire, Cross)>, AllocError>
     ensures { IfOk result (λ feet. feet.items ≡ overs hangs.now) }
 {
     let mut feet = Vec::new(alloc);
@@ -81,7 +81,7 @@ fn overs(alloc: Global, hangs: &[Hang]) -> Result<Vec<(Wire, Cross)>, AllocError
 }
 
 // What the looks of some hangs close, and how they are driven.
-fn make_plan(alloc: Global, hangs: &[Hang], pins: u32) -> Result<Plan, AllocError>
+fn make_plan(alloc: Global, hangs: &[WireTest], pins: u32) -> Result<Plan, AllocError>
     ensures { IfOk result (IsPlan hangs.now pins) }
 {
     let turned = turned(alloc, hangs)?;
@@ -108,7 +108,7 @@ fn make_views(alloc: Global, shape: &Shape) -> Result<Views, AllocError>
 }
 
 // Whether some q reads 1 with nothing driven, and 0 with its p driven.
-fn some_answers(forest: &Forest, hangs: &[Hang], reads: &Looks) -> bool
+fn some_answers(forest: &Forest, hangs: &[WireTest], reads: &Looks) -> bool
     requires over { All (λ h. IsFoot forest.now (over_of h)) hangs.now }
     requires other { All (λ h. IsFoot forest.now (over_of (turned h))) hangs.now }
     requires reads { reads.now.pins ≡ pins_of forest.now.shape }
@@ -129,7 +129,7 @@ fn some_answers(forest: &Forest, hangs: &[Hang], reads: &Looks) -> bool
 }
 
 // Whether from this q the p of each other hang parts.
-fn others_part_from(forest: &Forest, hangs: &[Hang], reads: &Looks, wire: Wire, q: u32) -> bool
+fn others_part_from(forest: &Forest, hangs: &[WireTest], reads: &Looks, wire: Wire, q: u32) -> bool
     requires over { All (λ h. IsFoot forest.now (over_of h)) hangs.now }
     requires reads { reads.now.pins ≡ pins_of forest.now.shape }
     requires q { q < reads.now.pins }
@@ -148,7 +148,13 @@ fn others_part_from(forest: &Forest, hangs: &[Hang], reads: &Looks, wire: Wire, 
 }
 
 // Whether the first crosspoint of a hang is shown.
-fn is_shown(forest: &Forest, hangs: &[Hang], reads: &Looks, without: &Looks, hang: Hang) -> bool
+fn is_shown(
+    forest: &Forest,
+    hangs: &[WireTest],
+    reads: &Looks,
+    without: &Looks,
+    hang: WireTest,
+) -> bool
     requires over { All (λ h. IsFoot forest.now (over_of h)) hangs.now }
     requires foot { IsFoot forest.now (over_of hang) }
     requires other { IsFoot forest.now (over_of (turned hang)) }
@@ -168,7 +174,7 @@ fn is_shown(forest: &Forest, hangs: &[Hang], reads: &Looks, without: &Looks, han
 fn shown(
     alloc: Global,
     forest: &Forest,
-    hangs: &[Hang],
+    hangs: &[WireTest],
     reads: &Looks,
     without: &Looks,
 ) -> Result<Vec<(Wire, Cross)>, AllocError>
@@ -189,13 +195,13 @@ fn shown(
     Ok(feet)
 }
 
-impl Proof {
+impl Facts {
     // Takes the three looks, or the first alone: false where in that no q answers its p.
     fn view(
         &mut self,
         rig: &mut Box<dyn Rig>,
         forest: &Forest,
-        hangs: &[Hang],
+        hangs: &[WireTest],
         plan: &Plan,
         views: &mut Views,
     ) -> Result<bool, RigFail>
@@ -238,7 +244,7 @@ impl Proof {
     fn learn_hung(
         &mut self,
         forest: &Forest,
-        hangs: &[Hang],
+        hangs: &[WireTest],
         plan: &Plan,
         views: &Views,
         unfit: &mut BitSet,
@@ -289,11 +295,11 @@ impl Proof {
     /// # Errors
     ///
     /// `Failed` where a call of the rig failed, `Memory` where memory was wanting.
-    pub fn hang_each(
+    pub fn test_wires(
         &mut self,
         rig: &mut Box<dyn Rig>,
         forest: &Forest,
-        hangs: &[Hang],
+        hangs: &[WireTest],
         unfit: &mut BitSet,
         unclear: &mut BitSet,
     ) -> Result<(), RigFail>

@@ -39,7 +39,7 @@ pub fn tests_by_lists_pass()
         ((y : ℕ) → among right.crosses y ≡ true → keeps_cross k y ≡ true) →
         among ties x ≡ true → IsDrivenAlone drive left.pin → CrossPasses told g x drive right.pin yes →
         LoopPasses told k left right ties x yes }
-    ensures swing { (told : Option Faults) (m : Shape) (g : Configuration) (r : Walk) (low high : Pins) (yes : Bool) →
+    ensures test_stuck { (told : Option Faults) (m : Shape) (g : Configuration) (r : Walk) (low high : Pins) (yes : Bool) →
         IsLoopConfig m r r [] g → IsRoute m r → IsDrivenAlone low r.pin → AreReleased high → SwingPasses told g low high r.pin yes →
         RoutePasses told m r yes }
     ensures apart { (told : Option Faults) (m : Shape) (g : Configuration) (left right : Walk) (drive : Pins) (yes : Bool) →

@@ -11,7 +11,7 @@ ghost use Rattle.diag_evidence.specs.Leads.{IsLead, IsPathTest, HasLed, MarksStu
 ghost use Rattle.diag_evidence.specs.Leads.{is_only_unkept, held_up_at, led_over, these_crosses};
 ghost use Rattle.diag_evidence.specs.Readings.{HasCycled, WantsBefore};
 
-use crate::Proof;
+use crate::Facts;
 use crate::readings::read_all;
 use base_bits::BitSet;
 use diag_tests::Route;
@@ -26,7 +26,7 @@ pub struct Lead {
     pub to: u32,
 }
 
-impl Proof {
+impl Facts {
     // The one crosspoint of a route that isn't kept, if all others are.
     fn only_unkept(&self, route: &Route) -> Option<Cross>
         requires { IsRoute self.now.shape route.now }
@@ -99,7 +99,7 @@ impl Proof {
     /// # Errors
     ///
     /// `Failed` where a call of the rig failed, `Memory` where memory was wanting.
-    pub fn lead_each(
+    pub fn test_paths(
         &mut self,
         rig: &mut Box<dyn Rig>,
         config: &Config,

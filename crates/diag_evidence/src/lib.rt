@@ -8,19 +8,19 @@
 //! otherwise than each of the others), and then alone keeps its fact, and no other (`exact`, `gains`, `same`, `refused`). What
 //! was kept stays kept, and where the rig tells its faults, what is kept stays true of them, whatever other faults there are;
 //! configurations and the attached machine are left as they were, and the number of loads never falls (`advances`). A toggle
-//! loads at most twice, `swing`, `apart` and `all_apart` once (`loads`); `Failed` comes only where the rig's count rose
+//! loads at most twice, `test_stuck`, `apart` and `all_apart` once (`loads`); `Failed` comes only where the rig's count rose
 //! (`cause`), and after `Memory` no session stands whose readings aren't all made (`wanting`). Each test is bound to answer true
 //! where its wires are as they should be (`passes`; by lists: `laws`). No other crate can add a fact.
 //!
-//! `lead_each` reads once while walks from pins to pins are closed, many of them: the crosspoints of those that lead are kept, and of
+//! `test_paths` reads once while walks from pins to pins are closed, many of them: the crosspoints of those that lead are kept, and of
 //! one that doesn't the only crosspoint that isn't kept is marked (`led`). Where the faults are told, marks stay true (`stuck`).
 //! What it misses the six tests decide, so nothing says that it passes.
 //!
 //! The other bulk tests take looks: loads in which first nothing is driven, and then one pin after the other alone. A forest hangs wires
 //! on pins of the machine, over crosspoints that are kept. `look_each` looks at a forest: wires that hang on pins that swing are kept,
-//! and pairs of those on pins that part (`seen`). `hang_each` hangs further wires on it, over two crosspoints each that aren't known, and
+//! and pairs of those on pins that part (`seen`). `test_wires` hangs further wires on it, over two crosspoints each that aren't known, and
 //! looks at both and at either alone: a crosspoint is kept where its pin changes without it and no other can be felt there, the wire and
-//! its pairs by what the pin of the other one reads (`tried`). A wire that makes a pin read oddly isn't fit, and is marked; `tell_each`
+//! its pairs by what the pin of the other one reads (`tried`). A wire that makes a pin read oddly isn't fit, and is marked; `screen_wires`
 //! marks the same by one look (`told`). Where the faults are told, what is kept stays true and so do marks (`advances`, `unfit`, `unclear`).
 //! `tables_each` reads many tables that hang in a forest through all addresses, in two loads, the second with all bits turned: of each
 //! just the parts that read rightly in both are kept, and just those tables are marked that don't in some cycle (`tabled`). Where the
@@ -29,6 +29,7 @@
 
 mod again;
 mod apart;
+mod facts;
 mod feet;
 mod forest;
 mod hangs;
@@ -36,7 +37,6 @@ pub mod laws;
 mod leads;
 mod looks;
 mod pins;
-mod proof;
 mod readings;
 mod routes;
 mod sheets;
@@ -45,8 +45,8 @@ mod table_rows;
 mod tells;
 mod toggles;
 
+pub use facts::Facts;
 pub use forest::Forest;
-pub use hangs::Hang;
+pub use hangs::WireTest;
 pub use leads::Lead;
 pub use looks::Looks;
-pub use proof::Proof;

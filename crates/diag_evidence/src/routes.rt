@@ -8,20 +8,20 @@ ghost use Rattle.diag_evidence.specs.Kept.{Gains, Advances, these_wires, these_p
 ghost use Rattle.diag_evidence.specs.Readings.{HasCycled, IsReady, TellsSwing, TellsPins, TellsFromAll, SwingPasses, ApartPasses};
 ghost use Rattle.diag_evidence.specs.Readings.{AllApartPasses, WantsBefore, wires_over};
 
-use crate::Proof;
+use crate::Facts;
 use crate::readings::{all_differ, read_all, read_pins, read_twice};
 use diag_tests::Route;
 use machine_config::Config;
 use rig::{PinBits, Rig, RigFail};
 
-impl Proof {
+impl Facts {
     /// Reads the pin of a route under two drives, in one session. True exactly where it reads 0 under one and 1 under the
     /// other, and then all wires of the route are kept.
     ///
     /// # Errors
     ///
     /// `Failed` where a call of the rig failed, `Memory` where memory was wanting.
-    pub fn swing(
+    pub fn test_stuck(
         &mut self,
         rig: &mut Box<dyn Rig>,
         config: &Config,
@@ -60,7 +60,7 @@ impl Proof {
     /// # Errors
     ///
     /// `Failed` where a call of the rig failed, `Memory` where memory was wanting.
-    pub fn apart(
+    pub fn test_short(
         &mut self,
         rig: &mut Box<dyn Rig>,
         config: &Config,

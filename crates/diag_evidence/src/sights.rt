@@ -11,7 +11,7 @@ ghost use Rattle.diag_evidence.specs.Looks.{HasLooked, HasSeen, IsLook, look_dri
 ghost use Rattle.diag_evidence.specs.Readings.{LoadsUpTo, WantsBefore};
 
 use crate::looks::look_drives;
-use crate::{Forest, Looks, Proof};
+use crate::{Facts, Forest, Looks};
 use diag_tests::close_all;
 use machine_config::Config;
 use machine_shape::{Cross, Wire};
@@ -44,7 +44,7 @@ fn close_just(
     close_feet(config, feet)
 }
 
-impl Proof {
+impl Facts {
     // Takes a look while just the crosspoints of a forest and of some feet are closed.
     pub(crate) fn look(
         &mut self,

@@ -12,7 +12,7 @@ ghost use Rattle.diag_evidence.specs.TableRows.{AreTablesOn, HasTabled, MarksWro
 ghost use Rattle.diag_evidence.specs.TableRows.{output_pin, right_parts, shown_in};
 
 use crate::sheets::{CYCLES, Sheet, read_tables, sheet_of, table_at};
-use crate::{Forest, Proof};
+use crate::{Facts, Forest};
 use base_bits::BitSet;
 use machine_config::Setting;
 use machine_shape::Table;
@@ -88,7 +88,7 @@ fn mark_wrong(sheet: &Sheet, forest: &Forest, tables: &[Table], wrong: &mut BitS
     }
 }
 
-impl Proof {
+impl Facts {
     // Keeps the cells of a table in whose cycles a pin reads rightly.
     fn keep_cells(&mut self, sheet: &Sheet, t: Table, pin: u32)
         requires table { t.0 < tables_of self.old.shape }

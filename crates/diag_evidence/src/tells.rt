@@ -11,12 +11,12 @@ ghost use Rattle.diag_evidence.specs.Readings.{WantsBefore};
 
 use crate::feet::mark_unfit;
 use crate::looks::look_drives;
-use crate::{Forest, Looks, Proof};
+use crate::{Facts, Forest, Looks};
 use base_bits::BitSet;
 use machine_shape::{Cross, Wire};
 use rig::{Rig, RigFail};
 
-impl Proof {
+impl Facts {
     /// Takes a look while wires hang on a forest over one crosspoint each. A wire is marked unfit exactly where from the pin at which
     /// its crosspoint ends those of the others part, and this pin reads otherwise than 0 where it is driven, or otherwise than 1 where
     /// nothing is or another pin that hangs; and unclear besides where it reads the same driven as with nothing driven. Nothing is
@@ -25,7 +25,7 @@ impl Proof {
     /// # Errors
     ///
     /// `Failed` where a call of the rig failed, `Memory` where memory was wanting.
-    pub fn tell_each(
+    pub fn screen_wires(
         &mut self,
         rig: &mut Box<dyn Rig>,
         forest: &Forest,

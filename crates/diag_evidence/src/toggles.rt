@@ -8,7 +8,7 @@ ghost use Rattle.rig.specs.Rig.{shape_of};
 ghost use Rattle.diag_evidence.specs.Kept.{Gains, Advances, one_cross, one_cell, one_register};
 ghost use Rattle.diag_evidence.specs.Readings.{CellPasses, CrossPasses, HasCycled, LoadsUpTo, Reads, RegisterPasses, TellsApart, WantsBefore};
 
-use crate::Proof;
+use crate::Facts;
 use crate::readings::read_pin;
 use machine_config::{Config, Setting};
 use machine_shape::{Cross, Table};
@@ -97,7 +97,7 @@ fn read_with(
     bit
 }
 
-impl Proof {
+impl Facts {
     /// Reads a pin once with a closed crosspoint as it is, and once with it open. True exactly where the pin reads
     /// differently, and then the crosspoint is kept. The configuration is left as it was.
     ///

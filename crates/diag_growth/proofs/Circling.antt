@@ -18,7 +18,7 @@ use Rattle.diag_known.specs.Marked.{AreOutside, is_spent, AreMarks, Spends}
 use Rattle.diag_known.specs.declared.field.Field.{Field}
 use Rattle.diag_known.specs.declared.links.Near.{Near}
 use Rattle.diag_known.specs.declared.marks.Marks.{Marks}
-use Rattle.diag_known.specs.declared.step.Step.{Step}
+use Rattle.diag_known.specs.declared.verified_wire.VerifiedWire.{VerifiedWire}
 use Rattle.diag_known.proofs.Counting.{none_has, set_has}
 use Rattle.diag_growth.proofs.Ending.{closed, grows_in}
 use Rattle.diag_growth.proofs.Leaving.{all_later}
@@ -28,7 +28,7 @@ use Rattle.diag_growth.proofs.Stages.{grows_one, grows_then, tried_then}
 use Rattle.diag_growth.proofs.Taken.{takes_most, takes_few}
 
 -- a pin was tried, and is barred
-module _ {told : Option Faults} {k : Kept} {ss : List Step} {s t : Marks} {w : ℕ} (are : AreMarks told k ss s) (low : w < wires_of k.shape) where
+module _ {told : Option Faults} {k : Kept} {ss : List VerifiedWire} {s t : Marks} {w : ℕ} (are : AreMarks told k ss s) (low : w < wires_of k.shape) where
   pub pin_has : t ≡ record s { barred = slice_set s.barred w true } → has_number t.barred w ≡ true
   pin_has marks = ap (λ (u : Marks). has_number u.barred w) marks ∙ set_has s.barred w (subst (λ n. w < n) (sym are.barred) low)
 
@@ -65,7 +65,7 @@ no_number n bits e x on = none_has n x (ap (λ bits. has_number bits x) (sym e) 
 pub first_unspent : {a : Field} {s : Marks} → AreFirst a s → (x : ℕ) → is_spent s x ≡ true → ⊥
 first_unspent {a} {s} first x on = by_three (has_number s.offered x) (has_number s.second x) (has_number s.between x) on (no_number _ _ first.offered x) (no_number _ _ first.second x) (no_number _ _ first.between x)
 
-pub first_marks : {told : Option Faults} {k : Kept} {a : Field} {near : List Near} {ss : List Step} {s : Marks} → IsFieldOf k.shape a → AreFirst a s → AreAllMarks told k near ss s
+pub first_marks : {told : Option Faults} {k : Kept} {a : Field} {near : List Near} {ss : List VerifiedWire} {s : Marks} → IsFieldOf k.shape a → AreFirst a s → AreAllMarks told k near ss s
 first_marks {k = k} {a = a} field first = record {
   are = record {
     barred = first.len ∙ field.wires;
@@ -83,11 +83,11 @@ first_marks {k = k} {a = a} field first = record {
     as_long e = ap length e ∙ length-replicate (length a.crosses) false ∙ field.crosses
 
 -- the same number of known wires
-pub grown_at : {told : Option Faults} {k : Kept} {near : List Near} {ss : List Step} {barred : List Bool} {m n : ℕ} → m ≡ n → IsGrown told k near ss barred m → IsGrown told k near ss barred n
+pub grown_at : {told : Option Faults} {k : Kept} {near : List Near} {ss : List VerifiedWire} {barred : List Bool} {m n : ℕ} → m ≡ n → IsGrown told k near ss barred m → IsGrown told k near ss barred n
 grown_at {told} {k} {near} {ss} {barred} same grown = subst (IsGrown told k near ss barred) same grown
 
 -- nothing was looked at so far
-pub grown_none : {told : Option Faults} {k : Kept} {near : List Near} {ss : List Step} {barred : List Bool} → IsGrown told k near ss barred 0
+pub grown_none : {told : Option Faults} {k : Kept} {near : List Near} {ss : List VerifiedWire} {barred : List Bool} → IsGrown told k near ss barred 0
 grown_none = record {
   between = λ x u w links differ b c. absurd (let e = b.early in let no : ⊥ = omega (arith, e) in no);
   seconds = λ w x y u v links also differ b c. absurd (let e = b.early in let no : ⊥ = omega (arith, e) in no);
@@ -128,7 +128,7 @@ growing_next {told} {j} {k} {l} {a} {near} {old} {known} {new} {now} {next} {bef
 }
   where
     later : (w : ℕ) → HasWire known.steps w ⊎ (has_number now.barred w ≡ true) → HasWire new.steps w ⊎ (has_number next.barred w ≡ true)
-    later w (inl has) = inl (subst (λ (ss : List Step). HasWire ss w) (sym step.steps) (has_later step.more has))
+    later w (inl has) = inl (subst (λ (ss : List VerifiedWire). HasWire ss w) (sym step.steps) (has_later step.more has))
     later w (inr on) = inr (step.stays.stays w on)
 
     by_place : (i : ℕ) → i < n + 1 → Dec (i ≡ n) → HasWire new.steps (pin_wire k.shape i) ⊎ (has_number next.barred (pin_wire k.shape i) ≡ true)
@@ -140,7 +140,7 @@ pub growing_closed : {told : Option Faults} {j k : Kept} {a : Field} {near : Lis
 growing_closed field tree meetings links le g = closed field tree meetings links g.outside g.tried g.grown (λ i less. g.pins i (omega (arith, less, le)))
 
 -- what holds at every end
-pub grows_nothing : {a : Field} (ss : List Step) → GrowsIn a ss ss
+pub grows_nothing : {a : Field} (ss : List VerifiedWire) → GrowsIn a ss ss
 grows_nothing ss = record { stays = λ w has. has; within = λ w has. inl has }
 
 pub growing_in : {told : Option Faults} {j k l : Kept} {a : Field} {near : List Near} {old known new : KnownWires} {now : Marks} {next : List Bool} {before mid n : ℕ} → IsGrowing told j k a near old known now before mid n →

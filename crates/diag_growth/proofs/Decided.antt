@@ -3,9 +3,9 @@ use Rattle.std.proofs.Common.{◌≡◌, ◌⊎◌, ℕ, zero, suc, Some, List, 
 use Rattle.std.specs.Prelude.{slice_get}
 use Rattle.std.proofs.lemmas.Bool.{cases_eq}
 use Rattle.diag_known.specs.Known.{HasWire}
-use Rattle.diag_known.specs.declared.step.Step.{Step}
+use Rattle.diag_known.specs.declared.verified_wire.VerifiedWire.{VerifiedWire}
 
-pub known_or : (ss : List Step) (w : ℕ) → HasWire ss w ⊎ (HasWire ss w → ⊥)
+pub known_or : (ss : List VerifiedWire) (w : ℕ) → HasWire ss w ⊎ (HasWire ss w → ⊥)
 known_or [] w = inr (λ h. let e = h.at.here in cc)
 known_or (s ∷ ss) w = by (cases_eq s.wire.0 w) (known_or ss w)
   where
@@ -14,6 +14,6 @@ known_or (s ∷ ss) w = by (cases_eq s.wire.0 w) (known_or ss w)
     by (inr differs) (inl h) = inl (record { place = suc h.place; at = record { step = h.at.step; here = h.at.here; wire = h.at.wire } })
     by (inr differs) (inr none) = inr (λ h. at_place h.place h.at.step h.at.here h.at.wire)
       where
-        at_place : (j : ℕ) (t : Step) → slice_get (s ∷ ss) j ≡ Some t → t.wire.0 ≡ w → ⊥
-        at_place zero t here e = differs (let same : s ≡ t = cc in ap (λ (z : Step). z.wire.0) same ∙ e)
+        at_place : (j : ℕ) (t : VerifiedWire) → slice_get (s ∷ ss) j ≡ Some t → t.wire.0 ≡ w → ⊥
+        at_place zero t here e = differs (let same : s ≡ t = cc in ap (λ (z : VerifiedWire). z.wire.0) same ∙ e)
         at_place (suc j) t here e = none (record { place = j; at = record { step = t; here = here; wire = e } })

@@ -21,7 +21,7 @@ use Rattle.diag_known.specs.Offers.{AreLost}
 use Rattle.diag_known.specs.Trials.{IsFit, IsTried}
 use Rattle.diag_known.specs.declared.field.Field.{Field}
 use Rattle.diag_known.specs.declared.links.Near.{Near}
-use Rattle.diag_known.specs.declared.step.Step.{Step}
+use Rattle.diag_known.specs.declared.verified_wire.VerifiedWire.{VerifiedWire}
 use Rattle.diag_known.proofs.Counting.{number_within}
 use Rattle.diag_known.proofs.Places.{at_within, has_later}
 
@@ -35,10 +35,10 @@ ends_apart {m} tree meetings x within same = no_line _ _ (meetings.tap x within)
     no_line n k (tap_child c e p) l = tree.no_line_is_port k c (ends_of m x).1 l (subst (λ w. IsPort m c w) same p)
     no_line n k (tap_table t j h b lt e) l = tree.no_table_is_line t j k h lt (subst (IsLine m k) (sym same ∙ e) l)
 
-pub before_all : {ss : List Step} {w : ℕ} → HasWire ss w → IsBefore ss (length ss) w
+pub before_all : {ss : List VerifiedWire} {w : ℕ} → HasWire ss w → IsBefore ss (length ss) w
 before_all h = record { place = h.place; early = at_within h.at; at = h.at }
 
-module _ {told : Option Faults} {k : Kept} {near : List Near} {a : Field} {ss : List Step} {barred now : List Bool} (is_field : IsFieldOf k.shape a) (tree : IsTree k.shape) (meetings : HasMeetings k.shape) (links : AreLinks k.shape a near)
+module _ {told : Option Faults} {k : Kept} {near : List Near} {a : Field} {ss : List VerifiedWire} {barred now : List Bool} (is_field : IsFieldOf k.shape a) (tree : IsTree k.shape) (meetings : HasMeetings k.shape) (links : AreLinks k.shape a near)
     (outside : AreOutside a.wires barred) (g : AreTried told k ss barred now) (grown : IsGrown told k near ss now (length ss))
     (pins : (i : ℕ) → i < pins_of k.shape → HasWire ss (pin_wire k.shape i) ⊎ (has_number now (pin_wire k.shape i) ≡ true)) where
   -- a wire of the field that is barred, and fit, is known

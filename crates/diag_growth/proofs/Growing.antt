@@ -13,7 +13,7 @@ use Rattle.diag_growth.specs.Looks.{IsLooked, StayBarred}
 use Rattle.diag_known.specs.Offers.{AreLost}
 use Rattle.diag_known.specs.Trials.{IsKeptUnlessStuck}
 use Rattle.diag_known.specs.declared.links.Near.{Near}
-use Rattle.diag_known.specs.declared.step.Step.{Step}
+use Rattle.diag_known.specs.declared.verified_wire.VerifiedWire.{VerifiedWire}
 use Rattle.diag_known.proofs.Places.{at_one, has_later}
 use Rattle.diag_known.proofs.Losing.{lost_later, lost_turned, kept_later}
 
@@ -22,23 +22,23 @@ get_old [] ys i x h e = absurd (let no : ⊥ = omega (arith, h) in no)
 get_old (z ∷ xs) ys zero x h e = e
 get_old (z ∷ xs) ys (suc i) x h e = get_old xs ys i x (omega (arith, h)) e
 
-pub before_old : {ss : List Step} {n u : ℕ} (ts : List Step) → n ≤ length ss → IsBefore (ss ++ ts) n u → IsBefore ss n u
+pub before_old : {ss : List VerifiedWire} {n u : ℕ} (ts : List VerifiedWire) → n ≤ length ss → IsBefore (ss ++ ts) n u → IsBefore ss n u
 before_old {ss} {n} ts le b = record { place = b.place; early = b.early; at = record { step = b.at.step; here = get_old ss ts b.place b.at.step (let e = b.early in omega (arith, e, le)) b.at.here; wire = b.at.wire } }
 
-second_later : {told : Option Faults} {k l : Kept} {ss : List Step} {old new : List Bool} {w x y : ℕ} (ts : List Step) → IsMore k l → StayBarred old new →
+second_later : {told : Option Faults} {k l : Kept} {ss : List VerifiedWire} {old new : List Bool} {w x y : ℕ} (ts : List VerifiedWire) → IsMore k l → StayBarred old new →
     HasWire ss w ⊎ ((has_number old w ≡ true) ⊎ AreLost told k ss w x y) → HasWire (ss ++ ts) w ⊎ ((has_number new w ≡ true) ⊎ AreLost told l (ss ++ ts) w x y)
 second_later ts more bars (inl h) = inl (has_later ts h)
 second_later {w = w} ts more bars (inr (inl b)) = inr (inl (bars.stays w b))
 second_later ts more bars (inr (inr p)) = inr (inr (lost_later ts more p))
 
-pub grown_later : {told : Option Faults} {k l : Kept} {near : List Near} {ss : List Step} {old new : List Bool} {n : ℕ} (ts : List Step) → IsMore k l → n ≤ length ss → StayBarred old new →
+pub grown_later : {told : Option Faults} {k l : Kept} {near : List Near} {ss : List VerifiedWire} {old new : List Bool} {n : ℕ} (ts : List VerifiedWire) → IsMore k l → n ≤ length ss → StayBarred old new →
     IsGrown told k near ss old n → IsGrown told l near (ss ++ ts) new n
 grown_later ts more le bars g = record {
   between = λ x u w i differ b c. kept_later more (g.between x u w i differ (before_old ts le b) (before_old ts le c));
   seconds = λ w x y u v i j differ b c. second_later ts more bars (g.seconds w x y u v i j differ (before_old ts le b) (before_old ts le c));
 }
 
-pub looked_later : {told : Option Faults} {k l : Kept} {near : List Near} {ss : List Step} {old new : List Bool} {n x w : ℕ} (ts : List Step) → IsMore k l → n ≤ length ss → StayBarred old new →
+pub looked_later : {told : Option Faults} {k l : Kept} {near : List Near} {ss : List VerifiedWire} {old new : List Bool} {n x w : ℕ} (ts : List VerifiedWire) → IsMore k l → n ≤ length ss → StayBarred old new →
     IsLooked told k near ss old n x w → IsLooked told l near (ss ++ ts) new n x w
 looked_later ts more le bars p = record {
   between = λ b. kept_later more (p.between (before_old ts le b));
@@ -46,7 +46,7 @@ looked_later ts more le bars p = record {
 }
 
 -- one known wire further, once each link from it was looked at
-pub grown_next : {told : Option Faults} {k : Kept} {m : Shape} {near : List Near} {ss : List Step} {barred : List Bool} {n at : ℕ} → AreLinked m near → IsAt ss n at → ((x w : ℕ) → Links near x w at → IsLooked told k near ss barred n x w) →
+pub grown_next : {told : Option Faults} {k : Kept} {m : Shape} {near : List Near} {ss : List VerifiedWire} {barred : List Bool} {n at : ℕ} → AreLinked m near → IsAt ss n at → ((x w : ℕ) → Links near x w at → IsLooked told k near ss barred n x w) →
     IsGrown told k near ss barred n → IsGrown told k near ss barred (n + 1)
 grown_next {told} {k} {m} {near} {ss} {barred} {n} {at} linked here all g = record { between = between_next; seconds = seconds_next }
   where

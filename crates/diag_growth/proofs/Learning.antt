@@ -11,7 +11,7 @@ use Rattle.diag_known.specs.Known.{KnownWires, HasWire, IsKnown, Stands, IsGood}
 use Rattle.diag_known.specs.Marked.{AreMarks, OffersOnly}
 use Rattle.diag_known.specs.declared.marks.Marks.{Marks}
 use Rattle.diag_known.specs.declared.offers.Offer.{Offer}
-use Rattle.diag_known.specs.declared.step.Step.{Step}
+use Rattle.diag_known.specs.declared.verified_wire.VerifiedWire.{VerifiedWire}
 use Rattle.diag_known.proofs.Later.{known_later, learnt}
 use Rattle.diag_known.proofs.Places.{get_last}
 use Rattle.diag_known.proofs.Seconds.{offer_still}
@@ -25,16 +25,16 @@ by_result (Err e) a b f g = g b
 pub none_more : {a b : KnownWires} (w : ℕ) → b ≡ a → IsOneMore a b w
 none_more {a} w same = subst (λ known. IsOneMore a known w) (sym same) (record { shape = refl; steps = inl refl })
 
-pub learnt_more : {a b : KnownWires} {s : Step} → IsLearnt a b s → IsOneMore a b s.wire.0
+pub learnt_more : {a b : KnownWires} {s : VerifiedWire} → IsLearnt a b s → IsOneMore a b s.wire.0
 learnt_more {s = s} l = record { shape = l.shape; steps = inr (s, refl, l.steps) }
 
-pub learnt_has : {a b : KnownWires} {s : Step} → IsLearnt a b s → HasWire b.steps s.wire.0
+pub learnt_has : {a b : KnownWires} {s : VerifiedWire} → IsLearnt a b s → HasWire b.steps s.wire.0
 learnt_has {a} {b} {s} l = subst (λ ss. HasWire ss s.wire.0) (sym l.steps) (record { place = length a.steps; at = record { step = s; here = get_last a.steps s; wire = refl } })
 
-pub learnt_known : {k : Kept} {a b : KnownWires} {s : Step} → IsKnown k a → IsGood k a.steps s.wire.0 → Stands k a.steps (length a.steps) s.wire.0 s.stand → IsLearnt a b s → IsKnown k b
+pub learnt_known : {k : Kept} {a b : KnownWires} {s : VerifiedWire} → IsKnown k a → IsGood k a.steps s.wire.0 → Stands k a.steps (length a.steps) s.wire.0 s.stand → IsLearnt a b s → IsKnown k b
 learnt_known is good stands l = learnt is good stands l.shape l.steps
 
-pub learnt_marks : {told : Option Faults} {k l : Kept} {a b : KnownWires} {s : Step} {m : Marks} → IsMore k l → IsLearnt a b s → AreMarks told k a.steps m → AreMarks told l b.steps m
+pub learnt_marks : {told : Option Faults} {k l : Kept} {a b : KnownWires} {s : VerifiedWire} {m : Marks} → IsMore k l → IsLearnt a b s → AreMarks told k a.steps m → AreMarks told l b.steps m
 learnt_marks {told} {k} {l} {a} {b} {s} {m} more p are = subst (λ ss. AreMarks told l ss m) (sym p.steps) (marks_later (s ∷ []) more are)
 
 -- an offer may still be tried after tests

@@ -18,8 +18,8 @@ use Rattle.diag_known.specs.declared.links.Near.{Near}
 use Rattle.diag_growth.specs.declared.look.Look.{Look}
 use Rattle.diag_known.specs.declared.marks.Marks.{Marks}
 use Rattle.diag_known.specs.declared.offers.Offer.{Offer}
-use Rattle.diag_known.specs.declared.step.Foot.{Foot}
-use Rattle.diag_known.specs.declared.step.Step.{Step}
+use Rattle.diag_known.specs.declared.verified_wire.Support.{Support}
+use Rattle.diag_known.specs.declared.verified_wire.VerifiedWire.{VerifiedWire}
 use Rattle.diag_known.proofs.Counting.{set_has}
 use Rattle.diag_growth.proofs.Growing.{before_old}
 use Rattle.diag_growth.proofs.Looking.{look_within, look_ends, looked_barred, looked_lost}
@@ -66,7 +66,7 @@ all_later {told} {k} {l} {near} {a} {b} {s} {t} more g all are only = record { a
     by_old x (inr m) = m
 
 -- a look at a known wire
-pub joins_spent : {told : Option Faults} {k : Kept} (near : List Near) {ss : List Step} {s t : Marks} {x before after : ℕ} → AreMarks told k ss s → x < crosses_of k.shape → IsLinking near x → JoinsAtMost k x s t before after → Spends told k (IsLinking near) s t before after
+pub joins_spent : {told : Option Faults} {k : Kept} (near : List Near) {ss : List VerifiedWire} {s t : Marks} {x before after : ℕ} → AreMarks told k ss s → x < crosses_of k.shape → IsLinking near x → JoinsAtMost k x s t before after → Spends told k (IsLinking near) s t before after
 joins_spent near are within linking (inl same) = spends_none same.0 same.1
 joins_spent near {before = before} {after = after} are within linking (inr one) = spends_between before after are within linking one.fresh one.unmarked one.marks one.loads
 
@@ -89,7 +89,7 @@ looked_tried {s = s} {look = look} is_look of_look fresh low g (barred set tried
     (ap (λ bits. has_number bits look.link.wire.0) set ∙ ap (λ w. has_number (slice_set s.barred w true) look.link.wire.0) of_look.wire ∙ set_has s.barred look.link.wire.0 low)
 looked_tried {old = old} {new = new} is_look of_look fresh low g (lost same none) = looked_lost old new (let h = at_within is_look.at in omega (arith, h)) g.more g.steps fresh of_look none
 
-pub tried_tried : {told : Option Faults} {l : Kept} {ss : List Step} {s t : Marks} {o : Offer} → HasTried told l ss o s t → AreTried told l ss s.barred t.barred
+pub tried_tried : {told : Option Faults} {l : Kept} {ss : List VerifiedWire} {s t : Marks} {o : Offer} → HasTried told l ss o s t → AreTried told l ss s.barred t.barred
 tried_tried (barred set tried) = tried_one set tried
 tried_tried (lost same none) = tried_none same
 
@@ -112,7 +112,7 @@ offered_marks {told} {k} {l} {near} {old} {new} {s} {t} {look} {o} is_look of_lo
     by_own x (inr e) = inr (subst (IsOfferedMark told l near new.steps t.barred) (sym of_look.cross ∙ e) own)
 
 -- its crosspoints are links
-pub offer_links : {near : List Near} {ss : List Step} {l : Look} {o : Offer} → IsLook near ss l → IsOfferOf near ss l o → (x : ℕ) → IsOfOffer o x → IsLinking near x
+pub offer_links : {near : List Near} {ss : List VerifiedWire} {l : Look} {o : Offer} → IsLook near ss l → IsOfferOf near ss l o → (x : ℕ) → IsOfOffer o x → IsLinking near x
 offer_links {near} {l = l} look of_look x (inl e) = subst (IsLinking near) (sym of_look.cross ∙ e) (l.link.wire.0, l.wire.0, look.link)
 offer_links {near} {l = l} {o = o} look of_look x (inr p) =
     subst (IsLinking near) p.so (p.item.wire.0, l.link.wire.0, (of_look.earlier.right p.item (record { place = p.place; here = p.here })).0)
@@ -122,24 +122,24 @@ pub spends_told : {a b : Option Faults} {k : Kept} {these : ℕ → Type 0} {s t
 spends_told {k = k} {these = these} {s = s} {t = t} {before = before} {after = after} e p = subst (λ told. Spends told k these s t before after) e p
 
 -- looks over the links of a wire, one after the other
-pub looks_next : {told : Option Faults} {k l : Kept} {near : List Near} {a b : KnownWires} {x y : List Bool} (place w n : ℕ) (link : Foot) → IsMore k l → Grows l a b x y → place ≤ length a.steps → slice_get (list_at near w) n ≡ Some link →
-    IsLooked told l near b.steps y place link.cross.0 link.wire.0 → ((i : ℕ) (f : Foot) → i < n → slice_get (list_at near w) i ≡ Some f → IsLooked told k near a.steps x place f.cross.0 f.wire.0) →
-    (i : ℕ) (f : Foot) → i < n + 1 → slice_get (list_at near w) i ≡ Some f → IsLooked told l near b.steps y place f.cross.0 f.wire.0
+pub looks_next : {told : Option Faults} {k l : Kept} {near : List Near} {a b : KnownWires} {x y : List Bool} (place w n : ℕ) (link : Support) → IsMore k l → Grows l a b x y → place ≤ length a.steps → slice_get (list_at near w) n ≡ Some link →
+    IsLooked told l near b.steps y place link.cross.0 link.wire.0 → ((i : ℕ) (f : Support) → i < n → slice_get (list_at near w) i ≡ Some f → IsLooked told k near a.steps x place f.cross.0 f.wire.0) →
+    (i : ℕ) (f : Support) → i < n + 1 → slice_get (list_at near w) i ≡ Some f → IsLooked told l near b.steps y place f.cross.0 f.wire.0
 looks_next {told} {k} {l} {near} {a} {b} {x} {y} place w n link more g le here this before i f less at = by_place (ℕ_discrete i n)
   where
     by_place : Dec (i ≡ n) → IsLooked told l near b.steps y place f.cross.0 f.wire.0
-    by_place (yes e) = subst (λ (h : Foot). IsLooked told l near b.steps y place h.cross.0 h.wire.0) (some_same (sym here ∙ ap (slice_get (list_at near w)) (sym e) ∙ at)) this
+    by_place (yes e) = subst (λ (h : Support). IsLooked told l near b.steps y place h.cross.0 h.wire.0) (some_same (sym here ∙ ap (slice_get (list_at near w)) (sym e) ∙ at)) this
     by_place (no other) = looked_on more le g (before i f (omega (arith, less, other)) at)
 
-pub looks_past : {told : Option Faults} {k : Kept} {near : List Near} {ss : List Step} {x : List Bool} (place w n : ℕ) → slice_get (list_at near w) n ≡ None → ((i : ℕ) (f : Foot) → i < n → slice_get (list_at near w) i ≡ Some f → IsLooked told k near ss x place f.cross.0 f.wire.0) →
-    (i : ℕ) (f : Foot) → i < n + 1 → slice_get (list_at near w) i ≡ Some f → IsLooked told k near ss x place f.cross.0 f.wire.0
+pub looks_past : {told : Option Faults} {k : Kept} {near : List Near} {ss : List VerifiedWire} {x : List Bool} (place w n : ℕ) → slice_get (list_at near w) n ≡ None → ((i : ℕ) (f : Support) → i < n → slice_get (list_at near w) i ≡ Some f → IsLooked told k near ss x place f.cross.0 f.wire.0) →
+    (i : ℕ) (f : Support) → i < n + 1 → slice_get (list_at near w) i ≡ Some f → IsLooked told k near ss x place f.cross.0 f.wire.0
 looks_past {told} {k} {near} {ss} {x} place w n none before i f less at = by_place (ℕ_discrete i n)
   where
     by_place : Dec (i ≡ n) → IsLooked told k near ss x place f.cross.0 f.wire.0
-    by_place (yes e) = absurd (let there : ◌≡◌ {A = Option Foot} None (Some f) = sym none ∙ ap (slice_get (list_at near w)) (sym e) ∙ at in cc)
+    by_place (yes e) = absurd (let there : ◌≡◌ {A = Option Support} None (Some f) = sym none ∙ ap (slice_get (list_at near w)) (sym e) ∙ at in cc)
     by_place (no other) = before i f (omega (arith, less, other)) at
 
-pub looks_all : {told : Option Faults} {k : Kept} {near : List Near} {ss : List Step} {x : List Bool} (place w n : ℕ) → length (list_at near w) ≤ n → ((i : ℕ) (f : Foot) → i < n → slice_get (list_at near w) i ≡ Some f → IsLooked told k near ss x place f.cross.0 f.wire.0) →
+pub looks_all : {told : Option Faults} {k : Kept} {near : List Near} {ss : List VerifiedWire} {x : List Bool} (place w n : ℕ) → length (list_at near w) ≤ n → ((i : ℕ) (f : Support) → i < n → slice_get (list_at near w) i ≡ Some f → IsLooked told k near ss x place f.cross.0 f.wire.0) →
     (c v : ℕ) → Links near c v w → IsLooked told k near ss x place c v
 looks_all {told} {k} {near} {ss} {x} place w n le all c v p =
     subst (λ d. IsLooked told k near ss x place d v) p.cross (subst (λ u. IsLooked told k near ss x place p.link.cross.0 u) p.wire (all p.place p.link (let h = slice_get_within (list_at near w) p.place p.link p.here in omega (arith, h, le)) p.here))

@@ -6,7 +6,7 @@ use native.Mathlib.Decide.{ℕ_discrete}
 use Rattle.machine_shape.specs.declared.Wire.{Wire}
 use Rattle.machine_meaning.specs.Circuit.{Pins}
 use Rattle.diag_tests.specs.Routes.{Walk}
-use Rattle.diag_known.specs.declared.step.Foot.{Foot}
+use Rattle.diag_known.specs.declared.verified_wire.Support.{Support}
 use Rattle.diag_known.proofs.Adding.{InFirst}
 use Rattle.diag_known.proofs.Places.{get_before, get_last, some_same}
 use Rattle.machine_shape.specs.Shape.{crosses_of}
@@ -14,18 +14,18 @@ use Rattle.machine_config.specs.Groups.{among}
 use Rattle.diag_evidence.specs.Kept.{Kept}
 use Rattle.diag_known.specs.Offers.{InSome, IsOn}
 use Rattle.diag_growth.specs.Partings.{IsParting}
-use Rattle.diag_known.specs.declared.step.Step.{Step}
+use Rattle.diag_known.specs.declared.verified_wire.VerifiedWire.{VerifiedWire}
 use Rattle.std.proofs.lemmas.Bool.{false≢true}
 
 -- the known ends of links
-pub ends_next : (links : List Foot) (ends new : List Wire) (k : ℕ) (link : Foot) → length ends ≡ k → ((j : ℕ) (a : Foot) → j < k → slice_get links j ≡ Some a → slice_get ends j ≡ Some a.wire) →
-    slice_get links k ≡ Some link → new ≡ ends ++ link.wire ∷ [] → (j : ℕ) (a : Foot) → j < k + 1 → slice_get links j ≡ Some a → slice_get new j ≡ Some a.wire
+pub ends_next : (links : List Support) (ends new : List Wire) (k : ℕ) (link : Support) → length ends ≡ k → ((j : ℕ) (a : Support) → j < k → slice_get links j ≡ Some a → slice_get ends j ≡ Some a.wire) →
+    slice_get links k ≡ Some link → new ≡ ends ++ link.wire ∷ [] → (j : ℕ) (a : Support) → j < k + 1 → slice_get links j ≡ Some a → slice_get new j ≡ Some a.wire
 ends_next links ends new k link len before here pushed j a less at = by_place (ℕ_discrete j k)
   where
     by_place : Dec (j ≡ k) → slice_get new j ≡ Some a.wire
     by_place (yes e) =
         let same : link ≡ a = some_same (sym here ∙ ap (slice_get links) (sym e) ∙ at) in
-        ap (λ (ws : List Wire). slice_get ws j) pushed ∙ ap (slice_get (ends ++ link.wire ∷ [])) (e ∙ sym len) ∙ get_last ends link.wire ∙ ap (λ (f : Foot). Some f.wire) same
+        ap (λ (ws : List Wire). slice_get ws j) pushed ∙ ap (slice_get (ends ++ link.wire ∷ [])) (e ∙ sym len) ∙ get_last ends link.wire ∙ ap (λ (f : Support). Some f.wire) same
     by_place (no n) = ap (λ (ws : List Wire). slice_get ws j) pushed ∙ get_before ends (link.wire ∷ []) j a.wire (before j a (omega (arith, less, n)) at)
 
 -- the pins of routes, driven 0 one after the other
@@ -53,7 +53,7 @@ module _ (routes : List Walk) (drive new : Pins) (k : ℕ) (route : Walk) (here 
           record { place = q.place; early = (let e = q.early in omega (arith, e)); item = q.item; here = q.here; so = q.so }
 
 -- the crosspoints that a parting closes are of the machine
-pub parting_within : {k : Kept} {ss : List Step} {w : ℕ} {q : Walk} {routes : List Walk} {ties : List ℕ} → IsParting k ss w q routes ties → (x : ℕ) → among ties x ≡ true → x < crosses_of k.shape
+pub parting_within : {k : Kept} {ss : List VerifiedWire} {w : ℕ} {q : Walk} {routes : List Walk} {ties : List ℕ} → IsParting k ss w q routes ties → (x : ℕ) → among ties x ≡ true → x < crosses_of k.shape
 parting_within {k} {ss} {w} {q} {routes} {ties} h x on = from_new (h.laid.only x on)
   where
     from_new : (false ≡ true) ⊎ InSome routes IsOn x → x < crosses_of k.shape

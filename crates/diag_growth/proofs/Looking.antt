@@ -18,23 +18,23 @@ use Rattle.diag_known.specs.Trials.{IsKeptUnlessStuck}
 use Rattle.diag_known.specs.declared.links.Near.{Near}
 use Rattle.diag_growth.specs.declared.look.Look.{Look}
 use Rattle.diag_known.specs.declared.offers.Offer.{Offer}
-use Rattle.diag_known.specs.declared.step.Foot.{Foot}
-use Rattle.diag_known.specs.declared.step.Step.{Step}
+use Rattle.diag_known.specs.declared.verified_wire.Support.{Support}
+use Rattle.diag_known.specs.declared.verified_wire.VerifiedWire.{VerifiedWire}
 use Rattle.diag_growth.proofs.Growing.{before_old}
 use Rattle.diag_known.proofs.Places.{get_before, get_last, get_pushed, some_same, one_place, before_has}
 
 -- links that came before
-pub takes_none : {ss : List Step} {place : ℕ} {link : Foot} (others : List Foot) → (IsBefore ss place link.wire.0 → ⊥) → TakesEarlier ss place link others others
+pub takes_none : {ss : List VerifiedWire} {place : ℕ} {link : Support} (others : List Support) → (IsBefore ss place link.wire.0 → ⊥) → TakesEarlier ss place link others others
 takes_none others none = record { stays = λ a p. p; has = λ b. absurd (none b); only = λ a p. inl p }
 
-pub takes_one : {ss : List Step} {place : ℕ} {link : Foot} {new : List Foot} (others : List Foot) → IsBefore ss place link.wire.0 → new ≡ others ++ link ∷ [] → TakesEarlier ss place link others new
+pub takes_one : {ss : List VerifiedWire} {place : ℕ} {link : Support} {new : List Support} (others : List Support) → IsBefore ss place link.wire.0 → new ≡ others ++ link ∷ [] → TakesEarlier ss place link others new
 takes_one {ss} {place} {link} {new} others before e = record {
   stays = λ a p. record { place = p.place; here = subst (λ fs. slice_get fs p.place ≡ Some a) (sym e) (get_before others (link ∷ []) p.place a p.here) };
   has = λ b. record { place = length others; here = subst (λ fs. slice_get fs (length others) ≡ Some link) (sym e) (get_last others link) };
   only = λ a p. by_place a p (get_pushed others link p.place a (subst (λ fs. slice_get fs p.place ≡ Some a) e p.here));
 }
   where
-    by_place : (a : Foot) (p : IsPlaced new a) → (slice_get others p.place ≡ Some a) ⊎ ((p.place ≡ length others) × (link ≡ a)) → IsPlaced others a ⊎ ((a ≡ link) × IsBefore ss place link.wire.0)
+    by_place : (a : Support) (p : IsPlaced new a) → (slice_get others p.place ≡ Some a) ⊎ ((p.place ≡ length others) × (link ≡ a)) → IsPlaced others a ⊎ ((a ≡ link) × IsBefore ss place link.wire.0)
     by_place a p (inl h) = inl (record { place = p.place; here = h })
     by_place a p (inr h) = inr (sym h.1, before)
 
@@ -42,40 +42,40 @@ takes_one {ss} {place} {link} {new} others before e = record {
 pub not_earlier : {k : Kept} {known : KnownWires} → IsKnown k known → {i place w : ℕ} → IsAt known.steps i w → place ≤ i → IsBefore known.steps place w → ⊥
 not_earlier is {i} {place} at le b = let same : b.place ≡ i = one_place is b.at at in let early = b.early in let no : ⊥ = omega (arith, same, early, le) in no
 
-pub earlier_none : (near : List Near) (ss : List Step) (place w : ℕ) → AreEarlierUpTo near ss place w [] 0
+pub earlier_none : (near : List Near) (ss : List VerifiedWire) (place w : ℕ) → AreEarlierUpTo near ss place w [] 0
 earlier_none near ss place w = record { right = λ b p. absurd (none p); whole = λ j b less at before. absurd (let no : ⊥ = omega (arith, less) in no) }
   where
-    none : {b : Foot} → IsPlaced [] b → ⊥
-    none {b} p = let e : ◌≡◌ {A = Option Foot} None (Some b) = p.here in cc
+    none : {b : Support} → IsPlaced [] b → ⊥
+    none {b} p = let e : ◌≡◌ {A = Option Support} None (Some b) = p.here in cc
 
-pub earlier_past : {near : List Near} {ss : List Step} {place w n : ℕ} {others : List Foot} → slice_get (list_at near w) n ≡ None → AreEarlierUpTo near ss place w others n → AreEarlierUpTo near ss place w others (n + 1)
+pub earlier_past : {near : List Near} {ss : List VerifiedWire} {place w n : ℕ} {others : List Support} → slice_get (list_at near w) n ≡ None → AreEarlierUpTo near ss place w others n → AreEarlierUpTo near ss place w others (n + 1)
 earlier_past {near} {ss} {place} {w} {n} {others} none up = record { right = up.right; whole = λ j b less at before. by_place j b less at before (ℕ_discrete j n) }
   where
-    by_place : (j : ℕ) (b : Foot) → j < n + 1 → slice_get (list_at near w) j ≡ Some b → IsBefore ss place b.wire.0 → Dec (j ≡ n) → IsPlaced others b
+    by_place : (j : ℕ) (b : Support) → j < n + 1 → slice_get (list_at near w) j ≡ Some b → IsBefore ss place b.wire.0 → Dec (j ≡ n) → IsPlaced others b
     by_place j b less at before (yes e) = absurd (let there : None ≡ Some b = sym none ∙ ap (slice_get (list_at near w)) (sym e) ∙ at in cc)
     by_place j b less at before (no other) = up.whole j b (omega (arith, less, other)) at before
 
-pub earlier_next : {near : List Near} {ss : List Step} {place w n : ℕ} {old new : List Foot} {link : Foot} → slice_get (list_at near w) n ≡ Some link → TakesEarlier ss place link old new → AreEarlierUpTo near ss place w old n → AreEarlierUpTo near ss place w new (n + 1)
+pub earlier_next : {near : List Near} {ss : List VerifiedWire} {place w n : ℕ} {old new : List Support} {link : Support} → slice_get (list_at near w) n ≡ Some link → TakesEarlier ss place link old new → AreEarlierUpTo near ss place w old n → AreEarlierUpTo near ss place w new (n + 1)
 earlier_next {near} {ss} {place} {w} {n} {old} {new} {link} here takes up = record {
   right = λ b p. from_new b (takes.only b p);
   whole = λ j b less at before. by_place j b less at before (ℕ_discrete j n);
 }
   where
-    from_new : (b : Foot) → IsPlaced old b ⊎ ((b ≡ link) × IsBefore ss place link.wire.0) → Links near b.cross.0 b.wire.0 w × IsBefore ss place b.wire.0
+    from_new : (b : Support) → IsPlaced old b ⊎ ((b ≡ link) × IsBefore ss place link.wire.0) → Links near b.cross.0 b.wire.0 w × IsBefore ss place b.wire.0
     from_new b (inl p) = up.right b p
-    from_new b (inr h) = subst (λ (f : Foot). Links near f.cross.0 f.wire.0 w × IsBefore ss place f.wire.0) (sym h.0) (record { place = n; link = link; here = here; cross = refl; wire = refl }, h.1)
+    from_new b (inr h) = subst (λ (f : Support). Links near f.cross.0 f.wire.0 w × IsBefore ss place f.wire.0) (sym h.0) (record { place = n; link = link; here = here; cross = refl; wire = refl }, h.1)
 
-    by_place : (j : ℕ) (b : Foot) → j < n + 1 → slice_get (list_at near w) j ≡ Some b → IsBefore ss place b.wire.0 → Dec (j ≡ n) → IsPlaced new b
+    by_place : (j : ℕ) (b : Support) → j < n + 1 → slice_get (list_at near w) j ≡ Some b → IsBefore ss place b.wire.0 → Dec (j ≡ n) → IsPlaced new b
     by_place j b less at before (yes e) =
         let same : link ≡ b = some_same (sym here ∙ ap (slice_get (list_at near w)) (sym e) ∙ at) in
-        subst (IsPlaced new) same (takes.has (subst (λ (f : Foot). IsBefore ss place f.wire.0) (sym same) before))
+        subst (IsPlaced new) same (takes.has (subst (λ (f : Support). IsBefore ss place f.wire.0) (sym same) before))
     by_place j b less at before (no other) = takes.stays b (up.whole j b (omega (arith, less, other)) at before)
 
-pub earlier_all : {near : List Near} {ss : List Step} {place w n : ℕ} {others : List Foot} → length (list_at near w) ≤ n → AreEarlierUpTo near ss place w others n → AreEarlier near ss place w others
+pub earlier_all : {near : List Near} {ss : List VerifiedWire} {place w n : ℕ} {others : List Support} → length (list_at near w) ≤ n → AreEarlierUpTo near ss place w others n → AreEarlier near ss place w others
 earlier_all {near} {ss} {place} {w} {n} {others} le up = record { right = up.right; whole = λ y v leads before. (leads.link, up.whole leads.place leads.link (let h = slice_get_within (list_at near w) leads.place leads.link leads.here in omega (arith, h, le)) leads.here (subst (IsBefore ss place) (sym leads.wire) before), leads.cross) }
 
 -- a link of a wire
-pub link_leads : (near : List Near) (w j : ℕ) (link : Foot) → slice_get (list_at near w) j ≡ Some link → Links near link.cross.0 link.wire.0 w
+pub link_leads : (near : List Near) (w j : ℕ) (link : Support) → slice_get (list_at near w) j ≡ Some link → Links near link.cross.0 link.wire.0 w
 link_leads near w j link here = record { place = j; link = link; here = here; cross = refl; wire = refl }
 
 pub link_wire : {m : Shape} {near : List Near} (x u w : ℕ) → IsNumbered m → AreLinked m near → Links near x u w → u < wires_of m
@@ -113,18 +113,18 @@ module _ {k : Kept} {known : KnownWires} {near : List Near} {l : Look} (is : IsK
   }
 
 -- what a look from a known wire to another known one finds
-pub looked_known : {told : Option Faults} {k : Kept} {near : List Near} {ss : List Step} {barred : List Bool} {n x w : ℕ} → HasWire ss w → (IsBefore ss n w → IsKeptUnlessStuck told k x) → IsLooked told k near ss barred n x w
+pub looked_known : {told : Option Faults} {k : Kept} {near : List Near} {ss : List VerifiedWire} {barred : List Bool} {n x w : ℕ} → HasWire ss w → (IsBefore ss n w → IsKeptUnlessStuck told k x) → IsLooked told k near ss barred n x w
 looked_known has kept = record { between = kept; seconds = λ y v leads before. inl has }
 
 pub kept_already : {told : Option Faults} {k : Kept} {x : ℕ} → keeps_cross k x ≡ true → IsKeptUnlessStuck told k x
 kept_already e = record { at = λ f told holds free. e }
 
 -- .. to one that is barred
-pub looked_barred : {told : Option Faults} {k : Kept} {near : List Near} {ss : List Step} {barred : List Bool} {n x w : ℕ} → (IsBefore ss n w → ⊥) → has_number barred w ≡ true → IsLooked told k near ss barred n x w
+pub looked_barred : {told : Option Faults} {k : Kept} {near : List Near} {ss : List VerifiedWire} {barred : List Bool} {n x w : ℕ} → (IsBefore ss n w → ⊥) → has_number barred w ≡ true → IsLooked told k near ss barred n x w
 looked_barred none on = record { between = λ b. absurd (none b); seconds = λ y v leads before. inr (inl on) }
 
 -- .. to one that isn't known, and has no second foot
-pub looked_lost : {told : Option Faults} {k : Kept} {near : List Near} (old new : KnownWires) {barred : List Bool} {l : Look} {o : Offer} → l.place ≤ length old.steps → (ts : List Step) → new.steps ≡ old.steps ++ ts → ¬ HasWire old.steps l.link.wire.0 →
+pub looked_lost : {told : Option Faults} {k : Kept} {near : List Near} (old new : KnownWires) {barred : List Bool} {l : Look} {o : Offer} → l.place ≤ length old.steps → (ts : List VerifiedWire) → new.steps ≡ old.steps ++ ts → ¬ HasWire old.steps l.link.wire.0 →
     IsOfferOf near old.steps l o → HasNoSecond told k new.steps o → IsLooked told k near new.steps barred l.place l.link.cross.0 l.link.wire.0
 looked_lost {told} {k} {near} old new {barred} {l} {o} le ts steps none of_look lost = record {
   between = λ b. absurd (none (before_has (old_before b)));

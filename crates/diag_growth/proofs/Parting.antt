@@ -29,7 +29,7 @@ use Rattle.diag_growth.specs.Partings.{IsListed, AreLeft, LeavesAt, IsParting, I
 use Rattle.diag_known.specs.Reaches.{IsReached, IsOnWalk}
 use Rattle.diag_known.specs.Trials.{IsFit, IsBad}
 use Rattle.diag_known.specs.Ways.{IsWay, AreWays}
-use Rattle.diag_known.specs.declared.step.Step.{Step}
+use Rattle.diag_known.specs.declared.verified_wire.VerifiedWire.{VerifiedWire}
 use Rattle.diag_known.proofs.Besides.{beside}
 use Rattle.diag_known.proofs.Hung.{over_at, at_over, reached_known, reached_off}
 use Rattle.diag_known.proofs.Passing.{rests_known, known_clear, known_unshorted}
@@ -41,22 +41,22 @@ pub all_of : {X : Type 0} (P : X → Type 0) (xs : List X) → ((j : ℕ) (x : X
 all_of P xs h k d within = h k (slice_index_or xs k d) (slice_get-get_or xs k d within)
 
 -- a wire of a way is its end or known
-pub on_way : {k : Kept} {ss : List Step} {w : ℕ} {q : Walk} → IsWay k ss w q → (P : ℕ → Type 0) → P w → ((u : ℕ) → HasWire ss u → P u) → (u : ℕ) → among q.wires u ≡ true → P u
+pub on_way : {k : Kept} {ss : List VerifiedWire} {w : ℕ} {q : Walk} → IsWay k ss w q → (P : ℕ → Type 0) → P w → ((u : ℕ) → HasWire ss u → P u) → (u : ℕ) → among q.wires u ≡ true → P u
 on_way {w = w} way P one others u on = by_test (u == w) refl
   where
     by_test : (b : Bool) → (u == w) ≡ b → P u
     by_test true e = subst P (sym (grind (arith, nat_tests, e))) one
     by_test false e = others u (rests_known (way.wires u on (grind (arith, nat_tests, e))))
 
-pub end_on : {k : Kept} {ss : List Step} {w : ℕ} {q : Walk} → IsWay k ss w q → among q.wires w ≡ true
+pub end_on : {k : Kept} {ss : List VerifiedWire} {w : ℕ} {q : Walk} → IsWay k ss w q → among q.wires w ≡ true
 end_on {q = q} way = subst (λ u. among q.wires u ≡ true) way.end (LeadsTo-end way.route.leads)
 
 -- a wire that isn't fit stays so
-pub bad_later : {told : Option Faults} {k l : Kept} {ss : List Step} {w : ℕ} → IsMore k l → IsBad told k ss w → IsBad told l ss w
+pub bad_later : {told : Option Faults} {k l : Kept} {ss : List VerifiedWire} {w : ℕ} → IsMore k l → IsBad told k ss w → IsBad told l ss w
 bad_later {ss = ss} {w = w} more b = record { at = λ f told holds fit. b.at f told (holds_earlier more holds) (subst (λ (m : Shape). IsFit m f ss w) more.shape fit) }
 
 -- a swing
-pub swing_kept : {k l : Kept} {ss : List Step} {w : ℕ} {q : Walk} → IsWay k ss w q → Gains (these_wires q.wires) k l → keeps_wire l w ≡ true
+pub swing_kept : {k l : Kept} {ss : List VerifiedWire} {w : ℕ} {q : Walk} → IsWay k ss w q → Gains (these_wires q.wires) k l → keeps_wire l w ≡ true
 swing_kept {k} {l} {ss} {w} {q} way gains = gains.wires w ∙ rw (end_on way) refl
 
 pub swing_bad : {told : Option Faults} {k l : Kept} {known : KnownWires} {w : ℕ} {q : Walk} {answer : Bool} → IsKnown k known → IsWay k known.steps w q → RoutePasses told k.shape q answer → IsMore k l → answer ≡ false → IsBad told l known.steps w
@@ -141,7 +141,7 @@ part_bad {known = known} {w = w} is way h laid driven passes more is_no = record
 }
 
 -- .. where nothing is reached that isn't kept apart
-pub none_left : {k l : Kept} {ss : List Step} {w : ℕ} {q : Walk} {ties : List ℕ} → IsMore k l → IsParting k ss w q [] ties → IsApartBeside l ss w q
+pub none_left : {k l : Kept} {ss : List VerifiedWire} {w : ℕ} {q : Walk} {ties : List ℕ} → IsMore k l → IsParting k ss w q [] ties → IsApartBeside l ss w q
 none_left {k} {l} {ss} {w} more h = record { rs = h.rs; all = h.all; apart = λ u has reached. by_list u reached (h.wanted u has) }
   where
     by_list : (u : ℕ) → IsReached h.rs u → (keeps_pair k w u ≡ true) ⊎ IsListed h.ends u → keeps_pair l w u ≡ true
@@ -156,11 +156,11 @@ good {l = l} {known = known} {w = w} is new ways kept left right = record { kept
     by_side u has (inl r) = left.apart u has r
     by_side u has (inr r) = right.apart u has r
 
-pub apart_later : {k l : Kept} {ss : List Step} {w : ℕ} {q : Walk} → IsMore k l → IsApartBeside k ss w q → IsApartBeside l ss w q
+pub apart_later : {k l : Kept} {ss : List VerifiedWire} {w : ℕ} {q : Walk} → IsMore k l → IsApartBeside k ss w q → IsApartBeside l ss w q
 apart_later {w = w} more a = record { rs = a.rs; all = a.all; apart = λ u has r. more.pairs w u (a.apart u has r) }
 
 -- the known wires that are left, place by place
-pub leaves_next : (k : Kept) {ss : List Step} (w : ℕ) (old new : List Wire) (n : ℕ) → ((u : ℕ) → IsListed old u → IsListed new u) → LeavesAt k ss w new n → ((j : ℕ) → j < n → LeavesAt k ss w old j) → (j : ℕ) → j < n + 1 → LeavesAt k ss w new j
+pub leaves_next : (k : Kept) {ss : List VerifiedWire} (w : ℕ) (old new : List Wire) (n : ℕ) → ((u : ℕ) → IsListed old u → IsListed new u) → LeavesAt k ss w new n → ((j : ℕ) → j < n → LeavesAt k ss w old j) → (j : ℕ) → j < n + 1 → LeavesAt k ss w new j
 leaves_next k {ss} w old new n stays has before j less = by_place (ℕ_discrete j n)
   where
     still : (u : ℕ) → (keeps_pair k w u ≡ true) ⊎ IsListed old u → (keeps_pair k w u ≡ true) ⊎ IsListed new u
@@ -171,5 +171,5 @@ leaves_next k {ss} w old new n stays has before j less = by_place (ℕ_discrete 
     by_place (yes e) = λ u at. has u (subst (λ i. IsAt ss i u) e at)
     by_place (no other) = λ u at. still u (before j (omega (arith, less, other)) u at)
 
-pub leaves_all : (k : Kept) {ss : List Step} (w : ℕ) (ends : List Wire) (n : ℕ) → length ss ≤ n → ((j : ℕ) → j < n → LeavesAt k ss w ends j) → AreLeft k ss w ends
+pub leaves_all : (k : Kept) {ss : List VerifiedWire} (w : ℕ) (ends : List Wire) (n : ℕ) → length ss ≤ n → ((j : ℕ) → j < n → LeavesAt k ss w ends j) → AreLeft k ss w ends
 leaves_all k w ends n le all u has = all has.place (let h = at_within has.at in omega (arith, h, le)) u has.at

@@ -16,14 +16,14 @@ use Rattle.diag_known.specs.Known.{KnownWires, HasWire, IsKnown, IsKeptCrossOf}
 use Rattle.diag_known.specs.Routes.{AreRoutesTo, IsKnownRoute}
 use Rattle.diag_growth.specs.Seating.{IsPlaceFor, IsMeeting, IsPlaceAt, IsPlace, IsWithout}
 use Rattle.diag_growth.specs.declared.seats.Place.{Place}
-use Rattle.diag_known.specs.declared.step.Step.{Step}
+use Rattle.diag_known.specs.declared.verified_wire.VerifiedWire.{VerifiedWire}
 use Rattle.diag_known.proofs.Apart.{known_pair}
 use Rattle.diag_growth.specs.declared.seat.Arm.{Arm}
 use Rattle.diag_growth.specs.declared.seat.Seat.{Seat}
 use Rattle.diag_growth.specs.Seats.{near_wires, far_wires, IsKeptBetween, IsSeat}
 
 -- over its near port and its line a seated table can be tested
-pub seated_place : {k : Kept} {ss without : List Step} {t : ℕ} → ((w : ℕ) → StandsWithout k.shape (HasWire ss) (IsKeptCrossOf k) (hextant_of k.shape t) w → HasWire without w) → (s : IsSeated k.shape (HasWire ss) (IsKeptCrossOf k) t) → IsPlaceAt k ss without t s.near s.line
+pub seated_place : {k : Kept} {ss without : List VerifiedWire} {t : ℕ} → ((w : ℕ) → StandsWithout k.shape (HasWire ss) (IsKeptCrossOf k) (hextant_of k.shape t) w → HasWire without w) → (s : IsSeated k.shape (HasWire ss) (IsKeptCrossOf k) t) → IsPlaceAt k ss without t s.near s.line
 seated_place whole s = record {
   known = (s.out).1;
   output = (s.out).3;
@@ -83,7 +83,7 @@ in_append P (x ∷ xs) ys f g w on = by (λ h. in_append P xs ys h g w) (either 
     by rest (inr e) on = rest (λ v h. f v (or_later (x == v) (among xs v) h)) (let there : among (xs ++ ys) w ≡ true = rw e at on in there)
 
 -- The routes to the two ports, with the line behind the far one, and the arms make a seat.
-module _ {k : Kept} {known : KnownWires} {without : List Step} (is : IsKnown k known) {h : ℕ} (out : IsWithout k.shape known.steps without h) (numbered : IsNumbered k.shape) (tree : IsTree k.shape)
+module _ {k : Kept} {known : KnownWires} {without : List VerifiedWire} (is : IsKnown k known) {h : ℕ} (out : IsWithout k.shape known.steps without h) (numbered : IsNumbered k.shape) (tree : IsTree k.shape)
     (t : Table) (below : t.0 < tables_of k.shape) (in_h : hextant_of k.shape t.0 ≡ h) (pins : (j : ℕ) → j < 7 → HasWire known.steps (table_wire k.shape t.0 j))
     {near line : ℕ} (p : Place) (is_line : IsLine k.shape h line) (place : IsPlace k known.steps without t.0 near line p) {r far longer : Walk}
     (routes : AreRoutesTo k without near p.far.0 r far) (push : Extends k.shape p.to_line.0 far longer) (route : IsRoute k.shape longer) (end : longer.end ≡ line) where
@@ -182,7 +182,7 @@ module _ {k : Kept} {known : KnownWires} {without : List Step} (is : IsKnown k k
         (λ e. differ ((numbered.tables_apart t.0 t.0 i j below below (omega (arith, within)) (omega (arith, also)) e).1));
   }
 
-pub seat_over : {k : Kept} {known : KnownWires} {without : List Step} (t : Table) (p : Place) {r far longer : Walk} → IsKnown k known → IsNumbered k.shape → IsTree k.shape →
+pub seat_over : {k : Kept} {known : KnownWires} {without : List VerifiedWire} (t : Table) (p : Place) {r far longer : Walk} → IsKnown k known → IsNumbered k.shape → IsTree k.shape →
     IsWithout k.shape known.steps without (hextant_of k.shape t.0) → t.0 < tables_of k.shape → ((j : ℕ) → j < 7 → HasWire known.steps (table_wire k.shape t.0 j)) →
     IsPlaceFor k known.steps without t.0 p → AreRoutesTo k without p.near.0 p.far.0 r far → Extends k.shape p.to_line.0 far longer → IsRoute k.shape longer →
     IsSeat k (record { table = t; near = r; far = longer; arms = p.arms; output = p.output })

@@ -11,7 +11,7 @@ use Rattle.machine_meaning.specs.Standing.{Meets}
 use Rattle.diag_evidence.specs.Kept.{Kept, keeps_cross}
 use Rattle.diag_known.specs.Known.{HasWire, IsKeptCrossOf}
 use Rattle.diag_growth.specs.Seating.{IsMeeting, JoinsTaps, IsFreeArm, IsArmTo, AreArmsTo, MissesArm, IsFarPort, IsPlaceAt}
-use Rattle.diag_known.specs.declared.step.Step.{Step}
+use Rattle.diag_known.specs.declared.verified_wire.VerifiedWire.{VerifiedWire}
 use Rattle.diag_known.proofs.Places.{get_pushed}
 use Rattle.diag_growth.specs.declared.seat.Arm.{Arm}
 
@@ -59,7 +59,7 @@ port_there {m} {s} h i w law e node low is =
     subst (IsPort m h) (sym at) (law.port h i node below)
 
 -- an arm over a line that was looked at, or none
-pub arm_there : {k : Kept} {ss : List Step} {h near input beside line : ℕ} {a : Arm} → IsLine k.shape h line → line ≢ beside → JoinsTaps k ss near input a.line.0 → a.line.0 ≡ line → IsMeeting k near a.line.0 a.to_line.0 →
+pub arm_there : {k : Kept} {ss : List VerifiedWire} {h near input beside line : ℕ} {a : Arm} → IsLine k.shape h line → line ≢ beside → JoinsTaps k ss near input a.line.0 → a.line.0 ≡ line → IsMeeting k near a.line.0 a.to_line.0 →
     IsMeeting k input a.line.0 a.to_input.0 → IsArmTo k ss h near input beside a
 arm_there {k} {h = h} {beside = beside} is differs joins same to_line to_input = record {
   free = record { is_line = subst (IsLine k.shape h) (sym same) is; differs = subst (λ l. l ≢ beside) (sym same) differs; joins = joins };
@@ -67,20 +67,20 @@ arm_there {k} {h = h} {beside = beside} is differs joins same to_line to_input =
   to_input = to_input;
 }
 
-pub no_arm_beside : {k : Kept} {ss : List Step} {h near input beside line : ℕ} → line ≡ beside → ¬ IsFreeArm k ss h near input beside line
+pub no_arm_beside : {k : Kept} {ss : List VerifiedWire} {h near input beside line : ℕ} → line ≡ beside → ¬ IsFreeArm k ss h near input beside line
 no_arm_beside e a = a.differs e
 
-pub no_arm_over : {k : Kept} {ss : List Step} {h near input beside line : ℕ} → ¬ JoinsTaps k ss near input line → ¬ IsFreeArm k ss h near input beside line
+pub no_arm_over : {k : Kept} {ss : List VerifiedWire} {h near input beside line : ℕ} → ¬ JoinsTaps k ss near input line → ¬ IsFreeArm k ss h near input beside line
 no_arm_over none a = none a.joins
 
 -- one arm more
-pub arms_first : {k : Kept} {ss : List Step} {t near beside : ℕ} → AreArmsTo k ss t near beside 0 []
+pub arms_first : {k : Kept} {ss : List VerifiedWire} {t near beside : ℕ} → AreArmsTo k ss t near beside 0 []
 arms_first = record { count = refl; each = λ j a here. none here }
   where
     none : {a : Arm} {P : Type 0} → None ≡ Some a → P
     none e = cc
 
-pub arms_next : {k : Kept} {ss : List Step} {t near beside n : ℕ} {arms more : List Arm} {a : Arm} → AreArmsTo k ss t near beside n arms → IsArmTo k ss (hextant_of k.shape t) near (table_wire k.shape t n) beside a → more ≡ arms ++ a ∷ [] →
+pub arms_next : {k : Kept} {ss : List VerifiedWire} {t near beside n : ℕ} {arms more : List Arm} {a : Arm} → AreArmsTo k ss t near beside n arms → IsArmTo k ss (hextant_of k.shape t) near (table_wire k.shape t n) beside a → more ≡ arms ++ a ∷ [] →
     AreArmsTo k ss t near beside (n + 1) more
 arms_next {k} {ss} {t} {near} {beside} {n} {arms} {more} {a} old is push = record {
   count = let longer = ap length push ∙ length_push arms a in let was = old.count in omega (arith, longer, was);
@@ -93,37 +93,37 @@ arms_next {k} {ss} {t} {near} {beside} {n} {arms} {more} {a} old is push = recor
         (subst (IsArmTo k ss (hextant_of k.shape t) near (table_wire k.shape t n) beside) h.1 is)
 
 -- a port that was looked at
-pub no_far_near : {k : Kept} {without : List Step} {h near line far : ℕ} → far ≡ near → ¬ IsFarPort k without h near line far
+pub no_far_near : {k : Kept} {without : List VerifiedWire} {h near line far : ℕ} → far ≡ near → ¬ IsFarPort k without h near line far
 no_far_near e f = f.differs e
 
-pub no_far_out : {k : Kept} {without : List Step} {h near line far : ℕ} → ¬ HasWire without far → ¬ IsFarPort k without h near line far
+pub no_far_out : {k : Kept} {without : List VerifiedWire} {h near line far : ℕ} → ¬ HasWire without far → ¬ IsFarPort k without h near line far
 no_far_out out f = out f.stands
 
-pub no_far_apart : {k : Kept} {without : List Step} {h near line far : ℕ} → ¬ Meets k.shape (IsKeptCrossOf k) far line → ¬ IsFarPort k without h near line far
+pub no_far_apart : {k : Kept} {without : List VerifiedWire} {h near line far : ℕ} → ¬ Meets k.shape (IsKeptCrossOf k) far line → ¬ IsFarPort k without h near line far
 no_far_apart none f = none f.meets
 
-pub far_there : {k : Kept} {without : List Step} {h near line far c : ℕ} → IsPort k.shape h far → far ≢ near → HasWire without far → IsMeeting k far line c → IsFarPort k without h near line far
+pub far_there : {k : Kept} {without : List VerifiedWire} {h near line far c : ℕ} → IsPort k.shape h far → far ≢ near → HasWire without far → IsMeeting k far line c → IsFarPort k without h near line far
 far_there port differs stands meets = record { port = port; differs = differs; stands = stands; meets = it_meets meets }
 
 -- over this near port and this line there is no place
-pub no_place_unknown : {k : Kept} {ss without : List Step} {t near line : ℕ} → ¬ HasWire ss line → ¬ IsPlaceAt k ss without t near line
+pub no_place_unknown : {k : Kept} {ss without : List VerifiedWire} {t near line : ℕ} → ¬ HasWire ss line → ¬ IsPlaceAt k ss without t near line
 no_place_unknown out p = out p.known
 
-pub no_place_output : {k : Kept} {ss without : List Step} {t near line w : ℕ} → w ≡ table_wire k.shape t 6 → ¬ Meets k.shape (IsKeptCrossOf k) w line → ¬ IsPlaceAt k ss without t near line
+pub no_place_output : {k : Kept} {ss without : List VerifiedWire} {t near line w : ℕ} → w ≡ table_wire k.shape t 6 → ¬ Meets k.shape (IsKeptCrossOf k) w line → ¬ IsPlaceAt k ss without t near line
 no_place_output {k} {line = line} e none p = none (subst (λ v. Meets k.shape (IsKeptCrossOf k) v line) (sym e) p.output)
 
-pub no_place_far : {k : Kept} {ss without : List Step} {t near line h : ℕ} → h ≡ hextant_of k.shape t → ((far : ℕ) → ¬ IsFarPort k without h near line far) → ¬ IsPlaceAt k ss without t near line
+pub no_place_far : {k : Kept} {ss without : List VerifiedWire} {t near line h : ℕ} → h ≡ hextant_of k.shape t → ((far : ℕ) → ¬ IsFarPort k without h near line far) → ¬ IsPlaceAt k ss without t near line
 no_place_far {k} {without = without} {near = near} {line = line} e none p = none p.far (subst (λ h. IsFarPort k without h near line p.far) (sym e) p.is_far)
 
-pub no_place_arms : {k : Kept} {ss without : List Step} {t near line : ℕ} → MissesArm k ss t near line → ¬ IsPlaceAt k ss without t near line
+pub no_place_arms : {k : Kept} {ss without : List VerifiedWire} {t near line : ℕ} → MissesArm k ss t near line → ¬ IsPlaceAt k ss without t near line
 no_place_arms misses p = let arm = p.inputs misses.input misses.within in misses.none arm.0 arm.1
 
 -- an arm to the input at a place, and that there is none
-pub arm_of : {k : Kept} {ss : List Step} {near beside h w : ℕ} {a : Arm} (t j : ℕ) → h ≡ hextant_of k.shape t → w ≡ table_wire k.shape t j → IsArmTo k ss h near w beside a →
+pub arm_of : {k : Kept} {ss : List VerifiedWire} {near beside h w : ℕ} {a : Arm} (t j : ℕ) → h ≡ hextant_of k.shape t → w ≡ table_wire k.shape t j → IsArmTo k ss h near w beside a →
     IsArmTo k ss (hextant_of k.shape t) near (table_wire k.shape t j) beside a
 arm_of {k} {ss} {near} {beside} {w = w} {a = a} t j node pin is = subst (λ v. IsArmTo k ss (hextant_of k.shape t) near v beside a) pin (subst (λ n. IsArmTo k ss n near w beside a) node is)
 
-pub misses_at : {k : Kept} {ss : List Step} {t near beside h w : ℕ} (j : ℕ) → j < 6 → h ≡ hextant_of k.shape t → w ≡ table_wire k.shape t j → ((line : ℕ) → ¬ IsFreeArm k ss h near w beside line) → MissesArm k ss t near beside
+pub misses_at : {k : Kept} {ss : List VerifiedWire} {t near beside h w : ℕ} (j : ℕ) → j < 6 → h ≡ hextant_of k.shape t → w ≡ table_wire k.shape t j → ((line : ℕ) → ¬ IsFreeArm k ss h near w beside line) → MissesArm k ss t near beside
 misses_at {k} {ss} {t} {near} {beside} {h} {w} j below node pin none = record {
   input = j;
   within = below;
@@ -131,7 +131,7 @@ misses_at {k} {ss} {t} {near} {beside} {h} {w} j below node pin none = record {
 }
 
 -- what was found by the names that a table's hextant and its output have
-pub far_of : {k : Kept} {without : List Step} {near line far h : ℕ} (t : ℕ) → h ≡ hextant_of k.shape t → IsFarPort k without h near line far → IsFarPort k without (hextant_of k.shape t) near line far
+pub far_of : {k : Kept} {without : List VerifiedWire} {near line far h : ℕ} (t : ℕ) → h ≡ hextant_of k.shape t → IsFarPort k without h near line far → IsFarPort k without (hextant_of k.shape t) near line far
 far_of {k} {without} {near} {line} {far} t node is = subst (λ n. IsFarPort k without n near line far) node is
 
 pub meeting_of : {k : Kept} {line x w : ℕ} (t : ℕ) → w ≡ table_wire k.shape t 6 → IsMeeting k w line x → IsMeeting k (table_wire k.shape t 6) line x

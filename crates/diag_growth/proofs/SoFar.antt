@@ -6,8 +6,8 @@ use Rattle.diag_evidence.specs.Kept.{Kept, Advances}
 use Rattle.diag_known.specs.Known.{KnownWires}
 use Rattle.diag_known.specs.declared.field.Field.{Field}
 use Rattle.diag_known.specs.declared.links.Near.{Near}
-use Rattle.diag_known.specs.declared.step.Foot.{Foot}
-use Rattle.diag_known.specs.declared.step.Step.{Step}
+use Rattle.diag_known.specs.declared.verified_wire.Support.{Support}
+use Rattle.diag_known.specs.declared.verified_wire.VerifiedWire.{VerifiedWire}
 use Rattle.diag_known.specs.Marked.{AreMarks, Spends, SpendsOn}
 use Rattle.diag_known.specs.Offers.{AreLost}
 use Rattle.diag_known.specs.declared.marks.Marks.{Marks}
@@ -34,8 +34,8 @@ pub looked_also : {r s : RigState} {j k : Kept} {near : List Near} {old known : 
 looked_also h next = record { advances = h.advances; grows = h.grows; tried = h.tried; marks = h.marks; spends = h.spends; also = next }
 
 -- the first n other crosspoints of an offer were tried
-pub record HaveTriedOthers (first now : RigState) (j k : Kept) (ss : List Step) (o : Offer) (old new : Marks) (n : ℕ) : Type 0 where
+pub record HaveTriedOthers (first now : RigState) (j k : Kept) (ss : List VerifiedWire) (o : Offer) (old new : Marks) (n : ℕ) : Type 0 where
   pub advances : Advances first now j k
   pub marks : AreMarks first.machine.faults k ss new
   pub spends : SpendsOn first.machine.faults j o old new first.loads now.loads
-  pub lost : (i : ℕ) (a : Foot) → i < n → slice_get o.others.items i ≡ Some a → AreLost first.machine.faults k ss o.wire.0 o.foot.cross.0 a.cross.0
+  pub lost : (i : ℕ) (a : Support) → i < n → slice_get o.others.items i ≡ Some a → AreLost first.machine.faults k ss o.wire.0 o.foot.cross.0 a.cross.0

@@ -12,7 +12,7 @@ use Rattle.diag_known.specs.Known.{KnownWires, HasWire, IsKnown}
 use Rattle.diag_growth.specs.Looks.{IsLooked, StayBarred, AreTried, Grows}
 use Rattle.diag_known.specs.Marked.{BarsAtMost}
 use Rattle.diag_known.specs.declared.links.Near.{Near}
-use Rattle.diag_known.specs.declared.step.Step.{Step}
+use Rattle.diag_known.specs.declared.verified_wire.VerifiedWire.{VerifiedWire}
 use Rattle.diag_known.proofs.Counting.{set_only, set_stays}
 use Rattle.diag_growth.proofs.Growing.{grown_later, looked_later}
 use Rattle.diag_known.proofs.Losing.{tried_later}
@@ -20,17 +20,17 @@ use Rattle.diag_known.proofs.Later.{known_later}
 use Rattle.diag_known.proofs.Places.{get_pushed}
 
 -- what was barred without a cause, and with one
-pub tried_none : {told : Option Faults} {k : Kept} {ss : List Step} {old new : List Bool} → new ≡ old → AreTried told k ss old new
+pub tried_none : {told : Option Faults} {k : Kept} {ss : List VerifiedWire} {old new : List Bool} → new ≡ old → AreTried told k ss old new
 tried_none same = record { tried = λ w on. inl (ap (λ bits. has_number bits w) (sym same) ∙ on) }
 
-pub tried_one : {told : Option Faults} {k : Kept} {ss : List Step} {old new : List Bool} {w : ℕ} → new ≡ slice_set old w true → IsTried told k ss w → AreTried told k ss old new
+pub tried_one : {told : Option Faults} {k : Kept} {ss : List VerifiedWire} {old new : List Bool} {w : ℕ} → new ≡ slice_set old w true → IsTried told k ss w → AreTried told k ss old new
 tried_one {told} {k} {ss} {old} {new} {w} e tried = record { tried = λ v on. by_place v (set_only old w v (ap (λ bits. has_number bits v) (sym e) ∙ on)) }
   where
     by_place : (v : ℕ) → (has_number old v ≡ true) ⊎ (w ≡ v) → (has_number old v ≡ true) ⊎ IsTried told k ss v
     by_place v (inl on) = inl on
     by_place v (inr same) = inr (subst (IsTried told k ss) same tried)
 
-pub tried_then : {told : Option Faults} {k l : Kept} {ss ts : List Step} {x y z : List Bool} (more : List Step) → ts ≡ ss ++ more → IsMore k l → AreTried told k ss x y → AreTried told l ts y z → AreTried told l ts x z
+pub tried_then : {told : Option Faults} {k l : Kept} {ss ts : List VerifiedWire} {x y z : List Bool} (more : List VerifiedWire) → ts ≡ ss ++ more → IsMore k l → AreTried told k ss x y → AreTried told l ts y z → AreTried told l ts x z
 tried_then {told} {k} {l} {ss} {ts} {x} {y} {z} rest e more first second = record { tried = λ w on. by_second w (second.tried w on) }
   where
     by_first : (w : ℕ) → (has_number x w ≡ true) ⊎ IsTried told k ss w → (has_number x w ≡ true) ⊎ IsTried told l ts w
@@ -65,7 +65,7 @@ grows_then {k} {l} {a} {b} {c} {x} {y} {z} g h = record {
   known = h.known;
   shape = h.shape ∙ g.shape;
   more = g.more ++ h.more;
-  steps = h.steps ∙ ap (λ (ss : List Step). ss ++ h.more) g.steps ∙ append_assoc a.steps g.more h.more;
+  steps = h.steps ∙ ap (λ (ss : List VerifiedWire). ss ++ h.more) g.steps ∙ append_assoc a.steps g.more h.more;
   within = λ w has. within_first w (h.within w has);
   stays = record { stays = λ w on. h.stays.stays w (g.stays.stays w on) };
   len = h.len ∙ g.len;
@@ -97,13 +97,13 @@ grows_one {k} {a} {b} {x} {y} {w} is one free low bars = by_steps one.steps
     len (inl same) = ap length same
     len (inr set) = ap length set ∙ length-set x w true
 
-    within_one : (s : Step) → s.wire.0 ≡ w → b.steps ≡ a.steps ++ s ∷ [] → (v : ℕ) → HasWire b.steps v → HasWire a.steps v ⊎ ((has_number x v ≡ false) × (v < length x))
+    within_one : (s : VerifiedWire) → s.wire.0 ≡ w → b.steps ≡ a.steps ++ s ∷ [] → (v : ℕ) → HasWire b.steps v → HasWire a.steps v ⊎ ((has_number x v ≡ false) × (v < length x))
     within_one s e steps v has = by_place (get_pushed a.steps s has.place has.at.step (subst (λ ss. slice_get ss has.place ≡ Some has.at.step) steps has.at.here))
       where
         by_place : (slice_get a.steps has.place ≡ Some has.at.step) ⊎ ((has.place ≡ length a.steps) × (s ≡ has.at.step)) → HasWire a.steps v ⊎ ((has_number x v ≡ false) × (v < length x))
         by_place (inl h) = inl (record { place = has.place; at = record { step = has.at.step; here = h; wire = has.at.wire } })
-        by_place (inr h) = let same : v ≡ w = sym has.at.wire ∙ ap (λ (t : Step). t.wire.0) (sym h.1) ∙ e in inr (ap (has_number x) same ∙ free, subst (λ u. u < length x) (sym same) low)
+        by_place (inr h) = let same : v ≡ w = sym has.at.wire ∙ ap (λ (t : VerifiedWire). t.wire.0) (sym h.1) ∙ e in inr (ap (has_number x) same ∙ free, subst (λ u. u < length x) (sym same) low)
 
-    by_steps : (b.steps ≡ a.steps) ⊎ ((s : Step) × (s.wire.0 ≡ w) × (b.steps ≡ a.steps ++ s ∷ [])) → Grows k a b x y
+    by_steps : (b.steps ≡ a.steps) ⊎ ((s : VerifiedWire) × (s.wire.0 ≡ w) × (b.steps ≡ a.steps ++ s ∷ [])) → Grows k a b x y
     by_steps (inl e) = record { known = is; shape = one.shape; more = []; steps = e ∙ sym (append-nil a.steps); within = λ v has. inl (subst (λ ss. HasWire ss v) e has); stays = stays bars; len = len bars }
     by_steps (inr p) = record { known = is; shape = one.shape; more = p.0 ∷ []; steps = p.2; within = within_one p.0 p.1 p.2; stays = stays bars; len = len bars }

@@ -15,46 +15,46 @@ use Rattle.diag_evidence.specs.Kept.{Kept, IsMore, Advances}
 use Rattle.diag_known.specs.Known.{KnownWires, HasWire, IsKnown, IsKeptCrossOf, InSet}
 use Rattle.diag_growth.specs.Seating.{AreAllWithout, IsPlaceAt, IsWithout}
 use Rattle.diag_growth.specs.Tables.{SeatedIsKept, SeatedAreKept}
-use Rattle.diag_known.specs.declared.step.Step.{Step}
+use Rattle.diag_known.specs.declared.verified_wire.VerifiedWire.{VerifiedWire}
 use Rattle.diag_known.proofs.Later.{known_later}
 use Rattle.diag_growth.proofs.Placing.{seated_place}
 use Rattle.diag_growth.specs.Seats.{KeepsTable, TableIf, AddsOnlyTableFacts}
 
 -- what stands without the hextant stands by the known wires outside it
-pub stands_within : (k : Kept) (ss : List Step) (h : ℕ) (set : List Bool) → ((w : ℕ) → HasWire ss w → IsOutside k.shape h w → InSet set w) →
+pub stands_within : (k : Kept) (ss : List VerifiedWire) (h : ℕ) (set : List Bool) → ((w : ℕ) → HasWire ss w → IsOutside k.shape h w → InSet set w) →
     (w : ℕ) → StandsWithout k.shape (HasWire ss) (IsKeptCrossOf k) h w → StandsBy k.shape (InSet set) (IsKeptCrossOf k) w
 stands_within k ss h set all w s = stands_also (λ u is. all u is.0 is.1) (λ x a b is at p q. is) s
 
 -- where no place was found, or a pin isn't known, the table isn't seated
-pub no_seat : {k : Kept} {ss without : List Step} {t : ℕ} → ((w : ℕ) → StandsWithout k.shape (HasWire ss) (IsKeptCrossOf k) (hextant_of k.shape t) w → HasWire without w) →
+pub no_seat : {k : Kept} {ss without : List VerifiedWire} {t : ℕ} → ((w : ℕ) → StandsWithout k.shape (HasWire ss) (IsKeptCrossOf k) (hextant_of k.shape t) w → HasWire without w) →
     ((near line : ℕ) → IsPort k.shape (hextant_of k.shape t) near → HasWire without near → IsLine k.shape (hextant_of k.shape t) line → ¬ IsPlaceAt k ss without t near line) →
     ¬ IsSeated k.shape (HasWire ss) (IsKeptCrossOf k) t
 no_seat whole none s = none s.near s.line s.near_port (whole s.near s.near_stands) (s.out).0 (seated_place whole s)
 
 -- seated by what was kept before other tables were tested, and after
-pub seated_same : {k l : Kept} {ss : List Step} {t : ℕ} → l.shape ≡ k.shape → AddsOnlyTableFacts k l → IsSeated k.shape (HasWire ss) (IsKeptCrossOf k) t → IsSeated l.shape (HasWire ss) (IsKeptCrossOf l) t
+pub seated_same : {k l : Kept} {ss : List VerifiedWire} {t : ℕ} → l.shape ≡ k.shape → AddsOnlyTableFacts k l → IsSeated k.shape (HasWire ss) (IsKeptCrossOf k) t → IsSeated l.shape (HasWire ss) (IsKeptCrossOf l) t
 seated_same {k} {l} {ss} {t} shape only s = subst (λ m. IsSeated m (HasWire ss) (IsKeptCrossOf l) t) (sym shape)
     (seated_also k.shape (HasWire ss) (HasWire ss) (IsKeptCrossOf k) (IsKeptCrossOf l) (λ w is. is)
     (λ x a b is at p q. (subst (λ m. x < crosses_of m) (sym shape) is.0, only.crosses x ∙ is.1)) t s)
 
 -- a table that was tested, and one that isn't seated
-pub kept_over : {told : Option Faults} {k l : Kept} {ss : List Step} {t u : ℕ} → u ≡ t → TableIf told k l u → SeatedIsKept told k l ss t
+pub kept_over : {told : Option Faults} {k l : Kept} {ss : List VerifiedWire} {t u : ℕ} → u ≡ t → TableIf told k l u → SeatedIsKept told k l ss t
 kept_over {l = l} e table = record { at = λ f is h seated right. subst (KeepsTable l) e (table.at f is h (subst (IsRightTable f) (sym e) right)) }
 
-pub kept_unseated : {told : Option Faults} {k l : Kept} {ss : List Step} {t : ℕ} → ¬ IsSeated k.shape (HasWire ss) (IsKeptCrossOf k) t → SeatedIsKept told k l ss t
+pub kept_unseated : {told : Option Faults} {k l : Kept} {ss : List VerifiedWire} {t : ℕ} → ¬ IsSeated k.shape (HasWire ss) (IsKeptCrossOf k) t → SeatedIsKept told k l ss t
 kept_unseated none = record { at = λ f is h seated right. absurd (none seated) }
 
 -- each of the first n tables
-pub record AreTested (told : Option Faults) (k l : Kept) (ss : List Step) (tables : List Table) (n : ℕ) : Type 0 where
+pub record AreTested (told : Option Faults) (k l : Kept) (ss : List VerifiedWire) (tables : List Table) (n : ℕ) : Type 0 where
   pub each : (j : ℕ) (t : Table) → j < n → slice_get tables j ≡ Some t → SeatedIsKept told k l ss t.0
 
-pub tested_first : {told : Option Faults} {k : Kept} {ss : List Step} {tables : List Table} → AreTested told k k ss tables 0
+pub tested_first : {told : Option Faults} {k : Kept} {ss : List VerifiedWire} {tables : List Table} → AreTested told k k ss tables 0
 tested_first = record { each = λ j t less here. absurd (let no : ⊥ = omega (arith, less) in no) }
 
 keeps_later : {l n : Kept} {t : ℕ} → IsMore l n → KeepsTable l t → KeepsTable n t
 keeps_later {t = t} more h = record { cells = λ a below. more.cells t a (h.cells a below); register = more.registers t h.register }
 
-pub tested_next : {a b : RigState} {k l n : Kept} {ss : List Step} {tables : List Table} {i : ℕ} {t : Table} → Advances a b k l → AddsOnlyTableFacts k l → IsMore l n → slice_get tables i ≡ Some t →
+pub tested_next : {a b : RigState} {k l n : Kept} {ss : List VerifiedWire} {tables : List Table} {i : ℕ} {t : Table} → Advances a b k l → AddsOnlyTableFacts k l → IsMore l n → slice_get tables i ≡ Some t →
     AreTested a.machine.faults k l ss tables i → SeatedIsKept b.machine.faults l n ss t.0 → AreTested a.machine.faults k n ss tables (i + 1)
 tested_next {a} {b} {k} {l} {n} {ss} {tables} {i} {t} adv only more this old new = record { each = λ j u less here. by j u less here (ℕ_discrete j i) }
   where
@@ -71,7 +71,7 @@ tested_next {a} {b} {k} {l} {n} {ss} {tables} {i} {t} adv only more this old new
     by j u less here (yes e) = subst (λ (v : Table). SeatedIsKept a.machine.faults k n ss v.0) (some_same (sym this ∙ ap (slice_get tables) (sym e) ∙ here)) now
     by j u less here (no d) = before u.0 (old.each j u (omega (arith, less, d)) here)
 
-pub tested_all : {told : Option Faults} {k l : Kept} {ss : List Step} {tables : List Table} {n : ℕ} → AreTested told k l ss tables n → length tables ≤ n → SeatedAreKept told k l ss tables
+pub tested_all : {told : Option Faults} {k l : Kept} {ss : List VerifiedWire} {tables : List Table} {n : ℕ} → AreTested told k l ss tables n → length tables ≤ n → SeatedAreKept told k l ss tables
 tested_all {tables = tables} {n = n} are le = record { each = λ j t here. are.each j t (let low = slice_get_within tables j t here in omega (arith, low, le)) here }
 
 -- the table at a place
@@ -108,11 +108,11 @@ module _ {k : Kept} {known : KnownWires} (is : IsKnown k known) (h : ℕ) (set :
     whole = λ w s. all w (stands_within k known.steps h set (λ u on out. whole u on (on_known out)) w s);
   }
 
-pub without_at : {k : Kept} {ss : List Step} {h n : ℕ} {without : KnownWires} → h ≡ n → AreAllWithout k ss h without → AreAllWithout k ss n without
+pub without_at : {k : Kept} {ss : List VerifiedWire} {h n : ℕ} {without : KnownWires} → h ≡ n → AreAllWithout k ss h without → AreAllWithout k ss n without
 without_at {k} {ss} {without = without} e all = subst (λ i. AreAllWithout k ss i without) e all
 
 -- .. and once tables were tested
-pub without_later : {k l : Kept} {ss : List Step} {h : ℕ} {without : KnownWires} → IsMore k l → AddsOnlyTableFacts k l → AreAllWithout k ss h without → AreAllWithout l ss h without
+pub without_later : {k l : Kept} {ss : List VerifiedWire} {h : ℕ} {without : KnownWires} → IsMore k l → AddsOnlyTableFacts k l → AreAllWithout k ss h without → AreAllWithout l ss h without
 without_later {k} {l} {ss} {h} {without} more only all = record {
   known = known_later more all.known;
   within = subst (λ (m : Shape). IsWithout m ss without.steps h) (sym more.shape) all.within;

@@ -7,22 +7,22 @@ use Rattle.diag_known.specs.Known.{KnownWires, IsBefore, HasWire}
 use Rattle.diag_known.specs.Offers.{AreLost}
 use Rattle.diag_known.specs.Trials.{IsKeptUnlessStuck}
 use Rattle.diag_known.specs.declared.links.Near.{Near}
-use Rattle.diag_known.specs.declared.step.Step.{Step}
+use Rattle.diag_known.specs.declared.verified_wire.VerifiedWire.{VerifiedWire}
 use Rattle.diag_known.specs.Linked.{Links}
 
 -- one more wire is known, this one
-pub record IsLearnt (old new : KnownWires) (s : Step) : Type 0 where
+pub record IsLearnt (old new : KnownWires) (s : VerifiedWire) : Type 0 where
   pub shape : new.shape ≡ old.shape
   pub steps : new.steps ≡ old.steps ++ s ∷ []
 
 -- .. or none
 pub record IsOneMore (old new : KnownWires) (w : ℕ) : Type 0 where
   pub shape : new.shape ≡ old.shape
-  pub steps : (new.steps ≡ old.steps) ⊎ ((s : Step) × (s.wire.0 ≡ w) × (new.steps ≡ old.steps ++ s ∷ []))
+  pub steps : (new.steps ≡ old.steps) ⊎ ((s : VerifiedWire) × (s.wire.0 ≡ w) × (new.steps ≡ old.steps ++ s ∷ []))
 
 -- Of the first n known wires: a linking crosspoint between two of them is kept, unless it is stuck; and of a wire that isn't barred
 -- and not known no two linking crosspoints to two of them are both unstuck, unless the wire isn't fit.
-pub record IsGrown (told : Option Faults) (k : Kept) (near : List Near) (ss : List Step) (barred : List Bool) (n : ℕ) : Type 0 where
+pub record IsGrown (told : Option Faults) (k : Kept) (near : List Near) (ss : List VerifiedWire) (barred : List Bool) (n : ℕ) : Type 0 where
   pub between : (x u w : ℕ) → Links near x u w → u ≢ w → IsBefore ss n u → IsBefore ss n w → IsKeptUnlessStuck told k x
   pub seconds : (w x y u v : ℕ) → Links near x u w → Links near y v w → u ≢ v → IsBefore ss n u → IsBefore ss n v →
       HasWire ss w ⊎ ((has_number barred w ≡ true) ⊎ AreLost told k ss w x y)

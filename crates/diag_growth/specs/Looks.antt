@@ -14,49 +14,49 @@ use Rattle.diag_known.specs.declared.links.Near.{Near}
 use Rattle.diag_growth.specs.declared.look.Look.{Look}
 use Rattle.diag_known.specs.declared.marks.Marks.{Marks}
 use Rattle.diag_known.specs.declared.offers.Offer.{Offer}
-use Rattle.diag_known.specs.declared.step.Foot.{Foot}
-use Rattle.diag_known.specs.declared.step.Step.{Step}
+use Rattle.diag_known.specs.declared.verified_wire.Support.{Support}
+use Rattle.diag_known.specs.declared.verified_wire.VerifiedWire.{VerifiedWire}
 
 -- the wire stands at this place, and this is a link from it
-pub record IsLook (near : List Near) (ss : List Step) (l : Look) : Type 0 where
+pub record IsLook (near : List Near) (ss : List VerifiedWire) (l : Look) : Type 0 where
   pub at : IsAt ss l.place l.wire.0
   pub link : Links near l.link.cross.0 l.link.wire.0 l.wire.0
 
 -- .. in plain words
-pub record IsLookAt (m : Shape) (ss : List Step) (l : Look) : Type 0 where
+pub record IsLookAt (m : Shape) (ss : List VerifiedWire) (l : Look) : Type 0 where
   pub at : IsAt ss l.place l.wire.0
   pub within : l.link.cross.0 < crosses_of m
   pub ends : Ends (ends_of m l.link.cross.0) l.link.wire.0 l.wire.0
 
 -- a link is put behind others, if its known end came before the place
-pub record TakesEarlier (ss : List Step) (place : ℕ) (link : Foot) (old new : List Foot) : Type 0 where
-  pub stays : (a : Foot) → IsPlaced old a → IsPlaced new a
+pub record TakesEarlier (ss : List VerifiedWire) (place : ℕ) (link : Support) (old new : List Support) : Type 0 where
+  pub stays : (a : Support) → IsPlaced old a → IsPlaced new a
   pub has : IsBefore ss place link.wire.0 → IsPlaced new link
-  pub only : (a : Foot) → IsPlaced new a → IsPlaced old a ⊎ ((a ≡ link) × IsBefore ss place link.wire.0)
+  pub only : (a : Support) → IsPlaced new a → IsPlaced old a ⊎ ((a ≡ link) × IsBefore ss place link.wire.0)
 
 -- these are the links of the wire whose known ends came before the place
-pub record AreEarlier (near : List Near) (ss : List Step) (place w : ℕ) (others : List Foot) : Type 0 where
-  pub right : (b : Foot) → IsPlaced others b → Links near b.cross.0 b.wire.0 w × IsBefore ss place b.wire.0
-  pub whole : (y v : ℕ) → Links near y v w → IsBefore ss place v → (b : Foot) × IsPlaced others b × (b.cross.0 ≡ y)
+pub record AreEarlier (near : List Near) (ss : List VerifiedWire) (place w : ℕ) (others : List Support) : Type 0 where
+  pub right : (b : Support) → IsPlaced others b → Links near b.cross.0 b.wire.0 w × IsBefore ss place b.wire.0
+  pub whole : (y v : ℕ) → Links near y v w → IsBefore ss place v → (b : Support) × IsPlaced others b × (b.cross.0 ≡ y)
 
 -- .. as far as these of its links
-pub record AreEarlierUpTo (near : List Near) (ss : List Step) (place w : ℕ) (others : List Foot) (n : ℕ) : Type 0 where
-  pub right : (b : Foot) → IsPlaced others b → Links near b.cross.0 b.wire.0 w × IsBefore ss place b.wire.0
-  pub whole : (j : ℕ) (b : Foot) → j < n → slice_get (list_at near w) j ≡ Some b → IsBefore ss place b.wire.0 → IsPlaced others b
+pub record AreEarlierUpTo (near : List Near) (ss : List VerifiedWire) (place w : ℕ) (others : List Support) (n : ℕ) : Type 0 where
+  pub right : (b : Support) → IsPlaced others b → Links near b.cross.0 b.wire.0 w × IsBefore ss place b.wire.0
+  pub whole : (j : ℕ) (b : Support) → j < n → slice_get (list_at near w) j ≡ Some b → IsBefore ss place b.wire.0 → IsPlaced others b
 
 -- The offer of a look: its other links are those of the wire whose known ends came before.
-pub record IsOfferOf (near : List Near) (ss : List Step) (l : Look) (o : Offer) : Type 0 where
+pub record IsOfferOf (near : List Near) (ss : List VerifiedWire) (l : Look) (o : Offer) : Type 0 where
   pub wire : o.wire.0 ≡ l.link.wire.0
   pub cross : o.foot.cross.0 ≡ l.link.cross.0
   pub earlier : AreEarlier near ss l.place l.link.wire.0 o.others.items
 
 -- What a look has found, from a wire at a place over a crosspoint to another: it is kept unless it is stuck, where the other came
 -- before; otherwise the other is known, or barred, or the crosspoint and each other one to a wire before are lost.
-pub record IsLooked (told : Option Faults) (k : Kept) (near : List Near) (ss : List Step) (barred : List Bool) (n x w : ℕ) : Type 0 where
+pub record IsLooked (told : Option Faults) (k : Kept) (near : List Near) (ss : List VerifiedWire) (barred : List Bool) (n x w : ℕ) : Type 0 where
   pub between : IsBefore ss n w → IsKeptUnlessStuck told k x
   pub seconds : (y v : ℕ) → Links near y v w → IsBefore ss n v → HasWire ss w ⊎ ((has_number barred w ≡ true) ⊎ AreLost told k ss w x y)
 
-abbrev pub IsLookedOver : Option Faults → Kept → List Near → List Step → List Bool → Look → Type 0
+abbrev pub IsLookedOver : Option Faults → Kept → List Near → List VerifiedWire → List Bool → Look → Type 0
 IsLookedOver told k near ss barred l = IsLooked told k near ss barred l.place l.link.cross.0 l.link.wire.0
 
 -- wires that were barred stay so
@@ -64,21 +64,21 @@ pub record StayBarred (old new : List Bool) : Type 0 where
   pub stays : (w : ℕ) → has_number old w ≡ true → has_number new w ≡ true
 
 -- .. and others are barred only once they are tried
-pub record AreTried (told : Option Faults) (k : Kept) (ss : List Step) (old new : List Bool) : Type 0 where
+pub record AreTried (told : Option Faults) (k : Kept) (ss : List VerifiedWire) (old new : List Bool) : Type 0 where
   pub tried : (w : ℕ) → has_number new w ≡ true → (has_number old w ≡ true) ⊎ IsTried told k ss w
 
 -- Further wires are known, none of which was barred.
 pub record Grows (k : Kept) (old new : KnownWires) (barred now : List Bool) : Type 0 where
   pub known : IsKnown k new
   pub shape : new.shape ≡ old.shape
-  pub more : List Step
+  pub more : List VerifiedWire
   pub steps : new.steps ≡ old.steps ++ more
   pub within : (w : ℕ) → HasWire new.steps w → HasWire old.steps w ⊎ ((has_number barred w ≡ false) × (w < length barred))
   pub stays : StayBarred barred now
   pub len : length now ≡ length barred
 
 -- Of the wire to which the crosspoint was offered, from a known wire, all has been found that its look can find.
-pub record IsOfferedMark (told : Option Faults) (k : Kept) (near : List Near) (ss : List Step) (barred : List Bool) (x : ℕ) : Type 0 where
+pub record IsOfferedMark (told : Option Faults) (k : Kept) (near : List Near) (ss : List VerifiedWire) (barred : List Bool) (x : ℕ) : Type 0 where
   pub place : ℕ
   pub from : ℕ
   pub to : ℕ
@@ -87,7 +87,7 @@ pub record IsOfferedMark (told : Option Faults) (k : Kept) (near : List Near) (s
   pub looked : IsLooked told k near ss barred place x to
 
 -- the marks are right, also of what was offered
-pub record AreAllMarks (told : Option Faults) (k : Kept) (near : List Near) (ss : List Step) (s : Marks) : Type 0 where
+pub record AreAllMarks (told : Option Faults) (k : Kept) (near : List Near) (ss : List VerifiedWire) (s : Marks) : Type 0 where
   pub are : AreMarks told k ss s
   pub offers : (x : ℕ) → has_number s.offered x ≡ true → IsOfferedMark told k near ss s.barred x
 

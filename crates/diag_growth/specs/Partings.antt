@@ -10,7 +10,7 @@ use Rattle.diag_known.specs.Reaches.{reach_at, IsReached, AreTrees, AreWalks}
 use Rattle.diag_known.specs.Ways.{ReachesAll}
 use Rattle.diag_known.specs.declared.beside.Reach.{Reach}
 use Rattle.diag_known.specs.declared.beside.Reach.TheVariants as reach
-use Rattle.diag_known.specs.declared.step.Step.{Step}
+use Rattle.diag_known.specs.declared.verified_wire.VerifiedWire.{VerifiedWire}
 
 -- the wire is one of these
 pub record IsListed (ends : List Wire) (u : ℕ) : Type 0 where
@@ -20,15 +20,15 @@ pub record IsListed (ends : List Wire) (u : ℕ) : Type 0 where
   pub is : wire.0 ≡ u
 
 -- each known wire is kept apart from this one, or among these
-abbrev pub AreLeft : Kept → List Step → ℕ → List Wire → Type 0
+abbrev pub AreLeft : Kept → List VerifiedWire → ℕ → List Wire → Type 0
 AreLeft k ss w ends = (u : ℕ) → HasWire ss u → (keeps_pair k w u ≡ true) ⊎ IsListed ends u
 
 -- .. the known wire at this place
-abbrev pub LeavesAt : Kept → List Step → ℕ → List Wire → ℕ → Type 0
+abbrev pub LeavesAt : Kept → List VerifiedWire → ℕ → List Wire → ℕ → Type 0
 LeavesAt k ss w ends i = (u : ℕ) → IsAt ss i u → (keeps_pair k w u ≡ true) ⊎ IsListed ends u
 
 -- walks over all that is reached beside the route and not kept apart from the wire, and their crosspoints
-pub record IsParting (k : Kept) (ss : List Step) (w : ℕ) (q : Walk) (routes : List Walk) (ties : List ℕ) : Type 0 where
+pub record IsParting (k : Kept) (ss : List VerifiedWire) (w : ℕ) (q : Walk) (routes : List Walk) (ties : List ℕ) : Type 0 where
   pub rs : List Reach
   pub on : (u : ℕ) → among q.wires u ≡ true → reach_at rs u ≡ reach.OnRoute
   pub trees : AreTrees ss rs
@@ -39,7 +39,7 @@ pub record IsParting (k : Kept) (ss : List Step) (w : ℕ) (q : Walk) (routes : 
   pub laid : Adds (InSome routes IsOn) [] ties
 
 -- the wire is kept apart from all that is reached beside the route
-pub record IsApartBeside (k : Kept) (ss : List Step) (w : ℕ) (q : Walk) : Type 0 where
+pub record IsApartBeside (k : Kept) (ss : List VerifiedWire) (w : ℕ) (q : Walk) : Type 0 where
   pub rs : List Reach
   pub all : ReachesAll ss q (IsReached rs)
   pub apart : (u : ℕ) → HasWire ss u → IsReached rs u → keeps_pair k w u ≡ true

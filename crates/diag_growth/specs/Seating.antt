@@ -6,7 +6,7 @@ use Rattle.machine_meaning.specs.Standing.{IsOutside, Meets, StandsWithout}
 use Rattle.diag_evidence.specs.Kept.{Kept}
 use Rattle.diag_known.specs.Known.{KnownWires, IsAt, HasWire, IsKeptCrossOf, InSet, IsKnown}
 use Rattle.diag_growth.specs.declared.seats.Place.{Place}
-use Rattle.diag_known.specs.declared.step.Step.{Step}
+use Rattle.diag_known.specs.declared.verified_wire.VerifiedWire.{VerifiedWire}
 use Rattle.diag_growth.specs.declared.seat.Arm.{Arm}
 
 -- the crosspoint of the tap and the line is kept
@@ -15,43 +15,43 @@ pub record IsMeeting (k : Kept) (tap line x : ℕ) : Type 0 where
   pub ends : ends_of k.shape x ≡ (tap, line)
 
 -- a known line that meets both taps
-pub record JoinsTaps (k : Kept) (ss : List Step) (a b line : ℕ) : Type 0 where
+pub record JoinsTaps (k : Kept) (ss : List VerifiedWire) (a b line : ℕ) : Type 0 where
   pub known : HasWire ss line
   pub one : Meets k.shape (IsKeptCrossOf k) a line
   pub other : Meets k.shape (IsKeptCrossOf k) b line
 
 -- .. another one than this of the hextant
-pub record IsFreeArm (k : Kept) (ss : List Step) (h near input beside line : ℕ) : Type 0 where
+pub record IsFreeArm (k : Kept) (ss : List VerifiedWire) (h near input beside line : ℕ) : Type 0 where
   pub is_line : IsLine k.shape h line
   pub differs : line ≢ beside
   pub joins : JoinsTaps k ss near input line
 
 -- an arm over such a line
-pub record IsArmTo (k : Kept) (ss : List Step) (h near input beside : ℕ) (a : Arm) : Type 0 where
+pub record IsArmTo (k : Kept) (ss : List VerifiedWire) (h near input beside : ℕ) (a : Arm) : Type 0 where
   pub free : IsFreeArm k ss h near input beside a.line.0
   pub to_line : IsMeeting k near a.line.0 a.to_line.0
   pub to_input : IsMeeting k input a.line.0 a.to_input.0
 
 -- arms to the first n inputs of the table
-pub record AreArmsTo (k : Kept) (ss : List Step) (t near beside n : ℕ) (arms : List Arm) : Type 0 where
+pub record AreArmsTo (k : Kept) (ss : List VerifiedWire) (t near beside n : ℕ) (arms : List Arm) : Type 0 where
   pub count : length arms ≡ n
   pub each : (j : ℕ) (a : Arm) → slice_get arms j ≡ Some a → IsArmTo k ss (hextant_of k.shape t) near (table_wire k.shape t j) beside a
 
 -- to one of its inputs there is none
-pub record MissesArm (k : Kept) (ss : List Step) (t near beside : ℕ) : Type 0 where
+pub record MissesArm (k : Kept) (ss : List VerifiedWire) (t near beside : ℕ) : Type 0 where
   pub input : ℕ
   pub within : input < 6
   pub none : (line : ℕ) → ¬ IsFreeArm k ss (hextant_of k.shape t) near (table_wire k.shape t input) beside line
 
 -- another port of the hextant that stands without it and meets the line
-pub record IsFarPort (k : Kept) (without : List Step) (h near line far : ℕ) : Type 0 where
+pub record IsFarPort (k : Kept) (without : List VerifiedWire) (h near line far : ℕ) : Type 0 where
   pub port : IsPort k.shape h far
   pub differs : far ≢ near
   pub stands : HasWire without far
   pub meets : Meets k.shape (IsKeptCrossOf k) far line
 
 -- Over this near port and this line the table can be tested.
-pub record IsPlaceAt (k : Kept) (ss without : List Step) (t near line : ℕ) : Type 0 where
+pub record IsPlaceAt (k : Kept) (ss without : List VerifiedWire) (t near line : ℕ) : Type 0 where
   pub known : HasWire ss line
   pub output : Meets k.shape (IsKeptCrossOf k) (table_wire k.shape t 6) line
   pub far : ℕ
@@ -59,7 +59,7 @@ pub record IsPlaceAt (k : Kept) (ss without : List Step) (t near line : ℕ) : T
   pub inputs : (j : ℕ) → j < 6 → (l : ℕ) × IsFreeArm k ss (hextant_of k.shape t) near (table_wire k.shape t j) line l
 
 -- .. there
-pub record IsPlace (k : Kept) (ss without : List Step) (t near line : ℕ) (p : Place) : Type 0 where
+pub record IsPlace (k : Kept) (ss without : List VerifiedWire) (t near line : ℕ) (p : Place) : Type 0 where
   pub near_is : p.near.0 ≡ near
   pub line_is : p.line.0 ≡ line
   pub known : HasWire ss line
@@ -69,25 +69,25 @@ pub record IsPlace (k : Kept) (ss without : List Step) (t near line : ℕ) (p : 
   pub arms : AreArmsTo k ss t near line 6 p.arms.items
 
 -- .. over some line of the hextant
-pub record IsPlaceNear (k : Kept) (ss without : List Step) (t near : ℕ) (p : Place) : Type 0 where
+pub record IsPlaceNear (k : Kept) (ss without : List VerifiedWire) (t near : ℕ) (p : Place) : Type 0 where
   pub line : ℕ
   pub is_line : IsLine k.shape (hextant_of k.shape t) line
   pub place : IsPlace k ss without t near line p
 
 -- .. and over some near port that stands without it
-pub record IsPlaceFor (k : Kept) (ss without : List Step) (t : ℕ) (p : Place) : Type 0 where
+pub record IsPlaceFor (k : Kept) (ss without : List VerifiedWire) (t : ℕ) (p : Place) : Type 0 where
   pub near : ℕ
   pub port : IsPort k.shape (hextant_of k.shape t) near
   pub stands : HasWire without near
   pub found : IsPlaceNear k ss without t near p
 
 -- those that stand without the hextant are known, and outside it
-pub record IsWithout (m : Shape) (ss without : List Step) (h : ℕ) : Type 0 where
+pub record IsWithout (m : Shape) (ss without : List VerifiedWire) (h : ℕ) : Type 0 where
   pub known : (w : ℕ) → HasWire without w → HasWire ss w
   pub outside : (w : ℕ) → HasWire without w → IsOutside m h w
 
 -- These are known by a proof, and are those of the known wires that stand by kept crosspoints without the hextant.
-pub record AreAllWithout (k : Kept) (ss : List Step) (h : ℕ) (without : KnownWires) : Type 0 where
+pub record AreAllWithout (k : Kept) (ss : List VerifiedWire) (h : ℕ) (without : KnownWires) : Type 0 where
   pub known : IsKnown k without
   pub within : IsWithout k.shape ss without.steps h
   pub whole : (w : ℕ) → StandsWithout k.shape (HasWire ss) (IsKeptCrossOf k) h w → HasWire without.steps w

@@ -9,16 +9,16 @@ use Rattle.diag_evidence.specs.Kept.{Kept, HoldsFor, keeps_cell, keeps_register}
 use Rattle.diag_growth.specs.Seats.{KeepsTable}
 use Rattle.diag_known.specs.Field.{how_many}
 use Rattle.diag_known.specs.Known.{HasWire, IsKeptCrossOf}
-use Rattle.diag_known.specs.declared.step.Step.{Step}
+use Rattle.diag_known.specs.declared.verified_wire.VerifiedWire.{VerifiedWire}
 
 -- Where the faults are told and what was kept is true of them, the table is kept, if it is seated in the known wires and the kept
 -- crosspoints and is right.
-pub record SeatedIsKept (told : Option Faults) (k l : Kept) (ss : List Step) (t : ℕ) : Type 0 where
+pub record SeatedIsKept (told : Option Faults) (k l : Kept) (ss : List VerifiedWire) (t : ℕ) : Type 0 where
   pub at : (f : Faults) → told ≡ Some f → HoldsFor k f → IsSeated k.shape (HasWire ss) (IsKeptCrossOf k) t → IsRightTable f t →
       KeepsTable l t
 
 -- .. each of these tables
-pub record SeatedAreKept (told : Option Faults) (k l : Kept) (ss : List Step) (tables : List Table) : Type 0 where
+pub record SeatedAreKept (told : Option Faults) (k l : Kept) (ss : List VerifiedWire) (tables : List Table) : Type 0 where
   pub each : (j : ℕ) (t : Table) → slice_get tables j ≡ Some t → SeatedIsKept told k l ss t.0
 
 -- all 64 cells of the table and its register are kept

@@ -11,7 +11,7 @@ ghost use Rattle.diag_growth.specs.Ties.{CellIf, CellsIf, IsSeatConfig, Register
 
 use crate::Seat;
 use crate::ties::{set_output, set_ties};
-use diag_evidence::Proof;
+use diag_evidence::Facts;
 use diag_evidence::laws::table_tests_by_lists_pass;
 use machine_config::{Config, Setting};
 use machine_shape::Cross;
@@ -19,28 +19,28 @@ use rig::{PinBits, Rig, RigFail};
 use std::alloc::Global;
 
 // Closes the crosspoints of both routes and the ties, with the table on whose cells are 0.
-fn config_of(proof: &mut Proof, seat: &Seat, ties: &[Cross]) -> Result<Config, RigFail>
-    requires seat { IsSeat proof.old seat.now }
-    requires ties { All (λ c. c.0 < crosses_of proof.old.shape) ties.now }
-    ensures laid { IfOk result (λ g. IsSeatConfig proof.old.shape seat.now (cross_numbers ties.now) g.config) }
-    ensures same { proof.new ≡ proof.old }
+fn config_of(facts: &mut Facts, seat: &Seat, ties: &[Cross]) -> Result<Config, RigFail>
+    requires seat { IsSeat facts.old seat.now }
+    requires ties { All (λ c. c.0 < crosses_of facts.old.shape) ties.now }
+    ensures laid { IfOk result (λ g. IsSeatConfig facts.old.shape seat.now (cross_numbers ties.now) g.config) }
+    ensures same { facts.new ≡ facts.old }
     ensures memory { result ≡ Err RigFail.Failed → ⊥ }
 {
-    match proof.cell_config(&seat.near, &seat.far, ties, seat.table, 0) {
+    match facts.cell_config(&seat.near, &seat.far, ties, seat.table, 0) {
         Ok(config) => Ok(config),
         Err(_) => Err(RigFail::Memory),
     }
 }
 
 // Drives the near pin to 0, and no other.
-fn driven(proof: &mut Proof, seat: &Seat) -> Result<PinBits, RigFail>
-    requires { IsSeat proof.old seat.now }
+fn driven(facts: &mut Facts, seat: &Seat) -> Result<PinBits, RigFail>
+    requires { IsSeat facts.old seat.now }
     ensures alone { IfOk result (λ drive. IsDrivenAlone drive seat.now.near.pin) }
-    ensures length { IfOk result (λ drive. length drive ≡ pins_of proof.old.shape) }
-    ensures same { proof.new ≡ proof.old }
+    ensures length { IfOk result (λ drive. length drive ≡ pins_of facts.old.shape) }
+    ensures same { facts.new ≡ facts.old }
     ensures memory { result ≡ Err RigFail.Failed → ⊥ }
 {
-    match proof.driven(seat.near.pin()) {
+    match facts.driven(seat.near.pin()) {
         Ok(drive) => Ok(drive),
         Err(_) => Err(RigFail::Memory),
     }
@@ -49,18 +49,18 @@ fn driven(proof: &mut Proof, seat: &Seat) -> Result<PinBits, RigFail>
 // Toggles a cell.
 fn test_cell(
     rig: &mut Box<dyn Rig>,
-    proof: &mut Proof,
+    facts: &mut Facts,
     seat: &Seat,
     ties: &mut Vec<Cross>,
     address: u8,
 ) -> Result<(), RigFail>
-    requires attached { shape_of (rig_state rig.old) ≡ Some proof.old.shape }
-    requires seat { IsSeat proof.old seat.now }
+    requires attached { shape_of (rig_state rig.old) ≡ Some facts.old.shape }
+    requires seat { IsSeat facts.old seat.now }
     requires address { address < 64 }
 
-    ensures cell { OnOk result (CellIf (rig_state rig.old).machine.faults proof.old proof.new seat.now.table.0 address) }
-    ensures advances { Advances (rig_state rig.old) (rig_state rig.new) proof.old proof.new }
-    ensures only { AddsOnlyTableFacts proof.old proof.new }
+    ensures cell { OnOk result (CellIf (rig_state rig.old).machine.faults facts.old facts.new seat.now.table.0 address) }
+    ensures advances { Advances (rig_state rig.old) (rig_state rig.new) facts.old facts.new }
+    ensures only { AddsOnlyTableFacts facts.old facts.new }
     ensures loads { (rig_state rig.new).loads ≤ (rig_state rig.old).loads + 2 }
     ensures cause { IsErrOf result RigFail.Failed → Rose (rig_state rig.old).failures (rig_state rig.new).failures }
 {
@@ -68,9 +68,9 @@ fn test_cell(
     let Ok(()) = set_ties(ties, seat, u32::from(address)) else {
         return Err(RigFail::Memory);
     };
-    let mut config = config_of(proof, seat, ties)?;
-    let drive = driven(proof, seat)?;
-    let answer = proof.toggle_cell(
+    let mut config = config_of(facts, seat, ties)?;
+    let drive = driven(facts, seat)?;
+    let answer = facts.toggle_cell(
         rig,
         &mut config,
         seat.table,
@@ -78,8 +78,8 @@ fn test_cell(
         &drive,
         seat.far.pin(),
     );
-    proof.give_back(config);
-    proof.give_back_drive(drive);
+    facts.give_back(config);
+    facts.give_back_drive(drive);
     match answer {
         Ok(_) => Ok(()),
         Err(fail) => Err(fail),
@@ -89,21 +89,21 @@ fn test_cell(
 // Toggles each cell.
 fn test_cells(
     rig: &mut Box<dyn Rig>,
-    proof: &mut Proof,
+    facts: &mut Facts,
     seat: &Seat,
     ties: &mut Vec<Cross>,
 ) -> Result<(), RigFail>
-    requires attached { shape_of (rig_state rig.old) ≡ Some proof.old.shape }
-    requires seat { IsSeat proof.old seat.now }
+    requires attached { shape_of (rig_state rig.old) ≡ Some facts.old.shape }
+    requires seat { IsSeat facts.old seat.now }
 
-    ensures cells { OnOk result (CellsIf (rig_state rig.old).machine.faults proof.old proof.new seat.now.table.0 64) }
-    ensures advances { Advances (rig_state rig.old) (rig_state rig.new) proof.old proof.new }
-    ensures only { AddsOnlyTableFacts proof.old proof.new }
+    ensures cells { OnOk result (CellsIf (rig_state rig.old).machine.faults facts.old facts.new seat.now.table.0 64) }
+    ensures advances { Advances (rig_state rig.old) (rig_state rig.new) facts.old facts.new }
+    ensures only { AddsOnlyTableFacts facts.old facts.new }
     ensures loads { (rig_state rig.new).loads ≤ (rig_state rig.old).loads + 128 }
     ensures cause { IsErrOf result RigFail.Failed → Rose (rig_state rig.old).failures (rig_state rig.new).failures }
 {
     'cells: for address in 0..64 {
-        test_cell(rig, proof, seat, ties, address)?;
+        test_cell(rig, facts, seat, ties, address)?;
     }
     Ok(())
 }
@@ -111,16 +111,16 @@ fn test_cells(
 // Toggles the register.
 fn test_register(
     rig: &mut Box<dyn Rig>,
-    proof: &mut Proof,
+    facts: &mut Facts,
     seat: &Seat,
     ties: &mut Vec<Cross>,
 ) -> Result<(), RigFail>
-    requires attached { shape_of (rig_state rig.old) ≡ Some proof.old.shape }
-    requires seat { IsSeat proof.old seat.now }
+    requires attached { shape_of (rig_state rig.old) ≡ Some facts.old.shape }
+    requires seat { IsSeat facts.old seat.now }
 
-    ensures register { OnOk result (RegisterIf (rig_state rig.old).machine.faults proof.old proof.new seat.now.table.0) }
-    ensures advances { Advances (rig_state rig.old) (rig_state rig.new) proof.old proof.new }
-    ensures only { AddsOnlyTableFacts proof.old proof.new }
+    ensures register { OnOk result (RegisterIf (rig_state rig.old).machine.faults facts.old facts.new seat.now.table.0) }
+    ensures advances { Advances (rig_state rig.old) (rig_state rig.new) facts.old facts.new }
+    ensures only { AddsOnlyTableFacts facts.old facts.new }
     ensures loads { (rig_state rig.new).loads ≤ (rig_state rig.old).loads + 2 }
     ensures cause { IsErrOf result RigFail.Failed → Rose (rig_state rig.old).failures (rig_state rig.new).failures }
 {
@@ -128,17 +128,17 @@ fn test_register(
     let Ok(()) = set_output(ties, seat) else {
         return Err(RigFail::Memory);
     };
-    let mut config = config_of(proof, seat, ties)?;
-    let drive = driven(proof, seat)?;
+    let mut config = config_of(facts, seat, ties)?;
+    let drive = driven(facts, seat)?;
     let setting = Setting {
         cells: 0,
         latched: true,
         init: false,
     };
     config.switch_on(seat.table, setting);
-    let answer = proof.toggle_register(rig, &mut config, seat.table, &drive, seat.far.pin());
-    proof.give_back(config);
-    proof.give_back_drive(drive);
+    let answer = facts.toggle_register(rig, &mut config, seat.table, &drive, seat.far.pin());
+    facts.give_back(config);
+    facts.give_back_drive(drive);
     match answer {
         Ok(_) => Ok(()),
         Err(fail) => Err(fail),
@@ -155,19 +155,19 @@ fn test_register(
 pub fn test_table(
     alloc: Global,
     rig: &mut Box<dyn Rig>,
-    proof: &mut Proof,
+    facts: &mut Facts,
     seat: &Seat,
 ) -> Result<(), RigFail>
-    requires attached { shape_of (rig_state rig.old) ≡ Some proof.old.shape }
-    requires seat { IsSeat proof.old seat.now }
+    requires attached { shape_of (rig_state rig.old) ≡ Some facts.old.shape }
+    requires seat { IsSeat facts.old seat.now }
 
-    ensures table { OnOk result (TableIf (rig_state rig.old).machine.faults proof.old proof.new seat.now.table.0) }
-    ensures advances { Advances (rig_state rig.old) (rig_state rig.new) proof.old proof.new }
-    ensures only { AddsOnlyTableFacts proof.old proof.new }
+    ensures table { OnOk result (TableIf (rig_state rig.old).machine.faults facts.old facts.new seat.now.table.0) }
+    ensures advances { Advances (rig_state rig.old) (rig_state rig.new) facts.old facts.new }
+    ensures only { AddsOnlyTableFacts facts.old facts.new }
     ensures loads { (rig_state rig.new).loads ≤ (rig_state rig.old).loads + 130 }
     ensures cause { IsErrOf result RigFail.Failed → Rose (rig_state rig.old).failures (rig_state rig.new).failures }
 {
     let mut ties = Vec::new(alloc);
-    test_cells(rig, proof, seat, &mut ties)?;
-    test_register(rig, proof, seat, &mut ties)
+    test_cells(rig, facts, seat, &mut ties)?;
+    test_register(rig, facts, seat, &mut ties)
 }

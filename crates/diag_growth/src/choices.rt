@@ -7,7 +7,7 @@ ghost use Rattle.diag_growth.specs.Seating.{AreArmsTo, IsFarPort, IsFreeArm, Mis
 
 use crate::Arm;
 use crate::search::{find_arm, find_far};
-use diag_evidence::Proof;
+use diag_evidence::Facts;
 use diag_known::Known;
 use machine_shape::{Cross, Node, Table, Wire, the_numbering_is_sound};
 use std::alloc::AllocError;
@@ -27,21 +27,21 @@ pub(crate) struct Fars {
 }
 
 // The first two arms from a port to an input.
-fn arms_at(known: &Known, proof: &Proof, hextant: Node, near: Wire, input: Wire) -> Option<Arms>
-    requires known { IsKnown proof.now known.now }
-    requires hextant { hextant.0 < nodes_of proof.now.shape }
-    requires port { IsPort proof.now.shape hextant.0 near.0 }
-    requires near { near.0 < wires_of proof.now.shape }
-    requires input { input.0 < wires_of proof.now.shape }
-    ensures arms { IfSome result (AreArmsOf proof.now known.now.steps hextant.0 near.0 input.0) }
-    ensures none { IfNone result ((beside line : ℕ) → ¬ IsFreeArm proof.now known.now.steps hextant.0 near.0 input.0 beside line) }
+fn arms_at(known: &Known, facts: &Facts, hextant: Node, near: Wire, input: Wire) -> Option<Arms>
+    requires known { IsKnown facts.now known.now }
+    requires hextant { hextant.0 < nodes_of facts.now.shape }
+    requires port { IsPort facts.now.shape hextant.0 near.0 }
+    requires near { near.0 < wires_of facts.now.shape }
+    requires input { input.0 < wires_of facts.now.shape }
+    ensures arms { IfSome result (AreArmsOf facts.now known.now.steps hextant.0 near.0 input.0) }
+    ensures none { IfNone result ((beside line : ℕ) → ¬ IsFreeArm facts.now known.now.steps hextant.0 near.0 input.0 beside line) }
 {
     the_numbering_is_sound();
     // The port is no line, so no arm is left out for it.
-    let Some(first) = find_arm(known, proof, hextant, near, input, near) else {
+    let Some(first) = find_arm(known, facts, hextant, near, input, near) else {
         return None;
     };
-    let second = find_arm(known, proof, hextant, near, input, first.line);
+    let second = find_arm(known, facts, hextant, near, input, first.line);
     Some(Arms { first, second })
 }
 
@@ -59,22 +59,22 @@ fn arm_beside(arms: Arms, line: Wire) -> Option<Arm>
 /// The first two arms from a port to each input of a table: none where an input has no arm.
 pub(crate) fn input_arms(
     known: &Known,
-    proof: &Proof,
+    facts: &Facts,
     t: Table,
     near: Wire,
 ) -> Result<Option<Vec<Arms>>, AllocError>
-    requires known { IsKnown proof.now known.now }
-    requires table { t.0 < tables_of proof.now.shape }
-    requires port { IsPort proof.now.shape (hextant_of proof.now.shape t.0) near.0 }
-    requires near { near.0 < wires_of proof.now.shape }
-    ensures arms { IfOk result (λ found. IfSome found (λ arms. AreInputArms proof.now known.now.steps t.0 near.0 6 arms.items)) }
-    ensures none { IfOk result (λ found. IfNone found ((beside : ℕ) → MissesArm proof.now known.now.steps t.0 near.0 beside)) }
+    requires known { IsKnown facts.now known.now }
+    requires table { t.0 < tables_of facts.now.shape }
+    requires port { IsPort facts.now.shape (hextant_of facts.now.shape t.0) near.0 }
+    requires near { near.0 < wires_of facts.now.shape }
+    ensures arms { IfOk result (λ found. IfSome found (λ arms. AreInputArms facts.now known.now.steps t.0 near.0 6 arms.items)) }
+    ensures none { IfOk result (λ found. IfNone found ((beside : ℕ) → MissesArm facts.now known.now.steps t.0 near.0 beside)) }
 {
-    let shape = proof.shape();
+    let shape = facts.shape();
     let hextant = shape.hextant_of(t);
     let mut arms = Vec::new(known.alloc());
     'inputs: for input in 0..6 {
-        let Some(two) = arms_at(known, proof, hextant, near, shape.pin_of(t, input)) else {
+        let Some(two) = arms_at(known, facts, hextant, near, shape.pin_of(t, input)) else {
             return Ok(None);
         };
         arms.push(two)?;
@@ -85,15 +85,15 @@ pub(crate) fn input_arms(
 /// Arms from a port to all inputs of a table over other lines than this one.
 pub(crate) fn arms_beside(
     known: &Known,
-    proof: &Proof,
+    facts: &Facts,
     t: Table,
     near: Wire,
     arms: &Vec<Arms>,
     line: Wire,
 ) -> Result<Option<Vec<Arm>>, AllocError>
-    requires arms { AreInputArms proof.now known.now.steps t.0 near.0 6 arms.now.items }
-    ensures arms { IfOk result (λ found. IfSome found (λ arms. AreArmsTo proof.now known.now.steps t.0 near.0 line.0 6 arms.items)) }
-    ensures none { IfOk result (λ found. IfNone found (MissesArm proof.now known.now.steps t.0 near.0 line.0)) }
+    requires arms { AreInputArms facts.now known.now.steps t.0 near.0 6 arms.now.items }
+    ensures arms { IfOk result (λ found. IfSome found (λ arms. AreArmsTo facts.now known.now.steps t.0 near.0 line.0 6 arms.items)) }
+    ensures none { IfOk result (λ found. IfNone found (MissesArm facts.now known.now.steps t.0 near.0 line.0)) }
 {
     let mut chosen = Vec::new(known.alloc());
     'inputs: for input in 0..6 {
@@ -106,20 +106,20 @@ pub(crate) fn arms_beside(
 }
 
 /// The first two ports of a hextant that stand without it and meet a line of it.
-pub(crate) fn fars_over(without: &Known, proof: &Proof, hextant: Node, line: Wire) -> Option<Fars>
-    requires without { IsKnown proof.now without.now }
-    requires hextant { hextant.0 < nodes_of proof.now.shape }
-    requires is_line { IsLine proof.now.shape hextant.0 line.0 }
-    requires line { line.0 < wires_of proof.now.shape }
-    ensures fars { IfSome result (AreFarsOf proof.now without.now.steps hextant.0 line.0) }
-    ensures none { IfNone result ((near far : ℕ) → ¬ IsFarPort proof.now without.now.steps hextant.0 near line.0 far) }
+pub(crate) fn fars_over(without: &Known, facts: &Facts, hextant: Node, line: Wire) -> Option<Fars>
+    requires without { IsKnown facts.now without.now }
+    requires hextant { hextant.0 < nodes_of facts.now.shape }
+    requires is_line { IsLine facts.now.shape hextant.0 line.0 }
+    requires line { line.0 < wires_of facts.now.shape }
+    ensures fars { IfSome result (AreFarsOf facts.now without.now.steps hextant.0 line.0) }
+    ensures none { IfNone result ((near far : ℕ) → ¬ IsFarPort facts.now without.now.steps hextant.0 near line.0 far) }
 {
     the_numbering_is_sound();
     // The line is no port, so no port is left out for it.
-    let Some(first) = find_far(without, proof, hextant, line, line) else {
+    let Some(first) = find_far(without, facts, hextant, line, line) else {
         return None;
     };
-    let second = find_far(without, proof, hextant, first.0, line);
+    let second = find_far(without, facts, hextant, first.0, line);
     Some(Fars { first, second })
 }
 

@@ -4,23 +4,23 @@ ghost use Rattle.base_io.specs.Counts.{Rose};
 ghost use Rattle.machine_shape.specs.Shape.{crosses_of};
 ghost use Rattle.rig.specs.Rig.{shape_of};
 ghost use Rattle.diag_evidence.specs.Kept.{Advances, keeps_cross};
-ghost use Rattle.diag_known.specs.declared.step.Foot.{Foot};
+ghost use Rattle.diag_known.specs.declared.verified_wire.Support.{Support};
 ghost use Rattle.diag_known.specs.Marked.{AreMarks, SpendsOn};
 ghost use Rattle.diag_known.specs.Offers.{IsPlaced, IsKeptOther, IsSecond, AreLost, HasNoSecond};
 ghost use Rattle.diag_growth.specs.Looks.{IsNewOffer, IsReady};
 
-use diag_evidence::Proof;
-use diag_known::{Foot, Known, Marks, Offer, toggle_first, toggle_over};
+use diag_evidence::Facts;
+use diag_known::{Known, Marks, Offer, Support, toggle_first, toggle_over};
 use rig::{Rig, RigFail};
 
 // The first of some links that is kept.
-fn kept_link(proof: &Proof, links: &[Foot]) -> Option<Foot>
-    requires { (j : ℕ) (a : Foot) → slice_get links.now j ≡ Some a → a.cross.0 < crosses_of proof.now.shape }
-    ensures { IfSome result (IsKeptOther proof.now links.now) }
+fn kept_link(facts: &Facts, links: &[Support]) -> Option<Support>
+    requires { (j : ℕ) (a : Support) → slice_get links.now j ≡ Some a → a.cross.0 < crosses_of facts.now.shape }
+    ensures { IfSome result (IsKeptOther facts.now links.now) }
 {
     'links: for k in 0..links.len() {
         let link = links[k];
-        if proof.keeps_cross(link.cross) {
+        if facts.keeps_cross(link.cross) {
             return Some(link);
         }
     }
@@ -31,29 +31,29 @@ fn kept_link(proof: &Proof, links: &[Foot]) -> Option<Foot>
 fn try_over(
     known: &Known,
     rig: &mut Box<dyn Rig>,
-    proof: &mut Proof,
+    facts: &mut Facts,
     marks: &mut Marks,
     offer: &Offer,
-    over: Foot,
-) -> Result<Option<Foot>, RigFail>
-    requires attached { shape_of (rig_state rig.old) ≡ Some proof.old.shape }
-    requires ready { IsReady (rig_state rig.old).machine.faults proof.old known.now offer.now marks.old }
+    over: Support,
+) -> Result<Option<Support>, RigFail>
+    requires attached { shape_of (rig_state rig.old) ≡ Some facts.old.shape }
+    requires ready { IsReady (rig_state rig.old).machine.faults facts.old known.now offer.now marks.old }
     requires first { IsNewOffer offer.now marks.old }
-    requires over { IsKeptOther proof.old offer.now.others.items over }
-    ensures some { IfOk result (λ found. IfSome found (IsSecond proof.new offer.now)) }
+    requires over { IsKeptOther facts.old offer.now.others.items over }
+    ensures some { IfOk result (λ found. IfSome found (IsSecond facts.new offer.now)) }
     ensures none { IfOk result (λ found. IfNone found
-        (HasNoSecond (rig_state rig.old).machine.faults proof.new known.now.steps offer.now)) }
-    ensures marks { OnOk result (AreMarks (rig_state rig.old).machine.faults proof.new known.now.steps marks.new) }
-    ensures spends { SpendsOn (rig_state rig.old).machine.faults proof.old offer.now marks.old marks.new (rig_state rig.old).loads
+        (HasNoSecond (rig_state rig.old).machine.faults facts.new known.now.steps offer.now)) }
+    ensures marks { OnOk result (AreMarks (rig_state rig.old).machine.faults facts.new known.now.steps marks.new) }
+    ensures spends { SpendsOn (rig_state rig.old).machine.faults facts.old offer.now marks.old marks.new (rig_state rig.old).loads
         (rig_state rig.new).loads }
-    ensures advances { Advances (rig_state rig.old) (rig_state rig.new) proof.old proof.new }
+    ensures advances { Advances (rig_state rig.old) (rig_state rig.new) facts.old facts.new }
     ensures cause { IsErrOf result RigFail.Failed → Rose (rig_state rig.old).failures (rig_state rig.new).failures }
 {
-    if proof.keeps_cross(offer.foot.cross) {
+    if facts.keeps_cross(offer.foot.cross) {
         return Ok(Some(over));
     }
     marks.offer(offer.foot.cross);
-    let kept = toggle_over(known, rig, proof, offer.wire, offer.foot, over)?;
+    let kept = toggle_over(known, rig, facts, offer.wire, offer.foot, over)?;
     if kept {
         return Ok(Some(over));
     }
@@ -65,57 +65,57 @@ fn try_over(
 fn try_other(
     known: &Known,
     rig: &mut Box<dyn Rig>,
-    proof: &mut Proof,
+    facts: &mut Facts,
     marks: &mut Marks,
     offer: &Offer,
-    other: Foot,
+    other: Support,
 ) -> Result<bool, RigFail>
-    requires attached { shape_of (rig_state rig.old) ≡ Some proof.old.shape }
-    requires ready { IsReady (rig_state rig.old).machine.faults proof.old known.now offer.now marks.old }
-    requires own { keeps_cross proof.old offer.now.foot.cross.0 ≡ true }
+    requires attached { shape_of (rig_state rig.old) ≡ Some facts.old.shape }
+    requires ready { IsReady (rig_state rig.old).machine.faults facts.old known.now offer.now marks.old }
+    requires own { keeps_cross facts.old offer.now.foot.cross.0 ≡ true }
     requires other { IsPlaced offer.now.others.items other }
-    ensures kept { IfOk result (λ yes. IsTrue yes → keeps_cross proof.new other.cross.0 ≡ true) }
+    ensures kept { IfOk result (λ yes. IsTrue yes → keeps_cross facts.new other.cross.0 ≡ true) }
     ensures lost { IfOk result (λ yes. yes ≡ false →
-        AreLost (rig_state rig.old).machine.faults proof.new known.now.steps offer.now.wire.0 offer.now.foot.cross.0 other.cross.0) }
-    ensures marks { OnOk result (AreMarks (rig_state rig.old).machine.faults proof.new known.now.steps marks.new) }
-    ensures spends { SpendsOn (rig_state rig.old).machine.faults proof.old offer.now marks.old marks.new (rig_state rig.old).loads
+        AreLost (rig_state rig.old).machine.faults facts.new known.now.steps offer.now.wire.0 offer.now.foot.cross.0 other.cross.0) }
+    ensures marks { OnOk result (AreMarks (rig_state rig.old).machine.faults facts.new known.now.steps marks.new) }
+    ensures spends { SpendsOn (rig_state rig.old).machine.faults facts.old offer.now marks.old marks.new (rig_state rig.old).loads
         (rig_state rig.new).loads }
-    ensures advances { Advances (rig_state rig.old) (rig_state rig.new) proof.old proof.new }
+    ensures advances { Advances (rig_state rig.old) (rig_state rig.new) facts.old facts.new }
     ensures cause { IsErrOf result RigFail.Failed → Rose (rig_state rig.old).failures (rig_state rig.new).failures }
 {
-    if proof.keeps_cross(other.cross) {
+    if facts.keeps_cross(other.cross) {
         return Ok(true);
     }
     if marks.second.has(other.cross.0) {
         return Ok(false);
     }
     marks.put_second(other.cross);
-    toggle_over(known, rig, proof, offer.wire, other, offer.foot)
+    toggle_over(known, rig, facts, offer.wire, other, offer.foot)
 }
 
 // The first other crosspoint of an offer that is kept after a toggle over its own one.
 fn try_others(
     known: &Known,
     rig: &mut Box<dyn Rig>,
-    proof: &mut Proof,
+    facts: &mut Facts,
     marks: &mut Marks,
     offer: &Offer,
-) -> Result<Option<Foot>, RigFail>
-    requires attached { shape_of (rig_state rig.old) ≡ Some proof.old.shape }
-    requires ready { IsReady (rig_state rig.old).machine.faults proof.old known.now offer.now marks.old }
-    requires own { keeps_cross proof.old offer.now.foot.cross.0 ≡ true }
-    ensures some { IfOk result (λ found. IfSome found (IsSecond proof.new offer.now)) }
+) -> Result<Option<Support>, RigFail>
+    requires attached { shape_of (rig_state rig.old) ≡ Some facts.old.shape }
+    requires ready { IsReady (rig_state rig.old).machine.faults facts.old known.now offer.now marks.old }
+    requires own { keeps_cross facts.old offer.now.foot.cross.0 ≡ true }
+    ensures some { IfOk result (λ found. IfSome found (IsSecond facts.new offer.now)) }
     ensures none { IfOk result (λ found. IfNone found
-        (HasNoSecond (rig_state rig.old).machine.faults proof.new known.now.steps offer.now)) }
-    ensures marks { OnOk result (AreMarks (rig_state rig.old).machine.faults proof.new known.now.steps marks.new) }
-    ensures spends { SpendsOn (rig_state rig.old).machine.faults proof.old offer.now marks.old marks.new (rig_state rig.old).loads
+        (HasNoSecond (rig_state rig.old).machine.faults facts.new known.now.steps offer.now)) }
+    ensures marks { OnOk result (AreMarks (rig_state rig.old).machine.faults facts.new known.now.steps marks.new) }
+    ensures spends { SpendsOn (rig_state rig.old).machine.faults facts.old offer.now marks.old marks.new (rig_state rig.old).loads
         (rig_state rig.new).loads }
-    ensures advances { Advances (rig_state rig.old) (rig_state rig.new) proof.old proof.new }
+    ensures advances { Advances (rig_state rig.old) (rig_state rig.new) facts.old facts.new }
     ensures cause { IsErrOf result RigFail.Failed → Rose (rig_state rig.old).failures (rig_state rig.new).failures }
 {
     'others: for k in 0..offer.others.len() {
         let other = offer.others[k];
-        let kept = try_other(known, rig, proof, marks, offer, other)?;
+        let kept = try_other(known, rig, facts, marks, offer, other)?;
         if kept {
             return Ok(Some(other));
         }
@@ -128,28 +128,28 @@ fn try_others(
 pub(crate) fn second_foot(
     known: &Known,
     rig: &mut Box<dyn Rig>,
-    proof: &mut Proof,
+    facts: &mut Facts,
     marks: &mut Marks,
     offer: &Offer,
-) -> Result<Option<Foot>, RigFail>
-    requires attached { shape_of (rig_state rig.old) ≡ Some proof.old.shape }
-    requires ready { IsReady (rig_state rig.old).machine.faults proof.old known.now offer.now marks.old }
+) -> Result<Option<Support>, RigFail>
+    requires attached { shape_of (rig_state rig.old) ≡ Some facts.old.shape }
+    requires ready { IsReady (rig_state rig.old).machine.faults facts.old known.now offer.now marks.old }
     requires first { IsNewOffer offer.now marks.old }
-    ensures some { IfOk result (λ found. IfSome found (IsSecond proof.new offer.now)) }
+    ensures some { IfOk result (λ found. IfSome found (IsSecond facts.new offer.now)) }
     ensures none { IfOk result (λ found. IfNone found
-        (HasNoSecond (rig_state rig.old).machine.faults proof.new known.now.steps offer.now)) }
-    ensures marks { OnOk result (AreMarks (rig_state rig.old).machine.faults proof.new known.now.steps marks.new) }
-    ensures spends { SpendsOn (rig_state rig.old).machine.faults proof.old offer.now marks.old marks.new (rig_state rig.old).loads
+        (HasNoSecond (rig_state rig.old).machine.faults facts.new known.now.steps offer.now)) }
+    ensures marks { OnOk result (AreMarks (rig_state rig.old).machine.faults facts.new known.now.steps marks.new) }
+    ensures spends { SpendsOn (rig_state rig.old).machine.faults facts.old offer.now marks.old marks.new (rig_state rig.old).loads
         (rig_state rig.new).loads }
-    ensures advances { Advances (rig_state rig.old) (rig_state rig.new) proof.old proof.new }
+    ensures advances { Advances (rig_state rig.old) (rig_state rig.new) facts.old facts.new }
     ensures cause { IsErrOf result RigFail.Failed → Rose (rig_state rig.old).failures (rig_state rig.new).failures }
 {
-    if let Some(over) = kept_link(proof, &offer.others) {
-        return try_over(known, rig, proof, marks, offer, over);
+    if let Some(over) = kept_link(facts, &offer.others) {
+        return try_over(known, rig, facts, marks, offer, over);
     }
-    let kept = toggle_first(known, rig, proof, marks, offer)?;
+    let kept = toggle_first(known, rig, facts, marks, offer)?;
     if !kept {
         return Ok(None);
     }
-    try_others(known, rig, proof, marks, offer)
+    try_others(known, rig, facts, marks, offer)
 }

@@ -15,13 +15,13 @@ ghost use Rattle.diag_known.specs.Offers.{IsOffer, IsSecond};
 
 use crate::feet::second_foot;
 use crate::parts::{is_good, is_good_pin};
-use diag_evidence::Proof;
-use diag_known::{Foot, Known, Marks, Offer, Stand, Step};
+use diag_evidence::Facts;
+use diag_known::{Known, Marks, Offer, Support, SupportedBy, VerifiedWire};
 use machine_shape::{Meaning, Shape, Wire, the_numbering_is_sound};
 use rig::{Rig, RigFail};
 
 // A further wire is known.
-fn learn(known: &mut Known, step: Step) -> Result<(), RigFail>
+fn learn(known: &mut Known, step: VerifiedWire) -> Result<(), RigFail>
     requires wire { step.wire.0 < wires_of known.old.shape }
     requires new { ¬ HasWire known.old.steps step.wire.0 }
     ensures learnt { OnOk result (IsLearnt known.old known.new step) }
@@ -54,60 +54,60 @@ fn machine_pin(shape: &Shape, w: Wire) -> Option<u32>
 fn is_good_over(
     known: &Known,
     rig: &mut Box<dyn Rig>,
-    proof: &mut Proof,
+    facts: &mut Facts,
     offer: &Offer,
-    over: Foot,
+    over: Support,
 ) -> Result<bool, RigFail>
-    requires attached { shape_of (rig_state rig.old) ≡ Some proof.old.shape }
-    requires known { IsKnown proof.old known.now }
-    requires offer { IsOffer proof.old.shape known.now.steps offer.now }
-    requires over { IsSecond proof.old offer.now over }
-    ensures good { IfOk result (λ yes. IsTrue yes → IsGood proof.new known.now.steps offer.now.wire.0) }
+    requires attached { shape_of (rig_state rig.old) ≡ Some facts.old.shape }
+    requires known { IsKnown facts.old known.now }
+    requires offer { IsOffer facts.old.shape known.now.steps offer.now }
+    requires over { IsSecond facts.old offer.now over }
+    ensures good { IfOk result (λ yes. IsTrue yes → IsGood facts.new known.now.steps offer.now.wire.0) }
     ensures bad { IfOk result (λ yes. yes ≡ false →
-        IsBad (rig_state rig.old).machine.faults proof.new known.now.steps offer.now.wire.0) }
-    ensures advances { Advances (rig_state rig.old) (rig_state rig.new) proof.old proof.new }
-    ensures loads { TakesForWire proof.old.shape offer.now.wire.0 (rig_state rig.old).loads (rig_state rig.new).loads }
+        IsBad (rig_state rig.old).machine.faults facts.new known.now.steps offer.now.wire.0) }
+    ensures advances { Advances (rig_state rig.old) (rig_state rig.new) facts.old facts.new }
+    ensures loads { TakesForWire facts.old.shape offer.now.wire.0 (rig_state rig.old).loads (rig_state rig.new).loads }
     ensures cause { IsErrOf result RigFail.Failed → Rose (rig_state rig.old).failures (rig_state rig.new).failures }
 {
-    if let Some(pin) = machine_pin(&proof.shape(), offer.wire) {
-        return is_good_pin(known, rig, proof, offer.wire, pin);
+    if let Some(pin) = machine_pin(&facts.shape(), offer.wire) {
+        return is_good_pin(known, rig, facts, offer.wire, pin);
     }
-    let Ok((left, right)) = known.ways_over(proof, offer.wire, offer.foot, over) else {
+    let Ok((left, right)) = known.ways_over(facts, offer.wire, offer.foot, over) else {
         return Err(RigFail::Memory);
     };
-    is_good(known, rig, proof, offer.wire, &left, &right)
+    is_good(known, rig, facts, offer.wire, &left, &right)
 }
 
 // Tests the wire of an offer that hangs on two kept crosspoints, and bars it. If it is good, it is known then.
 fn try_feet(
     known: &mut Known,
     rig: &mut Box<dyn Rig>,
-    proof: &mut Proof,
+    facts: &mut Facts,
     marks: &mut Marks,
     offer: &Offer,
-    over: Foot,
+    over: Support,
 ) -> Result<(), RigFail>
-    requires attached { shape_of (rig_state rig.old) ≡ Some proof.old.shape }
-    requires ready { IsReady (rig_state rig.old).machine.faults proof.old known.old offer.now marks.old }
-    requires over { IsSecond proof.old offer.now over }
+    requires attached { shape_of (rig_state rig.old) ≡ Some facts.old.shape }
+    requires ready { IsReady (rig_state rig.old).machine.faults facts.old known.old offer.now marks.old }
+    requires over { IsSecond facts.old offer.now over }
     requires first { has_number marks.old.barred offer.now.wire.0 ≡ false }
-    ensures known { IsKnown proof.new known.new }
+    ensures known { IsKnown facts.new known.new }
     ensures more { IsOneMore known.old known.new offer.now.wire.0 }
-    ensures tried { OnOk result (IsTried (rig_state rig.old).machine.faults proof.new known.new.steps offer.now.wire.0) }
-    ensures marks { OnOk result (AreMarks (rig_state rig.old).machine.faults proof.new known.new.steps marks.new) }
+    ensures tried { OnOk result (IsTried (rig_state rig.old).machine.faults facts.new known.new.steps offer.now.wire.0) }
+    ensures marks { OnOk result (AreMarks (rig_state rig.old).machine.faults facts.new known.new.steps marks.new) }
     ensures barred { marks.new ≡ record marks.old { barred = slice_set marks.old.barred offer.now.wire.0 true } }
-    ensures loads { TakesForWire proof.old.shape offer.now.wire.0 (rig_state rig.old).loads (rig_state rig.new).loads }
-    ensures advances { Advances (rig_state rig.old) (rig_state rig.new) proof.old proof.new }
+    ensures loads { TakesForWire facts.old.shape offer.now.wire.0 (rig_state rig.old).loads (rig_state rig.new).loads }
+    ensures advances { Advances (rig_state rig.old) (rig_state rig.new) facts.old facts.new }
     ensures cause { IsErrOf result RigFail.Failed → Rose (rig_state rig.old).failures (rig_state rig.new).failures }
 {
     marks.bar(offer.wire);
-    let good = is_good_over(known, rig, proof, offer, over)?;
+    let good = is_good_over(known, rig, facts, offer, over)?;
     if !good {
         return Ok(());
     }
-    let step = Step {
+    let step = VerifiedWire {
         wire: offer.wire,
-        stand: Stand::Feet(offer.foot, over),
+        stand: SupportedBy::Feet(offer.foot, over),
     };
     learn(known, step)
 }
@@ -117,64 +117,64 @@ fn try_feet(
 pub(crate) fn try_offer(
     known: &mut Known,
     rig: &mut Box<dyn Rig>,
-    proof: &mut Proof,
+    facts: &mut Facts,
     marks: &mut Marks,
     offer: &Offer,
 ) -> Result<(), RigFail>
-    requires attached { shape_of (rig_state rig.old) ≡ Some proof.old.shape }
-    requires ready { IsReady (rig_state rig.old).machine.faults proof.old known.old offer.now marks.old }
+    requires attached { shape_of (rig_state rig.old) ≡ Some facts.old.shape }
+    requires ready { IsReady (rig_state rig.old).machine.faults facts.old known.old offer.now marks.old }
     requires first { IsNewOffer offer.now marks.old }
     requires wire { has_number marks.old.barred offer.now.wire.0 ≡ false }
-    ensures known { IsKnown proof.new known.new }
+    ensures known { IsKnown facts.new known.new }
     ensures more { IsOneMore known.old known.new offer.now.wire.0 }
-    ensures found { OnOk result (HasTried (rig_state rig.old).machine.faults proof.new known.new.steps offer.now marks.old marks.new) }
-    ensures marks { OnOk result (AreMarks (rig_state rig.old).machine.faults proof.new known.new.steps marks.new) }
+    ensures found { OnOk result (HasTried (rig_state rig.old).machine.faults facts.new known.new.steps offer.now marks.old marks.new) }
+    ensures marks { OnOk result (AreMarks (rig_state rig.old).machine.faults facts.new known.new.steps marks.new) }
     ensures barred { BarsAtMost offer.now.wire.0 marks.old.barred marks.new.barred }
     ensures offered { OffersOnly offer.now.foot.cross.0 marks.old marks.new }
-    ensures spends { Spends (rig_state rig.old).machine.faults proof.old (IsOfOffer offer.now) marks.old marks.new
+    ensures spends { Spends (rig_state rig.old).machine.faults facts.old (IsOfOffer offer.now) marks.old marks.new
         (rig_state rig.old).loads (rig_state rig.new).loads }
-    ensures advances { Advances (rig_state rig.old) (rig_state rig.new) proof.old proof.new }
+    ensures advances { Advances (rig_state rig.old) (rig_state rig.new) facts.old facts.new }
     ensures cause { IsErrOf result RigFail.Failed → Rose (rig_state rig.old).failures (rig_state rig.new).failures }
 {
-    let second = second_foot(known, rig, proof, marks, offer)?;
+    let second = second_foot(known, rig, facts, marks, offer)?;
     let Some(over) = second else {
         return Ok(());
     };
-    try_feet(known, rig, proof, marks, offer, over)
+    try_feet(known, rig, facts, marks, offer, over)
 }
 
 /// Tries a pin of the machine, and bars it. It is known then, unless it isn't fit.
 pub(crate) fn try_pin(
     known: &mut Known,
     rig: &mut Box<dyn Rig>,
-    proof: &mut Proof,
+    facts: &mut Facts,
     marks: &mut Marks,
     pin: u32,
 ) -> Result<(), RigFail>
-    requires attached { shape_of (rig_state rig.old) ≡ Some proof.old.shape }
-    requires known { IsKnown proof.old known.old }
-    requires marks { AreMarks (rig_state rig.old).machine.faults proof.old known.old.steps marks.old }
-    requires pin { pin < pins_of proof.old.shape }
-    requires new { ¬ HasWire known.old.steps (pin_wire proof.old.shape pin) }
-    requires first { has_number marks.old.barred (pin_wire proof.old.shape pin) ≡ false }
-    ensures known { IsKnown proof.new known.new }
-    ensures more { IsOneMore known.old known.new (pin_wire proof.old.shape pin) }
-    ensures tried { OnOk result (IsTried (rig_state rig.old).machine.faults proof.new known.new.steps (pin_wire proof.old.shape pin)) }
-    ensures marks { OnOk result (AreMarks (rig_state rig.old).machine.faults proof.new known.new.steps marks.new) }
-    ensures barred { marks.new ≡ record marks.old { barred = slice_set marks.old.barred (pin_wire proof.old.shape pin) true } }
+    requires attached { shape_of (rig_state rig.old) ≡ Some facts.old.shape }
+    requires known { IsKnown facts.old known.old }
+    requires marks { AreMarks (rig_state rig.old).machine.faults facts.old known.old.steps marks.old }
+    requires pin { pin < pins_of facts.old.shape }
+    requires new { ¬ HasWire known.old.steps (pin_wire facts.old.shape pin) }
+    requires first { has_number marks.old.barred (pin_wire facts.old.shape pin) ≡ false }
+    ensures known { IsKnown facts.new known.new }
+    ensures more { IsOneMore known.old known.new (pin_wire facts.old.shape pin) }
+    ensures tried { OnOk result (IsTried (rig_state rig.old).machine.faults facts.new known.new.steps (pin_wire facts.old.shape pin)) }
+    ensures marks { OnOk result (AreMarks (rig_state rig.old).machine.faults facts.new known.new.steps marks.new) }
+    ensures barred { marks.new ≡ record marks.old { barred = slice_set marks.old.barred (pin_wire facts.old.shape pin) true } }
     ensures loads { (rig_state rig.new).loads ≤ (rig_state rig.old).loads + 2 }
-    ensures advances { Advances (rig_state rig.old) (rig_state rig.new) proof.old proof.new }
+    ensures advances { Advances (rig_state rig.old) (rig_state rig.new) facts.old facts.new }
     ensures cause { IsErrOf result RigFail.Failed → Rose (rig_state rig.old).failures (rig_state rig.new).failures }
 {
-    let wire = proof.shape().pin(pin);
+    let wire = facts.shape().pin(pin);
     marks.bar(wire);
-    let good = is_good_pin(known, rig, proof, wire, pin)?;
+    let good = is_good_pin(known, rig, facts, wire, pin)?;
     if !good {
         return Ok(());
     }
-    let step = Step {
+    let step = VerifiedWire {
         wire,
-        stand: Stand::Pin(pin),
+        stand: SupportedBy::Pin(pin),
     };
     learn(known, step)
 }

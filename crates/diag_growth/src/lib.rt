@@ -49,7 +49,7 @@ mod tables;
 mod ties;
 
 pub use cells::test_table;
-pub use diag_known::{Field, Foot, Known, Stand, Step, add_wires, standing};
+pub use diag_known::{Field, Known, Support, SupportedBy, VerifiedWire, add_wires, standing};
 pub use rounds::grow;
 pub use seat::{Arm, Seat};
 pub use tables::test_tables;

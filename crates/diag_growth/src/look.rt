@@ -15,8 +15,8 @@ ghost use Rattle.diag_known.specs.Offers.{IsOffer};
 ghost use Rattle.diag_known.specs.Trials.{IsKeptUnlessStuck};
 
 use crate::learn::try_offer;
-use diag_evidence::Proof;
-use diag_known::{Foot, Known, Marks, Near, Offer, link_at, link_count, toggle_known};
+use diag_evidence::Facts;
+use diag_known::{Known, Marks, Near, Offer, Support, link_at, link_count, toggle_known};
 use machine_shape::{Wire, the_numbering_is_sound};
 use rig::{Rig, RigFail};
 use std::alloc::AllocError;
@@ -26,18 +26,18 @@ use std::alloc::AllocError;
 pub(crate) struct Look {
     pub place: usize,
     pub wire: Wire,
-    pub link: Foot,
+    pub link: Support,
 }
 
 // Takes a link, if its known end came before the place.
 fn put_earlier(
-    others: &mut Vec<Foot>,
+    others: &mut Vec<Support>,
     known: &Known,
-    proof: &Proof,
+    facts: &Facts,
     place: usize,
-    link: Foot,
+    link: Support,
 ) -> Result<(), AllocError>
-    requires known { IsKnown proof.now known.now }
+    requires known { IsKnown facts.now known.now }
     requires wire { link.wire.0 < wires_of known.now.shape }
     ensures { OnOk result (TakesEarlier known.now.steps place link others.old.items others.new.items) }
 {
@@ -54,12 +54,12 @@ fn put_earlier(
 // The links of the wire to which a look leads, whose known ends came before.
 fn earlier_links(
     known: &Known,
-    proof: &Proof,
+    facts: &Facts,
     near: &Vec<Near>,
     look: Look,
-) -> Result<Vec<Foot>, AllocError>
-    requires known { IsKnown proof.now known.now }
-    requires links { AreLinked proof.now.shape near.now.items }
+) -> Result<Vec<Support>, AllocError>
+    requires known { IsKnown facts.now known.now }
+    requires links { AreLinked facts.now.shape near.now.items }
     ensures { IfOk result (λ others. AreEarlier near.now.items known.now.steps look.place look.link.wire.0 others.items) }
 {
     the_numbering_is_sound();
@@ -68,25 +68,25 @@ fn earlier_links(
         let Some(link) = link_at(near, look.link.wire, j) else {
             continue;
         };
-        put_earlier(&mut others, known, proof, look.place, link)?;
+        put_earlier(&mut others, known, facts, look.place, link)?;
     }
     Ok(others)
 }
 
 // The offer of a look to a wire that isn't known.
-fn offer_of(known: &Known, proof: &Proof, near: &Vec<Near>, look: Look) -> Result<Offer, AllocError>
-    requires known { IsKnown proof.now known.now }
-    requires links { AreLinked proof.now.shape near.now.items }
+fn offer_of(known: &Known, facts: &Facts, near: &Vec<Near>, look: Look) -> Result<Offer, AllocError>
+    requires known { IsKnown facts.now known.now }
+    requires links { AreLinked facts.now.shape near.now.items }
     requires look { IsLook near.now.items known.now.steps look }
     requires new { ¬ HasWire known.now.steps look.link.wire.0 }
-    ensures offer { IfOk result (IsOffer proof.now.shape known.now.steps) }
+    ensures offer { IfOk result (IsOffer facts.now.shape known.now.steps) }
     ensures of_look { IfOk result (IsOfferOf near.now.items known.now.steps look) }
 {
     the_numbering_is_sound();
-    let others = earlier_links(known, proof, near, look)?;
+    let others = earlier_links(known, facts, near, look)?;
     Ok(Offer {
         wire: look.link.wire,
-        foot: Foot {
+        foot: Support {
             cross: look.link.cross,
             wire: look.wire,
         },
@@ -98,22 +98,22 @@ fn offer_of(known: &Known, proof: &Proof, near: &Vec<Near>, look: Look) -> Resul
 fn look_known(
     known: &Known,
     rig: &mut Box<dyn Rig>,
-    proof: &mut Proof,
+    facts: &mut Facts,
     marks: &mut Marks,
     look: Look,
 ) -> Result<(), RigFail>
-    requires attached { shape_of (rig_state rig.old) ≡ Some proof.old.shape }
-    requires known { IsKnown proof.old known.now }
-    requires look { IsLookAt proof.old.shape known.now.steps look }
+    requires attached { shape_of (rig_state rig.old) ≡ Some facts.old.shape }
+    requires known { IsKnown facts.old known.now }
+    requires look { IsLookAt facts.old.shape known.now.steps look }
     requires other { IsBefore known.now.steps look.place look.link.wire.0 }
-    requires marks { AreMarks (rig_state rig.old).machine.faults proof.old known.now.steps marks.old }
-    ensures kept { OnOk result (IsKeptUnlessStuck (rig_state rig.old).machine.faults proof.new look.link.cross.0) }
-    ensures marks { OnOk result (AreMarks (rig_state rig.old).machine.faults proof.new known.now.steps marks.new) }
-    ensures joins { JoinsAtMost proof.old look.link.cross.0 marks.old marks.new (rig_state rig.old).loads (rig_state rig.new).loads }
-    ensures advances { Advances (rig_state rig.old) (rig_state rig.new) proof.old proof.new }
+    requires marks { AreMarks (rig_state rig.old).machine.faults facts.old known.now.steps marks.old }
+    ensures kept { OnOk result (IsKeptUnlessStuck (rig_state rig.old).machine.faults facts.new look.link.cross.0) }
+    ensures marks { OnOk result (AreMarks (rig_state rig.old).machine.faults facts.new known.now.steps marks.new) }
+    ensures joins { JoinsAtMost facts.old look.link.cross.0 marks.old marks.new (rig_state rig.old).loads (rig_state rig.new).loads }
+    ensures advances { Advances (rig_state rig.old) (rig_state rig.new) facts.old facts.new }
     ensures cause { IsErrOf result RigFail.Failed → Rose (rig_state rig.old).failures (rig_state rig.new).failures }
 {
-    if proof.keeps_cross(look.link.cross) {
+    if facts.keeps_cross(look.link.cross) {
         return Ok(());
     }
     if marks.between.has(look.link.cross.0) {
@@ -123,7 +123,7 @@ fn look_known(
     toggle_known(
         known,
         rig,
-        proof,
+        facts,
         look.link.cross,
         look.link.wire,
         look.wire,
@@ -135,36 +135,36 @@ fn look_known(
 fn look_new(
     known: &mut Known,
     rig: &mut Box<dyn Rig>,
-    proof: &mut Proof,
+    facts: &mut Facts,
     marks: &mut Marks,
     near: &Vec<Near>,
     look: Look,
 ) -> Result<(), RigFail>
-    requires attached { shape_of (rig_state rig.old) ≡ Some proof.old.shape }
-    requires known { IsKnown proof.old known.old }
-    requires links { AreLinked proof.old.shape near.now.items }
+    requires attached { shape_of (rig_state rig.old) ≡ Some facts.old.shape }
+    requires known { IsKnown facts.old known.old }
+    requires links { AreLinked facts.old.shape near.now.items }
     requires look { IsLook near.now.items known.old.steps look }
-    requires marks { AreAllMarks (rig_state rig.old).machine.faults proof.old near.now.items known.old.steps marks.old }
+    requires marks { AreAllMarks (rig_state rig.old).machine.faults facts.old near.now.items known.old.steps marks.old }
     requires new { ¬ HasWire known.old.steps look.link.wire.0 }
     requires free { has_number marks.old.barred look.link.wire.0 ≡ false }
-    ensures grows { Grows proof.new known.old known.new marks.old.barred marks.new.barred }
-    ensures tried { OnOk result (AreTried (rig_state rig.old).machine.faults proof.new known.new.steps marks.old.barred marks.new.barred) }
+    ensures grows { Grows facts.new known.old known.new marks.old.barred marks.new.barred }
+    ensures tried { OnOk result (AreTried (rig_state rig.old).machine.faults facts.new known.new.steps marks.old.barred marks.new.barred) }
     ensures looked { OnOk result
-        (IsLookedOver (rig_state rig.old).machine.faults proof.new near.now.items known.new.steps marks.new.barred look) }
-    ensures marks { OnOk result (AreAllMarks (rig_state rig.old).machine.faults proof.new near.now.items known.new.steps marks.new) }
-    ensures spends { Spends (rig_state rig.old).machine.faults proof.old (IsLinking near.now.items) marks.old marks.new
+        (IsLookedOver (rig_state rig.old).machine.faults facts.new near.now.items known.new.steps marks.new.barred look) }
+    ensures marks { OnOk result (AreAllMarks (rig_state rig.old).machine.faults facts.new near.now.items known.new.steps marks.new) }
+    ensures spends { Spends (rig_state rig.old).machine.faults facts.old (IsLinking near.now.items) marks.old marks.new
         (rig_state rig.old).loads (rig_state rig.new).loads }
-    ensures advances { Advances (rig_state rig.old) (rig_state rig.new) proof.old proof.new }
+    ensures advances { Advances (rig_state rig.old) (rig_state rig.new) facts.old facts.new }
     ensures cause { IsErrOf result RigFail.Failed → Rose (rig_state rig.old).failures (rig_state rig.new).failures }
 {
     the_numbering_is_sound();
     if marks.offered.has(look.link.cross.0) {
         return Ok(());
     }
-    let Ok(offer) = offer_of(known, proof, near, look) else {
+    let Ok(offer) = offer_of(known, facts, near, look) else {
         return Err(RigFail::Memory);
     };
-    try_offer(known, rig, proof, marks, &offer)
+    try_offer(known, rig, facts, marks, &offer)
 }
 
 // Looks from a known wire over a link.
@@ -172,24 +172,24 @@ fn look_new(
 fn look_over(
     known: &mut Known,
     rig: &mut Box<dyn Rig>,
-    proof: &mut Proof,
+    facts: &mut Facts,
     marks: &mut Marks,
     near: &Vec<Near>,
     look: Look,
 ) -> Result<(), RigFail>
-    requires attached { shape_of (rig_state rig.old) ≡ Some proof.old.shape }
-    requires known { IsKnown proof.old known.old }
-    requires links { AreLinked proof.old.shape near.now.items }
+    requires attached { shape_of (rig_state rig.old) ≡ Some facts.old.shape }
+    requires known { IsKnown facts.old known.old }
+    requires links { AreLinked facts.old.shape near.now.items }
     requires look { IsLook near.now.items known.old.steps look }
-    requires marks { AreAllMarks (rig_state rig.old).machine.faults proof.old near.now.items known.old.steps marks.old }
-    ensures grows { Grows proof.new known.old known.new marks.old.barred marks.new.barred }
-    ensures tried { OnOk result (AreTried (rig_state rig.old).machine.faults proof.new known.new.steps marks.old.barred marks.new.barred) }
+    requires marks { AreAllMarks (rig_state rig.old).machine.faults facts.old near.now.items known.old.steps marks.old }
+    ensures grows { Grows facts.new known.old known.new marks.old.barred marks.new.barred }
+    ensures tried { OnOk result (AreTried (rig_state rig.old).machine.faults facts.new known.new.steps marks.old.barred marks.new.barred) }
     ensures looked { OnOk result
-        (IsLookedOver (rig_state rig.old).machine.faults proof.new near.now.items known.new.steps marks.new.barred look) }
-    ensures marks { OnOk result (AreAllMarks (rig_state rig.old).machine.faults proof.new near.now.items known.new.steps marks.new) }
-    ensures spends { Spends (rig_state rig.old).machine.faults proof.old (IsLinking near.now.items) marks.old marks.new
+        (IsLookedOver (rig_state rig.old).machine.faults facts.new near.now.items known.new.steps marks.new.barred look) }
+    ensures marks { OnOk result (AreAllMarks (rig_state rig.old).machine.faults facts.new near.now.items known.new.steps marks.new) }
+    ensures spends { Spends (rig_state rig.old).machine.faults facts.old (IsLinking near.now.items) marks.old marks.new
         (rig_state rig.old).loads (rig_state rig.new).loads }
-    ensures advances { Advances (rig_state rig.old) (rig_state rig.new) proof.old proof.new }
+    ensures advances { Advances (rig_state rig.old) (rig_state rig.new) facts.old facts.new }
     ensures cause { IsErrOf result RigFail.Failed → Rose (rig_state rig.old).failures (rig_state rig.new).failures }
 {
     the_numbering_is_sound();
@@ -197,37 +197,37 @@ fn look_over(
         if marks.barred.has(look.link.wire.0) {
             return Ok(());
         }
-        return look_new(known, rig, proof, marks, near, look);
+        return look_new(known, rig, facts, marks, near, look);
     };
     if other >= look.place {
         return Ok(());
     }
-    look_known(known, rig, proof, marks, look)
+    look_known(known, rig, facts, marks, look)
 }
 
 /// Looks from a known wire over all its links.
 pub(crate) fn look_at(
     known: &mut Known,
     rig: &mut Box<dyn Rig>,
-    proof: &mut Proof,
+    facts: &mut Facts,
     marks: &mut Marks,
     near: &Vec<Near>,
     place: usize,
 ) -> Result<(), RigFail>
-    requires attached { shape_of (rig_state rig.old) ≡ Some proof.old.shape }
-    requires known { IsKnown proof.old known.old }
-    requires links { AreLinked proof.old.shape near.now.items }
+    requires attached { shape_of (rig_state rig.old) ≡ Some facts.old.shape }
+    requires known { IsKnown facts.old known.old }
+    requires links { AreLinked facts.old.shape near.now.items }
     requires place { place < length known.old.steps }
-    requires marks { AreAllMarks (rig_state rig.old).machine.faults proof.old near.now.items known.old.steps marks.old }
-    ensures grows { Grows proof.new known.old known.new marks.old.barred marks.new.barred }
-    ensures tried { OnOk result (AreTried (rig_state rig.old).machine.faults proof.new known.new.steps marks.old.barred marks.new.barred) }
+    requires marks { AreAllMarks (rig_state rig.old).machine.faults facts.old near.now.items known.old.steps marks.old }
+    ensures grows { Grows facts.new known.old known.new marks.old.barred marks.new.barred }
+    ensures tried { OnOk result (AreTried (rig_state rig.old).machine.faults facts.new known.new.steps marks.old.barred marks.new.barred) }
     ensures grown { OnOk result
-        (IsGrown (rig_state rig.old).machine.faults proof.old near.now.items known.old.steps marks.old.barred place →
-        IsGrown (rig_state rig.old).machine.faults proof.new near.now.items known.new.steps marks.new.barred (place + 1)) }
-    ensures marks { OnOk result (AreAllMarks (rig_state rig.old).machine.faults proof.new near.now.items known.new.steps marks.new) }
-    ensures spends { Spends (rig_state rig.old).machine.faults proof.old (IsLinking near.now.items) marks.old marks.new
+        (IsGrown (rig_state rig.old).machine.faults facts.old near.now.items known.old.steps marks.old.barred place →
+        IsGrown (rig_state rig.old).machine.faults facts.new near.now.items known.new.steps marks.new.barred (place + 1)) }
+    ensures marks { OnOk result (AreAllMarks (rig_state rig.old).machine.faults facts.new near.now.items known.new.steps marks.new) }
+    ensures spends { Spends (rig_state rig.old).machine.faults facts.old (IsLinking near.now.items) marks.old marks.new
         (rig_state rig.old).loads (rig_state rig.new).loads }
-    ensures advances { Advances (rig_state rig.old) (rig_state rig.new) proof.old proof.new }
+    ensures advances { Advances (rig_state rig.old) (rig_state rig.new) facts.old facts.new }
     ensures cause { IsErrOf result RigFail.Failed → Rose (rig_state rig.old).failures (rig_state rig.new).failures }
 {
     let wire = known.wire_at(place);
@@ -235,7 +235,7 @@ pub(crate) fn look_at(
         let Some(link) = link_at(near, wire, j) else {
             continue;
         };
-        look_over(known, rig, proof, marks, near, Look { place, wire, link })?;
+        look_over(known, rig, facts, marks, near, Look { place, wire, link })?;
     }
     Ok(())
 }

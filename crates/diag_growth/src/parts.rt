@@ -11,7 +11,7 @@ ghost use Rattle.diag_growth.specs.Partings.{AreLeft, IsListed, LeavesAt, IsPart
 ghost use Rattle.diag_known.specs.Trials.{IsBad};
 ghost use Rattle.diag_known.specs.Ways.{IsWay, AreWays};
 
-use diag_evidence::Proof;
+use diag_evidence::Facts;
 use diag_evidence::laws::tests_by_lists_pass;
 use diag_known::{Hanging, Known, driven, find_reached, laid, put_walks, walks};
 use diag_tests::Route;
@@ -20,46 +20,46 @@ use rig::{PinBits, Rig, RigFail};
 use std::alloc::AllocError;
 
 // No pin is driven 0.
-fn released(proof: &mut Proof) -> Result<PinBits, RigFail>
+fn released(facts: &mut Facts) -> Result<PinBits, RigFail>
     ensures released { IfOk result AreReleased }
-    ensures length { IfOk result (λ drive. length drive ≡ pins_of proof.old.shape) }
+    ensures length { IfOk result (λ drive. length drive ≡ pins_of facts.old.shape) }
     ensures memory { IsErrOf result RigFail.Failed → ⊥ }
-    ensures same { proof.new ≡ proof.old }
+    ensures same { facts.new ≡ facts.old }
 {
-    match proof.released() {
+    match facts.released() {
         Ok(drive) => Ok(drive),
         Err(_) => Err(RigFail::Memory),
     }
 }
 
 // Swings a way to a wire, unless it is kept already. True exactly where the wire is kept then.
-fn swing(
+fn test_stuck(
     known: &Known,
     rig: &mut Box<dyn Rig>,
-    proof: &mut Proof,
+    facts: &mut Facts,
     w: Wire,
     way: &Route,
 ) -> Result<bool, RigFail>
-    requires attached { shape_of (rig_state rig.old) ≡ Some proof.old.shape }
-    requires known { IsKnown proof.old known.now }
-    requires way { IsWay proof.old known.now.steps w.0 way.now }
-    ensures kept { IfOk result (λ yes. IsTrue yes → keeps_wire proof.new w.0 ≡ true) }
-    ensures bad { IfOk result (λ yes. yes ≡ false → IsBad (rig_state rig.old).machine.faults proof.new known.now.steps w.0) }
-    ensures advances { Advances (rig_state rig.old) (rig_state rig.new) proof.old proof.new }
+    requires attached { shape_of (rig_state rig.old) ≡ Some facts.old.shape }
+    requires known { IsKnown facts.old known.now }
+    requires way { IsWay facts.old known.now.steps w.0 way.now }
+    ensures kept { IfOk result (λ yes. IsTrue yes → keeps_wire facts.new w.0 ≡ true) }
+    ensures bad { IfOk result (λ yes. yes ≡ false → IsBad (rig_state rig.old).machine.faults facts.new known.now.steps w.0) }
+    ensures advances { Advances (rig_state rig.old) (rig_state rig.new) facts.old facts.new }
     ensures loads { (rig_state rig.new).loads ≤ (rig_state rig.old).loads + 1 }
     ensures cause { IsErrOf result RigFail.Failed → Rose (rig_state rig.old).failures (rig_state rig.new).failures }
 {
-    if proof.keeps_wire(w) {
+    if facts.keeps_wire(w) {
         return Ok(true);
     }
     tests_by_lists_pass();
-    let config = laid(proof, way, way, &[])?;
-    let low = driven(proof, way.pin())?;
-    let high = released(proof)?;
-    let answer = proof.swing(rig, &config, &low, &high, way);
-    proof.give_back(config);
-    proof.give_back_drive(low);
-    proof.give_back_drive(high);
+    let config = laid(facts, way, way, &[])?;
+    let low = driven(facts, way.pin())?;
+    let high = released(facts)?;
+    let answer = facts.test_stuck(rig, &config, &low, &high, way);
+    facts.give_back(config);
+    facts.give_back_drive(low);
+    facts.give_back_drive(high);
     answer
 }
 
@@ -67,19 +67,19 @@ fn swing(
 fn put_left(
     wires: &mut Vec<Wire>,
     known: &Known,
-    proof: &Proof,
+    facts: &Facts,
     w: Wire,
     place: usize,
 ) -> Result<(), AllocError>
-    requires known { IsKnown proof.now known.now }
-    requires wire { w.0 < wires_of proof.now.shape }
+    requires known { IsKnown facts.now known.now }
+    requires wire { w.0 < wires_of facts.now.shape }
     requires new { ¬ HasWire known.now.steps w.0 }
     requires place { place < length known.now.steps }
     ensures stays { OnOk result ((u : ℕ) → IsListed wires.old.items u → IsListed wires.new.items u) }
-    ensures has { OnOk result (LeavesAt proof.now known.now.steps w.0 wires.new.items place) }
+    ensures has { OnOk result (LeavesAt facts.now known.now.steps w.0 wires.new.items place) }
 {
     let u = known.wire_at(place);
-    if proof.keeps_pair(w, u) {
+    if facts.keeps_pair(w, u) {
         return Ok(());
     }
     wires.push(u)?;
@@ -87,31 +87,31 @@ fn put_left(
 }
 
 /// The known wires that aren't kept apart from this one.
-pub(crate) fn left_of(known: &Known, proof: &Proof, w: Wire) -> Result<Vec<Wire>, AllocError>
-    requires known { IsKnown proof.now known.now }
-    requires wire { w.0 < wires_of proof.now.shape }
+pub(crate) fn left_of(known: &Known, facts: &Facts, w: Wire) -> Result<Vec<Wire>, AllocError>
+    requires known { IsKnown facts.now known.now }
+    requires wire { w.0 < wires_of facts.now.shape }
     requires new { ¬ HasWire known.now.steps w.0 }
-    ensures { IfOk result (λ wires. AreLeft proof.now known.now.steps w.0 wires.items) }
+    ensures { IfOk result (λ wires. AreLeft facts.now known.now.steps w.0 wires.items) }
 {
     let mut wires = Vec::new(known.alloc());
     'places: for i in 0..known.len() {
-        put_left(&mut wires, known, proof, w, i)?;
+        put_left(&mut wires, known, facts, w, i)?;
     }
     Ok(wires)
 }
 
 // Walks over all that is reached beside a way, and not kept apart from its end.
-fn parting(known: &Known, proof: &Proof, w: Wire, way: &Route) -> Result<Hanging, AllocError>
-    requires known { IsKnown proof.now known.now }
-    requires wire { w.0 < wires_of proof.now.shape }
+fn parting(known: &Known, facts: &Facts, w: Wire, way: &Route) -> Result<Hanging, AllocError>
+    requires known { IsKnown facts.now known.now }
+    requires wire { w.0 < wires_of facts.now.shape }
     requires new { ¬ HasWire known.now.steps w.0 }
-    requires way { IsRoute proof.now.shape way.now }
-    ensures { IfOk result (λ h. IsParting proof.now known.now.steps w.0 way.now h.walks.items (cross_numbers h.ties.items)) }
+    requires way { IsRoute facts.now.shape way.now }
+    ensures { IfOk result (λ h. IsParting facts.now known.now.steps w.0 way.now h.walks.items (cross_numbers h.ties.items)) }
 {
     let mut reaches = Vec::new(known.alloc());
-    find_reached(known, proof, way, &mut reaches)?;
-    let left = left_of(known, proof, w)?;
-    let walks = walks(known, proof, &reaches, &left)?;
+    find_reached(known, facts, way, &mut reaches)?;
+    let left = left_of(known, facts, w)?;
+    let walks = walks(known, facts, &reaches, &left)?;
     let mut ties = Vec::new(known.alloc());
     put_walks(&mut ties, &walks)?;
     Ok(Hanging { walks, ties })
@@ -121,27 +121,27 @@ fn parting(known: &Known, proof: &Proof, w: Wire, way: &Route) -> Result<Hanging
 fn part_from(
     known: &Known,
     rig: &mut Box<dyn Rig>,
-    proof: &mut Proof,
+    facts: &mut Facts,
     w: Wire,
     way: &Route,
     beside: &Hanging,
 ) -> Result<bool, RigFail>
-    requires attached { shape_of (rig_state rig.old) ≡ Some proof.old.shape }
-    requires known { IsKnown proof.old known.now }
-    requires way { IsWay proof.old known.now.steps w.0 way.now }
-    requires beside { IsParting proof.old known.now.steps w.0 way.now beside.now.walks.items (cross_numbers beside.now.ties.items) }
+    requires attached { shape_of (rig_state rig.old) ≡ Some facts.old.shape }
+    requires known { IsKnown facts.old known.now }
+    requires way { IsWay facts.old known.now.steps w.0 way.now }
+    requires beside { IsParting facts.old known.now.steps w.0 way.now beside.now.walks.items (cross_numbers beside.now.ties.items) }
     requires new { ¬ HasWire known.now.steps w.0 }
-    ensures apart { IfOk result (λ yes. IsTrue yes → IsApartBeside proof.new known.now.steps w.0 way.now) }
-    ensures bad { IfOk result (λ yes. yes ≡ false → IsBad (rig_state rig.old).machine.faults proof.new known.now.steps w.0) }
-    ensures advances { Advances (rig_state rig.old) (rig_state rig.new) proof.old proof.new }
+    ensures apart { IfOk result (λ yes. IsTrue yes → IsApartBeside facts.new known.now.steps w.0 way.now) }
+    ensures bad { IfOk result (λ yes. yes ≡ false → IsBad (rig_state rig.old).machine.faults facts.new known.now.steps w.0) }
+    ensures advances { Advances (rig_state rig.old) (rig_state rig.new) facts.old facts.new }
     ensures loads { (rig_state rig.new).loads ≤ (rig_state rig.old).loads + 1 }
     ensures cause { IsErrOf result RigFail.Failed → Rose (rig_state rig.old).failures (rig_state rig.new).failures }
 {
-    let config = laid(proof, way, way, &beside.ties)?;
-    let drive = driven(proof, way.pin())?;
-    let answer = proof.all_apart(rig, &config, &drive, way, &beside.walks);
-    proof.give_back(config);
-    proof.give_back_drive(drive);
+    let config = laid(facts, way, way, &beside.ties)?;
+    let drive = driven(facts, way.pin())?;
+    let answer = facts.all_apart(rig, &config, &drive, way, &beside.walks);
+    facts.give_back(config);
+    facts.give_back_drive(drive);
     answer
 }
 
@@ -149,57 +149,57 @@ fn part_from(
 fn part(
     known: &Known,
     rig: &mut Box<dyn Rig>,
-    proof: &mut Proof,
+    facts: &mut Facts,
     w: Wire,
     way: &Route,
 ) -> Result<bool, RigFail>
-    requires attached { shape_of (rig_state rig.old) ≡ Some proof.old.shape }
-    requires known { IsKnown proof.old known.now }
-    requires way { IsWay proof.old known.now.steps w.0 way.now }
+    requires attached { shape_of (rig_state rig.old) ≡ Some facts.old.shape }
+    requires known { IsKnown facts.old known.now }
+    requires way { IsWay facts.old known.now.steps w.0 way.now }
     requires new { ¬ HasWire known.now.steps w.0 }
-    ensures apart { IfOk result (λ yes. IsTrue yes → IsApartBeside proof.new known.now.steps w.0 way.now) }
-    ensures bad { IfOk result (λ yes. yes ≡ false → IsBad (rig_state rig.old).machine.faults proof.new known.now.steps w.0) }
-    ensures advances { Advances (rig_state rig.old) (rig_state rig.new) proof.old proof.new }
+    ensures apart { IfOk result (λ yes. IsTrue yes → IsApartBeside facts.new known.now.steps w.0 way.now) }
+    ensures bad { IfOk result (λ yes. yes ≡ false → IsBad (rig_state rig.old).machine.faults facts.new known.now.steps w.0) }
+    ensures advances { Advances (rig_state rig.old) (rig_state rig.new) facts.old facts.new }
     ensures loads { (rig_state rig.new).loads ≤ (rig_state rig.old).loads + 1 }
     ensures cause { IsErrOf result RigFail.Failed → Rose (rig_state rig.old).failures (rig_state rig.new).failures }
 {
-    let Ok(beside) = parting(known, proof, w, way) else {
+    let Ok(beside) = parting(known, facts, w, way) else {
         return Err(RigFail::Memory);
     };
     if beside.walks.is_empty() {
         return Ok(true);
     }
-    part_from(known, rig, proof, w, way, &beside)
+    part_from(known, rig, facts, w, way, &beside)
 }
 
 /// Tests a wire by two ways to it. True exactly where it is kept then, and kept apart from each known wire.
 pub(crate) fn is_good(
     known: &Known,
     rig: &mut Box<dyn Rig>,
-    proof: &mut Proof,
+    facts: &mut Facts,
     w: Wire,
     left: &Route,
     right: &Route,
 ) -> Result<bool, RigFail>
-    requires attached { shape_of (rig_state rig.old) ≡ Some proof.old.shape }
-    requires known { IsKnown proof.old known.now }
-    requires ways { AreWays proof.old known.now.steps w.0 left.now right.now }
+    requires attached { shape_of (rig_state rig.old) ≡ Some facts.old.shape }
+    requires known { IsKnown facts.old known.now }
+    requires ways { AreWays facts.old known.now.steps w.0 left.now right.now }
     requires new { ¬ HasWire known.now.steps w.0 }
-    ensures good { IfOk result (λ yes. IsTrue yes → IsGood proof.new known.now.steps w.0) }
-    ensures bad { IfOk result (λ yes. yes ≡ false → IsBad (rig_state rig.old).machine.faults proof.new known.now.steps w.0) }
-    ensures advances { Advances (rig_state rig.old) (rig_state rig.new) proof.old proof.new }
+    ensures good { IfOk result (λ yes. IsTrue yes → IsGood facts.new known.now.steps w.0) }
+    ensures bad { IfOk result (λ yes. yes ≡ false → IsBad (rig_state rig.old).machine.faults facts.new known.now.steps w.0) }
+    ensures advances { Advances (rig_state rig.old) (rig_state rig.new) facts.old facts.new }
     ensures loads { (rig_state rig.new).loads ≤ (rig_state rig.old).loads + 3 }
     ensures cause { IsErrOf result RigFail.Failed → Rose (rig_state rig.old).failures (rig_state rig.new).failures }
 {
-    let kept = swing(known, rig, proof, w, left)?;
+    let kept = test_stuck(known, rig, facts, w, left)?;
     if !kept {
         return Ok(false);
     }
-    let apart = part(known, rig, proof, w, left)?;
+    let apart = part(known, rig, facts, w, left)?;
     if !apart {
         return Ok(false);
     }
-    part(known, rig, proof, w, right)
+    part(known, rig, facts, w, right)
 }
 
 /// Tests a pin of the machine by its one way, which is the pin alone. True exactly where it is kept then, and kept apart from each
@@ -207,27 +207,27 @@ pub(crate) fn is_good(
 pub(crate) fn is_good_pin(
     known: &Known,
     rig: &mut Box<dyn Rig>,
-    proof: &mut Proof,
+    facts: &mut Facts,
     w: Wire,
     pin: u32,
 ) -> Result<bool, RigFail>
-    requires attached { shape_of (rig_state rig.old) ≡ Some proof.old.shape }
-    requires known { IsKnown proof.old known.now }
-    requires pin { pin < pins_of proof.old.shape }
-    requires wire { w.0 ≡ pin_wire proof.old.shape pin }
+    requires attached { shape_of (rig_state rig.old) ≡ Some facts.old.shape }
+    requires known { IsKnown facts.old known.now }
+    requires pin { pin < pins_of facts.old.shape }
+    requires wire { w.0 ≡ pin_wire facts.old.shape pin }
     requires new { ¬ HasWire known.now.steps w.0 }
-    ensures good { IfOk result (λ yes. IsTrue yes → IsGood proof.new known.now.steps w.0) }
-    ensures bad { IfOk result (λ yes. yes ≡ false → IsBad (rig_state rig.old).machine.faults proof.new known.now.steps w.0) }
-    ensures advances { Advances (rig_state rig.old) (rig_state rig.new) proof.old proof.new }
+    ensures good { IfOk result (λ yes. IsTrue yes → IsGood facts.new known.now.steps w.0) }
+    ensures bad { IfOk result (λ yes. yes ≡ false → IsBad (rig_state rig.old).machine.faults facts.new known.now.steps w.0) }
+    ensures advances { Advances (rig_state rig.old) (rig_state rig.new) facts.old facts.new }
     ensures loads { (rig_state rig.new).loads ≤ (rig_state rig.old).loads + 2 }
     ensures cause { IsErrOf result RigFail.Failed → Rose (rig_state rig.old).failures (rig_state rig.new).failures }
 {
     let Ok(way) = known.way_at(pin) else {
         return Err(RigFail::Memory);
     };
-    let kept = swing(known, rig, proof, w, &way)?;
+    let kept = test_stuck(known, rig, facts, w, &way)?;
     if !kept {
         return Ok(false);
     }
-    part(known, rig, proof, w, &way)
+    part(known, rig, facts, w, &way)
 }

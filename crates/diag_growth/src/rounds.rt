@@ -14,7 +14,7 @@ ghost use Rattle.diag_known.specs.Marked.{Spends};
 
 use crate::learn::try_pin;
 use crate::look::look_at;
-use diag_evidence::Proof;
+use diag_evidence::Facts;
 use diag_known::{Field, Known, Marks, Near, links_of};
 use machine_shape::{the_crosspoints_are_sound, the_numbering_is_sound};
 use rig::{Rig, RigFail};
@@ -23,29 +23,29 @@ use rig::{Rig, RigFail};
 fn look_on(
     known: &mut Known,
     rig: &mut Box<dyn Rig>,
-    proof: &mut Proof,
+    facts: &mut Facts,
     marks: &mut Marks,
     near: &Vec<Near>,
     from: usize,
 ) -> Result<(), RigFail>
-    requires attached { shape_of (rig_state rig.old) ≡ Some proof.old.shape }
-    requires known { IsKnown proof.old known.old }
-    requires links { AreLinked proof.old.shape near.now.items }
-    requires marks { AreAllMarks (rig_state rig.old).machine.faults proof.old near.now.items known.old.steps marks.old }
+    requires attached { shape_of (rig_state rig.old) ≡ Some facts.old.shape }
+    requires known { IsKnown facts.old known.old }
+    requires links { AreLinked facts.old.shape near.now.items }
+    requires marks { AreAllMarks (rig_state rig.old).machine.faults facts.old near.now.items known.old.steps marks.old }
     requires from { from ≤ length known.old.steps }
-    ensures grows { Grows proof.new known.old known.new marks.old.barred marks.new.barred }
-    ensures tried { OnOk result (AreTried (rig_state rig.old).machine.faults proof.new known.new.steps marks.old.barred marks.new.barred) }
-    ensures grown { OnOk result (IsGrown (rig_state rig.old).machine.faults proof.old near.now.items known.old.steps marks.old.barred from →
-        IsGrown (rig_state rig.old).machine.faults proof.new near.now.items known.new.steps marks.new.barred (length known.new.steps)) }
-    ensures marks { OnOk result (AreAllMarks (rig_state rig.old).machine.faults proof.new near.now.items known.new.steps marks.new) }
-    ensures spends { Spends (rig_state rig.old).machine.faults proof.old (IsLinking near.now.items) marks.old marks.new
+    ensures grows { Grows facts.new known.old known.new marks.old.barred marks.new.barred }
+    ensures tried { OnOk result (AreTried (rig_state rig.old).machine.faults facts.new known.new.steps marks.old.barred marks.new.barred) }
+    ensures grown { OnOk result (IsGrown (rig_state rig.old).machine.faults facts.old near.now.items known.old.steps marks.old.barred from →
+        IsGrown (rig_state rig.old).machine.faults facts.new near.now.items known.new.steps marks.new.barred (length known.new.steps)) }
+    ensures marks { OnOk result (AreAllMarks (rig_state rig.old).machine.faults facts.new near.now.items known.new.steps marks.new) }
+    ensures spends { Spends (rig_state rig.old).machine.faults facts.old (IsLinking near.now.items) marks.old marks.new
         (rig_state rig.old).loads (rig_state rig.new).loads }
-    ensures advances { Advances (rig_state rig.old) (rig_state rig.new) proof.old proof.new }
+    ensures advances { Advances (rig_state rig.old) (rig_state rig.new) facts.old facts.new }
     ensures cause { IsErrOf result RigFail.Failed → Rose (rig_state rig.old).failures (rig_state rig.new).failures }
 {
     let mut place = from;
     'places: while place < known.len() {
-        look_at(known, rig, proof, marks, near, place)?;
+        look_at(known, rig, facts, marks, near, place)?;
         place += 1;
     }
     Ok(())
@@ -55,31 +55,31 @@ fn look_on(
 fn grow_pin(
     known: &mut Known,
     rig: &mut Box<dyn Rig>,
-    proof: &mut Proof,
+    facts: &mut Facts,
     marks: &mut Marks,
     near: &Vec<Near>,
     pin: u32,
 ) -> Result<(), RigFail>
-    requires attached { shape_of (rig_state rig.old) ≡ Some proof.old.shape }
-    requires known { IsKnown proof.old known.old }
-    requires links { AreLinked proof.old.shape near.now.items }
-    requires marks { AreAllMarks (rig_state rig.old).machine.faults proof.old near.now.items known.old.steps marks.old }
-    requires pin { pin < pins_of proof.old.shape }
-    ensures grows { Grows proof.new known.old known.new marks.old.barred marks.new.barred }
-    ensures tried { OnOk result (AreTried (rig_state rig.old).machine.faults proof.new known.new.steps marks.old.barred marks.new.barred) }
-    ensures grown { OnOk result (IsGrown (rig_state rig.old).machine.faults proof.old near.now.items known.old.steps marks.old.barred
+    requires attached { shape_of (rig_state rig.old) ≡ Some facts.old.shape }
+    requires known { IsKnown facts.old known.old }
+    requires links { AreLinked facts.old.shape near.now.items }
+    requires marks { AreAllMarks (rig_state rig.old).machine.faults facts.old near.now.items known.old.steps marks.old }
+    requires pin { pin < pins_of facts.old.shape }
+    ensures grows { Grows facts.new known.old known.new marks.old.barred marks.new.barred }
+    ensures tried { OnOk result (AreTried (rig_state rig.old).machine.faults facts.new known.new.steps marks.old.barred marks.new.barred) }
+    ensures grown { OnOk result (IsGrown (rig_state rig.old).machine.faults facts.old near.now.items known.old.steps marks.old.barred
         (length known.old.steps) →
-        IsGrown (rig_state rig.old).machine.faults proof.new near.now.items known.new.steps marks.new.barred (length known.new.steps)) }
-    ensures pin { OnOk result (HasWire known.new.steps (pin_wire proof.old.shape pin)
-        ⊎ (has_number marks.new.barred (pin_wire proof.old.shape pin) ≡ true)) }
-    ensures marks { OnOk result (AreAllMarks (rig_state rig.old).machine.faults proof.new near.now.items known.new.steps marks.new) }
-    ensures spends { Spends (rig_state rig.old).machine.faults proof.old (IsLinking near.now.items) marks.old marks.new
+        IsGrown (rig_state rig.old).machine.faults facts.new near.now.items known.new.steps marks.new.barred (length known.new.steps)) }
+    ensures pin { OnOk result (HasWire known.new.steps (pin_wire facts.old.shape pin)
+        ⊎ (has_number marks.new.barred (pin_wire facts.old.shape pin) ≡ true)) }
+    ensures marks { OnOk result (AreAllMarks (rig_state rig.old).machine.faults facts.new near.now.items known.new.steps marks.new) }
+    ensures spends { Spends (rig_state rig.old).machine.faults facts.old (IsLinking near.now.items) marks.old marks.new
         (rig_state rig.old).loads (rig_state rig.new).loads }
-    ensures advances { Advances (rig_state rig.old) (rig_state rig.new) proof.old proof.new }
+    ensures advances { Advances (rig_state rig.old) (rig_state rig.new) facts.old facts.new }
     ensures cause { IsErrOf result RigFail.Failed → Rose (rig_state rig.old).failures (rig_state rig.new).failures }
 {
     the_numbering_is_sound();
-    let wire = proof.shape().pin(pin);
+    let wire = facts.shape().pin(pin);
     if marks.barred.has(wire.0) {
         return Ok(());
     }
@@ -87,8 +87,8 @@ fn grow_pin(
         return Ok(());
     }
     let from = known.len();
-    try_pin(known, rig, proof, marks, pin)?;
-    look_on(known, rig, proof, marks, near, from)
+    try_pin(known, rig, facts, marks, pin)?;
+    look_on(known, rig, facts, marks, near, from)
 }
 
 /// Known wires grow in a field: until each wire of it that is clear, is shorted to no known wire, and is a pin of the machine or
@@ -102,34 +102,34 @@ fn grow_pin(
 /// `Failed` where a call of the rig failed, `Memory` where memory was wanting.
 pub fn grow(
     rig: &mut Box<dyn Rig>,
-    proof: &mut Proof,
+    facts: &mut Facts,
     known: &mut Known,
     field: &Field,
 ) -> Result<(), RigFail>
-    requires attached { shape_of (rig_state rig.old) ≡ Some proof.old.shape }
-    requires known { IsKnown proof.old known.old }
-    requires field { IsFieldOf proof.old.shape field.now }
-    ensures known { IsKnown proof.new known.new }
+    requires attached { shape_of (rig_state rig.old) ≡ Some facts.old.shape }
+    requires known { IsKnown facts.old known.old }
+    requires field { IsFieldOf facts.old.shape field.now }
+    ensures known { IsKnown facts.new known.new }
     ensures grows { GrowsIn field.now known.old.steps known.new.steps }
-    ensures closed { OnOk result (ClosedIf (rig_state rig.old).machine.faults proof.new field.now known.new.steps) }
-    ensures loads { (rig_state rig.new).loads + pins_in proof.old.shape field.now
-        ≤ (rig_state rig.old).loads + (8 * fresh proof.old field.now + 3 * size_of field.now.wires) }
-    ensures few { TakesFew (rig_state rig.old).machine.faults proof.old field.now (rig_state rig.old).loads (rig_state rig.new).loads }
-    ensures advances { Advances (rig_state rig.old) (rig_state rig.new) proof.old proof.new }
+    ensures closed { OnOk result (ClosedIf (rig_state rig.old).machine.faults facts.new field.now known.new.steps) }
+    ensures loads { (rig_state rig.new).loads + pins_in facts.old.shape field.now
+        ≤ (rig_state rig.old).loads + (8 * fresh facts.old field.now + 3 * size_of field.now.wires) }
+    ensures few { TakesFew (rig_state rig.old).machine.faults facts.old field.now (rig_state rig.old).loads (rig_state rig.new).loads }
+    ensures advances { Advances (rig_state rig.old) (rig_state rig.new) facts.old facts.new }
     ensures cause { IsErrOf result RigFail.Failed → Rose (rig_state rig.old).failures (rig_state rig.new).failures }
 {
     the_numbering_is_sound();
     the_crosspoints_are_sound();
-    let shape = proof.shape();
+    let shape = facts.shape();
     let Ok(near) = links_of(known.alloc(), &shape, field) else {
         return Err(RigFail::Memory);
     };
     let Ok(mut marks) = Marks::new(known.alloc(), field) else {
         return Err(RigFail::Memory);
     };
-    look_on(known, rig, proof, &mut marks, &near, 0)?;
+    look_on(known, rig, facts, &mut marks, &near, 0)?;
     'pins: for pin in 0..shape.pins() {
-        grow_pin(known, rig, proof, &mut marks, &near, pin)?;
+        grow_pin(known, rig, facts, &mut marks, &near, pin)?;
     }
     Ok(())
 }

@@ -9,7 +9,7 @@ ghost use Rattle.diag_growth.specs.Seats.{IsSeat};
 use crate::choices::{Arms, Fars, arms_beside, far_beside, fars_over, input_arms};
 use crate::search::meeting;
 use crate::{Arm, Seat};
-use diag_evidence::Proof;
+use diag_evidence::Facts;
 use diag_known::Known;
 use machine_shape::{Cross, Table, Wire, ports_and_lines_ascend, the_numbering_is_sound};
 use std::alloc::AllocError;
@@ -42,45 +42,45 @@ pub(crate) struct Hub {
 }
 
 // The line, if it is known and meets the output of the table and a port.
-fn out_over(known: &Known, without: &Known, proof: &Proof, t: Table, line: Wire) -> Option<Out>
-    requires known { IsKnown proof.now known.now }
-    requires without { IsKnown proof.now without.now }
-    requires table { t.0 < tables_of proof.now.shape }
-    requires line { IsLine proof.now.shape (hextant_of proof.now.shape t.0) line.0 }
-    requires within { line.0 < wires_of proof.now.shape }
-    ensures out { IfSome result (IsOut proof.now known.now.steps without.now.steps t.0) }
+fn out_over(known: &Known, without: &Known, facts: &Facts, t: Table, line: Wire) -> Option<Out>
+    requires known { IsKnown facts.now known.now }
+    requires without { IsKnown facts.now without.now }
+    requires table { t.0 < tables_of facts.now.shape }
+    requires line { IsLine facts.now.shape (hextant_of facts.now.shape t.0) line.0 }
+    requires within { line.0 < wires_of facts.now.shape }
+    ensures out { IfSome result (IsOut facts.now known.now.steps without.now.steps t.0) }
     ensures line { IfSome result (λ o. o.line.0 ≡ line.0) }
-    ensures none { IfNone result ((near : ℕ) → ¬ IsPlaceAt proof.now known.now.steps without.now.steps t.0 near line.0) }
+    ensures none { IfNone result ((near : ℕ) → ¬ IsPlaceAt facts.now known.now.steps without.now.steps t.0 near line.0) }
 {
-    let shape = proof.shape();
+    let shape = facts.shape();
     let hextant = shape.hextant_of(t);
     if !known.has(line) {
         return None;
     }
-    let Some(output) = meeting(proof, shape.pin_of(t, 6), line) else {
+    let Some(output) = meeting(facts, shape.pin_of(t, 6), line) else {
         return None;
     };
-    let Some(fars) = fars_over(without, proof, hextant, line) else {
+    let Some(fars) = fars_over(without, facts, hextant, line) else {
         return None;
     };
     Some(Out { line, output, fars })
 }
 
 // The lines that meet the output of a table and a port.
-fn outs_of(known: &Known, without: &Known, proof: &Proof, t: Table) -> Result<Vec<Out>, AllocError>
-    requires known { IsKnown proof.now known.now }
-    requires without { IsKnown proof.now without.now }
-    requires table { t.0 < tables_of proof.now.shape }
-    ensures outs { IfOk result (λ outs. AreOuts proof.now known.now.steps without.now.steps t.0 outs.items) }
-    ensures whole { IfOk result (λ outs. (line : ℕ) → IsLine proof.now.shape (hextant_of proof.now.shape t.0) line
-        → IsTold proof.now known.now.steps without.now.steps t.0 outs.items line) }
+fn outs_of(known: &Known, without: &Known, facts: &Facts, t: Table) -> Result<Vec<Out>, AllocError>
+    requires known { IsKnown facts.now known.now }
+    requires without { IsKnown facts.now without.now }
+    requires table { t.0 < tables_of facts.now.shape }
+    ensures outs { IfOk result (λ outs. AreOuts facts.now known.now.steps without.now.steps t.0 outs.items) }
+    ensures whole { IfOk result (λ outs. (line : ℕ) → IsLine facts.now.shape (hextant_of facts.now.shape t.0) line
+        → IsTold facts.now known.now.steps without.now.steps t.0 outs.items line) }
 {
     ports_and_lines_ascend();
-    let shape = proof.shape();
+    let shape = facts.shape();
     let hextant = shape.hextant_of(t);
     let mut outs = Vec::new(known.alloc());
     'lines: for k in 0..shape.lines(hextant) {
-        let Some(out) = out_over(known, without, proof, t, shape.line(hextant, k)) else {
+        let Some(out) = out_over(known, without, facts, t, shape.line(hextant, k)) else {
             continue;
         };
         outs.push(out)?;
@@ -92,22 +92,22 @@ fn outs_of(known: &Known, without: &Known, proof: &Proof, t: Table) -> Result<Ve
 fn place_over(
     known: &Known,
     without: &Known,
-    proof: &Proof,
+    facts: &Facts,
     t: Table,
     hub: &Hub,
     out: Out,
 ) -> Result<Option<Place>, AllocError>
-    requires out { IsOut proof.now known.now.steps without.now.steps t.0 out }
-    requires arms { AreInputArms proof.now known.now.steps t.0 hub.now.port.0 6 hub.now.arms.items }
+    requires out { IsOut facts.now known.now.steps without.now.steps t.0 out }
+    requires arms { AreInputArms facts.now known.now.steps t.0 hub.now.port.0 6 hub.now.arms.items }
     ensures place { IfOk result (λ found. IfSome found
-        (IsPlace proof.now known.now.steps without.now.steps t.0 hub.now.port.0 out.line.0)) }
+        (IsPlace facts.now known.now.steps without.now.steps t.0 hub.now.port.0 out.line.0)) }
     ensures none { IfOk result (λ found. IfNone found
-        (¬ IsPlaceAt proof.now known.now.steps without.now.steps t.0 hub.now.port.0 out.line.0)) }
+        (¬ IsPlaceAt facts.now known.now.steps without.now.steps t.0 hub.now.port.0 out.line.0)) }
 {
     let Some((far, to_line)) = far_beside(out.fars, hub.port) else {
         return Ok(None);
     };
-    let Some(arms) = arms_beside(known, proof, t, hub.port, &hub.arms, out.line)? else {
+    let Some(arms) = arms_beside(known, facts, t, hub.port, &hub.arms, out.line)? else {
         return Ok(None);
     };
     Ok(Some(Place {
@@ -124,19 +124,19 @@ fn place_over(
 fn place_from(
     known: &Known,
     without: &Known,
-    proof: &Proof,
+    facts: &Facts,
     t: Table,
     outs: &Vec<Out>,
     hub: &Hub,
 ) -> Result<Option<Place>, AllocError>
-    requires outs { AreOuts proof.now known.now.steps without.now.steps t.0 outs.now.items }
-    requires arms { AreInputArms proof.now known.now.steps t.0 hub.now.port.0 6 hub.now.arms.items }
-    ensures place { IfOk result (λ found. IfSome found (IsPlaceNear proof.now known.now.steps without.now.steps t.0 hub.now.port.0)) }
+    requires outs { AreOuts facts.now known.now.steps without.now.steps t.0 outs.now.items }
+    requires arms { AreInputArms facts.now known.now.steps t.0 hub.now.port.0 6 hub.now.arms.items }
+    ensures place { IfOk result (λ found. IfSome found (IsPlaceNear facts.now known.now.steps without.now.steps t.0 hub.now.port.0)) }
     ensures none { IfOk result (λ found. IfNone found ((line : ℕ) → IsOutLine outs.now.items line
-        → ¬ IsPlaceAt proof.now known.now.steps without.now.steps t.0 hub.now.port.0 line)) }
+        → ¬ IsPlaceAt facts.now known.now.steps without.now.steps t.0 hub.now.port.0 line)) }
 {
     'lines: for k in 0..outs.len() {
-        if let Some(place) = place_over(known, without, proof, t, hub, outs[k])? {
+        if let Some(place) = place_over(known, without, facts, t, hub, outs[k])? {
             return Ok(Some(place));
         }
     }
@@ -147,25 +147,25 @@ fn place_from(
 fn place_near(
     known: &Known,
     without: &Known,
-    proof: &Proof,
+    facts: &Facts,
     t: Table,
     outs: &Vec<Out>,
     near: Wire,
 ) -> Result<Option<Place>, AllocError>
-    requires known { IsKnown proof.now known.now }
-    requires table { t.0 < tables_of proof.now.shape }
-    requires outs { AreOuts proof.now known.now.steps without.now.steps t.0 outs.now.items }
-    requires port { IsPort proof.now.shape (hextant_of proof.now.shape t.0) near.0 }
-    requires near { near.0 < wires_of proof.now.shape }
-    ensures place { IfOk result (λ found. IfSome found (IsPlaceNear proof.now known.now.steps without.now.steps t.0 near.0)) }
+    requires known { IsKnown facts.now known.now }
+    requires table { t.0 < tables_of facts.now.shape }
+    requires outs { AreOuts facts.now known.now.steps without.now.steps t.0 outs.now.items }
+    requires port { IsPort facts.now.shape (hextant_of facts.now.shape t.0) near.0 }
+    requires near { near.0 < wires_of facts.now.shape }
+    ensures place { IfOk result (λ found. IfSome found (IsPlaceNear facts.now known.now.steps without.now.steps t.0 near.0)) }
     ensures none { IfOk result (λ found. IfNone found ((line : ℕ) → IsOutLine outs.now.items line
-        → ¬ IsPlaceAt proof.now known.now.steps without.now.steps t.0 near.0 line)) }
+        → ¬ IsPlaceAt facts.now known.now.steps without.now.steps t.0 near.0 line)) }
 {
-    let Some(arms) = input_arms(known, proof, t, near)? else {
+    let Some(arms) = input_arms(known, facts, t, near)? else {
         return Ok(None);
     };
     let hub = Hub { port: near, arms };
-    place_from(known, without, proof, t, outs, &hub)
+    place_from(known, without, facts, t, outs, &hub)
 }
 
 /// A place where a table can be tested, if there is one: over two ports that stand without the hextant, a line from the
@@ -173,27 +173,27 @@ fn place_near(
 pub(crate) fn find_place(
     known: &Known,
     without: &Known,
-    proof: &Proof,
+    facts: &Facts,
     t: Table,
 ) -> Result<Option<Place>, AllocError>
-    requires known { IsKnown proof.now known.now }
-    requires without { IsKnown proof.now without.now }
-    requires table { t.0 < tables_of proof.now.shape }
-    ensures place { IfOk result (λ found. IfSome found (IsPlaceFor proof.now known.now.steps without.now.steps t.0)) }
-    ensures none { IfOk result (λ found. IfNone found ((near line : ℕ) → IsPort proof.now.shape (hextant_of proof.now.shape t.0) near
-        → HasWire without.now.steps near → IsLine proof.now.shape (hextant_of proof.now.shape t.0) line
-        → ¬ IsPlaceAt proof.now known.now.steps without.now.steps t.0 near line)) }
+    requires known { IsKnown facts.now known.now }
+    requires without { IsKnown facts.now without.now }
+    requires table { t.0 < tables_of facts.now.shape }
+    ensures place { IfOk result (λ found. IfSome found (IsPlaceFor facts.now known.now.steps without.now.steps t.0)) }
+    ensures none { IfOk result (λ found. IfNone found ((near line : ℕ) → IsPort facts.now.shape (hextant_of facts.now.shape t.0) near
+        → HasWire without.now.steps near → IsLine facts.now.shape (hextant_of facts.now.shape t.0) line
+        → ¬ IsPlaceAt facts.now known.now.steps without.now.steps t.0 near line)) }
 {
     ports_and_lines_ascend();
-    let shape = proof.shape();
+    let shape = facts.shape();
     let hextant = shape.hextant_of(t);
-    let outs = outs_of(known, without, proof, t)?;
+    let outs = outs_of(known, without, facts, t)?;
     'ports: for k in 0..shape.ports(hextant) {
         let near = shape.port(hextant, k);
         if !without.has(near) {
             continue;
         }
-        if let Some(place) = place_near(known, without, proof, t, &outs, near)? {
+        if let Some(place) = place_near(known, without, facts, t, &outs, near)? {
             return Ok(Some(place));
         }
     }
@@ -204,21 +204,21 @@ pub(crate) fn find_place(
 pub(crate) fn seat_of(
     known: &Known,
     without: &Known,
-    proof: &Proof,
+    facts: &Facts,
     t: Table,
     place: Place,
 ) -> Result<Seat, AllocError>
-    requires known { IsKnown proof.now known.now }
-    requires without { IsKnown proof.now without.now }
-    requires outside { IsWithout proof.now.shape known.now.steps without.now.steps (hextant_of proof.now.shape t.0) }
-    requires table { t.0 < tables_of proof.now.shape }
-    requires pins { (j : ℕ) → j < 7 → HasWire known.now.steps (table_wire proof.now.shape t.0 j) }
-    requires place { IsPlaceFor proof.now known.now.steps without.now.steps t.0 place }
-    ensures { IfOk result (λ seat. IsSeat proof.now seat × (seat.table.0 ≡ t.0)) }
+    requires known { IsKnown facts.now known.now }
+    requires without { IsKnown facts.now without.now }
+    requires outside { IsWithout facts.now.shape known.now.steps without.now.steps (hextant_of facts.now.shape t.0) }
+    requires table { t.0 < tables_of facts.now.shape }
+    requires pins { (j : ℕ) → j < 7 → HasWire known.now.steps (table_wire facts.now.shape t.0 j) }
+    requires place { IsPlaceFor facts.now known.now.steps without.now.steps t.0 place }
+    ensures { IfOk result (λ seat. IsSeat facts.now seat × (seat.table.0 ≡ t.0)) }
 {
     the_numbering_is_sound();
-    let (near, mut far) = without.routes(proof, place.near, place.far)?;
-    far.push_to(&proof.shape(), place.to_line, place.line)?;
+    let (near, mut far) = without.routes(facts, place.near, place.far)?;
+    far.push_to(&facts.shape(), place.to_line, place.line)?;
     Ok(Seat {
         table: t,
         near,

@@ -14,7 +14,7 @@ ghost use Rattle.diag_growth.specs.Tables.{SeatedAreKept, SeatedIsKept, TakesFor
 use crate::outside::outside_of;
 use crate::seats::{find_place, seat_of};
 use crate::{Seat, test_table};
-use diag_evidence::Proof;
+use diag_evidence::Facts;
 use diag_known::{Known, Near, all_links, stand_on};
 use machine_shape::{Node, Table};
 use rig::{Rig, RigFail};
@@ -36,17 +36,17 @@ fn has_pins(known: &Known, t: Table) -> bool
 }
 
 // Whether the cells and the register of a table are kept.
-fn is_kept(proof: &Proof, t: Table) -> bool
-    requires { t.0 < tables_of proof.now.shape }
-    ensures is { result ≡ keeps_table proof.now t.0 }
-    ensures kept { IsTrue result → KeepsTable proof.now t.0 }
+fn is_kept(facts: &Facts, t: Table) -> bool
+    requires { t.0 < tables_of facts.now.shape }
+    ensures is { result ≡ keeps_table facts.now t.0 }
+    ensures kept { IsTrue result → KeepsTable facts.now t.0 }
 {
     'cells: for address in 0..64 {
-        if !proof.keeps_cell(t, address) {
+        if !facts.keeps_cell(t, address) {
             return false;
         }
     }
-    proof.keeps_register(t)
+    facts.keeps_register(t)
 }
 
 // What stands without a hextant.
@@ -59,17 +59,17 @@ struct Without {
 // What stands without a hextant, over all links.
 fn without_of(
     known: &Known,
-    proof: &Proof,
+    facts: &Facts,
     near: &Vec<Near>,
     hextant: Node,
 ) -> Result<Without, AllocError>
-    requires known { IsKnown proof.now known.now }
-    requires links { AreAllLinks proof.now.shape near.now.items }
+    requires known { IsKnown facts.now known.now }
+    requires links { AreAllLinks facts.now.shape near.now.items }
     ensures hextant { IfOk result (λ without. without.hextant.0 ≡ hextant.0) }
-    ensures stands { IfOk result (λ without. AreAllWithout proof.now known.now.steps hextant.0 without.known) }
+    ensures stands { IfOk result (λ without. AreAllWithout facts.now known.now.steps hextant.0 without.known) }
 {
     let outside = outside_of(known, hextant)?;
-    let stands = stand_on(known.alloc(), proof, outside, near)?;
+    let stands = stand_on(known.alloc(), facts, outside, near)?;
     Ok(Without {
         hextant,
         known: stands,
@@ -80,82 +80,82 @@ fn without_of(
 fn renew(
     without: &mut Without,
     known: &Known,
-    proof: &Proof,
+    facts: &Facts,
     near: &Vec<Near>,
     hextant: Node,
 ) -> Result<(), AllocError>
-    requires known { IsKnown proof.now known.now }
-    requires links { AreAllLinks proof.now.shape near.now.items }
-    requires stands { AreAllWithout proof.now known.now.steps without.old.hextant.0 without.old.known }
+    requires known { IsKnown facts.now known.now }
+    requires links { AreAllLinks facts.now.shape near.now.items }
+    requires stands { AreAllWithout facts.now known.now.steps without.old.hextant.0 without.old.known }
     ensures hextant { OnOk result (without.new.hextant.0 ≡ hextant.0) }
-    ensures stands { OnOk result (AreAllWithout proof.now known.now.steps without.new.hextant.0 without.new.known) }
+    ensures stands { OnOk result (AreAllWithout facts.now known.now.steps without.new.hextant.0 without.new.known) }
 {
     if without.hextant.0 == hextant.0 {
         return Ok(());
     }
-    *without = without_of(known, proof, near, hextant)?;
+    *without = without_of(known, facts, near, hextant)?;
     Ok(())
 }
 
 // Where a table is tested, if it is seated.
 fn seat_for(
     known: &Known,
-    proof: &Proof,
+    facts: &Facts,
     near: &Vec<Near>,
     without: &mut Without,
     t: Table,
 ) -> Result<Option<Seat>, AllocError>
-    requires known { IsKnown proof.now known.now }
-    requires links { AreAllLinks proof.now.shape near.now.items }
-    requires stands { AreAllWithout proof.now known.now.steps without.old.hextant.0 without.old.known }
-    requires table { t.0 < tables_of proof.now.shape }
-    ensures seat { IfOk result (λ found. IfSome found (λ seat. IsSeat proof.now seat × (seat.table.0 ≡ t.0))) }
+    requires known { IsKnown facts.now known.now }
+    requires links { AreAllLinks facts.now.shape near.now.items }
+    requires stands { AreAllWithout facts.now known.now.steps without.old.hextant.0 without.old.known }
+    requires table { t.0 < tables_of facts.now.shape }
+    ensures seat { IfOk result (λ found. IfSome found (λ seat. IsSeat facts.now seat × (seat.table.0 ≡ t.0))) }
     ensures none { IfOk result (λ found. IfNone found
-        (¬ IsSeated proof.now.shape (HasWire known.now.steps) (IsKeptCrossOf proof.now) t.0)) }
-    ensures stands { OnOk result (AreAllWithout proof.now known.now.steps without.new.hextant.0 without.new.known) }
+        (¬ IsSeated facts.now.shape (HasWire known.now.steps) (IsKeptCrossOf facts.now) t.0)) }
+    ensures stands { OnOk result (AreAllWithout facts.now known.now.steps without.new.hextant.0 without.new.known) }
 {
     if !has_pins(known, t) {
         return Ok(None);
     }
-    renew(without, known, proof, near, known.shape().hextant_of(t))?;
-    let Some(place) = find_place(known, &without.known, proof, t)? else {
+    renew(without, known, facts, near, known.shape().hextant_of(t))?;
+    let Some(place) = find_place(known, &without.known, facts, t)? else {
         return Ok(None);
     };
-    let seat = seat_of(known, &without.known, proof, t, place)?;
+    let seat = seat_of(known, &without.known, facts, t, place)?;
     Ok(Some(seat))
 }
 
 // Tests a table, if it is seated and not kept yet.
 fn test_seated(
     rig: &mut Box<dyn Rig>,
-    proof: &mut Proof,
+    facts: &mut Facts,
     known: &Known,
     near: &Vec<Near>,
     without: &mut Without,
     t: Table,
 ) -> Result<(), RigFail>
-    requires attached { shape_of (rig_state rig.old) ≡ Some proof.old.shape }
-    requires known { IsKnown proof.old known.now }
-    requires links { AreAllLinks proof.old.shape near.now.items }
-    requires stands { AreAllWithout proof.old known.now.steps without.old.hextant.0 without.old.known }
-    requires table { t.0 < tables_of proof.old.shape }
-    ensures table { OnOk result (SeatedIsKept (rig_state rig.old).machine.faults proof.old proof.new known.now.steps t.0) }
-    ensures stands { OnOk result (AreAllWithout proof.old known.now.steps without.new.hextant.0 without.new.known) }
-    ensures advances { Advances (rig_state rig.old) (rig_state rig.new) proof.old proof.new }
-    ensures only { AddsOnlyTableFacts proof.old proof.new }
-    ensures loads { TakesForTable proof.old t.0 (rig_state rig.old).loads (rig_state rig.new).loads }
+    requires attached { shape_of (rig_state rig.old) ≡ Some facts.old.shape }
+    requires known { IsKnown facts.old known.now }
+    requires links { AreAllLinks facts.old.shape near.now.items }
+    requires stands { AreAllWithout facts.old known.now.steps without.old.hextant.0 without.old.known }
+    requires table { t.0 < tables_of facts.old.shape }
+    ensures table { OnOk result (SeatedIsKept (rig_state rig.old).machine.faults facts.old facts.new known.now.steps t.0) }
+    ensures stands { OnOk result (AreAllWithout facts.old known.now.steps without.new.hextant.0 without.new.known) }
+    ensures advances { Advances (rig_state rig.old) (rig_state rig.new) facts.old facts.new }
+    ensures only { AddsOnlyTableFacts facts.old facts.new }
+    ensures loads { TakesForTable facts.old t.0 (rig_state rig.old).loads (rig_state rig.new).loads }
     ensures cause { IsErrOf result RigFail.Failed → Rose (rig_state rig.old).failures (rig_state rig.new).failures }
 {
-    if is_kept(proof, t) {
+    if is_kept(facts, t) {
         return Ok(());
     }
-    let Ok(found) = seat_for(known, proof, near, without, t) else {
+    let Ok(found) = seat_for(known, facts, near, without, t) else {
         return Err(RigFail::Memory);
     };
     let Some(seat) = found else {
         return Ok(());
     };
-    test_table(known.alloc(), rig, proof, &seat)
+    test_table(known.alloc(), rig, facts, &seat)
 }
 
 /// Tests these tables over known wires, with 130 loads at most for each of which a cell or the register wasn't kept before, and
@@ -168,28 +168,28 @@ fn test_seated(
 /// `Failed` where a call of the rig failed, `Memory` where memory was wanting.
 pub fn test_tables(
     rig: &mut Box<dyn Rig>,
-    proof: &mut Proof,
+    facts: &mut Facts,
     known: &Known,
     tables: &[Table],
 ) -> Result<(), RigFail>
-    requires attached { shape_of (rig_state rig.old) ≡ Some proof.old.shape }
-    requires known { IsKnown proof.old known.now }
-    requires tables { All (λ t. t.0 < tables_of proof.old.shape) tables.now }
-    ensures tables { OnOk result (SeatedAreKept (rig_state rig.old).machine.faults proof.old proof.new known.now.steps tables.now) }
-    ensures advances { Advances (rig_state rig.old) (rig_state rig.new) proof.old proof.new }
-    ensures only { AddsOnlyTableFacts proof.old proof.new }
-    ensures loads { (rig_state rig.new).loads ≤ (rig_state rig.old).loads + 130 * fresh_tables proof.old tables.now }
+    requires attached { shape_of (rig_state rig.old) ≡ Some facts.old.shape }
+    requires known { IsKnown facts.old known.now }
+    requires tables { All (λ t. t.0 < tables_of facts.old.shape) tables.now }
+    ensures tables { OnOk result (SeatedAreKept (rig_state rig.old).machine.faults facts.old facts.new known.now.steps tables.now) }
+    ensures advances { Advances (rig_state rig.old) (rig_state rig.new) facts.old facts.new }
+    ensures only { AddsOnlyTableFacts facts.old facts.new }
+    ensures loads { (rig_state rig.new).loads ≤ (rig_state rig.old).loads + 130 * fresh_tables facts.old tables.now }
     ensures cause { IsErrOf result RigFail.Failed → Rose (rig_state rig.old).failures (rig_state rig.new).failures }
 {
     let Ok(near) = all_links(known.alloc(), &known.shape()) else {
         return Err(RigFail::Memory);
     };
     // That of no hextant yet.
-    let Ok(mut without) = without_of(known, proof, &near, Node(0)) else {
+    let Ok(mut without) = without_of(known, facts, &near, Node(0)) else {
         return Err(RigFail::Memory);
     };
     'tables: for i in 0..tables.len() {
-        test_seated(rig, proof, known, &near, &mut without, tables[i])?;
+        test_seated(rig, facts, known, &near, &mut without, tables[i])?;
     }
     Ok(())
 }

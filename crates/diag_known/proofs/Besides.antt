@@ -8,10 +8,10 @@ use Rattle.diag_evidence.specs.Kept.{Kept}
 use Rattle.diag_known.specs.Known.{KnownWires, IsAt, IsFoot, HasWire, Stands, on_feet, IsKnown}
 use Rattle.diag_known.specs.Routes.{IsPin, is_pin, HasFootOn, first, second}
 use Rattle.diag_known.specs.Ways.{IsWay, AreWays, ReachesAll}
-use Rattle.diag_known.specs.declared.step.Foot.{Foot}
-use Rattle.diag_known.specs.declared.step.Stand.{Stand}
-use Rattle.diag_known.specs.declared.step.Stand.TheVariants as stand
-use Rattle.diag_known.specs.declared.step.Step.{Step}
+use Rattle.diag_known.specs.declared.verified_wire.Support.{Support}
+use Rattle.diag_known.specs.declared.verified_wire.SupportedBy.{SupportedBy}
+use Rattle.diag_known.specs.declared.verified_wire.SupportedBy.TheVariants as stand
+use Rattle.diag_known.specs.declared.verified_wire.VerifiedWire.{VerifiedWire}
 use Rattle.diag_known.proofs.Places.{one_place, some_same}
 use Rattle.diag_known.proofs.Rising.{not_true}
 
@@ -32,15 +32,15 @@ beside_turned {s = s} {t = t} {u = u} b = record { either = other b.either; on_f
     other (inl h) = inr h
     other (inr h) = inl h
 
-pub ways_turned : {k : Kept} {ss : List Step} {w : ℕ} {p q : Walk} → AreWays k ss w p q → AreWays k ss w q p
+pub ways_turned : {k : Kept} {ss : List VerifiedWire} {w : ℕ} {p q : Walk} → AreWays k ss w p q → AreWays k ss w q p
 ways_turned a = record { first = a.second; second = a.first; meet = λ u x y. a.meet u y x }
 
-foot_has : {on : ℕ → Type 0} {a b : Foot} (P : Type 0) → HasFootOn on (stand.Feet a b) → (on a.wire.0 → P) → (on b.wire.0 → P) → P
+foot_has : {on : ℕ → Type 0} {a b : Support} (P : Type 0) → HasFootOn on (stand.Feet a b) → (on a.wire.0 → P) → (on b.wire.0 → P) → P
 foot_has P (first h) f g = f h
 foot_has P (second h) f g = g h
 
 module _ {k : Kept} {known : KnownWires} (is : IsKnown k known) {w : ℕ} {p q : Walk} (ways : AreWays k known.steps w p q) {s t : ℕ → Type 0} (ps : ReachesAll known.steps p s) (qs : ReachesAll known.steps q t) where
-  abbrev ss : List Step
+  abbrev ss : List VerifiedWire
   ss = known.steps
 
   off_second : (u : ℕ) → u ≢ w → among p.wires u ≡ true → among q.wires u ≡ false
@@ -50,28 +50,28 @@ module _ {k : Kept} {known : KnownWires} (is : IsKnown k known) {w : ℕ} {p q :
   off_first u n on = not_true (among p.wires u) (λ also. n (ways.meet u also on))
 
   -- what a wire of a way rests on, where it stands on these feet
-  rests : (r : Walk) (i : ℕ) (step : Step) → IsWay k ss w r → slice_get ss i ≡ Some step → step.wire.0 ≢ w → among r.wires step.wire.0 ≡ true →
+  rests : (r : Walk) (i : ℕ) (step : VerifiedWire) → IsWay k ss w r → slice_get ss i ≡ Some step → step.wire.0 ≢ w → among r.wires step.wire.0 ≡ true →
       IsPin step.stand ⊎ HasFootOn (λ v. (among r.wires v ≡ true) × (v ≢ w)) step.stand
   rests r i step way here n on =
       let at = way.wires step.wire.0 on n in
       let same : at.place ≡ i = one_place is at.at (record { step = step; here = here; wire = refl }) in
       let step_is : at.at.step ≡ step = some_same (sym at.at.here ∙ ap (slice_get ss) same ∙ here) in
-      subst (λ (z : Step). IsPin z.stand ⊎ HasFootOn (λ v. (among r.wires v ≡ true) × (v ≢ w)) z.stand) step_is at.rests
+      subst (λ (z : VerifiedWire). IsPin z.stand ⊎ HasFootOn (λ v. (among r.wires v ≡ true) × (v ≢ w)) z.stand) step_is at.rests
 
-  module _ (i : ℕ) (step : Step) (here : slice_get ss i ≡ Some step) (n : step.wire.0 ≢ w) (before : (v : ℕ) → (j : ℕ) → j < i → IsAt ss j v → v ≢ w → IsBeside p q s t v) where
+  module _ (i : ℕ) (step : VerifiedWire) (here : slice_get ss i ≡ Some step) (n : step.wire.0 ≢ w) (before : (v : ℕ) → (j : ℕ) → j < i → IsAt ss j v → v ≢ w → IsBeside p q s t v) where
     abbrev u : ℕ
     u = step.wire.0
 
-    feet_before : {a b : Foot} → step.stand ≡ stand.Feet a b → Stands k ss i u step.stand → (IsFoot k ss i u a) × (IsFoot k ss i u b) × (a.wire.0 ≢ b.wire.0)
-    feet_before {a} {b} e st = two (subst (λ (d : Stand). Stands k ss i u d) e st)
+    feet_before : {a b : Support} → step.stand ≡ stand.Feet a b → Stands k ss i u step.stand → (IsFoot k ss i u a) × (IsFoot k ss i u b) × (a.wire.0 ≢ b.wire.0)
+    feet_before {a} {b} e st = two (subst (λ (d : SupportedBy). Stands k ss i u d) e st)
       where
         two : Stands k ss i u (stand.Feet a b) → (IsFoot k ss i u a) × (IsFoot k ss i u b) × (a.wire.0 ≢ b.wire.0)
         two (on_feet g h differ) = (g, h, differ)
 
-    foot_at : (a : Foot) → IsFoot k ss i u a → a.wire.0 ≢ w → IsBeside p q s t a.wire.0
+    foot_at : (a : Support) → IsFoot k ss i u a → a.wire.0 ≢ w → IsBeside p q s t a.wire.0
     foot_at a f m = before a.wire.0 f.before.place f.before.early f.before.at m
 
-    module _ {a b : Foot} (e : step.stand ≡ stand.Feet a b) (fa : IsFoot k ss i u a) (fb : IsFoot k ss i u b) (differ : a.wire.0 ≢ b.wire.0) where
+    module _ {a b : Support} (e : step.stand ≡ stand.Feet a b) (fa : IsFoot k ss i u a) (fb : IsFoot k ss i u b) (differ : a.wire.0 ≢ b.wire.0) where
       has_first : {on : ℕ → Type 0} → on a.wire.0 → IsPin step.stand ⊎ HasFootOn on step.stand
       has_first {on} h = inr (subst (HasFootOn on) (sym e) (first h))
 
@@ -139,7 +139,7 @@ module _ {k : Kept} {known : KnownWires} (is : IsKnown k known) {w : ℕ} {p q :
     beside_here : IsBeside p q s t u
     beside_here = by_stand step.stand refl
       where
-        by_stand : (d : Stand) → step.stand ≡ d → IsBeside p q s t u
+        by_stand : (d : SupportedBy) → step.stand ≡ d → IsBeside p q s t u
         by_stand (stand.Pin m) e = pin_beside (subst IsPin (sym e) is_pin)
         by_stand (stand.Feet a b) e = let f = feet_before e ((is.steps i step here).stands) in feet_beside e f.0 f.1 f.2
 

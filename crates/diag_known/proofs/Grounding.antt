@@ -14,18 +14,18 @@ use Rattle.diag_known.specs.Linked.{list_at, HasLink}
 use Rattle.machine_meaning.specs.Standing.{StandsBy, pin_stands, on_two}
 use Rattle.diag_known.specs.Grounds.{IsBetween, AreAllLinks, foot_at, IsFootTo, IsGround, IsSettled, Founds, AreSettled}
 use Rattle.diag_known.specs.declared.links.Near.{Near}
-use Rattle.diag_known.specs.declared.step.Foot.{Foot}
-use Rattle.diag_known.specs.declared.step.Stand.TheVariants as stand
-use Rattle.diag_known.specs.declared.step.Step.{Step}
+use Rattle.diag_known.specs.declared.verified_wire.Support.{Support}
+use Rattle.diag_known.specs.declared.verified_wire.SupportedBy.TheVariants as stand
+use Rattle.diag_known.specs.declared.verified_wire.VerifiedWire.{VerifiedWire}
 use Rattle.diag_known.proofs.Places.{at_later, has_later, get_pushed, get_last, at_one, some_same, at_within}
 use Rattle.diag_known.proofs.Later.{learnt}
 
 -- nothing was found
-pub founds_none : {n : KnownWires} {left : List Bool} {feet : List (Option Foot)} → Founds n n left left feet feet
+pub founds_none : {n : KnownWires} {left : List Bool} {feet : List (Option Support)} → Founds n n left left feet feet
 founds_none = record { stays = λ i w at. at; settled = λ w u s. s; from = λ w h. inl h; whole = λ w h. inr h; less = λ w h. h; grows = omega arith; count = refl }
 
 -- one after the other
-pub founds_then : {n m o : KnownWires} {left rest less : List Bool} {feet more most : List (Option Foot)} → Founds n m left rest feet more → Founds m o rest less more most → Founds n o left less feet most
+pub founds_then : {n m o : KnownWires} {left rest less : List Bool} {feet more most : List (Option Support)} → Founds n m left rest feet more → Founds m o rest less more most → Founds n o left less feet most
 founds_then {n} {m} {o} {left} {rest} {less} f g = record {
   stays = λ i w at. g.stays i w (f.stays i w at);
   settled = λ w u s. g.settled w u (f.settled w u s);
@@ -58,7 +58,7 @@ in_after left w v within h = by (ℕ_discrete v w)
     by (no n) = (n, sym (has_set_other left w v n) ∙ h)
 
 -- A wire that is left stands now.
-module _ {k : Kept} {n m : KnownWires} {left : List Bool} {feet : List (Option Foot)} (g : IsGround k n left feet) (s : Step) (was : InSet left s.wire.0) (within : s.wire.0 < length left)
+module _ {k : Kept} {n m : KnownWires} {left : List Bool} {feet : List (Option Support)} (g : IsGround k n left feet) (s : VerifiedWire) (was : InSet left s.wire.0) (within : s.wire.0 < length left)
     (stands : Stands k n.steps (length n.steps) s.wire.0 s.stand) (shape : m.shape ≡ n.shape) (steps : m.steps ≡ n.steps ++ s ∷ []) where
   abbrev rest : List Bool
   rest = set left s.wire.0 false
@@ -80,7 +80,7 @@ module _ {k : Kept} {n m : KnownWires} {left : List Bool} {feet : List (Option F
     where
       by : (slice_get n.steps h.place ≡ Some h.at.step) ⊎ ((h.place ≡ length n.steps) × (s ≡ h.at.step)) → HasWire n.steps w ⊎ (s.wire.0 ≡ w)
       by (inl here) = inl (record { place = h.place; at = record { step = h.at.step; here = here; wire = h.at.wire } })
-      by (inr last) = inr (ap (λ (t : Step). t.wire.0) last.1 ∙ h.at.wire)
+      by (inr last) = inr (ap (λ (t : VerifiedWire). t.wire.0) last.1 ∙ h.at.wire)
 
   pub ground_then : IsGround k m rest feet
   ground_then = record {
@@ -136,7 +136,7 @@ module _ {k : Kept} {n m : KnownWires} {left : List Bool} {feet : List (Option F
   taken_now = get_or-set_same left s.wire.0 false false within
 
 -- A first foot of a wire was found.
-module _ {k : Kept} {n : KnownWires} {left : List Bool} {feet more : List (Option Foot)} (g : IsGround k n left feet) (w : ℕ) (a : Foot) (within : w < length feet) (none : foot_at feet w ≡ None)
+module _ {k : Kept} {n : KnownWires} {left : List Bool} {feet more : List (Option Support)} (g : IsGround k n left feet) (w : ℕ) (a : Support) (within : w < length feet) (none : foot_at feet w ≡ None)
     (foot : IsFootTo k n.steps w a) (put : more ≡ set feet w (Some a)) where
   foot_now : foot_at more w ≡ Some a
   foot_now = ap (λ fs. foot_at fs w) put ∙ get_or-set_same feet w (Some a) None within
@@ -155,7 +155,7 @@ module _ {k : Kept} {n : KnownWires} {left : List Bool} {feet more : List (Optio
     found = λ v b e. by v b e (ℕ_discrete v w);
   }
     where
-      by : (v : ℕ) (b : Foot) → foot_at more v ≡ Some b → Dec (v ≡ w) → IsFootTo k n.steps v b
+      by : (v : ℕ) (b : Support) → foot_at more v ≡ Some b → Dec (v ≡ w) → IsFootTo k n.steps v b
       by v b e (yes s) = subst (λ v. IsFootTo k n.steps v b) (sym s) (subst (IsFootTo k n.steps w) (some_same (sym foot_now ∙ ap (foot_at more) (sym s) ∙ e)) foot)
       by v b e (no d) = g.found v b (sym (foot_other v d) ∙ e)
 
@@ -173,14 +173,14 @@ module _ {k : Kept} {n : KnownWires} {left : List Bool} {feet more : List (Optio
   settled_foot = inr (a, foot_now, refl)
 
 -- the feet of a wire that is to stand
-pub foot_is : {k : Kept} (n : KnownWires) {w : ℕ} {a : Foot} → IsFootTo k n.steps w a → IsFoot k n.steps (length n.steps) w a
+pub foot_is : {k : Kept} (n : KnownWires) {w : ℕ} {a : Support} → IsFootTo k n.steps w a → IsFoot k n.steps (length n.steps) w a
 foot_is n f = record { within = f.between.within; kept = f.kept; at = f.between.at; before = record { place = f.stands.place; early = at_within f.stands.at; at = f.stands.at } }
 
 pub ends_turned : {p : ℕ × ℕ} {a b : ℕ} → Ends p a b → Ends p b a
 ends_turned (in_order s t) = turned s t
 ends_turned (turned s t) = in_order s t
 
-pub foot_to : {k : Kept} (n : KnownWires) {from w x : ℕ} (a : Foot) → a.cross.0 ≡ x → a.wire.0 ≡ from → IsBetween k.shape x w from → keeps_cross k x ≡ true → HasWire n.steps from → IsFootTo k n.steps w a
+pub foot_to : {k : Kept} (n : KnownWires) {from w x : ℕ} (a : Support) → a.cross.0 ≡ x → a.wire.0 ≡ from → IsBetween k.shape x w from → keeps_cross k x ≡ true → HasWire n.steps from → IsFootTo k n.steps w a
 foot_to {k} n {from} {w} {x} a cross wire b kept has = record {
   between = record {
     within = subst (λ y. y < crosses_of k.shape) (sym cross) b.within;
@@ -191,48 +191,48 @@ foot_to {k} n {from} {w} {x} a cross wire b kept has = record {
 }
 
 -- links of the first j places of a wire are settled
-pub record AreTaken (k : Kept) (links : List Foot) (j from : ℕ) (left : List Bool) (feet : List (Option Foot)) : Type 0 where
-  pub at : (i : ℕ) (a : Foot) → i < j → slice_get links i ≡ Some a → keeps_cross k a.cross.0 ≡ true → IsSettled left feet a.wire.0 from
+pub record AreTaken (k : Kept) (links : List Support) (j from : ℕ) (left : List Bool) (feet : List (Option Support)) : Type 0 where
+  pub at : (i : ℕ) (a : Support) → i < j → slice_get links i ≡ Some a → keeps_cross k a.cross.0 ≡ true → IsSettled left feet a.wire.0 from
 
-pub taken_more : {k : Kept} {n m : KnownWires} {links : List Foot} {j from : ℕ} {left rest : List Bool} {feet more : List (Option Foot)} → AreTaken k links j from left feet → Founds n m left rest feet more →
-    (link : Foot) → slice_get links j ≡ Some link → (keeps_cross k link.cross.0 ≡ true → IsSettled rest more link.wire.0 from) → AreTaken k links (j + 1) from rest more
+pub taken_more : {k : Kept} {n m : KnownWires} {links : List Support} {j from : ℕ} {left rest : List Bool} {feet more : List (Option Support)} → AreTaken k links j from left feet → Founds n m left rest feet more →
+    (link : Support) → slice_get links j ≡ Some link → (keeps_cross k link.cross.0 ≡ true → IsSettled rest more link.wire.0 from) → AreTaken k links (j + 1) from rest more
 taken_more {k} {links = links} {j = j} {from = from} {rest = rest} {more = more} t f link here now = record { at = λ i a lt at kept. by i a at kept (dec_lt i j) lt }
   where
-    by : (i : ℕ) (a : Foot) → slice_get links i ≡ Some a → keeps_cross k a.cross.0 ≡ true → Dec (i < j) → i < j + 1 → IsSettled rest more a.wire.0 from
+    by : (i : ℕ) (a : Support) → slice_get links i ≡ Some a → keeps_cross k a.cross.0 ≡ true → Dec (i < j) → i < j + 1 → IsSettled rest more a.wire.0 from
     by i a at kept (yes h) lt = f.settled a.wire.0 from (t.at i a h at kept)
     by i a at kept (no h) lt =
         let same : i ≡ j = omega (arith, h, lt) in
         let is : link ≡ a = some_same (sym here ∙ ap (slice_get links) (sym same) ∙ at) in
-        subst (λ (b : Foot). IsSettled rest more b.wire.0 from) is (now (ap (λ (b : Foot). keeps_cross k b.cross.0) is ∙ kept))
+        subst (λ (b : Support). IsSettled rest more b.wire.0 from) is (now (ap (λ (b : Support). keeps_cross k b.cross.0) is ∙ kept))
 
-pub taken_none : {k : Kept} {links : List Foot} {j from : ℕ} {left : List Bool} {feet : List (Option Foot)} → AreTaken k links j from left feet → slice_get links j ≡ None → AreTaken k links (j + 1) from left feet
+pub taken_none : {k : Kept} {links : List Support} {j from : ℕ} {left : List Bool} {feet : List (Option Support)} → AreTaken k links j from left feet → slice_get links j ≡ None → AreTaken k links (j + 1) from left feet
 taken_none {k} {links} {j} {from} {left} {feet} t none = record { at = λ i a lt at kept. by i a at kept (dec_lt i j) lt }
   where
-    by : (i : ℕ) (a : Foot) → slice_get links i ≡ Some a → keeps_cross k a.cross.0 ≡ true → Dec (i < j) → i < j + 1 → IsSettled left feet a.wire.0 from
+    by : (i : ℕ) (a : Support) → slice_get links i ≡ Some a → keeps_cross k a.cross.0 ≡ true → Dec (i < j) → i < j + 1 → IsSettled left feet a.wire.0 from
     by i a at kept (yes h) lt = t.at i a h at kept
     by i a at kept (no h) lt = absurd (let same : i ≡ j = omega (arith, h, lt) in let no_foot : None ≡ Some a = sym none ∙ ap (slice_get links) (sym same) ∙ at in cc)
 
-pub taken_first : {k : Kept} {links : List Foot} {from : ℕ} {left : List Bool} {feet : List (Option Foot)} → AreTaken k links 0 from left feet
+pub taken_first : {k : Kept} {links : List Support} {from : ℕ} {left : List Bool} {feet : List (Option Support)} → AreTaken k links 0 from left feet
 taken_first = record { at = λ i a lt at kept. absurd (let none : ⊥ = omega (arith, lt) in none) }
 
-step_there : (ss : List Step) (i : ℕ) → i < length ss → (t : Step) × (slice_get ss i ≡ Some t)
+step_there : (ss : List VerifiedWire) (i : ℕ) → i < length ss → (t : VerifiedWire) × (slice_get ss i ≡ Some t)
 step_there [] i h = absurd (let none : ⊥ = omega (arith, h) in none)
 step_there (s ∷ ss) zero h = (s, refl)
 step_there (s ∷ ss) (suc i) h = step_there ss i (omega (arith, h))
 
 -- what isn't left, isn't left later
-pub out_still : {n m : KnownWires} {left rest : List Bool} {feet more : List (Option Foot)} → Founds n m left rest feet more → (w : ℕ) → has_number left w ≡ false → has_number rest w ≡ false
+pub out_still : {n m : KnownWires} {left rest : List Bool} {feet more : List (Option Support)} → Founds n m left rest feet more → (w : ℕ) → has_number left w ≡ false → has_number rest w ≡ false
 out_still {left = left} {rest = rest} f w out = by (has_number rest w) refl
   where
     by : (b : Bool) → has_number rest w ≡ b → has_number rest w ≡ false
     by true e = absurd (false≢true (sym out ∙ f.less w e))
     by false e = e
 
-pub settled_none : (k : Kept) (near : List Near) (n : KnownWires) (left : List Bool) (feet : List (Option Foot)) → AreSettled k near n left feet 0
+pub settled_none : (k : Kept) (near : List Near) (n : KnownWires) (left : List Bool) (feet : List (Option Support)) → AreSettled k near n left feet 0
 settled_none k near n left feet w x u b link kept = absurd (let e = b.early in let none : ⊥ = omega (arith, e) in none)
 
 -- before anything stands
-pub ground_none : {k : Kept} {n : KnownWires} (wires : List Bool) (feet : List (Option Foot)) (len : ℕ) → AreApart k wires → n.shape ≡ k.shape → n.steps ≡ [] → feet ≡ replicate len None → len ≡ wires_of k.shape → IsGround k n wires feet
+pub ground_none : {k : Kept} {n : KnownWires} (wires : List Bool) (feet : List (Option Support)) (len : ℕ) → AreApart k wires → n.shape ≡ k.shape → n.steps ≡ [] → feet ≡ replicate len None → len ≡ wires_of k.shape → IsGround k n wires feet
 ground_none {k} {n} wires feet len apart shape steps none wide = record {
   known = record { shape = shape; steps = λ i s here. absurd (let no_step : None ≡ Some s = subst (λ ss. slice_get ss i ≡ Some s) steps here in cc) };
   len = apart.len;
@@ -258,7 +258,7 @@ ground_none {k} {n} wires feet len apart shape steps none wide = record {
         by (no h) = get_or_past (replicate len None) w None (rw length-replicate (omega (arith, h)))
 
 -- all that stands by kept crosspoints was found
-module _ (k : Kept) (near : List Near) (n : KnownWires) (wires left : List Bool) (feet : List (Option Foot)) (links : AreAllLinks k.shape near) (settled : AreSettled k near n left feet (length n.steps))
+module _ (k : Kept) (near : List Near) (n : KnownWires) (wires left : List Bool) (feet : List (Option Support)) (links : AreAllLinks k.shape near) (settled : AreSettled k near n left feet (length n.steps))
     (whole : (w : ℕ) → InSet wires w → HasWire n.steps w ⊎ InSet left w) (pins : (i : ℕ) → i < pins_of k.shape → has_number left (pin_wire k.shape i) ≡ false) where
   from_foot : (w x a : ℕ) → IsKeptCrossOf k x → Ends (ends_of k.shape x) a w → HasWire n.steps a → IsSettled left feet w a
   from_foot w x a c e has = settled w x a (record { place = has.place; early = at_within has.at; at = has.at }) (links.whole a x w (record { within = c.0; at = ends_turned e })) c.1
@@ -270,7 +270,7 @@ module _ (k : Kept) (near : List Near) (n : KnownWires) (wires left : List Bool)
   by_feet : (w a b : ℕ) → a ≢ b → InSet left w → IsSettled left feet w a → IsSettled left feet w b → ⊥
   by_feet w a b differ l (inl out) t = false≢true (sym out ∙ l)
   by_feet w a b differ l (inr f) (inl out) = false≢true (sym out ∙ l)
-  by_feet w a b differ l (inr f) (inr g) = differ (sym f.2 ∙ ap (λ (c : Foot). c.wire.0) (some_same (sym f.1 ∙ g.1)) ∙ g.2)
+  by_feet w a b differ l (inr f) (inr g) = differ (sym f.2 ∙ ap (λ (c : Support). c.wire.0) (some_same (sym f.1 ∙ g.1)) ∙ g.2)
 
   by_two : (w a b : ℕ) → a ≢ b → IsSettled left feet w a → IsSettled left feet w b → HasWire n.steps w ⊎ InSet left w → HasWire n.steps w
   by_two w a b differ s t (inl has) = has
@@ -281,7 +281,7 @@ module _ (k : Kept) (near : List Near) (n : KnownWires) (wires left : List Bool)
   stands_all w (on_two v x y a b is cx cy ex ey differ sa sb) = by_two w a b differ (from_foot w x a cx ex (stands_all a sa)) (from_foot w y b cy ey (stands_all b sb)) (whole w is)
 
 -- the links of the wire at the next place were all taken
-pub settled_more : {k : Kept} (near : List Near) {n m : KnownWires} {left rest : List Bool} {feet more : List (Option Foot)} {place from j : ℕ} → AreSettled k near n left feet place → IsKnown k n → IsKnown k m → Founds n m left rest feet more →
+pub settled_more : {k : Kept} (near : List Near) {n m : KnownWires} {left rest : List Bool} {feet more : List (Option Support)} {place from j : ℕ} → AreSettled k near n left feet place → IsKnown k n → IsKnown k m → Founds n m left rest feet more →
     IsAt n.steps place from → length (list_at near from) ≤ j → AreTaken k (list_at near from) j from rest more → AreSettled k near m rest more (place + 1)
 settled_more {k} near {n} {m} {left} {rest} {feet} {more} {place} {from} {j} s isn ism f at le t w x u b link kept = by (dec_lt b.place place)
   where
@@ -297,7 +297,7 @@ settled_more {k} near {n} {m} {left} {rest} {feet} {more} {place} {from} {j} s i
             by_place : Dec (b.place < length n.steps) → IsAt n.steps b.place u
             by_place (yes h) = was (step_there n.steps b.place h)
               where
-                was : ((t : Step) × (slice_get n.steps b.place ≡ Some t)) → IsAt n.steps b.place u
+                was : ((t : VerifiedWire) × (slice_get n.steps b.place ≡ Some t)) → IsAt n.steps b.place u
                 was t =
                     let v : IsAt n.steps b.place t.0.wire.0 = record { step = t.0; here = t.1; wire = refl } in
                     let same : t.0.wire.0 ≡ u = at_one (f.stays b.place t.0.wire.0 v) b.at in

@@ -33,8 +33,8 @@ use Rattle.diag_known.specs.Ways.{IsWay}
 use Rattle.diag_known.specs.declared.beside.Reach.{Reach}
 use Rattle.diag_known.specs.declared.beside.Reach.TheVariants as reach
 use Rattle.diag_known.specs.declared.offers.Offer.{Offer}
-use Rattle.diag_known.specs.declared.step.Foot.{Foot}
-use Rattle.diag_known.specs.declared.step.Step.{Step}
+use Rattle.diag_known.specs.declared.verified_wire.Support.{Support}
+use Rattle.diag_known.specs.declared.verified_wire.VerifiedWire.{VerifiedWire}
 use Rattle.diag_known.proofs.Adding.{later_one}
 use Rattle.diag_known.proofs.Marking.{fit_faultless}
 use Rattle.diag_known.proofs.Passing.{rests_known, among_last, among_before, two_ends, both_within, known_clear, known_unshorted}
@@ -120,14 +120,14 @@ laid_same false true t h = h refl
 laid_same false false t h = refl
 
 -- what is reached is known, and off the route
-pub reached_known : {ss : List Step} {rs : List Reach} {u : ℕ} → AreTrees ss rs → IsReached rs u → HasWire ss u
+pub reached_known : {ss : List VerifiedWire} {rs : List Reach} {u : ℕ} → AreTrees ss rs → IsReached rs u → HasWire ss u
 reached_known {u = u} trees r = trees.known u r.pin r.from
 
 pub reached_off : {rs : List Reach} (q : Walk) {u : ℕ} → ((w : ℕ) → among q.wires w ≡ true → reach_at rs w ≡ reach.OnRoute) → IsReached rs u → among q.wires u ≡ true → ⊥
 reached_off {rs} q {u} on r h = let one = on u h in let other = r.from.at in cc
 
 -- a wire of a way is known, if its end is
-pub way_known : {k : Kept} {ss : List Step} {x : ℕ} {q : Walk} → IsWay k ss x q → HasWire ss x → (u : ℕ) → among q.wires u ≡ true → HasWire ss u
+pub way_known : {k : Kept} {ss : List VerifiedWire} {x : ℕ} {q : Walk} → IsWay k ss x q → HasWire ss x → (u : ℕ) → among q.wires u ≡ true → HasWire ss u
 way_known {k} {ss} {x} {q} way has u on = by_test (u == x) refl
   where
     by_test : (b : Bool) → (u == x) ≡ b → HasWire ss u
@@ -162,7 +162,7 @@ module _ {k : Kept} {known : KnownWires} (is : IsKnown k known) {o : Offer} (off
       (λ u on. known_unshorted is holds (walk_known u on) (on_way v other) (λ e. reached_off q h.on (on_walk u (at_over routes u on)) (subst (λ z. among q.wires z ≡ true) (sym e) other)))
       (fit.alone v (on_way v other)) u on
 
-  other_end_hung : (j : ℕ) (a : Foot) → slice_get o.others.items j ≡ Some a → IsReached h.rs a.wire.0 → hung a.wire.0 ≡ true
+  other_end_hung : (j : ℕ) (a : Support) → slice_get o.others.items j ≡ Some a → IsReached h.rs a.wire.0 → hung a.wire.0 ≡ true
   other_end_hung j a here reached =
       let on = h.walks.over j a.wire (h.wanted j a here) reached in
       among_before (wires_over routes) w a.wire.0 (over_at routes on.place a.wire.0 on.route on.here on.on)
@@ -179,7 +179,7 @@ module _ {k : Kept} {known : KnownWires} (is : IsKnown k known) {o : Offer} (off
       from_old (inr p) = from_new p
 
   -- one of the others, which isn't stuck
-  module _ (j : ℕ) (a : Foot) (here : slice_get o.others.items j ≡ Some a) (reached : IsReached h.rs a.wire.0) (also_free : stuck_cross f a.cross.0 ≡ None) where
+  module _ (j : ℕ) (a : Support) (here : slice_get o.others.items j ≡ Some a) (reached : IsReached h.rs a.wire.0) (also_free : stuck_cross f a.cross.0 ≡ None) where
     pub walk_to : IsOnWalk routes a.wire.0
     walk_to = h.walks.over j a.wire (h.wanted j a here) reached
 
@@ -291,11 +291,11 @@ hung_sound {o = o} is offer way h laid pulled passes is_no = record {
 }
 
 -- .. and no toggle, where nothing is reached
-pub none_hung : {told : Option Faults} {k : Kept} {ss : List Step} {o : Offer} {q : Walk} → HangsNot ss o q → HasNoneBeside told k ss o q
+pub none_hung : {told : Option Faults} {k : Kept} {ss : List VerifiedWire} {o : Offer} {q : Walk} → HangsNot ss o q → HasNoneBeside told k ss o q
 none_hung h = record { rs = h.rs; all = h.all; lost = λ j a here reached. absurd (h.none j a here reached) }
 
 -- the crosspoints that are closed are of the machine
-pub hung_within : {k : Kept} {ss : List Step} {o : Offer} {q : Walk} {routes : List Walk} {ties : List ℕ} → IsOffer k.shape ss o → IsHanging k ss o q routes ties → (x : ℕ) → among ties x ≡ true → x < crosses_of k.shape
+pub hung_within : {k : Kept} {ss : List VerifiedWire} {o : Offer} {q : Walk} {routes : List Walk} {ties : List ℕ} → IsOffer k.shape ss o → IsHanging k ss o q routes ties → (x : ℕ) → among ties x ≡ true → x < crosses_of k.shape
 hung_within {k} {ss} {o} {q} {routes} {ties} offer h x on = from_old (h.laid.only x on)
   where
     from_new : InSome routes IsOn x ⊎ InSome o.others.items (IsHung h.rs) x → x < crosses_of k.shape
@@ -306,5 +306,5 @@ hung_within {k} {ss} {o} {q} {routes} {ties} offer h x on = from_old (h.laid.onl
     from_old (inl e) = among_both (λ y. y < crosses_of k.shape) [] o.foot.cross.0 (λ y none. absurd (false≢true none)) offer.foot.within x e
     from_old (inr p) = from_new p
 
-pub hung_tied : {k : Kept} {ss : List Step} {o : Offer} {q : Walk} {routes : List Walk} {ties : List ℕ} → IsHanging k ss o q routes ties → among ties o.foot.cross.0 ≡ true
+pub hung_tied : {k : Kept} {ss : List VerifiedWire} {o : Offer} {q : Walk} {routes : List Walk} {ties : List ℕ} → IsHanging k ss o q routes ties → among ties o.foot.cross.0 ≡ true
 hung_tied {o = o} h = h.laid.stays o.foot.cross.0 (among_last [] o.foot.cross.0)

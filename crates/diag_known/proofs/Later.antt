@@ -6,14 +6,14 @@ use Rattle.machine_shape.specs.declared.Shape.{Shape}
 use Rattle.machine_shape.specs.Shape.{Ends, ends_of, pin_wire, pins_of, crosses_of}
 use Rattle.diag_evidence.specs.Kept.{Kept, IsMore}
 use Rattle.diag_known.specs.Known.{KnownWires, IsBefore, IsFoot, Stands, on_pin, on_feet, IsKnownStep, IsKnown, IsGood}
-use Rattle.diag_known.specs.declared.step.Foot.{Foot}
-use Rattle.diag_known.specs.declared.step.Stand.{Stand}
-use Rattle.diag_known.specs.declared.step.Step.{Step}
+use Rattle.diag_known.specs.declared.verified_wire.Support.{Support}
+use Rattle.diag_known.specs.declared.verified_wire.SupportedBy.{SupportedBy}
+use Rattle.diag_known.specs.declared.verified_wire.VerifiedWire.{VerifiedWire}
 use Rattle.diag_known.proofs.Places.{get_pushed, before_later, before_has}
 use Rattle.diag_tests.specs.Routes.{Walk, IsRoute}
 use Rattle.diag_known.specs.Ways.{IsWay, AreWays}
 
-pub foot_later : {k l : Kept} {ss : List Step} {i w : ℕ} {a : Foot} → IsMore k l → IsFoot k ss i w a → IsFoot l ss i w a
+pub foot_later : {k l : Kept} {ss : List VerifiedWire} {i w : ℕ} {a : Support} → IsMore k l → IsFoot k ss i w a → IsFoot l ss i w a
 foot_later {w = w} {a = a} more f = record {
   within = subst (λ (m : Shape). a.cross.0 < crosses_of m) (sym more.shape) f.within;
   kept = more.crosses a.cross.0 f.kept;
@@ -21,7 +21,7 @@ foot_later {w = w} {a = a} more f = record {
   before = f.before;
 }
 
-pub stands_later : {k l : Kept} {ss : List Step} {i w : ℕ} {s : Stand} → IsMore k l → Stands k ss i w s → Stands l ss i w s
+pub stands_later : {k l : Kept} {ss : List VerifiedWire} {i w : ℕ} {s : SupportedBy} → IsMore k l → Stands k ss i w s → Stands l ss i w s
 stands_later {w = w} more (on_pin {n = n} within e) = on_pin (subst (λ (m : Shape). n < pins_of m) (sym more.shape) within) (subst (λ (m : Shape). w ≡ pin_wire m n) (sym more.shape) e)
 stands_later more (on_feet f g differ) = on_feet (foot_later more f) (foot_later more g) differ
 
@@ -35,29 +35,29 @@ known_later {k} {l} {known} more is = record {
   };
 }
 
-foot_more : {k : Kept} {ss : List Step} {i w : ℕ} {a : Foot} (ts : List Step) → IsFoot k ss i w a → IsFoot k (ss ++ ts) i w a
+foot_more : {k : Kept} {ss : List VerifiedWire} {i w : ℕ} {a : Support} (ts : List VerifiedWire) → IsFoot k ss i w a → IsFoot k (ss ++ ts) i w a
 foot_more ts f = record { within = f.within; kept = f.kept; at = f.at; before = before_later ts f.before }
 
-stands_more : {k : Kept} {ss : List Step} {i w : ℕ} {s : Stand} (ts : List Step) → Stands k ss i w s → Stands k (ss ++ ts) i w s
+stands_more : {k : Kept} {ss : List VerifiedWire} {i w : ℕ} {s : SupportedBy} (ts : List VerifiedWire) → Stands k ss i w s → Stands k (ss ++ ts) i w s
 stands_more ts (on_pin within e) = on_pin within e
 stands_more ts (on_feet f g differ) = on_feet (foot_more ts f) (foot_more ts g) differ
 
 -- what came before a place before the last one is of the old list
-before_pushed : {ss : List Step} (s : Step) {i u : ℕ} → i < length ss + 1 → IsBefore (ss ++ s ∷ []) i u → IsBefore ss i u
+before_pushed : {ss : List VerifiedWire} (s : VerifiedWire) {i u : ℕ} → i < length ss + 1 → IsBefore (ss ++ s ∷ []) i u → IsBefore ss i u
 before_pushed {ss} s {i} {u} within b = by_place (get_pushed ss s b.place b.at.step b.at.here)
   where
     by_place : (slice_get ss b.place ≡ Some b.at.step) ⊎ ((b.place ≡ length ss) × (s ≡ b.at.step)) → IsBefore ss i u
     by_place (inl h) = record { place = b.place; early = b.early; at = record { step = b.at.step; here = h; wire = b.at.wire } }
     by_place (inr h) = absurd (let e = b.early in let f = h.0 in let no : ⊥ = omega (arith, e, f, within) in no)
 
-pub learnt : {k : Kept} {known new : KnownWires} {s : Step} → IsKnown k known → IsGood k known.steps s.wire.0 → Stands k known.steps (length known.steps) s.wire.0 s.stand →
+pub learnt : {k : Kept} {known new : KnownWires} {s : VerifiedWire} → IsKnown k known → IsGood k known.steps s.wire.0 → Stands k known.steps (length known.steps) s.wire.0 s.stand →
     new.shape ≡ known.shape → new.steps ≡ known.steps ++ s ∷ [] → IsKnown k new
 learnt {k} {known} {new} {s} is good stands shape steps = record {
   shape = shape ∙ is.shape;
   steps = λ i t here. subst (λ ss. IsKnownStep k ss i t) (sym steps) (by_place i t (get_pushed known.steps s i t (subst (λ ss. slice_get ss i ≡ Some t) steps here)));
 }
   where
-    by_place : (i : ℕ) (t : Step) → (slice_get known.steps i ≡ Some t) ⊎ ((i ≡ length known.steps) × (s ≡ t)) → IsKnownStep k (known.steps ++ s ∷ []) i t
+    by_place : (i : ℕ) (t : VerifiedWire) → (slice_get known.steps i ≡ Some t) ⊎ ((i ≡ length known.steps) × (s ≡ t)) → IsKnownStep k (known.steps ++ s ∷ []) i t
     by_place i t (inl h) = let step = is.steps i t h in let low = slice_get_within known.steps i t h in record {
       kept = step.kept;
       apart = λ u before. step.apart u (before_pushed s (omega (arith, low)) before);
@@ -70,7 +70,7 @@ learnt {k} {known} {new} {s} is good stands shape steps = record {
     }))
 
 -- ways stay ways
-pub way_later : {k l : Kept} {ss : List Step} {w : ℕ} {q : Walk} → IsMore k l → IsWay k ss w q → IsWay l ss w q
+pub way_later : {k l : Kept} {ss : List VerifiedWire} {w : ℕ} {q : Walk} → IsMore k l → IsWay k ss w q → IsWay l ss w q
 way_later {q = q} more way = record {
   route = subst (λ (m : Shape). IsRoute m q) (sym more.shape) way.route;
   crosses = λ x on. more.crosses x (way.crosses x on);
@@ -78,5 +78,5 @@ way_later {q = q} more way = record {
   wires = way.wires;
 }
 
-pub ways_later : {k l : Kept} {ss : List Step} {w : ℕ} {p q : Walk} → IsMore k l → AreWays k ss w p q → AreWays l ss w p q
+pub ways_later : {k l : Kept} {ss : List VerifiedWire} {w : ℕ} {p q : Walk} → IsMore k l → AreWays k ss w p q → AreWays l ss w p q
 ways_later more a = record { first = way_later more a.first; second = way_later more a.second; meet = a.meet }

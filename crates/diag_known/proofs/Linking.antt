@@ -12,7 +12,7 @@ use Rattle.machine_meaning.proofs.JoinedLemmas.{Ends-swap}
 use Rattle.diag_known.specs.Linked.{IsInField, HasLink, AreLinksUpTo, AreLinks, AddsLink, Links, AreLinked, list_at}
 use Rattle.diag_known.specs.declared.field.Field.{Field}
 use Rattle.diag_known.specs.declared.links.Near.{Near}
-use Rattle.diag_known.specs.declared.step.Foot.{Foot}
+use Rattle.diag_known.specs.declared.verified_wire.Support.{Support}
 use Rattle.diag_known.proofs.Places.{get_before, get_last, get_pushed, some_same}
 use Rattle.diag_known.specs.Grounds.{AreAllLinks}
 
@@ -57,7 +57,7 @@ up_to_none m a near none = record {
   whole = λ w x u less i. absurd (let no : ⊥ = omega (arith, less) in no);
 }
   where
-    no_item : {link : Foot} → ◌≡◌ {A = Option Foot} None (Some link) → ⊥
+    no_item : {link : Support} → ◌≡◌ {A = Option Support} None (Some link) → ⊥
     no_item e = cc
 
 pub up_to_all : (m : Shape) (a : Field) (near : List Near) (n : ℕ) → crosses_of m ≤ n → AreLinksUpTo m a near n → AreLinks m a near
@@ -71,10 +71,10 @@ up_to_past m a near c off up = record { right = up.right; whole = λ w x u less 
     by_place w x u less i (yes e) = absurd (false≢true (sym off ∙ ap (has_number a.crosses) (sym e) ∙ i.has))
     by_place w x u less i (no n) = up.whole w x u (omega (arith, less, n)) i
 
-has_pushed : {ls : List Foot} {x u : ℕ} (link : Foot) → HasLink ls x u → HasLink (ls ++ link ∷ []) x u
+has_pushed : {ls : List Support} {x u : ℕ} (link : Support) → HasLink ls x u → HasLink (ls ++ link ∷ []) x u
 has_pushed {ls} link h = record { place = h.place; link = h.link; here = get_before ls (link ∷ []) h.place h.link h.here; cross = h.cross; wire = h.wire }
 
-module _ {old new : List Near} {w : ℕ} {link : Foot} (adds : AddsLink old new w link) where
+module _ {old new : List Near} {w : ℕ} {link : Support} (adds : AddsLink old new w link) where
   pub added_stays : (v x u : ℕ) → HasLink (list_at old v) x u → HasLink (list_at new v) x u
   added_stays v x u h = by_wire (ℕ_discrete v w)
     where
@@ -85,20 +85,20 @@ module _ {old new : List Near} {w : ℕ} {link : Foot} (adds : AddsLink old new 
   pub added_has : HasLink (list_at new w) link.cross.0 link.wire.0
   added_has = subst (λ ls. HasLink ls link.cross.0 link.wire.0) (sym adds.this) (record { place = length (list_at old w); link = link; here = get_last (list_at old w) link; cross = refl; wire = refl })
 
-  pub added_right : {m : Shape} {a : Field} → ((v j : ℕ) (l : Foot) → slice_get (list_at old v) j ≡ Some l → IsInField m a l.cross.0 l.wire.0 v) → IsInField m a link.cross.0 link.wire.0 w →
-      (v j : ℕ) (l : Foot) → slice_get (list_at new v) j ≡ Some l → IsInField m a l.cross.0 l.wire.0 v
+  pub added_right : {m : Shape} {a : Field} → ((v j : ℕ) (l : Support) → slice_get (list_at old v) j ≡ Some l → IsInField m a l.cross.0 l.wire.0 v) → IsInField m a link.cross.0 link.wire.0 w →
+      (v j : ℕ) (l : Support) → slice_get (list_at new v) j ≡ Some l → IsInField m a l.cross.0 l.wire.0 v
   added_right {m} {a} right this v j l here = by_wire (ℕ_discrete v w)
     where
       by_push : (v ≡ w) → (slice_get (list_at old w) j ≡ Some l) ⊎ ((j ≡ length (list_at old w)) × (link ≡ l)) → IsInField m a l.cross.0 l.wire.0 v
       by_push e (inl h) = right v j l (subst (λ p. slice_get (list_at old p) j ≡ Some l) (sym e) h)
-      by_push e (inr h) = subst (IsInField m a l.cross.0 l.wire.0) (sym e) (subst (λ (z : Foot). IsInField m a z.cross.0 z.wire.0 w) h.1 this)
+      by_push e (inr h) = subst (IsInField m a l.cross.0 l.wire.0) (sym e) (subst (λ (z : Support). IsInField m a z.cross.0 z.wire.0 w) h.1 this)
 
       by_wire : Dec (v ≡ w) → IsInField m a l.cross.0 l.wire.0 v
       by_wire (yes e) = by_push e (get_pushed (list_at old w) link j l (subst (λ ls. slice_get ls j ≡ Some l) (ap (list_at new) e ∙ adds.this) here))
       by_wire (no n) = right v j l (subst (λ ls. slice_get ls j ≡ Some l) (adds.others v n) here)
 
 -- both links over a crosspoint of the field
-pub up_to_next : {m : Shape} {a : Field} {old mid new : List Near} {c : ℕ} {up down : Foot} → c < crosses_of m → has_number a.crosses c ≡ true → (up.wire.0, down.wire.0) ≡ ends_of m c →
+pub up_to_next : {m : Shape} {a : Field} {old mid new : List Near} {c : ℕ} {up down : Support} → c < crosses_of m → has_number a.crosses c ≡ true → (up.wire.0, down.wire.0) ≡ ends_of m c →
     up.cross.0 ≡ c → down.cross.0 ≡ c → AddsLink old mid down.wire.0 up → AddsLink mid new up.wire.0 down → AreLinksUpTo m a old c → AreLinksUpTo m a new (c + 1)
 up_to_next {m} {a} {old} {mid} {new} {c} {up} {down} within on at one other first second before = record {
   right = added_right second (added_right first before.right up_right) down_right;

@@ -15,11 +15,11 @@ use Rattle.diag_known.specs.Known.{HasWire}
 use Rattle.diag_known.specs.Marked.{is_spent, most_loads, few_loads, barred_pins, TakesForWire, Spends, AreMarks}
 use Rattle.diag_known.specs.Trials.{IsFit}
 use Rattle.diag_known.specs.declared.marks.Marks.{Marks}
-use Rattle.diag_known.specs.declared.step.Step.{Step}
+use Rattle.diag_known.specs.declared.verified_wire.VerifiedWire.{VerifiedWire}
 use Rattle.diag_known.proofs.Counting.{many_one, set_below, set_has, set_most, set_only, set_stays, set_one}
 
 -- without faults each wire that isn't known is fit
-pub fit_faultless : {m : Shape} {f : Faults} {ss : List Step} {w : ℕ} → IsFaultless f → ¬ HasWire ss w → IsFit m f ss w
+pub fit_faultless : {m : Shape} {f : Faults} {ss : List VerifiedWire} {w : ℕ} → IsFaultless f → ¬ HasWire ss w → IsFit m f ss w
 fit_faultless {ss = ss} {w = w} none new = record {
   clear = clear_of_sound (all_sound none w);
   alone = λ u has s. new (subst (HasWire ss) ((all_sound none w).alone u s) has);
@@ -147,7 +147,7 @@ spends_then {told} {k} {l} {these} {s} {t} {u} {a} {b} {c} more later p q = reco
     chain x y n one two = sums (barred_pins k.shape s) (barred_pins k.shape t) (barred_pins k.shape u) x y n one two
 
 -- a crosspoint that wasn't kept is marked, and two loads are made
-unspent : {told : Option Faults} {k : Kept} {ss : List Step} {s : Marks} {f : Faults} (x : ℕ) → AreMarks told k ss s → keeps_cross k x ≡ false → told ≡ Some f → IsFaultless f → HoldsFor k f → is_spent s x ≡ false
+unspent : {told : Option Faults} {k : Kept} {ss : List VerifiedWire} {s : Marks} {f : Faults} (x : ℕ) → AreMarks told k ss s → keeps_cross k x ≡ false → told ≡ Some f → IsFaultless f → HoldsFor k f → is_spent s x ≡ false
 unspent {k = k} {s = s} {f = f} x are fresh is none holds = by_bit (is_spent s x) refl
   where
     by_bit : (b : Bool) → is_spent s x ≡ b → b ≡ false
@@ -157,7 +157,7 @@ unspent {k = k} {s = s} {f = f} x are fresh is none holds = by_bit (is_spent s x
 pins_same : (m : Shape) (s t : Marks) → t.barred ≡ s.barred → barred_pins m t ≡ barred_pins m s
 pins_same m s t same = ap (λ bits. how_many (λ i. has_number bits (pin_wire m i)) (pins_of m)) same
 
-few_one : {told : Option Faults} {k : Kept} {ss : List Step} {s t : Marks} {x : ℕ} {f : Faults} (before after : ℕ) → AreMarks told k ss s → x < crosses_of k.shape → keeps_cross k x ≡ false → MarksOne x s t → after ≤ before + 2 →
+few_one : {told : Option Faults} {k : Kept} {ss : List VerifiedWire} {s t : Marks} {x : ℕ} {f : Faults} (before after : ℕ) → AreMarks told k ss s → x < crosses_of k.shape → keeps_cross k x ≡ false → MarksOne x s t → after ≤ before + 2 →
     told ≡ Some f → IsFaultless f → HoldsFor k f → after + barred_pins k.shape t + few_loads k.shape s ≤ before + barred_pins k.shape s + few_loads k.shape t
 few_one {k = k} {s = s} {t = t} {x = x} before after are within fresh one loads is none holds =
     sums _ _ _ _ _ _ (many_one (is_spent s) (is_spent t) (crosses_of k.shape) x within (unspent x are fresh is none holds) one.this (λ y less on. one.more y on)) (ap (λ bits. how_many (has_number bits) (wires_of k.shape)) one.barred) (pins_same k.shape s t one.barred)
@@ -165,7 +165,7 @@ few_one {k = k} {s = s} {t = t} {x = x} before after are within fresh one loads 
     sums : (p q v w a b : ℕ) → p + 1 ≤ q → w ≡ v → b ≡ a → after + b + (2 * p + 3 * v) ≤ before + a + (2 * q + 3 * w)
     sums p q v w a b less same pins = omega (arith, less, same, pins, loads)
 
-spends_one : {told : Option Faults} {k : Kept} {ss : List Step} {these : ℕ → Type 0} {s t : Marks} {x : ℕ} (before after : ℕ) → AreMarks told k ss s → x < crosses_of k.shape → these x → keeps_cross k x ≡ false → MarksOne x s t → after ≤ before + 2 →
+spends_one : {told : Option Faults} {k : Kept} {ss : List VerifiedWire} {these : ℕ → Type 0} {s t : Marks} {x : ℕ} (before after : ℕ) → AreMarks told k ss s → x < crosses_of k.shape → these x → keeps_cross k x ≡ false → MarksOne x s t → after ≤ before + 2 →
     after + most_loads k.shape s ≤ before + most_loads k.shape t → Spends told k these s t before after
 spends_one {k = k} {these = these} {s = s} {t = t} {x = x} before after are within this fresh one loads most = record {
   only = λ y on. by_this y (one.only y on);
@@ -197,7 +197,7 @@ itself n = omega arith
 one_at : (bits : List Bool) {n x : ℕ} → length bits ≡ n → x < n → has_number bits x ≡ false → how_many (has_number bits) n + 1 ≤ how_many (has_number (slice_set bits x true)) n
 one_at bits {n} {x} len within off = subst (λ m. how_many (has_number bits) m + 1 ≤ how_many (has_number (slice_set bits x true)) m) len (set_one bits x (subst (λ m. x < m) (sym len) within) off)
 
-module _ {told : Option Faults} {k : Kept} {ss : List Step} {s : Marks} {x : ℕ} (before after : ℕ) (are : AreMarks told k ss s) (within : x < crosses_of k.shape) where
+module _ {told : Option Faults} {k : Kept} {ss : List VerifiedWire} {s : Marks} {x : ℕ} (before after : ℕ) (are : AreMarks told k ss s) (within : x < crosses_of k.shape) where
   pub most_offered : has_number s.offered x ≡ false → after ≤ before + 4 → after + most_loads k.shape s ≤ before + most_loads k.shape (record s { offered = slice_set s.offered x true })
   most_offered off loads = four_parts _ _ _ _ _ _ _ _ before after loads (one_at s.offered are.offered within off) (itself _) (itself _) (itself _)
 
@@ -229,7 +229,7 @@ unfolding pin_wire
 is_pin_wire m w = refl
 
 -- a wire is barred, and three loads are made, or two if it is a pin
-pub spends_barred : {told : Option Faults} {k : Kept} {ss : List Step} {s t : Marks} {these : ℕ → Type 0} {w : ℕ} (before after : ℕ) → AreMarks told k ss s → w < wires_of k.shape → has_number s.barred w ≡ false →
+pub spends_barred : {told : Option Faults} {k : Kept} {ss : List VerifiedWire} {s t : Marks} {these : ℕ → Type 0} {w : ℕ} (before after : ℕ) → AreMarks told k ss s → w < wires_of k.shape → has_number s.barred w ≡ false →
     t ≡ record s { barred = slice_set s.barred w true } → TakesForWire k.shape w before after → Spends told k these s t before after
 spends_barred {told} {k} {ss} {s} {t} {these} {w} before after are within off marks loads = subst (λ u. Spends told k these s u before after) (sym marks) (by_place (dec_lt w (pins_of k.shape)))
   where

@@ -11,8 +11,8 @@ use Rattle.diag_known.specs.Marked.{barred_pins, is_spent, AreMarks, IsOfOffer, 
 use Rattle.diag_known.specs.Offers.{IsOffer, IsPlaced}
 use Rattle.diag_known.specs.declared.marks.Marks.{Marks}
 use Rattle.diag_known.specs.declared.offers.Offer.{Offer}
-use Rattle.diag_known.specs.declared.step.Foot.{Foot}
-use Rattle.diag_known.specs.declared.step.Step.{Step}
+use Rattle.diag_known.specs.declared.verified_wire.Support.{Support}
+use Rattle.diag_known.specs.declared.verified_wire.VerifiedWire.{VerifiedWire}
 use Rattle.diag_known.proofs.Counting.{set_only}
 use Rattle.diag_known.proofs.Marking.{MarksOne, offered_one, spends_none, spends_then, spends_offered, spends_second, most_offered}
 
@@ -41,7 +41,7 @@ pub spends_on_told : {a b : Option Faults} {k : Kept} {o : Offer} {s t : Marks} 
 spends_on_told {k = k} {o = o} {s = s} {t = t} {before = before} {after = after} e p = subst (λ told. SpendsOn told k o s t before after) e p
 
 -- the crosspoint of the offer is marked as offered
-module _ {told : Option Faults} {k : Kept} {ss : List Step} {o : Offer} {s t : Marks} {before after : ℕ} (are : AreMarks told k ss s) (offer : IsOffer k.shape ss o) where
+module _ {told : Option Faults} {k : Kept} {ss : List VerifiedWire} {o : Offer} {s t : Marks} {before after : ℕ} (are : AreMarks told k ss s) (offer : IsOffer k.shape ss o) where
   pub spends_own : keeps_cross k o.foot.cross.0 ≡ false → has_number s.offered o.foot.cross.0 ≡ false → t ≡ record s { offered = slice_set s.offered o.foot.cross.0 true } → after ≤ before + 2 → SpendsOn told k o s t before after
   spends_own fresh off marks loads = record {
     spends = spends_offered before after are offer.foot.within (inl refl) fresh off marks loads;
@@ -50,7 +50,7 @@ module _ {told : Option Faults} {k : Kept} {ss : List Step} {o : Offer} {s t : M
   }
 
   -- another one is marked as toggled over it
-  pub spends_other : (a : Foot) → IsPlaced o.others.items a → keeps_cross k a.cross.0 ≡ false → has_number s.second a.cross.0 ≡ false → t ≡ record s { second = slice_set s.second a.cross.0 true } → after ≤ before + 2 → SpendsOn told k o s t before after
+  pub spends_other : (a : Support) → IsPlaced o.others.items a → keeps_cross k a.cross.0 ≡ false → has_number s.second a.cross.0 ≡ false → t ≡ record s { second = slice_set s.second a.cross.0 true } → after ≤ before + 2 → SpendsOn told k o s t before after
   spends_other a placed fresh off marks loads = record {
     spends = spends_second before after are ((offer.others placed.place a placed.here).within) (inr (record { place = placed.place; item = a; here = placed.here; so = refl })) fresh off marks loads;
     offered = record { only = λ y on. inl (subst (λ u. has_number u.offered y ≡ true) marks on) };
@@ -58,13 +58,13 @@ module _ {told : Option Faults} {k : Kept} {ss : List Step} {o : Offer} {s t : M
   }
 
 -- beside one way, or beside the first of two
-pub spends_first : {told : Option Faults} {k : Kept} {ss : List Step} {o : Offer} {s t : Marks} {before after : ℕ} → AreMarks told k ss s → IsOffer k.shape ss o → has_number s.offered o.foot.cross.0 ≡ false →
+pub spends_first : {told : Option Faults} {k : Kept} {ss : List VerifiedWire} {o : Offer} {s t : Marks} {before after : ℕ} → AreMarks told k ss s → IsOffer k.shape ss o → has_number s.offered o.foot.cross.0 ≡ false →
     OffersAtMost k o.foot.cross.0 s t before after → SpendsOn told k o s t before after
 spends_first are offer off (inl same) = spends_on_none same.0 same.1
 spends_first are offer off (inr one) = spends_own are offer one.fresh off one.marks one.loads
 
 -- .. beside both
-pub spends_both : {told : Option Faults} {k l : Kept} {ss : List Step} {o : Offer} {s t u : Marks} (a b c : ℕ) → AreMarks told k ss s → IsOffer k.shape ss o → has_number s.offered o.foot.cross.0 ≡ false → IsMore k l →
+pub spends_both : {told : Option Faults} {k l : Kept} {ss : List VerifiedWire} {o : Offer} {s t u : Marks} (a b c : ℕ) → AreMarks told k ss s → IsOffer k.shape ss o → has_number s.offered o.foot.cross.0 ≡ false → IsMore k l →
     ((f : Faults) → told ≡ Some f → HoldsFor k f → HoldsFor l f) → AreMarks told l ss t → OffersAtMost k o.foot.cross.0 s t a b → OffersAtMost l o.foot.cross.0 t u b c → SpendsOn told k o s u a c
 spends_both {ss = ss} {o = o} a b c are offer off more later mid (inl first) second = spends_on_then more later (spends_on_none first.0 first.1)
     (spends_first mid (subst (λ (m : Shape). IsOffer m ss o) (sym more.shape) offer) (ap (λ (v : Marks). has_number v.offered o.foot.cross.0) first.0 ∙ off) second)

@@ -21,14 +21,14 @@ use Rattle.diag_evidence.proofs.Keeping.{pair_turned, holds_earlier}
 use Rattle.diag_known.specs.Known.{KnownWires, IsAt, HasWire, IsKnown}
 use Rattle.diag_known.specs.Routes.{RestsOn, IsKnownRoute, AreRoutesTo}
 use Rattle.diag_known.specs.Trials.{IsKeptRoute, IsFit, IsKeptUnlessStuck, IsLost}
-use Rattle.diag_known.specs.declared.step.Step.{Step}
+use Rattle.diag_known.specs.declared.verified_wire.VerifiedWire.{VerifiedWire}
 use Rattle.diag_known.proofs.Places.{at_one}
 use Rattle.diag_known.proofs.Rising.{among_one}
 
-pub rests_known : {ss : List Step} {on : ℕ → Type 0} {w : ℕ} → RestsOn ss on w → HasWire ss w
+pub rests_known : {ss : List VerifiedWire} {on : ℕ → Type 0} {w : ℕ} → RestsOn ss on w → HasWire ss w
 rests_known r = record { place = r.place; at = r.at }
 
-pub kept_route : {k : Kept} {ss : List Step} {r : Walk} → IsKnownRoute k ss r → IsKeptRoute k r
+pub kept_route : {k : Kept} {ss : List VerifiedWire} {r : Walk} → IsKnownRoute k ss r → IsKeptRoute k r
 kept_route r = record { route = r.route; crosses = r.crosses }
 
 or_true : (a b : Bool) → b ≡ true → (a || b) ≡ true

@@ -9,10 +9,10 @@ use Rattle.diag_known.specs.Known.{KnownWires, IsAt, IsBefore, HasWire, IsFoot, 
 use Rattle.diag_known.specs.Descents.{IsPinAt, IsPinHere, Stays, StepsDown, StepsAlong}
 use Rattle.diag_known.specs.Routes.{IsPin}
 use Rattle.diag_known.specs.declared.descents.Down.{Down}
-use Rattle.diag_known.specs.declared.step.Foot.{Foot}
-use Rattle.diag_known.specs.declared.step.Stand.{Stand}
-use Rattle.diag_known.specs.declared.step.Stand.TheVariants as stand
-use Rattle.diag_known.specs.declared.step.Step.{Step}
+use Rattle.diag_known.specs.declared.verified_wire.Support.{Support}
+use Rattle.diag_known.specs.declared.verified_wire.SupportedBy.{SupportedBy}
+use Rattle.diag_known.specs.declared.verified_wire.SupportedBy.TheVariants as stand
+use Rattle.diag_known.specs.declared.verified_wire.VerifiedWire.{VerifiedWire}
 use native.Mathlib.Decide.{dec_lt}
 use native.Mathlib.Decide.{ℕ_discrete}
 
@@ -42,16 +42,16 @@ pub some_same : {A : Type 0} {x y : A} → Some x ≡ Some y → x ≡ y
 some_same e = cc
 
 -- known wires stay where they are
-pub at_later : {ss : List Step} {i w : ℕ} (ts : List Step) → IsAt ss i w → IsAt (ss ++ ts) i w
+pub at_later : {ss : List VerifiedWire} {i w : ℕ} (ts : List VerifiedWire) → IsAt ss i w → IsAt (ss ++ ts) i w
 at_later {ss} {i} ts at = record { step = at.step; here = get_before ss ts i at.step at.here; wire = at.wire }
 
-pub before_later : {ss : List Step} {n w : ℕ} (ts : List Step) → IsBefore ss n w → IsBefore (ss ++ ts) n w
+pub before_later : {ss : List VerifiedWire} {n w : ℕ} (ts : List VerifiedWire) → IsBefore ss n w → IsBefore (ss ++ ts) n w
 before_later ts b = record { place = b.place; early = b.early; at = at_later ts b.at }
 
-pub has_later : {ss : List Step} {w : ℕ} (ts : List Step) → HasWire ss w → HasWire (ss ++ ts) w
+pub has_later : {ss : List VerifiedWire} {w : ℕ} (ts : List VerifiedWire) → HasWire ss w → HasWire (ss ++ ts) w
 has_later ts h = record { place = h.place; at = at_later ts h.at }
 
-pub before_has : {ss : List Step} {n w : ℕ} → IsBefore ss n w → HasWire ss w
+pub before_has : {ss : List VerifiedWire} {n w : ℕ} → IsBefore ss n w → HasWire ss w
 before_has b = record { place = b.place; at = b.at }
 
 -- each known wire has one place
@@ -70,67 +70,67 @@ module _ {k : Kept} {known : KnownWires} (is : IsKnown k known) where
       by_less (no h) (no o) = omega arith
 
 -- the step that stands at a pin's place
-pub pin_here : {k : Kept} {known : KnownWires} → IsKnown k known → (i : ℕ) (s : Step) (n : ℕ) → slice_get known.steps i ≡ Some s → s.stand ≡ stand.Pin n → IsPinAt k known.steps i n
-pin_here {k} {known} is i s n here e = pin_is (subst (λ (d : Stand). Stands k known.steps i s.wire.0 d) e ((is.steps i s here).stands))
+pub pin_here : {k : Kept} {known : KnownWires} → IsKnown k known → (i : ℕ) (s : VerifiedWire) (n : ℕ) → slice_get known.steps i ≡ Some s → s.stand ≡ stand.Pin n → IsPinAt k known.steps i n
+pin_here {k} {known} is i s n here e = pin_is (subst (λ (d : SupportedBy). Stands k known.steps i s.wire.0 d) e ((is.steps i s here).stands))
   where
     pin_is : Stands k known.steps i s.wire.0 (stand.Pin n) → IsPinAt k known.steps i n
     pin_is (on_pin within wire) = record { step = s; here = here; stand = e; within = within; wire = wire }
 
 -- one wire stands at a place
-pub at_one : {ss : List Step} {i v w : ℕ} → IsAt ss i v → IsAt ss i w → v ≡ w
-at_one at on = sym at.wire ∙ ap (λ (s : Step). s.wire.0) (some_same (sym at.here ∙ on.here)) ∙ on.wire
+pub at_one : {ss : List VerifiedWire} {i v w : ℕ} → IsAt ss i v → IsAt ss i w → v ≡ w
+at_one at on = sym at.wire ∙ ap (λ (s : VerifiedWire). s.wire.0) (some_same (sym at.here ∙ on.here)) ∙ on.wire
 
-pub at_within : {ss : List Step} {i w : ℕ} → IsAt ss i w → i < length ss
+pub at_within : {ss : List VerifiedWire} {i w : ℕ} → IsAt ss i w → i < length ss
 at_within {ss} {i} at = slice_get_within ss i at.step at.here
 
 -- a step down leads to a place before, and to another than that of the other wire
-pub foot_known : {k : Kept} {ss : List Step} {i j : ℕ} {d : Down} → StepsAlong k ss i j d → HasWire ss d.foot.wire.0
+pub foot_known : {k : Kept} {ss : List VerifiedWire} {i j : ℕ} {d : Down} → StepsAlong k ss i j d → HasWire ss d.foot.wire.0
 foot_known {k} {ss} {i} {j} {d} s = by_side d.left refl
   where
     by_side : (b : Bool) → d.left ≡ b → HasWire ss d.foot.wire.0
     by_side true e = before_has (s.left e).stands.before
     by_side false e = before_has (s.right e).stands.before
 
-pub record LeadsBelow (ss : List Step) (i j u : ℕ) : Type 0 where
+pub record LeadsBelow (ss : List VerifiedWire) (i j u : ℕ) : Type 0 where
   pub two : AreTwo ss u j
   pub less : u < i
 
-pub leads_below : {k : Kept} {known : KnownWires} → IsKnown k known → {i j u : ℕ} {foot : Foot} → j < length known.steps → StepsDown k known.steps i j foot → IsAt known.steps u foot.wire.0 → LeadsBelow known.steps i j u
+pub leads_below : {k : Kept} {known : KnownWires} → IsKnown k known → {i j u : ℕ} {foot : Support} → j < length known.steps → StepsDown k known.steps i j foot → IsAt known.steps u foot.wire.0 → LeadsBelow known.steps i j u
 leads_below {k} {known} is {i} {j} {u} {foot} within d at = record {
   two = (at_within at, within, λ e. d.apart (at_one (subst (λ p. IsAt known.steps p foot.wire.0) e at) (record { step = d.other; here = d.there; wire = refl })));
   less = let early = d.stands.before.early in let same : d.stands.before.place ≡ u = one_place is d.stands.before.at at in omega (arith, early, same);
 }
 
 -- what a wire on feet stands on
-pub record StandsOn (k : Kept) (ss : List Step) (i w : ℕ) (a b : Foot) : Type 0 where
+pub record StandsOn (k : Kept) (ss : List VerifiedWire) (i w : ℕ) (a b : Support) : Type 0 where
   pub one : IsFoot k ss i w a
   pub other : IsFoot k ss i w b
   pub differ : a.wire.0 ≢ b.wire.0
 
-pub feet_here : {k : Kept} {known : KnownWires} → IsKnown k known → (i : ℕ) (s : Step) (a b : Foot) → slice_get known.steps i ≡ Some s → s.stand ≡ stand.Feet a b → StandsOn k known.steps i s.wire.0 a b
-feet_here {k} {known} is i s a b here e = feet_are (subst (λ (d : Stand). Stands k known.steps i s.wire.0 d) e ((is.steps i s here).stands))
+pub feet_here : {k : Kept} {known : KnownWires} → IsKnown k known → (i : ℕ) (s : VerifiedWire) (a b : Support) → slice_get known.steps i ≡ Some s → s.stand ≡ stand.Feet a b → StandsOn k known.steps i s.wire.0 a b
+feet_here {k} {known} is i s a b here e = feet_are (subst (λ (d : SupportedBy). Stands k known.steps i s.wire.0 d) e ((is.steps i s here).stands))
   where
     feet_are : Stands k known.steps i s.wire.0 (stand.Feet a b) → StandsOn k known.steps i s.wire.0 a b
     feet_are (on_feet g h differ) = record { one = g; other = h; differ = differ }
 
-pub steps_down : {k : Kept} {known : KnownWires} → IsKnown k known → (i j : ℕ) (s t : Step) (a b : Foot) → slice_get known.steps i ≡ Some s → s.stand ≡ stand.Feet a b → slice_get known.steps j ≡ Some t →
-    (foot : Foot) → (foot ≡ a) ⊎ (foot ≡ b) → foot.wire.0 ≢ t.wire.0 → IsPin t.stand ⊎ (j < i) → StepsDown k known.steps i j foot
+pub steps_down : {k : Kept} {known : KnownWires} → IsKnown k known → (i j : ℕ) (s t : VerifiedWire) (a b : Support) → slice_get known.steps i ≡ Some s → s.stand ≡ stand.Feet a b → slice_get known.steps j ≡ Some t →
+    (foot : Support) → (foot ≡ a) ⊎ (foot ≡ b) → foot.wire.0 ≢ t.wire.0 → IsPin t.stand ⊎ (j < i) → StepsDown k known.steps i j foot
 steps_down {k} {known} is i j s t a b here e there foot which apart early = by_foot which
   where
     on : StandsOn k known.steps i s.wire.0 a b
     on = feet_here is i s a b here e
 
     by_foot : (foot ≡ a) ⊎ (foot ≡ b) → StepsDown k known.steps i j foot
-    by_foot (inl f) = record { step = s; here = here; other = t; there = there; below = (b, inl (e ∙ ap (λ (x : Foot). stand.Feet x b) (sym f))); stands = subst (IsFoot k known.steps i s.wire.0) (sym f) on.one; apart = apart; early = early }
-    by_foot (inr f) = record { step = s; here = here; other = t; there = there; below = (a, inr (e ∙ ap (λ (x : Foot). stand.Feet a x) (sym f))); stands = subst (IsFoot k known.steps i s.wire.0) (sym f) on.other; apart = apart; early = early }
+    by_foot (inl f) = record { step = s; here = here; other = t; there = there; below = (b, inl (e ∙ ap (λ (x : Support). stand.Feet x b) (sym f))); stands = subst (IsFoot k known.steps i s.wire.0) (sym f) on.one; apart = apart; early = early }
+    by_foot (inr f) = record { step = s; here = here; other = t; there = there; below = (a, inr (e ∙ ap (λ (x : Support). stand.Feet a x) (sym f))); stands = subst (IsFoot k known.steps i s.wire.0) (sym f) on.other; apart = apart; early = early }
 
 -- where neither steps down both are pins
-pub both_pins : {ss : List Step} {i j : ℕ} → Stays ss i j → Stays ss j i → IsPinHere ss i
+pub both_pins : {ss : List VerifiedWire} {i j : ℕ} → Stays ss i j → Stays ss j i → IsPinHere ss i
 both_pins {ss} {i} {j} s t = by_why s.why t.why
   where
     by_why : IsPin s.step.stand ⊎ ((i < j) × (¬ IsPin s.other.stand)) → IsPin t.step.stand ⊎ ((j < i) × (¬ IsPin t.other.stand)) → IsPinHere ss i
     by_why (inl pin) why = record { step = s.step; here = s.here; pin = pin }
-    by_why (inr late) (inl pin) = absurd (late.1 (subst (λ (x : Step). IsPin x.stand) (some_same (sym t.here ∙ s.there)) pin))
+    by_why (inr late) (inl pin) = absurd (late.1 (subst (λ (x : VerifiedWire). IsPin x.stand) (some_same (sym t.here ∙ s.there)) pin))
     by_why (inr late) (inr early) = absurd (let one = late.0 in let two = early.0 in let no : ⊥ = omega (arith, one, two) in no)
 
 -- one place more was looked at

@@ -10,11 +10,11 @@ use Rattle.machine_shape.specs.Shape.{wires_of}
 use Rattle.diag_known.specs.Known.{KnownWires, IsAt, HasWire}
 use Rattle.diag_known.specs.Ranks.{rank_in, AreRanks}
 use Rattle.diag_known.specs.declared.known.Known.TheInside.{Inside}
-use Rattle.diag_known.specs.declared.step.Step.{Step}
+use Rattle.diag_known.specs.declared.verified_wire.VerifiedWire.{VerifiedWire}
 use Rattle.diag_known.proofs.Places.{get_before, get_last, get_pushed, some_same}
 
 -- these are the places of these wires
-pub record AreRanksOf (ranks : List (Option ℕ)) (ss : List Step) : Type 0 where
+pub record AreRanksOf (ranks : List (Option ℕ)) (ss : List VerifiedWire) : Type 0 where
   pub right : (w i : ℕ) → rank_in ranks w ≡ Some i → IsAt ss i w
   pub whole : (w i : ℕ) → IsAt ss i w → rank_in ranks w ≡ Some i
 
@@ -31,7 +31,7 @@ no_ranks n = record {
         by_place (yes h) = let s : get_or {A = Option ℕ} (replicate n None) w None ≡ None = get_or-replicate n w None None h in cc
         by_place (no h) = let s : get_or {A = Option ℕ} (replicate n None) w None ≡ None = get_or_past (replicate n None) w None (rw length-replicate (omega arith)) in cc
 
-module _ (ranks : List (Option ℕ)) (ss : List Step) (s : Step) (are : AreRanksOf ranks ss) (wide : s.wire.0 < length ranks) (new : ¬ HasWire ss s.wire.0) where
+module _ (ranks : List (Option ℕ)) (ss : List VerifiedWire) (s : VerifiedWire) (are : AreRanksOf ranks ss) (wide : s.wire.0 < length ranks) (new : ¬ HasWire ss s.wire.0) where
   pub rank_learnt : rank_in (set ranks s.wire.0 (Some (length ss))) s.wire.0 ≡ Some (length ss)
   rank_learnt = get_or-set_same ranks s.wire.0 (Some (length ss)) None wide
 
@@ -58,7 +58,7 @@ module _ (ranks : List (Option ℕ)) (ss : List Step) (s : Step) (are : AreRanks
           let before : IsAt ss i w = record { step = at.step; here = h; wire = at.wire } in
           other_rank w (λ e. new (record { place = i; at = subst (IsAt ss i) e before })) ∙ are.whole w i before
       by_place (inr h) =
-          let same : s.wire.0 ≡ w = ap (λ (t : Step). t.wire.0) h.1 ∙ at.wire in
+          let same : s.wire.0 ≡ w = ap (λ (t : VerifiedWire). t.wire.0) h.1 ∙ at.wire in
           ap (rank_in (set ranks s.wire.0 (Some (length ss)))) (sym same) ∙ rank_learnt ∙ ap Some (sym h.0)
 
   pub ranks_learnt : AreRanksOf (set ranks s.wire.0 (Some (length ss))) (ss ++ s ∷ [])
@@ -96,7 +96,7 @@ ranks_same a b r shape ranks steps = record {
     same : AreRanksOf b.ranks.items b.steps.items
     same = subst (λ ss. AreRanksOf b.ranks.items ss) (sym steps) (subst (λ ns. AreRanksOf ns a.steps.items) (sym ranks) (of_inside a r))
 
-pub ranks_then : (a b : Inside) → AreRanks a → (s : Step) → s.wire.0 < length a.ranks.items → ¬ HasWire a.steps.items s.wire.0 →
+pub ranks_then : (a b : Inside) → AreRanks a → (s : VerifiedWire) → s.wire.0 < length a.ranks.items → ¬ HasWire a.steps.items s.wire.0 →
     b.shape ≡ a.shape → b.steps.items ≡ a.steps.items ++ s ∷ [] → (n : ℕ) → n ≡ length a.steps.items → b.ranks.items ≡ set a.ranks.items s.wire.0 (Some n) → AreRanks b
 ranks_then a b r s within new shape steps n len ranks = record {
   wide = ap length ranks ∙ length-set a.ranks.items s.wire.0 (Some n) ∙ r.wide ∙ ap wires_of (sym shape);

@@ -16,19 +16,19 @@ use Rattle.diag_known.specs.Ways.{ReachesAll}
 use Rattle.diag_known.specs.Reaches.{reach_at, IsFrom, IsReached, HangsOn, own, by_first, by_second, AreTrees}
 use Rattle.diag_known.specs.declared.beside.Reach.{Reach}
 use Rattle.diag_known.specs.declared.beside.Reach.TheVariants as reach
-use Rattle.diag_known.specs.declared.step.Foot.{Foot}
-use Rattle.diag_known.specs.declared.step.Stand.{Stand}
-use Rattle.diag_known.specs.declared.step.Stand.TheVariants as stand
-use Rattle.diag_known.specs.declared.step.Step.{Step}
+use Rattle.diag_known.specs.declared.verified_wire.Support.{Support}
+use Rattle.diag_known.specs.declared.verified_wire.SupportedBy.{SupportedBy}
+use Rattle.diag_known.specs.declared.verified_wire.SupportedBy.TheVariants as stand
+use Rattle.diag_known.specs.declared.verified_wire.VerifiedWire.{VerifiedWire}
 use Rattle.diag_known.proofs.Places.{one_place, some_same, before_has, feet_here, at_one}
 
 -- what is found of the first n known wires
-pub record IsReaching (ss : List Step) (ws : List ℕ) (n : ℕ) (rs : List Reach) : Type 0 where
+pub record IsReaching (ss : List VerifiedWire) (ws : List ℕ) (n : ℕ) (rs : List Reach) : Type 0 where
   pub on : (w : ℕ) → among ws w ≡ true → reach_at rs w ≡ reach.OnRoute
   pub only : (w : ℕ) → reach_at rs w ≡ reach.OnRoute → among ws w ≡ true
   pub known : (w pin : ℕ) → IsFrom rs pin w → IsBefore ss n w
-  pub hangs : (i : ℕ) (s : Step) (pin : ℕ) → slice_get ss i ≡ Some s → IsFrom rs pin s.wire.0 → HangsOn rs pin s.stand
-  pub all : (i : ℕ) (s : Step) → i < n → slice_get ss i ≡ Some s → among ws s.wire.0 ≡ false → IsPin s.stand ⊎ HasFootOn (IsReached rs) s.stand → IsReached rs s.wire.0
+  pub hangs : (i : ℕ) (s : VerifiedWire) (pin : ℕ) → slice_get ss i ≡ Some s → IsFrom rs pin s.wire.0 → HangsOn rs pin s.stand
+  pub all : (i : ℕ) (s : VerifiedWire) → i < n → slice_get ss i ≡ Some s → among ws s.wire.0 ≡ false → IsPin s.stand ⊎ HasFootOn (IsReached rs) s.stand → IsReached rs s.wire.0
 
 bool_cases : (b : Bool) → (b ≡ true) ⊎ (b ≡ false)
 bool_cases true = inl refl
@@ -41,7 +41,7 @@ nothing_reached len w = by_place (dec_lt w len)
     by_place (yes h) = get_or-replicate len w reach.Unreached reach.Unreached h
     by_place (no h) = get_or_past (replicate len reach.Unreached) w reach.Unreached (rw length-replicate (omega (arith, h)))
 
-pub reaching_none : (ss : List Step) (ws : List ℕ) (len : ℕ) (old rs : List Reach) → old ≡ replicate len reach.Unreached → ((w : ℕ) → among ws w ≡ true → reach_at rs w ≡ reach.OnRoute) →
+pub reaching_none : (ss : List VerifiedWire) (ws : List ℕ) (len : ℕ) (old rs : List Reach) → old ≡ replicate len reach.Unreached → ((w : ℕ) → among ws w ≡ true → reach_at rs w ≡ reach.OnRoute) →
     ((w : ℕ) → among ws w ≡ false → reach_at rs w ≡ reach_at old w) → IsReaching ss ws 0 rs
 reaching_none ss ws len old rs empty on off = record {
   on = on;
@@ -62,27 +62,27 @@ reaching_none ss ws len old rs empty on off = record {
     no_from w pin e (inl is) = let un : reach.OnRoute ≡ reach.From pin = sym (on w is) ∙ e.at in cc
     no_from w pin e (inr out) = let un : reach.Unreached ≡ reach.From pin = sym (not_reached w out) ∙ e.at in cc
 
-foot_map : {on of : ℕ → Type 0} {d : Stand} → ((a b : Foot) → d ≡ stand.Feet a b → on a.wire.0 → of a.wire.0) → ((a b : Foot) → d ≡ stand.Feet a b → on b.wire.0 → of b.wire.0) → HasFootOn on d → HasFootOn of d
+foot_map : {on of : ℕ → Type 0} {d : SupportedBy} → ((a b : Support) → d ≡ stand.Feet a b → on a.wire.0 → of a.wire.0) → ((a b : Support) → d ≡ stand.Feet a b → on b.wire.0 → of b.wire.0) → HasFootOn on d → HasFootOn of d
 foot_map f g (first {a} {b} h) = first (f a b refl h)
 foot_map f g (second {a} {b} h) = second (g a b refl h)
 
-hang_map : {rs ts : List Reach} {pin : ℕ} {d : Stand} → ((w : ℕ) → IsFrom rs pin w → IsFrom ts pin w) → HangsOn rs pin d → HangsOn ts pin d
+hang_map : {rs ts : List Reach} {pin : ℕ} {d : SupportedBy} → ((w : ℕ) → IsFrom rs pin w → IsFrom ts pin w) → HangsOn rs pin d → HangsOn ts pin d
 hang_map f own = own
 hang_map f (by_first {a} {b} h) = by_first (f a.wire.0 h)
 hang_map f (by_second {a} {b} h) = by_second (f b.wire.0 h)
 
-before_more : {ss : List Step} {n w : ℕ} → IsBefore ss n w → IsBefore ss (n + 1) w
+before_more : {ss : List VerifiedWire} {n w : ℕ} → IsBefore ss n w → IsBefore ss (n + 1) w
 before_more b = record { place = b.place; early = let h = b.early in omega (arith, h); at = b.at }
 
-module _ {k : Kept} {known : KnownWires} (is : IsKnown k known) (ws : List ℕ) (n : ℕ) (rs : List Reach) (r : IsReaching known.steps ws n rs) (s : Step) (here : slice_get known.steps n ≡ Some s) where
-  abbrev ss : List Step
+module _ {k : Kept} {known : KnownWires} (is : IsKnown k known) (ws : List ℕ) (n : ℕ) (rs : List Reach) (r : IsReaching known.steps ws n rs) (s : VerifiedWire) (here : slice_get known.steps n ≡ Some s) where
+  abbrev ss : List VerifiedWire
   ss = known.steps
 
   abbrev w : ℕ
   w = s.wire.0
 
   -- what stands at a place up to this one
-  which : (i : ℕ) (t : Step) → i < n + 1 → slice_get ss i ≡ Some t → (i < n) ⊎ (t ≡ s)
+  which : (i : ℕ) (t : VerifiedWire) → i < n + 1 → slice_get ss i ≡ Some t → (i < n) ⊎ (t ≡ s)
   which i t lt there = by_less (dec_lt i n)
     where
       by_less : Dec (i < n) → (i < n) ⊎ (t ≡ s)
@@ -105,9 +105,9 @@ module _ {k : Kept} {known : KnownWires} (is : IsKnown k known) (ws : List ℕ) 
     all = λ i t lt there off why. by_place i t there off why (which i t lt there);
   }
     where
-      by_place : (i : ℕ) (t : Step) → slice_get ss i ≡ Some t → among ws t.wire.0 ≡ false → IsPin t.stand ⊎ HasFootOn (IsReached rs) t.stand → (i < n) ⊎ (t ≡ s) → IsReached rs t.wire.0
+      by_place : (i : ℕ) (t : VerifiedWire) → slice_get ss i ≡ Some t → among ws t.wire.0 ≡ false → IsPin t.stand ⊎ HasFootOn (IsReached rs) t.stand → (i < n) ⊎ (t ≡ s) → IsReached rs t.wire.0
       by_place i t there off why (inl h) = r.all i t h there off why
-      by_place i t there off why (inr same) = absurd (false≢true (sym off ∙ ap (λ (x : Step). among ws x.wire.0) same ∙ r.only w e))
+      by_place i t there off why (inr same) = absurd (false≢true (sym off ∙ ap (λ (x : VerifiedWire). among ws x.wire.0) same ∙ r.only w e))
 
   -- it is off the route
   module _ (off_it : reach_at rs w ≢ reach.OnRoute) (x : Reach) (hangs_x : (pin : ℕ) → x ≡ reach.From pin → HangsOn rs pin s.stand)
@@ -136,7 +136,7 @@ module _ {k : Kept} {known : KnownWires} (is : IsKnown k known) (ws : List ℕ) 
     early : (i v : ℕ) → i < n + 1 → IsBefore ss i v → IsBefore ss n v
     early i v lt b = record { place = b.place; early = let h = b.early in omega (arith, h, lt); at = b.at }
 
-    why_down : (i : ℕ) (t : Step) → i < n + 1 → slice_get ss i ≡ Some t → IsPin t.stand ⊎ HasFootOn (IsReached ts) t.stand → IsPin t.stand ⊎ HasFootOn (IsReached rs) t.stand
+    why_down : (i : ℕ) (t : VerifiedWire) → i < n + 1 → slice_get ss i ≡ Some t → IsPin t.stand ⊎ HasFootOn (IsReached ts) t.stand → IsPin t.stand ⊎ HasFootOn (IsReached rs) t.stand
     why_down i t lt there (inl pin) = inl pin
     why_down i t lt there (inr h) = inr (foot_map
         (λ a b e g. let f = feet_here is i t a b there e in reached_down a.wire.0 (not_this a.wire.0 (early i a.wire.0 lt f.one.before)) g)
@@ -153,18 +153,18 @@ module _ {k : Kept} {known : KnownWires} (is : IsKnown k known) (ws : List ℕ) 
     known_then v pin f (yes e) = record { place = n; early = omega arith; at = record { step = s; here = here; wire = sym e } }
     known_then v pin f (no d) = before_more (r.known v pin (down pin v d f))
 
-    hangs_then : (i : ℕ) (t : Step) (pin : ℕ) → slice_get ss i ≡ Some t → IsFrom ts pin t.wire.0 → Dec (t.wire.0 ≡ w) → HangsOn ts pin t.stand
+    hangs_then : (i : ℕ) (t : VerifiedWire) (pin : ℕ) → slice_get ss i ≡ Some t → IsFrom ts pin t.wire.0 → Dec (t.wire.0 ≡ w) → HangsOn ts pin t.stand
     hangs_then i t pin there f (yes e) =
         let place : i ≡ n = one_place is (record { step = t; here = there; wire = e }) (record { step = s; here = here; wire = refl }) in
         let this : t ≡ s = some_same (sym there ∙ ap (slice_get ss) place ∙ here) in
-        subst (λ (y : Step). HangsOn ts pin y.stand) (sym this) (hang_map (up pin) (hangs_x pin (sym same ∙ ap (reach_at ts) (sym e) ∙ f.at)))
+        subst (λ (y : VerifiedWire). HangsOn ts pin y.stand) (sym this) (hang_map (up pin) (hangs_x pin (sym same ∙ ap (reach_at ts) (sym e) ∙ f.at)))
     hangs_then i t pin there f (no d) = hang_map (up pin) (r.hangs i t pin there (down pin t.wire.0 d f))
 
-    all_then : (i : ℕ) (t : Step) → i < n + 1 → slice_get ss i ≡ Some t → among ws t.wire.0 ≡ false → IsPin t.stand ⊎ HasFootOn (IsReached rs) t.stand → (i < n) ⊎ (t ≡ s) → IsReached ts t.wire.0
+    all_then : (i : ℕ) (t : VerifiedWire) → i < n + 1 → slice_get ss i ≡ Some t → among ws t.wire.0 ≡ false → IsPin t.stand ⊎ HasFootOn (IsReached rs) t.stand → (i < n) ⊎ (t ≡ s) → IsReached ts t.wire.0
     all_then i t lt there off why (inl h) = reached_up t.wire.0 (r.all i t h there off why)
     all_then i t lt there off why (inr this) =
-        let p = whole_x (subst (λ (y : Step). IsPin y.stand ⊎ HasFootOn (IsReached rs) y.stand) this why) in
-        subst (λ (y : Step). IsReached ts y.wire.0) (sym this) (record { pin = p.0; from = record { at = same ∙ p.1 } })
+        let p = whole_x (subst (λ (y : VerifiedWire). IsPin y.stand ⊎ HasFootOn (IsReached rs) y.stand) this why) in
+        subst (λ (y : VerifiedWire). IsReached ts y.wire.0) (sym this) (record { pin = p.0; from = record { at = same ∙ p.1 } })
 
     pub reaching_off : IsReaching ss ws (n + 1) ts
     reaching_off = record {
@@ -180,7 +180,7 @@ is_on_route reach.Unreached = inr (λ e. cc)
 is_on_route reach.OnRoute = inl refl
 is_on_route (reach.From pin) = inr (λ e. cc)
 
-pub reaching_more : {k : Kept} {known : KnownWires} → IsKnown k known → (ws : List ℕ) (n : ℕ) (rs ts : List Reach) → IsReaching known.steps ws n rs → (s : Step) → slice_get known.steps n ≡ Some s → (w : ℕ) → IsAt known.steps n w → w < length rs →
+pub reaching_more : {k : Kept} {known : KnownWires} → IsKnown k known → (ws : List ℕ) (n : ℕ) (rs ts : List Reach) → IsReaching known.steps ws n rs → (s : VerifiedWire) → slice_get known.steps n ≡ Some s → (w : ℕ) → IsAt known.steps n w → w < length rs →
     (x : Reach) → ((pin : ℕ) → x ≡ reach.From pin → HangsOn rs pin s.stand) → (IsPin s.stand ⊎ HasFootOn (IsReached rs) s.stand → (pin : ℕ) × (x ≡ reach.From pin)) → x ≢ reach.OnRoute →
     (reach_at rs w ≡ reach.OnRoute → ts ≡ rs) → (reach_at rs w ≢ reach.OnRoute → ts ≡ set rs w x) → IsReaching known.steps ws (n + 1) ts
 reaching_more {k} {known} is ws n rs ts r s here w at within x hangs whole off same put = by_how (is_on_route (reach_at rs w))
@@ -228,18 +228,18 @@ all_taken ws n w le on = ap (λ us. among us w) (take_all n ws le) ∙ on
 pub from_same : (m n : ℕ) → reach.From m ≡ reach.From n → m ≡ n
 from_same m n e = cc
 
-pub hangs_pin : {rs : List Reach} {d : Stand} (m pin : ℕ) → d ≡ stand.Pin m → reach.From m ≡ reach.From pin → HangsOn rs pin d
+pub hangs_pin : {rs : List Reach} {d : SupportedBy} (m pin : ℕ) → d ≡ stand.Pin m → reach.From m ≡ reach.From pin → HangsOn rs pin d
 hangs_pin {rs} m pin e same = subst (HangsOn rs pin) (sym (e ∙ ap (λ (n : ℕ). stand.Pin n) (from_same m pin same))) own
 
-pub hangs_first : {rs : List Reach} {d : Stand} {a b : Foot} (pin : ℕ) → d ≡ stand.Feet a b → reach_at rs a.wire.0 ≡ reach.From pin → HangsOn rs pin d
+pub hangs_first : {rs : List Reach} {d : SupportedBy} {a b : Support} (pin : ℕ) → d ≡ stand.Feet a b → reach_at rs a.wire.0 ≡ reach.From pin → HangsOn rs pin d
 hangs_first {rs} pin e at = subst (HangsOn rs pin) (sym e) (by_first (record { at = at }))
 
-pub hangs_second : {rs : List Reach} {d : Stand} {a b : Foot} (pin : ℕ) → d ≡ stand.Feet a b → reach_at rs b.wire.0 ≡ reach.From pin → HangsOn rs pin d
+pub hangs_second : {rs : List Reach} {d : SupportedBy} {a b : Support} (pin : ℕ) → d ≡ stand.Feet a b → reach_at rs b.wire.0 ≡ reach.From pin → HangsOn rs pin d
 hangs_second {rs} pin e at = subst (HangsOn rs pin) (sym e) (by_second (record { at = at }))
 
 -- all known wires were looked at
-pub trees_reached : {ss : List Step} {ws : List ℕ} {n : ℕ} {rs : List Reach} → IsReaching ss ws n rs → AreTrees ss rs
+pub trees_reached : {ss : List VerifiedWire} {ws : List ℕ} {n : ℕ} {rs : List Reach} → IsReaching ss ws n rs → AreTrees ss rs
 trees_reached r = record { known = λ w pin f. before_has (r.known w pin f); hangs = r.hangs }
 
-pub all_reached : {ss : List Step} (q : Walk) {n : ℕ} {rs : List Reach} → length ss ≤ n → IsReaching ss q.wires n rs → ReachesAll ss q (IsReached rs)
+pub all_reached : {ss : List VerifiedWire} (q : Walk) {n : ℕ} {rs : List Reach} → length ss ≤ n → IsReaching ss q.wires n rs → ReachesAll ss q (IsReached rs)
 all_reached {ss} q e r = record { all = λ i s here off why. r.all i s (let h = slice_get_within ss i s here in omega (arith, h, e)) here off why }

@@ -14,19 +14,19 @@ use Rattle.diag_known.specs.Known.{KnownWires, IsAt, IsKnown}
 use Rattle.diag_known.specs.Routes.{IsPin, is_pin, HasFootOn, first, second, RestsOn, IsEarly, IsKnownRoute, AreRoutes, AreRoutesTo}
 use Rattle.diag_known.specs.Descents.{StepsDown, Goes, Descends, DescendsTo, IsPinAt}
 use Rattle.diag_known.specs.declared.descents.Down.{Down}
-use Rattle.diag_known.specs.declared.step.Foot.{Foot}
-use Rattle.diag_known.specs.declared.step.Stand.{Stand}
-use Rattle.diag_known.specs.declared.step.Stand.TheVariants as stand
-use Rattle.diag_known.specs.declared.step.Step.{Step}
+use Rattle.diag_known.specs.declared.verified_wire.Support.{Support}
+use Rattle.diag_known.specs.declared.verified_wire.SupportedBy.{SupportedBy}
+use Rattle.diag_known.specs.declared.verified_wire.SupportedBy.TheVariants as stand
+use Rattle.diag_known.specs.declared.verified_wire.VerifiedWire.{VerifiedWire}
 use Rattle.diag_known.proofs.Once.{once_alone, once_more}
 use Rattle.diag_known.proofs.Places.{one_place, some_same, at_one}
 
 -- one step more, and one less
-pub descends_more : {k : Kept} {ss : List Step} (i j : ℕ) (ds : List Down) {m n u v : ℕ} {d : Down} → Descends k ss i j ds m n → Goes k ss d m n u v → Descends k ss i j (ds ++ d ∷ []) u v
+pub descends_more : {k : Kept} {ss : List VerifiedWire} (i j : ℕ) (ds : List Down) {m n u v : ℕ} {d : Down} → Descends k ss i j ds m n → Goes k ss d m n u v → Descends k ss i j (ds ++ d ∷ []) u v
 descends_more {k} {ss} i j [] {m} {n} {u} {v} {d} p g = (u, v, subst (λ x. Goes k ss d x j u v) (sym p.0) (subst (λ y. Goes k ss d m y u v) (sym p.1) g), (refl, refl))
 descends_more i j (e ∷ ds) p g = (p.0, p.1, p.2, descends_more p.0 p.1 ds p.3 g)
 
-pub descends_less : {k : Kept} {ss : List Step} (i j : ℕ) (ds : List Down) (d : Down) {u v : ℕ} → Descends k ss i j (ds ++ d ∷ []) u v →
+pub descends_less : {k : Kept} {ss : List VerifiedWire} (i j : ℕ) (ds : List Down) (d : Down) {u v : ℕ} → Descends k ss i j (ds ++ d ∷ []) u v →
     (m : ℕ) × (n : ℕ) × Descends k ss i j ds m n × Goes k ss d m n u v
 descends_less {k} {ss} i j [] d {u} {v} p = (i, j, (refl, refl), subst (λ x. Goes k ss d i j x v) p.3.0 (subst (λ y. Goes k ss d i j p.0 y) p.3.1 p.2))
 descends_less i j (e ∷ ds) d p = let r = descends_less p.0 p.1 ds d p.3 in (r.0, r.1, (p.0, p.1, p.2, r.2), r.3)
@@ -49,14 +49,14 @@ foot_end m x a w (turned s t) = by_test ((ends_of m x).0 == a) refl
     by_test false e = rw e s
 
 -- routes the other way round
-pub routes_turned : {k : Kept} {ss : List Step} {p q : Walk} → AreRoutes k ss p q → AreRoutes k ss q p
+pub routes_turned : {k : Kept} {ss : List VerifiedWire} {p q : Walk} → AreRoutes k ss p q → AreRoutes k ss q p
 routes_turned {p = p} r = record {
   left = r.right;
   right = r.left;
   apart = λ w is. not_true (among p.wires w) (λ on. false≢true (sym (r.apart w on) ∙ is));
 }
 
-pub routes_to_turned : {k : Kept} {ss : List Step} {a b : ℕ} {p q : Walk} → AreRoutesTo k ss a b p q → AreRoutesTo k ss b a q p
+pub routes_to_turned : {k : Kept} {ss : List VerifiedWire} {a b : ℕ} {p q : Walk} → AreRoutesTo k ss a b p q → AreRoutesTo k ss b a q p
 routes_to_turned {p = p} {q = q} r = record {
   routes = routes_turned r.routes;
   left_end = r.right_end;
@@ -71,7 +71,7 @@ routes_to_turned {p = p} {q = q} r = record {
     other w (inr h) = inl h
 
 -- the routes that are two pins alone
-pub pin_known : {k : Kept} {ss : List Step} {i pin : ℕ} → IsPinAt k ss i pin → pin_wire k.shape pin < wires_of k.shape → IsKnownRoute k ss (at_pin k.shape pin)
+pub pin_known : {k : Kept} {ss : List VerifiedWire} {i pin : ℕ} → IsPinAt k ss i pin → pin_wire k.shape pin < wires_of k.shape → IsKnownRoute k ss (at_pin k.shape pin)
 pin_known {k} {ss} {i} {pin} p within = record {
   route = at_pin_is k.shape pin p.within within;
   crosses = λ x h. absurd (false≢true h);
@@ -83,7 +83,7 @@ pin_known {k} {ss} {i} {pin} p within = record {
 }
 
 module _ {k : Kept} {known : KnownWires} (is : IsKnown k known) where
-  abbrev ss : List Step
+  abbrev ss : List VerifiedWire
   ss = known.steps
 
   pub two_pins : {i j left right : ℕ} → IsPinAt k ss i left → IsPinAt k ss j right → i ≢ j → pin_wire k.shape left < wires_of k.shape → pin_wire k.shape right < wires_of k.shape →
@@ -109,7 +109,7 @@ module _ {k : Kept} {known : KnownWires} (is : IsKnown k known) where
       early_one n w a b (inr on) = subst (IsEarly ss n) (among_one (pin_wire k.shape right) w on) b
 
   -- A wire on feet isn't early at its own place.
-  pub not_early : {i : ℕ} {step : Step} {a b : Foot} → slice_get ss i ≡ Some step → step.stand ≡ stand.Feet a b → IsEarly ss i step.wire.0 → ⊥
+  pub not_early : {i : ℕ} {step : VerifiedWire} {a b : Support} → slice_get ss i ≡ Some step → step.stand ≡ stand.Feet a b → IsEarly ss i step.wire.0 → ⊥
   not_early {i} {step} {a} {b} here feet e = by_why e.early
     where
       same : e.place ≡ i
@@ -118,15 +118,15 @@ module _ {k : Kept} {known : KnownWires} (is : IsKnown k known) where
       step_is : e.at.step ≡ step
       step_is = some_same (sym e.at.here ∙ ap (slice_get ss) same ∙ here)
 
-      no_pin : {s : Stand} → IsPin s → s ≡ stand.Feet a b → ⊥
+      no_pin : {s : SupportedBy} → IsPin s → s ≡ stand.Feet a b → ⊥
       no_pin is_pin eq = cc
 
       by_why : IsPin e.at.step.stand ⊎ (e.place < i) → ⊥
-      by_why (inl p) = no_pin p (ap (λ (s : Step). s.stand) step_is ∙ feet)
+      by_why (inl p) = no_pin p (ap (λ (s : VerifiedWire). s.stand) step_is ∙ feet)
       by_why (inr h) = omega (arith, h, same)
 
   -- Routes to a foot and another wire go on to the wire that stepped down.
-  module _ {i j : ℕ} {foot : Foot} (d : StepsDown k ss i j foot) {p q r : Walk} (routes : AreRoutesTo k ss foot.wire.0 d.other.wire.0 p q) (longer : Extends k.shape foot.cross.0 p r) (route : IsRoute k.shape r) where
+  module _ {i j : ℕ} {foot : Support} (d : StepsDown k ss i j foot) {p q r : Walk} (routes : AreRoutesTo k ss foot.wire.0 d.other.wire.0 p q) (longer : Extends k.shape foot.cross.0 p r) (route : IsRoute k.shape r) where
     abbrev pub x : ℕ
     x = d.step.wire.0
 
@@ -182,7 +182,7 @@ module _ {k : Kept} {known : KnownWires} (is : IsKnown k known) where
         by_feet (inl e) = subst (HasFootOn (λ u. among r.wires u ≡ true)) (sym e) (first foot_on)
         by_feet (inr e) = subst (HasFootOn (λ u. among r.wires u ≡ true)) (sym e) (second foot_on)
 
-    rests_more : (s : Stand) → IsPin s ⊎ HasFootOn (λ u. among p.wires u ≡ true) s → IsPin s ⊎ HasFootOn (λ u. among r.wires u ≡ true) s
+    rests_more : (s : SupportedBy) → IsPin s ⊎ HasFootOn (λ u. among p.wires u ≡ true) s → IsPin s ⊎ HasFootOn (λ u. among r.wires u ≡ true) s
     rests_more s (inl h) = inl h
     rests_more (stand.Pin n) (inr h) = elim h [ ]
     rests_more (stand.Feet a b) (inr (first h)) = inr (first (on_it a.wire.0 h))
@@ -215,7 +215,7 @@ module _ {k : Kept} {known : KnownWires} (is : IsKnown k known) where
         early_more n a b w (inr on) = routes.early n (foot_early n a) b w (inr on)
 
 -- Routes so far, on the way up: to where these steps lead down.
-pub record IsRising (k : Kept) (ss : List Step) (i j : ℕ) (ds : List Down) (p q : Walk) : Type 0 where
+pub record IsRising (k : Kept) (ss : List VerifiedWire) (i j : ℕ) (ds : List Down) (p q : Walk) : Type 0 where
   pub m : ℕ
   pub n : ℕ
   pub steps : Descends k ss i j ds m n

@@ -14,14 +14,14 @@ use Rattle.diag_known.specs.Known.{HasWire}
 use Rattle.diag_known.specs.Marked.{is_spent, IsSecondMark, AreMarks}
 use Rattle.diag_known.specs.Trials.{IsLost, IsLinkTo, IsKeptUnlessStuck, IsFaulty}
 use Rattle.diag_known.specs.declared.marks.Marks.{Marks}
-use Rattle.diag_known.specs.declared.step.Foot.{Foot}
-use Rattle.diag_known.specs.declared.step.Step.{Step}
+use Rattle.diag_known.specs.declared.verified_wire.Support.{Support}
+use Rattle.diag_known.specs.declared.verified_wire.VerifiedWire.{VerifiedWire}
 use Rattle.diag_known.proofs.Counting.{set_only}
 use Rattle.diag_known.proofs.Losing.{kept_later, lost_one_later}
 use Rattle.diag_known.proofs.Marking.{MarksOne, offered_one, second_one, between_one, fit_faultless}
 use Rattle.diag_known.proofs.Places.{has_later}
 
-pub second_mark_later : {told : Option Faults} {k l : Kept} {ss : List Step} {x : ℕ} (ts : List Step) → IsMore k l → IsSecondMark told k ss x → IsSecondMark told l (ss ++ ts) x
+pub second_mark_later : {told : Option Faults} {k l : Kept} {ss : List VerifiedWire} {x : ℕ} (ts : List VerifiedWire) → IsMore k l → IsSecondMark told k ss x → IsSecondMark told l (ss ++ ts) x
 second_mark_later {told} {k} {l} {ss} {x} ts more s = record {
   from = s.from;
   to = s.to;
@@ -36,7 +36,7 @@ second_mark_later {told} {k} {l} {ss} {x} ts more s = record {
     later (inr (inr p)) = inr (inr (lost_one_later ts more p))
 
 -- more is kept and known
-pub marks_later : {told : Option Faults} {k l : Kept} {ss : List Step} {s : Marks} (ts : List Step) → IsMore k l → AreMarks told k ss s → AreMarks told l (ss ++ ts) s
+pub marks_later : {told : Option Faults} {k l : Kept} {ss : List VerifiedWire} {s : Marks} (ts : List VerifiedWire) → IsMore k l → AreMarks told k ss s → AreMarks told l (ss ++ ts) s
 marks_later ts more are = record {
   barred = are.barred ∙ ap wires_of (sym more.shape);
   offered = are.offered ∙ ap crosses_of (sym more.shape);
@@ -48,11 +48,11 @@ marks_later ts more are = record {
 }
 
 -- .. only kept
-pub marks_still : {told : Option Faults} {k l : Kept} {ss : List Step} {s : Marks} → IsMore k l → AreMarks told k ss s → AreMarks told l ss s
+pub marks_still : {told : Option Faults} {k l : Kept} {ss : List VerifiedWire} {s : Marks} → IsMore k l → AreMarks told k ss s → AreMarks told l ss s
 marks_still {told} {k} {l} {ss} {s} more are = subst (λ rs. AreMarks told l rs s) (append-nil ss) (marks_later [] more are)
 
 -- a mark is set, at a crosspoint that without faults is kept now
-module _ {told : Option Faults} {k l : Kept} {ss : List Step} {s : Marks} (x : ℕ) (are : AreMarks told k ss s) (more : IsMore k l)
+module _ {told : Option Faults} {k l : Kept} {ss : List VerifiedWire} {s : Marks} (x : ℕ) (are : AreMarks told k ss s) (more : IsMore k l)
     (kept : (f : Faults) → told ≡ Some f → IsFaultless f → HoldsFor l f → keeps_cross l x ≡ true) where
   spent_one : {new : Marks} → MarksOne x s new → (f : Faults) → told ≡ Some f → IsFaultless f → HoldsFor l f → (y : ℕ) → is_spent new y ≡ true → keeps_cross l y ≡ true
   spent_one one f is none holds y on = by_mark (one.only y on)
@@ -103,7 +103,7 @@ module _ {told : Option Faults} {k l : Kept} {ss : List Step} {s : Marks} (x : �
       by_mark y (inr same) = subst (IsKeptUnlessStuck told l) same mark
 
 -- a wire is barred
-pub marks_barred : {told : Option Faults} {k : Kept} {ss : List Step} {s t : Marks} (w : ℕ) → AreMarks told k ss s → t ≡ record s { barred = slice_set s.barred w true } → AreMarks told k ss t
+pub marks_barred : {told : Option Faults} {k : Kept} {ss : List VerifiedWire} {s t : Marks} (w : ℕ) → AreMarks told k ss s → t ≡ record s { barred = slice_set s.barred w true } → AreMarks told k ss t
 marks_barred {told} {k} {ss} {s} {t} w are e = subst (AreMarks told k ss) (sym e) (record {
   barred = length-set s.barred w true ∙ are.barred;
   offered = are.offered;
@@ -125,7 +125,7 @@ kept_by told l x (Err e) kept none = tt
 pub faulty_later : {told : Option Faults} {k l : Kept} → IsMore k l → IsFaulty told k → IsFaulty told l
 faulty_later more p = record { at = λ f is none holds. p.at f is none (holds_earlier more holds) }
 
-pub lost_faulty : {told : Option Faults} {k : Kept} {ss : List Step} {w x : ℕ} → ¬ HasWire ss w → IsLost told k ss w x → IsFaulty told k
+pub lost_faulty : {told : Option Faults} {k : Kept} {ss : List VerifiedWire} {w x : ℕ} → ¬ HasWire ss w → IsLost told k ss w x → IsFaulty told k
 lost_faulty {x = x} new lost = record { at = λ f is none holds. lost.at f is holds (fit_faultless none new) (none.crosses x) }
 
 -- two crosspoints with the same ends
@@ -136,7 +136,7 @@ ends_same (turned s t) (in_order u v) = inr (sym t ∙ v, sym s ∙ u)
 ends_same (turned s t) (turned u v) = inl (sym t ∙ v, sym s ∙ u)
 
 -- a crosspoint that was toggled over another one, and isn't kept
-pub second_lost : {told : Option Faults} {k : Kept} {ss : List Step} {w u x : ℕ} → IsSecondMark told k ss x → Ends (ends_of k.shape x) u w → ¬ HasWire ss w → keeps_cross k x ≡ false → IsLost told k ss w x
+pub second_lost : {told : Option Faults} {k : Kept} {ss : List VerifiedWire} {w u x : ℕ} → IsSecondMark told k ss x → Ends (ends_of k.shape x) u w → ¬ HasWire ss w → keeps_cross k x ≡ false → IsLost told k ss w x
 second_lost {told} {k} {ss} {w} {u} {x} m at new fresh = by_ends (ends_same m.at at)
   where
     by_found : m.to ≡ w → (keeps_cross k x ≡ true) ⊎ (HasWire ss m.to ⊎ IsLost told k ss m.to x) → IsLost told k ss w x
@@ -149,13 +149,13 @@ second_lost {told} {k} {ss} {w} {u} {x} m at new fresh = by_ends (ends_same m.at
     by_ends (inr e) = absurd (new (subst (HasWire ss) e.0 m.known))
 
 -- .. as it is marked then
-pub second_mark_by : (told : Option Faults) (k : Kept) {ss : List Step} {w : ℕ} {a : Foot} {E : Type 0} (r : Result Bool E) → IsLinkTo k.shape ss w a → IfOk r (λ yes. IsTrue yes → keeps_cross k a.cross.0 ≡ true) →
+pub second_mark_by : (told : Option Faults) (k : Kept) {ss : List VerifiedWire} {w : ℕ} {a : Support} {E : Type 0} (r : Result Bool E) → IsLinkTo k.shape ss w a → IfOk r (λ yes. IsTrue yes → keeps_cross k a.cross.0 ≡ true) →
     IfOk r (λ yes. yes ≡ false → IsLost told k ss w a.cross.0) → OnOk r (IsSecondMark told k ss a.cross.0)
 second_mark_by told k {w = w} {a = a} (Ok true) link kept lost = record { from = a.wire.0; to = w; at = link.at; known = link.known; found = inl (kept refl) }
 second_mark_by told k {w = w} {a = a} (Ok false) link kept lost = record { from = a.wire.0; to = w; at = link.at; known = link.known; found = inr (inr (lost refl)) }
 second_mark_by told k (Err e) link kept lost = tt
 
-pub link_still : {k l : Kept} {ss : List Step} {w : ℕ} {a : Foot} → IsMore k l → IsLinkTo k.shape ss w a → IsLinkTo l.shape ss w a
+pub link_still : {k l : Kept} {ss : List VerifiedWire} {w : ℕ} {a : Support} → IsMore k l → IsLinkTo k.shape ss w a → IsLinkTo l.shape ss w a
 link_still {ss = ss} {w = w} {a = a} more link = subst (λ (m : Shape). IsLinkTo m ss w a) (sym more.shape) link
 
 -- what follows from an answer

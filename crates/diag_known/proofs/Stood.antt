@@ -12,9 +12,9 @@ use Rattle.diag_evidence.specs.Kept.{Kept}
 use Rattle.diag_known.specs.Known.{KnownWires, IsAt, HasWire, Stands, on_pin, on_feet, InSet}
 use Rattle.diag_known.specs.Grounds.{IsBetween, foot_at, IsFootTo, IsGround, IsSettled, Founds, AreSettled}
 use Rattle.diag_known.specs.declared.links.Near.{Near}
-use Rattle.diag_known.specs.declared.step.Foot.{Foot}
-use Rattle.diag_known.specs.declared.step.Stand.TheVariants as stand
-use Rattle.diag_known.specs.declared.step.Step.{Step}
+use Rattle.diag_known.specs.declared.verified_wire.Support.{Support}
+use Rattle.diag_known.specs.declared.verified_wire.SupportedBy.TheVariants as stand
+use Rattle.diag_known.specs.declared.verified_wire.VerifiedWire.{VerifiedWire}
 use Rattle.diag_known.proofs.Grounding.{ground_then, ground_foot, founds_foot, settled_foot, founds_one, taken_now, foot_is}
 
 has_within : (left : List Bool) (w : ℕ) → has_number left w ≡ true → w < length left
@@ -24,7 +24,7 @@ has_within left w is = by (dec_lt w (length left))
     by (yes h) = h
     by (no h) = absurd (false≢true (sym (get_or_past left w false (omega (arith, h))) ∙ is))
 
-module _ {k : Kept} {n m : KnownWires} {left rest : List Bool} {feet : List (Option Foot)} (g : IsGround k n left feet) (s : Step) (was : InSet left s.wire.0) (stands : Stands k n.steps (length n.steps) s.wire.0 s.stand)
+module _ {k : Kept} {n m : KnownWires} {left rest : List Bool} {feet : List (Option Support)} (g : IsGround k n left feet) (s : VerifiedWire) (was : InSet left s.wire.0) (stands : Stands k n.steps (length n.steps) s.wire.0 s.stand)
     (shape : m.shape ≡ n.shape) (steps : m.steps ≡ n.steps ++ s ∷ []) (taken : rest ≡ set left s.wire.0 false) where
   within : s.wire.0 < length left
   within = has_within left s.wire.0 was
@@ -42,20 +42,20 @@ module _ {k : Kept} {n m : KnownWires} {left rest : List Bool} {feet : List (Opt
 pub pin_stands_so : {k : Kept} (n : KnownWires) {w pin : ℕ} → pin < pins_of k.shape → w ≡ pin_wire k.shape pin → Stands k n.steps (length n.steps) w (stand.Pin pin)
 pin_stands_so n below e = on_pin below e
 
-pub feet_stand : {k : Kept} (n : KnownWires) {w : ℕ} {a b : Foot} → IsFootTo k n.steps w a → IsFootTo k n.steps w b → a.wire.0 ≢ b.wire.0 → Stands k n.steps (length n.steps) w (stand.Feet a b)
+pub feet_stand : {k : Kept} (n : KnownWires) {w : ℕ} {a b : Support} → IsFootTo k n.steps w a → IsFootTo k n.steps w b → a.wire.0 ≢ b.wire.0 → Stands k n.steps (length n.steps) w (stand.Feet a b)
 feet_stand n f g differ = on_feet (foot_is n f) (foot_is n g) differ
 
 -- the foot that was found of a wire, as it is read
-pub foot_read : (feet : List (Option Foot)) (w : ℕ) (o : Option Foot) → w < length feet → o ≡ get_or feet w o → foot_at feet w ≡ o
+pub foot_read : (feet : List (Option Support)) (w : ℕ) (o : Option Support) → w < length feet → o ≡ get_or feet w o → foot_at feet w ≡ o
 foot_read feet w o within is = sym (get_or_read feet w o within is None)
 
 -- a wire that isn't settled, and what was read of its feet
-module _ {k : Kept} {n : KnownWires} {left : List Bool} {feet : List (Option Foot)} (g : IsGround k n left feet) {w : ℕ} (low : w < wires_of k.shape) {o : Option Foot} (read : o ≡ get_or feet w o) where
+module _ {k : Kept} {n : KnownWires} {left : List Bool} {feet : List (Option Support)} (g : IsGround k n left feet) {w : ℕ} (low : w < wires_of k.shape) {o : Option Support} (read : o ≡ get_or feet w o) where
   room : w < length feet
   room = let r = g.room in omega (arith, low, r)
 
   -- a first foot of it was found
-  module _ (none : o ≡ None) {a : Foot} (foot : IsFootTo k n.steps w a) {more : List (Option Foot)} (put : more ≡ set feet w (Some a)) where
+  module _ (none : o ≡ None) {a : Support} (foot : IsFootTo k n.steps w a) {more : List (Option Support)} (put : more ≡ set feet w (Some a)) where
     pub first_ground : IsGround k n left more
     first_ground = ground_foot g w a room (foot_read feet w o room read ∙ none) foot put
 
@@ -66,11 +66,11 @@ module _ {k : Kept} {n : KnownWires} {left : List Bool} {feet : List (Option Foo
     first_settled = settled_foot g w a room (foot_read feet w o room read ∙ none) foot put
 
   -- or a second one, that leads to another wire
-  pub second_stands : {a b : Foot} → o ≡ Some a → IsFootTo k n.steps w b → a.wire.0 ≢ b.wire.0 → Stands k n.steps (length n.steps) w (stand.Feet a b)
+  pub second_stands : {a b : Support} → o ≡ Some a → IsFootTo k n.steps w b → a.wire.0 ≢ b.wire.0 → Stands k n.steps (length n.steps) w (stand.Feet a b)
   second_stands {a} is foot differ = feet_stand n (g.found w a (foot_read feet w o room read ∙ is)) foot differ
 
 -- what stood at a place still stands
-pub has_still_there : {n m : KnownWires} {left rest : List Bool} {feet more : List (Option Foot)} {i w : ℕ} → Founds n m left rest feet more → IsAt n.steps i w → HasWire m.steps w
+pub has_still_there : {n m : KnownWires} {left rest : List Bool} {feet more : List (Option Support)} {i w : ℕ} → Founds n m left rest feet more → IsAt n.steps i w → HasWire m.steps w
 has_still_there {i = i} {w = w} f at = record { place = i; at = f.stays i w at }
 
 -- a link leads to a wire of the machine
@@ -78,14 +78,14 @@ pub link_within : {m : Shape} (x u w : ℕ) → IsNumbered m → IsBetween m x u
 link_within x u w numbered b = numbered.ends x u w b.within b.at
 
 -- all places were looked at
-pub settled_at_all : (k : Kept) (near : List Near) (n : KnownWires) (left : List Bool) (feet : List (Option Foot)) (place : ℕ) → AreSettled k near n left feet place → length n.steps ≤ place → AreSettled k near n left feet (length n.steps)
+pub settled_at_all : (k : Kept) (near : List Near) (n : KnownWires) (left : List Bool) (feet : List (Option Support)) (place : ℕ) → AreSettled k near n left feet place → length n.steps ≤ place → AreSettled k near n left feet (length n.steps)
 settled_at_all k near n left feet place s le w x u b link kept = s w x u (record { place = b.place; early = (let e = b.early in omega (arith, e, le)); at = b.at }) link kept
 
 -- nothing stood, so what stands is of those that were left
 pub no_wire : (n : KnownWires) → n.steps ≡ [] → (w : ℕ) → ¬ HasWire n.steps w
 no_wire n none w has = let no_step : None ≡ Some has.at.step = subst (λ ss. slice_get ss has.place ≡ Some has.at.step) none has.at.here in cc
 
-pub all_from : {n m : KnownWires} {left rest : List Bool} {feet more : List (Option Foot)} → ((w : ℕ) → ¬ HasWire n.steps w) → Founds n m left rest feet more → (w : ℕ) → HasWire m.steps w → InSet left w
+pub all_from : {n m : KnownWires} {left rest : List Bool} {feet more : List (Option Support)} → ((w : ℕ) → ¬ HasWire n.steps w) → Founds n m left rest feet more → (w : ℕ) → HasWire m.steps w → InSet left w
 all_from {n} {left = left} none f w has = by (f.from w has)
   where
     by : HasWire n.steps w ⊎ InSet left w → InSet left w

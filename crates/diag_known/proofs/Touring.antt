@@ -18,26 +18,26 @@ use Rattle.diag_known.specs.Reaches.{reach_at, IsFrom, HangsOn, own, by_first, b
 use Rattle.diag_known.specs.declared.beside.Reach.{Reach}
 use Rattle.diag_known.specs.declared.beside.Reach.TheVariants as reach
 use Rattle.diag_known.specs.declared.descents.Down.{Down}
-use Rattle.diag_known.specs.declared.step.Foot.{Foot}
-use Rattle.diag_known.specs.declared.step.Stand.{Stand}
-use Rattle.diag_known.specs.declared.step.Stand.TheVariants as stand
-use Rattle.diag_known.specs.declared.step.Step.{Step}
+use Rattle.diag_known.specs.declared.verified_wire.Support.{Support}
+use Rattle.diag_known.specs.declared.verified_wire.SupportedBy.{SupportedBy}
+use Rattle.diag_known.specs.declared.verified_wire.SupportedBy.TheVariants as stand
+use Rattle.diag_known.specs.declared.verified_wire.VerifiedWire.{VerifiedWire}
 use Rattle.diag_known.proofs.Places.{one_place, some_same, before_has, feet_here, pin_here, at_one, both_pins, get_before, get_last, get_pushed}
 use Rattle.diag_known.proofs.Rising.{foot_end, among_one}
 
 -- one foot more, and one less
-pub hangs_more : {k : Kept} {rs : List Reach} {pin : ℕ} (u : ℕ) (feet : List Foot) {w : ℕ} {a : Foot} → Hangs k rs pin u feet w → IsTie k rs pin w a → Hangs k rs pin u (feet ++ a ∷ []) a.wire.0
+pub hangs_more : {k : Kept} {rs : List Reach} {pin : ℕ} (u : ℕ) (feet : List Support) {w : ℕ} {a : Support} → Hangs k rs pin u feet w → IsTie k rs pin w a → Hangs k rs pin u (feet ++ a ∷ []) a.wire.0
 hangs_more {k} {rs} {pin} u [] {w} {a} e t = (subst (λ v. IsTie k rs pin v a) (sym e) t, refl)
 hangs_more u (b ∷ feet) h t = (h.0, hangs_more b.wire.0 feet h.1 t)
 
 -- the foot that is left last
-pub record HangsLess (k : Kept) (rs : List Reach) (pin u : ℕ) (feet : List Foot) (a : Foot) (w : ℕ) : Type 0 where
+pub record HangsLess (k : Kept) (rs : List Reach) (pin u : ℕ) (feet : List Support) (a : Support) (w : ℕ) : Type 0 where
   pub upper : ℕ
   pub hangs : Hangs k rs pin u feet upper
   pub tie : IsTie k rs pin upper a
   pub lower : a.wire.0 ≡ w
 
-pub hangs_less : {k : Kept} {rs : List Reach} {pin : ℕ} (u : ℕ) (feet : List Foot) (a : Foot) {w : ℕ} → Hangs k rs pin u (feet ++ a ∷ []) w → HangsLess k rs pin u feet a w
+pub hangs_less : {k : Kept} {rs : List Reach} {pin : ℕ} (u : ℕ) (feet : List Support) (a : Support) {w : ℕ} → Hangs k rs pin u (feet ++ a ∷ []) w → HangsLess k rs pin u feet a w
 hangs_less u [] a h = record { upper = u; hangs = refl; tie = h.0; lower = h.1 }
 hangs_less u (b ∷ feet) a h = let r = hangs_less b.wire.0 feet a h.1 in record { upper = r.upper; hangs = (h.0, r.hangs); tie = r.tie; lower = r.lower }
 
@@ -49,7 +49,7 @@ ends_turned (turned s t) = in_order s t
 pub walk_end : {k : Kept} {rs : List Reach} {r : Walk} → IsTreeWalk k rs r → among r.wires r.end ≡ true
 walk_end t = LeadsTo-end t.route.leads
 
-pub walk_known : {k : Kept} {ss : List Step} {rs : List Reach} {r : Walk} → AreTrees ss rs → IsTreeWalk k rs r → HasWire ss r.end
+pub walk_known : {k : Kept} {ss : List VerifiedWire} {rs : List Reach} {r : Walk} → AreTrees ss rs → IsTreeWalk k rs r → HasWire ss r.end
 walk_known {r = r} trees t = trees.known r.end r.pin (t.wires r.end (walk_end t))
 
 pub goes_none : {k : Kept} {rs : List Reach} {r : Walk} → IsTreeWalk k rs r → GoesOn k rs r r
@@ -79,7 +79,7 @@ module _ {k : Kept} {rs : List Reach} {old new : Walk} (t : IsTreeWalk k rs old)
   }
 
 -- The walk's end stands at the one place. At the other stands a wire of the tree, on which the wire u hangs.
-pub record GoesDown (k : Kept) (ss : List Step) (rs : List Reach) (old : Walk) (u : ℕ) (walk : Walk) (ups : List Foot) (i j : ℕ) : Type 0 where
+pub record GoesDown (k : Kept) (ss : List VerifiedWire) (rs : List Reach) (old : Walk) (u : ℕ) (walk : Walk) (ups : List Support) (i j : ℕ) : Type 0 where
   pub on : GoesOn k rs old walk
   pub end : IsAt ss i walk.end
   pub low : ℕ
@@ -87,17 +87,17 @@ pub record GoesDown (k : Kept) (ss : List Step) (rs : List Reach) (old : Walk) (
   pub low_from : IsFrom rs old.pin low
   pub hangs : Hangs k rs old.pin u ups low
 
-pub down_none : {k : Kept} {ss : List Step} {rs : List Reach} {walk : Walk} {u i j : ℕ} (ups : List Foot) → ups ≡ [] → IsTreeWalk k rs walk → IsFrom rs walk.pin u → IsAt ss i walk.end → IsAt ss j u → GoesDown k ss rs walk u walk ups i j
+pub down_none : {k : Kept} {ss : List VerifiedWire} {rs : List Reach} {walk : Walk} {u i j : ℕ} (ups : List Support) → ups ≡ [] → IsTreeWalk k rs walk → IsFrom rs walk.pin u → IsAt ss i walk.end → IsAt ss j u → GoesDown k ss rs walk u walk ups i j
 down_none {k} {ss} {rs} {walk} {u} ups empty t f at there = record { on = goes_none t; end = at; low = u; low_at = there; low_from = f; hangs = subst (λ feet. Hangs k rs walk.pin u feet u) (sym empty) refl }
 
-pub down_met : {k : Kept} {ss : List Step} {rs : List Reach} {old walk : Walk} {u i j : ℕ} {ups : List Foot} → GoesDown k ss rs old u walk ups i j → i ≡ j → GoesBelow k rs old walk u ups
+pub down_met : {k : Kept} {ss : List VerifiedWire} {rs : List Reach} {old walk : Walk} {u i j : ℕ} {ups : List Support} → GoesDown k ss rs old u walk ups i j → i ≡ j → GoesBelow k rs old walk u ups
 down_met {k} {ss} {rs} {old} {walk} {u} {i} {j} {ups} g e = record {
   on = g.on;
   hangs = subst (Hangs k rs old.pin u ups) (at_one (subst (λ p. IsAt ss p g.low) (sym e) g.low_at) g.end) g.hangs;
 }
 
 -- both places are of the tree
-module _ {k : Kept} {ss : List Step} {rs : List Reach} {old walk : Walk} {u i j : ℕ} {ups : List Foot} (g : GoesDown k ss rs old u walk ups i j) where
+module _ {k : Kept} {ss : List VerifiedWire} {rs : List Reach} {old walk : Walk} {u i j : ℕ} {ups : List Support} (g : GoesDown k ss rs old u walk ups i j) where
   pub left_from : IsFromAt ss rs walk.pin i
   left_from = record { step = g.end.step; here = g.end.here; from = subst (IsFrom rs walk.pin) (sym g.end.wire) (g.on.walk.wires walk.end (walk_end g.on.walk)) }
 
@@ -105,7 +105,7 @@ module _ {k : Kept} {ss : List Step} {rs : List Reach} {old walk : Walk} {u i j 
   right_from = record { step = g.low_at.step; here = g.low_at.here; from = subst (λ p. IsFrom rs p g.low_at.step.wire.0) (sym g.on.pin) (subst (IsFrom rs old.pin) (sym g.low_at.wire) g.low_from) }
 
 -- one step down
-module _ {k : Kept} {ss : List Step} {rs : List Reach} {old walk : Walk} {u i j : ℕ} {ups : List Foot} (g : GoesDown k ss rs old u walk ups i j) {pin : ℕ} (here : pin ≡ walk.pin) {d : Down} (hang : HangsAlong k ss rs pin i j d) where
+module _ {k : Kept} {ss : List VerifiedWire} {rs : List Reach} {old walk : Walk} {u i j : ℕ} {ups : List Support} (g : GoesDown k ss rs old u walk ups i j) {pin : ℕ} (here : pin ≡ walk.pin) {d : Down} (hang : HangsAlong k ss rs pin i j d) where
   h : HangsAlong k ss rs walk.pin i j d
   h = subst (λ p. HangsAlong k ss rs p i j d) here hang
 
@@ -132,7 +132,7 @@ module _ {k : Kept} {ss : List Step} {rs : List Reach} {old walk : Walk} {u i j 
   pub left_ends : (e : d.left ≡ true) → Ends (ends_of k.shape d.foot.cross.0) walk.end d.foot.wire.0
   left_ends e = subst (λ w. Ends (ends_of k.shape d.foot.cross.0) w d.foot.wire.0) (end_is e) (ends_turned (h.left e).tie.at)
 
-  pub went_left : {new : Walk} {feet : List Foot} {v z : ℕ} → d.left ≡ true → Extends k.shape d.foot.cross.0 walk new → IsRoute k.shape new → feet ≡ ups → Leads ss d i j v z → GoesDown k ss rs old u new feet v z
+  pub went_left : {new : Walk} {feet : List Support} {v z : ℕ} → d.left ≡ true → Extends k.shape d.foot.cross.0 walk new → IsRoute k.shape new → feet ≡ ups → Leads ss d i j v z → GoesDown k ss rs old u new feet v z
   went_left {new} {feet} {v} {z} e longer route same to =
       let tie = (h.left e).tie in
       let end = foot_end k.shape d.foot.cross.0 walk.end d.foot.wire.0 (left_ends e) in
@@ -147,7 +147,7 @@ module _ {k : Kept} {ss : List Step} {rs : List Reach} {old walk : Walk} {u i j 
         hangs = subst (λ fs. Hangs k rs old.pin u fs g.low) (sym same) g.hangs;
       }
 
-  pub went_right : {new : Walk} {feet : List Foot} {v z : ℕ} → d.left ≡ false → new ≡ walk → feet ≡ ups ++ d.foot ∷ [] → Leads ss d i j v z → GoesDown k ss rs old u new feet v z
+  pub went_right : {new : Walk} {feet : List Support} {v z : ℕ} → d.left ≡ false → new ≡ walk → feet ≡ ups ++ d.foot ∷ [] → Leads ss d i j v z → GoesDown k ss rs old u new feet v z
   went_right {new} {feet} {v} {z} e same more to =
       let tie : IsTie k rs old.pin g.low d.foot = subst (λ p. IsTie k rs p g.low d.foot) g.on.pin (subst (λ w. IsTie k rs walk.pin w d.foot)
       (at_one (record { step = (h.right e).step; here = (h.right e).here; wire = refl }) g.low_at) (h.right e).tie) in
@@ -160,7 +160,7 @@ module _ {k : Kept} {ss : List Step} {rs : List Reach} {old walk : Walk} {u i j 
         hangs = subst (λ fs. Hangs k rs old.pin u fs d.foot.wire.0) (sym more) (hangs_more u ups g.hangs tie);
       })
 
-  pub went_down : {new : Walk} {feet : List Foot} {v z : ℕ} → (d.left ≡ true → Extends k.shape d.foot.cross.0 walk new × IsRoute k.shape new × (feet ≡ ups)) → (d.left ≡ false → (new ≡ walk) × (feet ≡ ups ++ d.foot ∷ [])) →
+  pub went_down : {new : Walk} {feet : List Support} {v z : ℕ} → (d.left ≡ true → Extends k.shape d.foot.cross.0 walk new × IsRoute k.shape new × (feet ≡ ups)) → (d.left ≡ false → (new ≡ walk) × (feet ≡ ups ++ d.foot ∷ [])) →
       Leads ss d i j v z → GoesDown k ss rs old u new feet v z
   went_down {new} {feet} {v} {z} left right to = by_side d.left refl
     where
@@ -169,28 +169,28 @@ module _ {k : Kept} {ss : List Step} {rs : List Reach} {old walk : Walk} {u i j 
       by_side false e = let r = right e in went_right e r.0 r.1 to
 
 -- the wire at the end of feet that are left, as a walk that goes up takes it
-upper_is : (k : Kept) (rs : List Reach) (pin u : ℕ) (feet : List Foot) {w : ℕ} → Hangs k rs pin u feet w → upper_of u feet ≡ w
+upper_is : (k : Kept) (rs : List Reach) (pin u : ℕ) (feet : List Support) {w : ℕ} → Hangs k rs pin u feet w → upper_of u feet ≡ w
 upper_is k rs pin u [] h = h
 upper_is k rs pin u (b ∷ feet) h = upper_is k rs pin b.wire.0 feet h.1
 
-pub upper_last : (u : ℕ) (feet : List Foot) (i : ℕ) (a : Foot) → i + 1 ≡ length feet → slice_get feet i ≡ Some a → upper_of u feet ≡ a.wire.0
+pub upper_last : (u : ℕ) (feet : List Support) (i : ℕ) (a : Support) → i + 1 ≡ length feet → slice_get feet i ≡ Some a → upper_of u feet ≡ a.wire.0
 upper_last u [] i a e at = absurd (let no : ⊥ = omega (arith, e) in no)
-upper_last u (b ∷ []) zero a e at = ap (λ (x : Foot). x.wire.0) (some_same at)
+upper_last u (b ∷ []) zero a e at = ap (λ (x : Support). x.wire.0) (some_same at)
 upper_last u (b ∷ []) (suc i) a e at = absurd (let no : ⊥ = omega (arith, e) in no)
 upper_last u (b ∷ c ∷ feet) zero a e at = absurd (let no : ⊥ = omega (arith, e) in no)
 upper_last u (b ∷ c ∷ feet) (suc i) a e at = upper_last b.wire.0 (c ∷ feet) i a (omega (arith, e)) at
 
 -- up over feet that are left
-pub record GoesUp (k : Kept) (rs : List Reach) (old : Walk) (u : ℕ) (walk : Walk) (ups : List Foot) : Type 0 where
+pub record GoesUp (k : Kept) (rs : List Reach) (old : Walk) (u : ℕ) (walk : Walk) (ups : List Support) : Type 0 where
   pub on : GoesOn k rs old walk
   pub hangs : Hangs k rs old.pin u ups walk.end
 
-pub up_all : {k : Kept} {rs : List Reach} {old walk : Walk} {u : ℕ} (ups : List Foot) → ups ≡ [] → GoesUp k rs old u walk ups → GoesTo k rs old walk u
+pub up_all : {k : Kept} {rs : List Reach} {old walk : Walk} {u : ℕ} (ups : List Support) → ups ≡ [] → GoesUp k rs old u walk ups → GoesTo k rs old walk u
 up_all {k} {rs} {old} {walk} {u} ups empty g =
     let here : u ≡ walk.end = subst (λ feet. Hangs k rs old.pin u feet walk.end) empty g.hangs in
     record { on = g.on; over = ap (among walk.wires) here ∙ walk_end g.on.walk }
 
-module _ {k : Kept} {rs : List Reach} {old walk : Walk} {u : ℕ} (ups feet : List Foot) (a : Foot) (split : ups ≡ feet ++ a ∷ []) (g : GoesUp k rs old u walk ups) where
+module _ {k : Kept} {rs : List Reach} {old walk : Walk} {u : ℕ} (ups feet : List Support) (a : Support) (split : ups ≡ feet ++ a ∷ []) (g : GoesUp k rs old u walk ups) where
   less : HangsLess k rs old.pin u feet a walk.end
   less = hangs_less u feet a (subst (λ fs. Hangs k rs old.pin u fs walk.end) split g.hangs)
 
@@ -217,20 +217,20 @@ pub leads_less : {k : Kept} {known : KnownWires} → IsKnown k known → {i u v 
 leads_less is {i} {u} b at = let early = b.early in let same : b.place ≡ u = one_place is b.at at in omega (arith, early, same)
 
 -- the pin of a tree
-pub record IsRoot (k : Kept) (ss : List Step) (rs : List Reach) (pin : ℕ) : Type 0 where
+pub record IsRoot (k : Kept) (ss : List VerifiedWire) (rs : List Reach) (pin : ℕ) : Type 0 where
   pub place : ℕ
   pub pin_at : IsPinAt k ss place pin
   pub from : IsFrom rs pin (pin_wire k.shape pin)
 
 module _ {k : Kept} {known : KnownWires} (is : IsKnown k known) {rs : List Reach} (trees : AreTrees known.steps rs) where
-  abbrev ss : List Step
+  abbrev ss : List VerifiedWire
   ss = known.steps
 
-  root_by : (i : ℕ) (s : Step) (pin : ℕ) → slice_get ss i ≡ Some s → IsFrom rs pin s.wire.0 → ((j : ℕ) → j < i → (v : ℕ) → IsAt ss j v → IsFrom rs pin v → IsRoot k ss rs pin) → {d : Stand} → s.stand ≡ d → HangsOn rs pin d → IsRoot k ss rs pin
+  root_by : (i : ℕ) (s : VerifiedWire) (pin : ℕ) → slice_get ss i ≡ Some s → IsFrom rs pin s.wire.0 → ((j : ℕ) → j < i → (v : ℕ) → IsAt ss j v → IsFrom rs pin v → IsRoot k ss rs pin) → {d : SupportedBy} → s.stand ≡ d → HangsOn rs pin d → IsRoot k ss rs pin
   root_by i s pin here f below e own =
       let at = pin_here is i s pin here e in
       let same : s ≡ at.step = some_same (sym here ∙ at.here) in
-      record { place = i; pin_at = at; from = subst (IsFrom rs pin) (ap (λ (x : Step). x.wire.0) same ∙ at.wire) f }
+      record { place = i; pin_at = at; from = subst (IsFrom rs pin) (ap (λ (x : VerifiedWire). x.wire.0) same ∙ at.wire) f }
   root_by i s pin here f below e (by_first {a} {b} h) = let on = feet_here is i s a b here e in below on.one.before.place on.one.before.early a.wire.0 on.one.before.at h
   root_by i s pin here f below e (by_second {a} {b} h) = let on = feet_here is i s a b here e in below on.other.before.place on.other.before.early b.wire.0 on.other.before.at h
 
@@ -244,13 +244,13 @@ module _ {k : Kept} {known : KnownWires} (is : IsKnown k known) {rs : List Reach
   root {pin} t = let has = trees.known t.wire pin t.from in root_to (suc has.place) has.place (omega arith) t.wire pin has.at t.from
 
   -- a wire of a tree that is a pin is the tree's
-  pin_of : {pin : ℕ} {d : Stand} → IsPin d → HangsOn rs pin d → d ≡ stand.Pin pin
+  pin_of : {pin : ℕ} {d : SupportedBy} → IsPin d → HangsOn rs pin d → d ≡ stand.Pin pin
   pin_of p own = refl
   pin_of p (by_first h) = elim p [ ]
   pin_of p (by_second h) = elim p [ ]
 
   pin_from : {pin i : ℕ} → IsFromAt ss rs pin i → IsPinHere ss i → IsPinAt k ss i pin
-  pin_from {pin} {i} f p = pin_here is i f.step pin f.here (pin_of (subst (λ (x : Step). IsPin x.stand) (some_same (sym p.here ∙ f.here)) p.pin) (trees.hangs i f.step pin f.here f.from))
+  pin_from {pin} {i} f p = pin_here is i f.step pin f.here (pin_of (subst (λ (x : VerifiedWire). IsPin x.stand) (some_same (sym p.here ∙ f.here)) p.pin) (trees.hangs i f.step pin f.here f.from))
 
   pub they_meet : {pin i j : ℕ} → IsFromAt ss rs pin i → IsFromAt ss rs pin j → Stays ss i j → Stays ss j i → i ≡ j
   they_meet {pin} {i} {j} f g s t =
@@ -258,7 +258,7 @@ module _ {k : Kept} {known : KnownWires} (is : IsKnown k known) {rs : List Reach
       one_place is {w = pin_wire k.shape pin} (record { step = p.step; here = p.here; wire = p.wire }) (record { step = q.step; here = q.here; wire = q.wire })
 
   -- the foot on which a wire hangs
-  pub hangs_at : (pin i : ℕ) (s : Step) (a b foot : Foot) → slice_get ss i ≡ Some s → s.stand ≡ stand.Feet a b → IsFrom rs pin s.wire.0 → (foot ≡ a) ⊎ (foot ≡ b) → IsFrom rs pin foot.wire.0 → HangsAt k ss rs pin i foot
+  pub hangs_at : (pin i : ℕ) (s : VerifiedWire) (a b foot : Support) → slice_get ss i ≡ Some s → s.stand ≡ stand.Feet a b → IsFrom rs pin s.wire.0 → (foot ≡ a) ⊎ (foot ≡ b) → IsFrom rs pin foot.wire.0 → HangsAt k ss rs pin i foot
   hangs_at pin i s a b foot here e f which below = record { step = s; here = here; tie = record { within = is_foot.within; kept = is_foot.kept; at = is_foot.at; here = f; below = below }; before = is_foot.before }
     where
       by_which : (foot ≡ a) ⊎ (foot ≡ b) → IsFoot k ss i s.wire.0 foot
@@ -269,15 +269,15 @@ module _ {k : Kept} {known : KnownWires} (is : IsKnown k known) {rs : List Reach
       is_foot = by_which which
 
   -- of one that stands on feet
-  pub hangs_on : (pin i : ℕ) (s : Step) (a b : Foot) → slice_get ss i ≡ Some s → s.stand ≡ stand.Feet a b → IsFrom rs pin s.wire.0 → HangsOn rs pin (stand.Feet a b)
+  pub hangs_on : (pin i : ℕ) (s : VerifiedWire) (a b : Support) → slice_get ss i ≡ Some s → s.stand ≡ stand.Feet a b → IsFrom rs pin s.wire.0 → HangsOn rs pin (stand.Feet a b)
   hangs_on pin i s a b here e f = subst (HangsOn rs pin) e (trees.hangs i s pin here f)
 
 -- the step at a place of a tree
-pub from_here : {ss : List Step} {rs : List Reach} {pin i : ℕ} {s : Step} → IsFromAt ss rs pin i → slice_get ss i ≡ Some s → IsFrom rs pin s.wire.0
-from_here {rs = rs} {pin = pin} f here = subst (λ (x : Step). IsFrom rs pin x.wire.0) (some_same (sym f.here ∙ here)) f.from
+pub from_here : {ss : List VerifiedWire} {rs : List Reach} {pin i : ℕ} {s : VerifiedWire} → IsFromAt ss rs pin i → slice_get ss i ≡ Some s → IsFrom rs pin s.wire.0
+from_here {rs = rs} {pin = pin} f here = subst (λ (x : VerifiedWire). IsFrom rs pin x.wire.0) (some_same (sym f.here ∙ here)) f.from
 
 -- the walk that is a pin alone
-pub root_walk : {k : Kept} {ss : List Step} {rs : List Reach} {pin : ℕ} {r : Walk} → IsRoot k ss rs pin → r ≡ at_pin k.shape pin → IsRoute k.shape r → IsTreeWalk k rs r
+pub root_walk : {k : Kept} {ss : List VerifiedWire} {rs : List Reach} {pin : ℕ} {r : Walk} → IsRoot k ss rs pin → r ≡ at_pin k.shape pin → IsRoute k.shape r → IsTreeWalk k rs r
 root_walk {k} {ss} {rs} {pin} {r} root same route = subst (IsTreeWalk k rs) (sym same) (record {
   route = subst (IsRoute k.shape) same route;
   crosses = λ x on. absurd (false≢true on);

@@ -11,23 +11,23 @@ use Rattle.diag_evidence.specs.Kept.{Kept, keeps_cross}
 use Rattle.diag_known.specs.Known.{KnownWires, IsAt, IsFoot, HasWire, IsKnown}
 use Rattle.diag_known.specs.Routes.{IsPin, HasFootOn, first, second, RestsOn, IsEarly, AreRoutesTo}
 use Rattle.diag_known.specs.Ways.{IsWay, AreWays, AreFeetOf}
-use Rattle.diag_known.specs.declared.step.Foot.{Foot}
-use Rattle.diag_known.specs.declared.step.Stand.{Stand}
-use Rattle.diag_known.specs.declared.step.Stand.TheVariants as stand
-use Rattle.diag_known.specs.declared.step.Step.{Step}
+use Rattle.diag_known.specs.declared.verified_wire.Support.{Support}
+use Rattle.diag_known.specs.declared.verified_wire.SupportedBy.{SupportedBy}
+use Rattle.diag_known.specs.declared.verified_wire.SupportedBy.TheVariants as stand
+use Rattle.diag_known.specs.declared.verified_wire.VerifiedWire.{VerifiedWire}
 use Rattle.diag_known.proofs.Places.{at_one, before_has, feet_here, StandsOn}
 use Rattle.diag_known.proofs.Rising.{foot_end, among_one, not_early, routes_to_turned}
 
 -- the feet are known
-pub feet_known : {k : Kept} {ss : List Step} {w : ℕ} {a b : Foot} → AreFeetOf k ss w a b → HasWire ss a.wire.0 × HasWire ss b.wire.0
+pub feet_known : {k : Kept} {ss : List VerifiedWire} {w : ℕ} {a b : Support} → AreFeetOf k ss w a b → HasWire ss a.wire.0 × HasWire ss b.wire.0
 feet_known f = (before_has f.one.before, before_has f.other.before)
 
-pub foot_at_end : {k : Kept} {ss : List Step} {n w e : ℕ} {a : Foot} → IsFoot k ss n w a → e ≡ a.wire.0 → Ends (ends_of k.shape a.cross.0) e w
+pub foot_at_end : {k : Kept} {ss : List VerifiedWire} {n w e : ℕ} {a : Support} → IsFoot k ss n w a → e ≡ a.wire.0 → Ends (ends_of k.shape a.cross.0) e w
 foot_at_end {k} {ss} {n} {w} {e} {a} foot same = subst (λ x. Ends (ends_of k.shape a.cross.0) x w) (sym same) foot.at
 
 -- a way over the first foot
-module _ {k : Kept} {ss : List Step} {w : ℕ} {a b : Foot} (feet : AreFeetOf k ss w a b) {p q r : Walk} (routes : AreRoutesTo k ss a.wire.0 b.wire.0 p q) (longer : Extends k.shape a.cross.0 p r) (route : IsRoute k.shape r) where
-  early_foot : {x : Foot} → IsFoot k ss feet.n w x → IsEarly ss feet.n x.wire.0
+module _ {k : Kept} {ss : List VerifiedWire} {w : ℕ} {a b : Support} (feet : AreFeetOf k ss w a b) {p q r : Walk} (routes : AreRoutesTo k ss a.wire.0 b.wire.0 p q) (longer : Extends k.shape a.cross.0 p r) (route : IsRoute k.shape r) where
+  early_foot : {x : Support} → IsFoot k ss feet.n w x → IsEarly ss feet.n x.wire.0
   early_foot f = record { place = f.before.place; at = f.before.at; early = inr f.before.early }
 
   pub not_on : (u : ℕ) → (among p.wires u ≡ true) ⊎ (among q.wires u ≡ true) → u ≢ w
@@ -42,7 +42,7 @@ module _ {k : Kept} {ss : List Step} {w : ℕ} {a b : Foot} (feet : AreFeetOf k 
   on_way : (u : ℕ) → among p.wires u ≡ true → (among r.wires u ≡ true) × (u ≢ w)
   on_way u on = (ap (λ us. among us u) way_wires ∙ among-push p.wires w u ∙ rw on refl, not_on u (inl on))
 
-  rests_way : (s : Stand) → IsPin s ⊎ HasFootOn (λ u. among p.wires u ≡ true) s → IsPin s ⊎ HasFootOn (λ v. (among r.wires v ≡ true) × (v ≢ w)) s
+  rests_way : (s : SupportedBy) → IsPin s ⊎ HasFootOn (λ u. among p.wires u ≡ true) s → IsPin s ⊎ HasFootOn (λ v. (among r.wires v ≡ true) × (v ≢ w)) s
   rests_way s (inl h) = inl h
   rests_way (stand.Pin n) (inr h) = elim h [ ]
   rests_way (stand.Feet x y) (inr (first h)) = inr (first (on_way x.wire.0 h))
@@ -58,10 +58,10 @@ module _ {k : Kept} {ss : List Step} {w : ℕ} {a b : Foot} (feet : AreFeetOf k 
         (λ n. absurd (n refl)) u (subst (λ us. among us u ≡ true) way_wires on) differ;
   }
 
-pub feet_turned : {k : Kept} {ss : List Step} {w : ℕ} {a b : Foot} → AreFeetOf k ss w a b → AreFeetOf k ss w b a
+pub feet_turned : {k : Kept} {ss : List VerifiedWire} {w : ℕ} {a b : Support} → AreFeetOf k ss w a b → AreFeetOf k ss w b a
 feet_turned f = record { n = f.n; one = f.other; other = f.one; differ = λ e. f.differ (sym e); late = f.late }
 
-pub ways_are : {k : Kept} {ss : List Step} {w : ℕ} {a b : Foot} → AreFeetOf k ss w a b → {p q r t : Walk} → AreRoutesTo k ss a.wire.0 b.wire.0 p q →
+pub ways_are : {k : Kept} {ss : List VerifiedWire} {w : ℕ} {a b : Support} → AreFeetOf k ss w a b → {p q r t : Walk} → AreRoutesTo k ss a.wire.0 b.wire.0 p q →
     Extends k.shape a.cross.0 p r → IsRoute k.shape r → Extends k.shape b.cross.0 q t → IsRoute k.shape t → AreWays k ss w r t
 ways_are {k} {ss} {w} {a} {b} feet {p} {q} {r} {t} routes longer route further other = record {
   first = way_is feet routes longer route;
@@ -73,7 +73,7 @@ ways_are {k} {ss} {w} {a} {b} feet {p} {q} {r} {t} routes longer route further o
 }
 
 -- the ways to a pin
-pub ways_at_pin : (k : Kept) (ss : List Step) (m : Shape) (pin : ℕ) {p q : Walk} → k.shape ≡ m → p ≡ at_pin m pin → q ≡ at_pin m pin → IsRoute m p → IsRoute m q → AreWays k ss (pin_wire k.shape pin) p q
+pub ways_at_pin : (k : Kept) (ss : List VerifiedWire) (m : Shape) (pin : ℕ) {p q : Walk} → k.shape ≡ m → p ≡ at_pin m pin → q ≡ at_pin m pin → IsRoute m p → IsRoute m q → AreWays k ss (pin_wire k.shape pin) p q
 ways_at_pin k ss m pin {p} {q} same e f r s = record {
   first = one p (e ∙ ap (λ (x : Shape). at_pin x pin) (sym same)) (subst (λ (x : Shape). IsRoute x p) (sym same) r);
   second = one q (f ∙ ap (λ (x : Shape). at_pin x pin) (sym same)) (subst (λ (x : Shape). IsRoute x q) (sym same) s);
@@ -92,7 +92,7 @@ ways_at_pin k ss m pin {p} {q} same e f r s = record {
     one x e route = subst (IsWay k ss (pin_wire k.shape pin)) (sym e) (at_itself (subst (IsRoute k.shape) e route))
 
 -- the feet of a known wire
-pub known_feet : {k : Kept} {known : KnownWires} → IsKnown k known → {i w : ℕ} → IsAt known.steps i w → (s : Step) (a b : Foot) → slice_get known.steps i ≡ Some s → s.stand ≡ stand.Feet a b → AreFeetOf k known.steps w a b
+pub known_feet : {k : Kept} {known : KnownWires} → IsKnown k known → {i w : ℕ} → IsAt known.steps i w → (s : VerifiedWire) (a b : Support) → slice_get known.steps i ≡ Some s → s.stand ≡ stand.Feet a b → AreFeetOf k known.steps w a b
 known_feet {k} {known} is {i} {w} at s a b here e = record {
   n = i;
   one = subst (λ u. IsFoot k known.steps i u a) same on.one;

@@ -9,7 +9,7 @@ use Rattle.machine_meaning.specs.Defects.{IsClear}
 use Rattle.machine_meaning.specs.Tight.{IsAlone, HasFeet}
 use Rattle.diag_evidence.specs.Kept.{Kept, HoldsFor, keeps_cross}
 use Rattle.diag_known.specs.Known.{HasWire}
-use Rattle.diag_known.specs.declared.step.Step.{Step}
+use Rattle.diag_known.specs.declared.verified_wire.VerifiedWire.{VerifiedWire}
 use Rattle.diag_known.specs.declared.field.Field.{Field}
 
 -- a field of this shape: marks of wires and of crosspoints
@@ -27,11 +27,11 @@ pub record IsClosed (k : Kept) (f : Faults) (a : Field) (known : ℕ → Type 0)
   pub crosses : (x : ℕ) → has_number a.crosses x ≡ true → known (ends_of k.shape x).0 → known (ends_of k.shape x).1 →
       stuck_cross f x ≡ None → keeps_cross k x ≡ true
 
-pub record ClosedIf (told : Option Faults) (k : Kept) (a : Field) (ss : List Step) : Type 0 where
+pub record ClosedIf (told : Option Faults) (k : Kept) (a : Field) (ss : List VerifiedWire) : Type 0 where
   pub at : (f : Faults) → told ≡ Some f → HoldsFor k f → IsClosed k f a (HasWire ss)
 
 -- what was known still is, and what is new is of the field
-pub record GrowsIn (a : Field) (old new : List Step) : Type 0 where
+pub record GrowsIn (a : Field) (old new : List VerifiedWire) : Type 0 where
   pub stays : (w : ℕ) → HasWire old w → HasWire new w
   pub within : (w : ℕ) → HasWire new w → HasWire old w ⊎ (has_number a.wires w ≡ true)
 

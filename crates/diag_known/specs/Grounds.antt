@@ -8,8 +8,8 @@ use Rattle.diag_evidence.specs.Kept.{Kept, keeps_cross, keeps_wire, keeps_pair}
 use Rattle.diag_known.specs.Known.{KnownWires, IsAt, IsBefore, HasWire, IsKnown, InSet}
 use Rattle.diag_known.specs.Linked.{list_at, HasLink}
 use Rattle.diag_known.specs.declared.links.Near.{Near}
-use Rattle.diag_known.specs.declared.step.Foot.{Foot}
-use Rattle.diag_known.specs.declared.step.Step.{Step}
+use Rattle.diag_known.specs.declared.verified_wire.Support.{Support}
+use Rattle.diag_known.specs.declared.verified_wire.VerifiedWire.{VerifiedWire}
 
 -- the crosspoint leads from the one wire to the other
 pub record IsBetween (m : Shape) (x u w : ℕ) : Type 0 where
@@ -18,37 +18,37 @@ pub record IsBetween (m : Shape) (x u w : ℕ) : Type 0 where
 
 -- for each wire the crosspoints of the machine that lead to it, with their other ends
 pub record AreAllLinks (m : Shape) (near : List Near) : Type 0 where
-  pub right : (w j : ℕ) (link : Foot) → slice_get (list_at near w) j ≡ Some link → IsBetween m link.cross.0 link.wire.0 w
+  pub right : (w j : ℕ) (link : Support) → slice_get (list_at near w) j ≡ Some link → IsBetween m link.cross.0 link.wire.0 w
   pub whole : (w x u : ℕ) → IsBetween m x u w → HasLink (list_at near w) x u
 
 -- the foot that was found of a wire
-abbrev pub foot_at : List (Option Foot) → ℕ → Option Foot
+abbrev pub foot_at : List (Option Support) → ℕ → Option Support
 foot_at feet w = slice_index_or feet w None
 
 -- a kept crosspoint leads from the wire to one that stands
-pub record IsFootTo (k : Kept) (ss : List Step) (w : ℕ) (a : Foot) : Type 0 where
+pub record IsFootTo (k : Kept) (ss : List VerifiedWire) (w : ℕ) (a : Support) : Type 0 where
   pub between : IsBetween k.shape a.cross.0 a.wire.0 w
   pub kept : keeps_cross k a.cross.0 ≡ true
   pub stands : HasWire ss a.wire.0
 
 -- Some wires stand, others are left; all are kept, and each one that is left is kept apart from all others. Of some that are left a
 -- foot was found.
-pub record IsGround (k : Kept) (n : KnownWires) (left : List Bool) (feet : List (Option Foot)) : Type 0 where
+pub record IsGround (k : Kept) (n : KnownWires) (left : List Bool) (feet : List (Option Support)) : Type 0 where
   pub known : IsKnown k n
   pub len : length left ≡ wires_of k.shape
   pub room : length feet ≡ wires_of k.shape
   pub fresh : (w : ℕ) → InSet left w → ¬ HasWire n.steps w
   pub kept : (w : ℕ) → InSet left w → keeps_wire k w ≡ true
   pub pairs : (w u : ℕ) → InSet left w → InSet left u ⊎ HasWire n.steps u → u ≢ w → keeps_pair k u w ≡ true
-  pub found : (w : ℕ) (a : Foot) → foot_at feet w ≡ Some a → IsFootTo k n.steps w a
+  pub found : (w : ℕ) (a : Support) → foot_at feet w ≡ Some a → IsFootTo k n.steps w a
 
 -- the wire isn't left, or the foot that was found of it leads to this one
-abbrev pub IsSettled : List Bool → List (Option Foot) → ℕ → ℕ → Type 0
-IsSettled left feet w u = (has_number left w ≡ false) ⊎ ((a : Foot) × (foot_at feet w ≡ Some a) × (a.wire.0 ≡ u))
+abbrev pub IsSettled : List Bool → List (Option Support) → ℕ → ℕ → Type 0
+IsSettled left feet w u = (has_number left w ≡ false) ⊎ ((a : Support) × (foot_at feet w ≡ Some a) × (a.wire.0 ≡ u))
 
 -- What stood still stands, where it stood, and what was settled is; what stands now did so before or was left, and what was left stands
 -- or is left.
-pub record Founds (n m : KnownWires) (left rest : List Bool) (feet more : List (Option Foot)) : Type 0 where
+pub record Founds (n m : KnownWires) (left rest : List Bool) (feet more : List (Option Support)) : Type 0 where
   pub stays : (i w : ℕ) → IsAt n.steps i w → IsAt m.steps i w
   pub settled : (w u : ℕ) → IsSettled left feet w u → IsSettled rest more w u
   pub from : (w : ℕ) → HasWire m.steps w → HasWire n.steps w ⊎ InSet left w
@@ -58,6 +58,6 @@ pub record Founds (n m : KnownWires) (left rest : List Bool) (feet more : List (
   pub count : size_of rest + length m.steps ≡ size_of left + length n.steps
 
 -- each link that leads by a kept crosspoint from one of the first n wires that stand is settled
-abbrev pub AreSettled : Kept → List Near → KnownWires → List Bool → List (Option Foot) → ℕ → Type 0
+abbrev pub AreSettled : Kept → List Near → KnownWires → List Bool → List (Option Support) → ℕ → Type 0
 AreSettled k near known left feet n = (w x u : ℕ) → IsBefore known.steps n u → HasLink (list_at near u) x w → keeps_cross k x ≡ true →
     IsSettled left feet w u

@@ -5,7 +5,7 @@ use Rattle.machine_shape.specs.declared.Shape.{Shape}
 use Rattle.machine_shape.specs.Shape.{Ends, ends_of, crosses_of}
 use Rattle.diag_known.specs.declared.field.Field.{Field}
 use Rattle.diag_known.specs.declared.links.Near.{Near}
-use Rattle.diag_known.specs.declared.step.Foot.{Foot}
+use Rattle.diag_known.specs.declared.verified_wire.Support.{Support}
 
 -- a crosspoint of the field leads from the one wire to the other
 pub record IsInField (m : Shape) (a : Field) (x u w : ℕ) : Type 0 where
@@ -14,30 +14,30 @@ pub record IsInField (m : Shape) (a : Field) (x u w : ℕ) : Type 0 where
   pub at : Ends (ends_of m x) u w
 
 -- for each wire the links of the field: crosspoints to it, with their other ends
-abbrev pub list_at : List Near → ℕ → List Foot
+abbrev pub list_at : List Near → ℕ → List Support
 list_at [] w = []
 list_at (v ∷ vs) zero = v.links.items
 list_at (v ∷ vs) (suc w) = list_at vs w
 
 -- one of these links
-pub record HasLink (links : List Foot) (x u : ℕ) : Type 0 where
+pub record HasLink (links : List Support) (x u : ℕ) : Type 0 where
   pub place : ℕ
-  pub link : Foot
+  pub link : Support
   pub here : slice_get links place ≡ Some link
   pub cross : link.cross.0 ≡ x
   pub wire : link.wire.0 ≡ u
 
 -- .. of the crosspoints before this one
 pub record AreLinksUpTo (m : Shape) (a : Field) (near : List Near) (n : ℕ) : Type 0 where
-  pub right : (w j : ℕ) (link : Foot) → slice_get (list_at near w) j ≡ Some link → IsInField m a link.cross.0 link.wire.0 w
+  pub right : (w j : ℕ) (link : Support) → slice_get (list_at near w) j ≡ Some link → IsInField m a link.cross.0 link.wire.0 w
   pub whole : (w x u : ℕ) → x < n → IsInField m a x u w → HasLink (list_at near w) x u
 
 pub record AreLinks (m : Shape) (a : Field) (near : List Near) : Type 0 where
-  pub right : (w j : ℕ) (link : Foot) → slice_get (list_at near w) j ≡ Some link → IsInField m a link.cross.0 link.wire.0 w
+  pub right : (w j : ℕ) (link : Support) → slice_get (list_at near w) j ≡ Some link → IsInField m a link.cross.0 link.wire.0 w
   pub whole : (w x u : ℕ) → IsInField m a x u w → HasLink (list_at near w) x u
 
 -- the links of one wire, with one more
-pub record AddsLink (old new : List Near) (w : ℕ) (link : Foot) : Type 0 where
+pub record AddsLink (old new : List Near) (w : ℕ) (link : Support) : Type 0 where
   pub this : list_at new w ≡ list_at old w ++ link ∷ []
   pub others : (u : ℕ) → u ≢ w → list_at new u ≡ list_at old u
 

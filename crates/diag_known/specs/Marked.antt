@@ -11,7 +11,7 @@ use Rattle.diag_known.specs.Offers.{InSome, HasNoSecond}
 use Rattle.diag_known.specs.Trials.{IsKeptUnlessStuck, IsLost, IsTried}
 use Rattle.diag_known.specs.declared.marks.Marks.{Marks}
 use Rattle.diag_known.specs.declared.offers.Offer.{Offer}
-use Rattle.diag_known.specs.declared.step.Step.{Step}
+use Rattle.diag_known.specs.declared.verified_wire.VerifiedWire.{VerifiedWire}
 
 -- the crosspoint was toggled
 abbrev pub is_spent : Marks → ℕ → Bool
@@ -43,7 +43,7 @@ pub record Spends (told : Option Faults) (k : Kept) (these : ℕ → Type 0) (ol
       after + barred_pins k.shape new + few_loads k.shape old ≤ before + barred_pins k.shape old + few_loads k.shape new
 
 -- The crosspoint leads from a known wire to one that is known, unless the crosspoint is kept, or lost.
-pub record IsSecondMark (told : Option Faults) (k : Kept) (ss : List Step) (x : ℕ) : Type 0 where
+pub record IsSecondMark (told : Option Faults) (k : Kept) (ss : List VerifiedWire) (x : ℕ) : Type 0 where
   pub from : ℕ
   pub to : ℕ
   pub at : Ends (ends_of k.shape x) from to
@@ -51,7 +51,7 @@ pub record IsSecondMark (told : Option Faults) (k : Kept) (ss : List Step) (x : 
   pub found : (keeps_cross k x ≡ true) ⊎ (HasWire ss to ⊎ IsLost told k ss to x)
 
 -- What was toggled between known wires is kept unless it is stuck, and so, without faults, is all that was toggled.
-pub record AreMarks (told : Option Faults) (k : Kept) (ss : List Step) (s : Marks) : Type 0 where
+pub record AreMarks (told : Option Faults) (k : Kept) (ss : List VerifiedWire) (s : Marks) : Type 0 where
   pub barred : length s.barred ≡ wires_of k.shape
   pub offered : length s.offered ≡ crosses_of k.shape
   pub second : length s.second ≡ crosses_of k.shape
@@ -98,7 +98,7 @@ abbrev pub BarsAtMost : ℕ → List Bool → List Bool → Type 0
 BarsAtMost w old new = (new ≡ old) ⊎ (new ≡ slice_set old w true)
 
 -- the wire of the offer is barred, and tried; or the crosspoint and each other one are lost
-pub data HasTried (told : Option Faults) (k : Kept) (ss : List Step) (o : Offer) (old new : Marks) : Type 0 where
+pub data HasTried (told : Option Faults) (k : Kept) (ss : List VerifiedWire) (o : Offer) (old new : Marks) : Type 0 where
   barred : new.barred ≡ slice_set old.barred o.wire.0 true → IsTried told k ss o.wire.0 → HasTried told k ss o old new
   lost : new.barred ≡ old.barred → HasNoSecond told k ss o → HasTried told k ss o old new
 

@@ -15,30 +15,30 @@ use Rattle.diag_known.specs.Ways.{ReachesAll}
 use Rattle.diag_known.specs.declared.beside.Reach.{Reach}
 use Rattle.diag_known.specs.declared.beside.Reach.TheVariants as reach
 use Rattle.diag_known.specs.declared.offers.Offer.{Offer}
-use Rattle.diag_known.specs.declared.step.Foot.{Foot}
-use Rattle.diag_known.specs.declared.step.Step.{Step}
+use Rattle.diag_known.specs.declared.verified_wire.Support.{Support}
+use Rattle.diag_known.specs.declared.verified_wire.VerifiedWire.{VerifiedWire}
 
 -- The wire isn't known. The crosspoint leads to it from a known one, and the others from other known ones.
-pub record IsOffer (m : Shape) (ss : List Step) (o : Offer) : Type 0 where
+pub record IsOffer (m : Shape) (ss : List VerifiedWire) (o : Offer) : Type 0 where
   pub within : o.wire.0 < wires_of m
   pub new : ¬ HasWire ss o.wire.0
   pub foot : IsLinkTo m ss o.wire.0 o.foot
-  pub others : (j : ℕ) (a : Foot) → slice_get o.others.items j ≡ Some a → IsLinkTo m ss o.wire.0 a
-  pub differ : (j : ℕ) (a : Foot) → slice_get o.others.items j ≡ Some a → a.wire.0 ≢ o.foot.wire.0
+  pub others : (j : ℕ) (a : Support) → slice_get o.others.items j ≡ Some a → IsLinkTo m ss o.wire.0 a
+  pub differ : (j : ℕ) (a : Support) → slice_get o.others.items j ≡ Some a → a.wire.0 ≢ o.foot.wire.0
 
 -- where the faults are told and what is kept is true of them, one of the two crosspoints is stuck, or the wire isn't fit
-pub record AreLost (told : Option Faults) (k : Kept) (ss : List Step) (w x y : ℕ) : Type 0 where
+pub record AreLost (told : Option Faults) (k : Kept) (ss : List VerifiedWire) (w x y : ℕ) : Type 0 where
   pub at : (f : Faults) → told ≡ Some f → HoldsFor k f → IsFit k.shape f ss w → stuck_cross f x ≡ None → stuck_cross f y ≡ None → ⊥
 
 -- the crosspoint and each other one are lost
-pub record HasNoSecond (told : Option Faults) (k : Kept) (ss : List Step) (o : Offer) : Type 0 where
-  pub lost : (j : ℕ) (a : Foot) → slice_get o.others.items j ≡ Some a → AreLost told k ss o.wire.0 o.foot.cross.0 a.cross.0
+pub record HasNoSecond (told : Option Faults) (k : Kept) (ss : List VerifiedWire) (o : Offer) : Type 0 where
+  pub lost : (j : ℕ) (a : Support) → slice_get o.others.items j ≡ Some a → AreLost told k ss o.wire.0 o.foot.cross.0 a.cross.0
 
 -- .. each other one whose known end is reached beside the route
-pub record HasNoneBeside (told : Option Faults) (k : Kept) (ss : List Step) (o : Offer) (q : Walk) : Type 0 where
+pub record HasNoneBeside (told : Option Faults) (k : Kept) (ss : List VerifiedWire) (o : Offer) (q : Walk) : Type 0 where
   pub rs : List Reach
   pub all : ReachesAll ss q (IsReached rs)
-  pub lost : (j : ℕ) (a : Foot) → slice_get o.others.items j ≡ Some a → IsReached rs a.wire.0 →
+  pub lost : (j : ℕ) (a : Support) → slice_get o.others.items j ≡ Some a → IsReached rs a.wire.0 →
       AreLost told k ss o.wire.0 o.foot.cross.0 a.cross.0
 
 -- it is so of one of these
@@ -59,36 +59,36 @@ abbrev pub IsOn : Walk → ℕ → Type 0
 IsOn r x = among r.crosses x ≡ true
 
 -- it is that of a link whose known end is reached
-abbrev pub IsHung : List Reach → Foot → ℕ → Type 0
+abbrev pub IsHung : List Reach → Support → ℕ → Type 0
 IsHung rs a x = IsReached rs a.wire.0 × (a.cross.0 ≡ x)
 
 -- the known end of one of the links is reached
-pub record HangsOnSome (rs : List Reach) (links : List Foot) : Type 0 where
+pub record HangsOnSome (rs : List Reach) (links : List Support) : Type 0 where
   pub place : ℕ
-  pub link : Foot
+  pub link : Support
   pub here : slice_get links place ≡ Some link
   pub reached : IsReached rs link.wire.0
 
 -- .. of none
-abbrev pub HangsOnNone : List Reach → List Foot → Type 0
-HangsOnNone rs links = (j : ℕ) (a : Foot) → slice_get links j ≡ Some a → ¬ IsReached rs a.wire.0
+abbrev pub HangsOnNone : List Reach → List Support → Type 0
+HangsOnNone rs links = (j : ℕ) (a : Support) → slice_get links j ≡ Some a → ¬ IsReached rs a.wire.0
 
 -- beside the route the wire of the offer hangs on nothing
-pub record HangsNot (ss : List Step) (o : Offer) (q : Walk) : Type 0 where
+pub record HangsNot (ss : List VerifiedWire) (o : Offer) (q : Walk) : Type 0 where
   pub rs : List Reach
   pub all : ReachesAll ss q (IsReached rs)
   pub none : HangsOnNone rs o.others.items
 
 -- Beside the route the wire of the offer hangs on what is reached there: walks over the known ends of the other crosspoints, and
 -- the crosspoints of these walks, these others and the one that is offered.
-pub record IsHanging (k : Kept) (ss : List Step) (o : Offer) (q : Walk) (routes : List Walk) (ties : List ℕ) : Type 0 where
+pub record IsHanging (k : Kept) (ss : List VerifiedWire) (o : Offer) (q : Walk) (routes : List Walk) (ties : List ℕ) : Type 0 where
   pub rs : List Reach
   pub on : (w : ℕ) → among q.wires w ≡ true → reach_at rs w ≡ reach.OnRoute
   pub trees : AreTrees ss rs
   pub all : ReachesAll ss q (IsReached rs)
   pub some : HangsOnSome rs o.others.items
   pub ends : List Wire
-  pub wanted : (j : ℕ) (a : Foot) → slice_get o.others.items j ≡ Some a → slice_get ends j ≡ Some a.wire
+  pub wanted : (j : ℕ) (a : Support) → slice_get o.others.items j ≡ Some a → slice_get ends j ≡ Some a.wire
   pub walks : AreWalks k rs ends routes
   pub laid : Adds (λ x. InSome routes IsOn x ⊎ InSome o.others.items (IsHung rs) x) (o.foot.cross.0 ∷ []) ties
 
@@ -98,15 +98,15 @@ pub record ArePulled (routes : List Walk) (drive : Pins) : Type 0 where
   pub only : (p : ℕ) → slice_index_or drive p true ≡ false → InSome routes (λ r p. r.pin ≡ p) p
 
 -- a link is one of these, and its crosspoint kept
-pub record IsPlaced (links : List Foot) (a : Foot) : Type 0 where
+pub record IsPlaced (links : List Support) (a : Support) : Type 0 where
   pub place : ℕ
   pub here : slice_get links place ≡ Some a
 
-pub record IsKeptOther (k : Kept) (links : List Foot) (a : Foot) : Type 0 where
+pub record IsKeptOther (k : Kept) (links : List Support) (a : Support) : Type 0 where
   pub placed : IsPlaced links a
   pub kept : keeps_cross k a.cross.0 ≡ true
 
 -- the crosspoint of the offer and this other one are kept
-pub record IsSecond (k : Kept) (o : Offer) (a : Foot) : Type 0 where
+pub record IsSecond (k : Kept) (o : Offer) (a : Support) : Type 0 where
   pub own : keeps_cross k o.foot.cross.0 ≡ true
   pub other : IsKeptOther k o.others.items a

@@ -9,10 +9,10 @@ use Rattle.diag_known.specs.Known.{IsAt, HasWire, IsBefore}
 use Rattle.diag_known.specs.declared.beside.Reach.{Reach}
 use Rattle.diag_known.specs.declared.beside.Reach.TheVariants as reach
 use Rattle.diag_known.specs.declared.descents.Down.{Down}
-use Rattle.diag_known.specs.declared.step.Foot.{Foot}
-use Rattle.diag_known.specs.declared.step.Stand.{Stand}
-use Rattle.diag_known.specs.declared.step.Stand.TheVariants as stand
-use Rattle.diag_known.specs.declared.step.Step.{Step}
+use Rattle.diag_known.specs.declared.verified_wire.Support.{Support}
+use Rattle.diag_known.specs.declared.verified_wire.SupportedBy.{SupportedBy}
+use Rattle.diag_known.specs.declared.verified_wire.SupportedBy.TheVariants as stand
+use Rattle.diag_known.specs.declared.verified_wire.VerifiedWire.{VerifiedWire}
 
 -- how a wire stands to the route
 abbrev pub reach_at : List Reach → ℕ → Reach
@@ -28,18 +28,18 @@ pub record IsReached (rs : List Reach) (w : ℕ) : Type 0 where
   pub from : IsFrom rs pin w
 
 -- the stand is this pin, or has a foot to a wire that is reached from it
-pub data HangsOn (rs : List Reach) (pin : ℕ) : Stand → Type 0 where
+pub data HangsOn (rs : List Reach) (pin : ℕ) : SupportedBy → Type 0 where
   own : HangsOn rs pin (stand.Pin pin)
-  by_first : {a b : Foot} → IsFrom rs pin a.wire.0 → HangsOn rs pin (stand.Feet a b)
-  by_second : {a b : Foot} → IsFrom rs pin b.wire.0 → HangsOn rs pin (stand.Feet a b)
+  by_first : {a b : Support} → IsFrom rs pin a.wire.0 → HangsOn rs pin (stand.Feet a b)
+  by_second : {a b : Support} → IsFrom rs pin b.wire.0 → HangsOn rs pin (stand.Feet a b)
 
 -- each wire that is reached is known, and is the pin or hangs on a foot
-pub record AreTrees (ss : List Step) (rs : List Reach) : Type 0 where
+pub record AreTrees (ss : List VerifiedWire) (rs : List Reach) : Type 0 where
   pub known : (w pin : ℕ) → IsFrom rs pin w → HasWire ss w
-  pub hangs : (i : ℕ) (s : Step) (pin : ℕ) → slice_get ss i ≡ Some s → IsFrom rs pin s.wire.0 → HangsOn rs pin s.stand
+  pub hangs : (i : ℕ) (s : VerifiedWire) (pin : ℕ) → slice_get ss i ≡ Some s → IsFrom rs pin s.wire.0 → HangsOn rs pin s.stand
 
 -- a kept crosspoint leads from the wire to one that is reached from the same pin
-pub record IsTie (k : Kept) (rs : List Reach) (pin w : ℕ) (foot : Foot) : Type 0 where
+pub record IsTie (k : Kept) (rs : List Reach) (pin w : ℕ) (foot : Support) : Type 0 where
   pub within : foot.cross.0 < crosses_of k.shape
   pub kept : keeps_cross k foot.cross.0 ≡ true
   pub at : Ends (ends_of k.shape foot.cross.0) foot.wire.0 w
@@ -47,30 +47,30 @@ pub record IsTie (k : Kept) (rs : List Reach) (pin w : ℕ) (foot : Foot) : Type
   pub below : IsFrom rs pin foot.wire.0
 
 -- the wire at this place hangs on this foot
-pub record HangsAt (k : Kept) (ss : List Step) (rs : List Reach) (pin i : ℕ) (foot : Foot) : Type 0 where
-  pub step : Step
+pub record HangsAt (k : Kept) (ss : List VerifiedWire) (rs : List Reach) (pin i : ℕ) (foot : Support) : Type 0 where
+  pub step : VerifiedWire
   pub here : slice_get ss i ≡ Some step
   pub tie : IsTie k rs pin step.wire.0 foot
   pub before : IsBefore ss i foot.wire.0
 
 -- the wire at this place is reached from this pin
-pub record IsFromAt (ss : List Step) (rs : List Reach) (pin i : ℕ) : Type 0 where
-  pub step : Step
+pub record IsFromAt (ss : List VerifiedWire) (rs : List Reach) (pin i : ℕ) : Type 0 where
+  pub step : VerifiedWire
   pub here : slice_get ss i ≡ Some step
   pub from : IsFrom rs pin step.wire.0
 
 -- of the wires at two places the left one hangs on the foot, or the right one
-pub record HangsAlong (k : Kept) (ss : List Step) (rs : List Reach) (pin i j : ℕ) (d : Down) : Type 0 where
+pub record HangsAlong (k : Kept) (ss : List VerifiedWire) (rs : List Reach) (pin i j : ℕ) (d : Down) : Type 0 where
   pub left : d.left ≡ true → HangsAt k ss rs pin i d.foot
   pub right : d.left ≡ false → HangsAt k ss rs pin j d.foot
 
 -- over these feet one after the other the wire u hangs on the wire w
-abbrev pub Hangs : Kept → List Reach → ℕ → ℕ → List Foot → ℕ → Type 0
+abbrev pub Hangs : Kept → List Reach → ℕ → ℕ → List Support → ℕ → Type 0
 Hangs k rs pin u [] w = (u ≡ w)
 Hangs k rs pin u (a ∷ feet) w = IsTie k rs pin u a × Hangs k rs pin a.wire.0 feet w
 
 -- the wire at the end of these feet, from the wire u on
-abbrev pub upper_of : ℕ → List Foot → ℕ
+abbrev pub upper_of : ℕ → List Support → ℕ
 upper_of u [] = u
 upper_of u (a ∷ feet) = upper_of a.wire.0 feet
 
@@ -87,7 +87,7 @@ pub record GoesOn (k : Kept) (rs : List Reach) (old new : Walk) : Type 0 where
   pub stays : (w : ℕ) → among old.wires w ≡ true → among new.wires w ≡ true
 
 -- .. to a wire on which this one hangs over these feet
-pub record GoesBelow (k : Kept) (rs : List Reach) (old new : Walk) (u : ℕ) (feet : List Foot) : Type 0 where
+pub record GoesBelow (k : Kept) (rs : List Reach) (old new : Walk) (u : ℕ) (feet : List Support) : Type 0 where
   pub on : GoesOn k rs old new
   pub hangs : Hangs k rs old.pin u feet new.end
 
@@ -97,11 +97,11 @@ pub record GoesTo (k : Kept) (rs : List Reach) (old new : Walk) (w : ℕ) : Type
   pub over : among new.wires w ≡ true
 
 -- .. down from two places to two others
-pub record AreBefore (ss : List Step) (i j : ℕ) (d : Down) : Type 0 where
+pub record AreBefore (ss : List VerifiedWire) (i j : ℕ) (d : Down) : Type 0 where
   pub left : d.left ≡ true → IsBefore ss i d.foot.wire.0
   pub right : d.left ≡ false → IsBefore ss j d.foot.wire.0
 
-pub record Leads (ss : List Step) (d : Down) (i j u v : ℕ) : Type 0 where
+pub record Leads (ss : List VerifiedWire) (d : Down) (i j u v : ℕ) : Type 0 where
   pub left : d.left ≡ true → IsAt ss u d.foot.wire.0 × (v ≡ j)
   pub right : d.left ≡ false → IsAt ss v d.foot.wire.0 × (u ≡ i)
 

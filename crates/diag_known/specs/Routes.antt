@@ -4,46 +4,46 @@ use Rattle.machine_config.specs.Groups.{among}
 use Rattle.diag_tests.specs.Routes.{Walk, IsRoute}
 use Rattle.diag_evidence.specs.Kept.{Kept, keeps_cross}
 use Rattle.diag_known.specs.Known.{IsAt}
-use Rattle.diag_known.specs.declared.step.Foot.{Foot}
-use Rattle.diag_known.specs.declared.step.Stand.{Stand}
-use Rattle.diag_known.specs.declared.step.Stand.TheVariants as stand
-use Rattle.diag_known.specs.declared.step.Step.{Step}
+use Rattle.diag_known.specs.declared.verified_wire.Support.{Support}
+use Rattle.diag_known.specs.declared.verified_wire.SupportedBy.{SupportedBy}
+use Rattle.diag_known.specs.declared.verified_wire.SupportedBy.TheVariants as stand
+use Rattle.diag_known.specs.declared.verified_wire.VerifiedWire.{VerifiedWire}
 
 -- the stand is a pin
-pub data IsPin : Stand → Type 0 where
+pub data IsPin : SupportedBy → Type 0 where
   is_pin : {n : ℕ} → IsPin (stand.Pin n)
 
 -- a foot of the stand leads to one of these wires
-pub data HasFootOn (on : ℕ → Type 0) : Stand → Type 0 where
-  first : {a b : Foot} → on a.wire.0 → HasFootOn on (stand.Feet a b)
-  second : {a b : Foot} → on b.wire.0 → HasFootOn on (stand.Feet a b)
+pub data HasFootOn (on : ℕ → Type 0) : SupportedBy → Type 0 where
+  first : {a b : Support} → on a.wire.0 → HasFootOn on (stand.Feet a b)
+  second : {a b : Support} → on b.wire.0 → HasFootOn on (stand.Feet a b)
 
 -- A known wire is a pin, or has a foot to one of these wires.
-pub record RestsOn (ss : List Step) (on : ℕ → Type 0) (w : ℕ) : Type 0 where
+pub record RestsOn (ss : List VerifiedWire) (on : ℕ → Type 0) (w : ℕ) : Type 0 where
   pub place : ℕ
   pub at : IsAt ss place w
   pub rests : IsPin at.step.stand ⊎ HasFootOn on at.step.stand
 
 -- A known wire is a pin, or came before this place.
-pub record IsEarly (ss : List Step) (n w : ℕ) : Type 0 where
+pub record IsEarly (ss : List VerifiedWire) (n w : ℕ) : Type 0 where
   pub place : ℕ
   pub at : IsAt ss place w
   pub early : IsPin at.step.stand ⊎ (place < n)
 
 -- a route over known wires by kept crosspoints, each wire of which is a pin or has a foot on it
-pub record IsKnownRoute (k : Kept) (ss : List Step) (r : Walk) : Type 0 where
+pub record IsKnownRoute (k : Kept) (ss : List VerifiedWire) (r : Walk) : Type 0 where
   pub route : IsRoute k.shape r
   pub crosses : (x : ℕ) → among r.crosses x ≡ true → keeps_cross k x ≡ true
   pub wires : (w : ℕ) → among r.wires w ≡ true → RestsOn ss (λ u. among r.wires u ≡ true) w
 
 -- two such routes without a common wire
-pub record AreRoutes (k : Kept) (ss : List Step) (p q : Walk) : Type 0 where
+pub record AreRoutes (k : Kept) (ss : List VerifiedWire) (p q : Walk) : Type 0 where
   pub left : IsKnownRoute k ss p
   pub right : IsKnownRoute k ss q
   pub apart : (w : ℕ) → among p.wires w ≡ true → among q.wires w ≡ false
 
 -- Two such routes, to these wires. No wire stands in one of them twice and, but for pins, none came later than both of these.
-pub record AreRoutesTo (k : Kept) (ss : List Step) (a b : ℕ) (p q : Walk) : Type 0 where
+pub record AreRoutesTo (k : Kept) (ss : List VerifiedWire) (a b : ℕ) (p q : Walk) : Type 0 where
   pub routes : AreRoutes k ss p q
   pub left_end : p.end ≡ a
   pub right_end : q.end ≡ b

@@ -9,8 +9,8 @@ use Rattle.machine_config.specs.Groups.{among}
 use Rattle.diag_tests.specs.Routes.{Walk, IsRoute}
 use Rattle.diag_evidence.specs.Kept.{Kept, HoldsFor, keeps_cross}
 use Rattle.diag_known.specs.Known.{HasWire}
-use Rattle.diag_known.specs.declared.step.Foot.{Foot}
-use Rattle.diag_known.specs.declared.step.Step.{Step}
+use Rattle.diag_known.specs.declared.verified_wire.Support.{Support}
+use Rattle.diag_known.specs.declared.verified_wire.VerifiedWire.{VerifiedWire}
 
 -- a route by kept crosspoints
 pub record IsKeptRoute (k : Kept) (r : Walk) : Type 0 where
@@ -18,13 +18,13 @@ pub record IsKeptRoute (k : Kept) (r : Walk) : Type 0 where
   pub crosses : (x : ℕ) → among r.crosses x ≡ true → keeps_cross k x ≡ true
 
 -- a crosspoint leads from the wire to a known one
-pub record IsLinkTo (m : Shape) (ss : List Step) (w : ℕ) (a : Foot) : Type 0 where
+pub record IsLinkTo (m : Shape) (ss : List VerifiedWire) (w : ℕ) (a : Support) : Type 0 where
   pub within : a.cross.0 < crosses_of m
   pub at : Ends (ends_of m a.cross.0) a.wire.0 w
   pub known : HasWire ss a.wire.0
 
 -- the wire is clear, and shorted to no known one
-pub record IsFit (m : Shape) (f : Faults) (ss : List Step) (w : ℕ) : Type 0 where
+pub record IsFit (m : Shape) (f : Faults) (ss : List VerifiedWire) (w : ℕ) : Type 0 where
   pub clear : IsClear m f w
   pub alone : IsAlone m f (HasWire ss) w
 
@@ -35,15 +35,15 @@ pub record IsKeptUnlessStuck (told : Option Faults) (k : Kept) (x : ℕ) : Type 
   pub at : (f : Faults) → told ≡ Some f → HoldsFor k f → stuck_cross f x ≡ None → keeps_cross k x ≡ true
 
 -- .. the crosspoint is stuck, or the wire isn't fit
-pub record IsLost (told : Option Faults) (k : Kept) (ss : List Step) (w x : ℕ) : Type 0 where
+pub record IsLost (told : Option Faults) (k : Kept) (ss : List VerifiedWire) (w x : ℕ) : Type 0 where
   pub at : (f : Faults) → told ≡ Some f → HoldsFor k f → IsFit k.shape f ss w → stuck_cross f x ≡ None → ⊥
 
 -- .. the wire isn't fit
-pub record IsBad (told : Option Faults) (k : Kept) (ss : List Step) (w : ℕ) : Type 0 where
+pub record IsBad (told : Option Faults) (k : Kept) (ss : List VerifiedWire) (w : ℕ) : Type 0 where
   pub at : (f : Faults) → told ≡ Some f → HoldsFor k f → IsFit k.shape f ss w → ⊥
 
 -- the wire is known, unless it isn't fit
-abbrev pub IsTried : Option Faults → Kept → List Step → ℕ → Type 0
+abbrev pub IsTried : Option Faults → Kept → List VerifiedWire → ℕ → Type 0
 IsTried told k ss w = HasWire ss w ⊎ IsBad told k ss w
 
 -- .. there are faults

@@ -8,8 +8,8 @@ ghost use Rattle.diag_known.specs.Reaches.{reach_at, AreTrees, HangsOn, IsReache
 ghost use Rattle.diag_known.specs.Ways.{ReachesAll};
 ghost use Rattle.diag_known.specs.declared.beside.Reach.TheVariants as reach;
 
-use crate::{Known, Stand};
-use diag_evidence::Proof;
+use crate::{Known, SupportedBy};
+use diag_evidence::Facts;
 use diag_tests::Route;
 use machine_shape::Wire;
 use std::alloc::AllocError;
@@ -57,14 +57,14 @@ pub(crate) fn reach_at(reaches: &Vec<Reach>, w: Wire) -> Reach
 }
 
 // How a wire off the route stands to it, by what it stands on.
-fn reach_on(reaches: &Vec<Reach>, stand: Stand) -> Reach
+fn reach_on(reaches: &Vec<Reach>, stand: SupportedBy) -> Reach
     ensures hangs { (pin : ℕ) → result ≡ reach.From pin → HangsOn reaches.now.items pin stand }
     ensures whole { IsPin stand ⊎ HasFootOn (IsReached reaches.now.items) stand → (pin : ℕ) × (result ≡ reach.From pin) }
     ensures off { result ≢ reach.OnRoute }
 {
     let (first, second) = match stand {
-        Stand::Pin(pin) => return Reach::From(pin),
-        Stand::Feet(first, second) => (first, second),
+        SupportedBy::Pin(pin) => return Reach::From(pin),
+        SupportedBy::Feet(first, second) => (first, second),
     };
     if let Reach::From(pin) = reach_at(reaches, first.wire) {
         return Reach::From(pin);
@@ -91,12 +91,12 @@ fn put_off(reaches: &mut Vec<Reach>, w: Wire, how: Reach)
 /// room for each wire afterwards, and wants memory only where it hadn't.
 pub fn find_reached(
     known: &Known,
-    proof: &Proof,
+    facts: &Facts,
     route: &Route,
     reaches: &mut Vec<Reach>,
 ) -> Result<(), AllocError>
-    requires known { IsKnown proof.now known.now }
-    requires route { IsRoute proof.now.shape route.now }
+    requires known { IsKnown facts.now known.now }
+    requires route { IsRoute facts.now.shape route.now }
     ensures on { OnOk result ((w : ℕ) → among route.now.wires w ≡ true → reach_at reaches.new.items w ≡ reach.OnRoute) }
     ensures trees { OnOk result (AreTrees known.now.steps reaches.new.items) }
     ensures all { OnOk result (ReachesAll known.now.steps route.now (IsReached reaches.new.items)) }

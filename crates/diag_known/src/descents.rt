@@ -4,8 +4,8 @@ ghost use Rattle.diag_known.specs.Known.{IsKnown, AreTwo};
 ghost use Rattle.diag_known.specs.Descents.{StepsDown, StepsAlong, Goes, Stays, DescendsTo, IsPinAt, IsPinHere};
 
 use crate::known::Known;
-use crate::step::{Foot, Stand};
-use diag_evidence::Proof;
+use crate::verified_wire::{Support, SupportedBy};
+use diag_evidence::Facts;
 use machine_shape::Wire;
 use std::alloc::AllocError;
 
@@ -13,7 +13,7 @@ use std::alloc::AllocError;
 #[derive(Clone, Copy, Debug)]
 pub struct Down {
     pub left: bool,
-    pub foot: Foot,
+    pub foot: Support,
     pub over: Wire,
 }
 
@@ -26,7 +26,7 @@ pub(crate) struct Descent {
 }
 
 // The first of two feet, unless this wire stands there.
-fn other_foot(first: Foot, second: Foot, w: Wire) -> Foot
+fn other_foot(first: Support, second: Support, w: Wire) -> Support
     requires { first.wire.0 ≢ second.wire.0 }
     ensures which { (result ≡ first) ⊎ (result ≡ second) }
     ensures apart { result.wire.0 ≢ w.0 }
@@ -36,15 +36,15 @@ fn other_foot(first: Foot, second: Foot, w: Wire) -> Foot
 
 // The foot to which the wire at the one place steps down beside that at the other: none where it is a pin, or came before
 // the other one, and that is no pin.
-fn foot_down(known: &Known, proof: &Proof, i: usize, j: usize) -> Option<Foot>
-    requires known { IsKnown proof.now known.now }
+fn foot_down(known: &Known, facts: &Facts, i: usize, j: usize) -> Option<Support>
+    requires known { IsKnown facts.now known.now }
     requires two { AreTwo known.now.steps i j }
-    ensures down { IfSome result (StepsDown proof.now known.now.steps i j) }
+    ensures down { IfSome result (StepsDown facts.now known.now.steps i j) }
     ensures stays { IfNone result (Stays known.now.steps i j) }
 {
     let step = known.step_at(i);
     let other = known.step_at(j);
-    let Stand::Feet(first, second) = step.stand else {
+    let SupportedBy::Feet(first, second) = step.stand else {
         return None;
     };
     if i < j && !other.is_pin() {
@@ -54,14 +54,14 @@ fn foot_down(known: &Known, proof: &Proof, i: usize, j: usize) -> Option<Foot>
 }
 
 // The next step from the wires at two places: none where both are pins.
-fn next_down(known: &Known, proof: &Proof, i: usize, j: usize) -> Option<Down>
-    requires known { IsKnown proof.now known.now }
+fn next_down(known: &Known, facts: &Facts, i: usize, j: usize) -> Option<Down>
+    requires known { IsKnown facts.now known.now }
     requires two { AreTwo known.now.steps i j }
-    ensures down { IfSome result (StepsAlong proof.now known.now.steps i j) }
+    ensures down { IfSome result (StepsAlong facts.now known.now.steps i j) }
     ensures left_pin { IfNone result (IsPinHere known.now.steps i) }
     ensures right_pin { IfNone result (IsPinHere known.now.steps j) }
 {
-    if let Some(foot) = foot_down(known, proof, i, j) {
+    if let Some(foot) = foot_down(known, facts, i, j) {
         let over = known.wire_at(i);
         return Some(Down {
             left: true,
@@ -70,7 +70,7 @@ fn next_down(known: &Known, proof: &Proof, i: usize, j: usize) -> Option<Down>
         });
     }
     let over = known.wire_at(j);
-    match foot_down(known, proof, j, i) {
+    match foot_down(known, facts, j, i) {
         Some(foot) => Some(Down {
             left: false,
             foot,
@@ -81,11 +81,11 @@ fn next_down(known: &Known, proof: &Proof, i: usize, j: usize) -> Option<Down>
 }
 
 // The places after a step.
-fn places_after(known: &Known, proof: &Proof, i: usize, j: usize, down: Down) -> (usize, usize)
-    requires known { IsKnown proof.now known.now }
+fn places_after(known: &Known, facts: &Facts, i: usize, j: usize, down: Down) -> (usize, usize)
+    requires known { IsKnown facts.now known.now }
     requires two { AreTwo known.now.steps i j }
-    requires down { StepsAlong proof.now known.now.steps i j down }
-    ensures goes { Goes proof.now known.now.steps down i j result.0 result.1 }
+    requires down { StepsAlong facts.now known.now.steps i j down }
+    ensures goes { Goes facts.now known.now.steps down i j result.0 result.1 }
     ensures two { AreTwo known.now.steps result.0 result.1 }
     ensures less { result.0 + result.1 < i + j }
 {
@@ -94,38 +94,38 @@ fn places_after(known: &Known, proof: &Proof, i: usize, j: usize, down: Down) ->
 }
 
 // The pin at a place.
-fn pin_at(known: &Known, proof: &Proof, i: usize) -> u32
-    requires known { IsKnown proof.now known.now }
+fn pin_at(known: &Known, facts: &Facts, i: usize) -> u32
+    requires known { IsKnown facts.now known.now }
     requires within { i < length known.now.steps }
     requires pin { IsPinHere known.now.steps i }
-    ensures { IsPinAt proof.now known.now.steps i result }
+    ensures { IsPinAt facts.now known.now.steps i result }
 {
     match known.step_at(i).stand {
-        Stand::Pin(pin) => pin,
-        Stand::Feet(..) => 0,
+        SupportedBy::Pin(pin) => pin,
+        SupportedBy::Feet(..) => 0,
     }
 }
 
 /// Steps down from the wires at two places to two pins.
 pub(crate) fn descend(
     known: &Known,
-    proof: &Proof,
+    facts: &Facts,
     from: usize,
     other: usize,
 ) -> Result<Descent, AllocError>
-    requires known { IsKnown proof.now known.now }
+    requires known { IsKnown facts.now known.now }
     requires two { AreTwo known.now.steps from other }
-    ensures { IfOk result (λ d. DescendsTo proof.now known.now.steps from other d.downs.items d.left d.right) }
+    ensures { IfOk result (λ d. DescendsTo facts.now known.now.steps from other d.downs.items d.left d.right) }
 {
     let mut downs = Vec::new(known.alloc());
     let (mut i, mut j) = (from, other);
-    'down: while let Some(down) = next_down(known, proof, i, j) {
+    'down: while let Some(down) = next_down(known, facts, i, j) {
         downs.push(down)?;
-        (i, j) = places_after(known, proof, i, j, down);
+        (i, j) = places_after(known, facts, i, j, down);
     }
     Ok(Descent {
         downs,
-        left: pin_at(known, proof, i),
-        right: pin_at(known, proof, j),
+        left: pin_at(known, facts, i),
+        right: pin_at(known, facts, j),
     })
 }

@@ -15,7 +15,7 @@ use crate::Known;
 use crate::marks::Marks;
 use crate::offers::{Hanging, Offer, hung_beside, pulled};
 use crate::toggles::laid;
-use diag_evidence::Proof;
+use diag_evidence::Facts;
 use diag_tests::Route;
 use rig::{Rig, RigFail};
 
@@ -23,29 +23,29 @@ use rig::{Rig, RigFail};
 fn toggle_hung(
     known: &Known,
     rig: &mut Box<dyn Rig>,
-    proof: &mut Proof,
+    facts: &mut Facts,
     offer: &Offer,
     way: &Route,
     hung: &Hanging,
 ) -> Result<bool, RigFail>
-    requires attached { shape_of (rig_state rig.old) ≡ Some proof.old.shape }
-    requires known { IsKnown proof.old known.now }
-    requires offer { IsOffer proof.old.shape known.now.steps offer.now }
-    requires way { IsWay proof.old known.now.steps offer.now.foot.wire.0 way.now }
-    requires hung { IsHanging proof.old known.now.steps offer.now way.now hung.now.walks.items (cross_numbers hung.now.ties.items) }
-    ensures kept { IfOk result (λ yes. IsTrue yes → keeps_cross proof.new offer.now.foot.cross.0 ≡ true) }
+    requires attached { shape_of (rig_state rig.old) ≡ Some facts.old.shape }
+    requires known { IsKnown facts.old known.now }
+    requires offer { IsOffer facts.old.shape known.now.steps offer.now }
+    requires way { IsWay facts.old known.now.steps offer.now.foot.wire.0 way.now }
+    requires hung { IsHanging facts.old known.now.steps offer.now way.now hung.now.walks.items (cross_numbers hung.now.ties.items) }
+    ensures kept { IfOk result (λ yes. IsTrue yes → keeps_cross facts.new offer.now.foot.cross.0 ≡ true) }
     ensures lost { IfOk result (λ yes. yes ≡ false →
-        HasNoneBeside (rig_state rig.old).machine.faults proof.new known.now.steps offer.now way.now) }
-    ensures faulty { IfOk result (λ yes. yes ≡ false → IsFaulty (rig_state rig.old).machine.faults proof.old) }
-    ensures advances { Advances (rig_state rig.old) (rig_state rig.new) proof.old proof.new }
+        HasNoneBeside (rig_state rig.old).machine.faults facts.new known.now.steps offer.now way.now) }
+    ensures faulty { IfOk result (λ yes. yes ≡ false → IsFaulty (rig_state rig.old).machine.faults facts.old) }
+    ensures advances { Advances (rig_state rig.old) (rig_state rig.new) facts.old facts.new }
     ensures loads { (rig_state rig.new).loads ≤ (rig_state rig.old).loads + 2 }
     ensures cause { IsErrOf result RigFail.Failed → Rose (rig_state rig.old).failures (rig_state rig.new).failures }
 {
-    let mut config = laid(proof, way, way, &hung.ties)?;
-    let drive = pulled(proof, &hung.walks)?;
-    let answer = proof.toggle_cross(rig, &mut config, offer.foot.cross, &drive, way.pin());
-    proof.give_back(config);
-    proof.give_back_drive(drive);
+    let mut config = laid(facts, way, way, &hung.ties)?;
+    let drive = pulled(facts, &hung.walks)?;
+    let answer = facts.toggle_cross(rig, &mut config, offer.foot.cross, &drive, way.pin());
+    facts.give_back(config);
+    facts.give_back_drive(drive);
     answer
 }
 
@@ -54,35 +54,35 @@ fn toggle_hung(
 fn hang(
     known: &Known,
     rig: &mut Box<dyn Rig>,
-    proof: &mut Proof,
+    facts: &mut Facts,
     marks: &mut Marks,
     offer: &Offer,
     way: &Route,
 ) -> Result<bool, RigFail>
-    requires attached { shape_of (rig_state rig.old) ≡ Some proof.old.shape }
-    requires known { IsKnown proof.old known.now }
-    requires offer { IsOffer proof.old.shape known.now.steps offer.now }
-    requires way { IsWay proof.old known.now.steps offer.now.foot.wire.0 way.now }
-    requires marks { AreMarks (rig_state rig.old).machine.faults proof.old known.now.steps marks.old }
-    ensures kept { IfOk result (λ yes. IsTrue yes → keeps_cross proof.new offer.now.foot.cross.0 ≡ true) }
+    requires attached { shape_of (rig_state rig.old) ≡ Some facts.old.shape }
+    requires known { IsKnown facts.old known.now }
+    requires offer { IsOffer facts.old.shape known.now.steps offer.now }
+    requires way { IsWay facts.old known.now.steps offer.now.foot.wire.0 way.now }
+    requires marks { AreMarks (rig_state rig.old).machine.faults facts.old known.now.steps marks.old }
+    ensures kept { IfOk result (λ yes. IsTrue yes → keeps_cross facts.new offer.now.foot.cross.0 ≡ true) }
     ensures lost { IfOk result (λ yes. yes ≡ false →
-        HasNoneBeside (rig_state rig.old).machine.faults proof.new known.now.steps offer.now way.now) }
-    ensures marks { OnOk result (AreMarks (rig_state rig.old).machine.faults proof.new known.now.steps marks.new) }
-    ensures offers { OffersAtMost proof.old offer.now.foot.cross.0 marks.old marks.new (rig_state rig.old).loads (rig_state rig.new).loads }
-    ensures advances { Advances (rig_state rig.old) (rig_state rig.new) proof.old proof.new }
+        HasNoneBeside (rig_state rig.old).machine.faults facts.new known.now.steps offer.now way.now) }
+    ensures marks { OnOk result (AreMarks (rig_state rig.old).machine.faults facts.new known.now.steps marks.new) }
+    ensures offers { OffersAtMost facts.old offer.now.foot.cross.0 marks.old marks.new (rig_state rig.old).loads (rig_state rig.new).loads }
+    ensures advances { Advances (rig_state rig.old) (rig_state rig.new) facts.old facts.new }
     ensures cause { IsErrOf result RigFail.Failed → Rose (rig_state rig.old).failures (rig_state rig.new).failures }
 {
-    if proof.keeps_cross(offer.foot.cross) {
+    if facts.keeps_cross(offer.foot.cross) {
         return Ok(true);
     }
-    let Ok(found) = hung_beside(known, proof, offer, way) else {
+    let Ok(found) = hung_beside(known, facts, offer, way) else {
         return Err(RigFail::Memory);
     };
     let Some(hung) = found else {
         return Ok(false);
     };
     marks.offer(offer.foot.cross);
-    toggle_hung(known, rig, proof, offer, way, &hung)
+    toggle_hung(known, rig, facts, offer, way, &hung)
 }
 
 /// Toggles the crosspoint of an offer beside the one way to its known end, and then beside the other. True exactly where
@@ -94,29 +94,29 @@ fn hang(
 pub fn toggle_first(
     known: &Known,
     rig: &mut Box<dyn Rig>,
-    proof: &mut Proof,
+    facts: &mut Facts,
     marks: &mut Marks,
     offer: &Offer,
 ) -> Result<bool, RigFail>
-    requires attached { shape_of (rig_state rig.old) ≡ Some proof.old.shape }
-    requires known { IsKnown proof.old known.now }
-    requires offer { IsOffer proof.old.shape known.now.steps offer.now }
-    requires marks { AreMarks (rig_state rig.old).machine.faults proof.old known.now.steps marks.old }
+    requires attached { shape_of (rig_state rig.old) ≡ Some facts.old.shape }
+    requires known { IsKnown facts.old known.now }
+    requires offer { IsOffer facts.old.shape known.now.steps offer.now }
+    requires marks { AreMarks (rig_state rig.old).machine.faults facts.old known.now.steps marks.old }
     requires first { has_number marks.old.offered offer.now.foot.cross.0 ≡ false }
-    ensures kept { IfOk result (λ yes. IsTrue yes → keeps_cross proof.new offer.now.foot.cross.0 ≡ true) }
-    ensures lost { IfOk result (λ yes. yes ≡ false → HasNoSecond (rig_state rig.old).machine.faults proof.new known.now.steps offer.now) }
-    ensures marks { OnOk result (AreMarks (rig_state rig.old).machine.faults proof.new known.now.steps marks.new) }
-    ensures spends { SpendsOn (rig_state rig.old).machine.faults proof.old offer.now marks.old marks.new (rig_state rig.old).loads
+    ensures kept { IfOk result (λ yes. IsTrue yes → keeps_cross facts.new offer.now.foot.cross.0 ≡ true) }
+    ensures lost { IfOk result (λ yes. yes ≡ false → HasNoSecond (rig_state rig.old).machine.faults facts.new known.now.steps offer.now) }
+    ensures marks { OnOk result (AreMarks (rig_state rig.old).machine.faults facts.new known.now.steps marks.new) }
+    ensures spends { SpendsOn (rig_state rig.old).machine.faults facts.old offer.now marks.old marks.new (rig_state rig.old).loads
         (rig_state rig.new).loads }
-    ensures advances { Advances (rig_state rig.old) (rig_state rig.new) proof.old proof.new }
+    ensures advances { Advances (rig_state rig.old) (rig_state rig.new) facts.old facts.new }
     ensures cause { IsErrOf result RigFail.Failed → Rose (rig_state rig.old).failures (rig_state rig.new).failures }
 {
-    let Ok((left, right)) = known.ways_to(proof, offer.foot.wire) else {
+    let Ok((left, right)) = known.ways_to(facts, offer.foot.wire) else {
         return Err(RigFail::Memory);
     };
-    let kept = hang(known, rig, proof, marks, offer, &left)?;
+    let kept = hang(known, rig, facts, marks, offer, &left)?;
     if kept {
         return Ok(true);
     }
-    hang(known, rig, proof, marks, offer, &right)
+    hang(known, rig, facts, marks, offer, &right)
 }

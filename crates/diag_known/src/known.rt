@@ -4,7 +4,7 @@ ghost use Rattle.std.specs.Prelude.{slice_get, Some, None};
 ghost use Rattle.machine_shape.specs.Shape.{wires_of};
 ghost use Rattle.diag_known.specs.Known.{IsAt, HasWire};
 
-use crate::step::Step;
+use crate::verified_wire::VerifiedWire;
 use machine_shape::{Shape, Wire};
 use std::alloc::{AllocError, Global};
 use std::marker::Model;
@@ -14,7 +14,7 @@ use std::marker::Model;
 pub struct Known {
     alloc: Global,
     shape: Shape,
-    steps: Vec<Step>,
+    steps: Vec<VerifiedWire>,
     ranks: Vec<Option<usize>>,
 }
 
@@ -74,7 +74,7 @@ impl Known {
     }
 
     /// The known wire at a place, with what it stands on.
-    pub fn step_at(&self, place: usize) -> Step
+    pub fn step_at(&self, place: usize) -> VerifiedWire
         requires { place < length self.now.steps }
         ensures { slice_get self.now.steps place ≡ Some result }
     {
@@ -117,7 +117,7 @@ impl Known {
     }
 
     /// A further wire is known. Wants memory; where that is wanting, nothing is learnt.
-    pub fn learn(&mut self, step: Step) -> Result<(), AllocError>
+    pub fn learn(&mut self, step: VerifiedWire) -> Result<(), AllocError>
         requires wire { step.wire.0 < wires_of self.old.shape }
         requires new { ¬ HasWire self.old.steps step.wire.0 }
         ensures shape { self.new.shape ≡ self.old.shape }

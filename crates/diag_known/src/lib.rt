@@ -26,9 +26,9 @@ mod marks;
 mod offers;
 mod routes;
 mod stands;
-mod step;
 mod toggles;
 mod tour;
+mod verified_wire;
 mod ways;
 
 pub use beside::{Reach, find_reached};
@@ -40,6 +40,6 @@ pub use links::{Near, link_at, link_count, links_of};
 pub use marks::Marks;
 pub use offers::{Hanging, Offer, put_walks};
 pub use stands::{all_links, stand_on, standing};
-pub use step::{Foot, Stand, Step};
 pub use toggles::{driven, laid, toggle_known, toggle_over};
 pub use tour::walks;
+pub use verified_wire::{Support, SupportedBy, VerifiedWire};

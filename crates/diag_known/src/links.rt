@@ -5,14 +5,14 @@ ghost use Rattle.diag_known.specs.Field.{IsFieldOf};
 ghost use Rattle.diag_known.specs.Linked.{AddsLink, AreLinks, AreLinksUpTo, list_at};
 
 use crate::field::Field;
-use crate::step::Foot;
+use crate::verified_wire::Support;
 use machine_shape::{Cross, Shape, Wire};
 use std::alloc::{AllocError, Global};
 
 /// The links of one wire.
 #[derive(Drop)]
 pub struct Near {
-    pub links: Vec<Foot>,
+    pub links: Vec<Support>,
 }
 
 // No links, for each wire.
@@ -31,7 +31,7 @@ fn no_links(alloc: Global, wires: u32) -> Result<Vec<Near>, AllocError>
 }
 
 // Adds a link of a wire.
-fn add_link(near: &mut Vec<Near>, w: Wire, link: Foot) -> Result<(), AllocError>
+fn add_link(near: &mut Vec<Near>, w: Wire, link: Support) -> Result<(), AllocError>
     requires { w.0 < length near.old.items }
     ensures len { OnOk result (length near.new.items ≡ length near.old.items) }
     ensures adds { OnOk result (AddsLink near.old.items near.new.items w.0 link) }
@@ -53,11 +53,11 @@ fn add_cross(near: &mut Vec<Near>, shape: &Shape, field: &Field, c: Cross) -> Re
         return Ok(());
     }
     let (tap, line) = shape.ends(c);
-    let up = Foot {
+    let up = Support {
         cross: c,
         wire: tap,
     };
-    let down = Foot {
+    let down = Support {
         cross: c,
         wire: line,
     };
@@ -89,7 +89,7 @@ pub fn link_count(near: &Vec<Near>, w: Wire) -> usize
 }
 
 /// A link of a wire.
-pub fn link_at(near: &Vec<Near>, w: Wire, j: usize) -> Option<Foot>
+pub fn link_at(near: &Vec<Near>, w: Wire, j: usize) -> Option<Support>
     ensures { result ≡ slice_get (list_at near.now.items w.0) j }
 {
     match near.get(w.0 as usize) {

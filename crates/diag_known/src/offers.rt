@@ -5,12 +5,12 @@ ghost use Rattle.diag_tests.specs.Routes.{IsRoute, Walk, cross_numbers};
 ghost use Rattle.diag_known.specs.Known.{IsKnown};
 ghost use Rattle.diag_known.specs.Offers.{Adds, InSome, IsOn, IsHung, IsHanging, HangsOnSome, HangsOnNone, HangsNot, ArePulled};
 ghost use Rattle.diag_known.specs.Reaches.{IsReached};
-ghost use Rattle.diag_known.specs.declared.step.Foot.{Foot};
+ghost use Rattle.diag_known.specs.declared.verified_wire.Support.{Support};
 
 use crate::beside::{Reach, find_reached, reach_at};
 use crate::tour::walks;
-use crate::{Foot, Known};
-use diag_evidence::Proof;
+use crate::{Known, Support};
+use diag_evidence::Facts;
 use diag_tests::Route;
 use machine_shape::{Cross, Wire};
 use rig::{PinBits, RigFail};
@@ -20,8 +20,8 @@ use std::alloc::{AllocError, Global};
 #[derive(Drop)]
 pub struct Offer {
     pub wire: Wire,
-    pub foot: Foot,
-    pub others: Vec<Foot>,
+    pub foot: Support,
+    pub others: Vec<Support>,
 }
 
 /// On what a wire hangs beside a way: walks from pins, and the crosspoints that are closed for it.
@@ -63,7 +63,7 @@ pub(crate) fn is_reached(reaches: &Vec<Reach>, w: Wire) -> bool
 }
 
 // Puts the crosspoint of a link, if its known end is reached.
-fn put_link(ties: &mut Vec<Cross>, reaches: &Vec<Reach>, link: Foot) -> Result<(), AllocError>
+fn put_link(ties: &mut Vec<Cross>, reaches: &Vec<Reach>, link: Support) -> Result<(), AllocError>
     ensures { OnOk result (Adds (IsHung reaches.now.items link) (cross_numbers ties.old.items) (cross_numbers ties.new.items)) }
 {
     if !is_reached(reaches, link.wire) {
@@ -74,7 +74,11 @@ fn put_link(ties: &mut Vec<Cross>, reaches: &Vec<Reach>, link: Foot) -> Result<(
 }
 
 // Puts the crosspoints of those links whose known ends are reached.
-fn put_links(ties: &mut Vec<Cross>, reaches: &Vec<Reach>, links: &[Foot]) -> Result<(), AllocError>
+fn put_links(
+    ties: &mut Vec<Cross>,
+    reaches: &Vec<Reach>,
+    links: &[Support],
+) -> Result<(), AllocError>
     ensures { OnOk result (Adds (InSome links.now (IsHung reaches.now.items)) (cross_numbers ties.old.items)
         (cross_numbers ties.new.items)) }
 {
@@ -85,8 +89,8 @@ fn put_links(ties: &mut Vec<Cross>, reaches: &Vec<Reach>, links: &[Foot]) -> Res
 }
 
 // The known ends of links.
-fn known_ends(alloc: Global, links: &[Foot]) -> Result<Vec<Wire>, AllocError>
-    ensures { IfOk result (λ ends. (j : ℕ) (a : Foot) → slice_get links.now j ≡ Some a → slice_get ends.items j ≡ Some a.wire) }
+fn known_ends(alloc: Global, links: &[Support]) -> Result<Vec<Wire>, AllocError>
+    ensures { IfOk result (λ ends. (j : ℕ) (a : Support) → slice_get links.now j ≡ Some a → slice_get ends.items j ≡ Some a.wire) }
 {
     let mut ends = Vec::new(alloc);
     'links: for k in 0..links.len() {
@@ -96,7 +100,7 @@ fn known_ends(alloc: Global, links: &[Foot]) -> Result<Vec<Wire>, AllocError>
 }
 
 // Whether the known end of one of the links is reached.
-fn is_hung(reaches: &Vec<Reach>, links: &[Foot]) -> bool
+fn is_hung(reaches: &Vec<Reach>, links: &[Support]) -> bool
     ensures some { IsTrue result → HangsOnSome reaches.now.items links.now }
     ensures none { result ≡ false → HangsOnNone reaches.now.items links.now }
 {
@@ -111,23 +115,23 @@ fn is_hung(reaches: &Vec<Reach>, links: &[Foot]) -> bool
 /// On what the wire of an offer hangs beside a way: none where nothing is reached there.
 pub(crate) fn hung_beside(
     known: &Known,
-    proof: &Proof,
+    facts: &Facts,
     offer: &Offer,
     way: &Route,
 ) -> Result<Option<Hanging>, AllocError>
-    requires known { IsKnown proof.now known.now }
-    requires way { IsRoute proof.now.shape way.now }
+    requires known { IsKnown facts.now known.now }
+    requires way { IsRoute facts.now.shape way.now }
     ensures hung { IfOk result (λ found. IfSome found
-        (λ h. IsHanging proof.now known.now.steps offer.now way.now h.walks.items (cross_numbers h.ties.items))) }
+        (λ h. IsHanging facts.now known.now.steps offer.now way.now h.walks.items (cross_numbers h.ties.items))) }
     ensures none { IfOk result (λ found. IfNone found (HangsNot known.now.steps offer.now way.now)) }
 {
     let mut reaches = Vec::new(known.alloc());
-    find_reached(known, proof, way, &mut reaches)?;
+    find_reached(known, facts, way, &mut reaches)?;
     if !is_hung(&reaches, &offer.others) {
         return Ok(None);
     }
     let ends = known_ends(known.alloc(), &offer.others)?;
-    let walks = walks(known, proof, &reaches, &ends)?;
+    let walks = walks(known, facts, &reaches, &ends)?;
     let mut ties = Vec::new(known.alloc());
     ties.push(offer.foot.cross)?;
     put_walks(&mut ties, &walks)?;
@@ -136,14 +140,14 @@ pub(crate) fn hung_beside(
 }
 
 /// The pins of these routes, and no others, are driven 0.
-pub(crate) fn pulled(proof: &mut Proof, routes: &[Route]) -> Result<PinBits, RigFail>
-    requires { (j : ℕ) (r : Walk) → slice_get routes.now j ≡ Some r → r.pin < pins_of proof.old.shape }
+pub(crate) fn pulled(facts: &mut Facts, routes: &[Route]) -> Result<PinBits, RigFail>
+    requires { (j : ℕ) (r : Walk) → slice_get routes.now j ≡ Some r → r.pin < pins_of facts.old.shape }
     ensures pulled { IfOk result (ArePulled routes.now) }
-    ensures length { IfOk result (λ drive. length drive ≡ pins_of proof.old.shape) }
+    ensures length { IfOk result (λ drive. length drive ≡ pins_of facts.old.shape) }
     ensures memory { IsErrOf result RigFail.Failed → ⊥ }
-    ensures same { proof.new ≡ proof.old }
+    ensures same { facts.new ≡ facts.old }
 {
-    let Ok(mut drive) = proof.released() else {
+    let Ok(mut drive) = facts.released() else {
         return Err(RigFail::Memory);
     };
     'routes: for k in 0..routes.len() {

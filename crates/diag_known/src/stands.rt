@@ -10,14 +10,14 @@ ghost use Rattle.diag_known.specs.Grounds.{AreAllLinks, AreSettled, Founds, IsBe
 use crate::field::Field;
 use crate::known::Known;
 use crate::links::{Near, link_at, link_count, links_of};
-use crate::step::{Foot, Stand, Step};
+use crate::verified_wire::{Support, SupportedBy, VerifiedWire};
 use base_bits::BitSet;
-use diag_evidence::Proof;
+use diag_evidence::Facts;
 use machine_shape::{Shape, Wire, the_numbering_is_sound};
 use std::alloc::{AllocError, Global};
 
 // No foot, for each wire.
-fn no_feet(alloc: Global, wires: u32) -> Result<Vec<Option<Foot>>, AllocError>
+fn no_feet(alloc: Global, wires: u32) -> Result<Vec<Option<Support>>, AllocError>
     ensures { IfOk result (λ feet. feet.items ≡ replicate wires None) }
 {
     let mut feet = Vec::new(alloc);
@@ -29,23 +29,23 @@ fn no_feet(alloc: Global, wires: u32) -> Result<Vec<Option<Foot>>, AllocError>
 fn take_pin(
     known: &mut Known,
     left: &mut BitSet,
-    feet: &Vec<Option<Foot>>,
-    proof: &Proof,
+    feet: &Vec<Option<Support>>,
+    facts: &Facts,
     pin: u32,
 ) -> Result<(), AllocError>
-    requires ground { IsGround proof.now known.old left.old feet.now.items }
-    requires pin { pin < pins_of proof.now.shape }
-    ensures ground { OnOk result (IsGround proof.now known.new left.new feet.now.items) }
+    requires ground { IsGround facts.now known.old left.old feet.now.items }
+    requires pin { pin < pins_of facts.now.shape }
+    ensures ground { OnOk result (IsGround facts.now known.new left.new feet.now.items) }
     ensures founds { OnOk result (Founds known.old known.new left.old left.new feet.now.items feet.now.items) }
-    ensures taken { OnOk result (has_number left.new (pin_wire proof.now.shape pin) ≡ false) }
+    ensures taken { OnOk result (has_number left.new (pin_wire facts.now.shape pin) ≡ false) }
 {
-    let wire = proof.shape().pin(pin);
+    let wire = facts.shape().pin(pin);
     if !left.has(wire.0) {
         return Ok(());
     }
-    known.learn(Step {
+    known.learn(VerifiedWire {
         wire,
-        stand: Stand::Pin(pin),
+        stand: SupportedBy::Pin(pin),
     })?;
     left.remove(wire.0);
     Ok(())
@@ -55,16 +55,16 @@ fn take_pin(
 fn take_pins(
     known: &mut Known,
     left: &mut BitSet,
-    feet: &Vec<Option<Foot>>,
-    proof: &Proof,
+    feet: &Vec<Option<Support>>,
+    facts: &Facts,
 ) -> Result<(), AllocError>
-    requires ground { IsGround proof.now known.old left.old feet.now.items }
-    ensures ground { OnOk result (IsGround proof.now known.new left.new feet.now.items) }
+    requires ground { IsGround facts.now known.old left.old feet.now.items }
+    ensures ground { OnOk result (IsGround facts.now known.new left.new feet.now.items) }
     ensures founds { OnOk result (Founds known.old known.new left.old left.new feet.now.items feet.now.items) }
-    ensures taken { OnOk result ((i : ℕ) → i < pins_of proof.now.shape → has_number left.new (pin_wire proof.now.shape i) ≡ false) }
+    ensures taken { OnOk result ((i : ℕ) → i < pins_of facts.now.shape → has_number left.new (pin_wire facts.now.shape i) ≡ false) }
 {
-    'pins: for pin in 0..proof.shape().pins() {
-        take_pin(known, left, feet, proof, pin)?;
+    'pins: for pin in 0..facts.shape().pins() {
+        take_pin(known, left, feet, facts, pin)?;
     }
     Ok(())
 }
@@ -74,27 +74,27 @@ fn take_pins(
 fn take_link(
     known: &mut Known,
     left: &mut BitSet,
-    feet: &mut Vec<Option<Foot>>,
-    proof: &Proof,
+    feet: &mut Vec<Option<Support>>,
+    facts: &Facts,
     from: Wire,
-    link: Foot,
+    link: Support,
 ) -> Result<(), AllocError>
-    requires ground { IsGround proof.now known.old left.old feet.old.items }
+    requires ground { IsGround facts.now known.old left.old feet.old.items }
     requires from { HasWire known.old.steps from.0 }
-    requires link { IsBetween proof.now.shape link.cross.0 link.wire.0 from.0 }
-    requires wire { link.wire.0 < wires_of proof.now.shape }
-    ensures ground { OnOk result (IsGround proof.now known.new left.new feet.new.items) }
+    requires link { IsBetween facts.now.shape link.cross.0 link.wire.0 from.0 }
+    requires wire { link.wire.0 < wires_of facts.now.shape }
+    ensures ground { OnOk result (IsGround facts.now known.new left.new feet.new.items) }
     ensures founds { OnOk result (Founds known.old known.new left.old left.new feet.old.items feet.new.items) }
-    ensures settled { OnOk result (keeps_cross proof.now link.cross.0 ≡ true → IsSettled left.new feet.new.items link.wire.0 from.0) }
+    ensures settled { OnOk result (keeps_cross facts.now link.cross.0 ≡ true → IsSettled left.new feet.new.items link.wire.0 from.0) }
 {
     let wire = link.wire;
     if !left.has(wire.0) {
         return Ok(());
     }
-    if !proof.keeps_cross(link.cross) {
+    if !facts.keeps_cross(link.cross) {
         return Ok(());
     }
-    let foot = Foot {
+    let foot = Support {
         cross: link.cross,
         wire: from,
     };
@@ -105,9 +105,9 @@ fn take_link(
     if first.wire == from {
         return Ok(());
     }
-    known.learn(Step {
+    known.learn(VerifiedWire {
         wire,
-        stand: Stand::Feet(first, foot),
+        stand: SupportedBy::Feet(first, foot),
     })?;
     left.remove(wire.0);
     Ok(())
@@ -117,18 +117,18 @@ fn take_link(
 fn look_from(
     known: &mut Known,
     left: &mut BitSet,
-    feet: &mut Vec<Option<Foot>>,
-    proof: &Proof,
+    feet: &mut Vec<Option<Support>>,
+    facts: &Facts,
     near: &Vec<Near>,
     place: usize,
 ) -> Result<(), AllocError>
-    requires ground { IsGround proof.now known.old left.old feet.old.items }
+    requires ground { IsGround facts.now known.old left.old feet.old.items }
     requires place { place < length known.old.steps }
-    requires links { AreAllLinks proof.now.shape near.now.items }
-    requires settled { AreSettled proof.now near.now.items known.old left.old feet.old.items place }
-    ensures ground { OnOk result (IsGround proof.now known.new left.new feet.new.items) }
+    requires links { AreAllLinks facts.now.shape near.now.items }
+    requires settled { AreSettled facts.now near.now.items known.old left.old feet.old.items place }
+    ensures ground { OnOk result (IsGround facts.now known.new left.new feet.new.items) }
     ensures founds { OnOk result (Founds known.old known.new left.old left.new feet.old.items feet.new.items) }
-    ensures settled { OnOk result (AreSettled proof.now near.now.items known.new left.new feet.new.items (place + 1)) }
+    ensures settled { OnOk result (AreSettled facts.now near.now.items known.new left.new feet.new.items (place + 1)) }
 {
     the_numbering_is_sound();
     let from = known.wire_at(place);
@@ -136,7 +136,7 @@ fn look_from(
         let Some(link) = link_at(near, from, j) else {
             continue;
         };
-        take_link(known, left, feet, proof, from, link)?;
+        take_link(known, left, feet, facts, from, link)?;
     }
     Ok(())
 }
@@ -145,19 +145,19 @@ fn look_from(
 fn look_from_all(
     known: &mut Known,
     left: &mut BitSet,
-    feet: &mut Vec<Option<Foot>>,
-    proof: &Proof,
+    feet: &mut Vec<Option<Support>>,
+    facts: &Facts,
     near: &Vec<Near>,
 ) -> Result<(), AllocError>
-    requires ground { IsGround proof.now known.old left.old feet.old.items }
-    requires links { AreAllLinks proof.now.shape near.now.items }
-    ensures ground { OnOk result (IsGround proof.now known.new left.new feet.new.items) }
+    requires ground { IsGround facts.now known.old left.old feet.old.items }
+    requires links { AreAllLinks facts.now.shape near.now.items }
+    ensures ground { OnOk result (IsGround facts.now known.new left.new feet.new.items) }
     ensures founds { OnOk result (Founds known.old known.new left.old left.new feet.old.items feet.new.items) }
-    ensures settled { OnOk result (AreSettled proof.now near.now.items known.new left.new feet.new.items (length known.new.steps)) }
+    ensures settled { OnOk result (AreSettled facts.now near.now.items known.new left.new feet.new.items (length known.new.steps)) }
 {
     let mut place = 0;
     'places: while place < known.len() {
-        look_from(known, left, feet, proof, near, place)?;
+        look_from(known, left, feet, facts, near, place)?;
         place += 1;
     }
     Ok(())
@@ -174,35 +174,35 @@ pub fn all_links(alloc: Global, shape: &Shape) -> Result<Vec<Near>, AllocError>
 /// Those of some wires that stand by kept crosspoints alone, over the links of the machine.
 pub fn stand_on(
     alloc: Global,
-    proof: &Proof,
+    facts: &Facts,
     wires: BitSet,
     near: &Vec<Near>,
 ) -> Result<Known, AllocError>
-    requires apart { AreApart proof.now wires }
-    requires links { AreAllLinks proof.now.shape near.now.items }
-    ensures known { IfOk result (IsKnown proof.now) }
+    requires apart { AreApart facts.now wires }
+    requires links { AreAllLinks facts.now.shape near.now.items }
+    ensures known { IfOk result (IsKnown facts.now) }
     ensures within { IfOk result (λ known. (w : ℕ) → HasWire known.steps w → InSet wires w) }
-    ensures whole { IfOk result (λ known. (w : ℕ) → StandsBy proof.now.shape (InSet wires) (IsKeptCrossOf proof.now) w
+    ensures whole { IfOk result (λ known. (w : ℕ) → StandsBy facts.now.shape (InSet wires) (IsKeptCrossOf facts.now) w
         → HasWire known.steps w) }
 {
-    let shape = proof.shape();
+    let shape = facts.shape();
     let mut left = wires;
     let mut known = Known::new(alloc, &shape)?;
     let mut feet = no_feet(alloc, shape.wires())?;
-    take_pins(&mut known, &mut left, &feet, proof)?;
-    look_from_all(&mut known, &mut left, &mut feet, proof, near)?;
+    take_pins(&mut known, &mut left, &feet, facts)?;
+    look_from_all(&mut known, &mut left, &mut feet, facts, near)?;
     Ok(known)
 }
 
 /// Those of some wires that stand by kept crosspoints alone: the pins of the machine, and each with two such crosspoints to
 /// different ones that stand. The wires are kept, and each two of them kept apart. Wants memory, and makes no load.
-pub fn standing(alloc: Global, proof: &Proof, wires: BitSet) -> Result<Known, AllocError>
-    requires apart { AreApart proof.now wires }
-    ensures known { IfOk result (IsKnown proof.now) }
+pub fn standing(alloc: Global, facts: &Facts, wires: BitSet) -> Result<Known, AllocError>
+    requires apart { AreApart facts.now wires }
+    ensures known { IfOk result (IsKnown facts.now) }
     ensures within { IfOk result (λ known. (w : ℕ) → HasWire known.steps w → InSet wires w) }
-    ensures whole { IfOk result (λ known. (w : ℕ) → StandsBy proof.now.shape (InSet wires) (IsKeptCrossOf proof.now) w
+    ensures whole { IfOk result (λ known. (w : ℕ) → StandsBy facts.now.shape (InSet wires) (IsKeptCrossOf facts.now) w
         → HasWire known.steps w) }
 {
-    let near = all_links(alloc, &proof.shape())?;
-    stand_on(alloc, proof, wires, &near)
+    let near = all_links(alloc, &facts.shape())?;
+    stand_on(alloc, facts, wires, &near)
 }

@@ -8,11 +8,11 @@ ghost use Rattle.diag_known.specs.Known.{IsKnown};
 ghost use Rattle.diag_known.specs.Descents.{Stays};
 ghost use Rattle.diag_known.specs.Reaches.{AreBefore, AreTreeWalks, AreTrees, AreWalks, GoesBelow, GoesOn, GoesTo, Hangs, HangsAlong, HangsAt};
 ghost use Rattle.diag_known.specs.Reaches.{HangsOn, IsFrom, IsFromAt, IsOnWalk, IsTreeWalk, Leads, StayOn, upper_of};
-ghost use Rattle.diag_known.specs.declared.step.Stand.TheVariants as stand;
+ghost use Rattle.diag_known.specs.declared.verified_wire.SupportedBy.TheVariants as stand;
 
 use crate::beside::{Reach, reach_at};
-use crate::{Down, Foot, Known, Stand};
-use diag_evidence::Proof;
+use crate::{Down, Known, Support, SupportedBy};
+use diag_evidence::Facts;
 use diag_tests::{Route, route_at};
 use machine_shape::{Shape, Wire};
 use std::alloc::AllocError;
@@ -29,7 +29,7 @@ fn is_from(reaches: &Vec<Reach>, pin: u32, w: Wire) -> bool
 }
 
 // The first of two feet, if it is reached from the pin.
-fn foot_from(reaches: &Vec<Reach>, pin: u32, first: Foot, second: Foot) -> Foot
+fn foot_from(reaches: &Vec<Reach>, pin: u32, first: Support, second: Support) -> Support
     requires { HangsOn reaches.now.items pin (stand.Feet first second) }
     ensures which { (result ≡ first) ⊎ (result ≡ second) }
     ensures from { IsFrom reaches.now.items pin result.wire.0 }
@@ -45,22 +45,22 @@ fn foot_from(reaches: &Vec<Reach>, pin: u32, first: Foot, second: Foot) -> Foot
 // is no pin.
 fn foot_below(
     known: &Known,
-    proof: &Proof,
+    facts: &Facts,
     reaches: &Vec<Reach>,
     pin: u32,
     i: usize,
     j: usize,
-) -> Option<Foot>
-    requires known { IsKnown proof.now known.now }
+) -> Option<Support>
+    requires known { IsKnown facts.now known.now }
     requires trees { AreTrees known.now.steps reaches.now.items }
     requires left { IsFromAt known.now.steps reaches.now.items pin i }
     requires right { IsFromAt known.now.steps reaches.now.items pin j }
-    ensures hangs { IfSome result (HangsAt proof.now known.now.steps reaches.now.items pin i) }
+    ensures hangs { IfSome result (HangsAt facts.now known.now.steps reaches.now.items pin i) }
     ensures stays { IfNone result (Stays known.now.steps i j) }
 {
     let step = known.step_at(i);
     let other = known.step_at(j);
-    let Stand::Feet(first, second) = step.stand else {
+    let SupportedBy::Feet(first, second) = step.stand else {
         return None;
     };
     if i < j && !other.is_pin() {
@@ -72,23 +72,23 @@ fn foot_below(
 // The next step down from two places to where they meet: none where they do.
 fn next_below(
     known: &Known,
-    proof: &Proof,
+    facts: &Facts,
     reaches: &Vec<Reach>,
     pin: u32,
     i: usize,
     j: usize,
 ) -> Option<Down>
-    requires known { IsKnown proof.now known.now }
+    requires known { IsKnown facts.now known.now }
     requires trees { AreTrees known.now.steps reaches.now.items }
     requires left { IsFromAt known.now.steps reaches.now.items pin i }
     requires right { IsFromAt known.now.steps reaches.now.items pin j }
-    ensures hangs { IfSome result (HangsAlong proof.now known.now.steps reaches.now.items pin i j) }
+    ensures hangs { IfSome result (HangsAlong facts.now known.now.steps reaches.now.items pin i j) }
     ensures meet { IfNone result (i ≡ j) }
 {
     if i == j {
         return None;
     }
-    if let Some(foot) = foot_below(known, proof, reaches, pin, i, j) {
+    if let Some(foot) = foot_below(known, facts, reaches, pin, i, j) {
         let over = known.wire_at(i);
         return Some(Down {
             left: true,
@@ -97,7 +97,7 @@ fn next_below(
         });
     }
     let over = known.wire_at(j);
-    match foot_below(known, proof, reaches, pin, j, i) {
+    match foot_below(known, facts, reaches, pin, j, i) {
         Some(foot) => Some(Down {
             left: false,
             foot,
@@ -108,7 +108,12 @@ fn next_below(
 }
 
 // Takes a step down: the walk itself, or for later on the way up.
-fn take(shape: &Shape, walk: &mut Route, ups: &mut Vec<Foot>, down: Down) -> Result<(), AllocError>
+fn take(
+    shape: &Shape,
+    walk: &mut Route,
+    ups: &mut Vec<Support>,
+    down: Down,
+) -> Result<(), AllocError>
     requires route { IsRoute shape.now walk.old }
     requires cross { down.foot.cross.0 < crosses_of shape.now }
     requires at { down.left ≡ true → Ends (ends_of shape.now down.foot.cross.0) walk.old.end down.foot.wire.0 }
@@ -125,8 +130,8 @@ fn take(shape: &Shape, walk: &mut Route, ups: &mut Vec<Foot>, down: Down) -> Res
 }
 
 // Where a step leads.
-fn places_below(known: &Known, proof: &Proof, i: usize, j: usize, down: Down) -> (usize, usize)
-    requires known { IsKnown proof.now known.now }
+fn places_below(known: &Known, facts: &Facts, i: usize, j: usize, down: Down) -> (usize, usize)
+    requires known { IsKnown facts.now known.now }
     requires before { AreBefore known.now.steps i j down }
     requires within { (i < length known.now.steps) × (j < length known.now.steps) }
     ensures leads { Leads known.now.steps down i j result.0 result.1 }
@@ -140,31 +145,31 @@ fn places_below(known: &Known, proof: &Proof, i: usize, j: usize, down: Down) ->
 fn go_down(
     walk: &mut Route,
     known: &Known,
-    proof: &Proof,
+    facts: &Facts,
     reaches: &Vec<Reach>,
-    ups: &mut Vec<Foot>,
+    ups: &mut Vec<Support>,
     w: Wire,
 ) -> Result<(), AllocError>
-    requires known { IsKnown proof.now known.now }
+    requires known { IsKnown facts.now known.now }
     requires trees { AreTrees known.now.steps reaches.now.items }
-    requires walk { IsTreeWalk proof.now reaches.now.items walk.old }
+    requires walk { IsTreeWalk facts.now reaches.now.items walk.old }
     requires from { IsFrom reaches.now.items walk.old.pin w.0 }
-    ensures { OnOk result (GoesBelow proof.now reaches.now.items walk.old walk.new w.0 ups.new.items) }
+    ensures { OnOk result (GoesBelow facts.now reaches.now.items walk.old walk.new w.0 ups.new.items) }
 {
     ups.clear();
-    let shape = proof.shape();
+    let shape = facts.shape();
     let from = known.place(walk.end());
     let to = known.place(w);
     let (mut i, mut j) = (from, to);
-    'down: while let Some(down) = next_below(known, proof, reaches, walk.pin(), i, j) {
+    'down: while let Some(down) = next_below(known, facts, reaches, walk.pin(), i, j) {
         take(&shape, walk, ups, down)?;
-        (i, j) = places_below(known, proof, i, j, down);
+        (i, j) = places_below(known, facts, i, j, down);
     }
     Ok(())
 }
 
 // The wire that hangs on the last foot behind these, over which this wire hangs.
-fn upper(ups: &Vec<Foot>, w: Wire) -> Wire
+fn upper(ups: &Vec<Support>, w: Wire) -> Wire
     ensures { result.0 ≡ upper_of w.0 ups.now.items }
 {
     if ups.is_empty() {
@@ -177,16 +182,16 @@ fn upper(ups: &Vec<Foot>, w: Wire) -> Wire
 // Goes up over listed feet, the last one first.
 fn go_up(
     walk: &mut Route,
-    proof: &Proof,
+    facts: &Facts,
     reaches: &Vec<Reach>,
-    ups: &mut Vec<Foot>,
+    ups: &mut Vec<Support>,
     w: Wire,
 ) -> Result<(), AllocError>
-    requires walk { IsTreeWalk proof.now reaches.now.items walk.old }
-    requires hangs { Hangs proof.now reaches.now.items walk.old.pin w.0 ups.old.items walk.old.end }
-    ensures { OnOk result (GoesTo proof.now reaches.now.items walk.old walk.new w.0) }
+    requires walk { IsTreeWalk facts.now reaches.now.items walk.old }
+    requires hangs { Hangs facts.now reaches.now.items walk.old.pin w.0 ups.old.items walk.old.end }
+    ensures { OnOk result (GoesTo facts.now reaches.now.items walk.old walk.new w.0) }
 {
-    let shape = proof.shape();
+    let shape = facts.shape();
     'up: while let Some(foot) = ups.pop() {
         walk.push_to(&shape, foot.cross, upper(ups, w))?;
     }
@@ -197,58 +202,58 @@ fn go_up(
 fn visit(
     walk: &mut Route,
     known: &Known,
-    proof: &Proof,
+    facts: &Facts,
     reaches: &Vec<Reach>,
-    ups: &mut Vec<Foot>,
+    ups: &mut Vec<Support>,
     w: Wire,
 ) -> Result<(), AllocError>
-    requires known { IsKnown proof.now known.now }
+    requires known { IsKnown facts.now known.now }
     requires trees { AreTrees known.now.steps reaches.now.items }
-    requires walk { IsTreeWalk proof.now reaches.now.items walk.old }
-    ensures on { OnOk result (GoesOn proof.now reaches.now.items walk.old walk.new) }
+    requires walk { IsTreeWalk facts.now reaches.now.items walk.old }
+    ensures on { OnOk result (GoesOn facts.now reaches.now.items walk.old walk.new) }
     ensures over { OnOk result (IsFrom reaches.now.items walk.old.pin w.0 → among walk.new.wires w.0 ≡ true) }
 {
     if !is_from(reaches, walk.pin(), w) {
         return Ok(());
     }
-    go_down(walk, known, proof, reaches, ups, w)?;
-    go_up(walk, proof, reaches, ups, w)?;
+    go_down(walk, known, facts, reaches, ups, w)?;
+    go_up(walk, facts, reaches, ups, w)?;
     Ok(())
 }
 
 // A walk from a pin to a wire that is reached from there.
 fn walk_to(
     known: &Known,
-    proof: &Proof,
+    facts: &Facts,
     reaches: &Vec<Reach>,
     pin: u32,
     w: Wire,
 ) -> Result<Route, AllocError>
-    requires known { IsKnown proof.now known.now }
+    requires known { IsKnown facts.now known.now }
     requires trees { AreTrees known.now.steps reaches.now.items }
     requires from { IsFrom reaches.now.items pin w.0 }
-    ensures walk { IfOk result (IsTreeWalk proof.now reaches.now.items) }
+    ensures walk { IfOk result (IsTreeWalk facts.now reaches.now.items) }
     ensures over { IfOk result (λ r. among r.wires w.0 ≡ true) }
 {
-    let mut walk = route_at(known.alloc(), &proof.shape(), pin)?;
+    let mut walk = route_at(known.alloc(), &facts.shape(), pin)?;
     let mut ups = Vec::new(known.alloc());
-    visit(&mut walk, known, proof, reaches, &mut ups, w)?;
+    visit(&mut walk, known, facts, reaches, &mut ups, w)?;
     Ok(walk)
 }
 
 // Goes to a wire on the walk at a place, if that is from the pin from which the wire is reached. False where it isn't.
 fn visit_at(
     known: &Known,
-    proof: &Proof,
+    facts: &Facts,
     reaches: &Vec<Reach>,
     routes: &mut Vec<Route>,
     place: usize,
     w: Wire,
 ) -> Result<bool, AllocError>
-    requires known { IsKnown proof.now known.now }
+    requires known { IsKnown facts.now known.now }
     requires trees { AreTrees known.now.steps reaches.now.items }
-    requires walks { AreTreeWalks proof.now reaches.now.items routes.old.items }
-    ensures walks { OnOk result (AreTreeWalks proof.now reaches.now.items routes.new.items) }
+    requires walks { AreTreeWalks facts.now reaches.now.items routes.old.items }
+    ensures walks { OnOk result (AreTreeWalks facts.now reaches.now.items routes.new.items) }
     ensures stay { OnOk result (StayOn routes.old.items routes.new.items) }
     ensures on { IfOk result (λ yes. IsTrue yes → IsOnWalk routes.new.items w.0) }
 {
@@ -259,7 +264,7 @@ fn visit_at(
         return Ok(false);
     }
     let mut ups = Vec::new(known.alloc());
-    visit(&mut routes[place], known, proof, reaches, &mut ups, w)?;
+    visit(&mut routes[place], known, facts, reaches, &mut ups, w)?;
     Ok(true)
 }
 
@@ -279,16 +284,16 @@ fn note_place(places: &mut Vec<usize>, pin: u32, place: usize) {
 // Goes to a wire, if it is reached: on the walk from its pin, or on a new one. Where walks are noted to stand they needn't.
 fn add_walk(
     known: &Known,
-    proof: &Proof,
+    facts: &Facts,
     reaches: &Vec<Reach>,
     routes: &mut Vec<Route>,
     places: &mut Vec<usize>,
     w: Wire,
 ) -> Result<(), AllocError>
-    requires known { IsKnown proof.now known.now }
+    requires known { IsKnown facts.now known.now }
     requires trees { AreTrees known.now.steps reaches.now.items }
-    requires walks { AreTreeWalks proof.now reaches.now.items routes.old.items }
-    ensures walks { OnOk result (AreTreeWalks proof.now reaches.now.items routes.new.items) }
+    requires walks { AreTreeWalks facts.now reaches.now.items routes.old.items }
+    ensures walks { OnOk result (AreTreeWalks facts.now reaches.now.items routes.new.items) }
     ensures stay { OnOk result (StayOn routes.old.items routes.new.items) }
     ensures on { OnOk result ((pin : ℕ) → IsFrom reaches.now.items pin w.0 → IsOnWalk routes.new.items w.0) }
 {
@@ -296,11 +301,11 @@ fn add_walk(
         return Ok(());
     };
     let place = place_of(places, pin);
-    if visit_at(known, proof, reaches, routes, place, w)? {
+    if visit_at(known, facts, reaches, routes, place, w)? {
         return Ok(());
     }
     note_place(places, pin, routes.len());
-    let walk = walk_to(known, proof, reaches, pin, w)?;
+    let walk = walk_to(known, facts, reaches, pin, w)?;
     routes.push(walk)?;
     Ok(())
 }
@@ -309,19 +314,19 @@ fn add_walk(
 /// them is reached. Wants memory for the walks.
 pub fn walks(
     known: &Known,
-    proof: &Proof,
+    facts: &Facts,
     reaches: &Vec<Reach>,
     wanted: &[Wire],
 ) -> Result<Vec<Route>, AllocError>
-    requires known { IsKnown proof.now known.now }
+    requires known { IsKnown facts.now known.now }
     requires trees { AreTrees known.now.steps reaches.now.items }
-    ensures { IfOk result (λ routes. AreWalks proof.now reaches.now.items wanted.now routes.items) }
+    ensures { IfOk result (λ routes. AreWalks facts.now reaches.now.items wanted.now routes.items) }
 {
     let mut routes = Vec::new(known.alloc());
     let mut places = Vec::new(known.alloc());
-    places.resize(proof.shape().pins() as usize, 0)?;
+    places.resize(facts.shape().pins() as usize, 0)?;
     'wanted: for w in wanted {
-        add_walk(known, proof, reaches, &mut routes, &mut places, *w)?;
+        add_walk(known, facts, reaches, &mut routes, &mut places, *w)?;
     }
     Ok(routes)
 }

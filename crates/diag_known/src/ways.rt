@@ -6,8 +6,8 @@ ghost use Rattle.diag_known.specs.Known.{IsKnown, HasWire};
 ghost use Rattle.diag_known.specs.Ways.{AreWays, AreFeetOf};
 
 use crate::known::Known;
-use crate::step::{Foot, Stand};
-use diag_evidence::Proof;
+use crate::verified_wire::{Support, SupportedBy};
+use diag_evidence::Facts;
 use diag_tests::{Route, route_at};
 use machine_shape::Wire;
 use std::alloc::AllocError;
@@ -16,17 +16,17 @@ impl Known {
     /// Two ways to a wire over two feet. Wants memory for them.
     pub fn ways_over(
         &self,
-        proof: &Proof,
+        facts: &Facts,
         w: Wire,
-        first: Foot,
-        second: Foot,
+        first: Support,
+        second: Support,
     ) -> Result<(Route, Route), AllocError>
-        requires known { IsKnown proof.now self.now }
-        requires feet { AreFeetOf proof.now self.now.steps w.0 first second }
-        ensures { IfOk result (λ ways. AreWays proof.now self.now.steps w.0 ways.0 ways.1) }
+        requires known { IsKnown facts.now self.now }
+        requires feet { AreFeetOf facts.now self.now.steps w.0 first second }
+        ensures { IfOk result (λ ways. AreWays facts.now self.now.steps w.0 ways.0 ways.1) }
     {
         let shape = self.shape();
-        let (mut left, mut right) = self.routes(proof, first.wire, second.wire)?;
+        let (mut left, mut right) = self.routes(facts, first.wire, second.wire)?;
         left.push_to(&shape, first.cross, w)?;
         right.push_to(&shape, second.cross, w)?;
         Ok((left, right))
@@ -54,14 +54,14 @@ impl Known {
     }
 
     /// Two ways to a known wire. Wants memory for them.
-    pub fn ways_to(&self, proof: &Proof, w: Wire) -> Result<(Route, Route), AllocError>
-        requires known { IsKnown proof.now self.now }
+    pub fn ways_to(&self, facts: &Facts, w: Wire) -> Result<(Route, Route), AllocError>
+        requires known { IsKnown facts.now self.now }
         requires wire { HasWire self.now.steps w.0 }
-        ensures { IfOk result (λ ways. AreWays proof.now self.now.steps w.0 ways.0 ways.1) }
+        ensures { IfOk result (λ ways. AreWays facts.now self.now.steps w.0 ways.0 ways.1) }
     {
         match self.step_at(self.place(w)).stand {
-            Stand::Pin(pin) => self.ways_at(pin),
-            Stand::Feet(first, second) => self.ways_over(proof, w, first, second),
+            SupportedBy::Pin(pin) => self.ways_at(pin),
+            SupportedBy::Feet(first, second) => self.ways_over(facts, w, first, second),
         }
     }
 }

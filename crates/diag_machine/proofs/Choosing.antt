@@ -4,10 +4,10 @@ use Rattle.rig.specs.Rig.{RigState}
 use Rattle.diag_evidence.specs.Kept.{Kept, Advances}
 use Rattle.diag_known.specs.Known.{KnownWires, IsKnown}
 use Rattle.diag_sweep.specs.Marks.{AreMarksFor, TrueIf, worth}
-use Rattle.diag_sweep.specs.declared.bad.Bad.{Bad}
-use Rattle.diag_machine.specs.declared.whole.Course.{Course}
+use Rattle.diag_sweep.specs.declared.defect_marks.DefectMarks.{DefectMarks}
+use Rattle.diag_machine.specs.declared.whole.DiagnosisState.{DiagnosisState}
 
-pub record HasChosen (first now : RigState) (j k : Kept) (those : KnownWires) (was is : Bad) (old new : Course) : Type 0 where
+pub record HasChosen (first now : RigState) (j k : Kept) (those : KnownWires) (was is : DefectMarks) (old new : DiagnosisState) : Type 0 where
   pub advances : Advances first now j k
   pub known : IsKnown k those
   pub field : new.field ≡ old.field

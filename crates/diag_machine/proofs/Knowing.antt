@@ -8,10 +8,10 @@ use Rattle.machine_meaning.proofs.JoinedLemmas.{Ends-swap}
 use Rattle.diag_evidence.specs.Kept.{Kept, keeps_wire, keeps_pair}
 use Rattle.diag_evidence.proofs.Keeping.{pair_turned}
 use Rattle.diag_known.specs.Known.{KnownWires, HasWire, IsKnown, Stands, on_pin, on_feet}
-use Rattle.diag_known.specs.declared.step.Stand.{Stand}
-use Rattle.diag_known.specs.declared.step.Step.{Step}
+use Rattle.diag_known.specs.declared.verified_wire.SupportedBy.{SupportedBy}
+use Rattle.diag_known.specs.declared.verified_wire.VerifiedWire.{VerifiedWire}
 
-some_same : {x y : Step} → Some x ≡ Some y → x ≡ y
+some_same : {x y : VerifiedWire} → Some x ≡ Some y → x ≡ y
 some_same e = cc
 
 module _ {k : Kept} {known : KnownWires} (is : IsKnown k known) where
@@ -22,7 +22,7 @@ module _ {k : Kept} {known : KnownWires} (is : IsKnown k known) where
   same_wire : (w u : ℕ) (h : HasWire known.steps w) (g : HasWire known.steps u) → h.place ≡ g.place → u ≡ w
   same_wire w u h g e =
       let here : slice_get known.steps g.place ≡ Some h.at.step = subst (λ i. slice_get known.steps i ≡ Some h.at.step) e h.at.here in
-      sym g.at.wire ∙ ap (λ (s : Step). s.wire.0) (some_same (sym g.at.here ∙ here)) ∙ h.at.wire
+      sym g.at.wire ∙ ap (λ (s : VerifiedWire). s.wire.0) (some_same (sym g.at.here ∙ here)) ∙ h.at.wire
 
   -- the one that came earlier is kept apart from the other
   earlier : (w u : ℕ) (h : HasWire known.steps w) (g : HasWire known.steps u) → h.place < g.place → keeps_pair k w u ≡ true
@@ -38,7 +38,7 @@ module _ {k : Kept} {known : KnownWires} (is : IsKnown k known) where
       by (no n) (no m) = absurd (differ (same_wire w u h g (omega arith)))
 
   module _ (numbered : IsNumbered k.shape) where
-    stands_within : (i w : ℕ) (s : Stand) → Stands k known.steps i w s → w < wires_of k.shape
+    stands_within : (i w : ℕ) (s : SupportedBy) → Stands k known.steps i w s → w < wires_of k.shape
     stands_within i w s (on_pin within e) = subst (λ v. v < wires_of k.shape) (sym e) (numbered.pins _ within)
     stands_within i w s (on_feet a b differ) = numbered.ends _ _ _ a.within (Ends-swap a.at)
 

@@ -13,7 +13,7 @@ use Rattle.machine_defects.specs.Lists.{DefectList, IsDefectList, IsWithWire, no
 use Rattle.base_bits.proofs.SetsLemmas.{contains_more}
 use Rattle.diag_evidence.specs.Kept.{Kept, keeps_cross, keeps_cell, keeps_register}
 use Rattle.diag_known.specs.Known.{HasWire}
-use Rattle.diag_known.specs.declared.step.Step.{Step}
+use Rattle.diag_known.specs.declared.verified_wire.VerifiedWire.{VerifiedWire}
 use Rattle.diag_growth.specs.Seats.{KeepsTable}
 use Rattle.diag_machine.specs.Listing.{IsListing, IsListOf}
 
@@ -50,7 +50,7 @@ members s i q e = by (q == i) refl (sym (contains_more s i q) ∙ e)
 none_in : (q : ℕ) → set.contains no_defects.wires q ≡ true → ⊥
 none_in q e = clash e (contains-empty nat_cmp q)
 
-module _ (k : Kept) (ss : List Step) where
+module _ (k : Kept) (ss : List VerifiedWire) where
   pub listing_none : (m : Shape) → m ≡ k.shape → IsListing k ss (record { shape = m; list = no_defects }) 0 0 0
   listing_none m e = record {
     shape = e;

@@ -6,12 +6,12 @@ use Rattle.machine_meaning.specs.Tight.{two}
 use Rattle.machine_meaning.proofs.Faultless.{all_sound}
 use Rattle.diag_evidence.specs.Kept.{Kept, IsMore}
 use Rattle.diag_known.specs.Known.{HasWire}
-use Rattle.diag_known.specs.declared.step.Step.{Step}
+use Rattle.diag_known.specs.declared.verified_wire.VerifiedWire.{VerifiedWire}
 use Rattle.diag_machine.specs.Choice.{AreLeftOut, IsLeftOut}
 use Rattle.diag_machine.specs.Stages.{IfFaultless, IsReached, ReachedIf}
 
 -- Without faults no wire is left out.
-pub none_left_out : {k : Kept} {f : Faults} {ss : List Step} {w : ℕ} → IsFaultless f → IsReached k f (HasWire ss) → w < wires_of k.shape → IsLeftOut k ss w → ⊥
+pub none_left_out : {k : Kept} {f : Faults} {ss : List VerifiedWire} {w : ℕ} → IsFaultless f → IsReached k f (HasWire ss) → w < wires_of k.shape → IsLeftOut k ss w → ⊥
 none_left_out {k} {f} {ss} {w} none reached within out =
     let a = out.feet.first in
     let b = out.feet.second in
@@ -29,5 +29,5 @@ reached_later more r = record {
 }
 
 -- So a wire that is left out shows that there are faults.
-pub out_never : {told : Option Faults} {k : Kept} {ss : List Step} {P : Type 0} → ReachedIf told k ss → AreLeftOut k ss → IfFaultless told k P
+pub out_never : {told : Option Faults} {k : Kept} {ss : List VerifiedWire} {P : Type 0} → ReachedIf told k ss → AreLeftOut k ss → IfFaultless told k P
 out_never reached out = record { at = λ f e none holds. absurd (none_left_out none (reached.at f e holds) out.within out.out) }

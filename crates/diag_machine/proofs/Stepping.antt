@@ -16,7 +16,7 @@ use Rattle.diag_evidence.proofs.Keeping.{holds_earlier}
 use Rattle.diag_known.specs.Field.{ClosedIf}
 use Rattle.diag_known.specs.Known.{KnownWires, HasWire, IsKnown}
 use Rattle.diag_known.specs.declared.field.Field.{Field}
-use Rattle.diag_known.specs.declared.step.Step.{Step}
+use Rattle.diag_known.specs.declared.verified_wire.VerifiedWire.{VerifiedWire}
 use Rattle.diag_growth.specs.Seats.{AddsOnlyTableFacts}
 use Rattle.diag_machine.specs.Diagnosis.{IsDiagnosis}
 use Rattle.diag_machine.specs.Listing.{IsListOf}
@@ -26,7 +26,7 @@ use Rattle.diag_machine.proofs.Covering.{covers, tight}
 use Rattle.diag_machine.proofs.Losing.{reached_later}
 
 -- What is closed in the whole machine is all that can be reached.
-pub reached_if : {told : Option Faults} {m : Shape} {l : Kept} {a : Field} {ss : List Step} → m ≡ l.shape → IsNumbered l.shape → ((w : ℕ) → w < wires_of m → has_number a.wires w ≡ true) →
+pub reached_if : {told : Option Faults} {m : Shape} {l : Kept} {a : Field} {ss : List VerifiedWire} → m ≡ l.shape → IsNumbered l.shape → ((w : ℕ) → w < wires_of m → has_number a.wires w ≡ true) →
     ((x : ℕ) → x < crosses_of m → has_number a.crosses x ≡ true) → ClosedIf told l a ss → ReachedIf told l ss
 reached_if {told} {m} {l} {a} {ss} e numbered wires crosses closed = record {
   at = λ f t holds. let c = closed.at f t holds in record {
@@ -48,7 +48,7 @@ reached_if {told} {m} {l} {a} {ss} e numbered wires crosses closed = record {
 pub reached_then : {told : Option Faults} {k l : Kept} {a b : KnownWires} → IsMore k l → b ≡ a → ReachedIf told k a.steps → ReachedIf told l b.steps
 reached_then {told} {k} {l} {a} {b} more e r = record { at = λ f t holds. subst (λ (n : KnownWires). IsReached l f (HasWire n.steps)) (sym e) (reached_later more (r.at f t (holds_earlier more holds))) }
 
-pub reached_told : {told now : Option Faults} {l : Kept} {ss : List Step} → now ≡ told → ReachedIf now l ss → ReachedIf told l ss
+pub reached_told : {told now : Option Faults} {l : Kept} {ss : List VerifiedWire} → now ≡ told → ReachedIf now l ss → ReachedIf told l ss
 reached_told e r = record { at = λ f told holds. r.at f (e ∙ told) holds }
 
 -- what stands in a list with one more

@@ -15,10 +15,10 @@ use Rattle.diag_known.specs.Field.{ClosedIf, IsFieldOf}
 use Rattle.diag_known.specs.Known.{HasWire}
 use Rattle.diag_known.proofs.Counting.{none_has, set_only}
 use Rattle.diag_known.specs.declared.field.Field.{Field}
-use Rattle.diag_known.specs.declared.step.Step.{Step}
+use Rattle.diag_known.specs.declared.verified_wire.VerifiedWire.{VerifiedWire}
 use Rattle.diag_growth.specs.Tables.{SeatedIsKept, SeatedAreKept, fresh_tables, keeps_table}
 use Rattle.diag_sweep.specs.Marks.{AreMarksFor, HasTable, MarksIn, TrueIf}
-use Rattle.diag_sweep.specs.declared.bad.Bad.{Bad}
+use Rattle.diag_sweep.specs.declared.defect_marks.DefectMarks.{DefectMarks}
 use Rattle.diag_sweep.proofs.Marking.{marks_for}
 use Rattle.diag_machine.specs.Stages.{IfFaultless, IsWhole, TablesIf}
 use Rattle.diag_machine.proofs.Stepping.{has_before, has_last}
@@ -29,17 +29,17 @@ always p = record { at = λ f e none holds. p }
 pub few_when : {told : Option Faults} {k : Kept} {P : Type 0} → ((f : Faults) → told ≡ Some f → IsFaultless f → HoldsFor k f → P) → IfFaultless told k P
 few_when p = record { at = p }
 
-pub closed_told : {told now : Option Faults} {k : Kept} {a : Field} {ss : List Step} → now ≡ told → ClosedIf now k a ss → ClosedIf told k a ss
+pub closed_told : {told now : Option Faults} {k : Kept} {a : Field} {ss : List VerifiedWire} → now ≡ told → ClosedIf now k a ss → ClosedIf told k a ss
 closed_told e c = record { at = λ f told holds. c.at f (e ∙ told) holds }
 
-pub marks_told : {told now : Option Faults} {k : Kept} {ss : List Step} {b : Bad} → now ≡ told → TrueIf told k ss b → TrueIf now k ss b
+pub marks_told : {told now : Option Faults} {k : Kept} {ss : List VerifiedWire} {b : DefectMarks} → now ≡ told → TrueIf told k ss b → TrueIf now k ss b
 marks_told e t = record { at = λ f told holds. t.at f (sym e ∙ told) holds }
 
-pub marks_by : {told now : Option Faults} {k : Kept} {ss : List Step} {b : Bad} → now ≡ told → TrueIf now k ss b → TrueIf told k ss b
+pub marks_by : {told now : Option Faults} {k : Kept} {ss : List VerifiedWire} {b : DefectMarks} → now ≡ told → TrueIf now k ss b → TrueIf told k ss b
 marks_by e t = record { at = λ f told holds. t.at f (e ∙ told) holds }
 
 -- Nothing is marked.
-pub marks_of_none : {told : Option Faults} {k : Kept} (ss : List Step) {b : Bad} → ((x : ℕ) → has_number b.stuck x ≡ false) → ((x : ℕ) → has_number b.unfit x ≡ false) → ((x : ℕ) → has_number b.unclear x ≡ false) →
+pub marks_of_none : {told : Option Faults} {k : Kept} (ss : List VerifiedWire) {b : DefectMarks} → ((x : ℕ) → has_number b.stuck x ≡ false) → ((x : ℕ) → has_number b.unfit x ≡ false) → ((x : ℕ) → has_number b.unclear x ≡ false) →
     ((x : ℕ) → has_number b.wrong x ≡ false) → TrueIf told k ss b
 marks_of_none ss stuck unfit unclear wrong = record {
   at = λ f e h. record {
@@ -51,7 +51,7 @@ marks_of_none ss stuck unfit unclear wrong = record {
 }
 
 -- Marks of a machine stay so.
-pub marks_of : {m : Shape} {a : Field} {tables : List Table} {b c : Bad} → AreMarksFor m b → MarksIn a tables b c → AreMarksFor m c
+pub marks_of : {m : Shape} {a : Field} {tables : List Table} {b c : DefectMarks} → AreMarksFor m b → MarksIn a tables b c → AreMarksFor m c
 marks_of are in_ = marks_for refl are in_
 
 pub field_later : {k l : Kept} {a : Field} → IsMore k l → IsFieldOf k.shape a → IsFieldOf l.shape a
@@ -60,10 +60,10 @@ field_later {a = a} more field = subst (λ (m : Shape). IsFieldOf m a) (sym more
 pub whole_later : {k l : Kept} {a : Field} → IsMore k l → IsWhole k.shape a → IsWhole l.shape a
 whole_later {a = a} more whole = subst (λ (m : Shape). IsWhole m a) (sym more.shape) whole
 
-pub marks_on : {k l : Kept} {b : Bad} → IsMore k l → AreMarksFor k.shape b → AreMarksFor l.shape b
+pub marks_on : {k l : Kept} {b : DefectMarks} → IsMore k l → AreMarksFor k.shape b → AreMarksFor l.shape b
 marks_on {b = b} more marks = subst (λ (m : Shape). AreMarksFor m b) (sym more.shape) marks
 
-pub marks_back : {k l : Kept} {b : Bad} → IsMore k l → AreMarksFor l.shape b → AreMarksFor k.shape b
+pub marks_back : {k l : Kept} {b : DefectMarks} → IsMore k l → AreMarksFor l.shape b → AreMarksFor k.shape b
 marks_back {b = b} more marks = subst (λ (m : Shape). AreMarksFor m b) more.shape marks
 
 pub at_once : {x y : ℕ} → x ≡ y → x ≤ y
@@ -73,7 +73,7 @@ pub at_most : {x y z : ℕ} → x ≤ y → y ≤ z → x ≤ z
 at_most a b = omega (arith, a, b)
 
 -- Without faults no wire is marked unfit that isn't known.
-pub none_unfit : {told : Option Faults} {k : Kept} {ss : List Step} {b : Bad} (set : List Bool) (f : Faults) → told ≡ Some f → IsFaultless f → HoldsFor k f → TrueIf told k ss b →
+pub none_unfit : {told : Option Faults} {k : Kept} {ss : List VerifiedWire} {b : DefectMarks} (set : List Bool) (f : Faults) → told ≡ Some f → IsFaultless f → HoldsFor k f → TrueIf told k ss b →
     ((w : ℕ) → has_number set w ≡ true → (has_number b.unfit w ≡ true) × (¬ HasWire ss w)) → (w : ℕ) → has_number set w ≡ false
 none_unfit {ss = ss} {b = b} set f e none holds marks each w = by (has_number set w) refl
   where
@@ -116,7 +116,7 @@ pub left_count : (old : List Table) (t : Table) (new : List Table) (n : ℕ) →
 left_count old t new n more few = let l = ap length more ∙ length-append old (t ∷ []) in omega (arith, l, few)
 
 -- All tables were tested that aren't marked wrong.
-pub tables_left_if : {told : Option Faults} {m : Shape} {k l : Kept} {ss ts : List Step} {b : Bad} {tables : List Table} → m ≡ k.shape → TrueIf told k ts b →
+pub tables_left_if : {told : Option Faults} {m : Shape} {k l : Kept} {ss ts : List VerifiedWire} {b : DefectMarks} {tables : List Table} → m ≡ k.shape → TrueIf told k ts b →
     ((t : ℕ) → t < tables_of m → (has_number b.wrong t ≡ true) ⊎ HasTable tables t) → SeatedAreKept told k l ss tables → TablesIf told k l ss
 tables_left_if {told} {m} {k} {l} {ss} {ts} {b} {tables} e marks has kept = record { each = λ t h. by t (has t (subst (λ n. t < tables_of n) (sym e) h)) }
   where

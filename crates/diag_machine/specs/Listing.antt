@@ -7,11 +7,11 @@ use Rattle.machine_meaning.specs.Defects.{Defects, IsFreeWire, IsFreeCross, IsFr
 use Rattle.machine_defects.specs.Lists.{DefectList, has_free_ends, has_free_pins}
 use Rattle.diag_evidence.specs.Kept.{Kept, keeps_cross}
 use Rattle.diag_known.specs.Known.{HasWire}
-use Rattle.diag_known.specs.declared.step.Step.{Step}
+use Rattle.diag_known.specs.declared.verified_wire.VerifiedWire.{VerifiedWire}
 use Rattle.diag_growth.specs.Seats.{KeepsTable}
 
 -- The list has each wire that isn't known, and, where their wires aren't listed, each crosspoint and each table that isn't kept.
-pub record IsListOf (m : Shape) (k : Kept) (ss : List Step) (d : Defects) : Type 0 where
+pub record IsListOf (m : Shape) (k : Kept) (ss : List VerifiedWire) (d : Defects) : Type 0 where
   pub wire_free : (w : ℕ) → w < wires_of m → IsFreeWire d w → HasWire ss w
   pub wire_listed : (w : ℕ) → w < wires_of m → HasWire ss w → IsFreeWire d w
   pub cross_free : (x : ℕ) → x < crosses_of m → IsFreeCross m d x → keeps_cross k x ≡ true
@@ -22,7 +22,7 @@ pub record IsListOf (m : Shape) (k : Kept) (ss : List Step) (d : Defects) : Type
       (¬ KeepsTable k t) × ((j : ℕ) → j < 7 → IsFreeWire d (table_wire m t j))
 
 -- a list that has so far the wires below i that aren't known, the crosspoints below j and the tables below n
-pub record IsListing (k : Kept) (ss : List Step) (d : DefectList) (i j n : ℕ) : Type 0 where
+pub record IsListing (k : Kept) (ss : List VerifiedWire) (d : DefectList) (i j n : ℕ) : Type 0 where
   pub shape : d.shape ≡ k.shape
   pub wires : (w : ℕ) → set.contains d.list.wires w ≡ true → ¬ HasWire ss w
   pub all_wires : (w : ℕ) → w < i → set.contains d.list.wires w ≡ false → HasWire ss w

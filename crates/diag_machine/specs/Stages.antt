@@ -10,7 +10,7 @@ use Rattle.diag_evidence.specs.Kept.{Kept, HoldsFor, keeps_cross}
 use Rattle.diag_known.specs.Known.{HasWire}
 use Rattle.diag_growth.specs.Tables.{SeatedIsKept}
 use Rattle.diag_known.specs.declared.field.Field.{Field}
-use Rattle.diag_known.specs.declared.step.Step.{Step}
+use Rattle.diag_known.specs.declared.verified_wire.VerifiedWire.{VerifiedWire}
 
 -- All is known that can be reached: each wire that is clear and shorted to no known one, and is a pin of the machine or has feet;
 -- and each crosspoint between known wires that isn't stuck is kept.
@@ -23,7 +23,7 @@ pub record IsReached (k : Kept) (f : Faults) (known : ℕ → Type 0) : Type 0 w
       stuck_cross f x ≡ None → keeps_cross k x ≡ true
 
 -- .. where the faults are told, and what is kept is true of them
-pub record ReachedIf (told : Option Faults) (k : Kept) (ss : List Step) : Type 0 where
+pub record ReachedIf (told : Option Faults) (k : Kept) (ss : List VerifiedWire) : Type 0 where
   pub at : (f : Faults) → told ≡ Some f → HoldsFor k f → IsReached k f (HasWire ss)
 
 -- where the machine is told to have no faults, and what is kept is true of that
@@ -35,7 +35,7 @@ abbrev pub loads_for : Kept → (crosses wires : ℕ) → ℕ
 loads_for k crosses wires = crosses * crosses_of k.shape + wires * wires_of k.shape
 
 -- each table of the machine that is seated in the known wires and kept crosspoints, and is right, is kept
-pub record TablesIf (told : Option Faults) (k l : Kept) (ss : List Step) : Type 0 where
+pub record TablesIf (told : Option Faults) (k l : Kept) (ss : List VerifiedWire) : Type 0 where
   pub each : (t : ℕ) → t < tables_of k.shape → SeatedIsKept told k l ss t
 
 -- the whole machine is looked at

@@ -5,7 +5,7 @@ ghost use Rattle.machine_defects.specs.Lists.{IsWithWire, with_cross, with_table
 ghost use Rattle.diag_growth.specs.Seats.{KeepsTable};
 ghost use Rattle.diag_machine.specs.Listing.{IsListing, IsListOf};
 
-use diag_evidence::Proof;
+use diag_evidence::Facts;
 use diag_growth::Known;
 use machine_defects::Defects;
 use machine_shape::{Cross, Table, Wire};
@@ -43,61 +43,61 @@ fn table_unless(list: &mut Defects, good: bool, t: Table)
 }
 
 // Whether the cells of a table and its register are kept.
-fn keeps_table(proof: &Proof, t: Table) -> bool
-    requires { t.0 < tables_of proof.now.shape }
-    ensures yes { IsTrue result → KeepsTable proof.now t.0 }
-    ensures no { result ≡ false → ¬ KeepsTable proof.now t.0 }
+fn keeps_table(facts: &Facts, t: Table) -> bool
+    requires { t.0 < tables_of facts.now.shape }
+    ensures yes { IsTrue result → KeepsTable facts.now t.0 }
+    ensures no { result ≡ false → ¬ KeepsTable facts.now t.0 }
 {
     'cells: for address in 0..64 {
-        if !proof.keeps_cell(t, address) {
+        if !facts.keeps_cell(t, address) {
             return false;
         }
     }
-    proof.keeps_register(t)
+    facts.keeps_register(t)
 }
 
 // Lists the wires that aren't known.
-fn list_wires(list: &mut Defects, proof: &Proof, known: &Known)
-    requires shape { known.now.shape ≡ proof.now.shape }
-    requires before { IsListing proof.now known.now.steps list.old 0 0 0 }
-    ensures { IsListing proof.now known.now.steps list.new (wires_of proof.now.shape) 0 0 }
+fn list_wires(list: &mut Defects, facts: &Facts, known: &Known)
+    requires shape { known.now.shape ≡ facts.now.shape }
+    requires before { IsListing facts.now known.now.steps list.old 0 0 0 }
+    ensures { IsListing facts.now known.now.steps list.new (wires_of facts.now.shape) 0 0 }
 {
-    'wires: for w in 0..proof.shape().wires() {
+    'wires: for w in 0..facts.shape().wires() {
         wire_unless(list, known.has(Wire(w)), Wire(w));
     }
 }
 
 // Lists the crosspoints that aren't kept.
-fn list_crosses(list: &mut Defects, proof: &Proof, known: &Known)
-    requires before { IsListing proof.now known.now.steps list.old (wires_of proof.now.shape) 0 0 }
-    ensures { IsListing proof.now known.now.steps list.new (wires_of proof.now.shape) (crosses_of proof.now.shape) 0 }
+fn list_crosses(list: &mut Defects, facts: &Facts, known: &Known)
+    requires before { IsListing facts.now known.now.steps list.old (wires_of facts.now.shape) 0 0 }
+    ensures { IsListing facts.now known.now.steps list.new (wires_of facts.now.shape) (crosses_of facts.now.shape) 0 }
 {
-    'crosses: for c in 0..proof.shape().crosses() {
-        cross_unless(list, proof.keeps_cross(Cross(c)), Cross(c));
+    'crosses: for c in 0..facts.shape().crosses() {
+        cross_unless(list, facts.keeps_cross(Cross(c)), Cross(c));
     }
 }
 
 // Lists the tables that aren't kept.
-fn list_tables(list: &mut Defects, proof: &Proof, known: &Known)
-    requires before { IsListing proof.now known.now.steps list.old (wires_of proof.now.shape) (crosses_of proof.now.shape) 0 }
-    ensures { IsListing proof.now known.now.steps list.new (wires_of proof.now.shape) (crosses_of proof.now.shape)
-        (tables_of proof.now.shape) }
+fn list_tables(list: &mut Defects, facts: &Facts, known: &Known)
+    requires before { IsListing facts.now known.now.steps list.old (wires_of facts.now.shape) (crosses_of facts.now.shape) 0 }
+    ensures { IsListing facts.now known.now.steps list.new (wires_of facts.now.shape) (crosses_of facts.now.shape)
+        (tables_of facts.now.shape) }
 {
-    'tables: for t in 0..proof.shape().tables() {
-        table_unless(list, keeps_table(proof, Table(t)), Table(t));
+    'tables: for t in 0..facts.shape().tables() {
+        table_unless(list, keeps_table(facts, Table(t)), Table(t));
     }
 }
 
 /// The list of the wires that aren't known, and of the crosspoints and tables that aren't kept.
-pub(crate) fn list_of(alloc: Global, proof: &Proof, known: &Known) -> Result<Defects, AllocError>
-    requires shape { known.now.shape ≡ proof.now.shape }
-    ensures shape { IfOk result (λ d. d.shape ≡ proof.now.shape) }
-    ensures list { IfOk result (λ d. IsListOf proof.now.shape proof.now known.now.steps d.list) }
+pub(crate) fn list_of(alloc: Global, facts: &Facts, known: &Known) -> Result<Defects, AllocError>
+    requires shape { known.now.shape ≡ facts.now.shape }
+    ensures shape { IfOk result (λ d. d.shape ≡ facts.now.shape) }
+    ensures list { IfOk result (λ d. IsListOf facts.now.shape facts.now known.now.steps d.list) }
 {
-    let mut list = Defects::none(alloc, proof.shape())?;
-    list_wires(&mut list, proof, known);
-    list_crosses(&mut list, proof, known);
-    list_tables(&mut list, proof, known);
+    let mut list = Defects::none(alloc, facts.shape())?;
+    list_wires(&mut list, facts, known);
+    list_crosses(&mut list, facts, known);
+    list_tables(&mut list, facts, known);
     let _kept = list.shape();
     Ok(list)
 }

@@ -10,9 +10,9 @@ ghost use Rattle.diag_known.specs.Known.{HasWire};
 ghost use Rattle.diag_machine.specs.Choice.{AreLeftOut, IsKnownFoot, IsLeftOut};
 
 use base_bits::BitSet;
-use diag_evidence::Proof;
+use diag_evidence::Facts;
 use diag_growth::Known;
-use diag_sweep::Bad;
+use diag_sweep::DefectMarks;
 use machine_shape::{Meaning, Node, Shape, Wire};
 use std::alloc::{AllocError, Global};
 
@@ -28,33 +28,33 @@ fn hextant_of_pin(shape: &Shape, wire: Wire) -> Option<Node>
 }
 
 // Whether a pin is joined by a kept crosspoint to a line that is known.
-fn is_foot(proof: &Proof, known: &Known, pin: Wire, line: Wire) -> bool
-    requires shape { known.now.shape ≡ proof.now.shape }
-    requires pin { pin.0 < wires_of proof.now.shape }
-    requires line { line.0 < wires_of proof.now.shape }
-    ensures { IsTrue result → IsKnownFoot proof.now known.now.steps pin.0 line.0 }
+fn is_foot(facts: &Facts, known: &Known, pin: Wire, line: Wire) -> bool
+    requires shape { known.now.shape ≡ facts.now.shape }
+    requires pin { pin.0 < wires_of facts.now.shape }
+    requires line { line.0 < wires_of facts.now.shape }
+    ensures { IsTrue result → IsKnownFoot facts.now known.now.steps pin.0 line.0 }
 {
     if !known.has(line) {
         return false;
     }
-    let Some(cross) = proof.shape().cross(pin, line) else {
+    let Some(cross) = facts.shape().cross(pin, line) else {
         return false;
     };
-    proof.keeps_cross(cross)
+    facts.keeps_cross(cross)
 }
 
 // Whether a pin is joined by kept crosspoints to two lines of its hextant that are known.
-fn has_feet(proof: &Proof, known: &Known, pin: Wire, hextant: Node) -> bool
-    requires shape { known.now.shape ≡ proof.now.shape }
-    requires pin { pin.0 < wires_of proof.now.shape }
-    requires hextant { hextant.0 < nodes_of proof.now.shape }
-    ensures { IsTrue result → HasTwo (IsKnownFoot proof.now known.now.steps pin.0) }
+fn has_feet(facts: &Facts, known: &Known, pin: Wire, hextant: Node) -> bool
+    requires shape { known.now.shape ≡ facts.now.shape }
+    requires pin { pin.0 < wires_of facts.now.shape }
+    requires hextant { hextant.0 < nodes_of facts.now.shape }
+    ensures { IsTrue result → HasTwo (IsKnownFoot facts.now known.now.steps pin.0) }
 {
-    let shape = proof.shape();
+    let shape = facts.shape();
     let mut first: Option<Wire> = None;
     'lines: for k in 0..shape.lines(hextant) {
         let line = shape.line(hextant, k);
-        if !is_foot(proof, known, pin, line) {
+        if !is_foot(facts, known, pin, line) {
             continue;
         }
         let Some(other) = first else {
@@ -69,25 +69,29 @@ fn has_feet(proof: &Proof, known: &Known, pin: Wire, hextant: Node) -> bool
 }
 
 // Whether a wire is a pin of a table that isn't known, though it is kept and stands on two known lines.
-fn is_left_out(proof: &Proof, known: &Known, wire: Wire) -> bool
-    requires shape { known.now.shape ≡ proof.now.shape }
-    requires wire { wire.0 < wires_of proof.now.shape }
-    ensures { IsTrue result → IsLeftOut proof.now known.now.steps wire.0 }
+fn is_left_out(facts: &Facts, known: &Known, wire: Wire) -> bool
+    requires shape { known.now.shape ≡ facts.now.shape }
+    requires wire { wire.0 < wires_of facts.now.shape }
+    ensures { IsTrue result → IsLeftOut facts.now known.now.steps wire.0 }
 {
     if known.has(wire) {
         return false;
     }
-    if !proof.keeps_wire(wire) {
+    if !facts.keeps_wire(wire) {
         return false;
     }
-    let Some(hextant) = hextant_of_pin(&proof.shape(), wire) else {
+    let Some(hextant) = hextant_of_pin(&facts.shape(), wire) else {
         return false;
     };
-    has_feet(proof, known, wire, hextant)
+    has_feet(facts, known, wire, hextant)
 }
 
 /// The wires that are unfit and aren't known.
-pub(crate) fn unfit_wires(alloc: Global, known: &Known, bad: &Bad) -> Result<BitSet, AllocError>
+pub(crate) fn unfit_wires(
+    alloc: Global,
+    known: &Known,
+    bad: &DefectMarks,
+) -> Result<BitSet, AllocError>
     requires { length bad.now.unfit ≡ wires_of known.now.shape }
     ensures { IfOk result (λ set. (w : ℕ) → has_number set w ≡ true → (has_number bad.now.unfit w ≡ true) × (¬ HasWire known.now.steps w)) }
 {
@@ -108,17 +112,17 @@ pub(crate) fn unfit_wires(alloc: Global, known: &Known, bad: &Bad) -> Result<Bit
 /// The pins of tables that are left out. None where there are none.
 pub(crate) fn lost_pins(
     alloc: Global,
-    proof: &Proof,
+    facts: &Facts,
     known: &Known,
 ) -> Result<Option<BitSet>, AllocError>
-    requires shape { known.now.shape ≡ proof.now.shape }
-    ensures { IfOk result (λ found. IfSome found (λ _. AreLeftOut proof.now known.now.steps)) }
+    requires shape { known.now.shape ≡ facts.now.shape }
+    ensures { IfOk result (λ found. IfSome found (λ _. AreLeftOut facts.now known.now.steps)) }
 {
-    let wires = proof.shape().wires();
+    let wires = facts.shape().wires();
     let mut pins = BitSet::new(alloc, wires)?;
     let mut some = false;
     'wires: for w in 0..wires {
-        if !is_left_out(proof, known, Wire(w)) {
+        if !is_left_out(facts, known, Wire(w)) {
             continue;
         }
         pins.insert(w);

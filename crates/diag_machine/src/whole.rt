@@ -7,7 +7,7 @@ ghost use Rattle.rig.specs.Rig.{shape_of};
 ghost use Rattle.diag_evidence.specs.Kept.{Advances, KeepsNothing};
 ghost use Rattle.diag_known.specs.Field.{IsFieldOf, pins_in};
 ghost use Rattle.diag_known.specs.Known.{IsKnown};
-ghost use Rattle.diag_known.specs.declared.step.Step.{Step};
+ghost use Rattle.diag_known.specs.declared.verified_wire.VerifiedWire.{VerifiedWire};
 ghost use Rattle.diag_growth.specs.Seats.{AddsOnlyTableFacts};
 ghost use Rattle.diag_sweep.specs.Marks.{AreMarksFor, HasTable, TrueIf, undecided, worth};
 ghost use Rattle.diag_machine.specs.Diagnosis.{IsDiagnosis, TakesFewLoads};
@@ -16,12 +16,12 @@ ghost use Rattle.diag_machine.specs.Stages.{IfFaultless, IsWhole, ReachedIf, Tab
 use crate::list::list_of;
 use crate::lost::{lost_pins, unfit_wires};
 use base_bits::BitSet;
-use diag_evidence::Proof;
+use diag_evidence::Facts;
 use diag_evidence::laws::{kept_facts_are_sound, tests_add_up};
 use diag_growth::{Field, Known, grow, test_tables};
 use diag_sweep::{
-    Bad, Choices, choose, closed_without_bad, growth_without_bad_is_paid, sweep, sweep_with,
-    without_bad,
+    Choices, DefectMarks, choose, closed_without_bad, growth_without_bad_is_paid, sweep,
+    sweep_with, without_bad,
 };
 use machine_defects::Defects;
 use machine_meaning::tight_lists_are_fair;
@@ -68,24 +68,29 @@ fn all_tables(alloc: Global, shape: &Shape) -> Result<Vec<Table>, AllocError> {
 
 // What a diagnosis has at hand: the whole machine, what choices have, and how many loads sweeps and choices have taken.
 #[derive(Drop)]
-struct Course {
+struct DiagnosisState {
     field: Field,
     choices: Choices,
     swept: u64,
 }
 
 // What a diagnosis has at hand at first.
-fn course_of(alloc: Global, proof: &Proof, known: &Known, bad: &Bad) -> Result<Course, AllocError>
-    ensures field { IfOk result (λ course. IsFieldOf proof.now.shape course.field) }
-    ensures whole { IfOk result (λ course. IsWhole proof.now.shape course.field) }
-    ensures left { IfOk result (λ course. course.choices.left ≡ 0) }
-    ensures paid { IfOk result (λ course. length course.choices.paid ≡ wires_of proof.now.shape) }
-    ensures none { IfOk result (λ course. size_of course.choices.paid ≡ 0) }
+fn first_state(
+    alloc: Global,
+    facts: &Facts,
+    known: &Known,
+    bad: &DefectMarks,
+) -> Result<DiagnosisState, AllocError>
+    ensures field { IfOk result (λ state. IsFieldOf facts.now.shape state.field) }
+    ensures whole { IfOk result (λ state. IsWhole facts.now.shape state.field) }
+    ensures left { IfOk result (λ state. state.choices.left ≡ 0) }
+    ensures paid { IfOk result (λ state. length state.choices.paid ≡ wires_of facts.now.shape) }
+    ensures none { IfOk result (λ state. size_of state.choices.paid ≡ 0) }
 {
-    let field = Field::whole(alloc, &proof.shape())?;
-    let tables = all_tables(alloc, &proof.shape())?;
-    Ok(Course {
-        choices: Choices::new(proof, known, bad, &field, &tables)?,
+    let field = Field::whole(alloc, &facts.shape())?;
+    let tables = all_tables(alloc, &facts.shape())?;
+    Ok(DiagnosisState {
+        choices: Choices::new(facts, known, bad, &field, &tables)?,
         field,
         swept: 0,
     })
@@ -94,60 +99,60 @@ fn course_of(alloc: Global, proof: &Proof, known: &Known, bad: &Bad) -> Result<C
 // Chooses which of shorted wires stays known, and sweeps anew if some give way. Says whether they did.
 fn choose_once(
     rig: &mut Box<dyn Rig>,
-    proof: &mut Proof,
+    facts: &mut Facts,
     known: &mut Known,
-    bad: &mut Bad,
-    course: &mut Course,
+    bad: &mut DefectMarks,
+    state: &mut DiagnosisState,
 ) -> Result<bool, RigFail>
-    requires attached { shape_of (rig_state rig.old) ≡ Some proof.old.shape }
-    requires known { IsKnown proof.old known.old }
-    requires field { IsFieldOf proof.old.shape course.old.field }
-    requires marks { AreMarksFor proof.old.shape bad.old }
-    requires right { TrueIf (rig_state rig.old).machine.faults proof.old known.old.steps bad.old }
-    ensures known { IsKnown proof.new known.new }
-    ensures field { course.new.field ≡ course.old.field }
-    ensures marks { AreMarksFor proof.old.shape bad.new }
-    ensures right { TrueIf (rig_state rig.old).machine.faults proof.new known.new.steps bad.new }
+    requires attached { shape_of (rig_state rig.old) ≡ Some facts.old.shape }
+    requires known { IsKnown facts.old known.old }
+    requires field { IsFieldOf facts.old.shape state.old.field }
+    requires marks { AreMarksFor facts.old.shape bad.old }
+    requires right { TrueIf (rig_state rig.old).machine.faults facts.old known.old.steps bad.old }
+    ensures known { IsKnown facts.new known.new }
+    ensures field { state.new.field ≡ state.old.field }
+    ensures marks { AreMarksFor facts.old.shape bad.new }
+    ensures right { TrueIf (rig_state rig.old).machine.faults facts.new known.new.steps bad.new }
     ensures same { IfOk result (λ chosen. chosen ≡ false → known.new ≡ known.old) }
-    ensures pays { worth course.new.field proof.new bad.new (rig_state rig.new).loads course.new.choices.left
-        ≤ worth course.old.field proof.old bad.old (rig_state rig.old).loads course.old.choices.left }
-    ensures paid { course.new.choices.paid ≡ course.old.choices.paid }
-    ensures advances { Advances (rig_state rig.old) (rig_state rig.new) proof.old proof.new }
+    ensures pays { worth state.new.field facts.new bad.new (rig_state rig.new).loads state.new.choices.left
+        ≤ worth state.old.field facts.old bad.old (rig_state rig.old).loads state.old.choices.left }
+    ensures paid { state.new.choices.paid ≡ state.old.choices.paid }
+    ensures advances { Advances (rig_state rig.old) (rig_state rig.new) facts.old facts.new }
     ensures cause { IsErrOf result RigFail.Failed → Rose (rig_state rig.old).failures (rig_state rig.new).failures }
 {
-    let choices = &mut course.choices;
-    if !choose(rig, proof, known, bad, &course.field, choices)? {
+    let choices = &mut state.choices;
+    if !choose(rig, facts, known, bad, &state.field, choices)? {
         return Ok(false);
     }
-    sweep_with(rig, proof, known, bad, &course.field, &mut course.choices)?;
+    sweep_with(rig, facts, known, bad, &state.field, &mut state.choices)?;
     Ok(true)
 }
 
 // The same as long as some give way, a few times.
 fn choose_all(
     rig: &mut Box<dyn Rig>,
-    proof: &mut Proof,
+    facts: &mut Facts,
     known: &mut Known,
-    bad: &mut Bad,
-    course: &mut Course,
+    bad: &mut DefectMarks,
+    state: &mut DiagnosisState,
 ) -> Result<(), RigFail>
-    requires attached { shape_of (rig_state rig.old) ≡ Some proof.old.shape }
-    requires known { IsKnown proof.old known.old }
-    requires field { IsFieldOf proof.old.shape course.old.field }
-    requires marks { AreMarksFor proof.old.shape bad.old }
-    requires right { TrueIf (rig_state rig.old).machine.faults proof.old known.old.steps bad.old }
-    ensures known { IsKnown proof.new known.new }
-    ensures field { course.new.field ≡ course.old.field }
-    ensures marks { AreMarksFor proof.old.shape bad.new }
-    ensures right { TrueIf (rig_state rig.old).machine.faults proof.new known.new.steps bad.new }
-    ensures pays { worth course.new.field proof.new bad.new (rig_state rig.new).loads course.new.choices.left
-        ≤ worth course.old.field proof.old bad.old (rig_state rig.old).loads course.old.choices.left }
-    ensures paid { course.new.choices.paid ≡ course.old.choices.paid }
-    ensures advances { Advances (rig_state rig.old) (rig_state rig.new) proof.old proof.new }
+    requires attached { shape_of (rig_state rig.old) ≡ Some facts.old.shape }
+    requires known { IsKnown facts.old known.old }
+    requires field { IsFieldOf facts.old.shape state.old.field }
+    requires marks { AreMarksFor facts.old.shape bad.old }
+    requires right { TrueIf (rig_state rig.old).machine.faults facts.old known.old.steps bad.old }
+    ensures known { IsKnown facts.new known.new }
+    ensures field { state.new.field ≡ state.old.field }
+    ensures marks { AreMarksFor facts.old.shape bad.new }
+    ensures right { TrueIf (rig_state rig.old).machine.faults facts.new known.new.steps bad.new }
+    ensures pays { worth state.new.field facts.new bad.new (rig_state rig.new).loads state.new.choices.left
+        ≤ worth state.old.field facts.old bad.old (rig_state rig.old).loads state.old.choices.left }
+    ensures paid { state.new.choices.paid ≡ state.old.choices.paid }
+    ensures advances { Advances (rig_state rig.old) (rig_state rig.new) facts.old facts.new }
     ensures cause { IsErrOf result RigFail.Failed → Rose (rig_state rig.old).failures (rig_state rig.new).failures }
 {
     'choices: for _choice in 0..MOST_CHOICES {
-        if !choose_once(rig, proof, known, bad, course)? {
+        if !choose_once(rig, facts, known, bad, state)? {
             return Ok(());
         }
     }
@@ -157,63 +162,63 @@ fn choose_all(
 // The whole machine is swept, once and behind choices.
 fn sweep_whole(
     rig: &mut Box<dyn Rig>,
-    proof: &mut Proof,
+    facts: &mut Facts,
     known: &mut Known,
-    bad: &mut Bad,
-    course: &mut Course,
+    bad: &mut DefectMarks,
+    state: &mut DiagnosisState,
 ) -> Result<(), RigFail>
-    requires attached { shape_of (rig_state rig.old) ≡ Some proof.old.shape }
-    requires known { IsKnown proof.old known.old }
-    requires field { IsFieldOf proof.old.shape course.old.field }
-    requires marks { AreMarksFor proof.old.shape bad.old }
-    requires right { TrueIf (rig_state rig.old).machine.faults proof.old known.old.steps bad.old }
-    requires paid { length course.old.choices.paid ≡ wires_of proof.old.shape }
-    ensures known { IsKnown proof.new known.new }
-    ensures field { course.new.field ≡ course.old.field }
-    ensures marks { AreMarksFor proof.old.shape bad.new }
-    ensures right { TrueIf (rig_state rig.old).machine.faults proof.new known.new.steps bad.new }
-    ensures pays { worth course.new.field proof.new bad.new (rig_state rig.new).loads course.new.choices.left
-        + 14 * size_of course.old.choices.paid
-        ≤ worth course.old.field proof.old bad.old (rig_state rig.old).loads course.old.choices.left
-        + (pins_in proof.old.shape course.old.field + 14 * size_of course.new.choices.paid) }
-    ensures few { IfFaultless (rig_state rig.old).machine.faults proof.old (course.new.choices.paid ≡ course.old.choices.paid) }
-    ensures paid { length course.new.choices.paid ≡ length course.old.choices.paid }
-    ensures advances { Advances (rig_state rig.old) (rig_state rig.new) proof.old proof.new }
+    requires attached { shape_of (rig_state rig.old) ≡ Some facts.old.shape }
+    requires known { IsKnown facts.old known.old }
+    requires field { IsFieldOf facts.old.shape state.old.field }
+    requires marks { AreMarksFor facts.old.shape bad.old }
+    requires right { TrueIf (rig_state rig.old).machine.faults facts.old known.old.steps bad.old }
+    requires paid { length state.old.choices.paid ≡ wires_of facts.old.shape }
+    ensures known { IsKnown facts.new known.new }
+    ensures field { state.new.field ≡ state.old.field }
+    ensures marks { AreMarksFor facts.old.shape bad.new }
+    ensures right { TrueIf (rig_state rig.old).machine.faults facts.new known.new.steps bad.new }
+    ensures pays { worth state.new.field facts.new bad.new (rig_state rig.new).loads state.new.choices.left
+        + 14 * size_of state.old.choices.paid
+        ≤ worth state.old.field facts.old bad.old (rig_state rig.old).loads state.old.choices.left
+        + (pins_in facts.old.shape state.old.field + 14 * size_of state.new.choices.paid) }
+    ensures few { IfFaultless (rig_state rig.old).machine.faults facts.old (state.new.choices.paid ≡ state.old.choices.paid) }
+    ensures paid { length state.new.choices.paid ≡ length state.old.choices.paid }
+    ensures advances { Advances (rig_state rig.old) (rig_state rig.new) facts.old facts.new }
     ensures cause { IsErrOf result RigFail.Failed → Rose (rig_state rig.old).failures (rig_state rig.new).failures }
 {
-    let Ok(tables) = all_tables(known.alloc(), &proof.shape()) else {
+    let Ok(tables) = all_tables(known.alloc(), &facts.shape()) else {
         return Err(RigFail::Memory);
     };
-    sweep(rig, proof, known, bad, &course.field, &tables)?;
+    sweep(rig, facts, known, bad, &state.field, &tables)?;
     let Ok(unfit) = unfit_wires(known.alloc(), known, bad) else {
         return Err(RigFail::Memory);
     };
-    course.choices.pay_for(&unfit);
-    choose_all(rig, proof, known, bad, course)
+    state.choices.pay_for(&unfit);
+    choose_all(rig, facts, known, bad, state)
 }
 
 // What is known grows in what isn't marked bad.
 fn grow_whole(
     rig: &mut Box<dyn Rig>,
-    proof: &mut Proof,
+    facts: &mut Facts,
     known: &mut Known,
-    bad: &Bad,
+    bad: &DefectMarks,
     field: &Field,
 ) -> Result<(), RigFail>
-    requires attached { shape_of (rig_state rig.old) ≡ Some proof.old.shape }
-    requires known { IsKnown proof.old known.old }
-    requires field { IsFieldOf proof.old.shape field.now }
-    requires whole { IsWhole proof.old.shape field.now }
-    requires marks { AreMarksFor proof.old.shape bad.now }
-    requires right { TrueIf (rig_state rig.old).machine.faults proof.old known.old.steps bad.now }
-    ensures known { IsKnown proof.new known.new }
-    ensures right { TrueIf (rig_state rig.old).machine.faults proof.new known.new.steps bad.now }
-    ensures reached { OnOk result (ReachedIf (rig_state rig.old).machine.faults proof.new known.new.steps) }
-    ensures loads { (rig_state rig.new).loads + pins_in proof.old.shape field.now
-        ≤ (rig_state rig.old).loads + (8 * undecided proof.old bad.now field.now + 3 * size_of field.now.wires) }
-    ensures few { IfFaultless (rig_state rig.old).machine.faults proof.old ((rig_state rig.new).loads + pins_in proof.old.shape field.now
-        ≤ (rig_state rig.old).loads + (2 * undecided proof.old bad.now field.now + 3 * size_of field.now.wires)) }
-    ensures advances { Advances (rig_state rig.old) (rig_state rig.new) proof.old proof.new }
+    requires attached { shape_of (rig_state rig.old) ≡ Some facts.old.shape }
+    requires known { IsKnown facts.old known.old }
+    requires field { IsFieldOf facts.old.shape field.now }
+    requires whole { IsWhole facts.old.shape field.now }
+    requires marks { AreMarksFor facts.old.shape bad.now }
+    requires right { TrueIf (rig_state rig.old).machine.faults facts.old known.old.steps bad.now }
+    ensures known { IsKnown facts.new known.new }
+    ensures right { TrueIf (rig_state rig.old).machine.faults facts.new known.new.steps bad.now }
+    ensures reached { OnOk result (ReachedIf (rig_state rig.old).machine.faults facts.new known.new.steps) }
+    ensures loads { (rig_state rig.new).loads + pins_in facts.old.shape field.now
+        ≤ (rig_state rig.old).loads + (8 * undecided facts.old bad.now field.now + 3 * size_of field.now.wires) }
+    ensures few { IfFaultless (rig_state rig.old).machine.faults facts.old ((rig_state rig.new).loads + pins_in facts.old.shape field.now
+        ≤ (rig_state rig.old).loads + (2 * undecided facts.old bad.now field.now + 3 * size_of field.now.wires)) }
+    ensures advances { Advances (rig_state rig.old) (rig_state rig.new) facts.old facts.new }
     ensures cause { IsErrOf result RigFail.Failed → Rose (rig_state rig.old).failures (rig_state rig.new).failures }
 {
     the_numbering_is_sound();
@@ -222,87 +227,87 @@ fn grow_whole(
     let Ok(rest) = without_bad(known.alloc(), bad, field) else {
         return Err(RigFail::Memory);
     };
-    grow(rig, proof, known, &rest)
+    grow(rig, facts, known, &rest)
 }
 
 // Where growth has lost pins of tables, and some wires give way for them, the machine is swept and what is known grows once more.
 fn know_lost(
     rig: &mut Box<dyn Rig>,
-    proof: &mut Proof,
+    facts: &mut Facts,
     known: &mut Known,
-    bad: &mut Bad,
-    course: &mut Course,
+    bad: &mut DefectMarks,
+    state: &mut DiagnosisState,
 ) -> Result<(), RigFail>
-    requires attached { shape_of (rig_state rig.old) ≡ Some proof.old.shape }
-    requires known { IsKnown proof.old known.old }
-    requires field { IsFieldOf proof.old.shape course.old.field }
-    requires marks { AreMarksFor proof.old.shape bad.old }
-    requires right { TrueIf (rig_state rig.old).machine.faults proof.old known.old.steps bad.old }
-    requires whole { IsWhole proof.old.shape course.old.field }
-    requires paid { length course.old.choices.paid ≡ wires_of proof.old.shape }
-    requires reached { ReachedIf (rig_state rig.old).machine.faults proof.old known.old.steps }
-    ensures known { IsKnown proof.new known.new }
-    ensures marks { AreMarksFor proof.old.shape bad.new }
-    ensures right { TrueIf (rig_state rig.old).machine.faults proof.new known.new.steps bad.new }
-    ensures reached { OnOk result (ReachedIf (rig_state rig.old).machine.faults proof.new known.new.steps) }
-    ensures loads { (rig_state rig.new).loads + 14 * size_of course.old.choices.paid
-        ≤ (rig_state rig.old).loads + (course.old.choices.left + (loads_for proof.old 8 3 + 14 * wires_of proof.old.shape)) }
-    ensures few { IfFaultless (rig_state rig.old).machine.faults proof.old ((rig_state rig.new).loads ≤ (rig_state rig.old).loads) }
-    ensures advances { Advances (rig_state rig.old) (rig_state rig.new) proof.old proof.new }
+    requires attached { shape_of (rig_state rig.old) ≡ Some facts.old.shape }
+    requires known { IsKnown facts.old known.old }
+    requires field { IsFieldOf facts.old.shape state.old.field }
+    requires marks { AreMarksFor facts.old.shape bad.old }
+    requires right { TrueIf (rig_state rig.old).machine.faults facts.old known.old.steps bad.old }
+    requires whole { IsWhole facts.old.shape state.old.field }
+    requires paid { length state.old.choices.paid ≡ wires_of facts.old.shape }
+    requires reached { ReachedIf (rig_state rig.old).machine.faults facts.old known.old.steps }
+    ensures known { IsKnown facts.new known.new }
+    ensures marks { AreMarksFor facts.old.shape bad.new }
+    ensures right { TrueIf (rig_state rig.old).machine.faults facts.new known.new.steps bad.new }
+    ensures reached { OnOk result (ReachedIf (rig_state rig.old).machine.faults facts.new known.new.steps) }
+    ensures loads { (rig_state rig.new).loads + 14 * size_of state.old.choices.paid
+        ≤ (rig_state rig.old).loads + (state.old.choices.left + (loads_for facts.old 8 3 + 14 * wires_of facts.old.shape)) }
+    ensures few { IfFaultless (rig_state rig.old).machine.faults facts.old ((rig_state rig.new).loads ≤ (rig_state rig.old).loads) }
+    ensures advances { Advances (rig_state rig.old) (rig_state rig.new) facts.old facts.new }
     ensures cause { IsErrOf result RigFail.Failed → Rose (rig_state rig.old).failures (rig_state rig.new).failures }
 {
     growth_without_bad_is_paid();
-    let Ok(found) = lost_pins(known.alloc(), proof, known) else {
+    let Ok(found) = lost_pins(known.alloc(), facts, known) else {
         return Err(RigFail::Memory);
     };
     let Some(lost) = found else {
         return Ok(());
     };
-    course.choices.pay_for(&lost);
+    state.choices.pay_for(&lost);
     let before = loads_since(rig, 0);
-    if !choose_once(rig, proof, known, bad, course)? {
-        course.swept = course.swept.saturating_add(loads_since(rig, before));
+    if !choose_once(rig, facts, known, bad, state)? {
+        state.swept = state.swept.saturating_add(loads_since(rig, before));
         return Ok(());
     }
-    course.swept = course.swept.saturating_add(loads_since(rig, before));
-    grow_whole(rig, proof, known, bad, &course.field)
+    state.swept = state.swept.saturating_add(loads_since(rig, before));
+    grow_whole(rig, facts, known, bad, &state.field)
 }
 
 // The known wires of the machine. Where wires are shorted, those stay that pins of tables need, as far as that is found.
 fn known_wires(
     alloc: Global,
     rig: &mut Box<dyn Rig>,
-    proof: &mut Proof,
-    bad: &mut Bad,
+    facts: &mut Facts,
+    bad: &mut DefectMarks,
     parts: &mut Parts,
 ) -> Result<Known, RigFail>
-    requires attached { shape_of (rig_state rig.old) ≡ Some proof.old.shape }
-    requires marks { AreMarksFor proof.old.shape bad.old }
-    requires right { (ss : List Step) → TrueIf (rig_state rig.old).machine.faults proof.old ss bad.old }
-    ensures known { IfOk result (IsKnown proof.new) }
-    ensures marks { AreMarksFor proof.old.shape bad.new }
-    ensures right { IfOk result (λ known. TrueIf (rig_state rig.old).machine.faults proof.new known.steps bad.new) }
-    ensures reached { IfOk result (λ known. ReachedIf (rig_state rig.old).machine.faults proof.new known.steps) }
-    ensures advances { Advances (rig_state rig.old) (rig_state rig.new) proof.old proof.new }
-    ensures loads { (rig_state rig.new).loads ≤ (rig_state rig.old).loads + loads_for proof.old 16 20 }
-    ensures few { IfFaultless (rig_state rig.old).machine.faults proof.old
-        ((rig_state rig.new).loads ≤ (rig_state rig.old).loads + loads_for proof.old 2 3) }
+    requires attached { shape_of (rig_state rig.old) ≡ Some facts.old.shape }
+    requires marks { AreMarksFor facts.old.shape bad.old }
+    requires right { (ss : List VerifiedWire) → TrueIf (rig_state rig.old).machine.faults facts.old ss bad.old }
+    ensures known { IfOk result (IsKnown facts.new) }
+    ensures marks { AreMarksFor facts.old.shape bad.new }
+    ensures right { IfOk result (λ known. TrueIf (rig_state rig.old).machine.faults facts.new known.steps bad.new) }
+    ensures reached { IfOk result (λ known. ReachedIf (rig_state rig.old).machine.faults facts.new known.steps) }
+    ensures advances { Advances (rig_state rig.old) (rig_state rig.new) facts.old facts.new }
+    ensures loads { (rig_state rig.new).loads ≤ (rig_state rig.old).loads + loads_for facts.old 16 20 }
+    ensures few { IfFaultless (rig_state rig.old).machine.faults facts.old
+        ((rig_state rig.new).loads ≤ (rig_state rig.old).loads + loads_for facts.old 2 3) }
     ensures cause { IsErrOf result RigFail.Failed → Rose (rig_state rig.old).failures (rig_state rig.new).failures }
 {
     tests_add_up();
     growth_without_bad_is_paid();
-    let Ok(mut known) = Known::new(alloc, &proof.shape()) else {
+    let Ok(mut known) = Known::new(alloc, &facts.shape()) else {
         return Err(RigFail::Memory);
     };
-    let Ok(mut course) = course_of(alloc, proof, &known, bad) else {
+    let Ok(mut state) = first_state(alloc, facts, &known, bad) else {
         return Err(RigFail::Memory);
     };
     let before = loads_since(rig, 0);
-    sweep_whole(rig, proof, &mut known, bad, &mut course)?;
-    course.swept = loads_since(rig, before);
-    grow_whole(rig, proof, &mut known, bad, &course.field)?;
-    know_lost(rig, proof, &mut known, bad, &mut course)?;
-    parts.sweep = course.swept;
+    sweep_whole(rig, facts, &mut known, bad, &mut state)?;
+    state.swept = loads_since(rig, before);
+    grow_whole(rig, facts, &mut known, bad, &state.field)?;
+    know_lost(rig, facts, &mut known, bad, &mut state)?;
+    parts.sweep = state.swept;
     Ok(known)
 }
 
@@ -327,56 +332,56 @@ fn tables_left(alloc: Global, shape: &Shape, wrong: &BitSet) -> Result<Vec<Table
 fn test_all(
     alloc: Global,
     rig: &mut Box<dyn Rig>,
-    proof: &mut Proof,
+    facts: &mut Facts,
     known: &Known,
-    bad: &Bad,
+    bad: &DefectMarks,
 ) -> Result<(), RigFail>
-    requires attached { shape_of (rig_state rig.old) ≡ Some proof.old.shape }
-    requires known { IsKnown proof.old known.now }
-    requires marks { AreMarksFor proof.old.shape bad.now }
-    requires right { TrueIf (rig_state rig.old).machine.faults proof.old known.now.steps bad.now }
-    ensures tables { OnOk result (TablesIf (rig_state rig.old).machine.faults proof.old proof.new known.now.steps) }
-    ensures advances { Advances (rig_state rig.old) (rig_state rig.new) proof.old proof.new }
-    ensures only { AddsOnlyTableFacts proof.old proof.new }
-    ensures loads { (rig_state rig.new).loads ≤ (rig_state rig.old).loads + 130 * tables_of proof.old.shape }
+    requires attached { shape_of (rig_state rig.old) ≡ Some facts.old.shape }
+    requires known { IsKnown facts.old known.now }
+    requires marks { AreMarksFor facts.old.shape bad.now }
+    requires right { TrueIf (rig_state rig.old).machine.faults facts.old known.now.steps bad.now }
+    ensures tables { OnOk result (TablesIf (rig_state rig.old).machine.faults facts.old facts.new known.now.steps) }
+    ensures advances { Advances (rig_state rig.old) (rig_state rig.new) facts.old facts.new }
+    ensures only { AddsOnlyTableFacts facts.old facts.new }
+    ensures loads { (rig_state rig.new).loads ≤ (rig_state rig.old).loads + 130 * tables_of facts.old.shape }
     ensures cause { IsErrOf result RigFail.Failed → Rose (rig_state rig.old).failures (rig_state rig.new).failures }
 {
     tests_add_up();
-    let Ok(tables) = tables_left(alloc, &proof.shape(), &bad.wrong) else {
+    let Ok(tables) = tables_left(alloc, &facts.shape(), &bad.wrong) else {
         return Err(RigFail::Memory);
     };
-    test_tables(rig, proof, known, &tables)
+    test_tables(rig, facts, known, &tables)
 }
 
 // The diagnosis, with a proof that keeps nothing yet.
 fn diagnose_with(
     alloc: Global,
     rig: &mut Box<dyn Rig>,
-    proof: &mut Proof,
+    facts: &mut Facts,
     parts: &mut Parts,
 ) -> Result<Defects, RigFail>
-    requires attached { shape_of (rig_state rig.old) ≡ Some proof.old.shape }
-    requires nothing { KeepsNothing proof.old }
+    requires attached { shape_of (rig_state rig.old) ≡ Some facts.old.shape }
+    requires nothing { KeepsNothing facts.old }
 
-    ensures shape { IfOk result (λ d. d.shape ≡ proof.old.shape) }
-    ensures right { IfOk result (λ d. IsDiagnosis (rig_state rig.old).machine.faults proof.old.shape d.list) }
-    ensures advances { Advances (rig_state rig.old) (rig_state rig.new) proof.old proof.new }
-    ensures loads { TakesFewLoads (rig_state rig.old).machine.faults proof.old.shape (rig_state rig.old).loads (rig_state rig.new).loads }
+    ensures shape { IfOk result (λ d. d.shape ≡ facts.old.shape) }
+    ensures right { IfOk result (λ d. IsDiagnosis (rig_state rig.old).machine.faults facts.old.shape d.list) }
+    ensures advances { Advances (rig_state rig.old) (rig_state rig.new) facts.old facts.new }
+    ensures loads { TakesFewLoads (rig_state rig.old).machine.faults facts.old.shape (rig_state rig.old).loads (rig_state rig.new).loads }
     ensures cause { IsErrOf result RigFail.Failed → Rose (rig_state rig.old).failures (rig_state rig.new).failures }
 {
     the_numbering_is_sound();
     tight_lists_are_fair();
     kept_facts_are_sound();
-    let Ok(mut bad) = Bad::none(alloc, &proof.shape()) else {
+    let Ok(mut bad) = DefectMarks::none(alloc, &facts.shape()) else {
         return Err(RigFail::Memory);
     };
     let before = loads_since(rig, 0);
-    let known = known_wires(alloc, rig, proof, &mut bad, parts)?;
+    let known = known_wires(alloc, rig, facts, &mut bad, parts)?;
     parts.growth = loads_since(rig, before).saturating_sub(parts.sweep);
     let before = loads_since(rig, 0);
-    test_all(alloc, rig, proof, &known, &bad)?;
+    test_all(alloc, rig, facts, &known, &bad)?;
     parts.tables = loads_since(rig, before);
-    match list_of(alloc, proof, &known) {
+    match list_of(alloc, facts, &known) {
         Ok(list) => Ok(list),
         Err(_) => Err(RigFail::Memory),
     }
@@ -403,10 +408,10 @@ pub fn diagnose_in_parts(
     ensures loads { TakesFewLoads (rig_state rig.old).machine.faults shape.now (rig_state rig.old).loads (rig_state rig.new).loads }
     ensures cause { IsErrOf result RigFail.Failed → Rose (rig_state rig.old).failures (rig_state rig.new).failures }
 {
-    let Ok(mut proof) = Proof::new(alloc, *shape) else {
+    let Ok(mut facts) = Facts::new(alloc, *shape) else {
         return Err(RigFail::Memory);
     };
-    match diagnose_with(alloc, rig, &mut proof, parts) {
+    match diagnose_with(alloc, rig, &mut facts, parts) {
         Ok(list) => Ok(list),
         Err(fail) => Err(fail),
     }

@@ -11,8 +11,8 @@ use Rattle.diag_tests.specs.Routes.{Walk}
 use Rattle.diag_evidence.specs.Kept.{Kept, keeps_cross, keeps_pair}
 use Rattle.diag_evidence.proofs.Keeping.{pair_turned}
 use Rattle.diag_known.specs.Known.{KnownWires, HasWire, IsAt, IsFoot, IsKnown, Stands, on_pin, on_feet}
-use Rattle.diag_known.specs.declared.step.Foot.{Foot}
-use Rattle.diag_known.specs.declared.step.Stand.{Stand}
+use Rattle.diag_known.specs.declared.verified_wire.Support.{Support}
+use Rattle.diag_known.specs.declared.verified_wire.SupportedBy.{SupportedBy}
 use Rattle.diag_known.proofs.Places.{at_one, before_has}
 use Rattle.diag_published.specs.Bars.{IsListOf, IsKnownOf, IsOpenOf, AreTwoOf, AreBarOf, HasKnown}
 use Rattle.diag_published.specs.Held.{Findings, IsTrunkEnd, at_pin, at_port, IsHeldRoute, IsHeldTrunk, IsHeld, IsOpenPair, IsWireOf, of_tap, of_line, of_left, of_right, pair_numbers}
@@ -33,14 +33,14 @@ module _ (k : Kept) (known : KnownWires) (laws : AreLaws k.shape) (is : IsKnown 
   tap_among w t h = taps.all w (bar.taps.all w t, h)
 
   -- a foot of a line is a tap of its crossbar
-  record IsFootOf (w : ℕ) (a : Foot) : Type 0 where
+  record IsFootOf (w : ℕ) (a : Support) : Type 0 where
     within : a.cross.0 < crosses_of m
     tap : (ends_of m a.cross.0).0 ≡ a.wire.0
     line : (ends_of m a.cross.0).1 ≡ w
     kept : keeps_cross k a.cross.0 ≡ true
     is_tap : among ts (ends_of m a.cross.0).0 ≡ true
 
-  foot_is : (i w : ℕ) (a : Foot) → IsLine m n w → IsFoot k known.steps i w a → IsFootOf w a
+  foot_is : (i w : ℕ) (a : Support) → IsLine m n w → IsFoot k known.steps i w a → IsFootOf w a
   foot_is i w a line foot = by foot.at
     where
       by : Ends (ends_of m a.cross.0) a.wire.0 w → IsFootOf w a
@@ -68,7 +68,7 @@ module _ (k : Kept) (known : KnownWires) (laws : AreLaws k.shape) (is : IsKnown 
       line : IsLine m n w
       line = bar.lines.each w ((lines.each w on).0)
 
-      by_stand : (i : ℕ) (s : Stand) → Stands k known.steps i w s → HasTwo (Joins w)
+      by_stand : (i : ℕ) (s : SupportedBy) → Stands k known.steps i w s → HasTwo (Joins w)
       by_stand i _ (on_pin within e) = absurd (laws.tree.no_pin_is_line _ n within (subst (IsLine m n) e line))
       by_stand i _ (on_feet {a} {b} one other differ) =
           let x = foot_is i w a line one in

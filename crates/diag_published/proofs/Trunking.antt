@@ -23,7 +23,7 @@ use Rattle.diag_known.specs.Gains.{Gets, IsWireBefore}
 use Rattle.diag_known.specs.Known.{KnownWires, HasWire}
 use Rattle.diag_known.specs.Routes.{IsKnownRoute, AreRoutesTo}
 use Rattle.diag_known.specs.declared.field.Field.{Field}
-use Rattle.diag_known.specs.declared.step.Step.{Step}
+use Rattle.diag_known.specs.declared.verified_wire.VerifiedWire.{VerifiedWire}
 use Rattle.diag_growth.proofs.Decided.{known_or}
 use Rattle.diag_published.specs.Bars.{IsListOf, IsAtOneOf, IsKnownOf, IsTrunkTo, IsTrunkOf, AreTwoOf, FewPins, SoundPinsAreKnown}
 use Rattle.diag_published.specs.Held.{Findings, IsTrunkEnd, at_pin, at_port, IsHeldRoute, IsHeldTrunk, IsHeld, FullIf, IsUnserved, LoadsAtMost, UnservedIf, wire_numbers}
@@ -53,7 +53,7 @@ trunk_is {k} {known} r = record {
 }
 
 -- routes without a common wire begin at different pins
-pub pins_differ : {k : Kept} {ss : List Step} {a b : ℕ} {p q : Walk} → AreRoutesTo k ss a b p q → p.pin ≢ q.pin
+pub pins_differ : {k : Kept} {ss : List VerifiedWire} {a b : ℕ} {p q : Walk} → AreRoutesTo k ss a b p q → p.pin ≢ q.pin
 pins_differ {k} {ss} {a} {b} {p} {q} r e =
     let on : among q.wires (pin_wire k.shape q.pin) ≡ true = LeadsTo-start r.routes.right.route.leads in
     let off : among q.wires (pin_wire k.shape p.pin) ≡ false = r.routes.apart _ (LeadsTo-start r.routes.left.route.leads) in
@@ -79,11 +79,11 @@ pub pin_end : (m : Shape) (count : ℕ) (ws : List ℕ) → count ≤ pins_of m 
 pin_end m count ws few list w is = let p = list.each w is in at_pin p.position refl (let early = p.early in omega (arith, early, few)) p.is
 
 -- a sound wire that isn't known is shorted to no known one
-pub sound_alone : {m : Shape} {f : Faults} {ss : List Step} {w : ℕ} → IsSoundWire m f w → (HasWire ss w → ⊥) → IsAlone m f (HasWire ss) w
+pub sound_alone : {m : Shape} {f : Faults} {ss : List VerifiedWire} {w : ℕ} → IsSoundWire m f w → (HasWire ss w → ⊥) → IsAlone m f (HasWire ss) w
 sound_alone {ss = ss} sound never u h s = never (subst (HasWire ss) (sound.alone u s) h)
 
 -- a sound pin of the field is known
-pub pin_known : {m : Shape} {k : Kept} {f : Faults} {a : Field} {ss : List Step} (j : ℕ) → m ≡ k.shape → IsClosed k f a (HasWire ss) → j < pins_of m → has_number a.wires (pin_wire m j) ≡ true → IsSoundWire m f (pin_wire m j) → HasWire ss (pin_wire m j)
+pub pin_known : {m : Shape} {k : Kept} {f : Faults} {a : Field} {ss : List VerifiedWire} (j : ℕ) → m ≡ k.shape → IsClosed k f a (HasWire ss) → j < pins_of m → has_number a.wires (pin_wire m j) ≡ true → IsSoundWire m f (pin_wire m j) → HasWire ss (pin_wire m j)
 pin_known {m} {k} {f} {a} {ss} j e closed within marked sound = by (known_or ss (pin_wire m j))
   where
     by : HasWire ss (pin_wire m j) ⊎ (HasWire ss (pin_wire m j) → ⊥) → HasWire ss (pin_wire m j)

@@ -17,13 +17,13 @@ use std::alloc::{AllocError, Global};
 
 /// The taps and the lines of a crossbar.
 #[derive(Drop)]
-pub(crate) struct Bar {
+pub(crate) struct Crossbar {
     pub taps: Vec<Wire>,
     pub lines: Vec<Wire>,
 }
 
 /// The crossbar of a node.
-pub(crate) fn bar_of(alloc: Global, shape: &Shape, node: Node) -> Result<Bar, AllocError>
+pub(crate) fn bar_of(alloc: Global, shape: &Shape, node: Node) -> Result<Crossbar, AllocError>
     requires { node.0 < nodes_of shape.now }
     ensures bar { IfOk result (λ b. AreBarOf shape.now node.0 (wire_numbers b.taps.items) (wire_numbers b.lines.items)) }
     ensures taps { IfOk result (λ b. All (λ w. w.0 < wires_of shape.now) b.taps.items) }
@@ -32,7 +32,7 @@ pub(crate) fn bar_of(alloc: Global, shape: &Shape, node: Node) -> Result<Bar, Al
     ensures line_count { IfOk result (λ b. length b.lines.items ≡ lines_of shape.now node.0) }
 {
     the_laws_hold();
-    Ok(Bar {
+    Ok(Crossbar {
         taps: taps_in(alloc, shape, node)?,
         lines: lines_in(alloc, shape, node)?,
     })
@@ -95,7 +95,7 @@ pub(crate) fn bar_field(
     alloc: Global,
     shape: &Shape,
     node: Node,
-    bar: &Bar,
+    bar: &Crossbar,
 ) -> Result<Field, AllocError>
     requires node { node.0 < nodes_of shape.now }
     requires some { 0 < taps_of shape.now node.0 }

@@ -8,12 +8,12 @@ ghost use Rattle.diag_known.specs.Known.{IsKnown, HasWire};
 ghost use Rattle.diag_published.specs.Bars.{AreBarOf, HasKnown, IsBarField};
 ghost use Rattle.diag_published.specs.Held.{FewLoadsForBar, FullIf, IsHeld, IsHeldTrunk, LoadsForBar, wire_numbers};
 
-use crate::bars::{Bar, bar_field, bar_of};
+use crate::bars::{Crossbar, bar_field, bar_of};
 use crate::laws::the_laws_hold;
 use crate::lists::{known_of, two_of};
 use crate::pairs::open_lines;
 use crate::tested::Tested;
-use diag_evidence::Proof;
+use diag_evidence::Facts;
 use diag_evidence::laws::tests_add_up;
 use diag_growth::{Field, Known, grow};
 use diag_tests::Trunk;
@@ -24,40 +24,40 @@ use std::alloc::{AllocError, Global};
 // What is known of a crossbar.
 fn found_in(
     alloc: Global,
-    proof: &Proof,
+    facts: &Facts,
     known: &Known,
     node: Node,
     trunk: Trunk,
-    bar: &Bar,
+    bar: &Crossbar,
 ) -> Result<Tested, AllocError>
-    requires known { IsKnown proof.now known.now }
-    requires node { node.0 < nodes_of proof.now.shape }
-    requires trunk { IsHeldTrunk proof.now known.now node.0 trunk.left trunk.right }
-    requires bar { AreBarOf proof.now.shape node.0 (wire_numbers bar.now.taps.items) (wire_numbers bar.now.lines.items) }
-    requires taps { All (λ w. w.0 < wires_of proof.now.shape) bar.now.taps.items }
-    requires lines { All (λ w. w.0 < wires_of proof.now.shape) bar.now.lines.items }
+    requires known { IsKnown facts.now known.now }
+    requires node { node.0 < nodes_of facts.now.shape }
+    requires trunk { IsHeldTrunk facts.now known.now node.0 trunk.left trunk.right }
+    requires bar { AreBarOf facts.now.shape node.0 (wire_numbers bar.now.taps.items) (wire_numbers bar.now.lines.items) }
+    requires taps { All (λ w. w.0 < wires_of facts.now.shape) bar.now.taps.items }
+    requires lines { All (λ w. w.0 < wires_of facts.now.shape) bar.now.lines.items }
     ensures node { IfOk result (λ t. t.node ≡ node.0) }
-    ensures held { IfOk result (IsHeld proof.now known.now) }
-    ensures all { IfOk result (HasKnown proof.now known.now) }
+    ensures held { IfOk result (IsHeld facts.now known.now) }
+    ensures all { IfOk result (HasKnown facts.now known.now) }
 {
     the_laws_hold();
     let taps = known_of(alloc, known, &bar.taps)?;
     let lines = known_of(alloc, known, &bar.lines)?;
-    let those = open_lines(alloc, proof, &taps, &lines)?;
+    let those = open_lines(alloc, facts, &taps, &lines)?;
     let pair = two_of(&those);
     Ok(Tested::new(node, trunk, lines, taps, pair))
 }
 
 // The crossbar of a node, and the field that it is.
-fn ground_of(alloc: Global, proof: &Proof, node: Node) -> Result<(Bar, Field), AllocError>
-    requires node { node.0 < nodes_of proof.now.shape }
-    requires some { 0 < taps_of proof.now.shape node.0 }
-    ensures bar { IfOk result (λ g. AreBarOf proof.now.shape node.0 (wire_numbers g.0.taps.items) (wire_numbers g.0.lines.items)) }
-    ensures taps { IfOk result (λ g. All (λ w. w.0 < wires_of proof.now.shape) g.0.taps.items) }
-    ensures lines { IfOk result (λ g. All (λ w. w.0 < wires_of proof.now.shape) g.0.lines.items) }
-    ensures field { IfOk result (λ g. IsBarField proof.now.shape node.0 g.1) }
+fn ground_of(alloc: Global, facts: &Facts, node: Node) -> Result<(Crossbar, Field), AllocError>
+    requires node { node.0 < nodes_of facts.now.shape }
+    requires some { 0 < taps_of facts.now.shape node.0 }
+    ensures bar { IfOk result (λ g. AreBarOf facts.now.shape node.0 (wire_numbers g.0.taps.items) (wire_numbers g.0.lines.items)) }
+    ensures taps { IfOk result (λ g. All (λ w. w.0 < wires_of facts.now.shape) g.0.taps.items) }
+    ensures lines { IfOk result (λ g. All (λ w. w.0 < wires_of facts.now.shape) g.0.lines.items) }
+    ensures field { IfOk result (λ g. IsBarField facts.now.shape node.0 g.1) }
 {
-    let shape = proof.shape();
+    let shape = facts.shape();
     let bar = bar_of(alloc, &shape, node)?;
     let field = bar_field(alloc, &shape, node, &bar)?;
     Ok((bar, field))
@@ -67,32 +67,32 @@ fn ground_of(alloc: Global, proof: &Proof, node: Node) -> Result<(Bar, Field), A
 fn test_node(
     alloc: Global,
     rig: &mut Box<dyn Rig>,
-    proof: &mut Proof,
+    facts: &mut Facts,
     known: &mut Known,
     node: Node,
     trunk: Trunk,
 ) -> Result<Tested, RigFail>
-    requires attached { shape_of (rig_state rig.old) ≡ Some proof.old.shape }
-    requires known { IsKnown proof.old known.old }
-    requires trunk { IsHeldTrunk proof.old known.old node.0 trunk.left trunk.right }
+    requires attached { shape_of (rig_state rig.old) ≡ Some facts.old.shape }
+    requires known { IsKnown facts.old known.old }
+    requires trunk { IsHeldTrunk facts.old known.old node.0 trunk.left trunk.right }
 
-    ensures known { IsKnown proof.new known.new }
+    ensures known { IsKnown facts.new known.new }
     ensures stays { (w : ℕ) → HasWire known.old.steps w → HasWire known.new.steps w }
     ensures node { IfOk result (λ tested. tested.node ≡ node.0) }
-    ensures held { IfOk result (IsHeld proof.new known.new) }
-    ensures full { IfOk result (FullIf (rig_state rig.old).machine.faults proof.old proof.new) }
-    ensures loads { LoadsForBar proof.old.shape node.0 (rig_state rig.old).loads (rig_state rig.new).loads }
-    ensures few { FewLoadsForBar (rig_state rig.old).machine.faults proof.old node.0 (rig_state rig.old).loads (rig_state rig.new).loads }
-    ensures advances { Advances (rig_state rig.old) (rig_state rig.new) proof.old proof.new }
+    ensures held { IfOk result (IsHeld facts.new known.new) }
+    ensures full { IfOk result (FullIf (rig_state rig.old).machine.faults facts.old facts.new) }
+    ensures loads { LoadsForBar facts.old.shape node.0 (rig_state rig.old).loads (rig_state rig.new).loads }
+    ensures few { FewLoadsForBar (rig_state rig.old).machine.faults facts.old node.0 (rig_state rig.old).loads (rig_state rig.new).loads }
+    ensures advances { Advances (rig_state rig.old) (rig_state rig.new) facts.old facts.new }
     ensures cause { IsErrOf result RigFail.Failed → Rose (rig_state rig.old).failures (rig_state rig.new).failures }
 {
     the_laws_hold();
     tests_add_up();
-    let Ok((bar, field)) = ground_of(alloc, proof, node) else {
+    let Ok((bar, field)) = ground_of(alloc, facts, node) else {
         return Err(RigFail::Memory);
     };
-    grow(rig, proof, known, &field)?;
-    match found_in(alloc, proof, known, node, trunk, &bar) {
+    grow(rig, facts, known, &field)?;
+    match found_in(alloc, facts, known, node, trunk, &bar) {
         Ok(tested) => Ok(tested),
         Err(_) => Err(RigFail::Memory),
     }
@@ -107,27 +107,27 @@ fn test_node(
 pub fn test_crossbar(
     alloc: Global,
     rig: &mut Box<dyn Rig>,
-    proof: &mut Proof,
+    facts: &mut Facts,
     known: &mut Known,
     trunk: Trunk,
 ) -> Result<Tested, RigFail>
-    requires attached { shape_of (rig_state rig.old) ≡ Some proof.old.shape }
-    requires known { IsKnown proof.old known.old }
-    requires trunk { IsHeldTrunk proof.old known.old (node_of proof.old.shape trunk.left.end) trunk.left trunk.right }
+    requires attached { shape_of (rig_state rig.old) ≡ Some facts.old.shape }
+    requires known { IsKnown facts.old known.old }
+    requires trunk { IsHeldTrunk facts.old known.old (node_of facts.old.shape trunk.left.end) trunk.left trunk.right }
 
-    ensures known { IsKnown proof.new known.new }
+    ensures known { IsKnown facts.new known.new }
     ensures stays { (w : ℕ) → HasWire known.old.steps w → HasWire known.new.steps w }
-    ensures node { IfOk result (λ tested. tested.node ≡ node_of proof.old.shape trunk.left.end) }
-    ensures held { IfOk result (IsHeld proof.new known.new) }
-    ensures full { IfOk result (FullIf (rig_state rig.old).machine.faults proof.old proof.new) }
-    ensures loads { LoadsForBar proof.old.shape (node_of proof.old.shape trunk.left.end) (rig_state rig.old).loads
+    ensures node { IfOk result (λ tested. tested.node ≡ node_of facts.old.shape trunk.left.end) }
+    ensures held { IfOk result (IsHeld facts.new known.new) }
+    ensures full { IfOk result (FullIf (rig_state rig.old).machine.faults facts.old facts.new) }
+    ensures loads { LoadsForBar facts.old.shape (node_of facts.old.shape trunk.left.end) (rig_state rig.old).loads
         (rig_state rig.new).loads }
-    ensures few { FewLoadsForBar (rig_state rig.old).machine.faults proof.old (node_of proof.old.shape trunk.left.end)
+    ensures few { FewLoadsForBar (rig_state rig.old).machine.faults facts.old (node_of facts.old.shape trunk.left.end)
         (rig_state rig.old).loads (rig_state rig.new).loads }
-    ensures advances { Advances (rig_state rig.old) (rig_state rig.new) proof.old proof.new }
+    ensures advances { Advances (rig_state rig.old) (rig_state rig.new) facts.old facts.new }
     ensures cause { IsErrOf result RigFail.Failed → Rose (rig_state rig.old).failures (rig_state rig.new).failures }
 {
     the_laws_hold();
-    let node = proof.shape().node_of(trunk.left.end());
-    test_node(alloc, rig, proof, known, node, trunk)
+    let node = facts.shape().node_of(trunk.left.end());
+    test_node(alloc, rig, facts, known, node, trunk)
 }

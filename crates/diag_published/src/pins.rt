@@ -11,7 +11,7 @@ ghost use Rattle.diag_published.specs.Held.{IsHeldTrunk, LoadsAtMost, UnservedIf
 use crate::bars::no_field;
 use crate::laws::the_laws_hold;
 use crate::lists::{known_of, pins_in, two_of};
-use diag_evidence::Proof;
+use diag_evidence::Facts;
 use diag_evidence::laws::tests_add_up;
 use diag_growth::{Known, add_wires, grow};
 use diag_tests::Trunk;
@@ -21,27 +21,27 @@ use rig::{Rig, RigFail};
 use std::alloc::{AllocError, Global};
 
 // The trunk to two known wires.
-fn trunk_to(proof: &Proof, known: &Known, a: Wire, b: Wire) -> Result<Trunk, AllocError>
-    requires known { IsKnown proof.now known.now }
+fn trunk_to(facts: &Facts, known: &Known, a: Wire, b: Wire) -> Result<Trunk, AllocError>
+    requires known { IsKnown facts.now known.now }
     requires a { HasWire known.now.steps a.0 }
     requires b { HasWire known.now.steps b.0 }
     requires differ { a.0 ≢ b.0 }
-    ensures { IfOk result (λ t. IsTrunkTo proof.now known.now a.0 b.0 t.left t.right) }
+    ensures { IfOk result (λ t. IsTrunkTo facts.now known.now a.0 b.0 t.left t.right) }
 {
-    let (left, right) = known.routes(proof, a, b)?;
+    let (left, right) = known.routes(facts, a, b)?;
     Ok(Trunk { left, right })
 }
 
 /// The trunk to two of some wires that are known. None where there aren't two.
 pub(crate) fn trunk_of(
     alloc: Global,
-    proof: &Proof,
+    facts: &Facts,
     known: &Known,
     wires: &[Wire],
 ) -> Result<Option<Trunk>, AllocError>
-    requires known { IsKnown proof.now known.now }
-    requires within { All (λ w. w.0 < wires_of proof.now.shape) wires.now }
-    ensures trunk { IfOk result (λ found. IfSome found (λ t. IsTrunkOf proof.now known.now (wire_numbers wires.now) t.left t.right)) }
+    requires known { IsKnown facts.now known.now }
+    requires within { All (λ w. w.0 < wires_of facts.now.shape) wires.now }
+    ensures trunk { IfOk result (λ found. IfSome found (λ t. IsTrunkOf facts.now known.now (wire_numbers wires.now) t.left t.right)) }
     ensures none { IfOk result (λ found. IfNone found
         ((w u : ℕ) → IsKnownOf known.now (wire_numbers wires.now) w → IsKnownOf known.now (wire_numbers wires.now) u → w ≡ u)) }
 {
@@ -49,7 +49,7 @@ pub(crate) fn trunk_of(
     let Some((a, b)) = two_of(&those) else {
         return Ok(None);
     };
-    let trunk = trunk_to(proof, known, a, b)?;
+    let trunk = trunk_to(facts, known, a, b)?;
     Ok(Some(trunk))
 }
 
@@ -57,64 +57,64 @@ pub(crate) fn trunk_of(
 fn grow_pins(
     alloc: Global,
     rig: &mut Box<dyn Rig>,
-    proof: &mut Proof,
+    facts: &mut Facts,
     known: &mut Known,
     pins: &Vec<Wire>,
     count: u32,
 ) -> Result<(), RigFail>
-    requires attached { shape_of (rig_state rig.old) ≡ Some proof.old.shape }
-    requires known { IsKnown proof.old known.old }
-    requires count { count ≤ pins_of proof.old.shape }
-    requires pins { IsListOf (IsAtOneOf (pin_wire proof.old.shape) count) (wire_numbers pins.now.items) }
+    requires attached { shape_of (rig_state rig.old) ≡ Some facts.old.shape }
+    requires known { IsKnown facts.old known.old }
+    requires count { count ≤ pins_of facts.old.shape }
+    requires pins { IsListOf (IsAtOneOf (pin_wire facts.old.shape) count) (wire_numbers pins.now.items) }
     requires length { length pins.now.items ≡ count }
-    requires within { All (λ w. w.0 < wires_of proof.old.shape) pins.now.items }
+    requires within { All (λ w. w.0 < wires_of facts.old.shape) pins.now.items }
 
-    ensures known { IsKnown proof.new known.new }
+    ensures known { IsKnown facts.new known.new }
     ensures stays { (w : ℕ) → HasWire known.old.steps w → HasWire known.new.steps w }
-    ensures found { OnOk result (SoundPinsAreKnown (rig_state rig.old).machine.faults proof.old known.new count) }
-    ensures loads { LoadsAtMost (rig_state rig.old).machine.faults proof.old (rig_state rig.old).loads
+    ensures found { OnOk result (SoundPinsAreKnown (rig_state rig.old).machine.faults facts.old known.new count) }
+    ensures loads { LoadsAtMost (rig_state rig.old).machine.faults facts.old (rig_state rig.old).loads
         (rig_state rig.new).loads (3 * count) }
-    ensures advances { Advances (rig_state rig.old) (rig_state rig.new) proof.old proof.new }
+    ensures advances { Advances (rig_state rig.old) (rig_state rig.new) facts.old facts.new }
     ensures cause { IsErrOf result RigFail.Failed → Rose (rig_state rig.old).failures (rig_state rig.new).failures }
 {
     tests_add_up();
-    let shape = proof.shape();
+    let shape = facts.shape();
     let Ok(mut field) = no_field(alloc, &shape) else {
         return Err(RigFail::Memory);
     };
     add_wires(&mut field.wires, pins);
-    grow(rig, proof, known, &field)
+    grow(rig, facts, known, &field)
 }
 
 // A trunk of the root to two of the first pins, so many of them.
 fn try_pins(
     alloc: Global,
     rig: &mut Box<dyn Rig>,
-    proof: &mut Proof,
+    facts: &mut Facts,
     known: &mut Known,
     count: u32,
 ) -> Result<Option<Trunk>, RigFail>
-    requires attached { shape_of (rig_state rig.old) ≡ Some proof.old.shape }
-    requires known { IsKnown proof.old known.old }
-    requires count { count ≤ pins_of proof.old.shape }
+    requires attached { shape_of (rig_state rig.old) ≡ Some facts.old.shape }
+    requires known { IsKnown facts.old known.old }
+    requires count { count ≤ pins_of facts.old.shape }
 
-    ensures known { IsKnown proof.new known.new }
+    ensures known { IsKnown facts.new known.new }
     ensures stays { (w : ℕ) → HasWire known.old.steps w → HasWire known.new.steps w }
-    ensures held { IfOk result (λ found. IfSome found (λ t. IsHeldTrunk proof.new known.new 0 t.left t.right)) }
-    ensures none { IfOk result (λ found. IfNone found (FewPins (rig_state rig.old).machine.faults proof.old count)) }
-    ensures loads { LoadsAtMost (rig_state rig.old).machine.faults proof.old (rig_state rig.old).loads
+    ensures held { IfOk result (λ found. IfSome found (λ t. IsHeldTrunk facts.new known.new 0 t.left t.right)) }
+    ensures none { IfOk result (λ found. IfNone found (FewPins (rig_state rig.old).machine.faults facts.old count)) }
+    ensures loads { LoadsAtMost (rig_state rig.old).machine.faults facts.old (rig_state rig.old).loads
         (rig_state rig.new).loads (3 * count) }
-    ensures advances { Advances (rig_state rig.old) (rig_state rig.new) proof.old proof.new }
+    ensures advances { Advances (rig_state rig.old) (rig_state rig.new) facts.old facts.new }
     ensures cause { IsErrOf result RigFail.Failed → Rose (rig_state rig.old).failures (rig_state rig.new).failures }
 {
     the_laws_hold();
     tests_add_up();
-    let shape = proof.shape();
+    let shape = facts.shape();
     let Ok(pins) = pins_in(alloc, &shape, count) else {
         return Err(RigFail::Memory);
     };
-    grow_pins(alloc, rig, proof, known, &pins, count)?;
-    match trunk_of(alloc, proof, known, &pins) {
+    grow_pins(alloc, rig, facts, known, &pins, count)?;
+    match trunk_of(alloc, facts, known, &pins) {
         Ok(found) => Ok(found),
         Err(_) => Err(RigFail::Memory),
     }
@@ -133,26 +133,26 @@ fn two_at_most(pins: u32) -> u32
 pub(crate) fn root_trunk(
     alloc: Global,
     rig: &mut Box<dyn Rig>,
-    proof: &mut Proof,
+    facts: &mut Facts,
     known: &mut Known,
 ) -> Result<Option<Trunk>, RigFail>
-    requires attached { shape_of (rig_state rig.old) ≡ Some proof.old.shape }
-    requires known { IsKnown proof.old known.old }
+    requires attached { shape_of (rig_state rig.old) ≡ Some facts.old.shape }
+    requires known { IsKnown facts.old known.old }
 
-    ensures known { IsKnown proof.new known.new }
+    ensures known { IsKnown facts.new known.new }
     ensures stays { (w : ℕ) → HasWire known.old.steps w → HasWire known.new.steps w }
-    ensures held { IfOk result (λ found. IfSome found (λ t. IsHeldTrunk proof.new known.new 0 t.left t.right)) }
-    ensures none { IfOk result (λ found. IfNone found (UnservedIf (rig_state rig.old).machine.faults proof.old 0)) }
-    ensures loads { LoadsAtMost (rig_state rig.old).machine.faults proof.old (rig_state rig.old).loads (rig_state rig.new).loads 6 }
-    ensures advances { Advances (rig_state rig.old) (rig_state rig.new) proof.old proof.new }
+    ensures held { IfOk result (λ found. IfSome found (λ t. IsHeldTrunk facts.new known.new 0 t.left t.right)) }
+    ensures none { IfOk result (λ found. IfNone found (UnservedIf (rig_state rig.old).machine.faults facts.old 0)) }
+    ensures loads { LoadsAtMost (rig_state rig.old).machine.faults facts.old (rig_state rig.old).loads (rig_state rig.new).loads 6 }
+    ensures advances { Advances (rig_state rig.old) (rig_state rig.new) facts.old facts.new }
     ensures cause { IsErrOf result RigFail.Failed → Rose (rig_state rig.old).failures (rig_state rig.new).failures }
 {
     without_faults_all_is_sound();
     tests_add_up();
-    let pins = proof.shape().pins();
-    let found = try_pins(alloc, rig, proof, known, two_at_most(pins))?;
+    let pins = facts.shape().pins();
+    let found = try_pins(alloc, rig, facts, known, two_at_most(pins))?;
     match found {
         Some(trunk) => Ok(Some(trunk)),
-        None => try_pins(alloc, rig, proof, known, pins),
+        None => try_pins(alloc, rig, facts, known, pins),
     }
 }

@@ -11,7 +11,7 @@ use crate::laws::the_laws_hold;
 use crate::lists::ports_in;
 use crate::pins::{root_trunk, trunk_of};
 use crate::tested::Tested;
-use diag_evidence::Proof;
+use diag_evidence::Facts;
 use diag_evidence::laws::tests_add_up;
 use diag_growth::Known;
 use diag_tests::Trunk;
@@ -22,24 +22,24 @@ use std::alloc::Global;
 // A trunk of a node below the root: to two of its ports that are known, which the tests of its parent's crossbar found.
 fn child_trunk(
     alloc: Global,
-    proof: &Proof,
+    facts: &Facts,
     known: &Known,
     parent: &Tested,
     node: Node,
 ) -> Result<Option<Trunk>, RigFail>
-    requires known { IsKnown proof.now known.now }
-    requires child { parent_of proof.now.shape node.0 ≡ Some parent.now.node }
-    requires held { IsHeld proof.now known.now parent.now }
-    ensures held { IfOk result (λ found. IfSome found (λ t. IsHeldTrunk proof.now known.now node.0 t.left t.right)) }
-    ensures none { IfOk result (λ found. IfNone found (IsUnserved proof.now parent.now node.0)) }
+    requires known { IsKnown facts.now known.now }
+    requires child { parent_of facts.now.shape node.0 ≡ Some parent.now.node }
+    requires held { IsHeld facts.now known.now parent.now }
+    ensures held { IfOk result (λ found. IfSome found (λ t. IsHeldTrunk facts.now known.now node.0 t.left t.right)) }
+    ensures none { IfOk result (λ found. IfNone found (IsUnserved facts.now parent.now node.0)) }
     ensures memory { result ≡ Err RigFail.Failed → ⊥ }
 {
     the_laws_hold();
-    let shape = proof.shape();
+    let shape = facts.shape();
     let Ok(ports) = ports_in(alloc, &shape, node) else {
         return Err(RigFail::Memory);
     };
-    match trunk_of(alloc, proof, known, &ports) {
+    match trunk_of(alloc, facts, known, &ports) {
         Ok(found) => Ok(found),
         Err(_) => Err(RigFail::Memory),
     }
@@ -54,31 +54,31 @@ fn child_trunk(
 pub fn find_trunk(
     alloc: Global,
     rig: &mut Box<dyn Rig>,
-    proof: &mut Proof,
+    facts: &mut Facts,
     known: &mut Known,
     parent: Option<&Tested>,
     node: Node,
 ) -> Result<Option<Trunk>, RigFail>
-    requires attached { shape_of (rig_state rig.old) ≡ Some proof.old.shape }
-    requires known { IsKnown proof.old known.old }
+    requires attached { shape_of (rig_state rig.old) ≡ Some facts.old.shape }
+    requires known { IsKnown facts.old known.old }
     requires root { IfNone parent (node.0 ≡ 0) }
-    requires child { IfSome parent (λ tested. parent_of proof.old.shape node.0 ≡ Some tested.now.node) }
-    requires held { IfSome parent (λ tested. IsHeld proof.old known.old tested.now) }
-    requires full { IfSome parent (λ tested. FullIf (rig_state rig.old).machine.faults proof.old proof.old tested.now) }
+    requires child { IfSome parent (λ tested. parent_of facts.old.shape node.0 ≡ Some tested.now.node) }
+    requires held { IfSome parent (λ tested. IsHeld facts.old known.old tested.now) }
+    requires full { IfSome parent (λ tested. FullIf (rig_state rig.old).machine.faults facts.old facts.old tested.now) }
 
-    ensures known { IsKnown proof.new known.new }
+    ensures known { IsKnown facts.new known.new }
     ensures stays { (w : ℕ) → HasWire known.old.steps w → HasWire known.new.steps w }
-    ensures held { IfOk result (λ found. IfSome found (λ trunk. IsHeldTrunk proof.new known.new node.0 trunk.left trunk.right)) }
-    ensures node { IfOk result (λ found. IfSome found (λ trunk. node_of proof.old.shape trunk.left.end ≡ node.0)) }
-    ensures none { IfOk result (λ found. IfNone found (UnservedIf (rig_state rig.old).machine.faults proof.old node.0)) }
-    ensures loads { LoadsAtMost (rig_state rig.old).machine.faults proof.old (rig_state rig.old).loads (rig_state rig.new).loads 6 }
-    ensures advances { Advances (rig_state rig.old) (rig_state rig.new) proof.old proof.new }
+    ensures held { IfOk result (λ found. IfSome found (λ trunk. IsHeldTrunk facts.new known.new node.0 trunk.left trunk.right)) }
+    ensures node { IfOk result (λ found. IfSome found (λ trunk. node_of facts.old.shape trunk.left.end ≡ node.0)) }
+    ensures none { IfOk result (λ found. IfNone found (UnservedIf (rig_state rig.old).machine.faults facts.old node.0)) }
+    ensures loads { LoadsAtMost (rig_state rig.old).machine.faults facts.old (rig_state rig.old).loads (rig_state rig.new).loads 6 }
+    ensures advances { Advances (rig_state rig.old) (rig_state rig.new) facts.old facts.new }
     ensures cause { IsErrOf result RigFail.Failed → Rose (rig_state rig.old).failures (rig_state rig.new).failures }
 {
     the_laws_hold();
     tests_add_up();
     match parent {
-        None => root_trunk(alloc, rig, proof, known),
-        Some(tested) => child_trunk(alloc, proof, known, tested, node),
+        None => root_trunk(alloc, rig, facts, known),
+        Some(tested) => child_trunk(alloc, facts, known, tested, node),
     }
 }

@@ -5,7 +5,7 @@
 //! way. Nothing rests on it: a wire that gives way in vain is known again later, or another one that is shorted to it.
 
 use crate::climbs::Walk;
-use crate::feet::Step;
+use crate::feet::VerifiedWire;
 use crate::flags::{flag_at, in_set, set_flag};
 use crate::heights::Level;
 use crate::search::Search;
@@ -80,7 +80,7 @@ pub struct Chooser {
     pub(crate) shape: Shape,
     pub aim: Aim,
     // The known wires in their order, and of each wire whether it is known, and whether it is kept.
-    pub(crate) steps: Vec<Step>,
+    pub(crate) steps: Vec<VerifiedWire>,
     pub(crate) known: Vec<bool>,
     pub kept: Vec<bool>,
     // The wires that the next looks are about, and how often each wire was looked at for that.
@@ -256,7 +256,7 @@ impl Chooser {
     }
 
     /// A further wire is known.
-    pub fn push_known(&mut self, step: Step) -> Result<(), AllocError> {
+    pub fn push_known(&mut self, step: VerifiedWire) -> Result<(), AllocError> {
         set_flag(&mut self.known, step.wire.0, true);
         self.steps.push(step)?;
         Ok(())

@@ -3,7 +3,7 @@
 use crate::board::Mark;
 use crate::choosing::{Aim, Chooser, Link, Still, Told};
 use crate::climbs::Walk;
-use crate::feet::{Foot, Stand, Step};
+use crate::feet::{Support, SupportedBy, VerifiedWire};
 use crate::flags::{flag_at, in_set, set_flag};
 use crate::hangs::PINS_A_HANG;
 use crate::search::Search;
@@ -93,7 +93,12 @@ impl Spread {
     }
 
     // The one of two feet of a known wire, or of some links that are drawn, with the fewest wires on its pin; and this pin.
-    fn best_foot(&self, search: &mut Search, w: Wire, feet: (Foot, Foot)) -> Option<(Foot, u32)> {
+    fn best_foot(
+        &self,
+        search: &mut Search,
+        w: Wire,
+        feet: (Support, Support),
+    ) -> Option<(Support, u32)> {
         let mut best = None;
         let mut least = u64::MAX;
         'draws: for draw in 0..MOST_DRAWS {
@@ -115,20 +120,20 @@ impl Spread {
     }
 
     // Hangs a known wire, if it doesn't yet.
-    fn hang_step(&mut self, search: &mut Search, step: &Step) -> Result<(), AllocError> {
+    fn hang_step(&mut self, search: &mut Search, step: &VerifiedWire) -> Result<(), AllocError> {
         let to = step.wire;
         if self.pin_of(to).is_some() {
             return Ok(());
         }
         let (foot, pin) = match step.stand {
-            Stand::Pin(pin) => (
-                Foot {
+            SupportedBy::Pin(pin) => (
+                Support {
                     cross: Cross(0),
                     wire: to,
                 },
                 pin,
             ),
-            Stand::Feet(first, second) => match self.best_foot(search, to, (first, second)) {
+            SupportedBy::Feet(first, second) => match self.best_foot(search, to, (first, second)) {
                 Some(found) => found,
                 None => return Ok(()),
             },
@@ -146,7 +151,7 @@ impl Spread {
 // The links by which all known wires hang that aren't on a climb, spread over the pins on which no other wire feet.
 fn spread_links(
     alloc: Global,
-    steps: &Vec<Step>,
+    steps: &Vec<VerifiedWire>,
     search: &mut Search,
 ) -> Result<Vec<Link>, AllocError> {
     let mut spread = Spread::new(alloc, search)?;
@@ -161,7 +166,7 @@ fn spread_links(
 
 impl Search {
     // A link of a wire to a lower one that is drawn, if its crosspoint is kept, or else this one.
-    fn drawn_link(&mut self, w: Wire, other: Foot) -> Foot {
+    fn drawn_link(&mut self, w: Wire, other: Support) -> Support {
         let j = self.draws.under(self.heights.ups(w));
         match self.heights.link(w, j) {
             Some(link) => {
@@ -175,7 +180,7 @@ impl Search {
     }
 
     // The links of a wire to known ones that aren't used, whose crosspoints are kept or aren't decided, in an order that is drawn.
-    fn idle_links(&mut self, w: Wire, mark: Mark) -> Result<Vec<Foot>, AllocError> {
+    fn idle_links(&mut self, w: Wire, mark: Mark) -> Result<Vec<Support>, AllocError> {
         let mut links = Vec::new(self.alloc);
         'links: for j in 0..self.heights.links(w) {
             let Some(link) = self.heights.link(w, j) else {
@@ -190,7 +195,7 @@ impl Search {
     }
 
     // The first of some links from whose wire a climb succeeds. That is laid.
-    fn first_link(&mut self, links: &Vec<Foot>) -> Result<Option<Foot>, AllocError> {
+    fn first_link(&mut self, links: &Vec<Support>) -> Result<Option<Support>, AllocError> {
         'links: for link in links.iter().take(MOST_CLIMBS) {
             if let Some(walk) = self.climb(link.wire)? {
                 self.climbs.push(walk)?;
@@ -201,7 +206,7 @@ impl Search {
     }
 
     // A crosspoint on which a wire feet in a look, a kept one if one can be had.
-    fn tie(&mut self, w: Wire) -> Result<Option<Foot>, AllocError> {
+    fn tie(&mut self, w: Wire) -> Result<Option<Support>, AllocError> {
         let kept = self.idle_links(w, Mark::Kept)?;
         if let Some(link) = self.first_link(&kept)? {
             return Ok(Some(link));

@@ -2,7 +2,7 @@
 
 use crate::board::{Board, Mark};
 use crate::draws::Draws;
-use crate::feet::Foot;
+use crate::feet::Support;
 use crate::heights::{HEIGHTS, Heights};
 use machine_shape::{Cross, Wire};
 use std::alloc::{AllocError, Global};
@@ -59,8 +59,8 @@ impl Walk {
     }
 
     /// The crosspoint at a place, and the wire behind it.
-    pub fn foot(&self, place: usize) -> Foot {
-        Foot {
+    pub fn foot(&self, place: usize) -> Support {
+        Support {
             cross: self.crosses.get(place).copied().unwrap_or(Cross(0)),
             wire: self.wire(place.saturating_add(1)),
         }
@@ -181,7 +181,7 @@ fn next_idle(heights: &Heights, board: &Board, rung: Rung, tried: u32) -> Option
 }
 
 // The next link of a rung that can be climbed, and how many were tried then.
-fn next_link(heights: &Heights, board: &Board, rung: Rung) -> Option<(u32, Foot)> {
+fn next_link(heights: &Heights, board: &Board, rung: Rung) -> Option<(u32, Support)> {
     let count = heights.ups(rung.wire);
     let mut tried = rung.tried;
     'links: for _link in 0..count {

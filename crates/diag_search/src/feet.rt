@@ -4,21 +4,21 @@ use machine_shape::{Cross, Wire};
 
 /// A crosspoint of a wire, and the wire at its other end.
 #[derive(Clone, Copy)]
-pub struct Foot {
+pub struct Support {
     pub cross: Cross,
     pub wire: Wire,
 }
 
 /// How a known wire stands: as a pin of the machine, or on two feet.
 #[derive(Clone, Copy)]
-pub enum Stand {
+pub enum SupportedBy {
     Pin(u32),
-    Feet(Foot, Foot),
+    Feet(Support, Support),
 }
 
 /// A known wire, and how it stands.
 #[derive(Clone, Copy)]
-pub struct Step {
+pub struct VerifiedWire {
     pub wire: Wire,
-    pub stand: Stand,
+    pub stand: SupportedBy,
 }

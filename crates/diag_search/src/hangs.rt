@@ -2,9 +2,9 @@
 
 use crate::board::Mark;
 use crate::climbs::Walk;
-use crate::feet::Foot;
+use crate::feet::Support;
 use crate::flags::in_set;
-use crate::search::{Hung, Search};
+use crate::search::{ChosenTest, Search};
 use base_bits::BitSet;
 use machine_shape::Wire;
 use std::alloc::AllocError;
@@ -62,7 +62,7 @@ impl Search {
     }
 
     // The first of the links from a place on from whose wire a climb succeeds, that climb, and the place behind it.
-    fn first_foot(&mut self, from: usize) -> Result<Option<(usize, Foot, Walk)>, AllocError> {
+    fn first_foot(&mut self, from: usize) -> Result<Option<(usize, Support, Walk)>, AllocError> {
         'offers: for k in 0..MOST_CLIMBS {
             let place = from.saturating_add(k as usize);
             let Some(foot) = self.offers.get(place).copied() else {
@@ -84,7 +84,7 @@ impl Search {
             near.release(&mut self.board);
             return Ok(false);
         };
-        self.hangs.push(Hung {
+        self.hangs.push(ChosenTest {
             wire: w,
             first,
             second,

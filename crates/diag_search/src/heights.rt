@@ -2,7 +2,7 @@
 ghost use Rattle.std.specs.Prelude.{◌<◌};
 ghost use Rattle.machine_shape.specs.Shape.{nodes_of};
 
-use crate::feet::Foot;
+use crate::feet::Support;
 use machine_shape::{Cross, Node, Shape, Wire};
 use std::alloc::{AllocError, Global};
 
@@ -11,7 +11,7 @@ pub(crate) const HEIGHTS: usize = 9;
 
 /// The crossbar of a node: where its lines and, behind these, its taps stand among all ends, and its crosspoints.
 #[derive(Clone, Copy)]
-struct Bar {
+struct Crossbar {
     start: u32,
     lines: u32,
     taps: u32,
@@ -58,7 +58,7 @@ pub(crate) struct Level {
 /// All links of a machine.
 #[derive(Drop)]
 pub(crate) struct Heights {
-    bars: Vec<Bar>,
+    bars: Vec<Crossbar>,
     ends: Vec<Wire>,
     links: Vec<Links>,
     pub levels: Vec<Level>,
@@ -66,17 +66,17 @@ pub(crate) struct Heights {
 
 impl Side {
     // The link at a place of it.
-    fn at(&self, ends: &Vec<Wire>, j: u32) -> Option<Foot> {
+    fn at(&self, ends: &Vec<Wire>, j: u32) -> Option<Support> {
         if j >= self.count {
             return None;
         }
         let wire = ends.get(self.start.wrapping_add(j) as usize).copied()?;
         let cross = Cross(self.cross.wrapping_add(j.wrapping_mul(self.stride)));
-        Some(Foot { cross, wire })
+        Some(Support { cross, wire })
     }
 }
 
-impl Bar {
+impl Crossbar {
     // The links of one of its lines to taps, from the lower or to the higher ones.
     fn line_side(&self, node: u32, line: u32, low: bool) -> Side {
         let first = if low { 0 } else { self.low };
@@ -161,7 +161,7 @@ impl Heights {
     }
 
     // Adds the lines of a node.
-    fn add_lines(&mut self, shape: &Shape, n: Node, bar: Bar) -> Result<(), AllocError>
+    fn add_lines(&mut self, shape: &Shape, n: Node, bar: Crossbar) -> Result<(), AllocError>
         requires { n.0 < nodes_of shape.now }
     {
         'lines: for k in 0..shape.lines(n) {
@@ -175,7 +175,7 @@ impl Heights {
     }
 
     // Adds the taps of a node.
-    fn add_taps(&mut self, shape: &Shape, n: Node, bar: Bar) -> Result<(), AllocError>
+    fn add_taps(&mut self, shape: &Shape, n: Node, bar: Crossbar) -> Result<(), AllocError>
         requires { n.0 < nodes_of shape.now }
     {
         'taps: for k in 0..shape.taps(n) {
@@ -200,7 +200,7 @@ impl Heights {
         } else {
             shape.ports(n)
         };
-        let bar = Bar {
+        let bar = Crossbar {
             start: u32::try_from(self.ends.len()).unwrap_or(0),
             lines: shape.lines(n),
             taps: shape.taps(n),
@@ -263,7 +263,7 @@ impl Heights {
     }
 
     /// A link of a wire.
-    pub(crate) fn link(&self, w: Wire, j: u32) -> Option<Foot> {
+    pub(crate) fn link(&self, w: Wire, j: u32) -> Option<Support> {
         let links = self.links.get(w.0 as usize)?;
         match links.low.at(&self.ends, j) {
             Some(link) => Some(link),

@@ -26,6 +26,6 @@ pub use board::Mark;
 pub use choosing::{Aim, Chooser, FIRST_HEIGHT, Link, Still, Suspects, Told};
 pub use climbs::Walk;
 pub use draws::Draws;
-pub use feet::{Foot, Stand, Step};
+pub use feet::{Support, SupportedBy, VerifiedWire};
 pub use flags::{flag_at, in_set, set_flag};
-pub use search::{Group, Hung, Search, Source, Tap, Trial};
+pub use search::{ChosenTest, Group, Search, Source, Tap, Trial};

@@ -3,24 +3,24 @@
 use crate::board::{Board, Mark};
 use crate::climbs::{Walk, climb};
 use crate::draws::Draws;
-use crate::feet::Foot;
+use crate::feet::Support;
 use crate::heights::Heights;
 use machine_shape::{Cross, Shape, Table, Wire};
 use std::alloc::{AllocError, Global};
 
 /// A wire that isn't known, and two crosspoints to wires that hang on two pins.
 #[derive(Clone, Copy)]
-pub struct Hung {
+pub struct ChosenTest {
     pub wire: Wire,
-    pub first: Foot,
-    pub second: Foot,
+    pub first: Support,
+    pub second: Support,
 }
 
 /// A pin of a table, with the crosspoint and the line on which it hangs.
 #[derive(Clone, Copy)]
 pub struct Tap {
     pub pin: Wire,
-    pub foot: Foot,
+    pub foot: Support,
 }
 
 /// Where a walk of a load comes from.
@@ -29,7 +29,7 @@ pub enum Source {
     /// The beginning of a group.
     Group(usize),
     /// A crossbar.
-    Bar(u32),
+    Crossbar(u32),
 }
 
 /// A walk of a load, from a pin of the machine to another. The crosspoints from one place of it to another are tried.
@@ -65,9 +65,9 @@ pub struct Search {
     // How often each wire was hung.
     pub tries: Vec<u32>,
     // The links over which a wire may be hung.
-    pub(crate) offers: Vec<Foot>,
+    pub(crate) offers: Vec<Support>,
     // What hangs in the next load, and the climbs on which it does.
-    pub hangs: Vec<Hung>,
+    pub hangs: Vec<ChosenTest>,
     pub climbs: Vec<Walk>,
     // The hextant of the tables that are tested, how often none could be laid there, and the tables of the next load, with the lines of
     // their inputs and all their taps.

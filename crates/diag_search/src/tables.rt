@@ -1,7 +1,7 @@
 //! Which tables are tested in the next load, and over which lines.
 
 use crate::board::Mark;
-use crate::feet::Foot;
+use crate::feet::Support;
 use crate::search::{Search, Tap};
 use base_table::TABLE_PINS;
 use machine_shape::{Table, Wire};
@@ -58,7 +58,7 @@ impl Search {
     }
 
     // The kept crosspoint of a table's pin and a line, if there is one.
-    fn tap_at(&self, pin: Wire, line: Wire) -> Option<Foot> {
+    fn tap_at(&self, pin: Wire, line: Wire) -> Option<Support> {
         'links: for j in 0..self.heights.ups(pin) {
             let link = self.heights.link(pin, j)?;
             if link.wire == line && self.board.mark(link.cross) == Mark::Kept {
@@ -69,7 +69,7 @@ impl Search {
     }
 
     // The same of the pin of a table.
-    fn tap_of(&self, t: Table, k: u32, line: Wire) -> Option<Foot> {
+    fn tap_of(&self, t: Table, k: u32, line: Wire) -> Option<Support> {
         let pin = self.pin_of(t, k)?;
         self.tap_at(pin, line)
     }
@@ -153,7 +153,7 @@ impl Search {
     }
 
     // The line over which the output of a table is read. It is climbed from.
-    fn output_tap(&mut self, t: Table) -> Result<Option<Foot>, AllocError> {
+    fn output_tap(&mut self, t: Table) -> Result<Option<Support>, AllocError> {
         'lines: for place in 0..self.heights.bar_lines(self.node) {
             let Some(line) = self.line_at(place) else {
                 continue;
@@ -170,7 +170,7 @@ impl Search {
     }
 
     // Hangs a pin of a table on a line.
-    fn push_tap(&mut self, t: Table, k: u32, tap: Option<Foot>) -> Result<(), AllocError> {
+    fn push_tap(&mut self, t: Table, k: u32, tap: Option<Support>) -> Result<(), AllocError> {
         if let (Some(pin), Some(foot)) = (self.pin_of(t, k), tap) {
             self.taps.push(Tap { pin, foot })?;
         }
@@ -178,7 +178,7 @@ impl Search {
     }
 
     // Hangs all pins of a table.
-    fn lay_table(&mut self, t: Table, output: Foot) -> Result<(), AllocError> {
+    fn lay_table(&mut self, t: Table, output: Support) -> Result<(), AllocError> {
         'inputs: for k in 0..INPUTS {
             if let Some(line) = self.lines.get(k as usize).copied() {
                 let tap = self.tap_of(t, k, line);

@@ -2,7 +2,7 @@
 
 use crate::board::Mark;
 use crate::climbs::Walk;
-use crate::feet::Foot;
+use crate::feet::Support;
 use crate::search::{Group, Search, Source};
 use machine_shape::{Cross, Wire};
 use std::alloc::AllocError;
@@ -104,8 +104,8 @@ impl Search {
         first: u32,
         end: u32,
         peak: u32,
-    ) -> Option<(u32, Foot)> {
-        let mut best: Option<(u32, Foot)> = None;
+    ) -> Option<(u32, Support)> {
+        let mut best: Option<(u32, Support)> = None;
         let mut most = 0;
         'links: for j in first..end {
             if most >= peak {
@@ -125,7 +125,7 @@ impl Search {
 
     // Of the links of a wire in a crossbar to wires that aren't used, with this mark, the first one whose wire has most left to try. No
     // wire there has more than the peak, and none before the place of the peak has so much.
-    fn best_link(&self, node: u32, w: Wire, mark: Mark, peak: Peak) -> Option<(u32, Foot)> {
+    fn best_link(&self, node: u32, w: Wire, mark: Mark, peak: Peak) -> Option<(u32, Support)> {
         let (first, end) = self.heights.within(w, node);
         let from = first.saturating_add(peak.place);
         let later = self.best_within(w, mark, from, end, peak.left);
@@ -255,7 +255,7 @@ impl Search {
         };
         self.hold_stretch(node);
         let stretch = std::mem::replace(&mut self.stretch, Walk::new(self.alloc));
-        self.push_trial(&near, &stretch, &far, Source::Bar(node))?;
+        self.push_trial(&near, &stretch, &far, Source::Crossbar(node))?;
         self.stretch = stretch;
         Ok(true)
     }
@@ -418,7 +418,7 @@ impl Search {
         let source = trial.source;
         match source {
             Source::Group(group) => self.note_half(group, tried, leads),
-            Source::Bar(node) => {
+            Source::Crossbar(node) => {
                 if leads {
                     return Ok(());
                 }

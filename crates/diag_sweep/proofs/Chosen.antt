@@ -9,16 +9,16 @@ use Rattle.diag_evidence.specs.Kept.{Kept}
 use Rattle.diag_known.specs.Field.{how_many}
 use Rattle.diag_known.specs.Known.{HasWire, InSet, KnownWires}
 use Rattle.diag_known.specs.declared.field.Field.{Field}
-use Rattle.diag_known.specs.declared.step.Step.{Step}
+use Rattle.diag_known.specs.declared.verified_wire.VerifiedWire.{VerifiedWire}
 use Rattle.diag_known.proofs.Counting.{many_more, many_size, none_has, set_only}
 use Rattle.diag_sweep.specs.Marks.{AreMarksFor, TrueIf, is_undecided, undecided, worth}
 use Rattle.diag_sweep.specs.Stages.{IsFunded, IsHand, in_hand}
-use Rattle.diag_sweep.specs.declared.bad.Bad.{Bad}
-use Rattle.diag_sweep.specs.declared.purse.Purse.{Purse}
-use Rattle.diag_sweep.proofs.Purses.{size_undecided}
+use Rattle.diag_sweep.specs.declared.defect_marks.DefectMarks.{DefectMarks}
+use Rattle.diag_sweep.specs.declared.budget.LoadBudget.{LoadBudget}
+use Rattle.diag_sweep.proofs.Budgets.{size_undecided}
 
 -- a purse of what is left
-pub funded_of : {k : Kept} {b : Bad} {a : Field} {loads most : ℕ} {set : List Bool} (left : ℕ) (known : KnownWires) → length set ≡ length a.crosses → ((x : ℕ) → has_number set x ≡ (has_number a.crosses x && is_undecided k b x)) → loads ≤ most → most ≤ loads + left →
+pub funded_of : {k : Kept} {b : DefectMarks} {a : Field} {loads most : ℕ} {set : List Bool} (left : ℕ) (known : KnownWires) → length set ≡ length a.crosses → ((x : ℕ) → has_number set x ≡ (has_number a.crosses x && is_undecided k b x)) → loads ≤ most → most ≤ loads + left →
     IsFunded (worth a k b loads left) a (in_hand k known b (record { most = most; unsettled = set }) loads)
 funded_of {k} {b} {a} {set = set} left known len has low high = record {
   paid = low;
@@ -27,21 +27,21 @@ funded_of {k} {b} {a} {set = set} left known len has low high = record {
 }
 
 -- what is left of it in the end
-pub worth_paid : (limit left : ℕ) {l : Kept} {c : Bad} {a : Field} {known : KnownWires} {purse : Purse} {after : ℕ} → IsHand a (in_hand l known c purse after) → IsFunded limit a (in_hand l known c purse after) → (after ≤ purse.most → after + left ≤ purse.most) →
+pub worth_paid : (limit left : ℕ) {l : Kept} {c : DefectMarks} {a : Field} {known : KnownWires} {budget : LoadBudget} {after : ℕ} → IsHand a (in_hand l known c budget after) → IsFunded limit a (in_hand l known c budget after) → (after ≤ budget.most → after + left ≤ budget.most) →
     worth a l c after left ≤ limit
-worth_paid limit left {l} {c} {a} {purse = purse} hand f kept =
+worth_paid limit left {l} {c} {a} {budget = budget} hand f kept =
     let within = f.within in
     let rest = kept f.paid in
-    let few : undecided l c a ≤ size_of purse.unsettled = subst (λ n. undecided l c a ≤ n) (ap (how_many (has_number purse.unsettled)) (hand.field.crosses ∙ sym hand.purse) ∙ many_size purse.unsettled)
-    (many_more (λ x. has_number a.crosses x && is_undecided l c x) (has_number purse.unsettled) (length a.crosses) (λ x less on. let two = and_parts (has_number a.crosses x) (is_undecided l c x) on in f.whole x two.0 two.1)) in
+    let few : undecided l c a ≤ size_of budget.unsettled = subst (λ n. undecided l c a ≤ n) (ap (how_many (has_number budget.unsettled)) (hand.field.crosses ∙ sym hand.budget) ∙ many_size budget.unsettled)
+    (many_more (λ x. has_number a.crosses x && is_undecided l c x) (has_number budget.unsettled) (length a.crosses) (λ x less on. let two = and_parts (has_number a.crosses x) (is_undecided l c x) on in f.whole x two.0 two.1)) in
     omega (arith, within, rest, few)
 
 -- .. where nothing is kept of it
-pub worth_none : (limit left : ℕ) {l : Kept} {c : Bad} {a : Field} {known : KnownWires} {purse : Purse} {after : ℕ} → IsHand a (in_hand l known c purse after) → IsFunded limit a (in_hand l known c purse after) → left ≡ 0 → worth a l c after left ≤ limit
-worth_none limit left {purse = purse} {after = after} hand f e = worth_paid limit left hand f (λ low. omega (arith, low, e))
+pub worth_none : (limit left : ℕ) {l : Kept} {c : DefectMarks} {a : Field} {known : KnownWires} {budget : LoadBudget} {after : ℕ} → IsHand a (in_hand l known c budget after) → IsFunded limit a (in_hand l known c budget after) → left ≡ 0 → worth a l c after left ≤ limit
+worth_none limit left {budget = budget} {after = after} hand f e = worth_paid limit left hand f (λ low. omega (arith, low, e))
 
 -- the marks of unfit wires are no matter
-pub worth_same : (l : Kept) (c d : Bad) (a : Field) (loads left : ℕ) {limit : ℕ} → d.stuck ≡ c.stuck → worth a l c loads left ≤ limit → worth a l d loads left ≤ limit
+pub worth_same : (l : Kept) (c d : DefectMarks) (a : Field) (loads left : ℕ) {limit : ℕ} → d.stuck ≡ c.stuck → worth a l c loads left ≤ limit → worth a l d loads left ≤ limit
 worth_same l c d a loads left {limit} same paid = subst (λ (s : List Bool). worth a l (record d { stuck = s }) loads left ≤ limit) (sym same) paid
 
 none_on : (n w : ℕ) → has_number (replicate n false) w ≡ false
@@ -52,7 +52,7 @@ none_on n w = by (has_number (replicate n false) w) refl
     by true e = absurd (none_has n w e)
 
 -- the known wires of a set, one more at a time
-module _ {ss : List Step} where
+module _ {ss : List VerifiedWire} where
   pub among_none : (set : List Bool) (n : ℕ) → set ≡ replicate n false → (w : ℕ) → InSet set w → HasWire ss w
   among_none set n is w on = absurd (false≢true (sym (none_on n w) ∙ subst (λ (s : List Bool). has_number s w ≡ true) is on))
 
@@ -64,7 +64,7 @@ module _ {ss : List Step} where
       by (inr same) = subst (HasWire ss) same has
 
 -- Without the marks of unfit wires they are true of whatever is known.
-pub true_of_any : {k : Kept} {ss ts : List Step} {b : Bad} (unfit : List Bool) (n : ℕ) → unfit ≡ replicate n false → (told : Option Faults) → TrueIf told k ss b → TrueIf told k ts (record b { unfit = unfit })
+pub true_of_any : {k : Kept} {ss ts : List VerifiedWire} {b : DefectMarks} (unfit : List Bool) (n : ℕ) → unfit ≡ replicate n false → (told : Option Faults) → TrueIf told k ss b → TrueIf told k ts (record b { unfit = unfit })
 true_of_any {k} {ss} {ts} {b} unfit n none told t = record {
   at = λ f e h. let old = t.at f e h in record {
     stuck = old.stuck;
@@ -74,5 +74,5 @@ true_of_any {k} {ss} {ts} {b} unfit n none told t = record {
   };
 }
 
-pub marks_cleared : {m : Shape} {b : Bad} (unfit : List Bool) → length unfit ≡ length b.unfit → AreMarksFor m b → AreMarksFor m (record b { unfit = unfit })
+pub marks_cleared : {m : Shape} {b : DefectMarks} (unfit : List Bool) → length unfit ≡ length b.unfit → AreMarksFor m b → AreMarksFor m (record b { unfit = unfit })
 marks_cleared unfit len are = record { stuck = are.stuck; unfit = len ∙ are.unfit; unclear = are.unclear; wrong = are.wrong }

@@ -21,7 +21,7 @@ use Rattle.diag_evidence.specs.Leads.{IsLead, IsPathTest, crosses_of_leads, wire
 use Rattle.diag_evidence.specs.declared.leads.Lead.{Lead}
 use Rattle.diag_known.specs.Known.{KnownWires, IsKnown, HasWire}
 use Rattle.diag_known.specs.declared.field.Field.{Field}
-use Rattle.diag_known.specs.declared.step.Step.{Step}
+use Rattle.diag_known.specs.declared.verified_wire.VerifiedWire.{VerifiedWire}
 use Rattle.diag_known.proofs.Apart.{known_pair}
 use Rattle.diag_sweep.specs.Courses.{EndsAt, GoesOn, IsCourse, IsFair, IsFairLead, MayTry}
 use Rattle.diag_sweep.specs.Sights.{Seen, SeesMore}
@@ -63,7 +63,7 @@ same_in n i x = by (dec_lt i n)
     by (yes h) = get_or-replicate n i x x h
     by (no h) = let past : n ≤ i = omega (arith, h) in get_or_past (replicate n x) i x (rw length-replicate past)
 
-module _ {k : Kept} {ss : List Step} {a : Field} where
+module _ {k : Kept} {ss : List VerifiedWire} {a : Field} where
   -- a route that is a pin alone
   pub fair_first : {was is : List Bool} {pin : ℕ} → IsRoute k.shape (at_pin k.shape pin) → SeesMore was is (pin_wire k.shape pin ∷ []) → HasWire ss (pin_wire k.shape pin) → IsFair k ss a was is (at_pin k.shape pin)
   fair_first {pin = pin} right sees known = record {

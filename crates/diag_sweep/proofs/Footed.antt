@@ -12,7 +12,7 @@ use Rattle.machine_shape.specs.Shape.{Ends, ends_of, wires_of, crosses_of}
 use Rattle.diag_tests.specs.Routes.{other_end}
 use Rattle.diag_evidence.specs.Forests.{Trees, pin_of}
 use Rattle.diag_evidence.specs.Hangs.{AreHangs, Foot, IsFoot, all_feet, others, over_of, overs, pin_at, turned}
-use Rattle.diag_evidence.specs.declared.hangs.Hang.{Hang}
+use Rattle.diag_evidence.specs.declared.hangs.WireTest.{WireTest}
 
 -- the pin was found over the other end
 pub over_end : (trees : Trees) (foot : Wire × Cross) (e : ℕ) (found : Option ℕ) → foot.0.0 < wires_of trees.shape → foot.1.0 < crosses_of trees.shape → is_some (pin_of trees foot.0.0) ≡ false →
@@ -52,7 +52,7 @@ module _ {A : Type 0} (xs : List A) (k : ℕ) (x : A) (below : k < length xs) (h
   map_more f ys y same is = ap (λ zs. zs ++ y ∷ []) same ∙ ap (λ z. map f (take k xs) ++ z ∷ []) is ∙ sym (map-append f (take k xs) (x ∷ [])) ∙ ap (map f) (sym one_more)
 
 -- one foot over a second crosspoint more
-pub others_more : (hs : List Hang) (k : ℕ) (h : Hang) → k < length hs → slice_get hs k ≡ Some h → (xs ys : List Foot) → ys ≡ xs ++ others (take k hs) → ys ++ over_of (turned h) ∷ [] ≡ xs ++ others (take (k + 1) hs)
+pub others_more : (hs : List WireTest) (k : ℕ) (h : WireTest) → k < length hs → slice_get hs k ≡ Some h → (xs ys : List Foot) → ys ≡ xs ++ others (take k hs) → ys ++ over_of (turned h) ∷ [] ≡ xs ++ others (take (k + 1) hs)
 others_more hs k h below here xs ys same = ap (λ zs. zs ++ over_of (turned h) ∷ []) same ∙ append_assoc xs (others (take k hs)) (over_of (turned h) ∷ []) ∙ ap (λ zs. xs ++ zs) (sym (map-append over_of (map turned (take k hs)) (turned h ∷ [])) ∙ ap (map over_of) (map_more hs k h below here turned (map turned (take k hs)) (turned h) refl refl))
 
 -- parts of lists
@@ -66,12 +66,12 @@ module _ {A : Type 0} (P : A → Type 0) where
   all_behind [] ys all = all
   all_behind (x ∷ xs) ys all = all_behind xs ys (λ k e less. all (suc k) e (omega (arith, less)))
 
-feet_each : (P : Foot → Type 0) (hs : List Hang) → All P (overs hs) → All (λ h. P (over_of h)) hs
+feet_each : (P : Foot → Type 0) (hs : List WireTest) → All P (overs hs) → All (λ h. P (over_of h)) hs
 feet_each P [] all i d below = absurd (omega (arith, below))
 feet_each P (h ∷ hs) all zero d below = all 0 (over_of h) (omega arith)
 feet_each P (h ∷ hs) all (suc i) d below = feet_each P hs (λ k e less. all (suc k) e (omega (arith, less))) i d (omega (arith, below))
 
-turned_each : (P : Hang → Type 0) (hs : List Hang) → All P (map turned hs) → All (λ h. P (turned h)) hs
+turned_each : (P : WireTest → Type 0) (hs : List WireTest) → All P (map turned hs) → All (λ h. P (turned h)) hs
 turned_each P [] all i d below = absurd (omega (arith, below))
 turned_each P (h ∷ hs) all zero d below = all 0 (turned h) (omega arith)
 turned_each P (h ∷ hs) all (suc i) d below = turned_each P hs (λ k e less. all (suc k) e (omega (arith, less))) i d (omega (arith, below))
@@ -79,7 +79,7 @@ turned_each P (h ∷ hs) all (suc i) d below = turned_each P hs (λ k e less. al
 pub of_some : {A : Type 0} (P : A → Type 0) (o : Option A) (x : A) → o ≡ Some x → IfSome o P → P x
 of_some P o x e h = subst (λ q. IfSome q P) e h
 
-pub fits : {trees : Trees} (hs : List Hang) {feet : List Foot} {pins wires : List ℕ} → feet ≡ all_feet hs → All (IsFoot trees) feet → pins ≡ map (pin_at trees) feet → IsDistinct (λ a b. a == b) pins →
+pub fits : {trees : Trees} (hs : List WireTest) {feet : List Foot} {pins wires : List ℕ} → feet ≡ all_feet hs → All (IsFoot trees) feet → pins ≡ map (pin_at trees) feet → IsDistinct (λ a b. a == b) pins →
     wires ≡ map (λ h. h.wire.0) hs → IsDistinct (λ a b. a == b) wires → AreHangs trees hs
 fits {trees} hs same each at apart named differ = record {
   over = feet_each (IsFoot trees) hs (all_front (IsFoot trees) (overs hs) (others hs) (subst (All (IsFoot trees)) same each));

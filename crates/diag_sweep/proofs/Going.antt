@@ -11,19 +11,19 @@ use Rattle.rig.specs.Rig.{RigState}
 use Rattle.diag_known.specs.Known.{KnownWires, HasWire, IsKnown}
 use Rattle.diag_known.specs.Field.{IsFieldOf, GrowsIn}
 use Rattle.diag_known.specs.declared.field.Field.{Field}
-use Rattle.diag_known.specs.declared.step.Step.{Step}
+use Rattle.diag_known.specs.declared.verified_wire.VerifiedWire.{VerifiedWire}
 use Rattle.diag_known.proofs.Later.{known_later}
 use Rattle.diag_sweep.specs.Marks.{HasTable, MarksIn, TrueIf}
 use Rattle.diag_sweep.specs.Stages.{Hand, Goes, IsHand, Settles, in_hand}
-use Rattle.diag_sweep.specs.declared.bad.Bad.{Bad}
-use Rattle.diag_sweep.specs.declared.purse.Purse.{Purse}
+use Rattle.diag_sweep.specs.declared.defect_marks.DefectMarks.{DefectMarks}
+use Rattle.diag_sweep.specs.declared.budget.LoadBudget.{LoadBudget}
 use Rattle.diag_sweep.proofs.Marking.{marks_itself, marks_then, marks_for, true_later}
 use Rattle.diag_sweep.proofs.Paying.{funded_test}
 
-pub grows_itself : (a : Field) (ss : List Step) → GrowsIn a ss ss
+pub grows_itself : (a : Field) (ss : List VerifiedWire) → GrowsIn a ss ss
 grows_itself a ss = record { stays = λ w has. has; within = λ w has. inl has }
 
-pub grows_then : {a : Field} {x y z : List Step} → GrowsIn a x y → GrowsIn a y z → GrowsIn a x z
+pub grows_then : {a : Field} {x y z : List VerifiedWire} → GrowsIn a x y → GrowsIn a y z → GrowsIn a x z
 grows_then {a} {x} {y} p q = record { stays = λ w has. q.stays w (p.stays w has); within = λ w has. by w (q.within w has) }
   where
     by : (w : ℕ) → HasWire y w ⊎ (has_number a.wires w ≡ true) → HasWire x w ⊎ (has_number a.wires w ≡ true)
@@ -75,14 +75,14 @@ goes_wider {told} {a} {x} {y} tables g = record {
     by i (inr has) = absurd (none i has)
 
 -- a test that marks, and was paid for
-pub goes_tested : {told : Option Faults} {a : Field} {tables : List Table} {k l : Kept} {known : KnownWires} {bad new : Bad} {purse : Purse} {before after : ℕ} (n : ℕ) → IsHand a (in_hand k known bad purse before) → before + n ≤ purse.most → after ≤ before + n → IsMore k l →
-    MarksIn a tables bad new → (TrueIf told k known.steps bad → TrueIf told l known.steps new) → Goes told a tables (in_hand k known bad purse before) (in_hand l known new purse after)
+pub goes_tested : {told : Option Faults} {a : Field} {tables : List Table} {k l : Kept} {known : KnownWires} {bad new : DefectMarks} {budget : LoadBudget} {before after : ℕ} (n : ℕ) → IsHand a (in_hand k known bad budget before) → before + n ≤ budget.most → after ≤ before + n → IsMore k l →
+    MarksIn a tables bad new → (TrueIf told k known.steps bad → TrueIf told l known.steps new) → Goes told a tables (in_hand k known bad budget before) (in_hand l known new budget after)
 goes_tested {a = a} {known = known} n hand can took more marked holds = record {
   hand = record {
     known = known_later more hand.known;
     field = subst (λ m. IsFieldOf m a) (sym more.shape) hand.field;
     marks = marks_for more.shape hand.marks marked;
-    purse = hand.purse ∙ ap crosses_of (sym more.shape);
+    budget = hand.budget ∙ ap crosses_of (sym more.shape);
   };
   grows = grows_itself a known.steps;
   marks = marked;
@@ -103,10 +103,10 @@ pub gone_on : {r s t : RigState} {j k l : Kept} {a : Field} {tables : List Table
 gone_on p q on = let goes = goes_on p.advances p.goes q in record { hand = goes.hand; goes = goes; advances = advances_then p.advances on }
 
 -- a purse that is settled anew
-pub goes_settled : {told : Option Faults} {a : Field} {tables : List Table} {k : Kept} {known : KnownWires} {bad : Bad} {old new : Purse} {loads : ℕ} → IsHand a (in_hand k known bad old loads) → Settles k bad old new →
+pub goes_settled : {told : Option Faults} {a : Field} {tables : List Table} {k : Kept} {known : KnownWires} {bad : DefectMarks} {old new : LoadBudget} {loads : ℕ} → IsHand a (in_hand k known bad old loads) → Settles k bad old new →
     Goes told a tables (in_hand k known bad old loads) (in_hand k known bad new loads)
 goes_settled {told} {a} {tables} {k} {known} {bad} {old} {new} {loads} hand s = record {
-  hand = record { known = hand.known; field = hand.field; marks = hand.marks; purse = s.len ∙ hand.purse };
+  hand = record { known = hand.known; field = hand.field; marks = hand.marks; budget = s.len ∙ hand.budget };
   grows = grows_itself a known.steps;
   marks = marks_itself a tables bad;
   holds = λ t. t;
@@ -118,10 +118,10 @@ goes_settled {told} {a} {tables} {k} {known} {bad} {old} {new} {loads} hand s = 
 }
 
 -- more is known
-pub goes_learnt : {told : Option Faults} {a : Field} {tables : List Table} {k : Kept} {old new : KnownWires} {bad : Bad} {purse : Purse} {loads : ℕ} → IsHand a (in_hand k old bad purse loads) → IsKnown k new → GrowsIn a old.steps new.steps →
-    Goes told a tables (in_hand k old bad purse loads) (in_hand k new bad purse loads)
-goes_learnt {told} {a} {tables} {k} {old} {new} {bad} {purse} {loads} hand known grows = record {
-  hand = record { known = known; field = hand.field; marks = hand.marks; purse = hand.purse };
+pub goes_learnt : {told : Option Faults} {a : Field} {tables : List Table} {k : Kept} {old new : KnownWires} {bad : DefectMarks} {budget : LoadBudget} {loads : ℕ} → IsHand a (in_hand k old bad budget loads) → IsKnown k new → GrowsIn a old.steps new.steps →
+    Goes told a tables (in_hand k old bad budget loads) (in_hand k new bad budget loads)
+goes_learnt {told} {a} {tables} {k} {old} {new} {bad} {budget} {loads} hand known grows = record {
+  hand = record { known = known; field = hand.field; marks = hand.marks; budget = hand.budget };
   grows = grows;
   marks = marks_itself a tables bad;
   holds = λ t. true_later (more_itself k) grows.stays t;

@@ -12,16 +12,16 @@ use Rattle.machine_shape.specs.Shape.{crosses_of}
 use Rattle.diag_evidence.specs.Forests.{Trees, KeepsForest, KnowsForest, is_hung}
 use Rattle.diag_evidence.specs.Hangs.{Foot, HasMarked, HasHungOn, HasTried, silent, answered, StayMarked, UnfitIf, UnclearIf, is_unfit_in, is_unclear_in, overs, others, turned}
 use Rattle.diag_evidence.specs.Kept.{Kept, HoldsFor, IsMore}
-use Rattle.diag_evidence.specs.declared.hangs.Hang.{Hang}
+use Rattle.diag_evidence.specs.declared.hangs.WireTest.{WireTest}
 use Rattle.diag_known.specs.Field.{IsFieldOf}
 use Rattle.diag_known.specs.Known.{KnownWires, HasWire, IsKnown}
 use Rattle.diag_known.specs.declared.field.Field.{Field}
-use Rattle.diag_known.specs.declared.step.Step.{Step}
+use Rattle.diag_known.specs.declared.verified_wire.Step.{Step}
 use Rattle.diag_known.proofs.Later.{known_later}
 use Rattle.diag_sweep.specs.Marks.{AreMarksFor, MarksIn, MarksSome, TrueIf}
 use Rattle.diag_sweep.specs.Stages.{Goes, IsHand, in_hand}
-use Rattle.diag_sweep.specs.declared.bad.Bad.{Bad}
-use Rattle.diag_sweep.specs.declared.purse.Purse.{Purse}
+use Rattle.diag_sweep.specs.declared.defect_marks.DefectMarks.{DefectMarks}
+use Rattle.diag_sweep.specs.declared.budget.LoadBudget.{LoadBudget}
 use Rattle.diag_sweep.proofs.Going.{grows_itself, goes_tested}
 use Rattle.diag_sweep.proofs.Marking.{marks_for, marks_itself, some_itself, true_later}
 use Rattle.diag_sweep.proofs.Paying.{funded_test}
@@ -59,19 +59,19 @@ step_has ss w has = at ss has.place has.at.step has.at.here has.at.wire
     at (r ∷ rs) (suc i) s here e = or_right (r.wire.0 == w) (is_step rs w) (at rs i s here e)
 
 -- the wires are of a field
-abbrev AreOf : Field → List Hang → Type 0
+abbrev AreOf : Field → List WireTest → Type 0
 AreOf a hs = All (λ h. has_number a.wires h.wire.0 ≡ true) hs
 
-turned_of : (a : Field) (hs : List Hang) → AreOf a hs → AreOf a (map turned hs)
+turned_of : (a : Field) (hs : List WireTest) → AreOf a hs → AreOf a (map turned hs)
 turned_of a [] all = λ i d none. absurd (omega (arith, none))
 turned_of a (h ∷ hs) all = at (turned_of a hs (λ k e less. all (suc k) e (omega (arith, less))))
   where
-    at : AreOf a (map turned hs) → (i : ℕ) (d : Hang) → i < length (map turned (h ∷ hs)) → has_number a.wires (get_or (map turned (h ∷ hs)) i d).wire.0 ≡ true
+    at : AreOf a (map turned hs) → (i : ℕ) (d : WireTest) → i < length (map turned (h ∷ hs)) → has_number a.wires (get_or (map turned (h ∷ hs)) i d).wire.0 ≡ true
     at rest zero d below = all 0 h (omega arith)
     at rest (suc i) d below = rest i d (omega (arith, below))
 
 -- a wire of a foot
-wire_of_field : (a : Field) (q : Foot → Bool) (w : ℕ) (hs : List Hang) → AreOf a hs → list_any (λ foot. (foot.0.0 == w) && q foot) (overs hs) ≡ true → has_number a.wires w ≡ true
+wire_of_field : (a : Field) (q : Foot → Bool) (w : ℕ) (hs : List WireTest) → AreOf a hs → list_any (λ foot. (foot.0.0 == w) && q foot) (overs hs) ≡ true → has_number a.wires w ≡ true
 wire_of_field a q w [] all on = absurd (false≢true on)
 wire_of_field a q w (h ∷ hs) all on =
     by (wire_of_field a q w hs (λ i d below. all (suc i) d (omega (arith, below)))) (or_cases ((h.wire.0 == w) && q (h.wire, h.over)) (list_any (λ foot. (foot.0.0 == w) && q foot) (overs hs)) on)
@@ -96,44 +96,44 @@ pub new_same : (a : Field) (was is : List Bool) → is ≡ was → IsNewOf a was
 new_same a was is same w on = inl (subst (λ bits. has_number bits w ≡ true) same on)
 
 -- one look's marks
-one_unfit : (a : Field) (hs : List Hang) → AreOf a hs → {trees : Trees} {rows : List (List Bool)} {was is were are : List Bool} → HasMarked trees (overs hs) rows was is were are → IsNewOf a was is
+one_unfit : (a : Field) (hs : List WireTest) → AreOf a hs → {trees : Trees} {rows : List (List Bool)} {was is were are : List Bool} → HasMarked trees (overs hs) rows was is were are → IsNewOf a was is
 one_unfit a hs of {trees} {rows} {was} m w on = by (or_cases (is_unfit_in trees (overs hs) rows w) (has_number was w) (sym (m.unfit w) ∙ on))
   where
     by : (is_unfit_in trees (overs hs) rows w ≡ true) ⊎ (has_number was w ≡ true) → (has_number was w ≡ true) ⊎ (has_number a.wires w ≡ true)
     by (inl new) = inr (wire_of_field a _ w hs of new)
     by (inr old) = inl old
 
-one_unclear : (a : Field) (hs : List Hang) → AreOf a hs → {trees : Trees} {rows : List (List Bool)} {was is were are : List Bool} → HasMarked trees (overs hs) rows was is were are → IsNewOf a were are
+one_unclear : (a : Field) (hs : List WireTest) → AreOf a hs → {trees : Trees} {rows : List (List Bool)} {was is were are : List Bool} → HasMarked trees (overs hs) rows was is were are → IsNewOf a were are
 one_unclear a hs of {trees} {rows} {were = were} m w on = by (or_cases (is_unclear_in trees (overs hs) rows w) (has_number were w) (sym (m.unclear w) ∙ on))
   where
     by : (is_unclear_in trees (overs hs) rows w ≡ true) ⊎ (has_number were w ≡ true) → (has_number were w ≡ true) ⊎ (has_number a.wires w ≡ true)
     by (inl new) = inr (wire_of_field a _ w hs of new)
     by (inr old) = inl old
 
-tried_unfit : (a : Field) (hs : List Hang) → AreOf a hs → {told : Option Faults} {trees : Trees} {before after : ℕ} {k l : Kept} {was is were are : List Bool} → HasTried told trees hs before after k l was is were are → IsNewOf a was is
+tried_unfit : (a : Field) (hs : List WireTest) → AreOf a hs → {told : Option Faults} {trees : Trees} {before after : ℕ} {k l : Kept} {was is were are : List Bool} → HasTried told trees hs before after k l was is were are → IsNewOf a was is
 tried_unfit a hs of {was = was} {is = is} (silent rows look none once kept same also) = new_same a was is same
 tried_unfit a hs of {was = was} {is = is} (answered rows look some h) = new_then a was h.some is (one_unfit a (map turned hs) (turned_of a hs of) h.first_marks) (one_unfit a hs of h.second_marks)
 
-tried_unclear : (a : Field) (hs : List Hang) → AreOf a hs → {told : Option Faults} {trees : Trees} {before after : ℕ} {k l : Kept} {was is were are : List Bool} → HasTried told trees hs before after k l was is were are → IsNewOf a were are
+tried_unclear : (a : Field) (hs : List WireTest) → AreOf a hs → {told : Option Faults} {trees : Trees} {before after : ℕ} {k l : Kept} {was is were are : List Bool} → HasTried told trees hs before after k l was is were are → IsNewOf a were are
 tried_unclear a hs of {were = were} {are = are} (silent rows look none once kept same also) = new_same a were are also
 tried_unclear a hs of {were = were} {are = are} (answered rows look some h) = new_then a were h.few are (one_unclear a (map turned hs) (turned_of a hs of) h.first_marks) (one_unclear a hs of h.second_marks)
 
-pub unfit_marks : (a : Field) (told : Option Faults) (trees : Trees) (hs : List Hang) (before after : ℕ) (k l : Kept) (was is were are : List Bool) {T E : Type 0} (r : Result T E) → All (λ h. has_number a.wires h.wire.0 ≡ true) hs → length is ≡ length was → StayMarked was is →
+pub unfit_marks : (a : Field) (told : Option Faults) (trees : Trees) (hs : List WireTest) (before after : ℕ) (k l : Kept) (was is were are : List Bool) {T E : Type 0} (r : Result T E) → All (λ h. has_number a.wires h.wire.0 ≡ true) hs → length is ≡ length was → StayMarked was is →
     OnOk r (HasTried told trees hs before after k l was is were are) → OnErr r (is ≡ was) → MarksSome (λ w. has_number a.wires w ≡ true) was is
 unfit_marks a told trees hs before after k l was is were are (Ok v) of len stay tried same = record { len = len; stays = stay; within = tried_unfit a hs of tried }
 unfit_marks a told trees hs before after k l was is were are (Err e) of len stay tried same = record { len = len; stays = stay; within = new_same a was is same }
 
-pub unclear_marks : (a : Field) (told : Option Faults) (trees : Trees) (hs : List Hang) (before after : ℕ) (k l : Kept) (was is were are : List Bool) {T E : Type 0} (r : Result T E) → All (λ h. has_number a.wires h.wire.0 ≡ true) hs → length are ≡ length were → StayMarked were are →
+pub unclear_marks : (a : Field) (told : Option Faults) (trees : Trees) (hs : List WireTest) (before after : ℕ) (k l : Kept) (was is were are : List Bool) {T E : Type 0} (r : Result T E) → All (λ h. has_number a.wires h.wire.0 ≡ true) hs → length are ≡ length were → StayMarked were are →
     OnOk r (HasTried told trees hs before after k l was is were are) → OnErr r (are ≡ were) → MarksSome (λ w. has_number a.wires w ≡ true) were are
 unclear_marks a told trees hs before after k l was is were are (Ok v) of len stay tried same = record { len = len; stays = stay; within = tried_unclear a hs of tried }
 unclear_marks a told trees hs before after k l was is were are (Err e) of len stay tried same = record { len = len; stays = stay; within = new_same a were are same }
 
 -- a test that marks wires, and was paid for
-pub hang_goes : {told : Option Faults} {a : Field} {tables : List Table} {k l : Kept} {known : KnownWires} {bad : Bad} {unfit unclear : List Bool} {purse : Purse} {before after : ℕ} (n : ℕ) → IsHand a (in_hand k known bad purse before) → before + n ≤ purse.most → after ≤ before + n → IsMore k l →
+pub hang_goes : {told : Option Faults} {a : Field} {tables : List Table} {k l : Kept} {known : KnownWires} {bad : DefectMarks} {unfit unclear : List Bool} {budget : LoadBudget} {before after : ℕ} (n : ℕ) → IsHand a (in_hand k known bad budget before) → before + n ≤ budget.most → after ≤ before + n → IsMore k l →
     MarksSome (λ w. has_number a.wires w ≡ true) bad.unfit unfit → MarksSome (λ w. has_number a.wires w ≡ true) bad.unclear unclear →
     (UnfitIf told k (is_step known.steps) bad.unfit → UnfitIf told l (is_step known.steps) unfit) → (UnclearIf told k bad.unclear → UnclearIf told l unclear) →
-    Goes told a tables (in_hand k known bad purse before) (in_hand l known (record bad { unfit = unfit; unclear = unclear }) purse after)
-hang_goes {told} {a} {tables} {k} {l} {known} {bad} {unfit} {unclear} {purse} {before} {after} n hand can took more marks also fit clear = goes_tested n hand can took more marked holds
+    Goes told a tables (in_hand k known bad budget before) (in_hand l known (record bad { unfit = unfit; unclear = unclear }) budget after)
+hang_goes {told} {a} {tables} {k} {l} {known} {bad} {unfit} {unclear} {budget} {before} {after} n hand can took more marks also fit clear = goes_tested n hand can took more marked holds
   where
     marked : MarksIn a tables bad (record bad { unfit = unfit; unclear = unclear })
     marked = record { stuck = some_itself _ bad.stuck; unfit = marks; unclear = also; wrong = some_itself _ bad.wrong }
@@ -149,14 +149,14 @@ hang_goes {told} {a} {tables} {k} {l} {known} {bad} {unfit} {unclear} {purse} {b
     }
 
 -- a test that marks nothing, and was paid for
-pub plain_goes : {told : Option Faults} {a : Field} {tables : List Table} {k l : Kept} {known : KnownWires} {bad : Bad} {purse : Purse} {before after : ℕ} (n : ℕ) → IsHand a (in_hand k known bad purse before) → before + n ≤ purse.most → after ≤ before + n → IsMore k l →
-    Goes told a tables (in_hand k known bad purse before) (in_hand l known bad purse after)
-plain_goes {told} {a} {tables} {k} {l} {known} {bad} {purse} {before} {after} n hand can took more = record {
+pub plain_goes : {told : Option Faults} {a : Field} {tables : List Table} {k l : Kept} {known : KnownWires} {bad : DefectMarks} {budget : LoadBudget} {before after : ℕ} (n : ℕ) → IsHand a (in_hand k known bad budget before) → before + n ≤ budget.most → after ≤ before + n → IsMore k l →
+    Goes told a tables (in_hand k known bad budget before) (in_hand l known bad budget after)
+plain_goes {told} {a} {tables} {k} {l} {known} {bad} {budget} {before} {after} n hand can took more = record {
   hand = record {
     known = known_later more hand.known;
     field = subst (λ m. IsFieldOf m a) (sym more.shape) hand.field;
     marks = marks_for more.shape hand.marks (marks_itself a tables bad);
-    purse = hand.purse ∙ ap crosses_of (sym more.shape);
+    budget = hand.budget ∙ ap crosses_of (sym more.shape);
   };
   grows = grows_itself a known.steps;
   marks = marks_itself a tables bad;

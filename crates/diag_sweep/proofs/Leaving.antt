@@ -16,11 +16,11 @@ use Rattle.diag_evidence.specs.Kept.{Kept, IsMore, keeps_cross}
 use Rattle.diag_known.specs.Field.{ClosedIf, IsClosed, IsFieldOf, fresh, how_many, pins_in}
 use Rattle.diag_known.specs.Known.{HasWire}
 use Rattle.diag_known.specs.declared.field.Field.{Field}
-use Rattle.diag_known.specs.declared.step.Step.{Step}
+use Rattle.diag_known.specs.declared.verified_wire.VerifiedWire.{VerifiedWire}
 use Rattle.diag_known.proofs.Counting.{many_all, many_more, many_size}
 use Rattle.diag_sweep.specs.Marks.{AreTrueMarks, MarksIn, Pays, TrueIf, is_undecided, undecided}
 use Rattle.diag_sweep.specs.Without.{AreWithout, IsWithout}
-use Rattle.diag_sweep.specs.declared.bad.Bad.{Bad}
+use Rattle.diag_sweep.specs.declared.defect_marks.DefectMarks.{DefectMarks}
 use Rattle.diag_sweep.proofs.Paying.{neither}
 
 none_on : (n i : ℕ) → has_number (replicate n false) i ≡ false
@@ -80,7 +80,7 @@ and_and : (a b c : Bool) → ((a && b) && c) ≡ (a && (b && c))
 and_and true b c = refl
 and_and false b c = refl
 
-pub without_both : {b : Bad} {a : Field} {crosses fit wires : List Bool} → AreWithout b.stuck a.crosses crosses → AreWithout b.unfit a.wires fit → AreWithout b.unclear fit wires →
+pub without_both : {b : DefectMarks} {a : Field} {crosses fit wires : List Bool} → AreWithout b.stuck a.crosses crosses → AreWithout b.unfit a.wires fit → AreWithout b.unclear fit wires →
     IsWithout b a (record { wires = wires; crosses = crosses })
 without_both {b} {a} xs fit ws = record {
   crosses = xs;
@@ -106,7 +106,7 @@ none_some : {A : Type 0} (o : Option A) → o ≡ None → o ≢ None → ⊥
 none_some o e n = n e
 
 -- what is closed without what is marked is closed with it
-pub closed_with : (told : Option Faults) (k : Kept) (ss : List Step) (b : Bad) (a rest : Field) → IsWithout b a rest → TrueIf told k ss b → ClosedIf told k rest ss → ClosedIf told k a ss
+pub closed_with : (told : Option Faults) (k : Kept) (ss : List VerifiedWire) (b : DefectMarks) (a rest : Field) → IsWithout b a rest → TrueIf told k ss b → ClosedIf told k rest ss → ClosedIf told k a ss
 closed_with told k ss b a rest without true_ closed = record { at = λ f e h. whole f (true_.at f e h) (closed.at f e h) }
   where
     whole : (f : Faults) → AreTrueMarks k.shape f (HasWire ss) b → IsClosed k f rest (HasWire ss) → IsClosed k f a (HasWire ss)
@@ -162,7 +162,7 @@ pins_few m numbered = by (dec_lt (wires_of m) (pins_of m))
     by (yes h) = absurd (let in_ : wires_of m < wires_of m = numbered.pins (wires_of m) h in let no : ⊥ = omega (arith, in_) in no)
     by (no h) = omega (arith, h)
 
-module _ (a rest : Field) (k l : Kept) (b c : Bad) (same : l.shape ≡ k.shape) (field : IsFieldOf k.shape a) (without : IsWithout c a rest) where
+module _ (a rest : Field) (k l : Kept) (b c : DefectMarks) (same : l.shape ≡ k.shape) (field : IsFieldOf k.shape a) (without : IsWithout c a rest) where
   fresh_undecided : fresh l rest ≤ undecided l c a
   fresh_undecided = subst (λ (n : ℕ). how_many (λ x. has_number rest.crosses x && not (keeps_cross l x)) n ≤ undecided l c a) (sym without.crosses.len)
       (many_more _ _ (length a.crosses) (λ x less on. by (has_number rest.crosses x) (has_number a.crosses x) (has_number c.stuck x) (keeps_cross l x) (without.crosses.each x) on))
@@ -248,10 +248,10 @@ pub pins_size : (a : Field) (k : Kept) → IsNumbered k.shape → IsFieldOf k.sh
 unfolding pin_wire
 pins_size a k numbered field = subst (λ (n : ℕ). pins_in k.shape a ≤ n) (many_size a.wires) (more_below (has_number a.wires) (pins_of k.shape) (length a.wires) (rw field.wires (pins_few k.shape numbered)))
 
-pub undecided_all : (a : Field) (k : Kept) (b : Bad) → IsFieldOf k.shape a → undecided k b a ≤ crosses_of k.shape
+pub undecided_all : (a : Field) (k : Kept) (b : DefectMarks) → IsFieldOf k.shape a → undecided k b a ≤ crosses_of k.shape
 undecided_all a k b field = subst (λ (n : ℕ). undecided k b a ≤ n) field.crosses (many_all _ (length a.crosses))
 
-pub paid_alone : (a : Field) (k l : Kept) (b c : Bad) (before after : ℕ) → IsNumbered k.shape → IsFieldOf k.shape a → Pays a k b before l c after → after ≤ before + (2 * undecided k b a + size_of a.wires)
+pub paid_alone : (a : Field) (k l : Kept) (b c : DefectMarks) (before after : ℕ) → IsNumbered k.shape → IsFieldOf k.shape a → Pays a k b before l c after → after ≤ before + (2 * undecided k b a + size_of a.wires)
 unfolding pin_wire
 paid_alone a k l b c before after numbered field pays = sums (undecided l c a) (undecided k b a) (pins_in k.shape a) (size_of a.wires) (pins_size a k numbered field) pays
   where

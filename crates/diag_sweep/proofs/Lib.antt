@@ -3,7 +3,7 @@ pub mod Marking
 -- For the proofs of this crate alone.
 mod Going
 mod Paying
-mod Purses
+mod Budgets
 mod Sighting
 mod Footed
 mod HungOn

@@ -9,9 +9,9 @@ use Rattle.diag_evidence.specs.Kept.{Kept, IsMore, HoldsFor}
 use Rattle.diag_evidence.proofs.Keeping.{holds_earlier}
 use Rattle.diag_known.specs.Known.{HasWire}
 use Rattle.diag_known.specs.declared.field.Field.{Field}
-use Rattle.diag_known.specs.declared.step.Step.{Step}
+use Rattle.diag_known.specs.declared.verified_wire.VerifiedWire.{VerifiedWire}
 use Rattle.diag_sweep.specs.Marks.{AreMarksFor, AreTrueMarks, HasTable, MarksIn, MarksSome, TrueIf}
-use Rattle.diag_sweep.specs.declared.bad.Bad.{Bad}
+use Rattle.diag_sweep.specs.declared.defect_marks.DefectMarks.{DefectMarks}
 
 pub some_itself : (these : ℕ → Type 0) (was : List Bool) → MarksSome these was was
 some_itself these was = record { len = refl; stays = λ i on. on; within = λ i on. inl on }
@@ -23,13 +23,13 @@ some_then {these} {x} {y} p q = record { len = q.len ∙ p.len; stays = λ i on.
     by i (inl on) = p.within i on
     by i (inr is) = inr is
 
-pub marks_itself : (a : Field) (tables : List Table) (b : Bad) → MarksIn a tables b b
+pub marks_itself : (a : Field) (tables : List Table) (b : DefectMarks) → MarksIn a tables b b
 marks_itself a tables b = record { stuck = some_itself _ b.stuck; unfit = some_itself _ b.unfit; unclear = some_itself _ b.unclear; wrong = some_itself _ b.wrong }
 
-pub marks_then : {a : Field} {tables : List Table} {x y z : Bad} → MarksIn a tables x y → MarksIn a tables y z → MarksIn a tables x z
+pub marks_then : {a : Field} {tables : List Table} {x y z : DefectMarks} → MarksIn a tables x y → MarksIn a tables y z → MarksIn a tables x z
 marks_then p q = record { stuck = some_then p.stuck q.stuck; unfit = some_then p.unfit q.unfit; unclear = some_then p.unclear q.unclear; wrong = some_then p.wrong q.wrong }
 
-pub marks_for : {m n : Shape} {a : Field} {tables : List Table} {b c : Bad} → n ≡ m → AreMarksFor m b → MarksIn a tables b c → AreMarksFor n c
+pub marks_for : {m n : Shape} {a : Field} {tables : List Table} {b c : DefectMarks} → n ≡ m → AreMarksFor m b → MarksIn a tables b c → AreMarksFor n c
 marks_for same are in_ = record {
   stuck = in_.stuck.len ∙ are.stuck ∙ ap crosses_of (sym same);
   unfit = in_.unfit.len ∙ are.unfit ∙ ap wires_of (sym same);
@@ -38,7 +38,7 @@ marks_for same are in_ = record {
 }
 
 -- more is kept and more is known: the same marks stay true
-pub true_later : {told : Option Faults} {k l : Kept} {ss ts : List Step} {b : Bad} → IsMore k l → ((w : ℕ) → HasWire ss w → HasWire ts w) → TrueIf told k ss b → TrueIf told l ts b
+pub true_later : {told : Option Faults} {k l : Kept} {ss ts : List VerifiedWire} {b : DefectMarks} → IsMore k l → ((w : ℕ) → HasWire ss w → HasWire ts w) → TrueIf told k ss b → TrueIf told l ts b
 true_later {told} {k} {l} {ss} {ts} {b} more known t = record { at = λ f e h. subst (λ (m : Shape). AreTrueMarks m f (HasWire ts) b) (sym more.shape) (at f (t.at f e (holds_earlier more h))) }
   where
     at : (f : Faults) → AreTrueMarks k.shape f (HasWire ss) b → AreTrueMarks k.shape f (HasWire ts) b

@@ -7,8 +7,8 @@ use Rattle.diag_known.specs.Known.{KnownWires}
 use Rattle.diag_known.specs.declared.field.Field.{Field}
 use Rattle.diag_sweep.specs.Marks.{is_undecided}
 use Rattle.diag_sweep.specs.Stages.{IsFunded, in_hand}
-use Rattle.diag_sweep.specs.declared.bad.Bad.{Bad}
-use Rattle.diag_sweep.specs.declared.purse.Purse.{Purse}
+use Rattle.diag_sweep.specs.declared.defect_marks.DefectMarks.{DefectMarks}
+use Rattle.diag_sweep.specs.declared.budget.LoadBudget.{LoadBudget}
 
 -- if neither of two is so, neither is what they follow from
 pub neither : (a b c d : Bool) → (a ≡ true → c ≡ true) → (b ≡ true → d ≡ true) → (not c && not d) ≡ true → (not a && not b) ≡ true
@@ -21,12 +21,12 @@ neither false true c d p q e = absurd (false≢true (sym (none c) ∙ ap (λ (x 
     none false = refl
 
 -- what is undecided was
-pub undecided_before : {k l : Kept} (b c : Bad) → IsMore k l → ((x : ℕ) → has_number b.stuck x ≡ true → has_number c.stuck x ≡ true) → (x : ℕ) → is_undecided l c x ≡ true → is_undecided k b x ≡ true
+pub undecided_before : {k l : Kept} (b c : DefectMarks) → IsMore k l → ((x : ℕ) → has_number b.stuck x ≡ true → has_number c.stuck x ≡ true) → (x : ℕ) → is_undecided l c x ≡ true → is_undecided k b x ≡ true
 undecided_before {k} {l} b c more stays x is = neither (keeps_cross k x) (has_number b.stuck x) (keeps_cross l x) (has_number c.stuck x) (more.crosses x) (stays x) is
 
 -- a test that the purse can pay for
-pub funded_test : {a : Field} {k l : Kept} {known new : KnownWires} {b c : Bad} {purse : Purse} {before after : ℕ} (n : ℕ) → before + n ≤ purse.most → after ≤ before + n → IsMore k l → ((x : ℕ) → has_number b.stuck x ≡ true → has_number c.stuck x ≡ true) →
-    (limit : ℕ) → IsFunded limit a (in_hand k known b purse before) → IsFunded limit a (in_hand l new c purse after)
+pub funded_test : {a : Field} {k l : Kept} {known new : KnownWires} {b c : DefectMarks} {budget : LoadBudget} {before after : ℕ} (n : ℕ) → before + n ≤ budget.most → after ≤ before + n → IsMore k l → ((x : ℕ) → has_number b.stuck x ≡ true → has_number c.stuck x ≡ true) →
+    (limit : ℕ) → IsFunded limit a (in_hand k known b budget before) → IsFunded limit a (in_hand l new c budget after)
 funded_test {b = b} {c = c} n can took more stays limit f = record {
   paid = omega (arith, can, took);
   within = f.within;

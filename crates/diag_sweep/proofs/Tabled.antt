@@ -15,8 +15,8 @@ use Rattle.diag_known.specs.Known.{KnownWires}
 use Rattle.diag_known.specs.declared.field.Field.{Field}
 use Rattle.diag_sweep.specs.Marks.{HasTable, MarksSome, MarksIn, TrueIf}
 use Rattle.diag_sweep.specs.Stages.{Goes, Hand, IsHand, in_hand}
-use Rattle.diag_sweep.specs.declared.bad.Bad.{Bad}
-use Rattle.diag_sweep.specs.declared.purse.Purse.{Purse}
+use Rattle.diag_sweep.specs.declared.defect_marks.DefectMarks.{DefectMarks}
+use Rattle.diag_sweep.specs.declared.budget.LoadBudget.{LoadBudget}
 use Rattle.diag_sweep.proofs.Going.{goes_itself, goes_on, goes_tested}
 use Rattle.diag_sweep.proofs.Marking.{true_later, some_itself}
 
@@ -45,10 +45,10 @@ wrong_marks told trees tables ts rig k l was is (Ok v) of len tabled same = reco
     by t (inr on) = inl on
 wrong_marks told trees tables ts rig k l was is (Err e) of len tabled same = subst (MarksSome (HasTable tables) was) (sym same) (some_itself (HasTable tables) was)
 
-pub table_goes : {told : Option Faults} {a : Field} {k l : Kept} {known : KnownWires} {bad : Bad} {wrong : List Bool} {purse : Purse} {before after : ℕ} (tables : List Table) → IsHand a (in_hand k known bad purse before) → before + 2 ≤ purse.most →
+pub table_goes : {told : Option Faults} {a : Field} {k l : Kept} {known : KnownWires} {bad : DefectMarks} {wrong : List Bool} {budget : LoadBudget} {before after : ℕ} (tables : List Table) → IsHand a (in_hand k known bad budget before) → before + 2 ≤ budget.most →
     after ≤ before + 2 → IsMore k l → MarksSome (HasTable tables) bad.wrong wrong → (WrongIf told k bad.wrong → WrongIf told l wrong) →
-    Goes told a tables (in_hand k known bad purse before) (in_hand l known (record bad { wrong = wrong }) purse after)
-table_goes {told} {a} {k} {l} {known} {bad} {wrong} {purse} {before} {after} tables hand can took more marks true_ = goes_tested 2 hand can took more marked holds
+    Goes told a tables (in_hand k known bad budget before) (in_hand l known (record bad { wrong = wrong }) budget after)
+table_goes {told} {a} {k} {l} {known} {bad} {wrong} {budget} {before} {after} tables hand can took more marks true_ = goes_tested 2 hand can took more marked holds
   where
     marked : MarksIn a tables bad (record bad { wrong = wrong })
     marked = record {

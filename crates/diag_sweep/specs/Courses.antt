@@ -12,7 +12,7 @@ use Rattle.diag_evidence.specs.Leads.{IsLead, crosses_of_leads, wires_of_leads}
 use Rattle.diag_evidence.specs.declared.leads.Lead.{Lead}
 use Rattle.diag_known.specs.Known.{HasWire}
 use Rattle.diag_known.specs.declared.field.Field.{Field}
-use Rattle.diag_known.specs.declared.step.Step.{Step}
+use Rattle.diag_known.specs.declared.verified_wire.VerifiedWire.{VerifiedWire}
 use Rattle.diag_sweep.specs.Sights.{Seen, SeesMore}
 
 -- a crosspoint that isn't kept is of the field
@@ -20,7 +20,7 @@ abbrev pub MayTry : Kept → Field → ℕ → Type 0
 MayTry k a x = keeps_cross k x ≡ false → has_number a.crosses x ≡ true
 
 -- A route goes on over a crosspoint that may be tried to a known wire, which is seen for the first time.
-pub record GoesOn (k : Kept) (ss : List Step) (a : Field) (x : ℕ) (was is : List Bool) (r s : Walk) : Type 0 where
+pub record GoesOn (k : Kept) (ss : List VerifiedWire) (a : Field) (x : ℕ) (was is : List Bool) (r s : Walk) : Type 0 where
   pub further : Extends k.shape x r s
   pub route : IsRoute k.shape s
   pub sees : SeesMore was is (s.end ∷ [])
@@ -28,7 +28,7 @@ pub record GoesOn (k : Kept) (ss : List Step) (a : Field) (x : ℕ) (was is : Li
   pub tries : MayTry k a x
 
 -- A route over known wires, all seen for the first time, and over crosspoints that may be tried.
-pub record IsFair (k : Kept) (ss : List Step) (a : Field) (was is : List Bool) (r : Walk) : Type 0 where
+pub record IsFair (k : Kept) (ss : List VerifiedWire) (a : Field) (was is : List Bool) (r : Walk) : Type 0 where
   pub route : IsRoute k.shape r
   pub sees : SeesMore was is r.wires
   pub known : (w : ℕ) → among r.wires w ≡ true → HasWire ss w
@@ -41,13 +41,13 @@ pub record EndsAt (m : Shape) (r : Walk) (pin : ℕ) : Type 0 where
   pub is : r.end ≡ pin_wire m pin
 
 -- .. that ends at a pin of the machine
-pub record IsFairLead (k : Kept) (ss : List Step) (a : Field) (was is : List Bool) (l : Lead) : Type 0 where
+pub record IsFairLead (k : Kept) (ss : List VerifiedWire) (a : Field) (was is : List Bool) (l : Lead) : Type 0 where
   pub fair : IsFair k ss a was is l.route
   pub lead : IsLead k l
 
 -- Walks over known wires, no wire twice, and over crosspoints that may be tried. What is closed is their crosspoints, nothing is on, and
 -- their first pins are driven 0, and no others.
-pub record IsCourse (k : Kept) (ss : List Step) (a : Field) (g : Configuration) (drive : List Bool) (ls : List Lead)
+pub record IsCourse (k : Kept) (ss : List VerifiedWire) (a : Field) (g : Configuration) (drive : List Bool) (ls : List Lead)
     (seen : List Bool) : Type 0 where
   pub shape : g.shape ≡ k.shape
   pub leads : All (IsLead k) ls

@@ -11,11 +11,11 @@ use Rattle.diag_evidence.specs.Kept.{Kept, HoldsFor, keeps_cross}
 use Rattle.diag_known.specs.Known.{HasWire}
 use Rattle.diag_known.specs.Field.{how_many, pins_in}
 use Rattle.diag_known.specs.declared.field.Field.{Field}
-use Rattle.diag_known.specs.declared.step.Step.{Step}
-use Rattle.diag_sweep.specs.declared.bad.Bad.{Bad}
+use Rattle.diag_known.specs.declared.verified_wire.VerifiedWire.{VerifiedWire}
+use Rattle.diag_sweep.specs.declared.defect_marks.DefectMarks.{DefectMarks}
 
 -- there is a mark for each crosspoint, wire and table of the machine
-pub record AreMarksFor (m : Shape) (b : Bad) : Type 0 where
+pub record AreMarksFor (m : Shape) (b : DefectMarks) : Type 0 where
   pub stuck : length b.stuck ≡ crosses_of m
   pub unfit : length b.unfit ≡ wires_of m
   pub unclear : length b.unclear ≡ wires_of m
@@ -23,14 +23,14 @@ pub record AreMarksFor (m : Shape) (b : Bad) : Type 0 where
 
 -- True marks: a crosspoint marked stuck is stuck; a wire marked unfit isn't clear, or is shorted to one of these wires; a wire marked
 -- unclear isn't clear; and a table marked wrong has a wrong cell or a stuck register.
-pub record AreTrueMarks (m : Shape) (f : Faults) (wires : ℕ → Type 0) (b : Bad) : Type 0 where
+pub record AreTrueMarks (m : Shape) (f : Faults) (wires : ℕ → Type 0) (b : DefectMarks) : Type 0 where
   pub stuck : (x : ℕ) → has_number b.stuck x ≡ true → stuck_cross f x ≢ None
   pub unfit : (w : ℕ) → has_number b.unfit w ≡ true → IsClear m f w → ¬ IsAlone m f wires w
   pub unclear : (w : ℕ) → has_number b.unclear w ≡ true → ¬ IsClear m f w
   pub wrong : (t : ℕ) → has_number b.wrong t ≡ true → ¬ IsRightTable f t
 
 -- .. for what is known, where the faults are told and what is kept is true of them
-pub record TrueIf (told : Option Faults) (k : Kept) (ss : List Step) (b : Bad) : Type 0 where
+pub record TrueIf (told : Option Faults) (k : Kept) (ss : List VerifiedWire) (b : DefectMarks) : Type 0 where
   pub at : (f : Faults) → told ≡ Some f → HoldsFor k f → AreTrueMarks k.shape f (HasWire ss) b
 
 -- the table is one of these
@@ -47,24 +47,24 @@ pub record MarksSome (these : ℕ → Type 0) (was is : List Bool) : Type 0 wher
   pub within : (i : ℕ) → has_number is i ≡ true → (has_number was i ≡ true) ⊎ these i
 
 -- .. of the crosspoints and wires of a field, and of these tables
-pub record MarksIn (a : Field) (tables : List Table) (old new : Bad) : Type 0 where
+pub record MarksIn (a : Field) (tables : List Table) (old new : DefectMarks) : Type 0 where
   pub stuck : MarksSome (λ x. has_number a.crosses x ≡ true) old.stuck new.stuck
   pub unfit : MarksSome (λ w. has_number a.wires w ≡ true) old.unfit new.unfit
   pub unclear : MarksSome (λ w. has_number a.wires w ≡ true) old.unclear new.unclear
   pub wrong : MarksSome (HasTable tables) old.wrong new.wrong
 
 -- a crosspoint that is neither kept nor marked stuck
-abbrev pub is_undecided : Kept → Bad → ℕ → Bool
+abbrev pub is_undecided : Kept → DefectMarks → ℕ → Bool
 is_undecided k b x = not (keeps_cross k x) && not (has_number b.stuck x)
 
 -- how many crosspoints of the field are undecided
-abbrev pub undecided : Kept → Bad → Field → ℕ
+abbrev pub undecided : Kept → DefectMarks → Field → ℕ
 undecided k b a = how_many (λ x. has_number a.crosses x && is_undecided k b x) (length a.crosses)
 
 -- the loads so far, those that are left, and two for each crosspoint of the field that is undecided
-abbrev pub worth : Field → Kept → Bad → (loads left : ℕ) → ℕ
+abbrev pub worth : Field → Kept → DefectMarks → (loads left : ℕ) → ℕ
 worth a k b loads left = loads + (left + 2 * undecided k b a)
 
 -- at most a load for each pin of the machine in the field, and two for each crosspoint of the field that was undecided and isn't any more
-abbrev pub Pays : Field → Kept → Bad → ℕ → Kept → Bad → ℕ → Type 0
+abbrev pub Pays : Field → Kept → DefectMarks → ℕ → Kept → DefectMarks → ℕ → Type 0
 Pays a k b before l c after = after + 2 * undecided l c a ≤ before + (pins_in k.shape a + 2 * undecided k b a)

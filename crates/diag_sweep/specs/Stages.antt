@@ -9,33 +9,33 @@ use Rattle.diag_known.specs.Known.{KnownWires, IsKnown}
 use Rattle.diag_known.specs.Field.{IsFieldOf, GrowsIn}
 use Rattle.diag_known.specs.declared.field.Field.{Field}
 use Rattle.diag_sweep.specs.Marks.{AreMarksFor, MarksIn, TrueIf, is_undecided}
-use Rattle.diag_sweep.specs.declared.bad.Bad.{Bad}
-use Rattle.diag_sweep.specs.declared.purse.Purse.{Purse}
+use Rattle.diag_sweep.specs.declared.defect_marks.DefectMarks.{DefectMarks}
+use Rattle.diag_sweep.specs.declared.budget.LoadBudget.{LoadBudget}
 
 -- what is kept, known and found bad, the purse, and the loads so far
 pub record Hand : Type 0 where
   pub kept : Kept
   pub known : KnownWires
-  pub bad : Bad
-  pub purse : Purse
+  pub bad : DefectMarks
+  pub budget : LoadBudget
   pub loads : ℕ
 
-abbrev pub in_hand : Kept → KnownWires → Bad → Purse → ℕ → Hand
-in_hand k known bad purse loads = record { kept = k; known = known; bad = bad; purse = purse; loads = loads }
+abbrev pub in_hand : Kept → KnownWires → DefectMarks → LoadBudget → ℕ → Hand
+in_hand k known bad budget loads = record { kept = k; known = known; bad = bad; budget = budget; loads = loads }
 
 -- what is known is known by what is kept, and all is of one shape
 pub record IsHand (a : Field) (h : Hand) : Type 0 where
   pub known : IsKnown h.kept h.known
   pub field : IsFieldOf h.kept.shape a
   pub marks : AreMarksFor h.kept.shape h.bad
-  pub purse : length h.purse.unsettled ≡ crosses_of h.kept.shape
+  pub budget : length h.budget.unsettled ≡ crosses_of h.kept.shape
 
 -- The loads are within what the purse pays for, that and two for each unsettled crosspoint is within a limit, and all undecided
 -- crosspoints of the field are unsettled.
 pub record IsFunded (limit : ℕ) (a : Field) (h : Hand) : Type 0 where
-  pub paid : h.loads ≤ h.purse.most
-  pub within : h.purse.most + 2 * size_of h.purse.unsettled ≤ limit
-  pub whole : (x : ℕ) → has_number a.crosses x ≡ true → is_undecided h.kept h.bad x ≡ true → has_number h.purse.unsettled x ≡ true
+  pub paid : h.loads ≤ h.budget.most
+  pub within : h.budget.most + 2 * size_of h.budget.unsettled ≤ limit
+  pub whole : (x : ℕ) → has_number a.crosses x ≡ true → is_undecided h.kept h.bad x ≡ true → has_number h.budget.unsettled x ≡ true
 
 -- What a step of a sweep leaves: what was known still is, and what is new is of the field; marks are of the field and of these tables,
 -- and stay true; and the purse has paid for it.
@@ -48,7 +48,7 @@ pub record Goes (told : Option Faults) (a : Field) (tables : List Table) (old ne
 
 -- A purse is settled anew: what it pays for and what it may still come to pay for are no more together, and an undecided crosspoint
 -- stays unsettled.
-pub record Settles (k : Kept) (b : Bad) (old new : Purse) : Type 0 where
+pub record Settles (k : Kept) (b : DefectMarks) (old new : LoadBudget) : Type 0 where
   pub len : length new.unsettled ≡ length old.unsettled
   pub most : old.most ≤ new.most
   pub within : new.most + 2 * size_of new.unsettled ≤ old.most + 2 * size_of old.unsettled

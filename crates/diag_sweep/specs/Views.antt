@@ -7,11 +7,11 @@ use Rattle.diag_evidence.specs.Hangs.{AreFeet}
 use Rattle.diag_evidence.specs.Kept.{Kept}
 use Rattle.diag_known.specs.Known.{HasWire}
 use Rattle.diag_known.specs.declared.field.Field.{Field}
-use Rattle.diag_known.specs.declared.step.Step.{Step}
+use Rattle.diag_known.specs.declared.verified_wire.VerifiedWire.{VerifiedWire}
 use Rattle.diag_sweep.specs.declared.telling.View.{View}
 
 -- The look may be made: what hangs on the forest is kept and known, the feet may be hung on it together, and their wires are of the field.
-pub record CanTell (k : Kept) (ss : List Step) (a : Field) (view : View) : Type 0 where
+pub record CanTell (k : Kept) (ss : List VerifiedWire) (a : Field) (view : View) : Type 0 where
   pub knows : KnowsForest k view.forest
   pub known : (w : ℕ) → is_hung view.forest w ≡ true → HasWire ss w
   pub feet : AreFeet view.forest view.told.feet.items

@@ -11,15 +11,15 @@ ghost use Rattle.diag_known.specs.Known.{HasWire, InSet, IsKnown, KnownWires};
 ghost use Rattle.diag_sweep.specs.Marks.{AreMarksFor, MarksIn, TrueIf, worth};
 ghost use Rattle.diag_sweep.specs.Stages.{IsFunded, in_hand};
 
-use crate::bad::Bad;
-use crate::gear::{Gear, Sheet};
+use crate::budget::{LoadBudget, loads_of};
+use crate::defect_marks::DefectMarks;
 use crate::informing::new_search;
 use crate::losing::give_up;
-use crate::purse::{Purse, loads_of};
+use crate::sweep_state::{SweepState, TableSweep};
 use crate::tabling::sweep_again;
 use crate::telling::tell_all;
 use base_bits::BitSet;
-use diag_evidence::Proof;
+use diag_evidence::Facts;
 use diag_known::{Field, Known, standing};
 use diag_search::{Aim, Chooser};
 use machine_shape::Table;
@@ -36,28 +36,28 @@ pub struct Choices {
     pub left: u64,
     /// The wires for which loads were put in.
     pub paid: BitSet,
-    sheet: Sheet,
+    table_sweep: TableSweep,
 }
 
 impl Choices {
     /// Before the first choice, with no loads. The tables are those that may be tested. Wants memory.
     pub fn new(
-        proof: &Proof,
+        facts: &Facts,
         known: &Known,
-        bad: &Bad,
+        bad: &DefectMarks,
         field: &Field,
         tables: &[Table],
     ) -> Result<Choices, AllocError>
         ensures left { IfOk result (λ choices. choices.left ≡ 0) }
-        ensures len { IfOk result (λ choices. length choices.paid ≡ wires_of proof.now.shape) }
+        ensures len { IfOk result (λ choices. length choices.paid ≡ wires_of facts.now.shape) }
         ensures none { IfOk result (λ choices. size_of choices.paid ≡ 0) }
-        ensures tables { IfOk result (λ choices. choices.sheet.tables.items ≡ tables.now) }
+        ensures tables { IfOk result (λ choices. choices.table_sweep.tables.items ≡ tables.now) }
     {
         let alloc = known.alloc();
-        let shape = proof.shape();
-        let gear = Gear {
-            purse: Purse::empty(alloc, &shape)?,
-            search: new_search(alloc, proof, known, bad, field)?,
+        let shape = facts.shape();
+        let state = SweepState {
+            budget: LoadBudget::empty(alloc, &shape)?,
+            search: new_search(alloc, facts, known, bad, field)?,
             chooser: Chooser::new(alloc, &shape)?,
             aim: Aim::Partners,
             height: 0,
@@ -66,8 +66,8 @@ impl Choices {
         Ok(Choices {
             left: 0,
             paid: BitSet::new(alloc, shape.wires())?,
-            sheet: Sheet {
-                gear,
+            table_sweep: TableSweep {
+                state,
                 tables: Vec::from_slice(alloc, tables)?,
             },
         })
@@ -106,37 +106,49 @@ impl Choices {
     fn open_purse(
         &mut self,
         rig: &Box<dyn Rig>,
-        proof: &Proof,
+        facts: &Facts,
         known: &Known,
-        bad: &Bad,
+        bad: &DefectMarks,
         field: &Field,
     ) -> Result<(), AllocError>
-        requires field { IsFieldOf proof.now.shape field.now }
-        requires marks { AreMarksFor proof.now.shape bad.now }
+        requires field { IsFieldOf facts.now.shape field.now }
+        requires marks { AreMarksFor facts.now.shape bad.now }
         ensures left { self.new.left ≡ 0 }
         ensures paid { self.new.paid ≡ self.old.paid }
-        ensures tables { self.new.sheet.tables ≡ self.old.sheet.tables }
-        ensures len { OnOk result (length self.new.sheet.gear.purse.unsettled ≡ crosses_of proof.now.shape) }
+        ensures tables { self.new.table_sweep.tables ≡ self.old.table_sweep.tables }
+        ensures len { OnOk result (length self.new.table_sweep.state.budget.unsettled ≡ crosses_of facts.now.shape) }
         ensures funded { OnOk result ((known : KnownWires) → IsFunded
-            (worth field.now proof.now bad.now (rig_state rig.now).loads self.old.left) field.now
-            (in_hand proof.now known bad.now self.new.sheet.gear.purse (rig_state rig.now).loads)) }
+            (worth field.now facts.now bad.now (rig_state rig.now).loads self.old.left) field.now
+            (in_hand facts.now known bad.now self.new.table_sweep.state.budget (rig_state rig.now).loads)) }
     {
         let left = self.left;
         self.left = 0;
-        self.sheet.gear.purse = Purse::of(known.alloc(), rig, proof, bad, field, left)?;
-        self.sheet.gear.search = new_search(known.alloc(), proof, known, bad, field)?;
-        self.sheet.gear.start = 0;
+        self.table_sweep.state.budget = LoadBudget::of(
+            known.alloc(),
+            rig,
+            facts,
+            bad,
+            field,
+            left,
+        )?;
+        self.table_sweep.state.search = new_search(known.alloc(), facts, known, bad, field)?;
+        self.table_sweep.state.start = 0;
         Ok(())
     }
 
     // Keeps what is left in the purse.
     fn close_purse(&mut self, rig: &Box<dyn Rig>)
-        ensures left { (rig_state rig.now).loads ≤ self.old.sheet.gear.purse.most →
-            (rig_state rig.now).loads + self.new.left ≤ self.old.sheet.gear.purse.most }
+        ensures left { (rig_state rig.now).loads ≤ self.old.table_sweep.state.budget.most →
+            (rig_state rig.now).loads + self.new.left ≤ self.old.table_sweep.state.budget.most }
         ensures paid { self.new.paid ≡ self.old.paid }
-        ensures sheet { self.new.sheet ≡ self.old.sheet }
+        ensures table_sweep { self.new.table_sweep ≡ self.old.table_sweep }
     {
-        self.left = self.sheet.gear.purse.most.saturating_sub(loads_of(rig));
+        self.left = self
+            .table_sweep
+            .state
+            .budget
+            .most
+            .saturating_sub(loads_of(rig));
     }
 }
 
@@ -161,26 +173,26 @@ fn known_among(known: &Known, wires: &BitSet) -> Result<BitSet, AllocError>
 
 // Of the known wires some give way, if that was chosen. Which wires are unfit isn't known then.
 fn give_way(
-    proof: &Proof,
+    facts: &Facts,
     known: &mut Known,
-    bad: &mut Bad,
+    bad: &mut DefectMarks,
     chooser: &mut Chooser,
 ) -> Result<bool, AllocError>
-    requires known { IsKnown proof.now known.old }
-    requires marks { AreMarksFor proof.now.shape bad.old }
-    ensures known { IsKnown proof.now known.new }
+    requires known { IsKnown facts.now known.old }
+    requires marks { AreMarksFor facts.now.shape bad.old }
+    ensures known { IsKnown facts.now known.new }
     ensures fewer { (w : ℕ) → HasWire known.new.steps w → HasWire known.old.steps w }
     ensures same { IfOk result (λ chosen. chosen ≡ false → known.new ≡ known.old) }
-    ensures marks { AreMarksFor proof.now.shape bad.new }
+    ensures marks { AreMarksFor facts.now.shape bad.new }
     ensures stuck { bad.new.stuck ≡ bad.old.stuck }
-    ensures right { (told : Option Faults) → TrueIf told proof.now known.old.steps bad.old →
-        TrueIf told proof.now known.new.steps bad.new }
+    ensures right { (told : Option Faults) → TrueIf told facts.now known.old.steps bad.old →
+        TrueIf told facts.now known.new.steps bad.new }
 {
-    let Some(wires) = give_up(chooser, proof, bad)? else {
+    let Some(wires) = give_up(chooser, facts, bad)? else {
         return Ok(false);
     };
     let stay = known_among(known, &wires)?;
-    *known = standing(known.alloc(), proof, stay)?;
+    *known = standing(known.alloc(), facts, stay)?;
     // An unfit wire may have been shorted to one that gives way.
     bad.unfit.clear();
     Ok(true)
@@ -195,40 +207,47 @@ fn give_way(
 /// `Failed` where a call of the rig failed, `Memory` where memory was wanting. What is known, kept and marked is as right as after an `Ok`.
 pub fn choose(
     rig: &mut Box<dyn Rig>,
-    proof: &mut Proof,
+    facts: &mut Facts,
     known: &mut Known,
-    bad: &mut Bad,
+    bad: &mut DefectMarks,
     field: &Field,
     choices: &mut Choices,
 ) -> Result<bool, RigFail>
-    requires attached { shape_of (rig_state rig.old) ≡ Some proof.old.shape }
-    requires known { IsKnown proof.old known.old }
-    requires field { IsFieldOf proof.old.shape field.now }
-    requires marks { AreMarksFor proof.old.shape bad.old }
+    requires attached { shape_of (rig_state rig.old) ≡ Some facts.old.shape }
+    requires known { IsKnown facts.old known.old }
+    requires field { IsFieldOf facts.old.shape field.now }
+    requires marks { AreMarksFor facts.old.shape bad.old }
 
-    ensures known { IsKnown proof.new known.new }
+    ensures known { IsKnown facts.new known.new }
     ensures fewer { (w : ℕ) → HasWire known.new.steps w → HasWire known.old.steps w }
     ensures same { IfOk result (λ chosen. chosen ≡ false → known.new ≡ known.old) }
-    ensures marks { AreMarksFor proof.old.shape bad.new }
-    ensures right { TrueIf (rig_state rig.old).machine.faults proof.old known.old.steps bad.old →
-        TrueIf (rig_state rig.old).machine.faults proof.new known.new.steps bad.new }
-    ensures pays { worth field.now proof.new bad.new (rig_state rig.new).loads choices.new.left
-        ≤ worth field.now proof.old bad.old (rig_state rig.old).loads choices.old.left }
+    ensures marks { AreMarksFor facts.old.shape bad.new }
+    ensures right { TrueIf (rig_state rig.old).machine.faults facts.old known.old.steps bad.old →
+        TrueIf (rig_state rig.old).machine.faults facts.new known.new.steps bad.new }
+    ensures pays { worth field.now facts.new bad.new (rig_state rig.new).loads choices.new.left
+        ≤ worth field.now facts.old bad.old (rig_state rig.old).loads choices.old.left }
     ensures paid { choices.new.paid ≡ choices.old.paid }
-    ensures tables { choices.new.sheet.tables ≡ choices.old.sheet.tables }
-    ensures advances { Advances (rig_state rig.old) (rig_state rig.new) proof.old proof.new }
+    ensures tables { choices.new.table_sweep.tables ≡ choices.old.table_sweep.tables }
+    ensures advances { Advances (rig_state rig.old) (rig_state rig.new) facts.old facts.new }
     ensures cause { IsErrOf result RigFail.Failed → Rose (rig_state rig.old).failures (rig_state rig.new).failures }
 {
     if choices.left == 0 {
         return Ok(false);
     }
-    let Ok(()) = choices.open_purse(rig, proof, known, bad, field) else {
+    let Ok(()) = choices.open_purse(rig, facts, known, bad, field) else {
         return Err(RigFail::Memory);
     };
-    choices.sheet.gear.aim = Aim::Partners;
-    tell_all(rig, proof, known, bad, field, &mut choices.sheet.gear)?;
+    choices.table_sweep.state.aim = Aim::Partners;
+    tell_all(
+        rig,
+        facts,
+        known,
+        bad,
+        field,
+        &mut choices.table_sweep.state,
+    )?;
     choices.close_purse(rig);
-    match give_way(proof, known, bad, &mut choices.sheet.gear.chooser) {
+    match give_way(facts, known, bad, &mut choices.table_sweep.state.chooser) {
         Ok(chosen) => Ok(chosen),
         Err(_) => Err(RigFail::Memory),
     }
@@ -242,33 +261,33 @@ pub fn choose(
 /// `Failed` where a call of the rig failed, `Memory` where memory was wanting. What is known, kept and marked is as right as after an `Ok`.
 pub fn sweep_with(
     rig: &mut Box<dyn Rig>,
-    proof: &mut Proof,
+    facts: &mut Facts,
     known: &mut Known,
-    bad: &mut Bad,
+    bad: &mut DefectMarks,
     field: &Field,
     choices: &mut Choices,
 ) -> Result<(), RigFail>
-    requires attached { shape_of (rig_state rig.old) ≡ Some proof.old.shape }
-    requires known { IsKnown proof.old known.old }
-    requires field { IsFieldOf proof.old.shape field.now }
-    requires marks { AreMarksFor proof.old.shape bad.old }
+    requires attached { shape_of (rig_state rig.old) ≡ Some facts.old.shape }
+    requires known { IsKnown facts.old known.old }
+    requires field { IsFieldOf facts.old.shape field.now }
+    requires marks { AreMarksFor facts.old.shape bad.old }
 
-    ensures known { IsKnown proof.new known.new }
+    ensures known { IsKnown facts.new known.new }
     ensures grows { GrowsIn field.now known.old.steps known.new.steps }
-    ensures marks { MarksIn field.now choices.old.sheet.tables.items bad.old bad.new }
-    ensures right { TrueIf (rig_state rig.old).machine.faults proof.old known.old.steps bad.old →
-        TrueIf (rig_state rig.old).machine.faults proof.new known.new.steps bad.new }
-    ensures pays { worth field.now proof.new bad.new (rig_state rig.new).loads choices.new.left
-        ≤ worth field.now proof.old bad.old (rig_state rig.old).loads choices.old.left }
+    ensures marks { MarksIn field.now choices.old.table_sweep.tables.items bad.old bad.new }
+    ensures right { TrueIf (rig_state rig.old).machine.faults facts.old known.old.steps bad.old →
+        TrueIf (rig_state rig.old).machine.faults facts.new known.new.steps bad.new }
+    ensures pays { worth field.now facts.new bad.new (rig_state rig.new).loads choices.new.left
+        ≤ worth field.now facts.old bad.old (rig_state rig.old).loads choices.old.left }
     ensures paid { choices.new.paid ≡ choices.old.paid }
-    ensures tables { choices.new.sheet.tables ≡ choices.old.sheet.tables }
-    ensures advances { Advances (rig_state rig.old) (rig_state rig.new) proof.old proof.new }
+    ensures tables { choices.new.table_sweep.tables ≡ choices.old.table_sweep.tables }
+    ensures advances { Advances (rig_state rig.old) (rig_state rig.new) facts.old facts.new }
     ensures cause { IsErrOf result RigFail.Failed → Rose (rig_state rig.old).failures (rig_state rig.new).failures }
 {
-    let Ok(()) = choices.open_purse(rig, proof, known, bad, field) else {
+    let Ok(()) = choices.open_purse(rig, facts, known, bad, field) else {
         return Err(RigFail::Memory);
     };
-    sweep_again(rig, proof, known, bad, field, &mut choices.sheet)?;
+    sweep_again(rig, facts, known, bad, field, &mut choices.table_sweep)?;
     choices.close_purse(rig);
     Ok(())
 }

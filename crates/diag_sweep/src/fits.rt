@@ -10,7 +10,7 @@ ghost use Rattle.diag_sweep.specs.Sights.{SeesMore};
 use crate::seen::{is_new, see_all};
 use crate::trees::{lay, lay_climbs};
 use base_bits::BitSet;
-use diag_evidence::{Forest, Proof};
+use diag_evidence::{Facts, Forest};
 use diag_search::Search;
 use machine_shape::Table;
 use std::alloc::{AllocError, Global};
@@ -18,15 +18,15 @@ use std::alloc::{AllocError, Global};
 /// The forest of a load of tables: the climbs, and the pins of the tables on their lines.
 pub(crate) fn table_forest(
     alloc: Global,
-    proof: &Proof,
+    facts: &Facts,
     search: &Search,
 ) -> Result<Forest, AllocError>
-    ensures { IfOk result (KeepsForest proof.now) }
+    ensures { IfOk result (KeepsForest facts.now) }
 {
-    let mut forest = Forest::new(alloc, &proof.shape())?;
-    lay_climbs(&mut forest, proof, &search.climbs)?;
+    let mut forest = Forest::new(alloc, &facts.shape())?;
+    lay_climbs(&mut forest, facts, &search.climbs)?;
     'taps: for tap in &search.taps {
-        lay(&mut forest, proof, tap.foot.cross, tap.foot.wire, tap.pin)?;
+        lay(&mut forest, facts, tap.foot.cross, tap.foot.wire, tap.pin)?;
     }
     Ok(forest)
 }

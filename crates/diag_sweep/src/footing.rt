@@ -7,17 +7,20 @@ ghost use Rattle.diag_evidence.specs.Hangs.{AreHangs, IsFoot, all_feet, overs, p
 
 use crate::seen::see_all;
 use base_bits::BitSet;
-use diag_evidence::{Forest, Hang};
+use diag_evidence::{Forest, WireTest};
 use diag_known::Field;
-use diag_search::Hung;
+use diag_search::ChosenTest;
 use machine_shape::{Cross, Shape, Wire};
 use std::alloc::{AllocError, Global};
 
 /// The hangs that the search has chosen.
-pub(crate) fn hangs_of(alloc: Global, chosen: &Vec<Hung>) -> Result<Vec<Hang>, AllocError> {
+pub(crate) fn hangs_of(
+    alloc: Global,
+    chosen: &Vec<ChosenTest>,
+) -> Result<Vec<WireTest>, AllocError> {
     let mut hangs = Vec::new(alloc);
     'hangs: for hung in chosen {
-        hangs.push(Hang {
+        hangs.push(WireTest {
             wire: hung.wire,
             over: hung.first.cross,
             other: hung.second.cross,
@@ -27,7 +30,7 @@ pub(crate) fn hangs_of(alloc: Global, chosen: &Vec<Hung>) -> Result<Vec<Hang>, A
 }
 
 // A hang at a place.
-fn hang_at(hangs: &[Hang], place: usize) -> Hang
+fn hang_at(hangs: &[WireTest], place: usize) -> WireTest
     requires { place < length hangs.now }
     ensures { slice_get hangs.now place ≡ Some result }
 {
@@ -35,7 +38,7 @@ fn hang_at(hangs: &[Hang], place: usize) -> Hang
 }
 
 // The numbers of their wires.
-fn wires_of_hangs(alloc: Global, hangs: &[Hang]) -> Result<Vec<u32>, AllocError>
+fn wires_of_hangs(alloc: Global, hangs: &[WireTest]) -> Result<Vec<u32>, AllocError>
     ensures { IfOk result (λ wires. wires.items ≡ map (λ h. h.wire.0) hangs.now) }
 {
     let mut wires = Vec::new(alloc);
@@ -46,7 +49,7 @@ fn wires_of_hangs(alloc: Global, hangs: &[Hang]) -> Result<Vec<u32>, AllocError>
 }
 
 // Their wires with their first crosspoints.
-fn first_feet(alloc: Global, hangs: &[Hang]) -> Result<Vec<(Wire, Cross)>, AllocError>
+fn first_feet(alloc: Global, hangs: &[WireTest]) -> Result<Vec<(Wire, Cross)>, AllocError>
     ensures { IfOk result (λ feet. feet.items ≡ overs hangs.now) }
 {
     let mut feet = Vec::new(alloc);
@@ -58,7 +61,7 @@ fn first_feet(alloc: Global, hangs: &[Hang]) -> Result<Vec<(Wire, Cross)>, Alloc
 }
 
 // And then with their second ones.
-fn feet_of(alloc: Global, hangs: &[Hang]) -> Result<Vec<(Wire, Cross)>, AllocError>
+fn feet_of(alloc: Global, hangs: &[WireTest]) -> Result<Vec<(Wire, Cross)>, AllocError>
     ensures { IfOk result (λ feet. feet.items ≡ all_feet hangs.now) }
 {
     let mut feet = first_feet(alloc, hangs)?;
@@ -135,7 +138,11 @@ pub(crate) fn pins_over(
 }
 
 /// Whether wires may be hung on a forest together, to be tested.
-pub(crate) fn are_fit(alloc: Global, forest: &Forest, hangs: &[Hang]) -> Result<bool, AllocError>
+pub(crate) fn are_fit(
+    alloc: Global,
+    forest: &Forest,
+    hangs: &[WireTest],
+) -> Result<bool, AllocError>
     ensures { IfOk result (λ yes. IsTrue yes → AreHangs forest.now hangs.now) }
 {
     let shape = forest.shape();
@@ -153,7 +160,7 @@ pub(crate) fn are_fit(alloc: Global, forest: &Forest, hangs: &[Hang]) -> Result<
 }
 
 /// Whether the wires of hangs are of a field.
-pub(crate) fn are_of_field(field: &Field, hangs: &[Hang]) -> bool
+pub(crate) fn are_of_field(field: &Field, hangs: &[WireTest]) -> bool
     ensures { IsTrue result → All (λ h. has_number field.now.wires h.wire.0 ≡ true) hangs.now }
 {
     'hangs: for k in 0..hangs.len() {

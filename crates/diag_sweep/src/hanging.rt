@@ -5,66 +5,66 @@ ghost use Rattle.rig.specs.Rig.{shape_of};
 ghost use Rattle.diag_evidence.specs.Kept.{Advances};
 ghost use Rattle.diag_sweep.specs.Stages.{Goes, IsHand, in_hand};
 
-use crate::bad::Bad;
+use crate::defect_marks::DefectMarks;
 use crate::footing::{are_fit, are_of_field, hangs_of};
-use crate::gear::Gear;
+use crate::sweep_state::SweepState;
 use crate::trees::{hang_forest, is_known, pin_forest};
-use diag_evidence::Proof;
+use diag_evidence::Facts;
 use diag_known::{Field, Known};
 use rig::{Rig, RigFail};
 
 /// Looks at the pins of the machine with nothing closed, if it can be paid.
 pub(crate) fn pin_load(
     rig: &mut Box<dyn Rig>,
-    proof: &mut Proof,
+    facts: &mut Facts,
     known: &Known,
-    bad: &Bad,
+    bad: &DefectMarks,
     field: &Field,
-    gear: &Gear,
+    state: &SweepState,
 ) -> Result<(), RigFail>
-    requires attached { shape_of (rig_state rig.old) ≡ Some proof.old.shape }
-    requires hand { IsHand field.now (in_hand proof.old known.now bad.now gear.now.purse (rig_state rig.old).loads) }
+    requires attached { shape_of (rig_state rig.old) ≡ Some facts.old.shape }
+    requires hand { IsHand field.now (in_hand facts.old known.now bad.now state.now.budget (rig_state rig.old).loads) }
     ensures goes { Goes (rig_state rig.old).machine.faults field.now []
-        (in_hand proof.old known.now bad.now gear.now.purse (rig_state rig.old).loads)
-        (in_hand proof.new known.now bad.now gear.now.purse (rig_state rig.new).loads) }
-    ensures advances { Advances (rig_state rig.old) (rig_state rig.new) proof.old proof.new }
+        (in_hand facts.old known.now bad.now state.now.budget (rig_state rig.old).loads)
+        (in_hand facts.new known.now bad.now state.now.budget (rig_state rig.new).loads) }
+    ensures advances { Advances (rig_state rig.old) (rig_state rig.new) facts.old facts.new }
     ensures cause { IsErrOf result RigFail.Failed → Rose (rig_state rig.old).failures (rig_state rig.new).failures }
 {
-    let Ok(forest) = pin_forest(known.alloc(), proof) else {
+    let Ok(forest) = pin_forest(known.alloc(), facts) else {
         return Err(RigFail::Memory);
     };
-    if !gear.purse.can_pay(rig, 1) {
+    if !state.budget.can_pay(rig, 1) {
         return Ok(());
     }
-    proof.look_each(rig, &forest)
+    facts.look_each(rig, &forest)
 }
 
 /// Tests the wires that the search has chosen over two crosspoints each, if they may be tested together and it can be paid.
 pub(crate) fn hang_load(
     rig: &mut Box<dyn Rig>,
-    proof: &mut Proof,
+    facts: &mut Facts,
     known: &Known,
-    bad: &mut Bad,
+    bad: &mut DefectMarks,
     field: &Field,
-    gear: &mut Gear,
+    state: &mut SweepState,
 ) -> Result<(), RigFail>
-    requires attached { shape_of (rig_state rig.old) ≡ Some proof.old.shape }
-    requires hand { IsHand field.now (in_hand proof.old known.now bad.old gear.old.purse (rig_state rig.old).loads) }
+    requires attached { shape_of (rig_state rig.old) ≡ Some facts.old.shape }
+    requires hand { IsHand field.now (in_hand facts.old known.now bad.old state.old.budget (rig_state rig.old).loads) }
     ensures goes { Goes (rig_state rig.old).machine.faults field.now []
-        (in_hand proof.old known.now bad.old gear.old.purse (rig_state rig.old).loads)
-        (in_hand proof.new known.now bad.new gear.new.purse (rig_state rig.new).loads) }
-    ensures advances { Advances (rig_state rig.old) (rig_state rig.new) proof.old proof.new }
+        (in_hand facts.old known.now bad.old state.old.budget (rig_state rig.old).loads)
+        (in_hand facts.new known.now bad.new state.new.budget (rig_state rig.new).loads) }
+    ensures advances { Advances (rig_state rig.old) (rig_state rig.new) facts.old facts.new }
     ensures cause { IsErrOf result RigFail.Failed → Rose (rig_state rig.old).failures (rig_state rig.new).failures }
 {
     let alloc = known.alloc();
-    let Ok(forest) = hang_forest(alloc, proof, known, &mut gear.search) else {
+    let Ok(forest) = hang_forest(alloc, facts, known, &mut state.search) else {
         return Err(RigFail::Memory);
     };
-    let Ok(chosen) = hangs_of(alloc, &gear.search.hangs) else {
+    let Ok(chosen) = hangs_of(alloc, &state.search.hangs) else {
         return Err(RigFail::Memory);
     };
     let hangs = chosen.as_slice();
-    if !is_known(proof, known, &forest) {
+    if !is_known(facts, known, &forest) {
         return Ok(());
     }
     if !are_of_field(field, hangs) {
@@ -76,8 +76,8 @@ pub(crate) fn hang_load(
     if !fit {
         return Ok(());
     }
-    if !gear.purse.can_pay(rig, 3) {
+    if !state.budget.can_pay(rig, 3) {
         return Ok(());
     }
-    proof.hang_each(rig, &forest, hangs, &mut bad.unfit, &mut bad.unclear)
+    facts.test_wires(rig, &forest, hangs, &mut bad.unfit, &mut bad.unclear)
 }

@@ -1,8 +1,8 @@
 //! What a look shows of the wires that hung in it.
 
 use crate::asking::keeps;
-use crate::bad::Bad;
-use diag_evidence::{Forest, Looks, Proof};
+use crate::defect_marks::DefectMarks;
+use diag_evidence::{Facts, Forest, Looks};
 use diag_search::{Aim, Chooser, Still, Told, flag_at, in_set};
 use machine_shape::{Cross, Shape, Wire};
 use std::alloc::{AllocError, Global};
@@ -111,7 +111,7 @@ fn suspect(
 }
 
 // A pin stayed at one value with a wire. No known wire is to blame.
-fn note_still(chooser: &mut Chooser, bad: &Bad, w: Wire, high: bool) {
+fn note_still(chooser: &mut Chooser, bad: &DefectMarks, w: Wire, high: bool) {
     let at = w.0 as usize;
     if at < chooser.still.len() {
         chooser.still[at] = if high { Still::High } else { Still::Low };
@@ -129,7 +129,7 @@ fn hear_one(
     chooser: &mut Chooser,
     forest: &Forest,
     reads: &Looks,
-    bad: &Bad,
+    bad: &DefectMarks,
     hang: (Wire, bool, u32),
 ) -> Result<(), AllocError> {
     let (w, kept, pin) = hang;
@@ -155,10 +155,10 @@ pub(crate) fn hear(
     told: &Told,
     forest: &Forest,
     reads: &Looks,
-    proof: &Proof,
-    bad: &Bad,
+    facts: &Facts,
+    bad: &DefectMarks,
 ) -> Result<(), AllocError> {
-    let shape = proof.shape();
+    let shape = facts.shape();
     'feet: for at in 0..told.feet.len() {
         let Some((w, cross)) = told.feet.get(at).copied() else {
             continue;
@@ -167,7 +167,7 @@ pub(crate) fn hear(
             continue;
         };
         if let Some(pin) = pin_of(forest, end) {
-            hear_one(chooser, forest, reads, bad, (w, keeps(proof, cross), pin))?;
+            hear_one(chooser, forest, reads, bad, (w, keeps(facts, cross), pin))?;
         }
     }
     Ok(())

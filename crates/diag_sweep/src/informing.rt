@@ -1,17 +1,17 @@
 //! What the search is told before the first load, and after each.
 
 use crate::asking::{keeps, knows};
-use crate::bad::Bad;
+use crate::defect_marks::DefectMarks;
 use base_bits::BitSet;
-use diag_evidence::Proof;
+use diag_evidence::Facts;
 use diag_known::{Field, Known};
-use diag_search::{Hung, Mark, Search, in_set};
+use diag_search::{ChosenTest, Mark, Search, in_set};
 use machine_shape::{Cross, Table, Wire};
 use std::alloc::{AllocError, Global};
 
 // What is known of a crosspoint at the beginning.
-fn first_mark(proof: &Proof, field: &Field, stuck: &BitSet, c: Cross) -> Mark {
-    if keeps(proof, c) {
+fn first_mark(facts: &Facts, field: &Field, stuck: &BitSet, c: Cross) -> Mark {
+    if keeps(facts, c) {
         return Mark::Kept;
     }
     if in_set(stuck, c.0) || !in_set(&field.crosses, c.0) {
@@ -21,15 +21,15 @@ fn first_mark(proof: &Proof, field: &Field, stuck: &BitSet, c: Cross) -> Mark {
 }
 
 // Which crosspoints are kept, and which may be tried.
-fn mark_crosses(search: &mut Search, proof: &Proof, field: &Field, stuck: &BitSet) {
-    'crosses: for c in 0..proof.shape().crosses() {
-        search.mark(Cross(c), first_mark(proof, field, stuck, Cross(c)));
+fn mark_crosses(search: &mut Search, facts: &Facts, field: &Field, stuck: &BitSet) {
+    'crosses: for c in 0..facts.shape().crosses() {
+        search.mark(Cross(c), first_mark(facts, field, stuck, Cross(c)));
     }
 }
 
 // Which wires may come to be known: those of the field that weren't found unclear.
-fn allow_wires(search: &mut Search, proof: &Proof, field: &Field, unclear: &BitSet) {
-    'wires: for w in 0..proof.shape().wires() {
+fn allow_wires(search: &mut Search, facts: &Facts, field: &Field, unclear: &BitSet) {
+    'wires: for w in 0..facts.shape().wires() {
         if in_set(&field.wires, w) && !in_set(unclear, w) {
             search.allow(Wire(w));
         }
@@ -46,21 +46,21 @@ pub(crate) fn note_known(search: &mut Search, known: &Known) {
 /// The search before the first load.
 pub(crate) fn new_search(
     alloc: Global,
-    proof: &Proof,
+    facts: &Facts,
     known: &Known,
-    bad: &Bad,
+    bad: &DefectMarks,
     field: &Field,
 ) -> Result<Search, AllocError> {
-    let mut search = Search::new(alloc, &proof.shape())?;
-    mark_crosses(&mut search, proof, field, &bad.stuck);
-    allow_wires(&mut search, proof, field, &bad.unclear);
+    let mut search = Search::new(alloc, &facts.shape())?;
+    mark_crosses(&mut search, facts, field, &bad.stuck);
+    allow_wires(&mut search, facts, field, &bad.unclear);
     note_known(&mut search, known);
     Ok(search)
 }
 
 // Looks whether a crosspoint was decided.
-fn note_cross(search: &mut Search, proof: &Proof, stuck: &BitSet, c: Cross) {
-    if keeps(proof, c) {
+fn note_cross(search: &mut Search, facts: &Facts, stuck: &BitSet, c: Cross) {
+    if keeps(facts, c) {
         search.note_kept(c);
     } else if in_set(stuck, c.0) {
         search.note_stuck(c);
@@ -68,33 +68,33 @@ fn note_cross(search: &mut Search, proof: &Proof, stuck: &BitSet, c: Cross) {
 }
 
 // Looks what came of a wire that was hung.
-fn note_hang(search: &mut Search, proof: &Proof, known: &Known, stuck: &BitSet, hung: Hung) {
+fn note_hang(search: &mut Search, facts: &Facts, known: &Known, stuck: &BitSet, hung: ChosenTest) {
     search.count_try(hung.wire);
-    note_cross(search, proof, stuck, hung.first.cross);
-    note_cross(search, proof, stuck, hung.second.cross);
+    note_cross(search, facts, stuck, hung.first.cross);
+    note_cross(search, facts, stuck, hung.second.cross);
     if knows(known, hung.wire) {
         search.learn(hung.wire);
     }
 }
 
 /// Looks what came of the wires that were hung.
-pub(crate) fn note_hangs(search: &mut Search, proof: &Proof, known: &Known, stuck: &BitSet) {
+pub(crate) fn note_hangs(search: &mut Search, facts: &Facts, known: &Known, stuck: &BitSet) {
     'hangs: for at in 0..search.hangs.len() {
         if let Some(hung) = search.hangs.get(at).copied() {
-            note_hang(search, proof, known, stuck, hung);
+            note_hang(search, facts, known, stuck, hung);
         }
     }
 }
 
 // Looks what came of the crosspoints of a walk.
-fn note_walk(search: &mut Search, proof: &Proof, stuck: &BitSet, at: usize) {
+fn note_walk(search: &mut Search, facts: &Facts, stuck: &BitSet, at: usize) {
     let Some(trial) = search.trials.get(at) else {
         return;
     };
     let crosses = trial.walk.crosses.len();
     'crosses: for k in 0..crosses {
         if let Some(cross) = search.cross_of(at, k) {
-            note_cross(search, proof, stuck, cross);
+            note_cross(search, facts, stuck, cross);
         }
     }
 }
@@ -102,11 +102,11 @@ fn note_walk(search: &mut Search, proof: &Proof, stuck: &BitSet, at: usize) {
 /// Looks what came of the walks.
 pub(crate) fn note_walks(
     search: &mut Search,
-    proof: &Proof,
+    facts: &Facts,
     stuck: &BitSet,
 ) -> Result<(), AllocError> {
     'trials: for at in 0..search.trials.len() {
-        note_walk(search, proof, stuck, at);
+        note_walk(search, facts, stuck, at);
         search.note_trial(at)?;
     }
     search.drop_groups();
@@ -114,9 +114,9 @@ pub(crate) fn note_walks(
 }
 
 // Whether a table stands in a hextant and is still to be tested.
-fn is_left(proof: &Proof, wrong: &BitSet, node: u32, t: Table) -> bool {
-    let shape = proof.shape();
-    if t.0 >= shape.tables() || t.0 >= wrong.len() || wrong.has(t.0) || proof.keeps_register(t) {
+fn is_left(facts: &Facts, wrong: &BitSet, node: u32, t: Table) -> bool {
+    let shape = facts.shape();
+    if t.0 >= shape.tables() || t.0 >= wrong.len() || wrong.has(t.0) || facts.keeps_register(t) {
         return false;
     }
     shape.hextant_of(t).0 == node
@@ -125,14 +125,14 @@ fn is_left(proof: &Proof, wrong: &BitSet, node: u32, t: Table) -> bool {
 // The tables of a hextant that are still to be tested.
 fn tables_left(
     alloc: Global,
-    proof: &Proof,
+    facts: &Facts,
     wrong: &BitSet,
     tables: &[Table],
     node: u32,
 ) -> Result<Vec<Table>, AllocError> {
     let mut left = Vec::new(alloc);
     'tables: for t in tables {
-        if is_left(proof, wrong, node, *t) {
+        if is_left(facts, wrong, node, *t) {
             left.push(*t)?;
         }
     }
@@ -143,10 +143,10 @@ fn tables_left(
 pub(crate) fn choose_tables(
     search: &mut Search,
     alloc: Global,
-    proof: &Proof,
+    facts: &Facts,
     wrong: &BitSet,
     tables: &[Table],
 ) -> Result<bool, AllocError> {
-    let left = tables_left(alloc, proof, wrong, tables, search.node)?;
+    let left = tables_left(alloc, facts, wrong, tables, search.node)?;
     search.choose_tables(&left)
 }

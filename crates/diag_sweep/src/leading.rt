@@ -12,13 +12,13 @@ ghost use Rattle.diag_sweep.specs.Courses.{IsCourse};
 ghost use Rattle.diag_sweep.specs.Marks.{AreMarksFor};
 ghost use Rattle.diag_sweep.specs.Stages.{Goes, IsHand, Settles, in_hand};
 
-use crate::bad::Bad;
-use crate::gear::Gear;
+use crate::budget::LoadBudget;
+use crate::defect_marks::DefectMarks;
 use crate::informing::note_walks;
 use crate::paths::lead_of;
-use crate::purse::Purse;
+use crate::sweep_state::SweepState;
 use base_bits::BitSet;
-use diag_evidence::{Lead, Proof};
+use diag_evidence::{Facts, Lead};
 use diag_known::{Field, Known};
 use diag_search::{Trial, Walk};
 use diag_tests::Route;
@@ -40,12 +40,12 @@ struct Course {
 
 impl Course {
     // No walks.
-    fn new(proof: &Proof, known: &Known, field: &Field) -> Result<Course, AllocError>
-        requires known { IsKnown proof.now known.now }
-        requires field { IsFieldOf proof.now.shape field.now }
-        ensures { IfOk result (λ c. IsCourse proof.now known.now.steps field.now c.config.config c.drive c.leads.items c.seen) }
+    fn new(facts: &Facts, known: &Known, field: &Field) -> Result<Course, AllocError>
+        requires known { IsKnown facts.now known.now }
+        requires field { IsFieldOf facts.now.shape field.now }
+        ensures { IfOk result (λ c. IsCourse facts.now known.now.steps field.now c.config.config c.drive c.leads.items c.seen) }
     {
-        let shape = proof.shape();
+        let shape = facts.shape();
         let alloc = known.alloc();
         Ok(Course {
             config: Config::with_room(alloc, shape, 0)?,
@@ -70,19 +70,19 @@ fn close_route(config: &mut Config, route: &Route) -> Result<(), AllocError>
 // Lays a walk besides. False where it may not be laid.
 fn add_walk(
     course: &mut Course,
-    proof: &Proof,
+    facts: &Facts,
     known: &Known,
     field: &Field,
     walk: &Walk,
 ) -> Result<bool, AllocError>
-    requires known { IsKnown proof.now known.now }
-    requires field { IsFieldOf proof.now.shape field.now }
-    requires course { IsCourse proof.now known.now.steps field.now course.old.config.config course.old.drive course.old.leads.items
+    requires known { IsKnown facts.now known.now }
+    requires field { IsFieldOf facts.now.shape field.now }
+    requires course { IsCourse facts.now known.now.steps field.now course.old.config.config course.old.drive course.old.leads.items
         course.old.seen }
-    ensures { IfOk result (λ yes. IsTrue yes → IsCourse proof.now known.now.steps field.now course.new.config.config course.new.drive
+    ensures { IfOk result (λ yes. IsTrue yes → IsCourse facts.now known.now.steps field.now course.new.config.config course.new.drive
         course.new.leads.items course.new.seen) }
 {
-    let Some(lead) = lead_of(known.alloc(), proof, known, field, &mut course.seen, walk)? else {
+    let Some(lead) = lead_of(known.alloc(), facts, known, field, &mut course.seen, walk)? else {
         return Ok(false);
     };
     close_route(&mut course.config, &lead.route)?;
@@ -94,20 +94,20 @@ fn add_walk(
 // Lays all walks of a load. False where one may not be laid.
 fn lay_walks(
     course: &mut Course,
-    proof: &Proof,
+    facts: &Facts,
     known: &Known,
     field: &Field,
     trials: &Vec<Trial>,
 ) -> Result<bool, AllocError>
-    requires known { IsKnown proof.now known.now }
-    requires field { IsFieldOf proof.now.shape field.now }
-    requires course { IsCourse proof.now known.now.steps field.now course.old.config.config course.old.drive course.old.leads.items
+    requires known { IsKnown facts.now known.now }
+    requires field { IsFieldOf facts.now.shape field.now }
+    requires course { IsCourse facts.now known.now.steps field.now course.old.config.config course.old.drive course.old.leads.items
         course.old.seen }
-    ensures { IfOk result (λ yes. IsTrue yes → IsCourse proof.now known.now.steps field.now course.new.config.config course.new.drive
+    ensures { IfOk result (λ yes. IsTrue yes → IsCourse facts.now known.now.steps field.now course.new.config.config course.new.drive
         course.new.leads.items course.new.seen) }
 {
     'trials: for at in 0..trials.len() {
-        if !add_walk(course, proof, known, field, &trials[at].walk)? {
+        if !add_walk(course, facts, known, field, &trials[at].walk)? {
             return Ok(false);
         }
     }
@@ -117,33 +117,33 @@ fn lay_walks(
 // Leads the walks that the search has chosen, if they may be led together and it can be paid.
 fn lead_load(
     rig: &mut Box<dyn Rig>,
-    proof: &mut Proof,
+    facts: &mut Facts,
     known: &Known,
-    bad: &mut Bad,
+    bad: &mut DefectMarks,
     field: &Field,
-    gear: &Gear,
+    state: &SweepState,
 ) -> Result<(), RigFail>
-    requires attached { shape_of (rig_state rig.old) ≡ Some proof.old.shape }
-    requires hand { IsHand field.now (in_hand proof.old known.now bad.old gear.now.purse (rig_state rig.old).loads) }
+    requires attached { shape_of (rig_state rig.old) ≡ Some facts.old.shape }
+    requires hand { IsHand field.now (in_hand facts.old known.now bad.old state.now.budget (rig_state rig.old).loads) }
     ensures goes { Goes (rig_state rig.old).machine.faults field.now []
-        (in_hand proof.old known.now bad.old gear.now.purse (rig_state rig.old).loads)
-        (in_hand proof.new known.now bad.new gear.now.purse (rig_state rig.new).loads) }
-    ensures advances { Advances (rig_state rig.old) (rig_state rig.new) proof.old proof.new }
+        (in_hand facts.old known.now bad.old state.now.budget (rig_state rig.old).loads)
+        (in_hand facts.new known.now bad.new state.now.budget (rig_state rig.new).loads) }
+    ensures advances { Advances (rig_state rig.old) (rig_state rig.new) facts.old facts.new }
     ensures cause { IsErrOf result RigFail.Failed → Rose (rig_state rig.old).failures (rig_state rig.new).failures }
 {
-    let Ok(mut course) = Course::new(proof, known, field) else {
+    let Ok(mut course) = Course::new(facts, known, field) else {
         return Err(RigFail::Memory);
     };
-    let Ok(laid) = lay_walks(&mut course, proof, known, field, &gear.search.trials) else {
+    let Ok(laid) = lay_walks(&mut course, facts, known, field, &state.search.trials) else {
         return Err(RigFail::Memory);
     };
     if !laid {
         return Ok(());
     }
-    if !gear.purse.can_pay(rig, 1) {
+    if !state.budget.can_pay(rig, 1) {
         return Ok(());
     }
-    proof.lead_each(
+    facts.test_paths(
         rig,
         &course.config,
         &course.drive,
@@ -153,60 +153,60 @@ fn lead_load(
 }
 
 // Takes loads in for the crosspoints of a walk that were undecided and aren't any more.
-fn settle_walk(purse: &mut Purse, proof: &Proof, bad: &Bad, walk: &Walk)
-    requires purse { length purse.old.unsettled ≡ crosses_of proof.now.shape }
-    requires marks { AreMarksFor proof.now.shape bad.now }
-    ensures { Settles proof.now bad.now purse.old purse.new }
+fn settle_walk(budget: &mut LoadBudget, facts: &Facts, bad: &DefectMarks, walk: &Walk)
+    requires budget { length budget.old.unsettled ≡ crosses_of facts.now.shape }
+    requires marks { AreMarksFor facts.now.shape bad.now }
+    ensures { Settles facts.now bad.now budget.old budget.new }
 {
     'crosses: for k in 0..walk.crosses.len() {
-        purse.settle(proof, bad, walk.crosses[k]);
+        budget.settle(facts, bad, walk.crosses[k]);
     }
 }
 
 // Takes loads in for the crosspoints of walks that were undecided and aren't any more.
-fn settle_walks(purse: &mut Purse, proof: &Proof, bad: &Bad, trials: &Vec<Trial>)
-    requires purse { length purse.old.unsettled ≡ crosses_of proof.now.shape }
-    requires marks { AreMarksFor proof.now.shape bad.now }
-    ensures { Settles proof.now bad.now purse.old purse.new }
+fn settle_walks(budget: &mut LoadBudget, facts: &Facts, bad: &DefectMarks, trials: &Vec<Trial>)
+    requires budget { length budget.old.unsettled ≡ crosses_of facts.now.shape }
+    requires marks { AreMarksFor facts.now.shape bad.now }
+    ensures { Settles facts.now bad.now budget.old budget.new }
 {
     'trials: for at in 0..trials.len() {
-        settle_walk(purse, proof, bad, &trials[at].walk);
+        settle_walk(budget, facts, bad, &trials[at].walk);
     }
 }
 
 // Leads some walks in one load, if some are found and it can be paid. False where not.
 fn lead_turn(
     rig: &mut Box<dyn Rig>,
-    proof: &mut Proof,
+    facts: &mut Facts,
     known: &Known,
-    bad: &mut Bad,
+    bad: &mut DefectMarks,
     field: &Field,
-    gear: &mut Gear,
+    state: &mut SweepState,
 ) -> Result<bool, RigFail>
-    requires attached { shape_of (rig_state rig.old) ≡ Some proof.old.shape }
-    requires hand { IsHand field.now (in_hand proof.old known.now bad.old gear.old.purse (rig_state rig.old).loads) }
+    requires attached { shape_of (rig_state rig.old) ≡ Some facts.old.shape }
+    requires hand { IsHand field.now (in_hand facts.old known.now bad.old state.old.budget (rig_state rig.old).loads) }
     ensures goes { Goes (rig_state rig.old).machine.faults field.now []
-        (in_hand proof.old known.now bad.old gear.old.purse (rig_state rig.old).loads)
-        (in_hand proof.new known.now bad.new gear.new.purse (rig_state rig.new).loads) }
-    ensures advances { Advances (rig_state rig.old) (rig_state rig.new) proof.old proof.new }
+        (in_hand facts.old known.now bad.old state.old.budget (rig_state rig.old).loads)
+        (in_hand facts.new known.now bad.new state.new.budget (rig_state rig.new).loads) }
+    ensures advances { Advances (rig_state rig.old) (rig_state rig.new) facts.old facts.new }
     ensures cause { IsErrOf result RigFail.Failed → Rose (rig_state rig.old).failures (rig_state rig.new).failures }
 {
-    let Ok(more) = gear.search.choose_walks() else {
+    let Ok(more) = state.search.choose_walks() else {
         return Err(RigFail::Memory);
     };
     if !more {
         return Ok(false);
     }
-    if gear.search.trials.is_empty() {
+    if state.search.trials.is_empty() {
         return Ok(true);
     }
     let before = rig.loads();
-    lead_load(rig, proof, known, bad, field, gear)?;
-    settle_walks(&mut gear.purse, proof, bad, &gear.search.trials);
+    lead_load(rig, facts, known, bad, field, state)?;
+    settle_walks(&mut state.budget, facts, bad, &state.search.trials);
     if rig.loads() == before {
         return Ok(false);
     }
-    let Ok(()) = note_walks(&mut gear.search, proof, &bad.stuck) else {
+    let Ok(()) = note_walks(&mut state.search, facts, &bad.stuck) else {
         return Err(RigFail::Memory);
     };
     Ok(true)
@@ -216,23 +216,23 @@ fn lead_turn(
 #[tactic(auto, using(crate::proofs::Going::gone_none))]
 pub(crate) fn lead_paths(
     rig: &mut Box<dyn Rig>,
-    proof: &mut Proof,
+    facts: &mut Facts,
     known: &Known,
-    bad: &mut Bad,
+    bad: &mut DefectMarks,
     field: &Field,
-    gear: &mut Gear,
+    state: &mut SweepState,
 ) -> Result<(), RigFail>
-    requires attached { shape_of (rig_state rig.old) ≡ Some proof.old.shape }
-    requires hand { IsHand field.now (in_hand proof.old known.now bad.old gear.old.purse (rig_state rig.old).loads) }
+    requires attached { shape_of (rig_state rig.old) ≡ Some facts.old.shape }
+    requires hand { IsHand field.now (in_hand facts.old known.now bad.old state.old.budget (rig_state rig.old).loads) }
     ensures goes { Goes (rig_state rig.old).machine.faults field.now []
-        (in_hand proof.old known.now bad.old gear.old.purse (rig_state rig.old).loads)
-        (in_hand proof.new known.now bad.new gear.new.purse (rig_state rig.new).loads) }
-    ensures advances { Advances (rig_state rig.old) (rig_state rig.new) proof.old proof.new }
+        (in_hand facts.old known.now bad.old state.old.budget (rig_state rig.old).loads)
+        (in_hand facts.new known.now bad.new state.new.budget (rig_state rig.new).loads) }
+    ensures advances { Advances (rig_state rig.old) (rig_state rig.new) facts.old facts.new }
     ensures cause { IsErrOf result RigFail.Failed → Rose (rig_state rig.old).failures (rig_state rig.new).failures }
 {
-    gear.search.begin_walks();
+    state.search.begin_walks();
     'loads: for _load in 0..MOST_LOADS {
-        if !lead_turn(rig, proof, known, bad, field, gear)? {
+        if !lead_turn(rig, facts, known, bad, field, state)? {
             return Ok(());
         }
     }

@@ -6,22 +6,22 @@ ghost use Rattle.diag_known.specs.Field.{IsFieldOf, GrowsIn};
 ghost use Rattle.diag_known.specs.Known.{IsKnown, IsFoot, IsGood, HasWire};
 
 use crate::feet::foot_of;
-use diag_evidence::Proof;
-use diag_known::{Field, Foot, Known, Stand, Step};
+use diag_evidence::Facts;
+use diag_known::{Field, Known, Support, SupportedBy, VerifiedWire};
 use machine_shape::Wire;
 use std::alloc::AllocError;
 
 // A wire that isn't known, and two crosspoints to wires.
 #[derive(Clone, Copy)]
-struct Hung {
+struct ChosenTest {
     wire: Wire,
-    first: Foot,
-    second: Foot,
+    first: Support,
+    second: Support,
 }
 
 // A wire that hung, as it is learnt.
-fn hung_of(hung: diag_search::Hung) -> Hung {
-    Hung {
+fn hung_of(hung: diag_search::ChosenTest) -> ChosenTest {
+    ChosenTest {
         wire: hung.wire,
         first: foot_of(hung.first),
         second: foot_of(hung.second),
@@ -29,17 +29,17 @@ fn hung_of(hung: diag_search::Hung) -> Hung {
 }
 
 // Whether a wire is kept, and kept apart from each known one.
-fn is_good(proof: &Proof, known: &Known, w: Wire) -> bool
-    requires known { IsKnown proof.now known.now }
-    requires wire { w.0 < wires_of proof.now.shape }
+fn is_good(facts: &Facts, known: &Known, w: Wire) -> bool
+    requires known { IsKnown facts.now known.now }
+    requires wire { w.0 < wires_of facts.now.shape }
     requires new { ¬ HasWire known.now.steps w.0 }
-    ensures { IsTrue result → IsGood proof.now known.now.steps w.0 }
+    ensures { IsTrue result → IsGood facts.now known.now.steps w.0 }
 {
-    if !proof.keeps_wire(w) {
+    if !facts.keeps_wire(w) {
         return false;
     }
     'places: for place in 0..known.len() {
-        if !proof.keeps_pair(w, known.wire_at(place)) {
+        if !facts.keeps_pair(w, known.wire_at(place)) {
             return false;
         }
     }
@@ -47,18 +47,18 @@ fn is_good(proof: &Proof, known: &Known, w: Wire) -> bool
 }
 
 // Whether a kept crosspoint leads from a wire to a known one.
-fn is_foot(proof: &Proof, known: &Known, w: Wire, foot: Foot) -> bool
-    requires known { IsKnown proof.now known.now }
-    ensures { IsTrue result → IsFoot proof.now known.now.steps (length known.now.steps) w.0 foot }
+fn is_foot(facts: &Facts, known: &Known, w: Wire, foot: Support) -> bool
+    requires known { IsKnown facts.now known.now }
+    ensures { IsTrue result → IsFoot facts.now known.now.steps (length known.now.steps) w.0 foot }
 {
-    let shape = proof.shape();
+    let shape = facts.shape();
     if foot.cross.0 >= shape.crosses() {
         return false;
     }
     if foot.wire.0 >= shape.wires() {
         return false;
     }
-    if !proof.keeps_cross(foot.cross) {
+    if !facts.keeps_cross(foot.cross) {
         return false;
     }
     if !known.has(foot.wire) {
@@ -75,15 +75,15 @@ fn is_foot(proof: &Proof, known: &Known, w: Wire, foot: Foot) -> bool
 }
 
 // Whether a wire may come to be known: one of the field that isn't yet, is kept, and is kept apart from each known one.
-fn is_wanted(proof: &Proof, known: &Known, field: &Field, w: Wire) -> bool
-    requires known { IsKnown proof.now known.now }
-    requires field { IsFieldOf proof.now.shape field.now }
-    ensures within { IsTrue result → w.0 < wires_of proof.now.shape }
+fn is_wanted(facts: &Facts, known: &Known, field: &Field, w: Wire) -> bool
+    requires known { IsKnown facts.now known.now }
+    requires field { IsFieldOf facts.now.shape field.now }
+    ensures within { IsTrue result → w.0 < wires_of facts.now.shape }
     ensures new { IsTrue result → ¬ HasWire known.now.steps w.0 }
     ensures field { IsTrue result → has_number field.now.wires w.0 ≡ true }
-    ensures good { IsTrue result → IsGood proof.now known.now.steps w.0 }
+    ensures good { IsTrue result → IsGood facts.now known.now.steps w.0 }
 {
-    if w.0 >= proof.shape().wires() {
+    if w.0 >= facts.shape().wires() {
         return false;
     }
     if !field.wires.has(w.0) {
@@ -92,31 +92,36 @@ fn is_wanted(proof: &Proof, known: &Known, field: &Field, w: Wire) -> bool
     if known.has(w) {
         return false;
     }
-    is_good(proof, known, w)
+    is_good(facts, known, w)
 }
 
 // A wire comes to be known, if it hangs on two kept crosspoints to different known ones, and is kept apart from all known ones.
-fn learn_hung(known: &mut Known, proof: &Proof, field: &Field, hung: Hung) -> Result<(), AllocError>
-    requires known { IsKnown proof.now known.old }
-    requires field { IsFieldOf proof.now.shape field.now }
-    ensures known { IsKnown proof.now known.new }
+fn learn_hung(
+    known: &mut Known,
+    facts: &Facts,
+    field: &Field,
+    hung: ChosenTest,
+) -> Result<(), AllocError>
+    requires known { IsKnown facts.now known.old }
+    requires field { IsFieldOf facts.now.shape field.now }
+    ensures known { IsKnown facts.now known.new }
     ensures grows { GrowsIn field.now known.old.steps known.new.steps }
 {
     if hung.first.wire.0 == hung.second.wire.0 {
         return Ok(());
     }
-    if !is_foot(proof, known, hung.wire, hung.first) {
+    if !is_foot(facts, known, hung.wire, hung.first) {
         return Ok(());
     }
-    if !is_foot(proof, known, hung.wire, hung.second) {
+    if !is_foot(facts, known, hung.wire, hung.second) {
         return Ok(());
     }
-    if !is_wanted(proof, known, field, hung.wire) {
+    if !is_wanted(facts, known, field, hung.wire) {
         return Ok(());
     }
-    known.learn(Step {
+    known.learn(VerifiedWire {
         wire: hung.wire,
-        stand: Stand::Feet(hung.first, hung.second),
+        stand: SupportedBy::Feet(hung.first, hung.second),
     })
 }
 
@@ -124,48 +129,48 @@ fn learn_hung(known: &mut Known, proof: &Proof, field: &Field, hung: Hung) -> Re
 /// known ones.
 pub(crate) fn learn_hangs(
     known: &mut Known,
-    proof: &Proof,
+    facts: &Facts,
     field: &Field,
-    hangs: &Vec<diag_search::Hung>,
+    hangs: &Vec<diag_search::ChosenTest>,
 ) -> Result<(), AllocError>
-    requires known { IsKnown proof.now known.old }
-    requires field { IsFieldOf proof.now.shape field.now }
-    ensures known { IsKnown proof.now known.new }
+    requires known { IsKnown facts.now known.old }
+    requires field { IsFieldOf facts.now.shape field.now }
+    ensures known { IsKnown facts.now known.new }
     ensures grows { GrowsIn field.now known.old.steps known.new.steps }
 {
     'hangs: for k in 0..hangs.len() {
-        learn_hung(known, proof, field, hung_of(hangs[k]))?;
+        learn_hung(known, facts, field, hung_of(hangs[k]))?;
     }
     Ok(())
 }
 
 // A pin of the machine comes to be known, if it is kept, and kept apart from all known wires.
-fn learn_pin(known: &mut Known, proof: &Proof, field: &Field, pin: u32) -> Result<(), AllocError>
-    requires known { IsKnown proof.now known.old }
-    requires field { IsFieldOf proof.now.shape field.now }
-    requires pin { pin < pins_of proof.now.shape }
-    ensures known { IsKnown proof.now known.new }
+fn learn_pin(known: &mut Known, facts: &Facts, field: &Field, pin: u32) -> Result<(), AllocError>
+    requires known { IsKnown facts.now known.old }
+    requires field { IsFieldOf facts.now.shape field.now }
+    requires pin { pin < pins_of facts.now.shape }
+    ensures known { IsKnown facts.now known.new }
     ensures grows { GrowsIn field.now known.old.steps known.new.steps }
 {
-    let wire = proof.shape().pin(pin);
-    if !is_wanted(proof, known, field, wire) {
+    let wire = facts.shape().pin(pin);
+    if !is_wanted(facts, known, field, wire) {
         return Ok(());
     }
-    known.learn(Step {
+    known.learn(VerifiedWire {
         wire,
-        stand: Stand::Pin(pin),
+        stand: SupportedBy::Pin(pin),
     })
 }
 
 /// The pins of the machine come to be known that are kept, and kept apart from all known wires.
-pub(crate) fn learn_pins(known: &mut Known, proof: &Proof, field: &Field) -> Result<(), AllocError>
-    requires known { IsKnown proof.now known.old }
-    requires field { IsFieldOf proof.now.shape field.now }
-    ensures known { IsKnown proof.now known.new }
+pub(crate) fn learn_pins(known: &mut Known, facts: &Facts, field: &Field) -> Result<(), AllocError>
+    requires known { IsKnown facts.now known.old }
+    requires field { IsFieldOf facts.now.shape field.now }
+    ensures known { IsKnown facts.now known.new }
     ensures grows { GrowsIn field.now known.old.steps known.new.steps }
 {
-    'pins: for pin in 0..proof.shape().pins() {
-        learn_pin(known, proof, field, pin)?;
+    'pins: for pin in 0..facts.shape().pins() {
+        learn_pin(known, facts, field, pin)?;
     }
     Ok(())
 }

@@ -9,12 +9,12 @@
 #![tactic(auto)]
 
 mod asking;
-mod bad;
+mod budget;
 mod choice;
+mod defect_marks;
 mod feet;
 mod fits;
 mod footing;
-mod gear;
 mod hanging;
 mod hearing;
 mod informing;
@@ -23,8 +23,8 @@ mod leading;
 mod learn;
 mod losing;
 mod paths;
-mod purse;
 mod seen;
+mod sweep_state;
 mod tabling;
 mod telling;
 mod trees;
@@ -32,8 +32,8 @@ mod turns;
 mod whole;
 mod without;
 
-pub use bad::Bad;
 pub use choice::{Choices, choose, sweep_with};
+pub use defect_marks::DefectMarks;
 pub use laws::{closed_without_bad, growth_after_a_sweep_is_paid, growth_without_bad_is_paid};
 pub use whole::sweep;
 pub use without::without_bad;

@@ -1,10 +1,10 @@
 //! What the choice is told: which wires are known, kept and lost, and from which known ones a pin isn't kept apart.
 
 use crate::asking::{is_apart, keeps, keeps_wire, knows};
-use crate::bad::Bad;
+use crate::defect_marks::DefectMarks;
 use crate::feet::step_of;
 use base_bits::BitSet;
-use diag_evidence::Proof;
+use diag_evidence::Facts;
 use diag_known::Known;
 use diag_search::{Aim, Chooser, in_set, set_flag};
 use machine_shape::{Meaning, Node, Shape, Table, Wire};
@@ -22,10 +22,10 @@ fn table_of(shape: &Shape, w: Wire) -> Option<Table> {
 }
 
 // How many wires were known when a wire was tried, as it seems: up to the last one from which it is kept apart.
-fn places_tried(proof: &Proof, known: &Known, w: Wire) -> usize {
+fn places_tried(facts: &Facts, known: &Known, w: Wire) -> usize {
     let mut places = 0;
     'places: for place in 0..known.len() {
-        if is_apart(proof, w, known.wire_at(place)) {
+        if is_apart(facts, w, known.wire_at(place)) {
             places = place.saturating_add(1);
         }
     }
@@ -33,8 +33,8 @@ fn places_tried(proof: &Proof, known: &Known, w: Wire) -> usize {
 }
 
 // Whether a kept crosspoint leads from a pin of a table to a line of its hextant that is known.
-fn is_foot(proof: &Proof, known: &Known, pin: Wire, node: Node, k: u32) -> bool {
-    let shape = proof.shape();
+fn is_foot(facts: &Facts, known: &Known, pin: Wire, node: Node, k: u32) -> bool {
+    let shape = facts.shape();
     if pin.0 >= shape.wires() || node.0 >= shape.nodes() || k >= shape.lines(node) {
         return false;
     }
@@ -43,19 +43,19 @@ fn is_foot(proof: &Proof, known: &Known, pin: Wire, node: Node, k: u32) -> bool 
         return false;
     }
     match shape.cross(pin, line) {
-        Some(cross) => keeps(proof, cross),
+        Some(cross) => keeps(facts, cross),
         None => false,
     }
 }
 
 // Whether kept crosspoints lead from a pin of a table to two lines that are known.
-fn has_feet(proof: &Proof, known: &Known, pin: Wire, node: Node) -> bool {
-    if node.0 >= proof.shape().nodes() {
+fn has_feet(facts: &Facts, known: &Known, pin: Wire, node: Node) -> bool {
+    if node.0 >= facts.shape().nodes() {
         return false;
     }
     let mut found = false;
-    'lines: for k in 0..proof.shape().lines(node) {
-        if is_foot(proof, known, pin, node, k) {
+    'lines: for k in 0..facts.shape().lines(node) {
+        if is_foot(facts, known, pin, node, k) {
             if found {
                 return true;
             }
@@ -66,24 +66,24 @@ fn has_feet(proof: &Proof, known: &Known, pin: Wire, node: Node) -> bool {
 }
 
 // Whether a pin of a table isn't known, though it is kept and two kept crosspoints lead from it to lines that are.
-fn is_left_out(proof: &Proof, known: &Known, w: Wire) -> bool {
-    let shape = proof.shape();
+fn is_left_out(facts: &Facts, known: &Known, w: Wire) -> bool {
+    let shape = facts.shape();
     match table_of(&shape, w) {
         Some(table) => {
             table.0 < shape.tables()
-                && keeps_wire(proof, w)
-                && has_feet(proof, known, w, shape.hextant_of(table))
+                && keeps_wire(facts, w)
+                && has_feet(facts, known, w, shape.hextant_of(table))
         }
         None => false,
     }
 }
 
 // Whether a wire is unfit, or was lost in growth.
-fn is_lost(proof: &Proof, known: &Known, bad: &Bad, w: Wire) -> bool {
+fn is_lost(facts: &Facts, known: &Known, bad: &DefectMarks, w: Wire) -> bool {
     if knows(known, w) {
         return false;
     }
-    in_set(&bad.unfit, w.0) || in_set(&bad.unclear, w.0) || is_left_out(proof, known, w)
+    in_set(&bad.unfit, w.0) || in_set(&bad.unclear, w.0) || is_left_out(facts, known, w)
 }
 
 // Tells which wires are known.
@@ -97,28 +97,28 @@ fn tell_known(chooser: &mut Chooser, known: &Known) -> Result<(), AllocError> {
 }
 
 // Tells which wires are unfit, or were lost in growth.
-fn tell_lost(chooser: &mut Chooser, proof: &Proof, known: &Known, bad: &Bad) {
-    'wires: for w in 0..proof.shape().wires() {
-        let lost = is_lost(proof, known, bad, Wire(w));
+fn tell_lost(chooser: &mut Chooser, facts: &Facts, known: &Known, bad: &DefectMarks) {
+    'wires: for w in 0..facts.shape().wires() {
+        let lost = is_lost(facts, known, bad, Wire(w));
         set_flag(&mut chooser.lost, w, lost);
     }
 }
 
 // Tells which wires are kept.
-fn tell_kept(chooser: &mut Chooser, proof: &Proof) {
-    'wires: for w in 0..proof.shape().wires() {
-        set_flag(&mut chooser.kept, w, keeps_wire(proof, Wire(w)));
+fn tell_kept(chooser: &mut Chooser, facts: &Facts) {
+    'wires: for w in 0..facts.shape().wires() {
+        set_flag(&mut chooser.kept, w, keeps_wire(facts, Wire(w)));
     }
 }
 
 // A wire that was tried can be shorted to those alone from which it isn't kept apart, of the wires that were known by then.
-fn infer(chooser: &mut Chooser, proof: &Proof, known: &Known, w: Wire) -> Result<(), AllocError> {
+fn infer(chooser: &mut Chooser, facts: &Facts, known: &Known, w: Wire) -> Result<(), AllocError> {
     if chooser.suspect_count(w) > 0 {
         return Ok(());
     }
     let mut wires = Vec::new(known.alloc());
-    'places: for place in 0..places_tried(proof, known, w) {
-        if place < known.len() && !is_apart(proof, w, known.wire_at(place)) {
+    'places: for place in 0..places_tried(facts, known, w) {
+        if place < known.len() && !is_apart(facts, w, known.wire_at(place)) {
             wires.push(known.wire_at(place))?;
         }
     }
@@ -127,10 +127,10 @@ fn infer(chooser: &mut Chooser, proof: &Proof, known: &Known, w: Wire) -> Result
 }
 
 // The same of all wires that the next looks are about.
-fn infer_all(chooser: &mut Chooser, proof: &Proof, known: &Known) -> Result<(), AllocError> {
+fn infer_all(chooser: &mut Chooser, facts: &Facts, known: &Known) -> Result<(), AllocError> {
     'wires: for at in 0..chooser.wanted.len() {
         if let Some(w) = chooser.wanted.get(at).copied() {
-            infer(chooser, proof, known, w)?;
+            infer(chooser, facts, known, w)?;
         }
     }
     Ok(())
@@ -140,16 +140,16 @@ fn infer_all(chooser: &mut Chooser, proof: &Proof, known: &Known) -> Result<(), 
 pub(crate) fn begin(
     chooser: &mut Chooser,
     aim: Aim,
-    proof: &Proof,
+    facts: &Facts,
     known: &Known,
-    bad: &Bad,
+    bad: &DefectMarks,
 ) -> Result<(), AllocError> {
     tell_known(chooser, known)?;
     match aim {
         Aim::Partners => {
-            tell_lost(chooser, proof, known, bad);
+            tell_lost(chooser, facts, known, bad);
             chooser.begin(aim, &bad.unfit, &bad.unclear, &bad.wrong)?;
-            infer_all(chooser, proof, known)
+            infer_all(chooser, facts, known)
         }
         _ => chooser.begin(aim, &bad.unfit, &bad.unclear, &bad.wrong),
     }
@@ -158,9 +158,9 @@ pub(crate) fn begin(
 /// The known wires that stay, once others give way for pins of tables. None where none does.
 pub(crate) fn give_up(
     chooser: &mut Chooser,
-    proof: &Proof,
-    bad: &Bad,
+    facts: &Facts,
+    bad: &DefectMarks,
 ) -> Result<Option<BitSet>, AllocError> {
-    tell_kept(chooser, proof);
+    tell_kept(chooser, facts);
     chooser.give_up(&bad.unclear)
 }

@@ -9,15 +9,15 @@ ghost use Rattle.diag_sweep.specs.Courses.{EndsAt, GoesOn, IsFair, IsFairLead, M
 use crate::feet::foot_of;
 use crate::seen::is_new;
 use base_bits::BitSet;
-use diag_evidence::{Lead, Proof};
-use diag_known::{Field, Foot, Known};
+use diag_evidence::{Facts, Lead};
+use diag_known::{Field, Known, Support};
 use diag_search::Walk;
 use diag_tests::{Route, route_at};
 use machine_shape::{Cross, Shape, Wire};
 use std::alloc::{AllocError, Global};
 
 // Whether a crosspoint leads from a wire to the wire of a foot.
-fn leads_to(shape: &Shape, from: Wire, foot: Foot) -> bool
+fn leads_to(shape: &Shape, from: Wire, foot: Support) -> bool
     ensures cross { IsTrue result → foot.cross.0 < crosses_of shape.now }
     ensures wire { IsTrue result → foot.wire.0 < wires_of shape.now }
     ensures ends { IsTrue result → Ends (ends_of shape.now foot.cross.0) from.0 foot.wire.0 }
@@ -36,12 +36,12 @@ fn leads_to(shape: &Shape, from: Wire, foot: Foot) -> bool
 }
 
 // Whether a crosspoint may be tried: it is kept, or of the field.
-fn may_try(proof: &Proof, field: &Field, c: Cross) -> bool
-    requires field { IsFieldOf proof.now.shape field.now }
-    requires cross { c.0 < crosses_of proof.now.shape }
-    ensures { IsTrue result → MayTry proof.now field.now c.0 }
+fn may_try(facts: &Facts, field: &Field, c: Cross) -> bool
+    requires field { IsFieldOf facts.now.shape field.now }
+    requires cross { c.0 < crosses_of facts.now.shape }
+    ensures { IsTrue result → MayTry facts.now field.now c.0 }
 {
-    if proof.keeps_cross(c) {
+    if facts.keeps_cross(c) {
         return true;
     }
     field.crosses.has(c.0)
@@ -52,24 +52,24 @@ fn may_try(proof: &Proof, field: &Field, c: Cross) -> bool
 fn step_on(
     route: &mut Route,
     seen: &mut BitSet,
-    proof: &Proof,
+    facts: &Facts,
     known: &Known,
     field: &Field,
-    foot: Foot,
+    foot: Support,
 ) -> Result<bool, AllocError>
-    requires known { IsKnown proof.now known.now }
-    requires field { IsFieldOf proof.now.shape field.now }
-    requires route { IsRoute proof.now.shape route.old }
-    requires seen { length seen.old ≡ wires_of proof.now.shape }
-    ensures goes { IfOk result (λ yes. IsTrue yes → GoesOn proof.now known.now.steps field.now foot.cross.0 seen.old seen.new
+    requires known { IsKnown facts.now known.now }
+    requires field { IsFieldOf facts.now.shape field.now }
+    requires route { IsRoute facts.now.shape route.old }
+    requires seen { length seen.old ≡ wires_of facts.now.shape }
+    ensures goes { IfOk result (λ yes. IsTrue yes → GoesOn facts.now known.now.steps field.now foot.cross.0 seen.old seen.new
         route.old route.new) }
     ensures len { length seen.new ≡ length seen.old }
 {
-    let shape = proof.shape();
+    let shape = facts.shape();
     if !leads_to(&shape, route.end(), foot) {
         return Ok(false);
     }
-    if !may_try(proof, field, foot.cross) {
+    if !may_try(facts, field, foot.cross) {
         return Ok(false);
     }
     if !known.has(foot.wire) {
@@ -85,18 +85,18 @@ fn step_on(
 // The route that is a pin of the machine alone. None where that isn't known, or was seen before.
 fn begin_route(
     alloc: Global,
-    proof: &Proof,
+    facts: &Facts,
     known: &Known,
     field: &Field,
     seen: &mut BitSet,
     pin: u32,
 ) -> Result<Option<Route>, AllocError>
-    requires known { IsKnown proof.now known.now }
-    requires seen { length seen.old ≡ wires_of proof.now.shape }
-    ensures fair { IfOk result (λ found. IfSome found (IsFair proof.now known.now.steps field.now seen.old seen.new)) }
+    requires known { IsKnown facts.now known.now }
+    requires seen { length seen.old ≡ wires_of facts.now.shape }
+    ensures fair { IfOk result (λ found. IfSome found (IsFair facts.now known.now.steps field.now seen.old seen.new)) }
     ensures len { length seen.new ≡ length seen.old }
 {
-    let shape = proof.shape();
+    let shape = facts.shape();
     if pin >= shape.pins() {
         return Ok(None);
     }
@@ -132,26 +132,26 @@ fn end_pin(shape: &Shape, route: &Route) -> Option<u32>
 /// seen before, or over a crosspoint that may not be tried.
 pub(crate) fn lead_of(
     alloc: Global,
-    proof: &Proof,
+    facts: &Facts,
     known: &Known,
     field: &Field,
     seen: &mut BitSet,
     walk: &Walk,
 ) -> Result<Option<Lead>, AllocError>
-    requires known { IsKnown proof.now known.now }
-    requires field { IsFieldOf proof.now.shape field.now }
-    requires seen { length seen.old ≡ wires_of proof.now.shape }
-    ensures fair { IfOk result (λ found. IfSome found (IsFairLead proof.now known.now.steps field.now seen.old seen.new)) }
+    requires known { IsKnown facts.now known.now }
+    requires field { IsFieldOf facts.now.shape field.now }
+    requires seen { length seen.old ≡ wires_of facts.now.shape }
+    ensures fair { IfOk result (λ found. IfSome found (IsFairLead facts.now known.now.steps field.now seen.old seen.new)) }
     ensures len { length seen.new ≡ length seen.old }
 {
-    let Some(mut route) = begin_route(alloc, proof, known, field, seen, walk.wire(0).0)? else {
+    let Some(mut route) = begin_route(alloc, facts, known, field, seen, walk.wire(0).0)? else {
         return Ok(None);
     };
     'steps: for place in 0..walk.crosses.len() {
         if !step_on(
             &mut route,
             seen,
-            proof,
+            facts,
             known,
             field,
             foot_of(walk.foot(place)),
@@ -159,7 +159,7 @@ pub(crate) fn lead_of(
             return Ok(None);
         }
     }
-    let Some(to) = end_pin(&proof.shape(), &route) else {
+    let Some(to) = end_pin(&facts.shape(), &route) else {
         return Ok(None);
     };
     Ok(Some(Lead { route, to }))

@@ -5,14 +5,14 @@ ghost use Rattle.rig.specs.Rig.{shape_of};
 ghost use Rattle.diag_evidence.specs.Kept.{Advances};
 ghost use Rattle.diag_sweep.specs.Stages.{Goes, IsHand, in_hand};
 
-use crate::bad::Bad;
+use crate::defect_marks::DefectMarks;
 use crate::fits::{are_fit, are_given, table_forest};
-use crate::gear::Sheet;
 use crate::informing::choose_tables;
+use crate::sweep_state::TableSweep;
 use crate::trees::is_known;
 use crate::turns::{sweep_all, sweep_chosen};
 use base_bits::BitSet;
-use diag_evidence::Proof;
+use diag_evidence::Facts;
 use diag_known::{Field, Known};
 use rig::{Rig, RigFail};
 
@@ -22,35 +22,35 @@ const MOST_LOADS: u32 = 65_536;
 // Tests the tables that the search has chosen, if they may be tested together and it can be paid.
 fn table_load(
     rig: &mut Box<dyn Rig>,
-    proof: &mut Proof,
+    facts: &mut Facts,
     known: &Known,
-    bad: &mut Bad,
+    bad: &mut DefectMarks,
     field: &Field,
-    sheet: &Sheet,
+    table_sweep: &TableSweep,
 ) -> Result<(), RigFail>
-    requires attached { shape_of (rig_state rig.old) ≡ Some proof.old.shape }
-    requires hand { IsHand field.now (in_hand proof.old known.now bad.old sheet.now.gear.purse (rig_state rig.old).loads) }
-    ensures goes { Goes (rig_state rig.old).machine.faults field.now sheet.now.tables.items
-        (in_hand proof.old known.now bad.old sheet.now.gear.purse (rig_state rig.old).loads)
-        (in_hand proof.new known.now bad.new sheet.now.gear.purse (rig_state rig.new).loads) }
-    ensures advances { Advances (rig_state rig.old) (rig_state rig.new) proof.old proof.new }
+    requires attached { shape_of (rig_state rig.old) ≡ Some facts.old.shape }
+    requires hand { IsHand field.now (in_hand facts.old known.now bad.old table_sweep.now.state.budget (rig_state rig.old).loads) }
+    ensures goes { Goes (rig_state rig.old).machine.faults field.now table_sweep.now.tables.items
+        (in_hand facts.old known.now bad.old table_sweep.now.state.budget (rig_state rig.old).loads)
+        (in_hand facts.new known.now bad.new table_sweep.now.state.budget (rig_state rig.new).loads) }
+    ensures advances { Advances (rig_state rig.old) (rig_state rig.new) facts.old facts.new }
     ensures cause { IsErrOf result RigFail.Failed → Rose (rig_state rig.old).failures (rig_state rig.new).failures }
 {
     let alloc = known.alloc();
-    let Ok(forest) = table_forest(alloc, proof, &sheet.gear.search) else {
+    let Ok(forest) = table_forest(alloc, facts, &table_sweep.state.search) else {
         return Err(RigFail::Memory);
     };
     let Ok(mut pins) = BitSet::new(alloc, forest.shape().pins()) else {
         return Err(RigFail::Memory);
     };
-    let tables = sheet.gear.search.chosen.as_slice();
-    if !is_known(proof, known, &forest) {
+    let tables = table_sweep.state.search.chosen.as_slice();
+    if !is_known(facts, known, &forest) {
         return Ok(());
     }
-    if !are_given(&sheet.tables, tables) {
+    if !are_given(&table_sweep.tables, tables) {
         return Ok(());
     }
-    if !sheet.gear.purse.can_pay(rig, 2) {
+    if !table_sweep.state.budget.can_pay(rig, 2) {
         return Ok(());
     }
     let Ok(fit) = are_fit(alloc, &forest, &mut pins, tables) else {
@@ -59,39 +59,45 @@ fn table_load(
     if !fit {
         return Ok(());
     }
-    proof.tables_each(rig, &forest, tables, &mut bad.wrong)
+    facts.tables_each(rig, &forest, tables, &mut bad.wrong)
 }
 
 // Tests tables of the hextant that the search is at in one load, if some are found. False where none is left to test, or none could
 // be laid too often.
 fn table_turn(
     rig: &mut Box<dyn Rig>,
-    proof: &mut Proof,
+    facts: &mut Facts,
     known: &Known,
-    bad: &mut Bad,
+    bad: &mut DefectMarks,
     field: &Field,
-    sheet: &mut Sheet,
+    table_sweep: &mut TableSweep,
 ) -> Result<bool, RigFail>
-    requires attached { shape_of (rig_state rig.old) ≡ Some proof.old.shape }
-    requires hand { IsHand field.now (in_hand proof.old known.now bad.old sheet.old.gear.purse (rig_state rig.old).loads) }
-    ensures goes { Goes (rig_state rig.old).machine.faults field.now sheet.old.tables.items
-        (in_hand proof.old known.now bad.old sheet.old.gear.purse (rig_state rig.old).loads)
-        (in_hand proof.new known.now bad.new sheet.new.gear.purse (rig_state rig.new).loads) }
-    ensures tables { sheet.new.tables ≡ sheet.old.tables }
-    ensures advances { Advances (rig_state rig.old) (rig_state rig.new) proof.old proof.new }
+    requires attached { shape_of (rig_state rig.old) ≡ Some facts.old.shape }
+    requires hand { IsHand field.now (in_hand facts.old known.now bad.old table_sweep.old.state.budget (rig_state rig.old).loads) }
+    ensures goes { Goes (rig_state rig.old).machine.faults field.now table_sweep.old.tables.items
+        (in_hand facts.old known.now bad.old table_sweep.old.state.budget (rig_state rig.old).loads)
+        (in_hand facts.new known.now bad.new table_sweep.new.state.budget (rig_state rig.new).loads) }
+    ensures tables { table_sweep.new.tables ≡ table_sweep.old.tables }
+    ensures advances { Advances (rig_state rig.old) (rig_state rig.new) facts.old facts.new }
     ensures cause { IsErrOf result RigFail.Failed → Rose (rig_state rig.old).failures (rig_state rig.new).failures }
 {
-    let search = &mut sheet.gear.search;
-    let Ok(found) = choose_tables(search, known.alloc(), proof, &bad.wrong, &sheet.tables) else {
+    let search = &mut table_sweep.state.search;
+    let Ok(found) = choose_tables(
+        search,
+        known.alloc(),
+        facts,
+        &bad.wrong,
+        &table_sweep.tables,
+    ) else {
         return Err(RigFail::Memory);
     };
-    if !found || !sheet.gear.purse.can_pay(rig, 2) {
+    if !found || !table_sweep.state.budget.can_pay(rig, 2) {
         return Ok(false);
     }
-    if sheet.gear.search.chosen.is_empty() {
-        return Ok(sheet.gear.search.count_fail());
+    if table_sweep.state.search.chosen.is_empty() {
+        return Ok(table_sweep.state.search.count_fail());
     }
-    table_load(rig, proof, known, bad, field, sheet)?;
+    table_load(rig, facts, known, bad, field, table_sweep)?;
     Ok(true)
 }
 
@@ -99,23 +105,23 @@ fn table_turn(
 #[tactic(auto, using(crate::proofs::Tabled::tested_none))]
 fn test_hextant(
     rig: &mut Box<dyn Rig>,
-    proof: &mut Proof,
+    facts: &mut Facts,
     known: &Known,
-    bad: &mut Bad,
+    bad: &mut DefectMarks,
     field: &Field,
-    sheet: &mut Sheet,
+    table_sweep: &mut TableSweep,
 ) -> Result<(), RigFail>
-    requires attached { shape_of (rig_state rig.old) ≡ Some proof.old.shape }
-    requires hand { IsHand field.now (in_hand proof.old known.now bad.old sheet.old.gear.purse (rig_state rig.old).loads) }
-    ensures goes { Goes (rig_state rig.old).machine.faults field.now sheet.old.tables.items
-        (in_hand proof.old known.now bad.old sheet.old.gear.purse (rig_state rig.old).loads)
-        (in_hand proof.new known.now bad.new sheet.new.gear.purse (rig_state rig.new).loads) }
-    ensures tables { sheet.new.tables ≡ sheet.old.tables }
-    ensures advances { Advances (rig_state rig.old) (rig_state rig.new) proof.old proof.new }
+    requires attached { shape_of (rig_state rig.old) ≡ Some facts.old.shape }
+    requires hand { IsHand field.now (in_hand facts.old known.now bad.old table_sweep.old.state.budget (rig_state rig.old).loads) }
+    ensures goes { Goes (rig_state rig.old).machine.faults field.now table_sweep.old.tables.items
+        (in_hand facts.old known.now bad.old table_sweep.old.state.budget (rig_state rig.old).loads)
+        (in_hand facts.new known.now bad.new table_sweep.new.state.budget (rig_state rig.new).loads) }
+    ensures tables { table_sweep.new.tables ≡ table_sweep.old.tables }
+    ensures advances { Advances (rig_state rig.old) (rig_state rig.new) facts.old facts.new }
     ensures cause { IsErrOf result RigFail.Failed → Rose (rig_state rig.old).failures (rig_state rig.new).failures }
 {
     'loads: for _load in 0..MOST_LOADS {
-        if !table_turn(rig, proof, known, bad, field, sheet)? {
+        if !table_turn(rig, facts, known, bad, field, table_sweep)? {
             return Ok(());
         }
     }
@@ -126,24 +132,24 @@ fn test_hextant(
 #[tactic(auto, using(crate::proofs::Tabled::tested_none))]
 fn test_tables(
     rig: &mut Box<dyn Rig>,
-    proof: &mut Proof,
+    facts: &mut Facts,
     known: &Known,
-    bad: &mut Bad,
+    bad: &mut DefectMarks,
     field: &Field,
-    sheet: &mut Sheet,
+    table_sweep: &mut TableSweep,
 ) -> Result<(), RigFail>
-    requires attached { shape_of (rig_state rig.old) ≡ Some proof.old.shape }
-    requires hand { IsHand field.now (in_hand proof.old known.now bad.old sheet.old.gear.purse (rig_state rig.old).loads) }
-    ensures goes { Goes (rig_state rig.old).machine.faults field.now sheet.old.tables.items
-        (in_hand proof.old known.now bad.old sheet.old.gear.purse (rig_state rig.old).loads)
-        (in_hand proof.new known.now bad.new sheet.new.gear.purse (rig_state rig.new).loads) }
-    ensures tables { sheet.new.tables ≡ sheet.old.tables }
-    ensures advances { Advances (rig_state rig.old) (rig_state rig.new) proof.old proof.new }
+    requires attached { shape_of (rig_state rig.old) ≡ Some facts.old.shape }
+    requires hand { IsHand field.now (in_hand facts.old known.now bad.old table_sweep.old.state.budget (rig_state rig.old).loads) }
+    ensures goes { Goes (rig_state rig.old).machine.faults field.now table_sweep.old.tables.items
+        (in_hand facts.old known.now bad.old table_sweep.old.state.budget (rig_state rig.old).loads)
+        (in_hand facts.new known.now bad.new table_sweep.new.state.budget (rig_state rig.new).loads) }
+    ensures tables { table_sweep.new.tables ≡ table_sweep.old.tables }
+    ensures advances { Advances (rig_state rig.old) (rig_state rig.new) facts.old facts.new }
     ensures cause { IsErrOf result RigFail.Failed → Rose (rig_state rig.old).failures (rig_state rig.new).failures }
 {
-    'nodes: for node in 0..proof.shape().nodes() {
-        sheet.gear.search.go_to(node);
-        test_hextant(rig, proof, known, bad, field, sheet)?;
+    'nodes: for node in 0..facts.shape().nodes() {
+        table_sweep.state.search.go_to(node);
+        test_hextant(rig, facts, known, bad, field, table_sweep)?;
     }
     Ok(())
 }
@@ -151,42 +157,42 @@ fn test_tables(
 /// Tests what is further and further from the pins of the machine, and then the tables.
 pub(crate) fn sweep_sheet(
     rig: &mut Box<dyn Rig>,
-    proof: &mut Proof,
+    facts: &mut Facts,
     known: &mut Known,
-    bad: &mut Bad,
+    bad: &mut DefectMarks,
     field: &Field,
-    sheet: &mut Sheet,
+    table_sweep: &mut TableSweep,
 ) -> Result<(), RigFail>
-    requires attached { shape_of (rig_state rig.old) ≡ Some proof.old.shape }
-    requires hand { IsHand field.now (in_hand proof.old known.old bad.old sheet.old.gear.purse (rig_state rig.old).loads) }
-    ensures goes { Goes (rig_state rig.old).machine.faults field.now sheet.old.tables.items
-        (in_hand proof.old known.old bad.old sheet.old.gear.purse (rig_state rig.old).loads)
-        (in_hand proof.new known.new bad.new sheet.new.gear.purse (rig_state rig.new).loads) }
-    ensures advances { Advances (rig_state rig.old) (rig_state rig.new) proof.old proof.new }
+    requires attached { shape_of (rig_state rig.old) ≡ Some facts.old.shape }
+    requires hand { IsHand field.now (in_hand facts.old known.old bad.old table_sweep.old.state.budget (rig_state rig.old).loads) }
+    ensures goes { Goes (rig_state rig.old).machine.faults field.now table_sweep.old.tables.items
+        (in_hand facts.old known.old bad.old table_sweep.old.state.budget (rig_state rig.old).loads)
+        (in_hand facts.new known.new bad.new table_sweep.new.state.budget (rig_state rig.new).loads) }
+    ensures advances { Advances (rig_state rig.old) (rig_state rig.new) facts.old facts.new }
     ensures cause { IsErrOf result RigFail.Failed → Rose (rig_state rig.old).failures (rig_state rig.new).failures }
 {
-    sweep_all(rig, proof, known, bad, field, &mut sheet.gear)?;
-    test_tables(rig, proof, known, bad, field, sheet)
+    sweep_all(rig, facts, known, bad, field, &mut table_sweep.state)?;
+    test_tables(rig, facts, known, bad, field, table_sweep)
 }
 
 /// The same behind a choice.
 pub(crate) fn sweep_again(
     rig: &mut Box<dyn Rig>,
-    proof: &mut Proof,
+    facts: &mut Facts,
     known: &mut Known,
-    bad: &mut Bad,
+    bad: &mut DefectMarks,
     field: &Field,
-    sheet: &mut Sheet,
+    table_sweep: &mut TableSweep,
 ) -> Result<(), RigFail>
-    requires attached { shape_of (rig_state rig.old) ≡ Some proof.old.shape }
-    requires hand { IsHand field.now (in_hand proof.old known.old bad.old sheet.old.gear.purse (rig_state rig.old).loads) }
-    ensures goes { Goes (rig_state rig.old).machine.faults field.now sheet.old.tables.items
-        (in_hand proof.old known.old bad.old sheet.old.gear.purse (rig_state rig.old).loads)
-        (in_hand proof.new known.new bad.new sheet.new.gear.purse (rig_state rig.new).loads) }
-    ensures tables { sheet.new.tables ≡ sheet.old.tables }
-    ensures advances { Advances (rig_state rig.old) (rig_state rig.new) proof.old proof.new }
+    requires attached { shape_of (rig_state rig.old) ≡ Some facts.old.shape }
+    requires hand { IsHand field.now (in_hand facts.old known.old bad.old table_sweep.old.state.budget (rig_state rig.old).loads) }
+    ensures goes { Goes (rig_state rig.old).machine.faults field.now table_sweep.old.tables.items
+        (in_hand facts.old known.old bad.old table_sweep.old.state.budget (rig_state rig.old).loads)
+        (in_hand facts.new known.new bad.new table_sweep.new.state.budget (rig_state rig.new).loads) }
+    ensures tables { table_sweep.new.tables ≡ table_sweep.old.tables }
+    ensures advances { Advances (rig_state rig.old) (rig_state rig.new) facts.old facts.new }
     ensures cause { IsErrOf result RigFail.Failed → Rose (rig_state rig.old).failures (rig_state rig.new).failures }
 {
-    sweep_chosen(rig, proof, known, bad, field, &mut sheet.gear)?;
-    test_tables(rig, proof, known, bad, field, sheet)
+    sweep_chosen(rig, facts, known, bad, field, &mut table_sweep.state)?;
+    test_tables(rig, facts, known, bad, field, table_sweep)
 }

@@ -11,15 +11,15 @@ ghost use Rattle.diag_sweep.specs.Stages.{Goes, IsHand, in_hand};
 ghost use Rattle.diag_sweep.specs.Views.{CanTell};
 
 use crate::asking::knows;
-use crate::bad::Bad;
+use crate::defect_marks::DefectMarks;
 use crate::footing::{foot_at, pins_over};
-use crate::gear::Gear;
 use crate::hearing::hear;
 use crate::losing::begin;
 use crate::seen::see_all;
+use crate::sweep_state::SweepState;
 use crate::trees::{is_known, lay, lay_climbs, plant};
 use base_bits::BitSet;
-use diag_evidence::{Forest, Looks, Proof};
+use diag_evidence::{Facts, Forest, Looks};
 use diag_known::{Field, Known};
 use diag_search::{Chooser, Link, Search, Told};
 use machine_shape::{Cross, Wire};
@@ -38,26 +38,26 @@ pub(crate) struct View {
 }
 
 // Plants the pins of the machine that are known.
-fn plant_known(forest: &mut Forest, proof: &Proof, known: &Known)
-    requires { KeepsForest proof.now forest.old }
-    ensures { KeepsForest proof.now forest.new }
+fn plant_known(forest: &mut Forest, facts: &Facts, known: &Known)
+    requires { KeepsForest facts.now forest.old }
+    ensures { KeepsForest facts.now forest.new }
 {
-    let shape = proof.shape();
+    let shape = facts.shape();
     'pins: for pin in 0..shape.pins() {
         let wire = shape.pin(pin);
         if knows(known, wire) {
-            plant(forest, proof, wire);
+            plant(forest, facts, wire);
         }
     }
 }
 
 // Lays links, where they may be laid.
-fn lay_links(forest: &mut Forest, proof: &Proof, links: &Vec<Link>) -> Result<(), AllocError>
-    requires { KeepsForest proof.now forest.old }
-    ensures { KeepsForest proof.now forest.new }
+fn lay_links(forest: &mut Forest, facts: &Facts, links: &Vec<Link>) -> Result<(), AllocError>
+    requires { KeepsForest facts.now forest.old }
+    ensures { KeepsForest facts.now forest.new }
 {
     'links: for link in links {
-        lay(forest, proof, link.cross, link.from, link.to)?;
+        lay(forest, facts, link.cross, link.from, link.to)?;
     }
     Ok(())
 }
@@ -65,16 +65,16 @@ fn lay_links(forest: &mut Forest, proof: &Proof, links: &Vec<Link>) -> Result<()
 // The forest of a look: the known pins of the machine, the climbs, and the links.
 fn told_forest(
     alloc: Global,
-    proof: &Proof,
+    facts: &Facts,
     known: &Known,
     told: &Told,
 ) -> Result<Forest, AllocError>
-    ensures { IfOk result (KeepsForest proof.now) }
+    ensures { IfOk result (KeepsForest facts.now) }
 {
-    let mut forest = Forest::new(alloc, &proof.shape())?;
-    plant_known(&mut forest, proof, known);
-    lay_climbs(&mut forest, proof, &told.climbs)?;
-    lay_links(&mut forest, proof, &told.links)?;
+    let mut forest = Forest::new(alloc, &facts.shape())?;
+    plant_known(&mut forest, facts, known);
+    lay_climbs(&mut forest, facts, &told.climbs)?;
+    lay_links(&mut forest, facts, &told.links)?;
     Ok(forest)
 }
 
@@ -126,20 +126,20 @@ fn are_of_field(field: &Field, feet: &Vec<(Wire, Cross)>) -> bool
 fn next_view(
     chooser: &mut Chooser,
     search: &mut Search,
-    proof: &Proof,
+    facts: &Facts,
     known: &Known,
-    bad: &Bad,
+    bad: &DefectMarks,
     field: &Field,
 ) -> Result<Option<View>, AllocError>
-    requires known { IsKnown proof.now known.now }
-    ensures { IfOk result (λ found. IfSome found (CanTell proof.now known.now.steps field.now)) }
+    requires known { IsKnown facts.now known.now }
+    ensures { IfOk result (λ found. IfSome found (CanTell facts.now known.now.steps field.now)) }
 {
     let Some(told) = chooser.lay_look(search, &bad.unfit)? else {
         return Ok(None);
     };
     let alloc = known.alloc();
-    let forest = told_forest(alloc, proof, known, &told)?;
-    if !is_known(proof, known, &forest) {
+    let forest = told_forest(alloc, facts, known, &told)?;
+    if !is_known(facts, known, &forest) {
         return Ok(None);
     }
     if !are_of_field(field, &told.feet) {
@@ -148,7 +148,7 @@ fn next_view(
     if !are_feet(alloc, &forest, &told.feet)? {
         return Ok(None);
     }
-    let reads = Looks::new(alloc, &proof.shape())?;
+    let reads = Looks::new(alloc, &facts.shape())?;
     Ok(Some(View {
         told,
         forest,
@@ -169,27 +169,27 @@ fn was_heard(heard: Result<(), AllocError>) -> Result<bool, RigFail>
 // Takes a look, if one is wanted, may be made, and can be paid. False where not.
 fn tell_turn(
     rig: &mut Box<dyn Rig>,
-    proof: &mut Proof,
+    facts: &mut Facts,
     known: &Known,
-    bad: &mut Bad,
+    bad: &mut DefectMarks,
     field: &Field,
-    gear: &mut Gear,
+    state: &mut SweepState,
 ) -> Result<bool, RigFail>
-    requires attached { shape_of (rig_state rig.old) ≡ Some proof.old.shape }
-    requires hand { IsHand field.now (in_hand proof.old known.now bad.old gear.old.purse (rig_state rig.old).loads) }
+    requires attached { shape_of (rig_state rig.old) ≡ Some facts.old.shape }
+    requires hand { IsHand field.now (in_hand facts.old known.now bad.old state.old.budget (rig_state rig.old).loads) }
     ensures goes { Goes (rig_state rig.old).machine.faults field.now []
-        (in_hand proof.old known.now bad.old gear.old.purse (rig_state rig.old).loads)
-        (in_hand proof.new known.now bad.new gear.new.purse (rig_state rig.new).loads) }
-    ensures advances { Advances (rig_state rig.old) (rig_state rig.new) proof.old proof.new }
+        (in_hand facts.old known.now bad.old state.old.budget (rig_state rig.old).loads)
+        (in_hand facts.new known.now bad.new state.new.budget (rig_state rig.new).loads) }
+    ensures advances { Advances (rig_state rig.old) (rig_state rig.new) facts.old facts.new }
     ensures cause { IsErrOf result RigFail.Failed → Rose (rig_state rig.old).failures (rig_state rig.new).failures }
 {
-    if !gear.purse.can_pay(rig, 1) {
+    if !state.budget.can_pay(rig, 1) {
         return Ok(false);
     }
     let Ok(found) = next_view(
-        &mut gear.chooser,
-        &mut gear.search,
-        proof,
+        &mut state.chooser,
+        &mut state.search,
+        facts,
         known,
         bad,
         field,
@@ -200,7 +200,7 @@ fn tell_turn(
         return Ok(false);
     };
     let feet = view.told.feet.as_slice();
-    proof.tell_each(
+    facts.screen_wires(
         rig,
         &view.forest,
         feet,
@@ -208,34 +208,34 @@ fn tell_turn(
         &mut bad.unclear,
         &mut view.reads,
     )?;
-    let chooser = &mut gear.chooser;
-    was_heard(hear(chooser, &view.told, &view.forest, &view.reads, proof, bad))
+    let chooser = &mut state.chooser;
+    was_heard(hear(chooser, &view.told, &view.forest, &view.reads, facts, bad))
 }
 
 /// Takes looks for what the choice is asked for, until none is wanted, or it can't be paid.
 #[tactic(auto, using(crate::proofs::Going::gone_none))]
 pub(crate) fn tell_all(
     rig: &mut Box<dyn Rig>,
-    proof: &mut Proof,
+    facts: &mut Facts,
     known: &Known,
-    bad: &mut Bad,
+    bad: &mut DefectMarks,
     field: &Field,
-    gear: &mut Gear,
+    state: &mut SweepState,
 ) -> Result<(), RigFail>
-    requires attached { shape_of (rig_state rig.old) ≡ Some proof.old.shape }
-    requires hand { IsHand field.now (in_hand proof.old known.now bad.old gear.old.purse (rig_state rig.old).loads) }
+    requires attached { shape_of (rig_state rig.old) ≡ Some facts.old.shape }
+    requires hand { IsHand field.now (in_hand facts.old known.now bad.old state.old.budget (rig_state rig.old).loads) }
     ensures goes { Goes (rig_state rig.old).machine.faults field.now []
-        (in_hand proof.old known.now bad.old gear.old.purse (rig_state rig.old).loads)
-        (in_hand proof.new known.now bad.new gear.new.purse (rig_state rig.new).loads) }
-    ensures advances { Advances (rig_state rig.old) (rig_state rig.new) proof.old proof.new }
+        (in_hand facts.old known.now bad.old state.old.budget (rig_state rig.old).loads)
+        (in_hand facts.new known.now bad.new state.new.budget (rig_state rig.new).loads) }
+    ensures advances { Advances (rig_state rig.old) (rig_state rig.new) facts.old facts.new }
     ensures cause { IsErrOf result RigFail.Failed → Rose (rig_state rig.old).failures (rig_state rig.new).failures }
 {
-    let aim = gear.aim;
-    let Ok(()) = begin(&mut gear.chooser, aim, proof, known, bad) else {
+    let aim = state.aim;
+    let Ok(()) = begin(&mut state.chooser, aim, facts, known, bad) else {
         return Err(RigFail::Memory);
     };
     'looks: for _look in 0..MOST_LOOKS {
-        if !tell_turn(rig, proof, known, bad, field, gear)? {
+        if !tell_turn(rig, facts, known, bad, field, state)? {
             return Ok(());
         }
     }

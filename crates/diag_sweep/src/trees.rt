@@ -4,8 +4,8 @@ ghost use Rattle.machine_shape.specs.Shape.{pins_of};
 ghost use Rattle.diag_evidence.specs.Forests.{KeepsForest, KnowsForest, is_hung};
 ghost use Rattle.diag_known.specs.Known.{IsKnown, HasWire};
 
-use diag_evidence::{Forest, Proof};
-use diag_known::{Known, Stand, Step};
+use diag_evidence::{Facts, Forest};
+use diag_known::{Known, SupportedBy, VerifiedWire};
 use diag_search::{Draws, Search, Walk};
 use machine_shape::{Cross, Shape, Wire};
 use std::alloc::{AllocError, Global};
@@ -13,15 +13,15 @@ use std::alloc::{AllocError, Global};
 /// Lays a crosspoint, where it may be laid.
 pub(crate) fn lay(
     forest: &mut Forest,
-    proof: &Proof,
+    facts: &Facts,
     cross: Cross,
     from: Wire,
     to: Wire,
 ) -> Result<(), AllocError>
-    requires { KeepsForest proof.now forest.old }
-    ensures { KeepsForest proof.now forest.new }
+    requires { KeepsForest facts.now forest.old }
+    ensures { KeepsForest facts.now forest.new }
 {
-    let shape = proof.shape();
+    let shape = facts.shape();
     if cross.0 >= shape.crosses() {
         return Ok(());
     }
@@ -31,7 +31,7 @@ pub(crate) fn lay(
     if to.0 >= shape.wires() {
         return Ok(());
     }
-    forest.lay(proof, cross, from, to)?;
+    forest.lay(facts, cross, from, to)?;
     Ok(())
 }
 
@@ -51,11 +51,11 @@ fn machine_pin(shape: &Shape, w: Wire) -> Option<u32>
 }
 
 /// Plants a pin of the machine.
-pub(crate) fn plant(forest: &mut Forest, proof: &Proof, w: Wire)
-    requires { KeepsForest proof.now forest.old }
-    ensures { KeepsForest proof.now forest.new }
+pub(crate) fn plant(forest: &mut Forest, facts: &Facts, w: Wire)
+    requires { KeepsForest facts.now forest.old }
+    ensures { KeepsForest facts.now forest.new }
 {
-    let shape = proof.shape();
+    let shape = facts.shape();
     let Some(pin) = machine_pin(&shape, w) else {
         return;
     };
@@ -71,19 +71,19 @@ fn link_at(walk: &Walk, place: usize) -> Option<(Cross, Wire, Wire)> {
 }
 
 // Lays a climb from its pin on.
-fn lay_climb(forest: &mut Forest, proof: &Proof, walk: &Walk) -> Result<(), AllocError>
-    requires { KeepsForest proof.now forest.old }
-    ensures { KeepsForest proof.now forest.new }
+fn lay_climb(forest: &mut Forest, facts: &Facts, walk: &Walk) -> Result<(), AllocError>
+    requires { KeepsForest facts.now forest.old }
+    ensures { KeepsForest facts.now forest.new }
 {
     let len = walk.crosses.len();
     if let Some(last) = walk.wires.get(len).copied() {
-        plant(forest, proof, last);
+        plant(forest, facts, last);
     }
     'links: for k in 0..len {
         let Some((cross, from, to)) = link_at(walk, len - 1 - k) else {
             continue;
         };
-        lay(forest, proof, cross, from, to)?;
+        lay(forest, facts, cross, from, to)?;
     }
     Ok(())
 }
@@ -91,14 +91,14 @@ fn lay_climb(forest: &mut Forest, proof: &Proof, walk: &Walk) -> Result<(), Allo
 /// Lays all climbs.
 pub(crate) fn lay_climbs(
     forest: &mut Forest,
-    proof: &Proof,
+    facts: &Facts,
     climbs: &Vec<Walk>,
 ) -> Result<(), AllocError>
-    requires { KeepsForest proof.now forest.old }
-    ensures { KeepsForest proof.now forest.new }
+    requires { KeepsForest facts.now forest.old }
+    ensures { KeepsForest facts.now forest.new }
 {
     'climbs: for walk in climbs {
-        lay_climb(forest, proof, walk)?;
+        lay_climb(forest, facts, walk)?;
     }
     Ok(())
 }
@@ -106,23 +106,23 @@ pub(crate) fn lay_climbs(
 // Hangs a known wire on one of its feet, which is drawn, or plants it if it is a pin of the machine.
 fn lay_step(
     forest: &mut Forest,
-    proof: &Proof,
-    step: &Step,
+    facts: &Facts,
+    step: &VerifiedWire,
     draws: &mut Draws,
 ) -> Result<(), AllocError>
-    requires { KeepsForest proof.now forest.old }
-    ensures { KeepsForest proof.now forest.new }
+    requires { KeepsForest facts.now forest.old }
+    ensures { KeepsForest facts.now forest.new }
 {
     match step.stand {
-        Stand::Pin(_) => {
-            plant(forest, proof, step.wire);
+        SupportedBy::Pin(_) => {
+            plant(forest, facts, step.wire);
             Ok(())
         }
-        Stand::Feet(first, second) => {
+        SupportedBy::Feet(first, second) => {
             if draws.coin() {
-                return lay(forest, proof, first.cross, first.wire, step.wire);
+                return lay(forest, facts, first.cross, first.wire, step.wire);
             }
-            lay(forest, proof, second.cross, second.wire, step.wire)
+            lay(forest, facts, second.cross, second.wire, step.wire)
         }
     }
 }
@@ -130,16 +130,16 @@ fn lay_step(
 // Hangs all known wires that don't hang yet.
 fn lay_rest(
     forest: &mut Forest,
-    proof: &Proof,
+    facts: &Facts,
     known: &Known,
     draws: &mut Draws,
 ) -> Result<(), AllocError>
-    requires { KeepsForest proof.now forest.old }
-    ensures { KeepsForest proof.now forest.new }
+    requires { KeepsForest facts.now forest.old }
+    ensures { KeepsForest facts.now forest.new }
 {
     'places: for place in 0..known.len() {
         let step = known.step_at(place);
-        lay_step(forest, proof, &step, draws)?;
+        lay_step(forest, facts, &step, draws)?;
     }
     Ok(())
 }
@@ -147,35 +147,35 @@ fn lay_rest(
 /// The forest of a load of hangs: the climbs, and all other known wires on feet.
 pub(crate) fn hang_forest(
     alloc: Global,
-    proof: &Proof,
+    facts: &Facts,
     known: &Known,
     search: &mut Search,
 ) -> Result<Forest, AllocError>
-    ensures { IfOk result (KeepsForest proof.now) }
+    ensures { IfOk result (KeepsForest facts.now) }
 {
-    let mut forest = Forest::new(alloc, &proof.shape())?;
-    lay_climbs(&mut forest, proof, &search.climbs)?;
-    lay_rest(&mut forest, proof, known, &mut search.draws)?;
+    let mut forest = Forest::new(alloc, &facts.shape())?;
+    lay_climbs(&mut forest, facts, &search.climbs)?;
+    lay_rest(&mut forest, facts, known, &mut search.draws)?;
     Ok(forest)
 }
 
 /// The forest of the pins of the machine alone.
-pub(crate) fn pin_forest(alloc: Global, proof: &Proof) -> Result<Forest, AllocError>
-    ensures { IfOk result (KeepsForest proof.now) }
+pub(crate) fn pin_forest(alloc: Global, facts: &Facts) -> Result<Forest, AllocError>
+    ensures { IfOk result (KeepsForest facts.now) }
 {
-    let shape = proof.shape();
+    let shape = facts.shape();
     let mut forest = Forest::new(alloc, &shape)?;
     'pins: for pin in 0..shape.pins() {
-        plant(&mut forest, proof, shape.pin(pin));
+        plant(&mut forest, facts, shape.pin(pin));
     }
     Ok(forest)
 }
 
 /// Whether all wires that hang are known.
-pub(crate) fn is_known(proof: &Proof, known: &Known, forest: &Forest) -> bool
-    requires known { IsKnown proof.now known.now }
-    requires forest { KeepsForest proof.now forest.now }
-    ensures knows { IsTrue result → KnowsForest proof.now forest.now }
+pub(crate) fn is_known(facts: &Facts, known: &Known, forest: &Forest) -> bool
+    requires known { IsKnown facts.now known.now }
+    requires forest { KeepsForest facts.now forest.now }
+    ensures knows { IsTrue result → KnowsForest facts.now forest.now }
     ensures all { IsTrue result → (w : ℕ) → is_hung forest.now w ≡ true → HasWire known.now.steps w }
 {
     let shape = forest.shape();

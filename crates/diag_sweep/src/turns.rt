@@ -8,17 +8,17 @@ ghost use Rattle.diag_sweep.specs.Marks.{AreMarksFor};
 ghost use Rattle.diag_sweep.specs.Stages.{Goes, IsHand, Settles, in_hand};
 
 use crate::asking::knows;
-use crate::bad::Bad;
-use crate::gear::Gear;
+use crate::budget::LoadBudget;
+use crate::defect_marks::DefectMarks;
 use crate::hanging::{hang_load, pin_load};
 use crate::informing::{note_hangs, note_known};
 use crate::leading::lead_paths;
 use crate::learn::{learn_hangs, learn_pins};
-use crate::purse::Purse;
+use crate::sweep_state::SweepState;
 use crate::telling::tell_all;
-use diag_evidence::Proof;
+use diag_evidence::Facts;
 use diag_known::{Field, Known};
-use diag_search::{Aim, FIRST_HEIGHT, Hung};
+use diag_search::{Aim, ChosenTest, FIRST_HEIGHT};
 use rig::{Rig, RigFail};
 
 /// More loads than the wires of one height take.
@@ -30,70 +30,70 @@ const MOST_HEIGHT: u32 = 8;
 // Looks at the pins of the machine. Those that can be known are.
 fn pin_turn(
     rig: &mut Box<dyn Rig>,
-    proof: &mut Proof,
+    facts: &mut Facts,
     known: &mut Known,
-    bad: &Bad,
+    bad: &DefectMarks,
     field: &Field,
-    gear: &mut Gear,
+    state: &mut SweepState,
 ) -> Result<(), RigFail>
-    requires attached { shape_of (rig_state rig.old) ≡ Some proof.old.shape }
-    requires hand { IsHand field.now (in_hand proof.old known.old bad.now gear.old.purse (rig_state rig.old).loads) }
+    requires attached { shape_of (rig_state rig.old) ≡ Some facts.old.shape }
+    requires hand { IsHand field.now (in_hand facts.old known.old bad.now state.old.budget (rig_state rig.old).loads) }
     ensures goes { Goes (rig_state rig.old).machine.faults field.now []
-        (in_hand proof.old known.old bad.now gear.old.purse (rig_state rig.old).loads)
-        (in_hand proof.new known.new bad.now gear.new.purse (rig_state rig.new).loads) }
-    ensures advances { Advances (rig_state rig.old) (rig_state rig.new) proof.old proof.new }
+        (in_hand facts.old known.old bad.now state.old.budget (rig_state rig.old).loads)
+        (in_hand facts.new known.new bad.now state.new.budget (rig_state rig.new).loads) }
+    ensures advances { Advances (rig_state rig.old) (rig_state rig.new) facts.old facts.new }
     ensures cause { IsErrOf result RigFail.Failed → Rose (rig_state rig.old).failures (rig_state rig.new).failures }
 {
-    pin_load(rig, proof, known, bad, field, gear)?;
-    let Ok(()) = learn_pins(known, proof, field) else {
+    pin_load(rig, facts, known, bad, field, state)?;
+    let Ok(()) = learn_pins(known, facts, field) else {
         return Err(RigFail::Memory);
     };
-    note_known(&mut gear.search, known);
+    note_known(&mut state.search, known);
     Ok(())
 }
 
 // Takes loads in for those crosspoints of hangs that were undecided and aren't any more.
-fn settle_hangs(purse: &mut Purse, proof: &Proof, bad: &Bad, hangs: &Vec<Hung>)
-    requires purse { length purse.old.unsettled ≡ crosses_of proof.now.shape }
-    requires marks { AreMarksFor proof.now.shape bad.now }
-    ensures { Settles proof.now bad.now purse.old purse.new }
+fn settle_hangs(budget: &mut LoadBudget, facts: &Facts, bad: &DefectMarks, hangs: &Vec<ChosenTest>)
+    requires budget { length budget.old.unsettled ≡ crosses_of facts.now.shape }
+    requires marks { AreMarksFor facts.now.shape bad.now }
+    ensures { Settles facts.now bad.now budget.old budget.new }
 {
     'hangs: for k in 0..hangs.len() {
-        purse.settle(proof, bad, hangs[k].first.cross);
-        purse.settle(proof, bad, hangs[k].second.cross);
+        budget.settle(facts, bad, hangs[k].first.cross);
+        budget.settle(facts, bad, hangs[k].second.cross);
     }
 }
 
 // Tests some wires of a height in one load, if some are found and it can be paid. False where not.
 fn hang_turn(
     rig: &mut Box<dyn Rig>,
-    proof: &mut Proof,
+    facts: &mut Facts,
     known: &mut Known,
-    bad: &mut Bad,
+    bad: &mut DefectMarks,
     field: &Field,
-    gear: &mut Gear,
+    state: &mut SweepState,
 ) -> Result<bool, RigFail>
-    requires attached { shape_of (rig_state rig.old) ≡ Some proof.old.shape }
-    requires hand { IsHand field.now (in_hand proof.old known.old bad.old gear.old.purse (rig_state rig.old).loads) }
+    requires attached { shape_of (rig_state rig.old) ≡ Some facts.old.shape }
+    requires hand { IsHand field.now (in_hand facts.old known.old bad.old state.old.budget (rig_state rig.old).loads) }
     ensures goes { Goes (rig_state rig.old).machine.faults field.now []
-        (in_hand proof.old known.old bad.old gear.old.purse (rig_state rig.old).loads)
-        (in_hand proof.new known.new bad.new gear.new.purse (rig_state rig.new).loads) }
-    ensures advances { Advances (rig_state rig.old) (rig_state rig.new) proof.old proof.new }
+        (in_hand facts.old known.old bad.old state.old.budget (rig_state rig.old).loads)
+        (in_hand facts.new known.new bad.new state.new.budget (rig_state rig.new).loads) }
+    ensures advances { Advances (rig_state rig.old) (rig_state rig.new) facts.old facts.new }
     ensures cause { IsErrOf result RigFail.Failed → Rose (rig_state rig.old).failures (rig_state rig.new).failures }
 {
-    let height = gear.height;
-    let Ok(()) = gear.search.choose_hangs(&bad.unfit, height) else {
+    let height = state.height;
+    let Ok(()) = state.search.choose_hangs(&bad.unfit, height) else {
         return Err(RigFail::Memory);
     };
-    if gear.search.hangs.is_empty() || !gear.purse.can_pay(rig, 3) {
+    if state.search.hangs.is_empty() || !state.budget.can_pay(rig, 3) {
         return Ok(false);
     }
-    hang_load(rig, proof, known, bad, field, gear)?;
-    settle_hangs(&mut gear.purse, proof, bad, &gear.search.hangs);
-    let Ok(()) = learn_hangs(known, proof, field, &gear.search.hangs) else {
+    hang_load(rig, facts, known, bad, field, state)?;
+    settle_hangs(&mut state.budget, facts, bad, &state.search.hangs);
+    let Ok(()) = learn_hangs(known, facts, field, &state.search.hangs) else {
         return Err(RigFail::Memory);
     };
-    note_hangs(&mut gear.search, proof, known, &bad.stuck);
+    note_hangs(&mut state.search, facts, known, &bad.stuck);
     Ok(true)
 }
 
@@ -101,22 +101,22 @@ fn hang_turn(
 #[tactic(auto, using(crate::proofs::Going::gone_none))]
 fn hang_height(
     rig: &mut Box<dyn Rig>,
-    proof: &mut Proof,
+    facts: &mut Facts,
     known: &mut Known,
-    bad: &mut Bad,
+    bad: &mut DefectMarks,
     field: &Field,
-    gear: &mut Gear,
+    state: &mut SweepState,
 ) -> Result<(), RigFail>
-    requires attached { shape_of (rig_state rig.old) ≡ Some proof.old.shape }
-    requires hand { IsHand field.now (in_hand proof.old known.old bad.old gear.old.purse (rig_state rig.old).loads) }
+    requires attached { shape_of (rig_state rig.old) ≡ Some facts.old.shape }
+    requires hand { IsHand field.now (in_hand facts.old known.old bad.old state.old.budget (rig_state rig.old).loads) }
     ensures goes { Goes (rig_state rig.old).machine.faults field.now []
-        (in_hand proof.old known.old bad.old gear.old.purse (rig_state rig.old).loads)
-        (in_hand proof.new known.new bad.new gear.new.purse (rig_state rig.new).loads) }
-    ensures advances { Advances (rig_state rig.old) (rig_state rig.new) proof.old proof.new }
+        (in_hand facts.old known.old bad.old state.old.budget (rig_state rig.old).loads)
+        (in_hand facts.new known.new bad.new state.new.budget (rig_state rig.new).loads) }
+    ensures advances { Advances (rig_state rig.old) (rig_state rig.new) facts.old facts.new }
     ensures cause { IsErrOf result RigFail.Failed → Rose (rig_state rig.old).failures (rig_state rig.new).failures }
 {
     'loads: for _load in 0..MOST_LOADS {
-        if !hang_turn(rig, proof, known, bad, field, gear)? {
+        if !hang_turn(rig, facts, known, bad, field, state)? {
             return Ok(());
         }
     }
@@ -126,48 +126,48 @@ fn hang_height(
 // Tests the wires of a height, and then the crosspoints between known wires, if some wires came to be known in this pass.
 fn sweep_height(
     rig: &mut Box<dyn Rig>,
-    proof: &mut Proof,
+    facts: &mut Facts,
     known: &mut Known,
-    bad: &mut Bad,
+    bad: &mut DefectMarks,
     field: &Field,
-    gear: &mut Gear,
+    state: &mut SweepState,
 ) -> Result<(), RigFail>
-    requires attached { shape_of (rig_state rig.old) ≡ Some proof.old.shape }
-    requires hand { IsHand field.now (in_hand proof.old known.old bad.old gear.old.purse (rig_state rig.old).loads) }
+    requires attached { shape_of (rig_state rig.old) ≡ Some facts.old.shape }
+    requires hand { IsHand field.now (in_hand facts.old known.old bad.old state.old.budget (rig_state rig.old).loads) }
     ensures goes { Goes (rig_state rig.old).machine.faults field.now []
-        (in_hand proof.old known.old bad.old gear.old.purse (rig_state rig.old).loads)
-        (in_hand proof.new known.new bad.new gear.new.purse (rig_state rig.new).loads) }
-    ensures advances { Advances (rig_state rig.old) (rig_state rig.new) proof.old proof.new }
+        (in_hand facts.old known.old bad.old state.old.budget (rig_state rig.old).loads)
+        (in_hand facts.new known.new bad.new state.new.budget (rig_state rig.new).loads) }
+    ensures advances { Advances (rig_state rig.old) (rig_state rig.new) facts.old facts.new }
     ensures cause { IsErrOf result RigFail.Failed → Rose (rig_state rig.old).failures (rig_state rig.new).failures }
 {
-    hang_height(rig, proof, known, bad, field, gear)?;
-    if known.len() <= gear.start {
+    hang_height(rig, facts, known, bad, field, state)?;
+    if known.len() <= state.start {
         return Ok(());
     }
-    lead_paths(rig, proof, known, bad, field, gear)
+    lead_paths(rig, facts, known, bad, field, state)
 }
 
 // Tests the wires of each height once more.
 #[tactic(auto, using(crate::proofs::Going::gone_none))]
 fn sweep_heights(
     rig: &mut Box<dyn Rig>,
-    proof: &mut Proof,
+    facts: &mut Facts,
     known: &mut Known,
-    bad: &mut Bad,
+    bad: &mut DefectMarks,
     field: &Field,
-    gear: &mut Gear,
+    state: &mut SweepState,
 ) -> Result<(), RigFail>
-    requires attached { shape_of (rig_state rig.old) ≡ Some proof.old.shape }
-    requires hand { IsHand field.now (in_hand proof.old known.old bad.old gear.old.purse (rig_state rig.old).loads) }
+    requires attached { shape_of (rig_state rig.old) ≡ Some facts.old.shape }
+    requires hand { IsHand field.now (in_hand facts.old known.old bad.old state.old.budget (rig_state rig.old).loads) }
     ensures goes { Goes (rig_state rig.old).machine.faults field.now []
-        (in_hand proof.old known.old bad.old gear.old.purse (rig_state rig.old).loads)
-        (in_hand proof.new known.new bad.new gear.new.purse (rig_state rig.new).loads) }
-    ensures advances { Advances (rig_state rig.old) (rig_state rig.new) proof.old proof.new }
+        (in_hand facts.old known.old bad.old state.old.budget (rig_state rig.old).loads)
+        (in_hand facts.new known.new bad.new state.new.budget (rig_state rig.new).loads) }
+    ensures advances { Advances (rig_state rig.old) (rig_state rig.new) facts.old facts.new }
     ensures cause { IsErrOf result RigFail.Failed → Rose (rig_state rig.old).failures (rig_state rig.new).failures }
 {
     'heights: for height in 1..=MOST_HEIGHT {
-        gear.height = height;
-        sweep_height(rig, proof, known, bad, field, gear)?;
+        state.height = height;
+        sweep_height(rig, facts, known, bad, field, state)?;
     }
     Ok(())
 }
@@ -175,69 +175,69 @@ fn sweep_heights(
 // Looks for wires that are unfit, and then tests those of each height.
 fn sweep_pass(
     rig: &mut Box<dyn Rig>,
-    proof: &mut Proof,
+    facts: &mut Facts,
     known: &mut Known,
-    bad: &mut Bad,
+    bad: &mut DefectMarks,
     field: &Field,
-    gear: &mut Gear,
+    state: &mut SweepState,
 ) -> Result<(), RigFail>
-    requires attached { shape_of (rig_state rig.old) ≡ Some proof.old.shape }
-    requires hand { IsHand field.now (in_hand proof.old known.old bad.old gear.old.purse (rig_state rig.old).loads) }
+    requires attached { shape_of (rig_state rig.old) ≡ Some facts.old.shape }
+    requires hand { IsHand field.now (in_hand facts.old known.old bad.old state.old.budget (rig_state rig.old).loads) }
     ensures goes { Goes (rig_state rig.old).machine.faults field.now []
-        (in_hand proof.old known.old bad.old gear.old.purse (rig_state rig.old).loads)
-        (in_hand proof.new known.new bad.new gear.new.purse (rig_state rig.new).loads) }
-    ensures advances { Advances (rig_state rig.old) (rig_state rig.new) proof.old proof.new }
+        (in_hand facts.old known.old bad.old state.old.budget (rig_state rig.old).loads)
+        (in_hand facts.new known.new bad.new state.new.budget (rig_state rig.new).loads) }
+    ensures advances { Advances (rig_state rig.old) (rig_state rig.new) facts.old facts.new }
     ensures cause { IsErrOf result RigFail.Failed → Rose (rig_state rig.old).failures (rig_state rig.new).failures }
 {
-    tell_all(rig, proof, known, bad, field, gear)?;
-    gear.search.begin_pass();
-    sweep_heights(rig, proof, known, bad, field, gear)?;
-    gear.start = known.len();
+    tell_all(rig, facts, known, bad, field, state)?;
+    state.search.begin_pass();
+    sweep_heights(rig, facts, known, bad, field, state)?;
+    state.start = known.len();
     Ok(())
 }
 
 // Goes through all heights twice.
 fn sweep_twice(
     rig: &mut Box<dyn Rig>,
-    proof: &mut Proof,
+    facts: &mut Facts,
     known: &mut Known,
-    bad: &mut Bad,
+    bad: &mut DefectMarks,
     field: &Field,
-    gear: &mut Gear,
+    state: &mut SweepState,
 ) -> Result<(), RigFail>
-    requires attached { shape_of (rig_state rig.old) ≡ Some proof.old.shape }
-    requires hand { IsHand field.now (in_hand proof.old known.old bad.old gear.old.purse (rig_state rig.old).loads) }
+    requires attached { shape_of (rig_state rig.old) ≡ Some facts.old.shape }
+    requires hand { IsHand field.now (in_hand facts.old known.old bad.old state.old.budget (rig_state rig.old).loads) }
     ensures goes { Goes (rig_state rig.old).machine.faults field.now []
-        (in_hand proof.old known.old bad.old gear.old.purse (rig_state rig.old).loads)
-        (in_hand proof.new known.new bad.new gear.new.purse (rig_state rig.new).loads) }
-    ensures advances { Advances (rig_state rig.old) (rig_state rig.new) proof.old proof.new }
+        (in_hand facts.old known.old bad.old state.old.budget (rig_state rig.old).loads)
+        (in_hand facts.new known.new bad.new state.new.budget (rig_state rig.new).loads) }
+    ensures advances { Advances (rig_state rig.old) (rig_state rig.new) facts.old facts.new }
     ensures cause { IsErrOf result RigFail.Failed → Rose (rig_state rig.old).failures (rig_state rig.new).failures }
 {
-    gear.aim = Aim::Again;
-    sweep_pass(rig, proof, known, bad, field, gear)?;
-    gear.aim = Aim::Rest;
-    sweep_pass(rig, proof, known, bad, field, gear)
+    state.aim = Aim::Again;
+    sweep_pass(rig, facts, known, bad, field, state)?;
+    state.aim = Aim::Rest;
+    sweep_pass(rig, facts, known, bad, field, state)
 }
 
 /// Looks at the pins of the machine, and tests what is further and further from them.
 pub(crate) fn sweep_all(
     rig: &mut Box<dyn Rig>,
-    proof: &mut Proof,
+    facts: &mut Facts,
     known: &mut Known,
-    bad: &mut Bad,
+    bad: &mut DefectMarks,
     field: &Field,
-    gear: &mut Gear,
+    state: &mut SweepState,
 ) -> Result<(), RigFail>
-    requires attached { shape_of (rig_state rig.old) ≡ Some proof.old.shape }
-    requires hand { IsHand field.now (in_hand proof.old known.old bad.old gear.old.purse (rig_state rig.old).loads) }
+    requires attached { shape_of (rig_state rig.old) ≡ Some facts.old.shape }
+    requires hand { IsHand field.now (in_hand facts.old known.old bad.old state.old.budget (rig_state rig.old).loads) }
     ensures goes { Goes (rig_state rig.old).machine.faults field.now []
-        (in_hand proof.old known.old bad.old gear.old.purse (rig_state rig.old).loads)
-        (in_hand proof.new known.new bad.new gear.new.purse (rig_state rig.new).loads) }
-    ensures advances { Advances (rig_state rig.old) (rig_state rig.new) proof.old proof.new }
+        (in_hand facts.old known.old bad.old state.old.budget (rig_state rig.old).loads)
+        (in_hand facts.new known.new bad.new state.new.budget (rig_state rig.new).loads) }
+    ensures advances { Advances (rig_state rig.old) (rig_state rig.new) facts.old facts.new }
     ensures cause { IsErrOf result RigFail.Failed → Rose (rig_state rig.old).failures (rig_state rig.new).failures }
 {
-    pin_turn(rig, proof, known, bad, field, gear)?;
-    sweep_twice(rig, proof, known, bad, field, gear)
+    pin_turn(rig, facts, known, bad, field, state)?;
+    sweep_twice(rig, facts, known, bad, field, state)
 }
 
 // Whether all pins of the machine are known.
@@ -254,68 +254,68 @@ fn knows_pins(known: &Known) -> bool {
 // Looks at the pins of the machine, unless all are known.
 fn pins_left(
     rig: &mut Box<dyn Rig>,
-    proof: &mut Proof,
+    facts: &mut Facts,
     known: &mut Known,
-    bad: &mut Bad,
+    bad: &mut DefectMarks,
     field: &Field,
-    gear: &mut Gear,
+    state: &mut SweepState,
 ) -> Result<(), RigFail>
-    requires attached { shape_of (rig_state rig.old) ≡ Some proof.old.shape }
-    requires hand { IsHand field.now (in_hand proof.old known.old bad.old gear.old.purse (rig_state rig.old).loads) }
+    requires attached { shape_of (rig_state rig.old) ≡ Some facts.old.shape }
+    requires hand { IsHand field.now (in_hand facts.old known.old bad.old state.old.budget (rig_state rig.old).loads) }
     ensures goes { Goes (rig_state rig.old).machine.faults field.now []
-        (in_hand proof.old known.old bad.old gear.old.purse (rig_state rig.old).loads)
-        (in_hand proof.new known.new bad.new gear.new.purse (rig_state rig.new).loads) }
-    ensures advances { Advances (rig_state rig.old) (rig_state rig.new) proof.old proof.new }
+        (in_hand facts.old known.old bad.old state.old.budget (rig_state rig.old).loads)
+        (in_hand facts.new known.new bad.new state.new.budget (rig_state rig.new).loads) }
+    ensures advances { Advances (rig_state rig.old) (rig_state rig.new) facts.old facts.new }
     ensures cause { IsErrOf result RigFail.Failed → Rose (rig_state rig.old).failures (rig_state rig.new).failures }
 {
     if knows_pins(known) {
         return Ok(());
     }
-    pin_turn(rig, proof, known, bad, field, gear)
+    pin_turn(rig, facts, known, bad, field, state)
 }
 
 // The same, and then tests the wires for which others gave way.
 fn first_turns(
     rig: &mut Box<dyn Rig>,
-    proof: &mut Proof,
+    facts: &mut Facts,
     known: &mut Known,
-    bad: &mut Bad,
+    bad: &mut DefectMarks,
     field: &Field,
-    gear: &mut Gear,
+    state: &mut SweepState,
 ) -> Result<(), RigFail>
-    requires attached { shape_of (rig_state rig.old) ≡ Some proof.old.shape }
-    requires hand { IsHand field.now (in_hand proof.old known.old bad.old gear.old.purse (rig_state rig.old).loads) }
+    requires attached { shape_of (rig_state rig.old) ≡ Some facts.old.shape }
+    requires hand { IsHand field.now (in_hand facts.old known.old bad.old state.old.budget (rig_state rig.old).loads) }
     ensures goes { Goes (rig_state rig.old).machine.faults field.now []
-        (in_hand proof.old known.old bad.old gear.old.purse (rig_state rig.old).loads)
-        (in_hand proof.new known.new bad.new gear.new.purse (rig_state rig.new).loads) }
-    ensures advances { Advances (rig_state rig.old) (rig_state rig.new) proof.old proof.new }
+        (in_hand facts.old known.old bad.old state.old.budget (rig_state rig.old).loads)
+        (in_hand facts.new known.new bad.new state.new.budget (rig_state rig.new).loads) }
+    ensures advances { Advances (rig_state rig.old) (rig_state rig.new) facts.old facts.new }
     ensures cause { IsErrOf result RigFail.Failed → Rose (rig_state rig.old).failures (rig_state rig.new).failures }
 {
-    let Ok(()) = gear.chooser.hint(&mut gear.search) else {
+    let Ok(()) = state.chooser.hint(&mut state.search) else {
         return Err(RigFail::Memory);
     };
-    pins_left(rig, proof, known, bad, field, gear)?;
-    gear.height = FIRST_HEIGHT;
-    hang_height(rig, proof, known, bad, field, gear)
+    pins_left(rig, facts, known, bad, field, state)?;
+    state.height = FIRST_HEIGHT;
+    hang_height(rig, facts, known, bad, field, state)
 }
 
 /// The same behind a choice: first the wires for which others gave way.
 pub(crate) fn sweep_chosen(
     rig: &mut Box<dyn Rig>,
-    proof: &mut Proof,
+    facts: &mut Facts,
     known: &mut Known,
-    bad: &mut Bad,
+    bad: &mut DefectMarks,
     field: &Field,
-    gear: &mut Gear,
+    state: &mut SweepState,
 ) -> Result<(), RigFail>
-    requires attached { shape_of (rig_state rig.old) ≡ Some proof.old.shape }
-    requires hand { IsHand field.now (in_hand proof.old known.old bad.old gear.old.purse (rig_state rig.old).loads) }
+    requires attached { shape_of (rig_state rig.old) ≡ Some facts.old.shape }
+    requires hand { IsHand field.now (in_hand facts.old known.old bad.old state.old.budget (rig_state rig.old).loads) }
     ensures goes { Goes (rig_state rig.old).machine.faults field.now []
-        (in_hand proof.old known.old bad.old gear.old.purse (rig_state rig.old).loads)
-        (in_hand proof.new known.new bad.new gear.new.purse (rig_state rig.new).loads) }
-    ensures advances { Advances (rig_state rig.old) (rig_state rig.new) proof.old proof.new }
+        (in_hand facts.old known.old bad.old state.old.budget (rig_state rig.old).loads)
+        (in_hand facts.new known.new bad.new state.new.budget (rig_state rig.new).loads) }
+    ensures advances { Advances (rig_state rig.old) (rig_state rig.new) facts.old facts.new }
     ensures cause { IsErrOf result RigFail.Failed → Rose (rig_state rig.old).failures (rig_state rig.new).failures }
 {
-    first_turns(rig, proof, known, bad, field, gear)?;
-    sweep_twice(rig, proof, known, bad, field, gear)
+    first_turns(rig, facts, known, bad, field, state)?;
+    sweep_twice(rig, facts, known, bad, field, state)
 }

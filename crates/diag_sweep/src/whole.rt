@@ -7,12 +7,12 @@ ghost use Rattle.diag_known.specs.Field.{IsFieldOf, GrowsIn};
 ghost use Rattle.diag_known.specs.Known.{IsKnown};
 ghost use Rattle.diag_sweep.specs.Marks.{AreMarksFor, MarksIn, Pays, TrueIf};
 
-use crate::bad::Bad;
-use crate::gear::{Gear, Sheet};
+use crate::budget::LoadBudget;
+use crate::defect_marks::DefectMarks;
 use crate::informing::new_search;
-use crate::purse::Purse;
+use crate::sweep_state::{SweepState, TableSweep};
 use crate::tabling::sweep_sheet;
-use diag_evidence::Proof;
+use diag_evidence::Facts;
 use diag_known::{Field, Known};
 use diag_search::{Aim, Chooser};
 use machine_shape::Table;
@@ -27,45 +27,52 @@ use rig::{Rig, RigFail};
 /// `Failed` where a call of the rig failed, `Memory` where memory was wanting. What is known, kept and marked is as right as after an `Ok`.
 pub fn sweep(
     rig: &mut Box<dyn Rig>,
-    proof: &mut Proof,
+    facts: &mut Facts,
     known: &mut Known,
-    bad: &mut Bad,
+    bad: &mut DefectMarks,
     field: &Field,
     tables: &[Table],
 ) -> Result<(), RigFail>
-    requires attached { shape_of (rig_state rig.old) ≡ Some proof.old.shape }
-    requires known { IsKnown proof.old known.old }
-    requires field { IsFieldOf proof.old.shape field.now }
-    requires marks { AreMarksFor proof.old.shape bad.old }
+    requires attached { shape_of (rig_state rig.old) ≡ Some facts.old.shape }
+    requires known { IsKnown facts.old known.old }
+    requires field { IsFieldOf facts.old.shape field.now }
+    requires marks { AreMarksFor facts.old.shape bad.old }
 
-    ensures known { IsKnown proof.new known.new }
+    ensures known { IsKnown facts.new known.new }
     ensures grows { GrowsIn field.now known.old.steps known.new.steps }
     ensures marks { MarksIn field.now tables.now bad.old bad.new }
-    ensures right { TrueIf (rig_state rig.old).machine.faults proof.old known.old.steps bad.old →
-        TrueIf (rig_state rig.old).machine.faults proof.new known.new.steps bad.new }
-    ensures pays { Pays field.now proof.old bad.old (rig_state rig.old).loads proof.new bad.new (rig_state rig.new).loads }
-    ensures advances { Advances (rig_state rig.old) (rig_state rig.new) proof.old proof.new }
+    ensures right { TrueIf (rig_state rig.old).machine.faults facts.old known.old.steps bad.old →
+        TrueIf (rig_state rig.old).machine.faults facts.new known.new.steps bad.new }
+    ensures pays { Pays field.now facts.old bad.old (rig_state rig.old).loads facts.new bad.new (rig_state rig.new).loads }
+    ensures advances { Advances (rig_state rig.old) (rig_state rig.new) facts.old facts.new }
     ensures cause { IsErrOf result RigFail.Failed → Rose (rig_state rig.old).failures (rig_state rig.new).failures }
 {
-    let Ok(purse) = Purse::new(known.alloc(), rig, proof, bad, field) else {
+    let Ok(budget) = LoadBudget::new(known.alloc(), rig, facts, bad, field) else {
         return Err(RigFail::Memory);
     };
-    let Ok(search) = new_search(known.alloc(), proof, known, bad, field) else {
+    let Ok(search) = new_search(known.alloc(), facts, known, bad, field) else {
         return Err(RigFail::Memory);
     };
-    let Ok(chooser) = Chooser::new(known.alloc(), &proof.shape()) else {
+    let Ok(chooser) = Chooser::new(known.alloc(), &facts.shape()) else {
         return Err(RigFail::Memory);
     };
     let Ok(tables) = Vec::from_slice(known.alloc(), tables) else {
         return Err(RigFail::Memory);
     };
-    let gear = Gear {
-        purse,
+    let state = SweepState {
+        budget,
         search,
         chooser,
         aim: Aim::Rest,
         height: 0,
         start: 0,
     };
-    sweep_sheet(rig, proof, known, bad, field, &mut Sheet { gear, tables })
+    sweep_sheet(
+        rig,
+        facts,
+        known,
+        bad,
+        field,
+        &mut TableSweep { state, tables },
+    )
 }

@@ -2,7 +2,7 @@
 ghost use Rattle.std.specs.Prelude.{◌≡◌, IfOk, length};
 ghost use Rattle.diag_sweep.specs.Without.{AreWithout, IsWithout};
 
-use crate::bad::Bad;
+use crate::defect_marks::DefectMarks;
 use base_bits::BitSet;
 use diag_known::Field;
 use std::alloc::{AllocError, Global};
@@ -23,7 +23,7 @@ fn without(alloc: Global, these: &BitSet, out: &BitSet) -> Result<BitSet, AllocE
 
 /// The field without the crosspoints that are marked stuck, and without the wires that are marked unfit or unclear, pins of tables
 /// among them. Marks and field are of one machine. Wants memory.
-pub fn without_bad(alloc: Global, bad: &Bad, field: &Field) -> Result<Field, AllocError>
+pub fn without_bad(alloc: Global, bad: &DefectMarks, field: &Field) -> Result<Field, AllocError>
     requires stuck { length bad.now.stuck ≡ length field.now.crosses }
     requires unfit { length bad.now.unfit ≡ length field.now.wires }
     requires unclear { length bad.now.unclear ≡ length field.now.wires }

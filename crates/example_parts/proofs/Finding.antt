@@ -13,7 +13,7 @@ use Rattle.diag_tests.specs.Routes.{Walk}
 use Rattle.diag_evidence.specs.Kept.{Kept, IsMore, Advances}
 use Rattle.diag_evidence.proofs.Keeping.{holds_earlier, more_then}
 use Rattle.diag_known.specs.Known.{KnownWires, IsKnown}
-use Rattle.diag_known.specs.declared.step.Step.{Step}
+use Rattle.diag_known.specs.declared.verified_wire.VerifiedWire.{VerifiedWire}
 use Rattle.diag_published.specs.Held.{Findings, IsHeld, IsHeldTrunk, FullIf, IsLater}
 use Rattle.diag_published.proofs.Staying.{held_later, full_later}
 use Rattle.example_parts.specs.Found.{IsFoundAt, AreFound}
@@ -21,11 +21,11 @@ use Rattle.example_parts.specs.Found.{IsFoundAt, AreFound}
 -- nothing is known and found at first
 pub none_found : (told : Option Faults) (k : Kept) (known : KnownWires) (found : List Findings) → known.shape ≡ k.shape → known.steps ≡ [] → found ≡ [] → AreFound told k known found
 none_found told k known found shape none empty = record {
-  known = record { shape = shape; steps = λ i s here. absurd (at_none i s (subst (λ (ss : List Step). slice_get ss i ≡ Some s) none here)) };
+  known = record { shape = shape; steps = λ i s here. absurd (at_none i s (subst (λ (ss : List VerifiedWire). slice_get ss i ≡ Some s) none here)) };
   each = λ n d below. absurd (let e = ap (λ (ts : List Findings). length ts) empty in let no : ⊥ = omega (arith, below, e) in no);
 }
   where
-    at_none : (i : ℕ) (s : Step) → slice_get [] i ≡ Some s → ⊥
+    at_none : (i : ℕ) (s : VerifiedWire) → slice_get [] i ≡ Some s → ⊥
     at_none i s e = cc
 
 -- those found stay as more is kept and known

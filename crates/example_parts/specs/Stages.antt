@@ -7,6 +7,6 @@ use Rattle.example_parts.specs.declared.machines.picture.Stage.{Stage}
 
 -- it is of this machine, what is known is known by what is kept, and there is a mark for each part
 pub record IsStageOf (m : Shape) (s : Stage) : Type 0 where
-  pub shape : s.proof.shape ≡ m
-  pub known : IsKnown s.proof s.known
+  pub shape : s.facts.shape ≡ m
+  pub known : IsKnown s.facts s.known
   pub marks : AreMarksFor m s.bad

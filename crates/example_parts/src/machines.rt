@@ -4,21 +4,21 @@
 //! Each group of machines has faults of its own kinds; a line tells how many of it are right, and lines before it what is wrong with
 //! the others.
 
+mod budget;
 mod calls;
 mod choices;
 mod closed;
 mod counts;
-mod facts;
 mod faults;
 mod feet;
 mod fields;
 mod flags;
 mod groups;
 mod judge;
+mod kept_facts;
 mod looks;
 mod marks;
 mod picture;
-mod purse;
 mod seating;
 mod shorts;
 mod sight;

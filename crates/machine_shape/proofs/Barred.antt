@@ -4,7 +4,7 @@ use Rattle.std.proofs.Math.Logic.{⊎_elim}
 use Rattle.std.proofs.lemmas.Bool.{cases_lt, lt-ltb, le-ltb, cond-true, cond-false}
 use Rattle.std.proofs.lemmas.Nat.{div-mul-add, mod-mul-add, div-add-mod', div_below, mod_below, row_fits}
 use Rattle.machine_shape.specs.declared.Shape.{Shape}
-use Rattle.machine_shape.specs.declared.way.Bar.{Bar}
+use Rattle.machine_shape.specs.declared.way.Crossbar.{Crossbar}
 use Rattle.machine_shape.specs.Counts.{AreFull}
 use Rattle.machine_shape.specs.Bars.{IsBarAt, IsBarFrom, IsNodeBar, FitsBelow, tap_by}
 use Rattle.machine_shape.specs.Walk.{Levels, Path, rest, IsSpot, stop, step, size, start, next, children_in, ports_in, lines_in, wires_in, taps_in, nodes_in, tap_in}
@@ -31,7 +31,7 @@ taps-next : (ls : Levels) → 0 < children_in ls → taps_in ls ≡ ports_in ls 
 taps-next [] h = absurd (omega arith)
 taps-next (l ∷ ls) h = refl
 
-pub fits_bar : (ls : Levels) (p : Path) (b : Bar) (most : ℕ) → most ≡ size wires_in ls → IsSpot ls p → IsBarAt ls p b → FitsBelow b most
+pub fits_bar : (ls : Levels) (p : Path) (b : Crossbar) (most : ℕ) → most ≡ size wires_in ls → IsSpot ls p → IsBarAt ls p b → FitsBelow b most
 fits_bar ls p b most e s is =
     let a = all_below s in
     let n = size-next (rest ls p) in
@@ -50,11 +50,11 @@ pub full_rest : {ls : Levels} {p : Path} → IsSpot ls p → AreFull ls → AreF
 full_rest stop f = f
 full_rest (step h s) f = full_rest s (λ k d b. f (suc k) d (omega arith))
 
-pub bar_at : (ls below : Levels) (p : Path) (first : ℕ) (b : Bar) → IsSpot ls p → below ≡ drop (length p) ls → first ≡ start wires_in ls p → IsBarFrom below first b → IsBarAt ls p b
+pub bar_at : (ls below : Levels) (p : Path) (first : ℕ) (b : Crossbar) → IsSpot ls p → below ≡ drop (length p) ls → first ≡ start wires_in ls p → IsBarFrom below first b → IsBarAt ls p b
 bar_at ls below p first b s e f is = subst (λ k. IsBarFrom k (start wires_in ls p) b) (e ∙ sym (rest-drop s)) (subst (λ k. IsBarFrom below k b) f is)
 
 -- the taps of a bar, from their positions and back
-module _ (b : Bar) where
+module _ (b : Crossbar) where
   tap_by-own : (a : ℕ) → a < b.ports → tap_by b a ≡ b.first + a
   tap_by-own a h = cond-true (ltb a b.ports) _ _ (lt-ltb a b.ports h)
 
@@ -109,7 +109,7 @@ has_level : (ls : Levels) → 0 < nodes_in ls → (taps_in ls ≡ ports_in ls + 
 has_level [] h = absurd (omega arith)
 has_level (l ∷ ls) h = (refl, λ f. (f 0 l (omega arith)).1)
 
-module _ (m : Shape) (n : ℕ) (b : Bar) (h : n < nodes_of m) (is : IsBarAt (levels_of m) (way_to m n) b) where
+module _ (m : Shape) (n : ℕ) (b : Crossbar) (h : n < nodes_of m) (is : IsBarAt (levels_of m) (way_to m n) b) where
   bar-lines : b.lines ≡ lines_of m n
   unfolding lines_of
   bar-lines = is.lines

@@ -6,8 +6,8 @@ use Rattle.machine_shape.specs.declared.Counts.{Counts}
 use Rattle.machine_shape.specs.declared.Level.{Level}
 use Rattle.machine_shape.specs.declared.Field.{Field}
 use Rattle.machine_shape.specs.declared.Field.TheVariants.{Modules, Chips, Hextants, Tables, Ports, Lines, Pins}
-use Rattle.machine_shape.specs.declared.Which.{Which}
-use Rattle.machine_shape.specs.declared.Which.TheVariants as which
+use Rattle.machine_shape.specs.declared.LimitedCount.{LimitedCount}
+use Rattle.machine_shape.specs.declared.LimitedCount.TheVariants as which
 use Rattle.machine_shape.specs.Counts.{levels_from, AreFull, IsFull}
 use Rattle.machine_shape.specs.Limits.{HasZero, amount_of, most_of}
 use Rattle.machine_shape.specs.Walk.{Levels, size, wires_in, nodes_in, crosses_in, tables_in}
@@ -51,7 +51,7 @@ no_zero c p l full Lines e = no_line e.0 e.1 e.2
     no_line (suc (suc (suc (suc k)))) b e = omega arith
 no_zero c p l full Pins e = let f = (full 0 nth (omega arith)).0 in omega arith
 
-pub all_within : (c : Counts) → size tables_in (levels_from c) ≤ 4096 → size wires_in (levels_from c) ≤ 16384 → size crosses_in (levels_from c) ≤ 4194304 → (which : Which) → amount_of c which ≤ most_of which
+pub all_within : (c : Counts) → size tables_in (levels_from c) ≤ 4096 → size wires_in (levels_from c) ≤ 16384 → size crosses_in (levels_from c) ≤ 4194304 → (which : LimitedCount) → amount_of c which ≤ most_of which
 all_within c t w x which.Tables = t
 all_within c t w x which.Wires = w
 all_within c t w x which.Crosspoints = x

@@ -1,7 +1,7 @@
 -- A tap and a line that meet, as the code finds their crosspoint.
 use Rattle.std.proofs.Common.{◌≡◌, ℕ, ◌+◌, ◌*◌, ◌/◌, ◌%◌, ◌-◌, ◌<◌, ◌≤◌, [], ◌∷◌, refl, sym, ap, ◌∙◌, subst, arith}
 use Rattle.machine_shape.specs.declared.Shape.{Shape}
-use Rattle.machine_shape.specs.declared.way.Bar.{Bar}
+use Rattle.machine_shape.specs.declared.way.Crossbar.{Crossbar}
 use Rattle.machine_shape.specs.Counts.{AreFull}
 use Rattle.machine_shape.specs.Bars.{IsBarAt, IsNodeBar, FitsBelow, tap_by}
 use Rattle.machine_shape.specs.Walk.{Levels, rest, start, size, next, lines_in, wires_in, crosses_in}
@@ -21,7 +21,7 @@ step_some (l ∷ []) f = omega arith
 step_some (l ∷ k ∷ ls) f = let p = (f 1 k (omega arith)).0 in omega arith
 
 module _ (m : Shape) where
-  pub positive_step : (w : ℕ) (b : Bar) → w < wires_of m → IsBarAt (levels_of m) (place_of m w).path b → 0 < b.step
+  pub positive_step : (w : ℕ) (b : Crossbar) → w < wires_of m → IsBarAt (levels_of m) (place_of m w).path b → 0 < b.step
   positive_step w b h is = let s = step_some (rest (levels_of m) (place_of m w).path) (full_rest (wire_placed m w h).spot (full_of m)) in let e = is.step in omega arith
 
   cross-at : (n a b : ℕ) → cross_at m n a b ≡ start crosses_in (levels_of m) (way_to m n) + (a * lines_of m n + b)
@@ -29,7 +29,7 @@ module _ (m : Shape) where
   cross-at n a b = refl
 
   -- the crossbar of a crosspoint's node
-  pub cross_bar : (x : ℕ) (b : Bar) → x < crosses_of m → IsBarAt (levels_of m) (place_of_cross m x).path b → FitsBelow b (wires_of m) → IsNodeBar m (node_of_cross m x) b
+  pub cross_bar : (x : ℕ) (b : Crossbar) → x < crosses_of m → IsBarAt (levels_of m) (place_of_cross m x).path b → FitsBelow b (wires_of m) → IsNodeBar m (node_of_cross m x) b
   cross_bar x b h is fits = let r = node_is m x h in bar_is m (node_of_cross m x) b r.0 (subst (λ p. IsBarAt (levels_of m) p b) (sym r.1) is) fits
 
   pub tap_position-is : (x : ℕ) → tap_position m x ≡ (place_of_cross m x).position / lines_of m (node_of_cross m x)
@@ -41,7 +41,7 @@ module _ (m : Shape) where
   line_position-is x = refl
 
   -- the ends by the crossbar and the position
-  pub record EndsFound (x : ℕ) (b : Bar) (position : ℕ) : Type 0 where
+  pub record EndsFound (x : ℕ) (b : Crossbar) (position : ℕ) : Type 0 where
     pub inside : position / b.lines < b.ports + b.children * b.each
     pub short : position % b.lines < b.lines
     pub tap : tap_by b (position / b.lines) ≡ (ends_of m x).0
@@ -49,7 +49,7 @@ module _ (m : Shape) where
     pub tap_below : (ends_of m x).0 < wires_of m
     pub line_below : (ends_of m x).1 < wires_of m
 
-  pub ends_found : (x : ℕ) (b : Bar) (position : ℕ) → x < crosses_of m → IsNodeBar m (node_of_cross m x) b → position ≡ (place_of_cross m x).position → EndsFound x b position
+  pub ends_found : (x : ℕ) (b : Crossbar) (position : ℕ) → x < crosses_of m → IsNodeBar m (node_of_cross m x) b → position ≡ (place_of_cross m x).position → EndsFound x b position
   ends_found x b position h bar e =
       let c = crossed m x h in
       let tap : position / b.lines ≡ tap_position m x = ap (λ k. k / b.lines) e ∙ ap (λ k. (place_of_cross m x).position / k) bar.lines ∙ sym (tap_position-is x) in
@@ -69,7 +69,7 @@ module _ (m : Shape) where
   place_of-line w n k e hn hk = ap (place_of m) (sym e) ∙ (place_from wires_in (line_is m n k hn hk)).1
 
   -- what is no port at its place there, and no table's pin, is a line
-  module _ (w : ℕ) (b : Bar) (h : w < wires_of m) (is : IsBarAt (levels_of m) (place_of m w).path b) (fits : FitsBelow b (wires_of m)) where
+  module _ (w : ℕ) (b : Crossbar) (h : w < wires_of m) (is : IsBarAt (levels_of m) (place_of m w).path b) (fits : FitsBelow b (wires_of m)) where
     line_here : b.ports ≤ (place_of m w).position → (place_of m w).position < b.ports + lines_in (rest (levels_of m) (place_of m w).path)
     line_here p = let r = (wire_placed m w h).within in let e = is.ports in omega arith
 

@@ -4,7 +4,7 @@ use Rattle.std.specs.Prelude.{slice_index_or}
 use Rattle.std.proofs.lemmas.Nat.{div-mul-add, mod-mul-add, div_below, mod_below, row_fits}
 use Rattle.machine_shape.specs.declared.Level.{Level}
 use Rattle.machine_shape.specs.declared.Shape.{Shape}
-use Rattle.machine_shape.specs.declared.way.Bar.{Bar}
+use Rattle.machine_shape.specs.declared.way.Crossbar.{Crossbar}
 use Rattle.machine_shape.specs.declared.way.Kind.{Kind}
 use Rattle.machine_shape.specs.declared.way.Weight.{Weight}
 use Rattle.machine_shape.specs.declared.way.Weights.{Weights}
@@ -23,7 +23,7 @@ pub times_are : (n k i r : ℕ) → r < k → n ≡ i * k + r → (i ≡ n / k) 
 times_are n k i r h e = (sym (ap (λ y. y / k) e ∙ div-mul-add i k r h), sym (ap (λ y. y % k) e ∙ mod-mul-add i k r h))
 
 -- the wires of the children before one of them
-pub child_small : (b : Bar) (a child most : ℕ) → FitsBelow b most → b.ports ≤ a → a < b.ports + b.children * b.each → child ≡ (a - b.ports) / b.each → child * b.step ≤ most
+pub child_small : (b : Crossbar) (a child most : ℕ) → FitsBelow b most → b.ports ≤ a → a < b.ports + b.children * b.each → child ≡ (a - b.ports) / b.each → child * b.step ≤ most
 child_small b a child most f h w e =
     let y : ℕ = a - b.ports in
     let inside : y < b.children * b.each = omega arith in

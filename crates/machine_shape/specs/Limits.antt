@@ -3,8 +3,8 @@ use Rattle.std.specs.Prelude.{◌≡◌, ℕ, ◌<◌, ◌≤◌, Contains}
 use Rattle.machine_shape.specs.declared.Counts.{Counts}
 use Rattle.machine_shape.specs.declared.Field.{Field}
 use Rattle.machine_shape.specs.declared.Field.TheVariants.{Modules, Chips, Hextants, Tables, Ports, Lines, Pins}
-use Rattle.machine_shape.specs.declared.Which.{Which}
-use Rattle.machine_shape.specs.declared.Which.TheVariants as which
+use Rattle.machine_shape.specs.declared.LimitedCount.{LimitedCount}
+use Rattle.machine_shape.specs.declared.LimitedCount.TheVariants as which
 use Rattle.machine_shape.specs.declared.ShapeFault.{ShapeFault}
 use Rattle.machine_shape.specs.declared.ShapeFault.TheVariants.{Zero, Limit}
 use Rattle.machine_shape.specs.Counts.{levels_from, IsFull}
@@ -35,26 +35,26 @@ pub record IsFirstZero (c : Counts) (field : Field) : Type 0 where
   pub first : (other : Field) → place_of_field other < place_of_field field → ¬ HasZero c other
 
 -- how many a machine of these counts has
-abbrev pub amount_of : Counts → Which → ℕ
+abbrev pub amount_of : Counts → LimitedCount → ℕ
 amount_of c which.Tables = size tables_in (levels_from c)
 amount_of c which.Wires = size wires_in (levels_from c)
 amount_of c which.Crosspoints = size crosses_in (levels_from c)
 
 -- and how many it may have
-abbrev pub most_of : Which → ℕ
+abbrev pub most_of : LimitedCount → ℕ
 most_of which.Tables = 4096
 most_of which.Wires = 16384
 most_of which.Crosspoints = 4194304
 
 -- the order of the limits
-abbrev pub place_of_limit : Which → ℕ
+abbrev pub place_of_limit : LimitedCount → ℕ
 place_of_limit which.Tables = 0
 place_of_limit which.Wires = 1
 place_of_limit which.Crosspoints = 2
 
-pub record IsFirstPassed (c : Counts) (which : Which) : Type 0 where
+pub record IsFirstPassed (c : Counts) (which : LimitedCount) : Type 0 where
   pub passed : most_of which < amount_of c which
-  pub first : (other : Which) → place_of_limit other < place_of_limit which → amount_of c other ≤ most_of other
+  pub first : (other : LimitedCount) → place_of_limit other < place_of_limit which → amount_of c other ≤ most_of other
 
 -- the counts make no shape, for this reason
 abbrev pub IsShapeFault : Counts → ShapeFault → Type 0
@@ -64,4 +64,4 @@ IsShapeFault c (Limit which value) = IsFull c × IsFirstPassed c which × (value
 -- the counts make a shape
 pub record MakeShape (c : Counts) : Type 0 where
   pub full : (field : Field) → ¬ HasZero c field
-  pub within : (which : Which) → amount_of c which ≤ most_of which
+  pub within : (which : LimitedCount) → amount_of c which ≤ most_of which

@@ -6,16 +6,16 @@ ghost use Rattle.machine_shape.specs.Walk.{IsSpot, next, size, wires_in};
 
 use crate::places::levels_of;
 use crate::tree::{below, divided, each_at, ports_below, start_of, weights_of};
-use crate::way::{Bar, Kind};
+use crate::way::{Crossbar, Kind};
 use crate::{Level, Shape};
 
 /// The crossbar of a node by the levels from it on, its first wire, and how many wires each child has.
-fn bar_from(levels: &[Level], first: u32, step: u32) -> Bar
+fn bar_from(levels: &[Level], first: u32, step: u32) -> Crossbar
     requires { step ≡ size wires_in (next levels.now) }
     ensures { IsBarFrom levels.now first result }
 {
     match levels {
-        [] => Bar {
+        [] => Crossbar {
             first,
             ports: 7,
             lines: 0,
@@ -23,7 +23,7 @@ fn bar_from(levels: &[Level], first: u32, step: u32) -> Bar
             each: 7,
             step,
         },
-        [level, rest @ ..] => Bar {
+        [level, rest @ ..] => Crossbar {
             first,
             ports: level.ports,
             lines: level.lines,
@@ -35,7 +35,7 @@ fn bar_from(levels: &[Level], first: u32, step: u32) -> Bar
 }
 
 /// The crossbar of the node at the end of a way.
-pub fn bar_of(shape: Shape, way: &[u32]) -> Bar
+pub fn bar_of(shape: Shape, way: &[u32]) -> Crossbar
     requires { IsSpot (levels_of shape) way.now }
     ensures bar { IsBarAt (levels_of shape) way.now result }
     ensures fits { FitsBelow result (wires_of shape) }
@@ -51,7 +51,7 @@ pub fn bar_of(shape: Shape, way: &[u32]) -> Bar
 }
 
 /// The wire of the tap at a position.
-pub fn tap_at(bar: Bar, position: u32) -> u32
+pub fn tap_at(bar: Crossbar, position: u32) -> u32
     requires within { position < bar.ports + bar.children * bar.each }
     requires fits { FitsBelow bar 16384 }
     ensures { result ≡ tap_by bar position }
@@ -65,7 +65,7 @@ pub fn tap_at(bar: Bar, position: u32) -> u32
 }
 
 /// The position of the tap that is a child's port, as many wires beyond the node's own.
-fn child_port(bar: Bar, further: u32) -> Option<u32>
+fn child_port(bar: Crossbar, further: u32) -> Option<u32>
     requires fits { FitsBelow bar 16384 }
     requires step { 0 < bar.step }
     ensures found { IfSome result (λ a. (bar.ports ≤ a) × (a < bar.ports + bar.children * bar.each)
@@ -82,7 +82,7 @@ fn child_port(bar: Bar, further: u32) -> Option<u32>
 }
 
 /// The position of the tap that is a wire, if it is a tap.
-pub fn position_of(bar: Bar, wire: u32) -> Option<u32>
+pub fn position_of(bar: Crossbar, wire: u32) -> Option<u32>
     requires fits { FitsBelow bar 16384 }
     requires step { 0 < bar.step }
     ensures found { IfSome result (λ a. (a < bar.ports + bar.children * bar.each) × (tap_by bar a ≡ wire)) }

@@ -6,11 +6,11 @@ ghost use Rattle.machine_shape.specs.Walk.{crosses_in, start};
 
 use crate::bars::{bar_of, position_of, tap_at};
 use crate::places::{cross_place, first_cross, steps_of, wire_place};
-use crate::way::Bar;
+use crate::way::Crossbar;
 use crate::{Cross, Shape, Wire};
 
 /// The crossbar of a crosspoint, and the crosspoint's position among those of the crossbar.
-fn crossing_of(shape: Shape, cross: u32) -> (Bar, u32)
+fn crossing_of(shape: Shape, cross: u32) -> (Crossbar, u32)
     requires { cross < crosses_of shape }
     ensures bar { IsNodeBar shape (node_of_cross shape cross) result.0 }
     ensures position { result.1 ≡ (place_of_cross shape cross).position }
@@ -21,7 +21,7 @@ fn crossing_of(shape: Shape, cross: u32) -> (Bar, u32)
 
 /// The crossbar of the node that a wire is a pin, port or line of, its first crosspoint, and the wire's
 /// position there. A table is taken for a node without lines.
-fn line_site(shape: Shape, wire: u32) -> (Bar, u32, u32)
+fn line_site(shape: Shape, wire: u32) -> (Crossbar, u32, u32)
     requires { wire < wires_of shape }
     ensures bar { IsBarAt (levels_of shape) (place_of shape wire).path result.0 }
     ensures fits { FitsBelow result.0 (wires_of shape) }

@@ -116,7 +116,7 @@ pub enum Field {
 
 /// What a machine may have only so many of.
 #[derive(Clone, Copy, Debug, PartialEq, Eq)]
-pub enum Which {
+pub enum LimitedCount {
     Tables,
     Wires,
     Crosspoints,
@@ -129,5 +129,5 @@ pub enum ShapeFault {
     Zero { field: Field },
     /// No count is 0, and this is the first limit that is passed: 4,096 tables, 16,384 wires, or 4,194,304
     /// crosspoints. The value is how many there would be.
-    Limit { which: Which, value: u128 },
+    Limit { which: LimitedCount, value: u128 },
 }

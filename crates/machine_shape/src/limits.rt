@@ -5,7 +5,7 @@ ghost use Rattle.machine_shape.specs.Limits.{HasZero, IsShapeFault, IsFirstZero,
 ghost use Rattle.machine_shape.specs.Walk.{size, wires_in, crosses_in, tables_in};
 ghost use Rattle.machine_shape.specs.declared.Field.{Field};
 
-use crate::{Counts, Field, Shape, ShapeFault, Which};
+use crate::{Counts, Field, LimitedCount, Shape, ShapeFault};
 
 /// The first field with a count of 0.
 fn first_zero(counts: Counts) -> Option<Field>
@@ -105,21 +105,21 @@ fn first_passed(counts: Counts) -> Option<ShapeFault>
     let tables = tables_from(counts);
     if tables > 4096 {
         return Some(ShapeFault::Limit {
-            which: Which::Tables,
+            which: LimitedCount::Tables,
             value: tables,
         });
     }
     let wires = wires_from(counts);
     if wires > 16384 {
         return Some(ShapeFault::Limit {
-            which: Which::Wires,
+            which: LimitedCount::Wires,
             value: wires,
         });
     }
     let crosses = crosses_from(counts);
     if crosses > 4194304 {
         return Some(ShapeFault::Limit {
-            which: Which::Crosspoints,
+            which: LimitedCount::Crosspoints,
             value: crosses,
         });
     }

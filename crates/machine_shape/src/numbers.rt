@@ -10,11 +10,11 @@ use crate::places::{
     above_of, cross_place, first_cross, first_wire, node_number, node_way, steps_of, table_way,
     total, trunk_of, wire_place,
 };
-use crate::way::{Bar, Kind};
+use crate::way::{Crossbar, Kind};
 use crate::{Cross, Node, Shape, Table, Wire};
 
 /// The crossbar of a node.
-fn node_bar(shape: Shape, node: u32) -> Bar
+fn node_bar(shape: Shape, node: u32) -> Crossbar
     requires { node < nodes_of shape }
     ensures { IsNodeBar shape node result }
 {

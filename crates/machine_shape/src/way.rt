@@ -44,7 +44,7 @@ pub struct Weights {
 /// A node's crossbar: its first wire, its ports and lines, how many children it has, how many ports each of
 /// them has, and how many wires with all below it.
 #[derive(Clone, Copy)]
-pub struct Bar {
+pub struct Crossbar {
     pub first: u32,
     pub ports: u32,
     pub lines: u32,

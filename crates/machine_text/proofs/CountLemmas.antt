@@ -22,8 +22,8 @@ use Rattle.machine_text.specs.Reading.{value_of, is_count, counts_fault, is_full
 use Rattle.machine_shape.specs.declared.Counts.{Counts}
 use Rattle.machine_shape.specs.declared.Field.{Field}
 use Rattle.machine_shape.specs.declared.Field.TheVariants as field
-use Rattle.machine_shape.specs.declared.Which.{Which}
-use Rattle.machine_shape.specs.declared.Which.TheVariants as which
+use Rattle.machine_shape.specs.declared.LimitedCount.{LimitedCount}
+use Rattle.machine_shape.specs.declared.LimitedCount.TheVariants as which
 use Rattle.machine_shape.specs.declared.ShapeFault.{ShapeFault}
 use Rattle.machine_shape.specs.declared.ShapeFault.TheVariants.{Zero, Limit}
 use Rattle.machine_shape.specs.Limits.{HasZero, IsShapeFault, MakeShape, amount_of, most_of}
@@ -161,16 +161,16 @@ module _ (c : Counts) where
   pub made : is_shape c ≡ true → MakeShape c
   made e = record { full = no_zero (shapely e); within = λ kind. below (shapely e) kind }
     where
-      below : Shapely c → (kind : Which) → amount_of c kind ≤ most_of kind
+      below : Shapely c → (kind : LimitedCount) → amount_of c kind ≤ most_of kind
       below s which.Tables = let lt = s.tables in omega (arith, lt)
       below s which.Wires = let lt = s.wires in omega (arith, lt)
       below s which.Crosspoints = let lt = s.crosses in omega (arith, lt)
 
   -- where no count is 0, counts that make no shape pass a limit
-  pub passed : All (λ n. 0 < n) singles → All (λ n. 0 < n) c.ports → All (λ n. 0 < n) c.lines → is_shape c ≡ false → (kind : Which) × (most_of kind < amount_of c kind)
+  pub passed : All (λ n. 0 < n) singles → All (λ n. 0 < n) c.ports → All (λ n. 0 < n) c.lines → is_shape c ≡ false → (kind : LimitedCount) × (most_of kind < amount_of c kind)
   passed single ports lines unshaped = by (dec_lt (amount_of c which.Tables) 4097) (dec_lt (amount_of c which.Wires) 16385) (dec_lt (amount_of c which.Crosspoints) 4194305)
     where
-      by : Dec (amount_of c which.Tables < 4097) → Dec (amount_of c which.Wires < 16385) → Dec (amount_of c which.Crosspoints < 4194305) → (kind : Which) × (most_of kind < amount_of c kind)
+      by : Dec (amount_of c which.Tables < 4097) → Dec (amount_of c which.Wires < 16385) → Dec (amount_of c which.Crosspoints < 4194305) → (kind : LimitedCount) × (most_of kind < amount_of c kind)
       by (no t) w x = (which.Tables, omega (arith, t))
       by (yes t) (no w) x = (which.Wires, omega (arith, w))
       by (yes t) (yes w) (no x) = (which.Crosspoints, omega (arith, x))

@@ -4,7 +4,7 @@ use Rattle.std.specs.Fmt.{decimal}
 use Rattle.std.specs.List.{AllByRecursion}
 use Rattle.machine_shape.specs.declared.Counts.{Counts}
 use Rattle.machine_shape.specs.declared.Shape.{Shape}
-use Rattle.machine_shape.specs.declared.Which.{Which}
+use Rattle.machine_shape.specs.declared.LimitedCount.{LimitedCount}
 use Rattle.machine_shape.specs.Limits.{MakeShape, amount_of, most_of}
 use Rattle.base_text.specs.Lines.{LogicalLine, logical_lines, is_bad_line}
 use Rattle.base_text.specs.Size.{most_bytes}
@@ -33,7 +33,7 @@ pub record AreFirstLines (c : Counts) (lines : List LogicalLine) : Type 0 where
 
 -- it has too many tables, wires or crosspoints
 abbrev pub PassesLimit : Counts → Type 0
-PassesLimit c = (which : Which) × (most_of which < amount_of c which)
+PassesLimit c = (which : LimitedCount) × (most_of which < amount_of c which)
 
 -- what is wrong with the words behind the first word of a line of this kind
 pub data IsRestFault (c : Counts) : Head → List (List ℕ) → MachineKind → Type 0 where

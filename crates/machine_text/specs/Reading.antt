@@ -6,7 +6,7 @@ use Rattle.std.specs.List.{list_all}
 use Rattle.std.specs.Str.{bytes_eq}
 use Rattle.std.specs.Fmt.{decimal}
 use Rattle.machine_shape.specs.declared.Counts.{Counts}
-use Rattle.machine_shape.specs.declared.Which.TheVariants.{Tables, Wires, Crosspoints}
+use Rattle.machine_shape.specs.declared.LimitedCount.TheVariants.{Tables, Wires, Crosspoints}
 use Rattle.machine_shape.specs.Limits.{amount_of}
 use Rattle.base_text.specs.Lines.{LogicalLine, is_bad_line}
 use Rattle.base_text.specs.Number.{read_on}

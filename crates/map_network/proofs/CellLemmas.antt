@@ -9,7 +9,7 @@ use Rattle.std.proofs.lemmas.List.{drop_more, drop_all, ext_get_or, length-map, 
 use Rattle.std.proofs.lemmas.List.FromFn.{get_or-map-range_with_len, length-map-range_with_len}
 use Rattle.std.proofs.lemmas.Bool.Decides.{nat_tests}
 use Rattle.std.proofs.Math.Bool.{and_assoc, and-true, or_assoc, or-false}
-use Rattle.design_netlist.specs.declared.draft.Lit.{Lit}
+use Rattle.design_netlist.specs.declared.netlist_data.Lit.{Lit}
 use Rattle.design_netlist.specs.Covers.{fits, matches, some_matches}
 use Rattle.design_netlist.proofs.BitLemmas.{halved, lowest, two_bits}
 use Rattle.design_netlist.proofs.LaneLemmas.{and-bit, or-bit}

@@ -4,8 +4,8 @@ use Rattle.std.specs.Prelude.{All, not, ◌==◌}
 use Rattle.std.proofs.lemmas.List.{append_assoc, append-nil, length-append, length-map, drop_more, drop_all, get_or-map, get_or_default}
 use Rattle.std.proofs.lemmas.List.Elements.{All-filter}
 use Rattle.std.proofs.lemmas.List.Sums.{sum_by-drop_more, sum_by_more}
-use Rattle.design_netlist.specs.declared.draft.Cover.{Cover}
-use Rattle.design_netlist.specs.declared.draft.Lit.{Lit}
+use Rattle.design_netlist.specs.declared.netlist_data.Cover.{Cover}
+use Rattle.design_netlist.specs.declared.netlist_data.Lit.{Lit}
 use Rattle.map_network.specs.declared.source.Source.{Source}
 use Rattle.map_network.specs.declared.want.Want.{Want}
 use Rattle.map_network.specs.declared.want.Gate.TheVariants as gate

@@ -5,10 +5,10 @@ use Rattle.std.specs.List.{range_with_len}
 use Rattle.std.proofs.lemmas.Bool.{cases_lt, cases_eq}
 use Rattle.std.proofs.lemmas.List.{length-append, length-map, length-set, length-replicate, get_or-replicate, get_or_past, map-append, get_or-map}
 use Rattle.std.proofs.lemmas.List.Sums.{sum_by-cons}
-use Rattle.design_netlist.specs.declared.draft.Cover.{Cover}
-use Rattle.design_netlist.specs.declared.draft.Draft.{Draft}
-use Rattle.design_netlist.specs.declared.draft.LatchDef.{LatchDef}
-use Rattle.design_netlist.specs.declared.draft.PortDef.{PortDef}
+use Rattle.design_netlist.specs.declared.netlist_data.Cover.{Cover}
+use Rattle.design_netlist.specs.declared.netlist_data.NetlistData.{NetlistData}
+use Rattle.design_netlist.specs.declared.netlist_data.LatchDef.{LatchDef}
+use Rattle.design_netlist.specs.declared.netlist_data.PortDef.{PortDef}
 use Rattle.design_netlist.specs.Covers.{cover_at}
 use Rattle.design_netlist.specs.Drafts.{word, signal_at, cover_drive, latch_drive, drive_words, cover_characters}
 use Rattle.design_netlist.specs.Checks.{IsChecked}
@@ -100,7 +100,7 @@ latch_sources : (first : ℕ) (ls : List LatchDef) → source_list (latch_drives
 latch_sources first [] = refl
 latch_sources first (l ∷ ls) = ap (λ xs. Table first ∷ xs) (latch_sources (first + 1) ls)
 
-pub signals_are : (d : Draft) → signals_in (all_drives d) ≡ map (λ (p : PortDef). p.signal) (drive_words d)
+pub signals_are : (d : NetlistData) → signals_in (all_drives d) ≡ map (λ (p : PortDef). p.signal) (drive_words d)
 signals_are d =
     map-append (λ (x : Drive). x.signal) (input_drives 0 d.inputs ++ cover_drives 0 d.covers) (latch_drives (sum_by cover_size d.covers) d.latches)
     ∙ ap (λ xs. xs ++ signals_in (latch_drives (sum_by cover_size d.covers) d.latches)) (map-append (λ (x : Drive). x.signal) (input_drives 0 d.inputs) (cover_drives 0 d.covers))
@@ -110,7 +110,7 @@ signals_are d =
     ∙ ap (λ xs. xs ++ map (λ (p : PortDef). p.signal) (map latch_drive d.latches)) (sym (map-append (λ (p : PortDef). p.signal) d.inputs (map cover_drive d.covers)))
     ∙ sym (map-append (λ (p : PortDef). p.signal) (d.inputs ++ map cover_drive d.covers) (map latch_drive d.latches))
 
-pub sources_are : (d : Draft) → source_list (all_drives d) ≡ sources_of d
+pub sources_are : (d : NetlistData) → source_list (all_drives d) ≡ sources_of d
 unfolding sources_of
 sources_are d =
     map-append (λ (x : Drive). x.source) (input_drives 0 d.inputs ++ cover_drives 0 d.covers) (latch_drives (sum_by cover_size d.covers) d.latches)
@@ -129,10 +129,10 @@ among_is (w ∷ ws) (x ∷ ds) s e =
     let rest : map (λ (p : PortDef). p.signal) ws ≡ signals_in ds = ap (λ xs. drop 1 xs) e in
     ap (λ n. if n == s then x.source else source_among ws (source_list ds) s) head ∙ ap (λ y. if x.signal == s then x.source else y) (among_is ws ds s rest)
 
-pub source_is : (d : Draft) (s : ℕ) → source_of d s ≡ pick (all_drives d) s (Input 0)
+pub source_is : (d : NetlistData) (s : ℕ) → source_of d s ≡ pick (all_drives d) s (Input 0)
 source_is d s = ap (λ xs. source_among (drive_words d) xs s) (sym (sources_are d)) ∙ among_is (drive_words d) (all_drives d) s (sym (signals_are d))
 
-module _ (d : Draft) (is : IsChecked d) where
+module _ (d : NetlistData) (is : IsChecked d) where
   pub signal_here : (k : ℕ) → k < length (drive_words d) → get_or (signals_in (all_drives d)) k 0 ≡ signal_at (drive_words d) k
   signal_here k lk = ap (λ xs. get_or xs k 0) (signals_are d) ∙ get_or-map (λ (p : PortDef). p.signal) (drive_words d) k (word 0 0) 0 lk
 

@@ -6,8 +6,8 @@ use Rattle.std.proofs.lemmas.Bool.{cases_eq, lt-ltb}
 use Rattle.std.proofs.lemmas.List.{append_assoc, append-nil, drop_more, drop_all, take_more, take-append-drop, length_push}
 use Rattle.std.proofs.lemmas.List.Elements.{filter-append}
 use Rattle.std.proofs.lemmas.List.Sums.{sum_by-cons, length-filter, count_by-le-length}
-use Rattle.design_netlist.specs.declared.draft.Lit.{Lit}
-use Rattle.design_netlist.specs.declared.draft.Lit.TheVariants.{Zero, One, Any}
+use Rattle.design_netlist.specs.declared.netlist_data.Lit.{Lit}
+use Rattle.design_netlist.specs.declared.netlist_data.Lit.TheVariants.{Zero, One, Any}
 use Rattle.design_netlist.specs.Drafts.{row_characters}
 use Rattle.map_network.specs.Plain.{distinct}
 use Rattle.map_network.specs.Cells.{is_among}

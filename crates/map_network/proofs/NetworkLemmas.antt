@@ -6,9 +6,9 @@ use Rattle.std.proofs.lemmas.Bool.{cases_lt}
 use Rattle.std.proofs.lemmas.List.{length-append, length-map, get_or-map, get_or_default, get_or_append_left, get_or-append-add}
 use Rattle.std.proofs.lemmas.List.Elements.{Contains-get_or}
 use Rattle.std.proofs.Math.Nat.{suc-mul}
-use Rattle.design_netlist.specs.declared.draft.Draft.{Draft}
-use Rattle.design_netlist.specs.declared.draft.LatchDef.{LatchDef}
-use Rattle.design_netlist.specs.declared.draft.PortDef.{PortDef}
+use Rattle.design_netlist.specs.declared.netlist_data.NetlistData.{NetlistData}
+use Rattle.design_netlist.specs.declared.netlist_data.LatchDef.{LatchDef}
+use Rattle.design_netlist.specs.declared.netlist_data.PortDef.{PortDef}
 use Rattle.design_netlist.specs.Covers.{cover_at, Reads}
 use Rattle.design_netlist.specs.Drafts.{word, signal_at, IsDriven}
 use Rattle.design_netlist.specs.Checks.{IsChecked}
@@ -32,7 +32,7 @@ times : (n m : ℕ) → 1 ≤ n → n * m ≡ (n - 1) * m + m
 times zero m h = absurd (omega arith)
 times (suc n) m h = let e : suc n - 1 ≡ n = omega arith in suc-mul n m ∙ ap (λ x. x * m + m) (sym e)
 
-module _ (d : Draft) (is : IsChecked d) where
+module _ (d : NetlistData) (is : IsChecked d) where
   pub tables_are : (plain_network d).tables ≡ covers_tables (source_of d) 0 d.covers ++ map (latch_table (source_of d)) d.latches
   unfolding plain_network
   tables_are = refl

@@ -7,9 +7,9 @@ use Rattle.std.proofs.lemmas.List.{length-append, length-map, get_or-map, get_or
 use Rattle.std.proofs.lemmas.List.FromFn.{get_or-map-range_with_len, length-map-range_with_len}
 use Rattle.std.proofs.lemmas.List.Sums.{sum_by-cons, sum_by_more, sum_by-take-le}
 use Rattle.std.proofs.lemmas.List.Elements.{Contains-append_left, Contains-append_right}
-use Rattle.design_netlist.specs.declared.draft.Cover.{Cover}
-use Rattle.design_netlist.specs.declared.draft.Draft.{Draft}
-use Rattle.design_netlist.specs.declared.draft.PortDef.{PortDef}
+use Rattle.design_netlist.specs.declared.netlist_data.Cover.{Cover}
+use Rattle.design_netlist.specs.declared.netlist_data.NetlistData.{NetlistData}
+use Rattle.design_netlist.specs.declared.netlist_data.PortDef.{PortDef}
 use Rattle.design_netlist.specs.Covers.{cover_at, no_cover}
 use Rattle.design_netlist.specs.Drafts.{word, word_at, signal_at, cover_drive, latch_drive, drive_words, cover_reads, latch_read, reads_of, IsDriven}
 use Rattle.design_netlist.specs.Checks.{IsChecked}
@@ -90,7 +90,7 @@ among_reads [] i k li lk = absurd (omega arith)
 among_reads (c ∷ cs) zero k li lk = Contains-append_left (cover_reads c) (flat_map cover_reads cs) (word c.line (slice_index_or c.ins k 0)) (k, omega (arith, length-map c.ins (word c.line)), get_or-map (word c.line) c.ins k 0 (word c.line (slice_index_or c.ins k 0)) lk)
 among_reads (c ∷ cs) (suc i) k li lk = Contains-append_right (cover_reads c) (flat_map cover_reads cs) (word (cover_at cs i).line (slice_index_or (cover_at cs i).ins k 0)) (among_reads cs i k (omega arith) lk)
 
-module _ (d : Draft) (is : IsChecked d) where
+module _ (d : NetlistData) (is : IsChecked d) where
   pub rows_are : AreAllRows d.covers
   rows_are i li = (is.made.covers i li).rows
 

@@ -1,8 +1,8 @@
 -- A network with tables put into their readers and left out.
 use Rattle.std.proofs.Common.{◌≡◌, Bool, ℕ, ◌<◌, List, Result, Ok, Err, IfOk, false, true, length, set, replicate, refl, sym, ap, subst, ◌∙◌, arith}
 use Rattle.std.proofs.lemmas.List.{length-map, length-replicate}
-use Rattle.design_netlist.specs.declared.draft.Draft.{Draft}
-use Rattle.design_netlist.specs.declared.draft.PortDef.{PortDef}
+use Rattle.design_netlist.specs.declared.netlist_data.NetlistData.{NetlistData}
+use Rattle.design_netlist.specs.declared.netlist_data.PortDef.{PortDef}
 use Rattle.map_network.specs.declared.network.NetTable.{NetTable}
 use Rattle.map_network.specs.declared.network.Network.{Network}
 use Rattle.map_network.specs.declared.merge.Found.{Found}
@@ -110,7 +110,7 @@ pub merged_on : (n m k : Network) → IsMergedOf n m → IsSmaller m k → IsMer
 merged_on n m k old next = record { same = same_then n m k old.same (reduced_same m k next.reduced); merged = next.merged n old.merged }
 
 -- from the plain network on
-module _ (d : Draft) where
+module _ (d : NetlistData) where
   plain_inputs : (plain_network d).inputs ≡ length d.inputs
   unfolding plain_network
   plain_inputs = refl

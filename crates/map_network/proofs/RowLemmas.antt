@@ -4,9 +4,9 @@ use Rattle.std.specs.Prelude.{if◌then◌else◌, slice_index_or, ◌==◌}
 use Rattle.std.proofs.lemmas.Bool.{cases_eq}
 use Rattle.std.specs.List.{All}
 use Rattle.std.proofs.lemmas.List.{get_or-map, ext_get_or, length-map}
-use Rattle.design_netlist.specs.declared.draft.Draft.{Draft}
-use Rattle.design_netlist.specs.declared.draft.LatchDef.{LatchDef}
-use Rattle.design_netlist.specs.declared.draft.PortDef.{PortDef}
+use Rattle.design_netlist.specs.declared.netlist_data.NetlistData.{NetlistData}
+use Rattle.design_netlist.specs.declared.netlist_data.LatchDef.{LatchDef}
+use Rattle.design_netlist.specs.declared.netlist_data.PortDef.{PortDef}
 use Rattle.design_netlist.specs.Covers as cover
 use Rattle.design_netlist.specs.Covers.{cover_at}
 use Rattle.design_netlist.specs.Drafts.{word, signal_at, drive_words, IsDriven}
@@ -44,7 +44,7 @@ among_place (x ∷ xs) s e = elim (cases_eq x s) [
   | inr d ↦ (let r = among_place xs s (sym (among_other x s xs d) ∙ e) in (suc r.0, omega (arith, r.1), r.2))
 ]
 
-module _ (d : Draft) (is : IsChecked d) where
+module _ (d : NetlistData) (is : IsChecked d) where
   is_driven : ℕ → Bool
   is_driven s = is_among (map (λ (w : PortDef). w.signal) (drive_words d)) s
 

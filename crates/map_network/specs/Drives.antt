@@ -1,9 +1,9 @@
 -- What gives the signals, word by word.
 use Rattle.std.specs.Prelude.{◌+◌, ◌-◌, ◌++◌, ℕ, List, [], ◌∷◌, sum_by, slice_set, slice_index_or}
-use Rattle.design_netlist.specs.declared.draft.Cover.{Cover}
-use Rattle.design_netlist.specs.declared.draft.Draft.{Draft}
-use Rattle.design_netlist.specs.declared.draft.LatchDef.{LatchDef}
-use Rattle.design_netlist.specs.declared.draft.PortDef.{PortDef}
+use Rattle.design_netlist.specs.declared.netlist_data.Cover.{Cover}
+use Rattle.design_netlist.specs.declared.netlist_data.NetlistData.{NetlistData}
+use Rattle.design_netlist.specs.declared.netlist_data.LatchDef.{LatchDef}
+use Rattle.design_netlist.specs.declared.netlist_data.PortDef.{PortDef}
 use Rattle.map_network.specs.declared.source.Source.{Source}
 use Rattle.map_network.specs.declared.source.Source.TheVariants.{Input, Table}
 use Rattle.map_network.specs.Plain.{cover_size}
@@ -25,7 +25,7 @@ abbrev pub latch_drives : ℕ → List LatchDef → List Drive
 latch_drives first [] = []
 latch_drives first (l ∷ ls) = record { signal = l.out; source = Table first } ∷ latch_drives (first + 1) ls
 
-abbrev pub all_drives : Draft → List Drive
+abbrev pub all_drives : NetlistData → List Drive
 all_drives d = input_drives 0 d.inputs ++ cover_drives 0 d.covers ++ latch_drives (sum_by cover_size d.covers) d.latches
 
 -- the list with these sources at these signals

@@ -2,12 +2,12 @@
 use Rattle.std.specs.Prelude.{◌≡◌, ◌+◌, ◌-◌, ◌/◌, ◌==◌, ◌++◌, ◌&&◌, ◌||◌, ℕ, zero, suc, List, [], ◌∷◌, Bool, true, false, not, nat_lt, map}
 use Rattle.std.specs.Prelude.{length, take, drop, sum_by, slice_index_or, if◌then◌else◌}
 use Rattle.std.specs.List.{range_with_len, filter}
-use Rattle.design_netlist.specs.declared.draft.Cover.{Cover}
-use Rattle.design_netlist.specs.declared.draft.Draft.{Draft}
-use Rattle.design_netlist.specs.declared.draft.LatchDef.{LatchDef}
-use Rattle.design_netlist.specs.declared.draft.PortDef.{PortDef}
-use Rattle.design_netlist.specs.declared.draft.Lit.{Lit}
-use Rattle.design_netlist.specs.declared.draft.Lit.TheVariants.{One, Any}
+use Rattle.design_netlist.specs.declared.netlist_data.Cover.{Cover}
+use Rattle.design_netlist.specs.declared.netlist_data.NetlistData.{NetlistData}
+use Rattle.design_netlist.specs.declared.netlist_data.LatchDef.{LatchDef}
+use Rattle.design_netlist.specs.declared.netlist_data.PortDef.{PortDef}
+use Rattle.design_netlist.specs.declared.netlist_data.Lit.{Lit}
+use Rattle.design_netlist.specs.declared.netlist_data.Lit.TheVariants.{One, Any}
 use Rattle.design_netlist.specs.Covers.{fits, truth}
 use Rattle.design_netlist.specs.Drafts.{drive_words}
 use Rattle.map_network.specs.declared.source.Source.{Source}
@@ -159,7 +159,7 @@ unfoldable pub latch_table : (ℕ → Source) → LatchDef → NetTable
 latch_table source l = record (gives (source l.from ∷ []) (λ pins. slice_index_or pins 0 true)) { latched = true; init = l.init }
 
 -- what gives each word that drives: an input of the network, the last table of a cover, the table of a latch
-unfoldable pub sources_of : Draft → List Source
+unfoldable pub sources_of : NetlistData → List Source
 sources_of d = map Input (range_with_len 0 (length d.inputs)) ++ cover_ends 0 d.covers ++ map Table
     (range_with_len (sum_by cover_size d.covers) (length d.latches))
 
@@ -170,10 +170,10 @@ source_among (w ∷ ws) [] s = Input 0
 source_among (w ∷ ws) (x ∷ xs) s = if w.signal == s then x else source_among ws xs s
 
 -- what gives a signal: the source of the word that drives it
-abbrev pub source_of : Draft → ℕ → Source
+abbrev pub source_of : NetlistData → ℕ → Source
 source_of d s = source_among (drive_words d) (sources_of d) s
 
-unfoldable pub plain_network : Draft → Network
+unfoldable pub plain_network : NetlistData → Network
 plain_network d = record {
   inputs = length d.inputs;
   tables = covers_tables (source_of d) 0 d.covers ++ map (latch_table (source_of d)) d.latches;
@@ -181,5 +181,5 @@ plain_network d = record {
 }
 
 -- it is the plain network
-abbrev pub IsPlainNetwork : Draft → Network → Type 0
+abbrev pub IsPlainNetwork : NetlistData → Network → Type 0
 IsPlainNetwork d n = n ≡ plain_network d

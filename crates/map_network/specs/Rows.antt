@@ -2,7 +2,7 @@
 use Rattle.std.specs.Prelude.{◌≡◌, ◌↔◌, ◌+◌, ◌*◌, ◌==◌, ℕ, List, [], ◌∷◌, Bool, true, map, length, slice_index_or, if◌then◌else◌}
 use Rattle.std.specs.Int.{bit_at}
 use Rattle.std.specs.List.{range_with_len}
-use Rattle.design_netlist.specs.declared.draft.Draft.{Draft}
+use Rattle.design_netlist.specs.declared.netlist_data.NetlistData.{NetlistData}
 use Rattle.design_netlist.specs.Rows as netlist
 use Rattle.map_network.specs.declared.source.Source.{Source}
 use Rattle.map_network.specs.declared.source.Source.TheVariants.{Input, Table}
@@ -62,7 +62,7 @@ abbrev pub AreRows : Network → List (List Bool) → List (List Bool) → Type 
 AreRows n vectors rows = RowsFrom n (first_state n) vectors rows
 
 -- the network's rows are the netlist's
-abbrev pub HasRowsOf : Network → Draft → Type 0
+abbrev pub HasRowsOf : Network → NetlistData → Type 0
 HasRowsOf n d = (vectors rows : List (List Bool)) → netlist.AreRows d vectors rows ↔ AreRows n vectors rows
 
 -- exactly one list is that of the rows

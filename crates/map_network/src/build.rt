@@ -14,7 +14,7 @@ use crate::drives::origins_of;
 use crate::network::{NetTable, Network};
 use crate::source::{Source, Sources};
 use base_lists::Items;
-use design_netlist::{Draft, LatchDef, Netlist, PortDef};
+use design_netlist::{LatchDef, Netlist, NetlistData, PortDef};
 use std::alloc::{AllocError, Global};
 
 fn one_source(alloc: Global, source: Source) -> Sources
@@ -78,7 +78,7 @@ fn outputs_of(
 }
 
 /// The plain network of a design.
-fn build(alloc: Global, draft: &Draft) -> Result<Network, AllocError>
+fn build(alloc: Global, draft: &NetlistData) -> Result<Network, AllocError>
     requires { IsChecked draft.now }
     ensures { IfOk result (λ network. IsPlainNetwork draft.now network) }
 {

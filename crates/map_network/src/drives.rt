@@ -8,7 +8,7 @@ ghost use Rattle.map_network.specs.Bounds.{AreCovers, AreLatches, ArePorts};
 
 use crate::names::size_of;
 use crate::source::Source;
-use design_netlist::{Cover, Draft, LatchDef, PortDef};
+use design_netlist::{Cover, LatchDef, NetlistData, PortDef};
 use std::alloc::{AllocError, Global};
 
 fn put_inputs(sources: &mut Vec<Source>, inputs: &[PortDef])
@@ -58,7 +58,7 @@ pub struct Origins {
 }
 
 /// What gives each signal of a design.
-pub fn origins_of(alloc: Global, draft: &Draft) -> Result<Origins, AllocError>
+pub fn origins_of(alloc: Global, draft: &NetlistData) -> Result<Origins, AllocError>
     requires { IsChecked draft.now }
     ensures len { IfOk result (λ origins. length origins.sources.items ≡ length draft.now.names) }
     ensures sources { IfOk result (λ origins. (s : ℕ) → source_in origins.sources.items s ≡ source_of draft.now s) }

@@ -1,7 +1,7 @@
 //! Laws about the definitions, as contracts.
 
 ghost use Rattle.std.specs.Prelude.{◌≡◌, Bool, List, All, length};
-ghost use Rattle.design_netlist.specs.declared.draft.Draft.{Draft};
+ghost use Rattle.design_netlist.specs.declared.netlist_data.NetlistData.{NetlistData};
 ghost use Rattle.design_netlist.specs.Checks.{IsChecked};
 ghost use Rattle.map_network.specs.declared.network.Network.{Network};
 ghost use Rattle.map_network.specs.Networks.{IsNetwork};
@@ -15,6 +15,6 @@ pub fn networks_have_one_list_of_rows()
 
 /// The plain network of a checked design is a network, and has the design's rows.
 pub fn plain_networks_have_the_rows()
-    ensures network { (d : Draft) → IsChecked d → IsNetwork (plain_network d) }
-    ensures rows { (d : Draft) → IsChecked d → HasRowsOf (plain_network d) d }
+    ensures network { (d : NetlistData) → IsChecked d → IsNetwork (plain_network d) }
+    ensures rows { (d : NetlistData) → IsChecked d → HasRowsOf (plain_network d) d }
 {}

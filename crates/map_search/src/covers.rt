@@ -13,13 +13,13 @@ use crate::puts::put_tables;
 use crate::reach::{Nodes, reach_of};
 use crate::tables::layout_of;
 use base_lists::Items;
-use design_netlist::{Cover, Cube, Draft, LatchDef, Lit, Name, Names, Netlist, PortDef};
+use design_netlist::{Cover, Cube, LatchDef, Lit, Name, Names, Netlist, NetlistData, PortDef};
 use std::alloc::{AllocError, Global};
 
 /// A design, and a label for each of its signals.
 #[derive(Debug, Drop)]
 pub struct Mapped {
-    pub draft: Draft,
+    pub draft: NetlistData,
     pub labels: Items<u32>,
 }
 
@@ -241,7 +241,7 @@ fn mapped_of(alloc: Global, layout: &Layout, names: &Names) -> Result<Mapped, Al
     let outputs = ports_of(alloc, signals, &layout.outputs)?;
     let covers = covers_of(alloc, signals, &layout.tables)?;
     let latches = latches_of(alloc, signals, layout)?;
-    let draft = Draft {
+    let draft = NetlistData {
         names: named.names,
         inputs,
         outputs,

@@ -10,7 +10,7 @@ use crate::way::Way;
 use crate::words::{Narrow, narrow_of};
 use base_lists::Items;
 use design_equal::{And, Graph, GraphLatch};
-use design_netlist::{Cover, Draft, LatchDef, Netlist};
+use design_netlist::{Cover, LatchDef, Netlist, NetlistData};
 use std::alloc::{AllocError, Global};
 
 /// How often latches that are alike are looked for.
@@ -67,7 +67,7 @@ fn cover_literal(making: &mut Making, cover: &Cover, way: Way) -> Result<u32, Al
 }
 
 // Labels the inputs.
-fn add_inputs(making: &mut Making, draft: &Draft) -> Result<(), AllocError> {
+fn add_inputs(making: &mut Making, draft: &NetlistData) -> Result<(), AllocError> {
     'inputs: for port in draft.inputs.as_slice() {
         let literal = making.builder.add_leaf()?;
         set(&mut making.labels, port.signal as usize, literal);
@@ -175,7 +175,7 @@ fn ands_of(alloc: Global, nodes: &[Node], first: usize) -> Result<Vec<And>, Allo
 // What was made.
 fn made_of(
     alloc: Global,
-    draft: &Draft,
+    draft: &NetlistData,
     stands: &[Stand],
     making: Making,
 ) -> Result<Made, AllocError> {

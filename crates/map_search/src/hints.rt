@@ -3,7 +3,7 @@
 use crate::cuts::{Cut, cut_of_leaves};
 use crate::numbers::{at, node_of};
 use crate::reach::Nodes;
-use design_netlist::{Cover, Draft};
+use design_netlist::{Cover, NetlistData};
 use std::alloc::{AllocError, Global};
 
 /// A cut of a node.
@@ -52,7 +52,7 @@ fn hint_of(
 pub fn hints_of(
     alloc: Global,
     nodes: Nodes<'_>,
-    draft: &Draft,
+    draft: &NetlistData,
     labels: &[u32],
 ) -> Result<Vec<Hint>, AllocError> {
     let mut hints = Vec::new(alloc);

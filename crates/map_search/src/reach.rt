@@ -2,7 +2,7 @@
 
 use crate::numbers::{mark, marked, node_of, small};
 use design_equal::{And, Graph};
-use design_netlist::Draft;
+use design_netlist::NetlistData;
 use std::alloc::{AllocError, Global};
 
 /// The nodes of a graph: the first of its ANDs, and the ANDs.
@@ -78,7 +78,7 @@ fn follow(
 }
 
 // The nodes of the outputs.
-fn shown_nodes(alloc: Global, draft: &Draft, labels: &[u32]) -> Result<Vec<u32>, AllocError> {
+fn shown_nodes(alloc: Global, draft: &NetlistData, labels: &[u32]) -> Result<Vec<u32>, AllocError> {
     let mut shown = Vec::new(alloc);
     'outputs: for port in draft.outputs.as_slice() {
         let label = labels.get(port.signal as usize).copied().unwrap_or(0);
@@ -90,7 +90,7 @@ fn shown_nodes(alloc: Global, draft: &Draft, labels: &[u32]) -> Result<Vec<u32>,
 /// What the outputs of a design with these labels need.
 pub fn reach_of(
     alloc: Global,
-    draft: &Draft,
+    draft: &NetlistData,
     graph: &Graph,
     labels: &[u32],
 ) -> Result<Reach, AllocError> {

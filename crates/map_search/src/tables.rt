@@ -6,7 +6,7 @@ use crate::numbers::{at, literal_of, node_of, set};
 use crate::passes::Chosen;
 use crate::reach::{Nodes, Reach, needs_latch};
 use design_equal::Graph;
-use design_netlist::{Draft, LatchDef, PortDef};
+use design_netlist::{LatchDef, NetlistData, PortDef};
 use std::alloc::{AllocError, Global};
 
 /// A new design while it is made.
@@ -276,7 +276,7 @@ fn close_latches(assembly: &mut Assembly) -> Result<(), AllocError> {
 /// The tables of the chosen cuts, the outputs, and the latches that outputs need.
 pub fn layout_of(
     alloc: Global,
-    draft: &Draft,
+    draft: &NetlistData,
     graph: &Graph,
     labels: &[u32],
     reach: &Reach,

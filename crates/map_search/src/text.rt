@@ -2,7 +2,7 @@
 
 use crate::names::name_of;
 use base_lists::Items;
-use design_netlist::{Cover, Cube, Draft, LatchDef, Lit, Names, Netlist, PortDef};
+use design_netlist::{Cover, Cube, LatchDef, Lit, Names, Netlist, NetlistData, PortDef};
 use std::alloc::{AllocError, Global};
 use std::collections::HashMap;
 
@@ -113,7 +113,7 @@ impl<'a> Writer<'a> {
 /// # Errors
 ///
 /// Want of memory.
-pub fn design_text(alloc: Global, draft: &Draft) -> Result<Vec<u8>, AllocError> {
+pub fn design_text(alloc: Global, draft: &NetlistData) -> Result<Vec<u8>, AllocError> {
     let mut writer = Writer {
         alloc,
         names: &draft.names,
@@ -152,7 +152,7 @@ fn labels_of_names(
 /// Want of memory.
 pub fn labels_by_name(
     alloc: Global,
-    draft: &Draft,
+    draft: &NetlistData,
     labels: &[u32],
     read: &Netlist,
 ) -> Result<Vec<u32>, AllocError> {

@@ -4,16 +4,16 @@ use Rattle.std.specs.Prelude.{◌==◌, nat_lt}
 use Rattle.std.specs.List.{All, filter, count_by}
 use Rattle.std.proofs.lemmas.Bool.{lt-ltb}
 use Rattle.std.proofs.lemmas.List.Sums.{length-filter, count_by-le-length}
-use Rattle.design_netlist.specs.declared.draft.Cover.{Cover}
-use Rattle.design_netlist.specs.declared.draft.Draft.{Draft}
-use Rattle.design_netlist.specs.declared.draft.PortDef.{PortDef}
+use Rattle.design_netlist.specs.declared.netlist_data.Cover.{Cover}
+use Rattle.design_netlist.specs.declared.netlist_data.NetlistData.{NetlistData}
+use Rattle.design_netlist.specs.declared.netlist_data.PortDef.{PortDef}
 use Rattle.design_netlist.specs.Covers.{cover_at}
 use Rattle.design_netlist.specs.Drafts.{name_at, signal_at}
 use Rattle.map_network.specs.Plain.{distinct, is_narrow}
 use Rattle.map_text.specs.Remapped.{names_of}
 
 -- words with the same names place by place
-pub names-same : (d e : Draft) (these those : List PortDef) → length these ≡ length those →
+pub names-same : (d e : NetlistData) (these those : List PortDef) → length these ≡ length those →
     ((j : ℕ) → j < length these → name_at d (signal_at these j) ≡ name_at e (signal_at those j)) → names_of d these ≡ names_of e those
 names-same d e [] [] len all = refl
 names-same d e [] (y ∷ ys) len all = absurd (let no : ⊥ = omega (arith, len) in no)

@@ -11,7 +11,7 @@ use base_lists::Items;
 use base_table::TABLE_INPUTS;
 use design_equal::laws::labelled_alike;
 use design_equal::{Graph, agree};
-use design_netlist::{Cover, Draft, Netlist};
+use design_netlist::{Cover, Netlist, NetlistData};
 use map_search::{Made, Mapped, design_text, labels_by_name};
 use std::alloc::{AllocError, Global};
 
@@ -28,7 +28,11 @@ fn have_few_inputs(covers: &[Cover]) -> bool
 }
 
 // Whether two designs have the same names at inputs and outputs.
-fn have_same_ports(alloc: Global, design: &Draft, other: &Draft) -> Result<bool, AllocError>
+fn have_same_ports(
+    alloc: Global,
+    design: &NetlistData,
+    other: &NetlistData,
+) -> Result<bool, AllocError>
     ensures { IfOk result (λ yes. IsTrue yes → HaveSamePorts design.now other.now) }
 {
     let inputs = design.inputs.as_slice();

@@ -4,11 +4,11 @@ ghost use Rattle.design_netlist.specs.Drafts.{name_at};
 ghost use Rattle.map_text.specs.Remapped.{names_of};
 
 use base_lists::Items;
-use design_netlist::{Draft, Name, PortDef};
+use design_netlist::{Name, NetlistData, PortDef};
 use std::alloc::{AllocError, Global};
 
 // The name of a signal, and none where there is no such signal.
-fn name_of(alloc: Global, design: &Draft, signal: u32) -> Result<Name, AllocError>
+fn name_of(alloc: Global, design: &NetlistData, signal: u32) -> Result<Name, AllocError>
     ensures { IfOk result (λ name. name ≡ name_at design.now signal) }
 {
     if signal as usize >= design.names.len() {
@@ -20,9 +20,9 @@ fn name_of(alloc: Global, design: &Draft, signal: u32) -> Result<Name, AllocErro
 // Whether two signals of two designs have the same name.
 fn is_same_name(
     alloc: Global,
-    design: &Draft,
+    design: &NetlistData,
     signal: u32,
-    other: &Draft,
+    other: &NetlistData,
     other_signal: u32,
 ) -> Result<bool, AllocError>
     ensures { IfOk result (λ yes. IsTrue yes → name_at design.now signal ≡ name_at other.now other_signal) }
@@ -35,9 +35,9 @@ fn is_same_name(
 /// Whether these words of two designs have the same names, in order.
 pub fn have_same_names(
     alloc: Global,
-    design: &Draft,
+    design: &NetlistData,
     words: &[PortDef],
-    other: &Draft,
+    other: &NetlistData,
     other_words: &[PortDef],
 ) -> Result<bool, AllocError>
     ensures { IfOk result (λ yes. IsTrue yes → names_of design.now words.now ≡ names_of other.now other_words.now) }

@@ -6,7 +6,7 @@ use Rattle.machine_shape.specs.Shape.{nodes_of}
 use Rattle.machine_meaning.specs.Defects.{Defects}
 use Rattle.machine_shape.proofs.Totals.{nodes_are}
 use Rattle.machine_defects.specs.Lists.{DefectList}
-use Rattle.design_netlist.specs.declared.draft.Draft.{Draft}
+use Rattle.design_netlist.specs.declared.netlist_data.NetlistData.{NetlistData}
 use Rattle.map_network.specs.declared.network.Network.{Network}
 use Rattle.map_network.specs.Networks.{IsNetwork}
 use Rattle.map_network.specs.Rows.{AreRows, HasRowsOf}
@@ -48,24 +48,24 @@ room-plan d n m s (Refused refused.Memory) shape short is = tt
 room-plan d n m s stop shape short is = absurd is
 
 -- and no image
-pub plan-image : (d : DefectList) (draft : Draft) (n : Network) (stop : Stop) → IsPlainNetwork draft n → PlanStops d n stop → StepStops (lays d draft) stop
+pub plan-image : (d : DefectList) (draft : NetlistData) (n : Network) (stop : Stop) → IsPlainNetwork draft n → PlanStops d n stop → StepStops (lays d draft) stop
 plan-image d draft n (Refused (refused.Room place)) plain stops = record { network = n; plain = plain; shape = stops.0; short = stops.1 }
 plan-image d draft n (Refused refused.Memory) plain stops = tt
 plan-image d draft n stop plain stops = absurd stops
 
 -- the network with fewer tables has the design's rows
-pub fewer-rows : (draft : Draft) (n m : Network) → HasRowsOf n draft → ((vectors rows : List (List Bool)) → AreRows n vectors rows ↔ AreRows m vectors rows) → HasRowsOf m draft
+pub fewer-rows : (draft : NetlistData) (n m : Network) → HasRowsOf n draft → ((vectors rows : List (List Bool)) → AreRows n vectors rows ↔ AreRows m vectors rows) → HasRowsOf m draft
 fewer-rows draft n m has same vectors rows = (let f = has vectors rows in let g = same vectors rows in (λ q. g.0 (f.0 q), λ q. f.1 (g.1 q)))
 
 -- and no more tables than the design's plain network, as that itself has
-pub no-more : (draft : Draft) (n m : Network) → IsPlainNetwork draft n → length m.tables ≤ length n.tables → length m.tables ≤ length (plain_network draft).tables
+pub no-more : (draft : NetlistData) (n m : Network) → IsPlainNetwork draft n → length m.tables ≤ length n.tables → length m.tables ≤ length (plain_network draft).tables
 no-more draft n m plain fewer = subst (λ (x : Network). length m.tables ≤ length x.tables) plain fewer
 
-pub just-as-many : (draft : Draft) (n : Network) → IsPlainNetwork draft n → length n.tables ≤ length (plain_network draft).tables
+pub just-as-many : (draft : NetlistData) (n : Network) → IsPlainNetwork draft n → length n.tables ≤ length (plain_network draft).tables
 just-as-many draft n plain = no-more draft n n plain (omega arith)
 
 -- a network with fewer tables than the plain one, and the same rows
-pub is-for : (draft : Draft) (n m : Network) → IsPlainNetwork draft n → HasRowsOf n draft → IsNetwork m → ((vectors rows : List (List Bool)) → AreRows n vectors rows ↔ AreRows m vectors rows) → length m.tables ≤ length n.tables → m.inputs ≡ n.inputs → length m.outputs ≡ length n.outputs → IsFor draft m
+pub is-for : (draft : NetlistData) (n m : Network) → IsPlainNetwork draft n → HasRowsOf n draft → IsNetwork m → ((vectors rows : List (List Bool)) → AreRows n vectors rows ↔ AreRows m vectors rows) → length m.tables ≤ length n.tables → m.inputs ≡ n.inputs → length m.outputs ≡ length n.outputs → IsFor draft m
 is-for draft n m plain has network same fewer inputs outputs = record {
   network = network;
   rows = fewer-rows draft n m has same;
@@ -82,11 +82,11 @@ better-fits m d n old new fits (inr better) = better.better.fits
 -- ---- the step
 
 -- a design that isn't laid has nothing to do with what is around
-lay-counted : (d : DefectList) (draft : Draft) (stop : Stop) (o : Outside) → StepStops (lays d draft) stop → IsCounted ⊥ stop o o
+lay-counted : (d : DefectList) (draft : NetlistData) (stop : Stop) (o : Outside) → StepStops (lays d draft) stop → IsCounted ⊥ stop o o
 lay-counted d draft (Refused (refused.Room place)) o stops = tt
 lay-counted d draft (Refused refused.Memory) o stops = tt
 lay-counted d draft stop o stops = absurd stops
 
-pub lay-took : (d : DefectList) (draft : Draft) (result : Result ImageValue Stop) (o : Outside) → IfOk result (lays d draft).gives → IfErr result (StepStops (lays d draft)) → Took [] (lays d draft) result o o
+pub lay-took : (d : DefectList) (draft : NetlistData) (result : Result ImageValue Stop) (o : Outside) → IfOk result (lays d draft).gives → IfErr result (StepStops (lays d draft)) → Took [] (lays d draft) result o o
 lay-took d draft (Ok i) o found stops = took-value (lays d draft) i o found
 lay-took d draft (Err stop) o found stops = took-stop (lays d draft) stop o stops (lay-counted d draft stop o stops)

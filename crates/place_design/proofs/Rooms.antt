@@ -3,7 +3,7 @@ use Rattle.std.proofs.Common.{◌≡◌, ◌⊎◌, ◌∙◌, sym, subst, refl,
 use Rattle.machine_shape.specs.declared.Shape.{Shape}
 use Rattle.machine_meaning.specs.Defects.{Defects}
 use Rattle.machine_defects.specs.Lists.{DefectList}
-use Rattle.design_netlist.specs.declared.draft.Draft.{Draft}
+use Rattle.design_netlist.specs.declared.netlist_data.NetlistData.{NetlistData}
 use Rattle.map_network.specs.declared.network.Network.{Network}
 use Rattle.map_network.specs.Plain.{IsPlainNetwork}
 use Rattle.place_plan.specs.declared.plan.Plan.{Plan}
@@ -22,10 +22,10 @@ abbrev pub AreDecided : Type 0
 AreDecided = (m : Shape) (d : Defects) (n : Network) (p : Plan) (s : Short) → FitsInOrder m d n p → ¬ IsShortInOrder m d n s
 
 -- a design has one plain network
-pub one-network : (draft : Draft) (n k : Network) → IsPlainNetwork draft n → IsPlainNetwork draft k → n ≡ k
+pub one-network : (draft : NetlistData) (n k : Network) → IsPlainNetwork draft n → IsPlainNetwork draft k → n ≡ k
 one-network draft n k first second = first ∙ sym second
 
-module _ (decided : AreDecided) (d : DefectList) (draft : Draft) where
+module _ (decided : AreDecided) (d : DefectList) (draft : NetlistData) where
   never-both : (room : HasRoom d draft) (k : Network) (s : Short) → IsPlainNetwork draft k → IsShortInOrder d.shape d.list k s → ⊥
   never-both room k s plain short =
       let same = one-network draft room.network k room.plain plain in
@@ -38,13 +38,13 @@ module _ (decided : AreDecided) (d : DefectList) (draft : Draft) where
   never-refused room place none = never-both room none.network place.short none.plain none.short
 
 -- where room is never refused a design that isn't laid is excused
-pub lay-excused : (d : DefectList) (draft : Draft) (old new : Around) → ((place : ShortPlace) → IsNoRoom d draft place → ⊥) → (refusal : Refusal) → NotLaid d draft refusal → IsExcused refusal old new
+pub lay-excused : (d : DefectList) (draft : NetlistData) (old new : Around) → ((place : ShortPlace) → IsNoRoom d draft place → ⊥) → (refusal : Refusal) → NotLaid d draft refusal → IsExcused refusal old new
 lay-excused d draft old new never (refused.Room place) stops = absurd (never place stops)
 lay-excused d draft old new never refused.Memory stops = tt
 lay-excused d draft old new never refusal stops = absurd stops
 
 -- and otherwise the status is that of want of room
-pub lay-short : (d : DefectList) (draft : Draft) (old new : Around) (refusal : Refusal) → NotLaid d draft refusal → (status_of refusal ≡ 3) ⊎ IsExcused refusal old new
+pub lay-short : (d : DefectList) (draft : NetlistData) (old new : Around) (refusal : Refusal) → NotLaid d draft refusal → (status_of refusal ≡ 3) ⊎ IsExcused refusal old new
 lay-short d draft old new (refused.Room place) stops = inl refl
 lay-short d draft old new refused.Memory stops = inr tt
 lay-short d draft old new refusal stops = absurd stops

@@ -3,7 +3,7 @@ use Rattle.std.specs.Prelude.{◌≡◌, ◌≤◌, length}
 use Rattle.machine_meaning.specs.Defects.{Covers}
 use Rattle.machine_meaning.specs.Faults.{Faults}
 use Rattle.machine_defects.specs.Lists.{DefectList}
-use Rattle.design_netlist.specs.declared.draft.Draft.{Draft}
+use Rattle.design_netlist.specs.declared.netlist_data.NetlistData.{NetlistData}
 use Rattle.map_network.specs.declared.network.Network.{Network}
 use Rattle.map_network.specs.Networks.{IsNetwork}
 use Rattle.map_network.specs.Plain.{IsPlainNetwork, plain_network}
@@ -21,28 +21,28 @@ use Rattle.cmd_steps.specs.declared.refusal.Refusal.{Refusal}
 use Rattle.cmd_steps.specs.declared.refusal.Refusal.TheVariants as refused
 
 -- the in-order plan of the design's plain network fits the list
-pub record HasRoom (d : DefectList) (draft : Draft) : Type 0 where
+pub record HasRoom (d : DefectList) (draft : NetlistData) : Type 0 where
   pub network : Network
   pub plan : Plan
   pub plain : IsPlainNetwork draft network
   pub fits : FitsInOrder d.shape d.list network plan
 
 -- or it is short of something
-pub record LacksRoom (d : DefectList) (draft : Draft) : Type 0 where
+pub record LacksRoom (d : DefectList) (draft : NetlistData) : Type 0 where
   pub network : Network
   pub short : Short
   pub plain : IsPlainNetwork draft network
   pub is_short : IsShortInOrder d.shape d.list network short
 
 -- and this is the first thing that it is short of
-pub record IsNoRoom (d : DefectList) (draft : Draft) (place : ShortPlace) : Type 0 where
+pub record IsNoRoom (d : DefectList) (draft : NetlistData) (place : ShortPlace) : Type 0 where
   pub network : Network
   pub plain : IsPlainNetwork draft network
   pub shape : place.shape ≡ d.shape
   pub short : IsShortInOrder d.shape d.list network place.short
 
 -- The image is routed for the design's plain network, or for another with the same rows and no more tables, on some plan
-pub record IsRoutedDesign (d : DefectList) (draft : Draft) (i : ImageValue) : Type 0 where
+pub record IsRoutedDesign (d : DefectList) (draft : NetlistData) (i : ImageValue) : Type 0 where
   pub network : Network
   pub plan : Plan
   pub is_network : IsNetwork network
@@ -52,7 +52,7 @@ pub record IsRoutedDesign (d : DefectList) (draft : Draft) (i : ImageValue) : Ty
 
 -- The image is of the machine, has a pin for each input and output of the design, touches only what the list leaves free, closes
 -- and switches on nothing idle, and is right for the design under all faults that the list covers
-pub record IsImageFor (d : DefectList) (draft : Draft) (i : ImageValue) : Type 0 where
+pub record IsImageFor (d : DefectList) (draft : NetlistData) (i : ImageValue) : Type 0 where
   pub image : IsImage i
   pub shape : i.config.shape ≡ d.shape
   pub inputs : length i.inputs ≡ length draft.inputs
@@ -61,10 +61,10 @@ pub record IsImageFor (d : DefectList) (draft : Draft) (i : ImageValue) : Type 0
   pub routed : IsRoutedDesign d draft i
   pub right : (f : Faults) → Covers d.shape d.list f → IsRightImage f i draft
 
-abbrev pub NotLaid : DefectList → Draft → Refusal → Type 0
+abbrev pub NotLaid : DefectList → NetlistData → Refusal → Type 0
 NotLaid d draft (refused.Room place) = IsNoRoom d draft place
 NotLaid d draft refused.Memory = Unit {0}
 NotLaid d draft refusal = ⊥
 
-abbrev pub lays : DefectList → Draft → Step ImageValue
+abbrev pub lays : DefectList → NetlistData → Step ImageValue
 lays d draft = record { stops = NotLaid d draft; gives = λ i. IsImageFor d draft i × HasRoom d draft }

@@ -1,7 +1,7 @@
 -- Networks with fewer tables than the plain one, on plans that fit.
 use Rattle.std.specs.Prelude.{◌≡◌, ◌≤◌, length}
 use Rattle.machine_defects.specs.Lists.{DefectList}
-use Rattle.design_netlist.specs.declared.draft.Draft.{Draft}
+use Rattle.design_netlist.specs.declared.netlist_data.NetlistData.{NetlistData}
 use Rattle.map_network.specs.declared.network.Network.{Network}
 use Rattle.map_network.specs.Networks.{IsNetwork}
 use Rattle.map_network.specs.Plain.{plain_network}
@@ -11,7 +11,7 @@ use Rattle.place_plan.specs.Plans.{Fits, IsPlan}
 use Rattle.place_design.specs.declared.smaller.Smaller.{Smaller}
 
 -- the network has the design's rows, inputs and outputs, and no more tables than its plain network
-pub record IsFor (draft : Draft) (n : Network) : Type 0 where
+pub record IsFor (draft : NetlistData) (n : Network) : Type 0 where
   pub network : IsNetwork n
   pub rows : HasRowsOf n draft
   pub inputs : n.inputs ≡ length draft.inputs
@@ -19,7 +19,7 @@ pub record IsFor (draft : Draft) (n : Network) : Type 0 where
   pub tables : length n.tables ≤ length (plain_network draft).tables
 
 -- and the plan for it fits the list
-pub record IsSmallerFor (d : DefectList) (draft : Draft) (s : Smaller) : Type 0 where
+pub record IsSmallerFor (d : DefectList) (draft : NetlistData) (s : Smaller) : Type 0 where
   pub is : IsFor draft s.network
   pub plan : IsPlan d.shape d.list s.network s.placed.plan
   pub fits : Fits d.shape d.list s.network s.placed.plan

@@ -4,7 +4,7 @@ ghost use Rattle.map_network.specs.Networks.{IsNetwork};
 ghost use Rattle.map_network.specs.Plain.{IsPlainNetwork};
 ghost use Rattle.map_network.specs.Rows.{HasRowsOf};
 ghost use Rattle.machine_defects.specs.Lists.{DefectList};
-ghost use Rattle.design_netlist.specs.declared.draft.Draft.{Draft};
+ghost use Rattle.design_netlist.specs.declared.netlist_data.NetlistData.{NetlistData};
 ghost use Rattle.place_design.specs.Smaller.{IsFor, IsSmallerFor};
 
 use design_netlist::Netlist;
@@ -68,7 +68,7 @@ fn spread_for(
 
 // The one with fewer crossings, or the second where both have as many.
 fn with_fewer_crossings(merged: Option<Smaller>, spread: Option<Smaller>) -> Option<Smaller>
-    ensures { (defects : DefectList) (draft : Draft) →
+    ensures { (defects : DefectList) (draft : NetlistData) →
         IfSome merged (IsSmallerFor defects draft) → IfSome spread (IsSmallerFor defects draft) →
         IfSome result (IsSmallerFor defects draft) }
 {

@@ -1,7 +1,7 @@
 //! The nets of a design whose covers are tables.
 
 use crate::tree::small;
-use design_netlist::{Cover, Draft, LatchDef};
+use design_netlist::{Cover, LatchDef, NetlistData};
 use std::alloc::{AllocError, Global};
 
 /// No table.
@@ -102,7 +102,7 @@ fn join_latches(
 }
 
 // Pins of inputs and outputs.
-fn add_pins(nets: &mut Vec<Net>, draft: &Draft) {
+fn add_pins(nets: &mut Vec<Net>, draft: &NetlistData) {
     let inputs = draft.inputs.as_slice().iter();
     'ports: for port in inputs.chain(draft.outputs.as_slice().iter()) {
         let place = port.signal as usize;
@@ -113,7 +113,7 @@ fn add_pins(nets: &mut Vec<Net>, draft: &Draft) {
 }
 
 /// The nets of a design.
-pub fn nets_of(alloc: Global, draft: &Draft) -> Result<Nets, AllocError> {
+pub fn nets_of(alloc: Global, draft: &NetlistData) -> Result<Nets, AllocError> {
     let mut nets = no_nets(alloc, draft.names.len())?;
     let mut of = Vec::new(alloc);
     join_covers(alloc, &mut nets, &mut of, draft.covers.as_slice())?;

@@ -5,7 +5,7 @@ use crate::nets::{NOTHING, Nets, nets_of};
 use crate::rooms::{Order, best_order};
 use crate::tree::{small, tree_of};
 use base_lists::Items;
-use design_netlist::{Cover, Draft, LatchDef, Names};
+use design_netlist::{Cover, LatchDef, Names, NetlistData};
 use machine_defects::Defects;
 use map_search::FreeNames;
 use std::alloc::{AllocError, Global};
@@ -106,11 +106,11 @@ fn before(list: &[u32], place: usize) -> &[u32] {
 // The design in an order.
 fn draft_in(
     alloc: Global,
-    draft: &Draft,
+    draft: &NetlistData,
     nets: &Nets,
     order: &Order,
     seats: usize,
-) -> Result<Draft, AllocError> {
+) -> Result<NetlistData, AllocError> {
     let latches = draft.latches.as_slice();
     let holders = holders_of(alloc, order, seats)?;
     let end = covers_end(&holders, order.room, latches.len());
@@ -121,7 +121,7 @@ fn draft_in(
         draft.covers.as_slice(),
         before(&holders, end),
     )?;
-    Ok(Draft {
+    Ok(NetlistData {
         names,
         inputs: copy_ports(alloc, draft.inputs.as_slice())?,
         outputs: copy_ports(alloc, draft.outputs.as_slice())?,
@@ -147,10 +147,10 @@ fn plain_order(alloc: Global, count: usize, room: usize) -> Result<Order, AllocE
 /// Want of memory.
 pub fn ordered(
     alloc: Global,
-    draft: &Draft,
+    draft: &NetlistData,
     defects: &Defects,
     spare: u32,
-) -> Result<Draft, AllocError> {
+) -> Result<NetlistData, AllocError> {
     let nets = nets_of(alloc, draft)?;
     let tree = tree_of(alloc, defects)?;
     let count = nets.of.len();

@@ -3,7 +3,7 @@ ghost use Rattle.std.specs.Prelude.{◌≡◌, ◌<◌, ◌+◌, IfOk, IfErr, le
 ghost use Rattle.machine_meaning.specs.Defects.{Covers};
 ghost use Rattle.machine_meaning.specs.Faults.{Faults};
 ghost use Rattle.machine_image.specs.Parts.{IsFreeImage};
-ghost use Rattle.design_netlist.specs.declared.draft.Draft.{Draft};
+ghost use Rattle.design_netlist.specs.declared.netlist_data.NetlistData.{NetlistData};
 ghost use Rattle.map_network.specs.Networks.{IsNetwork};
 ghost use Rattle.map_network.specs.Rows.{HasRowsOf};
 ghost use Rattle.place_plan.specs.Laying.{IsLayout};
@@ -129,9 +129,9 @@ pub fn lay_pair(
     ensures second_pins { IfOk result (λ p. HasPinsOf second.now p.second) }
     ensures apart { IfOk result (λ p. (f : Faults) → Covers defects.now.shape defects.now.list f →
         StandApart f p.whole p.first p.second) }
-    ensures first_right { IfOk result (λ p. (netlist : Draft) (f : Faults) → HasRowsOf first.now netlist →
+    ensures first_right { IfOk result (λ p. (netlist : NetlistData) (f : Faults) → HasRowsOf first.now netlist →
         Covers defects.now.shape defects.now.list f → IsRightImage f p.first netlist) }
-    ensures second_right { IfOk result (λ p. (netlist : Draft) (f : Faults) → HasRowsOf second.now netlist →
+    ensures second_right { IfOk result (λ p. (netlist : NetlistData) (f : Faults) → HasRowsOf second.now netlist →
         Covers defects.now.shape defects.now.list f → IsRightImage f p.second netlist) }
     ensures rows { IfOk result (λ p. (f : Faults) → Covers defects.now.shape defects.now.list f →
         ReadsRows f p.whole (AreBothRows first.now second.now)) }

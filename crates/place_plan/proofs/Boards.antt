@@ -15,7 +15,7 @@ use Rattle.place_plan.specs.declared.search.Ask.{Ask}
 use Rattle.place_plan.specs.declared.search.Assigned.{Assigned}
 use Rattle.place_plan.specs.declared.search.Hold.{Hold}
 use Rattle.place_plan.specs.declared.short.Visit.{Visit}
-use Rattle.place_plan.specs.declared.tree.Strand.TheVariants.{Own, Child, Outside}
+use Rattle.place_plan.specs.declared.tree.NetSide.TheVariants.{Own, Child, Outside}
 use Rattle.place_plan.specs.Choices.{AreWires, IsAnswer, IsSite, IsAssignment, IsShort, serves_by}
 use Rattle.place_plan.specs.Layouts.{IsBoardOf, visit_of, visit_by, pick_of, GoOn}
 use Rattle.place_plan.specs.Lists.{AreThose, AreLists}

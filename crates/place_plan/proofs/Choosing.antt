@@ -10,8 +10,8 @@ use Rattle.machine_shape.specs.Laws.{IsTree, HasParents, HasTaps, HasCrosses}
 use Rattle.machine_shape.specs.Sites.{HasSites}
 use Rattle.place_plan.specs.declared.short.Port.{Port}
 use Rattle.place_plan.specs.declared.short.Visit.{Visit}
-use Rattle.place_plan.specs.declared.tree.Strand.{Strand}
-use Rattle.place_plan.specs.declared.tree.Strand.TheVariants.{Own, Child, Outside}
+use Rattle.place_plan.specs.declared.tree.NetSide.{NetSide}
+use Rattle.place_plan.specs.declared.tree.NetSide.TheVariants.{Own, Child, Outside}
 use Rattle.place_plan.specs.Lists.{IsNth, nth_of}
 use Rattle.place_plan.specs.Strands.{IsInside, IsAt, at_own, at_child, at_outside, Crosses, tap_of}
 use Rattle.place_plan.specs.Room.{CrossesAt, VisitsAt, IsFreePort, HasPort, IsTapOf, by_terminal, by_child, by_port, Serves}
@@ -107,7 +107,7 @@ module _ (m : Shape) (d : Defects) (count : ℕ) (T : ℕ → ℕ → Type 0) (t
         (All-contains (λ p. (p.node < nodes_of m) × CrossesAt m count T p.node p.net × HasPort m d count T p.node p.net p.wire) ports (record { node = n; net = k; wire = port_in ports n k }) held.each (port_found ports n k g.0 g.1)).2
 
     -- a terminal's strand comes by a tap of its net
-    tap_is : (n k t : ℕ) (s : Strand) → VisitsAt m count T n k → T k t → IsAt m n t s → IsTapOf m d count T n k (tap_of (λ c. port_in ports c k) n s) × IsTap m n (tap_of (λ c. port_in ports c k) n s)
+    tap_is : (n k t : ℕ) (s : NetSide) → VisitsAt m count T n k → T k t → IsAt m n t s → IsTapOf m d count T n k (tap_of (λ c. port_in ports c k) n s) × IsTap m n (tap_of (λ c. port_in ports c k) n s)
     tap_is n k t (Own w) v has (at_own e) = (by_terminal has e, own_tap k w n has e)
     tap_is n k t (Child c) v has (at_child b e i) = let h = port_of c k (crosses_child n k c t v e has i) in (by_child c e h, tap_child c e (port_is c k (port_in ports c k) h).0)
     tap_is n k t Outside v has (at_outside far) =

@@ -3,7 +3,7 @@ use Rattle.std.proofs.Common.{◌≡◌, ◌≢◌, ℕ, ◌<◌, Some, None, re
 use Rattle.machine_shape.specs.declared.Shape.{Shape}
 use Rattle.machine_shape.specs.Shape.{wires_of, nodes_of, node_of, parent_of, IsAbove, itself, below}
 use Rattle.machine_shape.specs.Laws.{HasParents}
-use Rattle.place_plan.specs.declared.tree.Strand.TheVariants.{Child, Outside}
+use Rattle.place_plan.specs.declared.tree.NetSide.TheVariants.{Child, Outside}
 use Rattle.place_plan.specs.Strands.{IsAt, at_child, at_outside}
 use Rattle.place_plan.specs.Trees.{IsClimb}
 use Rattle.place_plan.proofs.Upward.{higher}

@@ -5,8 +5,8 @@ use Rattle.std.proofs.lemmas.List.Elements.{All-contains}
 use Rattle.machine_shape.specs.declared.Shape.{Shape}
 use Rattle.machine_shape.specs.Shape.{node_of, IsAbove, itself}
 use Rattle.machine_shape.specs.Laws.{IsTree}
-use Rattle.place_plan.specs.declared.tree.Strand.{Strand}
-use Rattle.place_plan.specs.declared.tree.Strand.TheVariants.{Own, Child, Outside}
+use Rattle.place_plan.specs.declared.tree.NetSide.{NetSide}
+use Rattle.place_plan.specs.declared.tree.NetSide.TheVariants.{Own, Child, Outside}
 use Rattle.place_plan.specs.Strands.{IsInside, IsAt, at_own, at_child, at_outside, IsStrand, Visits}
 use Rattle.place_plan.specs.Room.{IsAmong}
 use Rattle.place_plan.proofs.Upward.{higher, not_in_child, one_child}
@@ -14,7 +14,7 @@ use Rattle.place_plan.proofs.Upward.{higher, not_in_child, one_child}
 module _ (m : Shape) where
   module _ (tree : IsTree m) where
     -- a wire is at one place, seen from a node
-    pub IsAt-unique : {n w : ℕ} {s r : Strand} → IsAt m n w s → IsAt m n w r → s ≡ r
+    pub IsAt-unique : {n w : ℕ} {s r : NetSide} → IsAt m n w s → IsAt m n w r → s ≡ r
     IsAt-unique (at_own p) (at_own q) = refl
     IsAt-unique {n} {w} (at_own p) (at_child c e i) = absurd (not_in_child m tree n c w e p i)
     IsAt-unique {n} {w} (at_child c e i) (at_own p) = absurd (not_in_child m tree n c w e p i)
@@ -26,19 +26,19 @@ module _ (m : Shape) where
     IsAt-unique (at_outside p) (at_outside q) = refl
 
     -- where all terminals are at one place, the net doesn't visit the node
-    pub one_strand : (ws : List ℕ) (n : ℕ) (s : Strand) → All (λ w. IsAt m n w s) ws → ¬ Visits m (IsAmong ws) n
+    pub one_strand : (ws : List ℕ) (n : ℕ) (s : NetSide) → All (λ w. IsAt m n w s) ws → ¬ Visits m (IsAmong ws) n
     one_strand ws n s all v =
         let at = λ (w : ℕ) (h : IsAmong ws w). All-contains (λ (u : ℕ). IsAt m n u s) ws w all h in
         v.different (IsAt-unique v.first.at (at v.first.wire v.first.is) ∙ sym (IsAt-unique v.second.at (at v.second.wire v.second.is)))
 
-  pub two_strands : (ws : List ℕ) (n w u : ℕ) (s r : Strand) → IsAmong ws w → IsAt m n w s → IsAmong ws u → IsAt m n u r → r ≢ s → Visits m (IsAmong ws) n
+  pub two_strands : (ws : List ℕ) (n w u : ℕ) (s r : NetSide) → IsAmong ws w → IsAt m n w s → IsAmong ws u → IsAt m n u r → r ≢ s → Visits m (IsAmong ws) n
   two_strands ws n w u s r hw aw hu au ne = record { one = r; two = s; different = ne; first = record { wire = u; is = hu; at = au }; second = record { wire = w; is = hw; at = aw } }
 
   -- what is inside is the node's own or in a child
   pub outside_is : {n w : ℕ} → IsAt m n w Outside → ¬ IsInside m n w
   outside_is (at_outside far) = far
 
-  pub inside_is : {n w : ℕ} {s : Strand} → IsAt m n w s → s ≢ Outside → IsInside m n w
+  pub inside_is : {n w : ℕ} {s : NetSide} → IsAt m n w s → s ≢ Outside → IsInside m n w
   inside_is {n} {w} (at_own p) ne = subst (λ x. IsAbove m x (node_of m w)) p itself
   inside_is (at_child c e i) ne = higher m e i
   inside_is (at_outside far) ne = absurd (ne refl)
@@ -50,10 +50,10 @@ module _ (m : Shape) where
   pub visits_inside : (terminal : ℕ → Type 0) (n : ℕ) → Visits m terminal n → (w : ℕ) × terminal w × IsInside m n w
   visits_inside terminal n v = by v.one v.two v.different v.first v.second
     where
-      inner : (s : Strand) → s ≢ Outside → IsStrand m terminal n s → (w : ℕ) × terminal w × IsInside m n w
+      inner : (s : NetSide) → s ≢ Outside → IsStrand m terminal n s → (w : ℕ) × terminal w × IsInside m n w
       inner s ne is = (is.wire, is.is, inside_is is.at ne)
 
-      by : (s r : Strand) → s ≢ r → IsStrand m terminal n s → IsStrand m terminal n r → (w : ℕ) × terminal w × IsInside m n w
+      by : (s r : NetSide) → s ≢ r → IsStrand m terminal n s → IsStrand m terminal n r → (w : ℕ) × terminal w × IsInside m n w
       by (Own w) r ne a b = inner (Own w) (λ e. own_out w e) a
         where
           own_out : (w : ℕ) → Own w ≡ Outside → ⊥

@@ -13,7 +13,7 @@ use Rattle.machine_meaning.specs.Defects.{Defects, IsFreeCross}
 use Rattle.machine_defects.specs.Lists.{DefectList, is_free_cross}
 use Rattle.place_plan.specs.declared.search.Ask.{Ask}
 use Rattle.place_plan.specs.declared.search.Hold.{Hold}
-use Rattle.place_plan.specs.declared.tree.Strand.TheVariants.{Own, Child, Outside}
+use Rattle.place_plan.specs.declared.tree.NetSide.TheVariants.{Own, Child, Outside}
 use Rattle.place_plan.specs.Lists.{AreThose, IsNth}
 use Rattle.place_plan.specs.Strands.{at_own, at_child, at_outside, Crosses}
 use Rattle.place_plan.specs.Layouts.{pick_of, net_in}

@@ -6,7 +6,7 @@ use Rattle.std.proofs.lemmas.List.Elements.{All-push, All-push, Contains-push, C
 use Rattle.machine_shape.specs.declared.Shape.{Shape}
 use Rattle.machine_shape.specs.Laws.{IsTree}
 use Rattle.place_plan.specs.declared.search.Ask.{Ask}
-use Rattle.place_plan.specs.declared.tree.Strand.{Strand}
+use Rattle.place_plan.specs.declared.tree.NetSide.{NetSide}
 use Rattle.place_plan.specs.Lists.{AreThose, IsNth, IsAmongFirst, nth_of}
 use Rattle.place_plan.specs.Strands.{IsAt}
 use Rattle.place_plan.specs.Touches.{list_at, is_last, with_last}
@@ -66,7 +66,7 @@ option_has P xs None t is p = absurd (is t p)
 option_has P xs (Some u) t is p = subst (λ z. Contains (with_last xs u) z) (sym (is.1 t p)) (last_has xs u)
 
 module _ (m : Shape) (crossing ports : List (List ℕ)) (n k : ℕ) where
-  pub tap_for : IsTree m → (w : ℕ) (s : Strand) (t : ℕ) → IsAt m n w s → IsTapFor m crossing ports n k w t → IsTapBy crossing ports n k s t
+  pub tap_for : IsTree m → (w : ℕ) (s : NetSide) (t : ℕ) → IsAt m n w s → IsTapFor m crossing ports n k w t → IsTapBy crossing ports n k s t
   tap_for tree w s t at is = subst (λ z. IsTapBy crossing ports n k z t) (IsAt-unique m tree is.1 at) is.2
 
   pub taps_none : AreTaps m crossing ports n k [] []

@@ -11,7 +11,7 @@ use Rattle.place_plan.specs.declared.short.Resource.{Resource}
 use Rattle.place_plan.specs.declared.short.Resource.TheVariants.{Tables, Pins, Ports, Lines}
 use Rattle.place_plan.specs.declared.short.Short.{Short}
 use Rattle.place_plan.specs.declared.short.Visit.{Visit}
-use Rattle.place_plan.specs.declared.tree.Strand.{Strand}
+use Rattle.place_plan.specs.declared.tree.NetSide.{NetSide}
 use Rattle.place_plan.specs.Lists.{AreThose}
 use Rattle.place_plan.specs.Strands.{IsStrand, Crosses, Visits}
 use Rattle.place_plan.specs.Room.{CrossesAt, VisitsAt, HasPort, IsTapOf, by_terminal, by_child, by_port, Serves, ArePorts, PortsSuffice, IsChoiceAt, AreShort, NodeSuffices, IsShortOf, Suffices}
@@ -19,7 +19,7 @@ use Rattle.place_plan.specs.Layouts.{AreVisits, AreHeld}
 use Rattle.place_plan.proofs.Those.{those_same}
 
 module _ (m : Shape) (A B : ℕ → ℕ → Type 0) (to : (k w : ℕ) → A k w → B k w) where
-  strand : (k n : ℕ) (s : Strand) → IsStrand m (A k) n s → IsStrand m (B k) n s
+  strand : (k n : ℕ) (s : NetSide) → IsStrand m (A k) n s → IsStrand m (B k) n s
   strand k n s is = record { wire = is.wire; is = to k is.wire is.is; at = is.at }
 
   pub crosses_on : (k n : ℕ) → Crosses m (A k) n → Crosses m (B k) n

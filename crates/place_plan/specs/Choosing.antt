@@ -6,7 +6,7 @@ use Rattle.machine_shape.specs.Shape.{crosses_of, ends_of, IsLine, IsPort}
 use Rattle.machine_meaning.specs.Defects.{Defects, IsFreeWire, IsFreeCross}
 use Rattle.place_plan.specs.declared.short.Port.{Port}
 use Rattle.place_plan.specs.declared.short.Visit.{Visit}
-use Rattle.place_plan.specs.declared.tree.Strand.{Strand}
+use Rattle.place_plan.specs.declared.tree.NetSide.{NetSide}
 use Rattle.place_plan.specs.Strands.{IsAt, tap_of}
 use Rattle.place_plan.specs.Room.{CrossesAt, VisitsAt, HasPort}
 
@@ -37,5 +37,5 @@ pub record IsChoice (m : Shape) (d : Defects) (count : ℕ) (terminal : ℕ → 
   pub ports_apart : (n k l : ℕ) → CrossesAt m count terminal n k → CrossesAt m count terminal n l →
       port_in ports n k ≡ port_in ports n l → k ≡ l
   -- the crosspoints of a net's line and its taps are free
-  pub serves : All (λ v. (t : ℕ) (s : Strand) → terminal v.net t → IsAt m v.node t s →
+  pub serves : All (λ v. (t : ℕ) (s : NetSide) → terminal v.net t → IsAt m v.node t s →
       HasFreeCross m d (tap_of (λ c. port_in ports c v.net) v.node s) v.line) vs

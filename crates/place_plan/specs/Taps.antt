@@ -5,8 +5,8 @@ use Rattle.machine_shape.specs.declared.Shape.{Shape}
 use Rattle.machine_shape.specs.Shape.{nodes_of, IsLine}
 use Rattle.machine_meaning.specs.Defects.{Defects, IsFreeWire}
 use Rattle.place_plan.specs.declared.search.Ask.{Ask}
-use Rattle.place_plan.specs.declared.tree.Strand.{Strand}
-use Rattle.place_plan.specs.declared.tree.Strand.TheVariants.{Own, Child, Outside}
+use Rattle.place_plan.specs.declared.tree.NetSide.{NetSide}
+use Rattle.place_plan.specs.declared.tree.NetSide.TheVariants.{Own, Child, Outside}
 use Rattle.place_plan.specs.Lists.{AreThose, AreLists, IsNth, IsAmongFirst, nth_of}
 use Rattle.place_plan.specs.Strands.{IsAt, Visits}
 use Rattle.place_plan.specs.Room.{HasTerminal, CrossesAt, VisitsAt, IsFreePort}
@@ -17,14 +17,14 @@ abbrev pub IsHeld : List (List ℕ) → List (List ℕ) → ℕ → ℕ → ℕ 
 IsHeld crossing ports c k t = (j : ℕ) × IsNth (list_at crossing c) j k × IsNth (list_at ports c) j t
 
 -- net k comes to node n by the tap t for this strand
-abbrev pub IsTapBy : List (List ℕ) → List (List ℕ) → ℕ → ℕ → Strand → ℕ → Type 0
+abbrev pub IsTapBy : List (List ℕ) → List (List ℕ) → ℕ → ℕ → NetSide → ℕ → Type 0
 IsTapBy crossing ports n k (Own w) t = w ≡ t
 IsTapBy crossing ports n k (Child c) t = IsHeld crossing ports c k t
 IsTapBy crossing ports n k Outside t = IsHeld crossing ports n k t
 
 -- for this wire
 abbrev pub IsTapFor : Shape → List (List ℕ) → List (List ℕ) → ℕ → ℕ → ℕ → ℕ → Type 0
-IsTapFor m crossing ports n k w t = (s : Strand) × IsAt m n w s × IsTapBy crossing ports n k s t
+IsTapFor m crossing ports n k w t = (s : NetSide) × IsAt m n w s × IsTapBy crossing ports n k s t
 
 -- for one of these wires
 abbrev pub IsTapAmong : Shape → List (List ℕ) → List (List ℕ) → ℕ → ℕ → List ℕ → ℕ → Type 0

@@ -47,4 +47,4 @@ pub use sound_room::{enough_free_parts_are_room, sound_parts_are_room, standing_
 pub use strand::strand_at;
 pub use terminals::nets_of_plan;
 pub use touch::touched_by;
-pub use tree::{Strand, Tree, tree_of};
+pub use tree::{NetSide, Tree, tree_of};

@@ -10,7 +10,7 @@ use crate::numbers::{push_if, push_last};
 use crate::ports::port_of;
 use crate::search::Ask;
 use crate::strand::{strand_at, visits};
-use crate::tree::{Strand, Tree};
+use crate::tree::{NetSide, Tree};
 use base_lists::Items;
 use machine_defects::Defects;
 use machine_shape::Node;
@@ -51,9 +51,9 @@ fn tap_at(crossed: &Crossed<'_>, node: u32, net: u32, wire: u32) -> Option<u32>
 {
     machine_shape::the_numbering_is_sound();
     match strand_at(crossed.tree, node, wire) {
-        Strand::Own(tap) => Some(tap),
-        Strand::Child(child) => held(crossed.crossing, crossed.ports, child, net),
-        Strand::Outside => held(crossed.crossing, crossed.ports, node, net),
+        NetSide::Own(tap) => Some(tap),
+        NetSide::Child(child) => held(crossed.crossing, crossed.ports, child, net),
+        NetSide::Outside => held(crossed.crossing, crossed.ports, node, net),
     }
 }
 

@@ -8,7 +8,7 @@ use std::alloc::{AllocError, Global};
 
 /// Where a wire is, seen from a node: among the node's own wires, in a child, or outside of the node.
 #[derive(Clone, Copy, Debug, PartialEq, Eq)]
-pub enum Strand {
+pub enum NetSide {
     Own(u32),
     Child(u32),
     Outside,

@@ -6,14 +6,14 @@ use Rattle.machine_shape.specs.Shape.{in_order, ends_of, node_of, parent_of}
 use Rattle.machine_shape.specs.Laws.{IsTree}
 use Rattle.machine_meaning.specs.Joined.{Joined, here, then, crossed, plain_net}
 use Rattle.machine_meaning.proofs.JoinedLemmas.{Joined-trans, Joined-sym}
-use Rattle.place_plan.specs.declared.tree.Strand.{Strand}
-use Rattle.place_plan.specs.declared.tree.Strand.TheVariants.{Own, Child, Outside}
+use Rattle.place_plan.specs.declared.tree.NetSide.{NetSide}
+use Rattle.place_plan.specs.declared.tree.NetSide.TheVariants.{Own, Child, Outside}
 use Rattle.place_plan.specs.Strands.{IsInside, IsAt, at_own, at_child, at_outside, Crosses, IsStrand}
 use Rattle.place_plan.proofs.Upward.{IsUp, stay, up, up_of, higher, above_of, not_in_child, one_child}
 use Rattle.place_route.specs.Trees.{IsNetTap, by_terminal, by_child, by_port, IsLaidOnTree, IsOfNet, as_terminal, as_line, as_port, AreTerminals}
 
 -- t is the tap by which a net with these ports comes to node n for a strand
-data Comes (port : ℕ → ℕ → Type 0) (n t : ℕ) : Strand → Type 0 where
+data Comes (port : ℕ → ℕ → Type 0) (n t : ℕ) : NetSide → Type 0 where
   itself_ : Comes port n t (Own t)
   from_child : (c : ℕ) → port c t → Comes port n t (Child c)
   from_outside : port n t → Comes port n t Outside
@@ -25,16 +25,16 @@ module _ (m : Shape) where
       tap_joined : (n k w t : ℕ) → line n k w → IsNetTap m terminal port n k t → Joined (plain_net m closed) t w
       tap_joined n k w t has tap = let r = laid.closes n k w t has tap in then here (crossed r.0 r.1 (in_order (ap (λ e. e.0) r.2) (ap (λ e. e.1) r.2)))
 
-      tap_by : (n k t : ℕ) {s : Strand} → Comes (λ c u. port c k u) n t s → IsStrand m (terminal k) n s → IsNetTap m terminal port n k t
+      tap_by : (n k t : ℕ) {s : NetSide} → Comes (λ c u. port c k u) n t s → IsStrand m (terminal k) n s → IsNetTap m terminal port n k t
       tap_by n k t comes is = by is.wire is.is comes is.at
         where
-          by : {r : Strand} (w : ℕ) → terminal k w → Comes (λ c u. port c k u) n t r → IsAt m n w r → IsNetTap m terminal port n k t
+          by : {r : NetSide} (w : ℕ) → terminal k w → Comes (λ c u. port c k u) n t r → IsAt m n w r → IsNetTap m terminal port n k t
           by w mine itself_ (at_own at) = by_terminal mine at
           by w mine (from_child c has) (at_child b e inside) = by_child c e has
           by w mine (from_outside has) (at_outside far) = by_port has
 
       -- two strands' taps are joined
-      meet : (n k : ℕ) (s r : Strand) → s ≢ r → IsStrand m (terminal k) n s → IsStrand m (terminal k) n r → (t u : ℕ) → Comes (λ c u. port c k u) n t s → Comes (λ c u. port c k u) n u r → Joined (plain_net m closed) t u
+      meet : (n k : ℕ) (s r : NetSide) → s ≢ r → IsStrand m (terminal k) n s → IsStrand m (terminal k) n r → (t u : ℕ) → Comes (λ c u. port c k u) n t s → Comes (λ c u. port c k u) n u r → Joined (plain_net m closed) t u
       meet n k s r different is ir t u ct cu =
           let has = laid.given n k (record { one = s; two = r; different = different; first = is; second = ir }) in
           Joined-trans (tap_joined n k has.0 t has.1 (tap_by n k t ct is)) (Joined-sym (tap_joined n k has.0 u has.1 (tap_by n k u cu ir)))

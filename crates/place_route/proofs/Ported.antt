@@ -9,8 +9,8 @@ use Rattle.machine_shape.specs.Laws.{IsTree, HasParents, HasTaps, HasCrosses}
 use Rattle.machine_shape.specs.Sites.{HasSites}
 use Rattle.machine_meaning.specs.Defects.{Defects}
 use Rattle.place_plan.specs.declared.short.Visit.{Visit}
-use Rattle.place_plan.specs.declared.tree.Strand.{Strand}
-use Rattle.place_plan.specs.declared.tree.Strand.TheVariants.{Own, Child, Outside}
+use Rattle.place_plan.specs.declared.tree.NetSide.{NetSide}
+use Rattle.place_plan.specs.declared.tree.NetSide.TheVariants.{Own, Child, Outside}
 use Rattle.place_plan.specs.Lists.{IsNth}
 use Rattle.place_plan.specs.Strands.{IsAt, at_own, at_child, at_outside, Crosses, Visits}
 use Rattle.place_plan.specs.Room.{CrossesAt, IsFreePort, HasPort}
@@ -76,12 +76,12 @@ module _ (m : Shape) (parents : HasParents m) where
   above_within itself l = l
   above_within (below {p} {k} up e) l = above_within up (let b = parents.before k p e in omega arith)
 
-  strand_within : (n w : ℕ) (s : Strand) → s ≢ Outside → w < wires_of m → IsAt m n w s → n < nodes_of m
+  strand_within : (n w : ℕ) (s : NetSide) → s ≢ Outside → w < wires_of m → IsAt m n w s → n < nodes_of m
   strand_within n w s ne l (at_own e) = subst (λ a. a < nodes_of m) e (parents.node_within w l)
   strand_within n w s ne l (at_child c e inside) = (let b = parents.before c n e in let k = parents.within c n e in omega arith)
   strand_within n w s ne l (at_outside far) = absurd (ne refl)
 
-  dec_outside : (s : Strand) → (s ≡ Outside) ⊎ (s ≢ Outside)
+  dec_outside : (s : NetSide) → (s ≡ Outside) ⊎ (s ≢ Outside)
   dec_outside (Own w) = inr (λ e. cc)
   dec_outside (Child c) = inr (λ e. cc)
   dec_outside Outside = inl refl

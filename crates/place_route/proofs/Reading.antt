@@ -5,7 +5,7 @@ use Rattle.machine_shape.specs.declared.Shape.{Shape}
 use Rattle.machine_shape.specs.Laws.{IsNumbered, IsTree}
 use Rattle.machine_meaning.specs.Faults.{Faults}
 use Rattle.machine_meaning.specs.Defects.{Defects, Covers}
-use Rattle.design_netlist.specs.declared.draft.Draft.{Draft}
+use Rattle.design_netlist.specs.declared.netlist_data.NetlistData.{NetlistData}
 use Rattle.machine_config.specs.Configuration.{is_closed}
 use Rattle.machine_image.specs.Images.{ImageValue, image_row}
 use Rattle.machine_image.specs.Parts.{IsFreeImage}
@@ -53,5 +53,5 @@ module _ (numbered : (m : Shape) → IsNumbered m) (tree : (m : Shape) → IsTre
         (subst (λ s. IsLaidOnTree s (IsTerminal s n p) (is_closed i.config) (HasLine is.visits) (HasPortIn is.ports)) back is.routed.laid) f is.routed.sets
         (ticks_enough n i.config.ticks is.ticks) (subst (λ s. Covers s d f) back covers))
 
-pub right_image : (n : Network) (netlist : Draft) (f : Faults) (i : ImageValue) → HasRowsOf n netlist → ReadsRows f i (AreRows n) → IsRightImage f i netlist
+pub right_image : (n : Network) (netlist : NetlistData) (f : Faults) (i : ImageValue) → HasRowsOf n netlist → ReadsRows f i (AreRows n) → IsRightImage f i netlist
 right_image n netlist f i has reads vectors got long run = (has vectors (map (image_row i) got)).1 (reads vectors got long run)

@@ -5,7 +5,7 @@ use Rattle.machine_meaning.specs.Faults.{Faults}
 use Rattle.machine_meaning.specs.Circuit.{Pins}
 use Rattle.machine_config.specs.Faulty.{IsRun}
 use Rattle.machine_image.specs.Images.{ImageValue, drive_of, image_row}
-use Rattle.design_netlist.specs.declared.draft.Draft.{Draft}
+use Rattle.design_netlist.specs.declared.netlist_data.NetlistData.{NetlistData}
 use Rattle.design_netlist.specs.Rows as netlist
 use Rattle.map_network.specs.declared.network.Network.{Network}
 use Rattle.map_network.specs.Rows.{AreRows}
@@ -21,5 +21,5 @@ abbrev pub IsRightForNetwork : Faults → ImageValue → Network → Type 0
 IsRightForNetwork f i n = ReadsRows f i (AreRows n)
 
 -- it reads the netlist's rows
-abbrev pub IsRightImage : Faults → ImageValue → Draft → Type 0
+abbrev pub IsRightImage : Faults → ImageValue → NetlistData → Type 0
 IsRightImage f i d = ReadsRows f i (netlist.AreRows d)

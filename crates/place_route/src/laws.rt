@@ -6,7 +6,7 @@ ghost use Rattle.machine_config.specs.Configuration.{Configuration, is_closed};
 ghost use Rattle.machine_image.specs.Parts.{IsFreeImage};
 ghost use Rattle.map_network.specs.declared.network.Network.{Network};
 ghost use Rattle.map_network.specs.Networks.{IsNetwork, IsDeepest};
-ghost use Rattle.design_netlist.specs.declared.draft.Draft.{Draft};
+ghost use Rattle.design_netlist.specs.declared.netlist_data.NetlistData.{NetlistData};
 ghost use Rattle.machine_image.specs.Images.{ImageValue};
 ghost use Rattle.map_network.specs.Rows.{HasRowsOf};
 ghost use Rattle.place_plan.specs.declared.plan.Plan.{Plan};
@@ -39,6 +39,6 @@ pub fn nets_on_the_tree_read_rows()
 
 /// An image that reads a network's rows is right for each netlist whose rows are the network's.
 pub fn an_image_is_right_for_the_netlists_of_its_network()
-    ensures { (f : Faults) (i : ImageValue) (n : Network) (netlist : Draft) → HasRowsOf n netlist →
+    ensures { (f : Faults) (i : ImageValue) (n : Network) (netlist : NetlistData) → HasRowsOf n netlist →
         IsRightForNetwork f i n → IsRightImage f i netlist }
 {}

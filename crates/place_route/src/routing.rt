@@ -4,7 +4,7 @@ ghost use Rattle.std.specs.FinSet as set;
 ghost use Rattle.machine_shape.specs.Shape.{pins_of, tables_of, wires_of};
 ghost use Rattle.machine_meaning.specs.Defects.{Covers};
 ghost use Rattle.machine_meaning.specs.Faults.{Faults};
-ghost use Rattle.design_netlist.specs.declared.draft.Draft.{Draft};
+ghost use Rattle.design_netlist.specs.declared.netlist_data.NetlistData.{NetlistData};
 ghost use Rattle.machine_image.specs.Parts.{IsFreeImage};
 ghost use Rattle.map_network.specs.Networks.{IsNetwork};
 ghost use Rattle.map_network.specs.Rows.{HasRowsOf};
@@ -147,7 +147,7 @@ pub fn route_laid(
         IsRoutedFor defects.now.shape defects.now.list network.now plan.now i) }
     ensures free { IfOk result (IsFreeImage defects.now.list) }
     ensures rows { IfOk result (λ i. (f : Faults) → Covers defects.now.shape defects.now.list f → IsRightForNetwork f i network.now) }
-    ensures right { IfOk result (λ i. (netlist : Draft) (f : Faults) → HasRowsOf network.now netlist →
+    ensures right { IfOk result (λ i. (netlist : NetlistData) (f : Faults) → HasRowsOf network.now netlist →
         Covers defects.now.shape defects.now.list f → IsRightImage f i netlist) }
 {
     machine_shape::the_numbering_is_sound();
@@ -171,7 +171,7 @@ pub fn route(
     ensures routed { IfOk result (IsRoutedFor defects.now.shape defects.now.list network.now plan.now) }
     ensures free { IfOk result (IsFreeImage defects.now.list) }
     ensures rows { IfOk result (λ i. (f : Faults) → Covers defects.now.shape defects.now.list f → IsRightForNetwork f i network.now) }
-    ensures right { IfOk result (λ i. (netlist : Draft) (f : Faults) → HasRowsOf network.now netlist →
+    ensures right { IfOk result (λ i. (netlist : NetlistData) (f : Faults) → HasRowsOf network.now netlist →
         Covers defects.now.shape defects.now.list f → IsRightImage f i netlist) }
 {
     let layout = lay_out(alloc, network, plan, defects)?.unwrap();

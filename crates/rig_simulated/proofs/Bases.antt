@@ -7,12 +7,12 @@ use Rattle.machine_shape.specs.declared.Shape.{Shape}
 use Rattle.machine_shape.specs.Shape.{wires_of}
 use Rattle.machine_meaning.specs.Faults.{Faults, AreFaultsOf, stuck_wire, pair_cmp}
 use Rattle.machine_meaning.specs.Joined.{Linked, crossed, bridged, Joined, here, then}
-use Rattle.rig_simulated.specs.declared.classes.Knot.{Knot}
+use Rattle.rig_simulated.specs.declared.classes.ClassNode.{ClassNode}
 use Rattle.rig_simulated.specs.Classes.{knot_at, HasRoots, IsHeldAs, AreTied}
 use Rattle.rig_simulated.specs.Building.{bridged_net}
 
 -- a knot of its own
-abbrev pub lone : (ℕ → Option Bool) → ℕ → Knot
+abbrev pub lone : (ℕ → Option Bool) → ℕ → ClassNode
 lone stuck w = record { parent = w; rank = 0; held = stuck w }
 
 no_link : (m : Shape) (u v : ℕ) → Linked (bridged_net m []) u v → ⊥
@@ -35,7 +35,7 @@ not_stuck stuck n w within h = by_case (stuck w) (within w)
     by_case None f = refl
     by_case (Some v) f = absurd (let l : w < n = f refl in omega (arith, l, h))
 
-pub all_alone : (m : Shape) (f : Faults) (knots : List Knot) → AreFaultsOf m f → length knots ≡ wires_of m → ((k : ℕ) → k < length knots → knot_at knots k ≡ lone (stuck_wire f) k) → AreTied (bridged_net m []) (stuck_wire f) knots 0
+pub all_alone : (m : Shape) (f : Faults) (knots : List ClassNode) → AreFaultsOf m f → length knots ≡ wires_of m → ((k : ℕ) → k < length knots → knot_at knots k ≡ lone (stuck_wire f) k) → AreTied (bridged_net m []) (stuck_wire f) knots 0
 all_alone m f knots are len each = record { root = λ w. w; knots_are = record { roots = roots; classes = record { joined = λ a b e. subst (Joined (bridged_net m []) a) e here; same = only_itself m }; held = λ r _. held r } }
   where
     is_lone : (w : ℕ) → knot_at knots w ≡ lone (stuck_wire f) w

@@ -2,11 +2,11 @@
 use Rattle.std.proofs.Common.{◌≡◌, ◌≢◌, ◌⊎◌, inl, inr, ℕ, ◌+◌, ◌<◌, ◌≤◌, None, List, length, get_or, refl, sym, ap, ◌∙◌, subst, arith, cond, eqb}
 use Rattle.std.proofs.lemmas.Bool.{cases_eq, eq-eqb, ne_eqb, cond-true, cond-false}
 use Rattle.std.proofs.lemmas.List.{get_or_default}
-use Rattle.rig_simulated.specs.declared.classes.Knot.{Knot}
+use Rattle.rig_simulated.specs.declared.classes.ClassNode.{ClassNode}
 use Rattle.rig_simulated.specs.Classes.{knot_at, HasRoots, IsHung}
 
 -- within the list the default has no say
-pub knot_is : (knots : List Knot) (w : ℕ) (d : Knot) → w < length knots → get_or knots w d ≡ knot_at knots w
+pub knot_is : (knots : List ClassNode) (w : ℕ) (d : ClassNode) → w < length knots → get_or knots w d ≡ knot_at knots w
 knot_is knots w d h = get_or_default knots w d (record { parent = w; rank = 0; held = None }) h
 
 -- the roots once one is below another
@@ -23,7 +23,7 @@ module _ (root : ℕ → ℕ) (low high : ℕ) where
   pub merged-same : (w u : ℕ) → root w ≡ root u → merged root low high w ≡ merged root low high u
   merged-same w u e = ap (λ r. cond (eqb r low) high r) e
 
-module _ {knots new : List Knot} {most : ℕ} {root : ℕ → ℕ} (roots : HasRoots knots most root) (low high : ℕ)
+module _ {knots new : List ClassNode} {most : ℕ} {root : ℕ → ℕ} (roots : HasRoots knots most root) (low high : ℕ)
     (hung : IsHung knots new low high) (low_in : low < length knots) (high_in : high < length knots)
     (low_top : (knot_at knots low).parent ≡ low) (high_top : (knot_at knots high).parent ≡ high) (apart : low ≢ high) where
   low_root : root low ≡ low

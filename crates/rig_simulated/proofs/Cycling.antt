@@ -4,7 +4,7 @@ use Rattle.std.proofs.lemmas.Bool.{false≢true}
 use Rattle.machine_meaning.specs.Circuit.{Outputs, Pins}
 use Rattle.machine_meaning.specs.Faults.{Faults}
 use Rattle.machine_config.specs.Configuration.{Configuration}
-use Rattle.rig_simulated.specs.declared.classes.Knot.{Knot}
+use Rattle.rig_simulated.specs.declared.classes.ClassNode.{ClassNode}
 use Rattle.rig_simulated.specs.declared.gates.Gate.{Gate}
 use Rattle.rig_simulated.specs.Gates.{IsClear, AreOutputs, IsDrivenBy, AreMarkedToo}
 use Rattle.rig_simulated.specs.Cycles.{IsWired, AreDriven, HaveTicked, IsEdge, HasTicked, HasCycled}
@@ -18,7 +18,7 @@ driven_by_marks pins drive old low is_clear are = record {
 }
 
 -- ticks and a clock edge are a cycle
-pub whole_cycle : (f : Faults) (g : Configuration) (root : ℕ → ℕ) (knots : List Knot) (pins : List ℕ) (drive read : Pins) (low clear : List Bool) (old mid new : List Gate) (before : Outputs) (ticks : ℕ) → g.ticks ≡ ticks →
+pub whole_cycle : (f : Faults) (g : Configuration) (root : ℕ → ℕ) (knots : List ClassNode) (pins : List ℕ) (drive read : Pins) (low clear : List Bool) (old mid new : List Gate) (before : Outputs) (ticks : ℕ) → g.ticks ≡ ticks →
     AreDriven pins drive low → IsClear clear → IsWired f g root knots pins old → AreOutputs g old before → HaveTicked f knots low old ticks mid →
     IsEdge f knots low clear pins read mid new → HasCycled f g root knots pins drive read before new
 whole_cycle f g root knots pins drive read low clear old mid new before ticks same driven is_clear wired gives ticked edge =

@@ -6,7 +6,7 @@ use Rattle.std.proofs.lemmas.Bool.{false≢true, cases_eq, cases_Bool, false_fro
 use Rattle.std.proofs.lemmas.List.{get_or-set_other, get_or-set_same, length-set, get_or_default, get_or-map, length-map, same_lists}
 use Rattle.machine_meaning.specs.Faults.{Faults}
 use Rattle.machine_config.specs.Run.{number_of}
-use Rattle.rig_simulated.specs.declared.classes.Knot.{Knot}
+use Rattle.rig_simulated.specs.declared.classes.ClassNode.{ClassNode}
 use Rattle.rig_simulated.specs.declared.gates.Gate.{Gate}
 use Rattle.rig_simulated.specs.declared.queue.Queue.{Queue}
 use Rattle.rig_simulated.specs.declared.readers.Readers.{Readers}
@@ -102,11 +102,11 @@ sound_given place o xs ys r p q pulls old low new h g is queue marks len counted
     }
 
 -- a class's level hangs on its own mark
-level_there : (knots : List Knot) (pins low new : List Bool) (r : ℕ) → is_low new r ≡ is_low low r → level_at knots pins new r ≡ level_at knots pins low r
+level_there : (knots : List ClassNode) (pins low new : List Bool) (r : ℕ) → is_low new r ≡ is_low low r → level_at knots pins new r ≡ level_at knots pins low r
 level_there knots pins low new r e = ap (λ b. level_of (knot_at knots r).held (is_low pins r || b)) e
 
 -- where the level stays, and where those that read the class are listed
-module _ (xs : List Gate) (place class : ℕ) (d : Gate) (marks : List Bool) (knots : List Knot) (pins low new : List Bool) (is : class ≡ (get_or xs place d).out) (others : (c : ℕ) (e : Gate) → c ≢ (get_or xs place e).out → is_low new c ≡ is_low low c) where
+module _ (xs : List Gate) (place class : ℕ) (d : Gate) (marks : List Bool) (knots : List ClassNode) (pins low new : List Bool) (is : class ≡ (get_or xs place d).out) (others : (c : ℕ) (e : Gate) → c ≢ (get_or xs place e).out → is_low new c ≡ is_low low c) where
   elsewhere : (c : ℕ) → (c ≡ class → ⊥) → level_at knots pins new c ≡ level_at knots pins low c
   elsewhere c other = level_there knots pins low new c (others c d (λ q. other (q ∙ sym is)))
 
@@ -254,7 +254,7 @@ again f la lb x e =
 pub put_all : {q : Queue} (f : Faults) (level : ℕ → Bool) (old new : List Gate) (flips : List Flip) (n : ℕ) → IsQueue q → AreAlike old new → ArePut f level old flips n new → HaveFlips f level old q.due.items q.count flips n → AreStill f level old q.marks.items → new ≡ map (ticked f level) old
 put_all {q} f level old new flips n is alike put have still = put_is_map f level old new flips n q.count q.due.items q.marks.items alike.len put have is.listed still
 
-pub still_after : (f : Faults) (knots : List Knot) (pins low end : List Bool) (old new : List Gate) (marks : List Bool) → new ≡ map (ticked f (level_at knots pins low)) old → InputsKept old marks (level_at knots pins low) (level_at knots pins end) → AreStill f (level_at knots pins end) new marks
+pub still_after : (f : Faults) (knots : List ClassNode) (pins low end : List Bool) (old new : List Gate) (marks : List Bool) → new ≡ map (ticked f (level_at knots pins low)) old → InputsKept old marks (level_at knots pins low) (level_at knots pins end) → AreStill f (level_at knots pins end) new marks
 still_after f knots pins low end old new marks e kept k d h none =
     subst (IsStill f lb) (sym (ap (λ zs. get_or zs k d) e ∙ get_or-map (ticked f la) old k d d l))
     (again f la lb x (ap number_of (six_alike (λ j. lb (get_or x.ins j 0)) (λ j. la (get_or x.ins j 0)) (λ j m. kept k j d l m none))))
@@ -272,7 +272,7 @@ still_after f knots pins low end old new marks e kept k d h none =
     l = let s = ap length e ∙ length-map old (ticked f la) in omega (arith, h, s)
 
 -- a tick of these tables
-pub tick_by_counts : (f : Faults) (knots : List Knot) (pins low : List Bool) (pulls : List ℕ) (old new : List Gate) → AreCounted old pulls low → All (λ (x : Gate). x.out < length low) old → new ≡ map (ticked f (level_at knots pins low)) old → IsTick f knots pins old new
+pub tick_by_counts : (f : Faults) (knots : List ClassNode) (pins low : List Bool) (pulls : List ℕ) (old new : List Gate) → AreCounted old pulls low → All (λ (x : Gate). x.out < length low) old → new ≡ map (ticked f (level_at knots pins low)) old → IsTick f knots pins old new
 tick_by_counts f knots pins low pulls old new counted outs e = record {
   clear = replicate (length low) false;
   is_clear = clear_before old pulls low counted;
@@ -290,7 +290,7 @@ all_still f level gates marks still none =
     same_lists gates (map (ticked f level) gates) (sym (length-map gates (ticked f level)))
     (λ k d h. sym (get_or-map (ticked f level) gates k d d h ∙ still k d h (none k)))
 
-pub tick_at_rest : {q : Queue} {r : Readers} {pulls : List ℕ} (f : Faults) (knots : List Knot) (pins low : List Bool) (now : List Gate) → IsSound now r q pulls low → AreStill f (level_at knots pins low) now q.marks.items → q.count ≡ 0 → IsTick f knots pins now now
+pub tick_at_rest : {q : Queue} {r : Readers} {pulls : List ℕ} (f : Faults) (knots : List ClassNode) (pins low : List Bool) (now : List Gate) → IsSound now r q pulls low → AreStill f (level_at knots pins low) now q.marks.items → q.count ≡ 0 → IsTick f knots pins now now
 tick_at_rest {q = q} {pulls = pulls} f knots pins low now sound still none =
     tick_by_counts f knots pins low pulls now now sound.counted sound.outs (all_still f (level_at knots pins low) now q.marks.items still (none_marked q sound.queue none))
 

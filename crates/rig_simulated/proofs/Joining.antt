@@ -4,7 +4,7 @@ use Rattle.std.proofs.lemmas.Bool.{cases_eq}
 use Rattle.machine_shape.specs.Shape.{Ends, in_order, turned}
 use Rattle.machine_meaning.specs.Joined.{Net, Linked, Joined, here, then}
 use Rattle.machine_meaning.proofs.JoinedLemmas.{Joined-trans, Joined-sym}
-use Rattle.rig_simulated.specs.declared.classes.Knot.{Knot}
+use Rattle.rig_simulated.specs.declared.classes.ClassNode.{ClassNode}
 use Rattle.rig_simulated.specs.Classes.{knot_at, HasRoots, AreClasses, HoldsAt, IsHeldAs, AreKnots, AreTied, HasLink, HaveSameLinks, stronger, IsHung}
 use Rattle.rig_simulated.proofs.ClassLemmas.{merged, merged-low, merged-other, merged-same, hung_roots}
 
@@ -110,7 +110,7 @@ module _ (stuck : ℕ → Option Bool) (root : ℕ → ℕ) (low high : ℕ) (ap
   held_other r n m (Some false) p = from_other r n false p
   held_other r n m (Some true) p = (λ h. p.0 (to_other r m false h), from_other r n true p.1)
 
-module _ {old new : Net} {stuck : ℕ → Option Bool} {knots after : List Knot} {most : ℕ} {root : ℕ → ℕ} {a b : ℕ} (are : AreKnots old stuck knots most root) (link : HasLink old new a b) where
+module _ {old new : Net} {stuck : ℕ → Option Bool} {knots after : List ClassNode} {most : ℕ} {root : ℕ → ℕ} {a b : ℕ} (are : AreKnots old stuck knots most root) (link : HasLink old new a b) where
   pub joined_knots : (low high : ℕ) → ((root a ≡ low) × (root b ≡ high)) ⊎ ((root a ≡ high) × (root b ≡ low)) → IsHung knots after low high → low < length knots → high < length knots →
       (knot_at knots low).parent ≡ low → (knot_at knots high).parent ≡ high → low ≢ high → AreKnots new stuck after (most + 1) (merged root low high)
   joined_knots low high ends hung low_in high_in low_top high_top apart = record {
@@ -137,22 +137,22 @@ module _ {old new : Net} {stuck : ℕ → Option Bool} {knots after : List Knot}
               let own : root r ≡ r = ⊎_elim (λ f. absurd (m (sym top ∙ merged-low root low high r f))) (λ f. sym (merged-other root low high r f) ∙ top) (cases_eq (root r) low) in
               rw (hung.others r not_low m) (held_other stuck root low high apart r not_low m _ (are.held r own))
 
-pub raised : {knots : List Knot} {most : ℕ} {root : ℕ → ℕ} (n : ℕ) → most ≤ n → HasRoots knots most root → HasRoots knots n root
+pub raised : {knots : List ClassNode} {most : ℕ} {root : ℕ → ℕ} (n : ℕ) → most ≤ n → HasRoots knots most root → HasRoots knots n root
 raised n le h = record { within = h.within; up = h.up; top = h.top; itself = h.itself; rises = h.rises; few = λ w. let f = h.few w in omega (arith, f, le) }
 
 -- a link within a class leaves the knots
-pub same_knots : {old new : Net} {stuck : ℕ → Option Bool} {knots : List Knot} {most : ℕ} {root : ℕ → ℕ} {a b : ℕ} → AreKnots old stuck knots most root → HasLink old new a b → root a ≡ root b → AreKnots new stuck knots (most + 1) root
+pub same_knots : {old new : Net} {stuck : ℕ → Option Bool} {knots : List ClassNode} {most : ℕ} {root : ℕ → ℕ} {a b : ℕ} → AreKnots old stuck knots most root → HasLink old new a b → root a ≡ root b → AreKnots new stuck knots (most + 1) root
 same_knots {most} are link e = record { roots = raised (most + 1) (omega arith) are.roots; classes = within_class are.classes link e; held = are.held }
 
 -- the same links make the same classes
 pub with_same_links : {old new : Net} {root : ℕ → ℕ} → HaveSameLinks old new → AreClasses old root → AreClasses new root
 with_same_links s are = record { joined = λ u v e. Joined-kept s.to (are.joined u v e); same = λ u v j. are.same u v (Joined-kept s.from j) }
 
-pub tied_alike : {old new : Net} {stuck : ℕ → Option Bool} {knots : List Knot} {most : ℕ} (n : ℕ) → HaveSameLinks old new → most ≤ n → AreTied old stuck knots most → AreTied new stuck knots n
+pub tied_alike : {old new : Net} {stuck : ℕ → Option Bool} {knots : List ClassNode} {most : ℕ} (n : ℕ) → HaveSameLinks old new → most ≤ n → AreTied old stuck knots most → AreTied new stuck knots n
 tied_alike n s le t = record { root = t.root; knots_are = record { roots = raised n le t.knots_are.roots; classes = with_same_links s t.knots_are.classes; held = t.knots_are.held } }
 
 -- the knots once the classes of a and b, whose roots are these, are one
-pub tied_roots : {old new : Net} {stuck : ℕ → Option Bool} {knots after : List Knot} {most a b x y : ℕ} (t : AreTied old stuck knots most) → HasLink old new a b →
+pub tied_roots : {old new : Net} {stuck : ℕ → Option Bool} {knots after : List ClassNode} {most a b x y : ℕ} (t : AreTied old stuck knots most) → HasLink old new a b →
     x ≡ t.root a → y ≡ t.root b → x < length knots → y < length knots → (knot_at knots x).parent ≡ x → (knot_at knots y).parent ≡ y → x ≢ y →
     IsHung knots after x y ⊎ IsHung knots after y x → AreTied new stuck after (most + 1)
 tied_roots {x} {y} t link ex ey xin yin xtop ytop apart hung = ⊎_elim

@@ -14,7 +14,7 @@ use Rattle.machine_config.specs.declared.Setting.{Setting}
 use Rattle.machine_config.specs.Configuration.{Configuration, setting_of}
 use Rattle.machine_config.specs.Faulty.{circuit_of, table_or_off, table_of}
 use Rattle.machine_config.specs.Run.{number_of, address_at, pins_read, tick_output, edge_output, after_tick, after_edge, unticked, tick}
-use Rattle.rig_simulated.specs.declared.classes.Knot.{Knot}
+use Rattle.rig_simulated.specs.declared.classes.ClassNode.{ClassNode}
 use Rattle.rig_simulated.specs.declared.gates.Gate.{Gate}
 use Rattle.rig_simulated.specs.Classes.{AreClasses, HoldsAt, IsHeldAs}
 use Rattle.rig_simulated.specs.Gates.{is_low, IsClear, level_of, level_at, address_by, cell_by, ticked, clocked, IsGate, Stands, AreGates, AreOutputs, IsPulledBy, IsDrivenBy, AreMarkedToo}
@@ -31,7 +31,7 @@ on_if_low g outputs t off low = by_setting (setting_of g t) (off t)
     by_setting None h = absurd (false≢true (sym low ∙ h refl))
     by_setting (Some s) h = refl
 
-module _ {f : Faults} {g : Configuration} {root : ℕ → ℕ} {knots : List Knot} {pins : List ℕ} {gates : List Gate} (wired : IsWired f g root knots pins gates)
+module _ {f : Faults} {g : Configuration} {root : ℕ → ℕ} {knots : List ClassNode} {pins : List ℕ} {gates : List Gate} (wired : IsWired f g root knots pins gates)
     {drive : Pins} {low clear marks : List Bool} {outputs : Outputs} (driven : AreDriven pins drive low) (is_clear : IsClear clear) (marked : AreMarkedToo clear marks (IsPulledBy gates (length gates))) (gives : AreOutputs g gates outputs) where
   classes : AreClasses (circuit_of f g).net root
   classes = wired.knots_are.classes
@@ -164,7 +164,7 @@ module _ (level : ℕ → Bool) (f : Faults) (g : Configuration) (root : ℕ →
       (λ k h. get_or-map level pins k 0 true (omega (arith, h, count)) ∙ ap level (are k h))
 
 -- a tick
-module _ {f : Faults} {g : Configuration} {root : ℕ → ℕ} {knots : List Knot} {pins : List ℕ} {drive : Pins} {low : List Bool} (driven : AreDriven pins drive low) where
+module _ {f : Faults} {g : Configuration} {root : ℕ → ℕ} {knots : List ClassNode} {pins : List ℕ} {drive : Pins} {low : List Bool} (driven : AreDriven pins drive low) where
   one_tick : {n : ℕ} {before : Outputs} {old new : List Gate} → HasTicked f g root knots pins drive n before old → IsTick f knots low old new → HasTicked f g root knots pins drive (suc n) before new
   one_tick {old = old} h t =
       let level = level_at knots low t.marks in
@@ -182,7 +182,7 @@ module _ {f : Faults} {g : Configuration} {root : ℕ → ℕ} {knots : List Kno
   has_ticked wired gives (once_more h t) = one_tick (has_ticked wired gives h) t
 
 -- a clock edge
-module _ {f : Faults} {g : Configuration} {root : ℕ → ℕ} {knots : List Knot} {pins : List ℕ} {drive : Pins} {low clear : List Bool} (driven : AreDriven pins drive low) (is_clear : IsClear clear) where
+module _ {f : Faults} {g : Configuration} {root : ℕ → ℕ} {knots : List ClassNode} {pins : List ℕ} {drive : Pins} {low clear : List Bool} (driven : AreDriven pins drive low) (is_clear : IsClear clear) where
   pub edge_cycle : {before : Outputs} {old new : List Gate} {read : Pins} → HasTicked f g root knots pins drive g.ticks before old → IsEdge f knots low clear pins read old new → HasCycled f g root knots pins drive read before new
   edge_cycle {old = old} h t =
       let level = level_at knots low t.marks in

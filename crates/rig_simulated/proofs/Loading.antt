@@ -9,7 +9,7 @@ use Rattle.machine_meaning.specs.Faults.{Faults, stuck_wire}
 use Rattle.machine_meaning.specs.Joined.{net_of}
 use Rattle.machine_config.specs.Configuration.{Configuration, is_closed}
 use Rattle.machine_config.specs.Faulty.{circuit_of}
-use Rattle.rig_simulated.specs.declared.classes.Knot.{Knot}
+use Rattle.rig_simulated.specs.declared.classes.ClassNode.{ClassNode}
 use Rattle.rig_simulated.specs.declared.gates.Gate.{Gate}
 use Rattle.rig_simulated.specs.Classes.{HasRoots, AreKnots, AreTied}
 use Rattle.rig_simulated.specs.Building.{closed_net, is_among}
@@ -19,7 +19,7 @@ use Rattle.rig_simulated.specs.Cycles.{IsWired}
 pub circuit_net : (m : Shape) (f : Faults) (g : Configuration) (closed : List Cross) → g.shape ≡ m → ((x : ℕ) → is_among closed x ≡ is_closed g x) → closed_net m f closed ≡ (circuit_of f g).net
 circuit_net m f g closed e same = ap (λ c. net_of m f c) (fun_ext same) ∙ ap (λ s. net_of s f (is_closed g)) (sym e)
 
-pub wired_by : (m : Shape) (f : Faults) (g : Configuration) (closed : List Cross) (knots : List Knot) (pins : List ℕ) (gates : List Gate) (n : ℕ) → g.shape ≡ m → ((x : ℕ) → is_among closed x ≡ is_closed g x) →
+pub wired_by : (m : Shape) (f : Faults) (g : Configuration) (closed : List Cross) (knots : List ClassNode) (pins : List ℕ) (gates : List Gate) (n : ℕ) → g.shape ≡ m → ((x : ℕ) → is_among closed x ≡ is_closed g x) →
     (t : AreTied (closed_net m f closed) (stuck_wire f) knots n) → ((most : ℕ) (root : ℕ → ℕ) → HasRoots knots most root → AreGates f g root gates) → length pins ≡ pins_of m →
     ((most : ℕ) (root : ℕ → ℕ) → HasRoots knots most root → (k : ℕ) → k < pins_of m → slice_index pins k ≡ root (pin_wire m k)) → IsWired f g t.root knots pins gates
 wired_by m f g closed knots pins gates n e same t gates_are count pins_are = record {

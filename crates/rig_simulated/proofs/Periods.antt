@@ -4,7 +4,7 @@ use Rattle.std.proofs.Math.Nat.{mod-add-div'}
 use Rattle.std.proofs.lemmas.Bool.{cases_eq}
 use Rattle.std.proofs.lemmas.List.{get_or-map, get_or_default, get_or-set_same, get_or-set_other, length-map, length-set, same_lists}
 use Rattle.machine_meaning.specs.Faults.{Faults}
-use Rattle.rig_simulated.specs.declared.classes.Knot.{Knot}
+use Rattle.rig_simulated.specs.declared.classes.ClassNode.{ClassNode}
 use Rattle.rig_simulated.specs.declared.gates.Gate.{Gate}
 use Rattle.rig_simulated.specs.declared.past.Past.{Past}
 use Rattle.rig_simulated.specs.Gates.{level_at, ticked}
@@ -15,7 +15,7 @@ use Rattle.rig_simulated.proofs.Eventing.{alike_same, alike_on, alike_map}
 use Rattle.rig_simulated.proofs.Levels.{no_gate}
 use Rattle.rig_simulated.proofs.Twins.{all_further, twin_is}
 
-module _ {f : Faults} {knots : List Knot} {low : List Bool} where
+module _ {f : Faults} {knots : List ClassNode} {low : List Bool} where
   -- ticks are those of the same tables
   ticked_alike : {old : List Gate} {n : ℕ} {new : List Gate} → HaveTicked f knots low old n new → AreAlike old new
   ticked_alike {old = old} not_yet = alike_same old
@@ -84,7 +84,7 @@ pub kept_then : (old mid new : Past) (made : ℕ) (now : List Gate) → KeepsPas
 kept_then old mid new made now a b f knots low first led past = b f knots low first led (a f knots low first led past)
 
 -- after a tick more
-pub past_on : (f : Faults) (knots : List Knot) (low : List Bool) (first mid new : List Gate) (p : Past) (made : ℕ) → HasComeIfKept f knots low first p made mid → IsTick f knots low mid new → HasComeIfKept f knots low first p (made + 1) new
+pub past_on : (f : Faults) (knots : List ClassNode) (low : List Bool) (first mid new : List Gate) (p : Past) (made : ℕ) → HasComeIfKept f knots low first p made mid → IsTick f knots low mid new → HasComeIfKept f knots low first p (made + 1) new
 past_on f knots low first mid new p made past t = λ some.
     let come = past some in
     record {
@@ -96,7 +96,7 @@ past_on f knots low first mid new p made past t = λ some.
       outputs = come.outputs;
     }
 
-pub past_none : (f : Faults) (knots : List Knot) (low : List Bool) (first : List Gate) (p : Past) (made : ℕ) (now : List Gate) → p.at ≡ 0 → HasComeIfKept f knots low first p made now
+pub past_none : (f : Faults) (knots : List ClassNode) (low : List Bool) (first : List Gate) (p : Past) (made : ℕ) (now : List Gate) → p.at ≡ 0 → HasComeIfKept f knots low first p made now
 past_none f knots low first p made now none = λ some. absurd (omega (arith, some, none))
 
 -- ---- what tables give, one after the other
@@ -133,7 +133,7 @@ given_all n gates outputs are all = same_lists outputs (map given_by gates) (are
         are.each k b no_gate (omega (arith, l, all)) ∙ sym (get_or-map given_by gates k no_gate b l)
 
 -- a tick more, and what is left of them
-module _ {f : Faults} {knots : List Knot} {low : List Bool} {first : List Gate} {made : ℕ} {now : List Gate} (led : HaveTicked f knots low first made now) where
+module _ {f : Faults} {knots : List ClassNode} {low : List Bool} {first : List Gate} {made : ℕ} {now : List Gate} (led : HaveTicked f knots low first made now) where
   -- where a tick changes nothing, neither do those that are left
   pub ticked_at_rest : {ticks : ℕ} → made < ticks → IsTick f knots low now now → HaveTicked f knots low first ticks now
   ticked_at_rest {ticks} less still =

@@ -2,7 +2,7 @@
 use Rattle.std.proofs.Common.{◌≡◌, ◌∙◌, ℕ, ◌+◌, Bool, List, length, refl}
 use Rattle.std.specs.List.{All}
 use Rattle.machine_meaning.specs.Faults.{Faults}
-use Rattle.rig_simulated.specs.declared.classes.Knot.{Knot}
+use Rattle.rig_simulated.specs.declared.classes.ClassNode.{ClassNode}
 use Rattle.rig_simulated.specs.declared.gates.Gate.{Gate}
 use Rattle.rig_simulated.specs.declared.events.Events.{Events}
 use Rattle.rig_simulated.specs.Gates.{Fits, IsClear, level_at}
@@ -11,14 +11,14 @@ use Rattle.rig_simulated.specs.Events.{AreStill, IsSound}
 use Rattle.rig_simulated.proofs.Periods.{ticked_more}
 
 -- n ticks, each of which evaluated all tables
-pub record AreTicked (t : ℕ) (f : Faults) (knots : List Knot) (low_pins low_tables : List Bool) (first gates : List Gate) (n : ℕ) : Type 0 where
+pub record AreTicked (t : ℕ) (f : Faults) (knots : List ClassNode) (low_pins low_tables : List Bool) (first gates : List Gate) (n : ℕ) : Type 0 where
   pub fits : All (Fits t (length knots)) gates
   pub tables : length low_tables ≡ length knots
   pub clear : IsClear low_tables
   pub ticked : HaveTicked f knots low_pins first n gates
 
 -- n ticks, each of which evaluated the tables that were listed
-pub record AreTickedListed (t : ℕ) (f : Faults) (knots : List Knot) (low_pins low_tables : List Bool) (first gates : List Gate) (before e : Events) (n : ℕ) : Type 0 where
+pub record AreTickedListed (t : ℕ) (f : Faults) (knots : List ClassNode) (low_pins low_tables : List Bool) (first gates : List Gate) (before e : Events) (n : ℕ) : Type 0 where
   pub fits : All (Fits t (length knots)) gates
   pub tables : length low_tables ≡ length knots
   pub flips : length e.flips.items ≡ length gates
@@ -27,7 +27,7 @@ pub record AreTickedListed (t : ℕ) (f : Faults) (knots : List Knot) (low_pins 
   pub ticked : HaveTicked f knots low_pins first n gates
   pub listed : e.listed ≡ before.listed
 
-module _ {t : ℕ} {f : Faults} {knots : List Knot} {low_pins low_tables : List Bool} {gates : List Gate} (fits : All (Fits t (length knots)) gates) (tables : length low_tables ≡ length knots) where
+module _ {t : ℕ} {f : Faults} {knots : List ClassNode} {low_pins low_tables : List Bool} {gates : List Gate} (fits : All (Fits t (length knots)) gates) (tables : length low_tables ≡ length knots) where
   pub ticks_begin : IsClear low_tables → AreTicked t f knots low_pins low_tables gates gates 0
   ticks_begin clear = record { fits = fits; tables = tables; clear = clear; ticked = not_yet }
 

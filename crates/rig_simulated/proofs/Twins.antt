@@ -9,7 +9,7 @@ use Rattle.std.proofs.lemmas.List.Edits.{map_over_more}
 use Rattle.base_bits.proofs.SetsLemmas.{same_bits}
 use Rattle.machine_meaning.specs.Faults.{Faults}
 use Rattle.machine_config.specs.Run.{number_of}
-use Rattle.rig_simulated.specs.declared.classes.Knot.{Knot}
+use Rattle.rig_simulated.specs.declared.classes.ClassNode.{ClassNode}
 use Rattle.rig_simulated.specs.declared.gates.Gate.{Gate}
 use Rattle.rig_simulated.specs.Classes.{knot_at}
 use Rattle.rig_simulated.specs.Gates.{is_low, IsClear, Fits, level_of, level_at, address_by, cell_by, ticked, clocked, IsPulledBy, IsOutputOf, AreMarkedToo}
@@ -99,7 +99,7 @@ module _ (P : Gate → Type 0) (xs ys : List Gate) (twins : AreTwins P xs ys) wh
           (λ e. ⊎_elim (λ g. absurd (false≢true (sym e ∙ marked_from g))) (λ g. e ∙ sym g) (cases_Bool (is_low b r)))
           (cases_Bool (is_low a r))
 
-      pub levels_beside : (knots : List Knot) (low : List Bool) → level_at knots low a r ≡ level_at knots low b r
+      pub levels_beside : (knots : List ClassNode) (low : List Bool) → level_at knots low a r ≡ level_at knots low b r
       levels_beside knots low = ap (λ m. level_of (knot_at knots r).held (is_low low r || m)) marks_beside
 
 -- a latched table, or one whose rank is this at most
@@ -134,7 +134,7 @@ module _ (f : Faults) (rank : ℕ → ℕ) (most : ℕ) where
       gives (inl e) = by_latch e
       gives (inr h) = ⊎_elim by_latch (λ e. by_rank e h) (cases_Bool x.setting.latched)
 
-  tick_twins : (n : ℕ) (knots : List Knot) (low : List Bool) (xs ys xt yt : List Gate) → All (IsRankedOrLatched rank most) xs → AreTwins (IsSure rank n) xs ys → IsTick f knots low xs xt → IsTick f knots low ys yt → AreTwins (IsSure rank (suc n)) xt yt
+  tick_twins : (n : ℕ) (knots : List ClassNode) (low : List Bool) (xs ys xt yt : List Gate) → All (IsRankedOrLatched rank most) xs → AreTwins (IsSure rank n) xs ys → IsTick f knots low xs xt → IsTick f knots low ys yt → AreTwins (IsSure rank (suc n)) xt yt
   tick_twins n knots low xs ys xt yt ranked twins a b =
       subst (λ l. AreTwins (IsSure rank (suc n)) l yt) (sym a.next) (subst (AreTwins (IsSure rank (suc n)) (map (ticked f la) xs)) (sym b.next)
       (record { len = length-map ys (ticked f lb) ∙ twins.len ∙ sym (length-map xs (ticked f la)); each = each }))
@@ -176,20 +176,20 @@ module _ (clear : List Bool) (gates : List Gate) (fits : All (λ x. x.out < leng
       let e : n + 1 ≡ suc n = omega arith in
       subst (HasMarks clear gates) e (one_more n (omega (arith, h)) (marks_of n (omega (arith, h))) (cases_Bool (get_or gates n no_gate).output))
 
-  pub tick_of : (f : Faults) (knots : List Knot) (low : List Bool) → IsClear clear → (new : List Gate) × IsTick f knots low gates new
+  pub tick_of : (f : Faults) (knots : List ClassNode) (low : List Bool) → IsClear clear → (new : List Gate) × IsTick f knots low gates new
   tick_of f knots low is_clear =
       let m = marks_of (length gates) (omega arith) in
       (map (ticked f (level_at knots low m.0)) gates, record { clear = clear; is_clear = is_clear; marks = m.0; marked = m.1; next = refl })
 
 -- where the tables of the first list stand after so many ticks
-record IsBeside (f : Faults) (knots : List Knot) (low clear : List Bool) (rank : ℕ → ℕ) (most n : ℕ) (xs ys : List Gate) : Type 0 where
+record IsBeside (f : Faults) (knots : List ClassNode) (low clear : List Bool) (rank : ℕ → ℕ) (most n : ℕ) (xs ys : List Gate) : Type 0 where
   new : List Gate
   ticked_on : HaveTicked f knots low xs n new
   ranked : All (IsRankedOrLatched rank most) new
   fits : All (λ x. x.out < length clear) new
   twins : AreTwins (IsSure rank n) new ys
 
-module _ (f : Faults) (knots : List Knot) (low clear : List Bool) (is_clear : IsClear clear) (rank : ℕ → ℕ) (most : ℕ) (xs ys : List Gate) (ranked : All (IsRankedOrLatched rank most) xs) (fits : All (λ x. x.out < length clear) xs) (twins : AreTwins IsLatched xs ys) where
+module _ (f : Faults) (knots : List ClassNode) (low clear : List Bool) (is_clear : IsClear clear) (rank : ℕ → ℕ) (most : ℕ) (xs ys : List Gate) (ranked : All (IsRankedOrLatched rank most) xs) (fits : All (λ x. x.out < length clear) xs) (twins : AreTwins IsLatched xs ys) where
   -- no combinational table has the lowest rank
   first : AreTwins (IsSure rank 0) xs ys
   first = record { len = twins.len; each = λ k d h. record { same = (twins.each k d h).same; gives = sure k d h } }
@@ -221,7 +221,7 @@ module _ (f : Faults) (knots : List Knot) (low clear : List Bool) (is_clear : Is
       subst (HaveTicked f knots low xs n) same b.ticked_on
 
 -- ticks and the clock edge keep the ranks
-pub settles_on : {f : Faults} {knots : List Knot} {low : List Bool} {old new : List Gate} {n : ℕ} (ticks : ℕ) → Settles old ticks → HaveTicked f knots low old n new → Settles new ticks
+pub settles_on : {f : Faults} {knots : List ClassNode} {low : List Bool} {old new : List Gate} {n : ℕ} (ticks : ℕ) → Settles old ticks → HaveTicked f knots low old n new → Settles new ticks
 settles_on ticks s not_yet = s
 settles_on {f} {knots} {low} ticks s (once_more {n} {mid} {new} h t) =
     let b = settles_on ticks s h in
@@ -234,7 +234,7 @@ settles_clocked f level ticks xs ys e s = record {
 }
 
 -- a tick that changes nothing is every further one
-pub all_further : {f : Faults} {knots : List Knot} {low : List Bool} {old mid : List Gate} {n : ℕ} (m : ℕ) → HaveTicked f knots low old n mid → IsTick f knots low mid mid → HaveTicked f knots low old (m + n) mid
+pub all_further : {f : Faults} {knots : List ClassNode} {low : List Bool} {old mid : List Gate} {n : ℕ} (m : ℕ) → HaveTicked f knots low old n mid → IsTick f knots low mid mid → HaveTicked f knots low old (m + n) mid
 all_further {f} {knots} {low} {old} {mid} {n} zero h t =
     let e : n ≡ 0 + n = omega arith in
     subst (λ k. HaveTicked f knots low old k mid) e h

@@ -9,7 +9,7 @@ use Rattle.machine_shape.specs.Shape.{wires_of}
 use Rattle.machine_meaning.specs.Faults.{Faults, stuck_wire, stuck_cross, is_bridge, pair_cmp}
 use Rattle.machine_meaning.specs.Joined.{Net, net_of}
 use Rattle.machine_faults.specs.Stored.{pair_of}
-use Rattle.rig_simulated.specs.declared.classes.Knot.{Knot}
+use Rattle.rig_simulated.specs.declared.classes.ClassNode.{ClassNode}
 use Rattle.rig_simulated.specs.declared.classes.Classes.{Classes}
 use Rattle.rig_simulated.specs.Classes.{knot_at, AreTied}
 
@@ -39,12 +39,12 @@ abbrev pub base_most : ℕ
 base_most = 8589934592
 
 -- the classes of what the faults alone join
-pub record AreBase (m : Shape) (f : Faults) (base : List Knot) : Type 0 where
+pub record AreBase (m : Shape) (f : Faults) (base : List ClassNode) : Type 0 where
   pub len : length base ≡ wires_of m
   pub tied : AreTied (closed_net m f []) (stuck_wire f) base base_most
 
 -- the knots differ from the base at the touched wires at most
-pub record AreTouched (base knots : List Knot) (touched : List ℕ) : Type 0 where
+pub record AreTouched (base knots : List ClassNode) (touched : List ℕ) : Type 0 where
   pub len : length knots ≡ length base
   pub within : All (λ w. w < length base) touched
   pub others : (w : ℕ) → ¬ Contains touched w → knot_at knots w ≡ knot_at base w

@@ -2,14 +2,14 @@
 use Rattle.std.specs.Prelude.{◌≡◌, ◌≢◌, ◌⊎◌, ℕ, ◌+◌, ◌^◌, ◌<◌, ◌≤◌, Bool, true, false, Option, Some, None, List, length, slice_index_or}
 use Rattle.machine_shape.specs.Shape.{Ends}
 use Rattle.machine_meaning.specs.Joined.{Net, Linked, Joined}
-use Rattle.rig_simulated.specs.declared.classes.Knot.{Knot}
+use Rattle.rig_simulated.specs.declared.classes.ClassNode.{ClassNode}
 
 -- the knot of a wire; beyond the list each wire is alone
-abbrev pub knot_at : List Knot → ℕ → Knot
+abbrev pub knot_at : List ClassNode → ℕ → ClassNode
 knot_at knots w = slice_index_or knots w (record { parent = w; rank = 0; held = None })
 
 -- each wire has the root of its parent, and a wire that is its own parent is a root
-pub record HasRoots (knots : List Knot) (most : ℕ) (root : ℕ → ℕ) : Type 0 where
+pub record HasRoots (knots : List ClassNode) (most : ℕ) (root : ℕ → ℕ) : Type 0 where
   pub within : (w : ℕ) → w < length knots → (knot_at knots w).parent < length knots
   pub up : (w : ℕ) → root (knot_at knots w).parent ≡ root w
   pub top : (w : ℕ) → (knot_at knots w).parent ≡ w → root w ≡ w
@@ -35,19 +35,19 @@ IsHeldAs stuck root r (Some false) = HoldsAt stuck root r false
 IsHeldAs stuck root r (Some true) = (¬ HoldsAt stuck root r false) × HoldsAt stuck root r true
 
 -- the knots are those of a net whose wires are stuck so
-pub record AreKnots (net : Net) (stuck : ℕ → Option Bool) (knots : List Knot) (most : ℕ) (root : ℕ → ℕ) : Type 0 where
+pub record AreKnots (net : Net) (stuck : ℕ → Option Bool) (knots : List ClassNode) (most : ℕ) (root : ℕ → ℕ) : Type 0 where
   pub roots : HasRoots knots most root
   pub classes : AreClasses net root
   pub held : (r : ℕ) → root r ≡ r → IsHeldAs stuck root r (knot_at knots r).held
 
 -- some roots there are
-pub record AreRooted (knots : List Knot) : Type 0 where
+pub record AreRooted (knots : List ClassNode) : Type 0 where
   pub most : ℕ
   pub low : most + 1 < 2 ^ 64
   pub root : ℕ → ℕ
   pub roots : HasRoots knots most root
 
-pub record AreTied (net : Net) (stuck : ℕ → Option Bool) (knots : List Knot) (most : ℕ) : Type 0 where
+pub record AreTied (net : Net) (stuck : ℕ → Option Bool) (knots : List ClassNode) (most : ℕ) : Type 0 where
   pub root : ℕ → ℕ
   pub knots_are : AreKnots net stuck knots most root
 
@@ -71,7 +71,7 @@ stronger (Some true) (Some true) = Some true
 stronger (Some true) None = Some true
 
 -- one root is put below another
-pub record IsHung (old new : List Knot) (low high : ℕ) : Type 0 where
+pub record IsHung (old new : List ClassNode) (low high : ℕ) : Type 0 where
   pub len : length new ≡ length old
   pub parent : (knot_at new low).parent ≡ high
   pub rank : (knot_at new low).rank ≡ (knot_at old low).rank

@@ -8,7 +8,7 @@ use Rattle.machine_meaning.specs.Faults.{Faults, wrong_cell}
 use Rattle.machine_config.specs.Configuration.{Configuration, setting_of, cell_of}
 use Rattle.machine_config.specs.Faulty.{held_by}
 use Rattle.machine_config.specs.Run.{number_of}
-use Rattle.rig_simulated.specs.declared.classes.Knot.{Knot}
+use Rattle.rig_simulated.specs.declared.classes.ClassNode.{ClassNode}
 use Rattle.rig_simulated.specs.declared.gates.Gate.{Gate}
 use Rattle.rig_simulated.specs.Classes.{knot_at}
 
@@ -24,7 +24,7 @@ abbrev pub level_of : Option Bool → Bool → Bool
 level_of (Some value) low = value
 level_of None low = not low
 
-abbrev pub level_at : List Knot → List Bool → List Bool → ℕ → Bool
+abbrev pub level_at : List ClassNode → List Bool → List Bool → ℕ → Bool
 level_at knots pins tables r = level_of (knot_at knots r).held (is_low pins r || is_low tables r)
 
 -- the address at six classes

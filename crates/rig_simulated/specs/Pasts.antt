@@ -1,7 +1,7 @@
 -- What tables gave some ticks before, and give again.
 use Rattle.std.specs.Prelude.{◌≡◌, ℕ, ◌+◌, ◌<◌, Bool, List, length, map, slice_index_or}
 use Rattle.machine_meaning.specs.Faults.{Faults}
-use Rattle.rig_simulated.specs.declared.classes.Knot.{Knot}
+use Rattle.rig_simulated.specs.declared.classes.ClassNode.{ClassNode}
 use Rattle.rig_simulated.specs.declared.gates.Gate.{Gate}
 use Rattle.rig_simulated.specs.declared.past.Past.{Past}
 use Rattle.rig_simulated.specs.Cycles.{HaveTicked}
@@ -15,7 +15,7 @@ pub record AreGiven (n : ℕ) (gates : List Gate) (outputs : List Bool) : Type 0
   pub each : (k : ℕ) (b : Bool) (d : Gate) → k < n → slice_index_or outputs k b ≡ (slice_index_or gates k d).output
 
 -- the first ticks led to tables that gave what is kept, and the others from these to what they are now
-pub record HasCome (f : Faults) (knots : List Knot) (low_pins : List Bool) (first : List Gate) (p : Past) (made : ℕ)
+pub record HasCome (f : Faults) (knots : List ClassNode) (low_pins : List Bool) (first : List Gate) (p : Past) (made : ℕ)
     (now : List Gate) : Type 0 where
   pub tables : List Gate
   pub since : ℕ
@@ -25,17 +25,17 @@ pub record HasCome (f : Faults) (knots : List Knot) (low_pins : List Bool) (firs
   pub outputs : p.outputs.items ≡ map given_by tables
 
 -- so it is if something is kept
-abbrev pub HasComeIfKept : Faults → List Knot → List Bool → List Gate → Past → ℕ → List Gate → Type 0
+abbrev pub HasComeIfKept : Faults → List ClassNode → List Bool → List Gate → Past → ℕ → List Gate → Type 0
 HasComeIfKept f knots low_pins first p made now = 0 < p.at → HasCome f knots low_pins first p made now
 
 -- whatever ticks led here, what is kept is theirs
 abbrev pub KeepsPast : Past → Past → ℕ → List Gate → Type 0
-KeepsPast old new made now = (f : Faults) (knots : List Knot) (low_pins : List Bool) (first : List Gate) →
+KeepsPast old new made now = (f : Faults) (knots : List ClassNode) (low_pins : List Bool) (first : List Gate) →
     HaveTicked f knots low_pins first made now → HasComeIfKept f knots low_pins first old made now →
     HasComeIfKept f knots low_pins first new made now
 
 -- whatever ticks led here, where those that are left lead, there all do
 abbrev pub SkipsTicks : Past → ℕ → ℕ → ℕ → List Gate → Type 0
-SkipsTicks p made ticks left now = (f : Faults) (knots : List Knot) (low_pins : List Bool) (first end : List Gate) →
+SkipsTicks p made ticks left now = (f : Faults) (knots : List ClassNode) (low_pins : List Bool) (first end : List Gate) →
     HaveTicked f knots low_pins first made now → HasComeIfKept f knots low_pins first p made now →
     HaveTicked f knots low_pins now left end → HaveTicked f knots low_pins first ticks end

@@ -6,13 +6,13 @@ ghost use Rattle.machine_shape.specs.Shape.{wires_of};
 ghost use Rattle.rig_simulated.specs.Classes.{AreTied};
 ghost use Rattle.rig_simulated.specs.Building.{bridged_net, stuck_net, AreBase, AreKept};
 
-use crate::classes::{Classes, Knot, join};
+use crate::classes::{ClassNode, Classes, join};
 use machine_faults::FaultSet;
 use machine_shape::{Cross, Wire};
 use std::alloc::{AllocError, Global};
 
 // Each wire alone.
-fn alone(alloc: Global, faults: &FaultSet) -> Result<Vec<Knot>, AllocError>
+fn alone(alloc: Global, faults: &FaultSet) -> Result<Vec<ClassNode>, AllocError>
     ensures len { IfOk result (λ knots. length knots.items ≡ wires_of faults.now.shape) }
     ensures tied { IfOk result (λ knots. AreTied (bridged_net faults.now.shape []) (stuck_wire faults.now.faults) knots.items 0) }
 {
@@ -20,7 +20,7 @@ fn alone(alloc: Global, faults: &FaultSet) -> Result<Vec<Knot>, AllocError>
     let mut knots = Vec::with_capacity(alloc, wires as usize)?;
     'wires: for w in 0..wires {
         let held = faults.stuck(Wire(w));
-        knots.push(Knot {
+        knots.push(ClassNode {
             parent: w,
             rank: 0,
             held,
@@ -30,7 +30,7 @@ fn alone(alloc: Global, faults: &FaultSet) -> Result<Vec<Knot>, AllocError>
 }
 
 // Joins what is bridged.
-fn bridge_all(knots: &mut [Knot], faults: &FaultSet)
+fn bridge_all(knots: &mut [ClassNode], faults: &FaultSet)
     requires len { length knots.old ≡ wires_of faults.now.shape }
     requires tied { AreTied (bridged_net faults.now.shape []) (stuck_wire faults.now.faults) knots.old 0 }
     ensures len { length knots.new ≡ length knots.old }
@@ -46,7 +46,7 @@ fn bridge_all(knots: &mut [Knot], faults: &FaultSet)
 }
 
 // Joins the ends of the crosspoints that are stuck closed.
-fn close_stuck(knots: &mut [Knot], faults: &FaultSet)
+fn close_stuck(knots: &mut [ClassNode], faults: &FaultSet)
     requires len { length knots.old ≡ wires_of faults.now.shape }
     requires tied { AreTied (stuck_net faults.now.shape faults.now.faults 0) (stuck_wire faults.now.faults) knots.old 65536 }
     ensures { AreBase faults.now.shape faults.now.faults knots.new }

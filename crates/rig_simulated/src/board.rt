@@ -10,7 +10,7 @@ ghost use Rattle.rig_simulated.specs.Boards.{IsPrepared, IsLoaded};
 ghost use Rattle.rig_simulated.specs.Gates.{Fits, IsGate, AreGates, AreOutputs};
 
 use crate::base::classes_of;
-use crate::classes::{Classes, Knot, root_of};
+use crate::classes::{ClassNode, Classes, root_of};
 use crate::closing::close_all;
 use crate::events::{Events, list_tables, new_events};
 use crate::gates::Gate;
@@ -48,7 +48,7 @@ pub struct Board {
 }
 
 /// The root of a table's pin.
-fn root_at(knots: &[Knot], shape: Shape, table: Table, pin: u32) -> u32
+fn root_at(knots: &[ClassNode], shape: Shape, table: Table, pin: u32) -> u32
     requires len { length knots.now ≡ wires_of shape }
     requires rooted { AreRooted knots.now }
     requires table { table.0 < tables_of shape }
@@ -60,7 +60,7 @@ fn root_at(knots: &[Knot], shape: Shape, table: Table, pin: u32) -> u32
 }
 
 /// A table with this setting, as it is after a load.
-fn gate_of(faults: &FaultSet, knots: &[Knot], table: Table, setting: Setting) -> Gate
+fn gate_of(faults: &FaultSet, knots: &[ClassNode], table: Table, setting: Setting) -> Gate
     requires len { length knots.now ≡ wires_of faults.now.shape }
     requires rooted { AreRooted knots.now }
     requires table { table.0 < tables_of faults.now.shape }
@@ -97,7 +97,7 @@ fn gate_of(faults: &FaultSet, knots: &[Knot], table: Table, setting: Setting) ->
 fn fill_gates(
     gates: &mut Vec<Gate>,
     faults: &FaultSet,
-    knots: &[Knot],
+    knots: &[ClassNode],
     config: &Config,
 ) -> Result<(), AllocError>
     requires shape { config.now.config.shape ≡ faults.now.shape }
@@ -122,7 +122,7 @@ fn fill_gates(
 }
 
 /// The roots of the pins.
-fn fill_pins(pins: &mut Vec<u32>, knots: &[Knot], shape: Shape) -> Result<(), AllocError>
+fn fill_pins(pins: &mut Vec<u32>, knots: &[ClassNode], shape: Shape) -> Result<(), AllocError>
     requires len { length knots.now ≡ wires_of shape }
     requires rooted { AreRooted knots.now }
     ensures len { OnOk result (length pins.new.items ≡ pins_of shape) }

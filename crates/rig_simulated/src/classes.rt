@@ -6,7 +6,7 @@ ghost use Rattle.rig_simulated.specs.Classes.{knot_at, HasRoots, AreRooted, AreT
 
 /// What is kept of a wire.
 #[derive(Clone, Copy, Debug)]
-pub struct Knot {
+pub struct ClassNode {
     /// A wire of its class that is nearer to the root; the root is its own parent.
     pub parent: u32,
     /// A parent's rank is higher.
@@ -19,15 +19,15 @@ pub struct Knot {
 #[derive(Drop)]
 pub struct Classes {
     /// What the faults alone join.
-    pub base: Vec<Knot>,
+    pub base: Vec<ClassNode>,
     /// What is joined now.
-    pub knots: Vec<Knot>,
+    pub knots: Vec<ClassNode>,
     /// The wires whose knots may differ from the base.
     pub touched: Vec<u32>,
 }
 
 /// The root of a wire's class.
-pub fn root_of(knots: &[Knot], wire: u32) -> u32
+pub fn root_of(knots: &[ClassNode], wire: u32) -> u32
     requires within { wire < length knots.now }
     requires rooted { AreRooted knots.now }
     ensures root { (most : ℕ) (root : ℕ → ℕ) → HasRoots knots.now most root → result ≡ root wire }
@@ -55,7 +55,7 @@ fn stronger(a: Option<bool>, b: Option<bool>) -> Option<bool>
 }
 
 /// Puts a root below another of no lower rank.
-fn hang(knots: &mut [Knot], low: u32, high: u32)
+fn hang(knots: &mut [ClassNode], low: u32, high: u32)
     requires low { low < length knots.old }
     requires high { high < length knots.old }
     requires apart { low ≢ high }
@@ -70,12 +70,12 @@ fn hang(knots: &mut [Knot], low: u32, high: u32)
     } else {
         above.rank
     };
-    knots[low as usize] = Knot {
+    knots[low as usize] = ClassNode {
         parent: high,
         rank: below.rank,
         held: below.held,
     };
-    knots[high as usize] = Knot {
+    knots[high as usize] = ClassNode {
         parent: high,
         rank,
         held: stronger(below.held, above.held),
@@ -83,7 +83,7 @@ fn hang(knots: &mut [Knot], low: u32, high: u32)
 }
 
 /// Puts one of two roots below the other.
-pub fn tie(knots: &mut [Knot], a: u32, b: u32)
+pub fn tie(knots: &mut [ClassNode], a: u32, b: u32)
     requires a { a < length knots.old }
     requires b { b < length knots.old }
     requires apart { a ≢ b }
@@ -99,7 +99,7 @@ pub fn tie(knots: &mut [Knot], a: u32, b: u32)
 }
 
 /// Joins the classes of two wires.
-pub fn join(knots: &mut [Knot], a: u32, b: u32)
+pub fn join(knots: &mut [ClassNode], a: u32, b: u32)
     requires a { a < length knots.old }
     requires b { b < length knots.old }
     requires rooted { AreRooted knots.old }

@@ -13,7 +13,7 @@ ghost use Rattle.rig_simulated.specs.Pulls.{AreZero};
 ghost use Rattle.rig_simulated.specs.Events.{AreEvents};
 
 use crate::board::Board;
-use crate::classes::Knot;
+use crate::classes::ClassNode;
 use crate::events::{Events, Frame, give_up, settle_listed};
 use crate::gates::{Gate, clock_all, read_pins, tick_all};
 use crate::marks::{clear_pins, clear_tables, mark_pins, mark_tables};

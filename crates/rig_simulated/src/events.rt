@@ -9,7 +9,7 @@ ghost use Rattle.rig_simulated.specs.Pulls.{AreZero, HasGiven};
 ghost use Rattle.rig_simulated.specs.Queues.{IsQueue, KeepsMarks};
 ghost use Rattle.rig_simulated.specs.Events.{AreStill, AreFlips, HaveFlips, AreAlike, PutFlips, InputsKept, IsSound, AreEvents};
 
-use crate::classes::Knot;
+use crate::classes::ClassNode;
 use crate::gates::{Gate, level_at, ticked};
 use crate::marks::clear_tables;
 use crate::past::{Past, forget, look_back};
@@ -97,7 +97,7 @@ pub fn list_tables(events: &mut Events, gates: &[Gate], is_worth: bool) -> Resul
 pub struct Frame<'a> {
     pub faults: &'a FaultSet,
     /// By classes.
-    pub knots: &'a [Knot],
+    pub knots: &'a [ClassNode],
     /// By classes: whether a pin of the machine that is driven 0 pulls it.
     pub low_pins: &'a [bool],
 }

@@ -4,7 +4,7 @@ ghost use Rattle.std.specs.Prelude.{◌≡◌, ℕ, ◌+◌, ◌<◌, ◌||◌, 
 ghost use Rattle.machine_shape.specs.Shape.{tables_of};
 ghost use Rattle.rig_simulated.specs.Gates.{level_at, address_by, cell_by, ticked, clocked, Fits};
 
-use crate::classes::Knot;
+use crate::classes::ClassNode;
 use base_table::TABLE_INPUTS;
 use machine_config::Setting;
 use machine_faults::FaultSet;
@@ -27,7 +27,7 @@ pub struct Gate {
 }
 
 /// What all wires of a class are.
-pub fn level_at(knots: &[Knot], pins: &[bool], tables: &[bool], root: u32) -> bool
+pub fn level_at(knots: &[ClassNode], pins: &[bool], tables: &[bool], root: u32) -> bool
     requires knots { root < length knots.now }
     requires pins { root < length pins.now }
     requires tables { root < length tables.now }
@@ -40,7 +40,7 @@ pub fn level_at(knots: &[Knot], pins: &[bool], tables: &[bool], root: u32) -> bo
 }
 
 /// The address at six classes.
-fn address_at(knots: &[Knot], pins: &[bool], tables: &[bool], ins: [u32; 6]) -> u8
+fn address_at(knots: &[ClassNode], pins: &[bool], tables: &[bool], ins: [u32; 6]) -> u8
     requires ins { (j : ℕ) → j < 6 → slice_index ins j < length knots.now }
     requires pins { length pins.now ≡ length knots.now }
     requires tables { length tables.now ≡ length knots.now }
@@ -69,7 +69,13 @@ fn cell_at(faults: &FaultSet, gate: Gate, address: u8) -> bool
 }
 
 /// A table after a tick.
-pub fn ticked(faults: &FaultSet, knots: &[Knot], pins: &[bool], tables: &[bool], gate: Gate) -> Gate
+pub fn ticked(
+    faults: &FaultSet,
+    knots: &[ClassNode],
+    pins: &[bool],
+    tables: &[bool],
+    gate: Gate,
+) -> Gate
     requires table { gate.table.0 < tables_of faults.now.shape }
     requires ins { (j : ℕ) → j < 6 → slice_index gate.ins j < length knots.now }
     requires pins { length pins.now ≡ length knots.now }
@@ -84,7 +90,13 @@ pub fn ticked(faults: &FaultSet, knots: &[Knot], pins: &[bool], tables: &[bool],
 }
 
 /// A table after a clock edge.
-fn clocked(faults: &FaultSet, knots: &[Knot], pins: &[bool], tables: &[bool], gate: Gate) -> Gate
+fn clocked(
+    faults: &FaultSet,
+    knots: &[ClassNode],
+    pins: &[bool],
+    tables: &[bool],
+    gate: Gate,
+) -> Gate
     requires table { gate.table.0 < tables_of faults.now.shape }
     requires ins { (j : ℕ) → j < 6 → slice_index gate.ins j < length knots.now }
     requires pins { length pins.now ≡ length knots.now }
@@ -104,7 +116,7 @@ fn clocked(faults: &FaultSet, knots: &[Knot], pins: &[bool], tables: &[bool], ga
 /// Makes a tick: every table takes what its inputs address, but the latched ones. Whether one gives something else now.
 pub fn tick_all(
     faults: &FaultSet,
-    knots: &[Knot],
+    knots: &[ClassNode],
     pins: &[bool],
     tables: &[bool],
     gates: &mut [Gate],
@@ -129,7 +141,7 @@ pub fn tick_all(
 /// Makes the clock edge: every latched table takes what its inputs address.
 pub fn clock_all(
     faults: &FaultSet,
-    knots: &[Knot],
+    knots: &[ClassNode],
     pins: &[bool],
     tables: &[bool],
     gates: &mut [Gate],
@@ -146,7 +158,7 @@ pub fn clock_all(
 
 /// Reads what the pins are.
 pub fn read_pins(
-    knots: &[Knot],
+    knots: &[ClassNode],
     low_pins: &[bool],
     low_tables: &[bool],
     pins: &[u32],

@@ -5,7 +5,7 @@ ghost use Rattle.machine_shape.specs.Shape.{tables_of};
 ghost use Rattle.rig_simulated.specs.Gates.{Fits, IsClear};
 ghost use Rattle.rig_simulated.specs.Settling.{IsLatched, AreTwins, AreAtOutputs};
 
-use crate::classes::Knot;
+use crate::classes::ClassNode;
 use crate::gates::{Gate, ticked};
 use crate::marks::clear_tables;
 use crate::ranks::Turn;
@@ -14,7 +14,7 @@ use machine_faults::FaultSet;
 /// Evaluates a table, and marks the class that it pulls.
 fn take_turn(
     faults: &FaultSet,
-    knots: &[Knot],
+    knots: &[ClassNode],
     low_pins: &[bool],
     low_tables: &mut [bool],
     gates: &mut [Gate],
@@ -40,7 +40,7 @@ fn take_turn(
 /// give over the ticks. Which turns there are decides only how near.
 pub fn sweep(
     faults: &FaultSet,
-    knots: &[Knot],
+    knots: &[ClassNode],
     low_pins: &[bool],
     low_tables: &mut [bool],
     gates: &mut [Gate],

@@ -5,7 +5,7 @@ use Rattle.std.specs.Prelude.{Result, Ok, Err}
 use Rattle.base_io.specs.Store.{StoreState}
 use Rattle.base_io.specs.Sink.{SinkState}
 use Rattle.machine_shape.specs.declared.Shape.{Shape}
-use Rattle.design_netlist.specs.declared.draft.Draft.{Draft}
+use Rattle.design_netlist.specs.declared.netlist_data.NetlistData.{NetlistData}
 use Rattle.rig.specs.Rig.{RigState}
 use Rattle.cmd_steps.specs.Outside.{Around, Outside, outside, around}
 use Rattle.cmd_steps.specs.Courses.{Course, after}
@@ -71,11 +71,11 @@ module _ (machine name : List ℕ) (rest : Shape → Course) (more : List (List 
 -- ---- the designs
 
 module _ {files : List (List ℕ)} {old : Around} {now : Outside} (come : HasOnlyRead files old now) (file : DesignFile) (name : List ℕ)
-    (rest : Draft → Course) (more : List (List ℕ)) (s : StoreState) where
+    (rest : NetlistData → Course) (more : List (List ℕ)) (s : StoreState) where
   abbrev mid : Outside
   mid = outside s now.rig now.sink
 
-  abbrev Draws : Result Draft Stop → Type 0
+  abbrev Draws : Result NetlistData Stop → Type 0
   Draws result = Took (name ∷ []) (reads_design file (now.store.contents name)) result now mid
 
   abbrev GoesTo : {U : Type 0} → Result U Stop → Outside → Type 0
@@ -91,7 +91,7 @@ module _ {files : List (List ℕ)} {old : Around} {now : Outside} (come : HasOnl
       read-stops reads name files old.store unloaded rest more _ stop result now mid is come.read took (λ at. (at, come.loads)) refl
 
   -- or it is, and the rest is of what it says
-  pub drawn-then : {U : Type 0} (x : Draft) (result : Result U Stop) (new : Outside) → Draws (Ok x)
+  pub drawn-then : {U : Type 0} (x : NetlistData) (result : Result U Stop) (new : Outside) → Draws (Ok x)
       → (HasOnlyRead (name ∷ files) old mid → Follows ⊥ more (new.rig.machine ≡ now.rig.machine) (rest x) result mid new)
       → GoesTo result new
   drawn-then x result new took goes =

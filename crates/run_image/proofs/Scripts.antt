@@ -4,7 +4,7 @@ use Rattle.base_io.specs.Told.{Told}
 use Rattle.machine_shape.specs.declared.Shape.{Shape}
 use Rattle.machine_text.specs.Machine.{IsMachine}
 use Rattle.machine_defects.specs.Lists.{DefectList}
-use Rattle.design_netlist.specs.declared.draft.Draft.{Draft}
+use Rattle.design_netlist.specs.declared.netlist_data.NetlistData.{NetlistData}
 use Rattle.design_blif.specs.Designs.{IsDesign}
 use Rattle.machine_image.specs.Images.{ImageValue}
 use Rattle.rig.specs.Rig.{Asked}
@@ -27,7 +27,7 @@ AreLaidOn x = (d : DefectList) (i : ImageValue) → (x.lays d).gives i → IsLai
 
 -- designs are read, one after another, and then what they say is laid
 pub data Script : Type 1 where
-  reads : DesignFile → (name : List ℕ) → (Draft → Script) → Script
+  reads : DesignFile → (name : List ℕ) → (NetlistData → Script) → Script
   runs : (x : Laid) → AreLaidOn x → Script
 
 -- the words of a command, and what it does with the designs that they name
@@ -61,7 +61,7 @@ pub record HasMachine (told : Told) : Type 0 where
 
 -- and so is that of a design
 pub record HasDesign (told : Told) : Type 0 where
-  pub draft : Draft
+  pub draft : NetlistData
   pub text : IsRightFile told (λ bytes. IsDesign bytes draft)
 
 -- so are those of all designs, and P is so of what is laid
@@ -76,7 +76,7 @@ pub record IsRight (w : Words) (old : Around) (P : Shape → Laid → Type 0) : 
 -- the designs were read, and Q is so of what is laid, with the files that were read before it
 abbrev pub AreRead : (contents : List ℕ → Told) → Script → List (List ℕ) → (List (List ℕ) → Laid → Type 0) → Type 0
 AreRead contents (reads file name rest) files Q =
-    (draft : Draft) × (reads_design file (contents name)).gives draft × AreRead contents (rest draft) (name ∷ files) Q
+    (draft : NetlistData) × (reads_design file (contents name)).gives draft × AreRead contents (rest draft) (name ∷ files) Q
 AreRead contents (runs x on) files Q = Q files x
 
 -- ---- where it stands
@@ -110,7 +110,7 @@ module _ (w : Words) (old new : Around) (text : List ℕ) (next : Next) (X : Typ
       script-leads m (rest draft) (name ∷ files) (record {
         machine_is = c.machine_is;
         attached = c.attached;
-        right = λ P is. let r = c.right P is in subst (λ (x : Draft). AreRight old.store.contents (rest x) (P m)) (same r.0) r.1;
+        right = λ P is. let r = c.right P is in subst (λ (x : NetlistData). AreRight old.store.contents (rest x) (P m)) (same r.0) r.1;
         whole = λ Q q. c.whole Q (draft, gives, q);
       }) at
   script-leads m (runs x on) files c at = goes m files x on c at

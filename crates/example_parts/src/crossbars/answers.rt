@@ -6,7 +6,7 @@ ghost use Rattle.diag_tests.specs.Routes.{IsRoute};
 ghost use Rattle.diag_evidence.specs.Kept.{Advances, keeps_cross};
 
 use crate::crossbars::setup::{Laid, Setup, lay};
-use diag_evidence::Proof;
+use diag_evidence::Facts;
 use diag_evidence::laws::tests_add_up;
 use diag_tests::Route;
 use machine_shape::{Cross, Table, Wire};
@@ -17,16 +17,16 @@ use std::alloc::Global;
 fn toggle_cross(
     alloc: Global,
     rig: &mut Box<dyn Rig>,
-    proof: &mut Proof,
+    facts: &mut Facts,
     setup: &Setup,
     c: u32,
     at: u32,
 ) -> Result<Option<bool>, RigFail>
-    requires attached { shape_of (rig_state rig.old) ≡ Some proof.old.shape }
-    ensures advances { Advances (rig_state rig.old) (rig_state rig.new) proof.old proof.new }
+    requires attached { shape_of (rig_state rig.old) ≡ Some facts.old.shape }
+    ensures advances { Advances (rig_state rig.old) (rig_state rig.new) facts.old facts.new }
 {
     tests_add_up();
-    let shape = proof.shape();
+    let shape = facts.shape();
     let Some(laid) = lay(alloc, &shape, setup)? else {
         return Ok(None);
     };
@@ -44,7 +44,7 @@ fn toggle_cross(
     if !config.has_cross(Cross(c)) {
         return Ok(None);
     }
-    let yes = proof.toggle_cross(rig, &mut config, Cross(c), &drive, at)?;
+    let yes = facts.toggle_cross(rig, &mut config, Cross(c), &drive, at)?;
     Ok(Some(yes))
 }
 
@@ -52,17 +52,17 @@ fn toggle_cross(
 fn toggle_cell(
     alloc: Global,
     rig: &mut Box<dyn Rig>,
-    proof: &mut Proof,
+    facts: &mut Facts,
     setup: &Setup,
     t: u32,
     address: u8,
     at: u32,
 ) -> Result<Option<bool>, RigFail>
-    requires attached { shape_of (rig_state rig.old) ≡ Some proof.old.shape }
-    ensures advances { Advances (rig_state rig.old) (rig_state rig.new) proof.old proof.new }
+    requires attached { shape_of (rig_state rig.old) ≡ Some facts.old.shape }
+    ensures advances { Advances (rig_state rig.old) (rig_state rig.new) facts.old facts.new }
 {
     tests_add_up();
-    let shape = proof.shape();
+    let shape = facts.shape();
     let Some(laid) = lay(alloc, &shape, setup)? else {
         return Ok(None);
     };
@@ -83,7 +83,7 @@ fn toggle_cell(
     if config.setting(Table(t)).is_none() {
         return Ok(None);
     }
-    let yes = proof.toggle_cell(rig, &mut config, Table(t), address, &drive, at)?;
+    let yes = facts.toggle_cell(rig, &mut config, Table(t), address, &drive, at)?;
     Ok(Some(yes))
 }
 
@@ -91,16 +91,16 @@ fn toggle_cell(
 fn toggle_register(
     alloc: Global,
     rig: &mut Box<dyn Rig>,
-    proof: &mut Proof,
+    facts: &mut Facts,
     setup: &Setup,
     t: u32,
     at: u32,
 ) -> Result<Option<bool>, RigFail>
-    requires attached { shape_of (rig_state rig.old) ≡ Some proof.old.shape }
-    ensures advances { Advances (rig_state rig.old) (rig_state rig.new) proof.old proof.new }
+    requires attached { shape_of (rig_state rig.old) ≡ Some facts.old.shape }
+    ensures advances { Advances (rig_state rig.old) (rig_state rig.new) facts.old facts.new }
 {
     tests_add_up();
-    let shape = proof.shape();
+    let shape = facts.shape();
     let Some(laid) = lay(alloc, &shape, setup)? else {
         return Ok(None);
     };
@@ -121,17 +121,17 @@ fn toggle_register(
     if !setting.latched {
         return Ok(None);
     }
-    let yes = proof.toggle_register(rig, &mut config, Table(t), &drive, at)?;
+    let yes = facts.toggle_register(rig, &mut config, Table(t), &drive, at)?;
     Ok(Some(yes))
 }
 
 // Whether the crosspoints of a route are kept.
-fn keeps_route(proof: &Proof, route: &Route) -> bool
-    requires { IsRoute proof.now.shape route.now }
-    ensures { IsTrue result → (x : ℕ) → among route.now.crosses x ≡ true → keeps_cross proof.now x ≡ true }
+fn keeps_route(facts: &Facts, route: &Route) -> bool
+    requires { IsRoute facts.now.shape route.now }
+    ensures { IsTrue result → (x : ℕ) → among route.now.crosses x ≡ true → keeps_cross facts.now x ≡ true }
 {
     'steps: for k in 0..route.len() {
-        if !proof.keeps_cross(route.cross_at(k)) {
+        if !facts.keeps_cross(route.cross_at(k)) {
             return false;
         }
     }
@@ -139,17 +139,17 @@ fn keeps_route(proof: &Proof, route: &Route) -> bool
 }
 
 // Swings the left route.
-fn swing(
+fn test_stuck(
     alloc: Global,
     rig: &mut Box<dyn Rig>,
-    proof: &mut Proof,
+    facts: &mut Facts,
     setup: &Setup,
 ) -> Result<Option<bool>, RigFail>
-    requires attached { shape_of (rig_state rig.old) ≡ Some proof.old.shape }
-    ensures advances { Advances (rig_state rig.old) (rig_state rig.new) proof.old proof.new }
+    requires attached { shape_of (rig_state rig.old) ≡ Some facts.old.shape }
+    ensures advances { Advances (rig_state rig.old) (rig_state rig.new) facts.old facts.new }
 {
     tests_add_up();
-    let shape = proof.shape();
+    let shape = facts.shape();
     let Some(laid) = lay(alloc, &shape, setup)? else {
         return Ok(None);
     };
@@ -159,28 +159,28 @@ fn swing(
         drive,
         ..
     } = laid;
-    if !keeps_route(proof, &left) {
+    if !keeps_route(facts, &left) {
         return Ok(None);
     }
     let Ok(high) = PinBits::new(alloc, shape.pins()) else {
         return Err(RigFail::Memory);
     };
-    let yes = proof.swing(rig, &config, &drive, &high, &left)?;
+    let yes = facts.test_stuck(rig, &config, &drive, &high, &left)?;
     Ok(Some(yes))
 }
 
 // Whether the two routes are apart.
-fn apart(
+fn test_short(
     alloc: Global,
     rig: &mut Box<dyn Rig>,
-    proof: &mut Proof,
+    facts: &mut Facts,
     setup: &Setup,
 ) -> Result<Option<bool>, RigFail>
-    requires attached { shape_of (rig_state rig.old) ≡ Some proof.old.shape }
-    ensures advances { Advances (rig_state rig.old) (rig_state rig.new) proof.old proof.new }
+    requires attached { shape_of (rig_state rig.old) ≡ Some facts.old.shape }
+    ensures advances { Advances (rig_state rig.old) (rig_state rig.new) facts.old facts.new }
 {
     tests_add_up();
-    let shape = proof.shape();
+    let shape = facts.shape();
     let Some(laid) = lay(alloc, &shape, setup)? else {
         return Ok(None);
     };
@@ -190,16 +190,16 @@ fn apart(
         config,
         drive,
     } = laid;
-    if !keeps_route(proof, &left) {
+    if !keeps_route(facts, &left) {
         return Ok(None);
     }
-    if !keeps_route(proof, &right) {
+    if !keeps_route(facts, &right) {
         return Ok(None);
     }
     if left.meets(&right) {
         return Ok(None);
     }
-    let yes = proof.apart(rig, &config, &drive, &left, &right)?;
+    let yes = facts.test_short(rig, &config, &drive, &left, &right)?;
     Ok(Some(yes))
 }
 
@@ -207,31 +207,31 @@ fn apart(
 pub fn answer(
     alloc: Global,
     rig: &mut Box<dyn Rig>,
-    proof: &mut Proof,
+    facts: &mut Facts,
     setup: &Setup,
     key: &str,
     numbers: &[u32],
 ) -> Result<Option<bool>, RigFail>
-    requires attached { shape_of (rig_state rig.old) ≡ Some proof.old.shape }
-    ensures advances { Advances (rig_state rig.old) (rig_state rig.new) proof.old proof.new }
+    requires attached { shape_of (rig_state rig.old) ≡ Some facts.old.shape }
+    ensures advances { Advances (rig_state rig.old) (rig_state rig.new) facts.old facts.new }
 {
     tests_add_up();
     match (key, numbers) {
-        ("toggle", [c, at]) => toggle_cross(alloc, rig, proof, setup, *c, *at),
+        ("toggle", [c, at]) => toggle_cross(alloc, rig, facts, setup, *c, *at),
         ("cell", [t, address, at]) => match u8::try_from(*address) {
-            Ok(address) => toggle_cell(alloc, rig, proof, setup, *t, address, *at),
+            Ok(address) => toggle_cell(alloc, rig, facts, setup, *t, address, *at),
             Err(_) => Ok(None),
         },
-        ("register", [t, at]) => toggle_register(alloc, rig, proof, setup, *t, *at),
-        ("swing", []) => swing(alloc, rig, proof, setup),
-        ("apart", []) => apart(alloc, rig, proof, setup),
+        ("register", [t, at]) => toggle_register(alloc, rig, facts, setup, *t, *at),
+        ("swing", []) => test_stuck(alloc, rig, facts, setup),
+        ("apart", []) => test_short(alloc, rig, facts, setup),
         _ => Ok(None),
     }
 }
 
 // Whether a pair of different wires is kept.
-fn keeps_pair(proof: &Proof, a: u32, b: u32) -> Option<bool> {
-    let wires = proof.shape().wires();
+fn keeps_pair(facts: &Facts, a: u32, b: u32) -> Option<bool> {
+    let wires = facts.shape().wires();
     if a >= wires {
         return None;
     }
@@ -241,30 +241,30 @@ fn keeps_pair(proof: &Proof, a: u32, b: u32) -> Option<bool> {
     if a == b {
         return None;
     }
-    Some(proof.keeps_pair(Wire(a), Wire(b)))
+    Some(facts.keeps_pair(Wire(a), Wire(b)))
 }
 
 // Whether a cell is kept.
-fn keeps_cell(proof: &Proof, t: u32, address: u32) -> Option<bool> {
+fn keeps_cell(facts: &Facts, t: u32, address: u32) -> Option<bool> {
     let address = u8::try_from(address).ok()?;
-    if t >= proof.shape().tables() {
+    if t >= facts.shape().tables() {
         return None;
     }
     if address >= 64 {
         return None;
     }
-    Some(proof.keeps_cell(Table(t), address))
+    Some(facts.keeps_cell(Table(t), address))
 }
 
 /// Whether a fact is kept. None where these numbers are no such fact.
-pub fn keeps(proof: &Proof, what: &str, numbers: &[u32]) -> Option<bool> {
-    let shape = proof.shape();
+pub fn keeps(facts: &Facts, what: &str, numbers: &[u32]) -> Option<bool> {
+    let shape = facts.shape();
     match (what, numbers) {
-        ("cross", [c]) if *c < shape.crosses() => Some(proof.keeps_cross(Cross(*c))),
-        ("wire", [w]) if *w < shape.wires() => Some(proof.keeps_wire(Wire(*w))),
-        ("pair", [a, b]) => keeps_pair(proof, *a, *b),
-        ("cell", [t, address]) => keeps_cell(proof, *t, *address),
-        ("register", [t]) if *t < shape.tables() => Some(proof.keeps_register(Table(*t))),
+        ("cross", [c]) if *c < shape.crosses() => Some(facts.keeps_cross(Cross(*c))),
+        ("wire", [w]) if *w < shape.wires() => Some(facts.keeps_wire(Wire(*w))),
+        ("pair", [a, b]) => keeps_pair(facts, *a, *b),
+        ("cell", [t, address]) => keeps_cell(facts, *t, *address),
+        ("register", [t]) if *t < shape.tables() => Some(facts.keeps_register(Table(*t))),
         _ => None,
     }
 }

@@ -11,7 +11,7 @@ use crate::crossbars::machine::rig_of;
 use crate::crossbars::routes::seen;
 use crate::crossbars::walk::{Loads, Progress, are_separated, test_next};
 use crate::crossbars::words::{text_of, word, yes_or_no};
-use diag_evidence::Proof;
+use diag_evidence::Facts;
 use diag_evidence::laws::tests_add_up;
 use diag_published::Tested;
 use example_kit::numbers_of;
@@ -58,26 +58,26 @@ fn found_of(alloc: Global, tested: &Tested, key: &str) -> Result<Option<String>,
 }
 
 // Whether a fact is kept, in words.
-fn kept(alloc: Global, proof: &Proof, words: &[String]) -> Result<Option<String>, AllocError> {
+fn kept(alloc: Global, facts: &Facts, words: &[String]) -> Result<Option<String>, AllocError> {
     let [what, numbers @ ..] = words else {
         return Ok(None);
     };
     let Some(numbers) = numbers_of(alloc, numbers)? else {
         return Ok(None);
     };
-    yes_or_no(alloc, keeps(proof, what.as_str(), &numbers))
+    yes_or_no(alloc, keeps(facts, what.as_str(), &numbers))
 }
 
 // What is to be seen of what is set, in words.
 fn look(
     alloc: Global,
-    proof: &Proof,
+    facts: &Facts,
     bench: &Bench,
     key: &str,
     words: &[String],
 ) -> Result<Option<String>, AllocError> {
     match numbers_of(alloc, words)? {
-        Some(numbers) => seen(alloc, &proof.shape(), &bench.setup, key, &numbers),
+        Some(numbers) => seen(alloc, &facts.shape(), &bench.setup, key, &numbers),
         None => Ok(None),
     }
 }
@@ -98,21 +98,21 @@ fn set(
 // What comes of a line for which the machine isn't asked.
 fn unasked(
     alloc: Global,
-    proof: &Proof,
+    facts: &Facts,
     found: &[Tested],
     bench: &mut Bench,
     key: &str,
     words: &[String],
 ) -> Result<Option<String>, AllocError> {
     match key {
-        "keeps" => kept(alloc, proof, words),
+        "keeps" => kept(alloc, facts, words),
         "within" => yes_or_no(alloc, bench.is_within(words)),
         "ends" | "taps" | "lines" | "pair" => match found.last() {
             Some(tested) => found_of(alloc, tested, key),
             None => Ok(None),
         },
         "leads" | "touches" | "extended" | "meets" | "closes" => {
-            look(alloc, proof, bench, key, words)
+            look(alloc, facts, bench, key, words)
         }
         _ => set(alloc, bench, key, words),
     }
@@ -122,20 +122,20 @@ fn unasked(
 fn asked(
     alloc: Global,
     rig: &mut Box<dyn Rig>,
-    proof: &mut Proof,
+    facts: &mut Facts,
     bench: &mut Bench,
     key: &str,
     words: &[String],
 ) -> Result<Option<String>, AllocError>
-    requires attached { shape_of (rig_state rig.old) ≡ Some proof.old.shape }
-    ensures advances { Advances (rig_state rig.old) (rig_state rig.new) proof.old proof.new }
+    requires attached { shape_of (rig_state rig.old) ≡ Some facts.old.shape }
+    ensures advances { Advances (rig_state rig.old) (rig_state rig.new) facts.old facts.new }
 {
     tests_add_up();
     let Some(numbers) = numbers_of(alloc, words)? else {
         return Ok(None);
     };
     let before = rig.loads();
-    let answer = answer(alloc, rig, proof, &bench.setup, key, &numbers);
+    let answer = answer(alloc, rig, facts, &bench.setup, key, &numbers);
     let rest = rig.loads().saturating_sub(before);
     bench.loads = Loads { trunk: 0, rest };
     told(alloc, answer)
@@ -145,15 +145,15 @@ fn asked(
 fn next(
     alloc: Global,
     rig: &mut Box<dyn Rig>,
-    proof: &mut Proof,
+    facts: &mut Facts,
     walk: &mut Progress,
     bench: &mut Bench,
     words: &[String],
 ) -> Result<Option<String>, AllocError>
-    requires attached { shape_of (rig_state rig.old) ≡ Some proof.old.shape }
-    requires found { AreFound (rig_state rig.old).machine.faults proof.old walk.old.known walk.old.found.items }
-    ensures advances { Advances (rig_state rig.old) (rig_state rig.new) proof.old proof.new }
-    ensures found { AreFound (rig_state rig.old).machine.faults proof.new walk.new.known walk.new.found.items }
+    requires attached { shape_of (rig_state rig.old) ≡ Some facts.old.shape }
+    requires found { AreFound (rig_state rig.old).machine.faults facts.old walk.old.known walk.old.found.items }
+    ensures advances { Advances (rig_state rig.old) (rig_state rig.new) facts.old facts.new }
+    ensures found { AreFound (rig_state rig.old).machine.faults facts.new walk.new.known walk.new.found.items }
 {
     tests_add_up();
     let [node] = words else {
@@ -165,7 +165,7 @@ fn next(
     if node as usize != walk.found.len() {
         return Ok(None);
     }
-    let answer = test_next(alloc, rig, proof, walk, Node(node));
+    let answer = test_next(alloc, rig, facts, walk, Node(node));
     bench.loads = walk.loads;
     match answer {
         Ok(true) => word(alloc, "tested"),
@@ -188,15 +188,15 @@ fn are_within(rig: &Box<dyn Rig>, words: &[String]) -> Option<bool> {
 fn came_of(
     alloc: Global,
     rig: &mut Box<dyn Rig>,
-    proof: &mut Proof,
+    facts: &mut Facts,
     walk: &mut Progress,
     bench: &mut Bench,
     words: &[String],
 ) -> Result<Option<String>, AllocError>
-    requires attached { shape_of (rig_state rig.old) ≡ Some proof.old.shape }
-    requires found { AreFound (rig_state rig.old).machine.faults proof.old walk.old.known walk.old.found.items }
-    ensures advances { Advances (rig_state rig.old) (rig_state rig.new) proof.old proof.new }
-    ensures found { AreFound (rig_state rig.old).machine.faults proof.new walk.new.known walk.new.found.items }
+    requires attached { shape_of (rig_state rig.old) ≡ Some facts.old.shape }
+    requires found { AreFound (rig_state rig.old).machine.faults facts.old walk.old.known walk.old.found.items }
+    ensures advances { Advances (rig_state rig.old) (rig_state rig.new) facts.old facts.new }
+    ensures found { AreFound (rig_state rig.old).machine.faults facts.new walk.new.known walk.new.found.items }
 {
     tests_add_up();
     let [key, words @ ..] = words else {
@@ -204,13 +204,13 @@ fn came_of(
     };
     let key = key.as_str();
     match key {
-        "crossbar" => next(alloc, rig, proof, walk, bench, words),
-        "separated" => yes_or_no(alloc, Some(are_separated(proof, walk))),
+        "crossbar" => next(alloc, rig, facts, walk, bench, words),
+        "separated" => yes_or_no(alloc, Some(are_separated(facts, walk))),
         "altogether" => yes_or_no(alloc, are_within(rig, words)),
         "toggle" | "cell" | "register" | "swing" | "apart" => {
-            asked(alloc, rig, proof, bench, key, words)
+            asked(alloc, rig, facts, bench, key, words)
         }
-        _ => unasked(alloc, proof, &walk.found, bench, key, words),
+        _ => unasked(alloc, facts, &walk.found, bench, key, words),
     }
 }
 
@@ -233,17 +233,17 @@ fn try_lines(
     rt: &impl Print,
     alloc: Global,
     rig: &mut Box<dyn Rig>,
-    proof: &mut Proof,
+    facts: &mut Facts,
     case: &Case,
 ) -> Result<bool, AllocError>
-    requires attached { shape_of (rig_state rig.old) ≡ Some proof.old.shape }
+    requires attached { shape_of (rig_state rig.old) ≡ Some facts.old.shape }
 {
     let mut bench = Bench::new(alloc);
-    let mut walk = Progress::new(alloc, &proof.shape())?;
+    let mut walk = Progress::new(alloc, &facts.shape())?;
     let mut right = true;
     'lines: for line in case.lines.iter() {
         let words = line.words.as_slice();
-        let came = came_of(alloc, rig, proof, &mut walk, &mut bench, words)?;
+        let came = came_of(alloc, rig, facts, &mut walk, &mut bench, words)?;
         if !is_right(rt, case.name.as_str(), line, &came) {
             right = false;
         }
@@ -254,11 +254,11 @@ fn try_lines(
 /// Whether all lines of a case are right. What came of each that isn't is printed.
 pub fn try_case(rt: &impl Print, alloc: Global, case: &Case) -> Result<bool, AllocError> {
     let mut rig: Box<dyn Rig> = Box::new(alloc, rig_of(alloc, case)?)?;
-    let mut proof = Proof::new(alloc, case.shape)?;
+    let mut facts = Facts::new(alloc, case.shape)?;
     if rig.attach(&case.shape, case.machine.as_str()).is_err() {
         let name = case.name.as_str();
         let _ = println!(rt; "{name}: not attached");
         return Ok(false);
     }
-    try_lines(rt, alloc, &mut rig, &mut proof, case)
+    try_lines(rt, alloc, &mut rig, &mut facts, case)
 }

@@ -10,7 +10,7 @@ ghost use Rattle.diag_known.specs.Known.{HasWire, IsKnown};
 ghost use Rattle.diag_published.specs.Held.{IsHeld, IsHeldTrunk, UnservedIf};
 ghost use Rattle.example_parts.specs.Found.{AreFound};
 
-use diag_evidence::Proof;
+use diag_evidence::Facts;
 use diag_evidence::laws::tests_add_up;
 use diag_known::Known;
 use diag_published::{Tested, find_trunk, separate_all, test_crossbar};
@@ -67,34 +67,34 @@ fn parent_below(shape: &Shape, node: Node, below: usize) -> Option<usize>
 fn next_trunk(
     alloc: Global,
     rig: &mut Box<dyn Rig>,
-    proof: &mut Proof,
+    facts: &mut Facts,
     walk: &mut Progress,
     node: Node,
 ) -> Result<Option<Trunk>, RigFail>
-    requires attached { shape_of (rig_state rig.old) ≡ Some proof.old.shape }
-    requires found { AreFound (rig_state rig.old).machine.faults proof.old walk.old.known walk.old.found.items }
+    requires attached { shape_of (rig_state rig.old) ≡ Some facts.old.shape }
+    requires found { AreFound (rig_state rig.old).machine.faults facts.old walk.old.known walk.old.found.items }
 
-    ensures known { IsKnown proof.new walk.new.known }
+    ensures known { IsKnown facts.new walk.new.known }
     ensures stays { (w : ℕ) → HasWire walk.old.known.steps w → HasWire walk.new.known.steps w }
     ensures same { walk.new.found.items ≡ walk.old.found.items }
-    ensures held { IfOk result (λ found. IfSome found (λ t. IsHeldTrunk proof.new walk.new.known node.0 t.left t.right)) }
-    ensures node { IfOk result (λ found. IfSome found (λ t. node_of proof.old.shape t.left.end ≡ node.0)) }
-    ensures none { node.0 ≡ length walk.old.found.items → node.0 < nodes_of proof.old.shape →
-        IfOk result (λ found. IfNone found (UnservedIf (rig_state rig.old).machine.faults proof.old node.0)) }
-    ensures advances { Advances (rig_state rig.old) (rig_state rig.new) proof.old proof.new }
+    ensures held { IfOk result (λ found. IfSome found (λ t. IsHeldTrunk facts.new walk.new.known node.0 t.left t.right)) }
+    ensures node { IfOk result (λ found. IfSome found (λ t. node_of facts.old.shape t.left.end ≡ node.0)) }
+    ensures none { node.0 ≡ length walk.old.found.items → node.0 < nodes_of facts.old.shape →
+        IfOk result (λ found. IfNone found (UnservedIf (rig_state rig.old).machine.faults facts.old node.0)) }
+    ensures advances { Advances (rig_state rig.old) (rig_state rig.new) facts.old facts.new }
     ensures cause { IsErrOf result RigFail.Failed → Rose (rig_state rig.old).failures (rig_state rig.new).failures }
 {
     the_numbering_is_sound();
     tests_add_up();
     if node.0 == 0 {
-        return find_trunk(alloc, rig, proof, &mut walk.known, None, node);
+        return find_trunk(alloc, rig, facts, &mut walk.known, None, node);
     }
-    let shape = proof.shape();
+    let shape = facts.shape();
     let Some(place) = parent_below(&shape, node, walk.found.len()) else {
         return Ok(None);
     };
     let parent = &walk.found[place];
-    find_trunk(alloc, rig, proof, &mut walk.known, Some(parent), node)
+    find_trunk(alloc, rig, facts, &mut walk.known, Some(parent), node)
 }
 
 // Adds a tested crossbar.
@@ -119,30 +119,30 @@ fn add(found: &mut Vec<Tested>, tested: Tested) -> Result<(), RigFail>
 pub fn test_next(
     alloc: Global,
     rig: &mut Box<dyn Rig>,
-    proof: &mut Proof,
+    facts: &mut Facts,
     walk: &mut Progress,
     node: Node,
 ) -> Result<bool, RigFail>
-    requires attached { shape_of (rig_state rig.old) ≡ Some proof.old.shape }
-    requires found { AreFound (rig_state rig.old).machine.faults proof.old walk.old.known walk.old.found.items }
+    requires attached { shape_of (rig_state rig.old) ≡ Some facts.old.shape }
+    requires found { AreFound (rig_state rig.old).machine.faults facts.old walk.old.known walk.old.found.items }
     requires node { node.0 ≡ length walk.old.found.items }
 
-    ensures advances { Advances (rig_state rig.old) (rig_state rig.new) proof.old proof.new }
-    ensures found { AreFound (rig_state rig.old).machine.faults proof.new walk.new.known walk.new.found.items }
+    ensures advances { Advances (rig_state rig.old) (rig_state rig.new) facts.old facts.new }
+    ensures found { AreFound (rig_state rig.old).machine.faults facts.new walk.new.known walk.new.found.items }
     ensures length { IfOk result (λ yes. IsTrue yes → length walk.new.found.items ≡ node.0 + 1) }
-    ensures unserved { node.0 < nodes_of proof.old.shape →
-        IfOk result (λ yes. yes ≡ false → UnservedIf (rig_state rig.old).machine.faults proof.old node.0) }
+    ensures unserved { node.0 < nodes_of facts.old.shape →
+        IfOk result (λ yes. yes ≡ false → UnservedIf (rig_state rig.old).machine.faults facts.old node.0) }
     ensures cause { IsErrOf result RigFail.Failed → Rose (rig_state rig.old).failures (rig_state rig.new).failures }
 {
     tests_add_up();
     let at_first = rig.loads();
-    let found = next_trunk(alloc, rig, proof, walk, node)?;
+    let found = next_trunk(alloc, rig, facts, walk, node)?;
     let after_trunk = rig.loads();
     walk.loads.trunk = after_trunk.saturating_sub(at_first);
     let Some(trunk) = found else {
         return Ok(false);
     };
-    let tested = test_crossbar(alloc, rig, proof, &mut walk.known, trunk)?;
+    let tested = test_crossbar(alloc, rig, facts, &mut walk.known, trunk)?;
     walk.loads.rest = rig.loads().saturating_sub(after_trunk);
     add(&mut walk.found, tested)?;
     Ok(true)
@@ -159,10 +159,10 @@ fn has_wire(found: &[Tested], wire: Wire) -> bool {
 }
 
 // Whether a wire is kept apart from each further one of these crossbars.
-fn is_separated(proof: &Proof, found: &[Tested], wire: Wire) -> bool
-    requires { wire.0 < wires_of proof.now.shape }
+fn is_separated(facts: &Facts, found: &[Tested], wire: Wire) -> bool
+    requires { wire.0 < wires_of facts.now.shape }
 {
-    let wires = proof.shape().wires();
+    let wires = facts.shape().wires();
     'wires: for other in 0..wires {
         if other <= wire.0 {
             continue;
@@ -170,7 +170,7 @@ fn is_separated(proof: &Proof, found: &[Tested], wire: Wire) -> bool
         if !has_wire(found, Wire(other)) {
             continue;
         }
-        if !proof.keeps_pair(wire, Wire(other)) {
+        if !facts.keeps_pair(wire, Wire(other)) {
             return false;
         }
     }
@@ -178,16 +178,16 @@ fn is_separated(proof: &Proof, found: &[Tested], wire: Wire) -> bool
 }
 
 /// Whether each two different wires of the tested crossbars are kept apart.
-pub fn are_separated(proof: &Proof, walk: &Progress) -> bool
-    requires known { IsKnown proof.now walk.now.known }
-    requires held { All (IsHeld proof.now walk.now.known) walk.now.found.items }
+pub fn are_separated(facts: &Facts, walk: &Progress) -> bool
+    requires known { IsKnown facts.now walk.now.known }
+    requires held { All (IsHeld facts.now walk.now.known) walk.now.found.items }
 {
-    separate_all(proof, &walk.known, &walk.found);
-    'wires: for wire in 0..proof.shape().wires() {
+    separate_all(facts, &walk.known, &walk.found);
+    'wires: for wire in 0..facts.shape().wires() {
         if !has_wire(&walk.found, Wire(wire)) {
             continue;
         }
-        if !is_separated(proof, &walk.found, Wire(wire)) {
+        if !is_separated(facts, &walk.found, Wire(wire)) {
             return false;
         }
     }

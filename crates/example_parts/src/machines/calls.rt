@@ -7,47 +7,47 @@ ghost use Rattle.diag_known.specs.Known.{IsKnown};
 ghost use Rattle.diag_sweep.specs.Marks.{AreMarksFor};
 ghost use Rattle.example_parts.specs.Stages.{IsStageOf};
 
+use crate::machines::budget::{most_of_growth, most_of_sweep, most_of_tables};
 use crate::machines::choices::choose_once;
 use crate::machines::fields::{Task, area_of, draw_part, unmarked, whole};
 use crate::machines::flags::Parts;
 use crate::machines::judge::{Judge, judge_of};
 use crate::machines::picture::{Picture, Stage};
-use crate::machines::purse::{most_of_growth, most_of_sweep, most_of_tables};
 use base_random::Draws;
-use diag_evidence::Proof;
+use diag_evidence::Facts;
 use diag_growth::{grow, test_tables};
 use diag_known::Known;
-use diag_sweep::{Bad, sweep, without_bad};
+use diag_sweep::{DefectMarks, sweep, without_bad};
 use machine_faults::FaultSet;
 use machine_shape::{Shape, Table};
 use rig::Rig;
 use std::alloc::Global;
 
 // What is kept, known and marked, of one machine.
-fn stage_of(shape: &Shape, proof: Proof, known: Known, bad: Bad) -> Stage
-    requires shape { proof.shape ≡ shape.now }
-    requires known { IsKnown proof known }
+fn stage_of(shape: &Shape, facts: Facts, known: Known, bad: DefectMarks) -> Stage
+    requires shape { facts.shape ≡ shape.now }
+    requires known { IsKnown facts known }
     requires marks { AreMarksFor shape.now bad }
     ensures { IsStageOf shape.now result }
 {
     let _shape = shape;
-    Stage { proof, known, bad }
+    Stage { facts, known, bad }
 }
 
 // Nothing is kept, known or marked.
 fn first_stage(alloc: Global, shape: &Shape) -> Result<Stage, &'static str>
     ensures { IfOk result (IsStageOf shape.now) }
 {
-    let Ok(proof) = Proof::new(alloc, *shape) else {
+    let Ok(facts) = Facts::new(alloc, *shape) else {
         return Err("no memory");
     };
     let Ok(known) = Known::new(alloc, shape) else {
         return Err("no memory");
     };
-    let Ok(bad) = Bad::none(alloc, shape) else {
+    let Ok(bad) = DefectMarks::none(alloc, shape) else {
         return Err("no memory");
     };
-    Ok(stage_of(shape, proof, known, bad))
+    Ok(stage_of(shape, facts, known, bad))
 }
 
 // A sweep of a field and some tables.
@@ -58,17 +58,17 @@ fn sweep_once(
     task: &Task,
     area: &Parts,
 ) -> Result<(), &'static str>
-    requires attached { shape_of (rig_state rig.old) ≡ Some stage.old.proof.shape }
-    requires stage { IsStageOf stage.old.proof.shape stage.old }
-    requires field { IsFieldOf stage.old.proof.shape task.now.field }
-    ensures attached { shape_of (rig_state rig.new) ≡ Some stage.old.proof.shape }
-    ensures stage { IsStageOf stage.old.proof.shape stage.new }
+    requires attached { shape_of (rig_state rig.old) ≡ Some stage.old.facts.shape }
+    requires stage { IsStageOf stage.old.facts.shape stage.old }
+    requires field { IsFieldOf stage.old.facts.shape task.now.field }
+    ensures attached { shape_of (rig_state rig.new) ≡ Some stage.old.facts.shape }
+    ensures stage { IsStageOf stage.old.facts.shape stage.new }
 {
     let before = judge.picture(stage)?;
     let loads = rig.loads();
     let swept = sweep(
         rig,
-        &mut stage.proof,
+        &mut stage.facts,
         &mut stage.known,
         &mut stage.bad,
         &task.field,
@@ -94,18 +94,18 @@ fn grow_once(
     task: &Task,
     area: &Parts,
 ) -> Result<(), &'static str>
-    requires attached { shape_of (rig_state rig.old) ≡ Some stage.old.proof.shape }
-    requires stage { IsStageOf stage.old.proof.shape stage.old }
-    requires field { IsFieldOf stage.old.proof.shape task.now.field }
-    ensures attached { shape_of (rig_state rig.new) ≡ Some stage.old.proof.shape }
-    ensures stage { IsStageOf stage.old.proof.shape stage.new }
+    requires attached { shape_of (rig_state rig.old) ≡ Some stage.old.facts.shape }
+    requires stage { IsStageOf stage.old.facts.shape stage.old }
+    requires field { IsFieldOf stage.old.facts.shape task.now.field }
+    ensures attached { shape_of (rig_state rig.new) ≡ Some stage.old.facts.shape }
+    ensures stage { IsStageOf stage.old.facts.shape stage.new }
 {
     let Ok(rest) = without_bad(judge.alloc, &stage.bad, &task.field) else {
         return Err("no memory");
     };
     let before = judge.picture(stage)?;
     let loads = rig.loads();
-    if grow(rig, &mut stage.proof, &mut stage.known, &rest).is_err() {
+    if grow(rig, &mut stage.facts, &mut stage.known, &rest).is_err() {
         return Err("no growth");
     }
     let after = judge.picture(stage)?;
@@ -127,13 +127,13 @@ fn test_once(
     judge: &Judge,
     tables: &[Table],
 ) -> Result<Picture, &'static str>
-    requires attached { shape_of (rig_state rig.old) ≡ Some stage.old.proof.shape }
-    requires stage { IsStageOf stage.old.proof.shape stage.old }
-    requires tables { All (λ t. t.0 < tables_of stage.old.proof.shape) tables.now }
+    requires attached { shape_of (rig_state rig.old) ≡ Some stage.old.facts.shape }
+    requires stage { IsStageOf stage.old.facts.shape stage.old }
+    requires tables { All (λ t. t.0 < tables_of stage.old.facts.shape) tables.now }
 {
     let before = judge.picture(stage)?;
     let loads = rig.loads();
-    if test_tables(rig, &mut stage.proof, &stage.known, tables).is_err() {
+    if test_tables(rig, &mut stage.facts, &stage.known, tables).is_err() {
         return Err("no tests of tables");
     }
     let after = judge.picture(stage)?;
@@ -151,13 +151,13 @@ fn know_task(
     judge: &Judge,
     task: &Task,
 ) -> Result<(), &'static str>
-    requires attached { shape_of (rig_state rig.old) ≡ Some stage.old.proof.shape }
-    requires stage { IsStageOf stage.old.proof.shape stage.old }
-    requires field { IsFieldOf stage.old.proof.shape task.now.field }
-    ensures attached { shape_of (rig_state rig.new) ≡ Some stage.old.proof.shape }
-    ensures stage { IsStageOf stage.old.proof.shape stage.new }
+    requires attached { shape_of (rig_state rig.old) ≡ Some stage.old.facts.shape }
+    requires stage { IsStageOf stage.old.facts.shape stage.old }
+    requires field { IsFieldOf stage.old.facts.shape task.now.field }
+    ensures attached { shape_of (rig_state rig.new) ≡ Some stage.old.facts.shape }
+    ensures stage { IsStageOf stage.old.facts.shape stage.new }
 {
-    let area = area_of(judge.alloc, &stage.proof.shape(), task)
+    let area = area_of(judge.alloc, &stage.facts.shape(), task)
         .ok()
         .ok_or("no memory")?;
     sweep_once(rig, stage, judge, task, &area)?;
@@ -172,12 +172,12 @@ fn know_part(
     judge: &Judge,
     draws: &mut Draws,
 ) -> Result<(), &'static str>
-    requires attached { shape_of (rig_state rig.old) ≡ Some stage.old.proof.shape }
-    requires stage { IsStageOf stage.old.proof.shape stage.old }
-    ensures attached { shape_of (rig_state rig.new) ≡ Some stage.old.proof.shape }
-    ensures stage { IsStageOf stage.old.proof.shape stage.new }
+    requires attached { shape_of (rig_state rig.old) ≡ Some stage.old.facts.shape }
+    requires stage { IsStageOf stage.old.facts.shape stage.old }
+    ensures attached { shape_of (rig_state rig.new) ≡ Some stage.old.facts.shape }
+    ensures stage { IsStageOf stage.old.facts.shape stage.new }
 {
-    let Ok(part) = draw_part(judge.alloc, draws, &stage.proof.shape()) else {
+    let Ok(part) = draw_part(judge.alloc, draws, &stage.facts.shape()) else {
         return Err("no memory");
     };
     know_task(rig, stage, judge, &part)
@@ -190,10 +190,10 @@ fn know_whole(
     judge: &Judge,
     all: &Task,
 ) -> Result<Picture, &'static str>
-    requires attached { shape_of (rig_state rig.old) ≡ Some stage.old.proof.shape }
-    requires stage { IsStageOf stage.old.proof.shape stage.old }
-    requires field { IsFieldOf stage.old.proof.shape all.now.field }
-    requires tables { All (λ t. t.0 < tables_of stage.old.proof.shape) all.now.tables.items }
+    requires attached { shape_of (rig_state rig.old) ≡ Some stage.old.facts.shape }
+    requires stage { IsStageOf stage.old.facts.shape stage.old }
+    requires field { IsFieldOf stage.old.facts.shape all.now.field }
+    requires tables { All (λ t. t.0 < tables_of stage.old.facts.shape) all.now.tables.items }
 {
     know_task(rig, stage, judge, all)?;
     test_once(rig, stage, judge, &all.tables)
@@ -206,11 +206,11 @@ fn know_all(
     judge: &Judge,
     draws: &mut Draws,
 ) -> Result<Picture, &'static str>
-    requires attached { shape_of (rig_state rig.old) ≡ Some stage.old.proof.shape }
-    requires stage { IsStageOf stage.old.proof.shape stage.old }
+    requires attached { shape_of (rig_state rig.old) ≡ Some stage.old.facts.shape }
+    requires stage { IsStageOf stage.old.facts.shape stage.old }
 {
     know_part(rig, stage, judge, draws)?;
-    let Ok(all) = whole(judge.alloc, draws, &stage.proof.shape()) else {
+    let Ok(all) = whole(judge.alloc, draws, &stage.facts.shape()) else {
         return Err("no memory");
     };
     know_whole(rig, stage, judge, &all)

@@ -4,11 +4,11 @@ ghost use Rattle.rig.specs.Rig.{shape_of};
 ghost use Rattle.diag_known.specs.Field.{IsFieldOf};
 ghost use Rattle.example_parts.specs.Stages.{IsStageOf};
 
+use crate::machines::budget::worth;
 use crate::machines::fields::Task;
 use crate::machines::flags::Parts;
 use crate::machines::judge::Judge;
 use crate::machines::picture::Stage;
-use crate::machines::purse::worth;
 use diag_sweep::{Choices, choose, sweep_with};
 use rig::Rig;
 
@@ -21,17 +21,17 @@ fn choose_now(
     area: &Parts,
     choices: &mut Choices,
 ) -> Result<(), &'static str>
-    requires attached { shape_of (rig_state rig.old) ≡ Some stage.old.proof.shape }
-    requires stage { IsStageOf stage.old.proof.shape stage.old }
-    requires field { IsFieldOf stage.old.proof.shape task.now.field }
-    ensures attached { shape_of (rig_state rig.new) ≡ Some stage.old.proof.shape }
-    ensures stage { IsStageOf stage.old.proof.shape stage.new }
+    requires attached { shape_of (rig_state rig.old) ≡ Some stage.old.facts.shape }
+    requires stage { IsStageOf stage.old.facts.shape stage.old }
+    requires field { IsFieldOf stage.old.facts.shape task.now.field }
+    ensures attached { shape_of (rig_state rig.new) ≡ Some stage.old.facts.shape }
+    ensures stage { IsStageOf stage.old.facts.shape stage.new }
 {
     let before = judge.picture(stage)?;
     let most = worth(area, &before, rig.loads(), choices.left);
     let chosen = choose(
         rig,
-        &mut stage.proof,
+        &mut stage.facts,
         &mut stage.known,
         &mut stage.bad,
         &task.field,
@@ -57,17 +57,17 @@ fn sweep_again(
     area: &Parts,
     choices: &mut Choices,
 ) -> Result<(), &'static str>
-    requires attached { shape_of (rig_state rig.old) ≡ Some stage.old.proof.shape }
-    requires stage { IsStageOf stage.old.proof.shape stage.old }
-    requires field { IsFieldOf stage.old.proof.shape task.now.field }
-    ensures attached { shape_of (rig_state rig.new) ≡ Some stage.old.proof.shape }
-    ensures stage { IsStageOf stage.old.proof.shape stage.new }
+    requires attached { shape_of (rig_state rig.old) ≡ Some stage.old.facts.shape }
+    requires stage { IsStageOf stage.old.facts.shape stage.old }
+    requires field { IsFieldOf stage.old.facts.shape task.now.field }
+    ensures attached { shape_of (rig_state rig.new) ≡ Some stage.old.facts.shape }
+    ensures stage { IsStageOf stage.old.facts.shape stage.new }
 {
     let before = judge.picture(stage)?;
     let most = worth(area, &before, rig.loads(), choices.left);
     let swept = sweep_with(
         rig,
-        &mut stage.proof,
+        &mut stage.facts,
         &mut stage.known,
         &mut stage.bad,
         &task.field,
@@ -96,14 +96,14 @@ pub fn choose_once(
     task: &Task,
     area: &Parts,
 ) -> Result<(), &'static str>
-    requires attached { shape_of (rig_state rig.old) ≡ Some stage.old.proof.shape }
-    requires stage { IsStageOf stage.old.proof.shape stage.old }
-    requires field { IsFieldOf stage.old.proof.shape task.now.field }
-    ensures attached { shape_of (rig_state rig.new) ≡ Some stage.old.proof.shape }
-    ensures stage { IsStageOf stage.old.proof.shape stage.new }
+    requires attached { shape_of (rig_state rig.old) ≡ Some stage.old.facts.shape }
+    requires stage { IsStageOf stage.old.facts.shape stage.old }
+    requires field { IsFieldOf stage.old.facts.shape task.now.field }
+    ensures attached { shape_of (rig_state rig.new) ≡ Some stage.old.facts.shape }
+    ensures stage { IsStageOf stage.old.facts.shape stage.new }
 {
     let Ok(mut choices) = Choices::new(
-        &stage.proof,
+        &stage.facts,
         &stage.known,
         &stage.bad,
         &task.field,

@@ -1,9 +1,9 @@
 //! Whether a growth found all that it had to.
 
+use crate::machines::budget::keeps_table;
 use crate::machines::feet::on_two;
 use crate::machines::flags::{Flags, Parts};
 use crate::machines::picture::Picture;
-use crate::machines::purse::keeps_table;
 use crate::machines::sight::Sight;
 use machine_shape::Meaning;
 use std::alloc::{AllocError, Global};

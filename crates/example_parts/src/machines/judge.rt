@@ -5,7 +5,7 @@ use crate::machines::flags::Parts;
 use crate::machines::looks::is_tight;
 use crate::machines::picture::{Picture, Stage, picture_of};
 use crate::machines::sight::{Sight, free_nothing, sight_of};
-use crate::machines::{facts, marks};
+use crate::machines::{kept_facts, marks};
 use machine_faults::FaultSet;
 use std::alloc::Global;
 
@@ -25,9 +25,9 @@ impl Judge {
 
     // Facts and marks are true, and what is known is known by them.
     fn is_true(&self, picture: &Picture) -> Result<(), &'static str> {
-        facts::are_true(&self.sight, &picture.kept)?;
+        kept_facts::are_true(&self.sight, &picture.kept)?;
         marks::are_true(&self.sight, &picture.marks, &picture.known)?;
-        if !facts::are_known(&self.sight, picture) {
+        if !kept_facts::are_known(&self.sight, picture) {
             return Err("a known wire isn't known by what is kept");
         }
         Ok(())
@@ -36,8 +36,8 @@ impl Judge {
     /// All is true, and what was kept, known and marked still is.
     pub fn hold(&self, before: &Picture, after: &Picture) -> Result<(), &'static str> {
         self.is_true(after)?;
-        let facts = facts::still_are(&before.kept, &after.kept);
-        if !facts || !before.known.wires.stays(&after.known.wires) {
+        let kept_facts = kept_facts::still_are(&before.kept, &after.kept);
+        if !kept_facts || !before.known.wires.stays(&after.known.wires) {
             return Err("something was forgotten");
         }
         if !marks::still_are(&before.marks, &after.marks) {
@@ -49,7 +49,7 @@ impl Judge {
     /// All is true, and what was kept and marked still is, but for unfit wires; what is known was.
     pub fn hold_less(&self, before: &Picture, after: &Picture) -> Result<(), &'static str> {
         self.is_true(after)?;
-        if !facts::still_are(&before.kept, &after.kept) {
+        if !kept_facts::still_are(&before.kept, &after.kept) {
             return Err("a choice forgot a fact");
         }
         if !marks::still_are_but_unfit(&before.marks, &after.marks) {

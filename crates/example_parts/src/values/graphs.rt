@@ -3,7 +3,7 @@
 use base_lists::Items;
 use design_blif::read_blif;
 use design_equal::{And, Graph, GraphLatch, agree, cells_at, is_labelled};
-use design_netlist::{Draft, Names, check};
+use design_netlist::{Names, NetlistData, check};
 use std::alloc::Global;
 
 /// A graph: how many inputs it has, its latches and its ANDs.
@@ -276,7 +276,7 @@ pub fn undriven_signal(alloc: Global) -> Option<bool> {
     let graph = graph_of(alloc, shape)?;
     let mut names = Names::new(alloc);
     names.push(Items::empty(alloc)).ok()?;
-    let draft = Draft {
+    let draft = NetlistData {
         names,
         inputs: Items::empty(alloc),
         outputs: Items::empty(alloc),

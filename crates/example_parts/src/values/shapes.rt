@@ -1,7 +1,7 @@
 //! Numbers and names of a small machine.
 
 use example_kit::TINY;
-use machine_shape::{Counts, Cross, Field, Node, Shape, ShapeFault, Table, Which, Wire};
+use machine_shape::{Counts, Cross, Field, LimitedCount, Node, Shape, ShapeFault, Table, Wire};
 
 // Whether the wire has the name, and the name is the wire's.
 fn is_named(shape: &Shape, name: &[u8], number: u32) -> bool {
@@ -54,7 +54,7 @@ fn refuses_counts() -> bool {
         ..TINY
     };
     let limit = ShapeFault::Limit {
-        which: Which::Tables,
+        which: LimitedCount::Tables,
         value: 4097,
     };
     Shape::new(chips).err() == Some(zero) && Shape::new(tables).err() == Some(limit)

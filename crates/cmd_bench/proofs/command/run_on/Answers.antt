@@ -1,7 +1,7 @@
 use Rattle.std.proofs.Common.{◌∙◌, length, Some, refl, sym, ap}
 use Rattle.std.proofs.lemmas.Result.{err_from_is_err_and}
 use Rattle.machine_shape.specs.declared.Shape.{Shape}
-use Rattle.design_netlist.specs.declared.draft.Draft.{Draft}
+use Rattle.design_netlist.specs.declared.netlist_data.NetlistData.{NetlistData}
 use Rattle.cmd_steps.proofs.Keeping.{kept-stops, kept-gives, line-kept}
 use Rattle.cmd_steps.proofs.Making.{nothing}
 use Rattle.cmd_bench.proofs.Headlines.{summary-is}
@@ -17,8 +17,8 @@ run_work-requires g c =
     let laid = (c.in_ok-image.ensures.took nothing).gives.0 in
     record {
       shape = c.requires.shape ∙ ap (λ (m : Shape). Some m) (sym laid.shape);
-      one = laid.inputs ∙ ap (λ (d : Draft). length d.inputs) c.requires.netlist;
-      two = laid.outputs ∙ ap (λ (d : Draft). length d.outputs) c.requires.netlist;
+      one = laid.inputs ∙ ap (λ (d : NetlistData). length d.inputs) c.requires.netlist;
+      two = laid.outputs ∙ ap (λ (d : NetlistData). length d.outputs) c.requires.netlist;
     }
 
 pub returns-in_err-ones : goal.returns-in_err-ones

@@ -2,7 +2,7 @@ use Rattle.std.proofs.Common.{[], ◌∷◌}
 use Rattle.std.proofs.lemmas.Result.{err_from_is_err_and}
 use Rattle.base_io.specs.Told.{Told}
 use Rattle.machine_shape.specs.declared.Shape.{Shape}
-use Rattle.design_netlist.specs.declared.draft.Draft.{Draft}
+use Rattle.design_netlist.specs.declared.netlist_data.NetlistData.{NetlistData}
 use Rattle.cmd_steps.specs.Courses.{Step}
 use Rattle.cmd_steps.specs.Texts.{reads_design}
 use Rattle.cmd_steps.specs.declared.design_file.DesignFile.TheVariants.{Design}
@@ -11,7 +11,7 @@ use Rattle.cmd_compile.specs.Compile.{design_laid}
 use Rattle.cmd_compile.proofs.CompileLaws.{compile-lawful}
 use Rattle.cmd_compile.proofs.command.compile.Goals as goal
 
-abbrev reads : Told → Shape → Step Draft
+abbrev reads : Told → Shape → Step NetlistData
 reads told m = reads_design Design told
 
 pub returns-clause-lawful : goal.returns-clause-lawful

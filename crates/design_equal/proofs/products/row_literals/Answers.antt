@@ -1,5 +1,5 @@
 use Rattle.std.proofs.Common.{ℕ, ◌&&◌, Bool, get_or, ap, sym, ◌∙◌, add-one, map, take}
-use Rattle.design_netlist.specs.declared.draft.Lit.TheVariants.{Zero}
+use Rattle.design_netlist.specs.declared.netlist_data.Lit.TheVariants.{Zero}
 use Rattle.design_netlist.specs.Covers.{fits, matches}
 use Rattle.design_netlist.proofs.LaneLemmas.{matches-more}
 use Rattle.design_equal.specs.Graphs.{literal_in}

@@ -1,6 +1,6 @@
 use Rattle.std.proofs.Common.{ℕ, ◌+◌, List, length, arith, ap, subst, sym, ◌∙◌}
 use Rattle.std.proofs.lemmas.List.{length-map, length-set}
-use Rattle.design_netlist.specs.declared.draft.Cover.{Cover}
+use Rattle.design_netlist.specs.declared.netlist_data.Cover.{Cover}
 use Rattle.design_netlist.specs.Covers.{cover_at, truth, IsCoverOver}
 use Rattle.design_netlist.specs.Valuations.{bit_at, IsSettledTo}
 use Rattle.design_netlist.specs.Lanes.{is_bit, lane_bits}

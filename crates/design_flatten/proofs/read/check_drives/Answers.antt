@@ -1,6 +1,6 @@
 use Rattle.std.proofs.Common.{◌<◌, ◌∙◌, ap, arith, length, Some, [], get_or, subst}
 use Rattle.std.proofs.lemmas.List.{length-map}
-use Rattle.design_netlist.specs.declared.draft.PortDef.{PortDef}
+use Rattle.design_netlist.specs.declared.netlist_data.PortDef.{PortDef}
 use Rattle.design_netlist.specs.Drafts.{word, signal_at}
 use Rattle.design_netlist.specs.Checks.{IsDoubledIn}
 use Rattle.design_flatten.specs.Netlists.{printed}

@@ -1,5 +1,5 @@
 use Rattle.std.proofs.Common.{◌≤◌, length, List, arith, ap, subst}
-use Rattle.design_netlist.specs.declared.draft.Cover.{Cover}
+use Rattle.design_netlist.specs.declared.netlist_data.Cover.{Cover}
 use Rattle.design_netlist.specs.Sorts.{AreSorted}
 use Rattle.design_netlist.specs.declared.cycles.Sorted.TheVariants.{Order}
 use Rattle.design_netlist.proofs.CheckLemmas.{few_covers, outs_apart}

@@ -1,5 +1,5 @@
 use Rattle.std.proofs.Common.{◌&&◌, Bool, get_or, ap, sym, ◌∙◌, add-one, map, take}
-use Rattle.design_netlist.specs.declared.draft.Lit.TheVariants.{Zero}
+use Rattle.design_netlist.specs.declared.netlist_data.Lit.TheVariants.{Zero}
 use Rattle.design_netlist.specs.Covers.{fits, matches}
 use Rattle.design_netlist.specs.Valuations.{bit_at}
 use Rattle.design_netlist.specs.Lanes.{is_bit, lane_bits}

@@ -14,7 +14,7 @@ returns-in-Ok-clause-keeps g c = c.keeps_routes.ensures.keeps
 pub returns-in-Ok-clause-whole : goal.returns-in-Ok-clause-whole
 returns-in-Ok-clause-whole g c =
     let m = c.args.image.now.config.shape in
-    routes_if _ c.args.proof.now c.grow.new.proof c.grow.new.known.steps c.args.image.now c.args.used.now c.args.field.now c.keeps_routes.result
+    routes_if _ c.args.facts.now c.grow.new.facts c.grow.new.known.steps c.args.image.now c.args.used.now c.args.field.now c.keeps_routes.result
     (record {
       numbered = c.the_numbering_is_sound.ensures.numbered m;
       tree = c.the_numbering_is_sound.ensures.tree m;
@@ -29,7 +29,7 @@ returns-in-Ok-clause-whole g c =
     c.in-Ok.ensures.closed c.grow.ensures.advances.holds c.keeps_routes.ensures.all
 
 pub returns-in-Ok-clause-loads : goal.returns-in-Ok-clause-loads
-returns-in-Ok-clause-loads g c = takes_wide c.args.proof.now c.args.field.now _ c.grow.ensures.loads
+returns-in-Ok-clause-loads g c = takes_wide c.args.facts.now c.args.field.now _ c.grow.ensures.loads
 
 pub returns-in-Err-clause-loads : goal.returns-in-Err-clause-loads
-returns-in-Err-clause-loads g c = takes_wide c.args.proof.now c.args.field.now _ c.grow.ensures.loads
+returns-in-Err-clause-loads g c = takes_wide c.args.facts.now c.args.field.now _ c.grow.ensures.loads

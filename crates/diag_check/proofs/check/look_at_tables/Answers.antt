@@ -4,7 +4,7 @@ use Rattle.diag_check.proofs.Using.{table_counts, tables_within}
 use Rattle.diag_check.proofs.check.look_at_tables.Goals as goal
 
 pub test_tables-requires-clause-tables : goal.test_tables-requires-clause-tables
-test_tables-requires-clause-tables g c = tables_within c.args.image.now c.config-config.result.now.config c.config-config.ensures.config c.tables_on.result.now c.tables_on.ensures c.config-config.ensures.right c.args.proof.now.shape (sym c.requires.image)
+test_tables-requires-clause-tables g c = tables_within c.args.image.now c.config-config.result.now.config c.config-config.ensures.config c.tables_on.result.now c.tables_on.ensures c.config-config.ensures.right c.args.facts.now.shape (sym c.requires.image)
 
 pub keeps_tables-requires : goal.keeps_tables-requires
 keeps_tables-requires g c = record { shape = c.requires.image ∙ sym c.test_tables.ensures.advances.more.shape }
@@ -13,13 +13,13 @@ pub returns-in-Ok-clause-keeps : goal.returns-in-Ok-clause-keeps
 returns-in-Ok-clause-keeps g c = c.keeps_tables.ensures.0
 
 pub returns-in-Ok-clause-whole : goal.returns-in-Ok-clause-whole
-returns-in-Ok-clause-whole g c = tables_if _ c.args.proof.now c.test_tables.new.proof c.args.known.now.steps c.args.image.now c.tables_on.result.now c.keeps_tables.result
+returns-in-Ok-clause-whole g c = tables_if _ c.args.facts.now c.test_tables.new.facts c.args.known.now.steps c.args.image.now c.tables_on.result.now c.keeps_tables.result
     (table_counts c.args.image.now c.config-config.result.now.config c.config-config.ensures.config c.tables_on.result.now c.tables_on.ensures) c.in-Ok.ensures.tables c.keeps_tables.ensures.1
 
 pub returns-in-Ok-clause-loads : goal.returns-in-Ok-clause-loads
-returns-in-Ok-clause-loads g c = loads_tables c.args.proof.now c.args.image.now c.tables_on.result.now _ _
+returns-in-Ok-clause-loads g c = loads_tables c.args.facts.now c.args.image.now c.tables_on.result.now _ _
     (table_counts c.args.image.now c.config-config.result.now.config c.config-config.ensures.config c.tables_on.result.now c.tables_on.ensures) c.test_tables.ensures.loads
 
 pub returns-in-Err-clause-loads : goal.returns-in-Err-clause-loads
-returns-in-Err-clause-loads g c = loads_tables c.args.proof.now c.args.image.now c.tables_on.result.now _ _
+returns-in-Err-clause-loads g c = loads_tables c.args.facts.now c.args.image.now c.tables_on.result.now _ _
     (table_counts c.args.image.now c.config-config.result.now.config c.config-config.ensures.config c.tables_on.result.now c.tables_on.ensures) c.test_tables.ensures.loads

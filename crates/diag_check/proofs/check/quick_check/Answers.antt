@@ -6,7 +6,7 @@ use Rattle.diag_check.proofs.check.quick_check.Goals as goal
 
 pub returns-clause-sound : goal.returns-clause-sound
 returns-clause-sound g c =
-    let new = c.check_with.new.proof in
+    let new = c.check_with.new.facts in
     let shape = c.check_with.ensures.advances.more.shape ∙ c.in-Ok-new.ensures.shape ∙ sym c.requires.image in
     IfOk-weaker c.check_with.result _ _ (λ answer keeps. sound_if _ _ new c.args.image.now answer (λ f. c.kept_facts_are_sound.ensures.nothing _ f c.in-Ok-new.ensures.nothing) c.check_with.ensures.advances.holds keeps
     (λ f holds parts. c.kept_images_run_soundly.ensures new f c.args.image.now c.in-Ok.parts.used c.parts_of.ensures.right shape c.in-Ok.ensures.used holds parts)) c.check_with.ensures.keeps

@@ -5,4 +5,4 @@ use Rattle.diag_known.specs.Known.{HasWire}
 use Rattle.diag_check.proofs.look.has_each.Given as goal
 
 abbrev pub invariant-wires : goal.invariant-wires
-invariant-wires l = (u : ℕ) → u < l.w → has_number l.used u ≡ true → (keeps_wire l.proof u ≡ true) × HasWire l.known.steps u
+invariant-wires l = (u : ℕ) → u < l.w → has_number l.used u ≡ true → (keeps_wire l.facts u ≡ true) × HasWire l.known.steps u

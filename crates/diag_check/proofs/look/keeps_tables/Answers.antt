@@ -9,11 +9,11 @@ use Rattle.diag_check.proofs.Using.{table_counts, tables_within}
 use Rattle.diag_check.proofs.look.keeps_tables.Goals as goal
 
 pub keeps_each-requires-clause-tables : goal.keeps_each-requires-clause-tables
-keeps_each-requires-clause-tables c = tables_within c.args.image.now c.config-config.result.now.config c.config-config.ensures.config c.tables_on.result.now c.tables_on.ensures c.config-config.ensures.right c.args.proof.now.shape (sym c.requires.shape)
+keeps_each-requires-clause-tables c = tables_within c.args.image.now c.config-config.result.now.config c.config-config.ensures.config c.tables_on.result.now c.tables_on.ensures c.config-config.ensures.right c.args.facts.now.shape (sym c.requires.shape)
 
 pub returns : goal.returns
 returns c =
-    let k = c.args.proof.now in
+    let k = c.args.facts.now in
     let i = c.args.image.now in
     let counts = table_counts i c.config-config.result.now.config c.config-config.ensures.config c.tables_on.result.now c.tables_on.ensures in (
       λ e. tables_kept k i (to_set (λ (t : Table). t.0) c.tables_on.result.now (λ q. is_some (setting_of i.config q)) counts (KeepsTableOf k i) (c.keeps_each.ensures.0 e)),

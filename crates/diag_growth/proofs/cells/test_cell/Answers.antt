@@ -14,7 +14,7 @@ config_of-requires-clause-ties g c = ties_below c.deref.result.now c.requires.se
 
 pub returns-in-Ok-answer-clause-cell : goal.returns-in-Ok-answer-clause-cell
 returns-in-Ok-answer-clause-cell g c =
-    let k = c.args.proof.now in
+    let k = c.args.facts.now in
     let s = c.args.seat.now in
     let t = s.table.0 in
     let a = c.args.address in

@@ -7,7 +7,7 @@ use Rattle.diag_growth.specs.declared.seat.Arm.{Arm}
 use Rattle.diag_growth.proofs.choices.arms_beside.Goals as goal
 
 pub inputs-init : goal.inputs-init
-inputs-init c = record { arms = subst (λ (arms : List Arm). AreArmsTo c.args.proof.now c.args.known.now.steps c.args.t.0 c.args.near.0 c.args.line.0 0 arms) (sym c.new-chosen.ensures.items) arms_first }
+inputs-init c = record { arms = subst (λ (arms : List Arm). AreArmsTo c.args.facts.now c.args.known.now.steps c.args.t.0 c.args.near.0 c.args.line.0 0 arms) (sym c.new-chosen.ensures.items) arms_first }
 
 pub index-requires : goal.index-requires
 index-requires c = let arms = c.args.arms.now in let t = c.inputs-test.true in let count = c.requires.arms.count in let sized = arms.ok.0 in omega (arith, t, count, sized)
@@ -31,4 +31,4 @@ inputs-preserved c =
 pub returns-clause-arms : goal.returns-clause-arms
 returns-clause-arms c =
     let six : c.inputs.input ≡ 6 = (let t = c.inputs-test.false in let a = c.inputs.auto.input-end in omega (arith, t, a)) in
-    subst (λ n. AreArmsTo c.args.proof.now c.args.known.now.steps c.args.t.0 c.args.near.0 c.args.line.0 n c.inputs.chosen.items) six c.inputs.invariant.arms
+    subst (λ n. AreArmsTo c.args.facts.now c.args.known.now.steps c.args.t.0 c.args.near.0 c.args.line.0 n c.inputs.chosen.items) six c.inputs.invariant.arms

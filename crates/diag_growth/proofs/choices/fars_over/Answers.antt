@@ -2,7 +2,7 @@ use Rattle.diag_growth.proofs.Choosing.{no_far_at}
 use Rattle.diag_growth.proofs.choices.fars_over.Goals as goal
 
 pub returns-in_default-clause-none : goal.returns-in_default-clause-none
-returns-in_default-clause-none c = no_far_at (c.the_numbering_is_sound.ensures.tree c.args.proof.now.shape) c.requires.is_line c.in_default.ensures.none
+returns-in_default-clause-none c = no_far_at (c.the_numbering_is_sound.ensures.tree c.args.facts.now.shape) c.requires.is_line c.in_default.ensures.none
 
 pub returns-clause-fars : goal.returns-clause-fars
 returns-clause-fars c = record {

@@ -3,7 +3,7 @@ use Rattle.std.specs.Prelude.{IfOk, OnOk, IfNone, slice_get}
 use Rattle.machine_meaning.specs.Faults.{Faults}
 use Rattle.diag_known.specs.Marked.{AreMarks}
 use Rattle.diag_known.specs.Offers.{HasNoSecond}
-use Rattle.diag_known.specs.declared.step.Foot.{Foot}
+use Rattle.diag_known.specs.declared.verified_wire.Support.{Support}
 use Rattle.diag_known.proofs.Offering.{spends_on_then, spends_on_told}
 use Rattle.diag_growth.proofs.Learning.{ready_later}
 use Rattle.diag_growth.proofs.feet.second_foot.Goals as goal
@@ -16,15 +16,15 @@ try_others-requires-clause-own g c = c.in_ok-kept.ensures.kept c.if-not-kept.fal
 
 pub returns-clause-none : goal.returns-clause-none
 returns-clause-none g c =
-    subst (λ (told : Option Faults). IfOk c.try_others.result (λ found. IfNone found (HasNoSecond told c.try_others.new.proof c.args.known.now.steps c.args.offer.now))) (ap (λ m. m.faults) c.toggle_first.ensures.advances.machine) c.try_others.ensures.none
+    subst (λ (told : Option Faults). IfOk c.try_others.result (λ found. IfNone found (HasNoSecond told c.try_others.new.facts c.args.known.now.steps c.args.offer.now))) (ap (λ m. m.faults) c.toggle_first.ensures.advances.machine) c.try_others.ensures.none
 
 pub returns-clause-marks : goal.returns-clause-marks
 returns-clause-marks g c =
-    subst (λ (told : Option Faults). OnOk c.try_others.result (AreMarks told c.try_others.new.proof c.args.known.now.steps c.try_others.new.marks)) (ap (λ m. m.faults) c.toggle_first.ensures.advances.machine) c.try_others.ensures.marks
+    subst (λ (told : Option Faults). OnOk c.try_others.result (AreMarks told c.try_others.new.facts c.args.known.now.steps c.try_others.new.marks)) (ap (λ m. m.faults) c.toggle_first.ensures.advances.machine) c.try_others.ensures.marks
 
 pub returns-clause-spends : goal.returns-clause-spends
 returns-clause-spends g c = spends_on_then c.toggle_first.ensures.advances.more c.toggle_first.ensures.advances.holds c.toggle_first.ensures.spends
     (spends_on_told (ap (λ m. m.faults) c.toggle_first.ensures.advances.machine) c.try_others.ensures.spends)
 
 pub kept_link-requires : goal.kept_link-requires
-kept_link-requires g c = λ j a here. (c.requires.ready.offer.others j a (subst (λ (links : List Foot). slice_get links j ≡ Some a) c.deref.ensures.value here)).within
+kept_link-requires g c = λ j a here. (c.requires.ready.offer.others j a (subst (λ (links : List Support). slice_get links j ≡ Some a) c.deref.ensures.value here)).within

@@ -12,7 +12,7 @@ use Rattle.diag_growth.proofs.feet.try_others.Goals as goal
 
 pub others-init : goal.others-init
 others-init g c = record {
-  advances = advances_itself _ c.args.proof.now;
+  advances = advances_itself _ c.args.facts.now;
   marks = c.requires.ready.marks;
   spends = spends_on_none refl refl;
   lost = λ j a less at. absurd (let no : ⊥ = omega (arith, less) in no);
@@ -30,7 +30,7 @@ returns-in_err-kept-clause-spends g c = spends_on_then c.others.invariant.advanc
 
 pub returns-then-kept-clause-marks : goal.returns-then-kept-clause-marks
 returns-then-kept-clause-marks g c =
-    subst (λ (told : Option Faults). AreMarks told c.try_other.new.proof c.args.known.now.steps c.try_other.new.marks) (ap (λ m. m.faults) c.others.invariant.advances.machine) c.in_ok-kept.ensures.marks
+    subst (λ (told : Option Faults). AreMarks told c.try_other.new.facts c.args.known.now.steps c.try_other.new.marks) (ap (λ m. m.faults) c.others.invariant.advances.machine) c.in_ok-kept.ensures.marks
 
 pub returns-then-kept-clause-spends : goal.returns-then-kept-clause-spends
 returns-then-kept-clause-spends g c = spends_on_then c.others.invariant.advances.more c.others.invariant.advances.holds c.others.invariant.spends
@@ -47,8 +47,8 @@ others-preserved g c =
     let here : slice_get c.args.offer.now.others.items c.others.k ≡ Some other = slice_get_read c.args.offer.now.others.items (length c.args.offer.now.others.items) c.others.k other refl (omega arith) c.index-other.ensures in
     record {
       advances = advances_then old.advances c.try_other.ensures.advances;
-      marks = subst (λ (told : Option Faults). AreMarks told c.try_other.new.proof c.args.known.now.steps c.try_other.new.marks) same c.in_ok-kept.ensures.marks;
+      marks = subst (λ (told : Option Faults). AreMarks told c.try_other.new.facts c.args.known.now.steps c.try_other.new.marks) same c.in_ok-kept.ensures.marks;
       spends = spends_on_then old.advances.more old.advances.holds old.spends (spends_on_told same c.try_other.ensures.spends);
       lost = lost_next c.args.offer.now.others.items c.args.offer.now.wire.0 c.args.offer.now.foot.cross.0 c.others.k other c.try_other.ensures.advances.more here
-          (subst (λ (told : Option Faults). AreLost told c.try_other.new.proof c.args.known.now.steps c.args.offer.now.wire.0 c.args.offer.now.foot.cross.0 other.cross.0) same (c.in_ok-kept.ensures.lost c.if-kept.false)) old.lost;
+          (subst (λ (told : Option Faults). AreLost told c.try_other.new.facts c.args.known.now.steps c.args.offer.now.wire.0 c.args.offer.now.foot.cross.0 other.cross.0) same (c.in_ok-kept.ensures.lost c.if-kept.false)) old.lost;
     }

@@ -5,4 +5,4 @@ abbrev pub invariant-others : goal.invariant-others
 invariant-others g l =
     let rig0 = (goal.Rig-dyn g (l.fn.rig.vtable, l.fn.rig.value)).rig_state l.fn.rig.value in
     let rig = (goal.Rig-dyn g (l.rig.vtable, l.rig.value)).rig_state l.rig.value in
-    HaveTriedOthers rig0 rig l.fn.proof l.proof l.known.steps l.offer l.fn.marks l.marks l.k
+    HaveTriedOthers rig0 rig l.fn.facts l.facts l.known.steps l.offer l.fn.marks l.marks l.k

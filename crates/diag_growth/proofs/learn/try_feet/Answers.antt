@@ -33,7 +33,7 @@ returns-clause-known g c =
     let later = known_later c.is_good_over.ensures.advances.more c.requires.ready.known in
     by_result c.learn.result c.learn.ensures.learnt c.learn.ensures.same
     (λ l. learnt_known later (c.in_ok-good.ensures.good c.if-not-good.false) (stands_later c.is_good_over.ensures.advances.more (offer_stands c.requires.ready.offer c.requires.over)) l)
-    (λ same. subst (λ (known : KnownWires). IsKnown c.is_good_over.new.proof known) (sym same) later)
+    (λ same. subst (λ (known : KnownWires). IsKnown c.is_good_over.new.facts known) (sym same) later)
 
 pub returns-clause-more : goal.returns-clause-more
 returns-clause-more g c = by_result c.learn.result c.learn.ensures.learnt c.learn.ensures.same (λ l. learnt_more l) (λ same. none_more c.args.offer.now.wire.0 same)

@@ -45,11 +45,11 @@ try_feet-requires-clause-first g c = ap (λ bits. has_number bits c.args.offer.n
 pub returns-clause-found : goal.returns-clause-found
 returns-clause-found g c = on_ok_weaker c.try_feet.result
     (λ tried. barred (barred_twice c.args.marks.now c.args.offer.now.wire.0 c.second_foot.ensures.spends.barred c.try_feet.ensures.barred)
-    (subst (λ (told : Option Faults). IsTried told c.try_feet.new.proof c.try_feet.new.known.steps c.args.offer.now.wire.0) (ap (λ m. m.faults) c.second_foot.ensures.advances.machine) tried)) c.try_feet.ensures.tried
+    (subst (λ (told : Option Faults). IsTried told c.try_feet.new.facts c.try_feet.new.known.steps c.args.offer.now.wire.0) (ap (λ m. m.faults) c.second_foot.ensures.advances.machine) tried)) c.try_feet.ensures.tried
 
 pub returns-clause-marks : goal.returns-clause-marks
 returns-clause-marks g c =
-    subst (λ (told : Option Faults). OnOk c.try_feet.result (AreMarks told c.try_feet.new.proof c.try_feet.new.known.steps c.try_feet.new.marks)) (ap (λ m. m.faults) c.second_foot.ensures.advances.machine) c.try_feet.ensures.marks
+    subst (λ (told : Option Faults). OnOk c.try_feet.result (AreMarks told c.try_feet.new.facts c.try_feet.new.known.steps c.try_feet.new.marks)) (ap (λ m. m.faults) c.second_foot.ensures.advances.machine) c.try_feet.ensures.marks
 
 pub returns-clause-barred : goal.returns-clause-barred
 returns-clause-barred g c = inr (barred_twice c.args.marks.now c.args.offer.now.wire.0 c.second_foot.ensures.spends.barred c.try_feet.ensures.barred)

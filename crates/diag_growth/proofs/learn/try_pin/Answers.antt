@@ -24,7 +24,7 @@ pub returns-in_err-good-clause-known : goal.returns-in_err-good-clause-known
 returns-in_err-good-clause-known g c = known_later c.is_good_pin.ensures.advances.more c.requires.known
 
 pub returns-in_err-good-clause-more : goal.returns-in_err-good-clause-more
-returns-in_err-good-clause-more g c = none_more (pin_wire c.args.proof.now.shape c.args.pin) refl
+returns-in_err-good-clause-more g c = none_more (pin_wire c.args.facts.now.shape c.args.pin) refl
 
 pub returns-in_err-good-clause-barred : goal.returns-in_err-good-clause-barred
 returns-in_err-good-clause-barred g c = subst (λ w. c.bar.new.self ≡ record c.args.marks.now { barred = slice_set c.args.marks.now.barred w true }) (c.pin-wire.ensures.wire ∙ ap (λ m. pin_wire m c.args.pin) c.shape.ensures) c.bar.ensures
@@ -33,7 +33,7 @@ pub returns-then-not-good-clause-known : goal.returns-then-not-good-clause-known
 returns-then-not-good-clause-known g c = known_later c.is_good_pin.ensures.advances.more c.requires.known
 
 pub returns-then-not-good-clause-more : goal.returns-then-not-good-clause-more
-returns-then-not-good-clause-more g c = none_more (pin_wire c.args.proof.now.shape c.args.pin) refl
+returns-then-not-good-clause-more g c = none_more (pin_wire c.args.facts.now.shape c.args.pin) refl
 
 pub returns-then-not-good-clause-barred : goal.returns-then-not-good-clause-barred
 returns-then-not-good-clause-barred g c = subst (λ w. c.bar.new.self ≡ record c.args.marks.now { barred = slice_set c.args.marks.now.barred w true }) (c.pin-wire.ensures.wire ∙ ap (λ m. pin_wire m c.args.pin) c.shape.ensures) c.bar.ensures
@@ -42,7 +42,7 @@ pub returns-clause-barred : goal.returns-clause-barred
 returns-clause-barred g c = subst (λ w. c.bar.new.self ≡ record c.args.marks.now { barred = slice_set c.args.marks.now.barred w true }) (c.pin-wire.ensures.wire ∙ ap (λ m. pin_wire m c.args.pin) c.shape.ensures) c.bar.ensures
 
 pub returns-then-not-good-clause-tried : goal.returns-then-not-good-clause-tried
-returns-then-not-good-clause-tried g c = inr (subst (IsBad _ c.is_good_pin.new.proof c.args.known.now.steps) (c.pin-wire.ensures.wire ∙ ap (λ m. pin_wire m c.args.pin) c.shape.ensures) (c.in_ok-good.ensures.bad c.if-not-good.true))
+returns-then-not-good-clause-tried g c = inr (subst (IsBad _ c.is_good_pin.new.facts c.args.known.now.steps) (c.pin-wire.ensures.wire ∙ ap (λ m. pin_wire m c.args.pin) c.shape.ensures) (c.in_ok-good.ensures.bad c.if-not-good.true))
 
 pub returns-then-not-good-clause-marks : goal.returns-then-not-good-clause-marks
 returns-then-not-good-clause-marks g c = marks_still c.is_good_pin.ensures.advances.more (marks_barred c.pin-wire.result.0 c.requires.marks c.bar.ensures)
@@ -58,10 +58,10 @@ returns-clause-known g c =
     let later = known_later c.is_good_pin.ensures.advances.more c.requires.known in
     by_result c.learn.result c.learn.ensures.learnt c.learn.ensures.same
     (λ l. learnt_known later (c.in_ok-good.ensures.good c.if-not-good.false) (stands_later c.is_good_pin.ensures.advances.more (on_pin c.requires.pin (c.pin-wire.ensures.wire ∙ ap (λ m. pin_wire m c.args.pin) c.shape.ensures))) l)
-    (λ same. subst (λ (known : KnownWires). IsKnown c.is_good_pin.new.proof known) (sym same) later)
+    (λ same. subst (λ (known : KnownWires). IsKnown c.is_good_pin.new.facts known) (sym same) later)
 
 pub returns-clause-more : goal.returns-clause-more
-returns-clause-more g c = by_result c.learn.result c.learn.ensures.learnt c.learn.ensures.same (λ l. subst (IsOneMore c.args.known.now c.learn.new.known) (c.pin-wire.ensures.wire ∙ ap (λ m. pin_wire m c.args.pin) c.shape.ensures) (learnt_more l)) (λ same. none_more (pin_wire c.args.proof.now.shape c.args.pin) same)
+returns-clause-more g c = by_result c.learn.result c.learn.ensures.learnt c.learn.ensures.same (λ l. subst (IsOneMore c.args.known.now c.learn.new.known) (c.pin-wire.ensures.wire ∙ ap (λ m. pin_wire m c.args.pin) c.shape.ensures) (learnt_more l)) (λ same. none_more (pin_wire c.args.facts.now.shape c.args.pin) same)
 
 pub returns-clause-tried : goal.returns-clause-tried
 returns-clause-tried g c = on_ok_weaker c.learn.result (λ l. inl (subst (HasWire c.learn.new.known.steps) (c.pin-wire.ensures.wire ∙ ap (λ m. pin_wire m c.args.pin) c.shape.ensures) (learnt_has l))) c.learn.ensures.learnt

@@ -2,12 +2,12 @@ use Rattle.std.proofs.Common.{List, sym, subst, ◌∙◌, ◌<◌, arith}
 use Rattle.machine_shape.specs.declared.Shape.{Shape}
 use Rattle.machine_shape.specs.Shape.{wires_of}
 use Rattle.diag_growth.specs.Looks.{AreEarlierUpTo}
-use Rattle.diag_known.specs.declared.step.Foot.{Foot}
+use Rattle.diag_known.specs.declared.verified_wire.Support.{Support}
 use Rattle.diag_growth.proofs.Looking.{earlier_none, earlier_past, earlier_next, earlier_all, link_leads, link_wire}
 use Rattle.diag_growth.proofs.look.earlier_links.Goals as goal
 
 pub links-init : goal.links-init
-links-init c = subst (λ (fs : List Foot). AreEarlierUpTo c.args.near.now.items c.args.known.now.steps c.args.look.place c.args.look.link.wire.0 fs 0) (sym c.new-others.ensures.items)
+links-init c = subst (λ (fs : List Support). AreEarlierUpTo c.args.near.now.items c.args.known.now.steps c.args.look.place c.args.look.link.wire.0 fs 0) (sym c.new-others.ensures.items)
     (earlier_none c.args.near.now.items c.args.known.now.steps c.args.look.place c.args.look.link.wire.0)
 
 pub links-preserved-in_default : goal.links-preserved-in_default
@@ -18,7 +18,7 @@ links-preserved c = earlier_next (sym c.link_at.ensures ∙ c.in-Some.is) c.in_o
 
 pub put_earlier-requires-clause-wire : goal.put_earlier-requires-clause-wire
 put_earlier-requires-clause-wire c = subst (λ (m : Shape). c.in-Some.link.wire.0 < wires_of m) (sym c.requires.known.shape) (link_wire c.in-Some.link.cross.0 c.in-Some.link.wire.0 c.args.look.link.wire.0
-    (c.the_numbering_is_sound.ensures.numbered c.args.proof.now.shape) c.requires.links (link_leads c.args.near.now.items c.args.look.link.wire.0 c.links.j c.in-Some.link (sym c.link_at.ensures ∙ c.in-Some.is)))
+    (c.the_numbering_is_sound.ensures.numbered c.args.facts.now.shape) c.requires.links (link_leads c.args.near.now.items c.args.look.link.wire.0 c.links.j c.in-Some.link (sym c.link_at.ensures ∙ c.in-Some.is)))
 
 pub returns : goal.returns
 returns c = earlier_all (omega arith) c.links.invariant

@@ -17,8 +17,8 @@ use Rattle.diag_growth.proofs.look.look_at.Goals as goal
 
 pub links-init : goal.links-init
 links-init g c = record {
-  advances = advances_itself _ c.args.proof.now;
-  grows = grows_itself c.requires.known (more_itself c.args.proof.now) refl;
+  advances = advances_itself _ c.args.facts.now;
+  grows = grows_itself c.requires.known (more_itself c.args.facts.now) refl;
   tried = tried_none refl;
   marks = c.requires.marks;
   spends = spends_none refl refl;
@@ -40,7 +40,7 @@ look_over-requires-clause-look g c = record {
 
 pub look_over-requires-clause-marks : goal.look_over-requires-clause-marks
 look_over-requires-clause-marks g c =
-    subst (λ (told : Option Faults). AreAllMarks told c.links.proof c.args.near.now.items c.links.known.steps c.links.marks) (sym (ap (λ m. m.faults) c.links.invariant.advances.machine)) c.links.invariant.marks
+    subst (λ (told : Option Faults). AreAllMarks told c.links.facts c.args.near.now.items c.links.known.steps c.links.marks) (sym (ap (λ m. m.faults) c.links.invariant.advances.machine)) c.links.invariant.marks
 
 pub returns-in_err-look_over-clause-grows : goal.returns-in_err-look_over-clause-grows
 returns-in_err-look_over-clause-grows g c = grows_then c.links.invariant.grows c.look_over.ensures.grows
@@ -61,11 +61,11 @@ links-preserved g c =
       advances = advances_then old.advances c.look_over.ensures.advances;
       grows = grows_then old.grows step;
       tried = tried_then step.more step.steps more old.tried
-          (subst (λ (told : Option Faults). AreTried told c.look_over.new.proof c.look_over.new.known.steps c.links.marks.barred c.look_over.new.marks.barred) same c.in_ok-look_over.ensures.tried);
-      marks = subst (λ (told : Option Faults). AreAllMarks told c.look_over.new.proof c.args.near.now.items c.look_over.new.known.steps c.look_over.new.marks) same c.in_ok-look_over.ensures.marks;
+          (subst (λ (told : Option Faults). AreTried told c.look_over.new.facts c.look_over.new.known.steps c.links.marks.barred c.look_over.new.marks.barred) same c.in_ok-look_over.ensures.tried);
+      marks = subst (λ (told : Option Faults). AreAllMarks told c.look_over.new.facts c.args.near.now.items c.look_over.new.known.steps c.look_over.new.marks) same c.in_ok-look_over.ensures.marks;
       spends = spends_then old.advances.more old.advances.holds old.spends (spends_told same c.look_over.ensures.spends);
       also = looks_next c.args.place c.wire_at-wire.result.0 c.links.j c.in-Some.link more step (let low = c.requires.place in omega (arith, low, long)) (sym c.link_at.ensures ∙ c.in-Some.is)
-          (subst (λ (told : Option Faults). IsLooked told c.look_over.new.proof c.args.near.now.items c.look_over.new.known.steps c.look_over.new.marks.barred c.args.place c.in-Some.link.cross.0 c.in-Some.link.wire.0) same
+          (subst (λ (told : Option Faults). IsLooked told c.look_over.new.facts c.args.near.now.items c.look_over.new.known.steps c.look_over.new.marks.barred c.args.place c.in-Some.link.cross.0 c.in-Some.link.wire.0) same
           c.in_ok-look_over.ensures.looked) old.also;
     }
 

@@ -2,7 +2,7 @@ use Rattle.std.proofs.Common.{◌≡◌, ◌<◌, ℕ, Some}
 use Rattle.std.specs.Prelude.{slice_get}
 use Rattle.diag_known.specs.Linked.{list_at}
 use Rattle.diag_growth.specs.Looks.{IsLooked}
-use Rattle.diag_known.specs.declared.step.Foot.{Foot}
+use Rattle.diag_known.specs.declared.verified_wire.Support.{Support}
 use Rattle.diag_growth.proofs.SoFar.{HasLooked}
 use Rattle.diag_growth.proofs.look.look_at.Given as goal
 
@@ -10,5 +10,5 @@ abbrev pub invariant-links : goal.invariant-links
 invariant-links g l =
     let rig0 = (goal.Rig-dyn g (l.fn.rig.vtable, l.fn.rig.value)).rig_state l.fn.rig.value in
     let rig = (goal.Rig-dyn g (l.rig.vtable, l.rig.value)).rig_state l.rig.value in
-    HasLooked rig0 rig l.fn.proof l.proof l.near.items l.fn.known l.known l.fn.marks l.marks
-    ((i : ℕ) (b : Foot) → i < l.j → slice_get (list_at l.near.items l.wire.0) i ≡ Some b → IsLooked rig0.machine.faults l.proof l.near.items l.known.steps l.marks.barred l.place b.cross.0 b.wire.0)
+    HasLooked rig0 rig l.fn.facts l.facts l.near.items l.fn.known l.known l.fn.marks l.marks
+    ((i : ℕ) (b : Support) → i < l.j → slice_get (list_at l.near.items l.wire.0) i ≡ Some b → IsLooked rig0.machine.faults l.facts l.near.items l.known.steps l.marks.barred l.place b.cross.0 b.wire.0)

@@ -12,16 +12,16 @@ use Rattle.diag_growth.proofs.Stages.{grows_itself, grows_one}
 use Rattle.diag_growth.proofs.look.look_new.Goals as goal
 
 pub has-requires : goal.has-requires
-has-requires g c = subst (λ n. c.args.look.link.cross.0 < n) (sym c.requires.marks.are.offered) (look_within c.requires.known (c.the_numbering_is_sound.ensures.numbered c.args.proof.now.shape) c.requires.links c.requires.look)
+has-requires g c = subst (λ n. c.args.look.link.cross.0 < n) (sym c.requires.marks.are.offered) (look_within c.requires.known (c.the_numbering_is_sound.ensures.numbered c.args.facts.now.shape) c.requires.links c.requires.look)
 
 pub returns-then-has-clause-grows : goal.returns-then-has-clause-grows
-returns-then-has-clause-grows g c = grows_itself c.requires.known (more_itself c.args.proof.now) refl
+returns-then-has-clause-grows g c = grows_itself c.requires.known (more_itself c.args.facts.now) refl
 
 pub returns-then-has-clause-looked : goal.returns-then-has-clause-looked
-returns-then-has-clause-looked g c = looked_offered c.requires.known c.requires.marks (look_plain c.requires.known (c.the_numbering_is_sound.ensures.numbered c.args.proof.now.shape) c.requires.links c.requires.look) c.requires.new (sym c.has.ensures ∙ c.if-has.true)
+returns-then-has-clause-looked g c = looked_offered c.requires.known c.requires.marks (look_plain c.requires.known (c.the_numbering_is_sound.ensures.numbered c.args.facts.now.shape) c.requires.links c.requires.look) c.requires.new (sym c.has.ensures ∙ c.if-has.true)
 
 pub returns-in_default-clause-grows : goal.returns-in_default-clause-grows
-returns-in_default-clause-grows g c = grows_itself c.requires.known (more_itself c.args.proof.now) refl
+returns-in_default-clause-grows g c = grows_itself c.requires.known (more_itself c.args.facts.now) refl
 
 pub try_offer-requires-clause-ready : goal.try_offer-requires-clause-ready
 try_offer-requires-clause-ready g c = record { known = c.requires.known; offer = c.in-Ok.ensures.offer; marks = c.requires.marks.are }
@@ -43,7 +43,7 @@ pub returns-clause-looked : goal.returns-clause-looked
 returns-clause-looked g c =
     let grows = grows_one c.try_offer.ensures.known c.try_offer.ensures.more (ap (has_number c.args.marks.now.barred) c.in-Ok.ensures.of_look.wire ∙ c.requires.free)
     (subst (λ n. c.in-Ok.offer.wire.0 < n) (sym c.requires.marks.are.barred) c.in-Ok.ensures.offer.within) c.try_offer.ensures.barred in
-    on_ok_weaker c.try_offer.result (λ found. looked_tried c.requires.look c.in-Ok.ensures.of_look c.requires.new (subst (λ n. c.args.look.link.wire.0 < n) (sym c.requires.marks.are.barred) (look_other c.requires.known (c.the_numbering_is_sound.ensures.numbered c.args.proof.now.shape) c.requires.links c.requires.look)) grows found) c.try_offer.ensures.found
+    on_ok_weaker c.try_offer.result (λ found. looked_tried c.requires.look c.in-Ok.ensures.of_look c.requires.new (subst (λ n. c.args.look.link.wire.0 < n) (sym c.requires.marks.are.barred) (look_other c.requires.known (c.the_numbering_is_sound.ensures.numbered c.args.facts.now.shape) c.requires.links c.requires.look)) grows found) c.try_offer.ensures.found
 
 pub returns-clause-marks : goal.returns-clause-marks
 returns-clause-marks g c =
@@ -53,7 +53,7 @@ returns-clause-marks g c =
     let linked = subst (λ (m : Shape). AreLinked m c.args.near.now.items) (sym more.shape) c.requires.links in
     on_both c.try_offer.result c.try_offer.ensures.found c.try_offer.ensures.marks
     (λ found marks. offered_marks c.requires.look c.in-Ok.ensures.of_look grows more linked c.requires.marks marks c.try_offer.ensures.offered
-    (looked_tried c.requires.look c.in-Ok.ensures.of_look c.requires.new (subst (λ n. c.args.look.link.wire.0 < n) (sym c.requires.marks.are.barred) (look_other c.requires.known (c.the_numbering_is_sound.ensures.numbered c.args.proof.now.shape) c.requires.links c.requires.look)) grows found))
+    (looked_tried c.requires.look c.in-Ok.ensures.of_look c.requires.new (subst (λ n. c.args.look.link.wire.0 < n) (sym c.requires.marks.are.barred) (look_other c.requires.known (c.the_numbering_is_sound.ensures.numbered c.args.facts.now.shape) c.requires.links c.requires.look)) grows found))
 
 pub returns-clause-spends : goal.returns-clause-spends
 returns-clause-spends g c = spends_in (offer_links c.requires.look c.in-Ok.ensures.of_look) c.try_offer.ensures.spends

@@ -11,26 +11,26 @@ use Rattle.diag_growth.proofs.Stages.{grows_itself, tried_none}
 use Rattle.diag_growth.proofs.look.look_over.Goals as goal
 
 pub place_of-requires : goal.place_of-requires
-place_of-requires g c = subst (λ (m : Shape). c.args.look.link.wire.0 < wires_of m) (sym c.requires.known.shape) (look_other c.requires.known (c.the_numbering_is_sound.ensures.numbered c.args.proof.now.shape) c.requires.links c.requires.look)
+place_of-requires g c = subst (λ (m : Shape). c.args.look.link.wire.0 < wires_of m) (sym c.requires.known.shape) (look_other c.requires.known (c.the_numbering_is_sound.ensures.numbered c.args.facts.now.shape) c.requires.links c.requires.look)
 
 pub has-requires : goal.has-requires
-has-requires g c = subst (λ n. c.args.look.link.wire.0 < n) (sym c.requires.marks.are.barred) (look_other c.requires.known (c.the_numbering_is_sound.ensures.numbered c.args.proof.now.shape) c.requires.links c.requires.look)
+has-requires g c = subst (λ n. c.args.look.link.wire.0 < n) (sym c.requires.marks.are.barred) (look_other c.requires.known (c.the_numbering_is_sound.ensures.numbered c.args.facts.now.shape) c.requires.links c.requires.look)
 
 pub returns-then-has-clause-grows : goal.returns-then-has-clause-grows
-returns-then-has-clause-grows g c = grows_itself c.requires.known (more_itself c.args.proof.now) refl
+returns-then-has-clause-grows g c = grows_itself c.requires.known (more_itself c.args.facts.now) refl
 
 pub returns-then-has-clause-looked : goal.returns-then-has-clause-looked
 returns-then-has-clause-looked g c = looked_barred (λ before. c.in_default.ensures.unknown (before_has before)) (sym c.has.ensures ∙ c.if-has.true)
 
 pub returns-then-other-look-clause-grows : goal.returns-then-other-look-clause-grows
-returns-then-other-look-clause-grows g c = grows_itself c.requires.known (more_itself c.args.proof.now) refl
+returns-then-other-look-clause-grows g c = grows_itself c.requires.known (more_itself c.args.facts.now) refl
 
 pub returns-then-other-look-clause-looked : goal.returns-then-other-look-clause-looked
 returns-then-other-look-clause-looked g c =
     looked_known (record { place = c.in-Some.other; at = c.in-Some.ensures.known }) (λ before. absurd (not_earlier c.requires.known c.in-Some.ensures.known (omega arith) before))
 
 pub look_known-requires-clause-look : goal.look_known-requires-clause-look
-look_known-requires-clause-look g c = look_plain c.requires.known (c.the_numbering_is_sound.ensures.numbered c.args.proof.now.shape) c.requires.links c.requires.look
+look_known-requires-clause-look g c = look_plain c.requires.known (c.the_numbering_is_sound.ensures.numbered c.args.facts.now.shape) c.requires.links c.requires.look
 
 pub look_known-requires-clause-other : goal.look_known-requires-clause-other
 look_known-requires-clause-other g c = record { place = c.in-Some.other; early = omega arith; at = c.in-Some.ensures.known }
@@ -55,5 +55,5 @@ returns-clause-marks g c =
 
 pub returns-clause-spends : goal.returns-clause-spends
 returns-clause-spends g c =
-    joins_spent c.args.near.now.items c.requires.marks.are (look_within c.requires.known (c.the_numbering_is_sound.ensures.numbered c.args.proof.now.shape) c.requires.links c.requires.look)
+    joins_spent c.args.near.now.items c.requires.marks.are (look_within c.requires.known (c.the_numbering_is_sound.ensures.numbered c.args.facts.now.shape) c.requires.links c.requires.look)
     (c.args.look.link.wire.0, c.args.look.wire.0, c.requires.look.link) c.look_known.ensures.joins

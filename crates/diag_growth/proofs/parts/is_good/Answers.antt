@@ -7,19 +7,19 @@ use Rattle.diag_growth.proofs.Parting.{apart_later, good}
 use Rattle.diag_growth.proofs.parts.is_good.Goals as goal
 
 pub part-requires-clause-known : goal.part-requires-clause-known
-part-requires-clause-known g c = known_later c.swing.ensures.advances.more c.requires.known
+part-requires-clause-known g c = known_later c.test_stuck.ensures.advances.more c.requires.known
 
 pub part-requires-clause-way : goal.part-requires-clause-way
-part-requires-clause-way g c = (ways_later c.swing.ensures.advances.more c.requires.ways).first
+part-requires-clause-way g c = (ways_later c.test_stuck.ensures.advances.more c.requires.ways).first
 
 pub part-requires-2-clause-known : goal.part-requires-2-clause-known
-part-requires-2-clause-known g c = known_later c.part.ensures.advances.more (known_later c.swing.ensures.advances.more c.requires.known)
+part-requires-2-clause-known g c = known_later c.part.ensures.advances.more (known_later c.test_stuck.ensures.advances.more c.requires.known)
 
 pub part-requires-2-clause-way : goal.part-requires-2-clause-way
-part-requires-2-clause-way g c = (ways_later c.part.ensures.advances.more (ways_later c.swing.ensures.advances.more c.requires.ways)).second
+part-requires-2-clause-way g c = (ways_later c.part.ensures.advances.more (ways_later c.test_stuck.ensures.advances.more c.requires.ways)).second
 
 pub returns-then-not-apart-clause-bad : goal.returns-then-not-apart-clause-bad
-returns-then-not-apart-clause-bad g c = λ is_no. subst (λ (told : Option Faults). IsBad told c.part.new.proof c.args.known.now.steps c.args.w.0) (ap (λ m. m.faults) c.swing.ensures.advances.machine) (c.in_ok-apart.ensures.bad c.if-not-apart.true)
+returns-then-not-apart-clause-bad g c = λ is_no. subst (λ (told : Option Faults). IsBad told c.part.new.facts c.args.known.now.steps c.args.w.0) (ap (λ m. m.faults) c.test_stuck.ensures.advances.machine) (c.in_ok-apart.ensures.bad c.if-not-apart.true)
 
 pub returns-clause-good : goal.returns-clause-good
 returns-clause-good g c = IfOk-weaker c.part-2.result _ _ (λ yes apart. λ is_yes.
@@ -28,4 +28,4 @@ returns-clause-good g c = IfOk-weaker c.part-2.result _ _ (λ yes apart. λ is_y
 
 pub returns-clause-bad : goal.returns-clause-bad
 returns-clause-bad g c = IfOk-weaker c.part-2.result _ _ (λ yes bad. λ is_no.
-    subst (λ (told : Option Faults). IsBad told c.part-2.new.proof c.args.known.now.steps c.args.w.0) (ap (λ m. m.faults) (c.part.ensures.advances.machine ∙ c.swing.ensures.advances.machine)) (bad is_no)) c.part-2.ensures.bad
+    subst (λ (told : Option Faults). IsBad told c.part-2.new.facts c.args.known.now.steps c.args.w.0) (ap (λ m. m.faults) (c.part.ensures.advances.machine ∙ c.test_stuck.ensures.advances.machine)) (bad is_no)) c.part-2.ensures.bad

@@ -12,20 +12,20 @@ use Rattle.diag_growth.proofs.parts.is_good_pin.Goals as goal
 pub way_at-requires : goal.way_at-requires
 way_at-requires g c = subst (λ (m : Shape). c.args.pin < pins_of m) (sym c.requires.known.shape) c.requires.pin
 
-pub swing-requires-clause-way : goal.swing-requires-clause-way
-swing-requires-clause-way g c = (subst (λ (u : ℕ). AreWays c.args.proof.now c.args.known.now.steps u c.in-Ok.way c.in-Ok.way) (sym c.requires.wire) (c.in-Ok.ensures c.args.proof.now (sym c.requires.known.shape))).first
+pub test_stuck-requires-clause-way : goal.test_stuck-requires-clause-way
+test_stuck-requires-clause-way g c = (subst (λ (u : ℕ). AreWays c.args.facts.now c.args.known.now.steps u c.in-Ok.way c.in-Ok.way) (sym c.requires.wire) (c.in-Ok.ensures c.args.facts.now (sym c.requires.known.shape))).first
 
 pub part-requires-clause-known : goal.part-requires-clause-known
-part-requires-clause-known g c = known_later c.swing.ensures.advances.more c.requires.known
+part-requires-clause-known g c = known_later c.test_stuck.ensures.advances.more c.requires.known
 
 pub part-requires-clause-way : goal.part-requires-clause-way
-part-requires-clause-way g c = (ways_later c.swing.ensures.advances.more (subst (λ (u : ℕ). AreWays c.args.proof.now c.args.known.now.steps u c.in-Ok.way c.in-Ok.way) (sym c.requires.wire) (c.in-Ok.ensures c.args.proof.now (sym c.requires.known.shape)))).first
+part-requires-clause-way g c = (ways_later c.test_stuck.ensures.advances.more (subst (λ (u : ℕ). AreWays c.args.facts.now c.args.known.now.steps u c.in-Ok.way c.in-Ok.way) (sym c.requires.wire) (c.in-Ok.ensures c.args.facts.now (sym c.requires.known.shape)))).first
 
 pub returns-clause-good : goal.returns-clause-good
 returns-clause-good g c = IfOk-weaker c.part.result _ _ (λ yes apart. λ is_yes.
-    good c.requires.known c.requires.new (subst (λ (u : ℕ). AreWays c.args.proof.now c.args.known.now.steps u c.in-Ok.way c.in-Ok.way) (sym c.requires.wire) (c.in-Ok.ensures c.args.proof.now (sym c.requires.known.shape)))
+    good c.requires.known c.requires.new (subst (λ (u : ℕ). AreWays c.args.facts.now c.args.known.now.steps u c.in-Ok.way c.in-Ok.way) (sym c.requires.wire) (c.in-Ok.ensures c.args.facts.now (sym c.requires.known.shape)))
     (c.part.ensures.advances.more.wires c.args.w.0 (c.in_ok-kept.ensures.kept c.if-not-kept.false)) (apart is_yes) (apart is_yes)) c.part.ensures.apart
 
 pub returns-clause-bad : goal.returns-clause-bad
 returns-clause-bad g c = IfOk-weaker c.part.result _ _ (λ yes bad. λ is_no.
-    subst (λ (told : Option Faults). IsBad told c.part.new.proof c.args.known.now.steps c.args.w.0) (ap (λ m. m.faults) c.swing.ensures.advances.machine) (bad is_no)) c.part.ensures.bad
+    subst (λ (told : Option Faults). IsBad told c.part.new.facts c.args.known.now.steps c.args.w.0) (ap (λ m. m.faults) c.test_stuck.ensures.advances.machine) (bad is_no)) c.part.ensures.bad

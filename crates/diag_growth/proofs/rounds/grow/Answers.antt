@@ -21,10 +21,10 @@ pub returns-in_default-clause-grows : goal.returns-in_default-clause-grows
 returns-in_default-clause-grows g c = grows_nothing c.args.known.now.steps
 
 pub returns-in_default-clause-loads : goal.returns-in_default-clause-loads
-returns-in_default-clause-loads g c = no_loads c.args.proof.now c.args.field.now _ c.requires.field
+returns-in_default-clause-loads g c = no_loads c.args.facts.now c.args.field.now _ c.requires.field
 
 pub returns-in_default-new-clause-loads : goal.returns-in_default-new-clause-loads
-returns-in_default-new-clause-loads g c = no_loads c.args.proof.now c.args.field.now _ c.requires.field
+returns-in_default-new-clause-loads g c = no_loads c.args.facts.now c.args.field.now _ c.requires.field
 
 pub returns-in_default-clause-few : goal.returns-in_default-clause-few
 returns-in_default-clause-few g c = takes_none c.requires.field refl
@@ -66,11 +66,11 @@ pub grow_pin-requires-clause-links : goal.grow_pin-requires-clause-links
 grow_pin-requires-clause-links g c = subst (λ (m : Shape). AreLinked m c.in-Ok.near.items) (sym c.pins.invariant.advances.more.shape) (linked_of (subst (λ (m : Shape). AreLinks m c.args.field.now c.in-Ok.near.items) c.shape-shape.ensures c.in-Ok.ensures))
 
 pub grow_pin-requires-clause-marks : goal.grow_pin-requires-clause-marks
-grow_pin-requires-clause-marks g c = subst (λ (told : Option Faults). AreAllMarks told c.pins.proof c.in-Ok.near.items c.pins.known.steps c.pins.marks) (sym (ap (λ m. m.faults) c.pins.invariant.advances.machine)) c.pins.invariant.growing.marks
+grow_pin-requires-clause-marks g c = subst (λ (told : Option Faults). AreAllMarks told c.pins.facts c.in-Ok.near.items c.pins.known.steps c.pins.marks) (sym (ap (λ m. m.faults) c.pins.invariant.advances.machine)) c.pins.invariant.growing.marks
 
 pub grow_pin-requires-clause-pin : goal.grow_pin-requires-clause-pin
 grow_pin-requires-clause-pin g c =
-    let end : c.pins-pin-end.result ≡ pins_of c.pins.proof.shape = c.pins-pin-end.ensures.pins ∙ ap pins_of (c.shape-shape.ensures ∙ sym c.pins.invariant.advances.more.shape) in
+    let end : c.pins-pin-end.result ≡ pins_of c.pins.facts.shape = c.pins-pin-end.ensures.pins ∙ ap pins_of (c.shape-shape.ensures ∙ sym c.pins.invariant.advances.more.shape) in
     omega (arith, end)
 
 pub returns-in_err-grow_pin-clause-known : goal.returns-in_err-grow_pin-clause-known
@@ -92,11 +92,11 @@ pins-preserved g c =
     record {
       advances = advances_then old.advances c.grow_pin.ensures.advances;
       growing = growing_next old.advances.more old.advances.holds c.grow_pin.ensures.advances.more old.growing c.grow_pin.ensures.grows
-          (subst (λ (told : Option Faults). AreTried told c.grow_pin.new.proof c.grow_pin.new.known.steps c.pins.marks.barred c.grow_pin.new.marks.barred) same c.in_ok-grow_pin.ensures.tried)
-          (subst (λ (told : Option Faults). IsGrown told c.pins.proof c.in-Ok.near.items c.pins.known.steps c.pins.marks.barred (length c.pins.known.steps) →
-          IsGrown told c.grow_pin.new.proof c.in-Ok.near.items c.grow_pin.new.known.steps c.grow_pin.new.marks.barred (length c.grow_pin.new.known.steps)) same c.in_ok-grow_pin.ensures.grown old.growing.grown)
+          (subst (λ (told : Option Faults). AreTried told c.grow_pin.new.facts c.grow_pin.new.known.steps c.pins.marks.barred c.grow_pin.new.marks.barred) same c.in_ok-grow_pin.ensures.tried)
+          (subst (λ (told : Option Faults). IsGrown told c.pins.facts c.in-Ok.near.items c.pins.known.steps c.pins.marks.barred (length c.pins.known.steps) →
+          IsGrown told c.grow_pin.new.facts c.in-Ok.near.items c.grow_pin.new.known.steps c.grow_pin.new.marks.barred (length c.grow_pin.new.known.steps)) same c.in_ok-grow_pin.ensures.grown old.growing.grown)
           c.in_ok-grow_pin.ensures.pin
-          (subst (λ (told : Option Faults). AreAllMarks told c.grow_pin.new.proof c.in-Ok.near.items c.grow_pin.new.known.steps c.grow_pin.new.marks) same c.in_ok-grow_pin.ensures.marks) (spends_told (ap (λ m. m.faults) c.pins.invariant.advances.machine) c.grow_pin.ensures.spends);
+          (subst (λ (told : Option Faults). AreAllMarks told c.grow_pin.new.facts c.in-Ok.near.items c.grow_pin.new.known.steps c.grow_pin.new.marks) same c.in_ok-grow_pin.ensures.marks) (spends_told (ap (λ m. m.faults) c.pins.invariant.advances.machine) c.grow_pin.ensures.spends);
     }
 
 pub returns-clause-known : goal.returns-clause-known
@@ -108,8 +108,8 @@ returns-clause-grows g c = grows_in c.pins.invariant.growing.outside c.pins.inva
 pub returns-clause-closed : goal.returns-clause-closed
 returns-clause-closed g c =
     let shape = c.pins.invariant.advances.more.shape in
-    let end : c.pins-pin-end.result ≡ pins_of c.pins.proof.shape = c.pins-pin-end.ensures.pins ∙ ap pins_of (c.shape-shape.ensures ∙ sym shape) in
-    growing_closed (subst (λ (m : Shape). IsFieldOf m c.args.field.now) (sym shape) c.requires.field) (c.the_numbering_is_sound.ensures.tree c.pins.proof.shape) (c.the_crosspoints_are_sound.ensures.meetings c.pins.proof.shape)
+    let end : c.pins-pin-end.result ≡ pins_of c.pins.facts.shape = c.pins-pin-end.ensures.pins ∙ ap pins_of (c.shape-shape.ensures ∙ sym shape) in
+    growing_closed (subst (λ (m : Shape). IsFieldOf m c.args.field.now) (sym shape) c.requires.field) (c.the_numbering_is_sound.ensures.tree c.pins.facts.shape) (c.the_crosspoints_are_sound.ensures.meetings c.pins.facts.shape)
     (subst (λ (m : Shape). AreLinks m c.args.field.now c.in-Ok.near.items) (sym shape) (subst (λ (m : Shape). AreLinks m c.args.field.now c.in-Ok.near.items) c.shape-shape.ensures c.in-Ok.ensures)) (omega (arith, end)) c.pins.invariant.growing
 
 pub returns-clause-loads : goal.returns-clause-loads

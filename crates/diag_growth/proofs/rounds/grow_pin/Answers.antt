@@ -24,7 +24,7 @@ pub has-requires-2 : goal.has-requires-2
 has-requires-2 g c = subst (λ (m : Shape). c.pin-wire.result.0 < wires_of m) (c.shape.ensures ∙ sym c.requires.known.shape) c.pin-wire.ensures.within
 
 pub returns-then-has-clause-grows : goal.returns-then-has-clause-grows
-returns-then-has-clause-grows g c = grows_itself c.requires.known (more_itself c.args.proof.now) refl
+returns-then-has-clause-grows g c = grows_itself c.requires.known (more_itself c.args.facts.now) refl
 
 pub returns-then-has-clause-tried : goal.returns-then-has-clause-tried
 returns-then-has-clause-tried g c = tried_none refl
@@ -36,7 +36,7 @@ pub returns-then-has-clause-spends : goal.returns-then-has-clause-spends
 returns-then-has-clause-spends g c = spends_none refl refl
 
 pub returns-then-has-2-clause-grows : goal.returns-then-has-2-clause-grows
-returns-then-has-2-clause-grows g c = grows_itself c.requires.known (more_itself c.args.proof.now) refl
+returns-then-has-2-clause-grows g c = grows_itself c.requires.known (more_itself c.args.facts.now) refl
 
 pub returns-then-has-2-clause-tried : goal.returns-then-has-2-clause-tried
 returns-then-has-2-clause-tried g c = tried_none refl
@@ -63,50 +63,50 @@ pub try_pin-requires-clause-first : goal.try_pin-requires-clause-first
 try_pin-requires-clause-first g c = ap (has_number c.args.marks.now.barred) (sym (c.pin-wire.ensures.wire ∙ ap (λ m. pin_wire m c.args.pin) c.shape.ensures)) ∙ sym c.has.ensures ∙ c.if-has.false
 
 pub returns-in_err-try_pin-clause-grows : goal.returns-in_err-try_pin-clause-grows
-returns-in_err-try_pin-clause-grows g c = pin_grows c.requires.marks.are (subst (λ w. w < wires_of c.args.proof.now.shape) (c.pin-wire.ensures.wire ∙ ap (λ m. pin_wire m c.args.pin) c.shape.ensures) (subst (λ (m : Shape). c.pin-wire.result.0 < wires_of m) c.shape.ensures c.pin-wire.ensures.within)) (ap (has_number c.args.marks.now.barred) (sym (c.pin-wire.ensures.wire ∙ ap (λ m. pin_wire m c.args.pin) c.shape.ensures)) ∙ sym c.has.ensures ∙ c.if-has.false) c.try_pin.ensures.known c.try_pin.ensures.more c.try_pin.ensures.barred
+returns-in_err-try_pin-clause-grows g c = pin_grows c.requires.marks.are (subst (λ w. w < wires_of c.args.facts.now.shape) (c.pin-wire.ensures.wire ∙ ap (λ m. pin_wire m c.args.pin) c.shape.ensures) (subst (λ (m : Shape). c.pin-wire.result.0 < wires_of m) c.shape.ensures c.pin-wire.ensures.within)) (ap (has_number c.args.marks.now.barred) (sym (c.pin-wire.ensures.wire ∙ ap (λ m. pin_wire m c.args.pin) c.shape.ensures)) ∙ sym c.has.ensures ∙ c.if-has.false) c.try_pin.ensures.known c.try_pin.ensures.more c.try_pin.ensures.barred
 
 pub returns-in_err-try_pin-clause-spends : goal.returns-in_err-try_pin-clause-spends
-returns-in_err-try_pin-clause-spends g c = spends_barred _ _ c.requires.marks.are (subst (λ w. w < wires_of c.args.proof.now.shape) (c.pin-wire.ensures.wire ∙ ap (λ m. pin_wire m c.args.pin) c.shape.ensures) (subst (λ (m : Shape). c.pin-wire.result.0 < wires_of m) c.shape.ensures c.pin-wire.ensures.within)) (ap (has_number c.args.marks.now.barred) (sym (c.pin-wire.ensures.wire ∙ ap (λ m. pin_wire m c.args.pin) c.shape.ensures)) ∙ sym c.has.ensures ∙ c.if-has.false) c.try_pin.ensures.barred (takes_two c.try_pin.ensures.loads)
+returns-in_err-try_pin-clause-spends g c = spends_barred _ _ c.requires.marks.are (subst (λ w. w < wires_of c.args.facts.now.shape) (c.pin-wire.ensures.wire ∙ ap (λ m. pin_wire m c.args.pin) c.shape.ensures) (subst (λ (m : Shape). c.pin-wire.result.0 < wires_of m) c.shape.ensures c.pin-wire.ensures.within)) (ap (has_number c.args.marks.now.barred) (sym (c.pin-wire.ensures.wire ∙ ap (λ m. pin_wire m c.args.pin) c.shape.ensures)) ∙ sym c.has.ensures ∙ c.if-has.false) c.try_pin.ensures.barred (takes_two c.try_pin.ensures.loads)
 
 pub look_on-requires-clause-links : goal.look_on-requires-clause-links
 look_on-requires-clause-links g c = subst (λ (m : Shape). AreLinked m c.args.near.now.items) (sym c.try_pin.ensures.advances.more.shape) c.requires.links
 
 pub look_on-requires-clause-marks : goal.look_on-requires-clause-marks
 look_on-requires-clause-marks g c =
-    let grows = pin_grows c.requires.marks.are (subst (λ w. w < wires_of c.args.proof.now.shape) (c.pin-wire.ensures.wire ∙ ap (λ m. pin_wire m c.args.pin) c.shape.ensures) (subst (λ (m : Shape). c.pin-wire.result.0 < wires_of m) c.shape.ensures c.pin-wire.ensures.within)) (ap (has_number c.args.marks.now.barred) (sym (c.pin-wire.ensures.wire ∙ ap (λ m. pin_wire m c.args.pin) c.shape.ensures)) ∙ sym c.has.ensures ∙ c.if-has.false) c.try_pin.ensures.known c.try_pin.ensures.more c.try_pin.ensures.barred in
-    subst (λ (told : Option Faults). AreAllMarks told c.try_pin.new.proof c.args.near.now.items c.try_pin.new.known.steps c.try_pin.new.marks) (sym (ap (λ m. m.faults) c.try_pin.ensures.advances.machine))
-    (pin_marks (pin_wire c.args.proof.now.shape c.args.pin) c.try_pin.ensures.advances.more grows c.requires.marks c.in_ok-try_pin.ensures.marks c.try_pin.ensures.barred)
+    let grows = pin_grows c.requires.marks.are (subst (λ w. w < wires_of c.args.facts.now.shape) (c.pin-wire.ensures.wire ∙ ap (λ m. pin_wire m c.args.pin) c.shape.ensures) (subst (λ (m : Shape). c.pin-wire.result.0 < wires_of m) c.shape.ensures c.pin-wire.ensures.within)) (ap (has_number c.args.marks.now.barred) (sym (c.pin-wire.ensures.wire ∙ ap (λ m. pin_wire m c.args.pin) c.shape.ensures)) ∙ sym c.has.ensures ∙ c.if-has.false) c.try_pin.ensures.known c.try_pin.ensures.more c.try_pin.ensures.barred in
+    subst (λ (told : Option Faults). AreAllMarks told c.try_pin.new.facts c.args.near.now.items c.try_pin.new.known.steps c.try_pin.new.marks) (sym (ap (λ m. m.faults) c.try_pin.ensures.advances.machine))
+    (pin_marks (pin_wire c.args.facts.now.shape c.args.pin) c.try_pin.ensures.advances.more grows c.requires.marks c.in_ok-try_pin.ensures.marks c.try_pin.ensures.barred)
 
 pub look_on-requires-clause-from : goal.look_on-requires-clause-from
 look_on-requires-clause-from g c =
-    let long = longer (pin_grows c.requires.marks.are (subst (λ w. w < wires_of c.args.proof.now.shape) (c.pin-wire.ensures.wire ∙ ap (λ m. pin_wire m c.args.pin) c.shape.ensures) (subst (λ (m : Shape). c.pin-wire.result.0 < wires_of m) c.shape.ensures c.pin-wire.ensures.within)) (ap (has_number c.args.marks.now.barred) (sym (c.pin-wire.ensures.wire ∙ ap (λ m. pin_wire m c.args.pin) c.shape.ensures)) ∙ sym c.has.ensures ∙ c.if-has.false) c.try_pin.ensures.known c.try_pin.ensures.more c.try_pin.ensures.barred) in
+    let long = longer (pin_grows c.requires.marks.are (subst (λ w. w < wires_of c.args.facts.now.shape) (c.pin-wire.ensures.wire ∙ ap (λ m. pin_wire m c.args.pin) c.shape.ensures) (subst (λ (m : Shape). c.pin-wire.result.0 < wires_of m) c.shape.ensures c.pin-wire.ensures.within)) (ap (has_number c.args.marks.now.barred) (sym (c.pin-wire.ensures.wire ∙ ap (λ m. pin_wire m c.args.pin) c.shape.ensures)) ∙ sym c.has.ensures ∙ c.if-has.false) c.try_pin.ensures.known c.try_pin.ensures.more c.try_pin.ensures.barred) in
     let len = c.len-from.ensures.len in
     omega (arith, long, len)
 
 pub returns-clause-grows : goal.returns-clause-grows
-returns-clause-grows g c = grows_then (pin_grows c.requires.marks.are (subst (λ w. w < wires_of c.args.proof.now.shape) (c.pin-wire.ensures.wire ∙ ap (λ m. pin_wire m c.args.pin) c.shape.ensures) (subst (λ (m : Shape). c.pin-wire.result.0 < wires_of m) c.shape.ensures c.pin-wire.ensures.within)) (ap (has_number c.args.marks.now.barred) (sym (c.pin-wire.ensures.wire ∙ ap (λ m. pin_wire m c.args.pin) c.shape.ensures)) ∙ sym c.has.ensures ∙ c.if-has.false) c.try_pin.ensures.known c.try_pin.ensures.more c.try_pin.ensures.barred) c.look_on.ensures.grows
+returns-clause-grows g c = grows_then (pin_grows c.requires.marks.are (subst (λ w. w < wires_of c.args.facts.now.shape) (c.pin-wire.ensures.wire ∙ ap (λ m. pin_wire m c.args.pin) c.shape.ensures) (subst (λ (m : Shape). c.pin-wire.result.0 < wires_of m) c.shape.ensures c.pin-wire.ensures.within)) (ap (has_number c.args.marks.now.barred) (sym (c.pin-wire.ensures.wire ∙ ap (λ m. pin_wire m c.args.pin) c.shape.ensures)) ∙ sym c.has.ensures ∙ c.if-has.false) c.try_pin.ensures.known c.try_pin.ensures.more c.try_pin.ensures.barred) c.look_on.ensures.grows
 
 pub returns-clause-tried : goal.returns-clause-tried
 returns-clause-tried g c =
     let step = c.look_on.ensures.grows in
     let first = tried_one (ap (λ (m : Marks). m.barred) c.try_pin.ensures.barred) c.in_ok-try_pin.ensures.tried in
     on_ok_weaker c.look_on.result (λ second. tried_then step.more step.steps c.look_on.ensures.advances.more first
-    (subst (λ (told : Option Faults). AreTried told c.look_on.new.proof c.look_on.new.known.steps c.try_pin.new.marks.barred c.look_on.new.marks.barred) (ap (λ m. m.faults) c.try_pin.ensures.advances.machine) second)) c.look_on.ensures.tried
+    (subst (λ (told : Option Faults). AreTried told c.look_on.new.facts c.look_on.new.known.steps c.try_pin.new.marks.barred c.look_on.new.marks.barred) (ap (λ m. m.faults) c.try_pin.ensures.advances.machine) second)) c.look_on.ensures.tried
 
 pub returns-clause-grown : goal.returns-clause-grown
 returns-clause-grown g c =
-    let grows = pin_grows c.requires.marks.are (subst (λ w. w < wires_of c.args.proof.now.shape) (c.pin-wire.ensures.wire ∙ ap (λ m. pin_wire m c.args.pin) c.shape.ensures) (subst (λ (m : Shape). c.pin-wire.result.0 < wires_of m) c.shape.ensures c.pin-wire.ensures.within)) (ap (has_number c.args.marks.now.barred) (sym (c.pin-wire.ensures.wire ∙ ap (λ m. pin_wire m c.args.pin) c.shape.ensures)) ∙ sym c.has.ensures ∙ c.if-has.false) c.try_pin.ensures.known c.try_pin.ensures.more c.try_pin.ensures.barred in
+    let grows = pin_grows c.requires.marks.are (subst (λ w. w < wires_of c.args.facts.now.shape) (c.pin-wire.ensures.wire ∙ ap (λ m. pin_wire m c.args.pin) c.shape.ensures) (subst (λ (m : Shape). c.pin-wire.result.0 < wires_of m) c.shape.ensures c.pin-wire.ensures.within)) (ap (has_number c.args.marks.now.barred) (sym (c.pin-wire.ensures.wire ∙ ap (λ m. pin_wire m c.args.pin) c.shape.ensures)) ∙ sym c.has.ensures ∙ c.if-has.false) c.try_pin.ensures.known c.try_pin.ensures.more c.try_pin.ensures.barred in
     on_ok_weaker c.look_on.result (λ on. λ grown.
-    subst (λ (told : Option Faults). IsGrown told c.try_pin.new.proof c.args.near.now.items c.try_pin.new.known.steps c.try_pin.new.marks.barred c.len-from.result →
-    IsGrown told c.look_on.new.proof c.args.near.now.items c.look_on.new.known.steps c.look_on.new.marks.barred (length c.look_on.new.known.steps)) (ap (λ m. m.faults) c.try_pin.ensures.advances.machine) on
+    subst (λ (told : Option Faults). IsGrown told c.try_pin.new.facts c.args.near.now.items c.try_pin.new.known.steps c.try_pin.new.marks.barred c.len-from.result →
+    IsGrown told c.look_on.new.facts c.args.near.now.items c.look_on.new.known.steps c.look_on.new.marks.barred (length c.look_on.new.known.steps)) (ap (λ m. m.faults) c.try_pin.ensures.advances.machine) on
     (grown_at (sym c.len-from.ensures.len)
     (grown_on c.try_pin.ensures.advances.more (omega arith) grows grown))) c.look_on.ensures.grown
 
 pub returns-clause-pin : goal.returns-clause-pin
-returns-clause-pin g c = on_ok_weaker c.look_on.result (λ marks. inr (c.look_on.ensures.grows.stays.stays (pin_wire c.args.proof.now.shape c.args.pin) (pin_has c.requires.marks.are (subst (λ w. w < wires_of c.args.proof.now.shape) (c.pin-wire.ensures.wire ∙ ap (λ m. pin_wire m c.args.pin) c.shape.ensures) (subst (λ (m : Shape). c.pin-wire.result.0 < wires_of m) c.shape.ensures c.pin-wire.ensures.within)) c.try_pin.ensures.barred))) c.look_on.ensures.marks
+returns-clause-pin g c = on_ok_weaker c.look_on.result (λ marks. inr (c.look_on.ensures.grows.stays.stays (pin_wire c.args.facts.now.shape c.args.pin) (pin_has c.requires.marks.are (subst (λ w. w < wires_of c.args.facts.now.shape) (c.pin-wire.ensures.wire ∙ ap (λ m. pin_wire m c.args.pin) c.shape.ensures) (subst (λ (m : Shape). c.pin-wire.result.0 < wires_of m) c.shape.ensures c.pin-wire.ensures.within)) c.try_pin.ensures.barred))) c.look_on.ensures.marks
 
 pub returns-clause-marks : goal.returns-clause-marks
-returns-clause-marks g c = subst (λ (told : Option Faults). OnOk c.look_on.result (AreAllMarks told c.look_on.new.proof c.args.near.now.items c.look_on.new.known.steps c.look_on.new.marks)) (ap (λ m. m.faults) c.try_pin.ensures.advances.machine) c.look_on.ensures.marks
+returns-clause-marks g c = subst (λ (told : Option Faults). OnOk c.look_on.result (AreAllMarks told c.look_on.new.facts c.args.near.now.items c.look_on.new.known.steps c.look_on.new.marks)) (ap (λ m. m.faults) c.try_pin.ensures.advances.machine) c.look_on.ensures.marks
 
 pub returns-clause-spends : goal.returns-clause-spends
-returns-clause-spends g c = spends_then c.try_pin.ensures.advances.more c.try_pin.ensures.advances.holds (spends_barred _ _ c.requires.marks.are (subst (λ w. w < wires_of c.args.proof.now.shape) (c.pin-wire.ensures.wire ∙ ap (λ m. pin_wire m c.args.pin) c.shape.ensures) (subst (λ (m : Shape). c.pin-wire.result.0 < wires_of m) c.shape.ensures c.pin-wire.ensures.within)) (ap (has_number c.args.marks.now.barred) (sym (c.pin-wire.ensures.wire ∙ ap (λ m. pin_wire m c.args.pin) c.shape.ensures)) ∙ sym c.has.ensures ∙ c.if-has.false) c.try_pin.ensures.barred (takes_two c.try_pin.ensures.loads)) (spends_told (ap (λ m. m.faults) c.try_pin.ensures.advances.machine) c.look_on.ensures.spends)
+returns-clause-spends g c = spends_then c.try_pin.ensures.advances.more c.try_pin.ensures.advances.holds (spends_barred _ _ c.requires.marks.are (subst (λ w. w < wires_of c.args.facts.now.shape) (c.pin-wire.ensures.wire ∙ ap (λ m. pin_wire m c.args.pin) c.shape.ensures) (subst (λ (m : Shape). c.pin-wire.result.0 < wires_of m) c.shape.ensures c.pin-wire.ensures.within)) (ap (has_number c.args.marks.now.barred) (sym (c.pin-wire.ensures.wire ∙ ap (λ m. pin_wire m c.args.pin) c.shape.ensures)) ∙ sym c.has.ensures ∙ c.if-has.false) c.try_pin.ensures.barred (takes_two c.try_pin.ensures.loads)) (spends_told (ap (λ m. m.faults) c.try_pin.ensures.advances.machine) c.look_on.ensures.spends)

@@ -15,8 +15,8 @@ use Rattle.diag_growth.proofs.rounds.look_on.Goals as goal
 
 pub places-init : goal.places-init
 places-init g c = record {
-  advances = advances_itself _ c.args.proof.now;
-  grows = grows_itself c.requires.known (more_itself c.args.proof.now) refl;
+  advances = advances_itself _ c.args.facts.now;
+  grows = grows_itself c.requires.known (more_itself c.args.facts.now) refl;
   tried = tried_none refl;
   marks = c.requires.marks;
   spends = spends_none refl refl;
@@ -28,7 +28,7 @@ look_at-requires-clause-links g c = subst (λ (m : Shape). AreLinked m c.args.ne
 
 pub look_at-requires-clause-marks : goal.look_at-requires-clause-marks
 look_at-requires-clause-marks g c =
-    subst (λ (told : Option Faults). AreAllMarks told c.places.proof c.args.near.now.items c.places.known.steps c.places.marks) (sym (ap (λ m. m.faults) c.places.invariant.advances.machine)) c.places.invariant.marks
+    subst (λ (told : Option Faults). AreAllMarks told c.places.facts c.args.near.now.items c.places.known.steps c.places.marks) (sym (ap (λ m. m.faults) c.places.invariant.advances.machine)) c.places.invariant.marks
 
 pub returns-in_err-look_at-clause-grows : goal.returns-in_err-look_at-clause-grows
 returns-in_err-look_at-clause-grows g c = grows_then c.places.invariant.grows c.look_at.ensures.grows
@@ -57,13 +57,13 @@ places-preserved g c =
       advances = advances_then old.advances c.look_at.ensures.advances;
       grows = grows_then old.grows step;
       tried = tried_then step.more step.steps more old.tried
-          (subst (λ (told : Option Faults). AreTried told c.look_at.new.proof c.look_at.new.known.steps c.places.marks.barred c.look_at.new.marks.barred) same c.in_ok-look_at.ensures.tried);
-      marks = subst (λ (told : Option Faults). AreAllMarks told c.look_at.new.proof c.args.near.now.items c.look_at.new.known.steps c.look_at.new.marks) same c.in_ok-look_at.ensures.marks;
+          (subst (λ (told : Option Faults). AreTried told c.look_at.new.facts c.look_at.new.known.steps c.places.marks.barred c.look_at.new.marks.barred) same c.in_ok-look_at.ensures.tried);
+      marks = subst (λ (told : Option Faults). AreAllMarks told c.look_at.new.facts c.args.near.now.items c.look_at.new.known.steps c.look_at.new.marks) same c.in_ok-look_at.ensures.marks;
       spends = spends_then old.advances.more old.advances.holds old.spends (spends_told same c.look_at.ensures.spends);
       also = (
         omega (arith, long, len),
-        λ grown. subst (λ (told : Option Faults). IsGrown told c.places.proof c.args.near.now.items c.places.known.steps c.places.marks.barred c.places.place →
-            IsGrown told c.look_at.new.proof c.args.near.now.items c.look_at.new.known.steps c.look_at.new.marks.barred (c.places.place + 1)) same c.in_ok-look_at.ensures.grown (old.also.1 grown),
+        λ grown. subst (λ (told : Option Faults). IsGrown told c.places.facts c.args.near.now.items c.places.known.steps c.places.marks.barred c.places.place →
+            IsGrown told c.look_at.new.facts c.args.near.now.items c.look_at.new.known.steps c.look_at.new.marks.barred (c.places.place + 1)) same c.in_ok-look_at.ensures.grown (old.also.1 grown),
       );
     }
 

@@ -9,14 +9,14 @@ use Rattle.diag_growth.proofs.Searching.{no_port_of, port_of}
 use Rattle.diag_growth.proofs.seats.find_place.Goals as goal
 
 pub place_near-requires-clause-port : goal.place_near-requires-clause-port
-place_near-requires-clause-port c = port_of c.args.t.0 c.shape-shape.ensures (c.ports_and_lines_ascend.ensures c.args.proof.now.shape) c.hextant_of-hextant.ensures.node c.hextant_of-hextant.ensures.within (let t = c.ports-test.true in let l = c.ports-k-end.ensures in omega (arith, t, l)) c.port-near.ensures.wire
+place_near-requires-clause-port c = port_of c.args.t.0 c.shape-shape.ensures (c.ports_and_lines_ascend.ensures c.args.facts.now.shape) c.hextant_of-hextant.ensures.node c.hextant_of-hextant.ensures.within (let t = c.ports-test.true in let l = c.ports-k-end.ensures in omega (arith, t, l)) c.port-near.ensures.wire
 
 pub ports-init : goal.ports-init
 ports-init c = record { none = λ i line less. absurd (let no : ⊥ = omega (arith, less) in no) }
 
 pub ports-preserved-then-not-has : goal.ports-preserved-then-not-has
 ports-preserved-then-not-has c =
-    let k = c.args.proof.now in
+    let k = c.args.facts.now in
     let h = hextant_of k.shape c.args.t.0 in
     let node : c.hextant_of-hextant.result.0 ≡ h = subst (λ (m : Shape). c.hextant_of-hextant.result.0 ≡ hextant_of m c.args.t.0) c.shape-shape.ensures c.hextant_of-hextant.ensures.node in
     let at : c.port-near.result.0 ≡ port_at k.shape c.hextant_of-hextant.result.0 c.ports.k = subst (λ (m : Shape). c.port-near.result.0 ≡ port_at m c.hextant_of-hextant.result.0 c.ports.k) c.shape-shape.ensures c.port-near.ensures.wire in
@@ -30,14 +30,14 @@ ports-preserved-then-not-has c =
 pub returns-in-Some-clause-place : goal.returns-in-Some-clause-place
 returns-in-Some-clause-place c = record {
   near = c.port-near.result.0;
-  port = port_of c.args.t.0 c.shape-shape.ensures (c.ports_and_lines_ascend.ensures c.args.proof.now.shape) c.hextant_of-hextant.ensures.node c.hextant_of-hextant.ensures.within (let t = c.ports-test.true in let l = c.ports-k-end.ensures in omega (arith, t, l)) c.port-near.ensures.wire;
+  port = port_of c.args.t.0 c.shape-shape.ensures (c.ports_and_lines_ascend.ensures c.args.facts.now.shape) c.hextant_of-hextant.ensures.node c.hextant_of-hextant.ensures.within (let t = c.ports-test.true in let l = c.ports-k-end.ensures in omega (arith, t, l)) c.port-near.ensures.wire;
   stands = c.has.ensures.known c.if-not-has.false;
   found = rw c.in-Some.is at c.in_ok-place.ensures.place;
 }
 
 pub ports-preserved : goal.ports-preserved
 ports-preserved c =
-    let k = c.args.proof.now in
+    let k = c.args.facts.now in
     let h = hextant_of k.shape c.args.t.0 in
     let node : c.hextant_of-hextant.result.0 ≡ h = subst (λ (m : Shape). c.hextant_of-hextant.result.0 ≡ hextant_of m c.args.t.0) c.shape-shape.ensures c.hextant_of-hextant.ensures.node in
     let at : c.port-near.result.0 ≡ port_at k.shape c.hextant_of-hextant.result.0 c.ports.k = subst (λ (m : Shape). c.port-near.result.0 ≡ port_at m c.hextant_of-hextant.result.0 c.ports.k) c.shape-shape.ensures c.port-near.ensures.wire in
@@ -53,7 +53,7 @@ ports-preserved c =
 
 pub returns-clause-none : goal.returns-clause-none
 returns-clause-none c = λ near line port has is p.
-    let k = c.args.proof.now in
+    let k = c.args.facts.now in
     let h = hextant_of k.shape c.args.t.0 in
     let node : c.hextant_of-hextant.result.0 ≡ h = subst (λ (m : Shape). c.hextant_of-hextant.result.0 ≡ hextant_of m c.args.t.0) c.shape-shape.ensures c.hextant_of-hextant.ensures.node in
     let end : c.ports-k-end.result ≡ own_ports_of k.shape h = subst (λ (m : Shape). c.ports-k-end.result ≡ own_ports_of m c.hextant_of-hextant.result.0) c.shape-shape.ensures c.ports-k-end.ensures ∙ ap (λ n. own_ports_of k.shape n) node in

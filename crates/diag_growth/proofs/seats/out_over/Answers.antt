@@ -10,23 +10,23 @@ returns-then-not-has-clause-none c = λ near. no_place_unknown (c.has.ensures.un
 
 pub returns-in_default-clause-none : goal.returns-in_default-clause-none
 returns-in_default-clause-none c = λ near.
-    let pin : c.pin_of.result.0 ≡ table_wire c.args.proof.now.shape c.args.t.0 6 = subst (λ (m : Shape). c.pin_of.result.0 ≡ table_wire m c.args.t.0 6) c.shape-shape.ensures c.pin_of.ensures.wire in
+    let pin : c.pin_of.result.0 ≡ table_wire c.args.facts.now.shape c.args.t.0 6 = subst (λ (m : Shape). c.pin_of.result.0 ≡ table_wire m c.args.t.0 6) c.shape-shape.ensures c.pin_of.ensures.wire in
     no_place_output pin c.in_default.ensures.none
 
 pub fars_over-requires-clause-is_line : goal.fars_over-requires-clause-is_line
 fars_over-requires-clause-is_line c =
-    let node : c.hextant_of-hextant.result.0 ≡ hextant_of c.args.proof.now.shape c.args.t.0 = subst (λ (m : Shape). c.hextant_of-hextant.result.0 ≡ hextant_of m c.args.t.0) c.shape-shape.ensures c.hextant_of-hextant.ensures.node in
-    subst (λ n. IsLine c.args.proof.now.shape n c.args.line.0) (sym node) c.requires.line
+    let node : c.hextant_of-hextant.result.0 ≡ hextant_of c.args.facts.now.shape c.args.t.0 = subst (λ (m : Shape). c.hextant_of-hextant.result.0 ≡ hextant_of m c.args.t.0) c.shape-shape.ensures c.hextant_of-hextant.ensures.node in
+    subst (λ n. IsLine c.args.facts.now.shape n c.args.line.0) (sym node) c.requires.line
 
 pub returns-in_default-fars_over-clause-none : goal.returns-in_default-fars_over-clause-none
 returns-in_default-fars_over-clause-none c = λ near.
-    let node : c.hextant_of-hextant.result.0 ≡ hextant_of c.args.proof.now.shape c.args.t.0 = subst (λ (m : Shape). c.hextant_of-hextant.result.0 ≡ hextant_of m c.args.t.0) c.shape-shape.ensures c.hextant_of-hextant.ensures.node in
+    let node : c.hextant_of-hextant.result.0 ≡ hextant_of c.args.facts.now.shape c.args.t.0 = subst (λ (m : Shape). c.hextant_of-hextant.result.0 ≡ hextant_of m c.args.t.0) c.shape-shape.ensures c.hextant_of-hextant.ensures.node in
     no_place_far node (c.in_default-fars_over.ensures.none near)
 
 pub returns-clause-out : goal.returns-clause-out
 returns-clause-out c =
-    let node : c.hextant_of-hextant.result.0 ≡ hextant_of c.args.proof.now.shape c.args.t.0 = subst (λ (m : Shape). c.hextant_of-hextant.result.0 ≡ hextant_of m c.args.t.0) c.shape-shape.ensures c.hextant_of-hextant.ensures.node in
-    let pin : c.pin_of.result.0 ≡ table_wire c.args.proof.now.shape c.args.t.0 6 = subst (λ (m : Shape). c.pin_of.result.0 ≡ table_wire m c.args.t.0 6) c.shape-shape.ensures c.pin_of.ensures.wire in
+    let node : c.hextant_of-hextant.result.0 ≡ hextant_of c.args.facts.now.shape c.args.t.0 = subst (λ (m : Shape). c.hextant_of-hextant.result.0 ≡ hextant_of m c.args.t.0) c.shape-shape.ensures c.hextant_of-hextant.ensures.node in
+    let pin : c.pin_of.result.0 ≡ table_wire c.args.facts.now.shape c.args.t.0 6 = subst (λ (m : Shape). c.pin_of.result.0 ≡ table_wire m c.args.t.0 6) c.shape-shape.ensures c.pin_of.ensures.wire in
     record {
       is_line = c.requires.line;
       known = c.has.ensures.known c.if-not-has.false;

@@ -5,6 +5,6 @@ use Rattle.diag_growth.proofs.seats.outs_of.Given as goal
 
 abbrev pub invariant-lines : goal.invariant-lines
 invariant-lines l = record {
-  outs : AreOuts l.proof l.known.steps l.without.steps l.t.0 l.outs.items;
-  told : (i : ℕ) → i < l.k → IsTold l.proof l.known.steps l.without.steps l.t.0 l.outs.items (line_at l.proof.shape (hextant_of l.proof.shape l.t.0) i);
+  outs : AreOuts l.facts l.known.steps l.without.steps l.t.0 l.outs.items;
+  told : (i : ℕ) → i < l.k → IsTold l.facts l.known.steps l.without.steps l.t.0 l.outs.items (line_at l.facts.shape (hextant_of l.facts.shape l.t.0) i);
 }

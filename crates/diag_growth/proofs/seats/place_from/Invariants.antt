@@ -6,5 +6,5 @@ use Rattle.diag_growth.proofs.seats.place_from.Given as goal
 
 abbrev pub invariant-lines : goal.invariant-lines
 invariant-lines l = record {
-  none : (j : ℕ) (o : Out) → j < l.k → slice_get l.outs.items j ≡ Some o → ¬ IsPlaceAt l.proof l.known.steps l.without.steps l.t.0 l.hub.port.0 o.line.0;
+  none : (j : ℕ) (o : Out) → j < l.k → slice_get l.outs.items j ≡ Some o → ¬ IsPlaceAt l.facts l.known.steps l.without.steps l.t.0 l.hub.port.0 o.line.0;
 }

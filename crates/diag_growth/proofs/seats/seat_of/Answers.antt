@@ -27,7 +27,7 @@ push_to-requires-clause-at c = let p = c.requires.place.found.place in
 
 pub returns : goal.returns
 returns c = (
-  seat_over c.args.t c.args.place c.requires.known (c.the_numbering_is_sound.ensures.numbered c.args.proof.now.shape) (c.the_numbering_is_sound.ensures.tree c.args.proof.now.shape)
+  seat_over c.args.t c.args.place c.requires.known (c.the_numbering_is_sound.ensures.numbered c.args.facts.now.shape) (c.the_numbering_is_sound.ensures.tree c.args.facts.now.shape)
       c.requires.outside c.requires.table c.requires.pins c.requires.place c.in_ok-near.ensures
       (subst (λ (m : Shape). Extends m c.args.place.to_line.0 c.in_ok-near.far c.push_to.new.self) c.shape.ensures c.in_ok-push_to.ensures.longer)
       (subst (λ (m : Shape). IsRoute m c.push_to.new.self) c.shape.ensures c.in_ok-push_to.ensures.right),

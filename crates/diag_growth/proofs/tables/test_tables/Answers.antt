@@ -17,7 +17,7 @@ returns-in_default-without_of-clause-only g c = only_none
 
 pub tables-init : goal.tables-init
 tables-init g c = record {
-  advances = advances_itself _ c.args.proof.now;
+  advances = advances_itself _ c.args.facts.now;
   only = only_none;
   tested = tested_first;
   without = without_at (sym c.in-Ok-without_of.ensures.hextant) c.in-Ok-without_of.ensures.stands;
@@ -31,10 +31,10 @@ pub test_seated-requires-clause-links : goal.test_seated-requires-clause-links
 test_seated-requires-clause-links g c = links_same (c.tables.invariant.advances.more.shape ∙ sym c.requires.known.shape ∙ sym c.shape.ensures) c.in-Ok.ensures
 
 pub test_seated-requires-clause-table : goal.test_seated-requires-clause-table
-test_seated-requires-clause-table g c = table_below c.args.proof.now c.tables.proof c.tables.invariant.advances.more.shape c.args.tables.now c.tables.i (record { 0 = 0 }) c.tables-test.true c.requires.tables
+test_seated-requires-clause-table g c = table_below c.args.facts.now c.tables.facts c.tables.invariant.advances.more.shape c.args.tables.now c.tables.i (record { 0 = 0 }) c.tables-test.true c.requires.tables
 
 pub returns-in_err-test_seated-clause-loads : goal.returns-in_err-test_seated-clause-loads
-returns-in_err-test_seated-clause-loads g c = takes_all c.args.proof.now c.args.tables.now (c.tables.i + 1) _ (takes_more c.args.tables.now c.tables.i (record { 0 = 0 }) _ c.tables-test.true c.tables.invariant.advances.more c.tables.invariant.loads c.test_seated.ensures.loads)
+returns-in_err-test_seated-clause-loads g c = takes_all c.args.facts.now c.args.tables.now (c.tables.i + 1) _ (takes_more c.args.tables.now c.tables.i (record { 0 = 0 }) _ c.tables-test.true c.tables.invariant.advances.more c.tables.invariant.loads c.test_seated.ensures.loads)
 
 pub returns-in_err-test_seated-clause-only : goal.returns-in_err-test_seated-clause-only
 returns-in_err-test_seated-clause-only g c = only_then c.tables.invariant.only c.test_seated.ensures.only
@@ -55,4 +55,4 @@ pub returns-clause-tables : goal.returns-clause-tables
 returns-clause-tables g c = tested_all c.tables.invariant.tested (let t = c.tables-test.false in omega (arith, t))
 
 pub returns-clause-loads : goal.returns-clause-loads
-returns-clause-loads g c = takes_all c.args.proof.now c.args.tables.now c.tables.i _ c.tables.invariant.loads
+returns-clause-loads g c = takes_all c.args.facts.now c.args.tables.now c.tables.i _ c.tables.invariant.loads

@@ -11,9 +11,9 @@ invariant-tables g l =
     let rig0 = (goal.Rig-dyn g (l.fn.rig.vtable, l.fn.rig.value)).rig_state l.fn.rig.value in
     let rig = (goal.Rig-dyn g (l.rig.vtable, l.rig.value)).rig_state l.rig.value in
     record {
-      advances : Advances rig0 rig l.fn.proof l.proof;
-      only : AddsOnlyTableFacts l.fn.proof l.proof;
-      tested : AreTested rig0.machine.faults l.fn.proof l.proof l.known.steps l.tables l.i;
-      without : AreAllWithout l.proof l.known.steps l.without.hextant.0 l.without.known;
-      loads : rig.loads ≤ rig0.loads + 130 * fresh_tables l.fn.proof (take l.i l.tables);
+      advances : Advances rig0 rig l.fn.facts l.facts;
+      only : AddsOnlyTableFacts l.fn.facts l.facts;
+      tested : AreTested rig0.machine.faults l.fn.facts l.facts l.known.steps l.tables l.i;
+      without : AreAllWithout l.facts l.known.steps l.without.hextant.0 l.without.known;
+      loads : rig.loads ≤ rig0.loads + 130 * fresh_tables l.fn.facts (take l.i l.tables);
     }

@@ -9,7 +9,7 @@ pub put_route-requires : goal.put_route-requires
 put_route-requires c =
     let len : length c.clear.new.reaches.items ≡ c.wires.result = ap length c.in_ok-clear.ensures ∙ length-replicate c.wires.result reach.Unreached in
     λ w on. let h = c.requires.route.wires w on in
-    let same : c.wires.result ≡ wires_of c.args.proof.now.shape = c.wires.ensures.wires ∙ ap wires_of (c.shape.ensures ∙ c.requires.known.shape) in
+    let same : c.wires.result ≡ wires_of c.args.facts.now.shape = c.wires.ensures.wires ∙ ap wires_of (c.shape.ensures ∙ c.requires.known.shape) in
     omega (arith, h, len, same)
 
 pub places-init : goal.places-init

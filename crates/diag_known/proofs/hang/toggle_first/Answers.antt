@@ -24,17 +24,17 @@ pub hang-requires-2-clause-way : goal.hang-requires-2-clause-way
 hang-requires-2-clause-way g c = (ways_later c.hang.ensures.advances.more c.in-Ok.ensures).second
 
 pub hang-requires-2-clause-marks : goal.hang-requires-2-clause-marks
-hang-requires-2-clause-marks g c = subst (λ (told : Option Faults). AreMarks told c.hang.new.proof c.args.known.now.steps c.hang.new.marks) (sym (ap (λ m. m.faults) c.hang.ensures.advances.machine)) c.in_ok-kept.ensures.marks
+hang-requires-2-clause-marks g c = subst (λ (told : Option Faults). AreMarks told c.hang.new.facts c.args.known.now.steps c.hang.new.marks) (sym (ap (λ m. m.faults) c.hang.ensures.advances.machine)) c.in_ok-kept.ensures.marks
 
 pub returns-clause-lost : goal.returns-clause-lost
 returns-clause-lost g c = IfOk-weaker c.hang-2.result _ _ (λ yes none. λ is_no.
     both_lost c.requires.known c.requires.offer c.in-Ok.ensures c.hang-2.ensures.advances.more (c.in_ok-kept.ensures.lost c.if-kept.false)
-    (subst (λ (told : Option Faults). HasNoneBeside told c.hang-2.new.proof c.args.known.now.steps c.args.offer.now c.in-Ok.right) (ap (λ m. m.faults) c.hang.ensures.advances.machine) (none is_no)))
+    (subst (λ (told : Option Faults). HasNoneBeside told c.hang-2.new.facts c.args.known.now.steps c.args.offer.now c.in-Ok.right) (ap (λ m. m.faults) c.hang.ensures.advances.machine) (none is_no)))
     c.hang-2.ensures.lost
 
 pub returns-clause-marks : goal.returns-clause-marks
 returns-clause-marks g c = on_ok_weaker c.hang-2.result
-    (λ marks. subst (λ (told : Option Faults). AreMarks told c.hang-2.new.proof c.args.known.now.steps c.hang-2.new.marks) (ap (λ m. m.faults) c.hang.ensures.advances.machine) marks) c.hang-2.ensures.marks
+    (λ marks. subst (λ (told : Option Faults). AreMarks told c.hang-2.new.facts c.args.known.now.steps c.hang-2.new.marks) (ap (λ m. m.faults) c.hang.ensures.advances.machine) marks) c.hang-2.ensures.marks
 
 pub returns-clause-spends : goal.returns-clause-spends
 returns-clause-spends g c = spends_both _ _ _ c.requires.marks c.requires.offer c.requires.first c.hang.ensures.advances.more c.hang.ensures.advances.holds c.in_ok-kept.ensures.marks c.hang.ensures.offers c.hang-2.ensures.offers

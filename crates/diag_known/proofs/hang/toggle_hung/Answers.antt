@@ -12,7 +12,7 @@ use Rattle.diag_known.proofs.Hung.{laid_as, pulled_as, hung_within, hung_tied, h
 use Rattle.diag_known.proofs.hang.toggle_hung.Goals as goal
 
 pub laid-requires-clause-ties : goal.laid-requires-clause-ties
-laid-requires-clause-ties g c = all_numbers (λ x. x < crosses_of c.args.proof.now.shape) c.deref.result.now
+laid-requires-clause-ties g c = all_numbers (λ x. x < crosses_of c.args.facts.now.shape) c.deref.result.now
     (λ x is. hung_within c.requires.offer c.requires.hung x (subst (λ (xs : List Cross). among (cross_numbers xs) x ≡ true) c.deref.ensures.value is))
 
 pub pulled-requires : goal.pulled-requires

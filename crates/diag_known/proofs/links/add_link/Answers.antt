@@ -2,7 +2,7 @@ use Rattle.std.proofs.Common.{◌≡◌, ◌∙◌, ◌++◌, ◌∷◌, [], Lis
 use Rattle.std.specs.Prelude.{slice_get}
 use Rattle.std.proofs.lemmas.Option.{slice_get-get_or}
 use Rattle.diag_known.specs.declared.links.Near.{Near}
-use Rattle.diag_known.specs.declared.step.Foot.{Foot}
+use Rattle.diag_known.specs.declared.verified_wire.Support.{Support}
 use Rattle.diag_known.proofs.Linking.{list_at_some, list_at_same, list_at_other}
 use Rattle.diag_known.proofs.links.add_link.Goals as goal
 
@@ -13,6 +13,6 @@ returns-clause-adds c =
     let row = c.index_mut.result.now in
     let at : slice_get old w ≡ Some row = slice_get-get_or old w row c.requires ∙ ap (λ (v : Near). Some v) (sym c.index_mut.ensures.value) in
     record {
-      this = list_at_same old w (record { links = c.push.new.self }) c.requires ∙ c.in_ok-push.ensures.items ∙ ap (λ (ls : List Foot). ls ++ c.args.link ∷ []) (sym (list_at_some old w row at));
+      this = list_at_same old w (record { links = c.push.new.self }) c.requires ∙ c.in_ok-push.ensures.items ∙ ap (λ (ls : List Support). ls ++ c.args.link ∷ []) (sym (list_at_some old w row at));
       others = λ u n. list_at_other old w u (record { links = c.push.new.self }) n;
     }

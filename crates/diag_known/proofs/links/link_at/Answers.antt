@@ -2,7 +2,7 @@ use Rattle.std.proofs.Common.{◌≡◌, ◌∙◌, List, [], Some, None, sym, a
 use Rattle.std.specs.Prelude.{slice_get}
 use Rattle.diag_known.specs.Linked.{list_at}
 use Rattle.diag_known.specs.declared.links.Near.{Near}
-use Rattle.diag_known.specs.declared.step.Foot.{Foot}
+use Rattle.diag_known.specs.declared.verified_wire.Support.{Support}
 use Rattle.diag_known.proofs.Linking.{item_read, item_past, list_at_some, list_at_none}
 use Rattle.diag_known.proofs.links.link_at.Goals as goal
 
@@ -12,7 +12,7 @@ returns-in-Some-get c =
     let row : list_at near c.args.w.0 ≡ c.in-Some.list.now.links.items = list_at_some near c.args.w.0 c.in-Some.list.now (item_read near c.args.w.0 c.in-Some.list.now c.in-Some.ensures.lookup.0 c.in-Some.ensures.lookup.1) in
     let item = item_read c.deref-in-Some.result.now c.args.j c.in-Some-get.link.now c.in-Some-get.ensures.lookup.0 c.in-Some-get.ensures.lookup.1 in
     subst (λ (ns : List Near). Some c.in-Some-get.link.now ≡ slice_get (list_at ns c.args.w.0) c.args.j) c.deref.ensures.value
-    (sym (ap (λ (ls : List Foot). slice_get ls c.args.j) (row ∙ sym c.deref-in-Some.ensures.value) ∙ item))
+    (sym (ap (λ (ls : List Support). slice_get ls c.args.j) (row ∙ sym c.deref-in-Some.ensures.value) ∙ item))
 
 pub returns-in-None-get : goal.returns-in-None-get
 returns-in-None-get c =
@@ -20,10 +20,10 @@ returns-in-None-get c =
     let row : list_at near c.args.w.0 ≡ c.in-Some.list.now.links.items = list_at_some near c.args.w.0 c.in-Some.list.now (item_read near c.args.w.0 c.in-Some.list.now c.in-Some.ensures.lookup.0 c.in-Some.ensures.lookup.1) in
     let item = item_past c.deref-in-Some.result.now c.args.j c.in-None-get.ensures.lookup.0 in
     subst (λ (ns : List Near). None ≡ slice_get (list_at ns c.args.w.0) c.args.j) c.deref.ensures.value
-    (sym (ap (λ (ls : List Foot). slice_get ls c.args.j) (row ∙ sym c.deref-in-Some.ensures.value) ∙ item))
+    (sym (ap (λ (ls : List Support). slice_get ls c.args.j) (row ∙ sym c.deref-in-Some.ensures.value) ∙ item))
 
 pub returns-in-None : goal.returns-in-None
 returns-in-None c =
     let near = c.deref.result.now in
     let row : list_at near c.args.w.0 ≡ [] = list_at_none near c.args.w.0 (item_past near c.args.w.0 c.in-None.ensures.lookup.0) in
-    subst (λ (ns : List Near). None ≡ slice_get (list_at ns c.args.w.0) c.args.j) c.deref.ensures.value (sym (ap (λ (ls : List Foot). slice_get ls c.args.j) row))
+    subst (λ (ns : List Near). None ≡ slice_get (list_at ns c.args.w.0) c.args.j) c.deref.ensures.value (sym (ap (λ (ls : List Support). slice_get ls c.args.j) row))

@@ -1,8 +1,8 @@
 use Rattle.std.proofs.Common.{◌≡◌, ◌<◌, ℕ, Some}
 use Rattle.std.specs.Prelude.{slice_get}
 use Rattle.diag_known.specs.Reaches.{IsReached}
-use Rattle.diag_known.specs.declared.step.Foot.{Foot}
+use Rattle.diag_known.specs.declared.verified_wire.Support.{Support}
 use Rattle.diag_known.proofs.offers.is_hung.Given as goal
 
 abbrev pub invariant-links : goal.invariant-links
-invariant-links l = (j : ℕ) (a : Foot) → j < l.k → slice_get l.links j ≡ Some a → ¬ IsReached l.reaches.items a.wire.0
+invariant-links l = (j : ℕ) (a : Support) → j < l.k → slice_get l.links j ≡ Some a → ¬ IsReached l.reaches.items a.wire.0

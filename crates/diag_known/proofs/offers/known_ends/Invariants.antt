@@ -1,10 +1,10 @@
 use Rattle.std.proofs.Common.{◌≡◌, ◌<◌, ℕ, Some, length}
 use Rattle.std.specs.Prelude.{slice_get}
-use Rattle.diag_known.specs.declared.step.Foot.{Foot}
+use Rattle.diag_known.specs.declared.verified_wire.Support.{Support}
 use Rattle.diag_known.proofs.offers.known_ends.Given as goal
 
 abbrev pub invariant-links : goal.invariant-links
 invariant-links l = record {
   len : length l.ends.items ≡ l.k;
-  has : (j : ℕ) (a : Foot) → j < l.k → slice_get l.links j ≡ Some a → slice_get l.ends.items j ≡ Some a.wire;
+  has : (j : ℕ) (a : Support) → j < l.k → slice_get l.links j ≡ Some a → slice_get l.ends.items j ≡ Some a.wire;
 }

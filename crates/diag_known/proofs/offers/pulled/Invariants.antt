@@ -7,8 +7,8 @@ use Rattle.diag_known.proofs.offers.pulled.Given as goal
 
 abbrev pub invariant-routes : goal.invariant-routes
 invariant-routes l = record {
-  len : length l.drive ≡ pins_of l.fn.proof.shape;
-  same : l.proof ≡ l.fn.proof;
+  len : length l.drive ≡ pins_of l.fn.facts.shape;
+  same : l.facts ≡ l.fn.facts;
   low : (j : ℕ) (r : Walk) → j < l.k → slice_get l.routes j ≡ Some r → slice_index_or l.drive r.pin true ≡ false;
   only : (p : ℕ) → slice_index_or l.drive p true ≡ false → InFirst l.routes l.k (λ r p. r.pin ≡ p) p;
 }

@@ -19,7 +19,7 @@ take_link-requires-clause-link c = c.requires.links.right c.wire_at-from.result.
 
 pub take_link-requires-clause-wire : goal.take_link-requires-clause-wire
 take_link-requires-clause-wire c =
-    link_within c.in-Some.link.cross.0 c.in-Some.link.wire.0 c.wire_at-from.result.0 (c.the_numbering_is_sound.ensures.numbered c.args.proof.now.shape)
+    link_within c.in-Some.link.cross.0 c.in-Some.link.wire.0 c.wire_at-from.result.0 (c.the_numbering_is_sound.ensures.numbered c.args.facts.now.shape)
     (c.requires.links.right c.wire_at-from.result.0 c.links.j c.in-Some.link (sym c.link_at.ensures ∙ c.in-Some.is))
 
 pub links-preserved : goal.links-preserved

@@ -4,7 +4,7 @@ use Rattle.diag_known.proofs.Stood.{settled_at_all}
 use Rattle.diag_known.proofs.stands.look_from_all.Goals as goal
 
 pub places-init : goal.places-init
-places-init c = record { ground = c.requires.ground; founds = founds_none; settled = settled_none c.args.proof.now c.args.near.now.items c.args.known.now c.args.left.now c.args.feet.now.items }
+places-init c = record { ground = c.requires.ground; founds = founds_none; settled = settled_none c.args.facts.now c.args.near.now.items c.args.known.now c.args.left.now c.args.feet.now.items }
 
 pub places-smaller : goal.places-smaller
 places-smaller c =
@@ -22,4 +22,4 @@ places-preserved c = record {
 }
 
 pub returns-clause-settled : goal.returns-clause-settled
-returns-clause-settled c = settled_at_all c.args.proof.now c.args.near.now.items c.places.known c.places.left c.places.feet.items c.places.place c.places.invariant.settled (let l = c.len.ensures.len in let t = c.places-test.false in omega (arith, l, t))
+returns-clause-settled c = settled_at_all c.args.facts.now c.args.near.now.items c.places.known c.places.left c.places.feet.items c.places.place c.places.invariant.settled (let l = c.len.ensures.len in let t = c.places-test.false in omega (arith, l, t))

@@ -5,9 +5,9 @@ use Rattle.diag_known.proofs.stands.look_from_all.Given as goal
 
 abbrev pub invariant-places : goal.invariant-places
 invariant-places l = record {
-  ground : IsGround l.proof l.known l.left l.feet.items;
+  ground : IsGround l.facts l.known l.left l.feet.items;
   founds : Founds l.fn.known l.known l.fn.left l.left l.fn.feet.items l.feet.items;
-  settled : AreSettled l.proof l.near.items l.known l.left l.feet.items l.place;
+  settled : AreSettled l.facts l.near.items l.known l.left l.feet.items l.place;
 }
 
 abbrev pub decreases-places : goal.decreases-places

@@ -20,5 +20,5 @@ pub returns-clause-whole : goal.returns-clause-whole
 returns-clause-whole c =
     let founds = c.in_ok-look_from_all.ensures.founds in
     let all = founds_then c.in_ok-take_pins.ensures.founds founds in
-    stands_all c.args.proof.now c.args.near.now.items c.look_from_all.new.known c.args.wires c.look_from_all.new.left c.look_from_all.new.feet.items c.requires.links c.in_ok-look_from_all.ensures.settled
+    stands_all c.args.facts.now c.args.near.now.items c.look_from_all.new.known c.args.wires c.look_from_all.new.left c.look_from_all.new.feet.items c.requires.links c.in_ok-look_from_all.ensures.settled
     all.whole (λ i less. out_still founds _ (c.in_ok-take_pins.ensures.taken i less))

@@ -19,11 +19,11 @@ pins-preserved c =
     record {
       ground = c.in_ok-take_pin.ensures.ground;
       founds = founds_then old.founds founds;
-      taken = one_more (λ i. has_number c.take_pin.new.left (pin_wire c.args.proof.now.shape i) ≡ false) c.pins.pin
-          (λ i less. out_still founds (pin_wire c.args.proof.now.shape i) (old.taken i less)) c.in_ok-take_pin.ensures.taken;
+      taken = one_more (λ i. has_number c.take_pin.new.left (pin_wire c.args.facts.now.shape i) ≡ false) c.pins.pin
+          (λ i less. out_still founds (pin_wire c.args.facts.now.shape i) (old.taken i less)) c.in_ok-take_pin.ensures.taken;
     }
 
 pub returns-clause-taken : goal.returns-clause-taken
 returns-clause-taken c = λ i less.
-    let end : c.pins-pin-end.result ≡ pins_of c.args.proof.now.shape = c.pins-pin-end.ensures.pins ∙ ap pins_of c.shape.ensures in
+    let end : c.pins-pin-end.result ≡ pins_of c.args.facts.now.shape = c.pins-pin-end.ensures.pins ∙ ap pins_of c.shape.ensures in
     c.pins.invariant.taken i (let t = c.pins-test.false in omega (arith, less, t, end))

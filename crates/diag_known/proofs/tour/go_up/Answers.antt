@@ -12,7 +12,7 @@ push_to-requires-clause-cross c = subst (λ (m : Shape). c.in-Some.foot.cross.0 
 pub push_to-requires-clause-at : goal.push_to-requires-clause-at
 push_to-requires-clause-at c =
     let ends = up_ends c.up.ups.items c.pop.new.self.items c.in-Some.foot c.in-Some.ensures.items c.up.invariant in
-    subst (λ (m : Shape). Ends (ends_of m c.in-Some.foot.cross.0) c.up.walk.end c.upper.result.0) (sym c.shape-shape.ensures) (subst (λ w. Ends (ends_of c.args.proof.now.shape c.in-Some.foot.cross.0) c.up.walk.end w) (sym c.upper.ensures) ends)
+    subst (λ (m : Shape). Ends (ends_of m c.in-Some.foot.cross.0) c.up.walk.end c.upper.result.0) (sym c.shape-shape.ensures) (subst (λ w. Ends (ends_of c.args.facts.now.shape c.in-Some.foot.cross.0) c.up.walk.end w) (sym c.upper.ensures) ends)
 
 pub up-preserved : goal.up-preserved
 up-preserved c = went_up c.up.ups.items c.pop.new.self.items c.in-Some.foot c.in-Some.ensures.items c.up.invariant

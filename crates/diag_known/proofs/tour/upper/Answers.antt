@@ -4,14 +4,14 @@ use Rattle.std.proofs.lemmas.Bool.Decides.{nat_tests}
 use Rattle.std.proofs.lemmas.List.{nil_from_length}
 use Rattle.std.proofs.lemmas.Option.{slice_get_read}
 use Rattle.diag_known.specs.Reaches.{upper_of}
-use Rattle.diag_known.specs.declared.step.Foot.{Foot}
+use Rattle.diag_known.specs.declared.verified_wire.Support.{Support}
 use Rattle.diag_known.proofs.Touring.{upper_last}
 use Rattle.diag_known.proofs.tour.upper.Goals as goal
 
 pub returns-then-is_empty : goal.returns-then-is_empty
 returns-then-is_empty c =
     let none : vec_len c.args.ups.now ≡ 0 = grind (arith, nat_tests, sym c.is_empty.ensures ∙ c.if-is_empty.true) in
-    subst (λ (feet : List Foot). c.args.w.0 ≡ upper_of c.args.w.0 feet) (sym (nil_from_length c.args.ups.now.items (omega (arith, none)))) refl
+    subst (λ (feet : List Support). c.args.w.0 ≡ upper_of c.args.w.0 feet) (sym (nil_from_length c.args.ups.now.items (omega (arith, none)))) refl
 
 pub returns : goal.returns
 returns c =

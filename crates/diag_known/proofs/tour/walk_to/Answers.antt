@@ -21,5 +21,5 @@ returns-clause-walk c = c.in_ok-visit.ensures.on.walk
 
 pub returns-clause-over : goal.returns-clause-over
 returns-clause-over c =
-    let is : c.in_ok-walk.walk ≡ at_pin c.args.proof.now.shape c.args.pin = subst (λ (m : Shape). c.in_ok-walk.walk ≡ at_pin m c.args.pin) c.shape.ensures c.in_ok-walk.ensures.route in
+    let is : c.in_ok-walk.walk ≡ at_pin c.args.facts.now.shape c.args.pin = subst (λ (m : Shape). c.in_ok-walk.walk ≡ at_pin m c.args.pin) c.shape.ensures c.in_ok-walk.ensures.route in
     c.in_ok-visit.ensures.over (subst (λ r. IsFrom c.args.reaches.now.items r.pin c.args.w.0) (sym is) c.requires.from)

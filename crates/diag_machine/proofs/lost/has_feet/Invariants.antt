@@ -4,4 +4,4 @@ use Rattle.diag_machine.specs.Choice.{IsKnownFoot}
 use Rattle.diag_machine.proofs.lost.has_feet.Given as goal
 
 abbrev pub invariant-lines : goal.invariant-lines
-invariant-lines l = IfSome l.first (λ (w : Wire). IsKnownFoot l.proof l.known.steps l.pin.0 w.0)
+invariant-lines l = IfSome l.first (λ (w : Wire). IsKnownFoot l.facts l.known.steps l.pin.0 w.0)

@@ -6,10 +6,10 @@ use Rattle.diag_machine.proofs.Sweeping.{at_most, field_later, marks_back, marks
 use Rattle.diag_machine.proofs.whole.choose_all.Goals as goal
 
 pub choices-init : goal.choices-init
-choices-init g c = record { advances = advances_itself _ c.args.proof.now; known = c.requires.known; field = refl; marks = c.requires.marks; right = c.requires.right; pays = omega arith; paid = refl }
+choices-init g c = record { advances = advances_itself _ c.args.facts.now; known = c.requires.known; field = refl; marks = c.requires.marks; right = c.requires.right; pays = omega arith; paid = refl }
 
 pub choose_once-requires-clause-field : goal.choose_once-requires-clause-field
-choose_once-requires-clause-field g c = subst (λ (a : Field). IsFieldOf c.choices.proof.shape a) (sym c.choices.invariant.field) (field_later c.choices.invariant.advances.more c.requires.field)
+choose_once-requires-clause-field g c = subst (λ (a : Field). IsFieldOf c.choices.facts.shape a) (sym c.choices.invariant.field) (field_later c.choices.invariant.advances.more c.requires.field)
 
 pub choose_once-requires-clause-marks : goal.choose_once-requires-clause-marks
 choose_once-requires-clause-marks g c = marks_on c.choices.invariant.advances.more c.choices.invariant.marks

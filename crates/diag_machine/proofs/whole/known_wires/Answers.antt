@@ -11,10 +11,10 @@ use Rattle.diag_machine.proofs.Sweeping.{always, at_most, at_once, few_when, fie
 use Rattle.diag_machine.proofs.whole.known_wires.Goals as goal
 
 pub grow_whole-requires-clause-field : goal.grow_whole-requires-clause-field
-grow_whole-requires-clause-field g c = subst (λ (a : Field). IsFieldOf c.sweep_whole.new.proof.shape a) (sym c.sweep_whole.ensures.field) (field_later c.sweep_whole.ensures.advances.more c.in-Ok-course_of.ensures.field)
+grow_whole-requires-clause-field g c = subst (λ (a : Field). IsFieldOf c.sweep_whole.new.facts.shape a) (sym c.sweep_whole.ensures.field) (field_later c.sweep_whole.ensures.advances.more c.in-Ok-first_state.ensures.field)
 
 pub grow_whole-requires-clause-whole : goal.grow_whole-requires-clause-whole
-grow_whole-requires-clause-whole g c = subst (λ (a : Field). IsWhole c.sweep_whole.new.proof.shape a) (sym c.sweep_whole.ensures.field) (whole_later c.sweep_whole.ensures.advances.more c.in-Ok-course_of.ensures.whole)
+grow_whole-requires-clause-whole g c = subst (λ (a : Field). IsWhole c.sweep_whole.new.facts.shape a) (sym c.sweep_whole.ensures.field) (whole_later c.sweep_whole.ensures.advances.more c.in-Ok-first_state.ensures.whole)
 
 pub grow_whole-requires-clause-marks : goal.grow_whole-requires-clause-marks
 grow_whole-requires-clause-marks g c = marks_on c.sweep_whole.ensures.advances.more c.sweep_whole.ensures.marks
@@ -23,16 +23,16 @@ pub grow_whole-requires-clause-right : goal.grow_whole-requires-clause-right
 grow_whole-requires-clause-right g c = marks_told (ap (λ m. m.faults) c.sweep_whole.ensures.advances.machine) c.sweep_whole.ensures.right
 
 pub know_lost-requires-clause-field : goal.know_lost-requires-clause-field
-know_lost-requires-clause-field g c = subst (λ (a : Field). IsFieldOf c.grow_whole.new.proof.shape a) (sym c.sweep_whole.ensures.field) (field_later (advances_then c.sweep_whole.ensures.advances c.grow_whole.ensures.advances).more c.in-Ok-course_of.ensures.field)
+know_lost-requires-clause-field g c = subst (λ (a : Field). IsFieldOf c.grow_whole.new.facts.shape a) (sym c.sweep_whole.ensures.field) (field_later (advances_then c.sweep_whole.ensures.advances c.grow_whole.ensures.advances).more c.in-Ok-first_state.ensures.field)
 
 pub know_lost-requires-clause-whole : goal.know_lost-requires-clause-whole
-know_lost-requires-clause-whole g c = subst (λ (a : Field). IsWhole c.grow_whole.new.proof.shape a) (sym c.sweep_whole.ensures.field) (whole_later (advances_then c.sweep_whole.ensures.advances c.grow_whole.ensures.advances).more c.in-Ok-course_of.ensures.whole)
+know_lost-requires-clause-whole g c = subst (λ (a : Field). IsWhole c.grow_whole.new.facts.shape a) (sym c.sweep_whole.ensures.field) (whole_later (advances_then c.sweep_whole.ensures.advances c.grow_whole.ensures.advances).more c.in-Ok-first_state.ensures.whole)
 
 pub know_lost-requires-clause-marks : goal.know_lost-requires-clause-marks
 know_lost-requires-clause-marks g c = marks_on (advances_then c.sweep_whole.ensures.advances c.grow_whole.ensures.advances).more c.sweep_whole.ensures.marks
 
 pub know_lost-requires-clause-paid : goal.know_lost-requires-clause-paid
-know_lost-requires-clause-paid g c = c.sweep_whole.ensures.paid ∙ c.in-Ok-course_of.ensures.paid ∙ ap wires_of (sym (advances_then c.sweep_whole.ensures.advances c.grow_whole.ensures.advances).more.shape)
+know_lost-requires-clause-paid g c = c.sweep_whole.ensures.paid ∙ c.in-Ok-first_state.ensures.paid ∙ ap wires_of (sym (advances_then c.sweep_whole.ensures.advances c.grow_whole.ensures.advances).more.shape)
 
 pub know_lost-requires-clause-right : goal.know_lost-requires-clause-right
 know_lost-requires-clause-right g c = marks_told (ap (λ m. m.faults) c.grow_whole.ensures.advances.machine) c.grow_whole.ensures.right
@@ -41,76 +41,76 @@ pub know_lost-requires-clause-reached : goal.know_lost-requires-clause-reached
 know_lost-requires-clause-reached g c = reached_told (sym (ap (λ m. m.faults) c.grow_whole.ensures.advances.machine)) c.in_ok-grow_whole.ensures.reached
 
 pub returns-in_err-sweep_whole-clause-loads : goal.returns-in_err-sweep_whole-clause-loads
-returns-in_err-sweep_whole-clause-loads g c = swept_most _ _ _ _ _ _ _ _ _ _ _ _ _ c.sweep_whole.ensures.pays c.in-Ok-course_of.ensures.left c.in-Ok-course_of.ensures.none
-    (c.growth_without_bad_is_paid.ensures.all c.in-Ok-course_of.course.field c.args.proof.now c.args.bad.now c.in-Ok-course_of.ensures.field)
-    (at_most (c.growth_without_bad_is_paid.ensures.all c.sweep_whole.new.course.field c.sweep_whole.new.proof c.sweep_whole.new.bad (subst (λ (a : Field). IsFieldOf c.sweep_whole.new.proof.shape a) (sym c.sweep_whole.ensures.field) (field_later c.sweep_whole.ensures.advances.more c.in-Ok-course_of.ensures.field))) (at_once (ap crosses_of c.sweep_whole.ensures.advances.more.shape)))
-    (c.growth_without_bad_is_paid.ensures.pins c.sweep_whole.new.course.field c.sweep_whole.new.proof (subst (λ (a : Field). IsFieldOf c.sweep_whole.new.proof.shape a) (sym c.sweep_whole.ensures.field) (field_later c.sweep_whole.ensures.advances.more c.in-Ok-course_of.ensures.field)))
+returns-in_err-sweep_whole-clause-loads g c = swept_most _ _ _ _ _ _ _ _ _ _ _ _ _ c.sweep_whole.ensures.pays c.in-Ok-first_state.ensures.left c.in-Ok-first_state.ensures.none
+    (c.growth_without_bad_is_paid.ensures.all c.in-Ok-first_state.state.field c.args.facts.now c.args.bad.now c.in-Ok-first_state.ensures.field)
+    (at_most (c.growth_without_bad_is_paid.ensures.all c.sweep_whole.new.state.field c.sweep_whole.new.facts c.sweep_whole.new.bad (subst (λ (a : Field). IsFieldOf c.sweep_whole.new.facts.shape a) (sym c.sweep_whole.ensures.field) (field_later c.sweep_whole.ensures.advances.more c.in-Ok-first_state.ensures.field))) (at_once (ap crosses_of c.sweep_whole.ensures.advances.more.shape)))
+    (c.growth_without_bad_is_paid.ensures.pins c.sweep_whole.new.state.field c.sweep_whole.new.facts (subst (λ (a : Field). IsFieldOf c.sweep_whole.new.facts.shape a) (sym c.sweep_whole.ensures.field) (field_later c.sweep_whole.ensures.advances.more c.in-Ok-first_state.ensures.field)))
     (pins_same c.sweep_whole.ensures.advances.more.shape c.sweep_whole.ensures.field)
-    (wires_most c.in-Ok-course_of.ensures.field c.sweep_whole.ensures.field)
-    (size_most c.sweep_whole.new.course.choices.paid (wires_of c.args.proof.now.shape) (c.sweep_whole.ensures.paid ∙ c.in-Ok-course_of.ensures.paid))
+    (wires_most c.in-Ok-first_state.ensures.field c.sweep_whole.ensures.field)
+    (size_most c.sweep_whole.new.state.choices.paid (wires_of c.args.facts.now.shape) (c.sweep_whole.ensures.paid ∙ c.in-Ok-first_state.ensures.paid))
 
 pub returns-in_err-sweep_whole-clause-few : goal.returns-in_err-sweep_whole-clause-few
-returns-in_err-sweep_whole-clause-few g c = few_when (λ f told none holds. swept_few _ _ _ _ _ _ _ _ _ _ _ _ _ c.sweep_whole.ensures.pays c.in-Ok-course_of.ensures.left c.in-Ok-course_of.ensures.none
-    (c.growth_without_bad_is_paid.ensures.all c.in-Ok-course_of.course.field c.args.proof.now c.args.bad.now c.in-Ok-course_of.ensures.field)
-    (at_most (c.growth_without_bad_is_paid.ensures.all c.sweep_whole.new.course.field c.sweep_whole.new.proof c.sweep_whole.new.bad (subst (λ (a : Field). IsFieldOf c.sweep_whole.new.proof.shape a) (sym c.sweep_whole.ensures.field) (field_later c.sweep_whole.ensures.advances.more c.in-Ok-course_of.ensures.field))) (at_once (ap crosses_of c.sweep_whole.ensures.advances.more.shape)))
-    (c.growth_without_bad_is_paid.ensures.pins c.sweep_whole.new.course.field c.sweep_whole.new.proof (subst (λ (a : Field). IsFieldOf c.sweep_whole.new.proof.shape a) (sym c.sweep_whole.ensures.field) (field_later c.sweep_whole.ensures.advances.more c.in-Ok-course_of.ensures.field)))
+returns-in_err-sweep_whole-clause-few g c = few_when (λ f told none holds. swept_few _ _ _ _ _ _ _ _ _ _ _ _ _ c.sweep_whole.ensures.pays c.in-Ok-first_state.ensures.left c.in-Ok-first_state.ensures.none
+    (c.growth_without_bad_is_paid.ensures.all c.in-Ok-first_state.state.field c.args.facts.now c.args.bad.now c.in-Ok-first_state.ensures.field)
+    (at_most (c.growth_without_bad_is_paid.ensures.all c.sweep_whole.new.state.field c.sweep_whole.new.facts c.sweep_whole.new.bad (subst (λ (a : Field). IsFieldOf c.sweep_whole.new.facts.shape a) (sym c.sweep_whole.ensures.field) (field_later c.sweep_whole.ensures.advances.more c.in-Ok-first_state.ensures.field))) (at_once (ap crosses_of c.sweep_whole.ensures.advances.more.shape)))
+    (c.growth_without_bad_is_paid.ensures.pins c.sweep_whole.new.state.field c.sweep_whole.new.facts (subst (λ (a : Field). IsFieldOf c.sweep_whole.new.facts.shape a) (sym c.sweep_whole.ensures.field) (field_later c.sweep_whole.ensures.advances.more c.in-Ok-first_state.ensures.field)))
     (pins_same c.sweep_whole.ensures.advances.more.shape c.sweep_whole.ensures.field)
-    (wires_most c.in-Ok-course_of.ensures.field c.sweep_whole.ensures.field)
-    (size_most c.sweep_whole.new.course.choices.paid (wires_of c.args.proof.now.shape) (c.sweep_whole.ensures.paid ∙ c.in-Ok-course_of.ensures.paid)) (ap size_of (c.sweep_whole.ensures.few.at f told none holds)))
+    (wires_most c.in-Ok-first_state.ensures.field c.sweep_whole.ensures.field)
+    (size_most c.sweep_whole.new.state.choices.paid (wires_of c.args.facts.now.shape) (c.sweep_whole.ensures.paid ∙ c.in-Ok-first_state.ensures.paid)) (ap size_of (c.sweep_whole.ensures.few.at f told none holds)))
 
 pub returns-in_err-grow_whole-clause-loads : goal.returns-in_err-grow_whole-clause-loads
-returns-in_err-grow_whole-clause-loads g c = grown_most _ _ _ _ _ _ _ _ _ _ _ _ _ c.sweep_whole.ensures.pays c.in-Ok-course_of.ensures.left c.in-Ok-course_of.ensures.none
-    (c.growth_without_bad_is_paid.ensures.all c.in-Ok-course_of.course.field c.args.proof.now c.args.bad.now c.in-Ok-course_of.ensures.field)
-    (at_most (c.growth_without_bad_is_paid.ensures.all c.sweep_whole.new.course.field c.sweep_whole.new.proof c.sweep_whole.new.bad (subst (λ (a : Field). IsFieldOf c.sweep_whole.new.proof.shape a) (sym c.sweep_whole.ensures.field) (field_later c.sweep_whole.ensures.advances.more c.in-Ok-course_of.ensures.field))) (at_once (ap crosses_of c.sweep_whole.ensures.advances.more.shape)))
-    (c.growth_without_bad_is_paid.ensures.pins c.sweep_whole.new.course.field c.sweep_whole.new.proof (subst (λ (a : Field). IsFieldOf c.sweep_whole.new.proof.shape a) (sym c.sweep_whole.ensures.field) (field_later c.sweep_whole.ensures.advances.more c.in-Ok-course_of.ensures.field)))
+returns-in_err-grow_whole-clause-loads g c = grown_most _ _ _ _ _ _ _ _ _ _ _ _ _ c.sweep_whole.ensures.pays c.in-Ok-first_state.ensures.left c.in-Ok-first_state.ensures.none
+    (c.growth_without_bad_is_paid.ensures.all c.in-Ok-first_state.state.field c.args.facts.now c.args.bad.now c.in-Ok-first_state.ensures.field)
+    (at_most (c.growth_without_bad_is_paid.ensures.all c.sweep_whole.new.state.field c.sweep_whole.new.facts c.sweep_whole.new.bad (subst (λ (a : Field). IsFieldOf c.sweep_whole.new.facts.shape a) (sym c.sweep_whole.ensures.field) (field_later c.sweep_whole.ensures.advances.more c.in-Ok-first_state.ensures.field))) (at_once (ap crosses_of c.sweep_whole.ensures.advances.more.shape)))
+    (c.growth_without_bad_is_paid.ensures.pins c.sweep_whole.new.state.field c.sweep_whole.new.facts (subst (λ (a : Field). IsFieldOf c.sweep_whole.new.facts.shape a) (sym c.sweep_whole.ensures.field) (field_later c.sweep_whole.ensures.advances.more c.in-Ok-first_state.ensures.field)))
     (pins_same c.sweep_whole.ensures.advances.more.shape c.sweep_whole.ensures.field)
-    (wires_most c.in-Ok-course_of.ensures.field c.sweep_whole.ensures.field)
-    (size_most c.sweep_whole.new.course.choices.paid (wires_of c.args.proof.now.shape) (c.sweep_whole.ensures.paid ∙ c.in-Ok-course_of.ensures.paid)) _ c.grow_whole.ensures.loads
+    (wires_most c.in-Ok-first_state.ensures.field c.sweep_whole.ensures.field)
+    (size_most c.sweep_whole.new.state.choices.paid (wires_of c.args.facts.now.shape) (c.sweep_whole.ensures.paid ∙ c.in-Ok-first_state.ensures.paid)) _ c.grow_whole.ensures.loads
 
 pub returns-in_err-grow_whole-clause-few : goal.returns-in_err-grow_whole-clause-few
-returns-in_err-grow_whole-clause-few g c = few_when (λ f told none holds. grown_few _ _ _ _ _ _ _ _ _ _ _ _ _ c.sweep_whole.ensures.pays c.in-Ok-course_of.ensures.left c.in-Ok-course_of.ensures.none
-    (c.growth_without_bad_is_paid.ensures.all c.in-Ok-course_of.course.field c.args.proof.now c.args.bad.now c.in-Ok-course_of.ensures.field)
-    (at_most (c.growth_without_bad_is_paid.ensures.all c.sweep_whole.new.course.field c.sweep_whole.new.proof c.sweep_whole.new.bad (subst (λ (a : Field). IsFieldOf c.sweep_whole.new.proof.shape a) (sym c.sweep_whole.ensures.field) (field_later c.sweep_whole.ensures.advances.more c.in-Ok-course_of.ensures.field))) (at_once (ap crosses_of c.sweep_whole.ensures.advances.more.shape)))
-    (c.growth_without_bad_is_paid.ensures.pins c.sweep_whole.new.course.field c.sweep_whole.new.proof (subst (λ (a : Field). IsFieldOf c.sweep_whole.new.proof.shape a) (sym c.sweep_whole.ensures.field) (field_later c.sweep_whole.ensures.advances.more c.in-Ok-course_of.ensures.field)))
+returns-in_err-grow_whole-clause-few g c = few_when (λ f told none holds. grown_few _ _ _ _ _ _ _ _ _ _ _ _ _ c.sweep_whole.ensures.pays c.in-Ok-first_state.ensures.left c.in-Ok-first_state.ensures.none
+    (c.growth_without_bad_is_paid.ensures.all c.in-Ok-first_state.state.field c.args.facts.now c.args.bad.now c.in-Ok-first_state.ensures.field)
+    (at_most (c.growth_without_bad_is_paid.ensures.all c.sweep_whole.new.state.field c.sweep_whole.new.facts c.sweep_whole.new.bad (subst (λ (a : Field). IsFieldOf c.sweep_whole.new.facts.shape a) (sym c.sweep_whole.ensures.field) (field_later c.sweep_whole.ensures.advances.more c.in-Ok-first_state.ensures.field))) (at_once (ap crosses_of c.sweep_whole.ensures.advances.more.shape)))
+    (c.growth_without_bad_is_paid.ensures.pins c.sweep_whole.new.state.field c.sweep_whole.new.facts (subst (λ (a : Field). IsFieldOf c.sweep_whole.new.facts.shape a) (sym c.sweep_whole.ensures.field) (field_later c.sweep_whole.ensures.advances.more c.in-Ok-first_state.ensures.field)))
     (pins_same c.sweep_whole.ensures.advances.more.shape c.sweep_whole.ensures.field)
-    (wires_most c.in-Ok-course_of.ensures.field c.sweep_whole.ensures.field)
-    (size_most c.sweep_whole.new.course.choices.paid (wires_of c.args.proof.now.shape) (c.sweep_whole.ensures.paid ∙ c.in-Ok-course_of.ensures.paid)) (ap size_of (c.sweep_whole.ensures.few.at f told none holds)) _ (c.grow_whole.ensures.few.at f ((ap (λ m. m.faults) c.sweep_whole.ensures.advances.machine) ∙ told) none (c.sweep_whole.ensures.advances.holds f told holds)))
+    (wires_most c.in-Ok-first_state.ensures.field c.sweep_whole.ensures.field)
+    (size_most c.sweep_whole.new.state.choices.paid (wires_of c.args.facts.now.shape) (c.sweep_whole.ensures.paid ∙ c.in-Ok-first_state.ensures.paid)) (ap size_of (c.sweep_whole.ensures.few.at f told none holds)) _ (c.grow_whole.ensures.few.at f ((ap (λ m. m.faults) c.sweep_whole.ensures.advances.machine) ∙ told) none (c.sweep_whole.ensures.advances.holds f told holds)))
 
 pub returns-in_err-know_lost-clause-loads : goal.returns-in_err-know_lost-clause-loads
-returns-in_err-know_lost-clause-loads g c = known_most _ _ _ _ _ _ _ _ _ _ _ _ _ c.sweep_whole.ensures.pays c.in-Ok-course_of.ensures.left c.in-Ok-course_of.ensures.none
-    (c.growth_without_bad_is_paid.ensures.all c.in-Ok-course_of.course.field c.args.proof.now c.args.bad.now c.in-Ok-course_of.ensures.field)
-    (at_most (c.growth_without_bad_is_paid.ensures.all c.sweep_whole.new.course.field c.sweep_whole.new.proof c.sweep_whole.new.bad (subst (λ (a : Field). IsFieldOf c.sweep_whole.new.proof.shape a) (sym c.sweep_whole.ensures.field) (field_later c.sweep_whole.ensures.advances.more c.in-Ok-course_of.ensures.field))) (at_once (ap crosses_of c.sweep_whole.ensures.advances.more.shape)))
-    (c.growth_without_bad_is_paid.ensures.pins c.sweep_whole.new.course.field c.sweep_whole.new.proof (subst (λ (a : Field). IsFieldOf c.sweep_whole.new.proof.shape a) (sym c.sweep_whole.ensures.field) (field_later c.sweep_whole.ensures.advances.more c.in-Ok-course_of.ensures.field)))
+returns-in_err-know_lost-clause-loads g c = known_most _ _ _ _ _ _ _ _ _ _ _ _ _ c.sweep_whole.ensures.pays c.in-Ok-first_state.ensures.left c.in-Ok-first_state.ensures.none
+    (c.growth_without_bad_is_paid.ensures.all c.in-Ok-first_state.state.field c.args.facts.now c.args.bad.now c.in-Ok-first_state.ensures.field)
+    (at_most (c.growth_without_bad_is_paid.ensures.all c.sweep_whole.new.state.field c.sweep_whole.new.facts c.sweep_whole.new.bad (subst (λ (a : Field). IsFieldOf c.sweep_whole.new.facts.shape a) (sym c.sweep_whole.ensures.field) (field_later c.sweep_whole.ensures.advances.more c.in-Ok-first_state.ensures.field))) (at_once (ap crosses_of c.sweep_whole.ensures.advances.more.shape)))
+    (c.growth_without_bad_is_paid.ensures.pins c.sweep_whole.new.state.field c.sweep_whole.new.facts (subst (λ (a : Field). IsFieldOf c.sweep_whole.new.facts.shape a) (sym c.sweep_whole.ensures.field) (field_later c.sweep_whole.ensures.advances.more c.in-Ok-first_state.ensures.field)))
     (pins_same c.sweep_whole.ensures.advances.more.shape c.sweep_whole.ensures.field)
-    (wires_most c.in-Ok-course_of.ensures.field c.sweep_whole.ensures.field)
-    (size_most c.sweep_whole.new.course.choices.paid (wires_of c.args.proof.now.shape) (c.sweep_whole.ensures.paid ∙ c.in-Ok-course_of.ensures.paid)) _ _ _ _ c.grow_whole.ensures.loads (ap crosses_of (advances_then c.sweep_whole.ensures.advances c.grow_whole.ensures.advances).more.shape) (ap wires_of (advances_then c.sweep_whole.ensures.advances c.grow_whole.ensures.advances).more.shape) c.know_lost.ensures.loads
+    (wires_most c.in-Ok-first_state.ensures.field c.sweep_whole.ensures.field)
+    (size_most c.sweep_whole.new.state.choices.paid (wires_of c.args.facts.now.shape) (c.sweep_whole.ensures.paid ∙ c.in-Ok-first_state.ensures.paid)) _ _ _ _ c.grow_whole.ensures.loads (ap crosses_of (advances_then c.sweep_whole.ensures.advances c.grow_whole.ensures.advances).more.shape) (ap wires_of (advances_then c.sweep_whole.ensures.advances c.grow_whole.ensures.advances).more.shape) c.know_lost.ensures.loads
 
 pub returns-clause-loads : goal.returns-clause-loads
-returns-clause-loads g c = known_most _ _ _ _ _ _ _ _ _ _ _ _ _ c.sweep_whole.ensures.pays c.in-Ok-course_of.ensures.left c.in-Ok-course_of.ensures.none
-    (c.growth_without_bad_is_paid.ensures.all c.in-Ok-course_of.course.field c.args.proof.now c.args.bad.now c.in-Ok-course_of.ensures.field)
-    (at_most (c.growth_without_bad_is_paid.ensures.all c.sweep_whole.new.course.field c.sweep_whole.new.proof c.sweep_whole.new.bad (subst (λ (a : Field). IsFieldOf c.sweep_whole.new.proof.shape a) (sym c.sweep_whole.ensures.field) (field_later c.sweep_whole.ensures.advances.more c.in-Ok-course_of.ensures.field))) (at_once (ap crosses_of c.sweep_whole.ensures.advances.more.shape)))
-    (c.growth_without_bad_is_paid.ensures.pins c.sweep_whole.new.course.field c.sweep_whole.new.proof (subst (λ (a : Field). IsFieldOf c.sweep_whole.new.proof.shape a) (sym c.sweep_whole.ensures.field) (field_later c.sweep_whole.ensures.advances.more c.in-Ok-course_of.ensures.field)))
+returns-clause-loads g c = known_most _ _ _ _ _ _ _ _ _ _ _ _ _ c.sweep_whole.ensures.pays c.in-Ok-first_state.ensures.left c.in-Ok-first_state.ensures.none
+    (c.growth_without_bad_is_paid.ensures.all c.in-Ok-first_state.state.field c.args.facts.now c.args.bad.now c.in-Ok-first_state.ensures.field)
+    (at_most (c.growth_without_bad_is_paid.ensures.all c.sweep_whole.new.state.field c.sweep_whole.new.facts c.sweep_whole.new.bad (subst (λ (a : Field). IsFieldOf c.sweep_whole.new.facts.shape a) (sym c.sweep_whole.ensures.field) (field_later c.sweep_whole.ensures.advances.more c.in-Ok-first_state.ensures.field))) (at_once (ap crosses_of c.sweep_whole.ensures.advances.more.shape)))
+    (c.growth_without_bad_is_paid.ensures.pins c.sweep_whole.new.state.field c.sweep_whole.new.facts (subst (λ (a : Field). IsFieldOf c.sweep_whole.new.facts.shape a) (sym c.sweep_whole.ensures.field) (field_later c.sweep_whole.ensures.advances.more c.in-Ok-first_state.ensures.field)))
     (pins_same c.sweep_whole.ensures.advances.more.shape c.sweep_whole.ensures.field)
-    (wires_most c.in-Ok-course_of.ensures.field c.sweep_whole.ensures.field)
-    (size_most c.sweep_whole.new.course.choices.paid (wires_of c.args.proof.now.shape) (c.sweep_whole.ensures.paid ∙ c.in-Ok-course_of.ensures.paid)) _ _ _ _ c.grow_whole.ensures.loads (ap crosses_of (advances_then c.sweep_whole.ensures.advances c.grow_whole.ensures.advances).more.shape) (ap wires_of (advances_then c.sweep_whole.ensures.advances c.grow_whole.ensures.advances).more.shape) c.know_lost.ensures.loads
+    (wires_most c.in-Ok-first_state.ensures.field c.sweep_whole.ensures.field)
+    (size_most c.sweep_whole.new.state.choices.paid (wires_of c.args.facts.now.shape) (c.sweep_whole.ensures.paid ∙ c.in-Ok-first_state.ensures.paid)) _ _ _ _ c.grow_whole.ensures.loads (ap crosses_of (advances_then c.sweep_whole.ensures.advances c.grow_whole.ensures.advances).more.shape) (ap wires_of (advances_then c.sweep_whole.ensures.advances c.grow_whole.ensures.advances).more.shape) c.know_lost.ensures.loads
 
 pub returns-in_err-know_lost-clause-few : goal.returns-in_err-know_lost-clause-few
-returns-in_err-know_lost-clause-few g c = few_when (λ f told none holds. known_few _ _ _ _ _ _ _ _ _ _ _ _ _ c.sweep_whole.ensures.pays c.in-Ok-course_of.ensures.left c.in-Ok-course_of.ensures.none
-    (c.growth_without_bad_is_paid.ensures.all c.in-Ok-course_of.course.field c.args.proof.now c.args.bad.now c.in-Ok-course_of.ensures.field)
-    (at_most (c.growth_without_bad_is_paid.ensures.all c.sweep_whole.new.course.field c.sweep_whole.new.proof c.sweep_whole.new.bad (subst (λ (a : Field). IsFieldOf c.sweep_whole.new.proof.shape a) (sym c.sweep_whole.ensures.field) (field_later c.sweep_whole.ensures.advances.more c.in-Ok-course_of.ensures.field))) (at_once (ap crosses_of c.sweep_whole.ensures.advances.more.shape)))
-    (c.growth_without_bad_is_paid.ensures.pins c.sweep_whole.new.course.field c.sweep_whole.new.proof (subst (λ (a : Field). IsFieldOf c.sweep_whole.new.proof.shape a) (sym c.sweep_whole.ensures.field) (field_later c.sweep_whole.ensures.advances.more c.in-Ok-course_of.ensures.field)))
+returns-in_err-know_lost-clause-few g c = few_when (λ f told none holds. known_few _ _ _ _ _ _ _ _ _ _ _ _ _ c.sweep_whole.ensures.pays c.in-Ok-first_state.ensures.left c.in-Ok-first_state.ensures.none
+    (c.growth_without_bad_is_paid.ensures.all c.in-Ok-first_state.state.field c.args.facts.now c.args.bad.now c.in-Ok-first_state.ensures.field)
+    (at_most (c.growth_without_bad_is_paid.ensures.all c.sweep_whole.new.state.field c.sweep_whole.new.facts c.sweep_whole.new.bad (subst (λ (a : Field). IsFieldOf c.sweep_whole.new.facts.shape a) (sym c.sweep_whole.ensures.field) (field_later c.sweep_whole.ensures.advances.more c.in-Ok-first_state.ensures.field))) (at_once (ap crosses_of c.sweep_whole.ensures.advances.more.shape)))
+    (c.growth_without_bad_is_paid.ensures.pins c.sweep_whole.new.state.field c.sweep_whole.new.facts (subst (λ (a : Field). IsFieldOf c.sweep_whole.new.facts.shape a) (sym c.sweep_whole.ensures.field) (field_later c.sweep_whole.ensures.advances.more c.in-Ok-first_state.ensures.field)))
     (pins_same c.sweep_whole.ensures.advances.more.shape c.sweep_whole.ensures.field)
-    (wires_most c.in-Ok-course_of.ensures.field c.sweep_whole.ensures.field)
-    (size_most c.sweep_whole.new.course.choices.paid (wires_of c.args.proof.now.shape) (c.sweep_whole.ensures.paid ∙ c.in-Ok-course_of.ensures.paid)) (ap size_of (c.sweep_whole.ensures.few.at f told none holds)) _ _ (c.grow_whole.ensures.few.at f ((ap (λ m. m.faults) c.sweep_whole.ensures.advances.machine) ∙ told) none (c.sweep_whole.ensures.advances.holds f told holds)) (c.know_lost.ensures.few.at f ((ap (λ m. m.faults) (c.grow_whole.ensures.advances.machine ∙ c.sweep_whole.ensures.advances.machine)) ∙ told) none (c.grow_whole.ensures.advances.holds f ((ap (λ m. m.faults) c.sweep_whole.ensures.advances.machine) ∙ told) (c.sweep_whole.ensures.advances.holds f told holds))))
+    (wires_most c.in-Ok-first_state.ensures.field c.sweep_whole.ensures.field)
+    (size_most c.sweep_whole.new.state.choices.paid (wires_of c.args.facts.now.shape) (c.sweep_whole.ensures.paid ∙ c.in-Ok-first_state.ensures.paid)) (ap size_of (c.sweep_whole.ensures.few.at f told none holds)) _ _ (c.grow_whole.ensures.few.at f ((ap (λ m. m.faults) c.sweep_whole.ensures.advances.machine) ∙ told) none (c.sweep_whole.ensures.advances.holds f told holds)) (c.know_lost.ensures.few.at f ((ap (λ m. m.faults) (c.grow_whole.ensures.advances.machine ∙ c.sweep_whole.ensures.advances.machine)) ∙ told) none (c.grow_whole.ensures.advances.holds f ((ap (λ m. m.faults) c.sweep_whole.ensures.advances.machine) ∙ told) (c.sweep_whole.ensures.advances.holds f told holds))))
 
 pub returns-clause-few : goal.returns-clause-few
-returns-clause-few g c = few_when (λ f told none holds. known_few _ _ _ _ _ _ _ _ _ _ _ _ _ c.sweep_whole.ensures.pays c.in-Ok-course_of.ensures.left c.in-Ok-course_of.ensures.none
-    (c.growth_without_bad_is_paid.ensures.all c.in-Ok-course_of.course.field c.args.proof.now c.args.bad.now c.in-Ok-course_of.ensures.field)
-    (at_most (c.growth_without_bad_is_paid.ensures.all c.sweep_whole.new.course.field c.sweep_whole.new.proof c.sweep_whole.new.bad (subst (λ (a : Field). IsFieldOf c.sweep_whole.new.proof.shape a) (sym c.sweep_whole.ensures.field) (field_later c.sweep_whole.ensures.advances.more c.in-Ok-course_of.ensures.field))) (at_once (ap crosses_of c.sweep_whole.ensures.advances.more.shape)))
-    (c.growth_without_bad_is_paid.ensures.pins c.sweep_whole.new.course.field c.sweep_whole.new.proof (subst (λ (a : Field). IsFieldOf c.sweep_whole.new.proof.shape a) (sym c.sweep_whole.ensures.field) (field_later c.sweep_whole.ensures.advances.more c.in-Ok-course_of.ensures.field)))
+returns-clause-few g c = few_when (λ f told none holds. known_few _ _ _ _ _ _ _ _ _ _ _ _ _ c.sweep_whole.ensures.pays c.in-Ok-first_state.ensures.left c.in-Ok-first_state.ensures.none
+    (c.growth_without_bad_is_paid.ensures.all c.in-Ok-first_state.state.field c.args.facts.now c.args.bad.now c.in-Ok-first_state.ensures.field)
+    (at_most (c.growth_without_bad_is_paid.ensures.all c.sweep_whole.new.state.field c.sweep_whole.new.facts c.sweep_whole.new.bad (subst (λ (a : Field). IsFieldOf c.sweep_whole.new.facts.shape a) (sym c.sweep_whole.ensures.field) (field_later c.sweep_whole.ensures.advances.more c.in-Ok-first_state.ensures.field))) (at_once (ap crosses_of c.sweep_whole.ensures.advances.more.shape)))
+    (c.growth_without_bad_is_paid.ensures.pins c.sweep_whole.new.state.field c.sweep_whole.new.facts (subst (λ (a : Field). IsFieldOf c.sweep_whole.new.facts.shape a) (sym c.sweep_whole.ensures.field) (field_later c.sweep_whole.ensures.advances.more c.in-Ok-first_state.ensures.field)))
     (pins_same c.sweep_whole.ensures.advances.more.shape c.sweep_whole.ensures.field)
-    (wires_most c.in-Ok-course_of.ensures.field c.sweep_whole.ensures.field)
-    (size_most c.sweep_whole.new.course.choices.paid (wires_of c.args.proof.now.shape) (c.sweep_whole.ensures.paid ∙ c.in-Ok-course_of.ensures.paid)) (ap size_of (c.sweep_whole.ensures.few.at f told none holds)) _ _ (c.grow_whole.ensures.few.at f ((ap (λ m. m.faults) c.sweep_whole.ensures.advances.machine) ∙ told) none (c.sweep_whole.ensures.advances.holds f told holds)) (c.know_lost.ensures.few.at f ((ap (λ m. m.faults) (c.grow_whole.ensures.advances.machine ∙ c.sweep_whole.ensures.advances.machine)) ∙ told) none (c.grow_whole.ensures.advances.holds f ((ap (λ m. m.faults) c.sweep_whole.ensures.advances.machine) ∙ told) (c.sweep_whole.ensures.advances.holds f told holds))))
+    (wires_most c.in-Ok-first_state.ensures.field c.sweep_whole.ensures.field)
+    (size_most c.sweep_whole.new.state.choices.paid (wires_of c.args.facts.now.shape) (c.sweep_whole.ensures.paid ∙ c.in-Ok-first_state.ensures.paid)) (ap size_of (c.sweep_whole.ensures.few.at f told none holds)) _ _ (c.grow_whole.ensures.few.at f ((ap (λ m. m.faults) c.sweep_whole.ensures.advances.machine) ∙ told) none (c.sweep_whole.ensures.advances.holds f told holds)) (c.know_lost.ensures.few.at f ((ap (λ m. m.faults) (c.grow_whole.ensures.advances.machine ∙ c.sweep_whole.ensures.advances.machine)) ∙ told) none (c.grow_whole.ensures.advances.holds f ((ap (λ m. m.faults) c.sweep_whole.ensures.advances.machine) ∙ told) (c.sweep_whole.ensures.advances.holds f told holds))))
 
 pub returns-in_err-know_lost-clause-marks : goal.returns-in_err-know_lost-clause-marks
 returns-in_err-know_lost-clause-marks g c = marks_back (advances_then c.sweep_whole.ensures.advances c.grow_whole.ensures.advances).more c.know_lost.ensures.marks

@@ -19,11 +19,11 @@ pub open_lines-requires-clause-lines : goal.open_lines-requires-clause-lines
 open_lines-requires-clause-lines c = rw c.deref-4.ensures.value (subst (λ (m : Shape). All (λ (w : Wire). w.0 < wires_of m) c.in_ok-lines.lines.items) c.requires.known.shape c.in_ok-lines.ensures.within)
 
 pub returns-clause-held : goal.returns-clause-held
-returns-clause-held c = rw c.new.ensures (held_is c.args.proof.now c.args.known.now (c.the_laws_hold.ensures c.args.proof.now.shape) c.requires.known c.args.node.0 (wire_numbers c.args.bar.now.taps.items) (wire_numbers c.args.bar.now.lines.items)
+returns-clause-held c = rw c.new.ensures (held_is c.args.facts.now c.args.known.now (c.the_laws_hold.ensures c.args.facts.now.shape) c.requires.known c.args.node.0 (wire_numbers c.args.bar.now.taps.items) (wire_numbers c.args.bar.now.lines.items)
     (wire_numbers c.in_ok-taps.taps.items) (wire_numbers c.in_ok-lines.lines.items) c.requires.bar (rw c.deref.ensures.value at c.in_ok-taps.ensures.known) (rw c.deref-2.ensures.value at c.in_ok-lines.ensures.known) _ _ (wire_numbers c.in_ok-those.those.items) c.two_of-pair.result c.requires.node c.requires.trunk
     (rw (c.deref-3.ensures.value, c.deref-4.ensures.value) at c.in_ok-those.ensures) (rw c.deref-5.ensures.value at c.two_of-pair.ensures.two))
 
 pub returns-clause-all : goal.returns-clause-all
-returns-clause-all c = rw c.new.ensures (known_is c.args.proof.now c.args.known.now (c.the_laws_hold.ensures c.args.proof.now.shape) c.requires.known c.args.node.0 (wire_numbers c.args.bar.now.taps.items) (wire_numbers c.args.bar.now.lines.items)
+returns-clause-all c = rw c.new.ensures (known_is c.args.facts.now c.args.known.now (c.the_laws_hold.ensures c.args.facts.now.shape) c.requires.known c.args.node.0 (wire_numbers c.args.bar.now.taps.items) (wire_numbers c.args.bar.now.lines.items)
     (wire_numbers c.in_ok-taps.taps.items) (wire_numbers c.in_ok-lines.lines.items) c.requires.bar (rw c.deref.ensures.value at c.in_ok-taps.ensures.known) (rw c.deref-2.ensures.value at c.in_ok-lines.ensures.known) _ _ (wire_numbers c.in_ok-those.those.items) c.two_of-pair.result
     (rw (c.deref-3.ensures.value, c.deref-4.ensures.value) at c.in_ok-those.ensures) (rw c.deref-5.ensures.value at c.two_of-pair.ensures.none))

@@ -4,4 +4,4 @@ use Rattle.diag_published.specs.Held.{wire_numbers}
 use Rattle.diag_published.proofs.pairs.keeps_all.Given as goal
 
 abbrev pub invariant-taps : goal.invariant-taps
-invariant-taps l = KeepsAll l.proof (wire_numbers (take l.tap-index l.taps)) l.line.0
+invariant-taps l = KeepsAll l.facts (wire_numbers (take l.tap-index l.taps)) l.line.0

@@ -7,7 +7,7 @@ use Rattle.diag_published.proofs.Trunking.{pins_grown, few_loads}
 use Rattle.diag_published.proofs.pins.grow_pins.Goals as goal
 
 pub add_wires-requires : goal.add_wires-requires
-add_wires-requires g c = within_marks c.args.proof.now.shape c.args.pins.now.items _ (subst (λ (m : Shape). length c.in-Ok.field.wires ≡ wires_of m) c.shape-shape.ensures c.in-Ok.ensures.field.wires) c.requires.within
+add_wires-requires g c = within_marks c.args.facts.now.shape c.args.pins.now.items _ (subst (λ (m : Shape). length c.in-Ok.field.wires ≡ wires_of m) c.shape-shape.ensures c.in-Ok.ensures.field.wires) c.requires.within
 
 pub grow-requires-clause-field : goal.grow-requires-clause-field
 grow-requires-clause-field g c = record { wires = c.add_wires.ensures.len ∙ c.in-Ok.ensures.field.wires ∙ ap wires_of c.shape-shape.ensures; crosses = c.in-Ok.ensures.field.crosses ∙ ap crosses_of c.shape-shape.ensures }

@@ -12,7 +12,7 @@ returns-in-Some-clause-loads g c = at_most_six _ _ _ _ _ c.two_at_most.ensures.f
 
 pub returns-in-None-clause-loads : goal.returns-in-None-clause-loads
 returns-in-None-clause-loads g c = root_loads _ _ _ _ c.two_at_most.result c.pins-pins.result _ c.in_ok-found.ensures.advances c.two_at_most.ensures.few c.two_at_most.ensures.all
-    (c.without_faults_all_is_sound.ensures.wires c.args.proof.now.shape) (rw c.in-None.is at c.in_ok-found.ensures.none) c.in_ok-found.ensures.loads c.try_pins-in-None.ensures.loads
+    (c.without_faults_all_is_sound.ensures.wires c.args.facts.now.shape) (rw c.in-None.is at c.in_ok-found.ensures.none) c.in_ok-found.ensures.loads c.try_pins-in-None.ensures.loads
 
 pub returns-in-None-clause-none : goal.returns-in-None-clause-none
-returns-in-None-clause-none g c = if_ok c.try_pins-in-None.result c.try_pins-in-None.ensures.none (λ found h. if_none found h (unserved_root _ _ c.args.proof.now c.try_pins.new.proof c.pins-pins.result c.in_ok-found.ensures.advances (c.pins-pins.ensures.pins ∙ ap pins_of c.shape.ensures)))
+returns-in-None-clause-none g c = if_ok c.try_pins-in-None.result c.try_pins-in-None.ensures.none (λ found h. if_none found h (unserved_root _ _ c.args.facts.now c.try_pins.new.facts c.pins-pins.result c.in_ok-found.ensures.advances (c.pins-pins.ensures.pins ∙ ap pins_of c.shape.ensures)))

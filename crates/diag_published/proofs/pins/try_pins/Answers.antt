@@ -21,11 +21,11 @@ trunk_of-requires-clause-within g c = rw c.deref.ensures.value (subst (λ (m : S
 pub returns-in-Ok-trunk_of-clause-held : goal.returns-in-Ok-trunk_of-clause-held
 returns-in-Ok-trunk_of-clause-held g c =
     let same = c.shape-shape.ensures ∙ sym c.in_ok-grow_pins.ensures.advances.more.shape in
-    if_some _ (rw (c.in-Ok-trunk_of.is, c.deref.ensures.value) at c.trunk_of.ensures.trunk) (λ (t : Trunk) (trunk : IsTrunkOf c.grow_pins.new.proof c.grow_pins.new.known (wire_numbers c.in-Ok.pins.items) t.left t.right). trunk.held 0
-    (pin_end c.grow_pins.new.proof.shape c.args.count (wire_numbers c.in-Ok.pins.items) (rw c.in_ok-grow_pins.ensures.advances.more.shape c.requires.count)
+    if_some _ (rw (c.in-Ok-trunk_of.is, c.deref.ensures.value) at c.trunk_of.ensures.trunk) (λ (t : Trunk) (trunk : IsTrunkOf c.grow_pins.new.facts c.grow_pins.new.known (wire_numbers c.in-Ok.pins.items) t.left t.right). trunk.held 0
+    (pin_end c.grow_pins.new.facts.shape c.args.count (wire_numbers c.in-Ok.pins.items) (rw c.in_ok-grow_pins.ensures.advances.more.shape c.requires.count)
     (subst (λ (m : Shape). IsListOf (IsAtOneOf (pin_wire m) c.args.count) (wire_numbers c.in-Ok.pins.items)) same c.in-Ok.ensures.pins)))
 
 pub returns-in-Ok-trunk_of-clause-none : goal.returns-in-Ok-trunk_of-clause-none
 returns-in-Ok-trunk_of-clause-none g c = if_none _ (rw (c.in-Ok-trunk_of.is, c.deref.ensures.value) at c.trunk_of.ensures.none) (λ one.
-    few_pins _ c.args.proof.now c.grow_pins.new.known c.args.count (wire_numbers c.in-Ok.pins.items) (c.the_laws_hold.ensures c.args.proof.now.shape) c.requires.count
+    few_pins _ c.args.facts.now c.grow_pins.new.known c.args.count (wire_numbers c.in-Ok.pins.items) (c.the_laws_hold.ensures c.args.facts.now.shape) c.requires.count
     (subst (λ (m : Shape). IsListOf (IsAtOneOf (pin_wire m) c.args.count) (wire_numbers c.in-Ok.pins.items)) c.shape-shape.ensures c.in-Ok.ensures.pins) c.in_ok-grow_pins.ensures.found one)

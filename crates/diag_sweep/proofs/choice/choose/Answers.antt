@@ -5,9 +5,9 @@ pub returns-in_err-tell_all-clause-pays : goal.returns-in_err-tell_all-clause-pa
 returns-in_err-tell_all-clause-pays g c = worth_none _ c.open_purse.new.self.left c.tell_all.ensures.goes.hand (c.tell_all.ensures.goes.funded _ (c.in-Ok.ensures.funded c.args.known.now)) c.open_purse.ensures.left
 
 pub returns-in-Ok-give_way-clause-pays : goal.returns-in-Ok-give_way-clause-pays
-returns-in-Ok-give_way-clause-pays g c = worth_same c.tell_all.new.proof c.tell_all.new.bad c.give_way.new.bad c.args.field.now _ c.close_purse.new.self.left c.give_way.ensures.stuck
+returns-in-Ok-give_way-clause-pays g c = worth_same c.tell_all.new.facts c.tell_all.new.bad c.give_way.new.bad c.args.field.now _ c.close_purse.new.self.left c.give_way.ensures.stuck
     (worth_paid _ c.close_purse.new.self.left c.tell_all.ensures.goes.hand (c.tell_all.ensures.goes.funded _ (c.in-Ok.ensures.funded c.args.known.now)) c.close_purse.ensures.left)
 
 pub returns-in-Err-clause-pays : goal.returns-in-Err-clause-pays
-returns-in-Err-clause-pays g c = worth_same c.tell_all.new.proof c.tell_all.new.bad c.give_way.new.bad c.args.field.now _ c.close_purse.new.self.left c.give_way.ensures.stuck
+returns-in-Err-clause-pays g c = worth_same c.tell_all.new.facts c.tell_all.new.bad c.give_way.new.bad c.args.field.now _ c.close_purse.new.self.left c.give_way.ensures.stuck
     (worth_paid _ c.close_purse.new.self.left c.tell_all.ensures.goes.hand (c.tell_all.ensures.goes.funded _ (c.in-Ok.ensures.funded c.args.known.now)) c.close_purse.ensures.left)

@@ -1,8 +1,8 @@
 use Rattle.std.proofs.Common.{◌≡◌, true, take}
 use Rattle.std.specs.Prelude.{All}
 use Rattle.base_bits.specs.Numbers.{has_number}
-use Rattle.diag_evidence.specs.declared.hangs.Hang.{Hang}
+use Rattle.diag_evidence.specs.declared.hangs.WireTest.{WireTest}
 use Rattle.diag_sweep.proofs.footing.are_of_field.Given as goal
 
 abbrev pub invariant-hangs : goal.invariant-hangs
-invariant-hangs l = All (λ (h : Hang). has_number l.field.wires h.wire.0 ≡ true) (take l.k l.hangs)
+invariant-hangs l = All (λ (h : WireTest). has_number l.field.wires h.wire.0 ≡ true) (take l.k l.hangs)

@@ -1,7 +1,7 @@
 use Rattle.std.proofs.Common.{◌≡◌, take}
 use Rattle.std.specs.Prelude.{map}
-use Rattle.diag_evidence.specs.declared.hangs.Hang.{Hang}
+use Rattle.diag_evidence.specs.declared.hangs.WireTest.{WireTest}
 use Rattle.diag_sweep.proofs.footing.wires_of_hangs.Given as goal
 
 abbrev pub invariant-hangs : goal.invariant-hangs
-invariant-hangs l = l.wires.items ≡ map (λ (h : Hang). h.wire.0) (take l.k l.hangs)
+invariant-hangs l = l.wires.items ≡ map (λ (h : WireTest). h.wire.0) (take l.k l.hangs)

@@ -4,10 +4,10 @@ use Rattle.diag_sweep.proofs.hanging.hang_load.Goals as goal
 
 pub returns-clause-goes : goal.returns-clause-goes
 returns-clause-goes g c =
-    let e = c.hang_each.ensures in
+    let e = c.test_wires.ensures in
     let of = c.if-not-are_of_field.ensures refl in
     hang_goes 3 c.requires.hand (c.if-not-can_pay.ensures refl) e.loads e.advances.more
-    (unfit_marks c.args.field.now _ _ _ _ _ _ _ _ _ _ _ c.hang_each.result of e.marks e.stay e.tried e.unmarked)
-    (unclear_marks c.args.field.now _ _ _ _ _ _ _ _ _ _ _ c.hang_each.result of e.marks_too e.stay_too e.tried e.unmarked_too)
+    (unfit_marks c.args.field.now _ _ _ _ _ _ _ _ _ _ _ c.test_wires.result of e.marks e.stay e.tried e.unmarked)
+    (unclear_marks c.args.field.now _ _ _ _ _ _ _ _ _ _ _ c.test_wires.result of e.marks_too e.stay_too e.tried e.unmarked_too)
     (e.unfit (is_step c.args.known.now.steps) (λ w on. step_has c.args.known.now.steps w (c.if-not-is_known.ensures.all refl w on)))
     e.unclear

@@ -5,12 +5,12 @@ use Rattle.diag_sweep.proofs.Coursing.{path_test}
 use Rattle.diag_sweep.proofs.Led.{lead_goes}
 use Rattle.diag_sweep.proofs.leading.lead_load.Goals as goal
 
-pub lead_each-requires-clause-paths : goal.lead_each-requires-clause-paths
-lead_each-requires-clause-paths g c = rw c.deref.ensures.value (path_test c.requires.hand.known (c.in-Ok-lay_walks.ensures c.if-not-laid.false))
+pub test_paths-requires-clause-paths : goal.test_paths-requires-clause-paths
+test_paths-requires-clause-paths g c = rw c.deref.ensures.value (path_test c.requires.hand.known (c.in-Ok-lay_walks.ensures c.if-not-laid.false))
 
 pub returns-clause-goes : goal.returns-clause-goes
 returns-clause-goes g c =
-    let e = c.lead_each.ensures in
-    let course = subst (λ (ls : List Lead). IsCourse c.args.proof.now c.args.known.now.steps c.args.field.now c.lay_walks.new.course.config.config c.lay_walks.new.course.drive ls c.lay_walks.new.course.seen)
+    let e = c.test_paths.ensures in
+    let course = subst (λ (ls : List Lead). IsCourse c.args.facts.now c.args.known.now.steps c.args.field.now c.lay_walks.new.course.config.config c.lay_walks.new.course.drive ls c.lay_walks.new.course.seen)
     (sym c.deref.ensures.value) (c.in-Ok-lay_walks.ensures c.if-not-laid.false) in
-    lead_goes c.lead_each.result c.requires.hand course (c.if-not-can_pay.ensures refl) e.loads e.advances.more e.marks e.led e.unmarked e.stuck
+    lead_goes c.test_paths.result c.requires.hand course (c.if-not-can_pay.ensures refl) e.loads e.advances.more e.marks e.led e.unmarked e.stuck

@@ -5,8 +5,8 @@ use Rattle.diag_sweep.proofs.Learnt.{apart_next, good_all}
 use Rattle.diag_sweep.proofs.learn.is_good.Goals as goal
 
 pub places-preserved : goal.places-preserved
-places-preserved c = apart_next (λ u. keeps_pair c.args.proof.now u c.args.w.0 ≡ true) c.places.invariant c.wire_at.ensures.at
-    (pair_turned c.args.proof.now c.wire_at.result.0 c.args.w.0 ∙ sym c.keeps_pair.ensures ∙ c.if-not-keeps_pair.false)
+places-preserved c = apart_next (λ u. keeps_pair c.args.facts.now u c.args.w.0 ≡ true) c.places.invariant c.wire_at.ensures.at
+    (pair_turned c.args.facts.now c.wire_at.result.0 c.args.w.0 ∙ sym c.keeps_pair.ensures ∙ c.if-not-keeps_pair.false)
 
 pub returns : goal.returns
 returns c =

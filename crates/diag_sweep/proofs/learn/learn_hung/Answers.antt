@@ -1,5 +1,5 @@
 use Rattle.std.proofs.Common.{refl}
-use Rattle.diag_known.specs.declared.step.Stand.TheVariants as stand
+use Rattle.diag_known.specs.declared.verified_wire.SupportedBy.TheVariants as stand
 use Rattle.diag_sweep.proofs.Learnt.{learnt_known, learnt_grows, stands_on_feet}
 use Rattle.diag_sweep.proofs.learn.learn_hung.Goals as goal
 

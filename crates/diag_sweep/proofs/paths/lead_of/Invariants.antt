@@ -4,6 +4,6 @@ use Rattle.diag_sweep.proofs.paths.lead_of.Given as goal
 
 abbrev pub invariant-steps : goal.invariant-steps
 invariant-steps l = record {
-  fair : IsFair l.proof l.known.steps l.field l.fn.seen l.seen l.route;
+  fair : IsFair l.facts l.known.steps l.field l.fn.seen l.seen l.route;
   len : length l.seen ≡ length l.fn.seen;
 }

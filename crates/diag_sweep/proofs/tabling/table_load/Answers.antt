@@ -6,5 +6,5 @@ pub returns-clause-goes : goal.returns-clause-goes
 returns-clause-goes g c =
     let e = c.tables_each.ensures in
     let given = rw c.deref.ensures.value at c.if-not-are_given.ensures refl in
-    table_goes c.args.sheet.now.tables.items c.requires.hand (c.if-not-can_pay.ensures refl) e.loads e.advances.more
-    (wrong_marks _ _ c.args.sheet.now.tables.items _ _ _ _ _ _ c.tables_each.result given e.marks e.tabled e.unmarked) e.wrong
+    table_goes c.args.table_sweep.now.tables.items c.requires.hand (c.if-not-can_pay.ensures refl) e.loads e.advances.more
+    (wrong_marks _ _ c.args.table_sweep.now.tables.items _ _ _ _ _ _ c.tables_each.result given e.marks e.tabled e.unmarked) e.wrong

@@ -8,11 +8,11 @@ use Rattle.diag_sweep.proofs.telling.tell_turn.Goals as goal
 
 pub returns-clause-goes : goal.returns-clause-goes
 returns-clause-goes g c =
-    let can = of_some (CanTell c.args.proof.now c.args.known.now.steps c.args.field.now) c.in-Ok.found c.in-Some.view c.in-Some.is c.in-Ok.ensures in
-    let e = c.tell_each.ensures in
+    let can = of_some (CanTell c.args.facts.now c.args.known.now.steps c.args.field.now) c.in-Ok.found c.in-Some.view c.in-Some.is c.in-Ok.ensures in
+    let e = c.screen_wires.ensures in
     let of = rw (← c.as_slice-feet.ensures.value) at can.field in
     hang_goes 1 c.requires.hand (c.if-not-can_pay.ensures refl) e.loads e.advances.more
-    (told_unfit c.args.field.now _ _ _ _ _ _ _ _ c.tell_each.result of e.marks e.stay e.told e.unmarked)
-    (told_unclear c.args.field.now _ _ _ _ _ _ _ _ c.tell_each.result of e.marks_too e.stay_too e.told e.unmarked_too)
+    (told_unfit c.args.field.now _ _ _ _ _ _ _ _ c.screen_wires.result of e.marks e.stay e.told e.unmarked)
+    (told_unclear c.args.field.now _ _ _ _ _ _ _ _ c.screen_wires.result of e.marks_too e.stay_too e.told e.unmarked_too)
     (e.unfit (is_step c.args.known.now.steps) (λ w on. step_has c.args.known.now.steps w (can.known w on)))
     e.unclear

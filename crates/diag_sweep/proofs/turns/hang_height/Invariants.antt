@@ -7,4 +7,4 @@ abbrev pub invariant-loads : goal.invariant-loads
 invariant-loads g l =
     let first = (goal.Rig-dyn g (l.fn.rig.vtable, l.fn.rig.value)).rig_state l.fn.rig.value in
     let now = (goal.Rig-dyn g (l.rig.vtable, l.rig.value)).rig_state l.rig.value in
-    HasGone first now l.fn.proof l.proof l.field [] (in_hand l.fn.proof l.fn.known l.fn.bad l.fn.gear.purse first.loads) (in_hand l.proof l.known l.bad l.gear.purse now.loads)
+    HasGone first now l.fn.facts l.facts l.field [] (in_hand l.fn.facts l.fn.known l.fn.bad l.fn.state.budget first.loads) (in_hand l.facts l.known l.bad l.state.budget now.loads)

@@ -1,5 +1,5 @@
-use Rattle.diag_sweep.proofs.Purses.{HasSettled}
+use Rattle.diag_sweep.proofs.Budgets.{HasSettled}
 use Rattle.diag_sweep.proofs.turns.settle_hangs.Given as goal
 
 abbrev pub invariant-hangs : goal.invariant-hangs
-invariant-hangs l = HasSettled l.proof l.bad l.fn.purse l.purse
+invariant-hangs l = HasSettled l.facts l.bad l.fn.budget l.budget

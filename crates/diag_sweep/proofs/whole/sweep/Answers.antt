@@ -1,11 +1,11 @@
 use Rattle.std.proofs.Common.{List, subst}
 use Rattle.machine_shape.specs.declared.Table.{Table}
 use Rattle.diag_sweep.specs.Marks.{MarksIn}
-use Rattle.diag_sweep.proofs.Purses.{pays}
+use Rattle.diag_sweep.proofs.Budgets.{pays}
 use Rattle.diag_sweep.proofs.whole.sweep.Goals as goal
 
 pub returns-clause-marks : goal.returns-clause-marks
 returns-clause-marks g c = subst (λ (ts : List Table). MarksIn c.args.field.now ts c.args.bad.now c.sweep_sheet.new.bad) c.in-Ok-from_slice.ensures.items c.sweep_sheet.ensures.goes.marks
 
 pub returns-clause-pays : goal.returns-clause-pays
-returns-clause-pays g c = pays c.args.proof.now c.args.bad.now _ c.sweep_sheet.ensures.goes.hand (c.sweep_sheet.ensures.goes.funded _ (c.in-Ok.ensures.funded c.args.known.now))
+returns-clause-pays g c = pays c.args.facts.now c.args.bad.now _ c.sweep_sheet.ensures.goes.hand (c.sweep_sheet.ensures.goes.funded _ (c.in-Ok.ensures.funded c.args.known.now))

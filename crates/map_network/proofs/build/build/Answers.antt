@@ -1,5 +1,5 @@
 use Rattle.std.proofs.Common.{◌≡◌, ◌∙◌, ◌++◌, ℕ, map, ap, sym, subst, length, arith}
-use Rattle.design_netlist.specs.declared.draft.PortDef.{PortDef}
+use Rattle.design_netlist.specs.declared.netlist_data.PortDef.{PortDef}
 use Rattle.map_network.specs.Plain.{covers_tables, latch_table, source_of, plain_network}
 use Rattle.map_network.specs.Drives.{source_in}
 use Rattle.map_network.specs.Bounds.{AreCovers, AreLatches, ArePorts}

@@ -1,5 +1,5 @@
 use Rattle.std.proofs.Common.{◌<◌, sym, subst}
-use Rattle.place_plan.specs.declared.tree.Strand.TheVariants.{Own, Child, Outside}
+use Rattle.place_plan.specs.declared.tree.NetSide.TheVariants.{Own, Child, Outside}
 use Rattle.place_plan.specs.Strands.{IsAt}
 use Rattle.place_plan.specs.Taps.{IsHeld, IsTapFor}
 use Rattle.place_plan.proofs.Climbs.{child_within}

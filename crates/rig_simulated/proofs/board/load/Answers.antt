@@ -3,7 +3,7 @@ use Rattle.std.specs.Prelude.{slice_index}
 use Rattle.machine_shape.specs.declared.Shape.{Shape}
 use Rattle.machine_shape.specs.declared.Cross.{Cross}
 use Rattle.machine_shape.specs.Shape.{wires_of, tables_of, crosses_of, pins_of, pin_wire}
-use Rattle.rig_simulated.specs.declared.classes.Knot.{Knot}
+use Rattle.rig_simulated.specs.declared.classes.ClassNode.{ClassNode}
 use Rattle.rig_simulated.specs.declared.gates.Gate.{Gate}
 use Rattle.rig_simulated.specs.Building.{base_most}
 use Rattle.rig_simulated.specs.Classes.{HasRoots}
@@ -23,10 +23,10 @@ returns-clause-loaded c =
     let g = c.args.config.now.config in
     let f = c.args.faults.now.faults in
     let m : Shape = c.args.faults.now.shape in
-    let knots : List Knot = c.close_all.new.classes.knots.items in
+    let knots : List ClassNode = c.close_all.new.classes.knots.items in
     let t = c.in_ok-close_all.ensures.tied in
-    let gates_are = subst (λ (ks : List Knot). (most : ℕ) (root : ℕ → ℕ) → HasRoots ks most root → AreGates f g root c.fill_gates.new.gates.items) c.deref.ensures.value c.in_ok-fill_gates.ensures.gates in
-    let pins_are = subst (λ (ks : List Knot). (most : ℕ) (root : ℕ → ℕ) → HasRoots ks most root → (k : ℕ) → k < pins_of c.shape-shape.result → slice_index c.fill_pins.new.pins.items k ≡ root (pin_wire c.shape-shape.result k)) c.deref-2.ensures.value c.in_ok-fill_pins.ensures.roots in
+    let gates_are = subst (λ (ks : List ClassNode). (most : ℕ) (root : ℕ → ℕ) → HasRoots ks most root → AreGates f g root c.fill_gates.new.gates.items) c.deref.ensures.value c.in_ok-fill_gates.ensures.gates in
+    let pins_are = subst (λ (ks : List ClassNode). (most : ℕ) (root : ℕ → ℕ) → HasRoots ks most root → (k : ℕ) → k < pins_of c.shape-shape.result → slice_index c.fill_pins.new.pins.items k ≡ root (pin_wire c.shape-shape.result k)) c.deref-2.ensures.value c.in_ok-fill_pins.ensures.roots in
     let same : c.shape-shape.result ≡ m = c.shape-shape.ensures.shape ∙ c.requires.shape in
     record {
       fitting = record {

@@ -1,7 +1,7 @@
 use Rattle.std.proofs.Common.{rules, ◌≡◌, ◌≢◌, ◌⊎◌, ◌+◌, ◌<◌, ◌++◌, ◌∷◌, [], ◌∙◌, List, ℕ, length, sym, ap, subst, arith}
 use Rattle.std.proofs.lemmas.List.{with_items_is}
 use Rattle.std.specs.Vec.{with_items}
-use Rattle.rig_simulated.specs.declared.classes.Knot.{Knot}
+use Rattle.rig_simulated.specs.declared.classes.ClassNode.{ClassNode}
 use Rattle.rig_simulated.specs.Classes.{knot_at, HasRoots, IsHung, AreTied}
 use Rattle.rig_simulated.specs.Building.{AreTouched}
 use Rattle.rig_simulated.proofs.Touching.{touched_more, touched_hung}
@@ -25,7 +25,7 @@ returns-in_ok-push-2-clause-touched c =
     let hung : IsHung c.args.classes.now.knots.items c.tie.new.knots r o ⊎ IsHung c.args.classes.now.knots.items c.tie.new.knots o r =
     subst (λ k. IsHung k c.tie.new.knots r o ⊎ IsHung k c.tie.new.knots o r) c.deref_mut.ensures.value c.tie.ensures in
     let same : (with_items c.args.classes.now.knots c.tie.new.knots).items ≡ c.tie.new.knots = with_items_is c.args.classes.now.knots c.tie.new.knots (search rules) in
-    subst (λ (k : List Knot). AreTouched c.args.classes.now.base.items k c.push-then-root-other.new.self.items) (sym same)
+    subst (λ (k : List ClassNode). AreTouched c.args.classes.now.base.items k c.push-then-root-other.new.self.items) (sym same)
     (subst (AreTouched c.args.classes.now.base.items c.tie.new.knots) (sym list)
     (touched_hung c.args.classes.now.base.items c.args.classes.now.knots.items c.tie.new.knots c.args.classes.now.touched.items r o c.requires.touched rin oin hung))
 
@@ -44,7 +44,7 @@ returns-in_ok-push-2-clause-joined c = λ old new stuck most t link.
     (tied_roots t link
     (subst (λ k. (most : ℕ) (root : ℕ → ℕ) → HasRoots k most root → r ≡ root c.args.a) re c.root_of-root.ensures.root most t.root t.knots_are.roots)
     (subst (λ k. (most : ℕ) (root : ℕ → ℕ) → HasRoots k most root → o ≡ root c.args.b) oe c.root_of-other.ensures.root most t.root t.knots_are.roots)
-    (subst (λ (k : List Knot). r < length k) re c.root_of-root.ensures.within) (subst (λ (k : List Knot). o < length k) oe c.root_of-other.ensures.within)
+    (subst (λ (k : List ClassNode). r < length k) re c.root_of-root.ensures.within) (subst (λ (k : List ClassNode). o < length k) oe c.root_of-other.ensures.within)
     (subst (λ k. (knot_at k r).parent ≡ r) re c.root_of-root.ensures.top) (subst (λ k. (knot_at k o).parent ≡ o) oe c.root_of-other.ensures.top) apart hung)
 
 pub returns-else-root-other-clause-joined : goal.returns-else-root-other-clause-joined

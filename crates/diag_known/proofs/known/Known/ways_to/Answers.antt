@@ -18,5 +18,5 @@ ways_over-requires-clause-feet c = known_feet c.requires.known c.place.ensures c
 pub returns-in-Pin : goal.returns-in-Pin
 returns-in-Pin c =
     let pin = pin_here c.requires.known c.place.result c.step_at.result c.in-Pin.pin c.step_at.ensures c.in-Pin.is in
-    let same : pin_wire c.args.proof.now.shape c.in-Pin.pin ≡ c.args.w.0 = at_one (record { step = pin.step; here = pin.here; wire = pin.wire }) c.place.ensures in
-    IfOk-weaker c.ways_at.result _ _ (λ ways h. subst (λ (u : ℕ). AreWays c.args.proof.now c.args.self.now.steps u ways.0 ways.1) same (h c.args.proof.now (sym c.requires.known.shape))) c.ways_at.ensures
+    let same : pin_wire c.args.facts.now.shape c.in-Pin.pin ≡ c.args.w.0 = at_one (record { step = pin.step; here = pin.here; wire = pin.wire }) c.place.ensures in
+    IfOk-weaker c.ways_at.result _ _ (λ ways h. subst (λ (u : ℕ). AreWays c.args.facts.now c.args.self.now.steps u ways.0 ways.1) same (h c.args.facts.now (sym c.requires.known.shape))) c.ways_at.ensures

@@ -12,5 +12,5 @@ keeps_cross-requires c =
 pub steps-preserved : goal.steps-preserved
 steps-preserved c =
     let below : c.steps.k < length c.args.route.now.crosses = omega arith in
-    let kept : keeps_cross c.args.proof.now c.cross_at.result.0 ≡ true = sym c.keeps_cross.ensures ∙ c.if-not-keeps_cross.false in
-    kept_next c.args.proof.now c.args.route.now.crosses c.steps.k _ below c.cross_at.ensures c.steps.invariant kept
+    let kept : keeps_cross c.args.facts.now c.cross_at.result.0 ≡ true = sym c.keeps_cross.ensures ∙ c.if-not-keeps_cross.false in
+    kept_next c.args.facts.now c.args.route.now.crosses c.steps.k _ below c.cross_at.ensures c.steps.invariant kept

@@ -8,6 +8,6 @@ invariant-lines g l =
     let rig = (goal.Rig-dyn g (l.rig.vtable, l.rig.value)).rig_state l.rig.value in
     record {
       machine : rig.machine ≡ rig0.machine;
-      shape : l.proof.shape ≡ l.fn.proof.shape;
-      found : AreFound rig0.machine.faults l.proof l.walk.known l.walk.found.items;
+      shape : l.facts.shape ≡ l.fn.facts.shape;
+      found : AreFound rig0.machine.faults l.facts l.walk.known l.walk.found.items;
     }

@@ -6,7 +6,7 @@ use Rattle.example_parts.proofs.crossbars.walk.next_trunk.Goals as goal
 
 pub returns-in_default-clause-none : goal.returns-in_default-clause-none
 returns-in_default-clause-none g c = λ at within.
-    let m = c.args.proof.now.shape in
+    let m = c.args.facts.now.shape in
     let n = c.args.node.0 in
     let below_root : 0 < n = grind (arith, c.if-node-eq0.false) in
     let none : n < nodes_of m → (i : ℕ) → parent_of m n ≡ Some i → c.len.result ≤ i =

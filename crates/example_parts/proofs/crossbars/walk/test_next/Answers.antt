@@ -12,7 +12,7 @@ pub returns-in_default-clause-found : goal.returns-in_default-clause-found
 returns-in_default-clause-found g c = rw c.in_ok-found.ensures.same (found_later (record { kept = c.in_ok-found.ensures.advances.more; known = c.in_ok-found.ensures.stays }) c.in_ok-found.ensures.known c.requires.found)
 
 pub test_crossbar-requires-clause-trunk : goal.test_crossbar-requires-clause-trunk
-test_crossbar-requires-clause-trunk g c = trunk_at c.args.proof.now.shape c.in_ok-found.ensures.advances.more.shape (rw c.in-Some.is at c.in_ok-found.ensures.node) (rw c.in-Some.is at c.in_ok-found.ensures.held)
+test_crossbar-requires-clause-trunk g c = trunk_at c.args.facts.now.shape c.in_ok-found.ensures.advances.more.shape (rw c.in-Some.is at c.in_ok-found.ensures.node) (rw c.in-Some.is at c.in_ok-found.ensures.held)
 
 pub returns-in_err-tested-clause-found : goal.returns-in_err-tested-clause-found
 returns-in_err-tested-clause-found g c = rw c.in_ok-found.ensures.same (found_later (later_then {b = c.next_trunk.new.walk.known} (record { kept = c.in_ok-found.ensures.advances.more; known = c.in_ok-found.ensures.stays }) (record { kept = c.in_err-tested.ensures.advances.more; known = c.in_err-tested.ensures.stays })) c.in_err-tested.ensures.known c.requires.found)

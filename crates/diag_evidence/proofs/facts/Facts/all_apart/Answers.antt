@@ -1,0 +1,27 @@
+use Rattle.diag_evidence.specs.Kept.{Gains, these_pairs}
+use Rattle.diag_evidence.specs.Readings.{wires_over}
+use Rattle.diag_evidence.proofs.Advancing.{advances_by}
+use Rattle.diag_evidence.proofs.Several.{tells_none, tells_all, all_pass, all_gain}
+use Rattle.diag_evidence.proofs.facts.Facts.all_apart.Goals as goal
+
+pub all_differ-apart-requires-clause-pin : goal.all_differ-apart-requires-clause-pin
+all_differ-apart-requires-clause-pin g c = rw (c.pin.ensures, c.in_ok-read.ensures.length, c.requires.shape) c.requires.left.route.pin
+
+pub all_differ-apart-requires-clause-routes : goal.all_differ-apart-requires-clause-routes
+all_differ-apart-requires-clause-routes g c = rw (c.in_ok-read.ensures.length, c.requires.shape) (λ k d below. (c.requires.rights k d below).route.pin)
+
+pub returns-then-not-apart-clause-exact : goal.returns-then-not-apart-clause-exact
+returns-then-not-apart-clause-exact g c = tells_none c.args.left.now c.args.rights.now c.in_ok-read.ensures.reads (rw c.pin.ensures at (c.all_differ-apart.ensures.no c.if-not-apart.true))
+
+pub returns-then-not-apart-clause-passes : goal.returns-then-not-apart-clause-passes
+returns-then-not-apart-clause-passes g c = all_pass c.args.left.now c.args.rights.now c.in_ok-read.ensures.reads
+    (rw c.requires.shape c.requires.left.route.pin) (λ k d below. rw c.requires.shape (c.requires.rights k d below).route.pin) (rw c.pin.ensures at (c.all_differ-apart.ensures.no c.if-not-apart.true))
+
+pub returns-clause-exact : goal.returns-clause-exact
+returns-clause-exact g c = tells_all c.args.left.now c.args.rights.now c.in_ok-read.ensures.reads (rw c.pin.ensures at (c.all_differ-apart.ensures.yes c.if-not-apart.false))
+
+pub returns-clause-advances : goal.returns-clause-advances
+returns-clause-advances g c =
+    let gains : Gains (these_pairs c.args.left.now.wires (wires_over c.args.rights.now)) c.args.self.now c.keep_all_pairs.new.self = rw (← c.self.view_is) c.keep_all_pairs.ensures in
+    advances_by (these_pairs c.args.left.now.wires (wires_over c.args.rights.now)) c.in_ok-read.ensures.loads.machine c.in_ok-read.ensures.loads.later c.in_ok-read.ensures.loads.counted gains
+    (all_gain c.args.left.now c.args.rights.now c.in_ok-read.ensures.reads c.args.self.now c.requires.shape c.requires.left c.requires.rights (rw c.pin.ensures at (c.all_differ-apart.ensures.yes c.if-not-apart.false)))

@@ -1,0 +1,11 @@
+use Rattle.std.proofs.Common.{◌<◌, length, subst, sym, arith}
+use Rattle.machine_shape.specs.Shape.{crosses_of}
+use Rattle.diag_evidence.specs.Kept.{Kept}
+use Rattle.diag_evidence.proofs.KeptLemmas.{gains_cross}
+use Rattle.diag_evidence.proofs.facts.Facts.keep_cross.Goals as goal
+
+pub returns : goal.returns
+returns c =
+    let below : c.args.c.0 < crosses_of c.self.inside.shape = subst (λ (k : Kept). c.args.c.0 < crosses_of k.shape) (sym c.self.view_is) c.requires in
+    let within : c.args.c.0 < length c.self.inside.crosses = omega (arith, below, c.self.invariant.0.crosses) in
+    rw (← c.self.view_is, c.insert.ensures) (gains_cross _ c.args.c.0 within)

@@ -1,0 +1,11 @@
+use Rattle.std.proofs.Common.{◌<◌, length, subst, sym, arith}
+use Rattle.machine_shape.specs.Shape.{tables_of}
+use Rattle.diag_evidence.specs.Kept.{Kept}
+use Rattle.diag_evidence.proofs.KeptLemmas.{gains_register}
+use Rattle.diag_evidence.proofs.facts.Facts.keep_register.Goals as goal
+
+pub returns : goal.returns
+returns c =
+    let below : c.args.t.0 < tables_of c.self.inside.shape = subst (λ (k : Kept). c.args.t.0 < tables_of k.shape) (sym c.self.view_is) c.requires in
+    let within : c.args.t.0 < length c.self.inside.registers = omega (arith, below, c.self.invariant.0.registers) in
+    rw (← c.self.view_is, c.insert.ensures) (gains_register _ c.args.t.0 within)

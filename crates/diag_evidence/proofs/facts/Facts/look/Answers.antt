@@ -1,0 +1,19 @@
+use Rattle.std.proofs.Common.{◌≡◌, ◌∙◌, List, ap, subst, sym}
+use Rattle.machine_shape.specs.Shape.{pins_of}
+use Rattle.machine_config.specs.Faulty.{IsRun}
+use Rattle.diag_evidence.specs.Looks.{look_drives}
+use Rattle.diag_evidence.proofs.Sessions.{on_ok}
+use Rattle.diag_evidence.proofs.facts.Facts.look.Goals as goal
+
+pub returns-clause-looked : goal.returns-clause-looked
+returns-clause-looked g c = on_ok c.take-looked.result c.take-looked.ensures.run (λ p. let j = c.in_ok-close_just.ensures in record {
+  config = c.close_just.new.config.config;
+  shape = j.shape;
+  closed = j.closed;
+  off = j.off;
+  ticks = j.ticks;
+  run = λ f told. subst (λ n. IsRun f c.close_just.new.config.config (look_drives n) c.take-looked.new.self.rows) (c.requires.reads ∙ ap pins_of (sym c.requires.forest)) (p.run f told);
+})
+
+pub returns-clause-session : goal.returns-clause-session
+returns-clause-session g c = on_ok c.take-looked.result c.take-looked.ensures.session (λ s. record { config = c.close_just.new.config.config; cycled = record { config = s.config; cycles = s.cycles ∙ ap look_drives c.requires.reads } })

@@ -1,0 +1,20 @@
+use Rattle.std.proofs.Common.{◌≡◌, subst}
+use Rattle.diag_evidence.specs.Kept.{Kept, Gains}
+use Rattle.diag_evidence.specs.Looks.{seen_in}
+use Rattle.diag_evidence.proofs.Advancing.{advances_by}
+use Rattle.diag_evidence.proofs.Seeing.{look_holds, no_feet}
+use Rattle.diag_evidence.proofs.Unfitting.{not_odd}
+use Rattle.diag_evidence.proofs.facts.Facts.look_each.Goals as goal
+
+pub returns-clause-seen : goal.returns-clause-seen
+returns-clause-seen g c = record {
+  rows = c.look.new.reads.rows;
+  look = no_feet _ c.args.forest.now c.look.new.reads.rows c.in_ok-look.ensures.looked;
+  gains = subst (λ (k : Kept). Gains (seen_in c.args.forest.now c.look.new.reads.rows) k c.keep_seen.new.self) c.in_ok-look.ensures.same c.keep_seen.ensures;
+}
+
+pub returns-clause-advances : goal.returns-clause-advances
+returns-clause-advances g c =
+    advances_by (seen_in c.args.forest.now c.look.new.reads.rows) c.in_ok-look.ensures.loads.machine c.in_ok-look.ensures.loads.later c.in_ok-look.ensures.loads.counted
+    (subst (λ (k : Kept). Gains (seen_in c.args.forest.now c.look.new.reads.rows) k c.keep_seen.new.self) c.in_ok-look.ensures.same c.keep_seen.ensures)
+    (look_holds _ c.args.self.now c.args.forest.now c.look.new.reads.rows c.shape-shape.ensures.forest c.requires.forest (no_feet _ c.args.forest.now c.look.new.reads.rows c.in_ok-look.ensures.looked))

@@ -1,0 +1,27 @@
+use Rattle.diag_evidence.specs.Kept.{Gains, these_wires}
+use Rattle.diag_evidence.proofs.Shown.{swing_same, swing_apart, swing_shows}
+use Rattle.base_bits.proofs.SetsLemmas.{same_bits}
+use Rattle.diag_evidence.proofs.Advancing.{different_bits, advances_by, wires_gain}
+use Rattle.diag_evidence.proofs.facts.Facts.test_stuck.Goals as goal
+
+pub returns-then-first-second-clause-exact : goal.returns-then-first-second-clause-exact
+returns-then-first-second-clause-exact g c =
+    let reads = rw c.pin.ensures at c.in_ok-first.ensures.reads in
+    swing_same reads (same_bits _ _ c.if-first-second.true)
+
+pub returns-then-first-second-clause-passes : goal.returns-then-first-second-clause-passes
+returns-then-first-second-clause-passes g c =
+    let reads = rw c.pin.ensures at c.in_ok-first.ensures.reads in
+    swing_shows reads (rw c.requires.shape c.requires.ready.route.pin) (same_bits _ _ c.if-first-second.true)
+
+pub returns-clause-exact : goal.returns-clause-exact
+returns-clause-exact g c =
+    let reads = rw c.pin.ensures at c.in_ok-first.ensures.reads in
+    swing_apart reads (different_bits _ _ c.if-first-second.false)
+
+pub returns-clause-advances : goal.returns-clause-advances
+returns-clause-advances g c =
+    let reads = rw c.pin.ensures at c.in_ok-first.ensures.reads in
+    let gains : Gains (these_wires c.args.route.now.wires) c.args.self.now c.keep_wires.new.self = rw (← c.self.view_is) c.keep_wires.ensures in
+    advances_by (these_wires c.args.route.now.wires) c.in_ok-first.ensures.loads.machine c.in_ok-first.ensures.loads.later c.in_ok-first.ensures.loads.counted gains
+    (wires_gain c.args.self.now c.args.route.now c.requires.shape c.requires.ready reads (different_bits _ _ c.if-first-second.false))

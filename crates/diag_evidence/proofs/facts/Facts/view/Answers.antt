@@ -1,0 +1,22 @@
+use Rattle.std.proofs.Common.{◌≡◌, ◌<◌, ◌∙◌, All, List, sym, subst}
+use Rattle.std.specs.Prelude.{map}
+use Rattle.std.proofs.lemmas.List.Elements.{All-map}
+use Rattle.machine_shape.specs.Shape.{crosses_of}
+use Rattle.diag_evidence.specs.Hangs.{Foot, IsFoot, over_of, turned, overs, others, all_feet}
+use Rattle.diag_evidence.proofs.Hanging.{feet_below, all_are_feet, overs_feet}
+use Rattle.diag_evidence.proofs.facts.Facts.view.Goals as goal
+
+pub look-requires-clause-feet : goal.look-requires-clause-feet
+look-requires-clause-feet g c =
+    subst (λ (feet : List Foot). All (λ foot. foot.1.0 < crosses_of c.args.forest.now.shape) feet) (sym (c.deref.ensures.value ∙ c.requires.plan.all_are))
+    (feet_below {trees = c.args.forest.now} (all_feet c.args.hangs.now) (all_are_feet c.args.hangs.now c.requires.over c.requires.other))
+
+pub look-requires-2-clause-feet : goal.look-requires-2-clause-feet
+look-requires-2-clause-feet g c =
+    subst (λ (feet : List Foot). All (λ foot. foot.1.0 < crosses_of c.args.forest.now.shape) feet) (sym (c.deref-2.ensures.value ∙ c.requires.plan.others_are))
+    (feet_below {trees = c.args.forest.now} (others c.args.hangs.now) (overs_feet (map turned c.args.hangs.now) (All-map (λ h. IsFoot c.args.forest.now (over_of h)) turned c.args.hangs.now c.requires.other)))
+
+pub look-requires-3-clause-feet : goal.look-requires-3-clause-feet
+look-requires-3-clause-feet g c =
+    subst (λ (feet : List Foot). All (λ foot. foot.1.0 < crosses_of c.args.forest.now.shape) feet) (sym (c.deref-3.ensures.value ∙ c.requires.plan.overs_are))
+    (feet_below {trees = c.args.forest.now} (overs c.args.hangs.now) (overs_feet c.args.hangs.now c.requires.over))

@@ -1,0 +1,11 @@
+use Rattle.std.proofs.Common.{◌≡◌, ℕ, take}
+use Rattle.std.specs.Prelude.{◌||◌}
+use Rattle.base_bits.specs.Pairs.{has_pair}
+use Rattle.diag_evidence.specs.Kept.{is_across}
+use Rattle.diag_evidence.proofs.facts.mark_each.Given as goal
+
+abbrev pub invariant-wires : goal.invariant-wires
+invariant-wires l = record {
+  marked : (a b : ℕ) → has_pair l.pairs a b ≡ (is_across (take l.k l.route.wires) l.others a b || has_pair l.fn.pairs a b);
+  n_is : l.pairs.n ≡ l.fn.pairs.n;
+}

@@ -1,0 +1,11 @@
+use Rattle.std.proofs.Common.{◌≡◌, ℕ, length, take}
+use Rattle.std.specs.Prelude.{◌||◌}
+use Rattle.base_bits.specs.Numbers.{has_number}
+use Rattle.machine_config.specs.Groups.{among}
+use Rattle.diag_evidence.proofs.facts.mark_wires.Given as goal
+
+abbrev pub invariant-wires : goal.invariant-wires
+invariant-wires l = record {
+  marked : (w : ℕ) → has_number l.wires w ≡ (among (take l.k l.route.wires) w || has_number l.fn.wires w);
+  len_is : length l.wires ≡ length l.fn.wires;
+}

@@ -1,8 +1,0 @@
-use Rattle.std.proofs.Common.{take}
-use Rattle.machine_config.specs.Groups.{among}
-use Rattle.diag_evidence.specs.Kept.{Gains}
-use Rattle.diag_evidence.specs.Leads.{these_crosses}
-use Rattle.diag_evidence.proofs.proof.Proof.keep_crosses.Given as goal
-
-abbrev pub invariant-crosses : goal.invariant-crosses
-invariant-crosses l = record { gains : Gains (these_crosses (among (take l.k l.route.crosses))) l.fn.self l.self }

@@ -1,7 +1,0 @@
-use Rattle.std.proofs.Common.{take}
-use Rattle.diag_evidence.specs.Kept.{Gains}
-use Rattle.diag_evidence.specs.Leads.{these_crosses, led_over}
-use Rattle.diag_evidence.proofs.proof.Proof.keep_led.Given as goal
-
-abbrev pub invariant-leads : goal.invariant-leads
-invariant-leads l = record { gains : Gains (these_crosses (led_over l.read (take l.k l.leads))) l.fn.self l.self }

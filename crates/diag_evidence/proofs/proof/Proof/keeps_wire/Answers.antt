@@ -1,6 +1,0 @@
-use Rattle.std.proofs.Common.{◌∙◌}
-use Rattle.diag_evidence.proofs.KeptLemmas.{has_wire}
-use Rattle.diag_evidence.proofs.proof.Proof.keeps_wire.Goals as goal
-
-pub returns : goal.returns
-returns c = rw (← c.self.view_is) (c.has.ensures ∙ has_wire _ c.args.w.0)
