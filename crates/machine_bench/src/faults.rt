@@ -113,7 +113,7 @@ pub fn bench_faults(alloc: Global, n: u32, shape: &Shape) -> Result<FaultSet, Al
     ensures faults { IfOk result (λ s. AreBenchFaults shape.now n s.faults) }
 {
     let mut set = FaultSet::none(alloc, *shape)?;
-    let mut draws = Draws::new(u64::from(n));
+    let mut draws = Draws::new(n as u64);
     'turns: for turn in 0..TURNS {
         take_turn(&mut draws, shape, &mut set)?;
     }
