@@ -14,27 +14,33 @@ use rig::Rig;
 use run_image::list_and_run;
 use std::alloc::Global;
 
+// The words that the command is given.
+#[derive(Clone, Copy)]
+struct Words<'a> {
+    machine: &'a str,
+    name: &'a str,
+    design: &'a str,
+    vectors: &'a str,
+}
+
 // Reads a machine and attaches it, reads a design, writes the list of the machine's defects, and runs the design on what
 // the list leaves free.
 fn work<S: Store, K: Sink>(
     alloc: Global,
-    machine: &str,
-    name: &str,
-    design: &str,
-    vectors: &str,
+    words: &Words<'_>,
     store: &mut S,
     rig: &mut Box<dyn Rig>,
     sink: &mut K,
 ) -> Result<(), Stop>
     ensures does { let old = outside (S.store_state store.old) (rig_state rig.old) (K.sink_state sink.old) in
         let new = outside (S.store_state store.new) (rig_state rig.new) (K.sink_state sink.new) in
-        Does ⊥ (go_job machine.now name.now design.now vectors.now) result old new }
+        Does ⊥ (go_job words.now.machine.now words.now.name.now words.now.design.now words.now.vectors.now) result old new }
 {
-    let shape = read_shape(alloc, store, machine)?;
-    attach(rig, &shape, name)?;
-    let netlist = read_design(alloc, DesignFile::Design, store, design)?;
+    let shape = read_shape(alloc, store, words.machine)?;
+    attach(rig, &shape, words.name)?;
+    let netlist = read_design(alloc, DesignFile::Design, store, words.design)?;
     let design = OneDesign(netlist);
-    list_and_run(alloc, &shape, &design, vectors, store, rig, sink)
+    list_and_run(alloc, &shape, &design, words.vectors, store, rig, sink)
 }
 
 /// Reads a machine and attaches it under a name, reads a design, and writes the list of the machine's defects. Then the
@@ -80,5 +86,11 @@ pub fn go<S: Store, K: Sink>(
     machine_shape::names_are_one_to_one();
     machine_shape::the_crosspoints_are_sound();
     machine_shape::the_numbering_is_sound();
-    work(alloc, machine, name, design, vectors, store, rig, sink)
+    let words = Words {
+        machine,
+        name,
+        design,
+        vectors,
+    };
+    work(alloc, &words, store, rig, sink)
 }

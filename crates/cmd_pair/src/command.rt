@@ -13,32 +13,38 @@ use rig::Rig;
 use run_image::list_and_run;
 use std::alloc::Global;
 
+// The words that the command is given.
+#[derive(Clone, Copy)]
+struct Words<'a> {
+    machine: &'a str,
+    name: &'a str,
+    first: &'a str,
+    second: &'a str,
+    vectors: &'a str,
+}
+
 // Reads a machine and attaches it, reads two designs, writes the list of the machine's defects, and runs both designs on what
 // the list leaves free.
 fn work<S: Store, K: Sink>(
     alloc: Global,
-    machine: &str,
-    name: &str,
-    first: &str,
-    second: &str,
-    vectors: &str,
+    words: &Words<'_>,
     store: &mut S,
     rig: &mut Box<dyn Rig>,
     sink: &mut K,
 ) -> Result<(), Stop>
     ensures does { let old = outside (S.store_state store.old) (rig_state rig.old) (K.sink_state sink.old) in
         let new = outside (S.store_state store.new) (rig_state rig.new) (K.sink_state sink.new) in
-        Does ⊥ (pair_job machine.now name.now first.now second.now vectors.now) result old new }
+        Does ⊥ (pair_job words.now.machine.now words.now.name.now words.now.first.now words.now.second.now words.now.vectors.now) result old new }
 {
-    let shape = read_shape(alloc, store, machine)?;
-    attach(rig, &shape, name)?;
-    let one = read_design(alloc, DesignFile::First, store, first)?;
-    let other = read_design(alloc, DesignFile::Second, store, second)?;
+    let shape = read_shape(alloc, store, words.machine)?;
+    attach(rig, &shape, words.name)?;
+    let one = read_design(alloc, DesignFile::First, store, words.first)?;
+    let other = read_design(alloc, DesignFile::Second, store, words.second)?;
     let both = TwoDesigns {
         first: one,
         second: other,
     };
-    list_and_run(alloc, &shape, &both, vectors, store, rig, sink)
+    list_and_run(alloc, &shape, &both, words.vectors, store, rig, sink)
 }
 
 /// Reads a machine and attaches it under a name, reads two designs, and writes the list of the machine's defects. Then both
@@ -85,7 +91,12 @@ pub fn pair<S: Store, K: Sink>(
     machine_shape::names_are_one_to_one();
     machine_shape::the_crosspoints_are_sound();
     machine_shape::the_numbering_is_sound();
-    work(
-        alloc, machine, name, first, second, vectors, store, rig, sink,
-    )
+    let words = Words {
+        machine,
+        name,
+        first,
+        second,
+        vectors,
+    };
+    work(alloc, &words, store, rig, sink)
 }

@@ -9,7 +9,7 @@ pub returns-in_err-shape : goal.returns-in_err-shape
 returns-in_err-shape g c = record {
   does =
       let p = err_from_is_err_and c.from_residual.result c.from_residual.ensures.1 in
-      rw (p.1, p.2) (unread c.args.machine.now c.args.name.now _ _ _ _ _ _ _ _ refl (c.in_err-shape.ensures.took _ _));
+      rw (p.1, p.2) (unread c.args.words.now.machine.now c.args.words.now.name.now _ _ _ _ _ _ _ _ refl (c.in_err-shape.ensures.took _ _));
 }
 
 pub returns-in_err-attach : goal.returns-in_err-attach
@@ -17,7 +17,7 @@ returns-in_err-attach g c = record {
   does =
       let p = err_from_is_err_and c.from_residual-in_err-attach.result c.from_residual-in_err-attach.ensures.1 in
       let e = c.in_err-attach.ensures in
-      rw (p.1, p.2) (unattached c.args.machine.now c.args.name.now _ _ _ _ _ _ _ c.in_ok-shape.shape (c.in_ok-shape.ensures.took _ _)
+      rw (p.1, p.2) (unattached c.args.words.now.machine.now c.args.words.now.name.now _ _ _ _ _ _ _ c.in_ok-shape.shape (c.in_ok-shape.ensures.took _ _)
       e.asked e.loads _ _ refl (e.took _ _));
 }
 
@@ -26,9 +26,9 @@ returns-in_err-one g c = record {
   does =
       let p = err_from_is_err_and c.from_residual-in_err-one.result c.from_residual-in_err-one.ensures.1 in
       let e = c.in_ok-attach.ensures in
-      rw (p.1, p.2) (attached-then c.args.machine.now c.args.name.now _ _ _ _ _ _ _ c.in_ok-shape.shape (c.in_ok-shape.ensures.took _ _)
+      rw (p.1, p.2) (attached-then c.args.words.now.machine.now c.args.words.now.name.now _ _ _ _ _ _ _ c.in_ok-shape.shape (c.in_ok-shape.ensures.took _ _)
       e.asked e.loads _ _ (e.took _ _) (λ has.
-      undrawn has First c.args.first.now _ _ _ _ _ refl (c.in_err-one.ensures.took _ _)));
+      undrawn has First c.args.words.now.first.now _ _ _ _ _ refl (c.in_err-one.ensures.took _ _)));
 }
 
 pub returns-in_err-other : goal.returns-in_err-other
@@ -36,26 +36,26 @@ returns-in_err-other g c = record {
   does =
       let p = err_from_is_err_and c.from_residual-in_err-other.result c.from_residual-in_err-other.ensures.1 in
       let e = c.in_ok-attach.ensures in
-      rw (p.1, p.2) (attached-then c.args.machine.now c.args.name.now _ _ _ _ _ _ _ c.in_ok-shape.shape (c.in_ok-shape.ensures.took _ _)
+      rw (p.1, p.2) (attached-then c.args.words.now.machine.now c.args.words.now.name.now _ _ _ _ _ _ _ c.in_ok-shape.shape (c.in_ok-shape.ensures.took _ _)
       e.asked e.loads _ _ (e.took _ _) (λ has.
-      drawn-then has First c.args.first.now _ _ _ c.in_ok-one.one _ _ (c.in_ok-one.ensures.took _ _) (λ more.
-      undrawn more Second c.args.second.now _ _ _ _ _ refl (c.in_err-other.ensures.took _ _))));
+      drawn-then has First c.args.words.now.first.now _ _ _ c.in_ok-one.one _ _ (c.in_ok-one.ensures.took _ _) (λ more.
+      undrawn more Second c.args.words.now.second.now _ _ _ _ _ refl (c.in_err-other.ensures.took _ _))));
 }
 
 pub list_and_run-requires : goal.list_and_run-requires
 list_and_run-requires g c =
     let box1 = c.attach.new.rig in
     let r1 = (goal.Rig-dyn g (box1.vtable, box1.value)).rig_state box1.value in
-    attached-shape r1 c.in_ok-shape.shape c.args.name.now (c.in_ok-attach.ensures.took (g.S.Store.store_state c.read_shape.new.store) (g.K.Sink.sink_state c.args.sink.now)).gives
+    attached-shape r1 c.in_ok-shape.shape c.args.words.now.name.now (c.in_ok-attach.ensures.took (g.S.Store.store_state c.read_shape.new.store) (g.K.Sink.sink_state c.args.sink.now)).gives
 
 pub returns : goal.returns
 returns g c = record {
   does =
       let e = c.in_ok-attach.ensures in
-      attached-then c.args.machine.now c.args.name.now _ _ _ _ _ _ _ c.in_ok-shape.shape (c.in_ok-shape.ensures.took _ _)
+      attached-then c.args.words.now.machine.now c.args.words.now.name.now _ _ _ _ _ _ _ c.in_ok-shape.shape (c.in_ok-shape.ensures.took _ _)
       e.asked e.loads _ _ (e.took _ _) (λ has.
-      drawn-then has First c.args.first.now _ _ _ c.in_ok-one.one _ _ (c.in_ok-one.ensures.took _ _) (λ more.
-      drawn-then more Second c.args.second.now _ _ _ c.in_ok-other.other _ _ (c.in_ok-other.ensures.took _ _) (λ all.
-      c.list_and_run.ensures.follows _ _ (c.args.second.now ∷ c.args.first.now ∷ c.args.machine.now ∷ [])
+      drawn-then has First c.args.words.now.first.now _ _ _ c.in_ok-one.one _ _ (c.in_ok-one.ensures.took _ _) (λ more.
+      drawn-then more Second c.args.words.now.second.now _ _ _ c.in_ok-other.other _ _ (c.in_ok-other.ensures.took _ _) (λ all.
+      c.list_and_run.ensures.follows _ _ (c.args.words.now.second.now ∷ c.args.words.now.first.now ∷ c.args.words.now.machine.now ∷ [])
       (g.S.Store.store_state c.args.store.now) all.loads all.failures all.read.place all.read.contents)));
 }
