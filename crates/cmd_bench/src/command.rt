@@ -33,28 +33,35 @@ fn loads_of(rig: &Box<dyn Rig>) -> u64
     rig.loads()
 }
 
-// Runs the design on what a list leaves free, and writes the summary with the loads that were made since there were so many.
+// The design, and what it may not stand on.
+#[derive(Clone, Copy)]
+struct Task<'a> {
+    netlist: &'a Netlist,
+    list: &'a Defects,
+}
+
+// Runs the design on what the list leaves free, and writes the summary with the loads that were made since there were so many.
 fn run_on<K: Sink>(
     alloc: Global,
     n: u32,
-    netlist: &Netlist,
-    list: &Defects,
+    task: &Task<'_>,
     begun: u64,
     rig: &mut Box<dyn Rig>,
     sink: &mut K,
 ) -> Result<(), Stop>
-    requires shape { shape_of (rig_state rig.old) ≡ Some list.now.shape }
-    requires netlist { netlist.now ≡ bench_draft }
+    requires shape { shape_of (rig_state rig.old) ≡ Some task.now.list.now.shape }
+    requires netlist { task.now.netlist.now ≡ bench_draft }
 
     // Whatever the store is: it isn't touched.
     ensures { (store : StoreState) →
         let old = outside store (rig_state rig.old) (K.sink_state sink.old) in
         let new = outside store (rig_state rig.new) (K.sink_state sink.new) in
         Follows ⊥ [] (new.rig.machine ≡ old.rig.machine)
-        (design_laid n netlist.now begun (store ≡ store) new.rig (record { list = list.now; loads = old.rig.loads })) result old new }
+        (design_laid n task.now.netlist.now begun (store ≡ store) new.rig
+        (record { list = task.now.list.now; loads = old.rig.loads })) result old new }
 {
     crate::generated_faults_leave_room();
-    let image = lay(alloc, netlist, list)?;
+    let image = lay(alloc, task.netlist, task.list)?;
     let ones = run_work(alloc, &image, n, rig)?;
     let text = summary(n, ones, loads_of(rig).saturating_sub(begun));
     write(sink, text.as_bytes())
@@ -75,7 +82,11 @@ fn work<K: Sink>(alloc: Global, n: u32, rig: &mut Box<dyn Rig>, sink: &mut K) ->
     attach(rig, &shape, name.as_str())?;
     let netlist = bench_netlist(alloc)?;
     let list = list_of(alloc, &shape, rig)?;
-    run_on(alloc, n, &netlist, &list, begun, rig, sink)
+    let task = Task {
+        netlist: &netlist,
+        list: &list,
+    };
+    run_on(alloc, n, &task, begun, rig, sink)
 }
 
 /// Attaches the machine that the number makes, lists its defects, lays the generated design on what the list leaves free,
