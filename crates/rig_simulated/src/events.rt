@@ -150,57 +150,64 @@ fn evaluate(
 fn flip_one(
     flip: Flip,
     frame: &Frame<'_>,
-    readers: &Readers,
-    queue: &mut Queue,
-    pulls: &mut Vec<usize>,
+    events: &mut Events,
     low_tables: &mut [bool],
     gates: &mut [Gate],
 )
     requires place { flip.place < length gates.old }
     requires pins { length frame.now.low_pins.now ≡ length frame.now.knots.now }
     requires tables { length low_tables.old ≡ length frame.now.knots.now }
-    requires sound { IsSound gates.old readers.now queue.old pulls.old.items low_tables.old }
+    requires sound { IsSound gates.old events.old.readers events.old.queue events.old.pulls.items low_tables.old }
     ensures len { length low_tables.new ≡ length low_tables.old }
-    ensures sound { IsSound gates.new readers.now queue.new pulls.new.items low_tables.new }
+    ensures readers { events.new.readers ≡ events.old.readers }
+    ensures flips { events.new.flips ≡ events.old.flips }
+    ensures listed { events.new.listed ≡ events.old.listed }
+    ensures sound { IsSound gates.new events.new.readers events.new.queue events.new.pulls.items low_tables.new }
     ensures gates { HasGiven flip.place flip.output gates.old gates.new }
-    ensures kept { KeepsMarks queue.old.marks.items queue.new.marks.items }
-    ensures inputs { InputsKept gates.old queue.new.marks.items (level_at frame.now.knots.now frame.now.low_pins.now low_tables.old)
+    ensures kept { KeepsMarks events.old.queue.marks.items events.new.queue.marks.items }
+    ensures inputs { InputsKept gates.old events.new.queue.marks.items (level_at frame.now.knots.now frame.now.low_pins.now low_tables.old)
         (level_at frame.now.knots.now frame.now.low_pins.now low_tables.new) }
 {
     let class = gates[flip.place].out;
     let before = level_at(frame.knots, frame.low_pins, low_tables, class);
-    give(gates, pulls, low_tables, flip.place, flip.output);
+    give(
+        gates,
+        &mut events.pulls,
+        low_tables,
+        flip.place,
+        flip.output,
+    );
     if level_at(frame.knots, frame.low_pins, low_tables, class) == before {
         return;
     }
-    add_readers(readers, flip.place, class, queue);
+    add_readers(&events.readers, flip.place, class, &mut events.queue);
 }
 
 /// Lets the tables that change give something else, and lists those that read a class whose level changes so.
 fn flip_all(
-    flips: &Vec<Flip>,
+    events: &mut Events,
     count: usize,
     frame: &Frame<'_>,
-    readers: &Readers,
-    queue: &mut Queue,
-    pulls: &mut Vec<usize>,
     low_tables: &mut [bool],
     gates: &mut [Gate],
 )
-    requires room { count ≤ length flips.now.items }
-    requires within { (j : ℕ) (d : Flip) → j < count → (slice_index_or flips.now.items j d).place < length gates.old }
+    requires room { count ≤ length events.old.flips.items }
+    requires within { (j : ℕ) (d : Flip) → j < count → (slice_index_or events.old.flips.items j d).place < length gates.old }
     requires pins { length frame.now.low_pins.now ≡ length frame.now.knots.now }
     requires tables { length low_tables.old ≡ length frame.now.knots.now }
-    requires sound { IsSound gates.old readers.now queue.old pulls.old.items low_tables.old }
+    requires sound { IsSound gates.old events.old.readers events.old.queue events.old.pulls.items low_tables.old }
     ensures len { length low_tables.new ≡ length low_tables.old }
-    ensures sound { IsSound gates.new readers.now queue.new pulls.new.items low_tables.new }
+    ensures readers { events.new.readers ≡ events.old.readers }
+    ensures flips { events.new.flips ≡ events.old.flips }
+    ensures listed { events.new.listed ≡ events.old.listed }
+    ensures sound { IsSound gates.new events.new.readers events.new.queue events.new.pulls.items low_tables.new }
     ensures alike { AreAlike gates.old gates.new }
-    ensures put { PutFlips gates.old flips.now.items count count gates.new }
-    ensures inputs { InputsKept gates.old queue.new.marks.items (level_at frame.now.knots.now frame.now.low_pins.now low_tables.old)
+    ensures put { PutFlips gates.old events.old.flips.items count count gates.new }
+    ensures inputs { InputsKept gates.old events.new.queue.marks.items (level_at frame.now.knots.now frame.now.low_pins.now low_tables.old)
         (level_at frame.now.knots.now frame.now.low_pins.now low_tables.new) }
 {
     'flips: for j in 0..count {
-        flip_one(flips[j], frame, readers, queue, pulls, low_tables, gates);
+        flip_one(events.flips[j], frame, events, low_tables, gates);
     }
 }
 
@@ -229,16 +236,7 @@ fn tick_listed(
 {
     let count = evaluate(frame, low_tables, gates, &events.queue, &mut events.flips);
     empty(&mut events.queue);
-    flip_all(
-        &events.flips,
-        count,
-        frame,
-        &events.readers,
-        &mut events.queue,
-        &mut events.pulls,
-        low_tables,
-        gates,
-    );
+    flip_all(events, count, frame, low_tables, gates);
     count
 }
 
