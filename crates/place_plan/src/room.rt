@@ -132,21 +132,27 @@ fn push_ports(
     Ok(())
 }
 
+// What nets have been given, node by node.
+#[derive(Drop)]
+struct Holdings {
+    ports: Vec<Port>,
+    visits: Vec<Visit>,
+}
+
 // Gives the nets at a node their ports and lines; or says what is short there.
 fn node_room(
     alloc: Global,
     defects: &Defects,
     nets: &[Items<u32>],
     board: &Board,
-    held: &mut Vec<Port>,
-    visits: &mut Vec<Visit>,
+    held: &mut Holdings,
     node: u32,
 ) -> Result<Option<Short>, AllocError>
     requires node { node < nodes_of defects.now.shape }
     requires within { All (AreWires defects.now.shape) nets.now }
     requires board { IsBoardOf defects.now nets.now board.now }
     ensures enough { IfOk result (λ o. IfNone o (IsRoomAt defects.now.shape defects.now.list (length nets.now)
-        (HasTerminal nets.now) node held.old.items visits.old.items held.new.items visits.new.items)) }
+        (HasTerminal nets.now) node held.old.ports.items held.old.visits.items held.new.ports.items held.new.visits.items)) }
     ensures short { IfOk result (λ o. IfSome o (NodeIsShort defects.now.shape defects.now.list (length nets.now)
         (HasTerminal nets.now) node)) }
 {
@@ -155,8 +161,8 @@ fn node_room(
     if let Some(short) = lack_of_ports(alloc, crossing, ports, node) {
         return Ok(Some(short));
     }
-    push_ports(held, crossing, ports, node)?;
-    let short = choose_lines(alloc, defects, nets, board, visits, node)?;
+    push_ports(&mut held.ports, crossing, ports, node)?;
+    let short = choose_lines(alloc, defects, nets, board, &mut held.visits, node)?;
     Ok(short)
 }
 
@@ -171,13 +177,16 @@ fn rooms(
     requires board { IsBoardOf defects.now nets.now board.now }
     ensures { IfOk result (IsNodesRoom defects.now.shape defects.now.list (length nets.now) (HasTerminal nets.now)) }
 {
-    let mut ports = Vec::new(alloc);
-    let mut visits = Vec::new(alloc);
+    let mut held = Holdings {
+        ports: Vec::new(alloc),
+        visits: Vec::new(alloc),
+    };
     for n in 0..defects.shape().nodes() {
-        if let Some(short) = node_room(alloc, defects, nets, board, &mut ports, &mut visits, n)? {
+        if let Some(short) = node_room(alloc, defects, nets, board, &mut held, n)? {
             return Ok(Room::Lacks(short));
         }
     }
+    let Holdings { ports, visits } = held;
     Ok(Room::Enough { ports, visits })
 }
 

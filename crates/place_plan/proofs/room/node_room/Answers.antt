@@ -24,7 +24,7 @@ returns-clause-enough c =
     let D = c.args.defects.now in
     let nets : List (List ℕ) = c.args.nets.now in
     let n : ℕ = c.args.node in
-    let G = GoOn D.shape D.list (length nets) (HasTerminal nets) n c.args.visits.now.items c.choose_lines.new.visits.items in
+    let G = GoOn D.shape D.list (length nets) (HasTerminal nets) n c.args.held.now.visits.items c.choose_lines.new.visits.items in
     let given : IfNone c.in_ok-short.short G = c.in_ok-short.ensures.given in
     none_then c.in_ok-short.short G _ given (λ go. record {
       crossing = c.as_slice-crossing.result.now;

@@ -22,9 +22,9 @@ pub loop-n-preserved : goal.loop-n-preserved
 loop-n-preserved c =
     let D = c.args.defects.now in
     let nets : List (List ℕ) = c.args.nets.now in
-    let R = IsRoomAt D.shape D.list (length nets) (HasTerminal nets) c.loop-n.n c.loop-n.ports.items c.loop-n.visits.items c.node_room.new.held.items c.node_room.new.visits.items in
+    let R = IsRoomAt D.shape D.list (length nets) (HasTerminal nets) c.loop-n.n c.loop-n.held.ports.items c.loop-n.held.visits.items c.node_room.new.held.ports.items c.node_room.new.held.visits.items in
     let none : IfNone c.in_ok-short.field-0 R = c.in_ok-short.ensures.enough in
-    enough_more D.shape D.list (length nets) (HasTerminal nets) c.loop-n.n c.loop-n.ports.items c.node_room.new.held.items c.loop-n.visits.items c.node_room.new.visits.items c.loop-n.invariant (at_none c.in_ok-short.field-0 R c.in_default.not-Some none)
+    enough_more D.shape D.list (length nets) (HasTerminal nets) c.loop-n.n c.loop-n.held.ports.items c.node_room.new.held.ports.items c.loop-n.held.visits.items c.node_room.new.held.visits.items c.loop-n.invariant (at_none c.in_ok-short.field-0 R c.in_default.not-Some none)
 
 pub returns : goal.returns
 returns c =
@@ -33,4 +33,4 @@ returns c =
     let nets : List (List ℕ) = c.args.nets.now in
     let nodes : c.nodes-n-end.result ≡ nodes_of m = c.nodes-n-end.ensures.nodes ∙ ap nodes_of c.shape.ensures.shape in
     let e : c.loop-n.n ≡ c.nodes-n-end.result = omega arith in
-    subst (λ (z : ℕ). IsEnough m D.list (length nets) (HasTerminal nets) z c.loop-n.ports.items c.loop-n.visits.items) (e ∙ nodes) c.loop-n.invariant
+    subst (λ (z : ℕ). IsEnough m D.list (length nets) (HasTerminal nets) z c.loop-n.held.ports.items c.loop-n.held.visits.items) (e ∙ nodes) c.loop-n.invariant
