@@ -48,14 +48,20 @@ fn toggle_cross(
     Ok(Some(yes))
 }
 
+// A cell of a table, each by its number.
+#[derive(Clone, Copy)]
+struct CellOf {
+    table: u32,
+    address: u8,
+}
+
 // Toggles a cell of a table that is on, and reads a pin.
 fn toggle_cell(
     alloc: Global,
     rig: &mut Box<dyn Rig>,
     facts: &mut Facts,
     setup: &Setup,
-    t: u32,
-    address: u8,
+    cell: CellOf,
     at: u32,
 ) -> Result<Option<bool>, RigFail>
     requires attached { shape_of (rig_state rig.old) ≡ Some facts.old.shape }
@@ -71,6 +77,7 @@ fn toggle_cell(
         drive,
         ..
     } = laid;
+    let CellOf { table: t, address } = cell;
     if t >= shape.tables() {
         return Ok(None);
     }
@@ -219,7 +226,10 @@ pub fn answer(
     match (key, numbers) {
         ("toggle", [c, at]) => toggle_cross(alloc, rig, facts, setup, *c, *at),
         ("cell", [t, address, at]) => match u8::try_from(*address) {
-            Ok(address) => toggle_cell(alloc, rig, facts, setup, *t, address, *at),
+            Ok(address) => {
+                let cell = CellOf { table: *t, address };
+                toggle_cell(alloc, rig, facts, setup, cell, *at)
+            }
             Err(_) => Ok(None),
         },
         ("register", [t, at]) => toggle_register(alloc, rig, facts, setup, *t, *at),
