@@ -24,7 +24,7 @@ use machine_faults::FaultSet;
 use rig::PinBits;
 
 /// Makes one tick. Whether a table gives something else now.
-fn tick(frame: &Frame<'_>, low_tables: &mut [bool], gates: &mut [Gate]) -> bool
+fn tick(frame: &Frame<'_, '_, '_>, low_tables: &mut [bool], gates: &mut [Gate]) -> bool
     requires fits { All (Fits (tables_of frame.now.faults.now.shape) (length frame.now.knots.now)) gates.old }
     requires pins { length frame.now.low_pins.now ≡ length frame.now.knots.now }
     requires tables { length low_tables.old ≡ length frame.now.knots.now }
@@ -42,7 +42,7 @@ fn tick(frame: &Frame<'_>, low_tables: &mut [bool], gates: &mut [Gate]) -> bool
 }
 
 /// Makes so many ticks. After one that changes nothing all further ones are the same, and are left out.
-fn tick_on(frame: &Frame<'_>, low_tables: &mut [bool], gates: &mut [Gate], ticks: u16)
+fn tick_on(frame: &Frame<'_, '_, '_>, low_tables: &mut [bool], gates: &mut [Gate], ticks: u16)
     requires fits { All (Fits (tables_of frame.now.faults.now.shape) (length frame.now.knots.now)) gates.old }
     requires pins { length frame.now.low_pins.now ≡ length frame.now.knots.now }
     requires tables { length low_tables.old ≡ length frame.now.knots.now }
@@ -62,7 +62,7 @@ fn tick_on(frame: &Frame<'_>, low_tables: &mut [bool], gates: &mut [Gate], ticks
 /// Makes so many ticks, or fewer that lead to the same: after one that changes nothing, and after those that lead back to
 /// what the tables gave before, which would do so over and over.
 fn tick_times(
-    frame: &Frame<'_>,
+    frame: &Frame<'_, '_, '_>,
     low_tables: &mut [bool],
     gates: &mut [Gate],
     past: &mut Past,
@@ -103,7 +103,7 @@ pub struct Manner<'a> {
 /// what the combinational tables gave before doesn't matter after the ticks, all that is left to do is to come to rest,
 /// for which the tables are evaluated in their order first.
 fn settle(
-    frame: &Frame<'_>,
+    frame: &Frame<'_, '_, '_>,
     manner: &Manner<'_>,
     low_tables: &mut [bool],
     gates: &mut [Gate],
@@ -149,7 +149,7 @@ fn settle(
 
 /// Reads the pins, and makes the clock edge.
 fn clock(
-    frame: &Frame<'_>,
+    frame: &Frame<'_, '_, '_>,
     low_tables: &mut [bool],
     gates: &mut [Gate],
     pins: &[u32],

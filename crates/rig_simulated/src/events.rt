@@ -94,17 +94,17 @@ pub fn list_tables(events: &mut Events, gates: &[Gate], is_worth: bool) -> Resul
 
 /// What stays the same while a machine ticks.
 #[derive(Clone, Copy)]
-pub struct Frame<'a> {
+pub struct Frame<'a, 'b, 'c> {
     pub faults: &'a FaultSet,
     /// By classes.
-    pub knots: &'a [ClassNode],
+    pub knots: &'b [ClassNode],
     /// By classes: whether a pin of the machine that is driven 0 pulls it.
-    pub low_pins: &'a [bool],
+    pub low_pins: &'c [bool],
 }
 
 /// Evaluates the tables that are listed, and notes those that give something else. How many these are.
 fn evaluate(
-    frame: &Frame<'_>,
+    frame: &Frame<'_, '_, '_>,
     low_tables: &[bool],
     gates: &[Gate],
     queue: &Queue,
@@ -149,7 +149,7 @@ fn evaluate(
 /// Lets a table give something else, and lists the tables that read its class if its level changes so.
 fn flip_one(
     flip: Flip,
-    frame: &Frame<'_>,
+    frame: &Frame<'_, '_, '_>,
     events: &mut Events,
     low_tables: &mut [bool],
     gates: &mut [Gate],
@@ -187,7 +187,7 @@ fn flip_one(
 fn flip_all(
     events: &mut Events,
     count: usize,
-    frame: &Frame<'_>,
+    frame: &Frame<'_, '_, '_>,
     low_tables: &mut [bool],
     gates: &mut [Gate],
 )
@@ -214,7 +214,7 @@ fn flip_all(
 /// Makes one tick. How many tables give something else after it.
 fn tick_listed(
     events: &mut Events,
-    frame: &Frame<'_>,
+    frame: &Frame<'_, '_, '_>,
     low_tables: &mut [bool],
     gates: &mut [Gate],
 ) -> usize
@@ -243,7 +243,7 @@ fn tick_listed(
 /// Makes so many ticks. Once no table is to be evaluated all further ones change nothing, and are left out.
 fn tick_listed_on(
     events: &mut Events,
-    frame: &Frame<'_>,
+    frame: &Frame<'_, '_, '_>,
     low_tables: &mut [bool],
     gates: &mut [Gate],
     ticks: u16,
@@ -275,7 +275,7 @@ fn tick_listed_on(
 /// the tables.
 fn tick_listed_times(
     events: &mut Events,
-    frame: &Frame<'_>,
+    frame: &Frame<'_, '_, '_>,
     low_tables: &mut [bool],
     gates: &mut [Gate],
     past: &mut Past,
@@ -316,7 +316,7 @@ fn tick_listed_times(
 /// Whether more than half of them changed more than a quarter of the tables.
 pub fn settle_listed(
     events: &mut Events,
-    frame: &Frame<'_>,
+    frame: &Frame<'_, '_, '_>,
     low_tables: &mut [bool],
     gates: &mut [Gate],
     past: &mut Past,
