@@ -46,7 +46,7 @@ abbrev pub StartFails : StoreFail → List ℕ → StoreState → StoreState →
 StartFails Failed name old new = IsFailure old new × (new.asked ≡ old.asked ++ name ∷ [])
 StartFails Memory name old new = new ≡ old
 
--- what a refusal of `read` says: it is never want of memory
+-- what a refusal of `read` says: it is never a lack of memory
 abbrev pub ReadFails : StoreFail → StoreState → StoreState → Type 0
 ReadFails Failed old new = IsFailure old new
 ReadFails Memory old new = ⊥

@@ -7,7 +7,7 @@ use Rattle.base_io.specs.Store.{StoreState}
 use Rattle.base_io.specs.declared.store.StoreFail.{StoreFail}
 use Rattle.base_io.specs.declared.store.StoreFail.TheVariants.{Failed, Memory}
 
--- what a refusal says: a failure is counted and leaves no file current, and want of memory may come
+-- what a refusal says: a failure is counted and leaves no file current, and lack of memory may come
 -- before the name is asked or after it
 abbrev pub WholeFails : StoreFail → List ℕ → StoreState → StoreState → Type 0
 WholeFails Failed name old new = Rose old.failures new.failures × (new.asked ≡ old.asked ++ name ∷ []) × (new.current ≡ None)

@@ -46,7 +46,7 @@ impl<T> Items<T> {
         &self.list
     }
 
-    /// Adds an element at the end. Where memory is wanting, nothing changes and the element comes back.
+    /// Adds an element at the end. Where memory is lacking, nothing changes and the element comes back.
     pub fn push(&mut self, x: T) -> Result<(), AllocFailed<T>>
         ensures pushed { OnOk result (self.new ≡ self.old ++ x ∷ []) }
         ensures kept { IfErr result (λ _. self.new ≡ self.old) }

@@ -4,7 +4,7 @@ use Rattle.base_text.specs.declared.lines.LineFault.{LineFault}
 use Rattle.base_text.specs.declared.lines.LineFault.TheVariants.{BadByte, Memory}
 use Rattle.base_text.specs.Lines.{LogicalLine, is_bad_line}
 
--- the first of the lines has a bad byte, and this number; of want of memory nothing is said
+-- the first of the lines has a bad byte, and this number; of a lack of memory nothing is said
 abbrev pub IsFaultAt : List LogicalLine → LineFault → Type 0
 IsFaultAt lines Memory = Unit {0}
 IsFaultAt [] (BadByte n) = ⊥

@@ -83,7 +83,7 @@ pub fn write_digits(digits: &mut [u8; MOST_DIGITS], n: u64) -> usize
     }
 }
 
-/// Appends the decimal numeral of `n`, without leading zeros. Where memory is wanting, the text is as it was.
+/// Appends the decimal numeral of `n`, without leading zeros. Where memory is lacking, the text is as it was.
 pub fn put_number(text: &mut Vec<u8>, n: u64) -> Result<(), AllocError>
     ensures put { OnOk result (text.new.items ≡ text.old.items ++ decimal n) }
     ensures kept { OnErr result (text.new.items ≡ text.old.items) }

@@ -21,7 +21,7 @@ abbrev IsTried : Outside → Outside → Shape → Result (Unit {0}) Stop → Li
 IsTried old mid m tried name = Took [] (attaches (named name m) old.rig mid.rig) tried old mid
 
 module _ {U : Type 0} (n : ℕ) (result : Result U Stop) (old : Outside) where
-  -- memory was wanting for the name
+  -- memory was lacking for the name
   pub unnamed : result ≡ Err (Refused Memory) → Does ⊥ (bench_job n) result old old
   unnamed is =
       step-stops _ _ _ makes_shape [] [] _ _ result old old is (took-nothing makes_shape _ old refl tt) tt (refl, refl) (inl refl)

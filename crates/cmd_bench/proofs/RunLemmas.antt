@@ -69,7 +69,7 @@ module _ (n : ℕ) (i : ImageValue) (old new : RigState) (store : StoreState) (s
   load-stopped Failed machine later same fails = rig-stopped (runs n i old.loads new) old new store sink machine later (stop_of_rig Failed) (inl same) fails
   load-stopped Memory machine later same fails = rig-stopped (runs n i old.loads new) old new store sink machine later (stop_of_rig Memory) same tt
 
-  -- there is room for each row, so memory is wanting for none
+  -- there is room for each row, so memory is lacking for none
   pub row-stopped : (fail : RigFail) (mid : RigState) (k ones : ℕ) → k < 64 → IsRunning n i old mid k ones → new.machine ≡ mid.machine → mid.failures ≤ new.failures → new.loads ≡ mid.loads → CycleFails fail mid new → Took [] (runs n i old.loads new) (Err (stop_of_rig fail)) (outside store old sink) (outside store new sink)
   row-stopped Failed mid k ones within is machine later loads fails =
       rig-stopped (runs n i old.loads new) old new store sink (machine ∙ is.machine) (omega (arith, is.later, later)) (stop_of_rig Failed) (inr (loads ∙ is.loads)) (omega (arith, is.later, fails.0))

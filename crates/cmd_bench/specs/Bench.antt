@@ -89,7 +89,7 @@ pub record RunsOnes (r : Rows) (vector : List Bool) (old new : RigState) (ones :
   pub ones_are : ones ≡ ones_in row
   pub few : ones ≤ 2
 
--- the rig fails at the load or after it; want of memory comes before the load alone, where room for all the vectors is asked for
+-- the rig fails at the load or after it; lack of memory comes before the load alone, where room for all the vectors is asked for
 abbrev pub NotRun : (before : ℕ) → RigState → Refusal → Type 0
 NotRun before rig refused.Rig = LoadsOnce before rig.loads
 NotRun before rig refused.Memory = rig.loads ≡ before

@@ -74,7 +74,7 @@ fn next_ones(run: &mut Run, rig: &mut Box<dyn Rig>, n: u32, k: u32) -> Result<u3
 }
 
 /// Loads an image with room for as many rows as there are vectors, drives the vectors of the number, and counts the ones in
-/// its rows. Want of memory comes before the load alone.
+/// its rows. Lack of memory comes before the load alone.
 pub fn run_work(alloc: Global, image: &Image, n: u32, rig: &mut Box<dyn Rig>) -> Result<u32, Stop>
     requires shape { shape_of (rig_state rig.old) ≡ Some image.now.config.shape }
     requires one { length image.now.inputs ≡ 1 }

@@ -26,7 +26,7 @@ module _ (machine name image : List ℕ) (old new : Around) where
       IsWell old new (answer_written (image ∷ machine ∷ []) old.store new.store new.rig loads i a)
   written-well i loads a = well-write old new _ _ _ (well-done old new _)
 
-  -- right files are refused for nothing but what the store and the rig do, and want of memory
+  -- right files are refused for nothing but what the store and the rig do, and lack of memory
   check-well : CheckRight (check_files old.store machine image) → IsWell old new (check_course machine name image old new)
   check-well right =
       machine-well old new machine name _ _ right.machine.bytes right.shape right.machine.is_told right.machine.says right.machine.within

@@ -22,7 +22,7 @@ use Rattle.cmd_check.specs.declared.answer.Answer.TheVariants.{Sound}
 
 -- ---- the steps
 
--- memory is wanting
+-- memory is lacking
 abbrev pub Lacks : Refusal → Type 0
 Lacks refused.Memory = Unit {0}
 Lacks refusal = ⊥

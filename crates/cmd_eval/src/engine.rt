@@ -5,7 +5,7 @@ ghost use Rattle.cmd_eval.specs.Runs.{IsFirstOf, IsNetworkOf, RowsLeft};
 use design_eval::Eval;
 use design_netlist::Netlist;
 use map_eval::{MOST_TABLES, NetworkEval};
-use map_network::{merged, plain_size};
+use map_network::{merge_tables, plain_size};
 use std::alloc::{AllocError, Global};
 use std::marker::Model;
 
@@ -45,7 +45,7 @@ fn network_for(alloc: Global, netlist: &Netlist) -> Result<Option<NetworkEval>, 
     if plain_size(alloc, netlist)? > MOST_TABLES as u64 {
         return Ok(None);
     }
-    let network = merged(alloc, netlist)?;
+    let network = merge_tables(alloc, netlist)?;
     let started = NetworkEval::start(alloc, &network)?;
     Ok(started)
 }

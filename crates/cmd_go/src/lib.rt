@@ -1,6 +1,6 @@
 //! The command that runs a design on a machine of the rig, whatever is wrong with it.
 //!
-//! Promised (`go`): it does its job to every end (`does`), and the job is lawful: right files lead to status 0, want of memory or
+//! Promised (`go`): it does its job to every end (`does`), and the job is lawful: right files lead to status 0, lack of memory or
 //! a failure, and no room on the list that stands written to status 3 (`lawful`). What it has done, at every end and at status 0:
 //! `Promises`.
 #![tactic(auto)]

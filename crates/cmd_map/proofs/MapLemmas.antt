@@ -39,7 +39,7 @@ fit-counted d read stop o stops = absurd stops
 pub fit-took : (d : DefectList) (read : DesignText) (stop : Stop) (o : Outside) → PlanStops d (plain_network read.netlist) stop → Took {T = Remapped} [] (maps_within d read) (Err stop) o o
 fit-took d read stop o stops = took-stop (maps_within d read) stop o (fit-stops d read stop stops) (fit-counted d read stop o stops)
 
--- want of memory is excused
+-- lack of memory is excused
 pub map-excused : (old new : Around) (refusal : Refusal) → NotMapped refusal → IsExcused refusal old new
 map-excused old new refused.Memory stops = tt
 map-excused old new refusal stops = absurd stops

@@ -30,7 +30,7 @@ pub record WroteRightImage (list : DefectList) (draft : NetlistData) (old new : 
   pub written : Wrote old.sink.written new.sink.written (image_bytes image)
   pub right : (f : Faults) → Covers list.shape list.list f → IsRightImage f image draft
 
--- Then all is right for `compile` with that text, so where no count rises it ends with status 0 or for want of memory; and the
+-- Then all is right for `compile` with that text, so where no count rises it ends with status 0 or for lack of memory; and the
 -- image that it writes is right for the design as given
 pub record FitsThenCompiles (machine defects design name : List ℕ) (old new handed : Outside) (f : IsFitted machine defects design old new)
     : Type 0 where

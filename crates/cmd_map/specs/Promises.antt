@@ -18,6 +18,6 @@ pub record MapPromises (words : List (List ℕ)) (status : ℕ) (old new : Outsi
   pub mapped : (design : List ℕ) → words ≡ design ∷ [] → status ≡ 0 → IsMapped design old new
   pub fitted : (machine defects design : List ℕ) → words ≡ machine ∷ defects ∷ design ∷ [] → status ≡ 0 →
       IsFitted machine defects design old new
-  -- right texts, and room where it is asked for, give status 0 or want of memory, unless a count of the store or the sink rose
+  -- right texts, and room where it is asked for, give status 0 or out of memory, unless a count of the store or the sink rose
   pub complete : (job_of (asked_by words)).right (around old) (around new) [] →
       ((status ≡ 0) ⊎ (status ≡ 6)) ⊎ (Rose old.store.failures new.store.failures ⊎ Rose old.sink.failures new.sink.failures)

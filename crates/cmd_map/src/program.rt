@@ -60,7 +60,7 @@ fn end<S: Store, K: Sink>(alloc: Global, words: &[String], store: &mut S, sink: 
 /// - 2: the words aren't right;
 /// - 3: there is no room for the design as given, and none for what was tried;
 /// - 5: the store or the sink failed;
-/// - 6: memory was wanting.
+/// - 6: memory was lacking.
 ///
 /// The first step that refuses ends the program, and the line that says why is all that is written, unless the sink failed.
 pub fn teramac_map<S: Store, K: Sink>(

@@ -59,7 +59,7 @@ fn image_for(
 }
 
 // An image of both designs on what the list leaves free, by the in-order plan of the joint network of their plain networks. More
-// tables than can be numbered are want of memory.
+// tables than can be numbered count as a lack of memory.
 fn lay_both(alloc: Global, first: &Netlist, second: &Netlist, list: &Defects) -> Result<Image, Stop>
     // Whatever is around it.
     ensures took { (o : Outside) → Took [] (lays_both list.now first.now second.now) result o o }

@@ -57,7 +57,7 @@ pub record LacksPlanRoom (d : DefectList) (i : ImageValue) : Type 0 where
   pub short : Short
   pub is_short : IsShortPlan d.list i short
 
--- it isn't repaired: the plan is short, and this is the first thing that it is short of; or memory is wanting
+-- it isn't repaired: the plan is short, and this is the first thing that it is short of; or memory is lacking
 abbrev pub NotRepaired : DefectList → ImageValue → Refusal → Type 0
 NotRepaired d i (refused.Room place) = (place.shape ≡ d.shape) × IsShortPlan d.list i place.short
 NotRepaired d i refused.Memory = Unit {0}

@@ -35,8 +35,8 @@ pub fn take_few(image: &Image) -> Result<(), Stop>
 ///
 /// # Errors
 ///
-/// The refusal for want of room exactly where the plan doesn't fit, with the first short resource, unless memory is wanting;
-/// want of memory.
+/// The refusal for want of room exactly where the plan doesn't fit, with the first short resource, unless memory is lacking;
+/// lack of memory.
 pub fn repaired(alloc: Global, image: &Image, list: &Defects) -> Result<Image, Stop>
     requires few { set.len image.now.config.closed ≤ most_closed }
     requires shape { list.now.shape ≡ image.now.config.shape }

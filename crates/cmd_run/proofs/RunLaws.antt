@@ -37,7 +37,7 @@ module _ (machine name image vectors : List ℕ) (old new : Around) where
         leads = λ text next. image-well (rows i) (begin i) old new right.vectors.bytes right.vectors.is_told right.vectors.no_fault text next tt;
       })))
 
-  -- after the line `outputs` memory is wanting only for more rows than there was room for
+  -- after the line `outputs` memory is lacking only for more rows than there was room for
   run-few : RunFew t → (text more : List ℕ) → text ≡ outputs_line ++ more →
       run_course machine name image vectors old new text (refuses Memory) → ⊥
   run-few few text more begins (inl h) = let empty = h.0 in absurd (cc)

@@ -101,7 +101,7 @@ module _ (words : Type 0) (course : Course) (old new : Outside) where
   end-outside _ (no_line refusal text s l w) h = absurd cc
   end-outside _ (cut text line n p r w) h = inr r
 
-  -- want of memory, over a sink that can't answer so
+  -- lack of memory, over a sink that can't answer so
   memory-refused : (refusal : Refusal) (text : List ℕ) → status_of refusal ≡ 6 → old.sink.can_lack ≡ false → Stands words course old new refusal text → Wrote old.sink.written new.sink.written (text ++ refusal_text refusal) → IsRefused course old new NoMemory
   memory-refused NoMemory text h none (inl s) w = (text, s.1, w)
   memory-refused refusal text h none (inl s) w = absurd cc
@@ -143,7 +143,7 @@ fronts-of P old new text more all wrote front rest is =
     all front (rest ++ more) (subst (λ t. Wrote old.written new.written t) longer wrote)
 
 module _ (words : Type 0) (old new : Outside) where
-  -- what isn't refused for its text is refused for a count that rose, or for want of memory
+  -- what isn't refused for its text is refused for a count that rose, or for lack of memory
   excused-rose : (refusal : Refusal) → IsCounted words (Refused refusal) old new → IsExcused refusal (around old) (around new) → (refusal ≡ NoMemory) ⊎ SomethingRose old new
   excused-rose Rig why is = inr (inr (inl why))
   excused-rose Store why is = inr (inl (inl why))

@@ -28,7 +28,7 @@ module _ (w : RowWork) (told : Told) (vectors : List ℕ) (files : List (List �
       (λ _ refusal stops. open-excused old new refusal stops)
       (λ _ _. write-leads outputs_line here (all_rows w) (λ text. Unit {0}) (EndsWell old new) tt (rows-well old new w bytes (λ text. Unit {0}) is none))
 
-  -- behind the line `outputs` memory is wanting for a row alone
+  -- behind the line `outputs` memory is lacking for a row alone
   pub opened-lacks : (text more : List ℕ) → text ≡ outputs_line ++ more → opened told vectors files begun ended here (all_rows w) text (refuses Memory) → (rows : List ℕ) × all_rows w rows (refuses Memory)
   opened-lacks text more begins (inl h) = let empty = h.0 in absurd (cc)
   opened-lacks text more begins (inr (u, present, inl h)) = let line = h.1 in absurd (cc)

@@ -19,7 +19,7 @@ abbrev pub opened : Told → (vectors : List ℕ) → (files : List (List ℕ)) 
 opened told vectors files begun ended here rows = after (opens told) (StandsIn (vectors ∷ files) begun ended) (λ _. write outputs_line here rows)
 
 module _ (told : Told) (vectors : List ℕ) (files : List (List ℕ)) (begun : StoreState) (here : Type 0) (rows : Course) (old : Outside) (same : old.store.contents vectors ≡ told) (stands : StandsIn files begun old.store) where
-  -- memory was wanting for the rows
+  -- memory was lacking for the rows
   pub opening-lacks : {U : Type 0} (result : Result U Stop) → result ≡ Err (Refused Memory) → Follows ⊥ (vectors ∷ []) (Unit {0}) (opened told vectors files begun old.store here rows) result old old
   opening-lacks result is =
       step-stops (opens told) (StandsIn (vectors ∷ files) begun old.store) (λ _. write outputs_line here rows) (opens told) [] (vectors ∷ []) (Unit {0}) _ result old old is (took-nothing (opens told) _ old refl tt) tt (inl stands) tt

@@ -1,4 +1,4 @@
--- Steps that leave the machine as it is, and stop: by the fault of the rig, or for want of memory.
+-- Steps that leave the machine as it is, and stop: by the fault of the rig, or for lack of memory.
 use Rattle.std.proofs.Common.{◌≡◌, ◌≤◌, [], refl}
 use Rattle.std.specs.Prelude.{Result, Err}
 use Rattle.base_io.specs.Counts.{Rose}
@@ -39,7 +39,7 @@ module _ {T U : Type 0} (step : Step T) (here : Type 0) (rest : T → Course) wh
       kept-stops step here rest made (Refused refusal) result old new is took (stops refusal) at same
   kept-refuses made (Sink fail) result old new is took stops at same = absurd took.stops
 
-  -- memory is wanting for what touches nothing
+  -- memory is lacking for what touches nothing
   pub kept-lacks : (result : Result U Stop) (o : Outside) → result ≡ Err (Refused refused.Memory) → step.stops refused.Memory → here →
       Follows ⊥ [] (o.rig.machine ≡ o.rig.machine) (after step here rest) result o o
   kept-lacks result o is stops at =

@@ -51,7 +51,7 @@ took-stop step stop o = stopped-quietly step (later-same o) stop
 pub took-value : {T : Type 0} (step : Step T) (x : T) (o : Outside) → step.gives x → Took [] step (Ok x) o o
 took-value step x o = took-quietly step (later-same o) x
 
--- memory was wanting where a step was to be made
+-- memory was lacking where a step was to be made
 pub took-nothing : {T : Type 0} (step : Step T) (result : Result T Stop) (o : Outside) → result ≡ Err (Refused Memory) → step.stops Memory → Took [] step result o o
 took-nothing step result o is stops = rw is (took-stop step (Refused Memory) o stops tt)
 
@@ -138,7 +138,7 @@ pub read-gives : {T U : Type 0} (step : Step T) (here : Type 0) (rest : T → Co
 read-gives step here rest name more asks x result old mid new took rest_is =
     step-gives step here rest step (name ∷ []) more asks asks x x result old mid new took took.gives rest_is rest_is.machines
 
--- something was given, but memory was wanting for what is made of it
+-- something was given, but memory was lacking for what is made of it
 pub took-lacks : {T V : Type 0} (step : Step T) (made : Step V) (names : List (List ℕ)) (y : V) (old new : Outside) → Took names made (Ok y) old new → step.stops Memory → Took names step (Err (Refused Memory)) old new
 took-lacks step made names y old new took stops = record {
   later = took.later;

@@ -14,7 +14,7 @@ module _ {T U : Type 0} {step : Step T} {here : Type 0} {rest : T → Course} {o
       Follows {T = U} ⊥ [] (Unit {0}) (after step here rest) (Err stop) o o
   value-stops {stop} took at = step-stops step here rest step [] [] (Unit {0}) stop (Err stop) o o refl took took.stops at tt
 
-  -- memory was wanting for what is made of it
+  -- memory was lacking for what is made of it
   pub value-lacks : {x : T} → Took [] step (Ok x) o o → step.stops Memory → here →
       Follows {T = U} ⊥ [] (Unit {0}) (after step here rest) (Err (Refused Memory)) o o
   value-lacks {x} took stops at = value-stops (took-lacks step step [] x o o took stops) at

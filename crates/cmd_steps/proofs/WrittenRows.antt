@@ -268,7 +268,7 @@ module _ (w : RowWork) (begun now new : Outside) (reading : VectorReading) (wait
           near = rw (told, at) (so_far.near (length (so_far.put ++ front)) from to);
         }
 
-    -- a front of the lines that wait, as a line that is cut behind whole ones
+    -- a prefix of the lines that wait, as a line that is cut behind whole ones
     cut-text : (n : ℕ) (c : IsCutAt so_far.rest n) → flat_map row_line so_far.put ++ take n waiting ≡ flat_map row_line (so_far.put ++ c.front) ++ take c.part (row_line c.row)
     cut-text n c =
         ap (λ t. flat_map row_line so_far.put ++ take n t) so_far.waits ∙ (ap (λ t. flat_map row_line so_far.put ++ t) c.cut

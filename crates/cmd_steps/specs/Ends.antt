@@ -13,7 +13,7 @@ use Rattle.cmd_steps.specs.declared.refusal.Refusal.TheVariants.{Memory, Room}
 use Rattle.cmd_steps.specs.declared.refusal.Stop.{Stop}
 use Rattle.cmd_steps.specs.declared.refusal.Stop.TheVariants.{Refused, Sink}
 
--- what stands before the line of a refusal: what the course has before it, or before a line at which the sink answered want of memory
+-- what stands before the line of a refusal: what the course has before it, or before a line at which the sink answered a lack of memory
 abbrev pub Stands : (words : Type 0) → Course → Outside → Outside → Refusal → List ℕ → Type 0
 Stands words course old new refusal text =
     (IsCounted words (Refused refusal) old new × course text (refuses refusal))
@@ -30,14 +30,14 @@ pub data EndWrote (words : Type 0) (course : List ℕ → Next → Type 0) (old 
   cut_line : (refusal : Refusal) (text : List ℕ) (n : ℕ)
       → Stands words course old new refusal text → Rose old.sink.failures new.sink.failures
       → Wrote old.sink.written new.sink.written (text ++ take n (refusal_text refusal)) → EndWrote words course old new 5
-  -- the sink answered want of memory at that line
+  -- the sink answered a lack of memory at that line
   no_line : (refusal : Refusal) (text : List ℕ) → Stands words course old new refusal text → IsTrue old.sink.can_lack
       → Wrote old.sink.written new.sink.written text → EndWrote words course old new 6
   -- the sink failed within a line of the output
   cut : (text line : List ℕ) (n : ℕ) → course text (writes line) → Rose old.sink.failures new.sink.failures
       → Wrote old.sink.written new.sink.written (text ++ take n line) → EndWrote words course old new 5
 
--- what a refusal is followed by: its line and its status, or a failure or want of memory of the sink
+-- what a refusal is followed by: its line and its status, or a failure or lack of memory of the sink
 abbrev pub Refuses : Refusal → SinkState → SinkState → ℕ → Type 0
 Refuses refusal old new status =
     ((status ≡ status_of refusal) × Wrote old.written new.written (refusal_text refusal))
@@ -61,7 +61,7 @@ IsRefused course old new refusal =
 abbrev pub IsOfFronts : (List ℕ → Type 0) → SinkState → SinkState → Type 0
 IsOfFronts P old new = (front rest : List ℕ) → Wrote old.written new.written (front ++ rest) → P front
 
--- want of memory came before the line `outputs`
+-- lack of memory came before the line `outputs`
 abbrev pub LacksBefore : Job → Outside → Outside → Type 0
 LacksBefore job old new =
     (text : List ℕ) × (job.has_begun (around old) (around new) text → ⊥)

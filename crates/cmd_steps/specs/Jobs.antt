@@ -53,7 +53,7 @@ wrong_words = record {
 
 -- ---- what each job owes
 
--- these refusals come also where all is right: for want of memory, a count that rose, or faults whose text the rig refused
+-- these refusals come also where all is right: for lack of memory, a count that rose, or faults whose text the rig refused
 abbrev pub IsExcused : Refusal → Around → Around → Type 0
 IsExcused Memory old new = Unit {0}
 IsExcused Store old new = Unit {0}
@@ -72,7 +72,7 @@ EndsShort old new ends = ⊥
 EndsShort old new (refuses refusal) = (status_of refusal ≡ 3) ⊎ IsExcused refusal old new
 EndsShort old new (writes line) = Unit {0}
 
--- each front of a text
+-- each prefix of a text
 abbrev pub Fronts : (List ℕ → Type 0) → List ℕ → Type 0
 Fronts P text = (front rest : List ℕ) → text ≡ front ++ rest → P front
 

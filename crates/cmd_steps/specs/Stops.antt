@@ -73,7 +73,7 @@ abbrev pub StepStops : {T : Type 0} → Step T → Stop → Type 0
 StepStops step (Refused refusal) = step.stops refusal
 StepStops step (Sink fail) = ⊥
 
--- what a stop needs whatever the command: wrong words, a count that rose, or a sink that can answer want of memory
+-- what a stop needs whatever the command: wrong words, a count that rose, or a sink that can answer a lack of memory
 abbrev pub IsCounted : (words : Type 0) → Stop → Outside → Outside → Type 0
 IsCounted words (Refused Words) old new = words
 IsCounted words (Refused Rig) old new = Rose old.rig.failures new.rig.failures

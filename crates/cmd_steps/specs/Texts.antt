@@ -126,7 +126,7 @@ reads_image told m = record { stops = NoImage told m; gives = λ i. (i.config.sh
 
 -- ---- the machine is attached
 
--- nothing is attached: the rig refuses its text of faults, or fails, or memory is wanting
+-- nothing is attached: the rig refuses its text of faults, or fails, or memory is lacking
 abbrev pub NotAttached : Asked → RigState → RigState → Refusal → Type 0
 NotAttached machine old new (refused.Faults line kind) =
     RefusesText (At line kind) machine.shape (old.machine.texts machine.name) old.machine.refused new.machine.refused × IsDetached new
@@ -138,13 +138,13 @@ NotAttached machine old new refusal = ⊥
 abbrev pub attaches : Asked → RigState → RigState → Step (Unit {0})
 attaches machine old new = record { stops = NotAttached machine old new; gives = λ _. new.machine.attached ≡ Some machine }
 
--- the machine was asked for, or memory was wanting before that
+-- the machine was asked for, or memory was lacking before that
 abbrev pub MayAsk : Asked → List Asked → List Asked → Type 0
 MayAsk machine old new = (new ≡ old) ⊎ (new ≡ old ++ machine ∷ [])
 
 -- ---- the machine that is attached does something
 
--- it doesn't: the rig fails, or memory is wanting
+-- it doesn't: the rig fails, or memory is lacking
 abbrev pub FailsOnRig : Refusal → Type 0
 FailsOnRig refused.Rig = Unit {0}
 FailsOnRig refused.Memory = Unit {0}

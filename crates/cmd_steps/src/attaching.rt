@@ -25,7 +25,7 @@ fn attach_boxed(rig: &mut Box<dyn Rig>, shape: &Shape, name: &str) -> Result<(),
 ///
 /// # Errors
 ///
-/// The rig's: its first fault of the text of faults, with line and kind, a failure that it counted, or want of memory.
+/// The rig's: its first fault of the text of faults, with line and kind, a failure that it counted, or out of memory.
 // The condition always holds. A function of another crate that takes a rig and has none counts as one that may put a
 // rig of its own in its place.
 pub fn attach(rig: &mut Box<dyn Rig>, shape: &Shape, name: &str) -> Result<(), Stop>

@@ -30,7 +30,7 @@ fn list_of_text(alloc: Global, shape: &Shape, text: &[u8]) -> Result<Defects, St
 /// # Errors
 ///
 /// The store's, where it can't start or read the file; kind `Limit` at line 0, where the file is too long; else the first
-/// fault of its text as a list of this machine; or want of memory.
+/// fault of its text as a list of this machine; or out of memory.
 pub fn read_list<S: Store>(
     alloc: Global,
     shape: &Shape,

@@ -48,7 +48,7 @@ fn netlist_of(alloc: Global, file: DesignFile, text: &[u8]) -> Result<Netlist, S
 /// # Errors
 ///
 /// The store's, where it can't start or read the file; kind `Limit` at line 0, where the file is too long; else the first
-/// fault of its text; or want of memory. A fault names which of the command's designs this is.
+/// fault of its text; or out of memory. A fault names which of the command's designs this is.
 pub fn read_design<S: Store>(
     alloc: Global,
     file: DesignFile,

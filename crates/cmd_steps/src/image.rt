@@ -28,7 +28,7 @@ fn image_of_text(alloc: Global, shape: &Shape, text: &[u8]) -> Result<Image, Sto
 /// # Errors
 ///
 /// The store's, where it can't start or read the file; kind `Limit` at byte 0, where the file is too long; else the first
-/// fault of its bytes as an image of this machine; or want of memory.
+/// fault of its bytes as an image of this machine; or out of memory.
 pub fn read_image_file<S: Store>(
     alloc: Global,
     shape: &Shape,

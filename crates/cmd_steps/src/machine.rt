@@ -30,7 +30,7 @@ fn shape_of_text(alloc: Global, text: &[u8]) -> Result<Shape, Stop>
 /// # Errors
 ///
 /// The store's, where it can't start or read the file; kind `Limit` at line 0, where the file is too long; else the first
-/// fault of its text; or want of memory.
+/// fault of its text; or out of memory.
 pub fn read_shape<S: Store>(alloc: Global, store: &mut S, name: &str) -> Result<Shape, Stop>
     // Whatever the rig and the sink are.
     ensures took { (rig : RigState) (sink : SinkState) →

@@ -10,7 +10,7 @@ use base_io::Store;
 ///
 /// # Errors
 ///
-/// The store's, where it can't start the file: then no file is current, and its count rose; or want of memory.
+/// The store's, where it can't start the file: then no file is current, and its count rose; or out of memory.
 pub fn open_vectors<S: Store>(store: &mut S, name: &str) -> Result<(), Stop>
     // Whatever the rig and the sink are.
     ensures took { (rig : RigState) (sink : SinkState) →

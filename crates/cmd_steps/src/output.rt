@@ -8,7 +8,7 @@ use base_io::Sink;
 ///
 /// # Errors
 ///
-/// The sink's: a failure that it counted, where a front of the bytes may stand written, or its want of memory, where none do.
+/// The sink's: a failure that it counted, where a front of the bytes may stand written, or its lack of memory, where none do.
 pub fn write<K: Sink>(sink: &mut K, bytes: &[u8]) -> Result<(), Stop>
     ensures puts { Puts bytes.now result (K.sink_state sink.old) (K.sink_state sink.new) }
 {

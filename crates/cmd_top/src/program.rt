@@ -131,7 +131,7 @@ fn end<S: Store, K: Sink>(
 /// - 3: there is no room for the design, or for the repair of the image;
 /// - 4: the rig failed;
 /// - 5: the store or the sink failed;
-/// - 6: memory was wanting.
+/// - 6: memory was lacking.
 ///
 /// The first step that refuses ends the command. What was written before it stays, and the line that
 /// says why follows it, unless the sink failed.

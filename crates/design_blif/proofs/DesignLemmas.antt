@@ -27,7 +27,7 @@ one_design bytes a b one other =
     let same : other.models ≡ one.models = other.text.models_are ∙ sym one.text.models_are in
     one_netlist one.models a b one.netlist (subst (λ x. IsNetlistOf x b) same other.netlist)
 
--- the text of models is refused for want of memory alone
+-- the text of models is refused for lack of memory alone
 pub only_memory : (e : DesignFault) (ms : List Model) → IsFaultAs e (Ok ms) → e ≡ fault.Memory
 only_memory fault.Memory ms h = refl
 only_memory (fault.At n k) ms h = absurd cc

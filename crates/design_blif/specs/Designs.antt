@@ -28,7 +28,7 @@ pub data IsDesignFault (bytes : List ℕ) (line : ℕ) (kind : DesignKind) : Typ
   InModels : length bytes ≤ 16777216 → (models : List Model) → AreModels bytes models → IsModelsFault models line kind →
       IsDesignFault bytes line kind
 
--- what a refusal says of the bytes. Want of memory says nothing
+-- what a refusal says of the bytes. Lack of memory says nothing
 abbrev pub IsRefusalOfBytes : List ℕ → DesignFault → Type 0
 IsRefusalOfBytes bytes (At line kind) = IsDesignFault bytes line kind
 IsRefusalOfBytes bytes Memory = Unit {0}

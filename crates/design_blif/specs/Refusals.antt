@@ -6,7 +6,7 @@ use Rattle.design_blif.specs.declared.kind.Refusal.TheVariants.{Memory, Kind}
 use Rattle.design_netlist.specs.declared.fault.DesignFault.{DesignFault}
 use Rattle.design_netlist.specs.declared.fault.DesignFault.TheVariants as fault
 
--- it is for this fault; of want of memory nothing is said
+-- it is for this fault; of a lack of memory nothing is said
 abbrev pub IsRefusedAs : Option DesignKind → Refusal → Type 0
 IsRefusedAs fault Memory = Unit {0}
 IsRefusedAs fault (Kind k) = fault ≡ Some k

@@ -194,7 +194,7 @@ fn is_other(control: Option<&[u8]>, earlier: Option<&[u8]>) -> bool
 }
 
 /// A copy of a name that may be there.
-fn copied(alloc: Global, name: Option<&[u8]>) -> Result<Option<Name>, AllocError>
+fn copy_name(alloc: Global, name: Option<&[u8]>) -> Result<Option<Name>, AllocError>
     ensures { IfOk result (λ n. n ≡ option_copied name.entry) }
 {
     match name {
@@ -220,7 +220,7 @@ pub fn new_latch<'a>(
     if is_other(parts.control, *control) {
         return Err(Refusal::Kind(DesignKind::Control));
     }
-    let own = copied(alloc, parts.control)?;
+    let own = copy_name(alloc, parts.control)?;
     let numbers = names.numbers(alloc, &words[1..3])?;
     if control.is_none() {
         *control = parts.control;

@@ -98,7 +98,7 @@ fn read_models(alloc: Global, bytes: &[u8]) -> Result<Vec<Model>, DesignFault>
 ///
 /// `Limit` at line 0 for more than 16,777,216 bytes, before anything else is looked at. Then the first line that has
 /// a fault, and on it the first in the order of the kinds of line; `NoModel` at line 0 for a text without lines.
-/// Then what is wrong with the models as a whole. `Memory` where memory is wanting.
+/// Then what is wrong with the models as a whole. `Memory` where memory is lacking.
 pub fn read_blif(alloc: Global, bytes: &[u8]) -> Result<Netlist, DesignFault>
     ensures found { IfOk result (λ n. IsDesign bytes.now n × (length bytes.now ≤ 16777216)) }
     ensures refused { IfErr result (IsRefusalOfBytes bytes.now) }

@@ -38,7 +38,7 @@ fn number_pins(plan: &mut Plan, ins: &[u32]) {
 }
 
 /// The word where the bits of a pin are exchanged.
-fn turned(word: u64, pin: usize) -> u64 {
+fn turn_word(word: u64, pin: usize) -> u64 {
     if pin >= 6 {
         return word;
     }
@@ -53,7 +53,7 @@ fn by_inputs(word: u64, ins: &[u32]) -> u64 {
     let mut cells = word;
     'ins: for k in 0..ins.len() {
         if ins[k] % 2 == 1 {
-            cells = turned(cells, k);
+            cells = turn_word(cells, k);
         }
     }
     cells
@@ -65,7 +65,7 @@ fn by_inputs(word: u64, ins: &[u32]) -> u64 {
 ///
 /// # Errors
 ///
-/// Where memory is wanting.
+/// Where memory is lacking.
 pub fn cells_at(
     alloc: Global,
     graph: &Graph,

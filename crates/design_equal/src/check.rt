@@ -102,7 +102,7 @@ fn is_labelled_by(
 ///
 /// # Errors
 ///
-/// Where memory is wanting.
+/// Where memory is lacking.
 pub fn is_labelled(
     alloc: Global,
     graph: &Graph,
@@ -122,7 +122,7 @@ pub fn is_labelled(
 ///
 /// # Errors
 ///
-/// Where memory is wanting.
+/// Where memory is lacking.
 pub fn agree(
     alloc: Global,
     graph: &Graph,

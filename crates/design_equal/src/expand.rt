@@ -56,7 +56,7 @@ fn with_literal(list: Vec<u32>, literal: u32) -> Result<Vec<u32>, AllocError>
     Ok(more)
 }
 
-fn copied(alloc: Global, list: &[u32]) -> Result<Vec<u32>, AllocError>
+fn copy_list(alloc: Global, list: &[u32]) -> Result<Vec<u32>, AllocError>
     ensures { IfOk result (λ copy. copy.items ≡ list.now) }
 {
     Vec::from_slice(alloc, list)
@@ -73,8 +73,8 @@ fn fork(
     ensures { OnOk result ((bits : ℕ → Bool) → work_holds bits work.new ≡ (work_holds bits work.old
         || (holds bits pending.done.items && (holds bits pending.todo.items && (literal_in bits first || literal_in bits second))))) }
 {
-    let done = copied(alloc, pending.done.as_slice())?;
-    let todo = copied(alloc, pending.todo.as_slice())?;
+    let done = copy_list(alloc, pending.done.as_slice())?;
+    let todo = copy_list(alloc, pending.todo.as_slice())?;
     let one = with_literal(todo, first)?;
     let other = with_literal(pending.todo, second)?;
     put_off(work, done, one)?;
@@ -185,7 +185,7 @@ fn copies(leaves: &Scratch, work: &Work) -> u64 {
 
 /// The literal as a sum of products of labels of inputs, or None where that takes more than so many steps, or copies
 /// more than so many literals.
-pub fn expanded(
+pub fn expand_literal(
     alloc: Global,
     graph: &Graph,
     leaves: &Scratch,

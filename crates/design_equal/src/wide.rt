@@ -4,7 +4,7 @@ ghost use Rattle.std.specs.Prelude.{◌≡◌, ◌<◌, ℕ, Bool, [], length, I
 ghost use Rattle.design_equal.specs.Plans.{IsMet};
 ghost use Rattle.design_equal.specs.Products.{some_holds};
 
-use crate::expand::expanded;
+use crate::expand::expand_literal;
 use crate::graph::Graph;
 use crate::plan::Scratch;
 use crate::products::{Product, are_among, rows_sum, turned_if};
@@ -93,7 +93,7 @@ pub fn is_multiplied(
     mark_leaves(leaves, ins, labels);
     let rows = rows_sum(alloc, cover.rows.as_slice(), ins, labels)?;
     let root = turned_if(label_at(labels, cover.out), cover.off);
-    let Some(sum) = expanded(alloc, graph, leaves, root, steps_for(cover))? else {
+    let Some(sum) = expand_literal(alloc, graph, leaves, root, steps_for(cover))? else {
         return Ok(false);
     };
     are_same(alloc, sum.as_slice(), rows.as_slice())

@@ -43,7 +43,7 @@ fn pin_word(pin: u32, pass: u64) -> u64
 }
 
 /// The word, or its opposite.
-fn signed(word: u64, negated: bool) -> u64
+fn sign_word(word: u64, negated: bool) -> u64
     ensures { (lane : ℕ) → lane < 64 → is_bit result lane ≡ (if negated then not (is_bit word lane) else is_bit word lane) }
 {
     if negated { !word } else { word }
@@ -60,7 +60,7 @@ pub fn literal_word(words: &[u64], local: u32) -> u64
     ensures { (lane : ℕ) → lane < 64 → is_bit result lane ≡ literal_in (λ place. is_bit (number_at words.now place) lane) local }
 {
     let word = word_at(words, (local / 2) as usize);
-    signed(word, local % 2 == 1)
+    sign_word(word, local % 2 == 1)
 }
 
 /// The word of an AND.

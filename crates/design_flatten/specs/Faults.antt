@@ -79,7 +79,7 @@ IsModelsFault models line (kind.Undriven name) = IsDesignFault models line (kind
 IsModelsFault models line (kind.Cyclic name) = IsDesignFault models line (kind.Cyclic name)
 IsModelsFault models line _ = ⊥
 
--- what a refusal says of the models. Want of memory says nothing
+-- what a refusal says of the models. Lack of memory says nothing
 abbrev pub IsRefusalOfModels : List Model → DesignFault → Type 0
 IsRefusalOfModels models (fault.At line kind) = IsModelsFault models line kind
 IsRefusalOfModels models fault.Memory = Unit {0}

@@ -57,7 +57,7 @@ pub record IsSubstitution (models : List Model) (s : Substituted) : Type 0 where
   pub count : length s.origins.items ≡ replaced_in s + 1
   pub origins : AreOrigins models s.origins.items
 
--- no substituted design is within the limits. Want of memory says nothing
+-- no substituted design is within the limits. Lack of memory says nothing
 abbrev pub IsRefused : List Model → Refusal → Type 0
 IsRefused models Memory = Unit {0}
 IsRefused models Limit = IsTooMuch models

@@ -6,7 +6,7 @@ use Rattle.design_flatten.specs.declared.refusal.Refusal.TheVariants.{Memory, Li
 use Rattle.design_flatten.specs.Lines.{Line}
 use Rattle.design_flatten.specs.Signals.{is_over}
 
--- more signals than are allowed. Want of memory says nothing
+-- more signals than are allowed. Lack of memory says nothing
 abbrev pub IsPast : List Signal → Refusal → Type 0
 IsPast signals Memory = Unit {0}
 IsPast signals Limit = 65535 < length signals

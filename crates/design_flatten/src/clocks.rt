@@ -61,7 +61,7 @@ fn places_of<'a>(alloc: Global, names: &'a [Name]) -> Result<Places<'a>, AllocEr
 }
 
 /// A control: a name is one with the signal of that name.
-fn resolved<'a>(places: &Places<'_>, control: Control<'a>) -> Result<Control<'a>, Refusal>
+fn resolve_control<'a>(places: &Places<'_>, control: Control<'a>) -> Result<Control<'a>, Refusal>
     ensures refused { IfErr result (λ e. e ≡ Memory) }
     ensures ok { (names : List (List ℕ)) → ((w : List ℕ) → at_name places.now w ≡ place_in names w) →
         IfOk result (λ r. control_of r ≡ control_is names (control_of control.entry)) }
@@ -94,7 +94,7 @@ fn clock_of<'a>(places: &Places<'_>, line: &Placed<'a>) -> Result<Option<Clock<'
             init: _,
             control: Some(control),
         } => {
-            let control = resolved(places, *control)?;
+            let control = resolve_control(places, *control)?;
             Ok(Some(Clock {
                 number: line.number,
                 control,

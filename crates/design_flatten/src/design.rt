@@ -27,7 +27,7 @@ use std::alloc::Global;
 /// substituted design is beyond its limits; `Control` at the first latch with another control than an earlier one;
 /// `Doubled`, `Undriven` and `Cyclic` at the first line that has such a fault: of all these the first in this order.
 /// First and earlier go by line number, and for one number by the order of the substituted design. `Memory` where
-/// memory is wanting.
+/// memory is lacking.
 pub fn flatten(alloc: Global, models: Vec<Model>) -> Result<Netlist, DesignFault>
     requires rows { HaveRightRows models.items }
     requires outputs { length (first_model models.items).outputs ≤ 16777216 }

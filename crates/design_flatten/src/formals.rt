@@ -15,7 +15,7 @@ use crate::catalog::{Catalog, Known};
 use crate::given::name_at;
 use crate::model::{Model, PairDef};
 use crate::name_set::NameSet;
-use crate::uses::{UseLine, chosen, copied, is_sooner};
+use crate::uses::{UseLine, chosen, copy_name, is_sooner};
 use design_netlist::{DesignFault, DesignKind};
 use std::alloc::{AllocError, Global};
 
@@ -135,7 +135,7 @@ pub fn check_formals<'a>(
     match fault_of(alloc, catalog, &used)? {
         None => Ok(()),
         Some(formal) => {
-            let name = copied(alloc, formal)?;
+            let name = copy_name(alloc, formal)?;
             Err(DesignFault::At {
                 line: used.number,
                 kind: DesignKind::Formal { name },

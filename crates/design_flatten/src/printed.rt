@@ -9,7 +9,7 @@ ghost use Rattle.design_flatten.specs.Origins.{AreOrigins, AreAllOrigins, AreWay
 
 use crate::given::name_at;
 use crate::model::Signal;
-use crate::uses::copied;
+use crate::uses::copy_name;
 use crate::work::Origin;
 use base_lists::Items;
 use base_text::put_number;
@@ -67,7 +67,7 @@ fn shared_of(
         IfOk result (λ s. s ≡ shared_as models signal) }
 {
     let names = names_in(origins, first, signal.used);
-    let end = copied(alloc, name_at(names, signal.own as usize))?;
+    let end = copy_name(alloc, name_at(names, signal.own as usize))?;
     Ok(Shared {
         beginning: Some(signal.used),
         end,

@@ -11,7 +11,7 @@ ghost use Rattle.design_flatten.specs.Links.{HaveNames, AreBare, AreLinked, with
 
 use crate::model::Model;
 use crate::name_set::NameSet;
-use crate::uses::{UseLine, chosen, copied, is_sooner};
+use crate::uses::{UseLine, chosen, copy_name, is_sooner};
 use base_lists::Items;
 use design_netlist::{Cover, DesignFault, DesignKind, groups_of};
 use std::alloc::{AllocError, Global};
@@ -140,7 +140,7 @@ pub fn check_recursion(
         return Ok(());
     };
     let used = uses[place];
-    let name = copied(alloc, used.model)?;
+    let name = copy_name(alloc, used.model)?;
     Err(DesignFault::At {
         line: used.number,
         kind: DesignKind::Recursive { name },

@@ -110,7 +110,7 @@ fn first_unknown(catalog: &Catalog<'_>, uses: &[UseLine<'_>]) -> Option<usize>
 }
 
 /// A copy of a name.
-pub fn copied(alloc: Global, name: &[u8]) -> Result<Name, AllocError>
+pub fn copy_name(alloc: Global, name: &[u8]) -> Result<Name, AllocError>
     ensures { IfOk result (λ n. n ≡ name.now) }
 {
     Ok(Items::new(Vec::from_slice(alloc, name)?))
@@ -132,7 +132,7 @@ fn check_names(
         None => Ok(()),
         Some(place) => {
             let used = uses[place];
-            let name = copied(alloc, used.model)?;
+            let name = copy_name(alloc, used.model)?;
             Err(DesignFault::At {
                 line: used.number,
                 kind: DesignKind::NoSuchModel { name },
@@ -145,7 +145,7 @@ fn check_names(
 /// leads back to its own model.
 ///
 /// A line that breaks one is refused with NoSuchModel, Formal or Recursive; of all such lines the first of the first
-/// kind in this order. Want of memory is refused with Memory.
+/// kind in this order. Lack of memory is refused with Memory.
 pub fn check_uses(alloc: Global, models: &[Model]) -> Result<(), DesignFault>
     ensures ok { OnOk result (KeepsRules models.now) }
     ensures refused { IfErr result (IsRefusalOfModels models.now) }

@@ -51,7 +51,7 @@ IsDesignFault d line (Cyclic name) =
     × (name ≡ name_at d (cover_at d.covers k).out)
 IsDesignFault d line _ = ⊥
 
--- what a refusal says of the design. Want of memory says nothing
+-- what a refusal says of the design. Lack of memory says nothing
 abbrev pub IsRefusalOf : NetlistData → DesignFault → Type 0
 IsRefusalOf d (At line kind) = IsDesignFault d line kind
 IsRefusalOf d Memory = Unit {0}

@@ -78,7 +78,7 @@ fn name_of(alloc: Global, draft: &NetlistData, signal: u32) -> Result<Name, Allo
 ///
 /// `Doubled`, `Undriven` and `Cyclic`, in this order, each at the first word by line and on one line by place:
 /// inputs, outputs, covers, latches, and the inputs of a cover in their order. The name is the signal's.
-/// `Memory` where memory is wanting. A refusal drops the draft.
+/// `Memory` where memory is lacking. A refusal drops the draft.
 pub fn check(alloc: Global, draft: NetlistData) -> Result<Netlist, DesignFault>
     requires { IsWellMade draft }
     ensures found { IfOk result (λ netlist. (netlist ≡ draft) × IsChecked draft) }

@@ -30,6 +30,6 @@ pub use groups::groups_of;
 pub use names::Names;
 pub use netlist::Netlist;
 pub use netlist_data::{Cover, Cube, LatchDef, Lit, Name, NetlistData, PortDef};
-pub use reads::nearer;
+pub use reads::nearer_word;
 pub use shared::{Beginning, Shared};
 pub use word_truth::{cover_word, lane_word};

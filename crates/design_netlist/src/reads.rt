@@ -9,7 +9,7 @@ ghost use Rattle.design_netlist.specs.Words.{nearer, sooner, AreWithin};
 use crate::netlist_data::{Cover, LatchDef, NetlistData, PortDef};
 
 /// The word that was found, or another one on an earlier line.
-pub fn nearer(found: Option<PortDef>, word: PortDef) -> Option<PortDef>
+pub fn nearer_word(found: Option<PortDef>, word: PortDef) -> Option<PortDef>
     ensures { result ≡ nearer found word }
 {
     match found {
@@ -32,7 +32,7 @@ fn sooner(firsts: &[Option<usize>], found: Option<PortDef>, word: PortDef) -> Op
     if firsts[word.signal as usize].is_some() {
         return found;
     }
-    nearer(found, word)
+    nearer_word(found, word)
 }
 
 fn among_ports(

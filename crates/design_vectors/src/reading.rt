@@ -33,7 +33,7 @@ impl Model for VectorText {
 
 impl VectorText {
     /// Reads vectors of this width, one bit for each input. Takes a buffer of 65,536 bytes, and looks at
-    /// 1,099,511,627,776 bytes of the file at most. An error is want of memory.
+    /// 1,099,511,627,776 bytes of the file at most. An error is a lack of memory.
     pub fn new(alloc: Global, width: u32) -> Result<Self, AllocError>
         ensures { IfOk result (λ t. t ≡ new_reading width 1099511627776) }
     {

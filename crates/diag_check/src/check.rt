@@ -217,7 +217,7 @@ fn check_with(
 ///
 /// # Errors
 ///
-/// `Failed` where a call of the rig failed, `Memory` where memory was wanting.
+/// `Failed` where a call of the rig failed, `Memory` where memory was lacking.
 pub fn quick_check(
     alloc: Global,
     rig: &mut Box<dyn Rig>,

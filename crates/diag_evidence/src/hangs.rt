@@ -47,7 +47,7 @@ struct Views {
 }
 
 // The hangs whose crosspoints have changed places.
-fn turned(alloc: Global, hangs: &[WireTest]) -> Result<Vec<WireTest>, AllocError>
+fn turn_hangs(alloc: Global, hangs: &[WireTest]) -> Result<Vec<WireTest>, AllocError>
     ensures { IfOk result (λ v. v.items ≡ map turned hangs.now) }
 {
     let mut turned = Vec::new(alloc);
@@ -84,7 +84,7 @@ fn overs(alloc: Global, hangs: &[WireTest]) -> Result<Vec<(Wire, Cross)>, AllocE
 fn make_plan(alloc: Global, hangs: &[WireTest], pins: u32) -> Result<Plan, AllocError>
     ensures { IfOk result (IsPlan hangs.now pins) }
 {
-    let turned = turned(alloc, hangs)?;
+    let turned = turn_hangs(alloc, hangs)?;
     let mut all = overs(alloc, hangs)?;
     add_overs(&mut all, &turned)?;
     Ok(Plan {
@@ -294,7 +294,7 @@ impl Facts {
     ///
     /// # Errors
     ///
-    /// `Failed` where a call of the rig failed, `Memory` where memory was wanting.
+    /// `Failed` where a call of the rig failed, `Memory` where memory was lacking.
     pub fn test_wires(
         &mut self,
         rig: &mut Box<dyn Rig>,

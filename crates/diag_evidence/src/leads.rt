@@ -98,7 +98,7 @@ impl Facts {
     ///
     /// # Errors
     ///
-    /// `Failed` where a call of the rig failed, `Memory` where memory was wanting.
+    /// `Failed` where a call of the rig failed, `Memory` where memory was lacking.
     pub fn test_paths(
         &mut self,
         rig: &mut Box<dyn Rig>,

@@ -20,7 +20,7 @@ impl Facts {
     ///
     /// # Errors
     ///
-    /// `Failed` where a call of the rig failed, `Memory` where memory was wanting.
+    /// `Failed` where a call of the rig failed, `Memory` where memory was lacking.
     pub fn test_stuck(
         &mut self,
         rig: &mut Box<dyn Rig>,
@@ -59,7 +59,7 @@ impl Facts {
     ///
     /// # Errors
     ///
-    /// `Failed` where a call of the rig failed, `Memory` where memory was wanting.
+    /// `Failed` where a call of the rig failed, `Memory` where memory was lacking.
     pub fn test_short(
         &mut self,
         rig: &mut Box<dyn Rig>,
@@ -99,7 +99,7 @@ impl Facts {
     ///
     /// # Errors
     ///
-    /// `Failed` where a call of the rig failed, `Memory` where memory was wanting.
+    /// `Failed` where a call of the rig failed, `Memory` where memory was lacking.
     pub fn all_apart(
         &mut self,
         rig: &mut Box<dyn Rig>,

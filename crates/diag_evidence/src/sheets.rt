@@ -25,7 +25,7 @@ const ADDRESSES: u32 = 64;
 /// How many cycles a load has: one for each cell, and one in which the last is read.
 pub(crate) const CYCLES: u32 = 65;
 
-/// What the loads of a test need: all of it is made before the first one, so that no session ends for want of memory.
+/// What the loads of a test need: all of it is made before the first one, so that no session ends for lack of memory.
 #[derive(Drop)]
 pub(crate) struct Sheet {
     // What the tables are set to in the first load.

@@ -79,7 +79,7 @@ impl Facts {
     ///
     /// # Errors
     ///
-    /// `Failed` where a call of the rig failed, `Memory` where memory was wanting.
+    /// `Failed` where a call of the rig failed, `Memory` where memory was lacking.
     pub fn look_each(&mut self, rig: &mut Box<dyn Rig>, forest: &Forest) -> Result<(), RigFail>
         requires attached { shape_of (rig_state rig.old) ≡ Some self.old.shape }
         requires forest { KeepsForest self.old forest.now }

@@ -131,7 +131,7 @@ impl Facts {
     ///
     /// # Errors
     ///
-    /// `Failed` where the rig failed, and want of memory. Then nothing is kept or marked.
+    /// `Failed` where the rig failed, and lack of memory. Then nothing is kept or marked.
     pub fn tables_each(
         &mut self,
         rig: &mut Box<dyn Rig>,

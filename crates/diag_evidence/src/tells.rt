@@ -24,7 +24,7 @@ impl Facts {
     ///
     /// # Errors
     ///
-    /// `Failed` where a call of the rig failed, `Memory` where memory was wanting.
+    /// `Failed` where a call of the rig failed, `Memory` where memory was lacking.
     pub fn screen_wires(
         &mut self,
         rig: &mut Box<dyn Rig>,

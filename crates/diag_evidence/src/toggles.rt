@@ -103,7 +103,7 @@ impl Facts {
     ///
     /// # Errors
     ///
-    /// `Failed` where a call of the rig failed, `Memory` where memory was wanting.
+    /// `Failed` where a call of the rig failed, `Memory` where memory was lacking.
     pub fn toggle_cross(
         &mut self,
         rig: &mut Box<dyn Rig>,
@@ -150,7 +150,7 @@ impl Facts {
     ///
     /// # Errors
     ///
-    /// `Failed` where a call of the rig failed, `Memory` where memory was wanting.
+    /// `Failed` where a call of the rig failed, `Memory` where memory was lacking.
     pub fn toggle_cell(
         &mut self,
         rig: &mut Box<dyn Rig>,
@@ -213,7 +213,7 @@ impl Facts {
     ///
     /// # Errors
     ///
-    /// `Failed` where a call of the rig failed, `Memory` where memory was wanting.
+    /// `Failed` where a call of the rig failed, `Memory` where memory was lacking.
     pub fn toggle_register(
         &mut self,
         rig: &mut Box<dyn Rig>,

@@ -33,7 +33,7 @@ fn config_of(facts: &mut Facts, seat: &Seat, ties: &[Cross]) -> Result<Config, R
 }
 
 // Drives the near pin to 0, and no other.
-fn driven(facts: &mut Facts, seat: &Seat) -> Result<PinBits, RigFail>
+fn drive_near(facts: &mut Facts, seat: &Seat) -> Result<PinBits, RigFail>
     requires { IsSeat facts.old seat.now }
     ensures alone { IfOk result (λ drive. IsDrivenAlone drive seat.now.near.pin) }
     ensures length { IfOk result (λ drive. length drive ≡ pins_of facts.old.shape) }
@@ -69,7 +69,7 @@ fn test_cell(
         return Err(RigFail::Memory);
     };
     let mut config = config_of(facts, seat, ties)?;
-    let drive = driven(facts, seat)?;
+    let drive = drive_near(facts, seat)?;
     let answer = facts.toggle_cell(
         rig,
         &mut config,
@@ -129,7 +129,7 @@ fn test_register(
         return Err(RigFail::Memory);
     };
     let mut config = config_of(facts, seat, ties)?;
-    let drive = driven(facts, seat)?;
+    let drive = drive_near(facts, seat)?;
     let setting = Setting {
         cells: 0,
         latched: true,
@@ -151,7 +151,7 @@ fn test_register(
 ///
 /// # Errors
 ///
-/// `Failed` where a call of the rig failed, `Memory` where memory was wanting.
+/// `Failed` where a call of the rig failed, `Memory` where memory was lacking.
 pub fn test_table(
     alloc: Global,
     rig: &mut Box<dyn Rig>,

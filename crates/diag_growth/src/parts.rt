@@ -13,7 +13,7 @@ ghost use Rattle.diag_known.specs.Ways.{IsWay, AreWays};
 
 use diag_evidence::Facts;
 use diag_evidence::laws::tests_by_lists_pass;
-use diag_known::{Hanging, Known, driven, find_reached, laid, put_walks, walks};
+use diag_known::{Hanging, Known, drive_pin, find_reached, laid, put_walks, walks};
 use diag_tests::Route;
 use machine_shape::Wire;
 use rig::{PinBits, Rig, RigFail};
@@ -54,7 +54,7 @@ fn test_stuck(
     }
     tests_by_lists_pass();
     let config = laid(facts, way, way, &[])?;
-    let low = driven(facts, way.pin())?;
+    let low = drive_pin(facts, way.pin())?;
     let high = released(facts)?;
     let answer = facts.test_stuck(rig, &config, &low, &high, way);
     facts.give_back(config);
@@ -138,7 +138,7 @@ fn part_from(
     ensures cause { IsErrOf result RigFail.Failed → Rose (rig_state rig.old).failures (rig_state rig.new).failures }
 {
     let config = laid(facts, way, way, &beside.ties)?;
-    let drive = driven(facts, way.pin())?;
+    let drive = drive_pin(facts, way.pin())?;
     let answer = facts.all_apart(rig, &config, &drive, way, &beside.walks);
     facts.give_back(config);
     facts.give_back_drive(drive);

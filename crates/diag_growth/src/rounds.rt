@@ -99,7 +99,7 @@ fn grow_pin(
 ///
 /// # Errors
 ///
-/// `Failed` where a call of the rig failed, `Memory` where memory was wanting.
+/// `Failed` where a call of the rig failed, `Memory` where memory was lacking.
 pub fn grow(
     rig: &mut Box<dyn Rig>,
     facts: &mut Facts,

@@ -165,7 +165,7 @@ fn test_seated(
 ///
 /// # Errors
 ///
-/// `Failed` where a call of the rig failed, `Memory` where memory was wanting.
+/// `Failed` where a call of the rig failed, `Memory` where memory was lacking.
 pub fn test_tables(
     rig: &mut Box<dyn Rig>,
     facts: &mut Facts,

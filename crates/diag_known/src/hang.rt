@@ -90,7 +90,7 @@ fn hang(
 ///
 /// # Errors
 ///
-/// `Failed` where a call of the rig failed, `Memory` where memory was wanting.
+/// `Failed` where a call of the rig failed, `Memory` where memory was lacking.
 pub fn toggle_first(
     known: &Known,
     rig: &mut Box<dyn Rig>,

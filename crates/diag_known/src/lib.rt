@@ -40,6 +40,6 @@ pub use links::{Near, link_at, link_count, links_of};
 pub use marks::Marks;
 pub use offers::{Hanging, Offer, put_walks};
 pub use stands::{all_links, stand_on, standing};
-pub use toggles::{driven, laid, toggle_known, toggle_over};
+pub use toggles::{drive_pin, laid, toggle_known, toggle_over};
 pub use tour::walks;
 pub use verified_wire::{Support, SupportedBy, VerifiedWire};

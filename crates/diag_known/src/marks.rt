@@ -21,7 +21,7 @@ pub struct Marks {
 }
 
 // The wires that aren't of a field.
-fn outside(alloc: Global, wires: &BitSet) -> Result<BitSet, AllocError>
+fn wires_outside(alloc: Global, wires: &BitSet) -> Result<BitSet, AllocError>
     ensures len { IfOk result (λ set. length set ≡ length wires.now) }
     ensures outside { IfOk result (AreOutside wires.now) }
 {
@@ -46,7 +46,7 @@ impl Marks {
     {
         let crosses = field.crosses.len();
         Ok(Marks {
-            barred: outside(alloc, &field.wires)?,
+            barred: wires_outside(alloc, &field.wires)?,
             offered: BitSet::new(alloc, crosses)?,
             second: BitSet::new(alloc, crosses)?,
             between: BitSet::new(alloc, crosses)?,

@@ -21,7 +21,7 @@ use machine_shape::{Cross, Wire};
 use rig::{PinBits, Rig, RigFail};
 
 /// This pin is driven 0, and no other.
-pub fn driven(facts: &mut Facts, pin: u32) -> Result<PinBits, RigFail>
+pub fn drive_pin(facts: &mut Facts, pin: u32) -> Result<PinBits, RigFail>
     requires { pin < pins_of facts.old.shape }
     ensures alone { IfOk result (λ drive. IsDrivenAlone drive pin) }
     ensures length { IfOk result (λ drive. length drive ≡ pins_of facts.old.shape) }
@@ -77,7 +77,7 @@ fn toggle(
 {
     tests_by_lists_pass();
     let mut config = laid(facts, left, right, ties)?;
-    let drive = driven(facts, left.pin())?;
+    let drive = drive_pin(facts, left.pin())?;
     let answer = facts.toggle_cross(rig, &mut config, c, &drive, right.pin());
     facts.give_back(config);
     facts.give_back_drive(drive);
@@ -88,7 +88,7 @@ fn toggle(
 ///
 /// # Errors
 ///
-/// `Failed` where a call of the rig failed, `Memory` where memory was wanting.
+/// `Failed` where a call of the rig failed, `Memory` where memory was lacking.
 pub fn toggle_known(
     known: &Known,
     rig: &mut Box<dyn Rig>,
@@ -123,7 +123,7 @@ pub fn toggle_known(
 ///
 /// # Errors
 ///
-/// `Failed` where a call of the rig failed, `Memory` where memory was wanting.
+/// `Failed` where a call of the rig failed, `Memory` where memory was lacking.
 pub fn toggle_over(
     known: &Known,
     rig: &mut Box<dyn Rig>,

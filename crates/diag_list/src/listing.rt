@@ -17,7 +17,7 @@ use std::alloc::Global;
 ///
 /// # Errors
 ///
-/// The rig's fault, or want of memory.
+/// The rig's fault, or out of memory.
 pub fn list_of(alloc: Global, shape: &Shape, rig: &mut Box<dyn Rig>) -> Result<Defects, Stop>
     requires { shape_of (rig_state rig.old) ≡ Some shape.now }
 
@@ -68,7 +68,7 @@ pub fn list_machine<S: Store>(
 ///
 /// # Errors
 ///
-/// The rig's fault, want of memory, or the sink's fault.
+/// The rig's fault, lack of memory, or the sink's fault.
 pub fn write_list<K: Sink>(
     alloc: Global,
     shape: &Shape,

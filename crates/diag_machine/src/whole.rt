@@ -391,7 +391,7 @@ fn diagnose_with(
 ///
 /// # Errors
 ///
-/// `Failed` where a call of the rig failed, `Memory` where memory was wanting.
+/// `Failed` where a call of the rig failed, `Memory` where memory was lacking.
 pub fn diagnose_in_parts(
     alloc: Global,
     rig: &mut Box<dyn Rig>,
@@ -425,7 +425,7 @@ pub fn diagnose_in_parts(
 ///
 /// # Errors
 ///
-/// `Failed` where a call of the rig failed, `Memory` where memory was wanting.
+/// `Failed` where a call of the rig failed, `Memory` where memory was lacking.
 pub fn diagnose(alloc: Global, rig: &mut Box<dyn Rig>, shape: &Shape) -> Result<Defects, RigFail>
     requires attached { shape_of (rig_state rig.old) ≡ Some shape.now }
 

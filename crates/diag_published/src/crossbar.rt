@@ -103,7 +103,7 @@ fn test_node(
 ///
 /// # Errors
 ///
-/// `Failed` where a call of the rig failed, `Memory` where memory was wanting.
+/// `Failed` where a call of the rig failed, `Memory` where memory was lacking.
 pub fn test_crossbar(
     alloc: Global,
     rig: &mut Box<dyn Rig>,

@@ -50,7 +50,7 @@ fn child_trunk(
 ///
 /// # Errors
 ///
-/// `Failed` where a call of the rig failed, `Memory` where memory was wanting.
+/// `Failed` where a call of the rig failed, `Memory` where memory was lacking.
 pub fn find_trunk(
     alloc: Global,
     rig: &mut Box<dyn Rig>,

@@ -226,7 +226,7 @@ impl Board {
 
     // Counts the crosspoints that are left of a tap.
     fn count_tap(&mut self, heights: &Heights, node: u32, tap: Wire) {
-        let (first, end) = heights.within(tap, node);
+        let (first, end) = heights.links_within(tap, node);
         'links: for j in first..end {
             let Some(link) = heights.link(tap, j) else {
                 continue;

@@ -110,7 +110,7 @@ impl Spread {
             let Some(pin) = self.pin_of(link.wire) else {
                 continue;
             };
-            let weight = self.weight(pin, search.draws.short());
+            let weight = self.weight(pin, search.draws.draw_short());
             if weight < least {
                 least = weight;
                 best = Some((link, pin));
@@ -167,7 +167,7 @@ fn spread_links(
 impl Search {
     // A link of a wire to a lower one that is drawn, if its crosspoint is kept, or else this one.
     fn drawn_link(&mut self, w: Wire, other: Support) -> Support {
-        let j = self.draws.under(self.heights.ups(w));
+        let j = self.draws.draw_under(self.heights.ups(w));
         match self.heights.link(w, j) {
             Some(link) => {
                 if self.board.mark(link.cross) == Mark::Kept {
@@ -245,7 +245,7 @@ impl Chooser {
     }
 
     // The wires that are to be looked at, those first that were seldom.
-    fn due(&mut self, search: &mut Search, unfit: &BitSet) -> Result<Vec<Wire>, AllocError> {
+    fn due_wires(&mut self, search: &mut Search, unfit: &BitSet) -> Result<Vec<Wire>, AllocError> {
         search.draws.shuffle(&mut self.wanted);
         let mut due = Vec::new(self.alloc);
         'looks: for looks in 0..self.most_looks() {
@@ -306,7 +306,7 @@ impl Chooser {
         unfit: &BitSet,
     ) -> Result<Vec<(Wire, Cross)>, AllocError> {
         'tries: for _try in 0..MOST_TRIES {
-            let due = self.due(search, unfit)?;
+            let due = self.due_wires(search, unfit)?;
             if due.is_empty() {
                 break;
             }

@@ -256,7 +256,7 @@ impl Chooser {
     }
 
     // The known wires that stay. Pins of tables among them are hung first, if they should be lost with what gives way.
-    fn staying(&mut self) -> Result<BitSet, AllocError> {
+    fn wires_that_stay(&mut self) -> Result<BitSet, AllocError> {
         let mut stay = BitSet::new(self.alloc, self.shape.wires())?;
         'steps: for step in &self.steps {
             let w = step.wire;
@@ -319,7 +319,7 @@ impl Chooser {
         if self.first.is_empty() || !self.is_worth_it() {
             return Ok(None);
         }
-        let stay = self.staying()?;
+        let stay = self.wires_that_stay()?;
         self.note_favoured();
         self.forget_suspects();
         self.has_chosen = true;

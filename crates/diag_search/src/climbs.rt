@@ -92,7 +92,7 @@ impl Ladder {
         let first = Rung {
             wire: from,
             over: Cross(0),
-            begin: draws.under(heights.ups(from)),
+            begin: draws.draw_under(heights.ups(from)),
             tried: 0,
         };
         Ladder {
@@ -133,7 +133,7 @@ impl Ladder {
                 self.push(Rung {
                     wire: link.wire,
                     over: link.cross,
-                    begin: draws.under(heights.ups(link.wire)),
+                    begin: draws.draw_under(heights.ups(link.wire)),
                     tried: 0,
                 });
             }

@@ -23,17 +23,17 @@ impl Draws {
     }
 
     /// A number of 16 bits.
-    pub(crate) fn short(&mut self) -> u64 {
+    pub(crate) fn draw_short(&mut self) -> u64 {
         self.next() & 65_535
     }
 
     /// A number below the count, or 0 where that is 0.
-    pub(crate) fn below(&mut self, count: usize) -> usize {
-        self.numbers.below(count)
+    pub(crate) fn draw_below(&mut self, count: usize) -> usize {
+        self.numbers.draw_below(count)
     }
 
     /// A number below the count, or 0 where that is 0.
-    pub(crate) fn under(&mut self, count: u32) -> u32 {
+    pub(crate) fn draw_under(&mut self, count: u32) -> u32 {
         if count == 0 {
             return 0;
         }
@@ -48,7 +48,7 @@ impl Draws {
     /// Puts these into an order that is drawn.
     pub(crate) fn shuffle<T: Copy>(&mut self, items: &mut Vec<T>) {
         'places: for place in 0..items.len() {
-            let other = self.below(place.saturating_add(1));
+            let other = self.draw_below(place.saturating_add(1));
             if place < items.len() && other < items.len() {
                 let here = items[place];
                 items[place] = items[other];

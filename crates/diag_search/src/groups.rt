@@ -21,7 +21,7 @@ fn cut(alloc: Global, walk: &Walk, begin: usize, end: usize) -> Result<Walk, All
 }
 
 // One walk of two climbs, from the pin of the first to that of the second, and the stretch between the wires where they begin.
-fn joined(alloc: Global, near: &Walk, stretch: &Walk, far: &Walk) -> Result<Walk, AllocError> {
+fn join_walks(alloc: Global, near: &Walk, stretch: &Walk, far: &Walk) -> Result<Walk, AllocError> {
     let mut walk = Walk::new(alloc);
     walk.wires.push(near.end())?;
     'near: for k in 0..near.crosses.len() {
@@ -92,7 +92,7 @@ impl Search {
     }
 
     // The stretch of a walk between two of its places, from the first held crosspoint to the last one.
-    pub(crate) fn trimmed(
+    pub(crate) fn trim_walk(
         &self,
         walk: &Walk,
         begin: usize,
@@ -111,7 +111,7 @@ impl Search {
         far: &Walk,
         source: Source,
     ) -> Result<(), AllocError> {
-        let walk = joined(self.alloc, near, stretch, far)?;
+        let walk = join_walks(self.alloc, near, stretch, far)?;
         let begin = near.crosses.len();
         self.trials.push(Trial {
             walk,
@@ -217,7 +217,7 @@ impl Search {
         let Some(group) = self.groups.get(at) else {
             return Ok(());
         };
-        let walk = self.trimmed(&group.walk, begin, end)?;
+        let walk = self.trim_walk(&group.walk, begin, end)?;
         if at < self.groups.len() {
             self.groups[at].walk = walk;
         }

@@ -138,7 +138,7 @@ impl Search {
         self.climbs.clear();
         self.board.begin();
         let count = self.level_len(height);
-        let begin = self.draws.below(count);
+        let begin = self.draws.draw_below(count);
         let mut misses = 0;
         'wires: for place in 0..count {
             if self.board.free_pins() < 2 || misses >= MOST_MISSES {

@@ -272,7 +272,7 @@ impl Heights {
     }
 
     /// The places of the links of a wire that are of one node's crossbar: the first, and the one behind the last.
-    pub(crate) fn within(&self, w: Wire, node: u32) -> (u32, u32) {
+    pub(crate) fn links_within(&self, w: Wire, node: u32) -> (u32, u32) {
         let Some(links) = self.links.get(w.0 as usize) else {
             return (0, 0);
         };

@@ -104,7 +104,7 @@ impl Search {
             let count = self.count_taps(ready, k, line);
             if count > 0 {
                 let less = u64::from(u32::MAX.saturating_sub(count));
-                let drawn = self.draws.short();
+                let drawn = self.draws.draw_short();
                 keys.push((less << 31) | (drawn << 15) | (u64::from(place) % 32_768))?;
             }
         }

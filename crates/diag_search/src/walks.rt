@@ -80,7 +80,7 @@ impl Search {
 
     // The most that is left to try of the wires at the other ends of the links of a wire in a crossbar, of those that aren't used.
     fn peak(&self, node: u32, w: Wire) -> Peak {
-        let (first, end) = self.heights.within(w, node);
+        let (first, end) = self.heights.links_within(w, node);
         let mut peak = Peak { left: 0, place: 0 };
         'links: for j in first..end {
             let Some(link) = self.heights.link(w, j) else {
@@ -126,7 +126,7 @@ impl Search {
     // Of the links of a wire in a crossbar to wires that aren't used, with this mark, the first one whose wire has most left to try. No
     // wire there has more than the peak, and none before the place of the peak has so much.
     fn best_link(&self, node: u32, w: Wire, mark: Mark, peak: Peak) -> Option<(u32, Support)> {
-        let (first, end) = self.heights.within(w, node);
+        let (first, end) = self.heights.links_within(w, node);
         let from = first.saturating_add(peak.place);
         let later = self.best_within(w, mark, from, end, peak.left);
         let most = match later {
@@ -293,7 +293,7 @@ impl Search {
             self.set_full(node, todo == 0);
             if todo > 0 {
                 let less = u64::from(u32::MAX.saturating_sub(todo));
-                let drawn = self.draws.short();
+                let drawn = self.draws.draw_short();
                 self.order
                     .push((less << 31) | (drawn << 15) | (u64::from(node) % 32_768))?;
             }
@@ -399,7 +399,7 @@ impl Search {
         let Some(trial) = self.trials.get(at) else {
             return Ok(());
         };
-        let walk = self.trimmed(&trial.walk, trial.begin, trial.end)?;
+        let walk = self.trim_walk(&trial.walk, trial.begin, trial.end)?;
         self.groups.push(Group {
             walk,
             node,

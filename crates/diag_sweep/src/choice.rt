@@ -204,7 +204,7 @@ fn give_way(
 ///
 /// # Errors
 ///
-/// `Failed` where a call of the rig failed, `Memory` where memory was wanting. What is known, kept and marked is as right as after an `Ok`.
+/// `Failed` where a call of the rig failed, `Memory` where memory was lacking. What is known, kept and marked is as right as after an `Ok`.
 pub fn choose(
     rig: &mut Box<dyn Rig>,
     facts: &mut Facts,
@@ -258,7 +258,7 @@ pub fn choose(
 ///
 /// # Errors
 ///
-/// `Failed` where a call of the rig failed, `Memory` where memory was wanting. What is known, kept and marked is as right as after an `Ok`.
+/// `Failed` where a call of the rig failed, `Memory` where memory was lacking. What is known, kept and marked is as right as after an `Ok`.
 pub fn sweep_with(
     rig: &mut Box<dyn Rig>,
     facts: &mut Facts,

@@ -37,7 +37,7 @@ fn is_alike(forest: &Forest, reads: &Looks, pin: u32, other: u32) -> bool {
 }
 
 // The pins that read in each cycle as the one on which a wire hung; or this one, where none does and the crosspoint is kept.
-fn alike(
+fn pins_alike(
     alloc: Global,
     forest: &Forest,
     reads: &Looks,
@@ -61,7 +61,7 @@ fn alike(
 }
 
 // Those of some wires that are known and hang on one of these pins.
-fn narrowed(
+fn wires_on(
     chooser: &Chooser,
     forest: &Forest,
     alike: &Vec<bool>,
@@ -104,7 +104,7 @@ fn suspect(
     let wires = if chooser.suspect_count(w) == 0 {
         all_on(chooser.alloc, forest, alike)?
     } else {
-        narrowed(chooser, forest, alike, w)?
+        wires_on(chooser, forest, alike, w)?
     };
     chooser.set_suspects(w, wires);
     Ok(())
@@ -143,7 +143,7 @@ fn hear_one(
     if chooser.aim != Aim::Partners && !in_set(&bad.unfit, w.0) {
         return Ok(());
     }
-    match alike(chooser.alloc, forest, reads, pin, kept)? {
+    match pins_alike(chooser.alloc, forest, reads, pin, kept)? {
         Some(alike) => suspect(chooser, forest, &alike, w),
         None => Ok(()),
     }

@@ -24,7 +24,7 @@ use rig::{Rig, RigFail};
 ///
 /// # Errors
 ///
-/// `Failed` where a call of the rig failed, `Memory` where memory was wanting. What is known, kept and marked is as right as after an `Ok`.
+/// `Failed` where a call of the rig failed, `Memory` where memory was lacking. What is known, kept and marked is as right as after an `Ok`.
 pub fn sweep(
     rig: &mut Box<dyn Rig>,
     facts: &mut Facts,

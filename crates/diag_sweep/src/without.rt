@@ -8,7 +8,7 @@ use diag_known::Field;
 use std::alloc::{AllocError, Global};
 
 // A set of numbers without those of another.
-fn without(alloc: Global, these: &BitSet, out: &BitSet) -> Result<BitSet, AllocError>
+fn subtract(alloc: Global, these: &BitSet, out: &BitSet) -> Result<BitSet, AllocError>
     requires { length out.now ≡ length these.now }
     ensures { IfOk result (AreWithout out.now these.now) }
 {
@@ -29,8 +29,8 @@ pub fn without_bad(alloc: Global, bad: &DefectMarks, field: &Field) -> Result<Fi
     requires unclear { length bad.now.unclear ≡ length field.now.wires }
     ensures { IfOk result (IsWithout bad.now field.now) }
 {
-    let crosses = without(alloc, &field.crosses, &bad.stuck)?;
-    let fit = without(alloc, &field.wires, &bad.unfit)?;
-    let wires = without(alloc, &fit, &bad.unclear)?;
+    let crosses = subtract(alloc, &field.crosses, &bad.stuck)?;
+    let fit = subtract(alloc, &field.wires, &bad.unfit)?;
+    let wires = subtract(alloc, &fit, &bad.unclear)?;
     Ok(Field { wires, crosses })
 }

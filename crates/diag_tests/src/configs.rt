@@ -24,7 +24,7 @@ fn close_route(config: &mut Config, route: &Route) -> Result<(), AllocError>
 ///
 /// # Errors
 ///
-/// Want of memory.
+/// Out of memory.
 pub fn close_all(config: &mut Config, ties: &[Cross]) -> Result<(), AllocError>
     requires { All (λ c. c.0 < crosses_of config.old.config.shape) ties.now }
     ensures { OnOk result (Closes (cross_numbers ties.now) config.old.config config.new.config) }
@@ -40,7 +40,7 @@ pub fn close_all(config: &mut Config, ties: &[Cross]) -> Result<(), AllocError>
 ///
 /// # Errors
 ///
-/// Want of memory.
+/// Out of memory.
 pub fn close_loop(
     config: &mut Config,
     left: &Route,
@@ -63,7 +63,7 @@ pub fn close_loop(
 ///
 /// # Errors
 ///
-/// Want of memory.
+/// Out of memory.
 pub fn loop_config(
     alloc: Global,
     shape: &Shape,
@@ -85,7 +85,7 @@ pub fn loop_config(
 ///
 /// # Errors
 ///
-/// Want of memory.
+/// Out of memory.
 pub fn cell_config(
     alloc: Global,
     shape: &Shape,

@@ -10,5 +10,5 @@ mod route;
 mod trunk;
 
 pub use configs::{cell_config, close_all, close_loop, loop_config};
-pub use route::{Route, extended, route_at};
+pub use route::{Route, extend_route, route_at};
 pub use trunk::Trunk;

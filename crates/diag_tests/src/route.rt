@@ -45,7 +45,7 @@ impl Model for Route {
 ///
 /// # Errors
 ///
-/// Want of memory.
+/// Out of memory.
 pub fn route_at(alloc: Global, shape: &Shape, pin: u32) -> Result<Route, AllocError>
     requires { pin < pins_of shape.now }
     ensures route { IfOk result (λ r. r ≡ at_pin shape.now pin) }
@@ -58,8 +58,8 @@ pub fn route_at(alloc: Global, shape: &Shape, pin: u32) -> Result<Route, AllocEr
 ///
 /// # Errors
 ///
-/// Want of memory.
-pub fn extended(alloc: Global, shape: &Shape, r: &Route, c: Cross) -> Result<Route, AllocError>
+/// Out of memory.
+pub fn extend_route(alloc: Global, shape: &Shape, r: &Route, c: Cross) -> Result<Route, AllocError>
     requires route { IsRoute shape.now r.now }
     requires cross { c.0 < crosses_of shape.now }
     requires at { HasEnd shape.now c.0 r.now.end }
@@ -153,7 +153,7 @@ impl Route {
     ///
     /// # Errors
     ///
-    /// Want of memory.
+    /// Out of memory.
     pub fn push(&mut self, shape: &Shape, c: Cross) -> Result<(), AllocError>
         requires route { IsRoute shape.now self.old }
         requires cross { c.0 < crosses_of shape.now }
@@ -171,7 +171,7 @@ impl Route {
     ///
     /// # Errors
     ///
-    /// Want of memory.
+    /// Out of memory.
     pub fn push_to(&mut self, shape: &Shape, c: Cross, wire: Wire) -> Result<(), AllocError>
         requires route { IsRoute shape.now self.old }
         requires cross { c.0 < crosses_of shape.now }

@@ -94,7 +94,7 @@ IsFaultAt m bytes number kind =
     ((most_bytes < length bytes) × (number ≡ 0) × (kind ≡ Limit))
     ⊎ ((length bytes ≤ most_bytes) × IsFirstFault m bytes number kind)
 
--- a text is refused for its first fault; of want of memory nothing is said
+-- a text is refused for its first fault; of a lack of memory nothing is said
 abbrev pub IsRefusedAs : Shape → List ℕ → DefectsFault → Type 0
 IsRefusedAs m bytes Memory = Unit {0}
 IsRefusedAs m bytes (At line kind) = IsFaultAt m bytes line kind
@@ -105,7 +105,7 @@ pub record IsText (m : Shape) (bytes : List ℕ) (d : DefectList) : Type 0 where
   pub right : IsDefectList d
   pub spelled : bytes ≡ text_of d
 
--- a call gives this list, or memory was wanting
+-- a call gives this list, or memory was lacking
 abbrev pub GivesOrLacks : DefectList → Result DefectList DefectsFault → Type 0
 GivesOrLacks d (Ok e) = e ≡ d
 GivesOrLacks d (Err Memory) = Unit {0}

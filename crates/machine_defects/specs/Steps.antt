@@ -73,7 +73,7 @@ Steps d last left (Further rest) d2 last2 = (e : Entry) × (left ≡ written_lin
 Steps d last left (End rest) d2 last2 = (left ≡ written_line end_row ++ rest.now) × (d2 ≡ d)
 Steps d last left (Refused kind) d2 last2 = (above : ℕ) → 2 ≤ above → IsLineFault d above left kind
 
--- the first fault; of want of memory nothing is said
+-- the first fault; of a lack of memory nothing is said
 abbrev pub IsFirst : Shape → List ℕ → DefectsFault → Type 0
 IsFirst m bytes Memory = Unit {0}
 IsFirst m bytes (At number kind) = IsFirstFault m bytes number kind

@@ -265,7 +265,7 @@ fn read_within(alloc: Global, shape: &Shape, bytes: &[u8]) -> Result<Defects, De
 pub fn read_defects(alloc: Global, shape: &Shape, bytes: &[u8]) -> Result<Defects, DefectsFault>
     ensures found { IfOk result (λ d. IsText shape.now bytes.now d × (length bytes.now ≤ most_bytes)) }
     ensures refused { IfErr result (IsRefusedAs shape.now bytes.now) }
-    // The text of a list within the limit on bytes is read, unless memory is wanting.
+    // The text of a list within the limit on bytes is read, unless memory is lacking.
     ensures only { (d : DefectList) → IsText shape.now bytes.now d → length bytes.now ≤ most_bytes → GivesOrLacks d result }
 {
     machine_shape::names_are_one_to_one();

@@ -93,7 +93,7 @@ refusal_at (Some false) false n = Some Doubled
 abbrev pub refusal_of : Faults → Fault → Option AddFault
 refusal_of f x = if is_loop x then Some Same else refusal_at (value_at f x) (value_of x) (count_of f)
 
--- a refusal is that one; of want of memory nothing is said
+-- a refusal is that one; of a lack of memory nothing is said
 abbrev pub IsRefusal : Option AddFault → AddFault → Type 0
 IsRefusal why Memory = Unit {0}
 IsRefusal why given = why ≡ Some given

@@ -83,12 +83,12 @@ IsFaultAt m bytes number kind =
     ((most_bytes < length bytes) × (number ≡ 0) × (kind ≡ Limit))
     ⊎ ((length bytes ≤ most_bytes) × IsFirstFault m (logical_lines false bytes) number kind)
 
--- a text is refused for its first fault; of want of memory nothing is said
+-- a text is refused for its first fault; of a lack of memory nothing is said
 abbrev pub IsRefusedAs : Shape → List ℕ → FaultsFault → Type 0
 IsRefusedAs m bytes Memory = Unit {0}
 IsRefusedAs m bytes (At line kind) = IsFaultAt m bytes line kind
 
--- a call gives these faults, or memory was wanting
+-- a call gives these faults, or memory was lacking
 abbrev pub GivesOrLacks : Faulty → Result Faulty FaultsFault → Type 0
 GivesOrLacks s (Ok t) = t ≡ s
 GivesOrLacks s (Err Memory) = Unit {0}
@@ -106,7 +106,7 @@ abbrev pub line_told : LineFault → FaultsFault
 line_told line.Memory = Memory
 line_told (line.BadByte number) = At number Byte
 
--- the first fault of the lines; of want of memory nothing is said
+-- the first fault of the lines; of a lack of memory nothing is said
 abbrev pub IsFirst : Shape → List LogicalLine → FaultsFault → Type 0
 IsFirst m lines Memory = Unit {0}
 IsFirst m lines (At number kind) = IsFirstFault m lines number kind

@@ -82,7 +82,7 @@ fn put_pair(pairs: &mut BTreeSet<(u32, u32)>, low: u32, high: u32) -> Result<(),
     Ok(())
 }
 
-/// Adds a bridge that isn't there, to the set and to the list. Where memory is wanting, both are as they were.
+/// Adds a bridge that isn't there, to the set and to the list. Where memory is lacking, both are as they were.
 fn put_bridge(
     pairs: &mut BTreeSet<(u32, u32)>,
     bridges: &mut Vec<(Wire, Wire)>,
@@ -202,7 +202,7 @@ pub fn refusal_of(entries: &Entries, count: u32, f: Fault) -> Option<AddFault>
     }
 }
 
-/// Adds a fault whose place is free. Where memory is wanting, the entries are as they were.
+/// Adds a fault whose place is free. Where memory is lacking, the entries are as they were.
 pub fn put(entries: &mut Entries, f: Fault) -> Result<(), AllocError>
     requires listed { Lists entries.old.bridges.items (faults_in entries.old).bridges }
     requires free { value_at (faults_in entries.old) f ≡ None }

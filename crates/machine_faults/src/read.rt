@@ -88,7 +88,7 @@ fn read_lines(alloc: Global, shape: &Shape, bytes: &[u8]) -> Result<FaultSet, Fa
 pub fn read_faults(alloc: Global, shape: &Shape, bytes: &[u8]) -> Result<FaultSet, FaultsFault>
     ensures found { IfOk result (λ s. (s.shape ≡ shape.now) × IsFaultText shape.now bytes.now s.faults × (length bytes.now ≤ most_bytes)) }
     ensures refused { IfErr result (IsRefusedAs shape.now bytes.now) }
-    // A text of faults within the limit on bytes is read, unless memory is wanting.
+    // A text of faults within the limit on bytes is read, unless memory is lacking.
     ensures only { (f : Faults) → IsFaultText shape.now bytes.now f → length bytes.now ≤ most_bytes →
         GivesOrLacks (record { shape = shape.now; faults = f }) result }
 {

@@ -201,7 +201,7 @@ fn put_faults(text: &mut Vec<u8>, shape: &Shape, faults: &[Fault]) -> Result<(),
 /// The text of a fault set, an entry a line: what is stuck at 0, at 1, open and closed, then cells, registers and
 /// bridges, each group ascending by number. Cells stand by their table, then their address; bridges, the lower wire
 /// first, by that wire, then the other. It has at most 16,777,216 bytes, and reading it gives the set again, unless
-/// memory is wanting.
+/// memory is lacking.
 pub fn faults_text(alloc: Global, set: &FaultSet) -> Result<Vec<u8>, AllocError>
     ensures text { IfOk result (λ text. IsWritten set.now.shape set.now.faults text.items) }
     ensures faults { IfOk result (λ text. IsFaultText set.now.shape text.items set.now.faults) }

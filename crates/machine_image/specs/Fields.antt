@@ -23,7 +23,7 @@ pub data IsRefusedField (size : ℕ) (fault_of : ℕ → Option ImageKind) (byte
   is_wrong : (n : ℕ) (k : ImageKind) → Stands size n bytes at → fault_of n ≡ Some k → fault ≡ At at k →
       IsRefusedField size fault_of bytes at fault
 
--- a fault has this place and kind; of want of memory nothing is said
+-- a fault has this place and kind; of a lack of memory nothing is said
 abbrev pub FaultIn : (ℕ → ImageKind → Type 0) → ImageFault → Type 0
 FaultIn Fault Memory = Unit {0}
 FaultIn Fault (At line kind) = Fault line kind

@@ -8,7 +8,7 @@ ghost use Rattle.machine_shape.specs.Shape.{levels_of, wires_of, tables_of, plac
 ghost use Rattle.machine_shape.specs.Walk.{wires_in};
 
 use crate::places::{first_table, first_wire, levels_of, steps_of};
-use crate::tree::{below, under};
+use crate::tree::{below, way_under};
 use crate::way::{Read, Way};
 use crate::{Level, Shape, Table, Wire};
 use base_text::read_number;
@@ -21,7 +21,7 @@ fn dot_in(text: &[u8]) -> Option<usize>
 }
 
 /// The text before a place.
-fn before(text: &[u8], place: usize) -> &[u8]
+fn text_before(text: &[u8], place: usize) -> &[u8]
     requires { place ≤ length text.now }
     ensures { result.now ≡ take place text.now }
 {
@@ -74,14 +74,14 @@ fn read_steps(levels: &[Level], letters: &[u8], text: &[u8]) -> Option<Read>
         [level, rest @ ..] => match letters {
             [] => None,
             [letter, others @ ..] => {
-                let Some(child) = read_numbered(before(text, dot), *letter, level.children) else {
+                let Some(child) = read_numbered(text_before(text, dot), *letter, level.children) else {
                     return None;
                 };
                 let Some(read) = read_steps(rest, others, after(text, dot + 1)) else {
                     return None;
                 };
                 Some(Read {
-                    way: under(child, read.way),
+                    way: way_under(child, read.way),
                     last: dot + 1 + read.last,
                 })
             }

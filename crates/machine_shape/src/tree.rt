@@ -101,7 +101,7 @@ pub fn weights_of(kind: Kind, levels: [Level; 4]) -> Weights
 }
 
 /// The place of a number that a node or table has of its own.
-fn here(position: u32) -> Site
+fn own_site(position: u32) -> Site
     ensures site { IsSiteOf result (record { path = []; position = position }) }
     ensures len { result.way.len ≡ 0 }
 {
@@ -115,7 +115,7 @@ fn here(position: u32) -> Site
 }
 
 /// The way that takes this step first.
-pub fn under(child: u32, way: Way) -> Way
+pub fn way_under(child: u32, way: Way) -> Way
     requires { way.len < 4 }
     ensures path { path_of result ≡ child ∷ path_of way }
     ensures len { result.len ≡ way.len + 1 }
@@ -135,7 +135,7 @@ fn step_to(child: u32, site: Site) -> Site
     ensures len { result.way.len ≡ site.way.len + 1 }
 {
     Site {
-        way: under(child, site.way),
+        way: way_under(child, site.way),
         position: site.position,
     }
 }
@@ -182,10 +182,10 @@ fn site_in_hextant(hextants: Weight, number: u32) -> Site
     ensures len { result.way.len ≤ 1 }
 {
     if number < hextants.own {
-        here(number)
+        own_site(number)
     } else {
         let (child, rest) = down(hextants, number);
-        step_to(child, here(rest))
+        step_to(child, own_site(rest))
     }
 }
 
@@ -196,7 +196,7 @@ fn site_in_chip(chips: Weight, hextants: Weight, number: u32) -> Site
     ensures len { result.way.len ≤ 2 }
 {
     if number < chips.own {
-        here(number)
+        own_site(number)
     } else {
         let (child, rest) = down(chips, number);
         step_to(child, site_in_hextant(hextants, rest))
@@ -210,7 +210,7 @@ fn site_in_module(modules: Weight, chips: Weight, hextants: Weight, number: u32)
     ensures len { result.way.len ≤ 3 }
 {
     if number < modules.own {
-        here(number)
+        own_site(number)
     } else {
         let (child, rest) = down(modules, number);
         step_to(child, site_in_chip(chips, hextants, rest))
@@ -224,7 +224,7 @@ pub fn site_of(weights: Weights, number: u32) -> Site
     ensures { IsSiteOf result (place_by (weights_at weights) number) }
 {
     if number < weights.root.own {
-        here(number)
+        own_site(number)
     } else {
         let (child, rest) = down(weights.root, number);
         step_to(

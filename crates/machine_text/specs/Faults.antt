@@ -70,12 +70,12 @@ IsFault bytes line kind =
     ((most_bytes < length bytes) × ((line ≡ 0) × (kind ≡ Limit)))
     ⊎ ((length bytes ≤ most_bytes) × IsFirstFault (logical_lines false bytes) line kind)
 
--- a text is refused for its fault; of want of memory nothing is said
+-- a text is refused for its fault; of a lack of memory nothing is said
 abbrev pub IsRefusedAs : List ℕ → MachineFault → Type 0
 IsRefusedAs bytes Memory = Unit {0}
 IsRefusedAs bytes (At line kind) = IsFault bytes line kind
 
--- a call gives the shape of these counts, or memory was wanting
+-- a call gives the shape of these counts, or memory was lacking
 abbrev pub GivesOrLacks : Counts → Result Shape MachineFault → Type 0
 GivesOrLacks c (Ok s) = s.counts ≡ c
 GivesOrLacks c (Err Memory) = Unit {0}

@@ -14,7 +14,7 @@ state_of r = record { read = r.read; counts = r.counts }
 abbrev pub IsReader : Reader → Type 0
 IsReader r = MatchOption r.shape (r.read < 9) (λ s. (r.read ≡ 9) × (s.counts ≡ r.counts) × MakeShape r.counts)
 
--- reading the lines comes to this fault; of want of memory nothing is said
+-- reading the lines comes to this fault; of a lack of memory nothing is said
 abbrev pub IsReadFault : List LogicalLine → MachineFault → Type 0
 IsReadFault lines Memory = Unit {0}
 IsReadFault lines (At line kind) = reading start lines ≡ Err (line, kind)

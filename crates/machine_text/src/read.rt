@@ -73,7 +73,7 @@ fn read_lines(alloc: Global, bytes: &[u8]) -> Result<Shape, MachineFault>
 pub fn read_machine(alloc: Global, bytes: &[u8]) -> Result<Shape, MachineFault>
     ensures found { IfOk result (λ s. IsMachine bytes.now s.counts × (length bytes.now ≤ most_bytes)) }
     ensures refused { IfErr result (IsRefusedAs bytes.now) }
-    // The text of a machine within the limit on bytes is read, unless memory is wanting.
+    // The text of a machine within the limit on bytes is read, unless memory is lacking.
     ensures only { (c : Counts) → IsMachine bytes.now c → length bytes.now ≤ most_bytes → GivesOrLacks c result }
 {
     if bytes.len() > MOST_BYTES {

@@ -39,7 +39,7 @@ impl NetworkEval {
     ///
     /// # Errors
     ///
-    /// Want of memory.
+    /// Out of memory.
     pub fn start(alloc: Global, network: &Network) -> Result<Option<Self>, AllocError>
         requires { IsNetwork network.now }
         ensures { IfOk result (λ o. MatchOption o (IsNotInOrder network.now) (λ e. IsFirst network.now e)) }

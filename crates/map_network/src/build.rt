@@ -101,7 +101,7 @@ fn build(alloc: Global, draft: &NetlistData) -> Result<Network, AllocError>
 ///
 /// # Errors
 ///
-/// Want of memory.
+/// Out of memory.
 pub fn plain(alloc: Global, netlist: &Netlist) -> Result<Network, AllocError>
     ensures plain { IfOk result (λ network. IsPlainNetwork netlist.now network) }
     ensures network { IfOk result (λ network. IsNetwork network) }

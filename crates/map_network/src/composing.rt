@@ -58,7 +58,7 @@ fn put_cells(parts: &mut [u64; 64], cells: u64, from: usize, size: usize)
 }
 
 /// The cells that are addressed where pins give these masks; pins without a mask give 1. `parts` is room to work in.
-fn composed(parts: &mut [u64; 64], cells: u64, masks: &[u64]) -> u64
+fn compose_cells(parts: &mut [u64; 64], cells: u64, masks: &[u64]) -> u64
     requires { length masks.now ≤ 6 }
     ensures { Give result (λ a. cell_at cells (number_of (map (λ k. slice_index_or (masks_at masks.now a) k true) (range_with_len 0 6)))) }
 {
@@ -117,7 +117,7 @@ fn word_of(parts: &mut [u64; 64], ins: &[Source], table: u32, given: u64, net: &
     let read = net.ins.as_slice();
     let mut masks = [0; 6];
     set_masks(&mut masks, ins, table, given, read);
-    composed(parts, net.cells, &masks[..read.len()])
+    compose_cells(parts, net.cells, &masks[..read.len()])
 }
 
 /// The cells of the reader over these inputs, where what the table gives is its input.

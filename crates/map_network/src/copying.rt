@@ -55,7 +55,7 @@ pub fn copied_sources(alloc: Global, sources: &[Source]) -> Result<Vec<Source>, 
 ///
 /// # Errors
 ///
-/// Want of memory.
+/// Out of memory.
 pub fn copied_network(alloc: Global, network: &Network) -> Result<Network, AllocError>
     ensures { IfOk result (λ copy. copy ≡ network.now) }
 {

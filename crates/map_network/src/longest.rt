@@ -224,7 +224,7 @@ fn visit(search: &mut Search, network: &Network, table: u32) -> Result<(), Alloc
 ///
 /// # Errors
 ///
-/// Want of memory.
+/// Out of memory.
 pub fn depth(alloc: Global, network: &Network) -> Result<u32, AllocError>
     requires { IsNetwork network.now }
     ensures { IfOk result (λ depth. IsDepth network.now depth) }

@@ -13,7 +13,7 @@ use crate::build::plain;
 use crate::compact::{compacted, is_closed};
 use crate::copying::{copied_network, copied_sources, copied_tables};
 use crate::network::Network;
-use crate::readers::{joinable, readers_of};
+use crate::readers::{find_joinable, readers_of};
 use crate::work::{Work, join, run};
 use base_lists::Items;
 use design_netlist::Netlist;
@@ -89,7 +89,7 @@ fn found_by(alloc: Global, network: &Network, work: Work) -> Result<Found, Alloc
 
 /// The network with the table put into its reader, and with whatever else the search finds. None where something still
 /// reads a table that the search has put into a reader.
-fn searched(
+fn search_from(
     alloc: Global,
     network: &Network,
     table: u32,
@@ -133,14 +133,14 @@ fn found_in(alloc: Global, network: Network, table: u32, reader: u32) -> Result<
     requires can { CanJoin network table reader }
     ensures { IfOk result (IsFound network table) }
 {
-    if let Some(found) = searched(alloc, &network, table, reader)? {
+    if let Some(found) = search_from(alloc, &network, table, reader)? {
         return Ok(found);
     }
     joined_alone(alloc, &network, table, reader)
 }
 
 /// The network with the table put into its reader, and with whatever else the search finds.
-fn reduced(alloc: Global, network: Network, table: u32, reader: u32) -> Result<Network, AllocError>
+fn reduce_from(alloc: Global, network: Network, table: u32, reader: u32) -> Result<Network, AllocError>
     requires network { IsNetwork network }
     requires can { CanJoin network table reader }
     ensures { IfOk result (λ smaller. IsSmaller network smaller) }
@@ -157,10 +157,10 @@ fn merged_whole(alloc: Global, whole: Network) -> Result<Network, AllocError>
     ensures whole { IfOk result (λ network. IsWhole network) }
 {
     let mut network = whole;
-    let mut found = joinable(alloc, &network)?;
+    let mut found = find_joinable(alloc, &network)?;
     'passes: while let Some((table, reader)) = found {
-        network = reduced(alloc, network, table, reader)?;
-        found = joinable(alloc, &network)?;
+        network = reduce_from(alloc, network, table, reader)?;
+        found = find_joinable(alloc, &network)?;
     }
     Ok(network)
 }
@@ -171,7 +171,7 @@ fn merged_whole(alloc: Global, whole: Network) -> Result<Network, AllocError>
 ///
 /// # Errors
 ///
-/// Want of memory.
+/// Out of memory.
 pub fn merged_of(alloc: Global, network: &Network) -> Result<Network, AllocError>
     requires { IsNetwork network.now }
     ensures network { IfOk result (λ merged. IsNetwork merged) }
@@ -193,8 +193,8 @@ pub fn merged_of(alloc: Global, network: &Network) -> Result<Network, AllocError
 ///
 /// # Errors
 ///
-/// Want of memory.
-pub fn merged(alloc: Global, netlist: &Netlist) -> Result<Network, AllocError>
+/// Out of memory.
+pub fn merge_tables(alloc: Global, netlist: &Netlist) -> Result<Network, AllocError>
     ensures network { IfOk result (λ network. IsNetwork network) }
     ensures rows { IfOk result (λ network. HasRowsOf network netlist.now) }
     ensures fewer { IfOk result (λ network. length network.tables ≤ length (plain_network netlist.now).tables) }

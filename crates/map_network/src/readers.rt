@@ -97,7 +97,7 @@ fn reader_for(alloc: Global, network: &Network, readers: &[Readers], table: u32)
 }
 
 /// A table that can be put into its reader, and the reader.
-pub fn joinable(alloc: Global, network: &Network) -> Result<Option<(u32, u32)>, AllocError>
+pub fn find_joinable(alloc: Global, network: &Network) -> Result<Option<(u32, u32)>, AllocError>
     requires { IsNetwork network.now }
     ensures { IfOk result (λ found. MatchOption found (IsWhole network.now) (λ pair. CanJoin network.now pair.0 pair.1)) }
 {

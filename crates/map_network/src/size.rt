@@ -25,7 +25,7 @@ fn covers_size(alloc: Global, covers: &[Cover]) -> Result<usize, AllocError>
 ///
 /// # Errors
 ///
-/// Want of memory.
+/// Out of memory.
 pub fn plain_size(alloc: Global, netlist: &Netlist) -> Result<u64, AllocError>
     ensures { IfOk result (λ size. size ≡ length (plain_network netlist.now).tables) }
 {

@@ -97,7 +97,7 @@ fn spread_rounds(alloc: Global, network: Network) -> Result<Network, AllocError>
 ///
 /// # Errors
 ///
-/// Want of memory.
+/// Out of memory.
 pub fn spread_of(alloc: Global, network: &Network) -> Result<Network, AllocError>
     requires { IsNetwork network.now }
     ensures network { IfOk result (λ spread. IsNetwork spread) }

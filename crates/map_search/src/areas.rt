@@ -248,7 +248,7 @@ impl<'a> Areas<'a> {
     }
 
     /// The cuts that nodes have, and which nodes have tables.
-    pub fn chosen(&self, alloc: Global) -> Result<Chosen, AllocError> {
+    pub fn choice_of(&self, alloc: Global) -> Result<Chosen, AllocError> {
         let mut cuts = Vec::with_capacity(alloc, self.places.len())?;
         let mut tables = Vec::with_capacity(alloc, self.places.len())?;
         'nodes: for node in 0..self.places.len() {

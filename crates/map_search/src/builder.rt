@@ -74,7 +74,7 @@ impl Builder {
     }
 
     // The AND of two literals, the lesser first.
-    fn shared(&mut self, left: u32, right: u32) -> Result<u32, AllocError> {
+    fn share_and(&mut self, left: u32, right: u32) -> Result<u32, AllocError> {
         let key = (left as u64).wrapping_shl(32) | right as u64;
         if let Some(literal) = self.known.get(&key) {
             return Ok(*literal);
@@ -100,7 +100,7 @@ impl Builder {
         if left == 1 || left == right {
             return Ok(right);
         }
-        self.shared(left, right)
+        self.share_and(left, right)
     }
 
     /// The OR of two literals.

@@ -5,7 +5,7 @@ use crate::cuts::{Cut, NO_CUT};
 use crate::layout::{Layout, Table};
 use crate::numbers::node_of;
 use crate::reach::Nodes;
-use crate::words::{flipped, pin};
+use crate::words::{flip_pin, pin};
 use std::alloc::{AllocError, Global};
 
 /// How many steps are taken to see whether an input follows from others, and how many to find the cells.
@@ -62,23 +62,23 @@ fn settle_inputs(layout: &Layout, cone: &mut Cone<'_>, ins: &Cut) -> Result<Cut,
 }
 
 // Cells of pins that show nodes, as cells of inputs that show literals.
-fn turned(layout: &Layout, ins: &Cut, cells: u64) -> u64 {
+fn turn_cells(layout: &Layout, ins: &Cut, cells: u64) -> u64 {
     let mut turned = cells;
     'inputs: for k in 0..ins.count {
         if layout.label(ins.leaf(k)) & 1 == 1 {
-            turned = flipped(turned, k);
+            turned = flip_pin(turned, k);
         }
     }
     turned
 }
 
 // A table with its cells.
-fn filled(layout: &Layout, cone: &mut Cone<'_>, table: &Table) -> Result<Table, AllocError> {
+fn fill_table(layout: &Layout, cone: &mut Cone<'_>, table: &Table) -> Result<Table, AllocError> {
     let root = layout.label(table.out);
     cone.begin();
     let ins = settle_inputs(layout, cone, &table.ins)?;
     let _ = cone.derive(root >> 1, 0, MOST_STEPS)?;
-    let cells = turned(layout, &ins, cone.word(root));
+    let cells = turn_cells(layout, &ins, cone.word(root));
     let out = table.out;
     Ok(Table { out, ins, cells })
 }
@@ -93,7 +93,7 @@ pub fn fill_tables(
     let mut cone = cone_of(alloc, nodes)?;
     let mut tables = Vec::with_capacity(alloc, layout.tables.len())?;
     'tables: for table in &layout.tables {
-        tables.push(filled(layout, &mut cone, table)?)?;
+        tables.push(fill_table(layout, &mut cone, table)?)?;
     }
     Ok(tables)
 }

@@ -6,7 +6,7 @@ use crate::graph::Made;
 use crate::hints::hints_of;
 use crate::layout::{Layout, NOWHERE, Table, Wire};
 use crate::names::{FreeNames, name_of};
-use crate::numbers::{mark, marked, set, small};
+use crate::numbers::{mark, is_marked, set, small};
 use crate::passes::choose_cuts;
 use crate::products::{Product, cheaper_of};
 use crate::puts::put_tables;
@@ -43,7 +43,7 @@ fn mark_inputs(marks: &mut Vec<bool>, ins: &Cut) {
 fn mark_down(marks: &mut Vec<bool>, tables: &[Table]) {
     'tables: for k in 0..tables.len() {
         let place = tables.len().wrapping_sub(k).wrapping_sub(1);
-        if place < tables.len() && marked(marks, tables[place].out as usize) {
+        if place < tables.len() && is_marked(marks, tables[place].out as usize) {
             mark_inputs(marks, &tables[place].ins);
         }
     }
@@ -62,7 +62,7 @@ fn read_tables(alloc: Global, layout: &Layout) -> Result<Vec<Table>, AllocError>
     let marks = read_wires(alloc, layout)?;
     let mut tables = Vec::new(alloc);
     'tables: for table in &layout.tables {
-        if marked(&marks, table.out as usize) {
+        if is_marked(&marks, table.out as usize) {
             tables.push(*table)?;
         }
     }
@@ -259,8 +259,8 @@ fn mapped_of(alloc: Global, layout: &Layout, names: &Names) -> Result<Mapped, Al
 ///
 /// # Errors
 ///
-/// Want of memory.
-pub fn covered(
+/// Out of memory.
+pub fn cover_design(
     alloc: Global,
     netlist: &Netlist,
     made: &Made,

@@ -1,7 +1,7 @@
 //! Sums of products as ANDs: the literal that most products have is taken out, again and again.
 
 use crate::builder::Builder;
-use crate::sums::{Sum, common, divided, part};
+use crate::sums::{Sum, common, divide_sum, part};
 use crate::trees::and_all;
 use crate::way::Join;
 use std::alloc::AllocError;
@@ -63,7 +63,7 @@ fn plain(builder: &mut Builder, sum: &Sum, join: Join) -> Result<u32, AllocError
 }
 
 // The sum of a last sum and of terms, which are added from the last on.
-fn summed(builder: &mut Builder, terms: Vec<u32>, last: u32) -> Result<u32, AllocError> {
+fn sum_terms(builder: &mut Builder, terms: Vec<u32>, last: u32) -> Result<u32, AllocError> {
     let mut sum = last;
     let mut left = terms;
     'terms: for _ in 0..left.len() {
@@ -92,16 +92,16 @@ fn factored_to(builder: &mut Builder, sum: Sum, join: Join, depth: u32) -> Resul
         let with = part(alloc, &left, literal, true)?;
         left = part(alloc, &left, literal, false)?;
         let divisor = common(alloc, &with)?;
-        let quotient = divided(alloc, &with, &divisor)?;
+        let quotient = divide_sum(alloc, &with, &divisor)?;
         let product = and_all(builder, divisor, join)?;
         let others = factored_to(builder, quotient, join, depth - 1)?;
         terms.push(builder.and(product, others)?)?;
     }
     let last = plain(builder, &left, join)?;
-    summed(builder, terms, last)
+    sum_terms(builder, terms, last)
 }
 
 /// The literal of a sum of products.
-pub fn factored(builder: &mut Builder, sum: Sum, join: Join) -> Result<u32, AllocError> {
+pub fn factor_sum(builder: &mut Builder, sum: Sum, join: Join) -> Result<u32, AllocError> {
     factored_to(builder, sum, join, MOST_DEPTH)
 }

@@ -1,7 +1,7 @@
 //! A design as a graph.
 
 use crate::builder::{Builder, Node};
-use crate::factor::factored;
+use crate::factor::factor_sum;
 use crate::latches::{Stand, find_alike, own_stands};
 use crate::narrow::literal_of_cells;
 use crate::numbers::{at, set, small};
@@ -48,7 +48,7 @@ fn by_cells(making: &mut Making, narrow: &Narrow, way: Way) -> Result<u32, Alloc
 // The literal of a cover by its rows.
 fn by_rows(making: &mut Making, cover: &Cover, way: Way) -> Result<u32, AllocError> {
     let sum = sum_of(making.builder.alloc, cover, &making.labels)?;
-    let literal = factored(&mut making.builder, sum, way.join())?;
+    let literal = factor_sum(&mut making.builder, sum, way.join())?;
     if cover.off {
         return Ok(literal ^ 1);
     }
@@ -198,7 +198,7 @@ fn made_of(
 ///
 /// # Errors
 ///
-/// Want of memory.
+/// Out of memory.
 pub fn graph_of(alloc: Global, netlist: &Netlist, way: Way) -> Result<Option<Made>, AllocError> {
     let draft = netlist.parts();
     let latches = draft.latches.as_slice();

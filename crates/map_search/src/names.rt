@@ -44,7 +44,7 @@ impl FreeNames {
     ///
     /// # Errors
     ///
-    /// Want of memory.
+    /// Out of memory.
     pub fn take(&mut self, name: &[u8]) -> Result<(), AllocError> {
         if let Some(number) = number_in(name, self.letter) {
             self.taken.push(number)?;
@@ -71,7 +71,7 @@ impl FreeNames {
     ///
     /// # Errors
     ///
-    /// Want of memory.
+    /// Out of memory.
     pub fn next(&mut self, alloc: Global) -> Result<Name, AllocError> {
         self.skip();
         let mut text = Vec::new(alloc);

@@ -1,7 +1,7 @@
 //! Functions of at most six literals as ANDs.
 
 use crate::builder::Builder;
-use crate::factor::factored;
+use crate::factor::factor_sum;
 use crate::products::{Product, cheaper_of, cost_of, products_of};
 use crate::sums::Sum;
 use crate::way::{Join, Way};
@@ -69,7 +69,7 @@ fn split_of(cells: u64, literals: &[u32]) -> Option<Split> {
 }
 
 // The gate of a split, over the literal of its other function.
-fn joined(builder: &mut Builder, split: Split, others: u32) -> Result<u32, AllocError> {
+fn join_split(builder: &mut Builder, split: Split, others: u32) -> Result<u32, AllocError> {
     match split.gate {
         Gate::And => builder.and(split.literal, others),
         Gate::Or => builder.or(split.literal, others),
@@ -110,7 +110,7 @@ fn sum_of_products(
 }
 
 // The function as a sum of products, or as the opposite of one.
-fn summed(
+fn sum_cells(
     builder: &mut Builder,
     cells: u64,
     literals: &[u32],
@@ -118,7 +118,7 @@ fn summed(
 ) -> Result<u32, AllocError> {
     let cheaper = cheaper_of(builder.alloc, cells)?;
     let sum = sum_of_products(builder, &cheaper.products, literals)?;
-    let literal = factored(builder, sum, join)?;
+    let literal = factor_sum(builder, sum, join)?;
     if cheaper.off {
         return Ok(literal ^ 1);
     }
@@ -165,10 +165,10 @@ fn literal_to(
     }
     if let Some(split) = split_of(cells, literals) {
         let others = literal_to(builder, split.others, literals, way, splits - 1)?;
-        return joined(builder, split, others);
+        return join_split(builder, split, others);
     }
     if way != Way::Multiplexers {
-        return summed(builder, cells, literals, way.join());
+        return sum_cells(builder, cells, literals, way.join());
     }
     let k = chooser_of(builder, cells, literals.len())?;
     let low = literal_to(builder, where_zero(cells, k), literals, way, splits - 1)?;

@@ -26,7 +26,7 @@ pub fn set(numbers: &mut Vec<u32>, place: usize, number: u32) {
 }
 
 /// Whether there is a mark at a place.
-pub fn marked(marks: &[bool], place: usize) -> bool {
+pub fn is_marked(marks: &[bool], place: usize) -> bool {
     place < marks.len() && marks[place]
 }
 

@@ -275,13 +275,13 @@ fn run(
     nodes: Nodes<'_>,
 ) -> Result<Chosen, AllocError> {
     let mut least = usize::MAX;
-    let mut chosen = areas.chosen(alloc)?;
+    let mut chosen = areas.choice_of(alloc)?;
     'passes: for k in 0..PASSES {
         pass(passes, areas, hints, nodes, k >= FLOWS)?;
         let count = areas.cover()?;
         if k.saturating_add(1) >= FLOWS && count < least {
             least = count;
-            chosen = areas.chosen(alloc)?;
+            chosen = areas.choice_of(alloc)?;
         }
         areas.expect();
     }

@@ -2,7 +2,7 @@
 
 use crate::cuts::{Cut, union};
 use crate::layout::{Layout, NOWHERE, Table, without_leaf};
-use crate::numbers::{at, mark, marked, set, small};
+use crate::numbers::{at, mark, is_marked, set, small};
 use std::alloc::{AllocError, Global};
 
 /// With few readers first: what costs no copy goes first.
@@ -108,7 +108,7 @@ impl Puts {
     // Whether a table is there and reads a wire.
     fn reads(&self, table: u32, wire: u32) -> bool {
         let place = table as usize;
-        if place >= self.tables.len() || marked(&self.gone, place) {
+        if place >= self.tables.len() || is_marked(&self.gone, place) {
             return false;
         }
         self.tables[place].ins.leaves.contains(&wire)
@@ -141,7 +141,7 @@ impl Puts {
     }
 
     // What a reader reads with a table put into it.
-    fn joined(&self, table: &Table, reader: u32) -> Option<Cut> {
+    fn join_into(&self, table: &Table, reader: u32) -> Option<Cut> {
         let reader = self.tables.get(reader as usize)?;
         let others = without_leaf(&reader.ins, table.out);
         union(&others, &table.ins)
@@ -151,7 +151,7 @@ impl Puts {
     fn all_joined(&self, table: &Table, readers: &[u32]) -> Result<Option<Vec<Cut>>, AllocError> {
         let mut cuts = Vec::new(self.alloc);
         'readers: for reader in readers {
-            let Some(cut) = self.joined(table, *reader) else {
+            let Some(cut) = self.join_into(table, *reader) else {
                 return Ok(None);
             };
             cuts.push(cut)?;
@@ -185,7 +185,7 @@ impl Puts {
 
     // Puts a table into all its readers, if they are few and have room.
     fn look(&mut self, place: usize, most: usize) -> Result<(), AllocError> {
-        if place >= self.tables.len() || marked(&self.gone, place) || marked(&self.fixed, place) {
+        if place >= self.tables.len() || is_marked(&self.gone, place) || is_marked(&self.fixed, place) {
             return Ok(());
         }
         let table = self.tables[place];
@@ -224,10 +224,10 @@ impl Puts {
     }
 
     // The tables that are there.
-    fn kept(&self) -> Result<Vec<Table>, AllocError> {
+    fn kept_tables(&self) -> Result<Vec<Table>, AllocError> {
         let mut kept = Vec::new(self.alloc);
         'tables: for k in 0..self.tables.len() {
-            if !marked(&self.gone, k) {
+            if !is_marked(&self.gone, k) {
                 kept.push(self.tables[k])?;
             }
         }
@@ -241,6 +241,6 @@ pub fn put_tables(alloc: Global, layout: &mut Layout) -> Result<(), AllocError> 
     'rounds: for most in &MOST_READERS {
         puts.round(*most)?;
     }
-    layout.tables = puts.kept()?;
+    layout.tables = puts.kept_tables()?;
     Ok(())
 }

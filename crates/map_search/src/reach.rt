@@ -1,6 +1,6 @@
 //! Nodes that outputs need.
 
-use crate::numbers::{mark, marked, node_of, small};
+use crate::numbers::{mark, is_marked, node_of, small};
 use design_equal::{And, Graph};
 use design_netlist::NetlistData;
 use std::alloc::{AllocError, Global};
@@ -113,5 +113,5 @@ pub fn needs_latch(graph: &Graph, reach: &Reach, place: usize) -> bool {
     let node = (graph.inputs as usize)
         .saturating_add(place)
         .saturating_add(1);
-    marked(&reach.live, node)
+    is_marked(&reach.live, node)
 }

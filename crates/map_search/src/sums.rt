@@ -62,7 +62,7 @@ impl Sum {
 }
 
 /// The literals of the first list that are in the second one, or those that aren't.
-pub fn among(
+pub fn literals_among(
     alloc: Global,
     literals: &[u32],
     others: &[u32],
@@ -93,16 +93,16 @@ pub fn part(alloc: Global, sum: &Sum, literal: u32, wanted: bool) -> Result<Sum,
 pub fn common(alloc: Global, sum: &Sum) -> Result<Vec<u32>, AllocError> {
     let mut common = Vec::from_slice(alloc, sum.product(0))?;
     'products: for k in 1..sum.len() {
-        common = among(alloc, &common, sum.product(k), true)?;
+        common = literals_among(alloc, &common, sum.product(k), true)?;
     }
     Ok(common)
 }
 
 /// The products without these literals.
-pub fn divided(alloc: Global, sum: &Sum, literals: &[u32]) -> Result<Sum, AllocError> {
+pub fn divide_sum(alloc: Global, sum: &Sum, literals: &[u32]) -> Result<Sum, AllocError> {
     let mut quotient = Sum::new(alloc);
     'products: for k in 0..sum.len() {
-        let product = among(alloc, sum.product(k), literals, false)?;
+        let product = literals_among(alloc, sum.product(k), literals, false)?;
         quotient.push(&product)?;
     }
     Ok(quotient)

@@ -112,7 +112,7 @@ impl<'a> Writer<'a> {
 ///
 /// # Errors
 ///
-/// Want of memory.
+/// Out of memory.
 pub fn design_text(alloc: Global, draft: &NetlistData) -> Result<Vec<u8>, AllocError> {
     let mut writer = Writer {
         alloc,
@@ -149,7 +149,7 @@ fn labels_of_names(
 ///
 /// # Errors
 ///
-/// Want of memory.
+/// Out of memory.
 pub fn labels_by_name(
     alloc: Global,
     draft: &NetlistData,

@@ -22,7 +22,7 @@ fn pairs(builder: &mut Builder, literals: &[u32]) -> Result<Vec<u32>, AllocError
 }
 
 // In pairs of pairs.
-fn balanced(builder: &mut Builder, literals: Vec<u32>) -> Result<u32, AllocError> {
+fn balance_literals(builder: &mut Builder, literals: Vec<u32>) -> Result<u32, AllocError> {
     let mut left = literals;
     'levels: for _ in 0..64 {
         if left.len() < 2 {
@@ -34,7 +34,7 @@ fn balanced(builder: &mut Builder, literals: Vec<u32>) -> Result<u32, AllocError
 }
 
 // One after the other.
-fn chained(builder: &mut Builder, literals: &[u32]) -> Result<u32, AllocError> {
+fn chain_literals(builder: &mut Builder, literals: &[u32]) -> Result<u32, AllocError> {
     let mut and = 1;
     'literals: for literal in literals {
         and = builder.and(and, *literal)?;
@@ -91,11 +91,11 @@ fn lowest_first(builder: &mut Builder, literals: &[u32]) -> Result<u32, AllocErr
 /// The AND of literals.
 pub fn and_all(builder: &mut Builder, literals: Vec<u32>, join: Join) -> Result<u32, AllocError> {
     match join {
-        Join::Pairs => balanced(builder, literals),
-        Join::Chain => chained(builder, &literals),
+        Join::Pairs => balance_literals(builder, literals),
+        Join::Chain => chain_literals(builder, &literals),
         Join::Lowest => {
             if literals.len() > MOST_SORTED {
-                balanced(builder, literals)
+                balance_literals(builder, literals)
             } else {
                 lowest_first(builder, &literals)
             }

@@ -31,7 +31,7 @@ pub fn where_one(cells: u64, k: usize) -> u64 {
 }
 
 /// The function of the negated pin.
-pub fn flipped(cells: u64, k: usize) -> u64 {
+pub fn flip_pin(cells: u64, k: usize) -> u64 {
     let high = (cells & pin(k)).wrapping_shr(width(k));
     let low = (cells & !pin(k)).wrapping_shl(width(k));
     high | low

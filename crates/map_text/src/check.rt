@@ -66,7 +66,7 @@ fn have_same_rows(
 
 /// The text of what the search drew for a design, with the netlist that it is read as, where that has the design's names and rows
 /// and each of its covers few inputs.
-pub fn checked(
+pub fn check_drawn(
     alloc: Global,
     design: &Netlist,
     made: &Made,

@@ -7,15 +7,15 @@ ghost use Rattle.place_plan.specs.Plans.{IsPlaceFail};
 ghost use Rattle.map_text.specs.Remapped.{HasNarrowCovers, HasPlan, IsAnotherText, IsFitting, IsNarrowOr, IsRemapped};
 ghost use Rattle.map_text.specs.Remapped.{MayStandFor, tables_in};
 
-use crate::check::checked;
+use crate::check::check_drawn;
 use crate::rounds::remapped;
-use crate::text::{Remapped, given};
+use crate::text::{Remapped, given_text};
 use base_lists::Items;
 use design_netlist::Netlist;
 use machine_defects::Defects;
 use map_network::{plain, plain_size};
 use map_search::{Mapped, Way, graph_of};
-use place_order::ordered;
+use place_order::order_covers;
 use place_plan::{PlaceFail, in_order};
 use std::alloc::{AllocError, Global};
 
@@ -56,10 +56,10 @@ fn in_new_order(
         Some(made) => made,
         None => return Ok(None),
     };
-    let draft = ordered(alloc, design.parts(), defects, spare)?;
+    let draft = order_covers(alloc, design.parts(), defects, spare)?;
     let labels = Items::new(made.labels.as_slice().to_vec(alloc)?);
     let drawn = Mapped { draft, labels };
-    checked(alloc, design, &made, &drawn)
+    check_drawn(alloc, design, &made, &drawn)
 }
 
 // The text that was found, if it has no more tables than the given design, and there is room for it.
@@ -88,7 +88,7 @@ fn with_room(
 }
 
 // An order of a design for which there is room, if one is found; with no more tables than the given design.
-fn fitting(
+fn find_fitting(
     alloc: Global,
     netlist: &Netlist,
     design: &Netlist,
@@ -113,16 +113,16 @@ fn some_order(
     ensures narrow { IfOk result (λ o. IfSome o (λ r. HasNarrowCovers r.netlist)) }
     ensures room { IfOk result (λ o. IfSome o (λ r. HasPlan defects.now r.netlist)) }
 {
-    if let Some(text) = fitting(alloc, netlist, &mapped.netlist, defects, 0)? {
+    if let Some(text) = find_fitting(alloc, netlist, &mapped.netlist, defects, 0)? {
         return Ok(Some(text));
     }
     let most = plain_size(alloc, netlist)?;
     let fewer = most.saturating_sub(plain_size(alloc, &mapped.netlist)?);
     let spare = fewer.min(u64::from(u32::MAX)) as u32;
-    if let Some(text) = fitting(alloc, netlist, &mapped.netlist, defects, spare)? {
+    if let Some(text) = find_fitting(alloc, netlist, &mapped.netlist, defects, spare)? {
         return Ok(Some(text));
     }
-    fitting(alloc, netlist, netlist, defects, 0)
+    find_fitting(alloc, netlist, netlist, defects, 0)
 }
 
 /// Another text of a design, with the same rows and no more tables, for which there is room on a machine: the in-order plan of its
@@ -131,7 +131,7 @@ fn some_order(
 /// # Errors
 ///
 /// `Short` where that plan of the given design doesn't fit, and no text that was tried fits, with what is short for the given
-/// design. `Memory` for want of memory.
+/// design. `Memory` for lack of memory.
 pub fn remapped_within(
     alloc: Global,
     text: &[u8],
@@ -152,7 +152,7 @@ pub fn remapped_within(
     if let Some(found) = some_order(alloc, netlist, &mapped, defects)? {
         return Ok(found);
     }
-    let own = given(alloc, text, netlist)?;
+    let own = given_text(alloc, text, netlist)?;
     match look_for_room(alloc, netlist, defects) {
         Ok(()) => Ok(own),
         Err(fail) => Err(fail),

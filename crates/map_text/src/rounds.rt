@@ -4,10 +4,10 @@ ghost use Rattle.base_text.specs.Size.{most_bytes};
 ghost use Rattle.design_blif.specs.Designs.{IsDesign};
 ghost use Rattle.map_text.specs.Remapped.{HasNarrowCovers, IsAnotherText, IsNarrowOr, IsRemapped, MayStandFor};
 
-use crate::check::checked;
-use crate::text::{Remapped, given, lesser};
+use crate::check::check_drawn;
+use crate::text::{Remapped, given_text, lesser};
 use design_netlist::Netlist;
-use map_search::{Way, covered, graph_of};
+use map_search::{Way, cover_design, graph_of};
 use std::alloc::{AllocError, Global};
 
 /// How many ANDs the graphs of all rounds may have in sum before no further round begins.
@@ -99,8 +99,8 @@ fn found_from(alloc: Global, design: &Netlist, round: Round) -> Result<Found, Al
     };
     let ands = made.graph.ands.as_slice().len() as u64;
     let cuts = cuts_for(round, ands);
-    let drawn = covered(alloc, design, &made, cuts, round.chance)?;
-    let text = checked(alloc, design, &made, &drawn)?;
+    let drawn = cover_design(alloc, design, &made, cuts, round.chance)?;
+    let text = check_drawn(alloc, design, &made, &drawn)?;
     Ok(Found { text, ands })
 }
 
@@ -110,7 +110,7 @@ fn by_ways(alloc: Global, text: &[u8], netlist: &Netlist) -> Result<Search, Allo
     requires short { length text.now ≤ most_bytes }
     ensures { IfOk result (λ s. MayStandFor netlist.now text.now s.best) }
 {
-    let mut best = given(alloc, text, netlist)?;
+    let mut best = given_text(alloc, text, netlist)?;
     let mut ands = 0u64;
     'ways: for k in 0..FIRST_WAYS.len() {
         if ands >= ENOUGH_ANDS {
@@ -133,7 +133,7 @@ fn by_ways(alloc: Global, text: &[u8], netlist: &Netlist) -> Result<Search, Allo
 ///
 /// # Errors
 ///
-/// Want of memory.
+/// Out of memory.
 pub fn remapped(alloc: Global, text: &[u8], netlist: &Netlist) -> Result<Remapped, AllocError>
     requires design { IsDesign text.now netlist.now }
     requires short { length text.now ≤ most_bytes }

@@ -30,7 +30,7 @@ pub fn read_again(alloc: Global, text: &[u8]) -> Result<Option<Netlist>, AllocEr
 }
 
 /// The given text with its netlist, which it is read as again.
-pub fn given(alloc: Global, text: &[u8], netlist: &Netlist) -> Result<Remapped, AllocError>
+pub fn given_text(alloc: Global, text: &[u8], netlist: &Netlist) -> Result<Remapped, AllocError>
     requires design { IsDesign text.now netlist.now }
     requires short { length text.now ≤ most_bytes }
     ensures text { IfOk result (λ r. r.text ≡ text.now) }
@@ -42,7 +42,7 @@ pub fn given(alloc: Global, text: &[u8], netlist: &Netlist) -> Result<Remapped, 
             text: Items::new(bytes),
             netlist,
         }),
-        // The text of a design is refused for want of memory alone.
+        // The text of a design is refused for lack of memory alone.
         Err(_) => Err(AllocError),
     }
 }

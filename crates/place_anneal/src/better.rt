@@ -23,7 +23,7 @@ pub struct Better {
 }
 
 // These numbers.
-fn copied(alloc: Global, numbers: &[u32]) -> Result<Items<u32>, AllocError>
+fn copy_numbers(alloc: Global, numbers: &[u32]) -> Result<Items<u32>, AllocError>
     ensures { IfOk result (λ copy. copy ≡ numbers.now) }
 {
     let copy = numbers.to_vec(alloc)?;
@@ -31,7 +31,7 @@ fn copied(alloc: Global, numbers: &[u32]) -> Result<Items<u32>, AllocError>
 }
 
 // The plan that a search finds from this one on, or anew; it may be worse.
-fn found(
+fn find_plan(
     alloc: Global,
     network: &Network,
     plan: &Plan,
@@ -47,8 +47,8 @@ fn found(
     let moved = search(alloc, &defects.shape(), network, seats, anew)?;
     let first = &moved[..tables.len()];
     let tables = tables_at(alloc, first)?;
-    let inputs = copied(alloc, plan.inputs.as_slice())?;
-    let outputs = copied(alloc, plan.outputs.as_slice())?;
+    let inputs = copy_numbers(alloc, plan.inputs.as_slice())?;
+    let outputs = copy_numbers(alloc, plan.outputs.as_slice())?;
     Ok(Plan {
         tables,
         inputs,
@@ -71,7 +71,7 @@ fn better_by(
         HasCrossings defects.now.shape network.now plan.now before → most ≤ before →
         IsBetterBy defects.now.shape defects.now.list network.now plan.now most better)) }
 {
-    let plan = found(alloc, network, plan, defects, anew)?;
+    let plan = find_plan(alloc, network, plan, defects, anew)?;
     let crossings = crossings_of(alloc, network, &plan, defects)?;
     if crossings >= most {
         return Ok(None);
@@ -127,7 +127,7 @@ fn better_plan(
 ///
 /// # Errors
 ///
-/// Want of memory; the plan is dropped.
+/// Out of memory; the plan is dropped.
 pub fn improve(
     alloc: Global,
     network: &Network,
@@ -152,7 +152,7 @@ pub fn improve(
 ///
 /// # Errors
 ///
-/// Want of memory; the plan is dropped.
+/// Out of memory; the plan is dropped.
 pub fn improve_laid(
     alloc: Global,
     network: &Network,

@@ -26,7 +26,7 @@ fn length_in_sum(lists: &[Items<u32>]) -> u128
 ///
 /// # Errors
 ///
-/// Want of memory.
+/// Out of memory.
 pub fn crossings_of(
     alloc: Global,
     network: &Network,

@@ -147,7 +147,7 @@ fn next(trial: &Trial, growth: &mut Growth, target: usize) -> Option<(usize, usi
     let place = trial.holders.get(target).copied()?;
     let seat = trial.seats.get(place).copied()?;
     growth.queue.go_on();
-    let table = best_of(growth.queue.waiting(), &trial.links, &growth.spreads, seat);
+    let table = best_of(growth.queue.waiting_tables(), &trial.links, &growth.spreads, seat);
     settle(growth, &trial.links, table, seat);
     Some((table, place))
 }
@@ -175,7 +175,7 @@ fn fill_all(trial: &mut Trial, growth: &mut Growth)
 ///
 /// # Errors
 ///
-/// Want of memory; the seats stay as they are.
+/// Out of memory; the seats stay as they are.
 pub fn grow(alloc: Global, trial: &mut Trial) -> Result<(), AllocError>
     ensures { IsPermutation trial.old.seats.items trial.new.seats.items }
 {

@@ -54,7 +54,7 @@ impl Queue {
     }
 
     /// The tables that wait.
-    pub fn waiting(&self) -> &[usize] {
+    pub fn waiting_tables(&self) -> &[usize] {
         if self.seated <= self.reached && self.reached <= self.line.len() {
             &self.line[self.seated..self.reached]
         } else {

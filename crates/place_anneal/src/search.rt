@@ -59,7 +59,7 @@ fn aim(trial: &Trial, draws: &mut Draws, table: usize) -> Option<usize> {
 }
 
 // An exchange that is borne.
-fn chosen(trial: &Trial, draws: &mut Draws, heat: u32) -> Option<(usize, usize)> {
+fn choose_exchange(trial: &Trial, draws: &mut Draws, heat: u32) -> Option<(usize, usize)> {
     let table = draws.below(trial.links.nets_of.len());
     let place = aim(trial, draws, table)?;
     let change = exchange(&trial.links, &trial.seats, table, place);
@@ -73,7 +73,7 @@ fn chosen(trial: &Trial, draws: &mut Draws, heat: u32) -> Option<(usize, usize)>
 fn step(trial: &mut Trial, draws: &mut Draws, heat: u32)
     ensures { IsPermutation trial.old.seats.items trial.new.seats.items }
 {
-    match chosen(trial, draws, heat) {
+    match choose_exchange(trial, draws, heat) {
         Some((a, b)) => take(trial, a, b),
         None => {}
     }

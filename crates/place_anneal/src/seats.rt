@@ -19,7 +19,7 @@ pub struct Seat {
 }
 
 // The node above a node; the root itself.
-fn above(shape: &Shape, node: Node) -> Node
+fn node_above(shape: &Shape, node: Node) -> Node
     requires { node.0 < nodes_of shape.now }
     ensures { result.0 < nodes_of shape.now }
 {
@@ -35,8 +35,8 @@ fn seat_at(shape: &Shape, table: Table) -> Seat
     ensures { number_at result ≡ table.0 }
 {
     let hextant = shape.hextant_of(table);
-    let chip = above(shape, hextant);
-    let module = above(shape, chip);
+    let chip = node_above(shape, hextant);
+    let module = node_above(shape, chip);
     Seat {
         table,
         hextant: hextant.0,

@@ -85,7 +85,7 @@ fn image_for(alloc: Global, netlist: &Netlist, defects: &Defects) -> Result<Imag
 /// # Errors
 ///
 /// The refusal for want of room exactly where the in-order plan of the plain network doesn't fit, with the first short
-/// resource, unless memory is wanting; want of memory.
+/// resource, unless memory is lacking; out of memory.
 pub fn lay(alloc: Global, netlist: &Netlist, defects: &Defects) -> Result<Image, Stop>
     // Whatever is around it.
     ensures took { (o : Outside) → Took [] (lays defects.now netlist.now) result o o }

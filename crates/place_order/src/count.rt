@@ -2,7 +2,7 @@
 
 use crate::need::Counts;
 use crate::nets::Net;
-use crate::tree::{Tree, over, small};
+use crate::tree::{Tree, divide_by, small};
 use std::alloc::{AllocError, Global};
 
 /// The nodes of a level that have terminals of a net, in order, and how many strands each has of it from below.
@@ -39,7 +39,7 @@ impl Strands {
     fn list(&mut self, tables: &[u32], span: usize, seats: &[u32]) -> Result<(), AllocError> {
         'tables: for table in tables {
             if let Some(seat) = seats.get(*table as usize) {
-                self.places.push(small(over(*seat as usize, span)))?;
+                self.places.push(small(divide_by(*seat as usize, span)))?;
             }
         }
         Ok(())
@@ -69,7 +69,7 @@ impl Strands {
         'nodes: for k in 0..self.other.len() {
             if k < self.other.len() {
                 let node = self.other[k].0;
-                self.add(small(over(node as usize, children)))?;
+                self.add(small(divide_by(node as usize, children)))?;
             }
         }
         Ok(())

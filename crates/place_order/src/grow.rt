@@ -1,7 +1,7 @@
 //! Seats that grow together: each gets the table that has most to do with those that sit near it.
 
 use crate::nets::{Nets, is_pinned, nets_at, tables_at};
-use crate::tree::{Tree, over, small};
+use crate::tree::{Tree, divide_by, small};
 use std::alloc::{AllocError, Global};
 
 /// What a net adds to the score of a table by where it has a table already: in the seat's hextant, chip, module, elsewhere.
@@ -62,11 +62,11 @@ impl<'a> Growth<'a> {
     // What a net adds whose last table is at one place of the machine, for another place.
     fn nearness(&self, last: usize, place: usize) -> i64 {
         let [hextants, chips, modules] = &self.tree.tiers;
-        if over(last, hextants.span) == over(place, hextants.span) {
+        if divide_by(last, hextants.span) == divide_by(place, hextants.span) {
             NEAR[0]
-        } else if over(last, chips.span) == over(place, chips.span) {
+        } else if divide_by(last, chips.span) == divide_by(place, chips.span) {
             NEAR[1]
-        } else if over(last, modules.span) == over(place, modules.span) {
+        } else if divide_by(last, modules.span) == divide_by(place, modules.span) {
             NEAR[2]
         } else {
             NEAR[3]
@@ -76,7 +76,7 @@ impl<'a> Growth<'a> {
     // What a net adds for a place, the last of whose tables sits at another one.
     fn score_last(&self, net: usize, last: usize, left: u32, place: usize) -> i64 {
         let [hextants, _, _] = &self.tree.tiers;
-        let here = over(last, hextants.span) == over(place, hextants.span);
+        let here = divide_by(last, hextants.span) == divide_by(place, hextants.span);
         let near = self.nearness(last, place);
         if here && left == 1 && !is_pinned(self.nets, net) {
             near.wrapping_add(ENDS)
@@ -216,7 +216,7 @@ impl<'a> Growth<'a> {
 }
 
 /// Seats for covers from the first seat on, and for latches from a seat on.
-pub fn grown(alloc: Global, nets: &Nets, tree: &Tree, room: usize) -> Result<Vec<u32>, AllocError> {
+pub fn grow_seats(alloc: Global, nets: &Nets, tree: &Tree, room: usize) -> Result<Vec<u32>, AllocError> {
     let count = nets.of.len();
     let mut growth = Growth {
         nets,

@@ -1,6 +1,6 @@
 //! How many nets cross and visit each node of a level, and what that costs.
 
-use crate::tree::{Tier, over, small};
+use crate::tree::{Tier, divide_by, small};
 use std::alloc::{AllocError, Global};
 use std::num::saturating_f64_to_i64;
 
@@ -184,11 +184,11 @@ pub fn level_of(
 impl Level {
     /// The node of a table of the machine.
     pub fn node(&self, table: usize) -> usize {
-        over(table, self.span)
+        divide_by(table, self.span)
     }
 
     // How many nodes have tables of a net.
-    fn occupied(&self, net: usize) -> u32 {
+    fn occupied_nodes(&self, net: usize) -> u32 {
         if net < self.occupied.len() {
             self.occupied[net]
         } else {
@@ -229,9 +229,9 @@ impl Level {
     /// A table of a net comes to a table of the machine, or goes from there; whether the net crosses nodes of the level below.
     pub fn change(&mut self, step: Move, below: Crosses) -> Changed {
         let node = self.node(step.place);
-        let before = self.occupied(step.net);
+        let before = self.occupied_nodes(step.net);
         let whole = self.count(step.net, node, step.comes);
-        let after = self.occupied(step.net);
+        let after = self.occupied_nodes(step.net);
         let crosses = Crosses {
             before: step.pinned || before > 1,
             after: step.pinned || after > 1,

@@ -1,6 +1,6 @@
 //! Orders of a design's covers for a machine.
 //!
-//! In the plan in order tables sit on the free tables of the machine as their covers stand in the text. `ordered` exchanges
+//! In the plan in order tables sit on the free tables of the machine as their covers stand in the text. `order_covers` exchanges
 //! seats by chance: nets that cross and visit nodes cost what they add to the crosspoints of the smallest machine, those of a
 //! node the more the fuller it is beside others, and most where the machine has no more ports or lines; empty covers leave
 //! seats free. Nothing is proved of it but that it returns: whether the plan fits is asked of the text.
@@ -19,4 +19,4 @@ mod rooms;
 mod search;
 mod tree;
 
-pub use order::ordered;
+pub use order::order_covers;

@@ -98,7 +98,7 @@ pub fn need_of(alloc: Global, nets: &Nets, tree: &Tree, seats: &[u32]) -> Result
 }
 
 // How far a need is beyond what there is.
-fn beyond(need: usize, have: usize) -> u64 {
+fn excess_of(need: usize, have: usize) -> u64 {
     need.saturating_sub(have) as u64
 }
 
@@ -106,7 +106,7 @@ fn beyond(need: usize, have: usize) -> u64 {
 fn beyond_tier(need: &Need, tier: &Tier, level: usize) -> u64 {
     let ports = need.ports.get(level).copied().unwrap_or(0);
     let lines = need.lines.get(level).copied().unwrap_or(0);
-    beyond(ports, tier.ports).saturating_add(beyond(lines, tier.lines))
+    excess_of(ports, tier.ports).saturating_add(excess_of(lines, tier.lines))
 }
 
 // The crosspoints of all crossbars of a level: so many nodes with so many taps and lines each.
@@ -148,7 +148,7 @@ pub fn crosspoints(need: &Need, tree: &Tree, pins: usize) -> u64 {
 /// How good a plan of these needs is.
 pub fn worth_of(need: &Need, tree: &Tree, pins: usize) -> Worth {
     let [hextants, chips, modules] = &tree.tiers;
-    let root = beyond(need.lines[3], tree.lines);
+    let root = excess_of(need.lines[3], tree.lines);
     let low = beyond_tier(need, hextants, 0).saturating_add(beyond_tier(need, chips, 1));
     let high = beyond_tier(need, modules, 2).saturating_add(root);
     Worth {

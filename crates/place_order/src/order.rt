@@ -95,7 +95,7 @@ fn latches_at(
 }
 
 // The part of a list before a place, or the whole list.
-fn before(list: &[u32], place: usize) -> &[u32] {
+fn part_before(list: &[u32], place: usize) -> &[u32] {
     if place <= list.len() {
         &list[..place]
     } else {
@@ -119,7 +119,7 @@ fn draft_in(
         alloc,
         &mut names,
         draft.covers.as_slice(),
-        before(&holders, end),
+        part_before(&holders, end),
     )?;
     Ok(NetlistData {
         names,
@@ -144,8 +144,8 @@ fn plain_order(alloc: Global, count: usize, room: usize) -> Result<Order, AllocE
 ///
 /// # Errors
 ///
-/// Want of memory.
-pub fn ordered(
+/// Out of memory.
+pub fn order_covers(
     alloc: Global,
     draft: &NetlistData,
     defects: &Defects,

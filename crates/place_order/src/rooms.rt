@@ -1,11 +1,11 @@
 //! The best order of several searches.
 
-use crate::grow::grown;
+use crate::grow::grow_seats;
 use crate::need::{Need, Worth, is_better, need_of, worth_of};
 use crate::nets::Nets;
 use crate::prices::prices_of;
 use crate::search::{HOT, PRESSED, Trial, WARM, trial_of};
-use crate::tree::{Tree, over, small};
+use crate::tree::{Tree, divide_by, small};
 use base_random::Draws;
 use std::alloc::{AllocError, Global};
 
@@ -106,7 +106,7 @@ fn search_room(
     let steps = effort.saturating_mul(nets.of.len());
     'beginnings: for anew in [false, true] {
         let seats = if anew {
-            grown(alloc, nets, tree, room)?
+            grow_seats(alloc, nets, tree, room)?
         } else {
             plain_seats(alloc, nets, room)?
         };
@@ -120,8 +120,8 @@ fn search_room(
 }
 
 // The least multiple of a span that isn't below a number.
-fn rounded(number: usize, span: usize) -> usize {
-    over(number.saturating_add(span.saturating_sub(1)), span).saturating_mul(span)
+fn round_up(number: usize, span: usize) -> usize {
+    divide_by(number.saturating_add(span.saturating_sub(1)), span).saturating_mul(span)
 }
 
 // How many seats covers may have: as many as there are, the most, and for latches those with which the first of these, or the end
@@ -138,8 +138,8 @@ fn rooms_of(
     rooms.push(most)?;
     'tiers: for tier in &tree.tiers {
         if latches > 0 {
-            rooms.push(rounded(nets.split, tier.span))?;
-            let end = rounded(nets.of.len(), tier.span);
+            rooms.push(round_up(nets.split, tier.span))?;
+            let end = round_up(nets.of.len(), tier.span);
             rooms.push(end.saturating_sub(latches))?;
         }
     }
@@ -175,7 +175,7 @@ pub fn best_order(
     let latches = count.saturating_sub(nets.split);
     let rooms = rooms_of(alloc, nets, tree, most.saturating_sub(latches))?;
     let searches = rooms.len().saturating_mul(6).saturating_mul(count);
-    let effort = over(MOST_TRIES, searches)
+    let effort = divide_by(MOST_TRIES, searches)
         .max(LEAST_EFFORT)
         .min(MOST_EFFORT);
     'rooms: for room in &rooms {

@@ -4,7 +4,7 @@ use crate::levels::{Crosses, Level, Move, level_of};
 use crate::luck::bold;
 use crate::nets::{NOTHING, Nets, is_pinned, nets_at, tables_at};
 use crate::prices::Prices;
-use crate::tree::{Tree, over, small};
+use crate::tree::{Tree, divide_by, small};
 use base_random::Draws;
 use std::alloc::{AllocError, Global};
 
@@ -320,7 +320,7 @@ impl<'a> Trial<'a> {
     pub fn anneal(&mut self, luck: &mut Draws, heat: Heat, steps: usize) {
         let mut now = heat.first * self.unit;
         'rounds: for _ in 0..ROUNDS {
-            self.round(luck, over(steps, ROUNDS), now);
+            self.round(luck, divide_by(steps, ROUNDS), now);
             now = now * heat.fall;
         }
     }

@@ -58,7 +58,7 @@ fn node_above(shape: &Shape, table: Table, level: usize) -> Node
 }
 
 // How many ports and lines of a node are wanting.
-fn wanting(defects: &Defects, table: u32, level: usize, ports: usize, lines: usize) -> (u32, u32) {
+fn missing_in(defects: &Defects, table: u32, level: usize, ports: usize, lines: usize) -> (u32, u32) {
     let shape = defects.shape();
     if table >= shape.tables() {
         return (0, 0);
@@ -100,7 +100,7 @@ fn tier_of(
     let mut no_lines = Vec::new(alloc);
     'nodes: for k in 0..nodes {
         let first = small(k.saturating_mul(span));
-        let (port, line) = wanting(defects, first, level, ports, lines);
+        let (port, line) = missing_in(defects, first, level, ports, lines);
         no_ports.push(port)?;
         no_lines.push(line)?;
     }
@@ -159,6 +159,6 @@ pub fn tree_of(alloc: Global, defects: &Defects) -> Result<Tree, AllocError> {
 }
 
 /// A number divided by another, 0 where that is 0.
-pub fn over(number: usize, span: usize) -> usize {
+pub fn divide_by(number: usize, span: usize) -> usize {
     if span == 0 { 0 } else { number / span }
 }

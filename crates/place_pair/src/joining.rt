@@ -80,7 +80,7 @@ fn push_outputs(
 ///
 /// # Errors
 ///
-/// Want of memory.
+/// Out of memory.
 pub fn joint(alloc: Global, first: &Network, second: &Network) -> Result<Network, AllocError>
     requires first { IsNetwork first.now }
     requires second { IsNetwork second.now }

@@ -108,7 +108,7 @@ fn split(
 /// # Errors
 ///
 /// `Short` exactly where the joint network's in-order plan doesn't fit, with the first short resource, in the net numbers of
-/// the joint network. `Memory` for want of memory.
+/// the joint network. `Memory` for lack of memory.
 pub fn lay_pair(
     alloc: Global,
     first: &Network,

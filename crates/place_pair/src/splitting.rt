@@ -91,7 +91,7 @@ fn some_seats(seats: &[Table], from: usize, count: usize) -> &[Table]
 ///
 /// # Errors
 ///
-/// Want of memory.
+/// Out of memory.
 pub fn tenant(
     alloc: Global,
     network: &Network,

@@ -125,7 +125,7 @@ pub record IsShortInOrder (m : Shape) (d : Defects) (n : Network) (s : Short) : 
   pub needs : AreNeeds m d n tables pins
   pub short : InOrderIsShort s.resource m d n tables pins s
 
--- why there is no place: room is short, or memory is wanting, of which nothing is said
+-- why there is no place: room is short, or memory is lacking, of which nothing is said
 abbrev pub IsPlaceFail : Shape → Defects → Network → PlaceFail → Type 0
 IsPlaceFail m d n (fail.Short s) = IsShortInOrder m d n s
 IsPlaceFail m d n fail.Memory = Unit {0}

@@ -16,7 +16,7 @@ fn is_reached(steps: &[Step], ask: usize) -> bool
 }
 
 // Those who are reached.
-fn reached(alloc: Global, count: usize, steps: &[Step]) -> Result<Vec<usize>, AllocError>
+fn reached_asks(alloc: Global, count: usize, steps: &[Step]) -> Result<Vec<usize>, AllocError>
     ensures { IfOk result (λ set. set.items ≡ filter (λ n. list_any (λ s. s.ask == n) steps.now) (range_with_len 0 count)) }
 {
     let mut set = Vec::new(alloc);
@@ -90,7 +90,7 @@ fn lacking(
         ¬ Contains done ask → All (Contains (range_with_len 0 (length asks.now))) (done ++ ask ∷ []) → AllPairs (λ w v. w ≢ v) lines.now →
         IsAnswer (serves_by defects.now asks.now) (range_with_len 0 (length asks.now)) lines.now a) }
 {
-    let set = reached(alloc, asks.len(), steps)?;
+    let set = reached_asks(alloc, asks.len(), steps)?;
     let need = set.len() as u64;
     let have = count_served(defects, asks, lines, &set) as u64;
     Ok(Assigned::Lacking { set, need, have })

@@ -46,7 +46,7 @@ fn laid(
 ///
 /// # Errors
 ///
-/// Want of memory.
+/// Out of memory.
 pub fn lay_out(
     alloc: Global,
     network: &Network,
@@ -72,7 +72,7 @@ pub fn lay_out(
 ///
 /// # Errors
 ///
-/// Want of memory.
+/// Out of memory.
 pub fn fits(
     alloc: Global,
     network: &Network,
@@ -95,7 +95,7 @@ pub fn fits(
 /// # Errors
 ///
 /// `Short` exactly where that plan doesn't fit, with the first short resource: tables, pins, and then node by node ports,
-/// lines. `Memory` for want of memory.
+/// lines. `Memory` for lack of memory.
 pub fn in_order_laid(
     alloc: Global,
     network: &Network,

@@ -70,7 +70,7 @@ fn as_tables(alloc: Global, numbers: &[u32]) -> Result<Items<Table>, AllocError>
 }
 
 // These numbers.
-fn copied(alloc: Global, numbers: &[u32]) -> Result<Items<u32>, AllocError>
+fn copy_numbers(alloc: Global, numbers: &[u32]) -> Result<Items<u32>, AllocError>
     ensures { IfOk result (λ copy. copy ≡ numbers.now) }
 {
     let mut copy = Items::empty(alloc);
@@ -95,7 +95,7 @@ pub fn sit(
     let end = inputs + network.outputs.as_slice().len();
     Ok(Plan {
         tables: as_tables(alloc, &tables[..network.tables.as_slice().len()])?,
-        inputs: copied(alloc, &pins[..inputs])?,
-        outputs: copied(alloc, &pins[inputs..end])?,
+        inputs: copy_numbers(alloc, &pins[..inputs])?,
+        outputs: copy_numbers(alloc, &pins[inputs..end])?,
     })
 }

@@ -200,7 +200,7 @@ fn rooms(
 ///
 /// # Errors
 ///
-/// Want of memory.
+/// Out of memory.
 pub fn look_for_room(
     alloc: Global,
     defects: &Defects,

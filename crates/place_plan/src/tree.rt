@@ -36,7 +36,7 @@ fn homes_of(alloc: Global, shape: Shape) -> Result<Vec<u32>, AllocError>
 }
 
 // The number of the node above a node; 0 for the root.
-fn above(shape: Shape, node: u32) -> u32
+fn number_above(shape: Shape, node: u32) -> u32
     requires { node < nodes_of shape }
     ensures { 0 < node → parent_of shape node ≡ Some result }
 {
@@ -52,7 +52,7 @@ fn parents_of(alloc: Global, shape: Shape) -> Result<Vec<u32>, AllocError>
 {
     let mut parents = Vec::new(alloc);
     for n in 0..shape.nodes() {
-        parents.push(above(shape, n))?;
+        parents.push(number_above(shape, n))?;
     }
     Ok(parents)
 }

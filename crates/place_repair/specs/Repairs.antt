@@ -88,7 +88,7 @@ pub record IsRepair (d : Defects) (old new : ImageValue) : Type 0 where
   pub lines_are : AreVisits old.config.shape nets.rest (length nets.lowest) (HasTerminal nets.terminals) (nodes_of old.config.shape) lines
   pub only : (x : ℕ) → is_closed new.config x ≡ true → IsKeptNets old nets x ⊎ IsOnLine old nets lines x
 
--- why there is none: the plan hasn't room, or memory is wanting, of which nothing is said
+-- why there is none: the plan hasn't room, or memory is lacking, of which nothing is said
 abbrev pub IsRepairFail : Defects → ImageValue → PlaceFail → Type 0
 IsRepairFail d i (fail.Short s) = IsShortPlan d i s
 IsRepairFail d i fail.Memory = Unit {0}

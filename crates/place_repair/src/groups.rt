@@ -54,7 +54,7 @@ fn join(parents: &mut [u32], shape: Shape, cross: Cross)
 }
 
 /// So many numbers, each at its own place.
-pub fn alone(alloc: Global, count: u32) -> Result<Vec<u32>, AllocError>
+pub fn own_places(alloc: Global, count: u32) -> Result<Vec<u32>, AllocError>
     ensures { IfOk result (λ parents. parents.items ≡ range_with_len 0 count) }
 {
     let mut parents = Vec::new(alloc);
@@ -107,7 +107,7 @@ pub fn lowest_of(alloc: Global, config: &Config) -> Result<Vec<u32>, AllocError>
     ensures { IfOk result (λ lowest. AreLowest config.now.config lowest.items) }
 {
     machine_shape::the_numbering_is_sound();
-    let mut parents = alone(alloc, config.shape().wires())?;
+    let mut parents = own_places(alloc, config.shape().wires())?;
     join_all(&mut parents, config);
     roots(alloc, &parents)
 }

@@ -93,7 +93,7 @@ fn laid(alloc: Global, image: &Image, defects: &Defects, seats: &Seats) -> Resul
 /// # Errors
 ///
 /// `Short` exactly where the plan hasn't room, with the first short resource: tables, pins, and then node by node ports, lines. The numbers
-/// of nets are by their lowest wires. `Memory` for want of memory.
+/// of nets are by their lowest wires. `Memory` for lack of memory.
 pub fn repair(alloc: Global, image: &Image, defects: &Defects) -> Result<Image, PlaceFail>
     requires few { set.len image.now.config.closed ≤ 1000000 }
     requires shape { defects.now.shape ≡ image.now.config.shape }

@@ -8,7 +8,7 @@ ghost use Rattle.place_repair.specs.Making.{ArePlaces, IsPut, IsUnusedTo};
 ghost use Rattle.place_repair.specs.Marks.{AreMarks};
 ghost use Rattle.place_repair.specs.Plans.{AreSeats, IsGoneTable, IsSparePin, IsSpareTable, is_gone_pin, need_of};
 
-use crate::groups::alone;
+use crate::groups::own_places;
 use crate::marks::push_if;
 use crate::uses::used_by;
 use base_lists::Items;
@@ -223,7 +223,7 @@ pub fn places_of(alloc: Global, count: u32, moves: &Moves) -> Result<Vec<u32>, A
     requires apart { AllPairs (λ t u. t ≢ u) moves.now.gone }
     ensures { IfOk result (λ places. ArePlaces count moves.now places.items) }
 {
-    let mut places = alone(alloc, count)?;
+    let mut places = own_places(alloc, count)?;
     put_all(&mut places, moves.gone.as_slice(), moves.spare.as_slice());
     Ok(places)
 }

@@ -42,7 +42,7 @@ fn counts_are_few(shape: &Shape)
 ///
 /// # Errors
 ///
-/// Want of memory.
+/// Out of memory.
 pub fn join_nets(alloc: Global, shape: Shape, layout: &Layout) -> Result<Config, AllocError>
     requires few { length layout.now.nets.items < 4294967296 }
     requires wires { AreWiresOf shape layout.now.nets.items layout.now.ports.items layout.now.visits.items }
@@ -131,7 +131,7 @@ fn draw(
 ///
 /// # Errors
 ///
-/// Want of memory.
+/// Out of memory.
 pub fn route_laid(
     alloc: Global,
     network: &Network,
@@ -158,7 +158,7 @@ pub fn route_laid(
 ///
 /// # Errors
 ///
-/// Want of memory.
+/// Out of memory.
 pub fn route(
     alloc: Global,
     network: &Network,

@@ -22,7 +22,7 @@ pub struct Surroundings<R: Files + Print + Drop> {
 ///
 /// # Errors
 ///
-/// Where one of them is no text, or memory was wanting.
+/// Where one of them is no text, or memory was lacking.
 pub fn texts(rt: &(impl Env + AllocGlobal)) -> io::Result<Vec<String>> {
     let mut words = Vec::new(rt.alloc());
     for word in env::args(rt)?.skip(1) {
@@ -35,7 +35,7 @@ pub fn texts(rt: &(impl Env + AllocGlobal)) -> io::Result<Vec<String>> {
 ///
 /// # Errors
 ///
-/// Where memory was wanting.
+/// Where memory was lacking.
 pub fn words(rt: &(impl Env + AllocGlobal)) -> Result<Vec<String>, AllocError> {
     let alloc: Global = rt.alloc();
     match texts(rt) {
@@ -49,7 +49,7 @@ pub fn words(rt: &(impl Env + AllocGlobal)) -> Result<Vec<String>, AllocError> {
 ///
 /// # Errors
 ///
-/// Where memory was wanting.
+/// Where memory was lacking.
 pub fn surroundings_of<R>(rt: &R) -> Result<Surroundings<R>, AllocError>
 where
     R: Env + Files + Print + AllocGlobal + Clone + Drop,
@@ -62,7 +62,7 @@ where
     })
 }
 
-/// The exit code of a status, or of none for want of memory.
+/// The exit code of a status, or of none for lack of memory.
 pub fn exit_code(status: Result<u8, AllocError>) -> ExitCode {
     match status {
         Ok(status) => ExitCode::from(status),

@@ -39,7 +39,7 @@ impl AskedMachines {
         }
     }
 
-    /// Adds a machine behind the others. An error is want of memory.
+    /// Adds a machine behind the others. An error is a lack of memory.
     pub fn add(&mut self, shape: &Shape, name: &str) -> Result<(), AllocError>
         ensures ok { OnOk result (self.new ≡ self.old ++ record { shape = shape.now; name = name.now } ∷ []) }
         ensures err { OnErr result (self.new ≡ self.old) }

@@ -1,7 +1,7 @@
 //! A rig: a machine that is attached by name, loaded and driven.
 //!
 //! The trait says what every machine under test must do: what was asked and is attached, that a refusal leaves nothing attached
-//! or no session, that a failure is answered only where a count rose, which stays below 2^64, that want of memory for a cycle
+//! or no session, that a failure is answered only where a count rose, which stays below 2^64, that lack of memory for a cycle
 //! comes only where no room is left, that after a load the told faults are faults of the configuration's shape, and that where
 //! the faults are told all readings of a session are the run of its configuration. `load`, `cycle` and `cycles` are the same calls of a
 //! boxed rig. `LogRig` passes each load on once, and counts none that is refused. `FlakyRig` fails at the chosen calls,

@@ -15,7 +15,7 @@ use std::alloc::AllocError;
 pub enum AttachFail {
     /// The rig failed, and counted it.
     Failed,
-    /// The fault text of the name is refused, at this line for this kind. It is never want of memory.
+    /// The fault text of the name is refused, at this line for this kind. It is never a lack of memory.
     Faults(FaultsFault),
     /// Memory is wanting.
     Memory,

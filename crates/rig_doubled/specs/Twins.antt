@@ -53,7 +53,7 @@ pub record SecondRefuses (e : AttachFail) (machine : Asked) (second_name : List 
   pub refused : AttachFails e (record machine { name = second_name }) other other_new
   pub detached : IsDetached other_new
 
--- memory was wanting, and neither was reached
+-- memory was lacking, and neither was reached
 pub record NeitherReached (e : AttachFail) (one one_new other other_new : RigState) : Type 0 where
   pub wanting : e ≡ attach.Memory
   pub first : one_new ≡ one

@@ -49,7 +49,7 @@ fn set_tables(copy: &mut Config, config: &Config)
 ///
 /// # Errors
 ///
-/// Want of memory.
+/// Out of memory.
 pub fn copy_of(alloc: Global, config: &Config) -> Result<Config, AllocError>
     ensures { IfOk result (λ copy. copy.config ≡ config.now.config) }
 {

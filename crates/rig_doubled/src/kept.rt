@@ -31,7 +31,7 @@ impl Kept {
     ///
     /// # Errors
     ///
-    /// Want of memory.
+    /// Out of memory.
     pub fn new(alloc: Global, config: &Config, room: u32) -> Result<Kept, AllocError>
         ensures config { IfOk result (λ kept. kept.config.config ≡ config.now.config) }
         ensures kept { IfOk result (λ kept. IsKept kept [] []) }
@@ -84,7 +84,7 @@ impl Kept {
 ///
 /// # Errors
 ///
-/// Want of memory.
+/// Out of memory.
 pub fn kept_for(
     alloc: Global,
     times: u8,

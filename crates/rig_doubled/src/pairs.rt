@@ -28,7 +28,7 @@ impl Pair {
     ///
     /// # Errors
     ///
-    /// Want of memory.
+    /// Out of memory.
     pub fn new(alloc: Global, config: &Config, room: u32) -> Result<Pair, AllocError>
         ensures spare { IfOk result (λ p. p.spare ≡ room) }
         ensures read { IfOk result (λ p. length p.read ≡ pins_of config.now.config.shape) }

@@ -9,7 +9,7 @@ use std::alloc::{AllocError, Global};
 ///
 /// # Errors
 ///
-/// Want of memory.
+/// Out of memory.
 pub fn blank_rows(alloc: Global, pins: u32, count: u32) -> Result<Vec<PinBits>, AllocError>
     ensures count { IfOk result (λ rows. length rows.items ≡ count) }
     ensures wide { IfOk result (λ rows. HaveWidth pins rows.items) }

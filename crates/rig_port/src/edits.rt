@@ -193,7 +193,7 @@ fn give_all(line: &mut Vec<u8>, set: &mut Config, config: &Config) -> Result<(),
 ///
 /// # Errors
 ///
-/// Want of memory. The one is on the way to the other then.
+/// Out of memory. The one is on the way to the other then.
 pub fn put_edits(
     alloc: Global,
     line: &mut Vec<u8>,

@@ -167,7 +167,7 @@ impl<R: Files + Drop> Port for FilePort<R> {
     ///
     /// # Errors
     ///
-    /// `Failed` where a file can't be opened. Want of memory.
+    /// `Failed` where a file can't be opened. Out of memory.
     fn open(&mut self, name: &str) -> Result<(), PortFail>
         ensures later { (⟦<FilePort<R> as Port>⟧.port_state self.old).failures ≤ (⟦<FilePort<R> as Port>⟧.port_state self.new).failures }
         ensures count { (⟦<FilePort<R> as Port>⟧.port_state self.new).failures < 2 ^ 64 }

@@ -11,7 +11,7 @@ pub struct Link {
     // Whether there is a session, and whether the machine doesn't know of it yet.
     pub running: bool,
     pub due: bool,
-    // Whether memory was wanting on the way, so that all has to be set anew.
+    // Whether memory was lacking on the way, so that all has to be set anew.
     pub lost: bool,
     pub reply: Vec<u8>,
     pub expected: Vec<u8>,

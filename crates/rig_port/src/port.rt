@@ -25,7 +25,7 @@ pub trait Port: Drop {
     ///
     /// # Errors
     ///
-    /// `Failed` where it can't be opened; the count rose. Want of memory.
+    /// `Failed` where it can't be opened; the count rose. Out of memory.
     fn open(&mut self, name: &str) -> Result<(), PortFail>
         ensures later { (port_state self.old).failures ≤ (port_state self.new).failures }
         ensures count { (port_state self.new).failures < 2 ^ 64 }

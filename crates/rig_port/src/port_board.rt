@@ -39,7 +39,7 @@ fn room_for(pins: u32) -> usize
 
 /// A machine behind a port, as a board: it speaks the lines of its protocol, and tells the machine that its port tells.
 ///
-/// It is up from an `Ok` of `find` until a `find` is refused or `cycle` or `cycles` fails; want of memory in `set_up` leaves it up. A
+/// It is up from an `Ok` of `find` until a `find` is refused or `cycle` or `cycles` fails; lack of memory in `set_up` leaves it up. A
 /// load goes out with the cycles that follow it.
 #[derive(Drop)]
 pub struct PortBoard<P: Port> {
@@ -140,7 +140,7 @@ fn attach<P: Port>(port: &mut P, link: &mut Link) -> bool
     }
 }
 
-// Begins a load. Where memory was wanting on the way to the one before, all is cleared, and the line begins with a `z`.
+// Begins a load. Where memory was lacking on the way to the one before, all is cleared, and the line begins with a `z`.
 fn begin(link: &mut Link) -> Result<(), AllocError>
     ensures shape { link.new.set.config.shape ≡ link.old.set.config.shape }
     ensures expected { link.new.expected ≡ link.old.expected }
@@ -163,7 +163,7 @@ fn begin(link: &mut Link) -> Result<(), AllocError>
     Ok(())
 }
 
-// Posts a load: its words are made, and go out with the first cycle. Where memory is wanting, all is to be set anew.
+// Posts a load: its words are made, and go out with the first cycle. Where memory is lacking, all is to be set anew.
 fn post(alloc: Global, link: &mut Link, config: &Config) -> Result<(), AllocError>
     requires { link.old.set.config.shape ≡ config.now.config.shape }
 
@@ -217,7 +217,7 @@ impl<P: Port> Board for PortBoard<P> {
     ///
     /// # Errors
     ///
-    /// `Failed` where the port fails, or another machine answers. Want of memory.
+    /// `Failed` where the port fails, or another machine answers. Out of memory.
     fn find(&mut self, shape: &Shape, name: &str) -> Result<(), RigFail>
         ensures later { (⟦<PortBoard<P> as Board>⟧.board_state self.old).failures
             ≤ (⟦<PortBoard<P> as Board>⟧.board_state self.new).failures }
@@ -257,7 +257,7 @@ impl<P: Port> Board for PortBoard<P> {
     ///
     /// # Errors
     ///
-    /// `Failed` exactly where the board isn't up. Want of memory; then the next one sets all anew.
+    /// `Failed` exactly where the board isn't up. Out of memory; then the next one sets all anew.
     fn set_up(&mut self, config: &Config) -> Result<(), RigFail>
         requires { (⟦<PortBoard<P> as Board>⟧.board_state self.old).found ≡ Some config.now.config.shape }
 

@@ -32,7 +32,7 @@ use std::marker::Model;
 ///
 /// What it answers comes from loads and cycles of its rig. A request that isn't spelled, byte by byte, as one of the four fails, and
 /// doesn't reach the rig; nor does one for whose answer there is no room. It takes memory for its rig, so one that is right may fail
-/// where memory is wanting: no clause says when it is answered.
+/// where memory is lacking: no clause says when it is answered.
 #[derive(Drop)]
 pub struct RigPort<R: Rig> {
     alloc: Global,
@@ -477,7 +477,7 @@ fn is_attach(request: &[u8]) -> bool
     is_line(request, b"a*61\n".as_slice())
 }
 
-// Clears what is set, and says what the machine is. False where memory is wanting, or the line is longer than the room.
+// Clears what is set, and says what the machine is. False where memory is lacking, or the line is longer than the room.
 fn answer_attach(set: &mut Config, room: usize, line: &mut Vec<u8>) -> bool
     requires empty { line.old.items ≡ [] }
 
@@ -686,7 +686,7 @@ impl<R: Rig> Port for RigPort<R> {
     ///
     /// # Errors
     ///
-    /// `Failed` where the rig fails, or refuses the fault text of the name. Want of memory.
+    /// `Failed` where the rig fails, or refuses the fault text of the name. Out of memory.
     fn open(&mut self, name: &str) -> Result<(), PortFail>
         ensures later { (⟦<RigPort<R> as Port>⟧.port_state self.old).failures ≤ (⟦<RigPort<R> as Port>⟧.port_state self.new).failures }
         ensures count { (⟦<RigPort<R> as Port>⟧.port_state self.new).failures < 2 ^ 64 }
@@ -720,7 +720,7 @@ impl<R: Rig> Port for RigPort<R> {
     ///
     /// # Errors
     ///
-    /// `Failed` where its rig fails or memory is wanting, and for drives where nothing was loaded. So too for what is none of the four
+    /// `Failed` where its rig fails or memory is lacking, and for drives where nothing was loaded. So too for what is none of the four
     /// requests, and where `reply` has no room for the line; neither of these reaches its rig.
     fn ask(&mut self, request: &[u8], reply: &mut [u8]) -> Result<usize, PortFail>
         requires { (⟦<RigPort<R> as Port>⟧.port_state self.old).is_open ≡ true }

@@ -86,7 +86,7 @@ fn put_gap(line: &mut Vec<u8>, k: usize)
 ///
 /// # Errors
 ///
-/// Want of memory.
+/// Out of memory.
 pub fn put_word(line: &mut Vec<u8>, letter: u8, n: u32) -> Result<(), AllocError>
     ensures { OnOk result (line.new.items ≡ line.old.items ++ (letter ∷ [] ++ decimal n ++ 32 ∷ [])) }
 {
@@ -100,7 +100,7 @@ pub fn put_word(line: &mut Vec<u8>, letter: u8, n: u32) -> Result<(), AllocError
 ///
 /// # Errors
 ///
-/// Want of memory.
+/// Out of memory.
 pub fn put_setting(line: &mut Vec<u8>, t: u32, s: Setting) -> Result<(), AllocError>
     ensures cells { s.cells < 2 ^ 64 }
     ensures spelled { OnOk result (line.new.items ≡ line.old.items ++ (edit_text (On t s) ++ 32 ∷ [])) }
@@ -174,7 +174,7 @@ fn put_numbers(line: &mut Vec<u8>, numbers: &[u16]) -> Result<(), AllocError>
 ///
 /// # Errors
 ///
-/// Want of memory.
+/// Out of memory.
 pub fn put_counts(line: &mut Vec<u8>, c: Counts) -> Result<(), AllocError>
     requires { line.old.items ≡ [] }
     ensures right { OnOk result (AreCounts c) }

@@ -12,7 +12,7 @@ use machine_shape::{Cross, Wire};
 use std::alloc::{AllocError, Global};
 
 // Each wire alone.
-fn alone(alloc: Global, faults: &FaultSet) -> Result<Vec<ClassNode>, AllocError>
+fn lone_nodes(alloc: Global, faults: &FaultSet) -> Result<Vec<ClassNode>, AllocError>
     ensures len { IfOk result (λ knots. length knots.items ≡ wires_of faults.now.shape) }
     ensures tied { IfOk result (λ knots. AreTied (bridged_net faults.now.shape []) (stuck_wire faults.now.faults) knots.items 0) }
 {
@@ -65,7 +65,7 @@ pub fn classes_of(alloc: Global, faults: &FaultSet) -> Result<Classes, AllocErro
     ensures base { IfOk result (λ c. AreBase faults.now.shape faults.now.faults c.base.items) }
     ensures touched { IfOk result AreKept }
 {
-    let mut base = alone(alloc, faults)?;
+    let mut base = lone_nodes(alloc, faults)?;
     bridge_all(&mut base, faults);
     close_stuck(&mut base, faults);
     let knots = Vec::from_slice(alloc, &base)?;

@@ -151,7 +151,7 @@ impl Sim {
         Ok(())
     }
 
-    /// Makes room for so many cycles more. Where memory is wanting for that, all is as it was.
+    /// Makes room for so many cycles more. Where memory is lacking for that, all is as it was.
     fn make_room(&mut self, more: u64) -> Result<(), AllocError>
         requires { IsSome self.old.session }
         ensures machine { self.new.machine ≡ self.old.machine }

@@ -108,7 +108,7 @@ impl<S: Store + Drop> Rig for SimRig<S> {
     } };
 
     /// The store is asked for the file of this name and no other, and for nothing where the name is `@n`. The rig
-    /// fails only where the store does; so it does, but for want of memory, at a name whose file is told to be absent.
+    /// fails only where the store does; so it does, but for lack of memory, at a name whose file is told to be absent.
     fn attach(&mut self, shape: &Shape, name: &str) -> Result<(), AttachFail>
         ensures texts { (⟦<SimRig<S> as Rig>⟧.rig_state self.new).machine.texts ≡ (⟦<SimRig<S> as Rig>⟧.rig_state self.old).machine.texts }
         ensures loads { (⟦<SimRig<S> as Rig>⟧.rig_state self.new).loads ≡ (⟦<SimRig<S> as Rig>⟧.rig_state self.old).loads }

@@ -72,7 +72,7 @@ module _ (w : RowWork) (b : RowsBegin) where
       (λ _ refusal stops. rig-excused old new refusal stops.0)
       (λ _ _. opened-well w w.told b.vectors b.files b.begun new.store (IsAtOutputs b.image b.vectors new) old new bytes told none)
 
-  -- behind the line `outputs` memory is wanting only for more rows than there was room for
+  -- behind the line `outputs` memory is lacking only for more rows than there was room for
   pub image-few : (new : Around) (bytes : List ℕ) → w.told ≡ holds bytes → ((count : ℕ) → w.lacks count → most_rows ≤ count) → length (vectors_at w.width bytes) ≤ most_rows → (text more : List ℕ) → text ≡ outputs_line ++ more → image_course w b new text (refuses refused.Memory) → ⊥
   image-few new bytes told most few text more begins (inl h) = let empty = h.0 in absurd (cc)
   image-few new bytes told most few text more begins (inr (u, loaded, h)) =

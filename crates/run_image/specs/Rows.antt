@@ -59,7 +59,7 @@ pub record RowsBegin : Type 0 where
   pub begun : StoreState
   pub before : ℕ
 
--- it is one load more; or the rig fails or memory is wanting, with one load more or none
+-- it is one load more; or the rig fails or memory is lacking, with one load more or none
 abbrev pub loads : (before : ℕ) → RigState → Step (Unit {0})
 loads before rig = record {
   stops = λ refusal. FailsOnRig refusal × LoadsOnce before rig.loads;

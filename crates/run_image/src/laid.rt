@@ -27,7 +27,7 @@ pub trait Lays {
     ///
     /// # Errors
     ///
-    /// What its step says: the refusal for want of room, or want of memory.
+    /// What its step says: the refusal for want of room, or out of memory.
     fn lay(&self, alloc: Global, list: &Defects) -> Result<Image, Stop>
         // Whatever is around it.
         ensures took { (o : Outside) → Took [] ((laid self.now).lays list.now) result o o };

@@ -37,7 +37,7 @@ impl Level {
 const DEEPEST: usize = 3;
 
 // The node above one, and none for a number that no node has.
-fn above(shape: &Shape, node: Node) -> Option<Node> {
+fn node_above(shape: &Shape, node: Node) -> Option<Node> {
     if node.0 < shape.nodes() {
         shape.parent(node)
     } else {
@@ -49,7 +49,7 @@ fn above(shape: &Shape, node: Node) -> Option<Node> {
 fn depth_of(shape: &Shape, node: Node) -> usize {
     let mut at = node;
     for depth in 0..DEEPEST {
-        match above(shape, at) {
+        match node_above(shape, at) {
             Some(next) => at = next,
             None => return depth,
         }
@@ -77,7 +77,7 @@ fn is_served(list: &Defects, node: Node) -> bool {
         if !has_two(list, at) {
             return false;
         }
-        match above(&shape, at) {
+        match node_above(&shape, at) {
             Some(next) => at = next,
             None => return true,
         }

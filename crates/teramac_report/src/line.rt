@@ -15,7 +15,7 @@ fn put_count(text: &mut Vec<u8>, word: &str, number: u64) -> Result<(), AllocErr
 ///
 /// # Errors
 ///
-/// Want of memory.
+/// Out of memory.
 pub fn put_counts(text: &mut Vec<u8>, counts: &[(&str, u64)]) -> Result<(), AllocError> {
     for i in 0..counts.len() {
         let (word, number) = counts[i];
@@ -28,7 +28,7 @@ pub fn put_counts(text: &mut Vec<u8>, counts: &[(&str, u64)]) -> Result<(), Allo
 ///
 /// # Errors
 ///
-/// Want of memory.
+/// Out of memory.
 pub fn put_line(text: &mut Vec<u8>, name: &str, counts: &[(&str, u64)]) -> Result<(), AllocError> {
     text.extend_from_slice(name.as_bytes())?;
     put_counts(text, counts)?;

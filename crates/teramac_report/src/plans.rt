@@ -6,7 +6,7 @@ ghost use Rattle.place_plan.specs.Plans.{FitsInOrder};
 use crate::line::put_counts;
 use design_netlist::Netlist;
 use machine_defects::Defects;
-use map_network::{Network, depth, merged, plain};
+use map_network::{Network, depth, merge_tables, plain};
 use place_anneal::{crossings_of, improve};
 use place_plan::{PlaceFail, Plan, fits, in_order};
 use std::alloc::{AllocError, Global};
@@ -44,7 +44,7 @@ fn put_crossings(text: &mut Vec<u8>, crossings: Option<u128>) -> Result<(), Allo
 }
 
 // The plan in order, where it fits.
-fn fitting(alloc: Global, network: &Network, list: &Defects) -> Result<Option<Plan>, AllocError>
+fn fitting_plan(alloc: Global, network: &Network, list: &Defects) -> Result<Option<Plan>, AllocError>
     requires { IsNetwork network.now }
     ensures { IfOk result (λ o. IfSome o (FitsInOrder list.now.shape list.now.list network.now)) }
 {
@@ -82,7 +82,7 @@ fn put_in_order(
     requires { IsNetwork network.now }
     ensures { IfOk result (λ o. IfSome o (FitsInOrder list.now.shape list.now.list network.now)) }
 {
-    let plan = fitting(alloc, network, list)?;
+    let plan = fitting_plan(alloc, network, list)?;
     let crossings = crossings(alloc, network, plan.as_ref(), list)?;
     put_network(alloc, text, name, network)?;
     put_crossings(text, crossings)?;
@@ -127,7 +127,7 @@ fn put_improved(
 ///
 /// # Errors
 ///
-/// Want of memory.
+/// Out of memory.
 pub fn put_plans(
     alloc: Global,
     text: &mut Vec<u8>,
@@ -136,7 +136,7 @@ pub fn put_plans(
 ) -> Result<(), AllocError> {
     let network = plain(alloc, netlist)?;
     put_in_order(alloc, text, "plan plain", &network, list)?;
-    let network = merged(alloc, netlist)?;
+    let network = merge_tables(alloc, netlist)?;
     if let Some(plan) = put_in_order(alloc, text, "plan merged", &network, list)? {
         put_improved(alloc, text, &network, plan, list)?;
     }

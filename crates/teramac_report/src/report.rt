@@ -66,7 +66,7 @@ fn loads_of(rig: &Box<dyn Rig>) -> u64 {
 }
 
 // Reads a machine, attaches it under a name, and lists its defects.
-fn diagnosed<S: Store>(
+fn diagnose_machine<S: Store>(
     alloc: Global,
     machine: &str,
     name: &str,
@@ -92,7 +92,7 @@ fn design_report<S: Store>(
     rig: &mut Box<dyn Rig>,
 ) -> Result<Vec<u8>, Stop> {
     let netlist = read_design(alloc, DesignFile::Design, store, design)?;
-    let diagnosis = diagnosed(alloc, machine, name, store, rig)?;
+    let diagnosis = diagnose_machine(alloc, machine, name, store, rig)?;
     let mut text = text_of(alloc, &diagnosis)?;
     put_plans(alloc, &mut text, &netlist, &diagnosis.list)?;
     Ok(text)
@@ -107,7 +107,7 @@ fn text_for<S: Store>(
 ) -> Result<Vec<u8>, Stop> {
     match words {
         [machine, name] => {
-            let diagnosis = diagnosed(alloc, machine, name, store, rig)?;
+            let diagnosis = diagnose_machine(alloc, machine, name, store, rig)?;
             Ok(text_of(alloc, &diagnosis)?)
         }
         [machine, name, design] => design_report(alloc, machine, name, design, store, rig),

@@ -34,7 +34,7 @@ fn open(config: &mut Config, at: u32)
     }
 }
 
-// Loads a configuration, a second time where memory was wanting. Says whether it was.
+// Loads a configuration, a second time where memory was lacking. Says whether it was.
 fn loaded(rig: &mut Box<dyn Rig>, config: &Config) -> Result<bool, RigFail>
     requires { shape_of (rig_state rig.old) ≡ Some config.now.config.shape }
     ensures machine { (rig_state rig.new).machine ≡ (rig_state rig.old).machine }
@@ -69,7 +69,7 @@ fn read_pins(alloc: Global, rig: &mut Box<dyn Rig>, config: &Config) -> Result<S
 }
 
 /// Joins the first two pins of the machine that is attached, and then the third and the fourth in their place. Each load is made again
-/// where memory was wanting.
+/// where memory was lacking.
 ///
 /// # Errors
 ///

@@ -4,7 +4,7 @@ ghost use Rattle.diag_tests.specs.Routes.{IsRoute};
 
 use crate::crossbars::setup::{Setup, laid_of, route_of};
 use crate::crossbars::words::{text_of, word, yes_or_no};
-use diag_tests::{Route, extended};
+use diag_tests::{Route, extend_route};
 use machine_shape::{Cross, Shape, Wire};
 use std::alloc::{AllocError, Global};
 
@@ -23,11 +23,11 @@ fn longer(
     }
     let (tap, line) = shape.ends(c);
     if tap == route.end() {
-        let route = extended(alloc, shape, route, c)?;
+        let route = extend_route(alloc, shape, route, c)?;
         return Ok(Some(route));
     }
     if line == route.end() {
-        let route = extended(alloc, shape, route, c)?;
+        let route = extend_route(alloc, shape, route, c)?;
         return Ok(Some(route));
     }
     Ok(None)

@@ -115,7 +115,7 @@ fn add(found: &mut Vec<Tested>, tested: Tested) -> Result<(), RigFail>
 ///
 /// # Errors
 ///
-/// `Failed`, only where the rig's count rose, or want of memory.
+/// `Failed`, only where the rig's count rose, or out of memory.
 pub fn test_next(
     alloc: Global,
     rig: &mut Box<dyn Rig>,

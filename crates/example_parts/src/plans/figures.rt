@@ -93,7 +93,7 @@ fn plan_of(alloc: Global, network: &Network, defects: &Defects) -> Option<Plan>
     in_order(alloc, network, defects).ok()
 }
 
-/// What is to be seen of both plans. None where a text can't be read, the plan in order doesn't fit, or memory is wanting.
+/// What is to be seen of both plans. None where a text can't be read, the plan in order doesn't fit, or memory is lacking.
 pub fn figures_of(alloc: Global, texts: &Texts) -> Option<Figures> {
     let defects = defects_of(alloc, texts)?;
     let network = network_of(alloc, &texts.designs.first)?;

@@ -1,7 +1,7 @@
 //! Plain networks and their depths.
 
 use design_blif::read_blif;
-use map_network::{Network, Source, depth, merged, plain};
+use map_network::{Network, Source, depth, merge_tables, plain};
 use std::alloc::Global;
 
 /// A table: its inputs, its cells, and whether it is latched.
@@ -83,7 +83,7 @@ pub fn toggling_latch(alloc: Global) -> Option<bool> {
 pub fn merged_latch(alloc: Global) -> Option<bool> {
     let text = b".model t\n.outputs q\n.names q d\n0 1\n.latch d q\n.end\n";
     let netlist = read_blif(alloc, text).ok()?;
-    let network = merged(alloc, &netlist).ok()?;
+    let network = merge_tables(alloc, &netlist).ok()?;
     let wanted: [Wanted; 1] = [(&[Source::Table(0)], 0x5555_5555_5555_5555, true)];
     let shown: &[Source] = &[Source::Table(0)];
     Some(has_tables(&network, &wanted) && network.outputs.as_slice() == shown)

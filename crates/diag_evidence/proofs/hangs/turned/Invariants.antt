@@ -1,7 +1,0 @@
-use Rattle.std.proofs.Common.{◌≡◌, take}
-use Rattle.std.specs.Prelude.{map}
-use Rattle.diag_evidence.specs.Hangs.{turned}
-use Rattle.diag_evidence.proofs.hangs.turned.Given as goal
-
-abbrev pub invariant-hangs : goal.invariant-hangs
-invariant-hangs l = l.turned.items ≡ map turned (take l.k l.hangs)

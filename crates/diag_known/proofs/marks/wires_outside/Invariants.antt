@@ -1,0 +1,10 @@
+use Rattle.std.proofs.Common.{◌≡◌, ◌<◌, ◌≤◌, ℕ, length, not, false}
+use Rattle.base_bits.specs.Numbers.{has_number}
+use Rattle.diag_known.proofs.marks.wires_outside.Given as goal
+
+abbrev pub invariant-wires : goal.invariant-wires
+invariant-wires l = record {
+  len : length l.set ≡ length l.wires;
+  turned : (i : ℕ) → i < l.w → has_number l.set i ≡ not (has_number l.wires i);
+  rest : (i : ℕ) → l.w ≤ i → has_number l.set i ≡ false;
+}

@@ -1,0 +1,6 @@
+use Rattle.std.proofs.Common.{ℕ, ◌<◌}
+use Rattle.map_network.specs.Merging.{CanJoin}
+use Rattle.map_network.proofs.readers.find_joinable.Given as goal
+
+abbrev pub invariant-tables : goal.invariant-tables
+invariant-tables l = (j : ℕ) → j < l.table → (r : ℕ) → CanJoin l.network j r → ⊥

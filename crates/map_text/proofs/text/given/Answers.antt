@@ -1,4 +1,0 @@
-use Rattle.map_text.proofs.text.given.Goals as goal
-
-pub returns-in-Ok-clause-netlist : goal.returns-in-Ok-clause-netlist
-returns-in-Ok-clause-netlist c = c.in-Ok.ensures.only c.args.netlist.now c.requires.design c.requires.short
