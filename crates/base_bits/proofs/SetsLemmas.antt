@@ -1,6 +1,5 @@
 -- What a set of numbers contains after a change, what a slice of a vector was left with, and bits that are the same.
-use Rattle.std.proofs.Common.{◌≡◌, ℕ, Bool, true, false, not, ◌||◌, ◌&&◌, if◌then◌else◌, List, length, refl, sym, ap, ◌∙◌}
-use Rattle.std.specs.Prelude.{◌==◌, Vec}
+use Rattle.std.proofs.Common.{◌≡◌, ℕ, Bool, true, false, not, ◌||◌, ◌&&◌, if◌then◌else◌, List, length, refl, sym, ap, ◌∙◌, ◌==◌, Vec}
 use Rattle.std.specs.Vec.{with_items}
 use Rattle.std.specs.Ordering.{nat_cmp}
 use Rattle.std.specs.Cmp.{nat_cmp_total, unsigned_tied}

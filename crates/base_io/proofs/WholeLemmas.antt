@@ -3,9 +3,7 @@ use Rattle.std.proofs.Common.{◌≡◌, ℕ, ◌+◌, ◌≤◌, length, List, 
 use Rattle.std.proofs.lemmas.Grind.{common_steps}
 use Rattle.std.proofs.Math.Seq.{take-add}
 use Rattle.std.proofs.lemmas.List.{take-append-le}
-use Rattle.base_io.specs.Told.{Told, untold, absent, holds, bytes_of, IfTold}
-use Rattle.base_io.specs.Store.{StoreState, AreNext, moved, rest_of}
-use Rattle.base_io.specs.Whole.{IsFront}
+use Rattle.base_io.specs.Vocabulary.{Told, untold, absent, holds, bytes_of, IfTold, StoreState, AreNext, moved, rest_of, IsFront}
 
 -- at bytes that may be told
 front-more : (told : Told) (text into : List ℕ) (n : ℕ) → IfTold told (λ bytes. text ≡ take (length text) bytes) → IfSome (option_map (λ bytes. drop (length text) bytes) (bytes_of told)) (AreNext n into) → IfTold told (λ bytes. text ++ take n into ≡ take (length text + n) bytes)

@@ -10,3 +10,4 @@ pub mod MemorySink
 pub mod CutSink
 pub mod FileStore
 pub mod StdSink
+pub mod Vocabulary

@@ -2,8 +2,7 @@
 use Rattle.std.proofs.Common.{◌≡◌, ℕ, ◌+◌, ◌<◌, Bool, true, false, cond, List, [], ◌∷◌, ◌++◌, Option, Some, None, length, map, filter, ◌⊎◌, refl, sym, ap, ◌∙◌, append_assoc, nat_lt, inl, inr}
 use Rattle.std.specs.List.{slice_split, onto_first}
 use Rattle.base_text.proofs.BytesLemmas.{physical_some}
-use Rattle.base_text.specs.Bytes.{is_blank, physical_lines, uncommented, joining_part, words_of}
-use Rattle.base_text.specs.Lines.{Text, LogicalLine, line_of, texts_of, onto_next, lines_from}
+use Rattle.base_text.specs.Vocabulary.{is_blank, physical_lines, uncommented, joining_part, words_of, Text, LogicalLine, line_of, texts_of, onto_next, lines_from}
 
 -- a blank between two texts parts their words
 is_word : List ℕ → Bool

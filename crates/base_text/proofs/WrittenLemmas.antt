@@ -11,9 +11,7 @@ use Rattle.std.specs.Fmt.{decimal}
 use Rattle.std.specs.Str.{all_ascii_digits}
 use Rattle.std.proofs.lemmas.Fmt.{decimal_nonempty, digits_decimal}
 use Rattle.base_text.proofs.NumberLemmas.{own}
-use Rattle.base_text.specs.Bytes.{is_blank, is_bad, has_bad_byte, physical_lines, uncommented, words_of}
-use Rattle.base_text.specs.Lines.{LogicalLine, texts_of, line_of, with_words, lines_from}
-use Rattle.base_text.specs.Written.{spaced, written, is_graphic, IsWord, AreRows, numbered}
+use Rattle.base_text.specs.Vocabulary.{is_blank, is_bad, has_bad_byte, physical_lines, uncommented, words_of, LogicalLine, texts_of, line_of, with_words, lines_from, spaced, written, is_graphic, IsWord, AreRows, numbered}
 use Rattle.base_text.proofs.LinesLemmas.{words-append}
 
 -- a byte that ends no line and begins no comment

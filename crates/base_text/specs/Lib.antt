@@ -6,3 +6,4 @@ pub mod Faults
 pub mod Lines
 pub mod Size
 pub mod Written
+pub mod Vocabulary

@@ -1,23 +1,18 @@
 -- What the command `bench` comes to.
 use Rattle.std.proofs.Common.{◌≡◌, ℕ, [], refl, sym, subst}
 use Rattle.machine_shape.specs.declared.Shape.{Shape}
-use Rattle.machine_meaning.specs.Faults.{Faults}
-use Rattle.machine_meaning.specs.Defects.{Defects, IsFair}
+use Rattle.machine_meaning.specs.Vocabulary.{Faults, Defects, IsFair}
 use Rattle.design_netlist.specs.declared.netlist_data.NetlistData.{NetlistData}
 use Rattle.design_netlist.specs.Checks.{IsChecked}
 use Rattle.map_network.specs.declared.network.Network.{Network}
-use Rattle.map_network.specs.Networks.{IsNetwork}
-use Rattle.map_network.specs.Plain.{plain_network}
+use Rattle.map_network.specs.Vocabulary.{IsNetwork, plain_network}
 use Rattle.place_plan.specs.declared.short.Short.{Short}
-use Rattle.place_plan.specs.Plans.{IsShortInOrder}
-use Rattle.place_plan.specs.Enough.{HasSoundParts}
+use Rattle.place_plan.specs.Vocabulary.{IsShortInOrder, HasSoundParts}
 use Rattle.design_blif.specs.Designs.{IsDesign}
 use Rattle.machine_bench.specs.Work as work
 use Rattle.machine_bench.specs.Faults.{AreBenchFaults}
 use Rattle.cmd_bench.specs.Design.{bench_draft}
-use Rattle.cmd_steps.specs.Faults.{ShortPlace}
-use Rattle.cmd_steps.specs.Outside.{Around}
-use Rattle.cmd_steps.specs.Jobs.{IsLawful, IsExcused}
+use Rattle.cmd_steps.specs.Vocabulary.{ShortPlace, Around, IsLawful, IsExcused}
 use Rattle.cmd_steps.specs.declared.refusal.Refusal.{Refusal}
 use Rattle.cmd_steps.specs.declared.refusal.Refusal.TheVariants as refused
 use Rattle.cmd_steps.proofs.Excused.{attach-excused, rig-excused}

@@ -1,11 +1,8 @@
 -- The generated design's netlist is sound.
-use Rattle.std.proofs.Common.{◌≡◌, ◌∙◌, ℕ, zero, suc, ◌<◌, ◌-◌, ◌==◌, nat_lt, true, [], length, slice_index_or, refl, sym, ap, arith}
-use Rattle.std.specs.Prelude.{if◌then◌else◌}
+use Rattle.std.proofs.Common.{◌≡◌, ◌∙◌, ℕ, zero, suc, ◌<◌, ◌-◌, ◌==◌, nat_lt, true, [], length, slice_index_or, refl, sym, ap, arith, if◌then◌else◌}
 use Rattle.std.specs.List.{Contains}
 use Rattle.std.proofs.lemmas.Bool.{eqb-true, ltb-true}
-use Rattle.design_netlist.specs.Covers.{cover_at, IsCoverOver, IsOnCycle}
-use Rattle.design_netlist.specs.Drafts.{drive_words, reads_of, signal_at, IsDriven, IsWellMade}
-use Rattle.design_netlist.specs.Checks.{IsChecked}
+use Rattle.design_netlist.specs.Vocabulary.{cover_at, IsCoverOver, IsOnCycle, drive_words, reads_of, signal_at, IsDriven, IsWellMade, IsChecked}
 use Rattle.cmd_bench.specs.Design.{bench_cover, bench_draft}
 use Rattle.cmd_bench.proofs.Below.{each_below}
 

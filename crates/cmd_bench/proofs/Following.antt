@@ -1,12 +1,8 @@
 -- How `bench` begins: a machine is made, and attached under the name of the number.
-use Rattle.std.proofs.Common.{◌≡◌, ℕ, List, [], refl, subst, inl}
-use Rattle.std.specs.Prelude.{Result, Ok, Err}
+use Rattle.std.proofs.Common.{◌≡◌, ℕ, List, [], refl, subst, inl, Result, Ok, Err}
 use Rattle.machine_shape.specs.declared.Shape.{Shape}
 use Rattle.machine_bench.specs.Work as work
-use Rattle.cmd_steps.specs.Outside.{Outside, around}
-use Rattle.cmd_steps.specs.Jobs.{Does}
-use Rattle.cmd_steps.specs.Took.{Took, Follows}
-use Rattle.cmd_steps.specs.Texts.{attaches, MayAsk}
+use Rattle.cmd_steps.specs.Vocabulary.{Outside, around, Does, Took, Follows, attaches, MayAsk}
 use Rattle.cmd_steps.specs.declared.refusal.Refusal.TheVariants.{Memory}
 use Rattle.cmd_steps.specs.declared.refusal.Stop.{Stop}
 use Rattle.cmd_steps.specs.declared.refusal.Stop.TheVariants.{Refused}

@@ -3,11 +3,7 @@ use Rattle.std.proofs.Common.{◌≡◌, false, List, [], ◌∷◌, length, ref
 use Rattle.std.specs.Fmt.{digits}
 use Rattle.design_flatten.specs.declared.model.Model.{Model}
 use Rattle.design_flatten.specs.declared.model.Signal.{Signal}
-use Rattle.design_flatten.specs.Lines.{Line}
-use Rattle.design_flatten.specs.Substitution.{after, is_left}
-use Rattle.design_flatten.specs.Signals.{is_over}
-use Rattle.design_flatten.specs.Uses.{uses_of, KeepsRules}
-use Rattle.design_flatten.specs.Netlists.{controls_of, IsReadFrom, IsNetlistOf}
+use Rattle.design_flatten.specs.Vocabulary.{Line, after, is_left, is_over, uses_of, KeepsRules, controls_of, IsReadFrom, IsNetlistOf}
 use Rattle.cmd_bench.specs.Design.{bench_draft}
 use Rattle.cmd_bench.proofs.Text.{bench_model}
 

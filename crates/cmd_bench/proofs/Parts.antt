@@ -4,15 +4,10 @@ use Rattle.std.specs.List.{range_with_len}
 use Rattle.std.proofs.lemmas.Bool.{eqb-true, ltb-true}
 use Rattle.std.proofs.lemmas.List.FromFn.{get_or-map-range_with_len, length-map-range_with_len}
 use Rattle.machine_shape.specs.declared.Shape.{Shape}
-use Rattle.machine_shape.specs.Counts.{levels_from}
-use Rattle.machine_shape.specs.Walk.{Levels, size, place_in, rest, nodes_in, tables_in, lines_in, ports_in}
-use Rattle.machine_shape.specs.Shape.{levels_of, nodes_of, tables_of, pins_of, lines_of, ports_of, own_ports_of, way_to, line_at, port_at}
-use Rattle.machine_shape.specs.Sites.{HasSites}
-use Rattle.machine_meaning.specs.Faults.{Faults}
-use Rattle.machine_meaning.specs.Sound.{IsServed}
+use Rattle.machine_shape.specs.Vocabulary.{levels_from, Levels, size, place_in, rest, nodes_in, tables_in, lines_in, ports_in, levels_of, nodes_of, tables_of, pins_of, lines_of, ports_of, own_ports_of, way_to, line_at, port_at, HasSites}
+use Rattle.machine_meaning.specs.Vocabulary.{Faults, IsServed}
 use Rattle.map_network.specs.Plain.{plain_network, covers_tables, cover_tables}
-use Rattle.place_plan.specs.Plans.{nets_in}
-use Rattle.place_plan.specs.Enough.{AtLeast, HasSoundParts, IsSoundTableOf, IsSoundPinOf, IsWholeLineOf, IsSoundPort}
+use Rattle.place_plan.specs.Vocabulary.{nets_in, AtLeast, HasSoundParts, IsSoundTableOf, IsSoundPinOf, IsWholeLineOf, IsSoundPort}
 use Rattle.machine_bench.specs.Work.{bench_counts}
 use Rattle.machine_bench.specs.Left.{LeavesSound}
 use Rattle.cmd_bench.specs.Design.{bench_draft}

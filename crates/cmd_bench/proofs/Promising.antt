@@ -1,6 +1,5 @@
 -- The promises of a `bench`, from how it ended.
-use Rattle.std.proofs.Common.{◌≡◌, ℕ, ◌<◌, ◌^◌, List, [], ◌∷◌, length}
-use Rattle.std.specs.Prelude.{codes}
+use Rattle.std.proofs.Common.{◌≡◌, ℕ, ◌<◌, ◌^◌, List, [], ◌∷◌, length, codes}
 use Rattle.std.specs.Fmt.{decimal}
 use Rattle.map_network.specs.Plain.{plain_network}
 use Rattle.place_plan.specs.Plans.{nets_in}

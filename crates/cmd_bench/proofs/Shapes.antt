@@ -7,8 +7,7 @@ use Rattle.machine_shape.specs.declared.LimitedCount.{LimitedCount}
 use Rattle.machine_shape.specs.declared.LimitedCount.TheVariants as which
 use Rattle.machine_shape.specs.declared.ShapeFault.{ShapeFault}
 use Rattle.machine_shape.specs.declared.ShapeFault.TheVariants.{Zero, Limit}
-use Rattle.machine_shape.specs.Counts.{levels_from}
-use Rattle.machine_shape.specs.Limits.{HasZero, IsShapeFault, amount_of, most_of}
+use Rattle.machine_shape.specs.Vocabulary.{levels_from, HasZero, IsShapeFault, amount_of, most_of}
 use Rattle.machine_bench.specs.Work.{bench_counts}
 
 no_port : (k : ℕ) → k < 3 → slice_index_or bench_counts.ports k 0 ≡ 0 → ⊥

@@ -1,9 +1,7 @@
 -- The text of the generated design is that of its netlist.
-use Rattle.std.proofs.Common.{◌≡◌, ◌≤◌, true, [], ◌∷◌, map, length, None, refl, arith}
-use Rattle.std.specs.Prelude.{codes}
+use Rattle.std.proofs.Common.{◌≡◌, ◌≤◌, true, [], ◌∷◌, map, length, None, refl, arith, codes}
 use Rattle.std.specs.Fmt.{digits}
-use Rattle.base_text.specs.Lines.{logical_lines, texts_of}
-use Rattle.base_text.specs.Bytes.{physical_lines}
+use Rattle.base_text.specs.Vocabulary.{logical_lines, texts_of, physical_lines}
 use Rattle.design_netlist.specs.declared.netlist_data.LatchDef.{LatchDef}
 use Rattle.design_flatten.specs.declared.model.Model.{Model}
 use Rattle.design_flatten.specs.declared.model.Piece.{Piece}

@@ -15,10 +15,7 @@ use Rattle.run_image.specs.Pins.{Rows}
 use Rattle.run_image.specs.Run.{RunsRow}
 use Rattle.machine_bench.specs.Work as work
 use Rattle.machine_bench.specs.Faults.{AreBenchFaults}
-use Rattle.cmd_steps.specs.Outside.{Around}
-use Rattle.cmd_steps.specs.Courses.{Course, Step, after, write, done}
-use Rattle.cmd_steps.specs.Texts.{attaches, AsksMachine, LoadsOnce}
-use Rattle.cmd_steps.specs.Jobs.{Job}
+use Rattle.cmd_steps.specs.Vocabulary.{Around, Course, Step, after, write, done, attaches, AsksMachine, LoadsOnce, Job}
 use Rattle.cmd_steps.specs.declared.refusal.Refusal.{Refusal}
 use Rattle.cmd_steps.specs.declared.refusal.Refusal.TheVariants as refused
 use Rattle.diag_list.specs.Lists.{Listed, lists}

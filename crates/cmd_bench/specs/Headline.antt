@@ -1,7 +1,6 @@
 -- What a `bench` that is done has done.
 use Rattle.std.specs.Prelude.{◌≡◌, ℕ, ◌-◌, map, length, Some}
-use Rattle.base_io.specs.Counts.{next_count}
-use Rattle.base_io.specs.Sink.{Wrote}
+use Rattle.base_io.specs.Vocabulary.{next_count, Wrote}
 use Rattle.machine_shape.specs.declared.Shape.{Shape}
 use Rattle.machine_meaning.specs.Faults.{Faults}
 use Rattle.design_netlist.specs.declared.netlist_data.NetlistData.{NetlistData}

@@ -2,8 +2,7 @@
 ghost use Rattle.std.specs.Prelude.{◌≡◌, [], Some, IfOk, OnOk, string_bytes};
 ghost use Rattle.machine_bench.specs.Work as work;
 ghost use Rattle.cmd_bench.specs.Design.{bench_draft};
-ghost use Rattle.cmd_steps.specs.Vocabulary.{StoreState, shape_of, outside, around, Follows, Does, IsLawful};
-ghost use Rattle.cmd_steps.specs.Texts.{AsksMachine};
+ghost use Rattle.cmd_steps.specs.Vocabulary.{StoreState, shape_of, outside, around, Follows, Does, IsLawful, AsksMachine};
 ghost use Rattle.cmd_bench.specs.Bench.{bench_course, bench_job, design_laid, generated_name};
 ghost use Rattle.cmd_bench.specs.Headline.{IsBenched};
 

@@ -1,9 +1,7 @@
 -- What the command `check` comes to.
 use Rattle.std.proofs.Common.{ℕ, Bool, true, false, List, [], ◌∷◌}
 use Rattle.machine_image.specs.Images.{ImageValue}
-use Rattle.cmd_steps.specs.Outside.{Around}
-use Rattle.cmd_steps.specs.Courses.{Course}
-use Rattle.cmd_steps.specs.Jobs.{IsLawful, IsExcused}
+use Rattle.cmd_steps.specs.Vocabulary.{Around, Course, IsLawful, IsExcused}
 use Rattle.cmd_steps.specs.declared.refusal.Refusal.{Refusal}
 use Rattle.cmd_steps.specs.declared.refusal.Refusal.TheVariants as refused
 use Rattle.cmd_steps.proofs.Excused.{image-excused, rig-excused}

@@ -1,10 +1,8 @@
 -- How the steps of `check` follow one another, over plain states.
-use Rattle.std.proofs.Common.{◌≡◌, ℕ, Bool, List, [], subst}
-use Rattle.std.specs.Prelude.{Result, Ok}
+use Rattle.std.proofs.Common.{◌≡◌, ℕ, Bool, List, [], subst, Result, Ok}
 use Rattle.base_io.specs.Store.{StoreState}
 use Rattle.machine_image.specs.Images.{ImageValue}
-use Rattle.cmd_steps.specs.Outside.{Outside}
-use Rattle.cmd_steps.specs.Took.{Took, Follows}
+use Rattle.cmd_steps.specs.Vocabulary.{Outside, Took, Follows}
 use Rattle.cmd_steps.specs.declared.refusal.Stop.{Stop}
 use Rattle.cmd_steps.proofs.Keeping.{kept-gives}
 use Rattle.cmd_check.specs.Testing.{tests_now}

@@ -3,14 +3,10 @@ use Rattle.std.proofs.Common.{◌≡◌, ◌∙◌, ℕ, Bool, true, false, List
 use Rattle.std.proofs.lemmas.Bool.{false≢true}
 use Rattle.base_io.specs.Sink.{Wrote}
 use Rattle.machine_shape.specs.declared.Shape.{Shape}
-use Rattle.machine_meaning.specs.Faults.{Faults}
-use Rattle.machine_meaning.specs.Defects.{Covers}
-use Rattle.machine_meaning.specs.Tight.{IsTight}
+use Rattle.machine_meaning.specs.Vocabulary.{Faults, Covers, IsTight}
 use Rattle.machine_image.specs.Images.{ImageValue}
 use Rattle.diag_check.specs.Soundly.{IsUnharmed, TakesForParts}
-use Rattle.cmd_steps.specs.Outside.{Outside, around}
-use Rattle.cmd_steps.specs.Courses.{ends}
-use Rattle.cmd_steps.specs.Texts.{reads_machine, reads_image}
+use Rattle.cmd_steps.specs.Vocabulary.{Outside, around, ends, reads_machine, reads_image}
 use Rattle.cmd_steps.proofs.QuietJobs.{line-ended}
 use Rattle.cmd_check.specs.Answers.{IsTrueUnder, answer_line}
 use Rattle.cmd_check.specs.Testing.{Tried, IsTried}

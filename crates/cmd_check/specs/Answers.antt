@@ -1,17 +1,13 @@
 -- What a check answers: what a list of defects says of an image, the line that says so, and what that is worth.
 use Rattle.std.specs.Prelude.{◌≡◌, ℕ, ◌<◌, true, List, ◌++◌, IsSome, codes}
 use Rattle.machine_shape.specs.declared.Shape.{Shape}
-use Rattle.machine_shape.specs.Shape.{wires_of, crosses_of, tables_of, ends_of, node_of, node_of_cross, hextant_of}
-use Rattle.machine_shape.specs.Names.{wire_name, table_name}
-use Rattle.machine_meaning.specs.Faults.{Faults}
-use Rattle.machine_meaning.specs.Sound.{IsSoundWire, IsSoundCross, IsSoundTable, IsServed}
-use Rattle.machine_meaning.specs.Defects.{Defects, IsFreeWire, IsFreeCross, IsFreeTable, Covers, IsOfUse}
-use Rattle.machine_meaning.specs.Standing.{IsSeated, IsSoundCrossOf, IsStanding}
-use Rattle.machine_meaning.specs.Tight.{IsTight}
+use Rattle.machine_shape.specs.Vocabulary.{wires_of, crosses_of, tables_of, ends_of, node_of, node_of_cross, hextant_of, wire_name}
+use Rattle.machine_shape.specs.Vocabulary.{table_name}
+use Rattle.machine_meaning.specs.Vocabulary.{Faults, IsSoundWire, IsSoundCross, IsSoundTable, IsServed, Defects, IsFreeWire, IsFreeCross}
+use Rattle.machine_meaning.specs.Vocabulary.{IsFreeTable, Covers, IsOfUse, IsSeated, IsSoundCrossOf, IsStanding, IsTight}
 use Rattle.machine_defects.specs.Lists.{DefectList}
 use Rattle.machine_config.specs.Configuration.{is_closed, setting_of}
-use Rattle.machine_image.specs.Images.{ImageValue}
-use Rattle.machine_image.specs.Parts.{IsFreeImage, Uses}
+use Rattle.machine_image.specs.Vocabulary.{ImageValue, IsFreeImage, Uses}
 use Rattle.diag_check.specs.Soundly.{RunsSoundly}
 use Rattle.cmd_steps.specs.Lines.{as_line}
 use Rattle.cmd_check.specs.declared.answer.Answer.{Answer}

@@ -1,17 +1,13 @@
 -- What the command `check` is.
 use Rattle.std.specs.Prelude.{◌≡◌, ℕ, Bool, true, false, List, [], ◌∷◌}
-use Rattle.base_io.specs.Told.{Told}
-use Rattle.base_io.specs.Store.{StoreState}
+use Rattle.base_io.specs.Vocabulary.{Told, StoreState}
 use Rattle.machine_shape.specs.declared.Shape.{Shape}
 use Rattle.machine_text.specs.Machine.{IsMachine}
 use Rattle.machine_defects.specs.Lists.{DefectList}
 use Rattle.machine_image.specs.Images.{ImageValue}
 use Rattle.rig.specs.Rig.{RigState}
-use Rattle.cmd_steps.specs.Outside.{Around, StandsIn}
-use Rattle.cmd_steps.specs.Courses.{Course, Step, after, write, done}
-use Rattle.cmd_steps.specs.Beginnings.{Unloaded, machine_attached}
-use Rattle.cmd_steps.specs.Texts.{IsImageText, IsRightFile, reads_machine, reads_image, AsksMachine}
-use Rattle.cmd_steps.specs.Jobs.{Job, quiet}
+use Rattle.cmd_steps.specs.Vocabulary.{Around, StandsIn, Course, Step, after, write, done, Unloaded, machine_attached, IsImageText}
+use Rattle.cmd_steps.specs.Vocabulary.{IsRightFile, reads_machine, reads_image, AsksMachine, Job, quiet}
 use Rattle.cmd_steps.specs.declared.refusal.Refusal.{Refusal}
 use Rattle.cmd_steps.specs.declared.refusal.Refusal.TheVariants as refused
 use Rattle.diag_list.specs.Lists.{Listed, lists}

@@ -1,14 +1,12 @@
 -- What a `check` that is done has done.
 use Rattle.std.specs.Prelude.{◌≡◌, ℕ, true, false, List, [], ◌∷◌, ◌++◌, Some}
-use Rattle.base_io.specs.Told.{IfTold}
-use Rattle.base_io.specs.Sink.{Wrote}
+use Rattle.base_io.specs.Vocabulary.{IfTold, Wrote}
 use Rattle.machine_shape.specs.declared.Shape.{Shape}
 use Rattle.machine_meaning.specs.Faults.{Faults}
 use Rattle.machine_image.specs.Images.{ImageValue, Reads}
 use Rattle.rig.specs.Rig.{RigState}
 use Rattle.diag_check.specs.Soundly.{IsUnharmed, TakesForParts}
-use Rattle.cmd_steps.specs.Outside.{Outside}
-use Rattle.cmd_steps.specs.Texts.{IsMachineText}
+use Rattle.cmd_steps.specs.Vocabulary.{Outside, IsMachineText}
 use Rattle.diag_list.specs.Lists.{Listed, IsListed}
 use Rattle.cmd_check.specs.Answers.{IsByList, IsTrueUnder, answer_line}
 use Rattle.cmd_check.specs.Testing.{Tried, IsTried}

@@ -3,8 +3,7 @@ use Rattle.std.specs.Prelude.{ℕ, Bool}
 use Rattle.machine_image.specs.Images.{ImageValue}
 use Rattle.rig.specs.Rig.{RigState}
 use Rattle.diag_check.specs.Soundly.{SoundIf, YesIf, TakesForParts}
-use Rattle.cmd_steps.specs.Courses.{Step}
-use Rattle.cmd_steps.specs.Texts.{FailsOnRig}
+use Rattle.cmd_steps.specs.Vocabulary.{Step, FailsOnRig}
 
 -- what a test found, and how many loads the rig counted then
 pub record Tried : Type 0 where

@@ -1,13 +1,10 @@
 -- What the command `compile` comes to.
 use Rattle.std.proofs.Common.{ℕ, List, [], ◌∷◌, refl, inr}
-use Rattle.cmd_steps.specs.Outside.{Around}
-use Rattle.cmd_steps.specs.Courses.{Next}
-use Rattle.cmd_steps.specs.Jobs.{IsLawful, EndsWell, EndsShort}
+use Rattle.cmd_steps.specs.Vocabulary.{Around, Next, IsLawful, EndsWell, EndsShort}
 use Rattle.cmd_steps.specs.declared.design_file.DesignFile.TheVariants.{Design}
 use Rattle.cmd_steps.proofs.Sure.{IsLed, Excuses, led-after, led-sure, led-line, machine-sure, list-sure, design-sure}
 use Rattle.place_design.proofs.Rooms.{AreDecided, never-lacks, never-refused, lay-excused, lay-short}
-use Rattle.cmd_compile.specs.Compile.{compile_course, design_laid, compile_files, compile_job}
-use Rattle.cmd_compile.specs.Compile.{CompileFiles, AreRightFiles, CompileRight, CompileShort}
+use Rattle.cmd_compile.specs.Compile.{compile_course, design_laid, compile_files, compile_job, CompileFiles, AreRightFiles, CompileRight, CompileShort}
 
 module _ (machine defects design : List ℕ) (old new : Around) where
   abbrev t : CompileFiles

@@ -1,12 +1,9 @@
 -- What a `compile` that is done has done, from its course.
 use Rattle.std.proofs.Common.{◌≡◌, ◌∙◌, ℕ, List, [], ◌∷◌, ◌++◌, ap, sym, subst, inl, inr, append-nil}
-use Rattle.base_io.specs.Told.{IfTold}
-use Rattle.base_io.specs.Sink.{Wrote}
+use Rattle.base_io.specs.Vocabulary.{IfTold, Wrote}
 use Rattle.machine_shape.specs.declared.Shape.{Shape}
 use Rattle.machine_image.specs.Images.{image_bytes}
-use Rattle.cmd_steps.specs.Outside.{Outside}
-use Rattle.cmd_steps.specs.Courses.{ends}
-use Rattle.cmd_steps.specs.Texts.{IsMachineText, IsDefectsText}
+use Rattle.cmd_steps.specs.Vocabulary.{Outside, ends, IsMachineText, IsDefectsText}
 use Rattle.cmd_compile.specs.Compile.{compile_course}
 use Rattle.cmd_compile.specs.Headline.{IsCompiled}
 

@@ -1,18 +1,12 @@
 -- What the command `compile` is.
 use Rattle.std.specs.Prelude.{◌≡◌, ℕ, List, [], ◌∷◌}
-use Rattle.base_io.specs.Told.{Told}
-use Rattle.base_io.specs.Store.{StoreState}
+use Rattle.base_io.specs.Vocabulary.{Told, StoreState}
 use Rattle.machine_text.specs.Machine.{IsMachine}
-use Rattle.machine_defects.specs.Lists.{DefectList}
-use Rattle.machine_defects.specs.Faults.{IsText}
+use Rattle.machine_defects.specs.Vocabulary.{DefectList, IsText}
 use Rattle.design_netlist.specs.declared.netlist_data.NetlistData.{NetlistData}
 use Rattle.design_blif.specs.Designs.{IsDesign}
 use Rattle.machine_image.specs.Images.{ImageValue, image_bytes}
-use Rattle.cmd_steps.specs.Outside.{StandsIn}
-use Rattle.cmd_steps.specs.Courses.{Course, after, write, done}
-use Rattle.cmd_steps.specs.Beginnings.{listed_course}
-use Rattle.cmd_steps.specs.Texts.{IsRightFile, reads_design}
-use Rattle.cmd_steps.specs.Jobs.{Job}
+use Rattle.cmd_steps.specs.Vocabulary.{StandsIn, Course, after, write, done, listed_course, IsRightFile, reads_design, Job}
 use Rattle.cmd_steps.specs.declared.design_file.DesignFile.TheVariants.{Design}
 use Rattle.place_design.specs.Laying.{lays, HasRoom, LacksRoom}
 

@@ -1,11 +1,7 @@
 -- What the command `diagnose` comes to.
 use Rattle.std.proofs.Common.{◌≡◌, ℕ, List, [], ◌∷◌, refl}
 use Rattle.machine_defects.specs.Text.{text_of}
-use Rattle.cmd_steps.specs.Outside.{Around, StandsIn}
-use Rattle.cmd_steps.specs.Courses.{after, done}
-use Rattle.cmd_steps.specs.Beginnings.{Unloaded}
-use Rattle.cmd_steps.specs.Texts.{reads_machine, attaches}
-use Rattle.cmd_steps.specs.Jobs.{IsLawful, Leads, Fronts, EndsWell}
+use Rattle.cmd_steps.specs.Vocabulary.{Around, StandsIn, after, done, Unloaded, reads_machine, attaches, IsLawful, Leads, Fronts, EndsWell}
 use Rattle.cmd_steps.proofs.Leading.{after-leads, write-leads, done-leads}
 use Rattle.cmd_steps.proofs.Excused.{machine-excused, attach-excused, rig-excused}
 use Rattle.diag_list.specs.Lists.{lists}

@@ -1,21 +1,14 @@
 -- How the steps of `diagnose` follow one another: a lemma for each place where the body ends, over plain states.
-use Rattle.std.proofs.Common.{◌≡◌, ℕ, List, [], ◌∷◌, refl, sym}
-use Rattle.std.specs.Prelude.{Result, Ok, Err}
-use Rattle.base_io.specs.Store.{StoreState}
-use Rattle.base_io.specs.Sink.{SinkState}
+use Rattle.std.proofs.Common.{◌≡◌, ℕ, List, [], ◌∷◌, refl, sym, Result, Ok, Err}
+use Rattle.base_io.specs.Vocabulary.{StoreState, SinkState}
 use Rattle.machine_shape.specs.declared.Shape.{Shape}
 use Rattle.machine_defects.specs.Lists.{DefectList}
 use Rattle.rig.specs.Rig.{RigState}
-use Rattle.cmd_steps.specs.Outside.{Outside, StandsIn, outside, around}
-use Rattle.cmd_steps.specs.Courses.{Course, done}
-use Rattle.cmd_steps.specs.Jobs.{Does}
-use Rattle.cmd_steps.specs.Took.{Took, Follows}
-use Rattle.cmd_steps.specs.Texts.{reads_machine, attaches, MayAsk}
+use Rattle.cmd_steps.specs.Vocabulary.{Outside, StandsIn, outside, around, Course, done, Does, Took, Follows, reads_machine, attaches, MayAsk, Unloaded}
 use Rattle.cmd_steps.specs.declared.refusal.Stop.{Stop}
 use Rattle.cmd_steps.proofs.Machines.{named, machine-stops, attach-stops, attached-gives}
 use Rattle.cmd_steps.proofs.Taking.{all-done}
 use Rattle.diag_list.specs.Lists.{Listed, WritesList}
-use Rattle.cmd_steps.specs.Beginnings.{Unloaded}
 use Rattle.diag_list.proofs.Following.{list-ends, list-goes}
 use Rattle.cmd_diagnose.specs.Diagnose.{diagnose_job, machine_listed}
 

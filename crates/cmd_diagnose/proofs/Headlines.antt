@@ -2,8 +2,7 @@
 use Rattle.std.proofs.Common.{◌≡◌, ◌∙◌, ℕ, List, [], ◌∷◌, ◌++◌, refl, ap, subst, inl, inr, append-nil}
 use Rattle.base_io.specs.Sink.{Wrote}
 use Rattle.machine_defects.specs.Text.{text_of}
-use Rattle.cmd_steps.specs.Outside.{Around, Outside, around}
-use Rattle.cmd_steps.specs.Courses.{Next, ends}
+use Rattle.cmd_steps.specs.Vocabulary.{Around, Outside, around, Next, ends}
 use Rattle.cmd_steps.proofs.Leading.{stopped}
 use Rattle.diag_list.specs.Lists.{MadeFewLoads, unloaded, few, lists}
 use Rattle.cmd_diagnose.specs.Diagnose.{diagnose_course}

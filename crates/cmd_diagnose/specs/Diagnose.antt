@@ -4,11 +4,8 @@ use Rattle.base_io.specs.Told.{Told}
 use Rattle.machine_shape.specs.declared.Shape.{Shape}
 use Rattle.machine_text.specs.Machine.{IsMachine}
 use Rattle.machine_defects.specs.Text.{text_of}
-use Rattle.cmd_steps.specs.Outside.{Around, StandsIn}
-use Rattle.cmd_steps.specs.Courses.{Course, after, write, done}
-use Rattle.cmd_steps.specs.Beginnings.{machine_attached}
-use Rattle.cmd_steps.specs.Texts.{IsRightFile, reads_machine, AsksMachine}
-use Rattle.cmd_steps.specs.Jobs.{Job, quiet}
+use Rattle.cmd_steps.specs.Vocabulary.{Around, StandsIn, Course, after, write, done, machine_attached, IsRightFile, reads_machine}
+use Rattle.cmd_steps.specs.Vocabulary.{AsksMachine, Job, quiet}
 use Rattle.diag_list.specs.Lists.{Listed, lists}
 
 -- The list is written, and no load follows on those that it took

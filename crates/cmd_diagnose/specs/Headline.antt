@@ -1,11 +1,9 @@
 -- What a `diagnose` that is done has done.
 use Rattle.std.specs.Prelude.{◌≡◌, ℕ, List, [], ◌∷◌, ◌++◌, Some}
-use Rattle.base_io.specs.Told.{IfTold}
-use Rattle.base_io.specs.Sink.{Wrote}
+use Rattle.base_io.specs.Vocabulary.{IfTold, Wrote}
 use Rattle.machine_shape.specs.declared.Shape.{Shape}
 use Rattle.machine_defects.specs.Text.{text_of}
-use Rattle.cmd_steps.specs.Outside.{Outside}
-use Rattle.cmd_steps.specs.Texts.{IsMachineText}
+use Rattle.cmd_steps.specs.Vocabulary.{Outside, IsMachineText}
 use Rattle.diag_list.specs.Lists.{Listed, IsListed}
 
 -- The machine of the text is attached under the name, and the text of a list of its defects is written: where the machine's

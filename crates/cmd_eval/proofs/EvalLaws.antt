@@ -2,12 +2,7 @@
 use Rattle.std.proofs.Common.{◌≡◌, ℕ, List, [], ◌∷◌, ◌++◌, length, None, refl, subst, inl, inr}
 use Rattle.base_io.specs.Told.{IfTold}
 use Rattle.design_netlist.specs.declared.netlist_data.NetlistData.{NetlistData}
-use Rattle.cmd_steps.specs.Files.{says_at}
-use Rattle.cmd_steps.specs.Lines.{outputs_line}
-use Rattle.cmd_steps.specs.Outside.{Around}
-use Rattle.cmd_steps.specs.Courses.{refuses}
-use Rattle.cmd_steps.specs.Texts.{IsDesignText}
-use Rattle.cmd_steps.specs.Jobs.{IsLawful}
+use Rattle.cmd_steps.specs.Vocabulary.{says_at, outputs_line, Around, refuses, IsDesignText, IsLawful}
 use Rattle.cmd_steps.specs.declared.refusal.Refusal.TheVariants.{Memory}
 use Rattle.cmd_steps.specs.declared.design_file.DesignFile.TheVariants.{Design}
 use Rattle.cmd_steps.proofs.Excused.{design-excused}

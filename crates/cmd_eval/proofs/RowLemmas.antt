@@ -1,8 +1,6 @@
 -- A file of vectors that is read, row by row, and how that goes on and stops.
-use Rattle.std.proofs.Common.{◌≡◌, ◌≤◌, ℕ, Bool, false, List, [], ◌∷◌, ◌++◌, length, arith, refl, ap, subst, inl, ◌∙◌, append-nil, append_assoc}
-use Rattle.std.specs.Prelude.{Result, Ok, Err}
-use Rattle.base_io.specs.Store.{StoreState}
-use Rattle.base_io.specs.Sink.{SinkState}
+use Rattle.std.proofs.Common.{◌≡◌, ◌≤◌, ℕ, Bool, false, List, [], ◌∷◌, ◌++◌, length, arith, refl, ap, subst, inl, ◌∙◌, append-nil, append_assoc, Result, Ok, Err}
+use Rattle.base_io.specs.Vocabulary.{StoreState, SinkState}
 use Rattle.design_netlist.specs.declared.netlist_data.NetlistData.{NetlistData}
 use Rattle.design_netlist.specs.Rows.{AreRows}
 use Rattle.rig.specs.Rig.{RigState}
@@ -10,12 +8,7 @@ use Rattle.design_vectors.specs.declared.vectors.VectorsFail.{VectorsFail}
 use Rattle.design_vectors.specs.declared.vectors.VectorsFail.TheVariants.{Text, Failed}
 use Rattle.design_vectors.specs.Readings.{NextGives, NextFails}
 use Rattle.design_vectors.specs.Rows.{row_line}
-use Rattle.cmd_steps.specs.Files.{file_of, IsBegun}
-use Rattle.cmd_steps.specs.NextVectors.{StaysOpen, IsPutOut, WaitsOrPuts, NextStops}
-use Rattle.cmd_steps.specs.Outside.{outside, IsLater}
-use Rattle.cmd_steps.specs.Courses.{RowWork, all_rows}
-use Rattle.cmd_steps.specs.Stops.{stop_of_vectors}
-use Rattle.cmd_steps.specs.Took.{Follows}
+use Rattle.cmd_steps.specs.Vocabulary.{file_of, IsBegun, StaysOpen, IsPutOut, WaitsOrPuts, NextStops, outside, IsLater, RowWork, all_rows, stop_of_vectors, Follows}
 use Rattle.cmd_steps.specs.declared.refusal.Refusal.TheVariants as refused
 use Rattle.cmd_steps.specs.declared.refusal.Stop.{Stop}
 use Rattle.cmd_steps.specs.declared.refusal.Stop.TheVariants.{Refused, Sink}

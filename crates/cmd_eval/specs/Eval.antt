@@ -1,16 +1,11 @@
 -- What the command `eval` is.
 use Rattle.std.specs.Prelude.{◌≡◌, ℕ, List, [], ◌∷◌, ◌++◌, length, Option, Some}
-use Rattle.base_io.specs.Told.{Told}
-use Rattle.base_io.specs.Store.{StoreState, StorePlace}
+use Rattle.base_io.specs.Vocabulary.{Told, StoreState, StorePlace}
 use Rattle.design_netlist.specs.declared.netlist_data.NetlistData.{NetlistData}
 use Rattle.design_netlist.specs.Rows.{AreRows}
 use Rattle.design_blif.specs.Designs.{IsDesign}
-use Rattle.cmd_steps.specs.Files.{AreRightVectors}
-use Rattle.cmd_steps.specs.Lines.{outputs_line}
-use Rattle.cmd_steps.specs.Outside.{StandsIn}
-use Rattle.cmd_steps.specs.Courses.{Course, RowWork, after, write, all_rows}
-use Rattle.cmd_steps.specs.Texts.{IsRightFile, reads_design, opens}
-use Rattle.cmd_steps.specs.Jobs.{Job}
+use Rattle.cmd_steps.specs.Vocabulary.{AreRightVectors, outputs_line, StandsIn, Course, RowWork, after, write, all_rows, IsRightFile}
+use Rattle.cmd_steps.specs.Vocabulary.{reads_design, opens, Job}
 use Rattle.cmd_steps.specs.declared.design_file.DesignFile.TheVariants.{Design}
 
 -- the rows of a design, for which no memory is wanted

@@ -1,13 +1,11 @@
 -- What the steps of an evaluation say.
 use Rattle.std.specs.Prelude.{◌≡◌, Bool, true, false, [], length}
-use Rattle.base_io.specs.Store.{StoreState}
-use Rattle.base_io.specs.Sink.{SinkState}
+use Rattle.base_io.specs.Vocabulary.{StoreState, SinkState}
 use Rattle.design_netlist.specs.declared.netlist_data.NetlistData.{NetlistData}
 use Rattle.cmd_eval.specs.Runs.{IsFirstOf, IsRowStep}
 use Rattle.design_vectors.specs.Readings.{new_reading}
 use Rattle.cmd_eval.specs.declared.evaluation.Evaluation.{Evaluation}
-use Rattle.cmd_steps.specs.Files.{most_vector_bytes}
-use Rattle.cmd_steps.specs.NextVectors.{RowsAt, rows_at, NextOf}
+use Rattle.cmd_steps.specs.Vocabulary.{most_vector_bytes, RowsAt, rows_at, NextOf}
 
 -- the buffers have the lengths that the netlist asks for
 pub record IsSized (rows : Evaluation) : Type 0 where

@@ -1,13 +1,9 @@
 -- What an `eval` that is done has done.
 use Rattle.std.specs.Prelude.{◌≡◌, ℕ, Bool, List, [], ◌∷◌, ◌++◌, length}
-use Rattle.base_io.specs.Told.{IfTold}
-use Rattle.base_io.specs.Sink.{Wrote}
+use Rattle.base_io.specs.Vocabulary.{IfTold, Wrote}
 use Rattle.design_netlist.specs.declared.netlist_data.NetlistData.{NetlistData}
 use Rattle.design_netlist.specs.Rows.{AreRows}
-use Rattle.cmd_steps.specs.Files.{AreAll}
-use Rattle.cmd_steps.specs.Lines.{output_text}
-use Rattle.cmd_steps.specs.Outside.{Outside}
-use Rattle.cmd_steps.specs.Texts.{IsDesignText}
+use Rattle.cmd_steps.specs.Vocabulary.{AreAll, output_text, Outside, IsDesignText}
 
 -- The line `outputs` and the design's rows for the vectors of the file are written, and the vectors were read to their end
 pub record IsEvaled (design vectors : List ℕ) (old new : Outside) : Type 0 where

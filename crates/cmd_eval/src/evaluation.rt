@@ -1,10 +1,8 @@
 //! The command that writes the rows of a design.
 ghost use Rattle.std.specs.Prelude.{◌≡◌, ◌∷◌, ◌++◌, [], ℕ, List, OnOk, IfOk, IfErr, IsSome};
 ghost use Rattle.design_vectors.specs.Rows.{row_line};
-ghost use Rattle.cmd_steps.specs.Vocabulary.{StoreState, RigState, outside, StandsIn, Follows, Does, IsLawful};
-ghost use Rattle.cmd_steps.specs.Files.{IsBegun, file_of};
-ghost use Rattle.cmd_steps.specs.NextVectors.{StaysOpen, WaitsOrPuts, NextStops};
-ghost use Rattle.cmd_steps.specs.Courses.{all_rows};
+ghost use Rattle.cmd_steps.specs.Vocabulary.{StoreState, RigState, outside, StandsIn, Follows, Does, IsLawful, IsBegun, file_of, StaysOpen};
+ghost use Rattle.cmd_steps.specs.Vocabulary.{WaitsOrPuts, NextStops, all_rows};
 ghost use Rattle.cmd_eval.specs.Eval.{eval_rows, design_evaluated, eval_job};
 ghost use Rattle.cmd_eval.specs.Evaluations.{IsReady, IsSized, RowGives, at_rows};
 

@@ -1,21 +1,15 @@
 -- What the command `go` does with its words, and what it comes to.
 use Rattle.std.proofs.Common.{◌⊎◌, ◌∙◌, ◌≡◌, ℕ, List, sym, subst, inl, inr}
 use Rattle.machine_shape.specs.declared.Shape.{Shape}
-use Rattle.machine_meaning.specs.Faults.{Faults}
-use Rattle.machine_meaning.specs.Defects.{Defects}
-use Rattle.machine_meaning.specs.Tight.{IsTight}
+use Rattle.machine_meaning.specs.Vocabulary.{Faults, Defects, IsTight}
 use Rattle.machine_defects.specs.Text.{text_of}
 use Rattle.design_netlist.specs.declared.netlist_data.NetlistData.{NetlistData}
 use Rattle.design_netlist.specs.Checks.{IsChecked}
 use Rattle.map_network.specs.declared.network.Network.{Network}
-use Rattle.map_network.specs.Networks.{IsNetwork}
-use Rattle.map_network.specs.Plain.{plain_network}
+use Rattle.map_network.specs.Vocabulary.{IsNetwork, plain_network}
 use Rattle.place_plan.specs.declared.short.Short.{Short}
-use Rattle.place_plan.specs.Plans.{IsShortInOrder}
-use Rattle.place_plan.specs.Enough.{HasStandingRoom}
-use Rattle.cmd_steps.specs.Faults.{ShortPlace}
-use Rattle.cmd_steps.specs.Outside.{Around}
-use Rattle.cmd_steps.specs.Jobs.{IsLawful}
+use Rattle.place_plan.specs.Vocabulary.{IsShortInOrder, HasStandingRoom}
+use Rattle.cmd_steps.specs.Vocabulary.{ShortPlace, Around, IsLawful}
 use Rattle.cmd_steps.specs.declared.design_file.DesignFile.TheVariants.{Design}
 use Rattle.diag_list.specs.Lists.{Listed, IsListed}
 use Rattle.diag_list.proofs.Texts.{AreNamed}

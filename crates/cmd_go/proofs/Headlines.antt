@@ -1,11 +1,7 @@
 -- What a `go` has done, from its course.
-use Rattle.std.proofs.Common.{◌≡◌, ℕ, List, [], ◌∷◌, ◌++◌}
-use Rattle.std.specs.Prelude.{Result, Ok, Err, OnOk}
+use Rattle.std.proofs.Common.{◌≡◌, ℕ, List, [], ◌∷◌, ◌++◌, Result, Ok, Err, OnOk}
 use Rattle.base_io.specs.Sink.{Wrote}
-use Rattle.cmd_steps.specs.Outside.{Outside, around}
-use Rattle.cmd_steps.specs.Courses.{Course, ends}
-use Rattle.cmd_steps.specs.Stops.{Asks, IsWritten}
-use Rattle.cmd_steps.specs.Texts.{LoadsOnce}
+use Rattle.cmd_steps.specs.Vocabulary.{Outside, around, Course, ends, Asks, IsWritten, LoadsOnce}
 use Rattle.cmd_steps.specs.declared.refusal.Stop.{Stop}
 use Rattle.cmd_steps.proofs.Standing.{Standing}
 use Rattle.diag_list.specs.Lists.{MadeFewLoads}

@@ -10,12 +10,8 @@ use Rattle.design_blif.specs.Designs.{IsDesign}
 use Rattle.map_network.specs.declared.network.Network.{Network}
 use Rattle.map_network.specs.Plain.{IsPlainNetwork}
 use Rattle.place_plan.specs.Enough.{HasStandingRoom}
-use Rattle.cmd_steps.specs.Files.{AreRightVectors, vectors_at}
-use Rattle.cmd_steps.specs.Outside.{Around}
-use Rattle.cmd_steps.specs.Courses.{Course, after}
-use Rattle.cmd_steps.specs.Beginnings.{Unloaded, machine_attached}
-use Rattle.cmd_steps.specs.Texts.{IsRightFile, reads_machine, reads_design, AsksMachine}
-use Rattle.cmd_steps.specs.Jobs.{Job}
+use Rattle.cmd_steps.specs.Vocabulary.{AreRightVectors, vectors_at, Around, Course, after, Unloaded, machine_attached, IsRightFile}
+use Rattle.cmd_steps.specs.Vocabulary.{reads_machine, reads_design, AsksMachine, Job}
 use Rattle.cmd_steps.specs.declared.design_file.DesignFile.TheVariants.{Design}
 use Rattle.place_design.specs.Laying.{lays, HasRoom, LacksRoom}
 use Rattle.run_image.specs.Rows.{most_rows}

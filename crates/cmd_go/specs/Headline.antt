@@ -1,21 +1,15 @@
 -- What a `go` that is done has done.
 use Rattle.std.specs.Prelude.{◌≡◌, ℕ, Bool, List, [], ◌∷◌, ◌++◌, length, Some}
-use Rattle.base_io.specs.Counts.{next_count}
-use Rattle.base_io.specs.Told.{IfTold}
-use Rattle.base_io.specs.Sink.{Wrote}
+use Rattle.base_io.specs.Vocabulary.{next_count, IfTold, Wrote}
 use Rattle.machine_shape.specs.declared.Shape.{Shape}
-use Rattle.machine_meaning.specs.Faults.{Faults}
-use Rattle.machine_meaning.specs.Defects.{Covers, IsFair}
-use Rattle.machine_meaning.specs.Tight.{IsTight}
-use Rattle.machine_defects.specs.Lists.{DefectList, IsDefectList}
-use Rattle.machine_defects.specs.Text.{text_of}
+use Rattle.machine_meaning.specs.Vocabulary.{Faults, Covers, IsFair, IsTight}
+use Rattle.machine_defects.specs.Vocabulary.{DefectList, IsDefectList, text_of}
 use Rattle.design_netlist.specs.declared.netlist_data.NetlistData.{NetlistData}
 use Rattle.design_netlist.specs.Rows.{AreRows}
 use Rattle.machine_image.specs.Images.{ImageValue}
 use Rattle.place_route.specs.RightImages.{IsRightImage}
 use Rattle.diag_machine.specs.Diagnosis.{TakesFewLoads}
-use Rattle.cmd_steps.specs.Outside.{Outside}
-use Rattle.cmd_steps.specs.Texts.{IsMachineText, IsDesignText}
+use Rattle.cmd_steps.specs.Vocabulary.{Outside, IsMachineText, IsDesignText}
 use Rattle.diag_list.specs.Lists.{Listed}
 use Rattle.place_design.specs.Laying.{HasRoom, IsRoutedDesign}
 use Rattle.run_image.specs.Headline.{IsAskedInOrder, IsWrittenWhole, UsesNothingListed, IsAsRead}

@@ -1,7 +1,6 @@
 -- What a `go` promises.
 use Rattle.std.specs.Prelude.{◌≡◌, ℕ, List, [], ◌∷◌, codes}
-use Rattle.cmd_steps.specs.Outside.{Outside, around}
-use Rattle.cmd_steps.specs.Texts.{LoadsOnce}
+use Rattle.cmd_steps.specs.Vocabulary.{Outside, around, LoadsOnce}
 use Rattle.diag_list.specs.Lists.{MadeFewLoads}
 use Rattle.run_image.specs.Headline.{BeginsWithList}
 use Rattle.cmd_go.specs.Headline.{IsWellGone, HasRoomLeft}

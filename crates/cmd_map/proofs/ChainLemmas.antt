@@ -1,16 +1,13 @@
 -- A `compile` of what the mapper wrote.
 use Rattle.std.proofs.Common.{◌≡◌, ℕ, List, sym, subst}
 use Rattle.machine_shape.specs.declared.Shape.{Shape}
-use Rattle.machine_meaning.specs.Defects.{Covers}
-use Rattle.machine_meaning.specs.Faults.{Faults}
-use Rattle.machine_defects.specs.Lists.{DefectList}
-use Rattle.machine_defects.specs.Faults.{IsText}
+use Rattle.machine_meaning.specs.Vocabulary.{Covers, Faults}
+use Rattle.machine_defects.specs.Vocabulary.{DefectList, IsText}
 use Rattle.design_netlist.specs.declared.netlist_data.NetlistData.{NetlistData}
 use Rattle.machine_image.specs.Images.{ImageValue}
 use Rattle.place_route.specs.RightImages.{IsRightImage}
 use Rattle.map_text.specs.Remapped.{HaveSameRows}
-use Rattle.cmd_steps.specs.Outside.{Outside}
-use Rattle.cmd_steps.specs.Texts.{IsMachineText, IsDefectsText, IsDesignText}
+use Rattle.cmd_steps.specs.Vocabulary.{Outside, IsMachineText, IsDefectsText, IsDesignText}
 use Rattle.cmd_steps.proofs.ShapeLemmas.{same-shape}
 use Rattle.cmd_compile.specs.Compile.{CompileRight, compile_files}
 use Rattle.cmd_compile.specs.Headline.{IsCompiled}

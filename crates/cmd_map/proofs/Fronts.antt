@@ -1,13 +1,9 @@
 -- What all is right asks, and the statuses.
 use Rattle.std.proofs.Common.{◌≡◌, ◌∙◌, ◌⊎◌, ◌≤◌, ℕ, zero, suc, List, [], ◌∷◌, length, Bool, true, false, ap, sym, subst, inl, inr, refl, arith}
 use Rattle.std.specs.List.{list_any}
-use Rattle.base_io.specs.Counts.{Rose}
-use Rattle.base_io.specs.Store.{StoreState}
+use Rattle.base_io.specs.Vocabulary.{Rose, StoreState}
 use Rattle.rig.specs.Rig.{RigState}
-use Rattle.cmd_steps.specs.Outside.{Around, Outside, outside, around}
-use Rattle.cmd_steps.specs.Jobs.{Job}
-use Rattle.cmd_steps.specs.Ends.{Ended, Unless}
-use Rattle.cmd_steps.specs.Words.{Asked, no_job, a_job, HasNoJob, job_of, asked_if, is_dashed, word_at}
+use Rattle.cmd_steps.specs.Vocabulary.{Around, Outside, outside, around, Job, Ended, Unless, Asked, no_job, a_job, HasNoJob, job_of, asked_if, is_dashed, word_at}
 use Rattle.cmd_steps.proofs.Done.{EndedAs}
 use Rattle.cmd_steps.proofs.AskedLemmas.{ended-asked}
 use Rattle.cmd_map.specs.Maps.{map_job, fit_job}

@@ -1,13 +1,10 @@
 -- What the mapper has done at status 0, from its courses.
 use Rattle.std.proofs.Common.{◌≡◌, ◌⊎◌, ℕ, List, [], ◌∷◌, ◌++◌, sym, subst, inl, inr}
-use Rattle.base_io.specs.Told.{IfTold}
-use Rattle.base_io.specs.Sink.{Wrote}
+use Rattle.base_io.specs.Vocabulary.{IfTold, Wrote}
 use Rattle.machine_shape.specs.declared.Shape.{Shape}
 use Rattle.map_text.specs.Remapped.{MayStandFor, IsNarrowOr, HasNarrowCovers}
 use Rattle.map_text.specs.declared.text.Remapped.{Remapped}
-use Rattle.cmd_steps.specs.Outside.{Outside}
-use Rattle.cmd_steps.specs.Courses.{ends}
-use Rattle.cmd_steps.specs.Texts.{IsMachineText, IsDefectsText, IsDesignText, IsTextRead}
+use Rattle.cmd_steps.specs.Vocabulary.{Outside, ends, IsMachineText, IsDefectsText, IsDesignText, IsTextRead}
 use Rattle.cmd_steps.specs.declared.design.DesignText.{DesignText}
 use Rattle.cmd_steps.proofs.QuietJobs.{line-ended}
 use Rattle.cmd_steps.proofs.TextLemmas.{IfTold-with}

@@ -1,7 +1,6 @@
 -- What the jobs of the mapper lead to.
 use Rattle.std.proofs.Common.{ℕ, List, [], ◌∷◌}
-use Rattle.cmd_steps.specs.Outside.{Around}
-use Rattle.cmd_steps.specs.Jobs.{IsLawful, EndsWell}
+use Rattle.cmd_steps.specs.Vocabulary.{Around, IsLawful, EndsWell}
 use Rattle.cmd_steps.specs.declared.design_file.DesignFile.TheVariants.{Design}
 use Rattle.cmd_steps.proofs.Sure.{IsLed, led-after, led-sure, led-line, machine-sure, list-sure, text-sure}
 use Rattle.cmd_steps.proofs.QuietJobs.{quiet-lawful}

@@ -1,6 +1,5 @@
 -- The steps of the mapper.
-use Rattle.std.proofs.Common.{◌≡◌, [], refl}
-use Rattle.std.specs.Prelude.{Result, Ok, Err}
+use Rattle.std.proofs.Common.{◌≡◌, [], refl, Result, Ok, Err}
 use Rattle.machine_defects.specs.Lists.{DefectList}
 use Rattle.design_netlist.specs.declared.netlist_data.NetlistData.{NetlistData}
 use Rattle.map_network.specs.Plain.{plain_network}
@@ -8,10 +7,7 @@ use Rattle.map_text.specs.Remapped.{HasPlan, MayStandFor}
 use Rattle.map_text.specs.declared.text.Remapped.{Remapped}
 use Rattle.place_design.specs.Laying.{HasRoom}
 use Rattle.place_design.specs.Wants.{PlanStops}
-use Rattle.cmd_steps.specs.Outside.{Around, Outside}
-use Rattle.cmd_steps.specs.Stops.{StepStops, IsCounted}
-use Rattle.cmd_steps.specs.Took.{Took}
-use Rattle.cmd_steps.specs.Jobs.{IsExcused}
+use Rattle.cmd_steps.specs.Vocabulary.{Around, Outside, StepStops, IsCounted, Took, IsExcused}
 use Rattle.cmd_steps.specs.declared.design.DesignText.{DesignText}
 use Rattle.cmd_steps.specs.declared.refusal.Refusal.{Refusal}
 use Rattle.cmd_steps.specs.declared.refusal.Refusal.TheVariants as refused

@@ -1,10 +1,7 @@
 -- What the mapper wrote is another command's design.
 use Rattle.std.specs.Prelude.{◌≡◌, ℕ, List}
-use Rattle.base_io.specs.Told.{holds}
-use Rattle.base_io.specs.Store.{StoreState}
-use Rattle.base_io.specs.Sink.{Wrote}
-use Rattle.machine_meaning.specs.Defects.{Covers}
-use Rattle.machine_meaning.specs.Faults.{Faults}
+use Rattle.base_io.specs.Vocabulary.{holds, StoreState, Wrote}
+use Rattle.machine_meaning.specs.Vocabulary.{Covers, Faults}
 use Rattle.machine_defects.specs.Lists.{DefectList}
 use Rattle.design_netlist.specs.declared.netlist_data.NetlistData.{NetlistData}
 use Rattle.machine_image.specs.Images.{ImageValue, image_bytes}

@@ -1,13 +1,11 @@
 -- What the mapper has done at status 0.
 use Rattle.std.specs.Prelude.{◌≡◌, ◌⊎◌, ℕ, List, [], ◌∷◌, ◌++◌}
-use Rattle.base_io.specs.Told.{IfTold}
-use Rattle.base_io.specs.Sink.{Wrote}
+use Rattle.base_io.specs.Vocabulary.{IfTold, Wrote}
 use Rattle.machine_defects.specs.Lists.{DefectList}
 use Rattle.design_netlist.specs.declared.netlist_data.NetlistData.{NetlistData}
 use Rattle.map_text.specs.Remapped.{IsRemapped, HasNarrowCovers}
 use Rattle.place_design.specs.Laying.{HasRoom}
-use Rattle.cmd_steps.specs.Outside.{Outside}
-use Rattle.cmd_steps.specs.Texts.{IsMachineText, IsDefectsText, IsDesignText}
+use Rattle.cmd_steps.specs.Vocabulary.{Outside, IsMachineText, IsDefectsText, IsDesignText}
 
 -- A text that is the design remapped was written. Each cover of it has at most six different inputs, or it is the design's file
 pub record WroteRemapped (design : List ℕ) (draft : NetlistData) (text : List ℕ) (mapped : NetlistData) (old new : Outside) : Type 0 where

@@ -1,18 +1,14 @@
 -- What the mapper does: for a design, and for a design and a machine.
 use Rattle.std.specs.Prelude.{◌≡◌, ℕ, List, [], ◌∷◌}
-use Rattle.base_io.specs.Told.{Told}
-use Rattle.base_io.specs.Store.{StoreState}
+use Rattle.base_io.specs.Vocabulary.{Told, StoreState}
 use Rattle.machine_defects.specs.Lists.{DefectList}
 use Rattle.design_netlist.specs.declared.netlist_data.NetlistData.{NetlistData}
 use Rattle.design_blif.specs.Designs.{IsDesign}
 use Rattle.map_text.specs.Remapped.{MayStandFor}
 use Rattle.map_text.specs.declared.text.Remapped.{Remapped}
 use Rattle.place_design.specs.Laying.{NotLaid, HasRoom}
-use Rattle.cmd_steps.specs.Outside.{Around, StandsIn}
-use Rattle.cmd_steps.specs.Courses.{Course, Step, after, write, done}
-use Rattle.cmd_steps.specs.Beginnings.{listed_course}
-use Rattle.cmd_steps.specs.Texts.{IsRightFile, reads_text}
-use Rattle.cmd_steps.specs.Jobs.{Job, quiet}
+use Rattle.cmd_steps.specs.Vocabulary.{Around, StandsIn, Course, Step, after, write, done, listed_course, IsRightFile, reads_text, Job}
+use Rattle.cmd_steps.specs.Vocabulary.{quiet}
 use Rattle.cmd_steps.specs.declared.design.DesignText.{DesignText}
 use Rattle.cmd_steps.specs.declared.design_file.DesignFile.TheVariants.{Design}
 use Rattle.cmd_steps.specs.declared.refusal.Refusal.{Refusal}

@@ -1,9 +1,7 @@
 -- What the mapper promises, at every end and at status 0.
 use Rattle.std.specs.Prelude.{◌≡◌, ◌≤◌, ◌⊎◌, ℕ, List, [], ◌∷◌}
 use Rattle.base_io.specs.Counts.{Rose}
-use Rattle.cmd_steps.specs.Outside.{Outside, around}
-use Rattle.cmd_steps.specs.Ends.{Ended}
-use Rattle.cmd_steps.specs.Words.{HasNoJob, job_of}
+use Rattle.cmd_steps.specs.Vocabulary.{Outside, around, Ended, HasNoJob, job_of}
 use Rattle.cmd_map.specs.Words.{asked_by}
 use Rattle.cmd_map.specs.Headline.{IsMapped, IsFitted}
 

@@ -1,7 +1,6 @@
 //! Designs that are remapped and written.
 ghost use Rattle.std.specs.Prelude.{ℕ, List, [], ◌∷◌};
-ghost use Rattle.cmd_steps.specs.Vocabulary.{StoreState, RigState, Outside, outside, StandsIn, Does, IsLawful, Follows, Took};
-ghost use Rattle.cmd_steps.specs.Texts.{IsDesignText};
+ghost use Rattle.cmd_steps.specs.Vocabulary.{StoreState, RigState, Outside, outside, StandsIn, Does, IsLawful, Follows, Took, IsDesignText};
 ghost use Rattle.cmd_map.specs.Maps.{maps, maps_within, design_mapped, design_fitted, map_job, fit_job};
 
 use base_io::{Sink, Store};

@@ -1,8 +1,6 @@
 //! The call of the mapper.
 ghost use Rattle.std.specs.Prelude.{map, string_bytes};
-ghost use Rattle.cmd_steps.specs.Vocabulary.{RigState, outside};
-ghost use Rattle.cmd_steps.specs.Ends.{Ended};
-ghost use Rattle.cmd_steps.specs.Words.{HasNoJob, DoesAsked, job_of};
+ghost use Rattle.cmd_steps.specs.Vocabulary.{RigState, outside, Ended, HasNoJob, DoesAsked, job_of};
 ghost use Rattle.cmd_map.specs.Words.{asked_by};
 ghost use Rattle.cmd_map.specs.Promises.{IsStatus, MapPromises};
 

@@ -1,25 +1,17 @@
 -- Where two designs are laid, and where they aren't.
-use Rattle.std.proofs.Common.{◌≡◌, ◌⊎◌, ◌+◌, ℕ, [], map, length, subst, refl, inl, inr, length-append}
-use Rattle.std.specs.Prelude.{Result, Ok, Err, IfOk, IfErr}
+use Rattle.std.proofs.Common.{◌≡◌, ◌⊎◌, ◌+◌, ℕ, [], map, length, subst, refl, inl, inr, length-append, Result, Ok, Err, IfOk, IfErr}
 use Rattle.std.specs.List.{All}
-use Rattle.machine_meaning.specs.Defects.{Covers}
-use Rattle.machine_meaning.specs.Faults.{Faults}
+use Rattle.machine_meaning.specs.Vocabulary.{Covers, Faults}
 use Rattle.machine_defects.specs.Lists.{DefectList}
 use Rattle.design_netlist.specs.declared.netlist_data.NetlistData.{NetlistData}
 use Rattle.map_network.specs.declared.network.Network.{Network}
-use Rattle.map_network.specs.Plain.{IsPlainNetwork}
-use Rattle.map_network.specs.Rows.{HasRowsOf}
-use Rattle.machine_image.specs.Images.{ImageValue, IsImage, image_row}
-use Rattle.machine_image.specs.Parts.{IsFreeImage}
-use Rattle.place_route.specs.RightImages.{IsRightImage, ReadsRows}
-use Rattle.place_route.specs.RoutedImages.{IsRoutedInOrder}
+use Rattle.map_network.specs.Vocabulary.{IsPlainNetwork, HasRowsOf}
+use Rattle.machine_image.specs.Vocabulary.{ImageValue, IsImage, image_row, IsFreeImage}
+use Rattle.place_route.specs.Vocabulary.{IsRightImage, ReadsRows, IsRoutedInOrder}
 use Rattle.place_pair.specs.JointNetworks as joint
 use Rattle.place_pair.specs.JointNetworks.{joint_network}
 use Rattle.place_pair.specs.Tenants.{AreTenants, HasPinsOf, HaveRoom, StandApart}
-use Rattle.cmd_steps.specs.Outside.{Around, Outside}
-use Rattle.cmd_steps.specs.Stops.{StepStops, IsCounted, status_of}
-use Rattle.cmd_steps.specs.Took.{Took}
-use Rattle.cmd_steps.specs.Jobs.{IsExcused}
+use Rattle.cmd_steps.specs.Vocabulary.{Around, Outside, StepStops, IsCounted, status_of, Took, IsExcused}
 use Rattle.cmd_steps.specs.declared.refusal.Refusal.{Refusal}
 use Rattle.cmd_steps.specs.declared.refusal.Refusal.TheVariants as refused
 use Rattle.cmd_steps.specs.declared.refusal.Stop.{Stop}

@@ -1,8 +1,7 @@
 -- What the command `pair` does with its words, and what it comes to.
 use Rattle.std.proofs.Common.{ℕ, List}
 use Rattle.machine_shape.specs.declared.Shape.{Shape}
-use Rattle.cmd_steps.specs.Outside.{Around}
-use Rattle.cmd_steps.specs.Jobs.{IsLawful}
+use Rattle.cmd_steps.specs.Vocabulary.{Around, IsLawful}
 use Rattle.cmd_steps.specs.declared.design_file.DesignFile.TheVariants.{First, Second}
 use Rattle.diag_list.proofs.Texts.{AreNamed}
 use Rattle.place_design.proofs.Rooms.{AreDecided}

@@ -1,7 +1,6 @@
 -- Two designs side by side on what a list of defects leaves free.
 use Rattle.std.specs.Prelude.{◌≡◌, ◌+◌, ◌<◌, Bool, List, [], ◌∷◌, ◌++◌, map, length, take, drop}
-use Rattle.machine_meaning.specs.Defects.{Covers}
-use Rattle.machine_meaning.specs.Faults.{Faults}
+use Rattle.machine_meaning.specs.Vocabulary.{Covers, Faults}
 use Rattle.machine_defects.specs.Lists.{DefectList}
 use Rattle.design_netlist.specs.declared.netlist_data.NetlistData.{NetlistData}
 use Rattle.design_netlist.specs.Rows.{AreRows}
@@ -9,14 +8,11 @@ use Rattle.map_network.specs.declared.network.Network.{Network}
 use Rattle.map_network.specs.Plain.{plain_network}
 use Rattle.place_plan.specs.declared.short.Short.{Short}
 use Rattle.place_plan.specs.Plans.{IsShortInOrder}
-use Rattle.machine_image.specs.Images.{ImageValue, IsImage}
-use Rattle.machine_image.specs.Parts.{IsFreeImage}
-use Rattle.place_route.specs.RightImages.{IsRightImage, ReadsRows}
-use Rattle.place_route.specs.RoutedImages.{IsRoutedInOrder}
+use Rattle.machine_image.specs.Vocabulary.{ImageValue, IsImage, IsFreeImage}
+use Rattle.place_route.specs.Vocabulary.{IsRightImage, ReadsRows, IsRoutedInOrder}
 use Rattle.place_pair.specs.JointNetworks.{joint_network}
 use Rattle.place_pair.specs.Tenants.{AreTenants, HaveRoom, StandApart}
-use Rattle.cmd_steps.specs.Courses.{Step}
-use Rattle.cmd_steps.specs.Faults.{ShortPlace}
+use Rattle.cmd_steps.specs.Vocabulary.{Step, ShortPlace}
 use Rattle.cmd_steps.specs.declared.refusal.Refusal.{Refusal}
 use Rattle.cmd_steps.specs.declared.refusal.Refusal.TheVariants as refused
 use Rattle.run_image.specs.Laid.{Laid}

@@ -1,22 +1,15 @@
 -- What a `pair` that is done has done.
 use Rattle.std.specs.Prelude.{◌≡◌, ℕ, ◌+◌, Bool, List, [], ◌∷◌, ◌++◌, length, Some}
-use Rattle.base_io.specs.Counts.{next_count}
-use Rattle.base_io.specs.Told.{IfTold}
-use Rattle.base_io.specs.Sink.{Wrote}
+use Rattle.base_io.specs.Vocabulary.{next_count, IfTold, Wrote}
 use Rattle.machine_shape.specs.declared.Shape.{Shape}
-use Rattle.machine_meaning.specs.Faults.{Faults}
-use Rattle.machine_meaning.specs.Defects.{Covers, IsFair}
-use Rattle.machine_meaning.specs.Tight.{IsTight}
-use Rattle.machine_defects.specs.Lists.{DefectList, IsDefectList}
-use Rattle.machine_defects.specs.Text.{text_of}
+use Rattle.machine_meaning.specs.Vocabulary.{Faults, Covers, IsFair, IsTight}
+use Rattle.machine_defects.specs.Vocabulary.{DefectList, IsDefectList, text_of}
 use Rattle.design_netlist.specs.declared.netlist_data.NetlistData.{NetlistData}
 use Rattle.machine_image.specs.Images.{ImageValue}
-use Rattle.place_route.specs.RightImages.{IsRightImage, ReadsRows}
-use Rattle.place_route.specs.RoutedImages.{IsRoutedInOrder}
+use Rattle.place_route.specs.Vocabulary.{IsRightImage, ReadsRows, IsRoutedInOrder}
 use Rattle.place_pair.specs.Tenants.{AreTenants, StandApart}
 use Rattle.diag_machine.specs.Diagnosis.{TakesFewLoads}
-use Rattle.cmd_steps.specs.Outside.{Outside}
-use Rattle.cmd_steps.specs.Texts.{IsMachineText, IsDesignText}
+use Rattle.cmd_steps.specs.Vocabulary.{Outside, IsMachineText, IsDesignText}
 use Rattle.diag_list.specs.Lists.{Listed}
 use Rattle.run_image.specs.Headline.{IsAskedInOrder, IsWrittenWhole, UsesNothingListed, IsAsRead}
 use Rattle.cmd_pair.specs.Both.{AreBothRows, BothHaveRoom, joint_of}

@@ -5,12 +5,8 @@ use Rattle.machine_shape.specs.declared.Shape.{Shape}
 use Rattle.machine_text.specs.Machine.{IsMachine}
 use Rattle.design_netlist.specs.declared.netlist_data.NetlistData.{NetlistData}
 use Rattle.design_blif.specs.Designs.{IsDesign}
-use Rattle.cmd_steps.specs.Files.{AreRightVectors, vectors_at}
-use Rattle.cmd_steps.specs.Outside.{Around}
-use Rattle.cmd_steps.specs.Courses.{Course, after}
-use Rattle.cmd_steps.specs.Beginnings.{Unloaded, machine_attached}
-use Rattle.cmd_steps.specs.Texts.{IsRightFile, reads_machine, reads_design, AsksMachine}
-use Rattle.cmd_steps.specs.Jobs.{Job}
+use Rattle.cmd_steps.specs.Vocabulary.{AreRightVectors, vectors_at, Around, Course, after, Unloaded, machine_attached, IsRightFile}
+use Rattle.cmd_steps.specs.Vocabulary.{reads_machine, reads_design, AsksMachine, Job}
 use Rattle.cmd_steps.specs.declared.design_file.DesignFile.TheVariants.{First, Second}
 use Rattle.run_image.specs.Rows.{most_rows}
 use Rattle.run_image.specs.Runs.{RunBegin, machine_listed, IfList, HasOutputs}

@@ -1,7 +1,6 @@
 //! Two designs as what is laid on a machine.
 ghost use Rattle.std.specs.Prelude.{◌↔◌, IsTrue, [], IfOk, IfErr};
-ghost use Rattle.cmd_steps.specs.Vocabulary.{Outside, Took};
-ghost use Rattle.cmd_steps.specs.Stops.{StepStops};
+ghost use Rattle.cmd_steps.specs.Vocabulary.{Outside, Took, StepStops};
 ghost use Rattle.cmd_pair.specs.Both.{CanBeNumbered, both_laid, lays_both};
 
 use cmd_steps::{Refusal, Stop};

@@ -1,6 +1,5 @@
 -- A list that has each closed crosspoint once is as long as they are many.
-use Rattle.std.proofs.Common.{◌≡◌, ℕ, ◌+◌, ◌≤◌, Bool, true, false, List, [], ◌∷◌, length, sym, ap, ◌∙◌, arith}
-use Rattle.std.specs.Prelude.{◌==◌, if◌then◌else◌}
+use Rattle.std.proofs.Common.{◌≡◌, ℕ, ◌+◌, ◌≤◌, Bool, true, false, List, [], ◌∷◌, length, sym, ap, ◌∙◌, arith, ◌==◌, if◌then◌else◌}
 use Rattle.std.specs.Ordering.{nat_cmp}
 use Rattle.std.specs.Cmp.{nat_cmp_total}
 use Rattle.std.specs.FinSet as set_
@@ -8,8 +7,7 @@ use Rattle.std.specs.FinSet.{len-empty, len-insert, same_set, nat_cmp-IsAntisymm
 use Rattle.std.proofs.lemmas.Bool.Decides.{nat_tests}
 use Rattle.std.proofs.lemmas.List.Sums.{sum_by-cons}
 use Rattle.machine_shape.specs.declared.Cross.{Cross}
-use Rattle.machine_config.specs.Configuration.{Configuration, is_closed}
-use Rattle.machine_config.specs.Kept.{set_of, times, once_if}
+use Rattle.machine_config.specs.Vocabulary.{Configuration, is_closed, set_of, times, once_if}
 use Rattle.machine_config.proofs.Members.{contains_times}
 
 as-many : (xs : List Cross) → ((x : ℕ) → times x xs ≤ 1) → set_.len (set_of xs) ≡ length xs

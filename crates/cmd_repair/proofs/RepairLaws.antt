@@ -5,10 +5,7 @@ use Rattle.machine_image.specs.Images.{ImageValue}
 use Rattle.place_plan.specs.declared.short.Short.{Short}
 use Rattle.place_repair.specs.Plans.{AreSeats, AreNets, HasRoom, IsShortPlan, Nets}
 use Rattle.place_repair.specs.declared.seats.Seats.{Seats}
-use Rattle.cmd_steps.specs.Faults.{ShortPlace}
-use Rattle.cmd_steps.specs.Outside.{Around}
-use Rattle.cmd_steps.specs.Courses.{Next, refuses}
-use Rattle.cmd_steps.specs.Jobs.{IsLawful, EndsWell, EndsShort}
+use Rattle.cmd_steps.specs.Vocabulary.{ShortPlace, Around, Next, refuses, IsLawful, EndsWell, EndsShort}
 use Rattle.cmd_steps.specs.declared.refusal.Refusal.{Refusal}
 use Rattle.cmd_steps.specs.declared.refusal.Refusal.TheVariants as refused
 use Rattle.cmd_steps.proofs.Sure.{IsLed, Excuses, led-after, led-sure, led-line, machine-sure, list-sure, image-sure}

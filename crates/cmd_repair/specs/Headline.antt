@@ -1,12 +1,10 @@
 -- What a `repair` that is done has done.
 use Rattle.std.specs.Prelude.{◌≡◌, ℕ, ◌≤◌, List, [], ◌∷◌, ◌++◌}
 use Rattle.std.specs.FinSet as set
-use Rattle.base_io.specs.Told.{IfTold}
-use Rattle.base_io.specs.Sink.{Wrote}
+use Rattle.base_io.specs.Vocabulary.{IfTold, Wrote}
 use Rattle.machine_defects.specs.Lists.{DefectList}
 use Rattle.machine_image.specs.Images.{ImageValue, Reads, image_bytes}
-use Rattle.cmd_steps.specs.Outside.{Outside}
-use Rattle.cmd_steps.specs.Texts.{IsMachineText, IsDefectsText}
+use Rattle.cmd_steps.specs.Vocabulary.{Outside, IsMachineText, IsDefectsText}
 use Rattle.cmd_repair.specs.Repairing.{most_closed, IsRepairOf}
 
 -- The bytes of a new image are written: it follows the repair plan of the image of the file on the list, closes nothing that no net

@@ -1,17 +1,11 @@
 -- What the command `repair` is.
 use Rattle.std.specs.Prelude.{◌≡◌, ℕ, ◌≤◌, List, [], ◌∷◌}
 use Rattle.std.specs.FinSet as set
-use Rattle.base_io.specs.Told.{Told}
-use Rattle.base_io.specs.Store.{StoreState}
+use Rattle.base_io.specs.Vocabulary.{Told, StoreState}
 use Rattle.machine_text.specs.Machine.{IsMachine}
-use Rattle.machine_defects.specs.Lists.{DefectList}
-use Rattle.machine_defects.specs.Faults.{IsText}
+use Rattle.machine_defects.specs.Vocabulary.{DefectList, IsText}
 use Rattle.machine_image.specs.Images.{ImageValue, image_bytes}
-use Rattle.cmd_steps.specs.Outside.{StandsIn}
-use Rattle.cmd_steps.specs.Courses.{Course, after, write, done}
-use Rattle.cmd_steps.specs.Beginnings.{listed_course}
-use Rattle.cmd_steps.specs.Texts.{IsImageText, IsRightFile, reads_image}
-use Rattle.cmd_steps.specs.Jobs.{Job}
+use Rattle.cmd_steps.specs.Vocabulary.{StandsIn, Course, after, write, done, listed_course, IsImageText, IsRightFile, reads_image, Job}
 use Rattle.cmd_repair.specs.Repairing.{most_closed, takes_few, repairs, HasPlanRoom, LacksPlanRoom}
 
 -- ---- the steps

@@ -1,13 +1,11 @@
 -- An image is repaired on what a list of defects leaves free, as a step.
 use Rattle.std.specs.Prelude.{◌≡◌, ℕ, ◌<◌, ◌≤◌}
 use Rattle.std.specs.FinSet as set
-use Rattle.machine_meaning.specs.Defects.{Covers}
-use Rattle.machine_meaning.specs.Faults.{Faults, IsFaultless}
+use Rattle.machine_meaning.specs.Vocabulary.{Covers, Faults, IsFaultless}
 use Rattle.machine_defects.specs.Lists.{DefectList}
 use Rattle.design_netlist.specs.declared.netlist_data.NetlistData.{NetlistData}
 use Rattle.place_plan.specs.declared.short.Short.{Short}
-use Rattle.machine_image.specs.Images.{ImageValue, IsImage}
-use Rattle.machine_image.specs.Parts.{IsFreeImage}
+use Rattle.machine_image.specs.Vocabulary.{ImageValue, IsImage, IsFreeImage}
 use Rattle.machine_image.specs.declared.kind.ImageKind.TheVariants.{Limit}
 use Rattle.place_route.specs.RightImages.{IsRightImage}
 use Rattle.place_repair.specs.Plans.{AreSeats, AreNets, HasRoom, IsShortPlan, Nets}

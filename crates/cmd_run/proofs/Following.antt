@@ -1,16 +1,10 @@
 -- How the steps of `run` follow one another, once the machine is attached.
-use Rattle.std.proofs.Common.{◌≡◌, ◌≤◌, ℕ, List, [], ◌∷◌, Some, option_map, refl, sym, ap, subst, ◌∙◌}
-use Rattle.std.specs.Prelude.{Result, Ok, Err}
-use Rattle.base_io.specs.Told.{Told}
-use Rattle.base_io.specs.Store.{StoreState}
-use Rattle.base_io.specs.Sink.{SinkState}
+use Rattle.std.proofs.Common.{◌≡◌, ◌≤◌, ℕ, List, [], ◌∷◌, Some, option_map, refl, sym, ap, subst, ◌∙◌, Result, Ok, Err}
+use Rattle.base_io.specs.Vocabulary.{Told, StoreState, SinkState}
 use Rattle.machine_shape.specs.declared.Shape.{Shape}
 use Rattle.rig.specs.Rig.{RigState, Asked, shape_of}
 use Rattle.machine_image.specs.Images.{ImageValue}
-use Rattle.cmd_steps.specs.Outside.{Outside, StandsIn, outside, around}
-use Rattle.cmd_steps.specs.Jobs.{Does}
-use Rattle.cmd_steps.specs.Took.{Took, Follows}
-use Rattle.cmd_steps.specs.Texts.{reads_machine, reads_image, attaches, MayAsk}
+use Rattle.cmd_steps.specs.Vocabulary.{Outside, StandsIn, outside, around, Does, Took, Follows, reads_machine, reads_image, attaches, MayAsk}
 use Rattle.cmd_steps.specs.declared.refusal.Stop.{Stop}
 use Rattle.cmd_steps.proofs.Machines.{named, attached-gives}
 use Rattle.cmd_steps.proofs.Reading.{none-read, more-read, read-stops, read-gives}

@@ -1,8 +1,7 @@
 -- What a `run` that is done has done, from its course.
 use Rattle.std.proofs.Common.{◌≡◌, ℕ, List, [], ◌∷◌, ◌++◌, subst, inl, inr}
 use Rattle.base_io.specs.Sink.{Wrote}
-use Rattle.cmd_steps.specs.Outside.{Outside, around}
-use Rattle.cmd_steps.specs.Courses.{ends}
+use Rattle.cmd_steps.specs.Vocabulary.{Outside, around, ends}
 use Rattle.run_image.specs.Rows.{image_rows}
 use Rattle.run_image.proofs.CourseLemmas.{image-ends}
 use Rattle.cmd_run.specs.Run.{run_course}

@@ -1,11 +1,7 @@
 -- What the command `run` comes to.
 use Rattle.std.proofs.Common.{◌≡◌, ◌∙◌, ℕ, ◌≤◌, List, [], ◌∷◌, ◌++◌, length, refl, subst, inl, inr}
 use Rattle.machine_image.specs.Images.{ImageValue}
-use Rattle.cmd_steps.specs.Files.{vectors_at}
-use Rattle.cmd_steps.specs.Lines.{outputs_line}
-use Rattle.cmd_steps.specs.Outside.{Around}
-use Rattle.cmd_steps.specs.Courses.{RowWork, refuses}
-use Rattle.cmd_steps.specs.Jobs.{IsLawful, EndsWell}
+use Rattle.cmd_steps.specs.Vocabulary.{vectors_at, outputs_line, Around, RowWork, refuses, IsLawful, EndsWell}
 use Rattle.cmd_steps.specs.declared.refusal.Refusal.TheVariants.{Memory}
 use Rattle.cmd_steps.proofs.Excused.{attach-excused}
 use Rattle.cmd_steps.proofs.ShapeLemmas.{one-machine, one-image}

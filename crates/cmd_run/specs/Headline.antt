@@ -1,15 +1,10 @@
 -- What a `run` that is done has done.
 use Rattle.std.specs.Prelude.{◌≡◌, ℕ, Bool, List, [], ◌∷◌, ◌++◌, map, length, Some}
-use Rattle.base_io.specs.Counts.{next_count}
-use Rattle.base_io.specs.Told.{IfTold}
-use Rattle.base_io.specs.Sink.{Wrote}
+use Rattle.base_io.specs.Vocabulary.{next_count, IfTold, Wrote}
 use Rattle.machine_shape.specs.declared.Shape.{Shape}
 use Rattle.machine_image.specs.Images.{ImageValue, Reads, drive_of, image_row}
 use Rattle.rig.specs.Rig.{config_of, cycles_of, drives_of, readings_of}
-use Rattle.cmd_steps.specs.Files.{AreAll}
-use Rattle.cmd_steps.specs.Lines.{output_text}
-use Rattle.cmd_steps.specs.Outside.{Outside}
-use Rattle.cmd_steps.specs.Texts.{IsMachineText}
+use Rattle.cmd_steps.specs.Vocabulary.{AreAll, output_text, Outside, IsMachineText}
 use Rattle.run_image.specs.Rows.{AreRowsOf}
 
 -- The machine of the text is attached under the name, the session's configuration is that of the image, and it has a cycle for

@@ -4,13 +4,8 @@ use Rattle.base_io.specs.Told.{Told}
 use Rattle.machine_shape.specs.declared.Shape.{Shape}
 use Rattle.machine_text.specs.Machine.{IsMachine}
 use Rattle.machine_image.specs.Images.{ImageValue}
-use Rattle.cmd_steps.specs.Files.{AreRightVectors, vectors_at}
-use Rattle.cmd_steps.specs.Lines.{outputs_line}
-use Rattle.cmd_steps.specs.Outside.{Around}
-use Rattle.cmd_steps.specs.Courses.{Course, after}
-use Rattle.cmd_steps.specs.Beginnings.{Unloaded, machine_attached}
-use Rattle.cmd_steps.specs.Texts.{IsImageText, IsRightFile, reads_machine, reads_image, AsksMachine}
-use Rattle.cmd_steps.specs.Jobs.{Job}
+use Rattle.cmd_steps.specs.Vocabulary.{AreRightVectors, vectors_at, outputs_line, Around, Course, after, Unloaded, machine_attached}
+use Rattle.cmd_steps.specs.Vocabulary.{IsImageText, IsRightFile, reads_machine, reads_image, AsksMachine, Job}
 use Rattle.run_image.specs.Rows.{most_rows, image_rows, image_course}
 
 -- The image is loaded by one load, and its rows are written

@@ -1,16 +1,11 @@
 -- Machines that weren't attached.
-use Rattle.std.proofs.Common.{◌≡◌, ◌≤◌, [], Some, refl, inl, inr, arith}
-use Rattle.std.specs.Prelude.{Ok, Err}
-use Rattle.base_io.specs.Store.{StoreState}
-use Rattle.base_io.specs.Sink.{SinkState}
+use Rattle.std.proofs.Common.{◌≡◌, ◌≤◌, [], Some, refl, inl, inr, arith, Ok, Err}
+use Rattle.base_io.specs.Vocabulary.{StoreState, SinkState}
 use Rattle.rig.specs.Rig.{RigState, Asked, AttachFails, IsDetached}
 use Rattle.rig.specs.declared.rig.AttachFail.{AttachFail}
 use Rattle.rig.specs.declared.rig.AttachFail.TheVariants as attach
 use Rattle.machine_faults.specs.declared.kind.FaultsFault.TheVariants as text
-use Rattle.cmd_steps.specs.Outside.{outside, IsLater}
-use Rattle.cmd_steps.specs.Stops.{StepStops, IsCounted, stop_of_attach}
-use Rattle.cmd_steps.specs.Took.{Took}
-use Rattle.cmd_steps.specs.Texts.{attaches, MayAsk}
+use Rattle.cmd_steps.specs.Vocabulary.{outside, IsLater, StepStops, IsCounted, stop_of_attach, Took, attaches, MayAsk}
 use Rattle.cmd_steps.proofs.Making.{took-quietly, stopped-quietly}
 
 module _ (machine : Asked) (old new : RigState) where

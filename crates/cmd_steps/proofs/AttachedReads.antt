@@ -1,15 +1,9 @@
 -- Commands that attach a machine and read a file behind it.
-use Rattle.std.proofs.Common.{◌≡◌, ℕ, List, [], ◌∷◌, refl}
-use Rattle.std.specs.Prelude.{Result, Ok, Err}
-use Rattle.base_io.specs.Told.{Told}
-use Rattle.base_io.specs.Store.{StoreState}
-use Rattle.base_io.specs.Sink.{SinkState}
+use Rattle.std.proofs.Common.{◌≡◌, ℕ, List, [], ◌∷◌, refl, Result, Ok, Err}
+use Rattle.base_io.specs.Vocabulary.{Told, StoreState, SinkState}
 use Rattle.machine_shape.specs.declared.Shape.{Shape}
 use Rattle.rig.specs.Rig.{RigState}
-use Rattle.cmd_steps.specs.Outside.{Outside, StandsIn, outside}
-use Rattle.cmd_steps.specs.Courses.{Course, Step, after}
-use Rattle.cmd_steps.specs.Took.{Took, Follows}
-use Rattle.cmd_steps.specs.Texts.{reads_machine, attaches, MayAsk}
+use Rattle.cmd_steps.specs.Vocabulary.{Outside, StandsIn, outside, Course, Step, after, Took, Follows, reads_machine, attaches, MayAsk}
 use Rattle.cmd_steps.specs.declared.refusal.Stop.{Stop}
 use Rattle.cmd_steps.proofs.Machines.{named, AsksNamed, attached_course, attached-gives}
 use Rattle.cmd_steps.proofs.Reading.{HasRead, more-read, read-stops, read-gives}

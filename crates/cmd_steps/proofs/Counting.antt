@@ -1,9 +1,7 @@
 -- Counts that rose, and stops that need one.
-use Rattle.std.proofs.Common.{ℕ, List, IsTrue, subst, arith}
-use Rattle.std.specs.Prelude.{Result, Ok, Err, IfErr}
+use Rattle.std.proofs.Common.{ℕ, List, IsTrue, subst, arith, Result, Ok, Err, IfErr}
 use Rattle.base_io.specs.declared.sink.SinkFail.TheVariants.{Failed, Memory}
-use Rattle.cmd_steps.specs.Outside.{Outside, IsLater}
-use Rattle.cmd_steps.specs.Stops.{IsCounted, WriteStops}
+use Rattle.cmd_steps.specs.Vocabulary.{Outside, IsLater, IsCounted, WriteStops}
 use Rattle.cmd_steps.specs.declared.refusal.Refusal.TheVariants as refused
 use Rattle.cmd_steps.specs.declared.refusal.Stop.{Stop}
 use Rattle.cmd_steps.specs.declared.refusal.Stop.TheVariants.{Refused, Sink}

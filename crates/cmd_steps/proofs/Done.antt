@@ -2,11 +2,7 @@
 use Rattle.std.proofs.Common.{◌≡◌, ◌∙◌, ◌⊎◌, ℕ, List, ◌++◌, sym, inl, inr, arith}
 use Rattle.base_io.specs.Sink.{SinkState, Wrote}
 use Rattle.base_io.specs.declared.sink.SinkFail.TheVariants.{Failed as SinkFailed, Memory as SinkMemory}
-use Rattle.cmd_steps.specs.Outside.{Outside, around}
-use Rattle.cmd_steps.specs.Courses.{Course, ends, refuses}
-use Rattle.cmd_steps.specs.Stops.{status_of}
-use Rattle.cmd_steps.specs.Jobs.{Job, wrong_words}
-use Rattle.cmd_steps.specs.Ends.{EndWrote, Ended, Finishes, Refuses, whole, refused, cut_line, no_line, cut}
+use Rattle.cmd_steps.specs.Vocabulary.{Outside, around, Course, ends, refuses, status_of, Job, wrong_words, EndWrote, Ended, Finishes, Refuses, whole, refused, cut_line, no_line, cut}
 use Rattle.cmd_steps.specs.declared.refusal.Refusal.{Refusal}
 use Rattle.cmd_steps.specs.declared.refusal.Refusal.TheVariants.{Words, Machine, Faults, Defects, Image, Design, Vectors, Room, Rig, Store, Memory}
 use Rattle.cmd_steps.specs.declared.refusal.Stop.{Stop}

@@ -1,14 +1,8 @@
 -- How a job ends the program.
 use Rattle.std.proofs.Common.{◌≡◌, ◌⊎◌, ℕ, ◌<◌, ◌≤◌, List, [], ◌++◌, Bool, false, IsTrue, refl, sym, subst, inl, inr, ◌∙◌, arith, ap, append_assoc, append-nil}
-use Rattle.base_io.specs.Counts.{Rose}
-use Rattle.base_io.specs.Sink.{SinkState, Wrote}
+use Rattle.base_io.specs.Vocabulary.{Rose, SinkState, Wrote}
 use Rattle.base_io.specs.declared.sink.SinkFail.TheVariants.{Failed, Memory}
-use Rattle.cmd_steps.specs.Outside.{Outside, IsLater, SomethingRose, around}
-use Rattle.cmd_steps.specs.Courses.{Course, ends, refuses}
-use Rattle.cmd_steps.specs.Stops.{AsksSome, IsCounted, StopWrote, status_of, refusal_text}
-use Rattle.cmd_steps.specs.Jobs.{Job, IsLawful, IsExcused, Fronts}
-use Rattle.cmd_steps.specs.Faults.{ShortPlace}
-use Rattle.cmd_steps.specs.Ends.{Ended, IsRefused, IsOfFronts, LacksBefore, EndWrote, Stands, Finishes, Refuses, whole, refused, cut_line, no_line, cut}
+use Rattle.cmd_steps.specs.Vocabulary.{Outside, IsLater, SomethingRose, around, Course, ends, refuses, AsksSome, IsCounted, StopWrote, status_of, refusal_text, Job, IsLawful, IsExcused, Fronts, ShortPlace, Ended, IsRefused, IsOfFronts, LacksBefore, EndWrote, Stands, Finishes, Refuses, whole, refused, cut_line, no_line, cut}
 use Rattle.cmd_steps.specs.declared.refusal.Stop.{Stop}
 use Rattle.cmd_steps.specs.declared.refusal.Stop.TheVariants.{Refused, Sink}
 use Rattle.cmd_steps.specs.declared.refusal.Refusal.{Refusal}

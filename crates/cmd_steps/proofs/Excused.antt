@@ -4,18 +4,13 @@ use Rattle.base_io.specs.Told.{holds}
 use Rattle.machine_shape.specs.declared.Counts.{Counts}
 use Rattle.machine_shape.specs.declared.Shape.{Shape}
 use Rattle.machine_text.specs.Machine.{IsMachine}
-use Rattle.machine_defects.specs.Lists.{DefectList}
-use Rattle.machine_defects.specs.Faults.{IsText}
+use Rattle.machine_defects.specs.Vocabulary.{DefectList, IsText}
 use Rattle.design_netlist.specs.declared.netlist_data.NetlistData.{NetlistData}
 use Rattle.design_blif.specs.Designs.{IsDesign}
 use Rattle.machine_image.specs.Images.{ImageValue, IsImage, image_bytes}
 use Rattle.rig.specs.Rig.{Asked}
 use Rattle.base_text.specs.Size.{most_bytes}
-use Rattle.cmd_steps.specs.Files.{says_at}
-use Rattle.cmd_steps.specs.Outside.{Around}
-use Rattle.cmd_steps.specs.Courses.{RowWork, all_rows, ends, refuses, writes}
-use Rattle.cmd_steps.specs.Jobs.{IsExcused, EndsWell, Leads}
-use Rattle.cmd_steps.specs.Texts.{NoMachine, NoDefects, NoDesign, NoImage, NotAttached, FailsOnRig, NotOpened}
+use Rattle.cmd_steps.specs.Vocabulary.{says_at, Around, RowWork, all_rows, ends, refuses, writes, IsExcused, EndsWell, Leads, NoMachine, NoDefects, NoDesign, NoImage, NotAttached, FailsOnRig, NotOpened}
 use Rattle.cmd_steps.specs.declared.design_file.DesignFile.{DesignFile}
 use Rattle.cmd_steps.specs.declared.refusal.Refusal.{Refusal}
 use Rattle.cmd_steps.specs.declared.refusal.Refusal.TheVariants.{Machine, Faults, Defects, Image, Design, Vectors, Rig, Store, Memory}

@@ -5,8 +5,7 @@ use Rattle.machine_shape.specs.Shape.{pins_of}
 use Rattle.machine_image.specs.Images.{ImageValue, IsImage}
 use Rattle.design_netlist.specs.declared.netlist_data.NetlistData.{NetlistData}
 use Rattle.design_netlist.specs.declared.netlist_data.PortDef.{PortDef}
-use Rattle.design_netlist.specs.Drafts.{signal_at, drive_words, cover_drive}
-use Rattle.design_netlist.specs.Checks.{IsChecked}
+use Rattle.design_netlist.specs.Vocabulary.{signal_at, drive_words, cover_drive, IsChecked}
 use Rattle.design_netlist.proofs.ListLemmas.{few_numbers}
 
 abbrev signal_of : PortDef → ℕ

@@ -1,13 +1,7 @@
 -- Jobs that are done for words.
-use Rattle.std.proofs.Common.{◌≡◌, ◌⊎◌, ℕ, List, [], IsTrue, refl, inl, inr, arith}
-use Rattle.std.specs.Prelude.{Result, Ok, Err}
-use Rattle.base_io.specs.Counts.{Rose}
-use Rattle.base_io.specs.Sink.{Wrote}
-use Rattle.cmd_steps.specs.Outside.{Outside, around}
-use Rattle.cmd_steps.specs.Courses.{ends, refuses}
-use Rattle.cmd_steps.specs.Stops.{Asks, AsksSome, status_of}
-use Rattle.cmd_steps.specs.Jobs.{Job, wrong_words, IsLawful, Does}
-use Rattle.cmd_steps.specs.Ends.{EndWrote, Stands, Finishes, whole, refused, cut_line, no_line, cut}
+use Rattle.std.proofs.Common.{◌≡◌, ◌⊎◌, ℕ, List, [], IsTrue, refl, inl, inr, arith, Result, Ok, Err}
+use Rattle.base_io.specs.Vocabulary.{Rose, Wrote}
+use Rattle.cmd_steps.specs.Vocabulary.{Outside, around, ends, refuses, Asks, AsksSome, status_of, Job, wrong_words, IsLawful, Does, EndWrote, Stands, Finishes, whole, refused, cut_line, no_line, cut}
 use Rattle.cmd_steps.specs.declared.refusal.Refusal.{Refusal}
 use Rattle.cmd_steps.specs.declared.refusal.Refusal.TheVariants as refused
 use Rattle.cmd_steps.specs.declared.refusal.Stop.{Stop}

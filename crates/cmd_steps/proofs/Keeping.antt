@@ -1,13 +1,8 @@
 -- Steps that leave the machine as it is.
-use Rattle.std.proofs.Common.{◌≡◌, List, ℕ, [], refl, ◌∙◌}
-use Rattle.std.specs.Prelude.{Result, Ok, Err}
-use Rattle.base_io.specs.Store.{StoreState}
-use Rattle.base_io.specs.Sink.{SinkState}
+use Rattle.std.proofs.Common.{◌≡◌, List, ℕ, [], refl, ◌∙◌, Result, Ok, Err}
+use Rattle.base_io.specs.Vocabulary.{StoreState, SinkState}
 use Rattle.rig.specs.Rig.{RigState}
-use Rattle.cmd_steps.specs.Outside.{Outside, outside}
-use Rattle.cmd_steps.specs.Courses.{Course, Step, after, write, done}
-use Rattle.cmd_steps.specs.Stops.{StepStops}
-use Rattle.cmd_steps.specs.Took.{Took, Puts, Follows}
+use Rattle.cmd_steps.specs.Vocabulary.{Outside, outside, Course, Step, after, write, done, StepStops, Took, Puts, Follows}
 use Rattle.cmd_steps.specs.declared.refusal.Stop.{Stop}
 use Rattle.cmd_steps.proofs.Reading.{line-last}
 use Rattle.cmd_steps.proofs.Taking.{step-stops, step-gives}

@@ -1,7 +1,6 @@
 -- What a course leads to, from what its steps do.
 use Rattle.std.proofs.Common.{◌≡◌, ℕ, List, [], ◌++◌, refl, sym, subst, inl, inr}
-use Rattle.cmd_steps.specs.Courses.{Course, Next, Step, StopsAt, after, write, done, ends, refuses, writes}
-use Rattle.cmd_steps.specs.Jobs.{Leads}
+use Rattle.cmd_steps.specs.Vocabulary.{Course, Next, Step, StopsAt, after, write, done, ends, refuses, writes, Leads}
 use Rattle.cmd_steps.specs.declared.refusal.Refusal.{Refusal}
 
 -- a step that stops refuses something

@@ -1,18 +1,11 @@
 -- A machine, a list of its defects and one more file are read, and the rest is of what they gave: a lemma for each place where
 -- the reading ends.
-use Rattle.std.proofs.Common.{◌≡◌, ℕ, List, [], ◌∷◌, refl}
-use Rattle.std.specs.Prelude.{Result, Ok, Err}
-use Rattle.base_io.specs.Told.{Told}
-use Rattle.base_io.specs.Store.{StoreState}
-use Rattle.base_io.specs.Sink.{SinkState}
+use Rattle.std.proofs.Common.{◌≡◌, ℕ, List, [], ◌∷◌, refl, Result, Ok, Err}
+use Rattle.base_io.specs.Vocabulary.{Told, StoreState, SinkState}
 use Rattle.machine_shape.specs.declared.Shape.{Shape}
 use Rattle.machine_defects.specs.Lists.{DefectList}
 use Rattle.rig.specs.Rig.{RigState}
-use Rattle.cmd_steps.specs.Outside.{StandsIn, outside}
-use Rattle.cmd_steps.specs.Courses.{Course, Step}
-use Rattle.cmd_steps.specs.Took.{Took, Follows}
-use Rattle.cmd_steps.specs.Texts.{reads_machine, reads_defects}
-use Rattle.cmd_steps.specs.Beginnings.{behind_list, behind_machine, listed_course}
+use Rattle.cmd_steps.specs.Vocabulary.{StandsIn, outside, Course, Step, Took, Follows, reads_machine, reads_defects, behind_list, behind_machine, listed_course}
 use Rattle.cmd_steps.specs.declared.refusal.Stop.{Stop}
 use Rattle.cmd_steps.proofs.Reading.{HasRead, none-read, more-read, file-stops, file-gives}
 

@@ -1,14 +1,9 @@
 -- Commands that begin with a machine: it is read, and attached under a name.
-use Rattle.std.proofs.Common.{◌≡◌, ℕ, List, [], ◌∷◌, refl, inl}
-use Rattle.std.specs.Prelude.{Result, Ok, Err}
-use Rattle.base_io.specs.Store.{StoreState}
-use Rattle.base_io.specs.Sink.{SinkState}
+use Rattle.std.proofs.Common.{◌≡◌, ℕ, List, [], ◌∷◌, refl, inl, Result, Ok, Err}
+use Rattle.base_io.specs.Vocabulary.{StoreState, SinkState}
 use Rattle.machine_shape.specs.declared.Shape.{Shape}
 use Rattle.rig.specs.Rig.{RigState, Asked}
-use Rattle.cmd_steps.specs.Outside.{Outside, outside}
-use Rattle.cmd_steps.specs.Courses.{Course, after}
-use Rattle.cmd_steps.specs.Took.{Took, Follows}
-use Rattle.cmd_steps.specs.Texts.{reads_machine, attaches, MayAsk, AsksMachine}
+use Rattle.cmd_steps.specs.Vocabulary.{Outside, outside, Course, after, Took, Follows, reads_machine, attaches, MayAsk, AsksMachine}
 use Rattle.cmd_steps.specs.declared.refusal.Stop.{Stop}
 use Rattle.cmd_steps.proofs.Taking.{step-stops, step-gives, attach-gives, asks-machine}
 

@@ -1,14 +1,8 @@
 -- Steps that touch the rig alone.
-use Rattle.std.proofs.Common.{◌≡◌, ◌≤◌, false, [], None, refl, sym, ap, append-nil, arith}
-use Rattle.std.specs.Prelude.{Ok, Err}
-use Rattle.base_io.specs.Told.{untold}
-use Rattle.base_io.specs.Store.{StoreState}
-use Rattle.base_io.specs.Sink.{SinkState}
+use Rattle.std.proofs.Common.{◌≡◌, ◌≤◌, false, [], None, refl, sym, ap, append-nil, arith, Ok, Err}
+use Rattle.base_io.specs.Vocabulary.{untold, StoreState, SinkState}
 use Rattle.rig.specs.Rig.{RigState, Machine}
-use Rattle.cmd_steps.specs.Outside.{Outside, outside, IsLater}
-use Rattle.cmd_steps.specs.Courses.{Step}
-use Rattle.cmd_steps.specs.Stops.{StepStops, IsCounted}
-use Rattle.cmd_steps.specs.Took.{Took}
+use Rattle.cmd_steps.specs.Vocabulary.{Outside, outside, IsLater, Step, StepStops, IsCounted, Took}
 use Rattle.cmd_steps.specs.declared.refusal.Stop.{Stop}
 
 -- an outside to ask with for what doesn't depend on it

@@ -1,13 +1,7 @@
 -- What rows behind an opened file of vectors lead to.
 use Rattle.std.proofs.Common.{◌≡◌, ◌∙◌, ℕ, List, ◌∷◌, ◌++◌, None, ap, inl, inr}
-use Rattle.base_io.specs.Told.{Told, holds}
-use Rattle.base_io.specs.Store.{StoreState}
-use Rattle.cmd_steps.specs.Files.{says_at, AreAll}
-use Rattle.cmd_steps.specs.Lines.{outputs_line, output_text}
-use Rattle.cmd_steps.specs.Outside.{Around, StandsIn}
-use Rattle.cmd_steps.specs.Courses.{RowWork, all_rows, HasReadRows, ends, refuses, write}
-use Rattle.cmd_steps.specs.Texts.{opens}
-use Rattle.cmd_steps.specs.Jobs.{Leads, EndsWell}
+use Rattle.base_io.specs.Vocabulary.{Told, holds, StoreState}
+use Rattle.cmd_steps.specs.Vocabulary.{says_at, AreAll, outputs_line, output_text, Around, StandsIn, RowWork, all_rows, HasReadRows, ends, refuses, write, opens, Leads, EndsWell}
 use Rattle.cmd_steps.specs.declared.refusal.Refusal.TheVariants.{Memory}
 use Rattle.cmd_steps.proofs.Leading.{after-leads, write-leads}
 use Rattle.cmd_steps.proofs.Excused.{open-excused, rows-well}

@@ -1,14 +1,7 @@
 -- A file of vectors that is opened, the line `outputs` behind that, and then the rows.
-use Rattle.std.proofs.Common.{◌≡◌, List, ℕ, [], ◌∷◌, refl, subst, inl}
-use Rattle.std.specs.Prelude.{Result, Ok, Err}
-use Rattle.base_io.specs.Told.{Told, IsPresent}
-use Rattle.base_io.specs.Store.{StoreState}
-use Rattle.base_io.specs.Sink.{SinkState}
-use Rattle.cmd_steps.specs.Lines.{outputs_line}
-use Rattle.cmd_steps.specs.Outside.{Outside, outside, StandsIn}
-use Rattle.cmd_steps.specs.Courses.{Course, after, write}
-use Rattle.cmd_steps.specs.Texts.{opens}
-use Rattle.cmd_steps.specs.Took.{Took, Puts, Follows}
+use Rattle.std.proofs.Common.{◌≡◌, List, ℕ, [], ◌∷◌, refl, subst, inl, Result, Ok, Err}
+use Rattle.base_io.specs.Vocabulary.{Told, IsPresent, StoreState, SinkState}
+use Rattle.cmd_steps.specs.Vocabulary.{outputs_line, Outside, outside, StandsIn, Course, after, write, opens, Took, Puts, Follows}
 use Rattle.cmd_steps.specs.declared.refusal.Refusal.TheVariants.{Memory}
 use Rattle.cmd_steps.specs.declared.refusal.Stop.{Stop}
 use Rattle.cmd_steps.specs.declared.refusal.Stop.TheVariants.{Refused}

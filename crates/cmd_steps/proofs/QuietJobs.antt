@@ -4,10 +4,7 @@ use Rattle.base_io.specs.Told.{holds}
 use Rattle.machine_shape.specs.declared.Shape.{Shape}
 use Rattle.machine_text.specs.Machine.{IsMachine}
 use Rattle.base_text.specs.Size.{most_bytes}
-use Rattle.cmd_steps.specs.Outside.{Around}
-use Rattle.cmd_steps.specs.Courses.{Course, after, write, done, ends}
-use Rattle.cmd_steps.specs.Jobs.{IsLawful, quiet}
-use Rattle.cmd_steps.specs.Texts.{reads_machine, attaches}
+use Rattle.cmd_steps.specs.Vocabulary.{Around, Course, after, write, done, ends, IsLawful, quiet, reads_machine, attaches}
 use Rattle.cmd_steps.proofs.Excused.{machine-excused, attach-excused}
 use Rattle.cmd_steps.proofs.ShapeLemmas.{one-machine}
 use Rattle.cmd_steps.proofs.Machines.{named}

@@ -1,13 +1,8 @@
 -- Files that are read one after another, and the line that is written last.
-use Rattle.std.proofs.Common.{◌≡◌, ◌∙◌, ℕ, List, [], ◌∷◌, refl, subst}
-use Rattle.std.specs.Prelude.{Result, Ok, Err}
-use Rattle.base_io.specs.Told.{Told}
-use Rattle.base_io.specs.Store.{StoreState}
-use Rattle.base_io.specs.Sink.{SinkState}
+use Rattle.std.proofs.Common.{◌≡◌, ◌∙◌, ℕ, List, [], ◌∷◌, refl, subst, Result, Ok, Err}
+use Rattle.base_io.specs.Vocabulary.{Told, StoreState, SinkState}
 use Rattle.rig.specs.Rig.{RigState}
-use Rattle.cmd_steps.specs.Outside.{Outside, outside, StandsIn}
-use Rattle.cmd_steps.specs.Courses.{Course, Step, after, write, done}
-use Rattle.cmd_steps.specs.Took.{Took, Puts, Follows}
+use Rattle.cmd_steps.specs.Vocabulary.{Outside, outside, StandsIn, Course, Step, after, write, done, Took, Puts, Follows}
 use Rattle.cmd_steps.specs.declared.refusal.Stop.{Stop}
 use Rattle.cmd_steps.proofs.Taking.{stands-then, step-stops, step-gives, line-stops, line-gives, all-done}
 

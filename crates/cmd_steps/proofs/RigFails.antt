@@ -1,17 +1,10 @@
 -- Steps that leave the machine as it is, and stop: by the fault of the rig, or for lack of memory.
-use Rattle.std.proofs.Common.{◌≡◌, ◌≤◌, [], refl}
-use Rattle.std.specs.Prelude.{Result, Err}
-use Rattle.base_io.specs.Counts.{Rose}
-use Rattle.base_io.specs.Store.{StoreState}
-use Rattle.base_io.specs.Sink.{SinkState}
+use Rattle.std.proofs.Common.{◌≡◌, ◌≤◌, [], refl, Result, Err}
+use Rattle.base_io.specs.Vocabulary.{Rose, StoreState, SinkState}
 use Rattle.rig.specs.Rig.{RigState}
 use Rattle.rig.specs.declared.rig.RigFail.{RigFail}
 use Rattle.rig.specs.declared.rig.RigFail.TheVariants as work
-use Rattle.cmd_steps.specs.Outside.{Outside, outside}
-use Rattle.cmd_steps.specs.Courses.{Course, Step, after}
-use Rattle.cmd_steps.specs.Stops.{stop_of_rig}
-use Rattle.cmd_steps.specs.Texts.{FailsOnRig}
-use Rattle.cmd_steps.specs.Took.{Took, Follows}
+use Rattle.cmd_steps.specs.Vocabulary.{Outside, outside, Course, Step, after, stop_of_rig, FailsOnRig, Took, Follows}
 use Rattle.cmd_steps.specs.declared.refusal.Refusal.{Refusal}
 use Rattle.cmd_steps.specs.declared.refusal.Refusal.TheVariants as refused
 use Rattle.cmd_steps.specs.declared.refusal.Stop.{Stop}

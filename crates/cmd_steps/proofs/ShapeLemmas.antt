@@ -4,11 +4,9 @@ use Rattle.std.proofs.Math.Bridge.{le_prop}
 use Rattle.base_io.specs.Told.{Told, holds}
 use Rattle.machine_shape.specs.declared.Counts.{Counts}
 use Rattle.machine_shape.specs.declared.Shape.{Shape}
-use Rattle.machine_shape.specs.Counts.{levels_from, IsFull}
-use Rattle.machine_shape.specs.Walk.{size, tables_in, wires_in, crosses_in, nodes_in}
+use Rattle.machine_shape.specs.Vocabulary.{levels_from, IsFull, size, tables_in, wires_in, crosses_in, nodes_in}
 use Rattle.machine_text.specs.Machine.{IsMachine}
-use Rattle.machine_defects.specs.Lists.{DefectList}
-use Rattle.machine_defects.specs.Faults.{IsText}
+use Rattle.machine_defects.specs.Vocabulary.{DefectList, IsText}
 use Rattle.design_netlist.specs.declared.netlist_data.NetlistData.{NetlistData}
 use Rattle.design_blif.specs.Designs.{IsDesign}
 use Rattle.machine_image.specs.Images.{ImageValue, IsImage, Reads, image_bytes}

@@ -1,17 +1,10 @@
 -- Files of vectors that are started.
-use Rattle.std.proofs.Common.{◌≡◌, ℕ, ◌≤◌, List, [], ◌∷◌, ◌++◌, Some, refl, inl, inr, arith}
-use Rattle.std.specs.Prelude.{Ok, Err}
-use Rattle.base_io.specs.Told.{Told, IsPresent}
-use Rattle.base_io.specs.Store.{StoreState, StartFails}
+use Rattle.std.proofs.Common.{◌≡◌, ℕ, ◌≤◌, List, [], ◌∷◌, ◌++◌, Some, refl, inl, inr, arith, Ok, Err}
+use Rattle.base_io.specs.Vocabulary.{Told, IsPresent, StoreState, StartFails, SinkState}
 use Rattle.base_io.specs.declared.store.StoreFail.{StoreFail}
 use Rattle.base_io.specs.declared.store.StoreFail.TheVariants.{Failed, Memory}
-use Rattle.base_io.specs.Sink.{SinkState}
 use Rattle.rig.specs.Rig.{RigState}
-use Rattle.cmd_steps.specs.Files.{file_of}
-use Rattle.cmd_steps.specs.Outside.{Outside, outside, StandsIn, IsLater}
-use Rattle.cmd_steps.specs.Stops.{AsksSome, StepStops, IsCounted, stop_of_store}
-use Rattle.cmd_steps.specs.Texts.{opens}
-use Rattle.cmd_steps.specs.Took.{Took}
+use Rattle.cmd_steps.specs.Vocabulary.{file_of, Outside, outside, StandsIn, IsLater, AsksSome, StepStops, IsCounted, stop_of_store, opens, Took}
 
 -- the file that was started
 pub begun-file : (new : StoreState) (contents : List ℕ → Told) (name : List ℕ) → new.contents ≡ contents → new.current ≡ Some (record { name = name; at = 0 }) → file_of new ≡ contents name

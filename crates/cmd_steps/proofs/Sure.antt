@@ -3,16 +3,12 @@ use Rattle.std.proofs.Common.{◌≡◌, ℕ, ◌≤◌, List, length, refl, sub
 use Rattle.base_io.specs.Told.{Told, holds}
 use Rattle.machine_shape.specs.declared.Shape.{Shape}
 use Rattle.machine_text.specs.Machine.{IsMachine}
-use Rattle.machine_defects.specs.Lists.{DefectList}
-use Rattle.machine_defects.specs.Faults.{IsText}
+use Rattle.machine_defects.specs.Vocabulary.{DefectList, IsText}
 use Rattle.design_netlist.specs.declared.netlist_data.NetlistData.{NetlistData}
 use Rattle.design_blif.specs.Designs.{IsDesign}
 use Rattle.machine_image.specs.Images.{ImageValue, IsImage, image_bytes}
 use Rattle.base_text.specs.Size.{most_bytes}
-use Rattle.cmd_steps.specs.Outside.{Around}
-use Rattle.cmd_steps.specs.Courses.{Course, Next, Step, after, write, done, ends, refuses, writes}
-use Rattle.cmd_steps.specs.Jobs.{IsExcused}
-use Rattle.cmd_steps.specs.Texts.{reads_machine, reads_defects, reads_design, reads_text, reads_image}
+use Rattle.cmd_steps.specs.Vocabulary.{Around, Course, Next, Step, after, write, done, ends, refuses, writes, IsExcused, reads_machine, reads_defects, reads_design, reads_text, reads_image}
 use Rattle.cmd_steps.specs.declared.design_file.DesignFile.{DesignFile}
 use Rattle.cmd_steps.specs.declared.refusal.Refusal.{Refusal}
 use Rattle.cmd_steps.proofs.Leading.{after-leads, write-leads, done-leads}

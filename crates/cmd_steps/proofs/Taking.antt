@@ -1,15 +1,9 @@
 -- Steps that compose: a step that stops ends each course that begins with it, and one that gives is followed by the rest.
-use Rattle.std.proofs.Common.{◌≡◌, ℕ, List, [], ◌∷◌, ◌++◌, refl, sym, subst, ap, ◌∙◌, inl, inr, arith, append-nil}
-use Rattle.std.specs.Prelude.{Result, Ok, Err}
-use Rattle.base_io.specs.Store.{StoreState}
-use Rattle.base_io.specs.Sink.{SinkState}
+use Rattle.std.proofs.Common.{◌≡◌, ℕ, List, [], ◌∷◌, ◌++◌, refl, sym, subst, ap, ◌∙◌, inl, inr, arith, append-nil, Result, Ok, Err}
+use Rattle.base_io.specs.Vocabulary.{StoreState, SinkState}
 use Rattle.machine_shape.specs.declared.Shape.{Shape}
 use Rattle.rig.specs.Rig.{RigState, Machine, Asked}
-use Rattle.cmd_steps.specs.Outside.{Outside, outside, IsLater, StandsIn}
-use Rattle.cmd_steps.specs.Courses.{Course, Step, after, write, done}
-use Rattle.cmd_steps.specs.Stops.{StepStops, IsCounted}
-use Rattle.cmd_steps.specs.Took.{Took, Puts, Follows}
-use Rattle.cmd_steps.specs.Texts.{attaches, MayAsk, AsksMachine}
+use Rattle.cmd_steps.specs.Vocabulary.{Outside, outside, IsLater, StandsIn, Course, Step, after, write, done, StepStops, IsCounted, Took, Puts, Follows, attaches, MayAsk, AsksMachine}
 use Rattle.cmd_steps.specs.declared.refusal.Refusal.TheVariants.{Memory}
 use Rattle.cmd_steps.specs.declared.refusal.Stop.{Stop}
 use Rattle.cmd_steps.specs.declared.refusal.Stop.TheVariants.{Refused}

@@ -9,10 +9,7 @@ use Rattle.design_netlist.specs.declared.fault.DesignKind.TheVariants as design
 use Rattle.design_blif.specs.Designs.{IsDesignFault, TooLong}
 use Rattle.machine_image.specs.declared.kind.ImageKind.TheVariants as image
 use Rattle.base_text.specs.Size.{most_bytes}
-use Rattle.cmd_steps.specs.Courses.{Step}
-use Rattle.cmd_steps.specs.Outside.{Outside}
-use Rattle.cmd_steps.specs.Stops.{StepStops, IsCounted}
-use Rattle.cmd_steps.specs.Texts.{reads_machine, reads_defects, reads_design, reads_text, reads_image, NoMachine, NoDefects, NoDesign, NoImage, IsNoDesign, IsRefusedAt}
+use Rattle.cmd_steps.specs.Vocabulary.{Step, Outside, StepStops, IsCounted, reads_machine, reads_defects, reads_design, reads_text, reads_image, NoMachine, NoDefects, NoDesign, NoImage, IsNoDesign, IsRefusedAt}
 use Rattle.cmd_steps.specs.declared.design_file.DesignFile.{DesignFile}
 use Rattle.cmd_steps.specs.declared.refusal.Refusal.{Refusal}
 use Rattle.cmd_steps.specs.declared.refusal.Refusal.TheVariants as refused

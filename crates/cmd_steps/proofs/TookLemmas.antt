@@ -1,17 +1,10 @@
 -- Files that are read, as steps.
-use Rattle.std.proofs.Common.{◌≡◌, ℕ, ◌≤◌, List, [], ◌∷◌, ◌++◌, refl, inr, arith}
-use Rattle.std.specs.Prelude.{Result, Ok, Err, IfOk, IfErr}
-use Rattle.base_io.specs.Told.{Told, holds}
-use Rattle.base_io.specs.Store.{StoreState}
-use Rattle.base_io.specs.Whole.{WholeFails}
-use Rattle.base_io.specs.Sink.{SinkState}
+use Rattle.std.proofs.Common.{◌≡◌, ℕ, ◌≤◌, List, [], ◌∷◌, ◌++◌, refl, inr, arith, Result, Ok, Err, IfOk, IfErr}
+use Rattle.base_io.specs.Vocabulary.{Told, holds, StoreState, WholeFails, SinkState}
 use Rattle.base_io.specs.declared.store.StoreFail.{StoreFail}
 use Rattle.base_io.specs.declared.store.StoreFail.TheVariants.{Failed, Memory}
 use Rattle.rig.specs.Rig.{RigState}
-use Rattle.cmd_steps.specs.Outside.{Outside, outside, IsLater, StandsIn}
-use Rattle.cmd_steps.specs.Courses.{Step}
-use Rattle.cmd_steps.specs.Stops.{Asks, AsksSome, StepStops, IsCounted, stop_of_store}
-use Rattle.cmd_steps.specs.Took.{Took}
+use Rattle.cmd_steps.specs.Vocabulary.{Outside, outside, IsLater, StandsIn, Step, Asks, AsksSome, StepStops, IsCounted, stop_of_store, Took}
 use Rattle.cmd_steps.specs.declared.refusal.Stop.{Stop}
 use Rattle.cmd_steps.specs.declared.refusal.Stop.TheVariants.{Refused, Sink}
 use Rattle.cmd_steps.proofs.Counting.{counted-after}

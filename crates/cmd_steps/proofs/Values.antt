@@ -1,9 +1,6 @@
 -- Steps that touch nothing: a value is made, or it isn't.
-use Rattle.std.proofs.Common.{[], refl}
-use Rattle.std.specs.Prelude.{Result, Ok, Err}
-use Rattle.cmd_steps.specs.Outside.{Outside}
-use Rattle.cmd_steps.specs.Courses.{Course, Step, after}
-use Rattle.cmd_steps.specs.Took.{Took, Follows}
+use Rattle.std.proofs.Common.{[], refl, Result, Ok, Err}
+use Rattle.cmd_steps.specs.Vocabulary.{Outside, Course, Step, after, Took, Follows}
 use Rattle.cmd_steps.specs.declared.refusal.Refusal.TheVariants.{Memory}
 use Rattle.cmd_steps.specs.declared.refusal.Stop.{Stop}
 use Rattle.cmd_steps.specs.declared.refusal.Stop.TheVariants.{Refused}

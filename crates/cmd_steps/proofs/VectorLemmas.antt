@@ -3,8 +3,7 @@ use Rattle.std.proofs.Common.{◌≡◌, ℕ, ◌+◌, ◌-◌, ◌<◌, ◌≤�
 use Rattle.std.proofs.Math.Seq.{take-append_seam, get_or-append_seam}
 use Rattle.std.proofs.lemmas.List.{length-map, map-append}
 use Rattle.std.proofs.lemmas.Option.{slice_get-get_or}
-use Rattle.base_io.specs.Told.{Told, untold, absent, holds, bytes_of, IfTold, IsPresent}
-use Rattle.base_io.specs.Store.{StoreState, rest_of}
+use Rattle.base_io.specs.Vocabulary.{Told, untold, absent, holds, bytes_of, IfTold, IsPresent, StoreState, rest_of}
 use Rattle.design_vectors.specs.declared.vectors.VectorKind.{VectorKind}
 use Rattle.design_vectors.specs.Vectors.{SaidVectors, VectorLine, nothing_said, with_vector}
 use Rattle.design_vectors.specs.declared.vectors.VectorsFail.TheVariants.{Text}

@@ -1,9 +1,7 @@
 -- One write after another.
-use Rattle.std.proofs.Common.{◌≡◌, ℕ, List, [], ◌∷◌, ◌++◌, Bool, flat_map, Option, None, Some, append-nil, option_map, refl, sym, ap, ◌∙◌, append_assoc, inr, inl, subst}
+use Rattle.std.proofs.Common.{◌≡◌, ℕ, List, [], ◌∷◌, ◌++◌, Bool, flat_map, Option, None, Some, append-nil, option_map, refl, sym, ap, ◌∙◌, append_assoc, inr, inl, subst, Result, Ok, Err}
 use Rattle.std.proofs.lemmas.Grind.{flat_map-append}
-use Rattle.std.specs.Prelude.{Result, Ok, Err}
-use Rattle.base_io.specs.Sink.{Wrote}
-use Rattle.base_io.specs.Store.{StoreState}
+use Rattle.base_io.specs.Vocabulary.{Wrote, StoreState}
 use Rattle.design_vectors.specs.Rows.{row_line}
 use Rattle.cmd_steps.specs.Stops.{Asks, AsksSome}
 use Rattle.cmd_steps.specs.declared.refusal.Stop.{Stop}

@@ -1,10 +1,8 @@
 -- The rows of a file of vectors that is read row by row: those so far, how they go on, and how they end.
-use Rattle.std.proofs.Common.{◌≡◌, ◌⊎◌, ℕ, ◌+◌, ◌-◌, ◌<◌, ◌≤◌, Bool, false, List, [], ◌∷◌, ◌++◌, length, take, flat_map, refl, sym, ap, subst, ◌∙◌, arith, inl, inr, append-nil, append_assoc, length-append}
+use Rattle.std.proofs.Common.{◌≡◌, ◌⊎◌, ℕ, ◌+◌, ◌-◌, ◌<◌, ◌≤◌, Bool, false, List, [], ◌∷◌, ◌++◌, length, take, flat_map, refl, sym, ap, subst, ◌∙◌, arith, inl, inr, append-nil, append_assoc, length-append, Result, Ok, Err, IfErr}
 use Rattle.std.proofs.lemmas.Grind.{flat_map-append}
-use Rattle.std.specs.Prelude.{Result, Ok, Err, IfErr}
 use native.Mathlib.Decide.{dec_lt}
-use Rattle.base_io.specs.Store.{StoreState}
-use Rattle.base_io.specs.Sink.{SinkState, Wrote, PutFails}
+use Rattle.base_io.specs.Vocabulary.{StoreState, SinkState, Wrote, PutFails}
 use Rattle.base_io.specs.declared.sink.SinkFail.{SinkFail}
 use Rattle.base_io.specs.declared.sink.SinkFail.TheVariants.{Failed, Memory}
 use Rattle.rig.specs.Rig.{RigState, Machine}
@@ -12,12 +10,7 @@ use Rattle.design_vectors.specs.declared.vectors.VectorsFail.{VectorsFail}
 use Rattle.design_vectors.specs.declared.vectors.VectorsFail.TheVariants.{Text, Failed as VectorsFailed}
 use Rattle.design_vectors.specs.Readings.{VectorReading, new_reading, NextGives, NextFails}
 use Rattle.design_vectors.specs.Rows.{row_line}
-use Rattle.cmd_steps.specs.Files.{most_vector_bytes, file_of, AreAll, AreBeforeFault, IsBegun, IsNearNext}
-use Rattle.cmd_steps.specs.NextVectors.{StaysOpen, IsRead, IsPutOut, IsHeldUp, WaitsOrPuts}
-use Rattle.cmd_steps.specs.Outside.{Outside, outside, IsLater}
-use Rattle.cmd_steps.specs.Courses.{RowWork, all_rows, HasRows, HasReadRows, IsBeforeRow}
-use Rattle.cmd_steps.specs.Stops.{Asks, IsCounted, IsWritten, StopWrote, WriteStops, stop_of_vectors}
-use Rattle.cmd_steps.specs.Took.{Puts, Follows}
+use Rattle.cmd_steps.specs.Vocabulary.{most_vector_bytes, file_of, AreAll, AreBeforeFault, IsBegun, IsNearNext, StaysOpen, IsRead, IsPutOut, IsHeldUp, WaitsOrPuts, Outside, outside, IsLater, RowWork, all_rows, HasRows, HasReadRows, IsBeforeRow, Asks, IsCounted, IsWritten, StopWrote, WriteStops, stop_of_vectors, Puts, Follows}
 use Rattle.cmd_steps.specs.declared.refusal.Stop.{Stop}
 use Rattle.cmd_steps.specs.declared.refusal.Stop.TheVariants.{Refused, Sink}
 use Rattle.cmd_steps.proofs.Counting.{counted-after}

@@ -1,7 +1,6 @@
 -- How commands begin: a machine is read, and it is attached, or a list of its defects and one more file are read.
 use Rattle.std.specs.Prelude.{◌≡◌, ℕ, List, [], ◌∷◌}
-use Rattle.base_io.specs.Told.{Told}
-use Rattle.base_io.specs.Store.{StoreState}
+use Rattle.base_io.specs.Vocabulary.{Told, StoreState}
 use Rattle.machine_shape.specs.declared.Shape.{Shape}
 use Rattle.machine_defects.specs.Lists.{DefectList}
 use Rattle.cmd_steps.specs.Outside.{Around, StandsIn}

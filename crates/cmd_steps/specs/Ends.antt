@@ -1,7 +1,6 @@
 -- How the program ends.
 use Rattle.std.specs.Prelude.{◌≡◌, ◌⊎◌, ℕ, ◌≤◌, List, ◌++◌, take, IsTrue, false}
-use Rattle.base_io.specs.Counts.{Rose}
-use Rattle.base_io.specs.Sink.{SinkState, Wrote}
+use Rattle.base_io.specs.Vocabulary.{Rose, SinkState, Wrote}
 use Rattle.base_io.specs.declared.sink.SinkFail.TheVariants.{Failed as SinkFailed, Memory as SinkMemory}
 use Rattle.cmd_steps.specs.Outside.{Outside, IsLater, SomethingRose, around}
 use Rattle.cmd_steps.specs.Jobs.{Job}

@@ -1,8 +1,7 @@
 -- What the files of vectors say, and how far they are read.
-use Rattle.std.specs.Prelude.{◌≡◌, ℕ, ◌+◌, ◌<◌, ◌≤◌, Bool, List, map, length, take, slice_get}
-use Rattle.std.specs.Prelude.{Option, None, Some, IfSome, option_map, unwrap_or}
-use Rattle.base_io.specs.Told.{Told, untold, holds, IfTold, IsPresent}
-use Rattle.base_io.specs.Store.{StorePlace, StoreState}
+use Rattle.std.specs.Prelude.{◌≡◌, ℕ, ◌+◌, ◌<◌, ◌≤◌, Bool, List, map, length, take, slice_get, Option, None, Some, IfSome, option_map}
+use Rattle.std.specs.Prelude.{unwrap_or}
+use Rattle.base_io.specs.Vocabulary.{Told, untold, holds, IfTold, IsPresent, StorePlace, StoreState}
 use Rattle.design_vectors.specs.Vectors.{SaidVectors, VectorLine, file_says}
 use Rattle.design_vectors.specs.declared.vectors.VectorKind.{VectorKind}
 

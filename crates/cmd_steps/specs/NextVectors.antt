@@ -1,7 +1,6 @@
 -- The next vector of a file that is read from a store, and rows that wait to be written together.
 use Rattle.std.specs.Prelude.{◌≡◌, ◌⊎◌, ◌<◌, ◌≤◌, ℕ, List, [], Bool, true, false, length, Result, IsOk}
-use Rattle.base_io.specs.Store.{StoreState}
-use Rattle.base_io.specs.Sink.{SinkState, Wrote}
+use Rattle.base_io.specs.Vocabulary.{StoreState, SinkState, Wrote}
 use Rattle.design_vectors.specs.declared.vectors.VectorsFail.TheVariants.{Text, Failed}
 use Rattle.design_vectors.specs.Readings.{VectorReading, NextGives, NextFails, HasMoved}
 use Rattle.cmd_steps.specs.Files.{most_vector_bytes, most_ahead}

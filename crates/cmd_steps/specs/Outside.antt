@@ -1,8 +1,6 @@
 -- What a command has around it: the store, the rig and the sink.
 use Rattle.std.specs.Prelude.{◌≡◌, ◌⊎◌, ℕ, ◌+◌, ◌≤◌, List, [], ◌∷◌, IfSome}
-use Rattle.base_io.specs.Counts.{Rose}
-use Rattle.base_io.specs.Store.{StoreState}
-use Rattle.base_io.specs.Sink.{SinkState}
+use Rattle.base_io.specs.Vocabulary.{Rose, StoreState, SinkState}
 use Rattle.rig.specs.Rig.{RigState}
 use Rattle.base_text.specs.Size.{most_bytes}
 

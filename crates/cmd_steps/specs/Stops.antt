@@ -1,8 +1,6 @@
 -- Why a command stops, and what that leaves.
 use Rattle.std.specs.Prelude.{◌≡◌, ◌⊎◌, ℕ, List, [], ◌∷◌, ◌++◌, take, OnOk, OnErr, Result, Ok, Err, IsTrue, codes}
-use Rattle.base_io.specs.Counts.{Rose}
-use Rattle.base_io.specs.Store.{StoreState}
-use Rattle.base_io.specs.Sink.{SinkState, Wrote, PutFails}
+use Rattle.base_io.specs.Vocabulary.{Rose, StoreState, SinkState, Wrote, PutFails}
 use Rattle.base_io.specs.declared.store.StoreFail.{StoreFail}
 use Rattle.base_io.specs.declared.store.StoreFail.TheVariants.{Failed as StoreFailed, Memory as StoreMemory}
 use Rattle.base_io.specs.declared.sink.SinkFail.TheVariants.{Failed as SinkFailed, Memory as SinkMemory}
@@ -17,8 +15,8 @@ use Rattle.cmd_steps.specs.Lines.{as_line, machine_line, faults_line, defects_li
 use Rattle.cmd_steps.specs.Outside.{Outside}
 use Rattle.cmd_steps.specs.Courses.{Course, Step, ends, refuses, writes}
 use Rattle.cmd_steps.specs.declared.refusal.Refusal.{Refusal}
-use Rattle.cmd_steps.specs.declared.refusal.Refusal.TheVariants.{Words, Machine, Faults, Defects, Image, Design, Vectors}
-use Rattle.cmd_steps.specs.declared.refusal.Refusal.TheVariants.{Room, Rig, Store, Memory}
+use Rattle.cmd_steps.specs.declared.refusal.Refusal.TheVariants.{Words, Machine, Faults, Defects, Image, Design, Vectors, Room, Rig, Store}
+use Rattle.cmd_steps.specs.declared.refusal.Refusal.TheVariants.{Memory}
 use Rattle.cmd_steps.specs.declared.refusal.Stop.{Stop}
 use Rattle.cmd_steps.specs.declared.refusal.Stop.TheVariants.{Refused, Sink}
 

@@ -1,14 +1,12 @@
 -- The steps that read a file into a value, and those that attach a machine and open the vectors.
 use Rattle.std.specs.Prelude.{◌≡◌, ◌⊎◌, ℕ, ◌≤◌, List, ◌∷◌, [], ◌++◌, length, Some}
-use Rattle.base_io.specs.Counts.{next_count}
-use Rattle.base_io.specs.Told.{Told, IfTold, IsPresent, holds}
+use Rattle.base_io.specs.Vocabulary.{next_count, Told, IfTold, IsPresent, holds}
 use Rattle.machine_shape.specs.declared.Counts.{Counts}
 use Rattle.machine_shape.specs.declared.Shape.{Shape}
 use Rattle.machine_text.specs.Machine.{IsMachine}
 use Rattle.machine_text.specs.Faults.{IsFault}
 use Rattle.machine_faults.specs.declared.kind.FaultsFault.TheVariants.{At}
-use Rattle.machine_defects.specs.Lists.{DefectList}
-use Rattle.machine_defects.specs.Faults.{IsText, IsFaultAt}
+use Rattle.machine_defects.specs.Vocabulary.{DefectList, IsText, IsFaultAt}
 use Rattle.design_netlist.specs.declared.netlist_data.NetlistData.{NetlistData}
 use Rattle.design_netlist.specs.declared.fault.DesignKind.{DesignKind}
 use Rattle.design_blif.specs.Designs.{IsDesign, IsDesignFault}

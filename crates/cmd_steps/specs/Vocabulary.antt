@@ -2,6 +2,24 @@
 pub use Rattle.base_io.specs.Store.{StoreState}
 pub use Rattle.base_io.specs.Sink.{SinkState}
 pub use Rattle.rig.specs.Rig.{RigState, shape_of, width_of}
-pub use Rattle.cmd_steps.specs.Outside.{Outside, outside, around, StandsIn}
-pub use Rattle.cmd_steps.specs.Took.{Took, Follows}
-pub use Rattle.cmd_steps.specs.Jobs.{Does, IsLawful}
+pub use Rattle.cmd_steps.specs.Lines.{as_line, nets_text, output_text, outputs_line}
+pub use Rattle.cmd_steps.specs.Faults.{ShortPlace}
+pub use Rattle.cmd_steps.specs.Files.{AreAll, AreBeforeFault, AreFirst, AreRightVectors, IsBegun, IsNearNext, end_at, file_of, most_ahead}
+pub use Rattle.cmd_steps.specs.Files.{most_vector_bytes, says_at, vectors_at}
+pub use Rattle.cmd_steps.specs.Outside.{Around, IsLater, Outside, SomethingRose, StandsIn, around, outside}
+pub use Rattle.cmd_steps.specs.Courses.{Course, HasReadRows, HasRows, IsBeforeRow, Next, RowWork, Step, StopsAt, after, all_rows, done}
+pub use Rattle.cmd_steps.specs.Courses.{ends, refuses, write, writes}
+pub use Rattle.cmd_steps.specs.Texts.{AsksMachine, FailsOnRig, IsDefectsText, IsDesignText, IsImageText, IsMachineText, IsNoDesign}
+pub use Rattle.cmd_steps.specs.Texts.{IsRefusedAt, IsRightFile, IsTextRead, LoadsOnce, MayAsk, NoDefects, NoDesign, NoImage, NoMachine}
+pub use Rattle.cmd_steps.specs.Texts.{NotAttached, NotOpened, attaches, opens, reads_defects, reads_design, reads_image, reads_machine}
+pub use Rattle.cmd_steps.specs.Texts.{reads_text}
+pub use Rattle.cmd_steps.specs.Beginnings.{Unloaded, behind_list, behind_machine, listed_course, machine_attached}
+pub use Rattle.cmd_steps.specs.Stops.{Asks, AsksSome, IsCounted, IsWritten, StepStops, StopWrote, WriteStops, refusal_text, status_of}
+pub use Rattle.cmd_steps.specs.Stops.{stop_of_attach, stop_of_rig, stop_of_store, stop_of_vectors}
+pub use Rattle.cmd_steps.specs.Took.{Follows, Puts, Took}
+pub use Rattle.cmd_steps.specs.Jobs.{Does, EndsShort, EndsWell, Fronts, IsExcused, IsLawful, Job, Leads, quiet, wrong_words}
+pub use Rattle.cmd_steps.specs.Ends.{EndWrote, Ended, Finishes, IsOfFronts, IsRefused, LacksBefore, Refuses, Stands, Unless, cut, cut_line}
+pub use Rattle.cmd_steps.specs.Ends.{no_line, refused, whole}
+pub use Rattle.cmd_steps.specs.NextVectors.{IsHeldUp, IsPutOut, IsRead, IsReadAfter, NextOf, NextStops, RowsAt, StaysOpen, WaitsOrPuts}
+pub use Rattle.cmd_steps.specs.NextVectors.{rows_at}
+pub use Rattle.cmd_steps.specs.Words.{Asked, DoesAsked, HasNoJob, a_job, asked_if, is_dashed, job_of, no_job, word_at}

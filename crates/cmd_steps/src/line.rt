@@ -1,9 +1,8 @@
 //! The lines that refuse texts.
 ghost use Rattle.std.specs.Prelude.{◌≡◌, ◌≤◌, ◌<◌, ◌++◌, length, OnOk, IfOk};
 ghost use Rattle.machine_shape.specs.Shape.{nodes_of};
-ghost use Rattle.cmd_steps.specs.Lines.{file_word, machine_word, faults_word, defects_word, image_word};
-ghost use Rattle.cmd_steps.specs.Lines.{design_word, vectors_word, resource_word};
-ghost use Rattle.cmd_steps.specs.Lines.{design_name, nets_text, text_line, design_line, room_line};
+ghost use Rattle.cmd_steps.specs.Lines.{file_word, machine_word, faults_word, defects_word, image_word, design_word, vectors_word};
+ghost use Rattle.cmd_steps.specs.Lines.{resource_word, design_name, nets_text, text_line, design_line, room_line};
 
 use crate::design_file::DesignFile;
 use arrayvec::ArrayString;

@@ -4,8 +4,7 @@ use Rattle.machine_meaning.specs.Faults.{Faults}
 use Rattle.design_netlist.specs.Rows.{AreRows}
 use Rattle.machine_image.specs.Images.{ImageValue, Reads, image_bytes}
 use Rattle.place_route.specs.RightImages.{IsRightImage}
-use Rattle.cmd_steps.specs.Outside.{Outside}
-use Rattle.cmd_steps.specs.Texts.{IsMachineText}
+use Rattle.cmd_steps.specs.Vocabulary.{Outside, IsMachineText}
 use Rattle.cmd_steps.proofs.ShapeLemmas.{same-shape}
 use Rattle.run_image.specs.Rows.{AreRunRows}
 use Rattle.cmd_top.specs.Chain.{RunsTheDesign}

@@ -1,10 +1,7 @@
 -- What a program comes to, from what its words ask for.
 use Rattle.std.proofs.Common.{◌≡◌, ◌∙◌, ℕ, List, ap, subst}
 use Rattle.std.specs.List.{list_any}
-use Rattle.cmd_steps.specs.Outside.{Outside}
-use Rattle.cmd_steps.specs.Jobs.{Job}
-use Rattle.cmd_steps.specs.Ends.{Ended}
-use Rattle.cmd_steps.specs.Words.{Asked, no_job, a_job, HasNoJob, job_of, asked_if, is_dashed}
+use Rattle.cmd_steps.specs.Vocabulary.{Outside, Job, Ended, Asked, no_job, a_job, HasNoJob, job_of, asked_if, is_dashed}
 use Rattle.cmd_steps.proofs.AskedLemmas.{ended-asked}
 use Rattle.cmd_steps.proofs.Done.{EndedAs}
 use Rattle.cmd_top.specs.Words.{commands, asked_in, asked_by}

@@ -1,8 +1,7 @@
 -- One command's output is another's file.
 use Rattle.std.specs.Prelude.{◌≡◌, ℕ, List, [], Some}
 use Rattle.base_io.specs.Told.{holds}
-use Rattle.machine_meaning.specs.Defects.{Covers}
-use Rattle.machine_meaning.specs.Faults.{Faults}
+use Rattle.machine_meaning.specs.Vocabulary.{Covers, Faults}
 use Rattle.design_netlist.specs.Rows.{AreRows}
 use Rattle.cmd_steps.specs.Outside.{Outside}
 use Rattle.cmd_compile.specs.Headline.{IsCompiled}

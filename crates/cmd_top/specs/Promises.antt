@@ -1,8 +1,6 @@
 -- What the program promises: at every end, and of each command.
 use Rattle.std.specs.Prelude.{ℕ, List}
-use Rattle.cmd_steps.specs.Outside.{Outside}
-use Rattle.cmd_steps.specs.Ends.{Ended}
-use Rattle.cmd_steps.specs.Words.{HasNoJob, job_of}
+use Rattle.cmd_steps.specs.Vocabulary.{Outside, Ended, HasNoJob, job_of}
 use Rattle.cmd_eval.specs.Promises.{EvalPromises}
 use Rattle.cmd_compile.specs.Promises.{CompilePromises}
 use Rattle.cmd_run.specs.Promises.{RunPromises}

@@ -1,8 +1,6 @@
 //! The top call.
 ghost use Rattle.std.specs.Prelude.{◌≤◌, map, string_bytes};
-ghost use Rattle.cmd_steps.specs.Vocabulary.{StoreState, outside};
-ghost use Rattle.cmd_steps.specs.Ends.{Ended};
-ghost use Rattle.cmd_steps.specs.Words.{HasNoJob, DoesAsked, job_of};
+ghost use Rattle.cmd_steps.specs.Vocabulary.{StoreState, outside, Ended, HasNoJob, DoesAsked, job_of};
 ghost use Rattle.cmd_top.specs.Words.{of_number, number_of, commands, asked_in, asked_by};
 ghost use Rattle.cmd_top.specs.Promises.{Promises};
 ghost use Rattle.cmd_bench.specs.Bench.{bench_job};

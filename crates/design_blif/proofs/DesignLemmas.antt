@@ -1,12 +1,10 @@
 -- What models are refused as is the first fault of their text, and a text has one design.
-use Rattle.std.proofs.Common.{ℕ, ◌≡◌, ◌∙◌, ◌≤◌, List, Result, Ok, Err, length, refl, sym, subst}
-use Rattle.std.specs.Prelude.{IfErr}
+use Rattle.std.proofs.Common.{ℕ, ◌≡◌, ◌∙◌, ◌≤◌, List, Result, Ok, Err, length, refl, sym, subst, IfErr}
 use Rattle.design_netlist.specs.declared.netlist_data.NetlistData.{NetlistData}
 use Rattle.design_netlist.specs.declared.fault.DesignFault.{DesignFault}
 use Rattle.design_netlist.specs.declared.fault.DesignFault.TheVariants as fault
 use Rattle.design_flatten.specs.declared.model.Model.{Model}
-use Rattle.design_flatten.specs.Netlists.{IsNetlistOf}
-use Rattle.design_flatten.specs.Faults.{IsRefusalOfModels}
+use Rattle.design_flatten.specs.Vocabulary.{IsNetlistOf, IsRefusalOfModels}
 use Rattle.design_flatten.proofs.SubstitutionLemmas.{one_netlist}
 use Rattle.design_blif.specs.Runs.{IsFaultAs}
 use Rattle.design_blif.specs.Grammar.{AreModels}

@@ -1,7 +1,6 @@
 -- The rows of models that are read are as long as their cover's inputs.
-use Rattle.std.proofs.Common.{option_map, ◌≡◌, ℕ, Bool, true, false, not, cond, List, [], ◌∷◌, ◌++◌, Option, Some, None, Result, Ok, Err, length, map, refl, ◌∙◌, subst, ◌&&◌, ◌==◌}
+use Rattle.std.proofs.Common.{option_map, ◌≡◌, ℕ, Bool, true, false, not, cond, List, [], ◌∷◌, ◌++◌, Option, Some, None, Result, Ok, Err, length, map, refl, ◌∙◌, subst, ◌&&◌, ◌==◌, IfOk}
 use Rattle.std.specs.Option.{option_to_list}
-use Rattle.std.specs.Prelude.{IfOk}
 use Rattle.std.specs.Global.{Vec}
 use Rattle.design_netlist.specs.declared.fault.DesignFault.{DesignFault}
 use Rattle.std.proofs.lemmas.Bool.{eqb-true}

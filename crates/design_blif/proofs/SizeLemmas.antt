@@ -1,12 +1,10 @@
 -- The outputs of the models that are read are no more than the bytes of their text.
-use Rattle.std.proofs.Common.{◌≡◌, ℕ, ◌+◌, ◌-◌, ◌≤◌, ◌&&◌, ◌==◌, Bool, true, false, cond, nat_lt, List, [], ◌∷◌, ◌++◌, Option, Some, None, Result, Ok, Err, length, map, filter, take, drop, slice_index, refl, ap, arith, inl, inr}
-use Rattle.std.specs.Prelude.{IfOk}
+use Rattle.std.proofs.Common.{◌≡◌, ℕ, ◌+◌, ◌-◌, ◌≤◌, ◌&&◌, ◌==◌, Bool, true, false, cond, nat_lt, List, [], ◌∷◌, ◌++◌, Option, Some, None, Result, Ok, Err, length, map, filter, take, drop, slice_index, refl, ap, arith, inl, inr, IfOk}
 use Rattle.std.specs.Global.{Vec}
 use Rattle.std.specs.List.{slice_split, onto_first, position_or_len, suffix_len}
 use Rattle.std.proofs.lemmas.Bool.{ltb-true}
 use Rattle.std.proofs.lemmas.List.{length-take, length-drop, length-map, length-append}
-use Rattle.base_text.specs.Bytes.{is_blank, physical_lines, uncommented, joining_part, words_of}
-use Rattle.base_text.specs.Lines.{Text, LogicalLine, line_of, texts_of, in_front, onto_next, with_words, logical_lines}
+use Rattle.base_text.specs.Vocabulary.{is_blank, physical_lines, uncommented, joining_part, words_of, Text, LogicalLine, line_of, texts_of, in_front, onto_next, with_words, logical_lines}
 use Rattle.base_text.proofs.LinesLemmas.{cases_part}
 use Rattle.design_netlist.specs.declared.netlist_data.PortDef.{PortDef}
 use Rattle.design_netlist.specs.declared.fault.DesignFault.{DesignFault}

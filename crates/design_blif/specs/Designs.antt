@@ -8,8 +8,7 @@ use Rattle.design_netlist.specs.declared.fault.DesignFault.{DesignFault}
 use Rattle.design_netlist.specs.declared.fault.DesignFault.TheVariants.{At, Memory}
 use Rattle.design_netlist.specs.Checks.{IsChecked}
 use Rattle.design_flatten.specs.declared.model.Model.{Model}
-use Rattle.design_flatten.specs.Netlists.{IsNetlistOf}
-use Rattle.design_flatten.specs.Faults.{IsModelsFault}
+use Rattle.design_flatten.specs.Vocabulary.{IsNetlistOf, IsModelsFault}
 use Rattle.design_blif.specs.Grammar.{AreModels}
 use Rattle.design_blif.specs.Faults.{reading}
 

@@ -1,8 +1,7 @@
 //! Reads the text of a design.
 
 ghost use Rattle.design_flatten.specs.declared.model.Model.{Model};
-ghost use Rattle.design_flatten.specs.Lines.{HaveRightRows};
-ghost use Rattle.design_flatten.specs.Substitution.{first_model};
+ghost use Rattle.design_flatten.specs.Vocabulary.{HaveRightRows, first_model};
 ghost use Rattle.std.specs.Prelude.{◌≡◌, true, List, None, Some, Ok, Err, IfOk, IfErr, MatchResult, length, ◌≤◌};
 ghost use Rattle.base_text.specs.Lines.{logical_lines};
 ghost use Rattle.design_blif.specs.Texts.{text_of};

@@ -1,11 +1,9 @@
 -- Pins: the lane and the pass that spell given bits.
-use Rattle.std.proofs.Common.{◌≡◌, ◌⊎◌, ℕ, zero, suc, ◌+◌, ◌-◌, ◌*◌, ◌^◌, ◌<◌, ◌≤◌, ◌==◌, Bool, true, false, List, length, nat_lt, refl, sym, ap, ◌∙◌, inl, inr, arith}
-use Rattle.std.specs.Prelude.{if◌then◌else◌}
+use Rattle.std.proofs.Common.{◌≡◌, ◌⊎◌, ℕ, zero, suc, ◌+◌, ◌-◌, ◌*◌, ◌^◌, ◌<◌, ◌≤◌, ◌==◌, Bool, true, false, List, length, nat_lt, refl, sym, ap, ◌∙◌, inl, inr, arith, if◌then◌else◌}
 use native.Mathlib.Numerals.{unary_clauses}
 use Rattle.std.proofs.lemmas.Bool.{cases_lt, le-ltb}
 use Rattle.std.proofs.lemmas.Nat.Bits.{bit_at-suc, bit_at_lowest}
-use Rattle.design_netlist.specs.Lanes.{is_bit}
-use Rattle.design_netlist.specs.Valuations.{number_at}
+use Rattle.design_netlist.specs.Vocabulary.{is_bit, number_at}
 use Rattle.design_netlist.proofs.BitLemmas.{halved, lowest}
 use Rattle.design_equal.specs.declared.graph.Graph.{Graph}
 use Rattle.design_equal.specs.Graphs.{IsValued}

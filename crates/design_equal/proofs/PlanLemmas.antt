@@ -1,11 +1,8 @@
 -- The words of steps, and the word of a cover.
-use Rattle.std.proofs.Common.{◌≡◌, ◌⊎◌, ℕ, ◌+◌, ◌%◌, ◌<◌, ◌&&◌, ◌==◌, Bool, List, length, sym, ap, subst, ◌∙◌, inl, inr, arith, get_or-set_same, get_or-set_other}
-use Rattle.std.specs.Prelude.{not, if◌then◌else◌, slice_set}
+use Rattle.std.proofs.Common.{◌≡◌, ◌⊎◌, ℕ, ◌+◌, ◌%◌, ◌<◌, ◌&&◌, ◌==◌, Bool, List, length, sym, ap, subst, ◌∙◌, inl, inr, arith, get_or-set_same, get_or-set_other, not, if◌then◌else◌, slice_set}
 use Rattle.std.proofs.lemmas.Bool.{cases_eq}
 use Rattle.design_netlist.specs.declared.netlist_data.Cover.{Cover}
-use Rattle.design_netlist.specs.Covers.{truth}
-use Rattle.design_netlist.specs.Lanes.{is_bit, lane_bits}
-use Rattle.design_netlist.specs.Valuations.{number_at, bit_at}
+use Rattle.design_netlist.specs.Vocabulary.{truth, is_bit, lane_bits, number_at, bit_at}
 use Rattle.design_netlist.proofs.LaneLemmas.{lane-at}
 use Rattle.design_netlist.proofs.ValuationLemmas.{same_truth}
 use Rattle.design_equal.specs.declared.graph.Graph.{Graph}

@@ -2,9 +2,7 @@
 use Rattle.std.specs.Prelude.{ℕ, ◌≡◌, ◌⊎◌, ◌==◌, ◌<◌, ◌+◌, ◌*◌, List, Bool, length, map, slice_index_or}
 use Rattle.design_netlist.specs.declared.netlist_data.NetlistData.{NetlistData}
 use Rattle.design_netlist.specs.declared.netlist_data.LatchDef.{LatchDef}
-use Rattle.design_netlist.specs.Covers.{cover_at, truth}
-use Rattle.design_netlist.specs.Drafts.{signal_at, IsDriven}
-use Rattle.design_netlist.specs.Words.{latch_at}
+use Rattle.design_netlist.specs.Vocabulary.{cover_at, truth, signal_at, IsDriven, latch_at}
 use Rattle.design_equal.specs.declared.graph.Graph.{Graph}
 use Rattle.design_equal.specs.Graphs.{IsGraph, IsValued, first_latch, graph_latch_at, literal_in, node_count, node_of}
 

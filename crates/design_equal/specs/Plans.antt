@@ -1,9 +1,7 @@
 -- How the word of a cover's output follows from those of its inputs: steps, each of which has the word of a node.
 use Rattle.std.specs.Prelude.{ℕ, ◌≡◌, ◌<◌, ◌≤◌, ◌+◌, ◌-◌, ◌%◌, List, Bool, length, slice_index_or, if◌then◌else◌, nat_lt}
 use Rattle.design_netlist.specs.declared.netlist_data.Cover.{Cover}
-use Rattle.design_netlist.specs.Covers.{truth}
-use Rattle.design_netlist.specs.Lanes.{is_bit}
-use Rattle.design_netlist.specs.Valuations.{number_at}
+use Rattle.design_netlist.specs.Vocabulary.{truth, is_bit, number_at}
 use Rattle.design_equal.specs.declared.graph.Graph.{Graph}
 use Rattle.design_equal.specs.declared.plan.Plan.{Plan}
 use Rattle.design_equal.specs.declared.plan.Source.{Source}

@@ -1,8 +1,7 @@
 //! The check of labels, and of two designs by their labels.
 
 ghost use Rattle.std.specs.Prelude.{◌≡◌, ◌<◌, ℕ, length, IfOk, IsTrue};
-ghost use Rattle.design_netlist.specs.Checks.{IsChecked};
-ghost use Rattle.design_netlist.specs.Covers.{cover_at, IsCoverOver};
+ghost use Rattle.design_netlist.specs.Vocabulary.{IsChecked, cover_at, IsCoverOver};
 ghost use Rattle.design_equal.specs.Graphs.{IsGraph};
 ghost use Rattle.design_equal.specs.Labels.{IsLabelled, DoAgree};
 ghost use Rattle.design_equal.specs.Plans.{IsMet};

@@ -2,8 +2,7 @@
 
 ghost use Rattle.std.specs.Prelude.{◌↔◌, ℕ, Bool, List};
 ghost use Rattle.design_netlist.specs.declared.netlist_data.NetlistData.{NetlistData};
-ghost use Rattle.design_netlist.specs.Checks.{IsChecked};
-ghost use Rattle.design_netlist.specs.Rows.{AreRows};
+ghost use Rattle.design_netlist.specs.Vocabulary.{IsChecked, AreRows};
 ghost use Rattle.design_equal.specs.declared.graph.Graph.{Graph};
 ghost use Rattle.design_equal.specs.Labels.{DoAgree};
 

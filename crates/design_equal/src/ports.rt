@@ -1,9 +1,7 @@
 //! Inputs, latches, outputs and signals without a driver, and their labels.
 
 ghost use Rattle.std.specs.Prelude.{◌≡◌, ◌<◌, ◌+◌, ◌*◌, ℕ, Bool, length, map, true, IfOk, IsTrue, slice_index_or};
-ghost use Rattle.design_netlist.specs.Drafts.{drive_words, signal_at, IsDriven};
-ghost use Rattle.design_netlist.specs.Valuations.{bit_at};
-ghost use Rattle.design_netlist.specs.Words.{latch_at, AreWithin};
+ghost use Rattle.design_netlist.specs.Vocabulary.{drive_words, signal_at, IsDriven, bit_at, latch_at, AreWithin};
 ghost use Rattle.design_equal.specs.Graphs.{node_of};
 ghost use Rattle.design_equal.specs.Labels.{label_at, IsLatchAt, IsLatchOf};
 

@@ -1,9 +1,7 @@
 //! The words of steps: each bit of them belongs to one choice of bits for the pins.
 
 ghost use Rattle.std.specs.Prelude.{◌≡◌, ◌<◌, ◌≤◌, ◌&&◌, ℕ, Bool, List, length, not, if◌then◌else◌};
-ghost use Rattle.design_netlist.specs.Lanes.{is_bit};
-ghost use Rattle.design_netlist.specs.Valuations.{number_at};
-ghost use Rattle.design_netlist.specs.Words.{AreBelow};
+ghost use Rattle.design_netlist.specs.Vocabulary.{is_bit, number_at, AreBelow};
 ghost use Rattle.design_equal.specs.declared.graph.Graph.{Graph};
 ghost use Rattle.design_equal.specs.declared.plan.Step.{Step};
 ghost use Rattle.design_equal.specs.Graphs.{literal_in};

@@ -1,6 +1,5 @@
 -- Bits that are written at signals, and read again.
-use Rattle.std.proofs.Common.{◌≡◌, ℕ, zero, suc, ◌+◌, ◌<◌, Bool, false, List, [], ◌∷◌, ◌++◌, length, take, get_or, map, refl, sym, ap, ◌∙◌, arith, get_or-set_same, get_or-set_other}
-use Rattle.std.specs.Prelude.{slice_set}
+use Rattle.std.proofs.Common.{◌≡◌, ℕ, zero, suc, ◌+◌, ◌<◌, Bool, false, List, [], ◌∷◌, ◌++◌, length, take, get_or, map, refl, sym, ap, ◌∙◌, arith, get_or-set_same, get_or-set_other, slice_set}
 use Rattle.std.proofs.lemmas.List.{length-set, set-set, set_comm, set-get_or, length-append, get_or-map, get_or_append_left, get_or-append-add}
 use Rattle.design_netlist.specs.Valuations.{bit_at}
 use Rattle.design_eval.specs.Bits.{bits_put, AreApart, AreBelow}

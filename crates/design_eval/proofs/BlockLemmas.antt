@@ -7,13 +7,10 @@ use Rattle.design_netlist.specs.declared.netlist_data.Cover.{Cover}
 use Rattle.design_netlist.specs.declared.netlist_data.NetlistData.{NetlistData}
 use Rattle.design_netlist.specs.declared.netlist_data.LatchDef.{LatchDef}
 use Rattle.design_netlist.specs.declared.netlist_data.PortDef.{PortDef}
-use Rattle.design_netlist.specs.Checks.{IsChecked}
-use Rattle.design_netlist.specs.Drafts.{IsDriven}
-use Rattle.design_netlist.specs.Valuations.{number_at, bit_at, IsSettled}
+use Rattle.design_netlist.specs.Vocabulary.{IsChecked, IsDriven, number_at, bit_at, IsSettled, is_bit, lane_bits}
 use Rattle.design_netlist.proofs.CheckLemmas.{cover_place, cover_signal}
 use Rattle.design_eval.specs.declared.block.Block.{Block}
 use Rattle.design_eval.specs.Blocks.{HaveKept, IsBlock, IsRowOf}
-use Rattle.design_netlist.specs.Lanes.{is_bit, lane_bits}
 use Rattle.design_netlist.proofs.LaneLemmas.{lane-at, no-bit}
 use Rattle.design_eval.proofs.RunLemmas.{signals, input-driven}
 

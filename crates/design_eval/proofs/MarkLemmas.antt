@@ -1,11 +1,9 @@
 -- Covers that are marked where an input changes.
-use Rattle.std.proofs.Common.{◌≡◌, ◌⊎◌, ℕ, ◌+◌, ◌<◌, ◌≤◌, Bool, true, false, List, [], length, take, refl, sym, ap, subst, ◌∙◌, inl, inr, arith, get_or-set_same, get_or-set_other}
-use Rattle.std.specs.Prelude.{slice_set, replicate}
+use Rattle.std.proofs.Common.{◌≡◌, ◌⊎◌, ℕ, ◌+◌, ◌<◌, ◌≤◌, Bool, true, false, List, [], length, take, refl, sym, ap, subst, ◌∙◌, inl, inr, arith, get_or-set_same, get_or-set_other, slice_set, replicate}
 use Rattle.std.proofs.lemmas.Bool.{cases_eq, cases_lt}
 use Rattle.std.proofs.lemmas.List.{set-get_or, get_or-take, length-take, length-take-le, take_all, get_or-replicate}
 use Rattle.design_netlist.specs.declared.netlist_data.Cover.{Cover}
-use Rattle.design_netlist.specs.Covers.{cover_at, truth}
-use Rattle.design_netlist.specs.Valuations.{number_at, bit_at, IsOrder, IsSettled}
+use Rattle.design_netlist.specs.Vocabulary.{cover_at, truth, number_at, bit_at, IsOrder, IsSettled}
 use Rattle.design_netlist.proofs.ValuationLemmas.{same_truth}
 use Rattle.design_eval.specs.declared.readers.Readers.{Readers}
 use Rattle.design_eval.specs.Readers.{IsListed, AreReaders, ins_at}

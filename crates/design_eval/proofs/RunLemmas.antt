@@ -1,6 +1,5 @@
 -- A vector and a state, written and settled, give a right valuation.
-use Rattle.std.proofs.Common.{◌≡◌, ◌⊎◌, ℕ, ◌+◌, ◌<◌, ◌≤◌, Bool, true, false, List, ◌++◌, length, take, get_or, map, sym, ap, subst, ◌∙◌, inl, inr, arith}
-use Rattle.std.specs.Prelude.{replicate}
+use Rattle.std.proofs.Common.{◌≡◌, ◌⊎◌, ℕ, ◌+◌, ◌<◌, ◌≤◌, Bool, true, false, List, ◌++◌, length, take, get_or, map, sym, ap, subst, ◌∙◌, inl, inr, arith, replicate}
 use Rattle.std.proofs.Math.Seq.{take-append_seam}
 use Rattle.std.proofs.lemmas.Bool.{cases_lt}
 use Rattle.std.specs.List.{flat_map}
@@ -10,11 +9,7 @@ use Rattle.design_netlist.specs.declared.netlist_data.Cover.{Cover}
 use Rattle.design_netlist.specs.declared.netlist_data.NetlistData.{NetlistData}
 use Rattle.design_netlist.specs.declared.netlist_data.LatchDef.{LatchDef}
 use Rattle.design_netlist.specs.declared.netlist_data.PortDef.{PortDef}
-use Rattle.design_netlist.specs.Covers.{no_cover, cover_at, IsCoverOver}
-use Rattle.design_netlist.specs.Drafts.{word, signal_at, cover_drive, latch_drive, cover_reads, latch_read, drive_words, reads_of, IsDriven}
-use Rattle.design_netlist.specs.Valuations.{number_at, bit_at, IsOrder, IsSettled}
-use Rattle.design_netlist.specs.Checks.{IsChecked}
-use Rattle.design_netlist.specs.Rows.{IsRightValuation}
+use Rattle.design_netlist.specs.Vocabulary.{no_cover, cover_at, IsCoverOver, word, signal_at, cover_drive, latch_drive, cover_reads, latch_read, drive_words, reads_of, IsDriven, number_at, bit_at, IsOrder, IsSettled, IsChecked, IsRightValuation}
 use Rattle.design_netlist.proofs.ListLemmas.{few_numbers}
 use Rattle.design_netlist.proofs.RightLemmas.{settled_is_right}
 use Rattle.design_netlist.proofs.ValuationLemmas.{map_same}

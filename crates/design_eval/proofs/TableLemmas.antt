@@ -1,16 +1,11 @@
 -- Covers as tables.
-use Rattle.std.proofs.Common.{◌≡◌, ◌⊎◌, ℕ, zero, suc, ◌+◌, ◌-◌, ◌*◌, ◌/◌, ◌%◌, ◌==◌, ◌<◌, ◌≤◌, Bool, true, false, List, [], ◌∷◌, ◌++◌, length, take, drop, get_or, map, refl, sym, ap, subst, ◌∙◌, inl, inr, arith}
-use Rattle.std.specs.Prelude.{if◌then◌else◌}
-use Rattle.std.proofs.lemmas.Bool.{cases_lt}
-use Rattle.std.specs.Prelude.{slice_set}
+use Rattle.std.proofs.Common.{◌≡◌, ◌⊎◌, ℕ, zero, suc, ◌+◌, ◌-◌, ◌*◌, ◌/◌, ◌%◌, ◌==◌, ◌<◌, ◌≤◌, Bool, true, false, List, [], ◌∷◌, ◌++◌, length, take, drop, get_or, map, refl, sym, ap, subst, ◌∙◌, inl, inr, arith, if◌then◌else◌, slice_set, get_or-set_same, get_or-set_other}
+use Rattle.std.proofs.lemmas.Bool.{cases_lt, cases_eq}
 use Rattle.std.specs.Int.{from_bool}
-use Rattle.std.proofs.lemmas.Bool.{cases_eq}
 use Rattle.std.proofs.lemmas.List.{take-map, get_or-take, length-take, drop_more, drop_all, length-drop, take_more, take_more_set, get_or_default}
-use Rattle.std.proofs.Common.{get_or-set_same, get_or-set_other}
 use Rattle.design_netlist.specs.declared.netlist_data.Cover.{Cover}
 use Rattle.design_netlist.specs.declared.netlist_data.Lit.{Lit}
-use Rattle.design_netlist.specs.Covers.{no_cover, cover_at, truth, IsCoverOver, cover_of}
-use Rattle.design_netlist.specs.Valuations.{bit_at}
+use Rattle.design_netlist.specs.Vocabulary.{no_cover, cover_at, truth, IsCoverOver, cover_of, bit_at}
 use Rattle.design_netlist.proofs.BitLemmas.{halved, lowest}
 use Rattle.design_eval.specs.Bits.{AreBelow}
 use Rattle.design_eval.specs.Lanes.{addresses}

@@ -1,12 +1,10 @@
 -- Covers in their turns.
-use Rattle.std.proofs.Common.{◌≡◌, ℕ, ◌+◌, ◌<◌, ◌≤◌, Bool, List, [], ◌∷◌, ◌++◌, None, length, take, map, sym, ap, subst, ◌∙◌, arith}
+use Rattle.std.proofs.Common.{◌≡◌, ℕ, ◌+◌, ◌<◌, ◌≤◌, Bool, List, [], ◌∷◌, ◌++◌, None, length, take, map, sym, ap, subst, ◌∙◌, arith, slice_set}
 use Rattle.std.proofs.lemmas.List.{length-map, map-append, get_or-map, take_more, take_all}
 use Rattle.design_netlist.specs.declared.netlist_data.Cover.{Cover}
-use Rattle.design_netlist.specs.Covers.{no_cover, cover_at, truth, IsCoverOver}
-use Rattle.design_netlist.specs.Valuations.{number_at, bit_at, IsOrder, IsSettled, IsSettledTo}
+use Rattle.design_netlist.specs.Vocabulary.{no_cover, cover_at, truth, IsCoverOver, number_at, bit_at, IsOrder, IsSettled, IsSettledTo}
 use Rattle.design_netlist.proofs.EvalLemmas.{settle_more, settle_all}
 use Rattle.design_netlist.proofs.CheckLemmas.{few_covers}
-use Rattle.std.specs.Prelude.{slice_set}
 use Rattle.design_eval.specs.declared.turns.Turn.{Turn}
 use Rattle.design_eval.specs.Turns.{turn_at, places, IsTurn, AreTurns}
 

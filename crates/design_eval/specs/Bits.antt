@@ -1,8 +1,7 @@
 -- Bits of signals, in a list by their numbers, and what is kept of a design between two vectors.
 use Rattle.std.specs.Prelude.{◌≡◌, ℕ, ◌<◌, List, [], ◌∷◌, Bool, false, length, map, slice_set, slice_index_or}
 use Rattle.design_netlist.specs.declared.netlist_data.NetlistData.{NetlistData}
-use Rattle.design_netlist.specs.Drafts.{IsDriven}
-use Rattle.design_netlist.specs.Valuations.{bit_at}
+use Rattle.design_netlist.specs.Vocabulary.{IsDriven, bit_at}
 use Rattle.design_eval.specs.declared.wiring.Wiring.{Wiring}
 
 -- the list with these bits at these signals

@@ -1,11 +1,9 @@
 -- Vectors that are evaluated at once, each in a lane of its own.
 use Rattle.std.specs.Prelude.{◌≡◌, ℕ, ◌<◌, ◌≤◌, List, Bool, false, length}
 use Rattle.design_netlist.specs.declared.netlist_data.NetlistData.{NetlistData}
-use Rattle.design_netlist.specs.Drafts.{IsDriven}
-use Rattle.design_netlist.specs.Valuations.{number_at, bit_at}
+use Rattle.design_netlist.specs.Vocabulary.{IsDriven, number_at, bit_at, lane_bits}
 use Rattle.design_eval.specs.declared.block.Block.{Block}
 use Rattle.design_eval.specs.Evals.{EvalState, IsStep}
-use Rattle.design_netlist.specs.Lanes.{lane_bits}
 use Rattle.design_eval.specs.Plans.{AllHold}
 
 -- the words of all signals but these are as they were

@@ -1,8 +1,7 @@
 -- Covers that are marked: an input may have changed since they were evaluated.
 use Rattle.std.specs.Prelude.{◌≡◌, ℕ, ◌+◌, ◌<◌, ◌≤◌, List, Bool, false, true, length, slice_set}
 use Rattle.design_netlist.specs.declared.netlist_data.Cover.{Cover}
-use Rattle.design_netlist.specs.Covers.{cover_at, truth}
-use Rattle.design_netlist.specs.Valuations.{number_at, bit_at}
+use Rattle.design_netlist.specs.Vocabulary.{cover_at, truth, number_at, bit_at}
 use Rattle.design_eval.specs.declared.readers.Readers.{Readers}
 use Rattle.design_eval.specs.Readers.{IsListed, AreListed, AreReaders}
 

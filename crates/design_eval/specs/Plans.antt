@@ -1,8 +1,7 @@
 -- What is known of a design before it is run, and what is kept of its covers.
 use Rattle.std.specs.Prelude.{◌≡◌, ℕ, ◌+◌, ◌<◌, ◌≤◌, List, Bool, length}
 use Rattle.design_netlist.specs.declared.netlist_data.NetlistData.{NetlistData}
-use Rattle.design_netlist.specs.Covers.{cover_at, truth}
-use Rattle.design_netlist.specs.Valuations.{bit_at}
+use Rattle.design_netlist.specs.Vocabulary.{cover_at, truth, bit_at}
 use Rattle.design_eval.specs.declared.plan.Plan.{Plan}
 use Rattle.design_eval.specs.Bits.{IsWiring}
 use Rattle.design_eval.specs.Turns.{AreTurns, places}

@@ -1,8 +1,7 @@
 -- The covers in the order in which they are evaluated.
 use Rattle.std.specs.Prelude.{◌≡◌, ℕ, ◌<◌, List, None, length, map, slice_index_or}
 use Rattle.design_netlist.specs.declared.netlist_data.Cover.{Cover}
-use Rattle.design_netlist.specs.Covers.{cover_at}
-use Rattle.design_netlist.specs.Valuations.{IsOrder}
+use Rattle.design_netlist.specs.Vocabulary.{cover_at, IsOrder}
 use Rattle.design_eval.specs.declared.turns.Turn.{Turn}
 use Rattle.design_eval.specs.Tables.{IsTableOf}
 

@@ -1,9 +1,8 @@
 //! Words of which each bit belongs to a vector of its own: all bits at one place of the signals' words are a lane.
 
 ghost use Rattle.std.specs.Prelude.{◌≡◌, ◌<◌, true, length, map};
-ghost use Rattle.design_netlist.specs.Valuations.{bit_at};
+ghost use Rattle.design_netlist.specs.Vocabulary.{bit_at, is_bit, lane_bits};
 ghost use Rattle.design_eval.specs.Bits.{AreBelow};
-ghost use Rattle.design_netlist.specs.Lanes.{is_bit, lane_bits};
 
 /// How many lanes a word has.
 pub const LANES: u32 = 64;

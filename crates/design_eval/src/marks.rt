@@ -1,8 +1,7 @@
 //! Covers that are marked, and evaluated only then.
 
 ghost use Rattle.std.specs.Prelude.{◌≡◌, ◌+◌, ◌<◌, ◌≤◌, ℕ, false, true, length};
-ghost use Rattle.design_netlist.specs.Covers.{cover_at, IsCoverOver};
-ghost use Rattle.design_netlist.specs.Valuations.{bit_at, number_at, IsSettled};
+ghost use Rattle.design_netlist.specs.Vocabulary.{cover_at, IsCoverOver, bit_at, number_at, IsSettled};
 ghost use Rattle.design_eval.specs.Bits.{bits_put, AreBelow};
 ghost use Rattle.design_eval.specs.Turns.{AreTurns, places};
 ghost use Rattle.design_eval.specs.Smalls.{AreQuick};

@@ -1,8 +1,7 @@
 //! Covers of few inputs as tables.
 
 ghost use Rattle.std.specs.Prelude.{◌≡◌, ◌<◌, ℕ, [], false, length, take, slice_index_or, IfOk};
-ghost use Rattle.design_netlist.specs.Covers.{cover_at, truth, IsCoverOver};
-ghost use Rattle.design_netlist.specs.Valuations.{bit_at};
+ghost use Rattle.design_netlist.specs.Vocabulary.{cover_at, truth, IsCoverOver, bit_at};
 ghost use Rattle.design_eval.specs.Bits.{AreBelow};
 ghost use Rattle.design_eval.specs.Tables.{address};
 ghost use Rattle.design_eval.specs.Turns.{IsTurn, AreTurns};

@@ -1,9 +1,8 @@
 //! The truths of a cover in all lanes at once, by its table.
 
 ghost use Rattle.std.specs.Prelude.{◌≡◌, ◌+◌, ◌*◌, ◌<◌, ◌≤◌, ℕ, true, false, length, take, slice_index_or};
-ghost use Rattle.design_netlist.specs.Valuations.{number_at, bit_at};
+ghost use Rattle.design_netlist.specs.Vocabulary.{number_at, bit_at, is_bit, lane_bits};
 ghost use Rattle.design_eval.specs.Bits.{AreBelow};
-ghost use Rattle.design_netlist.specs.Lanes.{is_bit, lane_bits};
 ghost use Rattle.design_eval.specs.Lanes.{chosen, addresses};
 ghost use Rattle.design_eval.specs.Tables.{address};
 

@@ -1,8 +1,7 @@
 //! The covers in the order in which they are evaluated.
 
 ghost use Rattle.std.specs.Prelude.{◌≡◌, ◌<◌, ℕ, length, IfOk};
-ghost use Rattle.design_netlist.specs.Covers.{cover_at, truth, IsCoverOver};
-ghost use Rattle.design_netlist.specs.Valuations.{bit_at, IsOrder, IsSettled};
+ghost use Rattle.design_netlist.specs.Vocabulary.{cover_at, truth, IsCoverOver, bit_at, IsOrder, IsSettled};
 ghost use Rattle.design_eval.specs.Turns.{IsTurn, AreTurns};
 
 use crate::tables::{Table, address_of, table_of};

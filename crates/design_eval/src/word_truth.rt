@@ -1,9 +1,7 @@
 //! The truths of a cover in all lanes at once.
 
 ghost use Rattle.std.specs.Prelude.{◌≡◌, ◌<◌, ℕ, length};
-ghost use Rattle.design_netlist.specs.Covers.{truth, cover_at, IsCoverOver};
-ghost use Rattle.design_netlist.specs.Valuations.{number_at, bit_at, IsSettled};
-ghost use Rattle.design_netlist.specs.Lanes.{is_bit, lane_bits};
+ghost use Rattle.design_netlist.specs.Vocabulary.{truth, cover_at, IsCoverOver, number_at, bit_at, IsSettled, is_bit, lane_bits};
 ghost use Rattle.design_eval.specs.Tables.{IsTable};
 ghost use Rattle.design_eval.specs.Turns.{IsTurn, AreTurns};
 

@@ -9,13 +9,7 @@ use Rattle.design_flatten.specs.declared.model.PairDef.{PairDef}
 use Rattle.design_flatten.specs.declared.bodies.Body.{Body}
 use Rattle.design_flatten.specs.declared.bodies.Bodies.{Bodies}
 use Rattle.design_flatten.specs.declared.bodies.Lean.{Lean}
-use Rattle.design_flatten.specs.Lines.{no_model, Pair, Part, InputPart, OutputPart, CoverPart, LatchPart, UsePart, is_use, pair_of}
-use Rattle.design_flatten.specs.Ordered.{part_in, line_in}
-use Rattle.design_flatten.specs.Needs.{names_within, needed_defs}
-use Rattle.design_flatten.specs.Substitution.{model_named}
-use Rattle.design_flatten.specs.Uses.{is_among}
-use Rattle.design_flatten.specs.UseLines.{names_of}
-use Rattle.design_flatten.specs.Bodies.{with_pairs, lean_in, body_at, IsBodyOf, IsBodyAt, AreBodies}
+use Rattle.design_flatten.specs.Vocabulary.{no_model, Pair, Part, InputPart, OutputPart, CoverPart, LatchPart, UsePart, is_use, pair_of, part_in, line_in, names_within, needed_defs, model_named, is_among, names_of, with_pairs, lean_in, body_at, IsBodyOf, IsBodyAt, AreBodies}
 use Rattle.design_flatten.proofs.NameLemmas.{name_is}
 use Rattle.design_flatten.proofs.UseLemmas.{known_named, new_named, none_named, name_push, swapped}
 

@@ -12,11 +12,8 @@ use Rattle.design_netlist.proofs.OrderLemmas.{first_more, first_all}
 use Rattle.design_flatten.specs.declared.model.Signal.{Signal}
 use Rattle.design_flatten.specs.declared.clocks.Clock.{Clock}
 use Rattle.design_flatten.specs.declared.clocks.Clocks.{Clocks}
-use Rattle.design_flatten.specs.Lines.{Control, GivenControl, NamedControl}
-use Rattle.design_flatten.specs.Signals.{same_signal}
-use Rattle.design_flatten.specs.Netlists.{Clocked, no_control, control_is, control_at, AreOneControl}
-use Rattle.design_flatten.specs.Faults.{IsOtherControl, IsFirstOther}
-use Rattle.design_flatten.specs.Clocks.{same_control, clocked_in, control_in, number_in, place_in, at_name, IsUnlike, IsFirstUnlike, IsFirstClock, AreFirstClocks, AreClocks, nearer_line, other_with, earlier_clock, IsControlAnswer}
+use Rattle.design_flatten.specs.Vocabulary.{Control, GivenControl, NamedControl, same_signal, Clocked, no_control, control_is, control_at, AreOneControl, IsOtherControl, IsFirstOther, same_control, clocked_in, control_in, place_in, at_name, IsUnlike, IsFirstUnlike, IsFirstClock, AreFirstClocks, AreClocks, nearer_line, other_with, earlier_clock, IsControlAnswer}
+use Rattle.design_flatten.specs.Clocks.{number_in}
 use Rattle.design_flatten.proofs.FirstLemmas.{before_before, before_to, first_to}
 use Rattle.design_flatten.proofs.KnownLemmas.{same_self, place_stays}
 use Rattle.design_flatten.proofs.NameLemmas.{name_is, same_name}

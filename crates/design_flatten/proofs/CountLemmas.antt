@@ -6,16 +6,11 @@ use Rattle.design_netlist.specs.declared.netlist_data.NetlistData.{NetlistData}
 use Rattle.design_netlist.specs.declared.netlist_data.Cover.{Cover}
 use Rattle.design_netlist.specs.declared.netlist_data.LatchDef.{LatchDef}
 use Rattle.design_netlist.specs.declared.netlist_data.PortDef.{PortDef}
-use Rattle.design_netlist.specs.Orders.{IsBefore}
-use Rattle.design_netlist.specs.Drafts.{word, signal_at, line_at, cover_drive, latch_drive, cover_reads, latch_read, drive_words, reads_of}
-use Rattle.design_netlist.specs.Checks.{IsDoubledIn}
+use Rattle.design_netlist.specs.Vocabulary.{IsBefore, word, signal_at, line_at, cover_drive, latch_drive, cover_reads, latch_read, drive_words, reads_of, IsDoubledIn}
 use Rattle.design_netlist.proofs.OrderLemmas.{not_itself}
 use Rattle.design_flatten.specs.declared.model.Signal.{Signal}
 use Rattle.design_flatten.specs.declared.model.Model.{Model}
-use Rattle.design_flatten.specs.Lines.{Part, InputPart, OutputPart, CoverPart, LatchPart, UsePart, Line}
-use Rattle.design_flatten.specs.Signals.{signal_number, signals_of}
-use Rattle.design_flatten.specs.Netlists.{input_on, output_on, cover_on, latch_on, IsReadFrom}
-use Rattle.design_flatten.specs.Words.{drive_on, read_on, drives_in, reads_in, IsUndrivenIn}
+use Rattle.design_flatten.specs.Vocabulary.{Part, InputPart, OutputPart, CoverPart, LatchPart, UsePart, Line, signal_number, signals_of, input_on, output_on, cover_on, latch_on, IsReadFrom, drive_on, read_on, drives_in, reads_in, IsUndrivenIn}
 
 abbrev has : ℕ → PortDef → ℕ
 has s w = cond (eqb w.signal s) 1 0

@@ -8,10 +8,8 @@ use Rattle.design_flatten.specs.declared.model.Model.{Model}
 use Rattle.design_flatten.specs.declared.model.Piece.{Piece}
 use Rattle.design_flatten.specs.declared.model.Piece.TheVariants as piece
 use Rattle.design_flatten.specs.declared.model.Signal.{Signal}
-use Rattle.design_flatten.specs.InOrder.{put_in_order, in_order}
-use Rattle.design_flatten.specs.Lines.{Part, InputPart, OutputPart, CoverPart, LatchPart, UsePart, Line, input_line, output_line, piece_line, ordered_lines, number_of_line, with_place, next_place, with_places, lines_of_model, is_port, RowsFit, PiecesFit, HaveRightRows}
+use Rattle.design_flatten.specs.Vocabulary.{put_in_order, in_order, Part, InputPart, OutputPart, CoverPart, LatchPart, UsePart, Line, input_line, output_line, piece_line, ordered_lines, number_of_line, with_place, next_place, with_places, lines_of_model, is_port, RowsFit, PiecesFit, HaveRightRows, ModelPlace, given, becomes, through, part_through, lines_at, without_ports, first_model, model_named, replace, replace_first, at_first, after}
 use Rattle.design_flatten.proofs.OrderLemmas.{Each, each_in_order}
-use Rattle.design_flatten.specs.Substitution.{ModelPlace, given, becomes, through, part_through, lines_at, without_ports, first_model, model_named, replace, replace_first, at_first, after}
 
 -- ---- rows
 

@@ -5,13 +5,9 @@ use Rattle.std.specs.Option.{option_or}
 use Rattle.std.proofs.Math.Seq.{drop-cons}
 use Rattle.std.proofs.Math.Bool.{or_comm}
 use Rattle.design_flatten.specs.declared.model.PairDef.{PairDef}
-use Rattle.design_flatten.specs.Lines.{pair_of}
+use Rattle.design_flatten.specs.Vocabulary.{pair_of, is_among, port_names, input_names, first_wrong, first_missing, with_name, with_names, formals_in}
 use Rattle.design_flatten.specs.declared.model.Model.{Model}
-use Rattle.design_flatten.specs.Uses.{is_among, port_names, input_names}
-use Rattle.design_flatten.specs.UseFaults.{first_wrong, first_missing}
 use Rattle.std.proofs.lemmas.List.{take_more, map-append}
-use Rattle.design_flatten.specs.NameSets.{with_name, with_names}
-use Rattle.design_flatten.specs.UseLines.{formals_in}
 use Rattle.design_flatten.proofs.NameLemmas.{among-push, among_set, with_names-append}
 
 -- lists with the same names have the same wrong formal

@@ -9,9 +9,7 @@ use Rattle.design_flatten.specs.declared.model.Signal.{Signal}
 use Rattle.std.proofs.lemmas.List.{append-nil}
 use Rattle.std.proofs.lemmas.List.Concat.{flat_map-append}
 use Rattle.design_netlist.specs.Drafts.{word}
-use Rattle.design_flatten.specs.Lines.{Part, InputPart, OutputPart, CoverPart, LatchPart, UsePart, Line}
-use Rattle.design_flatten.specs.Signals.{same_signal, with_signal, with_signals, signal_number, words_in, words_on, signals_of}
-use Rattle.design_flatten.specs.Words.{drive_on, drives_in}
+use Rattle.design_flatten.specs.Vocabulary.{Part, InputPart, OutputPart, CoverPart, LatchPart, UsePart, Line, same_signal, with_signal, with_signals, signal_number, words_in, words_on, signals_of, drive_on, drives_in}
 use Rattle.design_flatten.proofs.SignalsLemmas.{signals_one}
 
 -- a place that is known stays

@@ -15,19 +15,10 @@ use Rattle.design_flatten.specs.declared.refusal.Refusal.{Refusal}
 use Rattle.design_flatten.specs.declared.refusal.Refusal.TheVariants.{Memory, Limit}
 use Rattle.design_flatten.specs.declared.work.Substituted.{Substituted}
 use Rattle.design_flatten.specs.declared.work.Origin.{Origin as Kept}
-use Rattle.design_flatten.specs.InOrder.{in_order}
-use Rattle.design_flatten.specs.Lines.{Control, GivenControl, NamedControl, Pair, Part, InputPart, OutputPart, CoverPart, LatchPart, UsePart, Line, is_use, pair_of, input_line, output_line, piece_line, ordered_lines, number_of_line, with_place, next_place, with_places}
-use Rattle.design_flatten.specs.Substitution.{given, ModelPlace, becomes, control_becomes, pair_through, through, part_through, lines_at, at_first, first_model, without_ports, model_named, replace_first, after, is_left}
-use Rattle.design_flatten.specs.Uses.{is_among}
-use Rattle.design_flatten.specs.Netlists.{Origin, first_use, origin_of}
-use Rattle.design_flatten.specs.Frames.{way_to}
-use Rattle.design_flatten.specs.Sinks.{IsSink}
-use Rattle.design_flatten.specs.Origins.{IsOrigin, replaced_in, IsSubstitution, IsRefused}
-use Rattle.design_flatten.specs.Needs.{names_on, names_within, is_needed, lean_part, lean_line, lean_piece, lean_model, lean_models}
+use Rattle.design_flatten.specs.Vocabulary.{in_order, Control, GivenControl, NamedControl, Pair, Part, InputPart, OutputPart, CoverPart, LatchPart, UsePart, Line, is_use, pair_of, input_line, output_line, piece_line, ordered_lines, number_of_line, with_place, next_place, with_places, given, ModelPlace, becomes, control_becomes, pair_through, through, part_through, lines_at, at_first, first_model, without_ports, model_named, replace_first, after, is_left, is_among, Origin, first_use, origin_of, way_to, IsSink, IsOrigin, replaced_in, IsSubstitution, IsRefused, names_on, names_within, is_needed, lean_part, lean_line, lean_piece, lean_model, lean_models}
 use Rattle.design_flatten.proofs.NameLemmas.{name_is, same_name}
 use Rattle.design_flatten.proofs.FrameLemmas.{pieces_at}
-use Rattle.design_flatten.proofs.OrderLemmas.{in_order-map}
-use Rattle.design_flatten.proofs.OrderLemmas.{Each, each_in_order}
+use Rattle.design_flatten.proofs.OrderLemmas.{in_order-map, Each, each_in_order}
 
 abbrev line_at : {S : Type 0} → ℕ → Part S → Line S
 line_at n p = record { number = n; part = p }

@@ -6,17 +6,13 @@ use Rattle.std.proofs.lemmas.Bool.{cases_eq}
 use Rattle.std.proofs.lemmas.List.{length-set, get_or_append_left, get_or_push, length_push}
 use Rattle.std.proofs.lemmas.List.Elements.{Contains-get_or, Contains-push, Contains-push_cases, Contains-append_left}
 use Rattle.design_netlist.specs.declared.netlist_data.Cover.{Cover}
-use Rattle.design_netlist.specs.Covers.{no_cover, cover_at, Reads, Reaches as Leads, here as at_once, onward as through}
-use Rattle.design_netlist.specs.Groups.{AreGroups}
+use Rattle.design_netlist.specs.Vocabulary.{no_cover, cover_at, Reads, Reaches as Leads, here as at_once, onward as through, AreGroups}
 use Rattle.design_netlist.proofs.OrderLemmas.{first_same}
 use Rattle.design_flatten.specs.declared.model.Model.{Model}
-use Rattle.design_flatten.specs.Uses.{Use, use_at, uses_of, is_among, LeadsToModel, here, onward, IsRecursive}
-use Rattle.design_flatten.specs.UseFaults.{IsFirstUse}
+use Rattle.design_flatten.specs.Vocabulary.{Use, use_at, uses_of, is_among, LeadsToModel, here, onward, IsRecursive, IsFirstUse, use_in, listed, IsFirstListed, with_name, HaveNames, AreBare, with_input, AreLinked, group_at}
 use Rattle.design_flatten.specs.declared.uses.UseLine.{UseLine}
-use Rattle.design_flatten.specs.UseLines.{use_in, listed, IsFirstListed}
 use Rattle.design_flatten.proofs.UseLemmas.{listed_is}
-use Rattle.design_flatten.specs.NameSets.{with_name, number_in}
-use Rattle.design_flatten.specs.Links.{HaveNames, AreBare, with_input, AreLinked, group_at}
+use Rattle.design_flatten.specs.NameSets.{number_in}
 use Rattle.design_flatten.proofs.NameLemmas.{name_is, still_among, now_among}
 
 -- ---- numbers of names

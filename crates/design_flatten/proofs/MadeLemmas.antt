@@ -9,17 +9,11 @@ use Rattle.design_netlist.specs.declared.netlist_data.NetlistData.{NetlistData}
 use Rattle.design_netlist.specs.declared.netlist_data.Cover.{Cover}
 use Rattle.design_netlist.specs.declared.netlist_data.LatchDef.{LatchDef}
 use Rattle.design_netlist.specs.declared.netlist_data.PortDef.{PortDef}
-use Rattle.design_netlist.specs.Covers.{cover_at, no_cover, IsCoverOver}
-use Rattle.design_netlist.specs.Drafts.{word, word_at, cover_characters, IsWellMade}
-use Rattle.design_netlist.specs.Words.{latch_at}
+use Rattle.design_netlist.specs.Vocabulary.{cover_at, no_cover, IsCoverOver, word, word_at, cover_characters, IsWellMade, latch_at}
 use Rattle.design_netlist.proofs.MadeLemmas.{made_of}
 use Rattle.design_flatten.specs.declared.model.Model.{Model}
 use Rattle.design_flatten.specs.declared.model.Signal.{Signal}
-use Rattle.design_flatten.specs.Lines.{Part, InputPart, OutputPart, CoverPart, LatchPart, UsePart, Line, HaveRightRows}
-use Rattle.design_flatten.specs.Substitution.{first_model}
-use Rattle.design_flatten.specs.Signals.{signal_number, words_in, words_on, signals_of, size_in, size_of, is_over}
-use Rattle.design_flatten.specs.Netlists.{printed, input_on, output_on, cover_on, latch_on, IsReadFrom, IsWithin}
-use Rattle.design_flatten.specs.Words.{drive_on, read_on, drives_in, reads_in}
+use Rattle.design_flatten.specs.Vocabulary.{Part, InputPart, OutputPart, CoverPart, LatchPart, UsePart, Line, HaveRightRows, first_model, signal_number, words_in, words_on, signals_of, size_in, size_of, is_over, printed, input_on, output_on, cover_on, latch_on, IsReadFrom, IsWithin, drive_on, read_on, drives_in, reads_in}
 use Rattle.design_flatten.proofs.KnownLemmas.{IsKnown, AreKnown, number_below, lines_known, known_split, numbers_below}
 use Rattle.design_flatten.proofs.FitLemmas.{PartFits, LinesFit, lines_fit, rows_at, count_outputs, outputs_are}
 

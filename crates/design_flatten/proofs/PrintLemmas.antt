@@ -8,11 +8,7 @@ use Rattle.std.specs.Fmt.{decimal}
 use Rattle.design_flatten.specs.declared.model.Model.{Model}
 use Rattle.design_flatten.specs.declared.model.Signal.{Signal}
 use Rattle.design_flatten.specs.declared.work.Origin.{Origin as Kept}
-use Rattle.design_flatten.specs.Lines.{Part, InputPart, OutputPart, CoverPart, LatchPart, UsePart, Line, is_use}
-use Rattle.design_flatten.specs.Substitution.{first_model, after, is_left, IsSubstituted}
-use Rattle.design_flatten.specs.Netlists.{first_use, origin_of, printed, printed_way}
-use Rattle.design_flatten.specs.Frames.{way_to}
-use Rattle.design_flatten.specs.Origins.{IsOrigin, AreOrigins, AreAllOrigins, AreWays, step_to, shared_as}
+use Rattle.design_flatten.specs.Vocabulary.{Part, InputPart, OutputPart, CoverPart, LatchPart, UsePart, Line, is_use, first_model, after, is_left, IsSubstituted, first_use, origin_of, printed, printed_way, way_to, IsOrigin, AreOrigins, AreAllOrigins, AreWays, step_to, shared_as}
 use Rattle.design_flatten.proofs.SubstitutionLemmas.{stays_after}
 
 way_push : (way : List ℕ) (place : ℕ) → printed_way (way ++ place ∷ []) ≡ printed_way way ++ decimal place ++ 47 ∷ []

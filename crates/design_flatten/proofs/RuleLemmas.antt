@@ -1,6 +1,5 @@
 -- The rules on lines that use models are kept exactly where no line has a fault.
-use Rattle.std.proofs.Common.{◌≡◌, ℕ, suc, Bool, true, false, not, cond, ◌||◌, List, [], ◌∷◌, Option, Some, None, map, refl, sym, arith}
-use Rattle.std.specs.Prelude.{IsSome}
+use Rattle.std.proofs.Common.{◌≡◌, ℕ, suc, Bool, true, false, not, cond, ◌||◌, List, [], ◌∷◌, Option, Some, None, map, refl, sym, arith, IsSome}
 use Rattle.std.specs.List.{All, AllPairs}
 use Rattle.std.specs.Option.{option_or}
 use Rattle.std.specs.Str.{bytes_eq}
@@ -9,10 +8,7 @@ use Rattle.std.proofs.lemmas.List.Elements.{All-nil, All-cons, All-head, All-tai
 use Rattle.std.proofs.lemmas.List.Kept.{AllPairs-cons}
 use Rattle.std.proofs.lemmas.Slice.Eq.{bytes_eq-Decides}
 use Rattle.design_flatten.specs.declared.model.Model.{Model}
-use Rattle.design_flatten.specs.Lines.{Pair}
-use Rattle.design_flatten.specs.Substitution.{model_named}
-use Rattle.design_flatten.specs.Uses.{use_at, is_among, input_names, port_names, formals_of, IsRightlyGiven, IsRecursive, KeepsRules}
-use Rattle.design_flatten.specs.UseFaults.{IsUnknown, first_wrong, first_missing, formal_fault, wrong_formal, IsWronglyGiven, IsFirstUse}
+use Rattle.design_flatten.specs.Vocabulary.{Pair, model_named, use_at, is_among, input_names, port_names, formals_of, IsRightlyGiven, IsRecursive, KeepsRules, IsUnknown, first_wrong, first_missing, formal_fault, wrong_formal, IsWronglyGiven, IsFirstUse}
 
 abbrev Differ : List ℕ → List ℕ → Type 0
 Differ f g = f ≡ g → ⊥

@@ -8,9 +8,7 @@ use Rattle.std.proofs.Math.Bool.{or-true}
 use Rattle.design_flatten.specs.declared.model.Signal.{Signal}
 use Rattle.design_flatten.specs.declared.refusal.Refusal.{Refusal}
 use Rattle.design_flatten.specs.declared.refusal.Refusal.TheVariants.{Memory, Limit}
-use Rattle.design_flatten.specs.Lines.{Line}
-use Rattle.design_flatten.specs.Refusals.{IsPast, IsOver}
-use Rattle.design_flatten.specs.Signals.{same_signal, with_signal, with_signals, words_on, signals_of, size_in, size_of, is_over, signal_number}
+use Rattle.design_flatten.specs.Vocabulary.{Line, IsPast, IsOver, same_signal, with_signal, with_signals, words_on, signals_of, size_in, size_of, is_over, signal_number}
 
 with_signal-longer : (signals : List Signal) (s : Signal) → length signals ≤ length (with_signal signals s)
 with_signal-longer signals s = by (list_any (same_signal s) signals)

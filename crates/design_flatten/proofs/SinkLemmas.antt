@@ -8,15 +8,7 @@ use Rattle.design_flatten.specs.declared.placed.Placed.{Placed}
 use Rattle.design_flatten.specs.declared.refusal.Refusal.{Refusal}
 use Rattle.design_flatten.specs.declared.refusal.Refusal.TheVariants.{Memory, Limit}
 use Rattle.design_flatten.specs.declared.sink.Sink.{Sink}
-use Rattle.design_flatten.specs.Lines.{Line}
-use Rattle.design_flatten.specs.Netlists.{Clocked, control_on}
-use Rattle.design_flatten.specs.Placed.{part_of, placed_line}
-use Rattle.design_flatten.specs.Signals.{with_signals, words_in, words_on, size_in, signals_of, size_of}
-use Rattle.design_flatten.specs.Words.{drive_on, drives_in}
-use Rattle.design_flatten.specs.Clocks.{AreClocks}
-use Rattle.design_flatten.specs.Drives.{AreDrives}
-use Rattle.design_flatten.specs.Refusals.{IsPast}
-use Rattle.design_flatten.specs.Sinks.{IsPut, IsOverWith}
+use Rattle.design_flatten.specs.Vocabulary.{Line, Clocked, control_on, part_of, placed_line, with_signals, words_in, words_on, size_in, signals_of, size_of, drive_on, drives_in, AreClocks, AreDrives, IsPast, IsPut, IsOverWith}
 use Rattle.design_flatten.proofs.SignalsLemmas.{signals_one, size_one, past_size, past_line}
 use Rattle.design_flatten.proofs.KnownLemmas.{flat_one, drives_one}
 use Rattle.design_flatten.proofs.WorkLemmas.{left_after, none_in}

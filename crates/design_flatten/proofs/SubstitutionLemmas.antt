@@ -4,9 +4,7 @@ use Rattle.std.proofs.lemmas.Bool.{cases_lt}
 use Rattle.design_netlist.specs.declared.netlist_data.NetlistData.{NetlistData}
 use Rattle.design_flatten.specs.declared.model.Model.{Model}
 use Rattle.design_flatten.specs.declared.model.Signal.{Signal}
-use Rattle.design_flatten.specs.Lines.{Part, InputPart, OutputPart, CoverPart, LatchPart, UsePart, Line, is_use}
-use Rattle.design_flatten.specs.Substitution.{replace, replace_first, after, is_left, IsSubstituted}
-use Rattle.design_flatten.specs.Netlists.{IsReadFrom, IsNetlistOf}
+use Rattle.design_flatten.specs.Vocabulary.{Part, InputPart, OutputPart, CoverPart, LatchPart, UsePart, Line, is_use, replace, replace_first, after, is_left, IsSubstituted, IsReadFrom, IsNetlistOf}
 
 -- where no line uses a model nothing changes
 pub stays : (ms : List Model) (k : ℕ) (lines : List (Line Signal)) → is_left lines ≡ false → replace_first ms k lines ≡ lines

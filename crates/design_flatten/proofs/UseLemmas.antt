@@ -9,10 +9,7 @@ use Rattle.design_netlist.proofs.OrderLemmas.{first_all}
 use Rattle.design_flatten.specs.declared.model.Model.{Model}
 use Rattle.design_flatten.specs.declared.uses.UseLine.{UseLine}
 use Rattle.design_flatten.specs.declared.catalog.Known.{Known}
-use Rattle.design_flatten.specs.Lines.{no_model}
-use Rattle.design_flatten.specs.Substitution.{model_named}
-use Rattle.design_flatten.specs.Uses.{Use, no_use, is_among}
-use Rattle.design_flatten.specs.UseLines.{use_in, listed, number_at, shown, IsFirstListed, names_of, known_of, IsKnown}
+use Rattle.design_flatten.specs.Vocabulary.{no_model, model_named, Use, no_use, is_among, use_in, listed, number_at, shown, IsFirstListed, names_of, known_of, IsKnown}
 use Rattle.design_flatten.proofs.NameLemmas.{among-push, name_is, same_name}
 
 pub listed_is : (us : List UseLine) (k : ℕ) (u : UseLine) → k < length us → u ≡ get_or us k u → listed (map use_in us) k ≡ use_in u

@@ -1,15 +1,11 @@
 -- Words that nothing drives.
-use Rattle.std.proofs.Common.{◌≡◌, ℕ, ◌<◌, true, not, List, Option, None, Some, refl, sym, ap, ◌∙◌, arith, inl, inr, length, fold}
-use Rattle.std.specs.Prelude.{is_some}
+use Rattle.std.proofs.Common.{◌≡◌, ℕ, ◌<◌, true, not, List, Option, None, Some, refl, sym, ap, ◌∙◌, arith, inl, inr, length, fold, is_some}
 use Rattle.std.specs.List.{All}
 use Rattle.std.proofs.lemmas.Bool.{cases_lt}
 use Rattle.std.proofs.lemmas.List.{take_all}
 use Rattle.design_netlist.specs.declared.netlist_data.NetlistData.{NetlistData}
 use Rattle.design_netlist.specs.declared.netlist_data.PortDef.{PortDef}
-use Rattle.design_netlist.specs.Orders.{IsBefore, IsFirst}
-use Rattle.design_netlist.specs.Drafts.{word, word_at, signal_at, line_at, drive_words, reads_of}
-use Rattle.design_netlist.specs.Checks.{IsChecked}
-use Rattle.design_netlist.specs.Words.{place_at, AreFirstWords, sooner}
+use Rattle.design_netlist.specs.Vocabulary.{IsBefore, IsFirst, word, word_at, signal_at, line_at, drive_words, reads_of, IsChecked, place_at, AreFirstWords, sooner}
 use Rattle.design_netlist.proofs.OrderLemmas.{not_itself, first_same}
 use Rattle.design_netlist.proofs.WordLemmas.{IsFree, place, place_first, at_place, fold_place}
 use Rattle.design_flatten.specs.Words.{IsUndrivenIn}

@@ -17,17 +17,8 @@ use Rattle.design_flatten.specs.declared.work.Origin.{Origin as Kept}
 use Rattle.design_flatten.specs.declared.bodies.Lean.{Lean}
 use Rattle.design_flatten.specs.declared.refusal.Refusal.{Refusal}
 use Rattle.design_flatten.specs.declared.refusal.Refusal.TheVariants.{Memory, Limit}
-use Rattle.design_flatten.specs.Lines.{Pair, Part, InputPart, OutputPart, CoverPart, LatchPart, UsePart, Line, is_use, pair_of, with_place, next_place, with_places}
-use Rattle.design_flatten.specs.Ordered.{line_in}
-use Rattle.design_flatten.specs.Bodies.{lean_in}
-use Rattle.design_flatten.specs.Given.{looked_up, place_of}
-use Rattle.design_flatten.specs.Placed.{part_of}
-use Rattle.design_flatten.specs.Refusals.{IsOver}
-use Rattle.design_flatten.specs.Signals.{is_over}
-use Rattle.design_flatten.specs.Substitution.{given, ModelPlace, becomes, pair_through, through, part_through, lines_at, at_first, first_model, without_ports, model_named, replace, replace_first, after, is_left, IsSubstituted}
-use Rattle.design_flatten.specs.Netlists.{first_use, origin_of}
-use Rattle.design_flatten.specs.Frames.{way_to, left_from, left_in, left_of, AreFrames, use_line, IsPlaced, IsOverIn}
-use Rattle.design_flatten.specs.Origins.{IsOrigin, AreOrigins, IsRefused}
+use Rattle.design_flatten.specs.Vocabulary.{Pair, Part, InputPart, OutputPart, CoverPart, LatchPart, UsePart, Line, is_use, pair_of, with_place, next_place, with_places, line_in, lean_in, place_of, part_of, IsOver, is_over, given, ModelPlace, becomes, pair_through, through, part_through, lines_at, at_first, first_model, without_ports, model_named, replace, replace_first, after, is_left, IsSubstituted, first_use, origin_of, way_to, left_from, left_in, left_of, AreFrames, use_line, IsPlaced, IsOverIn, IsOrigin, AreOrigins, IsRefused}
+use Rattle.design_flatten.specs.Given.{looked_up}
 use Rattle.design_flatten.proofs.SignalsLemmas.{over_more}
 use Rattle.design_flatten.proofs.BodyLemmas.{lean_plain}
 use Rattle.design_flatten.proofs.SubstitutionLemmas.{stays_after}

@@ -2,9 +2,7 @@
 use Rattle.std.specs.Prelude.{ℕ, ◌≡◌, Bool, ◌==◌, ◌&&◌, ◌||◌, nat_lt, List, Option, None, Some, option_map, map, length, slice_index_or}
 use Rattle.std.specs.Prelude.{if◌then◌else◌}
 use Rattle.design_netlist.specs.declared.netlist_data.PortDef.{PortDef}
-use Rattle.design_netlist.specs.Orders.{IsFirst}
-use Rattle.design_netlist.specs.Drafts.{word_at, signal_at, line_at}
-use Rattle.design_netlist.specs.Checks.{IsDoubledIn}
+use Rattle.design_netlist.specs.Vocabulary.{IsFirst, word_at, signal_at, line_at, IsDoubledIn}
 use Rattle.design_flatten.specs.declared.drives.Driver.{Driver}
 use Rattle.design_flatten.specs.declared.drives.Drives.{Drives}
 

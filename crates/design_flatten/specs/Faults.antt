@@ -4,9 +4,7 @@ use Rattle.design_netlist.specs.declared.fault.DesignKind.{DesignKind}
 use Rattle.design_netlist.specs.declared.fault.DesignKind.TheVariants as kind
 use Rattle.design_netlist.specs.declared.fault.DesignFault.{DesignFault}
 use Rattle.design_netlist.specs.declared.fault.DesignFault.TheVariants as fault
-use Rattle.design_netlist.specs.Orders.{IsBefore, IsFirst}
-use Rattle.design_netlist.specs.Covers.{cover_at, cover_line}
-use Rattle.design_netlist.specs.Drafts.{signal_at, line_at}
+use Rattle.design_netlist.specs.Vocabulary.{IsBefore, IsFirst, cover_at, cover_line, signal_at, line_at}
 use Rattle.design_flatten.specs.declared.model.Model.{Model}
 use Rattle.design_flatten.specs.declared.model.Signal.{Signal}
 use Rattle.design_flatten.specs.Lines.{Line}

@@ -26,3 +26,4 @@ pub mod Frames
 pub mod Origins
 pub mod Clocks
 pub mod Readings
+pub mod Vocabulary

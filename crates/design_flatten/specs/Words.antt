@@ -3,10 +3,7 @@ use Rattle.std.specs.Prelude.{ℕ, ◌≡◌, ◌<◌, List, [], ◌∷◌, map,
 use Rattle.std.specs.List.{flat_map}
 use Rattle.design_netlist.specs.declared.netlist_data.Cover.{Cover}
 use Rattle.design_netlist.specs.declared.netlist_data.PortDef.{PortDef}
-use Rattle.design_netlist.specs.Orders.{IsFirst}
-use Rattle.design_netlist.specs.Covers.{cover_line, IsOnCycle}
-use Rattle.design_netlist.specs.Drafts.{word, signal_at, line_at}
-use Rattle.design_netlist.specs.Checks.{IsDoubledIn}
+use Rattle.design_netlist.specs.Vocabulary.{IsFirst, cover_line, IsOnCycle, word, signal_at, line_at, IsDoubledIn}
 use Rattle.design_flatten.specs.declared.model.Signal.{Signal}
 use Rattle.design_flatten.specs.Lines.{Part, InputPart, OutputPart, CoverPart, LatchPart, UsePart, Line}
 use Rattle.design_flatten.specs.Signals.{signal_number, signals_of}

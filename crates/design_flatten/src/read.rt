@@ -3,8 +3,7 @@
 ghost use Rattle.std.specs.Prelude.{◌≡◌, ◌<◌, ◌≤◌, length, map, None, IfOk, OnOk, IfErr};
 ghost use Rattle.design_netlist.specs.declared.netlist_data.NetlistData.{NetlistData as DraftValue};
 ghost use Rattle.design_netlist.specs.declared.fault.DesignFault.TheVariants.{Memory};
-ghost use Rattle.design_netlist.specs.Checks.{IsChecked};
-ghost use Rattle.design_netlist.specs.Drafts.{IsWellMade};
+ghost use Rattle.design_netlist.specs.Vocabulary.{IsChecked, IsWellMade};
 ghost use Rattle.design_flatten.specs.Faults.{IsClean, IsRefusalOfModels};
 ghost use Rattle.design_flatten.specs.Lines.{HaveRightRows};
 ghost use Rattle.design_flatten.specs.Netlists.{printed, controls_of, AreOneControl, IsWithin, IsReadFrom, IsNetlistOf};

@@ -4,8 +4,7 @@ ghost use Rattle.std.specs.Prelude.{◌≡◌, ◌++◌, List, map, fold, None, 
 ghost use Rattle.std.specs.List.{flat_map};
 ghost use Rattle.std.specs.Option.{option_to_list};
 ghost use Rattle.design_netlist.specs.declared.netlist_data.PortDef.{PortDef as WordValue};
-ghost use Rattle.design_netlist.specs.Drafts.{word};
-ghost use Rattle.design_netlist.specs.Words.{sooner};
+ghost use Rattle.design_netlist.specs.Vocabulary.{word, sooner};
 ghost use Rattle.design_flatten.specs.declared.refusal.Refusal.TheVariants.{Memory};
 ghost use Rattle.design_flatten.specs.Drives.{AreDrives, places_of};
 ghost use Rattle.design_flatten.specs.Placed.{placed_line};

@@ -1,7 +1,6 @@
 -- The numbers of lines ascend.
 use Rattle.std.proofs.Common.{ℕ, ◌+◌, ◌≤◌, Bool, true, false, cond, nat_lt, List, [], ◌∷◌, None, length, map, arith, inl, inr}
-use Rattle.base_text.specs.Bytes.{uncommented, joining_part, words_of, physical_lines}
-use Rattle.base_text.specs.Lines.{Text, LogicalLine, line_of, texts_of, in_front, onto_next, with_words, logical_lines}
+use Rattle.base_text.specs.Vocabulary.{uncommented, joining_part, words_of, physical_lines, Text, LogicalLine, line_of, texts_of, in_front, onto_next, with_words, logical_lines}
 use Rattle.base_text.proofs.LinesLemmas.{cases_part}
 use Rattle.design_blif.specs.declared.head.Head.{Head}
 use Rattle.design_blif.specs.declared.head.Head.TheVariants as head

@@ -1,6 +1,5 @@
 -- A text of one model that uses no other.
-use Rattle.std.proofs.Common.{◌≡◌, ℕ, true, List, [], ◌∷◌, map, refl, sym, ap, ◌∙◌, subst}
-use Rattle.std.specs.Prelude.{◌↔◌}
+use Rattle.std.proofs.Common.{◌≡◌, ℕ, true, List, [], ◌∷◌, map, refl, sym, ap, ◌∙◌, subst, ◌↔◌}
 use Rattle.base_text.specs.Lines.{LogicalLine, logical_lines}
 use Rattle.design_netlist.specs.declared.netlist_data.NetlistData.{NetlistData}
 use Rattle.design_flatten.specs.Netlists.{IsNetlistOf}

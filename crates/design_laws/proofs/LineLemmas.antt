@@ -1,14 +1,10 @@
 -- What the lines of one statement say.
-use Rattle.std.proofs.Common.{option_map, ◌≡◌, ℕ, ◌-◌, ◌<◌, Bool, false, List, [], ◌∷◌, ◌++◌, Option, Some, None, length, map, take, drop, refl, ap, ◌∙◌, arith, suc, zero}
-use Rattle.std.specs.Prelude.{slice_index}
+use Rattle.std.proofs.Common.{option_map, ◌≡◌, ℕ, ◌-◌, ◌<◌, Bool, false, List, [], ◌∷◌, ◌++◌, Option, Some, None, length, map, take, drop, refl, ap, ◌∙◌, arith, suc, zero, slice_index}
 use Rattle.std.specs.List.{flat_map}
 use Rattle.std.specs.Option.{option_to_list}
 use Rattle.std.proofs.lemmas.List.{append-nil}
 use Rattle.design_flatten.specs.declared.model.Signal.{Signal}
-use Rattle.design_flatten.specs.Lines.{NamedControl, InputPart, OutputPart, LatchPart, Line, input_line, output_line, piece_line, is_use}
-use Rattle.design_flatten.specs.Substitution.{through, at_first}
-use Rattle.design_flatten.specs.Signals.{words_on, signal_number}
-use Rattle.design_flatten.specs.Netlists.{Clocked, control_is, control_on, input_on, output_on, cover_on, latch_on}
+use Rattle.design_flatten.specs.Vocabulary.{NamedControl, InputPart, OutputPart, LatchPart, Line, input_line, output_line, piece_line, is_use, through, at_first, words_on, signal_number, Clocked, control_is, control_on, input_on, output_on, cover_on, latch_on}
 use Rattle.design_blif.specs.declared.head.Head.{Head}
 use Rattle.design_blif.specs.declared.head.Head.TheVariants as head
 use Rattle.design_blif.specs.Names.{name_number}

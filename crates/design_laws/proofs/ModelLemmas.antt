@@ -10,12 +10,7 @@ use Rattle.design_netlist.specs.declared.netlist_data.NetlistData.{NetlistData}
 use Rattle.design_netlist.specs.declared.netlist_data.Cover.{Cover}
 use Rattle.design_flatten.specs.declared.model.Model.{Model}
 use Rattle.design_flatten.specs.declared.model.Signal.{Signal}
-use Rattle.design_flatten.specs.Lines.{Part, InputPart, OutputPart, CoverPart, LatchPart, UsePart, Line, NamedControl, input_line, output_line, piece_line, number_of_line, ordered_lines, with_place, with_places, next_place, lines_of_model, is_use}
-use Rattle.design_flatten.specs.InOrder.{in_order}
-use Rattle.design_flatten.specs.Substitution.{through, at_first, after, is_left, IsSubstituted}
-use Rattle.design_flatten.specs.Signals.{words_on, signals_of, with_signals, size_in, size_of, is_over}
-use Rattle.design_flatten.specs.Uses.{Use, use_on, uses_of, KeepsRules}
-use Rattle.design_flatten.specs.Netlists.{Clocked, control_at, control_on, control_is, controls_of, AreOneControl, input_on, output_on, cover_on, latch_on, printed, IsReadFrom, IsNetlistOf}
+use Rattle.design_flatten.specs.Vocabulary.{Part, InputPart, OutputPart, CoverPart, LatchPart, UsePart, Line, NamedControl, input_line, output_line, piece_line, number_of_line, ordered_lines, with_place, with_places, next_place, lines_of_model, is_use, in_order, through, at_first, after, is_left, IsSubstituted, words_on, signals_of, with_signals, size_in, size_of, is_over, Use, use_on, uses_of, KeepsRules, Clocked, control_at, control_on, control_is, controls_of, AreOneControl, input_on, output_on, cover_on, latch_on, printed, IsReadFrom, IsNetlistOf}
 use Rattle.design_flatten.proofs.SubstitutionLemmas.{one_design}
 use Rattle.design_blif.specs.declared.head.Head.{Head}
 use Rattle.design_blif.specs.declared.head.Head.TheVariants as head

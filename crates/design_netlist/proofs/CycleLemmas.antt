@@ -5,11 +5,7 @@ use Rattle.std.proofs.lemmas.List.{length-map, get_or-map}
 use Rattle.design_netlist.specs.declared.netlist_data.Cover.{Cover}
 use Rattle.design_netlist.specs.declared.search.State.{State}
 use Rattle.design_netlist.specs.declared.search.State.TheVariants.{New, Done}
-use Rattle.design_netlist.specs.Covers.{cover_at, Reads, Reaches, here, onward, IsOnCycle}
-use Rattle.design_netlist.specs.Drivers.{driver_at, AreDrivers}
-use Rattle.design_netlist.specs.Valuations.{number_at, IsOrder}
-use Rattle.design_netlist.specs.Searches.{state_at, search_number, AreNumbered, IsListed}
-use Rattle.design_netlist.specs.Groups.{AreGroups, numbers_of}
+use Rattle.design_netlist.specs.Vocabulary.{cover_at, Reads, Reaches, here, onward, IsOnCycle, driver_at, AreDrivers, number_at, IsOrder, state_at, search_number, AreNumbered, IsListed, AreGroups, numbers_of}
 use Rattle.design_netlist.proofs.StepLemmas.{reads_driver, read_at, driver_of}
 
 module _ (covers : List Cover) (states : List State) (are : AreNumbered covers states) where

@@ -1,6 +1,5 @@
 -- Bits of words, lane by lane.
-use Rattle.std.proofs.Common.{◌≡◌, ℕ, zero, suc, ◌<◌, ◌^◌, ◌-◌, ◌&&◌, ◌||◌, ◌==◌, min, max, Bool, true, false, List, [], ◌∷◌, length, take, get_or, map, refl, sym, ap, subst, ◌∙◌, arith}
-use Rattle.std.specs.Prelude.{not, if◌then◌else◌, slice_set}
+use Rattle.std.proofs.Common.{◌≡◌, ℕ, zero, suc, ◌<◌, ◌^◌, ◌-◌, ◌&&◌, ◌||◌, ◌==◌, min, max, Bool, true, false, List, [], ◌∷◌, length, take, get_or, map, refl, sym, ap, subst, ◌∙◌, arith, not, if◌then◌else◌, slice_set}
 use Rattle.std.specs.Int.{w64, bit_not}
 use Rattle.std.specs.List.{range_with_len}
 use Rattle.std.specs.Int.Bits.{bit_and}
@@ -12,9 +11,7 @@ use Rattle.std.proofs.lemmas.Nat.Bits.{bit_at_and, bit_at_or, bit_at_not, bit_at
 use Rattle.design_netlist.proofs.BitLemmas.{two_bits, six_places}
 use Rattle.design_netlist.specs.declared.netlist_data.Lit.{Lit}
 use Rattle.design_netlist.specs.declared.netlist_data.Lit.TheVariants.{Zero}
-use Rattle.design_netlist.specs.Covers.{fits, matches, some_matches}
-use Rattle.design_netlist.specs.Valuations.{number_at, bit_at}
-use Rattle.design_netlist.specs.Lanes.{is_bit, lane_bits}
+use Rattle.design_netlist.specs.Vocabulary.{fits, matches, some_matches, number_at, bit_at, is_bit, lane_bits}
 
 pub lane-set : (words : List ℕ) (s word j : ℕ) → lane_bits (slice_set words s word) j ≡ slice_set (lane_bits words j) s (is_bit word j)
 lane-set words s word j = map-set (λ w. is_bit w j) words s word

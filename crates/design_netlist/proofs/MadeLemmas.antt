@@ -6,9 +6,7 @@ use Rattle.std.proofs.lemmas.List.{get_or-map, get_or_append_left, get_or-append
 use Rattle.design_netlist.specs.declared.netlist_data.Cover.{Cover}
 use Rattle.design_netlist.specs.declared.netlist_data.NetlistData.{NetlistData}
 use Rattle.design_netlist.specs.declared.netlist_data.PortDef.{PortDef}
-use Rattle.design_netlist.specs.Covers.{cover_at, no_cover, IsCoverOver}
-use Rattle.design_netlist.specs.Drafts.{word, signal_at, cover_drive, latch_drive, cover_reads, latch_read, cover_characters, IsWellMade}
-use Rattle.design_netlist.specs.Words.{AreWithin, AreLatchesBelow}
+use Rattle.design_netlist.specs.Vocabulary.{cover_at, no_cover, IsCoverOver, word, signal_at, cover_drive, latch_drive, cover_reads, latch_read, cover_characters, IsWellMade, AreWithin, AreLatchesBelow}
 use Rattle.design_netlist.proofs.WordLemmas.{within_right}
 
 module _ (count : ℕ) where

@@ -1,6 +1,5 @@
 -- Names that share beginnings.
-use Rattle.std.proofs.Common.{◌≡◌, ℕ, zero, suc, ◌+◌, ◌<◌, ◌≤◌, List, [], ◌∷◌, ◌++◌, Option, None, Some, length, get_or, fold, refl, sym, ap, ◌∙◌, arith, append_assoc}
-use Rattle.std.specs.Prelude.{MatchOption}
+use Rattle.std.proofs.Common.{◌≡◌, ℕ, zero, suc, ◌+◌, ◌<◌, ◌≤◌, List, [], ◌∷◌, ◌++◌, Option, None, Some, length, get_or, fold, refl, sym, ap, ◌∙◌, arith, append_assoc, MatchOption}
 use Rattle.std.proofs.lemmas.List.{get_or_default, get_or_append_left, get_or_push, get_or_past, length_push, append-nil}
 use Rattle.design_netlist.specs.declared.shared.Beginning.{Beginning}
 use Rattle.design_netlist.specs.Names.{with_text, texts_of, text_in, front, no_beginning, beginning_at, joined}

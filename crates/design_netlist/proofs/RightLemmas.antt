@@ -8,11 +8,7 @@ use Rattle.design_netlist.specs.declared.netlist_data.Cover.{Cover}
 use Rattle.design_netlist.specs.declared.netlist_data.NetlistData.{NetlistData}
 use Rattle.design_netlist.specs.declared.netlist_data.LatchDef.{LatchDef}
 use Rattle.design_netlist.specs.declared.netlist_data.PortDef.{PortDef}
-use Rattle.design_netlist.specs.Covers.{cover_at}
-use Rattle.design_netlist.specs.Drafts.{word, signal_at, cover_drive, latch_drive, drive_words, IsDriven}
-use Rattle.design_netlist.specs.Valuations.{IsSettled}
-use Rattle.design_netlist.specs.Checks.{IsChecked}
-use Rattle.design_netlist.specs.Rows.{IsRightValuation, HasOneRight, RowsFrom, outputs_in, next_state}
+use Rattle.design_netlist.specs.Vocabulary.{cover_at, word, signal_at, cover_drive, latch_drive, drive_words, IsDriven, IsSettled, IsChecked, IsRightValuation, HasOneRight, RowsFrom, outputs_in, next_state}
 use Rattle.design_netlist.proofs.ListLemmas.{not_equal, stands_or}
 use Rattle.design_netlist.proofs.CheckLemmas.{cover_place, cover_signal, outs_apart}
 use Rattle.design_netlist.proofs.ValuationLemmas.{one_valuation}

@@ -5,9 +5,7 @@ use Rattle.design_netlist.specs.declared.netlist_data.Cover.{Cover}
 use Rattle.design_netlist.specs.declared.search.State.{State}
 use Rattle.design_netlist.specs.declared.search.State.TheVariants.{New, Open, Done}
 use Rattle.design_netlist.specs.declared.search.Group.{Group}
-use Rattle.design_netlist.specs.Covers.{Reads, Reaches, here, onward}
-use Rattle.design_netlist.specs.Valuations.{number_at}
-use Rattle.design_netlist.specs.Searches.{state_at, start_at, waits_at, LeadsTo, IsHandled, is_done, is_open, is_waiting, is_spare, IsSource, IsSearch, AreHandled, IsListed, IsJoinedOn, IsOpened, IsFront, IsClosed, IsKept, cost}
+use Rattle.design_netlist.specs.Vocabulary.{Reads, Reaches, here, onward, number_at, state_at, start_at, waits_at, LeadsTo, IsHandled, is_done, is_open, is_waiting, is_spare, IsSource, IsSearch, AreHandled, IsListed, IsJoinedOn, IsOpened, IsFront, IsClosed, IsKept, cost}
 
 pub and_on : {covers : List Cover} {i j k : ℕ} → Reaches covers i j → Reaches covers j k → Reaches covers i k
 and_on here b = b

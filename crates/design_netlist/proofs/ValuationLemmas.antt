@@ -1,13 +1,10 @@
 -- Covers without a cycle have exactly one valuation.
-use Rattle.std.proofs.Common.{◌≡◌, ◌≤◌, ℕ, zero, suc, ◌<◌, Bool, true, false, cond, List, [], ◌∷◌, Option, None, Some, length, get_or, map, refl, sym, ap, subst, ◌∙◌, inl, inr, arith}
-use Rattle.std.specs.Prelude.{not, if◌then◌else◌}
+use Rattle.std.proofs.Common.{◌≡◌, ◌≤◌, ℕ, zero, suc, ◌<◌, Bool, true, false, cond, List, [], ◌∷◌, Option, None, Some, length, get_or, map, refl, sym, ap, subst, ◌∙◌, inl, inr, arith, not, if◌then◌else◌}
 use Rattle.std.proofs.Math.Dec.{eqb}
 use Rattle.std.proofs.lemmas.Bool.{cases_eq, eqb-true, eq-eqb}
 use Rattle.std.proofs.lemmas.Grind.{get_or_default_zero}
 use Rattle.design_netlist.specs.declared.netlist_data.Cover.{Cover}
-use Rattle.design_netlist.specs.Covers.{cover_at, Reads, some_matches, truth, IsOnCycle}
-use Rattle.design_netlist.specs.Drivers.{IsDriver, IsDriverBelow}
-use Rattle.design_netlist.specs.Valuations.{number_at, IsSettled, HasOneValuation}
+use Rattle.design_netlist.specs.Vocabulary.{cover_at, Reads, some_matches, truth, IsOnCycle, IsDriver, IsDriverBelow, number_at, IsSettled, HasOneValuation}
 use Rattle.design_netlist.proofs.WalkLemmas.{IsLow, low_all}
 
 pub map_same : (f g : ℕ → Bool) (xs : List ℕ) → ((k : ℕ) → k < length xs → f (get_or xs k 0) ≡ g (get_or xs k 0)) → map f xs ≡ map g xs

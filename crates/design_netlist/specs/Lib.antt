@@ -12,3 +12,4 @@ pub mod Sorts
 pub mod Groups
 pub mod Words
 pub mod Lanes
+pub mod Vocabulary

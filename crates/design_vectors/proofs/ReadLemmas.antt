@@ -1,6 +1,5 @@
 -- Reading on: more bytes from the store, then the unread ones.
-use Rattle.std.proofs.Common.{◌≡◌, ◌⊎◌, ℕ, ◌+◌, ◌-◌, ◌<◌, ◌≤◌, Bool, true, false, List, [], ◌++◌, length, take, drop, Option, None, Some, IfSome, option_map, refl, sym, ap, subst, ◌∙◌, inl, inr, arith, append_assoc}
-use Rattle.std.specs.Prelude.{Err, IsSome}
+use Rattle.std.proofs.Common.{◌≡◌, ◌⊎◌, ℕ, ◌+◌, ◌-◌, ◌<◌, ◌≤◌, Bool, true, false, List, [], ◌++◌, length, take, drop, Option, None, Some, IfSome, option_map, refl, sym, ap, subst, ◌∙◌, inl, inr, arith, append_assoc, Err, IsSome}
 use Rattle.std.proofs.Math.Seq.{take-add, take-append-add, take-append_seam}
 use Rattle.std.proofs.lemmas.List.{length-drop, append-nil}
 use Rattle.base_io.specs.Store.{StoreState, StorePlace, moved, rest_of}
@@ -10,8 +9,7 @@ use Rattle.design_vectors.specs.declared.vectors.VectorsFail.TheVariants.{Text, 
 use Rattle.design_vectors.specs.declared.line.Step.{Step}
 use Rattle.design_vectors.specs.declared.line.Step.TheVariants.{Onward, Vector, Fault}
 use Rattle.design_vectors.specs.Vectors.{PhysicalLine, numbered_lines, put_before, shown, byte_fault, lines_say, SaidVectors, nothing_said, with_vector, bits_of, vector_size}
-use Rattle.design_vectors.specs.Readings.{bytes_ahead, says_next, said_ahead, NextGives, NextFails, HasMoved, AreOpen, AskedOpen, StaysWithin}
-use Rattle.design_vectors.specs.Readings.{GivesUnread, IsFaultOf}
+use Rattle.design_vectors.specs.Readings.{bytes_ahead, says_next, said_ahead, NextGives, NextFails, HasMoved, AreOpen, AskedOpen, StaysWithin, GivesUnread, IsFaultOf}
 use Rattle.design_vectors.specs.Lines.{PartLine, IsSound, front_of, begun, says_on, EndsAs, EndSays}
 use Rattle.design_vectors.specs.Steps.{reading_of, IsRefilled, IsStoreFail, HasReadOn, answer_of, LineGives, LineFails, HasAnswered, IsWaiting, GoesOn}
 use Rattle.design_vectors.proofs.FeedLemmas.{rest-moved}

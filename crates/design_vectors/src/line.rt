@@ -1,7 +1,6 @@
 //! A physical line of a vector file, read byte by byte.
 
-ghost use Rattle.std.specs.Prelude.{◌≡◌, ◌+◌, ◌-◌, ◌^◌, ◌<◌, ◌≤◌, [], ◌∷◌, length, false, map, IfOk};
-ghost use Rattle.std.specs.Prelude.{take, ◌==◌};
+ghost use Rattle.std.specs.Prelude.{◌≡◌, ◌+◌, ◌-◌, ◌^◌, ◌<◌, ◌≤◌, [], ◌∷◌, length, false, map, IfOk, take, ◌==◌};
 ghost use Rattle.design_vectors.specs.Lines.{HasRead};
 ghost use Rattle.design_vectors.specs.Vectors.{bits_of, is_vector_byte, vector_size, is_row_blank, is_comment_mark, is_line_feed};
 

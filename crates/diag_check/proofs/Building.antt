@@ -1,18 +1,14 @@
 -- The field of an image has its skeleton, and no more than so much.
-use Rattle.std.proofs.Common.{◌≡◌, ◌≢◌, ℕ, zero, suc, ◌*◌, ◌<◌, ◌≤◌, if◌then◌else◌, Bool, true, false, Some, None, Option, List, [], ◌∷◌, All, length, get_or, refl, sym, ap, ◌∙◌, subst, arith}
-use Rattle.std.specs.Prelude.{slice_get, ◌==◌}
+use Rattle.std.proofs.Common.{◌≡◌, ◌≢◌, ℕ, zero, suc, ◌*◌, ◌<◌, ◌≤◌, if◌then◌else◌, Bool, true, false, Some, None, Option, List, [], ◌∷◌, All, length, get_or, refl, sym, ap, ◌∙◌, subst, arith, slice_get, ◌==◌}
 use Rattle.std.specs.List.{count_by}
 use Rattle.std.proofs.lemmas.Option.{slice_get_within, slice_get-get_or}
 use Rattle.base_bits.specs.Numbers.{has_number, size_of}
 use Rattle.machine_shape.specs.declared.Shape.{Shape}
 use Rattle.machine_shape.specs.declared.Cross.{Cross}
 use Rattle.machine_shape.specs.declared.Wire.{Wire}
-use Rattle.machine_shape.specs.Laws.{IsTree, HasMeetings, HasParents}
-use Rattle.machine_shape.specs.Sites.{HasSites}
-use Rattle.machine_shape.specs.Shape.{wires_of, nodes_of, node_of, parent_of, IsLine, IsPort, IsTap, tap_pin, tap_port, tap_child, itself, below}
+use Rattle.machine_shape.specs.Vocabulary.{IsTree, HasMeetings, HasParents, HasSites, wires_of, nodes_of, node_of, parent_of, IsLine, IsPort, IsTap, tap_pin, tap_port, tap_child, itself, below}
 use Rattle.machine_config.specs.Configuration.{is_closed}
-use Rattle.machine_image.specs.Images.{ImageValue}
-use Rattle.machine_image.specs.Parts.{Uses, IsInvolved, by_wire, IsWideEnough}
+use Rattle.machine_image.specs.Vocabulary.{ImageValue, Uses, IsInvolved, by_wire, IsWideEnough}
 use Rattle.diag_known.specs.declared.field.Field.{Field}
 use Rattle.diag_known.specs.Gains.{Gets}
 use Rattle.diag_check.specs.Fields.{IsFewFor, IsCrossBefore, IsBetween, IsPicksOf, ArePicksOf, of_own, of_lines, IsPickOf, IsJointOf, own_joint, up_joint, OfMarked, IsCrossOf, IsHungAt, on_line, on_port, IsHungOn}

@@ -1,6 +1,5 @@
 -- The test of an image, step by step.
-use Rattle.std.proofs.Common.{◌≡◌, ℕ, ◌+◌, ◌*◌, ◌≤◌, Bool, true, false, Some, Option, List, length, refl, subst, arith}
-use Rattle.std.specs.Prelude.{◌==◌, ◌&&◌, not, if◌then◌else◌, is_some, IsTrue}
+use Rattle.std.proofs.Common.{◌≡◌, ℕ, ◌+◌, ◌*◌, ◌≤◌, Bool, true, false, Some, Option, List, length, refl, subst, arith, ◌==◌, ◌&&◌, not, if◌then◌else◌, is_some, IsTrue}
 use Rattle.std.specs.List.{count_by}
 use Rattle.std.proofs.lemmas.List.Sums.{count_by-le-length}
 use Rattle.base_bits.specs.Numbers.{has_number, size_of}

@@ -1,6 +1,5 @@
 -- How many numbers are marked, or stand in a list, that are all in another list.
-use Rattle.std.proofs.Common.{◌≡◌, ◌≢◌, ◌⊎◌, ℕ, zero, suc, ◌+◌, ◌*◌, ◌<◌, ◌≤◌, ◌==◌, ◌||◌, eqb, if◌then◌else◌, Bool, true, false, cond, List, [], ◌∷◌, length, map, refl, sym, ap, ◌∙◌, inl, inr, arith}
-use Rattle.std.specs.Prelude.{Contains, slice_index_or}
+use Rattle.std.proofs.Common.{◌≡◌, ◌≢◌, ◌⊎◌, ℕ, zero, suc, ◌+◌, ◌*◌, ◌<◌, ◌≤◌, ◌==◌, ◌||◌, eqb, if◌then◌else◌, Bool, true, false, cond, List, [], ◌∷◌, length, map, refl, sym, ap, ◌∙◌, inl, inr, arith, Contains, slice_index_or}
 use Rattle.std.specs.List.{count_by, AllByRecursion, IsDistinct}
 use Rattle.std.specs.Set.{is_member}
 use Rattle.std.proofs.Math.ListN.{set}
@@ -13,8 +12,7 @@ use Rattle.std.proofs.lemmas.Map.Made.{length-le_from_is_member}
 use Rattle.std.proofs.lemmas.Map.Views.{list_any-from_Contains}
 use Rattle.base_bits.specs.Numbers.{has_number, size_of}
 use Rattle.base_bits.proofs.NumbersLemmas.{size_of-taken}
-use Rattle.machine_image.specs.Images.{ImageValue}
-use Rattle.machine_image.specs.Parts.{Part, WirePart, CrossPart, TablePart}
+use Rattle.machine_image.specs.Vocabulary.{ImageValue, Part, WirePart, CrossPart, TablePart}
 use Rattle.diag_check.specs.Looks.{TakesAtMost}
 use Rattle.diag_check.specs.Soundly.{AreAllOf, TakesForParts}
 use Rattle.diag_check.specs.Used.{AreUsed, AreInvolved}

@@ -1,6 +1,5 @@
 -- A list of all that an image doesn't use covers the faults, where its parts are kept.
-use Rattle.std.proofs.Common.{◌≡◌, ◌≢◌, ◌⊎◌, ℕ, ◌+◌, ◌<◌, ◌≤◌, ◌++◌, ◌&&◌, Bool, true, false, not, Some, None, List, length, get_or, refl, sym, ap, ◌∙◌, subst, inl, inr, arith}
-use Rattle.std.specs.Prelude.{◌==◌, IsSome, is_some}
+use Rattle.std.proofs.Common.{◌≡◌, ◌≢◌, ◌⊎◌, ℕ, ◌+◌, ◌<◌, ◌≤◌, ◌++◌, ◌&&◌, Bool, true, false, not, Some, None, List, length, get_or, refl, sym, ap, ◌∙◌, subst, inl, inr, arith, ◌==◌, IsSome, is_some}
 use Rattle.std.specs.List.{range_with_len, filter}
 use Rattle.std.specs.FinMap as map
 use Rattle.std.specs.FinSet as set
@@ -15,13 +14,10 @@ use Rattle.std.proofs.lemmas.Map.Views.{any-filter_same}
 use Rattle.base_bits.specs.Numbers.{has_number}
 use Rattle.machine_shape.specs.declared.Shape.{Shape}
 use Rattle.machine_shape.specs.Shape.{wires_of, crosses_of, tables_of}
-use Rattle.machine_meaning.specs.Faults.{Faults, stuck_register}
-use Rattle.machine_meaning.specs.Joined.{Shorted}
-use Rattle.machine_meaning.specs.Defects.{Defects, Covers, IsClear, IsFreeWire, IsFreeCross, IsFreeTable}
+use Rattle.machine_meaning.specs.Vocabulary.{Faults, stuck_register, Shorted, Defects, Covers, IsClear, IsFreeWire, IsFreeCross, IsFreeTable}
 use Rattle.machine_config.specs.declared.Setting.{Setting}
 use Rattle.machine_config.specs.Configuration.{is_closed, setting_of}
-use Rattle.machine_image.specs.Images.{ImageValue, IsImage}
-use Rattle.machine_image.specs.Parts.{IsFreeImage, Uses, at_pin, at_tap, at_line, at_table}
+use Rattle.machine_image.specs.Vocabulary.{ImageValue, IsImage, IsFreeImage, Uses, at_pin, at_tap, at_line, at_table}
 use Rattle.diag_evidence.specs.Kept.{Kept, HoldsFor}
 use Rattle.diag_check.specs.Soundly.{KeepsParts}
 use Rattle.diag_check.specs.Used.{AreUsed}

@@ -1,6 +1,5 @@
 -- The field of an image, as it is marked.
-use Rattle.std.proofs.Common.{◌≡◌, ◌≢◌, ◌⊎◌, ℕ, ◌+◌, ◌*◌, ◌<◌, ◌≤◌, Bool, true, false, Some, None, List, All, length, take, sym, ap, ◌∙◌, subst, inl, inr, arith}
-use Rattle.std.specs.Prelude.{slice_get}
+use Rattle.std.proofs.Common.{◌≡◌, ◌≢◌, ◌⊎◌, ℕ, ◌+◌, ◌*◌, ◌<◌, ◌≤◌, Bool, true, false, Some, None, List, All, length, take, sym, ap, ◌∙◌, subst, inl, inr, arith, slice_get}
 use Rattle.std.proofs.Math.ListN.{set}
 use Rattle.std.proofs.Math.Nat.{mul-le-mul_left, mul-le-mul_right}
 use Rattle.std.proofs.lemmas.Bool.{false≢true}
@@ -10,10 +9,8 @@ use Rattle.base_bits.specs.Numbers.{has_number, size_of}
 use Rattle.machine_shape.specs.declared.Shape.{Shape}
 use Rattle.machine_shape.specs.declared.Cross.{Cross}
 use Rattle.machine_shape.specs.declared.Wire.{Wire}
-use Rattle.machine_shape.specs.Laws.{HasCrosses}
-use Rattle.machine_shape.specs.Shape.{crosses_of, ends_of, node_of, parent_of}
-use Rattle.diag_known.specs.Field.{IsFieldOf}
-use Rattle.diag_known.specs.Gains.{Gets, IsWireBefore}
+use Rattle.machine_shape.specs.Vocabulary.{HasCrosses, crosses_of, ends_of, node_of, parent_of}
+use Rattle.diag_known.specs.Vocabulary.{IsFieldOf, Gets, IsWireBefore}
 use Rattle.diag_known.specs.declared.field.Field.{Field}
 use Rattle.diag_check.specs.Fields.{IsCrossOf, IsBetween, IsCrossBefore, IsPicksOf, IsOfEither, of_own, of_lines, IsPickOf, IsJointOf, own_joint, up_joint, OfMarked, IsHungAt, IsHungOn}
 use Rattle.diag_check.specs.Picked.{IsAmong}

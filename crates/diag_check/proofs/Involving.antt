@@ -1,15 +1,12 @@
 -- The nodes that an image involves, as they are marked.
-use Rattle.std.proofs.Common.{◌≡◌, ◌≢◌, ◌⊎◌, ℕ, ◌+◌, ◌<◌, ◌≤◌, Bool, true, false, Some, None, List, length, refl, sym, ap, ◌∙◌, subst, inl, inr, arith}
-use Rattle.std.specs.Prelude.{replicate}
+use Rattle.std.proofs.Common.{◌≡◌, ◌≢◌, ◌⊎◌, ℕ, ◌+◌, ◌<◌, ◌≤◌, Bool, true, false, Some, None, List, length, refl, sym, ap, ◌∙◌, subst, inl, inr, arith, replicate}
 use Rattle.std.proofs.Math.ListN.{set}
 use Rattle.std.proofs.lemmas.Bool.{cases_eq, false≢true}
 use Rattle.std.proofs.lemmas.List.{length-set, length-replicate}
 use Rattle.base_bits.specs.Numbers.{has_number}
 use Rattle.machine_shape.specs.declared.Shape.{Shape}
-use Rattle.machine_shape.specs.Laws.{IsTree, HasMeetings, HasParents}
-use Rattle.machine_shape.specs.Shape.{wires_of, nodes_of, node_of, node_of_cross, parent_of, ends_of, IsAbove, itself, below}
-use Rattle.machine_image.specs.Images.{ImageValue, IsImage}
-use Rattle.machine_image.specs.Parts.{IsInvolved, by_wire, by_cross, Uses, at_line}
+use Rattle.machine_shape.specs.Vocabulary.{IsTree, HasMeetings, HasParents, wires_of, nodes_of, node_of, node_of_cross, parent_of, ends_of, IsAbove, itself, below}
+use Rattle.machine_image.specs.Vocabulary.{ImageValue, IsImage, IsInvolved, by_wire, by_cross, Uses, at_line}
 use Rattle.diag_check.specs.Marks.{Adds, IsNodeAmong, Rises}
 use Rattle.diag_check.specs.Used.{AreUsed, AreInvolved}
 use Rattle.diag_known.proofs.Getting.{below_or, marked_within, marked_here, marked_still, marked_from, none_marked}

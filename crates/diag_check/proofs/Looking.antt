@@ -1,13 +1,10 @@
 -- What the looks at an image say.
-use Rattle.std.proofs.Common.{◌≡◌, ◌≢◌, ◌⊎◌, ℕ, ◌<◌, ◌≤◌, true, Some, Option, List, All, get_or, sym, ap, ◌∙◌, subst, inl, inr, arith}
-use Rattle.std.specs.Prelude.{is_some, slice_get}
+use Rattle.std.proofs.Common.{◌≡◌, ◌≢◌, ◌⊎◌, ℕ, ◌<◌, ◌≤◌, true, Some, Option, List, All, get_or, sym, ap, ◌∙◌, subst, inl, inr, arith, is_some, slice_get}
 use Rattle.std.proofs.lemmas.Bool.{cases_eq, cases_lt}
 use Rattle.std.proofs.lemmas.Option.{slice_get-get_or}
 use Rattle.machine_shape.specs.declared.Table.{Table}
 use Rattle.machine_shape.specs.declared.Shape.{Shape}
-use Rattle.machine_meaning.specs.Faults.{Faults}
-use Rattle.machine_meaning.specs.Sound.{IsSoundTable}
-use Rattle.machine_meaning.specs.Tight.{IsRightTable}
+use Rattle.machine_meaning.specs.Vocabulary.{Faults, IsSoundTable, IsRightTable}
 use Rattle.machine_config.specs.Configuration.{setting_of}
 use Rattle.machine_image.specs.Images.{ImageValue}
 use Rattle.diag_evidence.specs.Kept.{Kept, HoldsFor, IsMore, keeps_wire, keeps_pair}

@@ -1,6 +1,5 @@
 -- The marks of an image's used wires are right.
-use Rattle.std.proofs.Common.{◌≡◌, ◌⊎◌, ℕ, ◌+◌, ◌<◌, if◌then◌else◌, Bool, true, false, List, All, length, get_or, refl, sym, ap, ◌∙◌, subst, inl, inr, arith}
-use Rattle.std.specs.Prelude.{◌==◌, slice_get, replicate, Contains, is_some}
+use Rattle.std.proofs.Common.{◌≡◌, ◌⊎◌, ℕ, ◌+◌, ◌<◌, if◌then◌else◌, Bool, true, false, List, All, length, get_or, refl, sym, ap, ◌∙◌, subst, inl, inr, arith, ◌==◌, slice_get, replicate, Contains, is_some}
 use Rattle.std.specs.List.{count_by}
 use Rattle.std.proofs.lemmas.List.{get_or_append_left, get_or-append-add, get_or_default, length-append, length-replicate}
 use Rattle.std.proofs.lemmas.List.Elements.{Contains-get_or, Contains-append_left, Contains-append_right, Contains-append_cases}
@@ -11,8 +10,7 @@ use Rattle.machine_shape.specs.declared.Cross.{Cross}
 use Rattle.machine_shape.specs.declared.Table.{Table}
 use Rattle.machine_shape.specs.Shape.{wires_of, pins_of, crosses_of, tables_of, pin_wire, table_wire, ends_of}
 use Rattle.machine_config.specs.Configuration.{Configuration, is_closed, setting_of}
-use Rattle.machine_image.specs.Images.{ImageValue, IsImage}
-use Rattle.machine_image.specs.Parts.{Uses, at_pin, at_tap, at_line, at_table}
+use Rattle.machine_image.specs.Vocabulary.{ImageValue, IsImage, Uses, at_pin, at_tap, at_line, at_table}
 use Rattle.diag_check.specs.Marks.{Adds, IsPinAmong, IsEndAmong, tap_among, line_among, IsTablePinAmong}
 use Rattle.diag_check.specs.Used.{AreUsed}
 use Rattle.machine_image.proofs.Keyed.{of_set, to_set}

@@ -1,25 +1,16 @@
 -- All of an unharmed image's skeleton is known, and its tables are seated.
-use Rattle.std.proofs.Common.{◌≡◌, ◌≢◌, ◌⊎◌, ℕ, zero, suc, ◌<◌, true, Some, None, List, refl, sym, ap, ◌∙◌, subst, inl, inr, arith}
-use Rattle.std.specs.Prelude.{IsSome}
+use Rattle.std.proofs.Common.{◌≡◌, ◌≢◌, ◌⊎◌, ℕ, zero, suc, ◌<◌, true, Some, None, List, refl, sym, ap, ◌∙◌, subst, inl, inr, arith, IsSome}
 use Rattle.std.specs.FinMap as map
 use Rattle.std.specs.FinSet as set
 use Rattle.std.specs.Ordering.{nat_cmp}
 use Rattle.base_bits.specs.Numbers.{has_number}
 use Rattle.machine_shape.specs.declared.Shape.{Shape}
-use Rattle.machine_shape.specs.Laws.{IsNumbered, IsTree, HasMeetings, HasParents}
-use Rattle.machine_shape.specs.Shape.{wires_of, crosses_of, nodes_of, pins_of, tables_of, pin_wire, table_wire, ends_of, node_of, parent_of, hextant_of, IsLine, IsPort, IsTap, tap_table, IsAbove, itself, below, Ends, in_order, turned}
-use Rattle.machine_meaning.specs.Faults.{Faults, IsFaultless, stuck_cross, stuck_wire, pair_cmp}
-use Rattle.machine_meaning.specs.Sound.{IsSoundWire, IsSoundTable, IsServed}
-use Rattle.machine_shape.specs.Laws.{HasHomes}
-use Rattle.machine_meaning.specs.Defects.{IsClear}
-use Rattle.machine_meaning.specs.Standing.{StandsBy, pin_stands, on_two, IsOutside, Meets, IsSeated, HasStandingParts}
-use Rattle.machine_meaning.specs.Tight.{IsAlone, HasFeet, two}
+use Rattle.machine_shape.specs.Vocabulary.{IsNumbered, IsTree, HasMeetings, HasParents, wires_of, crosses_of, nodes_of, pins_of, tables_of, pin_wire, table_wire, ends_of, node_of, parent_of, hextant_of, IsLine, IsPort, IsTap, tap_table, IsAbove, itself, below, Ends, in_order, turned, HasHomes}
+use Rattle.machine_meaning.specs.Vocabulary.{Faults, IsFaultless, stuck_cross, stuck_wire, pair_cmp, IsSoundWire, IsSoundTable, IsServed, IsClear, StandsBy, pin_stands, on_two, IsOutside, Meets, IsSeated, HasStandingParts, IsAlone, HasFeet, two}
 use Rattle.machine_config.specs.Configuration.{setting_of}
-use Rattle.machine_image.specs.Images.{ImageValue}
-use Rattle.machine_image.specs.Parts.{Uses, at_tap, at_line, at_table, IsInvolved, by_wire, by_cross, IsSurroundingWire, used_wire, node_line, node_port, root_pin}
+use Rattle.machine_image.specs.Vocabulary.{ImageValue, Uses, at_tap, at_line, at_table, IsInvolved, by_wire, by_cross, IsSurroundingWire, used_wire, node_line, node_port, root_pin}
 use Rattle.diag_evidence.specs.Kept.{Kept, keeps_cross}
-use Rattle.diag_known.specs.Field.{IsFieldOf, IsClosed}
-use Rattle.diag_known.specs.Known.{HasWire, IsKeptCrossOf}
+use Rattle.diag_known.specs.Vocabulary.{IsFieldOf, IsClosed, HasWire, IsKeptCrossOf}
 use Rattle.diag_known.specs.declared.field.Field.{Field}
 use Rattle.diag_known.specs.declared.verified_wire.VerifiedWire.{VerifiedWire}
 use Rattle.diag_check.specs.Looks.{AreRoutesKnown}

@@ -1,12 +1,10 @@
 -- What the looks at an image's parts say.
 use Rattle.std.specs.Prelude.{◌≡◌, ℕ, ◌+◌, ◌*◌, ◌<◌, ◌≤◌, Bool, true, Option, Some, IsSome, IsTrue, List, length, Contains}
 use Rattle.base_bits.specs.Numbers.{size_of}
-use Rattle.machine_meaning.specs.Faults.{Faults}
-use Rattle.machine_meaning.specs.Standing.{IsSeated}
+use Rattle.machine_meaning.specs.Vocabulary.{Faults, IsSeated}
 use Rattle.machine_config.specs.declared.Setting.{Setting}
 use Rattle.machine_config.specs.Configuration.{is_closed, setting_of}
-use Rattle.machine_image.specs.Images.{ImageValue}
-use Rattle.machine_image.specs.Parts.{Uses}
+use Rattle.machine_image.specs.Vocabulary.{ImageValue, Uses}
 use Rattle.diag_evidence.specs.Kept.{Kept, HoldsFor, keeps_cross, keeps_cell, keeps_register}
 use Rattle.diag_known.specs.Known.{HasWire, IsKeptCrossOf}
 use Rattle.diag_known.specs.declared.field.Field.{Field}

@@ -4,8 +4,7 @@ use Rattle.base_bits.specs.Numbers.{has_number}
 use Rattle.machine_shape.specs.declared.Shape.{Shape}
 use Rattle.machine_shape.specs.Shape.{node_of, parent_of, pins_of, pin_wire, ends_of, IsLine, IsPort, IsTap}
 use Rattle.machine_config.specs.Configuration.{is_closed}
-use Rattle.machine_image.specs.Images.{ImageValue}
-use Rattle.machine_image.specs.Parts.{Uses, IsInvolved}
+use Rattle.machine_image.specs.Vocabulary.{ImageValue, Uses, IsInvolved}
 use Rattle.diag_known.specs.declared.field.Field.{Field}
 
 -- a tap and a line whose crosspoint is marked

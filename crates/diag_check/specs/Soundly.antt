@@ -1,13 +1,10 @@
 -- When an image runs soundly, what has to be kept for that, and how many loads that takes.
 use Rattle.std.specs.Prelude.{◌≡◌, ◌≢◌, ℕ, ◌+◌, ◌*◌, ◌<◌, ◌≤◌, Bool, true, List, map, length, Option, Some, IsSome, IsTrue, Contains}
-use Rattle.machine_meaning.specs.Circuit.{Pins}
-use Rattle.machine_meaning.specs.Faults.{Faults, IsFaultless}
-use Rattle.machine_meaning.specs.Sound.{IsSoundWire, IsSoundCross, IsSoundTable}
+use Rattle.machine_meaning.specs.Vocabulary.{Pins, Faults, IsFaultless, IsSoundWire, IsSoundCross, IsSoundTable}
 use Rattle.machine_config.specs.declared.Setting.{Setting}
-use Rattle.machine_config.specs.Configuration.{is_closed, setting_of}
-use Rattle.machine_config.specs.Faulty.{IsRun}
-use Rattle.machine_image.specs.Images.{ImageValue, drive_of, image_row}
-use Rattle.machine_image.specs.Parts.{Uses, Part, IsPartOf, IsInvolved, IsWideEnough, IsSurroundingWire, IsSurroundingCross}
+use Rattle.machine_config.specs.Vocabulary.{is_closed, setting_of, IsRun}
+use Rattle.machine_image.specs.Vocabulary.{ImageValue, drive_of, image_row, Uses, Part, IsPartOf, IsInvolved, IsWideEnough}
+use Rattle.machine_image.specs.Vocabulary.{IsSurroundingWire, IsSurroundingCross}
 use Rattle.diag_evidence.specs.Kept.{Kept, keeps_cross, keeps_wire, keeps_pair, keeps_cell, keeps_register}
 
 -- For every list of vectors on its input pins, with 1 on all other pins, the image reads at its output pins under these faults what

@@ -2,8 +2,7 @@
 use Rattle.std.specs.Prelude.{◌≡◌, ℕ, Bool, true, List, length}
 use Rattle.base_bits.specs.Numbers.{has_number}
 use Rattle.machine_shape.specs.Shape.{wires_of, nodes_of}
-use Rattle.machine_image.specs.Images.{ImageValue}
-use Rattle.machine_image.specs.Parts.{Uses, IsInvolved}
+use Rattle.machine_image.specs.Vocabulary.{ImageValue, Uses, IsInvolved}
 
 -- there is a mark for each wire, and just the used ones are marked
 pub record AreUsed (i : ImageValue) (used : List Bool) : Type 0 where

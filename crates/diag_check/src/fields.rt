@@ -3,8 +3,7 @@ ghost use Rattle.std.specs.Prelude.{◌≡◌, ◌<◌, ◌≤◌, ◌+◌, ◌*
 ghost use Rattle.base_bits.specs.Numbers.{size_of};
 ghost use Rattle.machine_shape.specs.Shape.{wires_of, crosses_of, nodes_of};
 ghost use Rattle.machine_image.specs.Parts.{IsWideEnough};
-ghost use Rattle.diag_known.specs.Field.{IsFieldOf};
-ghost use Rattle.diag_known.specs.Gains.{Gets};
+ghost use Rattle.diag_known.specs.Vocabulary.{IsFieldOf, Gets};
 ghost use Rattle.diag_check.specs.Fields.{ArePicksOf, IsBetween, IsCrossBefore, IsCrossOf, IsFewFor, IsHungAt, IsHungOn, IsJointOf};
 ghost use Rattle.diag_check.specs.Fields.{IsOfEither, IsOnLines, IsOnTaps, IsPickOf, OfMarked};
 ghost use Rattle.diag_check.specs.Skeleton.{HasSkeleton};

@@ -1,9 +1,7 @@
 //! What later crates rest on, of images that run soundly.
 ghost use Rattle.std.specs.Prelude.{◌≡◌, Bool, List};
-ghost use Rattle.machine_meaning.specs.Defects.{Covers, Defects};
-ghost use Rattle.machine_meaning.specs.Faults.{Faults, IsFaultless};
-ghost use Rattle.machine_image.specs.Images.{ImageValue, IsImage};
-ghost use Rattle.machine_image.specs.Parts.{IsFreeImage, IsWideEnough};
+ghost use Rattle.machine_meaning.specs.Vocabulary.{Covers, Defects, Faults, IsFaultless};
+ghost use Rattle.machine_image.specs.Vocabulary.{ImageValue, IsImage, IsFreeImage, IsWideEnough};
 ghost use Rattle.diag_evidence.specs.Kept.{HoldsFor, Kept};
 ghost use Rattle.diag_check.specs.Soundly.{IsUnharmed, KeepsParts, RunsSoundly};
 ghost use Rattle.diag_check.specs.Used.{AreUsed};

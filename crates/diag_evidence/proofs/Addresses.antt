@@ -1,6 +1,5 @@
 -- Drives for the addresses of tables.
-use Rattle.std.proofs.Common.{◌≡◌, ◌≢◌, ℕ, zero, suc, ◌<◌, ◌+◌, Bool, true, false, Some, None, List, [], ◌∷◌, ◌++◌, length, get_or, set, refl, sym, ap, ◌∙◌, subst, arith}
-use Rattle.std.specs.Prelude.{◌==◌, All, replicate, slice_set}
+use Rattle.std.proofs.Common.{◌≡◌, ◌≢◌, ℕ, zero, suc, ◌<◌, ◌+◌, Bool, true, false, Some, None, List, [], ◌∷◌, ◌++◌, length, get_or, set, refl, sym, ap, ◌∙◌, subst, arith, ◌==◌, All, replicate, slice_set}
 use Rattle.std.specs.Int.{bit_at}
 use Rattle.std.proofs.lemmas.Bool.{false≢true, or_left, or_right}
 use Rattle.std.proofs.lemmas.Bool.Decides.{nat_tests}
@@ -12,9 +11,7 @@ use Rattle.machine_meaning.specs.Circuit.{Pins}
 use Rattle.machine_shape.specs.Shape.{table_wire, crosses_of}
 use Rattle.machine_config.specs.Groups.{among}
 use Rattle.diag_tests.specs.Routes.{cross_numbers}
-use Rattle.diag_evidence.specs.Forests.{Trees, HangsOn, IsForest, pin_of}
-use Rattle.diag_evidence.specs.Sheets.{AreAddressesOf, AreTableDrives, HasAddress, HasInputs, HaveWidth, IsPinOf}
-use Rattle.diag_evidence.specs.TableRows.{AreAddressDrives, AreTablesOn, IsInputPin, is_one_of}
+use Rattle.diag_evidence.specs.Vocabulary.{Trees, HangsOn, IsForest, pin_of, AreAddressesOf, AreTableDrives, HasAddress, HasInputs, HaveWidth, IsPinOf, AreAddressDrives, AreTablesOn, IsInputPin, is_one_of}
 use Rattle.diag_evidence.proofs.Planted.{same_pin}
 
 -- all pins are released

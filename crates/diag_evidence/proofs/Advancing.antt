@@ -1,24 +1,18 @@
 -- What is kept after a test is true.
-use Rattle.std.proofs.Common.{◌≡◌, ◌≢◌, ◌≤◌, ℕ, Bool, true, false, Some, Option, List, refl, sym, ◌∙◌, subst, arith}
-use Rattle.std.specs.Prelude.{◌==◌}
+use Rattle.std.proofs.Common.{◌≡◌, ◌≢◌, ◌≤◌, ℕ, Bool, true, false, Some, Option, List, refl, sym, ◌∙◌, subst, arith, ◌==◌}
 use mathlib.Core.Bool.{beq}
 use Rattle.std.proofs.lemmas.Bool.Decides.{nat_tests}
 use Rattle.machine_shape.specs.declared.Shape.{Shape}
 use Rattle.machine_shape.specs.Shape.{pin_wire}
-use Rattle.machine_meaning.specs.Circuit.{Pins}
-use Rattle.machine_meaning.specs.Faults.{Faults, stuck_cross}
-use Rattle.machine_meaning.specs.Joined.{Net, Joined, here, then, crossed, Shorted, net_of}
+use Rattle.machine_meaning.specs.Vocabulary.{Pins, Faults, stuck_cross, Net, Joined, here, then, crossed, Shorted, net_of}
 use Rattle.machine_meaning.proofs.JoinedLemmas.{Joined-sym}
 use Rattle.machine_config.specs.declared.Setting.{Setting}
-use Rattle.machine_config.specs.Configuration.{Configuration, is_closed, with_open, with_setting, with_cell, with_init}
-use Rattle.machine_config.specs.Groups.{among}
-use Rattle.machine_config.specs.Route.{LeadsTo, ends, goes}
+use Rattle.machine_config.specs.Vocabulary.{Configuration, is_closed, with_open, with_setting, with_cell, with_init, among, LeadsTo, ends, goes}
 use Rattle.machine_config.proofs.Readings.{conducting, swing_clears, apart_separates}
 use Rattle.machine_config.proofs.Toggles.{closed_cross_shows, cell_shows, register_shows}
 use Rattle.diag_tests.specs.Routes.{Walk}
 use Rattle.rig.specs.Rig.{RigState}
-use Rattle.diag_evidence.specs.Kept.{Kept, HoldsFor, Gain, Gains, Advances, one_cross, one_cell, one_register, these_wires, these_pairs}
-use Rattle.diag_evidence.specs.Readings.{Reads, ReadsPins, ReadsTwice, IsReady}
+use Rattle.diag_evidence.specs.Vocabulary.{Kept, HoldsFor, Gain, Gains, Advances, one_cross, one_cell, one_register, these_wires, these_pairs, Reads, ReadsPins, ReadsTwice, IsReady}
 use Rattle.diag_evidence.proofs.KeptLemmas.{GainHoldsFor, more_by_gain, holds_by_gain, cross_holds, cell_holds, register_holds, wires_hold, pairs_hold}
 use Rattle.diag_evidence.proofs.Shown.{differ, differ_turned}
 

@@ -1,6 +1,5 @@
 -- Feet, and what is closed at them.
-use Rattle.std.proofs.Common.{◌≡◌, ◌<◌, ℕ, Bool, true, false, ◌||◌, Some, None, Option, List, [], ◌∷◌, All, length, get_or, unwrap_or, refl, sym, ap, ◌∙◌, subst, arith}
-use Rattle.std.specs.Prelude.{◌==◌, map, replicate}
+use Rattle.std.proofs.Common.{◌≡◌, ◌<◌, ℕ, Bool, true, false, ◌||◌, Some, None, Option, List, [], ◌∷◌, All, length, get_or, unwrap_or, refl, sym, ap, ◌∙◌, subst, arith, ◌==◌, map, replicate}
 use Rattle.std.proofs.lemmas.Bool.Decides.{nat_tests}
 use Rattle.std.proofs.lemmas.List.{get_or-map, length-map, get_or-replicate, get_or_past, length-replicate}
 use Rattle.std.proofs.lemmas.List.Folds.{list_any_at}
@@ -11,12 +10,9 @@ use Rattle.machine_shape.specs.declared.Shape.{Shape}
 use Rattle.machine_shape.specs.declared.Cross.{Cross}
 use Rattle.machine_shape.specs.Shape.{pins_of, crosses_of, tables_of}
 use Rattle.machine_config.specs.declared.Setting.{Setting}
-use Rattle.machine_config.specs.Configuration.{Configuration, is_closed, cleared}
-use Rattle.machine_config.specs.Groups.{among}
-use Rattle.diag_tests.specs.Configs.{Closes}
-use Rattle.diag_tests.specs.Routes.{cross_numbers}
-use Rattle.diag_evidence.specs.Forests.{Trees, HangsOn, pin_of, is_laid, IsForest}
-use Rattle.diag_evidence.specs.Hangs.{Foot, IsFoot, ClosesJust, closes, feet_crosses, pin_at}
+use Rattle.machine_config.specs.Vocabulary.{Configuration, is_closed, cleared, among}
+use Rattle.diag_tests.specs.Vocabulary.{Closes, cross_numbers}
+use Rattle.diag_evidence.specs.Vocabulary.{Trees, HangsOn, pin_of, is_laid, IsForest, Foot, IsFoot, ClosesJust, closes, feet_crosses, pin_at}
 
 -- a wire hangs on a pin of the machine
 pub pin_below : (trees : Trees) (w p : ℕ) → IsForest trees → HangsOn trees w p → p < pins_of trees.shape

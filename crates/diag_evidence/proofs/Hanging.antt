@@ -1,6 +1,5 @@
 -- What the three looks of a test of hangs show is true.
-use Rattle.std.proofs.Common.{◌≡◌, ◌≢◌, ◌⊎◌, inl, inr, ℕ, zero, suc, ◌<◌, ◌≤◌, ◌+◌, ◌++◌, Bool, true, false, ◌&&◌, ◌||◌, Some, None, Option, List, [], ◌∷◌, All, length, get_or, refl, sym, ap, ◌∙◌, subst, arith}
-use Rattle.std.specs.Prelude.{◌==◌, map, filter, cond}
+use Rattle.std.proofs.Common.{◌≡◌, ◌≢◌, ◌⊎◌, inl, inr, ℕ, zero, suc, ◌<◌, ◌≤◌, ◌+◌, ◌++◌, Bool, true, false, ◌&&◌, ◌||◌, Some, None, Option, List, [], ◌∷◌, All, length, get_or, refl, sym, ap, ◌∙◌, subst, arith, ◌==◌, map, filter, cond}
 use Rattle.std.specs.List.{list_any, list_all, IsDistinct}
 use Rattle.std.proofs.lemmas.Bool.{false≢true, and_parts, or_cases, or_left, or_right}
 use Rattle.std.proofs.lemmas.Bool.Decides.{nat_tests}
@@ -10,21 +9,14 @@ use Rattle.std.proofs.lemmas.List.Elements.{All-map, All-filter, All-append}
 use native.Mathlib.Decide.{ℕ_discrete}
 use Rattle.machine_shape.specs.declared.Shape.{Shape}
 use Rattle.machine_shape.specs.Shape.{Ends, ends_of, pin_wire, pins_of, crosses_of}
-use Rattle.machine_meaning.specs.Circuit.{Pins}
-use Rattle.machine_meaning.specs.Faults.{Faults, stuck_cross}
-use Rattle.machine_meaning.specs.Joined.{Joined, Shorted, net_of}
+use Rattle.machine_meaning.specs.Vocabulary.{Pins, Faults, stuck_cross, Joined, Shorted, net_of}
 use Rattle.machine_meaning.proofs.JoinedLemmas.{Joined-sym, Joined-trans}
-use Rattle.machine_config.specs.Configuration.{Configuration, is_closed}
-use Rattle.machine_config.specs.Distance.{OpensFarFrom}
-use Rattle.machine_config.specs.Groups.{among}
+use Rattle.machine_config.specs.Vocabulary.{Configuration, is_closed, OpensFarFrom, among}
 use Rattle.machine_config.proofs.Distance.{change_at_a_distance}
 use Rattle.rig.specs.Rig.{RigState}
 use Rattle.diag_tests.specs.Routes.{other_end}
 use Rattle.diag_evidence.specs.declared.hangs.WireTest.{WireTest}
-use Rattle.diag_evidence.specs.Kept.{Kept, HoldsFor, Gains, Advances}
-use Rattle.diag_evidence.specs.Forests.{Trees, HangsOn, is_laid, IsForest, KeepsForest, KnowsForest}
-use Rattle.diag_evidence.specs.Looks.{IsLook, differ, parts, read_under}
-use Rattle.diag_evidence.specs.Hangs.{Foot, IsFoot, AreHangs, over_of, turned, overs, others, all_feet, closes, pin_at, pin_p, pin_q, feet_crosses, others_part_from, is_shown, shown, seen_on}
+use Rattle.diag_evidence.specs.Vocabulary.{Kept, HoldsFor, Gains, Advances, Trees, HangsOn, is_laid, IsForest, KeepsForest, KnowsForest, IsLook, differ, parts, read_under, Foot, IsFoot, AreHangs, over_of, turned, overs, others, all_feet, closes, pin_at, pin_p, pin_q, feet_crosses, others_part_from, is_shown, shown, seen_on}
 use Rattle.diag_evidence.proofs.Keeping.{more_then}
 use Rattle.diag_evidence.proofs.KeptLemmas.{GainHoldsFor, more_by_gain, holds_by_gain}
 use Rattle.diag_evidence.proofs.Rows.{differ_so}

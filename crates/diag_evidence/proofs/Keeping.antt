@@ -1,13 +1,10 @@
 -- What stays as more is kept.
-use Rattle.std.proofs.Common.{◌≡◌, ◌<◌, ℕ, Bool, true, false, not, ◌&&◌, Some, None, refl, sym, ap, ◌∙◌, subst, arith}
-use Rattle.std.specs.Prelude.{◌==◌, nat_lt}
+use Rattle.std.proofs.Common.{◌≡◌, ◌<◌, ℕ, Bool, true, false, not, ◌&&◌, Some, None, refl, sym, ap, ◌∙◌, subst, arith, ◌==◌, nat_lt}
 use Rattle.std.proofs.lemmas.Bool.{false≢true}
 use Rattle.std.proofs.lemmas.Bool.Decides.{nat_tests}
 use Rattle.base_bits.specs.Pairs.{has_pair, is_pair}
 use Rattle.base_bits.proofs.PairsLemmas.{has_pair_turned}
-use Rattle.machine_meaning.specs.Defects.{IsClear}
-use Rattle.machine_meaning.specs.Joined.{Shorted}
-use Rattle.machine_meaning.specs.Faults.{Faults}
+use Rattle.machine_meaning.specs.Vocabulary.{IsClear, Shorted, Faults}
 use Rattle.rig.specs.Rig.{RigState}
 use Rattle.diag_evidence.specs.Kept.{Kept, keeps_cross, keeps_pair, HoldsFor, KeepsNothing, IsMore, Advances}
 use Rattle.diag_evidence.proofs.KeptLemmas.{more_itself}

@@ -1,6 +1,5 @@
 -- What is kept after a gain.
-use Rattle.std.proofs.Common.{◌≡◌, ◌≢◌, ◌<◌, ◌≤◌, ◌+◌, ◌*◌, ℕ, Bool, true, false, not, ◌&&◌, inl, inr, ◌⊎◌, Some, None, List, [], ◌∷◌, length, get_or, set, take, replicate, refl, sym, ap, ◌∙◌, subst, arith}
-use Rattle.std.specs.Prelude.{◌==◌, ◌||◌, nat_lt, slice_set, slice_get}
+use Rattle.std.proofs.Common.{◌≡◌, ◌≢◌, ◌<◌, ◌≤◌, ◌+◌, ◌*◌, ℕ, Bool, true, false, not, ◌&&◌, inl, inr, ◌⊎◌, Some, None, List, [], ◌∷◌, length, get_or, set, take, replicate, refl, sym, ap, ◌∙◌, subst, arith, ◌==◌, ◌||◌, nat_lt, slice_set, slice_get}
 use Rattle.std.proofs.lemmas.Option.{gets}
 use Rattle.std.proofs.lemmas.List.Folds.{list_any_more}
 use native.Mathlib.Decide.{dec_lt}
@@ -11,9 +10,7 @@ use Rattle.base_bits.specs.Numbers.{has_number}
 use Rattle.base_bits.specs.Pairs.{Pairs, has_pair, is_same_pair, is_with}
 use Rattle.machine_shape.specs.declared.Shape.{Shape}
 use Rattle.machine_shape.specs.Shape.{tables_of}
-use Rattle.machine_meaning.specs.Faults.{Faults, stuck_cross, wrong_cell, stuck_register}
-use Rattle.machine_meaning.specs.Joined.{Shorted}
-use Rattle.machine_meaning.specs.Defects.{IsClear}
+use Rattle.machine_meaning.specs.Vocabulary.{Faults, stuck_cross, wrong_cell, stuck_register, Shorted, IsClear}
 use Rattle.machine_config.specs.Groups.{among}
 use Rattle.diag_evidence.specs.Kept.{Kept, keeps_cross, keeps_wire, keeps_pair, keeps_cell, keeps_register, HoldsFor, IsMore, KeepsNothing, Gain, one_cross, these_wires, these_pairs, one_cell, one_register, is_between, is_across, Gains}
 

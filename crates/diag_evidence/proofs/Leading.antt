@@ -1,6 +1,5 @@
 -- What the ends of walks read shows of their crosspoints.
-use Rattle.std.proofs.Common.{◌≡◌, ◌≢◌, ◌⊎◌, inl, inr, ℕ, zero, suc, ◌<◌, Bool, true, false, not, ◌&&◌, ◌||◌, Some, None, Option, List, [], ◌∷◌, ◌++◌, length, get_or, refl, sym, ap, ◌∙◌, subst, arith}
-use Rattle.std.specs.Prelude.{◌==◌, All, map, flat_map, if◌then◌else◌}
+use Rattle.std.proofs.Common.{◌≡◌, ◌≢◌, ◌⊎◌, inl, inr, ℕ, zero, suc, ◌<◌, Bool, true, false, not, ◌&&◌, ◌||◌, Some, None, Option, List, [], ◌∷◌, ◌++◌, length, get_or, refl, sym, ap, ◌∙◌, subst, arith, ◌==◌, All, map, flat_map, if◌then◌else◌}
 use Rattle.std.specs.List.{AllByRecursion, IsDistinct}
 use Rattle.std.proofs.lemmas.Bool.{false≢true, and_parts, or_cases, or_left, or_right}
 use Rattle.std.proofs.lemmas.Bool.Decides.{nat_tests}
@@ -8,16 +7,9 @@ use Rattle.std.proofs.lemmas.List.Folds.{list_any-append}
 use native.Mathlib.Decide.{ℕ_discrete, dec_lt}
 use Rattle.machine_shape.specs.declared.Shape.{Shape}
 use Rattle.machine_shape.specs.Shape.{Ends, ends_of, pin_wire, pins_of, crosses_of}
-use Rattle.machine_meaning.specs.Circuit.{Pins, Outputs}
-use Rattle.machine_meaning.specs.Faults.{Faults, stuck_cross, stuck_wire}
-use Rattle.machine_meaning.specs.Joined.{Joined, Shorted, net_of}
-use Rattle.machine_meaning.specs.Defects.{IsClear}
+use Rattle.machine_meaning.specs.Vocabulary.{Pins, Outputs, Faults, stuck_cross, stuck_wire, Joined, Shorted, net_of, IsClear}
 use Rattle.machine_meaning.proofs.JoinedLemmas.{Joined-sym}
-use Rattle.machine_config.specs.Configuration.{Configuration, is_closed, with_open, with_closed}
-use Rattle.machine_config.specs.Faulty.{circuit_of, IsRun}
-use Rattle.machine_config.specs.Groups.{among, IsWithin, AreGroups}
-use Rattle.machine_config.specs.Route.{LeadsTo, ends, goes}
-use Rattle.machine_config.specs.Run.{Runs, Cycles, none, cycle, at_load}
+use Rattle.machine_config.specs.Vocabulary.{Configuration, is_closed, with_open, with_closed, circuit_of, IsRun, among, IsWithin, AreGroups, LeadsTo, ends, goes, Runs, Cycles, none, cycle, at_load}
 use Rattle.machine_config.proofs.Changes.{closed_already, is_closed-open}
 use Rattle.machine_config.proofs.Grouped.{left_unstuck, LeadsTo-joined, LeadsTo-within, LeadsTo-start, LeadsTo-end}
 use Rattle.machine_config.proofs.Loops.{itself_or_closed, closed_before}
@@ -26,8 +18,7 @@ use Rattle.machine_config.proofs.Readings.{conducting}
 use Rattle.machine_config.proofs.Toggles.{cross_toggled}
 use Rattle.diag_tests.specs.Routes.{Walk, IsRoute}
 use Rattle.diag_evidence.specs.declared.leads.Lead.{Lead}
-use Rattle.diag_evidence.specs.Kept.{Kept, HoldsFor, keeps_cross, keeps_wire, keeps_pair}
-use Rattle.diag_evidence.specs.Leads.{wires_of_leads, crosses_of_leads, IsLead, IsPathTest}
+use Rattle.diag_evidence.specs.Vocabulary.{Kept, HoldsFor, keeps_cross, keeps_wire, keeps_pair, wires_of_leads, crosses_of_leads, IsLead, IsPathTest}
 
 pub first_or_more : (y x : ℕ) (xs : List ℕ) → among (y ∷ xs) x ≡ true → (y ≡ x) ⊎ (among xs x ≡ true)
 first_or_more y x xs is = by (ℕ_discrete y x)

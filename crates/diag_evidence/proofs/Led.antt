@@ -1,19 +1,12 @@
 -- What walks gain and mark, one walk after the other, and that it is true.
-use Rattle.std.proofs.Common.{◌≡◌, ◌≢◌, ◌⊎◌, inl, inr, ℕ, ◌<◌, ◌+◌, Bool, true, false, not, ◌&&◌, ◌||◌, Some, None, Option, List, [], ◌∷◌, length, get_or, take, refl, sym, ap, ◌∙◌, subst, arith}
-use Rattle.std.specs.Prelude.{◌==◌, slice_set}
+use Rattle.std.proofs.Common.{◌≡◌, ◌≢◌, ◌⊎◌, inl, inr, ℕ, ◌<◌, ◌+◌, Bool, true, false, not, ◌&&◌, ◌||◌, Some, None, Option, List, [], ◌∷◌, length, get_or, take, refl, sym, ap, ◌∙◌, subst, arith, ◌==◌, slice_set}
 use Rattle.std.proofs.lemmas.Bool.{false≢true, and_parts, or_cases}
 use Rattle.std.proofs.lemmas.List.Folds.{list_any_more}
 use Rattle.base_bits.specs.Numbers.{has_number}
-use Rattle.machine_meaning.specs.Circuit.{Pins}
-use Rattle.machine_meaning.specs.Faults.{Faults, stuck_cross}
-use Rattle.machine_meaning.specs.Defects.{IsClear}
-use Rattle.machine_meaning.specs.Joined.{Shorted}
-use Rattle.machine_config.specs.Configuration.{Configuration}
-use Rattle.machine_config.specs.Groups.{among}
+use Rattle.machine_meaning.specs.Vocabulary.{Pins, Faults, stuck_cross, IsClear, Shorted}
+use Rattle.machine_config.specs.Vocabulary.{Configuration, among}
 use Rattle.diag_evidence.specs.declared.leads.Lead.{Lead}
-use Rattle.diag_evidence.specs.Kept.{Kept, Gains, HoldsFor, keeps_cross}
-use Rattle.diag_evidence.specs.Leads.{IsPathTest, MarksStuck, StuckIf, arrives, led_over, held_up_at, is_only_unkept, these_crosses}
-use Rattle.diag_evidence.specs.Readings.{ReadsOnce}
+use Rattle.diag_evidence.specs.Vocabulary.{Kept, Gains, HoldsFor, keeps_cross, IsPathTest, MarksStuck, StuckIf, arrives, led_over, held_up_at, is_only_unkept, these_crosses, ReadsOnce}
 use Rattle.diag_evidence.proofs.KeptLemmas.{GainHoldsFor, mark_set, or_swapped}
 use Rattle.diag_evidence.proofs.Found.{IsSome_of, some_of}
 use Rattle.diag_evidence.proofs.Leading.{arrives_free, free_where_arrives}

@@ -1,27 +1,18 @@
 -- What is closed by lists makes groups and loops.
-use Rattle.std.proofs.Common.{◌≡◌, ◌≢◌, ◌⊎◌, ℕ, Bool, true, false, None, Option, List, [], ◌∷◌, ◌++◌, refl, sym, ◌∙◌, subst, inl, inr, arith}
-use Rattle.std.specs.Prelude.{◌||◌, ◌==◌, if◌then◌else◌}
+use Rattle.std.proofs.Common.{◌≡◌, ◌≢◌, ◌⊎◌, ℕ, Bool, true, false, None, Option, List, [], ◌∷◌, ◌++◌, refl, sym, ◌∙◌, subst, inl, inr, arith, ◌||◌, ◌==◌, if◌then◌else◌}
 use Rattle.std.specs.List.{AllByRecursion}
 use Rattle.std.proofs.lemmas.Bool.{false≢true}
 use Rattle.std.proofs.lemmas.Bool.Decides.{nat_tests}
 use Rattle.machine_shape.specs.declared.Shape.{Shape}
 use Rattle.machine_shape.specs.Shape.{Ends, in_order, turned, ends_of, pin_wire}
-use Rattle.machine_meaning.specs.Circuit.{Pins}
-use Rattle.machine_meaning.specs.Faults.{Faults, stuck_cross}
-use Rattle.machine_meaning.specs.Joined.{here}
-use Rattle.machine_config.specs.Groups.{among, IsWithin, AreGroups}
-use Rattle.machine_config.specs.Route.{LeadsTo}
-use Rattle.machine_config.specs.Configuration.{Configuration, is_closed, with_open}
-use Rattle.machine_config.specs.Tests.{IsLed, IsLoop, IsDrivenAlone, AreReleased}
+use Rattle.machine_meaning.specs.Vocabulary.{Pins, Faults, stuck_cross, here}
+use Rattle.machine_config.specs.Vocabulary.{among, IsWithin, AreGroups, LeadsTo, Configuration, is_closed, with_open, IsLed, IsLoop, IsDrivenAlone, AreReleased}
 use Rattle.machine_config.proofs.Changes.{is_closed-open}
 use Rattle.machine_config.proofs.Grouped.{LeadsTo-within, LeadsTo-start, LeadsTo-then}
 use Rattle.machine_config.proofs.Loops.{closed_before}
 use Rattle.machine_config.proofs.Passing.{driven_in}
-use Rattle.diag_tests.specs.Routes.{Walk, IsRoute}
-use Rattle.diag_tests.specs.Configs.{IsLoopConfig, is_laid}
-use Rattle.diag_evidence.specs.Kept.{Kept, keeps_cross}
-use Rattle.diag_evidence.specs.Readings.{CrossPasses, SwingPasses, ApartPasses}
-use Rattle.diag_evidence.specs.Loops.{AreTied, IsLoopBy, LoopPasses, RoutePasses, RoutesPass}
+use Rattle.diag_tests.specs.Vocabulary.{Walk, IsRoute, IsLoopConfig, is_laid}
+use Rattle.diag_evidence.specs.Vocabulary.{Kept, keeps_cross, CrossPasses, SwingPasses, ApartPasses, AreTied, IsLoopBy, LoopPasses, RoutePasses, RoutesPass}
 
 all_append : (P : ℕ → Type 0) (xs ys : List ℕ) → AllByRecursion P xs → AllByRecursion P ys → AllByRecursion P (xs ++ ys)
 all_append P [] ys p q = q

@@ -1,19 +1,11 @@
 -- Marks are true.
-use Rattle.std.proofs.Common.{◌≡◌, ◌⊎◌, inl, inr, ℕ, ◌<◌, Bool, true, false, ◌&&◌, ◌||◌, Some, Option, List, All, length, get_or, refl, sym, ap, ◌∙◌, subst, arith}
-use Rattle.std.specs.Prelude.{◌==◌, map}
+use Rattle.std.proofs.Common.{◌≡◌, ◌⊎◌, inl, inr, ℕ, ◌<◌, Bool, true, false, ◌&&◌, ◌||◌, Some, Option, List, All, length, get_or, refl, sym, ap, ◌∙◌, subst, arith, ◌==◌, map}
 use Rattle.std.specs.List.{IsDistinct, list_any}
 use Rattle.std.proofs.lemmas.Bool.{false≢true, and_parts, or_cases, or_right}
 use Rattle.std.proofs.lemmas.Bool.Decides.{nat_tests}
-use Rattle.machine_meaning.specs.Circuit.{Pins}
-use Rattle.machine_meaning.specs.Faults.{Faults}
-use Rattle.machine_meaning.specs.Joined.{Shorted}
-use Rattle.machine_meaning.specs.Defects.{IsClear}
-use Rattle.machine_meaning.specs.Tight.{IsAlone}
+use Rattle.machine_meaning.specs.Vocabulary.{Pins, Faults, Shorted, IsClear, IsAlone}
 use Rattle.base_bits.specs.Numbers.{has_number}
-use Rattle.diag_evidence.specs.Kept.{Kept, HoldsFor, IsMore}
-use Rattle.diag_evidence.specs.Forests.{Trees, IsForest, KnowsForest, is_hung}
-use Rattle.diag_evidence.specs.Looks.{IsLook}
-use Rattle.diag_evidence.specs.Hangs.{Foot, IsFoot, closes, pin_at, others_part, reads_oddly, reads_alike, shows_unfit, shows_unclear, is_unfit_in, is_unclear_in, MarksUnfit, MarksUnclear, UnfitIf, UnclearIf, AreAllOf, StayMarked, HasMarked}
+use Rattle.diag_evidence.specs.Vocabulary.{Kept, HoldsFor, IsMore, Trees, IsForest, KnowsForest, is_hung, IsLook, Foot, IsFoot, closes, pin_at, others_part, reads_oddly, reads_alike, shows_unfit, shows_unclear, is_unfit_in, is_unclear_in, MarksUnfit, MarksUnclear, UnfitIf, UnclearIf, AreAllOf, StayMarked, HasMarked}
 use Rattle.diag_evidence.proofs.Keeping.{holds_earlier}
 use Rattle.diag_evidence.proofs.Found.{IsSome_of, some_of}
 use Rattle.diag_evidence.proofs.Unfitting.{not_odd, not_alike}

@@ -2,17 +2,12 @@
 use Rattle.std.proofs.Common.{◌≡◌, ℕ, ◌<◌, true, Some, List, ◌∷◌, sym, ap, ◌∙◌, subst, arith}
 use Rattle.std.proofs.lemmas.Bool.Decides.{nat_tests}
 use Rattle.machine_shape.specs.Shape.{Ends, in_order, turned, ends_of, pin_wire, pins_of}
-use Rattle.machine_meaning.specs.Defects.{IsClear}
-use Rattle.machine_meaning.specs.Faults.{Faults, stuck_cross}
-use Rattle.machine_meaning.specs.Joined.{here, Shorted}
+use Rattle.machine_meaning.specs.Vocabulary.{IsClear, Faults, stuck_cross, here, Shorted}
 use Rattle.machine_meaning.proofs.JoinedLemmas.{Joined-sym}
-use Rattle.machine_config.specs.Configuration.{Configuration, is_closed}
-use Rattle.machine_config.specs.Groups.{among}
-use Rattle.machine_config.specs.Route.{LeadsTo, ends, goes}
+use Rattle.machine_config.specs.Vocabulary.{Configuration, is_closed, among, LeadsTo, ends, goes}
 use Rattle.machine_config.proofs.Grouped.{LeadsTo-end}
 use Rattle.machine_config.proofs.Readings.{conducting}
-use Rattle.diag_evidence.specs.Forests.{Trees, IsForest, IsOfTree, KnowsForest, is_laid, pin_of}
-use Rattle.diag_evidence.specs.Kept.{Kept, HoldsFor}
+use Rattle.diag_evidence.specs.Vocabulary.{Trees, IsForest, IsOfTree, KnowsForest, is_laid, pin_of, Kept, HoldsFor}
 use Rattle.diag_evidence.proofs.Advancing.{joined_along}
 use Rattle.diag_evidence.proofs.Nets.{IsNet}
 

@@ -6,10 +6,7 @@ use Rattle.machine_meaning.specs.Faults.{Faults}
 use Rattle.machine_config.specs.declared.Setting.{Setting}
 use Rattle.rig.specs.Rig.{RigState}
 use Rattle.diag_evidence.specs.declared.sheets.Sheet.{Sheet}
-use Rattle.diag_evidence.specs.Forests.{Trees, KnowsForest}
-use Rattle.diag_evidence.specs.Kept.{Kept, Gains, HoldsFor}
-use Rattle.diag_evidence.specs.Sheets.{IsReadyFor, IsReadTwice}
-use Rattle.diag_evidence.specs.TableRows.{AreOpposite, AreTablesOn, HasTabled, IsTableConfig, IsTableLoad, MarksWrong, WrongIf, is_one_of, is_right_before, output_pin, right_parts}
+use Rattle.diag_evidence.specs.Vocabulary.{Trees, KnowsForest, Kept, Gains, HoldsFor, IsReadyFor, IsReadTwice, AreOpposite, AreTablesOn, HasTabled, IsTableConfig, IsTableLoad, MarksWrong, WrongIf, is_one_of, is_right_before, output_pin, right_parts}
 use Rattle.diag_evidence.proofs.KeptLemmas.{GainHoldsFor}
 use Rattle.diag_evidence.proofs.Settings.{laid_again}
 use Rattle.diag_evidence.proofs.Tabled.{right_holds, marks_wrong, newly_wrong}

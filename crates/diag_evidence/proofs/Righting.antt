@@ -1,16 +1,12 @@
 -- What is kept and marked of tables, one after the other.
-use Rattle.std.proofs.Common.{◌≡◌, ℕ, zero, suc, ◌<◌, ◌+◌, Bool, true, false, not, ◌&&◌, ◌||◌, Some, List, length, take, refl, sym, ap, ◌∙◌, subst, arith}
-use Rattle.std.specs.Prelude.{◌==◌, nat_lt, slice_get, slice_set}
+use Rattle.std.proofs.Common.{◌≡◌, ℕ, zero, suc, ◌<◌, ◌+◌, Bool, true, false, not, ◌&&◌, ◌||◌, Some, List, length, take, refl, sym, ap, ◌∙◌, subst, arith, ◌==◌, nat_lt, slice_get, slice_set}
 use Rattle.std.proofs.lemmas.Bool.Decides.{nat_tests}
 use native.Mathlib.Decide.{ℕ_discrete}
 use Rattle.base_bits.specs.Numbers.{has_number}
 use Rattle.machine_shape.specs.declared.Table.{Table}
 use Rattle.machine_meaning.specs.Circuit.{Pins}
 use Rattle.machine_config.specs.declared.Setting.{Setting}
-use Rattle.diag_evidence.specs.Forests.{Trees}
-use Rattle.diag_evidence.specs.Kept.{Kept, Gain, Gains, nothing, one_register, keeps_cross, keeps_wire, keeps_pair, keeps_cell, keeps_register}
-use Rattle.diag_evidence.specs.Sheets.{right_cells}
-use Rattle.diag_evidence.specs.TableRows.{is_one_of, is_right_before, is_right_in, output_pin, right_parts}
+use Rattle.diag_evidence.specs.Vocabulary.{Trees, Kept, Gain, Gains, nothing, one_register, keeps_cross, keeps_wire, keeps_pair, keeps_cell, keeps_register, right_cells, is_one_of, is_right_before, is_right_in, output_pin, right_parts}
 use Rattle.diag_evidence.proofs.KeptLemmas.{mark_set}
 use Rattle.diag_evidence.proofs.Settings.{one_more}
 

@@ -1,6 +1,5 @@
 -- Readings row by row.
-use Rattle.std.proofs.Common.{◌≡◌, ◌≢◌, ℕ, zero, suc, ◌<◌, ◌+◌, ◌++◌, ◌∷◌, All, Bool, true, false, not, Some, List, [], length, get_or, set, take, drop, refl, sym, ap, ◌∙◌, arith}
-use Rattle.std.specs.Prelude.{slice_get, ◌||◌, ◌&&◌, map}
+use Rattle.std.proofs.Common.{◌≡◌, ◌≢◌, ℕ, zero, suc, ◌<◌, ◌+◌, ◌++◌, ◌∷◌, All, Bool, true, false, not, Some, List, [], length, get_or, set, take, drop, refl, sym, ap, ◌∙◌, arith, slice_get, ◌||◌, ◌&&◌, map}
 use mathlib.Core.Bool.{beq}
 use Rattle.std.specs.List.{list_any, list_all, range_with_len}
 use Rattle.std.proofs.lemmas.Bool.{false≢true}

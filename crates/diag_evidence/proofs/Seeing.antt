@@ -1,6 +1,5 @@
 -- What a look shows is true.
-use Rattle.std.proofs.Common.{◌≡◌, ◌≢◌, ◌⊎◌, inl, inr, ℕ, zero, suc, ◌<◌, ◌+◌, Bool, true, false, not, ◌&&◌, ◌||◌, Some, None, Option, List, [], ◌∷◌, All, length, get_or, refl, sym, ap, ◌∙◌, subst, arith}
-use Rattle.std.specs.Prelude.{◌==◌, slice_get, map}
+use Rattle.std.proofs.Common.{◌≡◌, ◌≢◌, ◌⊎◌, inl, inr, ℕ, zero, suc, ◌<◌, ◌+◌, Bool, true, false, not, ◌&&◌, ◌||◌, Some, None, Option, List, [], ◌∷◌, All, length, get_or, refl, sym, ap, ◌∙◌, subst, arith, ◌==◌, slice_get, map}
 use Rattle.std.specs.List.{list_any, range_with_len}
 use Rattle.std.specs.Option.{option_map_or}
 use Rattle.std.proofs.lemmas.Bool.{false≢true, and_parts, or_cases, or_left, or_right}
@@ -9,27 +8,16 @@ use Rattle.std.proofs.lemmas.List.FromFn.{get_or-map-range_with_len}
 use Rattle.std.proofs.lemmas.Option.{slice_get-get_or}
 use Rattle.machine_shape.specs.declared.Shape.{Shape}
 use Rattle.machine_shape.specs.Shape.{Ends, ends_of, pin_wire, pins_of}
-use Rattle.machine_meaning.specs.Circuit.{Circuit, Pins, Outputs}
-use Rattle.machine_meaning.specs.Value.{IsValue, IsHeld}
-use Rattle.machine_meaning.specs.Faults.{Faults, stuck_cross, stuck_wire}
-use Rattle.machine_meaning.specs.Joined.{Net, Joined, here, then, crossed, Shorted, net_of}
-use Rattle.machine_meaning.specs.Defects.{IsClear}
+use Rattle.machine_meaning.specs.Vocabulary.{Circuit, Pins, Outputs, IsValue, IsHeld, Faults, stuck_cross, stuck_wire, Net, Joined, here, then, crossed, Shorted, net_of, IsClear}
 use Rattle.machine_meaning.proofs.JoinedLemmas.{Joined-sym, Joined-trans, Joined-Shorted, Ends-swap}
 use Rattle.machine_meaning.proofs.Values.{swings as two_values}
-use Rattle.machine_config.specs.Configuration.{Configuration, is_closed}
-use Rattle.machine_config.specs.Faulty.{circuit_of, IsRun}
-use Rattle.machine_config.specs.Groups.{among}
-use Rattle.machine_config.specs.Run.{Runs, Cycles, none, cycle, at_load}
-use Rattle.machine_config.specs.Route.{LeadsTo}
+use Rattle.machine_config.specs.Vocabulary.{Configuration, is_closed, circuit_of, IsRun, among, Runs, Cycles, none, cycle, at_load, LeadsTo}
 use Rattle.machine_config.proofs.Distance.{cycles_alike}
 use Rattle.machine_config.proofs.Grouped.{LeadsTo-end}
 use Rattle.machine_config.proofs.Readings.{conducting, pin_value, reads_apart, apart_separates}
 use Rattle.machine_config.proofs.Runs.{Cycles-length}
 use Rattle.diag_tests.specs.Routes.{other_end}
-use Rattle.diag_evidence.specs.Kept.{Kept, HoldsFor, Gain}
-use Rattle.diag_evidence.specs.Forests.{Trees, HangsOn, pin_of, is_laid, IsForest, KeepsForest}
-use Rattle.diag_evidence.specs.Looks.{IsLook, look_drives, one_driven, none_driven, differ, parts, swings, reads_somewhere, hangs_apart, hangs_swinging, hang_apart, read_at, seen_in}
-use Rattle.diag_evidence.specs.Hangs.{Foot, IsFoot, closes, pin_at, feet_crosses, seen_on, stands_apart, is_swinging_on, are_apart_on}
+use Rattle.diag_evidence.specs.Vocabulary.{Kept, HoldsFor, Gain, Trees, HangsOn, pin_of, is_laid, IsForest, KeepsForest, IsLook, look_drives, one_driven, none_driven, differ, parts, swings, reads_somewhere, hangs_apart, hangs_swinging, hang_apart, read_at, seen_in, Foot, IsFoot, closes, pin_at, feet_crosses, seen_on, stands_apart, is_swinging_on, are_apart_on}
 use Rattle.diag_evidence.proofs.Advancing.{joined_along}
 use Rattle.diag_evidence.proofs.Found.{IsSome_of, some_of}
 use Rattle.diag_evidence.proofs.Footing.{pin_below, foot_below}

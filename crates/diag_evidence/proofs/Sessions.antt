@@ -1,11 +1,8 @@
 -- The readings of a session.
-use Rattle.std.proofs.Common.{◌≡◌, ℕ, Bool, true, Some, None, Option, List, [], ◌∷◌, ◌++◌, get_or, ap, ◌∙◌, subst, arith, Result, Ok, Err, OnOk}
-use Rattle.std.specs.Prelude.{IfSome, unwrap_or, slice_get}
+use Rattle.std.proofs.Common.{◌≡◌, ℕ, Bool, true, Some, None, Option, List, [], ◌∷◌, ◌++◌, get_or, ap, ◌∙◌, subst, arith, Result, Ok, Err, OnOk, IfSome, unwrap_or, slice_get}
 use Rattle.std.proofs.lemmas.Option.{gets}
-use Rattle.machine_meaning.specs.Circuit.{Pins}
-use Rattle.machine_meaning.specs.Faults.{Faults}
-use Rattle.machine_config.specs.Configuration.{Configuration}
-use Rattle.machine_config.specs.Faulty.{IsRun}
+use Rattle.machine_meaning.specs.Vocabulary.{Pins, Faults}
+use Rattle.machine_config.specs.Vocabulary.{Configuration, IsRun}
 use Rattle.diag_evidence.specs.Readings.{HasCycled}
 use Rattle.rig.specs.Rig.{RigState, Exchange, Begins, GoesOn, config_of, cycles_of, drives_of, readings_of}
 

@@ -1,6 +1,5 @@
 -- Settings of tables, one table after the other, and what they are in a load.
-use Rattle.std.proofs.Common.{◌≡◌, ◌≢◌, ◌⊎◌, inl, inr, ℕ, ◌<◌, ◌≤◌, ◌+◌, ◌%◌, Bool, true, false, not, ◌||◌, Some, None, Option, List, length, get_or, take, set, refl, sym, ap, ◌∙◌, subst, arith}
-use Rattle.std.specs.Prelude.{◌==◌, bit_xor, All, slice_get, slice_set, replicate}
+use Rattle.std.proofs.Common.{◌≡◌, ◌≢◌, ◌⊎◌, inl, inr, ℕ, ◌<◌, ◌≤◌, ◌+◌, ◌%◌, Bool, true, false, not, ◌||◌, Some, None, Option, List, length, get_or, take, set, refl, sym, ap, ◌∙◌, subst, arith, ◌==◌, bit_xor, All, slice_get, slice_set, replicate}
 use Rattle.std.specs.Int.{bit_at}
 use Rattle.std.specs.Ordering.{nat_cmp}
 use Rattle.std.specs.FinSet.{contains-empty}
@@ -15,11 +14,8 @@ use Rattle.machine_shape.specs.declared.Table.{Table}
 use Rattle.machine_shape.specs.Shape.{tables_of}
 use Rattle.machine_config.specs.declared.Setting.{Setting}
 use Rattle.machine_config.specs.Configuration.{Configuration, cleared, is_closed, with_setting}
-use Rattle.diag_tests.specs.Configs.{Closes}
-use Rattle.diag_tests.specs.Routes.{cross_numbers}
-use Rattle.diag_evidence.specs.Forests.{Trees, is_laid}
-use Rattle.diag_evidence.specs.Sheets.{SwitchesOn}
-use Rattle.diag_evidence.specs.TableRows.{AreOpposite, IsTableConfig, is_one_of}
+use Rattle.diag_tests.specs.Vocabulary.{Closes, cross_numbers}
+use Rattle.diag_evidence.specs.Vocabulary.{Trees, is_laid, SwitchesOn, AreOpposite, IsTableConfig, is_one_of}
 
 turned_bit : (n : ℕ) → n < 2 → ((n + 1) % 2 == 1) ≡ not (n == 1)
 turned_bit n h = by (n == 1) refl

@@ -1,25 +1,19 @@
 -- One route against several.
-use Rattle.std.proofs.Common.{◌≡◌, ◌≢◌, ◌⊎◌, ◌<◌, ◌+◌, ℕ, zero, suc, Bool, true, false, ◌&&◌, Some, Option, List, [], ◌∷◌, ◌++◌, length, get_or, take, refl, sym, ap, ◌∙◌, subst, inl, inr, arith}
-use Rattle.std.specs.Prelude.{◌==◌, ◌||◌, All}
+use Rattle.std.proofs.Common.{◌≡◌, ◌≢◌, ◌⊎◌, ◌<◌, ◌+◌, ℕ, zero, suc, Bool, true, false, ◌&&◌, Some, Option, List, [], ◌∷◌, ◌++◌, length, get_or, take, refl, sym, ap, ◌∙◌, subst, inl, inr, arith, ◌==◌, ◌||◌, All}
 use Rattle.std.proofs.Math.Bool.{or_comm}
 use Rattle.std.proofs.lemmas.Bool.{false≢true, or_cases, or_left, or_right}
 use Rattle.std.proofs.lemmas.List.{take_more, flat_map_more}
 use Rattle.std.proofs.lemmas.List.Folds.{list_any-append}
 use Rattle.base_bits.specs.Numbers.{has_number}
 use Rattle.machine_shape.specs.Shape.{pins_of}
-use Rattle.machine_meaning.specs.Circuit.{Pins}
-use Rattle.machine_meaning.specs.Faults.{Faults}
-use Rattle.machine_meaning.specs.Joined.{Shorted}
+use Rattle.machine_meaning.specs.Vocabulary.{Pins, Faults, Shorted}
 use Rattle.machine_meaning.proofs.JoinedLemmas.{Joined-sym}
-use Rattle.machine_config.specs.Configuration.{Configuration}
-use Rattle.machine_config.specs.Faulty.{circuit_of, IsRun}
-use Rattle.machine_config.specs.Groups.{among}
+use Rattle.machine_config.specs.Vocabulary.{Configuration, circuit_of, IsRun, among}
 use Rattle.machine_config.proofs.Passing.{apart_passes}
 use Rattle.machine_config.proofs.Readings.{apart_separates}
 use Rattle.machine_config.proofs.Runs.{Runs-unique}
 use Rattle.diag_tests.specs.Routes.{Walk}
-use Rattle.diag_evidence.specs.Kept.{Kept, HoldsFor, is_between, is_across, these_pairs}
-use Rattle.diag_evidence.specs.Readings.{ReadsOnce, TellsFromAll, AllApartPasses, IsReady, wires_over}
+use Rattle.diag_evidence.specs.Vocabulary.{Kept, HoldsFor, is_between, is_across, these_pairs, ReadsOnce, TellsFromAll, AllApartPasses, IsReady, wires_over}
 use Rattle.diag_evidence.proofs.Advancing.{ready_joined}
 use Rattle.diag_evidence.proofs.KeptLemmas.{GainHoldsFor, pairs_hold}
 

@@ -1,10 +1,8 @@
 -- What readings show.
 use Rattle.std.proofs.Common.{◌≡◌, ◌≢◌, ◌<◌, ℕ, Bool, true, false, Some, Option, List, [], ◌∷◌, get_or, refl, sym, ap, ◌∙◌}
 use Rattle.std.proofs.lemmas.Bool.{false≢true}
-use Rattle.machine_meaning.specs.Circuit.{Pins}
-use Rattle.machine_meaning.specs.Faults.{Faults}
-use Rattle.machine_config.specs.Configuration.{Configuration, with_open}
-use Rattle.machine_config.specs.Faulty.{circuit_of, IsRun}
+use Rattle.machine_meaning.specs.Vocabulary.{Pins, Faults}
+use Rattle.machine_config.specs.Vocabulary.{Configuration, with_open, circuit_of, IsRun}
 use Rattle.machine_config.proofs.Runs.{Runs-unique}
 use Rattle.machine_config.proofs.Loops.{loop_toggles}
 use Rattle.machine_config.proofs.Passing.{swing_passes, apart_passes}

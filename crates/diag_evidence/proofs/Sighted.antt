@@ -8,10 +8,7 @@ use Rattle.base_bits.specs.Pairs.{Pairs, has_pair}
 use Rattle.machine_config.specs.Groups.{among}
 use Rattle.machine_meaning.specs.Circuit.{Pins}
 use Rattle.machine_shape.specs.Shape.{wires_of}
-use Rattle.diag_evidence.specs.Forests.{Trees, HangsOn, pin_of, IsForest}
-use Rattle.diag_evidence.specs.Kept.{Kept, Gains, keeps_cross, keeps_wire, keeps_pair, keeps_cell, keeps_register}
-use Rattle.diag_evidence.specs.Looks.{differ, parts, swings, hangs_apart, hang_apart, hangs_swinging, seen_in}
-use Rattle.diag_evidence.specs.Hangs.{Foot, feet_crosses, seen_on, is_swinging_on, are_apart_on}
+use Rattle.diag_evidence.specs.Vocabulary.{Trees, HangsOn, pin_of, IsForest, Kept, Gains, keeps_cross, keeps_wire, keeps_pair, keeps_cell, keeps_register, differ, parts, swings, hangs_apart, hang_apart, hangs_swinging, seen_in, Foot, feet_crosses, seen_on, is_swinging_on, are_apart_on}
 use Rattle.diag_evidence.proofs.Growing.{within_places}
 
 differ_self : (a : Bool) → differ a a ≡ false

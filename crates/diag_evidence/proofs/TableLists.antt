@@ -2,21 +2,14 @@
 use Rattle.std.proofs.Common.{◌≡◌, ◌⊎◌, ℕ, Bool, true, false, Some, None, Option, List, refl, sym, ◌∙◌, subst, inl, inr}
 use Rattle.machine_shape.specs.declared.Shape.{Shape}
 use Rattle.machine_shape.specs.Shape.{pin_wire, table_wire}
-use Rattle.machine_meaning.specs.Circuit.{Pins}
-use Rattle.machine_meaning.specs.Faults.{Faults, stuck_cross, stuck_register}
-use Rattle.machine_meaning.specs.Joined.{Joined, here, net_of}
+use Rattle.machine_meaning.specs.Vocabulary.{Pins, Faults, stuck_cross, stuck_register, Joined, here, net_of}
 use Rattle.machine_meaning.proofs.JoinedLemmas.{Joined-sym}
-use Rattle.machine_config.specs.Groups.{among, IsWithin, AreGroups}
+use Rattle.machine_config.specs.Vocabulary.{among, IsWithin, AreGroups, Configuration, is_closed, with_setting, IsCellTest, IsDrivenAlone, IsLoose, IsRegisterTest}
 use Rattle.machine_config.specs.declared.Setting.{Setting}
-use Rattle.machine_config.specs.Configuration.{Configuration, is_closed, with_setting}
-use Rattle.machine_config.specs.Tests.{IsCellTest, IsDrivenAlone, IsLoose, IsRegisterTest}
 use Rattle.machine_config.proofs.Grouped.{LeadsTo-within, LeadsTo-start, LeadsTo-end}
 use Rattle.machine_config.proofs.Readings.{conducting}
-use Rattle.diag_tests.specs.Routes.{Walk, IsRoute}
-use Rattle.diag_tests.specs.Configs.{IsCellConfig, cell_setting}
-use Rattle.diag_evidence.specs.Kept.{Kept, keeps_cross}
-use Rattle.diag_evidence.specs.Readings.{CellPasses, RegisterPasses}
-use Rattle.diag_evidence.specs.Tables.{IsTied, IsTableBy, IsCellBy, CellPassesBy, RegisterPassesBy}
+use Rattle.diag_tests.specs.Vocabulary.{Walk, IsRoute, IsCellConfig, cell_setting}
+use Rattle.diag_evidence.specs.Vocabulary.{Kept, keeps_cross, CellPasses, RegisterPasses, IsTied, IsTableBy, IsCellBy, CellPassesBy, RegisterPassesBy}
 use Rattle.diag_evidence.proofs.Advancing.{joined_along}
 use Rattle.diag_evidence.proofs.Lists.{AreOn, all_on, laid_cases, grown}
 use Rattle.diag_evidence.proofs.TableTests.{on_after, off_after}

@@ -1,6 +1,5 @@
 -- What the readings of tables show of their cells and registers.
-use Rattle.std.proofs.Common.{◌≡◌, ◌≢◌, ◌⊎◌, inl, inr, ℕ, zero, suc, ◌<◌, Bool, true, false, not, ◌&&◌, ◌||◌, Some, None, Option, List, [], ◌∷◌, length, get_or, refl, sym, ap, ◌∙◌, subst, arith}
-use Rattle.std.specs.Prelude.{◌==◌, nat_lt, if◌then◌else◌, unwrap_or, map}
+use Rattle.std.proofs.Common.{◌≡◌, ◌≢◌, ◌⊎◌, inl, inr, ℕ, zero, suc, ◌<◌, Bool, true, false, not, ◌&&◌, ◌||◌, Some, None, Option, List, [], ◌∷◌, length, get_or, refl, sym, ap, ◌∙◌, subst, arith, ◌==◌, nat_lt, if◌then◌else◌, unwrap_or, map}
 use Rattle.std.specs.Int.{bit_at}
 use Rattle.std.specs.List.{range_with_len}
 use Rattle.std.proofs.lemmas.Bool.{false≢true, and_parts, or_cases}
@@ -10,17 +9,10 @@ use native.Mathlib.Decide.{ℕ_discrete}
 use Rattle.base_bits.specs.Numbers.{has_number}
 use Rattle.machine_shape.specs.declared.Table.{Table}
 use Rattle.machine_shape.specs.Shape.{table_wire}
-use Rattle.machine_meaning.specs.Circuit.{Pins}
-use Rattle.machine_meaning.specs.Faults.{Faults, stuck_register, wrong_cell}
+use Rattle.machine_meaning.specs.Vocabulary.{Pins, Faults, stuck_register, wrong_cell, IsRightTable}
 use Rattle.machine_config.specs.declared.Setting.{Setting}
-use Rattle.machine_config.specs.Configuration.{Configuration, cell_of}
-use Rattle.machine_config.specs.Faulty.{IsRun}
-use Rattle.machine_config.specs.Run.{number_of}
-use Rattle.diag_evidence.specs.Forests.{Trees, IsForest, KnowsForest, pin_of}
-use Rattle.diag_evidence.specs.Kept.{Kept, Gains, HoldsFor}
-use Rattle.diag_evidence.specs.TableRows.{AreTablesOn, AreAddressDrives, AreOpposite, IsTableConfig, IsTableLoad, MarksWrong, WrongIf, is_one_of, is_right_before, is_right_in, output_pin, right_parts}
-use Rattle.machine_meaning.specs.Tight.{IsRightTable}
-use Rattle.diag_evidence.specs.Looks.{read_at}
+use Rattle.machine_config.specs.Vocabulary.{Configuration, cell_of, IsRun, number_of}
+use Rattle.diag_evidence.specs.Vocabulary.{Trees, IsForest, KnowsForest, pin_of, Kept, Gains, HoldsFor, AreTablesOn, AreAddressDrives, AreOpposite, IsTableConfig, IsTableLoad, MarksWrong, WrongIf, is_one_of, is_right_before, is_right_in, output_pin, right_parts, read_at}
 use Rattle.diag_evidence.proofs.Keeping.{holds_earlier}
 use Rattle.diag_evidence.proofs.KeptLemmas.{GainHoldsFor, more_by_gain}
 use Rattle.diag_evidence.proofs.Nets.{IsNet, AreHung, IsInputDrive, shown, shows, address_of}

@@ -1,15 +1,11 @@
 -- What a test of hangs leaves.
-use Rattle.std.proofs.Common.{◌≡◌, ◌≤◌, ◌+◌, ℕ, Bool, true, false, Some, Option, List, All, refl, sym, ◌∙◌}
-use Rattle.std.specs.Prelude.{map}
+use Rattle.std.proofs.Common.{◌≡◌, ◌≤◌, ◌+◌, ℕ, Bool, true, false, Some, Option, List, All, refl, sym, ◌∙◌, map}
 use Rattle.std.proofs.lemmas.List.Elements.{All-map}
 use Rattle.machine_meaning.specs.Faults.{Faults}
 use Rattle.rig.specs.Rig.{RigState}
 use Rattle.diag_evidence.specs.declared.hangs.WireTest.{WireTest}
 use Rattle.diag_evidence.specs.declared.hangs.Views.{Views}
-use Rattle.diag_evidence.specs.Kept.{Kept, IsMore, Gains, Advances}
-use Rattle.diag_evidence.specs.Forests.{Trees, IsForest, KnowsForest}
-use Rattle.diag_evidence.specs.Hangs.{IsFoot, AreHangs, AreAllOf, MarksUnfit, MarksUnclear, UnfitIf, UnclearIf, StayMarked, HasTried, silent, answered, over_of, turned, overs, others, shown, seen_on}
-use Rattle.diag_evidence.specs.Plans.{HasViewed, HasLearnt}
+use Rattle.diag_evidence.specs.Vocabulary.{Kept, IsMore, Gains, Advances, Trees, IsForest, KnowsForest, IsFoot, AreHangs, AreAllOf, MarksUnfit, MarksUnclear, UnfitIf, UnclearIf, StayMarked, HasTried, silent, answered, over_of, turned, overs, others, shown, seen_on, HasViewed, HasLearnt}
 use Rattle.diag_evidence.proofs.Keeping.{more_then}
 use Rattle.diag_evidence.proofs.KeptLemmas.{more_by_gain}
 use Rattle.diag_evidence.proofs.Hanging.{AreHung, hung_turned, overs_feet, overs_once, hung_advances}

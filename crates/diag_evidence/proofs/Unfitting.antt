@@ -1,6 +1,5 @@
 -- What a look shows of wires that aren't fit is true.
-use Rattle.std.proofs.Common.{◌≡◌, ◌≢◌, ◌⊎◌, inl, inr, ℕ, zero, suc, ◌<◌, ◌+◌, Bool, true, false, not, ◌&&◌, ◌||◌, Some, None, Option, List, [], ◌∷◌, All, length, get_or, refl, sym, ap, ◌∙◌, subst, arith}
-use Rattle.std.specs.Prelude.{◌==◌, is_some, map, unwrap_or}
+use Rattle.std.proofs.Common.{◌≡◌, ◌≢◌, ◌⊎◌, inl, inr, ℕ, zero, suc, ◌<◌, ◌+◌, Bool, true, false, not, ◌&&◌, ◌||◌, Some, None, Option, List, [], ◌∷◌, All, length, get_or, refl, sym, ap, ◌∙◌, subst, arith, ◌==◌, is_some, map, unwrap_or}
 use Rattle.std.specs.List.{list_any, list_all, range_with_len, IsDistinct}
 use Rattle.std.specs.Option.{option_map_or}
 use Rattle.std.proofs.lemmas.Bool.{false≢true, and_parts, or_cases, or_left, or_right}
@@ -9,26 +8,14 @@ use Rattle.std.proofs.lemmas.List.{get_or-set_same, get_or-set_other, get_or-rep
 use Rattle.std.proofs.lemmas.List.FromFn.{get_or-range_with_len, length-range_with_len}
 use native.Mathlib.Decide.{ℕ_discrete, dec_lt}
 use Rattle.machine_shape.specs.declared.Shape.{Shape}
-use Rattle.machine_shape.specs.Laws.{IsNumbered}
-use Rattle.machine_shape.specs.Shape.{Ends, in_order, turned, ends_of, pin_wire, pins_of}
-use Rattle.machine_meaning.specs.Circuit.{Pins, Outputs}
-use Rattle.machine_meaning.specs.Faults.{Faults, stuck_cross, stuck_wire}
-use Rattle.machine_meaning.specs.Joined.{Net, Linked, Joined, here, then, crossed, bridged, Shorted, net_of}
-use Rattle.machine_meaning.specs.Defects.{IsClear}
-use Rattle.machine_meaning.specs.Tight.{IsAlone}
+use Rattle.machine_shape.specs.Vocabulary.{IsNumbered, Ends, in_order, turned, ends_of, pin_wire, pins_of}
+use Rattle.machine_meaning.specs.Vocabulary.{Pins, Outputs, Faults, stuck_cross, stuck_wire, Net, Linked, Joined, here, then, crossed, bridged, Shorted, net_of, IsClear, IsAlone}
 use Rattle.machine_meaning.proofs.JoinedLemmas.{Joined-sym, Joined-trans}
-use Rattle.machine_config.specs.Configuration.{Configuration, is_closed}
-use Rattle.machine_config.specs.Faulty.{circuit_of, IsRun}
-use Rattle.machine_config.specs.Groups.{among, IsWithin, AreGroups}
-use Rattle.machine_config.specs.Route.{LeadsTo, ends, goes}
-use Rattle.machine_config.specs.Run.{Runs, Cycles, none, cycle, at_load}
+use Rattle.machine_config.specs.Vocabulary.{Configuration, is_closed, circuit_of, IsRun, among, IsWithin, AreGroups, LeadsTo, ends, goes, Runs, Cycles, none, cycle, at_load}
 use Rattle.machine_config.proofs.Grouped.{groups_turned, left_unstuck, left_apart}
 use Rattle.machine_config.proofs.Passing.{quiet_load, reads_low, reads_high}
 use Rattle.diag_tests.specs.Routes.{other_end}
-use Rattle.diag_evidence.specs.Kept.{Kept, HoldsFor, keeps_wire, keeps_pair}
-use Rattle.diag_evidence.specs.Forests.{Trees, HangsOn, pin_of, is_hung, is_laid, IsOfTree, IsLedOver, IsForest, KnowsForest}
-use Rattle.diag_evidence.specs.Looks.{IsLook, one_driven, none_driven, differ, parts, read_free, read_under}
-use Rattle.diag_evidence.specs.Hangs.{Foot, IsFoot, closes, pin_at, feet_crosses, others_part, falls_with_others, reads_oddly, reads_alike}
+use Rattle.diag_evidence.specs.Vocabulary.{Kept, HoldsFor, keeps_wire, keeps_pair, Trees, HangsOn, pin_of, is_hung, is_laid, IsOfTree, IsLedOver, IsForest, KnowsForest, IsLook, one_driven, none_driven, differ, parts, read_free, read_under, Foot, IsFoot, closes, pin_at, feet_crosses, others_part, falls_with_others, reads_oddly, reads_alike}
 use Rattle.diag_evidence.proofs.Growing.{hung_by}
 use Rattle.diag_evidence.proofs.Leading.{of_each}
 use Rattle.diag_evidence.proofs.Found.{IsSome_of, some_of}

@@ -6,8 +6,7 @@ use Rattle.machine_shape.specs.contracts.Shape as shape
 use Rattle.machine_shape.specs.declared.Shape.{Shape}
 use Rattle.machine_shape.specs.declared.Cross.{Cross}
 use Rattle.machine_shape.specs.Shape.{Ends, ends_of, pin_wire, pins_of, wires_of, crosses_of}
-use Rattle.machine_config.specs.Groups.{among}
-use Rattle.machine_config.specs.Route.{LeadsTo}
+use Rattle.machine_config.specs.Vocabulary.{among, LeadsTo}
 use Rattle.diag_tests.specs.Routes.{cross_numbers}
 use Rattle.diag_evidence.specs.Kept.{Kept, keeps_cross, keeps_wire, keeps_pair}
 

@@ -5,10 +5,8 @@ use Rattle.base_bits.specs.Numbers.{has_number}
 use Rattle.base_bits.specs.Pairs.{Pairs, has_pair}
 use Rattle.machine_shape.specs.contracts.Shape as shape
 use Rattle.machine_shape.specs.declared.Shape.{Shape}
-use Rattle.machine_meaning.specs.Faults.{Faults, stuck_cross, wrong_cell, stuck_register}
-use Rattle.machine_meaning.specs.Joined.{Shorted}
+use Rattle.machine_meaning.specs.Vocabulary.{Faults, stuck_cross, wrong_cell, stuck_register, Shorted, IsClear}
 use Rattle.machine_shape.specs.Shape.{crosses_of, wires_of, tables_of}
-use Rattle.machine_meaning.specs.Defects.{IsClear}
 use Rattle.machine_config.specs.Groups.{among}
 use Rattle.rig.specs.Rig.{RigState}
 

@@ -1,13 +1,10 @@
 -- Walks from pins to pins, many at once.
-use Rattle.std.specs.Prelude.{◌≡◌, ◌≢◌, ℕ, ◌<◌, ◌==◌, Bool, true, false, ◌&&◌, ◌||◌, not, Option, Some, None, List, [], ◌∷◌, All, flat_map, map, length, slice_index_or}
+use Rattle.std.specs.Prelude.{◌≡◌, ◌≢◌, ℕ, ◌<◌, ◌==◌, Bool, true, false, ◌&&◌, ◌||◌, not, Option, Some, None, List, [], ◌∷◌, All, flat_map}
+use Rattle.std.specs.Prelude.{map, length, slice_index_or}
 use Rattle.std.specs.List.{list_any, list_all, IsDistinct}
-use Rattle.machine_meaning.specs.Circuit.{Pins}
-use Rattle.machine_meaning.specs.Faults.{Faults, stuck_cross}
+use Rattle.machine_meaning.specs.Vocabulary.{Pins, Faults, stuck_cross}
 use Rattle.machine_shape.specs.Shape.{pin_wire, pins_of}
-use Rattle.machine_config.specs.Configuration.{Configuration, is_closed}
-use Rattle.machine_config.specs.Faulty.{IsRun}
-use Rattle.machine_config.specs.Groups.{among}
-use Rattle.machine_config.specs.Tests.{AreOff}
+use Rattle.machine_config.specs.Vocabulary.{Configuration, is_closed, IsRun, among, AreOff}
 use Rattle.base_bits.specs.Numbers.{has_number}
 use Rattle.diag_tests.specs.Routes.{Walk, IsRoute}
 use Rattle.diag_evidence.specs.declared.leads.Lead.{Lead}

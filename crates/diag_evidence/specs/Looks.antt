@@ -1,17 +1,13 @@
 -- Looks: what all pins read while nothing is driven, and while each pin is driven alone.
-use Rattle.std.specs.Prelude.{◌≡◌, ◌⊎◌, ℕ, ◌+◌, ◌^◌, ◌<◌, Bool, true, false, not, ◌&&◌, if◌then◌else◌, Option, Some, None, List}
-use Rattle.std.specs.Prelude.{[], ◌∷◌, map, length}
-use Rattle.std.specs.Prelude.{All, replicate, slice_index_or, slice_set, refl}
+use Rattle.std.specs.Prelude.{◌≡◌, ◌⊎◌, ℕ, ◌+◌, ◌^◌, ◌<◌, Bool, true, false, not, ◌&&◌, if◌then◌else◌, Option, Some, None, List, [], ◌∷◌}
+use Rattle.std.specs.Prelude.{map, length, All, replicate, slice_index_or, slice_set, refl}
 use Rattle.std.specs.List.{list_any, range_with_len}
 use Rattle.std.specs.Option.{option_map_or}
 use Rattle.std.specs.Coded.{Coded, code_by, coded×, coded_ℕ, coded_bool, coded_list}
 use Rattle.machine_shape.specs.declared.Shape.{Shape}
-use Rattle.machine_meaning.specs.Circuit.{Pins}
-use Rattle.machine_meaning.specs.Faults.{Faults}
+use Rattle.machine_meaning.specs.Vocabulary.{Pins, Faults}
 use Rattle.machine_shape.specs.Shape.{pins_of}
-use Rattle.machine_config.specs.Configuration.{Configuration, is_closed}
-use Rattle.machine_config.specs.Faulty.{IsRun}
-use Rattle.machine_config.specs.Tests.{AreOff}
+use Rattle.machine_config.specs.Vocabulary.{Configuration, is_closed, IsRun, AreOff}
 use Rattle.rig.specs.Rig.{RigState}
 use Rattle.diag_evidence.specs.Forests.{Trees, pin_of, is_laid}
 use Rattle.diag_evidence.specs.Kept.{Kept, Gain, Gains, nothing}

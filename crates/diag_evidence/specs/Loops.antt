@@ -4,8 +4,7 @@ use Rattle.std.specs.List.{AllByRecursion}
 use Rattle.machine_shape.specs.declared.Shape.{Shape}
 use Rattle.machine_shape.specs.Shape.{Ends, ends_of}
 use Rattle.machine_meaning.specs.Faults.{Faults, stuck_cross}
-use Rattle.machine_config.specs.Groups.{among, AreClear, AreUnshorted, IsWithin}
-use Rattle.machine_config.specs.Route.{LeadsTo}
+use Rattle.machine_config.specs.Vocabulary.{among, AreClear, AreUnshorted, IsWithin, LeadsTo}
 use Rattle.diag_tests.specs.Routes.{Walk}
 use Rattle.diag_evidence.specs.Kept.{Kept, HoldsFor}
 

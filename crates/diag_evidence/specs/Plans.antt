@@ -1,7 +1,6 @@
 -- The three looks of a test of hangs.
 use Rattle.std.specs.Prelude.{◌≡◌, ℕ, Bool, true, false, Option, List, map}
-use Rattle.machine_meaning.specs.Faults.{Faults}
-use Rattle.machine_meaning.specs.Circuit.{Pins}
+use Rattle.machine_meaning.specs.Vocabulary.{Faults, Pins}
 use Rattle.diag_evidence.specs.declared.hangs.WireTest.{WireTest}
 use Rattle.diag_evidence.specs.declared.hangs.Plan.{Plan}
 use Rattle.diag_evidence.specs.declared.hangs.Views.{Views}

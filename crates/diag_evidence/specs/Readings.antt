@@ -1,15 +1,12 @@
 -- What tests read, and where they are bound to pass. `told` is the faults of the machine, where they are told.
-use Rattle.std.specs.Prelude.{◌≡◌, ◌≢◌, ◌↔◌, ◌⊎◌, ℕ, Bool, true, false, Option, Some, None, IsTrue, List, [], ◌∷◌}
-use Rattle.std.specs.Prelude.{All, flat_map, slice_index_or, ◌≤◌, ◌+◌, Result, IsErrOf}
+use Rattle.std.specs.Prelude.{◌≡◌, ◌≢◌, ◌↔◌, ◌⊎◌, ℕ, Bool, true, false, Option, Some, None, IsTrue, List, [], ◌∷◌, All, flat_map}
+use Rattle.std.specs.Prelude.{slice_index_or, ◌≤◌, ◌+◌, Result, IsErrOf}
 use Rattle.base_io.specs.Counts.{Rose}
-use Rattle.machine_meaning.specs.Circuit.{Pins}
-use Rattle.machine_meaning.specs.Faults.{Faults}
+use Rattle.machine_meaning.specs.Vocabulary.{Pins, Faults}
 use Rattle.machine_shape.specs.Shape.{pin_wire}
 use Rattle.machine_config.specs.declared.Setting.{Setting}
-use Rattle.machine_config.specs.Configuration.{Configuration, is_closed}
-use Rattle.machine_config.specs.Faulty.{IsRun}
-use Rattle.machine_config.specs.Groups.{AreGroups, among}
-use Rattle.machine_config.specs.Tests.{AreOff, IsLoop, IsCellTest, IsRegisterTest, IsDrivenAlone, IsDrivenIn, AreReleased}
+use Rattle.machine_config.specs.Vocabulary.{Configuration, is_closed, IsRun, AreGroups, among, AreOff, IsLoop, IsCellTest, IsRegisterTest}
+use Rattle.machine_config.specs.Vocabulary.{IsDrivenAlone, IsDrivenIn, AreReleased}
 use Rattle.rig.specs.Rig.{RigState, config_of, cycles_of, drives_of}
 use Rattle.rig.specs.declared.rig.RigFail.{RigFail}
 use Rattle.rig.specs.declared.rig.RigFail.TheVariants as work

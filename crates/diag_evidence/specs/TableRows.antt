@@ -1,18 +1,14 @@
 -- Tables, many at once: two loads of 65 cycles, in which all of them are latched.
-use Rattle.std.specs.Prelude.{◌≡◌, ℕ, zero, suc, ◌<◌, ◌==◌, nat_lt, Bool, true, false, ◌&&◌, ◌||◌, not, if◌then◌else◌, Option, Some}
-use Rattle.std.specs.Prelude.{None, List, [], All}
-use Rattle.std.specs.Prelude.{length, unwrap_or, slice_index_or}
+use Rattle.std.specs.Prelude.{◌≡◌, ℕ, zero, suc, ◌<◌, ◌==◌, nat_lt, Bool, true, false, ◌&&◌, ◌||◌, not, if◌then◌else◌, Option, Some, None}
+use Rattle.std.specs.Prelude.{List, [], All, length, unwrap_or, slice_index_or}
 use Rattle.std.specs.Int.{bit_at}
 use Rattle.std.specs.List.{list_any}
 use Rattle.base_bits.specs.Numbers.{has_number}
 use Rattle.machine_shape.specs.declared.Table.{Table}
-use Rattle.machine_meaning.specs.Circuit.{Pins}
-use Rattle.machine_meaning.specs.Faults.{Faults}
+use Rattle.machine_meaning.specs.Vocabulary.{Pins, Faults, IsRightTable}
 use Rattle.machine_shape.specs.Shape.{table_wire, tables_of}
-use Rattle.machine_meaning.specs.Tight.{IsRightTable}
 use Rattle.machine_config.specs.declared.Setting.{Setting}
-use Rattle.machine_config.specs.Configuration.{Configuration, is_closed, setting_of, cell_of}
-use Rattle.machine_config.specs.Faulty.{IsRun}
+use Rattle.machine_config.specs.Vocabulary.{Configuration, is_closed, setting_of, cell_of, IsRun}
 use Rattle.rig.specs.Rig.{RigState}
 use Rattle.diag_evidence.specs.Forests.{Trees, HangsOn, pin_of, is_laid}
 use Rattle.diag_evidence.specs.Kept.{Kept, Gain, Gains, HoldsFor, nothing}

@@ -5,10 +5,7 @@ use Rattle.std.specs.List.{range_with_len}
 use Rattle.machine_shape.specs.declared.Shape.{Shape}
 use Rattle.machine_shape.specs.Shape.{table_wire}
 use Rattle.machine_meaning.specs.Faults.{Faults, stuck_cross, wrong_cell, stuck_register}
-use Rattle.machine_config.specs.Groups.{among, AreClear, AreUnshorted, IsWithin}
-use Rattle.machine_config.specs.Route.{LeadsTo}
-use Rattle.machine_config.specs.Run.{number_of}
-use Rattle.machine_config.specs.Tests.{IsLoose}
+use Rattle.machine_config.specs.Vocabulary.{among, AreClear, AreUnshorted, IsWithin, LeadsTo, number_of, IsLoose}
 use Rattle.diag_tests.specs.Routes.{Walk}
 use Rattle.diag_evidence.specs.Kept.{Kept, HoldsFor}
 

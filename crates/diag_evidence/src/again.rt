@@ -2,8 +2,7 @@
 ghost use Rattle.std.specs.Prelude.{◌≡◌, ◌<◌, All, IfOk, length};
 ghost use Rattle.machine_shape.specs.Shape.{crosses_of, tables_of, pins_of};
 ghost use Rattle.machine_config.specs.Tests.{IsDrivenAlone, AreReleased};
-ghost use Rattle.diag_tests.specs.Configs.{IsLoopConfig, IsCellConfig};
-ghost use Rattle.diag_tests.specs.Routes.{IsRoute, cross_numbers};
+ghost use Rattle.diag_tests.specs.Vocabulary.{IsLoopConfig, IsCellConfig, IsRoute, cross_numbers};
 
 use crate::Facts;
 use diag_tests::{Route, close_loop};

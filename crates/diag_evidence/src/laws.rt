@@ -1,15 +1,11 @@
 //! What later crates rest on, of proofs and tests.
 ghost use Rattle.std.specs.Prelude.{◌≡◌, ℕ, Bool, true, false, [], List, Option, Some};
-ghost use Rattle.machine_meaning.specs.Circuit.{Pins};
-ghost use Rattle.machine_meaning.specs.Faults.{Faults};
+ghost use Rattle.machine_meaning.specs.Vocabulary.{Pins, Faults};
 ghost use Rattle.machine_shape.specs.declared.Shape.{Shape};
-ghost use Rattle.machine_config.specs.Configuration.{Configuration, with_setting};
-ghost use Rattle.machine_config.specs.Groups.{among};
-ghost use Rattle.machine_config.specs.Tests.{AreReleased, IsDrivenAlone};
+ghost use Rattle.machine_config.specs.Vocabulary.{Configuration, with_setting, among, AreReleased, IsDrivenAlone};
 ghost use Rattle.machine_config.specs.declared.Setting.{Setting};
 ghost use Rattle.rig.specs.Rig.{RigState};
-ghost use Rattle.diag_tests.specs.Configs.{IsLoopConfig, IsCellConfig};
-ghost use Rattle.diag_tests.specs.Routes.{Walk, IsRoute};
+ghost use Rattle.diag_tests.specs.Vocabulary.{IsLoopConfig, IsCellConfig, Walk, IsRoute};
 ghost use Rattle.diag_evidence.specs.Kept.{Kept, HoldsFor, KeepsNothing, IsMore, Advances, keeps_cross, keeps_pair};
 ghost use Rattle.diag_evidence.specs.Loops.{LoopPasses, RoutePasses, RoutesPass};
 ghost use Rattle.diag_evidence.specs.Readings.{CrossPasses, CellPasses, RegisterPasses, SwingPasses, ApartPasses};

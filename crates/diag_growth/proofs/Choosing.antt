@@ -1,14 +1,11 @@
 -- What a search for a place of a table chooses from, and what is chosen.
-use Rattle.std.proofs.Common.{◌≡◌, ◌≢◌, ◌⊎◌, ℕ, ◌+◌, ◌<◌, ◌≤◌, Some, None, Option, List, [], ◌∷◌, ◌++◌, length, refl, sym, ap, ◌∙◌, subst, inl, inr, arith}
-use Rattle.std.specs.Prelude.{slice_get, IfSome, IfNone}
+use Rattle.std.proofs.Common.{◌≡◌, ◌≢◌, ◌⊎◌, ℕ, ◌+◌, ◌<◌, ◌≤◌, Some, None, Option, List, [], ◌∷◌, ◌++◌, length, refl, sym, ap, ◌∙◌, subst, inl, inr, arith, slice_get, IfSome, IfNone}
 use Rattle.std.proofs.lemmas.List.{length_push}
 use native.Mathlib.Decide.{ℕ_discrete}
 use Rattle.machine_shape.specs.declared.Cross.{Cross}
 use Rattle.machine_shape.specs.declared.Shape.{Shape}
 use Rattle.machine_shape.specs.declared.Wire.{Wire}
-use Rattle.machine_shape.specs.Laws.{IsTree}
-use Rattle.machine_shape.specs.Shape.{lines_of, line_at, table_wire, hextant_of, IsLine, IsPort}
-use Rattle.machine_shape.specs.Sites.{HasSites}
+use Rattle.machine_shape.specs.Vocabulary.{IsTree, lines_of, line_at, table_wire, hextant_of, IsLine, IsPort, HasSites}
 use Rattle.diag_evidence.specs.Kept.{Kept}
 use Rattle.diag_known.specs.declared.verified_wire.VerifiedWire.{VerifiedWire}
 use Rattle.diag_known.proofs.Places.{get_before, get_last, get_pushed}

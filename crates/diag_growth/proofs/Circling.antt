@@ -1,20 +1,15 @@
 -- Growth from pin to pin.
-use Rattle.std.proofs.Common.{◌≡◌, ◌⊎◌, ℕ, ◌+◌, ◌*◌, ◌<◌, ◌≤◌, Bool, true, false, Some, Option, List, length, sym, ap, ◌∙◌, subst, inl, inr, arith}
-use Rattle.std.specs.Prelude.{replicate, slice_set}
+use Rattle.std.proofs.Common.{◌≡◌, ◌⊎◌, ℕ, ◌+◌, ◌*◌, ◌<◌, ◌≤◌, Bool, true, false, Some, Option, List, length, sym, ap, ◌∙◌, subst, inl, inr, arith, replicate, slice_set}
 use Rattle.std.proofs.lemmas.List.{length-replicate}
 use native.Mathlib.Decide.{ℕ_discrete}
 use Rattle.base_bits.specs.Numbers.{has_number, size_of}
 use Rattle.machine_shape.specs.declared.Shape.{Shape}
 use Rattle.machine_meaning.specs.Faults.{Faults}
-use Rattle.machine_shape.specs.Laws.{IsTree, HasMeetings}
-use Rattle.machine_shape.specs.Shape.{pins_of, wires_of, crosses_of, pin_wire}
+use Rattle.machine_shape.specs.Vocabulary.{IsTree, HasMeetings, pins_of, wires_of, crosses_of, pin_wire}
 use Rattle.diag_evidence.specs.Kept.{Kept, HoldsFor, IsMore}
-use Rattle.diag_known.specs.Field.{IsFieldOf, ClosedIf, GrowsIn, TakesFew, fresh, pins_in}
-use Rattle.diag_known.specs.Linked.{AreLinks}
+use Rattle.diag_known.specs.Vocabulary.{IsFieldOf, ClosedIf, GrowsIn, TakesFew, fresh, pins_in, AreLinks, KnownWires, HasWire, IsKnown, AreOutside, is_spent, AreMarks, Spends}
 use Rattle.diag_growth.specs.Grown.{IsGrown, IsOneMore}
-use Rattle.diag_known.specs.Known.{KnownWires, HasWire, IsKnown}
 use Rattle.diag_growth.specs.Looks.{AreAllMarks, AreTried, Grows, IsLinking}
-use Rattle.diag_known.specs.Marked.{AreOutside, is_spent, AreMarks, Spends}
 use Rattle.diag_known.specs.declared.field.Field.{Field}
 use Rattle.diag_known.specs.declared.links.Near.{Near}
 use Rattle.diag_known.specs.declared.marks.Marks.{Marks}

@@ -1,24 +1,15 @@
 -- When growth has come to its end, what is known is closed in the field.
-use Rattle.std.proofs.Common.{◌≡◌, ◌≢◌, ◌⊎◌, ℕ, ◌<◌, Bool, true, false, Some, None, Option, List, length, refl, sym, ◌∙◌, subst, inl, inr}
-use Rattle.std.specs.Prelude.{slice_get}
+use Rattle.std.proofs.Common.{◌≡◌, ◌≢◌, ◌⊎◌, ℕ, ◌<◌, Bool, true, false, Some, None, Option, List, length, refl, sym, ◌∙◌, subst, inl, inr, slice_get}
 use Rattle.std.proofs.lemmas.Bool.{false≢true}
 use Rattle.std.proofs.lemmas.Option.{slice_get_within}
 use Rattle.base_bits.specs.Numbers.{has_number}
 use Rattle.machine_shape.specs.declared.Shape.{Shape}
-use Rattle.machine_shape.specs.Laws.{IsTree, HasMeetings}
-use Rattle.machine_shape.specs.Shape.{Ends, in_order, ends_of, crosses_of, pins_of, pin_wire, IsTap, IsLine, IsPort, tap_pin, tap_port, tap_child, tap_table}
-use Rattle.machine_meaning.specs.Faults.{Faults, stuck_cross}
-use Rattle.machine_meaning.specs.Defects.{IsClear}
-use Rattle.machine_meaning.specs.Tight.{IsAlone, HasFeet, two}
+use Rattle.machine_shape.specs.Vocabulary.{IsTree, HasMeetings, Ends, in_order, ends_of, crosses_of, pins_of, pin_wire, IsTap, IsLine, IsPort, tap_pin, tap_port, tap_child, tap_table}
+use Rattle.machine_meaning.specs.Vocabulary.{Faults, stuck_cross, IsClear, IsAlone, HasFeet, two}
 use Rattle.diag_evidence.specs.Kept.{Kept, HoldsFor, keeps_cross}
-use Rattle.diag_known.specs.Field.{IsFieldOf, IsClosed, ClosedIf, GrowsIn}
-use Rattle.diag_known.specs.Linked.{Links, AreLinks}
+use Rattle.diag_known.specs.Vocabulary.{IsFieldOf, IsClosed, ClosedIf, GrowsIn, Links, AreLinks, KnownWires, IsBefore, HasWire, AreOutside, AreLost, IsFit, IsTried}
 use Rattle.diag_growth.specs.Grown.{IsGrown}
-use Rattle.diag_known.specs.Known.{KnownWires, IsBefore, HasWire}
-use Rattle.diag_known.specs.Marked.{AreOutside}
 use Rattle.diag_growth.specs.Looks.{AreTried, Grows}
-use Rattle.diag_known.specs.Offers.{AreLost}
-use Rattle.diag_known.specs.Trials.{IsFit, IsTried}
 use Rattle.diag_known.specs.declared.field.Field.{Field}
 use Rattle.diag_known.specs.declared.links.Near.{Near}
 use Rattle.diag_known.specs.declared.verified_wire.VerifiedWire.{VerifiedWire}

@@ -1,17 +1,13 @@
 -- What growth has found stays found, and grows from one known wire to the next.
-use Rattle.std.proofs.Common.{◌≡◌, ◌≢◌, ◌⊎◌, ℕ, zero, suc, ◌+◌, ◌<◌, ◌≤◌, Bool, true, Some, Option, List, [], ◌∷◌, ◌++◌, length, sym, ◌∙◌, subst, inl, inr, arith}
-use Rattle.std.specs.Prelude.{slice_get}
+use Rattle.std.proofs.Common.{◌≡◌, ◌≢◌, ◌⊎◌, ℕ, zero, suc, ◌+◌, ◌<◌, ◌≤◌, Bool, true, Some, Option, List, [], ◌∷◌, ◌++◌, length, sym, ◌∙◌, subst, inl, inr, arith, slice_get}
 use native.Mathlib.Decide.{ℕ_discrete}
 use Rattle.base_bits.specs.Numbers.{has_number}
 use Rattle.machine_shape.specs.declared.Shape.{Shape}
 use Rattle.machine_meaning.specs.Faults.{Faults}
 use Rattle.diag_evidence.specs.Kept.{Kept, IsMore}
-use Rattle.diag_known.specs.Linked.{Links, AreLinked}
+use Rattle.diag_known.specs.Vocabulary.{Links, AreLinked, IsAt, IsBefore, HasWire, AreLost, IsKeptUnlessStuck}
 use Rattle.diag_growth.specs.Grown.{IsGrown}
-use Rattle.diag_known.specs.Known.{IsAt, IsBefore, HasWire}
 use Rattle.diag_growth.specs.Looks.{IsLooked, StayBarred}
-use Rattle.diag_known.specs.Offers.{AreLost}
-use Rattle.diag_known.specs.Trials.{IsKeptUnlessStuck}
 use Rattle.diag_known.specs.declared.links.Near.{Near}
 use Rattle.diag_known.specs.declared.verified_wire.VerifiedWire.{VerifiedWire}
 use Rattle.diag_known.proofs.Places.{at_one, has_later}

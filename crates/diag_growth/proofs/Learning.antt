@@ -1,14 +1,12 @@
 -- One more wire is known, or none.
-use Rattle.std.proofs.Common.{◌≡◌, ℕ, true, Option, [], ◌∷◌, length, refl, sym, ap, ◌∙◌, subst, inl, inr}
-use Rattle.std.specs.Prelude.{Result, Ok, Err, OnOk, OnErr, slice_set}
+use Rattle.std.proofs.Common.{◌≡◌, ℕ, true, Option, [], ◌∷◌, length, refl, sym, ap, ◌∙◌, subst, inl, inr, Result, Ok, Err, OnOk, OnErr, slice_set}
 use Rattle.base_bits.specs.Numbers.{has_number}
 use Rattle.machine_meaning.specs.Faults.{Faults}
 use Rattle.rig.specs.Rig.{RigState}
 use Rattle.diag_evidence.specs.Kept.{Kept, Advances, IsMore}
 use Rattle.diag_growth.specs.Grown.{IsLearnt, IsOneMore}
 use Rattle.diag_growth.specs.Looks.{IsReady}
-use Rattle.diag_known.specs.Known.{KnownWires, HasWire, IsKnown, Stands, IsGood}
-use Rattle.diag_known.specs.Marked.{AreMarks, OffersOnly}
+use Rattle.diag_known.specs.Vocabulary.{KnownWires, HasWire, IsKnown, Stands, IsGood, AreMarks, OffersOnly}
 use Rattle.diag_known.specs.declared.marks.Marks.{Marks}
 use Rattle.diag_known.specs.declared.offers.Offer.{Offer}
 use Rattle.diag_known.specs.declared.verified_wire.VerifiedWire.{VerifiedWire}

@@ -8,8 +8,7 @@ use Rattle.diag_known.specs.Known.{KnownWires, IsAt, HasWire, InSet}
 use Rattle.diag_known.proofs.Places.{at_one, at_within}
 use Rattle.diag_growth.specs.Seating.{PutsOutside}
 use Rattle.machine_shape.specs.declared.Shape.{Shape}
-use Rattle.machine_shape.specs.Shape.{Meaning, Pin, Line, Port, TablePin, Means, is_line, is_table_pin, hextant_of, IsLine}
-use Rattle.machine_shape.specs.Laws.{HasMeanings}
+use Rattle.machine_shape.specs.Vocabulary.{Meaning, Pin, Line, Port, TablePin, Means, is_line, is_table_pin, hextant_of, IsLine, HasMeanings}
 use Rattle.machine_meaning.specs.Standing.{IsOutside}
 
 -- what a wire of the hextant's lines and of its tables' pins isn't

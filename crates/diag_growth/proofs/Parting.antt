@@ -1,6 +1,5 @@
 -- Swings and partings of a wire that isn't known pass, where it is clear and shorted to no known wire.
-use Rattle.std.proofs.Common.{◌≡◌, ◌≢◌, ◌⊎◌, ℕ, ◌+◌, ◌<◌, ◌≤◌, Bool, true, false, Some, None, Option, All, List, [], length, refl, sym, ◌∙◌, subst, inl, inr, arith}
-use Rattle.std.specs.Prelude.{slice_get, slice_index_or, ◌==◌, ◌||◌, ◌&&◌}
+use Rattle.std.proofs.Common.{◌≡◌, ◌≢◌, ◌⊎◌, ℕ, ◌+◌, ◌<◌, ◌≤◌, Bool, true, false, Some, None, Option, All, List, [], length, refl, sym, ◌∙◌, subst, inl, inr, arith, slice_get, slice_index_or, ◌==◌, ◌||◌, ◌&&◌}
 use Rattle.std.proofs.lemmas.Bool.{false≢true}
 use Rattle.std.proofs.lemmas.Bool.Decides.{nat_tests}
 use Rattle.std.proofs.lemmas.Option.{slice_get-get_or}
@@ -8,27 +7,15 @@ use native.Mathlib.Decide.{ℕ_discrete}
 use Rattle.machine_shape.specs.declared.Shape.{Shape}
 use Rattle.machine_shape.specs.declared.Wire.{Wire}
 use Rattle.machine_shape.specs.Shape.{pin_wire}
-use Rattle.machine_meaning.specs.Circuit.{Pins}
-use Rattle.machine_meaning.specs.Faults.{Faults}
-use Rattle.machine_meaning.specs.Joined.{Shorted}
-use Rattle.machine_meaning.specs.Defects.{IsClear}
-use Rattle.machine_config.specs.Configuration.{Configuration, is_closed}
-use Rattle.machine_config.specs.Groups.{among, IsWithin, AreGroups}
-use Rattle.machine_config.specs.Tests.{IsDrivenAlone}
+use Rattle.machine_meaning.specs.Vocabulary.{Pins, Faults, Shorted, IsClear}
+use Rattle.machine_config.specs.Vocabulary.{Configuration, is_closed, among, IsWithin, AreGroups, IsDrivenAlone}
 use Rattle.machine_config.proofs.Grouped.{LeadsTo-start, LeadsTo-end, LeadsTo-within}
-use Rattle.diag_tests.specs.Routes.{Walk}
-use Rattle.diag_tests.specs.Configs.{IsLoopConfig}
-use Rattle.diag_evidence.specs.Kept.{Kept, HoldsFor, IsMore, Gains, these_wires, these_pairs, keeps_wire, keeps_pair}
-use Rattle.diag_evidence.specs.Loops.{RoutePasses}
-use Rattle.diag_evidence.specs.Readings.{AllApartPasses, IsReady, wires_over}
+use Rattle.diag_tests.specs.Vocabulary.{Walk, IsLoopConfig}
+use Rattle.diag_evidence.specs.Vocabulary.{Kept, HoldsFor, IsMore, Gains, these_wires, these_pairs, keeps_wire, keeps_pair, RoutePasses, AllApartPasses, IsReady, wires_over}
 use Rattle.diag_evidence.proofs.Keeping.{pair_turned, holds_earlier}
 use Rattle.diag_evidence.proofs.Lists.{grown, laid_cases, or_first, or_third}
-use Rattle.diag_known.specs.Known.{KnownWires, IsAt, HasWire, IsKnown, IsGood}
-use Rattle.diag_known.specs.Offers.{InSome, IsOn}
+use Rattle.diag_known.specs.Vocabulary.{KnownWires, IsAt, HasWire, IsKnown, IsGood, InSome, IsOn, IsReached, IsOnWalk, IsFit, IsBad, IsWay, AreWays}
 use Rattle.diag_growth.specs.Partings.{IsListed, AreLeft, LeavesAt, IsParting, IsApartBeside}
-use Rattle.diag_known.specs.Reaches.{IsReached, IsOnWalk}
-use Rattle.diag_known.specs.Trials.{IsFit, IsBad}
-use Rattle.diag_known.specs.Ways.{IsWay, AreWays}
 use Rattle.diag_known.specs.declared.verified_wire.VerifiedWire.{VerifiedWire}
 use Rattle.diag_known.proofs.Besides.{beside}
 use Rattle.diag_known.proofs.Hung.{over_at, at_over, reached_known, reached_off}

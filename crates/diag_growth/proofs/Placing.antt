@@ -1,19 +1,16 @@
 -- A place where a table can be tested is a seat, and a seated table has one.
-use Rattle.std.proofs.Common.{◌≡◌, ◌≢◌, ◌⊎◌, ℕ, zero, suc, ◌+◌, ◌<◌, Bool, true, false, Some, List, [], ◌∷◌, ◌++◌, map, refl, sym, ap, ◌∙◌, subst, inl, inr, arith}
-use Rattle.std.specs.Prelude.{slice_get, ◌==◌, ◌||◌}
+use Rattle.std.proofs.Common.{◌≡◌, ◌≢◌, ◌⊎◌, ℕ, zero, suc, ◌+◌, ◌<◌, Bool, true, false, Some, List, [], ◌∷◌, ◌++◌, map, refl, sym, ap, ◌∙◌, subst, inl, inr, arith, slice_get, ◌==◌, ◌||◌}
 use Rattle.std.proofs.lemmas.Bool.Decides.{nat_tests}
 use Rattle.std.proofs.lemmas.Bool.{false≢true}
 use Rattle.machine_shape.specs.declared.Shape.{Shape}
 use Rattle.machine_shape.specs.declared.Table.{Table}
-use Rattle.machine_shape.specs.Shape.{Ends, in_order, turned, table_wire, tables_of, hextant_of, ends_of, IsLine, IsPort}
-use Rattle.machine_shape.specs.Laws.{IsNumbered, IsTree}
+use Rattle.machine_shape.specs.Vocabulary.{Ends, in_order, turned, table_wire, tables_of, hextant_of, ends_of, IsLine, IsPort, IsNumbered, IsTree}
 use Rattle.machine_meaning.specs.Standing.{StandsWithout, IsSeated}
 use Rattle.machine_config.specs.Groups.{among}
 use Rattle.diag_tests.specs.Routes.{Walk, IsRoute, Extends}
 use Rattle.diag_tests.proofs.Longer.{among_both}
 use Rattle.diag_evidence.specs.Kept.{Kept, keeps_cross, keeps_wire, keeps_pair}
-use Rattle.diag_known.specs.Known.{KnownWires, HasWire, IsKnown, IsKeptCrossOf}
-use Rattle.diag_known.specs.Routes.{AreRoutesTo, IsKnownRoute}
+use Rattle.diag_known.specs.Vocabulary.{KnownWires, HasWire, IsKnown, IsKeptCrossOf, AreRoutesTo, IsKnownRoute}
 use Rattle.diag_growth.specs.Seating.{IsPlaceFor, IsMeeting, IsPlaceAt, IsPlace, IsWithout}
 use Rattle.diag_growth.specs.declared.seats.Place.{Place}
 use Rattle.diag_known.specs.declared.verified_wire.VerifiedWire.{VerifiedWire}

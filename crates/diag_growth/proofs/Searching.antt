@@ -1,12 +1,9 @@
 -- The search of a place where a table can be tested.
-use Rattle.std.proofs.Common.{◌≡◌, ◌≢◌, ◌⊎◌, ℕ, ◌+◌, ◌<◌, ◌≤◌, true, false, Some, None, List, [], ◌∷◌, ◌++◌, length, refl, sym, ap, ◌∙◌, subst, inl, inr, arith}
-use Rattle.std.specs.Prelude.{slice_get}
+use Rattle.std.proofs.Common.{◌≡◌, ◌≢◌, ◌⊎◌, ℕ, ◌+◌, ◌<◌, ◌≤◌, true, false, Some, None, List, [], ◌∷◌, ◌++◌, length, refl, sym, ap, ◌∙◌, subst, inl, inr, arith, slice_get}
 use Rattle.std.proofs.lemmas.Bool.{false≢true}
 use Rattle.std.proofs.lemmas.List.{length_push}
 use Rattle.machine_shape.specs.declared.Shape.{Shape}
-use Rattle.machine_shape.specs.Shape.{ends_of, crosses_of, nodes_of, lines_of, own_ports_of, line_at, port_at, table_wire, hextant_of, IsLine, IsPort}
-use Rattle.machine_shape.specs.Laws.{HasCrosses}
-use Rattle.machine_shape.specs.Sites.{HasSites}
+use Rattle.machine_shape.specs.Vocabulary.{ends_of, crosses_of, nodes_of, lines_of, own_ports_of, line_at, port_at, table_wire, hextant_of, IsLine, IsPort, HasCrosses, HasSites}
 use Rattle.machine_meaning.specs.Standing.{Meets}
 use Rattle.diag_evidence.specs.Kept.{Kept, keeps_cross}
 use Rattle.diag_known.specs.Known.{HasWire, IsKeptCrossOf}

@@ -1,23 +1,15 @@
 -- Over a seat the tests of a right table pass.
-use Rattle.std.proofs.Common.{◌≡◌, ◌≢◌, ◌⊎◌, ◌<◌, ◌/◌, ◌%◌, ◌++◌, ℕ, zero, suc, Bool, true, false, if◌then◌else◌, Some, None, Option, List}
-use Rattle.std.proofs.Common.{[], ◌∷◌, map, length, refl, sym, ap, ◌∙◌, subst, inl, inr, arith}
-use Rattle.std.specs.Prelude.{◌==◌, ◌||◌, unwrap_or, slice_get}
+use Rattle.std.proofs.Common.{◌≡◌, ◌≢◌, ◌⊎◌, ◌<◌, ◌/◌, ◌%◌, ◌++◌, ℕ, zero, suc, Bool, true, false, if◌then◌else◌, Some, None, Option, List, [], ◌∷◌, map, length, refl, sym, ap, ◌∙◌, subst, inl, inr, arith, ◌==◌, ◌||◌, unwrap_or, slice_get}
 use Rattle.std.specs.List.{range_with_len}
 use Rattle.std.proofs.lemmas.Bool.{false≢true, or_cases, or_left, or_right}
 use Rattle.std.proofs.lemmas.Bool.Decides.{nat_tests}
 use Rattle.std.proofs.lemmas.List.Folds.{list_any-append}
 use Rattle.machine_shape.specs.declared.Shape.{Shape}
 use Rattle.machine_shape.specs.Shape.{Ends, in_order, turned, ends_of, table_wire}
-use Rattle.machine_meaning.specs.Joined.{Shorted}
-use Rattle.machine_meaning.specs.Defects.{IsClear}
-use Rattle.machine_meaning.specs.Faults.{Faults, wrong_cell, stuck_cross}
-use Rattle.machine_config.specs.Groups.{among, both, IsWithin, AreClear, AreUnshorted}
-use Rattle.machine_config.specs.Route.{ends, goes}
-use Rattle.machine_config.specs.Run.{number_of}
-use Rattle.machine_config.specs.Tests.{IsLoose}
+use Rattle.machine_meaning.specs.Vocabulary.{Shorted, IsClear, Faults, wrong_cell, stuck_cross}
+use Rattle.machine_config.specs.Vocabulary.{among, both, IsWithin, AreClear, AreUnshorted, ends, goes, number_of, IsLoose}
 use Rattle.machine_config.proofs.Grouped.{LeadsTo-end}
-use Rattle.diag_evidence.specs.Kept.{Kept, HoldsFor, keeps_wire, keeps_pair}
-use Rattle.diag_evidence.specs.Tables.{IsTied, IsTableBy, IsCellBy}
+use Rattle.diag_evidence.specs.Vocabulary.{Kept, HoldsFor, keeps_wire, keeps_pair, IsTied, IsTableBy, IsCellBy}
 use Rattle.diag_growth.specs.declared.seat.Arm.{Arm}
 use Rattle.diag_growth.specs.declared.seat.Seat.{Seat}
 use Rattle.diag_growth.specs.Seats.{near_wires, far_wires, IsKeptBetween, IsSeat}

@@ -1,15 +1,12 @@
 -- What tests over the rig have found, and what they took, so far.
-use Rattle.std.proofs.Common.{◌≡◌, ℕ, ◌+◌, ◌<◌, ◌≤◌, Some, List}
-use Rattle.std.specs.Prelude.{slice_get}
+use Rattle.std.proofs.Common.{◌≡◌, ℕ, ◌+◌, ◌<◌, ◌≤◌, Some, List, slice_get}
 use Rattle.rig.specs.Rig.{RigState}
 use Rattle.diag_evidence.specs.Kept.{Kept, Advances}
-use Rattle.diag_known.specs.Known.{KnownWires}
+use Rattle.diag_known.specs.Vocabulary.{KnownWires, AreMarks, Spends, SpendsOn, AreLost}
 use Rattle.diag_known.specs.declared.field.Field.{Field}
 use Rattle.diag_known.specs.declared.links.Near.{Near}
 use Rattle.diag_known.specs.declared.verified_wire.Support.{Support}
 use Rattle.diag_known.specs.declared.verified_wire.VerifiedWire.{VerifiedWire}
-use Rattle.diag_known.specs.Marked.{AreMarks, Spends, SpendsOn}
-use Rattle.diag_known.specs.Offers.{AreLost}
 use Rattle.diag_known.specs.declared.marks.Marks.{Marks}
 use Rattle.diag_known.specs.declared.offers.Offer.{Offer}
 use Rattle.diag_growth.specs.Looks.{AreAllMarks, AreTried, Grows, IsLinking}

@@ -1,16 +1,13 @@
 -- Growth, one part after the other.
-use Rattle.std.proofs.Common.{◌≡◌, ◌≢◌, ◌⊎◌, ℕ, ◌+◌, ◌<◌, ◌≤◌, Bool, true, false, Some, Option, List, [], ◌∷◌, ◌++◌, length, refl, sym, ap, ◌∙◌, subst, inl, inr, arith, append_assoc}
+use Rattle.std.proofs.Common.{◌≡◌, ◌≢◌, ◌⊎◌, ℕ, ◌+◌, ◌<◌, ◌≤◌, Bool, true, false, Some, Option, List, [], ◌∷◌, ◌++◌, length, refl, sym, ap, ◌∙◌, subst, inl, inr, arith, append_assoc, slice_get, slice_set}
 use Rattle.std.proofs.lemmas.Bool.{false≢true}
 use Rattle.std.proofs.lemmas.List.{append-nil, length-append, length-set}
-use Rattle.std.specs.Prelude.{slice_get, slice_set}
 use Rattle.base_bits.specs.Numbers.{has_number}
 use Rattle.machine_meaning.specs.Faults.{Faults}
 use Rattle.diag_evidence.specs.Kept.{Kept, IsMore}
 use Rattle.diag_growth.specs.Grown.{IsGrown, IsOneMore}
-use Rattle.diag_known.specs.Trials.{IsTried}
-use Rattle.diag_known.specs.Known.{KnownWires, HasWire, IsKnown}
+use Rattle.diag_known.specs.Vocabulary.{IsTried, KnownWires, HasWire, IsKnown, BarsAtMost}
 use Rattle.diag_growth.specs.Looks.{IsLooked, StayBarred, AreTried, Grows}
-use Rattle.diag_known.specs.Marked.{BarsAtMost}
 use Rattle.diag_known.specs.declared.links.Near.{Near}
 use Rattle.diag_known.specs.declared.verified_wire.VerifiedWire.{VerifiedWire}
 use Rattle.diag_known.proofs.Counting.{set_only, set_stays}

@@ -1,6 +1,5 @@
 -- The loads of growth in a field.
-use Rattle.std.proofs.Common.{◌≡◌, ◌⊎◌, ℕ, ◌+◌, ◌*◌, ◌-◌, ◌<◌, ◌≤◌, Bool, true, false, Option, List, refl, sym, ap, ◌∙◌, subst, inl, inr, arith}
-use Rattle.std.specs.Prelude.{not, ◌&&◌}
+use Rattle.std.proofs.Common.{◌≡◌, ◌⊎◌, ℕ, ◌+◌, ◌*◌, ◌-◌, ◌<◌, ◌≤◌, Bool, true, false, Option, List, refl, sym, ap, ◌∙◌, subst, inl, inr, arith, not, ◌&&◌}
 use Rattle.std.proofs.lemmas.Bool.{false≢true}
 use Rattle.base_bits.specs.Numbers.{has_number, size_of}
 use Rattle.machine_shape.specs.declared.Shape.{Shape}
@@ -8,9 +7,7 @@ use Rattle.machine_shape.specs.Shape.{pin_wire, pins_of, wires_of, crosses_of}
 use Rattle.machine_meaning.specs.Faults.{Faults}
 use Rattle.machine_shape.proofs.Totals.{pins_are}
 use Rattle.diag_evidence.specs.Kept.{Kept, keeps_cross}
-use Rattle.diag_known.specs.Field.{IsFieldOf, TakesFew, fresh, how_many, pins_in}
-use Rattle.diag_known.specs.Linked.{AreLinks}
-use Rattle.diag_known.specs.Marked.{AreOutside, barred_pins, is_spent, Spends}
+use Rattle.diag_known.specs.Vocabulary.{IsFieldOf, TakesFew, fresh, how_many, pins_in, AreLinks, AreOutside, barred_pins, is_spent, Spends}
 use Rattle.diag_growth.specs.Looks.{IsLinking}
 use Rattle.diag_known.specs.declared.field.Field.{Field}
 use Rattle.diag_known.specs.declared.links.Near.{Near}

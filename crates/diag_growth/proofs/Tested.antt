@@ -1,7 +1,5 @@
 -- What tests over a seat leave.
-use Rattle.std.proofs.Common.{◌≡◌, ◌⊎◌, ◌<◌, ◌≤◌, ◌+◌, ◌*◌, ℕ, zero, suc, Bool, true, false, ◌&&◌, ◌||◌, Some, None, Option, List, [], ◌∷◌, refl, sym}
-use Rattle.std.proofs.Common.{ap, ◌∙◌, subst, inl, inr, arith}
-use Rattle.std.specs.Prelude.{◌==◌, ◌≢◌, All, IsTrue, length, slice_index_or}
+use Rattle.std.proofs.Common.{◌≡◌, ◌⊎◌, ◌<◌, ◌≤◌, ◌+◌, ◌*◌, ℕ, zero, suc, Bool, true, false, ◌&&◌, ◌||◌, Some, None, Option, List, [], ◌∷◌, refl, sym, ap, ◌∙◌, subst, inl, inr, arith, ◌==◌, ◌≢◌, All, IsTrue, length, slice_index_or}
 use Rattle.std.proofs.lemmas.Bool.Decides.{nat_tests}
 use Rattle.machine_shape.specs.declared.Cross.{Cross}
 use Rattle.machine_shape.specs.declared.Shape.{Shape}
@@ -10,8 +8,7 @@ use Rattle.machine_meaning.specs.Faults.{Faults, wrong_cell}
 use Rattle.machine_config.specs.Groups.{among}
 use Rattle.diag_tests.specs.Routes.{Walk, cross_numbers}
 use Rattle.rig.specs.Rig.{RigState}
-use Rattle.diag_evidence.specs.Kept.{Kept, HoldsFor, IsMore, Advances, Gains, one_cell, one_register, keeps_wire, keeps_pair, keeps_cell}
-use Rattle.diag_evidence.specs.Kept.{keeps_register}
+use Rattle.diag_evidence.specs.Kept.{Kept, HoldsFor, IsMore, Advances, Gains, one_cell, one_register, keeps_wire, keeps_pair, keeps_cell, keeps_register}
 use Rattle.diag_growth.specs.declared.seat.Arm.{Arm}
 use Rattle.diag_growth.specs.declared.seat.Seat.{Seat}
 use Rattle.diag_growth.specs.Seats.{near_wires, far_wires, IsKeptBetween, IsKeptWalk, IsArm, IsSeat, TableIf, AddsOnlyTableFacts}

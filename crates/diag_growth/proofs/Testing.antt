@@ -1,14 +1,11 @@
 -- What the tests of tables keep, table by table.
-use Rattle.std.proofs.Common.{◌≡◌, ℕ, zero, suc, ◌+◌, ◌<◌, ◌≤◌, Bool, Some, Option, List, [], ◌∷◌, length, get_or, refl, sym, ap, ◌∙◌, subst, arith}
-use Rattle.std.specs.Prelude.{All, slice_get}
+use Rattle.std.proofs.Common.{◌≡◌, ℕ, zero, suc, ◌+◌, ◌<◌, ◌≤◌, Bool, Some, Option, List, [], ◌∷◌, length, get_or, refl, sym, ap, ◌∙◌, subst, arith, All, slice_get}
 use Rattle.std.proofs.lemmas.Option.{slice_get_within}
 use native.Mathlib.Decide.{ℕ_discrete}
 use Rattle.machine_shape.specs.declared.Shape.{Shape}
 use Rattle.machine_shape.specs.declared.Table.{Table}
 use Rattle.machine_shape.specs.Shape.{crosses_of, tables_of, hextant_of, IsLine, IsPort}
-use Rattle.machine_meaning.specs.Faults.{Faults}
-use Rattle.machine_meaning.specs.Standing.{StandsBy, IsOutside, StandsWithout, IsSeated}
-use Rattle.machine_meaning.specs.Tight.{IsRightTable}
+use Rattle.machine_meaning.specs.Vocabulary.{Faults, StandsBy, IsOutside, StandsWithout, IsSeated, IsRightTable}
 use Rattle.machine_meaning.proofs.Seats.{stands_also, seated_also}
 use Rattle.rig.specs.Rig.{RigState}
 use Rattle.diag_evidence.specs.Kept.{Kept, IsMore, Advances}

@@ -5,11 +5,8 @@ use Rattle.machine_meaning.specs.Faults.{Faults}
 use Rattle.machine_shape.specs.declared.Shape.{Shape}
 use Rattle.machine_shape.specs.Shape.{Ends, ends_of, crosses_of}
 use Rattle.diag_evidence.specs.Kept.{Kept}
-use Rattle.diag_known.specs.Linked.{Links, list_at}
-use Rattle.diag_known.specs.Known.{KnownWires, IsKnown, IsAt, IsBefore, HasWire}
-use Rattle.diag_known.specs.Marked.{AreMarks}
-use Rattle.diag_known.specs.Offers.{IsOffer, IsPlaced, AreLost}
-use Rattle.diag_known.specs.Trials.{IsKeptUnlessStuck, IsTried}
+use Rattle.diag_known.specs.Vocabulary.{Links, list_at, KnownWires, IsKnown, IsAt, IsBefore, HasWire, AreMarks, IsOffer, IsPlaced, AreLost}
+use Rattle.diag_known.specs.Vocabulary.{IsKeptUnlessStuck, IsTried}
 use Rattle.diag_known.specs.declared.links.Near.{Near}
 use Rattle.diag_growth.specs.declared.look.Look.{Look}
 use Rattle.diag_known.specs.declared.marks.Marks.{Marks}

@@ -4,10 +4,7 @@ use Rattle.machine_shape.specs.declared.Wire.{Wire}
 use Rattle.machine_config.specs.Groups.{among}
 use Rattle.diag_tests.specs.Routes.{Walk}
 use Rattle.diag_evidence.specs.Kept.{Kept, keeps_pair}
-use Rattle.diag_known.specs.Known.{IsAt, HasWire}
-use Rattle.diag_known.specs.Offers.{Adds, InSome, IsOn}
-use Rattle.diag_known.specs.Reaches.{reach_at, IsReached, AreTrees, AreWalks}
-use Rattle.diag_known.specs.Ways.{ReachesAll}
+use Rattle.diag_known.specs.Vocabulary.{IsAt, HasWire, Adds, InSome, IsOn, reach_at, IsReached, AreTrees, AreWalks, ReachesAll}
 use Rattle.diag_known.specs.declared.beside.Reach.{Reach}
 use Rattle.diag_known.specs.declared.beside.Reach.TheVariants as reach
 use Rattle.diag_known.specs.declared.verified_wire.VerifiedWire.{VerifiedWire}

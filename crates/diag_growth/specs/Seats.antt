@@ -2,8 +2,7 @@
 use Rattle.std.specs.Prelude.{◌≡◌, ◌≢◌, ◌<◌, ◌++◌, ℕ, true, Some, Option, List, [], ◌∷◌, map, length, slice_get}
 use Rattle.machine_shape.specs.declared.Shape.{Shape}
 use Rattle.machine_shape.specs.Shape.{Ends, ends_of, table_wire, crosses_of, tables_of}
-use Rattle.machine_meaning.specs.Faults.{Faults}
-use Rattle.machine_meaning.specs.Tight.{IsRightTable}
+use Rattle.machine_meaning.specs.Vocabulary.{Faults, IsRightTable}
 use Rattle.machine_config.specs.Groups.{among}
 use Rattle.diag_tests.specs.Routes.{Walk, IsRoute}
 use Rattle.diag_evidence.specs.Kept.{Kept, HoldsFor, keeps_cross, keeps_wire, keeps_pair, keeps_cell, keeps_register}

@@ -2,13 +2,10 @@
 use Rattle.std.specs.Prelude.{◌≡◌, ℕ, ◌+◌, ◌≤◌, ◌==◌, Bool, true, not, ◌&&◌, Option, Some, List, slice_get}
 use Rattle.std.specs.List.{count_by}
 use Rattle.machine_shape.specs.declared.Table.{Table}
-use Rattle.machine_meaning.specs.Faults.{Faults}
-use Rattle.machine_meaning.specs.Standing.{IsSeated}
-use Rattle.machine_meaning.specs.Tight.{IsRightTable}
+use Rattle.machine_meaning.specs.Vocabulary.{Faults, IsSeated, IsRightTable}
 use Rattle.diag_evidence.specs.Kept.{Kept, HoldsFor, keeps_cell, keeps_register}
 use Rattle.diag_growth.specs.Seats.{KeepsTable}
-use Rattle.diag_known.specs.Field.{how_many}
-use Rattle.diag_known.specs.Known.{HasWire, IsKeptCrossOf}
+use Rattle.diag_known.specs.Vocabulary.{how_many, HasWire, IsKeptCrossOf}
 use Rattle.diag_known.specs.declared.verified_wire.VerifiedWire.{VerifiedWire}
 
 -- Where the faults are told and what was kept is true of them, the table is kept, if it is seated in the known wires and the kept

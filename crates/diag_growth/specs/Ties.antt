@@ -2,8 +2,7 @@
 use Rattle.std.specs.Prelude.{◌≡◌, ◌⊎◌, ℕ, suc, zero, ◌<◌, ◌/◌, ◌%◌, ◌==◌, ◌||◌, List, Bool, true, false, Option, Some, None, slice_get}
 use Rattle.machine_shape.specs.declared.Shape.{Shape}
 use Rattle.machine_meaning.specs.Faults.{Faults, wrong_cell, stuck_register}
-use Rattle.machine_config.specs.Configuration.{Configuration}
-use Rattle.machine_config.specs.Groups.{among}
+use Rattle.machine_config.specs.Vocabulary.{Configuration, among}
 use Rattle.diag_tests.specs.Configs.{IsCellConfig}
 use Rattle.diag_evidence.specs.Kept.{Kept, HoldsFor, keeps_cell, keeps_register}
 use Rattle.diag_growth.specs.declared.seat.Arm.{Arm}

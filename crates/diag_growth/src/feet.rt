@@ -5,8 +5,7 @@ ghost use Rattle.machine_shape.specs.Shape.{crosses_of};
 ghost use Rattle.rig.specs.Rig.{shape_of};
 ghost use Rattle.diag_evidence.specs.Kept.{Advances, keeps_cross};
 ghost use Rattle.diag_known.specs.declared.verified_wire.Support.{Support};
-ghost use Rattle.diag_known.specs.Marked.{AreMarks, SpendsOn};
-ghost use Rattle.diag_known.specs.Offers.{IsPlaced, IsKeptOther, IsSecond, AreLost, HasNoSecond};
+ghost use Rattle.diag_known.specs.Vocabulary.{AreMarks, SpendsOn, IsPlaced, IsKeptOther, IsSecond, AreLost, HasNoSecond};
 ghost use Rattle.diag_growth.specs.Looks.{IsNewOffer, IsReady};
 
 use diag_evidence::Facts;

@@ -1,6 +1,6 @@
 //! Trials of wires on two feet, and of pins: what is good is known then.
-ghost use Rattle.std.specs.Prelude.{◌≡◌, ◌≢◌, ◌<◌, ◌≤◌, ◌+◌, ℕ, true, false, Some, slice_set};
-ghost use Rattle.std.specs.Prelude.{IfOk, IfSome, IfNone, OnOk, OnErr, IsErrOf, IsTrue};
+ghost use Rattle.std.specs.Prelude.{◌≡◌, ◌≢◌, ◌<◌, ◌≤◌, ◌+◌, ℕ, true, false, Some, slice_set, IfOk, IfSome, IfNone, OnOk, OnErr, IsErrOf};
+ghost use Rattle.std.specs.Prelude.{IsTrue};
 ghost use Rattle.base_bits.specs.Numbers.{has_number};
 ghost use Rattle.base_io.specs.Counts.{Rose};
 ghost use Rattle.machine_shape.specs.Shape.{pins_of, pin_wire, wires_of};
@@ -8,10 +8,8 @@ ghost use Rattle.rig.specs.Rig.{shape_of};
 ghost use Rattle.diag_evidence.specs.Kept.{Advances};
 ghost use Rattle.diag_growth.specs.Grown.{IsLearnt, IsOneMore};
 ghost use Rattle.diag_growth.specs.Looks.{IsNewOffer, IsReady};
-ghost use Rattle.diag_known.specs.Trials.{IsBad, IsTried};
-ghost use Rattle.diag_known.specs.Known.{IsKnown, HasWire, IsGood};
-ghost use Rattle.diag_known.specs.Marked.{AreMarks, IsOfOffer, OffersOnly, Spends, BarsAtMost, HasTried, TakesForWire};
-ghost use Rattle.diag_known.specs.Offers.{IsOffer, IsSecond};
+ghost use Rattle.diag_known.specs.Vocabulary.{IsBad, IsTried, IsKnown, HasWire, IsGood, AreMarks, IsOfOffer, OffersOnly, Spends};
+ghost use Rattle.diag_known.specs.Vocabulary.{BarsAtMost, HasTried, TakesForWire, IsOffer, IsSecond};
 
 use crate::feet::second_foot;
 use crate::parts::{is_good, is_good_pin};

@@ -5,14 +5,11 @@ ghost use Rattle.base_io.specs.Counts.{Rose};
 ghost use Rattle.machine_shape.specs.Shape.{wires_of};
 ghost use Rattle.rig.specs.Rig.{shape_of};
 ghost use Rattle.diag_evidence.specs.Kept.{Advances};
-ghost use Rattle.diag_known.specs.Linked.{AreLinked};
+ghost use Rattle.diag_known.specs.Vocabulary.{AreLinked, IsKnown, IsBefore, HasWire, AreMarks, JoinsAtMost, Spends, IsOffer};
+ghost use Rattle.diag_known.specs.Vocabulary.{IsKeptUnlessStuck};
 ghost use Rattle.diag_growth.specs.Grown.{IsGrown};
-ghost use Rattle.diag_known.specs.Known.{IsKnown, IsBefore, HasWire};
-ghost use Rattle.diag_growth.specs.Looks.{IsLook, IsLookAt, IsLinking, IsOfferOf, IsLookedOver, AreEarlier, AreAllMarks, AreTried, TakesEarlier};
-ghost use Rattle.diag_growth.specs.Looks.{Grows};
-ghost use Rattle.diag_known.specs.Marked.{AreMarks, JoinsAtMost, Spends};
-ghost use Rattle.diag_known.specs.Offers.{IsOffer};
-ghost use Rattle.diag_known.specs.Trials.{IsKeptUnlessStuck};
+ghost use Rattle.diag_growth.specs.Looks.{IsLook, IsLookAt, IsLinking, IsOfferOf, IsLookedOver, AreEarlier, AreAllMarks, AreTried};
+ghost use Rattle.diag_growth.specs.Looks.{TakesEarlier, Grows};
 
 use crate::learn::try_offer;
 use diag_evidence::Facts;

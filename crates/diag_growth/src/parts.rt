@@ -6,10 +6,8 @@ ghost use Rattle.machine_config.specs.Tests.{AreReleased};
 ghost use Rattle.rig.specs.Rig.{shape_of};
 ghost use Rattle.diag_tests.specs.Routes.{IsRoute, cross_numbers};
 ghost use Rattle.diag_evidence.specs.Kept.{Advances, keeps_wire, keeps_pair};
-ghost use Rattle.diag_known.specs.Known.{IsKnown, HasWire, IsGood};
+ghost use Rattle.diag_known.specs.Vocabulary.{IsKnown, HasWire, IsGood, IsBad, IsWay, AreWays};
 ghost use Rattle.diag_growth.specs.Partings.{AreLeft, IsListed, LeavesAt, IsParting, IsApartBeside};
-ghost use Rattle.diag_known.specs.Trials.{IsBad};
-ghost use Rattle.diag_known.specs.Ways.{IsWay, AreWays};
 
 use diag_evidence::Facts;
 use diag_evidence::laws::tests_by_lists_pass;

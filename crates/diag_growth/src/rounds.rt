@@ -5,12 +5,9 @@ ghost use Rattle.base_io.specs.Counts.{Rose};
 ghost use Rattle.machine_shape.specs.Shape.{pins_of, pin_wire};
 ghost use Rattle.rig.specs.Rig.{shape_of};
 ghost use Rattle.diag_evidence.specs.Kept.{Advances};
-ghost use Rattle.diag_known.specs.Field.{IsFieldOf, ClosedIf, GrowsIn, TakesFew, fresh, pins_in};
-ghost use Rattle.diag_known.specs.Linked.{AreLinked};
+ghost use Rattle.diag_known.specs.Vocabulary.{IsFieldOf, ClosedIf, GrowsIn, TakesFew, fresh, pins_in, AreLinked, IsKnown, HasWire, Spends};
 ghost use Rattle.diag_growth.specs.Grown.{IsGrown};
-ghost use Rattle.diag_known.specs.Known.{IsKnown, HasWire};
 ghost use Rattle.diag_growth.specs.Looks.{AreAllMarks, AreTried, Grows, IsLinking};
-ghost use Rattle.diag_known.specs.Marked.{Spends};
 
 use crate::learn::try_pin;
 use crate::look::look_at;

@@ -6,8 +6,7 @@ ghost use Rattle.machine_meaning.specs.Standing.{IsSeated};
 ghost use Rattle.rig.specs.Rig.{shape_of};
 ghost use Rattle.diag_evidence.specs.Kept.{Advances};
 ghost use Rattle.diag_growth.specs.Seats.{AddsOnlyTableFacts, IsSeat, KeepsTable};
-ghost use Rattle.diag_known.specs.Known.{IsKeptCrossOf, IsKnown, HasWire};
-ghost use Rattle.diag_known.specs.Grounds.{AreAllLinks};
+ghost use Rattle.diag_known.specs.Vocabulary.{IsKeptCrossOf, IsKnown, HasWire, AreAllLinks};
 ghost use Rattle.diag_growth.specs.Seating.{AreAllWithout};
 ghost use Rattle.diag_growth.specs.Tables.{SeatedAreKept, SeatedIsKept, TakesForTable, fresh_tables, keeps_table};
 

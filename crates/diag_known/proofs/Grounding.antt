@@ -1,6 +1,5 @@
 -- What stands by kept crosspoints, wire by wire.
-use Rattle.std.proofs.Common.{◌≡◌, ◌≢◌, ◌⊎◌, ℕ, zero, suc, ◌+◌, ◌<◌, ◌≤◌, Bool, true, false, Some, None, Option, List, [], ◌∷◌, ◌++◌, length, refl, sym, ap, ◌∙◌, subst, inl, inr, arith, set}
-use Rattle.std.specs.Prelude.{slice_get, replicate}
+use Rattle.std.proofs.Common.{◌≡◌, ◌≢◌, ◌⊎◌, ℕ, zero, suc, ◌+◌, ◌<◌, ◌≤◌, Bool, true, false, Some, None, Option, List, [], ◌∷◌, ◌++◌, length, refl, sym, ap, ◌∙◌, subst, inl, inr, arith, set, slice_get, replicate}
 use Rattle.std.proofs.lemmas.Bool.{false≢true}
 use Rattle.std.proofs.lemmas.List.{length-set, length_push, get_or-set_same, get_or-set_other, get_or-replicate, get_or_past, length-replicate}
 use Rattle.std.proofs.lemmas.Option.{slice_get_within}
@@ -9,10 +8,8 @@ use Rattle.base_bits.specs.Numbers.{has_number}
 use Rattle.base_bits.proofs.NumbersLemmas.{size_of-taken}
 use Rattle.machine_shape.specs.Shape.{Ends, in_order, turned, ends_of, pin_wire, pins_of, crosses_of, wires_of}
 use Rattle.diag_evidence.specs.Kept.{Kept, keeps_cross, keeps_pair}
-use Rattle.diag_known.specs.Known.{KnownWires, IsAt, HasWire, IsFoot, Stands, IsKnown, IsKeptCrossOf, InSet, AreApart, IsGood}
-use Rattle.diag_known.specs.Linked.{list_at, HasLink}
+use Rattle.diag_known.specs.Vocabulary.{KnownWires, IsAt, HasWire, IsFoot, Stands, IsKnown, IsKeptCrossOf, InSet, AreApart, IsGood, list_at, HasLink, IsBetween, AreAllLinks, foot_at, IsFootTo, IsGround, IsSettled, Founds, AreSettled}
 use Rattle.machine_meaning.specs.Standing.{StandsBy, pin_stands, on_two}
-use Rattle.diag_known.specs.Grounds.{IsBetween, AreAllLinks, foot_at, IsFootTo, IsGround, IsSettled, Founds, AreSettled}
 use Rattle.diag_known.specs.declared.links.Near.{Near}
 use Rattle.diag_known.specs.declared.verified_wire.Support.{Support}
 use Rattle.diag_known.specs.declared.verified_wire.SupportedBy.TheVariants as stand

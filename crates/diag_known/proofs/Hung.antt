@@ -1,35 +1,21 @@
 -- A wire that hangs on what is reached beside a way: a toggle of a crosspoint from it to the way's end passes.
-use Rattle.std.proofs.Common.{◌≡◌, ◌≢◌, ◌⊎◌, ℕ, zero, suc, ◌<◌, Bool, true, false, Some, None, Option, List, [], ◌∷◌, ◌++◌, refl, sym, ap, ◌∙◌, subst, inl, inr, arith}
-use Rattle.std.specs.Prelude.{slice_get, slice_index_or, ◌==◌, ◌||◌}
+use Rattle.std.proofs.Common.{◌≡◌, ◌≢◌, ◌⊎◌, ℕ, zero, suc, ◌<◌, Bool, true, false, Some, None, Option, List, [], ◌∷◌, ◌++◌, refl, sym, ap, ◌∙◌, subst, inl, inr, arith, slice_get, slice_index_or, ◌==◌, ◌||◌}
 use Rattle.std.proofs.lemmas.Bool.{false≢true}
 use Rattle.std.proofs.lemmas.Bool.Decides.{nat_tests}
 use Rattle.std.proofs.lemmas.List.Folds.{list_any-append}
 use Rattle.machine_shape.specs.declared.Cross.{Cross}
 use Rattle.machine_shape.specs.declared.Shape.{Shape}
 use Rattle.machine_shape.specs.Shape.{Ends, ends_of, pin_wire, crosses_of}
-use Rattle.machine_meaning.specs.Circuit.{Pins}
-use Rattle.machine_meaning.specs.Faults.{Faults, stuck_cross}
-use Rattle.machine_meaning.specs.Joined.{Shorted}
-use Rattle.machine_meaning.specs.Defects.{IsClear}
+use Rattle.machine_meaning.specs.Vocabulary.{Pins, Faults, stuck_cross, Shorted, IsClear}
 use Rattle.machine_meaning.proofs.JoinedLemmas.{Ends-swap}
-use Rattle.machine_config.specs.Configuration.{Configuration}
-use Rattle.machine_config.specs.Groups.{among, IsWithin}
-use Rattle.machine_config.specs.Route.{LeadsTo, ends, goes}
-use Rattle.machine_config.specs.Tests.{IsLoop, IsDrivenIn}
+use Rattle.machine_config.specs.Vocabulary.{Configuration, among, IsWithin, LeadsTo, ends, goes, IsLoop, IsDrivenIn}
 use Rattle.machine_config.proofs.Grouped.{LeadsTo-start, LeadsTo-end, LeadsTo-within}
-use Rattle.diag_tests.specs.Routes.{Walk, IsRoute, cross_numbers}
-use Rattle.diag_tests.specs.Configs.{IsLoopConfig}
+use Rattle.diag_tests.specs.Vocabulary.{Walk, IsRoute, cross_numbers, IsLoopConfig}
 use Rattle.diag_tests.proofs.Longer.{among_both}
-use Rattle.diag_evidence.specs.Kept.{Kept, HoldsFor, IsMore}
-use Rattle.diag_evidence.specs.Loops.{IsLoopBy}
-use Rattle.diag_evidence.specs.Readings.{CrossPasses, wires_over}
+use Rattle.diag_evidence.specs.Vocabulary.{Kept, HoldsFor, IsMore, IsLoopBy, CrossPasses, wires_over}
 use Rattle.diag_evidence.proofs.Keeping.{holds_earlier}
 use Rattle.diag_evidence.proofs.Lists.{grown, loop_of_lists}
-use Rattle.diag_known.specs.Known.{KnownWires, HasWire, IsKnown}
-use Rattle.diag_known.specs.Offers.{IsOffer, IsHanging, InSome, IsOn, IsHung, HangsNot, ArePulled, HasNoneBeside}
-use Rattle.diag_known.specs.Reaches.{reach_at, IsReached, AreTrees, IsTreeWalk, IsOnWalk}
-use Rattle.diag_known.specs.Trials.{IsLinkTo, IsFit, IsFaulty}
-use Rattle.diag_known.specs.Ways.{IsWay}
+use Rattle.diag_known.specs.Vocabulary.{KnownWires, HasWire, IsKnown, IsOffer, IsHanging, InSome, IsOn, IsHung, HangsNot, ArePulled, HasNoneBeside, reach_at, IsReached, AreTrees, IsTreeWalk, IsOnWalk, IsLinkTo, IsFit, IsFaulty, IsWay}
 use Rattle.diag_known.specs.declared.beside.Reach.{Reach}
 use Rattle.diag_known.specs.declared.beside.Reach.TheVariants as reach
 use Rattle.diag_known.specs.declared.offers.Offer.{Offer}

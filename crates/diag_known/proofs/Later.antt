@@ -1,17 +1,15 @@
 -- Known wires stay known, and one more is known.
-use Rattle.std.proofs.Common.{◌≡◌, ◌⊎◌, ℕ, ◌+◌, ◌<◌, Some, List, [], ◌∷◌, ◌++◌, length, sym, ◌∙◌, subst, inl, inr, arith}
-use Rattle.std.specs.Prelude.{slice_get}
+use Rattle.std.proofs.Common.{◌≡◌, ◌⊎◌, ℕ, ◌+◌, ◌<◌, Some, List, [], ◌∷◌, ◌++◌, length, sym, ◌∙◌, subst, inl, inr, arith, slice_get}
 use Rattle.std.proofs.lemmas.Option.{slice_get_within}
 use Rattle.machine_shape.specs.declared.Shape.{Shape}
 use Rattle.machine_shape.specs.Shape.{Ends, ends_of, pin_wire, pins_of, crosses_of}
 use Rattle.diag_evidence.specs.Kept.{Kept, IsMore}
-use Rattle.diag_known.specs.Known.{KnownWires, IsBefore, IsFoot, Stands, on_pin, on_feet, IsKnownStep, IsKnown, IsGood}
+use Rattle.diag_known.specs.Vocabulary.{KnownWires, IsBefore, IsFoot, Stands, on_pin, on_feet, IsKnownStep, IsKnown, IsGood, IsWay, AreWays}
 use Rattle.diag_known.specs.declared.verified_wire.Support.{Support}
 use Rattle.diag_known.specs.declared.verified_wire.SupportedBy.{SupportedBy}
 use Rattle.diag_known.specs.declared.verified_wire.VerifiedWire.{VerifiedWire}
 use Rattle.diag_known.proofs.Places.{get_pushed, before_later, before_has}
 use Rattle.diag_tests.specs.Routes.{Walk, IsRoute}
-use Rattle.diag_known.specs.Ways.{IsWay, AreWays}
 
 pub foot_later : {k l : Kept} {ss : List VerifiedWire} {i w : ℕ} {a : Support} → IsMore k l → IsFoot k ss i w a → IsFoot l ss i w a
 foot_later {w = w} {a = a} more f = record {

@@ -4,8 +4,7 @@ use Rattle.machine_shape.specs.declared.Shape.{Shape}
 use Rattle.machine_meaning.specs.Faults.{Faults}
 use Rattle.diag_evidence.specs.Kept.{Kept, IsMore}
 use Rattle.diag_evidence.proofs.Keeping.{holds_earlier}
-use Rattle.diag_known.specs.Offers.{AreLost}
-use Rattle.diag_known.specs.Trials.{IsFit, IsLost, IsKeptUnlessStuck, IsTried}
+use Rattle.diag_known.specs.Vocabulary.{AreLost, IsFit, IsLost, IsKeptUnlessStuck, IsTried}
 use Rattle.diag_known.specs.declared.verified_wire.VerifiedWire.{VerifiedWire}
 use Rattle.diag_known.proofs.Places.{has_later}
 

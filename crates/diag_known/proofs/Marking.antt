@@ -1,6 +1,5 @@
 -- Marks, and the loads that they stand for.
-use Rattle.std.proofs.Common.{◌≡◌, ◌≢◌, ◌⊎◌, ℕ, ◌+◌, ◌*◌, ◌<◌, ◌≤◌, Bool, true, false, Some, Option, List, length, refl, sym, ap, ◌∙◌, subst, inl, inr, arith}
-use Rattle.std.specs.Prelude.{◌||◌, slice_get, slice_set}
+use Rattle.std.proofs.Common.{◌≡◌, ◌≢◌, ◌⊎◌, ℕ, ◌+◌, ◌*◌, ◌<◌, ◌≤◌, Bool, true, false, Some, Option, List, length, refl, sym, ap, ◌∙◌, subst, inl, inr, arith, ◌||◌, slice_get, slice_set}
 use Rattle.std.proofs.lemmas.Bool.{false≢true}
 use native.Mathlib.Decide.{dec_lt}
 use Rattle.base_bits.specs.Numbers.{has_number}
@@ -10,10 +9,7 @@ use Rattle.machine_meaning.specs.Faults.{Faults, IsFaultless}
 use Rattle.machine_meaning.proofs.Clear.{clear_of_sound}
 use Rattle.machine_meaning.proofs.Faultless.{all_sound}
 use Rattle.diag_evidence.specs.Kept.{Kept, HoldsFor, IsMore, keeps_cross}
-use Rattle.diag_known.specs.Field.{how_many}
-use Rattle.diag_known.specs.Known.{HasWire}
-use Rattle.diag_known.specs.Marked.{is_spent, most_loads, few_loads, barred_pins, TakesForWire, Spends, AreMarks}
-use Rattle.diag_known.specs.Trials.{IsFit}
+use Rattle.diag_known.specs.Vocabulary.{how_many, HasWire, is_spent, most_loads, few_loads, barred_pins, TakesForWire, Spends, AreMarks, IsFit}
 use Rattle.diag_known.specs.declared.marks.Marks.{Marks}
 use Rattle.diag_known.specs.declared.verified_wire.VerifiedWire.{VerifiedWire}
 use Rattle.diag_known.proofs.Counting.{many_one, set_below, set_has, set_most, set_only, set_stays, set_one}

@@ -1,14 +1,12 @@
 -- What an offer spends, one trial after the other.
-use Rattle.std.proofs.Common.{◌≡◌, ◌≢◌, ◌⊎◌, ℕ, ◌+◌, ◌<◌, ◌≤◌, true, false, Some, Option, List, refl, sym, ap, ◌∙◌, subst, inl, inr, arith}
-use Rattle.std.specs.Prelude.{slice_get, slice_set}
+use Rattle.std.proofs.Common.{◌≡◌, ◌≢◌, ◌⊎◌, ℕ, ◌+◌, ◌<◌, ◌≤◌, true, false, Some, Option, List, refl, sym, ap, ◌∙◌, subst, inl, inr, arith, slice_get, slice_set}
 use Rattle.std.proofs.lemmas.Bool.{false≢true}
 use Rattle.std.proofs.lemmas.List.{set-set}
 use Rattle.base_bits.specs.Numbers.{has_number}
 use Rattle.machine_shape.specs.declared.Shape.{Shape}
 use Rattle.machine_meaning.specs.Faults.{Faults}
 use Rattle.diag_evidence.specs.Kept.{Kept, HoldsFor, IsMore, keeps_cross}
-use Rattle.diag_known.specs.Marked.{barred_pins, is_spent, AreMarks, IsOfOffer, OffersAtMost, OffersOnly, SpendsOn}
-use Rattle.diag_known.specs.Offers.{IsOffer, IsPlaced}
+use Rattle.diag_known.specs.Vocabulary.{barred_pins, is_spent, AreMarks, IsOfOffer, OffersAtMost, OffersOnly, SpendsOn, IsOffer, IsPlaced}
 use Rattle.diag_known.specs.declared.marks.Marks.{Marks}
 use Rattle.diag_known.specs.declared.offers.Offer.{Offer}
 use Rattle.diag_known.specs.declared.verified_wire.Support.{Support}

@@ -1,26 +1,19 @@
 -- Toggles over routes of known wires pass.
-use Rattle.std.proofs.Common.{◌≡◌, ◌≢◌, ℕ, ◌<◌, Bool, true, false, None, Option, List, [], ◌∷◌, ◌++◌, refl, sym, ap, ◌∙◌, subst, inr, arith}
-use Rattle.std.specs.Prelude.{slice_get, ◌==◌, ◌||◌}
+use Rattle.std.proofs.Common.{◌≡◌, ◌≢◌, ℕ, ◌<◌, Bool, true, false, None, Option, List, [], ◌∷◌, ◌++◌, refl, sym, ap, ◌∙◌, subst, inr, arith, slice_get, ◌==◌, ◌||◌}
 use Rattle.std.proofs.lemmas.Bool.{false≢true}
 use Rattle.std.proofs.lemmas.Bool.Decides.{nat_tests}
 use native.Mathlib.Decide.{dec_lt}
 use Rattle.machine_shape.specs.declared.Shape.{Shape}
 use Rattle.machine_shape.specs.Shape.{Ends, in_order, turned, ends_of, crosses_of}
-use Rattle.machine_meaning.specs.Faults.{Faults, stuck_cross}
-use Rattle.machine_meaning.specs.Joined.{Shorted}
-use Rattle.machine_meaning.specs.Defects.{IsClear}
+use Rattle.machine_meaning.specs.Vocabulary.{Faults, stuck_cross, Shorted, IsClear}
 use Rattle.machine_meaning.proofs.JoinedLemmas.{Joined-sym}
-use Rattle.machine_config.specs.Groups.{among, IsWithin}
-use Rattle.machine_config.specs.Route.{ends, goes}
+use Rattle.machine_config.specs.Vocabulary.{among, IsWithin, ends, goes}
 use Rattle.machine_config.proofs.Grouped.{LeadsTo-end}
 use Rattle.diag_tests.specs.Routes.{Walk}
 use Rattle.diag_tests.proofs.Longer.{among-push, among_both}
-use Rattle.diag_evidence.specs.Kept.{Kept, HoldsFor, IsMore, keeps_cross, keeps_wire, keeps_pair}
-use Rattle.diag_evidence.specs.Loops.{IsLoopBy, LoopPasses}
+use Rattle.diag_evidence.specs.Vocabulary.{Kept, HoldsFor, IsMore, keeps_cross, keeps_wire, keeps_pair, IsLoopBy, LoopPasses}
 use Rattle.diag_evidence.proofs.Keeping.{pair_turned, holds_earlier}
-use Rattle.diag_known.specs.Known.{KnownWires, IsAt, HasWire, IsKnown}
-use Rattle.diag_known.specs.Routes.{RestsOn, IsKnownRoute, AreRoutesTo}
-use Rattle.diag_known.specs.Trials.{IsKeptRoute, IsFit, IsKeptUnlessStuck, IsLost}
+use Rattle.diag_known.specs.Vocabulary.{KnownWires, IsAt, HasWire, IsKnown, RestsOn, IsKnownRoute, AreRoutesTo, IsKeptRoute, IsFit, IsKeptUnlessStuck, IsLost}
 use Rattle.diag_known.specs.declared.verified_wire.VerifiedWire.{VerifiedWire}
 use Rattle.diag_known.proofs.Places.{at_one}
 use Rattle.diag_known.proofs.Rising.{among_one}

@@ -1,13 +1,10 @@
 -- Places of known wires.
-use Rattle.std.proofs.Common.{◌≡◌, ◌≢◌, ◌⊎◌, ℕ, zero, suc, ◌+◌, ◌<◌, Bool, true, false, Some, List, [], ◌∷◌, ◌++◌, length, refl, sym, ap, ◌∙◌, subst, inl, inr, arith}
-use Rattle.std.specs.Prelude.{slice_get}
+use Rattle.std.proofs.Common.{◌≡◌, ◌≢◌, ◌⊎◌, ℕ, zero, suc, ◌+◌, ◌<◌, Bool, true, false, Some, List, [], ◌∷◌, ◌++◌, length, refl, sym, ap, ◌∙◌, subst, inl, inr, arith, slice_get}
 use Rattle.std.proofs.lemmas.Bool.{false≢true}
 use Rattle.std.proofs.lemmas.Option.{slice_get_within}
 use Rattle.diag_evidence.specs.Kept.{Kept, keeps_pair}
 use Rattle.diag_evidence.proofs.Keeping.{no_pair_itself}
-use Rattle.diag_known.specs.Known.{KnownWires, IsAt, IsBefore, HasWire, IsFoot, IsKnown, Stands, on_pin, on_feet, AreTwo}
-use Rattle.diag_known.specs.Descents.{IsPinAt, IsPinHere, Stays, StepsDown, StepsAlong}
-use Rattle.diag_known.specs.Routes.{IsPin}
+use Rattle.diag_known.specs.Vocabulary.{KnownWires, IsAt, IsBefore, HasWire, IsFoot, IsKnown, Stands, on_pin, on_feet, AreTwo, IsPinAt, IsPinHere, Stays, StepsDown, StepsAlong, IsPin}
 use Rattle.diag_known.specs.declared.descents.Down.{Down}
 use Rattle.diag_known.specs.declared.verified_wire.Support.{Support}
 use Rattle.diag_known.specs.declared.verified_wire.SupportedBy.{SupportedBy}

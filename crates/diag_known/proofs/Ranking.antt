@@ -1,14 +1,12 @@
 -- The places of wires, where one more is known.
-use Rattle.std.proofs.Common.{◌≡◌, ◌≢◌, ◌⊎◌, ℕ, ◌+◌, ◌*◌, ◌<◌, ◌≤◌, Some, None, Option, List, [], ◌∷◌, ◌++◌, length, refl, sym, ap, ◌∙◌, subst, inl, inr, arith, set, get_or}
+use Rattle.std.proofs.Common.{◌≡◌, ◌≢◌, ◌⊎◌, ℕ, ◌+◌, ◌*◌, ◌<◌, ◌≤◌, Some, None, Option, List, [], ◌∷◌, ◌++◌, length, refl, sym, ap, ◌∙◌, subst, inl, inr, arith, set, get_or, slice_get, replicate, IfNone, is_some, if◌then◌else◌}
 use Rattle.std.proofs.lemmas.List.{get_or-set_same, get_or-set_other, get_or-replicate, get_or_past, length-replicate, length-set, length-append}
-use Rattle.std.specs.Prelude.{slice_get, replicate, IfNone, is_some, if◌then◌else◌}
 use Rattle.std.specs.List.{count_by}
 use Rattle.std.proofs.lemmas.List.Sums.{sum_by-set, count_by-le-length}
 use Rattle.std.proofs.lemmas.List.Folds.{sum_by-replicate}
 use native.Mathlib.Decide.{dec_lt, ℕ_discrete}
 use Rattle.machine_shape.specs.Shape.{wires_of}
-use Rattle.diag_known.specs.Known.{KnownWires, IsAt, HasWire}
-use Rattle.diag_known.specs.Ranks.{rank_in, AreRanks}
+use Rattle.diag_known.specs.Vocabulary.{KnownWires, IsAt, HasWire, rank_in, AreRanks}
 use Rattle.diag_known.specs.declared.known.Known.TheInside.{Inside}
 use Rattle.diag_known.specs.declared.verified_wire.VerifiedWire.{VerifiedWire}
 use Rattle.diag_known.proofs.Places.{get_before, get_last, get_pushed, some_same}

@@ -1,6 +1,5 @@
 -- What is reached beside a route, one known wire after the other.
-use Rattle.std.proofs.Common.{◌≡◌, ◌≢◌, ◌⊎◌, ℕ, ◌+◌, ◌<◌, ◌≤◌, Bool, true, false, Some, List, length, refl, sym, ap, ◌∙◌, subst, inl, inr, arith, set, take}
-use Rattle.std.specs.Prelude.{slice_get, replicate, ◌==◌, ◌||◌}
+use Rattle.std.proofs.Common.{◌≡◌, ◌≢◌, ◌⊎◌, ℕ, ◌+◌, ◌<◌, ◌≤◌, Bool, true, false, Some, List, length, refl, sym, ap, ◌∙◌, subst, inl, inr, arith, set, take, slice_get, replicate, ◌==◌, ◌||◌}
 use Rattle.std.proofs.lemmas.Bool.{false≢true}
 use Rattle.std.proofs.lemmas.Bool.Decides.{nat_tests}
 use Rattle.diag_tests.proofs.Closings.{among_at, more_among}
@@ -10,10 +9,7 @@ use native.Mathlib.Decide.{dec_lt, ℕ_discrete}
 use Rattle.machine_config.specs.Groups.{among}
 use Rattle.diag_tests.specs.Routes.{Walk}
 use Rattle.diag_evidence.specs.Kept.{Kept}
-use Rattle.diag_known.specs.Known.{KnownWires, IsAt, IsBefore, IsKnown}
-use Rattle.diag_known.specs.Routes.{IsPin, HasFootOn, first, second}
-use Rattle.diag_known.specs.Ways.{ReachesAll}
-use Rattle.diag_known.specs.Reaches.{reach_at, IsFrom, IsReached, HangsOn, own, by_first, by_second, AreTrees}
+use Rattle.diag_known.specs.Vocabulary.{KnownWires, IsAt, IsBefore, IsKnown, IsPin, HasFootOn, first, second, ReachesAll, reach_at, IsFrom, IsReached, HangsOn, own, by_first, by_second, AreTrees}
 use Rattle.diag_known.specs.declared.beside.Reach.{Reach}
 use Rattle.diag_known.specs.declared.beside.Reach.TheVariants as reach
 use Rattle.diag_known.specs.declared.verified_wire.Support.{Support}

@@ -1,6 +1,5 @@
 -- Routes from two pins up along a descent.
-use Rattle.std.proofs.Common.{◌≡◌, ◌≢◌, ◌⊎◌, ℕ, ◌+◌, ◌<◌, Bool, true, false, Some, List, [], ◌∷◌, ◌++◌, refl, sym, ap, ◌∙◌, subst, inl, inr, arith}
-use Rattle.std.specs.Prelude.{slice_get, ◌==◌, AllPairs}
+use Rattle.std.proofs.Common.{◌≡◌, ◌≢◌, ◌⊎◌, ℕ, ◌+◌, ◌<◌, Bool, true, false, Some, List, [], ◌∷◌, ◌++◌, refl, sym, ap, ◌∙◌, subst, inl, inr, arith, slice_get, ◌==◌, AllPairs}
 use Rattle.std.proofs.lemmas.Bool.{false≢true}
 use Rattle.std.proofs.lemmas.Bool.Decides.{nat_tests}
 use Rattle.machine_shape.specs.declared.Shape.{Shape}
@@ -10,9 +9,7 @@ use Rattle.machine_config.proofs.Grouped.{LeadsTo-end}
 use Rattle.diag_tests.specs.Routes.{Walk, IsRoute, other_end, Extends, at_pin}
 use Rattle.diag_tests.proofs.Longer.{among-push, among_both, at_pin_is}
 use Rattle.diag_evidence.specs.Kept.{Kept, keeps_cross}
-use Rattle.diag_known.specs.Known.{KnownWires, IsAt, IsKnown}
-use Rattle.diag_known.specs.Routes.{IsPin, is_pin, HasFootOn, first, second, RestsOn, IsEarly, IsKnownRoute, AreRoutes, AreRoutesTo}
-use Rattle.diag_known.specs.Descents.{StepsDown, Goes, Descends, DescendsTo, IsPinAt}
+use Rattle.diag_known.specs.Vocabulary.{KnownWires, IsAt, IsKnown, IsPin, is_pin, HasFootOn, first, second, RestsOn, IsEarly, IsKnownRoute, AreRoutes, AreRoutesTo, StepsDown, Goes, Descends, DescendsTo, IsPinAt}
 use Rattle.diag_known.specs.declared.descents.Down.{Down}
 use Rattle.diag_known.specs.declared.verified_wire.Support.{Support}
 use Rattle.diag_known.specs.declared.verified_wire.SupportedBy.{SupportedBy}

@@ -1,17 +1,12 @@
 -- Two feet for a wire, or none.
-use Rattle.std.proofs.Common.{◌≡◌, ◌⊎◌, ℕ, ◌+◌, ◌<◌, true, Some, Option, List, length, sym, ap, ◌∙◌, subst, inl, inr, arith}
-use Rattle.std.specs.Prelude.{slice_get}
+use Rattle.std.proofs.Common.{◌≡◌, ◌⊎◌, ℕ, ◌+◌, ◌<◌, true, Some, Option, List, length, sym, ap, ◌∙◌, subst, inl, inr, arith, slice_get}
 use native.Mathlib.Decide.{ℕ_discrete}
 use Rattle.machine_shape.specs.declared.Shape.{Shape}
 use Rattle.machine_meaning.specs.Faults.{Faults}
 use Rattle.diag_tests.specs.Routes.{Walk}
 use Rattle.diag_evidence.specs.Kept.{Kept, IsMore, keeps_cross}
 use Rattle.diag_evidence.proofs.Keeping.{holds_earlier}
-use Rattle.diag_known.specs.Known.{KnownWires, IsFoot, IsKnown, Stands, on_feet}
-use Rattle.diag_known.specs.Offers.{IsOffer, IsSecond, AreLost, HasNoSecond, HasNoneBeside}
-use Rattle.diag_known.specs.Reaches.{IsReached}
-use Rattle.diag_known.specs.Trials.{IsFit, IsLinkTo, IsLost}
-use Rattle.diag_known.specs.Ways.{AreWays, AreFeetOf}
+use Rattle.diag_known.specs.Vocabulary.{KnownWires, IsFoot, IsKnown, Stands, on_feet, IsOffer, IsSecond, AreLost, HasNoSecond, HasNoneBeside, IsReached, IsFit, IsLinkTo, IsLost, AreWays, AreFeetOf}
 use Rattle.diag_known.specs.declared.offers.Offer.{Offer}
 use Rattle.diag_known.specs.declared.verified_wire.Support.{Support}
 use Rattle.diag_known.specs.declared.verified_wire.SupportedBy.TheVariants as stand

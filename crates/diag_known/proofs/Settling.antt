@@ -1,6 +1,5 @@
 -- Marks stay right, while more is kept and known, and where one is set.
-use Rattle.std.proofs.Common.{◌≡◌, ◌≢◌, ◌⊎◌, ℕ, ◌+◌, ◌<◌, Bool, true, false, Some, Option, List, [], ◌++◌, refl, sym, ap, ◌∙◌, subst, inl, inr}
-use Rattle.std.specs.Prelude.{slice_get, slice_set, Result, Ok, Err, IfOk, OnOk, IsTrue}
+use Rattle.std.proofs.Common.{◌≡◌, ◌≢◌, ◌⊎◌, ℕ, ◌+◌, ◌<◌, Bool, true, false, Some, Option, List, [], ◌++◌, refl, sym, ap, ◌∙◌, subst, inl, inr, slice_get, slice_set, Result, Ok, Err, IfOk, OnOk, IsTrue}
 use Rattle.std.proofs.lemmas.Bool.{false≢true}
 use Rattle.std.proofs.lemmas.List.{length-set, append-nil}
 use native.Mathlib.Decide.{ℕ_discrete}
@@ -10,9 +9,7 @@ use Rattle.machine_shape.specs.Shape.{Ends, in_order, turned, ends_of, wires_of,
 use Rattle.machine_meaning.specs.Faults.{Faults, IsFaultless}
 use Rattle.diag_evidence.specs.Kept.{Kept, HoldsFor, IsMore, keeps_cross}
 use Rattle.diag_evidence.proofs.Keeping.{holds_earlier}
-use Rattle.diag_known.specs.Known.{HasWire}
-use Rattle.diag_known.specs.Marked.{is_spent, IsSecondMark, AreMarks}
-use Rattle.diag_known.specs.Trials.{IsLost, IsLinkTo, IsKeptUnlessStuck, IsFaulty}
+use Rattle.diag_known.specs.Vocabulary.{HasWire, is_spent, IsSecondMark, AreMarks, IsLost, IsLinkTo, IsKeptUnlessStuck, IsFaulty}
 use Rattle.diag_known.specs.declared.marks.Marks.{Marks}
 use Rattle.diag_known.specs.declared.verified_wire.Support.{Support}
 use Rattle.diag_known.specs.declared.verified_wire.VerifiedWire.{VerifiedWire}

@@ -1,16 +1,13 @@
 -- One more wire stands.
-use Rattle.std.proofs.Common.{◌≡◌, ◌≢◌, ◌⊎◌, ℕ, ◌+◌, ◌<◌, ◌≤◌, Bool, true, false, Option, Some, None, List, [], ◌∷◌, ◌++◌, length, get_or, sym, ap, ◌∙◌, subst, inl, inr, arith, set}
-use Rattle.std.specs.Prelude.{slice_get}
+use Rattle.std.proofs.Common.{◌≡◌, ◌≢◌, ◌⊎◌, ℕ, ◌+◌, ◌<◌, ◌≤◌, Bool, true, false, Option, Some, None, List, [], ◌∷◌, ◌++◌, length, get_or, sym, ap, ◌∙◌, subst, inl, inr, arith, set, slice_get}
 use Rattle.std.proofs.lemmas.Bool.{false≢true}
 use Rattle.std.proofs.lemmas.List.{get_or_past, get_or_read}
 use native.Mathlib.Decide.{dec_lt}
 use Rattle.base_bits.specs.Numbers.{has_number}
 use Rattle.machine_shape.specs.declared.Shape.{Shape}
-use Rattle.machine_shape.specs.Shape.{pin_wire, pins_of, wires_of}
-use Rattle.machine_shape.specs.Laws.{IsNumbered}
+use Rattle.machine_shape.specs.Vocabulary.{pin_wire, pins_of, wires_of, IsNumbered}
 use Rattle.diag_evidence.specs.Kept.{Kept}
-use Rattle.diag_known.specs.Known.{KnownWires, IsAt, HasWire, Stands, on_pin, on_feet, InSet}
-use Rattle.diag_known.specs.Grounds.{IsBetween, foot_at, IsFootTo, IsGround, IsSettled, Founds, AreSettled}
+use Rattle.diag_known.specs.Vocabulary.{KnownWires, IsAt, HasWire, Stands, on_pin, on_feet, InSet, IsBetween, foot_at, IsFootTo, IsGround, IsSettled, Founds, AreSettled}
 use Rattle.diag_known.specs.declared.links.Near.{Near}
 use Rattle.diag_known.specs.declared.verified_wire.Support.{Support}
 use Rattle.diag_known.specs.declared.verified_wire.SupportedBy.TheVariants as stand

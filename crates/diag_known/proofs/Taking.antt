@@ -1,6 +1,5 @@
 -- Loads for what isn't kept are loads for all.
-use Rattle.std.proofs.Common.{◌≡◌, ℕ, ◌+◌, ◌*◌, ◌≤◌, Bool, true, false, Some, Option, length, refl, subst, arith}
-use Rattle.std.specs.Prelude.{not, ◌&&◌}
+use Rattle.std.proofs.Common.{◌≡◌, ℕ, ◌+◌, ◌*◌, ◌≤◌, Bool, true, false, Some, Option, length, refl, subst, arith, not, ◌&&◌}
 use Rattle.base_bits.specs.Numbers.{has_number, size_of}
 use Rattle.machine_meaning.specs.Faults.{Faults, IsFaultless}
 use Rattle.diag_evidence.specs.Kept.{Kept, HoldsFor, keeps_cross}

@@ -1,6 +1,5 @@
 -- Walks over the trees that are reached beside a route.
-use Rattle.std.proofs.Common.{◌≡◌, ◌≢◌, ◌⊎◌, ℕ, zero, suc, ◌+◌, ◌<◌, Bool, true, false, Some, List, [], ◌∷◌, ◌++◌, length, refl, sym, ap, ◌∙◌, subst, inl, inr, arith, get_or, set}
-use Rattle.std.specs.Prelude.{slice_get}
+use Rattle.std.proofs.Common.{◌≡◌, ◌≢◌, ◌⊎◌, ℕ, zero, suc, ◌+◌, ◌<◌, Bool, true, false, Some, List, [], ◌∷◌, ◌++◌, length, refl, sym, ap, ◌∙◌, subst, inl, inr, arith, get_or, set, slice_get}
 use Rattle.std.proofs.lemmas.Bool.{false≢true}
 use Rattle.std.proofs.lemmas.Option.{slice_get-get_or}
 use native.Mathlib.Decide.{dec_lt}
@@ -11,10 +10,7 @@ use Rattle.machine_config.proofs.Grouped.{LeadsTo-end}
 use Rattle.diag_tests.specs.Routes.{Walk, IsRoute, other_end, Extends, at_pin}
 use Rattle.diag_tests.proofs.Longer.{among-push, among_both}
 use Rattle.diag_evidence.specs.Kept.{Kept, keeps_cross}
-use Rattle.diag_known.specs.Known.{KnownWires, IsAt, IsBefore, HasWire, IsFoot, IsKnown}
-use Rattle.diag_known.specs.Routes.{IsPin}
-use Rattle.diag_known.specs.Descents.{IsPinAt, IsPinHere, Stays}
-use Rattle.diag_known.specs.Reaches.{reach_at, IsFrom, HangsOn, own, by_first, by_second, AreTrees, IsTie, HangsAt, IsFromAt, HangsAlong, Hangs, IsTreeWalk, GoesOn, GoesBelow, GoesTo, AreBefore, Leads, HasTree, AreTreeWalks, IsOnWalk, StayOn, upper_of}
+use Rattle.diag_known.specs.Vocabulary.{KnownWires, IsAt, IsBefore, HasWire, IsFoot, IsKnown, IsPin, IsPinAt, IsPinHere, Stays, reach_at, IsFrom, HangsOn, own, by_first, by_second, AreTrees, IsTie, HangsAt, IsFromAt, HangsAlong, Hangs, IsTreeWalk, GoesOn, GoesBelow, GoesTo, AreBefore, Leads, HasTree, AreTreeWalks, IsOnWalk, StayOn, upper_of}
 use Rattle.diag_known.specs.declared.beside.Reach.{Reach}
 use Rattle.diag_known.specs.declared.beside.Reach.TheVariants as reach
 use Rattle.diag_known.specs.declared.descents.Down.{Down}

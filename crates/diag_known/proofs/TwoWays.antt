@@ -1,16 +1,13 @@
 -- Two ways to a wire, from two routes to its feet.
-use Rattle.std.proofs.Common.{◌≡◌, ◌≢◌, ◌⊎◌, ℕ, true, false, Some, List, [], ◌∷◌, ◌++◌, refl, sym, ap, ◌∙◌, subst, inl, inr}
+use Rattle.std.proofs.Common.{◌≡◌, ◌≢◌, ◌⊎◌, ℕ, true, false, Some, List, [], ◌∷◌, ◌++◌, refl, sym, ap, ◌∙◌, subst, inl, inr, slice_get}
 use Rattle.std.proofs.lemmas.Bool.{false≢true}
-use Rattle.std.specs.Prelude.{slice_get}
 use Rattle.machine_shape.specs.declared.Shape.{Shape}
 use Rattle.machine_shape.specs.Shape.{Ends, ends_of, pin_wire}
 use Rattle.machine_config.specs.Groups.{among}
 use Rattle.diag_tests.specs.Routes.{Walk, IsRoute, Extends, at_pin, other_end}
 use Rattle.diag_tests.proofs.Longer.{among_both, among-push}
 use Rattle.diag_evidence.specs.Kept.{Kept, keeps_cross}
-use Rattle.diag_known.specs.Known.{KnownWires, IsAt, IsFoot, HasWire, IsKnown}
-use Rattle.diag_known.specs.Routes.{IsPin, HasFootOn, first, second, RestsOn, IsEarly, AreRoutesTo}
-use Rattle.diag_known.specs.Ways.{IsWay, AreWays, AreFeetOf}
+use Rattle.diag_known.specs.Vocabulary.{KnownWires, IsAt, IsFoot, HasWire, IsKnown, IsPin, HasFootOn, first, second, RestsOn, IsEarly, AreRoutesTo, IsWay, AreWays, AreFeetOf}
 use Rattle.diag_known.specs.declared.verified_wire.Support.{Support}
 use Rattle.diag_known.specs.declared.verified_wire.SupportedBy.{SupportedBy}
 use Rattle.diag_known.specs.declared.verified_wire.SupportedBy.TheVariants as stand

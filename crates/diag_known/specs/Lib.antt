@@ -14,3 +14,4 @@ pub mod Reaches
 pub mod Trials
 pub mod Offers
 pub mod Marked
+pub mod Vocabulary

@@ -3,8 +3,7 @@ use Rattle.std.specs.Prelude.{◌≡◌, ◌≢◌, ◌⊎◌, ℕ, ◌<◌, tru
 use Rattle.machine_shape.specs.declared.Shape.{Shape}
 use Rattle.machine_shape.specs.declared.Wire.{Wire}
 use Rattle.machine_shape.specs.Shape.{wires_of}
-use Rattle.machine_meaning.specs.Circuit.{Pins}
-use Rattle.machine_meaning.specs.Faults.{Faults, stuck_cross}
+use Rattle.machine_meaning.specs.Vocabulary.{Pins, Faults, stuck_cross}
 use Rattle.machine_config.specs.Groups.{among}
 use Rattle.diag_tests.specs.Routes.{Walk}
 use Rattle.diag_evidence.specs.Kept.{Kept, HoldsFor, keeps_cross}

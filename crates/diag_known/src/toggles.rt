@@ -2,13 +2,10 @@
 ghost use Rattle.std.specs.Prelude.{All, ◌≡◌, ◌≢◌, ◌≤◌, ◌<◌, ◌+◌, true, false, Some, IfOk, OnOk, IsErrOf, IsTrue, length};
 ghost use Rattle.base_io.specs.Counts.{Rose};
 ghost use Rattle.machine_shape.specs.Shape.{Ends, ends_of, crosses_of, pins_of};
-ghost use Rattle.machine_config.specs.Groups.{among};
-ghost use Rattle.machine_config.specs.Tests.{IsDrivenAlone};
+ghost use Rattle.machine_config.specs.Vocabulary.{among, IsDrivenAlone};
 ghost use Rattle.rig.specs.Rig.{shape_of};
-ghost use Rattle.diag_tests.specs.Configs.{IsLoopConfig};
-ghost use Rattle.diag_tests.specs.Routes.{IsRoute, cross_numbers};
-ghost use Rattle.diag_evidence.specs.Kept.{Advances, keeps_cross};
-ghost use Rattle.diag_evidence.specs.Loops.{LoopPasses};
+ghost use Rattle.diag_tests.specs.Vocabulary.{IsLoopConfig, IsRoute, cross_numbers};
+ghost use Rattle.diag_evidence.specs.Vocabulary.{Advances, keeps_cross, LoopPasses};
 ghost use Rattle.diag_known.specs.Known.{IsKnown, HasWire};
 ghost use Rattle.diag_known.specs.Trials.{IsKeptRoute, IsKeptUnlessStuck, IsLinkTo, IsLost};
 

@@ -1,15 +1,10 @@
 -- A course in which a list is made and written: it ends there, or the rest follows.
-use Rattle.std.proofs.Common.{◌≡◌, ◌∙◌, ℕ, List, [], refl, inl, inr}
-use Rattle.std.specs.Prelude.{Result, Ok, Err}
-use Rattle.base_io.specs.Store.{StoreState}
-use Rattle.base_io.specs.Sink.{SinkState}
+use Rattle.std.proofs.Common.{◌≡◌, ◌∙◌, ℕ, List, [], refl, inl, inr, Result, Ok, Err}
+use Rattle.base_io.specs.Vocabulary.{StoreState, SinkState}
 use Rattle.machine_shape.specs.declared.Shape.{Shape}
-use Rattle.machine_defects.specs.Lists.{DefectList}
-use Rattle.machine_defects.specs.Text.{text_of}
+use Rattle.machine_defects.specs.Vocabulary.{DefectList, text_of}
 use Rattle.rig.specs.Rig.{RigState}
-use Rattle.cmd_steps.specs.Outside.{Outside, outside}
-use Rattle.cmd_steps.specs.Courses.{Course, after, write}
-use Rattle.cmd_steps.specs.Took.{Follows}
+use Rattle.cmd_steps.specs.Vocabulary.{Outside, outside, Course, after, write, Follows}
 use Rattle.cmd_steps.specs.declared.refusal.Stop.{Stop}
 use Rattle.cmd_steps.proofs.Taking.{step-stops, step-gives, line-stops, line-gives}
 use Rattle.diag_list.specs.Lists.{Listed, IsListed, lists, lists_now, Makes, WritesList}

@@ -1,18 +1,13 @@
 -- The list as a step.
-use Rattle.std.proofs.Common.{◌≡◌, ◌∙◌, ℕ, ◌≤◌, List, [], Some, option_map, refl, sym, ap, arith, append-nil}
-use Rattle.std.specs.Prelude.{Ok, Err}
-use Rattle.base_io.specs.Counts.{Rose}
-use Rattle.base_io.specs.Store.{StoreState}
-use Rattle.base_io.specs.Sink.{SinkState}
+use Rattle.std.proofs.Common.{◌≡◌, ◌∙◌, ℕ, ◌≤◌, List, [], Some, option_map, refl, sym, ap, arith, append-nil, Ok, Err}
+use Rattle.base_io.specs.Vocabulary.{Rose, StoreState, SinkState}
 use Rattle.machine_shape.specs.declared.Shape.{Shape}
 use Rattle.machine_defects.specs.Lists.{DefectList, IsDefectList}
 use Rattle.rig.specs.Rig.{RigState, Machine, Asked, shape_of}
 use Rattle.rig.specs.declared.rig.RigFail.{RigFail}
 use Rattle.rig.specs.declared.rig.RigFail.TheVariants.{Failed, Memory}
 use Rattle.diag_machine.specs.Diagnosis.{IsDiagnosis, TakesFewLoads}
-use Rattle.cmd_steps.specs.Outside.{outside, IsLater}
-use Rattle.cmd_steps.specs.Stops.{IsCounted, StepStops, stop_of_rig}
-use Rattle.cmd_steps.specs.Took.{Took}
+use Rattle.cmd_steps.specs.Vocabulary.{outside, IsLater, IsCounted, StepStops, stop_of_rig, Took}
 use Rattle.cmd_steps.specs.declared.refusal.Stop.{Stop}
 use Rattle.cmd_steps.specs.declared.refusal.Stop.TheVariants.{Refused, Sink}
 use Rattle.diag_list.specs.Lists.{IsListed, Listed, lists, lists_now}

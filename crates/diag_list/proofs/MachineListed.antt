@@ -1,17 +1,10 @@
 -- A machine that is read, attached and listed, as one step.
-use Rattle.std.proofs.Common.{◌≡◌, ◌∙◌, ℕ, List, [], ◌∷◌, Some, refl, sym, ap, subst}
-use Rattle.std.specs.Prelude.{Result, Ok, Err}
-use Rattle.base_io.specs.Store.{StoreState}
-use Rattle.base_io.specs.Sink.{SinkState}
-use Rattle.base_io.specs.Told.{Told, IfTold}
+use Rattle.std.proofs.Common.{◌≡◌, ◌∙◌, ℕ, List, [], ◌∷◌, Some, refl, sym, ap, subst, Result, Ok, Err}
+use Rattle.base_io.specs.Vocabulary.{StoreState, SinkState, Told, IfTold}
 use Rattle.machine_shape.specs.declared.Shape.{Shape}
 use Rattle.machine_defects.specs.Lists.{DefectList}
 use Rattle.rig.specs.Rig.{RigState, Machine, Asked}
-use Rattle.cmd_steps.specs.Courses.{Step}
-use Rattle.cmd_steps.specs.Outside.{Outside, outside}
-use Rattle.cmd_steps.specs.Stops.{StepStops}
-use Rattle.cmd_steps.specs.Texts.{AsksMachine, IsMachineText, attaches, reads_machine}
-use Rattle.cmd_steps.specs.Took.{Took}
+use Rattle.cmd_steps.specs.Vocabulary.{Step, Outside, outside, StepStops, AsksMachine, IsMachineText, attaches, reads_machine, Took}
 use Rattle.cmd_steps.specs.declared.refusal.Stop.{Stop}
 use Rattle.cmd_steps.specs.declared.refusal.Stop.TheVariants.{Refused, Sink}
 use Rattle.cmd_steps.proofs.Counting.{counted-after}

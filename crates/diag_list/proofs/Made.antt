@@ -1,13 +1,9 @@
 -- A course in which a list is made and not written: it ends there, or the rest follows.
-use Rattle.std.proofs.Common.{◌≡◌, ℕ, List, [], Some}
-use Rattle.std.specs.Prelude.{Result, Ok, Err}
+use Rattle.std.proofs.Common.{◌≡◌, ℕ, List, [], Some, Result, Ok, Err}
 use Rattle.machine_shape.specs.declared.Shape.{Shape}
 use Rattle.machine_defects.specs.Lists.{DefectList}
 use Rattle.rig.specs.Rig.{RigState, shape_of}
-use Rattle.cmd_steps.specs.Outside.{Outside}
-use Rattle.cmd_steps.specs.Courses.{Course, after}
-use Rattle.cmd_steps.specs.Texts.{attaches}
-use Rattle.cmd_steps.specs.Took.{Took, Follows}
+use Rattle.cmd_steps.specs.Vocabulary.{Outside, Course, after, attaches, Took, Follows}
 use Rattle.cmd_steps.specs.declared.refusal.Stop.{Stop}
 use Rattle.cmd_steps.proofs.Keeping.{kept-stops, kept-gives}
 use Rattle.diag_list.specs.Lists.{Listed, lists, lists_now}

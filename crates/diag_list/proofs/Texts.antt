@@ -5,9 +5,7 @@ use Rattle.machine_shape.specs.declared.Counts.{Counts}
 use Rattle.machine_shape.specs.Laws.{HasNames, HasCrosses, IsNumbered}
 use Rattle.machine_text.specs.Machine.{IsMachine}
 use Rattle.machine_text.specs.declared.head.Head.TheVariants as head
-use Rattle.machine_defects.specs.Lists.{DefectList, IsDefectList}
-use Rattle.machine_defects.specs.Text.{text_of, counts_of, rows_of}
-use Rattle.machine_defects.specs.Faults.{AreCounts, IsFaultBehind}
+use Rattle.machine_defects.specs.Vocabulary.{DefectList, IsDefectList, text_of, counts_of, rows_of, AreCounts, IsFaultBehind}
 use Rattle.machine_defects.specs.declared.kind.DefectsKind.TheVariants.{After}
 use Rattle.machine_defects.proofs.Only.{IsTold, no_fault}
 use Rattle.cmd_steps.specs.Lines.{outputs_line}

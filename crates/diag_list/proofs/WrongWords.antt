@@ -1,9 +1,7 @@
 -- Wrong words make no load.
 use Rattle.std.proofs.Common.{◌≡◌, ℕ, List, ap}
 use Rattle.rig.specs.Rig.{RigState}
-use Rattle.cmd_steps.specs.Outside.{Outside, around}
-use Rattle.cmd_steps.specs.Jobs.{wrong_words}
-use Rattle.cmd_steps.specs.Ends.{Ended}
+use Rattle.cmd_steps.specs.Vocabulary.{Outside, around, wrong_words, Ended}
 use Rattle.diag_list.specs.Lists.{MadeFewLoads, unloaded}
 
 pub wrong-loads : {status : ℕ} (machine name : List ℕ) (more : ℕ → ℕ → Type 0) (old new : Outside)

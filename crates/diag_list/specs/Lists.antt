@@ -2,14 +2,10 @@
 use Rattle.std.specs.Prelude.{◌≡◌, ◌⊎◌, ℕ, List, [], Some, Result, Ok, Err}
 use Rattle.base_io.specs.Told.{Told, IfTold}
 use Rattle.machine_shape.specs.declared.Shape.{Shape}
-use Rattle.machine_defects.specs.Lists.{DefectList, IsDefectList}
-use Rattle.machine_defects.specs.Text.{text_of}
+use Rattle.machine_defects.specs.Vocabulary.{DefectList, IsDefectList, text_of}
 use Rattle.rig.specs.Rig.{RigState}
 use Rattle.diag_machine.specs.Diagnosis.{IsDiagnosis, TakesFewLoads}
-use Rattle.cmd_steps.specs.Courses.{Step}
-use Rattle.cmd_steps.specs.Outside.{Around, Outside, outside}
-use Rattle.cmd_steps.specs.Texts.{FailsOnRig, IsMachineText, NoMachine, NotAttached}
-use Rattle.cmd_steps.specs.Took.{Took, Puts}
+use Rattle.cmd_steps.specs.Vocabulary.{Step, Around, Outside, outside, FailsOnRig, IsMachineText, NoMachine, NotAttached, Took, Puts}
 use Rattle.cmd_steps.specs.declared.refusal.Refusal.{Refusal}
 use Rattle.cmd_steps.specs.declared.refusal.Stop.{Stop}
 

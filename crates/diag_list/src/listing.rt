@@ -1,8 +1,7 @@
 //! Lists of defects that are made and written.
 ghost use Rattle.std.specs.Prelude.{◌≡◌, [], ◌∷◌, Some};
 ghost use Rattle.diag_machine.specs.Diagnosis.{TakesFewLoads};
-ghost use Rattle.cmd_steps.specs.Vocabulary.{StoreState, SinkState, shape_of, outside, Took};
-ghost use Rattle.cmd_steps.specs.Texts.{AsksMachine, reads_machine};
+ghost use Rattle.cmd_steps.specs.Vocabulary.{StoreState, SinkState, shape_of, outside, Took, AsksMachine, reads_machine};
 ghost use Rattle.diag_list.specs.Lists.{lists_machine, lists_now, WritesList};
 
 use base_io::{Sink, Store};

@@ -3,13 +3,8 @@ use Rattle.std.proofs.Common.{◌≡◌, ◌≢◌, ◌⊎◌, ◌<◌, ℕ, Boo
 use Rattle.std.specs.FinSet as set
 use Rattle.std.proofs.lemmas.Bool.{false≢true}
 use Rattle.std.proofs.lemmas.Bool.Decides.{nat_tests}
-use Rattle.machine_shape.specs.Shape.{in_order, turned, ends_of, pin_wire, crosses_of, tables_of}
-use Rattle.machine_shape.specs.Laws.{IsNumbered}
-use Rattle.machine_meaning.specs.Faults.{Faults, stuck_cross}
-use Rattle.machine_meaning.specs.Joined.{Shorted}
-use Rattle.machine_meaning.specs.Defects.{Defects, Covers}
-use Rattle.machine_meaning.specs.Standing.{IsSeated}
-use Rattle.machine_meaning.specs.Tight.{IsFreeWireOf, IsFreeCrossOf, IsAlone, HasFeet, two, HasFreeFeet, IsRightTable, IsTight}
+use Rattle.machine_shape.specs.Vocabulary.{in_order, turned, ends_of, pin_wire, crosses_of, tables_of, IsNumbered}
+use Rattle.machine_meaning.specs.Vocabulary.{Faults, stuck_cross, Shorted, Defects, Covers, IsSeated, IsFreeWireOf, IsFreeCrossOf, IsAlone, HasFeet, two, HasFreeFeet, IsRightTable, IsTight}
 use Rattle.machine_meaning.proofs.Seats.{seated_also}
 use Rattle.diag_evidence.specs.Kept.{Kept, HoldsFor, IsMore}
 use Rattle.diag_known.specs.Known.{KnownWires, HasWire, IsKnown, IsKeptCrossOf}

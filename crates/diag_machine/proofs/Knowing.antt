@@ -1,9 +1,7 @@
 -- What is known of known wires.
-use Rattle.std.proofs.Common.{◌≡◌, ◌≢◌, ℕ, ◌<◌, Some, true, sym, ap, ◌∙◌, subst, arith}
-use Rattle.std.specs.Prelude.{slice_get}
+use Rattle.std.proofs.Common.{◌≡◌, ◌≢◌, ℕ, ◌<◌, Some, true, sym, ap, ◌∙◌, subst, arith, slice_get}
 use native.Mathlib.Decide.{dec_lt}
-use Rattle.machine_shape.specs.Laws.{IsNumbered}
-use Rattle.machine_shape.specs.Shape.{wires_of}
+use Rattle.machine_shape.specs.Vocabulary.{IsNumbered, wires_of}
 use Rattle.machine_meaning.proofs.JoinedLemmas.{Ends-swap}
 use Rattle.diag_evidence.specs.Kept.{Kept, keeps_wire, keeps_pair}
 use Rattle.diag_evidence.proofs.Keeping.{pair_turned}

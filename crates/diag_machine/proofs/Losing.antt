@@ -1,8 +1,7 @@
 -- Wires that are left out.
 use Rattle.std.proofs.Common.{◌<◌, ℕ, Option, List, ap, subst}
 use Rattle.machine_shape.specs.Shape.{turned, wires_of}
-use Rattle.machine_meaning.specs.Faults.{Faults, IsFaultless}
-use Rattle.machine_meaning.specs.Tight.{two}
+use Rattle.machine_meaning.specs.Vocabulary.{Faults, IsFaultless, two}
 use Rattle.machine_meaning.proofs.Faultless.{all_sound}
 use Rattle.diag_evidence.specs.Kept.{Kept, IsMore}
 use Rattle.diag_known.specs.Known.{HasWire}

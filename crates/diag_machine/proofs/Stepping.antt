@@ -1,20 +1,15 @@
 -- The steps of a diagnosis, together.
-use Rattle.std.proofs.Common.{◌≡◌, ◌<◌, ◌+◌, ℕ, zero, suc, true, Some, Option, List, [], ◌∷◌, ◌++◌, length, refl, sym, ap, ◌∙◌, subst}
-use Rattle.std.specs.Prelude.{All, slice_get}
+use Rattle.std.proofs.Common.{◌≡◌, ◌<◌, ◌+◌, ℕ, zero, suc, true, Some, Option, List, [], ◌∷◌, ◌++◌, length, refl, sym, ap, ◌∙◌, subst, All, slice_get}
 use Rattle.std.proofs.lemmas.List.Elements.{All-push}
 use Rattle.base_bits.specs.Numbers.{has_number}
 use Rattle.machine_shape.specs.declared.Shape.{Shape}
 use Rattle.machine_shape.specs.declared.Table.{Table}
-use Rattle.machine_shape.specs.Laws.{IsNumbered}
-use Rattle.machine_shape.specs.Shape.{pin_wire, wires_of, crosses_of, tables_of}
-use Rattle.machine_meaning.specs.Faults.{Faults}
-use Rattle.machine_meaning.specs.Defects.{Defects, Covers, IsFair}
-use Rattle.machine_meaning.specs.Tight.{HasFeet, two, IsTight}
+use Rattle.machine_shape.specs.Vocabulary.{IsNumbered, pin_wire, wires_of, crosses_of, tables_of}
+use Rattle.machine_meaning.specs.Vocabulary.{Faults, Defects, Covers, IsFair, HasFeet, two, IsTight}
 use Rattle.rig.specs.Rig.{RigState}
 use Rattle.diag_evidence.specs.Kept.{Kept, HoldsFor, IsMore, Advances}
 use Rattle.diag_evidence.proofs.Keeping.{holds_earlier}
-use Rattle.diag_known.specs.Field.{ClosedIf}
-use Rattle.diag_known.specs.Known.{KnownWires, HasWire, IsKnown}
+use Rattle.diag_known.specs.Vocabulary.{ClosedIf, KnownWires, HasWire, IsKnown}
 use Rattle.diag_known.specs.declared.field.Field.{Field}
 use Rattle.diag_known.specs.declared.verified_wire.VerifiedWire.{VerifiedWire}
 use Rattle.diag_growth.specs.Seats.{AddsOnlyTableFacts}

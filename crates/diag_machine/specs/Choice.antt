@@ -1,8 +1,7 @@
 -- Pins that are left out, though they stand on known lines.
 use Rattle.std.specs.Prelude.{◌≡◌, ℕ, ◌<◌, true, List}
 use Rattle.machine_shape.specs.Shape.{wires_of}
-use Rattle.machine_meaning.specs.Sound.{HasTwo}
-use Rattle.machine_meaning.specs.Standing.{Meets}
+use Rattle.machine_meaning.specs.Vocabulary.{HasTwo, Meets}
 use Rattle.diag_evidence.specs.Kept.{Kept, keeps_wire}
 use Rattle.diag_known.specs.Known.{HasWire, IsKeptCrossOf}
 use Rattle.diag_known.specs.declared.verified_wire.VerifiedWire.{VerifiedWire}

@@ -2,9 +2,7 @@
 use Rattle.std.specs.Prelude.{◌≡◌, ℕ, ◌+◌, ◌*◌, ◌≤◌, Option, Some}
 use Rattle.machine_shape.specs.declared.Shape.{Shape}
 use Rattle.machine_shape.specs.Shape.{wires_of, crosses_of, tables_of}
-use Rattle.machine_meaning.specs.Faults.{Faults, IsFaultless}
-use Rattle.machine_meaning.specs.Defects.{Defects, Covers, IsFair}
-use Rattle.machine_meaning.specs.Tight.{IsTight}
+use Rattle.machine_meaning.specs.Vocabulary.{Faults, IsFaultless, Defects, Covers, IsFair, IsTight}
 
 -- where the faults are told, the list covers them, is fair to them, and is tight to them: nothing on it both works and
 -- can be reached over what is free

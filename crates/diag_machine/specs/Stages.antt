@@ -3,9 +3,7 @@ use Rattle.std.specs.Prelude.{◌≡◌, ℕ, ◌+◌, ◌*◌, ◌<◌, true, O
 use Rattle.base_bits.specs.Numbers.{has_number}
 use Rattle.machine_shape.specs.declared.Shape.{Shape}
 use Rattle.machine_shape.specs.Shape.{pins_of, pin_wire, wires_of, crosses_of, tables_of, ends_of}
-use Rattle.machine_meaning.specs.Faults.{Faults, IsFaultless, stuck_cross}
-use Rattle.machine_meaning.specs.Defects.{IsClear}
-use Rattle.machine_meaning.specs.Tight.{IsAlone, HasFeet}
+use Rattle.machine_meaning.specs.Vocabulary.{Faults, IsFaultless, stuck_cross, IsClear, IsAlone, HasFeet}
 use Rattle.diag_evidence.specs.Kept.{Kept, HoldsFor, keeps_cross}
 use Rattle.diag_known.specs.Known.{HasWire}
 use Rattle.diag_growth.specs.Tables.{SeatedIsKept}

@@ -1,6 +1,5 @@
 -- The field that is a crossbar, as it is marked.
-use Rattle.std.proofs.Common.{◌≡◌, ◌≢◌, ◌⊎◌, ℕ, zero, suc, ◌+◌, ◌*◌, ◌-◌, ◌<◌, ◌≤◌, Bool, true, false, List, [], ◌∷◌, All, length, refl, sym, ap, ◌∙◌, subst, inl, inr, arith}
-use Rattle.std.specs.Prelude.{◌==◌, slice_get}
+use Rattle.std.proofs.Common.{◌≡◌, ◌≢◌, ◌⊎◌, ℕ, zero, suc, ◌+◌, ◌*◌, ◌-◌, ◌<◌, ◌≤◌, Bool, true, false, List, [], ◌∷◌, All, length, refl, sym, ap, ◌∙◌, subst, inl, inr, arith, ◌==◌, slice_get}
 use Rattle.std.proofs.Math.ListN.{set}
 use Rattle.std.proofs.Math.Nat.{mul_comm, suc-mul}
 use Rattle.std.proofs.lemmas.Bool.{false≢true, or_cases}
@@ -9,8 +8,7 @@ use Rattle.std.proofs.lemmas.Nat.{mul-add-lt}
 use Rattle.base_bits.specs.Numbers.{has_number, size_of}
 use Rattle.machine_shape.specs.declared.Shape.{Shape}
 use Rattle.machine_shape.specs.declared.Wire.{Wire}
-use Rattle.machine_shape.specs.Rows.{HasRows, first_cross_of}
-use Rattle.machine_shape.specs.Shape.{crosses_of, wires_of, nodes_of, taps_of, lines_of, own_ports_of, tap_at, line_at, port_at, cross_at, tap_position, line_position, IsTap, IsLine, IsPort}
+use Rattle.machine_shape.specs.Vocabulary.{HasRows, first_cross_of, crosses_of, wires_of, nodes_of, taps_of, lines_of, own_ports_of, tap_at, line_at, port_at, cross_at, tap_position, line_position, IsTap, IsLine, IsPort}
 use Rattle.machine_config.specs.Groups.{among}
 use Rattle.diag_known.specs.Gains.{Gets, IsWireBefore}
 use Rattle.diag_known.specs.declared.field.Field.{Field}

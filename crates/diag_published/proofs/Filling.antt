@@ -1,21 +1,16 @@
 -- Where all that can be known of a crossbar is known, what is known of it is full.
-use Rattle.std.proofs.Common.{◌≡◌, ◌≢◌, ◌⊎◌, ℕ, ◌+◌, ◌*◌, ◌<◌, ◌≤◌, true, None, Option, refl, sym, ap, ◌∙◌, subst, inl, inr, arith}
-use Rattle.std.specs.Prelude.{IsSome}
+use Rattle.std.proofs.Common.{◌≡◌, ◌≢◌, ◌⊎◌, ℕ, ◌+◌, ◌*◌, ◌<◌, ◌≤◌, true, None, Option, refl, sym, ap, ◌∙◌, subst, inl, inr, arith, IsSome}
 use Rattle.base_bits.specs.Numbers.{has_number, size_of}
 use Rattle.machine_shape.specs.declared.Shape.{Shape}
 use Rattle.machine_shape.specs.Shape.{in_order, turned, ends_of, crosses_of, nodes_of, node_of_cross, taps_of, IsLine, IsTap, itself}
-use Rattle.machine_meaning.specs.Faults.{Faults, stuck_cross}
-use Rattle.machine_meaning.specs.Sound.{IsSoundWire, IsSoundCross, IsWholeLine, HasTwo, IsServed}
-use Rattle.machine_meaning.specs.Defects.{IsOfUse}
-use Rattle.machine_meaning.specs.Tight.{HasFeet, two}
+use Rattle.machine_meaning.specs.Vocabulary.{Faults, stuck_cross, IsSoundWire, IsSoundCross, IsWholeLine, HasTwo, IsServed, IsOfUse, HasFeet, two}
 use Rattle.machine_meaning.proofs.Clear.{clear_of_sound}
 use Rattle.machine_config.specs.Groups.{among}
 use Rattle.machine_config.proofs.Grouped.{LeadsTo-end}
 use Rattle.rig.specs.Rig.{RigState}
 use Rattle.diag_evidence.specs.Kept.{Kept, Advances, keeps_cross}
-use Rattle.diag_known.specs.Field.{IsClosed, ClosedIf, TakesFew, fresh, pins_in}
+use Rattle.diag_known.specs.Vocabulary.{IsClosed, ClosedIf, TakesFew, fresh, pins_in, KnownWires, HasWire}
 use Rattle.diag_known.proofs.Taking.{few_wide, takes_wide}
-use Rattle.diag_known.specs.Known.{KnownWires, HasWire}
 use Rattle.diag_known.specs.declared.field.Field.{Field}
 use Rattle.diag_published.specs.Bars.{IsOpenOf, IsBarField, HasKnown}
 use Rattle.diag_published.specs.Held.{Findings, IsTrunkEnd, IsHeld, HasAll, FullIf, LoadsForBar, FewLoadsForBar}

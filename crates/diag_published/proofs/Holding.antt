@@ -1,6 +1,5 @@
 -- What is known of a crossbar is held.
-use Rattle.std.proofs.Common.{◌≡◌, ◌≢◌, ◌⊎◌, ℕ, ◌<◌, true, Some, None, Option, List, refl, sym, ap, ◌∙◌, subst, inl, inr, arith}
-use Rattle.std.specs.Prelude.{IfSome, IfNone, IsSome, slice_get}
+use Rattle.std.proofs.Common.{◌≡◌, ◌≢◌, ◌⊎◌, ℕ, ◌<◌, true, Some, None, Option, List, refl, sym, ap, ◌∙◌, subst, inl, inr, arith, IfSome, IfNone, IsSome, slice_get}
 use Rattle.machine_shape.specs.declared.Shape.{Shape}
 use Rattle.machine_shape.specs.declared.Wire.{Wire}
 use Rattle.machine_shape.specs.Shape.{Ends, in_order, turned, ends_of, crosses_of, nodes_of, node_of_cross, IsLine, IsTap, tap_pin, tap_port}

@@ -1,10 +1,7 @@
 -- What is held stays so as more is kept and known.
-use Rattle.std.proofs.Common.{◌≡◌, ◌⊎◌, ◌<◌, ℕ, true, Some, None, Option, sym, subst}
-use Rattle.std.specs.Prelude.{IfSome}
+use Rattle.std.proofs.Common.{◌≡◌, ◌⊎◌, ◌<◌, ℕ, true, Some, None, Option, sym, subst, IfSome}
 use Rattle.machine_shape.specs.Shape.{ends_of, crosses_of, node_of_cross, IsTap, IsLine}
-use Rattle.machine_meaning.specs.Defects.{IsOfUse}
-use Rattle.machine_meaning.specs.Sound.{HasTwo, IsServed, IsSoundWire, IsSoundCross}
-use Rattle.machine_meaning.specs.Faults.{Faults}
+use Rattle.machine_meaning.specs.Vocabulary.{IsOfUse, HasTwo, IsServed, IsSoundWire, IsSoundCross, Faults}
 use Rattle.machine_config.specs.Groups.{among}
 use Rattle.diag_tests.specs.Routes.{Walk}
 use Rattle.diag_evidence.specs.Kept.{Kept, keeps_cross, IsMore}

@@ -1,15 +1,11 @@
 -- Trunks over known wires, and when there is none.
-use Rattle.std.proofs.Common.{◌≡◌, ◌≢◌, ◌⊎◌, ℕ, ◌+◌, ◌*◌, ◌<◌, ◌≤◌, Bool, true, false, Some, None, Option, Result, Ok, Err, IfOk, List, length, refl, sym, ap, ◌∙◌, subst, inl, inr, arith}
-use Rattle.std.specs.Prelude.{AllPairs, IfSome, IfNone}
+use Rattle.std.proofs.Common.{◌≡◌, ◌≢◌, ◌⊎◌, ℕ, ◌+◌, ◌*◌, ◌<◌, ◌≤◌, Bool, true, false, Some, None, Option, Result, Ok, Err, IfOk, List, length, refl, sym, ap, ◌∙◌, subst, inl, inr, arith, AllPairs, IfSome, IfNone}
 use Rattle.std.proofs.lemmas.Bool.{cases_eq, false≢true}
 use Rattle.base_bits.specs.Numbers.{has_number, size_of}
 use Rattle.machine_shape.specs.declared.Shape.{Shape}
 use Rattle.machine_shape.specs.declared.Wire.{Wire}
 use Rattle.machine_shape.specs.Shape.{pin_wire, pins_of, parent_of, node_of, port_at, own_ports_of, IsPort, tap_child, itself}
-use Rattle.machine_meaning.specs.Faults.{Faults, IsFaultless}
-use Rattle.machine_meaning.specs.Sound.{IsSoundWire, HasTwo}
-use Rattle.machine_meaning.specs.Defects.{IsClear}
-use Rattle.machine_meaning.specs.Tight.{IsAlone}
+use Rattle.machine_meaning.specs.Vocabulary.{Faults, IsFaultless, IsSoundWire, HasTwo, IsClear, IsAlone}
 use Rattle.machine_meaning.proofs.Clear.{clear_of_sound}
 use Rattle.machine_config.specs.Groups.{among}
 use Rattle.machine_config.proofs.Grouped.{LeadsTo-start}
@@ -17,11 +13,8 @@ use Rattle.diag_tests.specs.Routes.{Walk}
 use Rattle.diag_tests.specs.declared.trunk.Trunk.{Trunk}
 use Rattle.rig.specs.Rig.{RigState, Machine}
 use Rattle.diag_evidence.specs.Kept.{Kept, HoldsFor, Advances}
-use Rattle.diag_known.specs.Field.{IsClosed, ClosedIf, TakesFew}
+use Rattle.diag_known.specs.Vocabulary.{IsClosed, ClosedIf, TakesFew, Gets, IsWireBefore, KnownWires, HasWire, IsKnownRoute, AreRoutesTo}
 use Rattle.diag_known.proofs.Taking.{few_wide}
-use Rattle.diag_known.specs.Gains.{Gets, IsWireBefore}
-use Rattle.diag_known.specs.Known.{KnownWires, HasWire}
-use Rattle.diag_known.specs.Routes.{IsKnownRoute, AreRoutesTo}
 use Rattle.diag_known.specs.declared.field.Field.{Field}
 use Rattle.diag_known.specs.declared.verified_wire.VerifiedWire.{VerifiedWire}
 use Rattle.diag_growth.proofs.Decided.{known_or}

@@ -3,13 +3,11 @@ use Rattle.std.specs.Prelude.{◌≡◌, ◌≢◌, ◌⊎◌, ℕ, ◌+◌, ◌
 use Rattle.base_bits.specs.Numbers.{has_number, size_of}
 use Rattle.machine_shape.specs.declared.Shape.{Shape}
 use Rattle.machine_shape.specs.Shape.{ends_of, pin_wire, crosses_of, node_of_cross, taps_of, lines_of, IsTap, IsLine}
-use Rattle.machine_meaning.specs.Faults.{Faults}
-use Rattle.machine_meaning.specs.Sound.{IsSoundWire, HasTwo}
+use Rattle.machine_meaning.specs.Vocabulary.{Faults, IsSoundWire, HasTwo}
 use Rattle.machine_config.specs.Groups.{among}
 use Rattle.diag_tests.specs.Routes.{Walk}
 use Rattle.diag_evidence.specs.Kept.{Kept, HoldsFor, keeps_cross}
-use Rattle.diag_known.specs.Field.{IsFieldOf}
-use Rattle.diag_known.specs.Known.{KnownWires, HasWire}
+use Rattle.diag_known.specs.Vocabulary.{IsFieldOf, KnownWires, HasWire}
 use Rattle.diag_known.specs.declared.field.Field.{Field}
 use Rattle.diag_published.specs.Held.{Findings, IsTrunkEnd, IsHeldTrunk}
 

@@ -4,10 +4,9 @@ use Rattle.std.specs.Prelude.{map, option_map, refl}
 use Rattle.std.specs.Coded.{Coded, code_by, coded×, coded_ℕ, coded_list, coded_option}
 use Rattle.machine_shape.specs.declared.Shape.{Shape}
 use Rattle.machine_shape.specs.declared.Wire.{Wire}
-use Rattle.machine_shape.specs.Shape.{ends_of, pin_wire, pins_of, crosses_of, nodes_of, node_of_cross, taps_of, lines_of, IsTap, IsLine, IsPort}
-use Rattle.machine_meaning.specs.Faults.{Faults, IsFaultless}
-use Rattle.machine_meaning.specs.Sound.{IsSoundWire, IsSoundCross, HasTwo, IsServed}
-use Rattle.machine_meaning.specs.Defects.{IsOfUse}
+use Rattle.machine_shape.specs.Shape.{ends_of, pin_wire, pins_of, crosses_of, nodes_of, node_of_cross, taps_of, lines_of, IsTap, IsLine}
+use Rattle.machine_shape.specs.Shape.{IsPort}
+use Rattle.machine_meaning.specs.Vocabulary.{Faults, IsFaultless, IsSoundWire, IsSoundCross, HasTwo, IsServed, IsOfUse}
 use Rattle.machine_config.specs.Groups.{among}
 use Rattle.diag_tests.specs.Routes.{Walk, IsRoute, coded_walk}
 use Rattle.diag_evidence.specs.Kept.{Kept, HoldsFor, IsMore, keeps_cross}

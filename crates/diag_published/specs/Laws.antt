@@ -1,10 +1,7 @@
 -- The laws of the numbering, and of sound wires, that this crate rests on.
 use Rattle.machine_shape.specs.declared.Shape.{Shape}
-use Rattle.machine_shape.specs.Laws.{IsNumbered, IsTree, HasParents, HasTaps, HasCrosses, HasMeetings}
-use Rattle.machine_shape.specs.Rows.{HasRows}
-use Rattle.machine_shape.specs.Laws.{HasHomes}
+use Rattle.machine_shape.specs.Vocabulary.{IsNumbered, IsTree, HasParents, HasTaps, HasCrosses, HasMeetings, HasRows, HasHomes, HasSites}
 use Rattle.machine_meaning.specs.Served.{HasServed}
-use Rattle.machine_shape.specs.Sites.{HasSites}
 
 pub record AreLaws (m : Shape) : Type 0 where
   pub numbered : IsNumbered m

@@ -1,9 +1,7 @@
 //! The crossbar of a node, and its field.
 ghost use Rattle.std.specs.Prelude.{◌≡◌, ◌<◌, ◌≤◌, ◌+◌, ◌-◌, ◌*◌, All, IfOk, length};
-ghost use Rattle.machine_shape.specs.Rows.{first_cross_of};
-ghost use Rattle.machine_shape.specs.Shape.{wires_of, crosses_of, nodes_of, taps_of, lines_of};
-ghost use Rattle.diag_known.specs.Field.{IsFieldOf};
-ghost use Rattle.diag_known.specs.Gains.{Gets};
+ghost use Rattle.machine_shape.specs.Vocabulary.{first_cross_of, wires_of, crosses_of, nodes_of, taps_of, lines_of};
+ghost use Rattle.diag_known.specs.Vocabulary.{IsFieldOf, Gets};
 ghost use Rattle.base_bits.specs.Numbers.{size_of};
 ghost use Rattle.diag_published.specs.Bars.{AreBarOf, IsBarField, IsCrossOfNode, IsFrom};
 ghost use Rattle.diag_published.specs.Held.{wire_numbers};

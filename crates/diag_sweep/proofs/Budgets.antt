@@ -1,6 +1,5 @@
 -- What a purse holds at first, and as it is settled.
-use Rattle.std.proofs.Common.{◌≡◌, ◌≢◌, ℕ, ◌+◌, ◌*◌, ◌<◌, ◌≤◌, Bool, true, false, not, ◌&&◌, List, length, refl, sym, ap, ◌∙◌, subst, arith}
-use Rattle.std.specs.Prelude.{slice_set}
+use Rattle.std.proofs.Common.{◌≡◌, ◌≢◌, ℕ, ◌+◌, ◌*◌, ◌<◌, ◌≤◌, Bool, true, false, not, ◌&&◌, List, length, refl, sym, ap, ◌∙◌, subst, arith, slice_set}
 use Rattle.std.proofs.lemmas.Bool.{false≢true, and_parts}
 use Rattle.std.proofs.lemmas.List.{get_or-set_other, get_or_past, length-set}
 use native.Mathlib.Decide.{ℕ_discrete, dec_lt}
@@ -8,8 +7,7 @@ use Rattle.base_bits.specs.Numbers.{has_number, size_of}
 use Rattle.base_bits.proofs.NumbersLemmas.{size_of-taken}
 use Rattle.machine_shape.specs.Shape.{crosses_of}
 use Rattle.diag_evidence.specs.Kept.{Kept, keeps_cross}
-use Rattle.diag_known.specs.Field.{how_many, pins_in}
-use Rattle.diag_known.specs.Known.{KnownWires}
+use Rattle.diag_known.specs.Vocabulary.{how_many, pins_in, KnownWires}
 use Rattle.diag_known.specs.declared.field.Field.{Field}
 use Rattle.diag_known.proofs.Counting.{many_more, many_size}
 use Rattle.diag_sweep.specs.Marks.{Pays, is_undecided, undecided}

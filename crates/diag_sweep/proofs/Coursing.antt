@@ -1,6 +1,5 @@
 -- Walks that are laid one after the other.
-use Rattle.std.proofs.Common.{◌≡◌, ◌≢◌, ◌⊎◌, inl, inr, ℕ, zero, suc, ◌+◌, ◌<◌, ◌≤◌, Bool, true, false, ◌||◌, None, List, [], ◌∷◌, ◌++◌, length, refl, sym, ap, ◌∙◌, subst, arith}
-use Rattle.std.specs.Prelude.{◌==◌, All, flat_map, map, replicate, slice_index_or, slice_set}
+use Rattle.std.proofs.Common.{◌≡◌, ◌≢◌, ◌⊎◌, inl, inr, ℕ, zero, suc, ◌+◌, ◌<◌, ◌≤◌, Bool, true, false, ◌||◌, None, List, [], ◌∷◌, ◌++◌, length, refl, sym, ap, ◌∙◌, subst, arith, ◌==◌, All, flat_map, map, replicate, slice_index_or, slice_set}
 use Rattle.std.proofs.lemmas.Bool.{false≢true, or_cases, or_left, or_right}
 use Rattle.std.proofs.lemmas.Bool.Decides.{nat_tests}
 use Rattle.std.proofs.lemmas.List.{flat_map_more, get_or-replicate, get_or_past, length-replicate, map-append, length-set, get_or-set_same, get_or-set_other}
@@ -11,13 +10,10 @@ use Rattle.std.specs.FinSet.{contains-empty}
 use Rattle.std.specs.Ordering.{nat_cmp}
 use Rattle.machine_shape.specs.declared.Shape.{Shape}
 use Rattle.machine_shape.specs.Shape.{Ends, ends_of, pin_wire, pins_of, tables_of, wires_of}
-use Rattle.machine_config.specs.Configuration.{Configuration, cleared, is_closed}
-use Rattle.machine_config.specs.Groups.{among}
-use Rattle.diag_tests.specs.Routes.{Walk, IsRoute, Extends, at_pin}
-use Rattle.diag_tests.specs.Configs.{Closes}
+use Rattle.machine_config.specs.Vocabulary.{Configuration, cleared, is_closed, among}
+use Rattle.diag_tests.specs.Vocabulary.{Walk, IsRoute, Extends, at_pin, Closes}
 use Rattle.diag_tests.proofs.Longer.{among-push, among_both, end_is_other}
-use Rattle.diag_evidence.specs.Kept.{Kept, keeps_wire}
-use Rattle.diag_evidence.specs.Leads.{IsLead, IsPathTest, crosses_of_leads, wires_of_leads}
+use Rattle.diag_evidence.specs.Vocabulary.{Kept, keeps_wire, IsLead, IsPathTest, crosses_of_leads, wires_of_leads}
 use Rattle.diag_evidence.specs.declared.leads.Lead.{Lead}
 use Rattle.diag_known.specs.Known.{KnownWires, IsKnown, HasWire}
 use Rattle.diag_known.specs.declared.field.Field.{Field}

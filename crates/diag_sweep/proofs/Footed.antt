@@ -1,6 +1,5 @@
 -- Wires that may be hung on a forest.
-use Rattle.std.proofs.Common.{◌≡◌, ℕ, zero, suc, ◌+◌, ◌<◌, Bool, true, false, Option, Some, None, List, [], ◌∷◌, ◌++◌, length, take, get_or, refl, sym, ap, ◌∙◌, subst, append_assoc, arith}
-use Rattle.std.specs.Prelude.{All, IfSome, ◌==◌, is_some, map, slice_get, unwrap_or}
+use Rattle.std.proofs.Common.{◌≡◌, ℕ, zero, suc, ◌+◌, ◌<◌, Bool, true, false, Option, Some, None, List, [], ◌∷◌, ◌++◌, length, take, get_or, refl, sym, ap, ◌∙◌, subst, append_assoc, arith, All, IfSome, ◌==◌, is_some, map, slice_get, unwrap_or}
 use Rattle.std.specs.List.{IsDistinct}
 use Rattle.std.proofs.lemmas.Bool.{false≢true}
 use Rattle.std.proofs.lemmas.List.{take_more, map-append}
@@ -10,8 +9,7 @@ use Rattle.machine_shape.specs.declared.Cross.{Cross}
 use Rattle.machine_shape.specs.declared.Wire.{Wire}
 use Rattle.machine_shape.specs.Shape.{Ends, ends_of, wires_of, crosses_of}
 use Rattle.diag_tests.specs.Routes.{other_end}
-use Rattle.diag_evidence.specs.Forests.{Trees, pin_of}
-use Rattle.diag_evidence.specs.Hangs.{AreHangs, Foot, IsFoot, all_feet, others, over_of, overs, pin_at, turned}
+use Rattle.diag_evidence.specs.Vocabulary.{Trees, pin_of, AreHangs, Foot, IsFoot, all_feet, others, over_of, overs, pin_at, turned}
 use Rattle.diag_evidence.specs.declared.hangs.WireTest.{WireTest}
 
 -- the pin was found over the other end

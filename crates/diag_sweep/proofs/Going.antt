@@ -8,8 +8,7 @@ use Rattle.diag_evidence.specs.Kept.{Kept, IsMore, Advances}
 use Rattle.diag_evidence.proofs.Keeping.{advances_itself, advances_then}
 use Rattle.diag_evidence.proofs.KeptLemmas.{more_itself}
 use Rattle.rig.specs.Rig.{RigState}
-use Rattle.diag_known.specs.Known.{KnownWires, HasWire, IsKnown}
-use Rattle.diag_known.specs.Field.{IsFieldOf, GrowsIn}
+use Rattle.diag_known.specs.Vocabulary.{KnownWires, HasWire, IsKnown, IsFieldOf, GrowsIn}
 use Rattle.diag_known.specs.declared.field.Field.{Field}
 use Rattle.diag_known.specs.declared.verified_wire.VerifiedWire.{VerifiedWire}
 use Rattle.diag_known.proofs.Later.{known_later}

@@ -1,6 +1,5 @@
 -- What a load of hangs leaves.
-use Rattle.std.proofs.Common.{◌≡◌, ◌≢◌, ◌⊎◌, ℕ, zero, suc, ◌+◌, ◌<◌, ◌≤◌, Bool, true, false, not, ◌&&◌, Option, Result, Ok, Err, Some, List, [], ◌∷◌, length, get_or, refl, sym, ap, ◌∙◌, subst, inl, inr, arith}
-use Rattle.std.specs.Prelude.{All, OnOk, OnErr, ◌==◌, map, slice_get}
+use Rattle.std.proofs.Common.{◌≡◌, ◌≢◌, ◌⊎◌, ℕ, zero, suc, ◌+◌, ◌<◌, ◌≤◌, Bool, true, false, not, ◌&&◌, Option, Result, Ok, Err, Some, List, [], ◌∷◌, length, get_or, refl, sym, ap, ◌∙◌, subst, inl, inr, arith, All, OnOk, OnErr, ◌==◌, map, slice_get}
 use Rattle.std.specs.List.{list_any}
 use Rattle.std.proofs.lemmas.Bool.{false≢true, or_cases, and_parts, or_left, or_right}
 use Rattle.std.proofs.lemmas.Bool.Decides.{nat_tests}
@@ -9,12 +8,9 @@ use Rattle.machine_shape.specs.declared.Shape.{Shape}
 use Rattle.machine_shape.specs.declared.Table.{Table}
 use Rattle.machine_meaning.specs.Faults.{Faults}
 use Rattle.machine_shape.specs.Shape.{crosses_of}
-use Rattle.diag_evidence.specs.Forests.{Trees, KeepsForest, KnowsForest, is_hung}
-use Rattle.diag_evidence.specs.Hangs.{Foot, HasMarked, HasHungOn, HasTried, silent, answered, StayMarked, UnfitIf, UnclearIf, is_unfit_in, is_unclear_in, overs, others, turned}
-use Rattle.diag_evidence.specs.Kept.{Kept, HoldsFor, IsMore}
+use Rattle.diag_evidence.specs.Vocabulary.{Trees, KeepsForest, KnowsForest, is_hung, Foot, HasMarked, HasHungOn, HasTried, silent, answered, StayMarked, UnfitIf, UnclearIf, is_unfit_in, is_unclear_in, overs, others, turned, Kept, HoldsFor, IsMore}
 use Rattle.diag_evidence.specs.declared.hangs.WireTest.{WireTest}
-use Rattle.diag_known.specs.Field.{IsFieldOf}
-use Rattle.diag_known.specs.Known.{KnownWires, HasWire, IsKnown}
+use Rattle.diag_known.specs.Vocabulary.{IsFieldOf, KnownWires, HasWire, IsKnown}
 use Rattle.diag_known.specs.declared.field.Field.{Field}
 use Rattle.diag_known.specs.declared.verified_wire.Step.{Step}
 use Rattle.diag_known.proofs.Later.{known_later}

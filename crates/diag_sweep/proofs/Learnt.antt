@@ -1,12 +1,10 @@
 -- Wires that come to be known.
-use Rattle.std.proofs.Common.{◌≡◌, ◌≢◌, ◌⊎◌, ℕ, ◌+◌, ◌<◌, ◌≤◌, true, List, [], ◌∷◌, ◌++◌, length, refl, sym, ap, ◌∙◌, subst, inl, inr, arith}
+use Rattle.std.proofs.Common.{◌≡◌, ◌≢◌, ◌⊎◌, ℕ, ◌+◌, ◌<◌, ◌≤◌, true, List, [], ◌∷◌, ◌++◌, length, refl, sym, ap, ◌∙◌, subst, inl, inr, arith, slice_get, Some, Result, Ok, Err, OnOk, OnErr}
 use native.Mathlib.Decide.{ℕ_discrete}
-use Rattle.std.specs.Prelude.{slice_get, Some, Result, Ok, Err, OnOk, OnErr}
 use Rattle.base_bits.specs.Numbers.{has_number}
 use Rattle.machine_shape.specs.Shape.{pins_of, pin_wire}
 use Rattle.diag_evidence.specs.Kept.{Kept, keeps_wire, keeps_pair}
-use Rattle.diag_known.specs.Known.{KnownWires, HasWire, IsAt, IsBefore, IsFoot, IsGood, IsKnown, Stands, on_pin, on_feet}
-use Rattle.diag_known.specs.Field.{GrowsIn}
+use Rattle.diag_known.specs.Vocabulary.{KnownWires, HasWire, IsAt, IsBefore, IsFoot, IsGood, IsKnown, Stands, on_pin, on_feet, GrowsIn}
 use Rattle.diag_known.specs.declared.field.Field.{Field}
 use Rattle.diag_known.specs.declared.verified_wire.Support.{Support}
 use Rattle.diag_known.specs.declared.verified_wire.SupportedBy.TheVariants as stand

@@ -1,20 +1,15 @@
 -- Fields without what is marked bad: what is closed there, and what a sweep and a growth take together.
-use Rattle.std.proofs.Common.{◌≡◌, ◌≢◌, ◌⊎◌, ℕ, zero, suc, ◌+◌, ◌*◌, ◌<◌, ◌≤◌, Bool, true, false, None, Option, List, length, replicate, set, refl, sym, ap, ◌∙◌, subst, inl, inr, arith}
-use Rattle.std.specs.Prelude.{not, ◌&&◌, if◌then◌else◌}
+use Rattle.std.proofs.Common.{◌≡◌, ◌≢◌, ◌⊎◌, ℕ, zero, suc, ◌+◌, ◌*◌, ◌<◌, ◌≤◌, Bool, true, false, None, Option, List, length, replicate, set, refl, sym, ap, ◌∙◌, subst, inl, inr, arith, not, ◌&&◌, if◌then◌else◌}
 use Rattle.std.proofs.lemmas.Bool.{false≢true}
 use Rattle.std.proofs.lemmas.List.{get_or-set_same, get_or-set_other, get_or-replicate, get_or_past, length-replicate, length-set}
 use native.Mathlib.Decide.{dec_lt, ℕ_discrete}
 use Rattle.base_bits.specs.Numbers.{has_number, size_of}
 use Rattle.machine_shape.specs.declared.Shape.{Shape}
-use Rattle.machine_shape.specs.Laws.{IsNumbered}
-use Rattle.machine_shape.specs.Shape.{crosses_of, pin_wire, pins_of, wires_of}
-use Rattle.machine_meaning.specs.Faults.{Faults, stuck_cross}
-use Rattle.machine_meaning.specs.Defects.{IsClear}
-use Rattle.machine_meaning.specs.Tight.{IsAlone, HasFeet, two}
+use Rattle.machine_shape.specs.Vocabulary.{IsNumbered, crosses_of, pin_wire, pins_of, wires_of}
+use Rattle.machine_meaning.specs.Vocabulary.{Faults, stuck_cross, IsClear, IsAlone, HasFeet, two}
 use Rattle.machine_shape.specs.declared.Table.{Table}
 use Rattle.diag_evidence.specs.Kept.{Kept, IsMore, keeps_cross}
-use Rattle.diag_known.specs.Field.{ClosedIf, IsClosed, IsFieldOf, fresh, how_many, pins_in}
-use Rattle.diag_known.specs.Known.{HasWire}
+use Rattle.diag_known.specs.Vocabulary.{ClosedIf, IsClosed, IsFieldOf, fresh, how_many, pins_in, HasWire}
 use Rattle.diag_known.specs.declared.field.Field.{Field}
 use Rattle.diag_known.specs.declared.verified_wire.VerifiedWire.{VerifiedWire}
 use Rattle.diag_known.proofs.Counting.{many_all, many_more, many_size}

@@ -1,15 +1,12 @@
 -- What a load of tables leaves.
-use Rattle.std.proofs.Common.{◌≡◌, ◌⊎◌, inl, inr, ℕ, suc, ◌≤◌, ◌+◌, Bool, true, false, not, ◌&&◌, Option, Result, Ok, Err, List, [], ◌∷◌, length, refl, sym, ◌∙◌, subst, arith}
-use Rattle.std.specs.Prelude.{All, OnOk, OnErr, ◌==◌}
+use Rattle.std.proofs.Common.{◌≡◌, ◌⊎◌, inl, inr, ℕ, suc, ◌≤◌, ◌+◌, Bool, true, false, not, ◌&&◌, Option, Result, Ok, Err, List, [], ◌∷◌, length, refl, sym, ◌∙◌, subst, arith, All, OnOk, OnErr, ◌==◌}
 use Rattle.std.proofs.lemmas.Bool.{false≢true, or_cases, and_parts, or_right}
 use Rattle.std.proofs.lemmas.Bool.Decides.{nat_tests}
 use Rattle.base_bits.specs.Numbers.{has_number}
 use Rattle.machine_shape.specs.declared.Table.{Table}
 use Rattle.machine_meaning.specs.Faults.{Faults}
 use Rattle.rig.specs.Rig.{RigState}
-use Rattle.diag_evidence.specs.Forests.{Trees}
-use Rattle.diag_evidence.specs.Kept.{Kept, Advances, IsMore}
-use Rattle.diag_evidence.specs.TableRows.{HasTabled, WrongIf, is_one_of, is_right_before, output_pin}
+use Rattle.diag_evidence.specs.Vocabulary.{Trees, Kept, Advances, IsMore, HasTabled, WrongIf, is_one_of, is_right_before, output_pin}
 use Rattle.diag_evidence.proofs.Keeping.{advances_itself, advances_then}
 use Rattle.diag_known.specs.Known.{KnownWires}
 use Rattle.diag_known.specs.declared.field.Field.{Field}

@@ -3,12 +3,9 @@ use Rattle.std.specs.Prelude.{◌≡◌, ℕ, ◌<◌, Bool, true, false, List, 
 use Rattle.base_bits.specs.Numbers.{has_number}
 use Rattle.machine_shape.specs.declared.Shape.{Shape}
 use Rattle.machine_shape.specs.Shape.{pins_of, pin_wire, wires_of}
-use Rattle.machine_config.specs.Configuration.{Configuration, is_closed}
-use Rattle.machine_config.specs.Groups.{among}
-use Rattle.machine_config.specs.Tests.{AreOff}
+use Rattle.machine_config.specs.Vocabulary.{Configuration, is_closed, among, AreOff}
 use Rattle.diag_tests.specs.Routes.{Walk, IsRoute, Extends}
-use Rattle.diag_evidence.specs.Kept.{Kept, keeps_cross}
-use Rattle.diag_evidence.specs.Leads.{IsLead, crosses_of_leads, wires_of_leads}
+use Rattle.diag_evidence.specs.Vocabulary.{Kept, keeps_cross, IsLead, crosses_of_leads, wires_of_leads}
 use Rattle.diag_evidence.specs.declared.leads.Lead.{Lead}
 use Rattle.diag_known.specs.Known.{HasWire}
 use Rattle.diag_known.specs.declared.field.Field.{Field}

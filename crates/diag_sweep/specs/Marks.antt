@@ -4,12 +4,9 @@ use Rattle.base_bits.specs.Numbers.{has_number}
 use Rattle.machine_shape.specs.declared.Shape.{Shape}
 use Rattle.machine_shape.specs.declared.Table.{Table}
 use Rattle.machine_shape.specs.Shape.{wires_of, crosses_of, tables_of}
-use Rattle.machine_meaning.specs.Faults.{Faults, stuck_cross}
-use Rattle.machine_meaning.specs.Defects.{IsClear}
-use Rattle.machine_meaning.specs.Tight.{IsAlone, IsRightTable}
+use Rattle.machine_meaning.specs.Vocabulary.{Faults, stuck_cross, IsClear, IsAlone, IsRightTable}
 use Rattle.diag_evidence.specs.Kept.{Kept, HoldsFor, keeps_cross}
-use Rattle.diag_known.specs.Known.{HasWire}
-use Rattle.diag_known.specs.Field.{how_many, pins_in}
+use Rattle.diag_known.specs.Vocabulary.{HasWire, how_many, pins_in}
 use Rattle.diag_known.specs.declared.field.Field.{Field}
 use Rattle.diag_known.specs.declared.verified_wire.VerifiedWire.{VerifiedWire}
 use Rattle.diag_sweep.specs.declared.defect_marks.DefectMarks.{DefectMarks}

@@ -3,8 +3,7 @@ use Rattle.std.specs.Prelude.{◌≡◌, ℕ, ◌<◌, ◌==◌, List, ◌++◌,
 use Rattle.std.specs.List.{IsDistinct}
 use Rattle.machine_shape.specs.declared.Table.{Table}
 use Rattle.machine_shape.specs.Shape.{table_wire, tables_of}
-use Rattle.diag_evidence.specs.Forests.{Trees, HangsOn}
-use Rattle.diag_evidence.specs.TableRows.{output_pin}
+use Rattle.diag_evidence.specs.Vocabulary.{Trees, HangsOn, output_pin}
 
 -- input j of the table hangs on the j-th of these pins
 abbrev pub InputsOn : Trees → List ℕ → Table → Type 0

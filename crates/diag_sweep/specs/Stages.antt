@@ -5,8 +5,7 @@ use Rattle.machine_shape.specs.declared.Table.{Table}
 use Rattle.machine_shape.specs.Shape.{crosses_of}
 use Rattle.machine_meaning.specs.Faults.{Faults}
 use Rattle.diag_evidence.specs.Kept.{Kept}
-use Rattle.diag_known.specs.Known.{KnownWires, IsKnown}
-use Rattle.diag_known.specs.Field.{IsFieldOf, GrowsIn}
+use Rattle.diag_known.specs.Vocabulary.{KnownWires, IsKnown, IsFieldOf, GrowsIn}
 use Rattle.diag_known.specs.declared.field.Field.{Field}
 use Rattle.diag_sweep.specs.Marks.{AreMarksFor, MarksIn, TrueIf, is_undecided}
 use Rattle.diag_sweep.specs.declared.defect_marks.DefectMarks.{DefectMarks}

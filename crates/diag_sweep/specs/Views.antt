@@ -2,9 +2,7 @@
 use Rattle.std.specs.Prelude.{◌≡◌, ℕ, true, List, All}
 use Rattle.base_bits.specs.Numbers.{has_number}
 use Rattle.machine_shape.specs.Shape.{pins_of}
-use Rattle.diag_evidence.specs.Forests.{KnowsForest, is_hung}
-use Rattle.diag_evidence.specs.Hangs.{AreFeet}
-use Rattle.diag_evidence.specs.Kept.{Kept}
+use Rattle.diag_evidence.specs.Vocabulary.{KnowsForest, is_hung, AreFeet, Kept}
 use Rattle.diag_known.specs.Known.{HasWire}
 use Rattle.diag_known.specs.declared.field.Field.{Field}
 use Rattle.diag_known.specs.declared.verified_wire.VerifiedWire.{VerifiedWire}

@@ -2,8 +2,7 @@
 ghost use Rattle.std.specs.Prelude.{◌≡◌, ◌≢◌, ◌<◌, ◌≤◌, ◌+◌, ◌*◌, ◌&&◌, ℕ, false, IfOk, IsTrue, length};
 ghost use Rattle.base_bits.specs.Numbers.{has_number, size_of};
 ghost use Rattle.machine_shape.specs.Shape.{crosses_of};
-ghost use Rattle.diag_known.specs.Known.{KnownWires};
-ghost use Rattle.diag_known.specs.Field.{IsFieldOf, pins_in};
+ghost use Rattle.diag_known.specs.Vocabulary.{KnownWires, IsFieldOf, pins_in};
 ghost use Rattle.diag_sweep.specs.Marks.{AreMarksFor, is_undecided, undecided, worth};
 ghost use Rattle.diag_sweep.specs.Stages.{IsFunded, Settles, in_hand};
 

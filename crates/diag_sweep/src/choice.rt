@@ -6,8 +6,7 @@ ghost use Rattle.machine_meaning.specs.Faults.{Faults};
 ghost use Rattle.machine_shape.specs.Shape.{crosses_of, wires_of};
 ghost use Rattle.rig.specs.Rig.{shape_of};
 ghost use Rattle.diag_evidence.specs.Kept.{Advances};
-ghost use Rattle.diag_known.specs.Field.{GrowsIn, IsFieldOf};
-ghost use Rattle.diag_known.specs.Known.{HasWire, InSet, IsKnown, KnownWires};
+ghost use Rattle.diag_known.specs.Vocabulary.{GrowsIn, IsFieldOf, HasWire, InSet, IsKnown, KnownWires};
 ghost use Rattle.diag_sweep.specs.Marks.{AreMarksFor, MarksIn, TrueIf, worth};
 ghost use Rattle.diag_sweep.specs.Stages.{IsFunded, in_hand};
 

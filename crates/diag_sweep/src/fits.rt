@@ -1,8 +1,7 @@
 //! Whether tables may be tested together on a forest.
 ghost use Rattle.std.specs.Prelude.{◌≡◌, ◌<◌, ◌++◌, ◌∷◌, [], ℕ, true, Some, All, IfOk, IsTrue, length, slice_get};
 ghost use Rattle.machine_shape.specs.Shape.{pins_of, tables_of};
-ghost use Rattle.diag_evidence.specs.Forests.{KeepsForest};
-ghost use Rattle.diag_evidence.specs.TableRows.{AreTablesOn, output_pin};
+ghost use Rattle.diag_evidence.specs.Vocabulary.{KeepsForest, AreTablesOn, output_pin};
 ghost use Rattle.diag_sweep.specs.Marks.{HasTable};
 ghost use Rattle.diag_sweep.specs.Sheets.{AreOn, InputsOn, OutputOn};
 ghost use Rattle.diag_sweep.specs.Sights.{SeesMore};

@@ -3,11 +3,9 @@ ghost use Rattle.std.specs.Prelude.{◌≡◌, [], true, Some, IfOk, OnOk, IsTru
 ghost use Rattle.base_io.specs.Counts.{Rose};
 ghost use Rattle.machine_shape.specs.Shape.{crosses_of};
 ghost use Rattle.rig.specs.Rig.{shape_of};
-ghost use Rattle.diag_tests.specs.Routes.{IsRoute};
-ghost use Rattle.diag_tests.specs.Configs.{Closes};
+ghost use Rattle.diag_tests.specs.Vocabulary.{IsRoute, Closes};
 ghost use Rattle.diag_evidence.specs.Kept.{Advances};
-ghost use Rattle.diag_known.specs.Field.{IsFieldOf};
-ghost use Rattle.diag_known.specs.Known.{IsKnown};
+ghost use Rattle.diag_known.specs.Vocabulary.{IsFieldOf, IsKnown};
 ghost use Rattle.diag_sweep.specs.Courses.{IsCourse};
 ghost use Rattle.diag_sweep.specs.Marks.{AreMarksFor};
 ghost use Rattle.diag_sweep.specs.Stages.{Goes, IsHand, Settles, in_hand};

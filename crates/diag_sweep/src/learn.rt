@@ -2,8 +2,7 @@
 ghost use Rattle.std.specs.Prelude.{◌≡◌, ◌<◌, true, IsTrue, length};
 ghost use Rattle.base_bits.specs.Numbers.{has_number};
 ghost use Rattle.machine_shape.specs.Shape.{wires_of, pins_of};
-ghost use Rattle.diag_known.specs.Field.{IsFieldOf, GrowsIn};
-ghost use Rattle.diag_known.specs.Known.{IsKnown, IsFoot, IsGood, HasWire};
+ghost use Rattle.diag_known.specs.Vocabulary.{IsFieldOf, GrowsIn, IsKnown, IsFoot, IsGood, HasWire};
 
 use crate::feet::foot_of;
 use diag_evidence::Facts;

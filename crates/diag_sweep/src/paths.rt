@@ -2,8 +2,7 @@
 ghost use Rattle.std.specs.Prelude.{◌≡◌, ◌<◌, true, IfOk, IfSome, IsTrue, length};
 ghost use Rattle.machine_shape.specs.Shape.{Ends, ends_of, crosses_of, wires_of};
 ghost use Rattle.diag_tests.specs.Routes.{IsRoute};
-ghost use Rattle.diag_known.specs.Field.{IsFieldOf};
-ghost use Rattle.diag_known.specs.Known.{IsKnown};
+ghost use Rattle.diag_known.specs.Vocabulary.{IsFieldOf, IsKnown};
 ghost use Rattle.diag_sweep.specs.Courses.{EndsAt, GoesOn, IsFair, IsFairLead, MayTry};
 
 use crate::feet::foot_of;

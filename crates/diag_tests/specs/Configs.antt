@@ -3,9 +3,7 @@ use Rattle.std.specs.Prelude.{◌≡◌, ◌≢◌, ℕ, Bool, true, false, ◌|
 use Rattle.machine_shape.specs.declared.Shape.{Shape}
 use Rattle.machine_shape.specs.Shape.{tables_of}
 use Rattle.machine_config.specs.declared.Setting.{Setting}
-use Rattle.machine_config.specs.Configuration.{Configuration, is_closed, setting_of}
-use Rattle.machine_config.specs.Groups.{among}
-use Rattle.machine_config.specs.Tests.{AreOff}
+use Rattle.machine_config.specs.Vocabulary.{Configuration, is_closed, setting_of, among, AreOff}
 use Rattle.diag_tests.specs.Routes.{Walk}
 
 -- whether a crosspoint is one of a route or a tie

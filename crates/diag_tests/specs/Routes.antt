@@ -4,8 +4,7 @@ use Rattle.std.specs.Coded.{Coded, code_by, coded×, coded_ℕ, coded_list}
 use Rattle.machine_shape.specs.declared.Shape.{Shape}
 use Rattle.machine_shape.specs.declared.Cross.{Cross}
 use Rattle.machine_shape.specs.Shape.{Ends, ends_of, pin_wire, pins_of, crosses_of, wires_of}
-use Rattle.machine_config.specs.Groups.{among}
-use Rattle.machine_config.specs.Route.{LeadsTo}
+use Rattle.machine_config.specs.Vocabulary.{among, LeadsTo}
 
 -- a route: its pin, its crosspoints in order, the wires that they lead over from the pin on, and the last wire
 pub record Walk : Type 0 where

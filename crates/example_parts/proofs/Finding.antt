@@ -1,12 +1,10 @@
 -- Tested crossbars stay as more is kept, and one more is found.
-use Rattle.std.proofs.Common.{All, ◌≡◌, ◌<◌, ◌≤◌, ◌+◌, ℕ, Option, List, [], ◌∷◌, ◌++◌, length, get_or, Some, arith, subst, sym, ap, ◌∙◌}
+use Rattle.std.proofs.Common.{All, ◌≡◌, ◌<◌, ◌≤◌, ◌+◌, ℕ, Option, List, [], ◌∷◌, ◌++◌, length, get_or, Some, arith, subst, sym, ap, ◌∙◌, slice_get}
 use native.Mathlib.Decide.{dec_lt}
-use Rattle.std.specs.Prelude.{slice_get}
 use Rattle.std.proofs.lemmas.List.{get_or_append_left, length-append}
 use Rattle.std.proofs.Math.Seq.{get_or-append_seam}
 use Rattle.machine_shape.specs.declared.Shape.{Shape}
-use Rattle.machine_shape.specs.Shape.{nodes_of, node_of, parent_of}
-use Rattle.machine_shape.specs.Laws.{HasParents}
+use Rattle.machine_shape.specs.Vocabulary.{nodes_of, node_of, parent_of, HasParents}
 use Rattle.machine_meaning.specs.Faults.{Faults}
 use Rattle.rig.specs.Rig.{RigState, Machine}
 use Rattle.diag_tests.specs.Routes.{Walk}

@@ -1,6 +1,5 @@
 -- Crosspoints that are kept, one after the other.
-use Rattle.std.proofs.Common.{◌≡◌, ◌<◌, ◌+◌, ℕ, Bool, true, false, Some, List, length, take, refl, subst, arith}
-use Rattle.std.specs.Prelude.{◌==◌, slice_get}
+use Rattle.std.proofs.Common.{◌≡◌, ◌<◌, ◌+◌, ℕ, Bool, true, false, Some, List, length, take, refl, subst, arith, ◌==◌, slice_get}
 use Rattle.std.proofs.lemmas.Bool.Decides.{nat_tests}
 use Rattle.machine_config.specs.Groups.{among}
 use Rattle.diag_evidence.specs.Kept.{Kept, keeps_cross}

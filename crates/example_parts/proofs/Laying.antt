@@ -2,10 +2,8 @@
 use Rattle.std.proofs.Common.{◌≡◌, ℕ, List, ◌∙◌}
 use Rattle.std.proofs.lemmas.Bool.{or_left, or_right}
 use Rattle.machine_shape.specs.declared.Shape.{Shape}
-use Rattle.machine_config.specs.Configuration.{Configuration, is_closed}
-use Rattle.machine_config.specs.Groups.{among}
-use Rattle.diag_tests.specs.Configs.{IsLoopConfig, IsCellConfig, is_laid}
-use Rattle.diag_tests.specs.Routes.{Walk, IsRoute}
+use Rattle.machine_config.specs.Vocabulary.{Configuration, is_closed, among}
+use Rattle.diag_tests.specs.Vocabulary.{IsLoopConfig, IsCellConfig, is_laid, Walk, IsRoute}
 use Rattle.example_parts.specs.Laid.{IsLaid}
 
 -- the crosspoints of both routes are closed where these are closed

@@ -1,6 +1,5 @@
 -- Tables of a machine.
-use Rattle.std.proofs.Common.{◌≡◌, ℕ, ◌<◌, List, ◌∷◌, ◌++◌, [], sym, subst}
-use Rattle.std.specs.Prelude.{All}
+use Rattle.std.proofs.Common.{◌≡◌, ℕ, ◌<◌, List, ◌∷◌, ◌++◌, [], sym, subst, All}
 use Rattle.std.proofs.lemmas.List.Elements.{All-push}
 use Rattle.machine_shape.specs.declared.Table.{Table}
 

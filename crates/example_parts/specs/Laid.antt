@@ -1,8 +1,7 @@
 -- Configurations that close two routes, and more.
 use Rattle.std.specs.Prelude.{◌≡◌, ℕ, true}
 use Rattle.machine_shape.specs.declared.Shape.{Shape}
-use Rattle.machine_config.specs.Configuration.{Configuration, is_closed}
-use Rattle.machine_config.specs.Groups.{among}
+use Rattle.machine_config.specs.Vocabulary.{Configuration, is_closed, among}
 use Rattle.diag_tests.specs.Routes.{Walk, IsRoute}
 
 -- both are routes of the machine, and their crosspoints are closed

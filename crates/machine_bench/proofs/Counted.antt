@@ -2,9 +2,7 @@
 use Rattle.std.proofs.Common.{ℕ, suc, ◌*◌, ◌<◌, [], ◌∷◌, length, arith}
 use Rattle.std.proofs.Math.Nat.{le-mul_of_pos_right}
 use Rattle.machine_shape.specs.declared.Shape.{Shape}
-use Rattle.machine_shape.specs.Counts.{AreFull}
-use Rattle.machine_shape.specs.Walk.{Levels, size, tables_in, crosses_in, taps_in}
-use Rattle.machine_shape.specs.Shape.{levels_of, wires_of, crosses_of, tables_of}
+use Rattle.machine_shape.specs.Vocabulary.{AreFull, Levels, size, tables_in, crosses_in, taps_in, levels_of, wires_of, crosses_of, tables_of}
 use Rattle.machine_shape.proofs.Sites.{full_of}
 use Rattle.machine_shape.proofs.Totals.{crosses_are, tables_are, pins_are, four_levels}
 

@@ -2,8 +2,7 @@
 use Rattle.std.proofs.Common.{◌↔◌, ℕ, ◌≤◌, IsTrue, true, false, nat_le, nat_lt, if◌then◌else◌, subst}
 use Rattle.std.proofs.lemmas.Bool.{leb-true, le-leb}
 use Rattle.machine_shape.specs.declared.Shape.{Shape}
-use Rattle.machine_shape.specs.Shape.{Meaning, Means}
-use Rattle.machine_shape.specs.Laws.{HasMeanings}
+use Rattle.machine_shape.specs.Vocabulary.{Meaning, Means, HasMeanings}
 use Rattle.machine_faults.specs.Adding.{lower_first}
 use Rattle.machine_bench.specs.Faults.{IsHittable, MayBeHit}
 

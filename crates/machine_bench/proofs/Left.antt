@@ -1,6 +1,5 @@
 -- What generated faults leave sound.
-use Rattle.std.proofs.Common.{◌≡◌, ℕ, ◌<◌, ◌≤◌, Bool, true, false, Option, Some, None, cond, refl, sym, ap, ◌∙◌, subst, arith}
-use Rattle.std.specs.Prelude.{unwrap_or}
+use Rattle.std.proofs.Common.{◌≡◌, ℕ, ◌<◌, ◌≤◌, Bool, true, false, Option, Some, None, cond, refl, sym, ap, ◌∙◌, subst, arith, unwrap_or}
 use Rattle.std.specs.FinMap as maps
 use Rattle.std.specs.FinSet as set
 use Rattle.std.specs.Cmp.{IsTotalOrder, nat_cmp_total}
@@ -11,11 +10,8 @@ use Rattle.std.proofs.lemmas.Option.{none-some}
 use Rattle.std.proofs.lemmas.Map.Lookups.{CmpEqualImpliesEq, exact_unsigned}
 use Rattle.std.proofs.lemmas.Map.Views.{tells_apart}
 use Rattle.machine_shape.specs.declared.Shape.{Shape}
-use Rattle.machine_shape.specs.Laws.{HasMeanings}
-use Rattle.machine_shape.specs.Shape.{in_order, turned, Line, Pin, Port, TablePin, is_pin, is_line, is_port, is_table_pin, ends_of, pin_wire, table_wire, line_at, port_at, pins_of, lines_of, own_ports_of, nodes_of, tables_of}
-use Rattle.machine_meaning.specs.Faults.{Faults, pair_cmp, stuck_wire, stuck_cross, wrong_cell, stuck_register, is_bridge}
-use Rattle.machine_meaning.specs.Joined.{Linked, crossed, bridged, here, then, net_of, Shorted}
-use Rattle.machine_meaning.specs.Sound.{IsSoundWire, IsSoundTable, IsWholeLine}
+use Rattle.machine_shape.specs.Vocabulary.{HasMeanings, in_order, turned, Line, Pin, Port, TablePin, is_pin, is_line, is_port, is_table_pin, ends_of, pin_wire, table_wire, line_at, port_at, pins_of, lines_of, own_ports_of, nodes_of, tables_of}
+use Rattle.machine_meaning.specs.Vocabulary.{Faults, pair_cmp, stuck_wire, stuck_cross, wrong_cell, stuck_register, is_bridge, Linked, crossed, bridged, here, then, net_of, Shorted, IsSoundWire, IsSoundTable, IsWholeLine}
 use Rattle.machine_shape.proofs.Totals.{ports_within}
 use Rattle.machine_faults.specs.declared.fault.Fault.{Fault}
 use Rattle.machine_faults.specs.declared.fault.Fault.TheVariants.{Stuck, CrossStuck, Cell, Register, Bridge}

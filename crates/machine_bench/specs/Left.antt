@@ -2,8 +2,7 @@
 use Rattle.std.specs.Prelude.{ℕ, ◌<◌}
 use Rattle.machine_shape.specs.declared.Shape.{Shape}
 use Rattle.machine_shape.specs.Shape.{pin_wire, line_at, port_at, pins_of, lines_of, own_ports_of, nodes_of, tables_of}
-use Rattle.machine_meaning.specs.Faults.{Faults}
-use Rattle.machine_meaning.specs.Sound.{IsSoundWire, IsSoundTable, IsWholeLine}
+use Rattle.machine_meaning.specs.Vocabulary.{Faults, IsSoundWire, IsSoundTable, IsWholeLine}
 use Rattle.machine_bench.specs.Faults.{table_position}
 
 -- the first 20 pins of the machine and ports of each node are sound, its first 20 lines are whole, and the first 4 tables of each

@@ -7,10 +7,8 @@
 
 ghost use Rattle.std.specs.Prelude.{◌≡◌, ◌<◌, ℕ};
 ghost use Rattle.machine_shape.specs.declared.Shape.{Shape};
-ghost use Rattle.machine_meaning.specs.Faults.{Faults};
-ghost use Rattle.machine_shape.specs.Counts.{IsAmple};
-ghost use Rattle.machine_shape.specs.Shape.{nodes_of};
-ghost use Rattle.machine_meaning.specs.Sound.{IsServed};
+ghost use Rattle.machine_meaning.specs.Vocabulary.{Faults, IsServed};
+ghost use Rattle.machine_shape.specs.Vocabulary.{IsAmple, nodes_of};
 ghost use Rattle.machine_bench.specs.Faults.{AreBenchFaults};
 ghost use Rattle.machine_bench.specs.Left.{LeavesSound};
 ghost use Rattle.machine_bench.specs.Work.{bench_counts};

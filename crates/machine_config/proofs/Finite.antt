@@ -1,17 +1,11 @@
 -- A configuration of a machine has a run under each list of drives.
-use Rattle.std.proofs.Common.{◌≡◌, ℕ, zero, suc, ◌<◌, ◌≤◌, Bool, true, Option, Some, None, List, [], ◌∷◌, refl, ap, subst, arith}
-use Rattle.std.specs.Prelude.{unwrap_or}
+use Rattle.std.proofs.Common.{◌≡◌, ℕ, zero, suc, ◌<◌, ◌≤◌, Bool, true, Option, Some, None, List, [], ◌∷◌, refl, ap, subst, arith, unwrap_or}
 use Rattle.std.proofs.lemmas.List.{get_or_past}
 use Rattle.machine_shape.specs.Shape.{in_order, turned, wires_of, crosses_of, tables_of}
-use Rattle.machine_meaning.specs.Joined.{Linked, crossed, bridged}
-use Rattle.machine_meaning.specs.Faults.{Faults, AreFaultsOf, stuck_cross}
-use Rattle.machine_meaning.specs.Circuit.{Circuit, Table, Outputs, Pins}
-use Rattle.machine_meaning.specs.Value.{IsFinite}
+use Rattle.machine_meaning.specs.Vocabulary.{Linked, crossed, bridged, Faults, AreFaultsOf, stuck_cross, Circuit, Table, Outputs, Pins, IsFinite}
 use Rattle.machine_shape.proofs.Crossings.{first_below}
 use Rattle.machine_meaning.proofs.ValuesExist.{values_exist}
-use Rattle.machine_config.specs.Configuration.{Configuration, IsConfiguration, is_closed}
-use Rattle.machine_config.specs.Run.{pins_read, first_output, tick_output, edge_output, at_load, after_tick, after_edge, Ticks, unticked, tick, Cycle, Cycles, none, cycle, Runs}
-use Rattle.machine_config.specs.Faulty.{table_or_off, circuit_of, IsRun}
+use Rattle.machine_config.specs.Vocabulary.{Configuration, IsConfiguration, is_closed, pins_read, first_output, tick_output, edge_output, at_load, after_tick, after_edge, Ticks, unticked, tick, Cycle, Cycles, none, cycle, Runs, table_or_off, circuit_of, IsRun}
 
 -- what is stuck, closed, bridged or on is of the machine
 module _ (f : Faults) (g : Configuration) (faults : AreFaultsOf g.shape f) (is : IsConfiguration g) where

@@ -6,19 +6,10 @@ use Rattle.std.specs.Ordering.{nat_cmp, eq_by_cmp}
 use Rattle.std.proofs.lemmas.Bool.{false≢true, or_left, or_right, or_cases}
 use Rattle.machine_shape.specs.declared.Shape.{Shape}
 use Rattle.machine_shape.specs.Shape.{Ends, in_order, turned, ends_of, pin_wire, pins_of}
-use Rattle.machine_meaning.specs.Faults.{Faults, stuck_cross}
-use Rattle.machine_meaning.specs.Joined.{Joined, then, crossed, Shorted, net_of}
-use Rattle.machine_meaning.specs.Circuit.{Outputs, Pins}
-use Rattle.machine_config.specs.Run.{Cycles, none, cycle, at_load}
-use Rattle.machine_meaning.specs.Defects.{IsClear}
-use Rattle.machine_config.specs.Groups.{among}
-use Rattle.machine_config.specs.Groups.{IsWithin, AreGroups}
-use Rattle.machine_config.specs.Route.{LeadsTo}
+use Rattle.machine_meaning.specs.Vocabulary.{Faults, stuck_cross, Joined, then, crossed, Shorted, net_of, Outputs, Pins, IsClear}
+use Rattle.machine_config.specs.Vocabulary.{Cycles, none, cycle, at_load, among, IsWithin, AreGroups, LeadsTo, Configuration, is_closed, with_open, circuit_of, IsRun, AreOff, IsDrivenIn, IsLed, IsLoop}
 use Rattle.machine_meaning.proofs.JoinedLemmas.{Ends-swap, Joined-trans, Joined-sym, Joined-mono}
 use Rattle.machine_config.proofs.Grouped.{left_unstuck, LeadsTo-joined, LeadsTo-within}
-use Rattle.machine_config.specs.Configuration.{Configuration, is_closed, with_open}
-use Rattle.machine_config.specs.Faulty.{circuit_of, IsRun}
-use Rattle.machine_config.specs.Tests.{AreOff, IsDrivenIn, IsLed, IsLoop}
 use Rattle.machine_config.proofs.Readings.{all_conduct, conducting}
 use Rattle.machine_config.proofs.Changes.{same_number}
 use Rattle.machine_config.proofs.Passing.{quiet_load, reads_low, right_high}

@@ -3,15 +3,10 @@ use Rattle.std.proofs.Common.{◌≡◌, ◌⊎◌, ℕ, Bool, true, false, [], 
 use Rattle.std.proofs.lemmas.Bool.Decides.{nat_tests}
 use Rattle.std.proofs.lemmas.Bool.{or_cases}
 use Rattle.machine_shape.specs.declared.Shape.{Shape}
-use Rattle.machine_meaning.specs.Faults.{Faults}
-use Rattle.machine_meaning.specs.Joined.{Shorted}
-use Rattle.machine_meaning.specs.Defects.{IsClear}
-use Rattle.machine_meaning.specs.Sound.{IsSoundWire}
-use Rattle.machine_meaning.proofs.Clear.{clear_of_sound}
-use Rattle.machine_config.specs.Groups.{among, both, AreClear, AreUnshorted}
-use Rattle.machine_config.specs.Tests.{IsLoose}
+use Rattle.machine_meaning.specs.Vocabulary.{Faults, Shorted, IsClear, IsSoundWire}
+use Rattle.machine_meaning.proofs.Clear.{clear_of_sound, unshorted_of_sound}
+use Rattle.machine_config.specs.Vocabulary.{among, both, AreClear, AreUnshorted, IsLoose}
 use Rattle.machine_meaning.proofs.JoinedLemmas.{Joined-sym}
-use Rattle.machine_meaning.proofs.Clear.{unshorted_of_sound}
 
 in_one : (x w : ℕ) → among (x ∷ []) w ≡ true → x ≡ w
 in_one x w e = grind (arith, nat_tests)

@@ -3,17 +3,10 @@ use Rattle.std.proofs.Common.{◌≡◌, ℕ, ◌<◌, Bool, true, false, Some, 
 use Rattle.std.proofs.lemmas.Bool.{false≢true}
 use Rattle.machine_shape.specs.declared.Shape.{Shape}
 use Rattle.machine_shape.specs.Shape.{pin_wire, pins_of}
-use Rattle.machine_meaning.specs.Faults.{Faults, stuck_wire}
-use Rattle.machine_meaning.specs.Joined.{Joined, here, net_of}
-use Rattle.machine_meaning.specs.Circuit.{Circuit, Table, Outputs, Pins}
-use Rattle.machine_meaning.specs.Value.{Pulls, by_pin, by_table, IsValue, IsHeld, IsPulled, pulled, released}
-use Rattle.machine_config.specs.Run.{Ticks, unticked, tick, Cycle, Cycles, none, cycle, at_load, tick_output, edge_output, first_output}
-use Rattle.machine_config.specs.Groups.{AreGroups}
+use Rattle.machine_meaning.specs.Vocabulary.{Faults, stuck_wire, Joined, here, net_of, Circuit, Table, Outputs, Pins, Pulls, by_pin, by_table, IsValue, IsHeld, IsPulled, pulled, released}
+use Rattle.machine_config.specs.Vocabulary.{Ticks, unticked, tick, Cycle, Cycles, none, cycle, at_load, tick_output, edge_output, first_output, AreGroups, Configuration, is_closed, circuit_of, table_or_off, IsRun, AreOff, IsDrivenAlone, IsDrivenIn, AreReleased}
 use Rattle.machine_meaning.proofs.Values.{IsValue-unique}
 use Rattle.machine_config.proofs.Grouped.{groups_turned, left_unstuck, left_apart}
-use Rattle.machine_config.specs.Configuration.{Configuration, is_closed}
-use Rattle.machine_config.specs.Faulty.{circuit_of, table_or_off, IsRun}
-use Rattle.machine_config.specs.Tests.{AreOff, IsDrivenAlone, IsDrivenIn, AreReleased}
 use Rattle.machine_config.proofs.Readings.{pin_value}
 
 -- a wire that is joined to no stuck wire

@@ -1,20 +1,12 @@
 -- What readings show of the wires that a pin is joined to.
-use Rattle.std.proofs.Common.{◌≡◌, ◌≢◌, ℕ, ◌<◌, Bool, true, false, Some, None, Option, List, [], ◌∷◌, get_or, refl, sym, ap, ◌∙◌, subst, arith}
-use Rattle.std.specs.Prelude.{unwrap_or}
+use Rattle.std.proofs.Common.{◌≡◌, ◌≢◌, ℕ, ◌<◌, Bool, true, false, Some, None, Option, List, [], ◌∷◌, get_or, refl, sym, ap, ◌∙◌, subst, arith, unwrap_or}
 use Rattle.std.specs.List.{AllByRecursion}
 use Rattle.std.proofs.lemmas.List.FromFn.{get_or-map-range_with_len}
 use Rattle.machine_shape.specs.Shape.{pin_wire, pins_of}
-use Rattle.machine_meaning.specs.Faults.{Faults, stuck_cross}
-use Rattle.machine_meaning.specs.Joined.{Net, Joined, here, then, crossed, Shorted, net_of}
-use Rattle.machine_meaning.specs.Circuit.{Circuit, Outputs, Pins}
-use Rattle.machine_meaning.specs.Value.{IsValue, IsHeld}
-use Rattle.machine_meaning.specs.Defects.{IsClear}
+use Rattle.machine_meaning.specs.Vocabulary.{Faults, stuck_cross, Net, Joined, here, then, crossed, Shorted, net_of, Circuit, Outputs, Pins, IsValue, IsHeld, IsClear}
 use Rattle.machine_meaning.proofs.JoinedLemmas.{Joined-trans, Joined-sym, Joined-Shorted}
 use Rattle.machine_meaning.proofs.Values.{swings, apart}
-use Rattle.machine_config.specs.Run.{Cycle, Cycles, none, cycle}
-use Rattle.machine_config.specs.Route.{LeadsTo, ends, goes}
-use Rattle.machine_config.specs.Configuration.{Configuration, is_closed}
-use Rattle.machine_config.specs.Faulty.{IsRun}
+use Rattle.machine_config.specs.Vocabulary.{Cycle, Cycles, none, cycle, LeadsTo, ends, goes, Configuration, is_closed, IsRun}
 
 module _ {c : Circuit} {before after : Outputs} {drive read : Pins} where
   -- what a pin reads is its wire's value

@@ -1,16 +1,12 @@
 -- Stuck registers over time.
-use Rattle.std.proofs.Common.{◌≡◌, ℕ, Bool, true, false, Option, Some, None, List, refl, sym, ap, ◌∙◌, subst}
-use Rattle.std.specs.Prelude.{unwrap_or, if◌then◌else◌}
+use Rattle.std.proofs.Common.{◌≡◌, ℕ, Bool, true, false, Option, Some, None, List, refl, sym, ap, ◌∙◌, subst, unwrap_or, if◌then◌else◌}
 use Rattle.std.proofs.Math.Path.{fun_ext}
 use Rattle.std.specs.Ordering.{nat_cmp}
 use Rattle.std.specs.FinSet as set
 use Rattle.std.specs.FinMap as map
-use Rattle.machine_meaning.specs.Faults.{Faults, pair_cmp, stuck_register}
-use Rattle.machine_meaning.specs.Circuit.{Circuit, Table, Outputs, Pins}
+use Rattle.machine_meaning.specs.Vocabulary.{Faults, pair_cmp, stuck_register, Circuit, Table, Outputs, Pins}
 use Rattle.machine_config.specs.declared.Setting.{Setting}
-use Rattle.machine_config.specs.Configuration.{Configuration, is_closed, setting_of, cell_of}
-use Rattle.machine_config.specs.Run.{first_output, tick_output, edge_output, at_load, Ticks, unticked, tick, Cycles, none, cycle, Runs}
-use Rattle.machine_config.specs.Faulty.{held_by, table_of, table_or_off, circuit_of, IsRun}
+use Rattle.machine_config.specs.Vocabulary.{Configuration, is_closed, setting_of, cell_of, first_output, tick_output, edge_output, at_load, Ticks, unticked, tick, Cycles, none, cycle, Runs, held_by, table_of, table_or_off, circuit_of, IsRun}
 
 -- a table that holds its value
 record Holds (o : Option Table) (v : Bool) : Type 0 where

@@ -1,8 +1,7 @@
 -- Configurations that differ at a distance from a wire.
 use Rattle.std.specs.Prelude.{◌≡◌, ◌≢◌, ℕ, true}
 use Rattle.machine_shape.specs.Shape.{Ends, ends_of}
-use Rattle.machine_meaning.specs.Faults.{Faults}
-use Rattle.machine_meaning.specs.Joined.{Joined, net_of}
+use Rattle.machine_meaning.specs.Vocabulary.{Faults, Joined, net_of}
 use Rattle.machine_config.specs.Configuration.{Configuration, is_closed}
 
 -- h closes no more than g. Each crosspoint that it opens, but for x, has an end that isn't joined to the wire q in g.

@@ -1,8 +1,6 @@
 -- The circuit that a configuration makes of a machine with faults, and its run.
 use Rattle.std.specs.Prelude.{ℕ, Bool, Option, Some, None, if◌then◌else◌, unwrap_or, List}
-use Rattle.machine_meaning.specs.Faults.{Faults, stuck_wire, wrong_cell, stuck_register}
-use Rattle.machine_meaning.specs.Joined.{net_of}
-use Rattle.machine_meaning.specs.Circuit.{Circuit, Table, Pins}
+use Rattle.machine_meaning.specs.Vocabulary.{Faults, stuck_wire, wrong_cell, stuck_register, net_of, Circuit, Table, Pins}
 use Rattle.machine_config.specs.declared.Setting.{Setting}
 use Rattle.machine_config.specs.Configuration.{Configuration, is_closed, setting_of, cell_of}
 use Rattle.machine_config.specs.Run.{Runs}

@@ -3,9 +3,7 @@ use Rattle.std.specs.Prelude.{◌≡◌, ◌⊎◌, ℕ, Bool, true, ◌||◌, �
 use Rattle.std.specs.List.{list_any}
 use Rattle.machine_shape.specs.declared.Shape.{Shape}
 use Rattle.machine_shape.specs.Shape.{ends_of}
-use Rattle.machine_meaning.specs.Faults.{Faults}
-use Rattle.machine_meaning.specs.Joined.{Shorted}
-use Rattle.machine_meaning.specs.Defects.{IsClear}
+use Rattle.machine_meaning.specs.Vocabulary.{Faults, Shorted, IsClear}
 
 -- these wires
 abbrev pub among : List ℕ → ℕ → Bool

@@ -6,3 +6,4 @@ pub mod Route
 pub mod Groups
 pub mod Tests
 pub mod Distance
+pub mod Vocabulary

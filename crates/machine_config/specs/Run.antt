@@ -2,8 +2,7 @@
 use Rattle.std.specs.Prelude.{◌≡◌, ℕ, zero, suc, ◌+◌, ◌*◌, Bool, true, if◌then◌else◌, Option, Some, None, List, [], ◌∷◌, map, unwrap_or}
 use Rattle.std.specs.List.{range_with_len}
 use Rattle.machine_shape.specs.Shape.{pin_wire, table_wire, pins_of}
-use Rattle.machine_meaning.specs.Circuit.{Circuit, Table, Outputs, Pins}
-use Rattle.machine_meaning.specs.Value.{AreValues}
+use Rattle.machine_meaning.specs.Vocabulary.{Circuit, Table, Outputs, Pins, AreValues}
 
 -- the number whose bits these are, the lowest first
 abbrev pub number_of : List Bool → ℕ

@@ -3,12 +3,9 @@
 ghost use Rattle.std.specs.Prelude.{◌≡◌, ◌≢◌, ◌==◌, ℕ, ◌<◌, Bool, true, false, if◌then◌else◌, List, [], ◌∷◌, ◌++◌, Option, Some, None};
 ghost use Rattle.std.specs.Prelude.{length, take, slice_get, slice_index_or};
 ghost use Rattle.std.specs.List.{AllByRecursion};
-ghost use Rattle.machine_meaning.specs.Circuit.{Circuit, Outputs, Pins};
-ghost use Rattle.machine_meaning.specs.Defects.{IsClear};
-ghost use Rattle.machine_meaning.specs.Faults.{Faults, AreFaultsOf, stuck_cross, wrong_cell, stuck_register};
-ghost use Rattle.machine_meaning.specs.Joined.{Joined, Shorted, net_of};
+ghost use Rattle.machine_meaning.specs.Vocabulary.{Circuit, Outputs, Pins, IsClear, Faults, AreFaultsOf, stuck_cross, wrong_cell};
+ghost use Rattle.machine_meaning.specs.Vocabulary.{stuck_register, Joined, Shorted, net_of, IsSoundWire};
 ghost use Rattle.machine_shape.specs.Shape.{pin_wire, pins_of};
-ghost use Rattle.machine_meaning.specs.Sound.{IsSoundWire};
 ghost use Rattle.machine_shape.specs.declared.Shape.{Shape};
 ghost use Rattle.machine_config.specs.Configuration.{Configuration, IsConfiguration, is_closed, setting_of, with_closed, with_open};
 ghost use Rattle.machine_config.specs.Configuration.{with_setting, cell_of, with_cell, with_init};

@@ -1,6 +1,5 @@
 -- The entries of a list, in order.
-use Rattle.std.proofs.Common.{◌≡◌, ◌≢◌, ◌⊎◌, inl, inr, ℕ, zero, suc, ◌<◌, ◌≤◌, Bool, true, false, not, ◌&&◌, ◌||◌, if◌then◌else◌, nat_lt, Option, Some, None, List, [], ◌∷◌, ◌++◌, map, refl, sym, ap, ◌∙◌, subst, arith, append_assoc, append-nil, eqb-true, ltb-true, lt-ltb}
-use Rattle.std.specs.Prelude.{◌==◌}
+use Rattle.std.proofs.Common.{◌≡◌, ◌≢◌, ◌⊎◌, inl, inr, ℕ, zero, suc, ◌<◌, ◌≤◌, Bool, true, false, not, ◌&&◌, ◌||◌, if◌then◌else◌, nat_lt, Option, Some, None, List, [], ◌∷◌, ◌++◌, map, refl, sym, ap, ◌∙◌, subst, arith, append_assoc, append-nil, eqb-true, ltb-true, lt-ltb, ◌==◌}
 use Rattle.std.specs.List.{AllByRecursion}
 use Rattle.std.specs.FinSet as sets
 use Rattle.std.specs.FinSet.{contains-empty}
@@ -14,11 +13,9 @@ use Rattle.machine_shape.specs.declared.Shape.{Shape}
 use Rattle.machine_shape.specs.Shape.{wires_of, crosses_of, tables_of}
 use Rattle.machine_defects.specs.declared.entry.Entry.{Entry}
 use Rattle.machine_defects.specs.declared.entry.Entry.TheVariants.{Wire, Cross, Table}
-use Rattle.machine_defects.specs.Lists.{DefectList, IsDefectList, IsWithWire, no_defects, those, touches_cross, touches_table, with_cross, with_table, has_free_ends, has_free_pins}
+use Rattle.machine_defects.specs.Vocabulary.{DefectList, IsDefectList, IsWithWire, no_defects, those, touches_cross, touches_table, with_cross, with_table, has_free_ends, has_free_pins, IsEntryOf, IsFreeEntry, kind_of, entry_number, is_before, as_wire, as_cross, as_table, entries_of, is_listed, is_same, is_behind, IsLast, IsBeyond, IsAdded}
 use Rattle.machine_meaning.specs.Defects.{IsFreeCross, IsFreeTable}
 use Rattle.machine_defects.proofs.Telling.{cross_tells, table_tells}
-use Rattle.machine_defects.specs.Text.{IsEntryOf, IsFreeEntry, kind_of, entry_number, is_before, as_wire, as_cross, as_table, entries_of}
-use Rattle.machine_defects.specs.Steps.{is_listed, is_same, is_behind, IsLast, IsBeyond, IsAdded}
 
 -- ---- numbers that pass a test
 

@@ -1,6 +1,5 @@
 -- Marks and the set of the numbers that have one.
-use Rattle.std.proofs.Common.{◌≡◌, ℕ, zero, suc, ◌<◌, ◌≤◌, Bool, true, false, ◌&&◌, ◌||◌, if◌then◌else◌, List, [], ◌∷◌, length, set, replicate, refl, sym, ap, ◌∙◌, arith}
-use Rattle.std.specs.Prelude.{◌==◌}
+use Rattle.std.proofs.Common.{◌≡◌, ℕ, zero, suc, ◌<◌, ◌≤◌, Bool, true, false, ◌&&◌, ◌||◌, if◌then◌else◌, List, [], ◌∷◌, length, set, replicate, refl, sym, ap, ◌∙◌, arith, ◌==◌}
 use Rattle.std.specs.List.{list_any}
 use Rattle.std.specs.Ordering.{nat_cmp}
 use Rattle.std.specs.Cmp.{nat_cmp_total}
@@ -14,8 +13,7 @@ use Rattle.std.proofs.lemmas.Bool.{and_parts}
 use native.Mathlib.Decide.{ℕ_discrete, dec_lt}
 use Rattle.base_bits.specs.Numbers.{has_number}
 use Rattle.base_bits.proofs.SetsLemmas.{contains_more}
-use Rattle.machine_defects.specs.Kept.{marked}
-use Rattle.machine_defects.specs.Lists.{those, all_below}
+use Rattle.machine_defects.specs.Vocabulary.{marked, those, all_below}
 
 -- ---- what a list of numbers contains
 

@@ -1,14 +1,12 @@
 -- At first nothing is listed.
-use Rattle.std.proofs.Common.{◌≡◌, ℕ, ◌<◌, Bool, true, false, not, ◌&&◌, ◌||◌, Option, List, length, replicate, sym, ap, ◌∙◌, arith}
-use Rattle.std.specs.Prelude.{◌==◌}
+use Rattle.std.proofs.Common.{◌≡◌, ℕ, ◌<◌, Bool, true, false, not, ◌&&◌, ◌||◌, Option, List, length, replicate, sym, ap, ◌∙◌, arith, ◌==◌}
 use Rattle.std.proofs.lemmas.List.{get_or-replicate, get_or_past, length-replicate}
 use native.Mathlib.Decide.{dec_lt}
 use Rattle.base_bits.specs.Numbers.{has_number}
 use Rattle.machine_shape.specs.declared.Shape.{Shape}
 use Rattle.machine_shape.specs.declared.Table.{Table}
 use Rattle.machine_shape.specs.Shape.{wires_of, crosses_of, tables_of, nodes_of, pins_of, ends_of, table_wire, pin_wire}
-use Rattle.machine_defects.specs.Lists.{no_defects}
-use Rattle.machine_defects.specs.Kept.{Marks, AreRight, AreOwners, AreRecounted, listed_by, count_at, is_lost, is_barred}
+use Rattle.machine_defects.specs.Vocabulary.{no_defects, Marks, AreRight, AreOwners, AreRecounted, listed_by, count_at, is_lost, is_barred}
 use Rattle.machine_defects.proofs.Marks.{unmarked, marked_none, each_all}
 use Rattle.machine_defects.proofs.Counting.{how_many_none, how_many_all}
 

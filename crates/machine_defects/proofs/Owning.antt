@@ -4,8 +4,7 @@ use Rattle.std.proofs.lemmas.List.{get_or-set_same, get_or-set_other, get_or_pas
 use native.Mathlib.Decide.{ℕ_discrete, dec_lt}
 use Rattle.machine_shape.specs.declared.Shape.{Shape}
 use Rattle.machine_shape.specs.declared.Table.{Table}
-use Rattle.machine_shape.specs.Laws.{IsNumbered}
-use Rattle.machine_shape.specs.Shape.{wires_of, tables_of, table_wire}
+use Rattle.machine_shape.specs.Vocabulary.{IsNumbered, wires_of, tables_of, table_wire}
 use Rattle.machine_defects.specs.Kept.{AreOwners, AreOwnersBefore}
 
 abbrev table : ℕ → Table

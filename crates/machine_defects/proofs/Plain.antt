@@ -4,8 +4,7 @@ use Rattle.std.specs.Fmt.{decimal}
 use Rattle.std.specs.List.{list_all}
 use Rattle.std.proofs.lemmas.Bool.Decides.{nat_tests}
 use Rattle.machine_shape.specs.declared.Shape.{Shape}
-use Rattle.machine_shape.specs.Shape.{wires_of, tables_of}
-use Rattle.machine_shape.specs.Names.{wire_name, table_name}
+use Rattle.machine_shape.specs.Vocabulary.{wires_of, tables_of, wire_name, table_name}
 use Rattle.machine_shape.proofs.PlainNames.{AllPlain, plain-decimal, wire_word, table_word}
 use Rattle.machine_defects.specs.Faults.{is_inner, IsWord}
 

@@ -1,6 +1,5 @@
 -- A wire more is listed.
-use Rattle.std.proofs.Common.{◌≡◌, ◌≢◌, ◌⊎◌, inl, inr, ℕ, zero, suc, ◌+◌, ◌<◌, ◌≤◌, Bool, true, false, not, ◌&&◌, ◌||◌, if◌then◌else◌, Option, Some, None, List, length, get_or, set, refl, sym, ap, ◌∙◌, subst, arith, eqb-true}
-use Rattle.std.specs.Prelude.{◌==◌, IfSome}
+use Rattle.std.proofs.Common.{◌≡◌, ◌≢◌, ◌⊎◌, inl, inr, ℕ, zero, suc, ◌+◌, ◌<◌, ◌≤◌, Bool, true, false, not, ◌&&◌, ◌||◌, if◌then◌else◌, Option, Some, None, List, length, get_or, set, refl, sym, ap, ◌∙◌, subst, arith, eqb-true, ◌==◌, IfSome}
 use Rattle.std.proofs.lemmas.List.{length-set, get_or_default}
 use Rattle.std.proofs.lemmas.Bool.{eq-eqb, false_from_ne_true}
 use Rattle.std.proofs.lemmas.Bool.Decides.{nat_tests}
@@ -9,12 +8,10 @@ use native.Mathlib.Decide.{ℕ_discrete, dec_lt}
 use Rattle.base_bits.specs.Numbers.{has_number}
 use Rattle.machine_shape.specs.declared.Shape.{Shape}
 use Rattle.machine_shape.specs.declared.Table.{Table}
-use Rattle.machine_shape.specs.Laws.{HasCrosses, HasTaps, HasParents, HasMeanings, IsTree}
-use Rattle.machine_shape.specs.Shape.{wires_of, crosses_of, tables_of, nodes_of, lines_of, own_ports_of, ends_of, node_of, parent_of, node_of_cross, line_at, port_at, table_wire, IsLine, IsPort}
+use Rattle.machine_shape.specs.Vocabulary.{HasCrosses, HasTaps, HasParents, HasMeanings, IsTree, wires_of, crosses_of, tables_of, nodes_of, lines_of, own_ports_of, ends_of, node_of, parent_of, node_of_cross, line_at, port_at, table_wire, IsLine, IsPort}
 use Rattle.machine_shape.specs.Shape.Meaning.{Line}
 use Rattle.machine_shape.specs.Shape.Means.{is_line}
-use Rattle.machine_defects.specs.Lists.{IsWithWire, how_many, all_below, touches_cross, touches_table}
-use Rattle.machine_defects.specs.Kept.{Marks, AreRight, IsSwept, IsRecounted, IsItOrAbove, Loses, listed_by, marked, is_barred, is_lost, is_clear_line, count_at, shut_at, clear_lines_at, free_ports_at, free_pins_in}
+use Rattle.machine_defects.specs.Vocabulary.{IsWithWire, how_many, all_below, touches_cross, touches_table, Marks, AreRight, IsSwept, IsRecounted, IsItOrAbove, Loses, listed_by, marked, is_barred, is_lost, is_clear_line, count_at, shut_at, clear_lines_at, free_ports_at, free_pins_in}
 use Rattle.machine_defects.proofs.Marks.{in_marked, marked_more, put_again, all_each, each_all, all_same, unmarked_beyond, has_below}
 use Rattle.machine_defects.proofs.Counting.{how_many_less, how_many_same, how_many_some}
 use Rattle.machine_defects.proofs.Sweeping.{set_here, set_there, line_of, all_touched, touches_tap, touches_line, touched_by, AtNode, OnLine, AtAbove, some_one}

@@ -1,6 +1,5 @@
 -- What is kept tells what is free.
-use Rattle.std.proofs.Common.{◌≡◌, ℕ, ◌<◌, Bool, true, false, not, ◌&&◌, ◌||◌, refl, sym, ap, ◌∙◌, subst, eqb-true}
-use Rattle.std.specs.Prelude.{◌==◌, ◌↔◌}
+use Rattle.std.proofs.Common.{◌≡◌, ℕ, ◌<◌, Bool, true, false, not, ◌&&◌, ◌||◌, refl, sym, ap, ◌∙◌, subst, eqb-true, ◌==◌, ◌↔◌}
 use Rattle.std.proofs.lemmas.Bool.{eq-eqb, false_from_ne_true, and_parts}
 use Rattle.std.specs.FinSet as sets
 use Rattle.std.specs.Cmp.{both_ways}
@@ -8,8 +7,7 @@ use Rattle.base_bits.specs.Numbers.{has_number}
 use Rattle.machine_shape.specs.Shape.{wires_of, crosses_of, tables_of, nodes_of, lines_of, pins_of, ends_of, table_wire, line_at}
 use Rattle.machine_meaning.specs.Defects.{Defects, IsFreeWire, IsFreeCross, IsFreeTable, IsOpenLine}
 use Rattle.machine_defects.specs.declared.kept.Kept.{Kept}
-use Rattle.machine_defects.specs.Kept.{IsKept, list_in, is_clear_line, count_at}
-use Rattle.machine_defects.specs.Lists.{IsDefectList, is_free_wire, is_free_cross, is_free_table, is_open_line, leaves_open, all_below, open_lines_of, free_ports_of, free_tables_of, free_pins_of}
+use Rattle.machine_defects.specs.Vocabulary.{IsKept, list_in, is_clear_line, count_at, IsDefectList, is_free_wire, is_free_cross, is_free_table, is_open_line, leaves_open, all_below, open_lines_of, free_ports_of, free_tables_of, free_pins_of}
 use Rattle.machine_defects.proofs.Marks.{in_marked, has_below, all_each, each_all, all_same}
 use Rattle.machine_defects.proofs.Counting.{how_many_same, how_many_none, none_passes}
 use Rattle.machine_defects.proofs.Telling.{wire_tells, cross_tells, table_tells, open_tells, leaves, leaves_from}

@@ -7,23 +7,18 @@ use Rattle.std.specs.Fmt.{decimal}
 use Rattle.std.specs.List.{AllByRecursion}
 use Rattle.std.proofs.lemmas.List.{map-append}
 use Rattle.machine_shape.specs.declared.Shape.{Shape}
-use Rattle.machine_shape.specs.Laws.{HasNames, IsNumbered}
+use Rattle.machine_shape.specs.Vocabulary.{HasNames, IsNumbered, wires_of, crosses_of, ends_of, wire_name}
 use Rattle.machine_shape.specs.Shape.Ends.{in_order, turned}
-use Rattle.machine_shape.specs.Shape.{wires_of, crosses_of, ends_of}
-use Rattle.machine_shape.specs.Names.{wire_name}
 use Rattle.base_text.specs.Written.{spaced, written, written_line}
 use Rattle.machine_defects.specs.declared.entry.Entry.{Entry}
 use Rattle.machine_defects.specs.declared.entry.Entry.TheVariants.{Wire, Cross, Table}
 use Rattle.machine_defects.specs.declared.kind.DefectsKind.{DefectsKind}
 use Rattle.machine_defects.specs.declared.kind.DefectsKind.TheVariants as kinds
-use Rattle.machine_defects.specs.Lists.{DefectList, IsDefectList, no_defects}
-use Rattle.machine_defects.specs.Text.{IsEntryOf, entry_words, is_before, entries_of, counts_of, first_row, shape_row, end_row, rows_of, text_of}
-use Rattle.machine_defects.specs.Faults.{IsForm, IsEntryForm, AreCounts, IsBeforeLast, IsLineFault, IsFirstFault, IsText}
+use Rattle.machine_defects.specs.Vocabulary.{DefectList, IsDefectList, no_defects, IsEntryOf, entry_words, is_before, entries_of, counts_of, first_row, shape_row, end_row, rows_of, text_of, IsForm, IsEntryForm, AreCounts, IsBeforeLast, IsLineFault, IsFirstFault, IsText, without, is_behind, IsLast, IsReadTo}
 use Rattle.machine_defects.specs.Faults.IsForm.{first_form, shape_form, entry_form, end_form}
 use Rattle.machine_defects.specs.Faults.IsEntryForm.{wire_form, cross_form, table_form}
 use Rattle.machine_defects.specs.Faults.IsLineFault.{formless}
 use Rattle.machine_defects.specs.Faults.AreAbove.{nothing, begun, listed}
-use Rattle.machine_defects.specs.Steps.{without, is_behind, IsLast, IsReadTo}
 use Rattle.machine_defects.proofs.Rows.{IsCleanRow, AreClean, from_word, same_line, whole_line, rows_short}
 use Rattle.machine_defects.proofs.Numerals.{clean_decimal}
 use Rattle.machine_defects.proofs.Entries.{none_listed}

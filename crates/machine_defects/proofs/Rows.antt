@@ -1,10 +1,8 @@
 -- Lines tell their words.
-use Rattle.std.proofs.Common.{◌≡◌, ◌≢◌, inl, inr, ℕ, ◌≤◌, Bool, true, false, not, ◌&&◌, List, [], ◌∷◌, ◌++◌, length, refl, sym, ap, ◌∙◌, arith, append_assoc, length-append}
-use Rattle.std.specs.Prelude.{◌==◌}
+use Rattle.std.proofs.Common.{◌≡◌, ◌≢◌, inl, inr, ℕ, ◌≤◌, Bool, true, false, not, ◌&&◌, List, [], ◌∷◌, ◌++◌, length, refl, sym, ap, ◌∙◌, arith, append_assoc, length-append, ◌==◌}
 use Rattle.std.specs.List.{list_all, flat_map}
 use Rattle.base_text.specs.Written.{spaced, written, written_line}
-use Rattle.machine_defects.specs.Faults.{is_inner, IsWord}
-use Rattle.machine_defects.specs.Steps.{without}
+use Rattle.machine_defects.specs.Vocabulary.{is_inner, IsWord, without}
 use Rattle.machine_defects.proofs.Splits.{without_append, one_split, one_run, Starts}
 
 -- a word has neither spaces nor ends of lines

@@ -1,6 +1,5 @@
 -- The tests tell what is free.
-use Rattle.std.proofs.Common.{◌≡◌, ℕ, Bool, true, false, not, ◌&&◌, ◌||◌, refl, eqb-true}
-use Rattle.std.specs.Prelude.{◌==◌, ◌↔◌}
+use Rattle.std.proofs.Common.{◌≡◌, ℕ, Bool, true, false, not, ◌&&◌, ◌||◌, refl, eqb-true, ◌==◌, ◌↔◌}
 use Rattle.std.proofs.lemmas.Bool.{not-true, eq-eqb, and_parts, not_from_false}
 use Rattle.std.specs.FinSet as sets
 use Rattle.machine_shape.specs.declared.Shape.{Shape}

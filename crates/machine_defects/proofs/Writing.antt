@@ -6,10 +6,8 @@ use Rattle.std.proofs.lemmas.List.{map-append}
 use Rattle.machine_shape.specs.declared.Shape.{Shape}
 use Rattle.base_text.specs.Written.{written, written_line}
 use Rattle.machine_defects.specs.declared.entry.Entry.{Entry}
-use Rattle.machine_defects.specs.Lists.{DefectList, those}
-use Rattle.machine_defects.specs.Steps.{numerals}
+use Rattle.machine_defects.specs.Vocabulary.{DefectList, those, numerals, entry_words, as_wire, as_cross, as_table, entries_of, counts_of, first_row, shape_row, end_row, text_of}
 use Rattle.machine_defects.proofs.Numerals.{shape_spaced}
-use Rattle.machine_defects.specs.Text.{entry_words, as_wire, as_cross, as_table, entries_of, counts_of, first_row, shape_row, end_row, text_of}
 
 written-append : (a b : List (List (List ℕ))) → written (a ++ b) ≡ written a ++ written b
 written-append [] b = refl

@@ -3,16 +3,15 @@ use Rattle.std.specs.Prelude.{◌≡◌, ◌≢◌, ◌⊎◌, ℕ, ◌+◌, ◌
 use Rattle.std.specs.Prelude.{Err}
 use Rattle.std.specs.List.{list_all, AllByRecursion}
 use Rattle.machine_shape.specs.declared.Shape.{Shape}
-use Rattle.base_text.specs.Written.{written, written_line}
-use Rattle.base_text.specs.Size.{most_bytes}
+use Rattle.base_text.specs.Vocabulary.{written, written_line, most_bytes}
 use Rattle.machine_defects.specs.declared.entry.Entry.{Entry}
 use Rattle.machine_defects.specs.declared.kind.DefectsKind.{DefectsKind}
 use Rattle.machine_defects.specs.declared.kind.DefectsKind.TheVariants.{Word, Order, Name, WrongMachine, Doubled, After, Limit}
 use Rattle.machine_defects.specs.declared.kind.DefectsFault.{DefectsFault}
 use Rattle.machine_defects.specs.declared.kind.DefectsFault.TheVariants.{At, Memory}
 use Rattle.machine_defects.specs.Lists.{DefectList, IsDefectList, no_defects}
-use Rattle.machine_defects.specs.Text.{IsEntryOf, IsFreeEntry, entry_words, is_before, entries_of, counts_of, first_row, shape_row, end_row, rows_of}
-use Rattle.machine_defects.specs.Text.{text_of}
+use Rattle.machine_defects.specs.Text.{IsEntryOf, IsFreeEntry, entry_words, is_before, entries_of, counts_of, first_row, shape_row, end_row}
+use Rattle.machine_defects.specs.Text.{rows_of, text_of}
 
 -- a byte that is neither a space nor the end of a line
 abbrev pub is_inner : ℕ → Bool

@@ -3,3 +3,4 @@ pub mod Kept
 pub mod Lists
 pub mod Steps
 pub mod Text
+pub mod Vocabulary

@@ -4,8 +4,7 @@ use Rattle.std.specs.Fmt.{decimal}
 use Rattle.std.specs.FinSet as set
 use Rattle.machine_shape.specs.declared.Counts.{Counts}
 use Rattle.machine_shape.specs.declared.Shape.{Shape}
-use Rattle.machine_shape.specs.Shape.{wires_of, crosses_of, tables_of, ends_of}
-use Rattle.machine_shape.specs.Names.{wire_name, table_name}
+use Rattle.machine_shape.specs.Vocabulary.{wires_of, crosses_of, tables_of, ends_of, wire_name, table_name}
 use Rattle.machine_meaning.specs.Defects.{IsFreeWire, IsFreeCross, IsFreeTable}
 use Rattle.base_text.specs.Written.{written, written_line}
 use Rattle.machine_defects.specs.declared.entry.Entry.{Entry}

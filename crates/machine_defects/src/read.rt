@@ -2,10 +2,9 @@
 
 ghost use Rattle.std.specs.Prelude.{◌≡◌, ◌≢◌, ◌↔◌, ◌<◌, ◌≤◌, ◌++◌, ◌∷◌, [], ℕ, List, None, codes, length, IsTrue, IfOk, IfErr, MatchOption};
 ghost use Rattle.std.specs.Prelude.{MatchResult, OnOk};
-ghost use Rattle.base_text.specs.Written.{written_line};
+ghost use Rattle.base_text.specs.Vocabulary.{written_line, most_bytes};
 ghost use Rattle.machine_defects.specs.Lists.{IsDefectList, DefectList, no_defects};
 ghost use Rattle.machine_defects.specs.Text.{IsEntryOf, IsFreeEntry, entry_words, counts_of, entries_of, is_before, first_row, shape_row};
-ghost use Rattle.base_text.specs.Size.{most_bytes};
 ghost use Rattle.machine_defects.specs.Faults.{AreCounts, IsLineFault, IsRefusedAs, IsText, GivesOrLacks};
 ghost use Rattle.machine_defects.specs.Steps.{row_of, IsLast, IsReadTo, Steps, IsFirst, IsAdded, IsBeyond, is_behind};
 ghost use Rattle.machine_defects.specs.declared.entry.Entry.{Entry};

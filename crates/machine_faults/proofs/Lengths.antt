@@ -1,11 +1,8 @@
 -- How long the lines of a text are at most.
-use Rattle.std.proofs.Common.{◌<◌, ◌≤◌, ◌-◌, ◌*◌, ◌==◌, ℕ, Bool, true, false, List, [], ◌∷◌, length, map, ap, arith, if◌then◌else◌, nat_lt, length-append, suc}
-use Rattle.std.specs.Prelude.{All}
+use Rattle.std.proofs.Common.{◌<◌, ◌≤◌, ◌-◌, ◌*◌, ◌==◌, ℕ, Bool, true, false, List, [], ◌∷◌, length, map, ap, arith, if◌then◌else◌, nat_lt, length-append, suc, All}
 use Rattle.std.specs.List.{AllByRecursion, flat_map}
 use Rattle.machine_shape.specs.declared.Shape.{Shape}
-use Rattle.machine_shape.specs.Shape.{levels_of, ends_of, place_of, way_to_table, wires_of, tables_of}
-use Rattle.machine_shape.specs.Names.{numbered, inner_letters, steps_name, way_name, port_letter, part_name, wire_name, table_name}
-use Rattle.machine_shape.specs.Walk.{Levels, Path, rest}
+use Rattle.machine_shape.specs.Vocabulary.{levels_of, ends_of, place_of, way_to_table, wires_of, tables_of, numbered, inner_letters, steps_name, way_name, port_letter, part_name, wire_name, table_name, Levels, Path, rest}
 use Rattle.machine_shape.proofs.Decimals.{five_digits}
 use Rattle.machine_shape.proofs.Naming.{wire_steps, table_steps, wire_name-place, table_name-way}
 use Rattle.base_text.specs.Written.{spaced, written, written_line}

@@ -1,7 +1,6 @@
 -- The words of an entry are words of a line: they have bytes, and none of these is a blank, a bad byte, the end of a
 -- line or the beginning of a comment.
-use Rattle.std.proofs.Common.{◌≡◌, ◌<◌, ◌-◌, ℕ, Bool, true, false, List, [], ◌∷◌, refl, arith, nat_lt, ◌&&◌, ◌||◌, ltb-true, le-ltb, ne_eqb}
-use Rattle.std.specs.Prelude.{not, ◌==◌}
+use Rattle.std.proofs.Common.{◌≡◌, ◌<◌, ◌-◌, ℕ, Bool, true, false, List, [], ◌∷◌, refl, arith, nat_lt, ◌&&◌, ◌||◌, ltb-true, le-ltb, ne_eqb, not, ◌==◌}
 use Rattle.std.specs.List.{list_all, list_any}
 use Rattle.std.proofs.lemmas.Fmt.{decimal_nonempty}
 use Rattle.std.proofs.lemmas.Bool.{and_parts}

@@ -1,20 +1,15 @@
 -- What reading a text line by line makes of it.
-use Rattle.std.proofs.Common.{◌≡◌, ◌≢◌, ◌<◌, ℕ, true, false, None, Some, Option, Result, Ok, Err, List, [], ◌∷◌, ◌++◌, length, map, get_or, refl, sym, ap, ◌∙◌, subst, append_assoc, append-nil}
-use Rattle.std.specs.Prelude.{MatchOption, MatchResult, IfSome, IfNone, IfOk, IfErr}
+use Rattle.std.proofs.Common.{◌≡◌, ◌≢◌, ◌<◌, ℕ, true, false, None, Some, Option, Result, Ok, Err, List, [], ◌∷◌, ◌++◌, length, map, get_or, refl, sym, ap, ◌∙◌, subst, append_assoc, append-nil, MatchOption, MatchResult, IfSome, IfNone, IfOk, IfErr}
 use Rattle.std.specs.List.{list_any}
 use Rattle.std.proofs.lemmas.List.{map-append}
 use Rattle.machine_shape.specs.declared.Shape.{Shape}
 use Rattle.machine_shape.specs.declared.Cross.{Cross}
-use Rattle.machine_shape.specs.Shape.{ends_of, wires_of, crosses_of}
-use Rattle.machine_shape.specs.Names.{wire_name}
+use Rattle.machine_shape.specs.Vocabulary.{ends_of, wires_of, crosses_of, wire_name, HasNames, IsNumbered}
 use Rattle.machine_meaning.specs.Faults.{Faults}
-use Rattle.machine_shape.specs.Laws.{HasNames, IsNumbered}
 use Rattle.machine_shape.specs.Shape.Ends.{in_order, turned}
 use Rattle.base_text.specs.declared.lines.LineFault.{LineFault}
 use Rattle.base_text.specs.declared.lines.LineFault.TheVariants as line
-use Rattle.base_text.specs.Faults.{IsFaultAt as IsFaultAtLine}
-use Rattle.base_text.specs.Lines.{LogicalLine, logical_lines, is_bad_line}
-use Rattle.base_text.specs.Bytes.{is_bad}
+use Rattle.base_text.specs.Vocabulary.{IsFaultAt as IsFaultAtLine, LogicalLine, logical_lines, is_bad_line, is_bad}
 use Rattle.machine_faults.specs.declared.fault.Fault.{Fault}
 use Rattle.machine_faults.specs.declared.fault.Fault.TheVariants.{Stuck, CrossStuck, Cell, Register, Bridge}
 use Rattle.machine_faults.specs.declared.fault.AddFault.{AddFault}

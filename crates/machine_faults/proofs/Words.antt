@@ -4,8 +4,7 @@ use Rattle.std.specs.List.{position_or_len}
 use Rattle.std.specs.Str.{bytes_eq}
 use Rattle.std.proofs.lemmas.Fmt.{decimal_injective}
 use Rattle.machine_shape.specs.declared.Shape.{Shape}
-use Rattle.machine_shape.specs.Shape.{ends_of, wires_of, crosses_of}
-use Rattle.machine_shape.specs.Laws.{HasNames, HasCrosses, IsNumbered}
+use Rattle.machine_shape.specs.Vocabulary.{ends_of, wires_of, crosses_of, HasNames, HasCrosses, IsNumbered}
 use Rattle.machine_shape.specs.Shape.Ends.{in_order, turned}
 use Rattle.machine_faults.specs.declared.fault.Fault.{Fault}
 use Rattle.machine_faults.specs.declared.fault.Fault.TheVariants.{Stuck, CrossStuck, Cell, Register, Bridge}

@@ -8,14 +8,12 @@ use Rattle.std.proofs.lemmas.Map.Lookups.{exact_unsigned}
 use Rattle.machine_shape.specs.declared.Shape.{Shape}
 use Rattle.machine_shape.specs.Shape.{wires_of, crosses_of, tables_of}
 use Rattle.machine_meaning.specs.Faults.{Faults}
-use Rattle.base_text.specs.Lines.{logical_lines}
-use Rattle.base_text.specs.Written.{is_graphic, written, numbered}
+use Rattle.base_text.specs.Vocabulary.{logical_lines, is_graphic, written, numbered, most_bytes}
 use Rattle.base_text.specs.Written as text
 use Rattle.base_text.proofs.WrittenLemmas.{lines_back}
 use Rattle.machine_faults.specs.declared.fault.Fault.{Fault}
 use Rattle.machine_faults.specs.declared.fault.AddFault.TheVariants.{Same, Limit}
 use Rattle.machine_faults.specs.Adding.{IsFaultSet, CanHave, no_faults, with_fault, value_at, value_of, is_loop, lower_first, refusal_at, refusal_of, count_of}
-use Rattle.base_text.specs.Size.{most_bytes}
 use Rattle.machine_faults.specs.Text.{fault_words, with_all, AreAdded, IsFaultText}
 use Rattle.machine_faults.specs.Written.{Kinds, AreAscending, AreInOrder, grouped, faults_of, stuck_wire_at, stuck_cross_at, wrong_cell_at, stuck_register_at, bridge_of}
 use Rattle.machine_faults.proofs.Adding.{count_more, count_none}

@@ -1,20 +1,19 @@
 -- Which fault a text has, and where.
 use Rattle.std.specs.Prelude.{ℕ, ◌≡◌, ◌≢◌, ◌⊎◌, ◌<◌, ◌≤◌, true, false, Some, None, List, [], ◌∷◌, ◌++◌, length, map, Result, Ok, Err}
 use Rattle.machine_shape.specs.declared.Shape.{Shape}
-use Rattle.machine_shape.specs.Shape.{wires_of, crosses_of}
-use Rattle.machine_shape.specs.Names.{wire_name}
+use Rattle.machine_shape.specs.Vocabulary.{wires_of, crosses_of, wire_name}
 use Rattle.machine_meaning.specs.Faults.{Faults}
 use Rattle.base_text.specs.declared.lines.LineFault.{LineFault}
 use Rattle.base_text.specs.declared.lines.LineFault.TheVariants as line
-use Rattle.base_text.specs.Lines.{LogicalLine, logical_lines, is_bad_line}
-use Rattle.base_text.specs.Size.{most_bytes}
+use Rattle.base_text.specs.Vocabulary.{LogicalLine, logical_lines, is_bad_line, most_bytes}
 use Rattle.machine_faults.specs.declared.fault.Fault.{Fault}
 use Rattle.machine_faults.specs.declared.fault.AddFault.{AddFault}
 use Rattle.machine_faults.specs.declared.fault.AddFault.TheVariants as add
 use Rattle.machine_faults.specs.declared.head.Head.{Head}
 use Rattle.machine_faults.specs.declared.head.Head.TheVariants as head
 use Rattle.machine_faults.specs.declared.kind.FaultsKind.{FaultsKind}
-use Rattle.machine_faults.specs.declared.kind.FaultsKind.TheVariants.{Byte, Word, Wire, Cross, Cell, Register, Same, Doubled, Against, Limit}
+use Rattle.machine_faults.specs.declared.kind.FaultsKind.TheVariants.{Byte, Word, Wire, Cross, Cell, Register, Same, Doubled, Against}
+use Rattle.machine_faults.specs.declared.kind.FaultsKind.TheVariants.{Limit}
 use Rattle.machine_faults.specs.declared.kind.FaultsFault.{FaultsFault}
 use Rattle.machine_faults.specs.declared.kind.FaultsFault.TheVariants.{At, Memory}
 use Rattle.machine_faults.specs.Adding.{Faulty, no_faults, with_fault, refusal_of, CanHave}

@@ -2,8 +2,7 @@
 use Rattle.std.specs.Prelude.{ℕ, ◌≡◌, Bool, true, false, codes, None, List, [], ◌∷◌, map}
 use Rattle.std.specs.Fmt.{decimal}
 use Rattle.machine_shape.specs.declared.Shape.{Shape}
-use Rattle.machine_shape.specs.Shape.{ends_of}
-use Rattle.machine_shape.specs.Names.{wire_name, table_name}
+use Rattle.machine_shape.specs.Vocabulary.{ends_of, wire_name, table_name}
 use Rattle.machine_meaning.specs.Faults.{Faults}
 use Rattle.base_text.specs.Lines.{logical_lines}
 use Rattle.machine_faults.specs.declared.fault.Fault.{Fault}

@@ -1,8 +1,7 @@
 //! Reads the words of a line.
 
 ghost use Rattle.std.specs.Prelude.{◌≡◌, ◌≢◌, ◌<◌, ◌∷◌, [], ℕ, Bool, length, map, if◌then◌else◌, MatchOption, MatchResult};
-ghost use Rattle.machine_shape.specs.Shape.{wires_of, crosses_of};
-ghost use Rattle.machine_shape.specs.Names.{wire_name};
+ghost use Rattle.machine_shape.specs.Vocabulary.{wires_of, crosses_of, wire_name};
 ghost use Rattle.machine_faults.specs.Adding.{CanHave};
 ghost use Rattle.machine_faults.specs.Heads.{word_of, follow_of};
 ghost use Rattle.machine_faults.specs.Text.{bit_word, fault_words, end_names};

@@ -2,9 +2,8 @@
 
 ghost use Rattle.std.specs.Prelude.{◌≡◌, ◌<◌, ◌≤◌, false, length, IfOk, IfErr};
 ghost use Rattle.machine_meaning.specs.Faults.{Faults};
-ghost use Rattle.base_text.specs.Lines.{logical_lines, is_bad_line};
+ghost use Rattle.base_text.specs.Vocabulary.{logical_lines, is_bad_line, most_bytes};
 ghost use Rattle.machine_faults.specs.Text.{IsFaultText};
-ghost use Rattle.base_text.specs.Size.{most_bytes};
 ghost use Rattle.machine_faults.specs.Refusals.{IsRefusedAs, GivesOrLacks, IsFirst, Takes, told_of, line_told};
 
 use crate::fault::AddFault;

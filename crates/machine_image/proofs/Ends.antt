@@ -1,6 +1,5 @@
 -- What stands behind the pins, and the whole.
-use Rattle.std.proofs.Common.{◌≡◌, ℕ, ◌+◌, ◌<◌, ◌≤◌, List, [], ◌++◌, length, take, drop, inr, refl, sym, ap, ◌∙◌, subst, arith}
-use Rattle.std.specs.Prelude.{codes}
+use Rattle.std.proofs.Common.{◌≡◌, ℕ, ◌+◌, ◌<◌, ◌≤◌, List, [], ◌++◌, length, take, drop, inr, refl, sym, ap, ◌∙◌, subst, arith, codes}
 use Rattle.std.specs.List.{flat_map}
 use Rattle.std.proofs.lemmas.List.{append_assoc, append-nil, drop_all, take-append-drop, length-take-le, length-drop}
 use Rattle.machine_shape.specs.declared.Shape.{Shape}
@@ -11,10 +10,7 @@ use Rattle.machine_image.specs.declared.kind.ImageKind.TheVariants as kind
 use Rattle.machine_image.specs.declared.kind.ImageFault.{ImageFault}
 use Rattle.machine_image.specs.declared.kind.ImageFault.TheVariants.{At, Memory}
 use Rattle.machine_image.specs.declared.read.Head.{Head}
-use Rattle.machine_image.specs.Faults.{counts_of, most_fault, closed_fault, InEnd, InCrosses, InTables, InPins, InImage}
-use Rattle.machine_image.specs.Fields.{IsField, IsRefusedField, FaultIn, Passed}
-use Rattle.machine_image.specs.Images.{IsImage, two, four, table_bytes, tables_on, closed_in, image_bytes, IsFirstImageFault, IsRefusedAs, Reads}
-use Rattle.machine_image.specs.Reading.{IsHead, ArePins, TablesRead, CrossesRead, AreSettings, Bounds, head_bytes, settings_bytes}
+use Rattle.machine_image.specs.Vocabulary.{counts_of, most_fault, closed_fault, InEnd, InCrosses, InTables, InPins, InImage, IsField, IsRefusedField, FaultIn, Passed, IsImage, two, four, table_bytes, tables_on, closed_in, image_bytes, IsFirstImageFault, IsRefusedAs, Reads, IsHead, ArePins, TablesRead, CrossesRead, AreSettings, Bounds, head_bytes, settings_bytes}
 use Rattle.machine_image.proofs.Wrong.{closed_right}
 use Rattle.machine_image.proofs.Passing.{refused_in, passed_in, pass_field, pass_both}
 use Rattle.machine_image.proofs.Whole.{one_spelling}

@@ -1,13 +1,9 @@
 -- Free wires, and walks over closed crosspoints.
-use Rattle.std.proofs.Common.{◌≡◌, ℕ, ◌<◌, Bool, true, None, Option}
-use Rattle.std.specs.Prelude.{unwrap_or}
+use Rattle.std.proofs.Common.{◌≡◌, ℕ, ◌<◌, Bool, true, None, Option, unwrap_or}
 use Rattle.std.proofs.lemmas.Bool.{false≢true}
 use Rattle.machine_shape.specs.declared.Shape.{Shape}
 use Rattle.machine_shape.specs.Shape.{Ends, ends_of, wires_of, crosses_of}
-use Rattle.machine_meaning.specs.Faults.{Faults, stuck_cross}
-use Rattle.machine_meaning.specs.Joined.{crossed, bridged, Joined, here, then, net_of, plain_net}
-use Rattle.machine_meaning.specs.Circuit.{Outputs}
-use Rattle.machine_meaning.specs.Defects.{Defects, IsFreeWire, IsFreeCross, Covers}
+use Rattle.machine_meaning.specs.Vocabulary.{Faults, stuck_cross, crossed, bridged, Joined, here, then, net_of, plain_net, Outputs, Defects, IsFreeWire, IsFreeCross, Covers}
 use Rattle.machine_config.specs.Configuration.{Configuration, setting_of}
 
 conducting : (o : Option Bool) (b : Bool) → b ≡ true → o ≡ None → unwrap_or o b ≡ true

@@ -1,6 +1,5 @@
 -- What stands before the pins, and a table.
-use Rattle.std.proofs.Common.{◌≡◌, ℕ, zero, suc, ◌+◌, ◌≤◌, ◌%◌, List, [], ◌∷◌, ◌++◌, length, get_or, refl, sym, ap, ◌∙◌, subst, arith}
-use Rattle.std.specs.Prelude.{◌==◌, codes, nat_le, if◌then◌else◌}
+use Rattle.std.proofs.Common.{◌≡◌, ℕ, zero, suc, ◌+◌, ◌≤◌, ◌%◌, List, [], ◌∷◌, ◌++◌, length, get_or, refl, sym, ap, ◌∙◌, subst, arith, ◌==◌, codes, nat_le, if◌then◌else◌}
 use Rattle.std.specs.List.{flat_map}
 use Rattle.byteorder.specs.Endian.{big_bytes}
 use Rattle.machine_shape.specs.declared.Shape.{Shape}
@@ -8,10 +7,7 @@ use Rattle.machine_shape.specs.declared.Counts.{Counts}
 use Rattle.machine_shape.specs.Shape.{tables_of}
 use Rattle.machine_image.specs.declared.kind.ImageKind.{ImageKind}
 use Rattle.machine_image.specs.declared.kind.ImageFault.{ImageFault}
-use Rattle.machine_image.specs.Faults.{Stands, counts_of, no_fault, magic_fault, ticks_fault, above_fault, flags_fault, InField, InTicks, InCounts, InPins, InTables, InImage}
-use Rattle.machine_image.specs.Fields.{IsCut, IsField, IsRefusedField, FaultIn, Passed}
-use Rattle.machine_image.specs.Images.{two}
-use Rattle.machine_image.specs.Reading.{IsHead, IsTable}
+use Rattle.machine_image.specs.Vocabulary.{Stands, counts_of, no_fault, magic_fault, ticks_fault, above_fault, flags_fault, InField, InTicks, InCounts, InPins, InTables, InImage, IsCut, IsField, IsRefusedField, FaultIn, Passed, two, IsHead, IsTable}
 use Rattle.machine_image.proofs.Wrong.{magic_right, ticks_right, above_right, most_right}
 use Rattle.machine_image.proofs.Passing.{refused_in, passed_in, pass_field, pass_both}
 

@@ -7,8 +7,7 @@ use Rattle.byteorder.specs.Endian.{big_bytes}
 use Rattle.machine_image.specs.declared.kind.ImageKind.{ImageKind}
 use Rattle.machine_image.specs.declared.kind.ImageFault.{ImageFault}
 use Rattle.machine_image.specs.declared.kind.ImageFault.TheVariants.{At, Memory}
-use Rattle.machine_image.specs.Faults.{InField}
-use Rattle.machine_image.specs.Fields.{IsField, IsRefusedField, FaultIn, Passed}
+use Rattle.machine_image.specs.Vocabulary.{InField, IsField, IsRefusedField, FaultIn, Passed}
 
 -- a refused field is the first fault
 pub refused_in : {size : ℕ} {fault_of : ℕ → Option ImageKind} {bytes : List ℕ} {at : ℕ} (B : ℕ → ImageKind → ℕ → Type 0) (f : ImageFault) →

@@ -1,6 +1,5 @@
 -- The steps of reading.
-use Rattle.std.proofs.Common.{◌≡◌, ℕ, suc, ◌+◌, ◌<◌, ◌≤◌, List, [], ◌∷◌, ◌++◌, Bool, true, false, ◌||◌, Some, None, length, take, drop, get_or, set, refl, sym, ap, ◌∙◌, subst, arith}
-use Rattle.std.specs.Prelude.{◌≢◌, ◌==◌, if◌then◌else◌}
+use Rattle.std.proofs.Common.{◌≡◌, ℕ, suc, ◌+◌, ◌<◌, ◌≤◌, List, [], ◌∷◌, ◌++◌, Bool, true, false, ◌||◌, Some, None, length, take, drop, get_or, set, refl, sym, ap, ◌∙◌, subst, arith, ◌≢◌, ◌==◌, if◌then◌else◌}
 use Rattle.std.specs.List.{flat_map, list_any}
 use Rattle.std.specs.Cmp.{nat_cmp_total}
 use Rattle.std.specs.FinSet as set_
@@ -17,10 +16,7 @@ use Rattle.machine_shape.specs.Shape.{tables_of, crosses_of, pins_of}
 use Rattle.machine_config.specs.declared.Setting.{Setting}
 use Rattle.machine_config.specs.Configuration.{Configuration, is_closed, setting_of, with_closed, with_setting}
 use Rattle.machine_image.specs.declared.kind.ImageFault.{ImageFault}
-use Rattle.machine_image.specs.Faults.{count_fault, pin_fault, above_fault, InTicks, InCounts, InPins, InTables, InCrosses}
-use Rattle.machine_image.specs.Fields.{IsField, IsRefusedField, FaultIn, Passed, AreMarks}
-use Rattle.machine_image.specs.Images.{two, four, table_bytes, tables_on, closed_in, on_at}
-use Rattle.machine_image.specs.Reading.{ArePins, AreTables, AreCrosses, TablesRead, CrossesRead, IsTable}
+use Rattle.machine_image.specs.Vocabulary.{count_fault, pin_fault, above_fault, InTicks, InCounts, InPins, InTables, InCrosses, IsField, IsRefusedField, FaultIn, Passed, AreMarks, two, four, table_bytes, tables_on, closed_in, on_at, ArePins, AreTables, AreCrosses, TablesRead, CrossesRead, IsTable}
 use Rattle.machine_image.proofs.Wrong.{count_right, pin_right, above_right}
 use Rattle.machine_image.proofs.Passing.{refused_in, passed_in, pass_field, pass_none, pass_item}
 use Rattle.machine_image.proofs.Growing.{none_flat, closed_more, tables_more, setting_after, closed_after}

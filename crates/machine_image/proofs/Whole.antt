@@ -1,6 +1,5 @@
 -- An image has one spelling, and what is an image's has no fault.
-use Rattle.std.proofs.Common.{◌≡◌, ℕ, zero, suc, ◌+◌, ◌^◌, ◌<◌, ◌≤◌, List, [], ◌∷◌, ◌++◌, Bool, true, false, ◌||◌, Option, Some, None, length, take, drop, All, refl, sym, ap, ◌∙◌, subst, arith, inl, inr}
-use Rattle.std.specs.Prelude.{◌⊎◌, ◌≢◌, ◌==◌, codes, if◌then◌else◌}
+use Rattle.std.proofs.Common.{◌≡◌, ℕ, zero, suc, ◌+◌, ◌^◌, ◌<◌, ◌≤◌, List, [], ◌∷◌, ◌++◌, Bool, true, false, ◌||◌, Option, Some, None, length, take, drop, All, refl, sym, ap, ◌∙◌, subst, arith, inl, inr, ◌⊎◌, ◌≢◌, ◌==◌, codes, if◌then◌else◌}
 use Rattle.std.specs.List.{flat_map, range_with_len, list_any, AllPairs}
 use Rattle.std.specs.Cmp.{nat_cmp_total}
 use Rattle.std.specs.FinSet as set_
@@ -15,9 +14,7 @@ use Rattle.byteorder.specs.Numbers.{big_number-reads_back, length-bytes_high_fir
 use Rattle.machine_shape.specs.Shape.{pins_of, tables_of, crosses_of}
 use Rattle.machine_config.specs.declared.Setting.{Setting}
 use Rattle.machine_config.specs.Configuration.{CellsFit, is_closed, setting_of}
-use Rattle.machine_image.specs.Faults.{counts_of}
-use Rattle.machine_image.specs.Images.{ImageValue, two, four, on_at, tables_on, closed_in, flags_of, table_bytes, IsImage, image_bytes}
-use Rattle.machine_image.specs.Reading.{Bounds}
+use Rattle.machine_image.specs.Vocabulary.{counts_of, ImageValue, two, four, on_at, tables_on, closed_in, flags_of, table_bytes, IsImage, image_bytes, Bounds}
 use Rattle.machine_image.proofs.Counted.{at_most_len}
 
 -- each item of a list

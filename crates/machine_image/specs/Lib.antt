@@ -4,3 +4,4 @@ pub mod Faults
 pub mod Fields
 pub mod Parts
 pub mod Reading
+pub mod Vocabulary

@@ -1,8 +1,6 @@
 //! What later crates rest on, of images and their runs.
 ghost use Rattle.std.specs.Prelude.{◌≡◌, Bool, List, map};
-ghost use Rattle.machine_meaning.specs.Circuit.{Pins};
-ghost use Rattle.machine_meaning.specs.Defects.{Defects, Covers};
-ghost use Rattle.machine_meaning.specs.Faults.{Faults};
+ghost use Rattle.machine_meaning.specs.Vocabulary.{Pins, Defects, Covers, Faults};
 ghost use Rattle.machine_config.specs.Faulty.{IsRun};
 ghost use Rattle.machine_image.specs.Images.{ImageValue, IsImage, drive_of, image_row};
 ghost use Rattle.machine_image.specs.Parts.{IsFreeImage};

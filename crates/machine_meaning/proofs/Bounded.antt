@@ -2,9 +2,7 @@
 use Rattle.std.proofs.Common.{◌≡◌, ℕ, Bool, true, Some, None, Option, refl}
 use Rattle.machine_shape.specs.declared.Shape.{Shape}
 use Rattle.machine_shape.specs.Shape.{Ends, ends_of}
-use Rattle.machine_meaning.specs.Faults.{Faults, stuck_cross}
-use Rattle.machine_meaning.specs.Joined.{Linked, crossed, bridged, Joined, here, then, net_of}
-use Rattle.machine_meaning.specs.Sound.{IsSoundWire}
+use Rattle.machine_meaning.specs.Vocabulary.{Faults, stuck_cross, Linked, crossed, bridged, Joined, here, then, net_of, IsSoundWire}
 
 module _ (m : Shape) (f : Faults) (closed within : ℕ → Bool) (sound : (w : ℕ) → within w ≡ true → IsSoundWire m f w) (stay : (x a b : ℕ) → closed x ≡ true → Ends (ends_of m x) a b → within a ≡ true → within b ≡ true) where
   stays_within : {a b : ℕ} → within a ≡ true → Linked (net_of m f closed) a b → within b ≡ true

@@ -1,10 +1,7 @@
 -- A sound wire is shorted to no stuck wire, and to no other wire.
 use Rattle.std.proofs.Common.{◌≡◌, ◌≢◌, ℕ, None, sym, subst}
 use Rattle.machine_shape.specs.declared.Shape.{Shape}
-use Rattle.machine_meaning.specs.Faults.{Faults, stuck_wire}
-use Rattle.machine_meaning.specs.Joined.{Shorted}
-use Rattle.machine_meaning.specs.Defects.{IsClear}
-use Rattle.machine_meaning.specs.Sound.{IsSoundWire}
+use Rattle.machine_meaning.specs.Vocabulary.{Faults, stuck_wire, Shorted, IsClear, IsSoundWire}
 
 pub clear_of_sound : {m : Shape} {f : Faults} {w : ℕ} → IsSoundWire m f w → IsClear m f w
 clear_of_sound {f = f} s u j = subst (λ v. stuck_wire f v ≡ None) (sym (s.alone u j)) s.not_stuck

@@ -2,9 +2,7 @@
 use Rattle.std.proofs.Common.{◌≡◌, ℕ, ◌<◌, Bool, true, Some, None, Option, refl, subst}
 use Rattle.machine_shape.specs.declared.Shape.{Shape}
 use Rattle.machine_shape.specs.Shape.{Ends, in_order, turned, ends_of, wires_of, crosses_of}
-use Rattle.machine_meaning.specs.Faults.{Faults, stuck_cross, stuck_wire}
-use Rattle.machine_meaning.specs.Joined.{Linked, crossed, bridged, Joined, here, then, Shorted, net_of, plain_net}
-use Rattle.machine_meaning.specs.Defects.{Defects, IsFreeWire, IsFreeCross, Covers}
+use Rattle.machine_meaning.specs.Vocabulary.{Faults, stuck_cross, stuck_wire, Linked, crossed, bridged, Joined, here, then, Shorted, net_of, plain_net, Defects, IsFreeWire, IsFreeCross, Covers}
 use Rattle.machine_meaning.proofs.JoinedLemmas.{Ends-swap}
 
 -- v is shorted to a free wire that the closed crosspoints alone join to w

@@ -1,13 +1,8 @@
 -- What a fair list leaves free of served nodes.
 use Rattle.std.proofs.Common.{◌≡◌, ℕ, ◌<◌, sym, subst}
 use Rattle.machine_shape.specs.declared.Shape.{Shape}
-use Rattle.machine_shape.specs.Laws.{IsNumbered, IsTree, HasMeanings, HasCrosses, HasParents}
-use Rattle.machine_shape.specs.Shape.{ends_of, pin_wire, table_wire, pins_of, wires_of, crosses_of, tables_of, node_of, hextant_of, IsLine, IsPort, is_line, is_port}
-use Rattle.machine_meaning.specs.Faults.{Faults}
-use Rattle.machine_meaning.specs.Sound.{IsSoundWire, IsSoundCross, IsSoundTable, IsWholeLine, HasTwo, IsServed}
-use Rattle.machine_meaning.specs.Defects.{Defects, IsFreeWire, IsFreeTable, IsOpenLine, IsOfUse, IsFair}
-use Rattle.machine_meaning.specs.Served.{IsEmptyOf, HasServed}
-use Rattle.machine_shape.specs.Laws.{HasHomes}
+use Rattle.machine_shape.specs.Vocabulary.{IsNumbered, IsTree, HasMeanings, HasCrosses, HasParents, ends_of, pin_wire, table_wire, pins_of, wires_of, crosses_of, tables_of, node_of, hextant_of, IsLine, IsPort, is_line, is_port, HasHomes}
+use Rattle.machine_meaning.specs.Vocabulary.{Faults, IsSoundWire, IsSoundCross, IsSoundTable, IsWholeLine, HasTwo, IsServed, Defects, IsFreeWire, IsFreeTable, IsOpenLine, IsOfUse, IsFair, IsEmptyOf, HasServed}
 
 module _ (m : Shape) (tree : IsTree m) where
   -- in its node a line of use has two sound crosspoints

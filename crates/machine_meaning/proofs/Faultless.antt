@@ -1,12 +1,8 @@
 -- Without faults every wire is sound.
-use Rattle.std.proofs.Common.{◌≡◌, ℕ, false, refl, sym, ap, ◌∙◌}
-use Rattle.std.specs.Prelude.{unwrap_or}
+use Rattle.std.proofs.Common.{◌≡◌, ℕ, false, refl, sym, ap, ◌∙◌, unwrap_or}
 use Rattle.std.proofs.lemmas.Bool.{false≢true}
 use Rattle.machine_shape.specs.declared.Shape.{Shape}
-use Rattle.machine_meaning.specs.Faults.{Faults, IsFaultless}
-use Rattle.machine_meaning.specs.Joined.{here, then, crossed, bridged, Shorted}
-use Rattle.machine_meaning.specs.Sound.{IsSoundWire}
-use Rattle.machine_meaning.specs.Defects.{Defects, Covers}
+use Rattle.machine_meaning.specs.Vocabulary.{Faults, IsFaultless, here, then, crossed, bridged, Shorted, IsSoundWire, Defects, Covers}
 use Rattle.machine_meaning.proofs.Clear.{clear_of_sound}
 
 shorted_to_itself : {m : Shape} {f : Faults} {w u : ℕ} → IsFaultless f → Shorted m f w u → u ≡ w

@@ -1,12 +1,9 @@
 -- What a list that covers the faults has to list.
-use Rattle.std.proofs.Common.{◌≡◌, ◌≢◌, ℕ, ◌<◌, true, Option, None, refl, subst}
-use Rattle.std.specs.Prelude.{IsSome}
+use Rattle.std.proofs.Common.{◌≡◌, ◌≢◌, ℕ, ◌<◌, true, Option, None, refl, subst, IsSome}
 use Rattle.std.proofs.lemmas.Bool.{false≢true}
 use Rattle.machine_shape.specs.declared.Shape.{Shape}
 use Rattle.machine_shape.specs.Shape.{in_order, wires_of, crosses_of, tables_of}
-use Rattle.machine_meaning.specs.Faults.{Faults, stuck_wire, stuck_cross, wrong_cell, stuck_register, is_bridge}
-use Rattle.machine_meaning.specs.Joined.{here, then, bridged}
-use Rattle.machine_meaning.specs.Defects.{Defects, Covers, IsFreeWire, IsFreeCross, IsFreeTable}
+use Rattle.machine_meaning.specs.Vocabulary.{Faults, stuck_wire, stuck_cross, wrong_cell, stuck_register, is_bridge, here, then, bridged, Defects, Covers, IsFreeWire, IsFreeCross, IsFreeTable}
 
 not_some : {A : Type 0} {o : Option A} → o ≡ None → ¬ IsSome o
 not_some {A} e s = let f : IsSome {T = A} None = subst IsSome e s in absurd (false≢true f)

@@ -1,11 +1,9 @@
 -- Laws of joined wires.
-use Rattle.std.proofs.Common.{◌≡◌, ℕ, Bool, true, false, Some, None, Option}
-use Rattle.std.specs.Prelude.{unwrap_or}
+use Rattle.std.proofs.Common.{◌≡◌, ℕ, Bool, true, false, Some, None, Option, unwrap_or}
 use Rattle.std.proofs.lemmas.Bool.{false≢true}
 use Rattle.machine_shape.specs.declared.Shape.{Shape}
 use Rattle.machine_shape.specs.Shape.{Ends, in_order, turned}
-use Rattle.machine_meaning.specs.Faults.{Faults, stuck_cross}
-use Rattle.machine_meaning.specs.Joined.{Net, Linked, crossed, bridged, Joined, here, then, net_of, Shorted}
+use Rattle.machine_meaning.specs.Vocabulary.{Faults, stuck_cross, Net, Linked, crossed, bridged, Joined, here, then, net_of, Shorted}
 
 pub Ends-swap : {p : ℕ × ℕ} {a b : ℕ} → Ends p a b → Ends p b a
 Ends-swap (in_order s t) = turned s t

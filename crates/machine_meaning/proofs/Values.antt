@@ -2,9 +2,7 @@
 use Rattle.std.proofs.Common.{◌≡◌, ℕ, Bool, true, false, refl}
 use Rattle.std.proofs.Math.Path.{fun_ext}
 use Rattle.std.proofs.lemmas.Bool.{false≢true}
-use Rattle.machine_meaning.specs.Joined.{Joined}
-use Rattle.machine_meaning.specs.Circuit.{Circuit, Outputs, Pins}
-use Rattle.machine_meaning.specs.Value.{IsHeld, IsPulled, IsValue, held_0, held_1, pulled, released, AreValues}
+use Rattle.machine_meaning.specs.Vocabulary.{Joined, Circuit, Outputs, Pins, IsHeld, IsPulled, IsValue, held_0, held_1, pulled, released, AreValues}
 use Rattle.machine_meaning.proofs.JoinedLemmas.{Joined-trans, Joined-sym}
 
 pub IsHeld-along : {c : Circuit} {v w : ℕ} {b : Bool} → Joined c.net w v → IsHeld c v b → IsHeld c w b

@@ -3,9 +3,7 @@ use Rattle.std.proofs.Common.{◌≡◌, ◌⊎◌, ℕ, zero, suc, ◌<◌, ◌
 use Rattle.std.proofs.lemmas.Bool.{false≢true}
 use native.Mathlib.Decide.{ℕ_discrete, dec_lt}
 use Rattle.machine_shape.specs.Shape.{Ends, in_order, turned, ends_of, pin_wire, table_wire, pins_of, wires_of, crosses_of, tables_of}
-use Rattle.machine_meaning.specs.Joined.{Net, Linked, crossed, bridged, Joined, here, then}
-use Rattle.machine_meaning.specs.Circuit.{Circuit, Outputs, Pins}
-use Rattle.machine_meaning.specs.Value.{Pulls, by_pin, by_table, IsHeld, IsPulled, IsValue, held_0, held_1, pulled, released, AreValues, IsFinite}
+use Rattle.machine_meaning.specs.Vocabulary.{Net, Linked, crossed, bridged, Joined, here, then, Circuit, Outputs, Pins, Pulls, by_pin, by_table, IsHeld, IsPulled, IsValue, held_0, held_1, pulled, released, AreValues, IsFinite}
 use Rattle.machine_meaning.proofs.JoinedLemmas.{Joined-trans, Linked-sym}
 
 -- deciding

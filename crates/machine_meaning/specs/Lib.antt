@@ -8,3 +8,4 @@ pub mod Defects
 pub mod Served
 pub mod Standing
 pub mod Tight
+pub mod Vocabulary

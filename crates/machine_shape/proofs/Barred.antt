@@ -5,10 +5,7 @@ use Rattle.std.proofs.lemmas.Bool.{cases_lt, lt-ltb, le-ltb, cond-true, cond-fal
 use Rattle.std.proofs.lemmas.Nat.{div-mul-add, mod-mul-add, div-add-mod', div_below, mod_below, row_fits}
 use Rattle.machine_shape.specs.declared.Shape.{Shape}
 use Rattle.machine_shape.specs.declared.way.Crossbar.{Crossbar}
-use Rattle.machine_shape.specs.Counts.{AreFull}
-use Rattle.machine_shape.specs.Bars.{IsBarAt, IsBarFrom, IsNodeBar, FitsBelow, tap_by}
-use Rattle.machine_shape.specs.Walk.{Levels, Path, rest, IsSpot, stop, step, size, start, next, children_in, ports_in, lines_in, wires_in, taps_in, nodes_in, tap_in}
-use Rattle.machine_shape.specs.Shape.{levels_of, wires_of, nodes_of, way_to, ports_of, lines_of, taps_of, tap_at, line_at, port_at}
+use Rattle.machine_shape.specs.Vocabulary.{AreFull, IsBarAt, IsBarFrom, IsNodeBar, FitsBelow, tap_by, Levels, Path, rest, IsSpot, stop, step, size, start, next, children_in, ports_in, lines_in, wires_in, taps_in, nodes_in, tap_in, levels_of, wires_of, nodes_of, way_to, ports_of, lines_of, taps_of, tap_at, line_at, port_at}
 use Rattle.machine_shape.proofs.Taps.{positive_from, ports_in_size, tap_in-own, tap_in-below}
 use Rattle.machine_shape.proofs.Ways.{start_more}
 use Rattle.machine_shape.proofs.Numbering.{way_is}

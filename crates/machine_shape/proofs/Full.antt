@@ -8,9 +8,7 @@ use Rattle.machine_shape.specs.declared.Field.{Field}
 use Rattle.machine_shape.specs.declared.Field.TheVariants.{Modules, Chips, Hextants, Tables, Ports, Lines, Pins}
 use Rattle.machine_shape.specs.declared.LimitedCount.{LimitedCount}
 use Rattle.machine_shape.specs.declared.LimitedCount.TheVariants as which
-use Rattle.machine_shape.specs.Counts.{levels_from, AreFull, IsFull}
-use Rattle.machine_shape.specs.Limits.{HasZero, amount_of, most_of}
-use Rattle.machine_shape.specs.Walk.{Levels, size, wires_in, nodes_in, crosses_in, tables_in}
+use Rattle.machine_shape.specs.Vocabulary.{levels_from, AreFull, IsFull, HasZero, amount_of, most_of, Levels, size, wires_in, nodes_in, crosses_in, tables_in}
 
 -- no element is 0, at each place
 pub positive : (xs : List ℕ) → ((k d : ℕ) → 0 ≤ k → k < length xs → nat_eq (get_or xs k d) 0 ≡ false) → (k : ℕ) → k < length xs → 0 < get_or xs k 0

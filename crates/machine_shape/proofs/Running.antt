@@ -3,8 +3,7 @@ use Rattle.std.proofs.Common.{◌≡◌, ℕ, zero, suc, ◌+◌, ◌-◌, ◌<�
 use Rattle.std.proofs.Math.Nat.{le-mul_of_pos_right}
 use Rattle.std.proofs.Math.Seq.{take-length}
 use Rattle.std.proofs.lemmas.Nat.{row_fits}
-use Rattle.machine_shape.specs.Counts.{AreFull}
-use Rattle.machine_shape.specs.Walk.{Levels, Path, Own, IsSpot, stop, step, size, start, place_in, taps_in, crosses_in}
+use Rattle.machine_shape.specs.Vocabulary.{AreFull, Levels, Path, Own, IsSpot, stop, step, size, start, place_in, taps_in, crosses_in}
 use Rattle.machine_shape.proofs.Walks.{first_place}
 
 -- all but the first

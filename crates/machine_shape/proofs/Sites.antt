@@ -3,10 +3,7 @@ use Rattle.std.proofs.Common.{◌<◌, ◌^◌, arith}
 use Rattle.machine_shape.specs.declared.Shape.{Shape}
 use Rattle.machine_shape.specs.declared.way.Kind.{Kind}
 use Rattle.machine_shape.specs.declared.way.Kind.TheVariants.{Wires, Nodes, Tables, Crosses}
-use Rattle.machine_shape.specs.Counts.{AreFull}
-use Rattle.machine_shape.specs.Kinds.{numbers_in}
-use Rattle.machine_shape.specs.Walk.{size}
-use Rattle.machine_shape.specs.Shape.{levels_of}
+use Rattle.machine_shape.specs.Vocabulary.{AreFull, numbers_in, size, levels_of}
 
 pub full_of : (m : Shape) → AreFull (levels_of m)
 unfolding levels_of

@@ -1,6 +1,5 @@
 -- The walk by weights is the walk by levels.
-use Rattle.std.proofs.Common.{◌≡◌, ℕ, zero, suc, ◌+◌, ◌*◌, ◌/◌, ◌%◌, ◌-◌, ◌<◌, ◌≤◌, ◌^◌, if◌then◌else◌, ltb, List, [], ◌∷◌, length, drop, refl, sym, ap, ◌∙◌, subst, arith}
-use Rattle.std.specs.Prelude.{slice_index_or}
+use Rattle.std.proofs.Common.{◌≡◌, ℕ, zero, suc, ◌+◌, ◌*◌, ◌/◌, ◌%◌, ◌-◌, ◌<◌, ◌≤◌, ◌^◌, if◌then◌else◌, ltb, List, [], ◌∷◌, length, drop, refl, sym, ap, ◌∙◌, subst, arith, slice_index_or}
 use Rattle.std.proofs.lemmas.Nat.{div-mul-add, mod-mul-add, div_below, mod_below, row_fits}
 use Rattle.machine_shape.specs.declared.Level.{Level}
 use Rattle.machine_shape.specs.declared.Shape.{Shape}
@@ -8,11 +7,7 @@ use Rattle.machine_shape.specs.declared.way.Crossbar.{Crossbar}
 use Rattle.machine_shape.specs.declared.way.Kind.{Kind}
 use Rattle.machine_shape.specs.declared.way.Weight.{Weight}
 use Rattle.machine_shape.specs.declared.way.Weights.{Weights}
-use Rattle.machine_shape.specs.Bars.{FitsBelow}
-use Rattle.machine_shape.specs.Kinds.{numbers_in}
-use Rattle.machine_shape.specs.Shape.{levels_of}
-use Rattle.machine_shape.specs.Walk.{Levels, Path, Place, Own, IsSpot, stop, step, rest, next, size, start, under, place_in, wires_in}
-use Rattle.machine_shape.specs.Weights.{Fits, IsStep, last, further, weights_in, weights_at, place_by, start_by, each_by}
+use Rattle.machine_shape.specs.Vocabulary.{FitsBelow, numbers_in, levels_of, Levels, Path, Place, Own, IsSpot, stop, step, rest, next, size, start, under, place_in, wires_in, Fits, IsStep, last, further, weights_in, weights_at, place_by, start_by, each_by}
 use Rattle.machine_shape.proofs.Barred.{rest-drop}
 use Rattle.machine_shape.proofs.Running.{own_small, start_small}
 use Rattle.machine_shape.proofs.Sites.{full_of, small_of}

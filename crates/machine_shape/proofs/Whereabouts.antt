@@ -1,8 +1,7 @@
 -- The nodes of wires, tables and crosspoints, as the code finds them.
 use Rattle.std.proofs.Common.{◌≡◌, ℕ, zero, suc, ◌-◌, ◌<◌, ◌≤◌, List, [], ◌∷◌, length, take, Some, refl, sym, ◌∙◌, subst, arith}
 use Rattle.machine_shape.specs.declared.Shape.{Shape}
-use Rattle.machine_shape.specs.Walk.{Path, IsPlaceOf, IsSpot, trunk, above, wires_in}
-use Rattle.machine_shape.specs.Shape.{levels_of, wires_of, crosses_of, tables_of, nodes_of, way_to, way_to_table, place_of, place_of_cross, node_at, node_of, node_of_cross, hextant_of, parent_in, parent_of}
+use Rattle.machine_shape.specs.Vocabulary.{Path, IsPlaceOf, IsSpot, trunk, above, wires_in, levels_of, wires_of, crosses_of, tables_of, nodes_of, way_to, way_to_table, place_of, place_of_cross, node_at, node_of, node_of_cross, hextant_of, parent_in, parent_of}
 use Rattle.machine_shape.proofs.Walks.{placed}
 use Rattle.machine_shape.proofs.Ways.{trunk_is_spot, above_is_spot}
 use Rattle.machine_shape.proofs.Numbering.{way_is, way-node, table_way_is, trunk_in}

@@ -15,3 +15,4 @@ pub mod Kinds
 pub mod Bars
 pub mod Weights
 pub mod Reading
+pub mod Vocabulary

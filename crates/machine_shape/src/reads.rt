@@ -74,7 +74,8 @@ fn read_steps(levels: &[Level], letters: &[u8], text: &[u8]) -> Option<Read>
         [level, rest @ ..] => match letters {
             [] => None,
             [letter, others @ ..] => {
-                let Some(child) = read_numbered(text_before(text, dot), *letter, level.children) else {
+                let Some(child) = read_numbered(text_before(text, dot), *letter, level.children)
+                else {
                     return None;
                 };
                 let Some(read) = read_steps(rest, others, after(text, dot + 1)) else {

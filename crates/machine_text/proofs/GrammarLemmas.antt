@@ -1,12 +1,9 @@
 -- What is read without a fault is the text of a machine, and the text of a machine is read.
-use Rattle.std.proofs.Common.{◌≡◌, ℕ, zero, suc, ◌+◌, ◌*◌, ◌++◌, length-append, ◌<◌, ◌≤◌, ◌==◌, Bool, true, false, not, nat_lt, List, [], ◌∷◌, Option, Some, None, Result, Ok, Err, length, map, drop, get_or, refl, sym, ap, ◌∙◌, subst, arith, inl, inr, if◌then◌else◌, codes}
+use Rattle.std.proofs.Common.{◌≡◌, ℕ, zero, suc, ◌+◌, ◌*◌, ◌++◌, length-append, ◌<◌, ◌≤◌, ◌==◌, Bool, true, false, not, nat_lt, List, [], ◌∷◌, Option, Some, None, Result, Ok, Err, length, map, drop, get_or, refl, sym, ap, ◌∙◌, subst, arith, inl, inr, if◌then◌else◌, codes, find, take, Contains, IfOk, IfErr}
 use Rattle.std.specs.Fmt.{decimal}
 use Rattle.std.specs.List.{list_all, flat_map, All}
 use Rattle.std.specs.Str.{bytes_eq}
-use Rattle.std.specs.Prelude.{find}
 use Rattle.std.proofs.lemmas.Bool.{cases_Bool, and_parts, and_from, ltb-true, eqb-true, eq-eqb, not-false, false≢true, lt-ltb}
-use Rattle.std.proofs.Common.{take}
-use Rattle.std.specs.Prelude.{Contains}
 use Rattle.std.proofs.lemmas.List.Elements.{All-append}
 use Rattle.machine_shape.specs.declared.Field.TheVariants as field
 use Rattle.std.proofs.lemmas.Grind.{flat_map-append, get_or_default_zero}
@@ -15,15 +12,11 @@ use Rattle.std.proofs.lemmas.Fmt.{decimal_digit, length-decimal-le}
 use Rattle.std.proofs.lemmas.Slice.Eq.{bytes_eq-Decides}
 use Rattle.machine_shape.specs.declared.Counts.{Counts}
 use Rattle.machine_shape.specs.Limits.{MakeShape}
-use Rattle.base_text.specs.Lines.{LogicalLine, logical_lines, is_bad_line}
-use Rattle.std.specs.Prelude.{IfOk, IfErr}
-use Rattle.base_text.specs.Bytes.{has_bad_byte}
-use Rattle.base_text.specs.Written.{IsWord, AreRows, numbered, written, written_line, spaced}
+use Rattle.base_text.specs.Vocabulary.{LogicalLine, logical_lines, is_bad_line, has_bad_byte, IsWord, AreRows, numbered, written, written_line, spaced, most_bytes}
 use Rattle.base_text.proofs.WrittenLemmas.{decimal_word, sound_words, lines_back}
 use Rattle.machine_shape.specs.declared.Shape.{Shape}
 use Rattle.machine_text.specs.declared.kind.MachineFault.{MachineFault}
 use Rattle.machine_text.specs.declared.kind.MachineFault.TheVariants.{At, Memory}
-use Rattle.base_text.specs.Size.{most_bytes}
 use Rattle.machine_text.specs.Faults.{GivesOrLacks}
 use Rattle.machine_text.specs.Readers.{IsReadFault}
 use Rattle.machine_text.specs.declared.head.Head.{Head}

@@ -6,8 +6,7 @@ use Rattle.machine_shape.specs.declared.Counts.{Counts}
 use Rattle.machine_shape.specs.declared.Shape.{Shape}
 use Rattle.machine_shape.specs.declared.LimitedCount.{LimitedCount}
 use Rattle.machine_shape.specs.Limits.{MakeShape, amount_of, most_of}
-use Rattle.base_text.specs.Lines.{LogicalLine, logical_lines, is_bad_line}
-use Rattle.base_text.specs.Size.{most_bytes}
+use Rattle.base_text.specs.Vocabulary.{LogicalLine, logical_lines, is_bad_line, most_bytes}
 use Rattle.machine_text.specs.declared.head.Head.{Head}
 use Rattle.machine_text.specs.declared.head.Head.TheVariants as head
 use Rattle.machine_text.specs.declared.kind.MachineKind.{MachineKind}

@@ -3,8 +3,7 @@ use Rattle.std.specs.Prelude.{ℕ, ◌≡◌, ◌<◌, ◌≤◌, false, List, [
 use Rattle.std.specs.Fmt.{decimal}
 use Rattle.machine_shape.specs.declared.Counts.{Counts}
 use Rattle.machine_shape.specs.Limits.{MakeShape}
-use Rattle.base_text.specs.Lines.{logical_lines}
-use Rattle.base_text.specs.Written.{written}
+use Rattle.base_text.specs.Vocabulary.{logical_lines, written}
 use Rattle.machine_text.specs.declared.head.Head.{Head}
 use Rattle.machine_text.specs.declared.head.Head.TheVariants as head
 use Rattle.machine_text.specs.Heads.{heads, word_of}

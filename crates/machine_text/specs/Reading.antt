@@ -8,8 +8,7 @@ use Rattle.std.specs.Fmt.{decimal}
 use Rattle.machine_shape.specs.declared.Counts.{Counts}
 use Rattle.machine_shape.specs.declared.LimitedCount.TheVariants.{Tables, Wires, Crosspoints}
 use Rattle.machine_shape.specs.Limits.{amount_of}
-use Rattle.base_text.specs.Lines.{LogicalLine, is_bad_line}
-use Rattle.base_text.specs.Number.{read_on}
+use Rattle.base_text.specs.Vocabulary.{LogicalLine, is_bad_line, read_on}
 use Rattle.machine_text.specs.declared.head.Head.{Head}
 use Rattle.machine_text.specs.declared.head.Head.TheVariants as head
 use Rattle.machine_text.specs.declared.kind.MachineKind.{MachineKind}

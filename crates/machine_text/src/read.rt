@@ -3,8 +3,7 @@
 ghost use Rattle.std.specs.Prelude.{◌≡◌, ◌≤◌, false, length, None, Some, Ok, Err, IfOk, IfErr};
 ghost use Rattle.machine_shape.specs.declared.Counts.{Counts};
 ghost use Rattle.machine_shape.specs.Limits.{MakeShape};
-ghost use Rattle.base_text.specs.Lines.{logical_lines};
-ghost use Rattle.base_text.specs.Size.{most_bytes};
+ghost use Rattle.base_text.specs.Vocabulary.{logical_lines, most_bytes};
 ghost use Rattle.machine_text.specs.Faults.{IsRefusedAs, GivesOrLacks};
 ghost use Rattle.machine_text.specs.Machine.{IsMachine};
 ghost use Rattle.machine_text.specs.Readers.{state_of, IsReader, IsReadFault};

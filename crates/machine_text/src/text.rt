@@ -2,8 +2,7 @@
 
 ghost use Rattle.std.specs.Prelude.{◌≡◌, ◌≤◌, ◌++◌, ◌∷◌, [], ◌<◌, length, map, OnOk, IfOk, All};
 ghost use Rattle.std.specs.Fmt.{decimal};
-ghost use Rattle.base_text.specs.Written.{written_line};
-ghost use Rattle.base_text.specs.Size.{most_bytes};
+ghost use Rattle.base_text.specs.Vocabulary.{written_line, most_bytes};
 ghost use Rattle.machine_text.specs.Heads.{heads};
 ghost use Rattle.machine_text.specs.Machine.{IsMachine, numbers_of, count_row, text_of};
 

@@ -1,6 +1,5 @@
 -- Cycles in which all tables are evaluated, in order.
-use Rattle.std.proofs.Common.{◌≡◌, ◌⊎◌, Bool, ℕ, zero, suc, ◌+◌, ◌*◌, ◌<◌, ◌≤◌, List, [], ◌∷◌, ◌++◌, true, false, length, map, get_or, set, nat_lt, refl, sym, ap, subst, ◌∙◌, inl, inr, arith}
-use Rattle.std.specs.Prelude.{slice_index_or, if◌then◌else◌}
+use Rattle.std.proofs.Common.{◌≡◌, ◌⊎◌, Bool, ℕ, zero, suc, ◌+◌, ◌*◌, ◌<◌, ◌≤◌, List, [], ◌∷◌, ◌++◌, true, false, length, map, get_or, set, nat_lt, refl, sym, ap, subst, ◌∙◌, inl, inr, arith, slice_index_or, if◌then◌else◌}
 use Rattle.std.specs.List.{range_with_len, Contains}
 use Rattle.std.proofs.lemmas.Bool.{cases_eq, cases_lt}
 use Rattle.std.proofs.lemmas.Bool.Decides.{nat_tests}
@@ -10,8 +9,7 @@ use Rattle.map_network.specs.declared.source.Source.{Source}
 use Rattle.map_network.specs.declared.source.Source.TheVariants.{Input, Table}
 use Rattle.map_network.specs.declared.network.NetTable.{NetTable}
 use Rattle.map_network.specs.declared.network.Network.{Network}
-use Rattle.map_network.specs.Networks.{no_table, table_at, IsSourceOf, IsCombinational, IsLatched}
-use Rattle.map_network.specs.Rows.{bit_of, cell_at, number_of, pins_of, truth, outputs_in, next_state, RowsFrom, IsNetworkValuation}
+use Rattle.map_network.specs.Vocabulary.{no_table, table_at, IsSourceOf, IsCombinational, IsLatched, bit_of, cell_at, number_of, pins_of, truth, outputs_in, next_state, RowsFrom, IsNetworkValuation}
 use Rattle.map_eval.specs.declared.plan.Plan.{Plan}
 use Rattle.map_eval.specs.declared.state.State.{State}
 use Rattle.map_eval.specs.Pins.{signal_of, source_at, AreInRange}

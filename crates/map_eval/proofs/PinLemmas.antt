@@ -7,8 +7,7 @@ use Rattle.std.proofs.lemmas.List.{get_or-set_same, get_or-set_other, length-set
 use Rattle.map_network.specs.declared.source.Source.{Source}
 use Rattle.map_network.specs.declared.source.Source.TheVariants.{Input, Table}
 use Rattle.map_network.specs.declared.network.Network.{Network}
-use Rattle.map_network.specs.Networks.{table_at, IsSourceOf}
-use Rattle.map_network.specs.Merging.{Reads}
+use Rattle.map_network.specs.Vocabulary.{table_at, IsSourceOf, Reads}
 use Rattle.map_eval.specs.declared.pins.Pin.{Pin}
 use Rattle.map_eval.specs.Pins.{signal_of, source_at, signal_at, AreInRange, pin_of, no_pin, pin_at, pins_at, IsAmong, AreApart, IsBefore, ReadsSignal, ArePinsTo, ArePins}
 use Rattle.map_eval.specs.Turns.{ArePinsIn}

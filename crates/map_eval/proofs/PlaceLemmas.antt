@@ -6,9 +6,7 @@ use Rattle.map_network.specs.declared.source.Source.{Source}
 use Rattle.map_network.specs.declared.source.Source.TheVariants.{Input, Table}
 use Rattle.map_network.specs.declared.network.NetTable.{NetTable}
 use Rattle.map_network.specs.declared.network.Network.{Network}
-use Rattle.map_network.specs.Networks.{no_table, table_at, IsNetwork, IsSourceOf, IsCombinational}
-use Rattle.map_network.specs.Levels.{source_at, AreSourcesIn, IsSourceIn}
-use Rattle.map_network.specs.Compacting.{named_by, renamed, renamed_table}
+use Rattle.map_network.specs.Vocabulary.{no_table, table_at, IsNetwork, IsSourceOf, IsCombinational, source_at, AreSourcesIn, IsSourceIn, named_by, renamed, renamed_table}
 use Rattle.map_eval.specs.Placing.{AreInverse, ArePlaced, IsPlaced}
 
 -- one more table of the order

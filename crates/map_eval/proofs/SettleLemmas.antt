@@ -1,15 +1,12 @@
 -- Combinational tables that are evaluated.
-use Rattle.std.proofs.Common.{◌≡◌, ◌⊎◌, Bool, ℕ, ◌+◌, ◌*◌, ◌/◌, ◌%◌, ◌<◌, ◌≤◌, ◌&&◌, ◌||◌, ◌==◌, List, true, false, length, get_or, refl, sym, ap, subst, ◌∙◌, inl, inr, arith, bit_and, bit_or, nat_eq}
-use Rattle.std.specs.Prelude.{not}
+use Rattle.std.proofs.Common.{◌≡◌, ◌⊎◌, Bool, ℕ, ◌+◌, ◌*◌, ◌/◌, ◌%◌, ◌<◌, ◌≤◌, ◌&&◌, ◌||◌, ◌==◌, List, true, false, length, get_or, refl, sym, ap, subst, ◌∙◌, inl, inr, arith, bit_and, bit_or, nat_eq, not}
 use Rattle.std.proofs.lemmas.Bool.{cases_eq, eqb-true}
 use Rattle.std.proofs.lemmas.List.{get_or_default}
 use Rattle.std.proofs.lemmas.Nat.{le_or_l, le_or_r}
 use Rattle.map_network.specs.declared.source.Source.{Source}
 use Rattle.map_network.specs.declared.source.Source.TheVariants.{Input, Table}
 use Rattle.map_network.specs.declared.network.Network.{Network}
-use Rattle.map_network.specs.Networks.{table_at, no_table, IsCombinational, IsLatched}
-use Rattle.map_network.specs.Rows.{cell_at}
-use Rattle.map_network.specs.Merging.{Reads}
+use Rattle.map_network.specs.Vocabulary.{table_at, no_table, IsCombinational, IsLatched, cell_at, Reads}
 use Rattle.map_network.proofs.CellLemmas.{cell_and}
 use Rattle.map_eval.specs.declared.plan.Plan.{Plan}
 use Rattle.map_eval.specs.declared.state.State.{State}

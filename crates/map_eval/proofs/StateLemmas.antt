@@ -1,6 +1,5 @@
 -- Addresses and masks while signals change.
-use Rattle.std.proofs.Common.{◌≡◌, ◌⊎◌, Bool, ℕ, zero, suc, ◌+◌, ◌*◌, ◌-◌, ◌<◌, ◌≤◌, ◌==◌, List, ◌++◌, take, drop, true, false, length, map, get_or, set, refl, sym, ap, subst, ◌∙◌, inl, inr, arith}
-use Rattle.std.specs.Prelude.{not, slice_index_or}
+use Rattle.std.proofs.Common.{◌≡◌, ◌⊎◌, Bool, ℕ, zero, suc, ◌+◌, ◌*◌, ◌-◌, ◌<◌, ◌≤◌, ◌==◌, List, ◌++◌, take, drop, true, false, length, map, get_or, set, refl, sym, ap, subst, ◌∙◌, inl, inr, arith, not, slice_index_or}
 use Rattle.std.specs.Int.{bit_at}
 use Rattle.std.specs.Vec.{with_items}
 use Rattle.std.specs.Global.{Vec}
@@ -13,11 +12,8 @@ use Rattle.std.proofs.lemmas.Nat.Bits.{same_from_bits_below, bit_at-lt}
 use Rattle.map_network.specs.declared.source.Source.{Source}
 use Rattle.map_network.specs.declared.source.Source.TheVariants.{Input, Table}
 use Rattle.map_network.specs.declared.network.Network.{Network}
-use Rattle.map_network.specs.Networks.{table_at, IsSourceOf, IsCombinational, IsLatched}
-use Rattle.map_network.specs.Rows.{bit_of, cell_at, number_of, pins_of, truth}
-use Rattle.map_network.specs.Plain.{flip}
-use Rattle.map_network.specs.Merging.{Reads}
-use Rattle.map_network.proofs.CellLemmas.{cell_not, cell_of_number, number_of_six}
+use Rattle.map_network.specs.Vocabulary.{table_at, IsSourceOf, IsCombinational, IsLatched, bit_of, cell_at, number_of, pins_of, truth, flip, Reads}
+use Rattle.map_network.proofs.CellLemmas.{cell_not, cell_of_number, number_of_six, bit_of_cell}
 use Rattle.map_eval.specs.declared.pins.Pin.{Pin}
 use Rattle.map_eval.specs.declared.plan.Plan.{Plan}
 use Rattle.map_eval.specs.declared.state.State.{State}
@@ -26,7 +22,6 @@ use Rattle.map_eval.specs.Marks.{number_at, is_marked, differs, AreMarked}
 use Rattle.map_eval.specs.Turns.{AreLow, ArePinsIn, AreTurned}
 use Rattle.map_eval.specs.States.{value_in, pin_bit, HavePins, HaveMasks, IsPlan, IsKept}
 use Rattle.map_eval.specs.Changes.{differs_in, AreOthersAsBefore, IsTurnedAt, IsEvaluated}
-use Rattle.map_network.proofs.CellLemmas.{bit_of_cell}
 use Rattle.map_eval.proofs.PinLemmas.{pins_in, is_listed, is_read, reads_of}
 
 -- the source gives the other bit exactly where the signal is its own

@@ -1,11 +1,9 @@
 -- Pins that are turned, one after the other.
-use Rattle.std.proofs.Common.{◌≡◌, ◌⊎◌, Bool, ℕ, zero, suc, ◌+◌, ◌^◌, ◌<◌, ◌≤◌, ◌==◌, List, true, false, length, get_or, set, refl, sym, ap, subst, ◌∙◌, inl, inr, arith}
-use Rattle.std.specs.Prelude.{not}
+use Rattle.std.proofs.Common.{◌≡◌, ◌⊎◌, Bool, ℕ, zero, suc, ◌+◌, ◌^◌, ◌<◌, ◌≤◌, ◌==◌, List, true, false, length, get_or, set, refl, sym, ap, subst, ◌∙◌, inl, inr, arith, not}
 use Rattle.std.specs.Int.{bit_at}
 use Rattle.std.proofs.lemmas.Bool.{cases_eq}
 use Rattle.std.proofs.lemmas.List.{get_or-set_same, get_or-set_other, length-set}
-use Rattle.map_network.specs.Rows.{cell_at}
-use Rattle.map_network.specs.Plain.{flip}
+use Rattle.map_network.specs.Vocabulary.{cell_at, flip}
 use Rattle.map_eval.specs.declared.pins.Pin.{Pin}
 use Rattle.map_eval.specs.Pins.{pin_at, pin_of, IsAmong, AreApart}
 use Rattle.map_eval.specs.Marks.{number_at, is_marked, differs, AreMarked}

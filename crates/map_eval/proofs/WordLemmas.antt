@@ -1,13 +1,11 @@
 -- Bits of words and addresses.
-use Rattle.std.proofs.Common.{◌≡◌, ◌⊎◌, Bool, ℕ, zero, suc, ◌+◌, ◌*◌, ◌/◌, ◌%◌, ◌^◌, ◌<◌, ◌≤◌, ◌-◌, ◌==◌, ◌||◌, ◌&&◌, List, true, false, length, set, refl, sym, ap, ◌∙◌, inl, inr, arith, bit_and, bit_or}
-use Rattle.std.specs.Prelude.{not, bit_xor}
+use Rattle.std.proofs.Common.{◌≡◌, ◌⊎◌, Bool, ℕ, zero, suc, ◌+◌, ◌*◌, ◌/◌, ◌%◌, ◌^◌, ◌<◌, ◌≤◌, ◌-◌, ◌==◌, ◌||◌, ◌&&◌, List, true, false, length, set, refl, sym, ap, ◌∙◌, inl, inr, arith, bit_and, bit_or, not, bit_xor}
 use Rattle.std.specs.Int.{bit_at}
 use Rattle.std.proofs.lemmas.Nat.{and_le_l, xor_lt, pow_below}
 use Rattle.std.proofs.lemmas.Bool.{cases_eq, cases_lt}
 use Rattle.std.proofs.lemmas.List.{get_or-set_same, get_or-set_other, get_or_past}
 use Rattle.std.proofs.lemmas.Nat.Bits.{bit_at_xor, bit_at-pow_same, bit_at-pow_other, bit_at-lt}
-use Rattle.map_network.specs.Rows.{cell_at}
-use Rattle.map_network.specs.Plain.{flip}
+use Rattle.map_network.specs.Vocabulary.{cell_at, flip}
 use Rattle.map_network.proofs.CellLemmas.{bit_of_cell, cell_or, cell_and, cell_not, cell_zero}
 use Rattle.design_netlist.proofs.BitLemmas.{two_bits}
 use Rattle.map_eval.specs.Marks.{number_at, is_marked, differs, AreMarked, AreMarkedTo}

@@ -1,9 +1,7 @@
 -- Latched tables that take what they read.
 use Rattle.std.specs.Prelude.{◌≡◌, ◌+◌, ◌*◌, ◌<◌, ℕ, List, true, false, length}
 use Rattle.map_network.specs.declared.network.Network.{Network}
-use Rattle.map_network.specs.Networks.{IsLatched}
-use Rattle.map_network.specs.Rows.{cell_at}
-use Rattle.map_network.specs.Plain.{flip}
+use Rattle.map_network.specs.Vocabulary.{IsLatched, cell_at, flip}
 use Rattle.map_eval.specs.declared.plan.Plan.{Plan}
 use Rattle.map_eval.specs.declared.state.State.{State}
 use Rattle.map_eval.specs.Marks.{number_at, is_marked}

@@ -2,9 +2,7 @@
 use Rattle.std.specs.Prelude.{◌≡◌, ◌<◌, ◌≤◌, ℕ, List, Bool, length, map, slice_index_or}
 use Rattle.map_network.specs.declared.network.NetTable.{NetTable}
 use Rattle.map_network.specs.declared.network.Network.{Network}
-use Rattle.map_network.specs.Networks.{no_table, table_at, IsSourceOf}
-use Rattle.map_network.specs.Rows.{AreRows}
-use Rattle.map_network.specs.Compacting.{named_by, renamed, renamed_table}
+use Rattle.map_network.specs.Vocabulary.{no_table, table_at, IsSourceOf, AreRows, named_by, renamed, renamed_table}
 use Rattle.map_eval.specs.Pins.{source_at, AreInRange}
 use Rattle.map_eval.specs.States.{IsLower, IsOrdered}
 

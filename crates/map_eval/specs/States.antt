@@ -3,9 +3,7 @@ use Rattle.std.specs.Prelude.{◌≡◌, ◌+◌, ◌/◌, ◌<◌, ◌≤◌, �
 use Rattle.map_network.specs.declared.source.Source.{Source}
 use Rattle.map_network.specs.declared.source.Source.TheVariants.{Input, Table}
 use Rattle.map_network.specs.declared.network.Network.{Network}
-use Rattle.map_network.specs.Networks.{table_at, IsCombinational, IsLatched}
-use Rattle.map_network.specs.Rows.{bit_of, cell_at}
-use Rattle.map_network.specs.Plain.{flip}
+use Rattle.map_network.specs.Vocabulary.{table_at, IsCombinational, IsLatched, bit_of, cell_at, flip}
 use Rattle.map_eval.specs.declared.plan.Plan.{Plan}
 use Rattle.map_eval.specs.declared.state.State.{State}
 use Rattle.map_eval.specs.Pins.{source_at, AreInRange, ArePins}

@@ -4,8 +4,7 @@ use Rattle.std.specs.List.{range_with_len}
 use Rattle.map_network.specs.declared.source.Source.{Source}
 use Rattle.map_network.specs.declared.source.Source.TheVariants.{Input}
 use Rattle.map_network.specs.declared.network.Network.{Network}
-use Rattle.map_network.specs.Networks.{table_at, IsCombinational, IsLatched}
-use Rattle.map_network.specs.Rows.{truth}
+use Rattle.map_network.specs.Vocabulary.{table_at, IsCombinational, IsLatched, truth}
 use Rattle.map_eval.specs.declared.busy.Busy.{Busy}
 use Rattle.map_eval.specs.declared.plan.Plan.{Plan}
 use Rattle.map_eval.specs.declared.state.State.{State}

@@ -3,8 +3,7 @@
 ghost use Rattle.std.specs.Prelude.{◌≡◌, ◌+◌, ◌<◌, ◌≤◌, ◌∷◌, ℕ, List, Bool, true, length, IfOk};
 ghost use Rattle.map_network.specs.Rows.{RowsFrom};
 ghost use Rattle.map_eval.specs.States.{value_in, IsPlan};
-ghost use Rattle.map_eval.specs.Wires.{one_of, AreLatchedSame, AreTablesIn, AreTrueTo, AreWires, HaveInputs, HaveTakenTo};
-ghost use Rattle.map_eval.specs.Wires.{IsBusy, IsShaped};
+ghost use Rattle.map_eval.specs.Wires.{one_of, AreLatchedSame, AreTablesIn, AreTrueTo, AreWires, HaveInputs, HaveTakenTo, IsBusy, IsShaped};
 
 use crate::plan::Plan;
 use crate::showing::show;

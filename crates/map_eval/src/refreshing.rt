@@ -1,8 +1,7 @@
 //! Addresses, masks and marks that are made anew.
 
 ghost use Rattle.std.specs.Prelude.{◌≡◌, ◌≢◌, ◌<◌, ◌≤◌, ℕ, length, true};
-ghost use Rattle.map_network.specs.Plain.{flip};
-ghost use Rattle.map_network.specs.Rows.{cell_at};
+ghost use Rattle.map_network.specs.Vocabulary.{flip, cell_at};
 ghost use Rattle.map_eval.specs.Pins.{AreInRange};
 ghost use Rattle.map_eval.specs.Starting.{HaveAddressesTo, HaveMasksTo, IsAddress};
 ghost use Rattle.map_eval.specs.States.{IsPlan, IsSized, IsKept};

@@ -2,8 +2,7 @@
 
 ghost use Rattle.std.specs.Prelude.{◌≡◌, ◌≢◌, ◌<◌, ◌≤◌, ◌*◌, ◌||◌, ◌==◌, ℕ, true, false, length, MatchOption};
 ghost use Rattle.std.specs.Int.{bit_at};
-ghost use Rattle.map_network.specs.Plain.{flip};
-ghost use Rattle.map_network.specs.Rows.{cell_at};
+ghost use Rattle.map_network.specs.Vocabulary.{flip, cell_at};
 ghost use Rattle.map_eval.specs.Marks.{is_marked, AreMarked};
 ghost use Rattle.map_eval.specs.Turns.{AreLow};
 

@@ -1,6 +1,5 @@
 -- Cells as masks, and the cells of a function.
-use Rattle.std.proofs.Common.{◌≡◌, Bool, ℕ, zero, suc, ◌+◌, ◌-◌, ◌*◌, ◌^◌, ◌<◌, ◌≤◌, ◌&&◌, ◌||◌, List, [], ◌∷◌, true, false, length, drop, map, get_or, refl, sym, ap, subst, ◌∙◌, arith, bit_and, bit_or, w64}
-use Rattle.std.specs.Prelude.{not, if◌then◌else◌, ◌==◌}
+use Rattle.std.proofs.Common.{◌≡◌, Bool, ℕ, zero, suc, ◌+◌, ◌-◌, ◌*◌, ◌^◌, ◌<◌, ◌≤◌, ◌&&◌, ◌||◌, List, [], ◌∷◌, true, false, length, drop, map, get_or, refl, sym, ap, subst, ◌∙◌, arith, bit_and, bit_or, w64, not, if◌then◌else◌, ◌==◌}
 use Rattle.std.specs.Int.{bit_at}
 use native.Mathlib.Numerals.{unary_clauses}
 use Rattle.std.specs.List.{range_with_len}
@@ -14,9 +13,7 @@ use Rattle.design_netlist.specs.Covers.{fits, matches, some_matches}
 use Rattle.design_netlist.proofs.BitLemmas.{halved, lowest, two_bits}
 use Rattle.design_netlist.proofs.LaneLemmas.{and-bit, or-bit}
 use Rattle.map_network.specs.declared.want.Want.{Want}
-use Rattle.map_network.specs.Rows.{number_of, cell_at}
-use Rattle.map_network.specs.Plain.{six_bits, cells_where, every, any, met, pin_named}
-use Rattle.map_network.specs.Cells.{Give, masks_at}
+use Rattle.map_network.specs.Vocabulary.{number_of, cell_at, six_bits, cells_where, every, any, met, pin_named, Give, masks_at}
 
 -- one bit
 

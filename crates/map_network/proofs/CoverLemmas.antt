@@ -1,6 +1,5 @@
 -- The loops that add the tables of rows and covers.
-use Rattle.std.proofs.Common.{◌≡◌, ℕ, zero, suc, ◌+◌, ◌-◌, ◌<◌, ◌≤◌, List, [], ◌∷◌, ◌++◌, false, length, drop, take, get_or, sym, ap, ◌∙◌, arith, sum_by}
-use Rattle.std.specs.Prelude.{All, not, ◌==◌}
+use Rattle.std.proofs.Common.{◌≡◌, ℕ, zero, suc, ◌+◌, ◌-◌, ◌<◌, ◌≤◌, List, [], ◌∷◌, ◌++◌, false, length, drop, take, get_or, sym, ap, ◌∙◌, arith, sum_by, All, not, ◌==◌}
 use Rattle.std.proofs.lemmas.List.{append_assoc, append-nil, length-append, length-map, drop_more, drop_all, get_or-map, get_or_default}
 use Rattle.std.proofs.lemmas.List.Elements.{All-filter}
 use Rattle.std.proofs.lemmas.List.Sums.{sum_by-drop_more, sum_by_more}
@@ -10,8 +9,7 @@ use Rattle.map_network.specs.declared.source.Source.{Source}
 use Rattle.map_network.specs.declared.want.Want.{Want}
 use Rattle.map_network.specs.declared.want.Gate.TheVariants as gate
 use Rattle.map_network.specs.declared.network.NetTable.{NetTable}
-use Rattle.map_network.specs.Plain.{tree, trees, tree_ends, row_wants, rows_wants, cover_tables, cover_size, covers_tables, distinct, want_table}
-use Rattle.map_network.specs.Sizes.{tree_size, row_size, rows_size}
+use Rattle.map_network.specs.Vocabulary.{tree, trees, tree_ends, row_wants, rows_wants, cover_tables, cover_size, covers_tables, distinct, want_table, tree_size, row_size, rows_size}
 use Rattle.map_network.proofs.PlainLemmas.{AreRowsOf, length-row_wants, length-cover}
 
 pub distinct_all : (P : ℕ → Type 0) (xs : List ℕ) → All P xs → All P (distinct xs)

@@ -8,10 +8,7 @@ use Rattle.map_network.specs.declared.source.Source.{Source}
 use Rattle.map_network.specs.declared.source.Source.TheVariants.{Input, Table}
 use Rattle.map_network.specs.declared.network.NetTable.{NetTable}
 use Rattle.map_network.specs.declared.network.Network.{Network}
-use Rattle.map_network.specs.Rows.{number_of, cell_at, bit_of, pins_of, truth, IsNetworkValuation, next_state, first_state, RowsFrom, AreRows}
-use Rattle.map_network.specs.Plain.{pin_named}
-use Rattle.map_network.specs.Merging.{number}
-use Rattle.map_network.specs.Joining.{bit_with, address_by, joined_truth, IsJoined}
+use Rattle.map_network.specs.Vocabulary.{number_of, cell_at, bit_of, pins_of, truth, IsNetworkValuation, next_state, first_state, RowsFrom, AreRows, pin_named, number, bit_with, address_by, joined_truth, IsJoined}
 use Rattle.map_network.proofs.CellLemmas.{gives_of}
 use Rattle.map_network.proofs.ValueLemmas.{pin_at, length-pins}
 use Rattle.map_network.proofs.SourceLemmas.{has_both, named_value, with_given, with_pin}

@@ -8,11 +8,7 @@ use Rattle.map_network.specs.declared.source.Source.{Source}
 use Rattle.map_network.specs.declared.source.Source.TheVariants.{Input, Table}
 use Rattle.map_network.specs.declared.network.NetTable.{NetTable}
 use Rattle.map_network.specs.declared.network.Network.{Network}
-use Rattle.map_network.specs.Networks.{IsNetwork}
-use Rattle.map_network.specs.Merging.{Reads}
-use Rattle.map_network.specs.Joining.{in_tables, IsPutOn, Puts, none, more}
-use Rattle.map_network.specs.Compacting.{is_dropped, AreKept, IsKept, IsClosed}
-use Rattle.map_network.specs.Merges.{StillReads, IsMerge, Merges, merges}
+use Rattle.map_network.specs.Vocabulary.{IsNetwork, Reads, in_tables, IsPutOn, Puts, none, more, is_dropped, AreKept, IsKept, IsClosed, StillReads, IsMerge, Merges, merges}
 use Rattle.map_network.proofs.SourceLemmas.{has_both, of_among}
 use Rattle.map_network.proofs.PutLemmas.{net, at_reader, at_other, apart, same_length, same_marks, same_tables, after_puts}
 

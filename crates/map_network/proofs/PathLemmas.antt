@@ -4,8 +4,7 @@ use Rattle.std.specs.List.{Contains}
 use Rattle.std.proofs.lemmas.Bool.{cases_eq}
 use Rattle.map_network.specs.declared.source.Source.TheVariants.{Table}
 use Rattle.map_network.specs.declared.network.Network.{Network}
-use Rattle.map_network.specs.Networks.{IsCombinational, IsPath, alone, onward, IsDeepest, table_at}
-use Rattle.map_network.specs.Levels.{IsMost}
+use Rattle.map_network.specs.Vocabulary.{IsCombinational, IsPath, alone, onward, IsDeepest, table_at, IsMost}
 
 pub last_is : {n : Network} {j k : ℕ} → IsPath n j k → IsCombinational n j
 last_is (alone is) = is

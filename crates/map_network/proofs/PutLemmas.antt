@@ -8,10 +8,7 @@ use Rattle.map_network.specs.declared.source.Source.{Source}
 use Rattle.map_network.specs.declared.source.Source.TheVariants.{Input, Table}
 use Rattle.map_network.specs.declared.network.NetTable.{NetTable}
 use Rattle.map_network.specs.declared.network.Network.{Network}
-use Rattle.map_network.specs.Networks.{no_table, IsSourceOf, IsCombinational, IsLatched, IsPath, alone, onward, IsNetwork}
-use Rattle.map_network.specs.Rows.{truth, IsNetworkValuation, AreRows}
-use Rattle.map_network.specs.Merging.{Reads, CanJoin}
-use Rattle.map_network.specs.Joining.{in_tables, IsPut, Puts, none, more, IsUnread}
+use Rattle.map_network.specs.Vocabulary.{no_table, IsSourceOf, IsCombinational, IsLatched, IsPath, alone, onward, IsNetwork, truth, IsNetworkValuation, AreRows, Reads, CanJoin, in_tables, IsPut, Puts, none, more, IsUnread}
 use Rattle.map_network.proofs.PathLemmas.{no_loop}
 use Rattle.map_network.proofs.SourceLemmas.{not_itself, from_both}
 use Rattle.map_network.proofs.JoinLemmas.{joined_value, IsLike, like_rows}

@@ -6,14 +6,8 @@ use Rattle.design_netlist.specs.declared.netlist_data.PortDef.{PortDef}
 use Rattle.map_network.specs.declared.network.NetTable.{NetTable}
 use Rattle.map_network.specs.declared.network.Network.{Network}
 use Rattle.map_network.specs.declared.merge.Found.{Found}
-use Rattle.map_network.specs.Networks.{IsNetwork}
-use Rattle.map_network.specs.Rows.{HasRowsOf}
-use Rattle.map_network.specs.Plain.{plain_network, source_of}
-use Rattle.map_network.specs.Merging.{CanJoin}
-use Rattle.map_network.specs.Joining.{MayPut, IsPutOn, Puts, none, more, IsReduced}
-use Rattle.map_network.specs.Compacting.{is_dropped, IsClosed, IsCompacted}
-use Rattle.map_network.specs.Merges.{none_gone, begins, drops}
-use Rattle.map_network.specs.Passes.{IsFound, IsSmaller, IsMergedOf}
+use Rattle.map_network.specs.Vocabulary.{IsNetwork, HasRowsOf, plain_network, source_of, CanJoin, MayPut, IsPutOn, Puts, none, more, IsReduced, is_dropped, IsClosed, IsCompacted, none_gone, drops, IsFound, IsSmaller, IsMergedOf}
+use Rattle.map_network.specs.Merges.{begins}
 use Rattle.map_network.proofs.PutLemmas.{net, IsAfter, after_puts, puts_on, same_tables, unread_now}
 use Rattle.map_network.proofs.CompactLemmas.{compacted_reduced, one_dropped, reduced_same, same_none, same_then}
 use Rattle.map_network.proofs.MergeLemmas.{clean_of, merged_by, none_is_gone}

@@ -3,10 +3,8 @@ use Rattle.std.proofs.Common.{◌≡◌, Bool, ℕ, ◌<◌, ◌≤◌, List, []
 use Rattle.map_network.specs.declared.source.Source.{Source}
 use Rattle.map_network.specs.declared.network.NetTable.{NetTable}
 use Rattle.map_network.specs.declared.network.Network.{Network}
-use Rattle.map_network.specs.Networks.{IsNetwork}
-use Rattle.map_network.specs.Joining.{in_tables, MayPut, IsPut, IsJoined, DoesSame}
-use Rattle.map_network.specs.Compacting.{is_dropped, IsClosed, IsCompacted}
-use Rattle.map_network.specs.Spreading.{Spreads, begins, puts}
+use Rattle.map_network.specs.Vocabulary.{IsNetwork, in_tables, MayPut, IsPut, IsJoined, DoesSame, is_dropped, IsClosed, IsCompacted, Spreads, puts}
+use Rattle.map_network.specs.Spreading.{begins}
 use Rattle.map_network.proofs.PutLemmas.{net, IsAfter, after_none, after_put, same_length}
 use Rattle.map_network.proofs.CompactLemmas.{compacted_reduced, reduced_same}
 

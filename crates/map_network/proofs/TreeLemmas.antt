@@ -1,6 +1,5 @@
 -- Groups, levels and trees, and how many tables these have.
-use Rattle.std.proofs.Common.{◌≡◌, ◌⊎◌, Bool, ℕ, zero, suc, ◌+◌, ◌-◌, ◌*◌, ◌/◌, ◌<◌, ◌≤◌, List, [], ◌∷◌, ◌++◌, true, false, length, drop, take, map, refl, sym, ap, ◌∙◌, inl, inr, arith, min}
-use Rattle.std.specs.Prelude.{if◌then◌else◌, nat_lt}
+use Rattle.std.proofs.Common.{◌≡◌, ◌⊎◌, Bool, ℕ, zero, suc, ◌+◌, ◌-◌, ◌*◌, ◌/◌, ◌<◌, ◌≤◌, List, [], ◌∷◌, ◌++◌, true, false, length, drop, take, map, refl, sym, ap, ◌∙◌, inl, inr, arith, min, if◌then◌else◌, nat_lt}
 use Rattle.std.proofs.lemmas.Bool.{cases_lt}
 use Rattle.std.proofs.lemmas.Bool.Decides.{nat_tests}
 use Rattle.std.proofs.lemmas.List.{append_assoc, length-append, length-map, length-drop, map_push, take_min, drop-drop}
@@ -9,8 +8,7 @@ use native.Mathlib.Numerals.{unary_clauses}
 use Rattle.map_network.specs.declared.want.Want.{Want}
 use Rattle.map_network.specs.declared.want.Gate.{Gate}
 use Rattle.map_network.specs.declared.network.NetTable.{NetTable}
-use Rattle.map_network.specs.Plain.{groups, sixes, want_table, wants_from, gate_table, levels, tree}
-use Rattle.map_network.specs.Sizes.{levels_size, tree_size}
+use Rattle.map_network.specs.Vocabulary.{groups, sixes, want_table, wants_from, gate_table, levels, tree, levels_size, tree_size}
 
 pub lt_true : (m n : ℕ) → m < n → nat_lt m n ≡ true
 lt_true m n h = grind (arith, nat_tests)

@@ -3,8 +3,7 @@ use Rattle.std.specs.Prelude.{◌<◌, ◌≤◌, ℕ, List, false, length, sum_
 use Rattle.design_netlist.specs.declared.netlist_data.Cover.{Cover}
 use Rattle.design_netlist.specs.declared.netlist_data.LatchDef.{LatchDef}
 use Rattle.design_netlist.specs.declared.netlist_data.PortDef.{PortDef}
-use Rattle.design_netlist.specs.Covers.{cover_at, IsCoverOver}
-use Rattle.design_netlist.specs.Drafts.{cover_characters, word}
+use Rattle.design_netlist.specs.Vocabulary.{cover_at, IsCoverOver, cover_characters, word}
 use Rattle.map_network.specs.Plain.{cover_size}
 
 -- covers over so many signals, with few enough characters and tables

@@ -1,7 +1,6 @@
 -- Cells as masks: what they give at each address.
-use Rattle.std.specs.Prelude.{◌≡◌, ◌<◌, ◌||◌, ℕ, List, [], ◌∷◌, Bool, false, map}
+use Rattle.std.specs.Prelude.{◌≡◌, ◌<◌, ◌||◌, ℕ, List, [], ◌∷◌, Bool, false, map, ◌==◌}
 use Rattle.map_network.specs.Rows.{cell_at}
-use Rattle.std.specs.Prelude.{◌==◌}
 
 -- at each address the cells give this
 abbrev pub Give : ℕ → (ℕ → Bool) → Type 0

@@ -17,3 +17,4 @@ pub mod Drives
 pub mod Bounds
 pub mod Passes
 pub mod Spreading
+pub mod Vocabulary

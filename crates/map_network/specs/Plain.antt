@@ -8,8 +8,7 @@ use Rattle.design_netlist.specs.declared.netlist_data.LatchDef.{LatchDef}
 use Rattle.design_netlist.specs.declared.netlist_data.PortDef.{PortDef}
 use Rattle.design_netlist.specs.declared.netlist_data.Lit.{Lit}
 use Rattle.design_netlist.specs.declared.netlist_data.Lit.TheVariants.{One, Any}
-use Rattle.design_netlist.specs.Covers.{fits, truth}
-use Rattle.design_netlist.specs.Drafts.{drive_words}
+use Rattle.design_netlist.specs.Vocabulary.{fits, truth, drive_words}
 use Rattle.map_network.specs.declared.source.Source.{Source}
 use Rattle.map_network.specs.declared.source.Source.TheVariants.{Input, Table}
 use Rattle.map_network.specs.declared.want.Want.{Want}

@@ -140,7 +140,12 @@ fn found_in(alloc: Global, network: Network, table: u32, reader: u32) -> Result<
 }
 
 /// The network with the table put into its reader, and with whatever else the search finds.
-fn reduce_from(alloc: Global, network: Network, table: u32, reader: u32) -> Result<Network, AllocError>
+fn reduce_from(
+    alloc: Global,
+    network: Network,
+    table: u32,
+    reader: u32,
+) -> Result<Network, AllocError>
     requires network { IsNetwork network }
     requires can { CanJoin network table reader }
     ensures { IfOk result (λ smaller. IsSmaller network smaller) }

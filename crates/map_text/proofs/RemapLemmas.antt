@@ -1,6 +1,5 @@
 -- Texts that stand for a design.
-use Rattle.std.proofs.Common.{◌≡◌, ◌∙◌, ◌⊎◌, ℕ, ◌≤◌, List, length, refl, inl, inr, arith}
-use Rattle.std.specs.Prelude.{Option, Some, IfSome}
+use Rattle.std.proofs.Common.{◌≡◌, ◌∙◌, ◌⊎◌, ℕ, ◌≤◌, List, length, refl, inl, inr, arith, Option, Some, IfSome}
 use Rattle.base_text.specs.Size.{most_bytes}
 use Rattle.design_netlist.specs.declared.netlist_data.NetlistData.{NetlistData}
 use Rattle.design_blif.specs.Designs.{IsDesign}

@@ -5,8 +5,7 @@ use Rattle.base_text.specs.Size.{most_bytes}
 use Rattle.machine_defects.specs.Lists.{DefectList}
 use Rattle.design_netlist.specs.declared.netlist_data.NetlistData.{NetlistData}
 use Rattle.design_netlist.specs.declared.netlist_data.PortDef.{PortDef}
-use Rattle.design_netlist.specs.Drafts.{name_at}
-use Rattle.design_netlist.specs.Rows.{AreRows}
+use Rattle.design_netlist.specs.Vocabulary.{name_at, AreRows}
 use Rattle.design_blif.specs.Designs.{IsDesign}
 use Rattle.map_network.specs.Plain.{is_narrow, plain_network}
 use Rattle.place_plan.specs.declared.plan.Plan.{Plan}

@@ -5,10 +5,7 @@ use Rattle.machine_shape.specs.Shape.{nodes_of}
 use Rattle.machine_meaning.specs.Defects.{Defects}
 use Rattle.map_network.specs.declared.network.Network.{Network}
 use Rattle.place_plan.specs.declared.plan.Plan.{Plan}
-use Rattle.place_plan.specs.Lists.{AreLists, AreThose}
-use Rattle.place_plan.specs.Plans.{IsTerminal, nets_in}
-use Rattle.place_plan.specs.Room.{CrossesAt, HasTerminal}
-use Rattle.place_plan.specs.Terminals.{ArePlanNets}
+use Rattle.place_plan.specs.Vocabulary.{AreLists, AreThose, IsTerminal, nets_in, CrossesAt, HasTerminal, ArePlanNets}
 use Rattle.place_plan.proofs.Transfer.{those_on}
 use Rattle.place_anneal.specs.Crossings.{AreCrossings}
 

@@ -6,9 +6,7 @@ use Rattle.machine_shape.specs.Shape.{nodes_of}
 use Rattle.machine_meaning.specs.Defects.{Defects}
 use Rattle.map_network.specs.declared.network.Network.{Network}
 use Rattle.place_plan.specs.declared.plan.Plan.{Plan}
-use Rattle.place_plan.specs.Lists.{AreLists}
-use Rattle.place_plan.specs.Plans.{Fits, IsPlan, IsTerminal, nets_in}
-use Rattle.place_plan.specs.Room.{CrossesAt}
+use Rattle.place_plan.specs.Vocabulary.{AreLists, Fits, IsPlan, IsTerminal, nets_in, CrossesAt}
 
 -- The nets of a plan that cross each node, ascending. By the definition of such lists there is one for each node, with just
 -- those nets.

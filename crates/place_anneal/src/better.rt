@@ -1,8 +1,7 @@
 //! Better plans.
 ghost use Rattle.std.specs.Prelude.{◌≡◌, ℕ, ◌≤◌, ◌<◌, ◌⊎◌, IfOk, IfSome};
 ghost use Rattle.map_network.specs.Networks.{IsNetwork};
-ghost use Rattle.place_plan.specs.Laying.{IsLayout};
-ghost use Rattle.place_plan.specs.Plans.{IsPlan};
+ghost use Rattle.place_plan.specs.Vocabulary.{IsLayout, IsPlan};
 ghost use Rattle.place_anneal.specs.Better.{IsBetterBy, IsBetterLaid};
 ghost use Rattle.place_anneal.specs.Crossings.{HasCrossings, HasNoMore, IsBetter, KeepsPins};
 

@@ -147,7 +147,12 @@ fn next(trial: &Trial, growth: &mut Growth, target: usize) -> Option<(usize, usi
     let place = trial.holders.get(target).copied()?;
     let seat = trial.seats.get(place).copied()?;
     growth.queue.go_on();
-    let table = best_of(growth.queue.waiting_tables(), &trial.links, &growth.spreads, seat);
+    let table = best_of(
+        growth.queue.waiting_tables(),
+        &trial.links,
+        &growth.spreads,
+        seat,
+    );
     settle(growth, &trial.links, table, seat);
     Some((table, place))
 }

@@ -1,6 +1,5 @@
 -- Where a design is laid, and where it isn't.
-use Rattle.std.proofs.Common.{◌≡◌, ◌<◌, ◌≤◌, ◌⊎◌, ◌↔◌, Bool, List, [], length, inl, inr, sym, subst, arith, ◌∙◌}
-use Rattle.std.specs.Prelude.{Result, Ok, Err, IfOk, IfErr}
+use Rattle.std.proofs.Common.{◌≡◌, ◌<◌, ◌≤◌, ◌⊎◌, ◌↔◌, Bool, List, [], length, inl, inr, sym, subst, arith, ◌∙◌, Result, Ok, Err, IfOk, IfErr}
 use Rattle.machine_shape.specs.declared.Shape.{Shape}
 use Rattle.machine_shape.specs.Shape.{nodes_of}
 use Rattle.machine_meaning.specs.Defects.{Defects}
@@ -8,9 +7,7 @@ use Rattle.machine_shape.proofs.Totals.{nodes_are}
 use Rattle.machine_defects.specs.Lists.{DefectList}
 use Rattle.design_netlist.specs.declared.netlist_data.NetlistData.{NetlistData}
 use Rattle.map_network.specs.declared.network.Network.{Network}
-use Rattle.map_network.specs.Networks.{IsNetwork}
-use Rattle.map_network.specs.Rows.{AreRows, HasRowsOf}
-use Rattle.map_network.specs.Plain.{IsPlainNetwork, plain_network}
+use Rattle.map_network.specs.Vocabulary.{IsNetwork, AreRows, HasRowsOf, IsPlainNetwork, plain_network}
 use Rattle.place_anneal.specs.Better.{IsBetterLaid}
 use Rattle.place_plan.specs.declared.short.Need.{Need}
 use Rattle.place_plan.specs.declared.short.Short.{Short}
@@ -19,9 +16,7 @@ use Rattle.place_plan.specs.declared.short.Resource.TheVariants.{Tables, Pins, P
 use Rattle.place_plan.specs.declared.layout.Placed.{Placed}
 use Rattle.place_plan.specs.Plans.{Fits, InOrderIsShort, IsShortInOrder}
 use Rattle.machine_image.specs.Images.{ImageValue}
-use Rattle.cmd_steps.specs.Outside.{Outside}
-use Rattle.cmd_steps.specs.Stops.{StepStops, IsCounted}
-use Rattle.cmd_steps.specs.Took.{Took}
+use Rattle.cmd_steps.specs.Vocabulary.{Outside, StepStops, IsCounted, Took}
 use Rattle.cmd_steps.specs.declared.refusal.Refusal.TheVariants as refused
 use Rattle.cmd_steps.specs.declared.refusal.Stop.{Stop}
 use Rattle.cmd_steps.specs.declared.refusal.Stop.TheVariants.{Refused}

@@ -9,10 +9,7 @@ use Rattle.map_network.specs.Plain.{IsPlainNetwork}
 use Rattle.place_plan.specs.declared.plan.Plan.{Plan}
 use Rattle.place_plan.specs.declared.short.Short.{Short}
 use Rattle.place_plan.specs.Plans.{FitsInOrder, IsShortInOrder}
-use Rattle.cmd_steps.specs.Faults.{ShortPlace}
-use Rattle.cmd_steps.specs.Outside.{Around}
-use Rattle.cmd_steps.specs.Stops.{status_of}
-use Rattle.cmd_steps.specs.Jobs.{IsExcused}
+use Rattle.cmd_steps.specs.Vocabulary.{ShortPlace, Around, status_of, IsExcused}
 use Rattle.cmd_steps.specs.declared.refusal.Refusal.{Refusal}
 use Rattle.cmd_steps.specs.declared.refusal.Refusal.TheVariants as refused
 use Rattle.place_design.specs.Laying.{HasRoom, LacksRoom, IsNoRoom, NotLaid}

@@ -1,22 +1,16 @@
 -- A design is laid on what a list of defects leaves free.
 use Rattle.std.specs.Prelude.{◌≡◌, ◌≤◌, length}
-use Rattle.machine_meaning.specs.Defects.{Covers}
-use Rattle.machine_meaning.specs.Faults.{Faults}
+use Rattle.machine_meaning.specs.Vocabulary.{Covers, Faults}
 use Rattle.machine_defects.specs.Lists.{DefectList}
 use Rattle.design_netlist.specs.declared.netlist_data.NetlistData.{NetlistData}
 use Rattle.map_network.specs.declared.network.Network.{Network}
-use Rattle.map_network.specs.Networks.{IsNetwork}
-use Rattle.map_network.specs.Plain.{IsPlainNetwork, plain_network}
-use Rattle.map_network.specs.Rows.{HasRowsOf}
+use Rattle.map_network.specs.Vocabulary.{IsNetwork, IsPlainNetwork, plain_network, HasRowsOf}
 use Rattle.place_plan.specs.declared.plan.Plan.{Plan}
 use Rattle.place_plan.specs.declared.short.Short.{Short}
 use Rattle.place_plan.specs.Plans.{FitsInOrder, IsShortInOrder}
-use Rattle.machine_image.specs.Images.{ImageValue, IsImage}
-use Rattle.machine_image.specs.Parts.{IsFreeImage}
-use Rattle.place_route.specs.RightImages.{IsRightImage}
-use Rattle.place_route.specs.RoutedImages.{IsRoutedFor}
-use Rattle.cmd_steps.specs.Courses.{Step}
-use Rattle.cmd_steps.specs.Faults.{ShortPlace}
+use Rattle.machine_image.specs.Vocabulary.{ImageValue, IsImage, IsFreeImage}
+use Rattle.place_route.specs.Vocabulary.{IsRightImage, IsRoutedFor}
+use Rattle.cmd_steps.specs.Vocabulary.{Step, ShortPlace}
 use Rattle.cmd_steps.specs.declared.refusal.Refusal.{Refusal}
 use Rattle.cmd_steps.specs.declared.refusal.Refusal.TheVariants as refused
 

@@ -3,11 +3,8 @@ use Rattle.std.specs.Prelude.{◌≡◌, ◌≤◌, length}
 use Rattle.machine_defects.specs.Lists.{DefectList}
 use Rattle.design_netlist.specs.declared.netlist_data.NetlistData.{NetlistData}
 use Rattle.map_network.specs.declared.network.Network.{Network}
-use Rattle.map_network.specs.Networks.{IsNetwork}
-use Rattle.map_network.specs.Plain.{plain_network}
-use Rattle.map_network.specs.Rows.{HasRowsOf}
-use Rattle.place_plan.specs.Laying.{IsLayout}
-use Rattle.place_plan.specs.Plans.{Fits, IsPlan}
+use Rattle.map_network.specs.Vocabulary.{IsNetwork, plain_network, HasRowsOf}
+use Rattle.place_plan.specs.Vocabulary.{IsLayout, Fits, IsPlan}
 use Rattle.place_design.specs.declared.smaller.Smaller.{Smaller}
 
 -- the network has the design's rows, inputs and outputs, and no more tables than its plain network

@@ -1,13 +1,8 @@
 //! Designs that are laid on a machine.
 ghost use Rattle.std.specs.Prelude.{◌≡◌, ◌≤◌, [], IfOk, IfErr, IfSome, length};
-ghost use Rattle.map_network.specs.Networks.{IsNetwork};
-ghost use Rattle.map_network.specs.Plain.{IsPlainNetwork, plain_network};
-ghost use Rattle.map_network.specs.Rows.{HasRowsOf};
-ghost use Rattle.place_plan.specs.Laying.{IsLayout};
-ghost use Rattle.place_plan.specs.Plans.{Fits, IsPlan};
-ghost use Rattle.cmd_steps.specs.Outside.{Outside};
-ghost use Rattle.cmd_steps.specs.Stops.{StepStops};
-ghost use Rattle.cmd_steps.specs.Took.{Took};
+ghost use Rattle.map_network.specs.Vocabulary.{IsNetwork, IsPlainNetwork, plain_network, HasRowsOf};
+ghost use Rattle.place_plan.specs.Vocabulary.{IsLayout, Fits, IsPlan};
+ghost use Rattle.cmd_steps.specs.Vocabulary.{Outside, StepStops, Took};
 ghost use Rattle.place_design.specs.Laying.{lays, IsImageFor};
 
 use crate::room::plan_of;

@@ -4,8 +4,7 @@ ghost use Rattle.machine_defects.specs.Lists.{DefectList};
 ghost use Rattle.machine_shape.specs.Shape.{nodes_of};
 ghost use Rattle.map_network.specs.Networks.{IsNetwork};
 ghost use Rattle.map_network.specs.declared.network.Network.{Network};
-ghost use Rattle.place_plan.specs.Laying.{IsLayout};
-ghost use Rattle.place_plan.specs.Plans.{FitsInOrder, IsPlaceFail};
+ghost use Rattle.place_plan.specs.Vocabulary.{IsLayout, FitsInOrder, IsPlaceFail};
 ghost use Rattle.place_design.specs.Wants.{IsRefusedFor, PlanStops};
 
 use cmd_steps::{Refusal, RefusedRoom, Stop};

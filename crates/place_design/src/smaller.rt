@@ -1,8 +1,6 @@
 //! Networks with fewer tables than the plain one, on plans that fit.
 ghost use Rattle.std.specs.Prelude.{IfOk, IfSome};
-ghost use Rattle.map_network.specs.Networks.{IsNetwork};
-ghost use Rattle.map_network.specs.Plain.{IsPlainNetwork};
-ghost use Rattle.map_network.specs.Rows.{HasRowsOf};
+ghost use Rattle.map_network.specs.Vocabulary.{IsNetwork, IsPlainNetwork, HasRowsOf};
 ghost use Rattle.machine_defects.specs.Lists.{DefectList};
 ghost use Rattle.design_netlist.specs.declared.netlist_data.NetlistData.{NetlistData};
 ghost use Rattle.place_design.specs.Smaller.{IsFor, IsSmallerFor};

@@ -6,8 +6,7 @@ use Rattle.map_network.specs.declared.source.Source.{Source}
 use Rattle.map_network.specs.declared.source.Source.TheVariants.{Input, Table}
 use Rattle.map_network.specs.declared.network.NetTable.{NetTable}
 use Rattle.map_network.specs.declared.network.Network.{Network}
-use Rattle.map_network.specs.Networks.{no_table, table_at, IsCombinational, IsLatched, IsSourceOf, IsPath, alone, onward, IsDeepest, IsNetwork}
-use Rattle.map_network.specs.Rows.{number_of, cell_at, bit_of, truth, IsNetworkValuation, outputs_in, next_state, first_state, RowsFrom, AreRows}
+use Rattle.map_network.specs.Vocabulary.{no_table, table_at, IsCombinational, IsLatched, IsSourceOf, IsPath, alone, onward, IsDeepest, IsNetwork, number_of, cell_at, bit_of, truth, IsNetworkValuation, outputs_in, next_state, first_state, RowsFrom, AreRows}
 use Rattle.place_pair.specs.declared.site.Site.{Site}
 use Rattle.place_pair.specs.JointNetworks.{part, moved, moved_table}
 use Rattle.place_pair.specs.Sites.{StandsIn}

@@ -1,21 +1,16 @@
 -- A whole and its two tenants.
-use Rattle.std.proofs.Common.{◌≡◌, ◌⊎◌, ℕ, ◌+◌, ◌-◌, ◌<◌, ◌≤◌, ◌++◌, Bool, true, Some, Option, List, [], ◌∷◌, length, get_or, map, refl, sym, ap, ◌∙◌, subst, inl, inr, arith}
-use Rattle.std.specs.Prelude.{◌↔◌, IsSome}
+use Rattle.std.proofs.Common.{◌≡◌, ◌⊎◌, ℕ, ◌+◌, ◌-◌, ◌<◌, ◌≤◌, ◌++◌, Bool, true, Some, Option, List, [], ◌∷◌, length, get_or, map, refl, sym, ap, ◌∙◌, subst, inl, inr, arith, ◌↔◌, IsSome}
 use Rattle.std.specs.List.{All}
 use Rattle.std.proofs.lemmas.Bool.{cases_lt}
 use Rattle.std.proofs.lemmas.List.{length-map}
 use Rattle.machine_shape.specs.declared.Shape.{Shape}
 use Rattle.machine_shape.specs.Shape.{table_wire}
-use Rattle.machine_meaning.specs.Circuit.{Pins}
-use Rattle.machine_meaning.specs.Faults.{Faults}
-use Rattle.machine_meaning.specs.Defects.{Defects, Covers}
+use Rattle.machine_meaning.specs.Vocabulary.{Pins, Faults, Defects, Covers}
 use Rattle.machine_config.specs.declared.Setting.{Setting}
 use Rattle.machine_config.specs.Configuration.{is_closed, setting_of}
-use Rattle.machine_image.specs.Images.{ImageValue, image_row}
-use Rattle.machine_image.specs.Parts.{IsFreeImage}
+use Rattle.machine_image.specs.Vocabulary.{ImageValue, image_row, IsFreeImage}
 use Rattle.map_network.specs.declared.network.Network.{Network}
-use Rattle.map_network.specs.Networks.{IsNetwork}
-use Rattle.map_network.specs.Rows.{AreRows, HasOneRows}
+use Rattle.map_network.specs.Vocabulary.{IsNetwork, AreRows, HasOneRows}
 use Rattle.place_plan.specs.declared.layout.Layout.{Layout}
 use Rattle.place_plan.specs.declared.plan.Plan.{Plan}
 use Rattle.place_plan.specs.Plans.{nets_in, place_of}

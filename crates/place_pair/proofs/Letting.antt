@@ -1,19 +1,15 @@
 -- What a tenant has of a routed whole: a plan and a layout of its own network.
-use Rattle.std.proofs.Common.{◌≡◌, ◌≢◌, ◌⊎◌, ℕ, ◌+◌, ◌-◌, ◌<◌, ◌≤◌, ◌++◌, true, Some, None, Option, List, length, get_or, refl, sym, ap, ◌∙◌, subst, inl, inr, arith}
-use Rattle.std.specs.Prelude.{IsSome}
+use Rattle.std.proofs.Common.{◌≡◌, ◌≢◌, ◌⊎◌, ℕ, ◌+◌, ◌-◌, ◌<◌, ◌≤◌, ◌++◌, true, Some, None, Option, List, length, get_or, refl, sym, ap, ◌∙◌, subst, inl, inr, arith, IsSome}
 use Rattle.std.specs.List.{All, AllPairs, Contains}
 use Rattle.std.proofs.lemmas.Bool.{cases_lt}
 use Rattle.std.proofs.lemmas.List.{get_or-map, get_or_append_left, get_or-append_right, get_or_default, length-append, length-map}
 use Rattle.std.proofs.lemmas.List.Elements.{All-contains}
 use Rattle.machine_shape.specs.declared.Shape.{Shape}
 use Rattle.machine_shape.specs.declared.Table as hierarchy
-use Rattle.machine_shape.specs.Shape.{nodes_of, tables_of, pins_of, crosses_of, ends_of, pin_wire, table_wire, IsLine, IsPort}
-use Rattle.machine_shape.specs.Laws.{IsNumbered, IsTree}
-use Rattle.machine_meaning.specs.Faults.{Faults}
-use Rattle.machine_meaning.specs.Defects.{Defects, IsFreeWire, IsFreeCross, IsFreeTable, Covers}
+use Rattle.machine_shape.specs.Vocabulary.{nodes_of, tables_of, pins_of, crosses_of, ends_of, pin_wire, table_wire, IsLine, IsPort, IsNumbered, IsTree}
+use Rattle.machine_meaning.specs.Vocabulary.{Faults, Defects, IsFreeWire, IsFreeCross, IsFreeTable, Covers}
 use Rattle.machine_config.specs.Configuration.{is_closed, setting_of}
-use Rattle.machine_image.specs.Images.{ImageValue}
-use Rattle.machine_image.specs.Parts.{IsFreeImage, Uses, at_pin, at_tap, at_line, at_table}
+use Rattle.machine_image.specs.Vocabulary.{ImageValue, IsFreeImage, Uses, at_pin, at_tap, at_line, at_table}
 use Rattle.map_network.specs.declared.source.Source.TheVariants.{Input, Table}
 use Rattle.map_network.specs.declared.network.NetTable.{NetTable}
 use Rattle.map_network.specs.declared.network.Network.{Network}
@@ -22,19 +18,9 @@ use Rattle.place_plan.specs.declared.layout.Layout.{Layout}
 use Rattle.place_plan.specs.declared.plan.Plan.{Plan}
 use Rattle.place_plan.specs.declared.short.Port.{Port}
 use Rattle.place_plan.specs.declared.short.Visit.{Visit}
-use Rattle.place_plan.specs.Laying.{IsLayout}
-use Rattle.place_plan.specs.Layouts.{AreHeld}
-use Rattle.place_plan.specs.Lists.{nth_of}
-use Rattle.place_plan.specs.Plans.{number_of, places, place_of, nets_in, IsTerminal, drives, reads, shows, IsPlan}
-use Rattle.place_plan.specs.Room.{HasPort, CrossesAt, VisitsAt, Serves}
-use Rattle.place_plan.specs.Strands.{Crosses, Visits}
+use Rattle.place_plan.specs.Vocabulary.{IsLayout, AreHeld, nth_of, number_of, places, place_of, nets_in, IsTerminal, drives, reads, shows, IsPlan, HasPort, CrossesAt, VisitsAt, Serves, Crosses, Visits}
 use Rattle.place_plan.proofs.Those.{different_at}
-use Rattle.place_route.specs.Closing.{no_seat}
-use Rattle.place_route.specs.Layouts.{IsSet, image_at, setting_in}
-use Rattle.place_route.specs.Owners.{AreOwners, Holds, HasLine}
-use Rattle.place_route.specs.RightImages.{IsRightForNetwork}
-use Rattle.place_route.specs.Routed.{HasPortIn, IsRouteOf}
-use Rattle.place_route.specs.Trees.{IsNetTap, by_terminal, by_child, by_port, IsLaidOnTree, IsOfNet, as_terminal, as_line, as_port}
+use Rattle.place_route.specs.Vocabulary.{no_seat, IsSet, image_at, setting_in, AreOwners, Holds, HasLine, IsRightForNetwork, HasPortIn, IsRouteOf, IsNetTap, by_terminal, by_child, by_port, IsLaidOnTree, IsOfNet, as_terminal, as_line, as_port}
 use Rattle.place_route.proofs.OnTree.{nets_apart}
 use Rattle.place_route.proofs.Ported.{same_port}
 use Rattle.place_route.proofs.Reading.{ticks_enough}

@@ -4,9 +4,7 @@ use Rattle.std.specs.List.{All, AllPairs}
 use Rattle.std.proofs.lemmas.List.{get_or-map, length-map}
 use Rattle.machine_shape.specs.declared.Shape.{Shape}
 use Rattle.machine_shape.specs.declared.Table.{Table}
-use Rattle.machine_shape.specs.Shape.{tables_of, wires_of}
-use Rattle.machine_shape.specs.Laws.{IsNumbered, IsTree, HasParents, HasTaps, HasCrosses, HasMeanings}
-use Rattle.machine_shape.specs.Sites.{HasSites}
+use Rattle.machine_shape.specs.Vocabulary.{tables_of, wires_of, IsNumbered, IsTree, HasParents, HasTaps, HasCrosses, HasMeanings, HasSites}
 use Rattle.machine_meaning.specs.Defects.{Defects}
 use Rattle.machine_image.specs.Images.{ImageValue}
 use Rattle.map_network.specs.declared.network.Network.{Network}
@@ -14,10 +12,8 @@ use Rattle.map_network.specs.Networks.{IsNetwork}
 use Rattle.place_plan.specs.declared.layout.Layout.{Layout}
 use Rattle.place_plan.specs.declared.plan.Plan.{Plan}
 use Rattle.place_plan.specs.declared.short.Port.{Port}
-use Rattle.place_plan.specs.Laying.{IsLayout}
-use Rattle.place_plan.specs.Plans.{number_of, places, IsPlan}
-use Rattle.place_route.specs.Owners.{AreOwners}
-use Rattle.place_route.specs.Routed.{AreWiresOf, IsRouteOf}
+use Rattle.place_plan.specs.Vocabulary.{IsLayout, number_of, places, IsPlan}
+use Rattle.place_route.specs.Vocabulary.{AreOwners, AreWiresOf, IsRouteOf}
 use Rattle.place_route.proofs.Making.{numbering, laid_by}
 use Rattle.place_route.proofs.Whole.{wires_are}
 use Rattle.place_pair.specs.declared.site.Site.{Site}

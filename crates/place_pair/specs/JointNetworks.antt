@@ -5,8 +5,7 @@ use Rattle.map_network.specs.declared.source.Source.{Source}
 use Rattle.map_network.specs.declared.source.Source.TheVariants.{Input, Table}
 use Rattle.map_network.specs.declared.network.NetTable.{NetTable}
 use Rattle.map_network.specs.declared.network.Network.{Network}
-use Rattle.map_network.specs.Networks.{IsNetwork}
-use Rattle.map_network.specs.Rows.{AreRows}
+use Rattle.map_network.specs.Vocabulary.{IsNetwork, AreRows}
 
 -- so many elements of a list, from a place on
 abbrev pub part : {A : Type 0} → ℕ → ℕ → List A → List A

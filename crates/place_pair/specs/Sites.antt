@@ -6,20 +6,15 @@ use Rattle.machine_shape.specs.declared.Shape.{Shape}
 use Rattle.machine_shape.specs.declared.Cross.{Cross}
 use Rattle.machine_shape.specs.declared.Table as hierarchy
 use Rattle.machine_shape.specs.Shape.{ends_of}
-use Rattle.machine_meaning.specs.Defects.{Defects, Covers}
-use Rattle.machine_meaning.specs.Faults.{Faults}
+use Rattle.machine_meaning.specs.Vocabulary.{Defects, Covers, Faults}
 use Rattle.machine_config.specs.Configuration.{Configuration, is_closed, setting_of}
-use Rattle.machine_image.specs.Images.{ImageValue}
-use Rattle.machine_image.specs.Parts.{IsFreeImage}
+use Rattle.machine_image.specs.Vocabulary.{ImageValue, IsFreeImage}
 use Rattle.map_network.specs.declared.source.Source.{Source}
 use Rattle.map_network.specs.declared.source.Source.TheVariants.{Input, Table}
 use Rattle.map_network.specs.declared.network.Network.{Network}
 use Rattle.map_network.specs.Networks.{table_at}
 use Rattle.place_plan.specs.declared.plan.Plan.{Plan}
-use Rattle.place_route.specs.Closing.{no_seat}
-use Rattle.place_route.specs.Layouts.{setting_in}
-use Rattle.place_route.specs.Owners.{owner_at}
-use Rattle.place_route.specs.RightImages.{IsRightForNetwork, ReadsRows}
+use Rattle.place_route.specs.Vocabulary.{no_seat, setting_in, owner_at, IsRightForNetwork, ReadsRows}
 use Rattle.place_pair.specs.declared.site.Site.{Site}
 use Rattle.place_pair.specs.JointNetworks.{AreBothRows, part, moved, moved_table}
 use Rattle.place_pair.specs.Tenants.{AreTenants, HasPinsOf, StandApart}

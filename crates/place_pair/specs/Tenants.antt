@@ -2,14 +2,10 @@
 use Rattle.std.specs.Prelude.{◌≡◌, ◌⊎◌, ◌↔◌, ℕ, ◌++◌, Bool, true, List, map, length, Some}
 use Rattle.std.specs.List.{All}
 use Rattle.machine_shape.specs.declared.Shape.{Shape}
-use Rattle.machine_meaning.specs.Circuit.{Pins}
-use Rattle.machine_meaning.specs.Defects.{Defects}
-use Rattle.machine_meaning.specs.Faults.{Faults}
+use Rattle.machine_meaning.specs.Vocabulary.{Pins, Defects, Faults}
 use Rattle.machine_config.specs.declared.Setting.{Setting}
-use Rattle.machine_config.specs.Configuration.{is_closed, setting_of}
-use Rattle.machine_config.specs.Faulty.{IsRun}
-use Rattle.machine_image.specs.Images.{ImageValue, drive_of, image_row}
-use Rattle.machine_image.specs.Parts.{Uses}
+use Rattle.machine_config.specs.Vocabulary.{is_closed, setting_of, IsRun}
+use Rattle.machine_image.specs.Vocabulary.{ImageValue, drive_of, image_row, Uses}
 use Rattle.map_network.specs.declared.network.Network.{Network}
 use Rattle.place_plan.specs.declared.plan.Plan.{Plan}
 use Rattle.place_plan.specs.Plans.{FitsInOrder}

@@ -1,7 +1,6 @@
 //! Which net has which wire.
 ghost use Rattle.std.specs.Prelude.{◌<◌, ◌^◌, IfOk, length};
-ghost use Rattle.place_route.specs.Owners.{AreOwners};
-ghost use Rattle.place_route.specs.Routed.{AreWiresOf};
+ghost use Rattle.place_route.specs.Vocabulary.{AreOwners, AreWiresOf};
 
 use machine_defects::Defects;
 use place_plan::Layout;

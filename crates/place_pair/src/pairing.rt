@@ -1,15 +1,11 @@
 //! Two networks on one machine.
 ghost use Rattle.std.specs.Prelude.{◌≡◌, ◌<◌, ◌+◌, IfOk, IfErr, length};
-ghost use Rattle.machine_meaning.specs.Defects.{Covers};
-ghost use Rattle.machine_meaning.specs.Faults.{Faults};
+ghost use Rattle.machine_meaning.specs.Vocabulary.{Covers, Faults};
 ghost use Rattle.machine_image.specs.Parts.{IsFreeImage};
 ghost use Rattle.design_netlist.specs.declared.netlist_data.NetlistData.{NetlistData};
-ghost use Rattle.map_network.specs.Networks.{IsNetwork};
-ghost use Rattle.map_network.specs.Rows.{HasRowsOf};
-ghost use Rattle.place_plan.specs.Laying.{IsLayout};
-ghost use Rattle.place_plan.specs.Plans.{FitsInOrder, IsPlaceFail};
-ghost use Rattle.place_route.specs.RightImages.{IsRightImage, ReadsRows};
-ghost use Rattle.place_route.specs.RoutedImages.{IsRoutedInOrder};
+ghost use Rattle.map_network.specs.Vocabulary.{IsNetwork, HasRowsOf};
+ghost use Rattle.place_plan.specs.Vocabulary.{IsLayout, FitsInOrder, IsPlaceFail};
+ghost use Rattle.place_route.specs.Vocabulary.{IsRightImage, ReadsRows, IsRoutedInOrder};
 ghost use Rattle.place_pair.specs.JointNetworks.{AreBothRows, MayBeJoint, joint_network};
 ghost use Rattle.place_pair.specs.Sites.{IsSplit, first_site, second_site};
 ghost use Rattle.place_pair.specs.Tenants.{AreTenants, HasPinsOf, HaveRoom, StandApart};

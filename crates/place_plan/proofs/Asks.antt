@@ -2,10 +2,7 @@
 use Rattle.std.proofs.Common.{ℕ, ◌≤◌, List, length}
 use Rattle.machine_shape.specs.declared.Shape.{Shape}
 use Rattle.place_plan.specs.declared.search.Ask.{Ask}
-use Rattle.place_plan.specs.Lists.{AreThose}
-use Rattle.place_plan.specs.Room.{HasTerminal, VisitsAt}
-use Rattle.place_plan.specs.Taps.{VisitsIn, AreAsksOf, AreAsks}
-use Rattle.place_plan.specs.Touches.{TouchesOf}
+use Rattle.place_plan.specs.Vocabulary.{AreThose, HasTerminal, VisitsAt, VisitsIn, AreAsksOf, AreAsks, TouchesOf}
 use Rattle.place_plan.proofs.Places.{visits_inside}
 use Rattle.place_plan.proofs.Sieves.{elements_end}
 

@@ -6,9 +6,8 @@ use Rattle.std.proofs.lemmas.List.{get_or_past, get_or_read}
 use Rattle.std.proofs.lemmas.Bool.{cases_lt}
 use Rattle.place_plan.proofs.Those.{not_in_nil}
 use Rattle.machine_shape.specs.declared.Shape.{Shape}
-use Rattle.machine_shape.specs.Shape.{wires_of, nodes_of, tap_port, IsPort}
+use Rattle.machine_shape.specs.Vocabulary.{wires_of, nodes_of, tap_port, IsPort, HasTaps, HasParents}
 use Rattle.machine_meaning.specs.Defects.{Defects}
-use Rattle.machine_shape.specs.Laws.{HasTaps, HasParents}
 use Rattle.machine_defects.specs.Lists.{DefectList}
 use Rattle.place_plan.specs.declared.board.Board.{Board}
 use Rattle.place_plan.specs.declared.search.Ask.{Ask}
@@ -16,13 +15,7 @@ use Rattle.place_plan.specs.declared.search.Assigned.{Assigned}
 use Rattle.place_plan.specs.declared.search.Hold.{Hold}
 use Rattle.place_plan.specs.declared.short.Visit.{Visit}
 use Rattle.place_plan.specs.declared.tree.NetSide.TheVariants.{Own, Child, Outside}
-use Rattle.place_plan.specs.Choices.{AreWires, IsAnswer, IsSite, IsAssignment, IsShort, serves_by}
-use Rattle.place_plan.specs.Layouts.{IsBoardOf, visit_of, visit_by, pick_of, GoOn}
-use Rattle.place_plan.specs.Lists.{AreThose, AreLists}
-use Rattle.place_plan.specs.Room.{HasTerminal}
-use Rattle.place_plan.specs.Strands.{at_own, at_child}
-use Rattle.place_plan.specs.Taps.{IsBoard, AreAsks, IsAskOf, IsHeld, IsTapFor, AreAscending, IsFreeLine}
-use Rattle.place_plan.specs.Touches.{list_at}
+use Rattle.place_plan.specs.Vocabulary.{AreWires, IsAnswer, IsSite, IsAssignment, IsShort, serves_by, IsBoardOf, visit_of, visit_by, pick_of, GoOn, AreThose, AreLists, HasTerminal, at_own, at_child, IsBoard, AreAsks, IsAskOf, IsHeld, IsTapFor, AreAscending, IsFreeLine, list_at}
 use Rattle.place_plan.proofs.Ranges.{range_below}
 use Rattle.place_plan.proofs.Serving.{choice}
 

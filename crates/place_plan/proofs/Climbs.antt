@@ -1,11 +1,9 @@
 -- The way up the tree from a wire's node.
 use Rattle.std.proofs.Common.{◌≡◌, ◌≢◌, ℕ, ◌<◌, Some, None, refl, subst, arith}
 use Rattle.machine_shape.specs.declared.Shape.{Shape}
-use Rattle.machine_shape.specs.Shape.{wires_of, nodes_of, node_of, parent_of, IsAbove, itself, below}
-use Rattle.machine_shape.specs.Laws.{HasParents}
+use Rattle.machine_shape.specs.Vocabulary.{wires_of, nodes_of, node_of, parent_of, IsAbove, itself, below, HasParents}
 use Rattle.place_plan.specs.declared.tree.NetSide.TheVariants.{Child, Outside}
-use Rattle.place_plan.specs.Strands.{IsAt, at_child, at_outside}
-use Rattle.place_plan.specs.Trees.{IsClimb}
+use Rattle.place_plan.specs.Vocabulary.{IsAt, at_child, at_outside, IsClimb}
 use Rattle.place_plan.proofs.Upward.{higher}
 
 module _ (m : Shape) where

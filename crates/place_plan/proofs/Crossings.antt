@@ -3,15 +3,9 @@ use Rattle.std.proofs.Common.{ℕ, ◌<◌, ◌≤◌, Bool, true, false, List, 
 use Rattle.std.specs.List.{All}
 use Rattle.std.proofs.lemmas.List.Elements.{All-contains, All-push}
 use Rattle.machine_shape.specs.declared.Shape.{Shape}
-use Rattle.place_plan.specs.Lists.{AreThose, IsAmongFirst, nth_of}
-use Rattle.place_plan.specs.Strands.{IsInside}
-use Rattle.place_plan.specs.Room.{HasTerminal, IsAmong, CrossesIn, CrossesAt, IsFreePort}
-use Rattle.place_plan.specs.Touches.{list_at, Touches, TouchesOf}
-use Rattle.machine_shape.specs.Shape.{wires_of, nodes_of, lines_of, own_ports_of, line_at, port_at, IsLine, IsPort}
+use Rattle.place_plan.specs.Vocabulary.{AreThose, IsAmongFirst, nth_of, IsInside, HasTerminal, IsAmong, CrossesIn, CrossesAt, IsFreePort, list_at, Touches, TouchesOf, AreWires, IsFreeLine}
+use Rattle.machine_shape.specs.Vocabulary.{wires_of, nodes_of, lines_of, own_ports_of, line_at, port_at, IsLine, IsPort, HasSites}
 use Rattle.machine_meaning.specs.Defects.{Defects, IsFreeWire}
-use Rattle.machine_shape.specs.Sites.{HasSites}
-use Rattle.place_plan.specs.Choices.{AreWires}
-use Rattle.place_plan.specs.Taps.{IsFreeLine}
 use Rattle.place_plan.proofs.Sieves.{elements_end}
 use Rattle.place_plan.proofs.Those.{those_same}
 

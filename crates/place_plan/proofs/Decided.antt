@@ -7,11 +7,10 @@ use Rattle.std.proofs.lemmas.Bool.{cases_eq, cases_order}
 use Rattle.machine_shape.specs.declared.Shape.{Shape}
 use Rattle.machine_meaning.specs.Defects.{Defects}
 use Rattle.place_plan.specs.declared.short.Need.{Need}
-use Rattle.place_plan.specs.Room.{Pick}
+use Rattle.place_plan.specs.Room.{Pick, CrossesAt, VisitsAt, IsFreePort, Serves, ArePorts, PortsSuffice, PortsAreShort, IsChoiceAt, AreShort, NodeSuffices, IsMet, IsUnmet, IsShortOf, Suffices}
 use Rattle.place_plan.specs.declared.short.Resource.{Resource}
 use Rattle.place_plan.specs.declared.short.Resource.TheVariants.{Tables, Pins, Ports, Lines}
 use Rattle.place_plan.specs.declared.short.Short.{Short}
-use Rattle.place_plan.specs.Room.{CrossesAt, VisitsAt, IsFreePort, Serves, ArePorts, PortsSuffice, PortsAreShort, IsChoiceAt, AreShort, NodeSuffices, IsMet, IsUnmet, IsShortOf, Suffices}
 use Rattle.place_plan.proofs.Counting.{pigeon}
 use Rattle.place_plan.proofs.Those.{those_unique}
 

@@ -9,8 +9,7 @@ use Rattle.place_plan.specs.declared.short.Need.{Need}
 use Rattle.place_plan.specs.declared.short.Resource.{Resource}
 use Rattle.place_plan.specs.declared.short.Resource.TheVariants.{Tables, Pins, Ports, Lines}
 use Rattle.place_plan.specs.declared.short.Short.{Short}
-use Rattle.place_plan.specs.Plans.{number_of, nets_in, IsTerminal, IsFreeTableOf, IsFreePinOf, AreNeeds, IsInOrder, InOrderIsShort, IsShortInOrder, FitsInOrder}
-use Rattle.place_plan.specs.Room.{IsShortOf, Suffices}
+use Rattle.place_plan.specs.Vocabulary.{number_of, nets_in, IsTerminal, IsFreeTableOf, IsFreePinOf, AreNeeds, IsInOrder, InOrderIsShort, IsShortInOrder, FitsInOrder, IsShortOf, Suffices}
 use Rattle.place_plan.proofs.Decided.{never_both}
 use Rattle.place_plan.proofs.Those.{those_unique}
 

@@ -6,13 +6,8 @@ use Rattle.std.proofs.lemmas.Bool.{false_from_ne_true}
 use Rattle.std.proofs.lemmas.List.{length-map}
 use Rattle.std.proofs.lemmas.List.Elements.{All-weaker, Contains-get_or}
 use Rattle.machine_shape.specs.declared.Shape.{Shape}
-use Rattle.machine_shape.specs.Shape.{nodes_of, tables_of, pins_of, crosses_of, hextant_of, pin_wire, table_wire, IsLine, IsPort}
-use Rattle.machine_meaning.specs.Faults.{Faults, stuck_cross}
-use Rattle.machine_meaning.specs.Sound.{IsSoundWire, IsSoundTable, IsWholeLine, IsServed}
-use Rattle.machine_meaning.specs.Defects.{Defects, IsFreeWire, IsFreeTable, IsOpenLine}
-use Rattle.machine_shape.specs.Laws.{IsNumbered, IsTree, HasParents}
-use Rattle.machine_meaning.specs.Tight.{IsTight}
-use Rattle.machine_meaning.specs.Standing.{pin_stands, IsSeated, IsSoundCrossOf, IsStanding, HasStandingParts}
+use Rattle.machine_shape.specs.Vocabulary.{nodes_of, tables_of, pins_of, crosses_of, hextant_of, pin_wire, table_wire, IsLine, IsPort, IsNumbered, IsTree, HasParents}
+use Rattle.machine_meaning.specs.Vocabulary.{Faults, stuck_cross, IsSoundWire, IsSoundTable, IsWholeLine, IsServed, Defects, IsFreeWire, IsFreeTable, IsOpenLine, IsTight, pin_stands, IsSeated, IsSoundCrossOf, IsStanding, HasStandingParts}
 use Rattle.design_netlist.proofs.ListLemmas.{few_numbers}
 use Rattle.map_network.specs.declared.network.Network.{Network}
 use Rattle.map_network.specs.declared.source.Source.TheVariants as source
@@ -22,15 +17,11 @@ use Rattle.place_plan.specs.declared.short.Need.{Need}
 use Rattle.place_plan.specs.declared.short.Resource.{Resource}
 use Rattle.place_plan.specs.declared.short.Resource.TheVariants.{Tables, Pins, Ports, Lines}
 use Rattle.place_plan.specs.declared.short.Short.{Short}
-use Rattle.place_plan.specs.Lists.{AreThose, nth_of}
-use Rattle.place_plan.specs.Strands.{Crosses}
-use Rattle.place_plan.specs.Room.{HasPort, IsTapOf, by_terminal, by_child, by_port, IsFreePort, CrossesAt, VisitsAt, Serves, ArePorts, AreShort, IsUnmet}
-use Rattle.place_plan.specs.Plans.{IsPlan, IsInOrder, IsTerminal, drives, reads, shows, nets_in, number_of, place_of, IsFreeTableOf, IsFreePinOf, AreNeeds, InOrderIsShort, IsShortInOrder}
+use Rattle.place_plan.specs.Vocabulary.{AreThose, nth_of, Crosses, HasPort, IsTapOf, by_terminal, by_child, by_port, IsFreePort, CrossesAt, VisitsAt, Serves, ArePorts, AreShort, IsUnmet, IsPlan, IsInOrder, IsTerminal, drives, reads, shows, nets_in, number_of, place_of, IsFreeTableOf, IsFreePinOf, AreNeeds, InOrderIsShort, IsShortInOrder, AtLeast, IsOpenLineOf, HasEnough, IsSoundTableOf, IsSoundPinOf, IsWholeLineOf, IsSoundPort, HasSoundParts, IsStandingTableOf, IsStandingLineOf, IsStandingPort, HasStandingRoom}
 use Rattle.place_plan.proofs.Counting.{pigeon}
 use Rattle.place_plan.proofs.Fitting.{plan_is}
 use Rattle.machine_shape.proofs.Halves.{All-left, All-right}
 use Rattle.place_plan.proofs.PlanNets.{terminal_within}
-use Rattle.place_plan.specs.Enough.{AtLeast, IsOpenLineOf, HasEnough, IsSoundTableOf, IsSoundPinOf, IsWholeLineOf, IsSoundPort, HasSoundParts, IsStandingTableOf, IsStandingLineOf, IsStandingPort, HasStandingRoom}
 
 -- ---- counts
 

@@ -4,10 +4,8 @@ use Rattle.std.specs.List.{All, AllPairs}
 use Rattle.std.proofs.lemmas.List.{length-map, get_or-take, drop-take, take-append-drop, take-take}
 use Rattle.std.proofs.lemmas.List.Elements.{All-take, All-weaker}
 use Rattle.machine_shape.specs.declared.Shape.{Shape}
-use Rattle.machine_shape.specs.Shape.{nodes_of, tables_of, pins_of, node_of, pin_wire, table_wire, IsTap, tap_pin, tap_table}
+use Rattle.machine_shape.specs.Vocabulary.{nodes_of, tables_of, pins_of, node_of, pin_wire, table_wire, IsTap, tap_pin, tap_table, IsNumbered, IsTree, HasParents, HasTaps, HasCrosses, HasSites}
 use Rattle.machine_meaning.specs.Defects.{Defects, IsFreeWire, IsFreeTable}
-use Rattle.machine_shape.specs.Laws.{IsNumbered, IsTree, HasParents, HasTaps, HasCrosses}
-use Rattle.machine_shape.specs.Sites.{HasSites}
 use Rattle.machine_shape.proofs.Halves.{All-left, All-right}
 use Rattle.map_network.specs.declared.network.Network.{Network}
 use Rattle.map_network.specs.declared.source.Source.TheVariants as source
@@ -19,12 +17,7 @@ use Rattle.place_plan.specs.declared.short.Resource.{Resource}
 use Rattle.place_plan.specs.declared.short.Resource.TheVariants.{Tables, Pins, Ports, Lines}
 use Rattle.place_plan.specs.declared.short.Short.{Short}
 use Rattle.place_plan.specs.declared.short.Visit.{Visit}
-use Rattle.place_plan.specs.Choosing.{IsChoice}
-use Rattle.place_plan.specs.Layouts.{AreHeld, AreVisits}
-use Rattle.place_plan.specs.Lists.{AreThose, nth_of}
-use Rattle.place_plan.specs.Plans.{IsPlan, IsTerminal, drives, reads, shows, nets_in, number_of, place_of, IsFreeTableOf, IsFreePinOf, AreNeeds, IsInOrder, IsInOrderOf, Fits, InOrderIsShort}
-use Rattle.place_plan.specs.Room.{HasTerminal, Suffices, IsShortOf, IsFirstShort}
-use Rattle.place_plan.specs.Terminals.{ArePlanNets}
+use Rattle.place_plan.specs.Vocabulary.{IsChoice, AreHeld, AreVisits, AreThose, nth_of, IsPlan, IsTerminal, drives, reads, shows, nets_in, number_of, place_of, IsFreeTableOf, IsFreePinOf, AreNeeds, IsInOrder, IsInOrderOf, Fits, InOrderIsShort, HasTerminal, Suffices, IsShortOf, IsFirstShort, ArePlanNets}
 use Rattle.place_plan.proofs.Choosing.{choice_is}
 use Rattle.place_plan.proofs.Decided.{never_both}
 use Rattle.place_plan.proofs.PlanNets.{terminal_within}

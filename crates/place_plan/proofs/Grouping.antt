@@ -5,9 +5,7 @@ use Rattle.std.proofs.lemmas.List.{length-set, length-replicate, get_or-replicat
 use Rattle.std.proofs.lemmas.List.Elements.{Contains-push, Contains-push_cases, Contains-append_left}
 use Rattle.std.proofs.lemmas.Bool.{cases_eq, cases_lt}
 use Rattle.place_plan.specs.declared.terminals.Terminal.{Terminal}
-use Rattle.place_plan.specs.Room.{HasTerminal}
-use Rattle.place_plan.specs.Terminals.{AreGrouped}
-use Rattle.place_plan.specs.Touches.{list_at}
+use Rattle.place_plan.specs.Vocabulary.{HasTerminal, AreGrouped, list_at}
 use Rattle.place_plan.proofs.Spreads.{at_set, at_other}
 use Rattle.place_plan.proofs.Those.{not_in_nil}
 

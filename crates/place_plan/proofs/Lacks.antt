@@ -9,9 +9,7 @@ use Rattle.place_plan.specs.declared.short.Resource.TheVariants.{Tables, Pins, P
 use Rattle.place_plan.specs.declared.short.Room.{Room}
 use Rattle.place_plan.specs.declared.short.Room.TheVariants.{Enough, Lacks}
 use Rattle.place_plan.specs.declared.short.Short.{Short}
-use Rattle.place_plan.specs.Lists.{AreThose}
-use Rattle.place_plan.specs.Room.{CrossesAt, IsFreePort, ArePorts, PortsSuffice, AreShort, IsMet, IsShortOf}
-use Rattle.place_plan.specs.Layouts.{IsLackOf, LinesAreShort, NodeIsShort, NodeIsShortOf, SufficeBefore, IsFirstLack, IsNodesRoom, IsRoom}
+use Rattle.place_plan.specs.Vocabulary.{AreThose, CrossesAt, IsFreePort, ArePorts, PortsSuffice, AreShort, IsMet, IsShortOf, IsLackOf, LinesAreShort, NodeIsShort, NodeIsShortOf, SufficeBefore, IsFirstLack, IsNodesRoom, IsRoom}
 
 module _ (m : Shape) (d : Defects) (count : ℕ) (terminal : ℕ → ℕ → Type 0) where
   pub lack_is : (n : ℕ) (s : Short) (crossing ports : List ℕ) → AreThose (CrossesAt m count terminal n) crossing → AreThose (IsFreePort m d n) ports → IsLackOf n (length crossing) (length ports) s → NodeIsShort m d count terminal n s

@@ -5,8 +5,7 @@ use Rattle.std.proofs.lemmas.List.Elements.{All-push, All-weaker, Contains-get_o
 use Rattle.std.proofs.lemmas.List.Quantifiers.{all_pairs_push}
 use Rattle.std.proofs.lemmas.Bool.{cases_eq}
 use Rattle.place_plan.specs.declared.search.Hold.{Hold}
-use Rattle.place_plan.specs.Choices.{IsAssignment}
-use Rattle.place_plan.specs.Search.{owner_at, line_at, IsPartial, ArePicks}
+use Rattle.place_plan.specs.Vocabulary.{IsAssignment, owner_at, line_at, IsPartial, ArePicks}
 use Rattle.place_plan.proofs.Moves.{owned_within}
 
 abbrev Is : List ℕ → List (Option ℕ) → ℕ → Hold → Type 0

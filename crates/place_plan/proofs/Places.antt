@@ -3,12 +3,10 @@ use Rattle.std.proofs.Common.{◌≡◌, ◌≢◌, ℕ, List, length, refl, sym
 use Rattle.std.specs.List.{All}
 use Rattle.std.proofs.lemmas.List.Elements.{All-contains}
 use Rattle.machine_shape.specs.declared.Shape.{Shape}
-use Rattle.machine_shape.specs.Shape.{node_of, IsAbove, itself}
-use Rattle.machine_shape.specs.Laws.{IsTree}
+use Rattle.machine_shape.specs.Vocabulary.{node_of, IsAbove, itself, IsTree}
 use Rattle.place_plan.specs.declared.tree.NetSide.{NetSide}
 use Rattle.place_plan.specs.declared.tree.NetSide.TheVariants.{Own, Child, Outside}
-use Rattle.place_plan.specs.Strands.{IsInside, IsAt, at_own, at_child, at_outside, IsStrand, Visits}
-use Rattle.place_plan.specs.Room.{IsAmong}
+use Rattle.place_plan.specs.Vocabulary.{IsInside, IsAt, at_own, at_child, at_outside, IsStrand, Visits, IsAmong}
 use Rattle.place_plan.proofs.Upward.{higher, not_in_child, one_child}
 
 module _ (m : Shape) where

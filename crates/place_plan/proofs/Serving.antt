@@ -14,13 +14,8 @@ use Rattle.machine_defects.specs.Lists.{DefectList, is_free_cross}
 use Rattle.place_plan.specs.declared.search.Ask.{Ask}
 use Rattle.place_plan.specs.declared.search.Hold.{Hold}
 use Rattle.place_plan.specs.declared.tree.NetSide.TheVariants.{Own, Child, Outside}
-use Rattle.place_plan.specs.Lists.{AreThose, IsNth}
-use Rattle.place_plan.specs.Strands.{at_own, at_child, at_outside, Crosses}
-use Rattle.place_plan.specs.Layouts.{pick_of, net_in}
-use Rattle.place_plan.specs.Choices.{IsAssignment, IsShort, serves_any, serves_by, ask_at, no_ask, is_shut}
-use Rattle.place_plan.specs.Room.{HasTerminal, CrossesAt, VisitsAt, IsFreePort, HasPort, IsTapOf, by_terminal, by_child, by_port, Serves, IsChoiceAt, AreShort}
-use Rattle.place_plan.specs.Taps.{IsHeld, IsTapAmong, IsBoard, AreAsks, IsAskOf, net_of, IsFreeLine}
-use Rattle.place_plan.specs.Touches.{list_at}
+use Rattle.place_plan.specs.Vocabulary.{AreThose, IsNth, at_own, at_child, at_outside, Crosses, pick_of, net_in, IsAssignment, IsShort, serves_any, serves_by, ask_at, no_ask, is_shut, HasTerminal, CrossesAt, VisitsAt, IsFreePort, HasPort, IsTapOf, by_terminal, by_child, by_port, Serves, IsChoiceAt, AreShort, IsHeld, IsTapAmong, IsBoard, AreAsks, IsAskOf, IsFreeLine, list_at}
+use Rattle.place_plan.specs.Taps.{net_of}
 use Rattle.place_plan.proofs.Ranges.{range_below, in_range}
 use Rattle.place_plan.proofs.Shut.{shut_by, shut_has, free_cross_to, free_cross_from}
 use Rattle.place_plan.proofs.Stuck.{kept}

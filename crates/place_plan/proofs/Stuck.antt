@@ -8,8 +8,7 @@ use Rattle.std.proofs.lemmas.List.Kept.{AllPairs-filter}
 use Rattle.std.proofs.lemmas.List.Sums.{length-filter}
 use Rattle.std.proofs.lemmas.List.Folds.{Any-from_list_any, list_any-from_Any}
 use Rattle.place_plan.specs.declared.search.Step.{Step}
-use Rattle.place_plan.specs.Choices.{serves_any, IsShort}
-use Rattle.place_plan.specs.Search.{line_at, step_at, no_step, IsPartial, IsTrail, AreSeen, AreScanned, IsStuck, IsDeadEnd}
+use Rattle.place_plan.specs.Vocabulary.{serves_any, IsShort, line_at, step_at, no_step, IsPartial, IsTrail, AreSeen, AreScanned, IsStuck, IsDeadEnd}
 use Rattle.place_plan.proofs.Counting.{pigeon}
 
 pub stuck : (serves : ℕ → ℕ → Bool) (lines : List ℕ) (os : List (Option ℕ)) (steps : List Step) (seen : List Bool) (h : ℕ) → IsTrail serves lines os steps → AreSeen lines steps seen → length steps ≤ h → AreScanned serves lines steps seen h → IsStuck serves lines steps

@@ -1,8 +1,7 @@
 -- The nodes above a node, from the lower one upwards.
 use Rattle.std.proofs.Common.{◌≡◌, ℕ, suc, ◌≤◌, Some, refl, sym, ap, ◌∙◌, subst, arith}
 use Rattle.machine_shape.specs.declared.Shape.{Shape}
-use Rattle.machine_shape.specs.Shape.{node_of, parent_of, IsAbove, itself, below}
-use Rattle.machine_shape.specs.Laws.{IsTree}
+use Rattle.machine_shape.specs.Vocabulary.{node_of, parent_of, IsAbove, itself, below, IsTree}
 use Rattle.place_plan.specs.Strands.{IsInside}
 
 -- the same as to be above, from the lower node upwards

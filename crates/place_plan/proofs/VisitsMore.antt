@@ -6,12 +6,9 @@ use Rattle.std.proofs.lemmas.List.Elements.{All-nil, All-append, All-map, All-we
 use Rattle.std.proofs.lemmas.Bool.{cases_eq, cases_lt}
 use Rattle.machine_shape.specs.declared.Shape.{Shape}
 use Rattle.machine_meaning.specs.Defects.{Defects}
-use Rattle.place_plan.specs.Room.{Pick}
+use Rattle.place_plan.specs.Vocabulary.{Pick, AreThose, nth_of, CrossesAt, VisitsAt, HasPort, IsFreePort, Serves, NodeSuffices, AreVisits, AreHeld, GoOn, HoldOn, IsEnough, IsRoomAt, visit_of, port_by}
 use Rattle.place_plan.specs.declared.short.Port.{Port}
 use Rattle.place_plan.specs.declared.short.Visit.{Visit}
-use Rattle.place_plan.specs.Lists.{AreThose, nth_of}
-use Rattle.place_plan.specs.Room.{CrossesAt, VisitsAt, HasPort, IsFreePort, Serves, NodeSuffices}
-use Rattle.place_plan.specs.Layouts.{AreVisits, AreHeld, GoOn, HoldOn, IsEnough, IsRoomAt, visit_of, port_by}
 use Rattle.place_plan.proofs.Ranges.{in_range, range_all}
 use Rattle.place_plan.proofs.Serving.{contains_map}
 

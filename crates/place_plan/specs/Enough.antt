@@ -3,10 +3,8 @@ use Rattle.std.specs.Prelude.{◌≢◌, ℕ, ◌+◌, ◌<◌, ◌≤◌, List,
 use Rattle.std.specs.List.{All, AllPairs}
 use Rattle.machine_shape.specs.declared.Shape.{Shape}
 use Rattle.machine_shape.specs.Shape.{nodes_of, tables_of, pins_of, pin_wire, IsLine, IsPort}
-use Rattle.machine_meaning.specs.Faults.{Faults}
-use Rattle.machine_meaning.specs.Sound.{IsSoundWire, IsSoundTable, IsWholeLine, IsServed}
-use Rattle.machine_meaning.specs.Defects.{Defects, IsOpenLine}
-use Rattle.machine_meaning.specs.Standing.{IsSeated, IsSoundCrossOf, IsStanding}
+use Rattle.machine_meaning.specs.Vocabulary.{Faults, IsSoundWire, IsSoundTable, IsWholeLine, IsServed, Defects, IsOpenLine, IsSeated}
+use Rattle.machine_meaning.specs.Vocabulary.{IsSoundCrossOf, IsStanding}
 use Rattle.map_network.specs.declared.network.Network.{Network}
 use Rattle.place_plan.specs.Plans.{IsFreeTableOf, IsFreePinOf, nets_in}
 use Rattle.place_plan.specs.Room.{IsFreePort}

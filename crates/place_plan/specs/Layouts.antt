@@ -9,7 +9,8 @@ use Rattle.place_plan.specs.declared.board.Board.{Board}
 use Rattle.place_plan.specs.declared.search.Ask.{Ask}
 use Rattle.place_plan.specs.declared.search.Hold.{Hold}
 use Rattle.place_plan.specs.declared.short.Need.{Need}
-use Rattle.place_plan.specs.Room.{Pick}
+use Rattle.place_plan.specs.Room.{Pick, HasTerminal, CrossesAt, VisitsAt, HasPort, Serves, IsChoiceAt, PortsSuffice, PortsAreShort}
+use Rattle.place_plan.specs.Room.{AreShort, NodeSuffices, Suffices, IsFirstShort, IsFreePort}
 use Rattle.place_plan.specs.declared.short.Port.{Port}
 use Rattle.place_plan.specs.declared.short.Resource.{Resource}
 use Rattle.place_plan.specs.declared.short.Resource.TheVariants.{Tables, Pins, Ports, Lines}
@@ -19,8 +20,6 @@ use Rattle.place_plan.specs.declared.short.Short.{Short}
 use Rattle.place_plan.specs.declared.short.Visit.{Visit}
 use Rattle.place_plan.specs.Choices.{ask_at}
 use Rattle.place_plan.specs.Lists.{AreThose, AreLists, nth_of}
-use Rattle.place_plan.specs.Room.{HasTerminal, CrossesAt, VisitsAt, HasPort, Serves, IsChoiceAt, PortsSuffice, PortsAreShort, AreShort}
-use Rattle.place_plan.specs.Room.{NodeSuffices, Suffices, IsFirstShort, IsFreePort}
 use Rattle.place_plan.specs.Touches.{AreTouched}
 
 -- the net that gets a line, by the place of its ask

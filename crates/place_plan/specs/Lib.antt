@@ -15,3 +15,4 @@ pub mod Search
 pub mod Taps
 -- When there is room for certain.
 pub mod Enough
+pub mod Vocabulary

@@ -3,9 +3,7 @@
 //! Where as many tables and pins are free as a network has, and at each node as many lines are open and ports free as it has
 //! nets, nothing is short for its in-order plan; a fair list leaves sound parts of served nodes so, and a tight list standing
 //! parts, whether nodes are served or not.
-ghost use Rattle.machine_meaning.specs.Defects.{Defects, IsFair};
-ghost use Rattle.machine_meaning.specs.Faults.{Faults};
-ghost use Rattle.machine_meaning.specs.Tight.{IsTight};
+ghost use Rattle.machine_meaning.specs.Vocabulary.{Defects, IsFair, Faults, IsTight};
 ghost use Rattle.machine_shape.specs.declared.Shape.{Shape};
 ghost use Rattle.map_network.specs.Networks.{IsNetwork};
 ghost use Rattle.map_network.specs.declared.network.Network.{Network};

@@ -1,6 +1,5 @@
 -- Terminals are added to nets.
-use Rattle.std.proofs.Common.{◌≡◌, ◌≢◌, ◌⊎◌, ℕ, ◌+◌, ◌<◌, ◌≤◌, List, [], ◌∷◌, ◌++◌, length, get_or, set, replicate, refl, sym, ap, ◌∙◌, subst, inl, inr, arith}
-use Rattle.std.specs.Prelude.{is_some, ◌==◌, if◌then◌else◌, count_by}
+use Rattle.std.proofs.Common.{◌≡◌, ◌≢◌, ◌⊎◌, ℕ, ◌+◌, ◌<◌, ◌≤◌, List, [], ◌∷◌, ◌++◌, length, get_or, set, replicate, refl, sym, ap, ◌∙◌, subst, inl, inr, arith, is_some, ◌==◌, if◌then◌else◌, count_by}
 use Rattle.std.specs.List.{Contains}
 use Rattle.std.proofs.lemmas.Bool.{cases_eq, cases_lt}
 use Rattle.std.proofs.lemmas.List.{get_or-set_same, get_or-set_other, get_or_past, get_or-replicate, get_or_default, length-set, length-replicate}
@@ -9,8 +8,7 @@ use Rattle.machine_shape.specs.declared.Table.{Table}
 use Rattle.machine_shape.specs.Shape.{pin_wire, table_wire}
 use Rattle.machine_config.specs.Configuration.{Configuration, setting_of}
 use Rattle.machine_image.specs.Images.{ImageValue}
-use Rattle.place_plan.specs.Lists.{nth_of}
-use Rattle.place_plan.specs.Room.{HasTerminal}
+use Rattle.place_plan.specs.Vocabulary.{nth_of, HasTerminal}
 use Rattle.place_plan.proofs.Those.{not_in_nil}
 use Rattle.place_repair.specs.declared.plan.Plan.{Plan}
 use Rattle.place_repair.specs.Marks.{HasMark}

@@ -1,8 +1,7 @@
 -- The nets of a configuration, by the lowest wires of its groups.
 use Rattle.std.proofs.Common.{◌≡◌, ◌≢◌, ◌⊎◌, ℕ, ◌<◌, ◌≤◌, Bool, true, false, List, length, get_or, refl, sym, ap, ◌∙◌, subst, inl, inr, arith}
 use Rattle.std.specs.List.{All, Contains}
-use Rattle.machine_shape.specs.Shape.{Ends, in_order, turned, ends_of, wires_of}
-use Rattle.machine_shape.specs.Laws.{IsNumbered}
+use Rattle.machine_shape.specs.Vocabulary.{Ends, in_order, turned, ends_of, wires_of, IsNumbered}
 use Rattle.machine_meaning.specs.Joined.{here, then, crossed, bridged}
 use Rattle.machine_meaning.proofs.JoinedLemmas.{Joined-trans, Joined-sym}
 use Rattle.std.proofs.lemmas.Bool.{false≢true}

@@ -1,30 +1,22 @@
 -- A repaired image: which net has which wire, and that pins and tables hang together as before.
-use Rattle.std.proofs.Common.{◌≡◌, ◌⊎◌, ℕ, ◌<◌, Bool, true, false, List, ◌++◌, length, get_or, refl, sym, ap, ◌∙◌, subst, inl, inr}
-use Rattle.std.specs.Prelude.{IsSome}
+use Rattle.std.proofs.Common.{◌≡◌, ◌⊎◌, ℕ, ◌<◌, Bool, true, false, List, ◌++◌, length, get_or, refl, sym, ap, ◌∙◌, subst, inl, inr, IsSome}
 use Rattle.std.specs.List.{All, Contains}
 use Rattle.std.specs.FinSet as set
 use Rattle.std.proofs.lemmas.Bool.{false≢true, cases_Bool}
 use Rattle.std.proofs.lemmas.List.Elements.{All-contains}
 use Rattle.machine_shape.specs.declared.Shape.{Shape}
 use Rattle.machine_shape.specs.Shape.{Ends, in_order, turned, ends_of, wires_of, nodes_of, tables_of, pins_of, pin_wire, table_wire, node_of, IsLine, IsPort, IsTap, tap_pin, tap_table}
-use Rattle.machine_meaning.specs.Joined.{Joined, here, then, crossed, bridged, plain_net}
+use Rattle.machine_meaning.specs.Vocabulary.{Joined, here, then, crossed, bridged, plain_net, Defects, IsFreeWire, IsFreeCross}
 use Rattle.machine_meaning.proofs.JoinedLemmas.{Joined-trans, Joined-sym}
-use Rattle.machine_meaning.specs.Defects.{Defects, IsFreeWire, IsFreeCross}
 use Rattle.machine_config.specs.Configuration.{Configuration, is_closed, setting_of}
-use Rattle.machine_image.specs.Images.{ImageValue, IsImage}
-use Rattle.machine_image.specs.Parts.{Uses, at_tap, at_line}
+use Rattle.machine_image.specs.Vocabulary.{ImageValue, IsImage, Uses, at_tap, at_line}
 use Rattle.machine_image.proofs.FreeWires.{keeps}
 use Rattle.place_plan.specs.declared.short.Port.{Port}
 use Rattle.place_plan.specs.declared.short.Visit.{Visit}
-use Rattle.place_plan.specs.Choices.{AreWires}
-use Rattle.place_plan.specs.Layouts.{AreHeld, AreVisits}
+use Rattle.place_plan.specs.Vocabulary.{AreWires, AreHeld, AreVisits, HasTerminal, IsTapOf, Crosses}
 use Rattle.place_plan.specs.Room as room
-use Rattle.place_plan.specs.Room.{HasTerminal, IsTapOf}
-use Rattle.place_plan.specs.Strands.{Crosses}
 use Rattle.place_plan.proofs.Upward.{up_of}
-use Rattle.place_route.specs.Owners.{HasLine}
-use Rattle.place_route.specs.Routed.{IsJoined, HasPortIn, AreWiresOf}
-use Rattle.place_route.specs.Trees.{IsNetTap, by_terminal, by_child, by_port, IsLaidOnTree, IsOfNet, as_terminal, as_line, as_port, AreTerminals}
+use Rattle.place_route.specs.Vocabulary.{HasLine, IsJoined, HasPortIn, AreWiresOf, IsNetTap, by_terminal, by_child, by_port, IsLaidOnTree, IsOfNet, as_terminal, as_line, as_port, AreTerminals}
 use Rattle.place_route.proofs.Drawn.{Numbering, IsDrawnBy, drawn_wires, drawn_laid, drawn_free, visit, held}
 use Rattle.place_route.proofs.Ported.{crossed_within}
 use Rattle.place_route.proofs.OnTree.{one_net, net_joined, nets_apart, to_port}

@@ -1,6 +1,5 @@
 -- Where tables and pins stand: at one place each, and no two at one.
-use Rattle.std.proofs.Common.{◌≡◌, ◌≢◌, ◌⊎◌, ℕ, zero, suc, ◌<◌, ◌≤◌, Bool, true, false, cond, not, List, [], ◌∷◌, ◌++◌, length, get_or, All, refl, sym, ap, ◌∙◌, subst, inl, inr, arith}
-use Rattle.std.specs.Prelude.{IsSome, None, Option, ◌↔◌}
+use Rattle.std.proofs.Common.{◌≡◌, ◌≢◌, ◌⊎◌, ℕ, zero, suc, ◌<◌, ◌≤◌, Bool, true, false, cond, not, List, [], ◌∷◌, ◌++◌, length, get_or, All, refl, sym, ap, ◌∙◌, subst, inl, inr, arith, IsSome, None, Option, ◌↔◌}
 use Rattle.std.specs.List.{AllPairs, Contains, filter}
 use Rattle.std.specs.FinSet as set
 use Rattle.std.proofs.lemmas.Bool.{false≢true, cases_eq}
@@ -13,10 +12,8 @@ use Rattle.machine_meaning.specs.Defects.{Defects, IsFreeTable}
 use Rattle.machine_defects.specs.Lists.{is_free_table}
 use Rattle.machine_config.specs.declared.Setting.{Setting}
 use Rattle.machine_config.specs.Configuration.{setting_of}
-use Rattle.machine_image.specs.Images.{ImageValue, IsImage}
-use Rattle.machine_image.specs.Parts.{Uses, at_pin}
-use Rattle.place_plan.specs.Lists.{nth_of}
-use Rattle.place_plan.specs.Plans.{IsFreePin}
+use Rattle.machine_image.specs.Vocabulary.{ImageValue, IsImage, Uses, at_pin}
+use Rattle.place_plan.specs.Vocabulary.{nth_of, IsFreePin}
 use Rattle.place_plan.proofs.Those.{different_at, same_place}
 use Rattle.place_repair.specs.declared.seats.Moves.{Moves}
 use Rattle.place_repair.specs.declared.seats.Seats.{Seats}

@@ -1,11 +1,9 @@
 -- Which nets are kept: those without a closed crosspoint and a table that isn't free.
-use Rattle.std.proofs.Common.{◌≡◌, ◌≢◌, ◌⊎◌, ℕ, ◌+◌, ◌<◌, ◌≤◌, Bool, true, false, List, length, get_or, refl, sym, ◌∙◌, subst, inl, inr, arith}
-use Rattle.std.specs.Prelude.{IsSome, is_some, ◌↔◌, ◌==◌, if◌then◌else◌, count_by}
+use Rattle.std.proofs.Common.{◌≡◌, ◌≢◌, ◌⊎◌, ℕ, ◌+◌, ◌<◌, ◌≤◌, Bool, true, false, List, length, get_or, refl, sym, ◌∙◌, subst, inl, inr, arith, IsSome, is_some, ◌↔◌, ◌==◌, if◌then◌else◌, count_by}
 use Rattle.std.proofs.lemmas.Bool.{false≢true, cases_eq}
 use Rattle.machine_shape.specs.declared.Cross.{Cross}
 use Rattle.machine_shape.specs.declared.Table.{Table}
-use Rattle.machine_shape.specs.Shape.{ends_of, table_wire, pin_wire}
-use Rattle.machine_shape.specs.Laws.{IsNumbered}
+use Rattle.machine_shape.specs.Vocabulary.{ends_of, table_wire, pin_wire, IsNumbered}
 use Rattle.machine_meaning.specs.Defects.{Defects, IsFreeWire, IsFreeCross, IsFreeTable}
 use Rattle.machine_defects.specs.Lists.{is_free_cross, is_free_table}
 use Rattle.machine_config.specs.Configuration.{Configuration, is_closed, setting_of}

@@ -12,10 +12,8 @@ use Rattle.machine_config.specs.Configuration.{Configuration, is_closed, setting
 use Rattle.machine_image.specs.Images.{ImageValue, IsImage}
 use Rattle.place_plan.specs.declared.short.Port.{Port}
 use Rattle.place_plan.specs.declared.short.Visit.{Visit}
-use Rattle.place_plan.specs.Lists.{AreThose, nth_of}
-use Rattle.place_plan.specs.Room.{HasTerminal}
-use Rattle.place_route.specs.Closing.{Closes}
-use Rattle.place_route.specs.Routed.{IsJoined}
+use Rattle.place_plan.specs.Vocabulary.{AreThose, nth_of, HasTerminal}
+use Rattle.place_route.specs.Vocabulary.{Closes, IsJoined}
 use Rattle.place_repair.specs.declared.nets.NetList.{NetList}
 use Rattle.place_repair.specs.declared.plan.Plan.{Plan}
 use Rattle.place_repair.specs.declared.seats.Moves.{Moves}

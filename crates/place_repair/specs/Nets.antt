@@ -2,8 +2,7 @@
 use Rattle.std.specs.Prelude.{◌≡◌, ℕ, ◌<◌, ◌≤◌, true, List, length, ◌++◌, IsSome}
 use Rattle.std.specs.List.{Contains}
 use Rattle.machine_shape.specs.Shape.{ends_of, pin_wire, table_wire}
-use Rattle.machine_meaning.specs.Joined.{Joined, plain_net}
-use Rattle.machine_meaning.specs.Defects.{Defects, IsFreeWire, IsFreeCross, IsFreeTable}
+use Rattle.machine_meaning.specs.Vocabulary.{Joined, plain_net, Defects, IsFreeWire, IsFreeCross, IsFreeTable}
 use Rattle.machine_config.specs.Configuration.{Configuration, is_closed, setting_of}
 use Rattle.machine_image.specs.Images.{ImageValue}
 use Rattle.place_plan.specs.Lists.{AreThose, nth_of}

@@ -7,15 +7,12 @@ use Rattle.machine_shape.specs.Shape.{ends_of, pin_wire, table_wire, pins_of, ta
 use Rattle.machine_meaning.specs.Defects.{Defects, IsFreeWire, IsFreeTable}
 use Rattle.machine_defects.specs.Lists.{is_free_wire}
 use Rattle.machine_config.specs.Configuration.{setting_of}
-use Rattle.machine_image.specs.Images.{ImageValue}
-use Rattle.machine_image.specs.Parts.{Uses}
+use Rattle.machine_image.specs.Vocabulary.{ImageValue, Uses}
 use Rattle.place_plan.specs.declared.short.Need.{Need}
 use Rattle.place_plan.specs.declared.short.Resource.{Resource}
 use Rattle.place_plan.specs.declared.short.Resource.TheVariants.{Tables, Pins, Ports, Lines}
 use Rattle.place_plan.specs.declared.short.Short.{Short}
-use Rattle.place_plan.specs.Lists.{AreThose, IsNth}
-use Rattle.place_plan.specs.Plans.{IsFreePin}
-use Rattle.place_plan.specs.Room.{HasTerminal, IsMet, IsUnmet, IsShortOf, Suffices}
+use Rattle.place_plan.specs.Vocabulary.{AreThose, IsNth, IsFreePin, HasTerminal, IsMet, IsUnmet, IsShortOf, Suffices}
 use Rattle.place_repair.specs.declared.seats.Moves.{Moves}
 use Rattle.place_repair.specs.declared.seats.Seats.{Seats}
 use Rattle.place_repair.specs.Nets.{HasWire, AreNumbered, IsKept}

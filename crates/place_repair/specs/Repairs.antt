@@ -2,18 +2,13 @@
 use Rattle.std.specs.Prelude.{◌≡◌, ◌⊎◌, ℕ, ◌<◌, true, List, Bool, map, length, IsSome}
 use Rattle.std.specs.List.{Contains}
 use Rattle.machine_shape.specs.Shape.{ends_of, nodes_of, IsPort}
-use Rattle.machine_meaning.specs.Faults.{Faults, IsFaultless}
-use Rattle.machine_meaning.specs.Circuit.{Pins}
-use Rattle.machine_meaning.specs.Defects.{Defects, Covers}
-use Rattle.machine_config.specs.Configuration.{is_closed, setting_of}
-use Rattle.machine_config.specs.Faulty.{IsRun}
+use Rattle.machine_meaning.specs.Vocabulary.{Faults, IsFaultless, Pins, Defects, Covers}
+use Rattle.machine_config.specs.Vocabulary.{is_closed, setting_of, IsRun}
 use Rattle.machine_image.specs.Images.{ImageValue, drive_of, image_row}
 use Rattle.place_plan.specs.declared.short.PlaceFail.{PlaceFail}
 use Rattle.place_plan.specs.declared.short.PlaceFail.TheVariants as fail
 use Rattle.place_plan.specs.declared.short.Visit.{Visit}
-use Rattle.place_plan.specs.Layouts.{AreVisits}
-use Rattle.place_plan.specs.Lists.{nth_of}
-use Rattle.place_plan.specs.Room.{HasTerminal, CrossesAt, HasPort, IsTapOf}
+use Rattle.place_plan.specs.Vocabulary.{AreVisits, nth_of, HasTerminal, CrossesAt, HasPort, IsTapOf}
 use Rattle.place_repair.specs.declared.seats.Seats.{Seats}
 use Rattle.place_repair.specs.Nets.{HangTogether, HasWire}
 use Rattle.place_repair.specs.Plans.{AreSeats, AreNets, HasRoom, IsKeptWire, IsShortPlan, IsStaying, Nets, PinSits, TableSits}

@@ -3,8 +3,7 @@ ghost use Rattle.std.specs.Prelude.{◌≡◌, ◌<◌, OnOk, IfOk, length};
 ghost use Rattle.std.specs.FinSet as set;
 ghost use Rattle.machine_shape.specs.Shape.{tables_of, crosses_of};
 ghost use Rattle.machine_config.specs.Configuration.{setting_of, with_setting};
-ghost use Rattle.place_route.specs.Closing.{Closes};
-ghost use Rattle.place_route.specs.Routed.{AreWiresOf};
+ghost use Rattle.place_route.specs.Vocabulary.{Closes, AreWiresOf};
 ghost use Rattle.place_plan.specs.Lists.{nth_of};
 ghost use Rattle.place_repair.specs.Making.{AreApart, AreSeated, AreSizedFor, IsDrawn, IsKeptCross, IsKeptCrossOf, IsOn};
 

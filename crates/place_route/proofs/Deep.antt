@@ -4,8 +4,7 @@ use Rattle.std.specs.List.{All, AllPairs, Contains}
 use Rattle.std.proofs.lemmas.List.{get_or_default}
 use Rattle.map_network.specs.declared.source.Source.TheVariants.{Table}
 use Rattle.map_network.specs.declared.network.Network.{Network}
-use Rattle.map_network.specs.Networks.{IsCombinational, IsPath, alone, onward, IsDeepest, table_at}
-use Rattle.map_network.specs.Depths.{IsDepth}
+use Rattle.map_network.specs.Vocabulary.{IsCombinational, IsPath, alone, onward, IsDeepest, table_at, IsDepth}
 use Rattle.place_plan.proofs.PlanNets.{few_below}
 
 module _ (n : Network) where

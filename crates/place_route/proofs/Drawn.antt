@@ -1,6 +1,5 @@
 -- Nets of lists, with ports and lines, are laid on the tree by the crosspoints that are closed for them.
-use Rattle.std.proofs.Common.{◌≡◌, ◌≢◌, ◌⊎◌, ℕ, ◌*◌, ◌<◌, ◌≤◌, true, Some, None, Option, IsSome, List, length, get_or, refl, sym, ap, ◌∙◌, subst, inl, inr, arith}
-use Rattle.std.specs.Prelude.{◌↔◌}
+use Rattle.std.proofs.Common.{◌≡◌, ◌≢◌, ◌⊎◌, ℕ, ◌*◌, ◌<◌, ◌≤◌, true, Some, None, Option, IsSome, List, length, get_or, refl, sym, ap, ◌∙◌, subst, inl, inr, arith, ◌↔◌}
 use Rattle.std.specs.List.{All}
 use Rattle.std.specs.BTreeMap.{BTreeMap}
 use Rattle.std.specs.FinSet as set
@@ -11,22 +10,14 @@ use Rattle.std.proofs.lemmas.List.{get_or_past}
 use Rattle.std.proofs.lemmas.List.Elements.{All-contains}
 use Rattle.machine_shape.specs.declared.Shape.{Shape}
 use Rattle.machine_shape.specs.Shape as meaning
-use Rattle.machine_shape.specs.Shape.{wires_of, crosses_of, nodes_of, node_of, parent_of, ends_of, IsLine, IsPort, IsTap, tap_pin, tap_port, tap_child, tap_table}
-use Rattle.machine_shape.specs.Laws.{IsNumbered, IsTree, HasParents, HasTaps, HasCrosses, HasMeanings}
-use Rattle.machine_shape.specs.Sites.{HasSites}
+use Rattle.machine_shape.specs.Vocabulary.{wires_of, crosses_of, nodes_of, node_of, parent_of, ends_of, IsLine, IsPort, IsTap, tap_pin, tap_port, tap_child, tap_table, IsNumbered, IsTree, HasParents, HasTaps, HasCrosses, HasMeanings, HasSites}
 use Rattle.machine_meaning.specs.Defects.{Defects, IsFreeCross}
 use Rattle.machine_config.specs.Configuration.{Configuration, is_closed, cleared}
 use Rattle.place_plan.specs.declared.short.Port.{Port}
 use Rattle.place_plan.specs.declared.short.Visit.{Visit}
-use Rattle.place_plan.specs.Choices.{AreWires}
-use Rattle.place_plan.specs.Layouts.{AreHeld, AreVisits}
-use Rattle.place_plan.specs.Room.{HasTerminal, CrossesAt, VisitsAt, HasPort, Serves}
+use Rattle.place_plan.specs.Vocabulary.{AreWires, AreHeld, AreVisits, HasTerminal, CrossesAt, VisitsAt, HasPort, Serves, Crosses, Visits}
 use Rattle.place_plan.specs.Room as room
-use Rattle.place_plan.specs.Strands.{Crosses, Visits}
-use Rattle.place_route.specs.Trees.{IsNetTap, by_terminal, by_child, by_port, IsLaidOnTree, AreTerminals}
-use Rattle.place_route.specs.Owners.{owner_at, AreOwners, Holds, HasLine, AreLines, line_in}
-use Rattle.place_route.specs.Closing.{Closes, IsJoint, IsNear, IsOwnedJoint}
-use Rattle.place_route.specs.Routed.{AreWiresOf, IsJoined, HasPortIn}
+use Rattle.place_route.specs.Vocabulary.{IsNetTap, by_terminal, by_child, by_port, IsLaidOnTree, AreTerminals, owner_at, AreOwners, Holds, HasLine, AreLines, line_in, Closes, IsJoint, IsNear, IsOwnedJoint, AreWiresOf, IsJoined, HasPortIn}
 use Rattle.place_route.proofs.Ported.{port_of_one, port_is_port, line_of_one, net_of_one, visited_within, crossed_within, has_cross, tap_at_line}
 
 none_some : {X : Type 0} {o : Option X} {x : X} → o ≡ None → o ≡ Some x → ⊥

@@ -8,11 +8,9 @@ use Rattle.std.specs.Ordering.{nat_cmp, eq_by_cmp}
 use Rattle.std.proofs.Math.Bool.{or-true}
 use Rattle.std.proofs.lemmas.Bool.{or_cases, eq-eqb, cases_eq}
 use Rattle.machine_shape.specs.declared.Shape.{Shape}
-use Rattle.machine_shape.specs.Shape.{crosses_of, ends_of, node_of, parent_of}
-use Rattle.machine_shape.specs.Laws.{HasCrosses}
+use Rattle.machine_shape.specs.Vocabulary.{crosses_of, ends_of, node_of, parent_of, HasCrosses}
 use Rattle.machine_config.specs.Configuration.{Configuration, is_closed, with_closed}
-use Rattle.place_route.specs.Owners.{owner_at, line_in}
-use Rattle.place_route.specs.Closing.{Closes, IsJoint, IsNear, IsWireJoint, IsJointAt, IsOwnedJoint}
+use Rattle.place_route.specs.Vocabulary.{owner_at, line_in, Closes, IsJoint, IsNear, IsWireJoint, IsJointAt, IsOwnedJoint}
 
 module _ (g : Configuration) (x : ℕ) where
   closed_which : (y : ℕ) → is_closed (with_closed g x) y ≡ true → (is_closed g y ≡ true) ⊎ (y ≡ x)

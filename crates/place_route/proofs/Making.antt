@@ -1,9 +1,7 @@
 -- What a search for room gives to a route.
-use Rattle.std.proofs.Common.{◌≡◌, refl, subst}
-use Rattle.std.specs.Prelude.{Option, None, Some, IfNone, IfSome, IsSome}
+use Rattle.std.proofs.Common.{◌≡◌, refl, subst, Option, None, Some, IfNone, IfSome, IsSome}
 use Rattle.machine_shape.specs.declared.Shape.{Shape}
-use Rattle.machine_shape.specs.Laws.{IsNumbered, IsTree, HasParents, HasTaps, HasCrosses, HasMeanings}
-use Rattle.machine_shape.specs.Sites.{HasSites}
+use Rattle.machine_shape.specs.Vocabulary.{IsNumbered, IsTree, HasParents, HasTaps, HasCrosses, HasMeanings, HasSites}
 use Rattle.machine_meaning.specs.Defects.{Defects}
 use Rattle.map_network.specs.declared.network.Network.{Network}
 use Rattle.place_plan.specs.declared.layout.Layout.{Layout}

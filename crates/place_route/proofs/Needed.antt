@@ -2,22 +2,17 @@
 use Rattle.std.proofs.Common.{◌≡◌, ℕ, ◌<◌, true, subst}
 use Rattle.std.proofs.lemmas.List.Elements.{All-contains}
 use Rattle.machine_shape.specs.declared.Shape.{Shape}
-use Rattle.machine_shape.specs.Shape.{nodes_of, ends_of}
-use Rattle.machine_shape.specs.Laws.{IsNumbered, HasParents}
+use Rattle.machine_shape.specs.Vocabulary.{nodes_of, ends_of, IsNumbered, HasParents}
 use Rattle.machine_meaning.specs.Defects.{Defects}
 use Rattle.machine_config.specs.Configuration.{is_closed}
 use Rattle.machine_image.specs.Images.{ImageValue}
 use Rattle.map_network.specs.declared.network.Network.{Network}
 use Rattle.map_network.specs.Networks.{IsNetwork}
 use Rattle.place_plan.specs.declared.plan.Plan.{Plan}
-use Rattle.place_plan.specs.Plans.{Fits, IsPlan, IsTerminal, nets_in}
-use Rattle.place_plan.specs.Room.{CrossesAt, HasPort}
+use Rattle.place_plan.specs.Vocabulary.{Fits, IsPlan, IsTerminal, nets_in, CrossesAt, HasPort}
 use Rattle.place_plan.specs.Room as room
 use Rattle.place_plan.proofs.PlanNets.{terminal_within}
-use Rattle.place_route.specs.Trees.{IsNetTap, by_terminal, by_child, by_port}
-use Rattle.place_route.specs.Owners.{HasLine}
-use Rattle.place_route.specs.Routed.{HasPortIn, IsRouteOf}
-use Rattle.place_route.specs.RoutedImages.{IsRoutedFor}
+use Rattle.place_route.specs.Vocabulary.{IsNetTap, by_terminal, by_child, by_port, HasLine, HasPortIn, IsRouteOf, IsRoutedFor}
 use Rattle.place_route.proofs.Ported.{same_port, crossed_within}
 
 module _ (numbered : (m : Shape) → IsNumbered m) (parents : (m : Shape) → HasParents m) (m : Shape) (d : Defects) (n : Network) (p : Plan) (i : ImageValue) (network : IsNetwork n) (plan : IsPlan m d n p) (is : IsRouteOf m d n p i) where

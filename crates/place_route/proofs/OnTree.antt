@@ -2,8 +2,7 @@
 use Rattle.std.proofs.Common.{◌≡◌, ◌≢◌, ℕ, Bool, true, Some, refl, sym, ap, ◌∙◌, subst}
 use native.Mathlib.Decide.{ℕ_discrete}
 use Rattle.machine_shape.specs.declared.Shape.{Shape}
-use Rattle.machine_shape.specs.Shape.{in_order, ends_of, node_of, parent_of}
-use Rattle.machine_shape.specs.Laws.{IsTree}
+use Rattle.machine_shape.specs.Vocabulary.{in_order, ends_of, node_of, parent_of, IsTree}
 use Rattle.machine_meaning.specs.Joined.{Joined, here, then, crossed, plain_net}
 use Rattle.machine_meaning.proofs.JoinedLemmas.{Joined-trans, Joined-sym}
 use Rattle.place_plan.specs.declared.tree.NetSide.{NetSide}

@@ -2,27 +2,20 @@
 use Rattle.std.proofs.Common.{◌≡◌, ◌⊎◌, ℕ, ◌+◌, ◌<◌, Bool, true, false, Some, None, Option, List, length, get_or, refl, sym, ap, ◌∙◌, subst, inl, inr, arith}
 use Rattle.std.proofs.lemmas.Bool.{false≢true, cases_Bool}
 use Rattle.std.proofs.lemmas.List.{get_or_append_left, get_or-append-add, length-append, length-map}
-use Rattle.machine_shape.specs.Shape.{Ends, in_order, turned, ends_of, pin_wire, table_wire, pins_of, tables_of, crosses_of}
-use Rattle.machine_shape.specs.Laws.{IsNumbered}
-use Rattle.machine_meaning.specs.Faults.{Faults}
-use Rattle.machine_meaning.specs.Joined.{Joined, here, plain_net}
-use Rattle.machine_meaning.specs.Circuit.{Outputs}
-use Rattle.machine_meaning.specs.Value.{Pulls, by_pin, by_table, IsHeld, IsPulled, IsValue, held_0, held_1, pulled, released}
-use Rattle.machine_meaning.specs.Defects.{Defects, IsFreeWire, IsFreeCross, IsFreeTable, Covers}
+use Rattle.machine_shape.specs.Vocabulary.{Ends, in_order, turned, ends_of, pin_wire, table_wire, pins_of, tables_of, crosses_of, IsNumbered}
+use Rattle.machine_meaning.specs.Vocabulary.{Faults, Joined, here, plain_net, Outputs, Pulls, by_pin, by_table, IsHeld, IsPulled, IsValue, held_0, held_1, pulled, released, Defects, IsFreeWire, IsFreeCross, IsFreeTable, Covers}
 use Rattle.machine_meaning.proofs.Values.{IsValue-along}
 use Rattle.machine_meaning.proofs.Covered.{none_stuck, joined_plainly}
-use Rattle.machine_config.specs.Configuration.{Configuration, is_closed, setting_of}
-use Rattle.machine_config.specs.Faulty.{circuit_of}
+use Rattle.machine_config.specs.Vocabulary.{Configuration, is_closed, setting_of, circuit_of}
 use Rattle.machine_image.specs.Images.{drive_on}
 use Rattle.machine_image.proofs.Driven.{drive_pin, drive_low}
 use Rattle.machine_image.proofs.FreeWires.{IsGood, IsOff, joined_too, keeps}
 use Rattle.map_network.specs.declared.source.Source.{Source}
 use Rattle.map_network.specs.declared.source.Source.TheVariants.{Input, Table}
 use Rattle.map_network.specs.declared.network.Network.{Network}
-use Rattle.map_network.specs.Networks.{IsNetwork, IsSourceOf}
-use Rattle.map_network.specs.Rows.{bit_of}
+use Rattle.map_network.specs.Vocabulary.{IsNetwork, IsSourceOf, bit_of}
 use Rattle.place_plan.specs.declared.plan.Plan.{Plan}
-use Rattle.place_plan.specs.Plans.{place_of, places, number_of, driver_of, net_of, drives}
+use Rattle.place_plan.specs.Plans.{net_of, place_of, places, number_of, driver_of, drives}
 use Rattle.place_route.specs.Layouts.{reader_of, IsLaidOut}
 
 -- sources of one net are one

@@ -4,16 +4,12 @@ use Rattle.std.specs.List.{AllPairs, Contains}
 use Rattle.std.proofs.lemmas.Bool.{cases_order}
 use Rattle.std.proofs.lemmas.List.{get_or_default}
 use Rattle.machine_shape.specs.declared.Shape.{Shape}
-use Rattle.machine_shape.specs.Shape.{wires_of, crosses_of, nodes_of, ends_of, node_of_cross, tap_position, line_position, tap_at, line_at, cross_at, IsLine, IsPort, IsTap, IsAbove, itself, below}
-use Rattle.machine_shape.specs.Laws.{IsTree, HasParents, HasTaps, HasCrosses}
-use Rattle.machine_shape.specs.Sites.{HasSites}
+use Rattle.machine_shape.specs.Vocabulary.{wires_of, crosses_of, nodes_of, ends_of, node_of_cross, tap_position, line_position, tap_at, line_at, cross_at, IsLine, IsPort, IsTap, IsAbove, itself, below, IsTree, HasParents, HasTaps, HasCrosses, HasSites}
 use Rattle.machine_meaning.specs.Defects.{Defects}
 use Rattle.place_plan.specs.declared.short.Visit.{Visit}
 use Rattle.place_plan.specs.declared.tree.NetSide.{NetSide}
 use Rattle.place_plan.specs.declared.tree.NetSide.TheVariants.{Own, Child, Outside}
-use Rattle.place_plan.specs.Lists.{IsNth}
-use Rattle.place_plan.specs.Strands.{IsAt, at_own, at_child, at_outside, Crosses, Visits}
-use Rattle.place_plan.specs.Room.{CrossesAt, IsFreePort, HasPort}
+use Rattle.place_plan.specs.Vocabulary.{IsNth, IsAt, at_own, at_child, at_outside, Crosses, Visits, CrossesAt, IsFreePort, HasPort}
 use Rattle.place_plan.proofs.Those.{those_unique, same_place}
 use Rattle.place_route.specs.Owners.{HasLine}
 

@@ -3,23 +3,15 @@ use Rattle.std.proofs.Common.{◌≡◌, ◌⊎◌, ℕ, ◌<◌, ◌≤◌, Boo
 use Rattle.std.proofs.lemmas.Bool.{cases_lt, false≢true, lt-ltb}
 use Rattle.machine_shape.specs.declared.Shape.{Shape}
 use Rattle.machine_shape.specs.Laws.{IsNumbered, IsTree}
-use Rattle.machine_meaning.specs.Faults.{Faults}
-use Rattle.machine_meaning.specs.Defects.{Defects, Covers}
+use Rattle.machine_meaning.specs.Vocabulary.{Faults, Defects, Covers}
 use Rattle.design_netlist.specs.declared.netlist_data.NetlistData.{NetlistData}
 use Rattle.machine_config.specs.Configuration.{is_closed}
-use Rattle.machine_image.specs.Images.{ImageValue, image_row}
-use Rattle.machine_image.specs.Parts.{IsFreeImage}
+use Rattle.machine_image.specs.Vocabulary.{ImageValue, image_row, IsFreeImage}
 use Rattle.map_network.specs.declared.network.Network.{Network}
-use Rattle.map_network.specs.Networks.{IsNetwork, IsDeepest}
-use Rattle.map_network.specs.Rows.{AreRows, HasRowsOf}
+use Rattle.map_network.specs.Vocabulary.{IsNetwork, IsDeepest, AreRows, HasRowsOf}
 use Rattle.place_plan.specs.declared.plan.Plan.{Plan}
 use Rattle.place_plan.specs.Plans.{IsPlan, IsTerminal}
-use Rattle.place_route.specs.RightImages.{IsRightImage, ReadsRows}
-use Rattle.place_route.specs.Layouts.{image_at}
-use Rattle.place_route.specs.Owners.{HasLine}
-use Rattle.place_route.specs.Trees.{IsLaidOnTree}
-use Rattle.place_route.specs.Ticks.{AreTicks}
-use Rattle.place_route.specs.Routed.{HasPortIn, IsRouteOf}
+use Rattle.place_route.specs.Vocabulary.{IsRightImage, ReadsRows, image_at, HasLine, IsLaidOnTree, AreTicks, HasPortIn, IsRouteOf}
 use Rattle.place_route.proofs.Routed.{set_is_free, tree_reads_rows}
 
 pub ticks_enough : (n : Network) (ticks : ℕ) → AreTicks n ticks → IsDeepest n ticks

@@ -1,20 +1,15 @@
 -- Nets of a network that are laid on the tree read its rows.
 use Rattle.std.proofs.Common.{◌≡◌, ℕ, ◌<◌, ◌≤◌, length, refl, subst, arith}
 use Rattle.std.proofs.lemmas.List.{length-map}
-use Rattle.machine_shape.specs.Shape.{IsLine, IsPort}
-use Rattle.machine_shape.specs.Laws.{IsNumbered, IsTree}
-use Rattle.machine_meaning.specs.Faults.{Faults}
-use Rattle.machine_meaning.specs.Defects.{Defects, IsFreeTable, Covers}
+use Rattle.machine_shape.specs.Vocabulary.{IsLine, IsPort, IsNumbered, IsTree}
+use Rattle.machine_meaning.specs.Vocabulary.{Faults, Defects, IsFreeTable, Covers}
 use Rattle.machine_config.specs.Configuration.{Configuration, is_closed}
 use Rattle.machine_image.specs.Parts.{IsFreeImage}
 use Rattle.map_network.specs.declared.network.Network.{Network}
-use Rattle.map_network.specs.Networks.{IsNetwork, IsDeepest, table_at}
-use Rattle.map_network.specs.Rows.{AreRows}
+use Rattle.map_network.specs.Vocabulary.{IsNetwork, IsDeepest, table_at, AreRows}
 use Rattle.place_plan.specs.declared.plan.Plan.{Plan}
-use Rattle.place_route.specs.RightImages.{ReadsRows}
+use Rattle.place_route.specs.Vocabulary.{ReadsRows, reader_of, IsSet, IsWired, image_at, IsLaidOnTree, IsOfNet, as_terminal, as_line, as_port}
 use Rattle.place_plan.specs.Plans.{place_of, places, number_of, IsTerminal, IsPlan}
-use Rattle.place_route.specs.Layouts.{reader_of, IsSet, IsWired, image_at}
-use Rattle.place_route.specs.Trees.{IsLaidOnTree, IsOfNet, as_terminal, as_line, as_port}
 use Rattle.place_route.proofs.Terminals.{plan_terminals, no_idle_terminal}
 use Rattle.place_route.proofs.OnTree.{net_joined, nets_apart, one_net}
 use Rattle.place_route.proofs.Turns.{route_reads_rows}

@@ -1,8 +1,7 @@
 -- The terminals of a plan's nets are taps of their nodes.
 use Rattle.std.proofs.Common.{◌≡◌, ℕ, sym, ap, ◌∙◌, inl, inr}
 use Rattle.machine_shape.specs.declared.Shape.{Shape}
-use Rattle.machine_shape.specs.Shape.{node_of, IsTap, tap_pin, tap_table}
-use Rattle.machine_shape.specs.Laws.{IsNumbered, IsTree, HasParents}
+use Rattle.machine_shape.specs.Vocabulary.{node_of, IsTap, tap_pin, tap_table, IsNumbered, IsTree, HasParents}
 use Rattle.machine_meaning.specs.Defects.{Defects}
 use Rattle.map_network.specs.declared.network.Network.{Network}
 use Rattle.map_network.specs.Networks.{IsNetwork}

@@ -19,11 +19,7 @@ use Rattle.place_plan.specs.declared.short.Port.{Port}
 use Rattle.place_plan.specs.declared.short.Visit.{Visit}
 use Rattle.place_plan.specs.Plans.{IsPlan, IsTerminal, nets_in, places, place_of, number_of}
 use Rattle.place_plan.proofs.PlanNets.{terminal_within, terminal_net, few_below, sized_is}
-use Rattle.place_route.specs.Layouts.{IsSet}
-use Rattle.place_route.specs.Trees.{IsLaidOnTree, AreTerminals}
-use Rattle.place_route.specs.Owners.{AreOwners, HasLine, AreLines}
-use Rattle.place_route.specs.Closing.{Closes, IsOwnedJoint, SwitchesOn, no_seat}
-use Rattle.place_route.specs.Routed.{IsLaidBy, AreWiresOf, IsJoined, HasPortIn, IsRouted}
+use Rattle.place_route.specs.Vocabulary.{IsSet, IsLaidOnTree, AreTerminals, AreOwners, HasLine, AreLines, Closes, IsOwnedJoint, SwitchesOn, no_seat, IsLaidBy, AreWiresOf, IsJoined, HasPortIn, IsRouted}
 use Rattle.place_route.proofs.Terminals.{plan_terminals}
 use Rattle.place_route.proofs.Seats.{terminal_tap}
 use Rattle.place_route.proofs.Drawn.{Numbering, IsDrawnBy, drawn_wires, drawn_laid, drawn_free}

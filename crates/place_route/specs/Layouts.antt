@@ -1,8 +1,7 @@
 -- When the nets of a network that sits on a machine are laid on free parts of it.
 use Rattle.std.specs.Prelude.{◌≡◌, ℕ, ◌<◌, ◌≤◌, true, Some, IsSome, length}
 use Rattle.machine_shape.specs.Shape.{ends_of, crosses_of, pin_wire, table_wire}
-use Rattle.machine_meaning.specs.Joined.{Joined, plain_net}
-use Rattle.machine_meaning.specs.Defects.{Defects, IsFreeCross}
+use Rattle.machine_meaning.specs.Vocabulary.{Joined, plain_net, Defects, IsFreeCross}
 use Rattle.machine_config.specs.declared.Setting.{Setting}
 use Rattle.machine_config.specs.Configuration.{Configuration, is_closed, setting_of}
 use Rattle.machine_image.specs.Images.{ImageValue}
@@ -11,8 +10,7 @@ use Rattle.map_network.specs.declared.network.Network.{Network}
 use Rattle.map_network.specs.Networks.{table_at}
 use Rattle.place_plan.specs.declared.plan.Plan.{Plan}
 use Rattle.machine_shape.specs.declared.Shape.{Shape}
-use Rattle.place_plan.specs.Lists.{nth_of}
-use Rattle.place_plan.specs.Plans.{place_of, IsTerminal, IsPlan}
+use Rattle.place_plan.specs.Vocabulary.{nth_of, place_of, IsTerminal, IsPlan}
 
 -- what a table of the machine does for a table of the network
 abbrev pub setting_in : NetTable → Setting

@@ -11,3 +11,4 @@ pub mod Ticks
 -- For the bodies of this crate
 pub mod Owners
 pub mod Closing
+pub mod Vocabulary

@@ -1,8 +1,7 @@
 -- When an image does what a network or a netlist says.
 use Rattle.std.specs.Prelude.{◌≡◌, List, Bool, map, length}
 use Rattle.std.specs.List.{All}
-use Rattle.machine_meaning.specs.Faults.{Faults}
-use Rattle.machine_meaning.specs.Circuit.{Pins}
+use Rattle.machine_meaning.specs.Vocabulary.{Faults, Pins}
 use Rattle.machine_config.specs.Faulty.{IsRun}
 use Rattle.machine_image.specs.Images.{ImageValue, drive_of, image_row}
 use Rattle.design_netlist.specs.declared.netlist_data.NetlistData.{NetlistData}

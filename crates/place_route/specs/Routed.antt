@@ -12,10 +12,7 @@ use Rattle.map_network.specs.declared.network.Network.{Network}
 use Rattle.place_plan.specs.declared.plan.Plan.{Plan}
 use Rattle.place_plan.specs.declared.short.Port.{Port}
 use Rattle.place_plan.specs.declared.short.Visit.{Visit}
-use Rattle.place_plan.specs.Choices.{AreWires}
-use Rattle.place_plan.specs.Layouts.{AreHeld, AreVisits}
-use Rattle.place_plan.specs.Plans.{IsTerminal, nets_in}
-use Rattle.place_plan.specs.Terminals.{ArePlanNets}
+use Rattle.place_plan.specs.Vocabulary.{AreWires, AreHeld, AreVisits, IsTerminal, nets_in, ArePlanNets}
 use Rattle.place_route.specs.Layouts.{IsSet}
 use Rattle.place_route.specs.Closing.{Closes, IsOwnedJoint}
 use Rattle.place_route.specs.Owners.{HasLine, AreLines, AreOwners}

@@ -9,10 +9,7 @@ use Rattle.map_network.specs.declared.network.Network.{Network}
 use Rattle.map_network.specs.Networks.{table_at}
 use Rattle.place_plan.specs.declared.plan.Plan.{Plan}
 use Rattle.place_plan.specs.declared.short.Visit.{Visit}
-use Rattle.place_plan.specs.Choosing.{HasLine}
-use Rattle.place_plan.specs.Layouts.{AreVisits}
-use Rattle.place_plan.specs.Plans.{Fits, FitsInOrder, IsPlan, IsTerminal, nets_in, place_of}
-use Rattle.place_plan.specs.Room.{IsTapOf}
+use Rattle.place_plan.specs.Vocabulary.{HasLine, AreVisits, Fits, FitsInOrder, IsPlan, IsTerminal, nets_in, place_of, IsTapOf}
 use Rattle.place_route.specs.Layouts.{setting_in}
 use Rattle.place_route.specs.Ticks.{AreTicks}
 

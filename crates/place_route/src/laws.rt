@@ -1,14 +1,11 @@
 //! That nets which are laid on free parts read their network's rows, whatever faults a list covers.
 ghost use Rattle.std.specs.Prelude.{◌≡◌, ℕ, Option, Some};
-ghost use Rattle.machine_meaning.specs.Defects.{Defects, Covers};
-ghost use Rattle.machine_meaning.specs.Faults.{Faults};
+ghost use Rattle.machine_meaning.specs.Vocabulary.{Defects, Covers, Faults};
 ghost use Rattle.machine_config.specs.Configuration.{Configuration, is_closed};
-ghost use Rattle.machine_image.specs.Parts.{IsFreeImage};
+ghost use Rattle.machine_image.specs.Vocabulary.{IsFreeImage, ImageValue};
 ghost use Rattle.map_network.specs.declared.network.Network.{Network};
-ghost use Rattle.map_network.specs.Networks.{IsNetwork, IsDeepest};
+ghost use Rattle.map_network.specs.Vocabulary.{IsNetwork, IsDeepest, HasRowsOf};
 ghost use Rattle.design_netlist.specs.declared.netlist_data.NetlistData.{NetlistData};
-ghost use Rattle.machine_image.specs.Images.{ImageValue};
-ghost use Rattle.map_network.specs.Rows.{HasRowsOf};
 ghost use Rattle.place_plan.specs.declared.plan.Plan.{Plan};
 ghost use Rattle.place_route.specs.RightImages.{IsRightForNetwork, IsRightImage};
 ghost use Rattle.place_plan.specs.Plans.{IsPlan, IsTerminal};

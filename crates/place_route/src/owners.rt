@@ -1,8 +1,7 @@
 //! The net that has each wire as a terminal or a port.
 ghost use Rattle.std.specs.Prelude.{◌<◌, ◌^◌, IfOk, All, length};
 ghost use Rattle.machine_shape.specs.Shape.{wires_of};
-ghost use Rattle.place_plan.specs.Choices.{AreWires};
-ghost use Rattle.place_plan.specs.Room.{HasTerminal};
+ghost use Rattle.place_plan.specs.Vocabulary.{AreWires, HasTerminal};
 ghost use Rattle.place_route.specs.Owners.{AreOwners, HoldsPort, IsClaimedBy, IsMarked};
 
 use base_lists::Items;

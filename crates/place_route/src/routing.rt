@@ -2,14 +2,11 @@
 ghost use Rattle.std.specs.Prelude.{◌≡◌, ◌≢◌, ◌≤◌, ◌<◌, ◌++◌, All, AllPairs, IfOk, length};
 ghost use Rattle.std.specs.FinSet as set;
 ghost use Rattle.machine_shape.specs.Shape.{pins_of, tables_of, wires_of};
-ghost use Rattle.machine_meaning.specs.Defects.{Covers};
-ghost use Rattle.machine_meaning.specs.Faults.{Faults};
+ghost use Rattle.machine_meaning.specs.Vocabulary.{Covers, Faults};
 ghost use Rattle.design_netlist.specs.declared.netlist_data.NetlistData.{NetlistData};
 ghost use Rattle.machine_image.specs.Parts.{IsFreeImage};
-ghost use Rattle.map_network.specs.Networks.{IsNetwork};
-ghost use Rattle.map_network.specs.Rows.{HasRowsOf};
-ghost use Rattle.place_plan.specs.Laying.{IsLayout};
-ghost use Rattle.place_plan.specs.Plans.{Fits, IsPlan};
+ghost use Rattle.map_network.specs.Vocabulary.{IsNetwork, HasRowsOf};
+ghost use Rattle.place_plan.specs.Vocabulary.{IsLayout, Fits, IsPlan};
 ghost use Rattle.place_route.specs.RightImages.{IsRightForNetwork, IsRightImage};
 ghost use Rattle.place_route.specs.Routed.{AreWiresOf, IsJoined, IsLaidBy, IsRouteOf, IsRouted};
 ghost use Rattle.place_route.specs.RoutedImages.{IsRoutedFor};

@@ -3,10 +3,8 @@ use Rattle.std.specs.Prelude.{◌≡◌, ℕ, ◌+◌, ◌<◌, ◌≤◌, List,
 use Rattle.std.specs.Option.{option_map_or}
 use Rattle.machine_shape.specs.declared.Shape.{Shape}
 use Rattle.machine_shape.specs.Shape.{pins_of}
-use Rattle.machine_meaning.specs.Circuit.{Pins}
-use Rattle.machine_meaning.specs.Faults.{Faults, AreFaultsOf}
-use Rattle.machine_config.specs.Configuration.{Configuration}
-use Rattle.machine_config.specs.Faulty.{IsRun}
+use Rattle.machine_meaning.specs.Vocabulary.{Pins, Faults, AreFaultsOf}
+use Rattle.machine_config.specs.Vocabulary.{Configuration, IsRun}
 use Rattle.machine_faults.specs.declared.kind.FaultsKind.{FaultsKind}
 use Rattle.machine_faults.specs.declared.kind.FaultsFault.{FaultsFault}
 use Rattle.machine_faults.specs.declared.kind.FaultsFault.TheVariants as text

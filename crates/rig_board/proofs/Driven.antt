@@ -1,13 +1,10 @@
 -- What is kept goes with the board after several cycles.
-use Rattle.std.proofs.Common.{◌≡◌, ℕ, suc, zero, ◌+◌, ◌≤◌, ◌<◌, true, List, [], ◌∷◌, ◌++◌, map, length, get_or, All, Option, None, Some, refl, sym, ap, ◌∙◌, arith, subst}
-use Rattle.std.specs.Prelude.{IfSome, option_map, Result, Ok, Err, OnOk, is_err, false}
+use Rattle.std.proofs.Common.{◌≡◌, ℕ, suc, zero, ◌+◌, ◌≤◌, ◌<◌, true, List, [], ◌∷◌, ◌++◌, map, length, get_or, All, Option, None, Some, refl, sym, ap, ◌∙◌, arith, subst, IfSome, option_map, Result, Ok, Err, OnOk, is_err, false}
 use Rattle.std.specs.Option.{ForSome}
 use Rattle.machine_shape.specs.declared.Shape.{Shape}
 use Rattle.machine_shape.specs.Shape.{pins_of}
-use Rattle.machine_meaning.specs.Circuit.{Pins}
-use Rattle.machine_meaning.specs.Faults.{Faults, AreFaultsOf}
-use Rattle.machine_config.specs.Configuration.{Configuration}
-use Rattle.machine_config.specs.Faulty.{IsRun}
+use Rattle.machine_meaning.specs.Vocabulary.{Pins, Faults, AreFaultsOf}
+use Rattle.machine_config.specs.Vocabulary.{Configuration, IsRun}
 use Rattle.rig.specs.Rig.{Exchange, Session, RigState, GoesOnBy, KeepLengths, drives_of, readings_of}
 use Rattle.rig_board.specs.declared.kept.Kept.{Kept}
 use Rattle.rig_board.specs.Device.{Device, faults_told, IsInSession, HasRunSession, GoesOnWith, WhereTold}

@@ -2,8 +2,7 @@
 use Rattle.std.specs.Prelude.{◌≡◌, ℕ, Bool, true, List, [], All, length, Option, Some, IfSome, option_map}
 use Rattle.machine_shape.specs.declared.Shape.{Shape}
 use Rattle.machine_shape.specs.Shape.{pins_of}
-use Rattle.machine_meaning.specs.Circuit.{Pins}
-use Rattle.machine_meaning.specs.Faults.{AreFaultsOf}
+use Rattle.machine_meaning.specs.Vocabulary.{Pins, AreFaultsOf}
 use Rattle.machine_config.specs.Configuration.{Configuration}
 use Rattle.rig.specs.Rig.{Exchange, drives_of, readings_of}
 use Rattle.rig.specs.declared.rig.RigFail.{RigFail}

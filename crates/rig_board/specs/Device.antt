@@ -2,8 +2,7 @@
 use Rattle.std.specs.Prelude.{◌≡◌, List, ◌++◌, Option, None, Some, IfSome, option_map}
 use Rattle.machine_shape.specs.declared.Shape.{Shape}
 use Rattle.machine_meaning.specs.Faults.{Faults}
-use Rattle.machine_config.specs.Configuration.{Configuration}
-use Rattle.machine_config.specs.Faulty.{IsRun}
+use Rattle.machine_config.specs.Vocabulary.{Configuration, IsRun}
 use Rattle.rig.specs.Rig.{Exchange, Session, drives_of, readings_of}
 
 -- its shape and faults, what is set on it, and its session, if one has begun; for how many cycles there is room isn't looked at

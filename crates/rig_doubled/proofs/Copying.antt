@@ -1,6 +1,5 @@
 -- A configuration once more.
-use Rattle.std.proofs.Common.{◌≡◌, ℕ, zero, suc, ◌+◌, ◌<◌, Bool, true, false, cond, eqb, List, [], ◌∷◌, ◌++◌, length, take, drop, get_or, set, map, refl, ap, ◌∙◌, arith}
-use Rattle.std.specs.Prelude.{count_by, if◌then◌else◌, ◌==◌}
+use Rattle.std.proofs.Common.{◌≡◌, ℕ, zero, suc, ◌+◌, ◌<◌, Bool, true, false, cond, eqb, List, [], ◌∷◌, ◌++◌, length, take, drop, get_or, set, map, refl, ap, ◌∙◌, arith, count_by, if◌then◌else◌, ◌==◌}
 use Rattle.std.specs.FinSet as set_
 use Rattle.std.specs.FinSet.{same_set, nat_cmp-IsAntisymmetric, from_list_push}
 use Rattle.std.specs.Cmp.{nat_cmp_total}
@@ -8,8 +7,7 @@ use Rattle.std.proofs.lemmas.List.{map-append}
 use Rattle.std.proofs.lemmas.List.Sums.{sum_by-cons}
 use Rattle.std.proofs.lemmas.Bool.Decides.{nat_tests}
 use Rattle.machine_shape.specs.declared.Cross.{Cross}
-use Rattle.machine_config.specs.Configuration.{Configuration, is_closed}
-use Rattle.machine_config.specs.Kept.{set_of}
+use Rattle.machine_config.specs.Vocabulary.{Configuration, is_closed, set_of}
 use Rattle.machine_config.proofs.Members.{contains_times}
 
 -- the closed crosspoints are a set by their counts

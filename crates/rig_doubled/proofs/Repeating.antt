@@ -1,15 +1,12 @@
 -- A session that is asked again.
-use Rattle.std.proofs.Common.{◌≡◌, ◌⊎◌, inl, inr, Bool, true, ℕ, ◌≤◌, Option, None, Some, IfSome, List, [], ◌∷◌, ◌++◌, length, take, drop, get_or, refl, sym, ap, ◌∙◌, subst, arith}
-use Rattle.std.specs.Prelude.{option_map, IsSome, is_some, if◌then◌else◌}
+use Rattle.std.proofs.Common.{◌≡◌, ◌⊎◌, inl, inr, Bool, true, ℕ, ◌≤◌, Option, None, Some, IfSome, List, [], ◌∷◌, ◌++◌, length, take, drop, get_or, refl, sym, ap, ◌∙◌, subst, arith, option_map, IsSome, is_some, if◌then◌else◌}
 use Rattle.std.specs.Option.{option_map_or}
 use Rattle.std.proofs.lemmas.List.{take-append-drop, length-take-le, map-append}
 use Rattle.std.proofs.lemmas.Bool.{false≢true}
-use Rattle.machine_meaning.specs.Circuit.{Pins}
-use Rattle.machine_meaning.specs.Faults.{Faults}
+use Rattle.machine_meaning.specs.Vocabulary.{Pins, Faults}
 use Rattle.machine_shape.specs.Shape.{pins_of}
-use Rattle.machine_config.specs.Configuration.{Configuration, Roomy}
-use Rattle.machine_config.specs.Faulty.{circuit_of, IsRun}
-use Rattle.machine_config.specs.Run.{Cycles, Cycles.none, at_load}
+use Rattle.machine_config.specs.Vocabulary.{Configuration, Roomy, circuit_of, IsRun, Cycles, at_load}
+use Rattle.machine_config.specs.Run.{Cycles.none}
 use Rattle.machine_config.proofs.Runs.{Runs-unique, Cycles-split}
 use Rattle.rig.specs.Rig.{RigState, Machine, Session, Exchange, AreRows, GoesOn, GoesOnBy, Begins, shape_of, config_of, cycles_of, drives_of, readings_of}
 use Rattle.rig_doubled.specs.declared.kept.Kept.{Kept}

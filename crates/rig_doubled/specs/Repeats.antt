@@ -1,14 +1,10 @@
 -- A rig that asks its machine again.
-use Rattle.std.specs.Prelude.{◌≡◌, ◌⊎◌, ℕ, ◌-◌, ◌^◌, ◌≤◌, ◌<◌, min, Bool, true, ◌&&◌, ◌==◌, if◌then◌else◌, List, [], ◌∷◌, length}
-use Rattle.std.specs.Prelude.{take, All}
+use Rattle.std.specs.Prelude.{◌≡◌, ◌⊎◌, ℕ, ◌-◌, ◌^◌, ◌≤◌, ◌<◌, min, Bool, true, ◌&&◌, ◌==◌, if◌then◌else◌, List, [], ◌∷◌, length, take, All}
 use Rattle.std.specs.Prelude.{Option, None, Some, IfSome, is_some, nat_le}
 use Rattle.machine_shape.specs.declared.Cross.{Cross}
-use Rattle.machine_meaning.specs.Circuit.{Pins}
-use Rattle.machine_meaning.specs.Faults.{Faults}
+use Rattle.machine_meaning.specs.Vocabulary.{Pins, Faults}
 use Rattle.machine_shape.specs.Shape.{pins_of}
-use Rattle.machine_config.specs.Configuration.{Configuration}
-use Rattle.machine_config.specs.Faulty.{IsRun}
-use Rattle.machine_config.specs.Kept.{set_of}
+use Rattle.machine_config.specs.Vocabulary.{Configuration, IsRun, set_of}
 use Rattle.rig.specs.Rig.{RigState, shape_of, config_of, cycles_of, drives_of, readings_of, IsTold}
 use Rattle.rig.specs.Flaky.{both_counts}
 use Rattle.rig_doubled.specs.declared.kept.Kept.{Kept}

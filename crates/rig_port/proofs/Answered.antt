@@ -1,15 +1,12 @@
 -- What a rig answers as the other end of a port.
-use Rattle.std.proofs.Common.{◌≡◌, ℕ, suc, zero, ◌<◌, ◌≤◌, Bool, true, false, List, [], ◌∷◌, ◌++◌, length, map, All, Option, None, Some, refl, sym, ap, ◌∙◌, arith, subst}
+use Rattle.std.proofs.Common.{◌≡◌, ℕ, suc, zero, ◌<◌, ◌≤◌, Bool, true, false, List, [], ◌∷◌, ◌++◌, length, map, All, Option, None, Some, refl, sym, ap, ◌∙◌, arith, subst, IfSome, IsSome, option_map, if◌then◌else◌}
 use Rattle.std.proofs.lemmas.Bool.{false≢true}
 use Rattle.std.proofs.lemmas.List.{length-map}
-use Rattle.std.specs.Prelude.{IfSome, IsSome, option_map, if◌then◌else◌}
 use Rattle.std.specs.Option.{option_map_or}
 use Rattle.machine_shape.specs.declared.Shape.{Shape}
 use Rattle.machine_shape.specs.Shape.{pins_of}
-use Rattle.machine_meaning.specs.Circuit.{Pins}
-use Rattle.machine_meaning.specs.Faults.{Faults}
-use Rattle.machine_config.specs.Configuration.{Configuration, cleared}
-use Rattle.machine_config.specs.Faulty.{IsRun}
+use Rattle.machine_meaning.specs.Vocabulary.{Pins, Faults}
+use Rattle.machine_config.specs.Vocabulary.{Configuration, cleared, IsRun}
 use Rattle.rig.specs.Rig.{RigState, Exchange, Session, Asked, GoesOnBy, shape_of, config_of, cycles_of, drives_of, readings_of, IsTold, KeepLengths}
 use Rattle.rig_board.proofs.OneByOne.{lengths_kept}
 use Rattle.rig_board.specs.Device.{Device, IsInSession, HasRunSession, WhereTold}

@@ -1,5 +1,5 @@
 -- What is kept of a machine goes with it.
-use Rattle.std.proofs.Common.{◌≡◌, ℕ, suc, zero, ◌+◌, ◌-◌, ◌≤◌, Bool, true, false, List, [], ◌∷◌, ◌++◌, map, take, drop, length, get_or, All, Option, None, Some, refl, sym, ap, ◌∙◌, arith, subst}
+use Rattle.std.proofs.Common.{◌≡◌, ℕ, suc, zero, ◌+◌, ◌-◌, ◌≤◌, Bool, true, false, List, [], ◌∷◌, ◌++◌, map, take, drop, length, get_or, All, Option, None, Some, refl, sym, ap, ◌∙◌, arith, subst, IfSome, Result, Ok, Err, OnOk}
 use Rattle.std.proofs.lemmas.Bool.{false≢true}
 use Rattle.std.proofs.lemmas.List.{append-nil, append_assoc, map-append, length-map, length-drop, length-take-le}
 use Rattle.std.proofs.lemmas.List.Elements.{All-append}
@@ -7,15 +7,12 @@ use Rattle.std.proofs.lemmas.Slice.{take-put_mid}
 use Rattle.std.proofs.lemmas.List.Sums.{fold-append}
 use Rattle.std.proofs.lemmas.Grind.{flat_map-append}
 use Rattle.std.proofs.Math.Seq.{take-append_seam}
-use Rattle.std.specs.Prelude.{IfSome, Result, Ok, Err, OnOk}
 use Rattle.std.specs.Option.{option_map_or}
 use Rattle.std.specs.Vec.{vec_capacity}
 use Rattle.machine_shape.specs.declared.Shape.{Shape}
 use Rattle.machine_shape.specs.Shape.{pins_of}
 use Rattle.machine_meaning.specs.Circuit.{Pins}
-use Rattle.machine_config.specs.Configuration.{Configuration, cleared}
-use Rattle.machine_config.specs.Faulty.{circuit_of}
-use Rattle.machine_config.specs.Run.{none, at_load}
+use Rattle.machine_config.specs.Vocabulary.{Configuration, cleared, circuit_of, none, at_load}
 use Rattle.rig.specs.Rig.{Exchange, KeepLengths, drives_of, readings_of}
 use borrow.Rule.Slice.PartMut.{mid_of, post_of, put_mid, put_same}
 use Rattle.rig_board.specs.Device.{Device, HasRunSession, GoesOnWith, WhereTold}

@@ -1,16 +1,14 @@
 -- A line of counts is that of one machine.
-use Rattle.std.proofs.Common.{◌≡◌, ℕ, suc, zero, ◌+◌, ◌%◌, ◌^◌, ◌<◌, ◌≤◌, List, [], ◌∷◌, ◌++◌, drop, map, length, get_or, All, Option, None, Some, refl, sym, ap, ◌∙◌, arith, subst}
+use Rattle.std.proofs.Common.{◌≡◌, ℕ, suc, zero, ◌+◌, ◌%◌, ◌^◌, ◌<◌, ◌≤◌, List, [], ◌∷◌, ◌++◌, drop, map, length, get_or, All, Option, None, Some, refl, sym, ap, ◌∙◌, arith, subst, flat_map, sum, decimal, codes, IfSome}
 use Rattle.std.proofs.lemmas.List.{append_assoc, ext_get_or}
 use Rattle.std.proofs.lemmas.Fmt.{decimal_injective, decimal_digit, decimal-digits_of}
-use Rattle.std.specs.Prelude.{flat_map, sum, decimal, codes, IfSome}
 use Rattle.std.specs.List.{join_by}
 use Rattle.std.specs.Int.Digits.{digits_of}
 use Rattle.hex.specs.Hex.{encode_lower}
 use Rattle.std.proofs.Math.Bridge.{le_prop}
 use Rattle.machine_shape.specs.declared.Counts.{Counts}
 use Rattle.machine_shape.specs.declared.Shape.{Shape}
-use Rattle.machine_shape.specs.Counts.{levels_from, IsFull}
-use Rattle.machine_shape.specs.Walk.{size, tables_in, wires_in, crosses_in, nodes_in}
+use Rattle.machine_shape.specs.Vocabulary.{levels_from, IsFull, size, tables_in, wires_in, crosses_in, nodes_in}
 use Rattle.machine_config.specs.Configuration.{cleared}
 use Rattle.rig_board.specs.Device.{Device, WhereTold}
 use Rattle.rig_port.specs.Answers.{Answers}

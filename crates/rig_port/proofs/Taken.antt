@@ -1,10 +1,9 @@
 -- What is read of a line of readings.
-use Rattle.std.proofs.Common.{◌≡◌, ℕ, zero, suc, ◌+◌, ◌-◌, ◌*◌, ◌/◌, ◌%◌, ◌^◌, ◌<◌, ◌≤◌, Bool, true, false, List, [], ◌∷◌, ◌++◌, map, take, drop, length, get_or, set, refl, sym, ap, ◌∙◌, arith, subst}
+use Rattle.std.proofs.Common.{◌≡◌, ℕ, zero, suc, ◌+◌, ◌-◌, ◌*◌, ◌/◌, ◌%◌, ◌^◌, ◌<◌, ◌≤◌, Bool, true, false, List, [], ◌∷◌, ◌++◌, map, take, drop, length, get_or, set, refl, sym, ap, ◌∙◌, arith, subst, flat_map, sum, ◌==◌, Result, Ok, MatchResult}
 use Rattle.std.proofs.lemmas.Bool.Decides.{nat_tests}
 use Rattle.std.proofs.lemmas.List.{append_assoc, drop_more, get_or-drop, get_or-set_other, length-drop, length-map, length-append, take_more_set, ext_get_or}
 use Rattle.std.proofs.lemmas.Grind.{get_or-set_at}
 use Rattle.std.proofs.Math.Seq.{take-suc, drop-append_seam, drop-nil}
-use Rattle.std.specs.Prelude.{flat_map, sum, ◌==◌, Result, Ok, MatchResult}
 use Rattle.std.specs.Int.{div_ceil}
 use Rattle.hex.specs.Hex.{encode_lower, encode_with, decode_sized, IsBytes}
 use Rattle.hex.specs.declared.error.FromHexError.{FromHexError}

@@ -5,8 +5,7 @@ use Rattle.std.proofs.lemmas.List.{get_or_past}
 use Rattle.std.specs.FinSet as set
 use Rattle.machine_shape.specs.declared.Shape.{Shape}
 use Rattle.machine_shape.specs.Shape.{wires_of}
-use Rattle.machine_meaning.specs.Faults.{Faults, AreFaultsOf, stuck_wire, pair_cmp}
-use Rattle.machine_meaning.specs.Joined.{Linked, crossed, bridged, Joined, here, then}
+use Rattle.machine_meaning.specs.Vocabulary.{Faults, AreFaultsOf, stuck_wire, pair_cmp, Linked, crossed, bridged, Joined, here, then}
 use Rattle.rig_simulated.specs.declared.classes.ClassNode.{ClassNode}
 use Rattle.rig_simulated.specs.Classes.{knot_at, HasRoots, IsHeldAs, AreTied}
 use Rattle.rig_simulated.specs.Building.{bridged_net}

@@ -1,8 +1,7 @@
 -- A whole cycle.
 use Rattle.std.proofs.Common.{◌≡◌, ⊎_elim, ℕ, Bool, List, length, sym, ◌∙◌, subst}
 use Rattle.std.proofs.lemmas.Bool.{false≢true}
-use Rattle.machine_meaning.specs.Circuit.{Outputs, Pins}
-use Rattle.machine_meaning.specs.Faults.{Faults}
+use Rattle.machine_meaning.specs.Vocabulary.{Outputs, Pins, Faults}
 use Rattle.machine_config.specs.Configuration.{Configuration}
 use Rattle.rig_simulated.specs.declared.classes.ClassNode.{ClassNode}
 use Rattle.rig_simulated.specs.declared.gates.Gate.{Gate}

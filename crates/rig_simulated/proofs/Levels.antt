@@ -1,19 +1,14 @@
 -- What the classes are is what the wires are.
-use Rattle.std.proofs.Common.{◌≡◌, ⊎_elim, ℕ, suc, ◌<◌, Bool, true, false, ◌||◌, cond, Option, Some, None, IsSome, List, [], length, get_or, map, refl, sym, ap, ◌∙◌, subst, arith}
-use Rattle.std.specs.Prelude.{unwrap_or}
+use Rattle.std.proofs.Common.{◌≡◌, ⊎_elim, ℕ, suc, ◌<◌, Bool, true, false, ◌||◌, cond, Option, Some, None, IsSome, List, [], length, get_or, map, refl, sym, ap, ◌∙◌, subst, arith, unwrap_or}
 use Rattle.std.specs.List.{range_with_len}
 use Rattle.std.proofs.lemmas.Bool.{false≢true, or_cases, or_left, or_right}
 use Rattle.std.proofs.lemmas.List.{get_or-map, length-map}
 use Rattle.std.proofs.lemmas.List.Elements.{All-map, All-weaker}
 use Rattle.std.proofs.lemmas.List.FromFn.{get_or-map-range_with_len, fill_by_all}
 use Rattle.machine_shape.specs.Shape.{pin_wire, table_wire, pins_of}
-use Rattle.machine_meaning.specs.Circuit.{Outputs, Pins}
-use Rattle.machine_meaning.specs.Value.{Pulls, by_pin, by_table, IsHeld, IsPulled, IsValue, held_0, held_1, pulled, released, AreValues}
-use Rattle.machine_meaning.specs.Faults.{Faults, stuck_wire}
+use Rattle.machine_meaning.specs.Vocabulary.{Outputs, Pins, Pulls, by_pin, by_table, IsHeld, IsPulled, IsValue, held_0, held_1, pulled, released, AreValues, Faults, stuck_wire}
 use Rattle.machine_config.specs.declared.Setting.{Setting}
-use Rattle.machine_config.specs.Configuration.{Configuration, setting_of}
-use Rattle.machine_config.specs.Faulty.{circuit_of, table_or_off, table_of}
-use Rattle.machine_config.specs.Run.{number_of, address_at, pins_read, tick_output, edge_output, after_tick, after_edge, unticked, tick}
+use Rattle.machine_config.specs.Vocabulary.{Configuration, setting_of, circuit_of, table_or_off, table_of, number_of, address_at, pins_read, tick_output, edge_output, after_tick, after_edge, unticked, tick}
 use Rattle.rig_simulated.specs.declared.classes.ClassNode.{ClassNode}
 use Rattle.rig_simulated.specs.declared.gates.Gate.{Gate}
 use Rattle.rig_simulated.specs.Classes.{AreClasses, HoldsAt, IsHeldAs}

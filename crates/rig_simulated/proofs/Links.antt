@@ -1,6 +1,5 @@
 -- Which links a net has, crosspoint by crosspoint and bridge by bridge.
-use Rattle.std.proofs.Common.{◌≡◌, ◌≢◌, ◌⊎◌, inl, inr, ⊎_elim, ℕ, ◌+◌, ◌<◌, ◌≤◌, Bool, true, false, ◌||◌, ◌&&◌, Option, Some, None, IsSome, List, [], ◌∷◌, map, length, get_or, take, refl, sym, ap, ◌∙◌, subst, arith, eqb, ltb}
-use Rattle.std.specs.Prelude.{unwrap_or}
+use Rattle.std.proofs.Common.{◌≡◌, ◌≢◌, ◌⊎◌, inl, inr, ⊎_elim, ℕ, ◌+◌, ◌<◌, ◌≤◌, Bool, true, false, ◌||◌, ◌&&◌, Option, Some, None, IsSome, List, [], ◌∷◌, map, length, get_or, take, refl, sym, ap, ◌∙◌, subst, arith, eqb, ltb, unwrap_or}
 use Rattle.std.specs.FinSet as set
 use Rattle.std.proofs.Math.Bool.{and-false, or-false}
 use Rattle.std.proofs.lemmas.Bool.{false≢true, cases_eq, cases_lt, ne_eqb, or_cases, or_left, or_right, eqb-true, eq-eqb, ltb-true, lt-ltb, le-ltb, and_parts, and_from}
@@ -14,8 +13,7 @@ use Rattle.machine_shape.specs.declared.Shape.{Shape}
 use Rattle.machine_shape.specs.declared.Cross.{Cross}
 use Rattle.machine_shape.specs.declared.Wire.{Wire}
 use Rattle.machine_shape.specs.Shape.{Ends, in_order, ends_of, crosses_of}
-use Rattle.machine_meaning.specs.Faults.{Faults, AreFaultsOf, stuck_cross, is_bridge, pair_cmp}
-use Rattle.machine_meaning.specs.Joined.{Net, Linked, crossed, bridged}
+use Rattle.machine_meaning.specs.Vocabulary.{Faults, AreFaultsOf, stuck_cross, is_bridge, pair_cmp, Net, Linked, crossed, bridged}
 use Rattle.machine_faults.specs.Stored.{pair_of}
 use Rattle.machine_meaning.proofs.Pairs.{pairs_total, pairs_exact}
 use Rattle.rig_simulated.specs.Classes.{HasLink, HaveSameLinks}

@@ -1,14 +1,11 @@
 -- What a load leaves.
-use Rattle.std.proofs.Common.{◌≡◌, ℕ, ◌<◌, List, length, sym, ap, ◌∙◌, subst}
+use Rattle.std.proofs.Common.{◌≡◌, ℕ, ◌<◌, List, length, sym, ap, ◌∙◌, subst, slice_index}
 use Rattle.std.proofs.Math.Path.{fun_ext}
-use Rattle.std.specs.Prelude.{slice_index}
 use Rattle.machine_shape.specs.declared.Shape.{Shape}
 use Rattle.machine_shape.specs.declared.Cross.{Cross}
 use Rattle.machine_shape.specs.Shape.{pins_of, pin_wire}
-use Rattle.machine_meaning.specs.Faults.{Faults, stuck_wire}
-use Rattle.machine_meaning.specs.Joined.{net_of}
-use Rattle.machine_config.specs.Configuration.{Configuration, is_closed}
-use Rattle.machine_config.specs.Faulty.{circuit_of}
+use Rattle.machine_meaning.specs.Vocabulary.{Faults, stuck_wire, net_of}
+use Rattle.machine_config.specs.Vocabulary.{Configuration, is_closed, circuit_of}
 use Rattle.rig_simulated.specs.declared.classes.ClassNode.{ClassNode}
 use Rattle.rig_simulated.specs.declared.gates.Gate.{Gate}
 use Rattle.rig_simulated.specs.Classes.{HasRoots, AreKnots, AreTied}

@@ -1,16 +1,14 @@
 -- Names and their faults.
-use Rattle.std.proofs.Common.{◌≡◌, ◌⊎◌, ⊎_elim, ℕ, ◌≤◌, Bool, true, false, cond, leb, ◌&&◌, Some, None, List, length, refl, sym, ap, ◌∙◌, subst, arith}
-use Rattle.std.specs.Prelude.{IfSome, bytes_eq}
+use Rattle.std.proofs.Common.{◌≡◌, ◌⊎◌, ⊎_elim, ℕ, ◌≤◌, Bool, true, false, cond, leb, ◌&&◌, Some, None, List, length, refl, sym, ap, ◌∙◌, subst, arith, IfSome, bytes_eq}
 use Rattle.std.specs.Fmt.{decimal}
 use Rattle.std.proofs.lemmas.Bool.{cases_lt, le-leb, leb-true, and_parts}
 use Rattle.std.proofs.lemmas.Slice.Eq.{bytes_eq-Decides}
 use Rattle.std.proofs.lemmas.Fmt.{digits_value-decimal}
 use Rattle.machine_shape.specs.declared.Shape.{Shape}
 use Rattle.machine_meaning.specs.Faults.{Faults}
-use Rattle.base_text.specs.Number.{read_on}
+use Rattle.base_text.specs.Vocabulary.{read_on, most_bytes}
 use Rattle.base_text.proofs.NumberLemmas.{own}
 use Rattle.machine_faults.specs.Text.{IsFaultText}
-use Rattle.base_text.specs.Size.{most_bytes}
 use Rattle.machine_faults.specs.Refusals.{IsFaultAt}
 use Rattle.machine_faults.specs.declared.kind.FaultsKind.{FaultsKind}
 use Rattle.base_io.specs.Told.{Told, untold, absent, holds, bytes_of, IfTold}

@@ -6,8 +6,7 @@ use Rattle.machine_shape.specs.declared.Shape.{Shape}
 use Rattle.machine_shape.specs.declared.Cross.{Cross}
 use Rattle.machine_shape.specs.declared.Wire.{Wire}
 use Rattle.machine_shape.specs.Shape.{wires_of}
-use Rattle.machine_meaning.specs.Faults.{Faults, stuck_wire, stuck_cross, is_bridge, pair_cmp}
-use Rattle.machine_meaning.specs.Joined.{Net, net_of}
+use Rattle.machine_meaning.specs.Vocabulary.{Faults, stuck_wire, stuck_cross, is_bridge, pair_cmp, Net, net_of}
 use Rattle.machine_faults.specs.Stored.{pair_of}
 use Rattle.rig_simulated.specs.declared.classes.ClassNode.{ClassNode}
 use Rattle.rig_simulated.specs.declared.classes.Classes.{Classes}

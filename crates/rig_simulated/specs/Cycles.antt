@@ -1,15 +1,13 @@
 -- A loaded machine, and a cycle of it.
 use Rattle.std.specs.Prelude.{◌≡◌, ℕ, zero, suc, ◌<◌, Bool, true, List, length, map, slice_index}
 use Rattle.machine_shape.specs.Shape.{pin_wire, pins_of}
-use Rattle.machine_meaning.specs.Circuit.{Outputs, Pins}
-use Rattle.machine_meaning.specs.Faults.{Faults, stuck_wire}
-use Rattle.machine_config.specs.Configuration.{Configuration}
-use Rattle.machine_config.specs.Faulty.{circuit_of}
-use Rattle.machine_config.specs.Run.{Ticks, Cycle}
+use Rattle.machine_meaning.specs.Vocabulary.{Outputs, Pins, Faults, stuck_wire}
+use Rattle.machine_config.specs.Vocabulary.{Configuration, circuit_of, Ticks, Cycle}
 use Rattle.rig_simulated.specs.declared.classes.ClassNode.{ClassNode}
 use Rattle.rig_simulated.specs.declared.gates.Gate.{Gate}
 use Rattle.rig_simulated.specs.Classes.{AreKnots}
-use Rattle.rig_simulated.specs.Gates.{is_low, IsClear, level_at, ticked, clocked, AreGates, AreOutputs, IsPulledBy, IsDrivenBy, AreMarkedToo}
+use Rattle.rig_simulated.specs.Gates.{is_low, IsClear, level_at, ticked, clocked, AreGates, AreOutputs, IsPulledBy, IsDrivenBy}
+use Rattle.rig_simulated.specs.Gates.{AreMarkedToo}
 
 -- the classes, the tables that are on and the pins are those of the configuration under the faults
 pub record IsWired (f : Faults) (g : Configuration) (root : ℕ → ℕ) (knots : List ClassNode) (pins : List ℕ) (gates : List Gate) : Type 0 where

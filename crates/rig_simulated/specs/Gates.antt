@@ -3,11 +3,8 @@ use Rattle.std.specs.Prelude.{◌≡◌, ◌⊎◌, ℕ, ◌<◌, ◌≤◌, Boo
 use Rattle.std.specs.Prelude.{map, slice_index, slice_index_or, unwrap_or, All}
 use Rattle.std.specs.List.{range_with_len}
 use Rattle.machine_shape.specs.Shape.{table_wire, tables_of}
-use Rattle.machine_meaning.specs.Circuit.{Outputs, Pins}
-use Rattle.machine_meaning.specs.Faults.{Faults, wrong_cell}
-use Rattle.machine_config.specs.Configuration.{Configuration, setting_of, cell_of}
-use Rattle.machine_config.specs.Faulty.{held_by}
-use Rattle.machine_config.specs.Run.{number_of}
+use Rattle.machine_meaning.specs.Vocabulary.{Outputs, Pins, Faults, wrong_cell}
+use Rattle.machine_config.specs.Vocabulary.{Configuration, setting_of, cell_of, held_by, number_of}
 use Rattle.rig_simulated.specs.declared.classes.ClassNode.{ClassNode}
 use Rattle.rig_simulated.specs.declared.gates.Gate.{Gate}
 use Rattle.rig_simulated.specs.Classes.{knot_at}

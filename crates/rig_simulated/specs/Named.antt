@@ -4,12 +4,9 @@ use Rattle.std.specs.Prelude.{slice_index, drop, bytes_eq}
 use Rattle.std.specs.Fmt.{decimal}
 use Rattle.machine_shape.specs.declared.Shape.{Shape}
 use Rattle.machine_meaning.specs.Faults.{Faults}
-use Rattle.base_text.specs.Number.{read_on}
-use Rattle.base_io.specs.Counts.{Rose}
-use Rattle.base_io.specs.Told.{Told, bytes_of, IfTold}
-use Rattle.base_io.specs.Store.{StoreState}
+use Rattle.base_text.specs.Vocabulary.{read_on, most_bytes}
+use Rattle.base_io.specs.Vocabulary.{Rose, Told, bytes_of, IfTold, StoreState}
 use Rattle.machine_faults.specs.Text.{IsFaultText}
-use Rattle.base_text.specs.Size.{most_bytes}
 use Rattle.machine_faults.specs.declared.kind.FaultsFault.TheVariants as text
 use Rattle.machine_bench.specs.Faults.{AreBenchFaults}
 use Rattle.rig.specs.Rig.{IsNoText}

@@ -2,10 +2,8 @@
 use Rattle.std.specs.Prelude.{◌≡◌, ℕ, ◌+◌, ◌≤◌, Bool, Option, Some, IsSome, IfSome, option_map, All, List, [], ◌∷◌, ◌++◌, length, refl}
 use Rattle.std.specs.Coded.{Coded, code_by, coded×, coded_ℕ, coded_bool, coded_list, coded_option}
 use Rattle.machine_shape.specs.Shape.{pins_of}
-use Rattle.machine_meaning.specs.Circuit.{Pins}
-use Rattle.machine_meaning.specs.Faults.{Faults}
-use Rattle.machine_config.specs.Faulty.{IsRun}
-use Rattle.machine_config.specs.Configuration.{Configuration, coded_configuration}
+use Rattle.machine_meaning.specs.Vocabulary.{Pins, Faults}
+use Rattle.machine_config.specs.Vocabulary.{IsRun, Configuration, coded_configuration}
 use Rattle.machine_faults.specs.Adding.{Faulty, coded_faulty}
 use Rattle.rig.specs.Rig.{Exchange, Session, drives_of, readings_of}
 

@@ -5,8 +5,7 @@ use Rattle.machine_shape.specs.declared.Shape.{Shape}
 use Rattle.machine_shape.specs.declared.Cross.{Cross}
 use Rattle.machine_shape.specs.Shape.{tables_of}
 use Rattle.machine_config.specs.declared.Setting.{Setting}
-use Rattle.machine_config.specs.Configuration.{Configuration}
-use Rattle.machine_config.specs.Kept.{set_of}
+use Rattle.machine_config.specs.Vocabulary.{Configuration, set_of}
 use Rattle.rig.specs.Rig.{Exchange}
 use Rattle.rig_simulated.specs.declared.gates.Gate.{Gate}
 

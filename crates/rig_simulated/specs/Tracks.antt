@@ -1,10 +1,7 @@
 -- The cycles of a loaded machine.
 use Rattle.std.specs.Prelude.{List}
-use Rattle.machine_meaning.specs.Circuit.{Outputs, Pins}
-use Rattle.machine_meaning.specs.Faults.{Faults}
-use Rattle.machine_config.specs.Configuration.{Configuration}
-use Rattle.machine_config.specs.Faulty.{circuit_of}
-use Rattle.machine_config.specs.Run.{Cycle, Cycles, at_load}
+use Rattle.machine_meaning.specs.Vocabulary.{Outputs, Pins, Faults}
+use Rattle.machine_config.specs.Vocabulary.{Configuration, circuit_of, Cycle, Cycles, at_load}
 use Rattle.rig_simulated.specs.declared.gates.Gate.{Gate}
 use Rattle.rig_simulated.specs.Gates.{AreOutputs}
 

@@ -2,9 +2,7 @@
 
 ghost use Rattle.std.specs.Prelude.{◌≡◌, ℕ, ◌<◌, Some, None, OnOk, IfOk, length, slice_index, All, unwrap_or};
 ghost use Rattle.machine_shape.specs.Shape.{wires_of, tables_of, pins_of, pin_wire, table_wire};
-ghost use Rattle.machine_config.specs.Configuration.{Configuration, setting_of};
-ghost use Rattle.machine_config.specs.Faulty.{circuit_of};
-ghost use Rattle.machine_config.specs.Run.{at_load};
+ghost use Rattle.machine_config.specs.Vocabulary.{Configuration, setting_of, circuit_of, at_load};
 ghost use Rattle.rig_simulated.specs.Classes.{HasRoots, AreRooted};
 ghost use Rattle.rig_simulated.specs.Boards.{IsPrepared, IsLoaded};
 ghost use Rattle.rig_simulated.specs.Gates.{Fits, IsGate, AreGates, AreOutputs};

@@ -1,8 +1,7 @@
 //! The classes once crosspoints are closed.
 
 ghost use Rattle.std.specs.Prelude.{◌≡◌, ℕ, ◌+◌, ◌<◌, Bool, Option, length, All, OnOk};
-ghost use Rattle.machine_meaning.specs.Faults.{stuck_wire};
-ghost use Rattle.machine_meaning.specs.Joined.{Net};
+ghost use Rattle.machine_meaning.specs.Vocabulary.{stuck_wire, Net};
 ghost use Rattle.machine_shape.specs.Shape.{crosses_of};
 ghost use Rattle.rig_simulated.specs.Classes.{AreTied, AreRooted, HasLink};
 ghost use Rattle.rig_simulated.specs.Building.{closed_net, base_most, AreBase, AreKept};

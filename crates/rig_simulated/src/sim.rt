@@ -3,8 +3,7 @@
 ghost use Rattle.std.specs.Prelude.{◌≡◌, ◌+◌, ◌*◌, ◌<◌, ◌≤◌, Some, None, [], ◌++◌, length, IfOk, IsSome, IfSome, OnOk, OnErr, option_map};
 ghost use Rattle.machine_shape.specs.Shape.{pins_of};
 ghost use Rattle.machine_meaning.specs.Faults.{AreFaultsOf};
-ghost use Rattle.rig.specs.Rig.{Session};
-ghost use Rattle.rig.specs.Rig.{KeepLengths};
+ghost use Rattle.rig.specs.Rig.{Session, KeepLengths};
 ghost use Rattle.rig_simulated.specs.States.{HasGoneOn, HasRoomFor, HasGoneOnBy, AreWide};
 
 use crate::bit_log::BitLog;

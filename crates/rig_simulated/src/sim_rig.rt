@@ -3,8 +3,7 @@
 ghost use Rattle.std.specs.Prelude.{◌≡◌, ◌⊎◌, ◌^◌, ◌<◌, ◌≤◌, [], None, Some, IsSome, IfOk, IfErr, IsErrOf, OnOk, OnErr, length, option_map};
 ghost use Rattle.std.specs.Prelude.{option_and_then, string_bytes};
 ghost use Rattle.machine_meaning.specs.Faults.{AreFaultsOf};
-ghost use Rattle.base_io.specs.Counts.{next_count, Rose};
-ghost use Rattle.base_io.specs.Told.{absent};
+ghost use Rattle.base_io.specs.Vocabulary.{next_count, Rose, absent};
 ghost use Rattle.rig.specs.Rig.{shape_of, width_of, IsDetached, Attaches, AttachFails, HasFaultsOf, Begins, LoadFails, GoesOn, CycleFails};
 ghost use Rattle.rig.specs.Rig.{GoesOnBy, CyclesFail, AreRows, KeepLengths};
 ghost use Rattle.rig.specs.declared.rig.RigFail.TheVariants as work;

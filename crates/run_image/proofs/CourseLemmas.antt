@@ -1,12 +1,7 @@
 -- What the course of an image comes to, whoever's rows they are.
 use Rattle.std.proofs.Common.{◌≡◌, ℕ, ◌≤◌, Bool, List, ◌++◌, length, None, inl, inr, subst, arith}
-use Rattle.base_io.specs.Counts.{next_count}
-use Rattle.base_io.specs.Told.{holds}
-use Rattle.cmd_steps.specs.Files.{says_at, vectors_at, AreAll, IsNearNext}
-use Rattle.cmd_steps.specs.Lines.{outputs_line, output_text}
-use Rattle.cmd_steps.specs.Outside.{Around, StandsIn}
-use Rattle.cmd_steps.specs.Courses.{RowWork, Next, all_rows, HasRows, HasReadRows, IsBeforeRow, ends, refuses, writes}
-use Rattle.cmd_steps.specs.Jobs.{Leads, EndsWell}
+use Rattle.base_io.specs.Vocabulary.{next_count, holds}
+use Rattle.cmd_steps.specs.Vocabulary.{says_at, vectors_at, AreAll, IsNearNext, outputs_line, output_text, Around, StandsIn, RowWork, Next, all_rows, HasRows, HasReadRows, IsBeforeRow, ends, refuses, writes, Leads, EndsWell}
 use Rattle.cmd_steps.specs.declared.refusal.Refusal.TheVariants as refused
 use Rattle.cmd_steps.proofs.Leading.{after-leads}
 use Rattle.cmd_steps.proofs.Excused.{rig-excused}

@@ -1,14 +1,10 @@
 -- A vector that is read, and then driven or not, where rows wait.
-use Rattle.std.proofs.Common.{◌≡◌, ◌⊎◌, ◌∙◌, ◌≤◌, ◌<◌, ℕ, Bool, List, true, [], length, refl, ap, subst, inl, inr, arith, append-nil}
-use Rattle.std.specs.Prelude.{Err, Ok}
-use Rattle.base_io.specs.Sink.{SinkState, Wrote}
-use Rattle.base_io.specs.Store.{StoreState}
+use Rattle.std.proofs.Common.{◌≡◌, ◌⊎◌, ◌∙◌, ◌≤◌, ◌<◌, ℕ, Bool, List, true, [], length, refl, ap, subst, inl, inr, arith, append-nil, Err, Ok}
+use Rattle.base_io.specs.Vocabulary.{SinkState, Wrote, StoreState}
 use Rattle.rig.specs.Rig.{RigState, CycleFails}
 use Rattle.rig.specs.declared.rig.RigFail.{RigFail}
 use Rattle.rig.specs.declared.rig.RigFail.TheVariants.{Failed, Memory}
-use Rattle.cmd_steps.specs.NextVectors.{RowsAt, IsPutOut, IsHeldUp, IsReadAfter, NextOf, NextStops}
-use Rattle.cmd_steps.specs.Stops.{stop_of_rig}
-use Rattle.cmd_steps.specs.Took.{Puts}
+use Rattle.cmd_steps.specs.Vocabulary.{RowsAt, IsPutOut, IsHeldUp, IsReadAfter, NextOf, NextStops, stop_of_rig, Puts}
 use Rattle.cmd_steps.specs.declared.refusal.Refusal.TheVariants as refused
 use Rattle.cmd_steps.specs.declared.refusal.Stop.{Stop}
 use Rattle.cmd_steps.specs.declared.refusal.Stop.TheVariants.{Refused, Sink}

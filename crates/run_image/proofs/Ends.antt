@@ -3,15 +3,9 @@ use Rattle.std.proofs.Common.{◌≡◌, ◌⊎◌, ◌∙◌, ℕ, ◌≤◌, L
 use Rattle.base_io.specs.Told.{holds}
 use Rattle.machine_shape.specs.declared.Shape.{Shape}
 use Rattle.machine_text.specs.Machine.{IsMachine}
-use Rattle.machine_defects.specs.Lists.{DefectList}
-use Rattle.machine_defects.specs.Text.{text_of}
+use Rattle.machine_defects.specs.Vocabulary.{DefectList, text_of}
 use Rattle.machine_image.specs.Images.{ImageValue}
-use Rattle.cmd_steps.specs.Files.{AreRightVectors, says_at, vectors_at}
-use Rattle.cmd_steps.specs.Outside.{Around}
-use Rattle.cmd_steps.specs.Courses.{Next, RowWork, refuses}
-use Rattle.cmd_steps.specs.Stops.{status_of}
-use Rattle.cmd_steps.specs.Texts.{reads_machine}
-use Rattle.cmd_steps.specs.Jobs.{Fronts, Leads, IsExcused, EndsWell, EndsShort}
+use Rattle.cmd_steps.specs.Vocabulary.{AreRightVectors, says_at, vectors_at, Around, Next, RowWork, refuses, status_of, reads_machine, Fronts, Leads, IsExcused, EndsWell, EndsShort}
 use Rattle.cmd_steps.specs.declared.refusal.Refusal.{Refusal}
 use Rattle.cmd_steps.specs.declared.refusal.Refusal.TheVariants as refused
 use Rattle.cmd_steps.proofs.Leading.{step-leads}

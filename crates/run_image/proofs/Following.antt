@@ -1,18 +1,14 @@
 -- How the steps follow one another: a lemma for each place where the body ends, over plain states.
-use Rattle.std.proofs.Common.{◌≡◌, ◌∙◌, ℕ, List, [], ◌∷◌, Bool, Option, None, Some, IfSome, length, refl, sym, ap, subst}
-use Rattle.std.specs.Prelude.{Result, Ok, Err}
+use Rattle.std.proofs.Common.{◌≡◌, ◌∙◌, ℕ, List, [], ◌∷◌, Bool, Option, None, Some, IfSome, length, refl, sym, ap, subst, Result, Ok, Err}
 use Rattle.std.specs.List.{All}
-use Rattle.base_io.specs.Store.{StoreState}
-use Rattle.base_io.specs.Sink.{SinkState}
+use Rattle.base_io.specs.Vocabulary.{StoreState, SinkState}
 use Rattle.machine_shape.specs.declared.Shape.{Shape}
-use Rattle.machine_meaning.specs.Defects.{Covers}
-use Rattle.machine_meaning.specs.Faults.{Faults}
+use Rattle.machine_meaning.specs.Vocabulary.{Covers, Faults}
 use Rattle.machine_defects.specs.Lists.{DefectList}
 use Rattle.machine_image.specs.Images.{ImageValue}
 use Rattle.place_route.specs.RightImages.{ReadsRows}
 use Rattle.rig.specs.Rig.{RigState, Machine}
-use Rattle.cmd_steps.specs.Outside.{Outside, StandsIn, outside, around}
-use Rattle.cmd_steps.specs.Took.{Took, Follows}
+use Rattle.cmd_steps.specs.Vocabulary.{Outside, StandsIn, outside, around, Took, Follows}
 use Rattle.cmd_steps.specs.declared.refusal.Stop.{Stop}
 use Rattle.cmd_steps.proofs.Following.{course-map}
 use Rattle.cmd_steps.proofs.Taking.{step-stops, step-gives}

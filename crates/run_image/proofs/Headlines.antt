@@ -1,20 +1,12 @@
 -- What such a command has done, from where its course stands.
-use Rattle.std.proofs.Common.{◌≡◌, ◌∙◌, ℕ, List, [], ◌∷◌, ◌++◌, Bool, refl, sym, ap, subst, inl, inr, append_assoc, Option, Some, IfSome}
-use Rattle.std.specs.Prelude.{Result}
-use Rattle.base_io.specs.Counts.{next_count}
-use Rattle.base_io.specs.Told.{IfTold}
-use Rattle.base_io.specs.Sink.{Wrote}
+use Rattle.std.proofs.Common.{◌≡◌, ◌∙◌, ℕ, List, [], ◌∷◌, ◌++◌, Bool, refl, sym, ap, subst, inl, inr, append_assoc, Option, Some, IfSome, Result}
+use Rattle.base_io.specs.Vocabulary.{next_count, IfTold, Wrote}
 use Rattle.machine_shape.specs.declared.Shape.{Shape}
-use Rattle.machine_meaning.specs.Faults.{Faults}
-use Rattle.machine_meaning.specs.Defects.{Covers}
+use Rattle.machine_meaning.specs.Vocabulary.{Faults, Covers}
 use Rattle.machine_defects.specs.Text.{text_of}
 use Rattle.machine_image.specs.Images.{ImageValue}
 use Rattle.place_route.specs.RightImages.{ReadsRows}
-use Rattle.cmd_steps.specs.Files.{AreAll}
-use Rattle.cmd_steps.specs.Outside.{Outside, around}
-use Rattle.cmd_steps.specs.Courses.{Course, Next, ends, refuses, writes}
-use Rattle.cmd_steps.specs.Stops.{IsWritten}
-use Rattle.cmd_steps.specs.Texts.{IsMachineText, LoadsOnce, reads_machine}
+use Rattle.cmd_steps.specs.Vocabulary.{AreAll, Outside, around, Course, Next, ends, refuses, writes, IsWritten, IsMachineText, LoadsOnce, reads_machine}
 use Rattle.cmd_steps.specs.declared.refusal.Refusal.{Refusal}
 use Rattle.cmd_steps.specs.declared.refusal.Stop.{Stop}
 use Rattle.cmd_steps.proofs.Leading.{stopped}

@@ -1,20 +1,11 @@
 -- How the steps of an image's rows follow one another.
-use Rattle.std.proofs.Common.{◌≡◌, ℕ, ◌≤◌, List, [], ◌∷◌, refl, sym, ap, ◌∙◌, inl}
-use Rattle.std.specs.Prelude.{Result, Ok, Err}
-use Rattle.base_io.specs.Counts.{next_count}
-use Rattle.base_io.specs.Told.{Told}
-use Rattle.base_io.specs.Store.{StoreState}
-use Rattle.base_io.specs.Sink.{SinkState}
+use Rattle.std.proofs.Common.{◌≡◌, ℕ, ◌≤◌, List, [], ◌∷◌, refl, sym, ap, ◌∙◌, inl, Result, Ok, Err}
+use Rattle.base_io.specs.Vocabulary.{next_count, Told, StoreState, SinkState}
 use Rattle.rig.specs.Rig.{RigState, LoadFails}
 use Rattle.rig.specs.declared.rig.RigFail.{RigFail}
 use Rattle.rig.specs.declared.rig.RigFail.TheVariants.{Failed, Memory}
 use Rattle.machine_image.specs.Images.{ImageValue}
-use Rattle.cmd_steps.specs.Lines.{outputs_line}
-use Rattle.cmd_steps.specs.Outside.{Outside, outside, around, StandsIn}
-use Rattle.cmd_steps.specs.Courses.{Course, RowWork, all_rows}
-use Rattle.cmd_steps.specs.Stops.{stop_of_rig}
-use Rattle.cmd_steps.specs.Texts.{opens}
-use Rattle.cmd_steps.specs.Took.{Took, Puts, Follows}
+use Rattle.cmd_steps.specs.Vocabulary.{outputs_line, Outside, outside, around, StandsIn, Course, RowWork, all_rows, stop_of_rig, opens, Took, Puts, Follows}
 use Rattle.cmd_steps.specs.declared.refusal.Stop.{Stop}
 use Rattle.cmd_steps.proofs.Making.{rig-took, rig-stopped}
 use Rattle.cmd_steps.proofs.OpenedRows.{opening-stops, outputs-stops, rows-then}

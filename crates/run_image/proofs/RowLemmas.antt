@@ -1,13 +1,10 @@
 -- How the rows of an image go on, and how they stop.
-use Rattle.std.proofs.Common.{◌≡◌, ◌⊎◌, ℕ, zero, suc, ◌≤◌, Bool, false, List, [], ◌∷◌, ◌++◌, length, map, flat_map, Option, None, Some, IfSome, arith, refl, ap, subst, inl, inr, ◌∙◌}
-use Rattle.std.specs.Prelude.{Ok, Err}
+use Rattle.std.proofs.Common.{◌≡◌, ◌⊎◌, ℕ, zero, suc, ◌≤◌, Bool, false, List, [], ◌∷◌, ◌++◌, length, map, flat_map, Option, None, Some, IfSome, arith, refl, ap, subst, inl, inr, ◌∙◌, Ok, Err}
 use Rattle.std.specs.List.{All}
 use Rattle.std.proofs.lemmas.List.Elements.{All-append}
 use Rattle.base_io.specs.Sink.{SinkState}
-use Rattle.machine_meaning.specs.Circuit.{Pins}
-use Rattle.machine_meaning.specs.Faults.{Faults}
-use Rattle.machine_config.specs.Configuration.{Configuration}
-use Rattle.machine_config.specs.Faulty.{IsRun}
+use Rattle.machine_meaning.specs.Vocabulary.{Pins, Faults}
+use Rattle.machine_config.specs.Vocabulary.{Configuration, IsRun}
 use Rattle.rig.specs.Rig.{RigState, Exchange, config_of, cycles_of, drives_of, readings_of}
 use Rattle.machine_image.specs.Images.{ImageValue, drive_of, image_row}
 use Rattle.run_image.specs.Pins.{pins_in}
@@ -17,12 +14,7 @@ use Rattle.design_vectors.specs.declared.vectors.VectorsFail.{VectorsFail}
 use Rattle.design_vectors.specs.declared.vectors.VectorsFail.TheVariants.{Text, Failed}
 use Rattle.design_vectors.specs.Readings.{NextGives, NextFails}
 use Rattle.design_vectors.specs.Rows.{row_line}
-use Rattle.cmd_steps.specs.Files.{file_of, IsBegun, IsNearNext}
-use Rattle.cmd_steps.specs.NextVectors.{IsRead, IsPutOut, IsHeldUp, WaitsOrPuts}
-use Rattle.cmd_steps.specs.Outside.{Outside, outside, IsLater}
-use Rattle.cmd_steps.specs.Courses.{RowWork, all_rows, HasRows, refuses}
-use Rattle.cmd_steps.specs.Stops.{IsCounted, stop_of_vectors}
-use Rattle.cmd_steps.specs.Took.{Follows}
+use Rattle.cmd_steps.specs.Vocabulary.{file_of, IsBegun, IsNearNext, IsRead, IsPutOut, IsHeldUp, WaitsOrPuts, Outside, outside, IsLater, RowWork, all_rows, HasRows, refuses, IsCounted, stop_of_vectors, Follows}
 use Rattle.cmd_steps.specs.declared.refusal.Refusal.{Refusal}
 use Rattle.cmd_steps.specs.declared.refusal.Refusal.TheVariants as refused
 use Rattle.cmd_steps.specs.declared.refusal.Stop.{Stop}

@@ -8,11 +8,7 @@ use Rattle.design_netlist.specs.declared.netlist_data.NetlistData.{NetlistData}
 use Rattle.design_blif.specs.Designs.{IsDesign}
 use Rattle.machine_image.specs.Images.{ImageValue}
 use Rattle.rig.specs.Rig.{Asked}
-use Rattle.cmd_steps.specs.Outside.{Around}
-use Rattle.cmd_steps.specs.Courses.{Course, Next, after, refuses}
-use Rattle.cmd_steps.specs.Beginnings.{Unloaded, machine_attached}
-use Rattle.cmd_steps.specs.Texts.{IsRightFile, reads_machine, reads_design, attaches, NoMachine, NoDesign}
-use Rattle.cmd_steps.specs.Jobs.{IsExcused}
+use Rattle.cmd_steps.specs.Vocabulary.{Around, Course, Next, after, refuses, Unloaded, machine_attached, IsRightFile, reads_machine, reads_design, attaches, NoMachine, NoDesign, IsExcused}
 use Rattle.cmd_steps.specs.declared.design_file.DesignFile.{DesignFile}
 use Rattle.cmd_steps.specs.declared.refusal.Refusal.{Refusal}
 use Rattle.cmd_steps.proofs.Leading.{stopped}

@@ -1,10 +1,7 @@
 -- Behind wrong words as much of the line of a refusal stands, and nothing else.
 use Rattle.std.proofs.Common.{◌≡◌, ◌∙◌, ℕ, List, ◌++◌, ap, subst}
 use Rattle.base_io.specs.Sink.{Wrote}
-use Rattle.cmd_steps.specs.Outside.{Outside, around}
-use Rattle.cmd_steps.specs.Courses.{Next, refuses}
-use Rattle.cmd_steps.specs.Jobs.{wrong_words}
-use Rattle.cmd_steps.specs.Ends.{Ended}
+use Rattle.cmd_steps.specs.Vocabulary.{Outside, around, Next, refuses, wrong_words, Ended}
 use Rattle.cmd_steps.specs.declared.refusal.Refusal.TheVariants.{Words}
 use Rattle.cmd_steps.proofs.Standing.{Adds, stands-end}
 use Rattle.run_image.specs.Headline.{BeginsWithList, none}

@@ -1,18 +1,11 @@
 -- What such a command has done: whatever its end, and when it is done.
 use Rattle.std.specs.Prelude.{◌≡◌, ℕ, Bool, List, ◌∷◌, ◌++◌, map, length, take, Some}
-use Rattle.base_io.specs.Told.{IfTold}
-use Rattle.base_io.specs.Sink.{Wrote}
+use Rattle.base_io.specs.Vocabulary.{IfTold, Wrote}
 use Rattle.machine_shape.specs.declared.Shape.{Shape}
-use Rattle.machine_defects.specs.Lists.{DefectList, IsDefectList}
-use Rattle.machine_defects.specs.Text.{text_of}
-use Rattle.machine_image.specs.Images.{ImageValue, IsImage, drive_of, image_row}
-use Rattle.machine_image.specs.Parts.{IsFreeImage}
+use Rattle.machine_defects.specs.Vocabulary.{DefectList, IsDefectList, text_of}
+use Rattle.machine_image.specs.Vocabulary.{ImageValue, IsImage, drive_of, image_row, IsFreeImage}
 use Rattle.rig.specs.Rig.{RigState, config_of, cycles_of, drives_of, readings_of}
-use Rattle.cmd_steps.specs.Files.{AreAll}
-use Rattle.cmd_steps.specs.Lines.{output_text}
-use Rattle.cmd_steps.specs.Outside.{Outside}
-use Rattle.cmd_steps.specs.Stops.{refusal_text}
-use Rattle.cmd_steps.specs.Texts.{IsMachineText}
+use Rattle.cmd_steps.specs.Vocabulary.{AreAll, output_text, Outside, refusal_text, IsMachineText}
 use Rattle.cmd_steps.specs.declared.refusal.Refusal.{Refusal}
 use Rattle.diag_list.specs.Lists.{Listed, IsListed}
 

@@ -1,13 +1,9 @@
 -- What is laid on a machine: one design, or several side by side.
 use Rattle.std.specs.Prelude.{◌≡◌, ◌≤◌, ℕ, Bool, List, length, Option, IfSome}
-use Rattle.base_io.specs.Told.{Told}
-use Rattle.base_io.specs.Counts.{Rose}
-use Rattle.base_io.specs.Store.{StorePlace}
-use Rattle.machine_meaning.specs.Defects.{Covers}
-use Rattle.machine_meaning.specs.Faults.{Faults}
+use Rattle.base_io.specs.Vocabulary.{Told, Rose, StorePlace}
+use Rattle.machine_meaning.specs.Vocabulary.{Covers, Faults}
 use Rattle.machine_defects.specs.Lists.{DefectList}
-use Rattle.machine_image.specs.Images.{ImageValue, IsImage}
-use Rattle.machine_image.specs.Parts.{IsFreeImage}
+use Rattle.machine_image.specs.Vocabulary.{ImageValue, IsImage, IsFreeImage}
 use Rattle.place_route.specs.RightImages.{ReadsRows}
 use Rattle.rig.specs.Rig.{RigState}
 use Rattle.cmd_steps.specs.Courses.{Step, RowWork}

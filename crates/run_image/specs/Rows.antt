@@ -1,18 +1,13 @@
 -- The rows of an image that is loaded, wherever it comes from.
 use Rattle.std.specs.Prelude.{◌≡◌, ℕ, ◌+◌, ◌≤◌, Bool, List, [], ◌∷◌, map, length, Option, Some, IfSome}
 use Rattle.std.specs.List.{All}
-use Rattle.base_io.specs.Told.{Told}
-use Rattle.base_io.specs.Counts.{next_count, Rose}
-use Rattle.base_io.specs.Store.{StorePlace, StoreState}
-use Rattle.machine_meaning.specs.Circuit.{Pins}
-use Rattle.machine_meaning.specs.Faults.{Faults}
+use Rattle.base_io.specs.Vocabulary.{Told, next_count, Rose, StorePlace, StoreState}
+use Rattle.machine_meaning.specs.Vocabulary.{Pins, Faults}
 use Rattle.machine_config.specs.Faulty.{IsRun}
 use Rattle.machine_image.specs.Images.{ImageValue, drive_of, image_row}
 use Rattle.rig.specs.Rig.{RigState, config_of, cycles_of, drives_of, readings_of, spare_of}
-use Rattle.cmd_steps.specs.Lines.{outputs_line}
-use Rattle.cmd_steps.specs.Outside.{Around, StandsIn}
-use Rattle.cmd_steps.specs.Courses.{Course, Step, RowWork, after, write, all_rows}
-use Rattle.cmd_steps.specs.Texts.{opens, FailsOnRig, LoadsOnce}
+use Rattle.cmd_steps.specs.Vocabulary.{outputs_line, Around, StandsIn, Course, Step, RowWork, after, write, all_rows, opens, FailsOnRig}
+use Rattle.cmd_steps.specs.Vocabulary.{LoadsOnce}
 
 -- for how many rows the rig is asked for room
 abbrev pub most_rows : ℕ

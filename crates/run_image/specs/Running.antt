@@ -1,17 +1,13 @@
 -- What the steps of a run say.
 use Rattle.std.specs.Prelude.{◌≡◌, ◌⊎◌, ◌≤◌, ℕ, List, [], Bool, true, false, length}
-use Rattle.base_io.specs.Counts.{Rose}
-use Rattle.base_io.specs.Store.{StoreState}
-use Rattle.base_io.specs.Sink.{SinkState}
+use Rattle.base_io.specs.Vocabulary.{Rose, StoreState, SinkState}
 use Rattle.rig.specs.Rig.{RigState, Begins, CycleFails}
 use Rattle.rig.specs.declared.rig.RigFail.{RigFail}
 use Rattle.rig.specs.declared.rig.RigFail.TheVariants as work
 use Rattle.run_image.specs.Pins.{pins_in}
 use Rattle.run_image.specs.Run.{RunsRow}
 use Rattle.design_vectors.specs.Readings.{new_reading}
-use Rattle.cmd_steps.specs.Files.{most_vector_bytes}
-use Rattle.cmd_steps.specs.NextVectors.{StaysOpen, IsRead, RowsAt, rows_at, IsPutOut, IsHeldUp, NextOf, NextStops}
-use Rattle.cmd_steps.specs.Courses.{Step}
+use Rattle.cmd_steps.specs.Vocabulary.{most_vector_bytes, StaysOpen, IsRead, RowsAt, rows_at, IsPutOut, IsHeldUp, NextOf, NextStops, Step}
 use Rattle.cmd_steps.specs.declared.refusal.Refusal.TheVariants as refused
 use Rattle.cmd_steps.specs.declared.refusal.Stop.{Stop}
 use Rattle.cmd_steps.specs.declared.refusal.Stop.TheVariants.{Refused, Sink}

@@ -2,12 +2,9 @@
 use Rattle.std.specs.Prelude.{◌≡◌, ℕ, List, ◌++◌}
 use Rattle.base_io.specs.Store.{StoreState}
 use Rattle.machine_shape.specs.declared.Shape.{Shape}
-use Rattle.machine_defects.specs.Lists.{DefectList, IsDefectList}
-use Rattle.machine_defects.specs.Text.{text_of}
+use Rattle.machine_defects.specs.Vocabulary.{DefectList, IsDefectList, text_of}
 use Rattle.machine_image.specs.Images.{ImageValue}
-use Rattle.cmd_steps.specs.Lines.{outputs_line}
-use Rattle.cmd_steps.specs.Outside.{Around, StandsIn}
-use Rattle.cmd_steps.specs.Courses.{Course, after, write}
+use Rattle.cmd_steps.specs.Vocabulary.{outputs_line, Around, StandsIn, Course, after, write}
 use Rattle.diag_list.specs.Lists.{Listed, lists}
 use Rattle.run_image.specs.Rows.{image_course}
 use Rattle.run_image.specs.Laid.{Laid, rows_work}

@@ -4,10 +4,8 @@ ghost use Rattle.machine_shape.specs.Shape.{pins_of};
 ghost use Rattle.run_image.specs.Pins.{pins_in};
 ghost use Rattle.run_image.specs.Run.{RunsRow};
 ghost use Rattle.design_vectors.specs.Rows.{row_line};
-ghost use Rattle.cmd_steps.specs.Files.{IsBegun, file_of};
-ghost use Rattle.cmd_steps.specs.Vocabulary.{StoreState, SinkState, shape_of, width_of, StandsIn, outside, around, Took, Follows};
-ghost use Rattle.cmd_steps.specs.Courses.{all_rows};
-ghost use Rattle.cmd_steps.specs.NextVectors.{WaitsOrPuts};
+ghost use Rattle.cmd_steps.specs.Vocabulary.{IsBegun, file_of, StoreState, SinkState, shape_of, width_of, StandsIn, outside, around, Took};
+ghost use Rattle.cmd_steps.specs.Vocabulary.{Follows, all_rows, WaitsOrPuts};
 ghost use Rattle.run_image.specs.Rows.{RowsBegin, image_rows, image_course};
 ghost use Rattle.run_image.specs.Running.{IsFitting, IsLoaded, Keeps, CycleGives, CycleStops, DriveStops, prepares, at_rows};
 

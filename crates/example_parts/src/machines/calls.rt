@@ -2,8 +2,7 @@
 ghost use Rattle.std.specs.Prelude.{◌≡◌, ◌<◌, All, Some, IfOk};
 ghost use Rattle.rig.specs.Rig.{shape_of};
 ghost use Rattle.machine_shape.specs.Shape.{tables_of};
-ghost use Rattle.diag_known.specs.Field.{IsFieldOf};
-ghost use Rattle.diag_known.specs.Known.{IsKnown};
+ghost use Rattle.diag_known.specs.Vocabulary.{IsFieldOf, IsKnown};
 ghost use Rattle.diag_sweep.specs.Marks.{AreMarksFor};
 ghost use Rattle.example_parts.specs.Stages.{IsStageOf};
 

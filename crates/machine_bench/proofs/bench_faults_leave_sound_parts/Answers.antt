@@ -1,6 +1,5 @@
 use Rattle.std.proofs.Common.{zero, suc, arith}
-use Rattle.machine_shape.specs.Counts.{levels_from}
-use Rattle.machine_shape.specs.Counts.{IsAmple}
+use Rattle.machine_shape.specs.Counts.{levels_from, IsAmple}
 use Rattle.machine_meaning.proofs.Serving.{served_by_first}
 use Rattle.machine_bench.specs.Work.{bench_counts}
 use Rattle.machine_bench.proofs.Left.{left_sound}

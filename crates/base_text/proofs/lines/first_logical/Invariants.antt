@@ -1,6 +1,5 @@
 use Rattle.std.proofs.Common.{◌≡◌, ◌+◌, ◌≤◌, length, map}
-use Rattle.base_text.specs.Bytes.{physical_lines}
-use Rattle.base_text.specs.Lines.{line_of, texts_of}
+use Rattle.base_text.specs.Vocabulary.{physical_lines, line_of, texts_of}
 use Rattle.base_text.proofs.LinesLemmas.{with_front}
 use Rattle.base_text.proofs.lines.first_logical.Given as goal
 

@@ -3,9 +3,7 @@ use Rattle.std.proofs.lemmas.Bool.{false≢true, cases_lt}
 use Rattle.std.proofs.lemmas.List.{get_or_past}
 use Rattle.std.proofs.lemmas.List.Elements.{Contains-get_or}
 use Rattle.machine_shape.specs.declared.Shape.{Shape}
-use Rattle.machine_meaning.specs.Faults.{Faults}
-use Rattle.machine_meaning.specs.Defects.{Covers}
-use Rattle.machine_meaning.specs.Tight.{IsTight}
+use Rattle.machine_meaning.specs.Vocabulary.{Faults, Covers, IsTight}
 use Rattle.machine_defects.proofs.Marks.{has_below}
 use Rattle.machine_config.specs.Configuration.{Configuration, setting_of}
 use Rattle.machine_image.specs.Parts.{at_pin, at_tap, at_line, at_table}

@@ -3,8 +3,7 @@ use Rattle.std.proofs.lemmas.Result.{err_from_is_err_and}
 use Rattle.base_io.specs.Told.{Told}
 use Rattle.machine_shape.specs.declared.Shape.{Shape}
 use Rattle.design_netlist.specs.declared.netlist_data.NetlistData.{NetlistData}
-use Rattle.cmd_steps.specs.Courses.{Step}
-use Rattle.cmd_steps.specs.Texts.{reads_design}
+use Rattle.cmd_steps.specs.Vocabulary.{Step, reads_design}
 use Rattle.cmd_steps.specs.declared.design_file.DesignFile.TheVariants.{Design}
 use Rattle.cmd_steps.proofs.ListFiles.{no-machine, no-list, no-third, all-read}
 use Rattle.cmd_compile.specs.Compile.{design_laid}

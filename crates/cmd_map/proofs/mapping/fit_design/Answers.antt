@@ -2,8 +2,7 @@ use Rattle.std.proofs.Common.{[], ◌∷◌}
 use Rattle.std.proofs.lemmas.Result.{err_from_is_err_and}
 use Rattle.base_io.specs.Told.{Told}
 use Rattle.machine_shape.specs.declared.Shape.{Shape}
-use Rattle.cmd_steps.specs.Courses.{Step}
-use Rattle.cmd_steps.specs.Texts.{reads_text}
+use Rattle.cmd_steps.specs.Vocabulary.{Step, reads_text}
 use Rattle.cmd_steps.specs.declared.design.DesignText.{DesignText}
 use Rattle.cmd_steps.specs.declared.design_file.DesignFile.TheVariants.{Design}
 use Rattle.cmd_steps.proofs.ListFiles.{no-machine, no-list, no-third, all-read}

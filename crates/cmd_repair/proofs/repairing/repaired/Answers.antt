@@ -2,8 +2,7 @@ use Rattle.std.proofs.Common.{◌≡◌, ◌∙◌, ◌<◌, List, Bool, All, ma
 use Rattle.std.proofs.lemmas.Bool.{false≢true}
 use Rattle.machine_shape.specs.declared.Shape.{Shape}
 use Rattle.machine_shape.specs.Shape.{nodes_of}
-use Rattle.machine_meaning.specs.Defects.{Defects, Covers}
-use Rattle.machine_meaning.specs.Faults.{Faults, AreFaultsOf, IsFaultless}
+use Rattle.machine_meaning.specs.Vocabulary.{Defects, Covers, Faults, AreFaultsOf, IsFaultless}
 use Rattle.machine_shape.proofs.Totals.{nodes_are}
 use Rattle.design_netlist.specs.Rows.{AreRows}
 use Rattle.machine_image.specs.Images.{ImageValue, drive_of}

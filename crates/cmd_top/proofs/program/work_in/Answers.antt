@@ -1,5 +1,4 @@
-use Rattle.std.proofs.Common.{◌∙◌, map, string_bytes, sym}
-use Rattle.std.specs.Prelude.{codes}
+use Rattle.std.proofs.Common.{◌∙◌, map, string_bytes, sym, codes}
 use Rattle.cmd_top.proofs.WordLemmas.{begun}
 use Rattle.cmd_steps.proofs.AskedLemmas.{does-none, does-job}
 use Rattle.cmd_top.proofs.program.work_in.Goals as goal

@@ -1,8 +1,6 @@
 use Rattle.std.proofs.Common.{ℕ, List, length, ap, subst, sym, ◌∙◌}
 use Rattle.std.proofs.lemmas.Bool.{eqb-true}
-use Rattle.design_netlist.specs.Covers.{truth}
-use Rattle.design_netlist.specs.Lanes.{lane_bits}
-use Rattle.design_netlist.specs.Valuations.{bit_at}
+use Rattle.design_netlist.specs.Vocabulary.{truth, lane_bits, bit_at}
 use Rattle.design_equal.specs.declared.plan.Step.{Step}
 use Rattle.design_equal.specs.Plans.{AreInputs, AreSteps, HaveInputs, HaveWords}
 use Rattle.design_equal.proofs.PlanLemmas.{local_bit, met_in}

@@ -1,5 +1,4 @@
-use Rattle.std.proofs.Common.{◌&&◌, ◌||◌, Bool, ap, sym, ◌∙◌}
-use Rattle.std.specs.Prelude.{not, if◌then◌else◌}
+use Rattle.std.proofs.Common.{◌&&◌, ◌||◌, Bool, ap, sym, ◌∙◌, not, if◌then◌else◌}
 use Rattle.design_equal.specs.Graphs.{literal_in}
 use Rattle.design_equal.specs.Products.{holds, work_holds}
 use Rattle.design_equal.proofs.ProductLemmas.{either_not}

@@ -1,5 +1,4 @@
-use Rattle.std.proofs.Common.{◌<◌, Bool, List, length, get_or, sym, ap, ◌∙◌, arith, false, add-one}
-use Rattle.std.specs.Prelude.{slice_set}
+use Rattle.std.proofs.Common.{◌<◌, Bool, List, length, get_or, sym, ap, ◌∙◌, arith, false, add-one, slice_set}
 use Rattle.design_eval.proofs.BitLemmas.{put-none, put-more}
 use Rattle.design_eval.proofs.bits.put_bits.Goals as goal
 

@@ -1,6 +1,5 @@
 use Rattle.std.proofs.Common.{◌≡◌, ℕ, List, map, length, refl, ap, subst, ◌∙◌}
-use Rattle.design_netlist.specs.Valuations.{bit_at}
-use Rattle.design_netlist.specs.Lanes.{lane_bits}
+use Rattle.design_netlist.specs.Vocabulary.{bit_at, lane_bits}
 use Rattle.design_eval.proofs.BlockLemmas.{row-of-lane}
 use Rattle.design_eval.proofs.RunLemmas.{below-at, inputs-below, outputs-below}
 use Rattle.design_eval.proofs.block.give_lane.Goals as goal

@@ -1,5 +1,4 @@
-use Rattle.std.proofs.Common.{◌<◌, ℕ, Bool, List, false, length, get_or, sym, ap, ◌∙◌, arith, add-one}
-use Rattle.std.specs.Prelude.{slice_set}
+use Rattle.std.proofs.Common.{◌<◌, ℕ, Bool, List, false, length, get_or, sym, ap, ◌∙◌, arith, add-one, slice_set}
 use Rattle.design_eval.proofs.BitLemmas.{length-put, put-none, put-more}
 use Rattle.design_eval.proofs.MarkLemmas.{still-none, still-more, still-all, given-taken, taken-none, taken-both}
 use Rattle.design_eval.proofs.marks.put_marked.Goals as goal

@@ -1,6 +1,5 @@
 use Rattle.std.proofs.Common.{◌≡◌, ◌+◌, ◌*◌, ◌<◌, ◌≤◌, ℕ}
-use Rattle.design_netlist.specs.Valuations.{number_at}
-use Rattle.design_netlist.specs.Lanes.{is_bit}
+use Rattle.design_netlist.specs.Vocabulary.{number_at, is_bit}
 use Rattle.design_eval.specs.Lanes.{chosen}
 use Rattle.design_eval.proofs.table_word.halve.Given as goal
 

@@ -1,7 +1,6 @@
 use Rattle.std.proofs.Common.{◌≡◌, ℕ, ◌+◌, ◌-◌, ◌/◌, ◌<◌, ◌≤◌, Bool, false, List, [], length, take, drop, get_or, arith, ap, subst, sym, ◌∙◌}
 use Rattle.std.proofs.lemmas.List.{length-take-le, length-drop, get_or-take, drop_all}
-use Rattle.design_netlist.specs.Valuations.{number_at, bit_at}
-use Rattle.design_netlist.specs.Lanes.{is_bit, lane_bits}
+use Rattle.design_netlist.specs.Vocabulary.{number_at, bit_at, is_bit, lane_bits}
 use Rattle.design_eval.specs.Lanes.{addresses}
 use Rattle.design_eval.specs.Tables.{address}
 use Rattle.design_netlist.proofs.LaneLemmas.{lane-at}

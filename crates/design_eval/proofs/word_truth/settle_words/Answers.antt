@@ -1,9 +1,7 @@
 use Rattle.std.proofs.Common.{ℕ, ◌+◌, List, length, arith, ap, subst, sym, ◌∙◌}
 use Rattle.std.proofs.lemmas.List.{length-map, length-set}
 use Rattle.design_netlist.specs.declared.netlist_data.Cover.{Cover}
-use Rattle.design_netlist.specs.Covers.{cover_at, truth, IsCoverOver}
-use Rattle.design_netlist.specs.Valuations.{bit_at, IsSettledTo}
-use Rattle.design_netlist.specs.Lanes.{is_bit, lane_bits}
+use Rattle.design_netlist.specs.Vocabulary.{cover_at, truth, IsCoverOver, bit_at, IsSettledTo, is_bit, lane_bits}
 use Rattle.design_eval.specs.Turns.{turn_at, places}
 use Rattle.design_netlist.proofs.LaneLemmas.{lane-set}
 use Rattle.design_eval.proofs.TableWordLemmas.{not-own}

@@ -1,6 +1,5 @@
 use Rattle.std.proofs.Common.{◌≡◌, ◌<◌, ℕ, length}
-use Rattle.design_netlist.specs.Valuations.{IsSettledTo}
-use Rattle.design_netlist.specs.Lanes.{lane_bits}
+use Rattle.design_netlist.specs.Vocabulary.{IsSettledTo, lane_bits}
 use Rattle.design_eval.specs.Turns.{places}
 use Rattle.design_eval.proofs.word_truth.settle_words.Given as goal
 

@@ -1,6 +1,5 @@
 use Rattle.std.proofs.Common.{◌∙◌, ap, map}
-use Rattle.design_flatten.specs.Ordered.{line_in}
-use Rattle.design_flatten.specs.Needs.{lean_line}
+use Rattle.design_flatten.specs.Vocabulary.{line_in, lean_line}
 use Rattle.design_flatten.proofs.bodies.body_of.Goals as goal
 
 pub returns : goal.returns

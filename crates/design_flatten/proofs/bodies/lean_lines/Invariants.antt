@@ -1,7 +1,5 @@
 use Rattle.std.proofs.Common.{◌≡◌, map, take}
-use Rattle.design_flatten.specs.Ordered.{line_in}
-use Rattle.design_flatten.specs.Needs.{lean_line}
-use Rattle.design_flatten.specs.Bodies.{lean_in}
+use Rattle.design_flatten.specs.Vocabulary.{line_in, lean_line, lean_in}
 use Rattle.design_flatten.proofs.bodies.lean_lines.Given as goal
 
 abbrev pub invariant-lines : goal.invariant-lines

@@ -2,9 +2,8 @@ use Rattle.std.proofs.Common.{◌≡◌, ◌∙◌, ap, sym, subst, map, false, 
 use Rattle.std.specs.List.{filter}
 use Rattle.std.specs.Option.{option_copied}
 use Rattle.design_flatten.specs.declared.model.PairDef.{PairDef}
-use Rattle.design_flatten.specs.Uses.{is_among}
-use Rattle.design_flatten.specs.UseLines.{looked_up, names_of, IsKnown}
-use Rattle.design_flatten.specs.Needs.{names_within, is_needed}
+use Rattle.design_flatten.specs.Vocabulary.{is_among, names_of, IsKnown, names_within, is_needed}
+use Rattle.design_flatten.specs.UseLines.{looked_up}
 use Rattle.design_flatten.proofs.NameLemmas.{among_set}
 use Rattle.design_flatten.proofs.UseLemmas.{none_named}
 use Rattle.design_flatten.proofs.BodyLemmas.{none_needed}

@@ -1,8 +1,5 @@
 use Rattle.std.proofs.Common.{◌≡◌, ◌∙◌, ap, sym, map, false, []}
-use Rattle.design_flatten.specs.Lines.{UsePart, is_use, pair_of}
-use Rattle.design_flatten.specs.Ordered.{part_in}
-use Rattle.design_flatten.specs.Needs.{lean_part, is_needed}
-use Rattle.design_flatten.specs.Bodies.{with_pairs}
+use Rattle.design_flatten.specs.Vocabulary.{UsePart, is_use, pair_of, part_in, lean_part, is_needed, with_pairs}
 use Rattle.design_flatten.proofs.LeanLemmas.{filter-defs, lean_plain_part}
 use Rattle.design_flatten.proofs.BodyLemmas.{plain_pairs, pairs_of}
 use Rattle.design_flatten.proofs.bodies.needed_on.Goals as goal

@@ -1,7 +1,5 @@
 use Rattle.std.proofs.Common.{◌≡◌, ◌∙◌, None, Some, ap, sym, subst}
-use Rattle.design_flatten.specs.Placed.{control_of}
-use Rattle.design_flatten.specs.Netlists.{control_is}
-use Rattle.design_flatten.specs.Clocks.{place_in}
+use Rattle.design_flatten.specs.Vocabulary.{control_of, control_is, place_in}
 use Rattle.design_flatten.proofs.ClockLemmas.{named_is}
 use Rattle.design_flatten.proofs.clocks.resolve_control.Goals as goal
 

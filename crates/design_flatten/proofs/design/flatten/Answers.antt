@@ -1,7 +1,6 @@
 use Rattle.std.proofs.Common.{sym, subst}
 use Rattle.std.proofs.lemmas.Result.{err_from_is_err_and}
-use Rattle.design_flatten.specs.Netlists.{IsNetlistOf}
-use Rattle.design_flatten.specs.Readings.{IsReading}
+use Rattle.design_flatten.specs.Vocabulary.{IsNetlistOf, IsReading}
 use Rattle.design_flatten.proofs.ReadLemmas.{found_is, refused_is, only_is}
 use Rattle.design_flatten.proofs.design.flatten.Goals as goal
 

@@ -1,9 +1,7 @@
 use Rattle.std.proofs.Common.{◌≡◌, ◌∙◌, ap, sym, subst, map, false, None}
 use Rattle.std.specs.Option.{option_copied}
-use Rattle.design_flatten.specs.Lines.{pair_of}
-use Rattle.design_flatten.specs.Uses.{is_among}
-use Rattle.design_flatten.specs.UseFaults.{formal_fault}
-use Rattle.design_flatten.specs.UseLines.{looked_up, names_of, IsKnown}
+use Rattle.design_flatten.specs.Vocabulary.{pair_of, is_among, formal_fault, names_of, IsKnown}
+use Rattle.design_flatten.specs.UseLines.{looked_up}
 use Rattle.design_flatten.proofs.UseLemmas.{none_named}
 use Rattle.design_flatten.proofs.formals.fault_of.Goals as goal
 

@@ -1,8 +1,5 @@
 use Rattle.std.proofs.Common.{◌≡◌, ◌∙◌, ◌+◌, ◌++◌, ◌∷◌, ap, sym, [], take, drop, true, false}
-use Rattle.design_flatten.specs.Uses.{is_among}
-use Rattle.design_flatten.specs.UseFaults.{first_wrong}
-use Rattle.design_flatten.specs.NameSets.{with_name, with_names}
-use Rattle.design_flatten.specs.UseLines.{formals_in}
+use Rattle.design_flatten.specs.Vocabulary.{is_among, first_wrong, with_name, with_names, formals_in}
 use Rattle.design_flatten.proofs.FormalLemmas.{right_one, formals_left, formals_taken, set_more}
 use Rattle.design_flatten.proofs.formals.first_wrong.Goals as goal
 

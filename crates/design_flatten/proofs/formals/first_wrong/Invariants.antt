@@ -1,7 +1,5 @@
 use Rattle.std.proofs.Common.{◌≡◌, take, drop, []}
-use Rattle.design_flatten.specs.UseFaults.{first_wrong}
-use Rattle.design_flatten.specs.NameSets.{with_names}
-use Rattle.design_flatten.specs.UseLines.{formals_in}
+use Rattle.design_flatten.specs.Vocabulary.{first_wrong, with_names, formals_in}
 use Rattle.design_flatten.proofs.formals.first_wrong.Given as goal
 
 abbrev pub invariant-pairs : goal.invariant-pairs

@@ -1,9 +1,6 @@
 use Rattle.std.proofs.Common.{◌≡◌, ◌∙◌, ap, sym, subst, map, IsSome}
 use Rattle.design_netlist.proofs.OrderLemmas.{first_more}
-use Rattle.design_flatten.specs.Substitution.{model_named}
-use Rattle.design_flatten.specs.Uses.{Use}
-use Rattle.design_flatten.specs.UseFaults.{formal_fault}
-use Rattle.design_flatten.specs.UseLines.{use_in, listed, number_at, shown}
+use Rattle.design_flatten.specs.Vocabulary.{model_named, Use, formal_fault, use_in, listed, number_at, shown}
 use Rattle.design_flatten.proofs.UseLemmas.{listed_is, some_shown, shown_some}
 use Rattle.design_flatten.proofs.formals.first_wrongly_given.Goals as goal
 

@@ -1,8 +1,6 @@
 use Rattle.std.proofs.Common.{map, IsSome}
 use Rattle.design_netlist.specs.Orders.{IsFirst}
-use Rattle.design_flatten.specs.Substitution.{model_named}
-use Rattle.design_flatten.specs.UseFaults.{formal_fault}
-use Rattle.design_flatten.specs.UseLines.{use_in, listed, number_at}
+use Rattle.design_flatten.specs.Vocabulary.{model_named, formal_fault, use_in, listed, number_at}
 use Rattle.design_flatten.proofs.formals.first_wrongly_given.Given as goal
 
 abbrev pub invariant-uses : goal.invariant-uses

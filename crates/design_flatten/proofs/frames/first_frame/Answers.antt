@@ -1,8 +1,6 @@
 use Rattle.std.proofs.Common.{◌∙◌, ap, sym, map}
 use Rattle.design_flatten.specs.declared.model.Model.{Model}
-use Rattle.design_flatten.specs.Lines.{with_places}
-use Rattle.design_flatten.specs.Substitution.{through, lines_at, at_first, first_model}
-use Rattle.design_flatten.specs.Bodies.{lean_in}
+use Rattle.design_flatten.specs.Vocabulary.{with_places, through, lines_at, at_first, first_model, lean_in}
 use Rattle.design_flatten.proofs.FrameLemmas.{place_is}
 use Rattle.design_flatten.proofs.LeanLemmas.{lean_first, ordered_lean}
 use Rattle.design_flatten.proofs.frames.first_frame.Goals as goal

@@ -1,10 +1,6 @@
 use Rattle.std.proofs.Common.{◌∙◌, ap, sym, map}
 use Rattle.design_flatten.specs.declared.model.Model.{Model}
-use Rattle.design_flatten.specs.Given.{place_of}
-use Rattle.design_flatten.specs.Lines.{with_places}
-use Rattle.design_flatten.specs.Substitution.{through, lines_at, without_ports, model_named}
-use Rattle.design_flatten.specs.Needs.{lean_model}
-use Rattle.design_flatten.specs.Bodies.{lean_in}
+use Rattle.design_flatten.specs.Vocabulary.{place_of, with_places, through, lines_at, without_ports, model_named, lean_model, lean_in}
 use Rattle.design_flatten.proofs.FrameLemmas.{pieces_at}
 use Rattle.design_flatten.proofs.LeanLemmas.{lean_named, pieces_lean}
 use Rattle.design_flatten.proofs.frames.frame_of.Goals as goal

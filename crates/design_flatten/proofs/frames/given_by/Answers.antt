@@ -1,6 +1,5 @@
 use Rattle.std.proofs.Common.{◌<◌, ◌∙◌, length, arith, []}
-use Rattle.design_flatten.specs.Given.{place_of}
-use Rattle.design_flatten.specs.Substitution.{becomes}
+use Rattle.design_flatten.specs.Vocabulary.{place_of, becomes}
 use Rattle.design_flatten.proofs.WorkLemmas.{given_more}
 use Rattle.design_flatten.proofs.frames.given_by.Goals as goal
 

@@ -1,8 +1,6 @@
 use Rattle.std.proofs.Common.{◌≡◌, ◌++◌, ℕ, List}
 use Rattle.design_flatten.specs.declared.model.Signal.{Signal}
-use Rattle.design_flatten.specs.Lines.{Line}
-use Rattle.design_flatten.specs.Frames.{left_from, left_in}
-use Rattle.design_flatten.specs.Sinks.{IsSink}
+use Rattle.design_flatten.specs.Vocabulary.{Line, left_from, left_in, IsSink}
 use Rattle.design_flatten.proofs.frames.place_lines.Given as goal
 
 abbrev pub invariant-lines : goal.invariant-lines

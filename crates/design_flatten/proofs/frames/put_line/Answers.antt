@@ -1,10 +1,5 @@
-use Rattle.std.proofs.Common.{◌≡◌, subst, IfErr}
-use Rattle.std.specs.Prelude.{OnOk}
-use Rattle.design_flatten.specs.Given.{place_of}
-use Rattle.design_flatten.specs.Ordered.{line_in}
-use Rattle.design_flatten.specs.Placed.{placed_line}
-use Rattle.design_flatten.specs.Sinks.{IsPut, IsOverWith}
-use Rattle.design_flatten.specs.Substitution.{through}
+use Rattle.std.proofs.Common.{◌≡◌, subst, IfErr, OnOk}
+use Rattle.design_flatten.specs.Vocabulary.{place_of, line_in, placed_line, IsPut, IsOverWith, through}
 use Rattle.design_flatten.proofs.frames.put_line.Goals as goal
 
 pub returns-in-Some-clause-ok : goal.returns-in-Some-clause-ok

@@ -4,9 +4,7 @@ use Rattle.std.proofs.lemmas.List.{map_push, take_more, append-nil}
 use Rattle.std.proofs.lemmas.List.Concat.{flat_map-append}
 use Rattle.design_flatten.specs.declared.model.Signal.{Signal}
 use Rattle.design_flatten.specs.declared.placed.Placed.{Placed}
-use Rattle.design_flatten.specs.Lines.{Line}
-use Rattle.design_flatten.specs.Netlists.{input_on, output_on, cover_on, latch_on}
-use Rattle.design_flatten.specs.Placed.{placed_line}
+use Rattle.design_flatten.specs.Vocabulary.{Line, input_on, output_on, cover_on, latch_on, placed_line}
 use Rattle.design_flatten.proofs.lists.lists_of.Goals as goal
 
 grown : {A : Type 0} (f : Line Signal → List A) (ps : List Placed) (i : ℕ) (p : Placed) (old new : List A) → i < length ps → p ≡ get_or ps i p → new ≡ old ++ f (placed_line p) → old ≡ flat_map f (map placed_line (take i ps)) → new ≡ flat_map f (map placed_line (take (i + 1) ps))

@@ -1,8 +1,6 @@
 use Rattle.std.proofs.Common.{◌≡◌, [], take}
 use Rattle.std.specs.List.{flat_map}
-use Rattle.design_flatten.specs.NameSets.{with_names}
-use Rattle.design_flatten.specs.Needs.{names_on}
-use Rattle.design_flatten.specs.Marks.{AreRightMarks}
+use Rattle.design_flatten.specs.Vocabulary.{with_names, names_on, AreRightMarks}
 use Rattle.design_flatten.proofs.needs.names_within.Given as goal
 
 abbrev pub invariant-pieces : goal.invariant-pieces

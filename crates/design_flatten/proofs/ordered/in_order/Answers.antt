@@ -1,7 +1,5 @@
 use Rattle.std.proofs.Common.{◌≡◌, ◌∙◌, ◌++◌, ap, refl, map}
-use Rattle.design_flatten.specs.Lines.{number_of_line, input_line, output_line, piece_line}
-use Rattle.design_flatten.specs.InOrder.{in_order}
-use Rattle.design_flatten.specs.Ordered.{line_in}
+use Rattle.design_flatten.specs.Vocabulary.{number_of_line, input_line, output_line, piece_line, in_order, line_in}
 use Rattle.design_flatten.proofs.ordered.in_order.Goals as goal
 
 pub returns : goal.returns

@@ -1,6 +1,5 @@
 use Rattle.std.proofs.Common.{◌≡◌, ◌++◌, map, take}
-use Rattle.design_flatten.specs.Lines.{output_line}
-use Rattle.design_flatten.specs.Ordered.{line_in}
+use Rattle.design_flatten.specs.Vocabulary.{output_line, line_in}
 use Rattle.design_flatten.proofs.ordered.push_outputs.Given as goal
 
 abbrev pub invariant-ports : goal.invariant-ports

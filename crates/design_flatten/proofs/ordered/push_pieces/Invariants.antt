@@ -1,6 +1,5 @@
 use Rattle.std.proofs.Common.{◌≡◌, ◌++◌, map, take}
-use Rattle.design_flatten.specs.Lines.{piece_line}
-use Rattle.design_flatten.specs.Ordered.{line_in}
+use Rattle.design_flatten.specs.Vocabulary.{piece_line, line_in}
 use Rattle.design_flatten.proofs.ordered.push_pieces.Given as goal
 
 abbrev pub invariant-pieces : goal.invariant-pieces

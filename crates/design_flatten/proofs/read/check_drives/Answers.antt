@@ -1,14 +1,8 @@
 use Rattle.std.proofs.Common.{◌<◌, ◌∙◌, ap, arith, length, Some, [], get_or, subst}
 use Rattle.std.proofs.lemmas.List.{length-map}
 use Rattle.design_netlist.specs.declared.netlist_data.PortDef.{PortDef}
-use Rattle.design_netlist.specs.Drafts.{word, signal_at}
-use Rattle.design_netlist.specs.Checks.{IsDoubledIn}
-use Rattle.design_flatten.specs.Netlists.{printed}
-use Rattle.design_flatten.specs.Drives.{IsFirstWord}
-use Rattle.design_flatten.specs.Signals.{signals_of}
-use Rattle.design_flatten.specs.Origins.{lines_of}
-use Rattle.design_flatten.specs.Words.{drives_in}
-use Rattle.design_flatten.specs.Faults.{name_in}
+use Rattle.design_netlist.specs.Vocabulary.{word, signal_at, IsDoubledIn}
+use Rattle.design_flatten.specs.Vocabulary.{printed, IsFirstWord, signals_of, lines_of, drives_in, name_in}
 use Rattle.design_flatten.proofs.MadeLemmas.{drives_below}
 use Rattle.design_flatten.proofs.ReadLemmas.{word_fault}
 use Rattle.design_flatten.proofs.read.check_drives.Goals as goal

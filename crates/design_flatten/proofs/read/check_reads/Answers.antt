@@ -2,15 +2,8 @@ use Rattle.std.proofs.Common.{◌≡◌, ◌<◌, ◌∙◌, ap, sym, arith, len
 use Rattle.std.specs.List.{flat_map}
 use Rattle.std.proofs.lemmas.List.{length-map}
 use Rattle.design_netlist.specs.declared.netlist_data.PortDef.{PortDef}
-use Rattle.design_netlist.specs.Drafts.{word, signal_at}
-use Rattle.design_netlist.specs.Words.{sooner}
-use Rattle.design_flatten.specs.Netlists.{printed}
-use Rattle.design_flatten.specs.Drives.{places_of}
-use Rattle.design_flatten.specs.Placed.{placed_line}
-use Rattle.design_flatten.specs.Signals.{signals_of}
-use Rattle.design_flatten.specs.Origins.{lines_of}
-use Rattle.design_flatten.specs.Words.{read_on, drives_in, reads_in}
-use Rattle.design_flatten.specs.Faults.{name_in}
+use Rattle.design_netlist.specs.Vocabulary.{word, signal_at, sooner}
+use Rattle.design_flatten.specs.Vocabulary.{printed, places_of, placed_line, signals_of, lines_of, read_on, drives_in, reads_in, name_in}
 use Rattle.design_flatten.proofs.MadeLemmas.{reads_below}
 use Rattle.design_flatten.proofs.WordLemmas.{undriven_word, none_undriven}
 use Rattle.design_flatten.proofs.DriveLemmas.{table_is}

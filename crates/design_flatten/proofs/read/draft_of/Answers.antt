@@ -1,9 +1,6 @@
 use Rattle.std.proofs.Common.{◌≡◌, ◌∙◌, ap, map}
 use Rattle.std.specs.List.{flat_map}
-use Rattle.design_flatten.specs.Placed.{placed_line}
-use Rattle.design_flatten.specs.Signals.{signals_of}
-use Rattle.design_flatten.specs.Origins.{lines_of}
-use Rattle.design_flatten.specs.Netlists.{input_on, output_on, cover_on, latch_on}
+use Rattle.design_flatten.specs.Vocabulary.{placed_line, signals_of, lines_of, input_on, output_on, cover_on, latch_on}
 use Rattle.design_flatten.proofs.read.draft_of.Goals as goal
 
 pub returns-clause-ok : goal.returns-clause-ok

@@ -1,6 +1,5 @@
 use Rattle.std.proofs.Common.{map}
-use Rattle.design_flatten.specs.Links.{AreLinked}
-use Rattle.design_flatten.specs.UseLines.{use_in}
+use Rattle.design_flatten.specs.Vocabulary.{AreLinked, use_in}
 use Rattle.design_flatten.proofs.recursion.covers_of.Given as goal
 
 abbrev pub invariant-uses : goal.invariant-uses

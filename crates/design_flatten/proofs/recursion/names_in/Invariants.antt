@@ -1,6 +1,5 @@
 use Rattle.std.proofs.Common.{map}
-use Rattle.design_flatten.specs.Links.{HaveNames}
-use Rattle.design_flatten.specs.UseLines.{use_in}
+use Rattle.design_flatten.specs.Vocabulary.{HaveNames, use_in}
 use Rattle.design_flatten.proofs.recursion.names_in.Given as goal
 
 abbrev pub invariant-uses : goal.invariant-uses

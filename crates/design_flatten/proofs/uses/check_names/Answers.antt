@@ -1,6 +1,5 @@
 use Rattle.std.proofs.Common.{◌≡◌, ℕ, List, map, false}
-use Rattle.design_flatten.specs.Uses.{Use, uses_of, is_among}
-use Rattle.design_flatten.specs.UseLines.{use_in, listed, names_of}
+use Rattle.design_flatten.specs.Vocabulary.{Use, uses_of, is_among, use_in, listed, names_of}
 use Rattle.design_flatten.proofs.UseLemmas.{no_first}
 use Rattle.design_flatten.proofs.uses.check_names.Goals as goal
 

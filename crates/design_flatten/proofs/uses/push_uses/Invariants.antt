@@ -1,7 +1,6 @@
 use Rattle.std.proofs.Common.{◌≡◌, ◌++◌, map, take}
 use Rattle.std.specs.List.{flat_map}
-use Rattle.design_flatten.specs.Uses.{use_on}
-use Rattle.design_flatten.specs.UseLines.{use_in}
+use Rattle.design_flatten.specs.Vocabulary.{use_on, use_in}
 use Rattle.design_flatten.proofs.uses.push_uses.Given as goal
 
 abbrev pub invariant-pieces : goal.invariant-pieces

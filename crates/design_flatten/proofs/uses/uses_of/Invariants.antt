@@ -1,7 +1,6 @@
 use Rattle.std.proofs.Common.{◌≡◌, map, take}
 use Rattle.std.specs.List.{flat_map}
-use Rattle.design_flatten.specs.Uses.{uses_in}
-use Rattle.design_flatten.specs.UseLines.{use_in}
+use Rattle.design_flatten.specs.Vocabulary.{uses_in, use_in}
 use Rattle.design_flatten.proofs.uses.uses_of.Given as goal
 
 abbrev pub invariant-models : goal.invariant-models

@@ -1,9 +1,7 @@
 use Rattle.std.proofs.Common.{◌∙◌, sym}
 use Rattle.std.proofs.lemmas.List.Sums.{fold_more}
-use Rattle.design_netlist.specs.Drafts.{word}
-use Rattle.design_netlist.specs.Words.{sooner}
-use Rattle.design_flatten.specs.Drives.{places_of}
-use Rattle.design_flatten.specs.Signals.{signal_number}
+use Rattle.design_netlist.specs.Vocabulary.{word, sooner}
+use Rattle.design_flatten.specs.Vocabulary.{places_of, signal_number}
 use Rattle.design_flatten.proofs.words.among_inputs.Goals as goal
 
 pub ins-preserved : goal.ins-preserved

@@ -1,9 +1,6 @@
-use Rattle.std.proofs.Common.{◌≡◌, take}
-use Rattle.std.specs.Prelude.{fold}
-use Rattle.design_netlist.specs.Drafts.{word}
-use Rattle.design_netlist.specs.Words.{sooner}
-use Rattle.design_flatten.specs.Drives.{places_of}
-use Rattle.design_flatten.specs.Signals.{signal_number}
+use Rattle.std.proofs.Common.{◌≡◌, take, fold}
+use Rattle.design_netlist.specs.Vocabulary.{word, sooner}
+use Rattle.design_flatten.specs.Vocabulary.{places_of, signal_number}
 use Rattle.design_flatten.proofs.words.among_inputs.Given as goal
 
 abbrev pub invariant-ins : goal.invariant-ins

@@ -1,9 +1,6 @@
-use Rattle.std.proofs.Common.{◌≡◌, None, take}
-use Rattle.std.specs.Prelude.{fold}
+use Rattle.std.proofs.Common.{◌≡◌, None, take, fold}
 use Rattle.design_netlist.specs.Words.{sooner}
-use Rattle.design_flatten.specs.Drives.{places_of}
-use Rattle.design_flatten.specs.Placed.{placed_line}
-use Rattle.design_flatten.specs.Words.{read_on}
+use Rattle.design_flatten.specs.Vocabulary.{places_of, placed_line, read_on}
 use Rattle.design_flatten.proofs.words.first_undriven.Given as goal
 
 abbrev pub invariant-placed : goal.invariant-placed

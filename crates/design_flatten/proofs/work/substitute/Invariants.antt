@@ -1,11 +1,6 @@
 use Rattle.std.proofs.Common.{◌≡◌, ◌≤◌, ◌++◌, ◌+◌, ◌*◌, ◌-◌, List, length, vec_len}
 use Rattle.design_flatten.specs.declared.model.Signal.{Signal}
-use Rattle.design_flatten.specs.Lines.{Line}
-use Rattle.design_flatten.specs.Substitution.{after, first_model}
-use Rattle.design_flatten.specs.Needs.{lean_models}
-use Rattle.design_flatten.specs.Frames.{left_of, AreFrames}
-use Rattle.design_flatten.specs.Origins.{AreOrigins}
-use Rattle.design_flatten.specs.Sinks.{IsSink}
+use Rattle.design_flatten.specs.Vocabulary.{Line, after, first_model, lean_models, left_of, AreFrames, AreOrigins, IsSink}
 use Rattle.design_flatten.proofs.work.substitute.Given as goal
 
 abbrev pub invariant-work : goal.invariant-work

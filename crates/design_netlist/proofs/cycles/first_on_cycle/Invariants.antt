@@ -1,5 +1,4 @@
-use Rattle.design_netlist.specs.Orders.{IsFirst}
-use Rattle.design_netlist.specs.Covers.{cover_line, IsOnCycle}
+use Rattle.design_netlist.specs.Vocabulary.{IsFirst, cover_line, IsOnCycle}
 use Rattle.design_netlist.proofs.cycles.first_on_cycle.Given as goal
 
 abbrev pub invariant-covers : goal.invariant-covers

@@ -2,9 +2,7 @@ use Rattle.std.proofs.Common.{◌≡◌, ◌∙◌, ap, sym, subst, refl, length
 use Rattle.std.proofs.lemmas.Bool.{false≢true}
 use Rattle.std.proofs.lemmas.List.{get_or_default}
 use Rattle.design_netlist.specs.declared.netlist_data.Cover.{Cover}
-use Rattle.design_netlist.specs.Drivers.{driver_at}
-use Rattle.design_netlist.specs.Covers.{no_cover}
-use Rattle.design_netlist.specs.Valuations.{number_at}
+use Rattle.design_netlist.specs.Vocabulary.{driver_at, no_cover, number_at}
 use Rattle.design_netlist.proofs.CycleLemmas.{one_of_all, none_of_all}
 use Rattle.design_netlist.proofs.cycles.is_on_cycle.Goals as goal
 

@@ -1,8 +1,5 @@
 use Rattle.std.proofs.Common.{◌≡◌, ◌<◌, ℕ, Some}
-use Rattle.design_netlist.specs.Covers.{cover_at}
-use Rattle.design_netlist.specs.Drivers.{driver_at}
-use Rattle.design_netlist.specs.Valuations.{number_at}
-use Rattle.design_netlist.specs.Searches.{search_number, state_at}
+use Rattle.design_netlist.specs.Vocabulary.{cover_at, driver_at, number_at, search_number, state_at}
 use Rattle.design_netlist.proofs.cycles.is_on_cycle.Given as goal
 
 abbrev pub invariant-ins : goal.invariant-ins

@@ -1,6 +1,4 @@
-use Rattle.design_netlist.specs.Orders.{IsFirst}
-use Rattle.design_netlist.specs.Drafts.{line_at}
-use Rattle.design_netlist.specs.Checks.{IsDoubledIn}
+use Rattle.design_netlist.specs.Vocabulary.{IsFirst, line_at, IsDoubledIn}
 use Rattle.design_netlist.proofs.drives.first_doubled.Given as goal
 
 abbrev pub invariant-words : goal.invariant-words

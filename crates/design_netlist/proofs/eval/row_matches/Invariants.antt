@@ -1,7 +1,6 @@
 use Rattle.std.proofs.Common.{◌≡◌, ◌<◌, ℕ, get_or, true}
 use Rattle.design_netlist.specs.declared.netlist_data.Lit.TheVariants.{Zero}
-use Rattle.design_netlist.specs.Covers.{fits}
-use Rattle.design_netlist.specs.Valuations.{bit_at}
+use Rattle.design_netlist.specs.Vocabulary.{fits, bit_at}
 use Rattle.design_netlist.proofs.eval.row_matches.Given as goal
 
 abbrev pub invariant-places : goal.invariant-places

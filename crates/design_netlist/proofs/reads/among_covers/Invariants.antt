@@ -1,7 +1,5 @@
-use Rattle.std.proofs.Common.{◌≡◌, take}
-use Rattle.std.specs.Prelude.{fold}
-use Rattle.design_netlist.specs.Drafts.{cover_reads}
-use Rattle.design_netlist.specs.Words.{sooner}
+use Rattle.std.proofs.Common.{◌≡◌, take, fold}
+use Rattle.design_netlist.specs.Vocabulary.{cover_reads, sooner}
 use Rattle.design_netlist.proofs.reads.among_covers.Given as goal
 
 abbrev pub invariant-covers : goal.invariant-covers

@@ -1,7 +1,5 @@
-use Rattle.std.proofs.Common.{◌≡◌, take}
-use Rattle.std.specs.Prelude.{fold}
-use Rattle.design_netlist.specs.Drafts.{word}
-use Rattle.design_netlist.specs.Words.{sooner}
+use Rattle.std.proofs.Common.{◌≡◌, take, fold}
+use Rattle.design_netlist.specs.Vocabulary.{word, sooner}
 use Rattle.design_netlist.proofs.reads.among_inputs.Given as goal
 
 abbrev pub invariant-ins : goal.invariant-ins

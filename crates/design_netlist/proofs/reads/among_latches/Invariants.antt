@@ -1,7 +1,5 @@
-use Rattle.std.proofs.Common.{◌≡◌, take}
-use Rattle.std.specs.Prelude.{fold}
-use Rattle.design_netlist.specs.Drafts.{latch_read}
-use Rattle.design_netlist.specs.Words.{sooner}
+use Rattle.std.proofs.Common.{◌≡◌, take, fold}
+use Rattle.design_netlist.specs.Vocabulary.{latch_read, sooner}
 use Rattle.design_netlist.proofs.reads.among_latches.Given as goal
 
 abbrev pub invariant-latches : goal.invariant-latches

@@ -1,7 +1,6 @@
 use Rattle.std.proofs.Common.{◌≡◌, ◌<◌, ℕ, length, []}
 use Rattle.design_netlist.specs.declared.search.State.TheVariants.{New}
-use Rattle.design_netlist.specs.Searches.{state_at}
-use Rattle.design_netlist.specs.States.{IsSearching}
+use Rattle.design_netlist.specs.Vocabulary.{state_at, IsSearching}
 use Rattle.design_netlist.proofs.search.number_covers.Given as goal
 
 abbrev pub invariant-roots : goal.invariant-roots

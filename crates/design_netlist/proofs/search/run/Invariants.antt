@@ -1,6 +1,5 @@
 use Rattle.std.proofs.Common.{length}
-use Rattle.design_netlist.specs.Searches.{StaysSeen}
-use Rattle.design_netlist.specs.States.{IsSearching, left_of}
+use Rattle.design_netlist.specs.Vocabulary.{StaysSeen, IsSearching, left_of}
 use Rattle.design_netlist.proofs.search.run.Given as goal
 
 abbrev pub invariant-steps : goal.invariant-steps

@@ -1,5 +1,4 @@
-use Rattle.std.proofs.Common.{sym}
-use Rattle.std.specs.Prelude.{is_some}
+use Rattle.std.proofs.Common.{sym, is_some}
 use Rattle.machine_shape.specs.declared.Table.{Table}
 use Rattle.machine_config.specs.Configuration.{setting_of}
 use Rattle.diag_check.specs.Looks.{KeepsTableOf}

@@ -1,9 +1,7 @@
-use Rattle.std.proofs.Common.{◌≡◌, ◌<◌, ◌&&◌, ◌||◌, ◌∙◌, ℕ, Bool, get_or, refl, sym, ap, arith}
-use Rattle.std.specs.Prelude.{◌==◌}
+use Rattle.std.proofs.Common.{◌≡◌, ◌<◌, ◌&&◌, ◌||◌, ◌∙◌, ℕ, Bool, get_or, refl, sym, ap, arith, ◌==◌}
 use Rattle.std.specs.List.{list_any}
 use Rattle.base_bits.specs.Numbers.{has_number}
-use Rattle.diag_evidence.specs.Hangs.{Foot, pin_at}
-use Rattle.diag_evidence.specs.Looks.{parts, hangs_apart}
+use Rattle.diag_evidence.specs.Vocabulary.{Foot, pin_at, parts, hangs_apart}
 use Rattle.diag_evidence.proofs.Footing.{foot_below}
 use Rattle.diag_evidence.proofs.Marking.{any_same, or_turned}
 use Rattle.diag_evidence.proofs.apart.gather_on.Goals as goal

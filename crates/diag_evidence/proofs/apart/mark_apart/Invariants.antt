@@ -1,5 +1,4 @@
-use Rattle.std.proofs.Common.{◌≡◌, ◌&&◌, ◌||◌, ℕ, length}
-use Rattle.std.specs.Prelude.{nat_lt}
+use Rattle.std.proofs.Common.{◌≡◌, ◌&&◌, ◌||◌, ℕ, length, nat_lt}
 use Rattle.base_bits.specs.Pairs.{has_pair}
 use Rattle.diag_evidence.specs.Looks.{hang_apart}
 use Rattle.diag_evidence.proofs.apart.mark_apart.Given as goal

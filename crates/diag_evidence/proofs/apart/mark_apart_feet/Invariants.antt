@@ -1,5 +1,4 @@
-use Rattle.std.proofs.Common.{◌≡◌, ◌&&◌, ◌||◌, not, ℕ, length, take}
-use Rattle.std.specs.Prelude.{◌==◌}
+use Rattle.std.proofs.Common.{◌≡◌, ◌&&◌, ◌||◌, not, ℕ, length, take, ◌==◌}
 use Rattle.std.specs.List.{list_any}
 use Rattle.base_bits.specs.Pairs.{has_pair}
 use Rattle.diag_evidence.specs.Hangs.{pin_at, stands_apart}

@@ -1,5 +1,4 @@
-use Rattle.std.proofs.Common.{◌≡◌, ◌&&◌, ◌||◌, ℕ, length}
-use Rattle.std.specs.Prelude.{nat_lt}
+use Rattle.std.proofs.Common.{◌≡◌, ◌&&◌, ◌||◌, ℕ, length, nat_lt}
 use Rattle.base_bits.specs.Numbers.{has_number}
 use Rattle.diag_evidence.specs.Looks.{hangs_swinging}
 use Rattle.diag_evidence.proofs.apart.mark_swinging.Given as goal

@@ -1,9 +1,7 @@
-use Rattle.std.proofs.Common.{◌≡◌, ◌&&◌, ◌||◌, ℕ, length, take}
-use Rattle.std.specs.Prelude.{◌==◌}
+use Rattle.std.proofs.Common.{◌≡◌, ◌&&◌, ◌||◌, ℕ, length, take, ◌==◌}
 use Rattle.std.specs.List.{list_any}
 use Rattle.base_bits.specs.Numbers.{has_number}
-use Rattle.diag_evidence.specs.Hangs.{pin_at}
-use Rattle.diag_evidence.specs.Looks.{swings}
+use Rattle.diag_evidence.specs.Vocabulary.{pin_at, swings}
 use Rattle.diag_evidence.proofs.apart.mark_swinging_feet.Given as goal
 
 abbrev pub invariant-feet : goal.invariant-feet

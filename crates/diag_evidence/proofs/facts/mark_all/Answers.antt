@@ -1,5 +1,4 @@
-use Rattle.std.proofs.Common.{◌∙◌, ap}
-use Rattle.std.specs.Prelude.{◌||◌}
+use Rattle.std.proofs.Common.{◌∙◌, ap, ◌||◌}
 use Rattle.base_bits.specs.Pairs.{has_pair}
 use Rattle.diag_evidence.specs.Readings.{wires_over}
 use Rattle.diag_evidence.proofs.Several.{across_between}

@@ -1,5 +1,4 @@
-use Rattle.std.proofs.Common.{◌≡◌, ◌<◌, ◌+◌, ◌==◌, ◌&&◌, not, take, ◌∙◌, length, arith, sym, ap}
-use Rattle.std.specs.Prelude.{◌||◌}
+use Rattle.std.proofs.Common.{◌≡◌, ◌<◌, ◌+◌, ◌==◌, ◌&&◌, not, take, ◌∙◌, length, arith, sym, ap, ◌||◌}
 use Rattle.std.proofs.lemmas.List.{take_all}
 use Rattle.base_bits.specs.Pairs.{has_pair, is_with}
 use Rattle.diag_evidence.specs.Kept.{is_across}

@@ -1,5 +1,4 @@
-use Rattle.std.proofs.Common.{◌≡◌, ℕ, take}
-use Rattle.std.specs.Prelude.{◌||◌}
+use Rattle.std.proofs.Common.{◌≡◌, ℕ, take, ◌||◌}
 use Rattle.base_bits.specs.Pairs.{has_pair}
 use Rattle.diag_evidence.specs.Kept.{is_across}
 use Rattle.diag_evidence.proofs.facts.mark_each.Given as goal

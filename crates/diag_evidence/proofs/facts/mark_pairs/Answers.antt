@@ -1,5 +1,4 @@
-use Rattle.std.proofs.Common.{◌≡◌, ◌<◌, ◌+◌, take, ◌∙◌, length, arith, ap, [], ◌∷◌}
-use Rattle.std.specs.Prelude.{◌||◌}
+use Rattle.std.proofs.Common.{◌≡◌, ◌<◌, ◌+◌, take, ◌∙◌, length, arith, ap, [], ◌∷◌, ◌||◌}
 use Rattle.std.proofs.lemmas.List.{take_all}
 use Rattle.base_bits.specs.Pairs.{has_pair}
 use Rattle.diag_evidence.specs.Kept.{is_between}

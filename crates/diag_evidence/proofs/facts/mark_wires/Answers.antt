@@ -1,5 +1,4 @@
-use Rattle.std.proofs.Common.{◌≡◌, ◌<◌, ◌+◌, ◌∙◌, length, take, ap, arith}
-use Rattle.std.specs.Prelude.{◌||◌}
+use Rattle.std.proofs.Common.{◌≡◌, ◌<◌, ◌+◌, ◌∙◌, length, take, ap, arith, ◌||◌}
 use Rattle.base_bits.specs.Numbers.{has_number}
 use Rattle.machine_config.specs.Groups.{among}
 use Rattle.std.proofs.lemmas.List.{length-set, take_all}

@@ -1,5 +1,4 @@
-use Rattle.std.proofs.Common.{◌≡◌, ℕ, length, take}
-use Rattle.std.specs.Prelude.{◌||◌}
+use Rattle.std.proofs.Common.{◌≡◌, ℕ, length, take, ◌||◌}
 use Rattle.base_bits.specs.Numbers.{has_number}
 use Rattle.machine_config.specs.Groups.{among}
 use Rattle.diag_evidence.proofs.facts.mark_wires.Given as goal

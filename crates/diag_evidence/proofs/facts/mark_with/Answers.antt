@@ -1,5 +1,4 @@
-use Rattle.std.proofs.Common.{◌≡◌, ◌<◌, ◌+◌, [], ◌∷◌, take, ◌∙◌, length, arith, sym, ap}
-use Rattle.std.specs.Prelude.{◌||◌}
+use Rattle.std.proofs.Common.{◌≡◌, ◌<◌, ◌+◌, [], ◌∷◌, take, ◌∙◌, length, arith, sym, ap, ◌||◌}
 use Rattle.std.proofs.lemmas.Bool.{false≢true}
 use Rattle.base_bits.specs.Pairs.{is_same_pair, has_pair}
 use Rattle.std.proofs.lemmas.List.{take_all}

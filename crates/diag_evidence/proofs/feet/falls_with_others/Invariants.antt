@@ -1,9 +1,7 @@
-use Rattle.std.proofs.Common.{◌≡◌, ◌&&◌, not, false}
-use Rattle.std.specs.Prelude.{◌==◌}
+use Rattle.std.proofs.Common.{◌≡◌, ◌&&◌, not, false, ◌==◌}
 use Rattle.std.specs.List.{list_any, range_with_len}
 use Rattle.machine_shape.specs.Shape.{pin_wire}
-use Rattle.diag_evidence.specs.Forests.{is_hung}
-use Rattle.diag_evidence.specs.Looks.{read_under}
+use Rattle.diag_evidence.specs.Vocabulary.{is_hung, read_under}
 use Rattle.diag_evidence.proofs.feet.falls_with_others.Given as goal
 
 abbrev pub invariant-pins : goal.invariant-pins

@@ -1,8 +1,6 @@
-use Rattle.std.proofs.Common.{◌≡◌, ◌||◌, true, take}
-use Rattle.std.specs.Prelude.{◌==◌}
+use Rattle.std.proofs.Common.{◌≡◌, ◌||◌, true, take, ◌==◌}
 use Rattle.std.specs.List.{list_all}
-use Rattle.diag_evidence.specs.Hangs.{pin_at}
-use Rattle.diag_evidence.specs.Looks.{parts}
+use Rattle.diag_evidence.specs.Vocabulary.{pin_at, parts}
 use Rattle.diag_evidence.proofs.feet.others_part.Given as goal
 
 abbrev pub invariant-feet : goal.invariant-feet

@@ -1,5 +1,4 @@
-use Rattle.std.proofs.Common.{◌≡◌, take}
-use Rattle.std.specs.Prelude.{filter}
+use Rattle.std.proofs.Common.{◌≡◌, take, filter}
 use Rattle.diag_evidence.specs.Hangs.{overs, is_shown}
 use Rattle.diag_evidence.proofs.hangs.shown.Given as goal
 

@@ -2,8 +2,7 @@ use Rattle.std.proofs.Common.{◌<◌, List, All, sym, subst, ◌∙◌, ap}
 use Rattle.machine_shape.specs.declared.Cross.{Cross}
 use Rattle.machine_shape.specs.Shape.{crosses_of}
 use Rattle.machine_config.specs.Configuration.{Configuration, cleared}
-use Rattle.diag_tests.specs.Configs.{Closes}
-use Rattle.diag_tests.specs.Routes.{cross_numbers}
+use Rattle.diag_tests.specs.Vocabulary.{Closes, cross_numbers}
 use Rattle.diag_evidence.proofs.Addresses.{laid_below}
 use Rattle.diag_evidence.proofs.Settings.{laid_tables}
 use Rattle.diag_evidence.proofs.sheets.table_config.Goals as goal

@@ -1,8 +1,7 @@
 use Rattle.std.proofs.Common.{ℕ, List, sym, subst}
 use Rattle.machine_shape.specs.declared.Cross.{Cross}
 use Rattle.machine_config.specs.Groups.{among}
-use Rattle.diag_tests.specs.Routes.{cross_numbers}
-use Rattle.diag_tests.specs.Configs.{IsCellConfig}
+use Rattle.diag_tests.specs.Vocabulary.{cross_numbers, IsCellConfig}
 use Rattle.diag_growth.specs.Ties.{bit_of, AreSeatTies}
 use Rattle.diag_growth.proofs.Seating.{cell_by, number_is}
 use Rattle.diag_growth.proofs.Tested.{ties_below, gained_cell}

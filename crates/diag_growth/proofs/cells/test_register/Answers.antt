@@ -2,8 +2,7 @@ use Rattle.std.proofs.Common.{true, false, List, refl, sym, ap, subst}
 use Rattle.machine_shape.specs.declared.Cross.{Cross}
 use Rattle.machine_config.specs.declared.Setting.{Setting}
 use Rattle.machine_config.specs.Groups.{among}
-use Rattle.diag_tests.specs.Routes.{cross_numbers}
-use Rattle.diag_tests.specs.Configs.{IsCellConfig}
+use Rattle.diag_tests.specs.Vocabulary.{cross_numbers, IsCellConfig}
 use Rattle.diag_growth.specs.Ties.{AreSeatTies}
 use Rattle.diag_growth.proofs.Seating.{table_by}
 use Rattle.diag_growth.proofs.Tested.{ties_below, gained_register}

@@ -1,8 +1,6 @@
-use Rattle.std.proofs.Common.{◌≡◌, List, Option, Some, ap, subst}
-use Rattle.std.specs.Prelude.{IfOk, OnOk, IfNone, slice_get}
+use Rattle.std.proofs.Common.{◌≡◌, List, Option, Some, ap, subst, IfOk, OnOk, IfNone, slice_get}
 use Rattle.machine_meaning.specs.Faults.{Faults}
-use Rattle.diag_known.specs.Marked.{AreMarks}
-use Rattle.diag_known.specs.Offers.{HasNoSecond}
+use Rattle.diag_known.specs.Vocabulary.{AreMarks, HasNoSecond}
 use Rattle.diag_known.specs.declared.verified_wire.Support.{Support}
 use Rattle.diag_known.proofs.Offering.{spends_on_then, spends_on_told}
 use Rattle.diag_growth.proofs.Learning.{ready_later}

@@ -1,10 +1,8 @@
-use Rattle.std.proofs.Common.{◌≡◌, Option, Some, length, refl, ap, subst, arith}
-use Rattle.std.specs.Prelude.{slice_get}
+use Rattle.std.proofs.Common.{◌≡◌, Option, Some, length, refl, ap, subst, arith, slice_get}
 use Rattle.std.proofs.lemmas.Option.{slice_get_within, slice_get_read}
 use Rattle.machine_meaning.specs.Faults.{Faults}
 use Rattle.diag_evidence.proofs.Keeping.{advances_itself, advances_then}
-use Rattle.diag_known.specs.Marked.{AreMarks}
-use Rattle.diag_known.specs.Offers.{AreLost}
+use Rattle.diag_known.specs.Vocabulary.{AreMarks, AreLost}
 use Rattle.diag_known.proofs.Offering.{spends_on_none, spends_on_then, spends_on_told}
 use Rattle.diag_known.proofs.Seconds.{lost_next}
 use Rattle.diag_growth.proofs.Learning.{ready_later}

@@ -1,12 +1,10 @@
-use Rattle.std.proofs.Common.{◌∙◌, ◌<◌, Option, refl, sym, ap, subst, inl, inr}
-use Rattle.std.specs.Prelude.{OnOk}
+use Rattle.std.proofs.Common.{◌∙◌, ◌<◌, Option, refl, sym, ap, subst, inl, inr, OnOk}
 use Rattle.std.proofs.lemmas.Result.{on_ok_weaker}
 use Rattle.base_bits.specs.Numbers.{has_number}
 use Rattle.machine_shape.specs.declared.Shape.{Shape}
 use Rattle.machine_shape.specs.Shape.{wires_of}
 use Rattle.machine_meaning.specs.Faults.{Faults}
-use Rattle.diag_known.specs.Marked.{AreMarks, barred, lost}
-use Rattle.diag_known.specs.Trials.{IsTried}
+use Rattle.diag_known.specs.Vocabulary.{AreMarks, barred, lost, IsTried}
 use Rattle.diag_known.proofs.Later.{known_later}
 use Rattle.diag_growth.proofs.Learning.{none_more, offers_barred, barred_twice, ready_later}
 use Rattle.diag_known.proofs.Marking.{spends_then, spends_barred}

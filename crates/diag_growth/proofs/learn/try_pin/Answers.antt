@@ -1,11 +1,9 @@
-use Rattle.std.proofs.Common.{◌≡◌, ◌<◌, ◌∙◌, true, refl, sym, ap, subst, inl, inr}
-use Rattle.std.specs.Prelude.{slice_set}
+use Rattle.std.proofs.Common.{◌≡◌, ◌<◌, ◌∙◌, true, refl, sym, ap, subst, inl, inr, slice_set}
 use Rattle.std.proofs.lemmas.Result.{on_ok_weaker}
 use Rattle.machine_shape.specs.declared.Shape.{Shape}
 use Rattle.machine_shape.specs.Shape.{pin_wire, wires_of}
-use Rattle.diag_known.specs.Known.{KnownWires, HasWire, IsKnown, on_pin}
+use Rattle.diag_known.specs.Vocabulary.{KnownWires, HasWire, IsKnown, on_pin, IsBad}
 use Rattle.diag_growth.specs.Grown.{IsOneMore}
-use Rattle.diag_known.specs.Trials.{IsBad}
 use Rattle.diag_known.proofs.Later.{known_later, stands_later}
 use Rattle.diag_growth.proofs.Learning.{by_result, none_more, learnt_more, learnt_has, learnt_known, learnt_marks}
 use Rattle.diag_known.proofs.Settling.{marks_barred, marks_still}

@@ -3,8 +3,7 @@ use Rattle.machine_shape.specs.declared.Shape.{Shape}
 use Rattle.machine_meaning.specs.Faults.{Faults}
 use Rattle.diag_evidence.proofs.Keeping.{advances_itself, advances_then}
 use Rattle.diag_evidence.proofs.KeptLemmas.{more_itself}
-use Rattle.diag_known.specs.Linked.{AreLinked}
-use Rattle.diag_known.specs.Known.{IsAt}
+use Rattle.diag_known.specs.Vocabulary.{AreLinked, IsAt}
 use Rattle.diag_growth.specs.Looks.{AreAllMarks, AreTried, IsLooked}
 use Rattle.diag_growth.proofs.Growing.{grown_next}
 use Rattle.diag_growth.proofs.Leaving.{looks_next, looks_past, looks_all, spends_told}

@@ -1,5 +1,4 @@
-use Rattle.std.proofs.Common.{◌≡◌, ◌<◌, ℕ, Some}
-use Rattle.std.specs.Prelude.{slice_get}
+use Rattle.std.proofs.Common.{◌≡◌, ◌<◌, ℕ, Some, slice_get}
 use Rattle.diag_known.specs.Linked.{list_at}
 use Rattle.diag_growth.specs.Looks.{IsLooked}
 use Rattle.diag_known.specs.declared.verified_wire.Support.{Support}

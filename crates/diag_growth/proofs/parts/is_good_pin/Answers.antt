@@ -3,8 +3,7 @@ use Rattle.std.proofs.lemmas.Result.{IfOk-weaker}
 use Rattle.machine_shape.specs.declared.Shape.{Shape}
 use Rattle.machine_shape.specs.Shape.{pins_of}
 use Rattle.machine_meaning.specs.Faults.{Faults}
-use Rattle.diag_known.specs.Ways.{AreWays}
-use Rattle.diag_known.specs.Trials.{IsBad}
+use Rattle.diag_known.specs.Vocabulary.{AreWays, IsBad}
 use Rattle.diag_known.proofs.Later.{known_later, ways_later}
 use Rattle.diag_growth.proofs.Parting.{good}
 use Rattle.diag_growth.proofs.parts.is_good_pin.Goals as goal

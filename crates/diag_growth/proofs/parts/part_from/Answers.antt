@@ -2,12 +2,9 @@ use Rattle.std.proofs.Common.{◌≡◌, ◌<◌, ◌∙◌, true, All, List, sy
 use Rattle.std.proofs.lemmas.Result.{IfOk-weaker}
 use Rattle.machine_shape.specs.declared.Cross.{Cross}
 use Rattle.machine_shape.specs.Shape.{crosses_of}
-use Rattle.machine_config.specs.Groups.{among}
-use Rattle.machine_config.specs.Tests.{IsDrivenAlone}
-use Rattle.diag_tests.specs.Configs.{IsLoopConfig}
-use Rattle.diag_tests.specs.Routes.{Walk, cross_numbers}
-use Rattle.diag_evidence.specs.Kept.{Kept, IsMore, Gains, these_pairs}
-use Rattle.diag_evidence.specs.Readings.{IsReady, wires_over}
+use Rattle.machine_config.specs.Vocabulary.{among, IsDrivenAlone}
+use Rattle.diag_tests.specs.Vocabulary.{IsLoopConfig, Walk, cross_numbers}
+use Rattle.diag_evidence.specs.Vocabulary.{Kept, IsMore, Gains, these_pairs, IsReady, wires_over}
 use Rattle.diag_known.proofs.Adding.{all_numbers}
 use Rattle.diag_growth.proofs.Listing.{parting_within}
 use Rattle.diag_growth.proofs.Parting.{walk_off, walks_ready, way_ready, parted, part_bad}

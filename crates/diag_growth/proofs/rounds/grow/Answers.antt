@@ -3,8 +3,7 @@ use Rattle.machine_shape.specs.declared.Shape.{Shape}
 use Rattle.machine_meaning.specs.Faults.{Faults}
 use Rattle.machine_shape.specs.Shape.{pins_of}
 use Rattle.diag_evidence.proofs.Keeping.{advances_then}
-use Rattle.diag_known.specs.Field.{IsFieldOf}
-use Rattle.diag_known.specs.Linked.{AreLinked, AreLinks}
+use Rattle.diag_known.specs.Vocabulary.{IsFieldOf, AreLinked, AreLinks}
 use Rattle.diag_growth.specs.Grown.{IsGrown}
 use Rattle.diag_growth.specs.Looks.{AreAllMarks, AreTried}
 use Rattle.diag_growth.proofs.Circling.{first_marks, first_unspent, grows_nothing, growing_first, growing_next, growing_closed, growing_in, growing_most, growing_few}

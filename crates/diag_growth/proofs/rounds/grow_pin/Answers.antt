@@ -1,14 +1,12 @@
-use Rattle.std.proofs.Common.{◌∙◌, ◌<◌, Option, length, refl, sym, ap, subst, inl, inr, arith}
-use Rattle.std.specs.Prelude.{OnOk}
+use Rattle.std.proofs.Common.{◌∙◌, ◌<◌, Option, length, refl, sym, ap, subst, inl, inr, arith, OnOk}
 use Rattle.std.proofs.lemmas.Result.{on_ok_weaker}
 use Rattle.base_bits.specs.Numbers.{has_number}
 use Rattle.machine_shape.specs.declared.Shape.{Shape}
 use Rattle.machine_meaning.specs.Faults.{Faults}
 use Rattle.machine_shape.specs.Shape.{pin_wire, wires_of}
 use Rattle.diag_evidence.proofs.KeptLemmas.{more_itself}
-use Rattle.diag_known.specs.Linked.{AreLinked}
+use Rattle.diag_known.specs.Vocabulary.{AreLinked, HasWire}
 use Rattle.diag_growth.specs.Grown.{IsGrown}
-use Rattle.diag_known.specs.Known.{HasWire}
 use Rattle.diag_growth.specs.Looks.{AreAllMarks, AreTried}
 use Rattle.diag_known.specs.declared.marks.Marks.{Marks}
 use Rattle.diag_growth.proofs.Circling.{grown_at, pin_grows, pin_marks, pin_has}

@@ -1,5 +1,4 @@
-use Rattle.std.proofs.Common.{◌≡◌, ◌<◌, ◌≤◌, ◌∙◌, Some, length, sym, subst, arith, rules}
-use Rattle.std.specs.Prelude.{slice_get}
+use Rattle.std.proofs.Common.{◌≡◌, ◌<◌, ◌≤◌, ◌∙◌, Some, length, sym, subst, arith, rules, slice_get}
 use Rattle.std.proofs.lemmas.Option.{slice_get_within}
 use Rattle.diag_known.proofs.Getting.{at_index}
 use Rattle.diag_known.proofs.Places.{one_more, some_same}

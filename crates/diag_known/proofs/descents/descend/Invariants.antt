@@ -1,6 +1,5 @@
 use Rattle.std.proofs.Common.{◌+◌}
-use Rattle.diag_known.specs.Known.{AreTwo}
-use Rattle.diag_known.specs.Descents.{Descends}
+use Rattle.diag_known.specs.Vocabulary.{AreTwo, Descends}
 use Rattle.diag_known.proofs.descents.descend.Given as goal
 
 abbrev pub invariant-down : goal.invariant-down

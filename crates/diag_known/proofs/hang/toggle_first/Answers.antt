@@ -1,8 +1,7 @@
 use Rattle.std.proofs.Common.{Option, sym, ap, subst}
 use Rattle.std.proofs.lemmas.Result.{IfOk-weaker, on_ok_weaker}
 use Rattle.machine_meaning.specs.Faults.{Faults}
-use Rattle.diag_known.specs.Marked.{AreMarks}
-use Rattle.diag_known.specs.Offers.{HasNoneBeside}
+use Rattle.diag_known.specs.Vocabulary.{AreMarks, HasNoneBeside}
 use Rattle.diag_known.proofs.Later.{known_later, ways_later}
 use Rattle.diag_known.proofs.Offering.{spends_first, spends_both}
 use Rattle.diag_known.proofs.Seconds.{both_lost, offer_still}

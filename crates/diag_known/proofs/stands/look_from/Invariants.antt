@@ -1,5 +1,4 @@
-use Rattle.diag_known.specs.Linked.{list_at}
-use Rattle.diag_known.specs.Grounds.{IsGround, Founds}
+use Rattle.diag_known.specs.Vocabulary.{list_at, IsGround, Founds}
 use Rattle.diag_known.proofs.Grounding.{AreTaken}
 use Rattle.diag_known.proofs.stands.look_from.Given as goal
 

@@ -1,8 +1,7 @@
 use Rattle.std.proofs.Common.{◌≡◌, ℕ, true, sym, subst}
 use Rattle.machine_shape.specs.declared.Shape.{Shape}
 use Rattle.diag_tests.specs.Routes.{IsRoute, Extends}
-use Rattle.diag_known.specs.Known.{HasWire}
-use Rattle.diag_known.specs.Reaches.{IsFromAt}
+use Rattle.diag_known.specs.Vocabulary.{HasWire, IsFromAt}
 use Rattle.diag_known.proofs.Places.{at_within}
 use Rattle.diag_known.proofs.Touring.{walk_known, left_from, went_down}
 use Rattle.diag_known.proofs.tour.go_down.Goals as goal

@@ -1,5 +1,4 @@
-use Rattle.std.proofs.Common.{subst}
-use Rattle.std.specs.Prelude.{IfSome}
+use Rattle.std.proofs.Common.{subst, IfSome}
 use Rattle.machine_shape.specs.declared.Wire.{Wire}
 use Rattle.diag_machine.specs.Choice.{IsKnownFoot}
 use Rattle.diag_machine.proofs.lost.has_feet.Goals as goal

@@ -1,5 +1,4 @@
-use Rattle.std.proofs.Common.{◌∙◌, ap, sym, subst, arith}
-use Rattle.std.specs.Prelude.{IfSome}
+use Rattle.std.proofs.Common.{◌∙◌, ap, sym, subst, arith, IfSome}
 use Rattle.std.proofs.lemmas.Result.{on_ok_weaker}
 use Rattle.machine_shape.specs.Shape.{crosses_of, wires_of}
 use Rattle.diag_known.specs.Field.{IsFieldOf}

@@ -1,5 +1,4 @@
-use Rattle.std.proofs.Common.{take}
-use Rattle.std.specs.Prelude.{All}
+use Rattle.std.proofs.Common.{take, All}
 use Rattle.machine_shape.specs.declared.Table.{Table}
 use Rattle.diag_sweep.specs.Marks.{HasTable}
 use Rattle.diag_sweep.proofs.fits.are_given.Given as goal

@@ -1,5 +1,4 @@
-use Rattle.diag_known.specs.Field.{GrowsIn}
-use Rattle.diag_known.specs.Known.{IsKnown}
+use Rattle.diag_known.specs.Vocabulary.{GrowsIn, IsKnown}
 use Rattle.diag_sweep.proofs.learn.learn_hangs.Given as goal
 
 abbrev pub invariant-hangs : goal.invariant-hangs

@@ -1,5 +1,4 @@
-use Rattle.std.proofs.Common.{◌≡◌, ℕ, List, refl, subst}
-use Rattle.std.specs.Prelude.{◌==◌, All, map}
+use Rattle.std.proofs.Common.{◌≡◌, ℕ, List, refl, subst, ◌==◌, All, map}
 use Rattle.std.specs.List.{IsDistinct}
 use Rattle.diag_evidence.specs.Hangs.{IsFoot, pin_at}
 use Rattle.diag_sweep.proofs.Footed.{of_some}

@@ -1,6 +1,5 @@
 use Rattle.std.proofs.Common.{take}
-use Rattle.diag_tests.specs.Routes.{cross_numbers}
-use Rattle.diag_tests.specs.Configs.{Closes}
+use Rattle.diag_tests.specs.Vocabulary.{cross_numbers, Closes}
 use Rattle.diag_tests.proofs.configs.close_all.Given as goal
 
 abbrev pub invariant-ties : goal.invariant-ties

@@ -1,10 +1,8 @@
-use Rattle.std.proofs.Common.{◌≡◌, ◌<◌, ◌+◌, ℕ, true, false, None, ap, ◌∙◌, sym, subst, length, get_or, eqb-true, arith}
-use Rattle.std.specs.Prelude.{◌==◌, is_some}
+use Rattle.std.proofs.Common.{◌≡◌, ◌<◌, ◌+◌, ℕ, true, false, None, ap, ◌∙◌, sym, subst, length, get_or, eqb-true, arith, ◌==◌, is_some}
 use Rattle.std.proofs.lemmas.List.{length-set}
 use Rattle.std.proofs.lemmas.List.Elements.{All-set}
 use Rattle.machine_shape.specs.Shape.{tables_of}
-use Rattle.machine_config.specs.Configuration.{CellsFit}
-use Rattle.machine_config.specs.Kept.{times_on, once_if}
+use Rattle.machine_config.specs.Vocabulary.{CellsFit, times_on, once_if}
 use Rattle.machine_config.proofs.Members.{AreListed-less, counted_after, some_read, times_on-swap_remove, unlisted_on}
 use Rattle.machine_config.proofs.Config.switch_off.Goals as goal
 

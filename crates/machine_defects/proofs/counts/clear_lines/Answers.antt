@@ -1,7 +1,6 @@
 use Rattle.std.proofs.Common.{◌≡◌, ◌∙◌, ap, arith}
 use Rattle.machine_shape.specs.Shape.{lines_of, line_at}
-use Rattle.machine_defects.specs.Kept.{is_clear_line}
-use Rattle.machine_defects.specs.Lists.{how_many}
+use Rattle.machine_defects.specs.Vocabulary.{is_clear_line, how_many}
 use Rattle.machine_defects.proofs.Counting.{count_at_most, how_many_same}
 use Rattle.machine_defects.proofs.SitesInRows.{line_step, line_below}
 use Rattle.machine_defects.proofs.counts.clear_lines.Goals as goal

@@ -2,8 +2,7 @@ use Rattle.std.proofs.Common.{rules, ◌≡◌, ◌∙◌, ℕ, Bool, false, Non
 use Rattle.std.specs.Vec.{with_items}
 use Rattle.std.proofs.lemmas.List.{length-replicate}
 use Rattle.machine_shape.specs.Shape.{wires_of, crosses_of, tables_of, nodes_of}
-use Rattle.machine_defects.specs.Kept.{AreRight, AreRecounted, marked}
-use Rattle.machine_defects.specs.Lists.{DefectList}
+use Rattle.machine_defects.specs.Vocabulary.{AreRight, AreRecounted, marked, DefectList}
 use Rattle.base_bits.proofs.SetsLemmas.{items_after}
 use Rattle.machine_defects.proofs.Nothing.{empty_right, empty_listed}
 use Rattle.machine_defects.proofs.kept.nothing.Goals as goal

@@ -1,5 +1,4 @@
-use Rattle.std.proofs.Common.{◌≡◌, ◌<◌, ◌+◌, ◌-◌, ℕ, Bool, List, ◌∙◌, length, set, if◌then◌else◌, sym, ap, subst, arith}
-use Rattle.std.specs.Prelude.{◌==◌}
+use Rattle.std.proofs.Common.{◌≡◌, ◌<◌, ◌+◌, ◌-◌, ℕ, Bool, List, ◌∙◌, length, set, if◌then◌else◌, sym, ap, subst, arith, ◌==◌}
 use Rattle.std.specs.Vec.{with_items}
 use Rattle.machine_shape.specs.Shape.{ends_of, node_of_cross}
 use Rattle.machine_defects.specs.Kept.{AreRight, listed_by, marks_in, count_at}

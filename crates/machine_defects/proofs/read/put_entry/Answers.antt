@@ -1,6 +1,5 @@
 use Rattle.std.proofs.Common.{sym, subst}
-use Rattle.machine_defects.specs.Steps.{IsAdded, IsBeyond}
-use Rattle.machine_defects.specs.Text.{IsFreeEntry}
+use Rattle.machine_defects.specs.Vocabulary.{IsAdded, IsBeyond, IsFreeEntry}
 use Rattle.machine_defects.proofs.Entries.{added_wire, added_cross, added_table, free_ends, free_pins}
 use Rattle.machine_defects.proofs.read.put_entry.Goals as goal
 

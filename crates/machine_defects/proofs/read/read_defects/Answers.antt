@@ -1,7 +1,6 @@
 use Rattle.std.proofs.Common.{subst}
 use Rattle.machine_shape.specs.declared.Counts.{Counts}
-use Rattle.machine_defects.specs.Text.{counts_of}
-use Rattle.machine_defects.specs.Faults.{AreCounts}
+use Rattle.machine_defects.specs.Vocabulary.{counts_of, AreCounts}
 use Rattle.machine_defects.proofs.Only.{IsTold, only_is}
 use Rattle.machine_defects.proofs.read.read_defects.Goals as goal
 

@@ -1,6 +1,5 @@
 use Rattle.std.proofs.Common.{◌≡◌, ◌+◌, length}
-use Rattle.machine_defects.specs.Text.{rows_of}
-use Rattle.machine_defects.specs.Steps.{IsReadTo}
+use Rattle.machine_defects.specs.Vocabulary.{rows_of, IsReadTo}
 use Rattle.machine_defects.proofs.read.read_entries.Given as goal
 
 abbrev pub invariant-lines : goal.invariant-lines

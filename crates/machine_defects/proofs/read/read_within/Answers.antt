@@ -1,7 +1,6 @@
 use Rattle.std.proofs.Common.{None, sym, ap, subst}
 use Rattle.machine_shape.specs.declared.Shape.{Shape}
-use Rattle.machine_defects.specs.Lists.{DefectList, IsDefectList}
-use Rattle.machine_defects.specs.Steps.{IsReadTo}
+use Rattle.machine_defects.specs.Vocabulary.{DefectList, IsDefectList, IsReadTo}
 use Rattle.machine_defects.proofs.Reading.{no_start, no_second, reads_from, none_right}
 use Rattle.machine_defects.proofs.read.read_within.Goals as goal
 

@@ -2,8 +2,7 @@ use Rattle.std.proofs.Common.{◌≡◌, ◌∙◌, sym, subst}
 use Rattle.std.specs.Str.{bytes_eq}
 use Rattle.std.proofs.lemmas.Bool.{false≢true}
 use Rattle.machine_shape.specs.declared.Shape.{Shape}
-use Rattle.machine_defects.specs.Text.{IsEntryOf, entry_words}
-use Rattle.machine_defects.specs.Steps.{row_of}
+use Rattle.machine_defects.specs.Vocabulary.{IsEntryOf, entry_words, row_of}
 use Rattle.machine_defects.specs.Faults.IsLineFault.{nameless, earlier, again}
 use Rattle.machine_defects.proofs.Entries.{beyond_all, free_unlisted}
 use Rattle.machine_defects.proofs.Rows.{whole_line}

@@ -1,5 +1,4 @@
-use Rattle.std.proofs.Common.{◌≡◌, ◌++◌, ◌∙◌, map, sym, subst}
-use Rattle.std.specs.Prelude.{All}
+use Rattle.std.proofs.Common.{◌≡◌, ◌++◌, ◌∙◌, map, sym, subst, All}
 use Rattle.machine_shape.specs.declared.Shape.{Shape}
 use Rattle.base_text.specs.Written.{written}
 use Rattle.machine_faults.specs.Adding.{CanHave}

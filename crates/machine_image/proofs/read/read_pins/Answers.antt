@@ -1,8 +1,6 @@
 use Rattle.std.proofs.Common.{◌≡◌, ◌+◌, ◌-◌, ◌∷◌, [], ◌++◌, true, length, set, refl, subst, sym, arith}
 use Rattle.machine_shape.specs.Shape.{pins_of}
-use Rattle.machine_image.specs.Faults.{pin_fault}
-use Rattle.machine_image.specs.Fields.{IsField, IsRefusedField, AreMarks}
-use Rattle.machine_image.specs.Reading.{ArePins}
+use Rattle.machine_image.specs.Vocabulary.{pin_fault, IsField, IsRefusedField, AreMarks, ArePins}
 use Rattle.machine_image.proofs.Wrong.{pin_right}
 use Rattle.machine_image.proofs.Steps.{pin_refused, pin_step, marks_step}
 use Rattle.machine_image.proofs.read.read_pins.Goals as goal

@@ -1,7 +1,6 @@
 use Rattle.std.proofs.Common.{◌-◌}
 use Rattle.machine_shape.specs.Shape.{pins_of}
-use Rattle.machine_image.specs.Fields.{AreMarks}
-use Rattle.machine_image.specs.Reading.{ArePins}
+use Rattle.machine_image.specs.Vocabulary.{AreMarks, ArePins}
 use Rattle.machine_image.proofs.read.read_pins.Given as goal
 
 abbrev pub invariant-pins : goal.invariant-pins

@@ -3,8 +3,7 @@ use Rattle.std.specs.Ordering.{nat_cmp}
 use Rattle.std.specs.FinSet as set_
 use Rattle.std.specs.FinSet.{contains-empty, len-empty}
 use Rattle.machine_config.specs.Configuration.{Configuration, cleared, with_ticks}
-use Rattle.machine_image.specs.Faults.{most_fault, closed_fault}
-use Rattle.machine_image.specs.Fields.{IsField, IsRefusedField}
+use Rattle.machine_image.specs.Vocabulary.{most_fault, closed_fault, IsField, IsRefusedField}
 use Rattle.machine_image.proofs.Ends.{field_as, many_refused, tables_refused, closed_refused, crosses_refused, end_refused, settings_read}
 use Rattle.machine_image.proofs.read.read_settings.Goals as goal
 

@@ -2,9 +2,7 @@ use Rattle.std.proofs.Common.{◌≡◌, ◌+◌, ◌-◌, ◌<◌, suc, Some, r
 use Rattle.std.proofs.lemmas.List.{length-set}
 use Rattle.machine_shape.specs.Shape.{tables_of}
 use Rattle.machine_config.specs.Configuration.{with_setting}
-use Rattle.machine_image.specs.Faults.{InTables}
-use Rattle.machine_image.specs.Fields.{FaultIn}
-use Rattle.machine_image.specs.Reading.{AreTables, IsTable}
+use Rattle.machine_image.specs.Vocabulary.{InTables, FaultIn, AreTables, IsTable}
 use Rattle.machine_image.proofs.Steps.{tables_start, table_refused, table_step, tables_done}
 use Rattle.machine_image.proofs.read.read_tables.Goals as goal
 

@@ -1,5 +1,4 @@
-use Rattle.std.proofs.Common.{◌+◌, [], ◌∷◌, refl}
-use Rattle.std.specs.Prelude.{if◌then◌else◌}
+use Rattle.std.proofs.Common.{◌+◌, [], ◌∷◌, refl, if◌then◌else◌}
 use Rattle.machine_config.specs.Configuration.{is_closed}
 use Rattle.machine_image.specs.Images.{four}
 use Rattle.machine_image.proofs.Written.{put_piece}

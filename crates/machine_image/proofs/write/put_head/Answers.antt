@@ -1,8 +1,6 @@
-use Rattle.std.proofs.Common.{◌++◌, ap, ◌∙◌}
-use Rattle.std.specs.Prelude.{codes}
+use Rattle.std.proofs.Common.{◌++◌, ap, ◌∙◌, codes}
 use Rattle.std.specs.List.{flat_map}
-use Rattle.machine_image.specs.Faults.{counts_of}
-use Rattle.machine_image.specs.Images.{two}
+use Rattle.machine_image.specs.Vocabulary.{counts_of, two}
 use Rattle.machine_image.proofs.Written.{both_put}
 use Rattle.machine_image.proofs.write.put_head.Goals as goal
 

@@ -1,8 +1,7 @@
 use Rattle.std.proofs.Common.{[], ◌<◌, ◌≤◌, ◌++◌, All, length, subst, sym, ap, ◌∙◌, arith}
 use Rattle.std.specs.List.{flat_map}
 use Rattle.machine_shape.specs.Shape.{pins_of}
-use Rattle.machine_image.specs.Images.{two}
-use Rattle.machine_image.specs.Reading.{head_bytes, settings_bytes}
+use Rattle.machine_image.specs.Vocabulary.{two, head_bytes, settings_bytes}
 use Rattle.machine_image.proofs.Written.{both_put, image_written, few_pins_in, small_inputs, small_outputs}
 use Rattle.machine_image.proofs.write.write_image.Goals as goal
 

@@ -1,6 +1,5 @@
 use Rattle.std.proofs.Common.{◌<◌, ◌∙◌, sym, ap, subst, take}
-use Rattle.machine_shape.specs.Shape.{levels_of, node_at, nodes_of}
-use Rattle.machine_shape.specs.Walk.{IsSpot}
+use Rattle.machine_shape.specs.Vocabulary.{levels_of, node_at, nodes_of, IsSpot}
 use Rattle.machine_shape.proofs.Whereabouts.{hextant_leads}
 use Rattle.machine_shape.proofs.Shape.hextant_of.Goals as goal
 

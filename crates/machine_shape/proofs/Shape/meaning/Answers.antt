@@ -1,7 +1,5 @@
 use Rattle.std.proofs.Common.{◌∙◌, sym, ap, subst, arith}
-use Rattle.machine_shape.specs.Shape.{levels_of, Means}
-use Rattle.machine_shape.specs.Said.{meaning_of}
-use Rattle.machine_shape.specs.Walk.{IsSpot, rest, start, wires_in}
+use Rattle.machine_shape.specs.Vocabulary.{levels_of, Means, meaning_of, IsSpot, rest, start, wires_in}
 use Rattle.machine_shape.proofs.Whereabouts.{wire_placed}
 use Rattle.machine_shape.proofs.Shape.meaning.Goals as goal
 

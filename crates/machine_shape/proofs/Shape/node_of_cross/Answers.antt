@@ -1,6 +1,5 @@
 use Rattle.std.proofs.Common.{◌<◌, ◌∙◌, sym, ap, subst}
-use Rattle.machine_shape.specs.Shape.{levels_of, node_at, nodes_of}
-use Rattle.machine_shape.specs.Walk.{IsSpot}
+use Rattle.machine_shape.specs.Vocabulary.{levels_of, node_at, nodes_of, IsSpot}
 use Rattle.machine_shape.proofs.Whereabouts.{cross_leads}
 use Rattle.machine_shape.proofs.Shape.node_of_cross.Goals as goal
 

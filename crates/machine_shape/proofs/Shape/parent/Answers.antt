@@ -1,6 +1,5 @@
 use Rattle.std.proofs.Common.{◌<◌, ◌∙◌, Some, sym, ap, subst, arith}
-use Rattle.machine_shape.specs.Shape.{levels_of, node_at, nodes_of, parent_of}
-use Rattle.machine_shape.specs.Walk.{IsSpot, above}
+use Rattle.machine_shape.specs.Vocabulary.{levels_of, node_at, nodes_of, parent_of, IsSpot, above}
 use Rattle.machine_shape.proofs.Parents.{parent_of-root}
 use Rattle.machine_shape.proofs.Whereabouts.{parent_leads}
 use Rattle.machine_shape.proofs.Shape.parent.Goals as goal

@@ -1,6 +1,5 @@
 use Rattle.std.proofs.Common.{◌∙◌, refl, sym, ap, subst, arith}
-use Rattle.machine_shape.specs.Shape.{levels_of, way_to_table}
-use Rattle.machine_shape.specs.Walk.{IsSpot, start, wires_in}
+use Rattle.machine_shape.specs.Vocabulary.{levels_of, way_to_table, IsSpot, start, wires_in}
 use Rattle.machine_shape.proofs.Numbering.{table_way_is, wire_below, table_pin_is}
 use Rattle.machine_shape.proofs.Meanings.{table_wire-way}
 use Rattle.machine_shape.proofs.Totals.{wires_are}

@@ -1,10 +1,6 @@
 use Rattle.std.proofs.Common.{◌≡◌, ◌<◌, ◌+◌, ◌∙◌, length, sym, ap, subst, arith}
 use Rattle.machine_shape.specs.declared.Level.{Level}
-use Rattle.machine_shape.specs.Kinds.{path_of}
-use Rattle.machine_shape.specs.Shape.{levels_of, tables_of}
-use Rattle.machine_shape.specs.Walk.{start, tables_in}
-use Rattle.machine_shape.specs.Names.{table_name}
-use Rattle.machine_shape.specs.Reading.{IsRead, IsReadable}
+use Rattle.machine_shape.specs.Vocabulary.{path_of, levels_of, tables_of, start, tables_in, table_name, IsRead, IsReadable}
 use Rattle.machine_shape.proofs.Totals.{tables_are}
 use Rattle.machine_shape.proofs.Called.{letters}
 use Rattle.machine_shape.proofs.CalledTables.{children_at, table_readable, table_read, table_named}

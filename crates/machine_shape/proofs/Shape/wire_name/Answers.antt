@@ -1,7 +1,5 @@
-use Rattle.std.proofs.Common.{◌<◌, ◌∙◌, length, drop, sym, ap, subst, arith}
-use Rattle.std.specs.Prelude.{All}
-use Rattle.machine_shape.specs.Shape.{levels_of}
-use Rattle.machine_shape.specs.Walk.{IsSpot}
+use Rattle.std.proofs.Common.{◌<◌, ◌∙◌, length, drop, sym, ap, subst, arith, All}
+use Rattle.machine_shape.specs.Vocabulary.{levels_of, IsSpot}
 use Rattle.machine_shape.proofs.Barred.{rest-drop}
 use Rattle.machine_shape.proofs.Naming.{wire_steps, wire_named}
 use Rattle.machine_shape.proofs.Whereabouts.{wire_placed}

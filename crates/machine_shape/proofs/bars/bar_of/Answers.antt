@@ -1,7 +1,6 @@
 use Rattle.std.proofs.Common.{length, drop, sym, ap, ◌∙◌, arith}
 use Rattle.machine_shape.specs.declared.way.Kind.TheVariants.{Wires}
-use Rattle.machine_shape.specs.Shape.{levels_of}
-use Rattle.machine_shape.specs.Walk.{Levels, next, size, wires_in}
+use Rattle.machine_shape.specs.Vocabulary.{levels_of, Levels, next, size, wires_in}
 use Rattle.machine_shape.proofs.Barred.{spot_short, bar_at, fits_bar, wires-size}
 use Rattle.machine_shape.proofs.Sites.{small_of}
 use Rattle.machine_shape.proofs.Weighing.{levels_fit, start_here, small_here, each_here}

@@ -1,7 +1,5 @@
 use Rattle.std.proofs.Common.{◌∙◌, sym, subst}
-use Rattle.machine_shape.specs.Bars.{IsBarAt}
-use Rattle.machine_shape.specs.Shape.{levels_of}
-use Rattle.machine_shape.specs.Walk.{IsSpot}
+use Rattle.machine_shape.specs.Vocabulary.{IsBarAt, levels_of, IsSpot}
 use Rattle.machine_shape.proofs.Crossings.{cross_placed}
 use Rattle.machine_shape.proofs.Meeting.{cross_bar}
 use Rattle.machine_shape.proofs.ends.crossing_of.Goals as goal

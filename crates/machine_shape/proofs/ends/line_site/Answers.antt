@@ -1,7 +1,5 @@
 use Rattle.std.proofs.Common.{◌∙◌, sym, ap, subst}
-use Rattle.machine_shape.specs.Bars.{IsBarAt}
-use Rattle.machine_shape.specs.Shape.{levels_of}
-use Rattle.machine_shape.specs.Walk.{IsSpot, start, crosses_in}
+use Rattle.machine_shape.specs.Vocabulary.{IsBarAt, levels_of, IsSpot, start, crosses_in}
 use Rattle.machine_shape.proofs.Barred.{few_wires}
 use Rattle.machine_shape.proofs.Meeting.{positive_step}
 use Rattle.machine_shape.proofs.Whereabouts.{wire_placed}

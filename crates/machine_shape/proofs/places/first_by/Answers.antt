@@ -1,6 +1,5 @@
 use Rattle.std.proofs.Common.{◌∙◌}
-use Rattle.machine_shape.specs.Kinds.{numbers_in}
-use Rattle.machine_shape.specs.Shape.{levels_of}
+use Rattle.machine_shape.specs.Vocabulary.{numbers_in, levels_of}
 use Rattle.machine_shape.proofs.Sites.{small_of}
 use Rattle.machine_shape.proofs.Weighing.{levels_fit, start_here, small_here}
 use Rattle.machine_shape.proofs.places.first_by.Goals as goal

@@ -1,7 +1,5 @@
 use Rattle.std.proofs.Common.{ap, ◌∙◌}
-use Rattle.machine_shape.specs.Kinds.{numbers_in}
-use Rattle.machine_shape.specs.Shape.{levels_of}
-use Rattle.machine_shape.specs.Walk.{Place}
+use Rattle.machine_shape.specs.Vocabulary.{numbers_in, levels_of, Place}
 use Rattle.machine_shape.proofs.Weighing.{levels_fit, steps_here, place_here}
 use Rattle.machine_shape.proofs.places.place_by.Goals as goal
 

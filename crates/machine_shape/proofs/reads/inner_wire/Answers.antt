@@ -1,10 +1,6 @@
 use Rattle.std.proofs.Common.{◌≡◌, ◌≢◌, ◌+◌, ◌<◌, ◌^◌, ◌∙◌, length, sym, ap, subst, arith}
 use Rattle.std.proofs.Math.Logic.{⊎_elim}
-use Rattle.machine_shape.specs.Kinds.{path_of}
-use Rattle.machine_shape.specs.Shape.{levels_of, wires_of, place_of}
-use Rattle.machine_shape.specs.Walk.{start, wires_in}
-use Rattle.machine_shape.specs.Names.{part_name, wire_name}
-use Rattle.machine_shape.specs.Reading.{IsRead, IsReadable}
+use Rattle.machine_shape.specs.Vocabulary.{path_of, levels_of, wires_of, place_of, start, wires_in, part_name, wire_name, IsRead, IsReadable}
 use Rattle.machine_shape.proofs.Totals.{wires_are}
 use Rattle.machine_shape.proofs.Called.{letters, readable, read_one, named_below, empty_of, below_is, small_own}
 use Rattle.machine_shape.proofs.reads.inner_wire.Goals as goal

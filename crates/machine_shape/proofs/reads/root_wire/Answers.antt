@@ -1,7 +1,5 @@
 use Rattle.std.proofs.Common.{◌<◌, ◌∙◌, sym, ap, subst, arith}
-use Rattle.machine_shape.specs.Shape.{levels_of}
-use Rattle.machine_shape.specs.Walk.{wires_in}
-use Rattle.machine_shape.specs.Names.{part_name}
+use Rattle.machine_shape.specs.Vocabulary.{levels_of, wires_in, part_name}
 use Rattle.machine_shape.proofs.Running.{own_small}
 use Rattle.machine_shape.proofs.Totals.{wires_are}
 use Rattle.machine_shape.proofs.Called.{root_named, root_unnamed}

@@ -1,5 +1,4 @@
-use Rattle.std.proofs.Common.{◌≡◌, ◌<◌, ◌≤◌, [], ◌∷◌, length, drop, refl, sym, ap, ◌∙◌, subst, arith}
-use Rattle.std.specs.Prelude.{slice_index_or}
+use Rattle.std.proofs.Common.{◌≡◌, ◌<◌, ◌≤◌, [], ◌∷◌, length, drop, refl, sym, ap, ◌∙◌, subst, arith, slice_index_or}
 use Rattle.machine_shape.specs.declared.Level.{Level}
 use Rattle.machine_shape.specs.Walk.{Levels, ports_in, nodes_in}
 use Rattle.machine_shape.proofs.Barred.{rest-drop, spot_short}

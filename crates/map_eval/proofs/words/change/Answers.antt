@@ -1,9 +1,7 @@
-use Rattle.std.proofs.Common.{◌≡◌, ◌<◌, ◌==◌, ◌∙◌, ℕ, Bool, sym, ap, subst}
-use Rattle.std.specs.Prelude.{bit_xor}
+use Rattle.std.proofs.Common.{◌≡◌, ◌<◌, ◌==◌, ◌∙◌, ℕ, Bool, sym, ap, subst, bit_xor}
 use Rattle.std.specs.Int.{bit_at}
 use Rattle.std.proofs.lemmas.Nat.Bits.{bit_at-lt}
-use Rattle.map_network.specs.Rows.{cell_at}
-use Rattle.map_network.specs.Plain.{flip}
+use Rattle.map_network.specs.Vocabulary.{cell_at, flip}
 use Rattle.map_eval.proofs.WordLemmas.{change_few, change_turns}
 use Rattle.map_eval.proofs.words.change.Goals as goal
 

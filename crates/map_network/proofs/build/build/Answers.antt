@@ -1,8 +1,6 @@
 use Rattle.std.proofs.Common.{◌≡◌, ◌∙◌, ◌++◌, ℕ, map, ap, sym, subst, length, arith}
 use Rattle.design_netlist.specs.declared.netlist_data.PortDef.{PortDef}
-use Rattle.map_network.specs.Plain.{covers_tables, latch_table, source_of, plain_network}
-use Rattle.map_network.specs.Drives.{source_in}
-use Rattle.map_network.specs.Bounds.{AreCovers, AreLatches, ArePorts}
+use Rattle.map_network.specs.Vocabulary.{covers_tables, latch_table, source_of, plain_network, source_in, AreCovers, AreLatches, ArePorts}
 use Rattle.map_network.proofs.DriveLemmas.{covers_are, few_inputs, outputs_are, latches_are}
 use Rattle.map_network.proofs.build.build.Goals as goal
 

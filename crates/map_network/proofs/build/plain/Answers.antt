@@ -1,6 +1,5 @@
 use Rattle.std.proofs.Common.{◌≡◌, ◌∙◌, ap, sym, subst}
-use Rattle.map_network.specs.Networks.{IsNetwork}
-use Rattle.map_network.specs.Plain.{plain_network}
+use Rattle.map_network.specs.Vocabulary.{IsNetwork, plain_network}
 use Rattle.map_network.proofs.NetworkLemmas.{network}
 use Rattle.map_network.proofs.RowLemmas.{has_rows}
 use Rattle.map_network.proofs.build.plain.Goals as goal

@@ -1,6 +1,5 @@
 use Rattle.std.proofs.Common.{◌≡◌, ◌++◌, map, take}
-use Rattle.map_network.specs.Plain.{latch_table}
-use Rattle.map_network.specs.Drives.{source_in}
+use Rattle.map_network.specs.Vocabulary.{latch_table, source_in}
 use Rattle.map_network.proofs.build.push_latches.Given as goal
 
 abbrev pub invariant-latches : goal.invariant-latches

@@ -1,6 +1,5 @@
 use Rattle.std.proofs.Common.{◌≡◌, ◌<◌, ◌&&◌, ℕ, drop}
-use Rattle.map_network.specs.Rows.{cell_at}
-use Rattle.map_network.specs.Plain.{every, met, six_bits}
+use Rattle.map_network.specs.Vocabulary.{cell_at, every, met, six_bits}
 use Rattle.map_network.proofs.cells.all_met.Given as goal
 
 abbrev pub invariant-wants : goal.invariant-wants

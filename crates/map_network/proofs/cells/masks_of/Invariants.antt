@@ -1,6 +1,5 @@
 use Rattle.std.proofs.Common.{◌≡◌, ◌<◌, ℕ, take, map, length}
-use Rattle.map_network.specs.Plain.{pin_named, six_bits}
-use Rattle.map_network.specs.Cells.{masks_at}
+use Rattle.map_network.specs.Vocabulary.{pin_named, six_bits, masks_at}
 use Rattle.map_network.proofs.cells.masks_of.Given as goal
 
 abbrev pub invariant-ins : goal.invariant-ins

@@ -1,6 +1,5 @@
 use Rattle.std.proofs.Common.{ℕ, ◌<◌, ◌≡◌, false}
-use Rattle.map_network.specs.Joining.{in_tables}
-use Rattle.map_network.specs.Compacting.{is_dropped, AreKept}
+use Rattle.map_network.specs.Vocabulary.{in_tables, is_dropped, AreKept}
 use Rattle.map_network.proofs.compact.is_closed.Given as goal
 
 abbrev pub invariant-tables : goal.invariant-tables

@@ -1,5 +1,4 @@
-use Rattle.std.proofs.Common.{ℕ, ◌-◌, ◌&&◌, ◌||◌, Bool, ap, ◌∙◌, bit_and}
-use Rattle.std.specs.Prelude.{not}
+use Rattle.std.proofs.Common.{ℕ, ◌-◌, ◌&&◌, ◌||◌, Bool, ap, ◌∙◌, bit_and, not}
 use Rattle.map_network.specs.Rows.{cell_at}
 use Rattle.map_network.proofs.CellLemmas.{cell_and, cell_or, cell_not}
 use Rattle.map_network.proofs.ComposeLemmas.{choice_is}

@@ -1,6 +1,5 @@
 use Rattle.std.proofs.Common.{◌≡◌, ◌+◌, ◌-◌, ◌^◌, ◌<◌, ℕ, drop, length, slice_index}
-use Rattle.map_network.specs.Rows.{cell_at, number_of}
-use Rattle.map_network.specs.Cells.{masks_at}
+use Rattle.map_network.specs.Vocabulary.{cell_at, number_of, masks_at}
 use Rattle.map_network.proofs.composing.compose_cells.Given as goal
 
 abbrev pub invariant-pins : goal.invariant-pins

@@ -1,8 +1,5 @@
 use Rattle.std.proofs.Common.{Bool, ap, ◌∙◌, map, arith}
-use Rattle.map_network.specs.Rows.{cell_at}
-use Rattle.map_network.specs.Plain.{six_bits}
-use Rattle.map_network.specs.Merging.{number}
-use Rattle.map_network.specs.Joining.{address_by, bit_with, joined_truth}
+use Rattle.map_network.specs.Vocabulary.{cell_at, six_bits, number, address_by, bit_with, joined_truth}
 use Rattle.map_network.proofs.CellLemmas.{cells_are, cell_ones}
 use Rattle.map_network.proofs.composing.joined_cells.Goals as goal
 

@@ -1,9 +1,5 @@
 use Rattle.std.proofs.Common.{◌≡◌, ◌<◌, ℕ, take, map}
-use Rattle.map_network.specs.Rows.{cell_at}
-use Rattle.map_network.specs.Plain.{six_bits}
-use Rattle.map_network.specs.Cells.{masks_at}
-use Rattle.map_network.specs.Merging.{number}
-use Rattle.map_network.specs.Joining.{bit_with}
+use Rattle.map_network.specs.Vocabulary.{cell_at, six_bits, masks_at, number, bit_with}
 use Rattle.map_network.proofs.composing.set_masks.Given as goal
 
 abbrev pub invariant-read : goal.invariant-read

@@ -1,6 +1,5 @@
 use Rattle.std.proofs.Common.{◌≡◌, ◌++◌, drop}
-use Rattle.map_network.specs.Plain.{row_wants}
-use Rattle.map_network.specs.Drives.{source_in}
+use Rattle.map_network.specs.Vocabulary.{row_wants, source_in}
 use Rattle.map_network.proofs.covers.gather.Given as goal
 
 abbrev pub invariant-places : goal.invariant-places

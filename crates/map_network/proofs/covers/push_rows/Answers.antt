@@ -1,7 +1,5 @@
 use Rattle.std.proofs.Common.{◌≡◌, ◌<◌, ◌≤◌, ◌+◌, ◌∙◌, ap, length, drop, arith, get_or}
-use Rattle.map_network.specs.Plain.{row_wants}
-use Rattle.map_network.specs.Drives.{source_in}
-use Rattle.map_network.specs.Sizes.{rows_size, tree_size}
+use Rattle.map_network.specs.Vocabulary.{row_wants, source_in, rows_size, tree_size}
 use Rattle.map_network.proofs.CoverLemmas.{row_tables, row_ends, row_room, rows_over, ends_over}
 use Rattle.map_network.proofs.PlainLemmas.{tree_length}
 use Rattle.map_network.proofs.covers.push_rows.Goals as goal

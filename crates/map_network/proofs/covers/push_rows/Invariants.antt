@@ -1,7 +1,5 @@
 use Rattle.std.proofs.Common.{◌≡◌, ◌++◌, ◌+◌, drop, length}
-use Rattle.map_network.specs.Plain.{rows_wants, trees, tree_ends}
-use Rattle.map_network.specs.Sizes.{rows_size}
-use Rattle.map_network.specs.Drives.{source_in}
+use Rattle.map_network.specs.Vocabulary.{rows_wants, trees, tree_ends, rows_size, source_in}
 use Rattle.map_network.proofs.covers.push_rows.Given as goal
 
 abbrev pub invariant-rows : goal.invariant-rows

@@ -1,9 +1,7 @@
 use Rattle.std.proofs.Common.{◌≡◌, ◌∙◌, ℕ, ap, sym, subst, length, replicate, arith, sum_by}
 use Rattle.std.proofs.lemmas.List.{length-replicate}
 use Rattle.map_network.specs.declared.source.Source.TheVariants.{Input}
-use Rattle.map_network.specs.Plain.{cover_size}
-use Rattle.map_network.specs.Drives.{written, input_drives, cover_drives, latch_drives}
-use Rattle.map_network.specs.Bounds.{AreCovers, AreLatches, ArePorts}
+use Rattle.map_network.specs.Vocabulary.{cover_size, written, input_drives, cover_drives, latch_drives, AreCovers, AreLatches, ArePorts}
 use Rattle.map_network.proofs.DriveLemmas.{length_inputs, length_covers, length_latches, all_written, covers_are, all_tables, few_inputs, inputs_are, latches_are}
 use Rattle.map_network.proofs.drives.origins_of.Goals as goal
 

@@ -1,6 +1,5 @@
 use Rattle.std.proofs.Common.{◌≡◌, drop, take, length, sum_by}
-use Rattle.map_network.specs.Plain.{cover_size}
-use Rattle.map_network.specs.Drives.{written, cover_drives}
+use Rattle.map_network.specs.Vocabulary.{cover_size, written, cover_drives}
 use Rattle.map_network.proofs.drives.put_covers.Given as goal
 
 abbrev pub invariant-covers : goal.invariant-covers

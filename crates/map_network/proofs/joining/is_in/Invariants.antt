@@ -1,6 +1,5 @@
 use Rattle.std.proofs.Common.{◌≡◌, drop, map}
-use Rattle.map_network.specs.Cells.{is_among}
-use Rattle.map_network.specs.Merging.{number}
+use Rattle.map_network.specs.Vocabulary.{is_among, number}
 use Rattle.map_network.proofs.joining.is_in.Given as goal
 
 abbrev pub invariant-sources : goal.invariant-sources

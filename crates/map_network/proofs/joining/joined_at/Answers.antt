@@ -1,15 +1,10 @@
-use Rattle.std.proofs.Common.{◌≡◌, ◌<◌, ◌∙◌, sym, ap, map, length, subst, arith}
-use Rattle.std.specs.Prelude.{MatchOption}
+use Rattle.std.proofs.Common.{◌≡◌, ◌<◌, ◌∙◌, sym, ap, map, length, subst, arith, MatchOption}
 use Rattle.std.proofs.lemmas.Bool.{false≢true}
 use Rattle.std.proofs.lemmas.List.{get_or_default, length-map}
 use Rattle.std.specs.List.{Contains}
 use Rattle.map_network.specs.declared.source.Source.TheVariants.{Table}
 use Rattle.map_network.specs.declared.network.NetTable.{NetTable}
-use Rattle.map_network.specs.Networks.{no_table}
-use Rattle.map_network.specs.Plain.{distinct}
-use Rattle.map_network.specs.Cells.{is_among}
-use Rattle.map_network.specs.Merging.{number, numbers_without}
-use Rattle.map_network.specs.Joining.{in_tables, IsJoined, MayPut}
+use Rattle.map_network.specs.Vocabulary.{no_table, distinct, is_among, number, numbers_without, in_tables, IsJoined, MayPut}
 use Rattle.map_network.proofs.AddressLemmas.{match_map}
 use Rattle.map_network.proofs.SourceLemmas.{among_of, of_among}
 use Rattle.map_network.proofs.joining.joined_at.Goals as goal

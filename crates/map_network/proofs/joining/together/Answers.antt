@@ -2,8 +2,7 @@ use Rattle.std.proofs.Common.{◌≡◌, ◌<◌, ◌+◌, ◌*◌, ◌++◌, �
 use Rattle.std.proofs.lemmas.List.{get_or-map, length-map, length-append, length_push, map-append}
 use Rattle.map_network.specs.declared.source.Source.{Source}
 use Rattle.map_network.specs.declared.source.Source.TheVariants.{Input}
-use Rattle.map_network.specs.Cells.{is_among}
-use Rattle.map_network.specs.Merging.{number}
+use Rattle.map_network.specs.Vocabulary.{is_among, number}
 use Rattle.map_network.proofs.AddressLemmas.{table_skipped, name_kept, name_added, too_many_names}
 use Rattle.map_network.proofs.joining.together.Goals as goal
 

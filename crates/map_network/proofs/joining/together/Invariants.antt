@@ -1,6 +1,5 @@
 use Rattle.std.proofs.Common.{◌≡◌, ◌≤◌, ◌+◌, ◌*◌, ◌++◌, take, map, length}
-use Rattle.map_network.specs.Plain.{distinct}
-use Rattle.map_network.specs.Merging.{number}
+use Rattle.map_network.specs.Vocabulary.{distinct, number}
 use Rattle.map_network.proofs.NameLemmas.{without}
 use Rattle.map_network.proofs.joining.together.Given as goal
 

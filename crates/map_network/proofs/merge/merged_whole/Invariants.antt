@@ -1,7 +1,5 @@
-use Rattle.std.proofs.Common.{length}
-use Rattle.std.specs.Prelude.{MatchOption}
-use Rattle.map_network.specs.Merging.{CanJoin, IsWhole}
-use Rattle.map_network.specs.Passes.{IsMergedOf}
+use Rattle.std.proofs.Common.{length, MatchOption}
+use Rattle.map_network.specs.Vocabulary.{CanJoin, IsWhole, IsMergedOf}
 use Rattle.map_network.proofs.merge.merged_whole.Given as goal
 
 abbrev pub invariant-passes : goal.invariant-passes

@@ -1,7 +1,5 @@
-use Rattle.std.proofs.Common.{◌≡◌, ◌+◌, ◌∙◌, ap, sym, true, false, length}
-use Rattle.std.specs.Prelude.{nat_lt}
-use Rattle.map_network.specs.Plain.{distinct, is_narrow}
-use Rattle.map_network.specs.Sizes.{rows_size, tree_size}
+use Rattle.std.proofs.Common.{◌≡◌, ◌+◌, ◌∙◌, ap, sym, true, false, length, nat_lt}
+use Rattle.map_network.specs.Vocabulary.{distinct, is_narrow, rows_size, tree_size}
 use Rattle.map_network.proofs.PlainLemmas.{narrow_size, wide_size}
 use Rattle.map_network.proofs.names.size_of.Goals as goal
 

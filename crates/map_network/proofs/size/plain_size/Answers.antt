@@ -1,7 +1,6 @@
 use Rattle.std.proofs.Common.{◌≡◌, ◌∙◌, ◌+◌, sym, subst, ap, length, sum_by, arith}
 use Rattle.design_netlist.specs.declared.netlist_data.NetlistData.{NetlistData}
-use Rattle.map_network.specs.Plain.{cover_size}
-use Rattle.map_network.specs.Bounds.{AreCovers}
+use Rattle.map_network.specs.Vocabulary.{cover_size, AreCovers}
 use Rattle.map_network.proofs.DriveLemmas.{all_tables, covers_are}
 use Rattle.map_network.proofs.NetworkLemmas.{length_tables}
 use Rattle.map_network.proofs.size.plain_size.Goals as goal

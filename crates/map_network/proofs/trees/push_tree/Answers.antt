@@ -1,6 +1,5 @@
 use Rattle.std.proofs.Common.{◌≡◌, ◌<◌, ◌≤◌, ◌+◌, ◌-◌, ◌/◌, ◌∙◌, ◌++◌, ◌∷◌, [], ap, sym, false, length, map, arith}
-use Rattle.map_network.specs.Plain.{gate_table, sixes, wants_from}
-use Rattle.map_network.specs.Sizes.{tree_size}
+use Rattle.map_network.specs.Vocabulary.{gate_table, sixes, wants_from, tree_size}
 use Rattle.map_network.proofs.TreeLemmas.{level_more, level_length, length-wants_from, tree_size_high, tree_low}
 use Rattle.map_network.proofs.trees.push_tree.Goals as goal
 use Rattle.map_network.proofs.trees.push_tree.Goals.{In_ok-push_groups}

@@ -3,8 +3,7 @@ use Rattle.std.specs.List.{range_with_len}
 use Rattle.std.proofs.lemmas.Grind.{common_steps}
 use Rattle.std.proofs.lemmas.List.{take_at}
 use Rattle.std.proofs.lemmas.Result.{IfOk-weaker}
-use Rattle.place_plan.specs.Choices.{serves_by, IsAnswer}
-use Rattle.place_plan.specs.Search.{owner_at, IsPartial, IsDeadEnd, ArePicks}
+use Rattle.place_plan.specs.Vocabulary.{serves_by, IsAnswer, owner_at, IsPartial, IsDeadEnd, ArePicks}
 use Rattle.place_plan.proofs.Given.{at_none, at_some}
 use Rattle.place_plan.proofs.Picked.{picked}
 use Rattle.place_plan.proofs.Ranges.{range_push, range_within, not_in_range, range_below}

@@ -1,6 +1,5 @@
 use Rattle.std.specs.List.{range_with_len}
-use Rattle.place_plan.specs.Choices.{serves_by}
-use Rattle.place_plan.specs.Search.{IsPartial}
+use Rattle.place_plan.specs.Vocabulary.{serves_by, IsPartial}
 use Rattle.place_plan.proofs.assign.assign.Given as goal
 
 abbrev pub invariant-loop-k : goal.invariant-loop-k

@@ -5,9 +5,7 @@ use Rattle.map_network.specs.declared.network.Network.{Network}
 use Rattle.place_plan.specs.declared.layout.Laid.TheVariants as laid
 use Rattle.place_plan.specs.declared.plan.Plan.{Plan}
 use Rattle.place_plan.specs.declared.short.Need.{Need}
-use Rattle.place_plan.specs.Laying.{IsLaid}
-use Rattle.place_plan.specs.Lists.{AreThose}
-use Rattle.place_plan.specs.Plans.{AreNeeds, IsFreeTableOf, IsFreePinOf, IsInOrder, IsInOrderOf, IsPlan}
+use Rattle.place_plan.specs.Vocabulary.{IsLaid, AreThose, AreNeeds, IsFreeTableOf, IsFreePinOf, IsInOrder, IsInOrderOf, IsPlan}
 use Rattle.place_plan.proofs.Fitting.{needs_are, in_order_is, plan_is}
 use Rattle.place_plan.proofs.fit.in_order_laid.Goals as goal
 

@@ -1,8 +1,5 @@
 use Rattle.std.proofs.Common.{ℕ, List, length, ap, ◌∙◌, subst}
-use Rattle.place_plan.specs.Laying.{IsLaid}
-use Rattle.place_plan.specs.Lists.{AreThose}
-use Rattle.place_plan.specs.Plans.{AreNeeds, IsTerminal, nets_in, IsFreeTableOf, IsFreePinOf}
-use Rattle.place_plan.specs.Room.{IsFirstShort}
+use Rattle.place_plan.specs.Vocabulary.{IsLaid, AreThose, AreNeeds, IsTerminal, nets_in, IsFreeTableOf, IsFreePinOf, IsFirstShort}
 use Rattle.place_plan.proofs.Fitting.{needs_are, never_fits}
 use Rattle.place_plan.proofs.fit.lay_out.Goals as goal
 

@@ -1,10 +1,8 @@
-use Rattle.std.proofs.Common.{◌≡◌, ℕ, true, refl, ap, ◌∙◌, subst, arith}
-use Rattle.std.specs.Prelude.{◌↔◌}
+use Rattle.std.proofs.Common.{◌≡◌, ℕ, true, refl, ap, ◌∙◌, subst, arith, ◌↔◌}
 use Rattle.machine_shape.specs.declared.Shape.{Shape}
 use Rattle.machine_meaning.specs.Defects.{IsFreeWire}
 use Rattle.machine_shape.specs.Shape.{pins_of, pin_wire}
-use Rattle.place_plan.specs.Lists.{same_number}
-use Rattle.place_plan.specs.Plans.{IsFreePin}
+use Rattle.place_plan.specs.Vocabulary.{same_number, IsFreePin}
 use Rattle.place_plan.proofs.Sieves.{tested_step, sieve_end}
 use Rattle.place_plan.proofs.order.free_pins.Goals as goal
 

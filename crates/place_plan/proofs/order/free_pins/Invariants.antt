@@ -1,5 +1,4 @@
-use Rattle.place_plan.specs.Lists.{AreThose, IsAmongFirst, same_number}
-use Rattle.place_plan.specs.Plans.{IsFreePin}
+use Rattle.place_plan.specs.Vocabulary.{AreThose, IsAmongFirst, same_number, IsFreePin}
 use Rattle.place_plan.proofs.order.free_pins.Given as goal
 
 abbrev pub invariant-loop-k : goal.invariant-loop-k

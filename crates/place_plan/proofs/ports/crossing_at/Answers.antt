@@ -1,10 +1,7 @@
 use Rattle.std.proofs.Common.{◌≡◌, ◌+◌, ◌++◌, ℕ, List, [], ◌∷◌, Bool, length, get_or, if◌then◌else◌, sym, ◌∙◌, subst, arith}
 use Rattle.std.specs.List.{All}
 use Rattle.std.proofs.lemmas.List.{get_or_read}
-use Rattle.place_plan.specs.Lists.{AreThose, IsAmongFirst, nth_of}
-use Rattle.place_plan.specs.Strands.{IsInside}
-use Rattle.place_plan.specs.Room.{CrossesIn, IsAmong}
-use Rattle.place_plan.specs.Touches.{list_at, TouchesOf}
+use Rattle.place_plan.specs.Vocabulary.{AreThose, IsAmongFirst, nth_of, IsInside, CrossesIn, IsAmong, list_at, TouchesOf}
 use Rattle.place_plan.proofs.Crossings.{crosses_by, never_crosses, crossing_end}
 use Rattle.place_plan.proofs.Sieves.{elements_step}
 use Rattle.place_plan.proofs.ports.crossing_at.Goals as goal

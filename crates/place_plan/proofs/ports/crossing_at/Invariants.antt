@@ -1,5 +1,4 @@
-use Rattle.place_plan.specs.Lists.{AreThose, IsAmongFirst, nth_of}
-use Rattle.place_plan.specs.Room.{CrossesIn}
+use Rattle.place_plan.specs.Vocabulary.{AreThose, IsAmongFirst, nth_of, CrossesIn}
 use Rattle.place_plan.proofs.ports.crossing_at.Given as goal
 
 abbrev pub invariant-loop-k : goal.invariant-loop-k

@@ -1,9 +1,7 @@
 use Rattle.std.proofs.Common.{◌≡◌, ◌<◌, ◌+◌, ◌++◌, ℕ, List, [], ◌∷◌, length, sym, ◌∙◌, subst}
 use Rattle.std.proofs.lemmas.List.{get_or_read}
 use Rattle.machine_shape.specs.Shape.{nodes_of}
-use Rattle.place_plan.specs.Lists.{AreThose, AreLists}
-use Rattle.place_plan.specs.Room.{CrossesAt, HasTerminal}
-use Rattle.place_plan.specs.Touches.{list_at, TouchesOf}
+use Rattle.place_plan.specs.Vocabulary.{AreThose, AreLists, CrossesAt, HasTerminal, list_at, TouchesOf}
 use Rattle.place_plan.proofs.Sieves.{lists_push}
 use Rattle.place_plan.proofs.ports.crossings.Goals as goal
 

@@ -1,6 +1,5 @@
 use Rattle.std.proofs.Common.{length}
-use Rattle.place_plan.specs.Lists.{AreLists}
-use Rattle.place_plan.specs.Room.{CrossesAt, HasTerminal}
+use Rattle.place_plan.specs.Vocabulary.{AreLists, CrossesAt, HasTerminal}
 use Rattle.place_plan.proofs.ports.crossings.Given as goal
 
 abbrev pub invariant-loop-n : goal.invariant-loop-n

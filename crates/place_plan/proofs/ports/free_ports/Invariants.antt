@@ -1,5 +1,4 @@
-use Rattle.place_plan.specs.Lists.{AreLists}
-use Rattle.place_plan.specs.Room.{IsFreePort}
+use Rattle.place_plan.specs.Vocabulary.{AreLists, IsFreePort}
 use Rattle.place_plan.proofs.ports.free_ports.Given as goal
 
 abbrev pub invariant-loop-n : goal.invariant-loop-n

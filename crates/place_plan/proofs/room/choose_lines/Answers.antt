@@ -4,12 +4,7 @@ use Rattle.machine_shape.specs.declared.Shape.{Shape}
 use Rattle.machine_shape.specs.Shape.{nodes_of}
 use Rattle.place_plan.specs.declared.search.Ask.{Ask}
 use Rattle.place_plan.specs.declared.search.Hold.{Hold}
-use Rattle.place_plan.specs.Choices.{AreWires, IsSite, serves_by}
-use Rattle.place_plan.specs.Layouts.{net_in, visit_by}
-use Rattle.place_plan.specs.Lists.{AreThose}
-use Rattle.place_plan.specs.Room.{HasTerminal, AreShort, CrossesAt}
-use Rattle.place_plan.specs.Taps.{AreAsks, AreAscending}
-use Rattle.place_plan.specs.Touches.{TouchesOf}
+use Rattle.place_plan.specs.Vocabulary.{AreWires, IsSite, serves_by, net_in, visit_by, AreThose, HasTerminal, AreShort, CrossesAt, AreAsks, AreAscending, TouchesOf}
 use Rattle.place_plan.proofs.Boards.{answer_on, board_is, lists_ascend, asks_on, those_at, site_of, holds_within, set_within, goes_on}
 use Rattle.place_plan.proofs.Serving.{shortage}
 use Rattle.place_plan.proofs.room.choose_lines.Goals as goal

@@ -1,8 +1,6 @@
 use Rattle.std.proofs.Common.{◌≤◌, ℕ, List, length, Option, Some, None, IfSome, IfNone}
 use Rattle.std.proofs.lemmas.Option.{IfSome_then}
-use Rattle.place_plan.specs.Lists.{AreThose}
-use Rattle.place_plan.specs.Room.{CrossesAt, HasTerminal, IsFreePort}
-use Rattle.place_plan.specs.Layouts.{GoOn, LinesAreShort}
+use Rattle.place_plan.specs.Vocabulary.{AreThose, CrossesAt, HasTerminal, IsFreePort, GoOn, LinesAreShort}
 use Rattle.place_plan.proofs.Boards.{those_at}
 use Rattle.place_plan.proofs.Given.{at_none}
 use Rattle.place_plan.proofs.Lacks.{lack_is, lines_lack, ports_do}

@@ -1,6 +1,5 @@
 use Rattle.std.proofs.Common.{length}
-use Rattle.place_plan.specs.Layouts.{IsEnough}
-use Rattle.place_plan.specs.Room.{HasTerminal}
+use Rattle.place_plan.specs.Vocabulary.{IsEnough, HasTerminal}
 use Rattle.place_plan.proofs.room.rooms.Given as goal
 
 abbrev pub invariant-loop-n : goal.invariant-loop-n

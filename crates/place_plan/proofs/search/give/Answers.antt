@@ -1,7 +1,6 @@
 use Rattle.std.proofs.Common.{◌≡◌, ◌++◌, ℕ, [], ◌∷◌, None, Option, MatchOption, sym, subst, rules}
 use Rattle.std.specs.List.{Contains}
-use Rattle.place_plan.specs.Choices.{serves_by}
-use Rattle.place_plan.specs.Search.{owner_at, step_at, IsPartial, IsTrail, IsFree, IsStuck, IsShifted}
+use Rattle.place_plan.specs.Vocabulary.{serves_by, owner_at, step_at, IsPartial, IsTrail, IsFree, IsStuck, IsShifted}
 use Rattle.place_plan.proofs.Moves.{place}
 use Rattle.place_plan.proofs.search.give.Goals as goal
 

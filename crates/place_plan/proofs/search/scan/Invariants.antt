@@ -1,6 +1,5 @@
 use Rattle.std.proofs.Common.{length}
-use Rattle.place_plan.specs.Choices.{serves_by}
-use Rattle.place_plan.specs.Search.{IsScanning, AskWithin}
+use Rattle.place_plan.specs.Vocabulary.{serves_by, IsScanning, AskWithin}
 use Rattle.place_plan.proofs.search.scan.Given as goal
 
 abbrev pub invariant-loop-j : goal.invariant-loop-j

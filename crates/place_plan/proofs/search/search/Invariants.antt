@@ -1,6 +1,5 @@
 use Rattle.std.proofs.Common.{◌≡◌, ◌-◌, suc, length}
-use Rattle.place_plan.specs.Choices.{serves_by}
-use Rattle.place_plan.specs.Search.{step_at, IsTrail, AreSeen, AreScanned, AskWithin}
+use Rattle.place_plan.specs.Vocabulary.{serves_by, step_at, IsTrail, AreSeen, AreScanned, AskWithin}
 use Rattle.place_plan.proofs.search.search.Given as goal
 
 abbrev pub invariant-loop-h : goal.invariant-loop-h

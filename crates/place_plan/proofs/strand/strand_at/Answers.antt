@@ -1,8 +1,7 @@
 use Rattle.std.proofs.Common.{◌≡◌, ◌<◌, Some, get_or, length, sym, ap, ◌∙◌, subst, arith}
 use Rattle.std.proofs.lemmas.List.{get_or_read}
 use Rattle.machine_shape.specs.Shape.{node_of, parent_of}
-use Rattle.place_plan.specs.Strands.{at_own}
-use Rattle.place_plan.specs.Trees.{IsClimb}
+use Rattle.place_plan.specs.Vocabulary.{at_own, IsClimb}
 use Rattle.place_plan.proofs.Climbs.{climb_begins, climb_on, climb_ends, climb_meets}
 use Rattle.place_plan.proofs.strand.strand_at.Goals as goal
 

@@ -1,9 +1,6 @@
 use Rattle.std.proofs.Common.{◌≡◌, ◌+◌, ◌++◌, ℕ, List, [], ◌∷◌, length, get_or, ap, sym, ◌∙◌, subst, arith}
 use Rattle.std.proofs.lemmas.List.{get_or_read}
-use Rattle.place_plan.specs.Room.{IsAmong}
-use Rattle.place_plan.specs.Strands.{Visits}
-use Rattle.place_plan.specs.Taps.{AreTaps, AreAsksOf}
-use Rattle.place_plan.specs.Touches.{list_at, TouchesOf}
+use Rattle.place_plan.specs.Vocabulary.{IsAmong, Visits, AreTaps, AreAsksOf, list_at, TouchesOf}
 use Rattle.place_plan.proofs.Tapping.{asks_more, asks_same}
 use Rattle.place_plan.proofs.Asks.{asks_end}
 use Rattle.place_plan.proofs.taps.asks_at.Goals as goal

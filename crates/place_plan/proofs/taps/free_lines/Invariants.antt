@@ -1,7 +1,6 @@
 use Rattle.machine_shape.specs.Shape.{line_at}
 use Rattle.machine_meaning.specs.Defects.{IsFreeWire}
-use Rattle.place_plan.specs.Choices.{AreWires}
-use Rattle.place_plan.specs.Lists.{AreThose, IsAmongFirst}
+use Rattle.place_plan.specs.Vocabulary.{AreWires, AreThose, IsAmongFirst}
 use Rattle.place_plan.proofs.taps.free_lines.Given as goal
 
 abbrev pub invariant-loop-k : goal.invariant-loop-k

@@ -1,7 +1,6 @@
 use Rattle.std.proofs.Common.{◌<◌, sym, subst}
 use Rattle.place_plan.specs.declared.tree.NetSide.TheVariants.{Own, Child, Outside}
-use Rattle.place_plan.specs.Strands.{IsAt}
-use Rattle.place_plan.specs.Taps.{IsHeld, IsTapFor}
+use Rattle.place_plan.specs.Vocabulary.{IsAt, IsHeld, IsTapFor}
 use Rattle.place_plan.proofs.Climbs.{child_within}
 use Rattle.place_plan.proofs.Tapping.{found_same, tap_for}
 use Rattle.place_plan.proofs.taps.tap_at.Goals as goal

@@ -2,8 +2,7 @@ use Rattle.std.proofs.Common.{◌≡◌, ◌<◌, ◌+◌, ◌++◌, ℕ, List, 
 use Rattle.std.proofs.lemmas.Grind.{common_steps}
 use Rattle.std.proofs.lemmas.List.{take_more, take_at}
 use Rattle.place_plan.specs.declared.terminals.Terminal.{Terminal}
-use Rattle.place_plan.specs.Terminals.{AreGrouped}
-use Rattle.place_plan.specs.Touches.{list_at}
+use Rattle.place_plan.specs.Vocabulary.{AreGrouped, list_at}
 use Rattle.place_plan.proofs.Grouping.{more_grouped}
 use Rattle.place_plan.proofs.terminals.grouped.Goals as goal
 

@@ -8,8 +8,7 @@ use Rattle.map_network.specs.declared.network.NetTable.{NetTable}
 use Rattle.map_network.specs.Networks.{IsNetwork}
 use Rattle.place_plan.specs.declared.plan.Plan.{Plan}
 use Rattle.place_plan.specs.declared.terminals.Terminal.{Terminal}
-use Rattle.place_plan.specs.Plans.{IsPlan, nets_in}
-use Rattle.place_plan.specs.Terminals.{IsSized, all_terminals}
+use Rattle.place_plan.specs.Vocabulary.{IsPlan, nets_in, IsSized, all_terminals}
 use Rattle.place_plan.proofs.PlanNets.{sized_is, nets_small, plan_nets}
 use Rattle.place_plan.proofs.terminals.nets_of_plan.Goals as goal
 

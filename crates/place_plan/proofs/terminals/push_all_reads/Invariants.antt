@@ -1,6 +1,5 @@
 use Rattle.std.proofs.Common.{◌≡◌, ◌++◌, map}
-use Rattle.place_plan.specs.Plans.{number_of}
-use Rattle.place_plan.specs.Terminals.{reads_to}
+use Rattle.place_plan.specs.Vocabulary.{number_of, reads_to}
 use Rattle.place_plan.proofs.terminals.push_all_reads.Given as goal
 
 abbrev pub invariant-loop-j : goal.invariant-loop-j

@@ -1,8 +1,6 @@
 use Rattle.std.proofs.Common.{◌≡◌, ◌+◌, ℕ, map, sym, ap, ◌∙◌}
 use Rattle.machine_shape.specs.Shape.{tables_of, table_wire}
-use Rattle.place_plan.specs.Plans.{number_of}
-use Rattle.place_plan.specs.Lists.{nth_of}
-use Rattle.place_plan.specs.Terminals.{give_by}
+use Rattle.place_plan.specs.Vocabulary.{number_of, nth_of, give_by}
 use Rattle.place_plan.proofs.Pushes.{map_next, place_at, place_below}
 use Rattle.place_plan.proofs.terminals.push_gives.Goals as goal
 

@@ -1,6 +1,5 @@
 use Rattle.std.proofs.Common.{◌≡◌, ◌++◌, map}
-use Rattle.place_plan.specs.Plans.{number_of}
-use Rattle.place_plan.specs.Terminals.{gives_of}
+use Rattle.place_plan.specs.Vocabulary.{number_of, gives_of}
 use Rattle.place_plan.proofs.terminals.push_gives.Given as goal
 
 abbrev pub invariant-loop-j : goal.invariant-loop-j

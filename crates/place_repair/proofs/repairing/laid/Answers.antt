@@ -1,9 +1,7 @@
 use Rattle.std.proofs.Common.{ℕ, All, List, length, refl, sym, ◌∙◌, subst}
 use Rattle.machine_shape.specs.declared.Shape.{Shape}
 use Rattle.place_plan.specs.declared.short.Room.TheVariants.{Enough}
-use Rattle.place_plan.specs.Choices.{AreWires}
-use Rattle.place_plan.specs.Layouts.{IsRoom}
-use Rattle.place_plan.specs.Room.{HasTerminal}
+use Rattle.place_plan.specs.Vocabulary.{AreWires, IsRoom, HasTerminal}
 use Rattle.place_route.proofs.Making.{numbering}
 use Rattle.place_repair.specs.Making.{IsRedrawn}
 use Rattle.place_repair.specs.Plans.{need_of}

@@ -3,8 +3,7 @@ use Rattle.machine_shape.specs.declared.Table.{Table}
 use Rattle.machine_shape.specs.Shape.{tables_of, pins_of}
 use Rattle.machine_config.specs.Configuration.{Configuration}
 use Rattle.map_network.specs.declared.network.NetTable.{NetTable}
-use Rattle.place_route.specs.Closing.{SwitchesOn}
-use Rattle.place_route.specs.Routed.{AreWiresOf, IsJoined, IsRouted}
+use Rattle.place_route.specs.Vocabulary.{SwitchesOn, AreWiresOf, IsJoined, IsRouted}
 use Rattle.place_route.proofs.Making.{numbering}
 use Rattle.place_route.proofs.Whole.{made_of, wires_are, nets_few, tables_few, seats_within, seats_apart}
 use Rattle.place_route.proofs.routing.configure.Goals as goal

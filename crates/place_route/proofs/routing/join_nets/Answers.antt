@@ -4,8 +4,7 @@ use Rattle.machine_config.specs.Configuration.{Configuration}
 use Rattle.place_plan.specs.declared.short.Port.{Port}
 use Rattle.place_plan.specs.declared.short.Visit.{Visit}
 use Rattle.place_plan.specs.Choices.{AreWires}
-use Rattle.place_route.specs.Closing.{Closes, IsOwnedJoint}
-use Rattle.place_route.specs.Owners.{AreLines, AreOwners}
+use Rattle.place_route.specs.Vocabulary.{Closes, IsOwnedJoint, AreLines, AreOwners}
 use Rattle.place_route.proofs.routing.join_nets.Goals as goal
 
 pub owners_of-requires-clause-few : goal.owners_of-requires-clause-few

@@ -1,5 +1,4 @@
-use Rattle.std.proofs.Common.{◌∙◌, ◌++◌, ◌∷◌, [], ap}
-use Rattle.std.specs.Prelude.{decimal}
+use Rattle.std.proofs.Common.{◌∙◌, ◌++◌, ◌∷◌, [], ap, decimal}
 use Rattle.machine_config.specs.Configuration.{with_ticks}
 use Rattle.rig_port.specs.Requests.{Tick}
 use Rattle.rig_port.proofs.Edited.{one_edit}

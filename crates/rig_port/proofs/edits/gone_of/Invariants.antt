@@ -1,5 +1,4 @@
-use Rattle.std.proofs.Common.{◌≡◌, ℕ, ◌≤◌, ◌<◌, All, false, take}
-use Rattle.std.specs.Prelude.{◌==◌, count_by}
+use Rattle.std.proofs.Common.{◌≡◌, ℕ, ◌≤◌, ◌<◌, All, false, take, ◌==◌, count_by}
 use Rattle.machine_shape.specs.Shape.{crosses_of}
 use Rattle.machine_config.specs.Configuration.{is_closed}
 use Rattle.rig_port.proofs.edits.gone_of.Given as goal

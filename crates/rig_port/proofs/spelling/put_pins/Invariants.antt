@@ -1,5 +1,4 @@
-use Rattle.std.proofs.Common.{◌≡◌, ◌+◌, ◌-◌, ◌*◌, ◌≤◌, ◌++◌}
-use Rattle.std.specs.Prelude.{vec_len}
+use Rattle.std.proofs.Common.{◌≡◌, ◌+◌, ◌-◌, ◌*◌, ◌≤◌, ◌++◌, vec_len}
 use Rattle.std.specs.Vec.{vec_capacity}
 use Rattle.hex.specs.Hex.{encode_lower}
 use Rattle.rig_port.specs.Lines.{octets_below}

@@ -1,5 +1,4 @@
-use Rattle.std.proofs.Common.{◌≡◌, ◌+◌, ◌≤◌, ◌∷◌, [], take}
-use Rattle.std.specs.Prelude.{vec_len}
+use Rattle.std.proofs.Common.{◌≡◌, ◌+◌, ◌≤◌, ◌∷◌, [], take, vec_len}
 use Rattle.std.specs.List.{join_by, sum_by}
 use Rattle.std.specs.Vec.{vec_capacity}
 use Rattle.rig_port.specs.Lines.{pin_text, word_room}

@@ -1,5 +1,4 @@
-use Rattle.std.proofs.Common.{◌≡◌, ◌%◌, take}
-use Rattle.std.specs.Prelude.{sum}
+use Rattle.std.proofs.Common.{◌≡◌, ◌%◌, take, sum}
 use Rattle.rig_port.proofs.spelling.sum_of.Given as goal
 
 abbrev pub invariant-bytes : goal.invariant-bytes

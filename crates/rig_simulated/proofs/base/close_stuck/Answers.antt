@@ -1,5 +1,4 @@
-use Rattle.std.proofs.Common.{◌≡◌, ◌≤◌, ◌+◌, ℕ, true, false, length, subst, ap, ◌∙◌, sym, arith}
-use Rattle.std.specs.Prelude.{unwrap_or}
+use Rattle.std.proofs.Common.{◌≡◌, ◌≤◌, ◌+◌, ℕ, true, false, length, subst, ap, ◌∙◌, sym, arith, unwrap_or}
 use Rattle.machine_shape.specs.Shape.{crosses_of, ends_of}
 use Rattle.machine_meaning.specs.Faults.{stuck_wire}
 use Rattle.rig_simulated.specs.Classes.{AreTied, HasLink}

@@ -1,8 +1,7 @@
-use Rattle.std.proofs.Common.{◌≡◌, ◌<◌, ◌+◌, ◌∙◌, All, Some, None, List, [], ◌∷◌, ◌++◌, map, take, length, get_or, sym, ap, subst, arith}
+use Rattle.std.proofs.Common.{◌≡◌, ◌<◌, ◌+◌, ◌∙◌, All, Some, None, List, [], ◌∷◌, ◌++◌, map, take, length, get_or, sym, ap, subst, arith, is_some, unwrap_or}
 use Rattle.std.proofs.lemmas.List.{map-append, take_more, take_all, length-map, get_or-map}
 use Rattle.std.proofs.lemmas.List.Elements.{All-push}
 use Rattle.std.proofs.lemmas.Bool.{false≢true}
-use Rattle.std.specs.Prelude.{is_some, unwrap_or}
 use Rattle.machine_config.specs.Configuration.{setting_of}
 use Rattle.machine_shape.specs.Shape.{wires_of, tables_of}
 use Rattle.machine_shape.specs.declared.Table.{Table}

@@ -1,5 +1,4 @@
-use Rattle.std.proofs.Common.{◌≡◌, ℕ, All, map, take}
-use Rattle.std.specs.Prelude.{unwrap_or}
+use Rattle.std.proofs.Common.{◌≡◌, ℕ, All, map, take, unwrap_or}
 use Rattle.machine_shape.specs.Shape.{wires_of, tables_of}
 use Rattle.rig_simulated.specs.Classes.{HasRoots}
 use Rattle.rig_simulated.specs.Gates.{Fits, IsGate}

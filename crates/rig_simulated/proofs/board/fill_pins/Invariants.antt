@@ -1,5 +1,4 @@
-use Rattle.std.proofs.Common.{◌≡◌, ℕ, ◌<◌, vec_len, All}
-use Rattle.std.specs.Prelude.{slice_index}
+use Rattle.std.proofs.Common.{◌≡◌, ℕ, ◌<◌, vec_len, All, slice_index}
 use Rattle.machine_shape.specs.Shape.{wires_of, pin_wire}
 use Rattle.rig_simulated.specs.Classes.{HasRoots}
 use Rattle.rig_simulated.proofs.board.fill_pins.Given as goal

@@ -1,5 +1,4 @@
-use Rattle.std.proofs.Common.{take}
-use Rattle.std.specs.Prelude.{slice_index}
+use Rattle.std.proofs.Common.{take, slice_index}
 use Rattle.std.specs.List.{All}
 use Rattle.rig_simulated.specs.Settling.{IsRankedOrLatched}
 use Rattle.rig_simulated.proofs.ranks.are_ranked.Given as goal

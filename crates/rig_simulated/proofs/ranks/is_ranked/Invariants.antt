@@ -1,5 +1,4 @@
-use Rattle.std.proofs.Common.{ℕ, ◌<◌}
-use Rattle.std.specs.Prelude.{slice_index}
+use Rattle.std.proofs.Common.{ℕ, ◌<◌, slice_index}
 use Rattle.rig_simulated.proofs.ranks.is_ranked.Given as goal
 
 abbrev pub invariant-inputs : goal.invariant-inputs

@@ -1,6 +1,5 @@
 use Rattle.std.proofs.Common.{refl, sym, subst}
-use Rattle.design_flatten.specs.Substitution.{model_named}
-use Rattle.design_flatten.specs.Bodies.{IsBodyOf}
+use Rattle.design_flatten.specs.Vocabulary.{model_named, IsBodyOf}
 use Rattle.design_flatten.proofs.BodyLemmas.{body_found}
 use Rattle.design_flatten.proofs.bodies.Bodies.get.Goals as goal
 

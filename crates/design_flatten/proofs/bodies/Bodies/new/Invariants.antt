@@ -1,8 +1,5 @@
 use Rattle.std.proofs.Common.{◌≡◌, ℕ, List, take, map}
-use Rattle.design_flatten.specs.Lines.{no_model, ordered_lines}
-use Rattle.design_flatten.specs.Substitution.{first_model}
-use Rattle.design_flatten.specs.Needs.{lean_line}
-use Rattle.design_flatten.specs.Bodies.{lean_in, body_at, IsBodyOf, IsBodyAt}
+use Rattle.design_flatten.specs.Vocabulary.{no_model, ordered_lines, first_model, lean_line, lean_in, body_at, IsBodyOf, IsBodyAt}
 use Rattle.design_flatten.proofs.bodies.Bodies.new.Given as goal
 
 abbrev pub invariant-models : goal.invariant-models

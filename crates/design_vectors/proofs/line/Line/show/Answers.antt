@@ -1,6 +1,5 @@
-use Rattle.std.proofs.Common.{◌≡◌, ℕ, ◌+◌, ◌<◌, List, [], ◌∷◌, ◌++◌, length, take, ap, sym, subst, ◌∙◌, arith, true, false}
+use Rattle.std.proofs.Common.{◌≡◌, ℕ, ◌+◌, ◌<◌, List, [], ◌∷◌, ◌++◌, length, take, ap, sym, subst, ◌∙◌, arith, true, false, slice_set}
 use Rattle.std.proofs.lemmas.List.{length-take-le, take_more_set}
-use Rattle.std.specs.Prelude.{slice_set}
 use Rattle.design_vectors.specs.Vectors.{is_vector_byte, vector_size}
 use Rattle.design_vectors.specs.Lines.{PartLine}
 use Rattle.design_vectors.specs.Inside.{part_line}

@@ -1,5 +1,4 @@
-use Rattle.diag_evidence.specs.Kept.{Gains, these_pairs}
-use Rattle.diag_evidence.specs.Readings.{wires_over}
+use Rattle.diag_evidence.specs.Vocabulary.{Gains, these_pairs, wires_over}
 use Rattle.diag_evidence.proofs.Advancing.{advances_by}
 use Rattle.diag_evidence.proofs.Several.{tells_none, tells_all, all_pass, all_gain}
 use Rattle.diag_evidence.proofs.facts.Facts.all_apart.Goals as goal

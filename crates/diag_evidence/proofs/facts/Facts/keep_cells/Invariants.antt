@@ -1,5 +1,4 @@
-use Rattle.diag_evidence.specs.Kept.{Gains}
-use Rattle.diag_evidence.specs.Sheets.{right_cells}
+use Rattle.diag_evidence.specs.Vocabulary.{Gains, right_cells}
 use Rattle.diag_evidence.proofs.facts.Facts.keep_cells.Given as goal
 
 abbrev pub invariant-cells : goal.invariant-cells

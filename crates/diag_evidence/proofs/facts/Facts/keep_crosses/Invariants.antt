@@ -1,7 +1,6 @@
 use Rattle.std.proofs.Common.{take}
 use Rattle.machine_config.specs.Groups.{among}
-use Rattle.diag_evidence.specs.Kept.{Gains}
-use Rattle.diag_evidence.specs.Leads.{these_crosses}
+use Rattle.diag_evidence.specs.Vocabulary.{Gains, these_crosses}
 use Rattle.diag_evidence.proofs.facts.Facts.keep_crosses.Given as goal
 
 abbrev pub invariant-crosses : goal.invariant-crosses

@@ -1,7 +1,6 @@
 use Rattle.std.proofs.Common.{◌≡◌, ◌<◌, ◌+◌, true, false, Some, length, get_or, take, subst, sym, ◌∙◌, arith}
 use Rattle.std.proofs.lemmas.Option.{gets}
-use Rattle.diag_evidence.specs.Kept.{Gains}
-use Rattle.diag_evidence.specs.Leads.{these_crosses, led_over}
+use Rattle.diag_evidence.specs.Vocabulary.{Gains, these_crosses, led_over}
 use Rattle.diag_evidence.proofs.Led.{led_on, led_not}
 use Rattle.diag_evidence.proofs.facts.Facts.keep_led.Goals as goal
 use Rattle.diag_evidence.proofs.facts.Facts.keep_led.Goals.{then-not-get, else-not-get}

@@ -1,6 +1,5 @@
 use Rattle.std.proofs.Common.{take}
-use Rattle.diag_evidence.specs.Kept.{Gains}
-use Rattle.diag_evidence.specs.TableRows.{right_parts}
+use Rattle.diag_evidence.specs.Vocabulary.{Gains, right_parts}
 use Rattle.diag_evidence.proofs.facts.Facts.keep_right.Given as goal
 
 abbrev pub invariant-tables : goal.invariant-tables

@@ -1,6 +1,5 @@
 use Rattle.std.proofs.Common.{◌≡◌, subst}
-use Rattle.diag_evidence.specs.Kept.{Kept, Gains}
-use Rattle.diag_evidence.specs.Looks.{seen_in}
+use Rattle.diag_evidence.specs.Vocabulary.{Kept, Gains, seen_in}
 use Rattle.diag_evidence.proofs.Advancing.{advances_by}
 use Rattle.diag_evidence.proofs.Seeing.{look_holds, no_feet}
 use Rattle.diag_evidence.proofs.Unfitting.{not_odd}

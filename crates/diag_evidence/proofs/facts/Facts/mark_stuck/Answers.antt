@@ -1,5 +1,4 @@
-use Rattle.std.proofs.Common.{◌≡◌, ◌<◌, ◌+◌, ℕ, true, false, Some, None, length, get_or, take, subst, sym, ap, ◌∙◌, arith}
-use Rattle.std.specs.Prelude.{◌||◌}
+use Rattle.std.proofs.Common.{◌≡◌, ◌<◌, ◌+◌, ℕ, true, false, Some, None, length, get_or, take, subst, sym, ap, ◌∙◌, arith, ◌||◌}
 use Rattle.std.proofs.lemmas.List.{length-set}
 use Rattle.base_bits.specs.Numbers.{has_number}
 use Rattle.diag_evidence.specs.Leads.{IsLead, held_up_at, is_only_unkept}

@@ -1,5 +1,4 @@
-use Rattle.diag_evidence.specs.Kept.{Gains}
-use Rattle.diag_evidence.specs.TableRows.{right_parts}
+use Rattle.diag_evidence.specs.Vocabulary.{Gains, right_parts}
 use Rattle.diag_evidence.proofs.Advancing.{advances_by}
 use Rattle.diag_evidence.proofs.ReadTwice.{has_tabled, holds_after, newly_after, wrong_after}
 use Rattle.diag_evidence.proofs.facts.Facts.tables_each.Goals as goal

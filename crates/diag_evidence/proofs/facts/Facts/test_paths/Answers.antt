@@ -1,6 +1,5 @@
 use Rattle.std.proofs.Common.{◌≡◌, ◌<◌, ◌+◌, sym, subst}
-use Rattle.diag_evidence.specs.Kept.{Gains}
-use Rattle.diag_evidence.specs.Leads.{these_crosses, led_over}
+use Rattle.diag_evidence.specs.Vocabulary.{Gains, these_crosses, led_over}
 use Rattle.diag_evidence.proofs.Advancing.{advances_by}
 use Rattle.diag_evidence.proofs.Led.{led_holds, marked_stuck, newly_stuck}
 use Rattle.diag_evidence.proofs.facts.Facts.test_paths.Goals as goal

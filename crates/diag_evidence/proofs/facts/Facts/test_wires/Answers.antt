@@ -1,6 +1,5 @@
 use Rattle.std.proofs.Common.{◌≡◌, refl, subst}
-use Rattle.diag_evidence.specs.Kept.{Kept}
-use Rattle.diag_evidence.specs.Plans.{HasLearnt}
+use Rattle.diag_evidence.specs.Vocabulary.{Kept, HasLearnt}
 use Rattle.diag_evidence.proofs.Tried.{are_hung, tried_silent, tried_answered, stay_unfit, stay_unclear, newly_unfit, newly_unclear, unfit_hung, unclear_hung, tried_advances}
 use Rattle.diag_evidence.proofs.Marked.{unfit_none, unclear_none}
 use Rattle.diag_evidence.proofs.facts.Facts.test_wires.Goals as goal

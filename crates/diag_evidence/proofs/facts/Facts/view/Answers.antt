@@ -1,5 +1,4 @@
-use Rattle.std.proofs.Common.{◌≡◌, ◌<◌, ◌∙◌, All, List, sym, subst}
-use Rattle.std.specs.Prelude.{map}
+use Rattle.std.proofs.Common.{◌≡◌, ◌<◌, ◌∙◌, All, List, sym, subst, map}
 use Rattle.std.proofs.lemmas.List.Elements.{All-map}
 use Rattle.machine_shape.specs.Shape.{crosses_of}
 use Rattle.diag_evidence.specs.Hangs.{Foot, IsFoot, over_of, turned, overs, others, all_feet}

@@ -1,5 +1,4 @@
-use Rattle.std.proofs.Common.{◌<◌}
-use Rattle.std.specs.Prelude.{All}
+use Rattle.std.proofs.Common.{◌<◌, All}
 use Rattle.machine_shape.specs.Shape.{crosses_of}
 use Rattle.example_parts.proofs.crossbars.setup.crosses_of.Given as goal
 

@@ -1,5 +1,4 @@
-use Rattle.std.proofs.Common.{◌<◌, length}
-use Rattle.std.specs.Prelude.{All}
+use Rattle.std.proofs.Common.{◌<◌, length, All}
 use Rattle.machine_shape.specs.declared.Table.{Table}
 use Rattle.example_parts.proofs.machines.fields.tables_in.Given as goal
 

@@ -1,5 +1,4 @@
-use Rattle.std.proofs.Common.{◌≡◌, length}
-use Rattle.std.specs.Prelude.{IsSome}
+use Rattle.std.proofs.Common.{◌≡◌, length, IsSome}
 use Rattle.example_parts.proofs.values.vectors.read_all.Given as goal
 
 abbrev pub invariant-vectors : goal.invariant-vectors

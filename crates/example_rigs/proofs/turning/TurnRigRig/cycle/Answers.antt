@@ -1,5 +1,4 @@
-use Rattle.std.proofs.Common.{[], ◌∷◌, length, sym, subst}
-use Rattle.std.specs.Prelude.{IsSome}
+use Rattle.std.proofs.Common.{[], ◌∷◌, length, sym, subst, IsSome}
 use Rattle.example_rigs.proofs.Readings.{goes_on_by, one_more, one_of, some_width}
 use Rattle.example_rigs.proofs.turning.TurnRigRig.cycle.Goals as goal
 

@@ -1,5 +1,4 @@
-use Rattle.std.proofs.Common.{sym, subst}
-use Rattle.std.specs.Prelude.{IsSome}
+use Rattle.std.proofs.Common.{sym, subst, IsSome}
 use Rattle.example_rigs.proofs.Readings.{goes_on_by, some_told}
 use Rattle.example_rigs.proofs.turning.TurnRigRig.cycles.Goals as goal
 

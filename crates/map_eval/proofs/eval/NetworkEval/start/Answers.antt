@@ -1,5 +1,4 @@
-use Rattle.std.proofs.Common.{subst}
-use Rattle.std.specs.Prelude.{Option, MatchOption}
+use Rattle.std.proofs.Common.{subst, Option, MatchOption}
 use Rattle.map_network.specs.declared.network.Network.{Network}
 use Rattle.map_eval.specs.Placing.{IsStandIn}
 use Rattle.map_eval.specs.States.{IsOrdered}

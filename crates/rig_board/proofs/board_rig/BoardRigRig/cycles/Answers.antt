@@ -1,5 +1,4 @@
-use Rattle.std.proofs.Common.{rules, ◌≡◌, ◌∙◌, ◌≤◌, sym, ap, refl, arith}
-use Rattle.std.specs.Prelude.{option_map}
+use Rattle.std.proofs.Common.{rules, ◌≡◌, ◌∙◌, ◌≤◌, sym, ap, refl, arith, option_map}
 use Rattle.machine_shape.specs.Shape.{pins_of}
 use Rattle.rig_board.specs.Kept.{session_of}
 use Rattle.rig_board.proofs.OneByOne.{lengths_kept}

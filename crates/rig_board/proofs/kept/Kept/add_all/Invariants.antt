@@ -1,5 +1,4 @@
-use Rattle.std.proofs.Common.{◌≡◌, ◌+◌, take, length}
-use Rattle.std.specs.Prelude.{vec_len}
+use Rattle.std.proofs.Common.{◌≡◌, ◌+◌, take, length, vec_len}
 use Rattle.std.specs.Vec.{vec_capacity}
 use Rattle.machine_shape.specs.Shape.{pins_of}
 use Rattle.rig_board.specs.Kept.{session_of, HasAdded}

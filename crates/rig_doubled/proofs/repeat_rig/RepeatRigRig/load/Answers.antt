@@ -1,5 +1,4 @@
-use Rattle.std.proofs.Common.{◌≡◌, ◌∙◌, ◌+◌, ◌-◌, ◌^◌, min, if◌then◌else◌, Option, Some, ap}
-use Rattle.std.specs.Prelude.{option_map, is_some}
+use Rattle.std.proofs.Common.{◌≡◌, ◌∙◌, ◌+◌, ◌-◌, ◌^◌, min, if◌then◌else◌, Option, Some, ap, option_map, is_some}
 use Rattle.rig.specs.Rig.{Machine, shape_of}
 use Rattle.rig_doubled.specs.declared.kept.Kept.{Kept}
 use Rattle.rig_doubled.specs.Repeats.{repeat_state, loads_taken}

@@ -1,5 +1,4 @@
-use Rattle.std.proofs.Common.{◌≡◌, ◌≤◌, ◌∙◌, sym, ap, subst}
-use Rattle.std.specs.Prelude.{IfSome}
+use Rattle.std.proofs.Common.{◌≡◌, ◌≤◌, ◌∙◌, sym, ap, subst, IfSome}
 use Rattle.machine_config.specs.Configuration.{cleared}
 use Rattle.rig_board.proofs.Driven.{on_ok}
 use Rattle.std.specs.Vec.{vec_capacity}

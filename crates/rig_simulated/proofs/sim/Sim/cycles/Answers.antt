@@ -1,10 +1,8 @@
-use Rattle.std.proofs.Common.{◌≡◌, ℕ, Some, ◌+◌, ◌<◌, ◌≤◌, ◌∙◌, ◌∷◌, ◌++◌, [], IsSome, IfSome, List, length, map, take, get_or, refl, sym, ap, subst, arith}
-use Rattle.std.specs.Prelude.{option_map, slice_set}
+use Rattle.std.proofs.Common.{◌≡◌, ℕ, Some, ◌+◌, ◌<◌, ◌≤◌, ◌∙◌, ◌∷◌, ◌++◌, [], IsSome, IfSome, List, length, map, take, get_or, refl, sym, ap, subst, arith, option_map, slice_set}
 use Rattle.std.proofs.lemmas.List.{take_more, take_more_set, length-map}
 use Rattle.std.proofs.Math.Seq.{map-set_same}
 use Rattle.machine_shape.specs.Shape.{pins_of}
-use Rattle.machine_meaning.specs.Circuit.{Pins}
-use Rattle.machine_meaning.specs.Faults.{Faults}
+use Rattle.machine_meaning.specs.Vocabulary.{Pins, Faults}
 use Rattle.machine_faults.specs.Adding.{Faulty}
 use Rattle.rig.specs.Rig.{Session}
 use Rattle.rig_simulated.specs.States.{GoesOnFrom, HasGoneOn}

@@ -1,8 +1,7 @@
 use Rattle.std.proofs.Common.{◌≡◌, ◌+◌, ◌*◌, ◌-◌, ◌≤◌, ◌∙◌, ◌++◌, List, [], Some, length, sym, ap, subst, arith}
 use Rattle.machine_shape.specs.declared.Cross.{Cross}
 use Rattle.machine_shape.specs.Shape.{tables_of, pins_of}
-use Rattle.machine_config.specs.Kept.{set_of}
-use Rattle.machine_config.specs.Run.{none}
+use Rattle.machine_config.specs.Vocabulary.{set_of, none}
 use Rattle.rig_simulated.specs.Stored.{config_in}
 use Rattle.rig_simulated.specs.Sims.{IsRunning}
 use Rattle.rig_simulated.proofs.Sessions.{config_is, closed_is}

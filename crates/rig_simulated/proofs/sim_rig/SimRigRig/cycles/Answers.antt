@@ -1,5 +1,4 @@
-use Rattle.std.proofs.Common.{◌≡◌, Option, Some, IfSome, ap, subst}
-use Rattle.std.specs.Prelude.{option_and_then}
+use Rattle.std.proofs.Common.{◌≡◌, Option, Some, IfSome, ap, subst, option_and_then}
 use Rattle.rig_simulated.specs.declared.sim_rig.Attached.{Attached}
 use Rattle.rig_simulated.specs.States.{GoesOnByFrom}
 use Rattle.rig_simulated.proofs.Turns.{rig_goes_on}
