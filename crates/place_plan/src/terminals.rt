@@ -11,7 +11,7 @@ use crate::numbers::empty_lists;
 use crate::plan::Plan;
 use base_lists::Items;
 use machine_defects::Defects;
-use machine_shape::{Shape, Table};
+use machine_shape::{Pin, Shape, Table};
 use map_network::{Network, Source};
 use std::alloc::{AllocError, Global};
 
@@ -42,7 +42,7 @@ fn push_drives(terminals: &mut Vec<Terminal>, shape: &Shape, pins: &[u32]) -> Re
     for k in 0..pins.len() {
         terminals.push(Terminal {
             net: k as u32,
-            wire: shape.pin(pins[k]).0,
+            wire: shape.pin(Pin(pins[k])).0,
         })?;
     }
     Ok(())
@@ -134,7 +134,7 @@ fn push_shows(
     for o in 0..pins.len() {
         terminals.push(Terminal {
             net: net_of(inputs, sources[o]),
-            wire: shape.pin(pins[o]).0,
+            wire: shape.pin(Pin(pins[o])).0,
         })?;
     }
     Ok(())
