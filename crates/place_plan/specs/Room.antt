@@ -20,10 +20,11 @@ pub record Pick : Type 0 where
   pub net : ℕ
   pub line : ℕ
 
--- the port w of node n as net k's, and the line w there as net k's
+-- the port w of node n as that of net k
 abbrev pub port_for : ℕ → ℕ → ℕ → Port
 port_for n k w = record { node = record { 0 = n }; net = record { 0 = k }; wire = record { 0 = w } }
 
+-- the line w of node n as that of net k
 abbrev pub visit_for : ℕ → ℕ → ℕ → Visit
 visit_for n k w = record { node = record { 0 = n }; net = record { 0 = k }; line = record { 0 = w } }
 
