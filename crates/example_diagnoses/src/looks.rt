@@ -1,9 +1,9 @@
 //! Whether a list covers the faults, and whether it is tight to them.
 
-use crate::machines::feet::on_two;
-use crate::machines::flags::Flags;
-use crate::machines::seating::is_seated;
-use crate::machines::sight::Sight;
+use crate::feet::on_two;
+use crate::flags::Flags;
+use crate::seating::is_seated;
+use crate::sight::Sight;
 use machine_shape::Meaning;
 use std::alloc::{AllocError, Global};
 

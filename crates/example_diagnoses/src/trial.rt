@@ -1,11 +1,11 @@
 //! A machine that is made, diagnosed and looked at.
 ghost use Rattle.std.specs.Prelude.{◌≡◌, IfSome};
 
-use crate::machines::calls::try_calls;
-use crate::machines::counts::{Size, draw_counts};
-use crate::machines::faults::{Kind, draw_faults};
-use crate::machines::looks::{covers, is_tight};
-use crate::machines::sight::{free_by_list, sight_of};
+use crate::calls::try_calls;
+use crate::counts::{Size, draw_counts};
+use crate::faults::{Kind, draw_faults};
+use crate::looks::{covers, is_tight};
+use crate::sight::{free_by_list, sight_of};
 use base_io::{File, MemoryStore};
 use base_random::Draws;
 use diag_machine::diagnose;

@@ -2,7 +2,7 @@
 ghost use Rattle.std.specs.Prelude.{◌<◌};
 ghost use Rattle.machine_shape.specs.Shape.{tables_of, wires_of};
 
-use crate::machines::flags::{Flags, Rows};
+use crate::flags::{Flags, Rows};
 use diag_evidence::Facts;
 use diag_known::{Known, VerifiedWire};
 use diag_sweep::DefectMarks;

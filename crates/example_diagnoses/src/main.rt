@@ -2,7 +2,8 @@
 //!
 //! What a list, a fact and a mark have to be is looked at in plain numbers, by what is said of them and not by how they come about.
 //! Each group of machines has faults of its own kinds; a line tells how many of it are right, and lines before it what is wrong with
-//! the others.
+//! the others. The word of the command line says how many machines a group has. The status is 0 where all of them are right.
+#![tactic(auto)]
 
 mod budget;
 mod calls;
@@ -24,13 +25,20 @@ mod shorts;
 mod sight;
 mod trial;
 
+use example_kit::verdict;
+use program_main::texts;
 use std::io;
+use std::process::ExitCode;
 
-/// Tries as many machines of each group as the last word says, and tells whether all are right and there are any.
-pub fn try_groups(rt: &HostRuntime, words: &[String]) -> io::Result<bool> {
+// Tries as many machines of each group as the last word says, and tells whether all are right and there are any.
+fn run(rt: &HostRuntime) -> io::Result<bool> {
     let mut many = 0u32;
-    'words: for word in words.iter() {
+    'words: for word in texts(rt)?.iter() {
         many = word.parse::<u32>().unwrap_or(0);
     }
     Ok(groups::try_all(rt, many)? && many > 0)
+}
+
+fn main(rt: HostRuntime) -> ExitCode {
+    verdict(run(&rt))
 }

@@ -3,8 +3,8 @@ ghost use Rattle.std.specs.Prelude.{◌≡◌, ◌<◌, All, IfOk, length};
 ghost use Rattle.machine_shape.specs.Shape.{tables_of};
 ghost use Rattle.diag_known.specs.Field.{IsFieldOf};
 
-use crate::machines::flags::{Flags, Parts};
-use crate::machines::picture::Marks;
+use crate::flags::{Flags, Parts};
+use crate::picture::Marks;
 use base_bits::BitSet;
 use base_random::Draws;
 use diag_known::Field;

@@ -1,8 +1,8 @@
 //! Whether what is kept and known is so.
 
-use crate::machines::flags::Flags;
-use crate::machines::picture::{KeptFacts, Picture};
-use crate::machines::sight::{Sight, WireSeen, all_hold};
+use crate::flags::Flags;
+use crate::picture::{KeptFacts, Picture};
+use crate::sight::{Sight, WireSeen, all_hold};
 use diag_known::{Support, SupportedBy, VerifiedWire};
 use machine_shape::Meaning;
 

@@ -1,10 +1,10 @@
 //! Whether a growth found all that it had to.
 
-use crate::machines::budget::keeps_table;
-use crate::machines::feet::on_two;
-use crate::machines::flags::{Flags, Parts};
-use crate::machines::picture::Picture;
-use crate::machines::sight::Sight;
+use crate::budget::keeps_table;
+use crate::feet::on_two;
+use crate::flags::{Flags, Parts};
+use crate::picture::Picture;
+use crate::sight::Sight;
 use machine_shape::Meaning;
 use std::alloc::{AllocError, Global};
 

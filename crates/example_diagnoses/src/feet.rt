@@ -1,6 +1,6 @@
 //! Which wires have crosspoints to two different ones of some wires.
 
-use crate::machines::flags::Flags;
+use crate::flags::Flags;
 use std::alloc::{AllocError, Global};
 
 // What a wire's crosspoints lead to: as yet none of the wires, one, or two different ones.

@@ -2,13 +2,13 @@
 ghost use Rattle.std.specs.Prelude.{◌≡◌, Some};
 ghost use Rattle.rig.specs.Rig.{shape_of};
 ghost use Rattle.diag_known.specs.Field.{IsFieldOf};
-ghost use Rattle.example_parts.specs.Stages.{IsStageOf};
+ghost use Rattle.example_diagnoses.specs.Stages.{IsStageOf};
 
-use crate::machines::budget::worth;
-use crate::machines::fields::Task;
-use crate::machines::flags::Parts;
-use crate::machines::judge::Judge;
-use crate::machines::picture::Stage;
+use crate::budget::worth;
+use crate::fields::Task;
+use crate::flags::Parts;
+use crate::judge::Judge;
+use crate::picture::Stage;
 use diag_sweep::{Choices, choose, sweep_with};
 use rig::Rig;
 

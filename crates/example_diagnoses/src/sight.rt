@@ -2,8 +2,8 @@
 ghost use Rattle.std.specs.Prelude.{◌≡◌, ◌<◌, IfOk};
 ghost use Rattle.machine_shape.specs.Shape.{tables_of};
 
-use crate::machines::flags::{Flags, Parts};
-use crate::machines::shorts::groups_of;
+use crate::flags::{Flags, Parts};
+use crate::shorts::groups_of;
 use machine_defects::Defects;
 use machine_faults::FaultSet;
 use machine_shape::{Cross, Meaning, Node, Shape, Table, Wire};

@@ -1,11 +1,11 @@
 //! What a diagnosis has of a machine, held against the machine.
 
-use crate::machines::closed::{free_by_facts, is_closed};
-use crate::machines::flags::Parts;
-use crate::machines::looks::is_tight;
-use crate::machines::picture::{Picture, Stage, picture_of};
-use crate::machines::sight::{Sight, free_nothing, sight_of};
-use crate::machines::{kept_facts, marks};
+use crate::closed::{free_by_facts, is_closed};
+use crate::flags::Parts;
+use crate::looks::is_tight;
+use crate::picture::{Picture, Stage, picture_of};
+use crate::sight::{Sight, free_nothing, sight_of};
+use crate::{kept_facts, marks};
 use machine_faults::FaultSet;
 use std::alloc::Global;
 

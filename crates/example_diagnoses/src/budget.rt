@@ -1,8 +1,8 @@
 //! How many loads calls may make.
 
-use crate::machines::flags::Parts;
-use crate::machines::picture::{KeptFacts, Picture};
-use crate::machines::sight::Sight;
+use crate::flags::Parts;
+use crate::picture::{KeptFacts, Picture};
+use crate::sight::Sight;
 use machine_shape::Meaning;
 
 // How many pins of the machine are looked at.

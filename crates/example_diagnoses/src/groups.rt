@@ -1,8 +1,8 @@
 //! The groups of machines.
 
-use crate::machines::counts::Size;
-use crate::machines::faults::Kind;
-use crate::machines::trial::{Group, try_number};
+use crate::counts::Size;
+use crate::faults::Kind;
+use crate::trial::{Group, try_number};
 use std::io;
 
 const fn group(name: &'static str, size: Size, kinds: [Kind; 8], most: u32) -> Group {

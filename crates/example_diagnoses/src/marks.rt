@@ -1,8 +1,8 @@
 //! Whether marks are true, and of what was to be looked at.
 
-use crate::machines::flags::Parts;
-use crate::machines::picture::{Knowing, Marks};
-use crate::machines::sight::{Sight, all_hold};
+use crate::flags::Parts;
+use crate::picture::{Knowing, Marks};
+use crate::sight::{Sight, all_hold};
 
 // A crosspoint that is marked stuck is.
 fn stuck_are_true(sight: &Sight, marks: &Marks) -> bool {

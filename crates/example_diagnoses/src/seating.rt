@@ -1,8 +1,8 @@
 //! Which tables are seated among free wires.
 
-use crate::machines::feet::on_two;
-use crate::machines::flags::Flags;
-use crate::machines::sight::{Sight, TableSeen};
+use crate::feet::on_two;
+use crate::flags::Flags;
+use crate::sight::{Sight, TableSeen};
 use machine_shape::{Meaning, Node};
 use std::alloc::{AllocError, Global};
 
