@@ -1,53 +1,21 @@
 //! The calls of a diagnosis one by one: what each leaves is held against the faults of the machine.
-ghost use Rattle.std.specs.Prelude.{◌≡◌, ◌<◌, All, Some, IfOk};
+ghost use Rattle.std.specs.Prelude.{◌≡◌, ◌<◌, All, Some};
 ghost use Rattle.rig.specs.Rig.{shape_of};
 ghost use Rattle.machine_shape.specs.Shape.{tables_of};
-ghost use Rattle.diag_known.specs.Vocabulary.{IsFieldOf, IsKnown};
-ghost use Rattle.diag_sweep.specs.Marks.{AreMarksFor};
+ghost use Rattle.diag_known.specs.Field.{IsFieldOf};
 ghost use Rattle.example_diagnoses.specs.Stages.{IsStageOf};
 
-use crate::budget::{most_of_growth, most_of_sweep, most_of_tables};
 use crate::choices::choose_once;
-use crate::fields::{Task, area_of, draw_part, unmarked, whole};
+use crate::fields::{Task, area_of, draw_part, whole};
 use crate::flags::Parts;
 use crate::judge::{Judge, judge_of};
 use crate::picture::{Picture, Stage};
+use crate::steps::{first_stage, grow_stage, sweep_stage, test_stage};
 use base_random::Draws;
-use diag_evidence::Facts;
-use diag_growth::{grow, test_tables};
-use diag_known::Known;
-use diag_sweep::{DefectMarks, sweep, without_bad};
 use machine_faults::FaultSet;
-use machine_shape::{Shape, Table};
+use machine_shape::Table;
 use rig::Rig;
 use std::alloc::Global;
-
-// What is kept, known and marked, of one machine.
-fn stage_of(shape: &Shape, facts: Facts, known: Known, bad: DefectMarks) -> Stage
-    requires shape { facts.shape ≡ shape.now }
-    requires known { IsKnown facts known }
-    requires marks { AreMarksFor shape.now bad }
-    ensures { IsStageOf shape.now result }
-{
-    let _shape = shape;
-    Stage { facts, known, bad }
-}
-
-// Nothing is kept, known or marked.
-fn first_stage(alloc: Global, shape: &Shape) -> Result<Stage, &'static str>
-    ensures { IfOk result (IsStageOf shape.now) }
-{
-    let Ok(facts) = Facts::new(alloc, *shape) else {
-        return Err("no memory");
-    };
-    let Ok(known) = Known::new(alloc, shape) else {
-        return Err("no memory");
-    };
-    let Ok(bad) = DefectMarks::none(alloc, shape) else {
-        return Err("no memory");
-    };
-    Ok(stage_of(shape, facts, known, bad))
-}
 
 // A sweep of a field and some tables.
 fn sweep_once(
@@ -65,24 +33,9 @@ fn sweep_once(
 {
     let before = judge.picture(stage)?;
     let loads = rig.loads();
-    let swept = sweep(
-        rig,
-        &mut stage.facts,
-        &mut stage.known,
-        &mut stage.bad,
-        &task.field,
-        &task.tables,
-    );
-    if swept.is_err() {
-        return Err("no sweep");
-    }
-    let after = judge.picture(stage)?;
-    judge.hold_in(area, &before, &after)?;
-    let most = most_of_sweep(&judge.sight, area, &before, &after);
-    if rig.loads().saturating_sub(loads) > most {
-        return Err("a sweep has too many loads");
-    }
-    Ok(())
+    sweep_stage(rig, stage, task)?;
+    let taken = rig.loads().saturating_sub(loads);
+    judge.hold_sweep(area, &before, stage, taken)
 }
 
 // A growth in what isn't marked of a field.
@@ -99,24 +52,11 @@ fn grow_once(
     ensures attached { shape_of (rig_state rig.new) ≡ Some stage.old.facts.shape }
     ensures stage { IsStageOf stage.old.facts.shape stage.new }
 {
-    let Ok(rest) = without_bad(judge.alloc, &stage.bad, &task.field) else {
-        return Err("no memory");
-    };
     let before = judge.picture(stage)?;
     let loads = rig.loads();
-    if grow(rig, &mut stage.facts, &mut stage.known, &rest).is_err() {
-        return Err("no growth");
-    }
-    let after = judge.picture(stage)?;
-    judge.hold_in(area, &before, &after)?;
-    let looked_at = unmarked(judge.alloc, area, &before.marks)
-        .ok()
-        .ok_or("no memory")?;
-    let most = most_of_growth(&judge.sight, &looked_at, &before, judge.faults);
-    if rig.loads().saturating_sub(loads) > most {
-        return Err("a growth has too many loads");
-    }
-    judge.closed(area, &after)
+    grow_stage(judge.alloc, rig, stage, task)?;
+    let taken = rig.loads().saturating_sub(loads);
+    judge.hold_growth(area, &before, stage, taken)
 }
 
 // The tests of these tables.
@@ -132,15 +72,9 @@ fn test_once(
 {
     let before = judge.picture(stage)?;
     let loads = rig.loads();
-    if test_tables(rig, &mut stage.facts, &stage.known, tables).is_err() {
-        return Err("no tests of tables");
-    }
-    let after = judge.picture(stage)?;
-    judge.hold(&before, &after)?;
-    if rig.loads().saturating_sub(loads) > most_of_tables(&before) {
-        return Err("tables have too many loads");
-    }
-    Ok(after)
+    test_stage(rig, stage, tables)?;
+    let taken = rig.loads().saturating_sub(loads);
+    judge.hold_tables(&before, stage, taken)
 }
 
 // A sweep, a choice and a growth behind them.

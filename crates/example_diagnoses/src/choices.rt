@@ -9,7 +9,8 @@ use crate::fields::Task;
 use crate::flags::Parts;
 use crate::judge::Judge;
 use crate::picture::Stage;
-use diag_sweep::{Choices, choose, sweep_with};
+use crate::steps::{choices_of, choose_stage, sweep_chosen};
+use diag_sweep::Choices;
 use rig::Rig;
 
 // The choice. It spends of what is left, and of two loads for each crosspoint that it decides.
@@ -29,23 +30,10 @@ fn choose_now(
 {
     let before = judge.picture(stage)?;
     let most = worth(area, &before, rig.loads(), choices.left);
-    let chosen = choose(
-        rig,
-        &mut stage.facts,
-        &mut stage.known,
-        &mut stage.bad,
-        &task.field,
-        choices,
-    );
-    if chosen.is_err() {
-        return Err("no choice");
-    }
+    choose_stage(rig, stage, task, choices)?;
     let after = judge.picture(stage)?;
-    judge.hold_less(&before, &after)?;
-    if worth(area, &after, rig.loads(), choices.left) > most {
-        return Err("a choice has too many loads");
-    }
-    Ok(())
+    let paid = worth(area, &after, rig.loads(), choices.left) <= most;
+    judge.hold_choice(&before, &after, paid)
 }
 
 // The sweep behind it, which spends likewise.
@@ -65,23 +53,10 @@ fn sweep_again(
 {
     let before = judge.picture(stage)?;
     let most = worth(area, &before, rig.loads(), choices.left);
-    let swept = sweep_with(
-        rig,
-        &mut stage.facts,
-        &mut stage.known,
-        &mut stage.bad,
-        &task.field,
-        choices,
-    );
-    if swept.is_err() {
-        return Err("no sweep behind a choice");
-    }
+    sweep_chosen(rig, stage, task, choices)?;
     let after = judge.picture(stage)?;
-    judge.hold_in(area, &before, &after)?;
-    if worth(area, &after, rig.loads(), choices.left) > most {
-        return Err("a sweep behind a choice has too many loads");
-    }
-    Ok(())
+    let paid = worth(area, &after, rig.loads(), choices.left) <= most;
+    judge.hold_chosen(area, &before, &after, paid)
 }
 
 /// Chooses once which of shorted wires stay, with the loads that unfit wires are worth, and sweeps behind that.
@@ -102,16 +77,7 @@ pub fn choose_once(
     ensures attached { shape_of (rig_state rig.new) ≡ Some stage.old.facts.shape }
     ensures stage { IsStageOf stage.old.facts.shape stage.new }
 {
-    let Ok(mut choices) = Choices::new(
-        &stage.facts,
-        &stage.known,
-        &stage.bad,
-        &task.field,
-        &task.tables,
-    ) else {
-        return Err("no memory");
-    };
-    choices.pay_for(&stage.bad.unfit);
+    let mut choices = choices_of(stage, task)?;
     choose_now(rig, stage, judge, task, area, &mut choices)?;
     sweep_again(rig, stage, judge, task, area, &mut choices)
 }

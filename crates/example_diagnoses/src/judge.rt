@@ -1,6 +1,8 @@
 //! What a diagnosis has of a machine, held against the machine.
 
+use crate::budget::{most_of_growth, most_of_sweep, most_of_tables};
 use crate::closed::{free_by_facts, is_closed};
+use crate::fields::unmarked;
 use crate::flags::Parts;
 use crate::looks::is_tight;
 use crate::picture::{Picture, Stage, picture_of};
@@ -33,8 +35,8 @@ impl Judge {
         Ok(())
     }
 
-    /// All is true, and what was kept, known and marked still is.
-    pub fn hold(&self, before: &Picture, after: &Picture) -> Result<(), &'static str> {
+    // All is true, and what was kept, known and marked still is.
+    fn hold(&self, before: &Picture, after: &Picture) -> Result<(), &'static str> {
         self.is_true(after)?;
         let kept_facts = kept_facts::still_are(&before.kept, &after.kept);
         if !kept_facts || !before.known.wires.stays(&after.known.wires) {
@@ -46,8 +48,8 @@ impl Judge {
         Ok(())
     }
 
-    /// All is true, and what was kept and marked still is, but for unfit wires; what is known was.
-    pub fn hold_less(&self, before: &Picture, after: &Picture) -> Result<(), &'static str> {
+    // All is true, and what was kept and marked still is, but for unfit wires; what is known was.
+    fn hold_less(&self, before: &Picture, after: &Picture) -> Result<(), &'static str> {
         self.is_true(after)?;
         if !kept_facts::still_are(&before.kept, &after.kept) {
             return Err("a choice forgot a fact");
@@ -61,13 +63,8 @@ impl Judge {
         Ok(())
     }
 
-    /// .. and what is new is of the area.
-    pub fn hold_in(
-        &self,
-        area: &Parts,
-        before: &Picture,
-        after: &Picture,
-    ) -> Result<(), &'static str> {
+    // .. and what is new is of the area.
+    fn hold_in(&self, area: &Parts, before: &Picture, after: &Picture) -> Result<(), &'static str> {
         self.hold(before, after)?;
         if !before.known.wires.grows_in(&after.known.wires, &area.wires) {
             return Err("a wire is known that wasn't looked at");
@@ -78,8 +75,87 @@ impl Judge {
         Ok(())
     }
 
-    /// What is known is closed in the area.
-    pub fn closed(&self, area: &Parts, picture: &Picture) -> Result<(), &'static str> {
+    /// What a sweep of the area leaves is true, new in the area alone, and worth its loads.
+    pub fn hold_sweep(
+        &self,
+        area: &Parts,
+        before: &Picture,
+        stage: &Stage,
+        loads: u64,
+    ) -> Result<(), &'static str> {
+        let after = self.picture(stage)?;
+        self.hold_in(area, before, &after)?;
+        if loads > most_of_sweep(&self.sight, area, before, &after) {
+            return Err("a sweep has too many loads");
+        }
+        Ok(())
+    }
+
+    /// What a growth in the area leaves is true, new in the area alone, worth its loads, and closed.
+    pub fn hold_growth(
+        &self,
+        area: &Parts,
+        before: &Picture,
+        stage: &Stage,
+        loads: u64,
+    ) -> Result<(), &'static str> {
+        let after = self.picture(stage)?;
+        self.hold_in(area, before, &after)?;
+        let looked_at = unmarked(self.alloc, area, &before.marks)
+            .ok()
+            .ok_or("no memory")?;
+        if loads > most_of_growth(&self.sight, &looked_at, before, self.faults) {
+            return Err("a growth has too many loads");
+        }
+        self.closed(area, &after)
+    }
+
+    /// What a choice leaves is true, and it paid for its loads.
+    pub fn hold_choice(
+        &self,
+        before: &Picture,
+        after: &Picture,
+        paid: bool,
+    ) -> Result<(), &'static str> {
+        self.hold_less(before, after)?;
+        if !paid {
+            return Err("a choice has too many loads");
+        }
+        Ok(())
+    }
+
+    /// What the sweep of the area behind a choice leaves is true, new in the area alone, and it paid for its loads.
+    pub fn hold_chosen(
+        &self,
+        area: &Parts,
+        before: &Picture,
+        after: &Picture,
+        paid: bool,
+    ) -> Result<(), &'static str> {
+        self.hold_in(area, before, after)?;
+        if !paid {
+            return Err("a sweep behind a choice has too many loads");
+        }
+        Ok(())
+    }
+
+    /// What tests of tables leave is true and worth their loads.
+    pub fn hold_tables(
+        &self,
+        before: &Picture,
+        stage: &Stage,
+        loads: u64,
+    ) -> Result<Picture, &'static str> {
+        let after = self.picture(stage)?;
+        self.hold(before, &after)?;
+        if loads > most_of_tables(before) {
+            return Err("tables have too many loads");
+        }
+        Ok(after)
+    }
+
+    // What is known is closed in the area.
+    fn closed(&self, area: &Parts, picture: &Picture) -> Result<(), &'static str> {
         match is_closed(self.alloc, &self.sight, area, picture) {
             Ok(true) => Ok(()),
             Ok(false) => Err("a growth left something out"),

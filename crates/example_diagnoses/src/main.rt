@@ -23,6 +23,7 @@ mod picture;
 mod seating;
 mod shorts;
 mod sight;
+mod steps;
 mod trial;
 
 use example_kit::verdict;

@@ -1,5 +1,6 @@
 //! A machine that is made, diagnosed and looked at.
-ghost use Rattle.std.specs.Prelude.{◌≡◌, IfSome};
+ghost use Rattle.std.specs.Prelude.{◌≡◌, Some};
+ghost use Rattle.rig.specs.Rig.{shape_of};
 
 use crate::calls::try_calls;
 use crate::counts::{Size, draw_counts};
@@ -70,25 +71,36 @@ fn look_at(
     Ok(())
 }
 
-// Diagnoses a machine with these faults as a whole and call by call, and looks at what comes.
-fn try_machine(
+// The list of the machine that is attached.
+fn list_of(alloc: Global, rig: &mut Box<dyn Rig>, shape: &Shape) -> Result<Defects, &'static str>
+    requires attached { shape_of (rig_state rig.old) ≡ Some shape.now }
+    ensures attached { shape_of (rig_state rig.new) ≡ Some shape.now }
+{
+    diagnose(alloc, rig, shape).ok().ok_or("no list")
+}
+
+// Diagnoses the machine that is attached as a whole and call by call, and looks at what comes.
+fn try_attached(
     alloc: Global,
+    rig: &mut Box<dyn Rig>,
     draws: &mut Draws,
-    shape: &Shape,
     faults: &FaultSet,
 ) -> Result<(), &'static str>
-    requires { faults.now.shape ≡ shape.now }
+    requires attached { shape_of (rig_state rig.old) ≡ Some faults.now.shape }
 {
+    let list = list_of(alloc, rig, &faults.shape())?;
+    look_at(alloc, faults, &list, rig.loads())?;
+    try_calls(alloc, rig, draws, faults)
+}
+
+// Attaches a machine with these faults, and tries it.
+fn try_machine(alloc: Global, draws: &mut Draws, faults: &FaultSet) -> Result<(), &'static str> {
     let store = rig_with(alloc, faults).ok_or("no rig")?;
     let mut rig: Box<dyn Rig> = Box::new(alloc, store).ok().ok_or("no rig")?;
-    if rig.attach(shape, "m").is_err() {
+    if rig.attach(&faults.shape(), "m").is_err() {
         return Err("no machine");
     }
-    let Ok(list) = diagnose(alloc, &mut rig, shape) else {
-        return Err("no list");
-    };
-    look_at(alloc, faults, &list, rig.loads())?;
-    try_calls(alloc, &mut rig, draws, faults)
+    try_attached(alloc, &mut rig, draws, faults)
 }
 
 /// Makes the machine of a number in a group, and tries it.
@@ -104,5 +116,5 @@ pub fn try_number(alloc: Global, group: &Group, number: u32) -> Result<(), &'sta
     let faults = draw_faults(alloc, &mut draws, &shape, &group.kinds, group.most)
         .ok()
         .ok_or("no faults")?;
-    try_machine(alloc, &mut draws, &shape, &faults)
+    try_machine(alloc, &mut draws, &faults)
 }
