@@ -65,6 +65,9 @@ class Texts(unittest.TestCase):
     def test_most_loads(self):
         self.assertEqual(TINY.most_loads, 2 * 168 + 3 * 46 + 130 * 2)
         self.assertEqual(len(SMALL.crosses), 9792)
+        for machine in (TINY, SMALL):
+            parts = len(machine.crosses), len(machine.wires), len(machine.tables)
+            self.assertEqual(machine.most_loads, 2 * parts[0] + 3 * parts[1] + 130 * parts[2])
 
     def test_wrong_machines(self):
         text = (EXAMPLES / "tiny.machine").read_text()
