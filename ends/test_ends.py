@@ -249,8 +249,18 @@ class Programs(unittest.TestCase):
         (self.folder / "machine").write_text(machine)
         (self.folder / "faults").write_text(faults)
         words = [kind, self.folder / "machine", self.folder / "faults", "-o", self.folder / kind]
+        if kind == "device":
+            return self.make_by_icarus(words)
         subprocess.run([sys.executable, HERE / "make.py", *words], check=True, stdout=subprocess.DEVNULL)
         return Process(self.folder / kind / "end")
+
+    def make_by_icarus(self, words):
+        """The synthesizable device: Icarus takes a moment to make it, and Verilator a minute."""
+        subprocess.run([sys.executable, HERE / "make.py", *words, "--sources"], check=True)
+        sources = [self.folder / "device" / "machine.v", HERE / "verilog" / "device.v", HERE / "verilog" / "device_test.v"]
+        program = self.folder / "device" / "end.vvp"
+        subprocess.run(["iverilog", "-g2012", "-o", program, "-s", "device_test", *sources], check=True)
+        return Process("vvp", "-n", program)
 
     def check(self, kind):
         text = (EXAMPLES / "tiny.machine").read_text()
@@ -293,6 +303,10 @@ class Programs(unittest.TestCase):
     @unittest.skipUnless(shutil.which("iverilog"), "no Icarus")
     def test_switch(self):
         self.check("switch")
+
+    @unittest.skipUnless(shutil.which("iverilog"), "no Icarus")
+    def test_device(self):
+        self.check("device")
 
     def test_refused_texts(self):
         words = [sys.executable, HERE / "make.py", "c", EXAMPLES / "tiny.faults", "-o", self.folder]

@@ -33,7 +33,7 @@ def open_to(name, limit):
             if error.errno != errno.ENXIO:
                 raise Cut(f"{name} can't be opened: {why(error)}") from None
         if time.monotonic() > end:
-            raise Cut(f"nobody opened {name} for reading within {limit:g} s: is the end started, and opens it this file first?")
+            raise Cut(f"nobody opened {name} for reading within {limit:g} s: is the end started, and does it open this file first?")
         time.sleep(PAUSE)
 
 
