@@ -277,8 +277,8 @@ def is_spoilt(reply):
 
 # What an end makes of a reply, and the cause in words.
 SPOILT = {
-    "silent": (lambda end, line, reply: b"", "nothing came for 0.5 s"),
-    "half": (lambda end, line, reply: reply[:2], "no line's end for 0.5 s"),
+    "silent": (lambda end, line, reply: b"", "nothing came for 1 s"),
+    "half": (lambda end, line, reply: reply[:2], "no line's end for 1 s"),
     "changed": (lambda end, line, reply: b"=e" + reply[2:], "wrong sum"),
     "refused": (lambda end, line, reply: b"!hot\n", "the port refused it: `!hot`"),
     "echoed": (lambda end, line, reply: line + b"\n", "echo"),
@@ -300,24 +300,24 @@ class Spoilt(Relayed):
         for name, (change, cause) in SPOILT.items():
             with self.subTest(name):
                 _, port = self.spoilt_end(once(20, change))
-                self.assert_failed(self.run_relay(port, "--again", 0, "--limit", 0.5), cause)
+                self.assert_failed(self.run_relay(port, "--again", 0, "--limit", 1), cause)
 
     def test_asked_again(self):
         for name, (change, cause) in SPOILT.items():
             with self.subTest(name):
                 end, port = self.spoilt_end(once(20, change))
-                self.assertIn(cause, self.assert_right(self.run_relay(port, "--log", self.log, "--limit", 0.5)))
+                self.assertIn(cause, self.assert_right(self.run_relay(port, "--log", self.log, "--limit", 1)))
                 self.assertEqual(self.log.read_bytes(), right()[1])
                 self.assertIn(b"a*61", end.asked[20:23])
                 self.log.unlink()
 
     def test_a_late_reply(self):
         def late(end, line, reply):
-            time.sleep(0.6)
+            time.sleep(1.1)
             return reply
 
         _, port = self.spoilt_end(once(20, late))
-        self.assert_right(self.run_relay(port, "--limit", 0.5))
+        self.assert_right(self.run_relay(port, "--limit", 1))
 
     def test_a_device_that_was_reset(self):
         def reset(end, line, reply):
@@ -330,7 +330,7 @@ class Spoilt(Relayed):
 
     def test_attaching_is_asked_again(self):
         _, port = self.spoilt_end(once(1, lambda end, line, reply: b""))
-        self.assert_right(self.run_relay(port, "--limit", 0.5))
+        self.assert_right(self.run_relay(port, "--limit", 1))
 
     def test_another_version(self):
         _, port = self.spoilt_end(lambda end, line, reply: with_sum(b"=2 1 " + reply[3:].partition(b"*")[0]))
@@ -350,7 +350,7 @@ class Spoilt(Relayed):
 
         spoil = once(20, lambda end, line, reply: b"")
         _, port = self.spoilt_end(lambda end, line, reply: turned(end, line, spoil(end, line, reply)))
-        self.assert_failed(self.run_relay(port, "--limit", 0.5), "reads otherwise than before")
+        self.assert_failed(self.run_relay(port, "--limit", 1), "reads otherwise than before")
 
     def test_a_reply_too_many_at_the_end(self):
         last = right()[1].count(b"\n") // 2
