@@ -32,6 +32,13 @@ FAILED = 4  # the status of a port that failed
 LOOK = 0.2  # seconds between looks whether a command has ended that never opened its port
 
 
+class Shifted(Cut):
+    """A reply too many came. So one was taken for that of another request, and nobody knows since when."""
+
+    def __init__(self, came):
+        super().__init__(f"{len(came)} bytes came that nobody had asked for, so replies may belong to other requests: don't trust them")
+
+
 class Tool:
     """The command, run over two FIFOs: its requests, and its status."""
 
@@ -157,6 +164,8 @@ class Relay:
                 reply = self._ask(request)
                 self._log.add(request, reply)
                 return reply
+            except Shifted:
+                raise
             except Cut as cut:
                 cause = str(cut)
                 self.failures += 1
@@ -166,7 +175,7 @@ class Relay:
 
     def _ask(self, request):
         if came := self._way.unasked():
-            raise Cut(f"{len(came)} bytes came that nobody had asked for")
+            raise Shifted(came)
         self._way.send(request)
         reply = self._way.line()
         if found := wrong_reply(request, reply, self._session.pins):
@@ -193,7 +202,6 @@ class Relay:
             self._way = None
 
     def end(self):
-        """Whether nothing came at the end that nobody asked for."""
         self._progress.show(self._bytes(), "\n", 0)
         if self.failures:
             self._progress.say(f"failures of the port: {self.failures}")
@@ -204,8 +212,7 @@ class Relay:
             except Cut:
                 pass  # it ended, and owes nothing
         if came:
-            self._progress.say(f"{len(came)} bytes came that nobody had asked for, so replies may belong to other requests: don't trust them")
-        return not came
+            raise Shifted(came)
 
 
 def words():
@@ -235,7 +242,11 @@ def run(given, progress, folder):
         serve(tool, relay)
         tool.close()
         status = tool.end()
-        return status if relay.end() or status else FAILED
+        relay.end()
+        return status
+    except Shifted:
+        log.put_aside()
+        raise
     finally:
         tool.kill()
 

@@ -144,10 +144,18 @@ class Log:
             pair = pair[os.write(self._file, pair) :]
 
 
+    def put_aside(self):
+        """Gives it another name, for nothing may go on from it."""
+        os.rename(self._name, f"{self._name}.shifted")
+
+
 class NoLog:
     """In the place of a log, where none is wanted."""
 
     pairs = ()
 
     def add(self, request, reply):
+        pass
+
+    def put_aside(self):
         pass

@@ -289,7 +289,6 @@ SPOILT = {
     "beyond the pins": (lambda end, line, reply: is_spoilt(reply), "isn't what 4 pins read"),
     "capital": (lambda end, line, reply: with_sum(b"=0F" + b" 0F" * reply.count(b" ")), "isn't what 4 pins read"),
     "garbage": (lambda end, line, reply: b"\xff\0\n", "wrong sum"),
-    "doubled": (lambda end, line, reply: reply + reply, "bytes came that nobody had asked for"),
 }
 
 
@@ -352,10 +351,24 @@ class Spoilt(Relayed):
         _, port = self.spoilt_end(lambda end, line, reply: turned(end, line, spoil(end, line, reply)))
         self.assert_failed(self.run_relay(port, "--limit", 1), "reads otherwise than before")
 
-    def test_a_reply_too_many_at_the_end(self):
+    def test_a_reply_too_many(self):
+        """Nobody knows which replies belong to their requests then, so nothing goes on from the log."""
         last = right()[1].count(b"\n") // 2
-        _, port = self.spoilt_end(once(last, lambda end, line, reply: reply + reply))
-        self.assert_failed(self.run_relay(port), "don't trust them")
+        for number in (1, 20, last):
+            _, port = self.spoilt_end(once(number, lambda end, line, reply: reply + reply))
+            self.assert_failed(self.run_relay(port, "--log", self.log), "bytes came that nobody had asked for")
+            self.assertFalse(self.log.exists())
+            self.assertTrue(right()[1].startswith((self.folder / "log.shifted").read_bytes()[:40]))
+
+    def test_replies_that_come_one_request_late(self):
+        last, held = right()[1].count(b"\n") // 2, [b""]
+
+        def late(end, line, reply):
+            before, held[0] = held[0], reply
+            return reply if len(end.asked) <= 20 else before + reply if len(end.asked) == last else before
+
+        _, port = self.spoilt_end(late)
+        self.assertEqual(self.run_relay(port, "--limit", 1)[2], STATUS_OF_PORT)
 
     def test_nobody_there(self):
         self.assert_failed(self.run_relay(self.fifos(), "--limit", 0.2, "--again", 0), "nobody opened")
