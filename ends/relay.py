@@ -39,6 +39,19 @@ class Shifted(Cut):
         super().__init__(f"{len(came)} bytes came that nobody had asked for, so replies may belong to other requests: don't trust them")
 
 
+def begin(words):
+    """Begins a command. A signal to end that comes meanwhile ends both: at once it would leave the command alone."""
+    came = []
+    before = signal.signal(signal.SIGTERM, lambda *_: came.append(True))
+    process = subprocess.Popen(words)
+    signal.signal(signal.SIGTERM, before)
+    if came:
+        process.kill()
+        process.wait()
+        sys.exit(128 + signal.SIGTERM)
+    return process
+
+
 class Tool:
     """The command, run over two FIFOs: its requests, and its status."""
 
@@ -49,7 +62,7 @@ class Tool:
         self._requests = os.open(to, os.O_RDONLY | os.O_NONBLOCK)
         self._replies = os.open(back, os.O_RDWR)  # opened both ways it waits for nobody, and the command's end shows at the other
         name = f"{to},{back}"
-        self._process = subprocess.Popen([re.sub("^([2-9]x)?PORT$", rf"\g<1>{name}", word) for word in words])
+        self._process = begin([re.sub("^([2-9]x)?PORT$", rf"\g<1>{name}", word) for word in words])
 
     def requests(self):
         """Each request, a whole line, until the command closes its port or ends."""
