@@ -97,13 +97,16 @@ def names_of(paths):
 class Study:
     """The trials of some settings by their names."""
 
-    def __init__(self, path, program=None, folder=None):
+    def __init__(self, path, program=None, folder=None, seeds=None):
         self.given = path = path if os.path.isfile(path) else os.path.join(HERE, path + ".yaml")
         try:
             self.settings = yaml.safe_load(Path(path).read_text(encoding="utf-8"))
         except (OSError, yaml.YAMLError) as error:
             sys.exit(f"{path}: {error}")
         self.complain(path)
+        self.fewer = f"seeds: {seeds}" if seeds else ""
+        if seeds:
+            self.settings["seeds"] = seeds
         get = self.settings.get
         self.folder = folder or self.settings["folder"]
         self.program = from_here(program or get("program", DEFAULT))
@@ -281,7 +284,8 @@ class Study:
             whole = os.path.abspath(path)
             inside = what != "program" and Path(whole).is_relative_to(top)
             name = os.path.relpath(whole, top) if inside else os.path.basename(whole)
-            yield what, name, sum_of(path), "unproved" if what == "program" and name.endswith("-unproved") else ""
+            unproved = "unproved" if what == "program" and name.endswith("-unproved") else ""
+            yield what, name, sum_of(path), self.fewer if what == "settings" else unproved
 
     def table(self):
         """Writes the rows of all trials into one table, and beside it the sums of what they are of and its own; gives its path."""
@@ -304,6 +308,7 @@ def main():
     parser = argparse.ArgumentParser(prog="python3 -m studies", description=__doc__, formatter_class=argparse.RawDescriptionHelpFormatter)
     parser.add_argument("settings", help="a file of settings, or " + ", ".join(sorted(path.stem for path in Path(HERE).glob("*.yaml"))))
     parser.add_argument("--folder", help="where the results go (default: as the settings say, from here)")
+    parser.add_argument("--seeds", type=int, help="how many sets of faults at each rate (default: as the settings say)")
     parser.add_argument("--jobs", type=int, default=os.cpu_count(), help="how many trials at a time (default: %(default)s)")
     parser.add_argument("--print", action="store_true", help="run nothing; write a command for each trial to run, as for GNU parallel")
     add_program(parser)
@@ -311,7 +316,9 @@ def main():
     args = parser.parse_args()
     if not args.print and find_spec("matplotlib") is None:
         sys.exit("figures want matplotlib, which this python3 hasn't (studies/setup --lean installs it); nothing was run")
-    study = Study(args.settings, args.program, args.folder)
+    if args.seeds is not None and args.seeds < 1:
+        sys.exit("--seeds: at least 1")
+    study = Study(args.settings, args.program, args.folder, args.seeds)
     if args.print:
         print("".join(shlex.join(["python3", *study.command(name)]) + "\n" for name in study.due()), end="")
         return

@@ -354,6 +354,13 @@ class Runs(unittest.TestCase):
         without, those = [[name for rate, name in turns if (rate == "0.0") == sound] for sound in (True, False)]
         self.assertEqual((without, those), ([f"fill10.{k}" for k in (1, 2, 3)], [f"fill10.{k}" for k in (1, 2, 3, 1)]))
 
+    def test_fewer_seeds_than_the_settings_say(self):
+        self.write(rates='["0.02"]', seeds="7")
+        self.assertEqual(len(Study(str(self.settings), DEFAULT, None, 2).trials), 2)
+        made = [row for row in Study(str(self.settings), DEFAULT, None, 2).made_by() if row[0] == "settings"]
+        self.assertEqual([row[3] for row in made], ["seeds: 2"])
+        self.assertIn("--seeds: at least 1", run("__main__.py", str(self.settings), "--seeds", "0", "--print").stderr)
+
     def test_spare_lines_alone(self):
         lines = self.settings.read_text().replace(f"machines: [{self.folder}/tiny.machine]\n", "")
         self.settings.write_text(lines + 'spares: [0.0, 0.5]\nspared: [all, lines]\n')
