@@ -93,7 +93,8 @@ def paired(rows, one, other):
     right = {}
     for row in rows:
         if row["list"] in (one, other) and row["status"] not in UNDECIDED:
-            right.setdefault((row["machine"], row["seed"]), {})[row["list"]] = row["status"] == "0"
+            run = tuple(row[column] for column in ("machine", "kind", "rate", "seed", "variant"))
+            right.setdefault(run, {})[row["list"]] = row["status"] == "0"
     found = Counter((those[one], those[other]) for those in right.values() if len(those) == 2)
     return [found[True, True], found[True, False], found[False, True], found[False, False]]
 

@@ -97,6 +97,7 @@ class Made(unittest.TestCase):
             ("list=diagnosed rate>=0.1", "share loads_sweep/loads", "0.2"),
             ("list=diagnosed", "mean loads by rate", "10 .. 25"),
             ("rate=0.1 spare=0.0", "pairs diagnosed exact", "both 0, first alone 2, second alone 0, none 0; p = 0.5"),
+            ("spare=0.0", "pairs diagnosed exact", "both 0, first alone 4, second alone 0, none 0; p = 0.12"),
             ("rate=0.1", "short", "lines of chips 2"),
             ("rate<=0.1", "values machine", "m n"),
             ("rate=0.1", "sets", "1"),
