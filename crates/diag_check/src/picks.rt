@@ -6,7 +6,7 @@ ghost use Rattle.diag_check.specs.Picked.{ArePicked, ArePickedUpTo, IsAmong, IsO
 
 use crate::marks::Parts;
 use base_bits::BitSet;
-use machine_shape::{Node, Shape, Wire, ports_and_lines_ascend, the_numbering_is_sound};
+use machine_shape::{Node, Pin, Shape, Wire, ports_and_lines_ascend, the_numbering_is_sound};
 use std::alloc::{AllocError, Global};
 
 /// A side of a node's crossbar: its own ports, for which the root has the pins of the machine, or its lines.
@@ -58,7 +58,7 @@ fn wire_at(shape: &Shape, side: Side, node: Node, k: u32) -> Wire
         Side::Lines => shape.line(node, k),
         Side::Own => {
             if node.0 == 0 {
-                shape.pin(k)
+                shape.pin(Pin(k))
             } else {
                 shape.port(node, k)
             }

@@ -7,7 +7,7 @@ ghost use Rattle.diag_check.specs.Used.{AreUsed};
 
 use base_bits::BitSet;
 use machine_image::Image;
-use machine_shape::{Cross, Shape, Table, the_numbering_is_sound};
+use machine_shape::{Cross, Pin, Shape, Table, the_numbering_is_sound};
 use std::alloc::{AllocError, Global};
 
 // Marks these pins of the machine.
@@ -17,7 +17,7 @@ fn mark_pins(used: &mut BitSet, shape: &Shape, pins: &[u32])
     ensures { Adds (IsPinAmong shape.now pins.now (length pins.now)) used.old used.new }
 {
     'pins: for i in 0..pins.len() {
-        used.insert(shape.pin(pins[i]).0);
+        used.insert(shape.pin(Pin(pins[i])).0);
     }
 }
 

@@ -7,7 +7,7 @@ ghost use Rattle.diag_tests.specs.Vocabulary.{IsLoopConfig, IsCellConfig, IsRout
 use crate::Facts;
 use diag_tests::{Route, close_loop};
 use machine_config::{Config, Setting};
-use machine_shape::{Cross, Table};
+use machine_shape::{Cross, Pin, Table};
 use rig::PinBits;
 use std::alloc::AllocError;
 
@@ -95,7 +95,7 @@ impl Facts {
         ensures same { self.new ≡ self.old }
     {
         let mut drive = self.released()?;
-        drive.set(pin, false);
+        drive.set(Pin(pin), false);
         Ok(drive)
     }
 

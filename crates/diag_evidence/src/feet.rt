@@ -7,7 +7,7 @@ ghost use Rattle.diag_evidence.specs.Hangs.{IsFoot, HasMarked, pin_at, others_pa
 
 use crate::{Forest, Looks};
 use base_bits::BitSet;
-use machine_shape::{Cross, Shape, Wire};
+use machine_shape::{Cross, Pin, Shape, Wire};
 
 // The end of the crosspoint of a foot that isn't its wire.
 fn far_end(shape: Shape, foot: (Wire, Cross)) -> Wire
@@ -63,7 +63,7 @@ fn falls_with_others(forest: &Forest, reads: &Looks, pin: u32) -> bool
         if k == pin {
             continue;
         }
-        if forest.pin_of(shape.pin(k)).is_none() {
+        if forest.pin_of(shape.pin(Pin(k))).is_none() {
             continue;
         }
         if !reads.read_under(k, pin) {

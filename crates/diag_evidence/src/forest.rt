@@ -4,7 +4,7 @@ ghost use Rattle.machine_shape.specs.Shape.{Ends, ends_of, pin_wire, crosses_of,
 ghost use Rattle.diag_evidence.specs.Forests.{IsForest, KeepsForest, CanLay, bare, with_planted, with_laid, pin_of, is_hung};
 
 use crate::Facts;
-use machine_shape::{Cross, Shape, Wire, the_numbering_is_sound};
+use machine_shape::{Cross, Pin, Shape, Wire, the_numbering_is_sound};
 use std::alloc::{AllocError, Global};
 use std::marker::Model;
 
@@ -30,7 +30,7 @@ fn last_pin(shape: Shape) -> u32
 {
     let mut last = 0;
     'pins: for k in 0..shape.pins() {
-        let wire = shape.pin(k);
+        let wire = shape.pin(Pin(k));
         if last < wire.0 {
             last = wire.0;
         }
@@ -49,7 +49,7 @@ fn is_pin(shape: Shape, last: u32, w: Wire) -> bool
         return false;
     }
     'pins: for k in 0..shape.pins() {
-        if shape.pin(k).0 == w.0 {
+        if shape.pin(Pin(k)).0 == w.0 {
             return true;
         }
     }
@@ -114,7 +114,7 @@ impl Forest {
         ensures same { is_hung self.old (pin_wire self.old.shape pin) ≡ true → self.new ≡ self.old }
     {
         the_numbering_is_sound();
-        let wire = self.shape.pin(pin);
+        let wire = self.shape.pin(Pin(pin));
         self.pins[wire.0 as usize] = Some(pin);
     }
 

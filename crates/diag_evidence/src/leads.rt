@@ -16,7 +16,7 @@ use crate::readings::read_all;
 use base_bits::BitSet;
 use diag_tests::Route;
 use machine_config::Config;
-use machine_shape::Cross;
+use machine_shape::{Cross, Pin};
 use rig::{PinBits, Rig, RigFail};
 
 /// A walk from a pin of the machine to another: a route, and the pin at which it ends.
@@ -59,7 +59,7 @@ impl Facts {
     {
         'leads: for k in 0..leads.len() {
             let lead = &leads[k];
-            if !read.get(lead.to) {
+            if !read.get(Pin(lead.to)) {
                 continue;
             }
             if let Some(cross) = self.only_unkept(&lead.route) {
@@ -86,7 +86,7 @@ impl Facts {
     {
         'leads: for k in 0..leads.len() {
             let lead = &leads[k];
-            if !read.get(lead.to) {
+            if !read.get(Pin(lead.to)) {
                 self.keep_crosses(&lead.route);
             }
         }

@@ -7,7 +7,7 @@ ghost use Rattle.diag_evidence.specs.Looks.{AreSights, ReadsEach, look_drives, r
 
 use crate::readings::read_rows;
 use machine_config::Config;
-use machine_shape::Shape;
+use machine_shape::{Pin, Shape};
 use rig::{PinBits, Rig, RigFail};
 use std::alloc::{AllocError, Global};
 use std::marker::Model;
@@ -20,7 +20,7 @@ pub(crate) fn look_drives(alloc: Global, pins: u32) -> Result<Vec<PinBits>, Allo
     drives.push(PinBits::new(alloc, pins)?)?;
     'pins: for k in 0..pins {
         let mut drive = PinBits::new(alloc, pins)?;
-        drive.set(k, false);
+        drive.set(Pin(k), false);
         drives.push(drive)?;
     }
     Ok(drives)
@@ -45,7 +45,7 @@ fn reads_bit(rows: &[PinBits], pin: u32, bit: bool) -> bool
     ensures { result ≡ reads_somewhere rows.now pin bit }
 {
     'rows: for k in 0..rows.len() {
-        if rows[k].get(pin) == bit {
+        if rows[k].get(Pin(pin)) == bit {
             return true;
         }
     }
@@ -60,7 +60,7 @@ fn parts(rows: &[PinBits], a: u32, b: u32) -> bool
 {
     'rows: for k in 0..rows.len() {
         let row = &rows[k];
-        if row.get(a) != row.get(b) {
+        if row.get(Pin(a)) != row.get(Pin(b)) {
             return true;
         }
     }
@@ -75,7 +75,7 @@ fn parts_in(rows: &[PinBits], at: usize, a: u32, b: u32) -> bool
     ensures { IsTrue result → parts rows.now a b ≡ true }
 {
     let row = &rows[at];
-    row.get(a) != row.get(b)
+    row.get(Pin(a)) != row.get(Pin(b))
 }
 
 /// What all pins of a machine read in each cycle of a look: first while nothing is driven, and then while one pin after the other
@@ -125,7 +125,7 @@ impl Looks {
         requires { pin < self.now.pins }
         ensures { result ≡ read_free self.now.rows pin }
     {
-        self.rows[0].get(pin)
+        self.rows[0].get(Pin(pin))
     }
 
     /// What a pin reads while the pin `driven` is driven alone.
@@ -134,7 +134,7 @@ impl Looks {
         requires pin { pin < self.now.pins }
         ensures { result ≡ read_under self.now.rows driven pin }
     {
-        self.rows[driven as usize + 1].get(pin)
+        self.rows[driven as usize + 1].get(Pin(pin))
     }
 
     /// Whether a pin reads 0 in one cycle and 1 in another.

@@ -9,6 +9,7 @@ ghost use Rattle.diag_evidence.specs.Readings.{HasCycled, LoadsUpTo, Reads, Read
 use crate::pins::Pins;
 use diag_tests::Route;
 use machine_config::Config;
+use machine_shape::Pin;
 use rig::{PinBits, Rig, RigFail, cycle, cycles, load};
 
 // Begins a session. No load is lost from the count.
@@ -96,9 +97,9 @@ pub(crate) fn all_differ(read: &PinBits, pin: u32, routes: &[Route]) -> bool
     ensures yes { IsTrue result → All (λ s. slice_index_or read.now pin true ≢ slice_index_or read.now s.pin true) routes.now }
     ensures no { result ≡ false → All (λ s. slice_index_or read.now pin true ≢ slice_index_or read.now s.pin true) routes.now → ⊥ }
 {
-    let bit = read.get(pin);
+    let bit = read.get(Pin(pin));
     'routes: for k in 0..routes.len() {
-        if read.get(routes[k].pin()) == bit {
+        if read.get(Pin(routes[k].pin())) == bit {
             return false;
         }
     }
@@ -124,7 +125,7 @@ pub(crate) fn read_pin(
     ensures length { length read.new ≡ length read.old }
 {
     read_once(rig, config, drive, read)?;
-    Ok(read.get(at))
+    Ok(read.get(Pin(at)))
 }
 
 // What two pins read at one time after a load.
@@ -152,7 +153,7 @@ pub(crate) fn read_pins(
         return Err(RigFail::Memory);
     };
     read_once(rig, config, drive, &mut read)?;
-    let bits = (read.get(first), read.get(second));
+    let bits = (read.get(Pin(first)), read.get(Pin(second)));
     pins.put(read);
     Ok(bits)
 }
@@ -183,9 +184,9 @@ pub(crate) fn read_twice(
     };
     begin(rig, config, 2)?;
     cycle(rig, low, &mut read)?;
-    let first = read.get(at);
+    let first = read.get(Pin(at));
     cycle(rig, high, &mut read)?;
-    let second = read.get(at);
+    let second = read.get(Pin(at));
     pins.put(read);
     Ok((first, second))
 }

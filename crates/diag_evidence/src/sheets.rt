@@ -12,7 +12,7 @@ use crate::Forest;
 use crate::readings::read_rows;
 use diag_tests::close_all;
 use machine_config::{Config, Setting};
-use machine_shape::Table;
+use machine_shape::{Pin, Table};
 use rig::{PinBits, Rig, RigFail};
 use std::alloc::{AllocError, Global};
 
@@ -86,7 +86,7 @@ fn set_address(drive: &mut PinBits, forest: &Forest, t: Table, address: u32)
     let shape = forest.shape();
     'inputs: for j in 0..6 {
         if let Some(pin) = forest.pin_of(shape.pin_of(t, j)) {
-            drive.set(pin, bit_of(address, j));
+            drive.set(Pin(pin), bit_of(address, j));
         }
     }
 }

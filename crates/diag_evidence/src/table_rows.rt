@@ -15,7 +15,7 @@ use crate::sheets::{CYCLES, Sheet, read_tables, sheet_of, table_at};
 use crate::{Facts, Forest};
 use base_bits::BitSet;
 use machine_config::Setting;
-use machine_shape::Table;
+use machine_shape::{Pin, Table};
 use rig::{Rig, RigFail};
 
 // The pin on which a table's output hangs.
@@ -46,8 +46,8 @@ fn is_right_in(sheet: &Sheet, pin: u32, cycle: u32) -> bool
     requires cycle { cycle < 65 }
     ensures { result ≡ is_right_in sheet.now.setting sheet.now.reads.items sheet.now.opposite.items pin cycle }
 {
-    let read = sheet.reads[cycle as usize].get(pin);
-    let other = sheet.opposite[cycle as usize].get(pin);
+    let read = sheet.reads[cycle as usize].get(Pin(pin));
+    let other = sheet.opposite[cycle as usize].get(Pin(pin));
     if shown_in(sheet.setting, cycle) {
         read && !other
     } else {

@@ -15,7 +15,7 @@ use crate::feet::second_foot;
 use crate::parts::{is_good, is_good_pin};
 use diag_evidence::Facts;
 use diag_known::{Known, Marks, Offer, Support, SupportedBy, VerifiedWire};
-use machine_shape::{Meaning, Shape, Wire, the_numbering_is_sound};
+use machine_shape::{Meaning, Pin, Shape, Wire, the_numbering_is_sound};
 use rig::{Rig, RigFail};
 
 // A further wire is known.
@@ -164,7 +164,7 @@ pub(crate) fn try_pin(
     ensures advances { Advances (rig_state rig.old) (rig_state rig.new) facts.old facts.new }
     ensures cause { IsErrOf result RigFail.Failed → Rose (rig_state rig.old).failures (rig_state rig.new).failures }
 {
-    let wire = facts.shape().pin(pin);
+    let wire = facts.shape().pin(Pin(pin));
     marks.bar(wire);
     let good = is_good_pin(known, rig, facts, wire, pin)?;
     if !good {

@@ -13,7 +13,7 @@ use crate::learn::try_pin;
 use crate::look::look_at;
 use diag_evidence::Facts;
 use diag_known::{Field, Known, Marks, Near, links_of};
-use machine_shape::{the_crosspoints_are_sound, the_numbering_is_sound};
+use machine_shape::{Pin, the_crosspoints_are_sound, the_numbering_is_sound};
 use rig::{Rig, RigFail};
 
 // Looks at all known wires from a place on, also at those that come to be known by it.
@@ -76,7 +76,7 @@ fn grow_pin(
     ensures cause { IsErrOf result RigFail.Failed → Rose (rig_state rig.old).failures (rig_state rig.new).failures }
 {
     the_numbering_is_sound();
-    let wire = facts.shape().pin(pin);
+    let wire = facts.shape().pin(Pin(pin));
     if marks.barred.has(wire.0) {
         return Ok(());
     }

@@ -12,7 +12,7 @@ use crate::tour::walks;
 use crate::{Known, Support};
 use diag_evidence::Facts;
 use diag_tests::Route;
-use machine_shape::{Cross, Wire};
+use machine_shape::{Cross, Pin, Wire};
 use rig::{PinBits, RigFail};
 use std::alloc::{AllocError, Global};
 
@@ -151,7 +151,7 @@ pub(crate) fn pulled(facts: &mut Facts, routes: &[Route]) -> Result<PinBits, Rig
         return Err(RigFail::Memory);
     };
     'routes: for k in 0..routes.len() {
-        drive.set(routes[k].pin(), false);
+        drive.set(Pin(routes[k].pin()), false);
     }
     Ok(drive)
 }

@@ -13,7 +13,7 @@ use crate::links::{Near, link_at, link_count, links_of};
 use crate::verified_wire::{Support, SupportedBy, VerifiedWire};
 use base_bits::BitSet;
 use diag_evidence::Facts;
-use machine_shape::{Shape, Wire, the_numbering_is_sound};
+use machine_shape::{Pin, Shape, Wire, the_numbering_is_sound};
 use std::alloc::{AllocError, Global};
 
 // No foot, for each wire.
@@ -39,7 +39,7 @@ fn take_pin(
     ensures founds { OnOk result (Founds known.old known.new left.old left.new feet.now.items feet.now.items) }
     ensures taken { OnOk result (has_number left.new (pin_wire facts.now.shape pin) ≡ false) }
 {
-    let wire = facts.shape().pin(pin);
+    let wire = facts.shape().pin(Pin(pin));
     if !left.has(wire.0) {
         return Ok(());
     }

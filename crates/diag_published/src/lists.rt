@@ -6,7 +6,7 @@ ghost use Rattle.diag_published.specs.Bars.{IsAtOneOf, IsKnownOf, IsListOf, AreT
 ghost use Rattle.diag_published.specs.Held.{wire_numbers};
 
 use diag_growth::Known;
-use machine_shape::{Node, Shape, Wire};
+use machine_shape::{Node, Pin, Shape, Wire};
 use std::alloc::{AllocError, Global};
 
 /// The taps of a node's crossbar, ascending.
@@ -61,7 +61,7 @@ pub(crate) fn pins_in(alloc: Global, shape: &Shape, count: u32) -> Result<Vec<Wi
 {
     let mut pins = Vec::new(alloc);
     'pins: for k in 0..count {
-        pins.push(shape.pin(k))?;
+        pins.push(shape.pin(Pin(k)))?;
     }
     Ok(pins)
 }

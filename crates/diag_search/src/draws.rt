@@ -29,7 +29,7 @@ impl Draws {
 
     /// A number below the count, or 0 where that is 0.
     pub(crate) fn draw_below(&mut self, count: usize) -> usize {
-        self.numbers.draw_below(count)
+        self.numbers.below(count)
     }
 
     /// A number below the count, or 0 where that is 0.

@@ -10,7 +10,7 @@ use crate::defect_marks::DefectMarks;
 use base_bits::BitSet;
 use diag_evidence::Facts;
 use diag_known::Field;
-use machine_shape::{Cross, Shape, the_numbering_is_sound};
+use machine_shape::{Cross, Pin, Shape, the_numbering_is_sound};
 use rig::Rig;
 use std::alloc::{AllocError, Global};
 
@@ -77,7 +77,7 @@ fn pins_of_field(shape: &Shape, field: &Field) -> u32
     the_numbering_is_sound();
     let mut count = 0;
     'pins: for i in 0..shape.pins() {
-        if field.wires.has(shape.pin(i).0) {
+        if field.wires.has(shape.pin(Pin(i)).0) {
             count += 1;
         }
     }

@@ -4,7 +4,7 @@ use crate::asking::keeps;
 use crate::defect_marks::DefectMarks;
 use diag_evidence::{Facts, Forest, Looks};
 use diag_search::{Aim, Chooser, Still, Told, flag_at, in_set};
-use machine_shape::{Cross, Shape, Wire};
+use machine_shape::{Cross, Pin, Shape, Wire};
 use std::alloc::{AllocError, Global};
 
 // The other end of a crosspoint of a wire.
@@ -33,7 +33,7 @@ fn is_alike(forest: &Forest, reads: &Looks, pin: u32, other: u32) -> bool {
     if other >= shape.pins() || pin >= reads.pins() || other >= reads.pins() || other == pin {
         return false;
     }
-    pin_of(forest, shape.pin(other)).is_some() && !reads.parts(other, pin)
+    pin_of(forest, shape.pin(Pin(other))).is_some() && !reads.parts(other, pin)
 }
 
 // The pins that read in each cycle as the one on which a wire hung; or this one, where none does and the crosspoint is kept.

@@ -21,6 +21,7 @@ use diag_known::{Field, Known};
 use diag_search::{Trial, Walk};
 use diag_tests::Route;
 use machine_config::Config;
+use machine_shape::Pin;
 use rig::{PinBits, Rig, RigFail};
 use std::alloc::AllocError;
 
@@ -84,7 +85,7 @@ fn add_walk(
         return Ok(false);
     };
     close_route(&mut course.config, &lead.route)?;
-    course.drive.set(lead.route.pin(), false);
+    course.drive.set(Pin(lead.route.pin()), false);
     course.leads.push(lead)?;
     Ok(true)
 }

@@ -7,7 +7,7 @@ ghost use Rattle.diag_known.specs.Vocabulary.{IsFieldOf, GrowsIn, IsKnown, IsFoo
 use crate::feet::foot_of;
 use diag_evidence::Facts;
 use diag_known::{Field, Known, Support, SupportedBy, VerifiedWire};
-use machine_shape::Wire;
+use machine_shape::{Pin, Wire};
 use std::alloc::AllocError;
 
 // A wire that isn't known, and two crosspoints to wires.
@@ -151,7 +151,7 @@ fn learn_pin(known: &mut Known, facts: &Facts, field: &Field, pin: u32) -> Resul
     ensures known { IsKnown facts.now known.new }
     ensures grows { GrowsIn field.now known.old.steps known.new.steps }
 {
-    let wire = facts.shape().pin(pin);
+    let wire = facts.shape().pin(Pin(pin));
     if !is_wanted(facts, known, field, wire) {
         return Ok(());
     }

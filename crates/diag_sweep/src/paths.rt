@@ -12,7 +12,7 @@ use diag_evidence::{Facts, Lead};
 use diag_known::{Field, Known, Support};
 use diag_search::Walk;
 use diag_tests::{Route, route_at};
-use machine_shape::{Cross, Shape, Wire};
+use machine_shape::{Cross, Pin, Shape, Wire};
 use std::alloc::{AllocError, Global};
 
 // Whether a crosspoint leads from a wire to the wire of a foot.
@@ -99,7 +99,7 @@ fn begin_route(
     if pin >= shape.pins() {
         return Ok(None);
     }
-    let wire = shape.pin(pin);
+    let wire = shape.pin(Pin(pin));
     if !known.has(wire) {
         return Ok(None);
     }
@@ -121,7 +121,7 @@ fn end_pin(shape: &Shape, route: &Route) -> Option<u32>
     if end.0 >= shape.pins() {
         return None;
     }
-    if shape.pin(end.0).0 != end.0 {
+    if shape.pin(Pin(end.0)).0 != end.0 {
         return None;
     }
     Some(end.0)

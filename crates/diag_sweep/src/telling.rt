@@ -20,7 +20,7 @@ use base_bits::BitSet;
 use diag_evidence::{Facts, Forest, Looks};
 use diag_known::{Field, Known};
 use diag_search::{Chooser, Link, Search, Told};
-use machine_shape::{Cross, Wire};
+use machine_shape::{Cross, Pin, Wire};
 use rig::{Rig, RigFail};
 use std::alloc::{AllocError, Global};
 
@@ -42,7 +42,7 @@ fn plant_known(forest: &mut Forest, facts: &Facts, known: &Known)
 {
     let shape = facts.shape();
     'pins: for pin in 0..shape.pins() {
-        let wire = shape.pin(pin);
+        let wire = shape.pin(Pin(pin));
         if knows(known, wire) {
             plant(forest, facts, wire);
         }

@@ -7,7 +7,7 @@ ghost use Rattle.diag_known.specs.Known.{IsKnown, HasWire};
 use diag_evidence::{Facts, Forest};
 use diag_known::{Known, SupportedBy, VerifiedWire};
 use diag_search::{Draws, Search, Walk};
-use machine_shape::{Cross, Shape, Wire};
+use machine_shape::{Cross, Pin, Shape, Wire};
 use std::alloc::{AllocError, Global};
 
 /// Lays a crosspoint, where it may be laid.
@@ -40,7 +40,7 @@ fn machine_pin(shape: &Shape, w: Wire) -> Option<u32>
     ensures { IfSome result (λ pin. pin < pins_of shape.now) }
 {
     let pins = shape.pins();
-    let first = shape.pin(0).0;
+    let first = shape.pin(Pin(0)).0;
     if w.0 < first {
         return None;
     }
@@ -166,7 +166,7 @@ pub(crate) fn pin_forest(alloc: Global, facts: &Facts) -> Result<Forest, AllocEr
     let shape = facts.shape();
     let mut forest = Forest::new(alloc, &shape)?;
     'pins: for pin in 0..shape.pins() {
-        plant(&mut forest, facts, shape.pin(pin));
+        plant(&mut forest, facts, shape.pin(Pin(pin)));
     }
     Ok(forest)
 }

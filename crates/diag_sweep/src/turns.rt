@@ -19,6 +19,7 @@ use crate::telling::tell_all;
 use diag_evidence::Facts;
 use diag_known::{Field, Known};
 use diag_search::{Aim, ChosenTest, FIRST_HEIGHT};
+use machine_shape::Pin;
 use rig::{Rig, RigFail};
 
 /// More loads than the wires of one height take.
@@ -244,7 +245,7 @@ pub(crate) fn sweep_all(
 fn knows_pins(known: &Known) -> bool {
     let shape = known.shape();
     'pins: for pin in 0..shape.pins() {
-        if !knows(known, shape.pin(pin)) {
+        if !knows(known, shape.pin(Pin(pin))) {
             return false;
         }
     }

@@ -4,7 +4,7 @@ ghost use Rattle.machine_shape.specs.Shape.{Ends, ends_of, pins_of, crosses_of, 
 ghost use Rattle.machine_config.specs.Groups.{among};
 ghost use Rattle.diag_tests.specs.Routes.{IsRoute, at_pin, HasEnd, Extends, other_end};
 
-use machine_shape::{Cross, Shape, Wire, the_numbering_is_sound};
+use machine_shape::{Cross, Pin, Shape, Wire, the_numbering_is_sound};
 use std::alloc::{AllocError, Global};
 use std::marker::Model;
 
@@ -51,7 +51,7 @@ pub fn route_at(alloc: Global, shape: &Shape, pin: u32) -> Result<Route, AllocEr
     ensures route { IfOk result (λ r. r ≡ at_pin shape.now pin) }
     ensures right { IfOk result (IsRoute shape.now) }
 {
-    Ok(Route::start(alloc, pin, shape.pin(pin)))
+    Ok(Route::start(alloc, pin, shape.pin(Pin(pin))))
 }
 
 /// The route that goes on from another over a crosspoint, one wire of which is that one's end.

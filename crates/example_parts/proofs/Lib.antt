@@ -1,4 +1,3 @@
-mod Within
 mod Keeping
 mod Laying
 mod Finding

@@ -2,7 +2,6 @@
 //!
 //! - `values`: values from outside, and public calls that no command shows;
 //! - `plans NAME ..`: the cases of texts about plans;
-//! - `machines N`: small machines with faults, as numbers make them, N of each group;
 //! - `crossbars NAME ..`: the cases of texts about tests of crossbars;
 //! - `show MACHINE DEFECTS DESIGN`: what is to be seen of the plans of a design.
 //!
@@ -10,7 +9,6 @@
 #![tactic(auto)]
 
 mod crossbars;
-mod machines;
 mod plans;
 mod values;
 
@@ -20,14 +18,13 @@ use std::io;
 use std::process::ExitCode;
 
 /// The names of the parts.
-const PARTS: [&str; 5] = ["values", "plans", "machines", "crossbars", "show"];
+const PARTS: [&str; 4] = ["values", "plans", "crossbars", "show"];
 
 // Does the part of a name with these words, and tells whether all of it is right.
 fn part(rt: &HostRuntime, name: &str, words: &[String]) -> io::Result<bool> {
     match (name, words) {
         ("values", []) => values::try_all(rt),
         ("plans", names) => plans::try_texts(rt, names),
-        ("machines", words) => machines::try_groups(rt, words),
         ("crossbars", names) => crossbars::try_texts(rt, names),
         ("show", [machine, defects, design]) => plans::show(
             rt,

@@ -3,6 +3,7 @@ ghost use Rattle.std.specs.Prelude.{◌≡◌, ◌+◌, ◌-◌, ◌^◌, ◌<�
 ghost use Rattle.rig.specs.Rig.{KeepLengths};
 ghost use Rattle.example_rigs.specs.Turns.{Passes, turned};
 
+use machine_shape::Pin;
 use rig::PinBits;
 
 /// Which reading is turned, and how many there were.
@@ -89,7 +90,7 @@ fn turn_first_bit(reading: &mut PinBits)
     ensures length { length reading.new ≡ length reading.old }
 {
     if 0 < reading.len() {
-        let bit = reading.get(0);
-        reading.set(0, !bit);
+        let bit = reading.get(Pin(0));
+        reading.set(Pin(0), !bit);
     }
 }

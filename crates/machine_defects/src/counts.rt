@@ -6,7 +6,7 @@ ghost use Rattle.machine_shape.specs.Shape.{wires_of, nodes_of, parent_of};
 ghost use Rattle.machine_defects.specs.Kept.{clear_lines_at, free_ports_at, free_pins_in, AreRecounted, IsRecounted, IsItOrAbove};
 
 use base_bits::BitSet;
-use machine_shape::{Node, Shape, Wire};
+use machine_shape::{Node, Pin, Shape, Wire};
 
 /// How many lines of a node aren't listed and have no listed crosspoint.
 fn clear_lines(shape: &Shape, wires: &BitSet, shut: &[u32], n: Node) -> u32
@@ -59,7 +59,7 @@ pub fn free_pins(shape: &Shape, wires: &BitSet) -> u32
 {
     let mut count = 0u32;
     'pins: for i in 0..shape.pins() {
-        if !wires.has(shape.pin(i).0) {
+        if !wires.has(shape.pin(Pin(i)).0) {
             count += 1;
         }
     }

@@ -8,7 +8,7 @@ ghost use Rattle.machine_image.specs.Parts.{IsFreeImage};
 
 use crate::image::Image;
 use machine_defects::Defects;
-use machine_shape::{Cross, Table};
+use machine_shape::{Cross, Pin, Table};
 
 /// Whether all of these pins are free.
 fn free_pins(pins: &[u32], defects: &Defects) -> bool
@@ -17,7 +17,7 @@ fn free_pins(pins: &[u32], defects: &Defects) -> bool
 {
     let shape = defects.shape();
     'pins: for i in 0..pins.len() {
-        if !defects.free_wire(shape.pin(pins[i])) {
+        if !defects.free_wire(shape.pin(Pin(pins[i]))) {
             return false;
         }
     }

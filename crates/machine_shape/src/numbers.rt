@@ -11,7 +11,7 @@ use crate::places::{
     total, trunk_of, wire_place,
 };
 use crate::way::{Crossbar, Kind};
-use crate::{Cross, Node, Shape, Table, Wire};
+use crate::{Cross, Node, Pin, Shape, Table, Wire};
 
 /// The crossbar of a node.
 fn node_bar(shape: Shape, node: u32) -> Crossbar
@@ -137,12 +137,12 @@ impl Shape {
     }
 
     /// A pin of the machine.
-    pub fn pin(&self, k: u32) -> Wire
-        requires { k < pins_of self.now }
-        ensures wire { result.0 ≡ pin_wire self.now k }
+    pub fn pin(&self, pin: Pin) -> Wire
+        requires { pin.0 < pins_of self.now }
+        ensures wire { result.0 ≡ pin_wire self.now pin.0 }
         ensures within { result.0 < wires_of self.now }
     {
-        Wire(k)
+        Wire(pin.0)
     }
 
     /// The wire of a table's pin: inputs are 0 to 5, and the output is 6.

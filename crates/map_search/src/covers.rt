@@ -6,7 +6,7 @@ use crate::graph::Made;
 use crate::hints::hints_of;
 use crate::layout::{Layout, NOWHERE, Table, Wire};
 use crate::names::{FreeNames, name_of};
-use crate::numbers::{mark, is_marked, set, small};
+use crate::numbers::{is_marked, mark, set, small};
 use crate::passes::choose_cuts;
 use crate::products::{Product, cheaper_of};
 use crate::puts::put_tables;

@@ -2,7 +2,7 @@
 
 use crate::cuts::{Cut, union};
 use crate::layout::{Layout, NOWHERE, Table, without_leaf};
-use crate::numbers::{at, mark, is_marked, set, small};
+use crate::numbers::{at, is_marked, mark, set, small};
 use std::alloc::{AllocError, Global};
 
 /// With few readers first: what costs no copy goes first.
@@ -185,7 +185,10 @@ impl Puts {
 
     // Puts a table into all its readers, if they are few and have room.
     fn look(&mut self, place: usize, most: usize) -> Result<(), AllocError> {
-        if place >= self.tables.len() || is_marked(&self.gone, place) || is_marked(&self.fixed, place) {
+        if place >= self.tables.len()
+            || is_marked(&self.gone, place)
+            || is_marked(&self.fixed, place)
+        {
             return Ok(());
         }
         let table = self.tables[place];

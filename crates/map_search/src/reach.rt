@@ -1,6 +1,6 @@
 //! Nodes that outputs need.
 
-use crate::numbers::{mark, is_marked, node_of, small};
+use crate::numbers::{is_marked, mark, node_of, small};
 use design_equal::{And, Graph};
 use design_netlist::NetlistData;
 use std::alloc::{AllocError, Global};

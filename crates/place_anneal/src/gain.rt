@@ -1,6 +1,6 @@
 //! By how much an exchange of two seats changes the crossings.
 
-use crate::links::{Links, Net};
+use crate::links::{Links, TablesOfNet};
 use crate::seats::Seat;
 
 /// Nets with more tables are in most nodes whatever is exchanged, and dear to look at.
@@ -80,7 +80,7 @@ struct Move {
 
 // The change for a net where one of its tables moves and another table comes from there. A net that has both stays as it
 // is.
-fn with_net(change: Change, net: &Net, seats: &[Seat], moved: Move) -> Change {
+fn with_net(change: Change, net: &TablesOfNet, seats: &[Seat], moved: Move) -> Change {
     if net.tables.as_slice().len() > MOST_OF_A_NET {
         return change;
     }

@@ -2,7 +2,7 @@
 //! sit near it.
 ghost use Rattle.std.specs.List.Sorted.{IsPermutation};
 
-use crate::links::{Links, Net};
+use crate::links::{Links, TablesOfNet};
 use crate::queue::{Queue, queue_of};
 use crate::seats::Seat;
 use crate::trial::{Trial, take};
@@ -38,7 +38,7 @@ struct Growth {
 }
 
 // No table has a seat.
-fn spreads_of(alloc: Global, nets: &[Net]) -> Result<Vec<Spread>, AllocError> {
+fn spreads_of(alloc: Global, nets: &[TablesOfNet]) -> Result<Vec<Spread>, AllocError> {
     let mut spreads = Vec::new(alloc);
     for net in nets {
         let left = net.tables.as_slice().len();
@@ -69,7 +69,7 @@ fn nearness(last: Seat, seat: Seat) -> u32 {
 }
 
 // The score with a net of the table.
-fn with_net(score: u32, net: &Net, spread: Spread, seat: Seat) -> u32 {
+fn with_net(score: u32, net: &TablesOfNet, spread: Spread, seat: Seat) -> u32 {
     match spread.last {
         None => score.saturating_sub(NEW),
         Some(last) => {

@@ -4,9 +4,9 @@ use base_lists::Items;
 use map_network::{NetTable, Network, Source};
 use std::alloc::{AllocError, Global};
 
-/// A net: the tables that drive or read it, each once, and whether a pin of the machine is on it.
+/// The tables that drive or read a net, each once, and whether a pin of the machine is on it.
 #[derive(Drop)]
-pub struct Net {
+pub struct TablesOfNet {
     pub tables: Items<usize>,
     pub pinned: bool,
 }
@@ -14,20 +14,20 @@ pub struct Net {
 /// The nets, and for each table the nets that it is on.
 #[derive(Drop)]
 pub struct Links {
-    pub nets: Vec<Net>,
+    pub nets: Vec<TablesOfNet>,
     pub nets_of: Vec<Items<usize>>,
 }
 
 // So many nets on which no table is yet.
 fn push_nets(
     alloc: Global,
-    nets: &mut Vec<Net>,
+    nets: &mut Vec<TablesOfNet>,
     count: usize,
     pinned: bool,
 ) -> Result<(), AllocError> {
     for index in 0..count {
         let _ = index;
-        nets.push(Net {
+        nets.push(TablesOfNet {
             tables: Items::empty(alloc),
             pinned,
         })?;

@@ -1,7 +1,7 @@
 //! Crossings and visits of a net, level by level.
 
 use crate::need::Counts;
-use crate::nets::Net;
+use crate::nets::TablesOfNet;
 use crate::tree::{Tree, divide_by, small};
 use std::alloc::{AllocError, Global};
 
@@ -46,7 +46,12 @@ impl Strands {
     }
 
     /// The hextants of a net, where tables have these seats.
-    pub fn begin(&mut self, net: &Net, tree: &Tree, seats: &[u32]) -> Result<(), AllocError> {
+    pub fn begin(
+        &mut self,
+        net: &TablesOfNet,
+        tree: &Tree,
+        seats: &[u32],
+    ) -> Result<(), AllocError> {
         let span = tree.tiers[0].span;
         self.nodes.clear();
         self.places.clear();

@@ -216,7 +216,12 @@ impl<'a> Growth<'a> {
 }
 
 /// Seats for covers from the first seat on, and for latches from a seat on.
-pub fn grow_seats(alloc: Global, nets: &Nets, tree: &Tree, room: usize) -> Result<Vec<u32>, AllocError> {
+pub fn grow_seats(
+    alloc: Global,
+    nets: &Nets,
+    tree: &Tree,
+    room: usize,
+) -> Result<Vec<u32>, AllocError> {
     let count = nets.of.len();
     let mut growth = Growth {
         nets,

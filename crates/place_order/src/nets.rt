@@ -7,10 +7,10 @@ use std::alloc::{AllocError, Global};
 /// No table.
 pub const NOTHING: u32 = u32::MAX;
 
-/// A net: the tables that drive or read it, each once; how often tables have it at a pin beyond that; and how many pins of the
+/// The tables that drive or read a net, each once; how often tables have it at a pin beyond that; and how many pins of the
 /// machine are on it.
 #[derive(Drop)]
-pub struct Net {
+pub struct TablesOfNet {
     pub tables: Vec<u32>,
     pub twice: Vec<u32>,
     pub pins: u32,
@@ -19,17 +19,17 @@ pub struct Net {
 /// The nets of a design, one for each signal; for each table its nets; and how many tables come before those of latches.
 #[derive(Drop)]
 pub struct Nets {
-    pub nets: Vec<Net>,
+    pub nets: Vec<TablesOfNet>,
     pub of: Vec<Vec<u32>>,
     pub split: usize,
     pub pins: usize,
 }
 
 // Nets without tables.
-fn no_nets(alloc: Global, count: usize) -> Result<Vec<Net>, AllocError> {
+fn no_nets(alloc: Global, count: usize) -> Result<Vec<TablesOfNet>, AllocError> {
     let mut nets = Vec::with_capacity(alloc, count)?;
     'nets: for _ in 0..count {
-        nets.push(Net {
+        nets.push(TablesOfNet {
             tables: Vec::new(alloc),
             twice: Vec::new(alloc),
             pins: 0,
@@ -40,7 +40,7 @@ fn no_nets(alloc: Global, count: usize) -> Result<Vec<Net>, AllocError> {
 
 // Puts a table on a net, if it wasn't put there last.
 fn join(
-    nets: &mut Vec<Net>,
+    nets: &mut Vec<TablesOfNet>,
     own: &mut Vec<u32>,
     signal: u32,
     table: u32,
@@ -57,7 +57,7 @@ fn join(
 // The nets of a table that drives a signal and reads others.
 fn join_table(
     alloc: Global,
-    nets: &mut Vec<Net>,
+    nets: &mut Vec<TablesOfNet>,
     table: u32,
     out: u32,
     ins: &[u32],
@@ -76,7 +76,7 @@ fn join_table(
 // The tables of covers.
 fn join_covers(
     alloc: Global,
-    nets: &mut Vec<Net>,
+    nets: &mut Vec<TablesOfNet>,
     of: &mut Vec<Vec<u32>>,
     covers: &[Cover],
 ) -> Result<(), AllocError> {
@@ -90,7 +90,7 @@ fn join_covers(
 // The tables of latches.
 fn join_latches(
     alloc: Global,
-    nets: &mut Vec<Net>,
+    nets: &mut Vec<TablesOfNet>,
     of: &mut Vec<Vec<u32>>,
     latches: &[LatchDef],
 ) -> Result<(), AllocError> {
@@ -102,7 +102,7 @@ fn join_latches(
 }
 
 // Pins of inputs and outputs.
-fn add_pins(nets: &mut Vec<Net>, draft: &NetlistData) {
+fn add_pins(nets: &mut Vec<TablesOfNet>, draft: &NetlistData) {
     let inputs = draft.inputs.as_slice().iter();
     'ports: for port in inputs.chain(draft.outputs.as_slice().iter()) {
         let place = port.signal as usize;

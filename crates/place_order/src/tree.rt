@@ -58,7 +58,13 @@ fn node_above(shape: &Shape, table: Table, level: usize) -> Node
 }
 
 // How many ports and lines of a node are wanting.
-fn missing_in(defects: &Defects, table: u32, level: usize, ports: usize, lines: usize) -> (u32, u32) {
+fn missing_in(
+    defects: &Defects,
+    table: u32,
+    level: usize,
+    ports: usize,
+    lines: usize,
+) -> (u32, u32) {
     let shape = defects.shape();
     if table >= shape.tables() {
         return (0, 0);

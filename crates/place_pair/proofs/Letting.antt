@@ -18,7 +18,7 @@ use Rattle.place_plan.specs.declared.layout.Layout.{Layout}
 use Rattle.place_plan.specs.declared.plan.Plan.{Plan}
 use Rattle.place_plan.specs.declared.short.Port.{Port}
 use Rattle.place_plan.specs.declared.short.Visit.{Visit}
-use Rattle.place_plan.specs.Vocabulary.{IsLayout, AreHeld, nth_of, number_of, places, place_of, nets_in, IsTerminal, drives, reads, shows, IsPlan, HasPort, CrossesAt, VisitsAt, Serves, Crosses, Visits}
+use Rattle.place_plan.specs.Vocabulary.{IsLayout, AreHeld, nth_of, number_of, places, place_of, nets_in, IsTerminal, drives, reads, shows, IsPlan, HasPort, CrossesAt, VisitsAt, Serves, Crosses, Visits, port_for, visit_for}
 use Rattle.place_plan.proofs.Those.{different_at}
 use Rattle.place_route.specs.Vocabulary.{no_seat, IsSet, image_at, setting_in, AreOwners, Holds, HasLine, IsRightForNetwork, HasPortIn, IsRouteOf, IsNetTap, by_terminal, by_child, by_port, IsLaidOnTree, IsOfNet, as_terminal, as_line, as_port}
 use Rattle.place_route.proofs.OnTree.{nets_apart}
@@ -49,9 +49,9 @@ pub record Ground (m : Shape) (d : Defects) (joint : Network) (p : Plan) (l : La
 module _ (m : Shape) (d : Defects) (count : ℕ) (terminal : ℕ → ℕ → Type 0) where
   held_too : (nodes : ℕ) (ports others : List Port) → AreHeld m d count terminal nodes ports → AreHeld m d count terminal nodes others → (a k w : ℕ) → HasPortIn ports a k w → HasPortIn others a k w
   held_too nodes ports others are is a k w has =
-      let r = All-contains (λ (q : Port). (q.node < nodes) × CrossesAt m count terminal q.node q.net × HasPort m d count terminal q.node q.net q.wire) ports (record { node = a; net = k; wire = w }) are.each has in
+      let r = All-contains (λ (q : Port). (q.node.0 < nodes) × CrossesAt m count terminal q.node.0 q.net.0 × HasPort m d count terminal q.node.0 q.net.0 q.wire.0) ports (port_for a k w) are.each has in
       let g = is.given a k r.0 r.1 in
-      let h = All-contains (λ (q : Port). (q.node < nodes) × CrossesAt m count terminal q.node q.net × HasPort m d count terminal q.node q.net q.wire) others (record { node = a; net = k; wire = g.0 }) is.each g.1 in
+      let h = All-contains (λ (q : Port). (q.node.0 < nodes) × CrossesAt m count terminal q.node.0 q.net.0 × HasPort m d count terminal q.node.0 q.net.0 q.wire.0) others (port_for a k g.0) is.each g.1 in
       subst (HasPortIn others a k) (same_port m d count terminal a k g.0 w h.2 r.2) g.1
 
 module _ (m : Shape) (d : Defects) (joint : Network) (p : Plan) (l : Layout) (owners : List (Option ℕ)) (whole : ImageValue) (ground : Ground m d joint p l owners whole) where
@@ -108,7 +108,7 @@ module _ (m : Shape) (d : Defects) (joint : Network) (p : Plan) (l : Layout) (ow
   whole_ends x t w e = ap (λ z. (ends_of z x).0) shape_is ∙ ap (λ (q : ℕ × ℕ). q.0) e
 
   pub net_within : (a k w : ℕ) → HasLine ground.route.visits a k w → k < nets_in joint
-  net_within a k w has = (All-contains (λ (v : Visit). (v.node < nodes_of m) × VisitsAt m (nets_in joint) (IsTerminal m joint p) v.node v.net × Serves m d (nets_in joint) (IsTerminal m joint p) v.node v.net v.line) ground.route.visits (record { node = a; net = k; line = w }) ground.route.visited.each has).1.0
+  net_within a k w has = (All-contains (λ (v : Visit). (v.node.0 < nodes_of m) × VisitsAt m (nets_in joint) (IsTerminal m joint p) v.node.0 v.net.0 × Serves m d (nets_in joint) (IsTerminal m joint p) v.node.0 v.net.0 v.line.0) ground.route.visits (visit_for a k w) ground.route.visited.each has).1.0
 
   -- a table's pin that nothing is read at is of no net
   idle : (j c : ℕ) → j < length joint.tables → length (table_at joint j).ins ≤ c → c < 6 → (k w : ℕ) → Has k w → w ≡ table_wire m (place_of p j) c → ⊥

@@ -3,6 +3,7 @@ ghost use Rattle.std.specs.Prelude.{◌≡◌, ◌↔◌, ◌<◌, ℕ, IsTrue, 
 ghost use Rattle.place_pair.specs.Sites.{IsFrom, Owns};
 
 use map_network::Network;
+use place_plan::Net;
 
 /// The first of a network's inputs, tables and outputs among those of the joint network.
 #[derive(Clone, Copy, Debug)]
@@ -23,10 +24,10 @@ fn is_from(number: usize, first: usize, count: usize) -> bool
 }
 
 /// Whether a net of the joint network is one of the network's.
-pub fn owns(site: &Site, network: &Network, net: u32) -> bool
-    ensures { IsTrue result ↔ Owns site.now network.now net }
+pub fn owns(site: &Site, network: &Network, net: Net) -> bool
+    ensures { IsTrue result ↔ Owns site.now network.now net.0 }
 {
-    let net = net as usize;
+    let net = net.0 as usize;
     is_from(net, site.input, network.inputs as usize)
         || is_from(net, site.net, network.tables.as_slice().len())
 }
@@ -37,6 +38,6 @@ pub fn has_owner(site: &Site, network: &Network, owner: Option<u32>) -> bool
 {
     match owner {
         None => false,
-        Some(net) => owns(site, network, net),
+        Some(net) => owns(site, network, Net(net)),
     }
 }

@@ -11,7 +11,7 @@ use Rattle.place_plan.specs.declared.plan.Plan.{Plan}
 use Rattle.map_network.specs.declared.network.Network.{Network}
 use Rattle.map_network.specs.Networks.{table_at}
 use Rattle.machine_shape.specs.Shape.{pin_wire, table_wire}
-use Rattle.place_plan.specs.Vocabulary.{nth_of, places, place_of, IsTerminal, drives, reads, shows, first_input, drive_by, give_by, read_by, show_by, drive_terminals, gives_of, reads_at, reads_to, shows_of, all_terminals}
+use Rattle.place_plan.specs.Vocabulary.{nth_of, places, place_of, IsTerminal, drives, reads, shows, first_input, drive_by, give_by, read_by, show_by, drive_terminals, gives_of, reads_at, reads_to, shows_of, all_terminals, terminal_for}
 use Rattle.place_plan.specs.Plans.{net_of}
 use Rattle.place_plan.proofs.Ranges.{in_range, range_below}
 
@@ -45,7 +45,7 @@ module _ {X : Type 0} where
 
 module _ (m : Shape) (n : Network) (p : Plan) (tables : length p.tables ≡ length n.tables) (inputs : length p.inputs ≡ n.inputs) (outputs : length p.outputs ≡ length n.outputs) where
   Is : Terminal → Type 0
-  Is t = IsTerminal m n p t.net t.wire
+  Is t = IsTerminal m n p t.net.0 t.wire.0
 
   listed : (t : Terminal) → Contains (all_terminals m n p) t → Is t
   unfolding Is
@@ -91,7 +91,7 @@ module _ (m : Shape) (n : Network) (p : Plan) (tables : length p.tables ≡ leng
   show_at : ℕ → Terminal
   show_at = show_by m n.inputs p.outputs n.outputs
 
-  terminal_list : {k w : ℕ} → IsTerminal m n p k w → Contains (all_terminals m n p) (record { net = k; wire = w })
+  terminal_list : {k w : ℕ} → IsTerminal m n p k w → Contains (all_terminals m n p) (terminal_for k w)
   unfolding Ds Gs Rs Ss drive_at give_at read_at show_at
   terminal_list (drives (source.Input k) h) = Contains-append_left ((Ds ++ Gs) ++ Rs) Ss _ (Contains-append_left (Ds ++ Gs) Rs _ (Contains-append_left Ds Gs _ (made_in drive_at (length p.inputs) k (omega arith))))
   terminal_list (drives (source.Table j) h) = Contains-append_left ((Ds ++ Gs) ++ Rs) Ss _ (Contains-append_left (Ds ++ Gs) Rs _ (Contains-append_right Ds Gs _ (made_in give_at (length p.tables) j (omega arith))))
@@ -99,11 +99,11 @@ module _ (m : Shape) (n : Network) (p : Plan) (tables : length p.tables ≡ leng
       let here : Contains (reads_at m n (places p) j) (read_at j k) = made_in (read_at j) (length (table_at n j).ins) k l in
       let all : Contains Rs (read_at j k) = flat_in (reads_at m n (places p)) (range_with_len 0 (length p.tables)) j (read_at j k) (in_range (length p.tables) j (omega arith)) here in
       let same : get_or (table_at n j).ins k first_input ≡ s = get_or_default (table_at n j).ins k first_input s l ∙ e in
-      subst (λ q. Contains (all_terminals m n p) (record { net = net_of n q; wire = table_wire m (place_of p j) k })) same (Contains-append_left ((Ds ++ Gs) ++ Rs) Ss _ (Contains-append_right (Ds ++ Gs) Rs _ all))
+      subst (λ q. Contains (all_terminals m n p) (terminal_for (net_of n q) (table_wire m (place_of p j) k))) same (Contains-append_left ((Ds ++ Gs) ++ Rs) Ss _ (Contains-append_right (Ds ++ Gs) Rs _ all))
   terminal_list (shows o s h e) =
       let same : get_or n.outputs o first_input ≡ s = get_or_default n.outputs o first_input s h ∙ e in
-      subst (λ q. Contains (all_terminals m n p) (record { net = net_of n q; wire = pin_wire m (nth_of p.outputs o) })) same (Contains-append_right ((Ds ++ Gs) ++ Rs) Ss _ (made_in show_at (length p.outputs) o (omega arith)))
+      subst (λ q. Contains (all_terminals m n p) (terminal_for (net_of n q) (pin_wire m (nth_of p.outputs o)))) same (Contains-append_right ((Ds ++ Gs) ++ Rs) Ss _ (made_in show_at (length p.outputs) o (omega arith)))
 
-  pub all_are : (k w : ℕ) → Contains (all_terminals m n p) (record { net = k; wire = w }) ↔ IsTerminal m n p k w
+  pub all_are : (k w : ℕ) → Contains (all_terminals m n p) (terminal_for k w) ↔ IsTerminal m n p k w
   unfolding Is
-  all_are k w = (λ h. listed (record { net = k; wire = w }) h, λ t. terminal_list t)
+  all_are k w = (λ h. listed (terminal_for k w) h, λ t. terminal_list t)

@@ -69,7 +69,7 @@ module _ (m : Shape) (d : Defects) (nets crossing ports : List (List ℕ)) (boar
       taps = All-weaker (IsAskOf m nets crossing ports n) (λ a. AreWires m a.taps) (λ a is i u l.
           let t : ℕ = get_or a.taps i u in
           let s = (is t).0 (All-contains_itself a.taps i u l) in
-          tap_within n a.net s.0 t lt (terminal_within a.net s.0 s.1) s.2) asks are.each;
+          tap_within n a.net.0 s.0 t lt (terminal_within a.net.0 s.0 s.1) s.2) asks are.each;
       lines_are = lw;
     }
 

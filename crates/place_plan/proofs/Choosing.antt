@@ -10,25 +10,25 @@ use Rattle.place_plan.specs.declared.short.Port.{Port}
 use Rattle.place_plan.specs.declared.short.Visit.{Visit}
 use Rattle.place_plan.specs.declared.tree.NetSide.{NetSide}
 use Rattle.place_plan.specs.declared.tree.NetSide.TheVariants.{Own, Child, Outside}
-use Rattle.place_plan.specs.Vocabulary.{IsNth, nth_of, IsInside, IsAt, at_own, at_child, at_outside, Crosses, tap_of, CrossesAt, VisitsAt, IsFreePort, HasPort, IsTapOf, by_terminal, by_child, by_port, Serves, AreVisits, AreHeld, port_in, HasFreeCross, IsChoice}
+use Rattle.place_plan.specs.Vocabulary.{IsNth, nth_of, IsInside, IsAt, at_own, at_child, at_outside, Crosses, tap_of, CrossesAt, VisitsAt, IsFreePort, HasPort, IsTapOf, by_terminal, by_child, by_port, Serves, AreVisits, AreHeld, port_in, HasFreeCross, IsChoice, port_for}
 use Rattle.place_plan.proofs.Places.{IsAt-unique, visits_inside}
 use Rattle.place_plan.proofs.Spreads.{above_le, decide_inside}
 use Rattle.place_plan.proofs.Those.{those_unique}
 use Rattle.place_plan.proofs.Shut.{eq_from}
 
 -- a port of the net at the node that is in the list is found
-pub port_found : (ps : List Port) (n k w : ℕ) → Contains ps (record { node = n; net = k; wire = w }) → Contains ps (record { node = n; net = k; wire = port_in ps n k })
+pub port_found : (ps : List Port) (n k w : ℕ) → Contains ps (port_for n k w) → Contains ps (port_for n k (port_in ps n k))
 port_found [] n k w has = absurd (none has.0 has.1)
   where
     none : (i : ℕ) → i < 0 → ⊥
     none i lt = omega arith
-port_found (p ∷ ps) n k w has = by ((p.node == n) && (p.net == k)) refl (λ h. port_found ps n k w h)
+port_found (p ∷ ps) n k w has = by ((p.node.0 == n) && (p.net.0 == k)) refl (λ h. port_found ps n k w h)
   where
-    same : (q : Port) → q.node ≡ n → q.net ≡ k → q ≡ record { node = n; net = k; wire = q.wire }
-    same q e f = λ i. record { node = e i; net = f i; wire = q.wire }
+    same : (q : Port) → q.node.0 ≡ n → q.net.0 ≡ k → q ≡ port_for n k q.wire.0
+    same q e f = λ i. port_for (e i) (f i) q.wire.0
 
-    tail : ((p.node == n) && (p.net == k)) ≡ false → Contains (p ∷ ps) (record { node = n; net = k; wire = w }) → Contains ps (record { node = n; net = k; wire = w })
-    tail e (zero, lt, q) = absurd (clash ((p.node == n) && (p.net == k)) e (and (p.node == n) (p.net == k) (eq-eqb p.node n (ap (λ z. z.node) q)) (eq-eqb p.net k (ap (λ z. z.net) q))))
+    tail : ((p.node.0 == n) && (p.net.0 == k)) ≡ false → Contains (p ∷ ps) (port_for n k w) → Contains ps (port_for n k w)
+    tail e (zero, lt, q) = absurd (clash ((p.node.0 == n) && (p.net.0 == k)) e (and (p.node.0 == n) (p.net.0 == k) (eq-eqb p.node.0 n (ap (λ z. z.node.0) q)) (eq-eqb p.net.0 k (ap (λ z. z.net.0) q))))
       where
         clash : (b : Bool) → b ≡ false → b ≡ true → ⊥
         clash b x y = cc
@@ -37,14 +37,14 @@ port_found (p ∷ ps) n k w has = by ((p.node == n) && (p.net == k)) refl (λ h.
         and a b x y = subst (λ z. (z && b) ≡ true) (sym x) y
     tail e (suc i, lt, q) = (i, omega arith, q)
 
-    by : (b : Bool) → ((p.node == n) && (p.net == k)) ≡ b → (Contains ps (record { node = n; net = k; wire = w }) → Contains ps (record { node = n; net = k; wire = port_in ps n k })) → Contains (p ∷ ps) (record { node = n; net = k; wire = port_in (p ∷ ps) n k })
+    by : (b : Bool) → ((p.node.0 == n) && (p.net.0 == k)) ≡ b → (Contains ps (port_for n k w) → Contains ps (port_for n k (port_in ps n k))) → Contains (p ∷ ps) (port_for n k (port_in (p ∷ ps) n k))
     by true e more =
-        let q = and_parts (p.node == n) (p.net == k) e in
-        let f : port_in (p ∷ ps) n k ≡ p.wire = ap (λ b. if b then p.wire else port_in ps n k) e in
-        subst (λ z. Contains (p ∷ ps) (record { node = n; net = k; wire = z })) (sym f) (0, omega arith, same p (eq_from p.node n q.0) (eq_from p.net k q.1))
+        let q = and_parts (p.node.0 == n) (p.net.0 == k) e in
+        let f : port_in (p ∷ ps) n k ≡ p.wire.0 = ap (λ b. if b then p.wire.0 else port_in ps n k) e in
+        subst (λ z. Contains (p ∷ ps) (port_for n k z)) (sym f) (0, omega arith, same p (eq_from p.node.0 n q.0) (eq_from p.net.0 k q.1))
     by false e more =
-        let f : port_in (p ∷ ps) n k ≡ port_in ps n k = ap (λ b. if b then p.wire else port_in ps n k) e in
-        subst (λ z. Contains (p ∷ ps) (record { node = n; net = k; wire = z })) (sym f) (Contains-append_right (p ∷ []) ps (record { node = n; net = k; wire = port_in ps n k }) (more (tail e has)))
+        let f : port_in (p ∷ ps) n k ≡ port_in ps n k = ap (λ b. if b then p.wire.0 else port_in ps n k) e in
+        subst (λ z. Contains (p ∷ ps) (port_for n k z)) (sym f) (Contains-append_right (p ∷ []) ps (port_for n k (port_in ps n k)) (more (tail e has)))
 
 -- at different places of an ascending list stand different numbers
 one_place : (xs : List ℕ) (i j : ℕ) → AllPairs (λ a b. a < b) xs → i < length xs → j < length xs → nth_of xs i ≡ nth_of xs j → i ≡ j
@@ -98,7 +98,7 @@ module _ (m : Shape) (d : Defects) (count : ℕ) (T : ℕ → ℕ → Type 0) (t
     port_of : (n k : ℕ) → CrossesAt m count T n k → HasPort m d count T n k (port_in ports n k)
     port_of n k x =
         let g = held.given n k (cross_within n k x) x in
-        (All-contains (λ p. (p.node < nodes_of m) × CrossesAt m count T p.node p.net × HasPort m d count T p.node p.net p.wire) ports (record { node = n; net = k; wire = port_in ports n k }) held.each (port_found ports n k g.0 g.1)).2
+        (All-contains (λ p. (p.node.0 < nodes_of m) × CrossesAt m count T p.node.0 p.net.0 × HasPort m d count T p.node.0 p.net.0 p.wire.0) ports (port_for n k (port_in ports n k)) held.each (port_found ports n k g.0 g.1)).2
 
     -- a terminal's strand comes by a tap of its net
     tap_is : (n k t : ℕ) (s : NetSide) → VisitsAt m count T n k → T k t → IsAt m n t s → IsTapOf m d count T n k (tap_of (λ c. port_in ports c k) n s) × IsTap m n (tap_of (λ c. port_in ports c k) n s)
@@ -121,18 +121,18 @@ module _ (m : Shape) (d : Defects) (count : ℕ) (T : ℕ → ℕ → Type 0) (t
     pub choice_is : IsChoice m d count T ports vs
     choice_is = record {
       given = λ n k v. visits.given n k (visit_within n k v) v;
-      each = All-weaker (λ v. (v.node < nodes_of m) × VisitsAt m count T v.node v.net × Serves m d count T v.node v.net v.line) (λ v. VisitsAt m count T v.node v.net × IsLine m v.node v.line × IsFreeWire d v.line) (λ v s. (s.1, s.2.line, s.2.free)) vs visits.each;
+      each = All-weaker (λ v. (v.node.0 < nodes_of m) × VisitsAt m count T v.node.0 v.net.0 × Serves m d count T v.node.0 v.net.0 v.line.0) (λ v. VisitsAt m count T v.node.0 v.net.0 × IsLine m v.node.0 v.line.0 × IsFreeWire d v.line.0) (λ v s. (s.1, s.2.line, s.2.free)) vs visits.each;
       nets_apart = λ i j x lt l e. (visits.apart i j x lt l e).0;
       lines_apart = λ i j x lt l e.
           let a = (visits.each i x (omega arith)).2.line in
           let b = (visits.each j x l).2.line in
-          let same : (get_or vs i x).node ≡ (get_or vs j x).node = sym (tree.line_node (get_or vs i x).node (get_or vs i x).line a) ∙ ap (node_of m) e ∙ tree.line_node (get_or vs j x).node (get_or vs j x).line b in
+          let same : (get_or vs i x).node.0 ≡ (get_or vs j x).node.0 = sym (tree.line_node (get_or vs i x).node.0 (get_or vs i x).line.0 a) ∙ ap (node_of m) e ∙ tree.line_node (get_or vs j x).node.0 (get_or vs j x).line.0 b in
           (visits.apart i j x lt l same).1 e;
       are_ports = λ n k x. let h = port_of n k x in let f = port_is n k (port_in ports n k) h in (h, f.0, f.1);
       ports_apart = λ n k l x y e. port_one n k l (port_in ports n k) (port_in ports n l) (port_of n k x) (port_of n l y) e;
       serves = λ i y l t s has at.
           let v : Visit = get_or vs i y in
           let o = visits.each i y l in
-          let q = tap_is v.node v.net t s o.1 has at in
-          cross_is v.node v.net v.line (tap_of (λ c. port_in ports c v.net) v.node s) o.1 o.2 q.0 q.1;
+          let q = tap_is v.node.0 v.net.0 t s o.1 has at in
+          cross_is v.node.0 v.net.0 v.line.0 (tap_of (λ c. port_in ports c v.net.0) v.node.0 s) o.1 o.2 q.0 q.1;
     }

@@ -5,7 +5,7 @@ use Rattle.std.proofs.lemmas.List.{length-set, length-replicate, get_or-replicat
 use Rattle.std.proofs.lemmas.List.Elements.{Contains-push, Contains-push_cases, Contains-append_left}
 use Rattle.std.proofs.lemmas.Bool.{cases_eq, cases_lt}
 use Rattle.place_plan.specs.declared.terminals.Terminal.{Terminal}
-use Rattle.place_plan.specs.Vocabulary.{HasTerminal, AreGrouped, list_at}
+use Rattle.place_plan.specs.Vocabulary.{HasTerminal, AreGrouped, list_at, terminal_for}
 use Rattle.place_plan.proofs.Spreads.{at_set, at_other}
 use Rattle.place_plan.proofs.Those.{not_in_nil}
 
@@ -18,32 +18,32 @@ none_grouped count = record { sized = length-replicate count []; same = λ k w. 
     empty : (k : ℕ) → list_at (replicate count []) k ≡ []
     empty k = elim (cases_lt k count) [ inl l ↦ get_or-replicate count k [] [] l | inr l ↦ get_or_past (replicate count []) k [] (subst (λ z. z ≤ k) (sym (length-replicate count [])) l) ]
 
-pub more_grouped : (count : ℕ) (ts : List Terminal) (nets : List (List ℕ)) (t : Terminal) → t.net < count → AreGrouped count ts nets → AreGrouped count (ts ++ t ∷ []) (set nets t.net (list_at nets t.net ++ t.wire ∷ []))
+pub more_grouped : (count : ℕ) (ts : List Terminal) (nets : List (List ℕ)) (t : Terminal) → t.net.0 < count → AreGrouped count ts nets → AreGrouped count (ts ++ t ∷ []) (set nets t.net.0 (list_at nets t.net.0 ++ t.wire.0 ∷ []))
 more_grouped count ts nets t lt are = record {
-  sized = length-set nets t.net (list_at nets t.net ++ t.wire ∷ []) ∙ are.sized;
-  same = λ k w. elim (cases_eq k t.net) [
+  sized = length-set nets t.net.0 (list_at nets t.net.0 ++ t.wire.0 ∷ []) ∙ are.sized;
+  same = λ k w. elim (cases_eq k t.net.0) [
     | inl e ↦ (
-      λ has. elim (Contains-push_cases (list_at nets t.net) t.wire w (subst (λ z. Contains z w) (at_set nets t.net (list_at nets t.net ++ t.wire ∷ []) within) (subst (λ z. HasTerminal (set nets t.net (list_at nets t.net ++ t.wire ∷ [])) z w) e has))) [
-        | inl old ↦ Contains-append_left ts (t ∷ []) (record { net = k; wire = w }) ((are.same k w).0 (subst (λ z. HasTerminal nets z w) (sym e) old))
+      λ has. elim (Contains-push_cases (list_at nets t.net.0) t.wire.0 w (subst (λ z. Contains z w) (at_set nets t.net.0 (list_at nets t.net.0 ++ t.wire.0 ∷ []) within) (subst (λ z. HasTerminal (set nets t.net.0 (list_at nets t.net.0 ++ t.wire.0 ∷ [])) z w) e has))) [
+        | inl old ↦ Contains-append_left ts (t ∷ []) (terminal_for k w) ((are.same k w).0 (subst (λ z. HasTerminal nets z w) (sym e) old))
         | inr q ↦ subst (Contains (ts ++ t ∷ [])) (pair t k w (sym e) q) (Contains-push ts t)
       ],
-      λ has. subst (λ z. HasTerminal (set nets t.net (list_at nets t.net ++ t.wire ∷ [])) z w) (sym e) (subst (λ z. Contains z w) (sym (at_set nets t.net (list_at nets t.net ++ t.wire ∷ []) within)) (elim (Contains-push_cases ts t (record { net = k; wire = w }) has) [
-        | inl old ↦ Contains-append_left (list_at nets t.net) (t.wire ∷ []) w (subst (λ z. HasTerminal nets z w) e ((are.same k w).1 old))
-        | inr q ↦ subst (Contains (list_at nets t.net ++ t.wire ∷ [])) (ap (λ z. z.wire) q) (Contains-push (list_at nets t.net) t.wire)
+      λ has. subst (λ z. HasTerminal (set nets t.net.0 (list_at nets t.net.0 ++ t.wire.0 ∷ [])) z w) (sym e) (subst (λ z. Contains z w) (sym (at_set nets t.net.0 (list_at nets t.net.0 ++ t.wire.0 ∷ []) within)) (elim (Contains-push_cases ts t (terminal_for k w) has) [
+        | inl old ↦ Contains-append_left (list_at nets t.net.0) (t.wire.0 ∷ []) w (subst (λ z. HasTerminal nets z w) e ((are.same k w).1 old))
+        | inr q ↦ subst (Contains (list_at nets t.net.0 ++ t.wire.0 ∷ [])) (ap (λ z. z.wire.0) q) (Contains-push (list_at nets t.net.0) t.wire.0)
       ])),
     )
     | inr ne ↦ (
-      λ has. Contains-append_left ts (t ∷ []) (record { net = k; wire = w }) ((are.same k w).0 (subst (λ z. Contains z w) (at_other nets t.net k (list_at nets t.net ++ t.wire ∷ []) ne) has)),
-      λ has. subst (λ z. Contains z w) (sym (at_other nets t.net k (list_at nets t.net ++ t.wire ∷ []) ne)) (elim (Contains-push_cases ts t (record { net = k; wire = w }) has) [
+      λ has. Contains-append_left ts (t ∷ []) (terminal_for k w) ((are.same k w).0 (subst (λ z. Contains z w) (at_other nets t.net.0 k (list_at nets t.net.0 ++ t.wire.0 ∷ []) ne) has)),
+      λ has. subst (λ z. Contains z w) (sym (at_other nets t.net.0 k (list_at nets t.net.0 ++ t.wire.0 ∷ []) ne)) (elim (Contains-push_cases ts t (terminal_for k w) has) [
         | inl old ↦ (are.same k w).1 old
-        | inr q ↦ absurd (ne (sym (ap (λ z. z.net) q)))
+        | inr q ↦ absurd (ne (sym (ap (λ z. z.net.0) q)))
       ]),
     )
   ];
 }
   where
-    within : t.net < length nets
-    within = subst (λ z. t.net < z) (sym are.sized) lt
+    within : t.net.0 < length nets
+    within = subst (λ z. t.net.0 < z) (sym are.sized) lt
 
-    pair : (t : Terminal) (k w : ℕ) → t.net ≡ k → t.wire ≡ w → t ≡ record { net = k; wire = w }
-    pair t k w e f = λ i. record { net = e i; wire = f i }
+    pair : (t : Terminal) (k w : ℕ) → t.net.0 ≡ k → t.wire.0 ≡ w → t ≡ terminal_for k w
+    pair t k w e f = λ i. terminal_for (e i) (f i)

@@ -14,7 +14,7 @@ use Rattle.map_network.specs.declared.source.Source.TheVariants as source
 use Rattle.map_network.specs.Networks.{table_at, no_table, IsNetwork, IsSourceOf}
 use Rattle.place_plan.specs.declared.plan.Plan.{Plan}
 use Rattle.place_plan.specs.declared.terminals.Terminal.{Terminal}
-use Rattle.place_plan.specs.Vocabulary.{nth_of, IsPlan, IsTerminal, drives, reads, shows, net_by, nets_in, number_of, place_of, places, HasTerminal, AreGrouped, ArePlanNets, IsSized, all_terminals}
+use Rattle.place_plan.specs.Vocabulary.{nth_of, IsPlan, IsTerminal, drives, reads, shows, net_by, nets_in, number_of, place_of, places, HasTerminal, AreGrouped, ArePlanNets, IsSized, all_terminals, terminal_for}
 use Rattle.place_plan.specs.Plans.{net_of}
 use Rattle.place_plan.proofs.AllTerminals.{all_are}
 use Rattle.place_plan.proofs.Counting.{pigeon}
@@ -72,22 +72,22 @@ module _ (m : Shape) (d : Defects) (n : Network) (p : Plan) (network : IsNetwork
     terminal_net k w (reads j i s l b e) = net_below s (source_in j i s l b e)
     terminal_net k w (shows o s l e) = net_below s (subst (IsSourceOf n) e (network.outputs o s l))
 
-    listed : (k w : ℕ) → Contains (all_terminals m n p) (record { net = k; wire = w }) ↔ IsTerminal m n p k w
+    listed : (k w : ℕ) → Contains (all_terminals m n p) (terminal_for k w) ↔ IsTerminal m n p k w
     listed = all_are m n p plan.tables plan.inputs plan.outputs
 
-    pub nets_small : (ts : List Terminal) → ts ≡ all_terminals m n p → All (λ t. t.net < nets_in n) ts
+    pub nets_small : (ts : List Terminal) → ts ≡ all_terminals m n p → All (λ t. t.net.0 < nets_in n) ts
     nets_small ts e i t l =
         let x : Terminal = get_or ts i t in
         let c : Contains (all_terminals m n p) x = subst (λ z. Contains z x) e (All-contains_itself ts i t l) in
-        terminal_net x.net x.wire ((listed x.net x.wire).0 c)
+        terminal_net x.net.0 x.wire.0 ((listed x.net.0 x.wire.0).0 c)
 
     pub plan_nets : (ts : List Terminal) (nets : List (List ℕ)) (count : ℕ) → ts ≡ all_terminals m n p → count ≡ nets_in n → count < 2 ^ 32 → AreGrouped count ts nets → ArePlanNets m n p nets
     plan_nets ts nets count e f lt are = record {
       sized = are.sized ∙ f;
       few = subst (λ z. z < 2 ^ 32) (sym are.sized) lt;
-      same = λ k w. (λ h. there k w h, λ t. (are.same k w).1 (subst (λ z. Contains z (record { net = k; wire = w })) (sym e) ((listed k w).1 t)));
+      same = λ k w. (λ h. there k w h, λ t. (are.same k w).1 (subst (λ z. Contains z (terminal_for k w)) (sym e) ((listed k w).1 t)));
       within = λ k x l i y b. terminal_within k (get_or (get_or nets k x) i y) (there k (get_or (get_or nets k x) i y) (subst (λ z. Contains z (get_or (get_or nets k x) i y)) (get_or_default nets k x [] l) (Contains-get_or (get_or nets k x) i y b)));
     }
       where
         there : (k w : ℕ) → HasTerminal nets k w → IsTerminal m n p k w
-        there k w h = (listed k w).0 (subst (λ z. Contains z (record { net = k; wire = w })) e ((are.same k w).0 h))
+        there k w h = (listed k w).0 (subst (λ z. Contains z (terminal_for k w)) e ((are.same k w).0 h))

@@ -72,7 +72,7 @@ module _ (m : Shape) (d : Defects) (nets crossing ports : List (List ℕ)) (boar
       D = record { shape = m; list = d }
 
       net_at : ℕ → ℕ
-      net_at i = (ask_at asks i).net
+      net_at i = (ask_at asks i).net.0
 
       ask_of : (i : ℕ) → i < length asks → IsAskOf m nets crossing ports n (ask_at asks i)
       unfolding net_at
@@ -145,7 +145,7 @@ module _ (m : Shape) (d : Defects) (nets crossing ports : List (List ℕ)) (boar
             let g = All-contains (λ i. (w : ℕ) × Contains holds (record { ask = i; line = w })) (range_with_len 0 (length asks)) a.0 is.given (in_range (length asks) a.0 a.1) in
             (g.0, subst (λ z. Contains (map (pick_of asks) holds) (record { net = z; line = g.0 })) a.2 (contains_map (pick_of asks) holds (record { ask = a.0; line = g.0 }) g.1));
         each = All-map (λ p. VisitsAt m (length nets) (HasTerminal nets) n p.net × Serves m d (length nets) (HasTerminal nets) n p.net p.line) (pick_of asks) holds
-            (All-weaker (λ h. Contains (range_with_len 0 (length asks)) h.ask × Contains lines h.line × (serves_by D asks h.ask h.line ≡ true)) (λ h. VisitsAt m (length nets) (HasTerminal nets) n (ask_at asks h.ask).net × Serves m d (length nets) (HasTerminal nets) n (ask_at asks h.ask).net h.line)
+            (All-weaker (λ h. Contains (range_with_len 0 (length asks)) h.ask × Contains lines h.line × (serves_by D asks h.ask h.line ≡ true)) (λ h. VisitsAt m (length nets) (HasTerminal nets) n (ask_at asks h.ask).net.0 × Serves m d (length nets) (HasTerminal nets) n (ask_at asks h.ask).net.0 h.line)
             (λ h o. let l = range_below (length asks) h.ask o.0 in (net_visits h.ask l, serves_to h.ask h.line l o.1 o.2)) holds is.each);
         nets_apart = λ i j p lt l e.
             let lj : j < length holds = omega (arith, length-map holds (pick_of asks)) in

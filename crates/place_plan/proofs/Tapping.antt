@@ -83,14 +83,14 @@ module _ (m : Shape) (crossing ports : List (List ℕ)) (n k : ℕ) where
   )
 
 module _ (m : Shape) (nets crossing ports : List (List ℕ)) (n : ℕ) (touched : List ℕ) where
-  pub asks_more : (i : ℕ) (asks : List Ask) (taps : List ℕ) → AllPairs (λ a b. a < b) touched → i < length touched → AreAsksOf m nets crossing ports n touched i asks → VisitsIn m nets n (get_or touched i 0) → AreTaps m crossing ports n (get_or touched i 0) (list_at nets (get_or touched i 0)) taps → AreAsksOf m nets crossing ports n touched (i + 1) (asks ++ record { net = get_or touched i 0; taps = taps } ∷ [])
+  pub asks_more : (i : ℕ) (asks : List Ask) (taps : List ℕ) → AllPairs (λ a b. a < b) touched → i < length touched → AreAsksOf m nets crossing ports n touched i asks → VisitsIn m nets n (get_or touched i 0) → AreTaps m crossing ports n (get_or touched i 0) (list_at nets (get_or touched i 0)) taps → AreAsksOf m nets crossing ports n touched (i + 1) (asks ++ record { net = record { 0 = get_or touched i 0 }; taps = taps } ∷ [])
   asks_more i asks taps up lt are visits these = record {
     nets_are = subst (AreThose (IsAmongFirst (nth_of touched) (i + 1) (VisitsIn m nets n))) (sym (map-append net_of asks (a ∷ []))) (elements_step touched (VisitsIn m nets n) i true (map net_of asks) up lt (λ _. visits) (λ e. never e) are.nets_are);
     each = All-push (IsAskOf m nets crossing ports n) asks a are.each these;
   }
     where
       a : Ask
-      a = record { net = get_or touched i 0; taps = taps }
+      a = record { net = record { 0 = get_or touched i 0 }; taps = taps }
 
       never : true ≡ false → VisitsIn m nets n (get_or touched i 0) → ⊥
       never e v = cc

@@ -94,12 +94,12 @@ module _ (m : Shape) (d : Defects) (count : ℕ) (A B : ℕ → ℕ → Type 0) 
   pub visits_are_on : (nodes : ℕ) (vs : List Visit) → AreVisits m d count A nodes vs → AreVisits m d count B nodes vs
   visits_are_on nodes vs are = record {
     given = λ n k lt v. are.given n k lt (visit_back n k v);
-    each = All-weaker (λ v. (v.node < nodes) × VisitsAt m count A v.node v.net × Serves m d count A v.node v.net v.line) (λ v. (v.node < nodes) × VisitsAt m count B v.node v.net × Serves m d count B v.node v.net v.line) (λ v s. (s.0, visit_on v.node v.net s.1, on v.node v.net v.line s.2)) vs are.each;
+    each = All-weaker (λ v. (v.node.0 < nodes) × VisitsAt m count A v.node.0 v.net.0 × Serves m d count A v.node.0 v.net.0 v.line.0) (λ v. (v.node.0 < nodes) × VisitsAt m count B v.node.0 v.net.0 × Serves m d count B v.node.0 v.net.0 v.line.0) (λ v s. (s.0, visit_on v.node.0 v.net.0 s.1, on v.node.0 v.net.0 v.line.0 s.2)) vs are.each;
     apart = are.apart;
   }
 
   pub held_are_on : (nodes : ℕ) (ps : List Port) → AreHeld m d count A nodes ps → AreHeld m d count B nodes ps
   held_are_on nodes ps are = record {
     given = λ n k lt x. are.given n k lt (x.0, crosses_on m B A from k n x.1);
-    each = All-weaker (λ p. (p.node < nodes) × CrossesAt m count A p.node p.net × HasPort m d count A p.node p.net p.wire) (λ p. (p.node < nodes) × CrossesAt m count B p.node p.net × HasPort m d count B p.node p.net p.wire) (λ p s. (s.0, (s.1.0, crosses_on m A B to p.net p.node s.1.1), port_on m d count A B to from p.node p.net p.wire s.2)) ps are.each;
+    each = All-weaker (λ p. (p.node.0 < nodes) × CrossesAt m count A p.node.0 p.net.0 × HasPort m d count A p.node.0 p.net.0 p.wire.0) (λ p. (p.node.0 < nodes) × CrossesAt m count B p.node.0 p.net.0 × HasPort m d count B p.node.0 p.net.0 p.wire.0) (λ p s. (s.0, (s.1.0, crosses_on m A B to p.net.0 p.node.0 s.1.1), port_on m d count A B to from p.node.0 p.net.0 p.wire.0 s.2)) ps are.each;
   }

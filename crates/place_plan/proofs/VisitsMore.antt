@@ -6,7 +6,7 @@ use Rattle.std.proofs.lemmas.List.Elements.{All-nil, All-append, All-map, All-we
 use Rattle.std.proofs.lemmas.Bool.{cases_eq, cases_lt}
 use Rattle.machine_shape.specs.declared.Shape.{Shape}
 use Rattle.machine_meaning.specs.Defects.{Defects}
-use Rattle.place_plan.specs.Vocabulary.{Pick, AreThose, nth_of, CrossesAt, VisitsAt, HasPort, IsFreePort, Serves, NodeSuffices, AreVisits, AreHeld, GoOn, HoldOn, IsEnough, IsRoomAt, visit_of, port_by}
+use Rattle.place_plan.specs.Vocabulary.{Pick, AreThose, nth_of, CrossesAt, VisitsAt, HasPort, IsFreePort, Serves, NodeSuffices, AreVisits, AreHeld, GoOn, HoldOn, IsEnough, IsRoomAt, visit_of, port_by, visit_for, port_for}
 use Rattle.place_plan.specs.declared.short.Port.{Port}
 use Rattle.place_plan.specs.declared.short.Visit.{Visit}
 use Rattle.place_plan.proofs.Ranges.{in_range, range_all}
@@ -30,10 +30,10 @@ none_below k lt = omega arith
 
 module _ (m : Shape) (d : Defects) (count : ℕ) (terminal : ℕ → ℕ → Type 0) where
   abbrev IsServed : ℕ → Visit → Type 0
-  IsServed n v = (v.node < n) × VisitsAt m count terminal v.node v.net × Serves m d count terminal v.node v.net v.line
+  IsServed n v = (v.node.0 < n) × VisitsAt m count terminal v.node.0 v.net.0 × Serves m d count terminal v.node.0 v.net.0 v.line.0
 
   abbrev IsPortBefore : ℕ → Port → Type 0
-  IsPortBefore n p = (p.node < n) × CrossesAt m count terminal p.node p.net × HasPort m d count terminal p.node p.net p.wire
+  IsPortBefore n p = (p.node.0 < n) × CrossesAt m count terminal p.node.0 p.net.0 × HasPort m d count terminal p.node.0 p.net.0 p.wire.0
 
   pub nothing_yet : IsEnough m d count terminal 0 [] []
   nothing_yet = record {
@@ -43,8 +43,8 @@ module _ (m : Shape) (d : Defects) (count : ℕ) (terminal : ℕ → ℕ → Typ
   }
 
   module _ (n : ℕ) where
-    node_is : (picks : List Pick) (j : ℕ) (e : Visit) → j < length (map (visit_of n) picks) → (get_or (map (visit_of n) picks) j e).node ≡ n
-    node_is picks j e l = let lp : j < length picks = omega (arith, length-map picks (visit_of n)) in ap (λ v. v.node) (get_or-map (visit_of n) picks j no_pick e lp)
+    node_is : (picks : List Pick) (j : ℕ) (e : Visit) → j < length (map (visit_of n) picks) → (get_or (map (visit_of n) picks) j e).node.0 ≡ n
+    node_is picks j e l = let lp : j < length picks = omega (arith, length-map picks (visit_of n)) in ap (λ v. v.node.0) (get_or-map (visit_of n) picks j no_pick e lp)
 
     differ : (a b : ℕ) → a < b → a ≡ b → ⊥
     differ a b lt e = omega arith
@@ -52,20 +52,20 @@ module _ (m : Shape) (d : Defects) (count : ℕ) (terminal : ℕ → ℕ → Typ
     visits_more : (vs new : List Visit) → AreVisits m d count terminal n vs → GoOn m d count terminal n vs new → AreVisits m d count terminal (n + 1) new
     visits_more vs new are go = subst (AreVisits m d count terminal (n + 1)) (sym go.2) (record {
       given = λ i k lt v. elim (cases_eq i n) [
-        | inl e ↦ (let g = go.1.given k (subst (λ z. VisitsAt m count terminal z k) e v) in (g.0, Contains-append_right vs (map (visit_of n) go.0) (record { node = i; net = k; line = g.0 }) (subst (λ z. Contains (map (visit_of n) go.0) (record { node = z; net = k; line = g.0 })) (sym e) (contains_map (visit_of n) go.0 (record { net = k; line = g.0 }) g.1))))
-        | inr ne ↦ (let g = are.given i k (omega arith) v in (g.0, Contains-append_left vs (map (visit_of n) go.0) (record { node = i; net = k; line = g.0 }) g.1))
+        | inl e ↦ (let g = go.1.given k (subst (λ z. VisitsAt m count terminal z k) e v) in (g.0, Contains-append_right vs (map (visit_of n) go.0) (visit_for i k g.0) (subst (λ z. Contains (map (visit_of n) go.0) (visit_for z k g.0)) (sym e) (contains_map (visit_of n) go.0 (record { net = k; line = g.0 }) g.1))))
+        | inr ne ↦ (let g = are.given i k (omega arith) v in (g.0, Contains-append_left vs (map (visit_of n) go.0) (visit_for i k g.0) g.1))
       ];
       each = All-append (IsServed (n + 1)) vs (map (visit_of n) go.0)
           (All-weaker (IsServed n) (IsServed (n + 1)) (λ v s. (omega (arith, s.0), s.1, s.2)) vs are.each)
           (All-map (IsServed (n + 1)) (visit_of n) go.0 (λ k p l. let s = go.1.each k p l in (omega arith, s.0, s.1)));
-      apart = all_pairs_append (λ v u. v.node ≡ u.node → (v.net ≢ u.net) × (v.line ≢ u.line)) vs (map (visit_of n) go.0) are.apart
+      apart = all_pairs_append (λ v u. v.node.0 ≡ u.node.0 → (v.net.0 ≢ u.net.0) × (v.line.0 ≢ u.line.0)) vs (map (visit_of n) go.0) are.apart
           (λ i j x lt l e.
           let lp : j < length go.0 = omega (arith, length-map go.0 (visit_of n)) in
           let ip : i < length go.0 = omega arith in
           let a : get_or (map (visit_of n) go.0) i x ≡ visit_of n (get_or go.0 i no_pick) = get_or-map (visit_of n) go.0 i no_pick x ip in
           let b : get_or (map (visit_of n) go.0) j x ≡ visit_of n (get_or go.0 j no_pick) = get_or-map (visit_of n) go.0 j no_pick x lp in
-          (λ q. go.1.nets_apart i j no_pick lt lp (sym (ap (λ v. v.net) a) ∙ q ∙ ap (λ v. v.net) b), λ q. go.1.lines_apart i j no_pick lt lp (sym (ap (λ v. v.line) a) ∙ q ∙ ap (λ v. v.line) b)))
-          (λ i x lt j y l q. absurd (differ (get_or vs i x).node n (are.each i x lt).0 (q ∙ node_is go.0 j y l)));
+          (λ q. go.1.nets_apart i j no_pick lt lp (sym (ap (λ v. v.net.0) a) ∙ q ∙ ap (λ v. v.net.0) b), λ q. go.1.lines_apart i j no_pick lt lp (sym (ap (λ v. v.line.0) a) ∙ q ∙ ap (λ v. v.line.0) b)))
+          (λ i x lt j y l q. absurd (differ (get_or vs i x).node.0 n (are.each i x lt).0 (q ∙ node_is go.0 j y l)));
     })
 
     held_more : (crossing free : List ℕ) (ps new : List Port) → AreThose (CrossesAt m count terminal n) crossing → AreThose (IsFreePort m d n) free → AreHeld m d count terminal n ps → HoldOn n crossing free ps new → AreHeld m d count terminal (n + 1) new
@@ -76,10 +76,10 @@ module _ (m : Shape) (d : Defects) (count : ℕ) (terminal : ℕ → ℕ → Typ
             let q : nth_of crossing c.0 ≡ k = get_or_default crossing c.0 0 k c.1 ∙ c.2 in
             let h : Contains (map (port_by n crossing free) (range_with_len 0 (length crossing))) (port_by n crossing free c.0) = contains_map (port_by n crossing free) (range_with_len 0 (length crossing)) c.0 (in_range (length crossing) c.0 c.1) in (
               w,
-              Contains-append_right ps (map (port_by n crossing free) (range_with_len 0 (length crossing))) (record { node = i; net = k; wire = w })
-                  (subst (λ z. Contains (map (port_by n crossing free) (range_with_len 0 (length crossing))) (record { node = z; net = k; wire = w })) (sym e) (subst (λ z. Contains (map (port_by n crossing free) (range_with_len 0 (length crossing))) (record { node = n; net = z; wire = w })) q h)),
+              Contains-append_right ps (map (port_by n crossing free) (range_with_len 0 (length crossing))) (port_for i k w)
+                  (subst (λ z. Contains (map (port_by n crossing free) (range_with_len 0 (length crossing))) (port_for z k w)) (sym e) (subst (λ z. Contains (map (port_by n crossing free) (range_with_len 0 (length crossing))) (port_for n z w)) q h)),
             ))
-        | inr ne ↦ (let g = are.given i k (omega arith) x in (g.0, Contains-append_left ps (map (port_by n crossing free) (range_with_len 0 (length crossing))) (record { node = i; net = k; wire = g.0 }) g.1))
+        | inr ne ↦ (let g = are.given i k (omega arith) x in (g.0, Contains-append_left ps (map (port_by n crossing free) (range_with_len 0 (length crossing))) (port_for i k g.0) g.1))
       ];
       each = All-append (IsPortBefore (n + 1)) ps (map (port_by n crossing free) (range_with_len 0 (length crossing)))
           (All-weaker (IsPortBefore n) (IsPortBefore (n + 1)) (λ p s. (omega (arith, s.0), s.1, s.2)) ps are.each)

@@ -38,7 +38,7 @@ IsAnswer serves nets lines (Lacking set need have) = IsShort serves nets lines s
 -- ---- who asks at a node
 
 abbrev pub no_ask : Ask
-no_ask = record { net = 0; taps = [] }
+no_ask = record { net = record { 0 = 0 }; taps = [] }
 
 abbrev pub ask_at : List Ask → ℕ → Ask
 ask_at asks i = slice_index_or asks i no_ask

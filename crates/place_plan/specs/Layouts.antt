@@ -10,7 +10,7 @@ use Rattle.place_plan.specs.declared.search.Ask.{Ask}
 use Rattle.place_plan.specs.declared.search.Hold.{Hold}
 use Rattle.place_plan.specs.declared.short.Need.{Need}
 use Rattle.place_plan.specs.Room.{Pick, HasTerminal, CrossesAt, VisitsAt, HasPort, Serves, IsChoiceAt, PortsSuffice, PortsAreShort}
-use Rattle.place_plan.specs.Room.{AreShort, NodeSuffices, Suffices, IsFirstShort, IsFreePort}
+use Rattle.place_plan.specs.Room.{AreShort, NodeSuffices, Suffices, IsFirstShort, IsFreePort, port_for, visit_for}
 use Rattle.place_plan.specs.declared.short.Port.{Port}
 use Rattle.place_plan.specs.declared.short.Resource.{Resource}
 use Rattle.place_plan.specs.declared.short.Resource.TheVariants.{Tables, Pins, Ports, Lines}
@@ -24,16 +24,16 @@ use Rattle.place_plan.specs.Touches.{AreTouched}
 
 -- the net that gets a line, by the place of its ask
 abbrev pub pick_of : List Ask → Hold → Pick
-pick_of asks h = record { net = (ask_at asks h.ask).net; line = h.line }
+pick_of asks h = record { net = (ask_at asks h.ask).net.0; line = h.line }
 
 abbrev pub net_in : List Ask → ℕ → ℕ
-net_in asks i = (ask_at asks i).net
+net_in asks i = (ask_at asks i).net.0
 
 abbrev pub visit_of : ℕ → Pick → Visit
-visit_of n p = record { node = n; net = p.net; line = p.line }
+visit_of n p = visit_for n p.net p.line
 
 abbrev pub visit_by : ℕ → List Ask → Hold → Visit
-visit_by n asks h = record { node = n; net = (ask_at asks h.ask).net; line = h.line }
+visit_by n asks h = visit_for n (ask_at asks h.ask).net.0 h.line
 
 -- the visits go on by those of a choice of lines at the node
 abbrev pub GoOn : Shape → Defects → ℕ → (ℕ → ℕ → Type 0) → ℕ → List Visit → List Visit → Type 0
@@ -49,14 +49,14 @@ IsLackOf n need have s = (s.resource ≡ Ports) × (s.node.0 ≡ n) × (s.need �
 
 -- the lines of the nets at the first nodes
 pub record AreVisits (m : Shape) (d : Defects) (count : ℕ) (terminal : ℕ → ℕ → Type 0) (nodes : ℕ) (visits : List Visit) : Type 0 where
-  pub given : (n k : ℕ) → n < nodes → VisitsAt m count terminal n k → (w : ℕ) × Contains visits (record { node = n; net = k; line = w })
-  pub each : All (λ v. (v.node < nodes) × VisitsAt m count terminal v.node v.net × Serves m d count terminal v.node v.net v.line) visits
-  pub apart : AllPairs (λ v u. v.node ≡ u.node → (v.net ≢ u.net) × (v.line ≢ u.line)) visits
+  pub given : (n k : ℕ) → n < nodes → VisitsAt m count terminal n k → (w : ℕ) × Contains visits (visit_for n k w)
+  pub each : All (λ v. (v.node.0 < nodes) × VisitsAt m count terminal v.node.0 v.net.0 × Serves m d count terminal v.node.0 v.net.0 v.line.0) visits
+  pub apart : AllPairs (λ v u. v.node.0 ≡ u.node.0 → (v.net.0 ≢ u.net.0) × (v.line.0 ≢ u.line.0)) visits
 
 -- the ports of the nets at the first nodes
 pub record AreHeld (m : Shape) (d : Defects) (count : ℕ) (terminal : ℕ → ℕ → Type 0) (nodes : ℕ) (ports : List Port) : Type 0 where
-  pub given : (n k : ℕ) → n < nodes → CrossesAt m count terminal n k → (w : ℕ) × Contains ports (record { node = n; net = k; wire = w })
-  pub each : All (λ p. (p.node < nodes) × CrossesAt m count terminal p.node p.net × HasPort m d count terminal p.node p.net p.wire) ports
+  pub given : (n k : ℕ) → n < nodes → CrossesAt m count terminal n k → (w : ℕ) × Contains ports (port_for n k w)
+  pub each : All (λ p. (p.node.0 < nodes) × CrossesAt m count terminal p.node.0 p.net.0 × HasPort m d count terminal p.node.0 p.net.0 p.wire.0) ports
 
 -- by its resource, ports or lines are short at its node
 abbrev pub NodeIsShortOf : Resource → Shape → Defects → ℕ → (ℕ → ℕ → Type 0) → Short → Type 0
@@ -86,7 +86,7 @@ IsRoom m d count terminal tables pins (Lacks s) = IsFirstShort m d count termina
 
 -- the ports of the nets that cross a node
 abbrev pub port_by : ℕ → List ℕ → List ℕ → ℕ → Port
-port_by n crossing ports j = record { node = n; net = nth_of crossing j; wire = nth_of ports j }
+port_by n crossing ports j = port_for n (nth_of crossing j) (nth_of ports j)
 
 -- the ports go on by those of the nets that cross the node
 abbrev pub HoldOn : ℕ → List ℕ → List ℕ → List Port → List Port → Type 0

@@ -7,9 +7,11 @@ use Rattle.machine_shape.specs.declared.Shape.{Shape}
 use Rattle.machine_shape.specs.Shape.{nodes_of, crosses_of, ends_of, node_of, parent_of, IsLine, IsPort}
 use Rattle.machine_meaning.specs.Defects.{Defects, IsFreeWire, IsFreeCross}
 use Rattle.place_plan.specs.declared.short.Need.{Need}
+use Rattle.place_plan.specs.declared.short.Port.{Port}
 use Rattle.place_plan.specs.declared.short.Resource.{Resource}
 use Rattle.place_plan.specs.declared.short.Resource.TheVariants.{Tables, Pins, Ports, Lines}
 use Rattle.place_plan.specs.declared.short.Short.{Short}
+use Rattle.place_plan.specs.declared.short.Visit.{Visit}
 use Rattle.place_plan.specs.Lists.{AreThose, IsNth}
 use Rattle.place_plan.specs.Strands.{Crosses, Visits}
 
@@ -17,6 +19,14 @@ use Rattle.place_plan.specs.Strands.{Crosses, Visits}
 pub record Pick : Type 0 where
   pub net : ℕ
   pub line : ℕ
+
+-- the port w of node n as that of net k
+abbrev pub port_for : ℕ → ℕ → ℕ → Port
+port_for n k w = record { node = record { 0 = n }; net = record { 0 = k }; wire = record { 0 = w } }
+
+-- the line w of node n as that of net k
+abbrev pub visit_for : ℕ → ℕ → ℕ → Visit
+visit_for n k w = record { node = record { 0 = n }; net = record { 0 = k }; line = record { 0 = w } }
 
 -- the wire is one of these
 abbrev pub IsAmong : List ℕ → ℕ → Type 0

@@ -49,7 +49,7 @@ with_option xs None = xs
 with_option xs (Some t) = with_last xs t
 
 abbrev pub net_of : Ask → ℕ
-net_of a = a.net
+net_of a = a.net.0
 
 -- by the list of each net's terminals, net k visits the node
 abbrev pub VisitsIn : Shape → List (List ℕ) → ℕ → ℕ → Type 0
@@ -57,7 +57,7 @@ VisitsIn m nets n k = Visits m (HasTerminal nets k) n
 
 -- the ask has the taps of its net
 abbrev pub IsAskOf : Shape → List (List ℕ) → List (List ℕ) → List (List ℕ) → ℕ → Ask → Type 0
-IsAskOf m nets crossing ports n a = AreTaps m crossing ports n a.net (list_at nets a.net) a.taps
+IsAskOf m nets crossing ports n a = AreTaps m crossing ports n a.net.0 (list_at nets a.net.0) a.taps
 
 -- one ask for each net of the first that visits the node, ascending
 pub record AreAsksOf (m : Shape) (nets crossing ports : List (List ℕ)) (n : ℕ) (touched : List ℕ) (i : ℕ) (asks : List Ask) : Type 0 where

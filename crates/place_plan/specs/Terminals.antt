@@ -14,6 +14,10 @@ use Rattle.place_plan.specs.Lists.{nth_of}
 use Rattle.place_plan.specs.Plans.{IsTerminal, net_by, nets_in, places}
 use Rattle.place_plan.specs.Room.{HasTerminal}
 
+-- the wire w as a terminal of net k
+abbrev pub terminal_for : ℕ → ℕ → Terminal
+terminal_for k w = record { net = record { 0 = k }; wire = record { 0 = w } }
+
 abbrev pub first_input : Source
 first_input = source.Input 0
 
@@ -22,7 +26,7 @@ source_at sources k = slice_index_or sources k first_input
 
 -- what a table's k-th pin reads
 abbrev pub read_by : Shape → ℕ → ℕ → List Source → ℕ → Terminal
-read_by m inputs place sources k = record { net = net_by inputs (source_at sources k); wire = table_wire m place k }
+read_by m inputs place sources k = terminal_for (net_by inputs (source_at sources k)) (table_wire m place k)
 
 -- what its first pins read
 abbrev pub reads_of : Shape → ℕ → ℕ → List Source → ℕ → List Terminal
@@ -36,19 +40,19 @@ abbrev pub reads_to : Shape → Network → List ℕ → ℕ → List Terminal
 reads_to m n places j = flat_map (reads_at m n places) (range_with_len 0 j)
 
 abbrev pub drive_by : Shape → List ℕ → ℕ → Terminal
-drive_by m ins k = record { net = k; wire = pin_wire m (nth_of ins k) }
+drive_by m ins k = terminal_for k (pin_wire m (nth_of ins k))
 
 abbrev pub drive_terminals : Shape → List ℕ → ℕ → List Terminal
 drive_terminals m ins n = map (drive_by m ins) (range_with_len 0 n)
 
 abbrev pub give_by : Shape → ℕ → List ℕ → ℕ → Terminal
-give_by m inputs places j = record { net = inputs + j; wire = table_wire m (nth_of places j) 6 }
+give_by m inputs places j = terminal_for (inputs + j) (table_wire m (nth_of places j) 6)
 
 abbrev pub gives_of : Shape → ℕ → List ℕ → ℕ → List Terminal
 gives_of m inputs places n = map (give_by m inputs places) (range_with_len 0 n)
 
 abbrev pub show_by : Shape → ℕ → List ℕ → List Source → ℕ → Terminal
-show_by m inputs outs sources o = record { net = net_by inputs (source_at sources o); wire = pin_wire m (nth_of outs o) }
+show_by m inputs outs sources o = terminal_for (net_by inputs (source_at sources o)) (pin_wire m (nth_of outs o))
 
 abbrev pub shows_of : Shape → ℕ → List ℕ → List Source → ℕ → List Terminal
 shows_of m inputs outs sources n = map (show_by m inputs outs sources) (range_with_len 0 n)
@@ -65,7 +69,7 @@ NetsBelow inputs count sources = All (λ s. net_by inputs s < count) sources
 -- the lists have the wires of these terminals by their nets
 pub record AreGrouped (count : ℕ) (ts : List Terminal) (nets : List (List ℕ)) : Type 0 where
   pub sized : length nets ≡ count
-  pub same : (k w : ℕ) → HasTerminal nets k w ↔ Contains ts (record { net = k; wire = w })
+  pub same : (k w : ℕ) → HasTerminal nets k w ↔ Contains ts (terminal_for k w)
 
 -- what the lists of terminals ask of a plan for a network
 pub record IsSized (m : Shape) (n : Network) (p : Plan) : Type 0 where

@@ -3,7 +3,7 @@ pub use Rattle.place_plan.specs.Lists.{AreLists, AreThose, IsAmongFirst, IsNth, 
 pub use Rattle.place_plan.specs.Strands.{Crosses, IsAt, IsInside, IsStrand, Visits, at_child, at_outside, at_own, tap_of}
 pub use Rattle.place_plan.specs.Room.{ArePorts, AreShort, CrossesAt, CrossesIn, HasPort, HasTerminal, IsAmong, IsChoiceAt, IsFirstShort}
 pub use Rattle.place_plan.specs.Room.{IsFreePort, IsMet, IsShortOf, IsTapOf, IsUnmet, NodeSuffices, Pick, PortsAreShort, PortsSuffice}
-pub use Rattle.place_plan.specs.Room.{Serves, Suffices, VisitsAt, by_child, by_port, by_terminal}
+pub use Rattle.place_plan.specs.Room.{Serves, Suffices, VisitsAt, by_child, by_port, by_terminal, port_for, visit_for}
 pub use Rattle.place_plan.specs.Choices.{AreWires, IsAnswer, IsAssignment, IsShort, IsSite, ask_at, is_shut, is_shut_cross, no_ask}
 pub use Rattle.place_plan.specs.Choices.{serves_any, serves_by}
 pub use Rattle.place_plan.specs.Layouts.{AreHeld, AreVisits, GoOn, HoldOn, IsBoardOf, IsEnough, IsFirstLack, IsLackOf, IsNodesRoom, IsRoom}
@@ -13,7 +13,7 @@ pub use Rattle.place_plan.specs.Plans.{AreNeeds, Fits, FitsInOrder, InOrderIsSho
 pub use Rattle.place_plan.specs.Plans.{IsInOrderOf, IsPlaceFail, IsPlan, IsShortInOrder, IsTerminal, driver_of, drives, net_by, nets_in}
 pub use Rattle.place_plan.specs.Plans.{number_of, place_of, places, reads, shows}
 pub use Rattle.place_plan.specs.Terminals.{AreGrouped, ArePlanNets, IsSized, all_terminals, drive_by, drive_terminals, first_input, give_by}
-pub use Rattle.place_plan.specs.Terminals.{gives_of, read_by, reads_at, reads_of, reads_to, show_by, shows_of}
+pub use Rattle.place_plan.specs.Terminals.{gives_of, read_by, reads_at, reads_of, reads_to, show_by, shows_of, terminal_for}
 pub use Rattle.place_plan.specs.Choosing.{HasFreeCross, HasLine, IsChoice, port_in}
 pub use Rattle.place_plan.specs.Laying.{FitsWith, IsLaid, IsLayout}
 pub use Rattle.place_plan.specs.Trees.{AreHomes, AreParents, IsClimb}

@@ -42,7 +42,7 @@ pub use numbers::empty_lists;
 pub use plan::Plan;
 pub use ports::crossings as crossing_nets;
 pub use room::look_for_room;
-pub use short::{Need, PlaceFail, Port, Resource, Room, Short, Visit, short_of};
+pub use short::{Need, Net, PlaceFail, Port, Resource, Room, Short, Visit, short_of};
 pub use sound_room::{enough_free_parts_are_room, sound_parts_are_room, standing_parts_are_room};
 pub use strand::strand_at;
 pub use terminals::nets_of_plan;

@@ -8,7 +8,7 @@ use crate::plan::Plan;
 use crate::short::Need;
 use base_lists::Items;
 use machine_defects::Defects;
-use machine_shape::Table;
+use machine_shape::{Pin, Table};
 use map_network::Network;
 use std::alloc::{AllocError, Global};
 
@@ -31,7 +31,7 @@ pub fn free_pins(alloc: Global, defects: &Defects) -> Result<Items<u32>, AllocEr
     let shape = defects.shape();
     let mut pins = Items::empty(alloc);
     for k in 0..shape.pins() {
-        push_if(&mut pins, k, defects.free_wire(shape.pin(k)))?;
+        push_if(&mut pins, k, defects.free_wire(shape.pin(Pin(k))))?;
     }
     Ok(pins)
 }

@@ -7,6 +7,7 @@ ghost use Rattle.place_plan.specs.Room.{CrossesAt, HasTerminal, IsFreePort};
 ghost use Rattle.place_plan.specs.Touches.{AreTouched, TouchesOf};
 
 use crate::numbers::push_if;
+use crate::short::Net;
 use crate::strand::leaves;
 use crate::tree::Tree;
 use base_lists::Items;
@@ -80,15 +81,15 @@ pub fn free_ports(alloc: Global, defects: &Defects) -> Result<Vec<Items<u32>>, A
 }
 
 /// The port that a net has by the nets that cross a node and its free ports, if there are so many.
-pub fn port_of(crossing: &[u32], ports: &[u32], net: u32) -> Option<u32>
-    ensures found { IfSome result (λ w. (j : ℕ) × IsNth crossing.now j net × IsNth ports.now j w) }
-    ensures none { IfNone result ((j : ℕ) → IsNth crossing.now j net → length ports.now ≤ j) }
+pub fn port_of(crossing: &[u32], ports: &[u32], net: Net) -> Option<u32>
+    ensures found { IfSome result (λ w. (j : ℕ) × IsNth crossing.now j net.0 × IsNth ports.now j w) }
+    ensures none { IfNone result ((j : ℕ) → IsNth crossing.now j net.0 → length ports.now ≤ j) }
 {
     for k in 0..crossing.len() {
         if k == ports.len() {
             return None;
         }
-        if crossing[k] == net {
+        if crossing[k] == net.0 {
             return Some(ports[k]);
         }
     }

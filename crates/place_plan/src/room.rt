@@ -9,11 +9,11 @@ ghost use Rattle.place_plan.specs.Room.{HasTerminal};
 use crate::assign::assign;
 use crate::board::{Board, board_of};
 use crate::search::{Ask, Assigned, Hold};
-use crate::short::{Need, Port, Resource, Room, Short, Visit, short_of};
+use crate::short::{Need, Net, Port, Resource, Room, Short, Visit, short_of};
 use crate::taps::{Crossed, asks_at, free_lines};
 use base_lists::Items;
 use machine_defects::Defects;
-use machine_shape::Node;
+use machine_shape::{Node, Wire};
 use std::alloc::{AllocError, Global};
 
 // Adds the lines that are given at a node.
@@ -28,9 +28,9 @@ fn push_visits(
 {
     for hold in holds {
         visits.push(Visit {
-            node,
+            node: Node(node),
             net: asks[hold.ask].net,
-            line: hold.line,
+            line: Wire(hold.line),
         })?;
     }
     Ok(())
@@ -43,7 +43,7 @@ fn nets_of(alloc: Global, asks: &[Ask], set: &[usize]) -> Result<Items<u32>, All
 {
     let mut nets = Items::empty(alloc);
     for i in set {
-        nets.push(asks[*i].net)?;
+        nets.push(asks[*i].net.0)?;
     }
     Ok(nets)
 }
@@ -124,9 +124,9 @@ fn push_ports(
 {
     for j in 0..crossing.len() {
         held.push(Port {
-            node,
-            net: crossing[j],
-            wire: ports[j],
+            node: Node(node),
+            net: Net(crossing[j]),
+            wire: Wire(ports[j]),
         })?;
     }
     Ok(())

@@ -6,6 +6,7 @@ ghost use Rattle.place_plan.specs.Choices.{AreWires, IsSite, is_shut, serves_all
 ghost use Rattle.place_plan.specs.Search.{AreScanned, AreSeen, AskWithin, CanShift, GoesOn, IsDeadEnd, IsFree, IsPartial, IsShifted, IsStuck};
 ghost use Rattle.place_plan.specs.Search.{IsTrail, OwnWithin, line_at, step_at};
 
+use crate::short::Net;
 use base_lists::Items;
 use machine_defects::Defects;
 use machine_shape::Wire;
@@ -14,7 +15,7 @@ use std::alloc::{AllocError, Global};
 /// A net that asks for a line at a node, and its taps there.
 #[derive(Debug, Drop)]
 pub struct Ask {
-    pub net: u32,
+    pub net: Net,
     pub taps: Items<u32>,
 }
 

@@ -3,7 +3,7 @@ ghost use Rattle.std.specs.Prelude.{◌≡◌, []};
 ghost use Rattle.place_plan.specs.declared.short.PlaceFail.TheVariants.{Memory};
 
 use base_lists::Items;
-use machine_shape::Node;
+use machine_shape::{Node, Wire};
 use std::alloc::{AllocError, Global};
 
 /// How many of a resource are wanted, and how many there are.
@@ -13,20 +13,24 @@ pub struct Need {
     pub have: u64,
 }
 
+/// The number of a net: k for input k, and the number of inputs plus j for table j.
+#[derive(Clone, Copy, Debug, PartialEq, Eq, PartialOrd, Ord)]
+pub struct Net(pub u32);
+
 /// The port that a net has at a node that it crosses.
 #[derive(Clone, Copy, Debug, PartialEq, Eq)]
 pub struct Port {
-    pub node: u32,
-    pub net: u32,
-    pub wire: u32,
+    pub node: Node,
+    pub net: Net,
+    pub wire: Wire,
 }
 
 /// The line that a net has at a node that it visits.
 #[derive(Clone, Copy, Debug, PartialEq, Eq)]
 pub struct Visit {
-    pub node: u32,
-    pub net: u32,
-    pub line: u32,
+    pub node: Node,
+    pub net: Net,
+    pub line: Wire,
 }
 
 /// What nets and tables want of a machine.
@@ -48,8 +52,7 @@ pub struct Short {
     pub need: u64,
     /// How many there are; for lines, how many serve at least one net of the set. It is below `need`.
     pub have: u64,
-    /// For lines, a set of nets that shows that they are short, ascending; empty for the others. A net's number is k
-    /// for input k, and the number of inputs plus j for table j.
+    /// For lines, the numbers of a set of nets that shows that they are short, ascending; empty for the others.
     pub nets: Items<u32>,
 }
 

@@ -9,11 +9,12 @@ ghost use Rattle.place_plan.specs.Touches.{TouchesOf, list_at};
 use crate::numbers::{push_if, push_last};
 use crate::ports::port_of;
 use crate::search::Ask;
+use crate::short::Net;
 use crate::strand::{strand_at, visits};
 use crate::tree::{NetSide, Tree};
 use base_lists::Items;
 use machine_defects::Defects;
-use machine_shape::Node;
+use machine_shape::{Node, Wire};
 use std::alloc::{AllocError, Global};
 
 /// Which nets cross each node, and which ports are free there.
@@ -27,32 +28,33 @@ pub struct Crossed<'a> {
 }
 
 // The port that a net has at a node, if there are so many.
-fn held(crossing: &[Items<u32>], ports: &[Items<u32>], node: u32, net: u32) -> Option<u32>
-    requires crossing { node < length crossing.now }
-    requires ports { node < length ports.now }
-    requires ascending { AllPairs (λ a b. a < b) (list_at crossing.now node) }
-    ensures { IsFound (IsHeld crossing.now ports.now node net) result }
+fn held(crossing: &[Items<u32>], ports: &[Items<u32>], node: Node, net: Net) -> Option<u32>
+    requires crossing { node.0 < length crossing.now }
+    requires ports { node.0 < length ports.now }
+    requires ascending { AllPairs (λ a b. a < b) (list_at crossing.now node.0) }
+    ensures { IsFound (IsHeld crossing.now ports.now node.0 net.0) result }
 {
     port_of(
-        crossing[node as usize].as_slice(),
-        ports[node as usize].as_slice(),
+        crossing[node.0 as usize].as_slice(),
+        ports[node.0 as usize].as_slice(),
         net,
     )
 }
 
 // The tap by which a net comes to a node for one of its terminals, if the net has the port.
-fn tap_at(crossed: &Crossed<'_>, node: u32, net: u32, wire: u32) -> Option<u32>
-    requires node { node < nodes_of crossed.now.tree.now.shape }
-    requires wire { wire < wires_of crossed.now.tree.now.shape }
+fn tap_at(crossed: &Crossed<'_>, node: Node, net: Net, wire: Wire) -> Option<u32>
+    requires node { node.0 < nodes_of crossed.now.tree.now.shape }
+    requires wire { wire.0 < wires_of crossed.now.tree.now.shape }
     requires crossing { length crossed.now.crossing.now ≡ nodes_of crossed.now.tree.now.shape }
     requires ports { length crossed.now.ports.now ≡ nodes_of crossed.now.tree.now.shape }
     requires ascending { AreAscending (nodes_of crossed.now.tree.now.shape) crossed.now.crossing.now }
-    ensures { IsFound (IsTapFor crossed.now.tree.now.shape crossed.now.crossing.now crossed.now.ports.now node net wire) result }
+    ensures { IsFound (IsTapFor crossed.now.tree.now.shape crossed.now.crossing.now crossed.now.ports.now
+        node.0 net.0 wire.0) result }
 {
     machine_shape::the_numbering_is_sound();
-    match strand_at(crossed.tree, node, wire) {
+    match strand_at(crossed.tree, node.0, wire.0) {
         NetSide::Own(tap) => Some(tap),
-        NetSide::Child(child) => held(crossed.crossing, crossed.ports, child, net),
+        NetSide::Child(child) => held(crossed.crossing, crossed.ports, Node(child), net),
         NetSide::Outside => held(crossed.crossing, crossed.ports, node, net),
     }
 }
@@ -71,20 +73,21 @@ fn push_tap(taps: &mut Items<u32>, tap: Option<u32>) -> Result<(), AllocError>
 fn taps_of(
     alloc: Global,
     crossed: &Crossed<'_>,
-    node: u32,
-    net: u32,
+    node: Node,
+    net: Net,
     wires: &[u32],
 ) -> Result<Items<u32>, AllocError>
-    requires node { node < nodes_of crossed.now.tree.now.shape }
+    requires node { node.0 < nodes_of crossed.now.tree.now.shape }
     requires wires { AreWires crossed.now.tree.now.shape wires.now }
     requires crossing { length crossed.now.crossing.now ≡ nodes_of crossed.now.tree.now.shape }
     requires ports { length crossed.now.ports.now ≡ nodes_of crossed.now.tree.now.shape }
     requires ascending { AreAscending (nodes_of crossed.now.tree.now.shape) crossed.now.crossing.now }
-    ensures { IfOk result (AreTaps crossed.now.tree.now.shape crossed.now.crossing.now crossed.now.ports.now node net wires.now) }
+    ensures { IfOk result (AreTaps crossed.now.tree.now.shape crossed.now.crossing.now crossed.now.ports.now
+        node.0 net.0 wires.now) }
 {
     let mut taps = Items::empty(alloc);
     for wire in wires {
-        push_tap(&mut taps, tap_at(crossed, node, net, *wire))?;
+        push_tap(&mut taps, tap_at(crossed, node, net, Wire(*wire)))?;
     }
     Ok(taps)
 }
@@ -109,8 +112,8 @@ pub fn asks_at(
     for k in touched {
         let wires = nets[*k as usize].as_slice();
         if visits(crossed.tree, wires, node) {
-            let taps = taps_of(alloc, crossed, node, *k, wires)?;
-            asks.push(Ask { net: *k, taps })?;
+            let taps = taps_of(alloc, crossed, Node(node), Net(*k), wires)?;
+            asks.push(Ask { net: Net(*k), taps })?;
         }
     }
     Ok(asks)

@@ -9,27 +9,28 @@ ghost use Rattle.map_network.specs.Networks.{IsNetwork};
 
 use crate::numbers::empty_lists;
 use crate::plan::Plan;
+use crate::short::Net;
 use base_lists::Items;
 use machine_defects::Defects;
-use machine_shape::{Shape, Table};
+use machine_shape::{Pin, Shape, Table, Wire};
 use map_network::{Network, Source};
 use std::alloc::{AllocError, Global};
 
 /// A wire that a net has to reach.
 #[derive(Clone, Copy, Debug)]
 pub struct Terminal {
-    pub net: u32,
-    pub wire: u32,
+    pub net: Net,
+    pub wire: Wire,
 }
 
-// The number of a source's net.
-fn net_of(inputs: u32, source: Source) -> u32
+// A source's net.
+fn net_of(inputs: u32, source: Source) -> Net
     requires { net_by inputs source < 2 ^ 32 }
-    ensures { result ≡ net_by inputs source }
+    ensures { result.0 ≡ net_by inputs source }
 {
     match source {
-        Source::Input(k) => k,
-        Source::Table(j) => inputs + j,
+        Source::Input(k) => Net(k),
+        Source::Table(j) => Net(inputs + j),
     }
 }
 
@@ -41,8 +42,8 @@ fn push_drives(terminals: &mut Vec<Terminal>, shape: &Shape, pins: &[u32]) -> Re
 {
     for k in 0..pins.len() {
         terminals.push(Terminal {
-            net: k as u32,
-            wire: shape.pin(pins[k]).0,
+            net: Net(k as u32),
+            wire: shape.pin(Pin(pins[k])),
         })?;
     }
     Ok(())
@@ -62,8 +63,8 @@ fn push_gives(
 {
     for j in 0..places.len() {
         terminals.push(Terminal {
-            net: inputs + j as u32,
-            wire: shape.pin_of(places[j], 6).0,
+            net: Net(inputs + j as u32),
+            wire: shape.pin_of(places[j], 6),
         })?;
     }
     Ok(())
@@ -86,7 +87,7 @@ fn push_reads(
     for k in 0..sources.len() {
         terminals.push(Terminal {
             net: net_of(inputs, sources[k]),
-            wire: shape.pin_of(place, k as u32).0,
+            wire: shape.pin_of(place, k as u32),
         })?;
     }
     Ok(())
@@ -134,7 +135,7 @@ fn push_shows(
     for o in 0..pins.len() {
         terminals.push(Terminal {
             net: net_of(inputs, sources[o]),
-            wire: shape.pin(pins[o]).0,
+            wire: shape.pin(Pin(pins[o])),
         })?;
     }
     Ok(())
@@ -142,16 +143,16 @@ fn push_shows(
 
 // Adds a terminal to its net.
 fn add(nets: &mut [Items<u32>], terminal: Terminal) -> Result<(), AllocError>
-    requires { terminal.net < length nets.old }
-    ensures { OnOk result (nets.new ≡ slice_set nets.old terminal.net (list_at nets.old terminal.net ++ terminal.wire ∷ [])) }
+    requires { terminal.net.0 < length nets.old }
+    ensures { OnOk result (nets.new ≡ slice_set nets.old terminal.net.0 (list_at nets.old terminal.net.0 ++ terminal.wire.0 ∷ [])) }
 {
-    nets[terminal.net as usize].push(terminal.wire)?;
+    nets[terminal.net.0 as usize].push(terminal.wire.0)?;
     Ok(())
 }
 
 // Terminals by their nets.
 fn grouped(alloc: Global, count: u32, terminals: &[Terminal]) -> Result<Vec<Items<u32>>, AllocError>
-    requires { All (λ t. t.net < count) terminals.now }
+    requires { All (λ t. t.net.0 < count) terminals.now }
     ensures { IfOk result (λ nets. AreGrouped count terminals.now nets.items) }
 {
     let mut nets = empty_lists(alloc, count as usize)?;

@@ -5,30 +5,32 @@ ghost use Rattle.place_plan.specs.Choices.{AreWires};
 ghost use Rattle.place_plan.specs.Touches.{AreTouched, IsSpread, list_at, with_last};
 
 use crate::numbers::{empty_lists, push_last};
+use crate::short::Net;
 use crate::tree::Tree;
 use base_lists::Items;
+use machine_shape::{Node, Wire};
 use std::alloc::{AllocError, Global};
 
 // Puts a net at the end of a node's list, unless it is there.
-fn touch(touched: &mut [Items<u32>], node: usize, net: u32) -> Result<(), AllocError>
-    requires { node < length touched.old }
-    ensures { OnOk result (touched.new ≡ slice_set touched.old node (with_last (list_at touched.old node) net)) }
+fn touch(touched: &mut [Items<u32>], node: Node, net: Net) -> Result<(), AllocError>
+    requires { node.0 < length touched.old }
+    ensures { OnOk result (touched.new ≡ slice_set touched.old node.0 (with_last (list_at touched.old node.0) net.0)) }
 {
-    push_last(&mut touched[node], net)
+    push_last(&mut touched[node.0 as usize], net.0)
 }
 
 // Puts a net at the end of the lists of the nodes that have this wire inside.
-fn touch_up(tree: &Tree, touched: &mut [Items<u32>], wire: u32, net: u32) -> Result<(), AllocError>
+fn touch_up(tree: &Tree, touched: &mut [Items<u32>], wire: Wire, net: Net) -> Result<(), AllocError>
     requires sized { length touched.old ≡ nodes_of tree.now.shape }
-    requires within { wire < wires_of tree.now.shape }
-    ensures { OnOk result (IsSpread tree.now.shape (wire ∷ []) net touched.old touched.new) }
+    requires within { wire.0 < wires_of tree.now.shape }
+    ensures { OnOk result (IsSpread tree.now.shape (wire.0 ∷ []) net.0 touched.old touched.new) }
 {
     machine_shape::the_numbering_is_sound();
-    let mut at = tree.homes[wire as usize];
-    touch(touched, at as usize, net)?;
+    let mut at = tree.homes[wire.0 as usize];
+    touch(touched, Node(at), net)?;
     while at != 0 {
         at = tree.parents[at as usize];
-        touch(touched, at as usize, net)?;
+        touch(touched, Node(at), net)?;
     }
     Ok(())
 }
@@ -38,15 +40,15 @@ fn touch_net(
     tree: &Tree,
     touched: &mut [Items<u32>],
     wires: &[u32],
-    net: u32,
+    net: Net,
 ) -> Result<(), AllocError>
     requires sized { length touched.old ≡ nodes_of tree.now.shape }
     requires within { All (λ w. w < wires_of tree.now.shape) wires.now }
-    ensures { OnOk result (IsSpread tree.now.shape wires.now net touched.old touched.new) }
+    ensures { OnOk result (IsSpread tree.now.shape wires.now net.0 touched.old touched.new) }
 {
     machine_shape::the_numbering_is_sound();
     for wire in wires {
-        touch_up(tree, touched, *wire, net)?;
+        touch_up(tree, touched, Wire(*wire), net)?;
     }
     Ok(())
 }
@@ -64,7 +66,7 @@ pub fn touched_by(
     machine_shape::the_numbering_is_sound();
     let mut touched = empty_lists(alloc, tree.shape.nodes() as usize)?;
     for k in 0..nets.len() {
-        touch_net(tree, &mut touched, nets[k].as_slice(), k as u32)?;
+        touch_net(tree, &mut touched, nets[k].as_slice(), Net(k as u32))?;
     }
     Ok(touched)
 }

@@ -13,7 +13,7 @@ use Rattle.machine_image.specs.Vocabulary.{ImageValue, IsImage, Uses, at_tap, at
 use Rattle.machine_image.proofs.FreeWires.{keeps}
 use Rattle.place_plan.specs.declared.short.Port.{Port}
 use Rattle.place_plan.specs.declared.short.Visit.{Visit}
-use Rattle.place_plan.specs.Vocabulary.{AreWires, AreHeld, AreVisits, HasTerminal, IsTapOf, Crosses}
+use Rattle.place_plan.specs.Vocabulary.{AreWires, AreHeld, AreVisits, HasTerminal, IsTapOf, Crosses, visit_for}
 use Rattle.place_plan.specs.Room as room
 use Rattle.place_plan.proofs.Upward.{up_of}
 use Rattle.place_route.specs.Vocabulary.{HasLine, IsJoined, HasPortIn, AreWiresOf, IsNetTap, by_terminal, by_child, by_port, IsLaidOnTree, IsOfNet, as_terminal, as_line, as_port, AreTerminals}
@@ -281,7 +281,7 @@ module _ (d : Defects) (i : ImageValue) (is : IsImage i) (laws : Numbering i.con
       closed_for x on = by (only x on)
         where
           by : (is_closed moved x ≡ true) ⊎ ((is_closed g x ≡ true) × IsKeptWire i n (ends_of m x).0) → IsKeptNets i n x ⊎ IsOnLine i n visits x
-          by (inl e) = let r = laid.only x e in inr (record { visit = record { node = r.0; net = r.1; line = r.2 }; is_one = r.4; tap = r.3; is_tap = is_tap r.0 r.1 r.3 r.5; ends = r.6 })
+          by (inl e) = let r = laid.only x e in inr (record { visit = visit_for r.0 r.1 r.2; is_one = r.4; tap = r.3; is_tap = is_tap r.0 r.1 r.3 r.5; ends = r.6 })
           by (inr kept) = inl kept
 
       -- ---- ports

@@ -56,8 +56,8 @@ pub record IsOnLine (old : ImageValue) (n : Nets) (lines : List Visit) (x : ℕ)
   pub visit : Visit
   pub is_one : Contains lines visit
   pub tap : ℕ
-  pub is_tap : IsTapOf old.config.shape n.rest (length n.lowest) (HasTerminal n.terminals) visit.node visit.net tap
-  pub ends : ends_of old.config.shape x ≡ (tap, visit.line)
+  pub is_tap : IsTapOf old.config.shape n.rest (length n.lowest) (HasTerminal n.terminals) visit.node.0 visit.net.0 tap
+  pub ends : ends_of old.config.shape x ≡ (tap, visit.line.0)
 
 -- The repair plan of the old image has room, and the new image follows it: tables and pins stand where it says, each net that moves has
 -- its ports, kept nets have all their closed crosspoints, and nothing is closed besides but what joins moving nets to their lines. At each

@@ -14,7 +14,7 @@ use crate::uses::used_by;
 use base_lists::Items;
 use machine_defects::Defects;
 use machine_image::Image;
-use machine_shape::{Shape, Table};
+use machine_shape::{Pin, Shape, Table};
 use place_plan::Need;
 use std::alloc::{AllocError, Global};
 
@@ -115,7 +115,7 @@ fn is_gone_pin(defects: &Defects, shape: Shape, pin: u32) -> bool
     requires within { pin < pins_of shape }
     ensures { result ≡ is_gone_pin defects.now.shape defects.now.list pin }
 {
-    !defects.free_wire(shape.pin(pin))
+    !defects.free_wire(shape.pin(Pin(pin)))
 }
 
 // Adds the pins that aren't free.
@@ -149,7 +149,7 @@ fn is_spare_pin(image: &Image, defects: &Defects, used: &[bool], pin: u32) -> bo
     requires within { pin < pins_of image.now.config.shape }
     ensures { IsTrue result ↔ IsSparePin defects.now.list image.now pin }
 {
-    let wire = defects.shape().pin(pin);
+    let wire = defects.shape().pin(Pin(pin));
     if !defects.free_wire(wire) {
         return false;
     }

@@ -8,7 +8,7 @@ use crate::plan::Plan;
 use base_lists::Items;
 use machine_config::Config;
 use machine_image::Image;
-use machine_shape::{Shape, Table, Wire};
+use machine_shape::{Pin, Shape, Table, Wire};
 use place_plan::empty_lists;
 use std::alloc::{AllocError, Global};
 
@@ -64,7 +64,13 @@ fn add_pins(
     let shape = config.shape();
     for i in 0..pins.len() {
         let to = plan.pins[pins[i] as usize];
-        add_moved(lists, config, plan, shape.pin(pins[i]), shape.pin(to))?;
+        add_moved(
+            lists,
+            config,
+            plan,
+            shape.pin(Pin(pins[i])),
+            shape.pin(Pin(to)),
+        )?;
     }
     Ok(())
 }

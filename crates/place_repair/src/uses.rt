@@ -9,7 +9,7 @@ ghost use Rattle.place_repair.specs.Making.{IsEndOf, IsOnPin, IsPinOf, IsSeatPin
 use crate::marks::{mark, marks_of};
 use machine_config::Config;
 use machine_image::Image;
-use machine_shape::{Cross, Shape, Table};
+use machine_shape::{Cross, Pin, Shape, Table};
 use std::alloc::{AllocError, Global};
 
 // Marks the wires of a crosspoint.
@@ -42,7 +42,7 @@ fn mark_pins(marks: &mut [bool], shape: Shape, pins: &[u32])
     ensures { IsMarked (IsPinOf shape pins.now) marks.old marks.new }
 {
     for i in 0..pins.len() {
-        mark(marks, shape.pin(pins[i]).0);
+        mark(marks, shape.pin(Pin(pins[i])).0);
     }
 }
 

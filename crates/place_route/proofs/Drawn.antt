@@ -15,7 +15,7 @@ use Rattle.machine_meaning.specs.Defects.{Defects, IsFreeCross}
 use Rattle.machine_config.specs.Configuration.{Configuration, is_closed, cleared}
 use Rattle.place_plan.specs.declared.short.Port.{Port}
 use Rattle.place_plan.specs.declared.short.Visit.{Visit}
-use Rattle.place_plan.specs.Vocabulary.{AreWires, AreHeld, AreVisits, HasTerminal, CrossesAt, VisitsAt, HasPort, Serves, Crosses, Visits}
+use Rattle.place_plan.specs.Vocabulary.{AreWires, AreHeld, AreVisits, HasTerminal, CrossesAt, VisitsAt, HasPort, Serves, Crosses, Visits, visit_for, port_for}
 use Rattle.place_plan.specs.Room as room
 use Rattle.place_route.specs.Vocabulary.{IsNetTap, by_terminal, by_child, by_port, IsLaidOnTree, AreTerminals, owner_at, AreOwners, Holds, HasLine, AreLines, line_in, Closes, IsJoint, IsNear, IsOwnedJoint, AreWiresOf, IsJoined, HasPortIn}
 use Rattle.place_route.proofs.Ported.{port_of_one, port_is_port, line_of_one, net_of_one, visited_within, crossed_within, has_cross, tap_at_line}
@@ -57,10 +57,10 @@ pub record IsDrawnBy (m : Shape) (d : Defects) (count : ℕ) (terminal : ℕ →
 
 module _ (m : Shape) (d : Defects) (count : ℕ) (terminal : ℕ → ℕ → Type 0) (nets : List (List ℕ)) (ports : List Port) (visits : List Visit) (laws : Numbering m) (drawn : IsDrawnBy m d count terminal nets ports visits) where
   pub visit : (a k w : ℕ) → HasLine visits a k w → (a < nodes_of m) × VisitsAt m count terminal a k × Serves m d count terminal a k w
-  visit a k w has = All-contains (λ v. (v.node < nodes_of m) × VisitsAt m count terminal v.node v.net × Serves m d count terminal v.node v.net v.line) visits (record { node = a; net = k; line = w }) drawn.visited.each has
+  visit a k w has = All-contains (λ v. (v.node.0 < nodes_of m) × VisitsAt m count terminal v.node.0 v.net.0 × Serves m d count terminal v.node.0 v.net.0 v.line.0) visits (visit_for a k w) drawn.visited.each has
 
   pub held : (a k w : ℕ) → HasPortIn ports a k w → (a < nodes_of m) × CrossesAt m count terminal a k × HasPort m d count terminal a k w
-  held a k w has = All-contains (λ q. (q.node < nodes_of m) × CrossesAt m count terminal q.node q.net × HasPort m d count terminal q.node q.net q.wire) ports (record { node = a; net = k; wire = w }) drawn.held_are.each has
+  held a k w has = All-contains (λ q. (q.node.0 < nodes_of m) × CrossesAt m count terminal q.node.0 q.net.0 × HasPort m d count terminal q.node.0 q.net.0 q.wire.0) ports (port_for a k w) drawn.held_are.each has
 
   is_line : (a k w : ℕ) → HasLine visits a k w → IsLine m a w
   is_line a k w has = (visit a k w has).2.line
@@ -133,7 +133,7 @@ module _ (m : Shape) (d : Defects) (count : ℕ) (terminal : ℕ → ℕ → Typ
   pub drawn_wires : AreWiresOf m nets ports visits
   drawn_wires = record {
     terminals = drawn.within;
-    ports_are = λ i q l. let r = drawn.held_are.each i q l in port_within (get_or ports i q).node (get_or ports i q).net (get_or ports i q).wire r.0 r.2;
+    ports_are = λ i q l. let r = drawn.held_are.each i q l in port_within (get_or ports i q).node.0 (get_or ports i q).net.0 (get_or ports i q).wire.0 r.0 r.2;
     lines_are = line_within;
   }
 

@@ -7,7 +7,7 @@ use Rattle.std.proofs.lemmas.List.Elements.{Contains-append_left, Contains-push,
 use Rattle.machine_shape.specs.declared.Shape.{Shape}
 use Rattle.machine_shape.specs.Shape.{wires_of}
 use Rattle.place_plan.specs.declared.short.Port.{Port}
-use Rattle.place_plan.specs.Room.{HasTerminal}
+use Rattle.place_plan.specs.Room.{HasTerminal, port_for}
 use Rattle.place_plan.proofs.Those.{not_in_nil}
 use Rattle.place_route.specs.Owners.{owner_at, IsMarked, IsClaimedBy, HoldsPort, Holds, AreOwners}
 
@@ -111,15 +111,15 @@ pub nets_end : (nets : List (List ℕ)) (i : ℕ) (old new : List (Option ℕ)) 
 nets_end nets i old new le p = marked_then (IsBefore nets i) (λ k w. ⊥) (HasTerminal nets) old new new p (marked_none (λ k w. ⊥) new (λ k w no. no))
     (λ k w a. a.1) (λ k w no. absurd no) (λ k w has. inl (let l = net_within nets k w has in omega arith, has))
 
-pub port_more : (ps : List Port) (p : Port) (old mid : List (Option ℕ)) → p.wire < length mid → IsMarked (HoldsPort ps) old mid → IsMarked (HoldsPort (ps ++ p ∷ [])) old (set mid p.wire (Some p.net))
-port_more ps p old mid within so_far = marked_then (HoldsPort ps) (IsOne p.net p.wire) (HoldsPort (ps ++ p ∷ [])) old mid (set mid p.wire (Some p.net)) so_far (marked_one mid p.net p.wire within)
+pub port_more : (ps : List Port) (p : Port) (old mid : List (Option ℕ)) → p.wire.0 < length mid → IsMarked (HoldsPort ps) old mid → IsMarked (HoldsPort (ps ++ p ∷ [])) old (set mid p.wire.0 (Some p.net.0))
+port_more ps p old mid within so_far = marked_then (HoldsPort ps) (IsOne p.net.0 p.wire.0) (HoldsPort (ps ++ p ∷ [])) old mid (set mid p.wire.0 (Some p.net.0)) so_far (marked_one mid p.net.0 p.wire.0 within)
     (λ k w a. (a.0, Contains-append_left ps (p ∷ []) _ a.1))
-    (λ k w b. (p.node, subst (Contains (ps ++ p ∷ [])) (λ i. record { node = p.node; net = sym b.0 i; wire = sym b.1 i }) (Contains-push ps p)))
-    (λ k w c. by k w c.0 (Contains-push_cases ps p (record { node = c.0; net = k; wire = w }) c.1))
+    (λ k w b. (p.node.0, subst (Contains (ps ++ p ∷ [])) (λ i. port_for p.node.0 (sym b.0 i) (sym b.1 i)) (Contains-push ps p)))
+    (λ k w c. by k w c.0 (Contains-push_cases ps p (port_for c.0 k w) c.1))
   where
-    by : (k w n : ℕ) → Contains ps (record { node = n; net = k; wire = w }) ⊎ (p ≡ record { node = n; net = k; wire = w }) → HoldsPort ps k w ⊎ IsOne p.net p.wire k w
+    by : (k w n : ℕ) → Contains ps (port_for n k w) ⊎ (p ≡ port_for n k w) → HoldsPort ps k w ⊎ IsOne p.net.0 p.wire.0 k w
     by k w n (inl h) = inl (n, h)
-    by k w n (inr e) = inr (sym (ap (λ (q : Port). q.net) e), sym (ap (λ (q : Port). q.wire) e))
+    by k w n (inr e) = inr (sym (ap (λ (q : Port). q.net.0) e), sym (ap (λ (q : Port). q.wire.0) e))
 
 none_owned : (n w : ℕ) → owner_at (replicate n None) w ≡ None
 none_owned n w = by (cases_lt w n)

@@ -9,7 +9,7 @@ use Rattle.machine_image.specs.Images.{ImageValue}
 use Rattle.map_network.specs.declared.network.Network.{Network}
 use Rattle.map_network.specs.Networks.{IsNetwork}
 use Rattle.place_plan.specs.declared.plan.Plan.{Plan}
-use Rattle.place_plan.specs.Vocabulary.{Fits, IsPlan, IsTerminal, nets_in, CrossesAt, HasPort}
+use Rattle.place_plan.specs.Vocabulary.{Fits, IsPlan, IsTerminal, nets_in, CrossesAt, HasPort, port_for}
 use Rattle.place_plan.specs.Room as room
 use Rattle.place_plan.proofs.PlanNets.{terminal_within}
 use Rattle.place_route.specs.Vocabulary.{IsNetTap, by_terminal, by_child, by_port, HasLine, HasPortIn, IsRouteOf, IsRoutedFor}
@@ -24,7 +24,7 @@ module _ (numbered : (m : Shape) → IsNumbered m) (parents : (m : Shape) → Ha
 
   -- the ports that nets have are those that room gives them
   has : (a k w : ℕ) → HasPortIn is.ports a k w → HasPort m d count terminal a k w
-  has a k w at = (All-contains (λ q. (q.node < nodes_of m) × CrossesAt m count terminal q.node q.net × HasPort m d count terminal q.node q.net q.wire) is.ports (record { node = a; net = k; wire = w }) is.held.each at).2
+  has a k w at = (All-contains (λ q. (q.node.0 < nodes_of m) × CrossesAt m count terminal q.node.0 q.net.0 × HasPort m d count terminal q.node.0 q.net.0 q.wire.0) is.ports (port_for a k w) is.held.each at).2
 
   crosses : (a k w : ℕ) → HasPort m d count terminal a k w → CrossesAt m count terminal a k
   crosses a k w port = subst (CrossesAt m count terminal a) port.net_is.1 (port.are_crossing.only port.place 0 port.net_is.0)

@@ -9,7 +9,7 @@ use Rattle.machine_meaning.specs.Defects.{Defects}
 use Rattle.place_plan.specs.declared.short.Visit.{Visit}
 use Rattle.place_plan.specs.declared.tree.NetSide.{NetSide}
 use Rattle.place_plan.specs.declared.tree.NetSide.TheVariants.{Own, Child, Outside}
-use Rattle.place_plan.specs.Vocabulary.{IsNth, IsAt, at_own, at_child, at_outside, Crosses, Visits, CrossesAt, IsFreePort, HasPort}
+use Rattle.place_plan.specs.Vocabulary.{IsNth, IsAt, at_own, at_child, at_outside, Crosses, Visits, CrossesAt, IsFreePort, HasPort, visit_for}
 use Rattle.place_plan.proofs.Those.{those_unique, same_place}
 use Rattle.place_route.specs.Owners.{HasLine}
 
@@ -36,34 +36,34 @@ module _ (m : Shape) (d : Defects) (count : ℕ) (terminal : ℕ → ℕ → Typ
   port_is_port n k w p = subst (IsPort m n) p.port_is.1 (p.are_ports.only p.place 0 p.port_is.0).0
 
 -- two visits of one node with one line are of one net, and with one net have one line
-module _ (vs : List Visit) (apart : AllPairs (λ v u. v.node ≡ u.node → (v.net ≢ u.net) × (v.line ≢ u.line)) vs) where
+module _ (vs : List Visit) (apart : AllPairs (λ v u. v.node.0 ≡ u.node.0 → (v.net.0 ≢ u.net.0) × (v.line.0 ≢ u.line.0)) vs) where
   at : (i : ℕ) (v u : Visit) → i < length vs → get_or vs i v ≡ v → get_or vs i u ≡ v
   at i v u h e = get_or_default vs i u v h ∙ e
 
-  same_at : (v u : Visit) → v.node ≡ u.node → (p : Contains vs v) (q : Contains vs u) → (v ≡ u) ⊎ ((v.net ≢ u.net) × (v.line ≢ u.line))
+  same_at : (v u : Visit) → v.node.0 ≡ u.node.0 → (p : Contains vs v) (q : Contains vs u) → (v ≡ u) ⊎ ((v.net.0 ≢ u.net.0) × (v.line.0 ≢ u.line.0))
   same_at v u node p q = by (cases_order p.0 q.0)
     where
-      swap : ((u.net ≢ v.net) × (u.line ≢ v.line)) → (v.net ≢ u.net) × (v.line ≢ u.line)
+      swap : ((u.net.0 ≢ v.net.0) × (u.line.0 ≢ v.line.0)) → (v.net.0 ≢ u.net.0) × (v.line.0 ≢ u.line.0)
       swap r = (λ e. r.0 (sym e), λ e. r.1 (sym e))
 
-      by : (p.0 ≡ q.0) ⊎ ((p.0 < q.0) ⊎ (q.0 < p.0)) → (v ≡ u) ⊎ ((v.net ≢ u.net) × (v.line ≢ u.line))
+      by : (p.0 ≡ q.0) ⊎ ((p.0 < q.0) ⊎ (q.0 < p.0)) → (v ≡ u) ⊎ ((v.net.0 ≢ u.net.0) × (v.line.0 ≢ u.line.0))
       by (inl e) = inl (sym (at p.0 v u p.1 p.2) ∙ ap (λ i. get_or vs i u) e ∙ q.2)
       by (inr (inl l)) =
           let r = apart p.0 q.0 v l q.1 in
           let first : get_or vs p.0 v ≡ v = p.2 in
           let second : get_or vs q.0 v ≡ u = at q.0 u v q.1 q.2 in
-          inr (subst (λ (a : Visit). a.node ≡ u.node → (a.net ≢ u.net) × (a.line ≢ u.line)) first (subst (λ (b : Visit). (get_or vs p.0 v).node ≡ b.node → ((get_or vs p.0 v).net ≢ b.net) × ((get_or vs p.0 v).line ≢ b.line)) second r) node)
+          inr (subst (λ (a : Visit). a.node.0 ≡ u.node.0 → (a.net.0 ≢ u.net.0) × (a.line.0 ≢ u.line.0)) first (subst (λ (b : Visit). (get_or vs p.0 v).node.0 ≡ b.node.0 → ((get_or vs p.0 v).net.0 ≢ b.net.0) × ((get_or vs p.0 v).line.0 ≢ b.line.0)) second r) node)
       by (inr (inr l)) =
           let r = apart q.0 p.0 u l p.1 in
           let first : get_or vs q.0 u ≡ u = q.2 in
           let second : get_or vs p.0 u ≡ v = at p.0 v u p.1 p.2 in
-          inr (swap (subst (λ (a : Visit). a.node ≡ v.node → (a.net ≢ v.net) × (a.line ≢ v.line)) first (subst (λ (b : Visit). (get_or vs q.0 u).node ≡ b.node → ((get_or vs q.0 u).net ≢ b.net) × ((get_or vs q.0 u).line ≢ b.line)) second r) (sym node)))
+          inr (swap (subst (λ (a : Visit). a.node.0 ≡ v.node.0 → (a.net.0 ≢ v.net.0) × (a.line.0 ≢ v.line.0)) first (subst (λ (b : Visit). (get_or vs q.0 u).node.0 ≡ b.node.0 → ((get_or vs q.0 u).net.0 ≢ b.net.0) × ((get_or vs q.0 u).line.0 ≢ b.line.0)) second r) (sym node)))
 
   pub line_of_one : (n k l w : ℕ) → HasLine vs n k w → HasLine vs n l w → k ≡ l
-  line_of_one n k l w p q = elim (same_at (record { node = n; net = k; line = w }) (record { node = n; net = l; line = w }) refl p q) [ inl e ↦ ap (λ (v : Visit). v.net) e | inr r ↦ absurd (r.1 refl) ]
+  line_of_one n k l w p q = elim (same_at (visit_for n k w) (visit_for n l w) refl p q) [ inl e ↦ ap (λ (v : Visit). v.net.0) e | inr r ↦ absurd (r.1 refl) ]
 
   pub net_of_one : (n k w u : ℕ) → HasLine vs n k w → HasLine vs n k u → w ≡ u
-  net_of_one n k w u p q = elim (same_at (record { node = n; net = k; line = w }) (record { node = n; net = k; line = u }) refl p q) [ inl e ↦ ap (λ (v : Visit). v.line) e | inr r ↦ absurd (r.0 refl) ]
+  net_of_one n k w u p q = elim (same_at (visit_for n k w) (visit_for n k u) refl p q) [ inl e ↦ ap (λ (v : Visit). v.line.0) e | inr r ↦ absurd (r.0 refl) ]
 
 -- ---- nodes and crosspoints
 

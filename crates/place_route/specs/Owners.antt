@@ -8,7 +8,7 @@ use Rattle.machine_shape.specs.Shape.{wires_of}
 use Rattle.machine_meaning.specs.Faults.{pair_cmp}
 use Rattle.place_plan.specs.declared.short.Port.{Port}
 use Rattle.place_plan.specs.declared.short.Visit.{Visit}
-use Rattle.place_plan.specs.Room.{HasTerminal}
+use Rattle.place_plan.specs.Room.{HasTerminal, port_for, visit_for}
 
 -- the net that has the wire
 abbrev pub owner_at : List (Option ℕ) → ℕ → Option ℕ
@@ -27,7 +27,7 @@ IsClaimedBy net wires k w = (k ≡ net) × Contains wires w
 
 -- a net has the wire as a port, and as a terminal or a port
 abbrev pub HoldsPort : List Port → ℕ → ℕ → Type 0
-HoldsPort ports k w = (n : ℕ) × Contains ports (record { node = n; net = k; wire = w })
+HoldsPort ports k w = (n : ℕ) × Contains ports (port_for n k w)
 
 abbrev pub Holds : List (List ℕ) → List Port → ℕ → ℕ → Type 0
 Holds nets ports k w = HasTerminal nets k w ⊎ HoldsPort ports k w
@@ -39,7 +39,7 @@ pub record AreOwners (m : Shape) (nets : List (List ℕ)) (ports : List Port) (o
 
 -- the net has the line at the node
 abbrev pub HasLine : List Visit → ℕ → ℕ → ℕ → Type 0
-HasLine visits n k w = Contains visits (record { node = n; net = k; line = w })
+HasLine visits n k w = Contains visits (visit_for n k w)
 
 -- a map of lines, by node and net
 abbrev pub line_in : BTreeMap (ℕ × ℕ) ℕ → ℕ → ℕ → Option ℕ
@@ -52,5 +52,5 @@ pub record AreLines (visits : List Visit) (lines : BTreeMap (ℕ × ℕ) ℕ) : 
 
 -- the map has the visit's line, and is otherwise as it was
 pub record IsPut (v : Visit) (old new : BTreeMap (ℕ × ℕ) ℕ) : Type 0 where
-  pub here : line_in new v.node v.net ≡ Some v.line
-  pub others : (n k : ℕ) → ((n ≡ v.node) × (k ≡ v.net)) ⊎ (line_in new n k ≡ line_in old n k)
+  pub here : line_in new v.node.0 v.net.0 ≡ Some v.line.0
+  pub others : (n k : ℕ) → ((n ≡ v.node.0) × (k ≡ v.net.0)) ⊎ (line_in new n k ≡ line_in old n k)

@@ -12,7 +12,7 @@ use Rattle.map_network.specs.declared.network.Network.{Network}
 use Rattle.place_plan.specs.declared.plan.Plan.{Plan}
 use Rattle.place_plan.specs.declared.short.Port.{Port}
 use Rattle.place_plan.specs.declared.short.Visit.{Visit}
-use Rattle.place_plan.specs.Vocabulary.{AreWires, AreHeld, AreVisits, IsTerminal, nets_in, ArePlanNets}
+use Rattle.place_plan.specs.Vocabulary.{AreWires, AreHeld, AreVisits, IsTerminal, nets_in, ArePlanNets, port_for}
 use Rattle.place_route.specs.Layouts.{IsSet}
 use Rattle.place_route.specs.Closing.{Closes, IsOwnedJoint}
 use Rattle.place_route.specs.Owners.{HasLine, AreLines, AreOwners}
@@ -28,12 +28,12 @@ pub record IsLaidBy (m : Shape) (d : Defects) (n : Network) (p : Plan) (nets : L
 
 -- the net has the port of the node
 abbrev pub HasPortIn : List Port → ℕ → ℕ → ℕ → Type 0
-HasPortIn ports n k w = Contains ports (record { node = n; net = k; wire = w })
+HasPortIn ports n k w = Contains ports (port_for n k w)
 
 -- the wires of nets, and of their ports and lines, are the machine's
 pub record AreWiresOf (m : Shape) (nets : List (List ℕ)) (ports : List Port) (visits : List Visit) : Type 0 where
   pub terminals : All (AreWires m) nets
-  pub ports_are : All (λ p. p.wire < wires_of m) ports
+  pub ports_are : All (λ p. p.wire.0 < wires_of m) ports
   pub lines_are : (n k w : ℕ) → HasLine visits n k w → w < wires_of m
 
 -- The crosspoints are closed of the nets' lines and the wires that nets have as terminals or ports, by maps of them.

@@ -5,8 +5,9 @@ ghost use Rattle.place_route.specs.Closing.{AreLinesOf, Closes, IsJoint, IsJoint
 
 use crate::lines::line_of;
 use machine_config::{Config, Setting};
-use machine_shape::{Shape, Table, Wire};
+use machine_shape::{Node, Shape, Table, Wire};
 use map_network::NetTable;
+use place_plan::Net;
 use std::alloc::AllocError;
 use std::collections::BTreeMap;
 
@@ -15,17 +16,17 @@ fn join(
     config: &mut Config,
     shape: Shape,
     lines: &BTreeMap<(u32, u32), u32>,
-    node: u32,
-    net: u32,
-    wire: u32,
+    node: Node,
+    net: Net,
+    wire: Wire,
 ) -> Result<(), AllocError>
-    requires { MayJoin shape lines.now config.old.config wire }
-    ensures { OnOk result (Closes (IsJoint shape lines.now node net wire) 1 config.old.config config.new.config) }
+    requires { MayJoin shape lines.now config.old.config wire.0 }
+    ensures { OnOk result (Closes (IsJoint shape lines.now node.0 net.0 wire.0) 1 config.old.config config.new.config) }
 {
     machine_shape::the_crosspoints_are_sound();
     match line_of(lines, node, net) {
         None => Ok(()),
-        Some(line) => match shape.cross(Wire(wire), Wire(line)) {
+        Some(line) => match shape.cross(wire, Wire(line)) {
             None => Ok(()),
             Some(cross) => config.close_cross(cross),
         },
@@ -37,17 +38,17 @@ fn join_wire(
     config: &mut Config,
     shape: Shape,
     lines: &BTreeMap<(u32, u32), u32>,
-    net: u32,
-    wire: u32,
+    net: Net,
+    wire: Wire,
 ) -> Result<(), AllocError>
-    requires { MayJoin shape lines.now config.old.config wire }
-    ensures { OnOk result (Closes (IsWireJoint shape lines.now net wire) 2 config.old.config config.new.config) }
+    requires { MayJoin shape lines.now config.old.config wire.0 }
+    ensures { OnOk result (Closes (IsWireJoint shape lines.now net.0 wire.0) 2 config.old.config config.new.config) }
 {
-    let node = shape.node_of(Wire(wire));
-    join(config, shape, lines, node.0, net, wire)?;
+    let node = shape.node_of(wire);
+    join(config, shape, lines, node, net, wire)?;
     match shape.parent(node) {
         None => Ok(()),
-        Some(above) => join(config, shape, lines, above.0, net, wire),
+        Some(above) => join(config, shape, lines, above, net, wire),
     }
 }
 
@@ -57,15 +58,15 @@ fn join_owned(
     shape: Shape,
     lines: &BTreeMap<(u32, u32), u32>,
     owners: &[Option<u32>],
-    wire: u32,
+    wire: Wire,
 ) -> Result<(), AllocError>
-    requires joins { MayJoin shape lines.now config.old.config wire }
+    requires joins { MayJoin shape lines.now config.old.config wire.0 }
     requires owners { length owners.now ≡ wires_of shape }
-    ensures { OnOk result (Closes (IsJointAt shape lines.now owners.now wire) 2 config.old.config config.new.config) }
+    ensures { OnOk result (Closes (IsJointAt shape lines.now owners.now wire.0) 2 config.old.config config.new.config) }
 {
-    match owners[wire as usize] {
+    match owners[wire.0 as usize] {
         None => Ok(()),
-        Some(net) => join_wire(config, shape, lines, net, wire),
+        Some(net) => join_wire(config, shape, lines, Net(net), wire),
     }
 }
 
@@ -83,7 +84,7 @@ pub fn join_all(
         (2 * wires_of shape) config.old.config config.new.config) }
 {
     for wire in 0..shape.wires() {
-        join_owned(config, shape, lines, owners, wire)?;
+        join_owned(config, shape, lines, owners, Wire(wire))?;
     }
     Ok(())
 }

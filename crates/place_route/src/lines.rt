@@ -2,7 +2,8 @@
 ghost use Rattle.std.specs.Prelude.{◌≡◌, OnOk, IfOk};
 ghost use Rattle.place_route.specs.Owners.{AreLines, IsPut, line_in};
 
-use place_plan::Visit;
+use machine_shape::Node;
+use place_plan::{Net, Visit};
 use std::alloc::{AllocError, Global};
 use std::collections::BTreeMap;
 
@@ -10,11 +11,11 @@ use std::collections::BTreeMap;
 fn put_line(lines: &mut BTreeMap<(u32, u32), u32>, visit: Visit) -> Result<(), AllocError>
     ensures { OnOk result (IsPut visit lines.old lines.new) }
 {
-    lines.insert((visit.node, visit.net), visit.line)?;
+    lines.insert((visit.node.0, visit.net.0), visit.line.0)?;
     Ok(())
 }
 
-/// The lines by node and net.
+/// The numbers of the lines, by those of node and net.
 pub fn lines_of(alloc: Global, visits: &[Visit]) -> Result<BTreeMap<(u32, u32), u32>, AllocError>
     ensures { IfOk result (AreLines visits.now) }
 {
@@ -25,9 +26,9 @@ pub fn lines_of(alloc: Global, visits: &[Visit]) -> Result<BTreeMap<(u32, u32), 
     Ok(lines)
 }
 
-/// The line of a net at a node.
-pub fn line_of(lines: &BTreeMap<(u32, u32), u32>, node: u32, net: u32) -> Option<u32>
-    ensures { result ≡ line_in lines.now node net }
+/// The number of the line of a net at a node.
+pub fn line_of(lines: &BTreeMap<(u32, u32), u32>, node: Node, net: Net) -> Option<u32>
+    ensures { result ≡ line_in lines.now node.0 net.0 }
 {
-    lines.get(&(node, net)).copied()
+    lines.get(&(node.0, net.0)).copied()
 }

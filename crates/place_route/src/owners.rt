@@ -6,16 +6,16 @@ ghost use Rattle.place_route.specs.Owners.{AreOwners, HoldsPort, IsClaimedBy, Is
 
 use base_lists::Items;
 use machine_shape::Shape;
-use place_plan::Port;
+use place_plan::{Net, Port};
 use std::alloc::{AllocError, Global};
 
 // Gives wires to a net.
-fn mark_net(owners: &mut [Option<u32>], wires: &[u32], net: u32)
+fn mark_net(owners: &mut [Option<u32>], wires: &[u32], net: Net)
     requires { All (λ w. w < length owners.old) wires.now }
-    ensures { IsMarked (IsClaimedBy net wires.now) owners.old owners.new }
+    ensures { IsMarked (IsClaimedBy net.0 wires.now) owners.old owners.new }
 {
     for wire in wires {
-        owners[*wire as usize] = Some(net);
+        owners[*wire as usize] = Some(net.0);
     }
 }
 
@@ -26,21 +26,21 @@ fn mark_nets(owners: &mut [Option<u32>], nets: &[Items<u32>])
     ensures { IsMarked (HasTerminal nets.now) owners.old owners.new }
 {
     for k in 0..nets.len() {
-        mark_net(owners, nets[k].as_slice(), k as u32);
+        mark_net(owners, nets[k].as_slice(), Net(k as u32));
     }
 }
 
 // Gives each net its ports.
 fn mark_ports(owners: &mut [Option<u32>], ports: &[Port])
-    requires { All (λ p. p.wire < length owners.old) ports.now }
+    requires { All (λ p. p.wire.0 < length owners.old) ports.now }
     ensures { IsMarked (HoldsPort ports.now) owners.old owners.new }
 {
     for port in ports {
-        owners[port.wire as usize] = Some(port.net);
+        owners[port.wire.0 as usize] = Some(port.net.0);
     }
 }
 
-/// For each wire a net of which it is a terminal or a port, if there is one.
+/// For each wire the number of a net of which it is a terminal or a port, if there is one.
 pub fn owners_of(
     alloc: Global,
     shape: Shape,
@@ -49,7 +49,7 @@ pub fn owners_of(
 ) -> Result<Vec<Option<u32>>, AllocError>
     requires few { length nets.now < 2 ^ 32 }
     requires terminals { All (AreWires shape) nets.now }
-    requires ports { All (λ p. p.wire < wires_of shape) ports.now }
+    requires ports { All (λ p. p.wire.0 < wires_of shape) ports.now }
     ensures { IfOk result (λ owners. AreOwners shape nets.now ports.now owners.items) }
 {
     let mut owners = vec![in alloc; None; shape.wires() as usize]?;

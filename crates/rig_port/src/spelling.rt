@@ -9,7 +9,7 @@ ghost use Rattle.rig_port.specs.Requests.{On, edit_text, drives_text};
 
 use base_text::put_number;
 use machine_config::Setting;
-use machine_shape::Counts;
+use machine_shape::{Counts, Pin};
 use rig::PinBits;
 use std::alloc::AllocError;
 
@@ -33,7 +33,7 @@ fn bit_at(pins: &PinBits, k: u64) -> u8
     ensures bit { result ≡ bit_of pins.now k }
     ensures small { result ≤ 1 }
 {
-    if k < u64::from(pins.len()) && pins.get(k as u32) {
+    if k < u64::from(pins.len()) && pins.get(Pin(k as u32)) {
         1
     } else {
         0

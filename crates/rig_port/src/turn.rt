@@ -18,6 +18,7 @@ ghost use Rattle.rig_port.specs.Boards.{IsKeptUp, HasRoom};
 use crate::link::Link;
 use crate::port::Port;
 use crate::spelling::{put_drives, put_readings, put_sum};
+use machine_shape::Pin;
 use rig::PinBits;
 
 /// A right reply has at most this many bytes before its sum.
@@ -100,7 +101,7 @@ pub fn read_pins(reply: &[u8], at: usize, read: &mut PinBits)
     let count = read.len().div_ceil(8);
     'pins: for k in 0..read.len() {
         let octet = byte_at(reply, at + 2 * (count - 1 - k / 8) as usize);
-        read.set(k, bit_in(octet, k % 8));
+        read.set(Pin(k), bit_in(octet, k % 8));
     }
 }
 

@@ -17,7 +17,7 @@ use crate::past::{MANY_TICKS, Past, make_past, no_past};
 use crate::ranks::{FEW_TICKS, Turn, order_gates};
 use machine_config::{Config, Setting};
 use machine_faults::FaultSet;
-use machine_shape::{Shape, Table};
+use machine_shape::{Pin, Shape, Table};
 use std::alloc::{AllocError, Global};
 
 /// What is kept of a machine: its wires in classes, what its crosspoints do, its tables that are on, its pins, and marks.
@@ -130,7 +130,7 @@ fn fill_pins(pins: &mut Vec<u32>, knots: &[ClassNode], shape: Shape) -> Result<(
 {
     pins.clear();
     'pins: for k in 0..shape.pins() {
-        pins.push(root_of(knots, shape.pin(k).0))?;
+        pins.push(root_of(knots, shape.pin(Pin(k)).0))?;
     }
     Ok(())
 }

@@ -8,7 +8,7 @@ use crate::classes::ClassNode;
 use base_table::TABLE_INPUTS;
 use machine_config::Setting;
 use machine_faults::FaultSet;
-use machine_shape::Table;
+use machine_shape::{Pin, Table};
 use rig::PinBits;
 
 /// A table that is on.
@@ -172,6 +172,6 @@ pub fn read_pins(
 {
     'pins: for k in 0..read.len() {
         let level = level_at(knots, low_pins, low_tables, pins[k as usize]);
-        read.set(k, level);
+        read.set(Pin(k), level);
     }
 }

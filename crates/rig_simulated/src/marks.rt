@@ -4,6 +4,7 @@ ghost use Rattle.std.specs.Prelude.{◌≡◌, ℕ, ◌<◌, true, length, All};
 ghost use Rattle.rig_simulated.specs.Gates.{is_low, IsClear, IsPulledBy, IsOutputOf, IsDrivenBy, IsPinOf, AreMarkedToo};
 
 use crate::gates::Gate;
+use machine_shape::Pin;
 use rig::PinBits;
 
 /// Marks the classes that tables pull.
@@ -39,7 +40,7 @@ pub fn mark_pins(pins: &[u32], drive: &PinBits, low: &mut [bool])
     ensures { AreMarkedToo low.old low.new (IsDrivenBy pins.now drive.now (length pins.now)) }
 {
     'pins: for k in 0..drive.len() {
-        if !drive.get(k) {
+        if !drive.get(Pin(k)) {
             low[pins[k as usize] as usize] = true;
         }
     }

@@ -8,6 +8,7 @@ ghost use Rattle.run_image.specs.Driven.{driven};
 ghost use Rattle.run_image.specs.Run.{RunsRow, EndsOrKeeps};
 
 use machine_image::Image;
+use machine_shape::Pin;
 use rig::{PinBits, Rig, RigFail, cycle, load};
 use std::alloc::{AllocError, Global};
 use std::marker::Model;
@@ -98,7 +99,7 @@ fn set_pins(drive: &mut PinBits, pins: &[u32], vector: &[bool])
     ensures length { length drive.new ≡ length drive.old }
 {
     'places: for (k, pin) in pins.iter().enumerate() {
-        drive.set(*pin, vector[k]);
+        drive.set(Pin(*pin), vector[k]);
     }
 }
 
@@ -122,7 +123,7 @@ fn read_pins(read: &PinBits, pins: &[u32], out: &mut [bool])
     ensures length { length out.new ≡ length out.old }
 {
     'places: for (k, pin) in pins.iter().enumerate() {
-        out[k] = read.get(*pin);
+        out[k] = read.get(Pin(*pin));
     }
 }
 

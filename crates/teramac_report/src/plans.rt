@@ -44,7 +44,11 @@ fn put_crossings(text: &mut Vec<u8>, crossings: Option<u128>) -> Result<(), Allo
 }
 
 // The plan in order, where it fits.
-fn fitting_plan(alloc: Global, network: &Network, list: &Defects) -> Result<Option<Plan>, AllocError>
+fn fitting_plan(
+    alloc: Global,
+    network: &Network,
+    list: &Defects,
+) -> Result<Option<Plan>, AllocError>
     requires { IsNetwork network.now }
     ensures { IfOk result (λ o. IfSome o (FitsInOrder list.now.shape list.now.list network.now)) }
 {

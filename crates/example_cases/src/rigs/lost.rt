@@ -4,7 +4,7 @@ ghost use Rattle.std.specs.Prelude.{◌≡◌, Some, OnOk, length};
 ghost use Rattle.rig.specs.Rig.{config_of, shape_of};
 
 use machine_config::Config;
-use machine_shape::{Cross, Shape};
+use machine_shape::{Cross, Pin, Shape};
 use rig::{PinBits, Rig, RigFail, cycle, load};
 use std::alloc::{AllocError, Global};
 
@@ -57,8 +57,8 @@ fn read_pins(alloc: Global, rig: &mut Box<dyn Rig>, config: &Config) -> Result<S
     let mut drive = PinBits::new(alloc, config.shape().pins())?;
     let mut read = PinBits::new(alloc, config.shape().pins())?;
     if 2 < drive.len() {
-        drive.set(0, false);
-        drive.set(2, false);
+        drive.set(Pin(0), false);
+        drive.set(Pin(2), false);
     }
     cycle(rig, &drive, &mut read)?;
     let mut text = String::new(alloc);

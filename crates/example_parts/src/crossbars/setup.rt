@@ -7,7 +7,7 @@ ghost use Rattle.example_parts.specs.Laid.{IsLaid};
 use diag_tests::{Route, cell_config, loop_config, route_at};
 use example_kit::numbers_of;
 use machine_config::{Config, Setting};
-use machine_shape::{Cross, Shape, Table};
+use machine_shape::{Cross, Pin, Shape, Table};
 use rig::{PinBits, RigFail};
 use std::alloc::{AllocError, Global};
 
@@ -198,7 +198,7 @@ fn drive_of(alloc: Global, shape: &Shape, low: &[u32]) -> Result<Option<PinBits>
         if *pin >= shape.pins() {
             return Ok(None);
         }
-        drive.set(*pin, false);
+        drive.set(Pin(*pin), false);
     }
     Ok(Some(drive))
 }

@@ -2,7 +2,7 @@
 
 use example_kit::TINY;
 use machine_config::{Config, Setting};
-use machine_shape::{Cross, Shape, Table};
+use machine_shape::{Cross, Pin, Shape, Table};
 use rig::PinBits;
 use std::alloc::Global;
 
@@ -57,8 +57,8 @@ pub fn after_each_call(alloc: Global) -> Option<bool> {
 
 pub fn pin_bits(alloc: Global) -> Option<bool> {
     let mut bits = PinBits::new(alloc, 3).ok()?;
-    bits.set(1, false);
-    let set = !bits.get(1);
+    bits.set(Pin(1), false);
+    let set = !bits.get(Pin(1));
     let mut others = PinBits::new(alloc, 3).ok()?;
     others.copy_from(&bits);
     let copied = others.as_slice() == [true, false, true].as_slice();

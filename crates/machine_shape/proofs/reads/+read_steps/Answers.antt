@@ -23,7 +23,7 @@ pub returns-in_default-read_numbered-clause-none : goal.returns-in_default-read_
 returns-in_default-read_numbered-clause-none t c = λ r.
     let at = dot_found c.args.text.now c.in-Some.dot c.in-Some.ensures in
     let s = step_of c.args.levels.now c.args.letters.now c.args.text.now none c.in-Some.dot c.in-len1-up.len_at_least c.in-len1-up-letters.len_at_least c.requires.letters (omega arith) at r in
-    c.in_default-read_numbered.ensures.none s.child s.within (c.before-in-len1-up-letters.ensures ∙ s.word)
+    c.in_default-read_numbered.ensures.none s.child s.within (c.text_before.ensures ∙ s.word)
 
 pub returns-in_default-read_steps-clause-none : goal.returns-in_default-read_steps-clause-none
 returns-in_default-read_steps-clause-none t c = λ r.
@@ -34,7 +34,7 @@ returns-in_default-read_steps-clause-none t c = λ r.
 pub returns-in-Some-read_steps-clause-some : goal.returns-in-Some-read_steps-clause-some
 returns-in-Some-read_steps-clause-some t c =
     let at = dot_found c.args.text.now c.in-Some.dot c.in-Some.ensures in
-    subst (λ p. IsRead c.args.levels.now c.args.letters.now c.args.text.now p (c.in-Some.dot + 1 + c.in-Some-read_steps.read.last)) (sym c.under.ensures.path)
+    subst (λ p. IsRead c.args.levels.now c.args.letters.now c.args.text.now p (c.in-Some.dot + 1 + c.in-Some-read_steps.read.last)) (sym c.way_under.ensures.path)
     (read_step c.args.levels.now c.args.letters.now c.args.text.now none c.in-Some.dot c.in-Some-read_numbered.child c.in-Some-read_steps.read.last _ c.in-len1-up.len_at_least c.in-len1-up-letters.len_at_least at
-    c.in-Some-read_numbered.ensures.some.1 (sym c.before-in-len1-up-letters.ensures ∙ c.in-Some-read_numbered.ensures.some.0)
+    c.in-Some-read_numbered.ensures.some.1 (sym c.text_before.ensures ∙ c.in-Some-read_numbered.ensures.some.0)
     (subst (λ k. IsRead (after_first c.args.levels.now) (after_first c.args.letters.now) k (path_of c.in-Some-read_steps.read.way) c.in-Some-read_steps.read.last) c.after.ensures c.in-Some-read_steps.ensures.some))

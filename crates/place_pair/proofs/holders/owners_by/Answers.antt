@@ -17,8 +17,8 @@ owners_of-requires-clause-terminals c =
 
 pub owners_of-requires-clause-ports : goal.owners_of-requires-clause-ports
 owners_of-requires-clause-ports c =
-    subst (λ (ps : List Port). All (λ (q : Port). q.wire < wires_of c.shape.result) ps) (sym c.deref-2.ensures.value)
-    (subst (λ (m : Shape). All (λ (q : Port). q.wire < wires_of m) c.args.layout.now.ports.items) (sym c.shape.ensures.shape) c.requires.wires.ports_are)
+    subst (λ (ps : List Port). All (λ (q : Port). q.wire.0 < wires_of c.shape.result) ps) (sym c.deref-2.ensures.value)
+    (subst (λ (m : Shape). All (λ (q : Port). q.wire.0 < wires_of m) c.args.layout.now.ports.items) (sym c.shape.ensures.shape) c.requires.wires.ports_are)
 
 pub returns : goal.returns
 returns c =

@@ -4,6 +4,6 @@ use Rattle.place_plan.proofs.ports.port_of.Given as goal
 
 abbrev pub invariant-loop-k : goal.invariant-loop-k
 invariant-loop-k l = record {
-  before : (j : ℕ) → j < l.k → IsNth l.crossing j l.net → length l.ports ≤ j;
+  before : (j : ℕ) → j < l.k → IsNth l.crossing j l.net.0 → length l.ports ≤ j;
   within : l.k ≤ length l.ports;
 }

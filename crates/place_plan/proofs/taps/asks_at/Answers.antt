@@ -20,7 +20,7 @@ loop-k-preserved c =
     let here : c.as_slice-wires.result.now ≡ list_at nets k = c.as_slice-wires.ensures ∙ get_or_read nets k _ t.0 c.index-nets-k.is [] in
     elim c.if-visits.branch [
       | then-visits+in_ok-taps+in_ok-push w ↦
-          let e : c.if-visits.asks.items ≡ c.loop-k.asks.items ++ record { net = k; taps = w.in_ok-taps.taps } ∷ [] = ap (λ v. v.items) w.asks-is ∙ (w.in_ok-push.ensures {u = tt}).items in
+          let e : c.if-visits.asks.items ≡ c.loop-k.asks.items ++ record { net = record { 0 = k }; taps = w.in_ok-taps.taps } ∷ [] = ap (λ v. v.items) w.asks-is ∙ (w.in_ok-push.ensures {u = tt}).items in
           let v : Visits m (IsAmong c.as_slice-wires.result.now) n = c.visits.ensures.yes w.if-visits.true in
           let is : AreTaps m x p n k c.as_slice-wires.result.now w.in_ok-taps.taps = w.in_ok-taps.ensures in
           subst (AreAsksOf m nets x p n touched (i + 1)) (sym e) (asks_more m nets x p n touched i c.loop-k.asks.items w.in_ok-taps.taps c.requires.touched.ascending c.loop-k-test.true c.loop-k.invariant

@@ -12,10 +12,10 @@ loop-wire-preserved c =
     let ws = c.args.wires.now in
     let i : ℕ = c.loop-wire.wire-index in
     let e : c.push_tap.new.taps ≡ with_option c.loop-wire.taps c.tap_at.result = c.in_ok-push_tap.ensures in
-    let is : IsFound (IsTapFor m x p c.args.node c.args.net (get_or ws i 0)) c.tap_at.result = c.tap_at.ensures in
-    subst (λ z. AreTaps m x p c.args.node c.args.net z c.push_tap.new.taps) (sym (take_more ws i 0 c.loop-wire-test.true))
-    (subst (AreTaps m x p c.args.node c.args.net (take i ws ++ get_or ws i 0 ∷ [])) (sym e) (taps_more m x p c.args.node c.args.net (take i ws) c.loop-wire.taps (get_or ws i 0) c.tap_at.result c.loop-wire.invariant is))
+    let is : IsFound (IsTapFor m x p c.args.node.0 c.args.net.0 (get_or ws i 0)) c.tap_at.result = c.tap_at.ensures in
+    subst (λ z. AreTaps m x p c.args.node.0 c.args.net.0 z c.push_tap.new.taps) (sym (take_more ws i 0 c.loop-wire-test.true))
+    (subst (AreTaps m x p c.args.node.0 c.args.net.0 (take i ws ++ get_or ws i 0 ∷ [])) (sym e) (taps_more m x p c.args.node.0 c.args.net.0 (take i ws) c.loop-wire.taps (get_or ws i 0) c.tap_at.result c.loop-wire.invariant is))
 
 pub returns : goal.returns
 returns c =
-    subst (λ z. AreTaps c.args.crossed.now.tree.now.shape c.args.crossed.now.crossing.now c.args.crossed.now.ports.now c.args.node c.args.net z c.loop-wire.taps) (take_all c.loop-wire.wire-index c.args.wires.now (omega arith)) c.loop-wire.invariant
+    subst (λ z. AreTaps c.args.crossed.now.tree.now.shape c.args.crossed.now.crossing.now c.args.crossed.now.ports.now c.args.node.0 c.args.net.0 z c.loop-wire.taps) (take_all c.loop-wire.wire-index c.args.wires.now (omega arith)) c.loop-wire.invariant

@@ -42,7 +42,7 @@ grouped-requires c =
     let p = c.args.plan.now in
     let l : n.inputs + length c.as_slice.result.now ≡ nets_in n = ap (λ (z : List NetTable). n.inputs + length z) c.as_slice.ensures in
     let e : c.deref.result.now ≡ all_terminals D.shape n p = all_on D.shape n p c.shape-shape.result _ _ c.shape-shape.ensures.shape c.deref.ensures.value c.in_ok-terminals.ensures in
-    subst (λ z. All (λ (t : Terminal). t.net < z) c.deref.result.now) (sym l) (nets_small D.shape D.list n p c.requires.network c.requires.plan (c.the_numbering_is_sound.ensures.numbered D.shape) c.deref.result.now e)
+    subst (λ z. All (λ (t : Terminal). t.net.0 < z) c.deref.result.now) (sym l) (nets_small D.shape D.list n p c.requires.network c.requires.plan (c.the_numbering_is_sound.ensures.numbered D.shape) c.deref.result.now e)
 
 pub returns : goal.returns
 returns c =

@@ -1,6 +1,6 @@
 use Rattle.std.proofs.Common.{◌≡◌, ◌+◌, ℕ, map, sym, ap, ◌∙◌}
 use Rattle.machine_shape.specs.Shape.{tables_of, table_wire}
-use Rattle.place_plan.specs.Vocabulary.{number_of, nth_of, give_by}
+use Rattle.place_plan.specs.Vocabulary.{number_of, nth_of, give_by, terminal_for}
 use Rattle.place_plan.proofs.Pushes.{map_next, place_at, place_below}
 use Rattle.place_plan.proofs.terminals.push_gives.Goals as goal
 
@@ -12,4 +12,4 @@ loop-j-preserved c =
     let m = c.args.shape.now in
     let j : ℕ = c.loop-j.j in
     let w : c.pin_of.result.0 ≡ table_wire m (nth_of (map number_of c.args.places.now) j) 6 = c.pin_of.ensures.wire ∙ ap (λ (t : ℕ). table_wire m t 6) (sym (place_at c.args.places.now j c.loop-j-test.true)) in
-    map_next (give_by m c.args.inputs (map number_of c.args.places.now)) c.args.terminals.now.items c.loop-j.terminals.items c.push.new.self.items j (record { net = c.args.inputs + j; wire = c.pin_of.result.0 }) c.loop-j.invariant c.in_ok-push.ensures.items (λ i. record { net = c.args.inputs + j; wire = w i })
+    map_next (give_by m c.args.inputs (map number_of c.args.places.now)) c.args.terminals.now.items c.loop-j.terminals.items c.push.new.self.items j (terminal_for (c.args.inputs + j) c.pin_of.result.0) c.loop-j.invariant c.in_ok-push.ensures.items (λ i. terminal_for (c.args.inputs + j) (w i))

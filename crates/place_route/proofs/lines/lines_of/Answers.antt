@@ -1,11 +1,12 @@
 use Rattle.std.proofs.Common.{take, get_or}
 use Rattle.std.proofs.lemmas.List.{take_more}
 use Rattle.place_plan.specs.declared.short.Visit.{Visit}
+use Rattle.place_plan.specs.Room.{visit_for}
 use Rattle.place_route.proofs.Lining.{no_lines, lines_more}
 use Rattle.place_route.proofs.lines.lines_of.Goals as goal
 
 abbrev no_visit : Visit
-no_visit = record { node = 0; net = 0; line = 0 }
+no_visit = visit_for 0 0 0
 
 pub loop-visit-init : goal.loop-visit-init
 loop-visit-init c = no_lines _ c.new-lines.ensures.empty

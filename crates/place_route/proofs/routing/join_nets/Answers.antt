@@ -14,7 +14,7 @@ pub owners_of-requires-clause-terminals : goal.owners_of-requires-clause-termina
 owners_of-requires-clause-terminals c = subst (All (AreWires c.args.shape)) (sym c.deref-2.ensures.value) c.requires.wires.terminals
 
 pub owners_of-requires-clause-ports : goal.owners_of-requires-clause-ports
-owners_of-requires-clause-ports c = subst (All (λ (p : Port). p.wire < wires_of c.args.shape)) (sym c.deref-3.ensures.value) c.requires.wires.ports_are
+owners_of-requires-clause-ports c = subst (All (λ (p : Port). p.wire.0 < wires_of c.args.shape)) (sym c.deref-3.ensures.value) c.requires.wires.ports_are
 
 pub join_all-requires-clause-lines : goal.join_all-requires-clause-lines
 join_all-requires-clause-lines c =

@@ -1,2 +1,0 @@
-use Rattle.diag_sweep.proofs.Leaving.{without_all, without_first, without_pass, without_put}
-use Rattle.diag_sweep.proofs.subtract.without.Goals as goal

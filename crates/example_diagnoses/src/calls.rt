@@ -1,0 +1,170 @@
+//! The calls of a diagnosis one by one: what each leaves is held against the faults of the machine.
+ghost use Rattle.std.specs.Prelude.{◌≡◌, ◌<◌, All, Some};
+ghost use Rattle.rig.specs.Rig.{shape_of};
+ghost use Rattle.machine_shape.specs.Shape.{tables_of};
+ghost use Rattle.diag_known.specs.Field.{IsFieldOf};
+ghost use Rattle.example_diagnoses.specs.Stages.{IsStageOf};
+
+use crate::choices::choose_once;
+use crate::fields::{Task, area_of, draw_part, whole};
+use crate::flags::Parts;
+use crate::judge::{Judge, judge_of};
+use crate::picture::{Picture, Stage};
+use crate::steps::{first_stage, grow_stage, sweep_stage, test_stage};
+use base_random::Draws;
+use machine_faults::FaultSet;
+use machine_shape::Table;
+use rig::Rig;
+use std::alloc::Global;
+
+// A sweep of a field and some tables.
+fn sweep_once(
+    rig: &mut Box<dyn Rig>,
+    stage: &mut Stage,
+    judge: &Judge,
+    task: &Task,
+    area: &Parts,
+) -> Result<(), &'static str>
+    requires attached { shape_of (rig_state rig.old) ≡ Some stage.old.facts.shape }
+    requires stage { IsStageOf stage.old.facts.shape stage.old }
+    requires field { IsFieldOf stage.old.facts.shape task.now.field }
+    ensures attached { shape_of (rig_state rig.new) ≡ Some stage.old.facts.shape }
+    ensures stage { IsStageOf stage.old.facts.shape stage.new }
+{
+    let before = judge.picture(stage)?;
+    let loads = rig.loads();
+    sweep_stage(rig, stage, task)?;
+    let taken = rig.loads().saturating_sub(loads);
+    judge.hold_sweep(area, &before, stage, taken)
+}
+
+// A growth in what isn't marked of a field.
+fn grow_once(
+    rig: &mut Box<dyn Rig>,
+    stage: &mut Stage,
+    judge: &Judge,
+    task: &Task,
+    area: &Parts,
+) -> Result<(), &'static str>
+    requires attached { shape_of (rig_state rig.old) ≡ Some stage.old.facts.shape }
+    requires stage { IsStageOf stage.old.facts.shape stage.old }
+    requires field { IsFieldOf stage.old.facts.shape task.now.field }
+    ensures attached { shape_of (rig_state rig.new) ≡ Some stage.old.facts.shape }
+    ensures stage { IsStageOf stage.old.facts.shape stage.new }
+{
+    let before = judge.picture(stage)?;
+    let loads = rig.loads();
+    grow_stage(judge.alloc, rig, stage, task)?;
+    let taken = rig.loads().saturating_sub(loads);
+    judge.hold_growth(area, &before, stage, taken)
+}
+
+// The tests of these tables.
+fn test_once(
+    rig: &mut Box<dyn Rig>,
+    stage: &mut Stage,
+    judge: &Judge,
+    tables: &[Table],
+) -> Result<Picture, &'static str>
+    requires attached { shape_of (rig_state rig.old) ≡ Some stage.old.facts.shape }
+    requires stage { IsStageOf stage.old.facts.shape stage.old }
+    requires tables { All (λ t. t.0 < tables_of stage.old.facts.shape) tables.now }
+{
+    let before = judge.picture(stage)?;
+    let loads = rig.loads();
+    test_stage(rig, stage, tables)?;
+    let taken = rig.loads().saturating_sub(loads);
+    judge.hold_tables(&before, stage, taken)
+}
+
+// A sweep, a choice and a growth behind them.
+fn know_task(
+    rig: &mut Box<dyn Rig>,
+    stage: &mut Stage,
+    judge: &Judge,
+    task: &Task,
+) -> Result<(), &'static str>
+    requires attached { shape_of (rig_state rig.old) ≡ Some stage.old.facts.shape }
+    requires stage { IsStageOf stage.old.facts.shape stage.old }
+    requires field { IsFieldOf stage.old.facts.shape task.now.field }
+    ensures attached { shape_of (rig_state rig.new) ≡ Some stage.old.facts.shape }
+    ensures stage { IsStageOf stage.old.facts.shape stage.new }
+{
+    let area = area_of(judge.alloc, &stage.facts.shape(), task)
+        .ok()
+        .ok_or("no memory")?;
+    sweep_once(rig, stage, judge, task, &area)?;
+    choose_once(rig, stage, judge, task, &area)?;
+    grow_once(rig, stage, judge, task, &area)
+}
+
+// A part of the machine first.
+fn know_part(
+    rig: &mut Box<dyn Rig>,
+    stage: &mut Stage,
+    judge: &Judge,
+    draws: &mut Draws,
+) -> Result<(), &'static str>
+    requires attached { shape_of (rig_state rig.old) ≡ Some stage.old.facts.shape }
+    requires stage { IsStageOf stage.old.facts.shape stage.old }
+    ensures attached { shape_of (rig_state rig.new) ≡ Some stage.old.facts.shape }
+    ensures stage { IsStageOf stage.old.facts.shape stage.new }
+{
+    let Ok(part) = draw_part(judge.alloc, draws, &stage.facts.shape()) else {
+        return Err("no memory");
+    };
+    know_task(rig, stage, judge, &part)
+}
+
+// All of the machine, and then its tables.
+fn know_whole(
+    rig: &mut Box<dyn Rig>,
+    stage: &mut Stage,
+    judge: &Judge,
+    all: &Task,
+) -> Result<Picture, &'static str>
+    requires attached { shape_of (rig_state rig.old) ≡ Some stage.old.facts.shape }
+    requires stage { IsStageOf stage.old.facts.shape stage.old }
+    requires field { IsFieldOf stage.old.facts.shape all.now.field }
+    requires tables { All (λ t. t.0 < tables_of stage.old.facts.shape) all.now.tables.items }
+{
+    know_task(rig, stage, judge, all)?;
+    test_once(rig, stage, judge, &all.tables)
+}
+
+// Both.
+fn know_all(
+    rig: &mut Box<dyn Rig>,
+    stage: &mut Stage,
+    judge: &Judge,
+    draws: &mut Draws,
+) -> Result<Picture, &'static str>
+    requires attached { shape_of (rig_state rig.old) ≡ Some stage.old.facts.shape }
+    requires stage { IsStageOf stage.old.facts.shape stage.old }
+{
+    know_part(rig, stage, judge, draws)?;
+    let Ok(all) = whole(judge.alloc, draws, &stage.facts.shape()) else {
+        return Err("no memory");
+    };
+    know_whole(rig, stage, judge, &all)
+}
+
+/// Sweeps, chooses and grows over a part of a machine and then over all of it, tests its tables, and looks at what each call leaves:
+/// facts and marks are true, loads are within their bounds, and what is known and kept is closed, tables that can be tested among it.
+///
+/// # Errors
+///
+/// What is wrong with them.
+pub fn try_calls(
+    alloc: Global,
+    rig: &mut Box<dyn Rig>,
+    draws: &mut Draws,
+    faults: &FaultSet,
+) -> Result<(), &'static str>
+    requires attached { shape_of (rig_state rig.old) ≡ Some faults.now.shape }
+{
+    let judge = judge_of(alloc, faults)?;
+    let mut stage = first_stage(alloc, &faults.shape())?;
+    let last = know_all(rig, &mut stage, &judge, draws)?;
+    judge.tables_are_closed(faults, &last)
+}

@@ -1,0 +1,45 @@
+//! Small machines with faults, both as numbers make them: each is diagnosed as a whole and call by call.
+//!
+//! What a list, a fact and a mark have to be is looked at in plain numbers, by what is said of them and not by how they come about.
+//! Each group of machines has faults of its own kinds; a line tells how many of it are right, and lines before it what is wrong with
+//! the others. The word of the command line says how many machines a group has. The status is 0 where all of them are right.
+#![tactic(auto)]
+
+mod budget;
+mod calls;
+mod choices;
+mod closed;
+mod counts;
+mod faults;
+mod feet;
+mod fields;
+mod flags;
+mod groups;
+mod judge;
+mod kept_facts;
+mod looks;
+mod marks;
+mod picture;
+mod seating;
+mod shorts;
+mod sight;
+mod steps;
+mod trial;
+
+use example_kit::verdict;
+use program_main::texts;
+use std::io;
+use std::process::ExitCode;
+
+// Tries as many machines of each group as the last word says, and tells whether all are right and there are any.
+fn run(rt: &HostRuntime) -> io::Result<bool> {
+    let mut many = 0u32;
+    'words: for word in texts(rt)?.iter() {
+        many = word.parse::<u32>().unwrap_or(0);
+    }
+    Ok(groups::try_all(rt, many)? && many > 0)
+}
+
+fn main(rt: HostRuntime) -> ExitCode {
+    verdict(run(&rt))
+}

@@ -1,0 +1,163 @@
+//! The calls of a diagnosis, each as a step from one stage to the next. Of a step no more is said than the next one needs.
+ghost use Rattle.std.specs.Prelude.{◌≡◌, ◌<◌, All, Some, IfOk};
+ghost use Rattle.rig.specs.Rig.{shape_of};
+ghost use Rattle.machine_shape.specs.Shape.{tables_of};
+ghost use Rattle.diag_known.specs.Vocabulary.{IsFieldOf, IsKnown};
+ghost use Rattle.diag_sweep.specs.Marks.{AreMarksFor};
+ghost use Rattle.example_diagnoses.specs.Stages.{IsStageOf};
+
+use crate::fields::Task;
+use crate::picture::Stage;
+use diag_evidence::Facts;
+use diag_growth::{grow, test_tables};
+use diag_known::Known;
+use diag_sweep::{Choices, DefectMarks, choose, sweep, sweep_with, without_bad};
+use machine_shape::{Shape, Table};
+use rig::Rig;
+use std::alloc::Global;
+
+// What is kept, known and marked, of one machine.
+fn stage_of(shape: &Shape, facts: Facts, known: Known, bad: DefectMarks) -> Stage
+    requires shape { facts.shape ≡ shape.now }
+    requires known { IsKnown facts known }
+    requires marks { AreMarksFor shape.now bad }
+    ensures { IsStageOf shape.now result }
+{
+    let _shape = shape;
+    Stage { facts, known, bad }
+}
+
+/// Nothing is kept, known or marked.
+pub fn first_stage(alloc: Global, shape: &Shape) -> Result<Stage, &'static str>
+    ensures { IfOk result (IsStageOf shape.now) }
+{
+    let Ok(facts) = Facts::new(alloc, *shape) else {
+        return Err("no memory");
+    };
+    let Ok(known) = Known::new(alloc, shape) else {
+        return Err("no memory");
+    };
+    let Ok(bad) = DefectMarks::none(alloc, shape) else {
+        return Err("no memory");
+    };
+    Ok(stage_of(shape, facts, known, bad))
+}
+
+/// A sweep of a field and some tables.
+pub fn sweep_stage(
+    rig: &mut Box<dyn Rig>,
+    stage: &mut Stage,
+    task: &Task,
+) -> Result<(), &'static str>
+    requires attached { shape_of (rig_state rig.old) ≡ Some stage.old.facts.shape }
+    requires stage { IsStageOf stage.old.facts.shape stage.old }
+    requires field { IsFieldOf stage.old.facts.shape task.now.field }
+    ensures attached { shape_of (rig_state rig.new) ≡ Some stage.old.facts.shape }
+    ensures stage { IsStageOf stage.old.facts.shape stage.new }
+{
+    let swept = sweep(
+        rig,
+        &mut stage.facts,
+        &mut stage.known,
+        &mut stage.bad,
+        &task.field,
+        &task.tables,
+    );
+    swept.ok().ok_or("no sweep")
+}
+
+/// Choices of which none was made, with the loads that unfit wires are worth.
+pub fn choices_of(stage: &Stage, task: &Task) -> Result<Choices, &'static str> {
+    let choices = Choices::new(
+        &stage.facts,
+        &stage.known,
+        &stage.bad,
+        &task.field,
+        &task.tables,
+    );
+    let mut choices = choices.ok().ok_or("no memory")?;
+    choices.pay_for(&stage.bad.unfit);
+    Ok(choices)
+}
+
+/// A choice between shorted wires. Whether one was made.
+pub fn choose_stage(
+    rig: &mut Box<dyn Rig>,
+    stage: &mut Stage,
+    task: &Task,
+    choices: &mut Choices,
+) -> Result<bool, &'static str>
+    requires attached { shape_of (rig_state rig.old) ≡ Some stage.old.facts.shape }
+    requires stage { IsStageOf stage.old.facts.shape stage.old }
+    requires field { IsFieldOf stage.old.facts.shape task.now.field }
+    ensures attached { shape_of (rig_state rig.new) ≡ Some stage.old.facts.shape }
+    ensures stage { IsStageOf stage.old.facts.shape stage.new }
+{
+    let chosen = choose(
+        rig,
+        &mut stage.facts,
+        &mut stage.known,
+        &mut stage.bad,
+        &task.field,
+        choices,
+    );
+    chosen.ok().ok_or("no choice")
+}
+
+/// The sweep behind a choice.
+pub fn sweep_chosen(
+    rig: &mut Box<dyn Rig>,
+    stage: &mut Stage,
+    task: &Task,
+    choices: &mut Choices,
+) -> Result<(), &'static str>
+    requires attached { shape_of (rig_state rig.old) ≡ Some stage.old.facts.shape }
+    requires stage { IsStageOf stage.old.facts.shape stage.old }
+    requires field { IsFieldOf stage.old.facts.shape task.now.field }
+    ensures attached { shape_of (rig_state rig.new) ≡ Some stage.old.facts.shape }
+    ensures stage { IsStageOf stage.old.facts.shape stage.new }
+{
+    let swept = sweep_with(
+        rig,
+        &mut stage.facts,
+        &mut stage.known,
+        &mut stage.bad,
+        &task.field,
+        choices,
+    );
+    swept.ok().ok_or("no sweep behind a choice")
+}
+
+/// A growth in what isn't marked of a field.
+pub fn grow_stage(
+    alloc: Global,
+    rig: &mut Box<dyn Rig>,
+    stage: &mut Stage,
+    task: &Task,
+) -> Result<(), &'static str>
+    requires attached { shape_of (rig_state rig.old) ≡ Some stage.old.facts.shape }
+    requires stage { IsStageOf stage.old.facts.shape stage.old }
+    requires field { IsFieldOf stage.old.facts.shape task.now.field }
+    ensures attached { shape_of (rig_state rig.new) ≡ Some stage.old.facts.shape }
+    ensures stage { IsStageOf stage.old.facts.shape stage.new }
+{
+    let Ok(rest) = without_bad(alloc, &stage.bad, &task.field) else {
+        return Err("no memory");
+    };
+    let grown = grow(rig, &mut stage.facts, &mut stage.known, &rest);
+    grown.ok().ok_or("no growth")
+}
+
+/// The tests of these tables.
+pub fn test_stage(
+    rig: &mut Box<dyn Rig>,
+    stage: &mut Stage,
+    tables: &[Table],
+) -> Result<(), &'static str>
+    requires attached { shape_of (rig_state rig.old) ≡ Some stage.old.facts.shape }
+    requires stage { IsStageOf stage.old.facts.shape stage.old }
+    requires tables { All (λ t. t.0 < tables_of stage.old.facts.shape) tables.now }
+{
+    let tested = test_tables(rig, &mut stage.facts, &stage.known, tables);
+    tested.ok().ok_or("no tests of tables")
+}
