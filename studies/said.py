@@ -4,7 +4,7 @@
 A sentence with a number has marks such as [b2], of lines of tables in the text: | b2 | STUDY | ROWS | WHAT | VALUE |. ROWS are
 conditions as `design=uart rate<=0.1 list=exact,mapped`, WHAT is one of the sums below, and VALUE what it gives; `--write` fills it in.
 
-    right                        runs that fit and are right, of how many, with the interval
+    right                        runs that fit and are right, of how many; of one design or fill with the interval
     right by COLUMNS             of the groups the one with the least share and the one with the most
     right from COLUMN            the least value from which on all runs are right
     mean C, mean C by COLUMNS    mean with its interval; of groups the least and the most. Of loads and cycles each diagnosis counts once
@@ -31,7 +31,7 @@ from study_rows import COSTS, NUMBERS, cause, diagnoses, mean, paired, read_rows
 TOP = Path(HERE).parent
 TEXT, FOLDER = TOP / "docs/STUDIES.md", TOP / "docs/studies"
 LINE = re.compile(r"\| ([a-z][0-9]+) \| ([a-z]+) \| ([^|]*) \| ([^|]*) \|([^|]*)\|")
-NUMBER = re.compile(r"(?<![\w.])\d[\d,]*(?:\.\d+)?(?![\w])")
+NUMBER, IN_WORDS = re.compile(r"(?<![\w.])\d[\d,]*(?:\.\d+)?(?!\w)"), re.compile(r"\d[\d,]*(?:\.\d+)?")  # the second as in fill90
 COMPARED = {"<=": float.__le__, ">=": float.__ge__}
 
 
@@ -56,8 +56,9 @@ def holds(row, condition):
 
 
 def of_runs(rows):
+    """Of so many runs so many are right, with an interval if they are of one design or of one fill."""
     point = share(rows)
-    bounds = "" if point[1] is None else f" ({point[1]:.2f}-{point[2]:.2f})"
+    bounds = "" if point[1] is None or len(split(rows, "design")) > 1 else f" ({point[1]:.2f}-{point[2]:.2f})"
     return f"{round(point[0] * point[3]) if point[3] else 0} of {point[3]}{bounds}"
 
 
@@ -151,8 +152,8 @@ def sentences(text):
             yield from re.split(r"(?<=[.!?])\s+(?=[A-Z*`])", paragraph.strip())
 
 
-def numbers(text):
-    return [float(word.replace(",", "")) for word in NUMBER.findall(text)]
+def numbers(text, form=NUMBER):
+    return [float(word.replace(",", "")) for word in form.findall(text)]
 
 
 def wrong(text, folder=FOLDER):
@@ -166,8 +167,9 @@ def wrong(text, folder=FOLDER):
         marks = re.findall(r"\[([a-z][0-9]+)\]", sentence)
         plain = re.sub(r"`[^`]*`|\[[a-z][0-9]+\]|\]\([^)]*\)", "", sentence)
         cells = " ".join(" ".join(found.get(mark, [])) for mark in marks)
-        borne = set(numbers(re.sub("[-=/]", " ", cells)))
-        borne |= {round(100 * number, 6) for number in borne}
+        borne = set(numbers(cells, IN_WORDS))
+        percent = {float(word.replace(",", "")) for word in re.findall(rf"({NUMBER.pattern}) (?:%|percent)", plain)}
+        borne |= percent & {round(100 * number, 6) for number in borne}
         missing = [number for number in numbers(plain) if number not in borne]
         if missing or not set(marks) <= found.keys():
             said = ", ".join(map(spelled, missing)) or "a mark without a line"

@@ -259,9 +259,9 @@ class Kinds(unittest.TestCase):
             design = texts.read_design(designs.blif_text(designs.filling(tables)).encode())
             self.assertEqual(len(designs.plain_network(design).tables), tables)
             self.assertNotEqual(design, texts.read_design(designs.blif_text(designs.filling(tables, 2)).encode()))
-        if MAPPER:  # which leaves more than a quarter of them
+        if MAPPER:  # which leaves more than an eighth of them
             text = call(MAPPER, designs.blif_text(designs.filling(77)).encode()).written
-            self.assertGreater(len(designs.plain_network(texts.read_design(text)).tables), 77 // 4)
+            self.assertGreater(len(designs.plain_network(texts.read_design(text)).tables), 77 // 8)
 
     def test_three_copies(self):
         lfsr = f"{EXAMPLES}/lfsr.blif"
