@@ -4,7 +4,7 @@ import re
 
 from model import Configuration, Session, Setting
 
-NUMBER = rb"(?:0|[1-9][0-9]*)"
+NUMBER = rb"(?:0|[1-9][0-9]{0,8})"
 EDIT = rb"[coxk]" + NUMBER + rb"|t" + NUMBER + rb",[0-9a-f]{16},[0-3]"
 DRIVES = rb"d[0-9a-f]+(?: d[0-9a-f]+)*"
 REQUEST = re.compile(rb"a|(?:(?:z )?(?:(?:" + EDIT + rb") )*l )?" + DRIVES)
@@ -39,8 +39,28 @@ class Refusal(Exception):
     """What is wrong with a request, for people."""
 
 
+def edit(configuration, word):
+    """Makes one edit of a request."""
+    kind, (number, *rest) = word[:1], word[1:].split(b",")
+    number = int(number)
+    if kind == b"c":
+        configuration.closed.add(number)
+    elif kind == b"o":
+        configuration.closed.discard(number)
+    elif kind == b"k":
+        configuration.ticks = number
+    elif kind == b"x":
+        configuration.tables.pop(number, None)
+    else:
+        flags = int(rest[1])
+        configuration.tables[number] = Setting(int(rest[0], 16), bool(flags & 1), bool(flags & 2))
+
+
 class Device:
-    """A machine with its faults that answers requests. A refused request changes nothing but a session.
+    """A machine with its faults that answers requests.
+
+    At first, and after each refusal, it answers an `a` alone: else a tool that never heard of it would read a machine that isn't set
+    as it believes, be it that its words were lost or that the power was.
 
     `begin` begins sessions. What comes with a load is made so many `times`, each time from a load of its own, and refused where
     the readings differ: then the machine isn't one unchanging set of faults.
@@ -48,7 +68,7 @@ class Device:
 
     def __init__(self, machine, faults, on_load=lambda: None, begin=Session, times=1):
         self._machine, self._faults, self._on_load, self._begin, self._times = machine, faults, on_load, begin, times
-        self._set, self._session = Configuration(), None
+        self._is_attached, self._set, self._session = False, Configuration(), None
 
     def answer(self, line):
         """The reply to a line without its end; nothing to an empty one, which asks nothing."""
@@ -57,6 +77,7 @@ class Device:
         try:
             return with_sum(self._reply(self._body(line)))
         except Refusal as reason:
+            self._is_attached = False
             return b"!%s\n" % str(reason).encode()
 
     def _body(self, line):
@@ -72,8 +93,10 @@ class Device:
         words = body.split()
         drives = [self._drive(word[1:]) for word in words if word[:1] == b"d"]
         if body == b"a":
-            self._set, self._session = Configuration(), None
+            self._is_attached, self._set, self._session = True, Configuration(), None
             return counts_body(self._machine)
+        if not self._is_attached:
+            raise Refusal("attach")
         if b"l" in words:
             self._load(words[: words.index(b"l")])
             self._on_load()
@@ -87,7 +110,6 @@ class Device:
     def _compare(self, drives, readings):
         again = self._begin(self._machine, self._faults, self._set.copy())
         if [again.cycle(drive) for drive in drives] != readings:
-            self._session = None
             raise Refusal("twice")
 
     def _drive(self, digits):
@@ -97,26 +119,16 @@ class Device:
         return int(digits, 16)
 
     def _load(self, edits):
-        edited = self._set.copy()
-        for word in edits:
-            edited = Configuration() if word == b"z" else self._edited(edited, word)
+        edited = Configuration() if edits[:1] == [b"z"] else self._set.copy()
+        for word in edits[edits[:1] == [b"z"] :]:
+            self._check(word)
+            edit(edited, word)
         self._set = edited
         self._session = self._begin(self._machine, self._faults, edited.copy())
 
-    def _edited(self, edited, word):
-        kind, (number, *rest) = word[:1], word[1:].split(b",")
-        number, crosses, tables = int(number), range(len(self._machine.crosses)), range(len(self._machine.tables))
-        if number not in {b"c": crosses, b"o": crosses, b"k": range(1, MOST_TICKS + 1)}.get(kind, tables):
+    def _check(self, word):
+        """Whether the number of an edit is one of this machine."""
+        crosses, tables = range(len(self._machine.crosses)), range(len(self._machine.tables))
+        known = {b"c": crosses, b"o": crosses, b"k": range(1, MOST_TICKS + 1)}.get(word[:1], tables)
+        if int(word[1:].split(b",")[0]) not in known:
             raise Refusal("number")
-        if kind == b"c":
-            edited.closed.add(number)
-        elif kind == b"o":
-            edited.closed.discard(number)
-        elif kind == b"k":
-            edited.ticks = number
-        elif kind == b"x":
-            edited.tables.pop(number, None)
-        else:
-            flags = int(rest[1])
-            edited.tables[number] = Setting(int(rest[0], 16), bool(flags & 1), bool(flags & 2))
-        return edited

@@ -70,11 +70,23 @@ class Machine:
     @property
     def most_loads(self):
         """So many loads a diagnosis takes at most where nothing is wrong; with faults hardly more."""
-        return 2 * len(self.crosses) + 3 * len(self.wires) + 130 * len(self.tables)
+        return most_loads_of(self.counts)
 
     @property
     def counts_text(self):
         return " ".join(map(str, self.counts))
+
+
+def most_loads_of(counts):
+    """The same of a machine of these twelve counts: twice its crosspoints, three times its wires and 130 times its tables."""
+    modules, chips, hextants, tables, *ports, root, module, chip, hextant, pins = counts
+    above, wires, crosses, nodes = pins, 0, 0, 1
+    parts = ((root, modules, ports[0]), (module, chips, ports[1]), (chip, hextants, ports[2]), (hextant, tables, len(TABLE_PINS)))
+    for lines, children, below in parts:
+        wires += nodes * (above + lines)
+        crosses += nodes * lines * (above + children * below)
+        above, nodes = below, nodes * children
+    return 2 * crosses + 3 * (wires + nodes * len(TABLE_PINS)) + 130 * nodes
 
 
 @dataclass

@@ -153,7 +153,7 @@ def tables(machine, faults):
 
 
 def places(machine):
-    yield "  always @* case (node)"
+    yield "  always_comb case (node)"
     for at, node in enumerate(machine.nodes):
         yield f"    {at}: begin lines_of = {len(node.lines)}; first_of = {node.first}; end_of = {node.crosses.stop}; end"
     yield "    default: begin lines_of = 1; first_of = 0; end_of = `CROSSES; end"

@@ -41,11 +41,17 @@ TALK = [
     ("o5 c10 t1,8888888888888888,0 l d0f*fb", "=0f*d3"),
     ("d0f*fa", "=0f*d3"),
 ]
-# Behind them, what each end has to refuse.
-WRONG = ["l d00*00", "c9", "q", "d1", "dag", "l d0g", "k0 l d0f", "k4097 l d0f", "c168 l d0f", "x2 l d0f", "t2,0000000000000000,0 l d0f"]
-# Lines that the end in Python refuses, though others may take them.
-STRICT = ["d0f ", "d0F", "d1f", " d0f", "c00 l d0f", "t1,0,0 l d0f", "c0 l", "a ", "d0f*fA", "l d0f l d0f", "z d0f"]
-
+# What each end has to refuse, wherever it comes behind them: wrong sums, ..
+WRONG = ["l d00*00", "d0f*f", "d0f*fA", "d0f*0fa", "d0f*fa0", "d0f*", "d0f*fa*fa", "d0f*fa ", "*00"]
+# .. numbers that are out of range or spelled in another way, ..
+WRONG += ["k0 l d0f", "k4097 l d0f", "k01 l d0f", "c168 l d0f", "o168 l d0f", "c00 l d0f", "c l d0f", "c-1 l d0f", "x2 l d0f", "x0,1 l d0f"]
+WRONG += [f"c{2**bits} l d0f" for bits in (32, 64)] + ["t2,0000000000000000,0 l d0f", "t1,0,0 l d0f", "t1,88888888888888888,0 l d0f"]
+WRONG += ["t1,8888888888888888,4 l d0f", "t1,8888888888888888 l d0f", "t1,888888888888888A,0 l d0f", "t1,,0 l d0f"]
+# .. pin texts of another width or with bits beyond the pins, ..
+WRONG += ["d", "d1", "dag", "l d0g", "d0F", "d1f", "d00f", "d0f d"]
+# .. and lines of another form.
+WRONG += ["q", "c9", "c0 l", "l", "z", "z d0f", "a d0f", "a a", "a ", " d0f", "d0f ", "d0f  d0e", "l  d0f", "l d0f l d0f", "c0 d0f l d0f"]
+WRONG += ["z z l d0f", "c0 z l d0f", "l d0f c0", "l d0f z", "D0f", "d0f\r", "\td0f", "d0f\1", "l d0f,"]
 
 class Texts(unittest.TestCase):
     def test_numbers_of_tiny(self):
@@ -59,6 +65,9 @@ class Texts(unittest.TestCase):
     def test_most_loads(self):
         self.assertEqual(TINY.most_loads, 2 * 168 + 3 * 46 + 130 * 2)
         self.assertEqual(len(SMALL.crosses), 9792)
+        for machine in (TINY, SMALL):
+            parts = len(machine.crosses), len(machine.wires), len(machine.tables)
+            self.assertEqual(machine.most_loads, 2 * parts[0] + 3 * parts[1] + 130 * parts[2])
 
     def test_wrong_machines(self):
         text = (EXAMPLES / "tiny.machine").read_text()
@@ -121,21 +130,28 @@ class Lines(unittest.TestCase):
         self.assertEqual(cost.cycles_of(b"a*61\nc0 l d0e d0f*f0\nd0f*fa\nz l d0e*00\n"), [3, 1])
 
     def test_several_drives(self):
+        self.device.answer(b"a")
         self.device.answer(b"c0 c4 l d0f")
         self.assertEqual(self.device.answer(b"d0e d0f"), with_sum(b"=0c 0f"))
 
-    def test_refused_lines_change_nothing(self):
-        for request, _ in TALK:
-            self.device.answer(request.encode())
-        for wrong in WRONG + STRICT:
+    def test_a_refusal_ends_all_but_attaching(self):
+        for wrong in WRONG:
+            for request, reply in TALK:
+                self.assertEqual(self.device.answer(request.encode()), reply.encode() + b"\n")
             self.assertEqual(self.device.answer(wrong.encode())[:1], b"!", wrong)
-        self.assertEqual(self.device.answer(b"d0f*fa"), b"=0f*d3\n")
+            for _ in range(2):
+                self.assertEqual(self.device.answer(b"d0f*fa"), b"!attach\n")
+
+    def test_nothing_comes_before_attaching(self):
+        for line in (b"d0f*fa", b"l d0f", b"z l d0f"):
+            self.assertEqual(Device(TINY, Faults()).answer(line), b"!attach\n")
 
     def test_clearing_ends_the_session(self):
         for request, _ in TALK[:2]:
             self.device.answer(request.encode())
         self.device.answer(b"a*61")
         self.assertEqual(self.device.answer(b"d0f*fa"), b"!load\n")
+        self.device.answer(b"a*61")
         self.assertEqual(self.device.answer(b"z c1 l d0f"), with_sum(b"=0f"))
 
     def test_readings_that_differ_are_refused(self):
@@ -147,7 +163,12 @@ class Lines(unittest.TestCase):
         joined, apart, refused = with_sum(b"=0c"), with_sum(b"=0e"), b"!twice\n"
         for times, answers in ((1, {joined, apart}), (2, {joined, apart, refused}), (20, {refused})):
             device = Device(TINY, Faults(), begin=flicker, times=times)
-            self.assertEqual({device.answer(b"z c0 c4 l d0e") for _ in range(20)}, answers)
+            self.assertEqual({self.joins(device) for _ in range(20)}, answers)
+
+    @staticmethod
+    def joins(device):
+        device.answer(b"a")
+        return device.answer(b"c0 c4 l d0e")
 
     def test_edits_lead_from_one_to_the_other(self):
         chance, before = random.Random(3), Configuration()
@@ -155,6 +176,7 @@ class Lines(unittest.TestCase):
             after = compare.random_load(TINY, chance, before)
             self.begun = []
             device = Device(TINY, Faults(), begin=self.begin)
+            device.answer(b"a")
             device.answer(b" ".join([*edits(Configuration(), before), b"l d0f"]))
             device.answer(b" ".join([*edits(before, after), b"l d0f"]))
             self.assertEqual(self.begun, [before, after])
@@ -227,17 +249,29 @@ class Programs(unittest.TestCase):
         (self.folder / "machine").write_text(machine)
         (self.folder / "faults").write_text(faults)
         words = [kind, self.folder / "machine", self.folder / "faults", "-o", self.folder / kind]
+        if kind == "device":
+            return self.make_by_icarus(words)
         subprocess.run([sys.executable, HERE / "make.py", *words], check=True, stdout=subprocess.DEVNULL)
         return Process(self.folder / kind / "end")
+
+    def make_by_icarus(self, words):
+        """The synthesizable device: Icarus takes a moment to make it, and Verilator a minute."""
+        subprocess.run([sys.executable, HERE / "make.py", *words, "--sources"], check=True)
+        sources = [self.folder / "device" / "machine.v", HERE / "verilog" / "device.v", HERE / "verilog" / "device_test.v"]
+        program = self.folder / "device" / "end.vvp"
+        subprocess.run(["iverilog", "-g2012", "-o", program, "-s", "device_test", *sources], check=True)
+        return Process("vvp", "-n", program)
 
     def check(self, kind):
         text = (EXAMPLES / "tiny.machine").read_text()
         port = self.make(kind, text, "")
-        for request, reply in TALK:
-            self.assertEqual(port.ask(request.encode() + b"\n"), reply.encode() + b"\n")
-        for wrong in WRONG:
-            self.assertEqual(port.ask(wrong.encode() + b"\n")[:1], b"!", wrong)
-        self.assertEqual(port.ask(b"\nd0f*fa\n"), b"=0f*d3\n")
+        self.assertEqual(port.ask(b"z l d0f\n")[:1], b"!")
+        for wrong in ["", *WRONG]:
+            for request, reply in TALK:
+                self.assertEqual(port.ask(request.encode() + b"\n"), reply.encode() + b"\n")
+            if wrong:
+                self.assertEqual(port.ask(wrong.encode() + b"\n")[:1], b"!", wrong)
+                self.assertEqual(port.ask(b"\nd0f*fa\n")[:1], b"!", wrong)
         self.assertEqual(port.close(), 0)
         port = self.make(kind, text, ALL_FAULTS)
         self.assertEqual(compare.count_wrong(TINY, read_faults(TINY, ALL_FAULTS), port, 200, random.Random(5)), 0)
@@ -250,9 +284,29 @@ class Programs(unittest.TestCase):
     def test_c(self):
         self.check("c")
 
+    @unittest.skipUnless(shutil.which("cc"), "no compiler of C")
+    def test_c_answers_as_python(self):
+        """Lines drawn by chance, some of which are right, behind an `a` and one load."""
+        chance, device = random.Random(7), Device(TINY, Faults())
+        words = "z c1 o0 c167 t1,8888888888888888,1 x0 k2 l l l d0f d0e d03 d0f*fa a k0 c 1".split()
+        port = self.make("c", (EXAMPLES / "tiny.machine").read_text(), "")
+        right = 0
+        for _ in range(3000):
+            line = " ".join(chance.choices(words, k=chance.randint(1, 4))) + chance.choice(["", "", "", " ", "*"])
+            for request in (b"a", b"c0 c4 l d0e", line.encode()):
+                replies = device.answer(request), port.ask(request + b"\n")
+                self.assertEqual(replies[0].partition(b"!")[0], replies[1].partition(b"!")[0], request)
+            right += replies[0][:1] == b"="
+        self.assertGreater(right, 100)
+        self.assertEqual(port.close(), 0)
+
     @unittest.skipUnless(shutil.which("iverilog"), "no Icarus")
     def test_switch(self):
         self.check("switch")
+
+    @unittest.skipUnless(shutil.which("iverilog"), "no Icarus")
+    def test_device(self):
+        self.check("device")
 
     def test_refused_texts(self):
         words = [sys.executable, HERE / "make.py", "c", EXAMPLES / "tiny.faults", "-o", self.folder]

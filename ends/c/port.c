@@ -8,20 +8,26 @@
  *   cycle                        drives the pins, ticks, reads them and clocks; bit k of byte k / 8 is pin k
  *   finish                       there are no more requests
  * and the numbers PINS, CROSSES and TABLES, and COUNTS, the twelve counts of the machine as a text.
+ *
+ * A line that has to be refused may have set something before that showed. So behind a refusal, and at first, nothing but an `a` is
+ * answered: then a machine that lost a word, or its power, gives no readings that the tool takes for those of another one.
  */
 #include "board.h"
 
-enum { PIN_BYTES = (PINS + 7) / 8, ONE_READING = 2 * PIN_BYTES + 1, MOST_TICKS = 4096 };
+enum { PIN_BYTES = (PINS + 7) / 8, ONE_READING = 2 * PIN_BYTES + 1, MOST_TICKS = 4096, MOST_DIGITS = 7, CELL_DIGITS = 16 };
 enum { ROOM = ONE_READING > 4096 ? ONE_READING : 4096 }; /* for a reply */
-enum asked { NOTHING, COUNTS_ASKED, READINGS_ASKED };
+enum { END = '\n' };
 typedef unsigned long long number;
 
-/* Of the request so far: its sum, whether it has to be refused, and what it asks for. */
-static unsigned char sum;
-static int is_wrong;
-static enum asked asked;
+/* How far a request is: which words may come, and whether it may end. */
+enum place { BEGINS, EDITS, LOADS, DRIVES, ATTACHES, ENDS };
 
-static int is_loaded;
+/* Of the request so far: its sum, its place, and whether it has to be refused. */
+static unsigned char sum;
+static enum place place;
+static int is_wrong;
+
+static int is_attached, is_loaded;
 static char reply[ROOM];
 static unsigned length;
 
@@ -32,35 +38,50 @@ static int next(void)
     return byte;
 }
 
+/* Refuses the request, if this isn't so. */
+static void want(int is_so)
+{
+    if (!is_so)
+        is_wrong = 1;
+}
+
+/* From these places the next word goes on to that one. */
+static void go(int is_right, enum place then)
+{
+    want(is_right);
+    place = then;
+}
+
 static int digit(int byte)
 {
     return byte >= '0' && byte <= '9' ? byte - '0' : byte >= 'a' && byte <= 'f' ? byte - 'a' + 10 : -1;
 }
 
-/* Reads a number, and gives the byte behind it. */
-static int read_number(unsigned base, number *value)
+/* Reads a number in hex of so many digits, and gives the byte behind it. */
+static int read_hex(unsigned digits, number *value)
 {
-    int byte;
-    for (*value = 0; digit(byte = next()) >= 0;)
-        *value = *value * base + digit(byte);
+    int byte = next();
+    for (*value = 0; digit(byte) >= 0 && digits; digits--, byte = next())
+        *value = *value * 16 + digit(byte);
+    want(digits == 0);
     return byte;
 }
 
-/* Reads a decimal number that has to be one of so many from the first on. */
-static int read_below(number behind, number *value)
+/* Reads a decimal number that is below a limit and has no zeros in front, and gives the byte behind it. */
+static int read_below(number limit, number *value)
 {
-    int byte = read_number(10, value);
-    if (*value >= behind)
-        is_wrong = 1;
+    int digits = 0, byte = next(), first = byte;
+    for (*value = 0; byte >= '0' && byte <= '9' && digits < MOST_DIGITS; digits++, byte = next())
+        *value = *value * 10 + digit(byte);
+    want(digits > 0 && (digits == 1 || first != '0') && *value < limit);
     return byte;
 }
 
 static void say(char byte)
 {
-    if (length < ROOM)
+    want(length < ROOM);
+    if (!is_wrong)
         reply[length++] = byte;
-    else
-        is_wrong = 1;
 }
 
 static char hex(unsigned value)
@@ -80,9 +101,15 @@ static int read_cross(int is_closed)
 static int read_table(void)
 {
     number at, cells, flags;
-    read_below(TABLES, &at);
-    read_number(16, &cells);
-    int byte = read_below(4, &flags);
+    int byte = read_below(TABLES, &at);
+    want(byte == ',');
+    if (is_wrong)
+        return byte;
+    byte = read_hex(CELL_DIGITS, &cells);
+    want(byte == ',');
+    if (is_wrong)
+        return byte;
+    byte = read_below(4, &flags);
     if (!is_wrong)
         table(at, cells, flags);
     return byte;
@@ -101,8 +128,7 @@ static int read_ticks(void)
 {
     number many;
     int byte = read_below(MOST_TICKS + 1, &many);
-    if (many == 0)
-        is_wrong = 1;
+    want(many > 0);
     if (!is_wrong)
         ticks(many);
     return byte;
@@ -110,7 +136,7 @@ static int read_ticks(void)
 
 static void say_pins(const unsigned char *pins)
 {
-    say(asked == READINGS_ASKED ? ' ' : '=');
+    say(length ? ' ' : '=');
     for (unsigned k = PIN_BYTES; k--;) {
         say(hex(pins[k] >> 4));
         say(hex(pins[k]));
@@ -121,31 +147,27 @@ static void say_pins(const unsigned char *pins)
 static int read_drive(void)
 {
     unsigned char pins[PIN_BYTES] = {0};
-    for (unsigned k = 2 * PIN_BYTES; k--;) {
-        int byte = next(), value = digit(byte);
-        if (value < 0) {
-            is_wrong = 1;
+    int byte = next();
+    for (unsigned k = 2 * PIN_BYTES; k--; byte = next()) {
+        want(digit(byte) >= 0);
+        if (is_wrong)
             return byte;
-        }
-        pins[k / 2] |= value << k % 2 * 4;
+        pins[k / 2] |= digit(byte) << k % 2 * 4;
     }
-    if (!is_loaded)
-        is_wrong = 1;
+    want(PINS % 8 == 0 || pins[PIN_BYTES - 1] >> PINS % 8 == 0);
     if (!is_wrong) {
         cycle(pins);
         say_pins(pins);
     }
-    asked = READINGS_ASKED;
-    return next();
+    return byte;
 }
 
 static int read_sum(void)
 {
     unsigned char due = sum - '*';
     number given;
-    int byte = read_number(16, &given);
-    if (given != due)
-        is_wrong = 1;
+    int byte = read_hex(2, &given);
+    want(given == due);
     return byte;
 }
 
@@ -158,7 +180,7 @@ static int read_clear(void)
 
 static int read_attach(void)
 {
-    asked = COUNTS_ASKED;
+    is_attached = 1;
     for (const char *text = "=1 " COUNTS; *text; text++)
         say(*text);
     return read_clear();
@@ -171,11 +193,24 @@ static int read_load(void)
     return next();
 }
 
+/* Whether a word that begins with this byte may come here; then the place goes on behind it. */
+static void take_place(int byte)
+{
+    switch (byte) {
+    case 'a': go(place == BEGINS, ATTACHES); break;
+    case 'z': go(place == BEGINS, EDITS); break;
+    case 'l': go(place == BEGINS || place == EDITS, LOADS); break;
+    case 'd': go(place == LOADS || place == DRIVES || (place == BEGINS && is_loaded), DRIVES); break;
+    case '*': go(place == DRIVES || place == ATTACHES, ENDS); break;
+    default: go(place == BEGINS || place == EDITS, EDITS);
+    }
+    want(is_attached || byte == 'a');
+}
+
 /* Works off the word that begins with this byte, and gives the byte behind it. */
 static int read_word(int byte)
 {
     switch (byte) {
-    case ' ': return next();
     case 'a': return read_attach();
     case 'z': return read_clear();
     case 'c': return read_cross(1);
@@ -188,7 +223,18 @@ static int read_word(int byte)
     case '*': return read_sum();
     }
     is_wrong = 1;
-    return next();
+    return byte;
+}
+
+/* Behind a word there is one blank and another word, or the sum, or the line ends. */
+static int step_over(int byte)
+{
+    want(byte == END || (place != ENDS && (byte == ' ' || byte == '*')));
+    if (byte != ' ' || is_wrong)
+        return byte;
+    byte = next();
+    want(byte != END && byte != '*');
+    return byte;
 }
 
 static void put_refusal(void)
@@ -211,24 +257,28 @@ static void put_reply(void)
 
 static void answer(void)
 {
-    if (is_wrong || asked == NOTHING)
+    want(place == DRIVES || place == ATTACHES || place == ENDS);
+    if (is_wrong) {
+        is_attached = 0;
         put_refusal();
-    else
+    } else
         put_reply();
-    put('\n');
+    put(END);
     flush();
 }
 
-/* Answers one line; 0 at the end. An empty line asks nothing. */
+/* Answers one line; 0 at the end. An empty line asks nothing. Of one that is wrong the rest isn't looked at. */
 static int serve(void)
 {
     sum = 0;
     is_wrong = 0;
-    asked = NOTHING;
+    place = BEGINS;
     length = 0;
-    int byte = next(), is_empty = byte == '\n';
-    while (byte != '\n' && byte >= 0)
-        byte = read_word(byte);
+    int byte = next(), is_empty = byte == END;
+    while (byte != END && byte >= 0) {
+        take_place(byte);
+        byte = is_wrong ? next() : step_over(read_word(byte));
+    }
     if (byte >= 0 && !is_empty)
         answer();
     return byte >= 0;

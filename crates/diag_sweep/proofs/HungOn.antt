@@ -12,7 +12,7 @@ use Rattle.diag_evidence.specs.Vocabulary.{Trees, KeepsForest, KnowsForest, is_h
 use Rattle.diag_evidence.specs.declared.hangs.WireTest.{WireTest}
 use Rattle.diag_known.specs.Vocabulary.{IsFieldOf, KnownWires, HasWire, IsKnown}
 use Rattle.diag_known.specs.declared.field.Field.{Field}
-use Rattle.diag_known.specs.declared.verified_wire.Step.{Step}
+use Rattle.diag_known.specs.declared.verified_wire.VerifiedWire.{VerifiedWire}
 use Rattle.diag_known.proofs.Later.{known_later}
 use Rattle.diag_sweep.specs.Marks.{AreMarksFor, MarksIn, MarksSome, TrueIf}
 use Rattle.diag_sweep.specs.Stages.{Goes, IsHand, in_hand}
@@ -23,13 +23,13 @@ use Rattle.diag_sweep.proofs.Marking.{marks_for, marks_itself, some_itself, true
 use Rattle.diag_sweep.proofs.Paying.{funded_test}
 
 -- a wire is one of those that are known, as a test
-abbrev pub is_step : List Step → ℕ → Bool
-is_step ss w = list_any (λ (s : Step). s.wire.0 == w) ss
+abbrev pub is_step : List VerifiedWire → ℕ → Bool
+is_step ss w = list_any (λ (s : VerifiedWire). s.wire.0 == w) ss
 
 pub equal : {a b : ℕ} → (a == b) ≡ true → a ≡ b
 equal e = grind (arith, nat_tests, e)
 
-pub has_step : (ss : List Step) (w : ℕ) → is_step ss w ≡ true → HasWire ss w
+pub has_step : (ss : List VerifiedWire) (w : ℕ) → is_step ss w ≡ true → HasWire ss w
 has_step [] w on = absurd (false≢true on)
 has_step (s ∷ ss) w on = by (has_step ss w) (or_cases (s.wire.0 == w) (is_step ss w) on)
   where
@@ -40,17 +40,17 @@ has_step (s ∷ ss) w on = by (has_step ss w) (or_cases (s.wire.0 == w) (is_step
     by more (inl e) = record { place = 0; at = record { step = s; here = refl; wire = equal e } }
     by more (inr is) = later (more is)
 
-pub step_has : (ss : List Step) (w : ℕ) → HasWire ss w → is_step ss w ≡ true
+pub step_has : (ss : List VerifiedWire) (w : ℕ) → HasWire ss w → is_step ss w ≡ true
 step_has ss w has = at ss has.place has.at.step has.at.here has.at.wire
   where
     same : (n : ℕ) → (n == n) ≡ true
     same n = grind (arith, nat_tests)
 
-    at : (rs : List Step) (i : ℕ) (s : Step) → slice_get rs i ≡ Some s → s.wire.0 ≡ w → is_step rs w ≡ true
+    at : (rs : List VerifiedWire) (i : ℕ) (s : VerifiedWire) → slice_get rs i ≡ Some s → s.wire.0 ≡ w → is_step rs w ≡ true
     at [] i s here e = cc
-    at (r ∷ rs) zero s here e = or_left (r.wire.0 == w) (is_step rs w) (subst (λ n. (n == w) ≡ true) (sym (ap (λ (t : Step). t.wire.0) (some r s here) ∙ e)) (same w))
+    at (r ∷ rs) zero s here e = or_left (r.wire.0 == w) (is_step rs w) (subst (λ n. (n == w) ≡ true) (sym (ap (λ (t : VerifiedWire). t.wire.0) (some r s here) ∙ e)) (same w))
       where
-        some : (p q : Step) → Some p ≡ Some q → p ≡ q
+        some : (p q : VerifiedWire) → Some p ≡ Some q → p ≡ q
         some p q e = cc
     at (r ∷ rs) (suc i) s here e = or_right (r.wire.0 == w) (is_step rs w) (at rs i s here e)
 
