@@ -1,6 +1,7 @@
 """What a design takes: its plain network, and the plan in order with its needs. And designs that studies make."""
 
 import random
+import re
 from collections import Counter, namedtuple
 
 from teramac_texts import Design
@@ -8,7 +9,7 @@ from teramac_texts import Design
 # Tables with at most six sources each. A source is a number: inputs first, then tables; it is a net's number too.
 Network = namedtuple("Network", "inputs tables outputs")
 # A table of a filling design reads so many of the tables just before it, so that few nets leave a hextant.
-REACH, INPUTS, OUTPUTS, LATCHES = 5, 4, 4, 2
+REACH, OUTPUTS, LATCHES = 5, 3, 2
 MAJORITY = ["11-", "1-1", "-11"]
 
 
@@ -72,18 +73,25 @@ def blif_text(design):
 
 
 def filling(tables, seed=1):
-    """A random design of so many tables, each of which feeds the next: covers of tables just before and some inputs, then two latches."""
-    chance, inputs = random.Random(f"{tables} {seed}"), [f"x{k}" for k in range(INPUTS)]
-    states = [f"s{k}" for k in range(LATCHES)]
-    known, covers = [*inputs, *states], []
-    for k in range(tables - LATCHES):
-        sources = [known[-1], *chance.sample(known[-REACH:-1], chance.randint(1, REACH - 1))]
-        if chance.random() < 0.25:
-            sources = list(dict.fromkeys([*sources, chance.choice(inputs + states)]))
-        rows = ["".join(chance.choice("01") for _ in sources) for _ in range(2 ** (len(sources) - 1))]
-        covers.append((sources, f"c{k}", sorted(set(rows)), False))
+    """A random design of so many tables: covers over some of those just before and an input that is read thereabouts, then two latches.
+
+    A cover turns the oldest signal that it reads or doesn't, as the others say. So what comes in isn't lost on the way to the outputs,
+    which are spread over the covers, and a mapper can't make a few tables of it.
+    """
+    chance, made, count = random.Random(f"{tables} {seed}"), tables - LATCHES, max(6, tables // 12)
+    inputs, states = [f"x{k}" for k in range(count)], [f"s{k}" for k in range(LATCHES)]
+    known, covers = [*inputs[: REACH - LATCHES], *states], []
+    for k in range(made):
+        near, others = inputs[k * count // made], chance.sample(known[1 - REACH :], chance.randint(2, REACH - 1))
+        sources = [known[-REACH], *others]
+        if chance.random() < 0.8 and near not in sources:
+            sources.append(near)
+        width = len(sources) - 1
+        rows = [chance.choice("01") + format(place, f"0{width}b") for place in range(2**width)]
+        covers.append((sources, f"c{k}", sorted(rows), False))
         known.append(f"c{k}")
-    return Design(inputs, known[-OUTPUTS:], covers, [(known[-k - 1], state, 0) for k, state in enumerate(states)])
+    outputs = [f"c{(k + 1) * made // OUTPUTS - 1}" for k in range(OUTPUTS)]
+    return Design(inputs, outputs, covers, [(known[-k - 1], state, 0) for k, state in enumerate(states)])
 
 
 def random_vectors(design, cycles=32, seed=1):
@@ -93,11 +101,14 @@ def random_vectors(design, cycles=32, seed=1):
     return "\n".join([*rows, ""])
 
 
-def triplicated(design):
-    """Three copies of a design, with a voter behind each latch of each copy and before each output."""
+def triplicated(design, pins=False):
+    """Three copies of a design, with a voter behind each latch of each copy and before each output.
+
+    With `pins` each copy has inputs of its own, and each output three voters with a pin each (`thrice`, `voted`).
+    """
 
     def copy(signal, k):
-        return signal if signal in design.inputs else (k, signal)
+        return signal if signal in design.inputs and not pins else (k, signal)
 
     covers, latches = [], []
     for k in range(3):
@@ -106,6 +117,11 @@ def triplicated(design):
         for source, output, initial in design.latches:
             latches.append((copy(source, k), ("raw", k, output), initial))
             covers.append(([("raw", other, output) for other in range(3)], copy(output, k), MAJORITY, False))
+    if pins:
+        for at, output in enumerate(design.outputs):
+            covers += [([copy(output, other) for other in range(3)], ("voted", at, k), MAJORITY, False) for k in range(3)]
+        outputs = [("voted", at, k) for at in range(len(design.outputs)) for k in range(3)]
+        return Design([(k, signal) for signal in design.inputs for k in range(3)], outputs, covers, latches)
     outputs = []
     for at, output in enumerate(design.outputs):
         if output in design.inputs:
@@ -114,3 +130,18 @@ def triplicated(design):
         outputs.append(("voted", at))
         covers.append(([copy(output, k) for k in range(3)], ("voted", at), MAJORITY, False))
     return Design(design.inputs, outputs, covers, latches)
+
+
+def thrice(vectors):
+    """A text of vectors with each bit for three inputs."""
+    lines = [re.sub(r"[ \t\r]|#.*", "", line) for line in vectors.split("\n")]
+    return "\n".join(re.sub("[01]", lambda bit: 3 * bit[0], line) for line in lines)
+
+
+def voted(rows):
+    """Rows of three outputs each as what two of the three say."""
+    return [row if row == b"." else b"".join(b"01"[two : two + 1] for two in votes(row)) for row in rows]
+
+
+def votes(row):
+    return [row[k : k + 3].count(b"1") > 1 for k in range(0, len(row), 3)]

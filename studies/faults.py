@@ -4,7 +4,9 @@
 import argparse
 import math
 import random
+import re
 import sys
+from itertools import accumulate
 
 import teramac_texts as texts
 
@@ -21,7 +23,13 @@ KINDS = {
     "neighbours": ("wire", "likewise, of neighbours: two lines, or two taps, side by side in a crossbar"),
 }
 PLACES = {"cells": 64}  # of each part that a fault of the kind may have
-SHAPES = {"spots": "near a place", "rows": "on one tap, else spots", "columns": "on one line, else spots", "hextants": "in one hextant"}
+SHAPES = {
+    "spots": "near a place: crosspoints and wires in one crossbar, tables in one hextant",
+    "rows": "on one tap, else spots",
+    "columns": "on one line, else spots",
+    "hextants": "in one hextant",
+    "gamma": "SIZE is Stapper's alpha: each node with its crossbar has the rate times a number of the gamma law of this shape and mean 1",
+}
 TRIES = 12_800
 
 
@@ -35,6 +43,13 @@ def amount(word):
     if not 0 <= found or (isinstance(found, float) and found > 1):
         raise argparse.ArgumentTypeError(f"{word}: a rate is from 0 to 1, a count isn't negative")
     return found
+
+
+def size(word):
+    """The size of clusters, or Stapper's alpha."""
+    if not re.fullmatch(r"[0-9]{1,9}(\.[0-9]+)?", word):
+        raise argparse.ArgumentTypeError(f"{word}: not a number such as 12 or 0.5")
+    return float(word) if "." in word else int(word)
 
 
 def count_of(wanted, parts, chance):
@@ -59,7 +74,9 @@ class Places:
 
     def __init__(self, machine, chance, clustered, shape):
         self.machine, self.chance, self.clustered, self.shape, self.middles = machine, chance, clustered, shape, {}
-        self.hextants = [node for node in machine.nodes if node.level == 3]
+        self.hextants, self.factors, self.bounds = [node for node in machine.nodes if node.level == 3], [], []
+        if clustered and shape == "gamma":
+            self.factors = [max(1e-6, chance.gammavariate(clustered, 1 / clustered)) for _ in machine.nodes]
 
     def near(self, parts, at, spread):
         """A place near another; one beyond the edge is drawn anew."""
@@ -67,37 +84,62 @@ class Places:
             pass
         return found
 
+    def own(self, node, group):
+        """The wires, crosspoints or tables of a node alone; the machine's pins are the root's."""
+        if group == "table":
+            return node.tables
+        if group == "wire":
+            return range(node.ports.start if node.level else 0, node.lines.stop + 7 * len(node.tables))
+        return range(node.first, node.first + len(node.taps) * len(node.lines))
+
+    def count(self, wanted, group, places=1):
+        """How many are faulty of the parts of a group, each with so many places; by the gamma law at a rate of their own in each node."""
+        parts = self.machine.sizes[group]
+        if self.factors:
+            rate = wanted if isinstance(wanted, float) else 1e-9
+            rates = [min(1.0, rate * factor) for factor in self.factors]
+            self.bounds = list(accumulate(own * len(self.own(node, group)) for own, node in zip(rates, self.machine.nodes)))
+            wanted = min(1.0, self.bounds[-1] / parts) if isinstance(wanted, float) else wanted
+        return count_of(wanted, parts * places, self.chance)
+
     def middle(self, group):
-        """What a new cluster lies around: a part, or a hextant."""
-        return self.chance.choice(self.hextants) if self.shape == "hextants" else self.chance.randrange(self.machine.sizes[group])
+        """What a new cluster lies around: a crosspoint, a table, or a hextant."""
+        if self.shape == "hextants":
+            return self.chance.choice(self.hextants)
+        return self.chance.randrange(self.machine.sizes["table" if group == "table" else "cross"])
 
     def part(self, group, count):
         """A wire, crosspoint or table, of so many faults."""
         if not self.clustered:
             return self.chance.randrange(self.machine.sizes[group])
+        if self.factors:
+            node = self.chance.choices(self.machine.nodes, cum_weights=self.bounds)[0]
+            return self.chance.choice(self.own(node, group))
         if group not in self.middles:
             self.middles[group] = [self.middle(group) for _ in range(max(1, round(count / self.clustered)))]
         middle = self.chance.choice(self.middles[group])
         if self.shape == "hextants":
-            return self.inside(middle, group)
-        return self.crosspoint(middle) if group == "cross" else self.near(self.machine.sizes[group], middle, self.clustered)
-
-    def inside(self, node, group):
-        """A part of a hextant."""
+            return self.chance.choice(self.own(middle, group))
         if group == "table":
-            return self.chance.choice(node.tables)
-        if group == "wire":
-            return self.chance.randrange(node.ports.start, node.lines.stop + 7 * len(node.tables))
-        return node.first + self.chance.randrange(len(node.taps) * len(node.lines))
+            tables = next(node.tables for node in self.hextants if middle in node.tables)
+            return tables.start + self.near(len(tables), middle - tables.start, self.clustered)
+        # So many wires lie within this spread of a crosspoint, half of them taps and half lines.
+        return self.crosspoint(middle) if group == "cross" else self.chance.choice(self.machine.ends(self.spot(middle, self.clustered / 4)))
 
     def crosspoint(self, middle):
         """A crosspoint of a cluster's crossbar: near its middle, or in its row or column."""
-        node, spread = self.machine.node_of_cross(middle), math.sqrt(self.clustered)
+        node = self.machine.node_of_cross(middle)
         tap, line = divmod(middle - node.first, len(node.lines))
         if self.shape == "rows":
             return node.first + tap * len(node.lines) + self.chance.randrange(len(node.lines))
         if self.shape == "columns":
             return node.first + self.chance.randrange(len(node.taps)) * len(node.lines) + line
+        return self.spot(middle, math.sqrt(self.clustered))
+
+    def spot(self, middle, spread):
+        """A crosspoint near another one of its crossbar."""
+        node = self.machine.node_of_cross(middle)
+        tap, line = divmod(middle - node.first, len(node.lines))
         tap = self.near(len(node.taps), tap, spread)
         return node.first + tap * len(node.lines) + self.near(len(node.lines), line, spread)
 
@@ -136,7 +178,7 @@ def add_one(places, kind, count, faults):
     for tried in range(TRIES):
         if [faults.add(*fault) is None for fault in places.faults(kind, count)].count(True):
             return
-        if places.clustered and tried % 100 == 99:  # clusters seem to be full: one more is begun
+        if places.middles and tried % 100 == 99:  # clusters seem to be full: one more is begun
             places.middles[KINDS[kind][0]].append(places.middle(KINDS[kind][0]))
     raise ValueError(f"{kind}: {count} are too many for this machine")
 
@@ -146,8 +188,8 @@ def make_faults(machine, amounts, seed, clustered=0, shape="spots"):
     chance, faults = random.Random(seed), texts.Faults()
     places = Places(machine, chance, clustered, shape)
     for kind, wanted in amounts.items():
-        parts, room = machine.sizes[KINDS[kind][0]] * PLACES.get(kind, 1), texts.FAULT_LIMIT - faults.count
-        count = count_of(wanted, parts, chance)
+        group, each, room = KINDS[kind][0], PLACES.get(kind, 1), texts.FAULT_LIMIT - faults.count
+        parts, count = machine.sizes[group] * each, places.count(wanted, group, each)
         if count > room:
             rate = f"; of {kind} {largest_rate(room, parts):.4f} is the largest rate that fits" if isinstance(wanted, float) else ""
             raise ValueError(f"{kind}: {count} faults, and a fault file holds at most {texts.FAULT_LIMIT:,} in all{rate}")
@@ -164,8 +206,8 @@ def make_faults(machine, amounts, seed, clustered=0, shape="spots"):
 
 def add_clusters(parser):
     """The words that say how faults lie."""
-    parser.add_argument("--clustered", metavar="SIZE", type=amount, default=0, help="in clusters of about SIZE faults (default: uniform)")
-    shapes = "; ".join(f"{shape}: {words}" for shape, words in SHAPES.items())
+    parser.add_argument("--clustered", metavar="SIZE", type=size, default=0, help="in clusters of about SIZE faults (default: uniform)")
+    shapes = "; ".join(f"{shape}: {words}" for shape, words in SHAPES.items()).replace("%", "%%")
     parser.add_argument("--shape", choices=list(SHAPES), default="spots", help=f"of the clusters. {shapes} (default: spots)")
 
 

@@ -12,15 +12,11 @@ from itertools import combinations, cycle
 
 import matplotlib.pyplot as plt
 
-from program import UNDECIDED, mcnemar, wilson
+from program import UNDECIDED, mcnemar
+from study_rows import COSTS, cause, diagnoses, mean, paired, read_rows, share, split
 
 plt.switch_backend("svg")
 plt.rcParams.update({"svg.hashsalt": "teramac", "legend.fontsize": 8, "legend.handlelength": 3.6, "axes.grid": True, "grid.alpha": 0.3})
-PARTS = {"": "", " of growth": "_growth", " of the sweep": "_sweep", " of tests of tables": "_tables"}
-COSTS = {cost + words: cost + name for cost in ("loads", "cycles") for words, name in PARTS.items()}
-NUMBERS = [*"crosspoints rate seed faults thrown_wires thrown_crosses thrown_tables tables closed spare".split(), *COSTS.values()]
-DECIDED = ("0", "3", "wrong")
-LEVELS = ("root", "module", "chip", "hextant")
 FAULTS = {  # each kind in the words of a title
     "open": "crosspoints that are open",
     "closed": "crosspoints that are closed",
@@ -34,73 +30,25 @@ FAULTS = {  # each kind in the words of a title
     "neighbours": "bridges of neighbours",
 }
 SHARE = ["share", "low", "high", "runs", "undecided"]
-STUDENT = (12.71, 4.303, 3.182, 2.776, 2.571, 2.447, 2.365, 2.306)  # quantiles for 1 to 8 degrees of freedom
 STYLES = {  # how each list is drawn, named, and modelled
     "exact": ("-", "o", "exact list", "every fault and nothing else is listed; compile, run"),
-    "diagnosed": ((0, (5, 2)), "s", "own diagnosis", "the list of diagnose; compile, run"),
-    "mapped": ((0, (4, 1)), "*", "exact list, design remapped", "teramac_map writes a text for this machine and list; compile, run"),
+    "diagnosed": ((0, (6, 3)), "s", "own diagnosis", "the list of diagnose; compile, run"),
+    "mapped": ((0, (1, 3)), "*", "exact list, design remapped", "teramac_map writes a text for this machine and list; compile, run"),
     "wires": ((0, (1, 1.5)), "^", "spare rows and columns", "of a faulty crosspoint its tap or line is given up, of a table its output"),
     "hextants": ("-.", "D", "whole hextants dropped", "a hextant with a fault is given up, above the exact list"),
     "none": ((0, (8, 2, 1, 2)), "x", "no list", "the design as it is, undiagnosed; right where its rows are"),
     "triplicated": ((0, (3, 1, 1, 1)), "v", "three copies with voters", "voters at latches and outputs, undiagnosed"),
+    "triplicated_pins": ((0, (3, 1, 3, 1, 1, 1)), "P", "three copies, also of pins", "likewise; outputs are voted outside"),
 }
 
 
-def read_rows(path):
-    """The rows of a study, with numbers as numbers; ends where a run was none."""
-    try:
-        with open(path, encoding="utf-8", newline="") as file:
-            rows = list(csv.DictReader(file))
-        for row in rows:
-            row |= {name: float(row[name]) if row.get(name) else None for name in NUMBERS}
-    except (OSError, ValueError, TypeError) as error:
-        sys.exit(f"{path}: no rows of a study ({error})")
-    if not rows or not {"machine", "kind", "rate", "design", "list", "status"} <= rows[0].keys():
-        sys.exit(f"{path}: no rows of a study")
-    for number, row in enumerate(rows, 2):
-        if row["status"] not in DECIDED + UNDECIDED:
-            sys.exit(f"{path}: line {number}: a run that ended with status {row['status']} is no run; mend what it was given")
-    return once(rows)
-
-
-def once(rows):
-    """The rows, of runs at rate 0 one of each: without faults each further run is the same and says nothing new."""
-    names = [name for name in ("machine", "kind", "design", "list", "spare") if name in rows[0]]
-    first = {tuple(row[name] for name in names): row for row in reversed(rows) if not row["rate"]}
-    return [row for row in rows if row["rate"] or first[tuple(row[name] for name in names)] is row]
-
-
-def split(rows, *columns):
-    """The rows by their values in some columns, in order."""
-    found = {}
-    for row in rows:
-        found.setdefault(tuple(row[column] for column in columns), []).append(row)
-    return dict(sorted(found.items(), key=lambda item: [value or 0 for value in item[0]]))
-
-
-def share(rows, holds=lambda row: row["status"] == "0"):
-    """Of the decided runs the share for which something holds, with Wilson's interval; then how many were decided, and how many not.
-
-    Of a single run there is no interval.
-    """
-    decided = [row for row in rows if row["status"] not in UNDECIDED]
-    hits = sum(map(holds, decided))
-    bounds = (None, None) if len(decided) == 1 else wilson(hits, len(decided))
-    return [hits / len(decided) if decided else math.nan, *bounds, len(decided), len(rows) - len(decided)]
-
-
-def mean(values):
-    """The mean with its interval of 95 % by Student's law, of which a single value has none, and how many there are."""
-    middle, free = sum(values) / len(values), len(values) - 1
-    if not free:
-        return [middle, None, None, 1]
-    quantile = STUDENT[free - 1] if free <= len(STUDENT) else 1.96 + 2.6 / free
-    half = quantile * math.sqrt(sum((value - middle) ** 2 for value in values) / free / len(values))
-    return [middle, max(0.0, middle - half), middle + half, len(values)]
-
-
 def sets_of(rows):
-    """How many sets of faults there are at each rate, in words."""
+    """How many sets of faults there are at each rate, in words, and of designs that fill a machine alike how many these are."""
+    several = max(len({row["variant"] for row in part}) for part in split(rows, "design").values())
+    return faults_of(rows) + (f", {several} designs of each fill" if several > 1 else "")
+
+
+def faults_of(rows):
     parts = [{row["seed"] for row in part} for (_, _, rate), part in split(rows, "machine", "kind", "rate").items() if rate]
     least, most = min(map(len, parts), default=0), max(map(len, parts), default=0)
     if not most:
@@ -118,14 +66,26 @@ def facets(rows, columns=("machine", "kind")):
         spare.remove()
     for here, names in zip(axes.flat, parts):
         named = {"kind": lambda name: FAULTS.get(name, f"faults: {name}"), "list": lambda name: STYLES[name][2]}
+        named["spared"] = lambda name: f"to spare: {name} parts" if name == "all" else f"to spare: {name}"
         title = ", ".join(named.get(column, str)(name) for column, name in zip(columns, names))
         here.set_title(f"{title}\n{sets_of(parts[names])}", fontsize=10)
     return picture, list(zip(axes.flat, parts, parts.values()))
 
 
+def axis_of_rates(axes, rates):
+    """An axis of rates, which is logarithmic where they are far apart; gives what puts a rate a little to the side, by some steps."""
+    known = sorted(rate for rate in rates if rate)
+    if len(known) < len(rates) or not known or max(known) < 12 * min(known):
+        return lambda rate, steps: rate + steps * max(known, default=1) / 250
+    axes.set_xscale("log")
+    axes.set_xticks(known, [f"{rate:g}" for rate in known])
+    axes.minorticks_off()
+    return lambda rate, steps: rate * (max(known) / min(known)) ** (steps / 250)
+
+
 def curve(axes, across, points, off, style, **more):
-    """A curve of shares or means with the bars of those that have intervals, a little to the side of others."""
-    (line, marker), places = style[:2], [x + off for x in across]
+    """A curve of shares or means with the bars of those that have intervals, a little to the side of others; `off` is how far, or says."""
+    (line, marker), places = style[:2], [off(x) if callable(off) else x + off for x in across]
     drawn = axes.plot(places, [point[0] for point in points], linestyle=line, marker=marker, markersize=4, linewidth=1.4, **more)
     known = [(x, point[:3]) for x, point in zip(places, points) if None not in point[:3]]
     bars = [[abs(point[0] - point[bound]) for _, point in known] for bound in (1, 2)]
@@ -142,33 +102,63 @@ def undecided_marks(axes, rows, places, column="rate"):
 
 
 def of_shares(axes, rows, across, places, column="rate"):
-    """What all axes of shares have."""
-    undecided_marks(axes, rows, places, column)
-    axes.set(ylim=(-0.04, 1.04), xlabel=across, ylabel="share of runs (bars: 95 %, Wilson)")
+    """What all axes of shares have; the places are those of undecided runs, if they aren't drawn yet."""
+    if places:
+        undecided_marks(axes, rows, places, column)
+    axes.set(ylim=(-0.04, 1.04), xlabel=across, ylabel="share of runs (bars: 95 %)")
     axes.legend(loc="upper center", bbox_to_anchor=(0.5, -0.15), ncol=2)
 
 
 def fits(rows, _):
     """What share of the runs fits and runs right, against the rate of faults"""
-    picture, parts = facets(rows)
+    many = max(len({(row["design"], row["list"]) for row in part}) for part in split(rows, "machine", "kind").values()) > 6
+    picture, parts = facets(rows, ("machine", "kind", *["design"] * many))
     table = []
     for axes, names, part in parts:
-        colours = dict(zip(sorted({row["design"] for row in part}), cycle(f"C{k}" for k in range(10))))
-        shift = max(row["rate"] for row in part) / 250
+        colours = dict(zip(split(part, "list" if many else "design"), cycle(f"C{k}" for k in range(10))))
+        rates = sorted({row["rate"] for row in part})
+        beside = axis_of_rates(axes, rates)
         for k, ((design, kind), runs) in enumerate(split(part, "design", "list").items()):
             points = {rate: share(of) for (rate,), of in split(runs, "rate").items()}
-            table += [[*names, design, kind, rate, *point] for rate, point in points.items()]
-            curve(axes, points, points.values(), shift * (k - 2), STYLES[kind], color=colours[design], label=f"{design}, {STYLES[kind][2]}")
-        of_shares(axes, part, "rate of faults", sorted({row["rate"] for row in part}))
+            table += [[*names[:2], design, kind, rate, *point] for rate, point in points.items()]
+            look = {"color": colours[(kind if many else design,)], "label": f"{design}, {STYLES[kind][2]}"}
+            curve(axes, points, points.values(), lambda rate, k=k: beside(rate, k - 2), STYLES[kind], **look)
+        of_shares(axes, part, "rate of faults", rates)
     return picture, ["machine", "kind", "design", "list", "rate", *SHARE], table
 
 
-def cause(row):
-    """What was short in a run that didn't fit: the resource, and the level of its node; None where it fits."""
-    _, resource, node = (row["refusal"].split() + ["", "", ""])[:3]
-    if row["status"] != "3" or resource in ("tables", "pins"):
-        return resource or None
-    return f"{resource} of the root" if node == "r" else f"{resource} of {LEVELS[node.count('.') + 1]}s"
+def machines(rows, _):
+    """Several machines in one pair of axes: what share of the runs fits and runs right, against the rate of faults"""
+    picture, parts = facets(rows, ("design", "list", "kind"))
+    table = []
+    for axes, names, part in parts:
+        rates = sorted({row["rate"] for row in part})
+        beside = axis_of_rates(axes, rates)
+        for k, ((size, machine), runs) in enumerate(split(part, "crosspoints", "machine").items()):
+            points = {rate: share(of) for (rate,), of in split(runs, "rate").items()}
+            table += [[*names, machine, size, rate, *point] for rate, point in points.items()]
+            look = {"color": plt.get_cmap("viridis")(k / max(1, len(split(part, "machine")) - 0.5)), "label": f"{machine}: {size:,.0f}"}
+            curve(axes, points, points.values(), lambda rate, k=k: beside(rate, k - 2), ("-", "os^Dv*XP"[k % 8]), **look)
+        of_shares(axes, part, "rate of faults; below: machines and their crosspoints", rates)
+    return picture, ["design", "list", "kind", "machine", "crosspoints", "rate", *SHARE], table
+
+
+def price(rows, _):
+    """What share of the machines has room, against the crosspoints paid, where all parts are spared or lines alone"""
+    picture, parts = facets(rows, ("design", "list", "kind"))
+    looks, table = {"all": "-", "lines": (0, (2, 1.5))}, []
+    for axes, names, part in parts:
+        least = min(row["crosspoints"] for row in part)
+        colours = {rate: f"C{k}" for k, (rate,) in enumerate(split(part, "rate"))}
+        for k, ((spared, rate), runs) in enumerate(split(part, "spared", "rate").items()):
+            found = {(size, spare): share(of) for (size, spare), of in split(runs, "crosspoints", "spare").items()}
+            table += [[*names, spared, rate, spare, size, size / least, *point] for (size, spare), point in found.items()]
+            said, places = {"lines": "lines"}.get(spared, "all parts"), [size / least for size, _ in found]
+            look = {"color": colours[rate], "label": f"{said} to spare, rate {rate:g}"}
+            curve(axes, places, found.values(), 0.004 * k, (looks.get(spared, "-"), "os^Dv"[[*colours].index(rate) % 5]), **look)
+        undecided_marks(axes, part, [size / least for (size,) in split(part, "crosspoints")], "crosspoints")
+        of_shares(axes, part, f"crosspoints, in times {least:,.0f}", None)
+    return picture, ["design", "list", "kind", "spared", "rate", "spare", "crosspoints", "times", *SHARE], table
 
 
 def why(rows, _):
@@ -193,12 +183,6 @@ def why(rows, _):
     if causes:
         parts[min(2, len(parts) - 1)][0].legend(loc="upper left", bbox_to_anchor=(1, 1))
     return picture, ["machine", "design", "kind", "list", "rate", "short", *SHARE], table
-
-
-def diagnoses(rows, column):
-    """One row for each diagnosis of which something is told."""
-    told = [row for row in rows if row["list"] == "diagnosed" and row[column] is not None]
-    return [part[0] for part in split(told, "machine", "kind", "rate", "seed").values()]
 
 
 def nothing(title):
@@ -237,20 +221,23 @@ def thrown(rows, _):
 
 
 def loads(rows, per_second):
-    """Loads and cycles of a diagnosis, in all and by part, and what loads take on a machine of so many a second"""
+    """Loads and cycles of a diagnosis, and what loads take on a machine of so many a second; the table has them by part"""
     rows, columns = diagnoses(rows, "loads"), ["mean", "low", "high", "diagnoses", "seconds"]
     if not rows:
         return nothing("no loads were told: build crates/teramac_report (rt run there) or name it by TERAMAC_REPORT"), columns, []
     one = len({row["crosspoints"] for row in rows}) == 1  # then against the rate
     series, along = (("machine", "kind"), "rate") if one else (("kind", "rate"), "crosspoints")
     rows = [{**row, "part": part, "count": row[name]} for row in rows for part, name in COSTS.items() if row[name] is not None]
-    picture, parts = facets(rows, ("part",))
+    picture, parts = facets([row for row in rows if row["part"] in ("loads", "cycles")], ("part",))
     table, most = [], max(row["count"] for row in rows)
+    for (part, *names), those in split(rows, "part", *series).items():
+        points = {x: mean([row["count"] for row in of]) for (x,), of in split(those, along).items()}
+        of_loads = part.startswith("loads")
+        table += [[part, *names, x, *point, point[0] / per_second if of_loads else ""] for x, point in points.items()]
     for axes, part, runs in parts:
         of_loads = part[0].startswith("loads")
         for (names, those), marker in zip(split(runs, *series).items(), cycle("os^Dv")):
             points = {x: mean([row["count"] for row in of]) for (x,), of in split(those, along).items()}
-            table += [[*part, *names, x, *point, point[0] / per_second if of_loads else ""] for x, point in points.items()]
             words = [f"rate {name:g}" if isinstance(name, float) else name for name in names]
             curve(axes, points, points.values(), 0, ("-", marker), label=", ".join(words))
         axes.set(xlabel="rate of faults" if one else "crosspoints of the machine", xscale="linear" if one else "log")
@@ -263,7 +250,8 @@ def loads(rows, per_second):
 
 def redundancy(rows, _):
     """What share of the machines has room, against what is to spare; grey: the crosspoints paid, of those of the least machine"""
-    picture, parts = facets(rows, ("design", "list", "kind"))
+    spared = {row["spared"] for row in rows} - {"", "all"}
+    picture, parts = facets(rows, ("design", "list", "kind", *["spared"] * bool(spared)))
     table = []
     for axes, names, part in parts:
         sizes = {spare: runs[0]["crosspoints"] for (spare,), runs in split(part, "spare").items()}
@@ -278,16 +266,16 @@ def redundancy(rows, _):
             table += [[*names, rate, spare, sizes[spare], *point] for spare, point in points.items()]
             places = [100 * spare for spare in points]
             curve(axes, places, points.values(), max(places) * (k - 1) / 250, ("-", "os^Dv"[k % 5]), color=f"C{k}", label=f"rate {rate:g}")
-        of_shares(axes, part, "spare parts of each kind, of 100 that the plan wants", places, "spare")
-    return picture, ["design", "list", "kind", "rate", "spare", "crosspoints", *SHARE], table
+        of_shares(axes, part, "spare parts, of 100 that the plan wants", places, "spare")
+    return picture, ["design", "list", "kind", *["spared"] * bool(spared), "rate", "spare", "crosspoints", *SHARE], table
 
 
 def compare(rows, _):
     """Schemes on machines of one size: the share of runs that are right, by the rate of faults"""
-    largest = max(row["spare"] for row in rows)
     picture, parts = facets(rows, ("design", "kind"))
     table = []
     for axes, names, part in parts:
+        largest = max(row["spare"] for row in part)
         for at, kind in enumerate(kind for kind in STYLES if any(row["list"] == kind for row in part)):
             by_rate = split([row for row in part if row["list"] == kind], "rate")
             for (rate,), runs in by_rate.items():
@@ -328,16 +316,6 @@ def compare_text(columns, table):
     return "\n".join([*lines, ""])
 
 
-def paired(rows, one, other):
-    """Of the sets of faults that were tried on both lists how many runs are right on both, on one alone, on the other alone, on none."""
-    right = {}
-    for row in rows:
-        if row["list"] in (one, other) and row["status"] not in UNDECIDED:
-            right.setdefault((row["machine"], row["seed"]), {})[row["list"]] = row["status"] == "0"
-    found = Counter((those[one], those[other]) for those in right.values() if len(those) == 2)
-    return [found[True, True], found[True, False], found[False, True], found[False, False]]
-
-
 def pairs(rows, _):
     """Sets of faults by which only one of two lists gives right runs: up the first of the legend, down the other (p: McNemar, exact)"""
     picture, parts = facets(rows, ("machine", "design", "kind"))
@@ -365,7 +343,7 @@ def pairs(rows, _):
     return picture, ["machine", "design", "kind", "rate", "list", "other", *columns], table
 
 
-FIGURES = {draw.__name__: draw for draw in (fits, why, thrown, loads, redundancy, compare, pairs)}
+FIGURES = {draw.__name__: draw for draw in (fits, machines, why, thrown, loads, redundancy, price, compare, pairs)}
 
 
 def main():
@@ -380,8 +358,8 @@ def main():
     rows, names = read_rows(args.rows), args.figures.split(",")
     if not set(names) <= FIGURES.keys():
         sys.exit(f"--figures: some of {', '.join(FIGURES)}")
-    if {"redundancy", "compare"} & set(names) and any(row["spare"] is None for row in rows):
-        sys.exit(f"{args.rows}: no rows of a study with spares, which redundancy and compare show")
+    if {"redundancy", "price", "compare"} & set(names) and any(row["spare"] is None for row in rows):
+        sys.exit(f"{args.rows}: no rows of a study with spares, which redundancy, price and compare show")
     paths = {name: os.path.join(args.folder, name) for name in names}
     if not args.force and any(os.path.exists(path + end) for path in paths.values() for end in (".svg", ".csv", ".pdf")):
         sys.exit(f"{args.folder}: figures stand there already; nothing was written (--force writes over them)")

@@ -2,6 +2,7 @@
 
 import math
 import os
+import re
 import shutil
 import subprocess
 import sys
@@ -18,6 +19,7 @@ NAMES = ("teramac_report", "teramac_port", "teramac_map")
 OTHERS = {name: os.environ.get(name.upper(), f"{HERE}/../crates/{name}/out/{name}") for name in NAMES}
 REPORT, PORT, MAPPER = (path if os.path.exists(path) else shutil.which(name) or "" for name, path in OTHERS.items())
 
+STUDENT = (12.71, 4.303, 3.182, 2.776, 2.571, 2.447, 2.365, 2.306)  # quantiles for 1 to 8 degrees of freedom
 UNDECIDED = ("cut off", "6")  # or no memory, which says nothing of room; counted apart
 
 
@@ -90,3 +92,29 @@ def wilson(hits, tries, z=1.959964):
     middle = (share + square / 2) / (1 + square)
     half = z * math.sqrt(share * (1 - share) / tries + square / (4 * tries)) / (1 + square)
     return max(0.0, middle - half), min(1.0, middle + half)
+
+
+def student(free):
+    """The quantile of Student's law for 95 % with so many degrees of freedom."""
+    return STUDENT[free - 1] if free <= len(STUDENT) else 1.96 + 2.6 / free
+
+
+def interval(counts):
+    """The interval of a share of runs of some designs, of which each has so many hits of so many tries: Wilson's for one design.
+
+    Of several the runs count as fewer, by how much more the designs differ than single runs would, and the quantile is Student's.
+    """
+    counts = [(hits, tries) for hits, tries in counts if tries]
+    hits, tries = sum(hits for hits, _ in counts), sum(tries for _, tries in counts)
+    if len(counts) < 2:
+        return wilson(hits, tries)
+    share, many = hits / tries, len(counts)
+    spread = many / (many - 1) * sum((own - share * runs) ** 2 for own, runs in counts) / tries**2
+    alike = share * (1 - share) / tries
+    worth = tries / max(1.0, spread / alike if alike else 1.0)
+    return wilson(share * worth, worth, student(many - 1))
+
+
+def fill_of(design):
+    """The name of a design, of several that fill a machine alike (fill90.1, fill90.2) that of all."""
+    return re.sub(r"^(fill[0-9]+)\.[0-9]+$", r"\1", design)

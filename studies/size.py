@@ -15,6 +15,7 @@ import teramac_texts as texts
 from faults import amount
 from program import MAPPER, add_program, call, checked_design
 
+LINES = range(3, 7)  # their places among ports, lines and pins
 TREES = [(m, c, h) for m in (1, 2, 4) for c in (1, 2, 4) for h in (1, 2, 4, 8)]
 
 
@@ -22,11 +23,14 @@ def spared(count, spare):
     return max(1, math.ceil(count * (1 + spare) - 1e-9))
 
 
-def counts_for(network, tree, spare, tables=0):
-    """The counts of a machine on this tree with what the plan wants and so much to spare; with so many tables in a hextant, or enough."""
-    tables = tables or -(-spared(len(network.tables), spare) // math.prod(tree))
+def counts_for(network, tree, spare, tables=0, lines_alone=False):
+    """The counts of a machine on this tree with what the plan wants and so much to spare, of all or of lines alone.
+
+    It has so many tables in a hextant, or as many as it takes.
+    """
+    tables = tables or -(-spared(len(network.tables), 0 if lines_alone else spare) // math.prod(tree))
     wanted = [*designs.needs(network, *tree, tables), network.inputs + len(network.outputs)]
-    return (*tree, tables, *(spared(count, spare) for count in wanted))
+    return (*tree, tables, *(spared(count, 0 if lines_alone and k not in LINES else spare) for k, count in enumerate(wanted)))
 
 
 def best_machine(network, trees, spare):

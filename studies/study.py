@@ -23,20 +23,26 @@ import yaml
 
 import designs
 import teramac_texts as texts
-from program import DEFAULT, HERE, MAPPER, PORT, REPORT, UNDECIDED, add_program, checked_design, wilson
+from program import DEFAULT, HERE, MAPPER, PORT, REPORT, UNDECIDED, add_program, checked_design, fill_of, interval
 from size import TREES, best_machine, counts_for
 
 KNOWN = set("folder machines designs fill spares tree kinds rates seeds first_seed lists clustered shape seconds".split())
-KNOWN |= {"program", "figures", "loads_per_second", "width", "most_seeds", "pdf"}
+KNOWN |= {"program", "figures", "loads_per_second", "width", "most_seeds", "pdf", "spared", "designs_a_fill"}
 # What decides about the rows of a trial, beside its words and files; and where cycles are counted, about these.
 SCRIPTS = [os.path.join(HERE, name + ".py") for name in ("trial", "faults", "teramac_texts", "program", "designs")]
+# What decides about machines, designs and figures besides.
+MAKERS = [os.path.join(HERE, name + ".py") for name in ("study", "size", "figures")]
 COST = [os.path.join(HERE, "../ends", name) for name in ("cost.py", "make.py", "c_end.py", "machine.py", "c/port.c", "c/host.h")]
+
+
+def sha256(path):
+    return hashlib.sha256(Path(path).read_bytes()).hexdigest()
 
 
 @lru_cache(None)
 def sum_of(path):
     """A sum of a file as it was when the study began; of no path nothing."""
-    return path and hashlib.sha256(Path(path).read_bytes()).hexdigest()
+    return path and sha256(path)
 
 
 def from_here(path):
@@ -63,6 +69,24 @@ class Trial:
         self.file = f"{name}.{key[:16]}"
 
 
+class Place:
+    """A machine with its name, what is to spare of it and of what, and the designs that go onto it: of each one, or several in turn."""
+
+    def __init__(self, name, machine, spare, spared, designs):
+        self.name, self.machine, self.spare, self.spared, self.designs = name, machine, spare, spared, designs
+
+    @property
+    def turns(self):
+        """How many sets of faults there are until each design had its turn."""
+        return max([1, *map(len, self.designs.values())])
+
+    def at(self, turn):
+        """The designs whose turn it is, by their names."""
+        for name, those in self.designs.items():
+            at = turn % len(those)
+            yield (f"{name}.{at + 1}" if len(those) > 1 else name), those[at]
+
+
 def names_of(paths):
     """A name for each path: that of its file, or with its folders as far as files of one name want it."""
     paths, parts = list(dict.fromkeys(paths)), {path: Path(os.path.abspath(path)).with_suffix("").parts[::-1] for path in paths}
@@ -73,13 +97,16 @@ def names_of(paths):
 class Study:
     """The trials of some settings by their names."""
 
-    def __init__(self, path, program=None, folder=None):
-        path = path if os.path.isfile(path) else os.path.join(HERE, path + ".yaml")
+    def __init__(self, path, program=None, folder=None, seeds=None):
+        self.given = path = path if os.path.isfile(path) else os.path.join(HERE, path + ".yaml")
         try:
             self.settings = yaml.safe_load(Path(path).read_text(encoding="utf-8"))
         except (OSError, yaml.YAMLError) as error:
             sys.exit(f"{path}: {error}")
         self.complain(path)
+        self.fewer = f"seeds: {seeds}" if seeds else ""
+        if seeds:
+            self.settings["seeds"] = seeds
         get = self.settings.get
         self.folder = folder or self.settings["folder"]
         self.program = from_here(program or get("program", DEFAULT))
@@ -91,7 +118,7 @@ class Study:
                 sys.exit(f"{name}: isn't there, or is no file")
         self.machines = names_of([beside[name] for name in get("machines", [])])
         vectors = {beside[name]: beside[file] for name, file in get("designs", {}).items()}
-        self.designs = {name: (blif, vectors[blif]) for name, blif in names_of(vectors).items()}
+        self.designs = {name: [(blif, vectors[blif])] for name, blif in names_of(vectors).items()}
         self.places = list(self.on_machines())
         self.trials = dict(self.made_trials())
 
@@ -106,6 +133,10 @@ class Study:
             sys.exit(f"{path}: most_seeds says how many sets of faults an interval of some width is worth, and no width is given")
         if "spares" in settings and ("machines" in settings or "fill" in settings):
             sys.exit(f"{path}: with spares each design has machines of its own, so machines and fill are left out")
+        if not set(settings.get("spared", ["all"])) <= {"all", "lines"}:
+            sys.exit(f"{path}: spared is a list of all, lines or both")
+        if settings.get("designs_a_fill", 1) not in range(1, 100):
+            sys.exit(f"{path}: designs_a_fill is a number from 1 to 99")
 
     def made_file(self, name, text):
         """The path of a file with this text, which is written, at once and whole, only where it is another."""
@@ -116,33 +147,44 @@ class Study:
         return from_here(path)
 
     def sized(self, blif, name):
-        """For each share of spare parts (`three`: three copies with voters, and a quarter) a machine, on one tree, given or the best."""
+        """For each share of spare parts, or of spare lines, a machine on one tree, given or the best; with the share and of what it is.
+
+        `three`: what three copies with voters want, by any of the lists, and a quarter.
+        """
         design = checked_design(self.program, blif)
-        network, three = map(designs.plain_network, (design, designs.triplicated(design)))
+        lists = [name for name in self.settings.get("lists", []) if name.startswith("triplicated")] or ["triplicated"]
+        copies = [designs.plain_network(designs.triplicated(design, name.endswith("_pins"))) for name in lists]
+        network = designs.plain_network(design)
         tree = self.settings.get("tree") or best_machine(network, TREES, 0.0).counts[:3]
-        for spare in self.settings["spares"]:
-            counts = counts_for(three, tree, 0.25) if spare == "three" else counts_for(network, tree, spare)
+        for spared, spare in product(self.settings.get("spared", ["all"]), self.settings["spares"]):
+            share, counts = spare, counts_for(network, tree, spare, 0, spared == "lines") if spare != "three" else None
+            if spare == "three":
+                share = 1.25 * max(len(three.tables) for three in copies) / len(network.tables) - 1
+                counts = [max(several) for several in zip(*(counts_for(three, tree, 0.25) for three in copies))]
             if not texts.are_within_limits(counts):
                 sys.exit(f"{blif}: with {spare} to spare the machine is beyond its limits")
-            machine, share = texts.Machine(counts), 1.25 * len(three.tables) / len(network.tables) - 1 if spare == "three" else spare
-            yield share, self.made_file(f"{name}-spare{round(100 * share)}.machine", machine.text)
+            word = "lines" if spared == "lines" else "spare"
+            yield share, spared, self.made_file(f"{name}-{word}{round(100 * share)}.machine", texts.Machine(counts).text)
 
     def filled(self, machine, name):
-        """The designs that fill shares of a machine's tables."""
-        tables = texts.read_text(texts.read_machine, machine).sizes["table"]
+        """The designs that fill shares of a machine's tables: of each share one or several."""
+        tables, many = texts.read_text(texts.read_machine, machine).sizes["table"], self.settings.get("designs_a_fill", 1)
         for share in self.settings.get("fill", []):
-            design, file = designs.filling(round(share * tables)), f"{name}-fill{round(100 * share)}"
-            texts_ = designs.blif_text(design), designs.random_vectors(design)
-            yield f"fill{round(100 * share)}", tuple(self.made_file(file + end, text) for end, text in zip((".blif", ".vec"), texts_))
+            fill, found = f"fill{round(100 * share)}", []
+            for seed in range(1, many + 1):
+                design, file = designs.filling(round(share * tables), seed), f"{name}-{fill}" + f".{seed}" * (many > 1)
+                made = (".blif", designs.blif_text(design)), (".vec", designs.random_vectors(design))
+                found.append(tuple(self.made_file(file + end, text) for end, text in made))
+            yield fill, found
 
     def on_machines(self):
-        """Each machine with its name and spare share, and the designs that go onto it."""
+        """Each machine, and the designs that go onto it."""
         if "spares" in self.settings:
-            for name, (blif, vectors) in self.designs.items():
-                for spare, machine in self.sized(blif, name):
-                    yield f"{name}-spare{round(100 * spare)}", machine, spare, {name: (blif, vectors)}
+            for name, those in self.designs.items():
+                for spare, spared, machine in self.sized(those[0][0], name):
+                    yield Place(Path(machine).stem, machine, spare, spared, {name: those})
         for name, machine in self.machines.items():
-            yield name, machine, None, {**self.designs, **dict(self.filled(machine, name))}
+            yield Place(name, machine, None, "", {**self.designs, **dict(self.filled(machine, name))})
 
     def words_of(self):
         """What gives a trial's words by how files are named, its place and what is drawn; and the scripts that decide about its rows."""
@@ -154,11 +196,12 @@ class Study:
         more += ["--clustered", str(get("clustered", 0)), "--shape", get("shape", "spots")]
 
         def words_by(of, place, kind, rate, seed):
-            name, machine, spare, listed = place
-            pairs = [f"{design}={of(blif)}:{of(vectors)}" for design, (blif, vectors) in listed.items()]
-            spared = [] if spare is None else ["--spare", str(spare)]
+            listed = place.at(seed - get("first_seed", 1))
+            pairs = [f"{design}={of(blif)}:{of(vectors)}" for design, (blif, vectors) in listed]
+            spared = [] if place.spare is None else ["--spare", str(place.spare), "--spared", place.spared]
             programs = [word for option, path in called.items() for word in (f"--{option}", of(path))]
-            return [of(machine), *pairs, "--name", name, *spared, "--kind", kind, "--rate", rate, "--seed", str(seed), *more, *programs]
+            drawn = ["--name", place.name, *spared, "--kind", kind, "--rate", rate, "--seed", str(seed)]
+            return [of(place.machine), *pairs, *drawn, *more, *programs]
 
         return words_by, [*SCRIPTS, *(COST if called["port"] else [])]
 
@@ -170,11 +213,11 @@ class Study:
         for place, kind, rate in product(self.places, self.settings["kinds"], self.settings["rates"]):
             points.append(((place, kind, str(rate)), []))
         while points and begin < end:
-            # Seed by seed, so that one can see early how a study comes out. Without faults a machine is as the other.
+            # Seed by seed, so that one can see early how a study comes out. Without faults a machine is as the other, once for each design.
             for seed in range(begin, min(begin + seeds, end)):
                 for (place, kind, rate), trials in points:
-                    if float(rate) or not trials:
-                        name = f"{place[0]}-{re.sub('[^a-z0-9.]+', '_', kind)}-{rate}-{seed}"
+                    if float(rate) or len(trials) < place.turns:
+                        name = f"{place.name}-{re.sub('[^a-z0-9.]+', '_', kind)}-{rate}-{seed}"
                         drawn = (place, kind, rate, seed)
                         trials.append(Trial(name, lambda of, drawn=drawn: words_by(of, *drawn), scripts))
                         made.append((name, trials[-1]))
@@ -188,10 +231,10 @@ class Study:
             return False
         for path in paths:
             for row in csv.DictReader(Path(path).read_text(encoding="utf-8").splitlines()):
-                found.setdefault((row["design"], row["list"]), []).append(row["status"])
-        decided = [[status == "0" for status in those if status not in UNDECIDED] for those in found.values()]
-        bounds = [wilson(sum(those), len(those)) for those in decided]
-        return any(high - low > self.settings["width"] for low, high in bounds)
+                if row["status"] not in UNDECIDED:
+                    of = found.setdefault((fill_of(row["design"]), row["list"]), {}).setdefault(row["design"], [0, 0])
+                    of[:] = of[0] + (row["status"] == "0"), of[1] + 1
+        return any(high - low > self.settings["width"] for low, high in (interval(those.values()) for those in found.values()))
 
     def file_of(self, trial):
         """Where the rows of a trial go. They are written at once and whole, so what stands there is done."""
@@ -230,11 +273,28 @@ class Study:
     def run_trial(self, name):
         return subprocess.run([sys.executable, *self.command(name)], capture_output=True, text=True, check=False)
 
+    def made_by(self):
+        """Sums of all that the rows are of: programs, what each trial reads, settings and scripts."""
+        top = os.path.dirname(HERE)
+        programs = {self.program, *map(from_here, filter(None, (REPORT, PORT, MAPPER)))}
+        read = [path for trial in self.trials.values() for path in trial.inputs]
+        parts = {path: "program" if path in programs else "input" for path in read}
+        parts |= {self.given: "settings", **dict.fromkeys([*self.words_of()[1], *MAKERS], "script")}
+        for path, what in sorted(parts.items(), key=lambda part: ("program script settings input".split().index(part[1]), part[0])):
+            whole = os.path.abspath(path)
+            inside = what != "program" and Path(whole).is_relative_to(top)
+            name = os.path.relpath(whole, top) if inside else os.path.basename(whole)
+            unproved = "unproved" if what == "program" and name.endswith("-unproved") else ""
+            yield what, name, sum_of(path), self.fewer if what == "settings" else unproved
+
     def table(self):
-        """Writes the rows of all trials into one table; gives its path."""
+        """Writes the rows of all trials into one table, and beside it the sums of what they are of and its own; gives its path."""
         rows = Path(self.folder, "rows.csv")
         lines = [Path(self.path(name)).read_text(encoding="utf-8").splitlines(keepends=True) for name in self.trials]
         rows.write_text("".join([lines[0][0], *(line for found in lines for line in found[1:])]), encoding="utf-8")
+        made = [("what", "name", "sha256", "remark"), *self.made_by(), ("rows", rows.name, sha256(rows), "")]
+        with open(Path(self.folder, "sums.csv"), "w", encoding="utf-8", newline="") as file:
+            csv.writer(file, lineterminator="\n").writerows(made)
         return rows
 
     def figure_words(self):
@@ -248,6 +308,7 @@ def main():
     parser = argparse.ArgumentParser(prog="python3 -m studies", description=__doc__, formatter_class=argparse.RawDescriptionHelpFormatter)
     parser.add_argument("settings", help="a file of settings, or " + ", ".join(sorted(path.stem for path in Path(HERE).glob("*.yaml"))))
     parser.add_argument("--folder", help="where the results go (default: as the settings say, from here)")
+    parser.add_argument("--seeds", type=int, help="how many sets of faults at each rate (default: as the settings say)")
     parser.add_argument("--jobs", type=int, default=os.cpu_count(), help="how many trials at a time (default: %(default)s)")
     parser.add_argument("--print", action="store_true", help="run nothing; write a command for each trial to run, as for GNU parallel")
     add_program(parser)
@@ -255,7 +316,9 @@ def main():
     args = parser.parse_args()
     if not args.print and find_spec("matplotlib") is None:
         sys.exit("figures want matplotlib, which this python3 hasn't (studies/setup --lean installs it); nothing was run")
-    study = Study(args.settings, args.program, args.folder)
+    if args.seeds is not None and args.seeds < 1:
+        sys.exit("--seeds: at least 1")
+    study = Study(args.settings, args.program, args.folder, args.seeds)
     if args.print:
         print("".join(shlex.join(["python3", *study.command(name)]) + "\n" for name in study.due()), end="")
         return

@@ -1,5 +1,8 @@
 """Tests of studies and their figures: python3 -m unittest. Those of figures want matplotlib, some the built program."""
 
+import csv
+import hashlib
+import math
 import os
 import random
 import tempfile
@@ -8,11 +11,12 @@ from collections import Counter
 from pathlib import Path
 
 import designs
+import study_rows
 import teramac_texts as texts
 import trial
 from explain import explain
 from faults import KINDS, Places, largest_rate, make_faults
-from program import DEFAULT, HERE, MAPPER, call, mcnemar
+from program import DEFAULT, HERE, MAPPER, call, interval, mcnemar, wilson
 from study import KNOWN, Study, names_of
 from test_studies import EXAMPLES, run
 
@@ -26,8 +30,8 @@ SMALL = texts.Machine((1, 2, 2, 4, 20, 20, 20, 24, 24, 24, 24, 16))
 
 def rows_of(**columns):
     """Rows of a study: for each combination of the columns' lists one, other columns alike in all."""
-    alike = {"machine": "m", "kind": "open", "design": "d", "list": "exact", "status": "0", "refusal": ""}
-    rows = [alike | dict.fromkeys(figures.NUMBERS, 1.0)]
+    alike = {"machine": "m", "kind": "open", "design": "d", "variant": "d", "list": "exact", "status": "0", "refusal": "", "spared": "all"}
+    rows = [alike | dict.fromkeys(study_rows.NUMBERS, 1.0)]
     for column, values in columns.items():
         rows = [{**row, column: value} for row in rows for value in values]
     return rows
@@ -46,7 +50,7 @@ class Figures(unittest.TestCase):
 
     def test_undecided_runs_are_apart(self):
         rows = rows_of(status=["0", "0", "3", "cut off", "6"])
-        self.assertEqual([figures.share(rows)[k] for k in (0, 3, 4)], [2 / 3, 3, 2])
+        self.assertEqual([study_rows.share(rows)[k] for k in (0, 3, 4)], [2 / 3, 3, 2])
         picture, _, _ = figures.fits(rows, 0)
         self.assertTrue(any("undecided" in label for label in picture.axes[0].get_legend_handles_labels()[1]))
 
@@ -55,7 +59,7 @@ class Figures(unittest.TestCase):
             path = Path(folder, "rows.csv")
             path.write_text("machine,kind,rate,design,list,status\nm,open,0,d,exact,0\nm,open,0,d,exact,5\n", encoding="utf-8")
             with self.assertRaisesRegex(SystemExit, "line 3: a run that ended with status 5"):
-                figures.read_rows(path)
+                study_rows.read_rows(path)
 
     def test_loads(self):
         picture, _, _ = figures.loads(rows_of(list=["diagnosed"], loads=[None]), 1000)
@@ -65,7 +69,7 @@ class Figures(unittest.TestCase):
             picture, columns, table = figures.loads([{**row, "crosspoints": ord(row["machine"])} for row in rows], 100)
             found = {row["part"]: [row["mean"], row["seconds"]] for row in (dict(zip(columns, line)) for line in table)}
             self.assertEqual((found.get("loads of the sweep"), found["loads"]), (swept and [4, 0.04], [6, 0.06]))
-            self.assertEqual((picture.axes[0].get_xlabel(), len(picture.axes)), (label, 2 * len(found) - 4))
+            self.assertEqual((picture.axes[0].get_xlabel(), len(picture.axes)), (label, 3))
             self.assertEqual(found["cycles of growth"], [1, ""])
 
     def test_ticks_and_legends(self):
@@ -75,26 +79,26 @@ class Figures(unittest.TestCase):
         self.assertEqual(len({style[1] for style in figures.STYLES.values()}), len(trial.LISTS))
 
     def test_means_and_shares(self):
-        self.assertEqual(([round(bound, 4) for bound in figures.wilson(8, 10)], figures.wilson(0, 0)), ([0.4902, 0.9433], (0, 1)))
-        self.assertEqual(figures.mean([5.0, 5.0, 5.0]), [5, 5, 5, 3])
-        self.assertAlmostEqual(figures.mean([1.0, 2.0, 3.0])[2], 2 + 4.303 / 3**0.5, 3)
+        self.assertEqual(([round(bound, 4) for bound in wilson(8, 10)], wilson(0, 0)), ([0.4902, 0.9433], (0, 1)))
+        self.assertEqual(study_rows.mean([5.0, 5.0, 5.0]), [5, 5, 5, 3])
+        self.assertAlmostEqual(study_rows.mean([1.0, 2.0, 3.0])[2], 2 + 4.303 / 3**0.5, 3)
 
     def test_one_run_has_no_interval(self):
-        self.assertEqual(figures.mean([1234.0]), [1234.0, None, None, 1])
-        self.assertEqual(figures.share(rows_of(status=["0"])), [1, None, None, 1, 0])
-        rows = figures.once(rows_of(rate=[0.0, 0.1], seed=[1, 2, 3], list=["exact", "diagnosed"]))
+        self.assertEqual(study_rows.mean([1234.0]), [1234.0, None, None, 1])
+        self.assertEqual(study_rows.share(rows_of(status=["0"])), [1, None, None, 1, 0])
+        rows = study_rows.once(rows_of(rate=[0.0, 0.1], seed=[1, 2, 3], list=["exact", "diagnosed"]))
         self.assertEqual(Counter((row["rate"], row["list"]) for row in rows)[0.0, "exact"], 1)
         picture, columns, table = figures.fits(rows, 0)
         found = {line[columns.index("rate")]: line[columns.index("low")] for line in table}
         self.assertEqual((found[0.0], round(found[0.1], 2)), (None, 0.44))
         ends = [path.vertices[:, 1] for axes in picture.axes for bars in axes.collections for path in bars.get_paths()]
-        self.assertEqual(len([end for end in ends if len(end) and not figures.math.isnan(end[0])]), 2)
+        self.assertEqual(len([end for end in ends if len(end) and not math.isnan(end[0])]), 2)
         for rate, said in ((0.0, "| 1.00 | 1 |"), (0.1, "| 1.00 | 1 (one run) |")):
             self.assertIn(said, figures.compare_text(*figures.compare(rows_of(rate=[rate], spare=[1.0], seed=[1]), 0)[1:]))
 
     def test_titles_say_how_many(self):
         rows = rows_of(kind=["registers"], rate=[0.0, 0.1], seed=[1, 2, 3]) + rows_of(kind=["registers"], rate=[0.2], seed=range(8))
-        picture, _, _ = figures.fits(figures.once(rows), 0)
+        picture, _, _ = figures.fits(study_rows.once(rows), 0)
         self.assertEqual(picture.axes[0].get_title(), "m, tables with a stuck register\n3 to 8 sets of faults at each rate")
         self.assertTrue(set(figures.FAULTS) == set(KINDS))
 
@@ -109,6 +113,43 @@ class Figures(unittest.TestCase):
         self.assertAlmostEqual(table[0][-1], 0.0192, 4)
         self.assertEqual(picture.axes[0].texts[0].get_text().strip(), "p=0.019")
         self.assertEqual([mcnemar(0, 0), mcnemar(5, 5), mcnemar(0, 6)], [1, 1, 0.03125])
+
+    def test_several_machines_in_one_pair_of_axes(self):
+        rows = rows_of(machine=["n", "m"], rate=[0.001, 0.1], seed=[1, 2])
+        for row in rows:
+            row |= {"crosspoints": 100.0 if row["machine"] == "m" else 2000.0, "status": "0" if row["machine"] == "n" else "3"}
+        picture, columns, table = figures.machines(rows, 0)
+        self.assertEqual((len(picture.axes), picture.axes[0].get_xscale()), (1, "log"))
+        self.assertEqual(picture.axes[0].get_legend_handles_labels()[1], ["m: 100", "n: 2,000"])
+        self.assertEqual({line[columns.index("machine")]: line[columns.index("share")] for line in table}, {"m": 0, "n": 1})
+
+    def test_lines_alone_beside_all_parts(self):
+        rows = rows_of(spared=["all", "lines"], spare=[0.0, 1.0], rate=[0.1], seed=[1, 2])
+        for row in rows:
+            row["crosspoints"] = 100 * (1 + row["spare"] * (3 if row["spared"] == "all" else 1))
+            row["status"] = "0" if row["spare"] else "3"
+        picture, columns, table = figures.price(rows, 0)
+        found = {(line[3], line[columns.index("times")]): line[columns.index("share")] for line in table}
+        self.assertEqual(found, {("all", 1): 0, ("all", 4): 1, ("lines", 1): 0, ("lines", 2): 1})
+        self.assertEqual(len(picture.axes), 1)
+        _, columns, table = figures.redundancy(rows, 0)
+        found = {(line[columns.index("spared")], line[columns.index("crosspoints")]) for line in table if line[columns.index("share")]}
+        self.assertEqual(found, {("all", 400), ("lines", 200)})
+
+    def test_designs_of_one_fill_are_in_the_bars(self):
+        """Of four runs each of five designs: bars are wider the more the designs differ, and never as narrow as those of twenty runs."""
+        rows = rows_of(design=["fill90"], variant=[f"fill90.{k}" for k in range(1, 6)], rate=[0.1], seed=range(4))
+        widths = []
+        for right in (lambda row: True, lambda row: row["seed"] < 2, lambda row: row["variant"] < "fill90.3" or row["seed"] == 0):
+            for row in rows:
+                row["status"] = "0" if right(row) else "3"
+            _, low, high, runs, _ = study_rows.share(rows)
+            widths.append(high - low)
+            self.assertGreater(high - low, wilson(sum(map(right, rows)), 20)[1] - wilson(sum(map(right, rows)), 20)[0])
+        self.assertEqual((runs, sorted(widths)), (20, widths))
+        self.assertEqual(interval([(3, 4)]), wilson(3, 4))
+        picture, _, _ = figures.fits(rows, 0)
+        self.assertIn("5 designs of each fill", picture.axes[0].get_title())
 
     def test_why(self):
         rows = rows_of(status=["3"], refusal=["noroom lines m0.c1", "noroom lines m1.c0", "noroom tables r", "noroom ports m0"])
@@ -178,7 +219,36 @@ class Kinds(unittest.TestCase):
             ends = [{SMALL.ends(cross)[k] for cross in opened} for k in range(2)]
             self.assertEqual((len(nodes), 1 in map(len, ends)), (1, shape != "hextants"))
 
+    def test_clusters_lie_at_places(self):
+        """Wires of a spot are of one crossbar, tables of one hextant."""
+        for seed in range(10):
+            faults = make_faults(SMALL, {"wires": 6, "registers": 3}, seed, 6, "spots")
+            wires, tables = {*faults["stuck0"], *faults["stuck1"]}, [*faults["register"]]
+            crossbars = [node for node in SMALL.nodes if wires <= {*node.taps, *node.lines}]
+            self.assertTrue(crossbars)
+            self.assertTrue(any({*tables} <= {*node.tables} for node in SMALL.nodes))
+
+    def test_counts_by_the_gamma_law(self):
+        """The rates of nodes have mean 1 and variance 1 / alpha, and all kinds go by the same ones."""
+        found, sizes = [], [len(node.taps) * len(node.lines) for node in SMALL.nodes]
+        for seed in range(300):
+            opened = make_faults(SMALL, {"open": 0.05}, seed, 2, "gamma")["open"]
+            counts = Counter(SMALL.node_of_cross(cross).name for cross in opened)
+            found += [counts[node.name] / size / 0.05 for node, size in zip(SMALL.nodes, sizes)]
+        middle = sum(found) / len(found)
+        spread = sum((value - middle) ** 2 for value in found) / len(found)
+        self.assertLess(abs(middle - 1), 0.06)
+        self.assertLess(abs(spread - 0.5), 0.1)
+        places = Places(SMALL, random.Random(3), 0.2, "gamma")
+        worst = SMALL.nodes[max(range(len(SMALL.nodes)), key=places.factors.__getitem__)]
+        for group in ("wire", "cross"):
+            places.count(0.01, group)
+            drawn = [places.part(group, 0) for _ in range(400)]
+            share = sum(part in places.own(worst, group) for part in drawn) / 400
+            self.assertGreater(share, 1.5 * len(places.own(worst, group)) / SMALL.sizes[group])
+
     def test_mixes(self):
+        self.assertEqual(trial.mix("x:open in gamma of 0.5"), ("x", {"open": 1.0}, (0.5, "gamma")))
         self.assertEqual(trial.mix("open"), ("open", {"open": 1.0}, None))
         self.assertEqual(trial.mix("x:open+wires*0.1 in rows of 24"), ("x", {"open": 1.0, "wires": 0.1}, (24.0, "rows")))
         for word in ("opens", "open*0", "open in lines of 3"):
@@ -188,11 +258,23 @@ class Kinds(unittest.TestCase):
         for tables in (38, 77, 115):
             design = texts.read_design(designs.blif_text(designs.filling(tables)).encode())
             self.assertEqual(len(designs.plain_network(design).tables), tables)
+            self.assertNotEqual(design, texts.read_design(designs.blif_text(designs.filling(tables, 2)).encode()))
+        if MAPPER:  # which leaves more than an eighth of them
+            text = call(MAPPER, designs.blif_text(designs.filling(77)).encode()).written
+            self.assertGreater(len(designs.plain_network(texts.read_design(text)).tables), 77 // 8)
+
+    def test_three_copies(self):
         lfsr = f"{EXAMPLES}/lfsr.blif"
         copies = designs.blif_text(designs.triplicated(texts.read_text(texts.read_design, lfsr))).encode()
         rows = [call(DEFAULT, "eval", design, f"{EXAMPLES}/lfsr.vec").rows for design in (lfsr, copies)]
         self.assertEqual(*rows)
         self.assertTrue(rows[0])
+        vectors = Path(EXAMPLES, "lfsr.vec").read_text(encoding="utf-8")
+        pins = designs.triplicated(texts.read_text(texts.read_design, lfsr), True)
+        self.assertEqual((len(pins.inputs), len(pins.outputs)), (12, 18))
+        found = call(DEFAULT, "eval", designs.blif_text(pins).encode(), designs.thrice(vectors).encode()).rows
+        self.assertEqual((designs.voted(found), found[0][:3]), (rows[0], 3 * rows[0][0][:1]))
+        self.assertEqual([designs.thrice("01 1 # a1\n.\n"), designs.voted([b"110001", b"."])], ["000111111\n.\n", [b"10", b"."]])
 
 
 class Runs(unittest.TestCase):
@@ -262,6 +344,57 @@ class Runs(unittest.TestCase):
         self.assertEqual(*(call(DEFAULT, "eval", design, f"{EXAMPLES}/uart.vec").rows for design in (text, f"{EXAMPLES}/uart.blif")))
         ran = run("trial.py", machine, f"{text}:{EXAMPLES}/uart.vec", "--rate", "0.0", "--lists", "exact,mapped")
         self.assertEqual([line.split(",")[7:9] for line in ran.stdout.splitlines()[1:]], [["exact", "0"], ["mapped", "0"]])
+
+    def test_designs_of_a_fill_take_turns(self):
+        """Each set of faults goes with one of three designs; without faults there is a run of each."""
+        (self.folder / "tiny.machine").write_bytes(Path(HERE, "bench.machine").read_bytes())
+        self.write(rates='["0.0", "0.02"]', seeds="4", fill="[0.1]", designs_a_fill="3", designs="{}")
+        trials = Study(str(self.settings), DEFAULT).trials.values()
+        turns = [(found.words[found.words.index("--rate") + 1], found.words[1].split("=")[0]) for found in trials]
+        without, those = [[name for rate, name in turns if (rate == "0.0") == sound] for sound in (True, False)]
+        self.assertEqual((without, those), ([f"fill10.{k}" for k in (1, 2, 3)], [f"fill10.{k}" for k in (1, 2, 3, 1)]))
+
+    def test_fewer_seeds_than_the_settings_say(self):
+        self.write(rates='["0.02"]', seeds="7")
+        self.assertEqual(len(Study(str(self.settings), DEFAULT, None, 2).trials), 2)
+        made = [row for row in Study(str(self.settings), DEFAULT, None, 2).made_by() if row[0] == "settings"]
+        self.assertEqual([row[3] for row in made], ["seeds: 2"])
+        self.assertIn("--seeds: at least 1", run("__main__.py", str(self.settings), "--seeds", "0", "--print").stderr)
+
+    def test_spare_lines_alone(self):
+        lines = self.settings.read_text().replace(f"machines: [{self.folder}/tiny.machine]\n", "")
+        self.settings.write_text(lines + 'spares: [0.0, 0.5]\nspared: [all, lines]\n')
+        study = Study(str(self.settings), DEFAULT)
+        counts = {place.name: texts.read_text(texts.read_machine, place.machine).counts for place in study.places}
+        least, more, lines = (counts[name] for name in ("and-spare0", "and-spare50", "and-lines50"))
+        self.assertEqual((counts["and-lines0"], lines[:7], lines[7:11], lines[11]), (least, least[:7], more[7:11], least[11]))
+        self.assertGreater(more[11], least[11])
+
+    def test_three_copies_have_room(self):
+        """On the machine for `three`, whose pins are enough for three of each."""
+        (self.folder / "and.blif").write_bytes(Path(EXAMPLES, "lfsr.blif").read_bytes())
+        (self.folder / "and.vec").write_bytes(Path(EXAMPLES, "lfsr.vec").read_bytes())
+        lines = self.settings.read_text().replace(f"machines: [{self.folder}/tiny.machine]\n", "").replace('"0.02"', '"2"')
+        self.settings.write_text(lines.replace("[exact]", "[triplicated_pins, triplicated]") + "spares: [three]\n")
+        study = Study(str(self.settings), DEFAULT)
+        found = [run("trial.py", *trial.words).stdout.splitlines() for trial in study.trials.values()]
+        self.assertEqual([line.split(",")[7:9] for line in found[0][1:]], [["triplicated_pins", "0"], ["triplicated", "0"]])
+        self.assertIn(found[1][1].split(",")[8], ("0", "wrong"))
+
+    @unittest.skipIf(figures is None, "matplotlib isn't there")
+    def test_sums_stand_beside_rows(self):
+        self.assertEqual(self.study().returncode, 0)
+        rows = list(csv.DictReader((self.folder / "out/sums.csv").read_text(encoding="utf-8").splitlines()))
+        found = {(row["what"], row["name"]): row["sha256"] for row in rows}
+        for what, name, path in (
+            ("program", os.path.basename(DEFAULT), DEFAULT),
+            ("script", "studies/trial.py", f"{HERE}/trial.py"),
+            ("settings", "s.yaml", self.settings),
+            ("input", "and.blif", self.folder / "and.blif"),
+            ("rows", "rows.csv", self.folder / "out/rows.csv"),
+        ):
+            self.assertEqual(found[what, name], hashlib.sha256(Path(path).read_bytes()).hexdigest())
+        self.assertEqual({row["remark"] for row in rows if row["what"] == "program"}, {"unproved" if DEFAULT.endswith("-unproved") else ""})
 
     def test_machines_of_one_name(self):
         self.assertEqual([*names_of(["a/x.machine", "b/x.machine"]), *names_of(["a/x.machine", "b/y.machine"])], ["a-x", "b-x", "x", "y"])

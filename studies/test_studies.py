@@ -155,14 +155,14 @@ class Studies(unittest.TestCase):
         os.chmod(self.out, 0o755)
         pairs = [f"{EXAMPLES}/{name}.blif:{EXAMPLES}/{name}.vec" for name in ("and", "counter")]
         ran = run("trial.py", "tiny.machine", *pairs, "--rate", "0.0", "--report", self.out)
-        found = sorted(re.findall(r",(and|counter),(\w+),(\d),.*,(\d*),(\d*),(\d*),(\d*),,,,,$", ran.stdout, re.MULTILINE))
+        found = sorted(re.findall(r",(and|counter),(\w+),(\d),.*,(\d*),(\d*),(\d*),(\d*),,,,,,$", ran.stdout, re.MULTILINE))
         told = [("and", "diagnosed", "0", *"9405"), ("and", "exact", "0", *4 * [""])]
         self.assertEqual(found, told + [("counter", kind, "3", *loads) for _, kind, _, *loads in told])
 
     @unittest.skipUnless(PORT and REPORT, "teramac_port or teramac_report isn't there")
     def test_cycles(self):
         ran = run("trial.py", "tiny.machine", "--rate", "0.0", "--lists", "diagnosed", "--port", PORT)
-        counts = list(map(int, ran.stdout.split(",")[-9:-1]))
+        counts = list(map(int, ran.stdout.split(",")[-10:-2]))
         self.assertEqual((sum(counts[1:4]), sum(counts[5:]), counts[1] < counts[5]), (counts[0], counts[4], True))
 
     def test_picture(self):

@@ -20,10 +20,10 @@ from program import HERE, MAPPER, REPORT, add_program, call
 COLUMNS = (
     "machine crosspoints kind rate seed faults design list status refusal listed_wires listed_crosses listed_tables thrown_wires "
     "thrown_crosses thrown_tables tables nets crossings closed seconds diagnose_seconds loads loads_sweep loads_growth loads_tables "
-    "cycles cycles_sweep cycles_growth cycles_tables spare"
+    "cycles cycles_sweep cycles_growth cycles_tables spare spared"
 ).split()
-LISTS = ("exact", "diagnosed", "mapped", "wires", "hextants", "none", "triplicated")
-UNDIAGNOSED = ("none", "triplicated")
+LISTS = ("exact", "diagnosed", "mapped", "wires", "hextants", "none", "triplicated", "triplicated_pins")
+UNDIAGNOSED = ("none", "triplicated", "triplicated_pins")
 NO_RUN = (1, 2, 4, 5)  # which say nothing of room: wrong texts or words, a rig, a store or an output that failed
 
 
@@ -82,7 +82,7 @@ class Trial:
         self.faults = make_faults(self.machine, amounts, args.seed, *(clusters or (args.clustered, args.shape)))
         self.fault_text = texts.faults_text(self.machine, self.faults).encode()
         given = (args.name or Path(args.machine).stem, self.machine.sizes["cross"], name, args.rate, args.seed, self.faults.count)
-        self.head = dict(zip(COLUMNS, given)) | {"spare": args.spare}
+        self.head = dict(zip(COLUMNS, given)) | {"spare": args.spare, "spared": args.spared}
 
     def call(self, *words, program=None):
         answer = call(program or self.args.program, *words, seconds=self.args.seconds)
@@ -109,10 +109,10 @@ class Trial:
         sizes = {"tables": len(found.tables), "nets": len(set(nets.values())), "crossings": len(ports & nets.keys())}
         return sizes | {"closed": len(found.crosses)}
 
-    def compared(self, answer, design, vectors, promised=True):
-        """The answer, after its rows were compared with those of eval."""
+    def compared(self, answer, design, vectors, promised=True, read=list):
+        """The answer, after its rows, or what is read of them, were compared with those of eval."""
         want = answer if answer.status else self.call("eval", design, vectors)
-        if want.status == 0 and want.rows != answer.rows:
+        if want.status == 0 and want.rows != read(answer.rows):
             if promised:
                 kept = f"wrong-{Path(design).name}-{self.head['kind']}-{self.args.rate}-{self.args.seed}.faults"
                 texts.write_new(kept, self.fault_text)
@@ -120,14 +120,17 @@ class Trial:
             answer.status = -2
         return answer
 
-    def laid(self, listed, design, vectors, promised=True, given=None):
+    def laid(self, listed, design, vectors, kind="exact", given=None):
         """compile and run on a list; the answer with the seconds of both, and the image's sizes where there is one."""
         image = self.call("compile", self.args.machine, listed, given or design)
         if image.status:
             return image, {}
-        ran = self.call("run", self.args.machine, self.fault_text, image.written, vectors)
+        pins = kind == "triplicated_pins"
+        driven = designs.thrice(Path(vectors).read_text(encoding="utf-8")).encode() if pins else vectors
+        ran = self.call("run", self.args.machine, self.fault_text, image.written, driven)
         ran.seconds += image.seconds
-        return self.compared(ran, design, vectors, promised), self.shape_of(image.written)
+        ran = self.compared(ran, design, vectors, kind not in UNDIAGNOSED, designs.voted if pins else list)
+        return ran, self.shape_of(image.written)
 
     def loads(self):
         """The loads of a diagnosis, in all and by part, by the program of reports; with that of ports the cycles too."""
@@ -147,11 +150,12 @@ class Trial:
             listed = texts.defects_text(self.machine, self.LISTED.get(kind, lambda *_: texts.Defects())(self.machine, self.faults)).encode()
             for name, design, vectors in self.args.designs:
                 given = design
-                if kind == "triplicated":
-                    given = designs.blif_text(designs.triplicated(texts.read_text(texts.read_design, design))).encode()
+                if kind.startswith("triplicated"):
+                    copies = designs.triplicated(texts.read_text(texts.read_design, design), kind.endswith("_pins"))
+                    given = designs.blif_text(copies).encode()
                 said = self.call(self.args.machine, listed, design, program=self.args.mapper) if kind == "mapped" else None
                 given = said.written if said else given
-                answer, sizes = (said, {}) if said and said.status else self.laid(listed, design, vectors, kind not in UNDIAGNOSED, given)
+                answer, sizes = (said, {}) if said and said.status else self.laid(listed, design, vectors, kind, given)
                 yield self.row(name, kind, None if kind in UNDIAGNOSED else listed, answer, **sizes)
 
     def diagnosed_rows(self):
@@ -189,6 +193,7 @@ def main():
     parser.add_argument("--port", default="", help="the built teramac_port, by which cycles are counted (default: none)")
     parser.add_argument("--name", help="the machine's name in the table (default: its file's)")
     parser.add_argument("--spare", type=float, help="what the machine has to spare, for the table")
+    parser.add_argument("--spared", default="", help="of what: all or lines, for the table")
     parser.add_argument("-o", "--output", default="-", help="a new file (default: standard output)")
     parser.add_argument("--result", metavar="FILE", help="of a study: FILE is written whole or not at all; where it stands nothing is run")
     parser.add_argument("--mapper", default=MAPPER, help="the built teramac_map, for mapped (default: %(default)s)")

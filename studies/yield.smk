@@ -11,7 +11,7 @@ import sys
 sys.path.insert(0, os.path.dirname(os.path.abspath(workflow.snakefile)))
 from study import HERE, Study, from_here
 
-STUDY = Study(config["settings"], config.get("program"), config.get("folder"))
+STUDY = Study(config["settings"], config.get("program"), config.get("folder"), config.get("seeds"))
 OUT = STUDY.folder
 WORDS = {trial.file: trial.words for trial in STUDY.trials.values()}
 
