@@ -1,0 +1,12 @@
+-- What is cited above.
+pub mod Driving
+pub mod Leaving
+pub mod Sharing
+-- For the proofs of this crate alone.
+mod Unique
+mod Existing
+mod Constant
+mod Reaching
+mod Instants
+mod Lasting
+mod Images
