@@ -1,6 +1,9 @@
 -- What is cited above.
 pub mod Driving
+pub mod Images
 pub mod Leaving
+pub mod Lasting
+pub mod RowsOver
 pub mod Sharing
 -- For the proofs of this crate alone.
 mod Unique
@@ -8,5 +11,3 @@ mod Existing
 mod Constant
 mod Reaching
 mod Instants
-mod Lasting
-mod Images
