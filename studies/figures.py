@@ -59,7 +59,7 @@ def faults_of(rows):
 def facets(rows, columns=("machine", "kind")):
     """A picture with one pair of axes for each machine and kind; gives it, and for each the axes and the rows."""
     parts = split(rows, *columns)
-    across = {4: 2, 8: 4}.get(len(parts), min(3, len(parts)))
+    across = 2 if len(parts) in (4, 8) else min(3, len(parts))
     down = -(-len(parts) // across)
     picture, axes = plt.subplots(down, across, figsize=(1.6 + 5.6 * across, 4.2 * down), squeeze=False, layout="constrained")
     for spare in axes.flat[len(parts) :]:
