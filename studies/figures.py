@@ -59,7 +59,7 @@ def faults_of(rows):
 def facets(rows, columns=("machine", "kind")):
     """A picture with one pair of axes for each machine and kind; gives it, and for each the axes and the rows."""
     parts = split(rows, *columns)
-    across = {4: 2, 8: 4}.get(len(parts), min(3, len(parts)))
+    across = 2 if len(parts) in (4, 8) else min(3, len(parts))
     down = -(-len(parts) // across)
     picture, axes = plt.subplots(down, across, figsize=(1.6 + 5.6 * across, 4.2 * down), squeeze=False, layout="constrained")
     for spare in axes.flat[len(parts) :]:
@@ -335,6 +335,9 @@ def pairs(rows, _):
                 if line[7] + line[8]:
                     axes.annotate(f" p={line[-1]:.2g}", (place, line[7]), ha="center", va="bottom", fontsize=7, rotation=90)
         axes.margins(y=0.25)
+        low, high = axes.get_ylim()
+        axes.set_ylim(min(0, low), max(1.5, high))  # room for a p, and no parts of a set
+        axes.yaxis.get_major_locator().set_params(integer=True)
         axes.yaxis.set_major_formatter(lambda count, _: f"{abs(count):g}")
         axes.axhline(0, color="black", linewidth=0.8)
         axes.set_xticks(range(len(by_rate)), [f"{rate:g}" for (rate,) in by_rate])
