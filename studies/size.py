@@ -54,8 +54,8 @@ def pressed(counts, share, levels, tables):
     return (*counts[:4], *most, counts[11])
 
 
-def remapped(mapper, design, machine, text):
-    """The least machine found for a text of the mapper, from one that holds a text on, on its tree; with the text that it holds."""
+def pressed_once(mapper, design, machine, text):
+    """A lesser machine for a text of the mapper on the same tree, all levels pressed and then single ones; with the text that it holds."""
     tables = len(designs.plain_network(texts.read_design(text)).tables)
     for levels in (range(4), [3], [2], [0, 1]):
         share = 0.7
@@ -66,6 +66,15 @@ def remapped(mapper, design, machine, text):
             if answer.status == 0:
                 text, network = answer.written, designs.plain_network(texts.read_design(answer.written))
                 machine = texts.Machine(counts_for(network, tried.counts[:3], 0.0, tried.counts[3]))
+    return machine, text
+
+
+def remapped(mapper, design, machine, text):
+    """The least machine found for a text of the mapper, from one that holds a text on, pressed until nothing more comes of it."""
+    crosspoints = 1 + machine.sizes["cross"]
+    while machine.sizes["cross"] < crosspoints:
+        crosspoints = machine.sizes["cross"]
+        machine, text = pressed_once(mapper, design, machine, text)
     return machine, text
 
 

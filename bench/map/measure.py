@@ -1,9 +1,9 @@
 """Measures the mapper: python3 measure.py FOLDER PROGRAM ROWS.csv [--room]. FOLDER is what make.py made, PROGRAM the built teramac_map.
 
-Of each design of 20 to 5,000 tables a row: tables of the plain network of its text, of what ABC makes of it by `if -K 6 -a` and by its
-longest script, and of the mapper's text, with the mapper's seconds of processor. With --room a row of each design of 100 to MOST tables:
-crosspoints of the least machine of a tree for the text as given, and of the least one that studies/size.py finds for a text of the mapper.
-Rows that stand in ROWS.csv are kept; at the end comes a table of all by kind.
+Of each design of 20 to 5,000 tables a row: tables and depth of the plain network of its text, of what ABC makes of it by `if -K 6 -a` and
+by `if -K 6`, and of the mapper's text, with the mapper's seconds of processor; and the tables of the best of three scripts of ABC. With
+--room a row of each design of 100 to MOST tables: crosspoints of the least machine of a tree for the text as given, and of the least one
+that studies/size.py finds for a text of the mapper. Rows that stand in ROWS.csv are kept; at the end comes a table of all by kind.
 """
 
 import csv
@@ -21,8 +21,10 @@ import size  # noqa: E402
 import teramac_texts as texts  # noqa: E402
 
 AREA = "read_blif {given}; strash; if -K 6 -a; write_blif {out}"
+DEPTH = "read_blif {given}; strash; if -K 6; write_blif {out}"
 THRICE = "read_blif {given}; " + "strash; ifraig; dch; if -K 6 -a; mfs2; " * 3 + "write_blif {out}"
-COLUMNS = "design kind given area thrice mapped latches seconds own".split()
+CHOICES = "read_blif {given}; " + "strash; dch; if -K 6 -a; mfs2; " * 3 + "strash; ifraig; if -K 6 -a; mfs2; write_blif {out}"
+COLUMNS = "design kind given area best mapped given_depth area_depth least_depth mapped_depth latches seconds own".split()
 ROOM = "design kind given latches crosspoints least seconds".split()
 # The trees, each for designs of at most so many tables, with 16 tables in a hextant.
 TREES = {256: (2, 2, 4), 1024: (4, 4, 4), 2048: (4, 4, 8)}
@@ -33,12 +35,32 @@ def network_of(data):
     return designs.plain_network(texts.read_design(data))
 
 
+def depth_of(network, latches):
+    """How many tables lie one behind the other, those of latches not counted."""
+    logic = len(network.tables) - latches
+    levels, path = {}, list(range(logic))
+    while path:
+        table = path[-1]
+        read = [source - network.inputs for source in network.tables[table] if network.inputs <= source < network.inputs + logic]
+        new = [below for below in read if below not in levels]
+        path += new
+        if not new:
+            levels[path.pop()] = 1 + max((levels[below] for below in read), default=0)
+    return max(levels.values(), default=0)
+
+
+def sizes_of(text):
+    """The tables and the depth of a text."""
+    network = network_of(text)
+    return len(network.tables), depth_of(network, len(texts.read_design(text).latches))
+
+
 def by_abc(script, given):
-    """The tables of what ABC writes."""
+    """The tables and the depth of what ABC writes."""
     with tempfile.NamedTemporaryFile(suffix=".blif") as out:
         words = ["berkeley-abc", "-q", script.format(given=given, out=out.name)]
         subprocess.run(words, capture_output=True, timeout=900, check=True)
-        return len(network_of(Path(out.name).read_bytes()).tables)
+        return sizes_of(Path(out.name).read_bytes())
 
 
 def used():
@@ -48,12 +70,14 @@ def used():
 
 
 def measured(program, design, kind, given):
-    """Tables of a design by all ways, of which one is the mapper's."""
+    """Tables and depths of a design by all ways, of which one is the mapper's."""
     before = used()
     text = subprocess.run([program, design], capture_output=True, check=True).stdout
     seconds, latches, own = used() - before, len(texts.read_design(given).latches), int(text == given)
-    sizes = [len(network_of(given).tables), by_abc(AREA, design), by_abc(THRICE, design), len(network_of(text).tables)]
-    return [design.stem, kind, *sizes, latches, round(seconds, 2), own]
+    area = by_abc(AREA, design)
+    best = min(area[0], by_abc(THRICE, design)[0], by_abc(CHOICES, design)[0])
+    found = list(zip(sizes_of(given), area, (best, by_abc(DEPTH, design)[1]), sizes_of(text)))
+    return [design.stem, kind, *found[0], *found[1], latches, round(seconds, 2), own]
 
 
 def smallest(program, design, kind, given):
@@ -73,15 +97,24 @@ def by_kind(rows):
     return {kind: [row for row in rows if row["kind"] == kind] for kind in kinds} | {"all": rows}
 
 
+def mean_of(part, column, other):
+    """The geometric mean of one number against another."""
+    logs = [math.log(max(int(row[column]), 1) / max(int(row[other]), 1)) for row in part]
+    return f"{math.exp(sum(logs) / len(logs)):.3f}"
+
+
 def tables_of(rows):
-    """A table in Markdown of sums by kind."""
-    yield "| Kind | Texts | given | `if -a` | thrice | mapped | against `if -a` | against thrice | Seconds | own text |"
-    yield "|---|---|---|---|---|---|---|---|---|---|"
+    """A table in Markdown of sums and geometric means by kind, and the texts with more than one table or one percent above `if -a`."""
+    yield "| Kind | Texts | given | `if -a` | best | mapped | against `if -a` | against best | depth: `if -a` | `if` | Seconds | own text |"
+    yield "|---|---|---|---|---|---|---|---|---|---|---|---|"
     for kind, part in by_kind(rows).items():
-        given, area, thrice, found, own = (sum(int(row[column]) for row in part) for column in ("given", "area", "thrice", "mapped", "own"))
-        seconds = sum(float(row["seconds"]) for row in part)
-        sums = f"{given:,} | {area:,} | {thrice:,} | {found:,} | {found / area:.3f} | {found / thrice:.3f}"
-        yield f"| {kind} | {len(part)} | {sums} | {seconds:.1f} | {own} |"
+        sums = " | ".join(f"{sum(int(row[column]) for row in part):,}" for column in ("given", "area", "best", "mapped"))
+        pairs = ("mapped", "area"), ("mapped", "best"), ("mapped_depth", "area_depth"), ("mapped_depth", "least_depth")
+        means = " | ".join(mean_of(part, *pair) for pair in pairs)
+        seconds, own = sum(float(row["seconds"]) for row in part), sum(int(row["own"]) for row in part)
+        yield f"| {kind} | {len(part)} | {sums} | {means} | {seconds:.1f} | {own} |"
+    above = [row for row in rows if int(row["mapped"]) > max(int(row["area"]) + 1, int(row["area"]) * 1.01)]
+    yield "above `if -a`: " + (", ".join(f"{row['design']} {row['mapped']} for {row['area']}" for row in above) or "none")
 
 
 def rooms_of(rows):

@@ -34,7 +34,7 @@ LeaveRoom = (m : Shape) (n : ℕ) (f : Faults) → m.counts ≡ work.bench_count
 abbrev pub AreNetworks : Type 0
 AreNetworks = (d : NetlistData) → IsChecked d → IsNetwork (plain_network d)
 
-module _ (sure : AreSure) (networks : AreNetworks) (only : IsOnly) (room : LeaveRoom) (n : ℕ) (old new : Around) (right : BenchRight n new.rig.machine.faults) where
+module _ (sure : AreSure) (networks : AreNetworks) (only : IsOnly) (room : LeaveRoom) (n : ℕ) (old new : Around) (right : BenchRight n new.rig) where
   memory-excused : (refusal : Refusal) → OnlyMemory refusal → IsExcused refusal old new
   memory-excused refused.Memory stops = tt
   memory-excused refusal stops = absurd stops
@@ -49,7 +49,7 @@ module _ (sure : AreSure) (networks : AreNetworks) (only : IsOnly) (room : Leave
       let sound : HasSoundParts m right.faults (plain_network draft) = subst (λ (x : NetlistData). HasSoundParts m right.faults (plain_network x)) (sym (only draft design)) (room m n right.faults is (right.made m is)) in
       let lacks : IsShortInOrder m l.list.list (plain_network draft) place.short =
       subst (λ (x : Network). IsShortInOrder m l.list.list x place.short) short.plain (subst (λ (s : Shape). IsShortInOrder s l.list.list short.network place.short) listed.shape short.short) in
-      sure m l.list.list right.faults (plain_network draft) place.short (networks draft design.checked) (listed.right.fair right.faults right.faults_told) sound lacks
+      sure m l.list.list right.faults (plain_network draft) place.short (networks draft design.checked) (listed.right.fair right.faults right.may_have) sound lacks
 
   bench-well : IsWell old new (bench_course n old new)
   bench-well =

@@ -10,7 +10,8 @@ use Rattle.map_network.specs.Plain.{plain_network}
 use Rattle.place_plan.specs.Plans.{nets_in}
 use Rattle.place_route.specs.RightImages.{IsRightImage}
 use Rattle.rig.specs.Rig.{cycles_of, readings_of}
-use Rattle.run_image.proofs.Driving.{told-run}
+use Rattle.diag_list.specs.Possible.{MayHave}
+use Rattle.run_image.proofs.Driving.{may-run}
 use Rattle.cmd_bench.specs.Design.{bench_draft}
 use Rattle.cmd_steps.specs.Vocabulary.{Outside, around, ends, IsWritten}
 use Rattle.cmd_steps.specs.declared.refusal.Stop.{Stop}
@@ -44,8 +45,8 @@ module _ (tables : length (plain_network bench_draft).tables ≡ 17) (nets : net
         let the = only draft design in
         let one : length i.inputs ≡ 1 = laid.0.inputs ∙ ap (λ (x : NetlistData). length x.inputs) the in
         let line = is ∙ (ap (λ t. bench_summary n draft ones (new.rig.loads - old.rig.loads) ++ t) h.0 ∙ (append-nil _ ∙ summary-is draft ones (new.rig.loads - old.rig.loads) the)) in
-        let right : (f : Faults) → new.rig.machine.faults ≡ Some f → IsRightImage f i draft = λ f told.
-        laid.0.right f (subst (λ (s : Shape). Covers s l.list.list f) (sym listed.shape) (listed.right.covers f told)) in
+        let right : (f : Faults) → MayHave f new.rig → IsRightImage f i draft = λ f may.
+        laid.0.right f (subst (λ (s : Shape). Covers s l.list.list f) (sym listed.shape) (listed.right.covers f may)) in
         record {
           shape = m;
           counts = counts;
@@ -67,8 +68,8 @@ module _ (tables : length (plain_network bench_draft).tables ≡ 17) (nets : net
           ones_are = run.ones_are;
           written = subst (λ t. Wrote old.sink.written new.sink.written t) line wrote;
           right = right;
-          rows = λ f told. right f told (bench_vectors n) (readings_of (cycles_of new.rig)) (vectors-wide n (length i.inputs) one)
-              (told-run new.rig i (bench_vectors n) run.config run.drives run.told f told);
+          rows = λ f may. right f may (bench_vectors n) (readings_of (cycles_of new.rig)) (vectors-wide n (length i.inputs) one)
+              (may-run new.rig i (bench_vectors n) run.config run.drives run.told f may);
         }
 
     -- at the end of a body that did it

@@ -1,5 +1,5 @@
 -- What the command `bench` is.
-use Rattle.std.specs.Prelude.{◌≡◌, ℕ, ◌-◌, ◌%◌, ◌==◌, ◌≤◌, Bool, if◌then◌else◌, List, [], ◌∷◌, map, length, sum_by, Option, Some}
+use Rattle.std.specs.Prelude.{◌≡◌, ℕ, ◌-◌, ◌%◌, ◌==◌, ◌≤◌, Bool, if◌then◌else◌, List, [], ◌∷◌, map, length, sum_by, Some}
 use Rattle.std.specs.List.{range_with_len}
 use Rattle.std.specs.Fmt.{decimal}
 use Rattle.base_io.specs.Counts.{next_count}
@@ -18,6 +18,7 @@ use Rattle.machine_bench.specs.Faults.{AreBenchFaults}
 use Rattle.cmd_steps.specs.Vocabulary.{Around, Course, Step, after, write, done, attaches, AsksMachine, LoadsOnce, Job}
 use Rattle.cmd_steps.specs.declared.refusal.Refusal.{Refusal}
 use Rattle.cmd_steps.specs.declared.refusal.Refusal.TheVariants as refused
+use Rattle.diag_list.specs.Possible.{MayHave}
 use Rattle.diag_list.specs.Lists.{Listed, lists}
 use Rattle.place_design.specs.Laying.{lays}
 use Rattle.cmd_bench.specs.Summary.{summary_text}
@@ -134,10 +135,10 @@ machine_attached n old new m =
 abbrev pub bench_course : (n : ℕ) → Around → Around → Course
 bench_course n old new = after makes_shape ((new.store ≡ old.store) × (new.rig ≡ old.rig)) (machine_attached n old new)
 
--- the rig tells the faults that the number makes
-pub record BenchRight (n : ℕ) (told : Option Faults) : Type 0 where
+-- the machine may have the faults that the number makes
+pub record BenchRight (n : ℕ) (rig : RigState) : Type 0 where
   pub faults : Faults
-  pub faults_told : told ≡ Some faults
+  pub may_have : MayHave faults rig
   pub made : (m : Shape) → m.counts ≡ work.bench_counts → AreBenchFaults m n faults
 
 abbrev pub bench_job : (n : ℕ) → Job
@@ -145,7 +146,7 @@ bench_job n = record {
   files = [];
   asks = λ old new. AsksMachine (λ m. m.counts ≡ work.bench_counts) (generated_name n) old.rig.machine.asked new.rig.machine.asked;
   course = bench_course n;
-  right = λ old new front. BenchRight n new.rig.machine.faults;
+  right = λ old new front. BenchRight n new.rig;
   short = λ old new front. ⊥;
   few = λ old new. Unit {0};
   has_begun = λ old new text. ⊥;

@@ -7,6 +7,7 @@ use Rattle.machine_image.specs.Images.{ImageValue, Reads}
 use Rattle.rig.specs.Rig.{RigState}
 use Rattle.diag_check.specs.Soundly.{IsUnharmed, TakesForParts}
 use Rattle.cmd_steps.specs.Vocabulary.{Outside, IsMachineText}
+use Rattle.diag_list.specs.Possible.{MayHave}
 use Rattle.diag_list.specs.Lists.{Listed, IsListed}
 use Rattle.cmd_check.specs.Answers.{IsByList, IsTrueUnder, answer_line}
 use Rattle.cmd_check.specs.Testing.{Tried, IsTried}
@@ -21,9 +22,9 @@ pub data IsFound (i : ImageValue) (before : ℕ) (rig : RigState) (a : Answer) :
       → IsByList l.list.list i a → rig.loads ≡ l.loads → IsFound i before rig a
 
 -- The machine of the text is attached under the name, and one line is written: that the image of the file is sound, or its first part
--- that isn't free on a list of the machine's defects. Where the machine's faults are told, an image that is called sound runs soundly
--- under them, and a part that is in doubt isn't sound, or is out of reach; and where no fault is near the image and the machine is wide
--- enough for it, it is called sound, with at most 256 loads for each part and each involved node
+-- that isn't free on a list of the machine's defects. Whatever faults the machine may have, an image that is called sound runs
+-- soundly under them, and a part that is in doubt isn't sound, or is out of reach; and where none is near the image and the machine is
+-- wide enough for it, it is called sound, with at most 256 loads for each part and each involved node
 pub record IsChecked (machine name image : List ℕ) (old new : Outside) : Type 0 where
   pub shape : Shape
   pub given : ImageValue
@@ -35,6 +36,6 @@ pub record IsChecked (machine name image : List ℕ) (old new : Outside) : Type 
   pub image_is : IfTold (old.store.contents image) (λ bytes. Reads shape bytes given)
   pub found : IsFound given old.rig.loads new.rig answer
   pub written : Wrote old.sink.written new.sink.written (answer_line shape answer)
-  pub right : (f : Faults) → new.rig.machine.faults ≡ Some f → IsTrueUnder f given answer
-  pub whole : (f : Faults) → new.rig.machine.faults ≡ Some f → IsUnharmed f given →
+  pub right : (f : Faults) → MayHave f new.rig → IsTrueUnder f given answer
+  pub whole : (f : Faults) → MayHave f new.rig → IsUnharmed f given →
       (answer ≡ Sound) × TakesForParts given old.rig.loads new.rig.loads

@@ -1,8 +1,10 @@
 -- An image is tested on the machine that is attached, as a step.
-use Rattle.std.specs.Prelude.{ℕ, Bool}
+use Rattle.std.specs.Prelude.{ℕ, Bool, IsTrue}
+use Rattle.machine_meaning.specs.Faults.{Faults}
 use Rattle.machine_image.specs.Images.{ImageValue}
 use Rattle.rig.specs.Rig.{RigState}
-use Rattle.diag_check.specs.Soundly.{SoundIf, YesIf, TakesForParts}
+use Rattle.diag_check.specs.Soundly.{IsUnharmed, RunsSoundly, TakesForParts}
+use Rattle.diag_list.specs.Possible.{MayHave}
 use Rattle.cmd_steps.specs.Vocabulary.{Step, FailsOnRig}
 
 -- what a test found, and how many loads the rig counted then
@@ -10,11 +12,11 @@ pub record Tried : Type 0 where
   pub sound : Bool
   pub loads : ℕ
 
--- Where the machine's faults are told: what is found sound runs soundly under them, and where they leave the image unharmed, it is found
+-- Whatever faults the machine may have: what is found sound runs soundly under them, and where they leave the image unharmed, it is found
 -- sound. It took few loads from so many that the rig counted before
 pub record IsTried (i : ImageValue) (before : ℕ) (rig : RigState) (t : Tried) : Type 0 where
-  pub sound : SoundIf rig.machine.faults i t.sound
-  pub whole : YesIf rig.machine.faults i t.sound
+  pub sound : (f : Faults) → MayHave f rig → IsTrue t.sound → RunsSoundly f i
+  pub whole : (f : Faults) → MayHave f rig → IsUnharmed f i → IsTrue t.sound
   pub few : TakesForParts i before t.loads
 
 -- an image is tested, with few loads, also where the test isn't made

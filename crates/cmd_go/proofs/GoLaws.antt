@@ -66,7 +66,7 @@ module _ (machine name design vectors : List ℕ) where
       module _ (sure : AreSure) (networks : AreNetworks) where
         -- room on the list that stands there, or standing parts of the machine
         has-room : (front : List ℕ) (m : Shape) (draft : NetlistData) → IsChecked draft
-            → IfList m front (λ d. HasRoom d draft) ⊎ HasPartsFor new.rig.machine.faults m draft
+            → IfList m front (λ d. HasRoom d draft) ⊎ HasPartsFor new.rig m draft
             → (l : Listed) → IsListed m old.rig.loads new.rig l → front ≡ text_of l.list
             → (place : ShortPlace) → IsNoRoom l.list draft place → ⊥
         has-room front m draft checked (inl room) l list same place none =
@@ -76,10 +76,10 @@ module _ (machine name design vectors : List ℕ) where
             let d = l.list in
             let network : IsNetwork n = subst (λ (x : Network). IsNetwork x) (sym parts.plain) (networks draft checked) in
             let short = subst (λ (x : Network). IsShortInOrder d.shape d.list x place.short) (none.plain ∙ sym parts.plain) none.short in
-            sure m d.list parts.faults n place.short network (list.right.tight parts.faults parts.faults_told) parts.standing
+            sure m d.list parts.faults n place.short network (list.right.tight parts.faults parts.may_have) parts.standing
             (subst (λ (s : Shape). IsShortInOrder s d.list n place.short) list.shape short)
 
-        fits : (front : List ℕ) → GoRight files new.rig.machine.faults front → IsRight words old (Fits words old new front)
+        fits : (front : List ℕ) → GoRight files new.rig front → IsRight words old (Fits words old new front)
         fits front r =
             let t = r.texts in
             right-files t (Fits words old new front) (record {

@@ -1,8 +1,10 @@
 -- What the command `go` is.
-use Rattle.std.specs.Prelude.{◌≡◌, ◌⊎◌, ℕ, ◌≤◌, List, [], ◌∷◌, length, Option, Some}
+use Rattle.std.specs.Prelude.{◌≡◌, ◌⊎◌, ℕ, ◌≤◌, List, [], ◌∷◌, length}
 use Rattle.base_io.specs.Told.{Told}
 use Rattle.machine_shape.specs.declared.Shape.{Shape}
 use Rattle.machine_meaning.specs.Faults.{Faults}
+use Rattle.rig.specs.Rig.{RigState}
+use Rattle.diag_list.specs.Possible.{MayHave}
 use Rattle.machine_text.specs.Machine.{IsMachine}
 use Rattle.design_netlist.specs.declared.netlist_data.NetlistData.{NetlistData}
 use Rattle.design_netlist.specs.Rows.{AreRows}
@@ -55,18 +57,18 @@ pub record AreGoTexts (t : GoFiles) : Type 0 where
   pub design : IsRightFile t.design (λ bytes. IsDesign bytes draft)
   pub vectors : AreRightVectors t.vectors (length draft.inputs)
 
--- the faults of the machine are told, and as many parts stand as the plain network has
-pub record HasPartsFor (told : Option Faults) (m : Shape) (draft : NetlistData) : Type 0 where
+-- the machine may have faults under which as many parts stand as the plain network has
+pub record HasPartsFor (rig : RigState) (m : Shape) (draft : NetlistData) : Type 0 where
   pub faults : Faults
-  pub faults_told : told ≡ Some faults
+  pub may_have : MayHave faults rig
   pub network : Network
   pub plain : IsPlainNetwork draft network
   pub standing : HasStandingRoom m faults network
 
 -- There is room on the list that stands there, or for certain on the machine
-pub record GoRight (t : GoFiles) (told : Option Faults) (front : List ℕ) : Type 0 where
+pub record GoRight (t : GoFiles) (rig : RigState) (front : List ℕ) : Type 0 where
   pub texts : AreGoTexts t
-  pub room : IfList texts.shape front (λ d. HasRoom d texts.draft) ⊎ HasPartsFor told texts.shape texts.draft
+  pub room : IfList texts.shape front (λ d. HasRoom d texts.draft) ⊎ HasPartsFor rig texts.shape texts.draft
 
 -- there is no room on the list that stands there
 pub record GoShort (t : GoFiles) (front : List ℕ) : Type 0 where
@@ -83,7 +85,7 @@ go_job machine name design vectors = record {
   files = machine ∷ design ∷ vectors ∷ [];
   asks = λ old new. AsksMachine (reads_machine (old.store.contents machine)).gives name old.rig.machine.asked new.rig.machine.asked;
   course = go_course machine name design vectors;
-  right = λ old new front. GoRight (go_files old machine design vectors) new.rig.machine.faults front;
+  right = λ old new front. GoRight (go_files old machine design vectors) new.rig front;
   short = λ old new front. GoShort (go_files old machine design vectors) front;
   few = λ old new. GoFew (go_files old machine design vectors);
   has_begun = λ old new text. HasOutputs (reads_machine (old.store.contents machine)).gives text;

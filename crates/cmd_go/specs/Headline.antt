@@ -8,8 +8,8 @@ use Rattle.design_netlist.specs.declared.netlist_data.NetlistData.{NetlistData}
 use Rattle.design_netlist.specs.Rows.{AreRows}
 use Rattle.machine_image.specs.Images.{ImageValue}
 use Rattle.place_route.specs.RightImages.{IsRightImage}
-use Rattle.diag_machine.specs.Diagnosis.{TakesFewLoads}
 use Rattle.cmd_steps.specs.Vocabulary.{Outside, IsMachineText, IsDesignText}
+use Rattle.diag_list.specs.Possible.{MayHave, TakesFewLoadsOn}
 use Rattle.diag_list.specs.Lists.{Listed}
 use Rattle.place_design.specs.Laying.{HasRoom, IsRoutedDesign}
 use Rattle.run_image.specs.Headline.{IsAskedInOrder, IsWrittenWhole, UsesNothingListed, IsAsRead}
@@ -26,15 +26,15 @@ pub record IsGone (machine name design vectors : List ℕ) (old new : Outside) :
   pub list_shape : made.list.shape ≡ shape
   pub asked_in_order : IsAskedInOrder machine name (design ∷ vectors ∷ []) shape old new
   pub written_whole : IsWrittenWhole vectors made.list (length draft.inputs) all_vectors rows old new
-  pub covers_every_fault : (f : Faults) → new.rig.machine.faults ≡ Some f → Covers shape made.list.list f
+  pub covers_every_fault : (f : Faults) → MayHave f new.rig → Covers shape made.list.list f
   pub uses_nothing_listed : UsesNothingListed made.list image new.rig
   -- a pin for each input and each output of the design, all different
   pub inputs : length image.inputs ≡ length draft.inputs
   pub outputs : length image.outputs ≡ length draft.outputs
   -- for all vectors
-  pub image_right : (f : Faults) → new.rig.machine.faults ≡ Some f → IsRightImage f image draft
+  pub image_right : (f : Faults) → MayHave f new.rig → IsRightImage f image draft
   pub as_the_machine_read : IsAsRead image all_vectors rows new.rig
-  pub exactly_the_outputs : (f : Faults) → new.rig.machine.faults ≡ Some f → AreRows draft all_vectors rows
+  pub exactly_the_outputs : (f : Faults) → MayHave f new.rig → AreRows draft all_vectors rows
 
 -- And what it has done besides
 pub record IsWellGone (machine name design vectors : List ℕ) (old new : Outside) : Type 0 where
@@ -42,9 +42,9 @@ pub record IsWellGone (machine name design vectors : List ℕ) (old new : Outsid
   -- no table is on and no crosspoint closed that the design doesn't need
   pub routed : IsRoutedDesign gone.made.list gone.draft gone.image
   -- the list is tight, and so fair; few loads were made for it, and exactly one after it
-  pub tight : (f : Faults) → new.rig.machine.faults ≡ Some f → IsTight gone.shape gone.made.list.list f
-  pub fair : (f : Faults) → new.rig.machine.faults ≡ Some f → IsFair gone.shape gone.made.list.list f
-  pub few : TakesFewLoads new.rig.machine.faults gone.shape old.rig.loads gone.made.loads
+  pub tight : (f : Faults) → MayHave f new.rig → IsTight gone.shape gone.made.list.list f
+  pub fair : (f : Faults) → MayHave f new.rig → IsFair gone.shape gone.made.list.list f
+  pub few : TakesFewLoadsOn new.rig gone.shape old.rig.loads gone.made.loads
   pub loaded_once : new.rig.loads ≡ next_count gone.made.loads
 
 -- The plain network of the design fits, in order, on the list that stands written

@@ -8,8 +8,8 @@ use Rattle.design_netlist.specs.declared.netlist_data.NetlistData.{NetlistData}
 use Rattle.machine_image.specs.Images.{ImageValue}
 use Rattle.place_route.specs.Vocabulary.{IsRightImage, ReadsRows, IsRoutedInOrder}
 use Rattle.place_pair.specs.Tenants.{AreTenants, StandApart}
-use Rattle.diag_machine.specs.Diagnosis.{TakesFewLoads}
 use Rattle.cmd_steps.specs.Vocabulary.{Outside, IsMachineText, IsDesignText}
+use Rattle.diag_list.specs.Possible.{MayHave, TakesFewLoadsOn}
 use Rattle.diag_list.specs.Lists.{Listed}
 use Rattle.run_image.specs.Headline.{IsAskedInOrder, IsWrittenWhole, UsesNothingListed, IsAsRead}
 use Rattle.cmd_pair.specs.Both.{AreBothRows, BothHaveRoom, joint_of}
@@ -29,7 +29,7 @@ pub record IsPaired (machine name first second vectors : List ℕ) (old new : Ou
   pub list_shape : made.list.shape ≡ shape
   pub asked_in_order : IsAskedInOrder machine name (first ∷ second ∷ vectors ∷ []) shape old new
   pub written_whole : IsWrittenWhole vectors made.list (length first_draft.inputs + length second_draft.inputs) all_vectors rows old new
-  pub covers_every_fault : (f : Faults) → new.rig.machine.faults ≡ Some f → Covers shape made.list.list f
+  pub covers_every_fault : (f : Faults) → MayHave f new.rig → Covers shape made.list.list f
   pub uses_nothing_listed : UsesNothingListed made.list image new.rig
   -- a pin for each input of the first design and then of the second, and so for each output, all different
   pub inputs : length image.inputs ≡ length first_draft.inputs + length second_draft.inputs
@@ -37,21 +37,21 @@ pub record IsPaired (machine name first second vectors : List ℕ) (old new : Ou
   -- no table is on and no crosspoint closed that the designs don't need, on the in-order plan of their joint network
   pub routed : IsRoutedInOrder made.list.shape made.list.list (joint_of first_draft second_draft) image
   -- for all vectors the readings are the rows of both designs side by side
-  pub image_right : (f : Faults) → new.rig.machine.faults ≡ Some f → ReadsRows f image (AreBothRows first_draft second_draft)
+  pub image_right : (f : Faults) → MayHave f new.rig → ReadsRows f image (AreBothRows first_draft second_draft)
   pub as_the_machine_read : IsAsRead image all_vectors rows new.rig
   -- and so are the rows that were written
-  pub exactly_the_outputs : (f : Faults) → new.rig.machine.faults ≡ Some f → AreBothRows first_draft second_draft all_vectors rows
+  pub exactly_the_outputs : (f : Faults) → MayHave f new.rig → AreBothRows first_draft second_draft all_vectors rows
   -- each design runs as it would alone
   pub first_image : ImageValue
   pub second_image : ImageValue
   pub tenants : AreTenants image first_image second_image
-  pub apart : (f : Faults) → new.rig.machine.faults ≡ Some f → StandApart f image first_image second_image
-  pub first_right : (f : Faults) → new.rig.machine.faults ≡ Some f → IsRightImage f first_image first_draft
-  pub second_right : (f : Faults) → new.rig.machine.faults ≡ Some f → IsRightImage f second_image second_draft
+  pub apart : (f : Faults) → MayHave f new.rig → StandApart f image first_image second_image
+  pub first_right : (f : Faults) → MayHave f new.rig → IsRightImage f first_image first_draft
+  pub second_right : (f : Faults) → MayHave f new.rig → IsRightImage f second_image second_draft
   -- the list is tight besides, and so fair; few loads were made for it, and exactly one after it
-  pub tight : (f : Faults) → new.rig.machine.faults ≡ Some f → IsTight shape made.list.list f
-  pub fair : (f : Faults) → new.rig.machine.faults ≡ Some f → IsFair shape made.list.list f
-  pub few : TakesFewLoads new.rig.machine.faults shape old.rig.loads made.loads
+  pub tight : (f : Faults) → MayHave f new.rig → IsTight shape made.list.list f
+  pub fair : (f : Faults) → MayHave f new.rig → IsFair shape made.list.list f
+  pub few : TakesFewLoadsOn new.rig shape old.rig.loads made.loads
   pub loaded_once : new.rig.loads ≡ next_count made.loads
 
 -- The in-order plan of the joint network of the plain networks of the two designs fits the list that stands written

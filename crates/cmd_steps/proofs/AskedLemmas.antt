@@ -45,6 +45,7 @@ ends-badly {T} asked stop old mid sink status d fin later kind =
       store = first.store;
       rig = first.rig;
       sink = omega (arith, first.sink, later);
+      log = first.log;
     } in
     ended (HasNoJob asked) (job_of asked) d.lawful old new status on (does-asked (HasNoJob asked) (job_of asked) result old mid d.does) (λ zero. absurd (finishes-some stop mid.sink sink status fin zero)) d.does.machines written (wrong-only asked old new status written)
 

@@ -5,8 +5,9 @@ use Rattle.rig.specs.Rig.{RigState, Asked, AttachFails, IsDetached}
 use Rattle.rig.specs.declared.rig.AttachFail.{AttachFail}
 use Rattle.rig.specs.declared.rig.AttachFail.TheVariants as attach
 use Rattle.machine_faults.specs.declared.kind.FaultsFault.TheVariants as text
-use Rattle.cmd_steps.specs.Vocabulary.{outside, IsLater, StepStops, IsCounted, stop_of_attach, Took, attaches, MayAsk}
+use Rattle.cmd_steps.specs.Vocabulary.{outside, IsLater, LogGoesOn, StepStops, IsCounted, stop_of_attach, Took, attaches, MayAsk}
 use Rattle.cmd_steps.proofs.Making.{took-quietly, stopped-quietly}
+use Rattle.cmd_steps.proofs.Logs.{log_refused}
 
 module _ (machine : Asked) (old new : RigState) where
   attach-stops : (fail : AttachFail) → IsDetached new → AttachFails fail machine old new → StepStops (attaches machine old new) (stop_of_attach fail)
@@ -26,12 +27,12 @@ module _ (machine : Asked) (old new : RigState) where
   attach-counted (attach.Faults text.Memory) store sink fails = tt
   attach-counted attach.Memory store sink fails = tt
 
-  rig-later : (store : StoreState) (sink : SinkState) → new.machine.texts ≡ old.machine.texts → old.failures ≤ new.failures → IsLater (outside store old sink) (outside store new sink)
-  rig-later store sink texts later = record { contents = refl; texts = texts; kind = refl; store = omega arith; rig = later; sink = omega arith }
+  rig-later : (store : StoreState) (sink : SinkState) → new.machine.texts ≡ old.machine.texts → old.failures ≤ new.failures → LogGoesOn old new → IsLater (outside store old sink) (outside store new sink)
+  rig-later store sink texts later log = record { contents = refl; texts = texts; kind = refl; store = omega arith; rig = later; sink = omega arith; log = log }
 
-  pub attach-took : (store : StoreState) (sink : SinkState) → new.machine.texts ≡ old.machine.texts → old.failures ≤ new.failures → new.machine.attached ≡ Some machine → Took [] (attaches machine old new) (Ok tt) (outside store old sink) (outside store new sink)
-  attach-took store sink texts later attached = took-quietly (attaches machine old new) (rig-later store sink texts later) tt attached
+  pub attach-took : (store : StoreState) (sink : SinkState) → new.machine.texts ≡ old.machine.texts → old.failures ≤ new.failures → LogGoesOn old new → new.machine.attached ≡ Some machine → Took [] (attaches machine old new) (Ok tt) (outside store old sink) (outside store new sink)
+  attach-took store sink texts later log attached = took-quietly (attaches machine old new) (rig-later store sink texts later log) tt attached
 
   pub attach-taken : (store : StoreState) (sink : SinkState) (fail : AttachFail) → new.machine.texts ≡ old.machine.texts → old.failures ≤ new.failures → IsDetached new → AttachFails fail machine old new → Took [] (attaches machine old new) (Err (stop_of_attach fail)) (outside store old sink) (outside store new sink)
   attach-taken store sink fail texts later none fails =
-      stopped-quietly (attaches machine old new) (rig-later store sink texts later) _ (attach-stops fail none fails) (attach-counted fail store sink fails)
+      stopped-quietly (attaches machine old new) (rig-later store sink texts later (log_refused machine fail none fails)) _ (attach-stops fail none fails) (attach-counted fail store sink fails)

@@ -8,11 +8,12 @@ use Rattle.cmd_steps.specs.declared.refusal.Stop.{Stop}
 use Rattle.cmd_steps.specs.declared.refusal.Stop.TheVariants.{Refused}
 use Rattle.cmd_steps.proofs.WriteLemmas.{Wrote-none, asks-all}
 use Rattle.cmd_steps.proofs.EndLemmas.{end-stop}
+use Rattle.cmd_steps.proofs.Logs.{log_same}
 
 -- wrong words are refused at once
 pub does-wrong : {T : Type 0} (words : Type 0) (result : Result T Stop) (old : Outside) → result ≡ Err (Refused refused.Words) → words → Does words wrong_words result old old
 does-wrong {T} words result old is why = rw is (record {
-  later = record { contents = refl; texts = refl; kind = refl; store = omega arith; rig = omega arith; sink = omega arith };
+  later = record { contents = refl; texts = refl; kind = refl; store = omega arith; rig = omega arith; sink = omega arith; log = log_same old.rig };
   asked = record { all = tt; some = refl };
   machines = refl;
   written = ([], (refl, refl, refl), Wrote-none old.sink.written);

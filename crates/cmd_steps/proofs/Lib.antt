@@ -30,6 +30,7 @@ pub mod Values
 pub mod ListFiles
 pub mod AskedLemmas
 pub mod TextLemmas
+pub mod Logs
 -- For the proofs of this crate alone.
 mod CutRows
 mod AttachLemmas

@@ -1,9 +1,10 @@
 -- Steps that touch the rig alone.
 use Rattle.std.proofs.Common.{◌≡◌, ◌≤◌, false, [], None, refl, sym, ap, append-nil, arith, Ok, Err}
 use Rattle.base_io.specs.Vocabulary.{untold, StoreState, SinkState}
-use Rattle.rig.specs.Rig.{RigState, Machine}
+use Rattle.rig.specs.Rig.{RigState, Machine, Narrows}
 use Rattle.cmd_steps.specs.Vocabulary.{Outside, outside, IsLater, Step, StepStops, IsCounted, Took}
 use Rattle.cmd_steps.specs.declared.refusal.Stop.{Stop}
+use Rattle.cmd_steps.proofs.Logs.{log_kept}
 
 -- an outside to ask with for what doesn't depend on it
 abbrev pub nothing : Outside
@@ -12,6 +13,7 @@ nothing = record {
   rig = record {
     machine = record { asked = []; attached = None; faults = None; texts = λ name. None; refused = record { times = 0; last = None } };
     session = None;
+    past = [];
     loads = 0;
     failures = 0;
   };
@@ -44,10 +46,10 @@ module _ {T : Type 0} (step : Step T) {store : StoreState} {sink : SinkState} {o
     counted = counted;
   }
 
--- the rig alone was used, and its machine is the same
-module _ {T : Type 0} (step : Step T) (old new : RigState) (store : StoreState) (sink : SinkState) (machine : new.machine ≡ old.machine) (later : old.failures ≤ new.failures) where
+-- the rig alone was used, its machine is the same, and its log goes on
+module _ {T : Type 0} (step : Step T) (old new : RigState) (store : StoreState) (sink : SinkState) (machine : new.machine ≡ old.machine) (narrows : Narrows old new) (later : old.failures ≤ new.failures) where
   abbrev on-rig : IsLater (outside store old sink) (outside store new sink)
-  on-rig = record { contents = refl; texts = ap (λ (m : Machine). m.texts) machine; kind = refl; store = omega arith; rig = later; sink = omega arith }
+  on-rig = record { contents = refl; texts = ap (λ (m : Machine). m.texts) machine; kind = refl; store = omega arith; rig = later; sink = omega arith; log = log_kept machine narrows }
 
   pub rig-took : (x : T) → step.gives x → Took [] step (Ok x) (outside store old sink) (outside store new sink)
   rig-took = took-quietly step on-rig

@@ -5,6 +5,7 @@ use Rattle.base_io.specs.declared.store.StoreFail.{StoreFail}
 use Rattle.base_io.specs.declared.store.StoreFail.TheVariants.{Failed, Memory}
 use Rattle.rig.specs.Rig.{RigState}
 use Rattle.cmd_steps.specs.Vocabulary.{file_of, Outside, outside, StandsIn, IsLater, AsksSome, StepStops, IsCounted, stop_of_store, opens, Took}
+use Rattle.cmd_steps.proofs.Logs.{log_same}
 
 -- the file that was started
 pub begun-file : (new : StoreState) (contents : List ℕ → Told) (name : List ℕ) → new.contents ≡ contents → new.current ≡ Some (record { name = name; at = 0 }) → file_of new ≡ contents name
@@ -30,7 +31,7 @@ start-asks Memory name old new fails = inl (rw fails refl)
 
 module _ (name : List ℕ) (told : Told) (old new : StoreState) (rig : RigState) (sink : SinkState) where
   start-later : new.contents ≡ old.contents → old.failures ≤ new.failures → IsLater (outside old rig sink) (outside new rig sink)
-  start-later contents later = record { contents = contents; texts = refl; kind = refl; store = later; rig = omega arith; sink = omega arith }
+  start-later contents later = record { contents = contents; texts = refl; kind = refl; store = later; rig = omega arith; sink = omega arith; log = log_same rig }
 
   pub start-took : new.contents ≡ old.contents → old.failures ≤ new.failures → new.asked ≡ old.asked ++ name ∷ [] → new.current ≡ Some (record { name = name; at = 0 }) → IsPresent told → Took (name ∷ []) (opens told) (Ok tt) (outside old rig sink) (outside new rig sink)
   start-took contents later asked current present = record {

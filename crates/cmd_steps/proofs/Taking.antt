@@ -11,11 +11,12 @@ use Rattle.cmd_steps.proofs.Making.{took-quietly, stopped-quietly}
 use Rattle.cmd_steps.proofs.Counting.{counted-after, write-counted}
 use Rattle.cmd_steps.proofs.Following.{after-stops, after-gives, write-stops, write-then, done-now}
 use Rattle.cmd_steps.proofs.WriteLemmas.{asks-after, asks-all, asks-front}
+use Rattle.cmd_steps.proofs.Logs.{log_same, log_then}
 
 -- ---- what no step changes, after two steps
 
 pub later-same : (o : Outside) → IsLater o o
-later-same o = record { contents = refl; texts = refl; kind = refl; store = omega arith; rig = omega arith; sink = omega arith }
+later-same o = record { contents = refl; texts = refl; kind = refl; store = omega arith; rig = omega arith; sink = omega arith; log = log_same o.rig }
 
 pub later-later : (old mid new : Outside) → IsLater old mid → IsLater mid new → IsLater old new
 later-later old mid new first second = record {
@@ -25,6 +26,7 @@ later-later old mid new first second = record {
   store = omega (arith, first.store, second.store);
   rig = omega (arith, first.rig, second.rig);
   sink = omega (arith, first.sink, second.sink);
+  log = log_then first.log second.log;
 }
 
 -- where the store stands after two steps
@@ -74,7 +76,7 @@ module _ {T U : Type 0} (step : Step T) (here : Type 0) (rest : T → Course) wh
   }
 
 puts-later : {T : Type 0} (line : List ℕ) (store : StoreState) (rig : RigState) (a b : SinkState) (result : Result T Stop) → Puts line result a b → IsLater (outside store rig a) (outside store rig b)
-puts-later line store rig a b result puts = record { contents = refl; texts = refl; kind = puts.kind; store = omega arith; rig = omega arith; sink = puts.later }
+puts-later line store rig a b result puts = record { contents = refl; texts = refl; kind = puts.kind; store = omega arith; rig = omega arith; sink = puts.later; log = log_same rig }
 
 module _ {T : Type 0} (line : List ℕ) (here : Type 0) (rest : Course) (store : StoreState) (rig : RigState) (a b : SinkState) where
   -- the line isn't written whole

@@ -10,6 +10,7 @@ use Rattle.cmd_steps.specs.declared.refusal.Stop.TheVariants.{Refused, Sink}
 use Rattle.cmd_steps.proofs.Counting.{counted-after}
 use Rattle.cmd_steps.proofs.TextLemmas.{IsTextOf, IsOfFile}
 use Rattle.cmd_steps.proofs.WriteLemmas.{asks-after}
+use Rattle.cmd_steps.proofs.Logs.{log_same}
 
 module _ {T : Type 0} (step : Told → Step T) (of : IsOfFile step) (name : List ℕ) (old new : StoreState) (rig : RigState) (sink : SinkState) (contents : new.contents ≡ old.contents) (later : old.failures ≤ new.failures) (place : StandsIn (name ∷ []) old new) where
   abbrev told : Told
@@ -22,7 +23,7 @@ module _ {T : Type 0} (step : Told → Step T) (of : IsOfFile step) (name : List
   ended = outside new rig sink
 
   since : IsLater begun ended
-  since = record { contents = contents; texts = refl; kind = refl; store = later; rig = omega arith; sink = omega arith }
+  since = record { contents = contents; texts = refl; kind = refl; store = later; rig = omega arith; sink = omega arith; log = log_same rig }
 
   read-took : (result : Result T Stop) → Asks (name ∷ []) result old new → IfOk result (step told).gives → IfErr result (StepStops (step told)) → IfErr result (λ stop. IsCounted ⊥ stop begun ended) → Took (name ∷ []) (step told) result begun ended
   read-took result asked gives stops counted = record {

@@ -5,7 +5,7 @@ use native.Mathlib.Decide.{dec_lt}
 use Rattle.base_io.specs.Vocabulary.{StoreState, SinkState, Wrote, PutFails}
 use Rattle.base_io.specs.declared.sink.SinkFail.{SinkFail}
 use Rattle.base_io.specs.declared.sink.SinkFail.TheVariants.{Failed, Memory}
-use Rattle.rig.specs.Rig.{RigState, Machine}
+use Rattle.rig.specs.Rig.{RigState, Machine, Narrows}
 use Rattle.design_vectors.specs.declared.vectors.VectorsFail.{VectorsFail}
 use Rattle.design_vectors.specs.declared.vectors.VectorsFail.TheVariants.{Text, Failed as VectorsFailed}
 use Rattle.design_vectors.specs.Readings.{VectorReading, new_reading, NextGives, NextFails}
@@ -18,6 +18,7 @@ use Rattle.cmd_steps.proofs.CutRows.{IsCutAt, some-line, cut-of, first-of, none-
 use Rattle.cmd_steps.proofs.Taking.{later-same, later-later}
 use Rattle.cmd_steps.proofs.VectorLemmas.{IsTaking, IsTaking-start, IsTaking-more, taken-first, taken-next, taken-all, taken-fault}
 use Rattle.cmd_steps.proofs.WriteLemmas.{Wrote-then, Wrote-none, row_lines-more}
+use Rattle.cmd_steps.proofs.Logs.{log_kept, log_same}
 
 -- since the store stood at the first byte of the file these vectors were taken and these rows made: some were written, and the lines
 -- of the rest wait. Of each of these the store isn't far beyond the vector's line
@@ -46,14 +47,15 @@ none-written width o begun = record {
 }
 
 -- what a row leaves as it was, and counts that never fall
-pub row-later : (store store' : StoreState) (rig rig' : RigState) (sink sink' : SinkState) → StaysOpen store store' → rig'.machine ≡ rig.machine → rig.failures ≤ rig'.failures → sink'.can_lack ≡ sink.can_lack → sink.failures ≤ sink'.failures → IsLater (outside store rig sink) (outside store' rig' sink')
-row-later store store' rig rig' sink sink' stays machine rig_later kind sink_later = record {
+pub row-later : (store store' : StoreState) (rig rig' : RigState) (sink sink' : SinkState) → StaysOpen store store' → rig'.machine ≡ rig.machine → Narrows rig rig' → rig.failures ≤ rig'.failures → sink'.can_lack ≡ sink.can_lack → sink.failures ≤ sink'.failures → IsLater (outside store rig sink) (outside store' rig' sink')
+row-later store store' rig rig' sink sink' stays machine narrows rig_later kind sink_later = record {
   contents = stays.contents;
   texts = ap (λ (m : Machine). m.texts) machine;
   kind = kind;
   store = stays.later;
   rig = rig_later;
   sink = sink_later;
+  log = log_kept machine narrows;
 }
 
 asks-none : {T : Type 0} (result : Result T Stop) (old new : StoreState) → new.asked ≡ old.asked → Asks [] result old new
@@ -89,6 +91,7 @@ module _ (width : ℕ) (begun : Outside) (reading : VectorReading) (waiting : Li
       store = omega arith;
       rig = omega arith;
       sink = is.later;
+      log = log_same now.rig;
     });
     taking = so_far.taking;
     count = so_far.count;

@@ -1,7 +1,7 @@
 -- What a command has around it: the store, the rig and the sink.
-use Rattle.std.specs.Prelude.{◌≡◌, ◌⊎◌, ℕ, ◌+◌, ◌≤◌, List, [], ◌∷◌, IfSome}
+use Rattle.std.specs.Prelude.{◌≡◌, ◌⊎◌, ℕ, ◌+◌, ◌≤◌, List, [], ◌∷◌, length, IfSome}
 use Rattle.base_io.specs.Vocabulary.{Rose, StoreState, SinkState}
-use Rattle.rig.specs.Rig.{RigState}
+use Rattle.rig.specs.Rig.{RigState, Narrows}
 use Rattle.base_text.specs.Size.{most_bytes}
 
 -- the store and the rig
@@ -27,6 +27,11 @@ SomethingRose old new =
     (Rose old.store.failures new.store.failures ⊎ Rose old.sink.failures new.sink.failures)
     ⊎ (Rose old.rig.failures new.rig.failures ⊎ Rose old.rig.machine.refused.times new.rig.machine.refused.times)
 
+-- No machine that was asked for is forgotten. Where none was asked for since, what explains all that is read now explained it before
+pub record LogGoesOn (old new : RigState) : Type 0 where
+  pub asked : length old.machine.asked ≤ length new.machine.asked
+  pub narrows : length new.machine.asked ≡ length old.machine.asked → Narrows old new
+
 -- what no step changes, and counts that never fall
 pub record IsLater (old new : Outside) : Type 0 where
   pub contents : new.store.contents ≡ old.store.contents
@@ -35,6 +40,7 @@ pub record IsLater (old new : Outside) : Type 0 where
   pub store : old.store.failures ≤ new.store.failures
   pub rig : old.rig.failures ≤ new.rig.failures
   pub sink : old.sink.failures ≤ new.sink.failures
+  pub log : LogGoesOn old.rig new.rig
 
 -- the store stands in this file, no further than one byte beyond the limit of a file that is read whole, or in none
 abbrev pub IsNearIn : (file : List ℕ) → StoreState → Type 0

@@ -1,17 +1,17 @@
 -- A `run` of what a `compile` wrote.
-use Rattle.std.proofs.Common.{◌≡◌, ◌∙◌, ℕ, List, Option, Some, IfSome, sym, subst}
-use Rattle.machine_meaning.specs.Faults.{Faults}
+use Rattle.std.proofs.Common.{◌≡◌, ◌∙◌, ℕ, List, Some, sym, subst}
 use Rattle.design_netlist.specs.Rows.{AreRows}
 use Rattle.machine_image.specs.Images.{ImageValue, Reads, image_bytes}
 use Rattle.place_route.specs.RightImages.{IsRightImage}
 use Rattle.cmd_steps.specs.Vocabulary.{Outside, IsMachineText}
 use Rattle.cmd_steps.proofs.ShapeLemmas.{same-shape}
 use Rattle.run_image.specs.Rows.{AreRunRows}
+use Rattle.run_image.proofs.Driving.{may-read}
 use Rattle.cmd_top.specs.Chain.{RunsTheDesign}
 
 module _ (machine defects design name image vectors : List ℕ) (old compiled handed ran : Outside) where
   pub runs-the-design : RunsTheDesign machine defects design name image vectors old compiled handed ran
-  runs-the-design c r h f told covers =
+  runs-the-design c r h f may covers =
       let first : IsMachineText h.machine_file c.list.shape = rw h.machine_told at c.machine_is in
       let again : IsMachineText h.machine_file r.shape = rw h.machine_again at r.machine_is in
       let shapes : c.list.shape ≡ r.shape = same-shape c.list.shape r.shape (again.only c.list.shape.counts first.text) in
@@ -20,6 +20,5 @@ module _ (machine defects design name image vectors : List ℕ) (old compiled ha
       let reads : Reads r.shape h.bytes r.loaded = rw h.image_told at r.image_is in
       let same : c.image ≡ r.loaded = reads.only c.image c.image_for.image (c.image_for.shape ∙ shapes) bytes in
       let right : IsRightImage f r.loaded c.draft = subst (λ (i : ImageValue). IsRightImage f i c.draft) same (c.image_for.right f covers) in
-      let read = λ (faults : Option Faults). IfSome faults (λ g. AreRunRows g r.loaded r.all_vectors r.rows) in
-      let rows : AreRunRows f r.loaded r.all_vectors r.rows = subst read told r.rows_right.read in
+      let rows : AreRunRows f r.loaded r.all_vectors r.rows = may-read ran.rig r.loaded r.all_vectors r.rows r.config r.drives r.rows_are r.rows_right.read f may in
       subst (λ t. AreRows c.draft r.all_vectors t) (sym rows.2) (right r.all_vectors rows.0 r.rows_right.widths rows.1)

@@ -4,6 +4,7 @@ use Rattle.base_io.specs.Told.{holds}
 use Rattle.machine_meaning.specs.Vocabulary.{Covers, Faults}
 use Rattle.design_netlist.specs.Rows.{AreRows}
 use Rattle.cmd_steps.specs.Outside.{Outside}
+use Rattle.diag_list.specs.Possible.{MayHave}
 use Rattle.cmd_compile.specs.Headline.{IsCompiled}
 use Rattle.cmd_run.specs.Headline.{IsRan}
 
@@ -17,9 +18,9 @@ pub record IsHandedOn (machine image : List ℕ) (compiled handed : Outside) (ol
   pub machine_told : old.store.contents machine ≡ holds machine_file
   pub machine_again : handed.store.contents machine ≡ holds machine_file
 
--- then, under faults that the list covers, the rows that `run` wrote are the design's
+-- then, where the machine may have faults that the list covers, the rows that `run` wrote are the design's
 abbrev pub RunsTheDesign : (machine defects design name image vectors : List ℕ) → (old compiled handed ran : Outside) → Type 0
 RunsTheDesign machine defects design name image vectors old compiled handed ran =
     (c : IsCompiled machine defects design old compiled) → (r : IsRan machine name image vectors handed ran) →
-    IsHandedOn machine image compiled handed old → (f : Faults) → ran.rig.machine.faults ≡ Some f → Covers c.list.shape c.list.list f →
+    IsHandedOn machine image compiled handed old → (f : Faults) → MayHave f ran.rig → Covers c.list.shape c.list.list f →
     AreRows c.draft r.all_vectors r.rows

@@ -8,7 +8,7 @@ use design_netlist::lane_word;
 use std::alloc::{AllocError, Global};
 
 /// How many ANDs the walk to the output looks at.
-const WALK: u32 = 4_000;
+const WALK: u32 = 60_000;
 
 /// How far apart lanes are that differ in a pin alone.
 const FAR: [u32; 6] = [1, 2, 4, 8, 16, 32];

@@ -58,6 +58,30 @@ fn are_met(
     Ok(true)
 }
 
+/// The place of the first cover of which the comparison shows nothing, None where it shows all of them. It is for a search, which
+/// can do without what can't be followed; nothing is promised of it.
+///
+/// # Errors
+///
+/// Where memory is lacking.
+pub fn first_unshown(
+    alloc: Global,
+    graph: &Graph,
+    netlist: &Netlist,
+    labels: &[u32],
+) -> Result<Option<u32>, AllocError> {
+    let draft = netlist.parts();
+    let covers = draft.covers.as_slice();
+    let mut scratch = Scratch::new(alloc, node_count(graph))?;
+    let mut signals = vec![in alloc; 0; draft.names.len()]?;
+    'covers: for k in 0..covers.len() {
+        if !is_shown(alloc, graph, labels, &covers[k], &mut scratch, &mut signals)? {
+            return Ok(u32::try_from(k).ok());
+        }
+    }
+    Ok(None)
+}
+
 /// Whether the design is labelled by lists that are a graph.
 fn is_labelled_by(
     alloc: Global,

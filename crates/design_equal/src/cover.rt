@@ -15,10 +15,8 @@ use std::alloc::{AllocError, Global};
 /// How many literals the passes for a wide cover look at, at most.
 const MOST_LITERALS: u64 = 8_000_000;
 
-/// How many ANDs the walk to the output of a narrow cover looks at, and to that of a wide one.
-const NARROW_WALK: u32 = 4_000;
-
-const WIDE_WALK: u32 = 20_000;
+/// How many ANDs the walk to the output of a cover looks at.
+const WALK: u32 = 60_000;
 
 /// How many passes there are for so many pins.
 const PASSES: [u64; 15] = [1, 1, 1, 1, 1, 1, 1, 2, 4, 8, 16, 32, 64, 128, 256];
@@ -95,14 +93,6 @@ fn is_within_work(cover: &Cover, pins: usize) -> bool {
     passes == 1 || rows.saturating_mul(ins).saturating_mul(passes) <= MOST_LITERALS
 }
 
-fn limits_of(ins: usize) -> Limits {
-    let ands = if ins <= 6 { NARROW_WALK } else { WIDE_WALK };
-    Limits {
-        pins: MOST_PINS,
-        ands,
-    }
-}
-
 /// Whether the label of the cover's output has its truth for the bits of its inputs' labels, whatever the graph's inputs and
 /// latches: compared in words. The signals' words are overwritten.
 pub fn is_met(
@@ -119,15 +109,11 @@ pub fn is_met(
 {
     let ins = labels_of(alloc, cover.ins.as_slice(), labels)?;
     let root = label_at(labels, cover.out);
-    let Some(plan) = plan_of(
-        alloc,
-        graph,
-        scratch,
-        ins.as_slice(),
-        root,
-        limits_of(ins.len()),
-    )?
-    else {
+    let limits = Limits {
+        pins: MOST_PINS,
+        ands: WALK,
+    };
+    let Some(plan) = plan_of(alloc, graph, scratch, ins.as_slice(), root, limits)? else {
         return Ok(false);
     };
     if !is_within_work(cover, plan.pins.len()) {

@@ -21,5 +21,5 @@ mod wide;
 mod words;
 
 pub use cells::cells_at;
-pub use check::{agree, is_labelled};
+pub use check::{agree, first_unshown, is_labelled};
 pub use graph::{And, Graph, GraphLatch};

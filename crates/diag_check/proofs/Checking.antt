@@ -1,12 +1,13 @@
 -- The test of an image, step by step.
-use Rattle.std.proofs.Common.{◌≡◌, ℕ, ◌+◌, ◌*◌, ◌≤◌, Bool, true, false, Some, Option, List, length, refl, subst, arith, ◌==◌, ◌&&◌, not, if◌then◌else◌, is_some, IsTrue}
+use Rattle.std.proofs.Common.{◌≡◌, ℕ, ◌+◌, ◌*◌, ◌≤◌, Bool, true, false, Some, None, Option, List, length, refl, sym, ap, ◌∙◌, subst, arith, ◌==◌, ◌&&◌, not, if◌then◌else◌, is_some, IsTrue}
 use Rattle.std.specs.List.{count_by}
+use Rattle.std.proofs.lemmas.Bool.{false≢true}
 use Rattle.std.proofs.lemmas.List.Sums.{count_by-le-length}
 use Rattle.base_bits.specs.Numbers.{has_number, size_of}
 use Rattle.machine_shape.specs.declared.Table.{Table}
 use Rattle.machine_meaning.specs.Faults.{Faults}
 use Rattle.machine_config.specs.Configuration.{setting_of}
-use Rattle.machine_image.specs.Images.{ImageValue, IsImage}
+use Rattle.machine_image.specs.Vocabulary.{ImageValue, IsImage, IsWideEnough}
 use Rattle.diag_evidence.specs.Kept.{Kept, HoldsFor, IsMore}
 use Rattle.diag_known.specs.Field.{IsFieldOf, ClosedIf}
 use Rattle.diag_growth.specs.Tables.{SeatedAreKept, fresh_tables, keeps_table}
@@ -16,7 +17,7 @@ use Rattle.diag_known.proofs.Counting.{many_more, many_size}
 use Rattle.diag_sweep.specs.Marks.{undecided}
 use Rattle.diag_sweep.specs.declared.defect_marks.DefectMarks.{DefectMarks}
 use Rattle.diag_check.specs.Fields.{IsFewFor}
-use Rattle.diag_check.specs.Looks.{AreRoutesKnown, KeepsTableOf, AreSeated, RoutesIf, TablesIf, WholeIf, TakesInField, TakesAtMost, HasClosed, HasTablesOn}
+use Rattle.diag_check.specs.Looks.{AreRoutesKnown, KeepsTableOf, AreSeated, RoutesIf, TablesIf, FieldIf, WholeIf, TakesInField, TakesAtMost, HasClosed, HasTablesOn}
 use Rattle.diag_check.specs.Skeleton.{HasSkeleton}
 use Rattle.diag_check.specs.Soundly.{KeepsRoutes, KeepsTables, KeepsParts, SoundIf, YesIf, RunsSoundly, IsUnharmed}
 use Rattle.diag_check.specs.Used.{AreUsed}
@@ -60,7 +61,30 @@ loads_tables k i tables before after counts loads ts on =
 pub parts_found : (k l : Kept) (i : ImageValue) (answer : Bool) → IsMore k l → KeepsRoutes k i → (IsTrue answer → KeepsTables l i) → Some answer ≡ Some true → KeepsParts l i
 parts_found k l i answer more routes tables e = record { routes = routes_stay more routes; tables = tables (let same : answer ≡ true = cc in same) }
 
+pub field_found : {told : Option Faults} {k l : Kept} {ss : List VerifiedWire} {i : ImageValue} {a : Field} {yes answer : Bool} → ((f : Faults) → told ≡ Some f → HoldsFor k f → HoldsFor l f) → RoutesIf told k l ss i a yes → TablesIf told l ss i answer →
+    FieldIf told k i a (Some answer)
+field_found later routes tables = record {
+  at = λ f is holds unharmed sk. ap (λ b. Some b) (tables.at f is (later f is holds) unharmed.parts ((routes.at f is holds unharmed sk).1));
+}
+
+pub field_lost : {told : Option Faults} {k l : Kept} {ss : List VerifiedWire} {i : ImageValue} {a : Field} {yes : Bool} → yes ≡ false → RoutesIf told k l ss i a yes → FieldIf told k i a None
+field_lost off routes = record { at = λ f is holds unharmed sk. absurd (false≢true (sym off ∙ (routes.at f is holds unharmed sk).0)) }
+
 -- ---- in both fields
+
+some_same : {a b : Bool} → Some a ≡ Some b → a ≡ b
+some_same e = cc
+
+none_some : {b : Bool} → None ≡ Some b → ⊥
+none_some e = cc
+
+pub whole_found : {told : Option Faults} {k l : Kept} {i : ImageValue} {a : Field} {found : Option Bool} (answer : Bool) → ((f : Faults) → told ≡ Some f → HoldsFor k f → HoldsFor l f) → (IsWideEnough i.config.shape i → HasSkeleton i a) → found ≡ Some answer →
+    FieldIf told l i a found → WholeIf told k i answer
+whole_found answer later skeleton is_yes field = record { at = λ f is holds unharmed. some_same (sym is_yes ∙ field.at f is (later f is holds) unharmed (skeleton unharmed.wide)) }
+
+pub whole_lost : {told : Option Faults} {k l : Kept} {i : ImageValue} {a : Field} {found : Option Bool} {yes : Bool} → ((f : Faults) → told ≡ Some f → HoldsFor k f → HoldsFor l f) → (IsWideEnough i.config.shape i → HasSkeleton i a) → found ≡ None →
+    FieldIf told l i a found → WholeIf told k i yes
+whole_lost later skeleton lost field = record { at = λ f is holds unharmed. absurd (none_some (sym lost ∙ field.at f is (later f is holds) unharmed (skeleton unharmed.wide))) }
 
 pub loads_one : (i : ImageValue) (nodes used : List Bool) (a : Field) (before swept after : ℕ) → swept ≤ before + 170 * size_of used → IsFewFor i nodes used 2 a → TakesInField i a swept after → TakesAtMost i nodes used before after
 loads_one i nodes used a before swept after around few takes = record { few = by }

@@ -1,5 +1,5 @@
 -- What the three looks of a test of hangs show is true.
-use Rattle.std.proofs.Common.{◌≡◌, ◌≢◌, ◌⊎◌, inl, inr, ℕ, zero, suc, ◌<◌, ◌≤◌, ◌+◌, ◌++◌, Bool, true, false, ◌&&◌, ◌||◌, Some, None, Option, List, [], ◌∷◌, All, length, get_or, refl, sym, ap, ◌∙◌, subst, arith, ◌==◌, map, filter, cond}
+use Rattle.std.proofs.Common.{◌≡◌, ◌≢◌, ◌⊎◌, inl, inr, ℕ, zero, suc, ◌<◌, ◌+◌, ◌++◌, Bool, true, false, ◌&&◌, ◌||◌, Some, None, Option, List, [], ◌∷◌, All, length, get_or, refl, sym, ap, ◌∙◌, subst, arith, ◌==◌, map, filter, cond}
 use Rattle.std.specs.List.{list_any, list_all, IsDistinct}
 use Rattle.std.proofs.lemmas.Bool.{false≢true, and_parts, or_cases, or_left, or_right}
 use Rattle.std.proofs.lemmas.Bool.Decides.{nat_tests}
@@ -13,12 +13,10 @@ use Rattle.machine_meaning.specs.Vocabulary.{Pins, Faults, stuck_cross, Joined, 
 use Rattle.machine_meaning.proofs.JoinedLemmas.{Joined-sym, Joined-trans}
 use Rattle.machine_config.specs.Vocabulary.{Configuration, is_closed, OpensFarFrom, among}
 use Rattle.machine_config.proofs.Distance.{change_at_a_distance}
-use Rattle.rig.specs.Rig.{RigState}
 use Rattle.diag_tests.specs.Routes.{other_end}
 use Rattle.diag_evidence.specs.declared.hangs.WireTest.{WireTest}
-use Rattle.diag_evidence.specs.Vocabulary.{Kept, HoldsFor, Gains, Advances, Trees, HangsOn, is_laid, IsForest, KeepsForest, KnowsForest, IsLook, differ, parts, read_under, Foot, IsFoot, AreHangs, over_of, turned, overs, others, all_feet, closes, pin_at, pin_p, pin_q, feet_crosses, others_part_from, is_shown, shown, seen_on}
-use Rattle.diag_evidence.proofs.Keeping.{more_then}
-use Rattle.diag_evidence.proofs.KeptLemmas.{GainHoldsFor, more_by_gain, holds_by_gain}
+use Rattle.diag_evidence.specs.Vocabulary.{Kept, HoldsFor, Gains, Trees, HangsOn, is_laid, IsForest, KeepsForest, KnowsForest, IsLook, differ, parts, read_under, Foot, IsFoot, AreHangs, over_of, turned, overs, others, all_feet, closes, pin_at, pin_p, pin_q, feet_crosses, others_part_from, is_shown, shown, seen_on}
+use Rattle.diag_evidence.proofs.KeptLemmas.{GainHoldsFor, holds_by_gain}
 use Rattle.diag_evidence.proofs.Rows.{differ_so}
 use Rattle.diag_evidence.proofs.Seeing.{g, row_under, standing, pin_inside, part_unjoined, seen_on_holds}
 use Rattle.diag_evidence.proofs.Unfitting.{StandsAt, stands_at, all_pass, one_place, num_in, end_is}
@@ -255,16 +253,10 @@ module _ {told : Option Faults} (k : Kept) (trees : Trees) (hs : List WireTest) 
         (shut (all_feet hs)) forest (hung_turned hung) f is free no_over (closes trees (others hs)) over_look (shut (others hs)) (λ x on. or_right (is_laid trees x) (among (feet_crosses (others hs)) x) on))
 
   -- so what is kept is true
-  pub hung_advances : {old new : RigState} {mid l : Kept} → old.machine.faults ≡ told → new.machine ≡ old.machine → old.failures ≤ new.failures → old.loads ≤ new.loads →
-      Gains (seen_on trees (shown trees (map turned hs) rows no_other) no_over) k mid → Gains (seen_on trees (shown trees hs rows no_over) no_other) mid l → Advances old new k l
-  hung_advances {mid = mid} {l = l} same machine later counted one two = record {
-    machine = machine;
-    later = later;
-    counted = counted;
-    more = more_then (more_by_gain _ k mid one) (more_by_gain _ mid l two);
-    holds = λ f e holds. holds_by_gain _ mid l f two (holds_by_gain _ k mid f one holds (first_holds f (sym same ∙ e) holds))
-        (subst (λ m. GainHoldsFor m (seen_on trees (shown trees hs rows no_over) no_other) f) (sym one.shape) (second_holds f (sym same ∙ e) holds));
-  }
+  pub hung_holds : (mid l : Kept) → Gains (seen_on trees (shown trees (map turned hs) rows no_other) no_over) k mid → Gains (seen_on trees (shown trees hs rows no_over) no_other) mid l →
+      (f : Faults) → told ≡ Some f → HoldsFor k f → HoldsFor l f
+  hung_holds mid l one two f is holds = holds_by_gain _ mid l f two (holds_by_gain _ k mid f one holds (first_holds f is holds))
+      (subst (λ m. GainHoldsFor m (seen_on trees (shown trees hs rows no_over) no_other) f) (sym one.shape) (second_holds f is holds))
 
 -- crosspoints of feet are some of the machine
 pub feet_below : {trees : Trees} (feet : List Foot) → All (IsFoot trees) feet → All (λ foot. foot.1.0 < crosses_of trees.shape) feet

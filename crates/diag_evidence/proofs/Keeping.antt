@@ -1,5 +1,5 @@
 -- What stays as more is kept.
-use Rattle.std.proofs.Common.{◌≡◌, ◌<◌, ℕ, Bool, true, false, not, ◌&&◌, Some, None, refl, sym, ap, ◌∙◌, subst, arith, ◌==◌, nat_lt}
+use Rattle.std.proofs.Common.{◌≡◌, ◌<◌, ℕ, Bool, true, false, not, ◌&&◌, Some, None, refl, sym, ap, ◌∙◌, subst, arith, ◌==◌, nat_lt, unwrap_or}
 use Rattle.std.proofs.lemmas.Bool.{false≢true}
 use Rattle.std.proofs.lemmas.Bool.Decides.{nat_tests}
 use Rattle.base_bits.specs.Pairs.{has_pair, is_pair}
@@ -20,7 +20,7 @@ more_then p q = record {
 }
 
 pub advances_itself : (s : RigState) (k : Kept) → Advances s s k k
-advances_itself s k = record { machine = refl; later = omega arith; counted = omega arith; more = more_itself k; holds = λ f told h. h }
+advances_itself s k = record { machine = refl; later = omega arith; counted = omega arith; more = more_itself k; narrows = λ f e. e; holds = λ f told h. h; explained = λ f e h. h }
 
 pub advances_then : {a b c : RigState} {k l n : Kept} → Advances a b k l → Advances b c l n → Advances a c k n
 advances_then p q = record {
@@ -28,8 +28,14 @@ advances_then p q = record {
   later = omega (arith, p.later, q.later);
   counted = omega (arith, p.counted, q.counted);
   more = more_then p.more q.more;
+  narrows = λ f e. p.narrows f (q.narrows f e);
   holds = λ f told h. q.holds f (ap (λ m. m.faults) p.machine ∙ told) (p.holds f told h);
+  explained = λ f e h. q.explained f e (p.explained f (q.narrows f e) h);
 }
+
+-- of told faults, where they are these
+pub of_told : {f : Faults} (P : Faults → Type 0) → P f → (h : Faults) → Some f ≡ Some h → P h
+of_told {f} P p h same = subst P (ap (λ o. unwrap_or o f) same) p
 
 -- a kept pair is of two different wires, in either order
 pub pair_turned : (k : Kept) (a b : ℕ) → keeps_pair k a b ≡ keeps_pair k b a

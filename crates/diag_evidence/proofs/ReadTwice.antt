@@ -3,13 +3,19 @@ use Rattle.std.proofs.Common.{◌≡◌, ℕ, Bool, true, not, ◌&&◌, ◌||�
 use Rattle.base_bits.specs.Numbers.{has_number}
 use Rattle.machine_shape.specs.declared.Table.{Table}
 use Rattle.machine_meaning.specs.Faults.{Faults}
+use Rattle.machine_meaning.specs.Circuit.{Pins}
+use Rattle.machine_config.specs.Configuration.{Configuration}
 use Rattle.machine_config.specs.declared.Setting.{Setting}
 use Rattle.rig.specs.Rig.{RigState}
 use Rattle.diag_evidence.specs.declared.sheets.Sheet.{Sheet}
-use Rattle.diag_evidence.specs.Vocabulary.{Trees, KnowsForest, Kept, Gains, HoldsFor, IsReadyFor, IsReadTwice, AreOpposite, AreTablesOn, HasTabled, IsTableConfig, IsTableLoad, MarksWrong, WrongIf, is_one_of, is_right_before, output_pin, right_parts}
+use Rattle.diag_evidence.specs.Vocabulary.{HasCycled, Trees, KnowsForest, Kept, Gains, HoldsFor, IsReadyFor, IsReadTwice, AreOpposite, AreTablesOn, HasTabled, IsTableConfig, IsTableLoad, MarksWrong, WrongIf, is_one_of, is_right_before, output_pin, right_parts}
 use Rattle.diag_evidence.proofs.KeptLemmas.{GainHoldsFor}
 use Rattle.diag_evidence.proofs.Settings.{laid_again}
 use Rattle.diag_evidence.proofs.Tabled.{right_holds, marks_wrong, newly_wrong}
+
+-- the cycles of a session, under another name
+pub cycled_under : {g : Configuration} {drives others : List Pins} {rig : RigState} → drives ≡ others → HasCycled g drives rig → HasCycled g others rig
+cycled_under {g} {rig = rig} same cycled = subst (λ (ds : List Pins). HasCycled g ds rig) same cycled
 
 module _ (told : Option Faults) (trees : Trees) (ts : List Table) (old new : Sheet) (rig : RigState) (ready : IsReadyFor trees ts old) (read : IsReadTwice told ts old new rig) where
   first_load : IsTableLoad told trees ts new.setting old.drives.items new.reads.items

@@ -1,15 +1,20 @@
 -- What a test of hangs leaves.
-use Rattle.std.proofs.Common.{◌≡◌, ◌≤◌, ◌+◌, ℕ, Bool, true, false, Some, Option, List, All, refl, sym, ◌∙◌, map}
+use Rattle.std.proofs.Common.{◌≡◌, ◌≤◌, ◌+◌, ℕ, Bool, true, false, Some, Option, List, All, refl, sym, subst, ◌∙◌, map}
 use Rattle.std.proofs.lemmas.List.Elements.{All-map}
 use Rattle.machine_meaning.specs.Faults.{Faults}
-use Rattle.rig.specs.Rig.{RigState}
+use Rattle.machine_meaning.specs.Circuit.{Pins}
+use Rattle.rig.specs.Rig.{RigState, Explains, Narrows}
 use Rattle.diag_evidence.specs.declared.hangs.WireTest.{WireTest}
 use Rattle.diag_evidence.specs.declared.hangs.Views.{Views}
-use Rattle.diag_evidence.specs.Vocabulary.{Kept, IsMore, Gains, Advances, Trees, IsForest, KnowsForest, IsFoot, AreHangs, AreAllOf, MarksUnfit, MarksUnclear, UnfitIf, UnclearIf, StayMarked, HasTried, silent, answered, over_of, turned, overs, others, shown, seen_on, HasViewed, HasLearnt}
+use Rattle.diag_evidence.specs.Vocabulary.{Kept, HoldsFor, IsMore, Gains, Advances, Trees, IsForest, KnowsForest, Foot, IsFoot, IsLook, closes, AreHangs, AreAllOf, MarksUnfit, MarksUnclear, UnfitIf, UnclearIf, StayMarked, HasTried, silent, answered, over_of, turned, overs, others, shown, seen_on, HasViewed, HasLearnt}
 use Rattle.diag_evidence.proofs.Keeping.{more_then}
 use Rattle.diag_evidence.proofs.KeptLemmas.{more_by_gain}
-use Rattle.diag_evidence.proofs.Hanging.{AreHung, hung_turned, overs_feet, overs_once, hung_advances}
+use Rattle.diag_evidence.proofs.Hanging.{AreHung, hung_turned, overs_feet, overs_once, hung_holds}
 use Rattle.diag_evidence.proofs.Marked.{still_unfit, still_unclear, unfit_new, unclear_new, unfit_then, unclear_then, unfit_all, unclear_all, unfit_later, unclear_later}
+
+-- a look over these feet, under another name
+pub look_over : {told : Option Faults} (trees : Trees) {feet those : List Foot} {rows : List Pins} → feet ≡ those → IsLook told trees.shape (closes trees feet) rows → IsLook told trees.shape (closes trees those) rows
+look_over {told} trees {rows = rows} same look = subst (λ (fs : List Foot). IsLook told trees.shape (closes trees fs) rows) same look
 
 pub are_hung : {trees : Trees} {hs : List WireTest} → AreHangs trees hs → AreHung trees hs
 are_hung h = record { over = h.over; other = h.other; wires = h.wires }
@@ -63,6 +68,18 @@ module _ (told : Option Faults) (trees : Trees) (hs : List WireTest) (views : Vi
       pub unclear_hung : UnclearIf told k were → UnclearIf told l are
       unclear_hung before = unclear_later told k l are more (unclear_all told k were are newly_unclear before)
 
-      pub tried_advances : {old new : RigState} → old.machine.faults ≡ told → new.machine ≡ old.machine → old.failures ≤ new.failures → old.loads ≤ new.loads → Advances old new k l
-      tried_advances same machine later counted = hung_advances k trees hs views.all.rows views.without_over.rows views.without_other.rows forest knows.keeps hung viewed.all (viewed.without_over is_yes) (viewed.without_other is_yes)
-          same machine later counted learnt.first learnt.second
+      pub tried_holds : (f : Faults) → told ≡ Some f → HoldsFor k f → HoldsFor l f
+      tried_holds = hung_holds k trees hs views.all.rows views.without_over.rows views.without_other.rows forest knows.keeps hung viewed.all (viewed.without_over is_yes) (viewed.without_other is_yes)
+          learnt.mid l learnt.first learnt.second
+
+      pub tried_advances : {old new : RigState} → old.machine.faults ≡ told → new.machine ≡ old.machine → old.failures ≤ new.failures → old.loads ≤ new.loads → Narrows old new
+          → ((f : Faults) → Explains f new → HoldsFor k f → HoldsFor l f) → Advances old new k l
+      tried_advances same machine later counted narrows explained = record {
+        machine = machine;
+        later = later;
+        counted = counted;
+        more = more;
+        narrows = narrows;
+        holds = λ f e holds. tried_holds f (sym same ∙ e) holds;
+        explained = explained;
+      }

@@ -5,6 +5,7 @@ unfoldable pub use Rattle.diag_evidence.specs.Kept.{keeps_cell, keeps_cross, kee
 pub use Rattle.diag_evidence.specs.Readings.{AllApartPasses, ApartPasses, CellPasses, CrossPasses, HasCycled, IsReady, Reads, ReadsOnce}
 pub use Rattle.diag_evidence.specs.Readings.{ReadsPins, ReadsTwice, RegisterPasses, SwingPasses, TellsApart, TellsFromAll, TellsPins}
 pub use Rattle.diag_evidence.specs.Readings.{TellsSwing, wires_over}
+pub use Rattle.diag_evidence.specs.Logged.{HasLogged, ShowsApart, ShowsFromAll, ShowsPins, ShowsSwing, one_cycle, two_cycles}
 pub use Rattle.diag_evidence.specs.Loops.{AreTied, IsLoopBy, LoopPasses, RoutePasses, RoutesPass}
 pub use Rattle.diag_evidence.specs.Tables.{CellPassesBy, IsCellBy, IsTableBy, IsTied, RegisterPassesBy}
 pub use Rattle.diag_evidence.specs.Leads.{HasLed, IsLead, IsPathTest, MarksStuck, StuckIf, arrives, crosses_of_leads, held_up_at}

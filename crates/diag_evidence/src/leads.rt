@@ -4,7 +4,7 @@ ghost use Rattle.base_bits.specs.Numbers.{has_number};
 ghost use Rattle.base_io.specs.Counts.{Rose};
 ghost use Rattle.machine_shape.specs.Shape.{pins_of, crosses_of};
 ghost use Rattle.machine_config.specs.Groups.{among};
-ghost use Rattle.rig.specs.Rig.{shape_of};
+ghost use Rattle.rig.specs.Rig.{ForEach, shape_of};
 ghost use Rattle.diag_tests.specs.Routes.{IsRoute};
 ghost use Rattle.diag_evidence.specs.Kept.{Gains, Advances};
 ghost use Rattle.diag_evidence.specs.Leads.{IsLead, IsPathTest, HasLed, MarksStuck, StuckIf};
@@ -114,9 +114,13 @@ impl Facts {
 
         ensures led { OnOk result (HasLed (rig_state rig.old).machine.faults config.now.config drive.now leads.now self.old self.new
             stuck.old stuck.new) }
+        ensures led_each { OnOk result (ForEach (rig_state rig.new) (λ told. HasLed told config.now.config drive.now leads.now self.old
+            self.new stuck.old stuck.new)) }
         ensures newly { OnOk result (MarksStuck (rig_state rig.old).machine.faults self.old stuck.old stuck.new) }
+        ensures newly_each { OnOk result (ForEach (rig_state rig.new) (λ told. MarksStuck told self.old stuck.old stuck.new)) }
         ensures stuck { StuckIf (rig_state rig.old).machine.faults self.old stuck.old → StuckIf (rig_state rig.old).machine.faults
             self.new stuck.new }
+        ensures stuck_each { ForEach (rig_state rig.new) (λ told. StuckIf told self.old stuck.old → StuckIf told self.new stuck.new) }
         ensures marks { length stuck.new ≡ length stuck.old }
         ensures refused { OnErr result (self.new ≡ self.old) }
         ensures unmarked { OnErr result (stuck.new ≡ stuck.old) }

@@ -12,6 +12,10 @@
 //! (`cause`), and after `Memory` no session stands whose readings aren't all made (`wanting`). Each test is bound to answer true
 //! where its wires are as they should be (`passes`; by lists: `laws`). No other crate can add a fact.
 //!
+//! What a clause says of told faults, the clause beside it whose name ends in `_each` says of each set of faults that explains the
+//! log after the call; no rig has to tell any. The six tests say besides which sessions they add to the log, and that their answers
+//! are by the readings of these (`logged`). What explains the log after a test explained it before (`narrows` of `advances`).
+//!
 //! `test_paths` reads once while walks from pins to pins are closed, many of them: the crosspoints of those that lead are kept, and of
 //! one that doesn't the only crosspoint that isn't kept is marked (`led`). Where the faults are told, marks stay true (`stuck`).
 //! What it misses the six tests decide, so nothing says that it passes.

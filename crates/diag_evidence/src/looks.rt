@@ -1,6 +1,6 @@
 //! Looks: what all pins read while nothing is driven, and while each pin is driven alone.
 ghost use Rattle.std.specs.Prelude.{◌≡◌, ◌<◌, ◌+◌, ◌^◌, true, Some, None, All, length, IfOk, OnOk, IsErrOf, IsTrue};
-ghost use Rattle.rig.specs.Rig.{shape_of};
+ghost use Rattle.rig.specs.Rig.{ForEach, shape_of};
 ghost use Rattle.diag_evidence.specs.Readings.{HasCycled, LoadsUpTo};
 ghost use Rattle.machine_shape.specs.Shape.{pins_of};
 ghost use Rattle.diag_evidence.specs.Looks.{AreSights, ReadsEach, look_drives, reads_somewhere, swings, parts, read_free, read_under};
@@ -178,6 +178,8 @@ impl Looks {
         ensures session { OnOk result (HasCycled config.now.config (look_drives self.old.pins) (rig_state rig.new)) }
         ensures run { OnOk result (ReadsEach (rig_state rig.old).machine.faults config.now.config (look_drives self.old.pins)
             self.new.rows) }
+        ensures run_each { OnOk result (ForEach (rig_state rig.new) (λ told. ReadsEach told config.now.config (look_drives self.old.pins)
+            self.new.rows)) }
     {
         read_rows(rig, config, drives, &mut self.rows, self.pins + 1)
     }

@@ -2,7 +2,8 @@
 ghost use Rattle.std.specs.Prelude.{◌≡◌, ◌≢◌, ◌<◌, true, false, Some, None, [], ◌∷◌, All, length, slice_index_or, IfOk};
 ghost use Rattle.std.specs.Prelude.{OnOk, OnErr, IsTrue, IsErrOf};
 ghost use Rattle.machine_shape.specs.Shape.{pins_of};
-ghost use Rattle.rig.specs.Rig.{shape_of, Begins, KeepLengths};
+ghost use Rattle.rig.specs.Rig.{ForEach, shape_of, log_of, Begins, KeepLengths};
+ghost use Rattle.diag_evidence.specs.Logged.{HasLogged, LogsBit, LogsBits, LogsTwice, one_cycle};
 ghost use Rattle.diag_evidence.specs.Looks.{ReadsEach};
 ghost use Rattle.diag_evidence.specs.Readings.{HasCycled, LoadsUpTo, Reads, ReadsOnce, ReadsPins, ReadsTwice, WantsBefore};
 
@@ -17,6 +18,7 @@ pub(crate) fn begin(rig: &mut Box<dyn Rig>, config: &Config, room: u32) -> Resul
     requires { shape_of (rig_state rig.old) ≡ Some config.now.config.shape }
     ensures loads { LoadsUpTo 1 result (rig_state rig.old) (rig_state rig.new) }
     ensures begins { OnOk result (Begins config.now.config room (rig_state rig.new)) }
+    ensures logged { (rig_state rig.new).past ≡ log_of (rig_state rig.old) }
     ensures ended { OnErr result ((rig_state rig.new).session ≡ None) }
 {
     let _loads = rig.loads();
@@ -37,6 +39,8 @@ fn read_once(
     ensures wanting { IsErrOf result RigFail.Memory → (rig_state rig.new).session ≡ None }
     ensures session { OnOk result (HasCycled config.now.config (drive.now ∷ []) (rig_state rig.new)) }
     ensures run { OnOk result (ReadsOnce (rig_state rig.old).machine.faults config.now.config drive.now read.new) }
+    ensures run_each { OnOk result (ForEach (rig_state rig.new) (λ told. ReadsOnce told config.now.config drive.now read.new)) }
+    ensures logged { OnOk result (HasLogged (one_cycle config.now.config drive.now read.new ∷ []) (rig_state rig.old) (rig_state rig.new)) }
     ensures length { length read.new ≡ length read.old }
 {
     begin(rig, config, 1)?;
@@ -61,6 +65,7 @@ pub(crate) fn read_rows(
     ensures lengths { KeepLengths rows.old rows.new }
     ensures session { OnOk result (HasCycled config.now.config drives.now (rig_state rig.new)) }
     ensures run { OnOk result (ReadsEach (rig_state rig.old).machine.faults config.now.config drives.now rows.new) }
+    ensures run_each { OnOk result (ForEach (rig_state rig.new) (λ told. ReadsEach told config.now.config drives.now rows.new)) }
 {
     begin(rig, config, room)?;
     cycles(rig, drives, rows)
@@ -82,6 +87,9 @@ pub(crate) fn read_all(
     ensures session { OnOk result (HasCycled config.now.config (drive.now ∷ []) (rig_state rig.new)) }
     ensures length { IfOk result (λ read. length read ≡ pins_of config.now.config.shape) }
     ensures reads { IfOk result (λ read. ReadsOnce (rig_state rig.old).machine.faults config.now.config drive.now read) }
+    ensures reads_each { IfOk result (λ read. ForEach (rig_state rig.new) (λ told. ReadsOnce told config.now.config drive.now read)) }
+    ensures logged { IfOk result (λ read. HasLogged (one_cycle config.now.config drive.now read ∷ [])
+        (rig_state rig.old) (rig_state rig.new)) }
 {
     let Ok(mut read) = pins.take() else {
         return Err(RigFail::Memory);
@@ -122,6 +130,8 @@ pub(crate) fn read_pin(
     ensures wanting { IsErrOf result RigFail.Memory → (rig_state rig.new).session ≡ None }
     ensures session { OnOk result (HasCycled config.now.config (drive.now ∷ []) (rig_state rig.new)) }
     ensures reads { IfOk result (λ bit. Reads (rig_state rig.old).machine.faults config.now.config drive.now at bit) }
+    ensures reads_each { IfOk result (λ bit. ForEach (rig_state rig.new) (λ told. Reads told config.now.config drive.now at bit)) }
+    ensures logged { IfOk result (LogsBit config.now.config drive.now at (rig_state rig.old) (rig_state rig.new)) }
     ensures length { length read.new ≡ length read.old }
 {
     read_once(rig, config, drive, read)?;
@@ -148,6 +158,10 @@ pub(crate) fn read_pins(
     ensures session { OnOk result (HasCycled config.now.config (drive.now ∷ []) (rig_state rig.new)) }
     ensures reads { IfOk result (λ bits. ReadsPins
         (rig_state rig.old).machine.faults config.now.config drive.now first second bits.0 bits.1) }
+    ensures reads_each { IfOk result (λ bits. ForEach (rig_state rig.new) (λ told. ReadsPins told config.now.config drive.now first second
+        bits.0 bits.1)) }
+    ensures logged { IfOk result (λ bits. LogsBits config.now.config drive.now first second
+        (rig_state rig.old) (rig_state rig.new) bits.0 bits.1) }
 {
     let Ok(mut read) = pins.take() else {
         return Err(RigFail::Memory);
@@ -178,6 +192,10 @@ pub(crate) fn read_twice(
     ensures session { OnOk result (HasCycled config.now.config (low.now ∷ high.now ∷ []) (rig_state rig.new)) }
     ensures reads { IfOk result (λ bits. ReadsTwice
         (rig_state rig.old).machine.faults config.now.config low.now high.now at bits.0 bits.1) }
+    ensures reads_each { IfOk result (λ bits. ForEach (rig_state rig.new) (λ told. ReadsTwice told config.now.config low.now high.now at
+        bits.0 bits.1)) }
+    ensures logged { IfOk result (λ bits. LogsTwice config.now.config low.now high.now at
+        (rig_state rig.old) (rig_state rig.new) bits.0 bits.1) }
 {
     let Ok(mut read) = pins.take() else {
         return Err(RigFail::Memory);

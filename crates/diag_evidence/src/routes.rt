@@ -3,8 +3,9 @@ ghost use Rattle.std.specs.Prelude.{◌≡◌, ◌≤◌, ◌<◌, ◌+◌, ℕ,
 ghost use Rattle.base_io.specs.Counts.{Rose};
 ghost use Rattle.machine_shape.specs.Shape.{pins_of};
 ghost use Rattle.machine_config.specs.Groups.{among};
-ghost use Rattle.rig.specs.Rig.{shape_of};
+ghost use Rattle.rig.specs.Rig.{ForEach, shape_of};
 ghost use Rattle.diag_evidence.specs.Kept.{Gains, Advances, these_wires, these_pairs};
+ghost use Rattle.diag_evidence.specs.Logged.{ShowsFromAll, ShowsPins, ShowsSwing};
 ghost use Rattle.diag_evidence.specs.Readings.{HasCycled, IsReady, TellsSwing, TellsPins, TellsFromAll, SwingPasses, ApartPasses};
 ghost use Rattle.diag_evidence.specs.Readings.{AllApartPasses, WantsBefore, wires_over};
 
@@ -36,7 +37,11 @@ impl Facts {
         requires ready { IsReady self.old config.now.config route.now }
 
         ensures exact { IfOk result (TellsSwing (rig_state rig.old).machine.faults config.now.config low.now high.now route.now.pin) }
+        ensures logged { IfOk result (ShowsSwing config.now.config low.now high.now route.now.pin
+            (rig_state rig.old) (rig_state rig.new)) }
         ensures passes { IfOk result (SwingPasses (rig_state rig.old).machine.faults config.now.config low.now high.now route.now.pin) }
+        ensures passes_each { IfOk result (λ yes. ForEach (rig_state rig.new) (λ told. SwingPasses told config.now.config low.now high.now
+            route.now.pin yes)) }
         ensures gains { IfOk result (λ yes. IsTrue yes → Gains (these_wires route.now.wires) self.old self.new) }
         ensures same { IfOk result (λ yes. yes ≡ false → self.new ≡ self.old) }
         ensures refused { OnErr result (self.new ≡ self.old) }
@@ -76,8 +81,12 @@ impl Facts {
         requires disjoint { (w : ℕ) → among left.now.wires w ≡ true → among right.now.wires w ≡ false }
 
         ensures exact { IfOk result (TellsPins (rig_state rig.old).machine.faults config.now.config drive.now left.now.pin right.now.pin) }
+        ensures logged { IfOk result (ShowsPins config.now.config drive.now left.now.pin right.now.pin
+            (rig_state rig.old) (rig_state rig.new)) }
         ensures passes { IfOk result
             (ApartPasses (rig_state rig.old).machine.faults config.now.config drive.now left.now.pin right.now.pin) }
+        ensures passes_each { IfOk result (λ yes. ForEach (rig_state rig.new) (λ told. ApartPasses told config.now.config drive.now
+            left.now.pin right.now.pin yes)) }
         ensures gains { IfOk result (λ yes. IsTrue yes → Gains (these_pairs left.now.wires right.now.wires) self.old self.new) }
         ensures same { IfOk result (λ yes. yes ≡ false → self.new ≡ self.old) }
         ensures refused { OnErr result (self.new ≡ self.old) }
@@ -116,7 +125,11 @@ impl Facts {
         requires disjoint { (w : ℕ) → among left.now.wires w ≡ true → among (wires_over rights.now) w ≡ false }
 
         ensures exact { IfOk result (TellsFromAll (rig_state rig.old).machine.faults config.now.config drive.now left.now rights.now) }
+        ensures logged { IfOk result (ShowsFromAll config.now.config drive.now left.now rights.now
+            (rig_state rig.old) (rig_state rig.new)) }
         ensures passes { IfOk result (AllApartPasses (rig_state rig.old).machine.faults config.now.config drive.now left.now rights.now) }
+        ensures passes_each { IfOk result (λ yes. ForEach (rig_state rig.new) (λ told. AllApartPasses told config.now.config drive.now
+            left.now rights.now yes)) }
         ensures gains { IfOk result (λ yes. IsTrue yes → Gains (these_pairs left.now.wires (wires_over rights.now)) self.old self.new) }
         ensures same { IfOk result (λ yes. yes ≡ false → self.new ≡ self.old) }
         ensures refused { OnErr result (self.new ≡ self.old) }

@@ -2,7 +2,7 @@
 ghost use Rattle.std.specs.Prelude.{◌≡◌, ◌==◌, ◌<◌, Some, None, OnOk, IfOk, IsErrOf, All, length, slice_get};
 ghost use Rattle.std.specs.Int.{bit_at};
 ghost use Rattle.machine_shape.specs.Shape.{pins_of, tables_of};
-ghost use Rattle.rig.specs.Rig.{shape_of};
+ghost use Rattle.rig.specs.Rig.{ForEach, shape_of};
 ghost use Rattle.diag_evidence.specs.Looks.{ReadsEach};
 ghost use Rattle.diag_evidence.specs.Readings.{HasCycled, LoadsUpTo};
 ghost use Rattle.diag_evidence.specs.Sheets.{AreTableDrives, HasAddress, HasInputs, HaveWidth, IsReadTwice, IsReadyFor, IsSheet, SwitchesOn};
@@ -198,6 +198,7 @@ fn read_load(
     ensures as_many { length reads.new ≡ 65 }
     ensures session { OnOk result (HasCycled config.now.config drives.now (rig_state rig.new)) }
     ensures run { OnOk result (ReadsEach (rig_state rig.old).machine.faults config.now.config drives.now reads.new) }
+    ensures run_each { OnOk result (ForEach (rig_state rig.new) (λ told. ReadsEach told config.now.config drives.now reads.new)) }
 {
     read_rows(rig, config, drives, reads, CYCLES)
 }
@@ -214,6 +215,8 @@ pub(crate) fn read_tables(
     ensures loads { LoadsUpTo 2 result (rig_state rig.old) (rig_state rig.new) }
     ensures wanting { IsErrOf result RigFail.Memory → (rig_state rig.new).session ≡ None }
     ensures read { OnOk result (IsReadTwice (rig_state rig.old).machine.faults tables.now sheet.old sheet.new (rig_state rig.new)) }
+    ensures read_each { OnOk result (ForEach (rig_state rig.new) (λ told. IsReadTwice told tables.now sheet.old sheet.new (rig_state
+        rig.new))) }
 {
     read_load(rig, &sheet.config, &sheet.drives, &mut sheet.reads)?;
     switch_all(&mut sheet.config, tables, opposite_of(sheet.setting));

@@ -2,7 +2,7 @@
 ghost use Rattle.std.specs.Prelude.{◌≡◌, ◌≤◌, ◌<◌, ◌+◌, Some, All, OnOk, OnErr, IsErrOf};
 ghost use Rattle.base_io.specs.Counts.{Rose};
 ghost use Rattle.machine_shape.specs.Shape.{pins_of, crosses_of};
-ghost use Rattle.rig.specs.Rig.{shape_of};
+ghost use Rattle.rig.specs.Rig.{ForEach, shape_of};
 ghost use Rattle.diag_tests.specs.Configs.{Closes};
 ghost use Rattle.diag_evidence.specs.Kept.{Advances};
 ghost use Rattle.diag_evidence.specs.Forests.{KeepsForest};
@@ -65,6 +65,8 @@ impl Facts {
         ensures wanting { IsErrOf result RigFail.Memory → WantsBefore (rig_state rig.old) (rig_state rig.new) }
         ensures looked { OnOk result (IsLook (rig_state rig.old).machine.faults forest.now.shape (closes forest.now feet.now)
             reads.new.rows) }
+        ensures looked_each { OnOk result (ForEach (rig_state rig.new) (λ told. IsLook told forest.now.shape (closes forest.now feet.now)
+            reads.new.rows)) }
         ensures session { OnOk result (HasLooked self.old.shape (rig_state rig.new)) }
     {
         let mut config = self.config()?;
@@ -85,6 +87,7 @@ impl Facts {
         requires forest { KeepsForest self.old forest.now }
 
         ensures seen { OnOk result (HasSeen (rig_state rig.old).machine.faults forest.now self.old self.new) }
+        ensures seen_each { OnOk result (ForEach (rig_state rig.new) (λ told. HasSeen told forest.now self.old self.new)) }
         ensures refused { OnErr result (self.new ≡ self.old) }
         ensures advances { Advances (rig_state rig.old) (rig_state rig.new) self.old self.new }
         ensures loads { (rig_state rig.new).loads ≤ (rig_state rig.old).loads + 1 }

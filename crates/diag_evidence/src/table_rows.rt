@@ -3,7 +3,7 @@ ghost use Rattle.std.specs.Prelude.{◌≡◌, ◌≤◌, ◌<◌, ◌+◌, ◌&
 ghost use Rattle.base_bits.specs.Numbers.{has_number};
 ghost use Rattle.base_io.specs.Counts.{Rose};
 ghost use Rattle.machine_shape.specs.Shape.{pins_of, table_wire, tables_of};
-ghost use Rattle.rig.specs.Rig.{shape_of};
+ghost use Rattle.rig.specs.Rig.{ForEach, shape_of};
 ghost use Rattle.diag_evidence.specs.Forests.{HangsOn, KnowsForest};
 ghost use Rattle.diag_evidence.specs.Kept.{Advances, Gains};
 ghost use Rattle.diag_evidence.specs.Readings.{WantsBefore};
@@ -146,9 +146,13 @@ impl Facts {
 
         ensures tabled { OnOk result (HasTabled (rig_state rig.old).machine.faults forest.now tables.now (rig_state rig.new) self.old
             self.new wrong.old wrong.new) }
+        ensures tabled_each { OnOk result (ForEach (rig_state rig.new) (λ told. HasTabled told forest.now tables.now (rig_state rig.new)
+            self.old self.new wrong.old wrong.new)) }
         ensures newly { OnOk result (MarksWrong (rig_state rig.old).machine.faults self.old wrong.old wrong.new) }
+        ensures newly_each { OnOk result (ForEach (rig_state rig.new) (λ told. MarksWrong told self.old wrong.old wrong.new)) }
         ensures wrong { WrongIf (rig_state rig.old).machine.faults self.old wrong.old → WrongIf (rig_state rig.old).machine.faults self.new
             wrong.new }
+        ensures wrong_each { ForEach (rig_state rig.new) (λ told. WrongIf told self.old wrong.old → WrongIf told self.new wrong.new) }
         ensures marks { length wrong.new ≡ length wrong.old }
         ensures refused { OnErr result (self.new ≡ self.old) }
         ensures unmarked { OnErr result (wrong.new ≡ wrong.old) }

@@ -2,7 +2,7 @@
 ghost use Rattle.std.specs.Prelude.{◌≡◌, ◌≤◌, ◌<◌, ◌+◌, ℕ, Bool, true, Some, length, OnOk, OnErr, IsErrOf};
 ghost use Rattle.base_io.specs.Counts.{Rose};
 ghost use Rattle.machine_shape.specs.Shape.{wires_of, pins_of};
-ghost use Rattle.rig.specs.Rig.{shape_of};
+ghost use Rattle.rig.specs.Rig.{ForEach, shape_of};
 ghost use Rattle.diag_evidence.specs.Kept.{Advances};
 ghost use Rattle.diag_evidence.specs.Forests.{KnowsForest};
 ghost use Rattle.diag_evidence.specs.Hangs.{AreFeet, AreAllOf, HasTold, MarksUnfit, MarksUnclear, UnfitIf, UnclearIf, StayMarked};
@@ -43,13 +43,21 @@ impl Facts {
 
         ensures told { OnOk result (HasTold (rig_state rig.old).machine.faults forest.now hangs.now reads.new.rows
             unfit.old unfit.new unclear.old unclear.new) }
+        ensures told_each { OnOk result (ForEach (rig_state rig.new) (λ told. HasTold told forest.now hangs.now reads.new.rows unfit.old
+            unfit.new unclear.old unclear.new)) }
         ensures newly { OnOk result (MarksUnfit (rig_state rig.old).machine.faults self.old forest.now unfit.old unfit.new) }
+        ensures newly_each { OnOk result (ForEach (rig_state rig.new) (λ told. MarksUnfit told self.old forest.now unfit.old unfit.new)) }
         ensures newly_too { OnOk result (MarksUnclear (rig_state rig.old).machine.faults self.old unclear.old unclear.new) }
+        ensures newly_too_each { OnOk result (ForEach (rig_state rig.new) (λ told. MarksUnclear told self.old unclear.old unclear.new)) }
         ensures unfit { (known : ℕ → Bool) → AreAllOf forest.now known →
             UnfitIf (rig_state rig.old).machine.faults self.old known unfit.old →
             UnfitIf (rig_state rig.old).machine.faults self.new known unfit.new }
+        ensures unfit_each { ForEach (rig_state rig.new) (λ told. (known : ℕ → Bool) → AreAllOf forest.now known → UnfitIf told self.old
+            known unfit.old → UnfitIf told self.new known unfit.new) }
         ensures unclear { UnclearIf (rig_state rig.old).machine.faults self.old unclear.old →
             UnclearIf (rig_state rig.old).machine.faults self.new unclear.new }
+        ensures unclear_each { ForEach (rig_state rig.new) (λ told. UnclearIf told self.old unclear.old → UnclearIf told self.new
+            unclear.new) }
         ensures same { self.new ≡ self.old }
         ensures stay { StayMarked unfit.old unfit.new }
         ensures stay_too { StayMarked unclear.old unclear.new }

@@ -4,9 +4,11 @@ ghost use Rattle.std.specs.Prelude.{OnErr, IsErrOf};
 ghost use Rattle.base_io.specs.Counts.{Rose};
 ghost use Rattle.machine_shape.specs.Shape.{pins_of, crosses_of, tables_of};
 ghost use Rattle.machine_config.specs.Configuration.{is_closed, setting_of, with_open, with_setting, with_cell, with_init};
-ghost use Rattle.rig.specs.Rig.{shape_of};
+ghost use Rattle.rig.specs.Rig.{ForEach, shape_of};
 ghost use Rattle.diag_evidence.specs.Kept.{Gains, Advances, one_cross, one_cell, one_register};
-ghost use Rattle.diag_evidence.specs.Readings.{CellPasses, CrossPasses, HasCycled, LoadsUpTo, Reads, RegisterPasses, TellsApart, WantsBefore};
+ghost use Rattle.diag_evidence.specs.Logged.{LogsBit, ShowsApart};
+ghost use Rattle.diag_evidence.specs.Readings.{CellPasses, CrossPasses, HasCycled, LoadsUpTo, Reads, RegisterPasses, TellsApart};
+ghost use Rattle.diag_evidence.specs.Readings.{WantsBefore};
 
 use crate::Facts;
 use crate::readings::read_pin;
@@ -33,6 +35,9 @@ fn read_without(
     ensures wanting { IsErrOf result RigFail.Memory → (rig_state rig.new).session ≡ None }
     ensures session { OnOk result (HasCycled (with_open config.old.config c.0) (drive.now ∷ []) (rig_state rig.new)) }
     ensures reads { IfOk result (λ bit. Reads (rig_state rig.old).machine.faults (with_open config.old.config c.0) drive.now at bit) }
+    ensures reads_each { IfOk result (λ bit. ForEach (rig_state rig.new) (λ told. Reads told (with_open config.old.config c.0) drive.now
+        at bit)) }
+    ensures logged { IfOk result (LogsBit (with_open config.old.config c.0) drive.now at (rig_state rig.old) (rig_state rig.new)) }
     ensures config { config.new.config ≡ config.old.config }
     ensures length { length read.new ≡ length read.old }
 {
@@ -85,6 +90,10 @@ fn read_with(
         (rig_state rig.new)) }
     ensures reads { IfOk result (λ bit. Reads (rig_state rig.old).machine.faults
         (with_setting config.old.config switch.table.0 (Some switch.setting)) drive.now at bit) }
+    ensures reads_each { IfOk result (λ bit. ForEach (rig_state rig.new) (λ told. Reads told (with_setting config.old.config
+        switch.table.0 (Some switch.setting)) drive.now at bit)) }
+    ensures logged { IfOk result (LogsBit (with_setting config.old.config switch.table.0 (Some switch.setting)) drive.now at
+        (rig_state rig.old) (rig_state rig.new)) }
     ensures config { config.new.config ≡ config.old.config }
     ensures length { length read.new ≡ length read.old }
 {
@@ -121,7 +130,11 @@ impl Facts {
 
         ensures exact { IfOk result (TellsApart (rig_state rig.old).machine.faults config.old.config
             (with_open config.old.config c.0) drive.now at) }
+        ensures logged { IfOk result (ShowsApart config.old.config (with_open config.old.config c.0) drive.now at
+            (rig_state rig.old) (rig_state rig.new)) }
         ensures passes { IfOk result (CrossPasses (rig_state rig.old).machine.faults config.old.config c.0 drive.now at) }
+        ensures passes_each { IfOk result (λ yes. ForEach (rig_state rig.new) (λ told. CrossPasses told config.old.config c.0 drive.now at
+            yes)) }
         ensures gains { IfOk result (λ yes. IsTrue yes → Gains (one_cross c.0) self.old self.new) }
         ensures same { IfOk result (λ yes. yes ≡ false → self.new ≡ self.old) }
         ensures refused { OnErr result (self.new ≡ self.old) }
@@ -171,7 +184,13 @@ impl Facts {
         ensures exact { IfOk result (λ yes. IfSome (setting_of config.old.config t.0) (λ s.
             TellsApart (rig_state rig.old).machine.faults (with_setting config.old.config t.0 (Some (with_cell s address false)))
             (with_setting config.old.config t.0 (Some (with_cell s address true))) drive.now at yes)) }
+        ensures logged { IfOk result (λ yes. IfSome (setting_of config.old.config t.0) (λ s.
+            ShowsApart (with_setting config.old.config t.0 (Some (with_cell s address false)))
+            (with_setting config.old.config t.0 (Some (with_cell s address true))) drive.now at
+            (rig_state rig.old) (rig_state rig.new) yes)) }
         ensures passes { IfOk result (CellPasses (rig_state rig.old).machine.faults config.old.config t.0 address drive.now at) }
+        ensures passes_each { IfOk result (λ yes. ForEach (rig_state rig.new) (λ told. CellPasses told config.old.config t.0 address
+            drive.now at yes)) }
         ensures gains { IfOk result (λ yes. IsTrue yes → Gains (one_cell t.0 address) self.old self.new) }
         ensures same { IfOk result (λ yes. yes ≡ false → self.new ≡ self.old) }
         ensures refused { OnErr result (self.new ≡ self.old) }
@@ -233,7 +252,12 @@ impl Facts {
         ensures exact { IfOk result (λ yes. IfSome (setting_of config.old.config t.0) (λ s.
             TellsApart (rig_state rig.old).machine.faults (with_setting config.old.config t.0 (Some (with_init s false)))
             (with_setting config.old.config t.0 (Some (with_init s true))) drive.now at yes)) }
+        ensures logged { IfOk result (λ yes. IfSome (setting_of config.old.config t.0) (λ s.
+            ShowsApart (with_setting config.old.config t.0 (Some (with_init s false)))
+            (with_setting config.old.config t.0 (Some (with_init s true))) drive.now at (rig_state rig.old) (rig_state rig.new) yes)) }
         ensures passes { IfOk result (RegisterPasses (rig_state rig.old).machine.faults config.old.config t.0 drive.now at) }
+        ensures passes_each { IfOk result (λ yes. ForEach (rig_state rig.new) (λ told. RegisterPasses told config.old.config t.0 drive.now
+            at yes)) }
         ensures gains { IfOk result (λ yes. IsTrue yes → Gains (one_register t.0) self.old self.new) }
         ensures same { IfOk result (λ yes. yes ≡ false → self.new ≡ self.old) }
         ensures refused { OnErr result (self.new ≡ self.old) }

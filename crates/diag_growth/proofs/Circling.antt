@@ -105,6 +105,16 @@ growing_first {first = first} outside are grows tried grown marks spends = recor
   spends = spends;
 }
 
+-- .. by what says so of right marks, since the first are
+pub growing_start : {told : Option Faults} {j k : Kept} {a : Field} {near : List Near} {old known : KnownWires} {first now : Marks} {before after : ℕ} → IsFieldOf j.shape a → AreOutside a.wires first.barred → AreFirst a first → Grows k old known first.barred now.barred →
+    (AreAllMarks told j near old.steps first → AreTried told k known.steps first.barred now.barred) →
+    (AreAllMarks told j near old.steps first → IsGrown told j near old.steps first.barred 0 → IsGrown told k near known.steps now.barred (length known.steps)) →
+    (AreAllMarks told j near old.steps first → AreAllMarks told k near known.steps now) → (AreAllMarks told j near old.steps first → Spends told j (IsLinking near) first now before after) → IsGrowing told j k a near old known now before after 0
+growing_start {told = told} {j = j} {near = near} {old = old} {first = first} field outside are grows tried grown marks spends = growing_first outside are grows (tried right) (grown right) (marks right) (spends right)
+  where
+    right : AreAllMarks told j near old.steps first
+    right = first_marks field are
+
 pub growing_next : {told : Option Faults} {j k l : Kept} {a : Field} {near : List Near} {old known new : KnownWires} {now next : Marks} {before mid after n : ℕ} → IsMore j k → ((f : Faults) → told ≡ Some f → HoldsFor j f → HoldsFor k f) → IsMore k l →
     IsGrowing told j k a near old known now before mid n → Grows l known new now.barred next.barred → AreTried told l new.steps now.barred next.barred → IsGrown told l near new.steps next.barred (length new.steps) →
     HasWire new.steps (pin_wire k.shape n) ⊎ (has_number next.barred (pin_wire k.shape n) ≡ true) → AreAllMarks told l near new.steps next → Spends told k (IsLinking near) now next mid after →

@@ -21,3 +21,4 @@ mod Learning
 mod SoFar
 -- What is cited above.
 pub mod Decided
+pub mod Explained

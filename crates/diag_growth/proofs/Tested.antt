@@ -7,7 +7,7 @@ use Rattle.machine_shape.specs.Shape.{crosses_of, table_wire, tables_of}
 use Rattle.machine_meaning.specs.Faults.{Faults, wrong_cell}
 use Rattle.machine_config.specs.Groups.{among}
 use Rattle.diag_tests.specs.Routes.{Walk, cross_numbers}
-use Rattle.rig.specs.Rig.{RigState}
+use Rattle.rig.specs.Rig.{RigState, ForEach}
 use Rattle.diag_evidence.specs.Kept.{Kept, HoldsFor, IsMore, Advances, Gains, one_cell, one_register, keeps_wire, keeps_pair, keeps_cell, keeps_register}
 use Rattle.diag_growth.specs.declared.seat.Arm.{Arm}
 use Rattle.diag_growth.specs.declared.seat.Seat.{Seat}
@@ -81,6 +81,7 @@ pub record HasTestedCells (first now : RigState) (k l : Kept) (s : Seat) (n : �
   pub advances : Advances first now k l
   pub only : AddsOnlyTableFacts k l
   pub cells : CellsIf first.machine.faults k l s.table.0 n
+  pub cells_each : ForEach now (λ told. CellsIf told k l s.table.0 n)
   pub loads : now.loads ≤ first.loads + 2 * n
 
 -- one cell more
@@ -90,23 +91,29 @@ told_later {f = f} adv is = ap (λ m. m.faults) adv.machine ∙ is
 pub cells_first : (told : Option Faults) (k : Kept) (t : ℕ) → CellsIf told k k t 0
 cells_first told k t = record { at = λ f is h a below right. absurd (omega arith) }
 
-pub cells_more : {a b : RigState} {k l n : Kept} {t i : ℕ} → Advances a b k l → IsMore l n → CellsIf a.machine.faults k l t i → CellIf b.machine.faults l n t i → CellsIf a.machine.faults k n t (i + 1)
-cells_more {a} {b} {k} {l} {n} {t} {i} adv more old new = record { at = λ f is h c below right. by f is h c right (lt_or c i below) }
+pub cells_next : {told : Option Faults} {k l n : Kept} {t i : ℕ} → ((f : Faults) → told ≡ Some f → HoldsFor k f → HoldsFor l f) → IsMore l n → CellsIf told k l t i → CellIf told l n t i → CellsIf told k n t (i + 1)
+cells_next {told} {k} {l} {n} {t} {i} later more old new = record { at = λ f is h c below right. by f is h c right (lt_or c i below) }
   where
-    by : (f : Faults) → a.machine.faults ≡ Some f → HoldsFor k f → (c : ℕ) → wrong_cell f t c ≡ None → (c < i) ⊎ (c ≡ i) → keeps_cell n t c ≡ true
+    by : (f : Faults) → told ≡ Some f → HoldsFor k f → (c : ℕ) → wrong_cell f t c ≡ None → (c < i) ⊎ (c ≡ i) → keeps_cell n t c ≡ true
     by f is h c right (inl less) = more.cells t c (old.at f is h c less right)
-    by f is h c right (inr same) = subst (λ d. keeps_cell n t d ≡ true) (sym same) (new.at f (told_later adv is) (adv.holds f is h) (subst (λ d. wrong_cell f t d ≡ None) same right))
+    by f is h c right (inr same) = subst (λ d. keeps_cell n t d ≡ true) (sym same) (new.at f is (later f is h) (subst (λ d. wrong_cell f t d ≡ None) same right))
+
+pub cells_more : {a b : RigState} {k l n : Kept} {t i : ℕ} → Advances a b k l → IsMore l n → CellsIf a.machine.faults k l t i → CellIf b.machine.faults l n t i → CellsIf a.machine.faults k n t (i + 1)
+cells_more adv more old new = cells_next adv.holds more old (record { at = λ f is h right. new.at f (told_later adv is) h right })
 
 pub cells_end : {told : Option Faults} {k l : Kept} {t i : ℕ} → i ≡ 64 → CellsIf told k l t i → CellsIf told k l t 64
 cells_end {told} {k} {l} {t} e h = subst (λ i. CellsIf told k l t i) e h
 
-pub table_end : {a b : RigState} {k l n : Kept} {t : ℕ} → Advances a b k l → IsMore l n → CellsIf a.machine.faults k l t 64 → RegisterIf b.machine.faults l n t → TableIf a.machine.faults k n t
-table_end adv more cells register = record {
+pub table_next : {told : Option Faults} {k l n : Kept} {t : ℕ} → ((f : Faults) → told ≡ Some f → HoldsFor k f → HoldsFor l f) → IsMore l n → CellsIf told k l t 64 → RegisterIf told l n t → TableIf told k n t
+table_next later more cells register = record {
   at = λ f is h right. record {
     cells = λ a below. more.cells _ a (cells.at f is h a below (right.cells a below));
-    register = register.at f (told_later adv is) (adv.holds f is h) right.register;
+    register = register.at f is (later f is h) right.register;
   };
 }
+
+pub table_end : {a b : RigState} {k l n : Kept} {t : ℕ} → Advances a b k l → IsMore l n → CellsIf a.machine.faults k l t 64 → RegisterIf b.machine.faults l n t → TableIf a.machine.faults k n t
+table_end adv more cells register = table_next adv.holds more cells (record { at = λ f is h right. register.at f (told_later adv is) h right })
 
 -- only facts of tables are new
 pub only_itself : {k : Kept} → AddsOnlyTableFacts k k

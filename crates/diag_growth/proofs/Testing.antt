@@ -8,7 +8,7 @@ use Rattle.machine_shape.specs.Shape.{crosses_of, tables_of, hextant_of, IsLine,
 use Rattle.machine_meaning.specs.Vocabulary.{Faults, StandsBy, IsOutside, StandsWithout, IsSeated, IsRightTable}
 use Rattle.machine_meaning.proofs.Seats.{stands_also, seated_also}
 use Rattle.rig.specs.Rig.{RigState}
-use Rattle.diag_evidence.specs.Kept.{Kept, IsMore, Advances}
+use Rattle.diag_evidence.specs.Kept.{Kept, HoldsFor, IsMore, Advances}
 use Rattle.diag_known.specs.Known.{KnownWires, HasWire, IsKnown, IsKeptCrossOf, InSet}
 use Rattle.diag_growth.specs.Seating.{AreAllWithout, IsPlaceAt, IsWithout}
 use Rattle.diag_growth.specs.Tables.{SeatedIsKept, SeatedAreKept}
@@ -51,22 +51,26 @@ tested_first = record { each = λ j t less here. absurd (let no : ⊥ = omega (a
 keeps_later : {l n : Kept} {t : ℕ} → IsMore l n → KeepsTable l t → KeepsTable n t
 keeps_later {t = t} more h = record { cells = λ a below. more.cells t a (h.cells a below); register = more.registers t h.register }
 
-pub tested_next : {a b : RigState} {k l n : Kept} {ss : List VerifiedWire} {tables : List Table} {i : ℕ} {t : Table} → Advances a b k l → AddsOnlyTableFacts k l → IsMore l n → slice_get tables i ≡ Some t →
-    AreTested a.machine.faults k l ss tables i → SeatedIsKept b.machine.faults l n ss t.0 → AreTested a.machine.faults k n ss tables (i + 1)
-tested_next {a} {b} {k} {l} {n} {ss} {tables} {i} {t} adv only more this old new = record { each = λ j u less here. by j u less here (ℕ_discrete j i) }
+pub tested_on : {told : Option Faults} {k l n : Kept} {ss : List VerifiedWire} {tables : List Table} {i : ℕ} {t : Table} → ((f : Faults) → told ≡ Some f → HoldsFor k f → HoldsFor l f) → IsMore k l → AddsOnlyTableFacts k l → IsMore l n →
+    slice_get tables i ≡ Some t → AreTested told k l ss tables i → SeatedIsKept told l n ss t.0 → AreTested told k n ss tables (i + 1)
+tested_on {told} {k} {l} {n} {ss} {tables} {i} {t} later first only more this old new = record { each = λ j u less here. by j u less here (ℕ_discrete j i) }
   where
-    now : SeatedIsKept a.machine.faults k n ss t.0
-    now = record { at = λ f is h seated right. new.at f (ap (λ m. m.faults) adv.machine ∙ is) (adv.holds f is h) (seated_same (adv.more).shape only seated) right }
+    now : SeatedIsKept told k n ss t.0
+    now = record { at = λ f is h seated right. new.at f is (later f is h) (seated_same first.shape only seated) right }
 
-    before : (u : ℕ) → SeatedIsKept a.machine.faults k l ss u → SeatedIsKept a.machine.faults k n ss u
+    before : (u : ℕ) → SeatedIsKept told k l ss u → SeatedIsKept told k n ss u
     before u s = record { at = λ f is h seated right. keeps_later more (s.at f is h seated right) }
 
     some_same : {x y : Table} → Some x ≡ Some y → x ≡ y
     some_same e = cc
 
-    by : (j : ℕ) (u : Table) → j < i + 1 → slice_get tables j ≡ Some u → Dec (j ≡ i) → SeatedIsKept a.machine.faults k n ss u.0
-    by j u less here (yes e) = subst (λ (v : Table). SeatedIsKept a.machine.faults k n ss v.0) (some_same (sym this ∙ ap (slice_get tables) (sym e) ∙ here)) now
+    by : (j : ℕ) (u : Table) → j < i + 1 → slice_get tables j ≡ Some u → Dec (j ≡ i) → SeatedIsKept told k n ss u.0
+    by j u less here (yes e) = subst (λ (v : Table). SeatedIsKept told k n ss v.0) (some_same (sym this ∙ ap (slice_get tables) (sym e) ∙ here)) now
     by j u less here (no d) = before u.0 (old.each j u (omega (arith, less, d)) here)
+
+pub tested_next : {a b : RigState} {k l n : Kept} {ss : List VerifiedWire} {tables : List Table} {i : ℕ} {t : Table} → Advances a b k l → AddsOnlyTableFacts k l → IsMore l n → slice_get tables i ≡ Some t →
+    AreTested a.machine.faults k l ss tables i → SeatedIsKept b.machine.faults l n ss t.0 → AreTested a.machine.faults k n ss tables (i + 1)
+tested_next adv only more this old new = tested_on adv.holds adv.more only more this old (record { at = λ f is h seated right. new.at f (ap (λ m. m.faults) adv.machine ∙ is) h seated right })
 
 pub tested_all : {told : Option Faults} {k l : Kept} {ss : List VerifiedWire} {tables : List Table} {n : ℕ} → AreTested told k l ss tables n → length tables ≤ n → SeatedAreKept told k l ss tables
 tested_all {tables = tables} {n = n} are le = record { each = λ j t here. are.each j t (let low = slice_get_within tables j t here in omega (arith, low, le)) here }

@@ -3,7 +3,7 @@ ghost use Rattle.std.specs.Prelude.{◌≡◌, ◌≤◌, ◌<◌, ◌+◌, All,
 ghost use Rattle.base_io.specs.Counts.{Rose};
 ghost use Rattle.machine_shape.specs.Shape.{crosses_of, pins_of};
 ghost use Rattle.machine_config.specs.Tests.{IsDrivenAlone};
-ghost use Rattle.rig.specs.Rig.{shape_of};
+ghost use Rattle.rig.specs.Rig.{ForEach, shape_of};
 ghost use Rattle.diag_tests.specs.Routes.{cross_numbers};
 ghost use Rattle.diag_evidence.specs.Kept.{Advances};
 ghost use Rattle.diag_growth.specs.Seats.{AddsOnlyTableFacts, IsSeat, TableIf};
@@ -59,6 +59,7 @@ fn test_cell(
     requires address { address < 64 }
 
     ensures cell { OnOk result (CellIf (rig_state rig.old).machine.faults facts.old facts.new seat.now.table.0 address) }
+    ensures cell_each { OnOk result (ForEach (rig_state rig.new) (λ told. CellIf told facts.old facts.new seat.now.table.0 address)) }
     ensures advances { Advances (rig_state rig.old) (rig_state rig.new) facts.old facts.new }
     ensures only { AddsOnlyTableFacts facts.old facts.new }
     ensures loads { (rig_state rig.new).loads ≤ (rig_state rig.old).loads + 2 }
@@ -97,6 +98,7 @@ fn test_cells(
     requires seat { IsSeat facts.old seat.now }
 
     ensures cells { OnOk result (CellsIf (rig_state rig.old).machine.faults facts.old facts.new seat.now.table.0 64) }
+    ensures cells_each { OnOk result (ForEach (rig_state rig.new) (λ told. CellsIf told facts.old facts.new seat.now.table.0 64)) }
     ensures advances { Advances (rig_state rig.old) (rig_state rig.new) facts.old facts.new }
     ensures only { AddsOnlyTableFacts facts.old facts.new }
     ensures loads { (rig_state rig.new).loads ≤ (rig_state rig.old).loads + 128 }
@@ -119,6 +121,7 @@ fn test_register(
     requires seat { IsSeat facts.old seat.now }
 
     ensures register { OnOk result (RegisterIf (rig_state rig.old).machine.faults facts.old facts.new seat.now.table.0) }
+    ensures register_each { OnOk result (ForEach (rig_state rig.new) (λ told. RegisterIf told facts.old facts.new seat.now.table.0)) }
     ensures advances { Advances (rig_state rig.old) (rig_state rig.new) facts.old facts.new }
     ensures only { AddsOnlyTableFacts facts.old facts.new }
     ensures loads { (rig_state rig.new).loads ≤ (rig_state rig.old).loads + 2 }
@@ -162,6 +165,7 @@ pub fn test_table(
     requires seat { IsSeat facts.old seat.now }
 
     ensures table { OnOk result (TableIf (rig_state rig.old).machine.faults facts.old facts.new seat.now.table.0) }
+    ensures table_each { OnOk result (ForEach (rig_state rig.new) (λ told. TableIf told facts.old facts.new seat.now.table.0)) }
     ensures advances { Advances (rig_state rig.old) (rig_state rig.new) facts.old facts.new }
     ensures only { AddsOnlyTableFacts facts.old facts.new }
     ensures loads { (rig_state rig.new).loads ≤ (rig_state rig.old).loads + 130 }

@@ -2,7 +2,7 @@
 ghost use Rattle.std.specs.Prelude.{◌≡◌, ◌<◌, ℕ, true, false, Some, IfOk, OnOk, IfSome, IfNone, IsErrOf, IsTrue, slice_get};
 ghost use Rattle.base_io.specs.Counts.{Rose};
 ghost use Rattle.machine_shape.specs.Shape.{crosses_of};
-ghost use Rattle.rig.specs.Rig.{shape_of};
+ghost use Rattle.rig.specs.Rig.{ForEach, shape_of};
 ghost use Rattle.diag_evidence.specs.Kept.{Advances, keeps_cross};
 ghost use Rattle.diag_known.specs.declared.verified_wire.Support.{Support};
 ghost use Rattle.diag_known.specs.Vocabulary.{AreMarks, SpendsOn, IsPlaced, IsKeptOther, IsSecond, AreLost, HasNoSecond};
@@ -42,9 +42,15 @@ fn try_over(
     ensures some { IfOk result (λ found. IfSome found (IsSecond facts.new offer.now)) }
     ensures none { IfOk result (λ found. IfNone found
         (HasNoSecond (rig_state rig.old).machine.faults facts.new known.now.steps offer.now)) }
+    ensures none_each { IfOk result (λ found. ForEach (rig_state rig.new) (λ told. AreMarks told facts.old known.now.steps marks.old →
+        IfNone found (HasNoSecond told facts.new known.now.steps offer.now))) }
     ensures marks { OnOk result (AreMarks (rig_state rig.old).machine.faults facts.new known.now.steps marks.new) }
+    ensures marks_each { OnOk result (ForEach (rig_state rig.new) (λ told. AreMarks told facts.old known.now.steps marks.old → AreMarks
+        told facts.new known.now.steps marks.new)) }
     ensures spends { SpendsOn (rig_state rig.old).machine.faults facts.old offer.now marks.old marks.new (rig_state rig.old).loads
         (rig_state rig.new).loads }
+    ensures spends_each { ForEach (rig_state rig.new) (λ told. AreMarks told facts.old known.now.steps marks.old → SpendsOn told
+        facts.old offer.now marks.old marks.new (rig_state rig.old).loads (rig_state rig.new).loads) }
     ensures advances { Advances (rig_state rig.old) (rig_state rig.new) facts.old facts.new }
     ensures cause { IsErrOf result RigFail.Failed → Rose (rig_state rig.old).failures (rig_state rig.new).failures }
 {
@@ -76,9 +82,15 @@ fn try_other(
     ensures kept { IfOk result (λ yes. IsTrue yes → keeps_cross facts.new other.cross.0 ≡ true) }
     ensures lost { IfOk result (λ yes. yes ≡ false →
         AreLost (rig_state rig.old).machine.faults facts.new known.now.steps offer.now.wire.0 offer.now.foot.cross.0 other.cross.0) }
+    ensures lost_each { IfOk result (λ yes. ForEach (rig_state rig.new) (λ told. AreMarks told facts.old known.now.steps marks.old →
+        yes ≡ false → AreLost told facts.new known.now.steps offer.now.wire.0 offer.now.foot.cross.0 other.cross.0)) }
     ensures marks { OnOk result (AreMarks (rig_state rig.old).machine.faults facts.new known.now.steps marks.new) }
+    ensures marks_each { OnOk result (ForEach (rig_state rig.new) (λ told. AreMarks told facts.old known.now.steps marks.old → AreMarks
+        told facts.new known.now.steps marks.new)) }
     ensures spends { SpendsOn (rig_state rig.old).machine.faults facts.old offer.now marks.old marks.new (rig_state rig.old).loads
         (rig_state rig.new).loads }
+    ensures spends_each { ForEach (rig_state rig.new) (λ told. AreMarks told facts.old known.now.steps marks.old → SpendsOn told
+        facts.old offer.now marks.old marks.new (rig_state rig.old).loads (rig_state rig.new).loads) }
     ensures advances { Advances (rig_state rig.old) (rig_state rig.new) facts.old facts.new }
     ensures cause { IsErrOf result RigFail.Failed → Rose (rig_state rig.old).failures (rig_state rig.new).failures }
 {
@@ -106,9 +118,15 @@ fn try_others(
     ensures some { IfOk result (λ found. IfSome found (IsSecond facts.new offer.now)) }
     ensures none { IfOk result (λ found. IfNone found
         (HasNoSecond (rig_state rig.old).machine.faults facts.new known.now.steps offer.now)) }
+    ensures none_each { IfOk result (λ found. ForEach (rig_state rig.new) (λ told. AreMarks told facts.old known.now.steps marks.old →
+        IfNone found (HasNoSecond told facts.new known.now.steps offer.now))) }
     ensures marks { OnOk result (AreMarks (rig_state rig.old).machine.faults facts.new known.now.steps marks.new) }
+    ensures marks_each { OnOk result (ForEach (rig_state rig.new) (λ told. AreMarks told facts.old known.now.steps marks.old → AreMarks
+        told facts.new known.now.steps marks.new)) }
     ensures spends { SpendsOn (rig_state rig.old).machine.faults facts.old offer.now marks.old marks.new (rig_state rig.old).loads
         (rig_state rig.new).loads }
+    ensures spends_each { ForEach (rig_state rig.new) (λ told. AreMarks told facts.old known.now.steps marks.old → SpendsOn told
+        facts.old offer.now marks.old marks.new (rig_state rig.old).loads (rig_state rig.new).loads) }
     ensures advances { Advances (rig_state rig.old) (rig_state rig.new) facts.old facts.new }
     ensures cause { IsErrOf result RigFail.Failed → Rose (rig_state rig.old).failures (rig_state rig.new).failures }
 {
@@ -137,9 +155,15 @@ pub(crate) fn second_foot(
     ensures some { IfOk result (λ found. IfSome found (IsSecond facts.new offer.now)) }
     ensures none { IfOk result (λ found. IfNone found
         (HasNoSecond (rig_state rig.old).machine.faults facts.new known.now.steps offer.now)) }
+    ensures none_each { IfOk result (λ found. ForEach (rig_state rig.new) (λ told. AreMarks told facts.old known.now.steps marks.old →
+        IfNone found (HasNoSecond told facts.new known.now.steps offer.now))) }
     ensures marks { OnOk result (AreMarks (rig_state rig.old).machine.faults facts.new known.now.steps marks.new) }
+    ensures marks_each { OnOk result (ForEach (rig_state rig.new) (λ told. AreMarks told facts.old known.now.steps marks.old → AreMarks
+        told facts.new known.now.steps marks.new)) }
     ensures spends { SpendsOn (rig_state rig.old).machine.faults facts.old offer.now marks.old marks.new (rig_state rig.old).loads
         (rig_state rig.new).loads }
+    ensures spends_each { ForEach (rig_state rig.new) (λ told. AreMarks told facts.old known.now.steps marks.old → SpendsOn told
+        facts.old offer.now marks.old marks.new (rig_state rig.old).loads (rig_state rig.new).loads) }
     ensures advances { Advances (rig_state rig.old) (rig_state rig.new) facts.old facts.new }
     ensures cause { IsErrOf result RigFail.Failed → Rose (rig_state rig.old).failures (rig_state rig.new).failures }
 {

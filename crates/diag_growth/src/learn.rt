@@ -4,7 +4,7 @@ ghost use Rattle.std.specs.Prelude.{IsTrue};
 ghost use Rattle.base_bits.specs.Numbers.{has_number};
 ghost use Rattle.base_io.specs.Counts.{Rose};
 ghost use Rattle.machine_shape.specs.Shape.{pins_of, pin_wire, wires_of};
-ghost use Rattle.rig.specs.Rig.{shape_of};
+ghost use Rattle.rig.specs.Rig.{ForEach, shape_of};
 ghost use Rattle.diag_evidence.specs.Kept.{Advances};
 ghost use Rattle.diag_growth.specs.Grown.{IsLearnt, IsOneMore};
 ghost use Rattle.diag_growth.specs.Looks.{IsNewOffer, IsReady};
@@ -63,6 +63,8 @@ fn is_good_over(
     ensures good { IfOk result (λ yes. IsTrue yes → IsGood facts.new known.now.steps offer.now.wire.0) }
     ensures bad { IfOk result (λ yes. yes ≡ false →
         IsBad (rig_state rig.old).machine.faults facts.new known.now.steps offer.now.wire.0) }
+    ensures bad_each { IfOk result (λ yes. ForEach (rig_state rig.new) (λ told. yes ≡ false → IsBad told facts.new known.now.steps
+        offer.now.wire.0)) }
     ensures advances { Advances (rig_state rig.old) (rig_state rig.new) facts.old facts.new }
     ensures loads { TakesForWire facts.old.shape offer.now.wire.0 (rig_state rig.old).loads (rig_state rig.new).loads }
     ensures cause { IsErrOf result RigFail.Failed → Rose (rig_state rig.old).failures (rig_state rig.new).failures }
@@ -92,7 +94,10 @@ fn try_feet(
     ensures known { IsKnown facts.new known.new }
     ensures more { IsOneMore known.old known.new offer.now.wire.0 }
     ensures tried { OnOk result (IsTried (rig_state rig.old).machine.faults facts.new known.new.steps offer.now.wire.0) }
+    ensures tried_each { OnOk result (ForEach (rig_state rig.new) (λ told. IsTried told facts.new known.new.steps offer.now.wire.0)) }
     ensures marks { OnOk result (AreMarks (rig_state rig.old).machine.faults facts.new known.new.steps marks.new) }
+    ensures marks_each { OnOk result (ForEach (rig_state rig.new) (λ told. AreMarks told facts.old known.old.steps marks.old → AreMarks
+        told facts.new known.new.steps marks.new)) }
     ensures barred { marks.new ≡ record marks.old { barred = slice_set marks.old.barred offer.now.wire.0 true } }
     ensures loads { TakesForWire facts.old.shape offer.now.wire.0 (rig_state rig.old).loads (rig_state rig.new).loads }
     ensures advances { Advances (rig_state rig.old) (rig_state rig.new) facts.old facts.new }
@@ -126,11 +131,17 @@ pub(crate) fn try_offer(
     ensures known { IsKnown facts.new known.new }
     ensures more { IsOneMore known.old known.new offer.now.wire.0 }
     ensures found { OnOk result (HasTried (rig_state rig.old).machine.faults facts.new known.new.steps offer.now marks.old marks.new) }
+    ensures found_each { OnOk result (ForEach (rig_state rig.new) (λ told. AreMarks told facts.old known.old.steps marks.old → HasTried
+        told facts.new known.new.steps offer.now marks.old marks.new)) }
     ensures marks { OnOk result (AreMarks (rig_state rig.old).machine.faults facts.new known.new.steps marks.new) }
+    ensures marks_each { OnOk result (ForEach (rig_state rig.new) (λ told. AreMarks told facts.old known.old.steps marks.old → AreMarks
+        told facts.new known.new.steps marks.new)) }
     ensures barred { BarsAtMost offer.now.wire.0 marks.old.barred marks.new.barred }
     ensures offered { OffersOnly offer.now.foot.cross.0 marks.old marks.new }
     ensures spends { Spends (rig_state rig.old).machine.faults facts.old (IsOfOffer offer.now) marks.old marks.new
         (rig_state rig.old).loads (rig_state rig.new).loads }
+    ensures spends_each { ForEach (rig_state rig.new) (λ told. AreMarks told facts.old known.old.steps marks.old → Spends told
+        facts.old (IsOfOffer offer.now) marks.old marks.new (rig_state rig.old).loads (rig_state rig.new).loads) }
     ensures advances { Advances (rig_state rig.old) (rig_state rig.new) facts.old facts.new }
     ensures cause { IsErrOf result RigFail.Failed → Rose (rig_state rig.old).failures (rig_state rig.new).failures }
 {
@@ -158,7 +169,11 @@ pub(crate) fn try_pin(
     ensures known { IsKnown facts.new known.new }
     ensures more { IsOneMore known.old known.new (pin_wire facts.old.shape pin) }
     ensures tried { OnOk result (IsTried (rig_state rig.old).machine.faults facts.new known.new.steps (pin_wire facts.old.shape pin)) }
+    ensures tried_each { OnOk result (ForEach (rig_state rig.new) (λ told. IsTried told facts.new known.new.steps
+        (pin_wire facts.old.shape pin))) }
     ensures marks { OnOk result (AreMarks (rig_state rig.old).machine.faults facts.new known.new.steps marks.new) }
+    ensures marks_each { OnOk result (ForEach (rig_state rig.new) (λ told. AreMarks told facts.old known.old.steps marks.old → AreMarks
+        told facts.new known.new.steps marks.new)) }
     ensures barred { marks.new ≡ record marks.old { barred = slice_set marks.old.barred (pin_wire facts.old.shape pin) true } }
     ensures loads { (rig_state rig.new).loads ≤ (rig_state rig.old).loads + 2 }
     ensures advances { Advances (rig_state rig.old) (rig_state rig.new) facts.old facts.new }

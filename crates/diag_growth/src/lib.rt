@@ -12,6 +12,10 @@
 //! crosspoints of the field that aren't stuck to two different known wires, is known; a crosspoint of the field between known
 //! wires that isn't stuck is kept. `Failed` comes only where the rig's count rose (`cause`).
 //!
+//! What a clause says of told faults, the clause beside it whose name ends in `_each` says of each set of faults that explains the
+//! log after the call (`closed_each`, `few_each`, `tables_each`); no rig has to tell any. Between the functions of this crate it
+//! takes for granted that the marks are right for that set, as they are where growth begins.
+//!
 //! Seats of tables in known wires, over which their cells and registers are tested.
 //!
 //! A table is seated where two ports of its hextant, that stand without the hextant's own wires, and its lines reach each of

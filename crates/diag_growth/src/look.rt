@@ -3,7 +3,7 @@ ghost use Rattle.std.specs.Prelude.{◌≡◌, ◌<◌, ◌+◌, false, Some, If
 ghost use Rattle.base_bits.specs.Numbers.{has_number};
 ghost use Rattle.base_io.specs.Counts.{Rose};
 ghost use Rattle.machine_shape.specs.Shape.{wires_of};
-ghost use Rattle.rig.specs.Rig.{shape_of};
+ghost use Rattle.rig.specs.Rig.{ForEach, shape_of};
 ghost use Rattle.diag_evidence.specs.Kept.{Advances};
 ghost use Rattle.diag_known.specs.Vocabulary.{AreLinked, IsKnown, IsBefore, HasWire, AreMarks, JoinsAtMost, Spends, IsOffer};
 ghost use Rattle.diag_known.specs.Vocabulary.{IsKeptUnlessStuck};
@@ -105,7 +105,11 @@ fn look_known(
     requires other { IsBefore known.now.steps look.place look.link.wire.0 }
     requires marks { AreMarks (rig_state rig.old).machine.faults facts.old known.now.steps marks.old }
     ensures kept { OnOk result (IsKeptUnlessStuck (rig_state rig.old).machine.faults facts.new look.link.cross.0) }
+    ensures kept_each { OnOk result (ForEach (rig_state rig.new) (λ told. AreMarks told facts.old known.now.steps marks.old →
+        IsKeptUnlessStuck told facts.new look.link.cross.0)) }
     ensures marks { OnOk result (AreMarks (rig_state rig.old).machine.faults facts.new known.now.steps marks.new) }
+    ensures marks_each { OnOk result (ForEach (rig_state rig.new) (λ told. AreMarks told facts.old known.now.steps marks.old → AreMarks
+        told facts.new known.now.steps marks.new)) }
     ensures joins { JoinsAtMost facts.old look.link.cross.0 marks.old marks.new (rig_state rig.old).loads (rig_state rig.new).loads }
     ensures advances { Advances (rig_state rig.old) (rig_state rig.new) facts.old facts.new }
     ensures cause { IsErrOf result RigFail.Failed → Rose (rig_state rig.old).failures (rig_state rig.new).failures }
@@ -146,11 +150,19 @@ fn look_new(
     requires free { has_number marks.old.barred look.link.wire.0 ≡ false }
     ensures grows { Grows facts.new known.old known.new marks.old.barred marks.new.barred }
     ensures tried { OnOk result (AreTried (rig_state rig.old).machine.faults facts.new known.new.steps marks.old.barred marks.new.barred) }
+    ensures tried_each { OnOk result (ForEach (rig_state rig.new) (λ told. AreAllMarks told facts.old near.now.items known.old.steps
+        marks.old → AreTried told facts.new known.new.steps marks.old.barred marks.new.barred)) }
     ensures looked { OnOk result
         (IsLookedOver (rig_state rig.old).machine.faults facts.new near.now.items known.new.steps marks.new.barred look) }
+    ensures looked_each { OnOk result (ForEach (rig_state rig.new) (λ told. AreAllMarks told facts.old near.now.items known.old.steps
+        marks.old → IsLookedOver told facts.new near.now.items known.new.steps marks.new.barred look)) }
     ensures marks { OnOk result (AreAllMarks (rig_state rig.old).machine.faults facts.new near.now.items known.new.steps marks.new) }
+    ensures marks_each { OnOk result (ForEach (rig_state rig.new) (λ told. AreAllMarks told facts.old near.now.items known.old.steps
+        marks.old → AreAllMarks told facts.new near.now.items known.new.steps marks.new)) }
     ensures spends { Spends (rig_state rig.old).machine.faults facts.old (IsLinking near.now.items) marks.old marks.new
         (rig_state rig.old).loads (rig_state rig.new).loads }
+    ensures spends_each { ForEach (rig_state rig.new) (λ told. AreAllMarks told facts.old near.now.items known.old.steps marks.old →
+        Spends told facts.old (IsLinking near.now.items) marks.old marks.new (rig_state rig.old).loads (rig_state rig.new).loads) }
     ensures advances { Advances (rig_state rig.old) (rig_state rig.new) facts.old facts.new }
     ensures cause { IsErrOf result RigFail.Failed → Rose (rig_state rig.old).failures (rig_state rig.new).failures }
 {
@@ -181,11 +193,19 @@ fn look_over(
     requires marks { AreAllMarks (rig_state rig.old).machine.faults facts.old near.now.items known.old.steps marks.old }
     ensures grows { Grows facts.new known.old known.new marks.old.barred marks.new.barred }
     ensures tried { OnOk result (AreTried (rig_state rig.old).machine.faults facts.new known.new.steps marks.old.barred marks.new.barred) }
+    ensures tried_each { OnOk result (ForEach (rig_state rig.new) (λ told. AreAllMarks told facts.old near.now.items known.old.steps
+        marks.old → AreTried told facts.new known.new.steps marks.old.barred marks.new.barred)) }
     ensures looked { OnOk result
         (IsLookedOver (rig_state rig.old).machine.faults facts.new near.now.items known.new.steps marks.new.barred look) }
+    ensures looked_each { OnOk result (ForEach (rig_state rig.new) (λ told. AreAllMarks told facts.old near.now.items known.old.steps
+        marks.old → IsLookedOver told facts.new near.now.items known.new.steps marks.new.barred look)) }
     ensures marks { OnOk result (AreAllMarks (rig_state rig.old).machine.faults facts.new near.now.items known.new.steps marks.new) }
+    ensures marks_each { OnOk result (ForEach (rig_state rig.new) (λ told. AreAllMarks told facts.old near.now.items known.old.steps
+        marks.old → AreAllMarks told facts.new near.now.items known.new.steps marks.new)) }
     ensures spends { Spends (rig_state rig.old).machine.faults facts.old (IsLinking near.now.items) marks.old marks.new
         (rig_state rig.old).loads (rig_state rig.new).loads }
+    ensures spends_each { ForEach (rig_state rig.new) (λ told. AreAllMarks told facts.old near.now.items known.old.steps marks.old →
+        Spends told facts.old (IsLinking near.now.items) marks.old marks.new (rig_state rig.old).loads (rig_state rig.new).loads) }
     ensures advances { Advances (rig_state rig.old) (rig_state rig.new) facts.old facts.new }
     ensures cause { IsErrOf result RigFail.Failed → Rose (rig_state rig.old).failures (rig_state rig.new).failures }
 {
@@ -218,12 +238,21 @@ pub(crate) fn look_at(
     requires marks { AreAllMarks (rig_state rig.old).machine.faults facts.old near.now.items known.old.steps marks.old }
     ensures grows { Grows facts.new known.old known.new marks.old.barred marks.new.barred }
     ensures tried { OnOk result (AreTried (rig_state rig.old).machine.faults facts.new known.new.steps marks.old.barred marks.new.barred) }
+    ensures tried_each { OnOk result (ForEach (rig_state rig.new) (λ told. AreAllMarks told facts.old near.now.items known.old.steps
+        marks.old → AreTried told facts.new known.new.steps marks.old.barred marks.new.barred)) }
     ensures grown { OnOk result
         (IsGrown (rig_state rig.old).machine.faults facts.old near.now.items known.old.steps marks.old.barred place →
         IsGrown (rig_state rig.old).machine.faults facts.new near.now.items known.new.steps marks.new.barred (place + 1)) }
+    ensures grown_each { OnOk result (ForEach (rig_state rig.new) (λ told. AreAllMarks told facts.old near.now.items known.old.steps
+        marks.old → IsGrown told facts.old near.now.items known.old.steps marks.old.barred place → IsGrown told facts.new near.now.items
+        known.new.steps marks.new.barred (place + 1))) }
     ensures marks { OnOk result (AreAllMarks (rig_state rig.old).machine.faults facts.new near.now.items known.new.steps marks.new) }
+    ensures marks_each { OnOk result (ForEach (rig_state rig.new) (λ told. AreAllMarks told facts.old near.now.items known.old.steps
+        marks.old → AreAllMarks told facts.new near.now.items known.new.steps marks.new)) }
     ensures spends { Spends (rig_state rig.old).machine.faults facts.old (IsLinking near.now.items) marks.old marks.new
         (rig_state rig.old).loads (rig_state rig.new).loads }
+    ensures spends_each { ForEach (rig_state rig.new) (λ told. AreAllMarks told facts.old near.now.items known.old.steps marks.old →
+        Spends told facts.old (IsLinking near.now.items) marks.old marks.new (rig_state rig.old).loads (rig_state rig.new).loads) }
     ensures advances { Advances (rig_state rig.old) (rig_state rig.new) facts.old facts.new }
     ensures cause { IsErrOf result RigFail.Failed → Rose (rig_state rig.old).failures (rig_state rig.new).failures }
 {

@@ -3,7 +3,7 @@ ghost use Rattle.std.specs.Prelude.{◌≡◌, ◌≤◌, ◌<◌, ◌+◌, ℕ,
 ghost use Rattle.base_io.specs.Counts.{Rose};
 ghost use Rattle.machine_shape.specs.Shape.{pin_wire, pins_of, wires_of};
 ghost use Rattle.machine_config.specs.Tests.{AreReleased};
-ghost use Rattle.rig.specs.Rig.{shape_of};
+ghost use Rattle.rig.specs.Rig.{ForEach, shape_of};
 ghost use Rattle.diag_tests.specs.Routes.{IsRoute, cross_numbers};
 ghost use Rattle.diag_evidence.specs.Kept.{Advances, keeps_wire, keeps_pair};
 ghost use Rattle.diag_known.specs.Vocabulary.{IsKnown, HasWire, IsGood, IsBad, IsWay, AreWays};
@@ -43,6 +43,7 @@ fn test_stuck(
     requires way { IsWay facts.old known.now.steps w.0 way.now }
     ensures kept { IfOk result (λ yes. IsTrue yes → keeps_wire facts.new w.0 ≡ true) }
     ensures bad { IfOk result (λ yes. yes ≡ false → IsBad (rig_state rig.old).machine.faults facts.new known.now.steps w.0) }
+    ensures bad_each { IfOk result (λ yes. ForEach (rig_state rig.new) (λ told. yes ≡ false → IsBad told facts.new known.now.steps w.0)) }
     ensures advances { Advances (rig_state rig.old) (rig_state rig.new) facts.old facts.new }
     ensures loads { (rig_state rig.new).loads ≤ (rig_state rig.old).loads + 1 }
     ensures cause { IsErrOf result RigFail.Failed → Rose (rig_state rig.old).failures (rig_state rig.new).failures }
@@ -131,6 +132,7 @@ fn part_from(
     requires new { ¬ HasWire known.now.steps w.0 }
     ensures apart { IfOk result (λ yes. IsTrue yes → IsApartBeside facts.new known.now.steps w.0 way.now) }
     ensures bad { IfOk result (λ yes. yes ≡ false → IsBad (rig_state rig.old).machine.faults facts.new known.now.steps w.0) }
+    ensures bad_each { IfOk result (λ yes. ForEach (rig_state rig.new) (λ told. yes ≡ false → IsBad told facts.new known.now.steps w.0)) }
     ensures advances { Advances (rig_state rig.old) (rig_state rig.new) facts.old facts.new }
     ensures loads { (rig_state rig.new).loads ≤ (rig_state rig.old).loads + 1 }
     ensures cause { IsErrOf result RigFail.Failed → Rose (rig_state rig.old).failures (rig_state rig.new).failures }
@@ -157,6 +159,7 @@ fn part(
     requires new { ¬ HasWire known.now.steps w.0 }
     ensures apart { IfOk result (λ yes. IsTrue yes → IsApartBeside facts.new known.now.steps w.0 way.now) }
     ensures bad { IfOk result (λ yes. yes ≡ false → IsBad (rig_state rig.old).machine.faults facts.new known.now.steps w.0) }
+    ensures bad_each { IfOk result (λ yes. ForEach (rig_state rig.new) (λ told. yes ≡ false → IsBad told facts.new known.now.steps w.0)) }
     ensures advances { Advances (rig_state rig.old) (rig_state rig.new) facts.old facts.new }
     ensures loads { (rig_state rig.new).loads ≤ (rig_state rig.old).loads + 1 }
     ensures cause { IsErrOf result RigFail.Failed → Rose (rig_state rig.old).failures (rig_state rig.new).failures }
@@ -185,6 +188,7 @@ pub(crate) fn is_good(
     requires new { ¬ HasWire known.now.steps w.0 }
     ensures good { IfOk result (λ yes. IsTrue yes → IsGood facts.new known.now.steps w.0) }
     ensures bad { IfOk result (λ yes. yes ≡ false → IsBad (rig_state rig.old).machine.faults facts.new known.now.steps w.0) }
+    ensures bad_each { IfOk result (λ yes. ForEach (rig_state rig.new) (λ told. yes ≡ false → IsBad told facts.new known.now.steps w.0)) }
     ensures advances { Advances (rig_state rig.old) (rig_state rig.new) facts.old facts.new }
     ensures loads { (rig_state rig.new).loads ≤ (rig_state rig.old).loads + 3 }
     ensures cause { IsErrOf result RigFail.Failed → Rose (rig_state rig.old).failures (rig_state rig.new).failures }
@@ -216,6 +220,7 @@ pub(crate) fn is_good_pin(
     requires new { ¬ HasWire known.now.steps w.0 }
     ensures good { IfOk result (λ yes. IsTrue yes → IsGood facts.new known.now.steps w.0) }
     ensures bad { IfOk result (λ yes. yes ≡ false → IsBad (rig_state rig.old).machine.faults facts.new known.now.steps w.0) }
+    ensures bad_each { IfOk result (λ yes. ForEach (rig_state rig.new) (λ told. yes ≡ false → IsBad told facts.new known.now.steps w.0)) }
     ensures advances { Advances (rig_state rig.old) (rig_state rig.new) facts.old facts.new }
     ensures loads { (rig_state rig.new).loads ≤ (rig_state rig.old).loads + 2 }
     ensures cause { IsErrOf result RigFail.Failed → Rose (rig_state rig.old).failures (rig_state rig.new).failures }

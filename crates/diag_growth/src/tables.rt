@@ -3,7 +3,7 @@ ghost use Rattle.std.specs.Prelude.{◌≡◌, ◌≤◌, ◌<◌, ◌+◌, ◌*
 ghost use Rattle.base_io.specs.Counts.{Rose};
 ghost use Rattle.machine_shape.specs.Shape.{table_wire, tables_of};
 ghost use Rattle.machine_meaning.specs.Standing.{IsSeated};
-ghost use Rattle.rig.specs.Rig.{shape_of};
+ghost use Rattle.rig.specs.Rig.{ForEach, shape_of};
 ghost use Rattle.diag_evidence.specs.Kept.{Advances};
 ghost use Rattle.diag_growth.specs.Seats.{AddsOnlyTableFacts, IsSeat, KeepsTable};
 ghost use Rattle.diag_known.specs.Vocabulary.{IsKeptCrossOf, IsKnown, HasWire, AreAllLinks};
@@ -139,6 +139,7 @@ fn test_seated(
     requires stands { AreAllWithout facts.old known.now.steps without.old.hextant.0 without.old.known }
     requires table { t.0 < tables_of facts.old.shape }
     ensures table { OnOk result (SeatedIsKept (rig_state rig.old).machine.faults facts.old facts.new known.now.steps t.0) }
+    ensures table_each { OnOk result (ForEach (rig_state rig.new) (λ told. SeatedIsKept told facts.old facts.new known.now.steps t.0)) }
     ensures stands { OnOk result (AreAllWithout facts.old known.now.steps without.new.hextant.0 without.new.known) }
     ensures advances { Advances (rig_state rig.old) (rig_state rig.new) facts.old facts.new }
     ensures only { AddsOnlyTableFacts facts.old facts.new }
@@ -175,6 +176,8 @@ pub fn test_tables(
     requires known { IsKnown facts.old known.now }
     requires tables { All (λ t. t.0 < tables_of facts.old.shape) tables.now }
     ensures tables { OnOk result (SeatedAreKept (rig_state rig.old).machine.faults facts.old facts.new known.now.steps tables.now) }
+    ensures tables_each { OnOk result (ForEach (rig_state rig.new) (λ told. SeatedAreKept told facts.old facts.new known.now.steps
+        tables.now)) }
     ensures advances { Advances (rig_state rig.old) (rig_state rig.new) facts.old facts.new }
     ensures only { AddsOnlyTableFacts facts.old facts.new }
     ensures loads { (rig_state rig.new).loads ≤ (rig_state rig.old).loads + 130 * fresh_tables facts.old tables.now }

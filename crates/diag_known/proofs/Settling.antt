@@ -1,13 +1,14 @@
 -- Marks stay right, while more is kept and known, and where one is set.
-use Rattle.std.proofs.Common.{◌≡◌, ◌≢◌, ◌⊎◌, ℕ, ◌+◌, ◌<◌, Bool, true, false, Some, Option, List, [], ◌++◌, refl, sym, ap, ◌∙◌, subst, inl, inr, slice_get, slice_set, Result, Ok, Err, IfOk, OnOk, IsTrue}
-use Rattle.std.proofs.lemmas.Bool.{false≢true}
+use Rattle.std.proofs.Common.{◌≡◌, ◌≢◌, ◌⊎◌, ℕ, ◌+◌, ◌<◌, Bool, true, false, Some, Option, List, [], ◌++◌, refl, sym, ap, ◌∙◌, subst, inl, inr, slice_get, slice_set, Result, Ok, Err, IfOk, OnOk, IsTrue, arith, ◌==◌}
+use Rattle.std.proofs.lemmas.Bool.{false≢true, or_left}
+use Rattle.std.proofs.lemmas.Bool.Decides.{nat_tests}
 use Rattle.std.proofs.lemmas.List.{length-set, append-nil}
 use native.Mathlib.Decide.{ℕ_discrete}
 use Rattle.base_bits.specs.Numbers.{has_number}
 use Rattle.machine_shape.specs.declared.Shape.{Shape}
 use Rattle.machine_shape.specs.Shape.{Ends, in_order, turned, ends_of, wires_of, crosses_of}
 use Rattle.machine_meaning.specs.Faults.{Faults, IsFaultless}
-use Rattle.diag_evidence.specs.Kept.{Kept, HoldsFor, IsMore, keeps_cross}
+use Rattle.diag_evidence.specs.Kept.{Kept, HoldsFor, IsMore, Gains, one_cross, keeps_cross}
 use Rattle.diag_evidence.proofs.Keeping.{holds_earlier}
 use Rattle.diag_known.specs.Vocabulary.{HasWire, is_spent, IsSecondMark, AreMarks, IsLost, IsLinkTo, IsKeptUnlessStuck, IsFaulty}
 use Rattle.diag_known.specs.declared.marks.Marks.{Marks}
@@ -119,8 +120,28 @@ kept_by told l x (Ok true) kept none = λ f is fault holds. kept refl
 kept_by told l x (Ok false) kept none = λ f is fault holds. absurd ((none refl).at f is fault holds)
 kept_by told l x (Err e) kept none = tt
 
+-- what an answer says, and what follows from it
+pub on_ok_so : {T E P Q : Type 0} (r : Result T E) → OnOk r P → (P → Q) → OnOk r Q
+on_ok_so (Ok x) p h = h p
+on_ok_so (Err e) p h = tt
+
+pub if_ok_so : {T E : Type 0} {P Q : T → Type 0} (r : Result T E) → IfOk r P → ((x : T) → P x → Q x) → IfOk r Q
+if_ok_so (Ok x) p h = h x p
+if_ok_so (Err e) p h = tt
+
 pub faulty_later : {told : Option Faults} {k l : Kept} → IsMore k l → IsFaulty told k → IsFaulty told l
 faulty_later more p = record { at = λ f is none holds. p.at f is none (holds_earlier more holds) }
+
+-- .. the same for each of some faults
+pub kept_each : (X : Faults → Type 0) (k l : Kept) (x : ℕ) {E : Type 0} (r : Result Bool E) → IsMore k l → IfOk r (λ yes. IsTrue yes → keeps_cross l x ≡ true) →
+    IfOk r (λ yes. (f : Faults) → X f → yes ≡ false → IsFaulty (Some f) k) → OnOk r ((f : Faults) → X f → (h : Faults) → Some f ≡ Some h → IsFaultless h → HoldsFor l h → keeps_cross l x ≡ true)
+kept_each X k l x {E} (Ok true) more kept none = λ f e. kept_by (Some f) l x {E = E} (Ok true) kept (λ is_no. faulty_later more (none f e is_no))
+kept_each X k l x {E} (Ok false) more kept none = λ f e. kept_by (Some f) l x {E = E} (Ok false) kept (λ is_no. faulty_later more (none f e is_no))
+kept_each X k l x (Err e) more kept none = tt
+
+-- a crosspoint that was toggled is kept
+pub kept_cross : {k l : Kept} (x : ℕ) → Gains (one_cross x) k l → keeps_cross l x ≡ true
+kept_cross {k} {l} x gains = gains.crosses x ∙ or_left (x == x) (keeps_cross k x) (let same : (x == x) ≡ true = grind (arith, nat_tests) in same)
 
 pub lost_faulty : {told : Option Faults} {k : Kept} {ss : List VerifiedWire} {w x : ℕ} → ¬ HasWire ss w → IsLost told k ss w x → IsFaulty told k
 lost_faulty {x = x} new lost = record { at = λ f is none holds. lost.at f is holds (fit_faultless none new) (none.crosses x) }

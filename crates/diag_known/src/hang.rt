@@ -2,7 +2,7 @@
 ghost use Rattle.std.specs.Prelude.{◌≡◌, ◌≤◌, ◌+◌, true, false, Some, IfOk, OnOk, IsErrOf, IsTrue};
 ghost use Rattle.base_bits.specs.Numbers.{has_number};
 ghost use Rattle.base_io.specs.Counts.{Rose};
-ghost use Rattle.rig.specs.Rig.{shape_of};
+ghost use Rattle.rig.specs.Rig.{ForEach, shape_of};
 ghost use Rattle.diag_tests.specs.Routes.{cross_numbers};
 ghost use Rattle.diag_evidence.specs.Kept.{Advances, keeps_cross};
 ghost use Rattle.diag_known.specs.Known.{IsKnown};
@@ -36,7 +36,10 @@ fn toggle_hung(
     ensures kept { IfOk result (λ yes. IsTrue yes → keeps_cross facts.new offer.now.foot.cross.0 ≡ true) }
     ensures lost { IfOk result (λ yes. yes ≡ false →
         HasNoneBeside (rig_state rig.old).machine.faults facts.new known.now.steps offer.now way.now) }
+    ensures lost_each { IfOk result (λ yes. ForEach (rig_state rig.new) (λ told. yes ≡ false → HasNoneBeside told facts.new
+        known.now.steps offer.now way.now)) }
     ensures faulty { IfOk result (λ yes. yes ≡ false → IsFaulty (rig_state rig.old).machine.faults facts.old) }
+    ensures faulty_each { IfOk result (λ yes. ForEach (rig_state rig.new) (λ told. yes ≡ false → IsFaulty told facts.old)) }
     ensures advances { Advances (rig_state rig.old) (rig_state rig.new) facts.old facts.new }
     ensures loads { (rig_state rig.new).loads ≤ (rig_state rig.old).loads + 2 }
     ensures cause { IsErrOf result RigFail.Failed → Rose (rig_state rig.old).failures (rig_state rig.new).failures }
@@ -67,7 +70,11 @@ fn hang(
     ensures kept { IfOk result (λ yes. IsTrue yes → keeps_cross facts.new offer.now.foot.cross.0 ≡ true) }
     ensures lost { IfOk result (λ yes. yes ≡ false →
         HasNoneBeside (rig_state rig.old).machine.faults facts.new known.now.steps offer.now way.now) }
+    ensures lost_each { IfOk result (λ yes. ForEach (rig_state rig.new) (λ told. yes ≡ false → HasNoneBeside told facts.new
+        known.now.steps offer.now way.now)) }
     ensures marks { OnOk result (AreMarks (rig_state rig.old).machine.faults facts.new known.now.steps marks.new) }
+    ensures marks_each { OnOk result (ForEach (rig_state rig.new) (λ told. AreMarks told facts.old known.now.steps marks.old → AreMarks
+        told facts.new known.now.steps marks.new)) }
     ensures offers { OffersAtMost facts.old offer.now.foot.cross.0 marks.old marks.new (rig_state rig.old).loads (rig_state rig.new).loads }
     ensures advances { Advances (rig_state rig.old) (rig_state rig.new) facts.old facts.new }
     ensures cause { IsErrOf result RigFail.Failed → Rose (rig_state rig.old).failures (rig_state rig.new).failures }
@@ -105,9 +112,15 @@ pub fn toggle_first(
     requires first { has_number marks.old.offered offer.now.foot.cross.0 ≡ false }
     ensures kept { IfOk result (λ yes. IsTrue yes → keeps_cross facts.new offer.now.foot.cross.0 ≡ true) }
     ensures lost { IfOk result (λ yes. yes ≡ false → HasNoSecond (rig_state rig.old).machine.faults facts.new known.now.steps offer.now) }
+    ensures lost_each { IfOk result (λ yes. ForEach (rig_state rig.new) (λ told. yes ≡ false → HasNoSecond told facts.new known.now.steps
+        offer.now)) }
     ensures marks { OnOk result (AreMarks (rig_state rig.old).machine.faults facts.new known.now.steps marks.new) }
+    ensures marks_each { OnOk result (ForEach (rig_state rig.new) (λ told. AreMarks told facts.old known.now.steps marks.old → AreMarks
+        told facts.new known.now.steps marks.new)) }
     ensures spends { SpendsOn (rig_state rig.old).machine.faults facts.old offer.now marks.old marks.new (rig_state rig.old).loads
         (rig_state rig.new).loads }
+    ensures spends_each { ForEach (rig_state rig.new) (λ told. AreMarks told facts.old known.now.steps marks.old → SpendsOn told facts.old
+        offer.now marks.old marks.new (rig_state rig.old).loads (rig_state rig.new).loads) }
     ensures advances { Advances (rig_state rig.old) (rig_state rig.new) facts.old facts.new }
     ensures cause { IsErrOf result RigFail.Failed → Rose (rig_state rig.old).failures (rig_state rig.new).failures }
 {

@@ -3,7 +3,7 @@ ghost use Rattle.std.specs.Prelude.{All, ◌≡◌, ◌≢◌, ◌≤◌, ◌<�
 ghost use Rattle.base_io.specs.Counts.{Rose};
 ghost use Rattle.machine_shape.specs.Shape.{Ends, ends_of, crosses_of, pins_of};
 ghost use Rattle.machine_config.specs.Vocabulary.{among, IsDrivenAlone};
-ghost use Rattle.rig.specs.Rig.{shape_of};
+ghost use Rattle.rig.specs.Rig.{ForEach, shape_of};
 ghost use Rattle.diag_tests.specs.Vocabulary.{IsLoopConfig, IsRoute, cross_numbers};
 ghost use Rattle.diag_evidence.specs.Vocabulary.{Advances, keeps_cross, LoopPasses};
 ghost use Rattle.diag_known.specs.Known.{IsKnown, HasWire};
@@ -67,6 +67,8 @@ fn toggle(
     requires tie { among (cross_numbers ties.now) c.0 ≡ true }
     requires cross { c.0 < crosses_of facts.old.shape }
     ensures passes { IfOk result (LoopPasses (rig_state rig.old).machine.faults facts.old left.now right.now (cross_numbers ties.now) c.0) }
+    ensures passes_each { IfOk result (λ yes. ForEach (rig_state rig.new) (λ told. LoopPasses told facts.old left.now right.now
+        (cross_numbers ties.now) c.0 yes)) }
     ensures kept { IfOk result (λ yes. IsTrue yes → keeps_cross facts.new c.0 ≡ true) }
     ensures advances { Advances (rig_state rig.old) (rig_state rig.new) facts.old facts.new }
     ensures loads { (rig_state rig.new).loads ≤ (rig_state rig.old).loads + 2 }
@@ -102,6 +104,7 @@ pub fn toggle_known(
     requires b { HasWire known.now.steps b.0 }
     requires differ { a.0 ≢ b.0 }
     ensures kept { OnOk result (IsKeptUnlessStuck (rig_state rig.old).machine.faults facts.new c.0) }
+    ensures kept_each { OnOk result (ForEach (rig_state rig.new) (λ told. IsKeptUnlessStuck told facts.new c.0)) }
     ensures advances { Advances (rig_state rig.old) (rig_state rig.new) facts.old facts.new }
     ensures loads { (rig_state rig.new).loads ≤ (rig_state rig.old).loads + 2 }
     ensures cause { IsErrOf result RigFail.Failed → Rose (rig_state rig.old).failures (rig_state rig.new).failures }
@@ -138,6 +141,8 @@ pub fn toggle_over(
     requires hangs { keeps_cross facts.old over.cross.0 ≡ true }
     ensures kept { IfOk result (λ yes. IsTrue yes → keeps_cross facts.new foot.cross.0 ≡ true) }
     ensures lost { IfOk result (λ yes. yes ≡ false → IsLost (rig_state rig.old).machine.faults facts.new known.now.steps w.0 foot.cross.0) }
+    ensures lost_each { IfOk result (λ yes. ForEach (rig_state rig.new) (λ told. yes ≡ false → IsLost told facts.new known.now.steps w.0
+        foot.cross.0)) }
     ensures advances { Advances (rig_state rig.old) (rig_state rig.new) facts.old facts.new }
     ensures loads { (rig_state rig.new).loads ≤ (rig_state rig.old).loads + 2 }
     ensures cause { IsErrOf result RigFail.Failed → Rose (rig_state rig.old).failures (rig_state rig.new).failures }

@@ -7,6 +7,7 @@ use Rattle.rig.specs.Rig.{RigState}
 use Rattle.cmd_steps.specs.Vocabulary.{Outside, outside, Course, after, write, Follows}
 use Rattle.cmd_steps.specs.declared.refusal.Stop.{Stop}
 use Rattle.cmd_steps.proofs.Taking.{step-stops, step-gives, line-stops, line-gives}
+use Rattle.cmd_steps.proofs.Logs.{narrows_by}
 use Rattle.diag_list.specs.Lists.{Listed, IsListed, lists, lists_now, Makes, WritesList}
 use Rattle.diag_list.proofs.ListedLemmas.{listed-on, few-stops}
 
@@ -22,11 +23,11 @@ module _ (m : Shape) (before : ℕ) (near : Type 0) (here : Listed → Type 0) (
   list-gives : {U : Type 0} (d : DefectList) (result : Result U Stop) (new : Outside) → Makes m d (outside s r0 a) (outside s r1 k) → Follows ⊥ names (new.rig.machine ≡ r1.machine) (after-list (made d)) result (outside s r1 a) new → Follows ⊥ names (new.rig.machine ≡ r0.machine) (after (lists m before new.rig) near after-list) result (outside s r0 a) new
   list-gives d result new took is =
       let listed : IsListed m before r1 (made d) = rw loads at took.gives in
-      step-gives (lists m before new.rig) near after-list (lists_now m r0 r1) [] names _ _ d (made d) result (outside s r0 a) (outside s r1 a) new took (listed-on m before r1 new.rig (made d) listed is.machines) is (is.machines ∙ machine)
+      step-gives (lists m before new.rig) near after-list (lists_now m r0 r1) [] names _ _ d (made d) result (outside s r0 a) (outside s r1 a) new took (listed-on m before r1 new.rig (made d) listed is.machines (narrows_by is.later.log is.machines)) is (is.machines ∙ machine)
 
   pub list-ends : {U : Type 0} (stop : Stop) (result : Result U Stop) → result ≡ Err stop → WritesList m (Err stop) (outside s r0 a) (outside s r1 k) → near → ((l : Listed) → l.loads ≡ r1.loads → here l) → Follows ⊥ names (r1.machine ≡ r0.machine) (after (lists m before r1) near after-list) result (outside s r0 a) (outside s r1 k)
   list-ends stop result is (inl took) at stays =
-      step-stops (lists m before r1) near after-list (lists_now m r0 r1) [] names _ stop result (outside s r0 a) (outside s r1 k) is took (few-stops m before r0 r1 stop loads machine took.stops) at machine
+      step-stops (lists m before r1) near after-list (lists_now m r0 r1) [] names _ stop result (outside s r0 a) (outside s r1 k) is took (few-stops m before r0 r1 stop loads took.stops) at machine
   list-ends stop result is (inr (d, took, puts)) at stays =
       list-gives d result (outside s r1 k) took (line-stops (text_of d) (here (made d)) (rest (made d)) s r1 a k names _ stop result is puts (stays (made d) refl) refl)
 

@@ -94,7 +94,7 @@ module _ (machine name : List ℕ) (s0 s1 : StoreState) (sink : SinkState) where
 
       unlisted-stops : (stop : Stop) → StepStops (lists_now m r1 r2) stop → StepStops (listing-step r0 r2) stop
       unlisted-stops (Refused refusal) stops =
-          unlisted m read.gives (ap (λ (x : Machine). x.attached) same ∙ attached.gives) stops.0 (rw (← loads, same) stops.1)
+          unlisted m read.gives (ap (λ (x : Machine). x.attached) same ∙ attached.gives) stops.0 (rw (← loads) stops.1)
       unlisted-stops (Sink fail) stops = absurd stops
 
       -- it is listed, or not

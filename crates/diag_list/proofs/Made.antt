@@ -6,6 +6,7 @@ use Rattle.rig.specs.Rig.{RigState, shape_of}
 use Rattle.cmd_steps.specs.Vocabulary.{Outside, Course, after, attaches, Took, Follows}
 use Rattle.cmd_steps.specs.declared.refusal.Stop.{Stop}
 use Rattle.cmd_steps.proofs.Keeping.{kept-stops, kept-gives}
+use Rattle.cmd_steps.proofs.Logs.{narrows_by}
 use Rattle.diag_list.specs.Lists.{Listed, lists, lists_now}
 use Rattle.diag_list.proofs.ListedLemmas.{attached-shape, list-shape, listed-on, few-stops}
 
@@ -19,7 +20,7 @@ module _ {U : Type 0} (m : Shape) (before : ℕ) (near : Type 0) (rest : Listed 
       → Follows ⊥ [] (mid.rig.machine ≡ old.rig.machine) (after (lists m before mid.rig) near rest) result old mid
   list-stops stop is took loads machine at =
       kept-stops (lists m before mid.rig) near rest (lists_now m old.rig mid.rig) stop result old mid is took
-      (few-stops m before old.rig mid.rig stop loads machine) at machine
+      (few-stops m before old.rig mid.rig stop loads) at machine
 
   pub list-gives : (d : DefectList) (new : Outside) → Took [] (lists_now m old.rig mid.rig) (Ok d) old mid
       → old.rig.loads ≡ before → mid.rig.machine ≡ old.rig.machine
@@ -27,7 +28,7 @@ module _ {U : Type 0} (m : Shape) (before : ℕ) (near : Type 0) (rest : Listed 
       → Follows ⊥ [] (new.rig.machine ≡ old.rig.machine) (after (lists m before new.rig) near rest) result old new
   list-gives d new took loads machine rest_is =
       kept-gives (lists m before new.rig) near rest (lists_now m old.rig mid.rig) d (made d mid.rig) result old mid new took
-      (λ is. listed-on m before mid.rig new.rig (made d mid.rig) (rw loads at is) rest_is.machines) machine rest_is
+      (λ is. listed-on m before mid.rig new.rig (made d mid.rig) (rw loads at is) rest_is.machines (narrows_by rest_is.later.log rest_is.machines)) machine rest_is
 
 -- ---- the shape that is attached
 

@@ -4,7 +4,7 @@ use Rattle.base_io.specs.Told.{Told, IfTold}
 use Rattle.machine_shape.specs.declared.Shape.{Shape}
 use Rattle.machine_defects.specs.Vocabulary.{DefectList, IsDefectList, text_of}
 use Rattle.rig.specs.Rig.{RigState}
-use Rattle.diag_machine.specs.Diagnosis.{IsDiagnosis, TakesFewLoads}
+use Rattle.diag_list.specs.Possible.{IsDiagnosisOn, TakesFewLoadsOn}
 use Rattle.cmd_steps.specs.Vocabulary.{Step, Around, Outside, outside, FailsOnRig, IsMachineText, NoMachine, NotAttached, Took, Puts}
 use Rattle.cmd_steps.specs.declared.refusal.Refusal.{Refusal}
 use Rattle.cmd_steps.specs.declared.refusal.Stop.{Stop}
@@ -14,25 +14,25 @@ pub record Listed : Type 0 where
   pub list : DefectList
   pub loads : ℕ
 
--- The list is one of the machine. Where the machine's faults are told, it is a diagnosis of them. It took few loads from so many
--- that the rig counted before
+-- The list is one of the machine, and a diagnosis of whatever faults the machine may have. It took few loads from so many that the
+-- rig counted before
 pub record IsListed (m : Shape) (before : ℕ) (rig : RigState) (l : Listed) : Type 0 where
   pub shape : l.list.shape ≡ m
   pub kept : IsDefectList l.list
-  pub right : IsDiagnosis rig.machine.faults m l.list.list
-  pub few : TakesFewLoads rig.machine.faults m before l.loads
+  pub right : IsDiagnosisOn rig m l.list.list
+  pub few : TakesFewLoadsOn rig m before l.loads
 
--- a machine with these faults is listed, of which the rig counted so many loads before. It took few, also where it isn't listed
+-- the machine of this rig is listed, of which the rig counted so many loads before. It took few, also where it isn't listed
 abbrev pub lists : Shape → (before : ℕ) → RigState → Step Listed
 lists m before rig = record {
-  stops = λ refusal. FailsOnRig refusal × TakesFewLoads rig.machine.faults m before rig.loads;
+  stops = λ refusal. FailsOnRig refusal × TakesFewLoadsOn rig m before rig.loads;
   gives = IsListed m before rig;
 }
 
 -- the same of the list alone, from the rig as it was before to the rig as it is then
 abbrev pub lists_now : Shape → (old new : RigState) → Step DefectList
 lists_now m old new = record {
-  stops = λ refusal. FailsOnRig refusal × TakesFewLoads old.machine.faults m old.loads new.loads;
+  stops = λ refusal. FailsOnRig refusal × TakesFewLoadsOn new m old.loads new.loads;
   gives = λ d. IsListed m old.loads new (record { list = d; loads = new.loads });
 }
 
@@ -49,7 +49,7 @@ pub data NotListed (name : List ℕ) (text : Told) (old new : RigState) (refusal
   unattached : (m : Shape) → IfTold text (λ bytes. IsMachineText bytes m)
       → NotAttached (record { shape = m; name = name }) old new refusal → new.loads ≡ old.loads → NotListed name text old new refusal
   unlisted : (m : Shape) → IfTold text (λ bytes. IsMachineText bytes m) → new.machine.attached ≡ Some (record { shape = m; name = name })
-      → FailsOnRig refusal → TakesFewLoads new.machine.faults m old.loads new.loads → NotListed name text old new refusal
+      → FailsOnRig refusal → TakesFewLoadsOn new m old.loads new.loads → NotListed name text old new refusal
 
 -- the machine of this text is read, attached under the name and listed, from the rig as it was before to the rig as it is then
 abbrev pub lists_machine : (name : List ℕ) → (text : Told) → (old new : RigState) → Step DefectList
@@ -73,4 +73,4 @@ pub data MadeFewLoads (machine name : List ℕ) (more : (made now : ℕ) → Typ
   unloaded : new.rig.loads ≡ old.rig.loads → MadeFewLoads machine name more old new
   few : (shape : Shape) (made : ℕ) → IfTold (old.store.contents machine) (λ bytes. IsMachineText bytes shape)
       → new.rig.machine.attached ≡ Some (record { shape = shape; name = name })
-      → TakesFewLoads new.rig.machine.faults shape old.rig.loads made → more made new.rig.loads → MadeFewLoads machine name more old new
+      → TakesFewLoadsOn new.rig shape old.rig.loads made → more made new.rig.loads → MadeFewLoads machine name more old new

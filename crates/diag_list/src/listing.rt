@@ -1,7 +1,7 @@
 //! Lists of defects that are made and written.
 ghost use Rattle.std.specs.Prelude.{◌≡◌, [], ◌∷◌, Some};
-ghost use Rattle.diag_machine.specs.Diagnosis.{TakesFewLoads};
 ghost use Rattle.cmd_steps.specs.Vocabulary.{StoreState, SinkState, shape_of, outside, Took, AsksMachine, reads_machine};
+ghost use Rattle.diag_list.specs.Possible.{TakesFewLoadsOn};
 ghost use Rattle.diag_list.specs.Lists.{lists_machine, lists_now, WritesList};
 
 use base_io::{Sink, Store};
@@ -21,7 +21,7 @@ pub fn list_of(alloc: Global, shape: &Shape, rig: &mut Box<dyn Rig>) -> Result<D
     requires { shape_of (rig_state rig.old) ≡ Some shape.now }
 
     ensures machine { (rig_state rig.new).machine ≡ (rig_state rig.old).machine }
-    ensures loads { TakesFewLoads (rig_state rig.old).machine.faults shape.now (rig_state rig.old).loads (rig_state rig.new).loads }
+    ensures loads { TakesFewLoadsOn (rig_state rig.new) shape.now (rig_state rig.old).loads (rig_state rig.new).loads }
     // Whatever the store and the sink are.
     ensures took { (store : StoreState) (sink : SinkState) → Took [] (lists_now shape.now (rig_state rig.old) (rig_state rig.new)) result
         (outside store (rig_state rig.old) sink) (outside store (rig_state rig.new) sink) }

@@ -1,6 +1,6 @@
 -- What choices have made so far of what a diagnosis has at hand.
 use Rattle.std.proofs.Common.{◌≡◌, ◌≤◌}
-use Rattle.rig.specs.Rig.{RigState}
+use Rattle.rig.specs.Rig.{RigState, ForEach}
 use Rattle.diag_evidence.specs.Kept.{Kept, Advances}
 use Rattle.diag_known.specs.Known.{KnownWires, IsKnown}
 use Rattle.diag_sweep.specs.Marks.{AreMarksFor, TrueIf, worth}
@@ -13,5 +13,6 @@ pub record HasChosen (first now : RigState) (j k : Kept) (those : KnownWires) (w
   pub field : new.field ≡ old.field
   pub marks : AreMarksFor j.shape is
   pub right : TrueIf first.machine.faults k those.steps is
+  pub right_each : ForEach now (λ told. TrueIf told k those.steps is)
   pub pays : worth new.field k is now.loads new.choices.left ≤ worth old.field j was first.loads old.choices.left
   pub paid : new.choices.paid ≡ old.choices.paid

@@ -1,12 +1,13 @@
 -- The steps of a diagnosis, together.
 use Rattle.std.proofs.Common.{◌≡◌, ◌<◌, ◌+◌, ℕ, zero, suc, true, Some, Option, List, [], ◌∷◌, ◌++◌, length, refl, sym, ap, ◌∙◌, subst, All, slice_get}
+use Rattle.std.specs.Option.{option_map_or}
 use Rattle.std.proofs.lemmas.List.Elements.{All-push}
 use Rattle.base_bits.specs.Numbers.{has_number}
 use Rattle.machine_shape.specs.declared.Shape.{Shape}
 use Rattle.machine_shape.specs.declared.Table.{Table}
 use Rattle.machine_shape.specs.Vocabulary.{IsNumbered, pin_wire, wires_of, crosses_of, tables_of}
 use Rattle.machine_meaning.specs.Vocabulary.{Faults, Defects, Covers, IsFair, HasFeet, two, IsTight}
-use Rattle.rig.specs.Rig.{RigState}
+use Rattle.rig.specs.Rig.{RigState, Explains, ForEach}
 use Rattle.diag_evidence.specs.Kept.{Kept, HoldsFor, IsMore, Advances}
 use Rattle.diag_evidence.proofs.Keeping.{holds_earlier}
 use Rattle.diag_known.specs.Vocabulary.{ClosedIf, KnownWires, HasWire, IsKnown}
@@ -19,6 +20,13 @@ use Rattle.diag_sweep.specs.Marks.{HasTable}
 use Rattle.diag_machine.specs.Stages.{IsReached, ReachedIf, TablesIf}
 use Rattle.diag_machine.proofs.Covering.{covers, tight}
 use Rattle.diag_machine.proofs.Losing.{reached_later}
+
+some_same : (f g : Faults) → Some f ≡ Some g → f ≡ g
+some_same f g is = ap (λ (o : Option Faults). option_map_or (λ x. x) o f) is
+
+-- a set that explains what was read is the one that is spoken of
+pub holds_each : {s t : RigState} {k l : Kept} {f : Faults} → Advances s t k l → Explains f t → (g : Faults) → Some f ≡ Some g → HoldsFor k g → HoldsFor l g
+holds_each {t = t} {f = f} on e g is h = on.explained g (subst (λ (x : Faults). Explains x t) (some_same f g is) e) h
 
 -- What is closed in the whole machine is all that can be reached.
 pub reached_if : {told : Option Faults} {m : Shape} {l : Kept} {a : Field} {ss : List VerifiedWire} → m ≡ l.shape → IsNumbered l.shape → ((w : ℕ) → w < wires_of m → has_number a.wires w ≡ true) →
@@ -89,3 +97,23 @@ diagnosed {s} {t} {u} {k} {l} {n} {known} {d} numbering law nothing one other is
     tight_by : (f : Faults) → s.machine.faults ≡ Some f → IsTight k.shape d f
     tight_by f e = subst (λ m. IsTight m d f) one.more.shape
         (tight (numbering l.shape) is (reached.at f e (first f e)) only (λ i h seated right. (tables.each i h).at f (told f e) (first f e) seated right) here)
+
+-- The same, of each set of faults that explains what was read.
+pub diagnosed_each : {s t u : RigState} {k l n : Kept} {known : KnownWires} {d : Defects} → ((m : Shape) → IsNumbered m) → ((m : Shape) (d : Defects) (f : Faults) → IsTight m d f → IsFair m d f) →
+    ((f : Faults) → HoldsFor k f) → Advances s t k l → Advances t u l n → IsKnown l known → ForEach t (λ told. ReachedIf told l known.steps) → ForEach u (λ told. TablesIf told l n known.steps) →
+    AddsOnlyTableFacts l n → IsListOf n.shape n known.steps d → ForEach u (λ told. IsDiagnosis told k.shape d)
+diagnosed_each {s} {t} {u} {k} {l} {n} {known} {d} numbering law nothing one other is reached tables only list = λ f e. record {
+  covers = λ g same. subst (λ m. Covers m d g) one.more.shape (covers is other.more (holds_each other e g same (first f e g same)) here);
+  fair = λ g same. law k.shape d g (tight_by f e g same);
+  tight = λ g same. tight_by f e g same;
+}
+  where
+    first : (f : Faults) → Explains f u → (g : Faults) → Some f ≡ Some g → HoldsFor l g
+    first f e g same = holds_each one (other.narrows f e) g same (nothing g)
+
+    here : IsListOf l.shape n known.steps d
+    here = subst (λ m. IsListOf m n known.steps d) other.more.shape list
+
+    tight_by : (f : Faults) → Explains f u → (g : Faults) → Some f ≡ Some g → IsTight k.shape d g
+    tight_by f e g same = subst (λ m. IsTight m d g) one.more.shape
+        (tight (numbering l.shape) is ((reached f (other.narrows f e)).at g same (first f e g same)) only (λ i h seated right. ((tables f e).each i h).at g same (first f e g same) seated right) here)

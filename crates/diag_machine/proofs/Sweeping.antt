@@ -9,6 +9,7 @@ use Rattle.machine_shape.specs.declared.Table.{Table}
 use Rattle.machine_shape.specs.Shape.{tables_of}
 use Rattle.machine_meaning.specs.Faults.{Faults, IsFaultless}
 use Rattle.machine_meaning.proofs.Faultless.{all_sound}
+use Rattle.rig.specs.Rig.{RigState, ForEach, Narrows}
 use Rattle.diag_evidence.specs.Kept.{Kept, HoldsFor, IsMore}
 use Rattle.diag_known.specs.Vocabulary.{ClosedIf, IsFieldOf, HasWire}
 use Rattle.diag_known.proofs.Counting.{none_has, set_only}
@@ -35,6 +36,11 @@ marks_told e t = record { at = λ f told holds. t.at f (sym e ∙ told) holds }
 
 pub marks_by : {told now : Option Faults} {k : Kept} {ss : List VerifiedWire} {b : DefectMarks} → now ≡ told → TrueIf now k ss b → TrueIf told k ss b
 marks_by e t = record { at = λ f told holds. t.at f (e ∙ told) holds }
+
+-- marks that stay true, of each set that explains what was read
+pub marks_each : {r s : RigState} {k l : Kept} {old new : List VerifiedWire} {b c : DefectMarks} → ForEach s (λ told. TrueIf told k old b → TrueIf told l new c) → Narrows r s →
+    ForEach r (λ told. TrueIf told k old b) → ForEach s (λ told. TrueIf told l new c)
+marks_each p narrows q = λ f e. p f e (q f (narrows f e))
 
 -- Nothing is marked.
 pub marks_of_none : {told : Option Faults} {k : Kept} (ss : List VerifiedWire) {b : DefectMarks} → ((x : ℕ) → has_number b.stuck x ≡ false) → ((x : ℕ) → has_number b.unfit x ≡ false) → ((x : ℕ) → has_number b.unclear x ≡ false) →

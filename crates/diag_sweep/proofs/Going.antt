@@ -7,7 +7,7 @@ use Rattle.machine_shape.specs.Shape.{crosses_of}
 use Rattle.diag_evidence.specs.Kept.{Kept, IsMore, Advances}
 use Rattle.diag_evidence.proofs.Keeping.{advances_itself, advances_then}
 use Rattle.diag_evidence.proofs.KeptLemmas.{more_itself}
-use Rattle.rig.specs.Rig.{RigState}
+use Rattle.rig.specs.Rig.{RigState, ForEach}
 use Rattle.diag_known.specs.Vocabulary.{KnownWires, HasWire, IsKnown, IsFieldOf, GrowsIn}
 use Rattle.diag_known.specs.declared.field.Field.{Field}
 use Rattle.diag_known.specs.declared.verified_wire.VerifiedWire.{VerifiedWire}
@@ -51,6 +51,10 @@ goes_then p q = record {
 pub goes_on : {a : Field} {tables : List Table} {x y z : Hand} {r s : RigState} {k l : Kept} → Advances r s k l → Goes r.machine.faults a tables x y → Goes s.machine.faults a tables y z → Goes r.machine.faults a tables x z
 goes_on {a} {tables} {x} {y} {z} advances p q = goes_then p (subst (λ (told : Option Faults). Goes told a tables y z) (ap (λ m. m.faults) advances.machine) q)
 
+-- the same, of each set of faults that explains what was read
+pub goes_on_each : {a : Field} {tables : List Table} {x y z : Hand} {r s : RigState} {k l : Kept} → ForEach r (λ told. Goes told a tables x y) → Advances r s k l → ForEach s (λ told. Goes told a tables y z) → ForEach s (λ told. Goes told a tables x z)
+goes_on_each p on q = λ f e. goes_then (p f (on.narrows f e)) (q f e)
+
 -- more tables might have been marked
 pub goes_wider : {told : Option Faults} {a : Field} {x y : Hand} (tables : List Table) → Goes told a [] x y → Goes told a tables x y
 goes_wider {told} {a} {x} {y} tables g = record {
@@ -93,13 +97,14 @@ goes_tested {a = a} {known = known} n hand can took more marked holds = record {
 pub record HasGone (first now : RigState) (j k : Kept) (a : Field) (tables : List Table) (old new : Hand) : Type 0 where
   pub hand : IsHand a new
   pub goes : Goes first.machine.faults a tables old new
+  pub each : ForEach now (λ told. Goes told a tables old new)
   pub advances : Advances first now j k
 
 pub gone_none : {r : RigState} {k : Kept} {a : Field} {tables : List Table} {h : Hand} → IsHand a h → HasGone r r k k a tables h h
-gone_none {r} {k} hand = record { hand = hand; goes = goes_itself hand; advances = advances_itself r k }
+gone_none {r} {k} hand = record { hand = hand; goes = goes_itself hand; each = λ f e. goes_itself hand; advances = advances_itself r k }
 
-pub gone_on : {r s t : RigState} {j k l : Kept} {a : Field} {tables : List Table} {x y z : Hand} → HasGone r s j k a tables x y → Goes s.machine.faults a tables y z → Advances s t k l → HasGone r t j l a tables x z
-gone_on p q on = let goes = goes_on p.advances p.goes q in record { hand = goes.hand; goes = goes; advances = advances_then p.advances on }
+pub gone_on : {r s t : RigState} {j k l : Kept} {a : Field} {tables : List Table} {x y z : Hand} → HasGone r s j k a tables x y → Goes s.machine.faults a tables y z → Advances s t k l → ForEach t (λ told. Goes told a tables y z) → HasGone r t j l a tables x z
+gone_on p q on each = let goes = goes_on p.advances p.goes q in record { hand = goes.hand; goes = goes; each = goes_on_each p.each on each; advances = advances_then p.advances on }
 
 -- a purse that is settled anew
 pub goes_settled : {told : Option Faults} {a : Field} {tables : List Table} {k : Kept} {known : KnownWires} {bad : DefectMarks} {old new : LoadBudget} {loads : ℕ} → IsHand a (in_hand k known bad old loads) → Settles k bad old new →

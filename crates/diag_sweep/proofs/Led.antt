@@ -54,15 +54,15 @@ stuck_marks told a k l known g drive ls seen was is (Ok v) c len led same = reco
     by x (inr on) = inl on
 stuck_marks told a k l known g drive ls seen was is (Err e) c len led same = subst (MarksSome (λ x. has_number a.crosses x ≡ true) was) (sym same) (some_itself _ was)
 
-pub lead_goes : {told : Option Faults} {a : Field} {k l : Kept} {known : KnownWires} {bad : DefectMarks} {budget : LoadBudget} {before after : ℕ} {g : Configuration} {drive : List Bool} {ls : List Lead} {seen stuck : List Bool} {T E : Type 0} (r : Result T E) →
+pub lead_goes : (shown : Option Faults) {told : Option Faults} {a : Field} {k l : Kept} {known : KnownWires} {bad : DefectMarks} {budget : LoadBudget} {before after : ℕ} {g : Configuration} {drive : List Bool} {ls : List Lead} {seen stuck : List Bool} {T E : Type 0} (r : Result T E) →
     IsHand a (in_hand k known bad budget before) → IsCourse k known.steps a g drive ls seen → before + 1 ≤ budget.most → after ≤ before + 1 → IsMore k l → length stuck ≡ length bad.stuck →
-    OnOk r (HasLed told g drive ls k l bad.stuck stuck) → OnErr r (stuck ≡ bad.stuck) → (StuckIf told k bad.stuck → StuckIf told l stuck) →
+    OnOk r (HasLed shown g drive ls k l bad.stuck stuck) → OnErr r (stuck ≡ bad.stuck) → (StuckIf told k bad.stuck → StuckIf told l stuck) →
     Goes told a [] (in_hand k known bad budget before) (in_hand l known (record bad { stuck = stuck }) budget after)
-lead_goes {told} {a} {k} {l} {known} {bad} {budget} {before} {after} {g} {drive} {ls} {seen} {stuck} r hand course can took more len led same true_ = goes_tested 1 hand can took more marked holds
+lead_goes shown {told} {a} {k} {l} {known} {bad} {budget} {before} {after} {g} {drive} {ls} {seen} {stuck} r hand course can took more len led same true_ = goes_tested 1 hand can took more marked holds
   where
     marked : MarksIn a [] bad (record bad { stuck = stuck })
     marked = record {
-      stuck = stuck_marks told a k l known g drive ls seen bad.stuck stuck r course len led same;
+      stuck = stuck_marks shown a k l known g drive ls seen bad.stuck stuck r course len led same;
       unfit = some_itself _ bad.unfit;
       unclear = some_itself _ bad.unclear;
       wrong = some_itself _ bad.wrong;

@@ -1,11 +1,11 @@
 -- What a load of tables leaves.
-use Rattle.std.proofs.Common.{◌≡◌, ◌⊎◌, inl, inr, ℕ, suc, ◌≤◌, ◌+◌, Bool, true, false, not, ◌&&◌, Option, Result, Ok, Err, List, [], ◌∷◌, length, refl, sym, ◌∙◌, subst, arith, All, OnOk, OnErr, ◌==◌}
+use Rattle.std.proofs.Common.{◌≡◌, ◌⊎◌, inl, inr, ℕ, suc, ◌≤◌, ◌+◌, Bool, true, false, not, ◌&&◌, Option, Some, Result, Ok, Err, List, [], ◌∷◌, length, refl, sym, ◌∙◌, subst, arith, All, OnOk, OnErr, ◌==◌}
 use Rattle.std.proofs.lemmas.Bool.{false≢true, or_cases, and_parts, or_right}
 use Rattle.std.proofs.lemmas.Bool.Decides.{nat_tests}
 use Rattle.base_bits.specs.Numbers.{has_number}
 use Rattle.machine_shape.specs.declared.Table.{Table}
 use Rattle.machine_meaning.specs.Faults.{Faults}
-use Rattle.rig.specs.Rig.{RigState}
+use Rattle.rig.specs.Rig.{RigState, ForEach}
 use Rattle.diag_evidence.specs.Vocabulary.{Trees, Kept, Advances, IsMore, HasTabled, WrongIf, is_one_of, is_right_before, output_pin}
 use Rattle.diag_evidence.proofs.Keeping.{advances_itself, advances_then}
 use Rattle.diag_known.specs.Known.{KnownWires}
@@ -14,7 +14,7 @@ use Rattle.diag_sweep.specs.Marks.{HasTable, MarksSome, MarksIn, TrueIf}
 use Rattle.diag_sweep.specs.Stages.{Goes, Hand, IsHand, in_hand}
 use Rattle.diag_sweep.specs.declared.defect_marks.DefectMarks.{DefectMarks}
 use Rattle.diag_sweep.specs.declared.budget.LoadBudget.{LoadBudget}
-use Rattle.diag_sweep.proofs.Going.{goes_itself, goes_on, goes_tested}
+use Rattle.diag_sweep.proofs.Going.{goes_itself, goes_on, goes_on_each, goes_tested}
 use Rattle.diag_sweep.proofs.Marking.{true_later, some_itself}
 
 -- one of these tables is one of the given ones
@@ -69,16 +69,21 @@ table_goes {told} {a} {k} {l} {known} {bad} {wrong} {budget} {before} {after} ta
 pub table_on : {a : Field} {ts us : List Table} {x y z : Hand} {r s : RigState} {k l : Kept} → us ≡ ts → Advances r s k l → Goes r.machine.faults a ts x y → Goes s.machine.faults a us y z → Goes r.machine.faults a ts x z
 table_on {a = a} {y = y} {z = z} {s = s} same advances p q = goes_on advances p (subst (λ (t : List Table). Goes s.machine.faults a t y z) same q)
 
+-- the same, of each set of faults that explains what was read
+pub table_on_each : {a : Field} {ts us : List Table} {x y z : Hand} {r s : RigState} {k l : Kept} → us ≡ ts → ForEach r (λ told. Goes told a ts x y) → Advances r s k l → ForEach s (λ told. Goes told a us y z) → ForEach s (λ told. Goes told a ts x z)
+table_on_each {a = a} {y = y} {z = z} same p on q = goes_on_each p on (λ f e. subst (λ (t : List Table). Goes (Some f) a t y z) same (q f e))
+
 -- what tests of tables have made of what is in hand so far, and the tables are as they were
 pub record HasTested (first now : RigState) (j k : Kept) (a : Field) (given : List Table) (old new : Hand) {T : Type 0} (was is : T) : Type 0 where
   pub hand : IsHand a new
   pub goes : Goes first.machine.faults a given old new
+  pub each : ForEach now (λ told. Goes told a given old new)
   pub tables : is ≡ was
   pub advances : Advances first now j k
 
 pub tested_none : {r : RigState} {k : Kept} {a : Field} {given : List Table} {h : Hand} {T : Type 0} {was : T} → IsHand a h → HasTested r r k k a given h h was was
-tested_none {r} {k} hand = record { hand = hand; goes = goes_itself hand; tables = refl; advances = advances_itself r k }
+tested_none {r} {k} hand = record { hand = hand; goes = goes_itself hand; each = λ f e. goes_itself hand; tables = refl; advances = advances_itself r k }
 
-pub tested_on : {r s t : RigState} {j k l : Kept} {a : Field} {given those : List Table} {x y z : Hand} {T : Type 0} {was is new : T} → HasTested r s j k a given x y was is → those ≡ given → Goes s.machine.faults a those y z → new ≡ is → Advances s t k l →
+pub tested_on : {r s t : RigState} {j k l : Kept} {a : Field} {given those : List Table} {x y z : Hand} {T : Type 0} {was is new : T} → HasTested r s j k a given x y was is → those ≡ given → Goes s.machine.faults a those y z → new ≡ is → Advances s t k l → ForEach t (λ told. Goes told a those y z) →
     HasTested r t j l a given x z was new
-tested_on p same q tables on = let goes = table_on same p.advances p.goes q in record { hand = goes.hand; goes = goes; tables = tables ∙ p.tables; advances = advances_then p.advances on }
+tested_on p same q tables on each = let goes = table_on same p.advances p.goes q in record { hand = goes.hand; goes = goes; each = table_on_each same p.each on each; tables = tables ∙ p.tables; advances = advances_then p.advances on }

@@ -4,7 +4,7 @@ ghost use Rattle.base_io.specs.Counts.{Rose};
 ghost use Rattle.base_bits.specs.Numbers.{has_number, size_of};
 ghost use Rattle.machine_meaning.specs.Faults.{Faults};
 ghost use Rattle.machine_shape.specs.Shape.{crosses_of, wires_of};
-ghost use Rattle.rig.specs.Rig.{shape_of};
+ghost use Rattle.rig.specs.Rig.{ForEach, shape_of};
 ghost use Rattle.diag_evidence.specs.Kept.{Advances};
 ghost use Rattle.diag_known.specs.Vocabulary.{GrowsIn, IsFieldOf, HasWire, InSet, IsKnown, KnownWires};
 ghost use Rattle.diag_sweep.specs.Marks.{AreMarksFor, MarksIn, TrueIf, worth};
@@ -223,6 +223,8 @@ pub fn choose(
     ensures marks { AreMarksFor facts.old.shape bad.new }
     ensures right { TrueIf (rig_state rig.old).machine.faults facts.old known.old.steps bad.old →
         TrueIf (rig_state rig.old).machine.faults facts.new known.new.steps bad.new }
+    ensures right_each { ForEach (rig_state rig.new) (λ told. TrueIf told facts.old known.old.steps bad.old → TrueIf told facts.new
+        known.new.steps bad.new) }
     ensures pays { worth field.now facts.new bad.new (rig_state rig.new).loads choices.new.left
         ≤ worth field.now facts.old bad.old (rig_state rig.old).loads choices.old.left }
     ensures paid { choices.new.paid ≡ choices.old.paid }
@@ -276,6 +278,8 @@ pub fn sweep_with(
     ensures marks { MarksIn field.now choices.old.table_sweep.tables.items bad.old bad.new }
     ensures right { TrueIf (rig_state rig.old).machine.faults facts.old known.old.steps bad.old →
         TrueIf (rig_state rig.old).machine.faults facts.new known.new.steps bad.new }
+    ensures right_each { ForEach (rig_state rig.new) (λ told. TrueIf told facts.old known.old.steps bad.old → TrueIf told facts.new
+        known.new.steps bad.new) }
     ensures pays { worth field.now facts.new bad.new (rig_state rig.new).loads choices.new.left
         ≤ worth field.now facts.old bad.old (rig_state rig.old).loads choices.old.left }
     ensures paid { choices.new.paid ≡ choices.old.paid }

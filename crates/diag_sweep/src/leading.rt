@@ -2,7 +2,7 @@
 ghost use Rattle.std.specs.Prelude.{◌≡◌, [], true, Some, IfOk, OnOk, IsTrue, IsErrOf, length};
 ghost use Rattle.base_io.specs.Counts.{Rose};
 ghost use Rattle.machine_shape.specs.Shape.{crosses_of};
-ghost use Rattle.rig.specs.Rig.{shape_of};
+ghost use Rattle.rig.specs.Rig.{ForEach, shape_of};
 ghost use Rattle.diag_tests.specs.Vocabulary.{IsRoute, Closes};
 ghost use Rattle.diag_evidence.specs.Kept.{Advances};
 ghost use Rattle.diag_known.specs.Vocabulary.{IsFieldOf, IsKnown};
@@ -127,6 +127,8 @@ fn lead_load(
     ensures goes { Goes (rig_state rig.old).machine.faults field.now []
         (in_hand facts.old known.now bad.old state.now.budget (rig_state rig.old).loads)
         (in_hand facts.new known.now bad.new state.now.budget (rig_state rig.new).loads) }
+    ensures goes_each { ForEach (rig_state rig.new) (λ told. Goes told field.now [] (in_hand facts.old known.now bad.old state.now.budget
+        (rig_state rig.old).loads) (in_hand facts.new known.now bad.new state.now.budget (rig_state rig.new).loads)) }
     ensures advances { Advances (rig_state rig.old) (rig_state rig.new) facts.old facts.new }
     ensures cause { IsErrOf result RigFail.Failed → Rose (rig_state rig.old).failures (rig_state rig.new).failures }
 {
@@ -187,6 +189,8 @@ fn lead_turn(
     ensures goes { Goes (rig_state rig.old).machine.faults field.now []
         (in_hand facts.old known.now bad.old state.old.budget (rig_state rig.old).loads)
         (in_hand facts.new known.now bad.new state.new.budget (rig_state rig.new).loads) }
+    ensures goes_each { ForEach (rig_state rig.new) (λ told. Goes told field.now [] (in_hand facts.old known.now bad.old state.old.budget
+        (rig_state rig.old).loads) (in_hand facts.new known.now bad.new state.new.budget (rig_state rig.new).loads)) }
     ensures advances { Advances (rig_state rig.old) (rig_state rig.new) facts.old facts.new }
     ensures cause { IsErrOf result RigFail.Failed → Rose (rig_state rig.old).failures (rig_state rig.new).failures }
 {
@@ -226,6 +230,8 @@ pub(crate) fn lead_paths(
     ensures goes { Goes (rig_state rig.old).machine.faults field.now []
         (in_hand facts.old known.now bad.old state.old.budget (rig_state rig.old).loads)
         (in_hand facts.new known.now bad.new state.new.budget (rig_state rig.new).loads) }
+    ensures goes_each { ForEach (rig_state rig.new) (λ told. Goes told field.now [] (in_hand facts.old known.now bad.old state.old.budget
+        (rig_state rig.old).loads) (in_hand facts.new known.now bad.new state.new.budget (rig_state rig.new).loads)) }
     ensures advances { Advances (rig_state rig.old) (rig_state rig.new) facts.old facts.new }
     ensures cause { IsErrOf result RigFail.Failed → Rose (rig_state rig.old).failures (rig_state rig.new).failures }
 {

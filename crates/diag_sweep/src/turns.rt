@@ -2,7 +2,7 @@
 ghost use Rattle.std.specs.Prelude.{◌≡◌, [], Some, IsErrOf, length};
 ghost use Rattle.base_io.specs.Counts.{Rose};
 ghost use Rattle.machine_shape.specs.Shape.{crosses_of};
-ghost use Rattle.rig.specs.Rig.{shape_of};
+ghost use Rattle.rig.specs.Rig.{ForEach, shape_of};
 ghost use Rattle.diag_evidence.specs.Kept.{Advances};
 ghost use Rattle.diag_sweep.specs.Marks.{AreMarksFor};
 ghost use Rattle.diag_sweep.specs.Stages.{Goes, IsHand, Settles, in_hand};
@@ -42,6 +42,8 @@ fn pin_turn(
     ensures goes { Goes (rig_state rig.old).machine.faults field.now []
         (in_hand facts.old known.old bad.now state.old.budget (rig_state rig.old).loads)
         (in_hand facts.new known.new bad.now state.new.budget (rig_state rig.new).loads) }
+    ensures goes_each { ForEach (rig_state rig.new) (λ told. Goes told field.now [] (in_hand facts.old known.old bad.now state.old.budget
+        (rig_state rig.old).loads) (in_hand facts.new known.new bad.now state.new.budget (rig_state rig.new).loads)) }
     ensures advances { Advances (rig_state rig.old) (rig_state rig.new) facts.old facts.new }
     ensures cause { IsErrOf result RigFail.Failed → Rose (rig_state rig.old).failures (rig_state rig.new).failures }
 {
@@ -79,6 +81,8 @@ fn hang_turn(
     ensures goes { Goes (rig_state rig.old).machine.faults field.now []
         (in_hand facts.old known.old bad.old state.old.budget (rig_state rig.old).loads)
         (in_hand facts.new known.new bad.new state.new.budget (rig_state rig.new).loads) }
+    ensures goes_each { ForEach (rig_state rig.new) (λ told. Goes told field.now [] (in_hand facts.old known.old bad.old state.old.budget
+        (rig_state rig.old).loads) (in_hand facts.new known.new bad.new state.new.budget (rig_state rig.new).loads)) }
     ensures advances { Advances (rig_state rig.old) (rig_state rig.new) facts.old facts.new }
     ensures cause { IsErrOf result RigFail.Failed → Rose (rig_state rig.old).failures (rig_state rig.new).failures }
 {
@@ -113,6 +117,8 @@ fn hang_height(
     ensures goes { Goes (rig_state rig.old).machine.faults field.now []
         (in_hand facts.old known.old bad.old state.old.budget (rig_state rig.old).loads)
         (in_hand facts.new known.new bad.new state.new.budget (rig_state rig.new).loads) }
+    ensures goes_each { ForEach (rig_state rig.new) (λ told. Goes told field.now [] (in_hand facts.old known.old bad.old state.old.budget
+        (rig_state rig.old).loads) (in_hand facts.new known.new bad.new state.new.budget (rig_state rig.new).loads)) }
     ensures advances { Advances (rig_state rig.old) (rig_state rig.new) facts.old facts.new }
     ensures cause { IsErrOf result RigFail.Failed → Rose (rig_state rig.old).failures (rig_state rig.new).failures }
 {
@@ -138,6 +144,8 @@ fn sweep_height(
     ensures goes { Goes (rig_state rig.old).machine.faults field.now []
         (in_hand facts.old known.old bad.old state.old.budget (rig_state rig.old).loads)
         (in_hand facts.new known.new bad.new state.new.budget (rig_state rig.new).loads) }
+    ensures goes_each { ForEach (rig_state rig.new) (λ told. Goes told field.now [] (in_hand facts.old known.old bad.old state.old.budget
+        (rig_state rig.old).loads) (in_hand facts.new known.new bad.new state.new.budget (rig_state rig.new).loads)) }
     ensures advances { Advances (rig_state rig.old) (rig_state rig.new) facts.old facts.new }
     ensures cause { IsErrOf result RigFail.Failed → Rose (rig_state rig.old).failures (rig_state rig.new).failures }
 {
@@ -163,6 +171,8 @@ fn sweep_heights(
     ensures goes { Goes (rig_state rig.old).machine.faults field.now []
         (in_hand facts.old known.old bad.old state.old.budget (rig_state rig.old).loads)
         (in_hand facts.new known.new bad.new state.new.budget (rig_state rig.new).loads) }
+    ensures goes_each { ForEach (rig_state rig.new) (λ told. Goes told field.now [] (in_hand facts.old known.old bad.old state.old.budget
+        (rig_state rig.old).loads) (in_hand facts.new known.new bad.new state.new.budget (rig_state rig.new).loads)) }
     ensures advances { Advances (rig_state rig.old) (rig_state rig.new) facts.old facts.new }
     ensures cause { IsErrOf result RigFail.Failed → Rose (rig_state rig.old).failures (rig_state rig.new).failures }
 {
@@ -187,6 +197,8 @@ fn sweep_pass(
     ensures goes { Goes (rig_state rig.old).machine.faults field.now []
         (in_hand facts.old known.old bad.old state.old.budget (rig_state rig.old).loads)
         (in_hand facts.new known.new bad.new state.new.budget (rig_state rig.new).loads) }
+    ensures goes_each { ForEach (rig_state rig.new) (λ told. Goes told field.now [] (in_hand facts.old known.old bad.old state.old.budget
+        (rig_state rig.old).loads) (in_hand facts.new known.new bad.new state.new.budget (rig_state rig.new).loads)) }
     ensures advances { Advances (rig_state rig.old) (rig_state rig.new) facts.old facts.new }
     ensures cause { IsErrOf result RigFail.Failed → Rose (rig_state rig.old).failures (rig_state rig.new).failures }
 {
@@ -211,6 +223,8 @@ fn sweep_twice(
     ensures goes { Goes (rig_state rig.old).machine.faults field.now []
         (in_hand facts.old known.old bad.old state.old.budget (rig_state rig.old).loads)
         (in_hand facts.new known.new bad.new state.new.budget (rig_state rig.new).loads) }
+    ensures goes_each { ForEach (rig_state rig.new) (λ told. Goes told field.now [] (in_hand facts.old known.old bad.old state.old.budget
+        (rig_state rig.old).loads) (in_hand facts.new known.new bad.new state.new.budget (rig_state rig.new).loads)) }
     ensures advances { Advances (rig_state rig.old) (rig_state rig.new) facts.old facts.new }
     ensures cause { IsErrOf result RigFail.Failed → Rose (rig_state rig.old).failures (rig_state rig.new).failures }
 {
@@ -234,6 +248,8 @@ pub(crate) fn sweep_all(
     ensures goes { Goes (rig_state rig.old).machine.faults field.now []
         (in_hand facts.old known.old bad.old state.old.budget (rig_state rig.old).loads)
         (in_hand facts.new known.new bad.new state.new.budget (rig_state rig.new).loads) }
+    ensures goes_each { ForEach (rig_state rig.new) (λ told. Goes told field.now [] (in_hand facts.old known.old bad.old state.old.budget
+        (rig_state rig.old).loads) (in_hand facts.new known.new bad.new state.new.budget (rig_state rig.new).loads)) }
     ensures advances { Advances (rig_state rig.old) (rig_state rig.new) facts.old facts.new }
     ensures cause { IsErrOf result RigFail.Failed → Rose (rig_state rig.old).failures (rig_state rig.new).failures }
 {
@@ -266,6 +282,8 @@ fn pins_left(
     ensures goes { Goes (rig_state rig.old).machine.faults field.now []
         (in_hand facts.old known.old bad.old state.old.budget (rig_state rig.old).loads)
         (in_hand facts.new known.new bad.new state.new.budget (rig_state rig.new).loads) }
+    ensures goes_each { ForEach (rig_state rig.new) (λ told. Goes told field.now [] (in_hand facts.old known.old bad.old state.old.budget
+        (rig_state rig.old).loads) (in_hand facts.new known.new bad.new state.new.budget (rig_state rig.new).loads)) }
     ensures advances { Advances (rig_state rig.old) (rig_state rig.new) facts.old facts.new }
     ensures cause { IsErrOf result RigFail.Failed → Rose (rig_state rig.old).failures (rig_state rig.new).failures }
 {
@@ -289,6 +307,8 @@ fn first_turns(
     ensures goes { Goes (rig_state rig.old).machine.faults field.now []
         (in_hand facts.old known.old bad.old state.old.budget (rig_state rig.old).loads)
         (in_hand facts.new known.new bad.new state.new.budget (rig_state rig.new).loads) }
+    ensures goes_each { ForEach (rig_state rig.new) (λ told. Goes told field.now [] (in_hand facts.old known.old bad.old state.old.budget
+        (rig_state rig.old).loads) (in_hand facts.new known.new bad.new state.new.budget (rig_state rig.new).loads)) }
     ensures advances { Advances (rig_state rig.old) (rig_state rig.new) facts.old facts.new }
     ensures cause { IsErrOf result RigFail.Failed → Rose (rig_state rig.old).failures (rig_state rig.new).failures }
 {
@@ -314,6 +334,8 @@ pub(crate) fn sweep_chosen(
     ensures goes { Goes (rig_state rig.old).machine.faults field.now []
         (in_hand facts.old known.old bad.old state.old.budget (rig_state rig.old).loads)
         (in_hand facts.new known.new bad.new state.new.budget (rig_state rig.new).loads) }
+    ensures goes_each { ForEach (rig_state rig.new) (λ told. Goes told field.now [] (in_hand facts.old known.old bad.old state.old.budget
+        (rig_state rig.old).loads) (in_hand facts.new known.new bad.new state.new.budget (rig_state rig.new).loads)) }
     ensures advances { Advances (rig_state rig.old) (rig_state rig.new) facts.old facts.new }
     ensures cause { IsErrOf result RigFail.Failed → Rose (rig_state rig.old).failures (rig_state rig.new).failures }
 {

@@ -1,7 +1,7 @@
 //! The whole sweep.
 ghost use Rattle.std.specs.Prelude.{◌≡◌, Some, IsErrOf};
 ghost use Rattle.base_io.specs.Counts.{Rose};
-ghost use Rattle.rig.specs.Rig.{shape_of};
+ghost use Rattle.rig.specs.Rig.{ForEach, shape_of};
 ghost use Rattle.diag_evidence.specs.Kept.{Advances};
 ghost use Rattle.diag_known.specs.Vocabulary.{IsFieldOf, GrowsIn, IsKnown};
 ghost use Rattle.diag_sweep.specs.Marks.{AreMarksFor, MarksIn, Pays, TrueIf};
@@ -42,6 +42,8 @@ pub fn sweep(
     ensures marks { MarksIn field.now tables.now bad.old bad.new }
     ensures right { TrueIf (rig_state rig.old).machine.faults facts.old known.old.steps bad.old →
         TrueIf (rig_state rig.old).machine.faults facts.new known.new.steps bad.new }
+    ensures right_each { ForEach (rig_state rig.new) (λ told. TrueIf told facts.old known.old.steps bad.old → TrueIf told facts.new
+        known.new.steps bad.new) }
     ensures pays { Pays field.now facts.old bad.old (rig_state rig.old).loads facts.new bad.new (rig_state rig.new).loads }
     ensures advances { Advances (rig_state rig.old) (rig_state rig.new) facts.old facts.new }
     ensures cause { IsErrOf result RigFail.Failed → Rose (rig_state rig.old).failures (rig_state rig.new).failures }

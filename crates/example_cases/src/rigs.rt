@@ -1,13 +1,21 @@
-//! Commands over rigs that compare readings, and over a machine behind files.
+//! Commands over rigs that compare readings, and over a machine behind files or behind a port in memory; and boards and ports, step by
+//! step.
 //!
 //! A text has a case in each line; its head says how they are written. Each is printed, with what the command wrote and its status.
 
+mod faults;
 mod lost;
+mod memory_board;
+mod steps;
+mod table_port;
+mod talk;
+mod telling_rig;
 
-ghost use Rattle.std.specs.Prelude.{◌≡◌, None, IfOk};
-
+use crate::rigs::faults::sim_of;
 use crate::rigs::lost::load_twice;
-use base_io::{File, FileStore, MemoryStore, StdSink};
+use crate::rigs::steps::{try_answers, try_asks, try_board};
+use crate::rigs::telling_rig::TellingRig;
+use base_io::{FileStore, StdSink};
 use cmd_top::teramac;
 use example_kit::{TINY, words_of};
 use example_rigs::TurnRig;
@@ -16,32 +24,10 @@ use rig::Rig;
 use rig_board::BoardRig;
 use rig_doubled::{RepeatRig, TwinRig};
 use rig_port::{FileBoard, PortBoard, RigPort};
-use rig_simulated::SimRig;
 use std::alloc::Global;
+use std::cell::Cell;
+use std::rc::Rc;
 use std::{fs, io};
-
-/// The fault texts that simulated rigs find, by name.
-const FAULTS: [(&str, &str); 5] = [
-    ("none", ""),
-    ("2xnone", ""),
-    ("3xnone", ""),
-    ("stuck", "stuck0 r.l0\n"),
-    ("wrong", "stuck2 r.l0\n"),
-];
-
-// A simulated rig, in no session.
-fn sim_of(alloc: Global) -> io::Result<SimRig<MemoryStore>>
-    ensures { IfOk result (λ rig. (⟦<SimRig<MemoryStore> as Rig>⟧.rig_state rig).session ≡ None) }
-{
-    let mut files = Vec::new(alloc);
-    for (name, text) in FAULTS {
-        files.push(File {
-            name: String::from_str(alloc, name)?,
-            bytes: Vec::from_slice(alloc, text.as_bytes())?,
-        })?;
-    }
-    Ok(SimRig::new(alloc, MemoryStore::new(alloc, files, Vec::new(alloc))))
-}
 
 // A number; 0 where the word is none.
 fn number_of(word: &str) -> u64 {
@@ -57,18 +43,34 @@ fn tell(rt: &HostRuntime, status: u8) -> io::Result<bool> {
 // Over a rig that asks again, over one that turns the reading of a number.
 fn try_repeat(rt: &HostRuntime, turned: &str, words: &[String]) -> io::Result<bool> {
     let alloc: Global = rt.alloc();
-    let inner = TurnRig::new(sim_of(alloc)?, number_of(turned));
+    let inner = TurnRig::new(sim_of(rt)?, number_of(turned));
     let mut rig: Box<dyn Rig> = Box::new(alloc, RepeatRig::new(alloc, inner))?;
     let mut store = FileStore::new(alloc, rt.clone()?);
     let mut sink = StdSink::new(rt.clone()?);
     tell(rt, teramac(alloc, words, &mut store, &mut rig, &mut sink))
 }
 
+// Over a rig that asks again. False where its inner rig wasn't loaded so often for each load but the last, and once for that.
+fn try_passes(rt: &HostRuntime, times: &str, words: &[String]) -> io::Result<bool> {
+    let alloc: Global = rt.alloc();
+    let loads = Rc::new(alloc, Cell::new(0u64))?;
+    let inner = TellingRig::new(sim_of(rt)?, loads.clone()?);
+    let mut rig: Box<dyn Rig> = Box::new(alloc, RepeatRig::new(alloc, inner))?;
+    let mut store = FileStore::new(alloc, rt.clone()?);
+    let mut sink = StdSink::new(rt.clone()?);
+    let status = teramac(alloc, words, &mut store, &mut rig, &mut sink);
+    let but_last = rig.loads().saturating_sub(1);
+    let due = but_last.saturating_mul(number_of(times)).saturating_add(1);
+    let right = 0 < but_last && loads.get() == due;
+    println!(rt; "status {status}, each load but the last was made {times} times: {right}")?;
+    Ok(right)
+}
+
 // Over two rigs side by side, the second under this name.
 fn try_twin(rt: &HostRuntime, name: &str, words: &[String]) -> io::Result<bool> {
     let alloc: Global = rt.alloc();
     let name = String::from_str(alloc, name)?;
-    let twin = TwinRig::new(alloc, sim_of(alloc)?, sim_of(alloc)?, name);
+    let twin = TwinRig::new(alloc, sim_of(rt)?, sim_of(rt)?, name);
     let mut rig: Box<dyn Rig> = Box::new(alloc, twin)?;
     let mut store = FileStore::new(alloc, rt.clone()?);
     let mut sink = StdSink::new(rt.clone()?);
@@ -91,7 +93,7 @@ fn try_end(rt: &HostRuntime, words: &[String]) -> io::Result<bool> {
     let Ok(shape) = Shape::new(TINY) else {
         return Ok(false);
     };
-    let board = PortBoard::new(alloc, RigPort::new(alloc, sim_of(alloc)?, shape));
+    let board = PortBoard::new(alloc, RigPort::new(alloc, sim_of(rt)?, shape));
     let mut store = FileStore::new(alloc, rt.clone()?);
     let mut sink = StdSink::new(rt.clone()?);
     let mut rig: Box<dyn Rig> = Box::new(alloc, BoardRig::new(alloc, board))?;
@@ -104,16 +106,17 @@ fn try_lost(rt: &HostRuntime, name: &str) -> io::Result<bool> {
     let Ok(shape) = Shape::new(TINY) else {
         return Ok(false);
     };
-    let board = PortBoard::new(alloc, RigPort::new(alloc, sim_of(alloc)?, shape));
+    let board = PortBoard::new(alloc, RigPort::new(alloc, sim_of(rt)?, shape));
     let mut rig: Box<dyn Rig> = Box::new(alloc, BoardRig::new(alloc, board))?;
     if rig.attach(&shape, name).is_err() {
         return Ok(false);
     }
     match load_twice(alloc, &mut rig, &shape) {
         Ok(found) => {
-            let reading = found.reading;
+            let first = found.first;
+            let second = found.second;
             let again = found.again;
-            println!(rt; "reads {reading}, {again} loads made again")?;
+            println!(rt; "reads {first}, then {second}, {again} loads made again")?;
         }
         Err(_) => return Ok(false),
     }
@@ -131,10 +134,27 @@ fn try_line(rt: &HostRuntime, line: &str) -> io::Result<bool> {
             turned.as_str(),
             words,
         ),
+        [kind, times, words @ ..] if kind.as_str() == "passes" => try_passes(
+            rt,
+            times.as_str(),
+            words,
+        ),
         [kind, name, words @ ..] if kind.as_str() == "twin" => try_twin(rt, name.as_str(), words),
         [kind, words @ ..] if kind.as_str() == "port" => try_port(rt, words),
         [kind, words @ ..] if kind.as_str() == "end" => try_end(rt, words),
         [kind, name] if kind.as_str() == "lost" => try_lost(rt, name.as_str()),
+        [kind, words @ ..] if kind.as_str() == "board" => try_board(rt, words),
+        [kind, pins, table, words @ ..] if kind.as_str() == "asks" => try_asks(
+            rt,
+            pins.as_str(),
+            table.as_str(),
+            words,
+        ),
+        [kind, pins, table] if kind.as_str() == "answers" => try_answers(
+            rt,
+            pins.as_str(),
+            table.as_str(),
+        ),
         _ => Ok(false),
     }
 }

@@ -9,7 +9,7 @@ use crate::choices::choose_once;
 use crate::fields::{Task, area_of, draw_part, whole};
 use crate::flags::Parts;
 use crate::judge::{Judge, judge_of};
-use crate::picture::{Picture, Stage};
+use crate::picture::{Marks, Picture, Stage};
 use crate::steps::{first_stage, grow_stage, sweep_stage, test_stage};
 use base_random::Draws;
 use machine_faults::FaultSet;
@@ -36,6 +36,26 @@ fn sweep_once(
     sweep_stage(rig, stage, task)?;
     let taken = rig.loads().saturating_sub(loads);
     judge.hold_sweep(area, &before, stage, taken)
+}
+
+// A sweep of all of the machine, and what is marked behind it.
+fn sweep_all(
+    rig: &mut Box<dyn Rig>,
+    stage: &mut Stage,
+    judge: &Judge,
+) -> Result<Marks, &'static str>
+    requires attached { shape_of (rig_state rig.old) ≡ Some stage.old.facts.shape }
+    requires stage { IsStageOf stage.old.facts.shape stage.old }
+{
+    let shape = stage.facts.shape();
+    let mut draws = Draws::new(0);
+    let Ok(all) = whole(judge.alloc, &mut draws, &shape) else {
+        return Err("no memory");
+    };
+    let area = area_of(judge.alloc, &shape, &all).ok().ok_or("no memory")?;
+    sweep_once(rig, stage, judge, &all, &area)?;
+    let picture = judge.picture(stage)?;
+    Ok(picture.marks)
 }
 
 // A growth in what isn't marked of a field.
@@ -147,6 +167,23 @@ fn know_all(
         return Err("no memory");
     };
     know_whole(rig, stage, judge, &all)
+}
+
+/// Sweeps all of a machine of which nothing is known, looks at what that leaves, and gives the marks.
+///
+/// # Errors
+///
+/// What is wrong with facts and marks, or with the loads.
+pub fn marks_of_sweep(
+    alloc: Global,
+    rig: &mut Box<dyn Rig>,
+    faults: &FaultSet,
+) -> Result<Marks, &'static str>
+    requires attached { shape_of (rig_state rig.old) ≡ Some faults.now.shape }
+{
+    let judge = judge_of(alloc, faults)?;
+    let mut stage = first_stage(alloc, &faults.shape())?;
+    sweep_all(rig, &mut stage, &judge)
 }
 
 /// Sweeps, chooses and grows over a part of a machine and then over all of it, tests its tables, and looks at what each call leaves:

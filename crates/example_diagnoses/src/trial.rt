@@ -26,8 +26,8 @@ pub struct Group {
     pub most: u32,
 }
 
-// A rig whose machine `m` has the faults.
-fn rig_with(alloc: Global, faults: &FaultSet) -> Option<SimRig<MemoryStore>> {
+/// A rig whose machine `m` has the faults. None where memory was wanting.
+pub fn rig_with(alloc: Global, faults: &FaultSet) -> Option<SimRig<MemoryStore>> {
     let file = File {
         name: String::from_str(alloc, "m").ok()?,
         bytes: faults_text(alloc, faults).ok()?,

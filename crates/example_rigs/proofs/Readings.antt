@@ -1,14 +1,15 @@
 -- A reading that is turned.
 use Rattle.std.proofs.Common.{◌≡◌, ◌⊎◌, inl, inr, ℕ, zero, suc, ◌+◌, ◌<◌, Option, None, Some, IfSome, List, [], ◌∷◌, ◌++◌, length, get_or, set, map, refl, sym, ap, ◌∙◌, subst, arith, option_map, IsSome}
 use Rattle.std.specs.Option.{option_map_or}
-use Rattle.std.proofs.lemmas.List.{length-map, length-append}
+use Rattle.std.proofs.lemmas.List.{length-map, length-append, map-append, flat_map_more}
 use Rattle.std.proofs.lemmas.Bool.{false≢true}
 use Rattle.machine_meaning.specs.Circuit.{Pins}
 use Rattle.machine_shape.specs.Shape.{pins_of}
 use Rattle.machine_config.specs.Configuration.{Configuration}
-use Rattle.rig.specs.Rig.{RigState, Session, Exchange, GoesOn, GoesOnBy, config_of, width_of, cycles_of, drives_of, readings_of}
+use Rattle.rig.specs.Rig.{RigState, Session, Past, Exchange, GoesOn, GoesOnBy, CycleFails, CyclesFail, config_of, width_of, cycles_of, drives_of, readings_of, standing}
+use Rattle.rig.specs.declared.rig.RigFail.TheVariants as work
 use Rattle.example_rigs.specs.declared.turn.Turn.{Turn}
-use Rattle.example_rigs.specs.Turns.{turned, turned_at, turned_in, turn_state, IsTurned, Passes, CountsCycles}
+use Rattle.example_rigs.specs.Turns.{TurnedRig, turned, turned_at, turned_in, turned_past, turned_session, turn_state, IsTurned, Passes, CountsCycles}
 
 turned_more : (k : ℕ) (xs ys : List Exchange) → k < length xs → turned_at k (xs ++ ys) ≡ turned_at k xs ++ ys
 turned_more k [] ys h = absurd (let no : ⊥ = omega (arith, h) in no)
@@ -98,8 +99,8 @@ turn_spare : (s : Option Session) (p : Option ℕ) → option_map_or (λ (t : Se
 turn_spare None p = refl
 turn_spare (Some s) p = refl
 
-pub config_told : (r : RigState) (p : Option ℕ) → config_of (turn_state r p) ≡ config_of r
-config_told r p = turn_config r.session p
+pub config_told : (r : RigState) (p : Option ℕ) (past : List Past) → config_of (turn_state r p past) ≡ config_of r
+config_told r p past = turn_config r.session p
 
 module _ (old new : Turn) (before after : RigState) (counts : CountsCycles old (cycles_of before)) where
   module _ (drives reads told : List Pins) (goes : GoesOnBy drives reads before after) (passes : Passes old new reads told) where
@@ -109,8 +110,9 @@ module _ (old new : Turn) (before after : RigState) (counts : CountsCycles old (
     told_of : Tells old.place new.place (cycles_of before) goes.more told
     told_of = tells old new (cycles_of before) goes.more told counts counted
 
-    pub goes_on_by : GoesOnBy drives told (turn_state before old.place) (turn_state after new.place)
-    goes_on_by = record {
+    pub goes_on_by : (past : List Past) → GoesOnBy drives told (turn_state before old.place past) (turn_state after new.place past)
+    goes_on_by past = record {
+      past = refl;
       more = told_of.told;
       driven = told_of.drives ∙ goes.driven;
       read = told_of.reads;
@@ -126,6 +128,7 @@ module _ (old new : Turn) (before after : RigState) (counts : CountsCycles old (
 -- a cycle as several
 pub one_more : (drive read : Pins) (before after : RigState) → GoesOn drive read before after → GoesOnBy (drive ∷ []) (read ∷ []) before after
 one_more drive read before after goes = record {
+  past = goes.past;
   more = record { drive = drive; reading = read } ∷ [];
   driven = refl;
   read = refl;
@@ -147,6 +150,7 @@ one_of drive read before after goes = by goes.more refl
         let drives : x.drive ≡ drive = cc in
         let reads : x.reading ≡ read = cc in
         record {
+          past = goes.past;
           config = goes.config;
           cycles = goes.cycles ∙ ap (λ xs. cycles_of before ++ xs) (e ∙ (λ i. record { drive = drives i; reading = reads i } ∷ []));
           spare = goes.spare;
@@ -158,8 +162,8 @@ pub some_told : (s : Option Session) (p : Option ℕ) → IsSome (option_map (λ
 some_told None p is = absurd (false≢true is)
 some_told (Some s) p is = refl
 
-pub some_width : (r : RigState) (p : Option ℕ) (n : ℕ) → width_of (turn_state r p) ≡ Some n → IsSome r.session
-some_width r p n = by r.session
+pub some_width : (r : RigState) (p : Option ℕ) (past : List Past) (n : ℕ) → width_of (turn_state r p past) ≡ Some n → IsSome r.session
+some_width r p past n = by r.session
   where
     by : (s : Option Session) → option_map (λ (g : Configuration). pins_of g.shape) (option_map (λ (t : Session). t.config) (option_map (λ (t : Session). record t { cycles = turned_in p t.cycles }) s)) ≡ Some n → IsSome s
     by None e = absurd (let no : ⊥ = cc in no)
@@ -170,3 +174,18 @@ pub lengths_set : (k : ℕ) (rows : List Pins) (row d : Pins) → k < length row
 lengths_set k [] row d h e = absurd (let no : ⊥ = omega (arith, h) in no)
 lengths_set zero (x ∷ xs) row d h e = ap (λ n. n ∷ map length xs) e
 lengths_set (suc k) (x ∷ xs) row d h e = ap (λ l. length x ∷ l) (lengths_set k xs row d (omega (arith, h)) e)
+
+-- one more session that has ended
+pub past_more : {I C : Type 0} (state : I → RigState) (xs ys : List C) (x : C) → ys ≡ xs ++ x ∷ [] → (seen : C → TurnedRig I)
+    → turned_past state (map seen ys) ≡ turned_past state (map seen xs) ++ standing (turned_session (state (seen x).inner).session (seen x).place)
+past_more state xs ys x e seen = ap (λ zs. turned_past state (map seen zs)) e ∙ ap (turned_past state) (map-append seen xs (x ∷ []))
+    ∙ sym (flat_map_more (λ t. standing (turned_session (state t.inner).session t.place)) [] (map seen xs) (seen x))
+
+-- a failure ends the session
+pub turned_fails : (old new : RigState) (p q : Option ℕ) (past all : List Past) → all ≡ past ++ standing (turned_session old.session p)
+    → CycleFails work.Failed old new → CycleFails work.Failed (turn_state old p past) (turn_state new q all)
+turned_fails old new p q past all same fails = (fails.0, ap (λ s. turned_session s q) fails.1, same)
+
+pub turned_fail : (count : ℕ) (old new : RigState) (p q : Option ℕ) (past all : List Past) → all ≡ past ++ standing (turned_session old.session p)
+    → CyclesFail work.Failed count old new → CyclesFail work.Failed count (turn_state old p past) (turn_state new q all)
+turned_fail count old new p q past all same fails = (fails.0, ap (λ s. turned_session s q) fails.1, same)

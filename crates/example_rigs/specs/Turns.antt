@@ -1,8 +1,8 @@
 -- A rig that turns a bit of one reading.
 use Rattle.std.specs.Prelude.{◌≡◌, ◌⊎◌, ℕ, zero, suc, ◌+◌, ◌-◌, ◌^◌, ◌<◌, min, not, List, [], ◌∷◌, length, slice_index_or, slice_set}
-use Rattle.std.specs.Prelude.{Option, None, Some, IsSome, IfSome, option_map}
+use Rattle.std.specs.Prelude.{Option, None, Some, IsSome, IfSome, flat_map, option_map}
 use Rattle.machine_meaning.specs.Circuit.{Pins}
-use Rattle.rig.specs.Rig.{Exchange, Session, RigState, cycles_of}
+use Rattle.rig.specs.Rig.{Exchange, Session, Past, RigState, cycles_of, standing}
 use Rattle.example_rigs.specs.declared.turn.Turn.{Turn}
 
 -- the reading with its first bit turned
@@ -34,16 +34,31 @@ pub record Passes (old new : Turn) (before after : List Pins) : Type 0 where
   pub made : new.made ≡ min (old.made + length before) (2 ^ 64 - 1)
   pub reads : ((new.place ≡ old.place) × (after ≡ before)) ⊎ IsTurned old new before after
 
--- a rig that turns, as its rig and the place in the session of the reading that was turned
-pub record Turning (I : Type 0) : Type 0 where
+-- a rig, and the place in its session of the reading that was turned
+pub record TurnedRig (I : Type 0) : Type 0 where
   pub inner : I
   pub place : Option ℕ
 
--- what it means: what its inner rig does, but for the reading that was turned, and it tells no faults
-abbrev pub turn_state : RigState → Option ℕ → RigState
-turn_state inner place = record inner {
+-- a rig that turns, as its rig with that place, and both as they stood when each session ended
+pub record Turning (I : Type 0) : Type 0 where
+  pub inner : I
+  pub place : Option ℕ
+  pub past : List (TurnedRig I)
+
+-- the session but for the reading that was turned
+abbrev pub turned_session : Option Session → Option ℕ → Option Session
+turned_session session place = option_map (λ (s : Session). record s { cycles = turned_in place s.cycles }) session
+
+-- the sessions that have ended, by what each rig means
+abbrev pub turned_past : {I : Type 0} → (I → RigState) → List (TurnedRig I) → List Past
+turned_past state past = flat_map (λ t. standing (turned_session (state t.inner).session t.place)) past
+
+-- what it means: what its inner rig does, but for the readings that were turned, and it tells no faults
+abbrev pub turn_state : RigState → Option ℕ → List Past → RigState
+turn_state inner place past = record inner {
   machine = record inner.machine { faults = None };
-  session = option_map (λ (s : Session). record s { cycles = turned_in place s.cycles }) inner.session;
+  session = turned_session inner.session place;
+  past = past;
 }
 
 -- these cycles are counted, and the one that was turned is among them

@@ -6,6 +6,12 @@ use crate::reach::{Nodes, Reach};
 use std::alloc::{AllocError, Global};
 use std::num::nearest_u64_to_f32;
 
+/// What a table more below a cut costs where that is too deep.
+const LATE: f32 = 100.0;
+
+/// What a table more below a cut costs, against one more.
+const DEEP: f32 = 0.03;
+
 /// What is known of a node.
 #[derive(Clone, Copy)]
 struct Place {
@@ -17,6 +23,9 @@ struct Place {
     expected: f32,
     /// The share of its area that each of these bears.
     share: f32,
+    /// How many tables lie one behind the other up to it, and how many may.
+    level: u32,
+    most: u32,
 }
 
 /// What is known of all nodes.
@@ -73,6 +82,8 @@ pub fn areas_of<'a>(
         refs: 0,
         expected: 1.0,
         share: 0.0,
+        level: 0,
+        most: u32::MAX,
     };
     let mut places = vec![in alloc; place; reach.live.len()]?;
     count_roots(&mut places, reach);
@@ -176,11 +187,17 @@ impl<'a> Areas<'a> {
     pub fn exact(&mut self, cut: &Cut) -> Result<f32, AllocError> {
         let count = self.tables(cut, true)?;
         let _ = self.tables(cut, false)?;
-        Ok(nearest_u64_to_f32(count as u64) + 0.001 * nearest_u64_to_f32(cut.count as u64))
+        let leaves = 0.001 * nearest_u64_to_f32(cut.count as u64);
+        Ok(nearest_u64_to_f32(count as u64) + leaves + self.low(cut))
     }
 
     /// The area that flows through a cut.
     pub fn flow(&self, cut: &Cut) -> f32 {
+        self.area(cut) + self.low(cut)
+    }
+
+    // The same without a little for its depth.
+    fn area(&self, cut: &Cut) -> f32 {
         let mut flow = 1.0f32;
         'leaves: for k in 0..cut.count {
             let leaf = cut.leaf(k) as usize;
@@ -189,6 +206,93 @@ impl<'a> Areas<'a> {
             }
         }
         flow
+    }
+
+    // How many tables lie one behind the other up to a cut's own one.
+    fn level(&self, cut: &Cut) -> u32 {
+        let mut level = 0u32;
+        'leaves: for k in 0..cut.count {
+            let leaf = cut.leaf(k) as usize;
+            if leaf < self.places.len() {
+                level = level.max(self.places[leaf].level);
+            }
+        }
+        level.saturating_add(1)
+    }
+
+    // A little for how deep a cut lies.
+    fn low(&self, cut: &Cut) -> f32 {
+        DEEP * nearest_u64_to_f32(self.level(cut) as u64)
+    }
+
+    /// Much for how deep a cut lies.
+    pub fn height(&self, cut: &Cut) -> f32 {
+        LATE * nearest_u64_to_f32(self.level(cut) as u64)
+    }
+
+    /// Much for how much deeper a node's cut lies than it may.
+    pub fn late(&self, node: usize, cut: &Cut) -> f32 {
+        let most = if node < self.places.len() {
+            self.places[node].most
+        } else {
+            u32::MAX
+        };
+        let late = self.level(cut).saturating_sub(most);
+        LATE * nearest_u64_to_f32(late as u64)
+    }
+
+    /// How many tables lie one behind the other.
+    pub fn depth(&self) -> u32 {
+        let mut most = 0u32;
+        'roots: for root in self.roots {
+            let root = *root as usize;
+            if root < self.places.len() {
+                most = most.max(self.places[root].level);
+            }
+        }
+        most
+    }
+
+    // Nodes may lie anywhere.
+    fn allow_all(&mut self) {
+        'places: for place in self.places.iter_mut() {
+            place.most = u32::MAX;
+        }
+    }
+
+    // Roots may lie so deep, other nodes anywhere.
+    fn allow_roots(&mut self, most: u32) {
+        self.allow_all();
+        'roots: for root in self.roots {
+            let root = *root as usize;
+            if root < self.places.len() {
+                self.places[root].most = most;
+            }
+        }
+    }
+
+    // The leaves of a cut lie below what may lie so deep.
+    fn allow_leaves(&mut self, cut: &Cut, most: u32) {
+        'leaves: for k in 0..cut.count {
+            let leaf = cut.leaf(k) as usize;
+            if leaf < self.places.len() {
+                let old = self.places[leaf].most;
+                self.places[leaf].most = old.min(most);
+            }
+        }
+    }
+
+    /// Roots may lie so deep, and what tables read as deep as these allow.
+    pub fn allow(&mut self, most: u32) {
+        self.allow_roots(most);
+        let count = self.places.len();
+        'nodes: for k in 0..count {
+            let node = count.wrapping_sub(k).wrapping_sub(1);
+            if node < self.places.len() && self.places[node].refs > 0 && self.nodes.is_and(node) {
+                let Place { best, most, .. } = self.places[node];
+                self.allow_leaves(&best, most.saturating_sub(1));
+            }
+        }
     }
 
     /// Adds the cut that a node has, if it has one.
@@ -202,9 +306,11 @@ impl<'a> Areas<'a> {
 
     /// Gives a node a cut.
     pub fn take(&mut self, node: usize, cut: &Cut) {
-        let flow = self.flow(cut);
+        let flow = self.area(cut);
+        let level = self.level(cut);
         if node < self.places.len() {
             self.places[node].best = *cut;
+            self.places[node].level = level;
             self.places[node].share = flow / self.places[node].expected;
         }
     }

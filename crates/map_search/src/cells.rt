@@ -11,7 +11,7 @@ use std::alloc::{AllocError, Global};
 /// How many steps are taken to see whether an input follows from others, and how many to find the cells.
 const FEW_STEPS: usize = 64;
 
-const MOST_STEPS: usize = 20_000;
+const MOST_STEPS: usize = 60_000;
 
 // The input of the lowest node that isn't below one, of those whose node has no word.
 fn next_input(layout: &Layout, cone: &Cone<'_>, ins: &Cut) -> Option<u32> {
@@ -72,28 +72,36 @@ fn turn_cells(layout: &Layout, ins: &Cut, cells: u64) -> u64 {
     turned
 }
 
-// A table with its cells.
-fn fill_table(layout: &Layout, cone: &mut Cone<'_>, table: &Table) -> Result<Table, AllocError> {
+// A table with its cells, without those where they aren't found; whether they are.
+fn fill_table(
+    layout: &Layout,
+    cone: &mut Cone<'_>,
+    table: &Table,
+) -> Result<(Table, bool), AllocError> {
     let root = layout.label(table.out);
     cone.begin();
     let ins = settle_inputs(layout, cone, &table.ins)?;
-    let _ = cone.derive(root >> 1, 0, MOST_STEPS)?;
+    let found = cone.derive(root >> 1, 0, MOST_STEPS)?;
     let cells = turn_cells(layout, &ins, cone.word(root));
     let out = table.out;
-    Ok(Table { out, ins, cells })
+    Ok((Table { out, ins, cells }, found))
 }
 
-/// The tables of a layout with their cells, without inputs that follow from others. Inputs on which cells don't depend stay: without
-/// them no way leads from the others to the table's node, by which tables are compared.
+/// Gives the tables of a layout their cells, without inputs that follow from others; whether the way to each is short enough. Inputs
+/// on which cells don't depend stay: without them no way leads from the others to the table's node, by which tables are compared.
 pub fn fill_tables(
     alloc: Global,
     nodes: Nodes<'_>,
-    layout: &Layout,
-) -> Result<Vec<Table>, AllocError> {
+    layout: &mut Layout,
+) -> Result<bool, AllocError> {
     let mut cone = cone_of(alloc, nodes)?;
     let mut tables = Vec::with_capacity(alloc, layout.tables.len())?;
+    let mut all = true;
     'tables: for table in &layout.tables {
-        tables.push(fill_table(layout, &mut cone, table)?)?;
+        let (table, found) = fill_table(layout, &mut cone, table)?;
+        tables.push(table)?;
+        all = all && found;
     }
-    Ok(tables)
+    layout.tables = tables;
+    Ok(all)
 }

@@ -5,16 +5,20 @@ use crate::cuts::Cut;
 use crate::graph::Made;
 use crate::hints::hints_of;
 use crate::layout::{Layout, NOWHERE, Table, Wire};
-use crate::names::{FreeNames, name_of};
+use crate::names::{FreeNames, is_plain_name, name_of};
 use crate::numbers::{is_marked, mark, set, small};
-use crate::passes::choose_cuts;
+use crate::passes::{Choice, choose_cuts};
 use crate::products::{Product, cheaper_of};
 use crate::puts::put_tables;
-use crate::reach::{Nodes, reach_of};
+use crate::reach::{Nodes, Reach, reach_of};
 use crate::tables::layout_of;
 use base_lists::Items;
 use design_netlist::{Cover, Cube, LatchDef, Lit, Name, Names, Netlist, NetlistData, PortDef};
 use std::alloc::{AllocError, Global};
+use std::collections::HashMap;
+
+/// Where a way to a table was too long, so many ANDs may lie above the leaves of a cut.
+const FEW_ANDS: u32 = 15_000;
 
 /// A design, and a label for each of its signals.
 #[derive(Debug, Drop)]
@@ -80,6 +84,82 @@ fn wires_in_order(alloc: Global, layout: &Layout) -> Result<Vec<u32>, AllocError
         .chain(latches)
         .chain(tables)
         .collect(alloc)
+}
+
+// Notes the name of a signal; whether it is new.
+fn note_name(
+    alloc: Global,
+    known: &mut HashMap<Vec<u8>, bool>,
+    names: &Names,
+    signal: u32,
+) -> Result<bool, AllocError> {
+    let name = name_of(alloc, names, signal)?;
+    Ok(known.insert(name.into_vec(), true)?.is_none())
+}
+
+// The names of wires that stay in any case.
+fn kept_names(
+    alloc: Global,
+    wires: &[Wire],
+    names: &Names,
+) -> Result<HashMap<Vec<u8>, bool>, AllocError> {
+    let mut known = HashMap::new(alloc);
+    'wires: for wire in wires {
+        if let Some(signal) = wire.kept {
+            let _ = note_name(alloc, &mut known, names, signal)?;
+        }
+    }
+    Ok(known)
+}
+
+// The wire of each label that one without a name shows, the first of them.
+fn unnamed(alloc: Global, wires: &[Wire]) -> Result<HashMap<u32, usize>, AllocError> {
+    let mut found = HashMap::new(alloc);
+    'wires: for k in 0..wires.len() {
+        let wire = wires[k];
+        if wire.kept.is_none() && !found.contains_key(&wire.label) {
+            let _ = found.insert(wire.label, k)?;
+        }
+    }
+    Ok(found)
+}
+
+// Whether a signal's name can be that of a wire, and no other one's.
+fn is_free(
+    alloc: Global,
+    known: &mut HashMap<Vec<u8>, bool>,
+    names: &Names,
+    signal: u32,
+) -> Result<bool, AllocError> {
+    let name = name_of(alloc, names, signal)?;
+    if !is_plain_name(name.as_slice()) {
+        return Ok(false);
+    }
+    note_name(alloc, known, names, signal)
+}
+
+// Gives wires the names of signals that they show, where these are free.
+fn keep_names(
+    alloc: Global,
+    wires: &mut Vec<Wire>,
+    names: &Names,
+    labels: &[u32],
+) -> Result<(), AllocError> {
+    let mut known = kept_names(alloc, wires, names)?;
+    let found = unnamed(alloc, wires)?;
+    'signals: for signal in 0..labels.len() {
+        let place = match found.get(&labels[signal]) {
+            Some(place) => *place,
+            None => continue,
+        };
+        if place >= wires.len() || wires[place].kept.is_some() {
+            continue;
+        }
+        if is_free(alloc, &mut known, names, small(signal))? {
+            wires[place].kept = Some(small(signal));
+        }
+    }
+    Ok(())
 }
 
 // The names that stay are taken.
@@ -254,6 +334,30 @@ fn mapped_of(alloc: Global, layout: &Layout, names: &Names) -> Result<Mapped, Al
     })
 }
 
+// Tables of chosen cuts; whether the way to each of them is short enough to be followed. Where few ANDs may lie above leaves, no
+// table is put into another one.
+fn drawn(
+    alloc: Global,
+    draft: &NetlistData,
+    made: &Made,
+    reach: &Reach,
+    choice: Choice,
+) -> Result<(Layout, bool), AllocError> {
+    let graph = &made.graph;
+    let labels = made.labels.as_slice();
+    let nodes = Nodes::of(graph);
+    let hints = hints_of(alloc, nodes, draft, labels)?;
+    let chosen = choose_cuts(alloc, nodes, reach, &hints, choice)?;
+    let mut layout = layout_of(alloc, draft, graph, labels, reach, &chosen)?;
+    if choice.ands > FEW_ANDS {
+        put_tables(alloc, &mut layout)?;
+    }
+    let followed = fill_tables(alloc, nodes, &mut layout)?;
+    layout.tables = read_tables(alloc, &layout)?;
+    keep_names(alloc, &mut layout.wires, &draft.names, labels)?;
+    Ok((layout, followed))
+}
+
 /// Covers of at most six inputs for what the outputs of a design need, chosen among so many cuts of each node of its graph; with
 /// other chance others. Chance 0 is none.
 ///
@@ -268,15 +372,17 @@ pub fn cover_design(
     chance: u64,
 ) -> Result<Mapped, AllocError> {
     let draft = netlist.parts();
-    let graph = &made.graph;
-    let labels = made.labels.as_slice();
-    let nodes = Nodes::of(graph);
-    let reach = reach_of(alloc, draft, graph, labels)?;
-    let hints = hints_of(alloc, nodes, draft, labels)?;
-    let chosen = choose_cuts(alloc, nodes, &reach, &hints, cuts as usize, chance)?;
-    let mut layout = layout_of(alloc, draft, graph, labels, &reach, &chosen)?;
-    put_tables(alloc, &mut layout)?;
-    layout.tables = fill_tables(alloc, nodes, &layout)?;
-    layout.tables = read_tables(alloc, &layout)?;
+    let reach = reach_of(alloc, draft, &made.graph, made.labels.as_slice())?;
+    let choice = Choice {
+        cuts: cuts as usize,
+        ands: u32::MAX,
+        chance,
+    };
+    let (layout, followed) = drawn(alloc, draft, made, &reach, choice)?;
+    if followed {
+        return mapped_of(alloc, &layout, &draft.names);
+    }
+    let ands = FEW_ANDS;
+    let (layout, _) = drawn(alloc, draft, made, &reach, Choice { ands, ..choice })?;
     mapped_of(alloc, &layout, &draft.names)
 }

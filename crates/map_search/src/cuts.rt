@@ -6,13 +6,15 @@ pub const MOST_LEAVES: usize = 6;
 /// What stands behind the leaves of a cut.
 pub const NO_LEAF: u32 = u32::MAX;
 
-/// A cut: leaves in order, how many there are, a sign that tells most cuts apart, and what the cut costs.
+/// A cut: leaves in order, how many there are, a sign that tells most cuts apart, what the cut costs, and how many ANDs lie above
+/// its leaves at most.
 #[derive(Clone, Copy, Debug)]
 pub struct Cut {
     pub leaves: [u32; MOST_LEAVES],
     pub count: usize,
     pub sign: u64,
     pub cost: f32,
+    pub ands: u32,
 }
 
 /// The cut without leaves.
@@ -21,6 +23,7 @@ pub const NO_CUT: Cut = Cut {
     count: 0,
     sign: 0,
     cost: 0.0,
+    ands: 0,
 };
 
 // The sign of a leaf.
@@ -88,6 +91,7 @@ pub fn union(a: &Cut, b: &Cut) -> Option<Cut> {
         return None;
     }
     let mut cut = NO_CUT;
+    cut.ands = a.ands.saturating_add(b.ands).saturating_add(1);
     let mut i = 0usize;
     let mut j = 0usize;
     'leaves: for _ in 0..MOST_LEAVES {

@@ -55,8 +55,8 @@ fn negated_products(builder: &mut Builder, sum: &Sum, join: Join) -> Result<Vec<
     Ok(negated)
 }
 
-// The sum as it stands.
-fn plain(builder: &mut Builder, sum: &Sum, join: Join) -> Result<u32, AllocError> {
+/// The sum as it stands.
+pub fn plain(builder: &mut Builder, sum: &Sum, join: Join) -> Result<u32, AllocError> {
     let negated = negated_products(builder, sum, join)?;
     let none = and_all(builder, negated, join)?;
     Ok(none ^ 1)

@@ -1,20 +1,32 @@
 //! A design as a graph.
 
 use crate::builder::{Builder, Node};
-use crate::factor::factor_sum;
-use crate::latches::{Stand, find_alike, own_stands};
+use crate::factor::{factor_sum, plain};
+use crate::joins::lessened;
+use crate::latches::{Stand, first_classes, own_classes, own_stands, part, stands_of};
 use crate::narrow::literal_of_cells;
-use crate::numbers::{at, set, small};
+use crate::numbers::{at, is_marked, mark, set, small};
+use crate::simulate::cycles_of;
 use crate::sums::sum_of;
-use crate::way::Way;
+use crate::way::{Join, Way};
 use crate::words::{Narrow, narrow_of};
 use base_lists::Items;
-use design_equal::{And, Graph, GraphLatch};
+use design_equal::{And, Graph, GraphLatch, first_unshown};
 use design_netlist::{Cover, LatchDef, Netlist, NetlistData};
 use std::alloc::{AllocError, Global};
 
-/// How often latches that are alike are looked for.
-const MOST_TURNS: u32 = 20;
+/// How many nodes the graphs may have in sum that are made until latches part no more, and how many graphs are made at least.
+const MOST_NODES: usize = 8_000_000;
+
+const FEW_TURNS: usize = 8;
+
+/// How often the first cover that isn't shown is set aside alone, and how often in all.
+const FEW_TRIES: u32 = 6;
+
+const MOST_TRIES: u32 = 8;
+
+/// A cover of more inputs is compared by its products, which have to be its rows.
+const MOST_COMPARED: usize = 14;
 
 /// A graph, and a label for each signal of the design that it was made of.
 #[derive(Debug, Drop)]
@@ -48,6 +60,11 @@ fn by_cells(making: &mut Making, narrow: &Narrow, way: Way) -> Result<u32, Alloc
 // The literal of a cover by its rows.
 fn by_rows(making: &mut Making, cover: &Cover, way: Way) -> Result<u32, AllocError> {
     let sum = sum_of(making.builder.alloc, cover, &making.labels)?;
+    let sum = if way.joins_rows() {
+        lessened(&mut making.builder, sum)?
+    } else {
+        sum
+    };
     let literal = factor_sum(&mut making.builder, sum, way.join())?;
     if cover.off {
         return Ok(literal ^ 1);
@@ -55,8 +72,26 @@ fn by_rows(making: &mut Making, cover: &Cover, way: Way) -> Result<u32, AllocErr
     Ok(literal)
 }
 
+// The literal of a cover by its rows as they stand: a tree of each, and one of all.
+fn by_trees(making: &mut Making, cover: &Cover) -> Result<u32, AllocError> {
+    let sum = sum_of(making.builder.alloc, cover, &making.labels)?;
+    let literal = plain(&mut making.builder, &sum, Join::Pairs)?;
+    if cover.off {
+        return Ok(literal ^ 1);
+    }
+    Ok(literal)
+}
+
 // The literal of a cover.
-fn cover_literal(making: &mut Making, cover: &Cover, way: Way) -> Result<u32, AllocError> {
+fn cover_literal(
+    making: &mut Making,
+    cover: &Cover,
+    way: Way,
+    trees: bool,
+) -> Result<u32, AllocError> {
+    if trees {
+        return by_trees(making, cover);
+    }
     if way.by_rows() {
         return by_rows(making, cover, way);
     }
@@ -109,35 +144,39 @@ fn add_covers(
     making: &mut Making,
     covers: &[Cover],
     order: &[u32],
-    way: Way,
+    how: How<'_>,
 ) -> Result<(), AllocError> {
     'covers: for place in order {
         if making.builder.is_full() {
             break;
         }
         if let Some(cover) = covers.get(*place as usize) {
-            let literal = cover_literal(making, cover, way)?;
+            let trees = is_marked(how.trees, *place as usize);
+            let literal = cover_literal(making, cover, how.way, trees)?;
             set(&mut making.labels, cover.out as usize, literal);
         }
     }
     Ok(())
 }
 
-// The graph of a design in which these stand for latches.
-fn making_of(
-    alloc: Global,
-    netlist: &Netlist,
+// How a graph is made: the way, what stands for latches, and which covers are trees of their rows.
+#[derive(Clone, Copy)]
+struct How<'a> {
     way: Way,
-    stands: &[Stand],
-) -> Result<Making, AllocError> {
+    stands: &'a [Stand],
+    trees: &'a [bool],
+}
+
+// The graph of a design.
+fn making_of(alloc: Global, netlist: &Netlist, how: How<'_>) -> Result<Making, AllocError> {
     let draft = netlist.parts();
     let mut making = Making {
         builder: Builder::new(alloc)?,
         labels: vec![in alloc; 0; draft.names.len()]?,
     };
     add_inputs(&mut making, draft)?;
-    add_latches(&mut making, draft.latches.as_slice(), stands)?;
-    add_covers(&mut making, draft.covers.as_slice(), netlist.order(), way)?;
+    add_latches(&mut making, draft.latches.as_slice(), how.stands)?;
+    add_covers(&mut making, draft.covers.as_slice(), netlist.order(), how)?;
     Ok(making)
 }
 
@@ -194,32 +233,128 @@ fn made_of(
     })
 }
 
-/// The design as a graph in which latches that are alike are one, or `None` where it would have more than 500,000 ANDs.
+// The graph of a design in which these stand for latches.
+fn making_with(
+    alloc: Global,
+    netlist: &Netlist,
+    way: Way,
+    trees: &[bool],
+    classes: &[u32],
+) -> Result<(Making, Vec<Stand>), AllocError> {
+    let stands = stands_of(alloc, classes)?;
+    let how = How {
+        way,
+        stands: &stands,
+        trees,
+    };
+    let making = making_of(alloc, netlist, how)?;
+    Ok((making, stands))
+}
+
+// The classes of latches at first.
+fn classes_in(
+    alloc: Global,
+    netlist: &Netlist,
+    way: Way,
+    trees: &[bool],
+) -> Result<Vec<u32>, AllocError> {
+    let draft = netlist.parts();
+    let count = draft.latches.as_slice().len();
+    if count == 0 {
+        return Ok(Vec::new(alloc));
+    }
+    let stands = own_stands(alloc, count)?;
+    let how = How {
+        way,
+        stands: &stands,
+        trees,
+    };
+    let making = making_of(alloc, netlist, how)?;
+    let mut cycles = cycles_of(alloc, &making.builder.nodes)?;
+    first_classes(alloc, draft, &making.labels, &mut cycles)
+}
+
+// How often latches may part, where a graph has so many nodes.
+fn turns_for(making: &Making) -> usize {
+    let nodes = making.builder.nodes.len();
+    (MOST_NODES / nodes.max(1)).max(FEW_TURNS)
+}
+
+// The graph of a design in which these covers are trees of their rows, and latches that are alike are one; None where it is too
+// large, or latches part too often.
+fn graph_with(
+    alloc: Global,
+    netlist: &Netlist,
+    way: Way,
+    trees: &[bool],
+) -> Result<Option<Made>, AllocError> {
+    let draft = netlist.parts();
+    let latches = draft.latches.as_slice();
+    let mut classes = classes_in(alloc, netlist, way, trees)?;
+    let (mut making, mut stands) = making_with(alloc, netlist, way, trees, &classes)?;
+    let turns = turns_for(&making);
+    'turns: for turn in 0..turns {
+        if making.builder.is_full() {
+            return Ok(None);
+        }
+        if !part(alloc, latches, &making.labels, &mut classes)? {
+            return Ok(Some(made_of(alloc, draft, &stands, making)?));
+        }
+        if turn.saturating_add(2) >= turns {
+            classes = own_classes(alloc, latches.len())?;
+        }
+        let other = making_with(alloc, netlist, way, trees, &classes)?;
+        making = other.0;
+        stands = other.1;
+    }
+    Ok(None)
+}
+
+// Marks the covers of many inputs.
+fn mark_wide(trees: &mut Vec<bool>, covers: &[Cover]) {
+    'covers: for k in 0..covers.len() {
+        if covers[k].ins.as_slice().len() > MOST_COMPARED {
+            let _ = mark(trees, k);
+        }
+    }
+}
+
+// Marks the first cover of which the comparison shows nothing, and at last all that have many inputs; whether one is new.
+fn mark_unshown(
+    alloc: Global,
+    netlist: &Netlist,
+    made: &Made,
+    trees: &mut Vec<bool>,
+    last: bool,
+) -> Result<bool, AllocError> {
+    let labels = made.labels.as_slice();
+    let Some(place) = first_unshown(alloc, &made.graph, netlist, labels)? else {
+        return Ok(false);
+    };
+    if last {
+        mark_wide(trees, netlist.parts().covers.as_slice());
+    }
+    Ok(mark(trees, place as usize) || last)
+}
+
+/// The design as a graph in which latches that are alike are one, or `None` where it would have more than 500,000 ANDs. A cover of
+/// which the comparison shows nothing is a tree of its rows as they stand.
 ///
 /// # Errors
 ///
 /// Out of memory.
 pub fn graph_of(alloc: Global, netlist: &Netlist, way: Way) -> Result<Option<Made>, AllocError> {
-    let draft = netlist.parts();
-    let latches = draft.latches.as_slice();
-    let mut stands = own_stands(alloc, latches.len())?;
-    let mut making = making_of(alloc, netlist, way, &stands)?;
-    'turns: for _ in 0..MOST_TURNS {
-        let mut others = own_copy(alloc, &stands)?;
-        if making.builder.is_full() || !find_alike(alloc, latches, &making.labels, &mut others)? {
+    let mut trees = vec![in alloc; false; netlist.parts().covers.as_slice().len()]?;
+    let mut found = graph_with(alloc, netlist, way, &trees)?;
+    'tries: for k in 0..MOST_TRIES {
+        let more = match &found {
+            Some(made) => mark_unshown(alloc, netlist, made, &mut trees, k >= FEW_TRIES)?,
+            None => false,
+        };
+        if !more {
             break;
         }
-        stands = others;
-        making = making_of(alloc, netlist, way, &stands)?;
+        found = graph_with(alloc, netlist, way, &trees)?;
     }
-    if making.builder.is_full() {
-        return Ok(None);
-    }
-    let made = made_of(alloc, draft, &stands, making)?;
-    Ok(Some(made))
-}
-
-// These stands again.
-fn own_copy(alloc: Global, stands: &[Stand]) -> Result<Vec<Stand>, AllocError> {
-    Vec::from_slice(alloc, stands)
+    Ok(found)
 }

@@ -5,6 +5,9 @@ use base_text::{put_number, read_number};
 use design_netlist::{Name, Names};
 use std::alloc::{AllocError, Global};
 
+/// How long the name of an inner signal that stays may be.
+const MOST_BYTES: usize = 64;
+
 /// The names of a letter and a number that are free, in order.
 #[derive(Debug, Drop)]
 pub struct FreeNames {
@@ -13,12 +16,22 @@ pub struct FreeNames {
     taken: Vec<u64>,
 }
 
-// The number of a name that is the letter and a number.
-fn number_in(name: &[u8], letter: u8) -> Option<u64> {
+/// The number of a name that is the letter and a number.
+pub fn number_in(name: &[u8], letter: u8) -> Option<u64> {
     match name {
         [first, digits @ ..] if *first == letter => read_number(digits, u64::MAX),
         _ => None,
     }
+}
+
+/// Whether a name can be written anywhere: of printable characters, without those that mean something else, and not too long.
+pub fn is_plain_name(name: &[u8]) -> bool {
+    'bytes: for byte in name {
+        if *byte <= b' ' || *byte > b'~' || b"#\\\"=".contains(byte) {
+            return false;
+        }
+    }
+    name.len() > 0 && name.len() <= MOST_BYTES
 }
 
 /// The name of a signal, none where there is no such signal.

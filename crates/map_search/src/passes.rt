@@ -8,10 +8,23 @@ use base_random::Draws;
 use design_equal::And;
 use std::alloc::{AllocError, Global};
 
-/// How many passes go by flow, and how many in all.
-const FLOWS: usize = 3;
+/// What passes go by, one after the other.
+const PASSES: [Aim; 6] = [
+    Aim::Flow,
+    Aim::Flow,
+    Aim::Flow,
+    Aim::Exact,
+    Aim::Exact,
+    Aim::Exact,
+];
 
-const PASSES: usize = 6;
+/// What a pass goes by.
+#[derive(Clone, Copy, PartialEq, Eq)]
+enum Aim {
+    Depth,
+    Flow,
+    Exact,
+}
 
 /// From so many cuts on, those that hold another one aren't sought out.
 const MOST_COMPARED: usize = 120;
@@ -34,8 +47,11 @@ struct Passes {
     chosen: Vec<Cut>,
     /// The first hint that isn't behind.
     hint: usize,
-    /// How many cuts of a node are kept.
+    /// How many cuts of a node are kept, and the first node that is an AND.
     most: usize,
+    first: usize,
+    /// How many ANDs may lie above the leaves of a cut.
+    ands: u32,
     draws: Draws,
     noisy: bool,
 }
@@ -54,7 +70,9 @@ fn join_with(passes: &mut Passes, cut: &Cut, others: Kept) -> Result<(), AllocEr
     'cuts: for k in others.from..others.to {
         if k < passes.cuts.len() {
             if let Some(both) = union(cut, &passes.cuts[k]) {
-                passes.found.push(both)?;
+                if both.ands <= passes.ands {
+                    passes.found.push(both)?;
+                }
             }
         }
     }
@@ -139,21 +157,36 @@ fn choose(passes: &mut Passes) -> Result<(), AllocError> {
     Ok(())
 }
 
-// The costs of the chosen cuts.
-fn price(passes: &mut Passes, areas: &mut Areas<'_>, exact: bool) -> Result<(), AllocError> {
+// What a cut costs.
+fn cost_of(
+    areas: &mut Areas<'_>,
+    node: usize,
+    cut: &Cut,
+    aim: Aim,
+    noise: u64,
+) -> Result<f32, AllocError> {
+    match aim {
+        Aim::Depth => Ok(areas.flow(cut) + areas.height(cut)),
+        Aim::Flow => Ok(with_noise(areas.flow(cut), noise, false) + areas.late(node, cut)),
+        Aim::Exact => Ok(with_noise(areas.exact(cut)?, noise, true) + areas.late(node, cut)),
+    }
+}
+
+// The costs of the chosen cuts of a node.
+fn price(
+    passes: &mut Passes,
+    areas: &mut Areas<'_>,
+    node: usize,
+    aim: Aim,
+) -> Result<(), AllocError> {
     'cuts: for k in 0..passes.chosen.len() {
         let cut = passes.chosen[k];
-        let cost = if exact {
-            areas.exact(&cut)?
-        } else {
-            areas.flow(&cut)
-        };
         let noise = if passes.noisy {
             passes.draws.step() >> 56
         } else {
             0
         };
-        let cost = with_noise(cost, noise, exact);
+        let cost = cost_of(areas, node, &cut, aim, noise)?;
         if k < passes.chosen.len() {
             passes.chosen[k].cost = cost;
         }
@@ -193,7 +226,31 @@ fn keep(passes: &mut Passes) -> Result<Cut, AllocError> {
             passes.cuts.push(passes.chosen[k])?;
         }
     }
+    keep_sources(passes, most)?;
     Ok(passes.chosen.first().copied().unwrap_or(NO_CUT))
+}
+
+// Whether all leaves are inputs and latches.
+fn is_of_sources(cut: &Cut, first: usize) -> bool {
+    'leaves: for k in 0..cut.count {
+        if cut.leaf(k) as usize >= first {
+            return false;
+        }
+    }
+    true
+}
+
+// Keeps besides the cut of inputs and latches alone, if it stands behind the cheapest ones.
+fn keep_sources(passes: &mut Passes, most: usize) -> Result<(), AllocError> {
+    'cuts: for k in 0..passes.chosen.len() {
+        if is_of_sources(&passes.chosen[k], passes.first) {
+            if k >= most {
+                passes.cuts.push(passes.chosen[k])?;
+            }
+            return Ok(());
+        }
+    }
+    Ok(())
 }
 
 // Notes the cuts of a node, those from a place on and itself.
@@ -217,8 +274,9 @@ fn visit(
     hints: &[Hint],
     node: usize,
     and: And,
-    exact: bool,
+    aim: Aim,
 ) -> Result<(), AllocError> {
+    let exact = aim == Aim::Exact;
     if exact {
         areas.leave(node)?;
     }
@@ -227,7 +285,7 @@ fn visit(
     add_hints(passes, hints, areas.live, node)?;
     areas.add_old(node, &mut passes.found)?;
     choose(passes)?;
-    price(passes, areas, exact)?;
+    price(passes, areas, node, aim)?;
     let best = keep(passes)?;
     areas.take(node, &best);
     if exact {
@@ -242,7 +300,7 @@ fn pass(
     areas: &mut Areas<'_>,
     hints: &[Hint],
     nodes: Nodes<'_>,
-    exact: bool,
+    aim: Aim,
 ) -> Result<(), AllocError> {
     passes.cuts.clear();
     passes.hint = 0;
@@ -252,7 +310,7 @@ fn pass(
         }
         let from = passes.cuts.len();
         if let Some(and) = nodes.and(node) {
-            visit(passes, areas, hints, node, and, exact)?;
+            visit(passes, areas, hints, node, and, aim)?;
         }
         close(passes, node, from)?;
     }
@@ -266,6 +324,31 @@ pub struct Chosen {
     pub tables: Vec<bool>,
 }
 
+// How deep tables may lie where they need not lie deeper than this.
+fn allowed_for(depth: u32) -> u32 {
+    let more = if depth < 3 { 2 } else { depth / 6 };
+    depth.saturating_add(more)
+}
+
+// How little a choice of so many tables is worth: too deep ones least.
+fn worth_of(count: usize, depth: u32, allowed: u32) -> u64 {
+    let late = depth.saturating_sub(allowed) as u64;
+    late.wrapping_shl(32) | count as u64
+}
+
+// How deep tables may lie: a little deeper than where each lies as high as it can.
+fn find_allowed(
+    alloc: Global,
+    passes: &mut Passes,
+    reach: &Reach,
+    hints: &[Hint],
+    nodes: Nodes<'_>,
+) -> Result<u32, AllocError> {
+    let mut areas = areas_of(alloc, nodes, reach)?;
+    pass(passes, &mut areas, hints, nodes, Aim::Depth)?;
+    Ok(allowed_for(areas.depth()))
+}
+
 // All passes; the best choice of them.
 fn run(
     alloc: Global,
@@ -273,31 +356,43 @@ fn run(
     areas: &mut Areas<'_>,
     hints: &[Hint],
     nodes: Nodes<'_>,
+    allowed: u32,
 ) -> Result<Chosen, AllocError> {
-    let mut least = usize::MAX;
+    let mut least = u64::MAX;
     let mut chosen = areas.choice_of(alloc)?;
-    'passes: for k in 0..PASSES {
-        pass(passes, areas, hints, nodes, k >= FLOWS)?;
+    'passes: for aim in PASSES {
+        pass(passes, areas, hints, nodes, aim)?;
         let count = areas.cover()?;
-        if k.saturating_add(1) >= FLOWS && count < least {
-            least = count;
+        let worth = worth_of(count, areas.depth(), allowed);
+        if worth < least {
+            least = worth;
             chosen = areas.choice_of(alloc)?;
+        }
+        if aim == Aim::Exact {
+            areas.allow(allowed);
         }
         areas.expect();
     }
     Ok(chosen)
 }
 
-/// Chooses a cut for each node that needs a table, from so many cuts of each node; other chance gives other cuts.
+/// Which cuts are looked at: so many of each node, with at most so many ANDs above their leaves; other chance gives others.
+#[derive(Clone, Copy, Debug)]
+pub struct Choice {
+    pub cuts: usize,
+    pub ands: u32,
+    pub chance: u64,
+}
+
+/// Chooses a cut for each node that needs a table.
 pub fn choose_cuts(
     alloc: Global,
     nodes: Nodes<'_>,
     reach: &Reach,
     hints: &[Hint],
-    most: usize,
-    chance: u64,
+    choice: Choice,
 ) -> Result<Chosen, AllocError> {
-    let mut draws = Draws::new(chance);
+    let mut draws = Draws::new(choice.chance);
     draws.step();
     let mut passes = Passes {
         cuts: Vec::new(alloc),
@@ -305,10 +400,13 @@ pub fn choose_cuts(
         found: Vec::new(alloc),
         chosen: Vec::new(alloc),
         hint: 0,
-        most,
+        most: choice.cuts,
+        first: nodes.first,
+        ands: choice.ands,
         draws,
-        noisy: chance > 0,
+        noisy: choice.chance > 0,
     };
+    let allowed = find_allowed(alloc, &mut passes, reach, hints, nodes)?;
     let mut areas = areas_of(alloc, nodes, reach)?;
-    run(alloc, &mut passes, &mut areas, hints, nodes)
+    run(alloc, &mut passes, &mut areas, hints, nodes, allowed)
 }

@@ -1,7 +1,9 @@
 //! The text of a design.
 
+use crate::depth::depth_of;
 use crate::names::name_of;
 use base_lists::Items;
+use base_text::put_number;
 use design_netlist::{Cover, Cube, LatchDef, Lit, Names, Netlist, NetlistData, PortDef};
 use std::alloc::{AllocError, Global};
 use std::collections::HashMap;
@@ -9,10 +11,20 @@ use std::collections::HashMap;
 /// How many names of inputs or outputs stand on a line.
 const NAMES_OF_LINE: usize = 16;
 
-// A text while it is written, and the names of signals.
+/// What a text says of the design that it stands for: how many tables and which depth its plain network has, and the name of the
+/// control that all its latches have, if it can stand in another text.
+#[derive(Debug, Drop)]
+pub struct Head {
+    pub tables: u64,
+    pub depth: u32,
+    pub control: Option<Items<u8>>,
+}
+
+// A text while it is written, what its head says, and the names of signals.
 #[derive(Drop)]
 struct Writer<'a> {
     alloc: Global,
+    head: &'a Head,
     names: &'a Names,
     text: Vec<u8>,
 }
@@ -95,30 +107,62 @@ impl<'a> Writer<'a> {
         Ok(())
     }
 
+    // Adds two numbers, what was and what is.
+    fn put_change(&mut self, what: &[u8], before: u64, after: u64) -> Result<(), AllocError> {
+        self.put(what)?;
+        put_number(&mut self.text, before)?;
+        self.put(b" to ")?;
+        put_number(&mut self.text, after)
+    }
+
+    // Adds the comment: tables and depth of the design as given and as written, where each cover is one table.
+    fn put_head(&mut self, draft: &NetlistData) -> Result<(), AllocError> {
+        let covers = draft.covers.as_slice().len();
+        let tables = covers.saturating_add(draft.latches.as_slice().len());
+        let depth = depth_of(self.alloc, draft)?;
+        let head = self.head;
+        self.put_change(b"# tables ", head.tables, tables as u64)?;
+        self.put_change(b", depth ", u64::from(head.depth), u64::from(depth))?;
+        self.put(b"\n")
+    }
+
+    // Adds the control of the latches, if there is one.
+    fn put_control(&mut self) -> Result<(), AllocError> {
+        if let Some(control) = &self.head.control {
+            self.put(b" re ")?;
+            self.put(control.as_slice())?;
+        }
+        Ok(())
+    }
+
     // Adds the latches.
     fn put_latches(&mut self, latches: &[LatchDef]) -> Result<(), AllocError> {
         'latches: for latch in latches {
             self.put(b".latch")?;
             self.put_name(latch.from)?;
             self.put_name(latch.out)?;
+            self.put_control()?;
             self.put(if latch.init { b" 1\n" } else { b" 0\n" })?;
         }
         Ok(())
     }
 }
 
-/// The draft as a text of one model, `mapped`: inputs and outputs with at most 16 names on a line, the covers with their rows,
-/// the latches with their initial bits, `.end`. Names stand as they are, also where they can't be read again there.
+/// The draft as a text of one model, `mapped`: a comment of what the head says and of the draft's own tables and depth, inputs and
+/// outputs with at most 16 names on a line, the covers with their rows, the latches with the head's control and their initial bits,
+/// `.end`. Names stand as they are, also where they can't be read again there.
 ///
 /// # Errors
 ///
 /// Out of memory.
-pub fn design_text(alloc: Global, draft: &NetlistData) -> Result<Vec<u8>, AllocError> {
+pub fn design_text(alloc: Global, draft: &NetlistData, head: &Head) -> Result<Vec<u8>, AllocError> {
     let mut writer = Writer {
         alloc,
+        head,
         names: &draft.names,
         text: Vec::new(alloc),
     };
+    writer.put_head(draft)?;
     writer.put(b".model mapped\n")?;
     writer.put_ports(b".inputs", draft.inputs.as_slice())?;
     writer.put_ports(b".outputs", draft.outputs.as_slice())?;

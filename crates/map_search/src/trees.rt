@@ -4,6 +4,9 @@ use crate::builder::Builder;
 use crate::way::Join;
 use std::alloc::AllocError;
 
+/// How many ANDs one above the other a table holds, about.
+const ANDS_OF_TABLE: u32 = 3;
+
 /// With more literals pairs are made in place of the lowest.
 const MOST_SORTED: usize = 1000;
 
@@ -88,11 +91,90 @@ fn lowest_first(builder: &mut Builder, literals: &[u32]) -> Result<u32, AllocErr
     Ok(left.first().copied().unwrap_or(1))
 }
 
+// A literal, and how many tables lie below it, by and by.
+#[derive(Clone, Copy)]
+struct Deep {
+    literal: u32,
+    tables: u32,
+}
+
+// The literals with their depths, the deepest first.
+fn by_depth(builder: &Builder, literals: &[u32]) -> Result<Vec<Deep>, AllocError> {
+    let mut deep = Vec::with_capacity(builder.alloc, literals.len())?;
+    'literals: for literal in literals {
+        deep.push(Deep {
+            literal: *literal,
+            tables: builder.level(*literal) / ANDS_OF_TABLE,
+        })?;
+    }
+    deep.sort_by_key(|one| u32::MAX - one.tables)?;
+    Ok(deep)
+}
+
+// The AND of the last so many literals, which are taken, and its depth.
+fn join_last(
+    builder: &mut Builder,
+    deep: &mut Vec<Deep>,
+    count: usize,
+) -> Result<Deep, AllocError> {
+    let mut taken = Vec::with_capacity(builder.alloc, 6)?;
+    let mut tables = 0u32;
+    'literals: for _ in 0..count {
+        if let Some(one) = deep.pop() {
+            taken.push(one.literal)?;
+            tables = tables.max(one.tables);
+        }
+    }
+    Ok(Deep {
+        literal: balance_literals(builder, taken)?,
+        tables: tables.saturating_add(1),
+    })
+}
+
+// Puts a literal behind those that are deeper.
+fn put_deep(deep: &mut Vec<Deep>, one: Deep) -> Result<(), AllocError> {
+    let mut place = 0usize;
+    'literals: for k in 0..deep.len() {
+        if deep[k].tables > one.tables {
+            place = k.saturating_add(1);
+        }
+    }
+    if place <= deep.len() {
+        deep.insert(place, one)?;
+    }
+    Ok(())
+}
+
+// The six lowest first, again and again; at first so many that all that follow are six.
+fn sixes_first(builder: &mut Builder, literals: &[u32]) -> Result<u32, AllocError> {
+    let mut deep = by_depth(builder, literals)?;
+    let mut count = literals.len().wrapping_add(3) % 5 + 2;
+    'sixes: for _ in 0..literals.len() {
+        if deep.len() < 2 {
+            break;
+        }
+        let one = join_last(builder, &mut deep, count)?;
+        put_deep(&mut deep, one)?;
+        count = 6;
+    }
+    match deep.first() {
+        Some(one) => Ok(one.literal),
+        None => Ok(1),
+    }
+}
+
 /// The AND of literals.
 pub fn and_all(builder: &mut Builder, literals: Vec<u32>, join: Join) -> Result<u32, AllocError> {
     match join {
         Join::Pairs => balance_literals(builder, literals),
         Join::Chain => chain_literals(builder, &literals),
+        Join::Sixes => {
+            if literals.len() > MOST_SORTED {
+                balance_literals(builder, literals)
+            } else {
+                sixes_first(builder, &literals)
+            }
+        }
         Join::Lowest => {
             if literals.len() > MOST_SORTED {
                 balance_literals(builder, literals)

@@ -12,7 +12,7 @@ use base_table::TABLE_INPUTS;
 use design_equal::laws::labelled_alike;
 use design_equal::{Graph, agree};
 use design_netlist::{Cover, Netlist, NetlistData};
-use map_search::{Made, Mapped, design_text, labels_by_name};
+use map_search::{Head, Made, Mapped, design_text, labels_by_name};
 use std::alloc::{AllocError, Global};
 
 // Whether each cover has at most six inputs. One that names an input twice counts it twice.
@@ -64,26 +64,22 @@ fn have_same_rows(
     Ok(agreed)
 }
 
-/// The text of what the search drew for a design, with the netlist that it is read as, where that has the design's names and rows
-/// and each of its covers few inputs.
-pub fn check_drawn(
+/// The text of what the search drew for a design, with the netlist that it is read as, where that has the design's names and rows.
+pub fn read_drawn(
     alloc: Global,
     design: &Netlist,
     made: &Made,
     drawn: &Mapped,
+    head: &Head,
 ) -> Result<Option<Remapped>, AllocError>
-    ensures another { IfOk result (λ o. IfSome o (λ r. IsAnotherText design.now r.text r.netlist)) }
-    ensures narrow { IfOk result (λ o. IfSome o (λ r. HasNarrowCovers r.netlist)) }
+    ensures { IfOk result (λ o. IfSome o (λ r. IsAnotherText design.now r.text r.netlist)) }
 {
-    let text = design_text(alloc, &drawn.draft)?;
+    let text = design_text(alloc, &drawn.draft, head)?;
     let read = match read_again(alloc, &text)? {
         Some(read) => read,
         None => return Ok(None),
     };
     if !have_same_ports(alloc, design.parts(), read.parts())? {
-        return Ok(None);
-    }
-    if !have_few_inputs(read.parts().covers.as_slice()) {
         return Ok(None);
     }
     let labels = labels_by_name(alloc, &drawn.draft, drawn.labels.as_slice(), &read)?;
@@ -102,4 +98,26 @@ pub fn check_drawn(
         text,
         netlist: read,
     }))
+}
+
+/// The same, where each of its covers has few inputs too.
+pub fn check_drawn(
+    alloc: Global,
+    design: &Netlist,
+    made: &Made,
+    drawn: &Mapped,
+    head: &Head,
+) -> Result<Option<Remapped>, AllocError>
+    ensures another { IfOk result (λ o. IfSome o (λ r. IsAnotherText design.now r.text r.netlist)) }
+    ensures narrow { IfOk result (λ o. IfSome o (λ r. HasNarrowCovers r.netlist)) }
+{
+    match read_drawn(alloc, design, made, drawn, head)? {
+        Some(read) => {
+            if have_few_inputs(read.netlist.parts().covers.as_slice()) {
+                return Ok(Some(read));
+            }
+            Ok(None)
+        }
+        None => Ok(None),
+    }
 }

@@ -9,13 +9,13 @@ ghost use Rattle.map_text.specs.Remapped.{MayStandFor, tables_in};
 
 use crate::check::check_drawn;
 use crate::rounds::remapped;
-use crate::text::{Remapped, given_text};
+use crate::text::{Remapped, given_text, head_of};
 use base_lists::Items;
 use design_netlist::Netlist;
 use machine_defects::Defects;
 use map_network::{plain, plain_size};
-use map_search::{Mapped, Way, graph_of};
-use place_order::order_covers;
+use map_search::{Head, Mapped, Way, graph_of};
+use place_order::{Effort, order_covers};
 use place_plan::{PlaceFail, in_order};
 use std::alloc::{AllocError, Global};
 
@@ -42,12 +42,26 @@ fn has_room(alloc: Global, netlist: &Netlist, defects: &Defects) -> Result<bool,
     }
 }
 
-// The text of a design in an order for a machine, with at most so many empty covers, if it may stand for the design.
+/// How an order is sought: with at most so many empty covers, and how long.
+#[derive(Clone, Copy)]
+struct Seek {
+    spare: u32,
+    effort: Effort,
+}
+
+/// Without empty covers, not long.
+const BRIEF: Seek = Seek {
+    spare: 0,
+    effort: Effort::Brief,
+};
+
+// The text of a design in an order for a machine, if it may stand for the design.
 fn in_new_order(
     alloc: Global,
     design: &Netlist,
     defects: &Defects,
-    spare: u32,
+    seek: Seek,
+    head: &Head,
 ) -> Result<Option<Remapped>, AllocError>
     ensures another { IfOk result (λ o. IfSome o (λ r. IsAnotherText design.now r.text r.netlist)) }
     ensures narrow { IfOk result (λ o. IfSome o (λ r. HasNarrowCovers r.netlist)) }
@@ -56,10 +70,10 @@ fn in_new_order(
         Some(made) => made,
         None => return Ok(None),
     };
-    let draft = order_covers(alloc, design.parts(), defects, spare)?;
+    let draft = order_covers(alloc, design.parts(), defects, seek.spare, seek.effort)?;
     let labels = Items::new(made.labels.as_slice().to_vec(alloc)?);
     let drawn = Mapped { draft, labels };
-    check_drawn(alloc, design, &made, &drawn)
+    check_drawn(alloc, design, &made, &drawn, head)
 }
 
 // The text that was found, if it has no more tables than the given design, and there is room for it.
@@ -93,11 +107,12 @@ fn find_fitting(
     netlist: &Netlist,
     design: &Netlist,
     defects: &Defects,
-    spare: u32,
+    seek: Seek,
+    head: &Head,
 ) -> Result<Option<Remapped>, AllocError>
     ensures { IfOk result (λ o. IfSome o (IsFitting netlist.now design.now defects.now)) }
 {
-    let found = in_new_order(alloc, design, defects, spare)?;
+    let found = in_new_order(alloc, design, defects, seek, head)?;
     with_room(alloc, netlist, found, defects)
 }
 
@@ -107,22 +122,25 @@ fn some_order(
     netlist: &Netlist,
     mapped: &Remapped,
     defects: &Defects,
+    head: &Head,
 ) -> Result<Option<Remapped>, AllocError>
     requires { IsRemapped netlist.now mapped.now.text mapped.now.netlist }
     ensures remapped { IfOk result (λ o. IfSome o (λ r. IsRemapped netlist.now r.text r.netlist)) }
     ensures narrow { IfOk result (λ o. IfSome o (λ r. HasNarrowCovers r.netlist)) }
     ensures room { IfOk result (λ o. IfSome o (λ r. HasPlan defects.now r.netlist)) }
 {
-    if let Some(text) = find_fitting(alloc, netlist, &mapped.netlist, defects, 0)? {
+    if let Some(text) = find_fitting(alloc, netlist, &mapped.netlist, defects, BRIEF, head)? {
         return Ok(Some(text));
     }
     let most = plain_size(alloc, netlist)?;
     let fewer = most.saturating_sub(plain_size(alloc, &mapped.netlist)?);
     let spare = fewer.min(u64::from(u32::MAX)) as u32;
-    if let Some(text) = find_fitting(alloc, netlist, &mapped.netlist, defects, spare)? {
+    let effort = Effort::Full;
+    let full = Seek { spare, effort };
+    if let Some(text) = find_fitting(alloc, netlist, &mapped.netlist, defects, full, head)? {
         return Ok(Some(text));
     }
-    find_fitting(alloc, netlist, netlist, defects, 0)
+    find_fitting(alloc, netlist, netlist, defects, BRIEF, head)
 }
 
 /// Another text of a design, with the same rows and no more tables, for which there is room on a machine: the in-order plan of its
@@ -149,7 +167,8 @@ pub fn remapped_within(
     if has_room(alloc, &mapped.netlist, defects)? {
         return Ok(mapped);
     }
-    if let Some(found) = some_order(alloc, netlist, &mapped, defects)? {
+    let head = head_of(alloc, text, netlist)?;
+    if let Some(found) = some_order(alloc, netlist, &mapped, defects, &head)? {
         return Ok(found);
     }
     let own = given_text(alloc, text, netlist)?;

@@ -4,10 +4,10 @@ ghost use Rattle.base_text.specs.Size.{most_bytes};
 ghost use Rattle.design_blif.specs.Designs.{IsDesign};
 ghost use Rattle.map_text.specs.Remapped.{HasNarrowCovers, IsAnotherText, IsNarrowOr, IsRemapped, MayStandFor};
 
-use crate::check::check_drawn;
-use crate::text::{Remapped, given_text, lesser};
+use crate::check::{check_drawn, read_drawn};
+use crate::text::{Remapped, given_text, head_of, lesser};
 use design_netlist::Netlist;
-use map_search::{Way, cover_design, graph_of};
+use map_search::{Head, Way, cover_design, graph_of, wide_ands};
 use std::alloc::{AllocError, Global};
 
 /// How many ANDs the graphs of all rounds may have in sum before no further round begins.
@@ -22,21 +22,25 @@ const FEW_CUTS: u32 = 4;
 /// How many rounds with chance there are at most.
 const MORE_ROUNDS: u64 = 8;
 
-/// The rounds from the given design: each decomposes it in another way.
-const FIRST_WAYS: [Way; 7] = [
-    Way::Pairs,
-    Way::Lowest,
-    Way::Chain,
-    Way::Multiplexers,
-    Way::RowsInPairs,
-    Way::RowsLowest,
-    Way::RowsInChains,
+/// The rounds from the given design: each decomposes it in another way, from wide ANDs or not.
+const FIRST_WAYS: [(Way, bool); 9] = [
+    (Way::Pairs, false),
+    (Way::Sixes, true),
+    (Way::Lowest, true),
+    (Way::Lowest, false),
+    (Way::Chain, false),
+    (Way::Multiplexers, false),
+    (Way::RowsInPairs, false),
+    (Way::RowsLowest, false),
+    (Way::RowsInChains, false),
 ];
 
 /// How a round goes about it.
 #[derive(Clone, Copy)]
 struct Round {
     way: Way,
+    /// Whether chains become wide ANDs first.
+    wide: bool,
     /// How many cuts a node of the graph keeps.
     cuts: u32,
     /// From where chance is drawn: 0 is without chance.
@@ -61,15 +65,17 @@ struct Search {
 
 // The round with chance of a number from 1 on.
 fn round_by_chance(number: u64) -> Round {
-    let way = match number % 4 {
-        0 => Way::Pairs,
-        1 => Way::Lowest,
-        2 => Way::Chain,
+    let way = match number % 8 {
+        0 | 4 => Way::Pairs,
+        1 | 7 => Way::Sixes,
+        2 | 6 => Way::Chain,
+        5 => Way::Lowest,
         _ => Way::Multiplexers,
     };
     let cuts = if number % 3 == 2 { 16 } else { 8 };
     Round {
         way,
+        wide: number % 4 == 1 || number % 8 == 7,
         cuts,
         chance: number,
     }
@@ -83,8 +89,42 @@ fn cuts_for(round: Round, ands: u64) -> u32 {
     round.cuts
 }
 
+// A design as wide ANDs, if that is found.
+fn widened(alloc: Global, design: &Netlist, head: &Head) -> Result<Option<Remapped>, AllocError>
+    ensures { IfOk result (λ o. IfSome o (λ r. IsAnotherText design.now r.text r.netlist)) }
+{
+    let made = match graph_of(alloc, design, Way::Pairs)? {
+        Some(made) => made,
+        None => return Ok(None),
+    };
+    let drawn = wide_ands(alloc, design, &made)?;
+    read_drawn(alloc, design, &made, &drawn, head)
+}
+
 // A round from a design. Its text is the one that it comes to, if this may stand for the design.
-fn found_from(alloc: Global, design: &Netlist, round: Round) -> Result<Found, AllocError>
+fn found_by(alloc: Global, design: &Netlist, round: Round, head: &Head) -> Result<Found, AllocError>
+    ensures another { IfOk result (λ f. IfSome f.text (λ r. IsAnotherText design.now r.text r.netlist)) }
+    ensures narrow { IfOk result (λ f. IfSome f.text (λ r. HasNarrowCovers r.netlist)) }
+{
+    if !round.wide {
+        return found_from(alloc, design, round, head);
+    }
+    match widened(alloc, design, head)? {
+        Some(wide) => found_from(alloc, &wide.netlist, round, head),
+        None => Ok(Found {
+            text: None,
+            ands: 0,
+        }),
+    }
+}
+
+// The same from a design as it stands.
+fn found_from(
+    alloc: Global,
+    design: &Netlist,
+    round: Round,
+    head: &Head,
+) -> Result<Found, AllocError>
     ensures another { IfOk result (λ f. IfSome f.text (λ r. IsAnotherText design.now r.text r.netlist)) }
     ensures narrow { IfOk result (λ f. IfSome f.text (λ r. HasNarrowCovers r.netlist)) }
 {
@@ -100,12 +140,12 @@ fn found_from(alloc: Global, design: &Netlist, round: Round) -> Result<Found, Al
     let ands = made.graph.ands.as_slice().len() as u64;
     let cuts = cuts_for(round, ands);
     let drawn = cover_design(alloc, design, &made, cuts, round.chance)?;
-    let text = check_drawn(alloc, design, &made, &drawn)?;
+    let text = check_drawn(alloc, design, &made, &drawn, head)?;
     Ok(Found { text, ands })
 }
 
 // The rounds from the given design.
-fn by_ways(alloc: Global, text: &[u8], netlist: &Netlist) -> Result<Search, AllocError>
+fn by_ways(alloc: Global, text: &[u8], netlist: &Netlist, head: &Head) -> Result<Search, AllocError>
     requires design { IsDesign text.now netlist.now }
     requires short { length text.now ≤ most_bytes }
     ensures { IfOk result (λ s. MayStandFor netlist.now text.now s.best) }
@@ -116,12 +156,14 @@ fn by_ways(alloc: Global, text: &[u8], netlist: &Netlist) -> Result<Search, Allo
         if ands >= ENOUGH_ANDS {
             break 'ways;
         }
+        let (way, wide) = FIRST_WAYS[k];
         let round = Round {
-            way: FIRST_WAYS[k],
+            way,
+            wide,
             cuts: 8,
             chance: 0,
         };
-        let found = found_from(alloc, netlist, round)?;
+        let found = found_by(alloc, netlist, round, head)?;
         ands = ands.saturating_add(found.ands);
         best = lesser(alloc, best, found.text)?;
     }
@@ -140,12 +182,13 @@ pub fn remapped(alloc: Global, text: &[u8], netlist: &Netlist) -> Result<Remappe
     ensures remapped { IfOk result (λ r. IsRemapped netlist.now r.text r.netlist) }
     ensures narrow { IfOk result (IsNarrowOr text.now) }
 {
-    let Search { mut best, mut ands } = by_ways(alloc, text, netlist)?;
+    let head = head_of(alloc, text, netlist)?;
+    let Search { mut best, mut ands } = by_ways(alloc, text, netlist, &head)?;
     'rounds: for number in 1..MORE_ROUNDS + 1 {
         if ands >= ENOUGH_ANDS {
             break 'rounds;
         }
-        let found = found_from(alloc, &best.netlist, round_by_chance(number))?;
+        let found = found_by(alloc, &best.netlist, round_by_chance(number), &head)?;
         ands = ands.saturating_add(found.ands);
         best = lesser(alloc, best, found.text)?;
     }

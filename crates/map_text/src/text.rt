@@ -7,7 +7,8 @@ ghost use Rattle.map_text.specs.Remapped.{tables_in};
 use base_lists::Items;
 use design_blif::read_blif;
 use design_netlist::{DesignFault, Netlist};
-use map_network::plain_size;
+use map_network::{depth, plain, plain_size};
+use map_search::{Head, control_of};
 use std::alloc::{AllocError, Global};
 
 /// A text of a design, and the netlist that it is read as.
@@ -47,7 +48,27 @@ pub fn given_text(alloc: Global, text: &[u8], netlist: &Netlist) -> Result<Remap
     }
 }
 
-/// The text that was found, where it has no more tables than the one before, and else that.
+/// What another text says of a design at its head.
+pub fn head_of(alloc: Global, text: &[u8], netlist: &Netlist) -> Result<Head, AllocError> {
+    Ok(Head {
+        tables: plain_size(alloc, netlist)?,
+        depth: depth_of(alloc, netlist)?,
+        control: control_of(alloc, text, netlist)?,
+    })
+}
+
+// How many tables lie one behind the other in a design's plain network.
+fn depth_of(alloc: Global, netlist: &Netlist) -> Result<u32, AllocError> {
+    let network = plain(alloc, netlist)?;
+    depth(alloc, &network)
+}
+
+// Whether a design with as many tables as another one is deeper.
+fn is_deeper(alloc: Global, netlist: &Netlist, other: &Netlist) -> Result<bool, AllocError> {
+    Ok(depth_of(alloc, netlist)? > depth_of(alloc, other)?)
+}
+
+/// The text that was found, where it has fewer tables than the one before, or as many and is no deeper, and else that.
 pub fn lesser(
     alloc: Global,
     before: Remapped,
@@ -57,11 +78,15 @@ pub fn lesser(
 {
     match found {
         Some(new) => {
-            if plain_size(alloc, &new.netlist)? <= plain_size(alloc, &before.netlist)? {
-                Ok(new)
-            } else {
-                Ok(before)
+            let tables = plain_size(alloc, &new.netlist)?;
+            let most = plain_size(alloc, &before.netlist)?;
+            if tables > most {
+                return Ok(before);
             }
+            if tables == most && is_deeper(alloc, &new.netlist, &before.netlist)? {
+                return Ok(before);
+            }
+            Ok(new)
         }
         None => Ok(before),
     }

@@ -4,17 +4,34 @@ use crate::tree::{Tier, divide_by, small};
 use std::alloc::{AllocError, Global};
 use std::num::saturating_f64_to_i64;
 
-/// What a count of nets at each node of a level costs: the share of a machine's crosspoints that one more of the greatest count
-/// adds, in millionths; that count; and how many there may be without want.
+/// What counts of nets at the nodes of a level cost.
 #[derive(Clone, Copy, Debug)]
-pub struct Price {
-    pub share: f64,
-    pub greatest: f64,
-    pub limit: f64,
+pub enum Price {
+    /// By the share of a machine's crosspoints that one more of the greatest count adds, in millionths; that count; and how many there
+    /// may be without want.
+    Share {
+        share: f64,
+        greatest: f64,
+        limit: f64,
+    },
+    /// By how near a count is to what there may be at most: each more costs a fixed part more.
+    Steep {
+        limit: u32,
+    },
+}
+
+impl Price {
+    /// The share, where costs go by it.
+    pub fn share(self) -> f64 {
+        match self {
+            Price::Share { share, .. } => share,
+            Price::Steep { .. } => 0.0,
+        }
+    }
 }
 
 /// What one more costs beyond what there may be, in millionths.
-const BEYOND: f64 = 20_000.0;
+pub const BEYOND: f64 = 20_000.0;
 
 /// What a net costs also where others have more, against what it costs where none has.
 const EACH: f64 = 0.05;
@@ -22,22 +39,30 @@ const EACH: f64 = 0.05;
 /// A count that is so many times the greatest costs what a greater one does.
 const MOST_PART: f64 = 16.0;
 
-/// Counts of nets at the nodes of a level, and what each count costs.
+/// How steep costs are: a count at what there may be costs so many times e more than none, about.
+const STEEP: f64 = 20.0;
+
+/// What a count at what there may be costs by steep costs, and what costs grow up to.
+const AT_LIMIT: f64 = 1_000_000.0;
+
+const MOST_STEEP: f64 = 1.0e15;
+
+/// Counts of nets at the nodes of a level, what each count costs, how many there may be, and how many there are beyond that in sum.
 #[derive(Drop)]
-struct Gauge {
+pub struct Gauge {
     counts: Vec<u32>,
     costs: Vec<i64>,
+    limit: u32,
+    over: u32,
 }
 
-/// The nodes of a level: how many tables of each net each has, how many nodes have some, these nodes' numbers in one word of
-/// exclusive or, and how many nets cross and visit each node.
+/// The nodes of a level: how many tables of each net each has, how many nodes have some, and how many nets cross and visit each node.
 #[derive(Drop)]
 pub struct Level {
     pub span: usize,
     pub nodes: usize,
     counts: Vec<u16>,
     occupied: Vec<u32>,
-    among: Vec<u32>,
     crossings: Gauge,
     visits: Gauge,
 }
@@ -49,6 +74,13 @@ pub struct Crosses {
     pub after: bool,
 }
 
+impl Crosses {
+    /// Whether nothing changes.
+    pub fn stays(self) -> bool {
+        self.before == self.after
+    }
+}
+
 /// What a change costs, and whether the net crosses nodes of the level.
 #[derive(Clone, Copy, Debug)]
 pub struct Changed {
@@ -56,13 +88,25 @@ pub struct Changed {
     pub crosses: Crosses,
 }
 
-/// A table of a net that comes to a table of the machine, or goes from there.
+/// A way from a node of a level to another one, or to the same.
 #[derive(Clone, Copy, Debug)]
-pub struct Move {
+pub struct Way {
+    pub from: usize,
+    pub to: usize,
+}
+
+impl Way {
+    /// Whether it leads nowhere else.
+    pub fn stays(self) -> bool {
+        self.from == self.to
+    }
+}
+
+/// A net, and whether a pin of the machine is on it.
+#[derive(Clone, Copy, Debug)]
+pub struct Signal {
     pub net: usize,
-    pub place: usize,
     pub pinned: bool,
-    pub comes: bool,
 }
 
 // A count against the greatest one, to the sixth power: what has fewer nets than others hardly counts.
@@ -71,33 +115,75 @@ fn weight_of(part: f64) -> f64 {
     square * square * square
 }
 
-// What so many nets at a node cost.
-fn cost_of(count: f64, price: Price) -> i64 {
-    let part = count / price.greatest;
+// What so many nets at a node cost by shares.
+fn cost_of(count: f64, share: f64, greatest: f64, limit: f64) -> i64 {
+    let part = count / greatest;
     let most = if part > MOST_PART { MOST_PART } else { part };
     let weight = weight_of(most) / 6.0 + part * EACH;
-    let above = count - price.limit;
+    let above = count - limit;
     let beyond = if above > 0.0 {
         BEYOND * above * (above + 1.0)
     } else {
         0.0
     };
-    saturating_f64_to_i64(price.share * price.greatest * weight + beyond)
+    saturating_f64_to_i64(share * greatest * weight + beyond)
 }
 
-// The costs of counts up to this one.
-fn costs_of(alloc: Global, most: usize, price: Price) -> Result<Vec<i64>, AllocError> {
+// What no net costs, where each more costs so many times more up to a limit.
+fn least_steep(growth: f64, limit: u32) -> f64 {
+    let mut cost = AT_LIMIT;
+    'counts: for _ in 0..limit {
+        cost = cost / growth;
+    }
+    cost
+}
+
+// The steep costs of counts up to this one.
+fn steep_costs(alloc: Global, most: usize, limit: u32) -> Result<Vec<i64>, AllocError> {
     let mut costs = Vec::with_capacity(alloc, most)?;
-    'counts: for count in 0..most {
-        costs.push(cost_of(small(count) as f64, price))?;
+    let part = STEEP / limit.max(1) as f64;
+    let growth = 1.0 + part * (1.0 + part / 2.0 * (1.0 + part / 3.0));
+    let mut cost = least_steep(growth, limit);
+    'counts: for _ in 0..most {
+        costs.push(saturating_f64_to_i64(cost))?;
+        if cost < MOST_STEEP {
+            cost = cost * growth;
+        }
     }
     Ok(costs)
 }
 
-// So many nets at nodes, those that are wanting.
-fn gauge_of(
+// The costs of counts up to this one.
+fn costs_of(alloc: Global, most: usize, price: Price) -> Result<Vec<i64>, AllocError> {
+    let (share, greatest, limit) = match price {
+        Price::Share {
+            share,
+            greatest,
+            limit,
+        } => (share, greatest, limit),
+        Price::Steep { limit } => return steep_costs(alloc, most, limit),
+    };
+    let mut costs = Vec::with_capacity(alloc, most)?;
+    'counts: for count in 0..most {
+        costs.push(cost_of(small(count) as f64, share, greatest, limit))?;
+    }
+    Ok(costs)
+}
+
+// How many are beyond a limit in sum.
+fn beyond_limit(counts: &[u32], limit: u32) -> u32 {
+    let mut over = 0u32;
+    'nodes: for count in counts {
+        over = over.saturating_add(count.saturating_sub(limit));
+    }
+    over
+}
+
+/// So many nets at nodes, those that are wanting, where there may be so many at each.
+pub fn gauge_of(
     alloc: Global,
     wanting: &[u32],
+    limit: usize,
     nets: usize,
     price: Price,
 ) -> Result<Gauge, AllocError> {
@@ -109,6 +195,8 @@ fn gauge_of(
     Ok(Gauge {
         counts: Vec::from_slice(alloc, wanting)?,
         costs: costs_of(alloc, most, price)?,
+        limit: small(limit),
+        over: beyond_limit(wanting, small(limit)),
     })
 }
 
@@ -123,41 +211,56 @@ impl Gauge {
         }
     }
 
-    // One more net at a node, or one less; what that costs.
-    fn bump(&mut self, node: usize, more: bool) -> i64 {
+    /// What the counts at all nodes cost.
+    pub fn cost_of_all(&self) -> i64 {
+        let mut cost = 0i64;
+        'nodes: for count in &self.counts {
+            cost = cost.wrapping_add(self.cost(*count));
+        }
+        cost
+    }
+
+    /// How many there are beyond what there may be.
+    pub fn over(&self) -> u32 {
+        self.over
+    }
+
+    // One more net at a node that has so many; what that costs.
+    fn raise(&mut self, node: usize) -> i64 {
         if node >= self.counts.len() {
             return 0;
         }
         let old = self.counts[node];
-        let new = if more {
-            old.saturating_add(1)
-        } else {
-            old.saturating_sub(1)
-        };
+        let new = old.saturating_add(1);
         self.counts[node] = new;
+        if new > self.limit {
+            self.over = self.over.saturating_add(1);
+        }
         self.cost(new).wrapping_sub(self.cost(old))
     }
 
-    // A net comes to a node or leaves it, maybe beside another one that it has too, and counts there before and after or doesn't:
-    // what that costs.
-    fn change(
-        &mut self,
-        node: usize,
-        other: Option<usize>,
-        whole: bool,
-        counts: Crosses,
-        comes: bool,
-    ) -> i64 {
-        if counts.before && counts.after {
-            return if whole { self.bump(node, comes) } else { 0 };
-        }
-        if !counts.before && !counts.after {
+    // One net less at a node.
+    fn lower(&mut self, node: usize) -> i64 {
+        if node >= self.counts.len() {
             return 0;
         }
-        let here = self.bump(node, comes);
-        match other {
-            Some(other) => here.wrapping_add(self.bump(other, comes)),
-            None => here,
+        let old = self.counts[node];
+        let new = old.saturating_sub(1);
+        self.counts[node] = new;
+        if old > self.limit {
+            self.over = self.over.saturating_sub(1);
+        }
+        self.cost(new).wrapping_sub(self.cost(old))
+    }
+
+    /// A net counts at a node before and after a change, or doesn't; what that costs.
+    pub fn turn(&mut self, node: usize, before: bool, after: bool) -> i64 {
+        if before == after {
+            0
+        } else if after {
+            self.raise(node)
+        } else {
+            self.lower(node)
         }
     }
 }
@@ -175,9 +278,8 @@ pub fn level_of(
         nodes: tier.nodes,
         counts: vec![in alloc; 0; nets.saturating_mul(tier.nodes)]?,
         occupied: vec![in alloc; 0; nets]?,
-        among: vec![in alloc; 0; nets]?,
-        crossings: gauge_of(alloc, &tier.no_ports, nets, crossings)?,
-        visits: gauge_of(alloc, &tier.no_lines, nets, visits)?,
+        crossings: gauge_of(alloc, &tier.no_ports, tier.ports, nets, crossings)?,
+        visits: gauge_of(alloc, &tier.no_lines, tier.lines, nets, visits)?,
     })
 }
 
@@ -185,6 +287,26 @@ impl Level {
     /// The node of a table of the machine.
     pub fn node(&self, table: usize) -> usize {
         divide_by(table, self.span)
+    }
+
+    /// The way from a table of the machine to another one.
+    pub fn way(&self, from: usize, to: usize) -> Way {
+        Way {
+            from: self.node(from),
+            to: self.node(to),
+        }
+    }
+
+    /// What the counts at all nodes cost.
+    pub fn cost(&self) -> i64 {
+        self.crossings
+            .cost_of_all()
+            .wrapping_add(self.visits.cost_of_all())
+    }
+
+    /// How many ports and lines are wanting.
+    pub fn over(&self) -> u32 {
+        self.crossings.over().saturating_add(self.visits.over())
     }
 
     // How many nodes have tables of a net.
@@ -196,59 +318,96 @@ impl Level {
         }
     }
 
-    // The node that has tables of a net beside this one, where there are two.
-    fn other(&self, net: usize, node: usize) -> usize {
-        if net < self.among.len() {
-            self.among[net] as usize ^ node
-        } else {
-            usize::MAX
+    // Where the tables of a net at a node are counted.
+    fn spot(&self, net: usize, node: usize) -> usize {
+        net.saturating_mul(self.nodes).saturating_add(node)
+    }
+
+    // Whether a net crosses nodes.
+    fn crosses(&self, signal: Signal) -> bool {
+        signal.pinned || self.occupied_nodes(signal.net) > 1
+    }
+
+    /// One more table of a net at a node; whether it is the first one there.
+    pub fn come(&mut self, net: usize, node: usize) -> bool {
+        let spot = self.spot(net, node);
+        if spot >= self.counts.len() || net >= self.occupied.len() {
+            return false;
+        }
+        let old = self.counts[spot];
+        self.counts[spot] = old.saturating_add(1);
+        if old == 0 {
+            self.occupied[net] = self.occupied[net].saturating_add(1);
+        }
+        old == 0
+    }
+
+    // One table of a net less at a node; whether it was the last one there.
+    fn leave(&mut self, net: usize, node: usize) -> bool {
+        let spot = self.spot(net, node);
+        if spot >= self.counts.len() || net >= self.occupied.len() {
+            return false;
+        }
+        let old = self.counts[spot];
+        self.counts[spot] = old.saturating_sub(1);
+        if old == 1 {
+            self.occupied[net] = self.occupied[net].saturating_sub(1);
+        }
+        old == 1
+    }
+
+    // Whether a node has tables of a net.
+    fn has(&self, net: usize, node: usize) -> bool {
+        match self.counts.get(self.spot(net, node)) {
+            Some(count) => *count > 0,
+            None => false,
         }
     }
 
-    // Counts a table of a net; whether it is the first of its node, or was the last.
-    fn count(&mut self, net: usize, node: usize, comes: bool) -> bool {
-        let place = net.saturating_mul(self.nodes).saturating_add(node);
-        if place >= self.counts.len() || net >= self.occupied.len() || net >= self.among.len() {
-            return false;
+    /// Counts the crossings and visits of a net all of whose tables have come, which crosses nodes of the level below or doesn't;
+    /// whether it crosses nodes of this one.
+    pub fn charge(&mut self, signal: Signal, below: bool) -> bool {
+        let crosses = self.crosses(signal);
+        if self.occupied_nodes(signal.net) == 0 {
+            return crosses;
         }
-        let old = self.counts[place];
-        let (new, occupied) = if comes {
-            (old.saturating_add(1), self.occupied[net].saturating_add(1))
-        } else {
-            (old.saturating_sub(1), self.occupied[net].saturating_sub(1))
-        };
-        self.counts[place] = new;
-        if old != 0 && new != 0 {
-            return false;
+        'nodes: for node in 0..self.nodes {
+            if self.has(signal.net, node) {
+                let _ = self.crossings.turn(node, false, crosses);
+                let _ = self.visits.turn(node, false, below);
+            }
         }
-        self.occupied[net] = occupied;
-        self.among[net] ^= small(node);
-        true
+        crosses
     }
 
-    /// A table of a net comes to a table of the machine, or goes from there; whether the net crosses nodes of the level below.
-    pub fn change(&mut self, step: Move, below: Crosses) -> Changed {
-        let node = self.node(step.place);
-        let before = self.occupied_nodes(step.net);
-        let whole = self.count(step.net, node, step.comes);
-        let after = self.occupied_nodes(step.net);
-        let crosses = Crosses {
-            before: step.pinned || before > 1,
-            after: step.pinned || after > 1,
-        };
-        // A node that the net has beside this one, before or after.
-        let other = if whole && before.max(after) == 2 {
-            Some(self.other(step.net, if step.comes { node } else { 0 }))
-        } else {
-            None
-        };
-        let visits = self.visits.change(node, other, whole, below, step.comes);
-        let crossings = self
-            .crossings
-            .change(node, other, whole, crosses, step.comes);
+    /// A table of a net goes this way; whether the net crosses nodes of the level below. Only the two nodes can change: where the net
+    /// begins or ceases to cross nodes, it has tables at these two alone.
+    pub fn shift(&mut self, signal: Signal, way: Way, below: Crosses) -> Changed {
+        let before = self.crosses(signal);
+        if way.stays() {
+            return Changed {
+                cost: self.visits.turn(way.to, below.before, below.after),
+                crosses: Crosses {
+                    before,
+                    after: before,
+                },
+            };
+        }
+        let left = self.leave(signal.net, way.from);
+        let came = self.come(signal.net, way.to);
+        let after = self.crosses(signal);
+        let ports = self.crossings.turn(way.from, before, after && !left);
+        let more_ports = self.crossings.turn(way.to, before && !came, after);
+        let lines = self
+            .visits
+            .turn(way.from, below.before, below.after && !left);
+        let more_lines = self.visits.turn(way.to, below.before && !came, below.after);
         Changed {
-            cost: crossings.wrapping_add(visits),
-            crosses,
+            cost: ports
+                .wrapping_add(more_ports)
+                .wrapping_add(lines)
+                .wrapping_add(more_lines),
+            crosses: Crosses { before, after },
         }
     }
 }

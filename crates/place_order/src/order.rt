@@ -2,7 +2,7 @@
 
 use crate::copying::{copy_cover, copy_names, copy_ports, empty_cover};
 use crate::nets::{NOTHING, Nets, nets_of};
-use crate::rooms::{Order, best_order};
+use crate::rooms::{Effort, Order, best_order};
 use crate::tree::{small, tree_of};
 use base_lists::Items;
 use design_netlist::{Cover, LatchDef, Names, NetlistData};
@@ -150,6 +150,7 @@ pub fn order_covers(
     draft: &NetlistData,
     defects: &Defects,
     spare: u32,
+    effort: Effort,
 ) -> Result<NetlistData, AllocError> {
     let nets = nets_of(alloc, draft)?;
     let tree = tree_of(alloc, defects)?;
@@ -159,6 +160,6 @@ pub fn order_covers(
         let order = plain_order(alloc, count, nets.split)?;
         return draft_in(alloc, draft, &nets, &order, count);
     }
-    let order = best_order(alloc, &nets, &tree, spare as usize)?;
+    let order = best_order(alloc, &nets, &tree, spare as usize, effort)?;
     draft_in(alloc, draft, &nets, &order, tree.seats.len())
 }

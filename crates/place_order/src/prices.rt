@@ -3,19 +3,18 @@
 use crate::levels::Price;
 use crate::need::{Need, crosspoints};
 use crate::tree::{Tier, Tree, small};
-use std::num::saturating_f64_to_i64;
 
 /// In how many parts the crosspoints of a machine are counted.
 const PARTS: f64 = 1_000_000.0;
 
-/// The prices of crossings and visits at all levels, hextants first; of a visit at the root; and of one more net in the fullest
-/// hextant.
+/// The prices of crossings and visits at all levels, hextants first; of visits at the root; and what heat is measured in: what one
+/// more net in the fullest hextant costs, or all that the seats cost.
 #[derive(Clone, Copy, Debug)]
 pub struct Prices {
     pub crossings: [Price; 3],
     pub visits: [Price; 3],
-    pub root: i64,
-    pub unit: f64,
+    pub root: Price,
+    pub unit: Option<f64>,
 }
 
 // So many crosspoints of all as parts.
@@ -30,12 +29,12 @@ fn tier_prices(need: &Need, tier: &Tier, level: usize, taps: usize, all: u64) ->
     let lines = need.lines.get(level).copied().unwrap_or(1);
     let above = need.lines.get(level.saturating_add(1)).copied();
     let met = lines.saturating_add(above.unwrap_or(1));
-    let crossings = Price {
+    let crossings = Price::Share {
         share: share_of(tier.nodes.saturating_mul(met), all),
         greatest: small(ports) as f64,
         limit: small(tier.ports) as f64,
     };
-    let visits = Price {
+    let visits = Price::Share {
         share: share_of(tier.nodes.saturating_mul(ports.saturating_add(taps)), all),
         greatest: small(lines) as f64,
         limit: small(tier.lines) as f64,
@@ -58,7 +57,37 @@ pub fn prices_of(need: &Need, tree: &Tree, pins: usize) -> Prices {
     Prices {
         crossings: [low_port, middle_port, high_port],
         visits: [low_line, middle_line, high_line],
-        root: saturating_f64_to_i64(share_of(root_taps, all)),
-        unit: low_port.share + low_line.share,
+        root: Price::Share {
+            share: share_of(root_taps, all),
+            greatest: small(need.lines[3]) as f64,
+            limit: small(tree.lines) as f64,
+        },
+        unit: Some(low_port.share() + low_line.share()),
+    }
+}
+
+// A steep price of what there is so much of.
+fn steep_price(limit: usize) -> Price {
+    Price::Steep {
+        limit: small(limit),
+    }
+}
+
+/// What crossings and visits cost where it matters alone that nothing is beyond what the machine has.
+pub fn steep_prices(tree: &Tree) -> Prices {
+    let [hextants, chips, modules] = &tree.tiers;
+    Prices {
+        crossings: [
+            steep_price(hextants.ports),
+            steep_price(chips.ports),
+            steep_price(modules.ports),
+        ],
+        visits: [
+            steep_price(hextants.lines),
+            steep_price(chips.lines),
+            steep_price(modules.lines),
+        ],
+        root: steep_price(tree.lines),
+        unit: None,
     }
 }

@@ -3,8 +3,8 @@
 use crate::grow::grow_seats;
 use crate::need::{Need, Worth, is_better, need_of, worth_of};
 use crate::nets::Nets;
-use crate::prices::prices_of;
-use crate::search::{HOT, PRESSED, Trial, WARM, trial_of};
+use crate::prices::{prices_of, steep_prices};
+use crate::search::{HOT, PRESSED, Trial, WARM, root_visits, trial_of};
 use crate::tree::{Tree, divide_by, small};
 use base_random::Draws;
 use std::alloc::{AllocError, Global};
@@ -12,12 +12,51 @@ use std::alloc::{AllocError, Global};
 /// How often prices are set anew.
 const TURNS: usize = 6;
 
-/// How many exchanges are tried in all, at most so many for each table in a search, and at least so many.
-const MOST_TRIES: usize = 2_500_000;
+/// How many exchanges are tried from an even spread: in a brief search, in each long one, and to see which room is best.
+const BRIEF_TRIES: usize = 150_000;
+
+const LONG_TRIES: usize = 1_050_000;
+
+const PROBE_TRIES: usize = 43_750;
+
+/// Where the best order of long searches is so far beyond what there is, no further one is begun; and how many there are.
+const NEAR: u64 = 2;
+
+const LONG_SEARCHES: usize = 2;
+
+/// In how many rounds of one heat, how hot the first one is, and by how much the heat falls.
+const SPREAD_ROUNDS: usize = 70;
+
+const SPREAD_HEAT: f64 = 0.3;
+
+const SPREAD_FALL: f64 = 0.966_5;
+
+/// A long search ends after so many rounds or later, where so many ports and lines are wanting for each round to come and each of
+/// `LATE_ROUNDS` more. Searches that found an order had about half as many at most.
+const EARLY_ROUNDS: usize = 20;
+
+const LATE_ROUNDS: usize = 30;
+
+const PATIENCE: usize = 8;
+
+/// How many exchanges are tried in all other searches, at most so many for each table in a search, and at least so many.
+const MOST_TRIES: usize = 250_000;
 
 const MOST_EFFORT: usize = 480;
 
 const LEAST_EFFORT: usize = 8;
+
+/// Where the best order found from an even spread is so far beyond what there is, no other search is tried.
+const HOPELESS: u64 = 12;
+
+/// How long an order is sought.
+#[derive(Clone, Copy, Debug, PartialEq, Eq)]
+pub enum Effort {
+    /// From an even spread alone, not long.
+    Brief,
+    /// Long, and from other beginnings too.
+    Full,
+}
 
 /// Seats of tables, and how many seats covers and empty covers have.
 #[derive(Drop)]
@@ -76,6 +115,9 @@ fn tighten(
         trial.build(alloc, &prices)?;
         trial.anneal(luck, PRESSED, steps);
         need = keep(alloc, best, trial)?;
+        if best.worth.beyond == 0 {
+            break;
+        }
     }
     Ok(())
 }
@@ -92,6 +134,92 @@ fn plain_seats(alloc: Global, nets: &Nets, room: usize) -> Result<Vec<u32>, Allo
         seats.push(small(seat))?;
     }
     Ok(seats)
+}
+
+// The seats of covers spread evenly over so many, latches from there on.
+fn even_seats(alloc: Global, nets: &Nets, room: usize) -> Result<Vec<u32>, AllocError> {
+    let mut seats = Vec::with_capacity(alloc, nets.of.len())?;
+    'tables: for table in 0..nets.of.len() {
+        let seat = if table < nets.split {
+            divide_by(table.saturating_mul(room), nets.split)
+        } else {
+            table.saturating_sub(nets.split).saturating_add(room)
+        };
+        seats.push(small(seat))?;
+    }
+    Ok(seats)
+}
+
+// A search from an even spread: over how many seats, how many exchanges, which chances, and whether it ends where there is no hope.
+#[derive(Clone, Copy)]
+struct Run {
+    room: usize,
+    tries: usize,
+    chances: u64,
+    ends: bool,
+}
+
+// Whether too many ports and lines are wanting after so many rounds.
+fn is_hopeless(over: u32, round: usize) -> bool {
+    let left = SPREAD_ROUNDS
+        .saturating_add(LATE_ROUNDS)
+        .saturating_sub(round);
+    round >= EARLY_ROUNDS && over as usize > PATIENCE.saturating_mul(left)
+}
+
+// Searches from an even spread until an order fits; what the last seats cost.
+fn search_spread(
+    alloc: Global,
+    best: &mut Best,
+    nets: &Nets,
+    tree: &Tree,
+    run: Run,
+) -> Result<i64, AllocError> {
+    let seats = even_seats(alloc, nets, run.room)?;
+    let mut luck = Draws::new(run.chances);
+    let mut trial = trial_of(alloc, nets, tree, seats, run.room, &steep_prices(tree))?;
+    let mut heat = SPREAD_HEAT;
+    'rounds: for round in 0..SPREAD_ROUNDS {
+        trial.round(&mut luck, divide_by(run.tries, SPREAD_ROUNDS), heat);
+        let _ = keep(alloc, best, &trial)?;
+        if best.worth.beyond == 0 || run.ends && is_hopeless(trial.over(), round) {
+            break;
+        }
+        heat = heat * SPREAD_FALL;
+    }
+    Ok(trial.cost)
+}
+
+// The room in which a short search comes to the least cost, where there are several.
+fn best_room(
+    alloc: Global,
+    best: &mut Best,
+    nets: &Nets,
+    tree: &Tree,
+    rooms: &[usize],
+) -> Result<usize, AllocError> {
+    let mut found = rooms.last().copied().unwrap_or(nets.split);
+    if rooms.len() < 3 {
+        return Ok(found);
+    }
+    let mut least = i64::MAX;
+    'rooms: for room in rooms {
+        let run = Run {
+            room: *room,
+            tries: PROBE_TRIES,
+            chances: 1,
+            ends: false,
+        };
+        let cost = search_spread(alloc, best, nets, tree, run)?;
+        if best.worth.beyond == 0 {
+            break;
+        }
+        if cost < least {
+            least = cost;
+            found = *room;
+        }
+    }
+    Ok(found)
 }
 
 // Searches with so many seats for covers, from both beginnings.
@@ -115,6 +243,9 @@ fn search_room(
         let mut trial = trial_of(alloc, nets, tree, seats, room, &prices)?;
         trial.anneal(&mut luck, if anew { WARM } else { HOT }, steps);
         tighten(alloc, best, &mut trial, &mut luck, steps / 3)?;
+        if best.worth.beyond == 0 {
+            break;
+        }
     }
     Ok(())
 }
@@ -124,8 +255,8 @@ fn round_up(number: usize, span: usize) -> usize {
     divide_by(number.saturating_add(span.saturating_sub(1)), span).saturating_mul(span)
 }
 
-// How many seats covers may have: as many as there are, the most, and for latches those with which the first of these, or the end
-// behind the last, begins a node.
+// How many seats covers may have: as many as there are, the most, and for latches those with which the first of these, the middle
+// one, or the end behind the last, begins a node.
 fn rooms_of(
     alloc: Global,
     nets: &Nets,
@@ -139,6 +270,8 @@ fn rooms_of(
     'tiers: for tier in &tree.tiers {
         if latches > 0 {
             rooms.push(round_up(nets.split, tier.span))?;
+            let middle = round_up(nets.split.saturating_add(latches / 2), tier.span);
+            rooms.push(middle.saturating_sub(latches / 2))?;
             let end = round_up(nets.of.len(), tier.span);
             rooms.push(end.saturating_sub(latches))?;
         }
@@ -162,24 +295,94 @@ fn first_best(alloc: Global, nets: &Nets, tree: &Tree) -> Result<Best, AllocErro
     })
 }
 
+// Searches long and again while the best order is near.
+fn search_long(
+    alloc: Global,
+    best: &mut Best,
+    nets: &Nets,
+    tree: &Tree,
+    room: usize,
+) -> Result<(), AllocError> {
+    'searches: for k in 0..LONG_SEARCHES {
+        if best.worth.beyond == 0 || k > 0 && best.worth.beyond > NEAR {
+            break;
+        }
+        let run = Run {
+            room,
+            tries: LONG_TRIES,
+            chances: k.saturating_add(1) as u64,
+            ends: true,
+        };
+        let _ = search_spread(alloc, best, nets, tree, run)?;
+    }
+    Ok(())
+}
+
+// Searches from an even spread: briefly with all seats, or longer with the room for which that promises most.
+fn search_first(
+    alloc: Global,
+    best: &mut Best,
+    nets: &Nets,
+    tree: &Tree,
+    rooms: &[usize],
+    effort: Effort,
+) -> Result<(), AllocError> {
+    if effort == Effort::Full {
+        let room = best_room(alloc, best, nets, tree, rooms)?;
+        return search_long(alloc, best, nets, tree, room);
+    }
+    let run = Run {
+        room: rooms.last().copied().unwrap_or(nets.split),
+        tries: BRIEF_TRIES,
+        chances: 1,
+        ends: false,
+    };
+    let _ = search_spread(alloc, best, nets, tree, run)?;
+    Ok(())
+}
+
+// Searches in all rooms until an order fits.
+fn search_rooms(
+    alloc: Global,
+    best: &mut Best,
+    nets: &Nets,
+    tree: &Tree,
+    rooms: &[usize],
+) -> Result<(), AllocError> {
+    let count = nets.of.len();
+    let searches = rooms.len().saturating_mul(6).saturating_mul(count);
+    let effort = divide_by(MOST_TRIES, searches)
+        .max(LEAST_EFFORT)
+        .min(MOST_EFFORT);
+    'rooms: for room in rooms {
+        search_room(alloc, best, nets, tree, *room, effort)?;
+        if best.worth.beyond == 0 {
+            break;
+        }
+    }
+    Ok(())
+}
+
 /// The best order that was found with at most so many seats left free.
 pub fn best_order(
     alloc: Global,
     nets: &Nets,
     tree: &Tree,
     spare: usize,
+    effort: Effort,
 ) -> Result<Order, AllocError> {
     let mut best = first_best(alloc, nets, tree)?;
     let count = nets.of.len();
     let most = count.saturating_add(spare).min(tree.seats.len());
     let latches = count.saturating_sub(nets.split);
+    if root_visits(nets, tree) as usize > tree.lines {
+        return Ok(best.order);
+    }
     let rooms = rooms_of(alloc, nets, tree, most.saturating_sub(latches))?;
-    let searches = rooms.len().saturating_mul(6).saturating_mul(count);
-    let effort = divide_by(MOST_TRIES, searches)
-        .max(LEAST_EFFORT)
-        .min(MOST_EFFORT);
-    'rooms: for room in &rooms {
-        search_room(alloc, &mut best, nets, tree, *room, effort)?;
+    search_first(alloc, &mut best, nets, tree, &rooms, effort)?;
+    let beyond = best.worth.beyond;
+    if effort == Effort::Full && beyond > 0 && beyond <= HOPELESS {
+        search_rooms(alloc, &mut best, nets, tree, &rooms)?;
     }
     Ok(best.order)
 }

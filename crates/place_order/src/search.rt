@@ -1,12 +1,13 @@
 //! The search for seats by exchanges.
 
-use crate::levels::{Crosses, Level, Move, level_of};
+use crate::levels::{Crosses, Gauge, Level, Price, Signal, Way, gauge_of, level_of};
 use crate::luck::bold;
 use crate::nets::{NOTHING, Nets, is_pinned, nets_at, tables_at};
 use crate::prices::Prices;
 use crate::tree::{Tree, divide_by, small};
 use base_random::Draws;
 use std::alloc::{AllocError, Global};
+use std::num::nearest_u64_to_f64;
 
 /// In how many rounds the heat falls.
 pub const ROUNDS: usize = 32;
@@ -55,9 +56,11 @@ pub struct Trial<'a> {
     /// The seat at each table of the machine.
     seat_at: Vec<u32>,
     levels: Levels,
-    root: i64,
-    unit: f64,
-    cost: i64,
+    /// How many nets visit the root.
+    root: Gauge,
+    /// What heat is measured in, if that isn't the cost of all.
+    unit: Option<f64>,
+    pub cost: i64,
 }
 
 /// The levels of a tree below its root.
@@ -66,6 +69,23 @@ struct Levels {
     hextants: Level,
     chips: Level,
     modules: Level,
+}
+
+/// How many nets visit the root wherever tables sit, with the lines that are wanting there: those of a pin and a table, or of two pins.
+pub fn root_visits(nets: &Nets, tree: &Tree) -> u32 {
+    let mut count = small(tree.no_lines);
+    'nets: for net in &nets.nets {
+        if net.pins > 1 || net.pins == 1 && net.tables.len() > 0 {
+            count = count.saturating_add(1);
+        }
+    }
+    count
+}
+
+// The nets that visit the root wherever tables sit.
+fn root_of(alloc: Global, nets: &Nets, tree: &Tree, price: Price) -> Result<Gauge, AllocError> {
+    let visits = root_visits(nets, tree);
+    gauge_of(alloc, &[visits], tree.lines, nets.nets.len(), price)
 }
 
 // The seat at each table of the machine that is free.
@@ -102,6 +122,54 @@ fn levels_of(
     })
 }
 
+impl Levels {
+    // What the nets at all nodes cost.
+    fn cost(&self) -> i64 {
+        let low = self.hextants.cost().wrapping_add(self.chips.cost());
+        low.wrapping_add(self.modules.cost())
+    }
+
+    // How many ports and lines are wanting.
+    fn over(&self) -> u32 {
+        let low = self.hextants.over().saturating_add(self.chips.over());
+        low.saturating_add(self.modules.over())
+    }
+
+    // One more table of a net at a table of the machine.
+    fn come(&mut self, net: usize, place: usize) {
+        let hextant = self.hextants.node(place);
+        let chip = self.chips.node(place);
+        let module = self.modules.node(place);
+        let _ = self.hextants.come(net, hextant);
+        let _ = self.chips.come(net, chip);
+        let _ = self.modules.come(net, module);
+    }
+
+    // Counts a net all of whose tables have come; whether it crosses modules.
+    fn charge(&mut self, signal: Signal) -> bool {
+        let low = self.hextants.charge(signal, true);
+        let middle = self.chips.charge(signal, low);
+        self.modules.charge(signal, middle)
+    }
+
+    // The ways from a table of the machine to another one.
+    fn ways(&self, from: usize, to: usize) -> Ways {
+        Ways {
+            hextants: self.hextants.way(from, to),
+            chips: self.chips.way(from, to),
+            modules: self.modules.way(from, to),
+        }
+    }
+}
+
+// Ways at all levels.
+#[derive(Clone, Copy, Debug)]
+struct Ways {
+    hextants: Way,
+    chips: Way,
+    modules: Way,
+}
+
 /// A trial that begins with these seats.
 pub fn trial_of<'a>(
     alloc: Global,
@@ -121,7 +189,7 @@ pub fn trial_of<'a>(
         holders: Vec::new(alloc),
         seat_at: seats_by_table(alloc, tree)?,
         levels: levels_of(alloc, nets, tree, prices)?,
-        root: prices.root,
+        root: root_of(alloc, nets, tree, prices.root)?,
         unit: prices.unit,
         cost: 0,
     };
@@ -148,35 +216,52 @@ impl<'a> Trial<'a> {
         }
     }
 
-    // A table of a net comes to a table of the machine or goes from there.
-    fn change(&mut self, net: usize, place: usize, comes: bool) {
-        let step = Move {
+    // A net, and whether a pin is on it.
+    fn signal(&self, net: usize) -> Signal {
+        Signal {
             net,
-            place,
             pinned: is_pinned(self.nets, net),
-            comes,
-        };
-        let low = self.levels.hextants.change(step, ALWAYS);
-        let middle = self.levels.chips.change(step, low.crosses);
-        let high = self.levels.modules.change(step, middle.crosses);
-        let root = (high.crosses.after as i64).wrapping_sub(high.crosses.before as i64);
-        self.cost = self
-            .cost
-            .wrapping_add(low.cost)
-            .wrapping_add(middle.cost)
-            .wrapping_add(high.cost)
-            .wrapping_add(root.wrapping_mul(self.root));
+        }
     }
 
-    // Counts a table at its seat.
+    // A table of a net goes these ways. What stays in a node above hextants costs nothing there, unless the net began or ceased to cross
+    // nodes below.
+    fn shift(&mut self, net: usize, ways: &Ways) {
+        let signal = self.signal(net);
+        let low = self.levels.hextants.shift(signal, ways.hextants, ALWAYS);
+        self.cost = self.cost.wrapping_add(low.cost);
+        if ways.chips.stays() && low.crosses.stays() {
+            return;
+        }
+        let middle = self.levels.chips.shift(signal, ways.chips, low.crosses);
+        self.cost = self.cost.wrapping_add(middle.cost);
+        if ways.modules.stays() && middle.crosses.stays() {
+            return;
+        }
+        let high = self
+            .levels
+            .modules
+            .shift(signal, ways.modules, middle.crosses);
+        let root = self.root.turn(0, high.crosses.before, high.crosses.after);
+        self.cost = self.cost.wrapping_add(high.cost).wrapping_add(root);
+    }
+
+    // Notes a table at its seat.
     fn settle(&mut self, table: usize) {
         let seat = self.seat(table);
         let place = self.place(seat);
-        if seat < self.holders.len() {
-            self.holders[seat] = small(table);
-        }
+        self.hold(seat, small(table));
         'nets: for net in nets_at(self.nets, table) {
-            self.change(*net as usize, place, true);
+            self.levels.come(*net as usize, place);
+        }
+    }
+
+    // Counts all nets. Those with a pin and a table or with two pins visit the root anyway, and are counted there.
+    fn charge(&mut self) {
+        'nets: for net in 0..self.nets.nets.len() {
+            let signal = self.signal(net);
+            let crosses = self.levels.charge(signal);
+            let _ = self.root.turn(0, signal.pinned, crosses);
         }
     }
 
@@ -184,22 +269,32 @@ impl<'a> Trial<'a> {
     pub fn build(&mut self, alloc: Global, prices: &Prices) -> Result<(), AllocError> {
         self.holders = vec![in alloc; NOTHING; self.tree.seats.len()]?;
         self.levels = levels_of(alloc, self.nets, self.tree, prices)?;
-        self.root = prices.root;
+        self.root = root_of(alloc, self.nets, self.tree, prices.root)?;
         self.unit = prices.unit;
-        self.cost = 0;
         'tables: for table in 0..self.seats.len() {
             self.settle(table);
         }
+        self.charge();
+        self.cost = self.levels.cost().wrapping_add(self.root.cost_of_all());
         Ok(())
+    }
+
+    /// How many ports and lines are wanting at all nodes.
+    pub fn over(&self) -> u32 {
+        self.levels.over().saturating_add(self.root.over())
+    }
+
+    /// Whether the machine has all that is needed.
+    pub fn fits(&self) -> bool {
+        self.over() == 0
     }
 
     // A table goes to a seat.
     fn go(&mut self, table: usize, seat: usize) {
         let from = self.place(self.seat(table));
-        let to = self.place(seat);
+        let ways = self.levels.ways(from, self.place(seat));
         'nets: for net in nets_at(self.nets, table) {
-            self.change(*net as usize, from, false);
-            self.change(*net as usize, to, true);
+            self.shift(*net as usize, &ways);
         }
         if table < self.seats.len() {
             self.seats[table] = small(seat);
@@ -309,16 +404,28 @@ impl<'a> Trial<'a> {
         }
     }
 
-    // Tries so many.
-    fn round(&mut self, luck: &mut Draws, steps: usize, heat: f64) {
+    // What heat is measured in.
+    fn scale(&self) -> f64 {
+        match self.unit {
+            Some(unit) => unit,
+            None => nearest_u64_to_f64(u64::try_from(self.cost).unwrap_or(0)),
+        }
+    }
+
+    /// Tries so many at this heat, until all fits.
+    pub fn round(&mut self, luck: &mut Draws, steps: usize, heat: f64) {
         'steps: for _ in 0..steps {
-            self.step(luck, heat);
+            if self.fits() {
+                break;
+            }
+            let most = heat * self.scale();
+            self.step(luck, most);
         }
     }
 
     /// Tries so many exchanges while the heat falls.
     pub fn anneal(&mut self, luck: &mut Draws, heat: Heat, steps: usize) {
-        let mut now = heat.first * self.unit;
+        let mut now = heat.first;
         'rounds: for _ in 0..ROUNDS {
             self.round(luck, divide_by(steps, ROUNDS), now);
             now = now * heat.fall;

@@ -1,7 +1,7 @@
 -- A rig that fails at chosen calls.
-use Rattle.std.specs.Prelude.{ℕ, ◌+◌, ◌-◌, ◌^◌, min, Bool, List, None, if◌then◌else◌, Contains}
+use Rattle.std.specs.Prelude.{ℕ, ◌+◌, ◌-◌, ◌^◌, min, Bool, List, [], None, if◌then◌else◌, Contains}
 use Rattle.base_io.specs.Counts.{next_count}
-use Rattle.rig.specs.Rig.{Asked, RigState, IsDetached, AttachFails}
+use Rattle.rig.specs.Rig.{Asked, RigState, log_of, IsDetached, AttachFails}
 use Rattle.rig.specs.declared.rig.AttachFail.TheVariants as attach
 
 -- two counts of failures as one, which stops at the last value of u64
@@ -16,7 +16,8 @@ flaky_state inner asked is_attached in_session failures = record {
     asked = asked;
     attached = if is_attached then inner.machine.attached else None;
   };
-  session = if in_session then inner.session else None;
+  session = if is_attached then (if in_session then inner.session else None) else None;
+  past = if is_attached then (if in_session then inner.past else log_of inner) else [];
   loads = inner.loads;
   failures = both_counts failures inner.failures;
 }

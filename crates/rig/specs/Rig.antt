@@ -1,5 +1,7 @@
 -- A rig: a machine that is attached by name, loaded and driven.
-use Rattle.std.specs.Prelude.{◌≡◌, ℕ, ◌+◌, ◌<◌, ◌≤◌, List, [], ◌∷◌, ◌++◌, map, length, All, Option, None, Some, IfSome, option_map}
+use Rattle.std.specs.Prelude.{◌≡◌, ℕ, ◌+◌, ◌<◌, ◌≤◌, List, [], ◌∷◌, ◌++◌, map, length, All, Option, None, Some}
+use Rattle.std.specs.Prelude.{IfSome, IsSomeAnd, option_map}
+use Rattle.std.specs.List.{AllByRecursion}
 use Rattle.std.specs.Option.{option_map_or}
 use Rattle.machine_shape.specs.declared.Shape.{Shape}
 use Rattle.machine_shape.specs.Shape.{pins_of}
@@ -34,6 +36,11 @@ pub record Session : Type 0 where
   -- how many further cycles there is room for
   pub spare : ℕ
 
+-- a session as it was: what was loaded, and the cycles since
+pub record Past : Type 0 where
+  pub config : Configuration
+  pub cycles : List Exchange
+
 -- how often a fault text was refused, and the line and kind of the last
 pub record Refused : Type 0 where
   pub times : ℕ
@@ -53,6 +60,8 @@ pub record Machine : Type 0 where
 pub record RigState : Type 0 where
   pub machine : Machine
   pub session : Option Session
+  -- the sessions of the attached machine that have ended, in order
+  pub past : List Past
   -- the loads since the rig was made, up to the last value of u64
   pub loads : ℕ
   -- a count that never falls
@@ -84,6 +93,35 @@ cycles_of rig = option_map_or (λ s. s.cycles) rig.session []
 abbrev pub spare_of : RigState → ℕ
 spare_of rig = option_map_or (λ s. s.spare) rig.session 0
 
+-- the session that stands, if there is one
+abbrev pub standing : Option Session → List Past
+standing session = option_map_or (λ s. record { config = s.config; cycles = s.cycles } ∷ []) session []
+
+-- the log: every session of the attached machine
+abbrev pub log_of : RigState → List Past
+log_of rig = rig.past ++ standing rig.session
+
+-- what was read in a session is the run of its configuration under these faults
+abbrev pub IsRunOf : Faults → Past → Type 0
+IsRunOf f s = IsRun f s.config (drives_of s.cycles) (readings_of s.cycles)
+
+-- these faults of the attached machine explain all that was read of it
+pub record Explains (f : Faults) (rig : RigState) : Type 0 where
+  pub faults : IsSomeAnd (shape_of rig) (λ m. AreFaultsOf m f)
+  pub runs : AllByRecursion (IsRunOf f) (log_of rig)
+
+-- what explains the later log explains the earlier
+abbrev pub Narrows : RigState → RigState → Type 0
+Narrows old new = (f : Faults) → Explains f new → Explains f old
+
+-- for each set of faults that explains what was read so far, what is said of told faults is said of it
+abbrev pub ForEach : RigState → (Option Faults → Type 0) → Type 0
+ForEach rig P = (f : Faults) → Explains f rig → P (Some f)
+
+-- faults that are told explain the later log if they explained the earlier
+abbrev pub Tells : RigState → RigState → Type 0
+Tells old new = IfSome new.machine.faults (λ f. Explains f old → Explains f new)
+
 -- the session's readings are the run of its configuration under its drives, where the faults are told
 abbrev pub IsTold : RigState → Type 0
 IsTold rig = IfSome rig.machine.faults (λ f. IfSome (config_of rig)
@@ -97,6 +135,7 @@ HasFaultsOf m rig = IfSome rig.machine.faults (AreFaultsOf m)
 pub record IsDetached (rig : RigState) : Type 0 where
   pub attached : rig.machine.attached ≡ None
   pub session : rig.session ≡ None
+  pub past : rig.past ≡ []
 
 -- the machine was added to those asked, and is attached
 pub record Attaches (machine : Asked) (old new : RigState) : Type 0 where
@@ -104,6 +143,7 @@ pub record Attaches (machine : Asked) (old new : RigState) : Type 0 where
   pub attached : new.machine.attached ≡ Some machine
   pub faults : IfSome new.machine.faults (AreFaultsOf machine.shape)
   pub session : new.session ≡ None
+  pub past : new.past ≡ []
   pub refused : new.machine.refused ≡ old.machine.refused
 
 -- these bytes are no fault text of this machine within its limit, and this is their first fault
@@ -142,6 +182,7 @@ pub record GoesOn (drive reading : Pins) (old new : RigState) : Type 0 where
   pub config : config_of new ≡ config_of old
   pub cycles : cycles_of new ≡ cycles_of old ++ record { drive = drive; reading = reading } ∷ []
   pub spare : spare_of old ≤ spare_of new + 1
+  pub past : new.past ≡ old.past
   pub told : IsTold new
 
 -- the session goes on by as many cycles as were driven, one after the other
@@ -152,17 +193,18 @@ pub record GoesOnBy (drives readings : List Pins) (old new : RigState) : Type 0 
   pub config : config_of new ≡ config_of old
   pub cycles : cycles_of new ≡ cycles_of old ++ more
   pub spare : spare_of old ≤ spare_of new + length drives
+  pub past : new.past ≡ old.past
   pub told : IsTold new
 
 -- what a refusal of `cycle` says
 abbrev pub CycleFails : RigFail → RigState → RigState → Type 0
-CycleFails work.Failed old new = Rose old.failures new.failures × (new.session ≡ None)
-CycleFails work.Memory old new = (spare_of old ≡ 0) × (new.session ≡ old.session)
+CycleFails work.Failed old new = Rose old.failures new.failures × (new.session ≡ None) × (new.past ≡ log_of old)
+CycleFails work.Memory old new = (spare_of old ≡ 0) × (new.session ≡ old.session) × (new.past ≡ old.past)
 
 -- what a refusal of `cycles` says, where so many were asked for
 abbrev pub CyclesFail : RigFail → ℕ → RigState → RigState → Type 0
-CyclesFail work.Failed count old new = Rose old.failures new.failures × (new.session ≡ None)
-CyclesFail work.Memory count old new = (spare_of old < count) × (new.session ≡ old.session)
+CyclesFail work.Failed count old new = Rose old.failures new.failures × (new.session ≡ None) × (new.past ≡ log_of old)
+CyclesFail work.Memory count old new = (spare_of old < count) × (new.session ≡ old.session) × (new.past ≡ old.past)
 
 -- each of these rows has a bit for each pin of the session's machine
 abbrev pub AreRows : RigState → List Pins → Type 0

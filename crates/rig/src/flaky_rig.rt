@@ -1,8 +1,8 @@
 //! A rig that fails at chosen calls.
 ghost use Rattle.std.specs.Prelude.{◌≡◌, ◌⊎◌, ◌-◌, ◌^◌, ◌<◌, ◌≤◌, [], None, Some, IsSome, min, length, IfErr, OnOk, OnErr, IsErrOf};
 ghost use Rattle.base_io.specs.Counts.{Rose, next_count};
-ghost use Rattle.rig.specs.Rig.{Asked, shape_of, width_of, IsDetached, Attaches, AttachFails, HasFaultsOf, Begins, LoadFails, GoesOn};
-ghost use Rattle.rig.specs.Rig.{CycleFails, GoesOnBy, CyclesFail, AreRows, KeepLengths};
+ghost use Rattle.rig.specs.Rig.{Asked, shape_of, width_of, IsDetached, Attaches, AttachFails, HasFaultsOf, log_of, Begins, LoadFails};
+ghost use Rattle.rig.specs.Rig.{GoesOn, CycleFails, GoesOnBy, CyclesFail, AreRows, KeepLengths};
 ghost use Rattle.rig.specs.Flaky.{flaky_state, IsChosen, WantsMemory};
 
 use crate::{AskedMachines, AttachFail, PinBits, Rig, RigFail};
@@ -113,6 +113,7 @@ impl<R: Rig> Rig for FlakyRig<R> {
         ensures count { (⟦<FlakyRig<R> as Rig>⟧.rig_state self.new).failures < 2 ^ 64 }
         ensures begins { OnOk result (Begins config.now.config room (⟦<FlakyRig<R> as Rig>⟧.rig_state self.new)) }
         ensures told { OnOk result (HasFaultsOf config.now.config.shape (⟦<FlakyRig<R> as Rig>⟧.rig_state self.new)) }
+        ensures logged { (⟦<FlakyRig<R> as Rig>⟧.rig_state self.new).past ≡ log_of (⟦<FlakyRig<R> as Rig>⟧.rig_state self.old) }
         ensures counted { OnOk result ((⟦<FlakyRig<R> as Rig>⟧.rig_state self.new).loads ≡ next_count
             (⟦<FlakyRig<R> as Rig>⟧.rig_state self.old).loads) }
         ensures ended { OnErr result ((⟦<FlakyRig<R> as Rig>⟧.rig_state self.new).session ≡ None) }

@@ -1,8 +1,8 @@
 //! A rig that counts its loads.
 ghost use Rattle.std.specs.Prelude.{◌≡◌, ◌^◌, ◌<◌, ◌≤◌, None, Some, IsSome, IfErr, OnOk, OnErr, length};
 ghost use Rattle.base_io.specs.Counts.{next_count};
-ghost use Rattle.rig.specs.Rig.{shape_of, width_of, IsDetached, Attaches, AttachFails, HasFaultsOf, Begins, LoadFails, GoesOn, CycleFails};
-ghost use Rattle.rig.specs.Rig.{GoesOnBy, CyclesFail, AreRows, KeepLengths};
+ghost use Rattle.rig.specs.Rig.{shape_of, width_of, IsDetached, Attaches, AttachFails, HasFaultsOf, log_of, Begins, LoadFails, GoesOn};
+ghost use Rattle.rig.specs.Rig.{CycleFails, GoesOnBy, CyclesFail, AreRows, KeepLengths};
 
 use crate::{AttachFail, PinBits, Rig, RigFail};
 use machine_config::Config;
@@ -53,6 +53,7 @@ impl<R: Rig> Rig for LogRig<R> {
         ensures count { (⟦<LogRig<R> as Rig>⟧.rig_state self.new).failures < 2 ^ 64 }
         ensures begins { OnOk result (Begins config.now.config room (⟦<LogRig<R> as Rig>⟧.rig_state self.new)) }
         ensures told { OnOk result (HasFaultsOf config.now.config.shape (⟦<LogRig<R> as Rig>⟧.rig_state self.new)) }
+        ensures logged { (⟦<LogRig<R> as Rig>⟧.rig_state self.new).past ≡ log_of (⟦<LogRig<R> as Rig>⟧.rig_state self.old) }
         ensures counted { OnOk result ((⟦<LogRig<R> as Rig>⟧.rig_state self.new).loads ≡ next_count
             (⟦<LogRig<R> as Rig>⟧.rig_state self.old).loads) }
         ensures ended { OnErr result ((⟦<LogRig<R> as Rig>⟧.rig_state self.new).session ≡ None) }

@@ -100,8 +100,9 @@ run_told d (Some s) g cycles c y run =
     rw (← config, ← all) run
 
 pub goes_on : (drives reads : List Pins) (b : BoardState) (kept more : Kept) (old new : RigState) → old.session ≡ Some (session_of kept) → new.session ≡ Some (session_of more)
-    → new.machine.faults ≡ faults_told b.device → (session_of kept).spare ≤ (session_of more).spare + length drives → IsAfter drives reads b kept more → GoesOnBy drives reads old new
-goes_on drives reads b kept more old new was now faults spare a = record {
+    → new.machine.faults ≡ faults_told b.device → (session_of kept).spare ≤ (session_of more).spare + length drives → IsAfter drives reads b kept more → new.past ≡ old.past → GoesOnBy drives reads old new
+goes_on drives reads b kept more old new was now faults spare a past = record {
+  past = past;
   more = a.pairs;
   driven = a.driven;
   read = a.read;

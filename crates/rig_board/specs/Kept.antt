@@ -3,7 +3,7 @@ use Rattle.std.specs.Prelude.{◌≡◌, ◌-◌, min, List, ◌++◌, map, leng
 use Rattle.std.specs.Vec.{vec_capacity}
 use Rattle.machine_config.specs.Kept.{set_of}
 use Rattle.machine_meaning.specs.Circuit.{Pins}
-use Rattle.rig.specs.Rig.{Exchange, Session, drives_of, readings_of}
+use Rattle.rig.specs.Rig.{Exchange, Past, Session, drives_of, readings_of}
 use Rattle.rig_board.specs.declared.kept.Row.{Row}
 use Rattle.rig_board.specs.declared.kept.Kept.{Kept}
 
@@ -17,6 +17,10 @@ session_of k = record {
   cycles = map exchange_of k.rows.items;
   spare = min (length k.blank.items) (vec_capacity k.rows - vec_len k.rows);
 }
+
+-- the session as it was
+abbrev pub past_of : Kept → Past
+past_of k = record { config = (session_of k).config; cycles = (session_of k).cycles }
 
 -- these drives and readings stand behind the cycles, in pairs
 pub record HasAdded (drives readings : List Pins) (old new : Session) : Type 0 where

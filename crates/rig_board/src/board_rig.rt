@@ -1,14 +1,15 @@
 //! A board as a rig.
-ghost use Rattle.std.specs.Prelude.{◌≡◌, ◌-◌, ◌^◌, None, [], min, option_map, string_bytes};
+ghost use Rattle.std.specs.Prelude.{◌≡◌, ◌-◌, ◌^◌, None, [], min, map, option_map, string_bytes};
 ghost use Rattle.std.proofs.Props.{props};
-ghost use Rattle.rig.specs.Rig.{IsDetached};
+ghost use Rattle.rig.specs.Rig.{IsDetached, log_of};
 ghost use Rattle.rig_board.specs.Codes.{coded_config_told as configs, coded_cycles_told as cycles};
 ghost use Rattle.rig_board.specs.Device.{faults_told};
-ghost use Rattle.rig_board.specs.Kept.{session_of};
+ghost use Rattle.rig_board.specs.Kept.{session_of, past_of};
 ghost use Rattle.rig_board.specs.Linked.{IsLinked};
 
 use crate::Board;
 use crate::kept::Kept;
+use base_log::Log;
 use machine_config::Config;
 use machine_shape::Shape;
 use rig::{AskedMachine, AskedMachines, AttachFail, PinBits, Rig, RigFail};
@@ -24,6 +25,8 @@ pub struct BoardRig<B: Board> {
     // The machine that is attached, which the board found.
     machine: Option<AskedMachine>,
     kept: Option<Kept>,
+    // The sessions that have ended, for proofs alone.
+    past: Log<Kept>,
     loads: u64,
     ghost linked: { IsLinked (B.board_state board) (option_map (λ m. m.shape) machine) kept } by { Prim.hlevel (props, configs, cycles) },
 }
@@ -42,7 +45,22 @@ impl<B: Board> BoardRig<B> {
             asked: AskedMachines::new(alloc),
             machine: None,
             kept: None,
+            past: Log::new(),
             loads: 0,
+        }
+    }
+
+    // The session ends.
+    fn end(&mut self)
+        ensures board { self.new.board ≡ self.old.board }
+        ensures machine { self.new.machine ≡ self.old.machine }
+        ensures asked { self.new.asked ≡ self.old.asked }
+        ensures loads { self.new.loads ≡ self.old.loads }
+        ensures none { self.new.kept ≡ None }
+        ensures past { map past_of self.new.past.items ≡ log_of (⟦<BoardRig<B> as Rig>⟧.rig_state self.old) }
+    {
+        if let Some(kept) = self.kept.take() {
+            self.past = self.past.and(&kept);
         }
     }
 }
@@ -57,6 +75,7 @@ impl<B: Board> Rig for BoardRig<B> {
         refused = record { times = 0; last = None };
       };
       session = option_map session_of s.kept;
+      past = map past_of s.past.items;
       loads = s.loads;
       failures = min (B.board_state s.board).failures (2 ^ 64 - 1);
     } };
@@ -64,6 +83,7 @@ impl<B: Board> Rig for BoardRig<B> {
     fn attach(&mut self, shape: &Shape, name: &str) -> Result<(), AttachFail> {
         self.machine = None;
         self.kept = None;
+        self.past = Log::new();
         let Ok(own_name) = String::from_str(self.alloc, name) else {
             return Err(AttachFail::Memory);
         };
@@ -87,7 +107,7 @@ impl<B: Board> Rig for BoardRig<B> {
     }
 
     fn load(&mut self, config: &Config, room: u32) -> Result<(), RigFail> {
-        self.kept = None;
+        self.end();
         let Ok(kept) = Kept::new(self.alloc, config, room) else {
             return Err(RigFail::Memory);
         };
@@ -117,7 +137,10 @@ impl<B: Board> Rig for BoardRig<B> {
                 self.kept = Some(kept);
                 Ok(())
             }
-            Err(_) => Err(RigFail::Failed),
+            Err(_) => {
+                self.past = self.past.and(&kept);
+                Err(RigFail::Failed)
+            }
         }
     }
 
@@ -136,7 +159,10 @@ impl<B: Board> Rig for BoardRig<B> {
                 self.kept = Some(kept);
                 Ok(())
             }
-            Err(_) => Err(RigFail::Failed),
+            Err(_) => {
+                self.past = self.past.and(&kept);
+                Err(RigFail::Failed)
+            }
         }
     }
 

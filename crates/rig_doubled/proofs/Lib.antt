@@ -1,5 +1,7 @@
 mod Copying
+mod Endings
 mod Keeping
 mod Pairing
 mod Repeating
 mod Sameness
+mod Twinning

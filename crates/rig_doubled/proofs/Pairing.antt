@@ -10,7 +10,8 @@ use Rattle.machine_config.proofs.Runs.{Runs-unique}
 use Rattle.base_io.specs.Counts.{Rose}
 use Rattle.rig.specs.declared.rig.RigFail.{RigFail}
 use Rattle.rig.specs.declared.rig.RigFail.TheVariants as work
-use Rattle.rig.specs.Rig.{RigState, Session, Exchange, GoesOn, GoesOnBy, CycleFails, CyclesFail, IsTold, config_of, cycles_of, spare_of, drives_of, readings_of}
+use Rattle.rig.proofs.Narrowing.{session_run}
+use Rattle.rig.specs.Rig.{RigState, Session, Exchange, Explains, GoesOn, GoesOnBy, CycleFails, CyclesFail, IsTold, config_of, cycles_of, spare_of, drives_of, readings_of}
 use Rattle.rig_doubled.specs.declared.pairs.Pair.{Pair}
 use Rattle.rig_doubled.specs.Repeats.{HaveWidth}
 use Rattle.rig_doubled.specs.Twins.{ArePaired, BothGoOn, BothGoOnBy, paired, session_with}
@@ -43,6 +44,16 @@ runs_alike f first second one other first_told second_told config some drives =
     by None some t u = absurd (false≢true some)
     by (Some g) some t u = Runs-unique (circuit_of f g) (subst (λ (ds : List Pins). IsRun f g ds (readings_of (cycles_of first))) drives t) u
 
+-- .. and so do two whose readings one set of faults explains
+explained_alike : (f : Faults) (first second : RigState) → Explains f first → Explains f second → config_of first ≡ config_of second → IsSome (config_of first)
+    → drives_of (cycles_of first) ≡ drives_of (cycles_of second) → readings_of (cycles_of first) ≡ readings_of (cycles_of second)
+explained_alike f first second one other config some drives = by (config_of first) refl
+  where
+    by : (c : Option Configuration) → config_of first ≡ c → readings_of (cycles_of first) ≡ readings_of (cycles_of second)
+    by None is = absurd (false≢true (subst IsSome is some))
+    by (Some g) is = Runs-unique (circuit_of f g)
+        (subst (λ (ds : List Pins). IsRun f g ds (readings_of (cycles_of first))) drives (session_run f first g is one)) (session_run f second g (sym config ∙ is) other)
+
 last_same : (xs : List Pins) (x y : Pins) → xs ++ x ∷ [] ≡ xs ++ y ∷ [] → x ≡ y
 last_same xs x y e = let tails = append_cancel_left xs (x ∷ []) (y ∷ []) e in cc
 
@@ -70,6 +81,28 @@ module _ {f : Faults} {p : Pair} {first first_new second second_new : RigState} 
       let one_reads = ap readings_of goes.cycles ∙ map-append (λ (c : Exchange). c.reading) (cycles_of first) goes.more ∙ ap (λ xs. readings_of (cycles_of first) ++ xs) goes.read in
       let other_reads = ap readings_of start ∙ map-append (λ (c : Exchange). c.reading) (cycles_of first) also.more ∙ ap (λ xs. readings_of (cycles_of first) ++ xs) also.read in
       let alike = runs_alike f first_new second_new one other goes.told also.told (goes.config ∙ pairs.config ∙ sym also.config) (subst IsSome (sym goes.config) (has_config (config_of first) (length p.read) pairs.width)) (one_drives ∙ sym other_drives) in
+      append_cancel_left (readings_of (cycles_of first)) readings second_readings (sym one_reads ∙ alike ∙ other_reads)
+
+-- the same, where one set of faults explains both logs
+module _ {f : Faults} {p : Pair} {first first_new second second_new : RigState} (pairs : ArePaired p first second) (one : Explains f first_new) (other : Explains f second_new) where
+  pub explained_reads : (drive reading second_reading : Pins) → GoesOn drive reading first first_new → GoesOn drive second_reading second second_new → reading ≡ second_reading
+  explained_reads drive reading second_reading goes also =
+      let start : cycles_of second_new ≡ cycles_of first ++ record { drive = drive; reading = second_reading } ∷ [] = also.cycles ∙ ap (λ xs. xs ++ record { drive = drive; reading = second_reading } ∷ []) (sym pairs.cycles) in
+      let one_drives = ap drives_of goes.cycles ∙ map-append (λ (c : Exchange). c.drive) (cycles_of first) _ in
+      let other_drives = ap drives_of start ∙ map-append (λ (c : Exchange). c.drive) (cycles_of first) _ in
+      let one_reads = ap readings_of goes.cycles ∙ map-append (λ (c : Exchange). c.reading) (cycles_of first) _ in
+      let other_reads = ap readings_of start ∙ map-append (λ (c : Exchange). c.reading) (cycles_of first) _ in
+      let alike = explained_alike f first_new second_new one other (goes.config ∙ pairs.config ∙ sym also.config) (subst IsSome (sym goes.config) (has_config (config_of first) (length p.read) pairs.width)) (one_drives ∙ sym other_drives) in
+      last_same (readings_of (cycles_of first)) reading second_reading (sym one_reads ∙ alike ∙ other_reads)
+
+  pub explained_reads_by : (drives readings second_readings : List Pins) → GoesOnBy drives readings first first_new → GoesOnBy drives second_readings second second_new → readings ≡ second_readings
+  explained_reads_by drives readings second_readings goes also =
+      let start : cycles_of second_new ≡ cycles_of first ++ also.more = also.cycles ∙ ap (λ xs. xs ++ also.more) (sym pairs.cycles) in
+      let one_drives = ap drives_of goes.cycles ∙ map-append (λ (c : Exchange). c.drive) (cycles_of first) goes.more ∙ ap (λ xs. drives_of (cycles_of first) ++ xs) goes.driven in
+      let other_drives = ap drives_of start ∙ map-append (λ (c : Exchange). c.drive) (cycles_of first) also.more ∙ ap (λ xs. drives_of (cycles_of first) ++ xs) also.driven in
+      let one_reads = ap readings_of goes.cycles ∙ map-append (λ (c : Exchange). c.reading) (cycles_of first) goes.more ∙ ap (λ xs. readings_of (cycles_of first) ++ xs) goes.read in
+      let other_reads = ap readings_of start ∙ map-append (λ (c : Exchange). c.reading) (cycles_of first) also.more ∙ ap (λ xs. readings_of (cycles_of first) ++ xs) also.read in
+      let alike = explained_alike f first_new second_new one other (goes.config ∙ pairs.config ∙ sym also.config) (subst IsSome (sym goes.config) (has_config (config_of first) (length p.read) pairs.width)) (one_drives ∙ sym other_drives) in
       append_cancel_left (readings_of (cycles_of first)) readings second_readings (sym one_reads ∙ alike ∙ other_reads)
 
 -- cycles with the same drives and readings
@@ -154,6 +187,7 @@ module _ (p q : Pair) (first first_new second second_new : RigState) (pairs : Ar
         config = session_config q.spare first_new.session ∙ b.first.config ∙ sym (session_config p.spare first.session);
         cycles = session_cycles q.spare first_new.session ∙ b.first.cycles ∙ ap (λ xs. xs ++ record { drive = drive; reading = q.read } ∷ []) (sym (session_cycles p.spare first.session));
         spare = omega (arith, here, there, b.spare);
+        past = b.second.past;
         told = told_by second_new.machine.faults (config_of second_new) (config_of (paired (Some q) first_new second_new)) (cycles_of second_new) (cycles_of (paired (Some q) first_new second_new))
             (sym b.paired.config ∙ sym (session_config q.spare first_new.session)) (sym b.paired.cycles ∙ sym (session_cycles q.spare first_new.session)) b.second.told;
       }
@@ -170,6 +204,7 @@ module _ (p q : Pair) (first first_new second second_new : RigState) (pairs : Ar
         config = session_config q.spare first_new.session ∙ b.first.config ∙ sym (session_config p.spare first.session);
         cycles = session_cycles q.spare first_new.session ∙ b.first.cycles ∙ ap (λ xs. xs ++ b.first.more) (sym (session_cycles p.spare first.session));
         spare = omega (arith, here, there, b.spare);
+        past = b.second.past;
         told = told_by second_new.machine.faults (config_of second_new) (config_of (paired (Some q) first_new second_new)) (cycles_of second_new) (cycles_of (paired (Some q) first_new second_new))
             (sym b.paired.config ∙ sym (session_config q.spare first_new.session)) (sym b.paired.cycles ∙ sym (session_cycles q.spare first_new.session)) b.second.told;
       }

@@ -1,5 +1,5 @@
 -- A session that is asked again.
-use Rattle.std.proofs.Common.{◌≡◌, ◌⊎◌, inl, inr, Bool, true, ℕ, ◌≤◌, Option, None, Some, IfSome, List, [], ◌∷◌, ◌++◌, length, take, drop, get_or, refl, sym, ap, ◌∙◌, subst, arith, option_map, IsSome, is_some, if◌then◌else◌}
+use Rattle.std.proofs.Common.{◌≡◌, ◌⊎◌, inl, inr, Bool, true, false, ℕ, ◌≤◌, Option, None, Some, IfSome, List, [], ◌∷◌, ◌++◌, length, take, drop, get_or, refl, sym, ap, ◌∙◌, subst, arith, option_map, IsSome, is_some, if◌then◌else◌}
 use Rattle.std.specs.Option.{option_map_or}
 use Rattle.std.proofs.lemmas.List.{take-append-drop, length-take-le, map-append}
 use Rattle.std.proofs.lemmas.Bool.{false≢true}
@@ -8,9 +8,11 @@ use Rattle.machine_shape.specs.Shape.{pins_of}
 use Rattle.machine_config.specs.Vocabulary.{Configuration, Roomy, circuit_of, IsRun, Cycles, at_load}
 use Rattle.machine_config.specs.Run.{Cycles.none}
 use Rattle.machine_config.proofs.Runs.{Runs-unique, Cycles-split}
-use Rattle.rig.specs.Rig.{RigState, Machine, Session, Exchange, AreRows, GoesOn, GoesOnBy, Begins, shape_of, config_of, cycles_of, drives_of, readings_of}
+use Rattle.std.specs.List.{AllByRecursion}
+use Rattle.rig.specs.Rig.{RigState, Machine, Session, Past, Exchange, IsRunOf, Explains, ForEach, AreRows, GoesOn, GoesOnBy, Begins, shape_of, config_of, cycles_of, drives_of, readings_of}
+use Rattle.rig.proofs.Narrowing.{session_run}
 use Rattle.rig_doubled.specs.declared.kept.Kept.{Kept}
-use Rattle.rig_doubled.specs.Repeats.{HaveWidth, IsKept, IsOfSession, IsRunUnder, IsRepeating, KeepsFor}
+use Rattle.rig_doubled.specs.Repeats.{HaveWidth, IsKept, IsOfSession, IsRunUnder, IsRepeating, KeepsFor, StillKeeps}
 
 -- the front of a run is one
 front_run : (f : Faults) (g : Configuration) (n : ℕ) (ds rs : List Pins) → n ≤ length ds → IsRun f g ds rs → IsRun f g (take n ds) (take n rs)
@@ -62,6 +64,22 @@ reads_again (Some f) g loaded new drives readings again was told config start go
     let run : IsRun f g drives again = subst (λ (xs : List Pins). IsRun f g drives xs) rs (subst (λ (xs : List Pins). IsRun f g xs (readings_of (cycles_of new))) ds second) in
     Runs-unique (circuit_of f g) was run
 
+-- .. and of each set of faults that explains all that was read
+pub explained_again : (f : Faults) (g : Configuration) (loaded new : RigState) (drives readings again : List Pins) → config_of loaded ≡ Some g → cycles_of loaded ≡ []
+    → GoesOnBy drives again loaded new → Explains f new → IsRun f g drives readings → readings ≡ again
+explained_again f g loaded new drives readings again config start goes e was =
+    let cycles : cycles_of new ≡ goes.more = goes.cycles ∙ ap (λ xs. xs ++ goes.more) start in
+    let ds : drives_of (cycles_of new) ≡ drives = ap drives_of cycles ∙ goes.driven in
+    let rs : readings_of (cycles_of new) ≡ again = ap readings_of cycles ∙ goes.read in
+    let run = session_run f new g (goes.config ∙ config) e in
+    let same : IsRun f g drives again = subst (λ (xs : List Pins). IsRun f g drives xs) rs (subst (λ (xs : List Pins). IsRun f g xs (readings_of (cycles_of new))) ds run) in
+    Runs-unique (circuit_of f g) was same
+
+-- what is kept is the run under each set of faults that explains all that was read
+pub explained_under : (k : Kept) (inner : RigState) → IsOfSession k inner → ForEach inner (λ told. IsRunUnder told k)
+explained_under k inner s f e = rw (s.kept.driven, s.kept.read)
+    (front_run f k.config.config k.made (drives_of (cycles_of inner)) (readings_of (cycles_of inner)) (omega (arith, s.kept.made)) (session_run f inner k.config.config s.config e))
+
 -- nothing was read at a load
 told_at_load : (o : Option Faults) (c : Option Configuration) (xs : List Exchange) → xs ≡ [] → IfSome o (λ f. IfSome c (λ g. IsRun f g (drives_of xs) (readings_of xs)))
 told_at_load None c xs e = tt
@@ -107,21 +125,46 @@ stays_kept k old new s machine session = record {
 }
 
 -- after a load what is to be asked again is kept
-pub repeats_on : (times : ℕ) (kept : Option Kept) (g : Configuration) (room : ℕ) (new : RigState) → 1 ≤ times → KeepsFor times g kept → Begins g room new → shape_of new ≡ Some g.shape → IsRepeating times kept true new
-repeats_on times None g room new some keeps begins attached = record { some = some; held = tt; once = λ _. inl keeps }
-repeats_on times (Some k) g room new some keeps begins attached = record {
+pub repeats_on : (times : ℕ) (kept : Option Kept) (g : Configuration) (room : ℕ) (new : RigState) (past : List Past) → 1 ≤ times → KeepsFor times g kept → Begins g room new → shape_of new ≡ Some g.shape
+    → ((f : Faults) → Explains f new → AllByRecursion (IsRunOf f) past) → IsRepeating times kept true new past
+repeats_on times None g room new past some keeps begins attached explains = record { some = some; held = tt; once = λ _. inl keeps; explains = explains }
+repeats_on times (Some k) g room new past some keeps begins attached explains = record {
   some = some;
   held = (refl, begins_kept times g k room new keeps begins attached);
   once = λ e. absurd (let no : ⊥ = cc in no);
+  explains = explains;
 }
 
+-- .. and after a cycle, where a session stood
+pub repeats_still : {times : ℕ} {kept next : Option Kept} {inner new : RigState} {past ended : List Past} (stands : Bool) → IsRepeating times kept stands inner past → IsSome (if stands then inner.session else None)
+    → StillKeeps kept next new → ((f : Faults) → Explains f new → AllByRecursion (IsRunOf f) ended) → IsRepeating times next stands new ended
+repeats_still false is some still explains = absurd (false≢true some)
+repeats_still {times} {kept} {next} {inner} {new} true is some still explains = record {
+  some = is.some;
+  held = by next still.held;
+  once = λ e. gone (still.dropped e);
+  explains = explains;
+}
+  where
+    by : (o : Option Kept) → IfSome o (λ k. IsOfSession k new) → IfSome o (λ k. (true ≡ true) × IsOfSession k new)
+    by None h = tt
+    by (Some k) h = (refl, h)
+
+    stood : (o : Option Session) → IsSome o → (times ≡ 1) ⊎ (o ≡ None) → times ≡ 1
+    stood o some (inl one) = one
+    stood o some (inr e) = absurd (false≢true (sym (ap is_some e) ∙ some))
+
+    gone : (kept ≡ None) ⊎ (new.session ≡ None) → (times ≡ 1) ⊎ (new.session ≡ None)
+    gone (inl e) = inl (stood inner.session some (is.once e))
+    gone (inr e) = inr e
+
 -- a session is asked as often as it is to be, where it is kept
-pub taken : (times : ℕ) (kept : Option Kept) (stands : Bool) (inner : RigState) → IsRepeating times kept stands inner
+pub taken : (times : ℕ) (kept : Option Kept) (stands : Bool) (inner : RigState) (past : List Past) → IsRepeating times kept stands inner past
     → (if is_some kept then times else 1) ≡ (if is_some (if stands then inner.session else None) then times else 1)
-taken times (Some k) stands inner is =
+taken times (Some k) stands inner past is =
     let some : is_some inner.session ≡ true = has_session inner.session k.config.config is.held.1.config in
     sym (ap (λ b. if is_some (if b then inner.session else None) then times else 1) is.held.0 ∙ ap (λ b. if b then times else 1) some)
-taken times None stands inner is = by (if stands then inner.session else None) (is.once refl)
+taken times None stands inner past is = by (if stands then inner.session else None) (is.once refl)
   where
     by : (s : Option Session) → (times ≡ 1) ⊎ (s ≡ None) → 1 ≡ (if is_some s then times else 1)
     by None h = refl

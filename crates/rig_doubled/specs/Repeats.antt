@@ -1,11 +1,14 @@
 -- A rig that asks its machine again.
 use Rattle.std.specs.Prelude.{◌≡◌, ◌⊎◌, ℕ, ◌-◌, ◌^◌, ◌≤◌, ◌<◌, min, Bool, true, ◌&&◌, ◌==◌, if◌then◌else◌, List, [], ◌∷◌, length, take, All}
+use Rattle.std.specs.Prelude.{flat_map}
 use Rattle.std.specs.Prelude.{Option, None, Some, IfSome, is_some, nat_le}
 use Rattle.machine_shape.specs.declared.Cross.{Cross}
 use Rattle.machine_meaning.specs.Vocabulary.{Pins, Faults}
 use Rattle.machine_shape.specs.Shape.{pins_of}
 use Rattle.machine_config.specs.Vocabulary.{Configuration, IsRun, set_of}
-use Rattle.rig.specs.Rig.{RigState, shape_of, config_of, cycles_of, drives_of, readings_of, IsTold}
+use Rattle.std.specs.List.{AllByRecursion}
+use Rattle.rig.specs.Rig.{RigState, Past, shape_of, config_of, cycles_of, drives_of, readings_of}
+use Rattle.rig.specs.Rig.{standing, IsRunOf, Explains, IsTold}
 use Rattle.rig.specs.Flaky.{both_counts}
 use Rattle.rig_doubled.specs.declared.kept.Kept.{Kept}
 
@@ -57,18 +60,25 @@ times_named [] = 1
 times_named (digit ∷ []) = 1
 times_named (digit ∷ mark ∷ rest) = if (nat_le 50 digit && nat_le digit 57) && (mark == 120) then digit - 48 else 1
 
--- a rig that asks again: its inner rig, how often it asks, whether the inner rig's session is its own, and its own counts
+-- the sessions of these rigs, by what each means
+abbrev pub ended_in : {I : Type 0} → (I → RigState) → List I → List Past
+ended_in state rigs = flat_map (λ r. standing (state r).session) rigs
+
+-- a rig that asks again: its inner rig, how often it asks, whether the inner rig's session is its own, its inner rig as it
+-- stood when each of its sessions ended, and its own counts
 pub record Repeated (I : Type 0) : Type 0 where
   pub inner : I
   pub times : ℕ
   pub stands : Bool
+  pub past : List I
   pub loads : ℕ
   pub failures : ℕ
 
--- what it means as a rig, by what its inner rig means
-abbrev pub repeat_state : {I : Type 0} → RigState → Repeated I → RigState
-repeat_state inner r = record inner {
+-- what it means as a rig, by what its inner rig means and the sessions that have ended
+abbrev pub repeat_state : {I : Type 0} → RigState → List Past → Repeated I → RigState
+repeat_state inner past r = record inner {
   session = if r.stands then inner.session else None;
+  past = past;
   loads = r.loads;
   failures = both_counts r.failures inner.failures;
 }
@@ -89,8 +99,9 @@ pub record StillKeeps (old new : Option Kept) (inner : RigState) : Type 0 where
   pub held : IfSome new (λ k. IsOfSession k inner)
   pub dropped : new ≡ None → (old ≡ None) ⊎ (inner.session ≡ None)
 
--- a session that is to be asked again is kept
-pub record IsRepeating (times : ℕ) (kept : Option Kept) (stands : Bool) (inner : RigState) : Type 0 where
+-- a session that is to be asked again is kept, and what explains the inner rig's log explains the sessions that have ended
+pub record IsRepeating (times : ℕ) (kept : Option Kept) (stands : Bool) (inner : RigState) (past : List Past) : Type 0 where
   pub some : 1 ≤ times
   pub held : IfSome kept (λ k. (stands ≡ true) × IsOfSession k inner)
   pub once : kept ≡ None → (times ≡ 1) ⊎ ((if stands then inner.session else None) ≡ None)
+  pub explains : (f : Faults) → Explains f inner → AllByRecursion (IsRunOf f) past

@@ -1,8 +1,9 @@
 -- Two rigs side by side.
-use Rattle.std.specs.Prelude.{◌≡◌, ◌⊎◌, ℕ, ◌+◌, ◌≤◌, List, Option, None, Some, IfSome, length, option_map}
-use Rattle.machine_meaning.specs.Circuit.{Pins}
-use Rattle.rig.specs.Rig.{Asked, Session, Refused, RigState, shape_of, config_of, width_of, cycles_of, spare_of, GoesOn, GoesOnBy}
-use Rattle.rig.specs.Rig.{Attaches, AttachFails, IsDetached}
+use Rattle.std.specs.Prelude.{◌≡◌, ◌⊎◌, ℕ, ◌+◌, ◌≤◌, List, Option, None, Some, IfSome, IsSomeAnd, length, option_map}
+use Rattle.std.specs.List.{AllByRecursion}
+use Rattle.machine_meaning.specs.Vocabulary.{Pins, Faults, AreFaultsOf}
+use Rattle.rig.specs.Rig.{Asked, Session, Past, Refused, RigState, shape_of, config_of, width_of, cycles_of, spare_of, GoesOn, GoesOnBy}
+use Rattle.rig.specs.Rig.{IsRunOf, Explains, Attaches, AttachFails, IsDetached}
 use Rattle.rig.specs.declared.rig.AttachFail.{AttachFail}
 use Rattle.rig.specs.declared.rig.AttachFail.TheVariants as attach
 use Rattle.rig_doubled.specs.Repeats.{HaveWidth}
@@ -19,6 +20,8 @@ pub record Twins (A B : Type 0) : Type 0 where
   pub refused : Refused
   -- for how many further cycles a session of both has room, if there is one
   pub spare : Option ℕ
+  -- the first as it stood when each session of both ended
+  pub past : List A
   pub loads : ℕ
   pub failures : ℕ
 
@@ -27,11 +30,13 @@ abbrev pub session_with : Option ℕ → Option Session → Option Session
 session_with None session = None
 session_with (Some spare) session = option_map (λ (s : Session). record s { spare = spare }) session
 
--- what they mean as a rig, by what each means: it tells the faults that the second tells, and no fault texts
-abbrev pub twin_state : {A B : Type 0} → RigState → RigState → Twins A B → RigState
-twin_state first second t = record {
+-- what they mean as a rig, by what each means and the sessions that have ended: it tells the faults that the second tells, and no
+-- fault texts
+abbrev pub twin_state : {A B : Type 0} → RigState → RigState → List Past → Twins A B → RigState
+twin_state first second past t = record {
   machine = record { asked = t.asked; attached = t.attached; faults = second.machine.faults; texts = λ _. None; refused = t.refused };
   session = session_with t.spare first.session;
+  past = past;
   loads = t.loads;
   failures = t.failures;
 }
@@ -113,7 +118,14 @@ room_of pair = option_map (λ (p : Pair). p.spare) pair
 abbrev pub paired : Option Pair → RigState → RigState → RigState
 paired pair first second = record second { session = session_with (room_of pair) first.session }
 
--- what is attached is attached to both, and a session of both is paired
-pub record IsTwinned (machine : Option Asked) (pair : Option Pair) (first second : RigState) : Type 0 where
+-- these are faults of the machine that is attached
+abbrev pub IsOfMachine : Faults → RigState → Type 0
+IsOfMachine f rig = IsSomeAnd (shape_of rig) (λ m. AreFaultsOf m f)
+
+-- what is attached is attached to both, a session of both is paired, and what explains the log of either explains the sessions
+-- that have ended
+pub record IsTwinned (machine : Option Asked) (pair : Option Pair) (first second : RigState) (past : List Past) : Type 0 where
   pub attached : IfSome machine (λ m. (shape_of first ≡ Some m.shape) × (shape_of second ≡ Some m.shape))
   pub paired : IfSome pair (λ p. ArePaired p first second)
+  pub first_explains : (f : Faults) → Explains f first → AllByRecursion (IsRunOf f) past
+  pub second_explains : (f : Faults) → Explains f second → AllByRecursion (IsRunOf f) past

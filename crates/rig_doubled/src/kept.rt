@@ -5,7 +5,8 @@ ghost use Rattle.machine_meaning.specs.Circuit.{Pins};
 ghost use Rattle.machine_shape.specs.Shape.{pins_of};
 ghost use Rattle.machine_config.specs.Faulty.{IsRun};
 ghost use Rattle.base_io.specs.Counts.{next_count};
-ghost use Rattle.rig.specs.Rig.{shape_of, LoadFails, KeepLengths};
+ghost use Rattle.machine_meaning.specs.Faults.{Faults};
+ghost use Rattle.rig.specs.Rig.{shape_of, LoadFails, KeepLengths, Explains, ForEach, Narrows};
 ghost use Rattle.rig_doubled.specs.Repeats.{HaveWidth, IsRoomy, IsKept, IsRunUnder, KeepsFor};
 
 use crate::copied::copy_of;
@@ -101,8 +102,8 @@ pub fn kept_for(
     Ok(Some(kept))
 }
 
-// Loads a configuration, drives it, and compares what is read with what was read before. Where the faults are told and it was
-// their run, it is the same.
+// Loads a configuration, drives it, and compares what is read with what was read before. It is the same where the faults are
+// told and it was their run, and where a set of faults explains all that was read.
 fn ask<R: Rig>(
     inner: &mut R,
     config: &Config,
@@ -117,6 +118,7 @@ fn ask<R: Rig>(
     requires as_many { length drives.now ≡ length again.old }
     requires read { length readings.now ≡ length drives.now }
     requires told { IfSome (R.rig_state inner.old).machine.faults (λ f. IsRun f config.now.config drives.now readings.now) }
+    requires explained { (f : Faults) → Explains f (R.rig_state inner.old) → IsRun f config.now.config drives.now readings.now }
 
     ensures machine { (R.rig_state inner.new).machine ≡ (R.rig_state inner.old).machine }
     ensures later { (R.rig_state inner.old).failures ≤ (R.rig_state inner.new).failures }
@@ -124,7 +126,9 @@ fn ask<R: Rig>(
     ensures lengths { KeepLengths again.old again.new }
     ensures loads { OnOk result ((R.rig_state inner.new).loads ≡ next_count (R.rig_state inner.old).loads) }
     ensures refused { IfErr result (λ e. LoadFails e (R.rig_state inner.old) (R.rig_state inner.new)) }
+    ensures narrows { Narrows (R.rig_state inner.old) (R.rig_state inner.new) }
     ensures same { IsSome (R.rig_state inner.old).machine.faults → IfOk result (λ same. same ≡ true) }
+    ensures explained { (f : Faults) → Explains f (R.rig_state inner.new) → IfOk result (λ same. same ≡ true) }
 {
     inner.load(config, drives.len() as u32)?;
     inner.cycles(drives, again)?;
@@ -148,13 +152,16 @@ fn ask_times<R: Rig>(
     requires as_many { length drives.now ≡ length again.old }
     requires read { length readings.now ≡ length drives.now }
     requires told { IfSome (R.rig_state inner.old).machine.faults (λ f. IsRun f config.now.config drives.now readings.now) }
+    requires explained { (f : Faults) → Explains f (R.rig_state inner.old) → IsRun f config.now.config drives.now readings.now }
 
     ensures machine { (R.rig_state inner.new).machine ≡ (R.rig_state inner.old).machine }
     ensures later { (R.rig_state inner.old).failures ≤ (R.rig_state inner.new).failures }
     ensures loads { IfOk result (λ same. same ≡ true →
         next_count (R.rig_state inner.new).loads ≡ min ((R.rig_state inner.old).loads + times) (2 ^ 64 - 1)) }
     ensures refused { IfErr result (λ e. LoadFails e (R.rig_state inner.old) (R.rig_state inner.new)) }
+    ensures narrows { Narrows (R.rig_state inner.old) (R.rig_state inner.new) }
     ensures same { IsSome (R.rig_state inner.old).machine.faults → IfOk result (λ same. same ≡ true) }
+    ensures explained { (f : Faults) → Explains f (R.rig_state inner.new) → IfOk result (λ same. same ≡ true) }
 {
     'times: for _k in 1..times {
         match ask(inner, config, drives, readings, again) {
@@ -167,7 +174,7 @@ fn ask_times<R: Rig>(
 }
 
 /// Asks a session again, so that with the first time it was asked so many times. False where a reading differs, and never
-/// so where the faults are told.
+/// so where the faults are told or a set of faults explains all that was read.
 ///
 /// # Errors
 ///
@@ -177,13 +184,16 @@ pub fn ask_again<R: Rig>(inner: &mut R, kept: Kept, times: u8) -> Result<bool, R
     requires roomy { IsRoomy kept }
     requires attached { shape_of (R.rig_state inner.old) ≡ Some kept.config.config.shape }
     requires told { IsRunUnder (R.rig_state inner.old).machine.faults kept }
+    requires explained { ForEach (R.rig_state inner.old) (λ told. IsRunUnder told kept) }
 
     ensures machine { (R.rig_state inner.new).machine ≡ (R.rig_state inner.old).machine }
     ensures later { (R.rig_state inner.old).failures ≤ (R.rig_state inner.new).failures }
     ensures loads { IfOk result (λ same. same ≡ true →
         next_count (R.rig_state inner.new).loads ≡ min ((R.rig_state inner.old).loads + times) (2 ^ 64 - 1)) }
     ensures refused { IfErr result (λ e. LoadFails e (R.rig_state inner.old) (R.rig_state inner.new)) }
+    ensures narrows { Narrows (R.rig_state inner.old) (R.rig_state inner.new) }
     ensures same { IsSome (R.rig_state inner.old).machine.faults → IfOk result (λ same. same ≡ true) }
+    ensures explained { (f : Faults) → Explains f (R.rig_state inner.new) → IfOk result (λ same. same ≡ true) }
 {
     let Kept {
         config,

@@ -5,6 +5,7 @@ ghost use Rattle.machine_meaning.specs.Faults.{Faults, AreFaultsOf};
 ghost use Rattle.machine_shape.specs.Shape.{pins_of};
 ghost use Rattle.base_io.specs.Counts.{Rose};
 ghost use Rattle.rig.specs.Rig.{shape_of, width_of, spare_of, AreRows, Begins, CyclesFail, GoesOn, GoesOnBy, HasFaultsOf, KeepLengths};
+ghost use Rattle.rig.specs.Rig.{Explains, Narrows};
 ghost use Rattle.rig_doubled.specs.Repeats.{HaveWidth};
 ghost use Rattle.rig_doubled.specs.Twins.{ArePaired, BothAttach, BothGoOn, BothGoOnBy, OneRefuses, TakesRoom, paired, room_of};
 
@@ -89,6 +90,8 @@ pub fn load_both<A: Rig, B: Rig>(
     requires second { shape_of (B.rig_state second.old) ≡ Some config.now.config.shape }
     ensures first { (A.rig_state first.new).machine ≡ (A.rig_state first.old).machine }
     ensures second { (B.rig_state second.new).machine ≡ (B.rig_state second.old).machine }
+    ensures first_narrows { Narrows (A.rig_state first.old) (A.rig_state first.new) }
+    ensures second_narrows { Narrows (B.rig_state second.old) (B.rig_state second.new) }
     ensures first_begins { OnOk result (Begins config.now.config room (A.rig_state first.new)) }
     ensures second_begins { OnOk result (Begins config.now.config room (B.rig_state second.new)) }
     ensures faults { OnOk result (HasFaultsOf config.now.config.shape (B.rig_state second.new)) }
@@ -101,8 +104,8 @@ pub fn load_both<A: Rig, B: Rig>(
     }
 }
 
-// Makes a cycle with both. False where one refuses or the second reads otherwise. Where both tell the same faults, it is false
-// only where a count of theirs rose.
+// Makes a cycle with both. False where one refuses or the second reads otherwise. Where both tell the same faults, or a
+// set of faults explains the logs of both, it is false only where a count of theirs rose.
 fn drive_both<A: Rig, B: Rig>(
     first: &mut A,
     second: &mut B,
@@ -114,10 +117,15 @@ fn drive_both<A: Rig, B: Rig>(
     requires drive_pins { length drive.now ≡ length pair.old.read }
     ensures first { (A.rig_state first.new).machine ≡ (A.rig_state first.old).machine }
     ensures second { (B.rig_state second.new).machine ≡ (B.rig_state second.old).machine }
+    ensures first_narrows { Narrows (A.rig_state first.old) (A.rig_state first.new) }
+    ensures second_narrows { Narrows (B.rig_state second.old) (B.rig_state second.new) }
     ensures length { length pair.new.read ≡ length pair.old.read }
     ensures goes_on { result ≡ true → BothGoOn drive.now pair.old pair.new (A.rig_state first.old) (A.rig_state first.new)
         (B.rig_state second.old) (B.rig_state second.new) }
     ensures caused { (f : Faults) → (A.rig_state first.old).machine.faults ≡ Some f → (B.rig_state second.old).machine.faults ≡ Some f →
+        result ≡ false → Rose (A.rig_state first.old).failures (A.rig_state first.new).failures
+        ⊎ Rose (B.rig_state second.old).failures (B.rig_state second.new).failures }
+    ensures no_alarm { (f : Faults) → Explains f (A.rig_state first.new) → Explains f (B.rig_state second.new) →
         result ≡ false → Rose (A.rig_state first.old).failures (A.rig_state first.new).failures
         ⊎ Rose (B.rig_state second.old).failures (B.rig_state second.new).failures }
 {
@@ -150,6 +158,8 @@ pub fn cycle_both<A: Rig, B: Rig>(
     requires read_pins { width_of (A.rig_state first.old) ≡ Some (length read.old) }
     ensures first { (A.rig_state first.new).machine ≡ (A.rig_state first.old).machine }
     ensures second { (B.rig_state second.new).machine ≡ (B.rig_state second.old).machine }
+    ensures first_narrows { Narrows (A.rig_state first.old) (A.rig_state first.new) }
+    ensures second_narrows { Narrows (B.rig_state second.old) (B.rig_state second.new) }
     ensures length { length read.new ≡ length read.old }
     ensures paired { IfSome pair.new (λ p. ArePaired p (A.rig_state first.new) (B.rig_state second.new)) }
     ensures cycles { OnOk result (GoesOn drive.now read.new (paired pair.old (A.rig_state first.old) (B.rig_state second.old))
@@ -161,6 +171,9 @@ pub fn cycle_both<A: Rig, B: Rig>(
     ensures full { IsErrOf result RigFail.Memory → (spare_of (paired pair.old (A.rig_state first.old) (B.rig_state second.old)) ≡ 0)
         × (pair.new ≡ pair.old) × (first.new ≡ first.old) × (second.new ≡ second.old) }
     ensures caused { (f : Faults) → (A.rig_state first.old).machine.faults ≡ Some f → (B.rig_state second.old).machine.faults ≡ Some f →
+        IsErrOf result RigFail.Failed → Rose (A.rig_state first.old).failures (A.rig_state first.new).failures
+        ⊎ Rose (B.rig_state second.old).failures (B.rig_state second.new).failures }
+    ensures no_alarm { (f : Faults) → Explains f (A.rig_state first.new) → Explains f (B.rig_state second.new) →
         IsErrOf result RigFail.Failed → Rose (A.rig_state first.old).failures (A.rig_state first.new).failures
         ⊎ Rose (B.rig_state second.old).failures (B.rig_state second.new).failures }
 {
@@ -190,6 +203,7 @@ fn read_others<B: Rig>(
     requires read_pins { AreRows (B.rig_state second.old) others.old }
     requires room { length drives.now ≤ length others.old }
     ensures machine { (B.rig_state second.new).machine ≡ (B.rig_state second.old).machine }
+    ensures narrows { Narrows (B.rig_state second.old) (B.rig_state second.new) }
     ensures lengths { KeepLengths others.old others.new }
     ensures cycles { OnOk result (GoesOnBy drives.now (take (length drives.now) others.new) (B.rig_state second.old)
         (B.rig_state second.new)) }
@@ -198,8 +212,8 @@ fn read_others<B: Rig>(
     second.cycles(drives, &mut others[..drives.len()])
 }
 
-// Makes several cycles with both. False where one refuses or the second reads otherwise. Where both tell the same faults, it is
-// false only where a count of theirs rose.
+// Makes several cycles with both. False where one refuses or the second reads otherwise. Where both tell the same faults, or a
+// set of faults explains the logs of both, it is false only where a count of theirs rose.
 fn drive_both_by<A: Rig, B: Rig>(
     first: &mut A,
     second: &mut B,
@@ -214,10 +228,15 @@ fn drive_both_by<A: Rig, B: Rig>(
     requires as_many { length drives.now ≡ length reads.old }
     ensures first { (A.rig_state first.new).machine ≡ (A.rig_state first.old).machine }
     ensures second { (B.rig_state second.new).machine ≡ (B.rig_state second.old).machine }
+    ensures first_narrows { Narrows (A.rig_state first.old) (A.rig_state first.new) }
+    ensures second_narrows { Narrows (B.rig_state second.old) (B.rig_state second.new) }
     ensures lengths { KeepLengths reads.old reads.new }
     ensures goes_on { result ≡ true → BothGoOnBy drives.now reads.new pair.old pair.new (A.rig_state first.old) (A.rig_state first.new)
         (B.rig_state second.old) (B.rig_state second.new) }
     ensures caused { (f : Faults) → (A.rig_state first.old).machine.faults ≡ Some f → (B.rig_state second.old).machine.faults ≡ Some f →
+        result ≡ false → Rose (A.rig_state first.old).failures (A.rig_state first.new).failures
+        ⊎ Rose (B.rig_state second.old).failures (B.rig_state second.new).failures }
+    ensures no_alarm { (f : Faults) → Explains f (A.rig_state first.new) → Explains f (B.rig_state second.new) →
         result ≡ false → Rose (A.rig_state first.old).failures (A.rig_state first.new).failures
         ⊎ Rose (B.rig_state second.old).failures (B.rig_state second.new).failures }
 {
@@ -252,6 +271,8 @@ pub fn cycles_both<A: Rig, B: Rig>(
     requires as_many { length drives.now ≡ length reads.old }
     ensures first { (A.rig_state first.new).machine ≡ (A.rig_state first.old).machine }
     ensures second { (B.rig_state second.new).machine ≡ (B.rig_state second.old).machine }
+    ensures first_narrows { Narrows (A.rig_state first.old) (A.rig_state first.new) }
+    ensures second_narrows { Narrows (B.rig_state second.old) (B.rig_state second.new) }
     ensures lengths { KeepLengths reads.old reads.new }
     ensures paired { IfSome pair.new (λ p. ArePaired p (A.rig_state first.new) (B.rig_state second.new)) }
     ensures cycles { OnOk result (GoesOnBy drives.now reads.new (paired pair.old (A.rig_state first.old) (B.rig_state second.old))
@@ -263,6 +284,9 @@ pub fn cycles_both<A: Rig, B: Rig>(
         (spare_of (paired pair.old (A.rig_state first.old) (B.rig_state second.old)) < length drives.now)
         × (pair.new ≡ pair.old) × (first.new ≡ first.old) × (second.new ≡ second.old) }
     ensures caused { (f : Faults) → (A.rig_state first.old).machine.faults ≡ Some f → (B.rig_state second.old).machine.faults ≡ Some f →
+        IsErrOf result RigFail.Failed → Rose (A.rig_state first.old).failures (A.rig_state first.new).failures
+        ⊎ Rose (B.rig_state second.old).failures (B.rig_state second.new).failures }
+    ensures no_alarm { (f : Faults) → Explains f (A.rig_state first.new) → Explains f (B.rig_state second.new) →
         IsErrOf result RigFail.Failed → Rose (A.rig_state first.old).failures (A.rig_state first.new).failures
         ⊎ Rose (B.rig_state second.old).failures (B.rig_state second.new).failures }
 {

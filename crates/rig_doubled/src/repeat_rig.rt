@@ -1,12 +1,15 @@
 //! A rig that asks its machine again.
 ghost use Rattle.std.specs.Prelude.{◌≡◌, ◌+◌, ◌-◌, ◌^◌, ◌<◌, ◌≤◌, None, Some, true, min, length, IfOk, IfSome, IsSome, IfErr, OnOk, OnErr};
-ghost use Rattle.std.specs.Prelude.{IsErrOf, is_some, if◌then◌else◌};
+ghost use Rattle.std.specs.Prelude.{[], IsErrOf, is_some, if◌then◌else◌};
+ghost use Rattle.machine_meaning.specs.Faults.{Faults};
 ghost use Rattle.base_io.specs.Counts.{Rose, next_count};
-ghost use Rattle.rig.specs.Rig.{shape_of, width_of, IsDetached, Attaches, AttachFails, HasFaultsOf, Begins, LoadFails, GoesOn, CycleFails};
-ghost use Rattle.rig.specs.Rig.{GoesOnBy, CyclesFail, AreRows, KeepLengths};
-ghost use Rattle.rig_doubled.specs.Repeats.{IsOfSession, StillKeeps, loads_taken, repeat_state, times_named};
+ghost use Rattle.rig.specs.Rig.{shape_of, width_of, IsDetached, Attaches, AttachFails, HasFaultsOf, Begins, LoadFails, GoesOn};
+ghost use Rattle.rig.specs.Rig.{CycleFails, GoesOnBy, CyclesFail, AreRows, KeepLengths, log_of, Explains, Narrows};
+ghost use Rattle.rig_doubled.specs.Repeats.{IsOfSession, StillKeeps, ended_in, loads_taken, repeat_state, times_named};
 
+use crate::ended::end;
 use crate::kept::{Kept, ask_again, kept_for};
+use base_log::Log;
 use machine_config::Config;
 use machine_shape::Shape;
 use rig::{AttachFail, PinBits, Rig, RigFail};
@@ -28,12 +31,14 @@ pub struct RepeatRig<R: Rig> {
     kept: Option<Kept>,
     // Whether the inner rig's session is this one's.
     stands: bool,
+    // The inner rig as it stood when each session ended, for proofs alone.
+    past: Log<R>,
     loads: u64,
     failures: u64,
 }
 
 impl<R: Rig> Model for RepeatRig<R> {
-    ghost use Rattle.rig_doubled.specs.Repeats.{Repeated, IsRepeating};
+    ghost use Rattle.rig_doubled.specs.Repeats.{Repeated, IsRepeating, ended_in};
 
     ghost Value = { Repeated R };
 
@@ -41,11 +46,12 @@ impl<R: Rig> Model for RepeatRig<R> {
       inner = a.inner;
       times = a.times;
       stands = a.stands;
+      past = a.past.items;
       loads = a.loads;
       failures = a.failures;
     } };
 
-    ghost invariant = { λ a. IsRepeating a.times a.kept a.stands (R.rig_state a.inner) };
+    ghost invariant = { λ a. IsRepeating a.times a.kept a.stands (R.rig_state a.inner) (ended_in (λ r. R.rig_state r) a.past.items) };
 }
 
 // How often a session is asked under a name.
@@ -75,7 +81,9 @@ fn settle<R: Rig>(inner: &mut R, kept: Option<Kept>, times: u8) -> Result<bool, 
     ensures loads { IfOk result (λ same. same ≡ true → next_count (R.rig_state inner.new).loads ≡
         min ((R.rig_state inner.old).loads + (if is_some kept then times else 1)) (2 ^ 64 - 1)) }
     ensures refused { IfErr result (λ e. LoadFails e (R.rig_state inner.old) (R.rig_state inner.new)) }
+    ensures narrows { Narrows (R.rig_state inner.old) (R.rig_state inner.new) }
     ensures same { IsSome (R.rig_state inner.old).machine.faults → IfOk result (λ same. same ≡ true) }
+    ensures explained { (f : Faults) → Explains f (R.rig_state inner.new) → IfOk result (λ same. same ≡ true) }
 {
     match kept {
         None => Ok(true),
@@ -157,7 +165,7 @@ fn go_on_by<R: Rig>(
 impl<R: Rig> RepeatRig<R> {
     /// A rig over this one, which asks each session once until a machine is attached.
     pub fn new(alloc: Global, inner: R) -> Self
-        ensures { result ≡ record { inner = inner; times = 1; stands = true; loads = 0; failures = 0 } }
+        ensures { result ≡ record { inner = inner; times = 1; stands = true; past = []; loads = 0; failures = 0 } }
     {
         RepeatRig {
             alloc,
@@ -165,14 +173,22 @@ impl<R: Rig> RepeatRig<R> {
             times: 1,
             kept: None,
             stands: true,
+            past: Log::new(),
             loads: 0,
             failures: 0,
         }
     }
+
+    /// What explains the inner rig's log explains this one's, which has each session once. It does nothing.
+    pub fn explained(&self)
+        ensures { (f : Faults) → Explains f (R.rig_state self.now.inner) → Explains f (⟦<RepeatRig<R> as Rig>⟧.rig_state self.now) }
+    {
+        let _ = &self.times;
+    }
 }
 
 impl<R: Rig> Rig for RepeatRig<R> {
-    ghost rig_state = { λ s. repeat_state (R.rig_state s.inner) s };
+    ghost rig_state = { λ s. repeat_state (R.rig_state s.inner) (ended_in (λ r. R.rig_state r) s.past) s };
 
     /// The name is passed on whole. The inner rig's loads stay as they are, and it fails only where its count rose.
     fn attach(&mut self, shape: &Shape, name: &str) -> Result<(), AttachFail>
@@ -195,12 +211,13 @@ impl<R: Rig> Rig for RepeatRig<R> {
             Rose (R.rig_state self.old.inner).failures (R.rig_state self.new.inner).failures }
     {
         self.kept = None;
+        self.past = Log::new();
         self.times = times_of(name);
         self.inner.attach(shape, name)
     }
 
     /// The inner rig loads as often as a session is asked where there was one, and else once. Where it tells its faults,
-    /// this one fails only where its count rose.
+    /// or a set of faults explains its log after the call, this one fails only where its count rose.
     fn load(&mut self, config: &Config, room: u32) -> Result<(), RigFail>
         requires { shape_of (⟦<RepeatRig<R> as Rig>⟧.rig_state self.old) ≡ Some config.now.config.shape }
 
@@ -209,6 +226,7 @@ impl<R: Rig> Rig for RepeatRig<R> {
         ensures count { (⟦<RepeatRig<R> as Rig>⟧.rig_state self.new).failures < 2 ^ 64 }
         ensures begins { OnOk result (Begins config.now.config room (⟦<RepeatRig<R> as Rig>⟧.rig_state self.new)) }
         ensures told { OnOk result (HasFaultsOf config.now.config.shape (⟦<RepeatRig<R> as Rig>⟧.rig_state self.new)) }
+        ensures logged { (⟦<RepeatRig<R> as Rig>⟧.rig_state self.new).past ≡ log_of (⟦<RepeatRig<R> as Rig>⟧.rig_state self.old) }
         ensures counted { OnOk result ((⟦<RepeatRig<R> as Rig>⟧.rig_state self.new).loads ≡ next_count
             (⟦<RepeatRig<R> as Rig>⟧.rig_state self.old).loads) }
         ensures ended { OnErr result ((⟦<RepeatRig<R> as Rig>⟧.rig_state self.new).session ≡ None) }
@@ -222,8 +240,11 @@ impl<R: Rig> Rig for RepeatRig<R> {
             (⟦<RepeatRig<R> as Rig>⟧.rig_state self.old) self.old.times) (2 ^ 64 - 1)) }
         ensures caused { IsSome (R.rig_state self.old.inner).machine.faults → IsErrOf result RigFail.Failed →
             Rose (R.rig_state self.old.inner).failures (R.rig_state self.new.inner).failures }
+        ensures no_alarm { (f : Faults) → Explains f (R.rig_state self.new.inner) → IsErrOf result RigFail.Failed →
+            Rose (R.rig_state self.old.inner).failures (R.rig_state self.new.inner).failures }
     {
         let kept = self.kept.take();
+        end(&mut self.past, &self.inner, self.stands);
         self.stands = false;
         if !settle(&mut self.inner, kept, self.times)? {
             self.failures = self.failures.saturating_add(1);
@@ -257,7 +278,15 @@ impl<R: Rig> Rig for RepeatRig<R> {
         ensures inner_loads { (R.rig_state self.new.inner).loads ≡ (R.rig_state self.old.inner).loads }
         ensures caused { IsErrOf result RigFail.Failed → Rose (R.rig_state self.old.inner).failures (R.rig_state self.new.inner).failures }
     {
-        go_on(&mut self.inner, &mut self.kept, drive, read)
+        let ended = self.past.and(&self.inner);
+        match go_on(&mut self.inner, &mut self.kept, drive, read) {
+            Ok(()) => Ok(()),
+            Err(RigFail::Failed) => {
+                self.past = ended;
+                Err(RigFail::Failed)
+            }
+            Err(RigFail::Memory) => Err(RigFail::Memory),
+        }
     }
 
     /// The inner rig's loads stay as they are, and it fails only where its count rose.
@@ -281,7 +310,15 @@ impl<R: Rig> Rig for RepeatRig<R> {
         ensures inner_loads { (R.rig_state self.new.inner).loads ≡ (R.rig_state self.old.inner).loads }
         ensures caused { IsErrOf result RigFail.Failed → Rose (R.rig_state self.old.inner).failures (R.rig_state self.new.inner).failures }
     {
-        go_on_by(&mut self.inner, &mut self.kept, drives, reads)
+        let ended = self.past.and(&self.inner);
+        match go_on_by(&mut self.inner, &mut self.kept, drives, reads) {
+            Ok(()) => Ok(()),
+            Err(RigFail::Failed) => {
+                self.past = ended;
+                Err(RigFail::Failed)
+            }
+            Err(RigFail::Memory) => Err(RigFail::Memory),
+        }
     }
 
     fn loads(&self) -> u64 {

@@ -1,12 +1,16 @@
 //! Two machines side by side.
-ghost use Rattle.std.specs.Prelude.{◌≡◌, ◌⊎◌, ◌^◌, ◌<◌, ◌≤◌, [], None, Some, length, string_bytes, IsSome, IfSome, IfErr, OnOk, OnErr, IsErrOf};
+ghost use Rattle.std.specs.Prelude.{◌≡◌, ◌⊎◌, ◌^◌, ◌<◌, ◌≤◌, [], None, Some, length, string_bytes, IsSome, IfSome};
+ghost use Rattle.std.specs.Prelude.{IfErr, OnOk, OnErr, IsErrOf};
 ghost use Rattle.machine_meaning.specs.Faults.{Faults};
 ghost use Rattle.base_io.specs.Counts.{Rose, next_count};
-ghost use Rattle.rig.specs.Rig.{shape_of, width_of, IsDetached, Attaches, AttachFails, HasFaultsOf, Begins, LoadFails, GoesOn, CycleFails};
-ghost use Rattle.rig.specs.Rig.{GoesOnBy, CyclesFail, AreRows, KeepLengths};
-ghost use Rattle.rig_doubled.specs.Twins.{BothAttach, NeitherReached, OneRefuses, ShareSession, TakesRoom, twin_state};
+ghost use Rattle.rig.specs.Rig.{shape_of, width_of, IsDetached, Attaches, AttachFails, HasFaultsOf, Begins, LoadFails, GoesOn};
+ghost use Rattle.rig.specs.Rig.{CycleFails, GoesOnBy, CyclesFail, AreRows, KeepLengths, log_of, Explains};
+ghost use Rattle.rig_doubled.specs.Repeats.{ended_in};
+ghost use Rattle.rig_doubled.specs.Twins.{BothAttach, IsOfMachine, NeitherReached, OneRefuses, ShareSession, TakesRoom, twin_state};
 
+use crate::ended::end;
 use crate::pairs::{Pair, attach_both, cycle_both, cycles_both, load_both};
+use base_log::Log;
 use machine_config::Config;
 use machine_faults::{FaultsFault, FaultsKind};
 use machine_shape::Shape;
@@ -30,6 +34,8 @@ pub struct TwinRig<A: Rig, B: Rig> {
     asked: AskedMachines,
     machine: Option<AskedMachine>,
     pair: Option<Pair>,
+    // The first as it stood when each session of both ended, for proofs alone.
+    past: Log<A>,
     loads: u64,
     failures: u64,
     refused: u64,
@@ -38,6 +44,7 @@ pub struct TwinRig<A: Rig, B: Rig> {
 
 impl<A: Rig, B: Rig> Model for TwinRig<A, B> {
     ghost use Rattle.std.specs.Prelude.{option_map, string_bytes};
+    ghost use Rattle.rig_doubled.specs.Repeats.{ended_in};
     ghost use Rattle.rig_doubled.specs.Twins.{Twins, IsTwinned};
 
     ghost Value = { Twins A B };
@@ -50,12 +57,13 @@ impl<A: Rig, B: Rig> Model for TwinRig<A, B> {
       attached = option_map (λ m. record { shape = m.shape; name = string_bytes m.name }) a.machine;
       refused = record { times = a.refused; last = a.last };
       spare = option_map (λ p. p.spare) a.pair;
+      past = a.past.items;
       loads = a.loads;
       failures = a.failures;
     } };
 
     ghost invariant = { λ a. IsTwinned (option_map (λ m. record { shape = m.shape; name = string_bytes m.name }) a.machine) a.pair
-        (A.rig_state a.first) (B.rig_state a.second) };
+        (A.rig_state a.first) (B.rig_state a.second) (ended_in (λ r. A.rig_state r) a.past.items) };
 }
 
 impl<A: Rig, B: Rig> TwinRig<A, B> {
@@ -69,6 +77,7 @@ impl<A: Rig, B: Rig> TwinRig<A, B> {
           attached = None;
           refused = record { times = 0; last = None };
           spare = None;
+          past = [];
           loads = 0;
           failures = 0;
         } }
@@ -81,16 +90,27 @@ impl<A: Rig, B: Rig> TwinRig<A, B> {
             asked: AskedMachines::new(alloc),
             machine: None,
             pair: None,
+            past: Log::new(),
             loads: 0,
             failures: 0,
             refused: 0,
             last: None,
         }
     }
+
+    /// What explains the log of either rig, and is of the machine that is attached, explains this one's. It does nothing.
+    pub fn explained(&self)
+        ensures first { (f : Faults) → IsOfMachine f (⟦<TwinRig<A, B> as Rig>⟧.rig_state self.now) →
+            Explains f (A.rig_state self.now.first) → Explains f (⟦<TwinRig<A, B> as Rig>⟧.rig_state self.now) }
+        ensures second { (f : Faults) → IsOfMachine f (⟦<TwinRig<A, B> as Rig>⟧.rig_state self.now) →
+            Explains f (B.rig_state self.now.second) → Explains f (⟦<TwinRig<A, B> as Rig>⟧.rig_state self.now) }
+    {
+        let _ = &self.loads;
+    }
 }
 
 impl<A: Rig, B: Rig> Rig for TwinRig<A, B> {
-    ghost rig_state = { λ t. twin_state (A.rig_state t.first) (B.rig_state t.second) t };
+    ghost rig_state = { λ t. twin_state (A.rig_state t.first) (B.rig_state t.second) (ended_in (λ r. A.rig_state r) t.past) t };
 
     /// The first is attached under this name, then the second under its own. A failure or a refused text is that of one of the
     /// two rigs: the first's, and then the second isn't reached, or the second's.
@@ -124,6 +144,7 @@ impl<A: Rig, B: Rig> Rig for TwinRig<A, B> {
         let _failures = self.failures;
         self.machine = None;
         self.pair = None;
+        self.past = Log::new();
         let Ok(own_name) = String::from_str(self.alloc, name) else {
             return Err(AttachFail::Memory);
         };
@@ -169,6 +190,7 @@ impl<A: Rig, B: Rig> Rig for TwinRig<A, B> {
         ensures count { (⟦<TwinRig<A, B> as Rig>⟧.rig_state self.new).failures < 2 ^ 64 }
         ensures begins { OnOk result (Begins config.now.config room (⟦<TwinRig<A, B> as Rig>⟧.rig_state self.new)) }
         ensures told { OnOk result (HasFaultsOf config.now.config.shape (⟦<TwinRig<A, B> as Rig>⟧.rig_state self.new)) }
+        ensures logged { (⟦<TwinRig<A, B> as Rig>⟧.rig_state self.new).past ≡ log_of (⟦<TwinRig<A, B> as Rig>⟧.rig_state self.old) }
         ensures counted { OnOk result ((⟦<TwinRig<A, B> as Rig>⟧.rig_state self.new).loads ≡ next_count
             (⟦<TwinRig<A, B> as Rig>⟧.rig_state self.old).loads) }
         ensures ended { OnErr result ((⟦<TwinRig<A, B> as Rig>⟧.rig_state self.new).session ≡ None) }
@@ -186,6 +208,7 @@ impl<A: Rig, B: Rig> Rig for TwinRig<A, B> {
             ⊎ Rose (B.rig_state self.old.second).failures (B.rig_state self.new.second).failures }
     {
         let _failures = self.failures;
+        end(&mut self.past, &self.first, self.pair.is_some());
         self.pair = None;
         let pair = Pair::new(self.alloc, config, room)?;
         match load_both(&mut self.first, &mut self.second, config, room) {
@@ -203,7 +226,8 @@ impl<A: Rig, B: Rig> Rig for TwinRig<A, B> {
     }
 
     /// Both sessions have this pair of drive and reading, and one place of the room is taken; where none is left, neither rig is
-    /// reached. Where both rigs tell the same faults, a failure is one of theirs.
+    /// reached. Where both rigs tell the same faults, or a set of faults explains both logs after the call, a
+    /// failure is one of theirs.
     fn cycle(&mut self, drive: &PinBits, read: &mut PinBits) -> Result<(), RigFail>
         requires drive_pins { width_of (⟦<TwinRig<A, B> as Rig>⟧.rig_state self.old) ≡ Some (length drive.now) }
         requires read_pins { width_of (⟦<TwinRig<A, B> as Rig>⟧.rig_state self.old) ≡ Some (length read.old) }
@@ -230,8 +254,12 @@ impl<A: Rig, B: Rig> Rig for TwinRig<A, B> {
             (B.rig_state self.old.second).machine.faults ≡ Some f →
             IsErrOf result RigFail.Failed → Rose (A.rig_state self.old.first).failures (A.rig_state self.new.first).failures
             ⊎ Rose (B.rig_state self.old.second).failures (B.rig_state self.new.second).failures }
+        ensures no_alarm { (f : Faults) → Explains f (A.rig_state self.new.first) → Explains f (B.rig_state self.new.second) →
+            IsErrOf result RigFail.Failed → Rose (A.rig_state self.old.first).failures (A.rig_state self.new.first).failures
+            ⊎ Rose (B.rig_state self.old.second).failures (B.rig_state self.new.second).failures }
     {
         let _failures = self.failures;
+        let ended = self.past.and(&self.first);
         match cycle_both(
             &mut self.first,
             &mut self.second,
@@ -241,6 +269,7 @@ impl<A: Rig, B: Rig> Rig for TwinRig<A, B> {
         ) {
             Ok(()) => Ok(()),
             Err(RigFail::Failed) => {
+                self.past = ended;
                 self.failures = self.failures.saturating_add(1);
                 Err(RigFail::Failed)
             }
@@ -249,7 +278,8 @@ impl<A: Rig, B: Rig> Rig for TwinRig<A, B> {
     }
 
     /// Both sessions have these pairs of drive and reading, and as many places of the room are taken; where fewer are left, neither
-    /// rig is reached. Where both rigs tell the same faults, a failure is one of theirs.
+    /// rig is reached. Where both rigs tell the same faults, or a set of faults explains both logs after the call, a
+    /// failure is one of theirs.
     fn cycles(&mut self, drives: &[PinBits], reads: &mut [PinBits]) -> Result<(), RigFail>
         requires session { IsSome (⟦<TwinRig<A, B> as Rig>⟧.rig_state self.old).session }
         requires drive_pins { AreRows (⟦<TwinRig<A, B> as Rig>⟧.rig_state self.old) drives.now }
@@ -277,8 +307,12 @@ impl<A: Rig, B: Rig> Rig for TwinRig<A, B> {
             (B.rig_state self.old.second).machine.faults ≡ Some f →
             IsErrOf result RigFail.Failed → Rose (A.rig_state self.old.first).failures (A.rig_state self.new.first).failures
             ⊎ Rose (B.rig_state self.old.second).failures (B.rig_state self.new.second).failures }
+        ensures no_alarm { (f : Faults) → Explains f (A.rig_state self.new.first) → Explains f (B.rig_state self.new.second) →
+            IsErrOf result RigFail.Failed → Rose (A.rig_state self.old.first).failures (A.rig_state self.new.first).failures
+            ⊎ Rose (B.rig_state self.old.second).failures (B.rig_state self.new.second).failures }
     {
         let _failures = self.failures;
+        let ended = self.past.and(&self.first);
         match cycles_both(
             &mut self.first,
             &mut self.second,
@@ -288,6 +322,7 @@ impl<A: Rig, B: Rig> Rig for TwinRig<A, B> {
         ) {
             Ok(()) => Ok(()),
             Err(RigFail::Failed) => {
+                self.past = ended;
                 self.failures = self.failures.saturating_add(1);
                 Err(RigFail::Failed)
             }

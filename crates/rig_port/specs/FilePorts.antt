@@ -1,7 +1,49 @@
 -- Files of the system as a port.
-use Rattle.std.specs.Prelude.{ℕ, ◌-◌, ◌^◌, Bool, None, min}
+use Rattle.std.specs.Prelude.{◌≡◌, ◌≢◌, ℕ, ◌-◌, ◌^◌, Bool, List, [], ◌∷◌, ◌++◌, get_or, min, All, Option, None, IfSome, IsNone, MatchOption}
+use Rattle.std.specs.Io.KnownBytes.{Appends, Consumes, prepend_known}
 use Rattle.rig_port.specs.Ports.{PortState}
+use Rattle.rig_port.specs.declared.talk.Ends.{Ends}
 
 -- what they mean as a port: no machine is told
 abbrev pub file_port_state : Bool → ℕ → PortState
 file_port_state is_open failures = record { is_open = is_open; device = None; failures = min failures (2 ^ 64 - 1) }
+
+-- what reads give from here on, where it is known: bytes that were read and not yet used, and then those that the file has left
+abbrev pub ahead : List ℕ → Option (List ℕ) → Option (List ℕ)
+ahead waiting left = prepend_known waiting left
+
+-- its last byte is its one line feed
+pub record IsLine (bytes : List ℕ) : Type 0 where
+  pub front : List ℕ
+  pub bytes_are : bytes ≡ front ++ 10 ∷ []
+  pub one : All (λ byte. byte ≢ 10) front
+
+-- a line that is no refusal
+pub record IsReply (bytes : List ℕ) : Type 0 where
+  pub line : IsLine bytes
+  pub taken : get_or bytes 0 0 ≢ 33
+
+-- the request now stands behind what the one file held, and the line was ahead in the other
+pub record HasTalkedByTwo {F : Type 0} (contents left : F → Option (List ℕ)) (to from : F) (waiting : List ℕ) (to_now from_now : F)
+    (waiting_now request line : List ℕ) : Type 0 where
+  pub wrote : Appends (contents to) (contents to_now) request
+  pub read : Consumes (ahead waiting (left from)) (ahead waiting_now (left from_now)) line
+
+-- the request stood behind what the file held, and then the line was ahead in it: how a write moves what is ahead isn't said
+pub record HasTalkedByOne {F : Type 0} (contents left : F → Option (List ℕ)) (file : F) (waiting : List ℕ) (file_now : F)
+    (waiting_now request line : List ℕ) : Type 0 where
+  pub between : F
+  pub wrote : Appends (contents file) (contents between) request
+  pub read : Consumes (ahead waiting (left between)) (ahead waiting_now (left file_now)) line
+
+-- by one file for both ways, or by one for each
+pub record HasTalked {F : Type 0} (contents left : F → Option (List ℕ)) (old new : Ends F) (request line : List ℕ) : Type 0 where
+  pub reply : IsReply line
+  pub bytes : MatchOption old.from
+      (IsNone new.from × HasTalkedByOne contents left old.to old.rest new.to new.rest request line)
+      (λ from. IfSome new.from (λ from_now. HasTalkedByTwo contents left old.to from old.rest new.to from_now new.rest request line))
+
+-- the same of files that are open before and after
+abbrev pub HaveTalked : {F : Type 0} → (F → Option (List ℕ)) → (F → Option (List ℕ)) → Option (Ends F) → Option (Ends F) → List ℕ → List ℕ →
+    Type 0
+HaveTalked contents left old new request line = IfSome old (λ o. IfSome new (λ n. HasTalked contents left o n request line))

@@ -212,3 +212,52 @@ pub fn put_edits(
     give_ticks(line, set, config)?;
     Ok(())
 }
+
+// How many bytes a word of a letter and a number has, with a space.
+fn word_bytes(n: u32) -> usize {
+    let mut bytes = 3usize;
+    'digits: for limit in [10, 100, 1_000, 10_000, 100_000, 1_000_000, 10_000_000] {
+        if n >= limit {
+            bytes = bytes.saturating_add(1);
+        }
+    }
+    bytes
+}
+
+// How many bytes the words have that close these crosspoints, as far as they are counted up to a limit.
+fn closing_bytes(closed: &[Cross], limit: usize) -> usize {
+    let mut bytes = 0usize;
+    'closed: for k in 0..closed.len() {
+        if bytes >= limit {
+            return bytes;
+        }
+        bytes = bytes.saturating_add(word_bytes(closed[k].0));
+    }
+    bytes
+}
+
+// How many bytes the words have that switch these tables on, as far as they are counted up to a limit.
+fn switching_bytes(on: &[Table], limit: usize) -> usize {
+    let mut bytes = 0usize;
+    'on: for k in 0..on.len() {
+        if bytes >= limit {
+            return bytes;
+        }
+        bytes = bytes.saturating_add(word_bytes(on[k].0)).saturating_add(19);
+    }
+    bytes
+}
+
+/// Whether a `z` and the words that make a configuration of nothing have fewer bytes than these.
+pub fn is_shorter_anew(config: &Config, bytes: usize) -> bool {
+    let ticks = if config.ticks() == 1 {
+        0
+    } else {
+        word_bytes(u32::from(config.ticks()))
+    };
+    closing_bytes(config.closed(), bytes)
+        .saturating_add(switching_bytes(config.tables_on(), bytes))
+        .saturating_add(ticks)
+        .saturating_add(2)
+        < bytes
+}

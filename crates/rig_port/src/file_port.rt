@@ -1,49 +1,23 @@
 //! Files of the system as a port.
-ghost use Rattle.std.specs.Prelude.{◌≡◌, ◌^◌, ◌<◌, ◌≤◌, true, false, length, take, is_some, IfSome, IfOk, IfErr, OnOk, OnErr, IsErrOf};
+ghost use Rattle.std.specs.Prelude.{◌≡◌, ◌^◌, ◌<◌, ◌≤◌, [], true, false, length, take, is_some, IfSome, IfOk, IfErr, OnOk, OnErr, IsErrOf};
 ghost use Rattle.base_io.specs.Counts.{Rose, next_count};
 ghost use Rattle.rig_board.specs.Device.{WhereTold};
 ghost use Rattle.rig_port.specs.Answers.{Answers};
 ghost use Rattle.rig_port.specs.Ports.{machine_told, Opens, AskFails};
-ghost use Rattle.rig_port.specs.FilePorts.{file_port_state};
+ghost use Rattle.rig_port.specs.FilePorts.{file_port_state, HaveTalked};
 
+use crate::talk::{Ends, Rest, talk};
 use crate::{Port, PortFail};
 use std::alloc::{AllocError, Global};
 use std::fs::OpenOptions;
 use std::io;
-use std::io::{Read, Write};
-use std::marker::Model;
 use std::rt::Files;
 
 /// How many bytes one read asks the system for at most.
 const BLOCK: usize = 4096;
 
-// Bytes that were read and not yet used.
-#[derive(Drop)]
-struct Rest {
-    block: Vec<u8>,
-    at: usize,
-    end: usize,
-}
-
-impl Model for Rest {
-    ghost use Rattle.std.specs.Prelude.{List, ℕ, ◌≤◌, length, take, drop};
-
-    ghost Value = { List ℕ };
-
-    ghost view = { λ r. drop r.at (take r.end r.block.items) };
-
-    ghost invariant = { λ r. (r.at ≤ r.end) × (r.end ≤ length r.block.items) };
-}
-
-// Where requests go, and where replies come from, if that is another file.
-#[derive(Drop)]
-struct Ends<F: Drop> {
-    to: F,
-    from: Option<F>,
-    rest: Rest,
-}
-
-/// A port over ordinary files: one that is read and written, or one for requests and one for replies. It tells no machine.
+/// A port over ordinary files: one that is read and written, or one for requests and one for replies. It tells no machine. What it wrote
+/// and read is said by what files say of themselves: the bytes that they hold, and those that they have left.
 #[derive(Drop)]
 pub struct FilePort<R: Files + Drop> {
     alloc: Global,
@@ -65,7 +39,9 @@ fn without_times(name: &str) -> &str {
 }
 
 // Opens one file both ways, or one for requests and then one for replies. No file is made or cut; each may wait for the other end.
-fn open_ends<R: Files>(alloc: Global, rt: &R, name: &str) -> io::Result<Ends<R::File>> {
+fn open_ends<R: Files>(alloc: Global, rt: &R, name: &str) -> io::Result<Ends<R::File>>
+    ensures { IfOk result (λ ends. ends.rest ≡ []) }
+{
     let rest = Rest {
         block: vec![in alloc; 0u8; BLOCK]?,
         at: 0,
@@ -86,63 +62,6 @@ fn open_ends<R: Files>(alloc: Global, rt: &R, name: &str) -> io::Result<Ends<R::
         from: Some(from),
         rest,
     })
-}
-
-impl Rest {
-    // The next byte. `None` at the end, or where the file fails.
-    fn next<F: Read>(&mut self, from: &mut F) -> Option<u8> {
-        if self.at == self.end {
-            self.at = 0;
-            self.end = 0;
-            match from.read(&mut self.block) {
-                Ok(count) => self.end = count,
-                Err(_) => return None,
-            }
-            if self.end == 0 {
-                return None;
-            }
-        }
-        let byte = self.block[self.at];
-        self.at += 1;
-        Some(byte)
-    }
-}
-
-// Reads a line to its end. `None` where it is too long, or the file ends or fails before.
-fn read_line<F: Read>(from: &mut F, rest: &mut Rest, into: &mut [u8]) -> Option<usize>
-    ensures length { length into.new ≡ length into.old }
-    ensures within { IfSome result (λ n. n ≤ length into.new) }
-{
-    'bytes: for k in 0..into.len() {
-        let byte = rest.next(from)?;
-        into[k] = byte;
-        if byte == b'\n' {
-            return Some(k + 1);
-        }
-    }
-    None
-}
-
-// Sends a request, and reads the line that answers. `None` where a file fails or the other end refuses.
-fn talk<F: Read + Write + Drop>(
-    ends: &mut Ends<F>,
-    request: &[u8],
-    reply: &mut [u8],
-) -> Option<usize>
-    ensures length { length reply.new ≡ length reply.old }
-    ensures within { IfSome result (λ n. n ≤ length reply.new) }
-{
-    if ends.to.write_all(request).is_err() {
-        return None;
-    }
-    let count = match &mut ends.from {
-        Some(from) => read_line(from, &mut ends.rest, reply)?,
-        None => read_line(&mut ends.to, &mut ends.rest, reply)?,
-    };
-    if reply.first() == Some(&b'!') {
-        return None;
-    }
-    Some(count)
 }
 
 impl<R: Files + Drop> FilePort<R> {
@@ -176,6 +95,7 @@ impl<R: Files + Drop> Port for FilePort<R> {
         ensures refused { IsErrOf result PortFail.Failed → Rose (⟦<FilePort<R> as Port>⟧.port_state self.old).failures
             (⟦<FilePort<R> as Port>⟧.port_state self.new).failures }
         ensures asks { self.new.asks ≡ self.old.asks }
+        ensures fresh { OnOk result (IfSome self.new.ends (λ ends. ends.rest ≡ [])) }
     {
         self.ends = None;
         match open_ends(self.alloc, &self.rt, without_times(name)) {
@@ -191,7 +111,8 @@ impl<R: Files + Drop> Port for FilePort<R> {
         }
     }
 
-    /// One ask more, whatever it answers.
+    /// One ask more, whatever it answers. Behind an `Ok` the whole request was written, and what is answered are the next bytes that were
+    /// read, to their first LF.
     ///
     /// # Errors
     ///
@@ -212,6 +133,8 @@ impl<R: Files + Drop> Port for FilePort<R> {
         ensures refused { IfErr result (λ e. AskFails e (⟦<FilePort<R> as Port>⟧.port_state self.old)
             (⟦<FilePort<R> as Port>⟧.port_state self.new)) }
         ensures asks { self.new.asks ≡ next_count self.old.asks }
+        ensures talked { IfOk result (λ n. HaveTalked R.File.contents R.File.remaining self.old.ends self.new.ends request.now
+            (take n reply.new)) }
     {
         self.asks = self.asks.saturating_add(1);
         let Some(mut ends) = self.ends.take() else {

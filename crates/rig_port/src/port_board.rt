@@ -14,7 +14,7 @@ ghost use Rattle.rig_port.specs.Requests.{attach_line};
 ghost use Rattle.rig_port.specs.Ports.{machine_told};
 ghost use Rattle.rig_port.specs.Linked.{IsPosted, board_of};
 
-use crate::edits::put_edits;
+use crate::edits::{is_shorter_anew, put_edits};
 use crate::link::Link;
 use crate::port::{Port, PortFail};
 use crate::spelling::{put_counts, put_sum};
@@ -140,7 +140,22 @@ fn attach<P: Port>(port: &mut P, link: &mut Link) -> bool
     }
 }
 
-// Begins a load. Where memory was lacking on the way to the one before, all is cleared, and the line begins with a `z`.
+// Begins a line that sets all anew: all is cleared, and the line begins with a `z`.
+fn restart(link: &mut Link) -> Result<(), AllocError>
+    ensures shape { link.new.set.config.shape ≡ link.old.set.config.shape }
+    ensures expected { link.new.expected ≡ link.old.expected }
+    ensures idle { (link.new.running ≡ link.old.running) × (link.new.due ≡ link.old.due) × (link.new.lost ≡ link.old.lost) }
+    ensures posted { OnOk result ((device : Option Device) → IfSome device (λ d. d.shape ≡ link.old.set.config.shape) →
+        IsPosted device link.new.set.config link.new.line.items link.new.anew) }
+{
+    link.set.clear();
+    link.line.clear();
+    link.anew = true;
+    link.line.extend_from_slice(b"z ")?;
+    Ok(())
+}
+
+// Begins a load. Where memory was lacking on the way to the one before, all is set anew.
 fn begin(link: &mut Link) -> Result<(), AllocError>
     ensures shape { link.new.set.config.shape ≡ link.old.set.config.shape }
     ensures expected { link.new.expected ≡ link.old.expected }
@@ -156,10 +171,42 @@ fn begin(link: &mut Link) -> Result<(), AllocError>
     if !was_lost {
         return Ok(());
     }
-    link.set.clear();
-    link.line.clear();
-    link.anew = true;
-    link.line.extend_from_slice(b"z ")?;
+    restart(link)?;
+    Ok(())
+}
+
+// Adds the words that make the configuration.
+fn add_edits(alloc: Global, link: &mut Link, config: &Config) -> Result<(), AllocError>
+    requires { link.old.set.config.shape ≡ config.now.config.shape }
+
+    ensures shape { link.new.set.config.shape ≡ link.old.set.config.shape }
+    ensures expected { link.new.expected ≡ link.old.expected }
+    ensures idle { (link.new.running ≡ link.old.running) × (link.new.due ≡ link.old.due) × (link.new.lost ≡ link.old.lost) }
+    ensures made { OnOk result (link.new.set.config ≡ config.now.config) }
+    ensures posted { OnOk result ((device : Option Device) → IsPosted device link.old.set.config link.old.line.items link.old.anew →
+        IsPosted device link.new.set.config link.new.line.items link.new.anew) }
+{
+    put_edits(alloc, &mut link.line, &mut link.set, config)?;
+    Ok(())
+}
+
+// Sets all anew in the place of edits, where the line is shorter so.
+fn shorten(alloc: Global, link: &mut Link, config: &Config) -> Result<(), AllocError>
+    requires { link.old.set.config ≡ config.now.config }
+
+    ensures shape { link.new.set.config.shape ≡ link.old.set.config.shape }
+    ensures expected { link.new.expected ≡ link.old.expected }
+    ensures idle { (link.new.running ≡ link.old.running) × (link.new.due ≡ link.old.due) × (link.new.lost ≡ link.old.lost) }
+    ensures made { OnOk result (link.new.set.config ≡ config.now.config) }
+    ensures posted { OnOk result ((device : Option Device) → IfSome device (λ d. d.shape ≡ link.old.set.config.shape) →
+        IsPosted device link.old.set.config link.old.line.items link.old.anew →
+        IsPosted device link.new.set.config link.new.line.items link.new.anew) }
+{
+    if !is_shorter_anew(config, link.line.len()) {
+        return Ok(());
+    }
+    restart(link)?;
+    add_edits(alloc, link, config)?;
     Ok(())
 }
 
@@ -178,7 +225,8 @@ fn post(alloc: Global, link: &mut Link, config: &Config) -> Result<(), AllocErro
     ensures lost { OnErr result ((link.new.running ≡ false) × (link.new.due ≡ false) × (link.new.lost ≡ true)) }
 {
     begin(link)?;
-    put_edits(alloc, &mut link.line, &mut link.set, config)?;
+    add_edits(alloc, link, config)?;
+    shorten(alloc, link, config)?;
     let pins = link.set.shape().pins();
     link.line.reserve(room_for(pins))?;
     link.running = true;

@@ -6,7 +6,7 @@ use Rattle.std.proofs.lemmas.List.Elements.{All-get_or}
 use Rattle.machine_shape.specs.Shape.{pins_of}
 use Rattle.machine_meaning.specs.Vocabulary.{Pins, Faults}
 use Rattle.machine_config.specs.Faulty.{IsRun}
-use Rattle.rig.specs.Rig.{Exchange, Session, Machine, GoesOnBy, drives_of, readings_of}
+use Rattle.rig.specs.Rig.{Past, Exchange, Session, Machine, GoesOnBy, drives_of, readings_of}
 use Rattle.rig_simulated.specs.States.{GoesOnFrom, HasRoomFrom, GoesOnByFrom}
 
 module _ (f : Faults) (count : ℕ) where
@@ -77,17 +77,18 @@ ok_of (Ok x) p b e f = p
 ok_of (Err x) p b e f = cc
 
 -- the rig goes on as its machine does
-pub rig_goes_on : (f : Faults) (drives readings : List Pins) (m k : Machine) (o p : Option Session) (a b x y : ℕ) → IsSome o → IsSome p → k.faults ≡ Some f →
+pub rig_goes_on : (f : Faults) (drives readings : List Pins) (past : List Past) (m k : Machine) (o p : Option Session) (a b x y : ℕ) → IsSome o → IsSome p → k.faults ≡ Some f →
     IfSome o (λ s. IfSome p (λ t. GoesOnByFrom f drives readings s t)) →
-    GoesOnBy drives readings (record { machine = m; session = o; loads = a; failures = x }) (record { machine = k; session = p; loads = b; failures = y })
-rig_goes_on f drives readings m k (Some s) (Some t) a b x y is on told h = record {
+    GoesOnBy drives readings (record { machine = m; session = o; past = past; loads = a; failures = x }) (record { machine = k; session = p; past = past; loads = b; failures = y })
+rig_goes_on f drives readings past m k (Some s) (Some t) a b x y is on told h = record {
   more = h.more;
   driven = h.driven;
   read = h.read;
   config = ap Some h.config;
   cycles = h.cycles;
   spare = h.spare;
+  past = refl;
   told = subst (λ (o : Option Faults). IfSome o (λ f. IsRun f t.config (drives_of t.cycles) (readings_of t.cycles))) (sym told) h.run;
 }
-rig_goes_on f drives readings m k None p a b x y is on told h = cc
-rig_goes_on f drives readings m k (Some s) None a b x y is on told h = cc
+rig_goes_on f drives readings past m k None p a b x y is on told h = cc
+rig_goes_on f drives readings past m k (Some s) None a b x y is on told h = cc

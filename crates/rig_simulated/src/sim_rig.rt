@@ -1,17 +1,18 @@
 //! The simulated rig.
 
 ghost use Rattle.std.specs.Prelude.{◌≡◌, ◌⊎◌, ◌^◌, ◌<◌, ◌≤◌, [], None, Some, IsSome, IfOk, IfErr, IsErrOf, OnOk, OnErr, length, option_map};
-ghost use Rattle.std.specs.Prelude.{option_and_then, string_bytes};
+ghost use Rattle.std.specs.Prelude.{flat_map, option_and_then, string_bytes};
 ghost use Rattle.machine_meaning.specs.Faults.{AreFaultsOf};
 ghost use Rattle.base_io.specs.Vocabulary.{next_count, Rose, absent};
-ghost use Rattle.rig.specs.Rig.{shape_of, width_of, IsDetached, Attaches, AttachFails, HasFaultsOf, Begins, LoadFails, GoesOn, CycleFails};
-ghost use Rattle.rig.specs.Rig.{GoesOnBy, CyclesFail, AreRows, KeepLengths};
+ghost use Rattle.rig.specs.Rig.{shape_of, width_of, IsDetached, Attaches, AttachFails, HasFaultsOf, log_of, standing, Begins, LoadFails};
+ghost use Rattle.rig.specs.Rig.{GoesOn, CycleFails, GoesOnBy, CyclesFail, AreRows, KeepLengths};
 ghost use Rattle.rig.specs.declared.rig.RigFail.TheVariants as work;
 ghost use Rattle.rig_simulated.specs.Named.{generated_of, texts_of, AreNamed, TellsNamed, Asks, AsksAtMost, NamesFail};
 
 use crate::named::faults_of;
 use crate::sim::Sim;
 use base_io::Store;
+use base_log::Log;
 use machine_config::Config;
 use machine_faults::{FaultsFault, FaultsKind};
 use machine_shape::Shape;
@@ -33,6 +34,8 @@ pub struct SimRig<S: Store + Drop> {
     store: S,
     asked: AskedMachines,
     attached: Option<Attached>,
+    // The machine as it stood when each of its sessions ended, for proofs alone.
+    past: Log<Sim>,
     loads: u64,
     failures: u64,
     refused: u64,
@@ -84,6 +87,7 @@ impl<S: Store + Drop> SimRig<S> {
             store,
             asked: AskedMachines::new(alloc),
             attached: None,
+            past: Log::new(),
             loads: 0,
             failures: 0,
             refused: 0,
@@ -102,6 +106,7 @@ impl<S: Store + Drop> Rig for SimRig<S> {
         refused = record { times = s.refused; last = s.last };
       };
       session = option_and_then (λ a. a.sim.session) s.attached;
+      past = flat_map (λ m. standing m.session) s.past.items;
       loads = s.loads;
       failures = s.failures;
     } };
@@ -132,6 +137,7 @@ impl<S: Store + Drop> Rig for SimRig<S> {
         // A count that was read is known to be a u64.
         let _failures = self.failures;
         self.attached = None;
+        self.past = Log::new();
         let Ok(own_name) = String::from_str(self.alloc, name) else {
             return Err(AttachFail::Memory);
         };
@@ -170,6 +176,7 @@ impl<S: Store + Drop> Rig for SimRig<S> {
         ensures count { (⟦<SimRig<S> as Rig>⟧.rig_state self.new).failures < 2 ^ 64 }
         ensures begins { OnOk result (Begins config.now.config room (⟦<SimRig<S> as Rig>⟧.rig_state self.new)) }
         ensures told { OnOk result (HasFaultsOf config.now.config.shape (⟦<SimRig<S> as Rig>⟧.rig_state self.new)) }
+        ensures logged { (⟦<SimRig<S> as Rig>⟧.rig_state self.new).past ≡ log_of (⟦<SimRig<S> as Rig>⟧.rig_state self.old) }
         ensures counted { OnOk result ((⟦<SimRig<S> as Rig>⟧.rig_state self.new).loads ≡ next_count
             (⟦<SimRig<S> as Rig>⟧.rig_state self.old).loads) }
         ensures ended { OnErr result ((⟦<SimRig<S> as Rig>⟧.rig_state self.new).session ≡ None) }
@@ -186,6 +193,7 @@ impl<S: Store + Drop> Rig for SimRig<S> {
         let Some(mut attached) = self.attached.take() else {
             unreachable!()
         };
+        self.past = self.past.and(&attached.sim);
         let done = attached.sim.load(config, room);
         self.attached = Some(attached);
         match done {

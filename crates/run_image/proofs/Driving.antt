@@ -1,12 +1,16 @@
 -- The session of an image that is loaded, cycle by cycle.
-use Rattle.std.proofs.Common.{◌≡◌, ℕ, ◌+◌, ◌≤◌, Bool, List, [], ◌∷◌, ◌++◌, length, map, Option, None, Some, IfSome, arith, refl, ◌∙◌, length-append}
+use Rattle.std.proofs.Common.{◌≡◌, ℕ, ◌+◌, ◌≤◌, Bool, List, [], ◌∷◌, ◌++◌, length, map, Option, None, Some, IfSome, arith, refl, ◌∙◌, subst, inl, inr, length-append}
 use Rattle.std.proofs.lemmas.List.{map-append}
 use Rattle.machine_meaning.specs.Faults.{Faults}
+use Rattle.machine_meaning.specs.Circuit.{Pins}
 use Rattle.machine_config.specs.Vocabulary.{Configuration, at_load, none, IsRun, circuit_of}
 use Rattle.machine_image.specs.Images.{ImageValue, drive_of, image_row}
 use Rattle.rig.specs.Rig.{RigState, Exchange, IsTold, Begins, config_of, cycles_of, drives_of, readings_of, spare_of}
+use Rattle.rig.proofs.Narrowing.{session_run}
+use Rattle.diag_list.specs.Possible.{MayHave}
 use Rattle.run_image.specs.Pins.{pins_in}
 use Rattle.run_image.specs.Run.{RunsRow}
+use Rattle.run_image.specs.Rows.{AreRunRows}
 
 -- the image is loaded with room for so many rows, these vectors were driven, and these rows were read
 pub record HasDriven (room : ℕ) (i : ImageValue) (vectors rows : List (List Bool)) (rig : RigState) : Type 0 where
@@ -48,3 +52,15 @@ pub told-run : (rig : RigState) (i : ImageValue) (vectors : List (List Bool)) �
 told-run rig i vectors config drives told f is =
     let at : IfSome (Some i.config) (λ g. IsRun f g (drives_of (cycles_of rig)) (readings_of (cycles_of rig))) = rw (is, config) at told in
     rw drives at at
+
+-- and so it is under each set that explains what was read
+pub may-run : (rig : RigState) (i : ImageValue) (vectors : List (List Bool)) → config_of rig ≡ Some i.config → drives_of (cycles_of rig) ≡ map (drive_of i) vectors → IsTold rig → (f : Faults) → MayHave f rig → IsRun f i.config (map (drive_of i) vectors) (readings_of (cycles_of rig))
+may-run rig i vectors config drives told f (inl is) = told-run rig i vectors config drives told f is
+may-run rig i vectors config drives told f (inr e) = subst (λ (ds : List Pins). IsRun f i.config ds (readings_of (cycles_of rig))) drives (session_run f rig i.config config e)
+
+-- so what was read is what the machine reads under each of these
+pub may-read : (rig : RigState) (i : ImageValue) (vectors rows : List (List Bool)) → config_of rig ≡ Some i.config → drives_of (cycles_of rig) ≡ map (drive_of i) vectors → rows ≡ map (image_row i) (readings_of (cycles_of rig))
+    → IfSome rig.machine.faults (λ f. AreRunRows f i vectors rows) → (f : Faults) → MayHave f rig → AreRunRows f i vectors rows
+may-read rig i vectors rows config drives rows_are read f (inl told) = subst (λ (faults : Option Faults). IfSome faults (λ g. AreRunRows g i vectors rows)) told read
+may-read rig i vectors rows config drives rows_are read f (inr e) =
+    (readings_of (cycles_of rig), subst (λ (ds : List Pins). IsRun f i.config ds (readings_of (cycles_of rig))) drives (session_run f rig i.config config e), rows_are)

@@ -1,5 +1,5 @@
 -- How the steps follow one another: a lemma for each place where the body ends, over plain states.
-use Rattle.std.proofs.Common.{◌≡◌, ◌∙◌, ℕ, List, [], ◌∷◌, Bool, Option, None, Some, IfSome, length, refl, sym, ap, subst, Result, Ok, Err}
+use Rattle.std.proofs.Common.{◌≡◌, ◌∙◌, ℕ, List, [], ◌∷◌, Bool, Option, None, Some, IfSome, length, refl, sym, ap, inl, subst, Result, Ok, Err}
 use Rattle.std.specs.List.{All}
 use Rattle.base_io.specs.Vocabulary.{StoreState, SinkState}
 use Rattle.machine_shape.specs.declared.Shape.{Shape}
@@ -44,7 +44,7 @@ module _ {U : Type 0} (w : Laid) (d : DefectList) (b : RunBegin) where
       let made : Listed = record { list = d; loads = old.rig.loads } in
       let at : RowsBegin = record { image = i; vectors = b.vectors; files = b.files; begun = b.begun; before = old.rig.loads } in
       let right : (f : Faults) → new.rig.machine.faults ≡ Some f → ReadsRows f i w.rows = λ f faults.
-      on.right f (subst (λ (s : Shape). Covers s d.list f) (sym list.shape) (list.right.covers f (sym (ap (λ (x : Machine). x.faults) is.machines) ∙ faults))) in
+      on.right f (subst (λ (s : Shape). Covers s d.list f) (sym list.shape) (list.right.covers f (inl (sym (ap (λ (x : Machine). x.faults) is.machines) ∙ faults)))) in
       let rows = image_rows i (old.store.contents b.vectors) new.store.current b.failures new.rig in
       let written = course-map (image_course rows at (around new)) _ (rows-also rows (AreLaidRows w new.rig i) (are-laid w i new.rig right) at (around new)) result old.sink new.sink is.written in
       step-gives (w.lays d) (HasStayed b made (around new)) (image_run w b (around new) made) (w.lays d) [] (b.vectors ∷ []) _ _ i i result old old new took took.gives

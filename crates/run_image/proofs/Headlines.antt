@@ -1,23 +1,35 @@
 -- What such a command has done, from where its course stands.
-use Rattle.std.proofs.Common.{◌≡◌, ◌∙◌, ℕ, List, [], ◌∷◌, ◌++◌, Bool, refl, sym, ap, subst, inl, inr, append_assoc, Option, Some, IfSome, Result}
+use Rattle.std.proofs.Common.{◌≡◌, ◌∙◌, ℕ, All, List, [], ◌∷◌, ◌++◌, Bool, refl, sym, ap, subst, inl, inr, append_assoc, length, Option, Some, IfSome, Result}
 use Rattle.base_io.specs.Vocabulary.{next_count, IfTold, Wrote}
 use Rattle.machine_shape.specs.declared.Shape.{Shape}
-use Rattle.machine_meaning.specs.Vocabulary.{Faults, Covers}
+use Rattle.machine_meaning.specs.Vocabulary.{Faults, Covers, Pins}
+use Rattle.machine_config.specs.Faulty.{IsRun}
 use Rattle.machine_defects.specs.Text.{text_of}
 use Rattle.machine_image.specs.Images.{ImageValue}
 use Rattle.place_route.specs.RightImages.{ReadsRows}
+use Rattle.rig.specs.Rig.{RigState, cycles_of, readings_of}
+use Rattle.rig.proofs.Narrowing.{session_run}
 use Rattle.cmd_steps.specs.Vocabulary.{AreAll, Outside, around, Course, Next, ends, refuses, writes, IsWritten, IsMachineText, LoadsOnce, reads_machine}
 use Rattle.cmd_steps.specs.declared.refusal.Refusal.{Refusal}
 use Rattle.cmd_steps.specs.declared.refusal.Stop.{Stop}
 use Rattle.cmd_steps.proofs.Leading.{stopped}
 use Rattle.cmd_steps.proofs.Standing.{Adds, Standing, stands-done}
+use Rattle.diag_list.specs.Possible.{MayHave}
 use Rattle.diag_list.specs.Lists.{Listed, IsListed, MadeFewLoads, unloaded, few, lists}
-use Rattle.run_image.specs.Rows.{loads, RowsBegin}
+use Rattle.run_image.specs.Rows.{loads, RowsBegin, IsSession}
 use Rattle.run_image.proofs.CourseLemmas.{image-ends}
 use Rattle.run_image.specs.Laid.{Laid, rows_work}
 use Rattle.run_image.specs.Runs.{image_run, machine_listed}
 use Rattle.run_image.specs.Headline.{BeginsWithList, none, part, whole, IsWrittenWhole, UsesNothingListed, IsAsRead}
 use Rattle.run_image.proofs.Scripts.{AreLaidOn, Words, AreRead, begin-at, run-course, run-leads}
+
+-- the session's readings are the run under each set that explains what was read
+rows-right : (x : Laid) (i : ImageValue) (rig : RigState) (f : Faults) → ReadsRows f i x.rows → (vectors rows : List (List Bool)) → All (λ vector. length vector ≡ length i.inputs) vectors → IsSession rig i vectors rows
+    → IfSome rig.machine.faults (λ f. x.rows vectors rows) → MayHave f rig → x.rows vectors rows
+rows-right x i rig f right vectors rows widths session are (inl told) = subst (λ (t : Option Faults). IfSome t (λ _. x.rows vectors rows)) told are
+rows-right x i rig f right vectors rows widths session are (inr e) =
+    let read = subst (λ (ds : List Pins). IsRun f i.config ds (readings_of (cycles_of rig))) session.drives (session_run f rig i.config session.config e) in
+    subst (λ (r : List (List Bool)). x.rows vectors r) (sym session.rows_are) (right vectors (readings_of (cycles_of rig)) widths read)
 
 module _ (w : Words) (old new : Outside) where
   abbrev course : Course
@@ -54,11 +66,11 @@ module _ (w : Words) (old new : Outside) where
     pub machine_is : IfTold (old.store.contents w.machine) (λ bytes. IsMachineText bytes made.list.shape)
     pub stands : HasWritten (text_of made.list ++ rest)
     pub written_whole : IsWrittenWhole w.vectors made.list x.width vectors rows old new
-    pub covers : (f : Faults) → new.rig.machine.faults ≡ Some f → Covers made.list.shape made.list.list f
+    pub covers : (f : Faults) → MayHave f new.rig → Covers made.list.shape made.list.list f
     pub uses_nothing_listed : UsesNothingListed made.list image new.rig
-    pub right : (f : Faults) → new.rig.machine.faults ≡ Some f → ReadsRows f image x.rows
+    pub right : (f : Faults) → MayHave f new.rig → ReadsRows f image x.rows
     pub as_read : IsAsRead image vectors rows new.rig
-    pub outputs : (f : Faults) → new.rig.machine.faults ≡ Some f → x.rows vectors rows
+    pub outputs : (f : Faults) → MayHave f new.rig → x.rows vectors rows
     pub loaded : new.rig.loads ≡ next_count made.loads
 
   -- ---- of one that is laid
@@ -103,8 +115,8 @@ module _ (w : Words) (old new : Outside) where
           let run = image-ends work from (around new) rest at in
           let has = run.rows.has in
           let o = on l.list i gives in
-          let covers : (f : Faults) → new.rig.machine.faults ≡ Some f → Covers l.list.shape l.list.list f = λ f told.
-          subst (λ (s : Shape). Covers s l.list.list f) (sym list.shape) (list.right.covers f told) in
+          let covers : (f : Faults) → MayHave f new.rig → Covers l.list.shape l.list.list f = λ f may.
+          subst (λ (s : Shape). Covers s l.list.list f) (sym list.shape) (list.right.covers f may) in
           record {
             made = l;
             image = i;
@@ -123,9 +135,9 @@ module _ (w : Words) (old new : Outside) where
             };
             covers = covers;
             uses_nothing_listed = record { is_image = o.image; shape = o.shape; config = run.rows.session.config; free = o.free };
-            right = λ f told. o.right f (covers f told);
+            right = λ f may. o.right f (covers f may);
             as_read = record { drives = run.rows.session.drives; rows_are = run.rows.session.rows_are };
-            outputs = λ f told. subst (λ (t : Option Faults). IfSome t (λ _. x.rows has.vectors has.rows)) told has.are.right;
+            outputs = λ f may. rows-right x i new.rig f (o.right f (covers f may)) has.vectors has.rows has.are.read.widths run.rows.session has.are.right may;
             loaded = run.loaded;
           }
 

@@ -1,7 +1,7 @@
 -- What the steps of a run say.
 use Rattle.std.specs.Prelude.{◌≡◌, ◌⊎◌, ◌≤◌, ℕ, List, [], Bool, true, false, length}
 use Rattle.base_io.specs.Vocabulary.{Rose, StoreState, SinkState}
-use Rattle.rig.specs.Rig.{RigState, Begins, CycleFails}
+use Rattle.rig.specs.Rig.{RigState, Begins, CycleFails, Narrows}
 use Rattle.rig.specs.declared.rig.RigFail.{RigFail}
 use Rattle.rig.specs.declared.rig.RigFail.TheVariants as work
 use Rattle.run_image.specs.Pins.{pins_in}
@@ -34,13 +34,14 @@ pub record IsLoaded (rows : Running) (rig : RigState) : Type 0 where
 abbrev pub prepares : (old new : RigState) → Step Running
 prepares old new = record { stops = (loads old.loads new).stops; gives = λ _. (loads old.loads new).gives tt }
 
--- what the next row leaves as it was, and counts that never fall
+-- what the next row leaves as it was, counts that never fall, and what explains all that is read then explained it before
 pub record Keeps (old new : Running) (before after : StoreState) (rig_old rig_new : RigState) : Type 0 where
   pub image : new.image ≡ old.image
   pub store : StaysOpen before after
   pub machine : rig_new.machine ≡ rig_old.machine
   pub loads : rig_new.loads ≡ rig_old.loads
   pub failures : rig_old.failures ≤ rig_new.failures
+  pub narrows : Narrows rig_old rig_new
 
 -- where the reading stands: with the lines of the rows that wait
 abbrev pub at_rows : Running → StoreState → SinkState → RowsAt

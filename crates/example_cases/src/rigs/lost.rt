@@ -1,5 +1,5 @@
-//! A machine behind a port that has a load made again: where a configuration finds no memory on its way, what is set at the other
-//! end may be some of it and some of the one before, and the next load has to say all anew.
+//! A machine behind a port that has a load made again. Where a configuration finds no memory on its way, the other end has the one before,
+//! and what the board keeps is that with some of the new one; so the next load has to say all anew.
 ghost use Rattle.std.specs.Prelude.{◌≡◌, Some, OnOk, length};
 ghost use Rattle.rig.specs.Rig.{config_of, shape_of};
 
@@ -8,10 +8,11 @@ use machine_shape::{Cross, Pin, Shape};
 use rig::{PinBits, Rig, RigFail, cycle, load};
 use std::alloc::{AllocError, Global};
 
-/// What the pins read at last, a digit a pin, and how many loads were made again.
+/// What the pins read behind the first load and behind the second, a digit a pin, and how many loads were made again.
 #[derive(Drop)]
 pub struct Outcome {
-    pub reading: String,
+    pub first: String,
+    pub second: String,
     pub again: u32,
 }
 
@@ -53,6 +54,7 @@ fn loaded(rig: &mut Box<dyn Rig>, config: &Config) -> Result<bool, RigFail>
 // Makes a cycle in which the first pin and the third are driven 0, and spells what all read.
 fn read_pins(alloc: Global, rig: &mut Box<dyn Rig>, config: &Config) -> Result<String, RigFail>
     requires { config_of (rig_state rig.old) ≡ Some config.now.config }
+    ensures machine { (rig_state rig.new).machine ≡ (rig_state rig.old).machine }
 {
     let mut drive = PinBits::new(alloc, config.shape().pins())?;
     let mut read = PinBits::new(alloc, config.shape().pins())?;
@@ -68,27 +70,38 @@ fn read_pins(alloc: Global, rig: &mut Box<dyn Rig>, config: &Config) -> Result<S
     Ok(text)
 }
 
-/// Joins the first two pins of the machine that is attached, and then the third and the fourth in their place. Each load is made again
-/// where memory was lacking.
+/// Joins the first two pins of the machine that is attached, makes a cycle, and then joins the third and the fourth in their place, and
+/// makes another. Each load is made again where memory was lacking.
 ///
 /// # Errors
 ///
-/// What a second load, or the cycle, fails with.
+/// What a second load, or a cycle, fails with.
 pub fn load_twice(alloc: Global, rig: &mut Box<dyn Rig>, shape: &Shape) -> Result<Outcome, RigFail>
     requires { shape_of (rig_state rig.old) ≡ Some shape.now }
 {
     let mut config = Config::with_room(alloc, *shape, 0)?;
     close(&mut config, 0)?;
     close(&mut config, 4)?;
-    let first = loaded(rig, &config)?;
+    let first_again = loaded(rig, &config)?;
+    // A load goes out with the cycles behind it.
+    let first = read_pins(alloc, rig, &config)?;
     open(&mut config, 0);
     open(&mut config, 4);
     close(&mut config, 9)?;
     close(&mut config, 13)?;
-    let second = loaded(rig, &config)?;
-    let reading = read_pins(alloc, rig, &config)?;
+    // Crosspoints of the hextant, far from the pins: so many that the board has to take memory for them.
+    close(&mut config, 100)?;
+    close(&mut config, 104)?;
+    close(&mut config, 108)?;
+    close(&mut config, 112)?;
+    close(&mut config, 116)?;
+    close(&mut config, 120)?;
+    close(&mut config, 124)?;
+    let second_again = loaded(rig, &config)?;
+    let second = read_pins(alloc, rig, &config)?;
     Ok(Outcome {
-        reading,
-        again: first as u32 + second as u32,
+        first,
+        second,
+        again: first_again as u32 + second_again as u32,
     })
 }

@@ -2,7 +2,7 @@
 
 use base_random::Draws;
 use design_blif::read_blif;
-use machine_bench::{bench_counts, bench_design, bench_vector};
+use machine_bench::{bench_counts, bench_design, bench_faults, bench_vector};
 use machine_shape::Shape;
 use std::alloc::Global;
 
@@ -13,6 +13,12 @@ pub fn generator_seven() -> Option<bool> {
     let shape = Shape::new(bench_counts()).ok()?;
     let sized = shape.wires() == 2188 && shape.crosses() == 63360 && shape.tables() == 128;
     Some(drawn && state && sized)
+}
+
+pub fn bench_faults_seven(alloc: Global) -> Option<bool> {
+    let shape = Shape::new(bench_counts()).ok()?;
+    let faults = bench_faults(alloc, 7, &shape).ok()?;
+    Some(faults.count() == 127)
 }
 
 // Whether the vectors of 7 are these, from the first on.

@@ -30,6 +30,42 @@ fn numbers_wires(shape: &Shape) -> bool {
     right && none && shape.table_of(b"m0.c0.h0.t1") == Some(Table(1))
 }
 
+// Whether each wire is the one of its name.
+fn names_wires(shape: &Shape) -> bool {
+    let mut right = true;
+    'wires: for w in 0..shape.wires() {
+        let name = shape.wire_name(Wire(w));
+        right = right && shape.wire_of(name.as_bytes()) == Some(Wire(w));
+    }
+    right
+}
+
+// Whether each table is the one of its name.
+fn names_tables(shape: &Shape) -> bool {
+    let mut right = true;
+    'tables: for t in 0..shape.tables() {
+        let name = shape.table_name(Table(t));
+        right = right && shape.table_of(name.as_bytes()) == Some(Table(t));
+    }
+    right
+}
+
+// Whether these are the names of the nodes.
+fn names_nodes(shape: &Shape, names: &[&str]) -> bool {
+    let mut right = shape.nodes() as usize == names.len();
+    'nodes: for n in 0..shape.nodes() {
+        let name = shape.node_name(Node(n));
+        right = right && names.get(n as usize).map(|due| due.as_bytes()) == Some(name.as_bytes());
+    }
+    right
+}
+
+pub fn names_both_ways() -> Option<bool> {
+    let shape = Shape::new(TINY).ok()?;
+    let nodes = names_nodes(&shape, &["r", "m0", "m0.c0", "m0.c0.h0"]);
+    Some(nodes && names_wires(&shape) && names_tables(&shape))
+}
+
 // Ends of crosspoints, and crosspoints of two wires.
 fn numbers_crosspoints(shape: &Shape) -> Option<bool> {
     if shape.crosses() <= 26 || shape.wires() <= 38 {

@@ -43,7 +43,7 @@ pub fn faults_text_in_order(alloc: Global) -> Option<bool> {
 }
 
 // Lists a line, a crosspoint that it touches, one that it doesn't, or a table.
-fn list_one(list: &mut Defects, which: u8) {
+fn list_one(list: &mut Defects, which: u32) {
     let shape = list.shape();
     if which == 0 && shape.wires() > 4 {
         list.list_wire(Wire(4));
@@ -56,12 +56,13 @@ fn list_one(list: &mut Defects, which: u8) {
     }
 }
 
-pub fn defects_text_in_order(alloc: Global) -> Option<bool> {
+// Whether the text and the numbers are as they should be where the four are listed in this order.
+fn is_listed(alloc: Global, order: [u32; 4]) -> Option<bool> {
     let shape = Shape::new(TINY).ok()?;
     let due =
         b"defects 1\nshape 1 1 1 2 4 4 4 4 4 4 4 4\nwire r.l0\ncross r.p1 r.l1\ntable m0.c0.h0.t0\nend\n";
     let mut list = Defects::none(alloc, shape).ok()?;
-    for which in [3u8, 2, 1, 0] {
+    for which in order {
         list_one(&mut list, which);
     }
     let text = defects_text(alloc, &list).ok()?;
@@ -71,4 +72,22 @@ pub fn defects_text_in_order(alloc: Global) -> Option<bool> {
     }
     let lines = list.open_lines(Node(0)) == 2 && list.free_ports(Node(1)) == 4;
     Some(written && lines && list.free_tables() == 1 && list.free_pins() == 4)
+}
+
+// Whether an order has each of the four.
+fn has_each(order: [u32; 4]) -> bool {
+    order.contains(&0) && order.contains(&1) && order.contains(&2) && order.contains(&3)
+}
+
+pub fn defects_text_in_order(alloc: Global) -> Option<bool> {
+    let mut right = true;
+    let mut orders = 0u32;
+    'orders: for code in 0..256u32 {
+        let order = [code / 64, code / 16 % 4, code / 4 % 4, code % 4];
+        if has_each(order) {
+            orders = orders.saturating_add(1);
+            right = right && is_listed(alloc, order)?;
+        }
+    }
+    Some(right && orders == 24)
 }

@@ -27,7 +27,7 @@ returns-in_err-list g c =
     let took = rw (← c.requires.image) at l.took store (g.K.Sink.sink_state c.args.sink.now) in
     tested-then files begun c.args.image.now _ _ _ _ c.in_ok-sound.sound false (e.took store _) e.machine c.if-sound.false
     (kept-refuses _ _ _ _ _ _ _ _ (err-is _ c.from_residual-in_err-list.ensures.1) took
-    (λ _ stops. (stops.0, rw l.machine stops.1)) near l.machine)
+    (λ _ stops. stops) near l.machine)
 
 pub look_and_write-requires : goal.look_and_write-requires
 look_and_write-requires g c = (c.in_ok-list.ensures.took nothing.store nothing.sink).gives.shape ∙ sym c.requires.image

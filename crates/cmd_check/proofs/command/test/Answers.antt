@@ -1,16 +1,25 @@
 use Rattle.std.proofs.Common.{refl}
 use Rattle.cmd_steps.proofs.Making.{rig-took}
 use Rattle.cmd_steps.proofs.RigFails.{rig-fails}
+use Rattle.cmd_check.proofs.Following.{sound-may, whole-may}
 use Rattle.cmd_check.proofs.command.test.Goals as goal
 
 pub returns-in-Ok-clause-took : goal.returns-in-Ok-clause-took
 returns-in-Ok-clause-took g c =
     let e = c.in-Ok.ensures in
-    λ store sink. rig-took _ _ _ store sink e.machine e.later c.in-Ok.sound
-    (record { sound = rw e.machine e.sound; whole = rw e.machine e.whole; few = e.loads })
+    let box0 = c.args.rig.now in
+    let r0 = (goal.Rig-dyn g (box0.vtable, box0.value)).rig_state box0.value in
+    let box1 = c.quick_check.new.rig in
+    let r1 = (goal.Rig-dyn g (box1.vtable, box1.value)).rig_state box1.value in
+    λ store sink. rig-took _ r0 r1 store sink e.machine e.narrows e.later c.in-Ok.sound
+    (record { sound = sound-may r0 r1 e.machine e.sound e.sound_each; whole = whole-may r0 r1 e.machine e.whole e.whole_each; few = e.loads })
 
 pub returns-in-Err-clause-took : goal.returns-in-Err-clause-took
 returns-in-Err-clause-took g c =
     let e = c.in-Err.ensures in
-    λ store sink. rw c.from.ensures (rig-fails _ _ _ store sink e.machine e.later c.in-Err.fail
+    let box0 = c.args.rig.now in
+    let r0 = (goal.Rig-dyn g (box0.vtable, box0.value)).rig_state box0.value in
+    let box1 = c.quick_check.new.rig in
+    let r1 = (goal.Rig-dyn g (box1.vtable, box1.value)).rig_state box1.value in
+    λ store sink. rw c.from.ensures (rig-fails _ r0 r1 store sink e.machine e.narrows e.later c.in-Err.fail
     (λ is. e.cause (rw is refl)) (λ _ fails. (fails, e.loads)))

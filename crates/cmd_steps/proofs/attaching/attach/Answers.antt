@@ -1,6 +1,7 @@
 use Rattle.std.proofs.Common.{inr}
 use Rattle.std.proofs.lemmas.Result.{err_from_is_err_and}
 use Rattle.cmd_steps.proofs.AttachLemmas.{attach-asks, attach-took, attach-taken}
+use Rattle.cmd_steps.proofs.Logs.{log_asked}
 use Rattle.cmd_steps.proofs.attaching.attach.Goals as goal
 
 pub returns-clause-asked : goal.returns-clause-asked
@@ -12,7 +13,7 @@ returns-in_err-attach_boxed-clause-asked g c = attach-asks _ _ _ _ c.in_err-atta
 pub returns-clause-took : goal.returns-clause-took
 returns-clause-took g c =
     let e = c.in_ok-attach_boxed.ensures in
-    λ store sink. attach-took _ _ _ store sink e.texts e.later e.attached.attached
+    λ store sink. attach-took _ _ _ store sink e.texts e.later (log_asked _ e.attached.asked) e.attached.attached
 
 pub returns-in_err-attach_boxed-clause-took : goal.returns-in_err-attach_boxed-clause-took
 returns-in_err-attach_boxed-clause-took g c =

@@ -3,6 +3,7 @@ use Rattle.machine_shape.specs.declared.Shape.{Shape}
 use Rattle.diag_known.specs.Field.{IsFieldOf}
 use Rattle.diag_known.proofs.Taking.{takes_wide}
 use Rattle.diag_check.proofs.Checking.{routes_if}
+use Rattle.diag_growth.proofs.Explained.{held}
 use Rattle.diag_check.proofs.check.grow_over.Goals as goal
 
 pub keeps_routes-requires-clause-shape : goal.keeps_routes-requires-clause-shape
@@ -27,6 +28,23 @@ returns-in-Ok-clause-whole g c =
     })
     c.keeps_routes.ensures.right c.requires.used (subst (λ (s : Shape). IsFieldOf s c.args.field.now) (sym c.requires.image) c.requires.field) (c.grow.ensures.advances.more.shape ∙ sym c.requires.image)
     c.in-Ok.ensures.closed c.grow.ensures.advances.holds c.keeps_routes.ensures.all
+
+pub returns-in-Ok-clause-whole_each : goal.returns-in-Ok-clause-whole_each
+returns-in-Ok-clause-whole_each g c =
+    let m = c.args.image.now.config.shape in
+    λ f e. routes_if _ c.args.facts.now c.grow.new.facts c.grow.new.known.steps c.args.image.now c.args.used.now c.args.field.now c.keeps_routes.result
+    (record {
+      numbered = c.the_numbering_is_sound.ensures.numbered m;
+      tree = c.the_numbering_is_sound.ensures.tree m;
+      parents = c.the_numbering_is_sound.ensures.parents m;
+      meetings = c.the_crosspoints_are_sound.ensures.meetings m;
+      homes = c.each_wire_has_a_home.ensures m;
+      wires = c.without_faults_all_is_sound.ensures.wires m;
+      tables = c.without_faults_all_is_sound.ensures.tables m;
+      standing = c.parts_of_served_nodes_stand.ensures m;
+    })
+    c.keeps_routes.ensures.right c.requires.used (subst (λ (s : Shape). IsFieldOf s c.args.field.now) (sym c.requires.image) c.requires.field) (c.grow.ensures.advances.more.shape ∙ sym c.requires.image)
+    (c.in-Ok.ensures.closed_each f e) (held c.grow.ensures.advances e) c.keeps_routes.ensures.all
 
 pub returns-in-Ok-clause-loads : goal.returns-in-Ok-clause-loads
 returns-in-Ok-clause-loads g c = takes_wide c.args.facts.now c.args.field.now _ c.grow.ensures.loads

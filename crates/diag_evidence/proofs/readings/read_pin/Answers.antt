@@ -7,3 +7,17 @@ returns-clause-reads g c = record {
   run = c.in_ok-read_once.ensures.run.run;
   bit_is = got c.read_once.new.read c.args.at _ c.get.ensures;
 }
+
+pub returns-clause-reads_each : goal.returns-clause-reads_each
+returns-clause-reads_each g c = λ f e. record {
+  reading = c.read_once.new.read;
+  run = (c.in_ok-read_once.ensures.run_each f e).run;
+  bit_is = got c.read_once.new.read c.args.at _ c.get.ensures;
+}
+
+pub returns-clause-logged : goal.returns-clause-logged
+returns-clause-logged g c = record {
+  reading = c.read_once.new.read;
+  logged = c.in_ok-read_once.ensures.logged;
+  bit_is = got c.read_once.new.read c.args.at _ c.get.ensures;
+}

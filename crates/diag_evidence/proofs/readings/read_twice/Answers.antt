@@ -1,6 +1,7 @@
 use Rattle.std.proofs.Common.{◌∙◌, ap}
 use Rattle.rig.specs.Rig.{Machine}
-use Rattle.diag_evidence.proofs.Sessions.{cycled_twice, two_cycles, got}
+use Rattle.diag_evidence.proofs.Sessions.{cycled_twice, two_cycles, twice_run, got}
+use Rattle.diag_evidence.proofs.Logging.{logs_twice}
 use Rattle.diag_evidence.proofs.readings.read_twice.Goals as goal
 
 pub returns-clause-reads : goal.returns-clause-reads
@@ -13,5 +14,23 @@ returns-clause-reads g c = record {
   second_is = got c.cycle-2.new.read c.args.at _ c.get-second.ensures;
 }
 
+pub returns-clause-reads_each : goal.returns-clause-reads_each
+returns-clause-reads_each g c = λ f e. record {
+  reading = c.cycle.new.read;
+  later = c.cycle-2.new.read;
+  run = twice_run _ _ _ c.args.config.now.config _ c.args.low.now c.args.high.now _ _ c.in_ok-begin.ensures.begins c.in_ok-cycle.ensures.cycles c.in_ok-cycle-2.ensures.cycles f e;
+  first_is = got c.cycle.new.read c.args.at _ c.get-first.ensures;
+  second_is = got c.cycle-2.new.read c.args.at _ c.get-second.ensures;
+}
+
 pub returns-clause-session : goal.returns-clause-session
 returns-clause-session g c = cycled_twice _ _ _ c.args.config.now.config _ c.args.low.now c.args.high.now _ _ c.in_ok-begin.ensures.begins c.in_ok-cycle.ensures.cycles c.in_ok-cycle-2.ensures.cycles
+
+pub returns-clause-logged : goal.returns-clause-logged
+returns-clause-logged g c = record {
+  reading = c.cycle.new.read;
+  later = c.cycle-2.new.read;
+  logged = logs_twice _ _ _ _ c.args.config.now.config _ c.args.low.now c.args.high.now _ _ c.begin.ensures.logged c.in_ok-begin.ensures.begins c.in_ok-cycle.ensures.cycles c.in_ok-cycle-2.ensures.cycles;
+  first_is = got c.cycle.new.read c.args.at _ c.get-first.ensures;
+  second_is = got c.cycle-2.new.read c.args.at _ c.get-second.ensures;
+}

@@ -10,8 +10,8 @@ use Rattle.diag_growth.proofs.Leaving.{looks_next, looks_past, looks_all, spends
 use Rattle.diag_growth.proofs.Looking.{link_leads}
 use Rattle.diag_known.proofs.Marking.{spends_none, spends_then}
 use Rattle.diag_known.proofs.Places.{at_later}
-use Rattle.diag_growth.proofs.SoFar.{looked_also}
 use Rattle.diag_growth.proofs.Stages.{grows_itself, grows_then, grown_on, longer, tried_none, tried_then}
+use Rattle.diag_growth.proofs.Explained.{held}
 use Rattle.diag_growth.proofs.look.look_at.Goals as goal
 
 pub links-init : goal.links-init
@@ -21,12 +21,33 @@ links-init g c = record {
   tried = tried_none refl;
   marks = c.requires.marks;
   spends = spends_none refl refl;
-  also = λ i b less at. absurd (let no : ⊥ = omega (arith, less) in no);
+  tried_each = λ f e marks. tried_none refl;
+  marks_each = λ f e marks. marks;
+  spends_each = λ f e marks. spends_none refl refl;
+  also = (
+    λ i b less at. absurd (let no : ⊥ = omega (arith, less) in no),
+    λ f e marks i b less at. absurd (let no : ⊥ = omega (arith, less) in no),
+  );
 }
 
 pub links-preserved-in_default : goal.links-preserved-in_default
 links-preserved-in_default g c =
-    looked_also c.links.invariant (looks_past c.args.place c.wire_at-wire.result.0 c.links.j (sym c.link_at.ensures ∙ c.in_default.is) c.links.invariant.also)
+    let old = c.links.invariant in
+    let here = sym c.link_at.ensures ∙ c.in_default.is in
+    record {
+      advances = old.advances;
+      grows = old.grows;
+      tried = old.tried;
+      marks = old.marks;
+      spends = old.spends;
+      tried_each = old.tried_each;
+      marks_each = old.marks_each;
+      spends_each = old.spends_each;
+      also = (
+        looks_past c.args.place c.wire_at-wire.result.0 c.links.j here old.also.0,
+        λ f e marks. looks_past c.args.place c.wire_at-wire.result.0 c.links.j here (old.also.1 f e marks),
+      );
+    }
 
 pub look_over-requires-clause-links : goal.look_over-requires-clause-links
 look_over-requires-clause-links g c = subst (λ (m : Shape). AreLinked m c.args.near.now.items) (sym c.links.invariant.advances.more.shape) c.requires.links
@@ -49,6 +70,12 @@ returns-in_err-look_over-clause-spends g c =
     let old = c.links.invariant in
     spends_then old.advances.more old.advances.holds old.spends (spends_told (ap (λ m. m.faults) old.advances.machine) c.look_over.ensures.spends)
 
+pub returns-in_err-look_over-clause-spends_each : goal.returns-in_err-look_over-clause-spends_each
+returns-in_err-look_over-clause-spends_each g c =
+    let old = c.links.invariant in
+    λ f e marks. let before = c.look_over.ensures.advances.narrows f e in
+    spends_then old.advances.more (held old.advances before) (old.spends_each f before marks) (c.look_over.ensures.spends_each f e (old.marks_each f before marks))
+
 pub links-preserved : goal.links-preserved
 links-preserved g c =
     let old = c.links.invariant in
@@ -63,13 +90,29 @@ links-preserved g c =
           (subst (λ (told : Option Faults). AreTried told c.look_over.new.facts c.look_over.new.known.steps c.links.marks.barred c.look_over.new.marks.barred) same c.in_ok-look_over.ensures.tried);
       marks = subst (λ (told : Option Faults). AreAllMarks told c.look_over.new.facts c.args.near.now.items c.look_over.new.known.steps c.look_over.new.marks) same c.in_ok-look_over.ensures.marks;
       spends = spends_then old.advances.more old.advances.holds old.spends (spends_told same c.look_over.ensures.spends);
-      also = looks_next c.args.place c.wire_at-wire.result.0 c.links.j c.in-Some.link more step (let low = c.requires.place in omega (arith, low, long)) (sym c.link_at.ensures ∙ c.in-Some.is)
-          (subst (λ (told : Option Faults). IsLooked told c.look_over.new.facts c.args.near.now.items c.look_over.new.known.steps c.look_over.new.marks.barred c.args.place c.in-Some.link.cross.0 c.in-Some.link.wire.0) same
-          c.in_ok-look_over.ensures.looked) old.also;
+      tried_each = λ f e marks. let before = c.look_over.ensures.advances.narrows f e in
+          tried_then step.more step.steps more (old.tried_each f before marks) (c.in_ok-look_over.ensures.tried_each f e (old.marks_each f before marks));
+      marks_each = λ f e marks. c.in_ok-look_over.ensures.marks_each f e (old.marks_each f (c.look_over.ensures.advances.narrows f e) marks);
+      spends_each = λ f e marks. let before = c.look_over.ensures.advances.narrows f e in
+          spends_then old.advances.more (held old.advances before) (old.spends_each f before marks) (c.look_over.ensures.spends_each f e (old.marks_each f before marks));
+      also = (
+        looks_next c.args.place c.wire_at-wire.result.0 c.links.j c.in-Some.link more step (let low = c.requires.place in omega (arith, low, long)) (sym c.link_at.ensures ∙ c.in-Some.is)
+            (subst (λ (told : Option Faults). IsLooked told c.look_over.new.facts c.args.near.now.items c.look_over.new.known.steps c.look_over.new.marks.barred c.args.place c.in-Some.link.cross.0 c.in-Some.link.wire.0) same
+            c.in_ok-look_over.ensures.looked) old.also.0,
+        λ f e marks. let before = c.look_over.ensures.advances.narrows f e in
+            looks_next c.args.place c.wire_at-wire.result.0 c.links.j c.in-Some.link more step (let low = c.requires.place in omega (arith, low, long)) (sym c.link_at.ensures ∙ c.in-Some.is)
+            (c.in_ok-look_over.ensures.looked_each f e (old.marks_each f before marks)) (old.also.1 f before marks),
+      );
     }
 
 pub returns-clause-grown : goal.returns-clause-grown
 returns-clause-grown g c =
     let old = c.links.invariant in
     λ grown. grown_next c.requires.links (subst (λ ss. IsAt ss c.args.place c.wire_at-wire.result.0) (sym old.grows.steps) (at_later old.grows.more c.wire_at-wire.ensures.at))
-    (looks_all c.args.place c.wire_at-wire.result.0 _ (omega arith) old.also) (grown_on old.advances.more (let low = c.requires.place in omega (arith, low)) old.grows grown)
+    (looks_all c.args.place c.wire_at-wire.result.0 _ (omega arith) old.also.0) (grown_on old.advances.more (let low = c.requires.place in omega (arith, low)) old.grows grown)
+
+pub returns-clause-grown_each : goal.returns-clause-grown_each
+returns-clause-grown_each g c =
+    let old = c.links.invariant in
+    λ f e marks grown. grown_next c.requires.links (subst (λ ss. IsAt ss c.args.place c.wire_at-wire.result.0) (sym old.grows.steps) (at_later old.grows.more c.wire_at-wire.ensures.at))
+    (looks_all c.args.place c.wire_at-wire.result.0 _ (omega arith) (old.also.1 f e marks)) (grown_on old.advances.more (let low = c.requires.place in omega (arith, low)) old.grows grown)

@@ -8,6 +8,8 @@ use Rattle.diag_growth.proofs.Leaving.{look_plain, all_later, joins_spent, joins
 use Rattle.diag_growth.proofs.Looking.{look_within, look_other, looked_barred, looked_known, not_earlier}
 use Rattle.diag_known.proofs.Places.{before_has}
 use Rattle.diag_growth.proofs.Stages.{grows_itself, tried_none}
+use Rattle.diag_known.proofs.Settling.{on_ok_so}
+use Rattle.diag_known.proofs.Marking.{spends_none}
 use Rattle.diag_growth.proofs.look.look_over.Goals as goal
 
 pub place_of-requires : goal.place_of-requires
@@ -22,12 +24,19 @@ returns-then-has-clause-grows g c = grows_itself c.requires.known (more_itself c
 pub returns-then-has-clause-looked : goal.returns-then-has-clause-looked
 returns-then-has-clause-looked g c = looked_barred (λ before. c.in_default.ensures.unknown (before_has before)) (sym c.has.ensures ∙ c.if-has.true)
 
+pub returns-then-has-clause-looked_each : goal.returns-then-has-clause-looked_each
+returns-then-has-clause-looked_each g c = λ f e marks. looked_barred (λ before. c.in_default.ensures.unknown (before_has before)) (sym c.has.ensures ∙ c.if-has.true)
+
 pub returns-then-other-look-clause-grows : goal.returns-then-other-look-clause-grows
 returns-then-other-look-clause-grows g c = grows_itself c.requires.known (more_itself c.args.facts.now) refl
 
 pub returns-then-other-look-clause-looked : goal.returns-then-other-look-clause-looked
 returns-then-other-look-clause-looked g c =
     looked_known (record { place = c.in-Some.other; at = c.in-Some.ensures.known }) (λ before. absurd (not_earlier c.requires.known c.in-Some.ensures.known (omega arith) before))
+
+pub returns-then-other-look-clause-looked_each : goal.returns-then-other-look-clause-looked_each
+returns-then-other-look-clause-looked_each g c =
+    λ f e marks. looked_known (record { place = c.in-Some.other; at = c.in-Some.ensures.known }) (λ before. absurd (not_earlier c.requires.known c.in-Some.ensures.known (omega arith) before))
 
 pub look_known-requires-clause-look : goal.look_known-requires-clause-look
 look_known-requires-clause-look g c = look_plain c.requires.known (c.the_numbering_is_sound.ensures.numbered c.args.facts.now.shape) c.requires.links c.requires.look
@@ -44,8 +53,14 @@ returns-clause-grows g c = grows_itself c.requires.known c.look_known.ensures.ad
 pub returns-clause-tried : goal.returns-clause-tried
 returns-clause-tried g c = on_ok_weaker c.look_known.result (λ kept. tried_none (joins_barred c.look_known.ensures.joins)) c.look_known.ensures.kept
 
+pub returns-clause-tried_each : goal.returns-clause-tried_each
+returns-clause-tried_each g c = on_ok_so c.look_known.result c.look_known.ensures.kept_each (λ kept f e marks. tried_none (joins_barred c.look_known.ensures.joins))
+
 pub returns-clause-looked : goal.returns-clause-looked
 returns-clause-looked g c = on_ok_weaker c.look_known.result (λ kept. looked_known (record { place = c.in-Some.other; at = c.in-Some.ensures.known }) (λ before. kept)) c.look_known.ensures.kept
+
+pub returns-clause-looked_each : goal.returns-clause-looked_each
+returns-clause-looked_each g c = on_ok_so c.look_known.result c.look_known.ensures.kept_each (λ kept f e marks. looked_known (record { place = c.in-Some.other; at = c.in-Some.ensures.known }) (λ before. kept f e marks.are))
 
 pub returns-clause-marks : goal.returns-clause-marks
 returns-clause-marks g c =
@@ -53,7 +68,30 @@ returns-clause-marks g c =
     on_ok_weaker c.look_known.result (λ marks. all_later more (grows_itself c.requires.known more (joins_barred c.look_known.ensures.joins)) c.requires.marks marks
     (λ x on. inl (ap (λ bits. has_number bits x) (sym (joins_offered c.look_known.ensures.joins)) ∙ on))) c.look_known.ensures.marks
 
+pub returns-clause-marks_each : goal.returns-clause-marks_each
+returns-clause-marks_each g c =
+    let more = c.look_known.ensures.advances.more in
+    on_ok_so c.look_known.result c.look_known.ensures.marks_each (λ each f e marks. all_later more (grows_itself c.requires.known more (joins_barred c.look_known.ensures.joins)) marks (each f e marks.are)
+    (λ x on. inl (ap (λ bits. has_number bits x) (sym (joins_offered c.look_known.ensures.joins)) ∙ on)))
+
 pub returns-clause-spends : goal.returns-clause-spends
 returns-clause-spends g c =
     joins_spent c.args.near.now.items c.requires.marks.are (look_within c.requires.known (c.the_numbering_is_sound.ensures.numbered c.args.facts.now.shape) c.requires.links c.requires.look)
     (c.args.look.link.wire.0, c.args.look.wire.0, c.requires.look.link) c.look_known.ensures.joins
+
+pub returns-clause-spends_each : goal.returns-clause-spends_each
+returns-clause-spends_each g c =
+    λ f e marks. joins_spent c.args.near.now.items marks.are (look_within c.requires.known (c.the_numbering_is_sound.ensures.numbered c.args.facts.now.shape) c.requires.links c.requires.look)
+    (c.args.look.link.wire.0, c.args.look.wire.0, c.requires.look.link) c.look_known.ensures.joins
+
+pub returns-then-has-clause-tried_each : goal.returns-then-has-clause-tried_each
+returns-then-has-clause-tried_each g c = λ f e marks. tried_none refl
+
+pub returns-then-has-clause-spends_each : goal.returns-then-has-clause-spends_each
+returns-then-has-clause-spends_each g c = λ f e marks. spends_none refl refl
+
+pub returns-then-other-look-clause-tried_each : goal.returns-then-other-look-clause-tried_each
+returns-then-other-look-clause-tried_each g c = λ f e marks. tried_none refl
+
+pub returns-then-other-look-clause-spends_each : goal.returns-then-other-look-clause-spends_each
+returns-then-other-look-clause-spends_each g c = λ f e marks. spends_none refl refl

@@ -21,6 +21,9 @@ part-requires-2-clause-way g c = (ways_later c.part.ensures.advances.more (ways_
 pub returns-then-not-apart-clause-bad : goal.returns-then-not-apart-clause-bad
 returns-then-not-apart-clause-bad g c = λ is_no. subst (λ (told : Option Faults). IsBad told c.part.new.facts c.args.known.now.steps c.args.w.0) (ap (λ m. m.faults) c.test_stuck.ensures.advances.machine) (c.in_ok-apart.ensures.bad c.if-not-apart.true)
 
+pub returns-then-not-apart-clause-bad_each : goal.returns-then-not-apart-clause-bad_each
+returns-then-not-apart-clause-bad_each g c = λ f e is_no. c.in_ok-apart.ensures.bad_each f e c.if-not-apart.true
+
 pub returns-clause-good : goal.returns-clause-good
 returns-clause-good g c = IfOk-weaker c.part-2.result _ _ (λ yes apart. λ is_yes.
     good c.requires.known c.requires.new c.requires.ways (c.part-2.ensures.advances.more.wires c.args.w.0 (c.part.ensures.advances.more.wires c.args.w.0 (c.in_ok-kept.ensures.kept c.if-not-kept.false)))

@@ -8,6 +8,7 @@ use Rattle.diag_evidence.specs.Vocabulary.{Kept, IsMore, Gains, these_pairs, IsR
 use Rattle.diag_known.proofs.Adding.{all_numbers}
 use Rattle.diag_growth.proofs.Listing.{parting_within}
 use Rattle.diag_growth.proofs.Parting.{walk_off, walks_ready, way_ready, parted, part_bad}
+use Rattle.diag_known.proofs.Settling.{if_ok_so}
 use Rattle.diag_growth.proofs.parts.part_from.Goals as goal
 
 pub laid-requires-clause-ties : goal.laid-requires-clause-ties
@@ -48,3 +49,13 @@ returns-clause-bad g c =
     (part_bad c.requires.known c.requires.way c.requires.beside laid (subst (IsDrivenAlone c.in_ok-drive.drive) c.pin.ensures c.in_ok-drive.ensures.alone) (rw c.deref-2.ensures.value at passes)
     (subst (λ (k : Kept). IsMore k c.all_apart-answer.new.self) (c.in_ok-drive.ensures.same ∙ c.in_ok-config.ensures.same) c.all_apart-answer.ensures.advances.more) is_no))
     c.all_apart-answer.ensures.passes
+
+pub returns-clause-bad_each : goal.returns-clause-bad_each
+returns-clause-bad_each g c =
+    let q = c.args.way.now in
+    let config = c.in_ok-config.config.config in
+    let laid : IsLoopConfig c.args.facts.now.shape q q (cross_numbers c.args.beside.now.ties.items) config = subst (λ (xs : List Cross). IsLoopConfig c.args.facts.now.shape q q (cross_numbers xs) config) c.deref.ensures.value c.in_ok-config.ensures.laid in
+    if_ok_so c.all_apart-answer.result c.all_apart-answer.ensures.passes_each (λ yes passes f e is_no.
+    rw (c.give_back_drive.ensures, c.give_back.ensures)
+    (part_bad c.requires.known c.requires.way c.requires.beside laid (subst (IsDrivenAlone c.in_ok-drive.drive) c.pin.ensures c.in_ok-drive.ensures.alone) (rw c.deref-2.ensures.value at (passes f e))
+    (subst (λ (k : Kept). IsMore k c.all_apart-answer.new.self) (c.in_ok-drive.ensures.same ∙ c.in_ok-config.ensures.same) c.all_apart-answer.ensures.advances.more) is_no))

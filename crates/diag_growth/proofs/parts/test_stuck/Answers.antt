@@ -5,6 +5,7 @@ use Rattle.diag_tests.specs.Configs.{IsLoopConfig}
 use Rattle.diag_evidence.specs.Kept.{Kept, IsMore, Gains, these_wires}
 use Rattle.diag_evidence.proofs.Lists.{route_passes}
 use Rattle.diag_growth.proofs.Parting.{end_on, swing_kept, swing_bad}
+use Rattle.diag_known.proofs.Settling.{if_ok_so}
 use Rattle.diag_growth.proofs.parts.test_stuck.Goals as goal
 
 pub keeps_wire-requires : goal.keeps_wire-requires
@@ -26,3 +27,15 @@ returns-clause-bad g c =
     (subst (IsDrivenAlone c.in_ok-low.low) c.pin.ensures c.in_ok-low.ensures.alone) c.in_ok-high.ensures.released passes)
     (subst (λ (k : Kept). IsMore k c.test_stuck-answer.new.self) (c.in_ok-high.ensures.same ∙ c.in_ok-low.ensures.same ∙ c.in_ok-config.ensures.same) c.test_stuck-answer.ensures.advances.more) is_no))
     c.test_stuck-answer.ensures.passes
+
+pub returns-clause-bad_each : goal.returns-clause-bad_each
+returns-clause-bad_each g c =
+    let m = c.args.facts.now.shape in
+    let q = c.args.way.now in
+    let laid : IsLoopConfig m q q [] c.in_ok-config.config.config = c.in_ok-config.ensures.laid in
+    if_ok_so c.test_stuck-answer.result c.test_stuck-answer.ensures.passes_each (λ yes passes f e is_no.
+    rw (c.give_back_drive-2.ensures, c.give_back_drive.ensures, c.give_back.ensures)
+    (swing_bad c.requires.known c.requires.way
+    (route_passes _ m c.in_ok-config.config.config q c.in_ok-low.low c.in_ok-high.high yes laid c.requires.way.route
+    (subst (IsDrivenAlone c.in_ok-low.low) c.pin.ensures c.in_ok-low.ensures.alone) c.in_ok-high.ensures.released (passes f e))
+    (subst (λ (k : Kept). IsMore k c.test_stuck-answer.new.self) (c.in_ok-high.ensures.same ∙ c.in_ok-low.ensures.same ∙ c.in_ok-config.ensures.same) c.test_stuck-answer.ensures.advances.more) is_no))

@@ -6,11 +6,12 @@ use Rattle.diag_evidence.proofs.Keeping.{advances_then}
 use Rattle.diag_known.specs.Vocabulary.{IsFieldOf, AreLinked, AreLinks}
 use Rattle.diag_growth.specs.Grown.{IsGrown}
 use Rattle.diag_growth.specs.Looks.{AreAllMarks, AreTried}
-use Rattle.diag_growth.proofs.Circling.{first_marks, first_unspent, grows_nothing, growing_first, growing_next, growing_closed, growing_in, growing_most, growing_few}
+use Rattle.diag_growth.proofs.Circling.{first_marks, first_unspent, grows_nothing, growing_first, growing_next, growing_closed, growing_in, growing_most, growing_few, growing_start}
 use Rattle.diag_growth.proofs.Ending.{grows_in}
 use Rattle.diag_growth.proofs.Leaving.{spends_told}
 use Rattle.diag_known.proofs.Linking.{linked_of}
 use Rattle.diag_growth.proofs.Taken.{no_loads, takes_none, takes_most, takes_few}
+use Rattle.diag_growth.proofs.Explained.{held}
 use Rattle.diag_growth.proofs.rounds.grow.Goals as goal
 
 pub links_of-requires : goal.links_of-requires
@@ -28,11 +29,17 @@ returns-in_default-new-clause-loads g c = no_loads c.args.facts.now c.args.field
 pub returns-in_default-clause-few : goal.returns-in_default-clause-few
 returns-in_default-clause-few g c = takes_none c.requires.field refl
 
+pub returns-in_default-clause-few_each : goal.returns-in_default-clause-few_each
+returns-in_default-clause-few_each g c = λ f e. takes_none c.requires.field refl
+
 pub returns-in_default-new-clause-grows : goal.returns-in_default-new-clause-grows
 returns-in_default-new-clause-grows g c = grows_nothing c.args.known.now.steps
 
 pub returns-in_default-new-clause-few : goal.returns-in_default-new-clause-few
 returns-in_default-new-clause-few g c = takes_none c.requires.field refl
+
+pub returns-in_default-new-clause-few_each : goal.returns-in_default-new-clause-few_each
+returns-in_default-new-clause-few_each g c = λ f e. takes_none c.requires.field refl
 
 pub look_on-requires-clause-links : goal.look_on-requires-clause-links
 look_on-requires-clause-links g c = linked_of (subst (λ (m : Shape). AreLinks m c.args.field.now c.in-Ok.near.items) c.shape-shape.ensures c.in-Ok.ensures)
@@ -52,10 +59,15 @@ returns-in_err-look_on-clause-loads g c = takes_most c.requires.field (subst (λ
 pub returns-in_err-look_on-clause-few : goal.returns-in_err-look_on-clause-few
 returns-in_err-look_on-clause-few g c = takes_few c.requires.field (subst (λ (m : Shape). AreLinks m c.args.field.now c.in-Ok.near.items) c.shape-shape.ensures c.in-Ok.ensures) c.in-Ok-new.ensures.barred (first_unspent (record { len = c.in-Ok-new.ensures.len; offered = c.in-Ok-new.ensures.offered; second = c.in-Ok-new.ensures.second; between = c.in-Ok-new.ensures.between })) c.look_on.ensures.spends
 
+pub returns-in_err-look_on-clause-few_each : goal.returns-in_err-look_on-clause-few_each
+returns-in_err-look_on-clause-few_each g c = λ f e. takes_few c.requires.field (subst (λ (m : Shape). AreLinks m c.args.field.now c.in-Ok.near.items) c.shape-shape.ensures c.in-Ok.ensures) c.in-Ok-new.ensures.barred (first_unspent (record { len = c.in-Ok-new.ensures.len; offered = c.in-Ok-new.ensures.offered; second = c.in-Ok-new.ensures.second; between = c.in-Ok-new.ensures.between })) (c.look_on.ensures.spends_each f e (first_marks c.requires.field (record { len = c.in-Ok-new.ensures.len; offered = c.in-Ok-new.ensures.offered; second = c.in-Ok-new.ensures.second; between = c.in-Ok-new.ensures.between })))
+
 pub pins-init : goal.pins-init
 pins-init g c = record {
   advances = c.look_on.ensures.advances;
   growing = growing_first c.in-Ok-new.ensures.barred (record { len = c.in-Ok-new.ensures.len; offered = c.in-Ok-new.ensures.offered; second = c.in-Ok-new.ensures.second; between = c.in-Ok-new.ensures.between }) c.look_on.ensures.grows c.in_ok-look_on.ensures.tried c.in_ok-look_on.ensures.grown c.in_ok-look_on.ensures.marks c.look_on.ensures.spends;
+  growing_each = λ f e. growing_start c.requires.field c.in-Ok-new.ensures.barred (record { len = c.in-Ok-new.ensures.len; offered = c.in-Ok-new.ensures.offered; second = c.in-Ok-new.ensures.second; between = c.in-Ok-new.ensures.between }) c.look_on.ensures.grows
+      (c.in_ok-look_on.ensures.tried_each f e) (c.in_ok-look_on.ensures.grown_each f e) (c.in_ok-look_on.ensures.marks_each f e) (c.look_on.ensures.spends_each f e);
 }
 
 pub grow_pin-requires-clause-known : goal.grow_pin-requires-clause-known
@@ -84,6 +96,10 @@ returns-in_err-grow_pin-clause-loads g c = growing_most c.pins.invariant.growing
 pub returns-in_err-grow_pin-clause-few : goal.returns-in_err-grow_pin-clause-few
 returns-in_err-grow_pin-clause-few g c = growing_few c.pins.invariant.growing c.requires.field (subst (λ (m : Shape). AreLinks m c.args.field.now c.in-Ok.near.items) c.shape-shape.ensures c.in-Ok.ensures) c.pins.invariant.advances.more c.pins.invariant.advances.holds (spends_told (ap (λ m. m.faults) c.pins.invariant.advances.machine) c.grow_pin.ensures.spends)
 
+pub returns-in_err-grow_pin-clause-few_each : goal.returns-in_err-grow_pin-clause-few_each
+returns-in_err-grow_pin-clause-few_each g c = λ f e. let before = c.grow_pin.ensures.advances.narrows f e in let old = c.pins.invariant.growing_each f before in
+    growing_few old c.requires.field (subst (λ (m : Shape). AreLinks m c.args.field.now c.in-Ok.near.items) c.shape-shape.ensures c.in-Ok.ensures) c.pins.invariant.advances.more (held c.pins.invariant.advances before) (c.grow_pin.ensures.spends_each f e old.marks)
+
 pub pins-preserved : goal.pins-preserved
 pins-preserved g c =
     let old = c.pins.invariant in
@@ -96,6 +112,9 @@ pins-preserved g c =
           IsGrown told c.grow_pin.new.facts c.in-Ok.near.items c.grow_pin.new.known.steps c.grow_pin.new.marks.barred (length c.grow_pin.new.known.steps)) same c.in_ok-grow_pin.ensures.grown old.growing.grown)
           c.in_ok-grow_pin.ensures.pin
           (subst (λ (told : Option Faults). AreAllMarks told c.grow_pin.new.facts c.in-Ok.near.items c.grow_pin.new.known.steps c.grow_pin.new.marks) same c.in_ok-grow_pin.ensures.marks) (spends_told (ap (λ m. m.faults) c.pins.invariant.advances.machine) c.grow_pin.ensures.spends);
+      growing_each = λ f e. let before = c.grow_pin.ensures.advances.narrows f e in let each = old.growing_each f before in
+          growing_next old.advances.more (held old.advances before) c.grow_pin.ensures.advances.more each c.grow_pin.ensures.grows (c.in_ok-grow_pin.ensures.tried_each f e each.marks)
+          (c.in_ok-grow_pin.ensures.grown_each f e each.marks each.grown) c.in_ok-grow_pin.ensures.pin (c.in_ok-grow_pin.ensures.marks_each f e each.marks) (c.grow_pin.ensures.spends_each f e each.marks);
     }
 
 pub returns-clause-known : goal.returns-clause-known
@@ -111,8 +130,18 @@ returns-clause-closed g c =
     growing_closed (subst (λ (m : Shape). IsFieldOf m c.args.field.now) (sym shape) c.requires.field) (c.the_numbering_is_sound.ensures.tree c.pins.facts.shape) (c.the_crosspoints_are_sound.ensures.meetings c.pins.facts.shape)
     (subst (λ (m : Shape). AreLinks m c.args.field.now c.in-Ok.near.items) (sym shape) (subst (λ (m : Shape). AreLinks m c.args.field.now c.in-Ok.near.items) c.shape-shape.ensures c.in-Ok.ensures)) (omega (arith, end)) c.pins.invariant.growing
 
+pub returns-clause-closed_each : goal.returns-clause-closed_each
+returns-clause-closed_each g c =
+    let shape = c.pins.invariant.advances.more.shape in
+    let end : c.pins-pin-end.result ≡ pins_of c.pins.facts.shape = c.pins-pin-end.ensures.pins ∙ ap pins_of (c.shape-shape.ensures ∙ sym shape) in
+    λ f e. growing_closed (subst (λ (m : Shape). IsFieldOf m c.args.field.now) (sym shape) c.requires.field) (c.the_numbering_is_sound.ensures.tree c.pins.facts.shape) (c.the_crosspoints_are_sound.ensures.meetings c.pins.facts.shape)
+    (subst (λ (m : Shape). AreLinks m c.args.field.now c.in-Ok.near.items) (sym shape) (subst (λ (m : Shape). AreLinks m c.args.field.now c.in-Ok.near.items) c.shape-shape.ensures c.in-Ok.ensures)) (omega (arith, end)) (c.pins.invariant.growing_each f e)
+
 pub returns-clause-loads : goal.returns-clause-loads
 returns-clause-loads g c = takes_most c.requires.field (subst (λ (m : Shape). AreLinks m c.args.field.now c.in-Ok.near.items) c.shape-shape.ensures c.in-Ok.ensures) c.pins.invariant.growing.outside c.pins.invariant.growing.unspent c.pins.invariant.growing.spends
 
 pub returns-clause-few : goal.returns-clause-few
 returns-clause-few g c = takes_few c.requires.field (subst (λ (m : Shape). AreLinks m c.args.field.now c.in-Ok.near.items) c.shape-shape.ensures c.in-Ok.ensures) c.pins.invariant.growing.outside c.pins.invariant.growing.unspent c.pins.invariant.growing.spends
+
+pub returns-clause-few_each : goal.returns-clause-few_each
+returns-clause-few_each g c = λ f e. let each = c.pins.invariant.growing_each f e in takes_few c.requires.field (subst (λ (m : Shape). AreLinks m c.args.field.now c.in-Ok.near.items) c.shape-shape.ensures c.in-Ok.ensures) each.outside each.unspent each.spends

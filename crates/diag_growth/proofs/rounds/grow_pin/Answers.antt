@@ -13,6 +13,8 @@ use Rattle.diag_growth.proofs.Circling.{grown_at, pin_grows, pin_marks, pin_has}
 use Rattle.diag_growth.proofs.Leaving.{spends_told}
 use Rattle.diag_known.proofs.Marking.{spends_none, spends_then, spends_barred, takes_two}
 use Rattle.diag_growth.proofs.Stages.{grows_itself, grows_then, grown_on, longer, tried_none, tried_one, tried_then}
+use Rattle.diag_growth.proofs.Explained.{held}
+use Rattle.diag_known.proofs.Settling.{on_ok_so}
 use Rattle.diag_growth.proofs.rounds.grow_pin.Goals as goal
 
 pub has-requires : goal.has-requires
@@ -27,11 +29,20 @@ returns-then-has-clause-grows g c = grows_itself c.requires.known (more_itself c
 pub returns-then-has-clause-tried : goal.returns-then-has-clause-tried
 returns-then-has-clause-tried g c = tried_none refl
 
+pub returns-then-has-clause-tried_each : goal.returns-then-has-clause-tried_each
+returns-then-has-clause-tried_each g c = λ f e marks. tried_none refl
+
 pub returns-then-has-clause-grown : goal.returns-then-has-clause-grown
 returns-then-has-clause-grown g c = λ grown. grown
 
+pub returns-then-has-clause-grown_each : goal.returns-then-has-clause-grown_each
+returns-then-has-clause-grown_each g c = λ f e marks grown. grown
+
 pub returns-then-has-clause-spends : goal.returns-then-has-clause-spends
 returns-then-has-clause-spends g c = spends_none refl refl
+
+pub returns-then-has-clause-spends_each : goal.returns-then-has-clause-spends_each
+returns-then-has-clause-spends_each g c = λ f e marks. spends_none refl refl
 
 pub returns-then-has-2-clause-grows : goal.returns-then-has-2-clause-grows
 returns-then-has-2-clause-grows g c = grows_itself c.requires.known (more_itself c.args.facts.now) refl
@@ -39,11 +50,20 @@ returns-then-has-2-clause-grows g c = grows_itself c.requires.known (more_itself
 pub returns-then-has-2-clause-tried : goal.returns-then-has-2-clause-tried
 returns-then-has-2-clause-tried g c = tried_none refl
 
+pub returns-then-has-2-clause-tried_each : goal.returns-then-has-2-clause-tried_each
+returns-then-has-2-clause-tried_each g c = λ f e marks. tried_none refl
+
 pub returns-then-has-2-clause-grown : goal.returns-then-has-2-clause-grown
 returns-then-has-2-clause-grown g c = λ grown. grown
 
+pub returns-then-has-2-clause-grown_each : goal.returns-then-has-2-clause-grown_each
+returns-then-has-2-clause-grown_each g c = λ f e marks grown. grown
+
 pub returns-then-has-2-clause-spends : goal.returns-then-has-2-clause-spends
 returns-then-has-2-clause-spends g c = spends_none refl refl
+
+pub returns-then-has-2-clause-spends_each : goal.returns-then-has-2-clause-spends_each
+returns-then-has-2-clause-spends_each g c = λ f e marks. spends_none refl refl
 
 pub returns-then-has-clause-pin : goal.returns-then-has-clause-pin
 returns-then-has-clause-pin g c = inr (ap (has_number c.args.marks.now.barred) (sym (c.pin-wire.ensures.wire ∙ ap (λ m. pin_wire m c.args.pin) c.shape.ensures)) ∙ sym c.has.ensures ∙ c.if-has.true)
@@ -65,6 +85,9 @@ returns-in_err-try_pin-clause-grows g c = pin_grows c.requires.marks.are (subst 
 
 pub returns-in_err-try_pin-clause-spends : goal.returns-in_err-try_pin-clause-spends
 returns-in_err-try_pin-clause-spends g c = spends_barred _ _ c.requires.marks.are (subst (λ w. w < wires_of c.args.facts.now.shape) (c.pin-wire.ensures.wire ∙ ap (λ m. pin_wire m c.args.pin) c.shape.ensures) (subst (λ (m : Shape). c.pin-wire.result.0 < wires_of m) c.shape.ensures c.pin-wire.ensures.within)) (ap (has_number c.args.marks.now.barred) (sym (c.pin-wire.ensures.wire ∙ ap (λ m. pin_wire m c.args.pin) c.shape.ensures)) ∙ sym c.has.ensures ∙ c.if-has.false) c.try_pin.ensures.barred (takes_two c.try_pin.ensures.loads)
+
+pub returns-in_err-try_pin-clause-spends_each : goal.returns-in_err-try_pin-clause-spends_each
+returns-in_err-try_pin-clause-spends_each g c = λ f e marks. spends_barred _ _ marks.are (subst (λ w. w < wires_of c.args.facts.now.shape) (c.pin-wire.ensures.wire ∙ ap (λ m. pin_wire m c.args.pin) c.shape.ensures) (subst (λ (m : Shape). c.pin-wire.result.0 < wires_of m) c.shape.ensures c.pin-wire.ensures.within)) (ap (has_number c.args.marks.now.barred) (sym (c.pin-wire.ensures.wire ∙ ap (λ m. pin_wire m c.args.pin) c.shape.ensures)) ∙ sym c.has.ensures ∙ c.if-has.false) c.try_pin.ensures.barred (takes_two c.try_pin.ensures.loads)
 
 pub look_on-requires-clause-links : goal.look_on-requires-clause-links
 look_on-requires-clause-links g c = subst (λ (m : Shape). AreLinked m c.args.near.now.items) (sym c.try_pin.ensures.advances.more.shape) c.requires.links
@@ -91,6 +114,14 @@ returns-clause-tried g c =
     on_ok_weaker c.look_on.result (λ second. tried_then step.more step.steps c.look_on.ensures.advances.more first
     (subst (λ (told : Option Faults). AreTried told c.look_on.new.facts c.look_on.new.known.steps c.try_pin.new.marks.barred c.look_on.new.marks.barred) (ap (λ m. m.faults) c.try_pin.ensures.advances.machine) second)) c.look_on.ensures.tried
 
+pub returns-clause-tried_each : goal.returns-clause-tried_each
+returns-clause-tried_each g c =
+    let grows = pin_grows c.requires.marks.are (subst (λ w. w < wires_of c.args.facts.now.shape) (c.pin-wire.ensures.wire ∙ ap (λ m. pin_wire m c.args.pin) c.shape.ensures) (subst (λ (m : Shape). c.pin-wire.result.0 < wires_of m) c.shape.ensures c.pin-wire.ensures.within)) (ap (has_number c.args.marks.now.barred) (sym (c.pin-wire.ensures.wire ∙ ap (λ m. pin_wire m c.args.pin) c.shape.ensures)) ∙ sym c.has.ensures ∙ c.if-has.false) c.try_pin.ensures.known c.try_pin.ensures.more c.try_pin.ensures.barred in
+    let step = c.look_on.ensures.grows in
+    on_ok_so c.look_on.result c.look_on.ensures.tried_each (λ second f e marks. let before = c.look_on.ensures.advances.narrows f e in
+    tried_then step.more step.steps c.look_on.ensures.advances.more (tried_one (ap (λ (m : Marks). m.barred) c.try_pin.ensures.barred) (c.in_ok-try_pin.ensures.tried_each f before))
+    (second f e (pin_marks (pin_wire c.args.facts.now.shape c.args.pin) c.try_pin.ensures.advances.more grows marks (c.in_ok-try_pin.ensures.marks_each f before marks.are) c.try_pin.ensures.barred)))
+
 pub returns-clause-grown : goal.returns-clause-grown
 returns-clause-grown g c =
     let grows = pin_grows c.requires.marks.are (subst (λ w. w < wires_of c.args.facts.now.shape) (c.pin-wire.ensures.wire ∙ ap (λ m. pin_wire m c.args.pin) c.shape.ensures) (subst (λ (m : Shape). c.pin-wire.result.0 < wires_of m) c.shape.ensures c.pin-wire.ensures.within)) (ap (has_number c.args.marks.now.barred) (sym (c.pin-wire.ensures.wire ∙ ap (λ m. pin_wire m c.args.pin) c.shape.ensures)) ∙ sym c.has.ensures ∙ c.if-has.false) c.try_pin.ensures.known c.try_pin.ensures.more c.try_pin.ensures.barred in
@@ -100,11 +131,29 @@ returns-clause-grown g c =
     (grown_at (sym c.len-from.ensures.len)
     (grown_on c.try_pin.ensures.advances.more (omega arith) grows grown))) c.look_on.ensures.grown
 
+pub returns-clause-grown_each : goal.returns-clause-grown_each
+returns-clause-grown_each g c =
+    let grows = pin_grows c.requires.marks.are (subst (λ w. w < wires_of c.args.facts.now.shape) (c.pin-wire.ensures.wire ∙ ap (λ m. pin_wire m c.args.pin) c.shape.ensures) (subst (λ (m : Shape). c.pin-wire.result.0 < wires_of m) c.shape.ensures c.pin-wire.ensures.within)) (ap (has_number c.args.marks.now.barred) (sym (c.pin-wire.ensures.wire ∙ ap (λ m. pin_wire m c.args.pin) c.shape.ensures)) ∙ sym c.has.ensures ∙ c.if-has.false) c.try_pin.ensures.known c.try_pin.ensures.more c.try_pin.ensures.barred in
+    on_ok_so c.look_on.result c.look_on.ensures.grown_each (λ on f e marks grown. let before = c.look_on.ensures.advances.narrows f e in
+    on f e (pin_marks (pin_wire c.args.facts.now.shape c.args.pin) c.try_pin.ensures.advances.more grows marks (c.in_ok-try_pin.ensures.marks_each f before marks.are) c.try_pin.ensures.barred) (grown_at (sym c.len-from.ensures.len) (grown_on c.try_pin.ensures.advances.more (omega arith) grows grown)))
+
 pub returns-clause-pin : goal.returns-clause-pin
 returns-clause-pin g c = on_ok_weaker c.look_on.result (λ marks. inr (c.look_on.ensures.grows.stays.stays (pin_wire c.args.facts.now.shape c.args.pin) (pin_has c.requires.marks.are (subst (λ w. w < wires_of c.args.facts.now.shape) (c.pin-wire.ensures.wire ∙ ap (λ m. pin_wire m c.args.pin) c.shape.ensures) (subst (λ (m : Shape). c.pin-wire.result.0 < wires_of m) c.shape.ensures c.pin-wire.ensures.within)) c.try_pin.ensures.barred))) c.look_on.ensures.marks
 
 pub returns-clause-marks : goal.returns-clause-marks
 returns-clause-marks g c = subst (λ (told : Option Faults). OnOk c.look_on.result (AreAllMarks told c.look_on.new.facts c.args.near.now.items c.look_on.new.known.steps c.look_on.new.marks)) (ap (λ m. m.faults) c.try_pin.ensures.advances.machine) c.look_on.ensures.marks
 
+pub returns-clause-marks_each : goal.returns-clause-marks_each
+returns-clause-marks_each g c =
+    let grows = pin_grows c.requires.marks.are (subst (λ w. w < wires_of c.args.facts.now.shape) (c.pin-wire.ensures.wire ∙ ap (λ m. pin_wire m c.args.pin) c.shape.ensures) (subst (λ (m : Shape). c.pin-wire.result.0 < wires_of m) c.shape.ensures c.pin-wire.ensures.within)) (ap (has_number c.args.marks.now.barred) (sym (c.pin-wire.ensures.wire ∙ ap (λ m. pin_wire m c.args.pin) c.shape.ensures)) ∙ sym c.has.ensures ∙ c.if-has.false) c.try_pin.ensures.known c.try_pin.ensures.more c.try_pin.ensures.barred in
+    on_ok_so c.look_on.result c.look_on.ensures.marks_each (λ each f e marks. let before = c.look_on.ensures.advances.narrows f e in
+    each f e (pin_marks (pin_wire c.args.facts.now.shape c.args.pin) c.try_pin.ensures.advances.more grows marks (c.in_ok-try_pin.ensures.marks_each f before marks.are) c.try_pin.ensures.barred))
+
 pub returns-clause-spends : goal.returns-clause-spends
 returns-clause-spends g c = spends_then c.try_pin.ensures.advances.more c.try_pin.ensures.advances.holds (spends_barred _ _ c.requires.marks.are (subst (λ w. w < wires_of c.args.facts.now.shape) (c.pin-wire.ensures.wire ∙ ap (λ m. pin_wire m c.args.pin) c.shape.ensures) (subst (λ (m : Shape). c.pin-wire.result.0 < wires_of m) c.shape.ensures c.pin-wire.ensures.within)) (ap (has_number c.args.marks.now.barred) (sym (c.pin-wire.ensures.wire ∙ ap (λ m. pin_wire m c.args.pin) c.shape.ensures)) ∙ sym c.has.ensures ∙ c.if-has.false) c.try_pin.ensures.barred (takes_two c.try_pin.ensures.loads)) (spends_told (ap (λ m. m.faults) c.try_pin.ensures.advances.machine) c.look_on.ensures.spends)
+
+pub returns-clause-spends_each : goal.returns-clause-spends_each
+returns-clause-spends_each g c =
+    let grows = pin_grows c.requires.marks.are (subst (λ w. w < wires_of c.args.facts.now.shape) (c.pin-wire.ensures.wire ∙ ap (λ m. pin_wire m c.args.pin) c.shape.ensures) (subst (λ (m : Shape). c.pin-wire.result.0 < wires_of m) c.shape.ensures c.pin-wire.ensures.within)) (ap (has_number c.args.marks.now.barred) (sym (c.pin-wire.ensures.wire ∙ ap (λ m. pin_wire m c.args.pin) c.shape.ensures)) ∙ sym c.has.ensures ∙ c.if-has.false) c.try_pin.ensures.known c.try_pin.ensures.more c.try_pin.ensures.barred in
+    λ f e marks. let before = c.look_on.ensures.advances.narrows f e in
+    spends_then c.try_pin.ensures.advances.more (held c.try_pin.ensures.advances before) (spends_barred _ _ marks.are (subst (λ w. w < wires_of c.args.facts.now.shape) (c.pin-wire.ensures.wire ∙ ap (λ m. pin_wire m c.args.pin) c.shape.ensures) (subst (λ (m : Shape). c.pin-wire.result.0 < wires_of m) c.shape.ensures c.pin-wire.ensures.within)) (ap (has_number c.args.marks.now.barred) (sym (c.pin-wire.ensures.wire ∙ ap (λ m. pin_wire m c.args.pin) c.shape.ensures)) ∙ sym c.has.ensures ∙ c.if-has.false) c.try_pin.ensures.barred (takes_two c.try_pin.ensures.loads)) (c.look_on.ensures.spends_each f e (pin_marks (pin_wire c.args.facts.now.shape c.args.pin) c.try_pin.ensures.advances.more grows marks (c.in_ok-try_pin.ensures.marks_each f before marks.are) c.try_pin.ensures.barred))

@@ -2,6 +2,8 @@ use Rattle.std.proofs.Common.{◌≤◌, ◌-◌, length}
 use Rattle.machine_shape.specs.Shape.{wires_of}
 use Rattle.diag_growth.specs.Grown.{IsGrown}
 use Rattle.diag_growth.proofs.SoFar.{HasLooked}
+use Rattle.rig.specs.Rig.{ForEach}
+use Rattle.diag_growth.specs.Looks.{AreAllMarks}
 use Rattle.diag_growth.proofs.rounds.look_on.Given as goal
 
 abbrev pub invariant-places : goal.invariant-places
@@ -9,7 +11,9 @@ invariant-places g l =
     let rig0 = (goal.Rig-dyn g (l.fn.rig.vtable, l.fn.rig.value)).rig_state l.fn.rig.value in
     let rig = (goal.Rig-dyn g (l.rig.vtable, l.rig.value)).rig_state l.rig.value in
     HasLooked rig0 rig l.fn.facts l.facts l.near.items l.fn.known l.known l.fn.marks l.marks
-    ((l.place ≤ length l.known.steps) × (IsGrown rig0.machine.faults l.fn.facts l.near.items l.fn.known.steps l.fn.marks.barred l.from → IsGrown rig0.machine.faults l.facts l.near.items l.known.steps l.marks.barred l.place))
+    ((l.place ≤ length l.known.steps) × (IsGrown rig0.machine.faults l.fn.facts l.near.items l.fn.known.steps l.fn.marks.barred l.from → IsGrown rig0.machine.faults l.facts l.near.items l.known.steps l.marks.barred l.place)
+    × ForEach rig (λ told. AreAllMarks told l.fn.facts l.near.items l.fn.known.steps l.fn.marks → IsGrown told l.fn.facts l.near.items l.fn.known.steps l.fn.marks.barred l.from →
+    IsGrown told l.facts l.near.items l.known.steps l.marks.barred l.place))
 
 abbrev pub decreases-places : goal.decreases-places
 decreases-places g l = wires_of l.facts.shape - l.place

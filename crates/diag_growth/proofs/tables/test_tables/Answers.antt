@@ -2,8 +2,9 @@ use Rattle.std.proofs.Common.{◌∙◌, ◌+◌, get_or, refl, sym, arith}
 use Rattle.diag_evidence.proofs.Keeping.{advances_itself, advances_then}
 use Rattle.diag_known.proofs.Later.{known_later}
 use Rattle.diag_growth.proofs.Fresh.{takes_all, takes_more}
-use Rattle.diag_growth.proofs.Testing.{tested_first, tested_next, tested_all, table_at, only_none, only_then, table_below, without_at, without_later}
+use Rattle.diag_growth.proofs.Testing.{tested_first, tested_next, tested_all, table_at, only_none, only_then, table_below, without_at, without_later, tested_on}
 use Rattle.diag_known.proofs.Linking.{links_same}
+use Rattle.diag_growth.proofs.Explained.{held}
 use Rattle.diag_growth.proofs.tables.test_tables.Goals as goal
 
 pub returns-in_default-clause-only : goal.returns-in_default-clause-only
@@ -20,6 +21,7 @@ tables-init g c = record {
   advances = advances_itself _ c.args.facts.now;
   only = only_none;
   tested = tested_first;
+  tested_each = λ f e. tested_first;
   without = without_at (sym c.in-Ok-without_of.ensures.hextant) c.in-Ok-without_of.ensures.stands;
   loads = omega arith;
 }
@@ -47,12 +49,18 @@ tables-preserved g c =
       advances = advances_then old.advances new.advances;
       only = only_then old.only new.only;
       tested = tested_next old.advances old.only new.advances.more (table_at c.args.tables.now c.tables.i (get_or c.args.tables.now c.tables.i (record { 0 = 0 })) (record { 0 = 0 }) c.tables-test.true refl) old.tested c.in_ok-test_seated.ensures.table;
+      tested_each = λ f e. let before = new.advances.narrows f e in
+          tested_on (held old.advances before) old.advances.more old.only new.advances.more (table_at c.args.tables.now c.tables.i (get_or c.args.tables.now c.tables.i (record { 0 = 0 })) (record { 0 = 0 }) c.tables-test.true refl) (old.tested_each f before)
+          (c.in_ok-test_seated.ensures.table_each f e);
       without = without_later new.advances.more new.only c.in_ok-test_seated.ensures.stands;
       loads = takes_more c.args.tables.now c.tables.i (record { 0 = 0 }) _ c.tables-test.true old.advances.more old.loads new.loads;
     }
 
 pub returns-clause-tables : goal.returns-clause-tables
 returns-clause-tables g c = tested_all c.tables.invariant.tested (let t = c.tables-test.false in omega (arith, t))
+
+pub returns-clause-tables_each : goal.returns-clause-tables_each
+returns-clause-tables_each g c = λ f e. tested_all (c.tables.invariant.tested_each f e) (let t = c.tables-test.false in omega (arith, t))
 
 pub returns-clause-loads : goal.returns-clause-loads
 returns-clause-loads g c = takes_all c.args.facts.now c.args.tables.now c.tables.i _ c.tables.invariant.loads

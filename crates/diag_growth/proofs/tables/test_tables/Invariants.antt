@@ -4,6 +4,7 @@ use Rattle.diag_growth.specs.Seats.{AddsOnlyTableFacts}
 use Rattle.diag_growth.specs.Seating.{AreAllWithout}
 use Rattle.diag_growth.specs.Tables.{fresh_tables}
 use Rattle.diag_growth.proofs.Testing.{AreTested}
+use Rattle.rig.specs.Rig.{ForEach}
 use Rattle.diag_growth.proofs.tables.test_tables.Given as goal
 
 abbrev pub invariant-tables : goal.invariant-tables
@@ -14,6 +15,7 @@ invariant-tables g l =
       advances : Advances rig0 rig l.fn.facts l.facts;
       only : AddsOnlyTableFacts l.fn.facts l.facts;
       tested : AreTested rig0.machine.faults l.fn.facts l.facts l.known.steps l.tables l.i;
+      tested_each : ForEach rig (λ told. AreTested told l.fn.facts l.facts l.known.steps l.tables l.i);
       without : AreAllWithout l.facts l.known.steps l.without.hextant.0 l.without.known;
       loads : rig.loads ≤ rig0.loads + 130 * fresh_tables l.fn.facts (take l.i l.tables);
     }

@@ -8,6 +8,7 @@ use Rattle.diag_evidence.specs.Kept.{Kept, IsMore}
 use Rattle.diag_evidence.proofs.Lists.{or_third}
 use Rattle.diag_known.proofs.Adding.{all_numbers}
 use Rattle.diag_known.proofs.Hung.{laid_as, pulled_as, hung_within, hung_tied, hung_lost, hung_sound}
+use Rattle.diag_known.proofs.Settling.{if_ok_so, kept_cross}
 use Rattle.diag_known.proofs.hang.toggle_hung.Goals as goal
 
 pub laid-requires-clause-ties : goal.laid-requires-clause-ties
@@ -30,7 +31,20 @@ returns-clause-lost g c =
     rw (c.give_back_drive.ensures, c.give_back.ensures) (hung_lost c.requires.known c.requires.offer c.requires.way c.requires.hung (laid_as c.deref.ensures.value c.in_ok-config.ensures.laid) (pulled_as c.deref-2.ensures.value c.in_ok-drive.ensures.pulled) (rw c.pin.ensures at passes) (subst (λ (k : Kept). IsMore k c.toggle_cross-answer.new.self) (c.in_ok-drive.ensures.same ∙ c.in_ok-config.ensures.same) c.toggle_cross-answer.ensures.advances.more) is_no))
     c.toggle_cross-answer.ensures.passes
 
+pub returns-clause-lost_each : goal.returns-clause-lost_each
+returns-clause-lost_each g c =
+    if_ok_so c.toggle_cross-answer.result c.toggle_cross-answer.ensures.passes_each (λ yes passes f e is_no.
+    rw (c.give_back_drive.ensures, c.give_back.ensures) (hung_lost c.requires.known c.requires.offer c.requires.way c.requires.hung (laid_as c.deref.ensures.value c.in_ok-config.ensures.laid) (pulled_as c.deref-2.ensures.value c.in_ok-drive.ensures.pulled) (rw c.pin.ensures at (passes f e)) (subst (λ (k : Kept). IsMore k c.toggle_cross-answer.new.self) (c.in_ok-drive.ensures.same ∙ c.in_ok-config.ensures.same) c.toggle_cross-answer.ensures.advances.more) is_no))
+
 pub returns-clause-faulty : goal.returns-clause-faulty
 returns-clause-faulty g c =
     IfOk-weaker c.toggle_cross-answer.result _ _ (λ yes passes. λ is_no. hung_sound c.requires.known c.requires.offer c.requires.way c.requires.hung (laid_as c.deref.ensures.value c.in_ok-config.ensures.laid) (pulled_as c.deref-2.ensures.value c.in_ok-drive.ensures.pulled) (rw c.pin.ensures at passes) is_no)
     c.toggle_cross-answer.ensures.passes
+
+pub returns-clause-faulty_each : goal.returns-clause-faulty_each
+returns-clause-faulty_each g c =
+    if_ok_so c.toggle_cross-answer.result c.toggle_cross-answer.ensures.passes_each (λ yes passes f e is_no. hung_sound c.requires.known c.requires.offer c.requires.way c.requires.hung (laid_as c.deref.ensures.value c.in_ok-config.ensures.laid) (pulled_as c.deref-2.ensures.value c.in_ok-drive.ensures.pulled) (rw c.pin.ensures at (passes f e)) is_no)
+
+pub returns-clause-kept : goal.returns-clause-kept
+returns-clause-kept g c =
+    if_ok_so c.toggle_cross-answer.result c.toggle_cross-answer.ensures.gains (λ yes gains is. rw (c.give_back_drive.ensures, c.give_back.ensures) (kept_cross c.args.offer.now.foot.cross.0 (gains is)))

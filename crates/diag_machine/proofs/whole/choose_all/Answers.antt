@@ -6,7 +6,7 @@ use Rattle.diag_machine.proofs.Sweeping.{at_most, field_later, marks_back, marks
 use Rattle.diag_machine.proofs.whole.choose_all.Goals as goal
 
 pub choices-init : goal.choices-init
-choices-init g c = record { advances = advances_itself _ c.args.facts.now; known = c.requires.known; field = refl; marks = c.requires.marks; right = c.requires.right; pays = omega arith; paid = refl }
+choices-init g c = record { advances = advances_itself _ c.args.facts.now; known = c.requires.known; field = refl; marks = c.requires.marks; right = c.requires.right; right_each = c.requires.right_each; pays = omega arith; paid = refl }
 
 pub choose_once-requires-clause-field : goal.choose_once-requires-clause-field
 choose_once-requires-clause-field g c = subst (λ (a : Field). IsFieldOf c.choices.facts.shape a) (sym c.choices.invariant.field) (field_later c.choices.invariant.advances.more c.requires.field)
@@ -24,6 +24,7 @@ choices-preserved g c = record {
   field = c.choose_once.ensures.field ∙ c.choices.invariant.field;
   marks = marks_back c.choices.invariant.advances.more c.choose_once.ensures.marks;
   right = marks_by (ap (λ m. m.faults) c.choices.invariant.advances.machine) c.choose_once.ensures.right;
+  right_each = c.choose_once.ensures.right_each;
   pays = at_most c.choose_once.ensures.pays c.choices.invariant.pays;
   paid = c.choose_once.ensures.paid ∙ c.choices.invariant.paid;
 }

@@ -1,6 +1,6 @@
 use Rattle.std.proofs.Common.{◌∙◌, ap}
 use Rattle.diag_evidence.proofs.Keeping.{advances_then}
-use Rattle.diag_machine.proofs.Sweeping.{at_most, field_later, marks_by, marks_of, marks_on, marks_told}
+use Rattle.diag_machine.proofs.Sweeping.{at_most, field_later, marks_by, marks_each, marks_of, marks_on, marks_told}
 use Rattle.diag_machine.proofs.whole.choose_once.Goals as goal
 
 pub sweep_with-requires-clause-field : goal.sweep_with-requires-clause-field
@@ -32,3 +32,15 @@ returns-in_err-sweep_with-clause-paid g c = c.sweep_with.ensures.paid ∙ c.choo
 
 pub returns-clause-paid : goal.returns-clause-paid
 returns-clause-paid g c = c.sweep_with.ensures.paid ∙ c.choose.ensures.paid
+
+pub returns-in_err-sweep_with-clause-right_each : goal.returns-in_err-sweep_with-clause-right_each
+returns-in_err-sweep_with-clause-right_each g c = marks_each c.sweep_with.ensures.right_each c.sweep_with.ensures.advances.narrows (marks_each c.choose.ensures.right_each c.choose.ensures.advances.narrows c.requires.right_each)
+
+pub returns-clause-right_each : goal.returns-clause-right_each
+returns-clause-right_each g c = marks_each c.sweep_with.ensures.right_each c.sweep_with.ensures.advances.narrows (marks_each c.choose.ensures.right_each c.choose.ensures.advances.narrows c.requires.right_each)
+
+pub returns-in_err-choose-clause-right_each : goal.returns-in_err-choose-clause-right_each
+returns-in_err-choose-clause-right_each g c = marks_each c.choose.ensures.right_each c.choose.ensures.advances.narrows c.requires.right_each
+
+pub returns-then-not-branch-clause-right_each : goal.returns-then-not-branch-clause-right_each
+returns-then-not-branch-clause-right_each g c = marks_each c.choose.ensures.right_each c.choose.ensures.advances.narrows c.requires.right_each

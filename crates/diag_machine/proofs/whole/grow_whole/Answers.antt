@@ -25,3 +25,18 @@ returns-clause-loads g c = c.growth_without_bad_is_paid.ensures.most c.args.fiel
 
 pub returns-clause-few : goal.returns-clause-few
 returns-clause-few g c = few_when (λ f told none holds. c.growth_without_bad_is_paid.ensures.few c.args.field.now c.in-Ok.rest c.args.facts.now c.args.bad.now _ _ c.requires.field c.in-Ok.ensures (c.grow.ensures.few.at f told none holds))
+
+pub returns-in_default-clause-few_each : goal.returns-in_default-clause-few_each
+returns-in_default-clause-few_each g c = λ f e. always (let pins = c.growth_without_bad_is_paid.ensures.pins c.args.field.now c.args.facts.now c.requires.field in omega (arith, pins))
+
+pub returns-clause-right_each : goal.returns-clause-right_each
+returns-clause-right_each g c = λ f e. true_later c.grow.ensures.advances.more c.grow.ensures.grows.stays (c.requires.right_each f (c.grow.ensures.advances.narrows f e))
+
+pub returns-clause-reached_each : goal.returns-clause-reached_each
+returns-clause-reached_each g c =
+    on_ok_weaker c.grow.result (λ closed f e. reached_if (sym c.grow.ensures.advances.more.shape) (c.the_numbering_is_sound.ensures.numbered _) c.requires.whole.wires c.requires.whole.crosses
+    (c.closed_without_bad.ensures _ c.grow.new.facts c.grow.new.known.steps c.args.bad.now c.args.field.now c.in-Ok.rest c.in-Ok.ensures (true_later c.grow.ensures.advances.more c.grow.ensures.grows.stays (c.requires.right_each f (c.grow.ensures.advances.narrows f e))) (closed f e)))
+    c.grow.ensures.closed_each
+
+pub returns-clause-few_each : goal.returns-clause-few_each
+returns-clause-few_each g c = λ f e. few_when (λ h is none holds. c.growth_without_bad_is_paid.ensures.few c.args.field.now c.in-Ok.rest c.args.facts.now c.args.bad.now _ _ c.requires.field c.in-Ok.ensures ((c.grow.ensures.few_each f e).at h is none holds))

@@ -53,3 +53,21 @@ returns-clause-reached g c = on_ok_weaker c.grow_whole.result (λ reached. reach
 
 pub returns-clause-loads : goal.returns-clause-loads
 returns-clause-loads g c = again_most _ _ _ _ _ _ _ _ _ _ _ c.pay_for.ensures.pays c.choose_once.ensures.pays (c.growth_without_bad_is_paid.ensures.all c.args.state.now.field c.args.facts.now c.args.bad.now c.requires.field) (size_most c.pay_for.new.self.paid (wires_of c.args.facts.now.shape) (c.pay_for.ensures.len ∙ c.requires.paid)) _ _ _ (at_most (c.growth_without_bad_is_paid.ensures.all c.choose_once.new.state.field c.choose_once.new.facts c.choose_once.new.bad (subst (λ (a : Field). IsFieldOf c.choose_once.new.facts.shape a) (sym c.choose_once.ensures.field) (field_later c.choose_once.ensures.advances.more c.requires.field))) (at_once (ap crosses_of c.choose_once.ensures.advances.more.shape))) (wires_most c.requires.field c.choose_once.ensures.field) c.grow_whole.ensures.loads
+
+pub returns-in_err-choose_once-clause-few_each : goal.returns-in_err-choose_once-clause-few_each
+returns-in_err-choose_once-clause-few_each g c = λ f e. out_never (c.requires.reached_each f (c.choose_once.ensures.advances.narrows f e)) (subst (λ o. IfSome o (λ _. AreLeftOut c.args.facts.now c.args.known.now.steps)) c.in-Some.is c.in-Ok.ensures)
+
+pub returns-then-not-branch-clause-few_each : goal.returns-then-not-branch-clause-few_each
+returns-then-not-branch-clause-few_each g c = λ f e. out_never (c.requires.reached_each f (c.choose_once.ensures.advances.narrows f e)) (subst (λ o. IfSome o (λ _. AreLeftOut c.args.facts.now c.args.known.now.steps)) c.in-Some.is c.in-Ok.ensures)
+
+pub returns-clause-few_each : goal.returns-clause-few_each
+returns-clause-few_each g c = λ f e. out_never (c.requires.reached_each f (c.choose_once.ensures.advances.narrows f (c.grow_whole.ensures.advances.narrows f e))) (subst (λ o. IfSome o (λ _. AreLeftOut c.args.facts.now c.args.known.now.steps)) c.in-Some.is c.in-Ok.ensures)
+
+pub returns-then-not-branch-clause-reached_each : goal.returns-then-not-branch-clause-reached_each
+returns-then-not-branch-clause-reached_each g c = λ f e. reached_then c.choose_once.ensures.advances.more (c.in_ok-choose_once.ensures.same c.if-not-branch.true) (c.requires.reached_each f (c.choose_once.ensures.advances.narrows f e))
+
+pub grow_whole-requires-clause-right_each : goal.grow_whole-requires-clause-right_each
+grow_whole-requires-clause-right_each g c = c.choose_once.ensures.right_each
+
+pub returns-clause-right_each : goal.returns-clause-right_each
+returns-clause-right_each g c = c.grow_whole.ensures.right_each

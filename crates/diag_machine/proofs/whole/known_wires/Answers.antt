@@ -6,7 +6,7 @@ use Rattle.diag_known.specs.declared.field.Field.{Field}
 use Rattle.diag_machine.specs.Stages.{IsWhole}
 use Rattle.diag_evidence.proofs.Keeping.{advances_then}
 use Rattle.diag_machine.proofs.Counted.{grown_few, grown_most, known_few, known_most, pins_same, size_most, swept_few, swept_most, wires_most}
-use Rattle.diag_machine.proofs.Stepping.{reached_told}
+use Rattle.diag_machine.proofs.Stepping.{holds_each, reached_told}
 use Rattle.diag_machine.proofs.Sweeping.{always, at_most, at_once, few_when, field_later, marks_back, marks_by, marks_on, marks_told, whole_later}
 use Rattle.diag_machine.proofs.whole.known_wires.Goals as goal
 
@@ -123,3 +123,62 @@ returns-clause-right g c = marks_by (ap (λ m. m.faults) (c.grow_whole.ensures.a
 
 pub returns-clause-reached : goal.returns-clause-reached
 returns-clause-reached g c = reached_told (ap (λ m. m.faults) (c.grow_whole.ensures.advances.machine ∙ c.sweep_whole.ensures.advances.machine)) c.in_ok-know_lost.ensures.reached
+
+pub grow_whole-requires-clause-right_each : goal.grow_whole-requires-clause-right_each
+grow_whole-requires-clause-right_each g c = c.sweep_whole.ensures.right_each
+
+pub know_lost-requires-clause-right_each : goal.know_lost-requires-clause-right_each
+know_lost-requires-clause-right_each g c = c.grow_whole.ensures.right_each
+
+pub know_lost-requires-clause-reached_each : goal.know_lost-requires-clause-reached_each
+know_lost-requires-clause-reached_each g c = c.in_ok-grow_whole.ensures.reached_each
+
+pub returns-clause-right_each : goal.returns-clause-right_each
+returns-clause-right_each g c = c.know_lost.ensures.right_each
+
+pub returns-clause-reached_each : goal.returns-clause-reached_each
+returns-clause-reached_each g c = c.in_ok-know_lost.ensures.reached_each
+
+pub returns-in_err-sweep_whole-clause-few_each : goal.returns-in_err-sweep_whole-clause-few_each
+returns-in_err-sweep_whole-clause-few_each g c = λ f e.
+    let swept = e in
+    few_when (λ h is none holds. swept_few _ _ _ _ _ _ _ _ _ _ _ _ _ c.sweep_whole.ensures.pays c.in-Ok-first_state.ensures.left c.in-Ok-first_state.ensures.none
+    (c.growth_without_bad_is_paid.ensures.all c.in-Ok-first_state.state.field c.args.facts.now c.args.bad.now c.in-Ok-first_state.ensures.field)
+    (at_most (c.growth_without_bad_is_paid.ensures.all c.sweep_whole.new.state.field c.sweep_whole.new.facts c.sweep_whole.new.bad (subst (λ (a : Field). IsFieldOf c.sweep_whole.new.facts.shape a) (sym c.sweep_whole.ensures.field) (field_later c.sweep_whole.ensures.advances.more c.in-Ok-first_state.ensures.field))) (at_once (ap crosses_of c.sweep_whole.ensures.advances.more.shape)))
+    (c.growth_without_bad_is_paid.ensures.pins c.sweep_whole.new.state.field c.sweep_whole.new.facts (subst (λ (a : Field). IsFieldOf c.sweep_whole.new.facts.shape a) (sym c.sweep_whole.ensures.field) (field_later c.sweep_whole.ensures.advances.more c.in-Ok-first_state.ensures.field)))
+    (pins_same c.sweep_whole.ensures.advances.more.shape c.sweep_whole.ensures.field)
+    (wires_most c.in-Ok-first_state.ensures.field c.sweep_whole.ensures.field)
+    (size_most c.sweep_whole.new.state.choices.paid (wires_of c.args.facts.now.shape) (c.sweep_whole.ensures.paid ∙ c.in-Ok-first_state.ensures.paid)) (ap size_of ((c.sweep_whole.ensures.few_each f swept).at h is none holds)))
+
+pub returns-in_err-grow_whole-clause-few_each : goal.returns-in_err-grow_whole-clause-few_each
+returns-in_err-grow_whole-clause-few_each g c = λ f e.
+    let grown = e in let swept = c.grow_whole.ensures.advances.narrows f grown in
+    few_when (λ h is none holds. grown_few _ _ _ _ _ _ _ _ _ _ _ _ _ c.sweep_whole.ensures.pays c.in-Ok-first_state.ensures.left c.in-Ok-first_state.ensures.none
+    (c.growth_without_bad_is_paid.ensures.all c.in-Ok-first_state.state.field c.args.facts.now c.args.bad.now c.in-Ok-first_state.ensures.field)
+    (at_most (c.growth_without_bad_is_paid.ensures.all c.sweep_whole.new.state.field c.sweep_whole.new.facts c.sweep_whole.new.bad (subst (λ (a : Field). IsFieldOf c.sweep_whole.new.facts.shape a) (sym c.sweep_whole.ensures.field) (field_later c.sweep_whole.ensures.advances.more c.in-Ok-first_state.ensures.field))) (at_once (ap crosses_of c.sweep_whole.ensures.advances.more.shape)))
+    (c.growth_without_bad_is_paid.ensures.pins c.sweep_whole.new.state.field c.sweep_whole.new.facts (subst (λ (a : Field). IsFieldOf c.sweep_whole.new.facts.shape a) (sym c.sweep_whole.ensures.field) (field_later c.sweep_whole.ensures.advances.more c.in-Ok-first_state.ensures.field)))
+    (pins_same c.sweep_whole.ensures.advances.more.shape c.sweep_whole.ensures.field)
+    (wires_most c.in-Ok-first_state.ensures.field c.sweep_whole.ensures.field)
+    (size_most c.sweep_whole.new.state.choices.paid (wires_of c.args.facts.now.shape) (c.sweep_whole.ensures.paid ∙ c.in-Ok-first_state.ensures.paid)) (ap size_of ((c.sweep_whole.ensures.few_each f swept).at h is none holds)) _ ((c.grow_whole.ensures.few_each f grown).at h is none (holds_each c.sweep_whole.ensures.advances swept h is holds)))
+
+pub returns-in_err-know_lost-clause-few_each : goal.returns-in_err-know_lost-clause-few_each
+returns-in_err-know_lost-clause-few_each g c = λ f e.
+    let grown = c.know_lost.ensures.advances.narrows f e in let swept = c.grow_whole.ensures.advances.narrows f grown in
+    few_when (λ h is none holds. known_few _ _ _ _ _ _ _ _ _ _ _ _ _ c.sweep_whole.ensures.pays c.in-Ok-first_state.ensures.left c.in-Ok-first_state.ensures.none
+    (c.growth_without_bad_is_paid.ensures.all c.in-Ok-first_state.state.field c.args.facts.now c.args.bad.now c.in-Ok-first_state.ensures.field)
+    (at_most (c.growth_without_bad_is_paid.ensures.all c.sweep_whole.new.state.field c.sweep_whole.new.facts c.sweep_whole.new.bad (subst (λ (a : Field). IsFieldOf c.sweep_whole.new.facts.shape a) (sym c.sweep_whole.ensures.field) (field_later c.sweep_whole.ensures.advances.more c.in-Ok-first_state.ensures.field))) (at_once (ap crosses_of c.sweep_whole.ensures.advances.more.shape)))
+    (c.growth_without_bad_is_paid.ensures.pins c.sweep_whole.new.state.field c.sweep_whole.new.facts (subst (λ (a : Field). IsFieldOf c.sweep_whole.new.facts.shape a) (sym c.sweep_whole.ensures.field) (field_later c.sweep_whole.ensures.advances.more c.in-Ok-first_state.ensures.field)))
+    (pins_same c.sweep_whole.ensures.advances.more.shape c.sweep_whole.ensures.field)
+    (wires_most c.in-Ok-first_state.ensures.field c.sweep_whole.ensures.field)
+    (size_most c.sweep_whole.new.state.choices.paid (wires_of c.args.facts.now.shape) (c.sweep_whole.ensures.paid ∙ c.in-Ok-first_state.ensures.paid)) (ap size_of ((c.sweep_whole.ensures.few_each f swept).at h is none holds)) _ _ ((c.grow_whole.ensures.few_each f grown).at h is none (holds_each c.sweep_whole.ensures.advances swept h is holds)) ((c.know_lost.ensures.few_each f e).at h is none (holds_each c.grow_whole.ensures.advances grown h is (holds_each c.sweep_whole.ensures.advances swept h is holds))))
+
+pub returns-clause-few_each : goal.returns-clause-few_each
+returns-clause-few_each g c = λ f e.
+    let grown = c.know_lost.ensures.advances.narrows f e in let swept = c.grow_whole.ensures.advances.narrows f grown in
+    few_when (λ h is none holds. known_few _ _ _ _ _ _ _ _ _ _ _ _ _ c.sweep_whole.ensures.pays c.in-Ok-first_state.ensures.left c.in-Ok-first_state.ensures.none
+    (c.growth_without_bad_is_paid.ensures.all c.in-Ok-first_state.state.field c.args.facts.now c.args.bad.now c.in-Ok-first_state.ensures.field)
+    (at_most (c.growth_without_bad_is_paid.ensures.all c.sweep_whole.new.state.field c.sweep_whole.new.facts c.sweep_whole.new.bad (subst (λ (a : Field). IsFieldOf c.sweep_whole.new.facts.shape a) (sym c.sweep_whole.ensures.field) (field_later c.sweep_whole.ensures.advances.more c.in-Ok-first_state.ensures.field))) (at_once (ap crosses_of c.sweep_whole.ensures.advances.more.shape)))
+    (c.growth_without_bad_is_paid.ensures.pins c.sweep_whole.new.state.field c.sweep_whole.new.facts (subst (λ (a : Field). IsFieldOf c.sweep_whole.new.facts.shape a) (sym c.sweep_whole.ensures.field) (field_later c.sweep_whole.ensures.advances.more c.in-Ok-first_state.ensures.field)))
+    (pins_same c.sweep_whole.ensures.advances.more.shape c.sweep_whole.ensures.field)
+    (wires_most c.in-Ok-first_state.ensures.field c.sweep_whole.ensures.field)
+    (size_most c.sweep_whole.new.state.choices.paid (wires_of c.args.facts.now.shape) (c.sweep_whole.ensures.paid ∙ c.in-Ok-first_state.ensures.paid)) (ap size_of ((c.sweep_whole.ensures.few_each f swept).at h is none holds)) _ _ ((c.grow_whole.ensures.few_each f grown).at h is none (holds_each c.sweep_whole.ensures.advances swept h is holds)) ((c.know_lost.ensures.few_each f e).at h is none (holds_each c.grow_whole.ensures.advances grown h is (holds_each c.sweep_whole.ensures.advances swept h is holds))))

@@ -1,7 +1,8 @@
 use Rattle.std.proofs.Common.{◌∙◌, ap, length, refl, arith}
 use Rattle.base_bits.specs.Numbers.{size_of}
 use Rattle.diag_evidence.proofs.Keeping.{advances_then}
-use Rattle.diag_machine.proofs.Sweeping.{always, few_when, field_later, marks_back, marks_by, marks_of, marks_on, marks_told, none_unfit}
+use Rattle.diag_machine.proofs.Sweeping.{always, few_when, field_later, marks_back, marks_by, marks_each, marks_of, marks_on, marks_told, none_unfit}
+use Rattle.diag_machine.proofs.Stepping.{holds_each}
 use Rattle.diag_machine.proofs.whole.sweep_whole.Goals as goal
 
 pub choose_all-requires-clause-field : goal.choose_all-requires-clause-field
@@ -51,3 +52,24 @@ returns-in_default-unfit_wires-clause-pays g c = let pays = c.sweep.ensures.pays
 
 pub returns-in_default-unfit_wires-clause-few : goal.returns-in_default-unfit_wires-clause-few
 returns-in_default-unfit_wires-clause-few g c = always refl
+
+pub choose_all-requires-clause-right_each : goal.choose_all-requires-clause-right_each
+choose_all-requires-clause-right_each g c = marks_each c.sweep.ensures.right_each c.sweep.ensures.advances.narrows c.requires.right_each
+
+pub returns-in_err-sweep-clause-right_each : goal.returns-in_err-sweep-clause-right_each
+returns-in_err-sweep-clause-right_each g c = marks_each c.sweep.ensures.right_each c.sweep.ensures.advances.narrows c.requires.right_each
+
+pub returns-in_default-unfit_wires-clause-right_each : goal.returns-in_default-unfit_wires-clause-right_each
+returns-in_default-unfit_wires-clause-right_each g c = marks_each c.sweep.ensures.right_each c.sweep.ensures.advances.narrows c.requires.right_each
+
+pub returns-in_err-sweep-clause-few_each : goal.returns-in_err-sweep-clause-few_each
+returns-in_err-sweep-clause-few_each g c = λ f e. always refl
+
+pub returns-in_default-unfit_wires-clause-few_each : goal.returns-in_default-unfit_wires-clause-few_each
+returns-in_default-unfit_wires-clause-few_each g c = λ f e. always refl
+
+pub returns-clause-few_each : goal.returns-clause-few_each
+returns-clause-few_each g c = λ f e.
+    let swept = c.choose_all.ensures.advances.narrows f e in
+    few_when (λ h is none holds. c.choose_all.ensures.paid ∙ ap (λ x. x.paid) (c.pay_for.ensures.none (none_unfit c.in-Ok-unfit_wires.unfit h is none (holds_each c.sweep.ensures.advances swept h is holds)
+    (c.sweep.ensures.right_each f swept (c.requires.right_each f (c.sweep.ensures.advances.narrows f swept))) c.in-Ok-unfit_wires.ensures)))

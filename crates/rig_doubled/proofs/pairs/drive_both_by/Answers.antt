@@ -4,8 +4,9 @@ use Rattle.machine_meaning.specs.Circuit.{Pins}
 use Rattle.rig.specs.Rig.{GoesOnBy, Machine}
 use Rattle.rig_doubled.specs.Repeats.{HaveWidth}
 use Rattle.rig_doubled.proofs.Keeping.{many_still, wide_still, refill}
-use Rattle.rig_doubled.proofs.Pairing.{read_alike_by, both_go_on_by}
+use Rattle.rig_doubled.proofs.Pairing.{read_alike_by, explained_reads_by, both_go_on_by}
 use Rattle.rig_doubled.proofs.pairs.drive_both_by.Given.{Over}
+use Rattle.rig.proofs.Narrowing.{narrows_cycles}
 use Rattle.rig_doubled.proofs.pairs.drive_both_by.Goals as goal
 
 module _ (g : Over) (c : goal.After-are_same g) where
@@ -44,3 +45,17 @@ returns-clause-goes_on g c = λ yes.
     both_go_on_by c.args.pair.now _ (g.A.Rig.rig_state c.args.first.now) (g.A.Rig.rig_state c.cycles.new.self) (g.B.Rig.rig_state c.args.second.now) (g.B.Rig.rig_state c.read_others.new.second)
     c.requires.paired (subst (HaveWidth (length c.args.pair.now.read)) (sym (full g c)) wide) (ap length (full g c) ∙ many g c) refl refl
     c.args.drives.now c.cycles.new.reads (omega (arith, c.requires.some)) (goes g c) second
+
+pub returns-clause-no_alarm : goal.returns-clause-no_alarm
+returns-clause-no_alarm g c = λ f one other differs.
+    let same : c.cycles.new.reads ≡ front g c = explained_reads_by c.requires.paired one other c.args.drives.now c.cycles.new.reads (front g c) (goes g c) (also g c) in
+    absurd (false≢true (sym differs ∙ c.are_same.ensures.1 (same ∙ sym (seen g c))))
+
+pub returns-then-is_err-clause-first_narrows : goal.returns-then-is_err-clause-first_narrows
+returns-then-is_err-clause-first_narrows g c = narrows_cycles c.args.drives.now c.cycles.new.reads c.cycles.result c.cycles.ensures.machine c.cycles.ensures.cycles c.cycles.ensures.refused
+
+pub returns-then-is_err-2-clause-first_narrows : goal.returns-then-is_err-2-clause-first_narrows
+returns-then-is_err-2-clause-first_narrows g c = narrows_cycles c.args.drives.now c.cycles.new.reads c.cycles.result c.cycles.ensures.machine c.cycles.ensures.cycles c.cycles.ensures.refused
+
+pub returns-clause-first_narrows : goal.returns-clause-first_narrows
+returns-clause-first_narrows g c = narrows_cycles c.args.drives.now c.cycles.new.reads c.cycles.result c.cycles.ensures.machine c.cycles.ensures.cycles c.cycles.ensures.refused

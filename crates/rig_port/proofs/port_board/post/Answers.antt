@@ -1,10 +1,10 @@
-use Rattle.std.proofs.Common.{sym, subst}
+use Rattle.std.proofs.Common.{◌≡◌, ◌∙◌, sym, subst, IfSome}
 use Rattle.rig_port.specs.Linked.{IsPosted}
-use Rattle.rig_port.proofs.Held.{more_posted}
 use Rattle.rig_port.proofs.port_board.post.Goals as goal
 
 pub returns-clause-linked : goal.returns-clause-linked
 returns-clause-linked c = λ device shape was.
-    subst (λ l. IsPosted device c.put_edits.new.set.config l c.begin.new.link.anew) (sym c.reserve.ensures.items)
-    (more_posted device c.begin.new.link.set.config c.put_edits.new.set.config c.begin.new.link.line.items c.put_edits.new.line.items c.begin.new.link.anew
-    c.in_ok-put_edits.ensures.shape (c.in_ok-begin.ensures.posted device shape was) c.in_ok-put_edits.ensures.made)
+    let same = c.in_ok-add_edits.ensures.shape ∙ c.in_ok-begin.ensures.shape in
+    subst (λ l. IsPosted device c.shorten.new.link.set.config l c.shorten.new.link.anew) (sym c.reserve.ensures.items)
+    (c.in_ok-shorten.ensures.posted device (subst (λ m. IfSome device (λ d. d.shape ≡ m)) (sym same) shape)
+    (c.in_ok-add_edits.ensures.posted device (c.in_ok-begin.ensures.posted device shape was)))

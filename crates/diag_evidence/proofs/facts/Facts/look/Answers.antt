@@ -15,5 +15,15 @@ returns-clause-looked g c = on_ok c.take-looked.result c.take-looked.ensures.run
   run = λ f told. subst (λ n. IsRun f c.close_just.new.config.config (look_drives n) c.take-looked.new.self.rows) (c.requires.reads ∙ ap pins_of (sym c.requires.forest)) (p.run f told);
 })
 
+pub returns-clause-looked_each : goal.returns-clause-looked_each
+returns-clause-looked_each g c = on_ok c.take-looked.result c.take-looked.ensures.run_each (λ p f e. let j = c.in_ok-close_just.ensures in record {
+  config = c.close_just.new.config.config;
+  shape = j.shape;
+  closed = j.closed;
+  off = j.off;
+  ticks = j.ticks;
+  run = λ h told. subst (λ n. IsRun h c.close_just.new.config.config (look_drives n) c.take-looked.new.self.rows) (c.requires.reads ∙ ap pins_of (sym c.requires.forest)) ((p f e).run h told);
+})
+
 pub returns-clause-session : goal.returns-clause-session
 returns-clause-session g c = on_ok c.take-looked.result c.take-looked.ensures.session (λ s. record { config = c.close_just.new.config.config; cycled = record { config = s.config; cycles = s.cycles ∙ ap look_drives c.requires.reads } })

@@ -1,4 +1,4 @@
-use Rattle.std.proofs.Common.{◌≡◌, subst}
+use Rattle.std.proofs.Common.{◌≡◌, subst, refl}
 use Rattle.diag_evidence.specs.Vocabulary.{Kept, Gains, seen_in}
 use Rattle.diag_evidence.proofs.Advancing.{advances_by}
 use Rattle.diag_evidence.proofs.Seeing.{look_holds, no_feet}
@@ -12,8 +12,16 @@ returns-clause-seen g c = record {
   gains = subst (λ (k : Kept). Gains (seen_in c.args.forest.now c.look.new.reads.rows) k c.keep_seen.new.self) c.in_ok-look.ensures.same c.keep_seen.ensures;
 }
 
+pub returns-clause-seen_each : goal.returns-clause-seen_each
+returns-clause-seen_each g c = λ f e. record {
+  rows = c.look.new.reads.rows;
+  look = no_feet _ c.args.forest.now c.look.new.reads.rows (c.in_ok-look.ensures.looked_each f e);
+  gains = subst (λ (k : Kept). Gains (seen_in c.args.forest.now c.look.new.reads.rows) k c.keep_seen.new.self) c.in_ok-look.ensures.same c.keep_seen.ensures;
+}
+
 pub returns-clause-advances : goal.returns-clause-advances
 returns-clause-advances g c =
     advances_by (seen_in c.args.forest.now c.look.new.reads.rows) c.in_ok-look.ensures.loads.machine c.in_ok-look.ensures.loads.later c.in_ok-look.ensures.loads.counted
-    (subst (λ (k : Kept). Gains (seen_in c.args.forest.now c.look.new.reads.rows) k c.keep_seen.new.self) c.in_ok-look.ensures.same c.keep_seen.ensures)
+    (subst (λ (k : Kept). Gains (seen_in c.args.forest.now c.look.new.reads.rows) k c.keep_seen.new.self) c.in_ok-look.ensures.same c.keep_seen.ensures) c.in_ok-look.ensures.loads.narrows
     (look_holds _ c.args.self.now c.args.forest.now c.look.new.reads.rows c.shape-shape.ensures.forest c.requires.forest (no_feet _ c.args.forest.now c.look.new.reads.rows c.in_ok-look.ensures.looked))
+    (λ f e. look_holds _ c.args.self.now c.args.forest.now c.look.new.reads.rows c.shape-shape.ensures.forest c.requires.forest (no_feet _ c.args.forest.now c.look.new.reads.rows (c.in_ok-look.ensures.looked_each f e)) f refl)

@@ -1,8 +1,10 @@
 use Rattle.std.proofs.Common.{◌≡◌, ◌<◌, ◌∙◌, All, List, sym, subst, map}
+use Rattle.std.proofs.lemmas.Bool.{false≢true}
 use Rattle.std.proofs.lemmas.List.Elements.{All-map}
 use Rattle.machine_shape.specs.Shape.{crosses_of}
 use Rattle.diag_evidence.specs.Hangs.{Foot, IsFoot, over_of, turned, overs, others, all_feet}
 use Rattle.diag_evidence.proofs.Hanging.{feet_below, all_are_feet, overs_feet}
+use Rattle.diag_evidence.proofs.Tried.{look_over}
 use Rattle.diag_evidence.proofs.facts.Facts.view.Goals as goal
 
 pub look-requires-clause-feet : goal.look-requires-clause-feet
@@ -19,3 +21,22 @@ pub look-requires-3-clause-feet : goal.look-requires-3-clause-feet
 look-requires-3-clause-feet g c =
     subst (λ (feet : List Foot). All (λ foot. foot.1.0 < crosses_of c.args.forest.now.shape) feet) (sym (c.deref-3.ensures.value ∙ c.requires.plan.overs_are))
     (feet_below {trees = c.args.forest.now} (overs c.args.hangs.now) (overs_feet c.args.hangs.now c.requires.over))
+
+pub returns-then-not-some_answers-clause-viewed_each : goal.returns-then-not-some_answers-clause-viewed_each
+returns-then-not-some_answers-clause-viewed_each g c = λ f e. record {
+  all = look_over c.args.forest.now (c.deref.ensures.value ∙ c.requires.plan.all_are) (c.in_ok-look.ensures.looked_each f e);
+  answers = sym c.some_answers.ensures ∙ c.if-not-some_answers.true;
+  without_over = λ is. absurd (false≢true is);
+  without_other = λ is. absurd (false≢true is);
+}
+
+pub returns-clause-viewed_each : goal.returns-clause-viewed_each
+returns-clause-viewed_each g c = λ f e.
+    let second = c.look-3.ensures.loads.narrows f e in
+    let first = c.look-2.ensures.loads.narrows f second in
+    record {
+      all = look_over c.args.forest.now (c.deref.ensures.value ∙ c.requires.plan.all_are) (c.in_ok-look.ensures.looked_each f first);
+      answers = sym c.some_answers.ensures ∙ c.if-not-some_answers.false;
+      without_over = λ is. look_over c.args.forest.now (c.deref-2.ensures.value ∙ c.requires.plan.others_are) (c.in_ok-look-2.ensures.looked_each f second);
+      without_other = λ is. look_over c.args.forest.now (c.deref-3.ensures.value ∙ c.requires.plan.overs_are) (c.in_ok-look-3.ensures.looked_each f e);
+    }

@@ -1,8 +1,9 @@
-use Rattle.std.proofs.Common.{◌≡◌, ◌<◌, ◌+◌, ◌∙◌, All, List, ℕ, length, take, drop, subst, sym, ap, arith, map}
+use Rattle.std.proofs.Common.{◌≡◌, Some, ◌<◌, ◌+◌, ◌∙◌, All, List, ℕ, length, take, drop, subst, sym, ap, arith, map}
 use Rattle.machine_shape.specs.Shape.{pins_of}
 use Rattle.machine_meaning.specs.Circuit.{Pins}
 use Rattle.diag_evidence.specs.Looks.{Sights, AreSights, ReadsEach, look_drives}
 use Rattle.diag_evidence.proofs.Rows.{whole_again, as_many, as_wide, drives_count, drives_wide}
+use Rattle.diag_evidence.proofs.Sessions.{on_ok}
 use Rattle.diag_evidence.proofs.looks.Looks.take.Goals as goal
 
 pub read_rows-requires-clause-drives : goal.read_rows-requires-clause-drives
@@ -28,3 +29,12 @@ invariant_of-self g c =
       each = as_wide c.self.inside.pins c.self.inside.rows.items c.read_rows.new.rows rows c.self.invariant.each;
       few = c.self.invariant.few;
     })
+
+pub returns-clause-run_each : goal.returns-clause-run_each
+returns-clause-run_each g c =
+    let many : length c.read_rows.new.rows ≡ length c.self.inside.rows.items =
+    as_many c.self.inside.rows.items c.read_rows.new.rows (c.read_rows.ensures.lengths ∙ ap (map length) c.deref_mut.ensures.value) in
+    on_ok c.read_rows.result c.read_rows.ensures.run_each (λ each f e.
+    subst (λ (rows : List Pins). ReadsEach (Some f) c.args.config.now.config (look_drives c.args.self.now.pins) rows)
+    (sym (whole_again c.self.inside.rows.len c.read_rows.new.rows c.self.inside.rows.items many c.self.inside.rows.ok.0))
+    (subst (λ (drives : List Pins). ReadsEach (Some f) c.args.config.now.config drives c.read_rows.new.rows) (c.deref.ensures.value ∙ c.requires.drives) (each f e)))

@@ -37,4 +37,4 @@ returns-in-Ok-clause-cycles g c =
     = on_ok c.make_room.result ((session_of c.in-Some.kept).spare ≤ (session_of c.make_room.new.self).spare) (sym c.is_err.ensures.value ∙ c.if-is_err.false) c.make_room.ensures.spare in
     let added = c.add_all.ensures.spare in
     goes_on c.args.drives.now c.cycles.new.reads after_b c.in-Some.kept c.add_all.new.self _ _
-    (ap (option_map session_of) (sym c.in-Some.ensures.value)) refl refl (omega (arith, room, added)) made.1
+    (ap (option_map session_of) (sym c.in-Some.ensures.value)) refl refl (omega (arith, room, added)) made.1 refl

@@ -1,19 +1,32 @@
 use Rattle.std.proofs.Common.{◌≡◌, ◌∙◌, ◌+◌, ◌-◌, ◌^◌, min, if◌then◌else◌, Option, Some, ap, option_map, is_some}
-use Rattle.rig.specs.Rig.{Machine, shape_of}
+use Rattle.rig.specs.Rig.{Machine, Narrows, RigState, shape_of}
+use Rattle.rig.proofs.Narrowing.{narrows_load}
 use Rattle.rig_doubled.specs.declared.kept.Kept.{Kept}
-use Rattle.rig_doubled.specs.Repeats.{repeat_state, loads_taken}
+use Rattle.rig_doubled.specs.Repeats.{repeat_state, loads_taken, ended_in}
+use Rattle.rig_doubled.proofs.Endings.{ended_explains, repeat_ended}
 use Rattle.rig_doubled.proofs.Repeating.{repeats_on, taken}
 use Rattle.rig_doubled.proofs.repeat_rig.RepeatRigRig.load.Goals as goal
 
 pub invariant_of-self-2 : goal.invariant_of-self-2
 invariant_of-self-2 g c =
     let shape : shape_of (g.R.Rig.rig_state c.self.inside.inner) ≡ Some c.args.config.now.config.shape = ap (λ r. shape_of (g.R.Rig.rig_state r.inner)) c.self.view_is ∙ c.requires in
-    repeats_on c.self.inside.times c.in_ok-kept.kept c.args.config.now.config c.args.room (g.R.Rig.rig_state c.load.new.self) c.self.invariant.some c.in_ok-kept.ensures c.in_ok-load.ensures.begins
+    let narrows : Narrows (g.R.Rig.rig_state c.self.inside.inner) (g.R.Rig.rig_state c.load.new.self) = λ f e. c.settle.ensures.narrows f (narrows_load c.load.ensures.machine c.load.ensures.logged f e) in
+    repeats_on c.self.inside.times c.in_ok-kept.kept c.args.config.now.config c.args.room (g.R.Rig.rig_state c.load.new.self) (ended_in (λ r. g.R.Rig.rig_state r) c.end.new.past.items)
+    c.self.invariant.some c.in_ok-kept.ensures c.in_ok-load.ensures.begins
     (ap (λ (m : Machine). option_map (λ a. a.shape) m.attached) (c.load.ensures.machine ∙ c.settle.ensures.machine) ∙ shape)
+    (ended_explains c.self.inside.stands (ended_in (λ r. g.R.Rig.rig_state r) c.self.inside.past.items) _ (g.R.Rig.rig_state c.self.inside.inner) (g.R.Rig.rig_state c.load.new.self) c.end.ensures c.self.invariant.explains narrows)
 
 pub returns-clause-repeats : goal.returns-clause-repeats
 returns-clause-repeats g c =
     let inner = g.R.Rig.rig_state c.self.inside.inner in
-    let kept : (if is_some c.take-kept.result then c.self.inside.times else 1) ≡ loads_taken (repeat_state inner (record { inner = c.self.inside.inner; times = c.self.inside.times; stands = c.self.inside.stands; loads = c.self.inside.loads; failures = c.self.inside.failures })) c.self.inside.times =
-    ap (λ (k : Option Kept). if is_some k then c.self.inside.times else 1) c.take-kept.ensures.value ∙ taken c.self.inside.times c.self.inside.kept c.self.inside.stands inner c.self.invariant in
+    let past = ended_in (λ r. g.R.Rig.rig_state r) c.self.inside.past.items in
+    let kept : (if is_some c.take-kept.result then c.self.inside.times else 1) ≡ loads_taken (repeat_state inner past (record { inner = c.self.inside.inner; times = c.self.inside.times; stands = c.self.inside.stands; past = c.self.inside.past.items; loads = c.self.inside.loads; failures = c.self.inside.failures })) c.self.inside.times =
+    ap (λ (k : Option Kept). if is_some k then c.self.inside.times else 1) c.take-kept.ensures.value ∙ taken c.self.inside.times c.self.inside.kept c.self.inside.stands inner past c.self.invariant in
     rw (← c.self.view_is) (c.in_ok-load.ensures.counted ∙ c.in_ok-settle.ensures.loads c.if-not-branch.false ∙ ap (λ n. min (inner.loads + n) (2 ^ 64 - 1)) kept)
+
+pub invariant_of-self-in_err-load : goal.invariant_of-self-in_err-load
+invariant_of-self-in_err-load g c =
+    let state : g.row.R.Denot → RigState = λ r. g.R.Rig.rig_state r in
+    let narrows : Narrows (state c.self.inside.inner) (state c.load.new.self) = λ f e. c.settle.ensures.narrows f (narrows_load c.load.ensures.machine c.load.ensures.logged f e) in
+    rw c.take-kept.ensures.after (repeat_ended c.self.inside.stands (ended_in state c.self.inside.past.items) (ended_in state c.end.new.past.items) (state c.self.inside.inner) (state c.load.new.self)
+    c.self.invariant.some c.end.ensures c.self.invariant.explains narrows)

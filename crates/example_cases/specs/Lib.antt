@@ -1,0 +1,3 @@
+-- What the boards and rigs of these examples mean.
+pub mod MemoryBoards
+pub mod Talks

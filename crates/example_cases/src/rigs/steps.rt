@@ -1,0 +1,158 @@
+//! Cases that ask a machine step by step: a word for each step, with what belongs to it behind colons.
+
+use crate::rigs::faults::sim_of;
+use crate::rigs::memory_board::{MemoryBoard, Orders};
+use crate::rigs::table_port::{TablePort, answers_all, exchanges_of};
+use crate::rigs::talk::Talk;
+use example_kit::TINY;
+use machine_config::Setting;
+use machine_shape::{Counts, Shape};
+use rig::{Rig, RigFail};
+use rig_board::BoardRig;
+use rig_port::{Port, PortBoard, RigPort};
+use std::alloc::Global;
+use std::cell::Cell;
+use std::rc::Rc;
+use std::{fs, io};
+
+// The table that words say is on: its number, its cells as a number, and 1 where it is latched, 2 where it begins with a 1, or 3.
+fn table_of(words: &str) -> Option<(u32, Setting)> {
+    let (table, rest) = words.split_once(':')?;
+    let (cells, flags) = rest.split_once(':')?;
+    let table = table.parse::<u32>().ok()?;
+    let cells = cells.parse::<u64>().ok()?;
+    let flags = flags.parse::<u8>().ok()?;
+    Some((
+        table,
+        Setting {
+            cells,
+            latched: flags == 1 || flags == 3,
+            init: flags == 2 || flags == 3,
+        },
+    ))
+}
+
+// Sets what a word says; false where it says nothing.
+fn set<R: Rig>(talk: &mut Talk<R>, what: &str, rest: &str) -> io::Result<bool> {
+    if what == "table" {
+        let Some((table, setting)) = table_of(rest) else {
+            return Ok(false);
+        };
+        return Ok(talk.set_table(table, Some(setting)));
+    }
+    if what == "ticks" {
+        return Ok(talk.set_ticks(rest.parse::<u16>().unwrap_or(0)));
+    }
+    let Ok(number) = rest.parse::<u32>() else {
+        return Ok(false);
+    };
+    match what {
+        "close" => Ok(talk.close(number)?),
+        "open" => Ok(talk.open(number)),
+        "off" => Ok(talk.set_table(number, None)),
+        _ => Ok(false),
+    }
+}
+
+// Takes a step, and tells how it ended; false where the word says none.
+fn step<R: Rig>(
+    rt: &HostRuntime,
+    talk: &mut Talk<R>,
+    orders: &Orders,
+    word: &str,
+) -> io::Result<bool> {
+    let alloc: Global = rt.alloc();
+    let (what, rest) = word.split_once(':').unwrap_or((word, ""));
+    let mut read = String::new(alloc);
+    let answer = match what {
+        "attach" => talk.attach("none"),
+        "load" => talk.load(rest.parse::<u32>().unwrap_or(0)),
+        "cycle" => talk.cycle(alloc, rest, &mut read)?,
+        "cycles" => talk.cycles(alloc, rest, &mut read)?,
+        "failed" => {
+            orders.fail_next(RigFail::Failed);
+            return Ok(true);
+        }
+        "memory" => {
+            orders.fail_next(RigFail::Memory);
+            return Ok(true);
+        }
+        _ => return set(talk, what, rest),
+    };
+    let ended = answer.word();
+    println!(rt; "{word} {ended}{read}")?;
+    Ok(true)
+}
+
+// Takes the steps that words say; false where a word says none.
+fn take_steps<R: Rig>(
+    rt: &HostRuntime,
+    talk: &mut Talk<R>,
+    orders: &Orders,
+    words: &[String],
+) -> io::Result<bool> {
+    'steps: for word in words {
+        if !step(rt, talk, orders, word.as_str())? {
+            return Ok(false);
+        }
+    }
+    Ok(true)
+}
+
+// A machine of the counts of `tiny`, but with so many pins.
+fn shape_of(pins: &str) -> Option<Shape> {
+    let pins = pins.parse::<u16>().ok()?;
+    Shape::new(Counts { pins, ..TINY }).ok()
+}
+
+/// Over a board in memory. False where a word says no step.
+pub fn try_board(rt: &HostRuntime, words: &[String]) -> io::Result<bool> {
+    let alloc: Global = rt.alloc();
+    let Ok(shape) = Shape::new(TINY) else {
+        return Ok(false);
+    };
+    let orders = Rc::new(alloc, Orders::new())?;
+    let board = MemoryBoard::new(orders.clone()?);
+    let mut talk = Talk::new(alloc, BoardRig::new(alloc, board), shape)?;
+    let done = take_steps(rt, &mut talk, &orders, words)?;
+    let failures = orders.failures();
+    println!(rt; "the board counts {failures}")?;
+    Ok(done)
+}
+
+/// Over a board of so many pins behind a port that answers the requests of a table. False where they aren't, byte by byte, what was
+/// asked, or a word says no step.
+pub fn try_asks(rt: &HostRuntime, pins: &str, table: &str, words: &[String]) -> io::Result<bool> {
+    let alloc: Global = rt.alloc();
+    let Some(shape) = shape_of(pins) else {
+        return Ok(false);
+    };
+    let text = fs::read_to_string(rt, table)?;
+    let table = exchanges_of(alloc, text.as_str())?;
+    let all = table.len();
+    let asked = Rc::new(alloc, Cell::new(0usize))?;
+    let board = PortBoard::new(alloc, TablePort::new(table, asked.clone()?));
+    let mut talk = Talk::new(alloc, BoardRig::new(alloc, board), shape)?;
+    let done = take_steps(rt, &mut talk, &Orders::new(), words)?;
+    let count = asked.get();
+    println!(rt; "asked {count} of {all} requests")?;
+    Ok(done && count == all)
+}
+
+/// Asks a simulated rig of so many pins behind a port the requests of a table. False where a reply isn't, byte by byte, that of the table.
+pub fn try_answers(rt: &HostRuntime, pins: &str, table: &str) -> io::Result<bool> {
+    let alloc: Global = rt.alloc();
+    let Some(shape) = shape_of(pins) else {
+        return Ok(false);
+    };
+    let text = fs::read_to_string(rt, table)?;
+    let table = exchanges_of(alloc, text.as_str())?;
+    let all = table.len();
+    let mut port = RigPort::new(alloc, sim_of(rt)?, shape);
+    if port.open("none").is_err() {
+        return Ok(false);
+    }
+    let right = answers_all(alloc, &mut port, &table)?;
+    println!(rt; "answers {all} requests: {right}")?;
+    Ok(right)
+}

@@ -1,0 +1,211 @@
+//! Drafts that are made by hand, and the text of a netlist.
+
+use base_lists::Items;
+use design_blif::read_blif;
+use design_netlist::{
+    Cover, Cube, DesignFault, DesignKind, Lit, Name, Names, Netlist, NetlistData, PortDef, check,
+};
+use map_search::{Head, design_text};
+use std::alloc::Global;
+
+/// What is wrong with a signal.
+#[derive(Clone, Copy, Debug, PartialEq, Eq)]
+enum Wrong {
+    Doubled,
+    Undriven,
+    Cyclic,
+}
+
+/// An AND: the signals that it reads, and the one that it drives.
+type Gate<'a> = (&'a [u32], u32);
+
+/// A design of gates: the names of its signals, its inputs, its outputs and its gates.
+#[derive(Clone, Copy)]
+struct Gates<'a> {
+    names: &'a [&'a str],
+    inputs: &'a [u32],
+    outputs: &'a [u32],
+    gates: &'a [Gate<'a>],
+}
+
+// What is wrong with a signal, and its name.
+fn named(kind: &DesignKind) -> Option<(Wrong, &[u8])> {
+    match kind {
+        DesignKind::Doubled { name } => Some((Wrong::Doubled, name.as_slice())),
+        DesignKind::Undriven { name } => Some((Wrong::Undriven, name.as_slice())),
+        DesignKind::Cyclic { name } => Some((Wrong::Cyclic, name.as_slice())),
+        _ => None,
+    }
+}
+
+/// Whether a design is refused at this line, for this, with this name.
+fn is_refused(found: &Result<Netlist, DesignFault>, line: u64, wrong: Wrong, name: &str) -> bool {
+    match found {
+        Err(DesignFault::At { line: at, kind }) => {
+            *at == line && named(kind) == Some((wrong, name.as_bytes()))
+        }
+        _ => false,
+    }
+}
+
+/// The name that this text is.
+fn name_of(alloc: Global, text: &str) -> Option<Name> {
+    Some(Items::new(Vec::from_slice(alloc, text.as_bytes()).ok()?))
+}
+
+/// Ports on one line.
+fn ports_of(alloc: Global, signals: &[u32], line: u64) -> Option<Items<PortDef>> {
+    let mut ports = Items::empty(alloc);
+    'signals: for signal in signals {
+        let signal = *signal;
+        ports.push(PortDef { signal, line }).ok()?;
+    }
+    Some(ports)
+}
+
+// A row that wants so many inputs to be 1.
+fn ones(alloc: Global, count: usize) -> Option<Cube> {
+    let mut row = Items::empty(alloc);
+    'inputs: for _ in 0..count {
+        row.push(Lit::One).ok()?;
+    }
+    Some(row)
+}
+
+/// A gate as a cover on this line.
+fn cover_of(alloc: Global, gate: Gate, line: u64) -> Option<Cover> {
+    let mut rows = Items::empty(alloc);
+    rows.push(ones(alloc, gate.0.len())?).ok()?;
+    Some(Cover {
+        out: gate.1,
+        ins: Items::new(Vec::from_slice(alloc, gate.0).ok()?),
+        rows,
+        off: false,
+        line,
+    })
+}
+
+// Whether these are the signals of ports.
+fn are_ports(ports: &[PortDef], due: &[u32]) -> bool {
+    let mut right = ports.len() == due.len();
+    'ports: for (port, signal) in ports.iter().zip(due) {
+        right = right && port.signal == *signal;
+    }
+    right
+}
+
+// Whether these are the names, in order.
+fn are_names(alloc: Global, names: &Names, due: &[&str]) -> Option<bool> {
+    let mut right = names.len() == due.len();
+    'names: for (place, name) in due.iter().enumerate() {
+        if place >= names.len() {
+            return Some(false);
+        }
+        right = right && names.get(alloc, place).ok()?.as_slice() == name.as_bytes();
+    }
+    Some(right)
+}
+
+// Whether a row wants all its inputs to be 1.
+fn has_ones(row: &[Lit]) -> bool {
+    let mut right = true;
+    'inputs: for lit in row {
+        right = right && *lit == Lit::One;
+    }
+    right
+}
+
+// Whether a cover is this gate.
+fn is_gate(cover: &Cover, gate: Gate) -> bool {
+    match cover.rows.as_slice() {
+        [row] => {
+            cover.out == gate.1
+                && !cover.off
+                && cover.ins.as_slice() == gate.0
+                && row.as_slice().len() == gate.0.len()
+                && has_ones(row.as_slice())
+        }
+        _ => false,
+    }
+}
+
+// Whether the covers are these gates, in order.
+fn are_gates(covers: &[Cover], gates: &[Gate]) -> bool {
+    let mut right = covers.len() == gates.len();
+    'covers: for (cover, gate) in covers.iter().zip(gates) {
+        right = right && is_gate(cover, *gate);
+    }
+    right
+}
+
+/// Whether a design has these five lists, whatever the lines are.
+fn has_lists(alloc: Global, netlist: &Netlist, due: Gates) -> Option<bool> {
+    let parts = netlist.parts();
+    let named = are_names(alloc, &parts.names, due.names)?;
+    Some(
+        named
+            && are_ports(parts.inputs.as_slice(), due.inputs)
+            && are_ports(parts.outputs.as_slice(), due.outputs)
+            && are_gates(parts.covers.as_slice(), due.gates)
+            && parts.latches.as_slice().is_empty(),
+    )
+}
+
+// What comes of two signals of which `a` is shown, and gates that each stand on a line.
+fn checked(alloc: Global, gates: &[(Gate, u64)]) -> Option<Result<Netlist, DesignFault>> {
+    let mut names = Names::new(alloc);
+    names.push(name_of(alloc, "a")?).ok()?;
+    names.push(name_of(alloc, "b")?).ok()?;
+    let mut covers = Items::empty(alloc);
+    'gates: for (gate, line) in gates {
+        covers.push(cover_of(alloc, *gate, *line)?).ok()?;
+    }
+    let data = NetlistData {
+        names,
+        inputs: Items::empty(alloc),
+        outputs: ports_of(alloc, &[0], 2)?,
+        covers,
+        latches: Items::empty(alloc),
+    };
+    if !data.is_well_made() {
+        return None;
+    }
+    Some(check(alloc, data))
+}
+
+// `a` reads `b`, and `b` reads `a`, is driven by nothing, or isn't what is driven next; and `a` reads itself.
+pub fn faulty_drafts(alloc: Global) -> Option<bool> {
+    let first: Gate = (&[1], 0);
+    let back: Gate = (&[0], 1);
+    let own: Gate = (&[0], 0);
+    let cyclic = checked(alloc, &[(first, 3), (back, 5)])?;
+    let undriven = checked(alloc, &[(first, 3)])?;
+    let doubled = checked(alloc, &[(first, 3), (first, 5)])?;
+    let reads_itself = checked(alloc, &[(own, 3)])?;
+    Some(
+        is_refused(&cyclic, 3, Wrong::Cyclic, "a")
+            && is_refused(&undriven, 3, Wrong::Undriven, "b")
+            && is_refused(&doubled, 5, Wrong::Doubled, "a")
+            && is_refused(&reads_itself, 3, Wrong::Cyclic, "a"),
+    )
+}
+
+// The text of a netlist is read again as the same lists, which stand on other lines.
+pub fn text_of_netlist(alloc: Global) -> Option<bool> {
+    let and = Gates {
+        names: &["a", "b", "y"],
+        inputs: &[0, 1],
+        outputs: &[2],
+        gates: &[(&[0, 1], 2)],
+    };
+    let given = b"\n.model and\n.inputs a b\n\n.outputs y\n.names a b y\n11 1\n.end\n";
+    let netlist = read_blif(alloc, given).ok()?;
+    let head = Head {
+        tables: 1,
+        depth: 1,
+        control: None,
+    };
+    let text = design_text(alloc, netlist.parts(), &head).ok()?;
+    let again = read_blif(alloc, &text).ok()?;
+    Some(has_lists(alloc, &netlist, and)? && has_lists(alloc, &again, and)?)
+}

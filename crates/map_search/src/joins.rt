@@ -1,0 +1,196 @@
+//! Sums with fewer products: those that differ in one literal alone become one, and those that hold another one go.
+
+use crate::builder::Builder;
+use crate::sums::{Sum, literals_among};
+use std::alloc::{AllocError, Global};
+use std::collections::HashMap;
+
+/// How many literals are looked at for a sum, at most.
+const MOST_LOOKS: usize = 4_000_000;
+
+/// Products while they are joined: which are gone, and where the last of those with these literals stands.
+#[derive(Drop)]
+struct Joins {
+    alloc: Global,
+    products: Vec<Vec<u32>>,
+    gone: Vec<bool>,
+    known: HashMap<Vec<u32>, usize>,
+}
+
+// A product whose literal at a place is the opposite one, or isn't there.
+fn without(
+    alloc: Global,
+    product: &[u32],
+    place: usize,
+    turned: bool,
+) -> Result<Vec<u32>, AllocError> {
+    let mut other = Vec::with_capacity(alloc, product.len())?;
+    'literals: for k in 0..product.len() {
+        if k != place {
+            other.push(product[k])?;
+        } else if turned {
+            other.push(product[k] ^ 1)?;
+        }
+    }
+    Ok(other)
+}
+
+impl Joins {
+    // Adds a product, unless it is there.
+    fn add(&mut self, product: Vec<u32>) -> Result<(), AllocError> {
+        if self.place_of(&product).is_some() {
+            return Ok(());
+        }
+        let key = Vec::from_slice(self.alloc, &product)?;
+        let _ = self.known.insert(key, self.products.len())?;
+        self.products.push(product)?;
+        self.gone.push(false)?;
+        Ok(())
+    }
+
+    // Where a product stands, if it is there.
+    fn place_of(&self, product: &[u32]) -> Option<usize> {
+        let place = *self.known.get(product)?;
+        if self.is_there(place) {
+            Some(place)
+        } else {
+            None
+        }
+    }
+
+    // Whether the product at a place is there.
+    fn is_there(&self, place: usize) -> bool {
+        place < self.gone.len() && !self.gone[place]
+    }
+
+    // The product at a place goes.
+    fn drop_at(&mut self, place: usize) {
+        if place < self.gone.len() {
+            self.gone[place] = true;
+        }
+    }
+
+    // The literals of a product again.
+    fn copy_at(&self, place: usize) -> Result<Vec<u32>, AllocError> {
+        match self.products.get(place) {
+            Some(product) => Vec::from_slice(self.alloc, product),
+            None => Ok(Vec::new(self.alloc)),
+        }
+    }
+
+    // Joins a product with the first one that differs from it in one literal.
+    fn join(&mut self, place: usize) -> Result<(), AllocError> {
+        let product = self.copy_at(place)?;
+        'literals: for k in 0..product.len() {
+            let other = without(self.alloc, &product, k, true)?;
+            if let Some(found) = self.place_of(&other) {
+                let both = without(self.alloc, &product, k, false)?;
+                self.drop_at(place);
+                self.drop_at(found);
+                return self.add(both);
+            }
+        }
+        Ok(())
+    }
+
+    // Joins products, those that come of it too.
+    fn join_all(&mut self) -> Result<(), AllocError> {
+        let most = self.products.len().saturating_mul(2);
+        'products: for k in 0..most {
+            if self.is_there(k) {
+                self.join(k)?;
+            }
+        }
+        Ok(())
+    }
+
+    // Adds the products of a sum.
+    fn add_all(&mut self, sum: &Sum) -> Result<(), AllocError> {
+        'products: for k in 0..sum.len() {
+            let product = Vec::from_slice(self.alloc, sum.product(k))?;
+            self.add(product)?;
+        }
+        Ok(())
+    }
+
+    // The products that are there.
+    fn kept(&self) -> Result<Sum, AllocError> {
+        let mut kept = Sum::new(self.alloc);
+        'products: for k in 0..self.products.len() {
+            if self.is_there(k) {
+                kept.push(&self.products[k])?;
+            }
+        }
+        Ok(kept)
+    }
+}
+
+// A word that tells most products apart: what holds another one has its bits.
+fn sign_of(product: &[u32]) -> u64 {
+    let mut sign = 0;
+    'literals: for literal in product {
+        sign |= 1u64.wrapping_shl(literal.wrapping_mul(0x9e37_79b1) >> 26);
+    }
+    sign
+}
+
+// The signs of products.
+fn signs_of(alloc: Global, sum: &Sum) -> Result<Vec<u64>, AllocError> {
+    let mut signs = Vec::with_capacity(alloc, sum.len())?;
+    'products: for k in 0..sum.len() {
+        signs.push(sign_of(sum.product(k)))?;
+    }
+    Ok(signs)
+}
+
+// Whether a product holds a shorter one.
+fn holds_another(
+    alloc: Global,
+    sum: &Sum,
+    signs: &[u64],
+    place: usize,
+) -> Result<bool, AllocError> {
+    let product = sum.product(place);
+    let sign = sign_of(product);
+    'products: for k in 0..signs.len() {
+        let other = sum.product(k);
+        if other.len() >= product.len() || signs[k] & !sign != 0 {
+            continue;
+        }
+        if literals_among(alloc, other, product, false)?.len() == 0 {
+            return Ok(true);
+        }
+    }
+    Ok(false)
+}
+
+// The products that hold no other one.
+fn least(alloc: Global, sum: &Sum) -> Result<Sum, AllocError> {
+    let signs = signs_of(alloc, sum)?;
+    let mut kept = Sum::new(alloc);
+    'products: for k in 0..sum.len() {
+        if !holds_another(alloc, sum, &signs, k)? {
+            kept.push(sum.product(k))?;
+        }
+    }
+    Ok(kept)
+}
+
+/// A sum of the same function with fewer products, where there are few enough to compare them.
+pub fn lessened(builder: &mut Builder, sum: Sum) -> Result<Sum, AllocError> {
+    let alloc = builder.alloc;
+    let count = sum.len();
+    let width = sum.literals.len();
+    if count < 2 || width.saturating_mul(count) > MOST_LOOKS {
+        return Ok(sum);
+    }
+    let mut joins = Joins {
+        alloc,
+        products: Vec::new(alloc),
+        gone: Vec::new(alloc),
+        known: HashMap::new(alloc),
+    };
+    joins.add_all(&sum)?;
+    joins.join_all()?;
+    least(alloc, &joins.kept()?)
+}

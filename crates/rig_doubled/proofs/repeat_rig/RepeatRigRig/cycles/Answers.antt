@@ -1,0 +1,32 @@
+use Rattle.std.proofs.Common.{◌≡◌, ◌∙◌, ◌++◌, None, IsSome, if◌then◌else◌, sym, ap, subst}
+use Rattle.rig.specs.Rig.{Narrows, RigState, standing}
+use Rattle.rig.proofs.Narrowing.{narrows_cycles}
+use Rattle.rig_doubled.specs.Repeats.{Repeated, ended_in}
+use Rattle.rig_doubled.proofs.Endings.{ended_explains, ended_more, ends_own}
+use Rattle.rig_doubled.proofs.Repeating.{repeats_still}
+use Rattle.rig_doubled.proofs.repeat_rig.RepeatRigRig.cycles.Goals as goal
+
+pub invariant_of-self : goal.invariant_of-self
+invariant_of-self g c =
+    let state : g.row.R.Denot → RigState = λ r. g.R.Rig.rig_state r in
+    let stood : IsSome (if c.self.inside.stands then (state c.self.inside.inner).session else None) =
+    subst (λ (r : Repeated g.row.R.Denot). IsSome (if r.stands then (state r.inner).session else None)) (sym c.self.view_is)
+    c.requires.session in
+    let narrows : Narrows (state c.self.inside.inner) (state c.go_on_by.new.inner) =
+    narrows_cycles c.args.drives.now c.go_on_by.new.reads c.go_on_by.result c.go_on_by.ensures.machine c.go_on_by.ensures.cycles c.go_on_by.ensures.refused in
+    repeats_still c.self.inside.stands c.self.invariant stood c.go_on_by.ensures.kept (λ f e. c.self.invariant.explains f (narrows f e))
+
+pub invariant_of-self-in-Err-Failed : goal.invariant_of-self-in-Err-Failed
+invariant_of-self-in-Err-Failed g c =
+    let state : g.row.R.Denot → RigState = λ r. g.R.Rig.rig_state r in
+    let inner = state c.self.inside.inner in
+    let past = ended_in state c.self.inside.past.items in
+    let ended = ended_in state c.and-ended.result.items in
+    let stood : IsSome (if c.self.inside.stands then inner.session else None) =
+    subst (λ (r : Repeated g.row.R.Denot). IsSome (if r.stands then (state r.inner).session else None)) (sym c.self.view_is)
+    c.requires.session in
+    let narrows : Narrows inner (state c.go_on_by.new.inner) =
+    narrows_cycles c.args.drives.now c.go_on_by.new.reads c.go_on_by.result c.go_on_by.ensures.machine c.go_on_by.ensures.cycles c.go_on_by.ensures.refused in
+    let more : ended ≡ past ++ standing inner.session = ap (ended_in state) c.and-ended.ensures ∙ ended_more state c.self.inside.past.items c.self.inside.inner in
+    repeats_still c.self.inside.stands c.self.invariant stood c.go_on_by.ensures.kept
+    (ended_explains c.self.inside.stands past ended inner (state c.go_on_by.new.inner) (ends_own c.self.inside.stands past ended inner.session stood more) c.self.invariant.explains narrows)

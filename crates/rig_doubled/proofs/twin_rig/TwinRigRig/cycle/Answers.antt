@@ -1,0 +1,18 @@
+use Rattle.std.proofs.Common.{◌≡◌, ◌∙◌, ◌++◌, ap, length}
+use Rattle.rig.specs.Rig.{RigState, standing}
+use Rattle.rig_doubled.specs.Repeats.{ended_in}
+use Rattle.rig_doubled.specs.Twins.{Twins, session_with}
+use Rattle.rig_doubled.proofs.Endings.{ended_more, width_session}
+use Rattle.rig_doubled.proofs.Twinning.{session_pair, twins_fail}
+use Rattle.rig_doubled.proofs.twin_rig.TwinRigRig.cycle.Goals as goal
+
+pub invariant_of-self-in-Err-Failed : goal.invariant_of-self-in-Err-Failed
+invariant_of-self-in-Err-Failed g c =
+    let state : g.row.A.Denot → RigState = λ r. g.A.Rig.rig_state r in
+    let now = c.args.self.now in
+    let some = session_pair c.self.inside.pair now.spare (state now.first).session (ap (λ (t : Twins g.row.A.Denot g.row.B.Denot). t.spare) c.self.view_is)
+    (width_session (session_with now.spare (state now.first).session) (length c.args.drive.now) c.requires.drive_pins) in
+    let more : ended_in state c.and-ended.result.items ≡ ended_in state c.self.inside.past.items ++ standing (state c.self.inside.first).session =
+    ap (ended_in state) c.and-ended.ensures ∙ ended_more state c.self.inside.past.items c.self.inside.first in
+    twins_fail c.self.invariant c.cycle_both.ensures.first c.cycle_both.ensures.second c.cycle_both.ensures.first_narrows c.cycle_both.ensures.second_narrows c.cycle_both.new.pair c.cycle_both.ensures.paired
+    (ended_in state c.and-ended.result.items) some more

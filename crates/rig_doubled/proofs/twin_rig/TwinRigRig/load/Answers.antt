@@ -1,0 +1,28 @@
+use Rattle.std.proofs.Common.{None, Some, refl}
+use Rattle.rig.specs.Rig.{RigState}
+use Rattle.rig_doubled.specs.Repeats.{ended_in}
+use Rattle.rig_doubled.proofs.Twinning.{paired_at_load, twins_end}
+use Rattle.rig_doubled.proofs.twin_rig.TwinRigRig.load.Goals as goal
+
+pub invariant_of-self : goal.invariant_of-self
+invariant_of-self g c =
+    let state : g.row.A.Denot → RigState = λ r. g.A.Rig.rig_state r in
+    twins_end c.self.invariant refl refl (λ f e. e) (λ f e. e) None tt (ended_in state c.end.new.past.items) c.is_some.result c.is_some.ensures c.end.ensures
+
+pub invariant_of-self-in-Ok : goal.invariant_of-self-in-Ok
+invariant_of-self-in-Ok g c =
+    let state : g.row.A.Denot → RigState = λ r. g.A.Rig.rig_state r in
+    let made = c.in_ok-pair.ensures in
+    let paired = paired_at_load c.in_ok-pair.pair c.args.config.now.config c.args.room (state c.load_both.new.first) (g.B.Rig.rig_state c.load_both.new.second)
+    made.spare made.read made.other made.rows made.room c.in-Ok.ensures.first_begins c.in-Ok.ensures.second_begins in
+    twins_end c.self.invariant c.load_both.ensures.first c.load_both.ensures.second c.load_both.ensures.first_narrows c.load_both.ensures.second_narrows (Some c.in_ok-pair.pair) paired (ended_in state c.end.new.past.items) c.is_some.result c.is_some.ensures c.end.ensures
+
+pub invariant_of-self-in-Err-Failed : goal.invariant_of-self-in-Err-Failed
+invariant_of-self-in-Err-Failed g c =
+    let state : g.row.A.Denot → RigState = λ r. g.A.Rig.rig_state r in
+    twins_end c.self.invariant c.load_both.ensures.first c.load_both.ensures.second c.load_both.ensures.first_narrows c.load_both.ensures.second_narrows None tt (ended_in state c.end.new.past.items) c.is_some.result c.is_some.ensures c.end.ensures
+
+pub invariant_of-self-in-Err-Memory : goal.invariant_of-self-in-Err-Memory
+invariant_of-self-in-Err-Memory g c =
+    let state : g.row.A.Denot → RigState = λ r. g.A.Rig.rig_state r in
+    twins_end c.self.invariant c.load_both.ensures.first c.load_both.ensures.second c.load_both.ensures.first_narrows c.load_both.ensures.second_narrows None tt (ended_in state c.end.new.past.items) c.is_some.result c.is_some.ensures c.end.ensures
