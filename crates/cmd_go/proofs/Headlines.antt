@@ -1,6 +1,9 @@
 -- What a `go` has done, from its course.
-use Rattle.std.proofs.Common.{◌≡◌, ℕ, List, [], ◌∷◌, ◌++◌, Result, Ok, Err, OnOk}
+use Rattle.std.proofs.Common.{◌≡◌, ℕ, List, [], ◌∷◌, ◌++◌, Result, Ok, Err, OnOk, sym, subst}
 use Rattle.base_io.specs.Sink.{Wrote}
+use Rattle.machine_shape.specs.declared.Shape.{Shape}
+use Rattle.machine_meaning.specs.Vocabulary.{Covers}
+use Rattle.machine_history.specs.Vocabulary.{IsHistoryOf}
 use Rattle.cmd_steps.specs.Vocabulary.{Outside, around, Course, ends, Asks, IsWritten, LoadsOnce}
 use Rattle.cmd_steps.specs.declared.refusal.Stop.{Stop}
 use Rattle.cmd_steps.proofs.Standing.{Standing}
@@ -48,6 +51,8 @@ module _ (machine name design vectors : List ℕ) (old new : Outside) where
             image_right = r.right;
             as_the_machine_read = r.as_read;
             exactly_the_outputs = r.outputs;
+            listed_parts_at_will = λ h faults covered ran.
+                r.over h (subst (λ (s : Shape). IsHistoryOf s h) (sym r.list.shape) faults) (λ cycle instant. subst (λ (s : Shape). Covers s r.made.list.list (h cycle instant)) (sym r.list.shape) (covered cycle instant)) ran;
           };
           routed = r.laid.0.routed;
           tight = r.list.right.tight;

@@ -7,6 +7,8 @@ use Rattle.machine_defects.specs.Vocabulary.{DefectList, IsDefectList, text_of}
 use Rattle.design_netlist.specs.declared.netlist_data.NetlistData.{NetlistData}
 use Rattle.design_netlist.specs.Rows.{AreRows}
 use Rattle.machine_image.specs.Images.{ImageValue}
+use Rattle.machine_history.specs.Vocabulary.{History, IsHistoryOf, IsRunOver}
+use Rattle.rig.specs.Rig.{cycles_of, drives_of, readings_of}
 use Rattle.place_route.specs.RightImages.{IsRightImage}
 use Rattle.cmd_steps.specs.Vocabulary.{Outside, IsMachineText, IsDesignText}
 use Rattle.diag_list.specs.Possible.{MayHave, TakesFewLoadsOn}
@@ -35,6 +37,11 @@ pub record IsGone (machine name design vectors : List ℕ) (old new : Outside) :
   pub image_right : (f : Faults) → MayHave f new.rig → IsRightImage f image draft
   pub as_the_machine_read : IsAsRead image all_vectors rows new.rig
   pub exactly_the_outputs : (f : Faults) → MayHave f new.rig → AreRows draft all_vectors rows
+  -- whatever the listed parts do, at any time: where the list covers the faults of each instant of a history, and the session's
+  -- readings are the run over it, the rows are the design's
+  pub listed_parts_at_will : (h : History) → IsHistoryOf shape h →
+      ((cycle instant : ℕ) → Covers shape made.list.list (h cycle instant)) →
+      IsRunOver h image.config (drives_of (cycles_of new.rig)) (readings_of (cycles_of new.rig)) → AreRows draft all_vectors rows
 
 -- And what it has done besides
 pub record IsWellGone (machine name design vectors : List ℕ) (old new : Outside) : Type 0 where

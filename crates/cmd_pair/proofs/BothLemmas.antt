@@ -1,5 +1,5 @@
 -- Where two designs are laid, and where they aren't.
-use Rattle.std.proofs.Common.{◌≡◌, ◌⊎◌, ◌+◌, ℕ, [], map, length, subst, refl, inl, inr, length-append, Result, Ok, Err, IfOk, IfErr}
+use Rattle.std.proofs.Common.{◌≡◌, ◌⊎◌, ◌+◌, ℕ, [], map, length, ◌∙◌, subst, refl, inl, inr, length-append, Result, Ok, Err, IfOk, IfErr}
 use Rattle.std.specs.List.{All}
 use Rattle.machine_meaning.specs.Vocabulary.{Covers, Faults}
 use Rattle.machine_defects.specs.Lists.{DefectList}
@@ -43,8 +43,8 @@ module _ (d : DefectList) (first second : NetlistData) (n o : Network) (first_is
     outputs-are : length whole.outputs ≡ length n.outputs + length o.outputs
     outputs-are = rw (tenants.outputs, length-append one.outputs other.outputs, first_pins.outputs, second_pins.outputs) refl
 
-    pub both-image : IsImage whole → whole.config.shape ≡ d.shape → IsFreeImage d.list whole → ((f : Faults) → Covers d.shape d.list f → StandApart f whole one other) → ((netlist : NetlistData) (f : Faults) → HasRowsOf n netlist → Covers d.shape d.list f → IsRightImage f one netlist) → ((netlist : NetlistData) (f : Faults) → HasRowsOf o netlist → Covers d.shape d.list f → IsRightImage f other netlist) → ((f : Faults) → Covers d.shape d.list f → ReadsRows f whole (joint.AreBothRows n o)) → IsRoutedInOrder d.shape d.list (joint_network n o) whole → HaveRoom d.shape d.list n o → (lays_both d first second).gives whole
-    both-image image shape free apart first_right second_right rows routed room = (
+    pub both-image : IsImage whole → IsImage one → IsImage other → whole.config.shape ≡ d.shape → IsFreeImage d.list whole → ((f : Faults) → Covers d.shape d.list f → StandApart f whole one other) → ((netlist : NetlistData) (f : Faults) → HasRowsOf n netlist → Covers d.shape d.list f → IsRightImage f one netlist) → ((netlist : NetlistData) (f : Faults) → HasRowsOf o netlist → Covers d.shape d.list f → IsRightImage f other netlist) → ((f : Faults) → Covers d.shape d.list f → ReadsRows f whole (joint.AreBothRows n o)) → IsRoutedInOrder d.shape d.list (joint_network n o) whole → HaveRoom d.shape d.list n o → (lays_both d first second).gives whole
+    both-image image one_is other_is shape free apart first_right second_right rows routed room = (
       record {
         image = image;
         shape = shape;
@@ -57,6 +57,12 @@ module _ (d : DefectList) (first second : NetlistData) (n o : Network) (first_is
             (subst (λ (k : ℕ). All (λ v. length v ≡ k) vectors) inputs-are widths) (rows f covers vectors reads widths run);
         first_image = one;
         second_image = other;
+        first_is = one_is;
+        second_is = other_is;
+        first_inputs = first_pins.inputs ∙ plain-inputs first n first_is;
+        first_outputs = first_pins.outputs ∙ plain-outputs first n first_is;
+        second_inputs = second_pins.inputs ∙ plain-inputs second o second_is;
+        second_outputs = second_pins.outputs ∙ plain-outputs second o second_is;
         tenants = tenants;
         apart = apart;
         first_right = λ f covers. first_right first f first_rows covers;

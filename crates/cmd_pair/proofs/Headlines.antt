@@ -1,6 +1,11 @@
 -- What a `pair` has done, from its course.
-use Rattle.std.proofs.Common.{◌≡◌, ℕ, List, [], ◌∷◌, ◌++◌, Result, Ok, Err, OnOk}
+use Rattle.std.proofs.Common.{◌≡◌, ℕ, List, [], ◌∷◌, ◌++◌, Result, Ok, Err, OnOk, sym, subst}
 use Rattle.base_io.specs.Sink.{Wrote}
+use Rattle.machine_shape.specs.declared.Shape.{Shape}
+use Rattle.machine_meaning.specs.Vocabulary.{Covers}
+use Rattle.machine_history.specs.Vocabulary.{IsHistoryOf}
+use Rattle.machine_meaning.proofs.Faultless.{covers_none}
+use Rattle.machine_history.proofs.RowsOver.{clean, clean_faultless}
 use Rattle.cmd_steps.specs.Vocabulary.{Outside, around, Course, ends, Asks, IsWritten, LoadsOnce}
 use Rattle.cmd_steps.specs.declared.refusal.Stop.{Stop}
 use Rattle.cmd_steps.proofs.Standing.{Standing}
@@ -10,6 +15,7 @@ use Rattle.run_image.proofs.Headlines as done
 use Rattle.cmd_pair.specs.Pair.{pair_course}
 use Rattle.cmd_pair.specs.Headline.{IsPaired, HaveRoomLeft}
 use Rattle.cmd_pair.proofs.PairLaws.{words}
+use Rattle.cmd_pair.proofs.WhileAlone.{first-right, second-right}
 
 module _ (machine name first second vectors : List ℕ) (old new : Outside) where
   abbrev course : Course
@@ -57,6 +63,12 @@ module _ (machine name first second vectors : List ℕ) (old new : Outside) wher
           apart = λ f told. both.apart f (r.covers f told);
           first_right = λ f told. both.first_right f (r.covers f told);
           second_right = λ f told. both.second_right f (r.covers f told);
+          listed_parts_at_will = λ hist faults covered ran.
+              r.over hist (subst (λ (s : Shape). IsHistoryOf s hist) (sym r.list.shape) faults) (λ cycle instant. subst (λ (s : Shape). Covers s r.made.list.list (hist cycle instant)) (sym r.list.shape) (covered cycle instant)) ran;
+          first_while_alone = λ hist n left ran.
+              first-right r.made.list h.ran.0 h.ran.2.0 r.image both r.vectors r.rows new.rig r.widths r.as_read (both.first_right clean (covers_none clean_faultless)) hist n left ran;
+          second_while_alone = λ hist n left ran.
+              second-right r.made.list h.ran.0 h.ran.2.0 r.image both r.vectors r.rows new.rig r.widths r.as_read (both.second_right clean (covers_none clean_faultless)) hist n left ran;
           tight = r.list.right.tight;
           fair = r.list.right.fair;
           few = r.list.few;

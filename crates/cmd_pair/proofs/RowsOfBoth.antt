@@ -16,7 +16,7 @@ rest-is n k bits wide =
     let size = length-drop n bits in
     take_all k (drop n bits) (omega (arith, size, wide))
 
-rests-are : (n k : ℕ) (vectors : List (List Bool)) → AllByRecursion (λ v. length v ≡ n + k) vectors → map (joint.part n k) vectors ≡ map (drop n) vectors
+pub rests-are : (n k : ℕ) (vectors : List (List Bool)) → AllByRecursion (λ v. length v ≡ n + k) vectors → map (joint.part n k) vectors ≡ map (drop n) vectors
 rests-are n k [] wide = refl
 rests-are n k (v ∷ vectors) wide =
     rw (rest-is n k v wide.0, rests-are n k vectors wide.1) refl

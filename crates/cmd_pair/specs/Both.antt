@@ -73,6 +73,12 @@ pub record IsImageForBoth (d : DefectList) (first second : NetlistData) (i : Ima
   pub right : (f : Faults) → Covers d.shape d.list f → ReadsRows f i (AreBothRows first second)
   pub first_image : ImageValue
   pub second_image : ImageValue
+  pub first_is : IsImage first_image
+  pub second_is : IsImage second_image
+  pub first_inputs : length first_image.inputs ≡ length first.inputs
+  pub first_outputs : length first_image.outputs ≡ length first.outputs
+  pub second_inputs : length second_image.inputs ≡ length second.inputs
+  pub second_outputs : length second_image.outputs ≡ length second.outputs
   pub tenants : AreTenants i first_image second_image
   pub apart : (f : Faults) → Covers d.shape d.list f → StandApart f i first_image second_image
   pub first_right : (f : Faults) → Covers d.shape d.list f → IsRightImage f first_image first

@@ -1,11 +1,14 @@
 -- What a `pair` that is done has done.
-use Rattle.std.specs.Prelude.{◌≡◌, ℕ, ◌+◌, Bool, List, [], ◌∷◌, ◌++◌, length, Some}
+use Rattle.std.specs.Prelude.{◌≡◌, ℕ, ◌+◌, Bool, List, [], ◌∷◌, ◌++◌, length, map, take, drop, Some}
 use Rattle.base_io.specs.Vocabulary.{next_count, IfTold, Wrote}
 use Rattle.machine_shape.specs.declared.Shape.{Shape}
 use Rattle.machine_meaning.specs.Vocabulary.{Faults, Covers, IsFair, IsTight}
 use Rattle.machine_defects.specs.Vocabulary.{DefectList, IsDefectList, text_of}
 use Rattle.design_netlist.specs.declared.netlist_data.NetlistData.{NetlistData}
+use Rattle.design_netlist.specs.Rows.{AreRows}
 use Rattle.machine_image.specs.Images.{ImageValue}
+use Rattle.machine_history.specs.Vocabulary.{History, IsHistoryOf, IsRunOver, LeavesAloneFor}
+use Rattle.rig.specs.Rig.{RigState, cycles_of, drives_of, readings_of}
 use Rattle.place_route.specs.Vocabulary.{IsRightImage, ReadsRows, IsRoutedInOrder}
 use Rattle.place_pair.specs.Tenants.{AreTenants, StandApart}
 use Rattle.cmd_steps.specs.Vocabulary.{Outside, IsMachineText, IsDesignText}
@@ -13,6 +16,13 @@ use Rattle.diag_list.specs.Possible.{MayHave, TakesFewLoadsOn}
 use Rattle.diag_list.specs.Lists.{Listed}
 use Rattle.run_image.specs.Headline.{IsAskedInOrder, IsWrittenWhole, UsesNothingListed, IsAsRead}
 use Rattle.cmd_pair.specs.Both.{AreBothRows, BothHaveRoom, joint_of}
+
+-- Where the session's readings are a run over a history that leaves a tenant of the image alone for n cycles, the first n of these
+-- rows are the first of the design's rows for these vectors, whatever is done to all else, at any time
+abbrev pub AreRightWhileAlone : RigState → (image tenant : ImageValue) → NetlistData → (vectors rows : List (List Bool)) → Type 0
+AreRightWhileAlone rig image tenant draft vectors rows = (h : History) (n : ℕ) → LeavesAloneFor n h image tenant →
+    IsRunOver h image.config (drives_of (cycles_of rig)) (readings_of (cycles_of rig)) →
+    (right : List (List Bool)) × AreRows draft vectors right × (take n rows ≡ take n right)
 
 -- Of the rig's one session: its configuration, with a list of input pins and a list of output pins, is `image`. The parts of it
 -- that are each design's, `first_image` and `second_image`, share no wire
@@ -48,6 +58,17 @@ pub record IsPaired (machine name first second vectors : List ℕ) (old new : Ou
   pub apart : (f : Faults) → MayHave f new.rig → StandApart f image first_image second_image
   pub first_right : (f : Faults) → MayHave f new.rig → IsRightImage f first_image first_draft
   pub second_right : (f : Faults) → MayHave f new.rig → IsRightImage f second_image second_draft
+  -- whatever the listed parts do, at any time: where the list covers the faults of each instant of a history, and the session's
+  -- readings are the run over it, the rows are those of both designs
+  pub listed_parts_at_will : (h : History) → IsHistoryOf shape h →
+      ((cycle instant : ℕ) → Covers shape made.list.list (h cycle instant)) →
+      IsRunOver h image.config (drives_of (cycles_of new.rig)) (readings_of (cycles_of new.rig)) →
+      AreBothRows first_draft second_draft all_vectors rows
+  -- and each design's part of the rows is right as long as what is its own is left alone
+  pub first_while_alone : AreRightWhileAlone new.rig image first_image first_draft (map (take (length first_draft.inputs)) all_vectors)
+      (map (take (length first_draft.outputs)) rows)
+  pub second_while_alone : AreRightWhileAlone new.rig image second_image second_draft
+      (map (drop (length first_draft.inputs)) all_vectors) (map (drop (length first_draft.outputs)) rows)
   -- the list is tight besides, and so fair; few loads were made for it, and exactly one after it
   pub tight : (f : Faults) → MayHave f new.rig → IsTight shape made.list.list f
   pub fair : (f : Faults) → MayHave f new.rig → IsFair shape made.list.list f

@@ -52,8 +52,10 @@ fn image_for(
         Ok(pair) => pair,
         Err(fail) => return Err(no_place(alloc, list.shape(), fail)),
     };
-    // Its contract says that the value is an image.
+    // Their contracts say that the values are images.
     pair.whole.config();
+    pair.first.config();
+    pair.second.config();
     Ok(pair.whole)
 }
 

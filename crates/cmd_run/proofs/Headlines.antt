@@ -1,6 +1,11 @@
 -- What a `run` that is done has done, from its course.
-use Rattle.std.proofs.Common.{◌≡◌, ℕ, List, [], ◌∷◌, ◌++◌, subst, inl, inr}
+use Rattle.std.proofs.Common.{◌≡◌, ℕ, List, [], ◌∷◌, ◌++◌, take, sym, ap, ◌∙◌, subst, inl, inr}
+use Rattle.std.proofs.lemmas.List.{take-map}
 use Rattle.base_io.specs.Sink.{Wrote}
+use Rattle.machine_image.specs.Images.{image_row}
+use Rattle.machine_history.specs.Vocabulary.{IsRunOver}
+use Rattle.machine_history.proofs.Images.{image_runs_alone}
+use Rattle.rig.specs.Rig.{cycles_of, readings_of}
 use Rattle.cmd_steps.specs.Vocabulary.{Outside, around, ends}
 use Rattle.run_image.specs.Rows.{image_rows}
 use Rattle.run_image.proofs.CourseLemmas.{image-ends}
@@ -30,5 +35,10 @@ module _ (machine name image vectors : List ℕ) (old new : Outside) where
         drives = rows.session.drives;
         rows_are = rows.session.rows_are;
         rows_right = rows.has.are;
+        left_alone = λ is_image h none n alone left faultless ran_over run.
+            ap (take n) rows.session.rows_are ∙ take-map (image_row i) n (readings_of (cycles_of new.rig))
+            ∙ image_runs_alone i is_image h none faultless n rows.has.vectors _ alone left
+            (subst (λ ds. IsRunOver h i.config ds (readings_of (cycles_of new.rig))) rows.session.drives ran_over) run
+            ∙ sym (take-map (image_row i) n alone);
         loads = run.loaded;
       }

@@ -1,8 +1,11 @@
 -- What a `run` that is done has done.
-use Rattle.std.specs.Prelude.{◌≡◌, ℕ, Bool, List, [], ◌∷◌, ◌++◌, map, length, Some}
+use Rattle.std.specs.Prelude.{◌≡◌, ℕ, Bool, List, [], ◌∷◌, ◌++◌, map, length, take, Some}
 use Rattle.base_io.specs.Vocabulary.{next_count, IfTold, Wrote}
 use Rattle.machine_shape.specs.declared.Shape.{Shape}
-use Rattle.machine_image.specs.Images.{ImageValue, Reads, drive_of, image_row}
+use Rattle.machine_meaning.specs.Vocabulary.{IsFaultless, Faults, Pins}
+use Rattle.machine_config.specs.Faulty.{IsRun}
+use Rattle.machine_image.specs.Images.{ImageValue, IsImage, Reads, drive_of, image_row}
+use Rattle.machine_history.specs.Vocabulary.{History, IsRunOver, LeavesAloneFor}
 use Rattle.rig.specs.Rig.{config_of, cycles_of, drives_of, readings_of}
 use Rattle.cmd_steps.specs.Vocabulary.{AreAll, output_text, Outside, IsMachineText}
 use Rattle.run_image.specs.Rows.{AreRowsOf}
@@ -25,5 +28,10 @@ pub record IsRan (machine name image vectors : List ℕ) (old new : Outside) : T
   pub rows_are : rows ≡ map (image_row loaded) (readings_of (cycles_of new.rig))
   -- and where the machine's faults are told, the readings are the machine's under them
   pub rows_right : AreRowsOf new.rig loaded all_vectors rows
+  -- Where the readings are a run over a history that leaves the image, in itself, alone for n cycles, the first n rows are those of
+  -- its run without faults
+  pub left_alone : IsImage loaded → (h : History) (none : Faults) (n : ℕ) (alone : List Pins) → LeavesAloneFor n h loaded loaded →
+      IsFaultless none → IsRunOver h loaded.config (drives_of (cycles_of new.rig)) (readings_of (cycles_of new.rig)) →
+      IsRun none loaded.config (map (drive_of loaded) all_vectors) alone → take n rows ≡ take n (map (image_row loaded) alone)
   -- one load was made in all
   pub loads : new.rig.loads ≡ next_count old.rig.loads

@@ -2,15 +2,13 @@
 use Rattle.std.proofs.Common.{◌≡◌, ℕ, Bool, List, [], ◌∷◌, length, map, take, refl, sym, ap, ◌∙◌, subst, arith}
 use Rattle.std.proofs.lemmas.List.{take_all}
 use Rattle.std.proofs.lemmas.List.Elements.{All-map}
-use Rattle.machine_shape.specs.Laws.{IsNumbered}
-use Rattle.machine_meaning.specs.Vocabulary.{Faults, IsFaultless, Defects, Covers, Pins}
+use Rattle.machine_meaning.specs.Vocabulary.{Faults, IsFaultless, Pins}
 use Rattle.machine_config.specs.Vocabulary.{IsRun, circuit_of}
 use Rattle.machine_config.proofs.Runs.{Cycles-length}
-use Rattle.machine_image.specs.Vocabulary.{ImageValue, IsImage, IsFreeImage, drive_of, image_row}
-use Rattle.machine_history.specs.Vocabulary.{History, IsRunOver, LeavesAloneFor, IsDriveFor, drive_alone}
+use Rattle.machine_image.specs.Vocabulary.{ImageValue, IsImage, drive_of, image_row}
+use Rattle.machine_history.specs.Vocabulary.{History, IsRunOver, LeavesAlone, LeavesAloneFor, IsDriveFor, drive_alone}
 use Rattle.machine_history.proofs.Driving.{drives_itself, alone_as_driven}
 use Rattle.machine_history.proofs.Lasting.{tenant_runs_alone}
-use Rattle.machine_history.proofs.Leaving.{covered_alone}
 use Rattle.machine_history.proofs.Sharing.{tenant_of_itself}
 use Rattle.machine_history.proofs.Unique.{CyclesOver-length}
 
@@ -25,12 +23,11 @@ module _ (i : ImageValue) (is : IsImage i) (h : History) (none : Faults) (faultl
       tenant_runs_alone i i (tenant_of_itself i) h none n (map (drive_of i) vectors) reads alone is (tenant_of_itself i) left faultless (All-map (IsDriveFor i i) (drive_of i) vectors (λ k d l. drives_itself i is _)) p
       (subst (λ ds. IsRun none i.config ds alone) (sym (all_as_driven vectors)) q)
 
-  module _ (d : Defects) (numbered : IsNumbered i.config.shape) (free : IsFreeImage d i) (covers : (cycle instant : ℕ) → Covers i.config.shape d (h cycle instant)) where
-    pub covered_runs_alone : (vectors : List (List Bool)) (reads alone : List Pins) → IsRunOver h i.config (map (drive_of i) vectors) reads → IsRun none i.config (map (drive_of i) vectors) alone → map (image_row i) reads ≡ map (image_row i) alone
-    covered_runs_alone vectors reads alone p q =
-        let n = length (map (drive_of i) vectors) in
-        let long = CyclesOver-length i.config h p.cycles in
-        let other = Cycles-length (circuit_of none i.config) q.cycles in
-        sym (ap (map (image_row i)) (take_all n reads (omega (arith, long))))
-        ∙ image_runs_alone n vectors reads alone (λ cycle instant below few. covered_alone d i (h cycle instant) numbered is free (covers cycle instant)) p q
-        ∙ ap (map (image_row i)) (take_all n alone (omega (arith, other)))
+  pub always_alone : ((cycle instant : ℕ) → LeavesAlone (h cycle instant) i i) → (vectors : List (List Bool)) (reads alone : List Pins) → IsRunOver h i.config (map (drive_of i) vectors) reads → IsRun none i.config (map (drive_of i) vectors) alone → map (image_row i) reads ≡ map (image_row i) alone
+  always_alone left vectors reads alone p q =
+      let n = length (map (drive_of i) vectors) in
+      let long = CyclesOver-length i.config h p.cycles in
+      let other = Cycles-length (circuit_of none i.config) q.cycles in
+      sym (ap (map (image_row i)) (take_all n reads (omega (arith, long))))
+      ∙ image_runs_alone n vectors reads alone (λ cycle instant below few. left cycle instant) p q
+      ∙ ap (map (image_row i)) (take_all n alone (omega (arith, other)))

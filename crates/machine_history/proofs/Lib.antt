@@ -11,3 +11,4 @@ mod Existing
 mod Constant
 mod Reaching
 mod Instants
+mod Within

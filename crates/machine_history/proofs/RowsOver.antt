@@ -6,16 +6,16 @@ use Rattle.std.specs.FinMap as finmap
 use Rattle.std.specs.FinSet as set
 use Rattle.std.proofs.lemmas.Bool.{false≢true}
 use Rattle.std.proofs.lemmas.List.{take-map}
-use Rattle.machine_shape.specs.Laws.{IsNumbered}
 use Rattle.machine_shape.specs.declared.Shape.{Shape}
 use Rattle.machine_meaning.specs.Vocabulary.{Faults, AreFaultsOf, IsFaultless, pair_cmp, Defects, Covers, Pins}
 use Rattle.machine_config.specs.Vocabulary.{Configuration, IsConfiguration, IsRun}
 use Rattle.machine_image.specs.Vocabulary.{ImageValue, IsImage, IsFreeImage, drive_of, image_row}
-use Rattle.machine_history.specs.Vocabulary.{History, IsRunOver, IsTenantOf, LeavesAloneFor, IsDriveFor, drive_alone}
+use Rattle.machine_history.specs.Vocabulary.{History, IsHistoryOf, IsRunOver, IsTenantOf, LeavesAloneFor, IsDriveFor, drive_alone}
 use Rattle.machine_history.proofs.Constant.{run_of}
 use Rattle.machine_history.proofs.Existing.{run_over_exists}
-use Rattle.machine_history.proofs.Images.{image_runs_alone, covered_runs_alone}
+use Rattle.machine_history.proofs.Images.{image_runs_alone, always_alone}
 use Rattle.machine_history.proofs.Lasting.{tenant_runs_alone}
+use Rattle.machine_history.proofs.Within.{within_alone}
 
 -- no faults at all
 pub clean : Faults
@@ -74,7 +74,8 @@ module _ (Rows : List (List Bool) → List (List Bool) → Type 0) where
         (map (image_row i) r.0, right vectors r.0 widths r.1, image_runs_alone i is h clean clean_faultless n vectors reads r.0 left p r.1 ∙ sym (take-map (image_row i) n r.0))
 
     -- an image on what a list leaves free reads its rows, whatever is done to what is listed
-    pub covered_rows : (d : Defects) → IsNumbered i.config.shape → IsFreeImage d i → ((cycle instant : ℕ) → Covers i.config.shape d (h cycle instant)) → Rows vectors (map (image_row i) reads)
-    covered_rows d numbered free covers =
+    pub covered_rows : (d : Defects) → IsHistoryOf i.config.shape h → IsFreeImage d i → ((cycle instant : ℕ) → Covers i.config.shape d (h cycle instant)) → Rows vectors (map (image_row i) reads)
+    covered_rows d faults free covers =
         let r = clean_run i.config is.config (map (drive_of i) vectors) in
-        subst (Rows vectors) (sym (covered_runs_alone i is h clean clean_faultless d numbered free covers vectors reads r.0 p r.1)) (right vectors r.0 widths r.1)
+        subst (Rows vectors) (sym (always_alone i is h clean clean_faultless (λ cycle instant. within_alone d i (h cycle instant) (faults cycle instant) is free (covers cycle instant)) vectors reads r.0 p r.1))
+        (right vectors r.0 widths r.1)

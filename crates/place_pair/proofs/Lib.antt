@@ -1,3 +1,6 @@
+-- What is cited above.
+pub mod Lonely
+-- For the proofs of this crate alone.
 mod Lists
 mod Moving
 mod Sounding
@@ -9,3 +12,4 @@ mod Letting
 mod Halving
 mod Seating
 mod Cutting
+mod Sharing

@@ -1,11 +1,12 @@
 -- A whole image and its two tenants: what they share, and when they run apart.
-use Rattle.std.specs.Prelude.{◌≡◌, ◌⊎◌, ◌↔◌, ℕ, ◌++◌, Bool, true, List, map, length, Some}
+use Rattle.std.specs.Prelude.{◌≡◌, ◌⊎◌, ◌↔◌, ℕ, ◌++◌, Bool, true, List, map, length, take, Some}
 use Rattle.std.specs.List.{All}
 use Rattle.machine_shape.specs.declared.Shape.{Shape}
-use Rattle.machine_meaning.specs.Vocabulary.{Pins, Defects, Faults}
+use Rattle.machine_meaning.specs.Vocabulary.{Pins, Defects, Faults, IsFaultless}
 use Rattle.machine_config.specs.declared.Setting.{Setting}
 use Rattle.machine_config.specs.Vocabulary.{is_closed, setting_of, IsRun}
 use Rattle.machine_image.specs.Vocabulary.{ImageValue, drive_of, image_row, Uses}
+use Rattle.machine_history.specs.Vocabulary.{History, IsRunOver}
 use Rattle.map_network.specs.declared.network.Network.{Network}
 use Rattle.place_plan.specs.declared.plan.Plan.{Plan}
 use Rattle.place_plan.specs.Plans.{FitsInOrder}
@@ -38,6 +39,14 @@ RunsAsAlone f whole tenant from = (vectors : List (List Bool)) (reads alone : Li
 pub record StandApart (f : Faults) (whole first second : ImageValue) : Type 0 where
   pub first_alone : RunsAsAlone f whole first 0
   pub second_alone : RunsAsAlone f whole second (length first.inputs)
+
+-- Over a history, what is read in the first n cycles at the tenant's output pins is what the tenant's image gives by itself, on a
+-- machine without faults, for its part of the vectors, from this bit on.
+abbrev pub RunsAsAloneOver : History → ℕ → (whole tenant : ImageValue) → ℕ → Type 0
+RunsAsAloneOver h n whole tenant from = (none : Faults) (vectors : List (List Bool)) (reads alone : List Pins) →
+    IsFaultless none → IsRunOver h whole.config (map (drive_of whole) vectors) reads →
+    IsRun none tenant.config (map (drive_of tenant) (map (part from (length tenant.inputs)) vectors)) alone →
+    map (image_row tenant) (take n reads) ≡ map (image_row tenant) (take n alone)
 
 -- a pin for each input and output of the network
 pub record HasPinsOf (n : Network) (i : ImageValue) : Type 0 where

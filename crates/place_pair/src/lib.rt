@@ -11,10 +11,13 @@
 //! network's (`first_right`, `second_right`); what is read at its pins in the whole is what its image alone gives for its part of
 //! the vectors (`apart`); and so each row of the whole is the first network's row and then the second's (`rows`). `Short` comes
 //! exactly where the in-order plan of the joint network doesn't fit, with what `in_order` says of it (`room`, `fail`).
+//!
+//! Over a history of faults each network runs as its image alone as long as it is left alone (`laws::either_runs_alone`).
 #![tactic(auto)]
 
 mod holders;
 mod joining;
+pub mod laws;
 mod pairing;
 mod site;
 mod splitting;

@@ -3,11 +3,14 @@ use Rattle.std.proofs.Common.{◌≡◌, ◌∙◌, ℕ, All, List, [], ◌∷�
 use Rattle.base_io.specs.Vocabulary.{next_count, IfTold, Wrote}
 use Rattle.machine_shape.specs.declared.Shape.{Shape}
 use Rattle.machine_meaning.specs.Vocabulary.{Faults, Covers, Pins}
+use Rattle.machine_meaning.proofs.Faultless.{covers_none}
 use Rattle.machine_config.specs.Faulty.{IsRun}
 use Rattle.machine_defects.specs.Text.{text_of}
 use Rattle.machine_image.specs.Images.{ImageValue}
+use Rattle.machine_history.specs.Vocabulary.{History, IsHistoryOf, IsRunOver}
+use Rattle.machine_history.proofs.RowsOver.{clean, clean_faultless, covered_rows}
 use Rattle.place_route.specs.RightImages.{ReadsRows}
-use Rattle.rig.specs.Rig.{RigState, cycles_of, readings_of}
+use Rattle.rig.specs.Rig.{RigState, cycles_of, drives_of, readings_of}
 use Rattle.rig.proofs.Narrowing.{session_run}
 use Rattle.cmd_steps.specs.Vocabulary.{AreAll, Outside, around, Course, Next, ends, refuses, writes, IsWritten, IsMachineText, LoadsOnce, reads_machine}
 use Rattle.cmd_steps.specs.declared.refusal.Refusal.{Refusal}
@@ -54,6 +57,12 @@ module _ (w : Words) (old new : Outside) where
       let some : Adds (refuses refusal) more = subst (λ (n : Next). Adds n more) is adds in
       none refusal some.0 (wrote-as (text ++ more) _ (ap (λ (s : List ℕ). s ++ more) empty ∙ some.1) wrote)
 
+  -- Over a history of the machine at whose every instant the list covers the faults, if what the session has read is a run over it,
+  -- the rows are those of what was laid
+  abbrev pub OverHistories : Laid → Listed → ImageValue → (vectors rows : List (List Bool)) → Type 0
+  OverHistories x made image vectors rows = (h : History) → IsHistoryOf made.list.shape h → ((cycle instant : ℕ) → Covers made.list.shape made.list.list (h cycle instant))
+      → IsRunOver h image.config (drives_of (cycles_of new.rig)) (readings_of (cycles_of new.rig)) → x.rows vectors rows
+
   -- what x was run to its end
   pub record Ran (m : Shape) (x : Laid) : Type 0 where
     pub made : Listed
@@ -69,8 +78,10 @@ module _ (w : Words) (old new : Outside) where
     pub covers : (f : Faults) → MayHave f new.rig → Covers made.list.shape made.list.list f
     pub uses_nothing_listed : UsesNothingListed made.list image new.rig
     pub right : (f : Faults) → MayHave f new.rig → ReadsRows f image x.rows
+    pub widths : All (λ vector. length vector ≡ length image.inputs) vectors
     pub as_read : IsAsRead image vectors rows new.rig
     pub outputs : (f : Faults) → MayHave f new.rig → x.rows vectors rows
+    pub over : OverHistories x made image vectors rows
     pub loaded : new.rig.loads ≡ next_count made.loads
 
   -- ---- of one that is laid
@@ -136,8 +147,15 @@ module _ (w : Words) (old new : Outside) where
             covers = covers;
             uses_nothing_listed = record { is_image = o.image; shape = o.shape; config = run.rows.session.config; free = o.free };
             right = λ f may. o.right f (covers f may);
+            widths = has.are.read.widths;
             as_read = record { drives = run.rows.session.drives; rows_are = run.rows.session.rows_are };
             outputs = λ f may. rows-right x i new.rig f (o.right f (covers f may)) has.vectors has.rows has.are.read.widths run.rows.session has.are.right may;
+            over = λ h faults covered ran_over.
+                subst (λ (r : List (List Bool)). x.rows has.vectors r) (sym run.rows.session.rows_are)
+                (covered_rows x.rows i o.image (o.right clean (covers_none clean_faultless)) h has.vectors _ has.are.read.widths
+                (subst (λ ds. IsRunOver h i.config ds (readings_of (cycles_of new.rig))) run.rows.session.drives ran_over)
+                l.list.list (subst (λ (s : Shape). IsHistoryOf s h) (sym o.shape) faults) o.free
+                (λ cycle instant. subst (λ (s : Shape). Covers s l.list.list (h cycle instant)) (sym o.shape) (covered cycle instant)));
             loaded = run.loaded;
           }
 
