@@ -13,7 +13,7 @@ use crate::picture::{Marks, Picture, Stage};
 use crate::steps::{first_stage, grow_stage, sweep_stage, test_stage};
 use base_random::Draws;
 use machine_faults::FaultSet;
-use machine_shape::Table;
+use machine_shape::{Shape, Table};
 use rig::Rig;
 use std::alloc::Global;
 
@@ -38,6 +38,25 @@ fn sweep_once(
     judge.hold_sweep(area, &before, stage, taken)
 }
 
+// The same, and what is marked behind it.
+fn sweep_task(
+    rig: &mut Box<dyn Rig>,
+    stage: &mut Stage,
+    judge: &Judge,
+    task: &Task,
+) -> Result<Marks, &'static str>
+    requires attached { shape_of (rig_state rig.old) ≡ Some stage.old.facts.shape }
+    requires stage { IsStageOf stage.old.facts.shape stage.old }
+    requires field { IsFieldOf stage.old.facts.shape task.now.field }
+{
+    let area = area_of(judge.alloc, &stage.facts.shape(), task)
+        .ok()
+        .ok_or("no memory")?;
+    sweep_once(rig, stage, judge, task, &area)?;
+    let picture = judge.picture(stage)?;
+    Ok(picture.marks)
+}
+
 // A sweep of all of the machine, and what is marked behind it.
 fn sweep_all(
     rig: &mut Box<dyn Rig>,
@@ -49,13 +68,10 @@ fn sweep_all(
 {
     let shape = stage.facts.shape();
     let mut draws = Draws::new(0);
-    let Ok(all) = whole(judge.alloc, &mut draws, &shape) else {
-        return Err("no memory");
-    };
-    let area = area_of(judge.alloc, &shape, &all).ok().ok_or("no memory")?;
-    sweep_once(rig, stage, judge, &all, &area)?;
-    let picture = judge.picture(stage)?;
-    Ok(picture.marks)
+    match whole(judge.alloc, &mut draws, &shape) {
+        Ok(all) => sweep_task(rig, stage, judge, &all),
+        Err(_) => Err("no memory"),
+    }
 }
 
 // A growth in what isn't marked of a field.
@@ -169,6 +185,33 @@ fn know_all(
     know_whole(rig, stage, judge, &all)
 }
 
+// A sweep of all of a machine of which nothing is known, and what is marked behind it.
+fn sweep_anew(
+    alloc: Global,
+    rig: &mut Box<dyn Rig>,
+    judge: &Judge,
+    shape: &Shape,
+) -> Result<Marks, &'static str>
+    requires { shape_of (rig_state rig.old) ≡ Some shape.now }
+{
+    let mut stage = first_stage(alloc, shape)?;
+    sweep_all(rig, &mut stage, judge)
+}
+
+// A part of a machine of which nothing is known, then all of it, and then its tables.
+fn know_anew(
+    alloc: Global,
+    rig: &mut Box<dyn Rig>,
+    judge: &Judge,
+    draws: &mut Draws,
+    shape: &Shape,
+) -> Result<Picture, &'static str>
+    requires { shape_of (rig_state rig.old) ≡ Some shape.now }
+{
+    let mut stage = first_stage(alloc, shape)?;
+    know_all(rig, &mut stage, judge, draws)
+}
+
 /// Sweeps all of a machine of which nothing is known, looks at what that leaves, and gives the marks.
 ///
 /// # Errors
@@ -182,8 +225,7 @@ pub fn marks_of_sweep(
     requires attached { shape_of (rig_state rig.old) ≡ Some faults.now.shape }
 {
     let judge = judge_of(alloc, faults)?;
-    let mut stage = first_stage(alloc, &faults.shape())?;
-    sweep_all(rig, &mut stage, &judge)
+    sweep_anew(alloc, rig, &judge, &faults.shape())
 }
 
 /// Sweeps, chooses and grows over a part of a machine and then over all of it, tests its tables, and looks at what each call leaves:
@@ -201,7 +243,6 @@ pub fn try_calls(
     requires attached { shape_of (rig_state rig.old) ≡ Some faults.now.shape }
 {
     let judge = judge_of(alloc, faults)?;
-    let mut stage = first_stage(alloc, &faults.shape())?;
-    let last = know_all(rig, &mut stage, &judge, draws)?;
+    let last = know_anew(alloc, rig, &judge, draws, &faults.shape())?;
     judge.tables_are_closed(faults, &last)
 }

@@ -27,20 +27,42 @@ fn stage_of(shape: &Shape, facts: Facts, known: Known, bad: DefectMarks) -> Stag
     Stage { facts, known, bad }
 }
 
+// The same with these facts and what is known by them, where nothing is marked.
+fn unmarked_stage(
+    alloc: Global,
+    shape: &Shape,
+    facts: Facts,
+    known: Known,
+) -> Result<Stage, &'static str>
+    requires shape { facts.shape ≡ shape.now }
+    requires known { IsKnown facts known }
+    ensures { IfOk result (IsStageOf shape.now) }
+{
+    match DefectMarks::none(alloc, shape) {
+        Ok(bad) => Ok(stage_of(shape, facts, known, bad)),
+        Err(_) => Err("no memory"),
+    }
+}
+
+// The same with these facts, where nothing is known.
+fn stage_by(alloc: Global, shape: &Shape, facts: Facts) -> Result<Stage, &'static str>
+    requires { facts.shape ≡ shape.now }
+    ensures { IfOk result (IsStageOf shape.now) }
+{
+    match Known::new(alloc, shape) {
+        Ok(known) => unmarked_stage(alloc, shape, facts, known),
+        Err(_) => Err("no memory"),
+    }
+}
+
 /// Nothing is kept, known or marked.
 pub fn first_stage(alloc: Global, shape: &Shape) -> Result<Stage, &'static str>
     ensures { IfOk result (IsStageOf shape.now) }
 {
-    let Ok(facts) = Facts::new(alloc, *shape) else {
-        return Err("no memory");
-    };
-    let Ok(known) = Known::new(alloc, shape) else {
-        return Err("no memory");
-    };
-    let Ok(bad) = DefectMarks::none(alloc, shape) else {
-        return Err("no memory");
-    };
-    Ok(stage_of(shape, facts, known, bad))
+    match Facts::new(alloc, *shape) {
+        Ok(facts) => stage_by(alloc, shape, facts),
+        Err(_) => Err("no memory"),
+    }
 }
 
 /// A sweep of a field and some tables.

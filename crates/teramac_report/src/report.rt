@@ -7,6 +7,7 @@ use crate::listed::{listed_crosses, listed_tables, listed_wires};
 use crate::plans::put_plans;
 use base_io::{Sink, Store};
 use cmd_steps::{DesignFile, Refusal, Stop, attach, finish, read_design, read_shape, write};
+use design_netlist::Netlist;
 use diag_machine::{Parts, diagnose_in_parts};
 use machine_defects::Defects;
 use rig::Rig;
@@ -82,6 +83,44 @@ fn diagnose_machine<S: Store>(
     Ok(Diagnosis { list, loads, parts })
 }
 
+// The report on a machine.
+fn machine_report<S: Store>(
+    alloc: Global,
+    machine: &str,
+    name: &str,
+    store: &mut S,
+    rig: &mut Box<dyn Rig>,
+) -> Result<Vec<u8>, Stop> {
+    let diagnosis = diagnose_machine(alloc, machine, name, store, rig)?;
+    report_of(alloc, &diagnosis)
+}
+
+// The report on what was listed of a machine.
+fn report_of(alloc: Global, diagnosis: &Diagnosis) -> Result<Vec<u8>, Stop> {
+    let text = text_of(alloc, diagnosis)?;
+    Ok(text)
+}
+
+// The same, and on the plans of a design.
+fn report_on(alloc: Global, netlist: &Netlist, diagnosis: &Diagnosis) -> Result<Vec<u8>, Stop> {
+    let mut text = text_of(alloc, diagnosis)?;
+    put_plans(alloc, &mut text, netlist, &diagnosis.list)?;
+    Ok(text)
+}
+
+// The report on a machine and on the plans of a design.
+fn report_with<S: Store>(
+    alloc: Global,
+    machine: &str,
+    name: &str,
+    netlist: &Netlist,
+    store: &mut S,
+    rig: &mut Box<dyn Rig>,
+) -> Result<Vec<u8>, Stop> {
+    let diagnosis = diagnose_machine(alloc, machine, name, store, rig)?;
+    report_on(alloc, netlist, &diagnosis)
+}
+
 // The report on a machine and on the plans of a design, which is read first.
 fn design_report<S: Store>(
     alloc: Global,
@@ -92,10 +131,7 @@ fn design_report<S: Store>(
     rig: &mut Box<dyn Rig>,
 ) -> Result<Vec<u8>, Stop> {
     let netlist = read_design(alloc, DesignFile::Design, store, design)?;
-    let diagnosis = diagnose_machine(alloc, machine, name, store, rig)?;
-    let mut text = text_of(alloc, &diagnosis)?;
-    put_plans(alloc, &mut text, &netlist, &diagnosis.list)?;
-    Ok(text)
+    report_with(alloc, machine, name, &netlist, store, rig)
 }
 
 // The report that the words ask for.
@@ -106,10 +142,7 @@ fn text_for<S: Store>(
     rig: &mut Box<dyn Rig>,
 ) -> Result<Vec<u8>, Stop> {
     match words {
-        [machine, name] => {
-            let diagnosis = diagnose_machine(alloc, machine, name, store, rig)?;
-            Ok(text_of(alloc, &diagnosis)?)
-        }
+        [machine, name] => machine_report(alloc, machine, name, store, rig),
         [machine, name, design] => design_report(alloc, machine, name, design, store, rig),
         _ => Err(Stop::Refused(Refusal::Words)),
     }

@@ -1,9 +1,11 @@
 //! Questions to a machine that a test of `diag_evidence` answers.
-ghost use Rattle.std.specs.Prelude.{◌≡◌, ℕ, true, Some, IsTrue};
+ghost use Rattle.std.specs.Prelude.{◌≡◌, ◌<◌, ℕ, true, Some, IsTrue, length};
+ghost use Rattle.machine_shape.specs.Shape.{crosses_of, pins_of, tables_of};
 ghost use Rattle.machine_config.specs.Groups.{among};
 ghost use Rattle.rig.specs.Rig.{shape_of};
 ghost use Rattle.diag_tests.specs.Routes.{IsRoute};
 ghost use Rattle.diag_evidence.specs.Kept.{Advances, keeps_cross};
+ghost use Rattle.example_parts.specs.Laid.{IsLaid};
 
 use crate::crossbars::setup::{Laid, Setup, lay};
 use diag_evidence::Facts;
@@ -12,6 +14,29 @@ use diag_tests::Route;
 use machine_shape::{Cross, Table, Wire};
 use rig::{PinBits, Rig, RigFail};
 use std::alloc::Global;
+
+// Toggles a crosspoint of what is laid, if it is closed, and reads a pin.
+fn toggle_laid(
+    rig: &mut Box<dyn Rig>,
+    facts: &mut Facts,
+    laid: &mut Laid,
+    c: Cross,
+    at: u32,
+) -> Result<Option<bool>, RigFail>
+    requires attached { shape_of (rig_state rig.old) ≡ Some facts.old.shape }
+    requires laid { IsLaid facts.old.shape laid.old.left laid.old.right laid.old.config.config }
+    requires drive { length laid.old.drive ≡ pins_of facts.old.shape }
+    requires cross { c.0 < crosses_of facts.old.shape }
+    requires at { at < pins_of facts.old.shape }
+    ensures advances { Advances (rig_state rig.old) (rig_state rig.new) facts.old facts.new }
+{
+    tests_add_up();
+    if !laid.config.has_cross(c) {
+        return Ok(None);
+    }
+    let yes = facts.toggle_cross(rig, &mut laid.config, c, &laid.drive, at)?;
+    Ok(Some(yes))
+}
 
 // Toggles a closed crosspoint, and reads a pin.
 fn toggle_cross(
@@ -27,25 +52,16 @@ fn toggle_cross(
 {
     tests_add_up();
     let shape = facts.shape();
-    let Some(laid) = lay(alloc, &shape, setup)? else {
-        return Ok(None);
-    };
-    let Laid {
-        mut config,
-        drive,
-        ..
-    } = laid;
     if c >= shape.crosses() {
         return Ok(None);
     }
     if at >= shape.pins() {
         return Ok(None);
     }
-    if !config.has_cross(Cross(c)) {
-        return Ok(None);
+    match lay(alloc, &shape, setup)? {
+        Some(mut laid) => toggle_laid(rig, facts, &mut laid, Cross(c), at),
+        None => Ok(None),
     }
-    let yes = facts.toggle_cross(rig, &mut config, Cross(c), &drive, at)?;
-    Ok(Some(yes))
 }
 
 // A cell of a table, each by its number.
@@ -53,6 +69,31 @@ fn toggle_cross(
 struct CellOf {
     table: u32,
     address: u8,
+}
+
+// Toggles a cell of a table of what is laid, if that is on, and reads a pin.
+fn toggle_laid_cell(
+    rig: &mut Box<dyn Rig>,
+    facts: &mut Facts,
+    laid: &mut Laid,
+    t: Table,
+    address: u8,
+    at: u32,
+) -> Result<Option<bool>, RigFail>
+    requires attached { shape_of (rig_state rig.old) ≡ Some facts.old.shape }
+    requires laid { IsLaid facts.old.shape laid.old.left laid.old.right laid.old.config.config }
+    requires drive { length laid.old.drive ≡ pins_of facts.old.shape }
+    requires table { t.0 < tables_of facts.old.shape }
+    requires address { address < 64 }
+    requires at { at < pins_of facts.old.shape }
+    ensures advances { Advances (rig_state rig.old) (rig_state rig.new) facts.old facts.new }
+{
+    tests_add_up();
+    if laid.config.setting(t).is_none() {
+        return Ok(None);
+    }
+    let yes = facts.toggle_cell(rig, &mut laid.config, t, address, &laid.drive, at)?;
+    Ok(Some(yes))
 }
 
 // Toggles a cell of a table that is on, and reads a pin.
@@ -69,14 +110,6 @@ fn toggle_cell(
 {
     tests_add_up();
     let shape = facts.shape();
-    let Some(laid) = lay(alloc, &shape, setup)? else {
-        return Ok(None);
-    };
-    let Laid {
-        mut config,
-        drive,
-        ..
-    } = laid;
     let CellOf { table: t, address } = cell;
     if t >= shape.tables() {
         return Ok(None);
@@ -87,10 +120,35 @@ fn toggle_cell(
     if address >= 64 {
         return Ok(None);
     }
-    if config.setting(Table(t)).is_none() {
+    match lay(alloc, &shape, setup)? {
+        Some(mut laid) => toggle_laid_cell(rig, facts, &mut laid, Table(t), address, at),
+        None => Ok(None),
+    }
+}
+
+// Toggles the register of a table of what is laid, if that is on and latched, and reads a pin.
+fn toggle_laid_register(
+    rig: &mut Box<dyn Rig>,
+    facts: &mut Facts,
+    laid: &mut Laid,
+    t: Table,
+    at: u32,
+) -> Result<Option<bool>, RigFail>
+    requires attached { shape_of (rig_state rig.old) ≡ Some facts.old.shape }
+    requires laid { IsLaid facts.old.shape laid.old.left laid.old.right laid.old.config.config }
+    requires drive { length laid.old.drive ≡ pins_of facts.old.shape }
+    requires table { t.0 < tables_of facts.old.shape }
+    requires at { at < pins_of facts.old.shape }
+    ensures advances { Advances (rig_state rig.old) (rig_state rig.new) facts.old facts.new }
+{
+    tests_add_up();
+    let Some(setting) = laid.config.setting(t) else {
+        return Ok(None);
+    };
+    if !setting.latched {
         return Ok(None);
     }
-    let yes = facts.toggle_cell(rig, &mut config, Table(t), address, &drive, at)?;
+    let yes = facts.toggle_register(rig, &mut laid.config, t, &laid.drive, at)?;
     Ok(Some(yes))
 }
 
@@ -108,28 +166,16 @@ fn toggle_register(
 {
     tests_add_up();
     let shape = facts.shape();
-    let Some(laid) = lay(alloc, &shape, setup)? else {
-        return Ok(None);
-    };
-    let Laid {
-        mut config,
-        drive,
-        ..
-    } = laid;
     if t >= shape.tables() {
         return Ok(None);
     }
     if at >= shape.pins() {
         return Ok(None);
     }
-    let Some(setting) = config.setting(Table(t)) else {
-        return Ok(None);
-    };
-    if !setting.latched {
-        return Ok(None);
+    match lay(alloc, &shape, setup)? {
+        Some(mut laid) => toggle_laid_register(rig, facts, &mut laid, Table(t), at),
+        None => Ok(None),
     }
-    let yes = facts.toggle_register(rig, &mut config, Table(t), &drive, at)?;
-    Ok(Some(yes))
 }
 
 // Whether the crosspoints of a route are kept.
@@ -145,6 +191,31 @@ fn keeps_route(facts: &Facts, route: &Route) -> bool
     true
 }
 
+// Swings the left route of what is laid, if its crosspoints are kept.
+fn swing_laid(
+    alloc: Global,
+    rig: &mut Box<dyn Rig>,
+    facts: &mut Facts,
+    laid: &Laid,
+) -> Result<Option<bool>, RigFail>
+    requires attached { shape_of (rig_state rig.old) ≡ Some facts.old.shape }
+    requires laid { IsLaid facts.old.shape laid.now.left laid.now.right laid.now.config.config }
+    requires drive { length laid.now.drive ≡ pins_of facts.old.shape }
+    ensures advances { Advances (rig_state rig.old) (rig_state rig.new) facts.old facts.new }
+{
+    tests_add_up();
+    if !keeps_route(facts, &laid.left) {
+        return Ok(None);
+    }
+    match PinBits::new(alloc, facts.shape().pins()) {
+        Ok(high) => {
+            let yes = facts.test_stuck(rig, &laid.config, &laid.drive, &high, &laid.left)?;
+            Ok(Some(yes))
+        }
+        Err(_) => Err(RigFail::Memory),
+    }
+}
+
 // Swings the left route.
 fn test_stuck(
     alloc: Global,
@@ -157,22 +228,34 @@ fn test_stuck(
 {
     tests_add_up();
     let shape = facts.shape();
-    let Some(laid) = lay(alloc, &shape, setup)? else {
-        return Ok(None);
-    };
-    let Laid {
-        left,
-        config,
-        drive,
-        ..
-    } = laid;
-    if !keeps_route(facts, &left) {
+    match lay(alloc, &shape, setup)? {
+        Some(laid) => swing_laid(alloc, rig, facts, &laid),
+        None => Ok(None),
+    }
+}
+
+// Whether the two routes of what is laid are apart, if their crosspoints are kept and they don't meet.
+fn part_laid(
+    rig: &mut Box<dyn Rig>,
+    facts: &mut Facts,
+    laid: &Laid,
+) -> Result<Option<bool>, RigFail>
+    requires attached { shape_of (rig_state rig.old) ≡ Some facts.old.shape }
+    requires laid { IsLaid facts.old.shape laid.now.left laid.now.right laid.now.config.config }
+    requires drive { length laid.now.drive ≡ pins_of facts.old.shape }
+    ensures advances { Advances (rig_state rig.old) (rig_state rig.new) facts.old facts.new }
+{
+    tests_add_up();
+    if !keeps_route(facts, &laid.left) {
         return Ok(None);
     }
-    let Ok(high) = PinBits::new(alloc, shape.pins()) else {
-        return Err(RigFail::Memory);
-    };
-    let yes = facts.test_stuck(rig, &config, &drive, &high, &left)?;
+    if !keeps_route(facts, &laid.right) {
+        return Ok(None);
+    }
+    if laid.left.meets(&laid.right) {
+        return Ok(None);
+    }
+    let yes = facts.test_short(rig, &laid.config, &laid.drive, &laid.left, &laid.right)?;
     Ok(Some(yes))
 }
 
@@ -188,26 +271,10 @@ fn test_short(
 {
     tests_add_up();
     let shape = facts.shape();
-    let Some(laid) = lay(alloc, &shape, setup)? else {
-        return Ok(None);
-    };
-    let Laid {
-        left,
-        right,
-        config,
-        drive,
-    } = laid;
-    if !keeps_route(facts, &left) {
-        return Ok(None);
+    match lay(alloc, &shape, setup)? {
+        Some(laid) => part_laid(rig, facts, &laid),
+        None => Ok(None),
     }
-    if !keeps_route(facts, &right) {
-        return Ok(None);
-    }
-    if left.meets(&right) {
-        return Ok(None);
-    }
-    let yes = facts.test_short(rig, &config, &drive, &left, &right)?;
-    Ok(Some(yes))
 }
 
 /// What a test answers. None where the words ask for none, or for one that isn't to be asked so.

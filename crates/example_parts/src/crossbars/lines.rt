@@ -251,14 +251,24 @@ fn try_lines(
     Ok(right)
 }
 
-/// Whether all lines of a case are right. What came of each that isn't is printed.
-pub fn try_case(rt: &impl Print, alloc: Global, case: &Case) -> Result<bool, AllocError> {
-    let mut rig: Box<dyn Rig> = Box::new(alloc, rig_of(alloc, case)?)?;
-    let mut facts = Facts::new(alloc, case.shape)?;
+// The same on its rig.
+fn try_on(
+    rt: &impl Print,
+    alloc: Global,
+    rig: &mut Box<dyn Rig>,
+    case: &Case,
+) -> Result<bool, AllocError> {
     if rig.attach(&case.shape, case.machine.as_str()).is_err() {
         let name = case.name.as_str();
         let _ = println!(rt; "{name}: not attached");
         return Ok(false);
     }
-    try_lines(rt, alloc, &mut rig, &mut facts, case)
+    let mut facts = Facts::new(alloc, case.shape)?;
+    try_lines(rt, alloc, rig, &mut facts, case)
+}
+
+/// Whether all lines of a case are right. What came of each that isn't is printed.
+pub fn try_case(rt: &impl Print, alloc: Global, case: &Case) -> Result<bool, AllocError> {
+    let mut rig: Box<dyn Rig> = Box::new(alloc, rig_of(alloc, case)?)?;
+    try_on(rt, alloc, &mut rig, case)
 }

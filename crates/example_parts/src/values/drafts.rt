@@ -173,21 +173,44 @@ fn checked(alloc: Global, gates: &[(Gate, u64)]) -> Option<Result<Netlist, Desig
     Some(check(alloc, data))
 }
 
+// Whether gates that each stand on a line are refused at this line, for this, with this name.
+fn are_refused(
+    alloc: Global,
+    gates: &[(Gate, u64)],
+    line: u64,
+    wrong: Wrong,
+    name: &str,
+) -> Option<bool> {
+    Some(is_refused(&checked(alloc, gates)?, line, wrong, name))
+}
+
 // `a` reads `b`, and `b` reads `a`, is driven by nothing, or isn't what is driven next; and `a` reads itself.
 pub fn faulty_drafts(alloc: Global) -> Option<bool> {
     let first: Gate = (&[1], 0);
     let back: Gate = (&[0], 1);
     let own: Gate = (&[0], 0);
-    let cyclic = checked(alloc, &[(first, 3), (back, 5)])?;
-    let undriven = checked(alloc, &[(first, 3)])?;
-    let doubled = checked(alloc, &[(first, 3), (first, 5)])?;
-    let reads_itself = checked(alloc, &[(own, 3)])?;
-    Some(
-        is_refused(&cyclic, 3, Wrong::Cyclic, "a")
-            && is_refused(&undriven, 3, Wrong::Undriven, "b")
-            && is_refused(&doubled, 5, Wrong::Doubled, "a")
-            && is_refused(&reads_itself, 3, Wrong::Cyclic, "a"),
-    )
+    let cyclic = are_refused(alloc, &[(first, 3), (back, 5)], 3, Wrong::Cyclic, "a")?;
+    let undriven = are_refused(alloc, &[(first, 3)], 3, Wrong::Undriven, "b")?;
+    let doubled = are_refused(alloc, &[(first, 3), (first, 5)], 5, Wrong::Doubled, "a")?;
+    let reads_itself = are_refused(alloc, &[(own, 3)], 3, Wrong::Cyclic, "a")?;
+    Some(cyclic && undriven && doubled && reads_itself)
+}
+
+// The text that is written of the netlist of a text.
+fn written_anew(alloc: Global, given: &[u8]) -> Option<Vec<u8>> {
+    let netlist = read_blif(alloc, given).ok()?;
+    let head = Head {
+        tables: 1,
+        depth: 1,
+        control: None,
+    };
+    design_text(alloc, netlist.parts(), &head).ok()
+}
+
+// Whether the netlist of a text has these five lists.
+fn reads_lists(alloc: Global, text: &[u8], due: Gates) -> Option<bool> {
+    let netlist = read_blif(alloc, text).ok()?;
+    has_lists(alloc, &netlist, due)
 }
 
 // The text of a netlist is read again as the same lists, which stand on other lines.
@@ -199,13 +222,6 @@ pub fn text_of_netlist(alloc: Global) -> Option<bool> {
         gates: &[(&[0, 1], 2)],
     };
     let given = b"\n.model and\n.inputs a b\n\n.outputs y\n.names a b y\n11 1\n.end\n";
-    let netlist = read_blif(alloc, given).ok()?;
-    let head = Head {
-        tables: 1,
-        depth: 1,
-        control: None,
-    };
-    let text = design_text(alloc, netlist.parts(), &head).ok()?;
-    let again = read_blif(alloc, &text).ok()?;
-    Some(has_lists(alloc, &netlist, and)? && has_lists(alloc, &again, and)?)
+    let text = written_anew(alloc, given)?;
+    Some(reads_lists(alloc, given, and)? && reads_lists(alloc, &text, and)?)
 }

@@ -56,22 +56,27 @@ fn list_one(list: &mut Defects, which: u32) {
     }
 }
 
-// Whether the text and the numbers are as they should be where the four are listed in this order.
-fn is_listed(alloc: Global, order: [u32; 4]) -> Option<bool> {
-    let shape = Shape::new(TINY).ok()?;
+// Whether the text and the numbers are as they should be where the four are listed.
+fn is_right(alloc: Global, list: &Defects) -> Option<bool> {
     let due =
         b"defects 1\nshape 1 1 1 2 4 4 4 4 4 4 4 4\nwire r.l0\ncross r.p1 r.l1\ntable m0.c0.h0.t0\nend\n";
-    let mut list = Defects::none(alloc, shape).ok()?;
-    for which in order {
-        list_one(&mut list, which);
-    }
-    let text = defects_text(alloc, &list).ok()?;
+    let text = defects_text(alloc, list).ok()?;
     let written = text.as_slice() == due.as_slice();
     if list.shape().nodes() <= 1 {
         return None;
     }
     let lines = list.open_lines(Node(0)) == 2 && list.free_ports(Node(1)) == 4;
     Some(written && lines && list.free_tables() == 1 && list.free_pins() == 4)
+}
+
+// Whether all is as it should be where the four are listed in this order.
+fn is_listed(alloc: Global, order: [u32; 4]) -> Option<bool> {
+    let shape = Shape::new(TINY).ok()?;
+    let mut list = Defects::none(alloc, shape).ok()?;
+    for which in order {
+        list_one(&mut list, which);
+    }
+    is_right(alloc, &list)
 }
 
 // Whether an order has each of the four.
