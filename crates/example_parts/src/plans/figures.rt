@@ -93,13 +93,28 @@ fn plan_of(alloc: Global, network: &Network, defects: &Defects) -> Option<Plan>
     in_order(alloc, network, defects).ok()
 }
 
+// What is to be seen of the plan that a search makes of this one.
+fn improved_by(alloc: Global, network: &Network, plan: Plan, defects: &Defects) -> Option<Seen>
+    requires network { IsNetwork network.now }
+    requires plan { IsPlan defects.now.shape defects.now.list network.now plan }
+{
+    let plan = improve(alloc, network, plan, defects).ok()?;
+    seen_by(alloc, network, &plan, defects)
+}
+
+// What is to be seen of both plans of a network.
+fn figures_on(alloc: Global, network: &Network, defects: &Defects) -> Option<Figures>
+    requires { IsNetwork network.now }
+{
+    let plan = plan_of(alloc, network, defects)?;
+    let in_order = seen_by(alloc, network, &plan, defects)?;
+    let improved = improved_by(alloc, network, plan, defects)?;
+    Some(Figures { in_order, improved })
+}
+
 /// What is to be seen of both plans. None where a text can't be read, the plan in order doesn't fit, or memory is lacking.
 pub fn figures_of(alloc: Global, texts: &Texts) -> Option<Figures> {
     let defects = defects_of(alloc, texts)?;
     let network = network_of(alloc, &texts.designs.first)?;
-    let plan = plan_of(alloc, &network, &defects)?;
-    let in_order = seen_by(alloc, &network, &plan, &defects)?;
-    let plan = improve(alloc, &network, plan, &defects).ok()?;
-    let improved = seen_by(alloc, &network, &plan, &defects)?;
-    Some(Figures { in_order, improved })
+    figures_on(alloc, &network, &defects)
 }

@@ -3,7 +3,7 @@
 use base_lists::Items;
 use design_blif::read_blif;
 use design_equal::{And, Graph, GraphLatch, agree, cells_at, is_labelled};
-use design_netlist::{Names, NetlistData, check};
+use design_netlist::{Names, Netlist, NetlistData, check};
 use std::alloc::Global;
 
 /// A graph: how many inputs it has, its latches and its ANDs.
@@ -55,11 +55,16 @@ fn are_right(alloc: Global, shape: Shape, side: Side) -> Option<bool> {
     is_labelled(alloc, &graph, &netlist, side.1).ok()
 }
 
-fn do_agree(alloc: Global, shape: Shape, first: Side, second: Side) -> Option<bool> {
-    let graph = graph_of(alloc, shape)?;
+// Whether two designs agree by a graph.
+fn agree_by(alloc: Global, graph: &Graph, first: Side, second: Side) -> Option<bool> {
     let one = read_blif(alloc, first.0).ok()?;
     let other = read_blif(alloc, second.0).ok()?;
-    agree(alloc, &graph, &one, first.1, &other, second.1).ok()
+    agree(alloc, graph, &one, first.1, &other, second.1).ok()
+}
+
+fn do_agree(alloc: Global, shape: Shape, first: Side, second: Side) -> Option<bool> {
+    let graph = graph_of(alloc, shape)?;
+    agree_by(alloc, &graph, first, second)
 }
 
 // One function by two lists of rows, by the rows where it is 0, and with a row changed.
@@ -266,6 +271,28 @@ pub fn unfit_lists(alloc: Global) -> Option<bool> {
     )
 }
 
+// A design of a signal that nothing drives and nothing reads.
+fn idle_signal(alloc: Global) -> Option<NetlistData> {
+    let mut names = Names::new(alloc);
+    names.push(Items::empty(alloc)).ok()?;
+    Some(NetlistData {
+        names,
+        inputs: Items::empty(alloc),
+        outputs: Items::empty(alloc),
+        covers: Items::empty(alloc),
+        latches: Items::empty(alloc),
+    })
+}
+
+// What that design is checked to.
+fn idle_netlist(alloc: Global) -> Option<Netlist> {
+    let draft = idle_signal(alloc)?;
+    if !draft.is_well_made() {
+        return None;
+    }
+    check(alloc, draft).ok()
+}
+
 // A signal that nothing drives and nothing reads.
 pub fn undriven_signal(alloc: Global) -> Option<bool> {
     let shape = Shape {
@@ -274,23 +301,10 @@ pub fn undriven_signal(alloc: Global) -> Option<bool> {
         ands: &[],
     };
     let graph = graph_of(alloc, shape)?;
-    let mut names = Names::new(alloc);
-    names.push(Items::empty(alloc)).ok()?;
-    let draft = NetlistData {
-        names,
-        inputs: Items::empty(alloc),
-        outputs: Items::empty(alloc),
-        covers: Items::empty(alloc),
-        latches: Items::empty(alloc),
-    };
-    if !draft.is_well_made() {
-        return None;
-    }
-    let netlist = check(alloc, draft).ok()?;
-    Some(
-        is_labelled(alloc, &graph, &netlist, &[0]).ok()?
-            && !is_labelled(alloc, &graph, &netlist, &[1]).ok()?,
-    )
+    let netlist = idle_netlist(alloc)?;
+    let zero = is_labelled(alloc, &graph, &netlist, &[0]).ok()?;
+    let one = is_labelled(alloc, &graph, &netlist, &[1]).ok()?;
+    Some(zero && !one)
 }
 
 // The cells of an AND: of two inputs, of the second one's opposite and the first, and of two with a common node.

@@ -1,6 +1,7 @@
 //! Plain networks and their depths.
 
 use design_blif::read_blif;
+use design_netlist::Netlist;
 use map_network::{Network, Source, depth, merge_tables, plain, spread_of};
 use std::alloc::Global;
 
@@ -94,36 +95,53 @@ fn has_two(network: &Network, ins: &[Source], first: u64, second: u64) -> bool {
     has_tables(network, &[(ins, first, false), (ins, second, false)])
 }
 
-// The inverter is put into both tables that read it, which read `a` and `b` then, in either order.
-pub fn spread_two_readers(alloc: Global) -> Option<bool> {
-    let text =
-        b".model s\n.inputs a b\n.outputs y z\n.names a n\n0 1\n.names n b y\n11 1\n.names n b z\n1- 1\n-1 1\n.end\n";
-    let netlist = read_blif(alloc, text).ok()?;
-    let network = plain(alloc, &netlist).ok()?;
-    let spread = spread_of(alloc, &network).ok()?;
+/// An inverter, and two tables that read it and `b`.
+const TWO_READERS: &[u8] =
+    b".model s\n.inputs a b\n.outputs y z\n.names a n\n0 1\n.names n b y\n11 1\n.names n b z\n1- 1\n-1 1\n.end\n";
+
+// Whether a network has the inverter and its two readers.
+fn has_readers(network: &Network) -> bool {
     let readers: &[Source] = &[Source::Table(0), Source::Input(1)];
-    let three = has_tables(
-        &network,
+    has_tables(
+        network,
         &[
             (&[Source::Input(0)], 0x5555_5555_5555_5555, false),
             (readers, 0x8888_8888_8888_8888, false),
             (readers, 0xEEEE_EEEE_EEEE_EEEE, false),
         ],
-    );
+    )
+}
+
+// Whether a network has two tables that read `a` and `b`, in either order, and shows them.
+fn has_both(network: &Network) -> bool {
     let a_first = [Source::Input(0), Source::Input(1)];
     let b_first = [Source::Input(1), Source::Input(0)];
     let two = has_two(
-        &spread,
+        network,
         &a_first,
         0x4444_4444_4444_4444,
         0xDDDD_DDDD_DDDD_DDDD,
     ) || has_two(
-        &spread,
+        network,
         &b_first,
         0x2222_2222_2222_2222,
         0xBBBB_BBBB_BBBB_BBBB,
     );
     let shown: &[Source] = &[Source::Table(0), Source::Table(1)];
-    let apart = merge_tables(alloc, &netlist).ok()?.tables.as_slice().len() == 3;
-    Some(three && two && apart && spread.outputs.as_slice() == shown)
+    two && network.outputs.as_slice() == shown
+}
+
+// Whether the plain network of the design has three tables, and two where it is spread.
+fn spreads(alloc: Global, netlist: &Netlist) -> Option<bool> {
+    let network = plain(alloc, netlist).ok()?;
+    let spread = spread_of(alloc, &network).ok()?;
+    Some(has_readers(&network) && has_both(&spread))
+}
+
+// The inverter is put into both tables that read it, which read `a` and `b` then, in either order.
+pub fn spread_two_readers(alloc: Global) -> Option<bool> {
+    let netlist = read_blif(alloc, TWO_READERS).ok()?;
+    let spread = spreads(alloc, &netlist)?;
+    let merged = merge_tables(alloc, &netlist).ok()?;
+    Some(spread && merged.tables.as_slice().len() == 3)
 }
