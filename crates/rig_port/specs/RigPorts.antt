@@ -1,5 +1,6 @@
 -- A rig as the other end of a port.
-use Rattle.std.specs.Prelude.{◌≡◌, ℕ, ◌+◌, ◌-◌, ◌^◌, ◌<◌, min, Bool, true, false, List, [], ◌++◌, map, length, All, Option, Some, None, IfSome, IsSome, is_some, option_map, if◌then◌else◌}
+use Rattle.std.specs.Prelude.{◌≡◌, ℕ, ◌+◌, ◌-◌, ◌^◌, ◌<◌, min, Bool, true, false, if◌then◌else◌}
+use Rattle.std.specs.Prelude.{List, [], ◌++◌, map, length, All, Option, Some, None, IfSome, IsSome, is_some, option_map}
 use Rattle.std.specs.Option.{option_map_or}
 use Rattle.machine_shape.specs.declared.Shape.{Shape}
 use Rattle.machine_shape.specs.Shape.{pins_of}
@@ -11,7 +12,8 @@ use Rattle.rig_port.specs.Answers.{Answers}
 use Rattle.rig_port.specs.declared.check.Check.{Check}
 use Rattle.rig_port.specs.Checks.{after}
 use Rattle.rig_port.specs.Lines.{line_of, counts_body, reading_body, reading_line}
-use Rattle.rig_port.specs.Requests.{Edit, Close, Open, On, Off, Tick, IsEditOf, AreWide, AreDrivesOf, load_body, drives_text, attach_line, load_line, drives_line}
+use Rattle.rig_port.specs.Requests.{Edit, Close, Open, On, Off, Tick, IsEditOf, AreWide, AreDrivesOf}
+use Rattle.rig_port.specs.Requests.{load_body, drives_text, attach_line, load_line, drives_line}
 use Rattle.rig_port.specs.Ports.{PortState}
 use Rattle.rig_port.specs.declared.wanted.Change.{Change}
 use Rattle.rig_port.specs.declared.wanted.Change.TheVariants as change
@@ -52,7 +54,8 @@ pub record RigEnd (I : Type 0) : Type 0 where
 
 -- the machine that it tells
 abbrev pub rig_device : Shape → Configuration → Bool → RigState → Option Device
-rig_device m g running rig = option_map (λ f. record { shape = m; faults = f; set = g; session = if running then rig.session else None }) rig.machine.faults
+rig_device m g running rig =
+    option_map (λ f. record { shape = m; faults = f; set = g; session = if running then rig.session else None }) rig.machine.faults
 
 abbrev pub set_or_cleared : Shape → Option Configuration → Configuration
 set_or_cleared m set = option_map_or (λ g. g) set (cleared m)

@@ -1,32 +1,28 @@
 //! A rig as the other end of a port.
-ghost use Rattle.std.specs.Prelude.{◌≡◌, ◌+◌, ◌^◌, ◌<◌, ◌≤◌, ◌++◌, ◌∷◌, [], true, false, List, length, take, None, Some, All};
-ghost use Rattle.std.specs.Prelude.{vec_len, option_map, IfOk, IfErr, IfSome, IsSome, IsTrue, OnOk, OnErr, IsErrOf};
-ghost use Rattle.std.specs.List.{sum_by};
-ghost use Rattle.machine_shape.specs.Shape.{pins_of, crosses_of, tables_of};
+ghost use Rattle.std.specs.Prelude.{◌≡◌, ◌+◌, ◌^◌, ◌<◌, ◌≤◌, [], true, false, List, length, take, None, Some, All};
+ghost use Rattle.std.specs.Prelude.{option_map, IfOk, IfErr, IfSome, IsTrue, OnOk, OnErr, IsErrOf};
+ghost use Rattle.machine_shape.specs.Shape.{pins_of};
 ghost use Rattle.machine_meaning.specs.Circuit.{Pins};
 ghost use Rattle.machine_config.specs.Configuration.{Configuration, cleared};
 ghost use Rattle.base_io.specs.Counts.{Rose};
 ghost use Rattle.rig.specs.Rig.{Attaches, shape_of, config_of, cycles_of};
 ghost use Rattle.rig_board.specs.Device.{WhereTold};
-ghost use Rattle.rig_port.specs.Lines.{AreCounts, counts_body, counts_line, reading_body, word_room};
+ghost use Rattle.rig_port.specs.Lines.{AreCounts, counts_body, counts_line, reading_body};
 ghost use Rattle.rig_port.specs.Checks.{fresh_check, after};
-ghost use Rattle.std.specs.Vec.{vec_capacity};
-ghost use Rattle.rig_port.specs.Requests.{IsEditOf, edit_text, edits_text, drives_text, led_drives, attach_body, attach_line, load_body, edited, edited_by};
+ghost use Rattle.rig_port.specs.Requests.{IsEditOf, edited, edited_by};
 ghost use Rattle.rig_port.specs.Answers.{Answers};
 ghost use Rattle.rig_port.specs.Ports.{machine_told, Opens, AskFails};
 ghost use Rattle.rig_port.specs.RigPorts.{edit_of, edits_of, wanted_body, wanted_line, IsWantedOf, rig_port_state, IsReady};
-ghost use Rattle.rig_port.specs.RigPorts.{IsNoRequest, IsShort, rig_device, IsDriven, IsAnswered, start_from};
+ghost use Rattle.rig_port.specs.RigPorts.{IsNoRequest, IsShort, IsDriven, IsAnswered, start_from};
 
 use crate::check::Check;
+use crate::parse::read_request;
 use crate::port::{Port, PortFail};
-use crate::spelling::{
-    put_attach, put_check, put_counts, put_drives, put_readings, put_setting, put_word,
-};
-use crate::turn::read_pins;
-use crate::wanted::{Change, Wanted};
-use base_text::read_number;
-use machine_config::{Config, Setting};
-use machine_shape::{Cross, Shape, Table};
+use crate::respell::{make_room, read_attach, spelled_check};
+use crate::spelling::{put_counts, put_readings};
+use crate::wanted::{Asked, Change, Wanted};
+use machine_config::Config;
+use machine_shape::Shape;
 use rig::{AttachFail, PinBits, Rig};
 use std::alloc::{AllocError, Global};
 use std::marker::Model;
@@ -71,210 +67,6 @@ impl<R: Rig> Model for RigPort<R> {
     ghost invariant = { λ p. IfSome p.set (λ g. IsReady p.shape g.config p.running (R.rig_state p.inner)) };
 }
 
-// The bytes from one place to another; none where these aren't places of it.
-fn part(bytes: &[u8], from: usize, to: usize) -> &[u8] {
-    if from <= to {
-        if to <= bytes.len() {
-            return &bytes[from..to];
-        }
-    }
-    &bytes[..0]
-}
-
-// The number below a limit that a word spells.
-fn number_of(word: &[u8], limit: u32) -> Option<u32>
-    ensures { IfSome result (λ n. n < limit) }
-{
-    let n = read_number(word, 4194304)?;
-    let n = n as u32;
-    if n < limit { Some(n) } else { None }
-}
-
-// Sixteen hex digits as the cells of a table.
-fn cells_of(word: &[u8]) -> Option<u64>
-    ensures { IfSome result (λ n. n < 2 ^ 64) }
-{
-    let mut bytes = [0u8; 8];
-    if hex::decode_to_slice(word, &mut bytes).is_err() {
-        return None;
-    }
-    Some(u64::from_be_bytes(bytes))
-}
-
-// What a table does, of the text behind its number: cells, a comma, and the digit of its flags.
-fn setting_of(word: &[u8]) -> Option<Setting>
-    ensures { IfSome result (λ s. s.cells < 2 ^ 64) }
-{
-    if word.len() != 18 {
-        return None;
-    }
-    let digit = word[17];
-    if digit < b'0' {
-        return None;
-    }
-    let cells = cells_of(&word[..16])?;
-    let flags = digit - b'0';
-    Some(Setting {
-        cells,
-        latched: flags % 2 == 1,
-        init: flags / 2 % 2 == 1,
-    })
-}
-
-// Where a byte stands first from a place on; where it doesn't, the end.
-fn place_of(bytes: &[u8], begin: usize, byte: u8) -> usize
-    ensures { result ≤ length bytes.now }
-{
-    'bytes: for k in begin..bytes.len() {
-        if bytes[k] == byte {
-            return k;
-        }
-    }
-    bytes.len()
-}
-
-// The table that is switched on, and what it does.
-fn on_of(word: &[u8], shape: &Shape) -> Option<Change>
-    ensures { IfSome result (λ c. IsEditOf shape.now (edit_of c)) }
-{
-    let comma = place_of(word, 0, b',');
-    let t = number_of(part(word, 0, comma), shape.tables())?;
-    let setting = setting_of(part(word, comma.saturating_add(1), word.len()))?;
-    Some(Change::On(Table(t), setting))
-}
-
-// The ticks of a cycle.
-fn ticks_of(word: &[u8], shape: &Shape) -> Option<Change>
-    ensures { IfSome result (λ c. IsEditOf shape.now (edit_of c)) }
-{
-    let n = number_of(word, 4097)?;
-    if n == 0 {
-        return None;
-    }
-    Some(Change::Ticks(n as u16))
-}
-
-// The change that a word makes, where it is one.
-fn change_of(word: &[u8], shape: &Shape) -> Option<Change>
-    ensures { IfSome result (λ c. IsEditOf shape.now (edit_of c)) }
-{
-    let letter = *word.first()?;
-    let rest = part(word, 1, word.len());
-    match letter {
-        b'c' => Some(Change::Close(Cross(number_of(rest, shape.crosses())?))),
-        b'o' => Some(Change::Open(Cross(number_of(rest, shape.crosses())?))),
-        b't' => on_of(rest, shape),
-        b'x' => Some(Change::Off(Table(number_of(rest, shape.tables())?))),
-        b'k' => ticks_of(rest, shape),
-        _ => None,
-    }
-}
-
-// Reads the words of changes from a place on, and answers where another word begins.
-fn read_changes(
-    body: &[u8],
-    begin: usize,
-    shape: &Shape,
-    changes: &mut Vec<Change>,
-) -> Result<usize, AllocError>
-    requires { All (λ c. IsEditOf shape.now (edit_of c)) changes.old.items }
-    ensures { All (λ c. IsEditOf shape.now (edit_of c)) changes.new.items }
-{
-    let mut at = begin;
-    'words: for _k in 0..body.len() {
-        let end = place_of(body, at, b' ');
-        let Some(change) = change_of(part(body, at, end), shape) else {
-            return Ok(at);
-        };
-        changes.push(change)?;
-        at = end.saturating_add(1);
-    }
-    Ok(at)
-}
-
-// Reads the drives from a place on, at least one. What isn't a text of drives gives any, which spell another line.
-fn read_drives(
-    alloc: Global,
-    body: &[u8],
-    begin: usize,
-    shape: &Shape,
-) -> Result<Vec<PinBits>, AllocError>
-    ensures some { IfOk result (λ drives. 0 < length drives.items) }
-    ensures wide { IfOk result (λ drives. All (λ row. length row ≡ pins_of shape.now) drives.items) }
-{
-    let pins = shape.pins();
-    let step = pins.div_ceil(8) as usize * 2 + 2;
-    let mut drives = Vec::new(alloc);
-    let mut drive = PinBits::new(alloc, pins)?;
-    read_pins(body, begin.min(body.len()) + 1, &mut drive);
-    drives.push(drive)?;
-    let mut at = begin.saturating_add(step);
-    'words: while at < body.len() {
-        let mut drive = PinBits::new(alloc, pins)?;
-        read_pins(body, at + 1, &mut drive);
-        drives.push(drive)?;
-        at = at.saturating_add(step);
-    }
-    Ok(drives)
-}
-
-// Reads the drives of a load that has its word at a place, if there are any, or those that stand there alone.
-fn drives_of(
-    alloc: Global,
-    body: &[u8],
-    at: usize,
-    loads: bool,
-    shape: &Shape,
-) -> Result<Vec<PinBits>, AllocError>
-    ensures some { IfOk result (λ drives. loads ≡ false → 0 < length drives.items) }
-    ensures wide { IfOk result (λ drives. All (λ row. length row ≡ pins_of shape.now) drives.items) }
-{
-    if !loads {
-        let drives = read_drives(alloc, body, at, shape)?;
-        return Ok(drives);
-    }
-    let begin = at.saturating_add(2);
-    if begin < body.len() {
-        let drives = read_drives(alloc, body, begin, shape)?;
-        return Ok(drives);
-    }
-    // Of some shape, which is looked at.
-    let _pins = shape.pins();
-    Ok(Vec::new(alloc))
-}
-
-// What a request asks, as far as its form goes: whether it is spelled so is seen by spelling it again.
-fn read_request(alloc: Global, request: &[u8], shape: &Shape) -> Result<Wanted, AllocError>
-    ensures { IfOk result (λ w. IsWantedOf shape.now w) }
-{
-    let body = part(request, 0, request.len().saturating_sub(6));
-    let mut changes = Vec::new(alloc);
-    let anew = body.starts_with(b"z ");
-    let begin = if anew { 2 } else { 0 };
-    let at = read_changes(body, begin, shape, &mut changes)?;
-    let loads = place_of(body, at, b'l') == at;
-    let drives = drives_of(alloc, body, at, loads, shape)?;
-    Ok(Wanted {
-        loads,
-        anew,
-        changes,
-        drives,
-    })
-}
-
-// Spells a change.
-fn put_change(line: &mut Vec<u8>, change: Change) -> Result<(), AllocError>
-    ensures { OnOk result (line.new.items ≡ line.old.items ++ (edit_text (edit_of change) ++ 32 ∷ [])) }
-{
-    match change {
-        Change::Close(c) => put_word(line, b'c', c.0),
-        Change::Open(c) => put_word(line, b'o', c.0),
-        Change::On(t, s) => put_setting(line, t.0, s),
-        Change::Off(t) => put_word(line, b'x', t.0),
-        Change::Ticks(n) => put_word(line, b'k', u32::from(n)),
-    }
-}
-
 // Makes a change.
 fn make(set: &mut Config, change: Change) -> Result<(), AllocError>
     requires { IsEditOf set.old.config.shape (edit_of change) }
@@ -303,108 +95,6 @@ fn make_all(set: &mut Config, changes: &[Change]) -> Result<(), AllocError>
         make(set, changes[k])?;
     }
     Ok(())
-}
-
-// How many bytes the words of these rows take at most.
-fn room_of(rows: &[PinBits]) -> Option<usize>
-    ensures { IfSome result (λ n. n ≡ sum_by word_room rows.now) }
-{
-    let mut total = 0usize;
-    'rows: for k in 0..rows.len() {
-        let word = rows[k].len().div_ceil(8) as usize * 2 + 2;
-        total = total.checked_add(word)?;
-    }
-    Some(total)
-}
-
-// Makes room behind a line for the words of these rows, and for what is in front of them and behind.
-fn make_room(line: &mut Vec<u8>, rows: &[PinBits]) -> Result<(), AllocError>
-    ensures same { line.new.items ≡ line.old.items }
-    ensures len { vec_len line.new ≡ vec_len line.old }
-    ensures room { OnOk result (vec_len line.new + sum_by word_room rows.now + 7 ≤ vec_capacity line.new) }
-{
-    let Some(room) = room_of(rows) else {
-        return Err(AllocError);
-    };
-    line.reserve(room.saturating_add(7))?;
-    Ok(())
-}
-
-// Adds the words of changes.
-fn put_changes(line: &mut Vec<u8>, changes: &[Change]) -> Result<(), AllocError>
-    ensures { OnOk result (line.new.items ≡ line.old.items ++ edits_text (edits_of changes.now)) }
-{
-    'changes: for k in 0..changes.len() {
-        put_change(line, changes[k])?;
-    }
-    Ok(())
-}
-
-// Adds drives behind a body, and makes room for a check.
-fn put_end(line: &mut Vec<u8>, drives: &[PinBits]) -> Result<(), AllocError>
-    ensures spelled { OnOk result (line.new.items ≡ line.old.items ++ drives_text drives.now) }
-    ensures room { OnOk result (vec_len line.new + 6 ≤ vec_capacity line.new) }
-{
-    make_room(line, drives)?;
-    put_drives(line, drives);
-    Ok(())
-}
-
-// Adds the word of a load and its drives behind a body, and makes room for a check.
-fn put_load_end(line: &mut Vec<u8>, drives: &[PinBits]) -> Result<(), AllocError>
-    ensures spelled { OnOk result (line.new.items ≡ line.old.items ++ 108 ∷ [] ++ led_drives drives.now) }
-    ensures room { OnOk result (vec_len line.new + 6 ≤ vec_capacity line.new) }
-{
-    line.push(b'l')?;
-    if drives.is_empty() {
-        line.reserve(6)?;
-        return Ok(());
-    }
-    line.push(b' ')?;
-    put_end(line, drives)?;
-    Ok(())
-}
-
-// Spells the body of a load and its first cycles, and makes room for a check.
-fn put_load_body(line: &mut Vec<u8>, wanted: &Wanted) -> Result<(), AllocError>
-    requires { line.old.items ≡ [] }
-    ensures spelled { OnOk result (line.new.items
-        ≡ load_body wanted.now.anew (edits_of wanted.now.changes.items) wanted.now.drives.items) }
-    ensures room { OnOk result (vec_len line.new + 6 ≤ vec_capacity line.new) }
-{
-    if wanted.anew {
-        line.extend_from_slice(b"z ")?;
-    }
-    put_changes(line, &wanted.changes)?;
-    put_load_end(line, &wanted.drives)?;
-    Ok(())
-}
-
-// Spells the body that asks this, and makes room for a check.
-fn put_wanted(line: &mut Vec<u8>, wanted: &Wanted) -> Result<(), AllocError>
-    requires { line.old.items ≡ [] }
-    ensures spelled { OnOk result (line.new.items ≡ wanted_body wanted.now) }
-    ensures room { OnOk result (vec_len line.new + 6 ≤ vec_capacity line.new) }
-{
-    if wanted.loads {
-        put_load_body(line, wanted)?;
-        return Ok(());
-    }
-    put_end(line, &wanted.drives)?;
-    Ok(())
-}
-
-// The check behind a request that is, byte by byte, the line that asks this; `None` where it isn't, or memory is lacking.
-fn spelled_check(alloc: Global, request: &[u8], check: Check, wanted: &Wanted) -> Option<Check>
-    ensures { IfSome result (λ now. (request.now ≡ wanted_line check wanted.now) × (now ≡ after check (wanted_body wanted.now))) }
-{
-    let mut line = Vec::new(alloc);
-    let Ok(()) = put_wanted(&mut line, wanted) else {
-        return None;
-    };
-    let now = put_check(&mut line, check);
-    let is = request == line.as_slice();
-    if is { Some(now) } else { None }
 }
 
 // So many rows with all pins released.
@@ -548,47 +238,6 @@ struct Standing {
 struct Left {
     running: bool,
     check: Check,
-}
-
-// A number under which a machine is asked what it is, and the check behind the request.
-#[derive(Clone, Copy)]
-struct Asked {
-    number: u32,
-    check: Check,
-}
-
-// The number that a request asks what machine it is under, as far as its form goes.
-fn attach_number(request: &[u8]) -> Option<u32> {
-    if !request.starts_with(b"a ") {
-        return None;
-    }
-    let n = read_number(
-        part(request, 2, request.len().saturating_sub(6)),
-        4_294_967_295,
-    )?;
-    Some(n as u32)
-}
-
-// The number under which a request asks, byte by byte, what machine it is, and the check behind it; `None` where it doesn't, or memory is
-// lacking.
-fn read_attach(alloc: Global, request: &[u8]) -> Option<Asked>
-    ensures { IfSome result (λ asked. (asked.number < 2 ^ 32) × (request.now ≡ attach_line asked.number)
-        × (asked.check ≡ after fresh_check (attach_body asked.number))) }
-{
-    let number = attach_number(request)?;
-    let mut line = Vec::new(alloc);
-    let Ok(()) = put_attach(&mut line, number) else {
-        return None;
-    };
-    let Ok(()) = line.reserve(6) else {
-        return None;
-    };
-    let check = put_check(&mut line, Check::new());
-    if request == line.as_slice() {
-        Some(Asked { number, check })
-    } else {
-        None
-    }
 }
 
 // Clears what is set, and says what the machine is; answers the check behind it. `None` where memory is lacking, or the line is longer
@@ -893,9 +542,11 @@ impl<R: Rig> Port for RigPort<R> {
         ensures refused { IfErr result (λ e. AskFails e (⟦<RigPort<R> as Port>⟧.port_state self.old)
             (⟦<RigPort<R> as Port>⟧.port_state self.new)) }
         ensures shape { self.new.shape ≡ self.old.shape }
-        ensures unreached { IsNoRequest self.old.shape self.old.check request.now → R.rig_state self.new.inner ≡ R.rig_state self.old.inner }
+        ensures unreached { IsNoRequest self.old.shape self.old.check request.now →
+            R.rig_state self.new.inner ≡ R.rig_state self.old.inner }
         ensures other { IfOk result (λ _. IsNoRequest self.old.shape self.old.check request.now → ⊥) }
-        ensures short { IsShort self.old.shape self.old.check request.now (length reply.old) → R.rig_state self.new.inner ≡ R.rig_state self.old.inner }
+        ensures short { IsShort self.old.shape self.old.check request.now (length reply.old) →
+            R.rig_state self.new.inner ≡ R.rig_state self.old.inner }
         ensures fits { IfOk result (λ _. IsShort self.old.shape self.old.check request.now (length reply.old) → ⊥) }
     {
         let Some(mut set) = self.set.take() else {
