@@ -1,4 +1,4 @@
-"""The tool's end of a port, in Python: it takes a reply only where each byte of it is right. Where it isn't it asks again, as relay.py does."""
+"""The tool's end of a port, in Python: it takes a reply only where each byte is right. Where it isn't it asks again, as relay.py does."""
 
 import os
 
