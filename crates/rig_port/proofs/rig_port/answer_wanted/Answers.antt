@@ -1,4 +1,5 @@
 use Rattle.std.proofs.Common.{◌∙◌, refl, sym, ap, subst, All}
+use Rattle.std.proofs.lemmas.Bool.{not-false}
 use Rattle.machine_shape.specs.Shape.{pins_of}
 use Rattle.rig.specs.Rig.{cycles_of}
 use Rattle.rig_port.specs.Checks.{after}
@@ -21,7 +22,7 @@ returns-clause-ready g c =
     let k = c.args.standing.check in
     let now = c.in_ok-driven.driven in
     ready_on k now set.shape set (g.R.Rig.rig_state c.args.inner.now) (g.R.Rig.rig_state c.drive.new.inner) (cycles_of (g.R.Rig.rig_state c.args.inner.now)) c.args.wanted.now.drives.items
-    c.drive.new.line.items c.args.standing.running c.if-not-standing.false c.requires.ready c.drive.ensures.machine
+    c.drive.new.line.items c.args.standing.running (not-false c.args.standing.running c.if-not-standing.false) c.requires.ready c.drive.ensures.machine
     (λ h is. subst (λ m. IsDriven k (pins_of m) h (cycles_of (g.R.Rig.rig_state c.args.inner.now)) c.args.wanted.now.drives.items c.drive.new.line.items now
     (g.R.Rig.rig_state c.drive.new.inner)) c.shape-shape.ensures.shape
     (subst (λ ds. IsDriven k (pins_of c.shape-shape.result) h (cycles_of (g.R.Rig.rig_state c.args.inner.now)) ds c.drive.new.line.items now
@@ -34,7 +35,7 @@ returns-clause-told g c = λ l sent.
     let k = c.args.standing.check in
     let now = c.in_ok-driven.driven in
     drives_told set.shape l now k _ c.drive.new.line.items set c.args.standing.running (g.R.Rig.rig_state c.args.inner.now) (g.R.Rig.rig_state c.drive.new.inner) w.drives.items
-    c.if-not-standing.false c.drive.ensures.machine (are_drives set.shape w c.requires.wanted c.if-wanted.false) (line_drives l w c.if-wanted.false)
+    (not-false c.args.standing.running c.if-not-standing.false) c.drive.ensures.machine (are_drives set.shape w c.requires.wanted c.if-wanted.false) (line_drives l w c.if-wanted.false)
     (sent ∙ ap (after l) (body_drives w c.if-wanted.false))
     (λ h is. subst (λ m. IsDriven k (pins_of m) h (cycles_of (g.R.Rig.rig_state c.args.inner.now)) w.drives.items c.drive.new.line.items now
     (g.R.Rig.rig_state c.drive.new.inner)) c.shape-shape.ensures.shape
