@@ -4,6 +4,7 @@ ghost use Rattle.map_network.specs.Networks.{IsNetwork};
 
 use crate::plans::figures::{defects_of, network_of};
 use crate::plans::texts::Texts;
+use machine_defects::Defects;
 use machine_image::Image;
 use map_network::Network;
 use place_pair::lay_pair;
@@ -44,19 +45,27 @@ fn closed_in(image: &Image) -> usize {
     image.config().closed().len()
 }
 
+// What is to be seen of two networks.
+fn shares_on(alloc: Global, first: &Network, second: &Network, defects: &Defects) -> Option<Shares>
+    requires first { IsNetwork first.now }
+    requires second { IsNetwork second.now }
+{
+    if !are_few(first, second) {
+        return None;
+    }
+    let pair = lay_pair(alloc, first, second, defects).ok()?;
+    Some(Shares {
+        whole: closed_in(&pair.whole),
+        first: closed_in(&pair.first),
+        second: closed_in(&pair.second),
+    })
+}
+
 /// What is to be seen of the two designs. None where a text can't be read, the plan in order of both doesn't fit, or memory is
 /// wanting.
 pub fn shares_of(alloc: Global, texts: &Texts) -> Option<Shares> {
     let defects = defects_of(alloc, texts)?;
     let first = network_of(alloc, &texts.designs.first)?;
     let second = network_of(alloc, &texts.designs.second)?;
-    if !are_few(&first, &second) {
-        return None;
-    }
-    let pair = lay_pair(alloc, &first, &second, &defects).ok()?;
-    Some(Shares {
-        whole: closed_in(&pair.whole),
-        first: closed_in(&pair.first),
-        second: closed_in(&pair.second),
-    })
+    shares_on(alloc, &first, &second, &defects)
 }
