@@ -26,7 +26,10 @@ fn close_all(config: &mut Config, crosses: &[u32]) -> Result<(), AllocError>
 {
     'crosses: for at in crosses {
         if *at < config.shape().crosses() {
-            config.close_cross(Cross(*at))?;
+            let closed = config.close_cross(Cross(*at));
+            if closed.is_err() {
+                return closed;
+            }
         }
     }
     Ok(())
