@@ -14,8 +14,9 @@ def spread(lines):
 
 def main():
     requests, replies = (Path(name).read_bytes().splitlines() for name in sys.argv[1:3])
-    loads = sum(line.split().count(b"l") for line in requests)
-    cycles = sum(word[:1] == b"d" for line in requests for word in line.split())
+    words = [word for line in requests for word in line.partition(b"*")[0].split()]
+    loads = words.count(b"l")
+    cycles = sum(word[:1] == b"d" for word in words)
     print(f"diagnose: {loads} loads and {cycles} cycles in {len(requests)} requests")
     print(f"  requests: {spread(requests)}")
     print(f"  replies:  {spread(replies)}")

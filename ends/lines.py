@@ -7,18 +7,35 @@ from model import Configuration, Session, Setting
 NUMBER = rb"(?:0|[1-9][0-9]{0,8})"
 EDIT = rb"[coxk]" + NUMBER + rb"|t" + NUMBER + rb",[0-9a-f]{16},[0-3]"
 DRIVES = rb"d[0-9a-f]+(?: d[0-9a-f]+)*"
-REQUEST = re.compile(rb"a|(?:(?:z )?(?:(?:" + EDIT + rb") )*l )?" + DRIVES)
-SUM = re.compile(rb"[0-9a-f]{2}")
+LOAD = rb"(?:z )?(?:(?:" + EDIT + rb") )*l"
+REQUEST = re.compile(rb"a (?P<number>0|[1-9][0-9]{0,9})|" + LOAD + rb"(?: " + DRIVES + rb")?|" + DRIVES)
+MOST_NUMBER = 2**32 - 1  # of an `a`
 MOST_TICKS = 4096
-REPLY_BYTES = 4096  # a reply has no more before its sum, but for a single reading that is wider
+REPLY_BYTES = 4096  # a reply has no more before its check, but for a single reading that is wider
 
 
-def sum_text(body):
-    return b"%02x" % (sum(body) % 256)
+class Check:
+    """The running check that both ends keep of all bodies since the last `a`, of requests and of replies: two sums, the second one
+    of what the first one was behind each byte."""
 
+    def __init__(self):
+        self.begin()
 
-def with_sum(body):
-    return body + b"*" + sum_text(body) + b"\n"
+    def begin(self):
+        self._first, self._second = 1, 0
+
+    def add(self, body):
+        """Takes a body, and gives it as a line with its check."""
+        for byte in body:
+            self._first = (self._first + byte) % 256
+            self._second = (self._second + self._first) % 256
+        return body + b"*%02x%02x\n" % (self._second, self._first)
+
+    def request(self, body):
+        """The same of a request: an `a` begins anew."""
+        if body[:1] == b"a":
+            self.begin()
+        return self.add(body)
 
 
 def pin_digits(pins):
@@ -30,9 +47,13 @@ def pin_text(pins, number):
     return b"%0*x" % (pin_digits(pins), number)
 
 
-def counts_body(machine):
-    """The reply to `a`: the version, and the twelve counts."""
-    return b"=1 " + machine.counts_text.encode()
+def attach_body(number):
+    return b"a %d" % number
+
+
+def counts_body(number, machine):
+    """The reply to an `a`: the version, its number, and the twelve counts."""
+    return b"=2 %d %s" % (number, machine.counts_text.encode())
 
 
 class Refusal(Exception):
@@ -68,23 +89,25 @@ class Device:
 
     def __init__(self, machine, faults, on_load=lambda: None, begin=Session, times=1):
         self._machine, self._faults, self._on_load, self._begin, self._times = machine, faults, on_load, begin, times
-        self._is_attached, self._set, self._session = False, Configuration(), None
+        self._is_attached, self._set, self._session, self._check = False, Configuration(), None, Check()
 
     def answer(self, line):
         """The reply to a line without its end; nothing to an empty one, which asks nothing."""
         if not line:
             return b""
         try:
-            return with_sum(self._reply(self._body(line)))
+            return self._check.add(self._reply(self._body(line)))
         except Refusal as reason:
             self._is_attached = False
             return b"!%s\n" % str(reason).encode()
 
     def _body(self, line):
-        """The words of a line. Typed by hand it may lack the sum."""
-        body, star, due = line.partition(b"*")
-        if star and due != sum_text(body):
-            raise Refusal("sum")
+        """The words of a line. Typed by hand it may lack the check."""
+        body, star, _ = line.partition(b"*")
+        if not self._is_attached and body[:1] != b"a":
+            raise Refusal("attach")
+        if self._check.request(body) != line + b"\n" and star:
+            raise Refusal("check")
         if not REQUEST.fullmatch(body):
             raise Refusal("form")
         return body
@@ -92,11 +115,8 @@ class Device:
     def _reply(self, body):
         words = body.split()
         drives = [self._drive(word[1:]) for word in words if word[:1] == b"d"]
-        if body == b"a":
-            self._is_attached, self._set, self._session = True, Configuration(), None
-            return counts_body(self._machine)
-        if not self._is_attached:
-            raise Refusal("attach")
+        if words[0] == b"a":
+            return self._attach(int(words[1]))
         if b"l" in words:
             self._load(words[: words.index(b"l")])
             self._on_load()
@@ -106,6 +126,12 @@ class Device:
         for _ in range(self._times - 1 if b"l" in words else 0):
             self._compare(drives, readings)
         return b"=" + b" ".join(pin_text(self._machine.counts[-1], reading) for reading in readings)
+
+    def _attach(self, number):
+        if number > MOST_NUMBER:
+            raise Refusal("number")
+        self._is_attached, self._set, self._session = True, Configuration(), None
+        return counts_body(number, self._machine)
 
     def _compare(self, drives, readings):
         again = self._begin(self._machine, self._faults, self._set.copy())
@@ -121,12 +147,12 @@ class Device:
     def _load(self, edits):
         edited = Configuration() if edits[:1] == [b"z"] else self._set.copy()
         for word in edits[edits[:1] == [b"z"] :]:
-            self._check(word)
+            self._check_edit(word)
             edit(edited, word)
         self._set = edited
         self._session = self._begin(self._machine, self._faults, edited.copy())
 
-    def _check(self, word):
+    def _check_edit(self, word):
         """Whether the number of an edit is one of this machine."""
         crosses, tables = range(len(self._machine.crosses)), range(len(self._machine.tables))
         known = {b"c": crosses, b"o": crosses, b"k": range(1, MOST_TICKS + 1)}.get(word[:1], tables)

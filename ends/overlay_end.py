@@ -51,7 +51,7 @@ def joined(name, wires):
 
 
 def header(machine):
-    counts = f"=1 {machine.counts_text}"
+    counts = f" {machine.counts_text}"
     numbers = {
         "PINS": len(machine.pins),
         "DIGITS": pin_digits(len(machine.pins)),

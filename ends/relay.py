@@ -22,21 +22,18 @@ import tempfile
 import time
 from pathlib import Path
 
-from lines import with_sum
+from lines import Check
 from machine import most_loads_of
-from talk import Log, NoLog, Session, body_of, wrong_reply
-from ways import QUIET, Cut, Way
+from talk import Changed, Log, NoLog, Session, body_of, is_attach, wrong_body, wrong_line
+from ways import QUIET, Cut, Way, shown
 
 BLOCK = 65_536
 FAILED = 4  # the status of a port that failed
 LOOK = 0.2  # seconds between looks whether a command has ended that never opened its port
 
 
-class Shifted(Cut):
-    """A reply too many came. So one was taken for that of another request, and nobody knows since when."""
-
-    def __init__(self, came):
-        super().__init__(f"{len(came)} bytes came that nobody had asked for, so replies may belong to other requests: don't trust them")
+class Refused(Exception):
+    """Why a request has no reply, for the tool."""
 
 
 def begin(words):
@@ -145,57 +142,82 @@ class Relay:
     def __init__(self, given, log, progress):
         self._given, self._log, self._progress = given, log, progress
         self._session, self._way, self._is_made, self._recorded = Session(), None, False, list(log.pairs)
+        # The checks of both sides differ behind a session that was made again, until the tool attaches.
+        self._ours, self._theirs = Check(), Check()
         self.passed = self.failures = 0
 
     def answer(self, request):
         """The reply to a request, or a refusal that says why there is none."""
         is_recorded = bool(self._recorded)
-        reply = self._from_log(request) if is_recorded else self._from_port(request)
-        if reply[:1] != b"!":
-            self._session.take(request, reply)
-            if body_of(request) == b"a":
-                self._progress.attached([int(word) for word in body_of(reply).split()[1:]])
-            self._progress.count(request, is_recorded)
-        self._progress.show(self._bytes())
+        try:
+            reply = self._from_log(request) if is_recorded else self._from_port(request)
+        except Refused as refused:
+            return b"!%s\n" % str(refused).encode("ascii", "replace")
+        finally:
+            self._progress.show(self._bytes())
+        self._session.take(body_of(request), body_of(reply))
+        if is_attach(request):
+            self._progress.attached([int(word) for word in self._session.counts])
+        self._progress.count(request, is_recorded)
         return reply
 
     def _bytes(self):
         return self.passed + (self._way.passed if self._way else 0)
 
     def _from_log(self, request):
-        due, reply = self._recorded.pop(0)
+        due, reply = self._recorded[0]
         if request == due:
-            return reply
-        self._recorded = []
+            self._recorded.pop(0)
+            self._ours.request(body_of(request))
+            return self._ours.add(body_of(reply))
+        if is_attach(due):
+            raise Refused("it failed when it was recorded")
         raise Cut("the command asks otherwise than it did in the log: has it other words, files, or another version?")
 
     def _from_port(self, request):
-        cause = ""
-        for _ in range(self._given.again + 1):
+        """What fails is asked again under a number of the relay's own; then the tool gets a refusal."""
+        body = body_of(request)
+        if request != self._ours.request(body):
+            raise Refused("check")
+        for _ in range(self._given.again):
             try:
-                self._find()
-                reply = self._ask(request)
-                self._log.add(request, reply)
-                return reply
-            except Shifted:
-                raise
-            except Cut as cut:
-                cause = str(cut)
-                self.failures += 1
-                self._progress.say(f"{cause} (request: `{request[:60].decode('ascii', 'replace').rstrip()}`)")
-                self._leave()
-        return b"!%s\n" % cause.encode("ascii", "replace")
+                return self._once(request, body)
+            except Refused:
+                pass
+        try:
+            return self._once(request, body)
+        except Refused as refused:
+            if is_attach(request):  # a tool may wait for the reply to its `a`
+                raise Cut("the port can't be attached") from None
+            raise refused
 
-    def _ask(self, request):
-        if came := self._way.unasked():
-            raise Shifted(came)
-        self._way.send(request)
-        reply = self._way.line()
-        if found := wrong_reply(request, reply, self._session.pins):
-            raise Cut(found)
+    def _once(self, request, body):
+        try:
+            self._find(is_attach(request))
+            reply = self._ours.add(self._ask(body))
+        except Changed:
+            raise
+        except Cut as cut:
+            self.failures += 1
+            self._progress.say(f"{cut} (request: `{shown(request)}`)")
+            self._leave()
+            raise Refused(str(cut)) from None
+        self._log.add(request, reply)
         return reply
 
-    def _find(self):
+    def _ask(self, body):
+        """The reply's body to a request's, where all of its line is right."""
+        if came := self._way.unasked():
+            raise Cut(f"{len(came)} bytes came that nobody had asked for")
+        request = self._theirs.request(body)
+        self._way.send(request)
+        reply = self._way.line_from(b"=2 %s " % body[2:]) if is_attach(body) else self._way.line()
+        found = wrong_line(request, reply, self._theirs) or wrong_body(body, body_of(reply), self._session.pins)
+        if found:
+            raise Cut(found)
+        return body_of(reply)
+
+    def _find(self, attaches):
         """Opens the port where it isn't open, and makes the session there, if it isn't the one at hand."""
         if self._is_made:
             return
@@ -204,7 +226,8 @@ class Relay:
         if not self._way.is_recorded:
             self._way.send(b"\n")  # ends half a line, if one was left there
             self._way.unasked(QUIET)
-        self._session.make(lambda body: body_of(self._ask(with_sum(body))))
+        if not attaches:
+            self._session.make(self._ask)
         self._is_made = True
 
     def _leave(self):
@@ -218,14 +241,6 @@ class Relay:
         self._progress.show(self._bytes(), "\n", 0)
         if self.failures:
             self._progress.say(f"failures of the port: {self.failures}")
-        came = b""
-        if self._way and self._way.is_open:
-            try:
-                came = self._way.unasked(QUIET)
-            except Cut:
-                pass  # it ended, and owes nothing
-        if came:
-            raise Shifted(came)
 
 
 def words():
@@ -241,9 +256,15 @@ def words():
     return parser.parse_args()
 
 
-def serve(tool, relay):
-    for request in tool.requests():
-        tool.reply(relay.answer(request))
+def serve(tool, relay, progress):
+    """Whether the port stood to the end."""
+    try:
+        for request in tool.requests():
+            tool.reply(relay.answer(request))
+    except Cut as cut:
+        progress.say(str(cut))
+        return False
+    return True
 
 
 def run(given, progress, folder):
@@ -252,14 +273,11 @@ def run(given, progress, folder):
     log = Log(given.log, given.go_on) if given.log else NoLog()
     relay, tool = Relay(given, log, progress), Tool(given.command, folder)
     try:
-        serve(tool, relay)
-        tool.close()
+        stood = serve(tool, relay, progress)
+        tool.close()  # a tool that waits for a reply ends by this
         status = tool.end()
         relay.end()
-        return status
-    except Shifted:
-        log.put_aside()
-        raise
+        return status if stood or status else FAILED
     finally:
         tool.kill()
 

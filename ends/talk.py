@@ -3,13 +3,18 @@
 import os
 import re
 
-from asker import edits
-from lines import REPLY_BYTES, edit, pin_digits, sum_text
+from asker import whole
+from lines import REPLY_BYTES, Check, attach_body, pin_digits
+from lines import edit as make_edit
 from model import Configuration
 from ways import Cut, shown
 
-COUNTS = re.compile(rb"=1((?: (?:0|[1-9][0-9]*)){12})")
-OTHER_VERSION = re.compile(rb"=([02-9]|[1-9][0-9]+) ")
+COUNTS = re.compile(rb"=2 [0-9]+((?: (?:0|[1-9][0-9]*)){12})")
+OWN_NUMBER = 9_999_999  # of an `a` that the tool didn't ask for
+
+
+class Changed(Cut):
+    """Why the machine isn't the one of the log: asking again would hide it."""
 
 
 def body_of(line):
@@ -20,33 +25,30 @@ def drives_of(body):
     return [word[1:] for word in body.split() if word[:1] == b"d"]
 
 
-def wrong_line(request, reply):
-    """What is wrong with the bytes of a reply, or None."""
+def is_attach(body):
+    return body[:2] == b"a "
+
+
+def wrong_line(request, reply, check):
+    """What is wrong with the bytes of a reply, or None; the running check goes on."""
     if reply[:1] == b"!":
         return f"the port refused it: `{shown(reply)}`"
     if reply == request:
         return "the port gave the request back: its echo is on"
     if reply.endswith(b"\r\n"):
         return "a CR stands before the line's end: the port isn't raw"
-    body, star, check = reply[:-1].rpartition(b"*")
-    if not star or check != sum_text(body):
-        return f"`{shown(reply)}` has a wrong sum: bytes were lost or changed on the way"
+    if reply != check.add(body_of(reply)):
+        return f"`{shown(reply)}` has a wrong check: bytes were lost or changed on the way, or it is the reply to another request"
     return None
 
 
-def wrong_reply(request, reply, pins):
-    """What is wrong with the reply to a request for people, or None. `pins` are those of the machine, once it was attached."""
-    if found := wrong_line(request, reply):
-        return found
-    body, drives = body_of(reply), drives_of(body_of(request))
-    if not drives:
-        version = OTHER_VERSION.match(body)
-        if version:
-            return f"the port speaks version {int(version[1])} of the protocol, and this is version 1"
-        return None if COUNTS.fullmatch(body) else f"`{shown(reply)}` isn't a machine's twelve counts"
-    readings = body[1:].split()
-    if body != b"=" + b" ".join(readings) or len(readings) != len(drives):
-        return f"`{shown(reply)}` isn't the reading of {len(drives)} cycles"
+def wrong_body(request, reply, pins):
+    """What is wrong with the body of a reply that has its right check, or None."""
+    if is_attach(request):
+        return None if COUNTS.fullmatch(reply) else f"`{shown(reply)}` isn't a machine's twelve counts"
+    readings, many = reply[1:].split(), len(drives_of(request))
+    if reply != b"=" + b" ".join(readings) or len(readings) != many:
+        return f"`{shown(reply)}` isn't the reading of {many} cycles"
     digits = pin_digits(pins)
     if any(not re.fullmatch(b"[0-9a-f]{%d}" % digits, reading) or int(reading, 16) >> pins for reading in readings):
         return f"`{shown(reply)}` isn't what {pins} pins read"
@@ -61,47 +63,40 @@ class Session:
 
     @property
     def pins(self):
-        return int(self.counts.split()[-1]) if self.counts else 0
+        return int(self.counts[-1]) if self.counts else 0
 
     def take(self, request, reply):
-        """Goes on by a request and its reply."""
-        words = body_of(request).split()
-        if words == [b"a"]:
+        """Goes on by a request and its reply, both without their checks."""
+        if is_attach(request):
             self.__init__()
-            self.counts = body_of(reply)
+            self.counts = reply.split()[2:]
             return
-        at = words.index(b"l") if b"l" in words else None
-        if at is not None:
-            self._load(words[:at])
-        self._drives += drives_of(body_of(request))
-        self._readings += body_of(reply)[1:].split()
+        words = request.split()
+        if b"l" in words:
+            self._load(words[: words.index(b"l")])
+        self._drives += drives_of(request)
+        self._readings += reply[1:].split()
 
     def _load(self, words):
         if words[:1] == [b"z"]:
             self._set, words = Configuration(), words[1:]
         for word in words:
-            edit(self._set, word)
+            make_edit(self._set, word)
         self._is_loaded, self._drives, self._readings = True, [], []
 
     def make(self, ask):
-        """Makes it again at a machine, where `ask` gives the reply to a body."""
+        """Makes it again at a machine, where `ask` gives the reply's body to a request's."""
         if self.counts is None:
             return
-        if ask(b"a") != self.counts:
-            raise Cut("another machine is behind the port than before")
-        if not self._is_loaded:
-            return
+        if ask(attach_body(OWN_NUMBER)).split()[2:] != self.counts:
+            raise Changed("another machine is behind the port than before")
         room = max(1, REPLY_BYTES // (pin_digits(self.pins) + 1))
-        words = [b"z", *edits(Configuration(), self._set), b"l"]
-        for at in range(0, len(self._drives), room):
+        words, at = [*whole(self._set), b"l"] if self._is_loaded else [], 0
+        while words or at < len(self._drives):
             drives = [b"d" + drive for drive in self._drives[at : at + room]]
-            if ask(b" ".join(words + drives)).split(b" ") != self._read(at, at + room):
-                raise Cut("the machine reads otherwise than before: its faults changed, or a reply was wrong before")
-            words = []
-
-    def _read(self, first, behind):
-        first_word, *rest = self._readings[first:behind]
-        return [b"=" + first_word, *rest]
+            if ask(b" ".join(words + drives))[1:].split() != self._readings[at : at + room]:
+                raise Changed("the machine reads otherwise than before: its faults aren't the ones that it had")
+            words, at = [], at + room
 
 
 class Log:
@@ -120,21 +115,18 @@ class Log:
             self._read()
 
     def _read(self):
-        """Takes what is whole, but for a last reply that is wrong: the machine is asked that again."""
+        """Takes what is whole. Attaching at the end came of a failure, and is left out: what failed is asked again."""
         with open(self._name, "rb") as file:
             lines = file.read().splitlines(keepends=True)
         if lines and not lines[-1].endswith(b"\n"):
             lines.pop()
         self.pairs = list(zip(lines[::2], lines[1::2]))
-        pins = 0
+        check = Check()
         for at, (request, reply) in enumerate(self.pairs):
-            found = wrong_reply(request, reply, pins)
-            if found and at + 1 < len(self.pairs):
-                raise Cut(f"{self._name}, line {2 * at + 2}: {found}")
-            if found:
-                self.pairs.pop()
-            elif body_of(request) == b"a":
-                pins = int(body_of(reply).split()[-1])
+            if request != check.request(body_of(request)) or reply != check.add(body_of(reply)):
+                raise Cut(f"{self._name}, line {2 * at + 1} or {2 * at + 2}: a wrong check")
+        while len(self.pairs) > 1 and is_attach(self.pairs[-1][0]):
+            self.pairs.pop()
         os.ftruncate(self._file, sum(len(request) + len(reply) for request, reply in self.pairs))
         os.lseek(self._file, 0, os.SEEK_END)
 
@@ -144,18 +136,10 @@ class Log:
             pair = pair[os.write(self._file, pair) :]
 
 
-    def put_aside(self):
-        """Gives it another name, for nothing may go on from it."""
-        os.rename(self._name, f"{self._name}.shifted")
-
-
 class NoLog:
     """In the place of a log, where none is wanted."""
 
     pairs = ()
 
     def add(self, request, reply):
-        pass
-
-    def put_aside(self):
         pass

@@ -16,8 +16,8 @@ import compare
 import cost
 import overlay_end
 import switch_end
-from asker import Asker, DevicePort, WrongReply, edits
-from lines import Device, with_sum
+from asker import Asker, DevicePort, WrongReply, edits, shorter, whole
+from lines import Check, Device
 from machine import Faults, Refused, read_faults, read_machine
 from model import Configuration, Session, Setting
 
@@ -34,24 +34,35 @@ cell m0.c0.h0.t0 17 1
 register m0.c0.h0.t1 0
 """
 
-# Requests and replies of a sound `tiny`, one after the other.
+# Requests and replies of a sound `tiny`, one after the other: edits, drives alone, a load without drives, attaching again.
 TALK = [
-    ("a*61", "=1 1 1 1 2 4 4 4 4 4 4 4 4*53"),
-    ("c0 c5 l d0e*f0", "=0e*d2"),
-    ("o5 c10 t1,8888888888888888,0 l d0f*fb", "=0f*d3"),
-    ("d0f*fa", "=0f*d3"),
+    ("a 1*97b3", "=2 1 1 1 1 2 4 4 4 4 4 4 4 4*0758"),
+    ("c0 c5 l d0e*e848", "=0e*3c1a"),
+    ("o5 c10 t1,8888888888888888,0 l d0f*2e15", "=0f*eae8"),
+    ("d0e d0f*89fb", "=0e 0f*8383"),
+    ("z l*2689", "=*ecc6"),
+    ("d0f*30c0", "=0f*ed93"),
+    ("a 2*98b4", "=2 2 1 1 1 2 4 4 4 4 4 4 4 4*3d5a"),
 ]
-# What each end has to refuse, wherever it comes behind them: wrong sums, ..
-WRONG = ["l d00*00", "d0f*f", "d0f*fA", "d0f*0fa", "d0f*fa0", "d0f*", "d0f*fa*fa", "d0f*fa ", "*00"]
+OTHER_TALK = [
+    ("a 1*97b3", "=2 1 1 1 1 2 4 4 4 4 4 4 4 4*0758"),
+    ("c0 c5 l d0e*e848", "=0e*3c1a"),
+    ("z c10 t1,8888888888888888,0 l d0f*3beb", "=0f*79be"),
+    ("d0f*a5b8", "=0f*4a8b"),
+]
+# Behind the first three lines of the other talk `d0f*a5b8` is right. What each end has to refuse there: wrong checks, ..
+WRONG = ["d0f*0000", "d0f*a5b9", "d0f*a4b8", "d0f*b8a5", "d0f*a5", "d0f*A5b8", "d0f*a5B8", "d0f*0a5b8", "d0f*a5b80", "d0f*", "d0f*a5b8*a5b8"]
+WRONG += ["d0f*a5b8 ", "*a5b8", "a 1*97b4", "a 2*97b3", "a*61", "d0f*fa"]
 # .. numbers that are out of range or spelled in another way, ..
 WRONG += ["k0 l d0f", "k4097 l d0f", "k01 l d0f", "c168 l d0f", "o168 l d0f", "c00 l d0f", "c l d0f", "c-1 l d0f", "x2 l d0f", "x0,1 l d0f"]
 WRONG += [f"c{2**bits} l d0f" for bits in (32, 64)] + ["t2,0000000000000000,0 l d0f", "t1,0,0 l d0f", "t1,88888888888888888,0 l d0f"]
 WRONG += ["t1,8888888888888888,4 l d0f", "t1,8888888888888888 l d0f", "t1,888888888888888A,0 l d0f", "t1,,0 l d0f"]
+WRONG += ["a", "a ", "a 01", "a 4294967296", f"a {2**64 + 1}", "a 1f", "a1", "a  1", "a -1"]
 # .. pin texts of another width or with bits beyond the pins, ..
 WRONG += ["d", "d1", "dag", "l d0g", "d0F", "d1f", "d00f", "d0f d"]
 # .. and lines of another form.
-WRONG += ["q", "c9", "c0 l", "l", "z", "z d0f", "a d0f", "a a", "a ", " d0f", "d0f ", "d0f  d0e", "l  d0f", "l d0f l d0f", "c0 d0f l d0f"]
-WRONG += ["z z l d0f", "c0 z l d0f", "l d0f c0", "l d0f z", "D0f", "d0f\r", "\td0f", "d0f\1", "l d0f,"]
+WRONG += ["q", "c9", "z", "z d0f", "z c0", "a 1 d0f", "a 1 a 2", "a 1 ", " d0f", "d0f ", "d0f  d0e", "l  d0f", "l d0f l d0f", "c0 d0f l d0f"]
+WRONG += ["z z l d0f", "c0 z l d0f", "l d0f c0", "l d0f z", "l l", "l ", "D0f", "d0f\r", "\td0f", "d0f\1", "l d0f,"]
 
 class Texts(unittest.TestCase):
     def test_numbers_of_tiny(self):
@@ -122,37 +133,38 @@ class Lines(unittest.TestCase):
     def setUp(self):
         self.device = Device(TINY, Faults())
 
-    def test_talk(self):
-        for request, reply in TALK:
+    def ask(self, body, device=None):
+        """A reply's body, to a request that lacks the check."""
+        return (device or self.device).answer(body.encode()).partition(b"*")[0].decode()
+
+    def test_talks(self):
+        for request, reply in TALK + OTHER_TALK:
             self.assertEqual(self.device.answer(request.encode()), reply.encode() + b"\n")
 
     def test_cycles_of_loads(self):
-        self.assertEqual(cost.cycles_of(b"a*61\nc0 l d0e d0f*f0\nd0f*fa\nz l d0e*00\n"), [3, 1])
+        requests = b"a 1*97b3\nc0 l d0e*f0f0\nd0f*fafa\nz l*0000\nz l d0e*0000\n"
+        self.assertEqual(cost.cycles_of(requests), [2, 0, 1])
 
     def test_several_drives(self):
-        self.device.answer(b"a")
-        self.device.answer(b"c0 c4 l d0f")
-        self.assertEqual(self.device.answer(b"d0e d0f"), with_sum(b"=0c 0f"))
+        replies = [self.ask(line) for line in ("a 3", "c0 c4 l d0f", "d0e d0f", "l")]
+        self.assertEqual(replies, ["=2 3 1 1 1 2 4 4 4 4 4 4 4 4", "=0f", "=0c 0f", "="])
 
     def test_a_refusal_ends_all_but_attaching(self):
         for wrong in WRONG:
-            for request, reply in TALK:
+            for request, reply in OTHER_TALK[:3]:
                 self.assertEqual(self.device.answer(request.encode()), reply.encode() + b"\n")
-            self.assertEqual(self.device.answer(wrong.encode())[:1], b"!", wrong)
+            self.assertEqual(self.ask(wrong)[:1], "!", wrong)
             for _ in range(2):
-                self.assertEqual(self.device.answer(b"d0f*fa"), b"!attach\n")
+                self.assertEqual(self.ask("d0f"), "!attach\n")
 
     def test_nothing_comes_before_attaching(self):
-        for line in (b"d0f*fa", b"l d0f", b"z l d0f"):
-            self.assertEqual(Device(TINY, Faults()).answer(line), b"!attach\n")
+        for line in ("d0f", "l d0f", "z l d0f", "l"):
+            self.assertEqual(self.ask(line, Device(TINY, Faults())), "!attach\n")
 
-    def test_clearing_ends_the_session(self):
-        for request, _ in TALK[:2]:
-            self.device.answer(request.encode())
-        self.device.answer(b"a*61")
-        self.assertEqual(self.device.answer(b"d0f*fa"), b"!load\n")
-        self.device.answer(b"a*61")
-        self.assertEqual(self.device.answer(b"z c1 l d0f"), with_sum(b"=0f"))
+    def test_attaching_ends_the_session(self):
+        self.assertEqual([self.ask(line) for line in ("a 1", "c0 c4 l d0e")][1], "=0c")
+        self.assertEqual([self.ask(line) for line in ("a 2", "d0f")][1], "!load\n")
+        self.assertEqual([self.ask(line) for line in ("a 3", "l d0e")][1], "=0e")
 
     def test_readings_that_differ_are_refused(self):
         chance = random.Random(1)
@@ -160,15 +172,9 @@ class Lines(unittest.TestCase):
         def flicker(machine, faults, configuration):
             return Session(machine, faults, Configuration() if chance.random() < 0.5 else configuration)
 
-        joined, apart, refused = with_sum(b"=0c"), with_sum(b"=0e"), b"!twice\n"
-        for times, answers in ((1, {joined, apart}), (2, {joined, apart, refused}), (20, {refused})):
+        for times, answers in ((1, {"=0c", "=0e"}), (2, {"=0c", "=0e", "!twice\n"}), (20, {"!twice\n"})):
             device = Device(TINY, Faults(), begin=flicker, times=times)
-            self.assertEqual({self.joins(device) for _ in range(20)}, answers)
-
-    @staticmethod
-    def joins(device):
-        device.answer(b"a")
-        return device.answer(b"c0 c4 l d0e")
+            self.assertEqual({[self.ask(line, device) for line in ("a 1", "c0 c4 l d0e")][1] for _ in range(20)}, answers)
 
     def test_edits_lead_from_one_to_the_other(self):
         chance, before = random.Random(3), Configuration()
@@ -176,10 +182,12 @@ class Lines(unittest.TestCase):
             after = compare.random_load(TINY, chance, before)
             self.begun = []
             device = Device(TINY, Faults(), begin=self.begin)
-            device.answer(b"a")
+            device.answer(b"a 1")
             device.answer(b" ".join([*edits(Configuration(), before), b"l d0f"]))
             device.answer(b" ".join([*edits(before, after), b"l d0f"]))
-            self.assertEqual(self.begun, [before, after])
+            device.answer(b" ".join([*whole(before), b"l"]))
+            device.answer(b" ".join([*shorter(before, after), b"l"]))
+            self.assertEqual(self.begun, [before, after] * 2)
             before = after
 
     def begin(self, _machine, _faults, configuration):
@@ -191,19 +199,40 @@ class Lines(unittest.TestCase):
         return 0
 
 
+class Spelled:
+    """A port whose replies to drives have these bodies, each with its right check but for what `change` makes of it."""
+
+    def __init__(self, body, change=lambda line: line):
+        self._device, self._body, self._change = Device(TINY, Faults()), body, change
+        self._check = Check()
+
+    def ask(self, line):
+        body = line.partition(b"*")[0]
+        self._check.request(body)
+        if body[:1] == b"a":
+            reply = self._device.answer(body)
+            self._check.add(reply.partition(b"*")[0])
+            return reply
+        return self._change(self._check.add(self._body))
+
+
 class Askers(unittest.TestCase):
     """The tool's end takes one spelling of each reply."""
 
+    def read(self, *given):
+        asker = Asker(Spelled(*given), TINY)
+        asker.load(Configuration())
+        return asker.cycles([15])
+
     def test_wrong_replies(self):
-        right = with_sum(b"=0f")
-        bodies = [with_sum(body) for body in (b"=1f", b"=0f 0f", b"=f", b"=0f ", b"0f")]
-        for wrong in (b"", b"!no\n", b"=0f*d4\n", b"=0F*b3\n", b"=0f*d3\r\n", right[:-1], *bodies):
-            port = DevicePort(Device(TINY, Faults()))
-            asker = Asker(port, TINY)
-            asker.load(Configuration())
-            port.ask = lambda _, wrong=wrong: wrong
-            with self.assertRaises(WrongReply, msg=wrong):
-                asker.cycles([15])
+        self.assertEqual(self.read(b"=0f"), [15])
+        for body in (b"=1f", b"=0f 0f", b"=f", b"=0f ", b"0f", b"=0F", b"=", b"!0f"):
+            with self.assertRaises(WrongReply, msg=body):
+                self.read(body)
+        changes = (lambda line: b"", lambda line: b"!no\n", lambda line: line[:-1], lambda line: line[:-1] + b"\r\n")
+        for change in (*changes, lambda line: line.upper(), lambda line: line[:-3] + line[-2:-4:-1] + b"\n"):
+            with self.assertRaises(WrongReply):
+                self.read(b"=0f", change)
 
     def test_another_machine(self):
         with self.assertRaises(WrongReply):
@@ -211,14 +240,26 @@ class Askers(unittest.TestCase):
 
     def test_long_looks_are_cut(self):
         asked = []
-        device = Device(TINY, Faults())
-        port = DevicePort(device)
+        port = DevicePort(Device(TINY, Faults()))
         asker = Asker(port, TINY)
         asker.load(Configuration())
         ask = port.ask
         port.ask = lambda line: asked.append(ask(line)) or asked[-1]
         self.assertEqual(asker.cycles([k % 16 for k in range(3000)]), [k % 16 for k in range(3000)])
-        self.assertEqual([len(reply) <= 4100 for reply in asked], [True] * 3)
+        self.assertEqual([len(reply) <= 4101 for reply in asked], [True] * 3)
+
+    def test_a_load_is_sent_without_drives(self):
+        asked = []
+        port = DevicePort(Device(TINY, Faults()))
+        asker = Asker(port, TINY)
+        ask = port.ask
+        port.ask = lambda line: asked.append(line.partition(b"*")[0]) or ask(line)
+        asker.load(Configuration({3}))
+        self.assertEqual(asker.cycles([]), [])
+        asker.load(Configuration({3, 4}))
+        asker.load(Configuration({3, 5}))
+        self.assertEqual(asker.cycles([15]), [15])
+        self.assertEqual(asked, [b"c3 l", b"c5 l d0f"])
 
 
 class Process:
@@ -266,12 +307,13 @@ class Programs(unittest.TestCase):
         text = (EXAMPLES / "tiny.machine").read_text()
         port = self.make(kind, text, "")
         self.assertEqual(port.ask(b"z l d0f\n")[:1], b"!")
-        for wrong in ["", *WRONG]:
-            for request, reply in TALK:
+        for request, reply in TALK + OTHER_TALK:
+            self.assertEqual(port.ask(request.encode() + b"\n"), reply.encode() + b"\n")
+        for wrong in WRONG:
+            for request, reply in OTHER_TALK[:3]:
                 self.assertEqual(port.ask(request.encode() + b"\n"), reply.encode() + b"\n")
-            if wrong:
-                self.assertEqual(port.ask(wrong.encode() + b"\n")[:1], b"!", wrong)
-                self.assertEqual(port.ask(b"\nd0f*fa\n")[:1], b"!", wrong)
+            self.assertEqual(port.ask(wrong.encode() + b"\n")[:1], b"!", wrong)
+            self.assertEqual(port.ask(b"\nl d0f\n")[:1], b"!", wrong)
         self.assertEqual(port.close(), 0)
         port = self.make(kind, text, ALL_FAULTS)
         self.assertEqual(compare.count_wrong(TINY, read_faults(TINY, ALL_FAULTS), port, 200, random.Random(5)), 0)
@@ -288,12 +330,12 @@ class Programs(unittest.TestCase):
     def test_c_answers_as_python(self):
         """Lines drawn by chance, some of which are right, behind an `a` and one load."""
         chance, device = random.Random(7), Device(TINY, Faults())
-        words = "z c1 o0 c167 t1,8888888888888888,1 x0 k2 l l l d0f d0e d03 d0f*fa a k0 c 1".split()
+        words = "z c1 o0 c167 t1,8888888888888888,1 x0 k2 l l l d0f d0e d03 d0f*fafa a 1 k0 c".split()
         port = self.make("c", (EXAMPLES / "tiny.machine").read_text(), "")
         right = 0
         for _ in range(3000):
             line = " ".join(chance.choices(words, k=chance.randint(1, 4))) + chance.choice(["", "", "", " ", "*"])
-            for request in (b"a", b"c0 c4 l d0e", line.encode()):
+            for request in (b"a 7", b"c0 c4 l d0e", line.encode()):
                 replies = device.answer(request), port.ask(request + b"\n")
                 self.assertEqual(replies[0].partition(b"!")[0], replies[1].partition(b"!")[0], request)
             right += replies[0][:1] == b"="

@@ -1,5 +1,6 @@
 """Tests of the relay: it stands between a tool and ends that are killed, fall silent or answer nonsense.  python3 -m unittest"""
 
+import copy
 import os
 import pty
 import signal
@@ -16,8 +17,9 @@ HERE = Path(__file__).resolve().parent
 sys.path.insert(0, str(HERE))
 
 import python_end
-from lines import Device, with_sum
+from lines import Check, Device
 from machine import Faults, read_machine
+from talk import body_of
 
 TINY_FILE = HERE.parent / "examples" / "tiny.machine"
 SMALL_FILE = HERE.parent / "examples" / "small.machine"
@@ -64,6 +66,9 @@ class Recorded:
         self.talk += line + reply
         return reply
 
+    def next(self):
+        raise AssertionError("a right reply came")
+
 
 def right(seed=1):
     """What the tool prints of a sound machine, and the talk."""
@@ -81,6 +86,7 @@ class End(threading.Thread):
         super().__init__(daemon=True)
         self._requests, self._replies, self._spoil = requests, replies, spoil
         self.device, self.asked = Device(TINY, Faults()), []
+        self._check, self._before = Check(), Check()
 
     def run(self):
         try:
@@ -92,7 +98,14 @@ class End(threading.Thread):
         if line:
             self.asked.append(line)
         reply = self.device.answer(line)
+        self._check.request(body_of(line))
+        self._before = copy.copy(self._check)
+        self._check.add(body_of(reply))
         return self._spoil(self, line, reply) if line else b""
+
+    def spelled(self, body):
+        """A line of this body with the check that is due."""
+        return copy.copy(self._before).add(body)
 
 
 def once(number, change):
@@ -227,7 +240,7 @@ class Killed(Relayed):
         for seed in range(3):
             self.log.unlink(missing_ok=True)
             end, port = self.real_end()
-            relay = self.begin(port, "--log", self.log, "--again", 0, seed=seed)
+            relay = self.begin(port, "--log", self.log, "--again", 0, "--limit", 3, seed=seed)
             self.wait_for(10 + seed)
             end.kill()
             written, said = relay.communicate(timeout=60)
@@ -269,45 +282,50 @@ class Killed(Relayed):
             os.kill(number, 0)
 
 
-def is_spoilt(reply):
-    """A reply whose first digit is another, with its right sum."""
-    body = reply[1 : reply.index(b"*")]
-    return with_sum(b"=" + (b"1" if body[:1] == b"0" else b"0") + body[1:])
+def beyond(reply):
+    """The body of a reply with a bit beyond the pins."""
+    body = body_of(reply)
+    return b"=1" + body[2:]
 
 
 # What an end makes of a reply, and the cause in words.
 SPOILT = {
     "silent": (lambda end, line, reply: b"", "nothing came for 1 s"),
     "half": (lambda end, line, reply: reply[:2], "no line's end for 1 s"),
-    "changed": (lambda end, line, reply: b"=e" + reply[2:], "wrong sum"),
+    "changed": (lambda end, line, reply: b"=e" + reply[2:], "wrong check"),
     "refused": (lambda end, line, reply: b"!hot\n", "the port refused it: `!hot`"),
     "echoed": (lambda end, line, reply: line + b"\n", "echo"),
     "with CR": (lambda end, line, reply: reply[:-1] + b"\r\n", "CR"),
     "long": (lambda end, line, reply: b"=" * 9000, "without a line's end"),
-    "other width": (lambda end, line, reply: with_sum(b"=000f"), "isn't"),
-    "one reading more": (lambda end, line, reply: with_sum(reply[: reply.index(b"*")] + b" 0f"), "isn't the reading of"),
-    "beyond the pins": (lambda end, line, reply: is_spoilt(reply), "isn't what 4 pins read"),
-    "capital": (lambda end, line, reply: with_sum(b"=0F" + b" 0F" * reply.count(b" ")), "isn't what 4 pins read"),
-    "garbage": (lambda end, line, reply: b"\xff\0\n", "wrong sum"),
+    "other width": (lambda end, line, reply: end.spelled(b"=000f"), "isn't"),
+    "one reading more": (lambda end, line, reply: end.spelled(body_of(reply) + b" 0f"), "isn't the reading of"),
+    "beyond the pins": (lambda end, line, reply: end.spelled(beyond(reply)), "isn't what 4 pins read"),
+    "capital": (lambda end, line, reply: end.spelled(b"=0F" + b" 0F" * reply.count(b" ")), "isn't what 4 pins read"),
+    "garbage": (lambda end, line, reply: b"\xff\0\n", "wrong check"),
+    "doubled": (lambda end, line, reply: reply + reply, "bytes came that nobody had asked for"),
 }
 
 
 class Spoilt(Relayed):
     """One reply is another one."""
 
-    def test_causes(self):
-        for name, (change, cause) in SPOILT.items():
-            with self.subTest(name):
-                _, port = self.spoilt_end(once(20, change))
-                self.assert_failed(self.run_relay(port, "--again", 0, "--limit", 1), cause)
-
-    def test_asked_again(self):
+    def test_each_is_asked_again(self):
         for name, (change, cause) in SPOILT.items():
             with self.subTest(name):
                 end, port = self.spoilt_end(once(20, change))
                 self.assertIn(cause, self.assert_right(self.run_relay(port, "--log", self.log, "--limit", 1)))
                 self.assertEqual(self.log.read_bytes(), right()[1])
-                self.assertIn(b"a*61", end.asked[20:23])
+                self.assertTrue(any(line.startswith(b"a 9999999*") for line in end.asked[20:22]))
+                self.log.unlink()
+
+    def test_each_is_asked_again_by_the_tool(self):
+        for name, (change, cause) in SPOILT.items():
+            with self.subTest(name):
+                end, port = self.spoilt_end(once(20, change))
+                self.assertIn(cause, self.assert_right(self.run_relay(port, "--log", self.log, "--limit", 1, "--again", 0)))
+                self.assertTrue(any(line.startswith(b"a 2*") for line in end.asked[20:22]))
+                # What failed isn't in the log, and the tool does again what it did, if it is all that there is.
+                self.assert_right(self.run_relay("/no/such/port", "--log", self.log, "--go-on"))
                 self.log.unlink()
 
     def test_a_late_reply(self):
@@ -332,43 +350,13 @@ class Spoilt(Relayed):
         self.assert_right(self.run_relay(port, "--limit", 1))
 
     def test_another_version(self):
-        _, port = self.spoilt_end(lambda end, line, reply: with_sum(b"=2 1 " + reply[3:].partition(b"*")[0]))
-        self.assert_failed(self.run_relay(port, "--again", 0), "version 2")
+        _, port = self.spoilt_end(lambda end, line, reply: b"=1 1 1 1 2 4 4 4 4 4 4 4 4*53\n")
+        self.assert_failed(self.run_relay(port, "--again", 0, "--limit", 1), "the last line that came was `=1 1 1 1 2 4")
 
     def test_no_more_than_so_often(self):
         end, port = self.spoilt_end(lambda end, line, reply: b"!hot\n" if len(end.asked) > 20 else reply)
-        self.assert_failed(self.run_relay(port), "the port refused it: `!hot`")
-        self.assertEqual(len(end.asked), 20 + 1 + 2)
-
-    def test_readings_that_changed(self):
-        """A machine that reads otherwise when a session is made again is no machine that the tool may go on with."""
-
-        def turned(end, line, reply):
-            turns = len(end.asked) > 21 and line[:1] == b"z"
-            return with_sum(b"=" + b"%02x" % (int(reply[1:3], 16) ^ 1) + reply[3:].partition(b"*")[0]) if turns else reply
-
-        spoil = once(20, lambda end, line, reply: b"")
-        _, port = self.spoilt_end(lambda end, line, reply: turned(end, line, spoil(end, line, reply)))
-        self.assert_failed(self.run_relay(port, "--limit", 1), "reads otherwise than before")
-
-    def test_a_reply_too_many(self):
-        """Nobody knows which replies belong to their requests then, so nothing goes on from the log."""
-        last = right()[1].count(b"\n") // 2
-        for number in (1, 20, last):
-            _, port = self.spoilt_end(once(number, lambda end, line, reply: reply + reply))
-            self.assert_failed(self.run_relay(port, "--log", self.log), "bytes came that nobody had asked for")
-            self.assertFalse(self.log.exists())
-            self.assertTrue(right()[1].startswith((self.folder / "log.shifted").read_bytes()[:40]))
-
-    def test_replies_that_come_one_request_late(self):
-        last, held = right()[1].count(b"\n") // 2, [b""]
-
-        def late(end, line, reply):
-            before, held[0] = held[0], reply
-            return reply if len(end.asked) <= 20 else before + reply if len(end.asked) == last else before
-
-        _, port = self.spoilt_end(late)
-        self.assertEqual(self.run_relay(port, "--limit", 1)[2], STATUS_OF_PORT)
+        self.assert_failed(self.run_relay(port, "--limit", 1), "the port refused it: `!hot`")
+        self.assertEqual(len(end.asked), 20 + 1 + 2 + 3)
 
     def test_nobody_there(self):
         self.assert_failed(self.run_relay(self.fifos(), "--limit", 0.2, "--again", 0), "nobody opened")
@@ -395,19 +383,32 @@ class Logs(Relayed):
             self.assert_right(self.run_relay(port, "--log", self.log, "--go-on"))
             self.assertEqual(self.log.read_bytes(), right()[1])
 
-    def test_a_last_reply_that_was_wrong(self):
-        self.log.write_bytes(b"".join(self.lines[:19]) + b"=0f*00\n")
+    def test_attaching_at_the_end_is_asked_again(self):
+        check = Check()
+        again = check.request(b"a 2") + check.add(b"=2 2 1 1 1 2 4 4 4 4 4 4 4 4")
+        self.log.write_bytes(b"".join(self.lines[:20]) + again)
         _, port = self.real_end()
         self.assert_right(self.run_relay(port, "--log", self.log, "--go-on"))
         self.assertEqual(self.log.read_bytes(), right()[1])
+
+    def test_readings_that_changed(self):
+        """A machine that reads otherwise when a session is made again is no machine that the tool may go on with."""
+
+        def turned(end, line, reply):
+            turns = line[:1] == b"z" and reply[:1] == b"="
+            return end.spelled(b"=" + b"%02x" % (int(reply[1:3], 16) ^ 1) + body_of(reply)[3:]) if turns else reply
+
+        self.log.write_bytes(b"".join(self.lines[:20]))
+        _, port = self.spoilt_end(turned)
+        self.assert_failed(self.run_relay(port, "--log", self.log, "--go-on"), "reads otherwise than before")
 
     def test_a_whole_log_asks_nothing(self):
         self.log.write_bytes(b"".join(self.lines))
         self.assert_right(self.run_relay("/no/such/port", "--log", self.log, "--go-on"))
 
     def test_a_wrong_log(self):
-        self.log.write_bytes(b"".join([*self.lines[:7], b"=0f*00\n", *self.lines[8:20]]))
-        self.assert_failed(self.run_relay(self.fifos(), "--log", self.log, "--go-on"), "line 8: `=0f*00` has a wrong sum")
+        self.log.write_bytes(b"".join([*self.lines[:7], b"=0f*0000\n", *self.lines[8:20]]))
+        self.assert_failed(self.run_relay(self.fifos(), "--log", self.log, "--go-on"), "line 7 or 8: a wrong check")
 
     def test_another_command(self):
         self.log.write_bytes(b"".join(self.lines[:20]))

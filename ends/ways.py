@@ -11,6 +11,7 @@ import tty
 
 BLOCK = 65_536
 LINE_BYTES = 4101  # no reply has more, its end with it
+MOST_DROPPED = 1_048_576  # bytes of other lines before the reply to an `a`
 QUIET = 0.3  # so many seconds without a byte, and nothing is on the way
 PAUSE = 0.02  # between two tries to open a FIFO that nobody reads
 
@@ -126,6 +127,18 @@ class Way:
             self._take()
         line, self._rest = self._rest.split(b"\n", 1)
         return line + b"\n"
+
+    def line_from(self, beginning):
+        """The next line that begins so; others were left on the way, and are dropped."""
+        last, dropped = b"", 0
+        try:
+            while not (line := self.line()).startswith(beginning):
+                last, dropped = line, dropped + len(line)
+                if dropped > MOST_DROPPED:
+                    raise Cut(f"{dropped} bytes came that don't begin with `{shown(beginning)}`")
+        except Cut as cut:
+            raise Cut(f"{cut}; the last line that came was `{shown(last)}`" if last else str(cut)) from None
+        return line
 
     def unasked(self, seconds=0):
         """The bytes that came and that no request asked for, dropped, up to a pause of so many seconds."""

@@ -14,7 +14,7 @@
  */
 #include "board.h"
 
-enum { PIN_BYTES = (PINS + 7) / 8, ONE_READING = 2 * PIN_BYTES + 1, MOST_TICKS = 4096, MOST_DIGITS = 7, CELL_DIGITS = 16 };
+enum { PIN_BYTES = (PINS + 7) / 8, ONE_READING = 2 * PIN_BYTES + 1, MOST_TICKS = 4096, MOST_DIGITS = 10, CELL_DIGITS = 16, CHECK_DIGITS = 4 };
 enum { ROOM = ONE_READING > 4096 ? ONE_READING : 4096 }; /* for a reply */
 enum { END = '\n' };
 typedef unsigned long long number;
@@ -22,8 +22,10 @@ typedef unsigned long long number;
 /* How far a request is: which words may come, and whether it may end. */
 enum place { BEGINS, EDITS, LOADS, DRIVES, ATTACHES, ENDS };
 
-/* Of the request so far: its sum, its place, and whether it has to be refused. */
-static unsigned char sum;
+/* The running check of all bodies since the last `a`: the sum of their bytes, and of what that sum was behind each. */
+static unsigned char sum, sum_of_sums;
+
+/* Of the request so far: its place, and whether it has to be refused. */
 static enum place place;
 static int is_wrong;
 
@@ -31,10 +33,24 @@ static int is_attached, is_loaded;
 static char reply[ROOM];
 static unsigned length;
 
+static void count(unsigned char byte)
+{
+    sum += byte;
+    sum_of_sums += sum;
+}
+
+static void begin_check(void)
+{
+    sum = 1;
+    sum_of_sums = 0;
+}
+
+/* The next byte of a request; those of its body are counted. */
 static int next(void)
 {
     int byte = get();
-    sum += byte;
+    if (byte != '*' && byte != END && place != ENDS)
+        count(byte);
     return byte;
 }
 
@@ -82,6 +98,19 @@ static void say(char byte)
     want(length < ROOM);
     if (!is_wrong)
         reply[length++] = byte;
+}
+
+static void say_text(const char *text)
+{
+    for (; *text; text++)
+        say(*text);
+}
+
+static void say_number(number value)
+{
+    if (value >= 10)
+        say_number(value / 10);
+    say('0' + value % 10);
 }
 
 static char hex(unsigned value)
@@ -162,12 +191,11 @@ static int read_drive(void)
     return byte;
 }
 
-static int read_sum(void)
+static int read_check(void)
 {
-    unsigned char due = sum - '*';
     number given;
-    int byte = read_hex(2, &given);
-    want(given == due);
+    int byte = read_hex(CHECK_DIGITS, &given);
+    want(given == (number)(sum_of_sums << 8 | sum));
     return byte;
 }
 
@@ -178,12 +206,20 @@ static int read_clear(void)
     return next();
 }
 
+/* Clears all, and says the number of this request and the counts. */
 static int read_attach(void)
 {
+    number own;
+    int byte = read_clear();
+    want(byte == ' ');
+    if (is_wrong)
+        return byte;
+    byte = read_below(1ULL << 32, &own);
     is_attached = 1;
-    for (const char *text = "=1 " COUNTS; *text; text++)
-        say(*text);
-    return read_clear();
+    say_text("=2 ");
+    say_number(own);
+    say_text(" " COUNTS);
+    return byte;
 }
 
 static int read_load(void)
@@ -201,7 +237,7 @@ static void take_place(int byte)
     case 'z': go(place == BEGINS, EDITS); break;
     case 'l': go(place == BEGINS || place == EDITS, LOADS); break;
     case 'd': go(place == LOADS || place == DRIVES || (place == BEGINS && is_loaded), DRIVES); break;
-    case '*': go(place == DRIVES || place == ATTACHES, ENDS); break;
+    case '*': go(place == LOADS || place == DRIVES || place == ATTACHES, ENDS); break;
     default: go(place == BEGINS || place == EDITS, EDITS);
     }
     want(is_attached || byte == 'a');
@@ -220,13 +256,13 @@ static int read_word(int byte)
     case 'k': return read_ticks();
     case 'l': return read_load();
     case 'd': return read_drive();
-    case '*': return read_sum();
+    case '*': return read_check();
     }
     is_wrong = 1;
     return byte;
 }
 
-/* Behind a word there is one blank and another word, or the sum, or the line ends. */
+/* Behind a word there is one blank and another word, or the check, or the line ends. */
 static int step_over(int byte)
 {
     want(byte == END || (place != ENDS && (byte == ' ' || byte == '*')));
@@ -243,21 +279,28 @@ static void put_refusal(void)
         put(*text);
 }
 
+static void put_hex(unsigned char byte)
+{
+    put(hex(byte >> 4));
+    put(hex(byte));
+}
+
 static void put_reply(void)
 {
-    unsigned char check = 0;
     for (unsigned k = 0; k < length; k++) {
-        check += reply[k];
+        count(reply[k]);
         put(reply[k]);
     }
     put('*');
-    put(hex(check >> 4));
-    put(hex(check));
+    put_hex(sum_of_sums);
+    put_hex(sum);
 }
 
 static void answer(void)
 {
-    want(place == DRIVES || place == ATTACHES || place == ENDS);
+    want(place == LOADS || place == DRIVES || place == ATTACHES || place == ENDS);
+    if (length == 0)
+        say('='); /* a load without drives */
     if (is_wrong) {
         is_attached = 0;
         put_refusal();
@@ -270,11 +313,14 @@ static void answer(void)
 /* Answers one line; 0 at the end. An empty line asks nothing. Of one that is wrong the rest isn't looked at. */
 static int serve(void)
 {
-    sum = 0;
     is_wrong = 0;
     place = BEGINS;
     length = 0;
     int byte = next(), is_empty = byte == END;
+    if (byte == 'a') {
+        begin_check();
+        count(byte);
+    }
     while (byte != END && byte >= 0) {
         take_place(byte);
         byte = is_wrong ? next() : step_over(read_word(byte));

@@ -12,7 +12,7 @@ mod talk;
 mod telling_rig;
 
 use crate::rigs::faults::sim_of;
-use crate::rigs::lost::load_twice;
+use crate::rigs::lost::{Outcome, load_twice};
 use crate::rigs::steps::{try_answers, try_asks, try_board};
 use crate::rigs::telling_rig::TellingRig;
 use base_io::{FileStore, StdSink};
@@ -34,10 +34,27 @@ fn number_of(word: &str) -> u64 {
     word.parse::<u64>().unwrap_or(0)
 }
 
+// Prints what was read behind two loads.
+fn tell_lost(rt: &HostRuntime, found: &Outcome) -> io::Result<bool> {
+    let first = &found.first;
+    let second = &found.second;
+    let again = found.again;
+    println!(rt; "reads {first}, then {second}, {again} loads made again")?;
+    Ok(true)
+}
+
 // Prints the status of a command.
 fn tell(rt: &HostRuntime, status: u8) -> io::Result<bool> {
     println!(rt; "status {status}")?;
     Ok(true)
+}
+
+// Does what the words of a command line say over a rig, on the files of the folder. Gives the status.
+fn run_over(rt: &HostRuntime, rig: &mut Box<dyn Rig>, words: &[String]) -> io::Result<u8> {
+    let alloc: Global = rt.alloc();
+    let mut store = FileStore::new(alloc, rt.clone()?);
+    let mut sink = StdSink::new(rt.clone()?);
+    Ok(teramac(alloc, words, &mut store, rig, &mut sink))
 }
 
 // Over a rig that asks again, over one that turns the reading of a number.
@@ -45,23 +62,25 @@ fn try_repeat(rt: &HostRuntime, turned: &str, words: &[String]) -> io::Result<bo
     let alloc: Global = rt.alloc();
     let inner = TurnRig::new(sim_of(rt)?, number_of(turned));
     let mut rig: Box<dyn Rig> = Box::new(alloc, RepeatRig::new(alloc, inner))?;
-    let mut store = FileStore::new(alloc, rt.clone()?);
-    let mut sink = StdSink::new(rt.clone()?);
-    tell(rt, teramac(alloc, words, &mut store, &mut rig, &mut sink))
+    tell(rt, run_over(rt, &mut rig, words)?)
 }
 
-// Over a rig that asks again. False where its inner rig wasn't loaded so often for each load but the last, and once for that.
-fn try_passes(rt: &HostRuntime, times: &str, words: &[String]) -> io::Result<bool> {
+// Over a rig that asks again. Gives the status, the loads that were asked for and those that reached its inner rig.
+fn passes(rt: &HostRuntime, words: &[String]) -> io::Result<(u8, u64, u64)> {
     let alloc: Global = rt.alloc();
     let loads = Rc::new(alloc, Cell::new(0u64))?;
     let inner = TellingRig::new(sim_of(rt)?, loads.clone()?);
     let mut rig: Box<dyn Rig> = Box::new(alloc, RepeatRig::new(alloc, inner))?;
-    let mut store = FileStore::new(alloc, rt.clone()?);
-    let mut sink = StdSink::new(rt.clone()?);
-    let status = teramac(alloc, words, &mut store, &mut rig, &mut sink);
-    let but_last = rig.loads().saturating_sub(1);
+    let status = run_over(rt, &mut rig, words)?;
+    Ok((status, rig.loads(), loads.get()))
+}
+
+// Over a rig that asks again. False where its inner rig wasn't loaded so often for each load but the last, and once for that.
+fn try_passes(rt: &HostRuntime, times: &str, words: &[String]) -> io::Result<bool> {
+    let (status, asked, made) = passes(rt, words)?;
+    let but_last = asked.saturating_sub(1);
     let due = but_last.saturating_mul(number_of(times)).saturating_add(1);
-    let right = 0 < but_last && loads.get() == due;
+    let right = 0 < but_last && made == due;
     println!(rt; "status {status}, each load but the last was made {times} times: {right}")?;
     Ok(right)
 }
@@ -72,9 +91,7 @@ fn try_twin(rt: &HostRuntime, name: &str, words: &[String]) -> io::Result<bool> 
     let name = String::from_str(alloc, name)?;
     let twin = TwinRig::new(alloc, sim_of(rt)?, sim_of(rt)?, name);
     let mut rig: Box<dyn Rig> = Box::new(alloc, twin)?;
-    let mut store = FileStore::new(alloc, rt.clone()?);
-    let mut sink = StdSink::new(rt.clone()?);
-    tell(rt, teramac(alloc, words, &mut store, &mut rig, &mut sink))
+    tell(rt, run_over(rt, &mut rig, words)?)
 }
 
 // Over a machine behind files.
@@ -82,53 +99,43 @@ fn try_port(rt: &HostRuntime, words: &[String]) -> io::Result<bool> {
     let alloc: Global = rt.alloc();
     let board = FileBoard::new(alloc, rt.clone()?);
     let mut rig: Box<dyn Rig> = Box::new(alloc, BoardRig::new(alloc, board))?;
-    let mut store = FileStore::new(alloc, rt.clone()?);
-    let mut sink = StdSink::new(rt.clone()?);
-    tell(rt, teramac(alloc, words, &mut store, &mut rig, &mut sink))
+    tell(rt, run_over(rt, &mut rig, words)?)
 }
 
-// Over a simulated rig that answers requests: a machine of the counts of `tiny` behind a port.
+// A machine of this shape behind a port: a simulated rig that answers requests.
+fn behind_port(rt: &HostRuntime, shape: Shape) -> io::Result<Box<dyn Rig>> {
+    let alloc: Global = rt.alloc();
+    let board = PortBoard::new(alloc, RigPort::new(alloc, sim_of(rt)?, shape));
+    Ok(Box::new(alloc, BoardRig::new(alloc, board))?)
+}
+
+// Over a machine of the counts of `tiny` behind a port.
 fn try_end(rt: &HostRuntime, words: &[String]) -> io::Result<bool> {
-    let alloc: Global = rt.alloc();
     let Ok(shape) = Shape::new(TINY) else {
         return Ok(false);
     };
-    let board = PortBoard::new(alloc, RigPort::new(alloc, sim_of(rt)?, shape));
-    let mut store = FileStore::new(alloc, rt.clone()?);
-    let mut sink = StdSink::new(rt.clone()?);
-    let mut rig: Box<dyn Rig> = Box::new(alloc, BoardRig::new(alloc, board))?;
-    tell(rt, teramac(alloc, words, &mut store, &mut rig, &mut sink))
+    let mut rig = behind_port(rt, shape)?;
+    tell(rt, run_over(rt, &mut rig, words)?)
 }
 
-// Over a machine behind a port, what is read behind a load that may have been made again.
+// Over such a machine, what is read behind a load that may have been made again.
 fn try_lost(rt: &HostRuntime, name: &str) -> io::Result<bool> {
-    let alloc: Global = rt.alloc();
     let Ok(shape) = Shape::new(TINY) else {
         return Ok(false);
     };
-    let board = PortBoard::new(alloc, RigPort::new(alloc, sim_of(rt)?, shape));
-    let mut rig: Box<dyn Rig> = Box::new(alloc, BoardRig::new(alloc, board))?;
+    let mut rig = behind_port(rt, shape)?;
     if rig.attach(&shape, name).is_err() {
         return Ok(false);
     }
-    match load_twice(alloc, &mut rig, &shape) {
-        Ok(found) => {
-            let first = found.first;
-            let second = found.second;
-            let again = found.again;
-            println!(rt; "reads {first}, then {second}, {again} loads made again")?;
-        }
-        Err(_) => return Ok(false),
-    }
-    Ok(true)
+    let Ok(found) = load_twice(rt.alloc(), &mut rig, &shape) else {
+        return Ok(false);
+    };
+    tell_lost(rt, &found)
 }
 
-// Tries a case; false where it says none.
-fn try_line(rt: &HostRuntime, line: &str) -> io::Result<bool> {
-    let alloc: Global = rt.alloc();
-    let words = words_of(alloc, line)?;
-    println!(rt; "{line}")?;
-    match words.as_slice() {
+// Tries the case that words say; false where they say none.
+fn try_words(rt: &HostRuntime, words: &[String]) -> io::Result<bool> {
+    match words {
         [kind, turned, words @ ..] if kind.as_str() == "repeat" => try_repeat(
             rt,
             turned.as_str(),
@@ -157,6 +164,13 @@ fn try_line(rt: &HostRuntime, line: &str) -> io::Result<bool> {
         ),
         _ => Ok(false),
     }
+}
+
+// Tries a case; false where the line says none.
+fn try_line(rt: &HostRuntime, line: &str) -> io::Result<bool> {
+    let words = words_of(rt.alloc(), line)?;
+    println!(rt; "{line}")?;
+    try_words(rt, words.as_slice())
 }
 
 /// Tries all cases of some texts, and tells whether each line says one.

@@ -1,6 +1,8 @@
 //! Texts that the search wrote, and whether they are another text of a design.
-ghost use Rattle.std.specs.Prelude.{IsTrue, IfOk, IfSome};
+ghost use Rattle.std.specs.Prelude.{◌≤◌, IsTrue, IfOk, IfSome, length};
 ghost use Rattle.std.specs.List.{All};
+ghost use Rattle.base_text.specs.Size.{most_bytes};
+ghost use Rattle.design_blif.specs.Designs.{IsDesign};
 ghost use Rattle.design_netlist.specs.Checks.{IsChecked};
 ghost use Rattle.map_network.specs.Plain.{is_narrow};
 ghost use Rattle.map_text.specs.Remapped.{HaveSameRows, HaveSamePorts, HasNarrowCovers, IsAnotherText};
@@ -64,6 +66,57 @@ fn have_same_rows(
     Ok(agreed)
 }
 
+// The same, where labels of the one are those of the names in a drawing.
+fn have_drawn_rows(
+    alloc: Global,
+    design: &Netlist,
+    made: &Made,
+    drawn: &Mapped,
+    read: &Netlist,
+) -> Result<bool, AllocError>
+    requires design { IsChecked design.now }
+    requires read { IsChecked read.now }
+    ensures { IfOk result (λ yes. IsTrue yes → HaveSameRows design.now read.now) }
+{
+    let labels = labels_by_name(alloc, &drawn.draft, drawn.labels.as_slice(), read)?;
+    let own = made.labels.as_slice();
+    let same = have_same_rows(alloc, &made.graph, design, own, read, &labels)?;
+    Ok(same)
+}
+
+// Whether a netlist that was read from a drawing's text has the names and rows of the design.
+fn is_another(
+    alloc: Global,
+    design: &Netlist,
+    made: &Made,
+    drawn: &Mapped,
+    read: &Netlist,
+) -> Result<bool, AllocError>
+    ensures ports { IfOk result (λ yes. IsTrue yes → HaveSamePorts design.now read.now) }
+    ensures rows { IfOk result (λ yes. IsTrue yes → HaveSameRows design.now read.now) }
+{
+    if have_same_ports(alloc, design.parts(), read.parts())? {
+        let rows = have_drawn_rows(alloc, design, made, drawn, read)?;
+        return Ok(rows);
+    }
+    Ok(false)
+}
+
+// The text of what the search drew, with the netlist that it is read as, if it is one of a design.
+fn written(alloc: Global, drawn: &Mapped, head: &Head) -> Result<Option<Remapped>, AllocError>
+    ensures design { IfOk result (λ o. IfSome o (λ r. IsDesign r.text r.netlist)) }
+    ensures short { IfOk result (λ o. IfSome o (λ r. length r.text ≤ most_bytes)) }
+{
+    let text = design_text(alloc, &drawn.draft, head)?;
+    match read_again(alloc, &text)? {
+        Some(netlist) => {
+            let text = Items::new(text);
+            Ok(Some(Remapped { text, netlist }))
+        }
+        None => Ok(None),
+    }
+}
+
 /// The text of what the search drew for a design, with the netlist that it is read as, where that has the design's names and rows.
 pub fn read_drawn(
     alloc: Global,
@@ -74,30 +127,15 @@ pub fn read_drawn(
 ) -> Result<Option<Remapped>, AllocError>
     ensures { IfOk result (λ o. IfSome o (λ r. IsAnotherText design.now r.text r.netlist)) }
 {
-    let text = design_text(alloc, &drawn.draft, head)?;
-    let read = match read_again(alloc, &text)? {
-        Some(read) => read,
-        None => return Ok(None),
-    };
-    if !have_same_ports(alloc, design.parts(), read.parts())? {
-        return Ok(None);
+    match written(alloc, drawn, head)? {
+        Some(read) => {
+            if is_another(alloc, design, made, drawn, &read.netlist)? {
+                return Ok(Some(read));
+            }
+            Ok(None)
+        }
+        None => Ok(None),
     }
-    let labels = labels_by_name(alloc, &drawn.draft, drawn.labels.as_slice(), &read)?;
-    if !have_same_rows(
-        alloc,
-        &made.graph,
-        design,
-        made.labels.as_slice(),
-        &read,
-        &labels,
-    )? {
-        return Ok(None);
-    }
-    let text = Items::new(text);
-    Ok(Some(Remapped {
-        text,
-        netlist: read,
-    }))
 }
 
 /// The same, where each of its covers has few inputs too.

@@ -14,7 +14,7 @@ use base_lists::Items;
 use design_netlist::Netlist;
 use machine_defects::Defects;
 use map_network::{plain, plain_size};
-use map_search::{Head, Mapped, Way, graph_of};
+use map_search::{Head, Made, Mapped, Way, graph_of};
 use place_order::{Effort, order_covers};
 use place_plan::{PlaceFail, in_order};
 use std::alloc::{AllocError, Global};
@@ -66,14 +66,61 @@ fn in_new_order(
     ensures another { IfOk result (λ o. IfSome o (λ r. IsAnotherText design.now r.text r.netlist)) }
     ensures narrow { IfOk result (λ o. IfSome o (λ r. HasNarrowCovers r.netlist)) }
 {
-    let made = match graph_of(alloc, design, Way::Pairs)? {
-        Some(made) => made,
-        None => return Ok(None),
-    };
+    match graph_of(alloc, design, Way::Pairs)? {
+        Some(made) => in_order_by(alloc, design, &made, defects, seek, head),
+        None => Ok(None),
+    }
+}
+
+// A design in an order for a machine, with the labels of its graph.
+fn drawn_in_order(
+    alloc: Global,
+    design: &Netlist,
+    made: &Made,
+    defects: &Defects,
+    seek: Seek,
+) -> Result<Mapped, AllocError> {
+    let labels = made.labels.as_slice().to_vec(alloc)?;
     let draft = order_covers(alloc, design.parts(), defects, seek.spare, seek.effort)?;
-    let labels = Items::new(made.labels.as_slice().to_vec(alloc)?);
-    let drawn = Mapped { draft, labels };
-    check_drawn(alloc, design, &made, &drawn, head)
+    Ok(Mapped {
+        draft,
+        labels: Items::new(labels),
+    })
+}
+
+// Its text by its graph, if it may stand for the design.
+fn in_order_by(
+    alloc: Global,
+    design: &Netlist,
+    made: &Made,
+    defects: &Defects,
+    seek: Seek,
+    head: &Head,
+) -> Result<Option<Remapped>, AllocError>
+    ensures another { IfOk result (λ o. IfSome o (λ r. IsAnotherText design.now r.text r.netlist)) }
+    ensures narrow { IfOk result (λ o. IfSome o (λ r. HasNarrowCovers r.netlist)) }
+{
+    let drawn = drawn_in_order(alloc, design, made, defects, seek)?;
+    check_drawn(alloc, design, made, &drawn, head)
+}
+
+// Whether a design has no more tables than the given one, and there is room for it.
+fn is_roomy(
+    alloc: Global,
+    netlist: &Netlist,
+    other: &Netlist,
+    defects: &Defects,
+) -> Result<bool, AllocError>
+    ensures fewer { IfOk result (λ yes. IsTrue yes → tables_in other.now ≤ tables_in netlist.now) }
+    ensures room { IfOk result (λ yes. IsTrue yes → HasPlan defects.now other.now) }
+{
+    let tables = plain_size(alloc, other)?;
+    let most = plain_size(alloc, netlist)?;
+    if tables > most {
+        return Ok(false);
+    }
+    let room = has_room(alloc, other, defects)?;
+    Ok(room)
 }
 
 // The text that was found, if it has no more tables than the given design, and there is room for it.
@@ -89,10 +136,7 @@ fn with_room(
 {
     match found {
         Some(text) => {
-            if plain_size(alloc, &text.netlist)? > plain_size(alloc, netlist)? {
-                return Ok(None);
-            }
-            if has_room(alloc, &text.netlist, defects)? {
+            if is_roomy(alloc, netlist, &text.netlist, defects)? {
                 return Ok(Some(text));
             }
             Ok(None)
@@ -116,6 +160,35 @@ fn find_fitting(
     with_room(alloc, netlist, found, defects)
 }
 
+// How an order of a design is sought long: with as many empty covers as it has fewer tables than the given one.
+fn long_seek(alloc: Global, netlist: &Netlist, design: &Netlist) -> Result<Seek, AllocError> {
+    let most = plain_size(alloc, netlist)?;
+    let tables = plain_size(alloc, design)?;
+    let fewer = most.saturating_sub(tables);
+    let spare = fewer.min(u64::from(u32::MAX)) as u32;
+    let effort = Effort::Full;
+    Ok(Seek { spare, effort })
+}
+
+// An order of the remapped design for which there is room, if one is found: without and with empty covers.
+fn remapped_order(
+    alloc: Global,
+    netlist: &Netlist,
+    design: &Netlist,
+    defects: &Defects,
+    head: &Head,
+) -> Result<Option<Remapped>, AllocError>
+    ensures { IfOk result (λ o. IfSome o (IsFitting netlist.now design.now defects.now)) }
+{
+    match find_fitting(alloc, netlist, design, defects, BRIEF, head)? {
+        Some(text) => Ok(Some(text)),
+        None => {
+            let long = long_seek(alloc, netlist, design)?;
+            find_fitting(alloc, netlist, design, defects, long, head)
+        }
+    }
+}
+
 // An order for which there is room, if one is found: of the remapped text, without and with empty covers, and of the given one.
 fn some_order(
     alloc: Global,
@@ -129,18 +202,40 @@ fn some_order(
     ensures narrow { IfOk result (λ o. IfSome o (λ r. HasNarrowCovers r.netlist)) }
     ensures room { IfOk result (λ o. IfSome o (λ r. HasPlan defects.now r.netlist)) }
 {
-    if let Some(text) = find_fitting(alloc, netlist, &mapped.netlist, defects, BRIEF, head)? {
-        return Ok(Some(text));
+    match remapped_order(alloc, netlist, &mapped.netlist, defects, head)? {
+        Some(text) => Ok(Some(text)),
+        None => find_fitting(alloc, netlist, netlist, defects, BRIEF, head),
     }
-    let most = plain_size(alloc, netlist)?;
-    let fewer = most.saturating_sub(plain_size(alloc, &mapped.netlist)?);
-    let spare = fewer.min(u64::from(u32::MAX)) as u32;
-    let effort = Effort::Full;
-    let full = Seek { spare, effort };
-    if let Some(text) = find_fitting(alloc, netlist, &mapped.netlist, defects, full, head)? {
-        return Ok(Some(text));
+}
+
+// A text of a design for which there is room, where there is none for the remapped one: an order of that or of the given one, or
+// the given one itself.
+fn some_within(
+    alloc: Global,
+    text: &[u8],
+    netlist: &Netlist,
+    mapped: &Remapped,
+    defects: &Defects,
+) -> Result<Remapped, PlaceFail>
+    requires design { IsDesign text.now netlist.now }
+    requires short { length text.now ≤ most_bytes }
+    requires mapped { IsRemapped netlist.now mapped.now.text mapped.now.netlist }
+    ensures remapped { IfOk result (λ r. IsRemapped netlist.now r.text r.netlist) }
+    ensures narrow { IfOk result (IsNarrowOr text.now) }
+    ensures room { IfOk result (λ r. HasPlan defects.now r.netlist) }
+    ensures refused { IfErr result (IsPlaceFail defects.now.shape defects.now.list (plain_network netlist.now)) }
+{
+    let head = head_of(alloc, text, netlist)?;
+    match some_order(alloc, netlist, mapped, defects, &head)? {
+        Some(found) => Ok(found),
+        None => {
+            let own = given_text(alloc, text, netlist)?;
+            match look_for_room(alloc, netlist, defects) {
+                Ok(()) => Ok(own),
+                Err(fail) => Err(fail),
+            }
+        }
     }
-    find_fitting(alloc, netlist, netlist, defects, BRIEF, head)
 }
 
 /// Another text of a design, with the same rows and no more tables, for which there is room on a machine: the in-order plan of its
@@ -167,13 +262,5 @@ pub fn remapped_within(
     if has_room(alloc, &mapped.netlist, defects)? {
         return Ok(mapped);
     }
-    let head = head_of(alloc, text, netlist)?;
-    if let Some(found) = some_order(alloc, netlist, &mapped, defects, &head)? {
-        return Ok(found);
-    }
-    let own = given_text(alloc, text, netlist)?;
-    match look_for_room(alloc, netlist, defects) {
-        Ok(()) => Ok(own),
-        Err(fail) => Err(fail),
-    }
+    some_within(alloc, text, netlist, &mapped, defects)
 }

@@ -7,7 +7,7 @@ ghost use Rattle.map_text.specs.Remapped.{HasNarrowCovers, IsAnotherText, IsNarr
 use crate::check::{check_drawn, read_drawn};
 use crate::text::{Remapped, given_text, head_of, lesser};
 use design_netlist::Netlist;
-use map_search::{Head, Way, cover_design, graph_of, wide_ands};
+use map_search::{Head, Made, Way, cover_design, graph_of, wide_ands};
 use std::alloc::{AllocError, Global};
 
 /// How many ANDs the graphs of all rounds may have in sum before no further round begins.
@@ -93,12 +93,23 @@ fn cuts_for(round: Round, ands: u64) -> u32 {
 fn widened(alloc: Global, design: &Netlist, head: &Head) -> Result<Option<Remapped>, AllocError>
     ensures { IfOk result (λ o. IfSome o (λ r. IsAnotherText design.now r.text r.netlist)) }
 {
-    let made = match graph_of(alloc, design, Way::Pairs)? {
-        Some(made) => made,
-        None => return Ok(None),
-    };
-    let drawn = wide_ands(alloc, design, &made)?;
-    read_drawn(alloc, design, &made, &drawn, head)
+    match graph_of(alloc, design, Way::Pairs)? {
+        Some(made) => widened_by(alloc, design, &made, head),
+        None => Ok(None),
+    }
+}
+
+// The same by its graph.
+fn widened_by(
+    alloc: Global,
+    design: &Netlist,
+    made: &Made,
+    head: &Head,
+) -> Result<Option<Remapped>, AllocError>
+    ensures { IfOk result (λ o. IfSome o (λ r. IsAnotherText design.now r.text r.netlist)) }
+{
+    let drawn = wide_ands(alloc, design, made)?;
+    read_drawn(alloc, design, made, &drawn, head)
 }
 
 // A round from a design. Its text is the one that it comes to, if this may stand for the design.
@@ -128,19 +139,30 @@ fn found_from(
     ensures another { IfOk result (λ f. IfSome f.text (λ r. IsAnotherText design.now r.text r.netlist)) }
     ensures narrow { IfOk result (λ f. IfSome f.text (λ r. HasNarrowCovers r.netlist)) }
 {
-    let made = match graph_of(alloc, design, round.way)? {
-        Some(made) => made,
-        None => {
-            return Ok(Found {
-                text: None,
-                ands: ENOUGH_ANDS,
-            });
-        }
-    };
+    match graph_of(alloc, design, round.way)? {
+        Some(made) => found_in(alloc, design, &made, round, head),
+        None => Ok(Found {
+            text: None,
+            ands: ENOUGH_ANDS,
+        }),
+    }
+}
+
+// The same by its graph.
+fn found_in(
+    alloc: Global,
+    design: &Netlist,
+    made: &Made,
+    round: Round,
+    head: &Head,
+) -> Result<Found, AllocError>
+    ensures another { IfOk result (λ f. IfSome f.text (λ r. IsAnotherText design.now r.text r.netlist)) }
+    ensures narrow { IfOk result (λ f. IfSome f.text (λ r. HasNarrowCovers r.netlist)) }
+{
     let ands = made.graph.ands.as_slice().len() as u64;
     let cuts = cuts_for(round, ands);
-    let drawn = cover_design(alloc, design, &made, cuts, round.chance)?;
-    let text = check_drawn(alloc, design, &made, &drawn, head)?;
+    let drawn = cover_design(alloc, design, made, cuts, round.chance)?;
+    let text = check_drawn(alloc, design, made, &drawn, head)?;
     Ok(Found { text, ands })
 }
 

@@ -1,5 +1,5 @@
 //! Texts with their netlists.
-ghost use Rattle.std.specs.Prelude.{◌≡◌, ◌≤◌, ◌⊎◌, Some, IfOk, IfSome, length};
+ghost use Rattle.std.specs.Prelude.{◌≡◌, ◌≤◌, ◌⊎◌, Some, IfOk, IfSome, IsTrue, length};
 ghost use Rattle.base_text.specs.Size.{most_bytes};
 ghost use Rattle.design_blif.specs.Designs.{IsDesign};
 ghost use Rattle.map_text.specs.Remapped.{tables_in};
@@ -68,6 +68,22 @@ fn is_deeper(alloc: Global, netlist: &Netlist, other: &Netlist) -> Result<bool, 
     Ok(depth_of(alloc, netlist)? > depth_of(alloc, other)?)
 }
 
+// Whether a design has fewer tables than another one, or as many and is no deeper.
+fn is_lesser(alloc: Global, netlist: &Netlist, other: &Netlist) -> Result<bool, AllocError>
+    ensures { IfOk result (λ yes. IsTrue yes → tables_in netlist.now ≤ tables_in other.now) }
+{
+    let tables = plain_size(alloc, netlist)?;
+    let most = plain_size(alloc, other)?;
+    if tables > most {
+        return Ok(false);
+    }
+    if tables < most {
+        return Ok(true);
+    }
+    let deeper = is_deeper(alloc, netlist, other)?;
+    Ok(!deeper)
+}
+
 /// The text that was found, where it has fewer tables than the one before, or as many and is no deeper, and else that.
 pub fn lesser(
     alloc: Global,
@@ -78,15 +94,10 @@ pub fn lesser(
 {
     match found {
         Some(new) => {
-            let tables = plain_size(alloc, &new.netlist)?;
-            let most = plain_size(alloc, &before.netlist)?;
-            if tables > most {
-                return Ok(before);
+            if is_lesser(alloc, &new.netlist, &before.netlist)? {
+                return Ok(new);
             }
-            if tables == most && is_deeper(alloc, &new.netlist, &before.netlist)? {
-                return Ok(before);
-            }
-            Ok(new)
+            Ok(before)
         }
         None => Ok(before),
     }

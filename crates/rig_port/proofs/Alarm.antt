@@ -1,5 +1,5 @@
 -- Over a told machine nothing is taken for a failure but a failure of the port.
-use Rattle.std.proofs.Common.{◌≡◌, ℕ, suc, ◌≤◌, ◌+◌, Bool, true, false, List, [], ◌∷◌, ◌++◌, map, length, All, Option, None, Some, refl, sym, ap, ◌∙◌, arith, subst, IfSome, IsSome, is_some, option_map}
+use Rattle.std.proofs.Common.{◌≡◌, ℕ, suc, ◌≤◌, ◌<◌, ◌^◌, ◌+◌, Bool, true, false, List, [], ◌∷◌, ◌++◌, map, length, All, Option, None, Some, refl, sym, ap, ◌∙◌, arith, subst, IfSome, IsSome, is_some, option_map}
 use Rattle.std.proofs.lemmas.Bool.{false≢true}
 use Rattle.std.specs.Option.{option_map_or}
 use Rattle.machine_shape.specs.declared.Shape.{Shape}
@@ -9,14 +9,17 @@ use Rattle.machine_config.specs.Configuration.{Configuration}
 use Rattle.base_io.specs.Counts.{Rose}
 use Rattle.rig.specs.Rig.{Exchange, Session, KeepLengths, drives_of, readings_of}
 use Rattle.rig_board.specs.Device.{Device, HasRunSession, WhereTold}
+use Rattle.rig_port.specs.declared.check.Check.{Check}
+use Rattle.rig_port.specs.Checks.{fresh_check, after}
 use Rattle.rig_port.specs.Lines.{line_of, reading_line, counts_line}
-use Rattle.rig_port.specs.Requests.{IsEditOf, AreDrivesOf, attach_line, drives_text, drives_line, load_line}
-use Rattle.rig_port.specs.Answers.{Answers, Reads, Loads, Drives, start_of}
+use Rattle.rig_port.specs.Requests.{IsEditOf, AreWide, attach_body, attach_line, drives_text, led_drives, load_body, load_line}
+use Rattle.rig_port.specs.Answers.{Answers, Reads, Drives}
 use Rattle.rig_port.specs.Ports.{PortState, AskFails}
 use Rattle.rig_port.specs.declared.link.Link.{Link}
 use Rattle.rig_port.specs.declared.port.PortFail.{PortFail}
 use Rattle.rig_port.specs.declared.port.PortFail.TheVariants as port
 use Rattle.rig_port.specs.Linked.{IsLinked, told_with}
+use Rattle.rig_port.specs.Boards.{IsRequest}
 use Rattle.rig_port.proofs.Readings.{AreOf}
 
 -- a count that rose later rose
@@ -49,56 +52,74 @@ pub told_alarm : {link : Link} {o : Option Link} {told : Option Device} {before 
 told_alarm {link} {after = after} device there is same rose some = subst (λ n. Rose n after) same (rose (told_port link.due link.set.config device (ap is_some (told_here device there is) ∙ some)))
 
 -- the reply of a told machine is the line of a reading for each drive
-pub record IsReply (n : ℕ) (drives : List Pins) (reply : List ℕ) : Type 0 where
+pub record IsReply (c : Check) (n : ℕ) (drives : List Pins) (reply : List ℕ) : Type 0 where
   pub rows : List Pins
   pub wide : AreOf n rows
   pub many : length rows ≡ length drives
-  pub is : reply ≡ reading_line rows
+  pub is : reply ≡ reading_line c rows
 
 length_both : (ps : List Exchange) → length (drives_of ps) ≡ length (readings_of ps)
 length_both [] = refl
 length_both (p ∷ ps) = ap suc (length_both ps)
 
-of_reads : (g : Configuration) (cycles : List Exchange) (m : Shape) (drives : List Pins) (reply : List ℕ) (e : Device) → e.shape ≡ m → Reads g cycles drives reply e
-    → IsReply (pins_of m) drives reply
-of_reads g cycles m drives reply e shape r = record {
+of_reads : (c : Check) (g : Configuration) (cycles : List Exchange) (m : Shape) (drives : List Pins) (reply : List ℕ) (e : Device) (now : Check) → e.shape ≡ m
+    → Reads c g cycles drives reply e now → IsReply c (pins_of m) drives reply
+of_reads c g cycles m drives reply e now shape r = record {
   rows = readings_of r.pairs;
   wide = subst (λ s. AreOf (pins_of s) (readings_of r.pairs)) shape r.wide;
   many = sym (length_both r.pairs) ∙ ap length r.driven;
   is = r.reply_is;
 }
 
-told_reply : (d e : Device) (set : Configuration) (anew running due : Bool) (line request reply : List ℕ) (drives : List Pins) → IsLinked (Some d) set line anew running due
-    → AreDrivesOf set.shape drives → Answers d request reply e → running ≡ true → (due ≡ true → request ≡ line_of (line ++ 108 ∷ 32 ∷ [] ++ drives_text drives))
-    → (due ≡ false → line ≡ [] → request ≡ drives_line drives) → IsReply (pins_of set.shape) drives reply
-told_reply d e set anew running due line request reply drives l right a runs loads goes = by_due due refl where
+-- a told machine answers behind the check that is kept
+pub own_answers : (old new : Option Device) (c k now : Check) (request reply : List ℕ) → (IsSome old → c ≡ k) → WhereTold (λ d e. Answers d c request reply e now) old new
+    → WhereTold (λ d e. Answers d k request reply e now) old new
+own_answers None new c k now request reply same w = w
+own_answers (Some d) None c k now request reply same w = w
+own_answers (Some d) (Some e) c k now request reply same w = subst (λ z. Answers d z request reply e now) (same refl) w
+
+-- what is asked of a told machine: a load where one is due, and drives where one isn't
+pub record IsAsked (c : Check) (set : Configuration) (anew due : Bool) (line request : List ℕ) (drives : List Pins) (sent : Check) : Type 0 where
+  pub wide : AreWide set.shape drives
+  pub some : due ≡ false → 0 < length drives
+  pub loads : due ≡ true → IsRequest c (line ++ 108 ∷ [] ++ led_drives drives) request sent
+  pub goes : due ≡ false → line ≡ [] → IsRequest c (drives_text drives) request sent
+
+told_reply : (d e : Device) (c now sent : Check) (set : Configuration) (anew running due : Bool) (line request reply : List ℕ) (drives : List Pins)
+    → IsLinked (Some d) set line anew running due → IsAsked c set anew due line request drives sent → Answers d c request reply e now → running ≡ true
+    → IsReply sent (pins_of set.shape) drives reply
+told_reply d e c now sent set anew running due line request reply drives l asked a runs = by_due due refl where
   same_shape : e.shape ≡ set.shape
   same_shape = a.shape ∙ l.posted.told.0
 
-  drives_too : AreDrivesOf d.shape drives
-  drives_too = subst (λ m. AreDrivesOf m drives) (sym l.posted.told.0) right
+  wide : AreWide d.shape drives
+  wide = subst (λ m. AreWide m drives) (sym l.posted.told.0) asked.wide
 
-  by_session : (s : Option Session) → IsSome s → IfSome s (λ s. Drives d s.config s.cycles drives reply e) → IsReply (pins_of set.shape) drives reply
-  by_session None some made = absurd (false≢true some)
-  by_session (Some s) some made = of_reads s.config s.cycles set.shape drives reply e same_shape made.reads
+  by_session : (k : Check) (s : Option Session) → IsSome s → IfSome s (λ s. Drives k d s.config s.cycles drives reply e now) → IsReply k (pins_of set.shape) drives reply
+  by_session k None some made = absurd (false≢true some)
+  by_session k (Some s) some made = of_reads k s.config s.cycles set.shape drives reply e now same_shape made.reads
 
-  by_due : (b : Bool) → due ≡ b → IsReply (pins_of set.shape) drives reply
+  by_due : (b : Bool) → due ≡ b → IsReply sent (pins_of set.shape) drives reply
   by_due true at =
       let edits_too : All (IsEditOf d.shape) l.posted.edits = subst (λ m. All (IsEditOf m) l.posted.edits) (sym l.posted.told.0) l.posted.right in
-      let form : request ≡ load_line anew l.posted.edits drives = loads at ∙ ap (λ t. line_of (t ++ 108 ∷ 32 ∷ [] ++ drives_text drives)) l.posted.line_is in
-      let made : Loads (start_of anew d) l.posted.edits drives reply e = a.loads anew l.posted.edits drives edits_too drives_too form in
-      of_reads e.set [] set.shape drives reply e same_shape made.reads
+      let body : line ++ 108 ∷ [] ++ led_drives drives ≡ load_body anew l.posted.edits drives = ap (λ t. t ++ 108 ∷ [] ++ led_drives drives) l.posted.line_is in
+      let form : request ≡ load_line c anew l.posted.edits drives = (asked.loads at).line_is ∙ ap (line_of c) body in
+      let made = a.loads anew l.posted.edits drives edits_too wide form in
+      subst (λ k. IsReply k (pins_of set.shape) drives reply) (sym ((asked.loads at).check ∙ ap (after c) body))
+      (of_reads (after c (load_body anew l.posted.edits drives)) e.set [] set.shape drives reply e now same_shape made.reads)
   by_due false at =
       let known : (line ≡ []) × ((set ≡ d.set) × IsSome d.session × HasRunSession d) = l.loaded runs at in
-      by_session d.session known.1.1 (a.goes_on drives drives_too (goes at known.0))
+      let went = asked.goes at known.0 in
+      subst (λ k. IsReply k (pins_of set.shape) drives reply) (sym went.check)
+      (by_session (after c (drives_text drives)) d.session known.1.1 (a.goes_on drives (asked.some at, wide) went.line_is))
 
-pub right_reply : (old new : Option Device) (set : Configuration) (anew running due : Bool) (line request reply : List ℕ) (drives : List Pins) → IsLinked old set line anew running due
-    → AreDrivesOf set.shape drives → WhereTold (λ d e. Answers d request reply e) old new → running ≡ true
-    → (due ≡ true → request ≡ line_of (line ++ 108 ∷ 32 ∷ [] ++ drives_text drives)) → (due ≡ false → line ≡ [] → request ≡ drives_line drives) → IsSome old
-    → IsReply (pins_of set.shape) drives reply
-right_reply None new set anew running due line request reply drives l right w runs loads goes some = absurd (false≢true some)
-right_reply (Some d) None set anew running due line request reply drives l right w runs loads goes some = absurd w
-right_reply (Some d) (Some e) set anew running due line request reply drives l right w runs loads goes some = told_reply d e set anew running due line request reply drives l right w runs loads goes
+pub right_reply : (old new : Option Device) (c now sent : Check) (set : Configuration) (anew running due : Bool) (line request reply : List ℕ) (drives : List Pins)
+    → IsLinked old set line anew running due → IsAsked c set anew due line request drives sent → WhereTold (λ d e. Answers d c request reply e now) old new → running ≡ true → IsSome old
+    → IsReply sent (pins_of set.shape) drives reply
+right_reply None new c now sent set anew running due line request reply drives l asked w runs some = absurd (false≢true some)
+right_reply (Some d) None c now sent set anew running due line request reply drives l asked w runs some = absurd w
+right_reply (Some d) (Some e) c now sent set anew running due line request reply drives l asked w runs some =
+    told_reply d e c now sent set anew running due line request reply drives l asked w runs
 
 -- rows of one width and number are as long
 pub keep_of : (n : ℕ) (xs ys : List Pins) → AreOf n xs → AreOf n ys → length ys ≡ length xs → KeepLengths xs ys
@@ -111,13 +132,13 @@ keep_of n (x ∷ xs) (y ∷ ys) a b len =
     ∙ ap (λ l. length x ∷ l) (keep_of n xs ys (λ k d lt. a (suc k) d (omega (arith, lt))) (λ k d lt. b (suc k) d (omega (arith, lt))) (omega (arith, len)))
 
 -- a machine of the asked shape answers an attach with the right line
-pub right_counts : (old new : Option Device) (request reply expected : List ℕ) (m : Shape) (P : Type 0) → WhereTold (λ d e. Answers d request reply e) old new → request ≡ attach_line
-    → expected ≡ counts_line m.counts → (reply ≡ expected → ⊥) → IfSome new (λ d. d.shape ≡ m → P)
-right_counts None new request reply expected m P w asked right wrong = rw w tt
-right_counts (Some d) None request reply expected m P w asked right wrong = absurd w
-right_counts (Some d) (Some e) request reply expected m P w asked right wrong = λ same.
-    let fresh = w.attaches asked in
-    absurd (wrong (fresh.reply_is ∙ ap (λ (s : Shape). counts_line s.counts) (sym w.shape ∙ same) ∙ sym right))
+pub right_counts : (old new : Option Device) (c now : Check) (n : ℕ) (request reply expected : List ℕ) (m : Shape) (P : Type 0) → WhereTold (λ d e. Answers d c request reply e now) old new
+    → n < 2 ^ 32 → request ≡ attach_line n → expected ≡ counts_line (after fresh_check (attach_body n)) n m.counts → (reply ≡ expected → ⊥) → IfSome new (λ d. d.shape ≡ m → P)
+right_counts None new c now n request reply expected m P w few asked right wrong = rw w tt
+right_counts (Some d) None c now n request reply expected m P w few asked right wrong = absurd w
+right_counts (Some d) (Some e) c now n request reply expected m P w few asked right wrong = λ same.
+    let fresh = w.attaches n few asked in
+    absurd (wrong (fresh.reply_is ∙ ap (λ (s : Shape). counts_line (after fresh_check (attach_body n)) n s.counts) (sym w.shape ∙ same) ∙ sym right))
 
 -- of every machine, where the count rose anyway
 pub for_any : (device : Option Device) (m : Shape) (P : Type 0) → P → IfSome device (λ d. d.shape ≡ m → P)

@@ -1,5 +1,5 @@
 -- What is kept of a machine goes with it.
-use Rattle.std.proofs.Common.{◌≡◌, ℕ, suc, zero, ◌+◌, ◌-◌, ◌≤◌, Bool, true, false, List, [], ◌∷◌, ◌++◌, map, take, drop, length, get_or, All, Option, None, Some, refl, sym, ap, ◌∙◌, arith, subst, IfSome, Result, Ok, Err, OnOk}
+use Rattle.std.proofs.Common.{◌≡◌, ℕ, suc, zero, ◌+◌, ◌-◌, ◌≤◌, Bool, true, false, List, [], ◌∷◌, ◌++◌, map, take, drop, length, get_or, All, Option, None, Some, refl, sym, ap, ◌∙◌, arith, subst, IfSome, IsSome, Result, Ok, Err, OnOk}
 use Rattle.std.proofs.lemmas.Bool.{false≢true}
 use Rattle.std.proofs.lemmas.List.{append-nil, append_assoc, map-append, length-map, length-drop, length-take-le}
 use Rattle.std.proofs.lemmas.List.Elements.{All-append}
@@ -59,8 +59,9 @@ more_posted device g h line more anew same p a = record {
 
 -- a machine that was just found
 pub fresh_held : (port : PortState) (m : Shape) (l : Link) → port.is_open ≡ true → l.set.config ≡ cleared m → l.line.items ≡ [] → l.anew ≡ false → l.running ≡ false
-    → IfSome port.device (λ d. (d.shape ≡ m) × (d.set ≡ cleared m)) → turn_room (pins_of m) ≤ vec_capacity l.expected → IsHeld port (Some m) l
-fresh_held port m l opened set line anew running known room = record {
+    → IfSome port.device (λ d. (d.shape ≡ m) × (d.set ≡ cleared m)) → turn_room (pins_of m) ≤ vec_capacity l.expected
+    → (IsSome port.device → port.check ≡ l.check) → IsHeld port (Some m) l
+fresh_held port m l opened set line anew running known room check = record {
   is_open = opened;
   shape = ap (λ g. Some g.shape) (sym set);
   told = shapes port.device known;
@@ -74,6 +75,7 @@ fresh_held port m l opened set line anew running known room = record {
     loaded = λ runs _. absurd (false≢true (sym running ∙ runs));
   };
   running = λ _. running;
+  check = check;
   room = record {
     line = λ runs. absurd (false≢true (sym running ∙ runs));
     expected = subst (λ g. turn_room (pins_of g.shape) ≤ vec_capacity l.expected) (sym set) room;

@@ -1,10 +1,10 @@
 -- A line of counts is that of one machine.
-use Rattle.std.proofs.Common.{◌≡◌, ℕ, suc, zero, ◌+◌, ◌%◌, ◌^◌, ◌<◌, ◌≤◌, List, [], ◌∷◌, ◌++◌, drop, map, length, get_or, All, Option, None, Some, refl, sym, ap, ◌∙◌, arith, subst, flat_map, sum, decimal, codes, IfSome}
+use Rattle.std.proofs.Common.{◌≡◌, ℕ, suc, zero, ◌+◌, ◌^◌, ◌<◌, ◌≤◌, List, [], ◌∷◌, ◌++◌, drop, map, length, get_or, All, Option, None, Some, refl, sym, ap, ◌∙◌, arith, subst, flat_map, decimal, codes, IfSome, IsSome, is_some}
+use Rattle.std.proofs.lemmas.Bool.{false≢true}
 use Rattle.std.proofs.lemmas.List.{append_assoc, ext_get_or}
 use Rattle.std.proofs.lemmas.Fmt.{decimal_injective, decimal_digit, decimal-digits_of}
 use Rattle.std.specs.List.{join_by}
 use Rattle.std.specs.Int.Digits.{digits_of}
-use Rattle.hex.specs.Hex.{encode_lower}
 use Rattle.std.proofs.Math.Bridge.{le_prop}
 use Rattle.machine_shape.specs.declared.Counts.{Counts}
 use Rattle.machine_shape.specs.declared.Shape.{Shape}
@@ -12,10 +12,12 @@ use Rattle.machine_shape.specs.Vocabulary.{levels_from, IsFull, size, tables_in,
 use Rattle.machine_config.specs.Configuration.{cleared}
 use Rattle.rig_board.specs.Device.{Device, WhereTold}
 use Rattle.rig_port.specs.Answers.{Answers}
-use Rattle.rig_port.specs.Requests.{attach_line}
-use Rattle.rig_port.specs.Lines.{numbers_of, AreCounts, counts_line}
+use Rattle.rig_port.specs.declared.check.Check.{Check}
+use Rattle.rig_port.specs.Checks.{fresh_check, after}
+use Rattle.rig_port.specs.Requests.{attach_body, attach_line}
+use Rattle.rig_port.specs.Lines.{numbers_of, AreCounts, counts_body, counts_line}
 use Rattle.rig_port.proofs.Spelled.{led}
-use Rattle.rig_port.proofs.Readings.{sealed, at_end}
+use Rattle.rig_port.proofs.Readings.{cut, sealed, sealed_line}
 
 -- a numeral ends where what isn't a digit begins
 abbrev pub AreDigits : List ℕ → Type 0
@@ -92,12 +94,22 @@ same_counts a b h g e =
     λ i. record { modules = nth 0 i; chips = nth 1 i; hextants = nth 2 i; tables = nth 3 i; ports = ports i; lines = lines i; pins = nth 11 i }
 
 -- a line of counts is that of one machine
-pub one_machine : (a b : Counts) → AreCounts a → AreCounts b → counts_line a ≡ counts_line b → a ≡ b
-one_machine a b h g e =
-    let body_of : Counts → List ℕ = λ c. codes "=1 " ++ join_by decimal (32 ∷ []) (numbers_of c) in
-    let whole : body_of a ++ sealed (body_of a) ≡ body_of b ++ sealed (body_of b)
-    = sym (at_end (body_of a) (42 ∷ []) (encode_lower (sum (body_of a) % 256 ∷ [])) (10 ∷ [])) ∙ e ∙ at_end (body_of b) (42 ∷ []) (encode_lower (sum (body_of b) % 256 ∷ [])) (10 ∷ []) in
-    same_counts a b h g (same_numbers (numbers_of a) (numbers_of b) (drop 1 (sealed (body_of a))) (drop 1 (sealed (body_of b))) h.small g.small refl (ap (λ l. 32 ∷ drop 3 l) whole))
+abbrev counts_text : Counts → List ℕ
+counts_text c = join_by decimal (32 ∷ []) (numbers_of c)
+
+-- what stands in front of the counts
+abbrev counts_head : ℕ → List ℕ
+counts_head n = codes "=2 " ++ decimal n ++ 32 ∷ []
+
+pub one_machine : (c : Check) (n : ℕ) (a b : Counts) → AreCounts a → AreCounts b → counts_line c n a ≡ counts_line c n b → a ≡ b
+one_machine c n a b h g e =
+    let s = sealed c (counts_body n a) in
+    let t = sealed c (counts_body n b) in
+    let whole : counts_head n ++ (counts_text a ++ s) ≡ counts_head n ++ (counts_text b ++ t)
+    = sym (append_assoc (counts_head n) (counts_text a) s) ∙ sym (sealed_line c (counts_body n a)) ∙ e ∙ sealed_line c (counts_body n b)
+    ∙ append_assoc (counts_head n) (counts_text b) t in
+    let parts = cut (counts_head n) (counts_head n) (counts_text a ++ s) (counts_text b ++ t) refl whole in
+    same_counts a b h g (same_numbers (numbers_of a) (numbers_of b) (drop 1 s) (drop 1 t) h.small g.small refl (ap (λ l. 32 ∷ l) parts.1))
 
 abbrev ShapeFacts : Counts → Type 0
 ShapeFacts c = IsFull c × (size tables_in (levels_from c) ≤ 4096) × (size wires_in (levels_from c) ≤ 16384) × (size crosses_in (levels_from c) ≤ 4194304) × (size nodes_in (levels_from c) ≤ 16384)
@@ -117,12 +129,31 @@ same-shape : (m n : Shape) → m.counts ≡ n.counts → m ≡ n
 same-shape m n same =
     made-same m.counts n.counts (m.full, m.few_tables, m.few_wires, m.few_crosses, m.few_nodes) (n.full, n.few_tables, n.few_wires, n.few_crosses, n.few_nodes) same
 
+-- the check behind a request under a number, and behind what a machine says of itself
+abbrev pub asked_check : ℕ → Check
+asked_check n = after fresh_check (attach_body n)
+
+abbrev pub counted_check : ℕ → Shape → Check
+counted_check n m = after (asked_check n) (counts_body n m.counts)
+
 -- the machine that answered an attach with these counts has this shape, and nothing set
-pub attached : (old new : Option Device) (request reply expected : List ℕ) (m : Shape) → WhereTold (λ d e. Answers d request reply e) old new → request ≡ attach_line → reply ≡ expected
-    → expected ≡ counts_line m.counts → AreCounts m.counts → IfSome old (λ d. AreCounts d.shape.counts) → IfSome new (λ d. (d.shape ≡ m) × (d.set ≡ cleared m))
-attached None new request reply expected m w asked same right counts told = rw w tt
-attached (Some d) None request reply expected m w asked same right counts told = absurd w
-attached (Some d) (Some e) request reply expected m w asked same right counts told =
-    let fresh = w.attaches asked in
-    let one : d.shape ≡ m = same-shape d.shape m (one_machine d.shape.counts m.counts told counts (sym fresh.reply_is ∙ same ∙ right)) in
+pub attached : (old new : Option Device) (c now : Check) (n : ℕ) (request reply expected : List ℕ) (m : Shape) → WhereTold (λ d e. Answers d c request reply e now) old new
+    → n < 2 ^ 32 → request ≡ attach_line n → reply ≡ expected → expected ≡ counts_line (asked_check n) n m.counts → AreCounts m.counts → IfSome old (λ d. AreCounts d.shape.counts)
+    → IfSome new (λ d. (d.shape ≡ m) × (d.set ≡ cleared m))
+attached None new c now n request reply expected m w few asked same right counts told = rw w tt
+attached (Some d) None c now n request reply expected m w few asked same right counts told = absurd w
+attached (Some d) (Some e) c now n request reply expected m w few asked same right counts told =
+    let fresh = w.attaches n few asked in
+    let one : d.shape ≡ m = same-shape d.shape m (one_machine (asked_check n) n d.shape.counts m.counts told counts (sym fresh.reply_is ∙ same ∙ right)) in
     (w.shape ∙ one, fresh.cleared ∙ ap cleared one)
+
+-- and both have one check
+pub attached_check : (old new : Option Device) (c now own : Check) (n : ℕ) (request reply expected : List ℕ) (m : Shape) → WhereTold (λ d e. Answers d c request reply e now) old new
+    → n < 2 ^ 32 → request ≡ attach_line n → reply ≡ expected → expected ≡ counts_line (asked_check n) n m.counts → AreCounts m.counts → IfSome old (λ d. AreCounts d.shape.counts)
+    → own ≡ counted_check n m → IsSome new → now ≡ own
+attached_check None new c now own n request reply expected m w few asked same right counts told is some = absurd (let no : None ≡ new = sym w in false≢true (ap is_some no ∙ some))
+attached_check (Some d) None c now own n request reply expected m w few asked same right counts told is some = absurd w
+attached_check (Some d) (Some e) c now own n request reply expected m w few asked same right counts told is some =
+    let fresh = w.attaches n few asked in
+    let one : d.shape ≡ m = same-shape d.shape m (one_machine (asked_check n) n d.shape.counts m.counts told counts (sym fresh.reply_is ∙ same ∙ right)) in
+    fresh.check ∙ ap (λ (s : Shape). counted_check n s) one ∙ sym is

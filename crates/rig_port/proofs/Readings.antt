@@ -1,12 +1,14 @@
 -- A line of readings has one reading.
-use Rattle.std.proofs.Common.{◌≡◌, ℕ, suc, zero, ◌+◌, ◌*◌, ◌/◌, ◌%◌, ◌<◌, ◌≤◌, Bool, true, false, List, [], ◌∷◌, ◌++◌, length, get_or, drop, All, refl, sym, ap, ◌∙◌, arith, subst, flat_map, Ok, sum, ◌==◌}
+use Rattle.std.proofs.Common.{◌≡◌, ℕ, suc, zero, ◌+◌, ◌*◌, ◌/◌, ◌%◌, ◌<◌, ◌≤◌, Bool, true, false, List, [], ◌∷◌, ◌++◌, length, get_or, drop, All, refl, sym, ap, ◌∙◌, arith, subst, flat_map, Ok, ◌==◌}
 use Rattle.std.proofs.lemmas.Bool.Decides.{nat_tests}
 use Rattle.std.proofs.lemmas.List.{append_assoc, ext_get_or}
 use Rattle.std.specs.Int.{div_ceil}
 use Rattle.hex.specs.Hex.{encode_lower, decode_of, lower_digits, IsBytes}
 use Rattle.hex.proofs.HexLemmas.{decode_of-encode_lower, length-encode_with}
 use Rattle.machine_meaning.specs.Circuit.{Pins}
-use Rattle.rig_port.specs.Lines.{pin_bit, bit_of, octet_at, octets_below, pin_text, reading_body, reading_line}
+use Rattle.rig_port.specs.declared.check.Check.{Check}
+use Rattle.rig_port.specs.Checks.{after, check_bytes}
+use Rattle.rig_port.specs.Lines.{line_of, pin_bit, bit_of, octet_at, octets_below, pin_text, reading_body, reading_line}
 use Rattle.rig_port.proofs.Spelled.{led}
 
 small : (b : Bool) → pin_bit b ≤ 1
@@ -160,19 +162,22 @@ one_led n (x ∷ xs) (y ∷ ys) s t a b len e =
     ap (λ z. z ∷ xs) (one_text x y wide text)
     ∙ ap (λ l. y ∷ l) (one_led n xs ys s t (λ k d lt. a (suc k) d (omega (arith, lt))) (λ k d lt. b (suc k) d (omega (arith, lt))) (omega (arith, len)) parts.1)
 
-abbrev pub sealed : List ℕ → List ℕ
-sealed body = 42 ∷ [] ++ encode_lower (sum body % 256 ∷ []) ++ 10 ∷ []
+abbrev pub sealed : Check → List ℕ → List ℕ
+sealed c body = 42 ∷ [] ++ encode_lower (check_bytes (after c body)) ++ 10 ∷ []
 
 pub at_end : (a b c d : List ℕ) → a ++ b ++ c ++ d ≡ a ++ (b ++ c ++ d)
 at_end a b c d = append_assoc (a ++ b) c d ∙ append_assoc a b (c ++ d) ∙ ap (λ l. a ++ l) (sym (append_assoc b c d))
 
+-- a line in the order of its parts
+pub sealed_line : (c : Check) (body : List ℕ) → line_of c body ≡ body ++ sealed c body
+sealed_line c body = at_end body (42 ∷ []) (encode_lower (check_bytes (after c body))) (10 ∷ [])
+
 -- a line of readings has one reading of each width and number
-pub one_reading : (n : ℕ) (xs ys : List Pins) → AreOf n xs → AreOf n ys → length xs ≡ length ys → reading_line xs ≡ reading_line ys → xs ≡ ys
-one_reading n [] [] a b len e = refl
-one_reading n [] (y ∷ ys) a b len e = absurd (omega (arith, len))
-one_reading n (x ∷ xs) [] a b len e = absurd (omega (arith, len))
-one_reading n (x ∷ xs) (y ∷ ys) a b len e =
-    let whole : reading_body (x ∷ xs) ++ sealed (reading_body (x ∷ xs)) ≡ reading_body (y ∷ ys) ++ sealed (reading_body (y ∷ ys))
-    = sym (at_end (reading_body (x ∷ xs)) (42 ∷ []) (encode_lower (sum (reading_body (x ∷ xs)) % 256 ∷ [])) (10 ∷ [])) ∙ e
-    ∙ at_end (reading_body (y ∷ ys)) (42 ∷ []) (encode_lower (sum (reading_body (y ∷ ys)) % 256 ∷ [])) (10 ∷ []) in
-    one_led n (x ∷ xs) (y ∷ ys) (sealed (reading_body (x ∷ xs))) (sealed (reading_body (y ∷ ys))) a b len (ap (λ l. 32 ∷ drop 1 l) whole)
+pub one_reading : (c : Check) (n : ℕ) (xs ys : List Pins) → AreOf n xs → AreOf n ys → length xs ≡ length ys → reading_line c xs ≡ reading_line c ys → xs ≡ ys
+one_reading c n [] [] a b len e = refl
+one_reading c n [] (y ∷ ys) a b len e = absurd (omega (arith, len))
+one_reading c n (x ∷ xs) [] a b len e = absurd (omega (arith, len))
+one_reading c n (x ∷ xs) (y ∷ ys) a b len e =
+    let whole : reading_body (x ∷ xs) ++ sealed c (reading_body (x ∷ xs)) ≡ reading_body (y ∷ ys) ++ sealed c (reading_body (y ∷ ys))
+    = sym (sealed_line c (reading_body (x ∷ xs))) ∙ e ∙ sealed_line c (reading_body (y ∷ ys)) in
+    one_led n (x ∷ xs) (y ∷ ys) (sealed c (reading_body (x ∷ xs))) (sealed c (reading_body (y ∷ ys))) a b len (ap (λ l. 32 ∷ drop 1 l) whole)

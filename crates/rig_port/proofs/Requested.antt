@@ -1,5 +1,5 @@
 -- A line of a request is that of one request.
-use Rattle.std.proofs.Common.{◌≡◌, ℕ, suc, zero, ◌+◌, ◌*◌, ◌%◌, ◌^◌, ◌<◌, ◌≤◌, Bool, true, false, List, [], ◌∷◌, ◌++◌, length, map, drop, get_or, All, refl, sym, ap, ◌∙◌, arith, subst, flat_map, sum, decimal, Ok}
+use Rattle.std.proofs.Common.{◌≡◌, ℕ, suc, zero, ◌+◌, ◌*◌, ◌^◌, ◌<◌, ◌≤◌, Bool, true, false, List, [], ◌∷◌, ◌++◌, length, map, drop, get_or, All, refl, sym, ap, ◌∙◌, arith, subst, flat_map, decimal, codes, Ok}
 use Rattle.std.proofs.lemmas.List.{append_assoc}
 use Rattle.std.proofs.lemmas.Fmt.{decimal_injective}
 use Rattle.std.proofs.lemmas.Nat.{from_be_bytes-to_be_bytes_8}
@@ -11,12 +11,14 @@ use Rattle.machine_shape.specs.declared.Shape.{Shape}
 use Rattle.machine_shape.specs.Shape.{crosses_of, tables_of, pins_of, levels_of}
 use Rattle.machine_meaning.specs.Circuit.{Pins}
 use Rattle.machine_config.specs.declared.Setting.{Setting}
-use Rattle.rig_port.specs.Lines.{line_of, pin_bit, pin_text}
-use Rattle.rig_port.specs.Requests.{Edit, Close, Open, On, Off, Tick, IsEditOf, flag_digit, edit_text, edits_text, drives_text, AreDrivesOf, start_text, attach_line, load_line, drives_line}
+use Rattle.rig_port.specs.declared.check.Check.{Check}
+use Rattle.rig_port.specs.Checks.{fresh_check}
+use Rattle.rig_port.specs.Lines.{pin_bit, pin_text}
+use Rattle.rig_port.specs.Requests.{Edit, Close, Open, On, Off, Tick, IsEditOf, flag_digit, edit_text, edits_text, drives_text, led_drives, AreWide, AreDrivesOf, start_text, attach_body, load_body, attach_line, load_line, drives_line}
 use Rattle.rig_port.proofs.Spelled.{led}
 use Rattle.rig_port.proofs.Settings.{same_setting}
 use Rattle.rig_port.proofs.OneMachine.{BeginsLow, digits, cut_low}
-use Rattle.rig_port.proofs.Readings.{cut, sealed, at_end, one_text, length_text, AreOf}
+use Rattle.rig_port.proofs.Readings.{cut, sealed, sealed_line, one_text, length_text, AreOf}
 
 -- one number stands before others
 numeral : (m n : ℕ) (r q : List ℕ) → m < 2 ^ 64 → n < 2 ^ 64 → BeginsLow r → BeginsLow q → decimal m ++ r ≡ decimal n ++ q → (m ≡ n) × (r ≡ q)
@@ -228,26 +230,26 @@ rest_drives n (x ∷ xs) (y ∷ ys) s t a b e =
     ap (λ z. z ∷ xs) (one_text x y wide text)
     ∙ ap (λ l. y ∷ l) (rest_drives n xs ys s t (λ k d lt. a (suc k) d (omega (arith, lt))) (λ k d lt. b (suc k) d (omega (arith, lt))) parts.1)
 
+-- the drives of a load, each behind a space
+led_all : (xs : List Pins) → led_drives xs ≡ flat_map (led drive_text) xs
+led_all [] = refl
+led_all (x ∷ xs) = refl
+
 one_drives : (m : Shape) (xs ys : List Pins) (s t : List ℕ) → AreDrivesOf m xs → AreDrivesOf m ys → drives_text xs ++ 42 ∷ s ≡ drives_text ys ++ 42 ∷ t → xs ≡ ys
 one_drives m [] ys s t a b e = absurd (let some = a.0 in omega (arith, some))
 one_drives m (x ∷ xs) [] s t a b e = absurd (let some = b.0 in omega (arith, some))
 one_drives m (x ∷ xs) (y ∷ ys) s t a b e = rest_drives (pins_of m) (x ∷ xs) (y ∷ ys) s t a.1 b.1 (ap (λ l. 32 ∷ l) e)
 
--- lines in the order of their parts
-sealed_line : (body : List ℕ) → line_of body ≡ body ++ sealed body
-sealed_line body = at_end body (42 ∷ []) (encode_lower (sum body % 256 ∷ [])) (10 ∷ [])
+abbrev load_rest : Check → Bool → List Edit → List Pins → List ℕ
+load_rest c anew es ds = led_drives ds ++ sealed c (load_body anew es ds)
 
-abbrev load_body : Bool → List Edit → List Pins → List ℕ
-load_body anew es ds = start_text anew ++ edits_text es ++ 108 ∷ 32 ∷ [] ++ drives_text ds
-
-load_parts : (anew : Bool) (es : List Edit) (ds : List Pins)
-    → load_line anew es ds ≡ start_text anew ++ (edits_text es ++ 108 ∷ 32 ∷ (drives_text ds ++ sealed (load_body anew es ds)))
-load_parts anew es ds =
-    let end = sealed (load_body anew es ds) in
-    sealed_line (load_body anew es ds)
-    ∙ append_assoc (start_text anew ++ edits_text es ++ 108 ∷ 32 ∷ []) (drives_text ds) end
-    ∙ append_assoc (start_text anew ++ edits_text es) (108 ∷ 32 ∷ []) (drives_text ds ++ end)
-    ∙ append_assoc (start_text anew) (edits_text es) (108 ∷ 32 ∷ (drives_text ds ++ end))
+load_parts : (c : Check) (anew : Bool) (es : List Edit) (ds : List Pins) → load_line c anew es ds ≡ start_text anew ++ (edits_text es ++ 108 ∷ load_rest c anew es ds)
+load_parts c anew es ds =
+    let end = sealed c (load_body anew es ds) in
+    sealed_line c (load_body anew es ds)
+    ∙ append_assoc (start_text anew ++ edits_text es ++ 108 ∷ []) (led_drives ds) end
+    ∙ append_assoc (start_text anew ++ edits_text es) (108 ∷ []) (led_drives ds ++ end)
+    ∙ append_assoc (start_text anew) (edits_text es) (108 ∷ (led_drives ds ++ end))
 
 -- how a load's line begins
 load_head : (anew : Bool) (es : List Edit) (t : List ℕ)
@@ -262,27 +264,35 @@ kept_head : (es : List Edit) (t : List ℕ) → get_or (edits_text es ++ 108 ∷
 kept_head [] t e = omega (arith, e)
 kept_head (x ∷ es) t e = (edit_letter x).3 (sym (ap (λ l. get_or l 0 0) (first_word x es (108 ∷ t))) ∙ e)
 
-drives_head : (m : Shape) (ds : List Pins) → AreDrivesOf m ds → get_or (drives_line ds) 0 0 ≡ 100
-drives_head m [] a = absurd (let some = a.0 in omega (arith, some))
-drives_head m (x ∷ ds) a = refl
+drives_head : (m : Shape) (c : Check) (ds : List Pins) → AreDrivesOf m ds → get_or (drives_line c ds) 0 0 ≡ 100
+drives_head m c [] a = absurd (let some = a.0 in omega (arith, some))
+drives_head m c (x ∷ ds) a = refl
 
 -- the three forms are apart
-pub attach_no_load : (anew : Bool) (es : List Edit) (ds : List Pins) → attach_line ≡ load_line anew es ds → ⊥
-attach_no_load anew es ds e =
-    (load_head anew es (32 ∷ (drives_text ds ++ sealed (load_body anew es ds)))).0 (sym (ap (λ l. get_or l 0 0) (e ∙ load_parts anew es ds)))
+pub attach_no_load : (c : Check) (n : ℕ) (anew : Bool) (es : List Edit) (ds : List Pins) → attach_line n ≡ load_line c anew es ds → ⊥
+attach_no_load c n anew es ds e = (load_head anew es (load_rest c anew es ds)).0 (sym (ap (λ l. get_or l 0 0) (e ∙ load_parts c anew es ds)))
 
-pub attach_no_drives : (m : Shape) (ds : List Pins) → AreDrivesOf m ds → attach_line ≡ drives_line ds → ⊥
-attach_no_drives m ds a e = let no : 97 ≡ 100 = ap (λ l. get_or l 0 0) e ∙ drives_head m ds a in omega (arith, no)
+pub attach_no_drives : (m : Shape) (c : Check) (n : ℕ) (ds : List Pins) → AreDrivesOf m ds → attach_line n ≡ drives_line c ds → ⊥
+attach_no_drives m c n ds a e = let no : 97 ≡ 100 = ap (λ l. get_or l 0 0) e ∙ drives_head m c ds a in omega (arith, no)
 
-pub load_no_drives : (m : Shape) (anew : Bool) (es : List Edit) (ds gs : List Pins) → AreDrivesOf m gs → load_line anew es ds ≡ drives_line gs → ⊥
-load_no_drives m anew es ds gs a e =
-    (load_head anew es (32 ∷ (drives_text ds ++ sealed (load_body anew es ds)))).1
-    (ap (λ l. get_or l 0 0) (sym (load_parts anew es ds) ∙ e) ∙ drives_head m gs a)
+pub load_no_drives : (m : Shape) (c : Check) (anew : Bool) (es : List Edit) (ds gs : List Pins) → AreDrivesOf m gs → load_line c anew es ds ≡ drives_line c gs → ⊥
+load_no_drives m c anew es ds gs a e =
+    (load_head anew es (load_rest c anew es ds)).1 (ap (λ l. get_or l 0 0) (sym (load_parts c anew es ds) ∙ e) ∙ drives_head m c gs a)
+
+-- a line that attaches has one number
+pub one_number : (n k : ℕ) → n < 2 ^ 32 → k < 2 ^ 32 → attach_line n ≡ attach_line k → n ≡ k
+one_number n k few other e =
+    let s = sealed fresh_check (attach_body n) in
+    let t = sealed fresh_check (attach_body k) in
+    let whole : codes "a " ++ (decimal n ++ s) ≡ codes "a " ++ (decimal k ++ t)
+    = sym (append_assoc (codes "a ") (decimal n) s) ∙ sym (sealed_line fresh_check (attach_body n)) ∙ e ∙ sealed_line fresh_check (attach_body k)
+    ∙ append_assoc (codes "a ") (decimal k) t in
+    (numeral n k s t (omega (arith, few)) (omega (arith, other)) (omega arith) (omega arith) (ap (λ l. drop 2 l) whole)).0
 
 -- a line of drives has one reading
-pub one_drives_line : (m : Shape) (xs ys : List Pins) → AreDrivesOf m xs → AreDrivesOf m ys → drives_line xs ≡ drives_line ys → xs ≡ ys
-one_drives_line m xs ys a b e =
-    one_drives m xs ys (drop 1 (sealed (drives_text xs))) (drop 1 (sealed (drives_text ys))) a b (sym (sealed_line (drives_text xs)) ∙ e ∙ sealed_line (drives_text ys))
+pub one_drives_line : (m : Shape) (c : Check) (xs ys : List Pins) → AreDrivesOf m xs → AreDrivesOf m ys → drives_line c xs ≡ drives_line c ys → xs ≡ ys
+one_drives_line m c xs ys a b e =
+    one_drives m xs ys (drop 1 (sealed c (drives_text xs))) (drop 1 (sealed c (drives_text ys))) a b (sym (sealed_line c (drives_text xs)) ∙ e ∙ sealed_line c (drives_text ys))
 
 -- what a line of a load says
 pub record IsSameLoad (anew other : Bool) (es fs : List Edit) (ds gs : List Pins) : Type 0 where
@@ -290,25 +300,25 @@ pub record IsSameLoad (anew other : Bool) (es fs : List Edit) (ds gs : List Pins
   pub edits : es ≡ fs
   pub drives : ds ≡ gs
 
-rest_load : (m : Shape) (es fs : List Edit) (ds gs : List Pins) (s t : List ℕ) → AreEditsOf m es → AreEditsOf m fs → AreDrivesOf m ds → AreDrivesOf m gs
-    → edits_text es ++ 108 ∷ 32 ∷ (drives_text ds ++ 42 ∷ s) ≡ edits_text fs ++ 108 ∷ 32 ∷ (drives_text gs ++ 42 ∷ t) → (es ≡ fs) × (ds ≡ gs)
+rest_load : (m : Shape) (es fs : List Edit) (ds gs : List Pins) (s t : List ℕ) → AreEditsOf m es → AreEditsOf m fs → AreWide m ds → AreWide m gs
+    → edits_text es ++ 108 ∷ (led_drives ds ++ 42 ∷ s) ≡ edits_text fs ++ 108 ∷ (led_drives gs ++ 42 ∷ t) → (es ≡ fs) × (ds ≡ gs)
 rest_load m es fs ds gs s t a b c d e =
-    let parts = one_edits m es fs (32 ∷ (drives_text ds ++ 42 ∷ s)) (32 ∷ (drives_text gs ++ 42 ∷ t)) a b e in
-    (parts.0, one_drives m ds gs s t c d (ap (λ l. drop 1 l) parts.1))
+    let parts = one_edits m es fs (led_drives ds ++ 42 ∷ s) (led_drives gs ++ 42 ∷ t) a b e in
+    (parts.0, rest_drives (pins_of m) ds gs s t c d (ap (λ l. l ++ 42 ∷ s) (sym (led_all ds)) ∙ parts.1 ∙ ap (λ l. l ++ 42 ∷ t) (led_all gs)))
 
 -- a line of a load has one reading
-pub one_load : (m : Shape) (anew other : Bool) (es fs : List Edit) (ds gs : List Pins) → AreEditsOf m es → AreEditsOf m fs → AreDrivesOf m ds → AreDrivesOf m gs
-    → load_line anew es ds ≡ load_line other fs gs → IsSameLoad anew other es fs ds gs
-one_load m anew other es fs ds gs a b c d e = by_start anew other (sym (load_parts anew es ds) ∙ e ∙ load_parts other fs gs) where
+pub one_load : (m : Shape) (k : Check) (anew other : Bool) (es fs : List Edit) (ds gs : List Pins) → AreEditsOf m es → AreEditsOf m fs → AreWide m ds → AreWide m gs
+    → load_line k anew es ds ≡ load_line k other fs gs → IsSameLoad anew other es fs ds gs
+one_load m k anew other es fs ds gs a b c d e = by_start anew other (sym (load_parts k anew es ds) ∙ e ∙ load_parts k other fs gs) where
   s : List ℕ
-  s = drop 1 (sealed (load_body anew es ds))
+  s = drop 1 (sealed k (load_body anew es ds))
 
   t : List ℕ
-  t = drop 1 (sealed (load_body other fs gs))
+  t = drop 1 (sealed k (load_body other fs gs))
 
-  by_start : (v w : Bool) → start_text v ++ (edits_text es ++ 108 ∷ 32 ∷ (drives_text ds ++ 42 ∷ s)) ≡ start_text w ++ (edits_text fs ++ 108 ∷ 32 ∷ (drives_text gs ++ 42 ∷ t))
+  by_start : (v w : Bool) → start_text v ++ (edits_text es ++ 108 ∷ (led_drives ds ++ 42 ∷ s)) ≡ start_text w ++ (edits_text fs ++ 108 ∷ (led_drives gs ++ 42 ∷ t))
       → IsSameLoad v w es fs ds gs
   by_start true true e = let same = rest_load m es fs ds gs s t a b c d (ap (λ l. drop 2 l) e) in record { start = refl; edits = same.0; drives = same.1 }
   by_start false false e = let same = rest_load m es fs ds gs s t a b c d e in record { start = refl; edits = same.0; drives = same.1 }
-  by_start true false e = absurd (kept_head fs (32 ∷ (drives_text gs ++ 42 ∷ t)) (sym (ap (λ l. get_or l 0 0) e)))
-  by_start false true e = absurd (kept_head es (32 ∷ (drives_text ds ++ 42 ∷ s)) (ap (λ l. get_or l 0 0) e))
+  by_start true false e = absurd (kept_head fs (led_drives gs ++ 42 ∷ t) (sym (ap (λ l. get_or l 0 0) e)))
+  by_start false true e = absurd (kept_head es (led_drives ds ++ 42 ∷ s) (ap (λ l. get_or l 0 0) e))

@@ -1,10 +1,8 @@
 -- How lines are put together.
-use Rattle.std.proofs.Common.{◌≡◌, ℕ, suc, zero, ◌+◌, ◌-◌, ◌*◌, ◌%◌, ◌<◌, List, [], ◌∷◌, ◌++◌, take, length, get_or, sym, ap, ◌∙◌, arith, flat_map, sum}
+use Rattle.std.proofs.Common.{◌≡◌, ℕ, suc, zero, ◌+◌, ◌-◌, ◌*◌, ◌<◌, List, [], ◌∷◌, ◌++◌, take, length, get_or, sym, ap, ◌∙◌, arith, flat_map}
 use Rattle.std.proofs.lemmas.List.{append-nil, append_assoc}
 use Rattle.std.proofs.lemmas.Grind.{flat_map-append}
 use Rattle.std.proofs.Math.Seq.{take-suc}
-use Rattle.std.proofs.lemmas.List.Sums.{sum_by_push}
-use Rattle.std.proofs.Math.Nat.{add-mod}
 use Rattle.std.specs.List.{join_by}
 use Rattle.hex.specs.Hex.{encode_lower, encode_with}
 use Rattle.machine_meaning.specs.Circuit.{Pins}
@@ -58,18 +56,3 @@ word_next f xs k d x begun text lt at is =
     ∙ ap (λ y. begun ++ (joined ++ gap k ++ f y)) at
     ∙ ap (λ l. begun ++ l) (sym (join_step f xs k d lt))
     ∙ ap (λ n. begun ++ join_by f (32 ∷ []) (take n xs)) next
-
--- one more byte in a sum
-pub sum_next : (bytes : List ℕ) (k d total byte : ℕ) → k < length bytes → byte ≡ get_or bytes k d → byte < 256 → total ≡ sum (take k bytes) % 256
-    → (total + byte) % 256 ≡ sum (take (k + 1) bytes) % 256
-sum_next bytes k d total byte lt at small is =
-    let next : suc k ≡ k + 1 = omega arith in
-    let same : byte % 256 ≡ byte = omega (arith, small) in
-    let s = sum (take k bytes) in
-    ap (λ t. (t + byte) % 256) is
-    ∙ ap (λ b. (s % 256 + b) % 256) (sym same)
-    ∙ sym (add-mod s byte 256)
-    ∙ ap (λ b. (s + b) % 256) at
-    ∙ ap (λ t. t % 256) (sym (sum_by_push (λ x. x) (take k bytes) (get_or bytes k d)))
-    ∙ ap (λ l. sum l % 256) (sym (take-suc bytes k d lt))
-    ∙ ap (λ n. sum (take n bytes) % 256) next

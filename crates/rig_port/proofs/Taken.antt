@@ -1,5 +1,5 @@
 -- What is read of a line of readings.
-use Rattle.std.proofs.Common.{◌≡◌, ℕ, zero, suc, ◌+◌, ◌-◌, ◌*◌, ◌/◌, ◌%◌, ◌^◌, ◌<◌, ◌≤◌, Bool, true, false, List, [], ◌∷◌, ◌++◌, map, take, drop, length, get_or, set, refl, sym, ap, ◌∙◌, arith, subst, flat_map, sum, ◌==◌, Result, Ok, MatchResult}
+use Rattle.std.proofs.Common.{◌≡◌, ℕ, zero, suc, ◌+◌, ◌-◌, ◌*◌, ◌/◌, ◌%◌, ◌^◌, ◌<◌, ◌≤◌, Bool, true, false, List, [], ◌∷◌, ◌++◌, map, take, drop, length, get_or, set, refl, sym, ap, ◌∙◌, arith, subst, flat_map, ◌==◌, Result, Ok, MatchResult}
 use Rattle.std.proofs.lemmas.Bool.Decides.{nat_tests}
 use Rattle.std.proofs.lemmas.List.{append_assoc, drop_more, get_or-drop, get_or-set_other, length-drop, length-map, length-append, take_more_set, ext_get_or}
 use Rattle.std.proofs.lemmas.Grind.{get_or-set_at}
@@ -10,9 +10,10 @@ use Rattle.hex.specs.declared.error.FromHexError.{FromHexError}
 use Rattle.hex.proofs.HexLemmas.{decode_sized-encode_lower}
 use Rattle.machine_meaning.specs.Circuit.{Pins}
 use Rattle.rig.specs.Rig.{KeepLengths}
+use Rattle.rig_port.specs.declared.check.Check.{Check}
 use Rattle.rig_port.specs.Lines.{pin_bit, bit_of, octet_at, octets_below, pin_text, reading_body, reading_line}
 use Rattle.rig_port.proofs.Spelled.{led}
-use Rattle.rig_port.proofs.Readings.{few, octet_small, length_octets, length_text, sealed, at_end}
+use Rattle.rig_port.proofs.Readings.{few, octet_small, length_octets, length_text, sealed, sealed_line}
 
 one_bit : (b : Bool) → (pin_bit b == 1) ≡ b
 one_bit true = refl
@@ -135,13 +136,12 @@ abbrev as_led : List ℕ → List ℕ
 as_led reply = 32 ∷ drop 1 reply
 
 -- what is ahead are the texts that weren't read yet
-abbrev pub IsAhead : List Pins → ℕ → ℕ → List ℕ → Type 0
-IsAhead rows k at reply = k < length rows → drop at (as_led reply) ≡ flat_map (led pin_text) (drop k rows) ++ sealed (reading_body rows)
+abbrev pub IsAhead : Check → List Pins → ℕ → ℕ → List ℕ → Type 0
+IsAhead c rows k at reply = k < length rows → drop at (as_led reply) ≡ flat_map (led pin_text) (drop k rows) ++ sealed c (reading_body rows)
 
-pub ahead_first : (rows : List Pins) (reply : List ℕ) → reply ≡ reading_line rows → IsAhead rows 0 0 reply
-ahead_first [] reply is lt = absurd (omega (arith, lt))
-ahead_first (x ∷ xs) reply is lt =
-    ap as_led is ∙ ap as_led (at_end (reading_body (x ∷ xs)) (42 ∷ []) (encode_lower (sum (reading_body (x ∷ xs)) % 256 ∷ [])) (10 ∷ []))
+pub ahead_first : (c : Check) (rows : List Pins) (reply : List ℕ) → reply ≡ reading_line c rows → IsAhead c rows 0 0 reply
+ahead_first c [] reply is lt = absurd (omega (arith, lt))
+ahead_first c (x ∷ xs) reply is lt = ap as_led is ∙ ap as_led (sealed_line c (reading_body (x ∷ xs)))
 
 drop_one : (n : ℕ) (l : List ℕ) → drop 1 (drop n l) ≡ drop (suc n) l
 drop_one zero l = refl
@@ -154,15 +154,15 @@ drop_sum (suc n) m [] = drop-nil m ∙ sym (drop-nil (suc n + m))
 drop_sum (suc n) m (x ∷ l) = drop_sum n m l ∙ ap (λ i. drop i (x ∷ l)) (let e : suc (n + m) ≡ suc n + m = omega arith in e)
 
 -- what stands behind the space in front of a text
-pub record Steps (rows : List Pins) (k at : ℕ) (row : Pins) (reply : List ℕ) : Type 0 where
+pub record Steps (c : Check) (rows : List Pins) (k at : ℕ) (row : Pins) (reply : List ℕ) : Type 0 where
   pub within : at ≤ length reply
   pub rest : List ℕ
   pub text : drop (at + 1) reply ≡ pin_text row ++ rest
   pub fits : at + 1 + length (pin_text row) ≤ length reply + 1
-  pub ahead : IsAhead rows (k + 1) (at + 1 + length (pin_text row)) reply
+  pub ahead : IsAhead c rows (k + 1) (at + 1 + length (pin_text row)) reply
 
-pub steps : (rows : List Pins) (k at : ℕ) (row : Pins) (reply : List ℕ) → k < length rows → row ≡ get_or rows k row → IsAhead rows k at reply → Steps rows k at row reply
-steps rows k at row reply lt is ahead = record {
+pub steps : (c : Check) (rows : List Pins) (k at : ℕ) (row : Pins) (reply : List ℕ) → k < length rows → row ≡ get_or rows k row → IsAhead c rows k at reply → Steps c rows k at row reply
+steps c rows k at row reply lt is ahead = record {
   within = near;
   rest = behind;
   text = text_is;
@@ -170,14 +170,14 @@ steps rows k at row reply lt is ahead = record {
   ahead = λ _. sym (drop_sum (at + 1) (length (pin_text row)) (as_led reply)) ∙ ap (drop (length (pin_text row))) next_is ∙ drop-append_seam (pin_text row) behind;
 } where
   behind : List ℕ
-  behind = flat_map (led pin_text) (drop (k + 1) rows) ++ sealed (reading_body rows)
+  behind = flat_map (led pin_text) (drop (k + 1) rows) ++ sealed c (reading_body rows)
 
   here : drop at (as_led reply) ≡ 32 ∷ (pin_text row ++ behind)
   here =
       ahead lt
-      ∙ ap (λ l. flat_map (led pin_text) l ++ sealed (reading_body rows)) (drop_more rows k row lt)
-      ∙ ap (λ r. flat_map (led pin_text) (r ∷ drop (k + 1) rows) ++ sealed (reading_body rows)) (sym is)
-      ∙ append_assoc (led pin_text row) (flat_map (led pin_text) (drop (k + 1) rows)) (sealed (reading_body rows))
+      ∙ ap (λ l. flat_map (led pin_text) l ++ sealed c (reading_body rows)) (drop_more rows k row lt)
+      ∙ ap (λ r. flat_map (led pin_text) (r ∷ drop (k + 1) rows) ++ sealed c (reading_body rows)) (sym is)
+      ∙ append_assoc (led pin_text row) (flat_map (led pin_text) (drop (k + 1) rows)) (sealed c (reading_body rows))
 
   led_long : length (drop at (as_led reply)) ≡ length (as_led reply) - at
   led_long = length-drop at (as_led reply)
@@ -232,16 +232,16 @@ rows_more reads rows k row lt le is same =
     let next : suc k ≡ k + 1 = omega arith in
     take_more_set reads k row lt ∙ ap (λ l. l ++ row ∷ []) same ∙ ap (λ r. take k rows ++ r ∷ []) is ∙ sym (take-suc rows k row le) ∙ ap (λ n. take n rows) next
 
-abbrev pub AreRead : List Pins → List Pins → ℕ → ℕ → List ℕ → Type 0
-AreRead reads rows k at reply = (take k reads ≡ take k rows) × IsAhead rows k at reply
+abbrev pub AreRead : Check → List Pins → List Pins → ℕ → ℕ → List ℕ → Type 0
+AreRead c reads rows k at reply = (take k reads ≡ take k rows) × IsAhead c rows k at reply
 
-pub read_next : (initial reads rows : List Pins) (reply : List ℕ) (k at begin after digits : ℕ) (old row : Pins) → KeepLengths initial reads → KeepLengths initial rows → k < length reads
+pub read_next : (c : Check) (initial reads rows : List Pins) (reply : List ℕ) (k at begin after digits : ℕ) (old row : Pins) → KeepLengths initial reads → KeepLengths initial rows → k < length reads
     → old ≡ get_or reads k old → (at ≤ length reply → begin ≡ at + 1) → digits ≡ 2 * div_ceil (length old) 8 → (begin + digits ≤ length reply + 1 → after ≡ begin + digits)
     → ((pins : Pins) (rest : List ℕ) → length pins ≡ length old → drop begin reply ≡ pin_text pins ++ rest → row ≡ pins)
-    → AreRead reads rows k at reply → AreRead (set reads k row) rows (k + 1) after reply
-read_next initial reads rows reply k at begin after digits old row keep keep_too lt is begin_is digits_is after_is right inv = (
+    → AreRead c reads rows k at reply → AreRead c (set reads k row) rows (k + 1) after reply
+read_next c initial reads rows reply k at begin after digits old row keep keep_too lt is begin_is digits_is after_is right inv = (
   rows_more reads rows k row lt le (row_is ∙ first_default row) inv.0,
-  subst (λ p. IsAhead rows (k + 1) p reply) place s.ahead,
+  subst (λ p. IsAhead c rows (k + 1) p reply) place s.ahead,
 ) where
   same : map length reads ≡ map length rows
   same = keep ∙ sym keep_too
@@ -255,8 +255,8 @@ read_next initial reads rows reply k at begin after digits old row keep keep_too
   first_default : (d : Pins) → due ≡ get_or rows k d
   first_default d = any_default rows k old d le
 
-  s : Steps rows k at due reply
-  s = steps rows k at due reply le (first_default due) inv.1
+  s : Steps c rows k at due reply
+  s = steps c rows k at due reply le (first_default due) inv.1
 
   begins : begin ≡ at + 1
   begins = begin_is s.within

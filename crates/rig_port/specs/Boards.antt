@@ -1,12 +1,14 @@
 -- What a board over a port means, by what it keeps.
-use Rattle.std.specs.Prelude.{◌≡◌, ℕ, ◌+◌, ◌≤◌, true, false, vec_len, Option, Some, IfSome, is_some}
+use Rattle.std.specs.Prelude.{◌≡◌, ℕ, ◌+◌, ◌≤◌, true, false, List, vec_len, Option, Some, IfSome, IsSome, is_some}
 use Rattle.std.specs.Vec.{vec_capacity}
 use Rattle.std.specs.Option.{option_map_or}
 use Rattle.machine_shape.specs.declared.Shape.{Shape}
 use Rattle.machine_shape.specs.Shape.{pins_of}
 use Rattle.rig.specs.Flaky.{both_counts}
 use Rattle.rig_port.specs.declared.link.Link.{Link}
-use Rattle.rig_port.specs.Lines.{turn_room}
+use Rattle.rig_port.specs.declared.check.Check.{Check}
+use Rattle.rig_port.specs.Checks.{after}
+use Rattle.rig_port.specs.Lines.{line_of, turn_room}
 use Rattle.rig_port.specs.Ports.{PortState}
 use Rattle.rig_port.specs.Linked.{PortBoardState, IsLinked, told_with}
 
@@ -16,10 +18,16 @@ state_of port found link failures = record {
   found = found;
   is_up = is_some link;
   in_session = option_map_or (λ l. l.running) link false;
+  is_due = option_map_or (λ l. l.due) link false;
   device = option_map_or (λ l. told_with l.due l.set.config port.device) link port.device;
   port_failures = port.failures;
   failures = both_counts failures port.failures;
 }
+
+-- the line of a body, and the check behind it
+pub record IsRequest (c : Check) (body line : List ℕ) (now : Check) : Type 0 where
+  pub line_is : line ≡ line_of c body
+  pub check : now ≡ after c body
 
 -- a line that is due has room for all that a request takes, and what is expected for all that a reply takes
 pub record HasRoom (pins : ℕ) (l : Link) : Type 0 where
@@ -33,6 +41,7 @@ pub record IsHeld (port : PortState) (found : Option Shape) (l : Link) : Type 0 
   pub told : IfSome port.device (λ d. d.shape ≡ l.set.config.shape)
   pub linked : l.lost ≡ false → IsLinked port.device l.set.config l.line.items l.anew l.running l.due
   pub running : l.lost ≡ true → l.running ≡ false
+  pub check : IsSome port.device → port.check ≡ l.check
   pub room : HasRoom (pins_of l.set.config.shape) l
 
 abbrev pub IsUp : PortState → Option Shape → Option Link → Type 0
@@ -44,5 +53,6 @@ pub record IsKeptUp (port : PortState) (old new : Link) : Type 0 where
   pub set : new.set.config ≡ old.set.config
   pub lost : new.lost ≡ old.lost
   pub running : new.running ≡ true
+  pub check : IsSome port.device → port.check ≡ new.check
   pub linked : IsLinked port.device new.set.config new.line.items new.anew new.running new.due
   pub room : HasRoom (pins_of new.set.config.shape) new

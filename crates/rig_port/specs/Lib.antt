@@ -1,6 +1,7 @@
 -- The lines between the tool and a machine behind a port, and what they mean.
 pub mod Answers
 pub mod Boards
+pub mod Checks
 pub mod Codes
 pub mod FilePorts
 pub mod Linked

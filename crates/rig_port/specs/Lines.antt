@@ -1,15 +1,17 @@
--- How bits, counts and sums are spelled in the lines between the tool and a machine behind a port.
-use Rattle.std.specs.Prelude.{◌≡◌, ◌<◌, ◌^◌, All, ℕ, zero, suc, ◌+◌, ◌*◌, ◌%◌, Bool}
-use Rattle.std.specs.Prelude.{true, false, List, [], ◌∷◌, ◌++◌, length, get_or, sum, decimal, codes, slice_index_or}
+-- How bits, counts and checks are spelled in the lines between the tool and a machine behind a port.
+use Rattle.std.specs.Prelude.{◌≡◌, ◌<◌, ◌^◌, All, ℕ, zero, suc, ◌+◌, ◌*◌, Bool}
+use Rattle.std.specs.Prelude.{true, false, List, [], ◌∷◌, ◌++◌, length, get_or, decimal, codes, slice_index_or}
 use Rattle.std.specs.Int.{div_ceil}
 use Rattle.std.specs.List.{join_by}
 use Rattle.hex.specs.Hex.{encode_lower}
 use Rattle.machine_shape.specs.declared.Counts.{Counts}
 use Rattle.machine_meaning.specs.Circuit.{Pins}
+use Rattle.rig_port.specs.declared.check.Check.{Check}
+use Rattle.rig_port.specs.Checks.{after, check_bytes}
 
--- a body with its sum behind it: two hex digits of the sum of its bytes, modulo 256
-abbrev pub line_of : List ℕ → List ℕ
-line_of body = body ++ 42 ∷ [] ++ encode_lower (sum body % 256 ∷ []) ++ 10 ∷ []
+-- a body with the check behind it, as it stands then
+abbrev pub line_of : Check → List ℕ → List ℕ
+line_of c body = body ++ 42 ∷ [] ++ encode_lower (check_bytes (after c body)) ++ 10 ∷ []
 
 -- a pin as a number; beyond the pins it is 0
 abbrev pub pin_bit : Bool → ℕ
@@ -37,7 +39,7 @@ pin_text pins = encode_lower (octets_below pins (div_ceil (length pins) 8))
 abbrev pub word_room : Pins → ℕ
 word_room pins = 2 * div_ceil (length pins) 8 + 2
 
--- for how many bytes a line is to have room, behind the words of edits: a load's `l`, the drives of a request, and the sum; or a reply
+-- for how many bytes a line is to have room, behind the words of edits: a load's `l`, the drives of a request, and the check; or a reply
 abbrev pub turn_room : ℕ → ℕ
 turn_room pins = 8208 + pins
 
@@ -50,8 +52,8 @@ gap (suc k) = 32 ∷ []
 abbrev pub reading_body : List Pins → List ℕ
 reading_body readings = 61 ∷ join_by pin_text (32 ∷ []) readings
 
-abbrev pub reading_line : List Pins → List ℕ
-reading_line readings = line_of (reading_body readings)
+abbrev pub reading_line : Check → List Pins → List ℕ
+reading_line c readings = line_of c (reading_body readings)
 
 -- the twelve counts of a machine, in the order of its text
 abbrev pub numbers_of : Counts → List ℕ
@@ -65,6 +67,9 @@ pub record AreCounts (c : Counts) : Type 0 where
   pub lines : length c.lines ≡ 4
   pub small : All (λ n. n < 2 ^ 16) (numbers_of c)
 
--- what a machine says of itself: the version, and its counts
-abbrev pub counts_line : Counts → List ℕ
-counts_line c = line_of (codes "=1 " ++ join_by decimal (32 ∷ []) (numbers_of c))
+-- what a machine says of itself: the version, the number that it was asked under, and its counts
+abbrev pub counts_body : ℕ → Counts → List ℕ
+counts_body n c = codes "=2 " ++ decimal n ++ 32 ∷ [] ++ join_by decimal (32 ∷ []) (numbers_of c)
+
+abbrev pub counts_line : Check → ℕ → Counts → List ℕ
+counts_line c n counts = line_of c (counts_body n counts)

@@ -15,6 +15,8 @@ pub record PortBoardState : Type 0 where
   -- whether no failure came since a machine was found
   pub is_up : Bool
   pub in_session : Bool
+  -- whether a load waits to be sent
+  pub is_due : Bool
   pub device : Option Device
   -- those of its port alone, and all
   pub port_failures : ℕ

@@ -5,6 +5,7 @@ use Rattle.machine_meaning.specs.Faults.{Faults, AreFaultsOf}
 use Rattle.base_io.specs.Counts.{Rose}
 use Rattle.rig_board.specs.Device.{Device}
 use Rattle.rig_port.specs.Lines.{AreCounts}
+use Rattle.rig_port.specs.declared.check.Check.{Check}
 use Rattle.rig_port.specs.declared.port.PortFail.{PortFail}
 use Rattle.rig_port.specs.declared.port.PortFail.TheVariants as port
 
@@ -13,6 +14,8 @@ pub record PortState : Type 0 where
   pub is_open : Bool
   -- the machine at the other end, where told
   pub device : Option Device
+  -- and its running check
+  pub check : Check
   -- a count that never falls
   pub failures : ℕ
 

@@ -1,6 +1,6 @@
 -- What is asked of a machine behind a port.
 use Rattle.std.specs.Prelude.{◌≡◌, ℕ, ◌+◌, ◌*◌, ◌^◌, ◌<◌, ◌≤◌, Bool, true, false}
-use Rattle.std.specs.Prelude.{List, [], ◌∷◌, ◌++◌, Some, None, All, fold, flat_map, length, decimal}
+use Rattle.std.specs.Prelude.{List, [], ◌∷◌, ◌++◌, Some, None, All, fold, flat_map, length, decimal, codes}
 use Rattle.std.specs.Int.{to_be_bytes, w64}
 use Rattle.std.specs.List.{join_by}
 use Rattle.hex.specs.Hex.{encode_lower}
@@ -9,6 +9,8 @@ use Rattle.machine_shape.specs.Shape.{crosses_of, tables_of, pins_of}
 use Rattle.machine_meaning.specs.Circuit.{Pins}
 use Rattle.machine_config.specs.declared.Setting.{Setting}
 use Rattle.machine_config.specs.Configuration.{Configuration, with_closed, with_open, with_setting, with_ticks}
+use Rattle.rig_port.specs.declared.check.Check.{Check}
+use Rattle.rig_port.specs.Checks.{fresh_check}
 use Rattle.rig_port.specs.Lines.{line_of, pin_bit, pin_text}
 
 -- a change of what is set
@@ -61,20 +63,36 @@ edits_text edits = flat_map (λ e. edit_text e ++ 32 ∷ []) edits
 abbrev pub drives_text : List Pins → List ℕ
 drives_text drives = join_by (λ pins. 100 ∷ [] ++ pin_text pins) (32 ∷ []) drives
 
+abbrev pub AreWide : Shape → List Pins → Type 0
+AreWide m drives = All (λ pins. length pins ≡ pins_of m) drives
+
+-- at least one
 abbrev pub AreDrivesOf : Shape → List Pins → Type 0
-AreDrivesOf m drives = (0 < length drives) × All (λ pins. length pins ≡ pins_of m) drives
+AreDrivesOf m drives = (0 < length drives) × AreWide m drives
 
 -- the words before edits that are made on a machine where all is cleared first, and on it as it stands
 abbrev pub start_text : Bool → List ℕ
 start_text true = 122 ∷ 32 ∷ []
 start_text false = []
 
--- the four requests: attach; edits and drives, anew or not; drives
-abbrev pub attach_line : List ℕ
-attach_line = line_of (97 ∷ [])
+-- the drives behind the word of a load, each with a space in front, if there are any
+abbrev pub led_drives : List Pins → List ℕ
+led_drives [] = []
+led_drives (drive ∷ drives) = 32 ∷ drives_text (drive ∷ drives)
 
-abbrev pub load_line : Bool → List Edit → List Pins → List ℕ
-load_line anew edits drives = line_of (start_text anew ++ edits_text edits ++ 108 ∷ 32 ∷ [] ++ drives_text drives)
+-- what the four requests say: attach, under a number; edits, a load and drives, anew or not; drives
+abbrev pub attach_body : ℕ → List ℕ
+attach_body n = codes "a " ++ decimal n
 
-abbrev pub drives_line : List Pins → List ℕ
-drives_line drives = line_of (drives_text drives)
+abbrev pub load_body : Bool → List Edit → List Pins → List ℕ
+load_body anew edits drives = start_text anew ++ edits_text edits ++ 108 ∷ [] ++ led_drives drives
+
+-- their lines; with the first the check begins
+abbrev pub attach_line : ℕ → List ℕ
+attach_line n = line_of fresh_check (attach_body n)
+
+abbrev pub load_line : Check → Bool → List Edit → List Pins → List ℕ
+load_line c anew edits drives = line_of c (load_body anew edits drives)
+
+abbrev pub drives_line : Check → List Pins → List ℕ
+drives_line c drives = line_of c (drives_text drives)

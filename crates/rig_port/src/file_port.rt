@@ -127,7 +127,8 @@ impl<R: Files + Drop> Port for FilePort<R> {
         ensures length { length reply.new ≡ length reply.old }
         ensures within { IfOk result (λ n. n ≤ length reply.new) }
         ensures stays { OnOk result ((⟦<FilePort<R> as Port>⟧.port_state self.new).is_open ≡ true) }
-        ensures told { IfOk result (λ n. WhereTold (λ d e. Answers d request.now (take n reply.new) e)
+        ensures told { IfOk result (λ n. WhereTold (λ d e. Answers d (⟦<FilePort<R> as Port>⟧.port_state self.old).check request.now
+            (take n reply.new) e (⟦<FilePort<R> as Port>⟧.port_state self.new).check)
             (⟦<FilePort<R> as Port>⟧.port_state self.old).device (⟦<FilePort<R> as Port>⟧.port_state self.new).device) }
         ensures closed { OnErr result ((⟦<FilePort<R> as Port>⟧.port_state self.new).is_open ≡ false) }
         ensures refused { IfErr result (λ e. AskFails e (⟦<FilePort<R> as Port>⟧.port_state self.old)

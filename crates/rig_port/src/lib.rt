@@ -8,12 +8,15 @@
 //! lines are made and read may change, as long as they are spelled so; the tool takes a reply byte by byte (docs/PORT.md).
 #![tactic(auto)]
 
+mod check;
 mod edits;
 mod file_board;
 mod file_port;
 mod link;
+mod parse;
 mod port;
 mod port_board;
+mod respell;
 mod rig_port;
 mod spelling;
 mod talk;

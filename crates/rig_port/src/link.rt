@@ -1,7 +1,8 @@
 //! What a board over a port keeps while it is up.
+use crate::check::Check;
 use machine_config::Config;
 
-/// The board's own configuration, the words that make the machine's of it, and buffers.
+/// The board's own configuration, the words that make the machine's of it, the running check, and buffers.
 #[derive(Drop)]
 pub struct Link {
     pub set: Config,
@@ -13,6 +14,7 @@ pub struct Link {
     pub due: bool,
     // Whether memory was lacking on the way, so that all has to be set anew.
     pub lost: bool,
+    pub check: Check,
     pub reply: Vec<u8>,
     pub expected: Vec<u8>,
 }

@@ -49,8 +49,8 @@ pub trait Port: Drop {
         ensures length { length reply.new ≡ length reply.old }
         ensures within { IfOk result (λ n. n ≤ length reply.new) }
         ensures stays { OnOk result ((port_state self.new).is_open ≡ true) }
-        ensures told { IfOk result (λ n. WhereTold (λ d e. Answers d request.now (take n reply.new) e) (port_state self.old).device
-            (port_state self.new).device) }
+        ensures told { IfOk result (λ n. WhereTold (λ d e. Answers d (port_state self.old).check request.now (take n reply.new) e
+            (port_state self.new).check) (port_state self.old).device (port_state self.new).device) }
         ensures closed { OnErr result ((port_state self.new).is_open ≡ false) }
         ensures refused { IfErr result (λ e. AskFails e (port_state self.old) (port_state self.new)) };
 }

@@ -9,15 +9,17 @@ ghost use Rattle.rig.specs.Flaky.{both_counts};
 ghost use Rattle.rig.specs.Rig.{KeepLengths};
 ghost use Rattle.rig_board.specs.Boards.{width_found, Finds, SetsUp, HasCycled, HasCycledAll, AreRowsOf, HasFailed};
 ghost use Rattle.rig_board.specs.Device.{Device, faults_told};
-ghost use Rattle.rig_port.specs.Lines.{counts_line, AreCounts, turn_room};
-ghost use Rattle.rig_port.specs.Requests.{attach_line};
+ghost use Rattle.rig_port.specs.Checks.{fresh_check, after};
+ghost use Rattle.rig_port.specs.Lines.{counts_body, counts_line, AreCounts, turn_room};
+ghost use Rattle.rig_port.specs.Requests.{attach_body, attach_line};
 ghost use Rattle.rig_port.specs.Ports.{machine_told};
 ghost use Rattle.rig_port.specs.Linked.{IsPosted, board_of};
 
+use crate::check::Check;
 use crate::edits::{is_shorter_anew, put_edits};
 use crate::link::Link;
 use crate::port::{Port, PortFail};
-use crate::spelling::{put_counts, put_sum};
+use crate::spelling::{put_attach, put_check, put_counts};
 use crate::turn::{turn, turn_all};
 use machine_config::Config;
 use machine_shape::Shape;
@@ -29,6 +31,9 @@ use std::slice;
 
 /// A line longer than this is no right reply.
 const MOST_REPLY: usize = 4101;
+
+/// The number under which a machine is attached.
+const FIRST: u32 = 1;
 
 // For how many bytes a line is to have room behind the words of its edits: a load's `l`, the drives of a request, and the sum.
 fn room_for(pins: u32) -> usize
@@ -81,26 +86,35 @@ fn link_of(alloc: Global, shape: Shape) -> Result<Link, AllocError>
         running: false,
         due: false,
         lost: false,
+        check: Check::new(),
         reply: vec![in alloc; 0u8; MOST_REPLY]?,
         expected: Vec::new(alloc),
     })
 }
 
-// Makes the line that asks what machine it is, and that of the right answer, with room for those of readings.
-fn put_attach(line: &mut Vec<u8>, expected: &mut Vec<u8>, shape: &Shape) -> Result<(), AllocError>
+// Makes the line that asks what machine it is, under a number, and that of the right answer, with room for those of readings. Answers
+// the check behind that.
+fn put_question(
+    line: &mut Vec<u8>,
+    expected: &mut Vec<u8>,
+    number: u32,
+    shape: &Shape,
+) -> Result<Check, AllocError>
     requires line { line.old.items ≡ [] }
     requires expected { expected.old.items ≡ [] }
     ensures right { OnOk result (AreCounts shape.now.counts) }
-    ensures line { OnOk result (line.new.items ≡ attach_line) }
-    ensures expected { OnOk result (expected.new.items ≡ counts_line shape.now.counts) }
+    ensures line { OnOk result (line.new.items ≡ attach_line number) }
+    ensures expected { OnOk result (expected.new.items
+        ≡ counts_line (after fresh_check (attach_body number)) number shape.now.counts) }
+    ensures behind { IfOk result (λ now. now ≡ after (after fresh_check (attach_body number)) (counts_body number shape.now.counts)) }
     ensures room { OnOk result (turn_room (pins_of shape.now) ≤ vec_capacity expected.new) }
 {
-    put_counts(expected, shape.counts())?;
+    put_attach(line, number)?;
+    line.reserve(6)?;
+    let asked = put_check(line, Check::new());
+    let now = put_counts(expected, asked, number, shape.counts())?;
     expected.reserve(room_for(shape.pins()))?;
-    line.reserve(5)?;
-    line.push_reserved(b'a');
-    put_sum(line);
-    Ok(())
+    Ok(now)
 }
 
 /// Whether a line is another, byte by byte.
@@ -114,8 +128,10 @@ pub fn is_line(reply: &[u8], expected: &[u8]) -> bool
 // Asks the machine behind an open port what it is. False where the port fails, or it is another machine.
 fn attach<P: Port>(port: &mut P, link: &mut Link) -> bool
     requires open { (P.port_state port.old).is_open ≡ true }
-    requires line { link.old.line.items ≡ attach_line }
-    requires expected { link.old.expected.items ≡ counts_line link.old.set.config.shape.counts }
+    requires line { link.old.line.items ≡ attach_line 1 }
+    requires expected { link.old.expected.items
+        ≡ counts_line (after fresh_check (attach_body 1)) 1 link.old.set.config.shape.counts }
+    requires check { link.old.check ≡ after (after fresh_check (attach_body 1)) (counts_body 1 link.old.set.config.shape.counts) }
     requires counts { AreCounts link.old.set.config.shape.counts }
     requires told { IfSome (P.port_state port.old).device (λ d. AreCounts d.shape.counts) }
 
@@ -125,10 +141,12 @@ fn attach<P: Port>(port: &mut P, link: &mut Link) -> bool
     ensures line { link.new.line.items ≡ [] }
     ensures set { link.new.set ≡ link.old.set }
     ensures expected { link.new.expected ≡ link.old.expected }
+    ensures kept { link.new.check ≡ link.old.check }
     ensures idle { (link.new.anew ≡ link.old.anew) × (link.new.running ≡ link.old.running) × (link.new.due ≡ link.old.due)
         × (link.new.lost ≡ link.old.lost) }
     ensures fresh { IsTrue result → IfSome (P.port_state port.new).device (λ d. (d.shape ≡ link.old.set.config.shape)
         × (d.set ≡ cleared link.old.set.config.shape)) }
+    ensures check { IsTrue result → IsSome (P.port_state port.new).device → (P.port_state port.new).check ≡ link.new.check }
     ensures alarm { result ≡ false → IfSome (P.port_state port.new).device (λ d. d.shape ≡ link.old.set.config.shape →
         Rose (P.port_state port.old).failures (P.port_state port.new).failures) }
 {
@@ -144,6 +162,7 @@ fn attach<P: Port>(port: &mut P, link: &mut Link) -> bool
 fn restart(link: &mut Link) -> Result<(), AllocError>
     ensures shape { link.new.set.config.shape ≡ link.old.set.config.shape }
     ensures expected { link.new.expected ≡ link.old.expected }
+    ensures check { link.new.check ≡ link.old.check }
     ensures idle { (link.new.running ≡ link.old.running) × (link.new.due ≡ link.old.due) × (link.new.lost ≡ link.old.lost) }
     ensures posted { OnOk result ((device : Option Device) → IfSome device (λ d. d.shape ≡ link.old.set.config.shape) →
         IsPosted device link.new.set.config link.new.line.items link.new.anew) }
@@ -159,6 +178,7 @@ fn restart(link: &mut Link) -> Result<(), AllocError>
 fn begin(link: &mut Link) -> Result<(), AllocError>
     ensures shape { link.new.set.config.shape ≡ link.old.set.config.shape }
     ensures expected { link.new.expected ≡ link.old.expected }
+    ensures check { link.new.check ≡ link.old.check }
     ensures idle { (link.new.running ≡ false) × (link.new.due ≡ false) × (link.new.lost ≡ true) }
     ensures posted { OnOk result ((device : Option Device) → IfSome device (λ d. d.shape ≡ link.old.set.config.shape) →
         (link.old.lost ≡ false → IsPosted device link.old.set.config link.old.line.items link.old.anew) →
@@ -181,6 +201,7 @@ fn add_edits(alloc: Global, link: &mut Link, config: &Config) -> Result<(), Allo
 
     ensures shape { link.new.set.config.shape ≡ link.old.set.config.shape }
     ensures expected { link.new.expected ≡ link.old.expected }
+    ensures check { link.new.check ≡ link.old.check }
     ensures idle { (link.new.running ≡ link.old.running) × (link.new.due ≡ link.old.due) × (link.new.lost ≡ link.old.lost) }
     ensures made { OnOk result (link.new.set.config ≡ config.now.config) }
     ensures posted { OnOk result ((device : Option Device) → IsPosted device link.old.set.config link.old.line.items link.old.anew →
@@ -196,6 +217,7 @@ fn shorten(alloc: Global, link: &mut Link, config: &Config) -> Result<(), AllocE
 
     ensures shape { link.new.set.config.shape ≡ link.old.set.config.shape }
     ensures expected { link.new.expected ≡ link.old.expected }
+    ensures check { link.new.check ≡ link.old.check }
     ensures idle { (link.new.running ≡ link.old.running) × (link.new.due ≡ link.old.due) × (link.new.lost ≡ link.old.lost) }
     ensures made { OnOk result (link.new.set.config ≡ config.now.config) }
     ensures posted { OnOk result ((device : Option Device) → IfSome device (λ d. d.shape ≡ link.old.set.config.shape) →
@@ -216,6 +238,7 @@ fn post(alloc: Global, link: &mut Link, config: &Config) -> Result<(), AllocErro
 
     ensures shape { link.new.set.config.shape ≡ link.old.set.config.shape }
     ensures expected { link.new.expected ≡ link.old.expected }
+    ensures check { link.new.check ≡ link.old.check }
     ensures room { OnOk result (vec_len link.new.line + turn_room (pins_of link.new.set.config.shape) ≤ vec_capacity link.new.line) }
     ensures linked { OnOk result ((device : Option Device) → IfSome device (λ d. d.shape ≡ link.old.set.config.shape) →
         (link.old.lost ≡ false → IsPosted device link.old.set.config link.old.line.items link.old.anew) →
@@ -242,6 +265,7 @@ impl<P: Port> PortBoard<P> {
           found = None;
           is_up = false;
           in_session = false;
+          is_due = false;
           device = (P.port_state port).device;
           port_failures = (P.port_state port).failures;
           failures = both_counts 0 (P.port_state port).failures;
@@ -284,9 +308,10 @@ impl<P: Port> Board for PortBoard<P> {
         let Ok(mut link) = link_of(self.alloc, *shape) else {
             return Err(RigFail::Memory);
         };
-        if put_attach(&mut link.line, &mut link.expected, shape).is_err() {
+        let Ok(check) = put_question(&mut link.line, &mut link.expected, FIRST, shape) else {
             return Err(RigFail::Memory);
-        }
+        };
+        link.check = check;
         match self.port.open(name) {
             Ok(()) => {}
             Err(PortFail::Memory) => return Err(RigFail::Memory),
@@ -323,6 +348,7 @@ impl<P: Port> Board for PortBoard<P> {
         ensures down { self.old.is_up ≡ false → IsErrOf result RigFail.Failed }
         ensures stays { self.new.is_up ≡ self.old.is_up }
         ensures unsent { self.new.port_failures ≡ self.old.port_failures }
+        ensures waits { OnOk result (self.new.is_due ≡ true) }
     {
         let Some(mut link) = self.link.take() else {
             self.failures = self.failures.saturating_add(1);
@@ -362,6 +388,7 @@ impl<P: Port> Board for PortBoard<P> {
         ensures alarm { OnErr result (IsSome self.old.device → Rose self.old.port_failures self.new.port_failures) }
         ensures up { OnOk result (self.new.is_up ≡ true) }
         ensures down { OnErr result (self.new.is_up ≡ false) }
+        ensures sent { OnOk result (self.new.is_due ≡ false) }
     {
         let Some(mut link) = self.link.take() else {
             unreachable!()
@@ -379,7 +406,8 @@ impl<P: Port> Board for PortBoard<P> {
         Ok(())
     }
 
-    /// Sends what is due with the drives, in as few requests as their replies allow, and reads what comes. The board is up after an
+    /// Sends what is due with the drives, in as few requests as their replies allow, and reads what comes; without drives a load that is
+    /// due, so a machine is left loaded. The board is up after an
     /// `Ok`, and isn't after a refusal. Where a machine is told, it answers `Failed` only where the port failed.
     ///
     /// # Errors
@@ -406,6 +434,7 @@ impl<P: Port> Board for PortBoard<P> {
         ensures alarm { OnErr result (IsSome self.old.device → Rose self.old.port_failures self.new.port_failures) }
         ensures up { OnOk result (self.new.is_up ≡ true) }
         ensures down { OnErr result (self.new.is_up ≡ false) }
+        ensures sent { OnOk result (self.new.is_due ≡ false) }
     {
         let Some(mut link) = self.link.take() else {
             unreachable!()

@@ -1,12 +1,15 @@
 //! How requests and replies are spelled.
-ghost use Rattle.std.specs.Prelude.{◌≡◌, ◌+◌, ◌*◌, ◌^◌, ◌<◌, ◌≤◌, ◌++◌, ◌∷◌, [], ◌%◌, All, length, vec_len, decimal, sum, OnOk};
+ghost use Rattle.std.specs.Prelude.{◌≡◌, ◌+◌, ◌*◌, ◌^◌, ◌<◌, ◌≤◌, ◌++◌, ◌∷◌, [], All, length, vec_len, decimal, codes, OnOk, IfOk};
 ghost use Rattle.std.specs.Int.{div_ceil};
 ghost use Rattle.std.specs.List.{join_by, sum_by};
 ghost use Rattle.std.specs.Vec.{vec_capacity};
 ghost use Rattle.hex.specs.Hex.{encode_lower};
-ghost use Rattle.rig_port.specs.Lines.{line_of, bit_of, octet_at, pin_text, reading_line, counts_line, AreCounts, gap, word_room};
-ghost use Rattle.rig_port.specs.Requests.{On, edit_text, drives_text};
+ghost use Rattle.rig_port.specs.Lines.{line_of, bit_of, octet_at, pin_text, gap, word_room};
+ghost use Rattle.rig_port.specs.Lines.{reading_body, reading_line, counts_body, counts_line, AreCounts};
+ghost use Rattle.rig_port.specs.Checks.{after};
+ghost use Rattle.rig_port.specs.Requests.{On, edit_text, drives_text, attach_body};
 
+use crate::check::Check;
 use base_text::put_number;
 use machine_config::Setting;
 use machine_shape::{Counts, Pin};
@@ -133,28 +136,34 @@ pub fn put_drives(line: &mut Vec<u8>, drives: &[PinBits])
     }
 }
 
-// The sum of bytes, modulo 256.
-fn sum_of(bytes: &[u8]) -> u8
-    ensures { result ≡ sum bytes.now % 256 }
-{
-    let mut total = 0u8;
-    'bytes: for b in bytes {
-        total = total.wrapping_add(*b);
-    }
-    total
-}
+/// Ends a line with the check as it stands behind its body, for which there is room; answers it.
+pub fn put_check(line: &mut Vec<u8>, check: Check) -> Check
+    requires { vec_len line.old + 6 ≤ vec_capacity line.old }
 
-/// Ends a line with its sum, for which there is room.
-pub fn put_sum(line: &mut Vec<u8>)
-    requires { vec_len line.old + 4 ≤ vec_capacity line.old }
-
-    ensures spelled { line.new.items ≡ line_of line.old.items }
+    ensures spelled { line.new.items ≡ line_of check line.old.items }
+    ensures behind { result ≡ after check line.old.items }
     ensures room { vec_capacity line.old ≤ vec_capacity line.new }
 {
-    let total = sum_of(line);
+    let now = check.with_body(line);
     line.push_reserved(b'*');
-    put_byte(line, total);
+    put_byte(line, now.weighted);
+    put_byte(line, now.plain);
     line.push_reserved(b'\n');
+    now
+}
+
+/// Adds what asks a machine what it is, under a number.
+///
+/// # Errors
+///
+/// Out of memory.
+pub fn put_attach(line: &mut Vec<u8>, number: u32) -> Result<(), AllocError>
+    requires { line.old.items ≡ [] }
+    ensures { OnOk result (line.new.items ≡ attach_body number) }
+{
+    line.extend_from_slice(b"a ")?;
+    put_number(line, u64::from(number))?;
+    Ok(())
 }
 
 // Adds numbers with spaces between them.
@@ -170,33 +179,51 @@ fn put_numbers(line: &mut Vec<u8>, numbers: &[u16]) -> Result<(), AllocError>
     Ok(())
 }
 
-/// Adds the line by which a machine says what it is.
-///
-/// # Errors
-///
-/// Out of memory.
-pub fn put_counts(line: &mut Vec<u8>, c: Counts) -> Result<(), AllocError>
+// Adds what a machine says of itself, asked under a number.
+fn put_counts_body(line: &mut Vec<u8>, number: u32, c: Counts) -> Result<(), AllocError>
     requires { line.old.items ≡ [] }
     ensures right { OnOk result (AreCounts c) }
-    ensures spelled { OnOk result (line.new.items ≡ counts_line c) }
+    ensures spelled { OnOk result (line.new.items ≡ counts_body number c) }
 {
-    line.extend_from_slice(b"=1 ")?;
+    line.extend_from_slice(b"=2 ")?;
+    put_number(line, u64::from(number))?;
+    line.push(b' ')?;
     let numbers = [
         c.modules, c.chips, c.hextants, c.tables, c.ports[0], c.ports[1], c.ports[2], c.lines[0],
         c.lines[1], c.lines[2], c.lines[3], c.pins,
     ];
     put_numbers(line, &numbers)?;
-    line.reserve(4)?;
-    put_sum(line);
     Ok(())
 }
 
-/// Adds the line by which a machine says what its pins read. There is room for it.
-pub fn put_readings(line: &mut Vec<u8>, reads: &[PinBits])
-    requires empty { line.old.items ≡ [] }
-    requires room { sum_by word_room reads.now + 5 ≤ vec_capacity line.old }
+/// Adds the line by which a machine says what it is, asked under a number; answers the check behind it.
+///
+/// # Errors
+///
+/// Out of memory.
+pub fn put_counts(
+    line: &mut Vec<u8>,
+    check: Check,
+    number: u32,
+    c: Counts,
+) -> Result<Check, AllocError>
+    requires { line.old.items ≡ [] }
+    ensures right { OnOk result (AreCounts c) }
+    ensures spelled { OnOk result (line.new.items ≡ counts_line check number c) }
+    ensures behind { IfOk result (λ now. now ≡ after check (counts_body number c)) }
+{
+    put_counts_body(line, number, c)?;
+    line.reserve(6)?;
+    Ok(put_check(line, check))
+}
 
-    ensures spelled { line.new.items ≡ reading_line reads.now }
+/// Adds the line by which a machine says what its pins read; answers the check behind it. There is room for it.
+pub fn put_readings(line: &mut Vec<u8>, check: Check, reads: &[PinBits]) -> Check
+    requires empty { line.old.items ≡ [] }
+    requires room { sum_by word_room reads.now + 7 ≤ vec_capacity line.old }
+
+    ensures spelled { line.new.items ≡ reading_line check reads.now }
+    ensures behind { result ≡ after check (reading_body reads.now) }
     ensures room { vec_capacity line.old ≤ vec_capacity line.new }
 {
     line.push_reserved(b'=');
@@ -204,5 +231,5 @@ pub fn put_readings(line: &mut Vec<u8>, reads: &[PinBits])
         put_gap(line, k);
         put_pins(line, &reads[k]);
     }
-    put_sum(line);
+    put_check(line, check)
 }

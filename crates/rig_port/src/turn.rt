@@ -1,6 +1,6 @@
 //! A turn: a request goes out, and its reply is read.
 ghost use Rattle.std.specs.Prelude.{◌≡◌, ℕ, ◌+◌, ◌*◌, ◌/◌, ◌%◌, ◌^◌, ◌<◌, ◌≤◌, ◌==◌, ◌++◌, ◌∷◌, [], List, true, false};
-ghost use Rattle.std.specs.Prelude.{length, vec_len, drop, get_or, All, IsTrue, IsSome};
+ghost use Rattle.std.specs.Prelude.{length, vec_len, drop, get_or, All, IsTrue, IsSome, IfSome, IfNone};
 ghost use Rattle.std.specs.Int.{div_ceil};
 ghost use Rattle.std.specs.List.{sum_by};
 ghost use Rattle.std.specs.Vec.{vec_capacity};
@@ -9,47 +9,64 @@ ghost use Rattle.machine_shape.specs.Shape.{pins_of};
 ghost use Rattle.machine_meaning.specs.Circuit.{Pins};
 ghost use Rattle.base_io.specs.Counts.{Rose};
 ghost use Rattle.rig.specs.Rig.{KeepLengths};
-ghost use Rattle.rig_port.specs.Lines.{line_of, pin_text, reading_line, word_room, turn_room};
-ghost use Rattle.rig_port.specs.Requests.{AreDrivesOf, drives_line, drives_text};
+ghost use Rattle.rig_port.specs.Lines.{pin_text, reading_body, reading_line, word_room, turn_room};
+ghost use Rattle.rig_port.specs.Requests.{AreWide, led_drives, drives_text};
 ghost use Rattle.rig_port.specs.Ports.{machine_told};
 ghost use Rattle.rig_port.specs.Linked.{IsLinked, HasTurned};
-ghost use Rattle.rig_port.specs.Boards.{IsKeptUp, HasRoom};
+ghost use Rattle.rig_port.specs.Boards.{IsKeptUp, HasRoom, IsRequest};
+ghost use Rattle.rig_port.specs.Checks.{after};
 
+use crate::check::Check;
 use crate::link::Link;
 use crate::port::Port;
-use crate::spelling::{put_drives, put_readings, put_sum};
+use crate::spelling::{put_check, put_drives, put_readings};
 use machine_shape::Pin;
 use rig::PinBits;
 
-/// A right reply has at most this many bytes before its sum.
+/// A right reply has at most this many bytes before its check.
 const MOST_BODY: usize = 4096;
 
-// Adds the word of a load where one is due. There is room for it.
-fn put_load(line: &mut Vec<u8>, due: bool)
+// Adds the word of a load where one is due, and a space where drives follow it. There is room for it.
+fn put_load(line: &mut Vec<u8>, due: bool, is_led: bool)
     requires { vec_len line.old + 2 ≤ vec_capacity line.old }
 
-    ensures loads { due ≡ true → line.new.items ≡ line.old.items ++ 108 ∷ 32 ∷ [] }
+    ensures led { due ≡ true → is_led ≡ true → line.new.items ≡ line.old.items ++ 108 ∷ 32 ∷ [] }
+    ensures alone { due ≡ true → is_led ≡ false → line.new.items ≡ line.old.items ++ 108 ∷ [] }
     ensures idle { due ≡ false → line.new.items ≡ line.old.items }
     ensures len { vec_len line.new ≤ vec_len line.old + 2 }
     ensures room { vec_capacity line.old ≤ vec_capacity line.new }
 {
     if due {
         line.push_reserved(b'l');
-        line.push_reserved(b' ');
+        if is_led {
+            line.push_reserved(b' ');
+        }
     }
 }
 
-// Ends the line that is due: behind the edits of a load its `l` and the drives, or the drives alone. There is room for them.
-fn put_request(line: &mut Vec<u8>, due: bool, drives: &[PinBits])
-    requires { vec_len line.old + sum_by word_room drives.now + 6 ≤ vec_capacity line.old }
+// Ends the body that is due: behind the edits of a load its `l` and the drives, or the drives alone. There is room for them.
+fn put_body(line: &mut Vec<u8>, due: bool, drives: &[PinBits])
+    requires { vec_len line.old + sum_by word_room drives.now + 2 ≤ vec_capacity line.old }
 
-    ensures loads { due ≡ true → line.new.items ≡ line_of (line.old.items ++ 108 ∷ 32 ∷ [] ++ drives_text drives.now) }
-    ensures drives { due ≡ false → line.old.items ≡ [] → line.new.items ≡ drives_line drives.now }
+    ensures loads { due ≡ true → line.new.items ≡ line.old.items ++ 108 ∷ [] ++ led_drives drives.now }
+    ensures drives { due ≡ false → line.new.items ≡ line.old.items ++ drives_text drives.now }
+    ensures len { vec_len line.new ≤ vec_len line.old + sum_by word_room drives.now + 2 }
     ensures room { vec_capacity line.old ≤ vec_capacity line.new }
 {
-    put_load(line, due);
+    put_load(line, due, !drives.is_empty());
     put_drives(line, drives);
-    put_sum(line);
+}
+
+// Ends the line that is due, and answers the check behind it. There is room for it.
+fn put_request(line: &mut Vec<u8>, check: Check, due: bool, drives: &[PinBits]) -> Check
+    requires { vec_len line.old + sum_by word_room drives.now + 8 ≤ vec_capacity line.old }
+
+    ensures loads { due ≡ true → IsRequest check (line.old.items ++ 108 ∷ [] ++ led_drives drives.now) line.new.items result }
+    ensures drives { due ≡ false → line.old.items ≡ [] → IsRequest check (drives_text drives.now) line.new.items result }
+    ensures room { vec_capacity line.old ≤ vec_capacity line.new }
+{
+    put_body(line, due, drives);
+    put_check(line, check)
 }
 
 // A byte of a line; beyond its end it is a zero.
@@ -116,7 +133,7 @@ fn digits_of(pins: &PinBits) -> usize
 // Reads the pins of each cycle. What isn't a line of so many readings gives any bits.
 fn read_all(reply: &[u8], reads: &mut [PinBits])
     ensures lengths { KeepLengths reads.old reads.new }
-    ensures right { (rows : List Pins) → KeepLengths reads.old rows → reply.now ≡ reading_line rows → reads.new ≡ rows }
+    ensures right { (c : Check) (rows : List Pins) → KeepLengths reads.old rows → reply.now ≡ reading_line c rows → reads.new ≡ rows }
 {
     let mut at = 0usize;
     'reads: for k in 0..reads.len() {
@@ -128,17 +145,26 @@ fn read_all(reply: &[u8], reads: &mut [PinBits])
     }
 }
 
-// Whether a line is, byte by byte, that of these readings. There is room for it.
-fn is_right(reply: &[u8], expected: &mut Vec<u8>, reads: &[PinBits]) -> bool
-    requires { sum_by word_room reads.now + 5 ≤ vec_capacity expected.old }
+// The check behind a line that is, byte by byte, that of these readings; `None` where it isn't. There is room for it.
+fn read_check(
+    reply: &[u8],
+    expected: &mut Vec<u8>,
+    check: Check,
+    reads: &[PinBits],
+) -> Option<Check>
+    requires { sum_by word_room reads.now + 7 ≤ vec_capacity expected.old }
 
-    ensures right { IsTrue result → reply.now ≡ reading_line reads.now }
-    ensures wrong { result ≡ false → reply.now ≡ reading_line reads.now → ⊥ }
+    ensures right { IfSome result (λ now. (reply.now ≡ reading_line check reads.now) × (now ≡ after check (reading_body reads.now))) }
+    ensures wrong { IfNone result (reply.now ≡ reading_line check reads.now → ⊥) }
     ensures room { vec_capacity expected.old ≤ vec_capacity expected.new }
 {
     expected.clear();
-    put_readings(expected, reads);
-    reply == expected.as_slice()
+    let now = put_readings(expected, check, reads);
+    if reply == expected.as_slice() {
+        Some(now)
+    } else {
+        None
+    }
 }
 
 /// Sends what is due with these drives, and reads what comes. False where the port fails or the line isn't right, and of a machine
@@ -153,29 +179,33 @@ pub fn turn<P: Port>(
     requires linked { IsLinked (P.port_state port.old).device link.old.set.config link.old.line.items link.old.anew link.old.running
         link.old.due }
     requires running { link.old.running ≡ true }
-    requires drives { AreDrivesOf link.old.set.config.shape drives.now }
+    requires drives { AreWide link.old.set.config.shape drives.now }
+    requires some { link.old.due ≡ false → 0 < length drives.now }
+    requires check { IsSome (P.port_state port.old).device → (P.port_state port.old).check ≡ link.old.check }
     requires reads { All (λ row. length row ≡ pins_of link.old.set.config.shape) reads.old }
     requires as_many { length drives.now ≡ length reads.old }
     requires room { HasRoom (pins_of link.old.set.config.shape) link.old }
-    requires few { sum_by word_room drives.now + 6 ≤ turn_room (pins_of link.old.set.config.shape) }
+    requires few { sum_by word_room drives.now + 8 ≤ turn_room (pins_of link.old.set.config.shape) }
 
     ensures machine { machine_told (P.port_state port.new) ≡ machine_told (P.port_state port.old) }
     ensures later { (P.port_state port.old).failures ≤ (P.port_state port.new).failures }
     ensures lengths { KeepLengths reads.old reads.new }
     ensures held { IsTrue result → IsKeptUp (P.port_state port.new) link.old link.new }
+    ensures sent { IsTrue result → link.new.due ≡ false }
     ensures turned { IsTrue result → HasTurned drives.now reads.new link.old.due link.old.set.config (P.port_state port.old).device
         link.new.due (P.port_state port.new).device }
     ensures alarm { result ≡ false → IsSome (P.port_state port.old).device →
         Rose (P.port_state port.old).failures (P.port_state port.new).failures }
 {
-    put_request(&mut link.line, link.due, drives);
+    let sent = put_request(&mut link.line, link.check, link.due, drives);
     let Ok(count) = port.ask(&link.line, &mut link.reply) else {
         return false;
     };
     read_all(&link.reply[..count], reads);
-    if !is_right(&link.reply[..count], &mut link.expected, reads) {
+    let Some(now) = read_check(&link.reply[..count], &mut link.expected, sent, reads) else {
         return false;
-    }
+    };
+    link.check = now;
     link.line.clear();
     link.anew = false;
     link.due = false;
@@ -185,14 +215,14 @@ pub fn turn<P: Port>(
 // For how many drives a request has room at most: as many as their reply has room for, and always one.
 fn most_drives(pins: u32) -> usize
     ensures some { 1 ≤ result }
-    ensures few { result * (2 * div_ceil pins 8 + 2) + 6 ≤ turn_room pins }
+    ensures few { result * (2 * div_ceil pins 8 + 2) + 8 ≤ turn_room pins }
 {
     let digits = pins.div_ceil(8) as usize * 2;
     (MOST_BODY / (digits + 1)).max(1)
 }
 
-/// Sends all drives, in as few requests as their replies allow. False where a turn fails.
-pub fn turn_all<P: Port>(
+// Sends all drives, in as few requests as their replies allow. False where a turn fails.
+fn turn_some<P: Port>(
     port: &mut P,
     link: &mut Link,
     drives: &[PinBits],
@@ -202,7 +232,8 @@ pub fn turn_all<P: Port>(
     requires linked { IsLinked (P.port_state port.old).device link.old.set.config link.old.line.items link.old.anew link.old.running
         link.old.due }
     requires running { link.old.running ≡ true }
-    requires drives { All (λ row. length row ≡ pins_of link.old.set.config.shape) drives.now }
+    requires drives { AreWide link.old.set.config.shape drives.now }
+    requires check { IsSome (P.port_state port.old).device → (P.port_state port.old).check ≡ link.old.check }
     requires reads { All (λ row. length row ≡ pins_of link.old.set.config.shape) reads.old }
     requires as_many { length drives.now ≡ length reads.old }
     requires room { HasRoom (pins_of link.old.set.config.shape) link.old }
@@ -211,6 +242,8 @@ pub fn turn_all<P: Port>(
     ensures later { (P.port_state port.old).failures ≤ (P.port_state port.new).failures }
     ensures lengths { KeepLengths reads.old reads.new }
     ensures held { IsTrue result → IsKeptUp (P.port_state port.new) link.old link.new }
+    ensures sent { IsTrue result → 0 < length drives.now → link.new.due ≡ false }
+    ensures idle { IsTrue result → link.old.due ≡ false → link.new.due ≡ false }
     ensures turned { IsTrue result → HasTurned drives.now reads.new link.old.due link.old.set.config (P.port_state port.old).device
         link.new.due (P.port_state port.new).device }
     ensures alarm { result ≡ false → IsSome (P.port_state port.old).device →
@@ -227,4 +260,40 @@ pub fn turn_all<P: Port>(
         at = end;
     }
     true
+}
+
+/// Sends all drives, in as few requests as their replies allow; a load that is due goes out without drives too. False where a turn
+/// fails.
+pub fn turn_all<P: Port>(
+    port: &mut P,
+    link: &mut Link,
+    drives: &[PinBits],
+    reads: &mut [PinBits],
+) -> bool
+    requires open { (P.port_state port.old).is_open ≡ true }
+    requires linked { IsLinked (P.port_state port.old).device link.old.set.config link.old.line.items link.old.anew link.old.running
+        link.old.due }
+    requires running { link.old.running ≡ true }
+    requires drives { AreWide link.old.set.config.shape drives.now }
+    requires check { IsSome (P.port_state port.old).device → (P.port_state port.old).check ≡ link.old.check }
+    requires reads { All (λ row. length row ≡ pins_of link.old.set.config.shape) reads.old }
+    requires as_many { length drives.now ≡ length reads.old }
+    requires room { HasRoom (pins_of link.old.set.config.shape) link.old }
+
+    ensures machine { machine_told (P.port_state port.new) ≡ machine_told (P.port_state port.old) }
+    ensures later { (P.port_state port.old).failures ≤ (P.port_state port.new).failures }
+    ensures lengths { KeepLengths reads.old reads.new }
+    ensures held { IsTrue result → IsKeptUp (P.port_state port.new) link.old link.new }
+    ensures sent { IsTrue result → link.new.due ≡ false }
+    ensures turned { IsTrue result → HasTurned drives.now reads.new link.old.due link.old.set.config (P.port_state port.old).device
+        link.new.due (P.port_state port.new).device }
+    ensures alarm { result ≡ false → IsSome (P.port_state port.old).device →
+        Rose (P.port_state port.old).failures (P.port_state port.new).failures }
+{
+    if link.due {
+        if drives.is_empty() {
+            return turn(port, link, drives, reads);
+        }
+    }
+    turn_some(port, link, drives, reads)
 }

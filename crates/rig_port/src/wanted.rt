@@ -1,4 +1,5 @@
 //! What a request asks.
+use crate::check::Check;
 use machine_config::Setting;
 use machine_shape::{Cross, Table};
 use rig::PinBits;
@@ -21,4 +22,11 @@ pub struct Wanted {
     pub anew: bool,
     pub changes: Vec<Change>,
     pub drives: Vec<PinBits>,
+}
+
+/// A number under which a machine is asked what it is, and the check behind the request.
+#[derive(Clone, Copy)]
+pub struct Asked {
+    pub number: u32,
+    pub check: Check,
 }

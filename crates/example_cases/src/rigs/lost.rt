@@ -8,6 +8,10 @@ use machine_shape::{Cross, Pin, Shape};
 use rig::{PinBits, Rig, RigFail, cycle, load};
 use std::alloc::{AllocError, Global};
 
+// What joins the third pin and the fourth, and crosspoints of the hextant, far from the pins: so many that the board has to take memory
+// for them.
+const SECOND: [u32; 9] = [9, 13, 100, 104, 108, 112, 116, 120, 124];
+
 /// What the pins read behind the first load and behind the second, a digit a pin, and how many loads were made again.
 #[derive(Drop)]
 pub struct Outcome {
@@ -16,12 +20,17 @@ pub struct Outcome {
     pub again: u32,
 }
 
-// Closes a crosspoint, where the machine has it.
-fn close(config: &mut Config, at: u32) -> Result<(), AllocError>
+// Closes crosspoints, those that the machine has.
+fn close_all(config: &mut Config, crosses: &[u32]) -> Result<(), AllocError>
     ensures { config.new.config.shape ≡ config.old.config.shape }
 {
-    if at < config.shape().crosses() {
-        return config.close_cross(Cross(at));
+    'crosses: for at in crosses {
+        if *at < config.shape().crosses() {
+            let closed = config.close_cross(Cross(*at));
+            if closed.is_err() {
+                return closed;
+            }
+        }
     }
     Ok(())
 }
@@ -80,23 +89,13 @@ pub fn load_twice(alloc: Global, rig: &mut Box<dyn Rig>, shape: &Shape) -> Resul
     requires { shape_of (rig_state rig.old) ≡ Some shape.now }
 {
     let mut config = Config::with_room(alloc, *shape, 0)?;
-    close(&mut config, 0)?;
-    close(&mut config, 4)?;
+    close_all(&mut config, &[0, 4])?;
     let first_again = loaded(rig, &config)?;
     // A load goes out with the cycles behind it.
     let first = read_pins(alloc, rig, &config)?;
     open(&mut config, 0);
     open(&mut config, 4);
-    close(&mut config, 9)?;
-    close(&mut config, 13)?;
-    // Crosspoints of the hextant, far from the pins: so many that the board has to take memory for them.
-    close(&mut config, 100)?;
-    close(&mut config, 104)?;
-    close(&mut config, 108)?;
-    close(&mut config, 112)?;
-    close(&mut config, 116)?;
-    close(&mut config, 120)?;
-    close(&mut config, 124)?;
+    close_all(&mut config, &SECOND)?;
     let second_again = loaded(rig, &config)?;
     let second = read_pins(alloc, rig, &config)?;
     Ok(Outcome {

@@ -2,7 +2,7 @@
 
 use crate::rigs::faults::sim_of;
 use crate::rigs::memory_board::{MemoryBoard, Orders};
-use crate::rigs::table_port::{TablePort, answers_all, exchanges_of};
+use crate::rigs::table_port::{Exchange, TablePort, answers_all, exchanges_of};
 use crate::rigs::talk::Talk;
 use example_kit::TINY;
 use machine_config::Setting;
@@ -120,21 +120,37 @@ pub fn try_board(rt: &HostRuntime, words: &[String]) -> io::Result<bool> {
     Ok(done)
 }
 
-/// Over a board of so many pins behind a port that answers the requests of a table. False where they aren't, byte by byte, what was
-/// asked, or a word says no step.
-pub fn try_asks(rt: &HostRuntime, pins: &str, table: &str, words: &[String]) -> io::Result<bool> {
+// The requests of a table.
+fn table_in(rt: &HostRuntime, name: &str) -> io::Result<Vec<Exchange>> {
+    let text = fs::read_to_string(rt, name)?;
+    Ok(exchanges_of(rt.alloc(), text.as_str())?)
+}
+
+// Takes steps over a board behind a port that answers the requests of a table. Says whether each word said a step, and how many requests
+// were asked.
+fn ask(
+    rt: &HostRuntime,
+    shape: Shape,
+    table: Vec<Exchange>,
+    words: &[String],
+) -> io::Result<(bool, usize)> {
     let alloc: Global = rt.alloc();
-    let Some(shape) = shape_of(pins) else {
-        return Ok(false);
-    };
-    let text = fs::read_to_string(rt, table)?;
-    let table = exchanges_of(alloc, text.as_str())?;
-    let all = table.len();
     let asked = Rc::new(alloc, Cell::new(0usize))?;
     let board = PortBoard::new(alloc, TablePort::new(table, asked.clone()?));
     let mut talk = Talk::new(alloc, BoardRig::new(alloc, board), shape)?;
     let done = take_steps(rt, &mut talk, &Orders::new(), words)?;
-    let count = asked.get();
+    Ok((done, asked.get()))
+}
+
+/// Over a board of so many pins behind a port that answers the requests of a table. False where they aren't, byte by byte, what was
+/// asked, or a word says no step.
+pub fn try_asks(rt: &HostRuntime, pins: &str, table: &str, words: &[String]) -> io::Result<bool> {
+    let Some(shape) = shape_of(pins) else {
+        return Ok(false);
+    };
+    let table = table_in(rt, table)?;
+    let all = table.len();
+    let (done, count) = ask(rt, shape, table, words)?;
     println!(rt; "asked {count} of {all} requests")?;
     Ok(done && count == all)
 }
@@ -145,8 +161,7 @@ pub fn try_answers(rt: &HostRuntime, pins: &str, table: &str) -> io::Result<bool
     let Some(shape) = shape_of(pins) else {
         return Ok(false);
     };
-    let text = fs::read_to_string(rt, table)?;
-    let table = exchanges_of(alloc, text.as_str())?;
+    let table = table_in(rt, table)?;
     let all = table.len();
     let mut port = RigPort::new(alloc, sim_of(rt)?, shape);
     if port.open("none").is_err() {

@@ -1,5 +1,6 @@
 //! A port in memory that answers the requests of a table, in their order, and no other.
 ghost use Rattle.std.specs.Prelude.{◌≡◌, ◌≤◌, true, length, None, IfSome};
+ghost use Rattle.rig_port.specs.Checks.{fresh_check};
 
 use rig_port::{Port, PortFail};
 use std::alloc::{AllocError, Global};
@@ -82,7 +83,7 @@ fn reply_to(due: Option<&Exchange>, request: &[u8], reply: &mut [u8]) -> Option<
 }
 
 impl Port for TablePort {
-    ghost port_state = { λ p. record { is_open = p.is_open; device = None; failures = p.failures } };
+    ghost port_state = { λ p. record { is_open = p.is_open; device = None; check = fresh_check; failures = p.failures } };
 
     fn open(&mut self, name: &str) -> Result<(), PortFail> {
         let _failures = self.failures;

@@ -92,6 +92,9 @@ fn rows_of(alloc: Global, pins: u32, texts: &str) -> Result<Rows, AllocError>
 {
     let mut drives = Vec::new(alloc);
     let mut reads = Vec::new(alloc);
+    if texts.is_empty() {
+        return Ok(Rows { drives, reads });
+    }
     'rows: for text in texts.split(':') {
         let drive = row_of(alloc, pins, text)?;
         drives.push(drive)?;
@@ -206,7 +209,7 @@ impl<R: Rig> Talk<R> {
         }
     }
 
-    /// Makes cycles by one call, as [`Talk::cycle`] does; a colon stands between two drives.
+    /// Makes cycles by one call, as [`Talk::cycle`] does; a colon stands between two drives, and in an empty text there are none.
     pub fn cycles(
         &mut self,
         alloc: Global,

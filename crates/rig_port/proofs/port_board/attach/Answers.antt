@@ -1,7 +1,7 @@
-use Rattle.std.proofs.Common.{◌≡◌, ◌∙◌, take, length, sym, ap}
+use Rattle.std.proofs.Common.{◌≡◌, ◌∙◌, take, length, sym, ap, arith}
 use Rattle.rig_port.proofs.Alarm.{right_counts, for_any, rose_of}
 use Rattle.rig_port.proofs.Held.{seam}
-use Rattle.rig_port.proofs.OneMachine.{attached}
+use Rattle.rig_port.proofs.OneMachine.{attached, attached_check}
 use Rattle.rig_port.proofs.port_board.attach.Goals as goal
 
 pub returns-in-Ok-clause-fresh : goal.returns-in-Ok-clause-fresh
@@ -9,15 +9,27 @@ returns-in-Ok-clause-fresh g c = λ right.
     let whole = seam c.ask-asked.new.reply c.args.link.now.reply.items c.args.link.now.reply.len (c.ask-asked.ensures.length ∙ ap length c.deref_mut.ensures.value) c.args.link.now.reply.ok.0 in
     let same : take c.in-Ok.count c.ask-asked.new.reply ≡ c.args.link.now.expected.items
     = ap (λ l. take c.in-Ok.count l) (sym (c.deref-in-Ok.ensures.value ∙ whole)) ∙ c.is_line.ensures.right right ∙ c.deref-in-Ok-2.ensures.value in
-    attached (g.P.Port.port_state c.args.port.now).device (g.P.Port.port_state c.ask-asked.new.self).device c.deref.result.now (take c.in-Ok.count c.ask-asked.new.reply)
-    c.args.link.now.expected.items c.args.link.now.set.config.shape c.in-Ok.ensures.told (c.deref.ensures.value ∙ c.requires.line) same c.requires.expected
+    attached (g.P.Port.port_state c.args.port.now).device (g.P.Port.port_state c.ask-asked.new.self).device (g.P.Port.port_state c.args.port.now).check
+    (g.P.Port.port_state c.ask-asked.new.self).check 1 c.deref.result.now (take c.in-Ok.count c.ask-asked.new.reply)
+    c.args.link.now.expected.items c.args.link.now.set.config.shape c.in-Ok.ensures.told (omega arith) (c.deref.ensures.value ∙ c.requires.line) same c.requires.expected
     c.requires.counts c.requires.told
+
+pub returns-in-Ok-clause-check : goal.returns-in-Ok-clause-check
+returns-in-Ok-clause-check g c = λ right some.
+    let whole = seam c.ask-asked.new.reply c.args.link.now.reply.items c.args.link.now.reply.len (c.ask-asked.ensures.length ∙ ap length c.deref_mut.ensures.value) c.args.link.now.reply.ok.0 in
+    let same : take c.in-Ok.count c.ask-asked.new.reply ≡ c.args.link.now.expected.items
+    = ap (λ l. take c.in-Ok.count l) (sym (c.deref-in-Ok.ensures.value ∙ whole)) ∙ c.is_line.ensures.right right ∙ c.deref-in-Ok-2.ensures.value in
+    attached_check (g.P.Port.port_state c.args.port.now).device (g.P.Port.port_state c.ask-asked.new.self).device (g.P.Port.port_state c.args.port.now).check
+    (g.P.Port.port_state c.ask-asked.new.self).check c.args.link.now.check 1 c.deref.result.now (take c.in-Ok.count c.ask-asked.new.reply)
+    c.args.link.now.expected.items c.args.link.now.set.config.shape c.in-Ok.ensures.told (omega arith) (c.deref.ensures.value ∙ c.requires.line) same c.requires.expected
+    c.requires.counts c.requires.told c.requires.check some
 
 pub returns-in-Ok-clause-alarm : goal.returns-in-Ok-clause-alarm
 returns-in-Ok-clause-alarm g c = λ wrong.
     let whole = seam c.ask-asked.new.reply c.args.link.now.reply.items c.args.link.now.reply.len (c.ask-asked.ensures.length ∙ ap length c.deref_mut.ensures.value) c.args.link.now.reply.ok.0 in
-    right_counts (g.P.Port.port_state c.args.port.now).device (g.P.Port.port_state c.ask-asked.new.self).device c.deref.result.now (take c.in-Ok.count c.ask-asked.new.reply)
-    c.args.link.now.expected.items c.args.link.now.set.config.shape _ c.in-Ok.ensures.told (c.deref.ensures.value ∙ c.requires.line) c.requires.expected
+    right_counts (g.P.Port.port_state c.args.port.now).device (g.P.Port.port_state c.ask-asked.new.self).device (g.P.Port.port_state c.args.port.now).check
+    (g.P.Port.port_state c.ask-asked.new.self).check 1 c.deref.result.now (take c.in-Ok.count c.ask-asked.new.reply)
+    c.args.link.now.expected.items c.args.link.now.set.config.shape _ c.in-Ok.ensures.told (omega arith) (c.deref.ensures.value ∙ c.requires.line) c.requires.expected
     (λ same. c.is_line.ensures.wrong wrong (ap (λ l. take c.in-Ok.count l) (c.deref-in-Ok.ensures.value ∙ whole) ∙ same ∙ sym c.deref-in-Ok-2.ensures.value))
 
 pub returns-in-Err-clause-alarm : goal.returns-in-Err-clause-alarm

@@ -28,7 +28,7 @@ reads-preserved c =
       omega (arith, c.reads.invariant.2, c.put_gap.ensures.room, c.put_pins.ensures.room),
     )
 
-pub put_sum-requires : goal.put_sum-requires
-put_sum-requires c =
+pub put_check-requires : goal.put_check-requires
+put_check-requires c =
     let within = words_within c.args.reads.now c.reads.k in
     omega (arith, within, c.reads.invariant.1, c.reads.invariant.2, c.requires.room)

@@ -1,10 +1,11 @@
 use Rattle.std.proofs.Common.{◌≡◌, List}
 use Rattle.machine_meaning.specs.Circuit.{Pins}
 use Rattle.rig.specs.Rig.{KeepLengths}
+use Rattle.rig_port.specs.declared.check.Check.{Check}
 use Rattle.rig_port.specs.Lines.{reading_line}
 use Rattle.rig_port.proofs.Taken.{AreRead}
 use Rattle.rig_port.proofs.turn.read_all.Given as goal
 
 abbrev pub invariant-reads : goal.invariant-reads
 invariant-reads l = KeepLengths l.initial.reads l.reads
-    × ((rows : List Pins) → KeepLengths l.initial.reads rows → l.reply ≡ reading_line rows → AreRead l.reads rows l.k l.at l.reply)
+    × ((c : Check) (rows : List Pins) → KeepLengths l.initial.reads rows → l.reply ≡ reading_line c rows → AreRead c l.reads rows l.k l.at l.reply)

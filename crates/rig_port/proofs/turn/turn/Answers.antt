@@ -1,10 +1,11 @@
-use Rattle.std.proofs.Common.{arith, ◌≡◌, ◌∙◌, true, false, refl, sym, ap, length, take, subst}
+use Rattle.std.proofs.Common.{arith, ◌≡◌, ◌∙◌, ◌++◌, ◌∷◌, [], true, false, refl, sym, ap, length, take, subst}
 use Rattle.std.proofs.lemmas.List.{length-map}
 use Rattle.machine_shape.specs.Shape.{pins_of}
 use Rattle.rig_board.proofs.OneByOne.{lengths_kept}
+use Rattle.rig_port.specs.Checks.{after}
 use Rattle.rig_port.specs.Linked.{IsLinked}
-use Rattle.rig_port.specs.Lines.{reading_line}
-use Rattle.rig_port.proofs.Alarm.{right_reply, keep_of}
+use Rattle.rig_port.specs.Lines.{reading_body, reading_line}
+use Rattle.rig_port.proofs.Alarm.{IsAsked, own_answers, right_reply, keep_of}
 use Rattle.rig_port.proofs.Held.{seam}
 use Rattle.rig_port.proofs.Room.{same_room}
 use Rattle.rig_port.proofs.Turned.{StandsTurned, turn_stands}
@@ -15,17 +16,26 @@ module _ (g : Over) (c : goal.After-link-3-1 g) where
   many : length c.args.reads.now ≡ length c.read_all.new.reads
   many = sym (length-map c.args.reads.now length) ∙ ap length (sym c.read_all.ensures.lengths) ∙ length-map c.read_all.new.reads length
 
-  stands : StandsTurned c.args.link.now.set.config c.args.drives.now c.read_all.new.reads c.args.link.now.due (g.P.Port.port_state c.args.port.now).device (g.P.Port.port_state c.ask.new.self).device
+  asked : IsAsked c.args.link.now.check c.args.link.now.set.config c.args.link.now.anew c.args.link.now.due c.args.link.now.line.items c.deref.result.now c.args.drives.now
+      c.put_request-sent.result
+  asked = record {
+    wide = c.requires.drives;
+    some = c.requires.some;
+    loads = λ due. let r = c.put_request-sent.ensures.loads due in record { line_is = c.deref.ensures.value ∙ r.line_is; check = r.check };
+    goes = λ due none. let r = c.put_request-sent.ensures.drives due none in record { line_is = c.deref.ensures.value ∙ r.line_is; check = r.check };
+  }
+
+  stands : StandsTurned (g.P.Port.port_state c.ask.new.self).check (after c.put_request-sent.result (reading_body c.read_all.new.reads)) c.args.link.now.set.config c.args.drives.now
+      c.read_all.new.reads c.args.link.now.due (g.P.Port.port_state c.args.port.now).device (g.P.Port.port_state c.ask.new.self).device
   stands =
       let whole = seam c.ask.new.reply c.args.link.now.reply.items c.args.link.now.reply.len (c.ask.ensures.length ∙ ap length c.deref_mut.ensures.value) c.args.link.now.reply.ok.0 in
-      turn_stands (g.P.Port.port_state c.args.port.now).device (g.P.Port.port_state c.ask.new.self).device c.args.link.now.set.config c.args.link.now.anew
-      c.args.link.now.running c.args.link.now.due c.args.link.now.line.items c.deref.result.now (take c.in-Ok.count c.ask.new.reply) c.args.drives.now c.read_all.new.reads
-      c.requires.linked c.requires.drives (c.requires.as_many ∙ many)
+      turn_stands (g.P.Port.port_state c.args.port.now).device (g.P.Port.port_state c.ask.new.self).device c.args.link.now.check (g.P.Port.port_state c.ask.new.self).check
+      c.put_request-sent.result c.args.link.now.set.config c.args.link.now.anew c.args.link.now.running c.args.link.now.due c.args.link.now.line.items c.deref.result.now
+      (take c.in-Ok.count c.ask.new.reply) c.args.drives.now c.read_all.new.reads c.requires.linked asked (c.requires.as_many ∙ many)
       (lengths_kept (λ l. l ≡ pins_of c.args.link.now.set.config.shape) c.args.reads.now c.read_all.new.reads c.read_all.ensures.lengths c.requires.reads)
-      (ap (λ l. take c.in-Ok.count l) (sym (c.deref-3.ensures.value ∙ whole)) ∙ c.is_right.ensures.right c.if-not-is_right.false) c.requires.running
-      (λ due. c.deref.ensures.value ∙ c.put_request.ensures.loads due)
-      (λ due none. c.deref.ensures.value ∙ c.put_request.ensures.drives due none)
-      c.in-Ok.ensures.told
+      (ap (λ l. take c.in-Ok.count l) (sym (c.deref-3.ensures.value ∙ whole)) ∙ c.in-Some.ensures.right.0) c.requires.running
+      (own_answers (g.P.Port.port_state c.args.port.now).device (g.P.Port.port_state c.ask.new.self).device (g.P.Port.port_state c.args.port.now).check c.args.link.now.check
+      (g.P.Port.port_state c.ask.new.self).check c.deref.result.now (take c.in-Ok.count c.ask.new.reply) c.requires.check c.in-Ok.ensures.told)
 
 pub returns-clause-held : goal.returns-clause-held
 returns-clause-held g c = λ _. record {
@@ -33,33 +43,41 @@ returns-clause-held g c = λ _. record {
   set = refl;
   lost = refl;
   running = c.requires.running;
+  check = λ some. (stands g c).check some ∙ sym c.in-Some.ensures.right.1;
   linked = rw c.requires.running (subst (λ l. IsLinked (g.P.Port.port_state c.ask.new.self).device c.args.link.now.set.config l false true false) (sym c.clear.ensures.items) (stands g c).linked);
   room = record {
-    line = λ _. let room = c.requires.room.line c.requires.running in omega (arith, room, c.clear.ensures.len, c.clear.ensures.capacity, c.put_request.ensures.room);
-    expected = omega (arith, c.requires.room.expected, c.is_right.ensures.room);
+    line = λ _. let room = c.requires.room.line c.requires.running in omega (arith, room, c.clear.ensures.len, c.clear.ensures.capacity, c.put_request-sent.ensures.room);
+    expected = omega (arith, c.requires.room.expected, c.read_check.ensures.room);
   };
 }
 
 pub returns-clause-turned : goal.returns-clause-turned
 returns-clause-turned g c = λ _. (stands g c).turned
 
-pub is_right-requires : goal.is_right-requires
-is_right-requires g c =
+pub read_check-requires : goal.read_check-requires
+read_check-requires g c =
     let n = pins_of c.args.link.now.set.config.shape in
     let many : length c.args.reads.now ≡ length c.read_all.new.reads
     = sym (length-map c.args.reads.now length) ∙ ap length (sym c.read_all.ensures.lengths) ∙ length-map c.read_all.new.reads length in
-    let same = same_room n c.args.drives.now c.read_all.new.reads c.requires.drives.1
+    let same = same_room n c.args.drives.now c.read_all.new.reads c.requires.drives
     (lengths_kept (λ l. l ≡ n) c.args.reads.now c.read_all.new.reads c.read_all.ensures.lengths c.requires.reads) (c.requires.as_many ∙ many) in
     omega (arith, same, c.requires.few, c.requires.room.expected)
 
-pub returns-then-not-is_right-clause-alarm : goal.returns-then-not-is_right-clause-alarm
-returns-then-not-is_right-clause-alarm g c = λ _ some.
+pub returns-in_default-read_check-clause-alarm : goal.returns-in_default-read_check-clause-alarm
+returns-in_default-read_check-clause-alarm g c = λ _ some.
     let whole = seam c.ask.new.reply c.args.link.now.reply.items c.args.link.now.reply.len (c.ask.ensures.length ∙ ap length c.deref_mut.ensures.value) c.args.link.now.reply.ok.0 in
-    let reply = right_reply (g.P.Port.port_state c.args.port.now).device (g.P.Port.port_state c.ask.new.self).device c.args.link.now.set.config c.args.link.now.anew
-    c.args.link.now.running c.args.link.now.due c.args.link.now.line.items c.deref.result.now (take c.in-Ok.count c.ask.new.reply) c.args.drives.now
-    c.requires.linked c.requires.drives c.in-Ok.ensures.told c.requires.running (λ due. c.deref.ensures.value ∙ c.put_request.ensures.loads due)
-    (λ due none. c.deref.ensures.value ∙ c.put_request.ensures.drives due none) some in
+    let reply = right_reply (g.P.Port.port_state c.args.port.now).device (g.P.Port.port_state c.ask.new.self).device c.args.link.now.check (g.P.Port.port_state c.ask.new.self).check
+    c.put_request-sent.result c.args.link.now.set.config c.args.link.now.anew c.args.link.now.running c.args.link.now.due c.args.link.now.line.items c.deref.result.now
+    (take c.in-Ok.count c.ask.new.reply) c.args.drives.now c.requires.linked
+    (record {
+      wide = c.requires.drives;
+      some = c.requires.some;
+      loads = λ due. let r = c.put_request-sent.ensures.loads due in record { line_is = c.deref.ensures.value ∙ r.line_is; check = r.check };
+      goes = λ due none. let r = c.put_request-sent.ensures.drives due none in record { line_is = c.deref.ensures.value ∙ r.line_is; check = r.check };
+    })
+    (own_answers (g.P.Port.port_state c.args.port.now).device (g.P.Port.port_state c.ask.new.self).device (g.P.Port.port_state c.args.port.now).check c.args.link.now.check
+    (g.P.Port.port_state c.ask.new.self).check c.deref.result.now (take c.in-Ok.count c.ask.new.reply) c.requires.check c.in-Ok.ensures.told) c.requires.running some in
     let keep = keep_of (pins_of c.args.link.now.set.config.shape) c.args.reads.now reply.rows c.requires.reads reply.wide (reply.many ∙ c.requires.as_many) in
-    let same = c.read_all.ensures.right reply.rows keep (ap (λ l. take c.in-Ok.count l) (c.deref-2.ensures.value ∙ whole) ∙ reply.is) in
-    absurd (c.is_right.ensures.wrong c.if-not-is_right.true
-    (ap (λ l. take c.in-Ok.count l) (c.deref-3.ensures.value ∙ whole) ∙ reply.is ∙ ap reading_line (sym same)))
+    let same = c.read_all.ensures.right c.put_request-sent.result reply.rows keep (ap (λ l. take c.in-Ok.count l) (c.deref-2.ensures.value ∙ whole) ∙ reply.is) in
+    absurd (c.in_default-read_check.ensures.wrong
+    (ap (λ l. take c.in-Ok.count l) (c.deref-3.ensures.value ∙ whole) ∙ reply.is ∙ ap (reading_line c.put_request-sent.result) (sym same)))

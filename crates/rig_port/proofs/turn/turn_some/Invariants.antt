@@ -1,9 +1,9 @@
-use Rattle.std.proofs.Common.{◌≡◌, ◌-◌, ◌≤◌, take, length}
+use Rattle.std.proofs.Common.{◌≡◌, ◌-◌, ◌<◌, ◌≤◌, false, take, length}
 use Rattle.rig.specs.Rig.{KeepLengths}
 use Rattle.rig_port.specs.Ports.{machine_told}
 use Rattle.rig_port.specs.Linked.{HasTurned}
 use Rattle.rig_port.specs.Boards.{IsKeptUp}
-use Rattle.rig_port.proofs.turn.turn_all.Given as goal
+use Rattle.rig_port.proofs.turn.turn_some.Given as goal
 
 abbrev pub invariant-turns : goal.invariant-turns
 invariant-turns g l = (machine_told (g.P.Port.port_state l.port) ≡ machine_told (g.P.Port.port_state l.initial.port))
@@ -13,6 +13,8 @@ invariant-turns g l = (machine_told (g.P.Port.port_state l.port) ≡ machine_tol
     × HasTurned (take l.at l.drives) (take l.at l.reads) l.initial.link.due l.initial.link.set.config (g.P.Port.port_state l.initial.port).device
     l.link.due (g.P.Port.port_state l.port).device
     × (l.at ≤ length l.drives)
+    × (0 < l.at → l.link.due ≡ false)
+    × (l.initial.link.due ≡ false → l.link.due ≡ false)
 
 abbrev pub decreases-turns : goal.decreases-turns
 decreases-turns g l = length l.drives - l.at

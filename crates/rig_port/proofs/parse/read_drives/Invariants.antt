@@ -1,6 +1,6 @@
 use Rattle.std.proofs.Common.{◌≡◌, ◌-◌, ◌<◌, ◌≤◌, length, All}
 use Rattle.machine_shape.specs.Shape.{pins_of}
-use Rattle.rig_port.proofs.rig_port.read_drives.Given as goal
+use Rattle.rig_port.proofs.parse.read_drives.Given as goal
 
 abbrev pub invariant-words : goal.invariant-words
 invariant-words l = (0 < length l.drives.items) × All (λ row. length row ≡ pins_of l.shape) l.drives.items

@@ -1,7 +1,7 @@
 use Rattle.std.proofs.Common.{◌≡◌, take}
 use Rattle.std.specs.List.{sum_by}
 use Rattle.rig_port.specs.Lines.{word_room}
-use Rattle.rig_port.proofs.rig_port.room_of.Given as goal
+use Rattle.rig_port.proofs.respell.room_of.Given as goal
 
 abbrev pub invariant-rows : goal.invariant-rows
 invariant-rows l = l.total ≡ sum_by word_room (take l.k l.rows)

@@ -1,4 +1,5 @@
 use Rattle.std.proofs.Common.{ℕ, ◌+◌, ◌*◌, ◌≡◌, ◌∙◌, ◌-◌, ◌≤◌, All, take, drop, length, refl, sym, ap, subst, arith}
+use Rattle.std.proofs.lemmas.List.{length-take, length-drop}
 use Rattle.std.proofs.lemmas.List.Elements.{All-take, All-drop}
 use Rattle.machine_shape.specs.Shape.{pins_of}
 use Rattle.machine_meaning.specs.Circuit.{Pins}
@@ -10,7 +11,7 @@ use Rattle.machine_config.specs.Configuration.{Configuration}
 use Rattle.rig_port.specs.Lines.{word_room, turn_room}
 use Rattle.rig_port.proofs.Alarm.{still_told, rose_later}
 use Rattle.rig_port.proofs.Room.{few_enough, piece_few}
-use Rattle.rig_port.proofs.turn.turn_all.Goals as goal
+use Rattle.rig_port.proofs.turn.turn_some.Goals as goal
 
 pub turn-requires-clause-few : goal.turn-requires-clause-few
 turn-requires-clause-few g c =
@@ -20,10 +21,10 @@ turn-requires-clause-few g c =
     let piece = take k (drop c.turns.at c.args.drives.now) in
     let rows = All-take (λ (row : Pins). length row ≡ n) k (drop c.turns.at c.args.drives.now) (All-drop (λ (row : Pins). length row ≡ n) c.turns.at c.args.drives.now c.requires.drives) in
     let pins : c.pins.result ≡ n = c.pins.ensures.pins ∙ ap pins_of c.shape-shape.ensures.shape in
-    let fits = subst (λ p. c.most_drives-most.result * (2 * div_ceil p 8 + 2) + 6 ≤ turn_room p) pins c.most_drives-most.ensures.few in
+    let fits = subst (λ p. c.most_drives-most.result * (2 * div_ceil p 8 + 2) + 8 ≤ turn_room p) pins c.most_drives-most.ensures.few in
     let short = piece_few c.args.drives.now c.turns.at k in
     let few = few_enough n c.most_drives-most.result piece rows (omega (arith, short, c.min-end.ensures, c.saturating_add.ensures)) fits in
-    subst (λ (s : Configuration). sum_by word_room piece + 6 ≤ turn_room (pins_of s.shape)) (sym c.turns.invariant.3.set) few
+    subst (λ (s : Configuration). sum_by word_room piece + 8 ≤ turn_room (pins_of s.shape)) (sym c.turns.invariant.3.set) few
 
 pub returns-then-not-turn-clause-alarm : goal.returns-then-not-turn-clause-alarm
 returns-then-not-turn-clause-alarm g c = λ _ some.
@@ -36,10 +37,12 @@ turns-init g c = (
   refl,
   omega arith,
   refl,
-  record { is_open = c.requires.open; set = refl; lost = refl; running = c.requires.running; linked = c.requires.linked; room = c.requires.room },
+  record { is_open = c.requires.open; set = refl; lost = refl; running = c.requires.running; check = c.requires.check; linked = c.requires.linked; room = c.requires.room },
   not_turned c.args.link.now.set.config c.args.link.now.line.items c.args.link.now.anew c.args.link.now.running c.args.link.now.due
       (g.P.Port.port_state c.args.port.now).device c.requires.linked c.requires.running,
   omega arith,
+  λ some. absurd (omega (arith, some)),
+  λ idle. idle,
 )
 
 pub turn-requires-clause-reads : goal.turn-requires-clause-reads
@@ -67,6 +70,7 @@ turns-preserved g c =
         set = held.set ∙ c.turns.invariant.3.set;
         lost = held.lost ∙ c.turns.invariant.3.lost;
         running = held.running;
+        check = held.check;
         linked = held.linked;
         room = held.room;
       },
@@ -75,4 +79,12 @@ turns-preserved g c =
           (g.P.Port.port_state c.turn.new.port).device c.turns.invariant.3.set le (omega (arith, within, c.requires.as_many, c.turns.auto.reads))
           c.turn.ensures.lengths c.turns.invariant.4 (c.turn.ensures.turned c.if-not-turn.false),
       within,
+      λ _. c.turn.ensures.sent c.if-not-turn.false,
+      λ _. c.turn.ensures.sent c.if-not-turn.false,
     )
+
+pub turn-requires-clause-some : goal.turn-requires-clause-some
+turn-requires-clause-some g c = λ _.
+    let long = length-take (c.min-end.result - c.turns.at) (drop c.turns.at c.args.drives.now) in
+    let rest = length-drop c.turns.at c.args.drives.now in
+    omega (arith, long, rest, c.turns-test.true, c.min-end.ensures, c.saturating_add.ensures, c.most_drives-most.ensures.some)

@@ -1,7 +1,7 @@
 use Rattle.std.proofs.Common.{All}
 use Rattle.rig_port.specs.Requests.{IsEditOf}
 use Rattle.rig_port.specs.RigPorts.{edit_of}
-use Rattle.rig_port.proofs.rig_port.read_changes.Given as goal
+use Rattle.rig_port.proofs.parse.read_changes.Given as goal
 
 abbrev pub invariant-words : goal.invariant-words
 invariant-words l = All (λ c. IsEditOf l.shape (edit_of c)) l.changes.items

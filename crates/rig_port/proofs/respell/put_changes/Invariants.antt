@@ -1,7 +1,7 @@
 use Rattle.std.proofs.Common.{◌≡◌, ◌++◌, take}
 use Rattle.rig_port.specs.Requests.{edits_text}
 use Rattle.rig_port.specs.RigPorts.{edits_of}
-use Rattle.rig_port.proofs.rig_port.put_changes.Given as goal
+use Rattle.rig_port.proofs.respell.put_changes.Given as goal
 
 abbrev pub invariant-changes : goal.invariant-changes
 invariant-changes l = l.line.items ≡ l.initial.line.items ++ edits_text (edits_of (take l.k l.changes))

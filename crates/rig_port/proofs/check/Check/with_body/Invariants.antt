@@ -1,0 +1,6 @@
+use Rattle.std.proofs.Common.{◌≡◌, take}
+use Rattle.rig_port.specs.Checks.{after}
+use Rattle.rig_port.proofs.check.Check.with_body.Given as goal
+
+abbrev pub invariant-bytes : goal.invariant-bytes
+invariant-bytes l = l.check ≡ after l.fn.self (take l.k l.body)
