@@ -1,5 +1,5 @@
 //! Facts about one rig's faults.
-ghost use Rattle.std.specs.Prelude.{◌≡◌, ◌≢◌, ◌<◌, ◌||◌, ℕ, All, IfOk, length, true, false, [], ◌∷◌};
+ghost use Rattle.std.specs.Prelude.{◌≡◌, ◌≢◌, ◌<◌, ◌||◌, ℕ, All, IfOk, length, replicate, true, false, [], ◌∷◌, ◌*◌, ◌≤◌};
 ghost use Rattle.base_bits.specs.Numbers.{has_number};
 ghost use Rattle.base_bits.specs.Pairs.{has_pair};
 ghost use Rattle.machine_shape.specs.Shape.{crosses_of, pins_of, wires_of, tables_of};
@@ -57,24 +57,87 @@ impl Model for Facts {
         × (length p.others ≡ wires_of p.shape) × (length p.parted ≡ pins_of p.shape) };
 }
 
+// Marks of crosspoints, of wires, and of pairs of wires.
+#[derive(Drop)]
+struct WireMarks {
+    crosses: BitSet,
+    wires: BitSet,
+    pairs: PairSet,
+}
+
+// No marks of a machine's crosspoints and wires.
+fn no_wire_marks(alloc: Global, shape: Shape) -> Result<WireMarks, AllocError>
+    ensures crosses { IfOk result (λ m. m.crosses ≡ replicate (crosses_of shape) false) }
+    ensures wires { IfOk result (λ m. m.wires ≡ replicate (wires_of shape) false) }
+    ensures size { IfOk result (λ m. m.pairs.n ≡ wires_of shape) }
+    ensures pairs { IfOk result (λ m. (a b : ℕ) → has_pair m.pairs a b ≡ false) }
+{
+    let crosses = BitSet::new(alloc, shape.crosses())?;
+    let wires = BitSet::new(alloc, shape.wires())?;
+    let pairs = PairSet::new(alloc, shape.wires())?;
+    Ok(WireMarks {
+        crosses,
+        wires,
+        pairs,
+    })
+}
+
+// Marks of cells and of registers.
+#[derive(Drop)]
+struct TableMarks {
+    cells: BitSet,
+    registers: BitSet,
+}
+
+// No marks of a machine's tables.
+fn no_table_marks(alloc: Global, shape: Shape) -> Result<TableMarks, AllocError>
+    ensures cells { IfOk result (λ m. m.cells ≡ replicate (64 * tables_of shape) false) }
+    ensures registers { IfOk result (λ m. m.registers ≡ replicate (tables_of shape) false) }
+    ensures few { tables_of shape ≤ 4096 }
+{
+    let cells = BitSet::new(alloc, 64 * shape.tables())?;
+    let registers = BitSet::new(alloc, shape.tables())?;
+    Ok(TableMarks { cells, registers })
+}
+
+// The wires, and the pins, that were last told apart from one.
+#[derive(Drop)]
+struct Told {
+    others: BitSet,
+    parted: BitSet,
+}
+
+// None of a machine's wires and pins.
+fn none_told(alloc: Global, shape: Shape) -> Result<Told, AllocError>
+    ensures others { IfOk result (λ t. length t.others ≡ wires_of shape) }
+    ensures parted { IfOk result (λ t. length t.parted ≡ pins_of shape) }
+{
+    let others = BitSet::new(alloc, shape.wires())?;
+    let parted = BitSet::new(alloc, shape.pins())?;
+    Ok(Told { others, parted })
+}
+
 impl Facts {
     /// Keeps nothing.
     pub fn new(alloc: Global, shape: Shape) -> Result<Facts, AllocError>
         ensures shape { IfOk result (λ p. p.shape ≡ shape) }
         ensures nothing { IfOk result KeepsNothing }
     {
+        let on_wires = no_wire_marks(alloc, shape)?;
+        let on_tables = no_table_marks(alloc, shape)?;
+        let told = none_told(alloc, shape)?;
         Ok(Facts {
             alloc,
             shape,
             done: None,
             pins: Pins::new(alloc, shape.pins()),
-            crosses: BitSet::new(alloc, shape.crosses())?,
-            wires: BitSet::new(alloc, shape.wires())?,
-            pairs: PairSet::new(alloc, shape.wires())?,
-            cells: BitSet::new(alloc, 64 * shape.tables())?,
-            registers: BitSet::new(alloc, shape.tables())?,
-            others: BitSet::new(alloc, shape.wires())?,
-            parted: BitSet::new(alloc, shape.pins())?,
+            crosses: on_wires.crosses,
+            wires: on_wires.wires,
+            pairs: on_wires.pairs,
+            cells: on_tables.cells,
+            registers: on_tables.registers,
+            others: told.others,
+            parted: told.parted,
         })
     }
 
