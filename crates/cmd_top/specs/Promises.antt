@@ -10,6 +10,7 @@ use Rattle.cmd_bench.specs.Promises.{BenchPromises}
 use Rattle.cmd_check.specs.Promises.{CheckPromises}
 use Rattle.cmd_repair.specs.Promises.{RepairPromises}
 use Rattle.cmd_pair.specs.Promises.{PairPromises}
+use Rattle.cmd_twice.specs.Promises.{TwicePromises}
 use Rattle.cmd_top.specs.Words.{asked_by}
 
 -- Of these words, to this status: what was asked, what was written, what stays, and the cause of the status; and what each command
@@ -25,3 +26,4 @@ pub record Promises (words : List (List ℕ)) (status : ℕ) (old new : Outside)
   pub of_check : CheckPromises words status old new
   pub of_repair : RepairPromises words status old new
   pub of_pair : PairPromises words status old new
+  pub of_twice : TwicePromises words status old new

@@ -10,6 +10,7 @@ use Rattle.cmd_bench.proofs.Promising.{bench-promises}
 use Rattle.cmd_check.proofs.Promising.{check-promises}
 use Rattle.cmd_repair.proofs.Promising.{repair-promises}
 use Rattle.cmd_pair.proofs.Promising.{pair-promises}
+use Rattle.cmd_twice.proofs.Promising.{twice-promises}
 use Rattle.cmd_bench.specs.Bench.{bench_job}
 use Rattle.cmd_top.specs.Words.{of_number}
 use Rattle.cmd_top.proofs.WordLemmas.{some_number}
@@ -43,4 +44,5 @@ returns-clause-promises g c =
       of_check = check-promises words _ old new (λ machine name image is. ended-as words old new e is refl);
       of_repair = repair-promises words _ old new (λ machine defects image is. ended-as words old new e is refl);
       of_pair = pair-promises words _ old new (λ machine name first second vectors is. ended-as words old new e is refl);
+      of_twice = twice-promises words _ old new (λ machine name design vectors is. ended-as words old new e is refl);
     }
