@@ -50,6 +50,15 @@ fn try_repeat(rt: &HostRuntime, turned: &str, words: &[String]) -> io::Result<bo
     tell(rt, teramac(alloc, words, &mut store, &mut rig, &mut sink))
 }
 
+// Over a rig that turns the reading of a number.
+fn try_turn(rt: &HostRuntime, turned: &str, words: &[String]) -> io::Result<bool> {
+    let alloc: Global = rt.alloc();
+    let mut rig: Box<dyn Rig> = Box::new(alloc, TurnRig::new(sim_of(rt)?, number_of(turned)))?;
+    let mut store = FileStore::new(alloc, rt.clone()?);
+    let mut sink = StdSink::new(rt.clone()?);
+    tell(rt, teramac(alloc, words, &mut store, &mut rig, &mut sink))
+}
+
 // Over a rig that asks again. False where its inner rig wasn't loaded so often for each load but the last, and once for that.
 fn try_passes(rt: &HostRuntime, times: &str, words: &[String]) -> io::Result<bool> {
     let alloc: Global = rt.alloc();
@@ -130,6 +139,11 @@ fn try_line(rt: &HostRuntime, line: &str) -> io::Result<bool> {
     println!(rt; "{line}")?;
     match words.as_slice() {
         [kind, turned, words @ ..] if kind.as_str() == "repeat" => try_repeat(
+            rt,
+            turned.as_str(),
+            words,
+        ),
+        [kind, turned, words @ ..] if kind.as_str() == "turn" => try_turn(
             rt,
             turned.as_str(),
             words,
