@@ -4,6 +4,7 @@
 //! A text has a case in each line; its head says how they are written. Each is printed, with what the command wrote and its status.
 
 mod faults;
+mod late_board;
 mod lost;
 mod memory_board;
 mod steps;
@@ -12,6 +13,7 @@ mod talk;
 mod telling_rig;
 
 use crate::rigs::faults::sim_of;
+use crate::rigs::late_board::LateBoard;
 use crate::rigs::lost::load_twice;
 use crate::rigs::steps::{try_answers, try_asks, try_board};
 use crate::rigs::telling_rig::TellingRig;
@@ -86,6 +88,17 @@ fn try_twin(rt: &HostRuntime, name: &str, words: &[String]) -> io::Result<bool> 
     tell(rt, teramac(alloc, words, &mut store, &mut rig, &mut sink))
 }
 
+// Over a machine that is another, of this name, from a load on.
+fn try_late(rt: &HostRuntime, from: &str, name: &str, words: &[String]) -> io::Result<bool> {
+    let alloc: Global = rt.alloc();
+    let late = String::from_str(alloc, name)?;
+    let board = LateBoard::new(alloc, sim_of(rt)?, number_of(from), late);
+    let mut rig: Box<dyn Rig> = Box::new(alloc, BoardRig::new(alloc, board))?;
+    let mut store = FileStore::new(alloc, rt.clone()?);
+    let mut sink = StdSink::new(rt.clone()?);
+    tell(rt, teramac(alloc, words, &mut store, &mut rig, &mut sink))
+}
+
 // Over a machine behind files.
 fn try_port(rt: &HostRuntime, words: &[String]) -> io::Result<bool> {
     let alloc: Global = rt.alloc();
@@ -141,6 +154,12 @@ fn try_line(rt: &HostRuntime, line: &str) -> io::Result<bool> {
         [kind, turned, words @ ..] if kind.as_str() == "repeat" => try_repeat(
             rt,
             turned.as_str(),
+            words,
+        ),
+        [kind, from, name, words @ ..] if kind.as_str() == "late" => try_late(
+            rt,
+            from.as_str(),
+            name.as_str(),
             words,
         ),
         [kind, turned, words @ ..] if kind.as_str() == "turn" => try_turn(
