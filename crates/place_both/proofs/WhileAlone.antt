@@ -7,7 +7,7 @@ use Rattle.machine_meaning.specs.Vocabulary.{Pins}
 use Rattle.machine_config.specs.Vocabulary.{IsConfiguration}
 use Rattle.machine_defects.specs.Lists.{DefectList}
 use Rattle.machine_image.specs.Images.{ImageValue, drive_of, image_row, row_at}
-use Rattle.machine_history.specs.Vocabulary.{History, IsRunOver, LeavesAloneFor}
+use Rattle.machine_history.specs.Vocabulary.{History, IsRunOver}
 use Rattle.machine_history.proofs.RowsOver.{clean, clean_faultless, clean_run}
 use Rattle.design_netlist.specs.declared.netlist_data.NetlistData.{NetlistData}
 use Rattle.design_netlist.specs.Rows.{AreRows}
