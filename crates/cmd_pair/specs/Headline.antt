@@ -7,7 +7,7 @@ use Rattle.machine_defects.specs.Vocabulary.{DefectList, IsDefectList, text_of}
 use Rattle.design_netlist.specs.declared.netlist_data.NetlistData.{NetlistData}
 use Rattle.machine_image.specs.Images.{ImageValue}
 use Rattle.machine_history.specs.Vocabulary.{History, IsHistoryOf, IsRunOver}
-use Rattle.rig.specs.Rig.{RigState, cycles_of, drives_of, readings_of}
+use Rattle.rig.specs.Rig.{cycles_of, drives_of, readings_of}
 use Rattle.place_route.specs.Vocabulary.{IsRightImage, ReadsRows, IsRoutedInOrder}
 use Rattle.place_pair.specs.Tenants.{AreTenants, StandApart}
 use Rattle.cmd_steps.specs.Vocabulary.{Outside, IsMachineText, IsDesignText}

@@ -7,8 +7,8 @@ use Rattle.machine_meaning.specs.Vocabulary.{Covers, Faults}
 use Rattle.machine_defects.specs.Text.{text_of}
 use Rattle.design_netlist.specs.declared.netlist_data.NetlistData.{NetlistData}
 use Rattle.design_vectors.specs.Rows.{row_line}
-use Rattle.machine_image.specs.Images.{ImageValue, image_row}
-use Rattle.rig.specs.Rig.{Asked, Explains, cycles_of, readings_of}
+use Rattle.machine_image.specs.Images.{ImageValue}
+use Rattle.rig.specs.Rig.{Asked, Explains}
 use Rattle.cmd_steps.specs.Vocabulary.{AreFirst, outputs_line, output_text, Outside, around, Next, RowWork, all_rows, HasReadRows, ends, refuses, writes, opens, attaches, reads_machine, reads_design, refusal_text}
 use Rattle.cmd_steps.specs.declared.design_file.DesignFile.TheVariants.{Design}
 use Rattle.cmd_steps.specs.declared.refusal.Refusal.{Refusal}
@@ -22,7 +22,7 @@ use Rattle.run_image.specs.Laid.{rows_work}
 use Rattle.run_image.specs.declared.copies.Copies.TheVariants.{Two}
 use Rattle.run_image.proofs.Copied.{repeated-count}
 use Rattle.cmd_twice.specs.Twice.{IsImageForTwice, lays_twice, twice_laid, twice_course}
-use Rattle.cmd_twice.specs.Headline.{AreReadByBoth, AreOfFiles, StandsTwice, nothing, no_rows, some_rows, ReadDifferently}
+use Rattle.cmd_twice.specs.Headline.{AreReadByBoth, StandsTwice, nothing, no_rows, some_rows, ReadDifferently}
 use Rattle.cmd_twice.proofs.Reading.{read-by-both, never-alarmed, first-taken, more-taken, all-taken}
 
 -- ---- the rows so far

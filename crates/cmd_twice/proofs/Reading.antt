@@ -1,7 +1,7 @@
 -- What two copies have read, and what that shows of the design's rows.
-use Rattle.std.proofs.Common.{◌≡◌, ◌⊎◌, ◌+◌, ◌≤◌, ◌∙◌, ℕ, Bool, List, [], ◌∷◌, ◌++◌, map, length, take, drop, refl, sym, ap, subst, inl, inr, arith, take_all, Some}
+use Rattle.std.proofs.Common.{◌≡◌, ◌+◌, ◌∙◌, ℕ, Bool, List, ◌∷◌, ◌++◌, map, length, take, drop, refl, sym, ap, subst, inl, inr, arith, take_all, Some}
 use Rattle.std.specs.List.{All}
-use Rattle.std.proofs.lemmas.List.{take_at, take-map, map-append, length-map, append_assoc}
+use Rattle.std.proofs.lemmas.List.{take_at, take-map, map-append, length-map}
 use Rattle.std.proofs.lemmas.List.Elements.{recursion_from_All, All-from_recursion, All-take}
 use Rattle.machine_meaning.specs.Vocabulary.{Covers, Faults, Pins}
 use Rattle.machine_meaning.proofs.Faultless.{covers_none}

@@ -1,5 +1,5 @@
 -- The rows of what is left alone are those of a machine without faults.
-use Rattle.std.proofs.Common.{◌≡◌, ℕ, Bool, None, Option, List, length, map, take, sym, ◌∙◌, subst, refl, IsSome}
+use Rattle.std.proofs.Common.{◌≡◌, ℕ, Bool, Some, None, Option, List, length, map, take, sym, ap, ◌∙◌, subst, refl, IsSome}
 use Rattle.std.specs.List.{All}
 use Rattle.std.specs.Ordering.{nat_cmp}
 use Rattle.std.specs.FinMap as finmap

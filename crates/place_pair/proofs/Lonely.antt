@@ -1,10 +1,11 @@
 -- A tenant that is left alone reads for its part of the vectors what it reads by itself.
 use Rattle.std.proofs.Common.{◌≡◌, ℕ, ◌+◌, ◌<◌, ◌≤◌, Bool, true, false, List, [], ◌∷◌, ◌++◌, length, get_or, map, take, refl, sym, ap, ◌∙◌, subst, arith}
-use Rattle.std.specs.List.{Contains, range_with_len}
+use Rattle.std.specs.List.{All, Contains, range_with_len}
 use Rattle.std.proofs.lemmas.List.{get_or_append_left, get_or_default, ext_get_or, length-append, take_at, drop_at, take_all}
 use Rattle.std.proofs.lemmas.List.Elements.{All-map, Contains-append_left, Contains-append_right}
 use Rattle.std.proofs.lemmas.List.FromFn.{length-map-range_with_len}
 use Rattle.machine_shape.specs.Shape.{pins_of}
+use Rattle.machine_meaning.specs.Vocabulary.{Faults, IsFaultless, Pins}
 use Rattle.machine_config.specs.Vocabulary.{IsRun}
 use Rattle.machine_image.specs.Vocabulary.{ImageValue, IsImage, bit_for, row_at, drive_of}
 use Rattle.machine_image.proofs.Driven.{drive_pin, drive_low}

@@ -1,5 +1,5 @@
 -- Each of two tenants is a tenant of the whole.
-use Rattle.std.proofs.Common.{◌≡◌, ◌⊎◌, ℕ, ◌<◌, ◌++◌, true, Some, None, Option, refl, sym, ap, subst, inl, inr, IsSome}
+use Rattle.std.proofs.Common.{◌≡◌, ◌⊎◌, ◌↔◌, ℕ, ◌<◌, ◌++◌, true, Some, None, Option, List, refl, sym, ap, ◌∙◌, subst, inl, inr, arith, IsSome}
 use Rattle.std.specs.List.{Contains}
 use Rattle.std.proofs.lemmas.Bool.{false≢true}
 use Rattle.std.proofs.lemmas.List.Elements.{Contains-append_cases, Contains-append_left, Contains-append_right}

@@ -1,7 +1,7 @@
 -- Bits that are repeated for each copy, and the halves of what two copies read.
-use Rattle.std.proofs.Common.{◌≡◌, ◌+◌, ◌/◌, ◌++◌, ◌↔◌, ◌∙◌, ℕ, Bool, true, false, IsTrue, List, [], ◌∷◌, map, length, take, drop, refl, sym, ap, arith, length-append}
+use Rattle.std.proofs.Common.{◌≡◌, ◌+◌, ◌++◌, ◌↔◌, ◌∙◌, ℕ, Bool, true, false, IsTrue, List, [], ◌∷◌, map, length, take, drop, refl, sym, ap, arith, length-append}
 use Rattle.std.proofs.lemmas.List.{map-append, length-map, take-append-drop, length-take-le, length-drop}
-use Rattle.run_image.specs.Copying.{share, times, repeated, all_repeated, HalvesDiffer, AreShared}
+use Rattle.run_image.specs.Copying.{share, times, repeated, all_repeated, AreShared}
 use Rattle.run_image.specs.declared.copies.Copies.{Copies}
 use Rattle.run_image.specs.declared.copies.Copies.TheVariants.{One, Two}
 

@@ -8,7 +8,7 @@ use Rattle.machine_image.specs.Images.{ImageValue, drive_of, image_row}
 use Rattle.rig.specs.Rig.{RigState, config_of, cycles_of, drives_of, readings_of, spare_of}
 use Rattle.cmd_steps.specs.Vocabulary.{AreFirst, outputs_line, Around, StandsIn, Course, Step, RowWork, after, write, all_rows, opens, FailsOnRig}
 use Rattle.cmd_steps.specs.Vocabulary.{LoadsOnce}
-use Rattle.run_image.specs.Copying.{share, repeated, all_repeated, HalvesDiffer}
+use Rattle.run_image.specs.Copying.{share, all_repeated, HalvesDiffer}
 use Rattle.run_image.specs.declared.copies.Copies.{Copies}
 use Rattle.run_image.specs.declared.copies.Copies.TheVariants.{One, Two}
 
