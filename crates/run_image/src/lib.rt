@@ -21,10 +21,12 @@
 //! differently nothing is written of that reading, and the command is refused.
 #![tactic(auto)]
 
+mod copies;
 mod image;
 mod laid;
 mod run;
 
+pub use copies::Copies;
 pub use image::run_image;
 pub use laid::{Lays, list_and_run};
 pub use run::{Run, begin};

@@ -122,7 +122,7 @@ returns-clause-gives g c =
     let next = rw c.if-not-branch.false at c.in_ok-next_vector.ensures.gives in
     record {
       next = rw (w.vectors, w.vector, w.kept.0, w.kept.1, e.vectors, e.vector, e.kept.0, e.kept.1) next;
-      row = rw (w.vector, e.vector) (alike _ _ _ _ _ _ _ _ e.copies w.row e.row);
+      row = rw (w.vector, e.vector) (alike _ _ c.args.rows.now.image _ _ _ _ _ e.copies w.row e.row);
     }
 
 pub returns-clause-refused : goal.returns-clause-refused
