@@ -6,7 +6,8 @@ use Rattle.machine_meaning.specs.Vocabulary.{Pins, Faults}
 use Rattle.machine_config.specs.Faulty.{IsRun}
 use Rattle.machine_image.specs.Images.{ImageValue, drive_of, image_row}
 use Rattle.rig.specs.Rig.{RigState, config_of, cycles_of, drives_of, readings_of, spare_of}
-use Rattle.cmd_steps.specs.Vocabulary.{AreFirst, outputs_line, Around, StandsIn, Course, Step, RowWork, after, write, all_rows, opens, FailsOnRig}
+use Rattle.cmd_steps.specs.Vocabulary.{AreFirst, outputs_line, Around, StandsIn, Course, Step}
+use Rattle.cmd_steps.specs.Vocabulary.{RowWork, after, write, all_rows, opens, FailsOnRig}
 use Rattle.cmd_steps.specs.Vocabulary.{LoadsOnce}
 use Rattle.run_image.specs.Copying.{share, all_repeated, HalvesDiffer}
 use Rattle.run_image.specs.declared.copies.Copies.{Copies}
