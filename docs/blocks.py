@@ -22,8 +22,8 @@ CASES = TOP / "crates" / "example_cases"
 DOCUMENTS = {"readme": "README.md", "using": "docs/USING.md", "formats": "docs/FORMATS.md", "port": "docs/PORT.md"}
 CALLS = {"teramac": "words", "teramac_map": "maps", "teramac_port": "ports"}
 # The commands whose second word names a rig.
-OF_RIGS = ("run", "diagnose", "go", "check", "pair")
-STATUS = {"words": 2, "noroom": 3, "rig": 4, "store": 5, "memory": 6}
+OF_RIGS = ("run", "diagnose", "go", "check", "pair", "twice")
+STATUS = {"words": 2, "noroom": 3, "rig": 4, "store": 5, "memory": 6, "differ": 7}
 # The texts of machines behind ports: no faults.
 PORTS = ("/dev/ttyUSB1", "to,from")
 

@@ -131,6 +131,11 @@ def explain(line, words, written=b""):
             return noroom(call, found[2:])
         case ["refused", "memory"]:
             return "memory was wanting: close what else runs, or take a smaller machine"
+        case ["refused", "differ"]:
+            return (
+                "the two copies of the design read differently, so the machine has changed since it was diagnosed: give the command again,"
+                " and it lays them around what is broken now; the rows above are right if one copy was sound up to there"
+            )
         case ["refused", file, number, kind, *names] if number.isdigit():
             return text_wrong(call, file, int(number), kind, names) or f"docs/FORMATS.md says what `{kind}` of {file} is"
         case ["doubt", ("wire" | "cross" | "table") as kind, *names] if len(names) == ENTRIES[kind]:

@@ -10,7 +10,7 @@ import teramac_texts as texts
 COMMANDS = {
     "eval": "design vectors", "compile": "machine defects design", "diagnose": "machine rig", "run": "machine rig image vectors",
     "go": "machine rig design vectors", "bench": "number", "check": "machine rig image", "repair": "machine defects image",
-    "pair": "machine rig first second vectors",
+    "pair": "machine rig first second vectors", "twice": "machine rig design vectors",
 }  # fmt: skip
 PROGRAMS = ("teramac", "teramac_map", "teramac_port")
 ENDINGS = {".machine": "machine", ".faults": "rig", ".defects": "defects", ".image": "image", ".blif": "design", ".vec": "vectors"}
@@ -50,6 +50,11 @@ class Call:
     def designs(self):
         """The designs of the command, in their order."""
         return [texts.read_design(self.data(role)) for role in ("design", "first", "second") if role in self.roles]
+
+    @property
+    def laid(self):
+        """The designs that it lays side by side: `twice` its one design, twice."""
+        return self.designs * (2 if self.command == "twice" else 1)
 
     @cached_property
     def defects(self):

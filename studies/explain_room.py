@@ -142,7 +142,7 @@ def spare_that_does(call):
     """Which lines of the machine file would do, for a design that has tables and pins enough; or ''."""
     if not call.defects:
         return ""
-    counts = Plan(call.machine, call.defects, joined(call.designs)[0]).counts_that_do()
+    counts = Plan(call.machine, call.defects, joined(call.laid)[0]).counts_that_do()
     pairs = zip(call.machine.text.split("\n"), texts.Machine(counts).text.split("\n")) if texts.are_within_limits(counts) else []
     changed = " and ".join(f"`{new}`" for old, new in pairs if new != old)
     return f". With {changed} in the machine, and nothing more on the list, the plan in order fits" if changed else ""
@@ -187,7 +187,7 @@ def plan_room(call, resource, node, need, have, nets):
     """Which resource the plan in order is short of, and what would do."""
     where, whole = "the machine" if node == "r" else f"node {node}", counted(have, resource.removesuffix("s"))
     said = f"{where} has {whole} that {'serves' if have == 1 else 'serve'}"
-    known = call.designs
+    known = call.laid
     inputs, outputs = (sum(len(design[part]) for design in known) for part in (0, 1))
     match resource:
         case "pins":

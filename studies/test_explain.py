@@ -52,7 +52,7 @@ class Explained(unittest.TestCase):
 
     def test_words_and_files(self):
         self.says("refused words", "`eval` takes 2 words (DESIGN VECTORS), and 1 was given", "eval", "and.blif")
-        commands = "eval, compile, diagnose, run, go, bench, check, repair, pair"
+        commands = "eval, compile, diagnose, run, go, bench, check, repair, pair, twice"
         self.says("refused words", f"`diagnos` is no command; commands are {commands}; did you mean `diagnose`?", "diagnos", TINY, "@1")
         self.says("refused words", "`007` is no number from 0 to 4,294,967,295 without leading zeros", "bench", "007")
         self.says("refused store", "the vectors file none.vec isn't there", "eval", "and.blif", "none.vec")
@@ -327,6 +327,14 @@ class Explained(unittest.TestCase):
         does = "With `lines 6 24 24 24` in the machine, and nothing more on the list, the plan in order fits"
         helps = "teramac_map may find a text that fits, of each design by itself"
         self.says("refused noroom lines r 3 2 0 1 2", f"{said}. {does}; {helps}", "pair", one, b"", AND, AND, "both.vec")
+
+    def test_copies(self):
+        """Two copies of a design have the nets of a pair of it and itself; what differs at a row is said in words alone."""
+        one = SMALL.replace(b"lines 24", b"lines 2")
+        said = "the machine has 2 lines that serve any of 3 nets that the plan in order leads there: first:a first:b second:a"
+        does = "With `lines 6 24 24 24` in the machine, and nothing more on the list, the plan in order fits"
+        self.says("refused noroom lines r 3 2 0 1 2", f"{said}. {does}; teramac_map may find a text that fits", "twice", one, b"", AND, "and.vec")
+        self.assertIn("read differently, so the machine has changed", explain("refused differ", ["twice", "m", "r", "d", "v"]))
 
     def test_repairs(self):
         anew = "What stays keeps its place in a repair, so compile the design anew on this list: it may still have room"

@@ -21,7 +21,7 @@ module _ (design vectors : List ℕ) (old new : Around) where
     eval-well : IsWell old new (eval_course design vectors old.store new.store)
     eval-well =
         well-after old new _ _ _ (λ refusal stops. design-excused old new Design right.file.bytes right.draft right.file.says right.file.within refusal (rw right.file.is_told at stops))
-        (λ draft gives. record { well = λ text next at. opened-well (eval_rows draft (old.store.contents vectors) new.store.current) _ vectors (design ∷ []) old.store new.store _ old new right.said.bytes right.said.is_told (same-fault draft gives) text next tt at })
+        (λ draft gives. record { well = λ text next at. opened-well (eval_rows draft (old.store.contents vectors) new.store.current) _ vectors (design ∷ []) old.store new.store _ old new right.said.bytes right.said.is_told (same-fault draft gives) (λ vs rows h. h) text next tt at })
 
   -- no row wants memory
   eval-few : (text : List ℕ) → (more : List ℕ) × (text ≡ outputs_line ++ more) → eval_course design vectors old.store new.store text (refuses Memory) → ⊥

@@ -16,6 +16,7 @@ eval_rows draft told place = record {
   place = place;
   are = λ vectors rows. AreRows draft vectors rows;
   session = λ vectors rows. Unit {0};
+  differs = λ vectors rows. ⊥;
   lost = ⊥;
   lacks = λ count. ⊥;
 }

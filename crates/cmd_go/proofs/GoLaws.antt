@@ -1,5 +1,5 @@
 -- What the command `go` does with its words, and what it comes to.
-use Rattle.std.proofs.Common.{◌⊎◌, ◌∙◌, ◌≡◌, ℕ, List, sym, subst, inl, inr}
+use Rattle.std.proofs.Common.{◌⊎◌, ◌∙◌, ◌≡◌, ℕ, List, refl, sym, subst, inl, inr}
 use Rattle.machine_shape.specs.declared.Shape.{Shape}
 use Rattle.machine_meaning.specs.Vocabulary.{Faults, Defects, IsTight}
 use Rattle.machine_defects.specs.Text.{text_of}
@@ -35,7 +35,7 @@ module _ (machine name design vectors : List ℕ) where
     name = name;
     vectors = vectors;
     script = reads Design design (λ draft. runs (design_laid draft) (λ d i is.
-        record { image = is.0.image; shape = is.0.shape; inputs = is.0.inputs; free = is.0.free; right = is.0.right }));
+        record { image = is.0.image; shape = is.0.shape; shares = record { inputs = refl; outputs = refl }; inputs = is.0.inputs; free = is.0.free; right = is.0.right }));
   }
 
   module _ (old new : Around) where
@@ -84,6 +84,7 @@ module _ (machine name design vectors : List ℕ) where
             let t = r.texts in
             right-files t (Fits words old new front) (record {
               vectors = t.vectors;
+              alike = λ l list same i laid vectors rows never. never;
               room = λ l list same refusal stops.
                   let room = has-room front t.shape t.draft t.design.says.checked r.room l list same in
                   lay-excused l.list t.draft old new room refusal stops;

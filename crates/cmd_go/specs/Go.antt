@@ -18,11 +18,13 @@ use Rattle.cmd_steps.specs.declared.design_file.DesignFile.TheVariants.{Design}
 use Rattle.place_design.specs.Laying.{lays, HasRoom, LacksRoom}
 use Rattle.run_image.specs.Rows.{most_rows}
 use Rattle.run_image.specs.Laid.{Laid}
+use Rattle.run_image.specs.declared.copies.Copies.TheVariants.{One}
 use Rattle.run_image.specs.Runs.{RunBegin, machine_listed, IfList, HasOutputs}
 
 -- the design as what is laid: by its plain network, and with its rows
 abbrev pub design_laid : NetlistData → Laid
-design_laid draft = record { lays = λ d. lays d draft; width = length draft.inputs; rows = λ vectors rows. AreRows draft vectors rows }
+design_laid draft =
+    record { lays = λ d. lays d draft; copies = One; width = length draft.inputs; rows = λ vectors rows. AreRows draft vectors rows }
 
 abbrev pub go_begin : Around → (machine design vectors : List ℕ) → RunBegin
 go_begin old machine design vectors =

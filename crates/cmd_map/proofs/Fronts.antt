@@ -3,10 +3,11 @@ use Rattle.std.proofs.Common.{◌≡◌, ◌∙◌, ◌⊎◌, ◌≤◌, ℕ, z
 use Rattle.std.specs.List.{list_any}
 use Rattle.base_io.specs.Vocabulary.{Rose, StoreState}
 use Rattle.rig.specs.Rig.{RigState}
-use Rattle.cmd_steps.specs.Vocabulary.{Around, Outside, outside, around, Job, Ended, Unless, Asked, no_job, a_job, HasNoJob, job_of, asked_if, is_dashed, word_at}
+use Rattle.cmd_steps.specs.Vocabulary.{Around, Outside, outside, around, Next, refuses, status_of, wrong_words, Job, Ended, Unless, Asked, no_job, a_job, HasNoJob, job_of, asked_if, is_dashed, word_at}
+use Rattle.cmd_steps.specs.declared.refusal.Refusal.TheVariants.{Words, Differ}
 use Rattle.cmd_steps.proofs.Done.{EndedAs}
 use Rattle.cmd_steps.proofs.AskedLemmas.{ended-asked}
-use Rattle.cmd_map.specs.Maps.{map_job, fit_job}
+use Rattle.cmd_map.specs.Maps.{map_job, fit_job, map_course, fit_course}
 use Rattle.cmd_map.specs.Words.{asked_in, asked_by}
 use Rattle.cmd_map.specs.Promises.{IsStatus}
 
@@ -41,16 +42,54 @@ ended-as {line} {job} words {status} old new ended is asks = ended-asked (list_a
     same : asked_by words ≡ asked_if (list_any is_dashed line) no_job (a_job job)
     same = ap asked_by is ∙ ap (asked_if (list_any is_dashed line) no_job) asks
 
--- a status other than 4
-pub is-status : (status : ℕ) → status ≤ 6 → (status ≡ 4 → ⊥) → IsStatus status
-is-status zero le four = inl (omega arith)
-is-status (suc zero) le four = inl (omega arith)
-is-status (suc (suc zero)) le four = inl (omega arith)
-is-status (suc (suc (suc zero))) le four = inl (omega arith)
-is-status (suc (suc (suc (suc zero)))) le four = absurd (four refl)
-is-status (suc (suc (suc (suc (suc zero))))) le four = inr (inl refl)
-is-status (suc (suc (suc (suc (suc (suc zero)))))) le four = inr (inr refl)
-is-status (suc (suc (suc (suc (suc (suc (suc n))))))) le four = absurd (let no : ⊥ = omega (arith, le) in no)
+-- a status other than 4 and 7
+pub is-status : (status : ℕ) → status ≤ 7 → (status ≡ 4 → ⊥) → (status ≡ 7 → ⊥) → IsStatus status
+is-status zero le four seven = inl (omega arith)
+is-status (suc zero) le four seven = inl (omega arith)
+is-status (suc (suc zero)) le four seven = inl (omega arith)
+is-status (suc (suc (suc zero))) le four seven = inl (omega arith)
+is-status (suc (suc (suc (suc zero)))) le four seven = absurd (four refl)
+is-status (suc (suc (suc (suc (suc zero))))) le four seven = inr (inl refl)
+is-status (suc (suc (suc (suc (suc (suc zero)))))) le four seven = inr (inr refl)
+is-status (suc (suc (suc (suc (suc (suc (suc zero))))))) le four seven = absurd (seven refl)
+is-status (suc (suc (suc (suc (suc (suc (suc (suc n)))))))) le four seven = absurd (let no : ⊥ = omega (arith, le) in no)
+
+-- the status that a refusal is followed by
+abbrev status_at : Next → ℕ
+status_at (refuses refusal) = status_of refusal
+status_at next = 0
+
+-- nothing is compared, so no copies differ
+map-alike : (design : List ℕ) (old new : StoreState) (text : List ℕ) → map_course design old new text (refuses Differ) → ⊥
+map-alike design old new text (inl h) = h.1
+map-alike design old new text (inr (read, gives, inl h)) = h.1
+map-alike design old new text (inr (read, gives, inr (r, is, inl h))) = let line = h.1 in absurd (cc)
+map-alike design old new text (inr (read, gives, inr (r, is, inr (more, eq, h)))) = let end = h.1 in absurd (cc)
+
+fit-alike : (machine defects design : List ℕ) (old new : StoreState) (text : List ℕ) → fit_course machine defects design old new text (refuses Differ) → ⊥
+fit-alike machine defects design old new text (inl h) = h.1
+fit-alike machine defects design old new text (inr (m, given, inl h)) = h.1
+fit-alike machine defects design old new text (inr (m, given, inr (d, list, inl h))) = h.1
+fit-alike machine defects design old new text (inr (m, given, inr (d, list, inr (read, gives, inl h)))) = h.1
+fit-alike machine defects design old new text (inr (m, given, inr (d, list, inr (read, gives, inr (r, is, inl h))))) = let line = h.1 in absurd (cc)
+fit-alike machine defects design old new text (inr (m, given, inr (d, list, inr (read, gives, inr (r, is, inr (more, eq, h)))))) = let end = h.1 in absurd (cc)
+
+wrong-alike : (old new : Around) (text : List ℕ) → wrong_words.course old new text (refuses Differ) → ⊥
+wrong-alike old new text h = let line : status_of Differ ≡ status_of Words = ap status_at h.1 in absurd (cc)
+
+alike-in : (words : List (List ℕ)) (old new : Around) (text : List ℕ) → (job_of (asked_in words)).course old new text (refuses Differ) → ⊥
+alike-in [] old new text h = wrong-alike old new text h
+alike-in (design ∷ []) old new text h = map-alike design old.store new.store text h
+alike-in (machine ∷ defects ∷ []) old new text h = wrong-alike old new text h
+alike-in (machine ∷ defects ∷ design ∷ []) old new text h = fit-alike machine defects design old.store new.store text h
+alike-in (machine ∷ defects ∷ design ∷ more ∷ words) old new text h = wrong-alike old new text h
+
+alike-if : (b : Bool) (words : List (List ℕ)) (old new : Around) (text : List ℕ) → (job_of (asked_if b no_job (asked_in words))).course old new text (refuses Differ) → ⊥
+alike-if true words old new text h = wrong-alike old new text h
+alike-if false words old new text h = alike-in words old new text h
+
+pub never-differs : (words : List (List ℕ)) (old new : Around) (text : List ℕ) → (job_of (asked_by words)).course old new text (refuses Differ) → ⊥
+never-differs words = alike-if (list_any is_dashed words) words
 
 -- no rig is asked, so its count doesn't rise
 pub rig-rests : Rose 0 0 → ⊥

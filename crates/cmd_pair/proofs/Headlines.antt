@@ -15,7 +15,7 @@ use Rattle.run_image.proofs.Headlines as done
 use Rattle.cmd_pair.specs.Pair.{pair_course}
 use Rattle.cmd_pair.specs.Headline.{IsPaired, HaveRoomLeft}
 use Rattle.cmd_pair.proofs.PairLaws.{words}
-use Rattle.cmd_pair.proofs.WhileAlone.{first-right, second-right}
+use Rattle.place_both.proofs.WhileAlone.{first-right, second-right}
 
 module _ (machine name first second vectors : List ℕ) (old new : Outside) where
   abbrev course : Course
@@ -66,9 +66,9 @@ module _ (machine name first second vectors : List ℕ) (old new : Outside) wher
           listed_parts_at_will = λ hist faults covered ran.
               r.over hist (subst (λ (s : Shape). IsHistoryOf s hist) (sym r.list.shape) faults) (λ cycle instant. subst (λ (s : Shape). Covers s r.made.list.list (hist cycle instant)) (sym r.list.shape) (covered cycle instant)) ran;
           first_while_alone = λ hist n left ran.
-              first-right r.made.list h.ran.0 h.ran.2.0 r.image both r.vectors r.rows new.rig r.widths r.as_read (both.first_right clean (covers_none clean_faultless)) hist n left ran;
+              first-right r.made.list h.ran.0 h.ran.2.0 r.image both r.vectors r.rows new.rig r.widths r.as_read.drives r.as_read.rows_are (both.first_right clean (covers_none clean_faultless)) hist n left ran;
           second_while_alone = λ hist n left ran.
-              second-right r.made.list h.ran.0 h.ran.2.0 r.image both r.vectors r.rows new.rig r.widths r.as_read (both.second_right clean (covers_none clean_faultless)) hist n left ran;
+              second-right r.made.list h.ran.0 h.ran.2.0 r.image both r.vectors r.rows new.rig r.widths r.as_read.drives r.as_read.rows_are (both.second_right clean (covers_none clean_faultless)) hist n left ran;
           tight = r.list.right.tight;
           fair = r.list.right.fair;
           few = r.list.few;

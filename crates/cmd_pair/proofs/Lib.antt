@@ -2,7 +2,4 @@
 pub mod Headlines
 pub mod Promising
 -- For the proofs of this crate alone.
-mod RowsOfBoth
-mod WhileAlone
-mod BothLemmas
 mod PairLaws

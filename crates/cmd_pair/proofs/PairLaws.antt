@@ -1,5 +1,5 @@
 -- What the command `pair` does with its words, and what it comes to.
-use Rattle.std.proofs.Common.{ℕ, List}
+use Rattle.std.proofs.Common.{ℕ, List, refl}
 use Rattle.machine_shape.specs.declared.Shape.{Shape}
 use Rattle.cmd_steps.specs.Vocabulary.{Around, IsLawful}
 use Rattle.cmd_steps.specs.declared.design_file.DesignFile.TheVariants.{First, Second}
@@ -10,7 +10,7 @@ use Rattle.run_image.proofs.Scripts.{Words, reads, runs, IsRight}
 use Rattle.run_image.proofs.Ends.{Fits, Lacks, HasFew, run-well, run-short, run-few}
 use Rattle.cmd_pair.specs.Both.{both_laid}
 use Rattle.cmd_pair.specs.Pair.{pair_files, pair_job, PairFiles, ArePairTexts, PairRight, PairShort, PairFew}
-use Rattle.cmd_pair.proofs.BothLemmas.{never-both-lack, both-excused, both-short}
+use Rattle.place_both.proofs.BothLemmas.{never-both-lack, both-excused, both-short}
 
 module _ (machine name first second vectors : List ℕ) where
   abbrev pub words : Words
@@ -19,7 +19,7 @@ module _ (machine name first second vectors : List ℕ) where
     name = name;
     vectors = vectors;
     script = reads First first (λ one. reads Second second (λ other. runs (both_laid one other) (λ d i is.
-        record { image = is.0.image; shape = is.0.shape; inputs = is.0.inputs; free = is.0.free; right = is.0.right })));
+        record { image = is.0.image; shape = is.0.shape; shares = record { inputs = refl; outputs = refl }; inputs = is.0.inputs; free = is.0.free; right = is.0.right })));
   }
 
   module _ (old new : Around) where
@@ -45,6 +45,7 @@ module _ (machine name first second vectors : List ℕ) where
           let t = r.texts in
           right-files t (Fits words old new front) (record {
             vectors = t.vectors;
+            alike = λ l list same i laid vectors rows never. never;
             room = λ l list same refusal stops.
                 let room = r.room l.list list.shape list.kept same in
                 both-excused l.list t.first_draft t.second_draft old new decided room refusal stops;

@@ -1,28 +1,21 @@
 -- What a `pair` that is done has done.
-use Rattle.std.specs.Prelude.{◌≡◌, ℕ, ◌+◌, Bool, List, [], ◌∷◌, ◌++◌, length, map, take, drop, Some}
+use Rattle.std.specs.Prelude.{◌≡◌, ℕ, ◌+◌, Bool, List, [], ◌∷◌, ◌++◌, length, map, take, drop}
 use Rattle.base_io.specs.Vocabulary.{next_count, IfTold, Wrote}
 use Rattle.machine_shape.specs.declared.Shape.{Shape}
 use Rattle.machine_meaning.specs.Vocabulary.{Faults, Covers, IsFair, IsTight}
 use Rattle.machine_defects.specs.Vocabulary.{DefectList, IsDefectList, text_of}
 use Rattle.design_netlist.specs.declared.netlist_data.NetlistData.{NetlistData}
-use Rattle.design_netlist.specs.Rows.{AreRows}
 use Rattle.machine_image.specs.Images.{ImageValue}
-use Rattle.machine_history.specs.Vocabulary.{History, IsHistoryOf, IsRunOver, LeavesAloneFor}
-use Rattle.rig.specs.Rig.{RigState, cycles_of, drives_of, readings_of}
+use Rattle.machine_history.specs.Vocabulary.{History, IsHistoryOf, IsRunOver}
+use Rattle.rig.specs.Rig.{cycles_of, drives_of, readings_of}
 use Rattle.place_route.specs.Vocabulary.{IsRightImage, ReadsRows, IsRoutedInOrder}
 use Rattle.place_pair.specs.Tenants.{AreTenants, StandApart}
 use Rattle.cmd_steps.specs.Vocabulary.{Outside, IsMachineText, IsDesignText}
 use Rattle.diag_list.specs.Possible.{MayHave, TakesFewLoadsOn}
 use Rattle.diag_list.specs.Lists.{Listed}
 use Rattle.run_image.specs.Headline.{IsAskedInOrder, IsWrittenWhole, UsesNothingListed, IsAsRead}
-use Rattle.cmd_pair.specs.Both.{AreBothRows, BothHaveRoom, joint_of}
-
--- Where the session's readings are a run over a history that leaves a tenant of the image alone for n cycles, the first n of these
--- rows are the first of the design's rows for these vectors, whatever is done to all else, at any time
-abbrev pub AreRightWhileAlone : RigState → (image tenant : ImageValue) → NetlistData → (vectors rows : List (List Bool)) → Type 0
-AreRightWhileAlone rig image tenant draft vectors rows = (h : History) (n : ℕ) → LeavesAloneFor n h image tenant →
-    IsRunOver h image.config (drives_of (cycles_of rig)) (readings_of (cycles_of rig)) →
-    (right : List (List Bool)) × AreRows draft vectors right × (take n rows ≡ take n right)
+use Rattle.place_both.specs.Both.{AreBothRows, BothHaveRoom, joint_of}
+use Rattle.place_both.specs.Alone.{AreRightWhileAlone}
 
 -- Of the rig's one session: its configuration, with a list of input pins and a list of output pins, is `image`. The parts of it
 -- that are each design's, `first_image` and `second_image`, share no wire

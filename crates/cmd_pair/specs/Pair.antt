@@ -10,7 +10,8 @@ use Rattle.cmd_steps.specs.Vocabulary.{reads_machine, reads_design, AsksMachine,
 use Rattle.cmd_steps.specs.declared.design_file.DesignFile.TheVariants.{First, Second}
 use Rattle.run_image.specs.Rows.{most_rows}
 use Rattle.run_image.specs.Runs.{RunBegin, machine_listed, IfList, HasOutputs}
-use Rattle.cmd_pair.specs.Both.{BothHaveRoom, BothLackRoom, both_laid}
+use Rattle.place_both.specs.Both.{BothHaveRoom, BothLackRoom}
+use Rattle.cmd_pair.specs.Both.{both_laid}
 
 abbrev pub pair_begin : Around → (machine first second vectors : List ℕ) → RunBegin
 pair_begin old machine first second vectors =

@@ -30,7 +30,7 @@ module _ (machine name image vectors : List ℕ) (old new : Around) where
       (led-after (attach-excused old new (record { shape = m; name = name })) (λ _ _.
       led-sure (image-sure right.file.is_told right.file.within m i right.file.says.image right.file.says.shape right.file.says.text) excused
       (record {
-        leads = λ text next. image-well (rows i) (begin i) old new right.vectors.bytes right.vectors.is_told right.vectors.no_fault text next tt;
+        leads = λ text next. image-well (rows i) (begin i) old new right.vectors.bytes right.vectors.is_told right.vectors.no_fault (λ vs rows h. h) text next tt;
       })))
 
   -- after the line `outputs` memory is lacking only for more rows than there was room for

@@ -18,6 +18,7 @@ counted-later (Refused refused.Words) old mid new later why = absurd why
 counted-later (Refused refused.Rig) old mid new later why = omega (arith, later.rig, why)
 counted-later (Refused refused.Store) old mid new later why = omega (arith, later.store, why)
 counted-later (Refused refused.Memory) old mid new later why = tt
+counted-later (Refused refused.Differ) old mid new later why = tt
 counted-later (Refused (refused.Machine line kind)) old mid new later why = tt
 counted-later (Refused (refused.Faults line kind)) old mid new later why = tt
 counted-later (Refused (refused.Defects line kind)) old mid new later why = tt

@@ -4,7 +4,7 @@ use Rattle.base_io.specs.Sink.{SinkState, Wrote}
 use Rattle.base_io.specs.declared.sink.SinkFail.TheVariants.{Failed as SinkFailed, Memory as SinkMemory}
 use Rattle.cmd_steps.specs.Vocabulary.{Outside, around, Course, ends, refuses, status_of, Job, wrong_words, EndWrote, Ended, Finishes, Refuses, whole, refused, cut_line, no_line, cut}
 use Rattle.cmd_steps.specs.declared.refusal.Refusal.{Refusal}
-use Rattle.cmd_steps.specs.declared.refusal.Refusal.TheVariants.{Words, Machine, Faults, Defects, Image, Design, Vectors, Room, Rig, Store, Memory}
+use Rattle.cmd_steps.specs.declared.refusal.Refusal.TheVariants.{Words, Machine, Faults, Defects, Image, Design, Vectors, Room, Rig, Store, Memory, Differ}
 use Rattle.cmd_steps.specs.declared.refusal.Stop.{Stop}
 use Rattle.cmd_steps.specs.declared.refusal.Stop.TheVariants.{Refused, Sink}
 use Rattle.cmd_steps.proofs.Standing.{Standing, stands-end}
@@ -22,6 +22,7 @@ refused-some (Room place) is = absurd cc
 refused-some Rig is = absurd cc
 refused-some Store is = absurd cc
 refused-some Memory is = absurd cc
+refused-some Differ is = absurd cc
 
 refuses-some : (refusal : Refusal) (old new : SinkState) (status : ℕ) → Refuses refusal old new status → status ≡ 0 → ⊥
 refuses-some refusal old new status (inl h) zero = refused-some refusal (sym h.0 ∙ zero)

@@ -6,7 +6,7 @@ use Rattle.cmd_steps.specs.Vocabulary.{Outside, IsLater, SomethingRose, around, 
 use Rattle.cmd_steps.specs.declared.refusal.Stop.{Stop}
 use Rattle.cmd_steps.specs.declared.refusal.Stop.TheVariants.{Refused, Sink}
 use Rattle.cmd_steps.specs.declared.refusal.Refusal.{Refusal}
-use Rattle.cmd_steps.specs.declared.refusal.Refusal.TheVariants.{Words, Machine, Faults, Defects, Image, Design, Vectors, Room, Rig, Store, Memory as NoMemory}
+use Rattle.cmd_steps.specs.declared.refusal.Refusal.TheVariants.{Words, Machine, Faults, Defects, Image, Design, Vectors, Room, Rig, Store, Memory as NoMemory, Differ}
 use Rattle.cmd_steps.proofs.WriteLemmas.{Wrote-then}
 
 -- what a stop needs is still so, whatever is written then
@@ -22,6 +22,7 @@ counted-on words (Design place) old mid new store rig why = tt
 counted-on words (Vectors line kind) old mid new store rig why = tt
 counted-on words (Room place) old mid new store rig why = tt
 counted-on words NoMemory old mid new store rig why = tt
+counted-on words Differ old mid new store rig why = tt
 
 module _ (words : Type 0) (course : Course) where
   -- the line of a refusal after what stands before it
@@ -108,11 +109,25 @@ module _ (words : Type 0) (course : Course) (old new : Outside) where
   end-memory _ (no_line refusal text s l w) h none = absurd (no-lack old.sink.can_lack none l)
   end-memory _ (cut text line n p r w) h none = absurd cc
 
-  status-most : (refusal : Refusal) → status_of refusal ≤ 6
+  -- copies that read differently
+  differ-refused : (refusal : Refusal) (text : List ℕ) → status_of refusal ≡ 7 → Stands words course old new refusal text → Wrote old.sink.written new.sink.written (text ++ refusal_text refusal) → IsRefused course old new Differ
+  differ-refused Differ text h (inl s) w = (text, s.1, w)
+  differ-refused refusal text h (inl s) w = absurd cc
+  differ-refused refusal text h (inr s) w = let no : status_of NoMemory ≡ 7 = subst (λ r. status_of r ≡ 7) s.0 h in absurd cc
+
+  pub end-differ : (status : ℕ) → EndWrote words course old new status → status ≡ 7 → IsRefused course old new Differ
+  end-differ _ (whole text f w) h = absurd cc
+  end-differ _ (refused refusal text s w) h = differ-refused refusal text h s w
+  end-differ _ (cut_line refusal text n s r w) h = absurd cc
+  end-differ _ (no_line refusal text s l w) h = absurd cc
+  end-differ _ (cut text line n p r w) h = absurd cc
+
+  status-most : (refusal : Refusal) → status_of refusal ≤ 7
   status-most Words = omega arith
   status-most Rig = omega arith
   status-most Store = omega arith
   status-most NoMemory = omega arith
+  status-most Differ = omega arith
   status-most (Machine line kind) = omega arith
   status-most (Faults line kind) = omega arith
   status-most (Defects line kind) = omega arith
@@ -121,7 +136,7 @@ module _ (words : Type 0) (course : Course) (old new : Outside) where
   status-most (Vectors line kind) = omega arith
   status-most (Room place) = omega arith
 
-  pub end-status : (status : ℕ) → EndWrote words course old new status → status ≤ 6
+  pub end-status : (status : ℕ) → EndWrote words course old new status → status ≤ 7
   end-status _ (whole text f w) = omega arith
   end-status _ (refused refusal text s w) = status-most refusal
   end-status _ (cut_line refusal text n s r w) = omega arith
@@ -222,6 +237,7 @@ module _ (words : Type 0) (job : Job) (lawful : IsLawful job) (old new : Outside
     no_room = end-room words (job.course (around old) (around new)) old new status written;
     rig = end-rig words (job.course (around old) (around new)) old new status written;
     streams = end-outside words (job.course (around old) (around new)) old new status written;
+    differ = end-differ words (job.course (around old) (around new)) old new status written;
     statuses = end-status words (job.course (around old) (around new)) old new status written;
     complete = end-complete status written;
     no_room_only = end-no-room status written;

@@ -1,5 +1,5 @@
 -- Steps that read what is right don't refuse it, and give nothing else.
-use Rattle.std.proofs.Common.{◌≡◌, ℕ, ◌≤◌, List, length, None, arith}
+use Rattle.std.proofs.Common.{◌≡◌, ℕ, ◌≤◌, Bool, List, length, None, arith}
 use Rattle.base_io.specs.Told.{holds}
 use Rattle.machine_shape.specs.declared.Counts.{Counts}
 use Rattle.machine_shape.specs.declared.Shape.{Shape}
@@ -13,7 +13,7 @@ use Rattle.base_text.specs.Size.{most_bytes}
 use Rattle.cmd_steps.specs.Vocabulary.{says_at, Around, RowWork, all_rows, ends, refuses, writes, IsExcused, EndsWell, Leads, NoMachine, NoDefects, NoDesign, NoImage, NotAttached, FailsOnRig, NotOpened}
 use Rattle.cmd_steps.specs.declared.design_file.DesignFile.{DesignFile}
 use Rattle.cmd_steps.specs.declared.refusal.Refusal.{Refusal}
-use Rattle.cmd_steps.specs.declared.refusal.Refusal.TheVariants.{Machine, Faults, Defects, Image, Design, Vectors, Rig, Store, Memory}
+use Rattle.cmd_steps.specs.declared.refusal.Refusal.TheVariants.{Machine, Faults, Defects, Image, Design, Vectors, Rig, Store, Memory, Differ}
 
 module _ (old new : Around) where
   pub machine-excused : (bytes : List ℕ) (c : Counts) → IsMachine bytes c → length bytes ≤ most_bytes → (refusal : Refusal) → NoMachine (holds bytes) refusal → IsExcused refusal old new
@@ -56,14 +56,15 @@ module _ (old new : Around) where
   open-excused Memory stops = tt
   open-excused refusal stops = absurd stops
 
-  -- vectors without a fault
-  pub rows-well : (w : RowWork) (bytes : List ℕ) (text_is : List ℕ → Type 0) → w.told ≡ holds bytes → (says_at w.width bytes).fault ≡ None → Leads text_is (all_rows w) (EndsWell old new)
-  rows-well w bytes text_is told none text ends is h = tt
-  rows-well w bytes text_is told none text (writes line) is h = tt
-  rows-well w bytes text_is told none text (refuses (Vectors line kind)) is h =
+  -- vectors without a fault, for copies that never differ
+  pub rows-well : (w : RowWork) (bytes : List ℕ) (text_is : List ℕ → Type 0) → w.told ≡ holds bytes → (says_at w.width bytes).fault ≡ None → ((vectors rows : List (List Bool)) → w.differs vectors rows → ⊥) → Leads text_is (all_rows w) (EndsWell old new)
+  rows-well w bytes text_is told none alike text ends is h = tt
+  rows-well w bytes text_is told none alike text (writes line) is h = tt
+  rows-well w bytes text_is told none alike text (refuses (Vectors line kind)) is h =
       let some = rw told at h.1 in
       absurd (let fault = some.1.is in cc)
-  rows-well w bytes text_is told none text (refuses Store) is h = tt
-  rows-well w bytes text_is told none text (refuses Rig) is h = tt
-  rows-well w bytes text_is told none text (refuses Memory) is h = tt
-  rows-well w bytes text_is told none text (refuses refusal) is h = absurd h
+  rows-well w bytes text_is told none alike text (refuses Store) is h = tt
+  rows-well w bytes text_is told none alike text (refuses Rig) is h = tt
+  rows-well w bytes text_is told none alike text (refuses Memory) is h = tt
+  rows-well w bytes text_is told none alike text (refuses Differ) is h = absurd (alike h.0.vectors h.0.rows h.1)
+  rows-well w bytes text_is told none alike text (refuses refusal) is h = absurd h

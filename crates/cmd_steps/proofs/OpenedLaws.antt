@@ -1,5 +1,5 @@
 -- What rows behind an opened file of vectors lead to.
-use Rattle.std.proofs.Common.{◌≡◌, ◌∙◌, ℕ, List, ◌∷◌, ◌++◌, None, ap, inl, inr}
+use Rattle.std.proofs.Common.{◌≡◌, ◌∙◌, ℕ, Bool, List, ◌∷◌, ◌++◌, None, ap, inl, inr}
 use Rattle.base_io.specs.Vocabulary.{Told, holds, StoreState}
 use Rattle.cmd_steps.specs.Vocabulary.{says_at, AreAll, outputs_line, output_text, Around, StandsIn, RowWork, all_rows, HasReadRows, ends, refuses, write, opens, Leads, EndsWell}
 use Rattle.cmd_steps.specs.declared.refusal.Refusal.TheVariants.{Memory}
@@ -16,11 +16,11 @@ pub record HasEnded (w : RowWork) (text : List ℕ) : Type 0 where
 
 module _ (w : RowWork) (told : Told) (vectors : List ℕ) (files : List (List ℕ)) (begun ended : StoreState) (here : Type 0) where
   -- of vectors without a fault nothing is refused but what is excused
-  pub opened-well : (old new : Around) (bytes : List ℕ) → w.told ≡ holds bytes → (says_at w.width bytes).fault ≡ None → Leads (λ text. Unit {0}) (opened told vectors files begun ended here (all_rows w)) (EndsWell old new)
-  opened-well old new bytes is none =
+  pub opened-well : (old new : Around) (bytes : List ℕ) → w.told ≡ holds bytes → (says_at w.width bytes).fault ≡ None → ((vs rows : List (List Bool)) → w.differs vs rows → ⊥) → Leads (λ text. Unit {0}) (opened told vectors files begun ended here (all_rows w)) (EndsWell old new)
+  opened-well old new bytes is none alike =
       after-leads (opens told) (StandsIn (vectors ∷ files) begun ended) (λ _. write outputs_line here (all_rows w)) (λ text. Unit {0}) (EndsWell old new)
       (λ _ refusal stops. open-excused old new refusal stops)
-      (λ _ _. write-leads outputs_line here (all_rows w) (λ text. Unit {0}) (EndsWell old new) tt (rows-well old new w bytes (λ text. Unit {0}) is none))
+      (λ _ _. write-leads outputs_line here (all_rows w) (λ text. Unit {0}) (EndsWell old new) tt (rows-well old new w bytes (λ text. Unit {0}) is none alike))
 
   -- behind the line `outputs` memory is lacking for a row alone
   pub opened-lacks : (text more : List ℕ) → text ≡ outputs_line ++ more → opened told vectors files begun ended here (all_rows w) text (refuses Memory) → (rows : List ℕ) × all_rows w rows (refuses Memory)

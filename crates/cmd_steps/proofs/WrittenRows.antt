@@ -162,7 +162,7 @@ held-after waiting mid stop store store' s0 s1 s2 (inr first) held =
 -- ---- one more vector, and its row
 
 module _ (width : ℕ) (begun now new : Outside) (reading reading' : VectorReading) (waiting : List ℕ) (vectors rows : List (List Bool)) (vector : List Bool) (so_far : AreWritten width begun reading waiting now vectors rows) (later : IsLater now new) (asked : new.store.asked ≡ now.store.asked) (read : IsRead vector reading reading' now.store new.store) where
-  taken-more : IsTaking width begun.store new.store reading' (vectors ++ vector ∷ [])
+  pub taken-more : IsTaking width begun.store new.store reading' (vectors ++ vector ∷ [])
   taken-more = IsTaking-more width begun.store now.store new.store reading reading' vector vectors so_far.taking later.contents later.store asked read.next read.moves
 
   pub near-next : IsNearNext width (file_of begun.store) new.store.current (length rows)
@@ -244,7 +244,7 @@ module _ (w : RowWork) (begun now new : Outside) (reading : VectorReading) (wait
         rows-follow (Ok x) (text, (has-read, all), all-wrote) tt
 
   -- the rows that wait aren't put out
-  module _ (are : w.are vectors rows) (session : w.session vectors rows ⊎ w.lost) (still : new.store ≡ now.store) where
+  module _ (are : w.are vectors rows) (session : w.session vectors rows ⊎ (w.differs vectors rows ⊎ w.lost)) (still : new.store ≡ now.store) where
     before-row : (front : List (List Bool)) (row : List Bool) (more : List (List Bool)) → so_far.rest ≡ front ++ row ∷ more → IsBeforeRow w (flat_map row_line (so_far.put ++ front)) (row_line row)
     before-row front row more split =
         let all : rows ≡ (so_far.put ++ front) ++ row ∷ more = so_far.split ∙ (ap (λ t. so_far.put ++ t) split ∙ sym (append_assoc so_far.put front (row ∷ more))) in
@@ -260,7 +260,7 @@ module _ (w : RowWork) (begun now new : Outside) (reading : VectorReading) (wait
           line_is = refl;
           first = rw told (taken-first w.width begun.store now.store reading vectors so_far.taking);
           are = subst (λ t. w.are vectors t) all are;
-          session = subst (λ t. w.session vectors t ⊎ w.lost) all session;
+          session = subst (λ t. w.session vectors t ⊎ (w.differs vectors t ⊎ w.lost)) all session;
           near = rw (told, at) (so_far.near (length (so_far.put ++ front)) from to);
         }
 

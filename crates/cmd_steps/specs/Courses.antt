@@ -53,6 +53,8 @@ pub record RowWork : Type 1 where
   pub are : (vectors rows : List (List Bool)) → Type 0
   -- and the rig's session is these vectors and rows
   pub session : (vectors rows : List (List Bool)) → Type 0
+  -- behind these rows the session has one more reading, which isn't the same for each copy
+  pub differs : (vectors rows : List (List Bool)) → Type 0
   -- the rig has failed since the command began, and so has no session any more
   pub lost : Type 0
   -- after so many rows memory may be wanting
@@ -72,7 +74,7 @@ pub record HasReadRows (w : RowWork) (text : List ℕ) : Type 0 where
   pub session : w.session has.vectors has.rows
 
 -- The row of one more vector comes next, and the store isn't far beyond that vector's line. The rows behind it that were to go
--- out with it have been read too, unless the rig has failed
+-- out with it have been read too, and perhaps a reading behind them that differs from copy to copy, unless the rig has failed
 pub record IsBeforeRow (w : RowWork) (text line : List ℕ) : Type 0 where
   pub vectors : List (List Bool)
   pub rows : List (List Bool)
@@ -82,7 +84,7 @@ pub record IsBeforeRow (w : RowWork) (text line : List ℕ) : Type 0 where
   pub line_is : line ≡ row_line row
   pub first : AreFirst w.width w.told vectors
   pub are : w.are vectors (rows ++ row ∷ more)
-  pub session : w.session vectors (rows ++ row ∷ more) ⊎ w.lost
+  pub session : w.session vectors (rows ++ row ∷ more) ⊎ (w.differs vectors (rows ++ row ∷ more) ⊎ w.lost)
   pub near : IsNearNext w.width w.told w.place (length rows)
 
 -- a row for each vector of the file
@@ -95,4 +97,6 @@ all_rows w text (refuses refused.Store) = HasReadRows w text × (w.place ≡ Non
 all_rows w text (refuses refused.Rig) = (h : HasRows w text) × IsNearNext w.width w.told w.place (length h.rows)
 all_rows w text (refuses refused.Memory) =
     (h : HasReadRows w text) × w.lacks (length h.has.rows) × IsNearNext w.width w.told w.place (length h.has.rows)
+all_rows w text (refuses refused.Differ) =
+    (h : HasRows w text) × w.differs h.vectors h.rows × IsNearNext w.width w.told w.place (length h.rows)
 all_rows w text (refuses refusal) = ⊥

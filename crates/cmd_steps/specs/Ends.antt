@@ -8,7 +8,7 @@ use Rattle.cmd_steps.specs.Faults.{ShortPlace}
 use Rattle.cmd_steps.specs.Courses.{Course, Next, ends, refuses, writes}
 use Rattle.cmd_steps.specs.Stops.{AsksSome, IsCounted, refusal_text, status_of}
 use Rattle.cmd_steps.specs.declared.refusal.Refusal.{Refusal}
-use Rattle.cmd_steps.specs.declared.refusal.Refusal.TheVariants.{Memory, Room}
+use Rattle.cmd_steps.specs.declared.refusal.Refusal.TheVariants.{Memory, Room, Differ}
 use Rattle.cmd_steps.specs.declared.refusal.Stop.{Stop}
 use Rattle.cmd_steps.specs.declared.refusal.Stop.TheVariants.{Refused, Sink}
 
@@ -90,7 +90,8 @@ pub record Ended (words : Type 0) (job : Job) (old new : Outside) (status : ℕ)
   pub no_room : status ≡ 3 → (place : ShortPlace) × IsRefused (job.course (around old) (around new)) old new (Room place)
   pub rig : status ≡ 4 → Rose old.rig.failures new.rig.failures
   pub streams : status ≡ 5 → Rose old.store.failures new.store.failures ⊎ Rose old.sink.failures new.sink.failures
-  pub statuses : status ≤ 6
+  pub differ : status ≡ 7 → IsRefused (job.course (around old) (around new)) old new Differ
+  pub statuses : status ≤ 7
   -- where all is right, and there is room on the list that was read or written: unless a count rose
   pub complete : IsOfFronts (job.right (around old) (around new)) old.sink new.sink → Unless ((status ≡ 0) ⊎ (status ≡ 6)) old new
   -- and where there is no room

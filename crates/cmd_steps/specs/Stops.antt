@@ -16,7 +16,7 @@ use Rattle.cmd_steps.specs.Outside.{Outside}
 use Rattle.cmd_steps.specs.Courses.{Course, Step, ends, refuses, writes}
 use Rattle.cmd_steps.specs.declared.refusal.Refusal.{Refusal}
 use Rattle.cmd_steps.specs.declared.refusal.Refusal.TheVariants.{Words, Machine, Faults, Defects, Image, Design, Vectors, Room, Rig, Store}
-use Rattle.cmd_steps.specs.declared.refusal.Refusal.TheVariants.{Memory}
+use Rattle.cmd_steps.specs.declared.refusal.Refusal.TheVariants.{Memory, Differ}
 use Rattle.cmd_steps.specs.declared.refusal.Stop.{Stop}
 use Rattle.cmd_steps.specs.declared.refusal.Stop.TheVariants.{Refused, Sink}
 
@@ -33,6 +33,7 @@ refusal_text (Room place) = room_line place.shape place.short
 refusal_text Rig = as_line (codes "refused rig")
 refusal_text Store = as_line (codes "refused store")
 refusal_text Memory = as_line (codes "refused memory")
+refusal_text Differ = as_line (codes "refused differ")
 
 -- the status of a refusal
 abbrev pub status_of : Refusal → ℕ
@@ -47,6 +48,7 @@ status_of (Room place) = 3
 status_of Rig = 4
 status_of Store = 5
 status_of Memory = 6
+status_of Differ = 7
 
 abbrev pub stop_of_store : StoreFail → Stop
 stop_of_store StoreFailed = Refused Store

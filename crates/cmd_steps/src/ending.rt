@@ -27,6 +27,7 @@ fn status(refusal: &Refusal) -> u8
         Refusal::Rig => 4,
         Refusal::Store => 5,
         Refusal::Memory => 6,
+        Refusal::Differ => 7,
     }
 }
 
@@ -63,6 +64,7 @@ fn put_line<K: Sink>(sink: &mut K, refusal: &Refusal) -> Result<(), SinkFail>
         Refusal::Rig => sink.put(b"refused rig\n"),
         Refusal::Store => sink.put(b"refused store\n"),
         Refusal::Memory => sink.put(b"refused memory\n"),
+        Refusal::Differ => sink.put(b"refused differ\n"),
     }
 }
 

@@ -130,6 +130,8 @@ pub enum Refusal {
     Store,
     /// Memory was wanting.
     Memory,
+    /// Two copies of a design read differently.
+    Differ,
 }
 
 /// Why a command ends early: it is refused, or the sink takes nothing more.

@@ -1,5 +1,5 @@
 -- What the program promises: at every end, and of each command.
-use Rattle.std.specs.Prelude.{ℕ, List}
+use Rattle.std.specs.Prelude.{◌≡◌, ℕ, List}
 use Rattle.cmd_steps.specs.Vocabulary.{Outside, Ended, HasNoJob, job_of}
 use Rattle.cmd_eval.specs.Promises.{EvalPromises}
 use Rattle.cmd_compile.specs.Promises.{CompilePromises}
@@ -10,6 +10,7 @@ use Rattle.cmd_bench.specs.Promises.{BenchPromises}
 use Rattle.cmd_check.specs.Promises.{CheckPromises}
 use Rattle.cmd_repair.specs.Promises.{RepairPromises}
 use Rattle.cmd_pair.specs.Promises.{PairPromises}
+use Rattle.cmd_twice.specs.Promises.{TwicePromises, twice_words}
 use Rattle.cmd_top.specs.Words.{asked_by}
 
 -- Of these words, to this status: what was asked, what was written, what stays, and the cause of the status; and what each command
@@ -25,3 +26,7 @@ pub record Promises (words : List (List ℕ)) (status : ℕ) (old new : Outside)
   pub of_check : CheckPromises words status old new
   pub of_repair : RepairPromises words status old new
   pub of_pair : PairPromises words status old new
+  pub of_twice : TwicePromises words status old new
+  -- and no other comes to status 7
+  pub only_twice : status ≡ 7 →
+      (machine name design vectors : List ℕ) × (words ≡ twice_words machine name design vectors)

@@ -13,6 +13,7 @@ use Rattle.cmd_bench.specs.Bench.{bench_job}
 use Rattle.cmd_check.specs.Check.{check_job}
 use Rattle.cmd_repair.specs.Repair.{repair_job}
 use Rattle.cmd_pair.specs.Pair.{pair_job}
+use Rattle.cmd_twice.specs.Twice.{twice_job}
 
 -- the number of at most 4,294,967,295 whose numeral the word is
 abbrev pub number_of : List ℕ → Option ℕ
@@ -51,6 +52,7 @@ commands =
     ∷ named 4 (codes "check") (λ w. check_job (w 1) (w 2) (w 3))
     ∷ named 4 (codes "repair") (λ w. repair_job (w 1) (w 2) (w 3))
     ∷ named 6 (codes "pair") (λ w. pair_job (w 1) (w 2) (w 3) (w 4) (w 5))
+    ∷ named 5 (codes "twice") (λ w. twice_job (w 1) (w 2) (w 3) (w 4))
     ∷ []
 
 -- ---- what words ask for

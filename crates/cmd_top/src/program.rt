@@ -17,6 +17,7 @@ use cmd_pair::pair;
 use cmd_repair::repair;
 use cmd_run::run;
 use cmd_steps::{Refusal, Stop, end_of, some_begins_dashed, word};
+use cmd_twice::twice;
 use rig::Rig;
 use std::alloc::Global;
 
@@ -83,6 +84,9 @@ fn work_in<S: Store, K: Sink>(
     if begins(words, 6, "pair") {
         return pair(alloc, first, second, third, fourth, fifth, store, rig, sink);
     }
+    if begins(words, 5, "twice") {
+        return twice(alloc, first, second, third, fourth, store, rig, sink);
+    }
     Err(Stop::Refused(Refusal::Words))
 }
 
@@ -129,7 +133,8 @@ fn end<S: Store, K: Sink>(
 /// - 3: there is no room for the design, or for the repair of the image;
 /// - 4: the rig failed;
 /// - 5: the store or the sink failed;
-/// - 6: memory was lacking.
+/// - 6: memory was lacking;
+/// - 7: of `twice`: the copies read differently.
 ///
 /// The first step that refuses ends the command. What was written before it stays, and the line that
 /// says why follows it, unless the sink failed.
@@ -140,7 +145,7 @@ pub fn teramac<S: Store, K: Sink>(
     rig: &mut Box<dyn Rig>,
     sink: &mut K,
 ) -> u8
-    ensures statuses { result ≤ 6 }
+    ensures statuses { result ≤ 7 }
     // What was asked, what was written, what stays, the cause of the status, and what each command promises.
     ensures promises { let old = outside (S.store_state store.old) (rig_state rig.old) (K.sink_state sink.old) in
         let new = outside (S.store_state store.new) (rig_state rig.new) (K.sink_state sink.new) in

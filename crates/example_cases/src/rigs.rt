@@ -4,6 +4,7 @@
 //! A text has a case in each line; its head says how they are written. Each is printed, with what the command wrote and its status.
 
 mod faults;
+mod late_board;
 mod lost;
 mod memory_board;
 mod steps;
@@ -12,6 +13,7 @@ mod talk;
 mod telling_rig;
 
 use crate::rigs::faults::sim_of;
+use crate::rigs::late_board::LateBoard;
 use crate::rigs::lost::{Outcome, load_twice};
 use crate::rigs::steps::{try_answers, try_asks, try_board};
 use crate::rigs::telling_rig::TellingRig;
@@ -65,6 +67,13 @@ fn try_repeat(rt: &HostRuntime, turned: &str, words: &[String]) -> io::Result<bo
     tell(rt, run_over(rt, &mut rig, words)?)
 }
 
+// Over a rig that turns the reading of a number.
+fn try_turn(rt: &HostRuntime, turned: &str, words: &[String]) -> io::Result<bool> {
+    let alloc: Global = rt.alloc();
+    let mut rig: Box<dyn Rig> = Box::new(alloc, TurnRig::new(sim_of(rt)?, number_of(turned)))?;
+    tell(rt, run_over(rt, &mut rig, words)?)
+}
+
 // Over a rig that asks again. Gives the status, the loads that were asked for and those that reached its inner rig.
 fn passes(rt: &HostRuntime, words: &[String]) -> io::Result<(u8, u64, u64)> {
     let alloc: Global = rt.alloc();
@@ -91,6 +100,15 @@ fn try_twin(rt: &HostRuntime, name: &str, words: &[String]) -> io::Result<bool> 
     let name = String::from_str(alloc, name)?;
     let twin = TwinRig::new(alloc, sim_of(rt)?, sim_of(rt)?, name);
     let mut rig: Box<dyn Rig> = Box::new(alloc, twin)?;
+    tell(rt, run_over(rt, &mut rig, words)?)
+}
+
+// Over a machine that is another, of this name, from a load on.
+fn try_late(rt: &HostRuntime, from: &str, name: &str, words: &[String]) -> io::Result<bool> {
+    let alloc: Global = rt.alloc();
+    let late = String::from_str(alloc, name)?;
+    let board = LateBoard::new(alloc, sim_of(rt)?, number_of(from), late);
+    let mut rig: Box<dyn Rig> = Box::new(alloc, BoardRig::new(alloc, board))?;
     tell(rt, run_over(rt, &mut rig, words)?)
 }
 
@@ -137,6 +155,17 @@ fn try_lost(rt: &HostRuntime, name: &str) -> io::Result<bool> {
 fn try_words(rt: &HostRuntime, words: &[String]) -> io::Result<bool> {
     match words {
         [kind, turned, words @ ..] if kind.as_str() == "repeat" => try_repeat(
+            rt,
+            turned.as_str(),
+            words,
+        ),
+        [kind, from, name, words @ ..] if kind.as_str() == "late" => try_late(
+            rt,
+            from.as_str(),
+            name.as_str(),
+            words,
+        ),
+        [kind, turned, words @ ..] if kind.as_str() == "turn" => try_turn(
             rt,
             turned.as_str(),
             words,

@@ -12,7 +12,7 @@ use Rattle.run_image.specs.Rows.{most_rows, RowsBegin, IsAtOutputs, image_course
 
 -- the same work, of which the rows are such
 abbrev pub with_rows : RowWork → (are : (vectors rows : List (List Bool)) → Type 0) → RowWork
-with_rows w are = record { width = w.width; told = w.told; place = w.place; are = are; session = w.session; lost = w.lost; lacks = w.lacks }
+with_rows w are = record { width = w.width; told = w.told; place = w.place; are = are; session = w.session; differs = w.differs; lost = w.lost; lacks = w.lacks }
 
 module _ (w : RowWork) (are : (vectors rows : List (List Bool)) → Type 0) (also : (vectors rows : List (List Bool)) → w.are vectors rows → are vectors rows) where
   abbrev has-also : (text : List ℕ) → HasRows w text → HasRows (with_rows w are) text
@@ -48,6 +48,7 @@ module _ (w : RowWork) (are : (vectors rows : List (List Bool)) → Type 0) (als
   all-also text (refuses refused.Store) h = (read-also text h.0, h.1)
   all-also text (refuses refused.Rig) h = (has-also text h.0, h.1)
   all-also text (refuses refused.Memory) h = (read-also text h.0, h.1, h.2)
+  all-also text (refuses refused.Differ) h = (has-also text h.0, h.1, h.2)
   all-also text (refuses refusal) h = absurd h
 
   pub rows-also : (b : RowsBegin) (new : Around) (text : List ℕ) (next : Next) → image_course w b new text next → image_course (with_rows w are) b new text next
@@ -60,12 +61,12 @@ module _ (w : RowWork) (are : (vectors rows : List (List Bool)) → Type 0) (als
 -- ---- what it leads to
 
 module _ (w : RowWork) (b : RowsBegin) where
-  -- of vectors without a fault nothing is refused but what is excused
-  pub image-well : (old new : Around) (bytes : List ℕ) → w.told ≡ holds bytes → (says_at w.width bytes).fault ≡ None → Leads (λ text. Unit {0}) (image_course w b new) (EndsWell old new)
-  image-well old new bytes told none =
+  -- of vectors without a fault, for copies that never differ, nothing is refused but what is excused
+  pub image-well : (old new : Around) (bytes : List ℕ) → w.told ≡ holds bytes → (says_at w.width bytes).fault ≡ None → ((vectors rows : List (List Bool)) → w.differs vectors rows → ⊥) → Leads (λ text. Unit {0}) (image_course w b new) (EndsWell old new)
+  image-well old new bytes told none alike =
       after-leads (loads b.before new.rig) (StandsIn b.files b.begun new.store) (λ _. loaded_course w b new) (λ text. Unit {0}) (EndsWell old new)
       (λ _ refusal stops. rig-excused old new refusal stops.0)
-      (λ _ _. opened-well w w.told b.vectors b.files b.begun new.store (IsAtOutputs b.image b.vectors new) old new bytes told none)
+      (λ _ _. opened-well w w.told b.vectors b.files b.begun new.store (IsAtOutputs b.image b.vectors new) old new bytes told none alike)
 
   -- behind the line `outputs` memory is lacking only for more rows than there was room for
   pub image-few : (new : Around) (bytes : List ℕ) → w.told ≡ holds bytes → ((count : ℕ) → w.lacks count → most_rows ≤ count) → length (vectors_at w.width bytes) ≤ most_rows → (text more : List ℕ) → text ≡ outputs_line ++ more → image_course w b new text (refuses refused.Memory) → ⊥

@@ -1,5 +1,5 @@
 -- What the course of such a command leads to, where its files are right.
-use Rattle.std.proofs.Common.{◌≡◌, ◌⊎◌, ◌∙◌, ℕ, ◌≤◌, List, [], ◌++◌, length, None, refl, sym, ap, subst, inl, inr, append-nil}
+use Rattle.std.proofs.Common.{◌≡◌, ◌⊎◌, ◌∙◌, ℕ, ◌≤◌, Bool, List, [], ◌++◌, length, None, refl, sym, ap, subst, inl, inr, append-nil}
 use Rattle.base_io.specs.Told.{holds}
 use Rattle.machine_shape.specs.declared.Shape.{Shape}
 use Rattle.machine_text.specs.Machine.{IsMachine}
@@ -13,16 +13,18 @@ use Rattle.cmd_steps.proofs.Excused.{rig-excused}
 use Rattle.cmd_steps.proofs.ShapeLemmas.{one-machine}
 use Rattle.diag_list.specs.Lists.{Listed, IsListed, lists}
 use Rattle.diag_list.proofs.Texts.{AreNamed, told-of, never-empty, never-alone}
-use Rattle.run_image.specs.Rows.{most_rows, RowsBegin}
+use Rattle.run_image.specs.Rows.{most_rows, RowsBegin, DiffersBehind}
 use Rattle.run_image.proofs.CourseLemmas.{image-well, image-few}
 use Rattle.run_image.specs.Laid.{Laid, rows_work}
 use Rattle.run_image.specs.Runs.{HasOutputs, machine_listed}
 use Rattle.run_image.proofs.Scripts.{AreLaidOn, Words, IsRight, begin-at, run-course, run-leads}
 
 module _ (w : Words) (old new : Around) where
-  -- the vectors have no fault, and where such a list stands written nothing is refused but what is excused
+  -- the vectors have no fault, and where such a list stands written nothing is refused but what is excused, and no copies differ
   pub record Fits (front : List ℕ) (m : Shape) (x : Laid) : Type 0 where
     pub vectors : AreRightVectors (old.store.contents w.vectors) x.width
+    pub alike : (l : Listed) → IsListed m old.rig.loads new.rig l → front ≡ text_of l.list → (i : ImageValue) → (x.lays l.list).gives i
+        → (vectors rows : List (List Bool)) → DiffersBehind x.copies (old.store.contents w.vectors) i new.rig vectors rows → ⊥
     pub room : (l : Listed) → IsListed m old.rig.loads new.rig l → front ≡ text_of l.list
         → (refusal : Refusal) → (x.lays l.list).stops refusal → IsExcused refusal old new
 
@@ -57,7 +59,7 @@ module _ (w : Words) (old new : Around) where
     listed-well text next is (inr (l, list, inr (more, eq, inr (i, gives, at)))) =
         let f = (is (text_of l.list) more eq).vectors in
         let no_fault = subst (λ (k : ℕ). (says_at k f.bytes).fault ≡ None) (sym (on l.list i gives).inputs) f.no_fault in
-        image-well (rows-of i) (rows-begin l i) old new f.bytes f.is_told no_fault more next tt at
+        image-well (rows-of i) (rows-begin l i) old new f.bytes f.is_told no_fault ((is (text_of l.list) more eq).alike l list refl i gives) more next tt at
 
     -- ---- there is no room
 

@@ -19,6 +19,8 @@ use Rattle.cmd_steps.proofs.Leading.{stopped}
 use Rattle.cmd_steps.proofs.Standing.{Adds, Standing, stands-done}
 use Rattle.diag_list.specs.Possible.{MayHave}
 use Rattle.diag_list.specs.Lists.{Listed, IsListed, MadeFewLoads, unloaded, few, lists}
+use Rattle.run_image.specs.Copying.{all_repeated}
+use Rattle.run_image.proofs.Copied.{repeated-count}
 use Rattle.run_image.specs.Rows.{loads, RowsBegin, IsSession}
 use Rattle.run_image.proofs.CourseLemmas.{image-ends}
 use Rattle.run_image.specs.Laid.{Laid, rows_work}
@@ -78,10 +80,10 @@ module _ (w : Words) (old new : Outside) where
     pub covers : (f : Faults) → MayHave f new.rig → Covers made.list.shape made.list.list f
     pub uses_nothing_listed : UsesNothingListed made.list image new.rig
     pub right : (f : Faults) → MayHave f new.rig → ReadsRows f image x.rows
-    pub widths : All (λ vector. length vector ≡ length image.inputs) vectors
-    pub as_read : IsAsRead image vectors rows new.rig
-    pub outputs : (f : Faults) → MayHave f new.rig → x.rows vectors rows
-    pub over : OverHistories x made image vectors rows
+    pub widths : All (λ vector. length vector ≡ length image.inputs) (all_repeated x.copies vectors)
+    pub as_read : IsAsRead image (all_repeated x.copies vectors) (all_repeated x.copies rows) new.rig
+    pub outputs : (f : Faults) → MayHave f new.rig → x.rows (all_repeated x.copies vectors) (all_repeated x.copies rows)
+    pub over : OverHistories x made image (all_repeated x.copies vectors) (all_repeated x.copies rows)
     pub loaded : new.rig.loads ≡ next_count made.loads
 
   -- ---- of one that is laid
@@ -141,7 +143,7 @@ module _ (w : Words) (old new : Outside) where
             written_whole = record {
               is_list = list.kept;
               are_all = subst (λ (k : ℕ). AreAll k (old.store.contents w.vectors) has.vectors) o.inputs run.all;
-              count = has.are.read.count;
+              count = sym (repeated-count x.copies has.rows) ∙ (has.are.read.count ∙ repeated-count x.copies has.vectors);
               written = wrote-as text _ (is ∙ ap (λ (s : List ℕ). text_of l.list ++ s) run.text_is) wrote;
             };
             covers = covers;
@@ -149,10 +151,10 @@ module _ (w : Words) (old new : Outside) where
             right = λ f may. o.right f (covers f may);
             widths = has.are.read.widths;
             as_read = record { drives = run.rows.session.drives; rows_are = run.rows.session.rows_are };
-            outputs = λ f may. rows-right x i new.rig f (o.right f (covers f may)) has.vectors has.rows has.are.read.widths run.rows.session has.are.right may;
+            outputs = λ f may. rows-right x i new.rig f (o.right f (covers f may)) (all_repeated x.copies has.vectors) (all_repeated x.copies has.rows) has.are.read.widths run.rows.session has.are.right may;
             over = λ h faults covered ran_over.
-                subst (λ (r : List (List Bool)). x.rows has.vectors r) (sym run.rows.session.rows_are)
-                (covered_rows x.rows i o.image (o.right clean (covers_none clean_faultless)) h has.vectors _ has.are.read.widths
+                subst (λ (r : List (List Bool)). x.rows (all_repeated x.copies has.vectors) r) (sym run.rows.session.rows_are)
+                (covered_rows x.rows i o.image (o.right clean (covers_none clean_faultless)) h (all_repeated x.copies has.vectors) _ has.are.read.widths
                 (subst (λ ds. IsRunOver h i.config ds (readings_of (cycles_of new.rig))) run.rows.session.drives ran_over)
                 l.list.list (subst (λ (s : Shape). IsHistoryOf s h) (sym o.shape) faults) o.free
                 (λ cycle instant. subst (λ (s : Shape). Covers s l.list.list (h cycle instant)) (sym o.shape) (covered cycle instant)));

@@ -10,7 +10,8 @@ use Rattle.cmd_steps.specs.declared.refusal.Stop.{Stop}
 use Rattle.cmd_steps.proofs.Making.{rig-took, rig-stopped}
 use Rattle.cmd_steps.proofs.OpenedRows.{opening-stops, outputs-stops, rows-then}
 use Rattle.cmd_steps.proofs.Taking.{step-stops, step-gives}
-use Rattle.run_image.specs.Rows.{RowsBegin, IsAtOutputs, image_rows, image_course, loaded_course, loads}
+use Rattle.run_image.specs.Rows.{RowsBegin, IsAtOutputs, copied_rows, image_course, loaded_course, loads}
+use Rattle.run_image.specs.declared.copies.Copies.{Copies}
 use Rattle.run_image.specs.Running.{prepares}
 use Rattle.run_image.specs.declared.image.Running.{Running}
 
@@ -37,12 +38,12 @@ loaded-then w b rows result old mid new took before machine rest_is =
     let counted : new.rig.loads ≡ next_count b.before = same.1 ∙ (took.gives ∙ ap next_count (sym before)) in
     step-gives (loads b.before new.rig) (StandsIn b.files b.begun new.store) (λ _. loaded_course w b (around new)) (prepares old.rig mid.rig) [] (b.vectors ∷ []) _ _ rows tt result old mid new took counted rest_is (same.0 ∙ machine)
 
-module _ (i : ImageValue) (vectors : List ℕ) (files : List (List ℕ)) (begun : StoreState) (failures : ℕ) (old mid : Outside) (stands : StandsIn files begun mid.store) where
+module _ (c : Copies) (i : ImageValue) (vectors : List ℕ) (files : List (List ℕ)) (begun : StoreState) (failures : ℕ) (old mid : Outside) (stands : StandsIn files begun mid.store) where
   abbrev begin : RowsBegin
   begin = record { image = i; vectors = vectors; files = files; begun = begun; before = old.rig.loads }
 
   abbrev work : Outside → RowWork
-  work new = image_rows i (mid.store.contents vectors) new.store.current failures new.rig
+  work new = copied_rows c i (mid.store.contents vectors) new.store.current failures new.rig
 
   abbrev course : Outside → Course
   course new = image_course (work new) begin (around new)
@@ -68,6 +69,6 @@ module _ (i : ImageValue) (vectors : List ℕ) (files : List (List ℕ)) (begun 
           loaded-then (work opened) begin rows result old mid (outside opened.store opened.rig sink) loaded refl machine (outputs-stops (mid.store.contents vectors) vectors files begun (here opened) (all_rows (work opened)) mid refl stands opened took _ stop result sink is puts at same)
 
       -- or it is, and the rows are followed: those of this image and this file
-      pub rows-follow : {U : Type 0} (j : ImageValue) (told : Told) (result : Result U Stop) (sink : SinkState) (new : Outside) → j ≡ i → told ≡ mid.store.contents vectors → Puts {T = Unit {0}} outputs_line (Ok tt) opened.sink sink → SameRig mid.rig new.rig → Follows ⊥ [] (SameRig opened.rig new.rig) (all_rows (image_rows j told new.store.current failures new.rig)) result (outside opened.store opened.rig sink) new → Follows ⊥ (vectors ∷ []) (new.rig.machine ≡ old.rig.machine) (course new) result old new
-      rows-follow j told result sink new image file puts rigs rest_is =
-          loaded-then (work new) begin rows result old mid new loaded refl machine (rows-then (mid.store.contents vectors) vectors files begun (here new) (all_rows (work new)) mid refl stands opened took _ (SameRig opened.rig new.rig) _ result sink new puts (rw (← image, ← file) rest_is) rigs)
+      pub rows-follow : {U : Type 0} (k : Copies) (j : ImageValue) (told : Told) (result : Result U Stop) (sink : SinkState) (new : Outside) → k ≡ c → j ≡ i → told ≡ mid.store.contents vectors → Puts {T = Unit {0}} outputs_line (Ok tt) opened.sink sink → SameRig mid.rig new.rig → Follows ⊥ [] (SameRig opened.rig new.rig) (all_rows (copied_rows k j told new.store.current failures new.rig)) result (outside opened.store opened.rig sink) new → Follows ⊥ (vectors ∷ []) (new.rig.machine ≡ old.rig.machine) (course new) result old new
+      rows-follow k j told result sink new copies image file puts rigs rest_is =
+          loaded-then (work new) begin rows result old mid new loaded refl machine (rows-then (mid.store.contents vectors) vectors files begun (here new) (all_rows (work new)) mid refl stands opened took _ (SameRig opened.rig new.rig) _ result sink new puts (rw (← copies, ← image, ← file) rest_is) rigs)

@@ -1,4 +1,5 @@
 -- What is cited above.
+pub mod Copied
 pub mod Driving
 pub mod CourseLemmas
 pub mod Bodies

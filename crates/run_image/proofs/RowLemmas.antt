@@ -1,27 +1,33 @@
 -- How the rows of an image go on, and how they stop.
-use Rattle.std.proofs.Common.{◌≡◌, ◌⊎◌, ℕ, zero, suc, ◌≤◌, Bool, false, List, [], ◌∷◌, ◌++◌, length, map, flat_map, Option, None, Some, IfSome, arith, refl, ap, subst, inl, inr, ◌∙◌, Ok, Err}
+use Rattle.std.proofs.Common.{◌≡◌, ◌⊎◌, ℕ, zero, suc, ◌≤◌, Bool, false, List, [], ◌∷◌, ◌++◌, length, map, flat_map, Option, None, Some, IfSome, arith, refl, sym, ap, subst, inl, inr, ◌∙◌, Ok, Err}
 use Rattle.std.specs.List.{All}
 use Rattle.std.proofs.lemmas.List.Elements.{All-append}
 use Rattle.base_io.specs.Sink.{SinkState}
+use Rattle.base_io.specs.Told.{Told}
 use Rattle.machine_meaning.specs.Vocabulary.{Pins, Faults}
 use Rattle.machine_config.specs.Vocabulary.{Configuration, IsRun}
 use Rattle.rig.specs.Rig.{RigState, Exchange, config_of, cycles_of, drives_of, readings_of}
 use Rattle.machine_image.specs.Images.{ImageValue, drive_of, image_row}
 use Rattle.run_image.specs.Pins.{pins_in}
 use Rattle.run_image.specs.Run.{RunsRow}
+use Rattle.run_image.proofs.Copied.{repeated-more, repeated-count, repeated-none, repeated-long}
 use Rattle.run_image.proofs.Driving.{HasDriven, driven-start, driven-more}
 use Rattle.design_vectors.specs.declared.vectors.VectorsFail.{VectorsFail}
 use Rattle.design_vectors.specs.declared.vectors.VectorsFail.TheVariants.{Text, Failed}
 use Rattle.design_vectors.specs.Readings.{NextGives, NextFails}
 use Rattle.design_vectors.specs.Rows.{row_line}
-use Rattle.cmd_steps.specs.Vocabulary.{file_of, IsBegun, IsNearNext, IsRead, IsPutOut, IsHeldUp, WaitsOrPuts, Outside, outside, IsLater, RowWork, all_rows, HasRows, refuses, IsCounted, stop_of_vectors, Follows}
+use Rattle.cmd_steps.specs.Vocabulary.{file_of, AreFirst, IsBegun, IsNearNext, IsRead, IsPutOut, IsHeldUp, WaitsOrPuts, Outside, outside, IsLater, RowWork, all_rows, HasRows, refuses, IsCounted, stop_of_vectors, Follows}
 use Rattle.cmd_steps.specs.declared.refusal.Refusal.{Refusal}
 use Rattle.cmd_steps.specs.declared.refusal.Refusal.TheVariants as refused
 use Rattle.cmd_steps.specs.declared.refusal.Stop.{Stop}
 use Rattle.cmd_steps.specs.declared.refusal.Stop.TheVariants.{Refused, Sink}
-use Rattle.cmd_steps.proofs.WrittenRows.{AreWritten, none-written, row-later, put-out, after-put, read-after, was-read, all-written, added, not-added, some-lines, stays-same, near-next, waits-more, has-rows, rows-follow, vectors-follow, end-follows, held-follows}
-use Rattle.run_image.specs.Rows.{most_rows, image_rows, AreRunRows, AreRowsOf, IsSession}
-use Rattle.run_image.specs.Running.{IsFitting, IsLoaded, IsDriven, Keeps, CycleGives, CycleStops, HasOrFailed, at_rows}
+use Rattle.cmd_steps.proofs.WrittenRows.{AreWritten, none-written, row-later, put-out, after-put, read-after, was-read, all-written, added, not-added, some-lines, stays-same, near-next, taken-more, waits-more, has-rows, rows-follow, vectors-follow, end-follows, held-follows}
+use Rattle.cmd_steps.proofs.VectorLemmas.{taken-first}
+use Rattle.run_image.specs.Copying.{share, times, repeated, all_repeated, IsApart}
+use Rattle.run_image.specs.declared.copies.Copies.{Copies}
+use Rattle.run_image.specs.declared.copies.Copies.TheVariants.{One, Two}
+use Rattle.run_image.specs.Rows.{most_rows, copied_rows, AreRunRows, AreRowsOf, IsSession, DiffersBehind}
+use Rattle.run_image.specs.Running.{IsFitting, IsLoaded, IsDriven, IsReadApart, Keeps, CycleGives, CycleStops, HasOrFailed, at_rows}
 use Rattle.run_image.specs.declared.image.Running.{Running}
 
 -- the vector has a bit for each input pin
@@ -36,16 +42,17 @@ one-width image vector is zero e lt = is
 one-width image vector is (suc k) e lt = absurd (let no : ⊥ = omega (arith, lt) in no)
 
 -- the rows so far
-pub record IsDriving (image : ImageValue) (begun : Outside) (rows : Running) (now : Outside) : Type 0 where
+pub record IsDriving (copies : Copies) (image : ImageValue) (begun : Outside) (rows : Running) (now : Outside) : Type 0 where
   pub image_is : rows.image ≡ image
+  pub copies_is : rows.copies ≡ copies
   pub fits : IsFitting rows
   pub vectors : List (List Bool)
   pub done : List (List Bool)
-  pub written : AreWritten (length image.inputs) begun rows.vectors rows.block.text now vectors done
-  pub widths : All (HasWidth image) vectors
+  pub written : AreWritten (share copies (length image.inputs)) begun rows.vectors rows.block.text now vectors done
+  pub widths : All (HasWidth image) (all_repeated copies vectors)
   pub machine : now.rig.machine ≡ begun.rig.machine
   pub loads : now.rig.loads ≡ begun.rig.loads
-  pub driven : HasDriven most_rows image vectors done now.rig
+  pub driven : HasDriven most_rows image (all_repeated copies vectors) (all_repeated copies done) now.rig
 
 -- ---- what a session has read
 
@@ -72,24 +79,36 @@ session-is rig rig' i vectors rows same is = record {
   room = rw same is.left;
 }
 
+-- as many rows as vectors, also where both are repeated
+counts-are : (c : Copies) (vectors rows : List (List Bool)) → length rows ≡ length vectors → length (all_repeated c rows) ≡ length (all_repeated c vectors)
+counts-are c vectors rows count = repeated-count c rows ∙ (count ∙ sym (repeated-count c vectors))
+
+-- copies that read differently are two
+apart-at : (c : Copies) (told : Told) (image : ImageValue) (rig : RigState) (vectors rows : List (List Bool)) (vector reading : List Bool) → AreFirst (share c (length image.inputs)) told (vectors ++ vector ∷ [])
+    → All (HasWidth image) (all_repeated c (vectors ++ vector ∷ [])) → IsSession rig image (all_repeated c (vectors ++ vector ∷ [])) (all_repeated c rows ++ reading ∷ []) → IsApart c reading → DiffersBehind c told image rig vectors rows
+apart-at One told image rig vectors rows vector reading next widths session apart = absurd apart
+apart-at Two told image rig vectors rows vector reading next widths session apart =
+    record { vector = vector; reading = reading; next = next; widths = widths; session = session; halves = apart }
+
 -- ---- the loop
 
-pub IsDriving-start : (rows : Running) (o : Outside) → IsLoaded rows o.rig → IsBegun o.store → IsDriving rows.image o rows o
+pub IsDriving-start : (rows : Running) (o : Outside) → IsLoaded rows o.rig → IsBegun o.store → IsDriving rows.copies rows.image o rows o
 IsDriving-start rows o loaded begun = record {
   image_is = refl;
+  copies_is = refl;
   fits = loaded.fits;
   vectors = [];
   done = [];
-  written = rw (loaded.vectors, loaded.none) (none-written (length rows.image.inputs) o begun);
-  widths = no-widths rows.image;
+  written = rw (loaded.vectors, loaded.none) (none-written (share rows.copies (length rows.image.inputs)) o begun);
+  widths = subst (λ (vs : List (List Bool)). All (HasWidth rows.image) vs) (sym (repeated-none rows.copies)) (no-widths rows.image);
   machine = refl;
   loads = refl;
-  driven = driven-start most_rows rows.image o.rig loaded.begins;
+  driven = subst (λ (none : List (List Bool)). HasDriven most_rows rows.image none none o.rig) (sym (repeated-none rows.copies)) (driven-start most_rows rows.image o.rig loaded.begins);
 }
 
-module _ (image : ImageValue) (failures : ℕ) (begun now new : Outside) (rows rows' : Running) (so_far : IsDriving image begun rows now) (few : failures ≤ begun.rig.failures) (keeps : Keeps rows rows' now.store new.store now.rig new.rig) where
+module _ (copies : Copies) (image : ImageValue) (failures : ℕ) (begun now new : Outside) (rows rows' : Running) (so_far : IsDriving copies image begun rows now) (few : failures ≤ begun.rig.failures) (keeps : Keeps rows rows' now.store new.store now.rig new.rig) where
   abbrev work : RowWork
-  work = image_rows image (file_of begun.store) new.store.current failures new.rig
+  work = copied_rows copies image (file_of begun.store) new.store.current failures new.rig
 
   abbrev same_rig : Type 0
   same_rig = (new.rig.machine ≡ begun.rig.machine) × (new.rig.loads ≡ begun.rig.loads)
@@ -100,22 +119,57 @@ module _ (image : ImageValue) (failures : ℕ) (begun now new : Outside) (rows r
   onward : (from to : SinkState) → to.can_lack ≡ from.can_lack → from.failures ≤ to.failures → IsLater (outside now.store now.rig from) (outside new.store new.rig to)
   onward from to kind later = row-later now.store new.store now.rig new.rig from to keeps.store keeps.machine keeps.narrows keeps.failures kind later
 
-  -- the rows so far are those of the machine
-  are-rows : AreRowsOf new.rig image so_far.vectors so_far.done
-  are-rows = session-rows now.rig new.rig image so_far.vectors so_far.done keeps.machine so_far.written.count so_far.widths so_far.driven
+  -- one more vector for each copy
+  widths-more : (vector : List Bool) → length vector ≡ share copies (length image.inputs) → All (HasWidth image) (all_repeated copies (so_far.vectors ++ vector ∷ []))
+  widths-more vector wide =
+      let all : times copies (share copies (length image.inputs)) ≡ length image.inputs = rw (so_far.image_is, so_far.copies_is) at so_far.fits.shares.inputs in
+      let width : HasWidth image (repeated copies vector) = repeated-long copies vector ∙ (ap (times copies) wide ∙ all) in
+      subst (λ (vs : List (List Bool)). All (HasWidth image) vs) (sym (repeated-more copies so_far.vectors vector))
+      (All-append (HasWidth image) (all_repeated copies so_far.vectors) (repeated copies vector ∷ []) so_far.widths (one-width image (repeated copies vector) width))
 
-  session-still : new.rig.session ≡ now.rig.session → IsSession new.rig image so_far.vectors so_far.done
-  session-still same = session-is now.rig new.rig image so_far.vectors so_far.done same so_far.driven
+  -- the rows so far are those of the machine
+  are-rows : AreRowsOf new.rig image (all_repeated copies so_far.vectors) (all_repeated copies so_far.done)
+  are-rows = session-rows now.rig new.rig image _ _ keeps.machine (counts-are copies so_far.vectors so_far.done so_far.written.count) so_far.widths so_far.driven
+
+  session-still : new.rig.session ≡ now.rig.session → work.session so_far.vectors so_far.done
+  session-still same = session-is now.rig new.rig image _ _ same so_far.driven
 
   -- ---- no further row is made, and those that wait aren't put out
 
-  has-or-lost : HasOrFailed now.rig new.rig → IsSession new.rig image so_far.vectors so_far.done ⊎ work.lost
-  has-or-lost (inl same) = inl (session-still same)
-  has-or-lost (inr rose) = inr (omega (arith, few, so_far.written.later.rig, rose))
+  -- one more vector was read and driven, and the copies read differently
+  abbrev DrivenApart : Type 0
+  DrivenApart = IsReadApart rows rows' (at_rows rows now.store now.sink) (at_rows rows' new.store new.sink) now.rig new.rig
 
-  held-stops : {U : Type 0} (stop : Stop) → IsHeldUp stop rows.block.text now.store new.store now.sink new.sink → HasOrFailed now.rig new.rig → Follows {T = U} ⊥ [] same_rig (all_rows work) (Err stop) begun new
+  module _ (apart : DrivenApart) (later : IsLater now new) where
+    first-apart : AreFirst (share copies (length image.inputs)) (file_of begun.store) (so_far.vectors ++ rows'.vector.items ∷ [])
+    first-apart =
+        taken-first _ begun.store new.store rows'.vectors _
+        (taken-more _ begun now new rows.vectors rows'.vectors rows.block.text so_far.vectors so_far.done rows'.vector.items so_far.written later keeps.store.asked apart.read)
+
+    driven-apart : HasDriven most_rows image (all_repeated copies (so_far.vectors ++ rows'.vector.items ∷ [])) (all_repeated copies so_far.done ++ apart.reading ∷ []) new.rig
+    driven-apart =
+        let row : RunsRow (pins_in image) now.rig new.rig (repeated copies rows'.vector.items) apart.reading = rw (so_far.image_is, so_far.copies_is) at apart.row in
+        subst (λ (vs : List (List Bool)). HasDriven most_rows image vs (all_repeated copies so_far.done ++ apart.reading ∷ []) new.rig) (sym (repeated-more copies so_far.vectors rows'.vector.items))
+        (driven-more most_rows image _ _ _ _ now.rig new.rig so_far.driven row)
+
+    differs-behind : work.differs so_far.vectors so_far.done
+    differs-behind =
+        let width : length rows'.vector.items ≡ share copies (length image.inputs) = rw (so_far.image_is, so_far.copies_is) at apart.width in
+        let apart_is : IsApart copies apart.reading = rw so_far.copies_is at apart.apart in
+        apart-at copies (file_of begun.store) image new.rig so_far.vectors so_far.done rows'.vector.items apart.reading first-apart (widths-more rows'.vector.items width)
+        (session-is new.rig new.rig image _ _ refl driven-apart) apart_is
+
+  has-or-lost : HasOrFailed now.rig new.rig → work.session so_far.vectors so_far.done ⊎ (work.differs so_far.vectors so_far.done ⊎ work.lost)
+  has-or-lost (inl same) = inl (session-still same)
+  has-or-lost (inr rose) = inr (inr (omega (arith, few, so_far.written.later.rig, rose)))
+
+  held-session : IsLater now new → HasOrFailed now.rig new.rig ⊎ DrivenApart → work.session so_far.vectors so_far.done ⊎ (work.differs so_far.vectors so_far.done ⊎ work.lost)
+  held-session later (inl rig) = has-or-lost rig
+  held-session later (inr apart) = inr (inl (differs-behind apart later))
+
+  held-stops : {U : Type 0} (stop : Stop) → IsHeldUp stop rows.block.text now.store new.store now.sink new.sink → HasOrFailed now.rig new.rig ⊎ DrivenApart → Follows {T = U} ⊥ [] same_rig (all_rows work) (Err stop) begun new
   held-stops stop held rig =
-      held-follows work begun now new rows.vectors rows.block.text so_far.vectors so_far.done so_far.written (onward now.sink new.sink held.kind held.later) keeps.store.asked refl refl same_rig rig-same are-rows (has-or-lost rig) held.still stop held
+      held-follows work begun now new rows.vectors rows.block.text so_far.vectors so_far.done so_far.written (onward now.sink new.sink held.kind held.later) keeps.store.asked refl refl same_rig rig-same are-rows (held-session (onward now.sink new.sink held.kind held.later) rig) held.still stop held
 
   -- ---- or they are
 
@@ -126,7 +180,7 @@ module _ (image : ImageValue) (failures : ℕ) (begun now new : Outside) (rows r
   put-later = onward new.sink new.sink refl (omega arith)
 
   module _ (out : IsPutOut rows.block.text rows'.block.text now.sink new.sink) where
-    all-put : AreWritten (length image.inputs) begun rows.vectors rows'.block.text put_now so_far.vectors so_far.done
+    all-put : AreWritten (share copies (length image.inputs)) begun rows.vectors rows'.block.text put_now so_far.vectors so_far.done
     all-put = put-out _ _ _ _ now _ _ so_far.written rows'.block.text new.sink out
 
     abbrev has : HasRows work (flat_map row_line so_far.done)
@@ -141,9 +195,9 @@ module _ (image : ImageValue) (failures : ℕ) (begun now new : Outside) (rows r
         end-follows work begun put_now new rows.vectors rows'.block.text so_far.vectors so_far.done all-put put-later keeps.store.asked refl refl same_rig rig-same are-rows (session-still (ap (λ (r : RigState). r.session) same)) out.empty refl x rows'.vectors rows'.vector.items gives
 
     -- the rig doesn't drive the vector that was read
-    put-stops : {U : Type 0} (refusal : Refusal) → IsCounted ⊥ (Refused refusal) put_now new → (IsNearNext (length image.inputs) (file_of begun.store) new.store.current (length so_far.done) → all_rows work (flat_map row_line so_far.done) (refuses refusal)) → IsRead rows'.vector.items rows.vectors rows'.vectors now.store new.store → Follows {T = U} ⊥ [] same_rig (all_rows work) (Err (Refused refusal)) begun new
+    put-stops : {U : Type 0} (refusal : Refusal) → IsCounted ⊥ (Refused refusal) put_now new → (IsNearNext (share copies (length image.inputs)) (file_of begun.store) new.store.current (length so_far.done) → all_rows work (flat_map row_line so_far.done) (refuses refusal)) → IsRead rows'.vector.items rows.vectors rows'.vectors now.store new.store → Follows {T = U} ⊥ [] same_rig (all_rows work) (Err (Refused refusal)) begun new
     put-stops refusal counted at read =
-        let near = near-next (length image.inputs) begun put_now new rows.vectors rows'.vectors rows'.block.text so_far.vectors so_far.done rows'.vector.items all-put put-later keeps.store.asked read in
+        let near = near-next (share copies (length image.inputs)) begun put_now new rows.vectors rows'.vectors rows'.block.text so_far.vectors so_far.done rows'.vector.items all-put put-later keeps.store.asked read in
         let wrote = all-written _ begun _ _ put_now _ _ all-put out.empty in
         rows-follow work begun put_now new rows.vectors rows'.block.text so_far.vectors so_far.done all-put put-later keeps.store.asked refl refl same_rig rig-same (Err (Refused refusal)) (flat_map row_line so_far.done, at near, wrote) counted
 
@@ -155,8 +209,11 @@ module _ (image : ImageValue) (failures : ℕ) (begun now new : Outside) (rows r
       put-stops stops.out refused.Rig stops.fails.0 (λ near. (has stops.out, near)) stops.read
   cycle-stops (Refused refused.Memory) stops =
       let left = so_far.driven.left in
-      let lacks : most_rows ≤ length so_far.done = omega (arith, left, stops.fails.0) in
+      let size = repeated-count copies so_far.done in
+      let lacks : most_rows ≤ length so_far.done = omega (arith, left, size, stops.fails.0) in
       put-stops stops.out refused.Memory tt (λ near. (record { has = has stops.out; session = session-still stops.fails.1 }, lacks, near)) stops.read
+  cycle-stops (Refused refused.Differ) stops =
+      put-stops stops.1 refused.Differ tt (λ near. (has stops.1, differs-behind stops.0 (onward now.sink new.sink stops.1.kind stops.1.later), near)) stops.0.read
   cycle-stops (Refused refusal) stops = absurd stops.0
 
   -- the file has ended
@@ -166,21 +223,25 @@ module _ (image : ImageValue) (failures : ℕ) (begun now new : Outside) (rows r
   -- ---- the row of one more vector
 
   module _ (driven : IsDriven rows rows' (at_rows rows now.store now.sink) (at_rows rows' new.store new.sink) now.rig new.rig) (fits : IsFitting rows') where
-    driven-next : HasDriven most_rows image (so_far.vectors ++ rows'.vector.items ∷ []) (so_far.done ++ rows'.row.items ∷ []) new.rig
-    driven-next =
-        let row : RunsRow (pins_in image) now.rig new.rig rows'.vector.items rows'.row.items = rw so_far.image_is at driven.row in
-        driven-more most_rows image so_far.vectors so_far.done rows'.vector.items rows'.row.items now.rig new.rig so_far.driven row
+    vector-wide : length rows'.vector.items ≡ share copies (length image.inputs)
+    vector-wide =
+        let copies_are : rows'.copies ≡ copies = keeps.copies ∙ so_far.copies_is in
+        let image_is : rows'.image ≡ image = keeps.image ∙ so_far.image_is in
+        rw (copies_are, image_is) at fits.vector
 
-    widths-next : All (HasWidth image) (so_far.vectors ++ rows'.vector.items ∷ [])
-    widths-next =
-        let width : HasWidth image rows'.vector.items = fits.vector ∙ ap (λ (i : ImageValue). length i.inputs) (keeps.image ∙ so_far.image_is) in
-        All-append (HasWidth image) so_far.vectors (rows'.vector.items ∷ []) so_far.widths (one-width image rows'.vector.items width)
+    driven-next : HasDriven most_rows image (all_repeated copies (so_far.vectors ++ rows'.vector.items ∷ [])) (all_repeated copies (so_far.done ++ rows'.row.items ∷ [])) new.rig
+    driven-next =
+        let row : RunsRow (pins_in image) now.rig new.rig (repeated copies rows'.vector.items) (repeated copies rows'.row.items) = rw (so_far.image_is, so_far.copies_is) at driven.row in
+        rw (repeated-more copies so_far.vectors, repeated-more copies so_far.done) (driven-more most_rows image _ _ _ _ now.rig new.rig so_far.driven row)
+
+    widths-next : All (HasWidth image) (all_repeated copies (so_far.vectors ++ rows'.vector.items ∷ []))
+    widths-next = widths-more rows'.vector.items vector-wide
 
     -- the rows before it, and with it
-    before-it : AreWritten (length image.inputs) begun rows.vectors rows'.block.text put_now so_far.vectors so_far.done
+    before-it : AreWritten (share copies (length image.inputs)) begun rows.vectors rows'.block.text put_now so_far.vectors so_far.done
     before-it = read-after _ _ _ _ now _ _ so_far.written _ new.store new.sink driven.next.1
 
-    with-it : AreWritten (length image.inputs) begun rows'.vectors (rows'.block.text ++ row_line rows'.row.items) new (so_far.vectors ++ rows'.vector.items ∷ []) (so_far.done ++ rows'.row.items ∷ [])
+    with-it : AreWritten (share copies (length image.inputs)) begun rows'.vectors (rows'.block.text ++ row_line rows'.row.items) new (so_far.vectors ++ rows'.vector.items ∷ []) (so_far.done ++ rows'.row.items ∷ [])
     with-it = waits-more _ _ put_now new _ _ _ _ _ _ before-it put-later keeps.store.asked driven.next.0 (was-read _ _ _ _ _ _ driven.next.1) refl rows'.row.items
 
     still : (last : SinkState) → last.can_lack ≡ new.sink.can_lack → new.sink.failures ≤ last.failures → IsLater new (outside new.store new.rig last)
@@ -191,12 +252,13 @@ module _ (image : ImageValue) (failures : ℕ) (begun now new : Outside) (rows r
     row-stops stop left last waits =
         let held = not-added _ left stop new.store new.sink last (some-lines rows'.block.text rows'.row.items) waits in
         held-follows work begun new (outside new.store new.rig last) rows'.vectors _ _ _ with-it (still last held.kind held.later) refl refl refl same_rig rig-same
-        (session-rows new.rig new.rig image _ _ refl with-it.count widths-next driven-next) (inl (session-is new.rig new.rig image _ _ refl driven-next)) refl stop held
+        (session-rows new.rig new.rig image _ _ refl (counts-are copies _ _ with-it.count) widths-next driven-next) (inl (session-is new.rig new.rig image _ _ refl driven-next)) refl stop held
 
     -- or they are, or wait
-    pub IsDriving-more : (last_rows : Running) (last : SinkState) → last_rows.image ≡ rows'.image → last_rows.vectors ≡ rows'.vectors → IsFitting last_rows → WaitsOrPuts (rows'.block.text ++ row_line rows'.row.items) last_rows.block.text (Ok tt) new.sink last → IsDriving image begun last_rows (outside new.store new.rig last)
-    IsDriving-more last_rows last same vectors last_fits waits = record {
+    pub IsDriving-more : (last_rows : Running) (last : SinkState) → last_rows.image ≡ rows'.image → last_rows.copies ≡ rows'.copies → last_rows.vectors ≡ rows'.vectors → IsFitting last_rows → WaitsOrPuts (rows'.block.text ++ row_line rows'.row.items) last_rows.block.text (Ok tt) new.sink last → IsDriving copies image begun last_rows (outside new.store new.rig last)
+    IsDriving-more last_rows last same same_copies vectors last_fits waits = record {
       image_is = same ∙ (keeps.image ∙ so_far.image_is);
+      copies_is = same_copies ∙ (keeps.copies ∙ so_far.copies_is);
       fits = last_fits;
       vectors = so_far.vectors ++ rows'.vector.items ∷ [];
       done = so_far.done ++ rows'.row.items ∷ [];

@@ -7,20 +7,25 @@ use Rattle.machine_image.specs.Vocabulary.{ImageValue, IsImage, IsFreeImage}
 use Rattle.place_route.specs.RightImages.{ReadsRows}
 use Rattle.rig.specs.Rig.{RigState}
 use Rattle.cmd_steps.specs.Courses.{Step, RowWork}
-use Rattle.run_image.specs.Rows.{most_rows, AreRowsOf, IsSession}
+use Rattle.run_image.specs.Copying.{share, all_repeated, AreEqualShares}
+use Rattle.run_image.specs.Rows.{most_rows, AreRowsOf, IsSession, DiffersBehind}
+use Rattle.run_image.specs.declared.copies.Copies.{Copies}
 
--- how it is laid on what a list leaves free, how many bits a vector of it has, and what its rows are
+-- how it is laid on what a list leaves free, how many copies there are that are driven alike, how many bits a vector of one copy has,
+-- and what the rows of all copies are
 pub record Laid : Type 1 where
   pub lays : DefectList → Step ImageValue
+  pub copies : Copies
   pub width : ℕ
   pub rows : (vectors rows : List (List Bool)) → Type 0
 
--- The image is of the machine, has a pin for each bit of a vector, and touches only what the list leaves free. Under all faults
--- that the list covers it reads the rows
+-- The image is of the machine, has a pin of each copy for each bit of a vector, and touches only what the list leaves free. Under all
+-- faults that the list covers it reads the rows
 pub record IsLaidOn (w : Laid) (d : DefectList) (i : ImageValue) : Type 0 where
   pub image : IsImage i
   pub shape : i.config.shape ≡ d.shape
-  pub inputs : length i.inputs ≡ w.width
+  pub shares : AreEqualShares w.copies i
+  pub inputs : share w.copies (length i.inputs) ≡ w.width
   pub free : IsFreeImage d.list i
   pub right : (f : Faults) → Covers d.shape d.list f → ReadsRows f i w.rows
 
@@ -32,11 +37,12 @@ pub record AreLaidRows (w : Laid) (rig : RigState) (i : ImageValue) (vectors row
 -- the rig had failed so many times as the command began
 abbrev pub rows_work : Laid → ImageValue → Told → Option StorePlace → (failures : ℕ) → RigState → RowWork
 rows_work w i told place failures rig = record {
-  width = length i.inputs;
+  width = share w.copies (length i.inputs);
   told = told;
   place = place;
-  are = AreLaidRows w rig i;
-  session = IsSession rig i;
+  are = λ vectors rows. AreLaidRows w rig i (all_repeated w.copies vectors) (all_repeated w.copies rows);
+  session = λ vectors rows. IsSession rig i (all_repeated w.copies vectors) (all_repeated w.copies rows);
+  differs = λ vectors rows. DiffersBehind w.copies told i rig vectors rows;
   lost = Rose failures rig.failures;
   lacks = λ count. most_rows ≤ count;
 }

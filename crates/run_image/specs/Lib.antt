@@ -2,6 +2,7 @@
 pub mod Driven
 pub mod Pins
 pub mod Run
+pub mod Copying
 -- ---- cited above
 pub mod Rows
 pub mod Laid

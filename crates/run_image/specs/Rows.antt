@@ -1,13 +1,17 @@
 -- The rows of an image that is loaded, wherever it comes from.
-use Rattle.std.specs.Prelude.{◌≡◌, ℕ, ◌+◌, ◌≤◌, Bool, List, [], ◌∷◌, map, length, Option, Some, IfSome}
+use Rattle.std.specs.Prelude.{◌≡◌, ℕ, ◌+◌, ◌≤◌, Bool, List, [], ◌∷◌, ◌++◌, map, length, Option, Some, IfSome}
 use Rattle.std.specs.List.{All}
 use Rattle.base_io.specs.Vocabulary.{Told, next_count, Rose, StorePlace, StoreState}
 use Rattle.machine_meaning.specs.Vocabulary.{Pins, Faults}
 use Rattle.machine_config.specs.Faulty.{IsRun}
 use Rattle.machine_image.specs.Images.{ImageValue, drive_of, image_row}
 use Rattle.rig.specs.Rig.{RigState, config_of, cycles_of, drives_of, readings_of, spare_of}
-use Rattle.cmd_steps.specs.Vocabulary.{outputs_line, Around, StandsIn, Course, Step, RowWork, after, write, all_rows, opens, FailsOnRig}
+use Rattle.cmd_steps.specs.Vocabulary.{AreFirst, outputs_line, Around, StandsIn, Course, Step}
+use Rattle.cmd_steps.specs.Vocabulary.{RowWork, after, write, all_rows, opens, FailsOnRig}
 use Rattle.cmd_steps.specs.Vocabulary.{LoadsOnce}
+use Rattle.run_image.specs.Copying.{share, all_repeated, HalvesDiffer}
+use Rattle.run_image.specs.declared.copies.Copies.{Copies}
+use Rattle.run_image.specs.declared.copies.Copies.TheVariants.{One, Two}
 
 -- for how many rows the rig is asked for room
 abbrev pub most_rows : ℕ
@@ -31,17 +35,37 @@ pub record IsSession (rig : RigState) (i : ImageValue) (vectors rows : List (Lis
   pub rows_are : rows ≡ map (image_row i) (readings_of (cycles_of rig))
   pub room : most_rows ≤ spare_of rig + length rows
 
--- the rows of an image. The rig had failed so many times as the command began
-abbrev pub image_rows : ImageValue → Told → Option StorePlace → (failures : ℕ) → RigState → RowWork
-image_rows i told place failures rig = record {
-  width = length i.inputs;
+-- Behind these rows of two copies the session has one more reading, of the file's next vector, whose halves differ
+pub record ReadsApart (told : Told) (i : ImageValue) (rig : RigState) (vectors rows : List (List Bool)) : Type 0 where
+  pub vector : List Bool
+  pub reading : List Bool
+  pub next : AreFirst (share Two (length i.inputs)) told (vectors ++ vector ∷ [])
+  pub widths : All (λ driven. length driven ≡ length i.inputs) (all_repeated Two (vectors ++ vector ∷ []))
+  pub session : IsSession rig i (all_repeated Two (vectors ++ vector ∷ [])) (all_repeated Two rows ++ reading ∷ [])
+  pub halves : HalvesDiffer reading
+
+-- one copy alone never differs
+abbrev pub DiffersBehind : Copies → Told → ImageValue → RigState → (vectors rows : List (List Bool)) → Type 0
+DiffersBehind One told i rig vectors rows = ⊥
+DiffersBehind Two told i rig vectors rows = ReadsApart told i rig vectors rows
+
+-- The rows of copies that an image lays: a vector is driven for each copy, and a row is what each of them read. The rig had failed so
+-- many times as the command began
+abbrev pub copied_rows : Copies → ImageValue → Told → Option StorePlace → (failures : ℕ) → RigState → RowWork
+copied_rows c i told place failures rig = record {
+  width = share c (length i.inputs);
   told = told;
   place = place;
-  are = AreRowsOf rig i;
-  session = IsSession rig i;
+  are = λ vectors rows. AreRowsOf rig i (all_repeated c vectors) (all_repeated c rows);
+  session = λ vectors rows. IsSession rig i (all_repeated c vectors) (all_repeated c rows);
+  differs = λ vectors rows. DiffersBehind c told i rig vectors rows;
   lost = Rose failures rig.failures;
   lacks = λ count. most_rows ≤ count;
 }
+
+-- the rows of an image
+abbrev pub image_rows : ImageValue → Told → Option StorePlace → (failures : ℕ) → RigState → RowWork
+image_rows i told place failures rig = copied_rows One i told place failures rig
 
 -- ---- an image is loaded, and all memory for its rows is taken
 

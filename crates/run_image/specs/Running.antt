@@ -1,5 +1,7 @@
 -- What the steps of a run say.
 use Rattle.std.specs.Prelude.{◌≡◌, ◌⊎◌, ◌≤◌, ℕ, List, [], Bool, true, false, length}
+use Rattle.run_image.specs.Copying.{share, repeated, AreEqualShares, IsApart}
+use Rattle.run_image.specs.declared.copies.Copies.{Copies}
 use Rattle.base_io.specs.Vocabulary.{Rose, StoreState, SinkState}
 use Rattle.rig.specs.Rig.{RigState, Begins, CycleFails, Narrows}
 use Rattle.rig.specs.declared.rig.RigFail.{RigFail}
@@ -16,17 +18,20 @@ use Rattle.run_image.specs.declared.image.Running.{Running}
 
 -- the buffers have the lengths that the image asks for
 pub record IsFitting (rows : Running) : Type 0 where
+  pub shares : AreEqualShares rows.copies rows.image
   pub run : rows.run ≡ pins_in rows.image
-  pub width : rows.vectors.width ≡ length rows.image.inputs
+  pub width : rows.vectors.width ≡ share rows.copies (length rows.image.inputs)
   pub limit : rows.vectors.limit ≡ most_vector_bytes
-  pub vector : length rows.vector.items ≡ length rows.image.inputs
-  pub row : length rows.row.items ≡ length rows.image.outputs
-  pub block : rows.block.width ≡ length rows.image.outputs
+  pub vector : length rows.vector.items ≡ share rows.copies (length rows.image.inputs)
+  pub drive : length rows.drive.items ≡ length rows.image.inputs
+  pub reading : length rows.reading.items ≡ length rows.image.outputs
+  pub row : length rows.row.items ≡ share rows.copies (length rows.image.outputs)
+  pub block : rows.block.width ≡ share rows.copies (length rows.image.outputs)
 
 -- the image is loaded, with room for the rows, and no vector was read
 pub record IsLoaded (rows : Running) (rig : RigState) : Type 0 where
   pub fits : IsFitting rows
-  pub vectors : rows.vectors ≡ new_reading (length rows.image.inputs) most_vector_bytes
+  pub vectors : rows.vectors ≡ new_reading (share rows.copies (length rows.image.inputs)) most_vector_bytes
   pub none : rows.block.text ≡ []
   pub begins : Begins rows.image.config most_rows rig
 
@@ -37,6 +42,7 @@ prepares old new = record { stops = (loads old.loads new).stops; gives = λ _. (
 -- what the next row leaves as it was, counts that never fall, and what explains all that is read then explained it before
 pub record Keeps (old new : Running) (before after : StoreState) (rig_old rig_new : RigState) : Type 0 where
   pub image : new.image ≡ old.image
+  pub copies : new.copies ≡ old.copies
   pub store : StaysOpen before after
   pub machine : rig_new.machine ≡ rig_old.machine
   pub loads : rig_new.loads ≡ rig_old.loads
@@ -47,10 +53,10 @@ pub record Keeps (old new : Running) (before after : StoreState) (rig_old rig_ne
 abbrev pub at_rows : Running → StoreState → SinkState → RowsAt
 at_rows rows store sink = rows_at rows.vectors rows.block store sink
 
--- a vector was read and driven, and the row is what was read at the output pins
+-- a vector was read and driven for each copy, and the row is what each of them read at its output pins
 pub record IsDriven (old new : Running) (from to : RowsAt) (rig_old rig_new : RigState) : Type 0 where
   pub next : NextOf true new.vector.items from to
-  pub row : RunsRow (pins_in old.image) rig_old rig_new new.vector.items new.row.items
+  pub row : RunsRow (pins_in old.image) rig_old rig_new (repeated old.copies new.vector.items) (repeated old.copies new.row.items)
 
 -- the next row, or the end of the file
 abbrev pub CycleGives : Bool → Running → Running → RowsAt → RowsAt → RigState → RigState → Type 0
@@ -77,10 +83,28 @@ pub record IsUndriven (fail : RigFail) (old new : Running) (from to : RowsAt) (r
   pub out : IsPutOut from.waiting to.waiting from.sink to.sink
   pub fails : CycleFails fail rig_old rig_new
 
--- why no row is made: no vector is read, the rig doesn't drive it, or the rows that wait aren't put out
+-- the copies read differently, and the rows that wait are put out; or they aren't
+abbrev pub CompareStops : Stop → Copies → (reading : List Bool) → (waiting left : List ℕ) → SinkState → SinkState → Type 0
+CompareStops (Refused refused.Differ) c reading waiting left old new = IsPutOut waiting left old new × IsApart c reading
+CompareStops (Sink fail) c reading waiting left old new =
+    ((store : StoreState) → IsHeldUp (Sink fail) waiting store store old new) × IsApart c reading
+CompareStops stop c reading waiting left old new = ⊥
+
+-- a vector was read and driven, and the copies read differently
+pub record IsReadApart (old new : Running) (from to : RowsAt) (rig_old rig_new : RigState) : Type 0 where
+  pub read : IsRead new.vector.items old.vectors new.vectors from.store to.store
+  pub width : length new.vector.items ≡ share old.copies (length old.image.inputs)
+  pub reading : List Bool
+  pub row : RunsRow (pins_in old.image) rig_old rig_new (repeated old.copies new.vector.items) reading
+  pub apart : IsApart old.copies reading
+
+-- why no row is made: no vector is read, the rig doesn't drive it, the copies read differently, or the rows that wait aren't put out
 abbrev pub CycleStops : Stop → Running → Running → RowsAt → RowsAt → RigState → RigState → Type 0
 CycleStops (Refused refused.Rig) old new from to rig_old rig_new = IsUndriven work.Failed old new from to rig_old rig_new
 CycleStops (Refused refused.Memory) old new from to rig_old rig_new = IsUndriven work.Memory old new from to rig_old rig_new
+CycleStops (Refused refused.Differ) old new from to rig_old rig_new =
+    IsReadApart old new from to rig_old rig_new × IsPutOut from.waiting to.waiting from.sink to.sink
 CycleStops (Sink fail) old new from to rig_old rig_new =
-    IsHeldUp (Sink fail) from.waiting from.store to.store from.sink to.sink × HasOrFailed rig_old rig_new
+    IsHeldUp (Sink fail) from.waiting from.store to.store from.sink to.sink
+    × (HasOrFailed rig_old rig_new ⊎ IsReadApart old new from to rig_old rig_new)
 CycleStops stop old new from to rig_old rig_new = NextStops stop from to × (rig_new ≡ rig_old)

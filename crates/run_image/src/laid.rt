@@ -6,7 +6,8 @@ ghost use Rattle.cmd_steps.specs.Vocabulary.{StoreState, shape_of, Outside, outs
 ghost use Rattle.run_image.specs.Laid.{Laid, IsLaidOn};
 ghost use Rattle.run_image.specs.Runs.{RunBegin, machine_listed};
 
-use crate::run_image;
+use crate::copies::Copies;
+use crate::image::run_copies;
 use base_io::{Sink, Store};
 use cmd_steps::Stop;
 use diag_list::write_list;
@@ -16,7 +17,7 @@ use machine_shape::Shape;
 use rig::Rig;
 use std::alloc::Global;
 
-/// What can be laid on a machine: one design, or several side by side.
+/// What can be laid on a machine: one design, several side by side, or copies of one that are driven alike.
 ///
 /// Contracts see the step that lays it, how many bits a vector has, and what the rows are. Each image that the step gives is
 /// right for these rows under all faults that the list covers.
@@ -32,16 +33,21 @@ pub trait Lays {
         // Whatever is around it.
         ensures took { (o : Outside) → Took [] ((laid self.now).lays list.now) result o o };
 
+    /// How many copies of it stand side by side that are driven alike.
+    fn copies(&self) -> Copies
+        ensures { result ≡ (laid self.now).copies };
+
     ghost right: { (x : Self) (d : DefectList) (i : ImageValue) → ((laid x).lays d).gives i → IsLaidOn (laid x) d i };
 }
 
 /// Lists the defects of the machine that is attached and writes the list. Then lays what is given on what the list leaves free,
-/// loads its image, and writes the line `outputs` and a row for each vector.
+/// loads its image, and writes the line `outputs` and a row for each vector. Of copies a row is what each of them read.
 ///
 /// # Errors
 ///
 /// The first step that refuses, in this order: the defects are listed and the list is written; there is room; the image is loaded,
-/// the file of vectors is started, the line is written, and then each vector is read and driven and its row written.
+/// the file of vectors is started, the line is written, and then each vector is read and driven, what copies read is compared, and
+/// its row written.
 pub fn list_and_run<L: Lays, S: Store, K: Sink>(
     alloc: Global,
     shape: &Shape,
@@ -64,5 +70,5 @@ pub fn list_and_run<L: Lays, S: Store, K: Sink>(
 {
     let list = write_list(alloc, shape, rig, sink)?;
     let image = what.lay(alloc, &list)?;
-    run_image(alloc, image, vectors, store, rig, sink)
+    run_copies(alloc, image, what.copies(), vectors, store, rig, sink)
 }

@@ -11,19 +11,22 @@
 //! the rows is taken before the line `outputs`; the load asks for room for 4,096 cycles.
 //!
 //! The rows of what is laid on a machine: its defects are listed and the list is written, something is laid on what the list
-//! leaves free, and a row is written for each vector. What is laid is the caller's: one design, or several side by side.
+//! leaves free, and a row is written for each vector. What is laid is the caller's: one design, several side by side, or copies of one.
 //!
 //! Promised (`list_and_run`): what `go` and `pair` do once their designs are read. It lists, writes the list, lays what it is
 //! given, and runs the image, of any value that says by its trait (`Lays`) how it is laid, how wide its vectors are and what its
 //! rows are, and that its images are right for these. The list covers each set of faults that the machine may have (`diag_list`);
 //! that the rows are right is said at every end where the rig tells the faults. Of a set that explains all that was read, `go` and
-//! `pair` say it at status 0.
+//! `pair` say it at status 0. Copies that are driven alike (`Copies`) are compared, and a row is written once: where they read
+//! differently nothing is written of that reading, and the command is refused.
 #![tactic(auto)]
 
+mod copies;
 mod image;
 mod laid;
 mod run;
 
+pub use copies::Copies;
 pub use image::run_image;
 pub use laid::{Lays, list_and_run};
 pub use run::{Run, begin};

@@ -3,13 +3,13 @@ use Rattle.cmd_steps.specs.Outside.{outside, around}
 use Rattle.cmd_steps.proofs.Done.{done-as}
 use Rattle.cmd_steps.proofs.Making.{nothing}
 use Rattle.cmd_map.proofs.Headlines.{mapped, fitted}
-use Rattle.cmd_map.proofs.Fronts.{ended-as, right-files, is-status, rig-rests, complete-so}
+use Rattle.cmd_map.proofs.Fronts.{ended-as, right-files, is-status, never-differs, rig-rests, complete-so}
 use Rattle.cmd_map.proofs.program.teramac_map.Goals as goal
 
 pub returns-clause-statuses : goal.returns-clause-statuses
 returns-clause-statuses g c =
     let e = c.end.ensures nothing.rig in
-    is-status c.end.result e.statuses (λ four. rig-rests (e.rig four))
+    is-status c.end.result e.statuses (λ four. rig-rests (e.rig four)) (λ seven. never-differs (map string_bytes c.args.words.now) _ _ (e.differ seven).0 (e.differ seven).1)
 
 pub returns-clause-promises : goal.returns-clause-promises
 returns-clause-promises g c =

@@ -50,3 +50,9 @@ returns-in-Memory-clause-wrote g c = rw c.in-Memory.is c.put-in-Memory.ensures.w
 
 pub returns-in-Memory-clause-refused : goal.returns-in-Memory-clause-refused
 returns-in-Memory-clause-refused g c = rw c.in-Memory.is c.put-in-Memory.ensures.refused
+
+pub returns-in-Differ-clause-wrote : goal.returns-in-Differ-clause-wrote
+returns-in-Differ-clause-wrote g c = rw c.in-Differ.is c.put-in-Differ.ensures.wrote
+
+pub returns-in-Differ-clause-refused : goal.returns-in-Differ-clause-refused
+returns-in-Differ-clause-refused g c = rw c.in-Differ.is c.put-in-Differ.ensures.refused

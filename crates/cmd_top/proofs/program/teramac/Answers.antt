@@ -1,6 +1,6 @@
 use Rattle.std.proofs.Common.{map, string_bytes, refl, sym, ap, arith}
 use Rattle.std.specs.Fmt.{decimal}
-use Rattle.cmd_steps.specs.Outside.{outside}
+use Rattle.cmd_steps.specs.Outside.{outside, around}
 use Rattle.cmd_eval.proofs.Promising.{eval-promises}
 use Rattle.cmd_compile.proofs.Promising.{compile-promises}
 use Rattle.cmd_run.proofs.Promising.{run-promises}
@@ -10,10 +10,12 @@ use Rattle.cmd_bench.proofs.Promising.{bench-promises}
 use Rattle.cmd_check.proofs.Promising.{check-promises}
 use Rattle.cmd_repair.proofs.Promising.{repair-promises}
 use Rattle.cmd_pair.proofs.Promising.{pair-promises}
+use Rattle.cmd_twice.proofs.Promising.{twice-promises}
 use Rattle.cmd_bench.specs.Bench.{bench_job}
 use Rattle.cmd_top.specs.Words.{of_number}
 use Rattle.cmd_top.proofs.WordLemmas.{some_number}
 use Rattle.cmd_top.proofs.DoneLemmas.{ended-as}
+use Rattle.cmd_top.proofs.Alike.{only-twice}
 use Rattle.cmd_top.proofs.program.teramac.Goals as goal
 
 pub returns-clause-statuses : goal.returns-clause-statuses
@@ -43,4 +45,6 @@ returns-clause-promises g c =
       of_check = check-promises words _ old new (λ machine name image is. ended-as words old new e is refl);
       of_repair = repair-promises words _ old new (λ machine defects image is. ended-as words old new e is refl);
       of_pair = pair-promises words _ old new (λ machine name first second vectors is. ended-as words old new e is refl);
+      of_twice = twice-promises words _ old new (λ machine name design vectors is. ended-as words old new e is refl);
+      only_twice = λ seven. let d = e.differ seven in only-twice words (around old) (around new) d.0 d.1;
     }

@@ -54,9 +54,16 @@ returns-then-begins-9 g c =
     rw (p.0, p.1, ← c.word-first.ensures, ← c.word-second.ensures, ← c.word-third.ensures, ← c.word-fourth.ensures, ← c.word-fifth.ensures)
     (does-job _ _ _ _ c.pair.ensures.lawful c.pair.ensures.does)
 
+pub returns-then-begins-10 : goal.returns-then-begins-10
+returns-then-begins-10 g c =
+    let p = begun (map string_bytes c.args.words.now) 5 (codes "twice") (sym c.begins-10.ensures ∙ c.if-begins-10.true) in
+    rw (p.0, p.1, ← c.word-first.ensures, ← c.word-second.ensures, ← c.word-third.ensures, ← c.word-fourth.ensures)
+    (does-job _ _ _ _ c.twice.ensures.lawful c.twice.ensures.does)
+
 pub returns : goal.returns
 returns g c =
     rw (← c.begins.ensures, c.if-begins.false, ← c.begins-2.ensures, c.if-begins-2.false, ← c.begins-3.ensures, c.if-begins-3.false)
     (rw (← c.begins-4.ensures, c.if-begins-4.false, ← c.begins-5.ensures, c.if-begins-5.false, ← c.begins-6.ensures, c.if-begins-6.false)
     (rw (← c.begins-7.ensures, c.if-begins-7.false, ← c.begins-8.ensures, c.if-begins-8.false, ← c.begins-9.ensures, c.if-begins-9.false)
-    (does-none _)))
+    (rw (← c.begins-10.ensures, c.if-begins-10.false)
+    (does-none _))))

@@ -21,7 +21,7 @@ file-preserved g c =
     let box1 = c.next_row.new.rig in
     let r1 = (goal.Rig-dyn g (box1.vtable, box1.value)).rig_state box1.value in
     let new = outside s1 r1 (g.K.Sink.sink_state c.next_row.new.sink) in
-    IsDriving-more _ r0.failures _ _ new c.file.rows c.next_row.new.rows c.file.invariant (omega arith) n.keeps driven n.fits c.add_row.new.rows _ w.image w.vectors w.fits w.waits
+    IsDriving-more _ _ r0.failures _ _ new c.file.rows c.next_row.new.rows c.file.invariant (omega arith) n.keeps driven n.fits c.add_row.new.rows _ w.image w.copies w.vectors w.fits w.waits
 
 pub returns-in_err-next_row : goal.returns-in_err-next_row
 returns-in_err-next_row g c =
@@ -31,7 +31,7 @@ returns-in_err-next_row g c =
     let box1 = c.next_row.new.rig in
     let r1 = (goal.Rig-dyn g (box1.vtable, box1.value)).rig_state box1.value in
     let new = outside s1 r1 (g.K.Sink.sink_state c.next_row.new.sink) in
-    record { follows = λ failures few. rw (p.1, p.2) (cycle-stops _ failures _ _ new c.file.rows c.next_row.new.rows c.file.invariant few n.keeps _ n.refused) }
+    record { follows = λ failures few. rw (p.1, p.2) (cycle-stops _ _ failures _ _ new c.file.rows c.next_row.new.rows c.file.invariant few n.keeps _ n.refused) }
 
 pub returns-in_err-add_row : goal.returns-in_err-add_row
 returns-in_err-add_row g c =
@@ -43,7 +43,7 @@ returns-in_err-add_row g c =
     let box1 = c.next_row.new.rig in
     let r1 = (goal.Rig-dyn g (box1.vtable, box1.value)).rig_state box1.value in
     let new = outside s1 r1 (g.K.Sink.sink_state c.next_row.new.sink) in
-    record { follows = λ failures few. rw (p.1, p.2) (row-stops _ failures _ _ new c.file.rows c.next_row.new.rows c.file.invariant few n.keeps driven n.fits _ _ _ w.waits) }
+    record { follows = λ failures few. rw (p.1, p.2) (row-stops _ _ failures _ _ new c.file.rows c.next_row.new.rows c.file.invariant few n.keeps driven n.fits _ _ _ w.waits) }
 
 pub returns : goal.returns
 returns g c =
@@ -53,4 +53,4 @@ returns g c =
     let box1 = c.next_row.new.rig in
     let r1 = (goal.Rig-dyn g (box1.vtable, box1.value)).rig_state box1.value in
     let new = outside s1 r1 (g.K.Sink.sink_state c.next_row.new.sink) in
-    record { follows = λ failures few. file-ends _ failures _ _ new c.file.rows c.next_row.new.rows c.file.invariant few n.keeps tt gives }
+    record { follows = λ failures few. file-ends _ _ failures _ _ new c.file.rows c.next_row.new.rows c.file.invariant few n.keeps tt gives }

@@ -20,8 +20,8 @@ use Rattle.cmd_steps.proofs.Taking.{took-stop, took-value}
 use Rattle.place_design.specs.Wants.{PlanStops}
 use Rattle.place_design.proofs.PlainWidths.{plain-inputs, plain-outputs}
 use Rattle.place_design.proofs.Rooms.{AreDecided}
-use Rattle.cmd_pair.specs.Both.{BothHaveRoom, BothLackRoom, NotBothLaid, joint_of, lays_both}
-use Rattle.cmd_pair.proofs.RowsOfBoth.{both-rows}
+use Rattle.place_both.specs.Both.{BothHaveRoom, BothLackRoom, NotBothLaid, joint_of, lays_both}
+use Rattle.place_both.proofs.RowsOfBoth.{both-rows}
 
 -- ---- what is laid
 

@@ -8,7 +8,7 @@ use Rattle.design_netlist.specs.Rows as netlist
 use Rattle.map_network.specs.declared.network.Network.{Network}
 use Rattle.map_network.specs.Rows.{HasRowsOf}
 use Rattle.place_pair.specs.JointNetworks as joint
-use Rattle.cmd_pair.specs.Both.{side_by_side, AreBothRows}
+use Rattle.place_both.specs.Both.{side_by_side, AreBothRows}
 
 -- what is left behind a first part is all the rest
 rest-is : (n k : ℕ) (bits : List Bool) → length bits ≡ n + k → take k (drop n bits) ≡ drop n bits

@@ -1,5 +1,5 @@
-use Rattle.cmd_pair.proofs.BothLemmas.{place-stops, both-image}
-use Rattle.cmd_pair.proofs.both.image_for.Goals as goal
+use Rattle.place_both.proofs.BothLemmas.{place-stops, both-image}
+use Rattle.place_both.proofs.laying.image_for.Goals as goal
 
 pub lay_pair-requires-clause-inputs : goal.lay_pair-requires-clause-inputs
 lay_pair-requires-clause-inputs c = (c.are_few.ensures.0 c.if-not-are_few.false).0

@@ -7,7 +7,7 @@ use Rattle.machine_meaning.specs.Vocabulary.{Pins}
 use Rattle.machine_config.specs.Vocabulary.{IsConfiguration}
 use Rattle.machine_defects.specs.Lists.{DefectList}
 use Rattle.machine_image.specs.Images.{ImageValue, drive_of, image_row, row_at}
-use Rattle.machine_history.specs.Vocabulary.{History, IsRunOver, LeavesAloneFor}
+use Rattle.machine_history.specs.Vocabulary.{History, IsRunOver}
 use Rattle.machine_history.proofs.RowsOver.{clean, clean_faultless, clean_run}
 use Rattle.design_netlist.specs.declared.netlist_data.NetlistData.{NetlistData}
 use Rattle.design_netlist.specs.Rows.{AreRows}
@@ -16,10 +16,9 @@ use Rattle.place_pair.specs.JointNetworks.{part}
 use Rattle.place_pair.specs.Tenants.{RunsAsAloneOver}
 use Rattle.place_pair.proofs.Lonely.{first_alone, second_alone}
 use Rattle.rig.specs.Rig.{RigState, cycles_of, drives_of, readings_of}
-use Rattle.run_image.specs.Headline.{IsAsRead}
-use Rattle.cmd_pair.specs.Both.{IsImageForBoth}
-use Rattle.cmd_pair.specs.Headline.{AreRightWhileAlone}
-use Rattle.cmd_pair.proofs.RowsOfBoth.{rests-are}
+use Rattle.place_both.specs.Both.{IsImageForBoth}
+use Rattle.place_both.specs.Alone.{AreRightWhileAlone}
+use Rattle.place_both.proofs.RowsOfBoth.{rests-are}
 
 -- a row of a whole is the first's and then the second's
 fronts : (xs ys : List ℕ) (k : ℕ) → length xs ≡ k → (reads : List Pins) → map (take k) (map (row_at (xs ++ ys)) reads) ≡ map (row_at xs) reads
@@ -56,7 +55,8 @@ part-widths from k m few vectors wide = All-map (λ v. length v ≡ k) (part fro
     long v e = let rest = length-drop from v in length-take-le k (drop from v) (omega (arith, rest, e, few))
 
 module _ (d : DefectList) (first second : NetlistData) (image : ImageValue) (both : IsImageForBoth d first second image) (vectors rows : List (List Bool)) (rig : RigState)
-    (widths : All (λ v. length v ≡ length image.inputs) vectors) (read : IsAsRead image vectors rows rig) where
+    (widths : All (λ v. length v ≡ length image.inputs) vectors)
+    (driven_are : drives_of (cycles_of rig) ≡ map (drive_of image) vectors) (rows_read : rows ≡ map (image_row image) (readings_of (cycles_of rig))) where
   abbrev one : ImageValue
   one = both.first_image
 
@@ -70,10 +70,10 @@ module _ (d : DefectList) (first second : NetlistData) (image : ImageValue) (bot
   many = ap length both.tenants.inputs ∙ length-append one.inputs other.inputs
 
   rows-are : rows ≡ map (row_at (one.outputs ++ other.outputs)) reads
-  rows-are = read.rows_are ∙ ap (λ os. map (row_at os) reads) both.tenants.outputs
+  rows-are = rows_read ∙ ap (λ os. map (row_at os) reads) both.tenants.outputs
 
   driven : (h : History) → IsRunOver h image.config (drives_of (cycles_of rig)) reads → IsRunOver h image.config (map (drive_of image) vectors) reads
-  driven h ran = subst (λ ds. IsRunOver h image.config ds reads) read.drives ran
+  driven h ran = subst (λ ds. IsRunOver h image.config ds reads) driven_are ran
 
   pub first-right : IsRightImage clean one first → AreRightWhileAlone rig image one first (map (take (length first.inputs)) vectors) (map (take (length first.outputs)) rows)
   first-right right h n left ran =

@@ -1,0 +1,243 @@
+-- What a `twice` has written wherever it ends, and where the copies differ, from its course.
+use Rattle.std.proofs.Common.{◌≡◌, ◌⊎◌, ◌+◌, ◌∙◌, ℕ, Bool, List, [], ◌∷◌, ◌++◌, map, flat_map, length, take, drop, refl, sym, ap, subst, inl, inr, arith, append_assoc, append-nil, length-append, Some}
+use Rattle.std.proofs.lemmas.List.{take-append-drop, map-append}
+use Rattle.base_io.specs.Vocabulary.{Rose, Wrote}
+use Rattle.machine_shape.specs.declared.Shape.{Shape}
+use Rattle.machine_meaning.specs.Vocabulary.{Covers, Faults}
+use Rattle.machine_defects.specs.Text.{text_of}
+use Rattle.design_netlist.specs.declared.netlist_data.NetlistData.{NetlistData}
+use Rattle.design_vectors.specs.Rows.{row_line}
+use Rattle.machine_image.specs.Images.{ImageValue}
+use Rattle.rig.specs.Rig.{Asked, Explains}
+use Rattle.cmd_steps.specs.Vocabulary.{AreFirst, outputs_line, output_text, Outside, around, Next, RowWork, all_rows, HasReadRows, ends, refuses, writes, opens, attaches, reads_machine, reads_design, refusal_text}
+use Rattle.cmd_steps.specs.declared.design_file.DesignFile.TheVariants.{Design}
+use Rattle.cmd_steps.specs.declared.refusal.Refusal.{Refusal}
+use Rattle.cmd_steps.specs.declared.refusal.Refusal.TheVariants as refused
+use Rattle.cmd_steps.proofs.Leading.{stopped}
+use Rattle.cmd_steps.proofs.Standing.{Adds}
+use Rattle.diag_list.specs.Lists.{Listed, IsListed, lists}
+use Rattle.run_image.specs.Copying.{share, all_repeated}
+use Rattle.run_image.specs.Rows.{ReadsApart, loads}
+use Rattle.run_image.specs.Laid.{rows_work}
+use Rattle.run_image.specs.declared.copies.Copies.TheVariants.{Two}
+use Rattle.run_image.proofs.Copied.{repeated-count}
+use Rattle.cmd_twice.specs.Twice.{IsImageForTwice, lays_twice, twice_laid, twice_course}
+use Rattle.cmd_twice.specs.Headline.{AreReadByBoth, StandsTwice, nothing, no_rows, some_rows, ReadDifferently}
+use Rattle.cmd_twice.proofs.Reading.{read-by-both, never-alarmed, first-taken, more-taken, all-taken}
+
+-- ---- the rows so far
+
+module _ (vectors : List ℕ) (old new : Outside) (draft : NetlistData) (l : Listed) (i : ImageValue) (is : IsImageForTwice l.list draft i)
+    (covers : (f : Faults) → Explains f new.rig → Covers l.list.shape l.list.list f) where
+  abbrev work : RowWork
+  work = rows_work (twice_laid draft) i (old.store.contents vectors) new.store.current old.rig.failures new.rig
+
+  abbrev AreFirstOf : List (List Bool) → Type 0
+  AreFirstOf driven = AreFirst (length draft.inputs) (old.store.contents vectors) driven
+
+  pub record SoFar (text : List ℕ) : Type 0 where
+    pub driven : List (List Bool)
+    pub rows : List (List Bool)
+    pub text_is : text ≡ flat_map row_line rows
+    pub first : AreFirstOf driven
+    pub read : AreReadByBoth l.list draft driven rows new.rig ⊎ Rose old.rig.failures new.rig.failures
+
+  first-of : (driven : List (List Bool)) → AreFirst (share Two (length i.inputs)) (old.store.contents vectors) driven → AreFirstOf driven
+  first-of driven first = subst (λ (k : ℕ). AreFirst k (old.store.contents vectors) driven) is.width first
+
+  from-read : (text : List ℕ) → HasReadRows work text → SoFar text
+  from-read text h = record {
+    driven = h.has.vectors;
+    rows = h.has.rows;
+    text_is = h.has.text_is;
+    first = first-of h.has.vectors h.has.first;
+    read = inl (read-by-both l.list draft i is h.has.vectors new.rig h.session.config h.session.drives h.has.are.read.widths covers h.has.rows
+        (ap (take (length h.has.rows)) (sym h.session.rows_are) ∙ all-taken h.has.rows));
+  }
+
+  -- one more reading differs, behind these rows and perhaps others that wait
+  from-apart : (text : List ℕ) (driven rows more : List (List Bool)) → text ≡ flat_map row_line rows
+      → (all : List (List Bool)) → take (length rows) (all_repeated Two all ++ more) ≡ all_repeated Two rows
+      → (apart : ReadsApart (old.store.contents vectors) i new.rig driven all) → more ≡ apart.reading ∷ [] → SoFar text
+  from-apart text driven rows more text_is all taken apart behind = record {
+    driven = driven ++ apart.vector ∷ [];
+    rows = rows;
+    text_is = text_is;
+    first = first-of (driven ++ apart.vector ∷ []) apart.next;
+    read = inl (read-by-both l.list draft i is (driven ++ apart.vector ∷ []) new.rig apart.session.config apart.session.drives apart.widths covers rows
+        (ap (take (length rows)) (sym apart.session.rows_are ∙ ap (λ (m : List (List Bool)). all_repeated Two all ++ m) (sym behind)) ∙ taken));
+  }
+
+  -- rows and those that wait, before a further reading
+  some-taken : (rows others more : List (List Bool)) → take (length rows) (all_repeated Two (rows ++ others) ++ more) ≡ all_repeated Two rows
+  some-taken rows others more =
+      ap (take (length rows)) (ap (λ (rs : List (List Bool)). rs ++ more) (map-append (λ (row : List Bool). row ++ row) rows others)
+      ∙ append_assoc (all_repeated Two rows) (all_repeated Two others) more) ∙ first-taken rows (all_repeated Two others ++ more)
+
+  pub so-far : (text : List ℕ) (next : Next) → all_rows work text next → (next ≡ refuses refused.Rig → Rose old.rig.failures new.rig.failures) → SoFar text
+  so-far text ends h rose = from-read text h.0
+  so-far text (writes line) h rose = by-line h.session
+    where
+      by-line : work.session h.vectors (h.rows ++ h.row ∷ h.more) ⊎ (work.differs h.vectors (h.rows ++ h.row ∷ h.more) ⊎ work.lost) → SoFar text
+      by-line (inl session) = record {
+        driven = h.vectors;
+        rows = h.rows;
+        text_is = h.text_is;
+        first = first-of h.vectors h.first;
+        read = inl (read-by-both l.list draft i is h.vectors new.rig session.config session.drives h.are.read.widths covers h.rows
+            (ap (take (length h.rows)) (sym session.rows_are) ∙ more-taken h.rows (h.row ∷ h.more)));
+      }
+      by-line (inr (inl apart)) =
+          from-apart text h.vectors h.rows (apart.reading ∷ []) h.text_is (h.rows ++ h.row ∷ h.more) (some-taken h.rows (h.row ∷ h.more) (apart.reading ∷ [])) apart refl
+      by-line (inr (inr lost)) = record { driven = h.vectors; rows = h.rows; text_is = h.text_is; first = first-of h.vectors h.first; read = inr lost }
+  so-far text (refuses (refused.Vectors line kind)) h rose = from-read text h.0
+  so-far text (refuses refused.Store) h rose = from-read text h.0
+  so-far text (refuses refused.Rig) h rose =
+      record { driven = h.0.vectors; rows = h.0.rows; text_is = h.0.text_is; first = first-of h.0.vectors h.0.first; read = inr (rose refl) }
+  so-far text (refuses refused.Memory) h rose = from-read text h.0
+  so-far text (refuses refused.Differ) h rose =
+      from-apart text h.0.vectors h.0.rows (h.1.reading ∷ []) h.0.text_is h.0.rows (first-taken h.0.rows (h.1.reading ∷ [])) h.1 refl
+  so-far text (refuses refusal) h rose = absurd h
+
+-- ---- wherever it ends
+
+module _ (machine name design vectors : List ℕ) (old new : Outside) (text more : List ℕ) (next : Next) (adds : Adds next more) (wrote : Wrote old.sink.written new.sink.written (text ++ more))
+    (rose : next ≡ refuses refused.Rig → Rose old.rig.failures new.rig.failures) where
+  abbrev Stands : Type 0
+  Stands = StandsTwice machine name design vectors old new
+
+  abbrev HasWritten : List ℕ → Type 0
+  HasWritten s = Wrote old.sink.written new.sink.written s
+
+  wrote-as : (other : List ℕ) → text ++ more ≡ other → HasWritten other
+  wrote-as other same = subst (λ (s : List ℕ). HasWritten s) same wrote
+
+  line-of : (refusal : Refusal) → next ≡ refuses refusal → (n : ℕ) × (more ≡ take n (refusal_text refusal))
+  line-of refusal same = subst (λ (x : Next). Adds x more) same adds
+
+  -- a step before the list is refused
+  refused-first : (refusal : Refusal) → text ≡ [] → next ≡ refuses refusal → Stands
+  refused-first refusal empty same =
+      let line = line-of refusal same in
+      nothing refusal line.0 (wrote-as (take line.0 (refusal_text refusal)) (ap (λ (s : List ℕ). s ++ more) empty ∙ line.1))
+
+  module _ (m : Shape) (read : (reads_machine (old.store.contents machine)).gives m) (attached : new.rig.machine.attached ≡ Some (record { shape = m; name = name }))
+      (l : Listed) (list : IsListed m old.rig.loads new.rig l) where
+    -- so much of the list and the line stands there, and as much of the line of a refusal
+    no-rows : (front rest : List ℕ) (refusal : Refusal) (n : ℕ) → text_of l.list ++ outputs_line ≡ front ++ rest → text ++ more ≡ front ++ take n (refusal_text refusal) → Stands
+    no-rows front rest refusal n split same =
+        no_rows l front rest refusal n (record { shape = m; machine_is = read; attached = attached; is_listed = list }) split (wrote-as (front ++ take n (refusal_text refusal)) same)
+
+    -- the list is written, in whole or in part
+    in-list : text ≡ [] → Adds (writes (text_of l.list)) more → Stands
+    in-list empty (inl (n, is)) =
+        let all = text_of l.list in
+        no-rows (take n all) (drop n all ++ outputs_line) refused.Words 0
+        (ap (λ (s : List ℕ). s ++ outputs_line) (sym (take-append-drop n all)) ∙ append_assoc (take n all) (drop n all) outputs_line)
+        (ap (λ (s : List ℕ). s ++ more) empty ∙ (is ∙ sym (append-nil (take n all))))
+    in-list empty (inr (refusal, n, is)) = nothing refusal n (wrote-as (take n (refusal_text refusal)) (ap (λ (s : List ℕ). s ++ more) empty ∙ is))
+
+    -- a step behind it is refused
+    behind-list : (rest : List ℕ) → text ≡ text_of l.list ++ rest → rest ≡ [] → (refusal : Refusal) → next ≡ refuses refusal → Stands
+    behind-list rest is empty refusal same =
+        let line = line-of refusal same in
+        let alone : text ≡ text_of l.list = is ∙ (ap (λ (s : List ℕ). text_of l.list ++ s) empty ∙ append-nil (text_of l.list)) in
+        no-rows (text_of l.list) outputs_line refusal line.0 refl (ap (λ (s : List ℕ). s ++ more) alone ∙ ap (λ (s : List ℕ). text_of l.list ++ s) line.1)
+
+    -- the line is written, in whole or in part
+    in-line : (rest : List ℕ) → text ≡ text_of l.list ++ rest → rest ≡ [] → Adds (writes outputs_line) more → Stands
+    in-line rest is empty (inl (n, part)) =
+        let all = text_of l.list in
+        let alone : text ≡ all = is ∙ (ap (λ (s : List ℕ). all ++ s) empty ∙ append-nil all) in
+        no-rows (all ++ take n outputs_line) (drop n outputs_line) refused.Words 0
+        (ap (λ (s : List ℕ). all ++ s) (sym (take-append-drop n outputs_line)) ∙ sym (append_assoc all (take n outputs_line) (drop n outputs_line)))
+        (ap (λ (s : List ℕ). s ++ more) alone ∙ (ap (λ (s : List ℕ). all ++ s) part ∙ sym (append-nil (all ++ take n outputs_line))))
+    in-line rest is empty (inr (refusal, n, part)) =
+        let all = text_of l.list in
+        let alone : text ≡ all = is ∙ (ap (λ (s : List ℕ). all ++ s) empty ∙ append-nil all) in
+        no-rows all outputs_line refusal n refl (ap (λ (s : List ℕ). s ++ more) alone ∙ ap (λ (s : List ℕ). all ++ s) part)
+
+    pub covers-all : (f : Faults) → Explains f new.rig → Covers l.list.shape l.list.list f
+    covers-all f e = subst (λ (s : Shape). Covers s l.list.list f) (sym list.shape) (list.right.covers f (inr e))
+
+    -- rows are written
+    in-rows : (draft : NetlistData) → (reads_design Design (old.store.contents design)).gives draft → (rest : List ℕ) → text ≡ text_of l.list ++ rest → (i : ImageValue) → IsImageForTwice l.list draft i
+        → (lines : List ℕ) → rest ≡ outputs_line ++ lines → all_rows (rows_work (twice_laid draft) i (old.store.contents vectors) new.store.current old.rig.failures new.rig) lines next → Stands
+    in-rows draft gives rest is i laid lines first at =
+        let so = so-far vectors old new draft l i laid covers-all lines next at rose in
+        let rows : rest ≡ output_text so.rows = first ∙ ap (λ (s : List ℕ). outputs_line ++ s) so.text_is in
+        some_rows l draft so.driven so.rows more
+        (record { list = record { shape = m; machine_is = read; attached = attached; is_listed = list }; design_is = gives; first = so.first })
+        (wrote-as (text_of l.list ++ (output_text so.rows ++ more))
+        (ap (λ (s : List ℕ). s ++ more) (is ∙ ap (λ (s : List ℕ). text_of l.list ++ s) rows) ∙ append_assoc (text_of l.list) (output_text so.rows) more))
+        so.read
+
+  pub stands-twice : twice_course machine name design vectors (around old) (around new) text next → Stands
+  stands-twice (inl h) = let s = stopped (reads_machine (old.store.contents machine)) next h.1 in refused-first s.0 h.0 s.1
+  stands-twice (inr (m, read, inl h)) =
+      let asked : Asked = record { shape = m; name = name } in
+      let s = stopped (attaches asked old.rig new.rig) next h.1 in refused-first s.0 h.0 s.1
+  stands-twice (inr (m, read, inr (u, attached, inl h))) =
+      let s = stopped (reads_design Design (old.store.contents design)) next h.1 in refused-first s.0 h.0 s.1
+  stands-twice (inr (m, read, inr (u, attached, inr (draft, gives, inl h)))) =
+      let s = stopped (lists m old.rig.loads new.rig) next h.1 in refused-first s.0 h.0 s.1
+  stands-twice (inr (m, read, inr (u, attached, inr (draft, gives, inr (l, list, inl h))))) =
+      in-list m read attached l list h.0 (subst (λ (x : Next). Adds x more) h.1 adds)
+  stands-twice (inr (m, read, inr (u, attached, inr (draft, gives, inr (l, list, inr (rest, is, inl h)))))) =
+      let s = stopped (lays_twice l.list draft) next h.1 in behind-list m read attached l list rest is h.0 s.0 s.1
+  stands-twice (inr (m, read, inr (u, attached, inr (draft, gives, inr (l, list, inr (rest, is, inr (i, laid, inl h))))))) =
+      let s = stopped (loads l.loads new.rig) next h.1 in behind-list m read attached l list rest is h.0 s.0 s.1
+  stands-twice (inr (m, read, inr (u, attached, inr (draft, gives, inr (l, list, inr (rest, is, inr (i, laid, inr (v, once, inl h)))))))) =
+      let s = stopped (opens (old.store.contents vectors)) next h.1 in behind-list m read attached l list rest is h.0 s.0 s.1
+  stands-twice (inr (m, read, inr (u, attached, inr (draft, gives, inr (l, list, inr (rest, is, inr (i, laid, inr (v, once, inr (w, opened, inl h))))))))) =
+      in-line m read attached l list rest is h.0 (subst (λ (x : Next). Adds x more) h.1 adds)
+  stands-twice (inr (m, read, inr (u, attached, inr (draft, gives, inr (l, list, inr (rest, is, inr (i, laid, inr (v, once, inr (w, opened, inr (lines, first, at)))))))))) =
+      in-rows m read attached l list draft gives rest is i laid lines first at
+
+-- ---- where the copies differ
+
+module _ (machine name design vectors : List ℕ) (old new : Outside) (text : List ℕ) (wrote : Wrote old.sink.written new.sink.written (text ++ refusal_text refused.Differ)) where
+  differ-at : (m : Shape) (read : (reads_machine (old.store.contents machine)).gives m) (attached : new.rig.machine.attached ≡ Some (record { shape = m; name = name }))
+      (l : Listed) (list : IsListed m old.rig.loads new.rig l) (draft : NetlistData) → (reads_design Design (old.store.contents design)).gives draft → (rest : List ℕ) → text ≡ text_of l.list ++ rest
+      → (i : ImageValue) → IsImageForTwice l.list draft i → (lines : List ℕ) → rest ≡ outputs_line ++ lines
+      → all_rows (rows_work (twice_laid draft) i (old.store.contents vectors) new.store.current old.rig.failures new.rig) lines (refuses refused.Differ) → ReadDifferently machine name design vectors old new
+  differ-at m read attached l list draft gives rest is i laid lines first h =
+      let covers : (f : Faults) → Explains f new.rig → Covers l.list.shape l.list.list f = λ f e. subst (λ (s : Shape). Covers s l.list.list f) (sym list.shape) (list.right.covers f (inr e)) in
+      let apart = h.1 in
+      let rows = h.0.rows in
+      let driven = h.0.vectors ++ apart.vector ∷ [] in
+      let wide = subst (λ (k : ℕ). AreFirst k (old.store.contents vectors) driven) laid.width apart.next in
+      let size = h.0.are.read.count in
+      let size_rows = repeated-count Two rows in
+      let size_vectors = repeated-count Two h.0.vectors in
+      let size_driven = length-append h.0.vectors (apart.vector ∷ []) in
+      let written : text ≡ text_of l.list ++ output_text rows = is ∙ ap (λ (s : List ℕ). text_of l.list ++ s) (first ∙ ap (λ (s : List ℕ). outputs_line ++ s) h.0.text_is) in
+      record {
+        made = l;
+        draft = draft;
+        driven = driven;
+        rows = rows;
+        reading = apart.reading;
+        files = record { list = record { shape = m; machine_is = read; attached = attached; is_listed = list }; design_is = gives; first = wide };
+        count = omega (arith, size, size_rows, size_vectors, size_driven);
+        written = subst (λ (s : List ℕ). Wrote old.sink.written new.sink.written s)
+            (ap (λ (s : List ℕ). s ++ refusal_text refused.Differ) written ∙ append_assoc (text_of l.list) (output_text rows) (refusal_text refused.Differ)) wrote;
+        read = read-by-both l.list draft i laid driven new.rig apart.session.config apart.session.drives apart.widths covers rows
+            (ap (take (length rows)) (sym apart.session.rows_are) ∙ first-taken rows (apart.reading ∷ []));
+        readings_are = sym apart.session.rows_are;
+        halves = apart.halves;
+        no_false_alarm = never-alarmed l.list draft i laid driven new.rig apart.session.config apart.session.drives apart.widths covers (all_repeated Two rows) [] apart.reading (sym apart.session.rows_are) apart.halves;
+      }
+
+  pub differ-twice : twice_course machine name design vectors (around old) (around new) text (refuses refused.Differ) → ReadDifferently machine name design vectors old new
+  differ-twice (inl h) = absurd h.1
+  differ-twice (inr (m, read, inl h)) = absurd h.1
+  differ-twice (inr (m, read, inr (u, attached, inl h))) = absurd h.1
+  differ-twice (inr (m, read, inr (u, attached, inr (draft, gives, inl h)))) = absurd h.1.0
+  differ-twice (inr (m, read, inr (u, attached, inr (draft, gives, inr (l, list, inl h))))) = let line = h.1 in absurd (cc)
+  differ-twice (inr (m, read, inr (u, attached, inr (draft, gives, inr (l, list, inr (rest, is, inl h)))))) = absurd h.1
+  differ-twice (inr (m, read, inr (u, attached, inr (draft, gives, inr (l, list, inr (rest, is, inr (i, laid, inl h))))))) = absurd h.1.0
+  differ-twice (inr (m, read, inr (u, attached, inr (draft, gives, inr (l, list, inr (rest, is, inr (i, laid, inr (v, once, inl h)))))))) = absurd h.1
+  differ-twice (inr (m, read, inr (u, attached, inr (draft, gives, inr (l, list, inr (rest, is, inr (i, laid, inr (v, once, inr (w, opened, inl h))))))))) = let line = h.1 in absurd (cc)
+  differ-twice (inr (m, read, inr (u, attached, inr (draft, gives, inr (l, list, inr (rest, is, inr (i, laid, inr (v, once, inr (w, opened, inr (lines, first, at)))))))))) =
+      differ-at m read attached l list draft gives rest is i laid lines first at

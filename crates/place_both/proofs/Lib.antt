@@ -1,0 +1,5 @@
+-- What is cited above.
+pub mod BothLemmas
+pub mod WhileAlone
+-- For the proofs of this crate alone.
+mod RowsOfBoth

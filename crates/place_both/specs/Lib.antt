@@ -1,0 +1,3 @@
+-- Two designs side by side on what a list of defects leaves free.
+pub mod Both
+pub mod Alone
