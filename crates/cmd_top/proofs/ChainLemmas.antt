@@ -6,7 +6,6 @@ use Rattle.place_route.specs.RightImages.{IsRightImage}
 use Rattle.cmd_steps.specs.Vocabulary.{Outside, IsMachineText}
 use Rattle.cmd_steps.proofs.ShapeLemmas.{same-shape}
 use Rattle.run_image.specs.Rows.{AreRunRows}
-use Rattle.run_image.proofs.Driving.{may-read}
 use Rattle.cmd_top.specs.Chain.{RunsTheDesign}
 
 module _ (machine defects design name image vectors : List ℕ) (old compiled handed ran : Outside) where
@@ -20,5 +19,5 @@ module _ (machine defects design name image vectors : List ℕ) (old compiled ha
       let reads : Reads r.shape h.bytes r.loaded = rw h.image_told at r.image_is in
       let same : c.image ≡ r.loaded = reads.only c.image c.image_for.image (c.image_for.shape ∙ shapes) bytes in
       let right : IsRightImage f r.loaded c.draft = subst (λ (i : ImageValue). IsRightImage f i c.draft) same (c.image_for.right f covers) in
-      let rows : AreRunRows f r.loaded r.all_vectors r.rows = may-read ran.rig r.loaded r.all_vectors r.rows r.config r.drives r.rows_are r.rows_right.read f may in
+      let rows : AreRunRows f r.loaded r.all_vectors r.rows = r.rows_right.read f may in
       subst (λ t. AreRows c.draft r.all_vectors t) (sym rows.2) (right r.all_vectors rows.0 r.rows_right.widths rows.1)
