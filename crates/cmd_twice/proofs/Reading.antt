@@ -104,7 +104,8 @@ module _ (d : DefectList) (draft : NetlistData) (image : ImageValue) (is : IsIma
         let r = front-rows draft driven raw wide (both-rows f e) in
         (r.0, r.1, sym fronts ∙ ap (take (length rows)) r.2)
 
-    pub read-by-both : AreReadByBoth d draft driven rows rig
+    -- its image is this one
+    unfoldable pub read-by-both : AreReadByBoth d draft driven rows rig
     read-by-both = record {
       image = image;
       laid = is.both;
