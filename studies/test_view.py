@@ -109,7 +109,7 @@ class Made:
 def view_of(**words):
     """What a page has to show of these files."""
     given = {"faults": [], "defects": [], "image": [], "design": [], "part": [], "vectors": None, "rows": None, "refusal": None}
-    given |= {"study": None, "settings": None, "program": DEFAULT}
+    given |= {"study": None, "settings": None, "copies": False, "program": DEFAULT}
     return View(Namespace(**(given | words)))
 
 
@@ -375,6 +375,33 @@ class Page(unittest.TestCase):
         self.assertEqual(sorted(map(tuple, found))[-6:], sorted([("x", 0), ("y", 0), ("z", 0), ("x", 1), ("y", 1), ("z", 1)]))
         self.assertIn("all rows are those of eval", self.text("row-words"))
 
+    def test_twice(self):
+        """Two copies of a design are told apart, driven alike and compared: where they differ the page names the cycle."""
+        design, vectors = f"{EXAMPLES}/counter.blif", f"{EXAMPLES}/counter.vec"
+        self.assertEqual(run("both.py", design, "-o", f"{self.folder}/both.blif").returncode, 0)
+        machine = texts.read_text(texts.read_machine, self.small.machine)
+        image = compiles(DEFAULT, machine, texts.Defects(), Path(self.folder, "both.blif").read_bytes())
+        self.assertEqual(image.status, 0)
+        Path(self.folder, "both.image").write_bytes(image.written)
+        # The second copy's first output pin is stuck, which nothing of the first copy meets.
+        pin = machine.names[texts.read_image(machine, image.written).outputs[2]]
+        Path(self.folder, "both.faults").write_text(f"stuck0 {pin}\n", encoding="utf-8")
+        rows = call(DEFAULT, "eval", design, vectors).rows
+        Path(self.folder, "both.rows").write_bytes(b"outputs\n" + b"\n".join(rows[:1]) + b"\nrefused differ\n")
+        words = [self.small.machine, "--image", f"{self.folder}/both.image", "--vectors", vectors, "--design", design, "--copies"]
+        words += ["--faults", f"{self.folder}/both.faults", "--rows", f"{self.folder}/both.rows"]
+        self.assertEqual(run("view.py", *words, "-o", f"{self.folder}/both.html").returncode, 0)
+        self.open(f"{self.folder}/both.html")
+        names = [name for name, _ in self.asked("viewer.scene.nets.map(net => [net.name, net.design])")]
+        self.assertTrue({"high", "low", "up", "high'", "low'", "up'"} <= set(names), names)
+        self.assertEqual({net for net, copy in self.asked("viewer.scene.nets.map(net => [net.name, net.design])") if copy} & {"up", "up'"}, {"up'"})
+        first = next(k for k, row in enumerate(rows) if row[:1] == b"1")
+        self.assertIn(f"the copies differ in cycle {first}", self.text("row-words"))
+        before = self.asked("viewer.vectors[0]")
+        self.asked("(viewer.turnInput(1, 0), 1)")
+        self.assertEqual(self.asked("viewer.vectors[0]"), "".join("10"[int(bit)] for bit in before))
+        self.assertNotEqual(run("view.py", self.small.machine, "--copies", "-o", f"{self.folder}/none.html").returncode, 0)
+
     def test_study(self):
         """The runs of a study, failed ones first; a click shows the faults of that run, made anew."""
         rows = f"{self.folder}/rows.csv"
@@ -444,7 +471,7 @@ class Words(unittest.TestCase):
             if refusal[1:3] != ["noroom", "lines"]:
                 continue
             read = texts.read_design(design)
-            found = shortage(machine, defects, read, designs.plain_network(read), refusal)
+            found = shortage(machine, defects, designs.plain_network(read), ["".join(signal) for signal in read.inputs], refusal)
             serving = {line for net in found["nets"] for line in net["serving"]}
             self.assertEqual([len(found["nets"]), len(serving)], [int(word) for word in refusal[4:6]])
             seen += 1

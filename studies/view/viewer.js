@@ -10,7 +10,7 @@ class Viewer {
     this.machine = new Machine(data.counts);
     measure(this.machine.root);
     place(this.machine.root, 0, 0);
-    this.names = { inputs: data.inputs, outputs: data.outputs, split: data.split };
+    this.names = { inputs: data.inputs, outputs: data.outputs, split: data.split, of: data.copies ? "copy" : "design" };
     this.scenes = data.scenes.map(sent => new Scene(this.machine, sent, this.names));
     this.runScenes = new Map();
     this.state = { selection: null, hidden: new Set(), showsValues: false, cycle: 0, tick: -1, show: "0", values: null,
@@ -100,9 +100,10 @@ class Viewer {
     this.setTick(next > ticks ? -1 : next);
   }
 
+  // Of two copies both are driven alike.
   turnInput(input, cycle) {
-    const bits = [...this.vectors[cycle]];
-    bits[input] = bits[input] === "1" ? "0" : "1";
+    const bits = [...this.vectors[cycle]], half = this.data.copies ? this.data.split[0] : 0;
+    for (const at of half ? [input % half, input % half + half] : [input]) bits[at] = bits[at] === "1" ? "0" : "1";
     this.vectors[cycle] = bits.join("");
     this.isChanged = true;
     this.state.cycle = cycle;
