@@ -20,7 +20,7 @@ from plan import shortage
 from program import DEFAULT, HERE, call
 from size import compiles
 from test_studies import EXAMPLES, random_blif, run
-from view import PAGE_LIMIT, View, packed, page_of
+from view import PAGE_LIMIT, View, packed, page_of, walk_of
 
 try:
     from selenium import webdriver
@@ -109,7 +109,7 @@ class Made:
 def view_of(**words):
     """What a page has to show of these files."""
     given = {"faults": [], "defects": [], "image": [], "design": [], "part": [], "vectors": None, "rows": None, "refusal": None}
-    given |= {"study": None, "settings": None, "copies": False, "program": DEFAULT}
+    given |= {"study": None, "settings": None, "copies": False, "walk": None, "program": DEFAULT}
     return View(Namespace(**(given | words)))
 
 
@@ -402,6 +402,24 @@ class Page(unittest.TestCase):
         self.assertEqual(self.asked("viewer.vectors[0]"), "".join("10"[int(bit)] for bit in before))
         self.assertNotEqual(run("view.py", self.small.machine, "--copies", "-o", f"{self.folder}/none.html").returncode, 0)
 
+    def test_walk(self):
+        """A walk begins at its first step; a button goes to the next one, and to its cycle."""
+        Path(self.folder, "steps").write_text("r.l3: a line\nq[0] @5: a net\nm0.c0: a chip\n", encoding="utf-8")
+        ran = run("view.py", *self.small.words, "--walk", f"{self.folder}/steps", "-o", f"{self.folder}/walk.html")
+        self.assertEqual(ran.returncode, 0, ran.stderr)
+        self.open(f"{self.folder}/walk.html")
+        self.assertIn("a line", self.text("walk"))
+        self.assertEqual(self.asked("viewer.state.selection"), {"kind": "wire", "at": 19})
+        on, back = (f"[data-do={deed}]" for deed in ("step-on", "step-back"))
+        self.browser.find_element(By.CSS_SELECTOR, on).click()
+        self.assertIn("2 of 3", self.text("walk"))
+        self.assertEqual(self.asked("[viewer.state.cycle, viewer.state.selection.kind, viewer.state.showsValues]"), [5, "net", True])
+        for step, deed in ((3, on), (3, on), (2, back)):
+            self.browser.find_element(By.CSS_SELECTOR, deed).click()
+            self.assertIn(f"{step} of 3", self.text("walk"))
+        ran = run("view.py", self.small.machine, "--walk", f"{self.small.name}.rows")
+        self.assertIn("isn't PLACE: words", ran.stderr)
+
     def test_study(self):
         """The runs of a study, failed ones first; a click shows the faults of that run, made anew."""
         rows = f"{self.folder}/rows.csv"
@@ -493,6 +511,15 @@ class Words(unittest.TestCase):
         self.assertEqual(scene["faults"]["open"], packed(sorted(inside)))
         self.assertEqual(sum(of["open"] for of in scene["counted"].values()), len(faults["open"]) - len(inside))
         self.assertIn("m0.c1, and of all others how many are bad", " ".join(data["left"]))
+
+    def test_walks(self):
+        """Each step of the walk that is ready to open names a part of the machine or a net, and what it says stands on the page."""
+        machine = texts.read_text(texts.read_machine, f"{EXAMPLES}/tiny.machine")
+        text = Path(HERE, "../docs/pages/tiny.html").read_text(encoding="utf-8")
+        steps = walk_of(Path(HERE, "../docs/pages/tiny.walk"))
+        self.assertEqual(json.loads(text.split('id="data">')[1].split("</script>")[0])["walk"], steps)
+        known = {*machine.names, *machine.table_names, *(node.name for node in machine.nodes), "a", "b", "y", "open"}
+        self.assertEqual([step["place"] for step in steps if not set(step["place"].split()) <= known], [])
 
     def test_pages(self):
         """The pages that are ready to open have the scripts of today, and are within the limit."""

@@ -121,6 +121,18 @@ def vectors_of(path, outputs):
         sys.exit(f"{path}: {error.strerror}")
 
 
+def walk_of(path):
+    """The steps of a walk, from lines `PLACE: words` or `PLACE @CYCLE: words`."""
+    try:
+        lines = [line for line in Path(path).read_text(encoding="utf-8").splitlines() if line]
+    except (OSError, UnicodeDecodeError) as error:
+        sys.exit(f"{path}: {error}")
+    steps = [re.fullmatch(r"([^:@]+?)(?: @(\d+))?: (.+)", line) for line in lines]
+    if None in steps:
+        sys.exit(f"{path}: {lines[steps.index(None)]!r} isn't PLACE: words, or PLACE @CYCLE: words")
+    return [{"place": step[1], "cycle": None if step[2] is None else int(step[2]), "words": step[3]} for step in steps]
+
+
 def rows_of(path):
     """The rows of what `run`, `go` or `eval` wrote."""
     try:
@@ -277,7 +289,7 @@ class View:
         """All that the page has to know."""
         split = [len(self.designs[0].inputs), len(self.designs[0].outputs)] if len(self.designs) == 2 else None
         found = {"title": os.path.basename(self.args.machine), "counts": self.machine.counts, "split": split, "refusal": self.refusal}
-        found["copies"] = self.args.copies
+        found |= {"copies": self.args.copies, "walk": walk_of(self.args.walk) if self.args.walk else []}
         found |= {"inputs": self.names("inputs"), "outputs": self.names("outputs"), "vectors": [], "expected": [], "rows": [], "left": []}
         if self.args.vectors:
             found["vectors"], found["left"] = vectors_of(self.args.vectors, len(self.names("outputs")))
@@ -340,6 +352,7 @@ def main():
     parser.add_argument("--rows", metavar="FILE", help="what `run` wrote, to be compared")
     parser.add_argument("--part", **several, metavar="NAME", help="of a large machine: nodes, or nets by their pins, to be seen in full")
     parser.add_argument("--refusal", metavar="LINE", help="a line `refused noroom ..`, whose crossbar is shown with its nets")
+    parser.add_argument("--walk", metavar="FILE", help="steps through the page: a line each, a part or net, then `: ` and what is said there")
     parser.add_argument("--study", metavar="FILE", help="rows.csv of a study, whose runs on this machine are listed")
     parser.add_argument("--settings", metavar="FILE", help="that study's settings, where its kinds of faults have names")
     parser.add_argument("-o", "--output", default="-", help="a new file (default: standard output)")

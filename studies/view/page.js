@@ -105,6 +105,8 @@ const DEEDS = {
   right: () => viewer.pan(PAN, 0),
   above: () => viewer.pan(0, -PAN),
   below: () => viewer.pan(0, PAN),
+  "step-back": () => viewer.goToStep(viewer.state.step - 1),
+  "step-on": () => viewer.goToStep(viewer.state.step + 1),
   next: () => nextNet(1),
   last: () => nextNet(-1),
   search: () => search.focus(),
@@ -187,6 +189,7 @@ function begin() {
   document.getElementById("scenes").innerHTML = buttons.join("");
   listen();
   goToAddress();
+  if (data.walk.length && !location.hash) viewer.goToStep(0);
   viewer.paintNow();
   viewer.readyAfter = performance.now();
 }

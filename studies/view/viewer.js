@@ -13,7 +13,7 @@ class Viewer {
     this.names = { inputs: data.inputs, outputs: data.outputs, split: data.split, of: data.copies ? "copy" : "design" };
     this.scenes = data.scenes.map(sent => new Scene(this.machine, sent, this.names));
     this.runScenes = new Map();
-    this.state = { selection: null, hidden: new Set(), showsValues: false, cycle: 0, tick: -1, show: "0", values: null,
+    this.state = { selection: null, hidden: new Set(), showsValues: false, cycle: 0, tick: -1, show: "0", values: null, step: 0,
       wanting: data.refusal?.nets ?? [] };
     this.vectors = [...data.vectors];
     this.off = [];
@@ -216,6 +216,17 @@ class Viewer {
     return found !== null;
   }
 
+  // A step of the walk: goes to its place, and to its cycle if it has one.
+  goToStep(step) {
+    const { walk } = this.data, { state } = this;
+    if (!walk[step]) return;
+    state.step = step;
+    this.find(walk[step].place);
+    state.showsValues = document.getElementById("values").checked = walk[step].cycle !== null;
+    if (walk[step].cycle !== null) this.setCycle(walk[step].cycle);
+    this.refresh();
+  }
+
   // Panels and picture anew, once for all changes of one moment.
   refresh() {
     this.panelsDue = true;
@@ -239,6 +250,7 @@ class Viewer {
   panels() {
     const { words } = this, set = (name, html) => { document.getElementById(name).innerHTML = html; };
     set("summary", words.summary());
+    set("walk", words.walk());
     set("causes", words.causes());
     set("selected", words.selection());
     set("nets", words.nets());

@@ -57,6 +57,15 @@ class Words {
     return `<p class="small">${parts.join(", ")}</p>${short}${left}${paragraph(scene.words)}`;
   }
 
+  // The step of the walk at hand, with the way to those before and behind it.
+  walk() {
+    const { data: { walk }, state: { step } } = this.viewer;
+    if (!walk.length) return "";
+    const button = (deed, words) => `<button data-do="${deed}" title="${words}">${deed === "step-on" ? "▸" : "◂"}</button>`;
+    return `<h3>A walk</h3><p>${escaped(walk[step].words)}</p><p class="small">${button("step-back", "the step before")} `
+      + `${step + 1} of ${walk.length} ${button("step-on", "the next step")}</p>`;
+  }
+
   // How many parts have each cause; of crosspoints that were left out the number alone is known.
   causes() {
     const { scene } = this, { hidden } = this.viewer.state, here = scene.marks.counts(), all = { ...here };
