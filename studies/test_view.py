@@ -451,6 +451,26 @@ class Page(unittest.TestCase):
         right = {"seldom": times.count(1), "often": times.count(2), "mostly": sum(count > 2 for count in times)}
         self.assertEqual(self.asked("viewer.scene.marks.counts()"), {name: count for name, count in right.items() if count})
 
+    def test_images(self):
+        """Several images: how many crosspoints and tables one of them uses, several, and half or more."""
+        machine, used, words = texts.read_text(texts.read_machine, self.small.machine), [], []
+        for seed in range(5):
+            defects = texts.exact_list(machine, make_faults(machine, {"open": 0.1}, seed))
+            image = compiles(DEFAULT, machine, defects, self.small.design)
+            Path(self.folder, f"laid{seed}").write_bytes(image.written)
+            read = texts.read_image(machine, image.written)
+            used += [("cross", cross) for cross in read.crosses] + [("table", table) for table, *_ in read.tables]
+            used += [("wire", wire) for wire in read.net_of(machine)]
+            words.append(f"{self.folder}/laid{seed}")
+        ran = run("view.py", self.small.machine, "--image", *words, "--design", self.small.design, "-o", f"{self.folder}/laid.html")
+        self.assertEqual(ran.returncode, 0, ran.stderr)
+        self.open(f"{self.folder}/laid.html")
+        self.browser.find_element(By.CSS_SELECTOR, "[data-show=used]").click()
+        self.text("summary")
+        times = [used.count(part) for part in set(used)]
+        right = {"once": times.count(1), "several": times.count(2), "most": sum(count > 2 for count in times)}
+        self.assertEqual(self.asked("viewer.scene.marks.counts()"), {name: count for name, count in right.items() if count})
+
     def test_speed(self):
         """The bench machine with 3 % of its crosspoints open is ready in time, and no frame from afar to near takes too long."""
         machine = texts.read_text(texts.read_machine, f"{HERE}/bench.machine")

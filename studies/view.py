@@ -345,7 +345,7 @@ def main():
     several = {"nargs": "+", "default": []}
     parser.add_argument("--faults", **several, metavar="FILE", help="the file of its faults, or several to see what is lost how often")
     parser.add_argument("--defects", **several, metavar="FILE", help="a list of defects, or two to compare")
-    parser.add_argument("--image", **several, metavar="FILE", help="an image, or two to compare")
+    parser.add_argument("--image", **several, metavar="FILE", help="an image, two to compare, or several to see what is used how often")
     parser.add_argument("--design", **several, metavar="FILE", help="the BLIF file of the image's design; two of a pair")
     parser.add_argument("--copies", action="store_true", help="the image has two copies of the design, as `twice` lays it")
     parser.add_argument("--vectors", metavar="FILE", help="vectors, by which the page simulates the machine")

@@ -181,7 +181,8 @@ function listen() {
 function begin() {
   const { data, scenes } = viewer, own = scenes.map(({ name }, k) => [String(k), name]);
   const isCompared = scenes.length === 2 && scenes.every(({ image, list }) => image || list);
-  const more = isCompared ? [["both", "side by side"], ["difference", "difference"]] : [["overlay", "all together"]];
+  const together = [["overlay", "all together"], ...scenes.every(({ image }) => image) ? [["used", "used how often"]] : []];
+  const more = isCompared ? [["both", "side by side"], ["difference", "difference"]] : together;
   const shown = scenes.length > 1 ? [...own, ...more] : [];
   document.title = `${data.title} - teramac`;
   document.getElementById("title").textContent = data.title;

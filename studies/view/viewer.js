@@ -26,12 +26,13 @@ class Viewer {
     this.isDue = false;
   }
 
-  // Which scenes are painted, and which one the panels speak of: "0", "1", "both", "difference", "run 3", "overlay".
+  // Which scenes are painted, and which one the panels speak of: "0", "1", "both", "difference", "run 3", "overlay", "used".
   show(word) {
     const run = /^run ([0-9]+)$/.exec(word), { scenes } = this;
     if (word === "both") this.shown = scenes.slice(0, 2);
     else if (word === "difference") this.shown = [this.difference ??= new Difference(scenes[0], scenes[1])];
-    else if (word === "overlay") this.shown = [this.overlay ??= this.overlaid()];
+    else if (word === "overlay") this.shown = [this.overlay ??= this.overlaid("lost")];
+    else if (word === "used" && scenes.every(({ image }) => image)) this.shown = [this.used ??= this.overlaid("used")];
     else if (run && this.data.study?.runs[run[1]]) this.shown = [this.runScene(Number(run[1]))];
     else this.shown = [scenes[word] ?? scenes[0]];
     this.state.show = word;
@@ -42,10 +43,10 @@ class Viewer {
     this.simulate(0);
   }
 
-  // All sets of faults together: those of a study's runs, or of the files that were given.
-  overlaid() {
+  // All sets of faults together, those of a study's runs or of the files that were given; or what all images use.
+  overlaid(what) {
     const { study } = this.data, scenes = study ? study.runs.map((_, k) => this.runScene(k)) : this.scenes;
-    return new Overlay(this.machine, scenes, this.names);
+    return new Overlay(this.machine, what === "used" ? this.scenes : scenes, this.names, what);
   }
 
   // The machine of a run of a study, made when it is looked at.
