@@ -515,6 +515,25 @@ class Words(unittest.TestCase):
             seen += 1
         self.assertGreater(seen, TURNS)
 
+    def test_shortage_of_copies(self):
+        """The same of what `twice` says, whose nets are those of two copies."""
+        chance, seen = random.Random(3), 0
+        for turn in range(6 * TURNS):
+            counts = [1, 1, 2, 6, *(chance.randint(8, 12) for _ in range(3)), *(chance.randint(4, 9) for _ in range(4)), 18]
+            machine, design = texts.Machine(counts), random_blif(chance, covers=3, latches=1).encode()
+            faults = texts.faults_text(machine, make_faults(machine, {"open": 0.03}, turn)).encode()
+            answer = call(DEFAULT, "twice", machine.text.encode(), faults, design, b"")
+            if answer.refusal[1:3] != ["noroom", "lines"]:
+                continue
+            read = texts.read_design(design)
+            network = designs.side_by_side([designs.plain_network(read)] * 2)
+            names = [f"{k}{''.join(signal)}" for k in range(2) for signal in read.inputs]
+            found = shortage(machine, texts.read_defects(machine, answer.defects), network, names, answer.refusal)
+            serving = {line for net in found["nets"] for line in net["serving"]}
+            self.assertEqual([len(found["nets"]), len(serving)], [int(word) for word in answer.refusal[4:6]])
+            seen += 1
+        self.assertGreater(seen, TURNS // 4)
+
     def test_large(self):
         """A page that would be too long has the crosspoints of named parts, counts of all others, and says so."""
         machine = texts.Machine((2, 2, 4, 8, 24, 24, 24, 32, 32, 32, 32, 28))
