@@ -16,7 +16,7 @@ from pathlib import Path
 import teramac_texts as texts
 from program import HERE, Answer
 
-sys.path.append(os.path.join(HERE, "../ends"))
+sys.path.insert(1, os.path.join(HERE, "../ends"))  # before other packages of these names
 
 import lines as end_lines
 import machine as end_machine
