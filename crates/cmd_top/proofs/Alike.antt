@@ -153,7 +153,7 @@ module _ (words : List (List ℕ)) (old new : Around) where
       (line 5 (codes "go") _ _ (go-alike old new _ _ _ _)
       (of-if (AreTwice words) old new (begins_with words 2 (codes "bench")) _ _ (λ _. of-bench (AreTwice words) old new (number_of (word_at words 1)))
       (line 4 (codes "check") _ _ (check-alike old new _ _ _) (line 4 (codes "repair") _ _ (repair-alike old new _ _ _)
-      (line 6 (codes "pair") _ _ (pair-alike old new _ _ _ _ _) (twice-line _))))))))
+      (line 6 (codes "pair") _ _ (pair-alike old new _ _ _ _ _) (twice-line _)))))))))
 
   pub only-twice : (text : List ℕ) → (job_of (asked_by words)).course old new text (refuses Differ) → AreTwice words
   only-twice =
