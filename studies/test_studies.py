@@ -167,7 +167,7 @@ class Studies(unittest.TestCase):
         counts = list(map(int, ran.stdout.split(",")[-13:-5]))
         self.assertEqual((sum(counts[1:4]), sum(counts[5:]), counts[1] < counts[5]), (counts[0], counts[4], True))
 
-    @unittest.skipUnless(PORT and REPORT, "teramac_port or teramac_report isn't there")
+    @unittest.skipUnless(PORT, "teramac_port isn't there")
     def test_at_work(self):
         """Where faults come while a design runs `go` writes wrong rows, and `twice` ends with the rows before them."""
         design, vectors, machine = f"{EXAMPLES}/counter.blif", f"{EXAMPLES}/counter.vec", f"{self.out}.machine"
