@@ -174,7 +174,7 @@ class Studies(unittest.TestCase):
         ran = run("size.py", design, "--copies", "--spare", "50%", "-o", machine)
         self.assertEqual(ran.returncode, 0, ran.stderr)
         want, found = call(DEFAULT, "eval", design, vectors).rows, []
-        for rate in ("0", *["60"] * 6):
+        for rate in ("0", *["400"] * 4):
             words = [machine, f"{design}:{vectors}", "--rate", rate, "--seed", str(len(found)), "--lists", "go,twice", "--port", PORT]
             ran = run("trial.py", *words)
             self.assertEqual(ran.returncode, 0, ran.stderr)
