@@ -210,7 +210,7 @@ class Study:
             drawn = ["--name", place.name, *spared, "--kind", kind, "--rate", rate, "--seed", str(seed)]
             return [of(place.machine), *pairs, *drawn, *more, *programs]
 
-        return words_by, [*SCRIPTS, *(COST if called["port"] else []), *(RUNS if at_work else [])]
+        return words_by, [*SCRIPTS, *(COST if called["port"] and "loads" in self.figures else []), *(RUNS if at_work else [])]
 
     def made_trials(self):
         """For each place, kind and rate `seeds` trials, and as many more at a time while those are done and an interval is too wide."""
