@@ -49,5 +49,5 @@ returns-clause-does g c =
     let two = more-read reads_list defects (machine ∷ []) s0 d _ _ one took_list in
     file-gives reads_machine machine [] s0 (behind_machine reads design_laid machine defects c.args.design.now s0 s) s _ _ _ m _ _ _ _
     (none-read s0) took_machine
-    (file-gives reads_list defects (machine ∷ []) s0 (behind_list reads design_laid machine defects c.args.design.now s0 s m) s _ _ _ d _ _ _ _
+    (file-gives reads_list defects (machine ∷ []) s0 (behind_list reads design_laid machine defects c.args.design.now s0 s m) s _ (Unit {0}) _ d _ _ _ _
     one took_list (c.read_and_lay.ensures s0 (defects ∷ machine ∷ []) rig two.contents two.place) tt) refl
