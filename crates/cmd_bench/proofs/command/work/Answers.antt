@@ -1,7 +1,9 @@
-use Rattle.std.proofs.Common.{◌∙◌, refl}
+use Rattle.std.proofs.Common.{◌≡◌, ◌∙◌, ℕ, [], refl, subst}
 use Rattle.std.proofs.lemmas.Result.{err_from_is_err_and}
 use Rattle.diag_list.proofs.Made.{shape-attached}
+use Rattle.cmd_steps.specs.Vocabulary.{outside, Follows}
 use Rattle.cmd_steps.proofs.Making.{nothing}
+use Rattle.cmd_bench.specs.Bench.{design_made}
 use Rattle.cmd_bench.proofs.Following.{unnamed, unattached, attached}
 use Rattle.cmd_bench.proofs.command.work.Goals as goal
 
@@ -24,4 +26,13 @@ pub returns : goal.returns
 returns g c = λ store.
     let e = c.in_ok-attach.ensures in
     let named = c.as_str.ensures.value ∙ c.in_ok-name.ensures in
-    attached c.args.n _ _ _ c.bench_shape-shape.ensures _ named _ _ e.asked (e.took store _) (rw e.loads at (c.make_and_run.ensures store))
+    let box0 = c.args.rig.now in
+    let r0 = (goal.Rig-dyn g (box0.vtable, box0.value)).rig_state box0.value in
+    let box1 = c.attach.new.rig in
+    let r1 = (goal.Rig-dyn g (box1.vtable, box1.value)).rig_state box1.value in
+    let box2 = c.make_and_run.new.rig in
+    let r2 = (goal.Rig-dyn g (box2.vtable, box2.value)).rig_state box2.value in
+    let a = g.K.Sink.sink_state c.args.sink.now in
+    let b = g.K.Sink.sink_state c.make_and_run.new.sink in
+    let from = λ (loads : ℕ). Follows ⊥ [] (r2.machine ≡ r1.machine) (design_made c.args.n (record { store = store; rig = record r0 { loads = loads } }) (record { store = store; rig = r2 }) c.bench_shape-shape.result) c.make_and_run.result (outside store r1 a) (outside store r2 b) in
+    attached c.args.n _ _ _ c.bench_shape-shape.ensures _ named _ _ e.asked (e.took store _) (subst from e.loads (c.make_and_run.ensures store))
