@@ -22,6 +22,11 @@ image_repaired files old new d i = after (repairs d i) (StandsIn files old new) 
 abbrev pub image_taken : (files : List (List ℕ)) → StoreState → StoreState → DefectList → ImageValue → Course
 image_taken files old new d i = after (takes_few i) (StandsIn files old new) (λ _. image_repaired files old new d i)
 
+-- The image is read and taken. These files were read before, the last first
+abbrev pub file_taken : (image : List ℕ) → (files : List (List ℕ)) → StoreState → StoreState → DefectList → Course
+file_taken image files old new d =
+    after (reads_image (old.contents image) d.shape) (StandsIn (image ∷ files) old new) (image_taken (image ∷ files) old new d)
+
 -- The machine is read, then the list and the image, which is taken
 abbrev pub repair_course : (machine defects image : List ℕ) → StoreState → StoreState → Course
 repair_course machine defects image = listed_course reads_image image_taken machine defects image

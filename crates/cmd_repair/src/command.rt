@@ -1,7 +1,7 @@
 //! The command that repairs an image for a machine with defects.
-ghost use Rattle.std.specs.Prelude.{◌≡◌, ℕ, List, []};
+ghost use Rattle.std.specs.Prelude.{◌≡◌, ℕ, List, [], ◌∷◌};
 ghost use Rattle.cmd_steps.specs.Vocabulary.{StoreState, RigState, outside, StandsIn, Does, IsLawful, Follows};
-ghost use Rattle.cmd_repair.specs.Repair.{repair_job, image_taken};
+ghost use Rattle.cmd_repair.specs.Repair.{repair_job, file_taken, image_taken};
 
 use crate::repairing::{repaired, take_few};
 use base_io::{Sink, Store};
@@ -31,6 +31,26 @@ fn repair_and_write<K: Sink>(
     write(sink, &bytes)
 }
 
+// Reads an image, repairs it on what a list leaves free, and writes the bytes of the new one.
+fn read_and_repair<S: Store, K: Sink>(
+    alloc: Global,
+    list: &Defects,
+    image: &str,
+    store: &mut S,
+    sink: &mut K,
+) -> Result<(), Stop>
+    // Whatever the rig is, and whatever files were read before.
+    ensures { (begun : StoreState) (files : List (List ℕ)) (rig : RigState) →
+        let old = outside (S.store_state store.old) rig (K.sink_state sink.old) in
+        let new = outside (S.store_state store.new) rig (K.sink_state sink.new) in
+        old.store.contents ≡ begun.contents → StandsIn files begun old.store →
+        Follows ⊥ (image.now ∷ []) (Unit {0}) (file_taken image.now files begun new.store list.now) result old new }
+{
+    let shape = list.shape();
+    let image = read_image_file(alloc, &shape, image, store)?;
+    repair_and_write(alloc, &image, list, sink)
+}
+
 /// Reads a machine, a list of its defects and an image, and writes the bytes of a new image that touches only what the list
 /// leaves free, and reads what the old one reads on a machine without faults.
 ///
@@ -54,6 +74,5 @@ pub fn repair<S: Store, K: Sink>(
     repair_plans_are_decided();
     let shape = read_shape(alloc, store, machine)?;
     let list = read_list(alloc, &shape, defects, store)?;
-    let image = read_image_file(alloc, &shape, image, store)?;
-    repair_and_write(alloc, &image, &list, sink)
+    read_and_repair(alloc, &list, image, store, sink)
 }
