@@ -44,5 +44,5 @@ returns-clause-does g c =
     let rest = rw took_list.gives.0 at (c.read_and_repair.ensures s0 (defects ∷ machine ∷ []) rig two.contents two.place) in
     file-gives reads_machine machine [] s0 (behind_machine reads_image image_taken machine defects c.args.image.now s0 s) s _ _ _ m _ _ _ _
     (none-read s0) took_machine
-    (file-gives reads_list defects (machine ∷ []) s0 (behind_list reads_image image_taken machine defects c.args.image.now s0 s m) s _ _ _ d _ _ _ _
+    (file-gives reads_list defects (machine ∷ []) s0 (behind_list reads_image image_taken machine defects c.args.image.now s0 s m) s _ (Unit {0}) _ d _ _ _ _
     one took_list rest tt) refl
