@@ -3,6 +3,7 @@ use Rattle.std.proofs.lemmas.Result.{err_from_is_err_and}
 use Rattle.base_io.specs.Told.{Told}
 use Rattle.cmd_steps.specs.Vocabulary.{reads_machine, reads_defects, reads_image, behind_list, behind_machine}
 use Rattle.cmd_steps.proofs.ListFiles.{no-machine, no-list}
+use Rattle.cmd_steps.proofs.Making.{nothing}
 use Rattle.cmd_steps.proofs.Reading.{none-read, more-read, file-gives}
 use Rattle.cmd_repair.specs.Repair.{image_taken}
 use Rattle.cmd_repair.proofs.RepairLaws.{repair-lawful}
@@ -16,6 +17,9 @@ returns-in_err-shape-clause-lawful g c = repair-lawful c.repair_plans_are_decide
 
 pub returns-in_err-list-clause-lawful : goal.returns-in_err-list-clause-lawful
 returns-in_err-list-clause-lawful g c = repair-lawful c.repair_plans_are_decided.ensures.never_both _ _ _
+
+pub read_and_repair-requires : goal.read_and_repair-requires
+read_and_repair-requires g c = (c.in_ok-list.ensures.took nothing.rig nothing.sink).gives.0
 
 pub returns-in_err-shape-clause-does : goal.returns-in_err-shape-clause-does
 returns-in_err-shape-clause-does g c =
@@ -41,7 +45,7 @@ returns-clause-does g c =
     let took_list = c.in_ok-list.ensures.took rig (g.K.Sink.sink_state c.args.sink.now) in
     let one = more-read reads_machine machine [] s0 m _ _ (none-read s0) took_machine in
     let two = more-read reads_list defects (machine ∷ []) s0 d _ _ one took_list in
-    let rest = rw took_list.gives.0 at (c.read_and_repair.ensures s0 (defects ∷ machine ∷ []) rig two.contents two.place) in
+    let rest = c.read_and_repair.ensures s0 (defects ∷ machine ∷ []) rig two.contents two.place in
     file-gives reads_machine machine [] s0 (behind_machine reads_image image_taken machine defects c.args.image.now s0 s) s _ _ _ m _ _ _ _
     (none-read s0) took_machine
     (file-gives reads_list defects (machine ∷ []) s0 (behind_list reads_image image_taken machine defects c.args.image.now s0 s m) s _ (Unit {0}) _ d _ _ _ _
