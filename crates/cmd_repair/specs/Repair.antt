@@ -2,6 +2,7 @@
 use Rattle.std.specs.Prelude.{◌≡◌, ℕ, ◌≤◌, List, [], ◌∷◌}
 use Rattle.std.specs.FinSet as set
 use Rattle.base_io.specs.Vocabulary.{Told, StoreState}
+use Rattle.machine_shape.specs.declared.Shape.{Shape}
 use Rattle.machine_text.specs.Machine.{IsMachine}
 use Rattle.machine_defects.specs.Vocabulary.{DefectList, IsText}
 use Rattle.machine_image.specs.Images.{ImageValue, image_bytes}
@@ -21,6 +22,11 @@ image_repaired files old new d i = after (repairs d i) (StandsIn files old new) 
 -- The image has few enough crosspoints, and is repaired
 abbrev pub image_taken : (files : List (List ℕ)) → StoreState → StoreState → DefectList → ImageValue → Course
 image_taken files old new d i = after (takes_few i) (StandsIn files old new) (λ _. image_repaired files old new d i)
+
+-- The image is read and taken. These files were read before, the last first
+abbrev pub file_taken : (image : List ℕ) → (files : List (List ℕ)) → StoreState → StoreState → Shape → DefectList → Course
+file_taken image files old new m d =
+    after (reads_image (old.contents image) m) (StandsIn (image ∷ files) old new) (image_taken (image ∷ files) old new d)
 
 -- The machine is read, then the list and the image, which is taken
 abbrev pub repair_course : (machine defects image : List ℕ) → StoreState → StoreState → Course

@@ -1,13 +1,14 @@
 //! The command that repairs an image for a machine with defects.
-ghost use Rattle.std.specs.Prelude.{◌≡◌, ℕ, List, []};
+ghost use Rattle.std.specs.Prelude.{◌≡◌, ℕ, List, [], ◌∷◌};
 ghost use Rattle.cmd_steps.specs.Vocabulary.{StoreState, RigState, outside, StandsIn, Does, IsLawful, Follows};
-ghost use Rattle.cmd_repair.specs.Repair.{repair_job, image_taken};
+ghost use Rattle.cmd_repair.specs.Repair.{repair_job, file_taken, image_taken};
 
 use crate::repairing::{repaired, take_few};
 use base_io::{Sink, Store};
 use cmd_steps::{Stop, read_image_file, read_list, read_shape, write};
 use machine_defects::Defects;
 use machine_image::{Image, write_image};
+use machine_shape::Shape;
 use place_repair::repair_plans_are_decided;
 use std::alloc::Global;
 
@@ -29,6 +30,28 @@ fn repair_and_write<K: Sink>(
     let made = repaired(alloc, image, list)?;
     let bytes = write_image(alloc, &made)?;
     write(sink, &bytes)
+}
+
+// Reads an image, repairs it on what a list leaves free, and writes the bytes of the new one.
+fn read_and_repair<S: Store, K: Sink>(
+    alloc: Global,
+    shape: &Shape,
+    list: &Defects,
+    image: &str,
+    store: &mut S,
+    sink: &mut K,
+) -> Result<(), Stop>
+    requires { list.now.shape ≡ shape.now }
+
+    // Whatever the rig is, and whatever files were read before.
+    ensures { (begun : StoreState) (files : List (List ℕ)) (rig : RigState) →
+        let old = outside (S.store_state store.old) rig (K.sink_state sink.old) in
+        let new = outside (S.store_state store.new) rig (K.sink_state sink.new) in
+        old.store.contents ≡ begun.contents → StandsIn files begun old.store →
+        Follows ⊥ (image.now ∷ []) (Unit {0}) (file_taken image.now files begun new.store shape.now list.now) result old new }
+{
+    let image = read_image_file(alloc, shape, image, store)?;
+    repair_and_write(alloc, &image, list, sink)
 }
 
 /// Reads a machine, a list of its defects and an image, and writes the bytes of a new image that touches only what the list
@@ -54,6 +77,5 @@ pub fn repair<S: Store, K: Sink>(
     repair_plans_are_decided();
     let shape = read_shape(alloc, store, machine)?;
     let list = read_list(alloc, &shape, defects, store)?;
-    let image = read_image_file(alloc, &shape, image, store)?;
-    repair_and_write(alloc, &image, &list, sink)
+    read_and_repair(alloc, &shape, &list, image, store, sink)
 }

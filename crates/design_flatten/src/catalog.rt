@@ -4,7 +4,7 @@ ghost use Rattle.std.specs.Prelude.{◌≡◌, [], map, IfOk, OnOk, slice_index_
 ghost use Rattle.std.specs.Option.{option_copied};
 ghost use Rattle.design_flatten.specs.Uses.{port_names};
 ghost use Rattle.design_flatten.specs.NameSets.{with_names};
-ghost use Rattle.design_flatten.specs.UseLines.{looked_up, IsAdded, IsCatalog};
+ghost use Rattle.design_flatten.specs.UseLines.{known_of, looked_up, IsAdded, IsCatalog};
 
 use crate::given::name_at;
 use crate::model::Model;
@@ -52,15 +52,34 @@ fn add_clocks<'a>(set: &mut NameSet<'a>, clocks: &'a [Name]) -> Result<(), Alloc
     Ok(())
 }
 
+fn add_model<'a>(set: &mut NameSet<'a>, model: &'a Model) -> Result<(), AllocError>
+    ensures { OnOk result (set.new ≡ with_names set.old (port_names model.now)) }
+{
+    let names = model.names.as_slice();
+    add_ports(set, names, model.inputs.as_slice())?;
+    add_ports(set, names, model.outputs.as_slice())?;
+    add_clocks(set, model.clocks.as_slice())?;
+    Ok(())
+}
+
 fn ports_of(alloc: Global, model: &Model) -> Result<NameSet<'_>, AllocError>
     ensures { IfOk result (λ ports. ports ≡ with_names [] (port_names model.now)) }
 {
     let mut set = NameSet::new(alloc);
-    let names = model.names.as_slice();
-    add_ports(&mut set, names, model.inputs.as_slice())?;
-    add_ports(&mut set, names, model.outputs.as_slice())?;
-    add_clocks(&mut set, model.clocks.as_slice())?;
+    add_model(&mut set, model)?;
     Ok(set)
+}
+
+fn known_model<'a>(alloc: Global, model: &'a Model) -> Result<Known<'a>, AllocError>
+    ensures { IfOk result (λ known. known ≡ known_of model.entry) }
+{
+    let ports = ports_of(alloc, model)?;
+    let needs = names_within(alloc, model)?;
+    Ok(Known {
+        model,
+        ports,
+        needs,
+    })
 }
 
 impl<'a> Catalog<'a> {
@@ -80,16 +99,8 @@ impl<'a> Catalog<'a> {
         if self.known.contains_key(name) {
             return Ok(());
         }
-        let ports = ports_of(alloc, model)?;
-        let needs = names_within(alloc, model)?;
-        let _ = self.known.insert(
-            name,
-            Known {
-                model,
-                ports,
-                needs,
-            },
-        )?;
+        let known = known_model(alloc, model)?;
+        let _ = self.known.insert(name, known)?;
         Ok(())
     }
 

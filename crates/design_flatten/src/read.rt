@@ -160,6 +160,29 @@ fn draft_of(
     })
 }
 
+/// The netlist that the lines of a substituted design spell, where each signal is driven once.
+fn read_from(
+    alloc: Global,
+    models: &[Model],
+    found: &Substituted<'_>,
+) -> Result<NetlistData, DesignFault>
+    requires rules { KeepsRules models.now }
+    requires rows { HaveRightRows models.now }
+    requires outputs { length (first_model models.now).outputs ≤ 16777216 }
+    requires kept { IsSubstitution models.now found.now }
+    ensures ok { IfOk result (IsReading models.now) }
+    ensures made { IfOk result (λ d. IsWellMade d) }
+    ensures refused { IfErr result (IsRefusalOfModels models.now) }
+    ensures only { (d : DraftValue) → IsNetlistOf models.now d → IsChecked d → IfErr result (λ e. e ≡ Memory) }
+{
+    let signals = found.sink.signals.as_slice();
+    check_controls(models, found)?;
+    let names = names_of(alloc, models, found, signals)?;
+    check_drives(alloc, models, found, &names)?;
+    check_reads(alloc, models, found, &names)?;
+    draft_of(alloc, models, found, names)
+}
+
 /// The netlist that is read from the substituted design of models that keep the rules, where each signal is driven once.
 pub fn read(alloc: Global, models: &[Model]) -> Result<NetlistData, DesignFault>
     requires rules { KeepsRules models.now }
@@ -171,10 +194,5 @@ pub fn read(alloc: Global, models: &[Model]) -> Result<NetlistData, DesignFault>
     ensures only { (d : DraftValue) → IsNetlistOf models.now d → IsChecked d → IfErr result (λ e. e ≡ Memory) }
 {
     let found = within_limits(alloc, models)?;
-    let signals = found.sink.signals.as_slice();
-    check_controls(models, &found)?;
-    let names = names_of(alloc, models, &found, signals)?;
-    check_drives(alloc, models, &found, &names)?;
-    check_reads(alloc, models, &found, &names)?;
-    draft_of(alloc, models, &found, names)
+    read_from(alloc, models, &found)
 }

@@ -104,6 +104,26 @@ fn first_in_group(names: &NameSet<'_>, groups: &[usize], uses: &[UseLine<'_>]) -
     found
 }
 
+/// The first line through which its own model is used again, by the numbers of the names.
+fn first_again(
+    alloc: Global,
+    models: &[Model],
+    uses: &[UseLine<'_>],
+    names: &NameSet<'_>,
+) -> Result<Option<usize>, DesignFault>
+    requires uses { map use_in uses.now ≡ uses_of models.now }
+    requires names { HaveNames names.now (map use_in uses.now) (length uses.now) }
+    ensures ok { IfOk result (IsFirstUse models.now (IsRecursive models.now)) }
+    ensures refused { IfErr result (λ e. e ≡ Memory) }
+{
+    if names.len() > MOST_NAMES {
+        return Err(DesignFault::Memory);
+    }
+    let covers = covers_of(alloc, names, uses)?;
+    let groups = groups_of(alloc, &covers, names.len())?;
+    Ok(first_in_group(names, &groups, uses))
+}
+
 /// The first line through which its own model is used again.
 fn first_recursive(
     alloc: Global,
@@ -115,12 +135,7 @@ fn first_recursive(
     ensures refused { IfErr result (λ e. e ≡ Memory) }
 {
     let names = names_in(alloc, uses)?;
-    if names.len() > MOST_NAMES {
-        return Err(DesignFault::Memory);
-    }
-    let covers = covers_of(alloc, &names, uses)?;
-    let groups = groups_of(alloc, &covers, names.len())?;
-    Ok(first_in_group(&names, &groups, uses))
+    first_again(alloc, models, uses, &names)
 }
 
 /// That no model uses itself; else the first line through which its own model is used again.

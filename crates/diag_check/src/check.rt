@@ -6,6 +6,9 @@ ghost use Rattle.machine_config.specs.Configuration.{setting_of};
 ghost use Rattle.diag_evidence.specs.Kept.{Advances};
 ghost use Rattle.diag_known.specs.Vocabulary.{IsFieldOf, IsKnown};
 ghost use Rattle.rig.specs.Rig.{ForEach, Narrows, shape_of};
+ghost use Rattle.machine_image.specs.Parts.{IsWideEnough};
+ghost use Rattle.diag_check.specs.Fields.{IsFewFor};
+ghost use Rattle.diag_check.specs.Skeleton.{HasSkeleton};
 ghost use Rattle.diag_check.specs.Looks.{FieldIf, RoutesIf, TablesIf, TakesAtMost, TakesInField, WholeIf};
 ghost use Rattle.diag_check.specs.Soundly.{KeepsParts, KeepsRoutes, KeepsTables, SoundIf, TakesForParts, YesIf};
 ghost use Rattle.diag_check.specs.Used.{AreInvolved, AreUsed};
@@ -25,7 +28,7 @@ use machine_shape::{
     Shape, each_wire_has_a_home, the_crosspoints_are_sound, the_numbering_is_sound,
 };
 use rig::{Rig, RigFail};
-use std::alloc::Global;
+use std::alloc::{AllocError, Global};
 
 // Grows in a field, and looks whether the image's wires are known and its crosspoints kept then.
 fn grow_over(
@@ -168,8 +171,106 @@ fn sweep_around(
     sweep(rig, facts, known, &mut bad, &field, config.tables_on())
 }
 
-// Sweeps around the image, and then tests it in two fields, the second with a further port and line of each node, for where one of
-// the first is bad.
+// The fields in which an image is tested: the wide one has a further port and line of each involved node.
+#[derive(Drop)]
+struct TestFields {
+    narrow: Field,
+    wide: Field,
+}
+
+fn fields_of(alloc: Global, image: &Image, parts: &Parts) -> Result<TestFields, AllocError>
+    requires used { AreUsed image.now parts.now.used }
+    requires nodes { AreInvolved image.now parts.now.nodes }
+    ensures narrow { IfOk result (λ f. IsFieldOf image.now.config.shape f.narrow) }
+    ensures narrow_whole { IsWideEnough image.now.config.shape image.now → IfOk result (λ f. HasSkeleton image.now f.narrow) }
+    ensures narrow_few { IfOk result (λ f. IsFewFor image.now parts.now.nodes parts.now.used 2 f.narrow) }
+    ensures wide { IfOk result (λ f. IsFieldOf image.now.config.shape f.wide) }
+    ensures wide_whole { IsWideEnough image.now.config.shape image.now → IfOk result (λ f. HasSkeleton image.now f.wide) }
+    ensures wide_few { IfOk result (λ f. IsFewFor image.now parts.now.nodes parts.now.used 3 f.wide) }
+{
+    let narrow = field_of(alloc, image, parts, 2)?;
+    let wide = field_of(alloc, image, parts, 3)?;
+    Ok(TestFields { narrow, wide })
+}
+
+// Sweeps around the image, and then tests it in the narrow field, and in the wide one where a wire or crosspoint of that is bad.
+fn check_over(
+    rig: &mut Box<dyn Rig>,
+    facts: &mut Facts,
+    known: &mut Known,
+    image: &Image,
+    parts: &Parts,
+    fields: &TestFields,
+) -> Result<bool, RigFail>
+    requires attached { shape_of (rig_state rig.old) ≡ Some facts.old.shape }
+    requires image { image.now.config.shape ≡ facts.old.shape }
+    requires used { AreUsed image.now parts.now.used }
+    requires nodes { AreInvolved image.now parts.now.nodes }
+    requires known { IsKnown facts.old known.old }
+    requires narrow { IsFieldOf image.now.config.shape fields.now.narrow }
+    requires narrow_whole { IsWideEnough image.now.config.shape image.now → HasSkeleton image.now fields.now.narrow }
+    requires narrow_few { IsFewFor image.now parts.now.nodes parts.now.used 2 fields.now.narrow }
+    requires wide { IsFieldOf image.now.config.shape fields.now.wide }
+    requires wide_whole { IsWideEnough image.now.config.shape image.now → HasSkeleton image.now fields.now.wide }
+    requires wide_few { IsFewFor image.now parts.now.nodes parts.now.used 3 fields.now.wide }
+    ensures keeps { IfOk result (λ yes. IsTrue yes → KeepsParts facts.new image.now) }
+    ensures whole { IfOk result (WholeIf (rig_state rig.old).machine.faults facts.old image.now) }
+    ensures whole_each { IfOk result (λ yes. ForEach (rig_state rig.new) (λ told. WholeIf told facts.old image.now yes)) }
+    ensures advances { Advances (rig_state rig.old) (rig_state rig.new) facts.old facts.new }
+    ensures loads { TakesAtMost image.now parts.now.nodes parts.now.used (rig_state rig.old).loads (rig_state rig.new).loads }
+    ensures cause { IsErrOf result RigFail.Failed → Rose (rig_state rig.old).failures (rig_state rig.new).failures }
+{
+    tests_add_up();
+    match sweep_around(known.alloc(), rig, facts, known, image, parts) {
+        Ok(()) => {}
+        Err(fail) => return Err(fail),
+    }
+    match check_in(rig, facts, known, &fields.narrow, image, &parts.used) {
+        Ok(Some(yes)) => return Ok(yes),
+        Ok(None) => {}
+        Err(fail) => return Err(fail),
+    }
+    match check_in(rig, facts, known, &fields.wide, image, &parts.used) {
+        Ok(Some(yes)) => Ok(yes),
+        Ok(None) => Ok(false),
+        Err(fail) => Err(fail),
+    }
+}
+
+// The same, with no known wires at first.
+fn check_in_both(
+    alloc: Global,
+    rig: &mut Box<dyn Rig>,
+    facts: &mut Facts,
+    image: &Image,
+    parts: &Parts,
+    fields: &TestFields,
+) -> Result<bool, RigFail>
+    requires attached { shape_of (rig_state rig.old) ≡ Some facts.old.shape }
+    requires image { image.now.config.shape ≡ facts.old.shape }
+    requires used { AreUsed image.now parts.now.used }
+    requires nodes { AreInvolved image.now parts.now.nodes }
+    requires narrow { IsFieldOf image.now.config.shape fields.now.narrow }
+    requires narrow_whole { IsWideEnough image.now.config.shape image.now → HasSkeleton image.now fields.now.narrow }
+    requires narrow_few { IsFewFor image.now parts.now.nodes parts.now.used 2 fields.now.narrow }
+    requires wide { IsFieldOf image.now.config.shape fields.now.wide }
+    requires wide_whole { IsWideEnough image.now.config.shape image.now → HasSkeleton image.now fields.now.wide }
+    requires wide_few { IsFewFor image.now parts.now.nodes parts.now.used 3 fields.now.wide }
+    ensures keeps { IfOk result (λ yes. IsTrue yes → KeepsParts facts.new image.now) }
+    ensures whole { IfOk result (WholeIf (rig_state rig.old).machine.faults facts.old image.now) }
+    ensures whole_each { IfOk result (λ yes. ForEach (rig_state rig.new) (λ told. WholeIf told facts.old image.now yes)) }
+    ensures advances { Advances (rig_state rig.old) (rig_state rig.new) facts.old facts.new }
+    ensures loads { TakesAtMost image.now parts.now.nodes parts.now.used (rig_state rig.old).loads (rig_state rig.new).loads }
+    ensures cause { IsErrOf result RigFail.Failed → Rose (rig_state rig.old).failures (rig_state rig.new).failures }
+{
+    tests_add_up();
+    let Ok(mut known) = Known::new(alloc, &facts.shape()) else {
+        return Err(RigFail::Memory);
+    };
+    check_over(rig, facts, &mut known, image, parts, fields)
+}
+
+// Makes the fields of an image, and tests it in them.
 fn check_with(
     alloc: Global,
     rig: &mut Box<dyn Rig>,
@@ -189,29 +290,10 @@ fn check_with(
     ensures cause { IsErrOf result RigFail.Failed → Rose (rig_state rig.old).failures (rig_state rig.new).failures }
 {
     tests_add_up();
-    let Ok(narrow) = field_of(alloc, image, parts, 2) else {
+    let Ok(fields) = fields_of(alloc, image, parts) else {
         return Err(RigFail::Memory);
     };
-    let Ok(wide) = field_of(alloc, image, parts, 3) else {
-        return Err(RigFail::Memory);
-    };
-    let Ok(mut known) = Known::new(alloc, &facts.shape()) else {
-        return Err(RigFail::Memory);
-    };
-    match sweep_around(alloc, rig, facts, &mut known, image, parts) {
-        Ok(()) => {}
-        Err(fail) => return Err(fail),
-    }
-    match check_in(rig, facts, &mut known, &narrow, image, &parts.used) {
-        Ok(Some(yes)) => return Ok(yes),
-        Ok(None) => {}
-        Err(fail) => return Err(fail),
-    }
-    match check_in(rig, facts, &mut known, &wide, image, &parts.used) {
-        Ok(Some(yes)) => Ok(yes),
-        Ok(None) => Ok(false),
-        Err(fail) => Err(fail),
-    }
+    check_in_both(alloc, rig, facts, image, parts, &fields)
 }
 
 /// Whether an image still runs on the attached machine as on one without faults. Each part of it is tested over routes of the

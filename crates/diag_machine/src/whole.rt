@@ -291,6 +291,84 @@ fn know_lost(
     grow_whole(rig, facts, known, bad, &state.field)
 }
 
+// The machine is swept, what is known grows, and wires that growth has lost are tried again.
+fn know_all(
+    rig: &mut Box<dyn Rig>,
+    facts: &mut Facts,
+    known: &mut Known,
+    bad: &mut DefectMarks,
+    state: &mut DiagnosisState,
+) -> Result<(), RigFail>
+    requires attached { shape_of (rig_state rig.old) ≡ Some facts.old.shape }
+    requires known { IsKnown facts.old known.old }
+    requires marks { AreMarksFor facts.old.shape bad.old }
+    requires right { TrueIf (rig_state rig.old).machine.faults facts.old known.old.steps bad.old }
+    requires right_each { ForEach (rig_state rig.old) (λ told. TrueIf told facts.old known.old.steps bad.old) }
+    requires field { IsFieldOf facts.old.shape state.old.field }
+    requires whole { IsWhole facts.old.shape state.old.field }
+    requires left { state.old.choices.left ≡ 0 }
+    requires paid { length state.old.choices.paid ≡ wires_of facts.old.shape }
+    requires none { size_of state.old.choices.paid ≡ 0 }
+    ensures known { OnOk result (IsKnown facts.new known.new) }
+    ensures marks { AreMarksFor facts.old.shape bad.new }
+    ensures right { OnOk result (TrueIf (rig_state rig.old).machine.faults facts.new known.new.steps bad.new) }
+    ensures right_each { OnOk result (ForEach (rig_state rig.new) (λ told. TrueIf told facts.new known.new.steps bad.new)) }
+    ensures reached { OnOk result (ReachedIf (rig_state rig.old).machine.faults facts.new known.new.steps) }
+    ensures reached_each { OnOk result (ForEach (rig_state rig.new) (λ told. ReachedIf told facts.new known.new.steps)) }
+    ensures advances { Advances (rig_state rig.old) (rig_state rig.new) facts.old facts.new }
+    ensures loads { (rig_state rig.new).loads ≤ (rig_state rig.old).loads + loads_for facts.old 16 20 }
+    ensures few { IfFaultless (rig_state rig.old).machine.faults facts.old
+        ((rig_state rig.new).loads ≤ (rig_state rig.old).loads + loads_for facts.old 2 3) }
+    ensures few_each { ForEach (rig_state rig.new) (λ told. IfFaultless told facts.old ((rig_state rig.new).loads ≤ (rig_state
+        rig.old).loads + loads_for facts.old 2 3)) }
+    ensures cause { IsErrOf result RigFail.Failed → Rose (rig_state rig.old).failures (rig_state rig.new).failures }
+{
+    tests_add_up();
+    growth_without_bad_is_paid();
+    let before = loads_since(rig, 0);
+    sweep_whole(rig, facts, known, bad, state)?;
+    state.swept = loads_since(rig, before);
+    grow_whole(rig, facts, known, bad, &state.field)?;
+    know_lost(rig, facts, known, bad, state)?;
+    Ok(())
+}
+
+// The same from the first on. Says how many loads sweeps took.
+fn know_from_first(
+    alloc: Global,
+    rig: &mut Box<dyn Rig>,
+    facts: &mut Facts,
+    known: &mut Known,
+    bad: &mut DefectMarks,
+    parts: &mut Parts,
+) -> Result<(), RigFail>
+    requires attached { shape_of (rig_state rig.old) ≡ Some facts.old.shape }
+    requires known { IsKnown facts.old known.old }
+    requires marks { AreMarksFor facts.old.shape bad.old }
+    requires right { TrueIf (rig_state rig.old).machine.faults facts.old known.old.steps bad.old }
+    requires right_each { ForEach (rig_state rig.old) (λ told. TrueIf told facts.old known.old.steps bad.old) }
+    ensures known { OnOk result (IsKnown facts.new known.new) }
+    ensures marks { AreMarksFor facts.old.shape bad.new }
+    ensures right { OnOk result (TrueIf (rig_state rig.old).machine.faults facts.new known.new.steps bad.new) }
+    ensures right_each { OnOk result (ForEach (rig_state rig.new) (λ told. TrueIf told facts.new known.new.steps bad.new)) }
+    ensures reached { OnOk result (ReachedIf (rig_state rig.old).machine.faults facts.new known.new.steps) }
+    ensures reached_each { OnOk result (ForEach (rig_state rig.new) (λ told. ReachedIf told facts.new known.new.steps)) }
+    ensures advances { Advances (rig_state rig.old) (rig_state rig.new) facts.old facts.new }
+    ensures loads { (rig_state rig.new).loads ≤ (rig_state rig.old).loads + loads_for facts.old 16 20 }
+    ensures few { IfFaultless (rig_state rig.old).machine.faults facts.old
+        ((rig_state rig.new).loads ≤ (rig_state rig.old).loads + loads_for facts.old 2 3) }
+    ensures few_each { ForEach (rig_state rig.new) (λ told. IfFaultless told facts.old ((rig_state rig.new).loads ≤ (rig_state
+        rig.old).loads + loads_for facts.old 2 3)) }
+    ensures cause { IsErrOf result RigFail.Failed → Rose (rig_state rig.old).failures (rig_state rig.new).failures }
+{
+    let Ok(mut state) = first_state(alloc, facts, known, bad) else {
+        return Err(RigFail::Memory);
+    };
+    let done = know_all(rig, facts, known, bad, &mut state);
+    parts.sweep = state.swept;
+    done
+}
+
 // The known wires of the machine. Where wires are shorted, those stay that pins of tables need, as far as that is found.
 fn known_wires(
     alloc: Global,
@@ -317,21 +395,13 @@ fn known_wires(
         rig.old).loads + loads_for facts.old 2 3)) }
     ensures cause { IsErrOf result RigFail.Failed → Rose (rig_state rig.old).failures (rig_state rig.new).failures }
 {
-    tests_add_up();
-    growth_without_bad_is_paid();
     let Ok(mut known) = Known::new(alloc, &facts.shape()) else {
         return Err(RigFail::Memory);
     };
-    let Ok(mut state) = first_state(alloc, facts, &known, bad) else {
-        return Err(RigFail::Memory);
-    };
-    let before = loads_since(rig, 0);
-    sweep_whole(rig, facts, &mut known, bad, &mut state)?;
-    state.swept = loads_since(rig, before);
-    grow_whole(rig, facts, &mut known, bad, &state.field)?;
-    know_lost(rig, facts, &mut known, bad, &mut state)?;
-    parts.sweep = state.swept;
-    Ok(known)
+    match know_from_first(alloc, rig, facts, &mut known, bad, parts) {
+        Ok(()) => Ok(known),
+        Err(fail) => Err(fail),
+    }
 }
 
 // The tables that aren't marked wrong.
@@ -443,10 +513,7 @@ pub fn diagnose_in_parts(
     let Ok(mut facts) = Facts::new(alloc, *shape) else {
         return Err(RigFail::Memory);
     };
-    match diagnose_with(alloc, rig, &mut facts, parts) {
-        Ok(list) => Ok(list),
-        Err(fail) => Err(fail),
-    }
+    diagnose_with(alloc, rig, &mut facts, parts)
 }
 
 /// Finds what is wrong with the machine that is attached, and lists it. The list covers each set of faults that explains all that

@@ -74,24 +74,32 @@ fn count_at(counts: &Vec<u32>, at: usize) -> u32 {
 }
 
 impl Board {
+    // Takes room for what is known of each crosspoint, wire and crossbar.
+    fn widen(&mut self, shape: &Shape) -> Result<(), AllocError> {
+        let wires = shape.wires() as usize;
+        self.marks.resize(shape.crosses() as usize, Mark::Barred)?;
+        self.field.resize(wires, false)?;
+        self.left.resize(wires, 0)?;
+        self.todo.resize(shape.nodes() as usize, 0)?;
+        Ok(())
+    }
+
     /// The board before the first load. No wire is known or of the field, and no crosspoint may be tried.
     pub(crate) fn new(alloc: Global, shape: &Shape) -> Result<Board, AllocError> {
-        let wires = shape.wires();
+        let known = WireBits::new(alloc, shape.wires())?;
+        let idle = WireBits::new(alloc, shape.wires())?;
         let mut board = Board {
             marks: Vec::new(alloc),
-            known: WireBits::new(alloc, wires)?,
+            known,
             field: Vec::new(alloc),
-            idle: WireBits::new(alloc, wires)?,
+            idle,
             pins: shape.pins(),
             known_pins: 0,
             free_pins: 0,
             left: Vec::new(alloc),
             todo: Vec::new(alloc),
         };
-        board.marks.resize(shape.crosses() as usize, Mark::Barred)?;
-        board.field.resize(wires as usize, false)?;
-        board.left.resize(wires as usize, 0)?;
-        board.todo.resize(shape.nodes() as usize, 0)?;
+        board.widen(shape)?;
         Ok(board)
     }
 

@@ -120,10 +120,9 @@ pub(crate) fn set_wire(wires: &mut Vec<Option<Wire>>, w: Wire, other: Option<Wir
 }
 
 impl Chooser {
-    /// Before the first choice.
-    pub fn new(alloc: Global, shape: &Shape) -> Result<Chooser, AllocError> {
-        let wires = shape.wires() as usize;
-        let mut chooser = Chooser {
+    // Before the first choice, with room for nothing.
+    fn bare(alloc: Global, shape: &Shape) -> Chooser {
+        Chooser {
             alloc,
             shape: *shape,
             aim: Aim::Rest,
@@ -145,22 +144,52 @@ impl Chooser {
             has_chosen: false,
             first: Vec::new(alloc),
             again: Vec::new(alloc),
-        };
-        chooser.known.resize(wires, false)?;
-        chooser.kept.resize(wires, false)?;
-        chooser.looks.resize(wires, 0)?;
-        chooser.still.resize(wires, Still::No)?;
-        chooser.partner.resize(wires, None)?;
-        chooser.heir.resize(wires, None)?;
-        chooser.lost.resize(wires, false)?;
-        chooser.given.resize(wires, false)?;
-        chooser.dead.resize(shape.tables() as usize, false)?;
-        chooser.favoured.resize(shape.tables() as usize, false)?;
-        'wires: for _w in 0..wires {
-            chooser.suspects.push(Suspects {
-                wires: Vec::new(alloc),
+        }
+    }
+
+    // Takes room for each wire.
+    fn widen_wires(&mut self) -> Result<(), AllocError> {
+        let wires = self.shape.wires() as usize;
+        self.known.resize(wires, false)?;
+        self.kept.resize(wires, false)?;
+        self.looks.resize(wires, 0)?;
+        self.still.resize(wires, Still::No)?;
+        self.partner.resize(wires, None)?;
+        self.heir.resize(wires, None)?;
+        self.lost.resize(wires, false)?;
+        self.given.resize(wires, false)?;
+        Ok(())
+    }
+
+    // Takes room for each table.
+    fn widen_tables(&mut self) -> Result<(), AllocError> {
+        let tables = self.shape.tables() as usize;
+        self.dead.resize(tables, false)?;
+        self.favoured.resize(tables, false)?;
+        Ok(())
+    }
+
+    // No wire has suspects.
+    fn clear_suspects(&mut self) -> Result<(), AllocError> {
+        'wires: for _w in 0..self.shape.wires() {
+            self.suspects.push(Suspects {
+                wires: Vec::new(self.alloc),
             })?;
         }
+        Ok(())
+    }
+
+    // Takes room for each wire and each table.
+    fn widen(&mut self) -> Result<(), AllocError> {
+        self.widen_wires()?;
+        self.widen_tables()?;
+        self.clear_suspects()
+    }
+
+    /// Before the first choice.
+    pub fn new(alloc: Global, shape: &Shape) -> Result<Chooser, AllocError> {
+        let mut chooser = Chooser::bare(alloc, shape);
+        chooser.widen()?;
         Ok(chooser)
     }
 

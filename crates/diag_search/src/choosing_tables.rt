@@ -94,18 +94,36 @@ impl Chooser {
         Ok(())
     }
 
+    // Whether the pins are wanted that a table lacks. The table is dead where they can't come to be known.
+    fn is_lack_wanted(&mut self, lack: &Lack, unclear: &BitSet, wrong: &BitSet) -> bool {
+        let t = lack.table.0;
+        let lacks = !lack.pins.is_empty();
+        let chosen = lacks && flag_at(&self.favoured, t);
+        let dead = chosen || in_set(wrong, t) || has_unclear(unclear, &lack.pins);
+        set_flag(&mut self.dead, t, dead);
+        lacks && !dead && self.are_lost(&lack.pins)
+    }
+
+    // Wants the pins of a table, if it would be free if they were known.
+    fn want_pins_of(
+        &mut self,
+        table: Table,
+        unclear: &BitSet,
+        wrong: &BitSet,
+    ) -> Result<(), AllocError> {
+        let lack = self.lack_of(table)?;
+        if self.is_lack_wanted(&lack, unclear, wrong) {
+            self.want_lack(lack)
+        } else {
+            Ok(())
+        }
+    }
+
     /// Wants the pins of tables that would be free if these were known.
     pub(crate) fn want_pins(&mut self, unclear: &BitSet, wrong: &BitSet) -> Result<(), AllocError> {
         self.lacks.clear();
         'tables: for t in 0..self.shape.tables() {
-            let lack = self.lack_of(Table(t))?;
-            let lacks = !lack.pins.is_empty();
-            let chosen = lacks && flag_at(&self.favoured, t);
-            let dead = chosen || in_set(wrong, t) || has_unclear(unclear, &lack.pins);
-            set_flag(&mut self.dead, t, dead);
-            if lacks && !dead && self.are_lost(&lack.pins) {
-                self.want_lack(lack)?;
-            }
+            self.want_pins_of(Table(t), unclear, wrong)?;
         }
         Ok(())
     }

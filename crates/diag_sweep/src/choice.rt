@@ -38,6 +38,28 @@ pub struct Choices {
     table_sweep: TableSweep,
 }
 
+// What a sweep has at hand before the first choice.
+fn first_state(
+    facts: &Facts,
+    known: &Known,
+    bad: &DefectMarks,
+    field: &Field,
+) -> Result<SweepState, AllocError> {
+    let alloc = known.alloc();
+    let shape = facts.shape();
+    let budget = LoadBudget::empty(alloc, &shape)?;
+    let search = new_search(alloc, facts, known, bad, field)?;
+    let chooser = Chooser::new(alloc, &shape)?;
+    Ok(SweepState {
+        budget,
+        search,
+        chooser,
+        aim: Aim::Partners,
+        height: 0,
+        start: 0,
+    })
+}
+
 impl Choices {
     /// Before the first choice, with no loads. The tables are those that may be tested. Wants memory.
     pub fn new(
@@ -53,22 +75,13 @@ impl Choices {
         ensures tables { IfOk result (λ choices. choices.table_sweep.tables.items ≡ tables.now) }
     {
         let alloc = known.alloc();
-        let shape = facts.shape();
-        let state = SweepState {
-            budget: LoadBudget::empty(alloc, &shape)?,
-            search: new_search(alloc, facts, known, bad, field)?,
-            chooser: Chooser::new(alloc, &shape)?,
-            aim: Aim::Partners,
-            height: 0,
-            start: 0,
-        };
+        let paid = BitSet::new(alloc, facts.shape().wires())?;
+        let tables = Vec::from_slice(alloc, tables)?;
+        let state = first_state(facts, known, bad, field)?;
         Ok(Choices {
             left: 0,
-            paid: BitSet::new(alloc, shape.wires())?,
-            table_sweep: TableSweep {
-                state,
-                tables: Vec::from_slice(alloc, tables)?,
-            },
+            paid,
+            table_sweep: TableSweep { state, tables },
         })
     }
 

@@ -1,10 +1,10 @@
 //! The marks and counts that are kept of a list of defects.
 
-ghost use Rattle.std.specs.Prelude.{◌≡◌, ◌<◌, ◌+◌, ◌-◌, ◌==◌, if◌then◌else◌, false, None, Option, IfOk, IfSome, length, slice_index_or};
+ghost use Rattle.std.specs.Prelude.{◌≡◌, ◌<◌, ◌+◌, ◌-◌, ◌==◌, if◌then◌else◌, false, None, Option, IfOk, IfSome, length, replicate, slice_index_or};
 ghost use Rattle.std.specs.Prelude.{slice_set};
 ghost use Rattle.base_bits.specs.Numbers.{has_number};
-ghost use Rattle.machine_shape.specs.Shape.{wires_of, crosses_of, tables_of};
-ghost use Rattle.machine_defects.specs.Kept.{IsKept, AreOwners, AreOwnersBefore, Loses, count_at, list_in};
+ghost use Rattle.machine_shape.specs.Shape.{wires_of, crosses_of, tables_of, nodes_of};
+ghost use Rattle.machine_defects.specs.Kept.{IsKept, AreOwners, AreOwnersBefore, AreRecounted, Loses, count_at, list_in};
 ghost use Rattle.machine_defects.specs.Lists.{IsWithWire, no_defects, with_cross, with_table};
 
 use crate::counts::{count_nodes, free_pins, recount_both};
@@ -62,37 +62,109 @@ fn own_tables(shape: &Shape, owners: &mut [Option<Table>])
     }
 }
 
+// The owner of each wire: the table whose pin it is.
+fn owners_of(alloc: Global, shape: &Shape) -> Result<Vec<Option<Table>>, AllocError>
+    ensures wide { IfOk result (λ owners. length owners.items ≡ wires_of shape.now) }
+    ensures owned { IfOk result (λ owners. AreOwners shape.now owners.items) }
+{
+    let wires = shape.wires();
+    let mut owners = vec![in alloc; None; wires as usize]?;
+    own_tables(shape, &mut owners);
+    Ok(owners)
+}
+
+// Marks of what is listed.
+#[derive(Drop)]
+struct Listed {
+    wires: BitSet,
+    crosses: BitSet,
+    tables: BitSet,
+}
+
+// No part of a machine is listed.
+fn none_listed(alloc: Global, shape: &Shape) -> Result<Listed, AllocError>
+    ensures wires { IfOk result (λ l. l.wires ≡ replicate (wires_of shape.now) false) }
+    ensures crosses { IfOk result (λ l. l.crosses ≡ replicate (crosses_of shape.now) false) }
+    ensures tables { IfOk result (λ l. l.tables ≡ replicate (tables_of shape.now) false) }
+{
+    let wires = BitSet::new(alloc, shape.wires())?;
+    let crosses = BitSet::new(alloc, shape.crosses())?;
+    let tables = BitSet::new(alloc, shape.tables())?;
+    Ok(Listed {
+        wires,
+        crosses,
+        tables,
+    })
+}
+
+// Marks of the crosspoints that aren't free, and of the tables.
+#[derive(Drop)]
+struct Held {
+    barred: BitSet,
+    lost: BitSet,
+}
+
+// All of a machine's crosspoints and tables are free.
+fn none_held(alloc: Global, shape: &Shape) -> Result<Held, AllocError>
+    ensures barred { IfOk result (λ h. h.barred ≡ replicate (crosses_of shape.now) false) }
+    ensures lost { IfOk result (λ h. h.lost ≡ replicate (tables_of shape.now) false) }
+{
+    let barred = BitSet::new(alloc, shape.crosses())?;
+    let lost = BitSet::new(alloc, shape.tables())?;
+    Ok(Held { barred, lost })
+}
+
+// For each line how many listed crosspoints it has; for each node how many of its lines are open, and of its ports free.
+#[derive(Drop)]
+struct NodeCounts {
+    shut: Vec<u32>,
+    open_lines: Vec<u32>,
+    free_ports: Vec<u32>,
+}
+
+// The counts where no crosspoint is listed, and these wires.
+fn counts_of(alloc: Global, shape: &Shape, wires: &BitSet) -> Result<NodeCounts, AllocError>
+    requires { length wires.now ≡ wires_of shape.now }
+    ensures shut { IfOk result (λ k. k.shut.items ≡ replicate (wires_of shape.now) 0) }
+    ensures counted { IfOk result (λ k. AreRecounted shape.now wires.now k.shut.items (nodes_of shape.now) k.open_lines.items
+        k.free_ports.items) }
+{
+    let lines = shape.wires() as usize;
+    let nodes = shape.nodes() as usize;
+    let shut = vec![in alloc; 0u32; lines]?;
+    let mut open_lines = vec![in alloc; 0u32; nodes]?;
+    let mut free_ports = vec![in alloc; 0u32; nodes]?;
+    count_nodes(shape, wires, &shut, &mut open_lines, &mut free_ports);
+    Ok(NodeCounts {
+        shut,
+        open_lines,
+        free_ports,
+    })
+}
+
 /// Nothing is listed.
 pub fn nothing(alloc: Global, shape: Shape) -> Result<Kept, AllocError>
     ensures kept { IfOk result IsKept }
     ensures none { IfOk result (λ k. list_in k ≡ record { shape = shape; list = no_defects }) }
 {
-    let wires = shape.wires();
-    let nodes = shape.nodes() as usize;
-    let mut owners = vec![in alloc; None; wires as usize]?;
-    own_tables(&shape, &mut owners);
-    let mut kept = Kept {
+    let listed = none_listed(alloc, &shape)?;
+    let held = none_held(alloc, &shape)?;
+    let owners = owners_of(alloc, &shape)?;
+    let counts = counts_of(alloc, &shape, &listed.wires)?;
+    Ok(Kept {
         shape,
-        wires: BitSet::new(alloc, wires)?,
-        crosses: BitSet::new(alloc, shape.crosses())?,
-        tables: BitSet::new(alloc, shape.tables())?,
-        barred: BitSet::new(alloc, shape.crosses())?,
-        lost: BitSet::new(alloc, shape.tables())?,
+        wires: listed.wires,
+        crosses: listed.crosses,
+        tables: listed.tables,
+        barred: held.barred,
+        lost: held.lost,
         owners,
-        shut: vec![in alloc; 0u32; wires as usize]?,
-        open_lines: vec![in alloc; 0u32; nodes]?,
-        free_ports: vec![in alloc; 0u32; nodes]?,
+        shut: counts.shut,
+        open_lines: counts.open_lines,
+        free_ports: counts.free_ports,
         free_tables: shape.tables(),
         free_pins: shape.pins(),
-    };
-    count_nodes(
-        &shape,
-        &kept.wires,
-        &kept.shut,
-        &mut kept.open_lines,
-        &mut kept.free_ports,
-    );
-    Ok(kept)
+    })
 }
 
 /// A table is free no more, and no more listed, since one of its pins is.

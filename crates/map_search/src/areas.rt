@@ -353,14 +353,28 @@ impl<'a> Areas<'a> {
         }
     }
 
-    /// The cuts that nodes have, and which nodes have tables.
-    pub fn choice_of(&self, alloc: Global) -> Result<Chosen, AllocError> {
+    // The cuts that nodes have.
+    fn bests(&self, alloc: Global) -> Result<Vec<Cut>, AllocError> {
         let mut cuts = Vec::with_capacity(alloc, self.places.len())?;
+        'nodes: for place in &self.places {
+            cuts.push(place.best)?;
+        }
+        Ok(cuts)
+    }
+
+    // Which nodes have tables.
+    fn marks(&self, alloc: Global) -> Result<Vec<bool>, AllocError> {
         let mut tables = Vec::with_capacity(alloc, self.places.len())?;
         'nodes: for node in 0..self.places.len() {
-            cuts.push(self.places[node].best)?;
-            tables.push(self.places[node].refs > 0 && self.nodes.is_and(node))?;
+            tables.push(self.has_table(node) && self.nodes.is_and(node))?;
         }
+        Ok(tables)
+    }
+
+    /// The cuts that nodes have, and which nodes have tables.
+    pub fn choice_of(&self, alloc: Global) -> Result<Chosen, AllocError> {
+        let cuts = self.bests(alloc)?;
+        let tables = self.marks(alloc)?;
         Ok(Chosen { cuts, tables })
     }
 }

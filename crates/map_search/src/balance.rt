@@ -6,7 +6,7 @@ use crate::names::{FreeNames, name_of};
 use crate::numbers::{at, is_marked, literal_of, node_of, set, small};
 use crate::reach::{Nodes, Reach, needs_latch, reach_of};
 use base_lists::Items;
-use design_equal::Graph;
+use design_equal::{And, Graph};
 use design_netlist::{Cover, Cube, LatchDef, Lit, Names, Netlist, NetlistData, PortDef};
 use std::alloc::{AllocError, Global};
 
@@ -30,6 +30,20 @@ struct Wide<'a> {
     of_node: Vec<u32>,
     of_signal: Vec<u32>,
     covers: Items<Cover>,
+}
+
+/// Inputs, and latches with the labels of what they read.
+#[derive(Drop)]
+struct Front {
+    inputs: Items<PortDef>,
+    read: Vec<LatchDef>,
+}
+
+/// Outputs, and latches.
+#[derive(Drop)]
+struct Back {
+    outputs: Items<PortDef>,
+    latches: Items<LatchDef>,
 }
 
 // Counts a literal that is read; whether its node may be one with its reader is seen by that.
@@ -91,6 +105,22 @@ fn part_widest(alloc: Global, nodes: Nodes<'_>, refs: &mut Vec<u32>) -> Result<(
     Ok(())
 }
 
+// The AND that a literal's node is, if that is within a wide one.
+fn inner_and(nodes: Nodes<'_>, literal: u32, inner: bool) -> Option<And> {
+    if inner {
+        nodes.and(node_of(literal))
+    } else {
+        None
+    }
+}
+
+// Adds both literals that an AND reads.
+fn push_both(waiting: &mut Vec<u32>, and: And) -> Result<(), AllocError> {
+    waiting.push(and.left)?;
+    waiting.push(and.right)?;
+    Ok(())
+}
+
 // The literals that the wide AND of a node reads.
 fn leaves_of(
     alloc: Global,
@@ -105,19 +135,24 @@ fn leaves_of(
         let Some(literal) = waiting.pop() else {
             break;
         };
-        let below = node_of(literal);
-        let inner = k == 0 || literal & 1 == 0 && at(refs, below) == 1;
-        match nodes.and(below) {
-            Some(and) if inner => {
-                waiting.push(and.left)?;
-                waiting.push(and.right)?;
-            }
-            _ => leaves.push(literal)?,
+        let read_once = literal & 1 == 0 && at(refs, node_of(literal)) == 1;
+        match inner_and(nodes, literal, k == 0 || read_once) {
+            Some(and) => push_both(&mut waiting, and)?,
+            None => leaves.push(literal)?,
         }
     }
     leaves.sort_unstable();
     leaves.dedup();
     Ok(leaves)
+}
+
+// What a literal wants of its signal.
+fn wanted_by(literal: u32) -> Lit {
+    if literal & 1 == 1 {
+        Lit::Zero
+    } else {
+        Lit::One
+    }
 }
 
 impl<'a> Wide<'a> {
@@ -136,20 +171,39 @@ impl<'a> Wide<'a> {
         Ok(signal)
     }
 
-    // Adds a cover that is the AND of literals.
-    fn add_cover(&mut self, out: u32, literals: &[u32]) -> Result<(), AllocError> {
+    // The signals of literals.
+    fn ins_of(&self, literals: &[u32]) -> Result<Items<u32>, AllocError> {
         let mut ins = Items::empty(self.alloc);
-        let mut row = Items::empty(self.alloc);
         'literals: for literal in literals {
             ins.push(at(&self.of_node, node_of(*literal)))?;
-            row.push(if literal & 1 == 1 {
-                Lit::Zero
-            } else {
-                Lit::One
-            })?;
         }
+        Ok(ins)
+    }
+
+    // What the AND of literals wants of their signals.
+    fn row_of(&self, literals: &[u32]) -> Result<Cube, AllocError> {
+        let mut row = Items::empty(self.alloc);
+        'literals: for literal in literals {
+            row.push(wanted_by(*literal))?;
+        }
+        Ok(row)
+    }
+
+    // The one row of the AND of literals.
+    fn rows_of(&self, literals: &[u32]) -> Result<Items<Cube>, AllocError> {
+        let row = self.row_of(literals)?;
         let mut rows: Items<Cube> = Items::empty(self.alloc);
         rows.push(row)?;
+        Ok(rows)
+    }
+
+    // Adds a cover of these rows.
+    fn put_cover(
+        &mut self,
+        out: u32,
+        ins: Items<u32>,
+        rows: Items<Cube>,
+    ) -> Result<(), AllocError> {
         self.covers.push(Cover {
             out,
             ins,
@@ -160,22 +214,27 @@ impl<'a> Wide<'a> {
         Ok(())
     }
 
+    // Adds a cover that is the AND of literals.
+    fn add_cover(&mut self, out: u32, literals: &[u32]) -> Result<(), AllocError> {
+        let ins = self.ins_of(literals)?;
+        let rows = self.rows_of(literals)?;
+        self.put_cover(out, ins, rows)
+    }
+
     // Adds a cover that shows a literal, or a constant.
     fn add_copy(&mut self, out: u32, literal: u32) -> Result<(), AllocError> {
         match literal {
             1 => self.add_cover(out, &[]),
-            0 => {
-                self.covers.push(Cover {
-                    out,
-                    ins: Items::empty(self.alloc),
-                    rows: Items::empty(self.alloc),
-                    off: false,
-                    line: 0,
-                })?;
-                Ok(())
-            }
+            0 => self.put_cover(out, Items::empty(self.alloc), Items::empty(self.alloc)),
             _ => self.add_cover(out, &[literal]),
         }
+    }
+
+    // Adds the signal of a node, with the name of an old one.
+    fn add_node(&mut self, node: usize, label: u32, old: u32) -> Result<u32, AllocError> {
+        let signal = self.add_signal(label, Some(old))?;
+        set(&mut self.of_node, node, signal);
+        Ok(signal)
     }
 
     // Adds the inputs.
@@ -183,8 +242,7 @@ impl<'a> Wide<'a> {
         let mut ports = Items::empty(self.alloc);
         'inputs: for port in self.old.inputs.as_slice() {
             let label = at(self.labels, port.signal as usize);
-            let signal = self.add_signal(label, Some(port.signal))?;
-            set(&mut self.of_node, node_of(label), signal);
+            let signal = self.add_node(node_of(label), label, port.signal)?;
             ports.push(PortDef { signal, line: 0 })?;
         }
         Ok(ports)
@@ -201,23 +259,36 @@ impl<'a> Wide<'a> {
         needs_latch(self.graph, reach, place) && at(&self.of_node, node) == NOWHERE
     }
 
+    // Adds the signal of a latch; the latch, with the label of what it reads in place of a signal.
+    fn add_latch(&mut self, latch: LatchDef, label: u32) -> Result<LatchDef, AllocError> {
+        let out = self.add_node(node_of(label), label, latch.out)?;
+        Ok(LatchDef {
+            from: at(self.labels, latch.from as usize),
+            out,
+            init: latch.init,
+            line: 0,
+        })
+    }
+
     // Adds the signals of latches; the latches, with the labels of what they read in place of signals.
     fn add_latches(&mut self, reach: &Reach) -> Result<Vec<LatchDef>, AllocError> {
         let mut latches = Vec::new(self.alloc);
         'latches: for latch in self.old.latches.as_slice() {
             let label = at(self.labels, latch.out as usize);
             if self.is_new_latch(reach, label) {
-                let out = self.add_signal(label, Some(latch.out))?;
-                set(&mut self.of_node, node_of(label), out);
-                latches.push(LatchDef {
-                    from: at(self.labels, latch.from as usize),
-                    out,
-                    init: latch.init,
-                    line: 0,
-                })?;
+                let new = self.add_latch(*latch, label)?;
+                latches.push(new)?;
             }
         }
         Ok(latches)
+    }
+
+    // Adds the wide AND of a node.
+    fn add_and(&mut self, nodes: Nodes<'_>, refs: &[u32], node: usize) -> Result<(), AllocError> {
+        let leaves = leaves_of(self.alloc, nodes, refs, node)?;
+        let out = self.add_signal(literal_of(node), None)?;
+        set(&mut self.of_node, node, out);
+        self.add_cover(out, &leaves)
     }
 
     // Adds the wide ANDs.
@@ -227,61 +298,144 @@ impl<'a> Wide<'a> {
         part_widest(self.alloc, nodes, &mut refs)?;
         'nodes: for node in nodes.first..nodes.count() {
             if is_marked(&reach.live, node) && at(&refs, node) != 1 {
-                let leaves = leaves_of(self.alloc, nodes, &refs, node)?;
-                let out = self.add_signal(literal_of(node), None)?;
-                set(&mut self.of_node, node, out);
-                self.add_cover(out, &leaves)?;
+                self.add_and(nodes, &refs, node)?;
             }
         }
         Ok(())
+    }
+
+    // Adds a signal that shows a label.
+    fn show(&mut self, label: u32, kept: Option<u32>) -> Result<u32, AllocError> {
+        let new = self.add_signal(label, kept)?;
+        self.add_copy(new, label)?;
+        Ok(new)
+    }
+
+    // The signal of an output.
+    fn output(&mut self, old: u32) -> Result<u32, AllocError> {
+        let known = at(&self.of_signal, old as usize);
+        if known != NOWHERE {
+            return Ok(known);
+        }
+        self.show(at(self.labels, old as usize), Some(old))
     }
 
     // Adds the outputs.
     fn add_outputs(&mut self) -> Result<Items<PortDef>, AllocError> {
         let mut ports = Items::empty(self.alloc);
         'outputs: for port in self.old.outputs.as_slice() {
-            let known = at(&self.of_signal, port.signal as usize);
-            let label = at(self.labels, port.signal as usize);
-            let signal = if known == NOWHERE {
-                let new = self.add_signal(label, Some(port.signal))?;
-                self.add_copy(new, label)?;
-                new
-            } else {
-                known
-            };
+            let signal = self.output(port.signal)?;
             ports.push(PortDef { signal, line: 0 })?;
         }
         Ok(ports)
+    }
+
+    // The signal that a latch reads.
+    fn next_signal(&mut self, label: u32) -> Result<u32, AllocError> {
+        if label > 1 && label & 1 == 0 {
+            Ok(at(&self.of_node, node_of(label)))
+        } else {
+            self.show(label, None)
+        }
     }
 
     // The latches with the signals that they read.
     fn close_latches(&mut self, latches: &[LatchDef]) -> Result<Items<LatchDef>, AllocError> {
         let mut found = Items::empty(self.alloc);
         'latches: for latch in latches {
-            let label = latch.from;
-            let from = if label > 1 && label & 1 == 0 {
-                at(&self.of_node, node_of(label))
-            } else {
-                let new = self.add_signal(label, None)?;
-                self.add_copy(new, label)?;
-                new
-            };
+            let from = self.next_signal(latch.from)?;
             found.push(LatchDef { from, ..*latch })?;
         }
         Ok(found)
     }
+
+    // Adds the inputs, and the latches that outputs need.
+    fn add_front(&mut self, reach: &Reach) -> Result<Front, AllocError> {
+        let inputs = self.add_inputs()?;
+        let read = self.add_latches(reach)?;
+        Ok(Front { inputs, read })
+    }
+
+    // Adds the outputs, and what latches read.
+    fn add_back(&mut self, read: &[LatchDef]) -> Result<Back, AllocError> {
+        let outputs = self.add_outputs()?;
+        let latches = self.close_latches(read)?;
+        Ok(Back { outputs, latches })
+    }
+
+    // The design.
+    fn joined(self, inputs: Items<PortDef>, back: Back) -> Mapped {
+        let draft = NetlistData {
+            names: self.names,
+            inputs,
+            outputs: back.outputs,
+            covers: self.covers,
+            latches: back.latches,
+        };
+        Mapped {
+            draft,
+            labels: Items::new(self.new_labels),
+        }
+    }
 }
 
-// Takes the names of ports and latches.
-fn take_names(alloc: Global, free: &mut FreeNames, draft: &NetlistData) -> Result<(), AllocError> {
-    let inputs = draft.inputs.as_slice().iter().map(|port| port.signal);
-    let outputs = draft.outputs.as_slice().iter().map(|port| port.signal);
-    let latches = draft.latches.as_slice().iter().map(|latch| latch.out);
-    'signals: for signal in inputs.chain(outputs).chain(latches) {
-        free.take(name_of(alloc, &draft.names, signal)?.as_slice())?;
+// Takes the names of ports.
+fn take_ports(
+    alloc: Global,
+    free: &mut FreeNames,
+    names: &Names,
+    ports: &[PortDef],
+) -> Result<(), AllocError> {
+    'ports: for port in ports {
+        free.take_signal(alloc, names, port.signal)?;
     }
-    free.close();
     Ok(())
+}
+
+// Takes the names of latches.
+fn take_latches(
+    alloc: Global,
+    free: &mut FreeNames,
+    names: &Names,
+    latches: &[LatchDef],
+) -> Result<(), AllocError> {
+    'latches: for latch in latches {
+        free.take_signal(alloc, names, latch.out)?;
+    }
+    Ok(())
+}
+
+// The names that are free beside those of ports and latches.
+fn free_names(alloc: Global, draft: &NetlistData) -> Result<FreeNames, AllocError> {
+    let mut free = FreeNames::new(alloc, b'm');
+    take_ports(alloc, &mut free, &draft.names, draft.inputs.as_slice())?;
+    take_ports(alloc, &mut free, &draft.names, draft.outputs.as_slice())?;
+    take_latches(alloc, &mut free, &draft.names, draft.latches.as_slice())?;
+    free.close();
+    Ok(free)
+}
+
+// Nothing is made.
+fn wide_of<'a>(
+    alloc: Global,
+    old: &'a NetlistData,
+    made: &'a Made,
+) -> Result<Wide<'a>, AllocError> {
+    let of_node = vec![in alloc; NOWHERE; Nodes::of(&made.graph).count()]?;
+    let of_signal = vec![in alloc; NOWHERE; old.names.len()]?;
+    let free = free_names(alloc, old)?;
+    Ok(Wide {
+        alloc,
+        old,
+        graph: &made.graph,
+        labels: made.labels.as_slice(),
+        free,
+        names: Names::new(alloc),
+        new_labels: Vec::new(alloc),
+        of_node,
+        of_signal,
+        covers: Items::empty(alloc),
+    })
 }
 
 /// The design as wide ANDs, which are to be decomposed anew.
@@ -291,36 +445,10 @@ fn take_names(alloc: Global, free: &mut FreeNames, draft: &NetlistData) -> Resul
 /// Out of memory.
 pub fn wide_ands(alloc: Global, netlist: &Netlist, made: &Made) -> Result<Mapped, AllocError> {
     let old = netlist.parts();
-    let labels = made.labels.as_slice();
-    let reach = reach_of(alloc, old, &made.graph, labels)?;
-    let mut free = FreeNames::new(alloc, b'm');
-    take_names(alloc, &mut free, old)?;
-    let mut wide = Wide {
-        alloc,
-        old,
-        graph: &made.graph,
-        labels,
-        free,
-        names: Names::new(alloc),
-        new_labels: Vec::new(alloc),
-        of_node: vec![in alloc; NOWHERE; Nodes::of(&made.graph).count()]?,
-        of_signal: vec![in alloc; NOWHERE; old.names.len()]?,
-        covers: Items::empty(alloc),
-    };
-    let inputs = wide.add_inputs()?;
-    let read = wide.add_latches(&reach)?;
+    let reach = reach_of(alloc, old, &made.graph, made.labels.as_slice())?;
+    let mut wide = wide_of(alloc, old, made)?;
+    let front = wide.add_front(&reach)?;
     wide.add_ands(&reach)?;
-    let outputs = wide.add_outputs()?;
-    let latches = wide.close_latches(&read)?;
-    let draft = NetlistData {
-        names: wide.names,
-        inputs,
-        outputs,
-        covers: wide.covers,
-        latches,
-    };
-    Ok(Mapped {
-        draft,
-        labels: Items::new(wide.new_labels),
-    })
+    let back = wide.add_back(&front.read)?;
+    Ok(wide.joined(front.inputs, back))
 }

@@ -87,6 +87,28 @@ fn fill_table(
     Ok((Table { out, ins, cells }, found))
 }
 
+// Tables that have their cells; whether all of these were found.
+#[derive(Drop)]
+struct Filled {
+    tables: Vec<Table>,
+    all: bool,
+}
+
+impl Filled {
+    // Adds a table with its cells.
+    fn add(
+        &mut self,
+        layout: &Layout,
+        cone: &mut Cone<'_>,
+        table: &Table,
+    ) -> Result<(), AllocError> {
+        let (table, found) = fill_table(layout, cone, table)?;
+        self.tables.push(table)?;
+        self.all = self.all && found;
+        Ok(())
+    }
+}
+
 /// Gives the tables of a layout their cells, without inputs that follow from others; whether the way to each is short enough. Inputs
 /// on which cells don't depend stay: without them no way leads from the others to the table's node, by which tables are compared.
 pub fn fill_tables(
@@ -95,13 +117,13 @@ pub fn fill_tables(
     layout: &mut Layout,
 ) -> Result<bool, AllocError> {
     let mut cone = cone_of(alloc, nodes)?;
-    let mut tables = Vec::with_capacity(alloc, layout.tables.len())?;
-    let mut all = true;
+    let mut filled = Filled {
+        tables: Vec::with_capacity(alloc, layout.tables.len())?,
+        all: true,
+    };
     'tables: for table in &layout.tables {
-        let (table, found) = fill_table(layout, &mut cone, table)?;
-        tables.push(table)?;
-        all = all && found;
+        filled.add(layout, &mut cone, table)?;
     }
-    layout.tables = tables;
-    Ok(all)
+    layout.tables = filled.tables;
+    Ok(filled.all)
 }

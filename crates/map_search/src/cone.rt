@@ -59,19 +59,20 @@ impl<'a> Cone<'a> {
 
     // Puts the word of an AND, or lets wait what it reads.
     fn step(&mut self, node: u32, and: And) -> Result<(), AllocError> {
-        let left = self.has(node_of(and.left));
-        let right = self.has(node_of(and.right));
-        if left && right {
+        if self.has(node_of(and.left)) && self.has(node_of(and.right)) {
             let word = self.word(and.left) & self.word(and.right);
             self.put(node as usize, word);
             return Ok(());
         }
         self.waiting.push(node)?;
-        if !left {
-            self.waiting.push(and.left >> 1)?;
-        }
-        if !right {
-            self.waiting.push(and.right >> 1)?;
+        self.want(and.left >> 1)?;
+        self.want(and.right >> 1)
+    }
+
+    // Lets a node wait that has no word.
+    fn want(&mut self, node: u32) -> Result<(), AllocError> {
+        if !self.has(node as usize) {
+            self.waiting.push(node)?;
         }
         Ok(())
     }

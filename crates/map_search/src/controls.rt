@@ -2,7 +2,7 @@
 
 use crate::names::{is_plain_name, name_of, number_in};
 use base_lists::Items;
-use design_netlist::{Netlist, NetlistData};
+use design_netlist::{Cover, LatchDef, Names, Netlist, NetlistData, PortDef};
 use std::alloc::{AllocError, Global};
 
 /// What is known of controls so far.
@@ -49,30 +49,39 @@ impl Line {
         }
     }
 
+    // Whether this is the control that latches have so far, if they have one.
+    fn may_be(&self, control: &[u8]) -> bool {
+        match &self.known {
+            Known::Nothing => true,
+            Known::One(known) => known.as_slice() == control,
+            Known::Other => false,
+        }
+    }
+
     // What is known once a latch of this line is too.
     fn with_latch(&self) -> Result<Known, AllocError> {
         let control = self.at(4);
-        if self.words.len() < 5 || control == b"NIL".as_slice() {
+        if self.words.len() < 5 || control == b"NIL".as_slice() || !self.may_be(control) {
             return Ok(Known::Other);
         }
-        match &self.known {
-            Known::Nothing => Ok(Known::One(Vec::from_slice(self.alloc, control)?)),
-            Known::One(known) if known.as_slice() == control => {
-                Ok(Known::One(Vec::from_slice(self.alloc, control)?))
-            }
-            Known::One(_) | Known::Other => Ok(Known::Other),
+        let control = Vec::from_slice(self.alloc, control)?;
+        Ok(Known::One(control))
+    }
+
+    // Notes what a line of these first words says of controls.
+    fn note(&mut self) -> Result<(), AllocError> {
+        if self.at(0) == b".latch".as_slice() {
+            self.known = self.with_latch()?;
+        } else if self.at(0) == b".subckt".as_slice() {
+            self.known = Known::Other;
         }
+        Ok(())
     }
 
     // Ends a line.
     fn end_line(&mut self) -> Result<(), AllocError> {
         self.end_word()?;
-        let first = self.at(0);
-        if first == b".latch".as_slice() {
-            self.known = self.with_latch()?;
-        } else if first == b".subckt".as_slice() {
-            self.known = Known::Other;
-        }
+        self.note()?;
         self.words.clear();
         self.comment = false;
         Ok(())
@@ -124,44 +133,82 @@ fn only_control(alloc: Global, text: &[u8]) -> Result<Option<Vec<u8>>, AllocErro
     }
 }
 
+// Whether a signal has a name.
+fn is_named(alloc: Global, names: &Names, signal: u32, name: &[u8]) -> Result<bool, AllocError> {
+    let own = name_of(alloc, names, signal)?;
+    Ok(own.as_slice() == name)
+}
+
 // Whether one of these signals has a name.
-fn some_is(
-    alloc: Global,
-    draft: &NetlistData,
-    signals: &[u32],
-    name: &[u8],
-) -> Result<bool, AllocError> {
+fn some_is(alloc: Global, names: &Names, signals: &[u32], name: &[u8]) -> Result<bool, AllocError> {
     'signals: for signal in signals {
-        if name_of(alloc, &draft.names, *signal)?.as_slice() == name {
+        if is_named(alloc, names, *signal, name)? {
             return Ok(true);
         }
     }
     Ok(false)
 }
 
+// Adds the signals that covers drive.
+fn add_covers(signals: &mut Vec<u32>, covers: &[Cover]) -> Result<(), AllocError> {
+    'covers: for cover in covers {
+        signals.push(cover.out)?;
+    }
+    Ok(())
+}
+
+// Adds the signals that latches drive.
+fn add_latches(signals: &mut Vec<u32>, latches: &[LatchDef]) -> Result<(), AllocError> {
+    'latches: for latch in latches {
+        signals.push(latch.out)?;
+    }
+    Ok(())
+}
+
 // The signals that covers and latches drive.
 fn driven(alloc: Global, draft: &NetlistData) -> Result<Vec<u32>, AllocError> {
-    let covers = draft.covers.as_slice().iter().map(|cover| cover.out);
-    let latches = draft.latches.as_slice().iter().map(|latch| latch.out);
-    covers.chain(latches).collect(alloc)
+    let mut signals = Vec::new(alloc);
+    add_covers(&mut signals, draft.covers.as_slice())?;
+    add_latches(&mut signals, draft.latches.as_slice())?;
+    Ok(signals)
+}
+
+// Whether a cover or a latch drives the signal of a name.
+fn is_driven(alloc: Global, draft: &NetlistData, name: &[u8]) -> Result<bool, AllocError> {
+    let signals = driven(alloc, draft)?;
+    some_is(alloc, &draft.names, &signals, name)
+}
+
+// The signals of inputs.
+fn input_signals(alloc: Global, inputs: &[PortDef]) -> Result<Vec<u32>, AllocError> {
+    let mut signals = Vec::with_capacity(alloc, inputs.len())?;
+    'inputs: for port in inputs {
+        signals.push(port.signal)?;
+    }
+    Ok(signals)
+}
+
+// Whether the signal of a name is an input.
+fn is_input(alloc: Global, draft: &NetlistData, name: &[u8]) -> Result<bool, AllocError> {
+    let signals = input_signals(alloc, draft.inputs.as_slice())?;
+    some_is(alloc, &draft.names, &signals, name)
+}
+
+// Whether a new signal may have a name, or it can't be written anywhere.
+fn is_taken(name: &[u8]) -> bool {
+    number_in(name, b'm').is_some() || number_in(name, b'e').is_some() || !is_plain_name(name)
 }
 
 // Whether a control can stand in another text of the design: it is an input, or nothing drives it and no new signal has its name.
 fn may_stand(alloc: Global, draft: &NetlistData, name: &[u8]) -> Result<bool, AllocError> {
-    let inputs: Vec<u32> = draft
-        .inputs
-        .as_slice()
-        .iter()
-        .map(|port| port.signal)
-        .collect(alloc)?;
-    if some_is(alloc, draft, &inputs, name)? {
+    if is_input(alloc, draft, name)? {
         return Ok(true);
     }
-    let new = number_in(name, b'm').is_some() || number_in(name, b'e').is_some();
-    if new || !is_plain_name(name) {
+    if is_taken(name) {
         return Ok(false);
     }
-    Ok(!some_is(alloc, draft, &driven(alloc, draft)?, name)?)
+    let driven = is_driven(alloc, draft, name)?;
+    Ok(!driven)
 }
 
 /// The name of the control that all latches of a design have by its text, if it can stand in another one.

@@ -4,10 +4,10 @@ use crate::cells::fill_tables;
 use crate::cuts::Cut;
 use crate::graph::Made;
 use crate::hints::hints_of;
-use crate::layout::{Layout, NOWHERE, Table, Wire};
+use crate::layout::{Layout, NOWHERE, Register, Table, Wire};
 use crate::names::{FreeNames, is_plain_name, name_of};
 use crate::numbers::{is_marked, mark, set, small};
-use crate::passes::{Choice, choose_cuts};
+use crate::passes::{Choice, Chosen, choose_cuts};
 use crate::products::{Product, cheaper_of};
 use crate::puts::put_tables;
 use crate::reach::{Nodes, Reach, reach_of};
@@ -27,12 +27,17 @@ pub struct Mapped {
     pub labels: Items<u32>,
 }
 
-// Marks the wires that outputs show and latches read.
-fn mark_read(marks: &mut Vec<bool>, layout: &Layout) {
-    let shown = layout.outputs.iter();
-    let read = layout.registers.iter().map(|register| &register.from);
-    'wires: for wire in shown.chain(read) {
+// Marks the wires that outputs show.
+fn mark_shown(marks: &mut Vec<bool>, outputs: &[u32]) {
+    'wires: for wire in outputs {
         let _ = mark(marks, *wire as usize);
+    }
+}
+
+// Marks the wires that latches read.
+fn mark_read(marks: &mut Vec<bool>, registers: &[Register]) {
+    'latches: for register in registers {
+        let _ = mark(marks, register.from as usize);
     }
 }
 
@@ -56,7 +61,8 @@ fn mark_down(marks: &mut Vec<bool>, tables: &[Table]) {
 // Marks the wires that are read, by way of tables too: each reads only those in front of it.
 fn read_wires(alloc: Global, layout: &Layout) -> Result<Vec<bool>, AllocError> {
     let mut marks = vec![in alloc; false; layout.wires.len()]?;
-    mark_read(&mut marks, layout);
+    mark_shown(&mut marks, &layout.outputs);
+    mark_read(&mut marks, &layout.registers);
     mark_down(&mut marks, &layout.tables);
     Ok(marks)
 }
@@ -73,17 +79,28 @@ fn read_tables(alloc: Global, layout: &Layout) -> Result<Vec<Table>, AllocError>
     Ok(tables)
 }
 
+// Adds the wires of latches.
+fn add_registers(wires: &mut Vec<u32>, registers: &[Register]) -> Result<(), AllocError> {
+    'latches: for register in registers {
+        wires.push(register.out)?;
+    }
+    Ok(())
+}
+
+// Adds the wires of tables.
+fn add_tables(wires: &mut Vec<u32>, tables: &[Table]) -> Result<(), AllocError> {
+    'tables: for table in tables {
+        wires.push(table.out)?;
+    }
+    Ok(())
+}
+
 // The wires of inputs, latches and tables, in this order.
 fn wires_in_order(alloc: Global, layout: &Layout) -> Result<Vec<u32>, AllocError> {
-    let latches = layout.registers.iter().map(|register| register.out);
-    let tables = layout.tables.iter().map(|table| table.out);
-    layout
-        .inputs
-        .iter()
-        .copied()
-        .chain(latches)
-        .chain(tables)
-        .collect(alloc)
+    let mut wires = Vec::from_slice(alloc, &layout.inputs)?;
+    add_registers(&mut wires, &layout.registers)?;
+    add_tables(&mut wires, &layout.tables)?;
+    Ok(wires)
 }
 
 // Notes the name of a signal; whether it is new.
@@ -112,13 +129,20 @@ fn kept_names(
     Ok(known)
 }
 
+// Notes the wire of a label, unless there is one.
+fn note_first(found: &mut HashMap<u32, usize>, label: u32, place: usize) -> Result<(), AllocError> {
+    if !found.contains_key(&label) {
+        let _ = found.insert(label, place)?;
+    }
+    Ok(())
+}
+
 // The wire of each label that one without a name shows, the first of them.
 fn unnamed(alloc: Global, wires: &[Wire]) -> Result<HashMap<u32, usize>, AllocError> {
     let mut found = HashMap::new(alloc);
     'wires: for k in 0..wires.len() {
-        let wire = wires[k];
-        if wire.kept.is_none() && !found.contains_key(&wire.label) {
-            let _ = found.insert(wire.label, k)?;
+        if wires[k].kept.is_none() {
+            note_first(&mut found, wires[k].label, k)?;
         }
     }
     Ok(found)
@@ -138,6 +162,18 @@ fn is_free(
     note_name(alloc, known, names, signal)
 }
 
+// Whether there is a wire at a place that has no name.
+fn is_unnamed(wires: &[Wire], place: usize) -> bool {
+    place < wires.len() && wires[place].kept.is_none()
+}
+
+// Gives the wire at a place the name of a signal.
+fn name_at(wires: &mut Vec<Wire>, place: usize, signal: u32) {
+    if place < wires.len() {
+        wires[place].kept = Some(signal);
+    }
+}
+
 // Gives wires the names of signals that they show, where these are free.
 fn keep_names(
     alloc: Global,
@@ -148,15 +184,9 @@ fn keep_names(
     let mut known = kept_names(alloc, wires, names)?;
     let found = unnamed(alloc, wires)?;
     'signals: for signal in 0..labels.len() {
-        let place = match found.get(&labels[signal]) {
-            Some(place) => *place,
-            None => continue,
-        };
-        if place >= wires.len() || wires[place].kept.is_some() {
-            continue;
-        }
-        if is_free(alloc, &mut known, names, small(signal))? {
-            wires[place].kept = Some(small(signal));
+        let place = found.get(&labels[signal]).copied().unwrap_or(usize::MAX);
+        if is_unnamed(wires, place) && is_free(alloc, &mut known, names, small(signal))? {
+            name_at(wires, place, small(signal));
         }
     }
     Ok(())
@@ -171,55 +201,71 @@ fn take_names(
 ) -> Result<(), AllocError> {
     'wires: for wire in wires {
         if let Some(signal) = wire.kept {
-            let name = name_of(alloc, names, signal)?;
-            free.take(name.as_slice())?;
+            free.take_signal(alloc, names, signal)?;
         }
     }
-    free.close();
     Ok(())
 }
 
-// The name of a wire.
-fn wire_name(
-    alloc: Global,
-    free: &mut FreeNames,
-    wire: Option<&Wire>,
-    names: &Names,
-) -> Result<Name, AllocError> {
-    let kept = match wire {
-        Some(wire) => wire.kept,
-        None => None,
-    };
-    match kept {
-        Some(signal) => name_of(alloc, names, signal),
-        None => free.next(alloc),
-    }
+// The names that are free beside those that stay.
+fn free_names(alloc: Global, wires: &[Wire], names: &Names) -> Result<FreeNames, AllocError> {
+    let mut free = FreeNames::new(alloc, b'm');
+    take_names(alloc, &mut free, wires, names)?;
+    free.close();
+    Ok(free)
 }
 
-// A design without covers and latches, and the signals of wires.
+// A design without covers and latches, the signals of wires, and the names that are free.
 #[derive(Drop)]
 struct Named {
     names: Names,
     labels: Vec<u32>,
     signals: Vec<u32>,
+    free: FreeNames,
+}
+
+impl Named {
+    // Without signals, for wires of which these names stay.
+    fn new(alloc: Global, wires: &[Wire], names: &Names) -> Result<Named, AllocError> {
+        let free = free_names(alloc, wires, names)?;
+        let signals = vec![in alloc; NOWHERE; wires.len()]?;
+        Ok(Named {
+            names: Names::new(alloc),
+            labels: Vec::new(alloc),
+            signals,
+            free,
+        })
+    }
+
+    // A name that stays, or a free one.
+    fn name(
+        &mut self,
+        alloc: Global,
+        kept: Option<u32>,
+        names: &Names,
+    ) -> Result<Name, AllocError> {
+        match kept {
+            Some(signal) => name_of(alloc, names, signal),
+            None => self.free.next(alloc),
+        }
+    }
+
+    // Adds the signal of a wire.
+    fn add(&mut self, alloc: Global, wire: Wire, names: &Names) -> Result<(), AllocError> {
+        self.labels.push(wire.label)?;
+        let name = self.name(alloc, wire.kept, names)?;
+        self.names.push(name)
+    }
 }
 
 // Names and labels of wires in order, which are the new signals.
 fn name_wires(alloc: Global, layout: &Layout, names: &Names) -> Result<Named, AllocError> {
-    let mut free = FreeNames::new(alloc, b'm');
-    take_names(alloc, &mut free, &layout.wires, names)?;
     let order = wires_in_order(alloc, layout)?;
-    let mut named = Named {
-        names: Names::new(alloc),
-        labels: Vec::new(alloc),
-        signals: vec![in alloc; NOWHERE; layout.wires.len()]?,
-    };
+    let mut named = Named::new(alloc, &layout.wires, names)?;
     'wires: for k in 0..order.len() {
         let wire = order[k];
         set(&mut named.signals, wire as usize, small(k));
-        named.labels.push(layout.label(wire))?;
-        let name = wire_name(alloc, &mut free, layout.wires.get(wire as usize), names)?;
-        named.names.push(name)?;
+        named.add(alloc, layout.wire(wire), names)?;
     }
     Ok(named)
 }
@@ -233,43 +279,50 @@ fn signal_of(signals: &[u32], wire: u32) -> u32 {
 fn ports_of(alloc: Global, signals: &[u32], wires: &[u32]) -> Result<Items<PortDef>, AllocError> {
     let mut ports = Items::empty(alloc);
     'wires: for wire in wires {
-        ports.push(PortDef {
-            signal: signal_of(signals, *wire),
-            line: 0,
-        })?;
+        let signal = signal_of(signals, *wire);
+        ports.push(PortDef { signal, line: 0 })?;
     }
     Ok(ports)
+}
+
+// A latch.
+fn latch_of(signals: &[u32], register: Register) -> LatchDef {
+    LatchDef {
+        from: signal_of(signals, register.from),
+        out: signal_of(signals, register.out),
+        init: register.init,
+        line: 0,
+    }
 }
 
 // The latches.
 fn latches_of(
     alloc: Global,
     signals: &[u32],
-    layout: &Layout,
+    registers: &[Register],
 ) -> Result<Items<LatchDef>, AllocError> {
     let mut latches = Items::empty(alloc);
-    'latches: for register in &layout.registers {
-        latches.push(LatchDef {
-            from: signal_of(signals, register.from),
-            out: signal_of(signals, register.out),
-            init: register.init,
-            line: 0,
-        })?;
+    'latches: for register in registers {
+        latches.push(latch_of(signals, *register))?;
     }
     Ok(latches)
+}
+
+// What a product wants of an input.
+fn lit_at(product: Product, k: usize) -> Lit {
+    let wants = product.0.wrapping_shr(((k & 7) as u32).wrapping_shl(1));
+    match wants & 3 {
+        1 => Lit::One,
+        2 => Lit::Zero,
+        _ => Lit::Any,
+    }
 }
 
 // A product of so many inputs as a row.
 fn row_of(alloc: Global, product: Product, count: usize) -> Result<Cube, AllocError> {
     let mut row = Items::empty(alloc);
     'inputs: for k in 0..count {
-        let wants = product.0.wrapping_shr(((k & 7) as u32).wrapping_shl(1));
-        let lit = match wants & 3 {
-            1 => Lit::One,
-            2 => Lit::Zero,
-            _ => Lit::Any,
-        };
-        row.push(lit)?;
+        row.push(lit_at(product, k))?;
     }
     Ok(row)
 }
@@ -278,7 +331,8 @@ fn row_of(alloc: Global, product: Product, count: usize) -> Result<Cube, AllocEr
 fn rows_of(alloc: Global, products: &[Product], count: usize) -> Result<Items<Cube>, AllocError> {
     let mut rows = Items::empty(alloc);
     'products: for product in products {
-        rows.push(row_of(alloc, *product, count)?)?;
+        let row = row_of(alloc, *product, count)?;
+        rows.push(row)?;
     }
     Ok(rows)
 }
@@ -295,11 +349,15 @@ fn ins_of(alloc: Global, signals: &[u32], ins: &Cut) -> Result<Items<u32>, Alloc
 // A table as a cover.
 fn cover_of(alloc: Global, signals: &[u32], table: &Table) -> Result<Cover, AllocError> {
     let cheaper = cheaper_of(alloc, table.cells)?;
+    let rows = rows_of(alloc, &cheaper.products, table.ins.count)?;
+    let ins = ins_of(alloc, signals, &table.ins)?;
+    let out = signal_of(signals, table.out);
+    let off = cheaper.off;
     Ok(Cover {
-        out: signal_of(signals, table.out),
-        ins: ins_of(alloc, signals, &table.ins)?,
-        rows: rows_of(alloc, &cheaper.products, table.ins.count)?,
-        off: cheaper.off,
+        out,
+        ins,
+        rows,
+        off,
         line: 0,
     })
 }
@@ -308,34 +366,112 @@ fn cover_of(alloc: Global, signals: &[u32], table: &Table) -> Result<Cover, Allo
 fn covers_of(alloc: Global, signals: &[u32], tables: &[Table]) -> Result<Items<Cover>, AllocError> {
     let mut covers = Items::empty(alloc);
     'tables: for table in tables {
-        covers.push(cover_of(alloc, signals, table)?)?;
+        let cover = cover_of(alloc, signals, table)?;
+        covers.push(cover)?;
     }
     Ok(covers)
+}
+
+// Inputs and outputs.
+#[derive(Drop)]
+struct Ends {
+    inputs: Items<PortDef>,
+    outputs: Items<PortDef>,
+}
+
+// The inputs and outputs.
+fn ends_of(alloc: Global, signals: &[u32], layout: &Layout) -> Result<Ends, AllocError> {
+    let inputs = ports_of(alloc, signals, &layout.inputs)?;
+    let outputs = ports_of(alloc, signals, &layout.outputs)?;
+    Ok(Ends { inputs, outputs })
+}
+
+// Covers and latches.
+#[derive(Drop)]
+struct Logic {
+    covers: Items<Cover>,
+    latches: Items<LatchDef>,
+}
+
+// The covers and latches.
+fn logic_of(alloc: Global, signals: &[u32], layout: &Layout) -> Result<Logic, AllocError> {
+    let covers = covers_of(alloc, signals, &layout.tables)?;
+    let latches = latches_of(alloc, signals, &layout.registers)?;
+    Ok(Logic { covers, latches })
+}
+
+// A design of these parts.
+fn joined(named: Named, ends: Ends, logic: Logic) -> Mapped {
+    let draft = NetlistData {
+        names: named.names,
+        inputs: ends.inputs,
+        outputs: ends.outputs,
+        covers: logic.covers,
+        latches: logic.latches,
+    };
+    Mapped {
+        draft,
+        labels: Items::new(named.labels),
+    }
 }
 
 // The layout as a design.
 fn mapped_of(alloc: Global, layout: &Layout, names: &Names) -> Result<Mapped, AllocError> {
     let named = name_wires(alloc, layout, names)?;
-    let signals = &named.signals;
-    let inputs = ports_of(alloc, signals, &layout.inputs)?;
-    let outputs = ports_of(alloc, signals, &layout.outputs)?;
-    let covers = covers_of(alloc, signals, &layout.tables)?;
-    let latches = latches_of(alloc, signals, layout)?;
-    let draft = NetlistData {
-        names: named.names,
-        inputs,
-        outputs,
-        covers,
-        latches,
-    };
-    Ok(Mapped {
-        draft,
-        labels: Items::new(named.labels),
-    })
+    let ends = ends_of(alloc, &named.signals, layout)?;
+    let logic = logic_of(alloc, &named.signals, layout)?;
+    Ok(joined(named, ends, logic))
 }
 
-// Tables of chosen cuts; whether the way to each of them is short enough to be followed. Where few ANDs may lie above leaves, no
-// table is put into another one.
+// The cuts that are chosen.
+fn chosen_cuts(
+    alloc: Global,
+    draft: &NetlistData,
+    made: &Made,
+    reach: &Reach,
+    choice: Choice,
+) -> Result<Chosen, AllocError> {
+    let nodes = Nodes::of(&made.graph);
+    let hints = hints_of(
+        alloc,
+        nodes,
+        draft.covers.as_slice(),
+        made.labels.as_slice(),
+    )?;
+    choose_cuts(alloc, nodes, reach, &hints, choice)
+}
+
+// Tables of chosen cuts. Where few ANDs may lie above leaves, no table is put into another one.
+fn put_layout(
+    alloc: Global,
+    draft: &NetlistData,
+    made: &Made,
+    reach: &Reach,
+    choice: Choice,
+) -> Result<Layout, AllocError> {
+    let chosen = chosen_cuts(alloc, draft, made, reach, choice)?;
+    let labels = made.labels.as_slice();
+    let mut layout = layout_of(alloc, draft, &made.graph, labels, reach, &chosen)?;
+    if choice.ands > FEW_ANDS {
+        put_tables(alloc, &mut layout)?;
+    }
+    Ok(layout)
+}
+
+// The cells of tables and the names of wires; whether the way to each table is short enough to be followed.
+fn filled(
+    alloc: Global,
+    names: &Names,
+    made: &Made,
+    layout: &mut Layout,
+) -> Result<bool, AllocError> {
+    let followed = fill_tables(alloc, Nodes::of(&made.graph), layout)?;
+    layout.tables = read_tables(alloc, layout)?;
+    keep_names(alloc, &mut layout.wires, names, made.labels.as_slice())?;
+    Ok(followed)
+}
+
+// Tables with their cells; whether the way to each of them is short enough to be followed.
 fn drawn(
     alloc: Global,
     draft: &NetlistData,
@@ -343,19 +479,26 @@ fn drawn(
     reach: &Reach,
     choice: Choice,
 ) -> Result<(Layout, bool), AllocError> {
-    let graph = &made.graph;
-    let labels = made.labels.as_slice();
-    let nodes = Nodes::of(graph);
-    let hints = hints_of(alloc, nodes, draft, labels)?;
-    let chosen = choose_cuts(alloc, nodes, reach, &hints, choice)?;
-    let mut layout = layout_of(alloc, draft, graph, labels, reach, &chosen)?;
-    if choice.ands > FEW_ANDS {
-        put_tables(alloc, &mut layout)?;
-    }
-    let followed = fill_tables(alloc, nodes, &mut layout)?;
-    layout.tables = read_tables(alloc, &layout)?;
-    keep_names(alloc, &mut layout.wires, &draft.names, labels)?;
+    let mut layout = put_layout(alloc, draft, made, reach, choice)?;
+    let followed = filled(alloc, &draft.names, made, &mut layout)?;
     Ok((layout, followed))
+}
+
+// Tables to all of which the way can be followed: with few ANDs above leaves where it is too long with any number of them.
+fn best_drawn(
+    alloc: Global,
+    draft: &NetlistData,
+    made: &Made,
+    choice: Choice,
+) -> Result<Layout, AllocError> {
+    let reach = reach_of(alloc, draft, &made.graph, made.labels.as_slice())?;
+    let (layout, followed) = drawn(alloc, draft, made, &reach, choice)?;
+    if followed {
+        return Ok(layout);
+    }
+    let ands = FEW_ANDS;
+    let (layout, _) = drawn(alloc, draft, made, &reach, Choice { ands, ..choice })?;
+    Ok(layout)
 }
 
 /// Covers of at most six inputs for what the outputs of a design need, chosen among so many cuts of each node of its graph; with
@@ -372,17 +515,11 @@ pub fn cover_design(
     chance: u64,
 ) -> Result<Mapped, AllocError> {
     let draft = netlist.parts();
-    let reach = reach_of(alloc, draft, &made.graph, made.labels.as_slice())?;
     let choice = Choice {
         cuts: cuts as usize,
         ands: u32::MAX,
         chance,
     };
-    let (layout, followed) = drawn(alloc, draft, made, &reach, choice)?;
-    if followed {
-        return mapped_of(alloc, &layout, &draft.names);
-    }
-    let ands = FEW_ANDS;
-    let (layout, _) = drawn(alloc, draft, made, &reach, Choice { ands, ..choice })?;
+    let layout = best_drawn(alloc, draft, made, choice)?;
     mapped_of(alloc, &layout, &draft.names)
 }

@@ -13,14 +13,21 @@ fn level_of(levels: &[u32], signals: &[u32]) -> u32 {
     level
 }
 
+// Raises the level of a signal above those that it is made of; whether it rose.
+fn raise_one(levels: &mut Vec<u32>, ins: &[u32], out: usize) -> bool {
+    let level = level_of(levels, ins).saturating_add(1);
+    if at(levels, out) >= level {
+        return false;
+    }
+    set(levels, out, level);
+    true
+}
+
 // Raises the levels of what covers drive above those of what they read; whether some rose.
 fn raise(levels: &mut Vec<u32>, covers: &[Cover]) -> bool {
     let mut rose = false;
     'covers: for cover in covers {
-        let level = level_of(levels, cover.ins.as_slice()).saturating_add(1);
-        let out = cover.out as usize;
-        if at(levels, out) < level {
-            set(levels, out, level);
+        if raise_one(levels, cover.ins.as_slice(), cover.out as usize) {
             rose = true;
         }
     }

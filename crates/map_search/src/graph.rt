@@ -7,7 +7,7 @@ use crate::latches::{Stand, first_classes, own_classes, own_stands, part, stands
 use crate::narrow::literal_of_cells;
 use crate::numbers::{at, is_marked, mark, set, small};
 use crate::simulate::cycles_of;
-use crate::sums::sum_of;
+use crate::sums::{Sum, sum_of};
 use crate::way::{Join, Way};
 use crate::words::{Narrow, narrow_of};
 use base_lists::Items;
@@ -57,29 +57,28 @@ fn by_cells(making: &mut Making, narrow: &Narrow, way: Way) -> Result<u32, Alloc
     literal_of_cells(&mut making.builder, narrow.cells, &literals, way)
 }
 
+// The sum of a cover's rows, which may be joined.
+fn sum_for(making: &mut Making, cover: &Cover, joins: bool) -> Result<Sum, AllocError> {
+    let sum = sum_of(making.builder.alloc, cover, &making.labels)?;
+    if joins {
+        lessened(&mut making.builder, sum)
+    } else {
+        Ok(sum)
+    }
+}
+
 // The literal of a cover by its rows.
 fn by_rows(making: &mut Making, cover: &Cover, way: Way) -> Result<u32, AllocError> {
-    let sum = sum_of(making.builder.alloc, cover, &making.labels)?;
-    let sum = if way.joins_rows() {
-        lessened(&mut making.builder, sum)?
-    } else {
-        sum
-    };
+    let sum = sum_for(making, cover, way.joins_rows())?;
     let literal = factor_sum(&mut making.builder, sum, way.join())?;
-    if cover.off {
-        return Ok(literal ^ 1);
-    }
-    Ok(literal)
+    Ok(literal ^ cover.off as u32)
 }
 
 // The literal of a cover by its rows as they stand: a tree of each, and one of all.
 fn by_trees(making: &mut Making, cover: &Cover) -> Result<u32, AllocError> {
     let sum = sum_of(making.builder.alloc, cover, &making.labels)?;
     let literal = plain(&mut making.builder, &sum, Join::Pairs)?;
-    if cover.off {
-        return Ok(literal ^ 1);
-    }
-    Ok(literal)
+    Ok(literal ^ cover.off as u32)
 }
 
 // The literal of a cover.
@@ -139,6 +138,13 @@ fn add_latches(
     Ok(())
 }
 
+// Labels a cover.
+fn add_cover(making: &mut Making, cover: &Cover, way: Way, trees: bool) -> Result<(), AllocError> {
+    let literal = cover_literal(making, cover, way, trees)?;
+    set(&mut making.labels, cover.out as usize, literal);
+    Ok(())
+}
+
 // Labels the covers.
 fn add_covers(
     making: &mut Making,
@@ -152,8 +158,7 @@ fn add_covers(
         }
         if let Some(cover) = covers.get(*place as usize) {
             let trees = is_marked(how.trees, *place as usize);
-            let literal = cover_literal(making, cover, how.way, trees)?;
-            set(&mut making.labels, cover.out as usize, literal);
+            add_cover(making, cover, how.way, trees)?;
         }
     }
     Ok(())

@@ -1,9 +1,9 @@
 //! Cuts that the design's own narrow covers are.
 
 use crate::cuts::{Cut, cut_of_leaves};
-use crate::numbers::{at, node_of};
+use crate::numbers::at;
 use crate::reach::Nodes;
-use design_netlist::{Cover, NetlistData};
+use design_netlist::Cover;
 use std::alloc::{AllocError, Global};
 
 /// A cut of a node.
@@ -14,9 +14,9 @@ pub struct Hint {
 }
 
 // The different nodes of a cover's inputs in order, constants left out, if they are at most six.
-fn leaves_of(alloc: Global, cover: &Cover, labels: &[u32]) -> Result<Vec<u32>, AllocError> {
+fn leaves_of(alloc: Global, ins: &[u32], labels: &[u32]) -> Result<Vec<u32>, AllocError> {
     let mut leaves = Vec::new(alloc);
-    'inputs: for signal in cover.ins.as_slice() {
+    'inputs: for signal in ins {
         let label = at(labels, *signal as usize);
         if label > 1 {
             leaves.push(label >> 1)?;
@@ -27,39 +27,41 @@ fn leaves_of(alloc: Global, cover: &Cover, labels: &[u32]) -> Result<Vec<u32>, A
     Ok(leaves)
 }
 
-// The hint of a cover, if its inputs are a cut of its node.
-fn hint_of(
+// The hint of a node by the leaves of its cover, if they are a cut of it.
+fn hint_of(nodes: Nodes<'_>, node: u32, leaves: &[u32]) -> Option<Hint> {
+    if !nodes.is_and(node as usize) || leaves.last().copied().unwrap_or(0) >= node {
+        return None;
+    }
+    let cut = cut_of_leaves(leaves)?;
+    Some(Hint { node, cut })
+}
+
+// Adds the hint of a cover, if it is one.
+fn add_hint(
     alloc: Global,
     nodes: Nodes<'_>,
     cover: &Cover,
     labels: &[u32],
-) -> Result<Option<Hint>, AllocError> {
-    let node = node_of(at(labels, cover.out as usize));
-    if !nodes.is_and(node) {
-        return Ok(None);
-    }
-    let leaves = leaves_of(alloc, cover, labels)?;
-    if let Some(last) = leaves.last() {
-        if *last as usize >= node {
-            return Ok(None);
-        }
-    }
+    hints: &mut Vec<Hint>,
+) -> Result<(), AllocError> {
     let node = at(labels, cover.out as usize) >> 1;
-    Ok(cut_of_leaves(&leaves).map(|cut| Hint { node, cut }))
+    let leaves = leaves_of(alloc, cover.ins.as_slice(), labels)?;
+    if let Some(hint) = hint_of(nodes, node, &leaves) {
+        hints.push(hint)?;
+    }
+    Ok(())
 }
 
 /// The hints of a design's covers, by their nodes.
 pub fn hints_of(
     alloc: Global,
     nodes: Nodes<'_>,
-    draft: &NetlistData,
+    covers: &[Cover],
     labels: &[u32],
 ) -> Result<Vec<Hint>, AllocError> {
     let mut hints = Vec::new(alloc);
-    'covers: for cover in draft.covers.as_slice() {
-        if let Some(hint) = hint_of(alloc, nodes, cover, labels)? {
-            hints.push(hint)?;
-        }
+    'covers: for cover in covers {
+        add_hint(alloc, nodes, cover, labels, &mut hints)?;
     }
     hints.sort_by_key(|hint| hint.node)?;
     Ok(hints)

@@ -41,8 +41,19 @@ impl Joins {
         if self.place_of(&product).is_some() {
             return Ok(());
         }
-        let key = Vec::from_slice(self.alloc, &product)?;
+        self.note(&product)?;
+        self.put(product)
+    }
+
+    // Notes that the next product has these literals.
+    fn note(&mut self, product: &[u32]) -> Result<(), AllocError> {
+        let key = Vec::from_slice(self.alloc, product)?;
         let _ = self.known.insert(key, self.products.len())?;
+        Ok(())
+    }
+
+    // Puts a product behind the others.
+    fn put(&mut self, product: Vec<u32>) -> Result<(), AllocError> {
         self.products.push(product)?;
         self.gone.push(false)?;
         Ok(())
@@ -82,15 +93,25 @@ impl Joins {
     fn join(&mut self, place: usize) -> Result<(), AllocError> {
         let product = self.copy_at(place)?;
         'literals: for k in 0..product.len() {
-            let other = without(self.alloc, &product, k, true)?;
-            if let Some(found) = self.place_of(&other) {
-                let both = without(self.alloc, &product, k, false)?;
+            if let Some(found) = self.opposite(&product, k)? {
                 self.drop_at(place);
                 self.drop_at(found);
-                return self.add(both);
+                return self.add_without(&product, k);
             }
         }
         Ok(())
+    }
+
+    // Where the product stands that differs from one in the literal at a place, if it is there.
+    fn opposite(&self, product: &[u32], k: usize) -> Result<Option<usize>, AllocError> {
+        let other = without(self.alloc, product, k, true)?;
+        Ok(self.place_of(&other))
+    }
+
+    // Adds a product without its literal at a place.
+    fn add_without(&mut self, product: &[u32], k: usize) -> Result<(), AllocError> {
+        let both = without(self.alloc, product, k, false)?;
+        self.add(both)
     }
 
     // Joins products, those that come of it too.
@@ -143,6 +164,15 @@ fn signs_of(alloc: Global, sum: &Sum) -> Result<Vec<u64>, AllocError> {
     Ok(signs)
 }
 
+// Whether a product holds another one, which is shorter.
+fn is_held(alloc: Global, product: &[u32], other: &[u32]) -> Result<bool, AllocError> {
+    if other.len() >= product.len() {
+        return Ok(false);
+    }
+    let missing = literals_among(alloc, other, product, false)?;
+    Ok(missing.len() == 0)
+}
+
 // Whether a product holds a shorter one.
 fn holds_another(
     alloc: Global,
@@ -153,11 +183,7 @@ fn holds_another(
     let product = sum.product(place);
     let sign = sign_of(product);
     'products: for k in 0..signs.len() {
-        let other = sum.product(k);
-        if other.len() >= product.len() || signs[k] & !sign != 0 {
-            continue;
-        }
-        if literals_among(alloc, other, product, false)?.len() == 0 {
+        if signs[k] & !sign == 0 && is_held(alloc, product, sum.product(k))? {
             return Ok(true);
         }
     }
@@ -169,28 +195,34 @@ fn least(alloc: Global, sum: &Sum) -> Result<Sum, AllocError> {
     let signs = signs_of(alloc, sum)?;
     let mut kept = Sum::new(alloc);
     'products: for k in 0..sum.len() {
-        if !holds_another(alloc, sum, &signs, k)? {
+        let held = holds_another(alloc, sum, &signs, k)?;
+        if !held {
             kept.push(sum.product(k))?;
         }
     }
     Ok(kept)
 }
 
-/// A sum of the same function with fewer products, where there are few enough to compare them.
-pub fn lessened(builder: &mut Builder, sum: Sum) -> Result<Sum, AllocError> {
-    let alloc = builder.alloc;
-    let count = sum.len();
-    let width = sum.literals.len();
-    if count < 2 || width.saturating_mul(count) > MOST_LOOKS {
-        return Ok(sum);
-    }
+// The products of a sum, joined.
+fn joined(alloc: Global, sum: &Sum) -> Result<Sum, AllocError> {
     let mut joins = Joins {
         alloc,
         products: Vec::new(alloc),
         gone: Vec::new(alloc),
         known: HashMap::new(alloc),
     };
-    joins.add_all(&sum)?;
+    joins.add_all(sum)?;
     joins.join_all()?;
-    least(alloc, &joins.kept()?)
+    joins.kept()
+}
+
+/// A sum of the same function with fewer products, where there are few enough to compare them.
+pub fn lessened(builder: &mut Builder, sum: Sum) -> Result<Sum, AllocError> {
+    let count = sum.len();
+    let width = sum.literals.len();
+    if count < 2 || width.saturating_mul(count) > MOST_LOOKS {
+        return Ok(sum);
+    }
+    let fewer = joined(builder.alloc, &sum)?;
+    least(builder.alloc, &fewer)
 }

@@ -84,16 +84,27 @@ fn first_class(sign: u64, zeros: u64, ones: u64) -> Option<u32> {
     }
 }
 
+// The class of a latch that is this constant, or has this sign.
+fn class_of(
+    numbers: &mut HashMap<u64, u32>,
+    next: &mut u32,
+    constant: Option<u32>,
+    sign: u64,
+) -> Result<u32, AllocError> {
+    match constant {
+        Some(class) => Ok(class),
+        None => number_of(numbers, next, sign),
+    }
+}
+
 // The classes of latches by the signs of their bits.
 fn classes_by(alloc: Global, signs: &[u64], zeros: u64, ones: u64) -> Result<Vec<u32>, AllocError> {
     let mut numbers = HashMap::new(alloc);
     let mut next = CONSTANTS;
     let mut classes = Vec::with_capacity(alloc, signs.len())?;
     'latches: for sign in signs {
-        let class = match first_class(*sign, zeros, ones) {
-            Some(class) => class,
-            None => number_of(&mut numbers, &mut next, *sign)?,
-        };
+        let constant = first_class(*sign, zeros, ones);
+        let class = class_of(&mut numbers, &mut next, constant, *sign)?;
         classes.push(class)?;
     }
     Ok(classes)
@@ -105,13 +116,18 @@ fn mixed(sign: u64, word: u64) -> u64 {
     sum.wrapping_mul(0x9e37_79b9_7f4a_7c15)
 }
 
+// Mixes a word into the sign at a place.
+fn mix_at(signs: &mut Vec<u64>, place: usize, word: u64) {
+    if place < signs.len() {
+        signs[place] = mixed(signs[place], word);
+    }
+}
+
 // Mixes the words of latches into their signs.
 fn mix_words(signs: &mut Vec<u64>, cycles: &Cycles, latches: &[LatchDef], labels: &[u32]) {
     'latches: for k in 0..latches.len() {
-        if k < signs.len() {
-            let label = at(labels, latches[k].out as usize);
-            signs[k] = mixed(signs[k], cycles.word(label));
-        }
+        let label = at(labels, latches[k].out as usize);
+        mix_at(signs, k, cycles.word(label));
     }
 }
 

@@ -65,6 +65,15 @@ impl Layout {
         Ok(())
     }
 
+    /// The wire of a number, one without a name where there is none.
+    pub fn wire(&self, wire: u32) -> Wire {
+        let none = Wire {
+            label: 0,
+            kept: None,
+        };
+        self.wires.get(wire as usize).copied().unwrap_or(none)
+    }
+
     /// The label of a wire.
     pub fn label(&self, wire: u32) -> u32 {
         match self.wires.get(wire as usize) {

@@ -65,6 +65,17 @@ impl FreeNames {
         Ok(())
     }
 
+    // Takes the name of a signal.
+    pub(crate) fn take_signal(
+        &mut self,
+        alloc: Global,
+        names: &Names,
+        signal: u32,
+    ) -> Result<(), AllocError> {
+        let name = name_of(alloc, names, signal)?;
+        self.take(name.as_slice())
+    }
+
     /// Puts the names that were taken in order.
     pub fn close(&mut self) {
         self.taken.sort_unstable();

@@ -3,6 +3,7 @@
 use crate::areas::{Areas, areas_of};
 use crate::cuts::{Cut, NO_CUT, cut_of, union};
 use crate::hints::Hint;
+use crate::numbers::is_marked;
 use crate::reach::{Nodes, Reach};
 use base_random::Draws;
 use design_equal::And;
@@ -132,18 +133,22 @@ fn holds_another(chosen: &[Cut], cut: &Cut) -> bool {
     false
 }
 
+// Chooses a cut, unless it holds one that was chosen and such are sought out.
+fn choose_cut(chosen: &mut Vec<Cut>, cut: &Cut, few: bool) -> Result<(), AllocError> {
+    if !(few && holds_another(chosen, cut)) {
+        chosen.push(*cut)?;
+    }
+    Ok(())
+}
+
 // Chooses the cuts of so many leaves that hold no other one.
 fn choose_least(passes: &mut Passes, count: usize) -> Result<(), AllocError> {
     let few = passes.found.len() < MOST_COMPARED;
     'cuts: for k in 0..passes.found.len() {
-        if passes.found[k].count != count {
-            continue;
-        }
         let cut = passes.found[k];
-        if few && holds_another(&passes.chosen, &cut) {
-            continue;
+        if cut.count == count {
+            choose_cut(&mut passes.chosen, &cut, few)?;
         }
-        passes.chosen.push(cut)?;
     }
     Ok(())
 }
@@ -167,8 +172,32 @@ fn cost_of(
 ) -> Result<f32, AllocError> {
     match aim {
         Aim::Depth => Ok(areas.flow(cut) + areas.height(cut)),
-        Aim::Flow => Ok(with_noise(areas.flow(cut), noise, false) + areas.late(node, cut)),
-        Aim::Exact => Ok(with_noise(areas.exact(cut)?, noise, true) + areas.late(node, cut)),
+        Aim::Flow => Ok(late_cost(areas, node, cut, areas.flow(cut), noise, false)),
+        Aim::Exact => {
+            let exact = areas.exact(cut)?;
+            Ok(late_cost(areas, node, cut, exact, noise, true))
+        }
+    }
+}
+
+// A cost with chance in it, and how late the cut comes.
+fn late_cost(areas: &Areas<'_>, node: usize, cut: &Cut, cost: f32, noise: u64, exact: bool) -> f32 {
+    with_noise(cost, noise, exact) + areas.late(node, cut)
+}
+
+// Some chance for a cost, or none.
+fn noise_of(passes: &mut Passes) -> u64 {
+    if passes.noisy {
+        passes.draws.step() >> 56
+    } else {
+        0
+    }
+}
+
+// Notes what the cut at a place costs.
+fn put_cost(cuts: &mut Vec<Cut>, place: usize, cost: f32) {
+    if place < cuts.len() {
+        cuts[place].cost = cost;
     }
 }
 
@@ -181,15 +210,9 @@ fn price(
 ) -> Result<(), AllocError> {
     'cuts: for k in 0..passes.chosen.len() {
         let cut = passes.chosen[k];
-        let noise = if passes.noisy {
-            passes.draws.step() >> 56
-        } else {
-            0
-        };
+        let noise = noise_of(passes);
         let cost = cost_of(areas, node, &cut, aim, noise)?;
-        if k < passes.chosen.len() {
-            passes.chosen[k].cost = cost;
-        }
+        put_cost(&mut passes.chosen, k, cost);
     }
     Ok(())
 }
@@ -216,15 +239,21 @@ fn least_from(cuts: &[Cut], from: usize) -> usize {
     best
 }
 
+// Keeps the cheapest of the chosen cuts from a place on, at that place.
+fn keep_next(passes: &mut Passes, k: usize) -> Result<(), AllocError> {
+    let place = least_from(&passes.chosen, k);
+    if place < passes.chosen.len() && k < passes.chosen.len() {
+        passes.chosen.swap(k, place);
+        passes.cuts.push(passes.chosen[k])?;
+    }
+    Ok(())
+}
+
 // Keeps the cheapest of the chosen cuts, the cheapest first, and gives that.
 fn keep(passes: &mut Passes) -> Result<Cut, AllocError> {
     let most = passes.most.min(passes.chosen.len());
     'cuts: for k in 0..most {
-        let place = least_from(&passes.chosen, k);
-        if place < passes.chosen.len() && k < passes.chosen.len() {
-            passes.chosen.swap(k, place);
-            passes.cuts.push(passes.chosen[k])?;
-        }
+        keep_next(passes, k)?;
     }
     keep_sources(passes, most)?;
     Ok(passes.chosen.first().copied().unwrap_or(NO_CUT))
@@ -253,17 +282,50 @@ fn keep_sources(passes: &mut Passes, most: usize) -> Result<(), AllocError> {
     Ok(())
 }
 
+// The cut of a node alone, without leaves for the constant.
+fn own_cut(node: usize) -> Cut {
+    if node > 0 {
+        cut_of((node & 0x7fff_ffff) as u32)
+    } else {
+        NO_CUT
+    }
+}
+
 // Notes the cuts of a node, those from a place on and itself.
 fn close(passes: &mut Passes, node: usize, from: usize) -> Result<(), AllocError> {
-    if node > 0 {
-        passes.cuts.push(cut_of((node & 0x7fff_ffff) as u32))?;
-    } else {
-        passes.cuts.push(NO_CUT)?;
-    }
+    passes.cuts.push(own_cut(node))?;
+    let to = passes.cuts.len();
     if node < passes.kept.len() {
-        let to = passes.cuts.len();
         passes.kept[node] = Kept { from, to };
     }
+    Ok(())
+}
+
+// Finds cuts of an AND.
+fn find(
+    passes: &mut Passes,
+    areas: &Areas<'_>,
+    hints: &[Hint],
+    node: usize,
+    and: And,
+) -> Result<(), AllocError> {
+    passes.found.clear();
+    join_cuts(passes, and)?;
+    add_hints(passes, hints, areas.live, node)?;
+    areas.add_old(node, &mut passes.found)?;
+    choose(passes)
+}
+
+// Gives a node the cheapest of its cuts.
+fn take_best(
+    passes: &mut Passes,
+    areas: &mut Areas<'_>,
+    node: usize,
+    aim: Aim,
+) -> Result<(), AllocError> {
+    price(passes, areas, node, aim)?;
+    let best = keep(passes)?;
+    areas.take(node, &best);
     Ok(())
 }
 
@@ -280,18 +342,28 @@ fn visit(
     if exact {
         areas.leave(node)?;
     }
-    passes.found.clear();
-    join_cuts(passes, and)?;
-    add_hints(passes, hints, areas.live, node)?;
-    areas.add_old(node, &mut passes.found)?;
-    choose(passes)?;
-    price(passes, areas, node, aim)?;
-    let best = keep(passes)?;
-    areas.take(node, &best);
+    find(passes, areas, hints, node, and)?;
+    take_best(passes, areas, node, aim)?;
     if exact {
         areas.enter(node)?;
     }
     Ok(())
+}
+
+// A node in a pass.
+fn pass_node(
+    passes: &mut Passes,
+    areas: &mut Areas<'_>,
+    hints: &[Hint],
+    nodes: Nodes<'_>,
+    node: usize,
+    aim: Aim,
+) -> Result<(), AllocError> {
+    let from = passes.cuts.len();
+    if let Some(and) = nodes.and(node) {
+        visit(passes, areas, hints, node, and, aim)?;
+    }
+    close(passes, node, from)
 }
 
 // One pass.
@@ -305,14 +377,9 @@ fn pass(
     passes.cuts.clear();
     passes.hint = 0;
     'nodes: for node in 0..nodes.count() {
-        if node >= areas.live.len() || !areas.live[node] {
-            continue;
+        if is_marked(areas.live, node) {
+            pass_node(passes, areas, hints, nodes, node, aim)?;
         }
-        let from = passes.cuts.len();
-        if let Some(and) = nodes.and(node) {
-            visit(passes, areas, hints, node, and, aim)?;
-        }
-        close(passes, node, from)?;
     }
     Ok(())
 }
@@ -349,6 +416,28 @@ fn find_allowed(
     Ok(allowed_for(areas.depth()))
 }
 
+// A pass, and what its choice is worth.
+fn tried(
+    passes: &mut Passes,
+    areas: &mut Areas<'_>,
+    hints: &[Hint],
+    nodes: Nodes<'_>,
+    aim: Aim,
+    allowed: u32,
+) -> Result<u64, AllocError> {
+    pass(passes, areas, hints, nodes, aim)?;
+    let count = areas.cover()?;
+    Ok(worth_of(count, areas.depth(), allowed))
+}
+
+// What the next pass goes by.
+fn go_on(areas: &mut Areas<'_>, aim: Aim, allowed: u32) {
+    if aim == Aim::Exact {
+        areas.allow(allowed);
+    }
+    areas.expect();
+}
+
 // All passes; the best choice of them.
 fn run(
     alloc: Global,
@@ -361,17 +450,12 @@ fn run(
     let mut least = u64::MAX;
     let mut chosen = areas.choice_of(alloc)?;
     'passes: for aim in PASSES {
-        pass(passes, areas, hints, nodes, aim)?;
-        let count = areas.cover()?;
-        let worth = worth_of(count, areas.depth(), allowed);
+        let worth = tried(passes, areas, hints, nodes, aim, allowed)?;
         if worth < least {
             least = worth;
             chosen = areas.choice_of(alloc)?;
         }
-        if aim == Aim::Exact {
-            areas.allow(allowed);
-        }
-        areas.expect();
+        go_on(areas, aim, allowed);
     }
     Ok(chosen)
 }
@@ -384,19 +468,14 @@ pub struct Choice {
     pub chance: u64,
 }
 
-/// Chooses a cut for each node that needs a table.
-pub fn choose_cuts(
-    alloc: Global,
-    nodes: Nodes<'_>,
-    reach: &Reach,
-    hints: &[Hint],
-    choice: Choice,
-) -> Result<Chosen, AllocError> {
+// Nothing is chosen.
+fn passes_of(alloc: Global, nodes: Nodes<'_>, choice: Choice) -> Result<Passes, AllocError> {
+    let kept = vec![in alloc; Kept { from: 0, to: 0 }; nodes.count()]?;
     let mut draws = Draws::new(choice.chance);
     draws.step();
-    let mut passes = Passes {
+    Ok(Passes {
         cuts: Vec::new(alloc),
-        kept: vec![in alloc; Kept { from: 0, to: 0 }; nodes.count()]?,
+        kept,
         found: Vec::new(alloc),
         chosen: Vec::new(alloc),
         hint: 0,
@@ -405,7 +484,18 @@ pub fn choose_cuts(
         ands: choice.ands,
         draws,
         noisy: choice.chance > 0,
-    };
+    })
+}
+
+/// Chooses a cut for each node that needs a table.
+pub fn choose_cuts(
+    alloc: Global,
+    nodes: Nodes<'_>,
+    reach: &Reach,
+    hints: &[Hint],
+    choice: Choice,
+) -> Result<Chosen, AllocError> {
+    let mut passes = passes_of(alloc, nodes, choice)?;
     let allowed = find_allowed(alloc, &mut passes, reach, hints, nodes)?;
     let mut areas = areas_of(alloc, nodes, reach)?;
     run(alloc, &mut passes, &mut areas, hints, nodes, allowed)

@@ -79,18 +79,23 @@ pub fn cost_of(products: &[Product]) -> usize {
     cost
 }
 
+// Whether products have fewer literals than others, and are some.
+fn is_cheaper(products: &[Product], others: &[Product]) -> bool {
+    cost_of(products) < cost_of(others) && products.len() > 0
+}
+
+// These products as those of ones or of zeros.
+fn cheaper_as(products: Vec<Product>, off: bool) -> Cheaper {
+    Cheaper { products, off }
+}
+
 /// The sum of products of a function or of its opposite, whichever has fewer literals.
 pub fn cheaper_of(alloc: Global, cells: u64) -> Result<Cheaper, AllocError> {
     let ones = products_of(alloc, cells)?;
     let zeros = products_of(alloc, !cells)?;
-    if cost_of(&zeros) < cost_of(&ones) && zeros.len() > 0 {
-        return Ok(Cheaper {
-            products: zeros,
-            off: true,
-        });
+    if is_cheaper(&zeros, &ones) {
+        Ok(cheaper_as(zeros, true))
+    } else {
+        Ok(cheaper_as(ones, false))
     }
-    Ok(Cheaper {
-        products: ones,
-        off: false,
-    })
 }

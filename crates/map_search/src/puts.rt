@@ -1,7 +1,7 @@
 //! Tables that are put into all their readers.
 
 use crate::cuts::{Cut, union};
-use crate::layout::{Layout, NOWHERE, Table, without_leaf};
+use crate::layout::{Layout, NOWHERE, Register, Table, without_leaf};
 use crate::numbers::{at, is_marked, mark, set, small};
 use std::alloc::{AllocError, Global};
 
@@ -43,14 +43,25 @@ fn no_lists(alloc: Global, count: usize) -> Result<Vec<Vec<u32>>, AllocError> {
     Ok(lists)
 }
 
+// Marks the tables of wires that outputs show.
+fn fix_shown(fixed: &mut Vec<bool>, outputs: &[u32], table_of: &[u32]) {
+    'wires: for wire in outputs {
+        let _ = mark(fixed, table_at(table_of, *wire));
+    }
+}
+
+// Marks the tables of wires that latches read.
+fn fix_read(fixed: &mut Vec<bool>, registers: &[Register], table_of: &[u32]) {
+    'latches: for register in registers {
+        let _ = mark(fixed, table_at(table_of, register.from));
+    }
+}
+
 // Marks the tables of wires that outputs show and latches read.
 fn fixed_of(alloc: Global, layout: &Layout, table_of: &[u32]) -> Result<Vec<bool>, AllocError> {
     let mut fixed = vec![in alloc; false; layout.tables.len()]?;
-    let shown = layout.outputs.iter();
-    let read = layout.registers.iter().map(|register| &register.from);
-    'wires: for wire in shown.chain(read) {
-        let _ = mark(&mut fixed, table_at(table_of, *wire));
-    }
+    fix_shown(&mut fixed, &layout.outputs, table_of);
+    fix_read(&mut fixed, &layout.registers, table_of);
     Ok(fixed)
 }
 
@@ -66,20 +77,20 @@ fn table_at(table_of: &[u32], wire: u32) -> usize {
 
 // Nothing is put anywhere.
 fn puts_of(alloc: Global, layout: &mut Layout) -> Result<Puts, AllocError> {
+    let count = layout.tables.len();
     let table_of = tables_by_wire(alloc, &layout.tables, layout.wires.len())?;
     let fixed = fixed_of(alloc, layout, &table_of)?;
-    let count = layout.tables.len();
-    let mut puts = Puts {
+    let gone = vec![in alloc; false; count]?;
+    let readers = no_lists(alloc, count)?;
+    Ok(Puts {
         alloc,
         tables: std::mem::replace(&mut layout.tables, Vec::new(alloc)),
         table_of,
-        readers: no_lists(alloc, count)?,
+        readers,
         fixed,
-        gone: vec![in alloc; false; count]?,
+        gone,
         waiting: Vec::new(alloc),
-    };
-    puts.list_readers()?;
-    Ok(puts)
+    })
 }
 
 impl Puts {
@@ -114,30 +125,42 @@ impl Puts {
         self.tables[place].ins.leaves.contains(&wire)
     }
 
-    // The tables that read a table's wire, each once, if they are at most so many.
-    fn readers_of(
-        &mut self,
-        table: usize,
-        wire: u32,
-        most: usize,
-    ) -> Result<Option<Vec<u32>>, AllocError> {
+    // The tables that were noted as readers of a table, each once.
+    fn listed(&mut self, table: usize) -> Vec<u32> {
         if table >= self.readers.len() {
-            return Ok(None);
+            return Vec::new(self.alloc);
         }
         let mut listed = std::mem::replace(&mut self.readers[table], Vec::new(self.alloc));
         listed.sort_unstable();
         listed.dedup();
+        listed
+    }
+
+    // Those of these tables that read a wire.
+    fn still_reading(&self, listed: &[u32], wire: u32) -> Result<Vec<u32>, AllocError> {
         let mut readers = Vec::new(self.alloc);
-        'readers: for reader in &listed {
+        'readers: for reader in listed {
             if self.reads(*reader, wire) {
                 readers.push(*reader)?;
             }
         }
-        let few = readers.len() <= most;
+        Ok(readers)
+    }
+
+    // Notes the readers of a table.
+    fn list(&mut self, table: usize, readers: &[u32]) -> Result<(), AllocError> {
         if table < self.readers.len() {
-            self.readers[table] = Vec::from_slice(self.alloc, &readers)?;
+            self.readers[table] = Vec::from_slice(self.alloc, readers)?;
         }
-        if few { Ok(Some(readers)) } else { Ok(None) }
+        Ok(())
+    }
+
+    // The tables that read a table's wire, each once.
+    fn readers_of(&mut self, table: usize, wire: u32) -> Result<Vec<u32>, AllocError> {
+        let listed = self.listed(table);
+        let readers = self.still_reading(&listed, wire)?;
+        self.list(table, &readers)?;
+        Ok(readers)
     }
 
     // What a reader reads with a table put into it.
@@ -159,15 +182,21 @@ impl Puts {
         Ok(Some(cuts))
     }
 
+    // Puts a table into a reader, which reads these wires then.
+    fn put_into(&mut self, table: &Table, reader: u32, cut: &Cut) -> Result<(), AllocError> {
+        let place = reader as usize;
+        if place < self.tables.len() {
+            self.tables[place].ins = *cut;
+        }
+        self.read(reader, &table.ins)?;
+        self.waiting.push(reader)?;
+        Ok(())
+    }
+
     // Puts a table into readers.
     fn put(&mut self, table: &Table, readers: &[u32], cuts: &[Cut]) -> Result<(), AllocError> {
         'readers: for (reader, cut) in readers.iter().zip(cuts) {
-            let place = *reader as usize;
-            if place < self.tables.len() {
-                self.tables[place].ins = *cut;
-            }
-            self.read(*reader, &table.ins)?;
-            self.waiting.push(*reader)?;
+            self.put_into(table, *reader, cut)?;
         }
         Ok(())
     }
@@ -183,24 +212,44 @@ impl Puts {
         Ok(())
     }
 
-    // Puts a table into all its readers, if they are few and have room.
-    fn look(&mut self, place: usize, most: usize) -> Result<(), AllocError> {
-        if place >= self.tables.len()
-            || is_marked(&self.gone, place)
-            || is_marked(&self.fixed, place)
-        {
-            return Ok(());
+    // The table at a place, if it is there and nothing else shows its wire.
+    fn movable(&self, place: usize) -> Option<Table> {
+        if is_marked(&self.gone, place) || is_marked(&self.fixed, place) {
+            return None;
         }
-        let table = self.tables[place];
-        let Some(readers) = self.readers_of(place, table.out, most)? else {
+        self.tables.get(place).copied()
+    }
+
+    // Puts a table into these readers, if they have room.
+    fn try_readers(
+        &mut self,
+        place: usize,
+        table: &Table,
+        readers: &[u32],
+    ) -> Result<(), AllocError> {
+        let Some(cuts) = self.all_joined(table, readers)? else {
             return Ok(());
         };
-        let Some(cuts) = self.all_joined(&table, &readers)? else {
-            return Ok(());
-        };
-        self.put(&table, &readers, &cuts)?;
+        self.put(table, readers, &cuts)?;
         let _ = mark(&mut self.gone, place);
-        self.wake_sources(&table)
+        self.wake_sources(table)
+    }
+
+    // Puts a table into all its readers, if they are few and have room.
+    fn try_table(&mut self, place: usize, table: &Table, most: usize) -> Result<(), AllocError> {
+        let readers = self.readers_of(place, table.out)?;
+        if readers.len() <= most {
+            self.try_readers(place, table, &readers)?;
+        }
+        Ok(())
+    }
+
+    // Looks at the table of a place.
+    fn look(&mut self, place: usize, most: usize) -> Result<(), AllocError> {
+        match self.movable(place) {
+            Some(table) => self.try_table(place, &table, most),
+            None => Ok(()),
+        }
     }
 
     // All tables wait, the last first.
@@ -226,6 +275,15 @@ impl Puts {
         Ok(())
     }
 
+    // Looks at all tables, with few readers first.
+    fn rounds(&mut self) -> Result<(), AllocError> {
+        self.list_readers()?;
+        'rounds: for most in &MOST_READERS {
+            self.round(*most)?;
+        }
+        Ok(())
+    }
+
     // The tables that are there.
     fn kept_tables(&self) -> Result<Vec<Table>, AllocError> {
         let mut kept = Vec::new(self.alloc);
@@ -241,9 +299,7 @@ impl Puts {
 /// Puts tables into all their readers, where these are other tables and have room.
 pub fn put_tables(alloc: Global, layout: &mut Layout) -> Result<(), AllocError> {
     let mut puts = puts_of(alloc, layout)?;
-    'rounds: for most in &MOST_READERS {
-        puts.round(*most)?;
-    }
+    puts.rounds()?;
     layout.tables = puts.kept_tables()?;
     Ok(())
 }

@@ -2,7 +2,7 @@
 
 use crate::numbers::{is_marked, mark, node_of, small};
 use design_equal::{And, Graph};
-use design_netlist::NetlistData;
+use design_netlist::{NetlistData, PortDef};
 use std::alloc::{AllocError, Global};
 
 /// The nodes of a graph: the first of its ANDs, and the ANDs.
@@ -60,6 +60,13 @@ fn read_by(graph: &Graph, node: usize) -> Option<u32> {
     Some(small(node_of(graph.latches.as_slice().get(place)?.next)))
 }
 
+// Two nodes wait.
+fn push_both(waiting: &mut Vec<u32>, left: u32, right: u32) -> Result<(), AllocError> {
+    waiting.push(left)?;
+    waiting.push(right)?;
+    Ok(())
+}
+
 // Notes what a node that is needed needs itself.
 fn follow(
     graph: &Graph,
@@ -68,8 +75,7 @@ fn follow(
     roots: &mut Vec<u32>,
 ) -> Result<(), AllocError> {
     if let Some(and) = Nodes::of(graph).and(node) {
-        waiting.push(and.left >> 1)?;
-        waiting.push(and.right >> 1)?;
+        push_both(waiting, and.left >> 1, and.right >> 1)?;
     } else if let Some(next) = read_by(graph, node) {
         roots.push(next)?;
         waiting.push(next)?;
@@ -77,10 +83,23 @@ fn follow(
     Ok(())
 }
 
+// Notes what all nodes need that wait, and those that come to wait.
+fn follow_all(graph: &Graph, reach: &mut Reach, waiting: &mut Vec<u32>) -> Result<(), AllocError> {
+    'nodes: for _ in 0..u64::MAX {
+        let Some(node) = waiting.pop() else {
+            break;
+        };
+        if mark(&mut reach.live, node as usize) {
+            follow(graph, node as usize, waiting, &mut reach.roots)?;
+        }
+    }
+    Ok(())
+}
+
 // The nodes of the outputs.
-fn shown_nodes(alloc: Global, draft: &NetlistData, labels: &[u32]) -> Result<Vec<u32>, AllocError> {
+fn shown_nodes(alloc: Global, outputs: &[PortDef], labels: &[u32]) -> Result<Vec<u32>, AllocError> {
     let mut shown = Vec::new(alloc);
-    'outputs: for port in draft.outputs.as_slice() {
+    'outputs: for port in outputs {
         let label = labels.get(port.signal as usize).copied().unwrap_or(0);
         shown.push(label >> 1)?;
     }
@@ -94,18 +113,13 @@ pub fn reach_of(
     graph: &Graph,
     labels: &[u32],
 ) -> Result<Reach, AllocError> {
-    let mut live = vec![in alloc; false; Nodes::of(graph).count()]?;
-    let mut roots = shown_nodes(alloc, draft, labels)?;
-    let mut waiting = Vec::from_slice(alloc, &roots)?;
-    'nodes: for _ in 0..u64::MAX {
-        let Some(node) = waiting.pop() else {
-            break;
-        };
-        if mark(&mut live, node as usize) {
-            follow(graph, node as usize, &mut waiting, &mut roots)?;
-        }
-    }
-    Ok(Reach { live, roots })
+    let mut reach = Reach {
+        live: vec![in alloc; false; Nodes::of(graph).count()]?,
+        roots: shown_nodes(alloc, draft.outputs.as_slice(), labels)?,
+    };
+    let mut waiting = Vec::from_slice(alloc, &reach.roots)?;
+    follow_all(graph, &mut reach, &mut waiting)?;
+    Ok(reach)
 }
 
 /// Whether outputs need the latch of this number of the graph.

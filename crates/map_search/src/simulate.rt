@@ -41,12 +41,16 @@ impl<'a> Cycles<'a> {
         if literal & 1 == 1 { !word } else { word }
     }
 
-    // Puts the word of a literal that isn't negated.
-    fn put(&mut self, literal: u32, word: u64) {
-        let node = node_of(literal);
+    // Puts the word of a node.
+    fn put_at(&mut self, node: usize, word: u64) {
         if node < self.words.len() {
             self.words[node] = word;
         }
+    }
+
+    // Puts the word of a literal that isn't negated.
+    fn put(&mut self, literal: u32, word: u64) {
+        self.put_at(node_of(literal), word);
     }
 
     /// The latches have the bits with which they begin.
@@ -70,10 +74,16 @@ impl<'a> Cycles<'a> {
         let nodes = self.nodes;
         'nodes: for k in 0..nodes.len() {
             let node = nodes[k];
-            if node.level > 0 && k < self.words.len() {
-                self.words[k] = self.word(node.left) & self.word(node.right);
+            if node.level > 0 {
+                let word = self.both(node.left, node.right);
+                self.put_at(k, word);
             }
         }
+    }
+
+    // The word of an AND of two literals.
+    fn both(&self, left: u32, right: u32) -> u64 {
+        self.word(left) & self.word(right)
     }
 
     /// The latches have the bits that they read.

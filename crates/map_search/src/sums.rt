@@ -1,5 +1,6 @@
 //! Sums of products of any width.
 
+use crate::numbers::at;
 use design_netlist::{Cover, Lit};
 use std::alloc::{AllocError, Global};
 
@@ -47,6 +48,21 @@ impl Sum {
     pub fn push(&mut self, literals: &[u32]) -> Result<(), AllocError> {
         self.literals.extend_from_slice(literals)?;
         self.ends.push(self.literals.len())?;
+        Ok(())
+    }
+
+    // Adds the product of a row, where signals have these labels, unless it is 0.
+    fn add_row(
+        &mut self,
+        alloc: Global,
+        row: &[Lit],
+        ins: &[u32],
+        labels: &[u32],
+    ) -> Result<(), AllocError> {
+        let literals = literals_of(alloc, row, ins, labels)?;
+        if !is_contradictory(&literals) {
+            self.push(&literals)?;
+        }
         Ok(())
     }
 
@@ -108,6 +124,15 @@ pub fn divide_sum(alloc: Global, sum: &Sum, literals: &[u32]) -> Result<Sum, All
     Ok(quotient)
 }
 
+// What a row wants of an input, as a literal, if it wants anything.
+fn literal_of(lit: &Lit, label: u32) -> Option<u32> {
+    match lit {
+        Lit::Zero => Some(label ^ 1),
+        Lit::One => Some(label),
+        Lit::Any => None,
+    }
+}
+
 // The literals of a row, where signals have these labels.
 fn literals_of(
     alloc: Global,
@@ -117,11 +142,8 @@ fn literals_of(
 ) -> Result<Vec<u32>, AllocError> {
     let mut literals = Vec::new(alloc);
     'places: for (lit, signal) in row.iter().zip(ins) {
-        let label = labels.get(*signal as usize).copied().unwrap_or(0);
-        match lit {
-            Lit::Zero => literals.push(label ^ 1)?,
-            Lit::One => literals.push(label)?,
-            Lit::Any => {}
+        if let Some(literal) = literal_of(lit, at(labels, *signal as usize)) {
+            literals.push(literal)?;
         }
     }
     literals.sort_unstable();
@@ -145,10 +167,7 @@ fn is_contradictory(literals: &[u32]) -> bool {
 pub fn sum_of(alloc: Global, cover: &Cover, labels: &[u32]) -> Result<Sum, AllocError> {
     let mut sum = Sum::new(alloc);
     'rows: for row in cover.rows.as_slice() {
-        let literals = literals_of(alloc, row.as_slice(), cover.ins.as_slice(), labels)?;
-        if !is_contradictory(&literals) {
-            sum.push(&literals)?;
-        }
+        sum.add_row(alloc, row.as_slice(), cover.ins.as_slice(), labels)?;
     }
     Ok(sum)
 }

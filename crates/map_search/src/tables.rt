@@ -35,11 +35,14 @@ fn wire(wires: &[u32], place: usize) -> u32 {
 // Nothing is made.
 fn assembly_of(alloc: Global, signals: usize, nodes: usize) -> Result<Assembly, AllocError> {
     let literals = nodes.saturating_mul(2);
+    let wire_at = vec![in alloc; NOWHERE; literals]?;
+    let wanted = vec![in alloc; NOWHERE; literals]?;
+    let wire_of = vec![in alloc; NOWHERE; signals]?;
     Ok(Assembly {
         layout: Layout::new(alloc),
-        wire_at: vec![in alloc; NOWHERE; literals]?,
-        wanted: vec![in alloc; NOWHERE; literals]?,
-        wire_of: vec![in alloc; NOWHERE; signals]?,
+        wire_at,
+        wanted,
+        wire_of,
         copies: Vec::new(alloc),
     })
 }
@@ -58,9 +61,7 @@ fn add_inputs(
     labels: &[u32],
 ) -> Result<(), AllocError> {
     'inputs: for port in inputs {
-        let label = at(labels, port.signal as usize);
-        let wire = keep_signal(assembly, port.signal, label)?;
-        set(&mut assembly.wire_at, label as usize, wire);
+        let wire = keep_at(assembly, port.signal, at(labels, port.signal as usize))?;
         assembly.layout.inputs.push(wire)?;
     }
     Ok(())
@@ -77,6 +78,27 @@ fn is_new_latch(assembly: &Assembly, graph: &Graph, reach: &Reach, label: u32) -
     needs_latch(graph, reach, place) && wire(&assembly.wire_at, label as usize) == NOWHERE
 }
 
+// A wire of a signal of the old design, for a literal.
+fn keep_at(assembly: &mut Assembly, signal: u32, label: u32) -> Result<u32, AllocError> {
+    let wire = keep_signal(assembly, signal, label)?;
+    set(&mut assembly.wire_at, label as usize, wire);
+    Ok(wire)
+}
+
+// A latch of a literal that reads a literal.
+fn add_latch(
+    assembly: &mut Assembly,
+    latch: LatchDef,
+    label: u32,
+    from: u32,
+) -> Result<(), AllocError> {
+    let out = keep_at(assembly, latch.out, label)?;
+    let init = latch.init;
+    let registers = &mut assembly.layout.registers;
+    registers.push(Register { from, out, init })?;
+    Ok(())
+}
+
 // The latches: the first of those that are alike.
 fn add_latches(
     assembly: &mut Assembly,
@@ -88,15 +110,18 @@ fn add_latches(
     'latches: for latch in latches {
         let label = at(labels, latch.out as usize);
         if is_new_latch(assembly, graph, reach, label) {
-            let out = keep_signal(assembly, latch.out, label)?;
-            set(&mut assembly.wire_at, label as usize, out);
-            let from = at(labels, latch.from as usize);
-            let init = latch.init;
-            assembly
-                .layout
-                .registers
-                .push(Register { from, out, init })?;
+            add_latch(assembly, *latch, label, at(labels, latch.from as usize))?;
         }
+    }
+    Ok(())
+}
+
+// A new wire of an output is that of its literal's table if it has none, and else a copy.
+fn show_output(assembly: &mut Assembly, and: bool, label: u32, new: u32) -> Result<(), AllocError> {
+    if and && wire(&assembly.wanted, label as usize) == NOWHERE {
+        set(&mut assembly.wanted, label as usize, new);
+    } else {
+        assembly.copies.push(new)?;
     }
     Ok(())
 }
@@ -113,12 +138,7 @@ fn output_wire(
         return Ok(known);
     }
     let new = keep_signal(assembly, signal, label)?;
-    let free = wire(&assembly.wanted, label as usize) == NOWHERE;
-    if nodes.is_and(node_of(label)) && free {
-        set(&mut assembly.wanted, label as usize, new);
-    } else {
-        assembly.copies.push(new)?;
-    }
+    show_output(assembly, nodes.is_and(node_of(label)), label, new)?;
     Ok(new)
 }
 
@@ -137,17 +157,29 @@ fn add_outputs(
     Ok(())
 }
 
+// The literal that the latch at a place reads.
+fn next_label(registers: &[Register], place: usize) -> u32 {
+    match registers.get(place) {
+        Some(register) => register.from,
+        None => 0,
+    }
+}
+
+// A literal wants a wire, unless it has one.
+fn want(assembly: &mut Assembly, label: u32) -> Result<(), AllocError> {
+    if wire(&assembly.wanted, label as usize) == NOWHERE {
+        let new = assembly.layout.add_wire(label, None)?;
+        set(&mut assembly.wanted, label as usize, new);
+    }
+    Ok(())
+}
+
 // What latches read wants tables.
 fn want_nexts(assembly: &mut Assembly, nodes: Nodes<'_>) -> Result<(), AllocError> {
     'latches: for k in 0..assembly.layout.registers.len() {
-        let label = match assembly.layout.registers.get(k) {
-            Some(register) => register.from,
-            None => 0,
-        };
-        let free = wire(&assembly.wanted, label as usize) == NOWHERE;
-        if nodes.is_and(node_of(label)) && free {
-            let new = assembly.layout.add_wire(label, None)?;
-            set(&mut assembly.wanted, label as usize, new);
+        let label = next_label(&assembly.layout.registers, k);
+        if nodes.is_and(node_of(label)) {
+            want(assembly, label)?;
         }
     }
     Ok(())
@@ -185,15 +217,19 @@ fn wires_of_cut(assembly: &Assembly, cut: &Cut) -> Cut {
     wires
 }
 
+// The wire that a literal wants, or a new one.
+fn own_wire(assembly: &mut Assembly, literal: u32) -> Result<u32, AllocError> {
+    let wanted = wire(&assembly.wanted, literal as usize);
+    if wanted != NOWHERE {
+        return Ok(wanted);
+    }
+    assembly.layout.add_wire(literal, None)
+}
+
 // The table of a node.
 fn add_node(assembly: &mut Assembly, node: usize, cut: &Cut) -> Result<(), AllocError> {
     let literal = shown_literal(assembly, node);
-    let wanted = wire(&assembly.wanted, literal as usize);
-    let out = if wanted != NOWHERE {
-        wanted
-    } else {
-        assembly.layout.add_wire(literal, None)?
-    };
+    let out = own_wire(assembly, literal)?;
     set(&mut assembly.wire_at, literal as usize, out);
     let ins = wires_of_cut(assembly, cut);
     assembly.layout.add_table(out, ins)
@@ -209,22 +245,25 @@ fn add_nodes(assembly: &mut Assembly, nodes: Nodes<'_>, chosen: &Chosen) -> Resu
     Ok(())
 }
 
+// The wire that shows a literal or its opposite; where none shows the literal itself, this wire is to.
+fn shown_by(assembly: &mut Assembly, label: u32, out: u32) -> u32 {
+    let same = wire(&assembly.wire_at, label as usize);
+    if same != NOWHERE {
+        return same;
+    }
+    let other = wire_of_node(assembly, label >> 1);
+    set(&mut assembly.wire_at, label as usize, out);
+    other
+}
+
 // A table that shows what another wire of its node does, or a constant.
 fn add_copy(assembly: &mut Assembly, out: u32) -> Result<(), AllocError> {
     let label = assembly.layout.label(out);
     if label < 2 {
         return assembly.layout.add_table(out, NO_CUT);
     }
-    let same = wire(&assembly.wire_at, label as usize);
-    let ins = if same != NOWHERE {
-        cut_of(same)
-    } else {
-        cut_of(wire_of_node(assembly, label >> 1))
-    };
-    if same == NOWHERE {
-        set(&mut assembly.wire_at, label as usize, out);
-    }
-    assembly.layout.add_table(out, ins)
+    let same = shown_by(assembly, label, out);
+    assembly.layout.add_table(out, cut_of(same))
 }
 
 // The second table of a node that is wanted in both forms.
@@ -260,17 +299,42 @@ fn next_wire(assembly: &mut Assembly, label: u32) -> Result<u32, AllocError> {
     Ok(new)
 }
 
+// The latch at a place reads this.
+fn read_from(registers: &mut Vec<Register>, place: usize, from: u32) {
+    if place < registers.len() {
+        registers[place].from = from;
+    }
+}
+
 // What latches read: their wires in place of labels.
 fn close_latches(assembly: &mut Assembly) -> Result<(), AllocError> {
     'latches: for k in 0..assembly.layout.registers.len() {
-        if let Some(old) = assembly.layout.registers.get(k).copied() {
-            let from = next_wire(assembly, old.from)?;
-            if k < assembly.layout.registers.len() {
-                assembly.layout.registers[k] = Register { from, ..old };
-            }
-        }
+        let label = next_label(&assembly.layout.registers, k);
+        let from = next_wire(assembly, label)?;
+        read_from(&mut assembly.layout.registers, k, from);
     }
     Ok(())
+}
+
+// What has wires before there are tables: inputs, latches, outputs, and what latches read.
+fn add_signals(
+    assembly: &mut Assembly,
+    draft: &NetlistData,
+    graph: &Graph,
+    labels: &[u32],
+    reach: &Reach,
+) -> Result<(), AllocError> {
+    add_inputs(assembly, draft.inputs.as_slice(), labels)?;
+    add_latches(assembly, draft.latches.as_slice(), graph, reach, labels)?;
+    add_outputs(assembly, Nodes::of(graph), draft.outputs.as_slice(), labels)?;
+    want_nexts(assembly, Nodes::of(graph))
+}
+
+// What shows other wires, and the latches with the wires that they read.
+fn add_rest(assembly: &mut Assembly) -> Result<(), AllocError> {
+    add_seconds(assembly)?;
+    add_copies(assembly)?;
+    close_latches(assembly)
 }
 
 /// The tables of the chosen cuts, the outputs, and the latches that outputs need.
@@ -284,19 +348,8 @@ pub fn layout_of(
 ) -> Result<Layout, AllocError> {
     let nodes = Nodes::of(graph);
     let mut assembly = assembly_of(alloc, draft.names.len(), nodes.count())?;
-    add_inputs(&mut assembly, draft.inputs.as_slice(), labels)?;
-    add_latches(
-        &mut assembly,
-        draft.latches.as_slice(),
-        graph,
-        reach,
-        labels,
-    )?;
-    add_outputs(&mut assembly, nodes, draft.outputs.as_slice(), labels)?;
-    want_nexts(&mut assembly, nodes)?;
+    add_signals(&mut assembly, draft, graph, labels, reach)?;
     add_nodes(&mut assembly, nodes, chosen)?;
-    add_seconds(&mut assembly)?;
-    add_copies(&mut assembly)?;
-    close_latches(&mut assembly)?;
+    add_rest(&mut assembly)?;
     Ok(assembly.layout)
 }

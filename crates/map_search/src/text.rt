@@ -88,14 +88,25 @@ impl<'a> Writer<'a> {
         Ok(())
     }
 
-    // Adds a cover.
-    fn put_cover(&mut self, cover: &Cover) -> Result<(), AllocError> {
-        self.put(b".names")?;
-        'inputs: for signal in cover.ins.as_slice() {
+    // Adds the names of signals.
+    fn put_names(&mut self, signals: &[u32]) -> Result<(), AllocError> {
+        'signals: for signal in signals {
             self.put_name(*signal)?;
         }
-        self.put_name(cover.out)?;
-        self.put(b"\n")?;
+        Ok(())
+    }
+
+    // Adds the first line of a cover.
+    fn put_signals(&mut self, ins: &[u32], out: u32) -> Result<(), AllocError> {
+        self.put(b".names")?;
+        self.put_names(ins)?;
+        self.put_name(out)?;
+        self.put(b"\n")
+    }
+
+    // Adds a cover.
+    fn put_cover(&mut self, cover: &Cover) -> Result<(), AllocError> {
+        self.put_signals(cover.ins.as_slice(), cover.out)?;
         self.put_rows(cover)
     }
 
@@ -115,15 +126,20 @@ impl<'a> Writer<'a> {
         put_number(&mut self.text, after)
     }
 
+    // Adds tables and depth of the design as given and as written.
+    fn put_changes(&mut self, tables: u64, depth: u32) -> Result<(), AllocError> {
+        let head = self.head;
+        self.put_change(b"# tables ", head.tables, tables)?;
+        self.put_change(b", depth ", u64::from(head.depth), u64::from(depth))?;
+        self.put(b"\n")
+    }
+
     // Adds the comment: tables and depth of the design as given and as written, where each cover is one table.
     fn put_head(&mut self, draft: &NetlistData) -> Result<(), AllocError> {
         let covers = draft.covers.as_slice().len();
         let tables = covers.saturating_add(draft.latches.as_slice().len());
         let depth = depth_of(self.alloc, draft)?;
-        let head = self.head;
-        self.put_change(b"# tables ", head.tables, tables as u64)?;
-        self.put_change(b", depth ", u64::from(head.depth), u64::from(depth))?;
-        self.put(b"\n")
+        self.put_changes(tables as u64, depth)
     }
 
     // Adds the control of the latches, if there is one.
@@ -135,16 +151,41 @@ impl<'a> Writer<'a> {
         Ok(())
     }
 
+    // Adds what a latch reads and what it drives.
+    fn put_ends(&mut self, from: u32, out: u32) -> Result<(), AllocError> {
+        self.put(b".latch")?;
+        self.put_name(from)?;
+        self.put_name(out)
+    }
+
+    // Adds the control of a latch, and its initial bit.
+    fn put_start(&mut self, init: bool) -> Result<(), AllocError> {
+        self.put_control()?;
+        self.put(if init { b" 1\n" } else { b" 0\n" })
+    }
+
     // Adds the latches.
     fn put_latches(&mut self, latches: &[LatchDef]) -> Result<(), AllocError> {
         'latches: for latch in latches {
-            self.put(b".latch")?;
-            self.put_name(latch.from)?;
-            self.put_name(latch.out)?;
-            self.put_control()?;
-            self.put(if latch.init { b" 1\n" } else { b" 0\n" })?;
+            self.put_ends(latch.from, latch.out)?;
+            self.put_start(latch.init)?;
         }
         Ok(())
+    }
+
+    // Adds the comment, and what leads to the outside.
+    fn put_front(&mut self, draft: &NetlistData) -> Result<(), AllocError> {
+        self.put_head(draft)?;
+        self.put(b".model mapped\n")?;
+        self.put_ports(b".inputs", draft.inputs.as_slice())?;
+        self.put_ports(b".outputs", draft.outputs.as_slice())
+    }
+
+    // Adds covers and latches.
+    fn put_logic(&mut self, draft: &NetlistData) -> Result<(), AllocError> {
+        self.put_covers(draft.covers.as_slice())?;
+        self.put_latches(draft.latches.as_slice())?;
+        self.put(b".end\n")
     }
 }
 
@@ -162,13 +203,8 @@ pub fn design_text(alloc: Global, draft: &NetlistData, head: &Head) -> Result<Ve
         names: &draft.names,
         text: Vec::new(alloc),
     };
-    writer.put_head(draft)?;
-    writer.put(b".model mapped\n")?;
-    writer.put_ports(b".inputs", draft.inputs.as_slice())?;
-    writer.put_ports(b".outputs", draft.outputs.as_slice())?;
-    writer.put_covers(draft.covers.as_slice())?;
-    writer.put_latches(draft.latches.as_slice())?;
-    writer.put(b".end\n")?;
+    writer.put_front(draft)?;
+    writer.put_logic(draft)?;
     Ok(writer.text)
 }
 
@@ -188,6 +224,33 @@ fn labels_of_names(
     Ok(found)
 }
 
+// The label of a signal by its name.
+fn label_of(
+    alloc: Global,
+    by_name: &HashMap<Vec<u8>, u32>,
+    names: &Names,
+    signal: usize,
+) -> Result<u32, AllocError> {
+    if signal >= names.len() {
+        return Ok(0);
+    }
+    let name = names.get(alloc, signal)?;
+    Ok(by_name.get(name.as_slice()).copied().unwrap_or(0))
+}
+
+// The labels of signals by their names.
+fn labels_of_signals(
+    alloc: Global,
+    by_name: &HashMap<Vec<u8>, u32>,
+    names: &Names,
+) -> Result<Vec<u32>, AllocError> {
+    let mut found = Vec::with_capacity(alloc, names.len())?;
+    'signals: for signal in 0..names.len() {
+        found.push(label_of(alloc, by_name, names, signal)?)?;
+    }
+    Ok(found)
+}
+
 /// For each signal of a netlist that was read from the draft's text the label of the draft's signal of its name, and 0 where
 /// there is none. The labels are those of the draft's signals.
 ///
@@ -201,12 +264,5 @@ pub fn labels_by_name(
     read: &Netlist,
 ) -> Result<Vec<u32>, AllocError> {
     let by_name = labels_of_names(alloc, &draft.names, labels)?;
-    let names = &read.parts().names;
-    let mut found = Vec::with_capacity(alloc, names.len())?;
-    'signals: for signal in 0..names.len() {
-        let name = names.get(alloc, signal)?;
-        let label = by_name.get(name.as_slice()).copied().unwrap_or(0);
-        found.push(label)?;
-    }
-    Ok(found)
+    labels_of_signals(alloc, &by_name, &read.parts().names)
 }

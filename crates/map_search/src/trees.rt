@@ -10,15 +10,20 @@ const ANDS_OF_TABLE: u32 = 3;
 /// With more literals pairs are made in place of the lowest.
 const MOST_SORTED: usize = 1000;
 
+// The AND of at most two literals.
+fn pair_and(builder: &mut Builder, pair: &[u32]) -> Result<u32, AllocError> {
+    match pair {
+        [a, b] => builder.and(*a, *b),
+        [a] => Ok(*a),
+        _ => Ok(1),
+    }
+}
+
 // The ANDs of the first two literals, of the next two, and so on.
 fn pairs(builder: &mut Builder, literals: &[u32]) -> Result<Vec<u32>, AllocError> {
     let mut ands = Vec::new(builder.alloc);
     'pairs: for pair in literals.chunks(2) {
-        let and = match pair {
-            [a, b] => builder.and(*a, *b)?,
-            [a] => *a,
-            _ => 1,
-        };
+        let and = pair_and(builder, pair)?;
         ands.push(and)?;
     }
     Ok(ands)
@@ -56,20 +61,28 @@ fn higher_than(builder: &Builder, literals: &[u32], level: u32) -> usize {
     count
 }
 
+// Puts a literal behind those that are higher.
+fn put_by_level(
+    builder: &Builder,
+    literals: &mut Vec<u32>,
+    literal: u32,
+) -> Result<(), AllocError> {
+    let place = higher_than(builder, literals, builder.level(literal));
+    if place <= literals.len() {
+        literals.insert(place, literal)?;
+    }
+    Ok(())
+}
+
 // Joins the two lowest of literals that stand by their level, the highest first.
 fn join_lowest(builder: &mut Builder, literals: &mut Vec<u32>) -> Result<bool, AllocError> {
-    let Some(a) = literals.pop() else {
+    if literals.len() < 2 {
         return Ok(false);
-    };
-    let Some(b) = literals.pop() else {
-        literals.push(a)?;
-        return Ok(false);
-    };
-    let and = builder.and(a, b)?;
-    let place = higher_than(builder, literals, builder.level(and));
-    if place <= literals.len() {
-        literals.insert(place, and)?;
     }
+    let a = literals.pop().unwrap_or(1);
+    let b = literals.pop().unwrap_or(1);
+    let and = builder.and(a, b)?;
+    put_by_level(builder, literals, and)?;
     Ok(true)
 }
 
@@ -98,17 +111,34 @@ struct Deep {
     tables: u32,
 }
 
-// The literals with their depths, the deepest first.
-fn by_depth(builder: &Builder, literals: &[u32]) -> Result<Vec<Deep>, AllocError> {
+// The literals with their depths.
+fn depths_of(builder: &Builder, literals: &[u32]) -> Result<Vec<Deep>, AllocError> {
     let mut deep = Vec::with_capacity(builder.alloc, literals.len())?;
     'literals: for literal in literals {
-        deep.push(Deep {
-            literal: *literal,
-            tables: builder.level(*literal) / ANDS_OF_TABLE,
-        })?;
+        let literal = *literal;
+        let tables = builder.level(literal) / ANDS_OF_TABLE;
+        deep.push(Deep { literal, tables })?;
     }
+    Ok(deep)
+}
+
+// The literals with their depths, the deepest first.
+fn by_depth(builder: &Builder, literals: &[u32]) -> Result<Vec<Deep>, AllocError> {
+    let mut deep = depths_of(builder, literals)?;
     deep.sort_by_key(|one| u32::MAX - one.tables)?;
     Ok(deep)
+}
+
+// Takes the last so many literals; the depth of the deepest of them.
+fn take_last(deep: &mut Vec<Deep>, count: usize, taken: &mut Vec<u32>) -> Result<u32, AllocError> {
+    let mut tables = 0u32;
+    'literals: for _ in 0..count {
+        if let Some(one) = deep.pop() {
+            taken.push(one.literal)?;
+            tables = tables.max(one.tables);
+        }
+    }
+    Ok(tables)
 }
 
 // The AND of the last so many literals, which are taken, and its depth.
@@ -118,31 +148,46 @@ fn join_last(
     count: usize,
 ) -> Result<Deep, AllocError> {
     let mut taken = Vec::with_capacity(builder.alloc, 6)?;
-    let mut tables = 0u32;
-    'literals: for _ in 0..count {
-        if let Some(one) = deep.pop() {
-            taken.push(one.literal)?;
-            tables = tables.max(one.tables);
-        }
-    }
+    let tables = take_last(deep, count, &mut taken)?;
+    let literal = balance_literals(builder, taken)?;
     Ok(Deep {
-        literal: balance_literals(builder, taken)?,
+        literal,
         tables: tables.saturating_add(1),
     })
 }
 
-// Puts a literal behind those that are deeper.
-fn put_deep(deep: &mut Vec<Deep>, one: Deep) -> Result<(), AllocError> {
+// The place behind those that are deeper than this.
+fn behind_deeper(deep: &[Deep], tables: u32) -> usize {
     let mut place = 0usize;
     'literals: for k in 0..deep.len() {
-        if deep[k].tables > one.tables {
+        if deep[k].tables > tables {
             place = k.saturating_add(1);
         }
     }
+    place
+}
+
+// Puts a literal behind those that are deeper.
+fn put_deep(deep: &mut Vec<Deep>, one: Deep) -> Result<(), AllocError> {
+    let place = behind_deeper(deep, one.tables);
     if place <= deep.len() {
         deep.insert(place, one)?;
     }
     Ok(())
+}
+
+// Joins the last so many literals, and puts the one that comes of it in its place.
+fn join_sixes(builder: &mut Builder, deep: &mut Vec<Deep>, count: usize) -> Result<(), AllocError> {
+    let one = join_last(builder, deep, count)?;
+    put_deep(deep, one)
+}
+
+// The first literal, or 1 where there is none.
+fn first_of(deep: &[Deep]) -> u32 {
+    match deep.first() {
+        Some(one) => one.literal,
+        None => 1,
+    }
 }
 
 // The six lowest first, again and again; at first so many that all that follow are six.
@@ -153,34 +198,32 @@ fn sixes_first(builder: &mut Builder, literals: &[u32]) -> Result<u32, AllocErro
         if deep.len() < 2 {
             break;
         }
-        let one = join_last(builder, &mut deep, count)?;
-        put_deep(&mut deep, one)?;
+        join_sixes(builder, &mut deep, count)?;
         count = 6;
     }
-    match deep.first() {
-        Some(one) => Ok(one.literal),
-        None => Ok(1),
+    Ok(first_of(&deep))
+}
+
+// How so many literals are joined.
+fn join_for(join: Join, count: usize) -> Join {
+    match join {
+        Join::Chain => Join::Chain,
+        other => {
+            if count > MOST_SORTED {
+                Join::Pairs
+            } else {
+                other
+            }
+        }
     }
 }
 
 /// The AND of literals.
 pub fn and_all(builder: &mut Builder, literals: Vec<u32>, join: Join) -> Result<u32, AllocError> {
-    match join {
+    match join_for(join, literals.len()) {
         Join::Pairs => balance_literals(builder, literals),
         Join::Chain => chain_literals(builder, &literals),
-        Join::Sixes => {
-            if literals.len() > MOST_SORTED {
-                balance_literals(builder, literals)
-            } else {
-                sixes_first(builder, &literals)
-            }
-        }
-        Join::Lowest => {
-            if literals.len() > MOST_SORTED {
-                balance_literals(builder, literals)
-            } else {
-                lowest_first(builder, &literals)
-            }
-        }
+        Join::Sixes => sixes_first(builder, &literals),
+        Join::Lowest => lowest_first(builder, &literals),
     }
 }

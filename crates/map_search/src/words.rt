@@ -59,31 +59,43 @@ fn place_of(list: &[u32], number: u32) -> usize {
     list.len()
 }
 
+// Adds a number that isn't there; whether it is there then, since there was room for it.
+fn add_new(few: &mut Vec<u32>, number: u32) -> Result<bool, AllocError> {
+    if place_of(few, number) < few.len() {
+        return Ok(true);
+    }
+    if few.len() >= TABLE_INPUTS {
+        return Ok(false);
+    }
+    few.push(number)?;
+    Ok(true)
+}
+
 // The different numbers of a list, if they are at most six.
 fn few_of(alloc: Global, list: &[u32]) -> Result<Option<Vec<u32>>, AllocError> {
     let mut few = Vec::with_capacity(alloc, TABLE_INPUTS)?;
     'numbers: for number in list {
-        if place_of(&few, *number) < few.len() {
-            continue;
-        }
-        if few.len() >= TABLE_INPUTS {
+        if !add_new(&mut few, *number)? {
             return Ok(None);
         }
-        few.push(*number)?;
     }
     Ok(Some(few))
+}
+
+// The cells of what a row wants of an input that has these.
+fn lit_cells(lit: &Lit, word: u64) -> u64 {
+    match lit {
+        Lit::Zero => !word,
+        Lit::One => word,
+        Lit::Any => u64::MAX,
+    }
 }
 
 // The cells of a row over these different inputs.
 fn row_cells(row: &[Lit], ins: &[u32], few: &[u32]) -> u64 {
     let mut cells = u64::MAX;
     'places: for (lit, signal) in row.iter().zip(ins) {
-        let word = pin(place_of(few, *signal));
-        match lit {
-            Lit::Zero => cells &= !word,
-            Lit::One => cells &= word,
-            Lit::Any => {}
-        }
+        cells &= lit_cells(lit, pin(place_of(few, *signal)));
     }
     cells
 }

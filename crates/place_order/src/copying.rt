@@ -8,7 +8,8 @@ use std::alloc::{AllocError, Global};
 pub fn copy_names(alloc: Global, names: &Names) -> Result<Names, AllocError> {
     let mut copy = Names::new(alloc);
     'names: for k in 0..names.len() {
-        copy.push(names.get(alloc, k)?)?;
+        let name = names.get(alloc, k)?;
+        copy.push(name)?;
     }
     Ok(copy)
 }
@@ -22,17 +23,20 @@ pub fn copy_ports(alloc: Global, ports: &[PortDef]) -> Result<Items<PortDef>, Al
 fn copy_rows(alloc: Global, rows: &[Cube]) -> Result<Items<Cube>, AllocError> {
     let mut copy = Items::empty(alloc);
     'rows: for row in rows {
-        copy.push(Items::new(Vec::from_slice(alloc, row.as_slice())?))?;
+        let row = Vec::from_slice(alloc, row.as_slice())?;
+        copy.push(Items::new(row))?;
     }
     Ok(copy)
 }
 
 /// The same cover.
 pub fn copy_cover(alloc: Global, cover: &Cover) -> Result<Cover, AllocError> {
+    let rows = copy_rows(alloc, cover.rows.as_slice())?;
+    let ins = Vec::from_slice(alloc, cover.ins.as_slice())?;
     Ok(Cover {
         out: cover.out,
-        ins: Items::new(Vec::from_slice(alloc, cover.ins.as_slice())?),
-        rows: copy_rows(alloc, cover.rows.as_slice())?,
+        ins: Items::new(ins),
+        rows,
         off: cover.off,
         line: cover.line,
     })

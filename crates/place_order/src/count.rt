@@ -2,7 +2,7 @@
 
 use crate::need::Counts;
 use crate::nets::TablesOfNet;
-use crate::tree::{Tree, divide_by, small};
+use crate::tree::{divide_by, small};
 use std::alloc::{AllocError, Global};
 
 /// The nodes of a level that have terminals of a net, in order, and how many strands each has of it from below.
@@ -25,46 +25,70 @@ impl Strands {
 
     // Adds a strand below a node, the last one or a new one.
     fn add(&mut self, node: u32) -> Result<(), AllocError> {
+        if !self.add_to_last(node) {
+            self.nodes.push((node, 1))?;
+        }
+        Ok(())
+    }
+
+    // Adds a strand below a node, if that is the last one; whether it is.
+    fn add_to_last(&mut self, node: u32) -> bool {
         let last = self.nodes.len().wrapping_sub(1);
         if last < self.nodes.len() && self.nodes[last].0 == node {
             let count = self.nodes[last].1;
             self.nodes[last] = (node, count.saturating_add(1));
-            return Ok(());
+            return true;
         }
-        self.nodes.push((node, 1))?;
-        Ok(())
+        false
     }
 
     // Lists the hextants of a net's terminals in order.
     fn list(&mut self, tables: &[u32], span: usize, seats: &[u32]) -> Result<(), AllocError> {
         'tables: for table in tables {
-            if let Some(seat) = seats.get(*table as usize) {
-                self.places.push(small(divide_by(*seat as usize, span)))?;
+            if let Some(seat) = seats.get(*table as usize).copied() {
+                let place = divide_by(seat as usize, span);
+                self.places.push(small(place))?;
             }
         }
         Ok(())
     }
 
-    /// The hextants of a net, where tables have these seats.
-    pub fn begin(
+    // Lists the hextants of all terminals of a net in order.
+    fn list_all(
         &mut self,
         net: &TablesOfNet,
-        tree: &Tree,
+        span: usize,
         seats: &[u32],
     ) -> Result<(), AllocError> {
-        let span = tree.tiers[0].span;
-        self.nodes.clear();
         self.places.clear();
         self.list(&net.tables, span, seats)?;
         self.list(&net.twice, span, seats)?;
         self.places.sort_unstable();
+        Ok(())
+    }
+
+    /// The hextants, of so many tables each, of a net, where tables have these seats.
+    pub fn begin(
+        &mut self,
+        net: &TablesOfNet,
+        span: usize,
+        seats: &[u32],
+    ) -> Result<(), AllocError> {
+        self.list_all(net, span, seats)?;
+        self.nodes.clear();
         'places: for k in 0..self.places.len() {
-            if k < self.places.len() {
-                let place = self.places[k];
-                self.add(place)?;
-            }
+            let place = self.places.get(k).copied().unwrap_or(0);
+            self.add(place)?;
         }
         Ok(())
+    }
+
+    // The node at a place of those below.
+    fn below(&self, k: usize) -> u32 {
+        match self.other.get(k) {
+            Some(node) => node.0,
+            None => 0,
+        }
     }
 
     // The nodes above, of which each has so many children.
@@ -72,10 +96,8 @@ impl Strands {
         std::mem::swap(&mut self.nodes, &mut self.other);
         self.nodes.clear();
         'nodes: for k in 0..self.other.len() {
-            if k < self.other.len() {
-                let node = self.other[k].0;
-                self.add(small(divide_by(node as usize, children)))?;
-            }
+            let node = divide_by(self.below(k) as usize, children);
+            self.add(small(node))?;
         }
         Ok(())
     }
@@ -97,6 +119,16 @@ fn raise(counts: &mut Vec<u32>, node: u32) {
     }
 }
 
+// Counts the crossing and visit of a net at a node in which it has so many strands from below.
+fn count_node(counts: &mut Counts, node: u32, below: u32, crosses: bool) {
+    if crosses {
+        raise(&mut counts.crossings, node);
+    }
+    if below.saturating_add(crosses as u32) >= 2 {
+        raise(&mut counts.visits, node);
+    }
+}
+
 /// Counts the crossings and visits of a net at the nodes of a level, and goes to the nodes above, which have so many children each.
 pub fn count_level(
     counts: &mut Counts,
@@ -105,13 +137,8 @@ pub fn count_level(
     pinned: bool,
 ) -> Result<(), AllocError> {
     let crosses = pinned || strands.nodes.len() > 1;
-    'nodes: for (node, below) in &strands.nodes {
-        if crosses {
-            raise(&mut counts.crossings, *node);
-        }
-        if below.saturating_add(crosses as u32) >= 2 {
-            raise(&mut counts.visits, *node);
-        }
+    'nodes: for node in &strands.nodes {
+        count_node(counts, node.0, node.1, crosses);
     }
     strands.rise(children)
 }

@@ -30,7 +30,9 @@ struct Spread {
 #[derive(Drop)]
 struct Growth<'a> {
     nets: &'a Nets,
-    tree: &'a Tree,
+    /// The free tables, and the tables of the nodes of each level.
+    free: &'a [u32],
+    spans: [usize; 3],
     spreads: Vec<Spread>,
     waiting: Vec<u32>,
     /// Tables that wait or have seats.
@@ -41,13 +43,47 @@ struct Growth<'a> {
 // No table has a seat.
 fn spreads_of(alloc: Global, nets: &Nets) -> Result<Vec<Spread>, AllocError> {
     let mut spreads = Vec::with_capacity(alloc, nets.nets.len())?;
-    'nets: for net in &nets.nets {
+    'nets: for net in 0..nets.nets.len() {
+        let left = small(tables_at(nets, net).len());
         spreads.push(Spread {
             last: NOWHERE,
-            left: small(net.tables.len()),
+            left,
         })?;
     }
     Ok(spreads)
+}
+
+// The tables of the nodes of each level.
+fn spans_of(tree: &Tree) -> [usize; 3] {
+    let [hextants, chips, modules] = &tree.tiers;
+    [hextants.span, chips.span, modules.span]
+}
+
+// Whether two places are of one node that has so many tables.
+fn are_of_one(span: usize, place: usize, other: usize) -> bool {
+    divide_by(place, span) == divide_by(other, span)
+}
+
+// What a net adds whose last table is at one place of the machine, for another place.
+fn nearness(spans: [usize; 3], last: usize, place: usize) -> i64 {
+    if are_of_one(spans[0], last, place) {
+        NEAR[0]
+    } else if are_of_one(spans[1], last, place) {
+        NEAR[1]
+    } else if are_of_one(spans[2], last, place) {
+        NEAR[2]
+    } else {
+        NEAR[3]
+    }
+}
+
+// Marks a place; whether it is new.
+fn mark(marks: &mut Vec<bool>, place: usize) -> bool {
+    if place < marks.len() && !marks[place] {
+        marks[place] = true;
+        return true;
+    }
+    false
 }
 
 /// Tables of one class: those from a number on, up to another one.
@@ -58,26 +94,18 @@ pub struct Class {
     pub seat: usize,
 }
 
-impl<'a> Growth<'a> {
-    // What a net adds whose last table is at one place of the machine, for another place.
-    fn nearness(&self, last: usize, place: usize) -> i64 {
-        let [hextants, chips, modules] = &self.tree.tiers;
-        if divide_by(last, hextants.span) == divide_by(place, hextants.span) {
-            NEAR[0]
-        } else if divide_by(last, chips.span) == divide_by(place, chips.span) {
-            NEAR[1]
-        } else if divide_by(last, modules.span) == divide_by(place, modules.span) {
-            NEAR[2]
-        } else {
-            NEAR[3]
-        }
+impl Class {
+    // Whether a table is of the class.
+    fn has(self, table: usize) -> bool {
+        table >= self.from && table < self.to
     }
+}
 
+impl<'a> Growth<'a> {
     // What a net adds for a place, the last of whose tables sits at another one.
     fn score_last(&self, net: usize, last: usize, left: u32, place: usize) -> i64 {
-        let [hextants, _, _] = &self.tree.tiers;
-        let here = divide_by(last, hextants.span) == divide_by(place, hextants.span);
-        let near = self.nearness(last, place);
+        let here = are_of_one(self.spans[0], last, place);
+        let near = nearness(self.spans, last, place);
         if here && left == 1 && !is_pinned(self.nets, net) {
             near.wrapping_add(ENDS)
         } else {
@@ -87,15 +115,10 @@ impl<'a> Growth<'a> {
 
     // What a net adds for a place.
     fn score_net(&self, net: usize, place: usize) -> i64 {
-        match self.spreads.get(net) {
+        match self.spreads.get(net).copied() {
             None => 0,
-            Some(spread) => {
-                if spread.last == NOWHERE {
-                    NEW
-                } else {
-                    self.score_last(net, spread.last as usize, spread.left, place)
-                }
-            }
+            Some(spread) if spread.last == NOWHERE => NEW,
+            Some(spread) => self.score_last(net, spread.last as usize, spread.left, place),
         }
     }
 
@@ -125,12 +148,7 @@ impl<'a> Growth<'a> {
 
     // Lets a table wait, if it is of the class and wasn't reached.
     fn wait(&mut self, table: u32, class: Class) -> Result<(), AllocError> {
-        let place = table as usize;
-        if place < class.from || place >= class.to || place >= self.reached.len() {
-            return Ok(());
-        }
-        if !self.reached[place] {
-            self.reached[place] = true;
+        if class.has(table as usize) && mark(&mut self.reached, table as usize) {
             self.waiting.push(table)?;
         }
         Ok(())
@@ -151,53 +169,86 @@ impl<'a> Growth<'a> {
     // Lets the tables of all nets wait that have tables on seats.
     fn reach_all(&mut self, class: Class) -> Result<(), AllocError> {
         'nets: for net in 0..self.spreads.len() {
-            if net < self.spreads.len() && self.spreads[net].last != NOWHERE {
+            if self.has_seat(net) {
                 self.reach(net, class)?;
             }
         }
         Ok(())
     }
 
-    // Lets the first table of the class wait that wasn't reached.
-    fn go_on(&mut self, class: Class) -> Result<(), AllocError> {
+    // Whether a table of a net has a seat.
+    fn has_seat(&self, net: usize) -> bool {
+        net < self.spreads.len() && self.spreads[net].last != NOWHERE
+    }
+
+    // The first table of the class that wasn't reached.
+    fn first_left(&self, class: Class) -> Option<u32> {
         'tables: for table in class.from..class.to {
             if table < self.reached.len() && !self.reached[table] {
-                return self.wait(small(table), class);
+                return Some(small(table));
             }
         }
-        Ok(())
+        None
     }
 
-    // Notes that a table of a net sits at a place.
-    fn join(&mut self, net: usize, place: usize, class: Class) -> Result<(), AllocError> {
+    // Lets the first table of the class wait that wasn't reached.
+    fn go_on(&mut self, class: Class) -> Result<(), AllocError> {
+        match self.first_left(class) {
+            Some(table) => self.wait(table, class),
+            None => Ok(()),
+        }
+    }
+
+    // Notes where the last table of a net sits.
+    fn sit(&mut self, net: usize, place: usize) {
         if net < self.spreads.len() {
-            let old = self.spreads[net];
+            let left = self.spreads[net].left.saturating_sub(1);
             self.spreads[net] = Spread {
                 last: small(place),
-                left: old.left.saturating_sub(1),
+                left,
             };
-            self.reach(net, class)?;
+        }
+    }
+
+    // Notes that a table sits at a place.
+    fn join(&mut self, table: usize, place: usize, class: Class) -> Result<(), AllocError> {
+        'nets: for net in nets_at(self.nets, table) {
+            self.sit(*net as usize, place);
+            self.reach(*net as usize, class)?;
         }
         Ok(())
     }
 
-    // Gives a seat to the best of those that wait.
-    fn fill(&mut self, seat: usize, class: Class) -> Result<(), AllocError> {
-        let Some(place) = self.tree.seats.get(seat).copied() else {
-            return Ok(());
-        };
-        let best = self.best(place as usize);
+    // Gives a seat at a place to the best of those that wait, if there is one.
+    fn take(&mut self, seat: usize, place: usize) -> Option<usize> {
+        let best = self.best(place);
         if best >= self.waiting.len() {
-            return Ok(());
+            return None;
         }
         let table = self.waiting.remove(best) as usize;
         if table < self.seats.len() {
             self.seats[table] = small(seat);
         }
-        'nets: for net in nets_at(self.nets, table) {
-            self.join(*net as usize, place as usize, class)?;
+        Some(table)
+    }
+
+    // Gives a seat to the best of those that wait.
+    fn fill(&mut self, seat: usize, class: Class) -> Result<(), AllocError> {
+        let Some(place) = self.free.get(seat).copied() else {
+            return Ok(());
+        };
+        match self.take(seat, place as usize) {
+            Some(table) => self.join(table, place as usize, class),
+            None => Ok(()),
         }
-        Ok(())
+    }
+
+    // Fills a seat, where one table waits at least if any is left.
+    fn fill_next(&mut self, seat: usize, class: Class) -> Result<(), AllocError> {
+        if self.waiting.len() == 0 {
+            self.go_on(class)?;
+        }
+        self.fill(seat, class)
     }
 
     // Fills the seats of a class.
@@ -205,14 +256,41 @@ impl<'a> Growth<'a> {
         self.waiting.clear();
         self.reach_all(class)?;
         'seats: for k in class.from..class.to {
-            if self.waiting.len() == 0 {
-                self.go_on(class)?;
-            }
             let seat = class.seat.saturating_add(k.saturating_sub(class.from));
-            self.fill(seat, class)?;
+            self.fill_next(seat, class)?;
         }
         Ok(())
     }
+
+    // Fills the seats of covers and those of latches, which begin at a seat.
+    fn fill_all(&mut self, room: usize) -> Result<(), AllocError> {
+        let split = self.nets.split;
+        let count = self.nets.of.len();
+        self.fill_class(class_of(0, split, 0))?;
+        self.fill_class(class_of(split, count, room))
+    }
+}
+
+// A class of tables from a number on, whose seats begin at this one.
+fn class_of(from: usize, to: usize, seat: usize) -> Class {
+    Class { from, to, seat }
+}
+
+// No table has a seat.
+fn growth_of<'a>(alloc: Global, nets: &'a Nets, tree: &'a Tree) -> Result<Growth<'a>, AllocError> {
+    let count = nets.of.len();
+    let spreads = spreads_of(alloc, nets)?;
+    let reached = vec![in alloc; false; count]?;
+    let seats = vec![in alloc; 0; count]?;
+    Ok(Growth {
+        nets,
+        free: &tree.seats,
+        spans: spans_of(tree),
+        spreads,
+        waiting: Vec::new(alloc),
+        reached,
+        seats,
+    })
 }
 
 /// Seats for covers from the first seat on, and for latches from a seat on.
@@ -222,24 +300,7 @@ pub fn grow_seats(
     tree: &Tree,
     room: usize,
 ) -> Result<Vec<u32>, AllocError> {
-    let count = nets.of.len();
-    let mut growth = Growth {
-        nets,
-        tree,
-        spreads: spreads_of(alloc, nets)?,
-        waiting: Vec::new(alloc),
-        reached: vec![in alloc; false; count]?,
-        seats: vec![in alloc; 0; count]?,
-    };
-    growth.fill_class(Class {
-        from: 0,
-        to: nets.split,
-        seat: 0,
-    })?;
-    growth.fill_class(Class {
-        from: nets.split,
-        to: count,
-        seat: room,
-    })?;
+    let mut growth = growth_of(alloc, nets, tree)?;
+    growth.fill_all(room)?;
     Ok(growth.seats)
 }

@@ -5,7 +5,7 @@ use std::alloc::{AllocError, Global};
 use std::num::saturating_f64_to_i64;
 
 /// What counts of nets at the nodes of a level cost.
-#[derive(Clone, Copy, Debug)]
+#[derive(Clone, Copy)]
 pub enum Price {
     /// By the share of a machine's crosspoints that one more of the greatest count adds, in millionths; that count; and how many there
     /// may be without want.
@@ -68,7 +68,7 @@ pub struct Level {
 }
 
 /// Whether a net crosses nodes of a level, before and after a change.
-#[derive(Clone, Copy, Debug)]
+#[derive(Clone, Copy)]
 pub struct Crosses {
     pub before: bool,
     pub after: bool,
@@ -82,14 +82,14 @@ impl Crosses {
 }
 
 /// What a change costs, and whether the net crosses nodes of the level.
-#[derive(Clone, Copy, Debug)]
+#[derive(Clone, Copy)]
 pub struct Changed {
     pub cost: i64,
     pub crosses: Crosses,
 }
 
 /// A way from a node of a level to another one, or to the same.
-#[derive(Clone, Copy, Debug)]
+#[derive(Clone, Copy)]
 pub struct Way {
     pub from: usize,
     pub to: usize,
@@ -103,7 +103,7 @@ impl Way {
 }
 
 /// A net, and whether a pin of the machine is on it.
-#[derive(Clone, Copy, Debug)]
+#[derive(Clone, Copy)]
 pub struct Signal {
     pub net: usize,
     pub pinned: bool,
@@ -138,12 +138,17 @@ fn least_steep(growth: f64, limit: u32) -> f64 {
     cost
 }
 
+// How many times more each more costs, up to a limit.
+fn growth_to(limit: u32) -> f64 {
+    let part = STEEP / limit.max(1) as f64;
+    1.0 + part * (1.0 + part / 2.0 * (1.0 + part / 3.0))
+}
+
 // The steep costs of counts up to this one.
 fn steep_costs(alloc: Global, most: usize, limit: u32) -> Result<Vec<i64>, AllocError> {
-    let mut costs = Vec::with_capacity(alloc, most)?;
-    let part = STEEP / limit.max(1) as f64;
-    let growth = 1.0 + part * (1.0 + part / 2.0 * (1.0 + part / 3.0));
+    let growth = growth_to(limit);
     let mut cost = least_steep(growth, limit);
+    let mut costs = Vec::with_capacity(alloc, most)?;
     'counts: for _ in 0..most {
         costs.push(saturating_f64_to_i64(cost))?;
         if cost < MOST_STEEP {
@@ -153,21 +158,32 @@ fn steep_costs(alloc: Global, most: usize, limit: u32) -> Result<Vec<i64>, Alloc
     Ok(costs)
 }
 
+// The costs by shares of counts up to this one.
+fn share_costs(
+    alloc: Global,
+    most: usize,
+    share: f64,
+    greatest: f64,
+    limit: f64,
+) -> Result<Vec<i64>, AllocError> {
+    let mut costs = Vec::with_capacity(alloc, most)?;
+    'counts: for count in 0..most {
+        let cost = cost_of(small(count) as f64, share, greatest, limit);
+        costs.push(cost)?;
+    }
+    Ok(costs)
+}
+
 // The costs of counts up to this one.
 fn costs_of(alloc: Global, most: usize, price: Price) -> Result<Vec<i64>, AllocError> {
-    let (share, greatest, limit) = match price {
+    match price {
         Price::Share {
             share,
             greatest,
             limit,
-        } => (share, greatest, limit),
-        Price::Steep { limit } => return steep_costs(alloc, most, limit),
-    };
-    let mut costs = Vec::with_capacity(alloc, most)?;
-    'counts: for count in 0..most {
-        costs.push(cost_of(small(count) as f64, share, greatest, limit))?;
+        } => share_costs(alloc, most, share, greatest, limit),
+        Price::Steep { limit } => steep_costs(alloc, most, limit),
     }
-    Ok(costs)
 }
 
 // How many are beyond a limit in sum.
@@ -179,6 +195,15 @@ fn beyond_limit(counts: &[u32], limit: u32) -> u32 {
     over
 }
 
+// The greatest of these counts.
+fn greatest_of(counts: &[u32]) -> u32 {
+    let mut most = 0u32;
+    'nodes: for count in counts {
+        most = most.max(*count);
+    }
+    most
+}
+
 /// So many nets at nodes, those that are wanting, where there may be so many at each.
 pub fn gauge_of(
     alloc: Global,
@@ -187,17 +212,50 @@ pub fn gauge_of(
     nets: usize,
     price: Price,
 ) -> Result<Gauge, AllocError> {
-    let mut most = 0u32;
-    'nodes: for count in wanting {
-        most = most.max(*count);
-    }
-    let most = nets.saturating_add(most as usize).saturating_add(2);
+    let most = nets.saturating_add(greatest_of(wanting) as usize);
+    let costs = costs_of(alloc, most.saturating_add(2), price)?;
+    let counts = Vec::from_slice(alloc, wanting)?;
     Ok(Gauge {
-        counts: Vec::from_slice(alloc, wanting)?,
-        costs: costs_of(alloc, most, price)?,
+        counts,
+        costs,
         limit: small(limit),
         over: beyond_limit(wanting, small(limit)),
     })
+}
+
+// Puts a number at a place, if there is one.
+fn put(numbers: &mut Vec<u32>, place: usize, number: u32) {
+    if place < numbers.len() {
+        numbers[place] = number;
+    }
+}
+
+// One more at a place; whether it is the first one there.
+fn add_one(counts: &mut Vec<u16>, place: usize) -> bool {
+    if place >= counts.len() {
+        return false;
+    }
+    let old = counts[place];
+    counts[place] = old.saturating_add(1);
+    old == 0
+}
+
+// One less at a place; whether it was the last one there.
+fn take_one(counts: &mut Vec<u16>, place: usize) -> bool {
+    if place >= counts.len() {
+        return false;
+    }
+    let old = counts[place];
+    counts[place] = old.saturating_sub(1);
+    old == 1
+}
+
+// A net counts at the nodes of a way before and after a change, or doesn't, where its last table left the first node or its first one
+// came to the second; what that costs.
+fn turn_both(gauge: &mut Gauge, way: Way, counts: Crosses, left: bool, came: bool) -> i64 {
+    let first = gauge.turn(way.from, counts.before, counts.after && !left);
+    let second = gauge.turn(way.to, counts.before && !came, counts.after);
+    first.wrapping_add(second)
 }
 
 impl Gauge {
@@ -273,13 +331,17 @@ pub fn level_of(
     crossings: Price,
     visits: Price,
 ) -> Result<Level, AllocError> {
+    let counts = vec![in alloc; 0; nets.saturating_mul(tier.nodes)]?;
+    let occupied = vec![in alloc; 0; nets]?;
+    let crossings = gauge_of(alloc, &tier.no_ports, tier.ports, nets, crossings)?;
+    let visits = gauge_of(alloc, &tier.no_lines, tier.lines, nets, visits)?;
     Ok(Level {
         span: tier.span,
         nodes: tier.nodes,
-        counts: vec![in alloc; 0; nets.saturating_mul(tier.nodes)]?,
-        occupied: vec![in alloc; 0; nets]?,
-        crossings: gauge_of(alloc, &tier.no_ports, tier.ports, nets, crossings)?,
-        visits: gauge_of(alloc, &tier.no_lines, tier.lines, nets, visits)?,
+        counts,
+        occupied,
+        crossings,
+        visits,
     })
 }
 
@@ -330,30 +392,30 @@ impl Level {
 
     /// One more table of a net at a node; whether it is the first one there.
     pub fn come(&mut self, net: usize, node: usize) -> bool {
-        let spot = self.spot(net, node);
-        if spot >= self.counts.len() || net >= self.occupied.len() {
+        if net >= self.occupied.len() {
             return false;
         }
-        let old = self.counts[spot];
-        self.counts[spot] = old.saturating_add(1);
-        if old == 0 {
-            self.occupied[net] = self.occupied[net].saturating_add(1);
+        let spot = self.spot(net, node);
+        let first = add_one(&mut self.counts, spot);
+        if first {
+            let count = self.occupied_nodes(net).saturating_add(1);
+            put(&mut self.occupied, net, count);
         }
-        old == 0
+        first
     }
 
     // One table of a net less at a node; whether it was the last one there.
     fn leave(&mut self, net: usize, node: usize) -> bool {
-        let spot = self.spot(net, node);
-        if spot >= self.counts.len() || net >= self.occupied.len() {
+        if net >= self.occupied.len() {
             return false;
         }
-        let old = self.counts[spot];
-        self.counts[spot] = old.saturating_sub(1);
-        if old == 1 {
-            self.occupied[net] = self.occupied[net].saturating_sub(1);
+        let spot = self.spot(net, node);
+        let last = take_one(&mut self.counts, spot);
+        if last {
+            let count = self.occupied_nodes(net).saturating_sub(1);
+            put(&mut self.occupied, net, count);
         }
-        old == 1
+        last
     }
 
     // Whether a node has tables of a net.
@@ -373,11 +435,16 @@ impl Level {
         }
         'nodes: for node in 0..self.nodes {
             if self.has(signal.net, node) {
-                let _ = self.crossings.turn(node, false, crosses);
-                let _ = self.visits.turn(node, false, below);
+                self.charge_node(node, crosses, below);
             }
         }
         crosses
+    }
+
+    // Counts a net at a node, whether it crosses it and visits it.
+    fn charge_node(&mut self, node: usize, crosses: bool, visits: bool) {
+        let _ = self.crossings.turn(node, false, crosses);
+        let _ = self.visits.turn(node, false, visits);
     }
 
     /// A table of a net goes this way; whether the net crosses nodes of the level below. Only the two nodes can change: where the net
@@ -396,18 +463,12 @@ impl Level {
         let left = self.leave(signal.net, way.from);
         let came = self.come(signal.net, way.to);
         let after = self.crosses(signal);
-        let ports = self.crossings.turn(way.from, before, after && !left);
-        let more_ports = self.crossings.turn(way.to, before && !came, after);
-        let lines = self
-            .visits
-            .turn(way.from, below.before, below.after && !left);
-        let more_lines = self.visits.turn(way.to, below.before && !came, below.after);
+        let crosses = Crosses { before, after };
+        let ports = turn_both(&mut self.crossings, way, crosses, left, came);
+        let lines = turn_both(&mut self.visits, way, below, left, came);
         Changed {
-            cost: ports
-                .wrapping_add(more_ports)
-                .wrapping_add(lines)
-                .wrapping_add(more_lines),
-            crosses: Crosses { before, after },
+            cost: ports.wrapping_add(lines),
+            crosses,
         }
     }
 }

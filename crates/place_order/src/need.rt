@@ -1,12 +1,12 @@
 //! What the plan of an order needs of a machine.
 
 use crate::count::{Strands, count_level, root_strands};
-use crate::nets::Nets;
+use crate::nets::{Nets, TablesOfNet};
 use crate::tree::{Tier, Tree, small};
 use std::alloc::{AllocError, Global};
 
 /// The greatest needs of a level: ports and lines of a node, with those that are wanting.
-#[derive(Clone, Copy, Debug)]
+#[derive(Clone, Copy)]
 pub struct Need {
     pub ports: [usize; 3],
     pub lines: [usize; 4],
@@ -14,7 +14,7 @@ pub struct Need {
 
 /// How good an order is: what its plan needs beyond what the machine has, and how many crosspoints the smallest machine of its tree
 /// has in which it fits.
-#[derive(Clone, Copy, Debug)]
+#[derive(Clone, Copy)]
 pub struct Worth {
     pub beyond: u64,
     pub crosspoints: u64,
@@ -38,10 +38,9 @@ fn greatest(numbers: &[u32]) -> usize {
 
 // Only what is wanting at the nodes of a level is counted.
 fn counts_of(alloc: Global, tier: &Tier) -> Result<Counts, AllocError> {
-    Ok(Counts {
-        crossings: Vec::from_slice(alloc, &tier.no_ports)?,
-        visits: Vec::from_slice(alloc, &tier.no_lines)?,
-    })
+    let crossings = Vec::from_slice(alloc, &tier.no_ports)?;
+    let visits = Vec::from_slice(alloc, &tier.no_lines)?;
+    Ok(Counts { crossings, visits })
 }
 
 // What is known of the nodes of all levels below the root.
@@ -52,49 +51,103 @@ struct AllCounts {
     modules: Counts,
 }
 
-// Counts the crossings and visits of a net at all levels; whether it visits the root.
-fn count_net(
-    tree: &Tree,
+// Only what is wanting at the nodes of all levels is counted.
+fn all_counts(alloc: Global, tree: &Tree) -> Result<AllCounts, AllocError> {
+    let [hextants, chips, modules] = &tree.tiers;
+    let hextants = counts_of(alloc, hextants)?;
+    let chips = counts_of(alloc, chips)?;
+    let modules = counts_of(alloc, modules)?;
+    Ok(AllCounts {
+        hextants,
+        chips,
+        modules,
+    })
+}
+
+// How many children nodes of chips and of modules have.
+#[derive(Clone, Copy)]
+struct Children {
+    chips: usize,
+    modules: usize,
+}
+
+// Those of a tree.
+fn children_in(tree: &Tree) -> Children {
+    let [_, chips, modules] = &tree.tiers;
+    Children {
+        chips: chips.children,
+        modules: modules.children,
+    }
+}
+
+// Counts the crossings and visits of a net at all levels.
+fn count_levels(
     counts: &mut AllCounts,
     strands: &mut Strands,
+    children: Children,
+    pinned: bool,
+) -> Result<(), AllocError> {
+    count_level(&mut counts.hextants, strands, children.chips, pinned)?;
+    count_level(&mut counts.chips, strands, children.modules, pinned)?;
+    count_level(&mut counts.modules, strands, usize::MAX, pinned)
+}
+
+// Counts the crossings and visits of a net at all levels; whether it visits the root.
+fn count_net(
+    counts: &mut AllCounts,
+    strands: &mut Strands,
+    children: Children,
     pins: u32,
 ) -> Result<bool, AllocError> {
-    let [_, chips, modules] = &tree.tiers;
-    count_level(&mut counts.hextants, strands, chips.children, pins > 0)?;
-    count_level(&mut counts.chips, strands, modules.children, pins > 0)?;
-    count_level(&mut counts.modules, strands, usize::MAX, pins > 0)?;
+    count_levels(counts, strands, children, pins > 0)?;
     Ok(root_strands(strands).saturating_add(pins as usize) >= 2)
+}
+
+// Counts the crossings and visits of all nets; how many of these visit the root.
+fn count_nets(
+    alloc: Global,
+    counts: &mut AllCounts,
+    nets: &[TablesOfNet],
+    tree: &Tree,
+    seats: &[u32],
+) -> Result<u32, AllocError> {
+    let children = children_in(tree);
+    let span = tree.span();
+    let mut visits = small(tree.no_lines);
+    let mut strands = Strands::new(alloc);
+    'nets: for net in nets {
+        strands.begin(net, span, seats)?;
+        if count_net(counts, &mut strands, children, net.pins)? {
+            visits = visits.saturating_add(1);
+        }
+    }
+    Ok(visits)
+}
+
+// The needs of nodes of which so much is counted, and of which nets visit the root.
+fn need_in(counts: &AllCounts, visits: u32) -> Need {
+    let low = greatest(&counts.hextants.crossings);
+    let middle = greatest(&counts.chips.crossings);
+    let high = greatest(&counts.modules.crossings);
+    Need {
+        ports: [low, middle, high],
+        lines: lines_in(counts, (visits as usize).max(1)),
+    }
+}
+
+// The lines that nodes need, those of the root last.
+fn lines_in(counts: &AllCounts, root: usize) -> [usize; 4] {
+    let low = greatest(&counts.hextants.visits);
+    let middle = greatest(&counts.chips.visits);
+    let high = greatest(&counts.modules.visits);
+    [low, middle, high, root]
 }
 
 /// What the plan needs in which tables have these seats.
 pub fn need_of(alloc: Global, nets: &Nets, tree: &Tree, seats: &[u32]) -> Result<Need, AllocError> {
-    let [hextants, chips, modules] = &tree.tiers;
-    let mut counts = AllCounts {
-        hextants: counts_of(alloc, hextants)?,
-        chips: counts_of(alloc, chips)?,
-        modules: counts_of(alloc, modules)?,
-    };
-    let mut visits = small(tree.no_lines);
-    let mut strands = Strands::new(alloc);
-    'nets: for net in &nets.nets {
-        strands.begin(net, tree, seats)?;
-        if count_net(tree, &mut counts, &mut strands, net.pins)? {
-            visits = visits.saturating_add(1);
-        }
-    }
-    Ok(Need {
-        ports: [
-            greatest(&counts.hextants.crossings),
-            greatest(&counts.chips.crossings),
-            greatest(&counts.modules.crossings),
-        ],
-        lines: [
-            greatest(&counts.hextants.visits),
-            greatest(&counts.chips.visits),
-            greatest(&counts.modules.visits),
-            (visits as usize).max(1),
-        ],
-    })
+    let mut counts = all_counts(alloc, tree)?;
+    let visits = count_nets(alloc, &mut counts, &nets.nets, tree, seats)?;
+    Ok(need_in(&counts, visits))
 }
 
 // How far a need is beyond what there is.
@@ -115,34 +168,39 @@ fn crossbars(nodes: usize, taps: usize, lines: usize) -> u64 {
     (taps as u64).saturating_mul(lines)
 }
 
+// The taps of a node: so many of each child, and some of its own.
+fn taps(children: usize, each: usize, own: usize) -> usize {
+    children.saturating_mul(each).saturating_add(own)
+}
+
+// The crosspoints of hextants and chips.
+fn low_crosspoints(need: &Need, hextants: &Tier, chips: &Tier) -> u64 {
+    let [low, middle, _] = need.ports;
+    let first = crossbars(hextants.nodes, taps(hextants.span, 7, low), need.lines[0]);
+    let second = crossbars(
+        chips.nodes,
+        taps(chips.children, low, middle),
+        need.lines[1],
+    );
+    first.saturating_add(second)
+}
+
+// The crosspoints of modules and of the root.
+fn high_crosspoints(need: &Need, modules: &Tier, pins: usize) -> u64 {
+    let [_, middle, high] = need.ports;
+    let third = crossbars(
+        modules.nodes,
+        taps(modules.children, middle, high),
+        need.lines[2],
+    );
+    let root = crossbars(1, taps(modules.nodes, high, pins), need.lines[3]);
+    third.saturating_add(root)
+}
+
 /// How many crosspoints the machine has that has just what is needed.
 pub fn crosspoints(need: &Need, tree: &Tree, pins: usize) -> u64 {
     let [hextants, chips, modules] = &tree.tiers;
-    let taps = [
-        hextants
-            .span
-            .saturating_mul(7)
-            .saturating_add(need.ports[0]),
-        chips
-            .children
-            .saturating_mul(need.ports[0])
-            .saturating_add(need.ports[1]),
-        modules
-            .children
-            .saturating_mul(need.ports[1])
-            .saturating_add(need.ports[2]),
-        modules
-            .nodes
-            .saturating_mul(need.ports[2])
-            .saturating_add(pins),
-    ];
-    let low = crossbars(hextants.nodes, taps[0], need.lines[0]);
-    let middle = crossbars(chips.nodes, taps[1], need.lines[1]);
-    let high = crossbars(modules.nodes, taps[2], need.lines[2]);
-    let root = crossbars(1, taps[3], need.lines[3]);
-    low.saturating_add(middle)
-        .saturating_add(high)
-        .saturating_add(root)
+    low_crosspoints(need, hextants, chips).saturating_add(high_crosspoints(need, modules, pins))
 }
 
 /// How good a plan of these needs is.

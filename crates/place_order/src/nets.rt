@@ -1,7 +1,7 @@
 //! The nets of a design whose covers are tables.
 
 use crate::tree::small;
-use design_netlist::{Cover, LatchDef, NetlistData};
+use design_netlist::{Cover, LatchDef, NetlistData, PortDef};
 use std::alloc::{AllocError, Global};
 
 /// No table.
@@ -25,17 +25,38 @@ pub struct Nets {
     pub pins: usize,
 }
 
+// A net without tables.
+fn no_tables(alloc: Global) -> TablesOfNet {
+    TablesOfNet {
+        tables: Vec::new(alloc),
+        twice: Vec::new(alloc),
+        pins: 0,
+    }
+}
+
 // Nets without tables.
 fn no_nets(alloc: Global, count: usize) -> Result<Vec<TablesOfNet>, AllocError> {
     let mut nets = Vec::with_capacity(alloc, count)?;
     'nets: for _ in 0..count {
-        nets.push(TablesOfNet {
-            tables: Vec::new(alloc),
-            twice: Vec::new(alloc),
-            pins: 0,
-        })?;
+        nets.push(no_tables(alloc))?;
     }
     Ok(nets)
+}
+
+// Puts a table on a net.
+fn add_table(nets: &mut Vec<TablesOfNet>, place: usize, table: u32) -> Result<(), AllocError> {
+    if place < nets.len() {
+        nets[place].tables.push(table)?;
+    }
+    Ok(())
+}
+
+// Notes that a table has a net at one pin more.
+fn add_twice(nets: &mut Vec<TablesOfNet>, place: usize, table: u32) -> Result<(), AllocError> {
+    if place < nets.len() {
+        nets[place].twice.push(table)?;
+    }
+    Ok(())
 }
 
 // Puts a table on a net, if it wasn't put there last.
@@ -44,14 +65,31 @@ fn join(
     own: &mut Vec<u32>,
     signal: u32,
     table: u32,
-) -> Result<bool, AllocError> {
+) -> Result<(), AllocError> {
     let place = signal as usize;
     if place >= nets.len() || own.contains(&signal) {
-        return Ok(false);
+        return Ok(());
     }
-    nets[place].tables.push(table)?;
+    add_table(nets, place, table)?;
     own.push(signal)?;
-    Ok(true)
+    Ok(())
+}
+
+// Puts a table on the nets that it reads, where it drives one.
+fn join_ins(
+    nets: &mut Vec<TablesOfNet>,
+    own: &mut Vec<u32>,
+    table: u32,
+    out: u32,
+    ins: &[u32],
+) -> Result<(), AllocError> {
+    'ins: for signal in ins {
+        join(nets, own, *signal, table)?;
+        if *signal == out {
+            add_twice(nets, out as usize, table)?;
+        }
+    }
+    Ok(())
 }
 
 // The nets of a table that drives a signal and reads others.
@@ -63,13 +101,8 @@ fn join_table(
     ins: &[u32],
 ) -> Result<Vec<u32>, AllocError> {
     let mut own = Vec::new(alloc);
-    let _ = join(nets, &mut own, out, table)?;
-    'ins: for signal in ins {
-        let _ = join(nets, &mut own, *signal, table)?;
-        if *signal == out && (out as usize) < nets.len() {
-            nets[out as usize].twice.push(table)?;
-        }
-    }
+    join(nets, &mut own, out, table)?;
+    join_ins(nets, &mut own, table, out, ins)?;
     Ok(own)
 }
 
@@ -82,7 +115,8 @@ fn join_covers(
 ) -> Result<(), AllocError> {
     'covers: for cover in covers {
         let table = small(of.len());
-        of.push(join_table(alloc, nets, table, cover.out, cover.ins.as_slice())?)?;
+        let own = join_table(alloc, nets, table, cover.out, cover.ins.as_slice())?;
+        of.push(own)?;
     }
     Ok(())
 }
@@ -96,32 +130,48 @@ fn join_latches(
 ) -> Result<(), AllocError> {
     'latches: for latch in latches {
         let table = small(of.len());
-        of.push(join_table(alloc, nets, table, latch.out, &[latch.from])?)?;
+        let own = join_table(alloc, nets, table, latch.out, &[latch.from])?;
+        of.push(own)?;
     }
     Ok(())
 }
 
-// Pins of inputs and outputs.
-fn add_pins(nets: &mut Vec<TablesOfNet>, draft: &NetlistData) {
-    let inputs = draft.inputs.as_slice().iter();
-    'ports: for port in inputs.chain(draft.outputs.as_slice().iter()) {
-        let place = port.signal as usize;
-        if place < nets.len() {
-            nets[place].pins = nets[place].pins.saturating_add(1);
-        }
+// One more pin of a net.
+fn add_pin(nets: &mut Vec<TablesOfNet>, place: usize) {
+    if place < nets.len() {
+        nets[place].pins = nets[place].pins.saturating_add(1);
     }
+}
+
+// Pins of inputs or outputs.
+fn add_pins(nets: &mut Vec<TablesOfNet>, ports: &[PortDef]) {
+    'ports: for port in ports {
+        add_pin(nets, port.signal as usize);
+    }
+}
+
+// The tables of covers and latches; how many come before those of latches.
+fn join_all(
+    alloc: Global,
+    nets: &mut Vec<TablesOfNet>,
+    of: &mut Vec<Vec<u32>>,
+    draft: &NetlistData,
+) -> Result<usize, AllocError> {
+    join_covers(alloc, nets, of, draft.covers.as_slice())?;
+    let split = of.len();
+    join_latches(alloc, nets, of, draft.latches.as_slice())?;
+    Ok(split)
 }
 
 /// The nets of a design.
 pub fn nets_of(alloc: Global, draft: &NetlistData) -> Result<Nets, AllocError> {
-    let mut nets = no_nets(alloc, draft.names.len())?;
-    let mut of = Vec::new(alloc);
-    join_covers(alloc, &mut nets, &mut of, draft.covers.as_slice())?;
-    let split = of.len();
-    join_latches(alloc, &mut nets, &mut of, draft.latches.as_slice())?;
-    add_pins(&mut nets, draft);
     let inputs = draft.inputs.as_slice().len();
     let outputs = draft.outputs.as_slice().len();
+    let mut nets = no_nets(alloc, draft.names.len())?;
+    let mut of = Vec::new(alloc);
+    let split = join_all(alloc, &mut nets, &mut of, draft)?;
+    add_pins(&mut nets, draft.inputs.as_slice());
+    add_pins(&mut nets, draft.outputs.as_slice());
     Ok(Nets {
         nets,
         of,

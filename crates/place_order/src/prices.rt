@@ -9,7 +9,7 @@ const PARTS: f64 = 1_000_000.0;
 
 /// The prices of crossings and visits at all levels, hextants first; of visits at the root; and what heat is measured in: what one
 /// more net in the fullest hextant costs, or all that the seats cost.
-#[derive(Clone, Copy, Debug)]
+#[derive(Clone, Copy)]
 pub struct Prices {
     pub crossings: [Price; 3],
     pub visits: [Price; 3],

@@ -76,7 +76,8 @@ struct Best {
 fn places_of(alloc: Global, tree: &Tree, seats: &[u32]) -> Result<Vec<u32>, AllocError> {
     let mut places = Vec::with_capacity(alloc, seats.len())?;
     'seats: for seat in seats {
-        places.push(tree.seats.get(*seat as usize).copied().unwrap_or(0))?;
+        let place = tree.seats.get(*seat as usize).copied().unwrap_or(0);
+        places.push(place)?;
     }
     Ok(places)
 }
@@ -92,13 +93,26 @@ fn keep(alloc: Global, best: &mut Best, trial: &Trial<'_>) -> Result<Need, Alloc
     let need = needs(alloc, trial.nets, trial.tree, &trial.seats)?;
     let worth = worth_of(&need, trial.tree, trial.nets.pins);
     if is_better(worth, best.worth) {
+        let seats = Vec::from_slice(alloc, &trial.seats)?;
+        let room = trial.room;
         best.worth = worth;
-        best.order = Order {
-            seats: Vec::from_slice(alloc, &trial.seats)?,
-            room: trial.room,
-        };
+        best.order = Order { seats, room };
     }
     Ok(need)
+}
+
+// Sets the prices by what the seats need, and searches on.
+fn press(
+    alloc: Global,
+    trial: &mut Trial<'_>,
+    luck: &mut Draws,
+    need: &Need,
+    steps: usize,
+) -> Result<(), AllocError> {
+    let prices = prices_of(need, trial.tree, trial.nets.pins);
+    trial.build(alloc, &prices)?;
+    trial.anneal(luck, PRESSED, steps);
+    Ok(())
 }
 
 // Sets the prices in turns by what the seats need, so that the greatest counts fall.
@@ -111,9 +125,7 @@ fn tighten(
 ) -> Result<(), AllocError> {
     let mut need = keep(alloc, best, trial)?;
     'turns: for _ in 0..TURNS {
-        let prices = prices_of(&need, trial.tree, trial.nets.pins);
-        trial.build(alloc, &prices)?;
-        trial.anneal(luck, PRESSED, steps);
+        press(alloc, trial, luck, &need, steps)?;
         need = keep(alloc, best, trial)?;
         if best.worth.beyond == 0 {
             break;
@@ -122,16 +134,29 @@ fn tighten(
     Ok(())
 }
 
+// The seat of a table as it is; of a latch, behind those for covers.
+fn plain_seat(split: usize, table: usize, room: usize) -> usize {
+    if table < split {
+        table
+    } else {
+        table.saturating_sub(split).saturating_add(room)
+    }
+}
+
+// The seat of a table where covers are spread evenly.
+fn even_seat(split: usize, table: usize, room: usize) -> usize {
+    if table < split {
+        divide_by(table.saturating_mul(room), split)
+    } else {
+        plain_seat(split, table, room)
+    }
+}
+
 // The seats as they are, latches from a seat on.
 fn plain_seats(alloc: Global, nets: &Nets, room: usize) -> Result<Vec<u32>, AllocError> {
     let mut seats = Vec::with_capacity(alloc, nets.of.len())?;
     'tables: for table in 0..nets.of.len() {
-        let seat = if table < nets.split {
-            table
-        } else {
-            table.saturating_sub(nets.split).saturating_add(room)
-        };
-        seats.push(small(seat))?;
+        seats.push(small(plain_seat(nets.split, table, room)))?;
     }
     Ok(seats)
 }
@@ -140,12 +165,7 @@ fn plain_seats(alloc: Global, nets: &Nets, room: usize) -> Result<Vec<u32>, Allo
 fn even_seats(alloc: Global, nets: &Nets, room: usize) -> Result<Vec<u32>, AllocError> {
     let mut seats = Vec::with_capacity(alloc, nets.of.len())?;
     'tables: for table in 0..nets.of.len() {
-        let seat = if table < nets.split {
-            divide_by(table.saturating_mul(room), nets.split)
-        } else {
-            table.saturating_sub(nets.split).saturating_add(room)
-        };
-        seats.push(small(seat))?;
+        seats.push(small(even_seat(nets.split, table, room)))?;
     }
     Ok(seats)
 }
@@ -167,6 +187,27 @@ fn is_hopeless(over: u32, round: usize) -> bool {
     round >= EARLY_ROUNDS && over as usize > PATIENCE.saturating_mul(left)
 }
 
+// Searches on in rounds until an order fits, or there is no hope.
+fn run_spread(
+    alloc: Global,
+    best: &mut Best,
+    trial: &mut Trial<'_>,
+    run: Run,
+) -> Result<(), AllocError> {
+    let steps = divide_by(run.tries, SPREAD_ROUNDS);
+    let mut luck = Draws::new(run.chances);
+    let mut heat = SPREAD_HEAT;
+    'rounds: for round in 0..SPREAD_ROUNDS {
+        trial.round(&mut luck, steps, heat);
+        let _ = keep(alloc, best, trial)?;
+        if best.worth.beyond == 0 || run.ends && is_hopeless(trial.over(), round) {
+            break;
+        }
+        heat = heat * SPREAD_FALL;
+    }
+    Ok(())
+}
+
 // Searches from an even spread until an order fits; what the last seats cost.
 fn search_spread(
     alloc: Global,
@@ -176,17 +217,8 @@ fn search_spread(
     run: Run,
 ) -> Result<i64, AllocError> {
     let seats = even_seats(alloc, nets, run.room)?;
-    let mut luck = Draws::new(run.chances);
     let mut trial = trial_of(alloc, nets, tree, seats, run.room, &steep_prices(tree))?;
-    let mut heat = SPREAD_HEAT;
-    'rounds: for round in 0..SPREAD_ROUNDS {
-        trial.round(&mut luck, divide_by(run.tries, SPREAD_ROUNDS), heat);
-        let _ = keep(alloc, best, &trial)?;
-        if best.worth.beyond == 0 || run.ends && is_hopeless(trial.over(), round) {
-            break;
-        }
-        heat = heat * SPREAD_FALL;
-    }
+    run_spread(alloc, best, &mut trial, run)?;
     Ok(trial.cost)
 }
 
@@ -222,6 +254,50 @@ fn best_room(
     Ok(found)
 }
 
+// Whence a search begins: with so many seats for covers, from seats that are filled anew or from the order as it is.
+#[derive(Clone, Copy)]
+struct Begin {
+    room: usize,
+    steps: usize,
+    anew: bool,
+}
+
+// The seats with which a search begins.
+fn seats_at(alloc: Global, nets: &Nets, tree: &Tree, begin: Begin) -> Result<Vec<u32>, AllocError> {
+    if begin.anew {
+        grow_seats(alloc, nets, tree, begin.room)
+    } else {
+        plain_seats(alloc, nets, begin.room)
+    }
+}
+
+// A trial with the seats with which a search begins.
+fn trial_at<'a>(
+    alloc: Global,
+    nets: &'a Nets,
+    tree: &'a Tree,
+    begin: Begin,
+) -> Result<Trial<'a>, AllocError> {
+    let seats = seats_at(alloc, nets, tree, begin)?;
+    let need = needs(alloc, nets, tree, &seats)?;
+    let prices = prices_of(&need, tree, nets.pins);
+    trial_of(alloc, nets, tree, seats, begin.room, &prices)
+}
+
+// Searches from a beginning.
+fn search_from(
+    alloc: Global,
+    best: &mut Best,
+    nets: &Nets,
+    tree: &Tree,
+    begin: Begin,
+) -> Result<(), AllocError> {
+    let mut trial = trial_at(alloc, nets, tree, begin)?;
+    let mut luck = Draws::new(1);
+    trial.anneal(&mut luck, if begin.anew { WARM } else { HOT }, begin.steps);
+    tighten(alloc, best, &mut trial, &mut luck, begin.steps / 3)
+}
+
 // Searches with so many seats for covers, from both beginnings.
 fn search_room(
     alloc: Global,
@@ -233,16 +309,7 @@ fn search_room(
 ) -> Result<(), AllocError> {
     let steps = effort.saturating_mul(nets.of.len());
     'beginnings: for anew in [false, true] {
-        let seats = if anew {
-            grow_seats(alloc, nets, tree, room)?
-        } else {
-            plain_seats(alloc, nets, room)?
-        };
-        let mut luck = Draws::new(1);
-        let prices = prices_of(&needs(alloc, nets, tree, &seats)?, tree, nets.pins);
-        let mut trial = trial_of(alloc, nets, tree, seats, room, &prices)?;
-        trial.anneal(&mut luck, if anew { WARM } else { HOT }, steps);
-        tighten(alloc, best, &mut trial, &mut luck, steps / 3)?;
+        search_from(alloc, best, nets, tree, Begin { room, steps, anew })?;
         if best.worth.beyond == 0 {
             break;
         }
@@ -255,6 +322,27 @@ fn round_up(number: usize, span: usize) -> usize {
     divide_by(number.saturating_add(span.saturating_sub(1)), span).saturating_mul(span)
 }
 
+// Adds a number of seats with which the first latch, the middle one, or the end behind the last, begins a node of so many tables.
+fn add_three(rooms: &mut Vec<usize>, nets: &Nets, span: usize) -> Result<(), AllocError> {
+    let latches = nets.of.len().saturating_sub(nets.split);
+    let middle = round_up(nets.split.saturating_add(latches / 2), span);
+    let end = round_up(nets.of.len(), span);
+    rooms.push(round_up(nets.split, span))?;
+    rooms.push(middle.saturating_sub(latches / 2))?;
+    rooms.push(end.saturating_sub(latches))?;
+    Ok(())
+}
+
+// Adds those of all levels, if there are latches.
+fn add_rooms(rooms: &mut Vec<usize>, nets: &Nets, tree: &Tree) -> Result<(), AllocError> {
+    'tiers: for tier in &tree.tiers {
+        if nets.of.len() > nets.split {
+            add_three(rooms, nets, tier.span)?;
+        }
+    }
+    Ok(())
+}
+
 // How many seats covers may have: as many as there are, the most, and for latches those with which the first of these, the middle
 // one, or the end behind the last, begins a node.
 fn rooms_of(
@@ -263,19 +351,10 @@ fn rooms_of(
     tree: &Tree,
     most: usize,
 ) -> Result<Vec<usize>, AllocError> {
-    let latches = nets.of.len().saturating_sub(nets.split);
     let mut rooms = Vec::new(alloc);
     rooms.push(nets.split)?;
     rooms.push(most)?;
-    'tiers: for tier in &tree.tiers {
-        if latches > 0 {
-            rooms.push(round_up(nets.split, tier.span))?;
-            let middle = round_up(nets.split.saturating_add(latches / 2), tier.span);
-            rooms.push(middle.saturating_sub(latches / 2))?;
-            let end = round_up(nets.of.len(), tier.span);
-            rooms.push(end.saturating_sub(latches))?;
-        }
-    }
+    add_rooms(&mut rooms, nets, tree)?;
     rooms.retain(|room| *room >= nets.split && *room <= most);
     rooms.sort_unstable();
     rooms.dedup();
@@ -363,6 +442,24 @@ fn search_rooms(
     Ok(())
 }
 
+// Searches with at most so many seats for covers.
+fn search(
+    alloc: Global,
+    best: &mut Best,
+    nets: &Nets,
+    tree: &Tree,
+    room: usize,
+    effort: Effort,
+) -> Result<(), AllocError> {
+    let rooms = rooms_of(alloc, nets, tree, room)?;
+    search_first(alloc, best, nets, tree, &rooms, effort)?;
+    let beyond = best.worth.beyond;
+    if effort == Effort::Full && beyond > 0 && beyond <= HOPELESS {
+        search_rooms(alloc, best, nets, tree, &rooms)?;
+    }
+    Ok(())
+}
+
 /// The best order that was found with at most so many seats left free.
 pub fn best_order(
     alloc: Global,
@@ -371,18 +468,13 @@ pub fn best_order(
     spare: usize,
     effort: Effort,
 ) -> Result<Order, AllocError> {
-    let mut best = first_best(alloc, nets, tree)?;
     let count = nets.of.len();
     let most = count.saturating_add(spare).min(tree.seats.len());
     let latches = count.saturating_sub(nets.split);
-    if root_visits(nets, tree) as usize > tree.lines {
-        return Ok(best.order);
-    }
-    let rooms = rooms_of(alloc, nets, tree, most.saturating_sub(latches))?;
-    search_first(alloc, &mut best, nets, tree, &rooms, effort)?;
-    let beyond = best.worth.beyond;
-    if effort == Effort::Full && beyond > 0 && beyond <= HOPELESS {
-        search_rooms(alloc, &mut best, nets, tree, &rooms)?;
+    let mut best = first_best(alloc, nets, tree)?;
+    if root_visits(nets, tree) as usize <= tree.lines {
+        let room = most.saturating_sub(latches);
+        search(alloc, &mut best, nets, tree, room, effort)?;
     }
     Ok(best.order)
 }

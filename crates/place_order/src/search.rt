@@ -19,7 +19,7 @@ const ALWAYS: Crosses = Crosses {
 };
 
 /// How hot a search begins, and by how much the heat falls in each round.
-#[derive(Clone, Copy, Debug)]
+#[derive(Clone, Copy)]
 pub struct Heat {
     pub first: f64,
     pub fall: f64,
@@ -109,16 +109,15 @@ fn levels_of(
 ) -> Result<Levels, AllocError> {
     let count = nets.nets.len();
     let [hextants, chips, modules] = &tree.tiers;
+    let [low, middle, high] = prices.crossings;
+    let [low_visits, middle_visits, high_visits] = prices.visits;
+    let hextants = level_of(alloc, hextants, count, low, low_visits)?;
+    let chips = level_of(alloc, chips, count, middle, middle_visits)?;
+    let modules = level_of(alloc, modules, count, high, high_visits)?;
     Ok(Levels {
-        hextants: level_of(
-            alloc,
-            hextants,
-            count,
-            prices.crossings[0],
-            prices.visits[0],
-        )?,
-        chips: level_of(alloc, chips, count, prices.crossings[1], prices.visits[1])?,
-        modules: level_of(alloc, modules, count, prices.crossings[2], prices.visits[2])?,
+        hextants,
+        chips,
+        modules,
     })
 }
 
@@ -163,11 +162,25 @@ impl Levels {
 }
 
 // Ways at all levels.
-#[derive(Clone, Copy, Debug)]
+#[derive(Clone, Copy)]
 struct Ways {
     hextants: Way,
     chips: Way,
     modules: Way,
+}
+
+// What is counted at the nodes of all levels.
+#[derive(Drop)]
+struct Nodes {
+    levels: Levels,
+    root: Gauge,
+}
+
+// Nodes without tables.
+fn nodes_of(alloc: Global, nets: &Nets, tree: &Tree, prices: &Prices) -> Result<Nodes, AllocError> {
+    let levels = levels_of(alloc, nets, tree, prices)?;
+    let root = root_of(alloc, nets, tree, prices.root)?;
+    Ok(Nodes { levels, root })
 }
 
 /// A trial that begins with these seats.
@@ -180,20 +193,23 @@ pub fn trial_of<'a>(
     prices: &Prices,
 ) -> Result<Trial<'a>, AllocError> {
     let latches = nets.of.len().saturating_sub(nets.split);
+    let seat_at = seats_by_table(alloc, tree)?;
+    let holders = vec![in alloc; NOTHING; tree.seats.len()]?;
+    let nodes = nodes_of(alloc, nets, tree, prices)?;
     let mut trial = Trial {
         nets,
         tree,
         seats,
         room,
         end: room.saturating_add(latches),
-        holders: Vec::new(alloc),
-        seat_at: seats_by_table(alloc, tree)?,
-        levels: levels_of(alloc, nets, tree, prices)?,
-        root: root_of(alloc, nets, tree, prices.root)?,
+        holders,
+        seat_at,
+        levels: nodes.levels,
+        root: nodes.root,
         unit: prices.unit,
         cost: 0,
     };
-    trial.build(alloc, prices)?;
+    trial.count();
     Ok(trial)
 }
 
@@ -271,12 +287,17 @@ impl<'a> Trial<'a> {
         self.levels = levels_of(alloc, self.nets, self.tree, prices)?;
         self.root = root_of(alloc, self.nets, self.tree, prices.root)?;
         self.unit = prices.unit;
+        self.count();
+        Ok(())
+    }
+
+    // Counts all tables and nets, of which none is counted.
+    fn count(&mut self) {
         'tables: for table in 0..self.seats.len() {
             self.settle(table);
         }
         self.charge();
         self.cost = self.levels.cost().wrapping_add(self.root.cost_of_all());
-        Ok(())
     }
 
     /// How many ports and lines are wanting at all nodes.
@@ -366,8 +387,8 @@ impl<'a> Trial<'a> {
         hextants.node(place) == hextants.node(other)
     }
 
-    // A seat in a node that has a table of a net of this table.
-    fn aim(&self, luck: &mut Draws, table: usize) -> Option<usize> {
+    // A table of the machine in a node that has a table of a net of this table.
+    fn target(&self, luck: &mut Draws, table: usize) -> Option<usize> {
         let net = Self::one_of(luck, nets_at(self.nets, table));
         let near = Self::one_of(luck, tables_at(self.nets, net));
         let place = self.place(self.seat(near));
@@ -376,17 +397,28 @@ impl<'a> Trial<'a> {
             return None;
         }
         let first = place.saturating_sub(place % span);
-        let target = first.saturating_add(luck.portion(span));
+        Some(first.saturating_add(luck.portion(span)))
+    }
+
+    // Whether who holds a seat may have another one instead.
+    fn may_yield(&self, seat: usize, from: usize) -> bool {
+        let other = self.holder(seat);
+        other == NOTHING || self.may_have(other as usize, from)
+    }
+
+    // A seat in a node that has a table of a net of this table.
+    fn aim(&self, luck: &mut Draws, table: usize) -> Option<usize> {
+        let target = self.target(luck, table)?;
         let seat = *self.seat_at.get(target)? as usize;
         let from = self.seat(table);
         if !self.may_have(table, seat) || self.is_near(self.place(from), target) {
             return None;
         }
-        let other = self.holder(seat);
-        if other != NOTHING && !self.may_have(other as usize, from) {
-            return None;
+        if self.may_yield(seat, from) {
+            Some(seat)
+        } else {
+            None
         }
-        Some(seat)
     }
 
     // Tries one exchange at this heat.

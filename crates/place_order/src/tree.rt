@@ -30,6 +30,20 @@ pub struct Tree {
     pub tables: usize,
 }
 
+impl Tree {
+    /// How many tables a hextant has.
+    pub fn span(&self) -> usize {
+        let [hextants, _, _] = &self.tiers;
+        hextants.span
+    }
+
+    /// How many hextants there are.
+    pub fn hextants(&self) -> usize {
+        let [hextants, _, _] = &self.tiers;
+        hextants.nodes
+    }
+}
+
 // The node above a node; the root itself.
 fn above(shape: &Shape, node: Node) -> Node
     requires { node.0 < nodes_of shape.now }
@@ -151,15 +165,25 @@ pub fn tree_of(alloc: Global, defects: &Defects) -> Result<Tree, AllocError> {
     let chip = hextant.saturating_mul(counts.hextants as usize);
     let module = chip.saturating_mul(counts.chips as usize);
     let lines = counts.lines[0] as usize;
+    let low = tier_of(alloc, defects, 0, hextant, hextants)?;
+    let middle = tier_of(alloc, defects, 1, chip, chips)?;
+    let high = tier_of(alloc, defects, 2, module, modules)?;
+    tree_with(alloc, defects, [low, middle, high], lines)
+}
+
+// The tree with these levels, and so many lines of the root.
+fn tree_with(
+    alloc: Global,
+    defects: &Defects,
+    tiers: [Tier; 3],
+    lines: usize,
+) -> Result<Tree, AllocError> {
+    let seats = free_tables(alloc, defects)?;
     Ok(Tree {
-        tiers: [
-            tier_of(alloc, defects, 0, hextant, hextants)?,
-            tier_of(alloc, defects, 1, chip, chips)?,
-            tier_of(alloc, defects, 2, module, modules)?,
-        ],
+        tiers,
         lines,
         no_lines: root_wanting(defects, lines),
-        seats: free_tables(alloc, defects)?,
+        seats,
         tables: defects.shape().tables() as usize,
     })
 }

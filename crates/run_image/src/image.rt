@@ -1,13 +1,14 @@
 //! The rows of an image.
 ghost use Rattle.std.specs.Prelude.{◌≡◌, ◌≤◌, ℕ, List, ◌∷◌, ◌++◌, [], Some, OnOk, IfOk, IfErr, IsSome, length};
-ghost use Rattle.run_image.specs.Copying.{repeated, AreEqualShares};
+ghost use Rattle.run_image.specs.Copying.{repeated, share, AreEqualShares};
 ghost use Rattle.machine_shape.specs.Shape.{pins_of};
 ghost use Rattle.rig.specs.Rig.{Narrows};
 ghost use Rattle.run_image.specs.Pins.{pins_in};
 ghost use Rattle.run_image.specs.Run.{RunsRow};
+ghost use Rattle.design_vectors.specs.Readings.{new_reading};
 ghost use Rattle.design_vectors.specs.Rows.{row_line};
 ghost use Rattle.cmd_steps.specs.Vocabulary.{IsBegun, file_of, StoreState, SinkState, shape_of, width_of, StandsIn, outside, around, Took};
-ghost use Rattle.cmd_steps.specs.Vocabulary.{Follows, all_rows, WaitsOrPuts};
+ghost use Rattle.cmd_steps.specs.Vocabulary.{Follows, all_rows, most_vector_bytes, WaitsOrPuts};
 ghost use Rattle.run_image.specs.Rows.{RowsBegin, copied_rows, image_rows, image_course};
 ghost use Rattle.run_image.specs.Running.{IsFitting, IsLoaded, Keeps, CycleGives, CycleStops, DriveStops, CompareStops, prepares, at_rows};
 
@@ -18,7 +19,7 @@ use cmd_steps::{Refusal, RowBlock, Stop, next_vector, open_vectors, write};
 use design_vectors::VectorText;
 use machine_image::Image;
 use rig::Rig;
-use std::alloc::Global;
+use std::alloc::{AllocError, Global};
 
 /// For how many rows the rig is asked for room.
 const ROOM: u32 = 4_096;
@@ -52,6 +53,50 @@ fn widths(image: &Image) -> (u32, u32)
     (inputs as u32, outputs as u32)
 }
 
+// The buffers of rows: no vector was read, and no row waits.
+#[derive(Drop)]
+struct Buffers {
+    vectors: VectorText,
+    vector: Vec<bool>,
+    drive: Vec<bool>,
+    reading: Vec<bool>,
+    row: Vec<bool>,
+    block: RowBlock,
+}
+
+// Takes all memory for rows of so many input and output pins.
+fn buffers_for(
+    alloc: Global,
+    copies: Copies,
+    inputs: u32,
+    outputs: u32,
+) -> Result<Buffers, AllocError>
+    ensures vectors { IfOk result (λ b. b.vectors ≡ new_reading (share copies inputs) most_vector_bytes) }
+    ensures vector { IfOk result (λ b. length b.vector.items ≡ share copies inputs) }
+    ensures drive { IfOk result (λ b. length b.drive.items ≡ inputs) }
+    ensures reading { IfOk result (λ b. length b.reading.items ≡ outputs) }
+    ensures row { IfOk result (λ b. length b.row.items ≡ share copies outputs) }
+    ensures block { IfOk result (λ b. b.block.width ≡ share copies outputs) }
+    ensures none { IfOk result (λ b. b.block.text ≡ []) }
+{
+    let width = share_of(copies, inputs);
+    let count = share_of(copies, outputs);
+    let vector = vec![in alloc; false; width as usize]?;
+    let drive = vec![in alloc; false; inputs as usize]?;
+    let reading = vec![in alloc; false; outputs as usize]?;
+    let row = vec![in alloc; false; count as usize]?;
+    let vectors = VectorText::new(alloc, width)?;
+    let block = RowBlock::new(alloc, count)?;
+    Ok(Buffers {
+        vectors,
+        vector,
+        drive,
+        reading,
+        row,
+        block,
+    })
+}
+
 // Loads an image, and takes all memory for its rows.
 fn prepare(
     alloc: Global,
@@ -72,25 +117,18 @@ fn prepare(
         Took [] (prepares old new) result (outside store old sink) (outside store new sink) }
 {
     let (inputs, outputs) = widths(&image);
-    let width = share_of(copies, inputs);
-    let count = share_of(copies, outputs);
-    let vectors = VectorText::new(alloc, width)?;
-    let vector = vec![in alloc; false; width as usize]?;
-    let drive = vec![in alloc; false; inputs as usize]?;
-    let reading = vec![in alloc; false; outputs as usize]?;
-    let row = vec![in alloc; false; count as usize]?;
-    let block = RowBlock::new(alloc, count)?;
+    let buffers = buffers_for(alloc, copies, inputs, outputs)?;
     let run = begin(alloc, rig, &image, ROOM)?;
     Ok(Running {
         image,
         copies,
         run,
-        vectors,
-        vector,
-        drive,
-        reading,
-        row,
-        block,
+        vectors: buffers.vectors,
+        vector: buffers.vector,
+        drive: buffers.drive,
+        reading: buffers.reading,
+        row: buffers.row,
+        block: buffers.block,
     })
 }
 

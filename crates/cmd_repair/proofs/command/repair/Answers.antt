@@ -1,8 +1,10 @@
-use Rattle.std.proofs.Common.{◌∙◌, [], ◌∷◌, sym}
+use Rattle.std.proofs.Common.{[], ◌∷◌, refl}
 use Rattle.std.proofs.lemmas.Result.{err_from_is_err_and}
-use Rattle.cmd_steps.specs.Texts.{reads_image}
-use Rattle.cmd_steps.proofs.ListFiles.{no-machine, no-list, no-third, all-read}
+use Rattle.base_io.specs.Told.{Told}
+use Rattle.cmd_steps.specs.Vocabulary.{reads_machine, reads_defects, reads_image, behind_list, behind_machine}
+use Rattle.cmd_steps.proofs.ListFiles.{no-machine, no-list}
 use Rattle.cmd_steps.proofs.Making.{nothing}
+use Rattle.cmd_steps.proofs.Reading.{none-read, more-read, file-gives}
 use Rattle.cmd_repair.specs.Repair.{image_taken}
 use Rattle.cmd_repair.proofs.RepairLaws.{repair-lawful}
 use Rattle.cmd_repair.proofs.command.repair.Goals as goal
@@ -16,14 +18,8 @@ returns-in_err-shape-clause-lawful g c = repair-lawful c.repair_plans_are_decide
 pub returns-in_err-list-clause-lawful : goal.returns-in_err-list-clause-lawful
 returns-in_err-list-clause-lawful g c = repair-lawful c.repair_plans_are_decided.ensures.never_both _ _ _
 
-pub returns-in_err-image-clause-lawful : goal.returns-in_err-image-clause-lawful
-returns-in_err-image-clause-lawful g c = repair-lawful c.repair_plans_are_decided.ensures.never_both _ _ _
-
-pub repair_and_write-requires : goal.repair_and_write-requires
-repair_and_write-requires g c =
-    let list = c.in_ok-list.ensures.took nothing.rig nothing.sink in
-    let image = c.in_ok-image.ensures.took nothing.rig nothing.sink in
-    list.gives.0 ∙ sym image.gives.0
+pub read_and_repair-requires : goal.read_and_repair-requires
+read_and_repair-requires g c = (c.in_ok-list.ensures.took nothing.rig nothing.sink).gives.0
 
 pub returns-in_err-shape-clause-does : goal.returns-in_err-shape-clause-does
 returns-in_err-shape-clause-does g c =
@@ -35,16 +31,22 @@ returns-in_err-list-clause-does g c =
     let p = err_from_is_err_and c.from_residual-in_err-list.result c.from_residual-in_err-list.ensures.1 in
     λ rig. rw (p.1, p.2) (no-list reads_image image_taken _ _ _ (c.in_ok-shape.ensures.took rig _) (c.in_err-list.ensures.took rig _))
 
-pub returns-in_err-image-clause-does : goal.returns-in_err-image-clause-does
-returns-in_err-image-clause-does g c =
-    let p = err_from_is_err_and c.from_residual-in_err-image.result c.from_residual-in_err-image.ensures.1 in
-    λ rig.
-    rw (p.1, p.2) (no-third reads_image image_taken _ _ _ (c.in_ok-shape.ensures.took rig _) (c.in_ok-list.ensures.took rig _)
-    (c.in_err-image.ensures.took rig _))
-
 pub returns-clause-does : goal.returns-clause-does
 returns-clause-does g c =
-    let files = c.args.image.now ∷ c.args.defects.now ∷ c.args.machine.now ∷ [] in
+    let s0 = g.S.Store.store_state c.args.store.now in
+    let s = g.S.Store.store_state c.read_and_repair.new.store in
+    let machine = c.args.machine.now in
+    let defects = c.args.defects.now in
+    let m = c.in_ok-shape.shape in
+    let d = c.in_ok-list.list in
+    let reads_list = λ (told : Told). reads_defects told m in
     λ rig.
-    all-read reads_image image_taken _ _ _ (c.in_ok-shape.ensures.took rig _) (c.in_ok-list.ensures.took rig _)
-    (c.in_ok-image.ensures.took rig _) (c.repair_and_write.ensures files (g.S.Store.store_state c.args.store.now) _ rig)
+    let took_machine = c.in_ok-shape.ensures.took rig (g.K.Sink.sink_state c.args.sink.now) in
+    let took_list = c.in_ok-list.ensures.took rig (g.K.Sink.sink_state c.args.sink.now) in
+    let one = more-read reads_machine machine [] s0 m _ _ (none-read s0) took_machine in
+    let two = more-read reads_list defects (machine ∷ []) s0 d _ _ one took_list in
+    let rest = c.read_and_repair.ensures s0 (defects ∷ machine ∷ []) rig two.contents two.place in
+    file-gives reads_machine machine [] s0 (behind_machine reads_image image_taken machine defects c.args.image.now s0 s) s _ _ _ m _ _ _ _
+    (none-read s0) took_machine
+    (file-gives reads_list defects (machine ∷ []) s0 (behind_list reads_image image_taken machine defects c.args.image.now s0 s m) s _ (Unit {0}) _ d _ _ _ _
+    one took_list rest tt) refl

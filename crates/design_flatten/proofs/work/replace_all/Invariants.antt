@@ -1,15 +1,15 @@
 use Rattle.std.proofs.Common.{◌≡◌, ◌≤◌, ◌++◌, ◌+◌, ◌*◌, ◌-◌, List, length, vec_len}
 use Rattle.design_flatten.specs.declared.model.Signal.{Signal}
 use Rattle.design_flatten.specs.Vocabulary.{Line, after, first_model, lean_models, left_of, AreFrames, AreOrigins, IsSink}
-use Rattle.design_flatten.proofs.work.substitute.Given as goal
+use Rattle.design_flatten.proofs.work.replace_all.Given as goal
 
 abbrev pub invariant-work : goal.invariant-work
 invariant-work l = record {
   most : l.replaced ≤ 65535;
-  sink : (lines : List (Line Signal)) × IsSink (first_model (lean_models l.models)).names lines l.sink × (after (lean_models l.models) l.replaced ≡ lines ++ left_of (lean_models l.models) l.stack.items);
+  sink : (lines : List (Line Signal)) × IsSink (first_model (lean_models l.bodies.models.now)).names lines l.made.sink × (after (lean_models l.bodies.models.now) l.replaced ≡ lines ++ left_of (lean_models l.bodies.models.now) l.stack.items);
   frames : AreFrames l.replaced l.stack.items;
-  count : length l.origins.items ≡ l.replaced + 1;
-  origins : AreOrigins (lean_models l.models) l.origins.items;
+  count : length l.made.origins.items ≡ l.replaced + 1;
+  origins : AreOrigins (lean_models l.bodies.models.now) l.made.origins.items;
 }
 
 abbrev pub decreases-work : goal.decreases-work
