@@ -5,7 +5,7 @@ ghost use Rattle.base_io.specs.Counts.{Rose};
 ghost use Rattle.machine_config.specs.Configuration.{setting_of};
 ghost use Rattle.diag_evidence.specs.Kept.{Advances};
 ghost use Rattle.diag_known.specs.Vocabulary.{IsFieldOf, IsKnown};
-ghost use Rattle.rig.specs.Rig.{ForEach, Narrows, shape_of};
+ghost use Rattle.rig.specs.Rig.{ForEach, Narrows, Tells, shape_of};
 ghost use Rattle.diag_check.specs.Looks.{FieldIf, RoutesIf, TablesIf, TakesAtMost, TakesInField, WholeIf};
 ghost use Rattle.diag_check.specs.Soundly.{KeepsParts, KeepsRoutes, KeepsTables, SoundIf, TakesForParts, YesIf};
 ghost use Rattle.diag_check.specs.Used.{AreInvolved, AreUsed};
@@ -237,6 +237,7 @@ pub fn quick_check(
     ensures whole_each { IfOk result (λ yes. ForEach (rig_state rig.new) (λ told. YesIf told image.now yes)) }
     ensures machine { (rig_state rig.new).machine ≡ (rig_state rig.old).machine }
     ensures narrows { Narrows (rig_state rig.old) (rig_state rig.new) }
+    ensures tells { Tells (rig_state rig.old) (rig_state rig.new) }
     ensures later { (rig_state rig.old).failures ≤ (rig_state rig.new).failures }
     ensures counted { (rig_state rig.old).loads ≤ (rig_state rig.new).loads }
     ensures loads { TakesForParts image.now (rig_state rig.old).loads (rig_state rig.new).loads }

@@ -5,7 +5,7 @@ use Rattle.machine_shape.specs.declared.Shape.{Shape}
 use Rattle.machine_shape.specs.Shape.{wires_of, crosses_of, tables_of}
 use Rattle.machine_meaning.specs.Vocabulary.{Faults, IsFaultless}
 use Rattle.machine_defects.specs.Lists.{DefectList, IsDefectList}
-use Rattle.rig.specs.Rig.{RigState, Machine, Asked, Explains, ForEach, Narrows, shape_of}
+use Rattle.rig.specs.Rig.{RigState, Machine, Asked, Explains, ForEach, Narrows, Tells, shape_of}
 use Rattle.rig.specs.declared.rig.RigFail.{RigFail}
 use Rattle.rig.specs.declared.rig.RigFail.TheVariants.{Failed, Memory}
 use Rattle.diag_machine.specs.Diagnosis.{IsDiagnosis, TakesFewLoads}
@@ -67,9 +67,9 @@ few-on m old new machine few each = record { always = few.always; faultless = by
     by f (inl told) none = few.faultless f (sym (ap (λ (m : Machine). m.faults) machine) ∙ told) none
     by f (inr e) none = (each f e).faultless f refl none
 
-module _ (m : Shape) (old new : RigState) (machine : new.machine ≡ old.machine) (narrows : Narrows old new) (store : StoreState) (sink : SinkState) where
+module _ (m : Shape) (old new : RigState) (machine : new.machine ≡ old.machine) (narrows : Narrows old new) (tells : Tells old new) (store : StoreState) (sink : SinkState) where
   list-later : old.failures ≤ new.failures → IsLater (outside store old sink) (outside store new sink)
-  list-later later = record { contents = refl; texts = ap (λ (x : Machine). x.texts) machine; kind = refl; store = omega arith; rig = later; sink = omega arith; log = log_kept machine narrows }
+  list-later later = record { contents = refl; texts = ap (λ (x : Machine). x.texts) machine; kind = refl; store = omega arith; rig = later; sink = omega arith; log = log_kept machine narrows tells }
 
   pub list-took : (d : DefectList) → old.failures ≤ new.failures → d.shape ≡ m → IsDefectList d → IsDiagnosisOn new m d.list → TakesFewLoadsOn new m old.loads new.loads → Took [] (lists_now m old new) (Ok d) (outside store old sink) (outside store new sink)
   list-took d later shape kept right few = record {

@@ -3,7 +3,7 @@ ghost use Rattle.std.specs.Prelude.{◌≡◌, ◌⊎◌, ◌≤◌, ◌<◌, �
 ghost use Rattle.base_bits.specs.Numbers.{has_number, size_of};
 ghost use Rattle.base_io.specs.Counts.{Rose};
 ghost use Rattle.machine_shape.specs.Shape.{tables_of, wires_of};
-ghost use Rattle.rig.specs.Rig.{ForEach, Narrows, shape_of};
+ghost use Rattle.rig.specs.Rig.{ForEach, Narrows, Tells, shape_of};
 ghost use Rattle.diag_evidence.specs.Kept.{Advances, KeepsNothing};
 ghost use Rattle.diag_known.specs.Vocabulary.{IsFieldOf, pins_in, IsKnown};
 ghost use Rattle.diag_known.specs.declared.verified_wire.VerifiedWire.{VerifiedWire};
@@ -435,6 +435,7 @@ pub fn diagnose_in_parts(
     ensures later { (rig_state rig.old).failures ≤ (rig_state rig.new).failures }
     ensures counted { (rig_state rig.old).loads ≤ (rig_state rig.new).loads }
     ensures narrows { Narrows (rig_state rig.old) (rig_state rig.new) }
+    ensures tells { Tells (rig_state rig.old) (rig_state rig.new) }
     ensures loads { TakesFewLoads (rig_state rig.old).machine.faults shape.now (rig_state rig.old).loads (rig_state rig.new).loads }
     ensures loads_each { ForEach (rig_state rig.new) (λ told. TakesFewLoads told shape.now (rig_state rig.old).loads (rig_state
         rig.new).loads) }
@@ -468,6 +469,7 @@ pub fn diagnose(alloc: Global, rig: &mut Box<dyn Rig>, shape: &Shape) -> Result<
     ensures later { (rig_state rig.old).failures ≤ (rig_state rig.new).failures }
     ensures counted { (rig_state rig.old).loads ≤ (rig_state rig.new).loads }
     ensures narrows { Narrows (rig_state rig.old) (rig_state rig.new) }
+    ensures tells { Tells (rig_state rig.old) (rig_state rig.new) }
     ensures loads { TakesFewLoads (rig_state rig.old).machine.faults shape.now (rig_state rig.old).loads (rig_state rig.new).loads }
     ensures loads_each { ForEach (rig_state rig.new) (λ told. TakesFewLoads told shape.now (rig_state rig.old).loads (rig_state
         rig.new).loads) }

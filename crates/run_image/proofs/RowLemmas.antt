@@ -110,7 +110,7 @@ module _ (copies : Copies) (image : ImageValue) (failures : ℕ) (begun now new 
   rig-same = (keeps.machine ∙ so_far.machine, keeps.loads ∙ so_far.loads)
 
   onward : (from to : SinkState) → to.can_lack ≡ from.can_lack → from.failures ≤ to.failures → IsLater (outside now.store now.rig from) (outside new.store new.rig to)
-  onward from to kind later = row-later now.store new.store now.rig new.rig from to keeps.store keeps.machine keeps.narrows keeps.failures kind later
+  onward from to kind later = row-later now.store new.store now.rig new.rig from to keeps.store keeps.machine keeps.narrows keeps.tells keeps.failures kind later
 
   -- one more vector for each copy
   widths-more : (vector : List Bool) → length vector ≡ share copies (length image.inputs) → All (HasWidth image) (all_repeated copies (so_far.vectors ++ vector ∷ []))
@@ -238,7 +238,7 @@ module _ (copies : Copies) (image : ImageValue) (failures : ℕ) (begun now new 
     with-it = waits-more _ _ put_now new _ _ _ _ _ _ before-it put-later keeps.store.asked driven.next.0 (was-read _ _ _ _ _ _ driven.next.1) refl rows'.row.items
 
     still : (last : SinkState) → last.can_lack ≡ new.sink.can_lack → new.sink.failures ≤ last.failures → IsLater new (outside new.store new.rig last)
-    still last kind later = row-later new.store new.store new.rig new.rig new.sink last (stays-same new.store) refl (λ f e. e) (omega arith) kind later
+    still last kind later = row-later new.store new.store new.rig new.rig new.sink last (stays-same new.store) refl (λ f e. e) (λ t. t) (omega arith) kind later
 
     -- the rows aren't written
     pub row-stops : {U : Type 0} (stop : Stop) (left : List ℕ) (last : SinkState) → WaitsOrPuts (rows'.block.text ++ row_line rows'.row.items) left (Err stop) new.sink last → Follows {T = U} ⊥ [] same_rig (all_rows work) (Err stop) begun (outside new.store new.rig last)

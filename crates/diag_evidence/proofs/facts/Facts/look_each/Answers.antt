@@ -22,6 +22,6 @@ returns-clause-seen_each g c = λ f e. record {
 pub returns-clause-advances : goal.returns-clause-advances
 returns-clause-advances g c =
     advances_by (seen_in c.args.forest.now c.look.new.reads.rows) c.in_ok-look.ensures.loads.machine c.in_ok-look.ensures.loads.later c.in_ok-look.ensures.loads.counted
-    (subst (λ (k : Kept). Gains (seen_in c.args.forest.now c.look.new.reads.rows) k c.keep_seen.new.self) c.in_ok-look.ensures.same c.keep_seen.ensures) c.in_ok-look.ensures.loads.narrows
+    (subst (λ (k : Kept). Gains (seen_in c.args.forest.now c.look.new.reads.rows) k c.keep_seen.new.self) c.in_ok-look.ensures.same c.keep_seen.ensures) c.in_ok-look.ensures.loads.narrows c.in_ok-look.ensures.loads.tells
     (look_holds _ c.args.self.now c.args.forest.now c.look.new.reads.rows c.shape-shape.ensures.forest c.requires.forest (no_feet _ c.args.forest.now c.look.new.reads.rows c.in_ok-look.ensures.looked))
     (λ f e. look_holds _ c.args.self.now c.args.forest.now c.look.new.reads.rows c.shape-shape.ensures.forest c.requires.forest (no_feet _ c.args.forest.now c.look.new.reads.rows (c.in_ok-look.ensures.looked_each f e)) f refl)
