@@ -60,7 +60,6 @@ module _ (n : ℕ) (i : ImageValue) (old new : RigState) (store : StoreState) (s
         config = driven.config;
         drives = driven.drives;
         ones_are = is.ones_are ∙ ap ones_of driven.rows_are;
-        told = driven.told;
         loads = is.loads;
       })
 

@@ -4,10 +4,9 @@ use Rattle.base_io.specs.Vocabulary.{IfTold, Wrote}
 use Rattle.machine_shape.specs.declared.Shape.{Shape}
 use Rattle.machine_meaning.specs.Faults.{Faults}
 use Rattle.machine_image.specs.Images.{ImageValue, IsImage, Reads}
-use Rattle.rig.specs.Rig.{RigState}
+use Rattle.rig.specs.Rig.{RigState, Explains}
 use Rattle.diag_check.specs.Soundly.{IsUnharmed, TakesForParts}
 use Rattle.cmd_steps.specs.Vocabulary.{Outside, IsMachineText}
-use Rattle.diag_list.specs.Possible.{MayHave}
 use Rattle.diag_list.specs.Lists.{Listed, IsListed}
 use Rattle.cmd_check.specs.Answers.{IsByList, IsTrueUnder, answer_line}
 use Rattle.cmd_check.specs.Testing.{Tried, IsTried}
@@ -37,6 +36,6 @@ pub record IsChecked (machine name image : List ℕ) (old new : Outside) : Type 
   pub image_is : IfTold (old.store.contents image) (λ bytes. Reads shape bytes given)
   pub found : IsFound given old.rig.loads new.rig answer
   pub written : Wrote old.sink.written new.sink.written (answer_line shape answer)
-  pub right : (f : Faults) → MayHave f new.rig → IsTrueUnder f given answer
-  pub whole : (f : Faults) → MayHave f new.rig → IsUnharmed f given →
+  pub right : (f : Faults) → Explains f new.rig → IsTrueUnder f given answer
+  pub whole : (f : Faults) → Explains f new.rig → IsUnharmed f given →
       (answer ≡ Sound) × TakesForParts given old.rig.loads new.rig.loads
