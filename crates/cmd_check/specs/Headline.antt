@@ -21,9 +21,10 @@ pub data IsFound (i : ImageValue) (before : ℕ) (rig : RigState) (a : Answer) :
       → IsByList l.list.list i a → rig.loads ≡ l.loads → IsFound i before rig a
 
 -- The machine of the text is attached under the name, and one line is written: that the image of the file is sound, or its first part
--- that isn't free on a list of the machine's defects. Whatever faults the machine may have, they leave an image that is called sound
--- alone, so that it runs soundly under them, and a part that is in doubt isn't sound, or is out of reach; and where none is near the
--- image and the machine is wide enough for it, it is called sound, with at most 256 loads for each part and each involved node
+-- that isn't free on a list of the machine's defects. Each set of faults that explains what was read leaves an image that is called
+-- sound alone, so that it runs soundly under it, and under it a part that is in doubt isn't sound, or is out of reach; and where one
+-- such set has no fault near the image and the machine is wide enough for it, it is called sound, with at most 256 loads for each part
+-- and each involved node
 pub record IsChecked (machine name image : List ℕ) (old new : Outside) : Type 0 where
   pub shape : Shape
   pub given : ImageValue

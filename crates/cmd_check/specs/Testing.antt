@@ -11,8 +11,8 @@ pub record Tried : Type 0 where
   pub sound : Bool
   pub loads : ℕ
 
--- Whatever faults the machine may have: what is found sound they leave alone, so that it runs soundly, and where they leave the image
--- unharmed, it is found sound. It took few loads from so many that the rig counted before
+-- Each set of faults that explains what was read leaves what is found sound alone, so that it runs soundly; and where one such set
+-- leaves the image unharmed, it is found sound. It took few loads from so many that the rig counted before
 pub record IsTried (i : ImageValue) (before : ℕ) (rig : RigState) (t : Tried) : Type 0 where
   pub sound : (f : Faults) → Explains f rig → IsTrue t.sound → IsSoundUnder f i
   pub whole : (f : Faults) → Explains f rig → IsUnharmed f i → IsTrue t.sound

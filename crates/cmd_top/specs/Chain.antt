@@ -26,15 +26,15 @@ pub record IsHandedOn (machine file : List ℕ) (done handed : Outside) (old : O
   pub machine_told : old.store.contents machine ≡ holds machine_file
   pub machine_again : handed.store.contents machine ≡ holds machine_file
 
--- Of an image that `compile` wrote: where the machine may have faults that the list covers, the rows that `run` wrote are the design's
+-- Of an image that `compile` wrote: where faults that the list covers explain what was read, the rows that `run` wrote are the design's
 abbrev pub RunsTheDesign : (machine defects design name image vectors : List ℕ) → (old compiled handed ran : Outside) → Type 0
 RunsTheDesign machine defects design name image vectors old compiled handed ran =
     (c : IsCompiled machine defects design old compiled) → (r : IsRan machine name image vectors handed ran) →
     IsHandedOn machine image compiled handed old → (f : Faults) → Explains f ran.rig → Covers c.list.shape c.list.list f →
     AreRows c.draft r.all_vectors r.rows
 
--- And of a list that `diagnose` wrote, by which `compile` laid the image: where one set of faults is one that both machines may have,
--- the one that was diagnosed and the one that ran it, the rows are the design's
+-- And of a list that `diagnose` wrote, by which `compile` laid the image: where one set of faults explains what was read by both, the
+-- `diagnose` and the `run`, the rows are the design's
 abbrev pub RunsOnItsMachine : (machine name defects design other image vectors : List ℕ) →
     (old diagnosed listed compiled handed ran : Outside) → Type 0
 RunsOnItsMachine machine name defects design other image vectors old diagnosed listed compiled handed ran =
@@ -55,7 +55,7 @@ pub record HaveSameFiles (machine image : List ℕ) (old later : Outside) : Type
   pub image_again : later.store.contents image ≡ holds image_file
 
 -- An image was run, and then `check` wrote that it is sound. Where what was read is the run over a history, and each fault of it is one
--- of a set that the machine may have after the check, the rows are those of the image's run without faults: faults that came for good
+-- of a set that explains what the check has read, the rows are those of the image's run without faults: faults that came for good
 -- while it ran are found behind it
 abbrev pub IsCertified : (machine name image vectors other : List ℕ) → (old ran later checked : Outside) → Type 0
 IsCertified machine name image vectors other old ran later checked =

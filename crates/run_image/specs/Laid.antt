@@ -29,7 +29,7 @@ pub record IsLaidOn (w : Laid) (d : DefectList) (i : ImageValue) : Type 0 where
   pub free : IsFreeImage d.list i
   pub right : (f : Faults) → Covers d.shape d.list f → ReadsRows f i w.rows
 
--- the rows are those of the image; if there are faults that the machine may have, they are those of what was laid
+-- the rows are those of the image; if any set of faults explains what was read, they are those of what was laid
 pub record AreLaidRows (w : Laid) (rig : RigState) (i : ImageValue) (vectors rows : List (List Bool)) : Type 0 where
   pub read : AreRowsOf rig i vectors rows
   pub right : (f : Faults) → Explains f rig → w.rows vectors rows

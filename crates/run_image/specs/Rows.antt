@@ -21,7 +21,7 @@ most_rows = 4096
 abbrev pub AreRunRows : Faults → ImageValue → (vectors rows : List (List Bool)) → Type 0
 AreRunRows f i vectors rows = (reads : List Pins) × IsRun f i.config (map (drive_of i) vectors) reads × (rows ≡ map (image_row i) reads)
 
--- a row for each vector, which has a bit for each input; whatever faults the machine may have, they are what it reads under them
+-- a row for each vector, which has a bit for each input; under each set of faults that explains what was read, they are what it reads
 pub record AreRowsOf (rig : RigState) (i : ImageValue) (vectors rows : List (List Bool)) : Type 0 where
   pub count : length rows ≡ length vectors
   pub widths : All (λ vector. length vector ≡ length i.inputs) vectors
