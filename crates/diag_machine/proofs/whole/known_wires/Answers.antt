@@ -7,7 +7,7 @@ use Rattle.diag_machine.specs.Stages.{IsWhole}
 use Rattle.diag_evidence.proofs.Keeping.{advances_then}
 use Rattle.diag_machine.proofs.Counted.{grown_few, grown_most, known_few, known_most, pins_same, size_most, swept_few, swept_most, wires_most}
 use Rattle.diag_machine.proofs.Stepping.{holds_each}
-use Rattle.diag_machine.proofs.Sweeping.{at_most, at_once, few_when, field_later, marks_back, marks_on, whole_later}
+use Rattle.diag_machine.proofs.Sweeping.{always, at_most, at_once, few_when, field_later, marks_back, marks_on, whole_later}
 use Rattle.diag_machine.proofs.whole.known_wires.Goals as goal
 
 pub grow_whole-requires-clause-field : goal.grow_whole-requires-clause-field
