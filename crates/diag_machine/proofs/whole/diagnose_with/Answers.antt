@@ -1,4 +1,4 @@
-use Rattle.diag_machine.proofs.Stepping.{diagnosed, diagnosed_each}
+use Rattle.diag_machine.proofs.Stepping.{diagnosed_each}
 use Rattle.diag_machine.proofs.Sweeping.{marks_of_none}
 use Rattle.diag_machine.proofs.whole.diagnose_with.Goals as goal
 
