@@ -1,5 +1,5 @@
 -- The session of an image that is loaded, cycle by cycle.
-use Rattle.std.proofs.Common.{◌≡◌, ℕ, ◌+◌, ◌≤◌, Bool, List, [], ◌∷◌, ◌++◌, length, map, arith, refl, ◌∙◌, subst, length-append}
+use Rattle.std.proofs.Common.{◌≡◌, ℕ, ◌+◌, ◌≤◌, Bool, List, [], ◌∷◌, ◌++◌, length, map, Some, arith, refl, ◌∙◌, subst, length-append}
 use Rattle.std.proofs.lemmas.List.{map-append}
 use Rattle.machine_meaning.specs.Faults.{Faults}
 use Rattle.machine_meaning.specs.Circuit.{Pins}
