@@ -71,7 +71,7 @@ pub fn find_trunk(
     ensures held { IfOk result (λ found. IfSome found (λ trunk. IsHeldTrunk facts.new known.new node.0 trunk.left trunk.right)) }
     ensures node { IfOk result (λ found. IfSome found (λ trunk. node_of facts.old.shape trunk.left.end ≡ node.0)) }
     ensures none { IfOk result (λ found. IfNone found (UnservedIf (rig_state rig.old).machine.faults facts.old node.0)) }
-    ensures none_each { IfOk result (λ found. ForEach (rig_state rig.new) (λ told. IfSome parent (λ tested. FullIf told facts.old
+    ensures none_each { IfOk result (λ found. ForEach (rig_state rig.new) (λ told. IfSome parent.entry (λ tested. FullIf told facts.old
         facts.old tested.now) → IfNone found (UnservedIf told facts.old node.0))) }
     ensures loads { LoadsAtMost (rig_state rig.old).machine.faults facts.old (rig_state rig.old).loads (rig_state rig.new).loads 6 }
     ensures loads_each { ForEach (rig_state rig.new) (λ told. LoadsAtMost told facts.old (rig_state rig.old).loads (rig_state

@@ -1,6 +1,6 @@
 use Rattle.std.proofs.Common.{◌≡◌, ℕ, Some, refl, sym, subst, arith}
 use Rattle.diag_published.proofs.Trunking.{trunks_end, unserved_if}
-use Rattle.diag_published.specs.Held.{UnservedIf}
+use Rattle.diag_published.specs.Held.{FullIf, UnservedIf}
 use Rattle.diag_published.proofs.Laid.{if_ok, if_none, of_some}
 use Rattle.diag_published.proofs.trunks.find_trunk.Goals as goal
 
@@ -32,7 +32,8 @@ returns-in-Some-clause-none g c = unserved_if c.child_trunk.result _ c.args.fact
 
 pub returns-in-Some-clause-none_each : goal.returns-in-Some-clause-none_each
 returns-in-Some-clause-none_each g c = if_ok c.child_trunk.result c.child_trunk.ensures.none
-    (λ found none f e full. if_none found none (λ unserved. record { at = λ h is holds. unserved h ((of_some c.in-Some.is full).at h is holds) }))
+    (λ found none f e full. let above : FullIf (Some f) c.args.facts.now c.args.facts.now c.in-Some.tested.now = of_some _ c.in-Some.is full in
+    if_none found none (λ unserved. record { at = λ h is holds. unserved h (above.at h is holds) }))
 
 pub returns-in-Some-clause-loads : goal.returns-in-Some-clause-loads
 returns-in-Some-clause-loads g c = record { at = λ f is faultless holds. omega arith }
