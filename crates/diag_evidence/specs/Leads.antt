@@ -68,7 +68,8 @@ pub record HasLed (told : Option Faults) (g : Configuration) (drive : Pins) (ls 
   pub marks : (x : ℕ) → has_number is x ≡ (held_up_at old reading ls x || has_number was x)
 
 -- a session of one cycle is new in the log, and its reading shows so
-pub record ShowsLed (g : Configuration) (drive : Pins) (ls : List Lead) (earlier later : RigState) (old new : Kept) (was is : List Bool) : Type 0 where
+pub record ShowsLed (g : Configuration) (drive : Pins) (ls : List Lead) (earlier later : RigState) (old new : Kept)
+    (was is : List Bool) : Type 0 where
   pub reading : Pins
   pub logged : HasLogged (one_cycle g drive reading ∷ []) earlier later
   pub gains : Gains (these_crosses (led_over reading ls)) old new

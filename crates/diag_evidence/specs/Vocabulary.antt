@@ -12,9 +12,9 @@ pub use Rattle.diag_evidence.specs.Leads.{HasLed, IsLead, IsPathTest, MarksStuck
 pub use Rattle.diag_evidence.specs.Leads.{is_only_unkept, led_over, these_crosses, wires_of_leads}
 pub use Rattle.diag_evidence.specs.Forests.{CanLay, HangsOn, IsForest, IsLedOver, IsOfTree, KeepsForest, KnowsForest, Trees, bare, is_hung}
 pub use Rattle.diag_evidence.specs.Forests.{is_laid, pin_of, with_laid, with_planted}
-pub use Rattle.diag_evidence.specs.Looks.{AreSights, IsLook, LogsLook, ReadsEach, ShowsSeen, Sights, differ, hang_apart, hangs_apart, hangs_swinging}
+pub use Rattle.diag_evidence.specs.Looks.{AreSights, IsLook, LogsLook, ReadsEach, ShowsSeen, Sights, differ, hang_apart, hangs_apart}
 pub use Rattle.diag_evidence.specs.Looks.{look_drives, none_driven, one_driven, parts, read_at, read_free, read_under, reads_somewhere}
-pub use Rattle.diag_evidence.specs.Looks.{seen_in, swings}
+pub use Rattle.diag_evidence.specs.Looks.{hangs_swinging, seen_in, swings}
 pub use Rattle.diag_evidence.specs.Hangs.{AreAllOf, AreFeet, AreHangs, ClosesJust, Foot, HasHungOn, HasMarked, HasTold, HasTried, IsFoot}
 pub use Rattle.diag_evidence.specs.Hangs.{MarksUnclear, MarksUnfit, StayMarked, UnclearIf, UnfitIf, all_feet, answered, are_apart_on}
 pub use Rattle.diag_evidence.specs.Hangs.{closes, falls_with_others, feet_crosses, is_shown, is_swinging_on, is_unclear_in, is_unfit_in}
