@@ -1,7 +1,7 @@
 use Rattle.std.proofs.Common.{◌≡◌, subst, refl}
 use Rattle.diag_evidence.specs.Vocabulary.{Kept, Gains, seen_in}
 use Rattle.diag_evidence.proofs.Advancing.{advances_by}
-use Rattle.diag_evidence.proofs.Seeing.{look_holds, no_feet}
+use Rattle.diag_evidence.proofs.Seeing.{look_holds, no_feet, no_feet_logged}
 use Rattle.diag_evidence.proofs.Unfitting.{not_odd}
 use Rattle.diag_evidence.proofs.facts.Facts.look_each.Goals as goal
 
@@ -16,6 +16,13 @@ pub returns-clause-seen_each : goal.returns-clause-seen_each
 returns-clause-seen_each g c = λ f e. record {
   rows = c.look.new.reads.rows;
   look = no_feet _ c.args.forest.now c.look.new.reads.rows (c.in_ok-look.ensures.looked_each f e);
+  gains = subst (λ (k : Kept). Gains (seen_in c.args.forest.now c.look.new.reads.rows) k c.keep_seen.new.self) c.in_ok-look.ensures.same c.keep_seen.ensures;
+}
+
+pub returns-clause-logged : goal.returns-clause-logged
+returns-clause-logged g c = record {
+  rows = c.look.new.reads.rows;
+  look = no_feet_logged c.args.forest.now c.look.new.reads.rows _ _ c.in_ok-look.ensures.logged;
   gains = subst (λ (k : Kept). Gains (seen_in c.args.forest.now c.look.new.reads.rows) k c.keep_seen.new.self) c.in_ok-look.ensures.same c.keep_seen.ensures;
 }
 
