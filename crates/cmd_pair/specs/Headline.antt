@@ -7,11 +7,11 @@ use Rattle.machine_defects.specs.Vocabulary.{DefectList, IsDefectList, text_of}
 use Rattle.design_netlist.specs.declared.netlist_data.NetlistData.{NetlistData}
 use Rattle.machine_image.specs.Images.{ImageValue}
 use Rattle.machine_history.specs.Vocabulary.{History, IsHistoryOf, IsRunOver}
-use Rattle.rig.specs.Rig.{cycles_of, drives_of, readings_of}
+use Rattle.rig.specs.Rig.{Explains, cycles_of, drives_of, readings_of}
 use Rattle.place_route.specs.Vocabulary.{IsRightImage, ReadsRows, IsRoutedInOrder}
 use Rattle.place_pair.specs.Tenants.{AreTenants, StandApart}
 use Rattle.cmd_steps.specs.Vocabulary.{Outside, IsMachineText, IsDesignText}
-use Rattle.diag_list.specs.Possible.{MayHave, TakesFewLoadsOn}
+use Rattle.diag_list.specs.Possible.{TakesFewLoadsOn}
 use Rattle.diag_list.specs.Lists.{Listed}
 use Rattle.run_image.specs.Headline.{IsAskedInOrder, IsWrittenWhole, UsesNothingListed, IsAsRead}
 use Rattle.place_both.specs.Both.{AreBothRows, BothHaveRoom, joint_of}
@@ -32,7 +32,7 @@ pub record IsPaired (machine name first second vectors : List ℕ) (old new : Ou
   pub list_shape : made.list.shape ≡ shape
   pub asked_in_order : IsAskedInOrder machine name (first ∷ second ∷ vectors ∷ []) shape old new
   pub written_whole : IsWrittenWhole vectors made.list (length first_draft.inputs + length second_draft.inputs) all_vectors rows old new
-  pub covers_every_fault : (f : Faults) → MayHave f new.rig → Covers shape made.list.list f
+  pub covers_every_fault : (f : Faults) → Explains f new.rig → Covers shape made.list.list f
   pub uses_nothing_listed : UsesNothingListed made.list image new.rig
   -- a pin for each input of the first design and then of the second, and so for each output, all different
   pub inputs : length image.inputs ≡ length first_draft.inputs + length second_draft.inputs
@@ -43,7 +43,7 @@ pub record IsPaired (machine name first second vectors : List ℕ) (old new : Ou
   pub image_right : (f : Faults) → Covers shape made.list.list f → ReadsRows f image (AreBothRows first_draft second_draft)
   pub as_the_machine_read : IsAsRead image all_vectors rows new.rig
   -- and so are the rows that were written
-  pub exactly_the_outputs : (f : Faults) → MayHave f new.rig → AreBothRows first_draft second_draft all_vectors rows
+  pub exactly_the_outputs : (f : Faults) → Explains f new.rig → AreBothRows first_draft second_draft all_vectors rows
   -- each design runs as it would alone
   pub first_image : ImageValue
   pub second_image : ImageValue
@@ -63,8 +63,8 @@ pub record IsPaired (machine name first second vectors : List ℕ) (old new : Ou
   pub second_while_alone : AreRightWhileAlone new.rig image second_image second_draft
       (map (drop (length first_draft.inputs)) all_vectors) (map (drop (length first_draft.outputs)) rows)
   -- the list is tight besides, and so fair; few loads were made for it, and exactly one after it
-  pub tight : (f : Faults) → MayHave f new.rig → IsTight shape made.list.list f
-  pub fair : (f : Faults) → MayHave f new.rig → IsFair shape made.list.list f
+  pub tight : (f : Faults) → Explains f new.rig → IsTight shape made.list.list f
+  pub fair : (f : Faults) → Explains f new.rig → IsFair shape made.list.list f
   pub few : TakesFewLoadsOn new.rig shape old.rig.loads made.loads
   pub loaded_once : new.rig.loads ≡ next_count made.loads
 
