@@ -3,3 +3,4 @@ pub mod Both
 pub mod Pair
 pub mod Headline
 pub mod Promises
+pub mod Smaller

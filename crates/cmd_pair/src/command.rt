@@ -5,7 +5,7 @@ ghost use Rattle.run_image.specs.Headline.{BeginsWithList};
 ghost use Rattle.cmd_pair.specs.Pair.{pair_job};
 ghost use Rattle.cmd_pair.specs.Headline.{IsPaired, HaveRoomLeft};
 
-use crate::both::TwoDesigns;
+use crate::designs::TwoDesigns;
 use base_io::{Sink, Store};
 use cmd_steps::{DesignFile, Stop, attach, read_design, read_shape};
 use place_plan::in_order_plans_are_decided;
