@@ -93,9 +93,8 @@ pub record IsRoutedForBoth (d : DefectList) (first second : NetlistData) (i : Im
   pub routed : IsRoutedFor d.shape d.list (joint_network one other) plan i
 
 -- The image is of the machine, has a pin for each input and output of the first design and then of the second, touches only what
--- the list leaves free, closes and switches on nothing idle, and reads the rows of
--- both under all faults that the list covers. What of it is each design's uses no wire of the other's, runs as it does alone, and is
--- right for that design
+-- the list leaves free, closes and switches on nothing idle, and reads the rows of both under all faults that the list covers. What of
+-- it is each design's uses no wire of the other's, runs as it does alone, and is right for that design
 pub record IsImageForBoth (d : DefectList) (first second : NetlistData) (i : ImageValue) : Type 0 where
   pub image : IsImage i
   pub shape : i.config.shape ≡ d.shape
