@@ -14,3 +14,9 @@ drawn-requires-clause-choice c = plain-choice c.args.first.now c.args.second.now
 pub returns-clause-found : goal.returns-clause-found
 returns-clause-found c =
     (c.in_ok-image.ensures {u = tt}, have-room c.args.first.now c.args.second.now c.args.networks.now c.requires c.args.list.now c.in-Ok.plan c.in-Ok.ensures.found)
+
+pub drawn-requires-clause-plan : goal.drawn-requires-clause-plan
+drawn-requires-clause-plan c = c.in-Ok.ensures.found.plan
+
+pub drawn-requires-clause-fits : goal.drawn-requires-clause-fits
+drawn-requires-clause-fits c = c.in-Ok.ensures.found.fits
