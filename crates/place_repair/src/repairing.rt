@@ -1,22 +1,25 @@
 //! Repairs an image.
-ghost use Rattle.std.specs.Prelude.{◌≡◌, ◌≤◌, ◌<◌, IfOk, IfErr, length};
+ghost use Rattle.std.specs.Prelude.{◌≡◌, ◌≤◌, ◌<◌, ◌^◌, All, IfOk, IfErr, length};
 ghost use Rattle.std.specs.FinSet as set;
 ghost use Rattle.machine_image.specs.Parts.{IsFreeImage};
 ghost use Rattle.place_route.specs.Routed.{AreWiresOf};
 ghost use Rattle.place_repair.specs.Making.{AreApart, ArePinsApart, AreSizedFor, IsRedrawn};
-ghost use Rattle.place_plan.specs.Room.{IsMet};
+ghost use Rattle.place_plan.specs.Choices.{AreWires};
+ghost use Rattle.place_plan.specs.Layouts.{IsRoom};
+ghost use Rattle.place_plan.specs.Room.{HasTerminal, IsMet};
 ghost use Rattle.place_repair.specs.Plans.{AreSeats, need_of};
 ghost use Rattle.place_repair.specs.Repairs.{HasSameRows, IsRepair, IsRepairFail};
 
 use crate::drawing::draw;
-use crate::nets::nets_by_wire;
+use crate::nets::{NetList, nets_by_wire};
 use crate::plan::{Plan, plan_of};
 use crate::rest::rest_of;
 use crate::seats::{Seats, moved, need_of, seats_of};
 use crate::terminals::terminals_of;
+use base_lists::Items;
 use machine_defects::Defects;
 use machine_image::Image;
-use place_plan::{Layout, PlaceFail, Resource, Room, look_for_room_keeping, short_of};
+use place_plan::{Layout, Need, PlaceFail, Resource, Room, look_for_room_keeping, short_of};
 use std::alloc::{AllocError, Global};
 
 // The image that follows a plan and whose moving nets have this layout.
@@ -36,6 +39,23 @@ fn redraw(alloc: Global, image: &Image, plan: &Plan, layout: &Layout) -> Result<
     let inputs = moved(alloc, &plan.pins, image.inputs())?;
     let outputs = moved(alloc, &plan.pins, image.outputs())?;
     Ok(Image::new(config, inputs, outputs))
+}
+
+// Room for the nets with these terminals, where the lines that nets of the image have are tried first.
+fn room_for(
+    alloc: Global,
+    rest: &Defects,
+    nets: &NetList,
+    terminals: &[Items<u32>],
+    tables: Need,
+    pins: Need,
+) -> Result<Room, AllocError>
+    requires few { length terminals.now < 2 ^ 32 }
+    requires within { All (AreWires rest.now.shape) terminals.now }
+    ensures { IfOk result (IsRoom rest.now.shape rest.now.list (length terminals.now) (HasTerminal terminals.now) tables pins) }
+{
+    let had = nets_by_wire(alloc, nets)?;
+    look_for_room_keeping(alloc, rest, terminals, tables, pins, had)
 }
 
 // The repair of an image where there are tables and pins for all that go.
@@ -60,14 +80,13 @@ fn laid(alloc: Global, image: &Image, defects: &Defects, seats: &Seats) -> Resul
     let plan = plan_of(alloc, image, defects, seats)?;
     let terminals = terminals_of(alloc, image, &plan)?;
     let rest = rest_of(alloc, image, &plan, defects)?;
-    let had = nets_by_wire(alloc, &plan.nets)?;
-    let room = look_for_room_keeping(
+    let room = room_for(
         alloc,
         &rest,
+        &plan.nets,
         &terminals,
         need_of(&seats.tables),
         need_of(&seats.pins),
-        had,
     )?;
     match room {
         Room::Lacks(short) => Err(PlaceFail::Short(short)),
