@@ -5,7 +5,7 @@ use Rattle.machine_meaning.specs.Vocabulary.{Covers, Faults}
 use Rattle.machine_defects.specs.Lists.{DefectList}
 use Rattle.design_netlist.specs.declared.netlist_data.NetlistData.{NetlistData}
 use Rattle.map_network.specs.declared.network.Network.{Network}
-use Rattle.map_network.specs.Vocabulary.{IsPlainNetwork, HasRowsOf}
+use Rattle.map_network.specs.Vocabulary.{IsPlainNetwork, HasRowsOf, plain_network}
 use Rattle.machine_image.specs.Vocabulary.{ImageValue, IsImage, image_row, IsFreeImage}
 use Rattle.place_route.specs.Vocabulary.{IsRightImage, ReadsRows}
 use Rattle.place_pair.specs.JointNetworks as joint
@@ -95,7 +95,9 @@ module _ (first second : NetlistData) (networks : TwoNetworks) (are : ArePlainFo
     plain-choice = inl (record { first_plain = are.first_plain; second_plain = are.second_plain; fits = fits })
 
     pub have-room : BothHaveRoom d first second
-    have-room = rw (are.first_plain, are.second_plain) at (p, fits)
+    have-room =
+        (p, subst (λ (x : Network). FitsInOrder d.shape d.list (joint_network x (plain_network second)) p) are.first_plain
+        (subst (λ (x : Network). FitsInOrder d.shape d.list (joint_network networks.first x) p) are.second_plain fits))
 
 -- their joint network
 module _ (d : DefectList) (first second : NetlistData) (networks : TwoNetworks) (network : Network) (joint-is : network ≡ joint_network networks.first networks.second) where
