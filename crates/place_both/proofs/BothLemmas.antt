@@ -19,16 +19,13 @@ use Rattle.cmd_steps.specs.declared.refusal.Stop.TheVariants.{Refused}
 use Rattle.cmd_steps.proofs.Taking.{took-stop, took-value}
 use Rattle.place_design.specs.Wants.{PlanStops}
 use Rattle.place_design.specs.Smaller.{IsLeanFor}
-use Rattle.place_design.proofs.Fewer.{better-fits, no-more-crossings, plain-for}
+use Rattle.place_design.proofs.Fewer.{plain-for}
 use Rattle.place_design.proofs.Rooms.{AreDecided}
 use Rattle.place_plan.specs.declared.plan.Plan.{Plan}
-use Rattle.place_plan.specs.declared.layout.Placed.{Placed}
-use Rattle.place_plan.specs.Plans.{Fits, FitsInOrder, IsInOrder, IsPlan}
-use Rattle.place_anneal.specs.Better.{IsBetterLaid}
-use Rattle.place_anneal.specs.Crossings.{HasCrossings, HasNoMore}
+use Rattle.place_plan.specs.Plans.{FitsInOrder}
 use Rattle.place_both.specs.declared.networks.TwoNetworks.{TwoNetworks}
 use Rattle.place_both.specs.Both.{AreLean, ArePlainInOrder, BothHaveRoom, BothLackRoom, IsImageForBoth, IsRoutedForBoth, NotBothLaid, joint_of, lays_both}
-use Rattle.place_both.specs.Smaller.{AreFor, AreLeanFor, ArePlainFor, AreSmallerFor}
+use Rattle.place_both.specs.Smaller.{AreFor, AreLeanFor, ArePlainFor}
 use Rattle.place_both.proofs.RowsOfBoth.{both-rows}
 
 -- ---- what is laid
@@ -95,9 +92,11 @@ module _ (first second : NetlistData) (networks : TwoNetworks) (are : ArePlainFo
     plain-choice = inl (record { first_plain = are.first_plain; second_plain = are.second_plain; fits = fits })
 
     pub have-room : BothHaveRoom d first second
-    have-room =
-        (p, subst (λ (x : Network). FitsInOrder d.shape d.list (joint_network x (plain_network second)) p) are.first_plain
-        (subst (λ (x : Network). FitsInOrder d.shape d.list (joint_network networks.first x) p) are.second_plain fits))
+    have-room = (
+      p,
+      subst (λ (x : Network). FitsInOrder d.shape d.list (joint_network x (plain_network second)) p) are.first_plain
+          (subst (λ (x : Network). FitsInOrder d.shape d.list (joint_network networks.first x) p) are.second_plain fits),
+    )
 
 -- their joint network
 module _ (d : DefectList) (first second : NetlistData) (networks : TwoNetworks) (network : Network) (joint-is : network ≡ joint_network networks.first networks.second) where
@@ -106,27 +105,6 @@ module _ (d : DefectList) (first second : NetlistData) (networks : TwoNetworks) 
 
   pub joint-refused : ArePlainFor first second networks → (stop : Stop) → PlanStops d network stop → StepStops (lays_both d first second) stop
   joint-refused are stop stops = place-stops d first second networks.first networks.second are.first_plain are.second_plain stop (subst (λ (x : Network). PlanStops d x stop) joint-is stops)
-
-  -- an improved plan of it
-  module _ (are : AreLeanFor first second networks) (old better : Placed) (crossings : ℕ) (fits : FitsInOrder d.shape d.list network old.plan) (is-better : (better ≡ old) ⊎ IsBetterLaid d.shape d.list network old.plan better) (has : HasCrossings d.shape network better.plan crossings) where
-    lean-now : AreLean d first second networks.first networks.second better.plan
-    lean-now = record {
-      first_lead = are.first_for.lead;
-      second_lead = are.second_for.lead;
-      first_shallow = are.first_for.shallow;
-      second_shallow = are.second_for.shallow;
-      before = old.plan;
-      in_order = subst (λ (x : Network). IsInOrder d.shape d.list x old.plan) joint-is fits.in_order;
-      crossings = subst (λ (x : Network). HasNoMore d.shape x old.plan better.plan) joint-is (no-more-crossings d.shape d.list network old better crossings has is-better);
-    }
-
-    pub smaller-are : IsPlan d.shape d.list network better.plan → AreSmallerFor d first second (record { networks = networks; placed = better; crossings = crossings })
-    smaller-are plan = record {
-      are = are;
-      plan = subst (λ (x : Network). IsPlan d.shape d.list x better.plan) joint-is plan;
-      fits = subst (λ (x : Network). Fits d.shape d.list x better.plan) joint-is (better-fits d.shape d.list network old better fits.fits is-better);
-      lean = lean-now;
-    }
 
 -- ---- the step
 

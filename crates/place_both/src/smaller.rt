@@ -2,15 +2,17 @@
 ghost use Rattle.std.specs.Prelude.{IfOk, IfSome};
 ghost use Rattle.machine_defects.specs.Lists.{DefectList};
 ghost use Rattle.design_netlist.specs.declared.netlist_data.NetlistData.{NetlistData};
+ghost use Rattle.place_pair.specs.JointNetworks.{MayBeJoint, joint_network};
+ghost use Rattle.place_design.specs.Smaller.{IsImproved};
 ghost use Rattle.place_both.specs.Smaller.{AreLeanFor, ArePlainFor, AreSmallerFor};
 
 use crate::networks::TwoNetworks;
 use design_netlist::Netlist;
 use machine_defects::Defects;
 use map_network::{merged_of, spread_of};
-use place_anneal::{crossings_of, improve_laid};
+use place_design::{Improved, improved_plan};
 use place_pair::joint;
-use place_plan::{PlaceFail, Placed, in_order_laid};
+use place_plan::Placed;
 use std::alloc::{AllocError, Global};
 
 /// A network for each of two designs, a plan of their joint network that fits, and how many nets of the plan cross a node, summed
@@ -22,7 +24,20 @@ pub struct Smaller {
     pub crossings: u128,
 }
 
-// The networks on the improved plan of their joint network, if its plan in order fits. What that is short of is no refusal.
+// The improved plan of the joint network, if there is one.
+fn improved_for(
+    alloc: Global,
+    networks: &TwoNetworks,
+    list: &Defects,
+) -> Result<Option<Improved>, AllocError>
+    requires { MayBeJoint networks.now.first networks.now.second }
+    ensures { IfOk result (λ o. IfSome o (IsImproved list.now (joint_network networks.now.first networks.now.second))) }
+{
+    let network = joint(alloc, &networks.first, &networks.second)?;
+    improved_plan(alloc, &network, list)
+}
+
+// The networks on the improved plan of their joint network, if it has one.
 fn planned(
     alloc: Global,
     first: &Netlist,
@@ -33,19 +48,14 @@ fn planned(
     requires { AreLeanFor first.now second.now networks }
     ensures { IfOk result (λ o. IfSome o (AreSmallerFor list.now first.now second.now)) }
 {
-    let network = joint(alloc, &networks.first, &networks.second)?;
-    let placed = match in_order_laid(alloc, &network, list) {
-        Ok(placed) => placed,
-        Err(PlaceFail::Short(_)) => return Ok(None),
-        Err(PlaceFail::Memory) => return Err(AllocError),
-    };
-    let better = improve_laid(alloc, &network, placed, list)?;
-    let crossings = crossings_of(alloc, &network, &better.plan, list)?;
-    Ok(Some(Smaller {
-        networks,
-        placed: better,
-        crossings,
-    }))
+    match improved_for(alloc, &networks, list)? {
+        Some(Improved { placed, crossings }) => Ok(Some(Smaller {
+            networks,
+            placed,
+            crossings,
+        })),
+        None => Ok(None),
+    }
 }
 
 // How many tables two networks have together.

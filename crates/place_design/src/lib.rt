@@ -9,6 +9,7 @@
 //!
 //! Promised (`lay`): an image of a design on what a list leaves free, right for it under all faults that the list covers, exactly
 //! where the in-order plan of its plain network fits the list. `no_place` makes the refusal of what a network is short of.
+//! `improved_plan` gives the plan that is tried for a network.
 #![tactic(auto)]
 
 mod laying;
@@ -17,3 +18,4 @@ mod smaller;
 
 pub use laying::lay;
 pub use room::no_place;
+pub use smaller::{Improved, improved_plan};

@@ -1,5 +1,23 @@
-use Rattle.place_both.proofs.BothLemmas.{smaller-are}
 use Rattle.place_both.proofs.smaller.planned.Goals as goal
 
-pub returns : goal.returns
-returns c = smaller-are c.args.list.now c.args.first.now c.args.second.now c.args.networks c.in_ok-network.network c.in_ok-network.ensures.joint c.requires c.in-Ok.placed c.in_ok-better.better c.in_ok-crossings.crossings c.in-Ok.ensures.plan c.in_ok-better.ensures.better (c.in_ok-crossings.ensures {u = tt}) c.in_ok-better.ensures.plan
+pub improved_for-requires : goal.improved_for-requires
+improved_for-requires c = let are = c.requires in record { first = are.first_for.is.network; second = are.second_for.is.network; inputs = are.few.0; tables = are.few.1 }
+
+pub returns-in-Some : goal.returns-in-Some
+returns-in-Some c =
+    let are = c.requires in
+    let i = c.in-Some.ensures in
+    record {
+      are = are;
+      plan = i.plan;
+      fits = i.fits;
+      lean = record {
+        first_lead = are.first_for.lead;
+        second_lead = are.second_for.lead;
+        first_shallow = are.first_for.shallow;
+        second_shallow = are.second_for.shallow;
+        before = i.first;
+        in_order = i.in_order;
+        crossings = i.crossings;
+      };
+    }
