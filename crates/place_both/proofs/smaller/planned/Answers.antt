@@ -6,18 +6,17 @@ improved_for-requires c = let are = c.requires in record { first = are.first_for
 pub returns-in-Some : goal.returns-in-Some
 returns-in-Some c =
     let are = c.requires in
-    let i = c.in-Some.ensures in
     record {
       are = are;
-      plan = i.plan;
-      fits = i.fits;
+      plan = c.in-Some.ensures.plan;
+      fits = c.in-Some.ensures.fits;
       lean = record {
         first_lead = are.first_for.lead;
         second_lead = are.second_for.lead;
         first_shallow = are.first_for.shallow;
         second_shallow = are.second_for.shallow;
-        before = i.first;
-        in_order = i.in_order;
-        crossings = i.crossings;
+        before = c.in-Some.ensures.first;
+        in_order = c.in-Some.ensures.in_order;
+        crossings = c.in-Some.ensures.crossings;
       };
     }
