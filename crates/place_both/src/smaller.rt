@@ -49,10 +49,10 @@ fn planned(
     ensures { IfOk result (λ o. IfSome o (AreSmallerFor list.now first.now second.now)) }
 {
     match improved_for(alloc, &networks, list)? {
-        Some(Improved { placed, crossings }) => Ok(Some(Smaller {
+        Some(improved) => Ok(Some(Smaller {
             networks,
-            placed,
-            crossings,
+            placed: improved.placed,
+            crossings: improved.crossings,
         })),
         None => Ok(None),
     }

@@ -64,10 +64,10 @@ fn planned(
     ensures { IfOk result (λ o. IfSome o (IsSmallerFor defects.now netlist.now)) }
 {
     match improved_plan(alloc, &network, defects)? {
-        Some(Improved { placed, crossings }) => Ok(Some(Smaller {
+        Some(improved) => Ok(Some(Smaller {
             network,
-            placed,
-            crossings,
+            placed: improved.placed,
+            crossings: improved.crossings,
         })),
         None => Ok(None),
     }
