@@ -38,10 +38,10 @@ The checker proves the clause of the program's own call. What it means is what s
   sees them. `new.rig.session` is what was loaded and what was driven and read since; `new.sink.written` the bytes that were
   written. Names, files and words are lists of bytes.
 - What is *told* is known to contracts alone; no line of code can see it. `store.contents name` is what is told of a file, and
-  `IfTold` says something of its bytes only where they are told; `rig.machine.faults` is `Some f` where a rig tells its faults `f`.
-- Sentences on faults begin with `(f : Faults) → MayHave f new.rig →`. They are said of told faults, and of each set that explains all
-  that was read of the machine (`Explains`): so of a board too, which tells none. Where no set explains what was read and none is
-  told, they say nothing.
+  `IfTold` says something of its bytes only where they are told.
+- Sentences on faults begin with `(f : Faults) → Explains f new.rig →`. They are said of each set that explains all that was read of
+  the machine: so of a board, of which nobody can tell its faults. Where a rig tells some, as the simulated one does, they are such a
+  set. Where no set explains what was read, these sentences say nothing.
 - Most of the words on designs speak of models in models. For a text of one model without `.subckt` the *design* (`IsDesign`) is the
   short definition `IsShortDesign`, which stands right behind the clause: this is proved, in both directions.
 - A `record` has all of its fields, a `data` is one of its cases. `A × B` is *and*, `A ⊎ B` *or*, `A → B` *if .. then*,

@@ -49,7 +49,7 @@ module _ (sure : AreSure) (networks : AreNetworks) (only : IsOnly) (room : Leave
       let sound : HasSoundParts m right.faults (plain_network draft) = subst (λ (x : NetlistData). HasSoundParts m right.faults (plain_network x)) (sym (only draft design)) (room m n right.faults is (right.made m is)) in
       let lacks : IsShortInOrder m l.list.list (plain_network draft) place.short =
       subst (λ (x : Network). IsShortInOrder m l.list.list x place.short) short.plain (subst (λ (s : Shape). IsShortInOrder s l.list.list short.network place.short) listed.shape short.short) in
-      sure m l.list.list right.faults (plain_network draft) place.short (networks draft design.checked) (listed.right.fair right.faults right.may_have) sound lacks
+      sure m l.list.list right.faults (plain_network draft) place.short (networks draft design.checked) (listed.right.fair right.faults right.explained) sound lacks
 
   bench-well : IsWell old new (bench_course n old new)
   bench-well =

@@ -9,9 +9,8 @@ use Rattle.design_netlist.specs.declared.netlist_data.NetlistData.{NetlistData}
 use Rattle.map_network.specs.Plain.{plain_network}
 use Rattle.place_plan.specs.Plans.{nets_in}
 use Rattle.place_route.specs.RightImages.{IsRightImage}
-use Rattle.rig.specs.Rig.{cycles_of, readings_of}
-use Rattle.diag_list.specs.Possible.{MayHave}
-use Rattle.run_image.proofs.Driving.{may-run}
+use Rattle.rig.specs.Rig.{Explains, cycles_of, readings_of}
+use Rattle.run_image.proofs.Driving.{explained-run}
 use Rattle.cmd_bench.specs.Design.{bench_draft}
 use Rattle.cmd_steps.specs.Vocabulary.{Outside, around, ends, IsWritten}
 use Rattle.cmd_steps.specs.declared.refusal.Stop.{Stop}
@@ -45,8 +44,8 @@ module _ (tables : length (plain_network bench_draft).tables ≡ 17) (nets : net
         let the = only draft design in
         let one : length i.inputs ≡ 1 = laid.0.inputs ∙ ap (λ (x : NetlistData). length x.inputs) the in
         let line = is ∙ (ap (λ t. bench_summary n draft ones (new.rig.loads - old.rig.loads) ++ t) h.0 ∙ (append-nil _ ∙ summary-is draft ones (new.rig.loads - old.rig.loads) the)) in
-        let right : (f : Faults) → MayHave f new.rig → IsRightImage f i draft = λ f may.
-        laid.0.right f (subst (λ (s : Shape). Covers s l.list.list f) (sym listed.shape) (listed.right.covers f may)) in
+        let right : (f : Faults) → Explains f new.rig → IsRightImage f i draft = λ f e.
+        laid.0.right f (subst (λ (s : Shape). Covers s l.list.list f) (sym listed.shape) (listed.right.covers f e)) in
         record {
           shape = m;
           counts = counts;
@@ -68,8 +67,8 @@ module _ (tables : length (plain_network bench_draft).tables ≡ 17) (nets : net
           ones_are = run.ones_are;
           written = subst (λ t. Wrote old.sink.written new.sink.written t) line wrote;
           right = right;
-          rows = λ f may. right f may (bench_vectors n) (readings_of (cycles_of new.rig)) (vectors-wide n (length i.inputs) one)
-              (may-run new.rig i (bench_vectors n) run.config run.drives run.told f may);
+          rows = λ f e. right f e (bench_vectors n) (readings_of (cycles_of new.rig)) (vectors-wide n (length i.inputs) one)
+              (explained-run new.rig i (bench_vectors n) run.config run.drives f e);
         }
 
     -- at the end of a body that did it

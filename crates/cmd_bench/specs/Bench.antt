@@ -10,7 +10,7 @@ use Rattle.design_blif.specs.Designs.{IsDesign}
 use Rattle.map_network.specs.Plain.{plain_network}
 use Rattle.place_plan.specs.Plans.{nets_in}
 use Rattle.machine_image.specs.Images.{ImageValue, drive_of, image_row}
-use Rattle.rig.specs.Rig.{RigState, Asked, IsTold, config_of, cycles_of, drives_of, readings_of}
+use Rattle.rig.specs.Rig.{RigState, Explains, Asked, config_of, cycles_of, drives_of, readings_of}
 use Rattle.run_image.specs.Pins.{Rows}
 use Rattle.run_image.specs.Run.{RunsRow}
 use Rattle.machine_bench.specs.Work as work
@@ -18,7 +18,6 @@ use Rattle.machine_bench.specs.Faults.{AreBenchFaults}
 use Rattle.cmd_steps.specs.Vocabulary.{Around, Course, Step, after, write, done, attaches, AsksMachine, LoadsOnce, Job}
 use Rattle.cmd_steps.specs.declared.refusal.Refusal.{Refusal}
 use Rattle.cmd_steps.specs.declared.refusal.Refusal.TheVariants as refused
-use Rattle.diag_list.specs.Possible.{MayHave}
 use Rattle.diag_list.specs.Lists.{Listed, lists}
 use Rattle.place_design.specs.Laying.{lays}
 use Rattle.cmd_bench.specs.Summary.{summary_text}
@@ -77,7 +76,6 @@ pub record IsBenchRun (n : ℕ) (i : ImageValue) (before : ℕ) (rig : RigState)
   pub config : config_of rig ≡ Some i.config
   pub drives : drives_of (cycles_of rig) ≡ map (drive_of i) (bench_vectors n)
   pub ones_are : ones ≡ ones_of (map (image_row i) (readings_of (cycles_of rig)))
-  pub told : IsTold rig
   pub loads : rig.loads ≡ next_count before
 
 -- one row was read, which has so many ones
@@ -135,10 +133,10 @@ machine_attached n old new m =
 abbrev pub bench_course : (n : ℕ) → Around → Around → Course
 bench_course n old new = after makes_shape ((new.store ≡ old.store) × (new.rig ≡ old.rig)) (machine_attached n old new)
 
--- the machine may have the faults that the number makes
+-- the faults that the number makes explain what was read
 pub record BenchRight (n : ℕ) (rig : RigState) : Type 0 where
   pub faults : Faults
-  pub may_have : MayHave faults rig
+  pub explained : Explains faults rig
   pub made : (m : Shape) → m.counts ≡ work.bench_counts → AreBenchFaults m n faults
 
 abbrev pub bench_job : (n : ℕ) → Job

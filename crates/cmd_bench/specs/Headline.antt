@@ -8,10 +8,9 @@ use Rattle.design_netlist.specs.Rows.{AreRows}
 use Rattle.design_blif.specs.Designs.{IsDesign}
 use Rattle.machine_image.specs.Images.{ImageValue, IsImage, drive_of, image_row}
 use Rattle.place_route.specs.RightImages.{IsRightImage}
-use Rattle.rig.specs.Rig.{config_of, cycles_of, drives_of, readings_of}
+use Rattle.rig.specs.Rig.{Explains, config_of, cycles_of, drives_of, readings_of}
 use Rattle.machine_bench.specs.Work as work
 use Rattle.cmd_steps.specs.Outside.{Outside}
-use Rattle.diag_list.specs.Possible.{MayHave}
 use Rattle.diag_list.specs.Lists.{Listed, IsListed}
 use Rattle.place_design.specs.Laying.{IsRoutedDesign}
 use Rattle.cmd_bench.specs.Summary.{summary_text}
@@ -23,7 +22,7 @@ pub record IsBenched (n : ℕ) (old new : Outside) : Type 0 where
   pub shape : Shape
   pub counts : shape.counts ≡ work.bench_counts
   pub attached : new.rig.machine.attached ≡ Some (bench_machine n shape)
-  -- its defects are listed, a diagnosis of whatever faults the machine may have. One load was made after those of the list
+  -- its defects are listed, a diagnosis by all that was read. One load was made after those of the list
   pub made : Listed
   pub is_listed : IsListed shape old.rig.loads new.rig made
   pub loads : new.rig.loads ≡ next_count made.loads
@@ -44,7 +43,7 @@ pub record IsBenched (n : ℕ) (old new : Outside) : Type 0 where
   pub ones : ℕ
   pub ones_are : ones ≡ ones_of (map (image_row image) (readings_of (cycles_of new.rig)))
   pub written : Wrote old.sink.written new.sink.written (summary_text n 17 18 ones (new.rig.loads - old.rig.loads))
-  -- the image is right for the design under the machine's faults, so what was read is the design's rows
-  pub right : (f : Faults) → MayHave f new.rig → IsRightImage f image draft
-  pub rows : (f : Faults) → MayHave f new.rig →
+  -- the image is right for the design under each set of faults that explains what was read, which is the design's rows if there is one
+  pub right : (f : Faults) → Explains f new.rig → IsRightImage f image draft
+  pub rows : (f : Faults) → Explains f new.rig →
       AreRows draft (bench_vectors n) (map (image_row image) (readings_of (cycles_of new.rig)))

@@ -4,9 +4,8 @@
 //! which drove it on one input pin and 1 on all others; the ones are those read at the two output pins, and the loads are by how
 //! many the rig's rose: those of its list, and one. It asks the rig for room for all 64 rows at that load, so memory is never
 //! wanting after it. The session's image is right for the generated design under each set of faults that explains all that was read
-//! of the machine, and under those that the rig tells; so where there is such a set, what was read is the design's rows. Where the
-//! faults of its number are told, or explain all that was read, it ends with status 0 unless memory was lacking or a count rose
-//! (`lawful`).
+//! of the machine; so where there is such a set, what was read is the design's rows. Where the faults of its number explain all that
+//! was read, it ends with status 0 unless memory was lacking or a count rose (`lawful`).
 //!
 //! What the generated design and machine come to.
 //!

@@ -1,6 +1,6 @@
 //! The machine, the design and the rows of generated work.
 ghost use Rattle.std.specs.Prelude.{◌≡◌, ◌≤◌, [], Some, IfOk, IfErr, length};
-ghost use Rattle.rig.specs.Rig.{CycleFails, Narrows};
+ghost use Rattle.rig.specs.Rig.{CycleFails, Narrows, Tells};
 ghost use Rattle.machine_bench.specs.Work as work;
 ghost use Rattle.cmd_bench.specs.Design.{bench_draft};
 ghost use Rattle.cmd_steps.specs.Vocabulary.{StoreState, SinkState, shape_of, width_of, Outside, outside, Took};
@@ -61,6 +61,7 @@ fn next_ones(run: &mut Run, rig: &mut Box<dyn Rig>, n: u32, k: u32) -> Result<u3
     ensures same { run.new ≡ run.old }
     ensures machine { (rig_state rig.new).machine ≡ (rig_state rig.old).machine }
     ensures narrows { Narrows (rig_state rig.old) (rig_state rig.new) }
+    ensures tells { Tells (rig_state rig.old) (rig_state rig.new) }
     ensures loads { (rig_state rig.new).loads ≡ (rig_state rig.old).loads }
     ensures later { (rig_state rig.old).failures ≤ (rig_state rig.new).failures }
     ensures row { IfOk result (RunsOnes run.old (bench_vector n k) (rig_state rig.old) (rig_state rig.new)) }

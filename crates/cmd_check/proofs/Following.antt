@@ -1,28 +1,24 @@
 -- How the steps of `check` follow one another, over plain states.
-use Rattle.std.proofs.Common.{◌≡◌, ◌∙◌, ℕ, Bool, IsTrue, List, [], refl, sym, ap, subst, inl, inr, Result, Ok}
+use Rattle.std.proofs.Common.{◌≡◌, ℕ, Bool, IsTrue, List, [], refl, subst, Result, Ok}
 use Rattle.base_io.specs.Store.{StoreState}
 use Rattle.machine_meaning.specs.Faults.{Faults}
 use Rattle.machine_image.specs.Images.{ImageValue}
-use Rattle.rig.specs.Rig.{RigState, Machine, ForEach}
+use Rattle.rig.specs.Rig.{RigState, Explains, ForEach}
 use Rattle.diag_check.specs.Soundly.{IsUnharmed, IsSoundUnder, SoundIf, YesIf}
 use Rattle.cmd_steps.specs.Vocabulary.{Outside, Took, Follows}
 use Rattle.cmd_steps.specs.declared.refusal.Stop.{Stop}
 use Rattle.cmd_steps.proofs.Keeping.{kept-gives}
 use Rattle.cmd_steps.proofs.Logs.{narrows_by}
-use Rattle.diag_list.specs.Possible.{MayHave}
-use Rattle.diag_list.proofs.ListedLemmas.{may-earlier}
 use Rattle.cmd_check.specs.Testing.{tests_now}
 use Rattle.cmd_check.specs.Check.{image_tried, image_tested}
 
--- ---- what is said of told faults, and of each set that explains what was read
+-- ---- what is said of each set that explains what was read
 
-pub sound-may : (old new : RigState) {i : ImageValue} {yes : Bool} → new.machine ≡ old.machine → SoundIf old.machine.faults i yes → ForEach new (λ told. SoundIf told i yes) → (f : Faults) → MayHave f new → IsTrue yes → IsSoundUnder f i
-sound-may old new machine sound each f (inl told) = sound.at f (sym (ap (λ (m : Machine). m.faults) machine) ∙ told)
-sound-may old new machine sound each f (inr e) = (each f e).at f refl
+pub sound-under : (new : RigState) {i : ImageValue} {yes : Bool} → ForEach new (λ told. SoundIf told i yes) → (f : Faults) → Explains f new → IsTrue yes → IsSoundUnder f i
+sound-under new each f e = (each f e).at f refl
 
-pub whole-may : (old new : RigState) {i : ImageValue} {yes : Bool} → new.machine ≡ old.machine → YesIf old.machine.faults i yes → ForEach new (λ told. YesIf told i yes) → (f : Faults) → MayHave f new → IsUnharmed f i → IsTrue yes
-whole-may old new machine whole each f (inl told) = whole.at f (sym (ap (λ (m : Machine). m.faults) machine) ∙ told)
-whole-may old new machine whole each f (inr e) = (each f e).at f refl
+pub whole-under : (new : RigState) {i : ImageValue} {yes : Bool} → ForEach new (λ told. YesIf told i yes) → (f : Faults) → Explains f new → IsUnharmed f i → IsTrue yes
+whole-under new each f e = (each f e).at f refl
 
 -- ---- the steps
 
@@ -40,7 +36,6 @@ module _ (files : List (List ℕ)) (begun : StoreState) (i : ImageValue) (result
       (image_tried files begun new.store new.rig i (record { sound = sound; loads = mid.rig.loads })) result mid new →
       tested-from old.rig.loads
   tested-then mid found sound took same is follows =
-      let machine = follows.machines in
-      let narrows = narrows_by follows.later.log machine in
+      let narrows = narrows_by follows.later.log follows.machines in
       kept-gives _ _ _ (tests_now i old.rig mid.rig) found (record { sound = found; loads = mid.rig.loads }) result old mid new took
-      (λ t. record { sound = λ f may. t.sound f (may-earlier f machine narrows may); whole = λ f may. t.whole f (may-earlier f machine narrows may); few = t.few }) same (rw is follows)
+      (λ t. record { sound = λ f e. t.sound f (narrows f e); whole = λ f e. t.whole f (narrows f e); few = t.few }) same (rw is follows)

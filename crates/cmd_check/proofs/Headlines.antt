@@ -5,8 +5,8 @@ use Rattle.base_io.specs.Sink.{Wrote}
 use Rattle.machine_shape.specs.declared.Shape.{Shape}
 use Rattle.machine_meaning.specs.Vocabulary.{Faults, Covers, IsTight}
 use Rattle.machine_image.specs.Images.{ImageValue}
+use Rattle.rig.specs.Rig.{Explains}
 use Rattle.diag_check.specs.Soundly.{IsUnharmed, TakesForParts}
-use Rattle.diag_list.specs.Possible.{MayHave}
 use Rattle.cmd_steps.specs.Vocabulary.{Outside, around, ends, reads_machine, reads_image}
 use Rattle.cmd_steps.proofs.QuietJobs.{line-ended}
 use Rattle.cmd_check.specs.Answers.{IsTrueUnder, answer_line}
@@ -23,8 +23,8 @@ module _ (machine name image : List ℕ) (old new : Outside) (text : List ℕ)
     (is : (reads_image (old.store.contents image) m).gives i) where
   -- the line of an answer was written
   answered : (loads : ℕ) (a : Answer) → answer_written (image ∷ machine ∷ []) old.store new.store new.rig loads i a text ends →
-      (new.rig.loads ≡ loads → IsFound i old.rig.loads new.rig a) → ((f : Faults) → MayHave f new.rig → IsTrueUnder f i a) →
-      ((f : Faults) → MayHave f new.rig → IsUnharmed f i → (a ≡ Sound) × TakesForParts i old.rig.loads loads) →
+      (new.rig.loads ≡ loads → IsFound i old.rig.loads new.rig a) → ((f : Faults) → Explains f new.rig → IsTrueUnder f i a) →
+      ((f : Faults) → Explains f new.rig → IsUnharmed f i → (a ≡ Sound) × TakesForParts i old.rig.loads loads) →
       IsChecked machine name image old new
   answered loads a at found right whole =
       let here = StandsLoaded (image ∷ machine ∷ []) old.store new.store new.rig loads in
@@ -42,7 +42,7 @@ module _ (machine name image : List ℕ) (old new : Outside) (text : List ℕ)
         found = found line.1.1;
         written = subst (λ t. Wrote old.sink.written new.sink.written t) (line.0 ∙ ap (λ (s : Shape). answer_line s a) is.0) wrote;
         right = right;
-        whole = λ f may unharmed. let all = whole f may unharmed in (all.0, rw line.1.1 all.1);
+        whole = λ f e unharmed. let all = whole f e unharmed in (all.0, rw line.1.1 all.1);
       }
 
   -- by the test, or by a list: a machine whose faults leave the image unharmed isn't listed
@@ -50,15 +50,15 @@ module _ (machine name image : List ℕ) (old new : Outside) (text : List ℕ)
       by_test sound (answer_written (image ∷ machine ∷ []) old.store new.store new.rig t.loads i Sound)
       (machine_listed (image ∷ machine ∷ []) old.store new.store new.rig i t) text ends → IsChecked machine name image old new
   by-test t tried true found at =
-      answered t.loads Sound at (λ loads. tested t tried found refl loads) (λ f may. tried.sound f may found)
-      (λ f may unharmed. (refl, tried.few))
+      answered t.loads Sound at (λ loads. tested t tried found refl loads) (λ f e. tried.sound f e found)
+      (λ f e unharmed. (refl, tried.few))
   by-test t tried false found (inl h) = absurd h.1
   by-test t tried false found (inr (l, list, inl h)) = absurd h.1
   by-test t tried false found (inr (l, list, inr (a, said, at))) =
       answered l.loads a at (λ loads. listed t l tried found list said.by_list loads)
-      (λ f may. subst (λ (s : Shape). Covers s l.list.list f → IsTight s l.list.list f → IsTrueUnder f i a) list.shape (said.right f)
-      (list.right.covers f may) (list.right.tight f may))
-      (λ f may unharmed. absurd (false≢true (sym found ∙ tried.whole f may unharmed)))
+      (λ f e. subst (λ (s : Shape). Covers s l.list.list f → IsTight s l.list.list f → IsTrueUnder f i a) list.shape (said.right f)
+      (list.right.covers f e) (list.right.tight f e))
+      (λ f e unharmed. absurd (false≢true (sym found ∙ tried.whole f e unharmed)))
 
 module _ (machine name image : List ℕ) (old new : Outside) where
   pub checked : (text : List ℕ) → new.store.asked ≡ old.store.asked ++ machine ∷ image ∷ [] → Wrote old.sink.written new.sink.written text → check_course machine name image (around old) (around new) text ends → IsChecked machine name image old new

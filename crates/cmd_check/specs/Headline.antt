@@ -4,10 +4,9 @@ use Rattle.base_io.specs.Vocabulary.{IfTold, Wrote}
 use Rattle.machine_shape.specs.declared.Shape.{Shape}
 use Rattle.machine_meaning.specs.Faults.{Faults}
 use Rattle.machine_image.specs.Images.{ImageValue, IsImage, Reads}
-use Rattle.rig.specs.Rig.{RigState}
+use Rattle.rig.specs.Rig.{RigState, Explains}
 use Rattle.diag_check.specs.Soundly.{IsUnharmed, TakesForParts}
 use Rattle.cmd_steps.specs.Vocabulary.{Outside, IsMachineText}
-use Rattle.diag_list.specs.Possible.{MayHave}
 use Rattle.diag_list.specs.Lists.{Listed, IsListed}
 use Rattle.cmd_check.specs.Answers.{IsByList, IsTrueUnder, answer_line}
 use Rattle.cmd_check.specs.Testing.{Tried, IsTried}
@@ -22,9 +21,10 @@ pub data IsFound (i : ImageValue) (before : ℕ) (rig : RigState) (a : Answer) :
       → IsByList l.list.list i a → rig.loads ≡ l.loads → IsFound i before rig a
 
 -- The machine of the text is attached under the name, and one line is written: that the image of the file is sound, or its first part
--- that isn't free on a list of the machine's defects. Whatever faults the machine may have, they leave an image that is called sound
--- alone, so that it runs soundly under them, and a part that is in doubt isn't sound, or is out of reach; and where none is near the
--- image and the machine is wide enough for it, it is called sound, with at most 256 loads for each part and each involved node
+-- that isn't free on a list of the machine's defects. Each set of faults that explains what was read leaves an image that is called
+-- sound alone, so that it runs soundly under it, and under it a part that is in doubt isn't sound, or is out of reach; and where one
+-- such set has no fault near the image and the machine is wide enough for it, it is called sound, with at most 256 loads for each part
+-- and each involved node
 pub record IsChecked (machine name image : List ℕ) (old new : Outside) : Type 0 where
   pub shape : Shape
   pub given : ImageValue
@@ -37,6 +37,6 @@ pub record IsChecked (machine name image : List ℕ) (old new : Outside) : Type 
   pub image_is : IfTold (old.store.contents image) (λ bytes. Reads shape bytes given)
   pub found : IsFound given old.rig.loads new.rig answer
   pub written : Wrote old.sink.written new.sink.written (answer_line shape answer)
-  pub right : (f : Faults) → MayHave f new.rig → IsTrueUnder f given answer
-  pub whole : (f : Faults) → MayHave f new.rig → IsUnharmed f given →
+  pub right : (f : Faults) → Explains f new.rig → IsTrueUnder f given answer
+  pub whole : (f : Faults) → Explains f new.rig → IsUnharmed f given →
       (answer ≡ Sound) × TakesForParts given old.rig.loads new.rig.loads

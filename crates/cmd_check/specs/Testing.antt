@@ -2,9 +2,8 @@
 use Rattle.std.specs.Prelude.{ℕ, Bool, IsTrue}
 use Rattle.machine_meaning.specs.Faults.{Faults}
 use Rattle.machine_image.specs.Images.{ImageValue}
-use Rattle.rig.specs.Rig.{RigState}
+use Rattle.rig.specs.Rig.{RigState, Explains}
 use Rattle.diag_check.specs.Soundly.{IsUnharmed, IsSoundUnder, TakesForParts}
-use Rattle.diag_list.specs.Possible.{MayHave}
 use Rattle.cmd_steps.specs.Vocabulary.{Step, FailsOnRig}
 
 -- what a test found, and how many loads the rig counted then
@@ -12,11 +11,11 @@ pub record Tried : Type 0 where
   pub sound : Bool
   pub loads : ℕ
 
--- Whatever faults the machine may have: what is found sound they leave alone, so that it runs soundly, and where they leave the image
--- unharmed, it is found sound. It took few loads from so many that the rig counted before
+-- Each set of faults that explains what was read leaves what is found sound alone, so that it runs soundly; and where one such set
+-- leaves the image unharmed, it is found sound. It took few loads from so many that the rig counted before
 pub record IsTried (i : ImageValue) (before : ℕ) (rig : RigState) (t : Tried) : Type 0 where
-  pub sound : (f : Faults) → MayHave f rig → IsTrue t.sound → IsSoundUnder f i
-  pub whole : (f : Faults) → MayHave f rig → IsUnharmed f i → IsTrue t.sound
+  pub sound : (f : Faults) → Explains f rig → IsTrue t.sound → IsSoundUnder f i
+  pub whole : (f : Faults) → Explains f rig → IsUnharmed f i → IsTrue t.sound
   pub few : TakesForParts i before t.loads
 
 -- an image is tested, with few loads, also where the test isn't made

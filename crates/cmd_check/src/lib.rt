@@ -2,8 +2,7 @@
 //!
 //! Promised (`check`): it does its job to every end (`does`), and the job is lawful (`lawful`). Its course says how its answer
 //! came: by the test alone, or by a list that was made behind it, with few loads for both, of which none follows on the answer.
-//! What the answer means, under each set of faults that explains all that was read of the machine, and under those that the rig
-//! tells: `Promises`.
+//! What the answer means, under each set of faults that explains all that was read of the machine: `Promises`.
 #![tactic(auto)]
 
 mod answer;

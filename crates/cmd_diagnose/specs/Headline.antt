@@ -6,8 +6,8 @@ use Rattle.machine_defects.specs.Text.{text_of}
 use Rattle.cmd_steps.specs.Vocabulary.{Outside, IsMachineText}
 use Rattle.diag_list.specs.Lists.{Listed, IsListed}
 
--- The machine of the text is attached under the name, and the text of a list of its defects is written: a diagnosis of whatever
--- faults the machine may have. No load was made but those of the diagnosis
+-- The machine of the text is attached under the name, and the text of a list of its defects is written, a diagnosis by all that was
+-- read. No load was made but those of the diagnosis
 pub record IsDiagnosed (machine name : List ℕ) (old new : Outside) : Type 0 where
   pub shape : Shape
   pub made : Listed

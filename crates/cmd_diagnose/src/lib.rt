@@ -1,8 +1,8 @@
 //! The command that lists the defects of a machine of the rig.
 //!
 //! Promised (`diagnose`): it does its job to every end (`does`), and the job is lawful (`lawful`). At status 0 the text of a list
-//! is written that covers each set of faults that explains all that was read of the machine, and the faults that the rig tells, and
-//! is tight to them; at every end few loads were made, and none but those of the list (`Promises`).
+//! is written that covers each set of faults that explains all that was read of the machine, and is tight to it; at every end few
+//! loads were made, and none but those of the list (`Promises`).
 #![tactic(auto)]
 
 mod command;

@@ -68,7 +68,7 @@ module _ (draft : NetlistData) (before : StoreState) (old : SinkState) (rows row
   are-rows = rows-of draft so_far.taken so_far.made rows.eval.run so_far.go_on
 
   onward : (rig : RigState) (from to : SinkState) → to.can_lack ≡ from.can_lack → from.failures ≤ to.failures → IsLater (outside store rig from) (outside store' rig to)
-  onward rig from to kind later = row-later store store' rig rig from to stays refl (λ f e. e) (omega arith) kind later
+  onward rig from to kind later = row-later store store' rig rig from to stays refl (λ f e. e) (λ t. t) (omega arith) kind later
 
   -- all rows were put out before the store was read
   module _ (rig : RigState) (left : List ℕ) (out : IsPutOut rows.block.text left sink sink') where
@@ -114,7 +114,7 @@ module _ (draft : NetlistData) (before : StoreState) (old : SinkState) (rows row
     row-stops rig stop left last waits =
         let held = not-added _ left stop store' sink' last (some-lines rows'.block.text rows'.row.items) waits in
         held-follows work _ (outside store' rig sink') (outside store' rig last) _ _ _ _ (with-it rig)
-        (row-later store' store' rig rig sink' last (stays-same store') refl (λ f e. e) (omega arith) held.kind held.later) refl refl refl (Unit {0}) tt (rows-of draft _ _ rows'.eval.run more-on) (inl tt) refl stop held
+        (row-later store' store' rig rig sink' last (stays-same store') refl (λ f e. e) (λ t. t) (omega arith) held.kind held.later) refl refl refl (Unit {0}) tt (rows-of draft _ _ rows'.eval.run more-on) (inl tt) refl stop held
 
     -- or they are, or wait
     pub running-more : (last_rows : Evaluation) (last : SinkState) → last_rows.eval ≡ rows'.eval → last_rows.vectors ≡ rows'.vectors → IsSized last_rows → WaitsOrPuts (rows'.block.text ++ row_line rows'.row.items) last_rows.block.text (Ok tt) sink' last → IsRunning draft before old last_rows store' last

@@ -76,7 +76,7 @@ module _ (machine name design vectors : List ℕ) where
             let d = l.list in
             let network : IsNetwork n = subst (λ (x : Network). IsNetwork x) (sym parts.plain) (networks draft checked) in
             let short = subst (λ (x : Network). IsShortInOrder d.shape d.list x place.short) (none.plain ∙ sym parts.plain) none.short in
-            sure m d.list parts.faults n place.short network (list.right.tight parts.faults parts.may_have) parts.standing
+            sure m d.list parts.faults n place.short network (list.right.tight parts.faults parts.explained) parts.standing
             (subst (λ (s : Shape). IsShortInOrder s d.list n place.short) list.shape short)
 
         fits : (front : List ℕ) → GoRight files new.rig front → IsRight words old (Fits words old new front)

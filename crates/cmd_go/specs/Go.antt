@@ -3,8 +3,7 @@ use Rattle.std.specs.Prelude.{◌≡◌, ◌⊎◌, ℕ, ◌≤◌, List, [], �
 use Rattle.base_io.specs.Told.{Told}
 use Rattle.machine_shape.specs.declared.Shape.{Shape}
 use Rattle.machine_meaning.specs.Faults.{Faults}
-use Rattle.rig.specs.Rig.{RigState}
-use Rattle.diag_list.specs.Possible.{MayHave}
+use Rattle.rig.specs.Rig.{RigState, Explains}
 use Rattle.machine_text.specs.Machine.{IsMachine}
 use Rattle.design_netlist.specs.declared.netlist_data.NetlistData.{NetlistData}
 use Rattle.design_netlist.specs.Rows.{AreRows}
@@ -59,10 +58,10 @@ pub record AreGoTexts (t : GoFiles) : Type 0 where
   pub design : IsRightFile t.design (λ bytes. IsDesign bytes draft)
   pub vectors : AreRightVectors t.vectors (length draft.inputs)
 
--- the machine may have faults under which as many parts stand as the plain network has
+-- some faults explain what was read under which as many parts stand as the plain network has
 pub record HasPartsFor (rig : RigState) (m : Shape) (draft : NetlistData) : Type 0 where
   pub faults : Faults
-  pub may_have : MayHave faults rig
+  pub explained : Explains faults rig
   pub network : Network
   pub plain : IsPlainNetwork draft network
   pub standing : HasStandingRoom m faults network

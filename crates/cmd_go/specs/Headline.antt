@@ -8,10 +8,10 @@ use Rattle.design_netlist.specs.declared.netlist_data.NetlistData.{NetlistData}
 use Rattle.design_netlist.specs.Rows.{AreRows}
 use Rattle.machine_image.specs.Images.{ImageValue}
 use Rattle.machine_history.specs.Vocabulary.{History, IsHistoryOf, IsRunOver}
-use Rattle.rig.specs.Rig.{cycles_of, drives_of, readings_of}
+use Rattle.rig.specs.Rig.{Explains, cycles_of, drives_of, readings_of}
 use Rattle.place_route.specs.RightImages.{IsRightImage}
 use Rattle.cmd_steps.specs.Vocabulary.{Outside, IsMachineText, IsDesignText}
-use Rattle.diag_list.specs.Possible.{MayHave, TakesFewLoadsOn}
+use Rattle.diag_list.specs.Possible.{TakesFewLoadsOn}
 use Rattle.diag_list.specs.Lists.{Listed}
 use Rattle.place_design.specs.Laying.{HasRoom, IsRoutedDesign}
 use Rattle.run_image.specs.Headline.{IsAskedInOrder, IsWrittenWhole, UsesNothingListed, IsAsRead}
@@ -28,7 +28,7 @@ pub record IsGone (machine name design vectors : List ℕ) (old new : Outside) :
   pub list_shape : made.list.shape ≡ shape
   pub asked_in_order : IsAskedInOrder machine name (design ∷ vectors ∷ []) shape old new
   pub written_whole : IsWrittenWhole vectors made.list (length draft.inputs) all_vectors rows old new
-  pub covers_every_fault : (f : Faults) → MayHave f new.rig → Covers shape made.list.list f
+  pub covers_every_fault : (f : Faults) → Explains f new.rig → Covers shape made.list.list f
   pub uses_nothing_listed : UsesNothingListed made.list image new.rig
   -- a pin for each input and each output of the design, all different
   pub inputs : length image.inputs ≡ length draft.inputs
@@ -36,7 +36,7 @@ pub record IsGone (machine name design vectors : List ℕ) (old new : Outside) :
   -- for all vectors, under all faults that the list covers
   pub image_right : (f : Faults) → Covers shape made.list.list f → IsRightImage f image draft
   pub as_the_machine_read : IsAsRead image all_vectors rows new.rig
-  pub exactly_the_outputs : (f : Faults) → MayHave f new.rig → AreRows draft all_vectors rows
+  pub exactly_the_outputs : (f : Faults) → Explains f new.rig → AreRows draft all_vectors rows
   -- whatever the listed parts do, at any time: where the list covers the faults of each instant of a history, and the session's
   -- readings are the run over it, the rows are the design's
   pub listed_parts_at_will : (h : History) → IsHistoryOf shape h →
@@ -49,8 +49,8 @@ pub record IsWellGone (machine name design vectors : List ℕ) (old new : Outsid
   -- no table is on and no crosspoint closed that the design doesn't need
   pub routed : IsRoutedDesign gone.made.list gone.draft gone.image
   -- the list is tight, and so fair; few loads were made for it, and exactly one after it
-  pub tight : (f : Faults) → MayHave f new.rig → IsTight gone.shape gone.made.list.list f
-  pub fair : (f : Faults) → MayHave f new.rig → IsFair gone.shape gone.made.list.list f
+  pub tight : (f : Faults) → Explains f new.rig → IsTight gone.shape gone.made.list.list f
+  pub fair : (f : Faults) → Explains f new.rig → IsFair gone.shape gone.made.list.list f
   pub few : TakesFewLoadsOn new.rig gone.shape old.rig.loads gone.made.loads
   pub loaded_once : new.rig.loads ≡ next_count gone.made.loads
 

@@ -2,8 +2,8 @@
 //!
 //! Promised (`go`): it does its job to every end (`does`), and the job is lawful: right files lead to status 0, lack of memory or
 //! a failure, and no room on the list that stands written to status 3 (`lawful`). What it has done, at every end and at status 0:
-//! `Promises`. That is said of each set of faults that the machine may have: those that its rig tells, and each that explains all
-//! that was read of it. Where there are parts enough for the design under one such set, there is room.
+//! `Promises`. What is said there of faults is said of each set that explains all that was read of the machine. Where there are parts
+//! enough for the design under one such set, there is room.
 #![tactic(auto)]
 
 mod command;

@@ -7,14 +7,22 @@ use Rattle.machine_defects.specs.Vocabulary.{DefectList, IsDefectList, text_of}
 use Rattle.design_netlist.specs.declared.netlist_data.NetlistData.{NetlistData}
 use Rattle.machine_image.specs.Images.{ImageValue}
 use Rattle.machine_history.specs.Vocabulary.{History, IsHistoryOf, IsRunOver}
+<<<<<<< HEAD
+use Rattle.rig.specs.Rig.{Explains, cycles_of, drives_of, readings_of}
+use Rattle.place_route.specs.Vocabulary.{IsRightImage, ReadsRows, IsRoutedInOrder}
+||||||| 3b1fc541
 use Rattle.rig.specs.Rig.{cycles_of, drives_of, readings_of}
 use Rattle.place_route.specs.Vocabulary.{IsRightImage, ReadsRows, IsRoutedInOrder}
+=======
+use Rattle.rig.specs.Rig.{cycles_of, drives_of, readings_of}
+use Rattle.place_route.specs.Vocabulary.{IsRightImage, ReadsRows}
+>>>>>>> n_bind
 use Rattle.place_pair.specs.Tenants.{AreTenants, StandApart}
 use Rattle.cmd_steps.specs.Vocabulary.{Outside, IsMachineText, IsDesignText}
-use Rattle.diag_list.specs.Possible.{MayHave, TakesFewLoadsOn}
+use Rattle.diag_list.specs.Possible.{TakesFewLoadsOn}
 use Rattle.diag_list.specs.Lists.{Listed}
 use Rattle.run_image.specs.Headline.{IsAskedInOrder, IsWrittenWhole, UsesNothingListed, IsAsRead}
-use Rattle.place_both.specs.Both.{AreBothRows, BothHaveRoom, joint_of}
+use Rattle.place_both.specs.Both.{AreBothRows, BothHaveRoom, IsRoutedForBoth}
 use Rattle.place_both.specs.Alone.{AreRightWhileAlone}
 
 -- Of the rig's one session: its configuration, with a list of input pins and a list of output pins, is `image`. The parts of it
@@ -32,18 +40,18 @@ pub record IsPaired (machine name first second vectors : List ℕ) (old new : Ou
   pub list_shape : made.list.shape ≡ shape
   pub asked_in_order : IsAskedInOrder machine name (first ∷ second ∷ vectors ∷ []) shape old new
   pub written_whole : IsWrittenWhole vectors made.list (length first_draft.inputs + length second_draft.inputs) all_vectors rows old new
-  pub covers_every_fault : (f : Faults) → MayHave f new.rig → Covers shape made.list.list f
+  pub covers_every_fault : (f : Faults) → Explains f new.rig → Covers shape made.list.list f
   pub uses_nothing_listed : UsesNothingListed made.list image new.rig
   -- a pin for each input of the first design and then of the second, and so for each output, all different
   pub inputs : length image.inputs ≡ length first_draft.inputs + length second_draft.inputs
   pub outputs : length image.outputs ≡ length first_draft.outputs + length second_draft.outputs
-  -- no table is on and no crosspoint closed that the designs don't need, on the in-order plan of their joint network
-  pub routed : IsRoutedInOrder made.list.shape made.list.list (joint_of first_draft second_draft) image
+  -- no table is on and no crosspoint closed that isn't needed
+  pub routed : IsRoutedForBoth made.list first_draft second_draft image
   -- for all vectors, and under all faults that the list covers, the readings are the rows of both designs side by side
   pub image_right : (f : Faults) → Covers shape made.list.list f → ReadsRows f image (AreBothRows first_draft second_draft)
   pub as_the_machine_read : IsAsRead image all_vectors rows new.rig
   -- and so are the rows that were written
-  pub exactly_the_outputs : (f : Faults) → MayHave f new.rig → AreBothRows first_draft second_draft all_vectors rows
+  pub exactly_the_outputs : (f : Faults) → Explains f new.rig → AreBothRows first_draft second_draft all_vectors rows
   -- each design runs as it would alone
   pub first_image : ImageValue
   pub second_image : ImageValue
@@ -63,8 +71,8 @@ pub record IsPaired (machine name first second vectors : List ℕ) (old new : Ou
   pub second_while_alone : AreRightWhileAlone new.rig image second_image second_draft
       (map (drop (length first_draft.inputs)) all_vectors) (map (drop (length first_draft.outputs)) rows)
   -- the list is tight besides, and so fair; few loads were made for it, and exactly one after it
-  pub tight : (f : Faults) → MayHave f new.rig → IsTight shape made.list.list f
-  pub fair : (f : Faults) → MayHave f new.rig → IsFair shape made.list.list f
+  pub tight : (f : Faults) → Explains f new.rig → IsTight shape made.list.list f
+  pub fair : (f : Faults) → Explains f new.rig → IsFair shape made.list.list f
   pub few : TakesFewLoadsOn new.rig shape old.rig.loads made.loads
   pub loaded_once : new.rig.loads ≡ next_count made.loads
 

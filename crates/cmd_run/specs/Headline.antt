@@ -27,7 +27,7 @@ pub record IsRan (machine name image vectors : List ℕ) (old new : Outside) : T
   pub config : config_of new.rig ≡ Some loaded.config
   pub drives : drives_of (cycles_of new.rig) ≡ map (drive_of loaded) all_vectors
   pub rows_are : rows ≡ map (image_row loaded) (readings_of (cycles_of new.rig))
-  -- whatever faults the machine may have, the readings are the machine's under them
+  -- under each set of faults that explains what was read, the rows are what the image reads
   pub rows_right : AreRowsOf new.rig loaded all_vectors rows
   -- Where the readings are a run over a history that leaves the image, in itself, alone for n cycles, the first n rows are those of
   -- its run without faults

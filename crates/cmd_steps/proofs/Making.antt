@@ -1,7 +1,7 @@
 -- Steps that touch the rig alone.
 use Rattle.std.proofs.Common.{◌≡◌, ◌≤◌, false, [], None, refl, sym, ap, append-nil, arith, Ok, Err}
 use Rattle.base_io.specs.Vocabulary.{untold, StoreState, SinkState}
-use Rattle.rig.specs.Rig.{RigState, Machine, Narrows}
+use Rattle.rig.specs.Rig.{RigState, Machine, Narrows, Tells}
 use Rattle.cmd_steps.specs.Vocabulary.{Outside, outside, IsLater, Step, StepStops, IsCounted, Took}
 use Rattle.cmd_steps.specs.declared.refusal.Stop.{Stop}
 use Rattle.cmd_steps.proofs.Logs.{log_kept}
@@ -47,9 +47,9 @@ module _ {T : Type 0} (step : Step T) {store : StoreState} {sink : SinkState} {o
   }
 
 -- the rig alone was used, its machine is the same, and its log goes on
-module _ {T : Type 0} (step : Step T) (old new : RigState) (store : StoreState) (sink : SinkState) (machine : new.machine ≡ old.machine) (narrows : Narrows old new) (later : old.failures ≤ new.failures) where
+module _ {T : Type 0} (step : Step T) (old new : RigState) (store : StoreState) (sink : SinkState) (machine : new.machine ≡ old.machine) (narrows : Narrows old new) (tells : Tells old new) (later : old.failures ≤ new.failures) where
   abbrev on-rig : IsLater (outside store old sink) (outside store new sink)
-  on-rig = record { contents = refl; texts = ap (λ (m : Machine). m.texts) machine; kind = refl; store = omega arith; rig = later; sink = omega arith; log = log_kept machine narrows }
+  on-rig = record { contents = refl; texts = ap (λ (m : Machine). m.texts) machine; kind = refl; store = omega arith; rig = later; sink = omega arith; log = log_kept machine narrows tells }
 
   pub rig-took : (x : T) → step.gives x → Took [] step (Ok x) (outside store old sink) (outside store new sink)
   rig-took = took-quietly step on-rig

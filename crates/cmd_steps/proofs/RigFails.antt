@@ -1,7 +1,7 @@
 -- Steps that leave the machine as it is, and stop: by the fault of the rig, or for lack of memory.
 use Rattle.std.proofs.Common.{◌≡◌, ◌≤◌, [], refl, Result, Err}
 use Rattle.base_io.specs.Vocabulary.{Rose, StoreState, SinkState}
-use Rattle.rig.specs.Rig.{RigState, Narrows}
+use Rattle.rig.specs.Rig.{RigState, Narrows, Tells}
 use Rattle.rig.specs.declared.rig.RigFail.{RigFail}
 use Rattle.rig.specs.declared.rig.RigFail.TheVariants as work
 use Rattle.cmd_steps.specs.Vocabulary.{Outside, outside, Course, Step, after, stop_of_rig, FailsOnRig, Took, Follows}
@@ -15,13 +15,13 @@ use Rattle.cmd_steps.proofs.Taking.{took-nothing}
 
 -- a step on the rig fails
 pub rig-fails : {T : Type 0} (step : Step T) (old new : RigState) (store : StoreState) (sink : SinkState) →
-    new.machine ≡ old.machine → Narrows old new → old.failures ≤ new.failures → (fail : RigFail) → (fail ≡ work.Failed → Rose old.failures new.failures) →
+    new.machine ≡ old.machine → Narrows old new → Tells old new → old.failures ≤ new.failures → (fail : RigFail) → (fail ≡ work.Failed → Rose old.failures new.failures) →
     ((refusal : Refusal) → FailsOnRig refusal → step.stops refusal) →
     Took [] step (Err (stop_of_rig fail)) (outside store old sink) (outside store new sink)
-rig-fails step old new store sink machine narrows later work.Failed cause stops =
-    rig-stopped step old new store sink machine narrows later (Refused refused.Rig) (stops refused.Rig tt) (cause refl)
-rig-fails step old new store sink machine narrows later work.Memory cause stops =
-    rig-stopped step old new store sink machine narrows later (Refused refused.Memory) (stops refused.Memory tt) tt
+rig-fails step old new store sink machine narrows tells later work.Failed cause stops =
+    rig-stopped step old new store sink machine narrows tells later (Refused refused.Rig) (stops refused.Rig tt) (cause refl)
+rig-fails step old new store sink machine narrows tells later work.Memory cause stops =
+    rig-stopped step old new store sink machine narrows tells later (Refused refused.Memory) (stops refused.Memory tt) tt
 
 module _ {T U : Type 0} (step : Step T) (here : Type 0) (rest : T → Course) where
   -- each refusal that stops the step as it was made stops it in the course

@@ -5,7 +5,7 @@ use native.Mathlib.Decide.{dec_lt}
 use Rattle.base_io.specs.Vocabulary.{StoreState, SinkState, Wrote, PutFails}
 use Rattle.base_io.specs.declared.sink.SinkFail.{SinkFail}
 use Rattle.base_io.specs.declared.sink.SinkFail.TheVariants.{Failed, Memory}
-use Rattle.rig.specs.Rig.{RigState, Machine, Narrows}
+use Rattle.rig.specs.Rig.{RigState, Machine, Narrows, Tells}
 use Rattle.design_vectors.specs.declared.vectors.VectorsFail.{VectorsFail}
 use Rattle.design_vectors.specs.declared.vectors.VectorsFail.TheVariants.{Text, Failed as VectorsFailed}
 use Rattle.design_vectors.specs.Readings.{VectorReading, new_reading, NextGives, NextFails}
@@ -47,15 +47,15 @@ none-written width o begun = record {
 }
 
 -- what a row leaves as it was, and counts that never fall
-pub row-later : (store store' : StoreState) (rig rig' : RigState) (sink sink' : SinkState) → StaysOpen store store' → rig'.machine ≡ rig.machine → Narrows rig rig' → rig.failures ≤ rig'.failures → sink'.can_lack ≡ sink.can_lack → sink.failures ≤ sink'.failures → IsLater (outside store rig sink) (outside store' rig' sink')
-row-later store store' rig rig' sink sink' stays machine narrows rig_later kind sink_later = record {
+pub row-later : (store store' : StoreState) (rig rig' : RigState) (sink sink' : SinkState) → StaysOpen store store' → rig'.machine ≡ rig.machine → Narrows rig rig' → Tells rig rig' → rig.failures ≤ rig'.failures → sink'.can_lack ≡ sink.can_lack → sink.failures ≤ sink'.failures → IsLater (outside store rig sink) (outside store' rig' sink')
+row-later store store' rig rig' sink sink' stays machine narrows tells rig_later kind sink_later = record {
   contents = stays.contents;
   texts = ap (λ (m : Machine). m.texts) machine;
   kind = kind;
   store = stays.later;
   rig = rig_later;
   sink = sink_later;
-  log = log_kept machine narrows;
+  log = log_kept machine narrows tells;
 }
 
 asks-none : {T : Type 0} (result : Result T Stop) (old new : StoreState) → new.asked ≡ old.asked → Asks [] result old new

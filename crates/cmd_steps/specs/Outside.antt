@@ -1,7 +1,7 @@
 -- What a command has around it: the store, the rig and the sink.
-use Rattle.std.specs.Prelude.{◌≡◌, ◌⊎◌, ℕ, ◌+◌, ◌≤◌, List, [], ◌∷◌, length, IfSome}
+use Rattle.std.specs.Prelude.{◌≡◌, ◌⊎◌, ℕ, ◌+◌, ◌<◌, ◌≤◌, List, [], ◌∷◌, length, IfSome, IsSome}
 use Rattle.base_io.specs.Vocabulary.{Rose, StoreState, SinkState}
-use Rattle.rig.specs.Rig.{RigState, Narrows}
+use Rattle.rig.specs.Rig.{RigState, Narrows, ToldExplain}
 use Rattle.base_text.specs.Size.{most_bytes}
 
 -- the store and the rig
@@ -27,10 +27,17 @@ SomethingRose old new =
     (Rose old.store.failures new.store.failures ⊎ Rose old.sink.failures new.sink.failures)
     ⊎ (Rose old.rig.failures new.rig.failures ⊎ Rose old.rig.machine.refused.times new.rig.machine.refused.times)
 
--- No machine that was asked for is forgotten. Where none was asked for since, what explains all that is read now explained it before
+-- told faults of the machine that is attached explain all that was read of it
+abbrev pub TellsTruly : RigState → Type 0
+TellsTruly rig = IsSome rig.machine.attached → ToldExplain rig
+
+-- No machine that was asked for is forgotten. Where none was asked for since, what explains all that is read now explained it before.
+-- Told faults explain it if they did before, and where a machine was asked for since, they do
 pub record LogGoesOn (old new : RigState) : Type 0 where
   pub asked : length old.machine.asked ≤ length new.machine.asked
   pub narrows : length new.machine.asked ≡ length old.machine.asked → Narrows old new
+  pub tells : TellsTruly old → TellsTruly new
+  pub told : length old.machine.asked < length new.machine.asked → TellsTruly new
 
 -- what no step changes, and counts that never fall
 pub record IsLater (old new : Outside) : Type 0 where

@@ -6,7 +6,7 @@ pub use Rattle.cmd_steps.specs.Lines.{as_line, nets_text, output_text, outputs_l
 pub use Rattle.cmd_steps.specs.Faults.{ShortPlace}
 pub use Rattle.cmd_steps.specs.Files.{AreAll, AreBeforeFault, AreFirst, AreRightVectors, IsBegun, IsNearNext, end_at, file_of, most_ahead}
 pub use Rattle.cmd_steps.specs.Files.{most_vector_bytes, says_at, vectors_at}
-pub use Rattle.cmd_steps.specs.Outside.{Around, IsLater, LogGoesOn, Outside, SomethingRose, StandsIn, around, outside}
+pub use Rattle.cmd_steps.specs.Outside.{Around, IsLater, LogGoesOn, Outside, SomethingRose, StandsIn, TellsTruly, around, outside}
 pub use Rattle.cmd_steps.specs.Courses.{Course, HasReadRows, HasRows, IsBeforeRow, Next, RowWork, Step, StopsAt, after, all_rows, done}
 pub use Rattle.cmd_steps.specs.Courses.{ends, refuses, write, writes}
 pub use Rattle.cmd_steps.specs.Texts.{AsksMachine, FailsOnRig, IsDefectsText, IsDesignText, IsImageText, IsMachineText, IsNoDesign}

@@ -158,7 +158,7 @@ module _ (machine name design vectors : List ℕ) (old new : Outside) (text more
         no-rows all outputs_line refusal n refl (ap (λ (s : List ℕ). s ++ more) alone ∙ ap (λ (s : List ℕ). all ++ s) part)
 
     pub covers-all : (f : Faults) → Explains f new.rig → Covers l.list.shape l.list.list f
-    covers-all f e = subst (λ (s : Shape). Covers s l.list.list f) (sym list.shape) (list.right.covers f (inr e))
+    covers-all f e = subst (λ (s : Shape). Covers s l.list.list f) (sym list.shape) (list.right.covers f e)
 
     -- rows are written
     in-rows : (draft : NetlistData) → (reads_design Design (old.store.contents design)).gives draft → (rest : List ℕ) → text ≡ text_of l.list ++ rest → (i : ImageValue) → IsImageForTwice l.list draft i
@@ -202,7 +202,7 @@ module _ (machine name design vectors : List ℕ) (old new : Outside) (text : Li
       → (i : ImageValue) → IsImageForTwice l.list draft i → (lines : List ℕ) → rest ≡ outputs_line ++ lines
       → all_rows (rows_work (twice_laid draft) i (old.store.contents vectors) new.store.current old.rig.failures new.rig) lines (refuses refused.Differ) → ReadDifferently machine name design vectors old new
   differ-at m read attached l list draft gives rest is i laid lines first h =
-      let covers : (f : Faults) → Explains f new.rig → Covers l.list.shape l.list.list f = λ f e. subst (λ (s : Shape). Covers s l.list.list f) (sym list.shape) (list.right.covers f (inr e)) in
+      let covers : (f : Faults) → Explains f new.rig → Covers l.list.shape l.list.list f = λ f e. subst (λ (s : Shape). Covers s l.list.list f) (sym list.shape) (list.right.covers f e) in
       let apart = h.1 in
       let rows = h.0.rows in
       let driven = h.0.vectors ++ apart.vector ∷ [] in

@@ -1,5 +1,5 @@
 -- What a `twice` that is done has done, from its course.
-use Rattle.std.proofs.Common.{◌≡◌, ◌+◌, ◌∙◌, ℕ, List, [], ◌∷◌, ◌++◌, length, Result, Ok, Err, OnOk, sym, ap, subst, inr, map, take}
+use Rattle.std.proofs.Common.{◌≡◌, ◌+◌, ◌∙◌, ℕ, List, [], ◌∷◌, ◌++◌, length, Result, Ok, Err, OnOk, sym, ap, subst, map, take}
 use Rattle.base_io.specs.Sink.{Wrote}
 use Rattle.machine_shape.specs.declared.Shape.{Shape}
 use Rattle.machine_meaning.specs.Vocabulary.{Covers, Faults}
@@ -43,7 +43,7 @@ module _ (machine name design vectors : List ℕ) (old new : Outside) where
       let wide : AreWide (length draft.inputs) r.vectors = wide-vectors (length draft.inputs) r.image r.vectors both.inputs r.widths in
       let taken : take (length r.rows) (map (image_row r.image) (readings_of (cycles_of new.rig))) ≡ all_repeated Two r.rows = ap (take (length r.rows)) (sym r.as_read.rows_are) ∙ all-taken r.rows in
       let wide_rows : AreWide (length draft.outputs) r.rows = wide-rows (length draft.outputs) r.image (readings_of (cycles_of new.rig)) r.rows both.outputs taken in
-      let covers : (f : Faults) → Explains f new.rig → Covers r.made.list.shape r.made.list.list f = λ f e. r.covers f (inr e) in
+      let covers : (f : Faults) → Explains f new.rig → Covers r.made.list.shape r.made.list.list f = λ f e. r.covers f e in
       let read : AreReadByBoth r.made.list draft r.vectors r.rows new.rig =
       read-by-both r.made.list draft r.image r.laid r.vectors new.rig r.uses_nothing_listed.config r.as_read.drives r.widths covers r.rows taken in
       let here : (f : Faults) → Covers h.shape r.made.list.list f → Covers r.made.list.shape r.made.list.list f = λ f. subst (λ (s : Shape). Covers s r.made.list.list f) (sym r.list.shape) in (
@@ -65,7 +65,7 @@ module _ (machine name design vectors : List ℕ) (old new : Outside) where
           routed = both.routed;
           image_right = λ f covered. both.right f (here f covered);
           as_the_machine_read = r.as_read;
-          exactly_the_outputs = λ f may. whole-rows draft r.vectors r.rows wide wide_rows (r.outputs f may);
+          exactly_the_outputs = λ f e. whole-rows draft r.vectors r.rows wide wide_rows (r.outputs f e);
           first_image = both.first_image;
           second_image = both.second_image;
           tenants = both.tenants;

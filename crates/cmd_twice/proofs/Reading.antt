@@ -127,8 +127,8 @@ whole-rows draft vectors rows wide wide_rows both =
 pub logged-rows : (draft : NetlistData) (d : DefectList) (i : ImageValue) → IsImageForTwice d draft i → (rig : RigState) (driven all rows : List (List Bool)) → AreLaidRows (twice_laid draft) rig i (all_repeated Two driven) (all_repeated Two all)
     → rows ≡ take (length rows) all → (f : Faults) → Explains f rig → AreFirstRows draft driven rows
 logged-rows draft d i is rig driven all rows are front f e =
-    let read = are.read.read f (inr e) in
+    let read = are.read.read f e in
     let taken : take (length all) (map (image_row i) read.0) ≡ all_repeated Two all = ap (take (length all)) (sym read.2) ∙ all-taken all in
     let wide = wide-vectors (length draft.inputs) i driven is.both.inputs are.read.widths in
     let wide_rows = wide-rows (length draft.outputs) i read.0 all is.both.outputs taken in
-    (all, whole-rows draft driven all wide wide_rows (are.right f (inr e)), front)
+    (all, whole-rows draft driven all wide wide_rows (are.right f e), front)

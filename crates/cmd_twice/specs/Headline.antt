@@ -9,13 +9,13 @@ use Rattle.design_netlist.specs.Rows.{AreRows}
 use Rattle.machine_image.specs.Images.{ImageValue, drive_of, image_row}
 use Rattle.machine_history.specs.Vocabulary.{History, IsHistoryOf, IsRunOver, LeavesAloneFor}
 use Rattle.rig.specs.Rig.{RigState, Explains, config_of, cycles_of, drives_of, readings_of}
-use Rattle.place_route.specs.Vocabulary.{IsRightImage, ReadsRows, IsRoutedInOrder}
+use Rattle.place_route.specs.Vocabulary.{IsRightImage, ReadsRows}
 use Rattle.place_pair.specs.Tenants.{AreTenants, StandApart}
-use Rattle.place_both.specs.Both.{AreBothRows, BothHaveRoom, IsImageForBoth, joint_of}
+use Rattle.place_both.specs.Both.{AreBothRows, BothHaveRoom, IsImageForBoth, IsRoutedForBoth}
 use Rattle.cmd_steps.specs.Vocabulary.{AreFirst, outputs_line, output_text, Outside, refusal_text, IsMachineText, IsDesignText}
 use Rattle.cmd_steps.specs.declared.refusal.Refusal.{Refusal}
 use Rattle.cmd_steps.specs.declared.refusal.Refusal.TheVariants.{Differ}
-use Rattle.diag_list.specs.Possible.{MayHave, TakesFewLoadsOn}
+use Rattle.diag_list.specs.Possible.{TakesFewLoadsOn}
 use Rattle.diag_list.specs.Lists.{Listed}
 use Rattle.run_image.specs.Copying.{all_repeated, HalvesDiffer}
 use Rattle.run_image.specs.Headline.{IsListOfMachine, IsAskedInOrder, IsWrittenWhole, UsesNothingListed, IsAsRead}
@@ -106,18 +106,18 @@ pub record IsDoneTwice (machine name design vectors : List ℕ) (old new : Outsi
   pub list_shape : made.list.shape ≡ shape
   pub asked_in_order : IsAskedInOrder machine name (design ∷ vectors ∷ []) shape old new
   pub written_whole : IsWrittenWhole vectors made.list (length draft.inputs) all_vectors rows old new
-  pub covers_every_fault : (f : Faults) → MayHave f new.rig → Covers shape made.list.list f
+  pub covers_every_fault : (f : Faults) → Explains f new.rig → Covers shape made.list.list f
   pub uses_nothing_listed : UsesNothingListed made.list image new.rig
   -- a pin of each copy for each input of the design, and so for each output, all different
   pub inputs : length image.inputs ≡ length draft.inputs + length draft.inputs
   pub outputs : length image.outputs ≡ length draft.outputs + length draft.outputs
-  -- no table is on and no crosspoint closed that the copies don't need, on the in-order plan of their joint network
-  pub routed : IsRoutedInOrder made.list.shape made.list.list (joint_of draft draft) image
+  -- no table is on and no crosspoint closed that the copies don't need
+  pub routed : IsRoutedForBoth made.list draft draft image
   -- for all vectors of the two copies, equal or not, the readings are the rows of both side by side
   pub image_right : (f : Faults) → Covers shape made.list.list f → ReadsRows f image (AreBothRows draft draft)
   -- the session has a cycle for each vector, driven on the input pins of both copies, and each row is both halves of its reading
   pub as_the_machine_read : IsAsRead image (all_repeated Two all_vectors) (all_repeated Two rows) new.rig
-  pub exactly_the_outputs : (f : Faults) → MayHave f new.rig → AreRows draft all_vectors rows
+  pub exactly_the_outputs : (f : Faults) → Explains f new.rig → AreRows draft all_vectors rows
   -- each copy runs as it would alone
   pub first_image : ImageValue
   pub second_image : ImageValue
@@ -133,8 +133,8 @@ pub record IsDoneTwice (machine name design vectors : List ℕ) (old new : Outsi
   -- and so they are where one and the same copy is left alone, whatever is done to the other and to all else
   pub one_copy_is_enough : AreRightWhileOneIsAlone new.rig image first_image second_image draft all_vectors rows
   -- the list is tight besides, and so fair; few loads were made for it, and exactly one after it
-  pub tight : (f : Faults) → MayHave f new.rig → IsTight shape made.list.list f
-  pub fair : (f : Faults) → MayHave f new.rig → IsFair shape made.list.list f
+  pub tight : (f : Faults) → Explains f new.rig → IsTight shape made.list.list f
+  pub fair : (f : Faults) → Explains f new.rig → IsFair shape made.list.list f
   pub few : TakesFewLoadsOn new.rig shape old.rig.loads made.loads
   pub loaded_once : new.rig.loads ≡ next_count made.loads
 

@@ -5,7 +5,7 @@ ghost use Rattle.base_io.specs.Counts.{Rose};
 ghost use Rattle.machine_config.specs.Configuration.{setting_of};
 ghost use Rattle.diag_evidence.specs.Kept.{Advances};
 ghost use Rattle.diag_known.specs.Vocabulary.{IsFieldOf, IsKnown};
-ghost use Rattle.rig.specs.Rig.{ForEach, Narrows, shape_of};
+ghost use Rattle.rig.specs.Rig.{ForEach, Narrows, Tells, shape_of};
 ghost use Rattle.machine_image.specs.Parts.{IsWideEnough};
 ghost use Rattle.diag_check.specs.Fields.{IsFewFor};
 ghost use Rattle.diag_check.specs.Skeleton.{HasSkeleton};
@@ -46,7 +46,6 @@ fn grow_over(
     requires used { AreUsed image.now used.now }
     ensures known { IsKnown facts.new known.new }
     ensures keeps { IfOk result (λ yes. IsTrue yes → KeepsRoutes facts.new image.now) }
-    ensures whole { IfOk result (RoutesIf (rig_state rig.old).machine.faults facts.old facts.new known.new.steps image.now field.now) }
     ensures whole_each { IfOk result (λ yes. ForEach (rig_state rig.new) (λ told. RoutesIf told facts.old facts.new known.new.steps
         image.now field.now yes)) }
     ensures advances { Advances (rig_state rig.old) (rig_state rig.new) facts.old facts.new }
@@ -75,7 +74,6 @@ fn look_at_tables(
     requires known { IsKnown facts.old known.now }
     requires image { image.now.config.shape ≡ facts.old.shape }
     ensures keeps { IfOk result (λ yes. IsTrue yes → KeepsTables facts.new image.now) }
-    ensures whole { IfOk result (TablesIf (rig_state rig.old).machine.faults facts.old known.now.steps image.now) }
     ensures whole_each { IfOk result (λ yes. ForEach (rig_state rig.new) (λ told. TablesIf told facts.old known.now.steps image.now yes)) }
     ensures advances { Advances (rig_state rig.old) (rig_state rig.new) facts.old facts.new }
     ensures loads { (ts : List ℕ) → ((t : ℕ) → IsSome (setting_of image.now.config t) → Contains ts t) →
@@ -106,7 +104,6 @@ fn check_in(
     requires used { AreUsed image.now used.now }
     ensures known { IfOk result (λ found. IfNone found (IsKnown facts.new known.new)) }
     ensures keeps { IfOk result (λ found. found ≡ Some true → KeepsParts facts.new image.now) }
-    ensures whole { IfOk result (FieldIf (rig_state rig.old).machine.faults facts.old image.now field.now) }
     ensures whole_each { IfOk result (λ yes. ForEach (rig_state rig.new) (λ told. FieldIf told facts.old image.now field.now yes)) }
     ensures advances { Advances (rig_state rig.old) (rig_state rig.new) facts.old facts.new }
     ensures loads { TakesInField image.now field.now (rig_state rig.old).loads (rig_state rig.new).loads }
@@ -214,7 +211,6 @@ fn check_over(
     requires wide_whole { IsWideEnough image.now.config.shape image.now → HasSkeleton image.now fields.now.wide }
     requires wide_few { IsFewFor image.now parts.now.nodes parts.now.used 3 fields.now.wide }
     ensures keeps { IfOk result (λ yes. IsTrue yes → KeepsParts facts.new image.now) }
-    ensures whole { IfOk result (WholeIf (rig_state rig.old).machine.faults facts.old image.now) }
     ensures whole_each { IfOk result (λ yes. ForEach (rig_state rig.new) (λ told. WholeIf told facts.old image.now yes)) }
     ensures advances { Advances (rig_state rig.old) (rig_state rig.new) facts.old facts.new }
     ensures loads { TakesAtMost image.now parts.now.nodes parts.now.used (rig_state rig.old).loads (rig_state rig.new).loads }
@@ -257,7 +253,6 @@ fn check_in_both(
     requires wide_whole { IsWideEnough image.now.config.shape image.now → HasSkeleton image.now fields.now.wide }
     requires wide_few { IsFewFor image.now parts.now.nodes parts.now.used 3 fields.now.wide }
     ensures keeps { IfOk result (λ yes. IsTrue yes → KeepsParts facts.new image.now) }
-    ensures whole { IfOk result (WholeIf (rig_state rig.old).machine.faults facts.old image.now) }
     ensures whole_each { IfOk result (λ yes. ForEach (rig_state rig.new) (λ told. WholeIf told facts.old image.now yes)) }
     ensures advances { Advances (rig_state rig.old) (rig_state rig.new) facts.old facts.new }
     ensures loads { TakesAtMost image.now parts.now.nodes parts.now.used (rig_state rig.old).loads (rig_state rig.new).loads }
@@ -283,7 +278,6 @@ fn check_with(
     requires used { AreUsed image.now parts.now.used }
     requires nodes { AreInvolved image.now parts.now.nodes }
     ensures keeps { IfOk result (λ yes. IsTrue yes → KeepsParts facts.new image.now) }
-    ensures whole { IfOk result (WholeIf (rig_state rig.old).machine.faults facts.old image.now) }
     ensures whole_each { IfOk result (λ yes. ForEach (rig_state rig.new) (λ told. WholeIf told facts.old image.now yes)) }
     ensures advances { Advances (rig_state rig.old) (rig_state rig.new) facts.old facts.new }
     ensures loads { TakesAtMost image.now parts.now.nodes parts.now.used (rig_state rig.old).loads (rig_state rig.new).loads }
@@ -297,10 +291,10 @@ fn check_with(
 }
 
 /// Whether an image still runs on the attached machine as on one without faults. Each part of it is tested over routes of the
-/// test's own, with at most 256 loads for each part and each involved node, whatever the answer. `true` means so under each set of
-/// faults that explains all that was read of the machine, and under those that the rig tells. `false` may be wrong, but not where
-/// under one of these the machine is wide enough for the image and its parts and surroundings are sound, as all are without faults:
-/// a fault that is far from the image doesn't matter.
+/// test's own, with at most 256 loads for each part and each involved node, whatever the answer. `true` means that each set of faults
+/// that explains all that was read of the machine leaves the image alone, so that it runs as without faults. `false` may be wrong, but
+/// not where under one of these the machine is wide enough for the image and its parts and surroundings are sound, as all are without
+/// faults: a fault that is far from the image doesn't matter. Faults that the rig tells explain what was read, if they did before.
 ///
 /// # Errors
 ///
@@ -313,12 +307,11 @@ pub fn quick_check(
 ) -> Result<bool, RigFail>
     requires attached { shape_of (rig_state rig.old) ≡ Some shape.now }
     requires image { image.now.config.shape ≡ shape.now }
-    ensures sound { IfOk result (SoundIf (rig_state rig.old).machine.faults image.now) }
     ensures sound_each { IfOk result (λ yes. ForEach (rig_state rig.new) (λ told. SoundIf told image.now yes)) }
-    ensures whole { IfOk result (YesIf (rig_state rig.old).machine.faults image.now) }
     ensures whole_each { IfOk result (λ yes. ForEach (rig_state rig.new) (λ told. YesIf told image.now yes)) }
     ensures machine { (rig_state rig.new).machine ≡ (rig_state rig.old).machine }
     ensures narrows { Narrows (rig_state rig.old) (rig_state rig.new) }
+    ensures tells { Tells (rig_state rig.old) (rig_state rig.new) }
     ensures later { (rig_state rig.old).failures ≤ (rig_state rig.new).failures }
     ensures counted { (rig_state rig.old).loads ≤ (rig_state rig.new).loads }
     ensures loads { TakesForParts image.now (rig_state rig.old).loads (rig_state rig.new).loads }

@@ -5,9 +5,9 @@ use Rattle.std.specs.Option.{option_map_or}
 use Rattle.std.proofs.lemmas.Bool.{false≢true}
 use Rattle.machine_meaning.specs.Vocabulary.{Pins}
 use Rattle.machine_config.specs.Vocabulary.{Configuration}
-use Rattle.rig.specs.Rig.{RigState, Session, Past, Exchange, Begins, GoesOn, log_of, standing}
+use Rattle.rig.specs.Rig.{RigState, Session, Past, Exchange, Begins, GoesOn, GoesOnBy, log_of, standing}
 use Rattle.diag_tests.specs.Routes.{Walk}
-use Rattle.diag_evidence.specs.Logged.{one_cycle, two_cycles, HasLogged, LogsBit, LogsBits, LogsTwice, ShowsApart, ShowsSwing, ShowsPins, ShowsFromAll}
+use Rattle.diag_evidence.specs.Logged.{one_cycle, two_cycles, HasLogged, LogsBit, LogsBits, LogsRows, LogsTwice, ShowsApart, ShowsSwing, ShowsPins, ShowsFromAll}
 
 -- a session with this configuration and these cycles
 standing_is : (o : Option Session) (g : Configuration) (cs : List Exchange) → option_map (λ (s : Session). s.config) o ≡ Some g
@@ -29,6 +29,19 @@ logs_twice was b c d g room low high r q past begins one two =
     ap (λ ps. ps ++ standing d.session) (two.past ∙ one.past ∙ past)
     ∙ ap (λ xs. was ++ xs) (standing_is d.session g (record { drive = low; reading = r } ∷ record { drive = high; reading = q } ∷ []) (two.config ∙ one.config ∙ begins.config)
     (two.cycles ∙ ap (λ (cs : List Exchange). cs ++ record { drive = high; reading = q } ∷ []) (one.cycles ∙ ap (λ (cs : List Exchange). cs ++ record { drive = low; reading = r } ∷ []) begins.cycles)))
+
+pub logs_rows : (a b c : RigState) (g : Configuration) (room : ℕ) (drives rows : List Pins) → b.past ≡ log_of a → Begins g room b → GoesOnBy drives rows b c → LogsRows g drives rows a c
+logs_rows a b c g room drives rows past begins goes = record {
+  cycles = goes.more;
+  logged = ap (λ ps. ps ++ standing c.session) (goes.past ∙ past)
+      ∙ ap (λ xs. log_of a ++ xs) (standing_is c.session g goes.more (goes.config ∙ begins.config) (goes.cycles ∙ ap (λ (cs : List Exchange). cs ++ goes.more) begins.cycles));
+  driven = goes.driven;
+  read = goes.read;
+}
+
+-- the same drives and rows by other names
+pub logs_as : {g : Configuration} {drives others rows same : List Pins} {s t : RigState} → LogsRows g drives rows s t → drives ≡ others → same ≡ rows → LogsRows g others same s t
+logs_as p d r = record { cycles = p.cycles; logged = p.logged; driven = p.driven ∙ d; read = p.read ∙ sym r }
 
 -- an answer that is no where two values are the same, and yes where they differ
 module _ {x y : Bool} where

@@ -16,8 +16,9 @@ use Rattle.machine_config.proofs.Distance.{cycles_alike}
 use Rattle.machine_config.proofs.Grouped.{LeadsTo-end}
 use Rattle.machine_config.proofs.Readings.{conducting, pin_value, reads_apart, apart_separates}
 use Rattle.machine_config.proofs.Runs.{Cycles-length}
+use Rattle.rig.specs.Rig.{RigState}
 use Rattle.diag_tests.specs.Routes.{other_end}
-use Rattle.diag_evidence.specs.Vocabulary.{Kept, HoldsFor, Gain, Trees, HangsOn, pin_of, is_laid, IsForest, KeepsForest, IsLook, look_drives, one_driven, none_driven, differ, parts, swings, reads_somewhere, hangs_apart, hangs_swinging, hang_apart, read_at, seen_in, Foot, IsFoot, closes, pin_at, feet_crosses, seen_on, stands_apart, is_swinging_on, are_apart_on}
+use Rattle.diag_evidence.specs.Vocabulary.{Kept, HoldsFor, Gain, Trees, HangsOn, pin_of, is_laid, IsForest, KeepsForest, IsLook, LogsLook, look_drives, one_driven, none_driven, differ, parts, swings, reads_somewhere, hangs_apart, hangs_swinging, hang_apart, read_at, seen_in, Foot, IsFoot, closes, pin_at, feet_crosses, seen_on, stands_apart, is_swinging_on, are_apart_on}
 use Rattle.diag_evidence.proofs.Advancing.{joined_along}
 use Rattle.diag_evidence.proofs.Found.{IsSome_of, some_of}
 use Rattle.diag_evidence.proofs.Footing.{pin_below, foot_below}
@@ -217,17 +218,28 @@ pub look_holds : (told : Option Faults) (k : Kept) (trees : Trees) (rows : List 
 look_holds told k trees rows forest keeps look f is holds = subst (λ n. GainHoldsFor n (seen_in trees rows) f) keeps.shape
     (seen_in_holds look f is trees refl forest (λ x on. holds.crosses x (keeps.crosses x on)) (λ x on. on))
 
--- a look at no feet is one at the forest alone
+-- no feet close nothing more ..
+bare_too : (b : Bool) → (b || false) ≡ b
+bare_too true = refl
+bare_too false = refl
+
+-- .. so a look at none is one at the forest alone
 pub no_feet : (told : Option Faults) (trees : Trees) (rows : List Pins) → IsLook told trees.shape (closes trees []) rows → IsLook told trees.shape (is_laid trees) rows
 no_feet told trees rows look = record {
   config = look.config;
   shape = look.shape;
-  closed = λ x. look.closed x ∙ plain (is_laid trees x);
+  closed = λ x. look.closed x ∙ bare_too (is_laid trees x);
   off = look.off;
   ticks = look.ticks;
   run = look.run;
 }
-  where
-    plain : (b : Bool) → (b || false) ≡ b
-    plain true = refl
-    plain false = refl
+
+pub no_feet_logged : (trees : Trees) (rows : List Pins) (old new : RigState) → LogsLook trees.shape (closes trees []) rows old new → LogsLook trees.shape (is_laid trees) rows old new
+no_feet_logged trees rows old new look = record {
+  config = look.config;
+  shape = look.shape;
+  closed = λ x. look.closed x ∙ bare_too (is_laid trees x);
+  off = look.off;
+  ticks = look.ticks;
+  logged = look.logged;
+}

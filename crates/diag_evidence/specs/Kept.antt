@@ -8,7 +8,7 @@ use Rattle.machine_shape.specs.declared.Shape.{Shape}
 use Rattle.machine_meaning.specs.Vocabulary.{Faults, stuck_cross, wrong_cell, stuck_register, Shorted, IsClear}
 use Rattle.machine_shape.specs.Shape.{crosses_of, wires_of, tables_of}
 use Rattle.machine_config.specs.Groups.{among}
-use Rattle.rig.specs.Rig.{RigState, Explains, Narrows}
+use Rattle.rig.specs.Rig.{RigState, Explains, Narrows, Tells}
 
 -- the facts that are kept, by marks for each number. A cell's number is 64 for each table before it, and its address.
 pub record Kept : Type 0 where
@@ -118,7 +118,7 @@ pub record Gains (gain : Gain) (old new : Kept) : Type 0 where
   pub registers : (t : ℕ) → keeps_register new t ≡ (gain.registers t || keeps_register old t)
 
 -- What calls that test a machine leave: the machine as it was, counts of failures and loads that didn't fall, and all that was
--- kept. What explains the log after them explained it before. Where what was kept is true of faults that are told, or that explain
+-- kept. What explains the log after them explained it before, and told faults explain it if they did before. Where what was kept is true of faults that are told, or that explain
 -- the log after the calls, nothing is kept that isn't true of them.
 pub record Advances (old new : RigState) (k l : Kept) : Type 0 where
   pub machine : new.machine ≡ old.machine
@@ -126,6 +126,7 @@ pub record Advances (old new : RigState) (k l : Kept) : Type 0 where
   pub counted : old.loads ≤ new.loads
   pub more : IsMore k l
   pub narrows : Narrows old new
+  pub tells : Tells old new
   pub holds : (f : Faults) → old.machine.faults ≡ Some f → HoldsFor k f → HoldsFor l f
   pub explained : (f : Faults) → Explains f new → HoldsFor k f → HoldsFor l f
 

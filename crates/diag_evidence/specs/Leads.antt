@@ -9,6 +9,8 @@ use Rattle.base_bits.specs.Numbers.{has_number}
 use Rattle.diag_tests.specs.Routes.{Walk, IsRoute}
 use Rattle.diag_evidence.specs.declared.leads.Lead.{Lead}
 use Rattle.diag_evidence.specs.Kept.{Kept, Gain, Gains, HoldsFor, nothing, keeps_cross, keeps_wire, keeps_pair}
+use Rattle.diag_evidence.specs.Logged.{HasLogged, one_cycle}
+use Rattle.rig.specs.Rig.{RigState}
 
 -- all wires, and all crosspoints, that the walks lead over
 abbrev pub wires_of_leads : List Lead → List ℕ
@@ -62,6 +64,14 @@ these_crosses p = record nothing { crosses = p }
 pub record HasLed (told : Option Faults) (g : Configuration) (drive : Pins) (ls : List Lead) (old new : Kept) (was is : List Bool) : Type 0 where
   pub reading : Pins
   pub run : (f : Faults) → told ≡ Some f → IsRun f g (drive ∷ []) (reading ∷ [])
+  pub gains : Gains (these_crosses (led_over reading ls)) old new
+  pub marks : (x : ℕ) → has_number is x ≡ (held_up_at old reading ls x || has_number was x)
+
+-- a session of one cycle is new in the log, and its reading shows so
+pub record ShowsLed (g : Configuration) (drive : Pins) (ls : List Lead) (earlier later : RigState) (old new : Kept)
+    (was is : List Bool) : Type 0 where
+  pub reading : Pins
+  pub logged : HasLogged (one_cycle g drive reading ∷ []) earlier later
   pub gains : Gains (these_crosses (led_over reading ls)) old new
   pub marks : (x : ℕ) → has_number is x ≡ (held_up_at old reading ls x || has_number was x)
 

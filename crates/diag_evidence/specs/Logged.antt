@@ -2,7 +2,7 @@
 use Rattle.std.specs.Prelude.{◌≡◌, ◌≢◌, ◌↔◌, ℕ, Bool, true, IsTrue, List, [], ◌∷◌, ◌++◌, All, slice_index_or}
 use Rattle.machine_meaning.specs.Vocabulary.{Pins}
 use Rattle.machine_config.specs.Vocabulary.{Configuration}
-use Rattle.rig.specs.Rig.{RigState, Past, log_of}
+use Rattle.rig.specs.Rig.{RigState, Past, Exchange, log_of, drives_of, readings_of}
 use Rattle.diag_tests.specs.Routes.{Walk}
 
 -- a session of one cycle, and one of two
@@ -37,6 +37,13 @@ pub record LogsTwice (g : Configuration) (low high : Pins) (pin : ℕ) (old new 
   pub logged : HasLogged (two_cycles g low reading high later ∷ []) old new
   pub first_is : first ≡ slice_index_or reading pin true
   pub second_is : second ≡ slice_index_or later pin true
+
+-- a session of one cycle under each of these drives is new in the log, where the pins read these rows
+pub record LogsRows (g : Configuration) (drives rows : List Pins) (old new : RigState) : Type 0 where
+  pub cycles : List Exchange
+  pub logged : HasLogged (record { config = g; cycles = cycles } ∷ []) old new
+  pub driven : drives_of cycles ≡ drives
+  pub read : readings_of cycles ≡ rows
 
 -- Two sessions of one cycle are new in the log, and the answer is yes exactly where their readings differ at a pin.
 pub record ShowsApart (g h : Configuration) (drive : Pins) (pin : ℕ) (old new : RigState) (yes : Bool) : Type 0 where

@@ -12,6 +12,7 @@ use Rattle.rig.specs.Rig.{RigState}
 use Rattle.diag_evidence.specs.Forests.{Trees, pin_of, is_laid}
 use Rattle.diag_evidence.specs.Kept.{Kept, Gain, Gains, nothing}
 use Rattle.diag_evidence.specs.Readings.{HasCycled}
+use Rattle.diag_evidence.specs.Logged.{LogsRows}
 
 -- what so many pins read in each cycle of a look
 pub record Sights : Type 0 where
@@ -78,6 +79,15 @@ pub record IsLook (told : Option Faults) (m : Shape) (close : ℕ → Bool) (row
   pub ticks : config.ticks ≡ 1
   pub run : (f : Faults) → told ≡ Some f → IsRun f config (look_drives (pins_of m)) rows
 
+-- the session of such a look is new in the log
+pub record LogsLook (m : Shape) (close : ℕ → Bool) (rows : List Pins) (old new : RigState) : Type 0 where
+  pub config : Configuration
+  pub shape : config.shape ≡ m
+  pub closed : (x : ℕ) → is_closed config x ≡ close x
+  pub off : AreOff config
+  pub ticks : config.ticks ≡ 1
+  pub logged : LogsRows config (look_drives (pins_of m)) rows old new
+
 -- the session is that of a look, and all its cycles are made
 pub record HasLooked (m : Shape) (rig : RigState) : Type 0 where
   pub config : Configuration
@@ -107,4 +117,10 @@ seen_in trees rows = record nothing { wires = hangs_swinging trees rows; pairs =
 pub record HasSeen (told : Option Faults) (trees : Trees) (old new : Kept) : Type 0 where
   pub rows : List Pins
   pub look : IsLook told trees.shape (is_laid trees) rows
+  pub gains : Gains (seen_in trees rows) old new
+
+-- The session of a look is new in the log, and just what its rows show is kept.
+pub record ShowsSeen (trees : Trees) (was is : RigState) (old new : Kept) : Type 0 where
+  pub rows : List Pins
+  pub look : LogsLook trees.shape (is_laid trees) rows was is
   pub gains : Gains (seen_in trees rows) old new

@@ -7,7 +7,7 @@ use Rattle.machine_shape.specs.Shape.{pin_wire}
 use Rattle.machine_config.specs.declared.Setting.{Setting}
 use Rattle.machine_config.specs.Vocabulary.{Configuration, is_closed, IsRun, AreGroups, among, AreOff, IsLoop, IsCellTest, IsRegisterTest}
 use Rattle.machine_config.specs.Vocabulary.{IsDrivenAlone, IsDrivenIn, AreReleased}
-use Rattle.rig.specs.Rig.{RigState, Narrows, config_of, cycles_of, drives_of}
+use Rattle.rig.specs.Rig.{RigState, Narrows, Tells, config_of, cycles_of, drives_of}
 use Rattle.rig.specs.declared.rig.RigFail.{RigFail}
 use Rattle.rig.specs.declared.rig.RigFail.TheVariants as work
 use Rattle.diag_tests.specs.Routes.{Walk, IsRoute}
@@ -19,7 +19,7 @@ pub record HasCycled (g : Configuration) (drives : List Pins) (rig : RigState) :
   pub cycles : drives_of (cycles_of rig) ≡ drives
 
 -- What at most so many loads leave: the machine as it was, and counts of failures and loads that didn't fall; where they failed, the
--- failures rose. What explains the log after them explained it before.
+-- failures rose. What explains the log after them explained it before, and told faults explain it if they did before.
 pub record LoadsUpTo {T : Type 0} (most : ℕ) (result : Result T RigFail) (old new : RigState) : Type 0 where
   pub machine : new.machine ≡ old.machine
   pub later : old.failures ≤ new.failures
@@ -27,6 +27,7 @@ pub record LoadsUpTo {T : Type 0} (most : ℕ) (result : Result T RigFail) (old 
   pub loads : new.loads ≤ old.loads + most
   pub cause : IsErrOf result work.Failed → Rose old.failures new.failures
   pub narrows : Narrows old new
+  pub tells : Tells old new
 
 -- Memory was wanting before a session began: the rig is as it was, or its last load was refused and there is no session.
 abbrev pub WantsBefore : RigState → RigState → Type 0

@@ -5,16 +5,16 @@ unfoldable pub use Rattle.diag_evidence.specs.Kept.{keeps_cell, keeps_cross, kee
 pub use Rattle.diag_evidence.specs.Readings.{AllApartPasses, ApartPasses, CellPasses, CrossPasses, HasCycled, IsReady, Reads, ReadsOnce}
 pub use Rattle.diag_evidence.specs.Readings.{ReadsPins, ReadsTwice, RegisterPasses, SwingPasses, TellsApart, TellsFromAll, TellsPins}
 pub use Rattle.diag_evidence.specs.Readings.{TellsSwing, wires_over}
-pub use Rattle.diag_evidence.specs.Logged.{HasLogged, ShowsApart, ShowsFromAll, ShowsPins, ShowsSwing, one_cycle, two_cycles}
+pub use Rattle.diag_evidence.specs.Logged.{HasLogged, LogsRows, ShowsApart, ShowsFromAll, ShowsPins, ShowsSwing, one_cycle, two_cycles}
 pub use Rattle.diag_evidence.specs.Loops.{AreTied, IsLoopBy, LoopPasses, RoutePasses, RoutesPass}
 pub use Rattle.diag_evidence.specs.Tables.{CellPassesBy, IsCellBy, IsTableBy, IsTied, RegisterPassesBy}
-pub use Rattle.diag_evidence.specs.Leads.{HasLed, IsLead, IsPathTest, MarksStuck, StuckIf, arrives, crosses_of_leads, held_up_at}
+pub use Rattle.diag_evidence.specs.Leads.{HasLed, IsLead, IsPathTest, MarksStuck, ShowsLed, StuckIf, arrives, crosses_of_leads, held_up_at}
 pub use Rattle.diag_evidence.specs.Leads.{is_only_unkept, led_over, these_crosses, wires_of_leads}
 pub use Rattle.diag_evidence.specs.Forests.{CanLay, HangsOn, IsForest, IsLedOver, IsOfTree, KeepsForest, KnowsForest, Trees, bare, is_hung}
 pub use Rattle.diag_evidence.specs.Forests.{is_laid, pin_of, with_laid, with_planted}
-pub use Rattle.diag_evidence.specs.Looks.{AreSights, IsLook, ReadsEach, Sights, differ, hang_apart, hangs_apart, hangs_swinging}
+pub use Rattle.diag_evidence.specs.Looks.{AreSights, IsLook, LogsLook, ReadsEach, ShowsSeen, Sights, differ, hang_apart, hangs_apart}
 pub use Rattle.diag_evidence.specs.Looks.{look_drives, none_driven, one_driven, parts, read_at, read_free, read_under, reads_somewhere}
-pub use Rattle.diag_evidence.specs.Looks.{seen_in, swings}
+pub use Rattle.diag_evidence.specs.Looks.{hangs_swinging, seen_in, swings}
 pub use Rattle.diag_evidence.specs.Hangs.{AreAllOf, AreFeet, AreHangs, ClosesJust, Foot, HasHungOn, HasMarked, HasTold, HasTried, IsFoot}
 pub use Rattle.diag_evidence.specs.Hangs.{MarksUnclear, MarksUnfit, StayMarked, UnclearIf, UnfitIf, all_feet, answered, are_apart_on}
 pub use Rattle.diag_evidence.specs.Hangs.{closes, falls_with_others, feet_crosses, is_shown, is_swinging_on, is_unclear_in, is_unfit_in}

@@ -7,7 +7,7 @@ ghost use Rattle.machine_config.specs.Groups.{among};
 ghost use Rattle.rig.specs.Rig.{ForEach, shape_of};
 ghost use Rattle.diag_tests.specs.Routes.{IsRoute};
 ghost use Rattle.diag_evidence.specs.Kept.{Gains, Advances};
-ghost use Rattle.diag_evidence.specs.Leads.{IsLead, IsPathTest, HasLed, MarksStuck, StuckIf};
+ghost use Rattle.diag_evidence.specs.Leads.{IsLead, IsPathTest, HasLed, MarksStuck, ShowsLed, StuckIf};
 ghost use Rattle.diag_evidence.specs.Leads.{is_only_unkept, held_up_at, led_over, these_crosses};
 ghost use Rattle.diag_evidence.specs.Readings.{HasCycled, WantsBefore};
 
@@ -116,6 +116,8 @@ impl Facts {
             stuck.old stuck.new) }
         ensures led_each { OnOk result (ForEach (rig_state rig.new) (λ told. HasLed told config.now.config drive.now leads.now self.old
             self.new stuck.old stuck.new)) }
+        ensures logged { OnOk result (ShowsLed config.now.config drive.now leads.now (rig_state rig.old) (rig_state rig.new) self.old
+            self.new stuck.old stuck.new) }
         ensures newly { OnOk result (MarksStuck (rig_state rig.old).machine.faults self.old stuck.old stuck.new) }
         ensures newly_each { OnOk result (ForEach (rig_state rig.new) (λ told. MarksStuck told self.old stuck.old stuck.new)) }
         ensures stuck { StuckIf (rig_state rig.old).machine.faults self.old stuck.old → StuckIf (rig_state rig.old).machine.faults

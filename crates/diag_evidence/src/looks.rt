@@ -2,6 +2,7 @@
 ghost use Rattle.std.specs.Prelude.{◌≡◌, ◌<◌, ◌+◌, ◌^◌, true, Some, None, All, length, IfOk, OnOk, IsErrOf, IsTrue};
 ghost use Rattle.rig.specs.Rig.{ForEach, shape_of};
 ghost use Rattle.diag_evidence.specs.Readings.{HasCycled, LoadsUpTo};
+ghost use Rattle.diag_evidence.specs.Logged.{LogsRows};
 ghost use Rattle.machine_shape.specs.Shape.{pins_of};
 ghost use Rattle.diag_evidence.specs.Looks.{AreSights, ReadsEach, look_drives, reads_somewhere, swings, parts, read_free, read_under};
 
@@ -180,6 +181,8 @@ impl Looks {
             self.new.rows) }
         ensures run_each { OnOk result (ForEach (rig_state rig.new) (λ told. ReadsEach told config.now.config (look_drives self.old.pins)
             self.new.rows)) }
+        ensures logged { OnOk result (LogsRows config.now.config (look_drives self.old.pins) self.new.rows (rig_state rig.old)
+            (rig_state rig.new)) }
     {
         read_rows(rig, config, drives, &mut self.rows, self.pins + 1)
     }

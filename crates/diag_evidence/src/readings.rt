@@ -3,7 +3,7 @@ ghost use Rattle.std.specs.Prelude.{◌≡◌, ◌≢◌, ◌<◌, true, false, 
 ghost use Rattle.std.specs.Prelude.{OnOk, OnErr, IsTrue, IsErrOf};
 ghost use Rattle.machine_shape.specs.Shape.{pins_of};
 ghost use Rattle.rig.specs.Rig.{ForEach, shape_of, log_of, Begins, KeepLengths};
-ghost use Rattle.diag_evidence.specs.Logged.{HasLogged, LogsBit, LogsBits, LogsTwice, one_cycle};
+ghost use Rattle.diag_evidence.specs.Logged.{HasLogged, LogsBit, LogsBits, LogsRows, LogsTwice, one_cycle};
 ghost use Rattle.diag_evidence.specs.Looks.{ReadsEach};
 ghost use Rattle.diag_evidence.specs.Readings.{HasCycled, LoadsUpTo, Reads, ReadsOnce, ReadsPins, ReadsTwice, WantsBefore};
 
@@ -66,6 +66,7 @@ pub(crate) fn read_rows(
     ensures session { OnOk result (HasCycled config.now.config drives.now (rig_state rig.new)) }
     ensures run { OnOk result (ReadsEach (rig_state rig.old).machine.faults config.now.config drives.now rows.new) }
     ensures run_each { OnOk result (ForEach (rig_state rig.new) (λ told. ReadsEach told config.now.config drives.now rows.new)) }
+    ensures logged { OnOk result (LogsRows config.now.config drives.now rows.new (rig_state rig.old) (rig_state rig.new)) }
 {
     begin(rig, config, room)?;
     cycles(rig, drives, rows)

@@ -7,7 +7,7 @@ ghost use Rattle.diag_tests.specs.Configs.{Closes};
 ghost use Rattle.diag_evidence.specs.Kept.{Advances};
 ghost use Rattle.diag_evidence.specs.Forests.{KeepsForest};
 ghost use Rattle.diag_evidence.specs.Hangs.{ClosesJust, feet_crosses, closes};
-ghost use Rattle.diag_evidence.specs.Looks.{HasLooked, HasSeen, IsLook, look_drives};
+ghost use Rattle.diag_evidence.specs.Looks.{HasLooked, HasSeen, IsLook, LogsLook, ShowsSeen, look_drives};
 ghost use Rattle.diag_evidence.specs.Readings.{LoadsUpTo, WantsBefore};
 
 use crate::looks::look_drives;
@@ -67,6 +67,8 @@ impl Facts {
             reads.new.rows) }
         ensures looked_each { OnOk result (ForEach (rig_state rig.new) (λ told. IsLook told forest.now.shape (closes forest.now feet.now)
             reads.new.rows)) }
+        ensures logged { OnOk result (LogsLook forest.now.shape (closes forest.now feet.now) reads.new.rows (rig_state rig.old)
+            (rig_state rig.new)) }
         ensures session { OnOk result (HasLooked self.old.shape (rig_state rig.new)) }
     {
         let mut config = self.config()?;
@@ -88,6 +90,7 @@ impl Facts {
 
         ensures seen { OnOk result (HasSeen (rig_state rig.old).machine.faults forest.now self.old self.new) }
         ensures seen_each { OnOk result (ForEach (rig_state rig.new) (λ told. HasSeen told forest.now self.old self.new)) }
+        ensures logged { OnOk result (ShowsSeen forest.now (rig_state rig.old) (rig_state rig.new) self.old self.new) }
         ensures refused { OnErr result (self.new ≡ self.old) }
         ensures advances { Advances (rig_state rig.old) (rig_state rig.new) self.old self.new }
         ensures loads { (rig_state rig.new).loads ≤ (rig_state rig.old).loads + 1 }

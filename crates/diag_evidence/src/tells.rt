@@ -5,8 +5,8 @@ ghost use Rattle.machine_shape.specs.Shape.{wires_of, pins_of};
 ghost use Rattle.rig.specs.Rig.{ForEach, shape_of};
 ghost use Rattle.diag_evidence.specs.Kept.{Advances};
 ghost use Rattle.diag_evidence.specs.Forests.{KnowsForest};
-ghost use Rattle.diag_evidence.specs.Hangs.{AreFeet, AreAllOf, HasTold, MarksUnfit, MarksUnclear, UnfitIf, UnclearIf, StayMarked};
-ghost use Rattle.diag_evidence.specs.Looks.{HasLooked};
+ghost use Rattle.diag_evidence.specs.Hangs.{AreFeet, AreAllOf, HasTold, MarksUnfit, MarksUnclear, UnfitIf, UnclearIf, StayMarked, closes};
+ghost use Rattle.diag_evidence.specs.Looks.{HasLooked, LogsLook};
 ghost use Rattle.diag_evidence.specs.Readings.{WantsBefore};
 
 use crate::feet::mark_unfit;
@@ -45,6 +45,8 @@ impl Facts {
             unfit.old unfit.new unclear.old unclear.new) }
         ensures told_each { OnOk result (ForEach (rig_state rig.new) (λ told. HasTold told forest.now hangs.now reads.new.rows unfit.old
             unfit.new unclear.old unclear.new)) }
+        ensures logged { OnOk result (LogsLook forest.now.shape (closes forest.now hangs.now) reads.new.rows (rig_state rig.old)
+            (rig_state rig.new)) }
         ensures newly { OnOk result (MarksUnfit (rig_state rig.old).machine.faults self.old forest.now unfit.old unfit.new) }
         ensures newly_each { OnOk result (ForEach (rig_state rig.new) (λ told. MarksUnfit told self.old forest.now unfit.old unfit.new)) }
         ensures newly_too { OnOk result (MarksUnclear (rig_state rig.old).machine.faults self.old unclear.old unclear.new) }

@@ -23,7 +23,7 @@ module _ (m : Shape) (before : ℕ) (near : Type 0) (here : Listed → Type 0) (
   list-gives : {U : Type 0} (d : DefectList) (result : Result U Stop) (new : Outside) → Makes m d (outside s r0 a) (outside s r1 k) → Follows ⊥ names (new.rig.machine ≡ r1.machine) (after-list (made d)) result (outside s r1 a) new → Follows ⊥ names (new.rig.machine ≡ r0.machine) (after (lists m before new.rig) near after-list) result (outside s r0 a) new
   list-gives d result new took is =
       let listed : IsListed m before r1 (made d) = rw loads at took.gives in
-      step-gives (lists m before new.rig) near after-list (lists_now m r0 r1) [] names _ _ d (made d) result (outside s r0 a) (outside s r1 a) new took (listed-on m before r1 new.rig (made d) listed is.machines (narrows_by is.later.log is.machines)) is (is.machines ∙ machine)
+      step-gives (lists m before new.rig) near after-list (lists_now m r0 r1) [] names _ _ d (made d) result (outside s r0 a) (outside s r1 a) new took (listed-on m before r1 new.rig (made d) listed (narrows_by is.later.log is.machines)) is (is.machines ∙ machine)
 
   pub list-ends : {U : Type 0} (stop : Stop) (result : Result U Stop) → result ≡ Err stop → WritesList m (Err stop) (outside s r0 a) (outside s r1 k) → near → ((l : Listed) → l.loads ≡ r1.loads → here l) → Follows ⊥ names (r1.machine ≡ r0.machine) (after (lists m before r1) near after-list) result (outside s r0 a) (outside s r1 k)
   list-ends stop result is (inl took) at stays =

@@ -1,15 +1,14 @@
 -- The list as a step.
-use Rattle.std.proofs.Common.{◌≡◌, ◌∙◌, ℕ, ◌+◌, ◌*◌, ◌≤◌, List, [], Some, option_map, refl, sym, ap, arith, append-nil, inl, inr, Ok, Err}
+use Rattle.std.proofs.Common.{◌≡◌, ◌∙◌, ℕ, ◌+◌, ◌*◌, ◌≤◌, List, [], Some, option_map, refl, sym, ap, arith, append-nil, Ok, Err}
 use Rattle.base_io.specs.Vocabulary.{Rose, StoreState, SinkState}
 use Rattle.machine_shape.specs.declared.Shape.{Shape}
 use Rattle.machine_shape.specs.Shape.{wires_of, crosses_of, tables_of}
-use Rattle.machine_meaning.specs.Vocabulary.{Faults, IsFaultless}
 use Rattle.machine_defects.specs.Lists.{DefectList, IsDefectList}
-use Rattle.rig.specs.Rig.{RigState, Machine, Asked, Explains, ForEach, Narrows, shape_of}
+use Rattle.rig.specs.Rig.{RigState, Machine, Asked, ForEach, Narrows, Tells, shape_of}
 use Rattle.rig.specs.declared.rig.RigFail.{RigFail}
 use Rattle.rig.specs.declared.rig.RigFail.TheVariants.{Failed, Memory}
 use Rattle.diag_machine.specs.Diagnosis.{IsDiagnosis, TakesFewLoads}
-use Rattle.diag_list.specs.Possible.{MayHave, IsDiagnosisOn, TakesFewLoadsOn}
+use Rattle.diag_list.specs.Possible.{IsDiagnosisOn, TakesFewLoadsOn}
 use Rattle.cmd_steps.specs.Vocabulary.{outside, IsLater, IsCounted, StepStops, stop_of_rig, Took}
 use Rattle.cmd_steps.specs.declared.refusal.Stop.{Stop}
 use Rattle.cmd_steps.specs.declared.refusal.Stop.TheVariants.{Refused, Sink}
@@ -24,22 +23,17 @@ attached-shape rig m name is = ap (option_map (λ (a : Asked). a.shape)) is
 pub list-shape : (old new : RigState) (m : Shape) (d : DefectList) → new.machine ≡ old.machine → d.shape ≡ m → shape_of old ≡ Some m → shape_of new ≡ Some d.shape
 list-shape old new m d machine same is = ap (λ (x : Machine). option_map (λ (a : Asked). a.shape) x.attached) machine ∙ (is ∙ ap Some (sym same))
 
--- what faults the machine may have, it may have had
-pub may-earlier : {old new : RigState} (f : Faults) → new.machine ≡ old.machine → Narrows old new → MayHave f new → MayHave f old
-may-earlier f machine narrows (inl told) = inl (sym (ap (λ (m : Machine). m.faults) machine) ∙ told)
-may-earlier f machine narrows (inr e) = inr (narrows f e)
-
--- a list is one of the machine, and so it stays while the machine stays and its log goes on
-pub listed-on : (m : Shape) (before : ℕ) (mid new : RigState) (l : Listed) → IsListed m before mid l → new.machine ≡ mid.machine → Narrows mid new → IsListed m before new l
-listed-on m before mid new l is machine narrows = record {
+-- a list is one of the machine, and so it stays while its log goes on
+pub listed-on : (m : Shape) (before : ℕ) (mid new : RigState) (l : Listed) → IsListed m before mid l → Narrows mid new → IsListed m before new l
+listed-on m before mid new l is narrows = record {
   shape = is.shape;
   kept = is.kept;
   right = record {
-    covers = λ f may. is.right.covers f (may-earlier f machine narrows may);
-    fair = λ f may. is.right.fair f (may-earlier f machine narrows may);
-    tight = λ f may. is.right.tight f (may-earlier f machine narrows may);
+    covers = λ f e. is.right.covers f (narrows f e);
+    fair = λ f e. is.right.fair f (narrows f e);
+    tight = λ f e. is.right.tight f (narrows f e);
   };
-  few = record { always = is.few.always; faultless = λ f may none. is.few.faultless f (may-earlier f machine narrows may) none };
+  few = record { always = is.few.always; faultless = λ f e none. is.few.faultless f (narrows f e) none };
 }
 
 -- where it isn't made, few loads were made too, from so many on
@@ -47,29 +41,21 @@ pub few-stops : (m : Shape) (before : ℕ) (old new : RigState) (stop : Stop) �
 few-stops m before old new (Refused refusal) loads stops = (stops.0, rw (← loads) stops.1)
 few-stops m before old new (Sink fail) loads stops = stops
 
--- ---- what is said of told faults, and of each set that explains what was read
+-- ---- what is said of each set that explains what was read
 
-pub diagnosis-on : (m : Shape) (old new : RigState) (d : DefectList) → new.machine ≡ old.machine → IsDiagnosis old.machine.faults m d.list → ForEach new (λ told. IsDiagnosis told m d.list) → IsDiagnosisOn new m d.list
-diagnosis-on m old new d machine right each = record {
-  covers = λ f may. by f may (λ told. right.covers f told) (λ e. (each f e).covers f refl);
-  fair = λ f may. by f may (λ told. right.fair f told) (λ e. (each f e).fair f refl);
-  tight = λ f may. by f may (λ told. right.tight f told) (λ e. (each f e).tight f refl);
+pub diagnosis-on : (m : Shape) (new : RigState) (d : DefectList) → ForEach new (λ told. IsDiagnosis told m d.list) → IsDiagnosisOn new m d.list
+diagnosis-on m new d each = record {
+  covers = λ f e. (each f e).covers f refl;
+  fair = λ f e. (each f e).fair f refl;
+  tight = λ f e. (each f e).tight f refl;
 }
-  where
-    by : {P : Type 0} (f : Faults) → MayHave f new → (old.machine.faults ≡ Some f → P) → (Explains f new → P) → P
-    by f (inl told) p q = p (sym (ap (λ (m : Machine). m.faults) machine) ∙ told)
-    by f (inr e) p q = q e
 
-pub few-on : (m : Shape) (old new : RigState) → new.machine ≡ old.machine → TakesFewLoads old.machine.faults m old.loads new.loads → ForEach new (λ told. TakesFewLoads told m old.loads new.loads) → TakesFewLoadsOn new m old.loads new.loads
-few-on m old new machine few each = record { always = few.always; faultless = by }
-  where
-    by : (f : Faults) → MayHave f new → IsFaultless f → new.loads ≤ old.loads + (2 * crosses_of m + (3 * wires_of m + 130 * tables_of m))
-    by f (inl told) none = few.faultless f (sym (ap (λ (m : Machine). m.faults) machine) ∙ told) none
-    by f (inr e) none = (each f e).faultless f refl none
+pub few-on : (m : Shape) (old new : RigState) → ForEach new (λ told. TakesFewLoads told m old.loads new.loads) → new.loads ≤ old.loads + (16 * crosses_of m + (20 * wires_of m + 130 * tables_of m)) → TakesFewLoadsOn new m old.loads new.loads
+few-on m old new each always = record { always = always; faultless = λ f e none. (each f e).faultless f refl none }
 
-module _ (m : Shape) (old new : RigState) (machine : new.machine ≡ old.machine) (narrows : Narrows old new) (store : StoreState) (sink : SinkState) where
+module _ (m : Shape) (old new : RigState) (machine : new.machine ≡ old.machine) (narrows : Narrows old new) (tells : Tells old new) (store : StoreState) (sink : SinkState) where
   list-later : old.failures ≤ new.failures → IsLater (outside store old sink) (outside store new sink)
-  list-later later = record { contents = refl; texts = ap (λ (x : Machine). x.texts) machine; kind = refl; store = omega arith; rig = later; sink = omega arith; log = log_kept machine narrows }
+  list-later later = record { contents = refl; texts = ap (λ (x : Machine). x.texts) machine; kind = refl; store = omega arith; rig = later; sink = omega arith; log = log_kept machine narrows tells }
 
   pub list-took : (d : DefectList) → old.failures ≤ new.failures → d.shape ≡ m → IsDefectList d → IsDiagnosisOn new m d.list → TakesFewLoadsOn new m old.loads new.loads → Took [] (lists_now m old new) (Ok d) (outside store old sink) (outside store new sink)
   list-took d later shape kept right few = record {

@@ -28,7 +28,7 @@ module _ {U : Type 0} (m : Shape) (before : ℕ) (near : Type 0) (rest : Listed 
       → Follows ⊥ [] (new.rig.machine ≡ old.rig.machine) (after (lists m before new.rig) near rest) result old new
   list-gives d new took loads machine rest_is =
       kept-gives (lists m before new.rig) near rest (lists_now m old.rig mid.rig) d (made d mid.rig) result old mid new took
-      (λ is. listed-on m before mid.rig new.rig (made d mid.rig) (rw loads at is) rest_is.machines (narrows_by rest_is.later.log rest_is.machines)) machine rest_is
+      (λ is. listed-on m before mid.rig new.rig (made d mid.rig) (rw loads at is) (narrows_by rest_is.later.log rest_is.machines)) machine rest_is
 
 -- ---- the shape that is attached
 

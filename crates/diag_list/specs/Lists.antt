@@ -14,8 +14,7 @@ pub record Listed : Type 0 where
   pub list : DefectList
   pub loads : ℕ
 
--- The list is one of the machine, and a diagnosis of whatever faults the machine may have. It took few loads from so many that the
--- rig counted before
+-- The list is one of the machine, and a diagnosis by all that was read. It took few loads from so many that the rig counted before
 pub record IsListed (m : Shape) (before : ℕ) (rig : RigState) (l : Listed) : Type 0 where
   pub shape : l.list.shape ≡ m
   pub kept : IsDefectList l.list

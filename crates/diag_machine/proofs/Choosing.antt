@@ -12,7 +12,6 @@ pub record HasChosen (first now : RigState) (j k : Kept) (those : KnownWires) (w
   pub known : IsKnown k those
   pub field : new.field ≡ old.field
   pub marks : AreMarksFor j.shape is
-  pub right : TrueIf first.machine.faults k those.steps is
   pub right_each : ForEach now (λ told. TrueIf told k those.steps is)
   pub pays : worth new.field k is now.loads new.choices.left ≤ worth old.field j was first.loads old.choices.left
   pub paid : new.choices.paid ≡ old.choices.paid

@@ -1,5 +1,5 @@
 -- The steps of a diagnosis, together.
-use Rattle.std.proofs.Common.{◌≡◌, ◌<◌, ◌+◌, ℕ, zero, suc, true, Some, Option, List, [], ◌∷◌, ◌++◌, length, refl, sym, ap, ◌∙◌, subst, All, slice_get}
+use Rattle.std.proofs.Common.{◌≡◌, ◌<◌, ◌+◌, ℕ, zero, suc, true, Some, Option, List, [], ◌∷◌, ◌++◌, length, refl, sym, ap, subst, All, slice_get}
 use Rattle.std.specs.Option.{option_map_or}
 use Rattle.std.proofs.lemmas.List.Elements.{All-push}
 use Rattle.base_bits.specs.Numbers.{has_number}
@@ -51,9 +51,6 @@ reached_if {told} {m} {l} {a} {ss} e numbered wires crosses closed = record {
 pub reached_then : {told : Option Faults} {k l : Kept} {a b : KnownWires} → IsMore k l → b ≡ a → ReachedIf told k a.steps → ReachedIf told l b.steps
 reached_then {told} {k} {l} {a} {b} more e r = record { at = λ f t holds. subst (λ (n : KnownWires). IsReached l f (HasWire n.steps)) (sym e) (reached_later more (r.at f t (holds_earlier more holds))) }
 
-pub reached_told : {told now : Option Faults} {l : Kept} {ss : List VerifiedWire} → now ≡ told → ReachedIf now l ss → ReachedIf told l ss
-reached_told e r = record { at = λ f told holds. r.at f (e ∙ told) holds }
-
 -- what stands in a list with one more
 get_before : (ts : List Table) (t : Table) (i : ℕ) (u : Table) → slice_get ts i ≡ Some u → slice_get (ts ++ t ∷ []) i ≡ Some u
 get_before [] t i u e = cc
@@ -75,30 +72,8 @@ module _ (old : List Table) (t : Table) (new : List Table) (more : new ≡ old +
   pub tables_within : {n : ℕ} → t.0 ≡ n → (m : Shape) → All (λ (u : Table). u.0 < tables_of m) old → n < tables_of m → All (λ (u : Table). u.0 < tables_of m) new
   tables_within is m all less = rw more (All-push (λ (u : Table). u.0 < tables_of m) old t all (subst (λ i. i < tables_of m) (sym is) less))
 
--- What was known by the first proof, and what the second kept besides of tables, makes the list a diagnosis.
-pub diagnosed : {s t u : RigState} {k l n : Kept} {known : KnownWires} {d : Defects} → ((m : Shape) → IsNumbered m) → ((m : Shape) (d : Defects) (f : Faults) → IsTight m d f → IsFair m d f) →
-    ((f : Faults) → HoldsFor k f) → Advances s t k l → Advances t u l n → IsKnown l known → ReachedIf s.machine.faults l known.steps → TablesIf t.machine.faults l n known.steps →
-    AddsOnlyTableFacts l n → IsListOf n.shape n known.steps d → IsDiagnosis s.machine.faults k.shape d
-diagnosed {s} {t} {u} {k} {l} {n} {known} {d} numbering law nothing one other is reached tables only list = record {
-  covers = λ f e. subst (λ m. Covers m d f) one.more.shape (covers is other.more (other.holds f (told f e) (first f e)) here);
-  fair = λ f e. law k.shape d f (tight_by f e);
-  tight = λ f e. tight_by f e;
-}
-  where
-    told : (f : Faults) → s.machine.faults ≡ Some f → t.machine.faults ≡ Some f
-    told f e = ap (λ m. m.faults) one.machine ∙ e
-
-    first : (f : Faults) → s.machine.faults ≡ Some f → HoldsFor l f
-    first f e = one.holds f e (nothing f)
-
-    here : IsListOf l.shape n known.steps d
-    here = subst (λ m. IsListOf m n known.steps d) other.more.shape list
-
-    tight_by : (f : Faults) → s.machine.faults ≡ Some f → IsTight k.shape d f
-    tight_by f e = subst (λ m. IsTight m d f) one.more.shape
-        (tight (numbering l.shape) is (reached.at f e (first f e)) only (λ i h seated right. (tables.each i h).at f (told f e) (first f e) seated right) here)
-
--- The same, of each set of faults that explains what was read.
+-- What was known by the first proof, and what the second kept besides of tables, makes the list a diagnosis, of each set of faults that
+-- explains what was read.
 pub diagnosed_each : {s t u : RigState} {k l n : Kept} {known : KnownWires} {d : Defects} → ((m : Shape) → IsNumbered m) → ((m : Shape) (d : Defects) (f : Faults) → IsTight m d f → IsFair m d f) →
     ((f : Faults) → HoldsFor k f) → Advances s t k l → Advances t u l n → IsKnown l known → ForEach t (λ told. ReachedIf told l known.steps) → ForEach u (λ told. TablesIf told l n known.steps) →
     AddsOnlyTableFacts l n → IsListOf n.shape n known.steps d → ForEach u (λ told. IsDiagnosis told k.shape d)

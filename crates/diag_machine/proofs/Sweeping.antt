@@ -11,7 +11,7 @@ use Rattle.machine_meaning.specs.Faults.{Faults, IsFaultless}
 use Rattle.machine_meaning.proofs.Faultless.{all_sound}
 use Rattle.rig.specs.Rig.{RigState, ForEach, Narrows}
 use Rattle.diag_evidence.specs.Kept.{Kept, HoldsFor, IsMore}
-use Rattle.diag_known.specs.Vocabulary.{ClosedIf, IsFieldOf, HasWire}
+use Rattle.diag_known.specs.Vocabulary.{IsFieldOf, HasWire}
 use Rattle.diag_known.proofs.Counting.{none_has, set_only}
 use Rattle.diag_known.specs.declared.field.Field.{Field}
 use Rattle.diag_known.specs.declared.verified_wire.VerifiedWire.{VerifiedWire}
@@ -27,15 +27,6 @@ always p = record { at = λ f e none holds. p }
 
 pub few_when : {told : Option Faults} {k : Kept} {P : Type 0} → ((f : Faults) → told ≡ Some f → IsFaultless f → HoldsFor k f → P) → IfFaultless told k P
 few_when p = record { at = p }
-
-pub closed_told : {told now : Option Faults} {k : Kept} {a : Field} {ss : List VerifiedWire} → now ≡ told → ClosedIf now k a ss → ClosedIf told k a ss
-closed_told e c = record { at = λ f told holds. c.at f (e ∙ told) holds }
-
-pub marks_told : {told now : Option Faults} {k : Kept} {ss : List VerifiedWire} {b : DefectMarks} → now ≡ told → TrueIf told k ss b → TrueIf now k ss b
-marks_told e t = record { at = λ f told holds. t.at f (sym e ∙ told) holds }
-
-pub marks_by : {told now : Option Faults} {k : Kept} {ss : List VerifiedWire} {b : DefectMarks} → now ≡ told → TrueIf now k ss b → TrueIf told k ss b
-marks_by e t = record { at = λ f told holds. t.at f (e ∙ told) holds }
 
 -- marks that stay true, of each set that explains what was read
 pub marks_each : {r s : RigState} {k l : Kept} {old new : List VerifiedWire} {b c : DefectMarks} → ForEach s (λ told. TrueIf told k old b → TrueIf told l new c) → Narrows r s →

@@ -11,9 +11,13 @@ pub record IsDiagnosis (told : Option Faults) (m : Shape) (d : Defects) : Type 0
   pub fair : (f : Faults) → told ≡ Some f → IsFair m d f
   pub tight : (f : Faults) → told ≡ Some f → IsTight m d f
 
+-- at most 16 loads for each crosspoint, 20 for each wire and 130 for each table
+abbrev pub TakesAtMost : Shape → (before after : ℕ) → Type 0
+TakesAtMost m before after = after ≤ before + (16 * crosses_of m + (20 * wires_of m + 130 * tables_of m))
+
 -- at most 16 loads for each crosspoint, 20 for each wire and 130 for each table, and where the machine is told to have no
 -- faults, 2, 3 and 130
 pub record TakesFewLoads (told : Option Faults) (m : Shape) (before after : ℕ) : Type 0 where
-  pub always : after ≤ before + (16 * crosses_of m + (20 * wires_of m + 130 * tables_of m))
+  pub always : TakesAtMost m before after
   pub faultless : (f : Faults) → told ≡ Some f → IsFaultless f →
       after ≤ before + (2 * crosses_of m + (3 * wires_of m + 130 * tables_of m))

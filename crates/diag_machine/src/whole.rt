@@ -3,13 +3,13 @@ ghost use Rattle.std.specs.Prelude.{◌≡◌, ◌⊎◌, ◌≤◌, ◌<◌, �
 ghost use Rattle.base_bits.specs.Numbers.{has_number, size_of};
 ghost use Rattle.base_io.specs.Counts.{Rose};
 ghost use Rattle.machine_shape.specs.Shape.{tables_of, wires_of};
-ghost use Rattle.rig.specs.Rig.{ForEach, Narrows, shape_of};
+ghost use Rattle.rig.specs.Rig.{ForEach, Narrows, Tells, shape_of};
 ghost use Rattle.diag_evidence.specs.Kept.{Advances, KeepsNothing};
 ghost use Rattle.diag_known.specs.Vocabulary.{IsFieldOf, pins_in, IsKnown};
 ghost use Rattle.diag_known.specs.declared.verified_wire.VerifiedWire.{VerifiedWire};
 ghost use Rattle.diag_growth.specs.Seats.{AddsOnlyTableFacts};
 ghost use Rattle.diag_sweep.specs.Marks.{AreMarksFor, HasTable, TrueIf, undecided, worth};
-ghost use Rattle.diag_machine.specs.Diagnosis.{IsDiagnosis, TakesFewLoads};
+ghost use Rattle.diag_machine.specs.Diagnosis.{IsDiagnosis, TakesAtMost, TakesFewLoads};
 ghost use Rattle.diag_machine.specs.Stages.{IfFaultless, IsWhole, ReachedIf, TablesIf, loads_for};
 
 use crate::list::list_of;
@@ -107,12 +107,10 @@ fn choose_once(
     requires known { IsKnown facts.old known.old }
     requires field { IsFieldOf facts.old.shape state.old.field }
     requires marks { AreMarksFor facts.old.shape bad.old }
-    requires right { TrueIf (rig_state rig.old).machine.faults facts.old known.old.steps bad.old }
     requires right_each { ForEach (rig_state rig.old) (λ told. TrueIf told facts.old known.old.steps bad.old) }
     ensures known { IsKnown facts.new known.new }
     ensures field { state.new.field ≡ state.old.field }
     ensures marks { AreMarksFor facts.old.shape bad.new }
-    ensures right { TrueIf (rig_state rig.old).machine.faults facts.new known.new.steps bad.new }
     ensures right_each { ForEach (rig_state rig.new) (λ told. TrueIf told facts.new known.new.steps bad.new) }
     ensures same { IfOk result (λ chosen. chosen ≡ false → known.new ≡ known.old) }
     ensures pays { worth state.new.field facts.new bad.new (rig_state rig.new).loads state.new.choices.left
@@ -141,12 +139,10 @@ fn choose_all(
     requires known { IsKnown facts.old known.old }
     requires field { IsFieldOf facts.old.shape state.old.field }
     requires marks { AreMarksFor facts.old.shape bad.old }
-    requires right { TrueIf (rig_state rig.old).machine.faults facts.old known.old.steps bad.old }
     requires right_each { ForEach (rig_state rig.old) (λ told. TrueIf told facts.old known.old.steps bad.old) }
     ensures known { IsKnown facts.new known.new }
     ensures field { state.new.field ≡ state.old.field }
     ensures marks { AreMarksFor facts.old.shape bad.new }
-    ensures right { TrueIf (rig_state rig.old).machine.faults facts.new known.new.steps bad.new }
     ensures right_each { ForEach (rig_state rig.new) (λ told. TrueIf told facts.new known.new.steps bad.new) }
     ensures pays { worth state.new.field facts.new bad.new (rig_state rig.new).loads state.new.choices.left
         ≤ worth state.old.field facts.old bad.old (rig_state rig.old).loads state.old.choices.left }
@@ -174,19 +170,16 @@ fn sweep_whole(
     requires known { IsKnown facts.old known.old }
     requires field { IsFieldOf facts.old.shape state.old.field }
     requires marks { AreMarksFor facts.old.shape bad.old }
-    requires right { TrueIf (rig_state rig.old).machine.faults facts.old known.old.steps bad.old }
     requires right_each { ForEach (rig_state rig.old) (λ told. TrueIf told facts.old known.old.steps bad.old) }
     requires paid { length state.old.choices.paid ≡ wires_of facts.old.shape }
     ensures known { IsKnown facts.new known.new }
     ensures field { state.new.field ≡ state.old.field }
     ensures marks { AreMarksFor facts.old.shape bad.new }
-    ensures right { TrueIf (rig_state rig.old).machine.faults facts.new known.new.steps bad.new }
     ensures right_each { ForEach (rig_state rig.new) (λ told. TrueIf told facts.new known.new.steps bad.new) }
     ensures pays { worth state.new.field facts.new bad.new (rig_state rig.new).loads state.new.choices.left
         + 14 * size_of state.old.choices.paid
         ≤ worth state.old.field facts.old bad.old (rig_state rig.old).loads state.old.choices.left
         + (pins_in facts.old.shape state.old.field + 14 * size_of state.new.choices.paid) }
-    ensures few { IfFaultless (rig_state rig.old).machine.faults facts.old (state.new.choices.paid ≡ state.old.choices.paid) }
     ensures few_each { ForEach (rig_state rig.new) (λ told. IfFaultless told facts.old (state.new.choices.paid ≡ state.old.choices.paid)) }
     ensures paid { length state.new.choices.paid ≡ length state.old.choices.paid }
     ensures advances { Advances (rig_state rig.old) (rig_state rig.new) facts.old facts.new }
@@ -216,17 +209,12 @@ fn grow_whole(
     requires field { IsFieldOf facts.old.shape field.now }
     requires whole { IsWhole facts.old.shape field.now }
     requires marks { AreMarksFor facts.old.shape bad.now }
-    requires right { TrueIf (rig_state rig.old).machine.faults facts.old known.old.steps bad.now }
     requires right_each { ForEach (rig_state rig.old) (λ told. TrueIf told facts.old known.old.steps bad.now) }
     ensures known { IsKnown facts.new known.new }
-    ensures right { TrueIf (rig_state rig.old).machine.faults facts.new known.new.steps bad.now }
     ensures right_each { ForEach (rig_state rig.new) (λ told. TrueIf told facts.new known.new.steps bad.now) }
-    ensures reached { OnOk result (ReachedIf (rig_state rig.old).machine.faults facts.new known.new.steps) }
     ensures reached_each { OnOk result (ForEach (rig_state rig.new) (λ told. ReachedIf told facts.new known.new.steps)) }
     ensures loads { (rig_state rig.new).loads + pins_in facts.old.shape field.now
         ≤ (rig_state rig.old).loads + (8 * undecided facts.old bad.now field.now + 3 * size_of field.now.wires) }
-    ensures few { IfFaultless (rig_state rig.old).machine.faults facts.old ((rig_state rig.new).loads + pins_in facts.old.shape field.now
-        ≤ (rig_state rig.old).loads + (2 * undecided facts.old bad.now field.now + 3 * size_of field.now.wires)) }
     ensures few_each { ForEach (rig_state rig.new) (λ told. IfFaultless told facts.old ((rig_state rig.new).loads + pins_in
         facts.old.shape field.now ≤ (rig_state rig.old).loads + (2 * undecided facts.old bad.now field.now + 3 * size_of
         field.now.wires))) }
@@ -254,21 +242,16 @@ fn know_lost(
     requires known { IsKnown facts.old known.old }
     requires field { IsFieldOf facts.old.shape state.old.field }
     requires marks { AreMarksFor facts.old.shape bad.old }
-    requires right { TrueIf (rig_state rig.old).machine.faults facts.old known.old.steps bad.old }
     requires right_each { ForEach (rig_state rig.old) (λ told. TrueIf told facts.old known.old.steps bad.old) }
     requires whole { IsWhole facts.old.shape state.old.field }
     requires paid { length state.old.choices.paid ≡ wires_of facts.old.shape }
-    requires reached { ReachedIf (rig_state rig.old).machine.faults facts.old known.old.steps }
     requires reached_each { ForEach (rig_state rig.old) (λ told. ReachedIf told facts.old known.old.steps) }
     ensures known { IsKnown facts.new known.new }
     ensures marks { AreMarksFor facts.old.shape bad.new }
-    ensures right { TrueIf (rig_state rig.old).machine.faults facts.new known.new.steps bad.new }
     ensures right_each { ForEach (rig_state rig.new) (λ told. TrueIf told facts.new known.new.steps bad.new) }
-    ensures reached { OnOk result (ReachedIf (rig_state rig.old).machine.faults facts.new known.new.steps) }
     ensures reached_each { OnOk result (ForEach (rig_state rig.new) (λ told. ReachedIf told facts.new known.new.steps)) }
     ensures loads { (rig_state rig.new).loads + 14 * size_of state.old.choices.paid
         ≤ (rig_state rig.old).loads + (state.old.choices.left + (loads_for facts.old 8 3 + 14 * wires_of facts.old.shape)) }
-    ensures few { IfFaultless (rig_state rig.old).machine.faults facts.old ((rig_state rig.new).loads ≤ (rig_state rig.old).loads) }
     ensures few_each { ForEach (rig_state rig.new) (λ told. IfFaultless told facts.old ((rig_state rig.new).loads ≤ (rig_state
         rig.old).loads)) }
     ensures advances { Advances (rig_state rig.old) (rig_state rig.new) facts.old facts.new }
@@ -302,7 +285,6 @@ fn know_all(
     requires attached { shape_of (rig_state rig.old) ≡ Some facts.old.shape }
     requires known { IsKnown facts.old known.old }
     requires marks { AreMarksFor facts.old.shape bad.old }
-    requires right { TrueIf (rig_state rig.old).machine.faults facts.old known.old.steps bad.old }
     requires right_each { ForEach (rig_state rig.old) (λ told. TrueIf told facts.old known.old.steps bad.old) }
     requires field { IsFieldOf facts.old.shape state.old.field }
     requires whole { IsWhole facts.old.shape state.old.field }
@@ -311,14 +293,10 @@ fn know_all(
     requires none { size_of state.old.choices.paid ≡ 0 }
     ensures known { OnOk result (IsKnown facts.new known.new) }
     ensures marks { AreMarksFor facts.old.shape bad.new }
-    ensures right { OnOk result (TrueIf (rig_state rig.old).machine.faults facts.new known.new.steps bad.new) }
     ensures right_each { OnOk result (ForEach (rig_state rig.new) (λ told. TrueIf told facts.new known.new.steps bad.new)) }
-    ensures reached { OnOk result (ReachedIf (rig_state rig.old).machine.faults facts.new known.new.steps) }
     ensures reached_each { OnOk result (ForEach (rig_state rig.new) (λ told. ReachedIf told facts.new known.new.steps)) }
     ensures advances { Advances (rig_state rig.old) (rig_state rig.new) facts.old facts.new }
     ensures loads { (rig_state rig.new).loads ≤ (rig_state rig.old).loads + loads_for facts.old 16 20 }
-    ensures few { IfFaultless (rig_state rig.old).machine.faults facts.old
-        ((rig_state rig.new).loads ≤ (rig_state rig.old).loads + loads_for facts.old 2 3) }
     ensures few_each { ForEach (rig_state rig.new) (λ told. IfFaultless told facts.old ((rig_state rig.new).loads ≤ (rig_state
         rig.old).loads + loads_for facts.old 2 3)) }
     ensures cause { IsErrOf result RigFail.Failed → Rose (rig_state rig.old).failures (rig_state rig.new).failures }
@@ -345,18 +323,13 @@ fn know_from_first(
     requires attached { shape_of (rig_state rig.old) ≡ Some facts.old.shape }
     requires known { IsKnown facts.old known.old }
     requires marks { AreMarksFor facts.old.shape bad.old }
-    requires right { TrueIf (rig_state rig.old).machine.faults facts.old known.old.steps bad.old }
     requires right_each { ForEach (rig_state rig.old) (λ told. TrueIf told facts.old known.old.steps bad.old) }
     ensures known { OnOk result (IsKnown facts.new known.new) }
     ensures marks { AreMarksFor facts.old.shape bad.new }
-    ensures right { OnOk result (TrueIf (rig_state rig.old).machine.faults facts.new known.new.steps bad.new) }
     ensures right_each { OnOk result (ForEach (rig_state rig.new) (λ told. TrueIf told facts.new known.new.steps bad.new)) }
-    ensures reached { OnOk result (ReachedIf (rig_state rig.old).machine.faults facts.new known.new.steps) }
     ensures reached_each { OnOk result (ForEach (rig_state rig.new) (λ told. ReachedIf told facts.new known.new.steps)) }
     ensures advances { Advances (rig_state rig.old) (rig_state rig.new) facts.old facts.new }
     ensures loads { (rig_state rig.new).loads ≤ (rig_state rig.old).loads + loads_for facts.old 16 20 }
-    ensures few { IfFaultless (rig_state rig.old).machine.faults facts.old
-        ((rig_state rig.new).loads ≤ (rig_state rig.old).loads + loads_for facts.old 2 3) }
     ensures few_each { ForEach (rig_state rig.new) (λ told. IfFaultless told facts.old ((rig_state rig.new).loads ≤ (rig_state
         rig.old).loads + loads_for facts.old 2 3)) }
     ensures cause { IsErrOf result RigFail.Failed → Rose (rig_state rig.old).failures (rig_state rig.new).failures }
@@ -379,18 +352,13 @@ fn known_wires(
 ) -> Result<Known, RigFail>
     requires attached { shape_of (rig_state rig.old) ≡ Some facts.old.shape }
     requires marks { AreMarksFor facts.old.shape bad.old }
-    requires right { (ss : List VerifiedWire) → TrueIf (rig_state rig.old).machine.faults facts.old ss bad.old }
     requires right_each { (ss : List VerifiedWire) → ForEach (rig_state rig.old) (λ told. TrueIf told facts.old ss bad.old) }
     ensures known { IfOk result (IsKnown facts.new) }
     ensures marks { AreMarksFor facts.old.shape bad.new }
-    ensures right { IfOk result (λ known. TrueIf (rig_state rig.old).machine.faults facts.new known.steps bad.new) }
     ensures right_each { IfOk result (λ known. ForEach (rig_state rig.new) (λ told. TrueIf told facts.new known.steps bad.new)) }
-    ensures reached { IfOk result (λ known. ReachedIf (rig_state rig.old).machine.faults facts.new known.steps) }
     ensures reached_each { IfOk result (λ known. ForEach (rig_state rig.new) (λ told. ReachedIf told facts.new known.steps)) }
     ensures advances { Advances (rig_state rig.old) (rig_state rig.new) facts.old facts.new }
     ensures loads { (rig_state rig.new).loads ≤ (rig_state rig.old).loads + loads_for facts.old 16 20 }
-    ensures few { IfFaultless (rig_state rig.old).machine.faults facts.old
-        ((rig_state rig.new).loads ≤ (rig_state rig.old).loads + loads_for facts.old 2 3) }
     ensures few_each { ForEach (rig_state rig.new) (λ told. IfFaultless told facts.old ((rig_state rig.new).loads ≤ (rig_state
         rig.old).loads + loads_for facts.old 2 3)) }
     ensures cause { IsErrOf result RigFail.Failed → Rose (rig_state rig.old).failures (rig_state rig.new).failures }
@@ -432,9 +400,7 @@ fn test_all(
     requires attached { shape_of (rig_state rig.old) ≡ Some facts.old.shape }
     requires known { IsKnown facts.old known.now }
     requires marks { AreMarksFor facts.old.shape bad.now }
-    requires right { TrueIf (rig_state rig.old).machine.faults facts.old known.now.steps bad.now }
     requires right_each { ForEach (rig_state rig.old) (λ told. TrueIf told facts.old known.now.steps bad.now) }
-    ensures tables { OnOk result (TablesIf (rig_state rig.old).machine.faults facts.old facts.new known.now.steps) }
     ensures tables_each { OnOk result (ForEach (rig_state rig.new) (λ told. TablesIf told facts.old facts.new known.now.steps)) }
     ensures advances { Advances (rig_state rig.old) (rig_state rig.new) facts.old facts.new }
     ensures only { AddsOnlyTableFacts facts.old facts.new }
@@ -459,10 +425,9 @@ fn diagnose_with(
     requires nothing { KeepsNothing facts.old }
 
     ensures shape { IfOk result (λ d. d.shape ≡ facts.old.shape) }
-    ensures right { IfOk result (λ d. IsDiagnosis (rig_state rig.old).machine.faults facts.old.shape d.list) }
     ensures right_each { IfOk result (λ d. ForEach (rig_state rig.new) (λ told. IsDiagnosis told facts.old.shape d.list)) }
     ensures advances { Advances (rig_state rig.old) (rig_state rig.new) facts.old facts.new }
-    ensures loads { TakesFewLoads (rig_state rig.old).machine.faults facts.old.shape (rig_state rig.old).loads (rig_state rig.new).loads }
+    ensures loads { TakesAtMost facts.old.shape (rig_state rig.old).loads (rig_state rig.new).loads }
     ensures loads_each { ForEach (rig_state rig.new) (λ told. TakesFewLoads told facts.old.shape (rig_state rig.old).loads (rig_state
         rig.new).loads) }
     ensures cause { IsErrOf result RigFail.Failed → Rose (rig_state rig.old).failures (rig_state rig.new).failures }
@@ -499,13 +464,13 @@ pub fn diagnose_in_parts(
     requires attached { shape_of (rig_state rig.old) ≡ Some shape.now }
 
     ensures shape { IfOk result (λ d. d.shape ≡ shape.now) }
-    ensures right { IfOk result (λ d. IsDiagnosis (rig_state rig.old).machine.faults shape.now d.list) }
     ensures right_each { IfOk result (λ d. ForEach (rig_state rig.new) (λ told. IsDiagnosis told shape.now d.list)) }
     ensures machine { (rig_state rig.new).machine ≡ (rig_state rig.old).machine }
     ensures later { (rig_state rig.old).failures ≤ (rig_state rig.new).failures }
     ensures counted { (rig_state rig.old).loads ≤ (rig_state rig.new).loads }
     ensures narrows { Narrows (rig_state rig.old) (rig_state rig.new) }
-    ensures loads { TakesFewLoads (rig_state rig.old).machine.faults shape.now (rig_state rig.old).loads (rig_state rig.new).loads }
+    ensures tells { Tells (rig_state rig.old) (rig_state rig.new) }
+    ensures loads { TakesAtMost shape.now (rig_state rig.old).loads (rig_state rig.new).loads }
     ensures loads_each { ForEach (rig_state rig.new) (λ told. TakesFewLoads told shape.now (rig_state rig.old).loads (rig_state
         rig.new).loads) }
     ensures cause { IsErrOf result RigFail.Failed → Rose (rig_state rig.old).failures (rig_state rig.new).failures }
@@ -517,10 +482,10 @@ pub fn diagnose_in_parts(
 }
 
 /// Finds what is wrong with the machine that is attached, and lists it. The list covers each set of faults that explains all that
-/// was read of the machine, and the faults that the rig tells, and is tight to them: nothing on it both works and can be reached over
-/// what is free. So it is fair: of served nodes it holds no sound part, but lines with fewer than two sound crosspoints. At every end
-/// it took at most 16 loads for each crosspoint, 20 for each wire and 130 for each table; and 2, 3 and 130 where all that was read is
-/// explained without faults, or the machine is told to have none. The count of loads didn't fall.
+/// was read of the machine, and is tight to it: nothing on it both works and can be reached over what is free. So it is fair: of served
+/// nodes it holds no sound part, but lines with fewer than two sound crosspoints. At every end it took at most 16 loads for each
+/// crosspoint, 20 for each wire and 130 for each table; and 2, 3 and 130 where all that was read is explained without faults. The count
+/// of loads didn't fall. Faults that the rig tells explain what was read, if they did before.
 ///
 /// # Errors
 ///
@@ -529,13 +494,13 @@ pub fn diagnose(alloc: Global, rig: &mut Box<dyn Rig>, shape: &Shape) -> Result<
     requires attached { shape_of (rig_state rig.old) ≡ Some shape.now }
 
     ensures shape { IfOk result (λ d. d.shape ≡ shape.now) }
-    ensures right { IfOk result (λ d. IsDiagnosis (rig_state rig.old).machine.faults shape.now d.list) }
     ensures right_each { IfOk result (λ d. ForEach (rig_state rig.new) (λ told. IsDiagnosis told shape.now d.list)) }
     ensures machine { (rig_state rig.new).machine ≡ (rig_state rig.old).machine }
     ensures later { (rig_state rig.old).failures ≤ (rig_state rig.new).failures }
     ensures counted { (rig_state rig.old).loads ≤ (rig_state rig.new).loads }
     ensures narrows { Narrows (rig_state rig.old) (rig_state rig.new) }
-    ensures loads { TakesFewLoads (rig_state rig.old).machine.faults shape.now (rig_state rig.old).loads (rig_state rig.new).loads }
+    ensures tells { Tells (rig_state rig.old) (rig_state rig.new) }
+    ensures loads { TakesAtMost shape.now (rig_state rig.old).loads (rig_state rig.new).loads }
     ensures loads_each { ForEach (rig_state rig.new) (λ told. TakesFewLoads told shape.now (rig_state rig.old).loads (rig_state
         rig.new).loads) }
     ensures cause { IsErrOf result RigFail.Failed → Rose (rig_state rig.old).failures (rig_state rig.new).failures }

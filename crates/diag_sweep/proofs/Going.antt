@@ -1,13 +1,12 @@
 -- Steps of a sweep, one after the other.
-use Rattle.std.proofs.Common.{◌≡◌, ◌⊎◌, ℕ, ◌+◌, ◌≤◌, true, Option, List, [], sym, ap, ◌∙◌, subst, inl, inr, arith}
+use Rattle.std.proofs.Common.{◌≡◌, ◌⊎◌, ℕ, ◌+◌, ◌≤◌, true, List, [], sym, ap, ◌∙◌, subst, inl, inr, arith}
 use Rattle.base_bits.specs.Numbers.{has_number}
 use Rattle.machine_shape.specs.declared.Table.{Table}
-use Rattle.machine_meaning.specs.Faults.{Faults}
 use Rattle.machine_shape.specs.Shape.{crosses_of}
 use Rattle.diag_evidence.specs.Kept.{Kept, IsMore, Advances}
 use Rattle.diag_evidence.proofs.Keeping.{advances_itself, advances_then}
 use Rattle.diag_evidence.proofs.KeptLemmas.{more_itself}
-use Rattle.rig.specs.Rig.{RigState, ForEach}
+use Rattle.rig.specs.Rig.{RigState, ForEach, Narrows}
 use Rattle.diag_known.specs.Vocabulary.{KnownWires, HasWire, IsKnown, IsFieldOf, GrowsIn}
 use Rattle.diag_known.specs.declared.field.Field.{Field}
 use Rattle.diag_known.specs.declared.verified_wire.VerifiedWire.{VerifiedWire}
@@ -29,35 +28,34 @@ grows_then {a} {x} {y} p q = record { stays = λ w has. q.stays w (p.stays w has
     by w (inl has) = p.within w has
     by w (inr on) = inr on
 
-pub goes_itself : {told : Option Faults} {a : Field} {tables : List Table} {h : Hand} → IsHand a h → Goes told a tables h h
+pub goes_itself : {now : RigState} {a : Field} {tables : List Table} {h : Hand} → IsHand a h → Goes now a tables h h
 goes_itself {a = a} {tables = tables} {h = h} is = record {
   hand = is;
   grows = grows_itself a h.known.steps;
   marks = marks_itself a tables h.bad;
-  holds = λ t. t;
+  holds = λ f e t. t;
   funded = λ limit f. f;
 }
 
-pub goes_then : {told : Option Faults} {a : Field} {tables : List Table} {x y z : Hand} → Goes told a tables x y → Goes told a tables y z → Goes told a tables x z
+pub goes_then : {now : RigState} {a : Field} {tables : List Table} {x y z : Hand} → Goes now a tables x y → Goes now a tables y z → Goes now a tables x z
 goes_then p q = record {
   hand = q.hand;
   grows = grows_then p.grows q.grows;
   marks = marks_then p.marks q.marks;
-  holds = λ t. q.holds (p.holds t);
+  holds = λ f e t. q.holds f e (p.holds f e t);
   funded = λ limit f. q.funded limit (p.funded limit f);
 }
 
--- a step after calls that left the machine as it was
-pub goes_on : {a : Field} {tables : List Table} {x y z : Hand} {r s : RigState} {k l : Kept} → Advances r s k l → Goes r.machine.faults a tables x y → Goes s.machine.faults a tables y z → Goes r.machine.faults a tables x z
-goes_on {a} {tables} {x} {y} {z} advances p q = goes_then p (subst (λ (told : Option Faults). Goes told a tables y z) (ap (λ m. m.faults) advances.machine) q)
+-- a step after others, whose log is longer: what explains it explained the one before
+goes_later : {r s : RigState} {a : Field} {tables : List Table} {x y : Hand} → Narrows r s → Goes r a tables x y → Goes s a tables x y
+goes_later narrows p = record { hand = p.hand; grows = p.grows; marks = p.marks; holds = λ f e. p.holds f (narrows f e); funded = p.funded }
 
--- the same, of each set of faults that explains what was read
-pub goes_on_each : {a : Field} {tables : List Table} {x y z : Hand} {r s : RigState} {k l : Kept} → ForEach r (λ told. Goes told a tables x y) → Advances r s k l → ForEach s (λ told. Goes told a tables y z) → ForEach s (λ told. Goes told a tables x z)
-goes_on_each p on q = λ f e. goes_then (p f (on.narrows f e)) (q f e)
+pub goes_on : {a : Field} {tables : List Table} {x y z : Hand} {r s : RigState} {k l : Kept} → Goes r a tables x y → Advances r s k l → Goes s a tables y z → Goes s a tables x z
+goes_on p on q = goes_then (goes_later on.narrows p) q
 
 -- more tables might have been marked
-pub goes_wider : {told : Option Faults} {a : Field} {x y : Hand} (tables : List Table) → Goes told a [] x y → Goes told a tables x y
-goes_wider {told} {a} {x} {y} tables g = record {
+pub goes_wider : {now : RigState} {a : Field} {x y : Hand} (tables : List Table) → Goes now a [] x y → Goes now a tables x y
+goes_wider {now} {a} {x} {y} tables g = record {
   hand = g.hand;
   grows = g.grows;
   marks = record {
@@ -78,8 +76,8 @@ goes_wider {told} {a} {x} {y} tables g = record {
     by i (inr has) = absurd (none i has)
 
 -- a test that marks, and was paid for
-pub goes_tested : {told : Option Faults} {a : Field} {tables : List Table} {k l : Kept} {known : KnownWires} {bad new : DefectMarks} {budget : LoadBudget} {before after : ℕ} (n : ℕ) → IsHand a (in_hand k known bad budget before) → before + n ≤ budget.most → after ≤ before + n → IsMore k l →
-    MarksIn a tables bad new → (TrueIf told k known.steps bad → TrueIf told l known.steps new) → Goes told a tables (in_hand k known bad budget before) (in_hand l known new budget after)
+pub goes_tested : {now : RigState} {a : Field} {tables : List Table} {k l : Kept} {known : KnownWires} {bad new : DefectMarks} {budget : LoadBudget} {before after : ℕ} (n : ℕ) → IsHand a (in_hand k known bad budget before) → before + n ≤ budget.most → after ≤ before + n → IsMore k l →
+    MarksIn a tables bad new → ForEach now (λ told. TrueIf told k known.steps bad → TrueIf told l known.steps new) → Goes now a tables (in_hand k known bad budget before) (in_hand l known new budget after)
 goes_tested {a = a} {known = known} n hand can took more marked holds = record {
   hand = record {
     known = known_later more hand.known;
@@ -96,24 +94,23 @@ goes_tested {a = a} {known = known} n hand can took more marked holds = record {
 -- what tests over the rig have made of what is in hand so far
 pub record HasGone (first now : RigState) (j k : Kept) (a : Field) (tables : List Table) (old new : Hand) : Type 0 where
   pub hand : IsHand a new
-  pub goes : Goes first.machine.faults a tables old new
-  pub each : ForEach now (λ told. Goes told a tables old new)
+  pub goes : Goes now a tables old new
   pub advances : Advances first now j k
 
 pub gone_none : {r : RigState} {k : Kept} {a : Field} {tables : List Table} {h : Hand} → IsHand a h → HasGone r r k k a tables h h
-gone_none {r} {k} hand = record { hand = hand; goes = goes_itself hand; each = λ f e. goes_itself hand; advances = advances_itself r k }
+gone_none {r} {k} hand = record { hand = hand; goes = goes_itself hand; advances = advances_itself r k }
 
-pub gone_on : {r s t : RigState} {j k l : Kept} {a : Field} {tables : List Table} {x y z : Hand} → HasGone r s j k a tables x y → Goes s.machine.faults a tables y z → Advances s t k l → ForEach t (λ told. Goes told a tables y z) → HasGone r t j l a tables x z
-gone_on p q on each = let goes = goes_on p.advances p.goes q in record { hand = goes.hand; goes = goes; each = goes_on_each p.each on each; advances = advances_then p.advances on }
+pub gone_on : {r s t : RigState} {j k l : Kept} {a : Field} {tables : List Table} {x y z : Hand} → HasGone r s j k a tables x y → Goes t a tables y z → Advances s t k l → HasGone r t j l a tables x z
+gone_on p q on = record { hand = q.hand; goes = goes_on p.goes on q; advances = advances_then p.advances on }
 
 -- a purse that is settled anew
-pub goes_settled : {told : Option Faults} {a : Field} {tables : List Table} {k : Kept} {known : KnownWires} {bad : DefectMarks} {old new : LoadBudget} {loads : ℕ} → IsHand a (in_hand k known bad old loads) → Settles k bad old new →
-    Goes told a tables (in_hand k known bad old loads) (in_hand k known bad new loads)
-goes_settled {told} {a} {tables} {k} {known} {bad} {old} {new} {loads} hand s = record {
+pub goes_settled : {now : RigState} {a : Field} {tables : List Table} {k : Kept} {known : KnownWires} {bad : DefectMarks} {old new : LoadBudget} {loads : ℕ} → IsHand a (in_hand k known bad old loads) → Settles k bad old new →
+    Goes now a tables (in_hand k known bad old loads) (in_hand k known bad new loads)
+goes_settled {now} {a} {tables} {k} {known} {bad} {old} {new} {loads} hand s = record {
   hand = record { known = hand.known; field = hand.field; marks = hand.marks; budget = s.len ∙ hand.budget };
   grows = grows_itself a known.steps;
   marks = marks_itself a tables bad;
-  holds = λ t. t;
+  holds = λ f e t. t;
   funded = λ limit f. record {
     paid = (let paid = f.paid in let more = s.most in omega (arith, paid, more));
     within = (let within = f.within in let less = s.within in omega (arith, within, less));
@@ -122,12 +119,12 @@ goes_settled {told} {a} {tables} {k} {known} {bad} {old} {new} {loads} hand s = 
 }
 
 -- more is known
-pub goes_learnt : {told : Option Faults} {a : Field} {tables : List Table} {k : Kept} {old new : KnownWires} {bad : DefectMarks} {budget : LoadBudget} {loads : ℕ} → IsHand a (in_hand k old bad budget loads) → IsKnown k new → GrowsIn a old.steps new.steps →
-    Goes told a tables (in_hand k old bad budget loads) (in_hand k new bad budget loads)
-goes_learnt {told} {a} {tables} {k} {old} {new} {bad} {budget} {loads} hand known grows = record {
+pub goes_learnt : {now : RigState} {a : Field} {tables : List Table} {k : Kept} {old new : KnownWires} {bad : DefectMarks} {budget : LoadBudget} {loads : ℕ} → IsHand a (in_hand k old bad budget loads) → IsKnown k new → GrowsIn a old.steps new.steps →
+    Goes now a tables (in_hand k old bad budget loads) (in_hand k new bad budget loads)
+goes_learnt {now} {a} {tables} {k} {old} {new} {bad} {budget} {loads} hand known grows = record {
   hand = record { known = known; field = hand.field; marks = hand.marks; budget = hand.budget };
   grows = grows;
   marks = marks_itself a tables bad;
-  holds = λ t. true_later (more_itself k) grows.stays t;
+  holds = λ f e t. true_later (more_itself k) grows.stays t;
   funded = λ limit f. record { paid = f.paid; within = f.within; whole = f.whole };
 }

@@ -1,17 +1,18 @@
 -- What a load of walks leaves.
-use Rattle.std.proofs.Common.{◌≡◌, ◌⊎◌, inl, inr, ℕ, ◌+◌, ◌≤◌, Bool, true, false, not, ◌&&◌, ◌||◌, Option, Result, Ok, Err, List, [], ◌∷◌, length, refl, sym, ap, ◌∙◌, subst, ◌==◌, OnOk, OnErr, flat_map}
+use Rattle.std.proofs.Common.{◌≡◌, ◌⊎◌, inl, inr, ℕ, ◌+◌, ◌≤◌, Bool, true, false, not, ◌&&◌, ◌||◌, Option, Result, Ok, Err, List, [], ◌∷◌, length, refl, sym, ap, ◌∙◌, subst, ◌==◌, OnOk, OnErr}
 use Rattle.std.proofs.lemmas.Bool.{false≢true, or_cases, and_parts, or_left, or_right}
 use Rattle.std.proofs.lemmas.List.Concat.{flat_map-cons}
 use Rattle.std.proofs.lemmas.List.Folds.{list_any-append}
 use Rattle.base_bits.specs.Numbers.{has_number}
 use Rattle.machine_meaning.specs.Vocabulary.{Faults, Pins}
 use Rattle.machine_config.specs.Vocabulary.{Configuration, among}
-use Rattle.diag_evidence.specs.Vocabulary.{Kept, HoldsFor, IsMore, keeps_cross, HasLed, StuckIf, arrives, held_up_at, is_only_unkept, crosses_of_leads}
+use Rattle.rig.specs.Rig.{RigState, ForEach}
+use Rattle.diag_evidence.specs.Vocabulary.{Kept, IsMore, keeps_cross, HasLed, StuckIf, arrives, held_up_at, is_only_unkept, crosses_of_leads}
 use Rattle.diag_evidence.specs.declared.leads.Lead.{Lead}
 use Rattle.diag_known.specs.Known.{KnownWires}
 use Rattle.diag_known.specs.declared.field.Field.{Field}
 use Rattle.diag_sweep.specs.Courses.{IsCourse}
-use Rattle.diag_sweep.specs.Marks.{AreMarksFor, MarksSome, MarksIn, TrueIf}
+use Rattle.diag_sweep.specs.Marks.{MarksSome, MarksIn, TrueIf}
 use Rattle.diag_sweep.specs.Stages.{Goes, IsHand, in_hand}
 use Rattle.diag_sweep.specs.declared.defect_marks.DefectMarks.{DefectMarks}
 use Rattle.diag_sweep.specs.declared.budget.LoadBudget.{LoadBudget}
@@ -54,11 +55,11 @@ stuck_marks told a k l known g drive ls seen was is (Ok v) c len led same = reco
     by x (inr on) = inl on
 stuck_marks told a k l known g drive ls seen was is (Err e) c len led same = subst (MarksSome (λ x. has_number a.crosses x ≡ true) was) (sym same) (some_itself _ was)
 
-pub lead_goes : (shown : Option Faults) {told : Option Faults} {a : Field} {k l : Kept} {known : KnownWires} {bad : DefectMarks} {budget : LoadBudget} {before after : ℕ} {g : Configuration} {drive : List Bool} {ls : List Lead} {seen stuck : List Bool} {T E : Type 0} (r : Result T E) →
+pub lead_goes : (shown : Option Faults) {now : RigState} {a : Field} {k l : Kept} {known : KnownWires} {bad : DefectMarks} {budget : LoadBudget} {before after : ℕ} {g : Configuration} {drive : List Bool} {ls : List Lead} {seen stuck : List Bool} {T E : Type 0} (r : Result T E) →
     IsHand a (in_hand k known bad budget before) → IsCourse k known.steps a g drive ls seen → before + 1 ≤ budget.most → after ≤ before + 1 → IsMore k l → length stuck ≡ length bad.stuck →
-    OnOk r (HasLed shown g drive ls k l bad.stuck stuck) → OnErr r (stuck ≡ bad.stuck) → (StuckIf told k bad.stuck → StuckIf told l stuck) →
-    Goes told a [] (in_hand k known bad budget before) (in_hand l known (record bad { stuck = stuck }) budget after)
-lead_goes shown {told} {a} {k} {l} {known} {bad} {budget} {before} {after} {g} {drive} {ls} {seen} {stuck} r hand course can took more len led same true_ = goes_tested 1 hand can took more marked holds
+    OnOk r (HasLed shown g drive ls k l bad.stuck stuck) → OnErr r (stuck ≡ bad.stuck) → ForEach now (λ told. StuckIf told k bad.stuck → StuckIf told l stuck) →
+    Goes now a [] (in_hand k known bad budget before) (in_hand l known (record bad { stuck = stuck }) budget after)
+lead_goes shown {now} {a} {k} {l} {known} {bad} {budget} {before} {after} {g} {drive} {ls} {seen} {stuck} r hand course can took more len led same true_ = goes_tested 1 hand can took more marked holds
   where
     marked : MarksIn a [] bad (record bad { stuck = stuck })
     marked = record {
@@ -68,10 +69,10 @@ lead_goes shown {told} {a} {k} {l} {known} {bad} {budget} {before} {after} {g} {
       wrong = some_itself _ bad.wrong;
     }
 
-    holds : TrueIf told k known.steps bad → TrueIf told l known.steps (record bad { stuck = stuck })
-    holds t = record {
+    holds : ForEach now (λ told. TrueIf told k known.steps bad → TrueIf told l known.steps (record bad { stuck = stuck }))
+    holds s x t = record {
       at = λ f e h. let old = (true_later more (λ u on. on) t).at f e h in record {
-        stuck = true_ (λ f e h. (t.at f e h).stuck) f e h;
+        stuck = true_ s x (λ f e h. (t.at f e h).stuck) f e h;
         unfit = old.unfit;
         unclear = old.unclear;
         wrong = old.wrong;

@@ -1,5 +1,5 @@
 -- What a load of tables leaves.
-use Rattle.std.proofs.Common.{◌≡◌, ◌⊎◌, inl, inr, ℕ, suc, ◌≤◌, ◌+◌, Bool, true, false, not, ◌&&◌, Option, Some, Result, Ok, Err, List, [], ◌∷◌, length, refl, sym, ◌∙◌, subst, arith, All, OnOk, OnErr, ◌==◌}
+use Rattle.std.proofs.Common.{◌≡◌, ◌⊎◌, inl, inr, ℕ, suc, ◌≤◌, ◌+◌, Bool, true, false, not, ◌&&◌, Option, Result, Ok, Err, List, [], ◌∷◌, length, refl, sym, ◌∙◌, subst, arith, All, OnOk, OnErr, ◌==◌}
 use Rattle.std.proofs.lemmas.Bool.{false≢true, or_cases, and_parts, or_right}
 use Rattle.std.proofs.lemmas.Bool.Decides.{nat_tests}
 use Rattle.base_bits.specs.Numbers.{has_number}
@@ -14,7 +14,7 @@ use Rattle.diag_sweep.specs.Marks.{HasTable, MarksSome, MarksIn, TrueIf}
 use Rattle.diag_sweep.specs.Stages.{Goes, Hand, IsHand, in_hand}
 use Rattle.diag_sweep.specs.declared.defect_marks.DefectMarks.{DefectMarks}
 use Rattle.diag_sweep.specs.declared.budget.LoadBudget.{LoadBudget}
-use Rattle.diag_sweep.proofs.Going.{goes_itself, goes_on, goes_on_each, goes_tested}
+use Rattle.diag_sweep.proofs.Going.{goes_itself, goes_on, goes_tested}
 use Rattle.diag_sweep.proofs.Marking.{true_later, some_itself}
 
 -- one of these tables is one of the given ones
@@ -42,10 +42,10 @@ wrong_marks told trees tables ts rig k l was is (Ok v) of len tabled same = reco
     by t (inr on) = inl on
 wrong_marks told trees tables ts rig k l was is (Err e) of len tabled same = subst (MarksSome (HasTable tables) was) (sym same) (some_itself (HasTable tables) was)
 
-pub table_goes : {told : Option Faults} {a : Field} {k l : Kept} {known : KnownWires} {bad : DefectMarks} {wrong : List Bool} {budget : LoadBudget} {before after : ℕ} (tables : List Table) → IsHand a (in_hand k known bad budget before) → before + 2 ≤ budget.most →
-    after ≤ before + 2 → IsMore k l → MarksSome (HasTable tables) bad.wrong wrong → (WrongIf told k bad.wrong → WrongIf told l wrong) →
-    Goes told a tables (in_hand k known bad budget before) (in_hand l known (record bad { wrong = wrong }) budget after)
-table_goes {told} {a} {k} {l} {known} {bad} {wrong} {budget} {before} {after} tables hand can took more marks true_ = goes_tested 2 hand can took more marked holds
+pub table_goes : {now : RigState} {a : Field} {k l : Kept} {known : KnownWires} {bad : DefectMarks} {wrong : List Bool} {budget : LoadBudget} {before after : ℕ} (tables : List Table) → IsHand a (in_hand k known bad budget before) → before + 2 ≤ budget.most →
+    after ≤ before + 2 → IsMore k l → MarksSome (HasTable tables) bad.wrong wrong → ForEach now (λ told. WrongIf told k bad.wrong → WrongIf told l wrong) →
+    Goes now a tables (in_hand k known bad budget before) (in_hand l known (record bad { wrong = wrong }) budget after)
+table_goes {now} {a} {k} {l} {known} {bad} {wrong} {budget} {before} {after} tables hand can took more marks true_ = goes_tested 2 hand can took more marked holds
   where
     marked : MarksIn a tables bad (record bad { wrong = wrong })
     marked = record {
@@ -55,35 +55,30 @@ table_goes {told} {a} {k} {l} {known} {bad} {wrong} {budget} {before} {after} ta
       wrong = marks;
     }
 
-    holds : TrueIf told k known.steps bad → TrueIf told l known.steps (record bad { wrong = wrong })
-    holds t = record {
+    holds : ForEach now (λ told. TrueIf told k known.steps bad → TrueIf told l known.steps (record bad { wrong = wrong }))
+    holds s x t = record {
       at = λ f e h. let old = (true_later more (λ u on. on) t).at f e h in record {
         stuck = old.stuck;
         unfit = old.unfit;
         unclear = old.unclear;
-        wrong = true_ (λ f e h. (t.at f e h).wrong) f e h;
+        wrong = true_ s x (λ f e h. (t.at f e h).wrong) f e h;
       };
     }
 
--- a step after calls that left the machine and the tables as they were
-pub table_on : {a : Field} {ts us : List Table} {x y z : Hand} {r s : RigState} {k l : Kept} → us ≡ ts → Advances r s k l → Goes r.machine.faults a ts x y → Goes s.machine.faults a us y z → Goes r.machine.faults a ts x z
-table_on {a = a} {y = y} {z = z} {s = s} same advances p q = goes_on advances p (subst (λ (t : List Table). Goes s.machine.faults a t y z) same q)
-
--- the same, of each set of faults that explains what was read
-pub table_on_each : {a : Field} {ts us : List Table} {x y z : Hand} {r s : RigState} {k l : Kept} → us ≡ ts → ForEach r (λ told. Goes told a ts x y) → Advances r s k l → ForEach s (λ told. Goes told a us y z) → ForEach s (λ told. Goes told a ts x z)
-table_on_each {a = a} {y = y} {z = z} same p on q = goes_on_each p on (λ f e. subst (λ (t : List Table). Goes (Some f) a t y z) same (q f e))
+-- a step after calls that left the tables as they were
+pub table_on : {a : Field} {ts us : List Table} {x y z : Hand} {r s : RigState} {k l : Kept} → us ≡ ts → Goes r a ts x y → Advances r s k l → Goes s a us y z → Goes s a ts x z
+table_on {a = a} {y = y} {z = z} {s = s} same p on q = goes_on p on (subst (λ (t : List Table). Goes s a t y z) same q)
 
 -- what tests of tables have made of what is in hand so far, and the tables are as they were
 pub record HasTested (first now : RigState) (j k : Kept) (a : Field) (given : List Table) (old new : Hand) {T : Type 0} (was is : T) : Type 0 where
   pub hand : IsHand a new
-  pub goes : Goes first.machine.faults a given old new
-  pub each : ForEach now (λ told. Goes told a given old new)
+  pub goes : Goes now a given old new
   pub tables : is ≡ was
   pub advances : Advances first now j k
 
 pub tested_none : {r : RigState} {k : Kept} {a : Field} {given : List Table} {h : Hand} {T : Type 0} {was : T} → IsHand a h → HasTested r r k k a given h h was was
-tested_none {r} {k} hand = record { hand = hand; goes = goes_itself hand; each = λ f e. goes_itself hand; tables = refl; advances = advances_itself r k }
+tested_none {r} {k} hand = record { hand = hand; goes = goes_itself hand; tables = refl; advances = advances_itself r k }
 
-pub tested_on : {r s t : RigState} {j k l : Kept} {a : Field} {given those : List Table} {x y z : Hand} {T : Type 0} {was is new : T} → HasTested r s j k a given x y was is → those ≡ given → Goes s.machine.faults a those y z → new ≡ is → Advances s t k l → ForEach t (λ told. Goes told a those y z) →
+pub tested_on : {r s t : RigState} {j k l : Kept} {a : Field} {given those : List Table} {x y z : Hand} {T : Type 0} {was is new : T} → HasTested r s j k a given x y was is → those ≡ given → Goes t a those y z → new ≡ is → Advances s t k l →
     HasTested r t j l a given x z was new
-tested_on p same q tables on each = let goes = table_on same p.advances p.goes q in record { hand = goes.hand; goes = goes; each = table_on_each same p.each on each; tables = tables ∙ p.tables; advances = advances_then p.advances on }
+tested_on p same q tables on = record { hand = q.hand; goes = table_on same p.goes on q; tables = tables ∙ p.tables; advances = advances_then p.advances on }

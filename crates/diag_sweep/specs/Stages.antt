@@ -1,9 +1,9 @@
 -- What a sweep has in hand from one test to the next.
-use Rattle.std.specs.Prelude.{◌≡◌, ℕ, ◌+◌, ◌*◌, ◌≤◌, true, Option, List, length}
+use Rattle.std.specs.Prelude.{◌≡◌, ℕ, ◌+◌, ◌*◌, ◌≤◌, true, List, length}
 use Rattle.base_bits.specs.Numbers.{has_number, size_of}
 use Rattle.machine_shape.specs.declared.Table.{Table}
 use Rattle.machine_shape.specs.Shape.{crosses_of}
-use Rattle.machine_meaning.specs.Faults.{Faults}
+use Rattle.rig.specs.Rig.{RigState, ForEach}
 use Rattle.diag_evidence.specs.Kept.{Kept}
 use Rattle.diag_known.specs.Vocabulary.{KnownWires, IsKnown, IsFieldOf, GrowsIn}
 use Rattle.diag_known.specs.declared.field.Field.{Field}
@@ -37,12 +37,12 @@ pub record IsFunded (limit : ℕ) (a : Field) (h : Hand) : Type 0 where
   pub whole : (x : ℕ) → has_number a.crosses x ≡ true → is_undecided h.kept h.bad x ≡ true → has_number h.budget.unsettled x ≡ true
 
 -- What a step of a sweep leaves: what was known still is, and what is new is of the field; marks are of the field and of these tables,
--- and stay true; and the purse has paid for it.
-pub record Goes (told : Option Faults) (a : Field) (tables : List Table) (old new : Hand) : Type 0 where
+-- and stay true of each set of faults that explains what was read; and the purse has paid for it.
+pub record Goes (now : RigState) (a : Field) (tables : List Table) (old new : Hand) : Type 0 where
   pub hand : IsHand a new
   pub grows : GrowsIn a old.known.steps new.known.steps
   pub marks : MarksIn a tables old.bad new.bad
-  pub holds : TrueIf told old.kept old.known.steps old.bad → TrueIf told new.kept new.known.steps new.bad
+  pub holds : ForEach now (λ told. TrueIf told old.kept old.known.steps old.bad → TrueIf told new.kept new.known.steps new.bad)
   pub funded : (limit : ℕ) → IsFunded limit a old → IsFunded limit a new
 
 -- A purse is settled anew: what it pays for and what it may still come to pay for are no more together, and an undecided crosspoint

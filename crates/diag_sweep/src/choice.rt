@@ -234,8 +234,6 @@ pub fn choose(
     ensures fewer { (w : ℕ) → HasWire known.new.steps w → HasWire known.old.steps w }
     ensures same { IfOk result (λ chosen. chosen ≡ false → known.new ≡ known.old) }
     ensures marks { AreMarksFor facts.old.shape bad.new }
-    ensures right { TrueIf (rig_state rig.old).machine.faults facts.old known.old.steps bad.old →
-        TrueIf (rig_state rig.old).machine.faults facts.new known.new.steps bad.new }
     ensures right_each { ForEach (rig_state rig.new) (λ told. TrueIf told facts.old known.old.steps bad.old → TrueIf told facts.new
         known.new.steps bad.new) }
     ensures pays { worth field.now facts.new bad.new (rig_state rig.new).loads choices.new.left
@@ -289,8 +287,6 @@ pub fn sweep_with(
     ensures known { IsKnown facts.new known.new }
     ensures grows { GrowsIn field.now known.old.steps known.new.steps }
     ensures marks { MarksIn field.now choices.old.table_sweep.tables.items bad.old bad.new }
-    ensures right { TrueIf (rig_state rig.old).machine.faults facts.old known.old.steps bad.old →
-        TrueIf (rig_state rig.old).machine.faults facts.new known.new.steps bad.new }
     ensures right_each { ForEach (rig_state rig.new) (λ told. TrueIf told facts.old known.old.steps bad.old → TrueIf told facts.new
         known.new.steps bad.new) }
     ensures pays { worth field.now facts.new bad.new (rig_state rig.new).loads choices.new.left

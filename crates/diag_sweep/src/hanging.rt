@@ -1,7 +1,7 @@
 //! Loads of hangs: looked at, paid for, and made.
 ghost use Rattle.std.specs.Prelude.{◌≡◌, [], Some, IsErrOf};
 ghost use Rattle.base_io.specs.Counts.{Rose};
-ghost use Rattle.rig.specs.Rig.{ForEach, shape_of};
+ghost use Rattle.rig.specs.Rig.{shape_of};
 ghost use Rattle.diag_evidence.specs.Kept.{Advances};
 ghost use Rattle.diag_sweep.specs.Stages.{Goes, IsHand, in_hand};
 
@@ -24,11 +24,8 @@ pub(crate) fn pin_load(
 ) -> Result<(), RigFail>
     requires attached { shape_of (rig_state rig.old) ≡ Some facts.old.shape }
     requires hand { IsHand field.now (in_hand facts.old known.now bad.now state.now.budget (rig_state rig.old).loads) }
-    ensures goes { Goes (rig_state rig.old).machine.faults field.now []
-        (in_hand facts.old known.now bad.now state.now.budget (rig_state rig.old).loads)
+    ensures goes { Goes (rig_state rig.new) field.now [] (in_hand facts.old known.now bad.now state.now.budget (rig_state rig.old).loads)
         (in_hand facts.new known.now bad.now state.now.budget (rig_state rig.new).loads) }
-    ensures goes_each { ForEach (rig_state rig.new) (λ told. Goes told field.now [] (in_hand facts.old known.now bad.now state.now.budget
-        (rig_state rig.old).loads) (in_hand facts.new known.now bad.now state.now.budget (rig_state rig.new).loads)) }
     ensures advances { Advances (rig_state rig.old) (rig_state rig.new) facts.old facts.new }
     ensures cause { IsErrOf result RigFail.Failed → Rose (rig_state rig.old).failures (rig_state rig.new).failures }
 {
@@ -52,11 +49,8 @@ pub(crate) fn hang_load(
 ) -> Result<(), RigFail>
     requires attached { shape_of (rig_state rig.old) ≡ Some facts.old.shape }
     requires hand { IsHand field.now (in_hand facts.old known.now bad.old state.old.budget (rig_state rig.old).loads) }
-    ensures goes { Goes (rig_state rig.old).machine.faults field.now []
-        (in_hand facts.old known.now bad.old state.old.budget (rig_state rig.old).loads)
+    ensures goes { Goes (rig_state rig.new) field.now [] (in_hand facts.old known.now bad.old state.old.budget (rig_state rig.old).loads)
         (in_hand facts.new known.now bad.new state.new.budget (rig_state rig.new).loads) }
-    ensures goes_each { ForEach (rig_state rig.new) (λ told. Goes told field.now [] (in_hand facts.old known.now bad.old state.old.budget
-        (rig_state rig.old).loads) (in_hand facts.new known.now bad.new state.new.budget (rig_state rig.new).loads)) }
     ensures advances { Advances (rig_state rig.old) (rig_state rig.new) facts.old facts.new }
     ensures cause { IsErrOf result RigFail.Failed → Rose (rig_state rig.old).failures (rig_state rig.new).failures }
 {

@@ -5,7 +5,8 @@
 //! growth decides, and takes no load for what is decided.
 //!
 //! Promised of `sweep`, at every end, on every machine: what is known is so, and what is new is of the field (`known`, `grows`); marks are
-//! of the field and of the given tables, and where the faults are told stay true (`marks`, `right`); and loads are paid for (`pays`).
+//! of the field and of the given tables, and stay true of each set of faults that explains what was read (`marks`, `right_each`); and
+//! loads are paid for (`pays`).
 #![tactic(auto)]
 
 mod asking;

@@ -1,7 +1,7 @@
 //! A load of tables: looked at, paid for, and made.
 ghost use Rattle.std.specs.Prelude.{◌≡◌, Some, IsErrOf};
 ghost use Rattle.base_io.specs.Counts.{Rose};
-ghost use Rattle.rig.specs.Rig.{ForEach, shape_of};
+ghost use Rattle.rig.specs.Rig.{shape_of};
 ghost use Rattle.diag_evidence.specs.Kept.{Advances};
 ghost use Rattle.diag_sweep.specs.Stages.{Goes, IsHand, in_hand};
 
@@ -30,12 +30,9 @@ fn table_load(
 ) -> Result<(), RigFail>
     requires attached { shape_of (rig_state rig.old) ≡ Some facts.old.shape }
     requires hand { IsHand field.now (in_hand facts.old known.now bad.old table_sweep.now.state.budget (rig_state rig.old).loads) }
-    ensures goes { Goes (rig_state rig.old).machine.faults field.now table_sweep.now.tables.items
-        (in_hand facts.old known.now bad.old table_sweep.now.state.budget (rig_state rig.old).loads)
-        (in_hand facts.new known.now bad.new table_sweep.now.state.budget (rig_state rig.new).loads) }
-    ensures goes_each { ForEach (rig_state rig.new) (λ told. Goes told field.now table_sweep.now.tables.items (in_hand facts.old known.now
-        bad.old table_sweep.now.state.budget (rig_state rig.old).loads) (in_hand facts.new known.now bad.new table_sweep.now.state.budget
-        (rig_state rig.new).loads)) }
+    ensures goes { Goes (rig_state rig.new) field.now table_sweep.now.tables.items (in_hand facts.old known.now bad.old
+        table_sweep.now.state.budget (rig_state rig.old).loads) (in_hand facts.new known.now bad.new table_sweep.now.state.budget
+        (rig_state rig.new).loads) }
     ensures advances { Advances (rig_state rig.old) (rig_state rig.new) facts.old facts.new }
     ensures cause { IsErrOf result RigFail.Failed → Rose (rig_state rig.old).failures (rig_state rig.new).failures }
 {
@@ -77,12 +74,9 @@ fn table_turn(
 ) -> Result<bool, RigFail>
     requires attached { shape_of (rig_state rig.old) ≡ Some facts.old.shape }
     requires hand { IsHand field.now (in_hand facts.old known.now bad.old table_sweep.old.state.budget (rig_state rig.old).loads) }
-    ensures goes { Goes (rig_state rig.old).machine.faults field.now table_sweep.old.tables.items
-        (in_hand facts.old known.now bad.old table_sweep.old.state.budget (rig_state rig.old).loads)
-        (in_hand facts.new known.now bad.new table_sweep.new.state.budget (rig_state rig.new).loads) }
-    ensures goes_each { ForEach (rig_state rig.new) (λ told. Goes told field.now table_sweep.old.tables.items (in_hand facts.old known.now
-        bad.old table_sweep.old.state.budget (rig_state rig.old).loads) (in_hand facts.new known.now bad.new table_sweep.new.state.budget
-        (rig_state rig.new).loads)) }
+    ensures goes { Goes (rig_state rig.new) field.now table_sweep.old.tables.items (in_hand facts.old known.now bad.old
+        table_sweep.old.state.budget (rig_state rig.old).loads) (in_hand facts.new known.now bad.new table_sweep.new.state.budget
+        (rig_state rig.new).loads) }
     ensures tables { table_sweep.new.tables ≡ table_sweep.old.tables }
     ensures advances { Advances (rig_state rig.old) (rig_state rig.new) facts.old facts.new }
     ensures cause { IsErrOf result RigFail.Failed → Rose (rig_state rig.old).failures (rig_state rig.new).failures }
@@ -119,12 +113,9 @@ fn test_hextant(
 ) -> Result<(), RigFail>
     requires attached { shape_of (rig_state rig.old) ≡ Some facts.old.shape }
     requires hand { IsHand field.now (in_hand facts.old known.now bad.old table_sweep.old.state.budget (rig_state rig.old).loads) }
-    ensures goes { Goes (rig_state rig.old).machine.faults field.now table_sweep.old.tables.items
-        (in_hand facts.old known.now bad.old table_sweep.old.state.budget (rig_state rig.old).loads)
-        (in_hand facts.new known.now bad.new table_sweep.new.state.budget (rig_state rig.new).loads) }
-    ensures goes_each { ForEach (rig_state rig.new) (λ told. Goes told field.now table_sweep.old.tables.items (in_hand facts.old known.now
-        bad.old table_sweep.old.state.budget (rig_state rig.old).loads) (in_hand facts.new known.now bad.new table_sweep.new.state.budget
-        (rig_state rig.new).loads)) }
+    ensures goes { Goes (rig_state rig.new) field.now table_sweep.old.tables.items (in_hand facts.old known.now bad.old
+        table_sweep.old.state.budget (rig_state rig.old).loads) (in_hand facts.new known.now bad.new table_sweep.new.state.budget
+        (rig_state rig.new).loads) }
     ensures tables { table_sweep.new.tables ≡ table_sweep.old.tables }
     ensures advances { Advances (rig_state rig.old) (rig_state rig.new) facts.old facts.new }
     ensures cause { IsErrOf result RigFail.Failed → Rose (rig_state rig.old).failures (rig_state rig.new).failures }
@@ -149,12 +140,9 @@ fn test_tables(
 ) -> Result<(), RigFail>
     requires attached { shape_of (rig_state rig.old) ≡ Some facts.old.shape }
     requires hand { IsHand field.now (in_hand facts.old known.now bad.old table_sweep.old.state.budget (rig_state rig.old).loads) }
-    ensures goes { Goes (rig_state rig.old).machine.faults field.now table_sweep.old.tables.items
-        (in_hand facts.old known.now bad.old table_sweep.old.state.budget (rig_state rig.old).loads)
-        (in_hand facts.new known.now bad.new table_sweep.new.state.budget (rig_state rig.new).loads) }
-    ensures goes_each { ForEach (rig_state rig.new) (λ told. Goes told field.now table_sweep.old.tables.items (in_hand facts.old known.now
-        bad.old table_sweep.old.state.budget (rig_state rig.old).loads) (in_hand facts.new known.now bad.new table_sweep.new.state.budget
-        (rig_state rig.new).loads)) }
+    ensures goes { Goes (rig_state rig.new) field.now table_sweep.old.tables.items (in_hand facts.old known.now bad.old
+        table_sweep.old.state.budget (rig_state rig.old).loads) (in_hand facts.new known.now bad.new table_sweep.new.state.budget
+        (rig_state rig.new).loads) }
     ensures tables { table_sweep.new.tables ≡ table_sweep.old.tables }
     ensures advances { Advances (rig_state rig.old) (rig_state rig.new) facts.old facts.new }
     ensures cause { IsErrOf result RigFail.Failed → Rose (rig_state rig.old).failures (rig_state rig.new).failures }
@@ -177,12 +165,9 @@ pub(crate) fn sweep_sheet(
 ) -> Result<(), RigFail>
     requires attached { shape_of (rig_state rig.old) ≡ Some facts.old.shape }
     requires hand { IsHand field.now (in_hand facts.old known.old bad.old table_sweep.old.state.budget (rig_state rig.old).loads) }
-    ensures goes { Goes (rig_state rig.old).machine.faults field.now table_sweep.old.tables.items
-        (in_hand facts.old known.old bad.old table_sweep.old.state.budget (rig_state rig.old).loads)
-        (in_hand facts.new known.new bad.new table_sweep.new.state.budget (rig_state rig.new).loads) }
-    ensures goes_each { ForEach (rig_state rig.new) (λ told. Goes told field.now table_sweep.old.tables.items (in_hand facts.old known.old
-        bad.old table_sweep.old.state.budget (rig_state rig.old).loads) (in_hand facts.new known.new bad.new table_sweep.new.state.budget
-        (rig_state rig.new).loads)) }
+    ensures goes { Goes (rig_state rig.new) field.now table_sweep.old.tables.items (in_hand facts.old known.old bad.old
+        table_sweep.old.state.budget (rig_state rig.old).loads) (in_hand facts.new known.new bad.new table_sweep.new.state.budget
+        (rig_state rig.new).loads) }
     ensures advances { Advances (rig_state rig.old) (rig_state rig.new) facts.old facts.new }
     ensures cause { IsErrOf result RigFail.Failed → Rose (rig_state rig.old).failures (rig_state rig.new).failures }
 {
@@ -201,12 +186,9 @@ pub(crate) fn sweep_again(
 ) -> Result<(), RigFail>
     requires attached { shape_of (rig_state rig.old) ≡ Some facts.old.shape }
     requires hand { IsHand field.now (in_hand facts.old known.old bad.old table_sweep.old.state.budget (rig_state rig.old).loads) }
-    ensures goes { Goes (rig_state rig.old).machine.faults field.now table_sweep.old.tables.items
-        (in_hand facts.old known.old bad.old table_sweep.old.state.budget (rig_state rig.old).loads)
-        (in_hand facts.new known.new bad.new table_sweep.new.state.budget (rig_state rig.new).loads) }
-    ensures goes_each { ForEach (rig_state rig.new) (λ told. Goes told field.now table_sweep.old.tables.items (in_hand facts.old known.old
-        bad.old table_sweep.old.state.budget (rig_state rig.old).loads) (in_hand facts.new known.new bad.new table_sweep.new.state.budget
-        (rig_state rig.new).loads)) }
+    ensures goes { Goes (rig_state rig.new) field.now table_sweep.old.tables.items (in_hand facts.old known.old bad.old
+        table_sweep.old.state.budget (rig_state rig.old).loads) (in_hand facts.new known.new bad.new table_sweep.new.state.budget
+        (rig_state rig.new).loads) }
     ensures tables { table_sweep.new.tables ≡ table_sweep.old.tables }
     ensures advances { Advances (rig_state rig.old) (rig_state rig.new) facts.old facts.new }
     ensures cause { IsErrOf result RigFail.Failed → Rose (rig_state rig.old).failures (rig_state rig.new).failures }

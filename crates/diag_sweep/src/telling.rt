@@ -2,7 +2,7 @@
 ghost use Rattle.std.specs.Prelude.{◌≡◌, ◌<◌, [], true, Some, All, IfOk, IfSome, IsErrOf, IsTrue, length, map};
 ghost use Rattle.base_io.specs.Counts.{Rose};
 ghost use Rattle.base_bits.specs.Numbers.{has_number};
-ghost use Rattle.rig.specs.Rig.{ForEach, shape_of};
+ghost use Rattle.rig.specs.Rig.{shape_of};
 ghost use Rattle.diag_evidence.specs.Vocabulary.{KeepsForest, AreFeet, Advances};
 ghost use Rattle.diag_known.specs.Known.{IsKnown};
 ghost use Rattle.diag_sweep.specs.Stages.{Goes, IsHand, in_hand};
@@ -175,11 +175,8 @@ fn tell_turn(
 ) -> Result<bool, RigFail>
     requires attached { shape_of (rig_state rig.old) ≡ Some facts.old.shape }
     requires hand { IsHand field.now (in_hand facts.old known.now bad.old state.old.budget (rig_state rig.old).loads) }
-    ensures goes { Goes (rig_state rig.old).machine.faults field.now []
-        (in_hand facts.old known.now bad.old state.old.budget (rig_state rig.old).loads)
+    ensures goes { Goes (rig_state rig.new) field.now [] (in_hand facts.old known.now bad.old state.old.budget (rig_state rig.old).loads)
         (in_hand facts.new known.now bad.new state.new.budget (rig_state rig.new).loads) }
-    ensures goes_each { ForEach (rig_state rig.new) (λ told. Goes told field.now [] (in_hand facts.old known.now bad.old state.old.budget
-        (rig_state rig.old).loads) (in_hand facts.new known.now bad.new state.new.budget (rig_state rig.new).loads)) }
     ensures advances { Advances (rig_state rig.old) (rig_state rig.new) facts.old facts.new }
     ensures cause { IsErrOf result RigFail.Failed → Rose (rig_state rig.old).failures (rig_state rig.new).failures }
 {
@@ -224,11 +221,8 @@ pub(crate) fn tell_all(
 ) -> Result<(), RigFail>
     requires attached { shape_of (rig_state rig.old) ≡ Some facts.old.shape }
     requires hand { IsHand field.now (in_hand facts.old known.now bad.old state.old.budget (rig_state rig.old).loads) }
-    ensures goes { Goes (rig_state rig.old).machine.faults field.now []
-        (in_hand facts.old known.now bad.old state.old.budget (rig_state rig.old).loads)
+    ensures goes { Goes (rig_state rig.new) field.now [] (in_hand facts.old known.now bad.old state.old.budget (rig_state rig.old).loads)
         (in_hand facts.new known.now bad.new state.new.budget (rig_state rig.new).loads) }
-    ensures goes_each { ForEach (rig_state rig.new) (λ told. Goes told field.now [] (in_hand facts.old known.now bad.old state.old.budget
-        (rig_state rig.old).loads) (in_hand facts.new known.now bad.new state.new.budget (rig_state rig.new).loads)) }
     ensures advances { Advances (rig_state rig.old) (rig_state rig.new) facts.old facts.new }
     ensures cause { IsErrOf result RigFail.Failed → Rose (rig_state rig.old).failures (rig_state rig.new).failures }
 {

@@ -2,7 +2,7 @@
 ghost use Rattle.std.specs.Prelude.{◌≡◌, [], Some, IsErrOf, length};
 ghost use Rattle.base_io.specs.Counts.{Rose};
 ghost use Rattle.machine_shape.specs.Shape.{crosses_of};
-ghost use Rattle.rig.specs.Rig.{ForEach, shape_of};
+ghost use Rattle.rig.specs.Rig.{shape_of};
 ghost use Rattle.diag_evidence.specs.Kept.{Advances};
 ghost use Rattle.diag_sweep.specs.Marks.{AreMarksFor};
 ghost use Rattle.diag_sweep.specs.Stages.{Goes, IsHand, Settles, in_hand};
@@ -39,11 +39,8 @@ fn pin_turn(
 ) -> Result<(), RigFail>
     requires attached { shape_of (rig_state rig.old) ≡ Some facts.old.shape }
     requires hand { IsHand field.now (in_hand facts.old known.old bad.now state.old.budget (rig_state rig.old).loads) }
-    ensures goes { Goes (rig_state rig.old).machine.faults field.now []
-        (in_hand facts.old known.old bad.now state.old.budget (rig_state rig.old).loads)
+    ensures goes { Goes (rig_state rig.new) field.now [] (in_hand facts.old known.old bad.now state.old.budget (rig_state rig.old).loads)
         (in_hand facts.new known.new bad.now state.new.budget (rig_state rig.new).loads) }
-    ensures goes_each { ForEach (rig_state rig.new) (λ told. Goes told field.now [] (in_hand facts.old known.old bad.now state.old.budget
-        (rig_state rig.old).loads) (in_hand facts.new known.new bad.now state.new.budget (rig_state rig.new).loads)) }
     ensures advances { Advances (rig_state rig.old) (rig_state rig.new) facts.old facts.new }
     ensures cause { IsErrOf result RigFail.Failed → Rose (rig_state rig.old).failures (rig_state rig.new).failures }
 {
@@ -78,11 +75,8 @@ fn hang_turn(
 ) -> Result<bool, RigFail>
     requires attached { shape_of (rig_state rig.old) ≡ Some facts.old.shape }
     requires hand { IsHand field.now (in_hand facts.old known.old bad.old state.old.budget (rig_state rig.old).loads) }
-    ensures goes { Goes (rig_state rig.old).machine.faults field.now []
-        (in_hand facts.old known.old bad.old state.old.budget (rig_state rig.old).loads)
+    ensures goes { Goes (rig_state rig.new) field.now [] (in_hand facts.old known.old bad.old state.old.budget (rig_state rig.old).loads)
         (in_hand facts.new known.new bad.new state.new.budget (rig_state rig.new).loads) }
-    ensures goes_each { ForEach (rig_state rig.new) (λ told. Goes told field.now [] (in_hand facts.old known.old bad.old state.old.budget
-        (rig_state rig.old).loads) (in_hand facts.new known.new bad.new state.new.budget (rig_state rig.new).loads)) }
     ensures advances { Advances (rig_state rig.old) (rig_state rig.new) facts.old facts.new }
     ensures cause { IsErrOf result RigFail.Failed → Rose (rig_state rig.old).failures (rig_state rig.new).failures }
 {
@@ -114,11 +108,8 @@ fn hang_height(
 ) -> Result<(), RigFail>
     requires attached { shape_of (rig_state rig.old) ≡ Some facts.old.shape }
     requires hand { IsHand field.now (in_hand facts.old known.old bad.old state.old.budget (rig_state rig.old).loads) }
-    ensures goes { Goes (rig_state rig.old).machine.faults field.now []
-        (in_hand facts.old known.old bad.old state.old.budget (rig_state rig.old).loads)
+    ensures goes { Goes (rig_state rig.new) field.now [] (in_hand facts.old known.old bad.old state.old.budget (rig_state rig.old).loads)
         (in_hand facts.new known.new bad.new state.new.budget (rig_state rig.new).loads) }
-    ensures goes_each { ForEach (rig_state rig.new) (λ told. Goes told field.now [] (in_hand facts.old known.old bad.old state.old.budget
-        (rig_state rig.old).loads) (in_hand facts.new known.new bad.new state.new.budget (rig_state rig.new).loads)) }
     ensures advances { Advances (rig_state rig.old) (rig_state rig.new) facts.old facts.new }
     ensures cause { IsErrOf result RigFail.Failed → Rose (rig_state rig.old).failures (rig_state rig.new).failures }
 {
@@ -141,11 +132,8 @@ fn sweep_height(
 ) -> Result<(), RigFail>
     requires attached { shape_of (rig_state rig.old) ≡ Some facts.old.shape }
     requires hand { IsHand field.now (in_hand facts.old known.old bad.old state.old.budget (rig_state rig.old).loads) }
-    ensures goes { Goes (rig_state rig.old).machine.faults field.now []
-        (in_hand facts.old known.old bad.old state.old.budget (rig_state rig.old).loads)
+    ensures goes { Goes (rig_state rig.new) field.now [] (in_hand facts.old known.old bad.old state.old.budget (rig_state rig.old).loads)
         (in_hand facts.new known.new bad.new state.new.budget (rig_state rig.new).loads) }
-    ensures goes_each { ForEach (rig_state rig.new) (λ told. Goes told field.now [] (in_hand facts.old known.old bad.old state.old.budget
-        (rig_state rig.old).loads) (in_hand facts.new known.new bad.new state.new.budget (rig_state rig.new).loads)) }
     ensures advances { Advances (rig_state rig.old) (rig_state rig.new) facts.old facts.new }
     ensures cause { IsErrOf result RigFail.Failed → Rose (rig_state rig.old).failures (rig_state rig.new).failures }
 {
@@ -168,11 +156,8 @@ fn sweep_heights(
 ) -> Result<(), RigFail>
     requires attached { shape_of (rig_state rig.old) ≡ Some facts.old.shape }
     requires hand { IsHand field.now (in_hand facts.old known.old bad.old state.old.budget (rig_state rig.old).loads) }
-    ensures goes { Goes (rig_state rig.old).machine.faults field.now []
-        (in_hand facts.old known.old bad.old state.old.budget (rig_state rig.old).loads)
+    ensures goes { Goes (rig_state rig.new) field.now [] (in_hand facts.old known.old bad.old state.old.budget (rig_state rig.old).loads)
         (in_hand facts.new known.new bad.new state.new.budget (rig_state rig.new).loads) }
-    ensures goes_each { ForEach (rig_state rig.new) (λ told. Goes told field.now [] (in_hand facts.old known.old bad.old state.old.budget
-        (rig_state rig.old).loads) (in_hand facts.new known.new bad.new state.new.budget (rig_state rig.new).loads)) }
     ensures advances { Advances (rig_state rig.old) (rig_state rig.new) facts.old facts.new }
     ensures cause { IsErrOf result RigFail.Failed → Rose (rig_state rig.old).failures (rig_state rig.new).failures }
 {
@@ -194,11 +179,8 @@ fn sweep_pass(
 ) -> Result<(), RigFail>
     requires attached { shape_of (rig_state rig.old) ≡ Some facts.old.shape }
     requires hand { IsHand field.now (in_hand facts.old known.old bad.old state.old.budget (rig_state rig.old).loads) }
-    ensures goes { Goes (rig_state rig.old).machine.faults field.now []
-        (in_hand facts.old known.old bad.old state.old.budget (rig_state rig.old).loads)
+    ensures goes { Goes (rig_state rig.new) field.now [] (in_hand facts.old known.old bad.old state.old.budget (rig_state rig.old).loads)
         (in_hand facts.new known.new bad.new state.new.budget (rig_state rig.new).loads) }
-    ensures goes_each { ForEach (rig_state rig.new) (λ told. Goes told field.now [] (in_hand facts.old known.old bad.old state.old.budget
-        (rig_state rig.old).loads) (in_hand facts.new known.new bad.new state.new.budget (rig_state rig.new).loads)) }
     ensures advances { Advances (rig_state rig.old) (rig_state rig.new) facts.old facts.new }
     ensures cause { IsErrOf result RigFail.Failed → Rose (rig_state rig.old).failures (rig_state rig.new).failures }
 {
@@ -220,11 +202,8 @@ fn sweep_twice(
 ) -> Result<(), RigFail>
     requires attached { shape_of (rig_state rig.old) ≡ Some facts.old.shape }
     requires hand { IsHand field.now (in_hand facts.old known.old bad.old state.old.budget (rig_state rig.old).loads) }
-    ensures goes { Goes (rig_state rig.old).machine.faults field.now []
-        (in_hand facts.old known.old bad.old state.old.budget (rig_state rig.old).loads)
+    ensures goes { Goes (rig_state rig.new) field.now [] (in_hand facts.old known.old bad.old state.old.budget (rig_state rig.old).loads)
         (in_hand facts.new known.new bad.new state.new.budget (rig_state rig.new).loads) }
-    ensures goes_each { ForEach (rig_state rig.new) (λ told. Goes told field.now [] (in_hand facts.old known.old bad.old state.old.budget
-        (rig_state rig.old).loads) (in_hand facts.new known.new bad.new state.new.budget (rig_state rig.new).loads)) }
     ensures advances { Advances (rig_state rig.old) (rig_state rig.new) facts.old facts.new }
     ensures cause { IsErrOf result RigFail.Failed → Rose (rig_state rig.old).failures (rig_state rig.new).failures }
 {
@@ -245,11 +224,8 @@ pub(crate) fn sweep_all(
 ) -> Result<(), RigFail>
     requires attached { shape_of (rig_state rig.old) ≡ Some facts.old.shape }
     requires hand { IsHand field.now (in_hand facts.old known.old bad.old state.old.budget (rig_state rig.old).loads) }
-    ensures goes { Goes (rig_state rig.old).machine.faults field.now []
-        (in_hand facts.old known.old bad.old state.old.budget (rig_state rig.old).loads)
+    ensures goes { Goes (rig_state rig.new) field.now [] (in_hand facts.old known.old bad.old state.old.budget (rig_state rig.old).loads)
         (in_hand facts.new known.new bad.new state.new.budget (rig_state rig.new).loads) }
-    ensures goes_each { ForEach (rig_state rig.new) (λ told. Goes told field.now [] (in_hand facts.old known.old bad.old state.old.budget
-        (rig_state rig.old).loads) (in_hand facts.new known.new bad.new state.new.budget (rig_state rig.new).loads)) }
     ensures advances { Advances (rig_state rig.old) (rig_state rig.new) facts.old facts.new }
     ensures cause { IsErrOf result RigFail.Failed → Rose (rig_state rig.old).failures (rig_state rig.new).failures }
 {
@@ -279,11 +255,8 @@ fn pins_left(
 ) -> Result<(), RigFail>
     requires attached { shape_of (rig_state rig.old) ≡ Some facts.old.shape }
     requires hand { IsHand field.now (in_hand facts.old known.old bad.old state.old.budget (rig_state rig.old).loads) }
-    ensures goes { Goes (rig_state rig.old).machine.faults field.now []
-        (in_hand facts.old known.old bad.old state.old.budget (rig_state rig.old).loads)
+    ensures goes { Goes (rig_state rig.new) field.now [] (in_hand facts.old known.old bad.old state.old.budget (rig_state rig.old).loads)
         (in_hand facts.new known.new bad.new state.new.budget (rig_state rig.new).loads) }
-    ensures goes_each { ForEach (rig_state rig.new) (λ told. Goes told field.now [] (in_hand facts.old known.old bad.old state.old.budget
-        (rig_state rig.old).loads) (in_hand facts.new known.new bad.new state.new.budget (rig_state rig.new).loads)) }
     ensures advances { Advances (rig_state rig.old) (rig_state rig.new) facts.old facts.new }
     ensures cause { IsErrOf result RigFail.Failed → Rose (rig_state rig.old).failures (rig_state rig.new).failures }
 {
@@ -304,11 +277,8 @@ fn first_turns(
 ) -> Result<(), RigFail>
     requires attached { shape_of (rig_state rig.old) ≡ Some facts.old.shape }
     requires hand { IsHand field.now (in_hand facts.old known.old bad.old state.old.budget (rig_state rig.old).loads) }
-    ensures goes { Goes (rig_state rig.old).machine.faults field.now []
-        (in_hand facts.old known.old bad.old state.old.budget (rig_state rig.old).loads)
+    ensures goes { Goes (rig_state rig.new) field.now [] (in_hand facts.old known.old bad.old state.old.budget (rig_state rig.old).loads)
         (in_hand facts.new known.new bad.new state.new.budget (rig_state rig.new).loads) }
-    ensures goes_each { ForEach (rig_state rig.new) (λ told. Goes told field.now [] (in_hand facts.old known.old bad.old state.old.budget
-        (rig_state rig.old).loads) (in_hand facts.new known.new bad.new state.new.budget (rig_state rig.new).loads)) }
     ensures advances { Advances (rig_state rig.old) (rig_state rig.new) facts.old facts.new }
     ensures cause { IsErrOf result RigFail.Failed → Rose (rig_state rig.old).failures (rig_state rig.new).failures }
 {
@@ -331,11 +301,8 @@ pub(crate) fn sweep_chosen(
 ) -> Result<(), RigFail>
     requires attached { shape_of (rig_state rig.old) ≡ Some facts.old.shape }
     requires hand { IsHand field.now (in_hand facts.old known.old bad.old state.old.budget (rig_state rig.old).loads) }
-    ensures goes { Goes (rig_state rig.old).machine.faults field.now []
-        (in_hand facts.old known.old bad.old state.old.budget (rig_state rig.old).loads)
+    ensures goes { Goes (rig_state rig.new) field.now [] (in_hand facts.old known.old bad.old state.old.budget (rig_state rig.old).loads)
         (in_hand facts.new known.new bad.new state.new.budget (rig_state rig.new).loads) }
-    ensures goes_each { ForEach (rig_state rig.new) (λ told. Goes told field.now [] (in_hand facts.old known.old bad.old state.old.budget
-        (rig_state rig.old).loads) (in_hand facts.new known.new bad.new state.new.budget (rig_state rig.new).loads)) }
     ensures advances { Advances (rig_state rig.old) (rig_state rig.new) facts.old facts.new }
     ensures cause { IsErrOf result RigFail.Failed → Rose (rig_state rig.old).failures (rig_state rig.new).failures }
 {

@@ -40,8 +40,6 @@ pub fn sweep(
     ensures known { IsKnown facts.new known.new }
     ensures grows { GrowsIn field.now known.old.steps known.new.steps }
     ensures marks { MarksIn field.now tables.now bad.old bad.new }
-    ensures right { TrueIf (rig_state rig.old).machine.faults facts.old known.old.steps bad.old →
-        TrueIf (rig_state rig.old).machine.faults facts.new known.new.steps bad.new }
     ensures right_each { ForEach (rig_state rig.new) (λ told. TrueIf told facts.old known.old.steps bad.old → TrueIf told facts.new
         known.new.steps bad.new) }
     ensures pays { Pays field.now facts.old bad.old (rig_state rig.old).loads facts.new bad.new (rig_state rig.new).loads }

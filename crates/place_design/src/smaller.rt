@@ -3,7 +3,7 @@ ghost use Rattle.std.specs.Prelude.{IfOk, IfSome};
 ghost use Rattle.map_network.specs.Vocabulary.{IsNetwork, IsPlainNetwork, HasRowsOf};
 ghost use Rattle.machine_defects.specs.Lists.{DefectList};
 ghost use Rattle.design_netlist.specs.declared.netlist_data.NetlistData.{NetlistData};
-ghost use Rattle.place_design.specs.Smaller.{IsFor, IsSmallerFor};
+ghost use Rattle.place_design.specs.Smaller.{IsImproved, IsLeanFor, IsSmallerFor};
 
 use design_netlist::Netlist;
 use machine_defects::Defects;
@@ -20,28 +20,57 @@ pub struct Smaller {
     pub crossings: u128,
 }
 
-// The network on its improved plan, if its plan in order fits. What that is short of is no refusal.
+/// A plan of a network that fits, with its layout, and how many nets of it cross a node, summed over all nodes.
+#[derive(Drop)]
+pub struct Improved {
+    pub placed: Placed,
+    pub crossings: u128,
+}
+
+/// The improved plan of a network, if its plan in order fits. What that is short of is no refusal.
+///
+/// # Errors
+///
+/// Out of memory.
+pub fn improved_plan(
+    alloc: Global,
+    network: &Network,
+    defects: &Defects,
+) -> Result<Option<Improved>, AllocError>
+    requires { IsNetwork network.now }
+    ensures { IfOk result (λ o. IfSome o (IsImproved defects.now network.now)) }
+{
+    let placed = match in_order_laid(alloc, network, defects) {
+        Ok(placed) => placed,
+        Err(PlaceFail::Short(_)) => return Ok(None),
+        Err(PlaceFail::Memory) => return Err(AllocError),
+    };
+    let better = improve_laid(alloc, network, placed, defects)?;
+    let crossings = crossings_of(alloc, network, &better.plan, defects)?;
+    Ok(Some(Improved {
+        placed: better,
+        crossings,
+    }))
+}
+
+// The network on its improved plan, if it has one.
 fn planned(
     alloc: Global,
     netlist: &Netlist,
     network: Network,
     defects: &Defects,
 ) -> Result<Option<Smaller>, AllocError>
-    requires { IsFor netlist.now network }
+    requires { IsLeanFor netlist.now network }
     ensures { IfOk result (λ o. IfSome o (IsSmallerFor defects.now netlist.now)) }
 {
-    let placed = match in_order_laid(alloc, &network, defects) {
-        Ok(placed) => placed,
-        Err(PlaceFail::Short(_)) => return Ok(None),
-        Err(PlaceFail::Memory) => return Err(AllocError),
-    };
-    let better = improve_laid(alloc, &network, placed, defects)?;
-    let crossings = crossings_of(alloc, &network, &better.plan, defects)?;
-    Ok(Some(Smaller {
-        network,
-        placed: better,
-        crossings,
-    }))
+    match improved_plan(alloc, &network, defects)? {
+        Some(improved) => Ok(Some(Smaller {
+            network,
+            placed: improved.placed,
+            crossings: improved.crossings,
+        })),
+        None => Ok(None),
+    }
 }
 
 // The network with tables put into all their readers on a plan that fits, where it has fewer tables than so many.

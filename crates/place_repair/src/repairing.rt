@@ -1,21 +1,25 @@
 //! Repairs an image.
-ghost use Rattle.std.specs.Prelude.{◌≡◌, ◌≤◌, ◌<◌, IfOk, IfErr, length};
+ghost use Rattle.std.specs.Prelude.{◌≡◌, ◌≤◌, ◌<◌, ◌^◌, All, IfOk, IfErr, length};
 ghost use Rattle.std.specs.FinSet as set;
 ghost use Rattle.machine_image.specs.Parts.{IsFreeImage};
 ghost use Rattle.place_route.specs.Routed.{AreWiresOf};
 ghost use Rattle.place_repair.specs.Making.{AreApart, ArePinsApart, AreSizedFor, IsRedrawn};
-ghost use Rattle.place_plan.specs.Room.{IsMet};
+ghost use Rattle.place_plan.specs.Choices.{AreWires};
+ghost use Rattle.place_plan.specs.Layouts.{IsRoom};
+ghost use Rattle.place_plan.specs.Room.{HasTerminal, IsMet};
 ghost use Rattle.place_repair.specs.Plans.{AreSeats, need_of};
 ghost use Rattle.place_repair.specs.Repairs.{HasSameRows, IsRepair, IsRepairFail};
 
 use crate::drawing::draw;
+use crate::nets::{NetList, nets_by_wire};
 use crate::plan::{Plan, plan_of};
 use crate::rest::rest_of;
 use crate::seats::{Seats, moved, need_of, seats_of};
 use crate::terminals::terminals_of;
+use base_lists::Items;
 use machine_defects::Defects;
 use machine_image::Image;
-use place_plan::{Layout, PlaceFail, Resource, Room, look_for_room, short_of};
+use place_plan::{Layout, Need, PlaceFail, Resource, Room, look_for_room_keeping, short_of};
 use std::alloc::{AllocError, Global};
 
 // The image that follows a plan and whose moving nets have this layout.
@@ -35,6 +39,23 @@ fn redraw(alloc: Global, image: &Image, plan: &Plan, layout: &Layout) -> Result<
     let inputs = moved(alloc, &plan.pins, image.inputs())?;
     let outputs = moved(alloc, &plan.pins, image.outputs())?;
     Ok(Image::new(config, inputs, outputs))
+}
+
+// Room for the nets with these terminals, where the lines that nets of the image have are tried first.
+fn room_for(
+    alloc: Global,
+    rest: &Defects,
+    nets: &NetList,
+    terminals: &[Items<u32>],
+    tables: Need,
+    pins: Need,
+) -> Result<Room, AllocError>
+    requires few { length terminals.now < 2 ^ 32 }
+    requires within { All (AreWires rest.now.shape) terminals.now }
+    ensures { IfOk result (IsRoom rest.now.shape rest.now.list (length terminals.now) (HasTerminal terminals.now) tables pins) }
+{
+    let had = nets_by_wire(alloc, nets)?;
+    look_for_room_keeping(alloc, rest, terminals, tables, pins, had)
 }
 
 // The repair of an image where there are tables and pins for all that go.
@@ -59,9 +80,10 @@ fn laid(alloc: Global, image: &Image, defects: &Defects, seats: &Seats) -> Resul
     let plan = plan_of(alloc, image, defects, seats)?;
     let terminals = terminals_of(alloc, image, &plan)?;
     let rest = rest_of(alloc, image, &plan, defects)?;
-    let room = look_for_room(
+    let room = room_for(
         alloc,
         &rest,
+        &plan.nets,
         &terminals,
         need_of(&seats.tables),
         need_of(&seats.pins),
@@ -85,8 +107,9 @@ fn laid(alloc: Global, image: &Image, defects: &Defects, seats: &Seats) -> Resul
 /// A switched-on table that isn't free goes: the k-th of them to the k-th free table that is off and has no used pin. So do pins, inputs
 /// before outputs, to free pins that aren't used. A net, that is a group of wires that closed crosspoints join, is kept where its wires and
 /// closed crosspoints are free and none of its tables and pins goes; all other nets are laid anew, on ports and lines that are free and
-/// that no kept net has. The j-th of them that crosses a node has the j-th of these ports there. Nothing else is closed: what a net leaves
-/// that is laid anew is open, but where another one needs it.
+/// that no kept net has. The j-th of them that crosses a node has the j-th of these ports there. Those whose
+/// old line at a node still serves them there keep it, where the others can be served by what is left; else some leave theirs. Nothing else
+/// is closed: what a net leaves that is laid anew is open, but where another one needs it.
 ///
 /// The new image has the rows of the old one under each fault set that the list covers, and touches only what is free.
 ///

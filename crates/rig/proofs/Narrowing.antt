@@ -1,5 +1,5 @@
 -- A log only grows, so what explains it explained it before.
-use Rattle.std.proofs.Common.{◌≡◌, ℕ, Some, None, Option, List, [], ◌∷◌, ◌++◌, length, refl, sym, ap, subst, Result, Ok, Err, OnOk, OnErr}
+use Rattle.std.proofs.Common.{◌≡◌, ℕ, Some, None, Option, List, [], ◌∷◌, ◌++◌, length, refl, sym, ap, subst, ◌∙◌, Result, Ok, Err, OnOk, OnErr}
 use Rattle.std.specs.List.{AllByRecursion}
 use Rattle.std.specs.Prelude.{option_map, IfSome, IsSomeAnd, IfErr}
 use Rattle.std.specs.Option.{option_map_or}
@@ -7,7 +7,7 @@ use Rattle.machine_meaning.specs.Vocabulary.{Pins, Faults, AreFaultsOf}
 use Rattle.machine_config.specs.Vocabulary.{Configuration, Cycles, none, cycle, at_load, circuit_of, IsRun}
 use Rattle.rig.specs.declared.rig.RigFail.{RigFail}
 use Rattle.rig.specs.declared.rig.RigFail.TheVariants as work
-use Rattle.rig.specs.Rig.{Asked, Machine, RigState, Session, Past, Exchange, drives_of, readings_of, shape_of, config_of, cycles_of, standing, log_of, IsRunOf, Explains, Narrows, Tells, IsTold, Attaches, Begins, GoesOn, GoesOnBy, CycleFails, CyclesFail}
+use Rattle.rig.specs.Rig.{Asked, Machine, RigState, Session, Past, Exchange, drives_of, readings_of, shape_of, config_of, cycles_of, standing, log_of, IsRunOf, Explains, Narrows, ToldExplain, Tells, IsTold, Attaches, Begins, GoesOn, GoesOnBy, CycleFails, CyclesFail}
 
 cycles_less : {c : _} {x y : _} (cs ds : List Exchange) → Cycles c x (drives_of (cs ++ ds)) (readings_of (cs ++ ds)) y → (z : _) × Cycles c x (drives_of cs) (readings_of cs) z
 cycles_less {x = x} [] ds p = (x, none)
@@ -98,11 +98,14 @@ if_told (Some f) P h = h f refl
 told_as : {o : Option Faults} {f : Faults} (P : Faults → Type 0) → o ≡ Some f → IfSome o P → P f
 told_as P e p = subst (λ (o : Option Faults). IfSome o P) e p
 
+tells_by : (old new : RigState) → new.machine ≡ old.machine → ((f : Faults) → new.machine.faults ≡ Some f → Explains f old → Explains f new) → Tells old new
+tells_by old new machine h told = if_told new.machine.faults _ (λ f is. h f is (told_as _ (sym (ap (λ (m : Machine). m.faults) machine) ∙ is) told))
+
 pub tells_load : {T : Type 0} (g : Configuration) (room : ℕ) (old new : RigState) (r : Result T RigFail) → new.machine ≡ old.machine → new.past ≡ log_of old →
     OnOk r (Begins g room new) → OnErr r (new.session ≡ None) → Tells old new
-tells_load g room old new (Ok x) machine past begins ended = if_told new.machine.faults _
+tells_load g room old new (Ok x) machine past begins ended = tells_by old new machine
     (λ f told e. explains_by f old new (log_of old) machine past e.runs (began f g new.session begins.cycles) e)
-tells_load g room old new (Err x) machine past begins ended = if_told new.machine.faults _
+tells_load g room old new (Err x) machine past begins ended = tells_by old new machine
     (λ f told e. explains_by f old new (log_of old) machine past e.runs (no_session f new.session ended) e)
 
 -- the session that stands, where the faults are told
@@ -112,15 +115,15 @@ told_session f None p = tt
 told_session f (Some s) p = (p, tt)
 
 tells_more : (old new : RigState) → new.machine ≡ old.machine → new.past ≡ old.past → IsTold new → Tells old new
-tells_more old new machine past told = if_told new.machine.faults _
+tells_more old new machine past told = tells_by old new machine
     (λ f is e. explains_by f old new old.past machine past (all_less (IsRunOf f) old.past (standing old.session) e.runs) (told_session f new.session (told_as _ is told)) e)
 
 tells_ended : (old new : RigState) → new.machine ≡ old.machine → new.session ≡ None → new.past ≡ log_of old → Tells old new
-tells_ended old new machine ended past = if_told new.machine.faults _
+tells_ended old new machine ended past = tells_by old new machine
     (λ f is e. explains_by f old new (log_of old) machine past e.runs (no_session f new.session ended) e)
 
 tells_same : (old new : RigState) → new.machine ≡ old.machine → log_of new ≡ log_of old → Tells old new
-tells_same old new machine same = if_told new.machine.faults _ (λ f is. same_log new old (sym machine) (sym same) f)
+tells_same old new machine same = tells_by old new machine (λ f is. same_log new old (sym machine) (sym same) f)
 
 pub tells_cycle : {T : Type 0} (d q : Pins) (old new : RigState) (r : Result T RigFail) → new.machine ≡ old.machine → OnOk r (GoesOn d q old new) → IfErr r (λ e. CycleFails e old new) → Tells old new
 tells_cycle d q old new (Ok x) machine on fails = tells_more old new machine on.past on.told
@@ -133,7 +136,7 @@ tells_cycles ds qs old new (Err work.Failed) machine on fails = tells_ended old 
 tells_cycles ds qs old new (Err work.Memory) machine on fails = tells_same old new machine (λ i. fails.2 i ++ standing (fails.1 i))
 
 -- behind an attach that is well the log is empty
-pub tells_attach : {old new : RigState} {machine : Asked} → Attaches machine old new → IfSome new.machine.faults (λ f. Explains f new)
+pub tells_attach : {old new : RigState} {machine : Asked} → Attaches machine old new → ToldExplain new
 tells_attach {old} {new} {machine} a = if_told new.machine.faults _ (λ f told. record {
   faults = subst (λ (o : Option Asked). IsSomeAnd (option_map (λ (m : Asked). m.shape) o) (λ m. AreFaultsOf m f)) (sym a.attached) (told_as _ told a.faults);
   runs = all_more (IsRunOf f) new.past (standing new.session) (subst (AllByRecursion (IsRunOf f)) (sym a.past) tt) (no_session f new.session a.session);

@@ -118,9 +118,13 @@ Narrows old new = (f : Faults) → Explains f new → Explains f old
 abbrev pub ForEach : RigState → (Option Faults → Type 0) → Type 0
 ForEach rig P = (f : Faults) → Explains f rig → P (Some f)
 
--- faults that are told explain the later log if they explained the earlier
+-- the faults, where they are told, explain what was read
+abbrev pub ToldExplain : RigState → Type 0
+ToldExplain rig = IfSome rig.machine.faults (λ f. Explains f rig)
+
+-- told faults explain the later log if they explained the earlier
 abbrev pub Tells : RigState → RigState → Type 0
-Tells old new = IfSome new.machine.faults (λ f. Explains f old → Explains f new)
+Tells old new = ToldExplain old → ToldExplain new
 
 -- the session's readings are the run of its configuration under its drives, where the faults are told
 abbrev pub IsTold : RigState → Type 0

@@ -9,13 +9,12 @@ use Rattle.machine_image.specs.Images.{ImageValue}
 use Rattle.machine_history.specs.Vocabulary.{History, IsHistoryOf, IsRunOver}
 use Rattle.machine_history.proofs.RowsOver.{clean, clean_faultless, covered_rows}
 use Rattle.place_route.specs.RightImages.{ReadsRows}
-use Rattle.rig.specs.Rig.{cycles_of, drives_of, readings_of}
+use Rattle.rig.specs.Rig.{Explains, cycles_of, drives_of, readings_of}
 use Rattle.cmd_steps.specs.Vocabulary.{AreAll, Outside, around, Course, Next, ends, refuses, writes, IsWritten, IsMachineText, LoadsOnce, reads_machine}
 use Rattle.cmd_steps.specs.declared.refusal.Refusal.{Refusal}
 use Rattle.cmd_steps.specs.declared.refusal.Stop.{Stop}
 use Rattle.cmd_steps.proofs.Leading.{stopped}
 use Rattle.cmd_steps.proofs.Standing.{Adds, Standing, stands-done}
-use Rattle.diag_list.specs.Possible.{MayHave}
 use Rattle.diag_list.specs.Lists.{Listed, IsListed, MadeFewLoads, unloaded, few, lists}
 use Rattle.run_image.specs.Copying.{all_repeated}
 use Rattle.run_image.proofs.Copied.{repeated-count}
@@ -67,12 +66,12 @@ module _ (w : Words) (old new : Outside) where
     pub machine_is : IfTold (old.store.contents w.machine) (λ bytes. IsMachineText bytes made.list.shape)
     pub stands : HasWritten (text_of made.list ++ rest)
     pub written_whole : IsWrittenWhole w.vectors made.list x.width vectors rows old new
-    pub covers : (f : Faults) → MayHave f new.rig → Covers made.list.shape made.list.list f
+    pub covers : (f : Faults) → Explains f new.rig → Covers made.list.shape made.list.list f
     pub uses_nothing_listed : UsesNothingListed made.list image new.rig
     pub right : (f : Faults) → Covers made.list.shape made.list.list f → ReadsRows f image x.rows
     pub widths : All (λ vector. length vector ≡ length image.inputs) (all_repeated x.copies vectors)
     pub as_read : IsAsRead image (all_repeated x.copies vectors) (all_repeated x.copies rows) new.rig
-    pub outputs : (f : Faults) → MayHave f new.rig → x.rows (all_repeated x.copies vectors) (all_repeated x.copies rows)
+    pub outputs : (f : Faults) → Explains f new.rig → x.rows (all_repeated x.copies vectors) (all_repeated x.copies rows)
     pub over : OverHistories x made image (all_repeated x.copies vectors) (all_repeated x.copies rows)
     pub loaded : new.rig.loads ≡ next_count made.loads
 
@@ -118,8 +117,8 @@ module _ (w : Words) (old new : Outside) where
           let run = image-ends work from (around new) rest at in
           let has = run.rows.has in
           let o = on l.list i gives in
-          let covers : (f : Faults) → MayHave f new.rig → Covers l.list.shape l.list.list f = λ f may.
-          subst (λ (s : Shape). Covers s l.list.list f) (sym list.shape) (list.right.covers f may) in
+          let covers : (f : Faults) → Explains f new.rig → Covers l.list.shape l.list.list f = λ f e.
+          subst (λ (s : Shape). Covers s l.list.list f) (sym list.shape) (list.right.covers f e) in
           record {
             made = l;
             image = i;

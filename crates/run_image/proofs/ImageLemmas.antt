@@ -1,7 +1,7 @@
 -- How the steps of an image's rows follow one another.
 use Rattle.std.proofs.Common.{◌≡◌, ℕ, ◌≤◌, List, [], ◌∷◌, refl, sym, ap, ◌∙◌, inl, Result, Ok, Err}
 use Rattle.base_io.specs.Vocabulary.{next_count, Told, StoreState, SinkState}
-use Rattle.rig.specs.Rig.{RigState, LoadFails, Narrows}
+use Rattle.rig.specs.Rig.{RigState, LoadFails, Narrows, Tells}
 use Rattle.rig.specs.declared.rig.RigFail.{RigFail}
 use Rattle.rig.specs.declared.rig.RigFail.TheVariants.{Failed, Memory}
 use Rattle.machine_image.specs.Images.{ImageValue}
@@ -17,13 +17,13 @@ use Rattle.run_image.specs.declared.image.Running.{Running}
 
 -- ---- the load as a step
 
-module _ (old new : RigState) (machine : new.machine ≡ old.machine) (narrows : Narrows old new) (store : StoreState) (sink : SinkState) (later : old.failures ≤ new.failures) where
+module _ (old new : RigState) (machine : new.machine ≡ old.machine) (narrows : Narrows old new) (tells : Tells old new) (store : StoreState) (sink : SinkState) (later : old.failures ≤ new.failures) where
   pub load-took : (rows : Running) → new.loads ≡ next_count old.loads → Took [] (prepares old new) (Ok rows) (outside store old sink) (outside store new sink)
-  load-took rows counted = rig-took (prepares old new) old new store sink machine narrows later rows counted
+  load-took rows counted = rig-took (prepares old new) old new store sink machine narrows tells later rows counted
 
   pub load-stopped : (fail : RigFail) → new.loads ≡ old.loads → LoadFails fail old new → Took [] (prepares old new) (Err (stop_of_rig fail)) (outside store old sink) (outside store new sink)
-  load-stopped Failed same fails = rig-stopped (prepares old new) old new store sink machine narrows later (stop_of_rig Failed) (tt, inl same) fails
-  load-stopped Memory same fails = rig-stopped (prepares old new) old new store sink machine narrows later (stop_of_rig Memory) (tt, inl same) tt
+  load-stopped Failed same fails = rig-stopped (prepares old new) old new store sink machine narrows tells later (stop_of_rig Failed) (tt, inl same) fails
+  load-stopped Memory same fails = rig-stopped (prepares old new) old new store sink machine narrows tells later (stop_of_rig Memory) (tt, inl same) tt
 
 -- ---- what follows on it
 

@@ -9,7 +9,7 @@ use Rattle.machine_image.specs.Images.{ImageValue}
 use Rattle.run_image.specs.Pins.{pins_in}
 use Rattle.run_image.specs.Run.{RunsRow}
 use Rattle.run_image.proofs.Copied.{repeated-more, repeated-count, repeated-none, repeated-long}
-use Rattle.run_image.proofs.Driving.{HasDriven, driven-start, driven-more, may-run}
+use Rattle.run_image.proofs.Driving.{HasDriven, driven-start, driven-more, explained-run}
 use Rattle.design_vectors.specs.declared.vectors.VectorsFail.{VectorsFail}
 use Rattle.design_vectors.specs.declared.vectors.VectorsFail.TheVariants.{Text, Failed}
 use Rattle.design_vectors.specs.Readings.{NextGives, NextFails}
@@ -21,7 +21,6 @@ use Rattle.cmd_steps.specs.declared.refusal.Stop.{Stop}
 use Rattle.cmd_steps.specs.declared.refusal.Stop.TheVariants.{Refused, Sink}
 use Rattle.cmd_steps.proofs.WrittenRows.{AreWritten, none-written, row-later, put-out, after-put, read-after, was-read, all-written, added, not-added, some-lines, stays-same, near-next, taken-more, waits-more, has-rows, rows-follow, vectors-follow, end-follows, held-follows}
 use Rattle.cmd_steps.proofs.VectorLemmas.{taken-first}
-use Rattle.diag_list.proofs.ListedLemmas.{may-earlier}
 use Rattle.run_image.specs.Copying.{share, times, repeated, all_repeated, IsApart}
 use Rattle.run_image.specs.declared.copies.Copies.{Copies}
 use Rattle.run_image.specs.declared.copies.Copies.TheVariants.{One, Two}
@@ -55,12 +54,12 @@ pub record IsDriving (copies : Copies) (image : ImageValue) (begun : Outside) (r
 
 -- ---- what a session has read
 
--- the rows of a session are those of the machine, also where it has ended since: what it may have then it may have had
-session-rows : (rig rig' : RigState) (i : ImageValue) (vectors rows : List (List Bool)) → rig'.machine ≡ rig.machine → Narrows rig rig' → length rows ≡ length vectors → All (HasWidth i) vectors → HasDriven most_rows i vectors rows rig → AreRowsOf rig' i vectors rows
-session-rows rig rig' i vectors rows same narrows count widths is = record {
+-- the rows of a session are those of the machine, also where it has ended since: what explains the log then explained it before
+session-rows : (rig rig' : RigState) (i : ImageValue) (vectors rows : List (List Bool)) → Narrows rig rig' → length rows ≡ length vectors → All (HasWidth i) vectors → HasDriven most_rows i vectors rows rig → AreRowsOf rig' i vectors rows
+session-rows rig rig' i vectors rows narrows count widths is = record {
   count = count;
   widths = widths;
-  read = λ f may. (readings_of (cycles_of rig), may-run rig i vectors is.config is.drives is.told f (may-earlier f same narrows may), is.rows_are);
+  read = λ f e. (readings_of (cycles_of rig), explained-run rig i vectors is.config is.drives f (narrows f e), is.rows_are);
 }
 
 -- a session that is still open
@@ -110,7 +109,7 @@ module _ (copies : Copies) (image : ImageValue) (failures : ℕ) (begun now new 
   rig-same = (keeps.machine ∙ so_far.machine, keeps.loads ∙ so_far.loads)
 
   onward : (from to : SinkState) → to.can_lack ≡ from.can_lack → from.failures ≤ to.failures → IsLater (outside now.store now.rig from) (outside new.store new.rig to)
-  onward from to kind later = row-later now.store new.store now.rig new.rig from to keeps.store keeps.machine keeps.narrows keeps.failures kind later
+  onward from to kind later = row-later now.store new.store now.rig new.rig from to keeps.store keeps.machine keeps.narrows keeps.tells keeps.failures kind later
 
   -- one more vector for each copy
   widths-more : (vector : List Bool) → length vector ≡ share copies (length image.inputs) → All (HasWidth image) (all_repeated copies (so_far.vectors ++ vector ∷ []))
@@ -122,7 +121,7 @@ module _ (copies : Copies) (image : ImageValue) (failures : ℕ) (begun now new 
 
   -- the rows so far are those of the machine
   are-rows : AreRowsOf new.rig image (all_repeated copies so_far.vectors) (all_repeated copies so_far.done)
-  are-rows = session-rows now.rig new.rig image _ _ keeps.machine keeps.narrows (counts-are copies so_far.vectors so_far.done so_far.written.count) so_far.widths so_far.driven
+  are-rows = session-rows now.rig new.rig image _ _ keeps.narrows (counts-are copies so_far.vectors so_far.done so_far.written.count) so_far.widths so_far.driven
 
   session-still : new.rig.session ≡ now.rig.session → work.session so_far.vectors so_far.done
   session-still same = session-is now.rig new.rig image _ _ same so_far.driven
@@ -238,14 +237,14 @@ module _ (copies : Copies) (image : ImageValue) (failures : ℕ) (begun now new 
     with-it = waits-more _ _ put_now new _ _ _ _ _ _ before-it put-later keeps.store.asked driven.next.0 (was-read _ _ _ _ _ _ driven.next.1) refl rows'.row.items
 
     still : (last : SinkState) → last.can_lack ≡ new.sink.can_lack → new.sink.failures ≤ last.failures → IsLater new (outside new.store new.rig last)
-    still last kind later = row-later new.store new.store new.rig new.rig new.sink last (stays-same new.store) refl (λ f e. e) (omega arith) kind later
+    still last kind later = row-later new.store new.store new.rig new.rig new.sink last (stays-same new.store) refl (λ f e. e) (λ t. t) (omega arith) kind later
 
     -- the rows aren't written
     pub row-stops : {U : Type 0} (stop : Stop) (left : List ℕ) (last : SinkState) → WaitsOrPuts (rows'.block.text ++ row_line rows'.row.items) left (Err stop) new.sink last → Follows {T = U} ⊥ [] same_rig (all_rows work) (Err stop) begun (outside new.store new.rig last)
     row-stops stop left last waits =
         let held = not-added _ left stop new.store new.sink last (some-lines rows'.block.text rows'.row.items) waits in
         held-follows work begun new (outside new.store new.rig last) rows'.vectors _ _ _ with-it (still last held.kind held.later) refl refl refl same_rig rig-same
-        (session-rows new.rig new.rig image _ _ refl (λ f e. e) (counts-are copies _ _ with-it.count) widths-next driven-next) (inl (session-is new.rig new.rig image _ _ refl driven-next)) refl stop held
+        (session-rows new.rig new.rig image _ _ (λ f e. e) (counts-are copies _ _ with-it.count) widths-next driven-next) (inl (session-is new.rig new.rig image _ _ refl driven-next)) refl stop held
 
     -- or they are, or wait
     pub IsDriving-more : (last_rows : Running) (last : SinkState) → last_rows.image ≡ rows'.image → last_rows.copies ≡ rows'.copies → last_rows.vectors ≡ rows'.vectors → IsFitting last_rows → WaitsOrPuts (rows'.block.text ++ row_line rows'.row.items) last_rows.block.text (Ok tt) new.sink last → IsDriving copies image begun last_rows (outside new.store new.rig last)

@@ -11,8 +11,8 @@ use Rattle.diag_list.specs.Lists.{Listed, IsListed}
 
 -- ---- whatever the end
 
--- the list is one of the machine of the text, which is attached under the name: it covers whatever faults the machine may have and
--- is tight to them, and so fair
+-- the list is one of the machine of the text, which is attached under the name: it covers each set of faults that explains what was
+-- read and is tight to it, and so fair
 pub record IsListOfMachine (machine name : List ℕ) (old new : Outside) (made : Listed) : Type 0 where
   pub shape : Shape
   pub machine_is : IfTold (old.store.contents machine) (λ bytes. IsMachineText bytes shape)

@@ -3,7 +3,7 @@ use Rattle.std.specs.Prelude.{◌≡◌, ◌⊎◌, ◌≤◌, ℕ, List, [], Bo
 use Rattle.run_image.specs.Copying.{share, repeated, AreEqualShares, IsApart}
 use Rattle.run_image.specs.declared.copies.Copies.{Copies}
 use Rattle.base_io.specs.Vocabulary.{Rose, StoreState, SinkState}
-use Rattle.rig.specs.Rig.{RigState, Begins, CycleFails, Narrows}
+use Rattle.rig.specs.Rig.{RigState, Begins, CycleFails, Narrows, Tells}
 use Rattle.rig.specs.declared.rig.RigFail.{RigFail}
 use Rattle.rig.specs.declared.rig.RigFail.TheVariants as work
 use Rattle.run_image.specs.Pins.{pins_in}
@@ -39,7 +39,8 @@ pub record IsLoaded (rows : Running) (rig : RigState) : Type 0 where
 abbrev pub prepares : (old new : RigState) → Step Running
 prepares old new = record { stops = (loads old.loads new).stops; gives = λ _. (loads old.loads new).gives tt }
 
--- what the next row leaves as it was, counts that never fall, and what explains all that is read then explained it before
+-- What the next row leaves as it was, and counts that never fall. What explains all that is read then explained it before, and told
+-- faults explain it if they did before
 pub record Keeps (old new : Running) (before after : StoreState) (rig_old rig_new : RigState) : Type 0 where
   pub image : new.image ≡ old.image
   pub copies : new.copies ≡ old.copies
@@ -48,6 +49,7 @@ pub record Keeps (old new : Running) (before after : StoreState) (rig_old rig_ne
   pub loads : rig_new.loads ≡ rig_old.loads
   pub failures : rig_old.failures ≤ rig_new.failures
   pub narrows : Narrows rig_old rig_new
+  pub tells : Tells rig_old rig_new
 
 -- where the reading stands: with the lines of the rows that wait
 abbrev pub at_rows : Running → StoreState → SinkState → RowsAt

@@ -2,7 +2,7 @@
 ghost use Rattle.std.specs.Prelude.{◌≡◌, ◌≤◌, ℕ, List, ◌∷◌, ◌++◌, [], Some, OnOk, IfOk, IfErr, IsSome, length};
 ghost use Rattle.run_image.specs.Copying.{repeated, share, AreEqualShares};
 ghost use Rattle.machine_shape.specs.Shape.{pins_of};
-ghost use Rattle.rig.specs.Rig.{Narrows};
+ghost use Rattle.rig.specs.Rig.{Narrows, Tells};
 ghost use Rattle.run_image.specs.Pins.{pins_in};
 ghost use Rattle.run_image.specs.Run.{RunsRow};
 ghost use Rattle.design_vectors.specs.Readings.{new_reading};
@@ -143,6 +143,7 @@ fn drive_row<K: Sink>(rows: &mut Running, rig: &mut Box<dyn Rig>, sink: &mut K) 
     ensures vector { rows.new.vector ≡ rows.old.vector }
     ensures machine { (rig_state rig.new).machine ≡ (rig_state rig.old).machine }
     ensures narrows { Narrows (rig_state rig.old) (rig_state rig.new) }
+    ensures tells { Tells (rig_state rig.old) (rig_state rig.new) }
     ensures loads { (rig_state rig.new).loads ≡ (rig_state rig.old).loads }
     ensures failures { (rig_state rig.old).failures ≤ (rig_state rig.new).failures }
     ensures fits { IsFitting rows.new }

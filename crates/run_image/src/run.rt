@@ -3,7 +3,7 @@ ghost use Rattle.std.specs.Prelude.{◌≡◌, ◌^◌, ◌≤◌, ◌<◌, Some
 ghost use Rattle.base_io.specs.Counts.{next_count};
 ghost use Rattle.machine_shape.specs.Shape.{pins_of};
 ghost use Rattle.machine_image.specs.Images.{drive_on, row_at};
-ghost use Rattle.rig.specs.Rig.{shape_of, width_of, HasFaultsOf, Narrows, Begins, LoadFails, CycleFails};
+ghost use Rattle.rig.specs.Rig.{shape_of, width_of, HasFaultsOf, Narrows, Tells, Begins, LoadFails, CycleFails};
 ghost use Rattle.run_image.specs.Driven.{driven};
 ghost use Rattle.run_image.specs.Run.{RunsRow, EndsOrKeeps};
 
@@ -70,6 +70,7 @@ pub fn begin(
 
     ensures machine { (rig_state rig.new).machine ≡ (rig_state rig.old).machine }
     ensures narrows { Narrows (rig_state rig.old) (rig_state rig.new) }
+    ensures tells { Tells (rig_state rig.old) (rig_state rig.new) }
     ensures later { (rig_state rig.old).failures ≤ (rig_state rig.new).failures }
     ensures run { IfOk result (λ run. run ≡ record {
       pins = pins_of image.now.config.shape;
@@ -148,6 +149,7 @@ impl Run {
         ensures same { self.new ≡ self.old }
         ensures machine { (rig_state rig.new).machine ≡ (rig_state rig.old).machine }
         ensures narrows { Narrows (rig_state rig.old) (rig_state rig.new) }
+        ensures tells { Tells (rig_state rig.old) (rig_state rig.new) }
         ensures loads { (rig_state rig.new).loads ≡ (rig_state rig.old).loads }
         ensures later { (rig_state rig.old).failures ≤ (rig_state rig.new).failures }
         ensures count { (rig_state rig.new).failures < 2 ^ 64 }

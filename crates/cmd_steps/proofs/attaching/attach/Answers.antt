@@ -1,5 +1,6 @@
 use Rattle.std.proofs.Common.{inr}
 use Rattle.std.proofs.lemmas.Result.{err_from_is_err_and}
+use Rattle.rig.proofs.Narrowing.{tells_attach}
 use Rattle.cmd_steps.proofs.AttachLemmas.{attach-asks, attach-took, attach-taken}
 use Rattle.cmd_steps.proofs.Logs.{log_asked}
 use Rattle.cmd_steps.proofs.attaching.attach.Goals as goal
@@ -13,7 +14,7 @@ returns-in_err-attach_boxed-clause-asked g c = attach-asks _ _ _ _ c.in_err-atta
 pub returns-clause-took : goal.returns-clause-took
 returns-clause-took g c =
     let e = c.in_ok-attach_boxed.ensures in
-    λ store sink. attach-took _ _ _ store sink e.texts e.later (log_asked _ e.attached.asked) e.attached.attached
+    λ store sink. attach-took _ _ _ store sink e.texts e.later (log_asked _ e.attached.asked (λ some. tells_attach e.attached)) e.attached.attached
 
 pub returns-in_err-attach_boxed-clause-took : goal.returns-in_err-attach_boxed-clause-took
 returns-in_err-attach_boxed-clause-took g c =

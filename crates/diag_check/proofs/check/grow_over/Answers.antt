@@ -12,23 +12,6 @@ keeps_routes-requires-clause-shape g c = c.requires.image ∙ sym c.grow.ensures
 pub returns-in-Ok-clause-keeps : goal.returns-in-Ok-clause-keeps
 returns-in-Ok-clause-keeps g c = c.keeps_routes.ensures.keeps
 
-pub returns-in-Ok-clause-whole : goal.returns-in-Ok-clause-whole
-returns-in-Ok-clause-whole g c =
-    let m = c.args.image.now.config.shape in
-    routes_if _ c.args.facts.now c.grow.new.facts c.grow.new.known.steps c.args.image.now c.args.used.now c.args.field.now c.keeps_routes.result
-    (record {
-      numbered = c.the_numbering_is_sound.ensures.numbered m;
-      tree = c.the_numbering_is_sound.ensures.tree m;
-      parents = c.the_numbering_is_sound.ensures.parents m;
-      meetings = c.the_crosspoints_are_sound.ensures.meetings m;
-      homes = c.each_wire_has_a_home.ensures m;
-      wires = c.without_faults_all_is_sound.ensures.wires m;
-      tables = c.without_faults_all_is_sound.ensures.tables m;
-      standing = c.parts_of_served_nodes_stand.ensures m;
-    })
-    c.keeps_routes.ensures.right c.requires.used (subst (λ (s : Shape). IsFieldOf s c.args.field.now) (sym c.requires.image) c.requires.field) (c.grow.ensures.advances.more.shape ∙ sym c.requires.image)
-    c.in-Ok.ensures.closed c.grow.ensures.advances.holds c.keeps_routes.ensures.all
-
 pub returns-in-Ok-clause-whole_each : goal.returns-in-Ok-clause-whole_each
 returns-in-Ok-clause-whole_each g c =
     let m = c.args.image.now.config.shape in

@@ -12,10 +12,6 @@ keeps_tables-requires g c = record { shape = c.requires.image ∙ sym c.test_tab
 pub returns-in-Ok-clause-keeps : goal.returns-in-Ok-clause-keeps
 returns-in-Ok-clause-keeps g c = c.keeps_tables.ensures.0
 
-pub returns-in-Ok-clause-whole : goal.returns-in-Ok-clause-whole
-returns-in-Ok-clause-whole g c = tables_if _ c.args.facts.now c.test_tables.new.facts c.args.known.now.steps c.args.image.now c.tables_on.result.now c.keeps_tables.result
-    (table_counts c.args.image.now c.config-config.result.now.config c.config-config.ensures.config c.tables_on.result.now c.tables_on.ensures) c.in-Ok.ensures.tables c.keeps_tables.ensures.1
-
 pub returns-in-Ok-clause-whole_each : goal.returns-in-Ok-clause-whole_each
 returns-in-Ok-clause-whole_each g c = λ f e. tables_if _ c.args.facts.now c.test_tables.new.facts c.args.known.now.steps c.args.image.now c.tables_on.result.now c.keeps_tables.result
     (table_counts c.args.image.now c.config-config.result.now.config c.config-config.ensures.config c.tables_on.result.now c.tables_on.ensures) (c.in-Ok.ensures.tables_each f e) c.keeps_tables.ensures.1

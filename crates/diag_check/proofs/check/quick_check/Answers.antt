@@ -1,17 +1,9 @@
 use Rattle.std.proofs.Common.{sym, ◌∙◌}
-use Rattle.std.proofs.lemmas.Result.{IfOk-weaker}
 use Rattle.diag_check.proofs.Checking.{sound_if, yes_if}
 use Rattle.diag_check.proofs.Counting.{for_parts}
 use Rattle.diag_growth.proofs.Explained.{held}
 use Rattle.diag_known.proofs.Settling.{if_ok_so}
 use Rattle.diag_check.proofs.check.quick_check.Goals as goal
-
-pub returns-clause-sound : goal.returns-clause-sound
-returns-clause-sound g c =
-    let new = c.check_with.new.facts in
-    let shape = c.check_with.ensures.advances.more.shape ∙ c.in-Ok-new.ensures.shape ∙ sym c.requires.image in
-    IfOk-weaker c.check_with.result _ _ (λ answer keeps. sound_if _ _ new c.args.image.now answer (λ f. c.kept_facts_are_sound.ensures.nothing _ f c.in-Ok-new.ensures.nothing) c.check_with.ensures.advances.holds keeps
-    (λ f holds parts. c.kept_images_run_soundly.ensures new f c.args.image.now c.in-Ok.parts.used c.parts_of.ensures.right shape c.in-Ok.ensures.used holds parts)) c.check_with.ensures.keeps
 
 pub returns-clause-sound_each : goal.returns-clause-sound_each
 returns-clause-sound_each g c =
@@ -19,10 +11,6 @@ returns-clause-sound_each g c =
     let shape = c.check_with.ensures.advances.more.shape ∙ c.in-Ok-new.ensures.shape ∙ sym c.requires.image in
     if_ok_so c.check_with.result c.check_with.ensures.keeps (λ answer keeps f e. sound_if _ _ new c.args.image.now answer (λ h. c.kept_facts_are_sound.ensures.nothing _ h c.in-Ok-new.ensures.nothing) (held c.check_with.ensures.advances e) keeps
     (λ h holds parts. c.kept_images_run_soundly.ensures new h c.args.image.now c.in-Ok.parts.used c.parts_of.ensures.right shape c.in-Ok.ensures.used holds parts))
-
-pub returns-clause-whole : goal.returns-clause-whole
-returns-clause-whole g c =
-    IfOk-weaker c.check_with.result _ _ (λ answer whole. yes_if _ _ c.args.image.now answer (λ f. c.kept_facts_are_sound.ensures.nothing _ f c.in-Ok-new.ensures.nothing) whole) c.check_with.ensures.whole
 
 pub returns-clause-whole_each : goal.returns-clause-whole_each
 returns-clause-whole_each g c =

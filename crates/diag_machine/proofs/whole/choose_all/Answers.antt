@@ -2,11 +2,11 @@ use Rattle.std.proofs.Common.{◌∙◌, ap, refl, sym, subst, arith}
 use Rattle.diag_evidence.proofs.Keeping.{advances_itself, advances_then}
 use Rattle.diag_known.specs.Field.{IsFieldOf}
 use Rattle.diag_known.specs.declared.field.Field.{Field}
-use Rattle.diag_machine.proofs.Sweeping.{at_most, field_later, marks_back, marks_by, marks_on, marks_told}
+use Rattle.diag_machine.proofs.Sweeping.{at_most, field_later, marks_back, marks_on}
 use Rattle.diag_machine.proofs.whole.choose_all.Goals as goal
 
 pub choices-init : goal.choices-init
-choices-init g c = record { advances = advances_itself _ c.args.facts.now; known = c.requires.known; field = refl; marks = c.requires.marks; right = c.requires.right; right_each = c.requires.right_each; pays = omega arith; paid = refl }
+choices-init g c = record { advances = advances_itself _ c.args.facts.now; known = c.requires.known; field = refl; marks = c.requires.marks; right_each = c.requires.right_each; pays = omega arith; paid = refl }
 
 pub choose_once-requires-clause-field : goal.choose_once-requires-clause-field
 choose_once-requires-clause-field g c = subst (λ (a : Field). IsFieldOf c.choices.facts.shape a) (sym c.choices.invariant.field) (field_later c.choices.invariant.advances.more c.requires.field)
@@ -14,16 +14,12 @@ choose_once-requires-clause-field g c = subst (λ (a : Field). IsFieldOf c.choic
 pub choose_once-requires-clause-marks : goal.choose_once-requires-clause-marks
 choose_once-requires-clause-marks g c = marks_on c.choices.invariant.advances.more c.choices.invariant.marks
 
-pub choose_once-requires-clause-right : goal.choose_once-requires-clause-right
-choose_once-requires-clause-right g c = marks_told (ap (λ m. m.faults) c.choices.invariant.advances.machine) c.choices.invariant.right
-
 pub choices-preserved : goal.choices-preserved
 choices-preserved g c = record {
   advances = advances_then c.choices.invariant.advances c.choose_once.ensures.advances;
   known = c.choose_once.ensures.known;
   field = c.choose_once.ensures.field ∙ c.choices.invariant.field;
   marks = marks_back c.choices.invariant.advances.more c.choose_once.ensures.marks;
-  right = marks_by (ap (λ m. m.faults) c.choices.invariant.advances.machine) c.choose_once.ensures.right;
   right_each = c.choose_once.ensures.right_each;
   pays = at_most c.choose_once.ensures.pays c.choices.invariant.pays;
   paid = c.choose_once.ensures.paid ∙ c.choices.invariant.paid;
@@ -40,12 +36,6 @@ returns-in_err-choose_once-clause-marks g c = marks_back c.choices.invariant.adv
 
 pub returns-then-not-branch-clause-marks : goal.returns-then-not-branch-clause-marks
 returns-then-not-branch-clause-marks g c = marks_back c.choices.invariant.advances.more c.choose_once.ensures.marks
-
-pub returns-in_err-choose_once-clause-right : goal.returns-in_err-choose_once-clause-right
-returns-in_err-choose_once-clause-right g c = marks_by (ap (λ m. m.faults) c.choices.invariant.advances.machine) c.choose_once.ensures.right
-
-pub returns-then-not-branch-clause-right : goal.returns-then-not-branch-clause-right
-returns-then-not-branch-clause-right g c = marks_by (ap (λ m. m.faults) c.choices.invariant.advances.machine) c.choose_once.ensures.right
 
 pub returns-in_err-choose_once-clause-pays : goal.returns-in_err-choose_once-clause-pays
 returns-in_err-choose_once-clause-pays g c = at_most c.choose_once.ensures.pays c.choices.invariant.pays

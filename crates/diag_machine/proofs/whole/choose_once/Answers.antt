@@ -1,6 +1,6 @@
-use Rattle.std.proofs.Common.{◌∙◌, ap}
+use Rattle.std.proofs.Common.{◌∙◌}
+use Rattle.diag_machine.proofs.Sweeping.{at_most, field_later, marks_each, marks_of, marks_on}
 use Rattle.diag_evidence.proofs.Keeping.{advances_then}
-use Rattle.diag_machine.proofs.Sweeping.{at_most, field_later, marks_by, marks_each, marks_of, marks_on, marks_told}
 use Rattle.diag_machine.proofs.whole.choose_once.Goals as goal
 
 pub sweep_with-requires-clause-field : goal.sweep_with-requires-clause-field
@@ -14,12 +14,6 @@ returns-in_err-sweep_with-clause-marks g c = marks_of c.choose.ensures.marks c.s
 
 pub returns-clause-marks : goal.returns-clause-marks
 returns-clause-marks g c = marks_of c.choose.ensures.marks c.sweep_with.ensures.marks
-
-pub returns-in_err-sweep_with-clause-right : goal.returns-in_err-sweep_with-clause-right
-returns-in_err-sweep_with-clause-right g c = marks_by (ap (λ m. m.faults) c.choose.ensures.advances.machine) (c.sweep_with.ensures.right (marks_told (ap (λ m. m.faults) c.choose.ensures.advances.machine) (c.choose.ensures.right c.requires.right)))
-
-pub returns-clause-right : goal.returns-clause-right
-returns-clause-right g c = marks_by (ap (λ m. m.faults) c.choose.ensures.advances.machine) (c.sweep_with.ensures.right (marks_told (ap (λ m. m.faults) c.choose.ensures.advances.machine) (c.choose.ensures.right c.requires.right)))
 
 pub returns-in_err-sweep_with-clause-pays : goal.returns-in_err-sweep_with-clause-pays
 returns-in_err-sweep_with-clause-pays g c = at_most c.sweep_with.ensures.pays c.choose.ensures.pays

@@ -1,13 +1,6 @@
-use Rattle.std.proofs.Common.{ap}
-use Rattle.diag_machine.proofs.Stepping.{diagnosed, diagnosed_each}
-use Rattle.diag_machine.proofs.Sweeping.{marks_of_none, marks_told}
+use Rattle.diag_machine.proofs.Stepping.{diagnosed_each}
+use Rattle.diag_machine.proofs.Sweeping.{marks_of_none}
 use Rattle.diag_machine.proofs.whole.diagnose_with.Goals as goal
-
-pub returns-in-Ok-list_of-clause-right : goal.returns-in-Ok-list_of-clause-right
-returns-in-Ok-list_of-clause-right g c =
-    let known = c.in_ok-known.ensures in
-    let tested = c.in_ok-test_all.ensures in
-    diagnosed c.the_numbering_is_sound.ensures.numbered c.tight_lists_are_fair.ensures.fair (λ f. c.kept_facts_are_sound.ensures.nothing _ f c.requires.nothing) known.advances tested.advances known.known known.reached tested.tables tested.only c.in-Ok-list_of.ensures.list
 
 pub returns-in-Ok-list_of-clause-right_each : goal.returns-in-Ok-list_of-clause-right_each
 returns-in-Ok-list_of-clause-right_each g c =

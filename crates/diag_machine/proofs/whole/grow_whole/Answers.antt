@@ -8,23 +8,8 @@ use Rattle.diag_machine.proofs.whole.grow_whole.Goals as goal
 pub returns-in_default-clause-loads : goal.returns-in_default-clause-loads
 returns-in_default-clause-loads g c = let pins = c.growth_without_bad_is_paid.ensures.pins c.args.field.now c.args.facts.now c.requires.field in omega (arith, pins)
 
-pub returns-in_default-clause-few : goal.returns-in_default-clause-few
-returns-in_default-clause-few g c = always (let pins = c.growth_without_bad_is_paid.ensures.pins c.args.field.now c.args.facts.now c.requires.field in omega (arith, pins))
-
-pub returns-clause-right : goal.returns-clause-right
-returns-clause-right g c = true_later c.grow.ensures.advances.more c.grow.ensures.grows.stays c.requires.right
-
-pub returns-clause-reached : goal.returns-clause-reached
-returns-clause-reached g c =
-    on_ok_weaker c.grow.result (λ closed. reached_if (sym c.grow.ensures.advances.more.shape) (c.the_numbering_is_sound.ensures.numbered _) c.requires.whole.wires c.requires.whole.crosses
-    (c.closed_without_bad.ensures _ c.grow.new.facts c.grow.new.known.steps c.args.bad.now c.args.field.now c.in-Ok.rest c.in-Ok.ensures (true_later c.grow.ensures.advances.more c.grow.ensures.grows.stays c.requires.right) closed))
-    c.grow.ensures.closed
-
 pub returns-clause-loads : goal.returns-clause-loads
 returns-clause-loads g c = c.growth_without_bad_is_paid.ensures.most c.args.field.now c.in-Ok.rest c.args.facts.now c.args.bad.now _ _ c.requires.field c.in-Ok.ensures c.grow.ensures.loads
-
-pub returns-clause-few : goal.returns-clause-few
-returns-clause-few g c = few_when (λ f told none holds. c.growth_without_bad_is_paid.ensures.few c.args.field.now c.in-Ok.rest c.args.facts.now c.args.bad.now _ _ c.requires.field c.in-Ok.ensures (c.grow.ensures.few.at f told none holds))
 
 pub returns-in_default-clause-few_each : goal.returns-in_default-clause-few_each
 returns-in_default-clause-few_each g c = λ f e. always (let pins = c.growth_without_bad_is_paid.ensures.pins c.args.field.now c.args.facts.now c.requires.field in omega (arith, pins))

@@ -1,4 +1,4 @@
-use Rattle.std.proofs.Common.{◌∙◌, ap, refl, sym, subst, arith}
+use Rattle.std.proofs.Common.{◌∙◌, ap, sym, subst}
 use Rattle.machine_shape.specs.Shape.{crosses_of, wires_of}
 use Rattle.base_bits.specs.Numbers.{size_of}
 use Rattle.diag_known.specs.Field.{IsFieldOf}
@@ -6,8 +6,8 @@ use Rattle.diag_known.specs.declared.field.Field.{Field}
 use Rattle.diag_machine.specs.Stages.{IsWhole}
 use Rattle.diag_evidence.proofs.Keeping.{advances_then}
 use Rattle.diag_machine.proofs.Counted.{grown_few, grown_most, known_few, known_most, pins_same, size_most, swept_few, swept_most, wires_most}
-use Rattle.diag_machine.proofs.Stepping.{holds_each, reached_told}
-use Rattle.diag_machine.proofs.Sweeping.{always, at_most, at_once, few_when, field_later, marks_back, marks_by, marks_on, marks_told, whole_later}
+use Rattle.diag_machine.proofs.Stepping.{holds_each}
+use Rattle.diag_machine.proofs.Sweeping.{always, at_most, at_once, few_when, field_later, marks_back, marks_on, whole_later}
 use Rattle.diag_machine.proofs.whole.know_all.Goals as goal
 
 pub grow_whole-requires-clause-field : goal.grow_whole-requires-clause-field
@@ -18,9 +18,6 @@ grow_whole-requires-clause-whole g c = subst (λ (a : Field). IsWhole c.sweep_wh
 
 pub grow_whole-requires-clause-marks : goal.grow_whole-requires-clause-marks
 grow_whole-requires-clause-marks g c = marks_on c.sweep_whole.ensures.advances.more c.sweep_whole.ensures.marks
-
-pub grow_whole-requires-clause-right : goal.grow_whole-requires-clause-right
-grow_whole-requires-clause-right g c = marks_told (ap (λ m. m.faults) c.sweep_whole.ensures.advances.machine) c.sweep_whole.ensures.right
 
 pub know_lost-requires-clause-field : goal.know_lost-requires-clause-field
 know_lost-requires-clause-field g c = subst (λ (a : Field). IsFieldOf c.grow_whole.new.facts.shape a) (sym c.sweep_whole.ensures.field) (field_later (advances_then c.sweep_whole.ensures.advances c.grow_whole.ensures.advances).more c.requires.field)
@@ -34,12 +31,6 @@ know_lost-requires-clause-marks g c = marks_on (advances_then c.sweep_whole.ensu
 pub know_lost-requires-clause-paid : goal.know_lost-requires-clause-paid
 know_lost-requires-clause-paid g c = c.sweep_whole.ensures.paid ∙ c.requires.paid ∙ ap wires_of (sym (advances_then c.sweep_whole.ensures.advances c.grow_whole.ensures.advances).more.shape)
 
-pub know_lost-requires-clause-right : goal.know_lost-requires-clause-right
-know_lost-requires-clause-right g c = marks_told (ap (λ m. m.faults) c.grow_whole.ensures.advances.machine) c.grow_whole.ensures.right
-
-pub know_lost-requires-clause-reached : goal.know_lost-requires-clause-reached
-know_lost-requires-clause-reached g c = reached_told (sym (ap (λ m. m.faults) c.grow_whole.ensures.advances.machine)) c.in_ok-grow_whole.ensures.reached
-
 pub returns-in_err-sweep_whole-clause-loads : goal.returns-in_err-sweep_whole-clause-loads
 returns-in_err-sweep_whole-clause-loads g c = swept_most _ _ _ _ _ _ _ _ _ _ _ _ _ c.sweep_whole.ensures.pays c.requires.left c.requires.none
     (c.growth_without_bad_is_paid.ensures.all c.args.state.now.field c.args.facts.now c.args.bad.now c.requires.field)
@@ -49,15 +40,6 @@ returns-in_err-sweep_whole-clause-loads g c = swept_most _ _ _ _ _ _ _ _ _ _ _ _
     (wires_most c.requires.field c.sweep_whole.ensures.field)
     (size_most c.sweep_whole.new.state.choices.paid (wires_of c.args.facts.now.shape) (c.sweep_whole.ensures.paid ∙ c.requires.paid))
 
-pub returns-in_err-sweep_whole-clause-few : goal.returns-in_err-sweep_whole-clause-few
-returns-in_err-sweep_whole-clause-few g c = few_when (λ f told none holds. swept_few _ _ _ _ _ _ _ _ _ _ _ _ _ c.sweep_whole.ensures.pays c.requires.left c.requires.none
-    (c.growth_without_bad_is_paid.ensures.all c.args.state.now.field c.args.facts.now c.args.bad.now c.requires.field)
-    (at_most (c.growth_without_bad_is_paid.ensures.all c.sweep_whole.new.state.field c.sweep_whole.new.facts c.sweep_whole.new.bad (subst (λ (a : Field). IsFieldOf c.sweep_whole.new.facts.shape a) (sym c.sweep_whole.ensures.field) (field_later c.sweep_whole.ensures.advances.more c.requires.field))) (at_once (ap crosses_of c.sweep_whole.ensures.advances.more.shape)))
-    (c.growth_without_bad_is_paid.ensures.pins c.sweep_whole.new.state.field c.sweep_whole.new.facts (subst (λ (a : Field). IsFieldOf c.sweep_whole.new.facts.shape a) (sym c.sweep_whole.ensures.field) (field_later c.sweep_whole.ensures.advances.more c.requires.field)))
-    (pins_same c.sweep_whole.ensures.advances.more.shape c.sweep_whole.ensures.field)
-    (wires_most c.requires.field c.sweep_whole.ensures.field)
-    (size_most c.sweep_whole.new.state.choices.paid (wires_of c.args.facts.now.shape) (c.sweep_whole.ensures.paid ∙ c.requires.paid)) (ap size_of (c.sweep_whole.ensures.few.at f told none holds)))
-
 pub returns-in_err-grow_whole-clause-loads : goal.returns-in_err-grow_whole-clause-loads
 returns-in_err-grow_whole-clause-loads g c = grown_most _ _ _ _ _ _ _ _ _ _ _ _ _ c.sweep_whole.ensures.pays c.requires.left c.requires.none
     (c.growth_without_bad_is_paid.ensures.all c.args.state.now.field c.args.facts.now c.args.bad.now c.requires.field)
@@ -66,15 +48,6 @@ returns-in_err-grow_whole-clause-loads g c = grown_most _ _ _ _ _ _ _ _ _ _ _ _ 
     (pins_same c.sweep_whole.ensures.advances.more.shape c.sweep_whole.ensures.field)
     (wires_most c.requires.field c.sweep_whole.ensures.field)
     (size_most c.sweep_whole.new.state.choices.paid (wires_of c.args.facts.now.shape) (c.sweep_whole.ensures.paid ∙ c.requires.paid)) _ c.grow_whole.ensures.loads
-
-pub returns-in_err-grow_whole-clause-few : goal.returns-in_err-grow_whole-clause-few
-returns-in_err-grow_whole-clause-few g c = few_when (λ f told none holds. grown_few _ _ _ _ _ _ _ _ _ _ _ _ _ c.sweep_whole.ensures.pays c.requires.left c.requires.none
-    (c.growth_without_bad_is_paid.ensures.all c.args.state.now.field c.args.facts.now c.args.bad.now c.requires.field)
-    (at_most (c.growth_without_bad_is_paid.ensures.all c.sweep_whole.new.state.field c.sweep_whole.new.facts c.sweep_whole.new.bad (subst (λ (a : Field). IsFieldOf c.sweep_whole.new.facts.shape a) (sym c.sweep_whole.ensures.field) (field_later c.sweep_whole.ensures.advances.more c.requires.field))) (at_once (ap crosses_of c.sweep_whole.ensures.advances.more.shape)))
-    (c.growth_without_bad_is_paid.ensures.pins c.sweep_whole.new.state.field c.sweep_whole.new.facts (subst (λ (a : Field). IsFieldOf c.sweep_whole.new.facts.shape a) (sym c.sweep_whole.ensures.field) (field_later c.sweep_whole.ensures.advances.more c.requires.field)))
-    (pins_same c.sweep_whole.ensures.advances.more.shape c.sweep_whole.ensures.field)
-    (wires_most c.requires.field c.sweep_whole.ensures.field)
-    (size_most c.sweep_whole.new.state.choices.paid (wires_of c.args.facts.now.shape) (c.sweep_whole.ensures.paid ∙ c.requires.paid)) (ap size_of (c.sweep_whole.ensures.few.at f told none holds)) _ (c.grow_whole.ensures.few.at f ((ap (λ m. m.faults) c.sweep_whole.ensures.advances.machine) ∙ told) none (c.sweep_whole.ensures.advances.holds f told holds)))
 
 pub returns-in_err-know_lost-clause-loads : goal.returns-in_err-know_lost-clause-loads
 returns-in_err-know_lost-clause-loads g c = known_most _ _ _ _ _ _ _ _ _ _ _ _ _ c.sweep_whole.ensures.pays c.requires.left c.requires.none
@@ -94,35 +67,11 @@ returns-clause-loads g c = known_most _ _ _ _ _ _ _ _ _ _ _ _ _ c.sweep_whole.en
     (wires_most c.requires.field c.sweep_whole.ensures.field)
     (size_most c.sweep_whole.new.state.choices.paid (wires_of c.args.facts.now.shape) (c.sweep_whole.ensures.paid ∙ c.requires.paid)) _ _ _ _ c.grow_whole.ensures.loads (ap crosses_of (advances_then c.sweep_whole.ensures.advances c.grow_whole.ensures.advances).more.shape) (ap wires_of (advances_then c.sweep_whole.ensures.advances c.grow_whole.ensures.advances).more.shape) c.know_lost.ensures.loads
 
-pub returns-in_err-know_lost-clause-few : goal.returns-in_err-know_lost-clause-few
-returns-in_err-know_lost-clause-few g c = few_when (λ f told none holds. known_few _ _ _ _ _ _ _ _ _ _ _ _ _ c.sweep_whole.ensures.pays c.requires.left c.requires.none
-    (c.growth_without_bad_is_paid.ensures.all c.args.state.now.field c.args.facts.now c.args.bad.now c.requires.field)
-    (at_most (c.growth_without_bad_is_paid.ensures.all c.sweep_whole.new.state.field c.sweep_whole.new.facts c.sweep_whole.new.bad (subst (λ (a : Field). IsFieldOf c.sweep_whole.new.facts.shape a) (sym c.sweep_whole.ensures.field) (field_later c.sweep_whole.ensures.advances.more c.requires.field))) (at_once (ap crosses_of c.sweep_whole.ensures.advances.more.shape)))
-    (c.growth_without_bad_is_paid.ensures.pins c.sweep_whole.new.state.field c.sweep_whole.new.facts (subst (λ (a : Field). IsFieldOf c.sweep_whole.new.facts.shape a) (sym c.sweep_whole.ensures.field) (field_later c.sweep_whole.ensures.advances.more c.requires.field)))
-    (pins_same c.sweep_whole.ensures.advances.more.shape c.sweep_whole.ensures.field)
-    (wires_most c.requires.field c.sweep_whole.ensures.field)
-    (size_most c.sweep_whole.new.state.choices.paid (wires_of c.args.facts.now.shape) (c.sweep_whole.ensures.paid ∙ c.requires.paid)) (ap size_of (c.sweep_whole.ensures.few.at f told none holds)) _ _ (c.grow_whole.ensures.few.at f ((ap (λ m. m.faults) c.sweep_whole.ensures.advances.machine) ∙ told) none (c.sweep_whole.ensures.advances.holds f told holds)) (c.know_lost.ensures.few.at f ((ap (λ m. m.faults) (c.grow_whole.ensures.advances.machine ∙ c.sweep_whole.ensures.advances.machine)) ∙ told) none (c.grow_whole.ensures.advances.holds f ((ap (λ m. m.faults) c.sweep_whole.ensures.advances.machine) ∙ told) (c.sweep_whole.ensures.advances.holds f told holds))))
-
-pub returns-clause-few : goal.returns-clause-few
-returns-clause-few g c = few_when (λ f told none holds. known_few _ _ _ _ _ _ _ _ _ _ _ _ _ c.sweep_whole.ensures.pays c.requires.left c.requires.none
-    (c.growth_without_bad_is_paid.ensures.all c.args.state.now.field c.args.facts.now c.args.bad.now c.requires.field)
-    (at_most (c.growth_without_bad_is_paid.ensures.all c.sweep_whole.new.state.field c.sweep_whole.new.facts c.sweep_whole.new.bad (subst (λ (a : Field). IsFieldOf c.sweep_whole.new.facts.shape a) (sym c.sweep_whole.ensures.field) (field_later c.sweep_whole.ensures.advances.more c.requires.field))) (at_once (ap crosses_of c.sweep_whole.ensures.advances.more.shape)))
-    (c.growth_without_bad_is_paid.ensures.pins c.sweep_whole.new.state.field c.sweep_whole.new.facts (subst (λ (a : Field). IsFieldOf c.sweep_whole.new.facts.shape a) (sym c.sweep_whole.ensures.field) (field_later c.sweep_whole.ensures.advances.more c.requires.field)))
-    (pins_same c.sweep_whole.ensures.advances.more.shape c.sweep_whole.ensures.field)
-    (wires_most c.requires.field c.sweep_whole.ensures.field)
-    (size_most c.sweep_whole.new.state.choices.paid (wires_of c.args.facts.now.shape) (c.sweep_whole.ensures.paid ∙ c.requires.paid)) (ap size_of (c.sweep_whole.ensures.few.at f told none holds)) _ _ (c.grow_whole.ensures.few.at f ((ap (λ m. m.faults) c.sweep_whole.ensures.advances.machine) ∙ told) none (c.sweep_whole.ensures.advances.holds f told holds)) (c.know_lost.ensures.few.at f ((ap (λ m. m.faults) (c.grow_whole.ensures.advances.machine ∙ c.sweep_whole.ensures.advances.machine)) ∙ told) none (c.grow_whole.ensures.advances.holds f ((ap (λ m. m.faults) c.sweep_whole.ensures.advances.machine) ∙ told) (c.sweep_whole.ensures.advances.holds f told holds))))
-
 pub returns-in_err-know_lost-clause-marks : goal.returns-in_err-know_lost-clause-marks
 returns-in_err-know_lost-clause-marks g c = marks_back (advances_then c.sweep_whole.ensures.advances c.grow_whole.ensures.advances).more c.know_lost.ensures.marks
 
 pub returns-clause-marks : goal.returns-clause-marks
 returns-clause-marks g c = marks_back (advances_then c.sweep_whole.ensures.advances c.grow_whole.ensures.advances).more c.know_lost.ensures.marks
-
-pub returns-clause-right : goal.returns-clause-right
-returns-clause-right g c = marks_by (ap (λ m. m.faults) (c.grow_whole.ensures.advances.machine ∙ c.sweep_whole.ensures.advances.machine)) c.know_lost.ensures.right
-
-pub returns-clause-reached : goal.returns-clause-reached
-returns-clause-reached g c = reached_told (ap (λ m. m.faults) (c.grow_whole.ensures.advances.machine ∙ c.sweep_whole.ensures.advances.machine)) c.in_ok-know_lost.ensures.reached
 
 pub grow_whole-requires-clause-right_each : goal.grow_whole-requires-clause-right_each
 grow_whole-requires-clause-right_each g c = c.sweep_whole.ensures.right_each

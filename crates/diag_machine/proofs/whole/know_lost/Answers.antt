@@ -1,15 +1,14 @@
 use Rattle.std.proofs.Common.{◌∙◌, ap, sym, subst, arith, IfSome}
-use Rattle.std.proofs.lemmas.Result.{on_ok_weaker}
 use Rattle.machine_shape.specs.Shape.{crosses_of, wires_of}
 use Rattle.diag_known.specs.Field.{IsFieldOf}
 use Rattle.diag_known.specs.declared.field.Field.{Field}
 use Rattle.diag_machine.specs.Choice.{AreLeftOut}
 use Rattle.diag_machine.specs.Stages.{IsWhole}
-use Rattle.diag_evidence.proofs.Keeping.{advances_then}
 use Rattle.diag_machine.proofs.Counted.{again_most, lost_most, size_most, wires_most}
 use Rattle.diag_machine.proofs.Losing.{out_never}
-use Rattle.diag_machine.proofs.Stepping.{reached_then, reached_told}
-use Rattle.diag_machine.proofs.Sweeping.{always, at_most, at_once, field_later, marks_by, marks_on, marks_told, whole_later}
+use Rattle.diag_machine.proofs.Stepping.{reached_then}
+use Rattle.diag_machine.proofs.Sweeping.{always, at_most, at_once, field_later, marks_on, whole_later}
+use Rattle.diag_evidence.proofs.Keeping.{advances_then}
 use Rattle.diag_machine.proofs.whole.know_lost.Goals as goal
 
 pub returns-in_default-clause-loads : goal.returns-in_default-clause-loads
@@ -21,18 +20,6 @@ returns-in_err-choose_once-clause-loads g c = lost_most _ _ _ _ _ _ _ _ _ _ _ c.
 pub returns-then-not-branch-clause-loads : goal.returns-then-not-branch-clause-loads
 returns-then-not-branch-clause-loads g c = lost_most _ _ _ _ _ _ _ _ _ _ _ c.pay_for.ensures.pays c.choose_once.ensures.pays (c.growth_without_bad_is_paid.ensures.all c.args.state.now.field c.args.facts.now c.args.bad.now c.requires.field) (size_most c.pay_for.new.self.paid (wires_of c.args.facts.now.shape) (c.pay_for.ensures.len ∙ c.requires.paid))
 
-pub returns-in_err-choose_once-clause-few : goal.returns-in_err-choose_once-clause-few
-returns-in_err-choose_once-clause-few g c = out_never c.requires.reached (subst (λ o. IfSome o (λ _. AreLeftOut c.args.facts.now c.args.known.now.steps)) c.in-Some.is c.in-Ok.ensures)
-
-pub returns-then-not-branch-clause-few : goal.returns-then-not-branch-clause-few
-returns-then-not-branch-clause-few g c = out_never c.requires.reached (subst (λ o. IfSome o (λ _. AreLeftOut c.args.facts.now c.args.known.now.steps)) c.in-Some.is c.in-Ok.ensures)
-
-pub returns-clause-few : goal.returns-clause-few
-returns-clause-few g c = out_never c.requires.reached (subst (λ o. IfSome o (λ _. AreLeftOut c.args.facts.now c.args.known.now.steps)) c.in-Some.is c.in-Ok.ensures)
-
-pub returns-then-not-branch-clause-reached : goal.returns-then-not-branch-clause-reached
-returns-then-not-branch-clause-reached g c = reached_then c.choose_once.ensures.advances.more (c.in_ok-choose_once.ensures.same c.if-not-branch.true) c.requires.reached
-
 pub grow_whole-requires-clause-field : goal.grow_whole-requires-clause-field
 grow_whole-requires-clause-field g c = subst (λ (a : Field). IsFieldOf c.choose_once.new.facts.shape a) (sym c.choose_once.ensures.field) (field_later c.choose_once.ensures.advances.more c.requires.field)
 
@@ -41,15 +28,6 @@ grow_whole-requires-clause-whole g c = subst (λ (a : Field). IsWhole c.choose_o
 
 pub grow_whole-requires-clause-marks : goal.grow_whole-requires-clause-marks
 grow_whole-requires-clause-marks g c = marks_on c.choose_once.ensures.advances.more c.choose_once.ensures.marks
-
-pub grow_whole-requires-clause-right : goal.grow_whole-requires-clause-right
-grow_whole-requires-clause-right g c = marks_told (ap (λ m. m.faults) c.choose_once.ensures.advances.machine) c.choose_once.ensures.right
-
-pub returns-clause-right : goal.returns-clause-right
-returns-clause-right g c = marks_by (ap (λ m. m.faults) c.choose_once.ensures.advances.machine) c.grow_whole.ensures.right
-
-pub returns-clause-reached : goal.returns-clause-reached
-returns-clause-reached g c = on_ok_weaker c.grow_whole.result (λ reached. reached_told (ap (λ m. m.faults) c.choose_once.ensures.advances.machine) reached) c.grow_whole.ensures.reached
 
 pub returns-clause-loads : goal.returns-clause-loads
 returns-clause-loads g c = again_most _ _ _ _ _ _ _ _ _ _ _ c.pay_for.ensures.pays c.choose_once.ensures.pays (c.growth_without_bad_is_paid.ensures.all c.args.state.now.field c.args.facts.now c.args.bad.now c.requires.field) (size_most c.pay_for.new.self.paid (wires_of c.args.facts.now.shape) (c.pay_for.ensures.len ∙ c.requires.paid)) _ _ _ (at_most (c.growth_without_bad_is_paid.ensures.all c.choose_once.new.state.field c.choose_once.new.facts c.choose_once.new.bad (subst (λ (a : Field). IsFieldOf c.choose_once.new.facts.shape a) (sym c.choose_once.ensures.field) (field_later c.choose_once.ensures.advances.more c.requires.field))) (at_once (ap crosses_of c.choose_once.ensures.advances.more.shape))) (wires_most c.requires.field c.choose_once.ensures.field) c.grow_whole.ensures.loads

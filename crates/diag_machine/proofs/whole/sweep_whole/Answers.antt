@@ -1,8 +1,8 @@
 use Rattle.std.proofs.Common.{◌∙◌, ap, length, refl, arith}
 use Rattle.base_bits.specs.Numbers.{size_of}
-use Rattle.diag_evidence.proofs.Keeping.{advances_then}
-use Rattle.diag_machine.proofs.Sweeping.{always, few_when, field_later, marks_back, marks_by, marks_each, marks_of, marks_on, marks_told, none_unfit}
+use Rattle.diag_machine.proofs.Sweeping.{always, few_when, field_later, marks_back, marks_each, marks_of, marks_on, none_unfit}
 use Rattle.diag_machine.proofs.Stepping.{holds_each}
+use Rattle.diag_evidence.proofs.Keeping.{advances_then}
 use Rattle.diag_machine.proofs.whole.sweep_whole.Goals as goal
 
 pub choose_all-requires-clause-field : goal.choose_all-requires-clause-field
@@ -11,32 +11,17 @@ choose_all-requires-clause-field g c = field_later c.sweep.ensures.advances.more
 pub choose_all-requires-clause-marks : goal.choose_all-requires-clause-marks
 choose_all-requires-clause-marks g c = marks_on c.sweep.ensures.advances.more (marks_of c.requires.marks (rw c.deref.ensures.value at c.sweep.ensures.marks))
 
-pub choose_all-requires-clause-right : goal.choose_all-requires-clause-right
-choose_all-requires-clause-right g c = marks_told (ap (λ m. m.faults) c.sweep.ensures.advances.machine) (c.sweep.ensures.right c.requires.right)
-
 pub returns-in_err-sweep-clause-marks : goal.returns-in_err-sweep-clause-marks
 returns-in_err-sweep-clause-marks g c = marks_of c.requires.marks (rw c.deref.ensures.value at c.sweep.ensures.marks)
-
-pub returns-in_err-sweep-clause-right : goal.returns-in_err-sweep-clause-right
-returns-in_err-sweep-clause-right g c = c.sweep.ensures.right c.requires.right
 
 pub returns-in_err-sweep-clause-pays : goal.returns-in_err-sweep-clause-pays
 returns-in_err-sweep-clause-pays g c = let pays = c.sweep.ensures.pays in omega (arith, pays)
 
-pub returns-in_err-sweep-clause-few : goal.returns-in_err-sweep-clause-few
-returns-in_err-sweep-clause-few g c = always refl
-
 pub returns-clause-marks : goal.returns-clause-marks
 returns-clause-marks g c = marks_back c.sweep.ensures.advances.more c.choose_all.ensures.marks
 
-pub returns-clause-right : goal.returns-clause-right
-returns-clause-right g c = marks_by (ap (λ m. m.faults) c.sweep.ensures.advances.machine) c.choose_all.ensures.right
-
 pub returns-clause-pays : goal.returns-clause-pays
 returns-clause-pays g c = let pays = c.sweep.ensures.pays in let put = c.pay_for.ensures.pays in let chosen = c.choose_all.ensures.pays in let same = ap size_of c.choose_all.ensures.paid in omega (arith, pays, put, chosen, same)
-
-pub returns-clause-few : goal.returns-clause-few
-returns-clause-few g c = few_when (λ f told none holds. c.choose_all.ensures.paid ∙ ap (λ x. x.paid) (c.pay_for.ensures.none (none_unfit c.in-Ok-unfit_wires.unfit f told none (c.sweep.ensures.advances.holds f told holds) (c.sweep.ensures.right c.requires.right) c.in-Ok-unfit_wires.ensures)))
 
 pub returns-clause-paid : goal.returns-clause-paid
 returns-clause-paid g c = ap length c.choose_all.ensures.paid ∙ c.pay_for.ensures.len
@@ -44,14 +29,8 @@ returns-clause-paid g c = ap length c.choose_all.ensures.paid ∙ c.pay_for.ensu
 pub returns-in_default-unfit_wires-clause-marks : goal.returns-in_default-unfit_wires-clause-marks
 returns-in_default-unfit_wires-clause-marks g c = marks_of c.requires.marks (rw c.deref.ensures.value at c.sweep.ensures.marks)
 
-pub returns-in_default-unfit_wires-clause-right : goal.returns-in_default-unfit_wires-clause-right
-returns-in_default-unfit_wires-clause-right g c = c.sweep.ensures.right c.requires.right
-
 pub returns-in_default-unfit_wires-clause-pays : goal.returns-in_default-unfit_wires-clause-pays
 returns-in_default-unfit_wires-clause-pays g c = let pays = c.sweep.ensures.pays in omega (arith, pays)
-
-pub returns-in_default-unfit_wires-clause-few : goal.returns-in_default-unfit_wires-clause-few
-returns-in_default-unfit_wires-clause-few g c = always refl
 
 pub choose_all-requires-clause-right_each : goal.choose_all-requires-clause-right_each
 choose_all-requires-clause-right_each g c = marks_each c.sweep.ensures.right_each c.sweep.ensures.advances.narrows c.requires.right_each

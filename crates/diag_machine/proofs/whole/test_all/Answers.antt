@@ -1,11 +1,8 @@
-use Rattle.std.proofs.Common.{◌∙◌, ap, subst, ◌≤◌, length, ℕ}
+use Rattle.std.proofs.Common.{ap, subst, ◌≤◌, length, ℕ}
 use Rattle.std.proofs.lemmas.Result.{on_ok_weaker}
 use Rattle.machine_shape.specs.Shape.{tables_of}
 use Rattle.diag_machine.proofs.Sweeping.{tables_left_if, tables_left_most}
 use Rattle.diag_machine.proofs.whole.test_all.Goals as goal
-
-pub returns-clause-tables : goal.returns-clause-tables
-returns-clause-tables g c = on_ok_weaker c.test_tables.result (tables_left_if c.shape.ensures c.requires.right c.in-Ok.ensures.each) (rw c.deref.ensures.value at c.test_tables.ensures.tables)
 
 pub returns-clause-loads : goal.returns-clause-loads
 returns-clause-loads g c = tables_left_most c.args.facts.now c.in-Ok.tables.items _ (subst (λ (n : ℕ). length c.in-Ok.tables.items ≤ n) (ap tables_of c.shape.ensures) c.in-Ok.ensures.count) (rw c.deref.ensures.value at c.test_tables.ensures.loads)

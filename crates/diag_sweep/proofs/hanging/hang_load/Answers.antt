@@ -4,20 +4,10 @@ use Rattle.diag_sweep.proofs.hanging.hang_load.Goals as goal
 
 pub returns-clause-goes : goal.returns-clause-goes
 returns-clause-goes g c =
-    let e = c.test_wires.ensures in
-    let of = c.if-not-are_of_field.ensures refl in
-    hang_goes 3 c.requires.hand (c.if-not-can_pay.ensures refl) e.loads e.advances.more
-    (unfit_marks c.args.field.now _ _ _ _ _ _ _ _ _ _ _ c.test_wires.result of e.marks e.stay e.tried e.unmarked)
-    (unclear_marks c.args.field.now _ _ _ _ _ _ _ _ _ _ _ c.test_wires.result of e.marks_too e.stay_too e.tried e.unmarked_too)
-    (e.unfit (is_step c.args.known.now.steps) (λ w on. step_has c.args.known.now.steps w (c.if-not-is_known.ensures.all refl w on)))
-    e.unclear
-
-pub returns-clause-goes_each : goal.returns-clause-goes_each
-returns-clause-goes_each g c = λ f e.
     let test = c.test_wires.ensures in
     let of = c.if-not-are_of_field.ensures refl in
     hang_goes 3 c.requires.hand (c.if-not-can_pay.ensures refl) test.loads test.advances.more
     (unfit_marks c.args.field.now _ _ _ _ _ _ _ _ _ _ _ c.test_wires.result of test.marks test.stay test.tried test.unmarked)
     (unclear_marks c.args.field.now _ _ _ _ _ _ _ _ _ _ _ c.test_wires.result of test.marks_too test.stay_too test.tried test.unmarked_too)
-    (test.unfit_each f e (is_step c.args.known.now.steps) (λ w on. step_has c.args.known.now.steps w (c.if-not-is_known.ensures.all refl w on)))
-    (test.unclear_each f e)
+    (λ f e. test.unfit_each f e (is_step c.args.known.now.steps) (λ w on. step_has c.args.known.now.steps w (c.if-not-is_known.ensures.all refl w on)))
+    test.unclear_each

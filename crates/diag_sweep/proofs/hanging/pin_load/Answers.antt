@@ -5,6 +5,3 @@ use Rattle.diag_sweep.proofs.hanging.pin_load.Goals as goal
 
 pub returns-clause-goes : goal.returns-clause-goes
 returns-clause-goes g c = plain_goes 1 c.requires.hand (c.if-not-can_pay.ensures refl) c.look_each.ensures.loads c.look_each.ensures.advances.more
-
-pub returns-clause-goes_each : goal.returns-clause-goes_each
-returns-clause-goes_each g c = λ f e. plain_goes 1 c.requires.hand (c.if-not-can_pay.ensures refl) c.look_each.ensures.loads c.look_each.ensures.advances.more

@@ -10,14 +10,7 @@ test_paths-requires-clause-paths g c = rw c.deref.ensures.value (path_test c.req
 
 pub returns-clause-goes : goal.returns-clause-goes
 returns-clause-goes g c =
-    let e = c.test_paths.ensures in
-    let course = subst (λ (ls : List Lead). IsCourse c.args.facts.now c.args.known.now.steps c.args.field.now c.lay_walks.new.course.config.config c.lay_walks.new.course.drive ls c.lay_walks.new.course.seen)
-    (sym c.deref.ensures.value) (c.in-Ok-lay_walks.ensures c.if-not-laid.false) in
-    lead_goes _ c.test_paths.result c.requires.hand course (c.if-not-can_pay.ensures refl) e.loads e.advances.more e.marks e.led e.unmarked e.stuck
-
-pub returns-clause-goes_each : goal.returns-clause-goes_each
-returns-clause-goes_each g c = λ f e.
     let test = c.test_paths.ensures in
     let course = subst (λ (ls : List Lead). IsCourse c.args.facts.now c.args.known.now.steps c.args.field.now c.lay_walks.new.course.config.config c.lay_walks.new.course.drive ls c.lay_walks.new.course.seen)
     (sym c.deref.ensures.value) (c.in-Ok-lay_walks.ensures c.if-not-laid.false) in
-    lead_goes _ c.test_paths.result c.requires.hand course (c.if-not-can_pay.ensures refl) test.loads test.advances.more test.marks test.led test.unmarked (test.stuck_each f e)
+    lead_goes _ c.test_paths.result c.requires.hand course (c.if-not-can_pay.ensures refl) test.loads test.advances.more test.marks test.led test.unmarked test.stuck_each

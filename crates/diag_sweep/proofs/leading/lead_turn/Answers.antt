@@ -4,14 +4,8 @@ use Rattle.diag_sweep.proofs.leading.lead_turn.Goals as goal
 pub returns-in_default-note_walks-clause-goes : goal.returns-in_default-note_walks-clause-goes
 returns-in_default-note_walks-clause-goes g c = let tested = c.lead_load.ensures.goes in goes_then tested (goes_settled tested.hand c.settle_walks.ensures)
 
-pub returns-in_default-note_walks-clause-goes_each : goal.returns-in_default-note_walks-clause-goes_each
-returns-in_default-note_walks-clause-goes_each g c = λ f e. let tested = (c.lead_load.ensures.goes_each f e) in goes_then tested (goes_settled tested.hand c.settle_walks.ensures)
-
 pub returns-clause-goes : goal.returns-clause-goes
 returns-clause-goes g c = let tested = c.lead_load.ensures.goes in goes_then tested (goes_settled tested.hand c.settle_walks.ensures)
 
-pub returns-clause-goes_each : goal.returns-clause-goes_each
-returns-clause-goes_each g c = λ f e. let tested = (c.lead_load.ensures.goes_each f e) in goes_then tested (goes_settled tested.hand c.settle_walks.ensures)
-
-pub returns-then-loads-before-clause-goes_each : goal.returns-then-loads-before-clause-goes_each
-returns-then-loads-before-clause-goes_each g c = λ f e. let tested = (c.lead_load.ensures.goes_each f e) in goes_then tested (goes_settled tested.hand c.settle_walks.ensures)
+pub returns-then-loads-before-clause-goes : goal.returns-then-loads-before-clause-goes
+returns-then-loads-before-clause-goes g c = let tested = c.lead_load.ensures.goes in goes_then tested (goes_settled tested.hand c.settle_walks.ensures)

@@ -1,14 +1,8 @@
-use Rattle.diag_sweep.proofs.Going.{goes_on, goes_on_each, goes_wider}
+use Rattle.diag_sweep.proofs.Going.{goes_on, goes_wider}
 use Rattle.diag_sweep.proofs.tabling.sweep_again.Goals as goal
 
 pub returns-in_err-sweep_chosen-clause-goes : goal.returns-in_err-sweep_chosen-clause-goes
 returns-in_err-sweep_chosen-clause-goes g c = goes_wider c.args.table_sweep.now.tables.items c.sweep_chosen.ensures.goes
 
-pub returns-in_err-sweep_chosen-clause-goes_each : goal.returns-in_err-sweep_chosen-clause-goes_each
-returns-in_err-sweep_chosen-clause-goes_each g c = λ f e. goes_wider c.args.table_sweep.now.tables.items (c.sweep_chosen.ensures.goes_each f e)
-
 pub returns-clause-goes : goal.returns-clause-goes
-returns-clause-goes g c = goes_on c.sweep_chosen.ensures.advances (goes_wider c.args.table_sweep.now.tables.items c.sweep_chosen.ensures.goes) c.test_tables.ensures.goes
-
-pub returns-clause-goes_each : goal.returns-clause-goes_each
-returns-clause-goes_each g c = goes_on_each (λ f e. goes_wider c.args.table_sweep.now.tables.items (c.sweep_chosen.ensures.goes_each f e)) c.test_tables.ensures.advances c.test_tables.ensures.goes_each
+returns-clause-goes g c = goes_on (goes_wider c.args.table_sweep.now.tables.items c.sweep_chosen.ensures.goes) c.test_tables.ensures.advances c.test_tables.ensures.goes

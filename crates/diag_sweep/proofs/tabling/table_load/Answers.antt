@@ -4,14 +4,7 @@ use Rattle.diag_sweep.proofs.tabling.table_load.Goals as goal
 
 pub returns-clause-goes : goal.returns-clause-goes
 returns-clause-goes g c =
-    let e = c.tables_each.ensures in
-    let given = rw c.deref.ensures.value at c.if-not-are_given.ensures refl in
-    table_goes c.args.table_sweep.now.tables.items c.requires.hand (c.if-not-can_pay.ensures refl) e.loads e.advances.more
-    (wrong_marks _ _ c.args.table_sweep.now.tables.items _ _ _ _ _ _ c.tables_each.result given e.marks e.tabled e.unmarked) e.wrong
-
-pub returns-clause-goes_each : goal.returns-clause-goes_each
-returns-clause-goes_each g c = λ f e.
     let test = c.tables_each.ensures in
     let given = rw c.deref.ensures.value at c.if-not-are_given.ensures refl in
     table_goes c.args.table_sweep.now.tables.items c.requires.hand (c.if-not-can_pay.ensures refl) test.loads test.advances.more
-    (wrong_marks _ _ c.args.table_sweep.now.tables.items _ _ _ _ _ _ c.tables_each.result given test.marks test.tabled test.unmarked) (test.wrong_each f e)
+    (wrong_marks _ _ c.args.table_sweep.now.tables.items _ _ _ _ _ _ c.tables_each.result given test.marks test.tabled test.unmarked) test.wrong_each

@@ -1,17 +1,11 @@
-use Rattle.diag_sweep.proofs.Going.{goes_on, goes_on_each, gone_on}
+use Rattle.diag_sweep.proofs.Going.{goes_on, gone_on}
 use Rattle.diag_sweep.proofs.telling.tell_all.Goals as goal
 
 pub looks-preserved : goal.looks-preserved
-looks-preserved g c = gone_on c.looks.invariant c.tell_turn.ensures.goes c.tell_turn.ensures.advances c.tell_turn.ensures.goes_each
+looks-preserved g c = gone_on c.looks.invariant c.tell_turn.ensures.goes c.tell_turn.ensures.advances
 
 pub returns-in_err-tell_turn-clause-goes : goal.returns-in_err-tell_turn-clause-goes
-returns-in_err-tell_turn-clause-goes g c = goes_on c.looks.invariant.advances c.looks.invariant.goes c.tell_turn.ensures.goes
-
-pub returns-in_err-tell_turn-clause-goes_each : goal.returns-in_err-tell_turn-clause-goes_each
-returns-in_err-tell_turn-clause-goes_each g c = goes_on_each c.looks.invariant.each c.tell_turn.ensures.advances c.tell_turn.ensures.goes_each
+returns-in_err-tell_turn-clause-goes g c = goes_on c.looks.invariant.goes c.tell_turn.ensures.advances c.tell_turn.ensures.goes
 
 pub returns-then-not-branch-clause-goes : goal.returns-then-not-branch-clause-goes
-returns-then-not-branch-clause-goes g c = goes_on c.looks.invariant.advances c.looks.invariant.goes c.tell_turn.ensures.goes
-
-pub returns-then-not-branch-clause-goes_each : goal.returns-then-not-branch-clause-goes_each
-returns-then-not-branch-clause-goes_each g c = goes_on_each c.looks.invariant.each c.tell_turn.ensures.advances c.tell_turn.ensures.goes_each
+returns-then-not-branch-clause-goes g c = goes_on c.looks.invariant.goes c.tell_turn.ensures.advances c.tell_turn.ensures.goes

@@ -9,32 +9,21 @@ use Rattle.diag_sweep.proofs.telling.tell_turn.Goals as goal
 pub returns-clause-goes : goal.returns-clause-goes
 returns-clause-goes g c =
     let can = of_some (CanTell c.args.facts.now c.args.known.now.steps c.args.field.now) c.in-Ok.found c.in-Some.view c.in-Some.is c.in-Ok.ensures in
-    let e = c.screen_wires.ensures in
+    let test = c.screen_wires.ensures in
     let of = rw (← c.as_slice-feet.ensures.value) at can.field in
-    hang_goes 1 c.requires.hand (c.if-not-can_pay.ensures refl) e.loads e.advances.more
-    (told_unfit c.args.field.now _ _ _ _ _ _ _ _ c.screen_wires.result of e.marks e.stay e.told e.unmarked)
-    (told_unclear c.args.field.now _ _ _ _ _ _ _ _ c.screen_wires.result of e.marks_too e.stay_too e.told e.unmarked_too)
-    (e.unfit (is_step c.args.known.now.steps) (λ w on. step_has c.args.known.now.steps w (can.known w on)))
-    e.unclear
+    hang_goes 1 c.requires.hand (c.if-not-can_pay.ensures refl) test.loads test.advances.more
+    (told_unfit c.args.field.now _ _ _ _ _ _ _ _ c.screen_wires.result of test.marks test.stay test.told test.unmarked)
+    (told_unclear c.args.field.now _ _ _ _ _ _ _ _ c.screen_wires.result of test.marks_too test.stay_too test.told test.unmarked_too)
+    (λ f e. test.unfit_each f e (is_step c.args.known.now.steps) (λ w on. step_has c.args.known.now.steps w (can.known w on)))
+    test.unclear_each
 
-pub returns-clause-goes_each : goal.returns-clause-goes_each
-returns-clause-goes_each g c = λ f e.
+pub returns-in_err-screen_wires-clause-goes : goal.returns-in_err-screen_wires-clause-goes
+returns-in_err-screen_wires-clause-goes g c =
     let can = of_some (CanTell c.args.facts.now c.args.known.now.steps c.args.field.now) c.in-Ok.found c.in-Some.view c.in-Some.is c.in-Ok.ensures in
     let test = c.screen_wires.ensures in
     let of = rw (← c.as_slice-feet.ensures.value) at can.field in
     hang_goes 1 c.requires.hand (c.if-not-can_pay.ensures refl) test.loads test.advances.more
     (told_unfit c.args.field.now _ _ _ _ _ _ _ _ c.screen_wires.result of test.marks test.stay test.told test.unmarked)
     (told_unclear c.args.field.now _ _ _ _ _ _ _ _ c.screen_wires.result of test.marks_too test.stay_too test.told test.unmarked_too)
-    (test.unfit_each f e (is_step c.args.known.now.steps) (λ w on. step_has c.args.known.now.steps w (can.known w on)))
-    (test.unclear_each f e)
-
-pub returns-in_err-screen_wires-clause-goes_each : goal.returns-in_err-screen_wires-clause-goes_each
-returns-in_err-screen_wires-clause-goes_each g c = λ f e.
-    let can = of_some (CanTell c.args.facts.now c.args.known.now.steps c.args.field.now) c.in-Ok.found c.in-Some.view c.in-Some.is c.in-Ok.ensures in
-    let test = c.screen_wires.ensures in
-    let of = rw (← c.as_slice-feet.ensures.value) at can.field in
-    hang_goes 1 c.requires.hand (c.if-not-can_pay.ensures refl) test.loads test.advances.more
-    (told_unfit c.args.field.now _ _ _ _ _ _ _ _ c.screen_wires.result of test.marks test.stay test.told test.unmarked)
-    (told_unclear c.args.field.now _ _ _ _ _ _ _ _ c.screen_wires.result of test.marks_too test.stay_too test.told test.unmarked_too)
-    (test.unfit_each f e (is_step c.args.known.now.steps) (λ w on. step_has c.args.known.now.steps w (can.known w on)))
-    (test.unclear_each f e)
+    (λ f e. test.unfit_each f e (is_step c.args.known.now.steps) (λ w on. step_has c.args.known.now.steps w (can.known w on)))
+    test.unclear_each

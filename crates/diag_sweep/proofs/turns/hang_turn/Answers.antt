@@ -7,20 +7,8 @@ returns-in_default-learn_hangs-clause-goes g c =
     let settled = goes_then tested (goes_settled tested.hand c.settle_hangs.ensures) in
     goes_then settled (goes_learnt settled.hand c.learn_hangs.ensures.known c.learn_hangs.ensures.grows)
 
-pub returns-in_default-learn_hangs-clause-goes_each : goal.returns-in_default-learn_hangs-clause-goes_each
-returns-in_default-learn_hangs-clause-goes_each g c = λ f e.
-    let tested = (c.hang_load.ensures.goes_each f e) in
-    let settled = goes_then tested (goes_settled tested.hand c.settle_hangs.ensures) in
-    goes_then settled (goes_learnt settled.hand c.learn_hangs.ensures.known c.learn_hangs.ensures.grows)
-
 pub returns-clause-goes : goal.returns-clause-goes
 returns-clause-goes g c =
     let tested = c.hang_load.ensures.goes in
-    let settled = goes_then tested (goes_settled tested.hand c.settle_hangs.ensures) in
-    goes_then settled (goes_learnt settled.hand c.learn_hangs.ensures.known c.learn_hangs.ensures.grows)
-
-pub returns-clause-goes_each : goal.returns-clause-goes_each
-returns-clause-goes_each g c = λ f e.
-    let tested = (c.hang_load.ensures.goes_each f e) in
     let settled = goes_then tested (goes_settled tested.hand c.settle_hangs.ensures) in
     goes_then settled (goes_learnt settled.hand c.learn_hangs.ensures.known c.learn_hangs.ensures.grows)

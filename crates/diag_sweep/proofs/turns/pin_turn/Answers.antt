@@ -4,11 +4,5 @@ use Rattle.diag_sweep.proofs.turns.pin_turn.Goals as goal
 pub returns-in_default-clause-goes : goal.returns-in_default-clause-goes
 returns-in_default-clause-goes g c = goes_then c.pin_load.ensures.goes (goes_learnt c.pin_load.ensures.goes.hand c.learn_pins.ensures.known c.learn_pins.ensures.grows)
 
-pub returns-in_default-clause-goes_each : goal.returns-in_default-clause-goes_each
-returns-in_default-clause-goes_each g c = λ f e. goes_then (c.pin_load.ensures.goes_each f e) (goes_learnt (c.pin_load.ensures.goes_each f e).hand c.learn_pins.ensures.known c.learn_pins.ensures.grows)
-
 pub returns-clause-goes : goal.returns-clause-goes
 returns-clause-goes g c = goes_then c.pin_load.ensures.goes (goes_learnt c.pin_load.ensures.goes.hand c.learn_pins.ensures.known c.learn_pins.ensures.grows)
-
-pub returns-clause-goes_each : goal.returns-clause-goes_each
-returns-clause-goes_each g c = λ f e. goes_then (c.pin_load.ensures.goes_each f e) (goes_learnt (c.pin_load.ensures.goes_each f e).hand c.learn_pins.ensures.known c.learn_pins.ensures.grows)

@@ -3,6 +3,3 @@ use Rattle.diag_sweep.proofs.turns.pins_left.Goals as goal
 
 pub returns-then-knows_pins-clause-goes : goal.returns-then-knows_pins-clause-goes
 returns-then-knows_pins-clause-goes g c = goes_itself c.requires.hand
-
-pub returns-then-knows_pins-clause-goes_each : goal.returns-then-knows_pins-clause-goes_each
-returns-then-knows_pins-clause-goes_each g c = λ f e. goes_itself c.requires.hand

@@ -14,7 +14,7 @@ next_vector-requires-clause-limit g c = c.requires.fits.limit
 
 pub returns-in_err-next_vector-clause-keeps : goal.returns-in_err-next_vector-clause-keeps
 returns-in_err-next_vector-clause-keeps g c =
-    record { image = refl; copies = refl; store = c.in_err-next_vector.ensures.stays; machine = refl; loads = refl; failures = omega arith; narrows = λ f e. e }
+    record { image = refl; copies = refl; store = c.in_err-next_vector.ensures.stays; machine = refl; loads = refl; failures = omega arith; narrows = λ f e. e; tells = λ t. t }
 
 pub returns-in_err-next_vector-clause-fits : goal.returns-in_err-next_vector-clause-fits
 returns-in_err-next_vector-clause-fits g c =
@@ -33,7 +33,7 @@ returns-in_err-next_vector-clause-refused g c =
 
 pub returns-then-not-branch-clause-keeps : goal.returns-then-not-branch-clause-keeps
 returns-then-not-branch-clause-keeps g c =
-    record { image = refl; copies = refl; store = c.in_ok-next_vector.ensures.stays; machine = refl; loads = refl; failures = omega arith; narrows = λ f e. e }
+    record { image = refl; copies = refl; store = c.in_ok-next_vector.ensures.stays; machine = refl; loads = refl; failures = omega arith; narrows = λ f e. e; tells = λ t. t }
 
 pub returns-then-not-branch-clause-fits : goal.returns-then-not-branch-clause-fits
 returns-then-not-branch-clause-fits g c =
@@ -59,7 +59,7 @@ drive_row-requires-clause-pins g c = c.requires.pins
 pub returns-in_err-drive_row-clause-keeps : goal.returns-in_err-drive_row-clause-keeps
 returns-in_err-drive_row-clause-keeps g c =
     let e = c.in_err-drive_row.ensures in
-    record { image = e.image; copies = e.copies; store = c.in_ok-next_vector.ensures.stays; machine = e.machine; loads = e.loads; failures = e.failures; narrows = e.narrows }
+    record { image = e.image; copies = e.copies; store = c.in_ok-next_vector.ensures.stays; machine = e.machine; loads = e.loads; failures = e.failures; narrows = e.narrows; tells = e.tells }
 
 pub returns-in_err-drive_row-clause-fits : goal.returns-in_err-drive_row-clause-fits
 returns-in_err-drive_row-clause-fits g c =
@@ -85,7 +85,7 @@ pub returns-in_err-compare_row-clause-keeps : goal.returns-in_err-compare_row-cl
 returns-in_err-compare_row-clause-keeps g c =
     let e = c.in_ok-drive_row.ensures in
     let w = c.in_err-compare_row.ensures in
-    record { image = w.image ∙ e.image; copies = w.copies ∙ e.copies; store = c.in_ok-next_vector.ensures.stays; machine = e.machine; loads = e.loads; failures = e.failures; narrows = e.narrows }
+    record { image = w.image ∙ e.image; copies = w.copies ∙ e.copies; store = c.in_ok-next_vector.ensures.stays; machine = e.machine; loads = e.loads; failures = e.failures; narrows = e.narrows; tells = e.tells }
 
 pub returns-in_err-compare_row-clause-fits : goal.returns-in_err-compare_row-clause-fits
 returns-in_err-compare_row-clause-fits g c =
@@ -110,7 +110,7 @@ pub returns-clause-keeps : goal.returns-clause-keeps
 returns-clause-keeps g c =
     let e = c.in_ok-drive_row.ensures in
     let w = c.in_ok-compare_row.ensures in
-    record { image = w.image ∙ e.image; copies = w.copies ∙ e.copies; store = c.in_ok-next_vector.ensures.stays; machine = e.machine; loads = e.loads; failures = e.failures; narrows = e.narrows }
+    record { image = w.image ∙ e.image; copies = w.copies ∙ e.copies; store = c.in_ok-next_vector.ensures.stays; machine = e.machine; loads = e.loads; failures = e.failures; narrows = e.narrows; tells = e.tells }
 
 pub returns-clause-fits : goal.returns-clause-fits
 returns-clause-fits g c = c.in_ok-compare_row.ensures.fits

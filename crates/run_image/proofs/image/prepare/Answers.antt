@@ -17,9 +17,9 @@ pub returns-in_err-run-clause-took : goal.returns-in_err-run-clause-took
 returns-in_err-run-clause-took g c =
     let p = err_from_is_err_and c.from_residual-in_err-run.result c.from_residual-in_err-run.ensures.1 in
     let e = c.in_err-run.ensures in
-    λ store sink. rw (p.1, p.2) (load-stopped _ _ e.machine e.narrows store sink e.later _ e.not_counted e.refused)
+    λ store sink. rw (p.1, p.2) (load-stopped _ _ e.machine e.narrows e.tells store sink e.later _ e.not_counted e.refused)
 
 pub returns-clause-took : goal.returns-clause-took
 returns-clause-took g c =
     let e = c.in_ok-run.ensures in
-    λ store sink. load-took _ _ e.machine e.narrows store sink e.later _ e.counted
+    λ store sink. load-took _ _ e.machine e.narrows e.tells store sink e.later _ e.counted

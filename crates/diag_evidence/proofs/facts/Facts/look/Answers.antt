@@ -1,8 +1,9 @@
-use Rattle.std.proofs.Common.{◌≡◌, ◌∙◌, List, ap, subst, sym}
+use Rattle.std.proofs.Common.{◌≡◌, ◌∙◌, List, ap, refl, subst, sym}
 use Rattle.machine_shape.specs.Shape.{pins_of}
 use Rattle.machine_config.specs.Faulty.{IsRun}
 use Rattle.diag_evidence.specs.Looks.{look_drives}
 use Rattle.diag_evidence.proofs.Sessions.{on_ok}
+use Rattle.diag_evidence.proofs.Logging.{logs_as}
 use Rattle.diag_evidence.proofs.facts.Facts.look.Goals as goal
 
 pub returns-clause-looked : goal.returns-clause-looked
@@ -27,3 +28,13 @@ returns-clause-looked_each g c = on_ok c.take-looked.result c.take-looked.ensure
 
 pub returns-clause-session : goal.returns-clause-session
 returns-clause-session g c = on_ok c.take-looked.result c.take-looked.ensures.session (λ s. record { config = c.close_just.new.config.config; cycled = record { config = s.config; cycles = s.cycles ∙ ap look_drives c.requires.reads } })
+
+pub returns-clause-logged : goal.returns-clause-logged
+returns-clause-logged g c = on_ok c.take-looked.result c.take-looked.ensures.logged (λ log. let j = c.in_ok-close_just.ensures in record {
+  config = c.close_just.new.config.config;
+  shape = j.shape;
+  closed = j.closed;
+  off = j.off;
+  ticks = j.ticks;
+  logged = logs_as log (ap look_drives (c.requires.reads ∙ ap pins_of (sym c.requires.forest))) refl;
+})

@@ -4,6 +4,7 @@ use Rattle.machine_meaning.specs.Circuit.{Pins}
 use Rattle.diag_evidence.specs.Looks.{Sights, AreSights, ReadsEach, look_drives}
 use Rattle.diag_evidence.proofs.Rows.{whole_again, as_many, as_wide, drives_count, drives_wide}
 use Rattle.diag_evidence.proofs.Sessions.{on_ok}
+use Rattle.diag_evidence.proofs.Logging.{logs_as}
 use Rattle.diag_evidence.proofs.looks.Looks.take.Goals as goal
 
 pub read_rows-requires-clause-drives : goal.read_rows-requires-clause-drives
@@ -38,3 +39,10 @@ returns-clause-run_each g c =
     subst (λ (rows : List Pins). ReadsEach (Some f) c.args.config.now.config (look_drives c.args.self.now.pins) rows)
     (sym (whole_again c.self.inside.rows.len c.read_rows.new.rows c.self.inside.rows.items many c.self.inside.rows.ok.0))
     (subst (λ (drives : List Pins). ReadsEach (Some f) c.args.config.now.config drives c.read_rows.new.rows) (c.deref.ensures.value ∙ c.requires.drives) (each f e)))
+
+pub returns-clause-logged : goal.returns-clause-logged
+returns-clause-logged g c =
+    let many : length c.read_rows.new.rows ≡ length c.self.inside.rows.items =
+    as_many c.self.inside.rows.items c.read_rows.new.rows (c.read_rows.ensures.lengths ∙ ap (map length) c.deref_mut.ensures.value) in
+    on_ok c.read_rows.result c.read_rows.ensures.logged (λ log. logs_as log (c.deref.ensures.value ∙ c.requires.drives)
+    (whole_again c.self.inside.rows.len c.read_rows.new.rows c.self.inside.rows.items many c.self.inside.rows.ok.0))
