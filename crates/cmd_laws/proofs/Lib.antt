@@ -1,0 +1,3 @@
+-- For the laws of this crate alone.
+mod Chaining
+mod Bearing
