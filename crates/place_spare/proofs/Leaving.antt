@@ -39,25 +39,25 @@ module _ (m : Shape) (f : Faults) (k : ℕ) (few : count_of f ≤ k) (numbered :
 
   pins-left : (wanted : ℕ) → wanted + 2 * k ≤ pins_of m → AtLeast (IsSoundPinOf m f) wanted
   pins-left wanted have = left (touched m f) (IsSoundPinOf m f) (λ j. j) (pins_of m) wanted
-      (λ j within no. (within, untouched-sound m f (pin_wire m j) (subst (λ w. ¬ Contains (touched m f) w) (sym (pin-is m j)) no)))
+      (λ j within never. (within, untouched-sound m f (pin_wire m j) (subst (λ w. ¬ Contains (touched m f) w) (sym (pin-is m j)) never)))
       (λ i j less within same. omega (arith, less, same))
       (omega (arith, have, few-touched))
 
   lines-left : (c wanted : ℕ) → c < nodes_of m → wanted + 2 * k ≤ lines_of m c → AtLeast (IsWholeLineOf m f c) wanted
   lines-left c wanted node have = left (touched m f) (IsWholeLineOf m f c) (line_at m c) (lines_of m c) wanted
-      (λ j within no. (sites.line c j node within, untouched-whole m f (line_at m c j) no))
+      (λ j within never. (sites.line c j node within, untouched-whole m f (line_at m c j) never))
       (λ i j less within same. let up = sites.lines_ascend c i j less in omega (arith, up, same))
       (omega (arith, have, few-touched))
 
   ports-left : (c wanted : ℕ) → c < nodes_of m → wanted + 2 * k ≤ own_ports_of m c → AtLeast (IsSoundPort m f c) wanted
   ports-left c wanted node have = left (touched m f) (IsSoundPort m f c) (port_at m c) (own_ports_of m c) wanted
-      (λ j within no. (sites.port c j node within, untouched-sound m f (port_at m c j) no))
+      (λ j within never. (sites.port c j node within, untouched-sound m f (port_at m c j) never))
       (λ i j less within same. let up = sites.ports_ascend c i j less in omega (arith, up, same))
       (omega (arith, have, few-touched))
 
   tables-left : (wanted : ℕ) → wanted + 2 * k ≤ tables_of m → AtLeast (IsSoundTableOf m f) wanted
   tables-left wanted have = left (hit m f meanings numbered) (IsSoundTableOf m f) (λ t. t) (tables_of m) wanted
-      (λ t within no. (within, untouched-table m f meanings numbered t within no))
+      (λ t within never. (within, untouched-table m f meanings numbered t within never))
       (λ i j less within same. omega (arith, less, same))
       (omega (arith, have, few-hit))
 
