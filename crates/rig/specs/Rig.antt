@@ -18,6 +18,7 @@ use Rattle.rig.specs.declared.rig.AttachFail.TheVariants as attach
 use Rattle.rig.specs.declared.rig.RigFail.{RigFail}
 use Rattle.rig.specs.declared.rig.RigFail.TheVariants as work
 use Rattle.base_io.specs.Counts.{Rose, next_count}
+use Rattle.rig.specs.Names.{SpellsFaults}
 
 -- a machine as it was asked for
 pub record Asked : Type 0 where
@@ -142,6 +143,8 @@ pub record Attaches (machine : Asked) (old new : RigState) : Type 0 where
   pub asked : new.machine.asked ≡ old.machine.asked ++ machine ∷ []
   pub attached : new.machine.attached ≡ Some machine
   pub faults : IfSome new.machine.faults (AreFaultsOf machine.shape)
+  -- told faults are those of the name
+  pub named : SpellsFaults (old.machine.texts machine.name) machine.name machine.shape new.machine.faults
   pub session : new.session ≡ None
   pub past : new.past ≡ []
   pub refused : new.machine.refused ≡ old.machine.refused
