@@ -1,7 +1,7 @@
 -- A rig: a machine that is attached by name, loaded and driven.
 use Rattle.std.specs.Prelude.{◌≡◌, ℕ, ◌+◌, ◌<◌, ◌≤◌, List, [], ◌∷◌, ◌++◌, map, length, All, Option, None, Some}
 use Rattle.std.specs.Prelude.{IfSome, IsSomeAnd, option_map}
-use Rattle.std.specs.List.{AllByRecursion}
+use Rattle.std.specs.List.{AllByRecursion, sum_by}
 use Rattle.std.specs.Option.{option_map_or}
 use Rattle.machine_shape.specs.declared.Shape.{Shape}
 use Rattle.machine_shape.specs.Shape.{pins_of}
@@ -101,6 +101,10 @@ standing session = option_map_or (λ s. record { config = s.config; cycles = s.c
 -- the log: every session of the attached machine
 abbrev pub log_of : RigState → List Past
 log_of rig = rig.past ++ standing rig.session
+
+-- the number of cycles: those of all sessions in the log
+unfoldable pub cycles_made : RigState → ℕ
+cycles_made rig = sum_by (λ (s : Past). length s.cycles) (log_of rig)
 
 -- what was read in a session is the run of its configuration under these faults
 abbrev pub IsRunOf : Faults → Past → Type 0
