@@ -136,8 +136,8 @@ TakesFewCycles old new = new.loads + 1 < 2 ^ 64 →
     cycles_made new + most_cycles old.machine * old.loads ≤ cycles_made old + most_cycles old.machine * new.loads
 
 -- What calls that test a machine leave: the machine as it was, counts of failures and loads that didn't fall, few cycles for each
--- load, and all that was kept. What explains the log after them explained it before. Where what was kept is true of faults that are told, or that explain
--- the log after the calls, nothing is kept that isn't true of them.
+-- load, and all that was kept. What explains the log after them explained it before. Where what was kept is true of faults that are
+-- told, or that explain the log after the calls, nothing is kept that isn't true of them.
 pub record Advances (old new : RigState) (k l : Kept) : Type 0 where
   pub machine : new.machine ≡ old.machine
   pub later : old.failures ≤ new.failures
