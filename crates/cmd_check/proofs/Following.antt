@@ -4,7 +4,7 @@ use Rattle.base_io.specs.Store.{StoreState}
 use Rattle.machine_meaning.specs.Faults.{Faults}
 use Rattle.machine_image.specs.Images.{ImageValue}
 use Rattle.rig.specs.Rig.{RigState, Machine, ForEach}
-use Rattle.diag_check.specs.Soundly.{IsUnharmed, RunsSoundly, SoundIf, YesIf}
+use Rattle.diag_check.specs.Soundly.{FewIf, IsUnharmed, RunsSoundly, SoundIf, StandsBySurroundings, TakesForParts, YesIf}
 use Rattle.cmd_steps.specs.Vocabulary.{Outside, Took, Follows}
 use Rattle.cmd_steps.specs.declared.refusal.Stop.{Stop}
 use Rattle.cmd_steps.proofs.Keeping.{kept-gives}
@@ -23,6 +23,14 @@ sound-may old new machine sound each f (inr e) = (each f e).at f refl
 pub whole-may : (old new : RigState) {i : ImageValue} {yes : Bool} → new.machine ≡ old.machine → YesIf old.machine.faults i yes → ForEach new (λ told. YesIf told i yes) → (f : Faults) → MayHave f new → IsUnharmed f i → IsTrue yes
 whole-may old new machine whole each f (inl told) = whole.at f (sym (ap (λ (m : Machine). m.faults) machine) ∙ told)
 whole-may old new machine whole each f (inr e) = (each f e).at f refl
+
+pub ways-may : (old new : RigState) {i : ImageValue} {yes : Bool} → new.machine ≡ old.machine → YesIf old.machine.faults i yes → ForEach new (λ told. YesIf told i yes) → (f : Faults) → MayHave f new → StandsBySurroundings f i → IsTrue yes
+ways-may old new machine whole each f (inl told) = whole.ways f (sym (ap (λ (m : Machine). m.faults) machine) ∙ told)
+ways-may old new machine whole each f (inr e) = (each f e).ways f refl
+
+pub fewer-may : (old new : RigState) {i : ImageValue} {before after : ℕ} → new.machine ≡ old.machine → FewIf old.machine.faults i before after → ForEach new (λ told. FewIf told i before after) → (f : Faults) → MayHave f new → IsUnharmed f i → TakesForParts i before after
+fewer-may old new machine few each f (inl told) = few.at f (sym (ap (λ (m : Machine). m.faults) machine) ∙ told)
+fewer-may old new machine few each f (inr e) = (each f e).at f refl
 
 -- ---- the steps
 
@@ -43,4 +51,10 @@ module _ (files : List (List ℕ)) (begun : StoreState) (i : ImageValue) (result
       let machine = follows.machines in
       let narrows = narrows_by follows.later.log machine in
       kept-gives _ _ _ (tests_now i old.rig mid.rig) found (record { sound = found; loads = mid.rig.loads }) result old mid new took
-      (λ t. record { sound = λ f may. t.sound f (may-earlier f machine narrows may); whole = λ f may. t.whole f (may-earlier f machine narrows may); few = t.few }) same (rw is follows)
+      (λ t. record {
+        sound = λ f may. t.sound f (may-earlier f machine narrows may);
+        whole = λ f may. t.whole f (may-earlier f machine narrows may);
+        ways = λ f may. t.ways f (may-earlier f machine narrows may);
+        few = t.few;
+        fewer = λ f may. t.fewer f (may-earlier f machine narrows may);
+      }) same (rw is follows)

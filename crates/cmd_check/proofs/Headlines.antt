@@ -5,7 +5,7 @@ use Rattle.base_io.specs.Sink.{Wrote}
 use Rattle.machine_shape.specs.declared.Shape.{Shape}
 use Rattle.machine_meaning.specs.Vocabulary.{Faults, Covers, IsTight}
 use Rattle.machine_image.specs.Images.{ImageValue}
-use Rattle.diag_check.specs.Soundly.{IsUnharmed, TakesForParts}
+use Rattle.diag_check.specs.Soundly.{IsUnharmed, StandsBySurroundings, TakesForParts, TakesForWays}
 use Rattle.diag_list.specs.Possible.{MayHave}
 use Rattle.cmd_steps.specs.Vocabulary.{Outside, around, ends, reads_machine, reads_image}
 use Rattle.cmd_steps.proofs.QuietJobs.{line-ended}
@@ -25,8 +25,9 @@ module _ (machine name image : List ℕ) (old new : Outside) (text : List ℕ)
   answered : (loads : ℕ) (a : Answer) → answer_written (image ∷ machine ∷ []) old.store new.store new.rig loads i a text ends →
       (new.rig.loads ≡ loads → IsFound i old.rig.loads new.rig a) → ((f : Faults) → MayHave f new.rig → IsTrueUnder f i a) →
       ((f : Faults) → MayHave f new.rig → IsUnharmed f i → (a ≡ Sound) × TakesForParts i old.rig.loads loads) →
+      ((f : Faults) → MayHave f new.rig → StandsBySurroundings f i → (a ≡ Sound) × TakesForWays i old.rig.loads loads) →
       IsChecked machine name image old new
-  answered loads a at found right whole =
+  answered loads a at found right whole ways =
       let here = StandsLoaded (image ∷ machine ∷ []) old.store new.store new.rig loads in
       let line = line-ended (answer_line i.config.shape a) here text at in
       record {
@@ -42,6 +43,7 @@ module _ (machine name image : List ℕ) (old new : Outside) (text : List ℕ)
         written = subst (λ t. Wrote old.sink.written new.sink.written t) (line.0 ∙ ap (λ (s : Shape). answer_line s a) is.0) wrote;
         right = right;
         whole = λ f may unharmed. let all = whole f may unharmed in (all.0, rw line.1.1 all.1);
+        ways = λ f may stands. let all = ways f may stands in (all.0, rw line.1.1 all.1);
       }
 
   -- by the test, or by a list: a machine whose faults leave the image unharmed isn't listed
@@ -50,7 +52,7 @@ module _ (machine name image : List ℕ) (old new : Outside) (text : List ℕ)
       (machine_listed (image ∷ machine ∷ []) old.store new.store new.rig i t) text ends → IsChecked machine name image old new
   by-test t tried true found at =
       answered t.loads Sound at (λ loads. tested t tried found refl loads) (λ f may. tried.sound f may found)
-      (λ f may unharmed. (refl, tried.few))
+      (λ f may unharmed. (refl, tried.fewer f may unharmed)) (λ f may stands. (refl, tried.few))
   by-test t tried false found (inl h) = absurd h.1
   by-test t tried false found (inr (l, list, inl h)) = absurd h.1
   by-test t tried false found (inr (l, list, inr (a, said, at))) =
@@ -58,6 +60,7 @@ module _ (machine name image : List ℕ) (old new : Outside) (text : List ℕ)
       (λ f may. subst (λ (s : Shape). Covers s l.list.list f → IsTight s l.list.list f → IsTrueUnder f i a) list.shape (said.right f)
       (list.right.covers f may) (list.right.tight f may))
       (λ f may unharmed. absurd (false≢true (sym found ∙ tried.whole f may unharmed)))
+      (λ f may stands. absurd (false≢true (sym found ∙ tried.ways f may stands)))
 
 module _ (machine name image : List ℕ) (old new : Outside) where
   pub checked : (text : List ℕ) → new.store.asked ≡ old.store.asked ++ machine ∷ image ∷ [] → Wrote old.sink.written new.sink.written text → check_course machine name image (around old) (around new) text ends → IsChecked machine name image old new

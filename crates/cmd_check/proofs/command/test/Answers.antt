@@ -1,7 +1,7 @@
 use Rattle.std.proofs.Common.{refl}
 use Rattle.cmd_steps.proofs.Making.{rig-took}
 use Rattle.cmd_steps.proofs.RigFails.{rig-fails}
-use Rattle.cmd_check.proofs.Following.{sound-may, whole-may}
+use Rattle.cmd_check.proofs.Following.{fewer-may, sound-may, ways-may, whole-may}
 use Rattle.cmd_check.proofs.command.test.Goals as goal
 
 pub returns-in-Ok-clause-took : goal.returns-in-Ok-clause-took
@@ -12,7 +12,13 @@ returns-in-Ok-clause-took g c =
     let box1 = c.quick_check.new.rig in
     let r1 = (goal.Rig-dyn g (box1.vtable, box1.value)).rig_state box1.value in
     λ store sink. rig-took _ r0 r1 store sink e.machine e.narrows e.later c.in-Ok.sound
-    (record { sound = sound-may r0 r1 e.machine e.sound e.sound_each; whole = whole-may r0 r1 e.machine e.whole e.whole_each; few = e.loads })
+    (record {
+      sound = sound-may r0 r1 e.machine e.sound e.sound_each;
+      whole = whole-may r0 r1 e.machine e.whole e.whole_each;
+      ways = ways-may r0 r1 e.machine e.whole e.whole_each;
+      few = e.loads;
+      fewer = fewer-may r0 r1 e.machine e.few e.few_each;
+    })
 
 pub returns-in-Err-clause-took : goal.returns-in-Err-clause-took
 returns-in-Err-clause-took g c =
