@@ -9,9 +9,9 @@ use Rattle.design_netlist.specs.Rows.{AreRows}
 use Rattle.machine_image.specs.Images.{ImageValue, drive_of, image_row}
 use Rattle.machine_history.specs.Vocabulary.{History, IsHistoryOf, IsRunOver, LeavesAloneFor}
 use Rattle.rig.specs.Rig.{RigState, Explains, config_of, cycles_of, drives_of, readings_of}
-use Rattle.place_route.specs.Vocabulary.{IsRightImage, ReadsRows, IsRoutedInOrder}
+use Rattle.place_route.specs.Vocabulary.{IsRightImage, ReadsRows}
 use Rattle.place_pair.specs.Tenants.{AreTenants, StandApart}
-use Rattle.place_both.specs.Both.{AreBothRows, BothHaveRoom, IsImageForBoth, joint_of}
+use Rattle.place_both.specs.Both.{AreBothRows, BothHaveRoom, IsImageForBoth, IsRoutedForBoth}
 use Rattle.cmd_steps.specs.Vocabulary.{AreFirst, outputs_line, output_text, Outside, refusal_text, IsMachineText, IsDesignText}
 use Rattle.cmd_steps.specs.declared.refusal.Refusal.{Refusal}
 use Rattle.cmd_steps.specs.declared.refusal.Refusal.TheVariants.{Differ}
@@ -109,8 +109,8 @@ pub record IsDoneTwice (machine name design vectors : List ℕ) (old new : Outsi
   -- a pin of each copy for each input of the design, and so for each output, all different
   pub inputs : length image.inputs ≡ length draft.inputs + length draft.inputs
   pub outputs : length image.outputs ≡ length draft.outputs + length draft.outputs
-  -- no table is on and no crosspoint closed that the copies don't need, on the in-order plan of their joint network
-  pub routed : IsRoutedInOrder made.list.shape made.list.list (joint_of draft draft) image
+  -- no table is on and no crosspoint closed that the copies don't need
+  pub routed : IsRoutedForBoth made.list draft draft image
   -- for all vectors of the two copies, equal or not, the readings are the rows of both side by side
   pub image_right : (f : Faults) → Covers shape made.list.list f → ReadsRows f image (AreBothRows draft draft)
   -- the session has a cycle for each vector, driven on the input pins of both copies, and each row is both halves of its reading
