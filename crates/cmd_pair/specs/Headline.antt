@@ -39,8 +39,8 @@ pub record IsPaired (machine name first second vectors : List ℕ) (old new : Ou
   pub outputs : length image.outputs ≡ length first_draft.outputs + length second_draft.outputs
   -- no table is on and no crosspoint closed that isn't needed
   pub routed : IsRoutedForBoth made.list first_draft second_draft image
-  -- for all vectors the readings are the rows of both designs side by side
-  pub image_right : (f : Faults) → MayHave f new.rig → ReadsRows f image (AreBothRows first_draft second_draft)
+  -- for all vectors, and under all faults that the list covers, the readings are the rows of both designs side by side
+  pub image_right : (f : Faults) → Covers shape made.list.list f → ReadsRows f image (AreBothRows first_draft second_draft)
   pub as_the_machine_read : IsAsRead image all_vectors rows new.rig
   -- and so are the rows that were written
   pub exactly_the_outputs : (f : Faults) → MayHave f new.rig → AreBothRows first_draft second_draft all_vectors rows
@@ -48,9 +48,9 @@ pub record IsPaired (machine name first second vectors : List ℕ) (old new : Ou
   pub first_image : ImageValue
   pub second_image : ImageValue
   pub tenants : AreTenants image first_image second_image
-  pub apart : (f : Faults) → MayHave f new.rig → StandApart f image first_image second_image
-  pub first_right : (f : Faults) → MayHave f new.rig → IsRightImage f first_image first_draft
-  pub second_right : (f : Faults) → MayHave f new.rig → IsRightImage f second_image second_draft
+  pub apart : (f : Faults) → Covers shape made.list.list f → StandApart f image first_image second_image
+  pub first_right : (f : Faults) → Covers shape made.list.list f → IsRightImage f first_image first_draft
+  pub second_right : (f : Faults) → Covers shape made.list.list f → IsRightImage f second_image second_draft
   -- whatever the listed parts do, at any time: where the list covers the faults of each instant of a history, and the session's
   -- readings are the run over it, the rows are those of both designs
   pub listed_parts_at_will : (h : History) → IsHistoryOf shape h →

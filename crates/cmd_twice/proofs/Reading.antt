@@ -16,8 +16,9 @@ use Rattle.rig.proofs.Narrowing.{session_run}
 use Rattle.place_both.specs.Both.{AreBothRows}
 use Rattle.place_both.proofs.WhileAlone.{first-right, second-right}
 use Rattle.run_image.specs.Copying.{all_repeated, HalvesDiffer}
+use Rattle.run_image.specs.Laid.{AreLaidRows}
 use Rattle.run_image.specs.declared.copies.Copies.TheVariants.{Two}
-use Rattle.cmd_twice.specs.Twice.{IsImageForTwice}
+use Rattle.cmd_twice.specs.Twice.{IsImageForTwice, twice_laid}
 use Rattle.cmd_twice.specs.Headline.{AreFirstRows, AreRightWhileOneIsAlone, AreReadByBoth}
 use Rattle.cmd_twice.proofs.Doubles.{AreWide, half-wide, fronts-are, backs-are, read-wide, front-rows, never-differ}
 
@@ -121,3 +122,13 @@ pub whole-rows : (draft : NetlistData) (vectors rows : List (List Bool)) → Are
 whole-rows draft vectors rows wide wide_rows both =
     let r = front-rows draft vectors (all_repeated Two rows) wide both in
     subst (λ (rs : List (List Bool)). AreRows draft vectors rs) (sym r.2 ∙ fronts-are (length draft.outputs) rows wide_rows) r.1
+
+-- so rows of a log are the design's, whether or not their session still stands
+pub logged-rows : (draft : NetlistData) (d : DefectList) (i : ImageValue) → IsImageForTwice d draft i → (rig : RigState) (driven all rows : List (List Bool)) → AreLaidRows (twice_laid draft) rig i (all_repeated Two driven) (all_repeated Two all)
+    → rows ≡ take (length rows) all → (f : Faults) → Explains f rig → AreFirstRows draft driven rows
+logged-rows draft d i is rig driven all rows are front f e =
+    let read = are.read.read f (inr e) in
+    let taken : take (length all) (map (image_row i) read.0) ≡ all_repeated Two all = ap (take (length all)) (sym read.2) ∙ all-taken all in
+    let wide = wide-vectors (length draft.inputs) i driven is.both.inputs are.read.widths in
+    let wide_rows = wide-rows (length draft.outputs) i read.0 all is.both.outputs taken in
+    (all, whole-rows draft driven all wide wide_rows (are.right f (inr e)), front)

@@ -64,10 +64,12 @@ pub data StandsTwice (machine name design vectors : List ℕ) (old new : Outside
   no_rows : (made : Listed) (front rest : List ℕ) (refusal : Refusal) (n : ℕ) → IsListOfMachine machine name old new made
       → text_of made.list ++ outputs_line ≡ front ++ rest
       → Wrote old.sink.written new.sink.written (front ++ take n (refusal_text refusal)) → StandsTwice machine name design vectors old new
-  -- both, and rows that both copies have read, unless the rig has failed; and then whatever follows them
+  -- both, and rows that are the design's under each set of faults that explains all that was read, and that both copies have read,
+  -- unless the rig has failed; and then whatever follows them
   some_rows : (made : Listed) (draft : NetlistData) (driven rows : List (List Bool)) (rest : List ℕ)
       → AreOfFiles machine name design vectors old new made draft driven
       → Wrote old.sink.written new.sink.written (text_of made.list ++ (output_text rows ++ rest))
+      → ((f : Faults) → Explains f new.rig → AreFirstRows draft driven rows)
       → AreReadByBoth made.list draft driven rows new.rig ⊎ Rose old.rig.failures new.rig.failures
       → StandsTwice machine name design vectors old new
 
