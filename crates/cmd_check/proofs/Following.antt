@@ -4,7 +4,7 @@ use Rattle.base_io.specs.Store.{StoreState}
 use Rattle.machine_meaning.specs.Faults.{Faults}
 use Rattle.machine_image.specs.Images.{ImageValue}
 use Rattle.rig.specs.Rig.{RigState, Machine, ForEach}
-use Rattle.diag_check.specs.Soundly.{FewIf, IsUnharmed, RunsSoundly, SoundIf, StandsBySurroundings, TakesForParts, YesIf}
+use Rattle.diag_check.specs.Soundly.{FewIf, IsUnharmed, IsSoundUnder, SoundIf, StandsBySurroundings, TakesForParts, YesIf}
 use Rattle.cmd_steps.specs.Vocabulary.{Outside, Took, Follows}
 use Rattle.cmd_steps.specs.declared.refusal.Stop.{Stop}
 use Rattle.cmd_steps.proofs.Keeping.{kept-gives}
@@ -16,7 +16,7 @@ use Rattle.cmd_check.specs.Check.{image_tried, image_tested}
 
 -- ---- what is said of told faults, and of each set that explains what was read
 
-pub sound-may : (old new : RigState) {i : ImageValue} {yes : Bool} → new.machine ≡ old.machine → SoundIf old.machine.faults i yes → ForEach new (λ told. SoundIf told i yes) → (f : Faults) → MayHave f new → IsTrue yes → RunsSoundly f i
+pub sound-may : (old new : RigState) {i : ImageValue} {yes : Bool} → new.machine ≡ old.machine → SoundIf old.machine.faults i yes → ForEach new (λ told. SoundIf told i yes) → (f : Faults) → MayHave f new → IsTrue yes → IsSoundUnder f i
 sound-may old new machine sound each f (inl told) = sound.at f (sym (ap (λ (m : Machine). m.faults) machine) ∙ told)
 sound-may old new machine sound each f (inr e) = (each f e).at f refl
 

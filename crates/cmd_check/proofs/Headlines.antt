@@ -38,7 +38,8 @@ module _ (machine name image : List ℕ) (old new : Outside) (text : List ℕ)
         machine_is = read;
         attached = attached;
         image_of = is.0;
-        image_is = is.1;
+        is_image = is.1;
+        image_is = is.2;
         found = found line.1.1;
         written = subst (λ t. Wrote old.sink.written new.sink.written t) (line.0 ∙ ap (λ (s : Shape). answer_line s a) is.0) wrote;
         right = right;

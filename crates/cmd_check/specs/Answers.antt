@@ -8,7 +8,7 @@ use Rattle.machine_meaning.specs.Vocabulary.{IsFreeTable, Covers, IsOfUse, IsSea
 use Rattle.machine_defects.specs.Lists.{DefectList}
 use Rattle.machine_config.specs.Configuration.{is_closed, setting_of}
 use Rattle.machine_image.specs.Vocabulary.{ImageValue, IsFreeImage, Uses}
-use Rattle.diag_check.specs.Soundly.{RunsSoundly}
+use Rattle.diag_check.specs.Soundly.{IsSoundUnder}
 use Rattle.cmd_steps.specs.Lines.{as_line}
 use Rattle.cmd_check.specs.declared.answer.Answer.{Answer}
 use Rattle.cmd_check.specs.declared.answer.Answer.TheVariants.{Sound, Wire, Cross, Table}
@@ -58,9 +58,9 @@ pub record IsDoubtfulTable (m : Shape) (f : Faults) (t : ℕ) : Type 0 where
   pub not_standing : ¬ (IsSoundTable m f t × IsSeated m (IsStanding m f) (IsSoundCrossOf m f) t)
   pub not_served : ¬ (IsSoundTable m f t × IsServed m f (hextant_of m t))
 
--- Under these faults the image runs soundly; or the part that is named isn't sound, or is out of reach
+-- These faults leave the image alone, and it runs soundly under them; or the part that is named isn't sound, or is out of reach
 abbrev pub IsTrueUnder : Faults → ImageValue → Answer → Type 0
-IsTrueUnder f i Sound = RunsSoundly f i
+IsTrueUnder f i Sound = IsSoundUnder f i
 IsTrueUnder f i (Wire w) = IsDoubtfulWire i.config.shape f w.0
 IsTrueUnder f i (Cross x) = IsDoubtfulCross i.config.shape f x.0
 IsTrueUnder f i (Table t) = IsDoubtfulTable i.config.shape f t.0

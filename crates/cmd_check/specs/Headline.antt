@@ -3,7 +3,7 @@ use Rattle.std.specs.Prelude.{◌≡◌, ℕ, true, false, List, [], ◌∷◌, 
 use Rattle.base_io.specs.Vocabulary.{IfTold, Wrote}
 use Rattle.machine_shape.specs.declared.Shape.{Shape}
 use Rattle.machine_meaning.specs.Faults.{Faults}
-use Rattle.machine_image.specs.Images.{ImageValue, Reads}
+use Rattle.machine_image.specs.Images.{ImageValue, IsImage, Reads}
 use Rattle.rig.specs.Rig.{RigState}
 use Rattle.diag_check.specs.Soundly.{IsUnharmed, StandsBySurroundings, TakesForParts, TakesForWays}
 use Rattle.cmd_steps.specs.Vocabulary.{Outside, IsMachineText}
@@ -22,10 +22,11 @@ pub data IsFound (i : ImageValue) (before : ℕ) (rig : RigState) (a : Answer) :
       → IsByList l.list.list i a → rig.loads ≡ l.loads → IsFound i before rig a
 
 -- The machine of the text is attached under the name, and one line is written: that the image of the file is sound, or its first part
--- that isn't free on a list of the machine's defects. Whatever faults the machine may have, an image that is called sound runs
--- soundly under them, and a part that is in doubt isn't sound, or is out of reach; and where the image stands by its surroundings, it is
--- called sound, with at most 256 loads for each part and each involved node, and 8 for each crosspoint and 3 for each wire of the
--- surroundings. So it is where no fault is near the image and the machine is wide enough for it, with those 256 alone
+-- that isn't free on a list of the machine's defects. Whatever faults the machine may have, they leave an image that is called sound
+-- alone, so that it runs soundly under them, and a part that is in doubt isn't sound, or is out of reach; and where the image stands by
+-- its surroundings, it is called sound, with at most 256 loads for each part and each involved node, and 8 for each crosspoint and 3
+-- for each wire of the surroundings. So it is where no fault is near the image and the machine is wide enough for it, with those 256
+-- alone
 pub record IsChecked (machine name image : List ℕ) (old new : Outside) : Type 0 where
   pub shape : Shape
   pub given : ImageValue
@@ -34,6 +35,7 @@ pub record IsChecked (machine name image : List ℕ) (old new : Outside) : Type 
   pub machine_is : IfTold (old.store.contents machine) (λ bytes. IsMachineText bytes shape)
   pub attached : new.rig.machine.attached ≡ Some (record { shape = shape; name = name })
   pub image_of : given.config.shape ≡ shape
+  pub is_image : IsImage given
   pub image_is : IfTold (old.store.contents image) (λ bytes. Reads shape bytes given)
   pub found : IsFound given old.rig.loads new.rig answer
   pub written : Wrote old.sink.written new.sink.written (answer_line shape answer)

@@ -3,7 +3,7 @@ use Rattle.std.specs.Prelude.{ℕ, Bool, IsTrue}
 use Rattle.machine_meaning.specs.Faults.{Faults}
 use Rattle.machine_image.specs.Images.{ImageValue}
 use Rattle.rig.specs.Rig.{RigState}
-use Rattle.diag_check.specs.Soundly.{IsUnharmed, RunsSoundly, StandsBySurroundings, TakesForParts, TakesForWays}
+use Rattle.diag_check.specs.Soundly.{IsUnharmed, IsSoundUnder, StandsBySurroundings, TakesForParts, TakesForWays}
 use Rattle.diag_list.specs.Possible.{MayHave}
 use Rattle.cmd_steps.specs.Vocabulary.{Step, FailsOnRig}
 
@@ -12,11 +12,11 @@ pub record Tried : Type 0 where
   pub sound : Bool
   pub loads : ℕ
 
--- Whatever faults the machine may have: what is found sound runs soundly under them, and where they leave the image unharmed, or it
--- stands by its surroundings, it is found sound. It took few loads from so many that the rig counted before, and fewer where it is
--- unharmed
+-- Whatever faults the machine may have: what is found sound they leave alone, so that it runs soundly, and where they leave the image
+-- unharmed, or it stands by its surroundings, it is found sound. It took few loads from so many that the rig counted before, and fewer
+-- where it is unharmed
 pub record IsTried (i : ImageValue) (before : ℕ) (rig : RigState) (t : Tried) : Type 0 where
-  pub sound : (f : Faults) → MayHave f rig → IsTrue t.sound → RunsSoundly f i
+  pub sound : (f : Faults) → MayHave f rig → IsTrue t.sound → IsSoundUnder f i
   pub whole : (f : Faults) → MayHave f rig → IsUnharmed f i → IsTrue t.sound
   pub ways : (f : Faults) → MayHave f rig → StandsBySurroundings f i → IsTrue t.sound
   pub few : TakesForWays i before t.loads

@@ -29,11 +29,11 @@ fn prepare(alloc: Global, netlist: &Netlist) -> Result<Evaluation<'_>, AllocErro
 {
     let inputs = netlist.parts().inputs.as_slice().len();
     let outputs = netlist.parts().outputs.as_slice().len();
-    let eval = DesignEval::start(alloc, netlist)?;
-    let vectors = VectorText::new(alloc, inputs as u32)?;
     let vector = vec![in alloc; false; inputs]?;
     let row = vec![in alloc; false; outputs]?;
+    let vectors = VectorText::new(alloc, inputs as u32)?;
     let block = RowBlock::new(alloc, outputs as u32)?;
+    let eval = DesignEval::start(alloc, netlist)?;
     Ok(Evaluation {
         eval,
         vectors,
@@ -108,6 +108,26 @@ fn write_rows<S: Store, K: Sink>(
     Ok(())
 }
 
+// Opens the vectors, and writes the line `outputs` and a row for each vector.
+fn open_and_write<S: Store, K: Sink>(
+    rows: &mut Evaluation,
+    vectors: &str,
+    store: &mut S,
+    sink: &mut K,
+) -> Result<(), Stop>
+    requires { IsReady rows.old.eval.netlist rows.old }
+    // Whatever the rig is, and whatever files were read before.
+    ensures { (begun : StoreState) (files : List (List ℕ)) (rig : RigState) →
+        let old = outside (S.store_state store.old) rig (K.sink_state sink.old) in
+        let new = outside (S.store_state store.new) rig (K.sink_state sink.new) in
+        old.store.contents ≡ begun.contents → StandsIn files begun old.store →
+        Follows ⊥ (vectors.now ∷ []) (Unit {0}) (design_evaluated vectors.now files begun new.store rows.old.eval.netlist) result old new }
+{
+    open_vectors(store, vectors)?;
+    write(sink, b"outputs\n")?;
+    write_rows(rows, store, sink)
+}
+
 // Takes all memory for the rows of a netlist, opens the vectors, and writes the line `outputs` and a row for each vector.
 fn evaluate<S: Store, K: Sink>(
     alloc: Global,
@@ -124,9 +144,7 @@ fn evaluate<S: Store, K: Sink>(
         Follows ⊥ (vectors.now ∷ []) (Unit {0}) (design_evaluated vectors.now files begun new.store netlist.now) result old new }
 {
     let mut rows = prepare(alloc, netlist)?;
-    open_vectors(store, vectors)?;
-    write(sink, b"outputs\n")?;
-    write_rows(&mut rows, store, sink)
+    open_and_write(&mut rows, vectors, store, sink)
 }
 
 /// Reads a design and vectors, and writes the line `outputs` and a row for each vector.

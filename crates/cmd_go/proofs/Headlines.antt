@@ -48,7 +48,7 @@ module _ (machine name design vectors : List ℕ) (old new : Outside) where
             uses_nothing_listed = r.uses_nothing_listed;
             inputs = r.laid.0.inputs;
             outputs = r.laid.0.outputs;
-            image_right = r.right;
+            image_right = λ f covered. r.right f (subst (λ (s : Shape). Covers s r.made.list.list f) (sym r.list.shape) covered);
             as_the_machine_read = r.as_read;
             exactly_the_outputs = r.outputs;
             listed_parts_at_will = λ h faults covered ran.

@@ -33,8 +33,8 @@ pub record IsGone (machine name design vectors : List ℕ) (old new : Outside) :
   -- a pin for each input and each output of the design, all different
   pub inputs : length image.inputs ≡ length draft.inputs
   pub outputs : length image.outputs ≡ length draft.outputs
-  -- for all vectors
-  pub image_right : (f : Faults) → MayHave f new.rig → IsRightImage f image draft
+  -- for all vectors, under all faults that the list covers
+  pub image_right : (f : Faults) → Covers shape made.list.list f → IsRightImage f image draft
   pub as_the_machine_read : IsAsRead image all_vectors rows new.rig
   pub exactly_the_outputs : (f : Faults) → MayHave f new.rig → AreRows draft all_vectors rows
   -- whatever the listed parts do, at any time: where the list covers the faults of each instant of a history, and the session's

@@ -1,3 +1,2 @@
 -- For the laws of this crate alone.
-mod Chaining
 mod Bearing

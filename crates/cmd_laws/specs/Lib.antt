@@ -1,3 +1,2 @@
--- What calls that follow one another come to, and what a machine with parts to spare bears.
-pub mod OneMachine
+-- What a machine with parts to spare bears.
 pub mod Borne

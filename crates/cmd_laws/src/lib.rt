@@ -1,24 +1,12 @@
 //! Laws over the calls of the program.
 //!
-//! `one_machine_runs_the_design`: a machine that is diagnosed, compiled for and run, each by a call of its own, gives the design's
-//! rows. `few_faults_are_borne`: on a machine with 2 k of each resource to spare, `go`, `pair` and `twice` come to their end
-//! whatever the faults are, if they are at most k.
+//! `few_faults_are_borne`: on a machine with 2 k of each resource to spare, `go`, `pair` and `twice` come to their end whatever the
+//! faults are, if they are at most k.
 #![tactic(auto)]
 
 ghost use Rattle.std.specs.Prelude.{ℕ, List};
 ghost use Rattle.cmd_steps.specs.Outside.{Outside};
-ghost use Rattle.cmd_laws.specs.OneMachine.{RunsOnOneMachine};
 ghost use Rattle.cmd_laws.specs.Borne.{GoIsBorne, PairIsBorne, TwiceIsBorne};
-
-/// Where `diagnose` wrote a list, `compile` an image for a design and this list, and `run` with this image ended with status 0, the
-/// rows that `run` wrote are the design's, if one set of faults is one that the machine of the first call and that of the last may
-/// both have: so if one set explains all that was read by both.
-pub fn one_machine_runs_the_design()
-    ensures { (machine name defects design other image vectors : List ℕ) (asked diagnosed handed compiled again ran : Outside) →
-        RunsOnOneMachine machine name defects design other image vectors asked diagnosed handed compiled again ran }
-{
-    cmd_top::laws::compiled_images_run_the_design();
-}
 
 /// On a machine that has 2 k of each resource to spare, right words and files lead to status 0 or out of memory, if some set of at
 /// most k faults is one that the machine may have (of `twice`, one that explains all that was read), no count of failures rose, and

@@ -2,7 +2,7 @@
 use Rattle.std.proofs.Common.{◌≡◌, ℕ, List, [], ◌∷◌, ◌++◌, Result, Ok, Err, OnOk, sym, subst}
 use Rattle.base_io.specs.Sink.{Wrote}
 use Rattle.machine_shape.specs.declared.Shape.{Shape}
-use Rattle.machine_meaning.specs.Vocabulary.{Covers}
+use Rattle.machine_meaning.specs.Vocabulary.{Covers, Faults}
 use Rattle.machine_history.specs.Vocabulary.{IsHistoryOf}
 use Rattle.machine_meaning.proofs.Faultless.{covers_none}
 use Rattle.machine_history.proofs.RowsOver.{clean, clean_faultless}
@@ -35,7 +35,8 @@ module _ (machine name first second vectors : List ℕ) (old new : Outside) wher
   paired text asked wrote at =
       let h = done.has-done (words machine name first second vectors) old new text wrote at in
       let r = h.ran.2.2 in
-      let both = r.laid.0 in (
+      let both = r.laid.0 in
+      let here : (f : Faults) → Covers h.shape r.made.list.list f → Covers r.made.list.shape r.made.list.list f = λ f. subst (λ (s : Shape). Covers s r.made.list.list f) (sym r.list.shape) in (
         record {
           shape = h.shape;
           first_draft = h.ran.0;
@@ -54,17 +55,17 @@ module _ (machine name first second vectors : List ℕ) (old new : Outside) wher
           inputs = both.inputs;
           outputs = both.outputs;
           routed = both.routed;
-          image_right = r.right;
+          image_right = λ f covered. r.right f (here f covered);
           as_the_machine_read = r.as_read;
           exactly_the_outputs = r.outputs;
           first_image = both.first_image;
           second_image = both.second_image;
           tenants = both.tenants;
-          apart = λ f told. both.apart f (r.covers f told);
-          first_right = λ f told. both.first_right f (r.covers f told);
-          second_right = λ f told. both.second_right f (r.covers f told);
+          apart = λ f covered. both.apart f (here f covered);
+          first_right = λ f covered. both.first_right f (here f covered);
+          second_right = λ f covered. both.second_right f (here f covered);
           listed_parts_at_will = λ hist faults covered ran.
-              r.over hist (subst (λ (s : Shape). IsHistoryOf s hist) (sym r.list.shape) faults) (λ cycle instant. subst (λ (s : Shape). Covers s r.made.list.list (hist cycle instant)) (sym r.list.shape) (covered cycle instant)) ran;
+              r.over hist (subst (λ (s : Shape). IsHistoryOf s hist) (sym r.list.shape) faults) (λ cycle instant. here (hist cycle instant) (covered cycle instant)) ran;
           first_while_alone = λ hist n left ran.
               first-right r.made.list h.ran.0 h.ran.2.0 r.image both r.vectors r.rows new.rig r.widths r.as_read.drives r.as_read.rows_are (both.first_right clean (covers_none clean_faultless)) hist n left ran;
           second_while_alone = λ hist n left ran.

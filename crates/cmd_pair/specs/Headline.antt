@@ -8,13 +8,13 @@ use Rattle.design_netlist.specs.declared.netlist_data.NetlistData.{NetlistData}
 use Rattle.machine_image.specs.Images.{ImageValue}
 use Rattle.machine_history.specs.Vocabulary.{History, IsHistoryOf, IsRunOver}
 use Rattle.rig.specs.Rig.{cycles_of, drives_of, readings_of}
-use Rattle.place_route.specs.Vocabulary.{IsRightImage, ReadsRows, IsRoutedInOrder}
+use Rattle.place_route.specs.Vocabulary.{IsRightImage, ReadsRows}
 use Rattle.place_pair.specs.Tenants.{AreTenants, StandApart}
 use Rattle.cmd_steps.specs.Vocabulary.{Outside, IsMachineText, IsDesignText}
 use Rattle.diag_list.specs.Possible.{MayHave, TakesFewLoadsOn}
 use Rattle.diag_list.specs.Lists.{Listed}
 use Rattle.run_image.specs.Headline.{IsAskedInOrder, IsWrittenWhole, UsesNothingListed, IsAsRead}
-use Rattle.place_both.specs.Both.{AreBothRows, BothHaveRoom, joint_of}
+use Rattle.place_both.specs.Both.{AreBothRows, BothHaveRoom, IsRoutedForBoth}
 use Rattle.place_both.specs.Alone.{AreRightWhileAlone}
 
 -- Of the rig's one session: its configuration, with a list of input pins and a list of output pins, is `image`. The parts of it
@@ -37,10 +37,10 @@ pub record IsPaired (machine name first second vectors : List ℕ) (old new : Ou
   -- a pin for each input of the first design and then of the second, and so for each output, all different
   pub inputs : length image.inputs ≡ length first_draft.inputs + length second_draft.inputs
   pub outputs : length image.outputs ≡ length first_draft.outputs + length second_draft.outputs
-  -- no table is on and no crosspoint closed that the designs don't need, on the in-order plan of their joint network
-  pub routed : IsRoutedInOrder made.list.shape made.list.list (joint_of first_draft second_draft) image
-  -- for all vectors the readings are the rows of both designs side by side
-  pub image_right : (f : Faults) → MayHave f new.rig → ReadsRows f image (AreBothRows first_draft second_draft)
+  -- no table is on and no crosspoint closed that isn't needed
+  pub routed : IsRoutedForBoth made.list first_draft second_draft image
+  -- for all vectors, and under all faults that the list covers, the readings are the rows of both designs side by side
+  pub image_right : (f : Faults) → Covers shape made.list.list f → ReadsRows f image (AreBothRows first_draft second_draft)
   pub as_the_machine_read : IsAsRead image all_vectors rows new.rig
   -- and so are the rows that were written
   pub exactly_the_outputs : (f : Faults) → MayHave f new.rig → AreBothRows first_draft second_draft all_vectors rows
@@ -48,9 +48,9 @@ pub record IsPaired (machine name first second vectors : List ℕ) (old new : Ou
   pub first_image : ImageValue
   pub second_image : ImageValue
   pub tenants : AreTenants image first_image second_image
-  pub apart : (f : Faults) → MayHave f new.rig → StandApart f image first_image second_image
-  pub first_right : (f : Faults) → MayHave f new.rig → IsRightImage f first_image first_draft
-  pub second_right : (f : Faults) → MayHave f new.rig → IsRightImage f second_image second_draft
+  pub apart : (f : Faults) → Covers shape made.list.list f → StandApart f image first_image second_image
+  pub first_right : (f : Faults) → Covers shape made.list.list f → IsRightImage f first_image first_draft
+  pub second_right : (f : Faults) → Covers shape made.list.list f → IsRightImage f second_image second_draft
   -- whatever the listed parts do, at any time: where the list covers the faults of each instant of a history, and the session's
   -- readings are the run over it, the rows are those of both designs
   pub listed_parts_at_will : (h : History) → IsHistoryOf shape h →

@@ -22,7 +22,7 @@ module _ (machine defects image : List ℕ) (old new : Outside) where
     asked = asked;
     machine_is = subst (λ (s : Shape). IfTold (old.store.contents machine) (λ bytes. IsMachineText bytes s)) (sym listed.0) read;
     list_is = subst (λ (s : Shape). IfTold (old.store.contents defects) (λ bytes. IsDefectsText s bytes d)) (sym listed.0) listed.1;
-    image_is = subst (λ (s : Shape). IfTold (old.store.contents image) (λ bytes. Reads s bytes i)) (sym listed.0) given.1;
+    image_is = subst (λ (s : Shape). IfTold (old.store.contents image) (λ bytes. Reads s bytes i)) (sym listed.0) given.2;
     few = few;
     repair = is;
     written = subst (λ t. Wrote old.sink.written new.sink.written t) (first ∙ (ap (λ t. image_bytes j ++ t) h.0 ∙ append-nil (image_bytes j))) wrote;

@@ -28,16 +28,17 @@ module _ (machine name image vectors : List ℕ) (old new : Outside) where
         asked = asked;
         machine_is = read;
         attached = attached;
-        image_is = is.1;
+        is_image = is.1;
+        image_is = is.2;
         are_all = run.all;
         written = subst (λ t. Wrote old.sink.written new.sink.written t) run.text_is wrote;
         config = rows.session.config;
         drives = rows.session.drives;
         rows_are = rows.session.rows_are;
         rows_right = rows.has.are;
-        left_alone = λ is_image h none n alone left faultless ran_over run.
+        left_alone = λ h none n alone left faultless ran_over run.
             ap (take n) rows.session.rows_are ∙ take-map (image_row i) n (readings_of (cycles_of new.rig))
-            ∙ image_runs_alone i is_image h none faultless n rows.has.vectors _ alone left
+            ∙ image_runs_alone i is.1 h none faultless n rows.has.vectors _ alone left
             (subst (λ ds. IsRunOver h i.config ds (readings_of (cycles_of new.rig))) rows.session.drives ran_over) run
             ∙ sym (take-map (image_row i) n alone);
         loads = run.loaded;

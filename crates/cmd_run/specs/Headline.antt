@@ -20,17 +20,18 @@ pub record IsRan (machine name image vectors : List ℕ) (old new : Outside) : T
   pub asked : new.store.asked ≡ old.store.asked ++ machine ∷ image ∷ vectors ∷ []
   pub machine_is : IfTold (old.store.contents machine) (λ bytes. IsMachineText bytes shape)
   pub attached : new.rig.machine.attached ≡ Some (record { shape = shape; name = name })
+  pub is_image : IsImage loaded
   pub image_is : IfTold (old.store.contents image) (λ bytes. Reads shape bytes loaded)
   pub are_all : AreAll (length loaded.inputs) (old.store.contents vectors) all_vectors
   pub written : Wrote old.sink.written new.sink.written (output_text rows)
   pub config : config_of new.rig ≡ Some loaded.config
   pub drives : drives_of (cycles_of new.rig) ≡ map (drive_of loaded) all_vectors
   pub rows_are : rows ≡ map (image_row loaded) (readings_of (cycles_of new.rig))
-  -- and where the machine's faults are told, the readings are the machine's under them
+  -- whatever faults the machine may have, the readings are the machine's under them
   pub rows_right : AreRowsOf new.rig loaded all_vectors rows
   -- Where the readings are a run over a history that leaves the image, in itself, alone for n cycles, the first n rows are those of
   -- its run without faults
-  pub left_alone : IsImage loaded → (h : History) (none : Faults) (n : ℕ) (alone : List Pins) → LeavesAloneFor n h loaded loaded →
+  pub left_alone : (h : History) (none : Faults) (n : ℕ) (alone : List Pins) → LeavesAloneFor n h loaded loaded →
       IsFaultless none → IsRunOver h loaded.config (drives_of (cycles_of new.rig)) (readings_of (cycles_of new.rig)) →
       IsRun none loaded.config (map (drive_of loaded) all_vectors) alone → take n rows ≡ take n (map (image_row loaded) alone)
   -- one load was made in all

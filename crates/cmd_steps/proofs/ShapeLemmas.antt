@@ -60,5 +60,5 @@ one-list told bytes m d other is shape right gives =
 
 pub one-image : (told : Told) (bytes : List ℕ) (m : Shape) (i other : ImageValue) → told ≡ holds bytes → i.config.shape ≡ m → IsImage i → image_bytes i ≡ bytes → (reads_image told m).gives other → i ≡ other
 one-image told bytes m i other is shape right same gives =
-    let text : Reads m bytes other = rw is at gives.1 in
+    let text : Reads m bytes other = rw is at gives.2 in
     text.only i right shape same

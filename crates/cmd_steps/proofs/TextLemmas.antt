@@ -84,7 +84,7 @@ no-image m told text is refusal stops = absurd stops
 
 pub of-image : (m : Shape) → IsOfFile (λ told. reads_image told m)
 of-image m = record {
-  gives = λ told text is i h. (h.0, IfTold-with told _ _ is (λ bytes same. rw (← same.0) h.1));
+  gives = λ told text is i h. (h.0, h.1, IfTold-with told _ _ is (λ bytes same. rw (← same.0) h.2));
   stops = no-image m;
   fails = λ told. tt;
   lacks = λ told. tt;

@@ -120,7 +120,8 @@ NoImage told m refused.Memory = Unit {0}
 NoImage told m refusal = ⊥
 
 abbrev pub reads_image : Told → Shape → Step ImageValue
-reads_image told m = record { stops = NoImage told m; gives = λ i. (i.config.shape ≡ m) × IfTold told (λ bytes. Reads m bytes i) }
+reads_image told m =
+    record { stops = NoImage told m; gives = λ i. (i.config.shape ≡ m) × IsImage i × IfTold told (λ bytes. Reads m bytes i) }
 
 -- ---- the machine is attached
 

@@ -1,6 +1,6 @@
 -- What a `twice` has written wherever it ends, and where the copies differ, from its course.
-use Rattle.std.proofs.Common.{◌≡◌, ◌⊎◌, ◌+◌, ◌∙◌, ℕ, Bool, List, [], ◌∷◌, ◌++◌, map, flat_map, length, take, drop, refl, sym, ap, subst, inl, inr, arith, append_assoc, append-nil, length-append, Some}
-use Rattle.std.proofs.lemmas.List.{take-append-drop, map-append}
+use Rattle.std.proofs.Common.{◌≡◌, ◌⊎◌, ◌+◌, ◌∙◌, ℕ, Bool, List, [], ◌∷◌, ◌++◌, map, flat_map, length, take, drop, refl, sym, ap, subst, inl, inr, arith, append_assoc, append-nil, length-append, take_all, Some}
+use Rattle.std.proofs.lemmas.List.{take_at, take-append-drop, map-append}
 use Rattle.base_io.specs.Vocabulary.{Rose, Wrote}
 use Rattle.machine_shape.specs.declared.Shape.{Shape}
 use Rattle.machine_meaning.specs.Vocabulary.{Covers, Faults}
@@ -22,8 +22,8 @@ use Rattle.run_image.specs.Laid.{rows_work}
 use Rattle.run_image.specs.declared.copies.Copies.TheVariants.{Two}
 use Rattle.run_image.proofs.Copied.{repeated-count}
 use Rattle.cmd_twice.specs.Twice.{IsImageForTwice, lays_twice, twice_laid, twice_course}
-use Rattle.cmd_twice.specs.Headline.{AreReadByBoth, StandsTwice, nothing, no_rows, some_rows, ReadDifferently}
-use Rattle.cmd_twice.proofs.Reading.{read-by-both, never-alarmed, first-taken, more-taken, all-taken}
+use Rattle.cmd_twice.specs.Headline.{AreFirstRows, AreReadByBoth, StandsTwice, nothing, no_rows, some_rows, ReadDifferently}
+use Rattle.cmd_twice.proofs.Reading.{read-by-both, never-alarmed, first-taken, more-taken, all-taken, logged-rows}
 
 -- ---- the rows so far
 
@@ -40,33 +40,36 @@ module _ (vectors : List ℕ) (old new : Outside) (draft : NetlistData) (l : Lis
     pub rows : List (List Bool)
     pub text_is : text ≡ flat_map row_line rows
     pub first : AreFirstOf driven
+    pub outputs : (f : Faults) → Explains f new.rig → AreFirstRows draft driven rows
     pub read : AreReadByBoth l.list draft driven rows new.rig ⊎ Rose old.rig.failures new.rig.failures
 
   first-of : (driven : List (List Bool)) → AreFirst (share Two (length i.inputs)) (old.store.contents vectors) driven → AreFirstOf driven
   first-of driven first = subst (λ (k : ℕ). AreFirst k (old.store.contents vectors) driven) is.width first
 
+  -- rows that the session has read
+  by-session : (text : List ℕ) (driven rows : List (List Bool)) → text ≡ flat_map row_line rows → AreFirstOf driven → AreReadByBoth l.list draft driven rows new.rig → SoFar text
+  by-session text driven rows text_is first read =
+      record { driven = driven; rows = rows; text_is = text_is; first = first; outputs = read.exactly_the_outputs; read = inl read }
+
   from-read : (text : List ℕ) → HasReadRows work text → SoFar text
-  from-read text h = record {
-    driven = h.has.vectors;
-    rows = h.has.rows;
-    text_is = h.has.text_is;
-    first = first-of h.has.vectors h.has.first;
-    read = inl (read-by-both l.list draft i is h.has.vectors new.rig h.session.config h.session.drives h.has.are.read.widths covers h.has.rows
-        (ap (take (length h.has.rows)) (sym h.session.rows_are) ∙ all-taken h.has.rows));
-  }
+  from-read text h =
+      by-session text h.has.vectors h.has.rows h.has.text_is (first-of h.has.vectors h.has.first)
+      (read-by-both l.list draft i is h.has.vectors new.rig h.session.config h.session.drives h.has.are.read.widths covers h.has.rows
+      (ap (take (length h.has.rows)) (sym h.session.rows_are) ∙ all-taken h.has.rows))
+
+  -- the session is lost: what it had read stands in the log
+  by-log : (text : List ℕ) (driven rows all : List (List Bool)) → text ≡ flat_map row_line rows → AreFirstOf driven → rows ≡ take (length rows) all → work.are driven all → Rose old.rig.failures new.rig.failures → SoFar text
+  by-log text driven rows all text_is first front are lost =
+      record { driven = driven; rows = rows; text_is = text_is; first = first; outputs = logged-rows draft l.list i is new.rig driven all rows are front; read = inr lost }
 
   -- one more reading differs, behind these rows and perhaps others that wait
   from-apart : (text : List ℕ) (driven rows more : List (List Bool)) → text ≡ flat_map row_line rows
       → (all : List (List Bool)) → take (length rows) (all_repeated Two all ++ more) ≡ all_repeated Two rows
       → (apart : ReadsApart (old.store.contents vectors) i new.rig driven all) → more ≡ apart.reading ∷ [] → SoFar text
-  from-apart text driven rows more text_is all taken apart behind = record {
-    driven = driven ++ apart.vector ∷ [];
-    rows = rows;
-    text_is = text_is;
-    first = first-of (driven ++ apart.vector ∷ []) apart.next;
-    read = inl (read-by-both l.list draft i is (driven ++ apart.vector ∷ []) new.rig apart.session.config apart.session.drives apart.widths covers rows
-        (ap (take (length rows)) (sym apart.session.rows_are ∙ ap (λ (m : List (List Bool)). all_repeated Two all ++ m) (sym behind)) ∙ taken));
-  }
+  from-apart text driven rows more text_is all taken apart behind =
+      by-session text (driven ++ apart.vector ∷ []) rows text_is (first-of (driven ++ apart.vector ∷ []) apart.next)
+      (read-by-both l.list draft i is (driven ++ apart.vector ∷ []) new.rig apart.session.config apart.session.drives apart.widths covers rows
+      (ap (take (length rows)) (sym apart.session.rows_are ∙ ap (λ (m : List (List Bool)). all_repeated Two all ++ m) (sym behind)) ∙ taken))
 
   -- rows and those that wait, before a further reading
   some-taken : (rows others more : List (List Bool)) → take (length rows) (all_repeated Two (rows ++ others) ++ more) ≡ all_repeated Two rows
@@ -79,21 +82,18 @@ module _ (vectors : List ℕ) (old new : Outside) (draft : NetlistData) (l : Lis
   so-far text (writes line) h rose = by-line h.session
     where
       by-line : work.session h.vectors (h.rows ++ h.row ∷ h.more) ⊎ (work.differs h.vectors (h.rows ++ h.row ∷ h.more) ⊎ work.lost) → SoFar text
-      by-line (inl session) = record {
-        driven = h.vectors;
-        rows = h.rows;
-        text_is = h.text_is;
-        first = first-of h.vectors h.first;
-        read = inl (read-by-both l.list draft i is h.vectors new.rig session.config session.drives h.are.read.widths covers h.rows
-            (ap (take (length h.rows)) (sym session.rows_are) ∙ more-taken h.rows (h.row ∷ h.more)));
-      }
+      by-line (inl session) =
+          by-session text h.vectors h.rows h.text_is (first-of h.vectors h.first)
+          (read-by-both l.list draft i is h.vectors new.rig session.config session.drives h.are.read.widths covers h.rows
+          (ap (take (length h.rows)) (sym session.rows_are) ∙ more-taken h.rows (h.row ∷ h.more)))
       by-line (inr (inl apart)) =
           from-apart text h.vectors h.rows (apart.reading ∷ []) h.text_is (h.rows ++ h.row ∷ h.more) (some-taken h.rows (h.row ∷ h.more) (apart.reading ∷ [])) apart refl
-      by-line (inr (inr lost)) = record { driven = h.vectors; rows = h.rows; text_is = h.text_is; first = first-of h.vectors h.first; read = inr lost }
+      by-line (inr (inr lost)) =
+          by-log text h.vectors h.rows (h.rows ++ h.row ∷ h.more) h.text_is (first-of h.vectors h.first) (sym (take_at h.rows (h.row ∷ h.more) (length h.rows) refl)) h.are lost
   so-far text (refuses (refused.Vectors line kind)) h rose = from-read text h.0
   so-far text (refuses refused.Store) h rose = from-read text h.0
   so-far text (refuses refused.Rig) h rose =
-      record { driven = h.0.vectors; rows = h.0.rows; text_is = h.0.text_is; first = first-of h.0.vectors h.0.first; read = inr (rose refl) }
+      by-log text h.0.vectors h.0.rows h.0.rows h.0.text_is (first-of h.0.vectors h.0.first) (sym (take_all (length h.0.rows) h.0.rows (omega arith))) h.0.are (rose refl)
   so-far text (refuses refused.Memory) h rose = from-read text h.0
   so-far text (refuses refused.Differ) h rose =
       from-apart text h.0.vectors h.0.rows (h.1.reading ∷ []) h.0.text_is h.0.rows (first-taken h.0.rows (h.1.reading ∷ [])) h.1 refl
@@ -170,7 +170,7 @@ module _ (machine name design vectors : List ℕ) (old new : Outside) (text more
         (record { list = record { shape = m; machine_is = read; attached = attached; is_listed = list }; design_is = gives; first = so.first })
         (wrote-as (text_of l.list ++ (output_text so.rows ++ more))
         (ap (λ (s : List ℕ). s ++ more) (is ∙ ap (λ (s : List ℕ). text_of l.list ++ s) rows) ∙ append_assoc (text_of l.list) (output_text so.rows) more))
-        so.read
+        so.outputs so.read
 
   pub stands-twice : twice_course machine name design vectors (around old) (around new) text next → Stands
   stands-twice (inl h) = let s = stopped (reads_machine (old.store.contents machine)) next h.1 in refused-first s.0 h.0 s.1

@@ -16,8 +16,9 @@ use Rattle.rig.proofs.Narrowing.{session_run}
 use Rattle.place_both.specs.Both.{AreBothRows}
 use Rattle.place_both.proofs.WhileAlone.{first-right, second-right}
 use Rattle.run_image.specs.Copying.{all_repeated, HalvesDiffer}
+use Rattle.run_image.specs.Laid.{AreLaidRows}
 use Rattle.run_image.specs.declared.copies.Copies.TheVariants.{Two}
-use Rattle.cmd_twice.specs.Twice.{IsImageForTwice}
+use Rattle.cmd_twice.specs.Twice.{IsImageForTwice, twice_laid}
 use Rattle.cmd_twice.specs.Headline.{AreFirstRows, AreRightWhileOneIsAlone, AreReadByBoth}
 use Rattle.cmd_twice.proofs.Doubles.{AreWide, half-wide, fronts-are, backs-are, read-wide, front-rows, never-differ}
 
@@ -91,7 +92,7 @@ module _ (d : DefectList) (draft : NetlistData) (image : ImageValue) (is : IsIma
     backs : take (length rows) (map (drop m) raw) ≡ rows
     backs = take-map (drop m) (length rows) raw ∙ (ap (map (drop m)) readings ∙ backs-are m rows rows-wide)
 
-    one-copy : AreRightWhileOneIsAlone rig image is.both.first_image is.both.second_image draft driven rows
+    pub one-copy : AreRightWhileOneIsAlone rig image is.both.first_image is.both.second_image draft driven rows
     one-copy h (inl left) ran =
         let r = first-right d draft draft image is.both (all_repeated Two driven) raw rig widths drives refl (is.both.first_right clean (covers_none clean_faultless)) h (length rows) left ran in
         (r.0, subst (λ (vs : List (List Bool)). AreRows draft vs r.0) (fronts-are n driven wide) r.1, sym fronts ∙ r.2)
@@ -99,12 +100,13 @@ module _ (d : DefectList) (draft : NetlistData) (image : ImageValue) (is : IsIma
         let r = second-right d draft draft image is.both (all_repeated Two driven) raw rig widths drives refl (is.both.second_right clean (covers_none clean_faultless)) h (length rows) left ran in
         (r.0, subst (λ (vs : List (List Bool)). AreRows draft vs r.0) (backs-are n driven wide) r.1, sym backs ∙ r.2)
 
-    outputs : (f : Faults) → Explains f rig → AreFirstRows draft driven rows
+    pub outputs : (f : Faults) → Explains f rig → AreFirstRows draft driven rows
     outputs f e =
         let r = front-rows draft driven raw wide (both-rows f e) in
         (r.0, r.1, sym fronts ∙ ap (take (length rows)) r.2)
 
-    pub read-by-both : AreReadByBoth d draft driven rows rig
+    -- its image is this one
+    abbrev pub read-by-both : AreReadByBoth d draft driven rows rig
     read-by-both = record {
       image = image;
       laid = is.both;
@@ -120,3 +122,13 @@ pub whole-rows : (draft : NetlistData) (vectors rows : List (List Bool)) → Are
 whole-rows draft vectors rows wide wide_rows both =
     let r = front-rows draft vectors (all_repeated Two rows) wide both in
     subst (λ (rs : List (List Bool)). AreRows draft vectors rs) (sym r.2 ∙ fronts-are (length draft.outputs) rows wide_rows) r.1
+
+-- so rows of a log are the design's, whether or not their session still stands
+pub logged-rows : (draft : NetlistData) (d : DefectList) (i : ImageValue) → IsImageForTwice d draft i → (rig : RigState) (driven all rows : List (List Bool)) → AreLaidRows (twice_laid draft) rig i (all_repeated Two driven) (all_repeated Two all)
+    → rows ≡ take (length rows) all → (f : Faults) → Explains f rig → AreFirstRows draft driven rows
+logged-rows draft d i is rig driven all rows are front f e =
+    let read = are.read.read f (inr e) in
+    let taken : take (length all) (map (image_row i) read.0) ≡ all_repeated Two all = ap (take (length all)) (sym read.2) ∙ all-taken all in
+    let wide = wide-vectors (length draft.inputs) i driven is.both.inputs are.read.widths in
+    let wide_rows = wide-rows (length draft.outputs) i read.0 all is.both.outputs taken in
+    (all, whole-rows draft driven all wide wide_rows (are.right f (inr e)), front)

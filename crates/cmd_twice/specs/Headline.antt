@@ -9,9 +9,9 @@ use Rattle.design_netlist.specs.Rows.{AreRows}
 use Rattle.machine_image.specs.Images.{ImageValue, drive_of, image_row}
 use Rattle.machine_history.specs.Vocabulary.{History, IsHistoryOf, IsRunOver, LeavesAloneFor}
 use Rattle.rig.specs.Rig.{RigState, Explains, config_of, cycles_of, drives_of, readings_of}
-use Rattle.place_route.specs.Vocabulary.{IsRightImage, ReadsRows, IsRoutedInOrder}
+use Rattle.place_route.specs.Vocabulary.{IsRightImage, ReadsRows}
 use Rattle.place_pair.specs.Tenants.{AreTenants, StandApart}
-use Rattle.place_both.specs.Both.{AreBothRows, BothHaveRoom, IsImageForBoth, joint_of}
+use Rattle.place_both.specs.Both.{AreBothRows, BothHaveRoom, IsImageForBoth, IsRoutedForBoth}
 use Rattle.cmd_steps.specs.Vocabulary.{AreFirst, outputs_line, output_text, Outside, refusal_text, IsMachineText, IsDesignText}
 use Rattle.cmd_steps.specs.declared.refusal.Refusal.{Refusal}
 use Rattle.cmd_steps.specs.declared.refusal.Refusal.TheVariants.{Differ}
@@ -64,10 +64,12 @@ pub data StandsTwice (machine name design vectors : List ℕ) (old new : Outside
   no_rows : (made : Listed) (front rest : List ℕ) (refusal : Refusal) (n : ℕ) → IsListOfMachine machine name old new made
       → text_of made.list ++ outputs_line ≡ front ++ rest
       → Wrote old.sink.written new.sink.written (front ++ take n (refusal_text refusal)) → StandsTwice machine name design vectors old new
-  -- both, and rows that both copies have read, unless the rig has failed; and then whatever follows them
+  -- both, and rows that are the design's under each set of faults that explains all that was read, and that both copies have read,
+  -- unless the rig has failed; and then whatever follows them
   some_rows : (made : Listed) (draft : NetlistData) (driven rows : List (List Bool)) (rest : List ℕ)
       → AreOfFiles machine name design vectors old new made draft driven
       → Wrote old.sink.written new.sink.written (text_of made.list ++ (output_text rows ++ rest))
+      → ((f : Faults) → Explains f new.rig → AreFirstRows draft driven rows)
       → AreReadByBoth made.list draft driven rows new.rig ⊎ Rose old.rig.failures new.rig.failures
       → StandsTwice machine name design vectors old new
 
@@ -109,8 +111,8 @@ pub record IsDoneTwice (machine name design vectors : List ℕ) (old new : Outsi
   -- a pin of each copy for each input of the design, and so for each output, all different
   pub inputs : length image.inputs ≡ length draft.inputs + length draft.inputs
   pub outputs : length image.outputs ≡ length draft.outputs + length draft.outputs
-  -- no table is on and no crosspoint closed that the copies don't need, on the in-order plan of their joint network
-  pub routed : IsRoutedInOrder made.list.shape made.list.list (joint_of draft draft) image
+  -- no table is on and no crosspoint closed that the copies don't need
+  pub routed : IsRoutedForBoth made.list draft draft image
   -- for all vectors of the two copies, equal or not, the readings are the rows of both side by side
   pub image_right : (f : Faults) → Covers shape made.list.list f → ReadsRows f image (AreBothRows draft draft)
   -- the session has a cycle for each vector, driven on the input pins of both copies, and each row is both halves of its reading

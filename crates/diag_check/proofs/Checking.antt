@@ -21,7 +21,7 @@ use Rattle.diag_check.specs.Fields.{IsFewFor}
 use Rattle.diag_check.specs.Looks.{AreRoutesKnown, KeepsTableOf, AreSeated, RoutesIf, TablesIf, FieldIf, WholeIf, FewerIf, TakesForTables, TakesInField, TakesAtMost, TakesAround, HasClosed, HasTablesOn}
 use Rattle.diag_check.specs.Near.{AreSurroundings}
 use Rattle.diag_check.specs.Skeleton.{HasSkeleton}
-use Rattle.diag_check.specs.Soundly.{KeepsRoutes, KeepsTables, KeepsParts, SoundIf, YesIf, FewIf, RunsSoundly, IsUnharmed, StandsBySurroundings, HasSurroundings}
+use Rattle.diag_check.specs.Soundly.{KeepsRoutes, KeepsTables, KeepsParts, SoundIf, YesIf, FewIf, IsSoundUnder, IsUnharmed, StandsBySurroundings, HasSurroundings}
 use Rattle.diag_check.specs.Used.{AreUsed, AreInvolved}
 use Rattle.diag_check.proofs.Covering.{on_within, used_within}
 use Rattle.machine_image.proofs.Keyed.{of_set, to_set}
@@ -147,7 +147,7 @@ first_on false b e = e
 -- ---- the answer
 
 pub sound_if : (told : Option Faults) (k l : Kept) (i : ImageValue) (answer : Bool) → ((f : Faults) → HoldsFor k f) → ((f : Faults) → told ≡ Some f → HoldsFor k f → HoldsFor l f) → (IsTrue answer → KeepsParts l i) →
-    ((f : Faults) → HoldsFor l f → KeepsParts l i → RunsSoundly f i) → SoundIf told i answer
+    ((f : Faults) → HoldsFor l f → KeepsParts l i → IsSoundUnder f i) → SoundIf told i answer
 sound_if told k l i answer nothing holds_on keeps law = record { at = λ f is so. law f (holds_on f is (nothing f)) (keeps so) }
 
 pub yes_if : (told : Option Faults) (k : Kept) (i : ImageValue) (answer : Bool) → ((f : Faults) → HoldsFor k f) → WholeIf told k i answer → YesIf told i answer

@@ -1,5 +1,5 @@
 -- A list of all that an image doesn't use covers the faults, where its parts are kept.
-use Rattle.std.proofs.Common.{◌≡◌, ◌≢◌, ◌⊎◌, ℕ, ◌+◌, ◌<◌, ◌≤◌, ◌++◌, ◌&&◌, Bool, true, false, not, Some, None, List, length, get_or, refl, sym, ap, ◌∙◌, subst, inl, inr, arith, ◌==◌, IsSome, is_some}
+use Rattle.std.proofs.Common.{◌≡◌, ◌≢◌, ◌⊎◌, ℕ, ◌+◌, ◌<◌, ◌≤◌, ◌++◌, ◌&&◌, Bool, true, false, not, Some, None, Option, List, length, get_or, refl, sym, ap, ◌∙◌, subst, inl, inr, arith, ◌==◌, IsSome, is_some}
 use Rattle.std.specs.List.{range_with_len, filter}
 use Rattle.std.specs.FinMap as map
 use Rattle.std.specs.FinSet as set
@@ -18,6 +18,7 @@ use Rattle.machine_meaning.specs.Vocabulary.{Faults, stuck_register, Shorted, De
 use Rattle.machine_config.specs.declared.Setting.{Setting}
 use Rattle.machine_config.specs.Configuration.{is_closed, setting_of}
 use Rattle.machine_image.specs.Vocabulary.{ImageValue, IsImage, IsFreeImage, Uses, at_pin, at_tap, at_line, at_table}
+use Rattle.machine_history.specs.Tenants.{LeavesAlone}
 use Rattle.diag_evidence.specs.Kept.{Kept, HoldsFor}
 use Rattle.diag_check.specs.Soundly.{KeepsParts}
 use Rattle.diag_check.specs.Used.{AreUsed}
@@ -39,6 +40,9 @@ listed_is bad n q l =
     ∙ any-filter_same (λ y. y == q) bad (bad q) (λ y e. ap bad (let same : y ≡ q = grind (arith, nat_tests, e) in same)) (range_with_len 0 n)
     ∙ ap (λ b. bad q && b) (list_any_at (λ y. y == q) (range_with_len 0 n) q 0 within here)
     ∙ and_true (bad q)
+
+not_open : {o : Option Bool} → o ≡ None → o ≡ Some false → ⊥
+not_open e f = cc
 
 unless : (b : Bool) → not b ≡ false → b ≡ true
 unless true e = refl
@@ -110,6 +114,16 @@ module _ (i : ImageValue) (used : List Bool) (is : IsImage i) (are : AreUsed i u
         by : (w ≡ u) ⊎ (w ≡ u → ⊥) → w ≡ u
         by (inl e) = e
         by (inr differ) = absurd (apart w u p q differ s)
+
+    -- so they leave the image, in itself, alone
+    pub left_alone : LeavesAlone f i i
+    left_alone = record {
+      crosses = λ x on e. not_open (holds.crosses x (keeps.routes.crosses x on)) e;
+      clear = clear_wire;
+      apart = same_pair;
+      cells = λ t a on b. holds.cells t a (keeps.tables.cells t a on b);
+      registers = λ t s on latched. holds.registers t (keeps.tables.registers t s on latched);
+    }
 
     pub others_cover : Covers m others no_registers
     others_cover = record {

@@ -5,6 +5,7 @@ use Rattle.machine_config.specs.declared.Setting.{Setting}
 use Rattle.machine_config.specs.Vocabulary.{is_closed, setting_of, IsRun}
 use Rattle.machine_image.specs.Vocabulary.{ImageValue, drive_of, image_row, Uses, Part, IsPartOf, IsInvolved, IsWideEnough}
 use Rattle.machine_image.specs.Vocabulary.{IsSurroundingWire, IsSurroundingCross}
+use Rattle.machine_history.specs.Tenants.{LeavesAlone}
 use Rattle.diag_evidence.specs.Kept.{Kept, keeps_cross, keeps_wire, keeps_pair, keeps_cell, keeps_register}
 
 -- For every list of vectors on its input pins, with 1 on all other pins, the image reads at its output pins under these faults what
@@ -13,6 +14,12 @@ pub record RunsSoundly (f : Faults) (i : ImageValue) : Type 0 where
   pub alike : (none : Faults) → IsFaultless none → (vectors : List (List Bool)) (reads others : List Pins) →
       IsRun f i.config (map (drive_of i) vectors) reads → IsRun none i.config (map (drive_of i) vectors) others →
       map (image_row i) reads ≡ map (image_row i) others
+
+-- These faults leave the image, in itself, alone: no part of it is faulty, and no wire that it uses is shorted to a stuck one or to
+-- another of them. So it runs soundly under them
+pub record IsSoundUnder (f : Faults) (i : ImageValue) : Type 0 where
+  pub alone : LeavesAlone f i i
+  pub runs : RunsSoundly f i
 
 -- its closed crosspoints, its used wires and each two of these are kept
 pub record KeepsRoutes (k : Kept) (i : ImageValue) : Type 0 where
@@ -29,9 +36,9 @@ pub record KeepsParts (k : Kept) (i : ImageValue) : Type 0 where
   pub routes : KeepsRoutes k i
   pub tables : KeepsTables k i
 
--- where the faults are told: yes means that the image runs soundly under them
+-- where the faults are told: yes means that they leave the image alone, and so that it runs soundly under them
 pub record SoundIf (told : Option Faults) (i : ImageValue) (yes : Bool) : Type 0 where
-  pub at : (f : Faults) → told ≡ Some f → IsTrue yes → RunsSoundly f i
+  pub at : (f : Faults) → told ≡ Some f → IsTrue yes → IsSoundUnder f i
 
 -- under these faults each part of the image is sound: the wires that it uses, its closed crosspoints, its switched-on tables
 pub record PartsAreSound (f : Faults) (i : ImageValue) : Type 0 where

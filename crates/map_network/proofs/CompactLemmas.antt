@@ -8,7 +8,7 @@ use Rattle.map_network.specs.declared.source.Source.{Source}
 use Rattle.map_network.specs.declared.source.Source.TheVariants.{Input, Table}
 use Rattle.map_network.specs.declared.network.NetTable.{NetTable}
 use Rattle.map_network.specs.declared.network.Network.{Network}
-use Rattle.map_network.specs.Vocabulary.{no_table, table_at, IsSourceOf, IsCombinational, IsLatched, IsPath, alone, onward, IsNetwork, number_of, cell_at, bit_of, truth, IsNetworkValuation, outputs_in, next_state, first_state, RowsFrom, AreRows, is_dropped, rank, renamed, renamed_table, kept_tables, compacted, named_by, AreRanks, IsKept, IsClosed, IsCompacted, DoesSame, IsReduced, IsUnread}
+use Rattle.map_network.specs.Vocabulary.{no_table, table_at, IsSourceOf, IsCombinational, IsLatched, IsPath, alone, onward, IsNetwork, number_of, cell_at, bit_of, truth, IsNetworkValuation, outputs_in, next_state, first_state, RowsFrom, AreRows, is_dropped, rank, renamed, renamed_table, kept_tables, compacted, named_by, AreRanks, AreKept, IsKept, IsClosed, IsCompacted, DoesSame, IsReduced, IsUnread, Reads, AllLead, LeadsToOutput, is_read, is_shown}
 use Rattle.map_network.proofs.ValuationLemmas.{one_rows}
 
 -- rows are those of another network too, if each of its valuations gives one of the other's, with the same outputs and a next state that goes with its own
@@ -33,6 +33,7 @@ same_none n is = record {
   network = is;
   rows = λ vs rs. (λ q. q, λ q. q);
   fewer = omega arith;
+  shallow = λ depth deep. deep;
   inputs = refl;
   outputs = refl;
 }
@@ -42,6 +43,7 @@ same_then n m k a b = record {
   network = b.network;
   rows = λ vs rs. (let f = a.rows vs rs in let g = b.rows vs rs in (λ q. g.0 (f.0 q), λ q. f.1 (g.1 q)));
   fewer = (let l = a.fewer in let e = b.fewer in omega arith);
+  shallow = λ depth deep. b.shallow depth (a.shallow depth deep);
   inputs = b.inputs ∙ a.inputs;
   outputs = b.outputs ∙ a.outputs;
 }
@@ -51,6 +53,7 @@ reduced_same n m r = record {
   network = r.network;
   rows = r.rows;
   fewer = (let l = r.less in omega arith);
+  shallow = r.shallow;
   inputs = r.inputs;
   outputs = r.outputs;
 }
@@ -184,6 +187,16 @@ kept_less (true ∷ ds) zero lj e = let h = kept_le ds in omega arith
 kept_less (false ∷ ds) zero lj e = absurd (no_both (sym e))
 kept_less (true ∷ ds) (suc j) lj e = let h = kept_less ds j (omega arith) e in omega arith
 kept_less (false ∷ ds) (suc j) lj e = let h = kept_less ds j (omega arith) e in omega arith
+
+rank_place : (ds : List Bool) (k : ℕ) → k < kept_in ds → rank ds (place ds k) ≡ k
+unfolding place
+rank_place [] k lk = absurd (omega arith)
+rank_place (true ∷ ds) k lk = rank_place ds k lk
+rank_place (false ∷ ds) zero lk = refl
+rank_place (false ∷ ds) (suc k) lk = ap suc (rank_place ds k (omega arith))
+
+pub kept_of : (gone : List Bool) (ss : List Source) (x : ℕ) → AreKept gone ss → Contains ss (Table x) → is_dropped gone x ≡ false
+kept_of gone ss x are c = subst (IsKept gone) (get_or_default ss c.0 (Input 0) (Table x) c.1 ∙ c.2) (are c.0 c.1)
 
 module _ (n : Network) (is : IsNetwork n) (dropped : List Bool) (closed : IsClosed dropped n.tables n.outputs) (f : ℕ → ℕ) (ranks : (j : ℕ) → j < length dropped → f j ≡ rank dropped j) where
   -- the smaller network
@@ -321,7 +334,36 @@ module _ (n : Network) (is : IsNetwork n) (dropped : List Bool) (closed : IsClos
     inputs = refl;
     outputs = length-map n.outputs (renamed f);
     less = let h = kept_less dropped j (omega (arith, closed.len)) e in omega (arith, count, closed.len);
+    shallow = λ depth deep k d q. deep (place dropped k) d (was_path q);
   }
+
+  -- what leads to an output is kept
+  kept_lead : {x : ℕ} → LeadsToOutput n x → is_dropped dropped x ≡ false
+  kept_lead (is_shown {j = x} c) = kept_of dropped n.outputs x closed.outputs c
+  kept_lead (is_read {i = i} {j = x} q l) = kept_of dropped (table_at n i).ins x (closed.tables i q.within (kept_lead l)) q.at
+
+  renamed_in : (ss : List Source) (x : ℕ) → Contains ss (Table x) → Contains (map (renamed f) ss) (Table (f x))
+  renamed_in ss x c = (c.0, omega (arith, c.1, length-map ss (renamed f)), get_or-map (renamed f) ss c.0 (Table x) (Table (f x)) c.1 ∙ ap (renamed f) c.2)
+
+  reads_small : (i x : ℕ) → is_dropped dropped i ≡ false → Reads n i x → Reads small (f i) (f x)
+  reads_small i x kept q = record {
+    within = low i q.within kept;
+    at = subst (λ (t : NetTable). Contains t.ins (Table (f x))) (sym (at_new (f i) (low i q.within kept) ∙ ap (λ k. renamed_table f (table_at n k)) (back i q.within kept))) (renamed_in (table_at n i).ins x q.at);
+  }
+
+  -- and leads to it then
+  lead_small : {x : ℕ} → LeadsToOutput n x → LeadsToOutput small (f x)
+  lead_small (is_shown {j = x} c) = is_shown (renamed_in n.outputs x c)
+  lead_small (is_read {i = i} {j = x} q l) = is_read (reads_small i x (kept_lead l) q) (lead_small l)
+
+  new_name : (k : ℕ) → k < length small.tables → f (place dropped k) ≡ k
+  new_name k lk = let p = placed k lk in ranks (place dropped k) (omega (arith, p.0, closed.len)) ∙ rank_place dropped k (omega (arith, count))
+
+  all_lead_small : ((j : ℕ) → j < length n.tables → is_dropped dropped j ≡ false → LeadsToOutput n j) → AllLead small
+  all_lead_small each k lk = let p = placed k lk in subst (LeadsToOutput small) (new_name k lk) (lead_small (each (place dropped k) p.0 p.1))
 
 pub compacted_reduced : (n m : Network) (dropped : List Bool) → IsNetwork n → IsClosed dropped n.tables n.outputs → IsCompacted n dropped m → (j : ℕ) → j < length n.tables → is_dropped dropped j ≡ true → IsReduced n m
 compacted_reduced n m dropped is closed c j lj e = subst (IsReduced n) (sym c.is) (small_reduced n is dropped closed (named_by c.ranks) c.are.each j lj e)
+
+pub compacted_leads : (n m : Network) (dropped : List Bool) → IsNetwork n → IsClosed dropped n.tables n.outputs → IsCompacted n dropped m → ((j : ℕ) → j < length n.tables → is_dropped dropped j ≡ false → LeadsToOutput n j) → AllLead m
+compacted_leads n m dropped is closed c each = subst AllLead (sym c.is) (all_lead_small n is dropped closed (named_by c.ranks) c.are.each each)

@@ -20,5 +20,7 @@ pub mod CompactLemmas
 mod ReaderLemmas
 mod AddressLemmas
 mod ComposeLemmas
+mod LeadLemmas
 mod ReducedLemmas
+mod PruneLemmas
 mod SpreadLemmas

@@ -2,14 +2,15 @@
 use Rattle.std.proofs.Common.{◌≡◌, ◌⊎◌, Bool, ℕ, zero, suc, ◌<◌, ◌≤◌, List, [], ◌∷◌, ◌++◌, true, false, length, get_or, set, replicate, refl, sym, ap, subst, ◌∙◌, inl, inr, arith}
 use Rattle.std.specs.List.{Contains}
 use Rattle.std.proofs.lemmas.Bool.{cases_eq, cases_lt}
-use Rattle.std.proofs.lemmas.List.{get_or_default, get_or-set_same, get_or-set_other, get_or-replicate, length-replicate, get_or_past}
+use Rattle.std.proofs.lemmas.List.{get_or-set_same, get_or-set_other, get_or-replicate, length-replicate, get_or_past}
 use Rattle.std.proofs.lemmas.List.Elements.{Contains-append_left, Contains-append_right}
 use Rattle.map_network.specs.declared.source.Source.{Source}
-use Rattle.map_network.specs.declared.source.Source.TheVariants.{Input, Table}
+use Rattle.map_network.specs.declared.source.Source.TheVariants.{Table}
 use Rattle.map_network.specs.declared.network.NetTable.{NetTable}
 use Rattle.map_network.specs.declared.network.Network.{Network}
-use Rattle.map_network.specs.Vocabulary.{IsNetwork, Reads, in_tables, IsPutOn, Puts, none, more, is_dropped, AreKept, IsKept, IsClosed, StillReads, IsMerge, Merges, merges}
+use Rattle.map_network.specs.Vocabulary.{IsNetwork, Reads, in_tables, IsPutOn, Puts, none, more, is_dropped, IsClosed, StillReads, IsMerge, Merges, merges}
 use Rattle.map_network.proofs.SourceLemmas.{has_both, of_among}
+use Rattle.map_network.proofs.CompactLemmas.{kept_of}
 use Rattle.map_network.proofs.PutLemmas.{net, at_reader, at_other, apart, same_length, same_marks, same_tables, after_puts}
 
 no_both : true ≡ false → ⊥
@@ -19,9 +20,6 @@ no_both e = cc
 pub record IsClean (n : Network) (gone : List Bool) : Type 0 where
   pub tables : (i x : ℕ) → is_dropped gone i ≡ false → Reads n i x → is_dropped gone x ≡ false
   pub outputs : (x : ℕ) → Contains n.outputs (Table x) → is_dropped gone x ≡ false
-
-kept_of : (gone : List Bool) (ss : List Source) (x : ℕ) → AreKept gone ss → Contains ss (Table x) → is_dropped gone x ≡ false
-kept_of gone ss x are c = subst (IsKept gone) (get_or_default ss c.0 (Input 0) (Table x) c.1 ∙ c.2) (are c.0 c.1)
 
 pub clean_of : (inputs : ℕ) (ts : List NetTable) (outputs : List Source) (gone : List Bool) → IsClosed gone ts outputs → IsClean (net inputs ts outputs) gone
 clean_of inputs ts outputs gone closed = record {

@@ -8,7 +8,7 @@ use Rattle.map_network.specs.declared.source.Source.{Source}
 use Rattle.map_network.specs.declared.source.Source.TheVariants.{Input, Table}
 use Rattle.map_network.specs.declared.network.NetTable.{NetTable}
 use Rattle.map_network.specs.declared.network.Network.{Network}
-use Rattle.map_network.specs.Vocabulary.{no_table, IsSourceOf, IsCombinational, IsLatched, IsPath, alone, onward, IsNetwork, truth, IsNetworkValuation, AreRows, Reads, CanJoin, in_tables, IsPut, Puts, none, more, IsUnread}
+use Rattle.map_network.specs.Vocabulary.{no_table, IsSourceOf, IsCombinational, IsLatched, IsPath, alone, onward, IsNetwork, IsNoDeeper, truth, IsNetworkValuation, AreRows, Reads, CanJoin, in_tables, IsPut, Puts, none, more, IsUnread}
 use Rattle.map_network.proofs.PathLemmas.{no_loop}
 use Rattle.map_network.proofs.SourceLemmas.{not_itself, from_both}
 use Rattle.map_network.proofs.JoinLemmas.{joined_value, IsLike, like_rows}
@@ -87,7 +87,7 @@ module _ (inputs : ℕ) (old : List NetTable) (outputs : List Source) (j r : ℕ
       by i q (inr d) = d (can.alone i (record { within = subst (λ n. i < n) same_length q.within; at = subst (λ (t : NetTable). Contains t.ins (Table j)) (at_other i d) q.at }))
 
   -- a path is as long in the old network at least
-  old_path : {i k : ℕ} → IsPath (net inputs new outputs) i k → (m : ℕ) × (k ≤ m) × IsPath (net inputs old outputs) i m
+  pub old_path : {i k : ℕ} → IsPath (net inputs new outputs) i k → (m : ℕ) × (k ≤ m) × IsPath (net inputs old outputs) i m
   old_path (alone {j = i} c) = (1, omega arith, alone (to_old i c))
   old_path (onward {i = a} {j = i} {k = k} q c at) = by (old_path q) (read_before i (Table a) at)
     where
@@ -174,10 +174,14 @@ pub record IsAfter (inputs : ℕ) (outputs : List Source) (old new : List NetTab
   pub network : IsNetwork (net inputs new outputs)
   pub rows : (vectors rows : List (List Bool)) → AreRows (net inputs old outputs) vectors rows ↔ AreRows (net inputs new outputs) vectors rows
   pub unread : (x : ℕ) → IsUnread (net inputs old outputs) x → IsUnread (net inputs new outputs) x
+  pub shallow : IsNoDeeper (net inputs old outputs) (net inputs new outputs)
 
 module _ (inputs : ℕ) (outputs : List Source) where
   pub after_none : (old : List NetTable) → IsNetwork (net inputs old outputs) → IsAfter inputs outputs old old
-  after_none old is = record { len = refl; network = is; rows = λ vectors rows. (λ p. p, λ p. p); unread = λ x u. u }
+  after_none old is = record { len = refl; network = is; rows = λ vectors rows. (λ p. p, λ p. p); unread = λ x u. u; shallow = λ depth deep. deep }
+
+  put_shallow : (mid new : List NetTable) (j r : ℕ) → IsPut mid j r new → IsNoDeeper (net inputs mid outputs) (net inputs new outputs)
+  put_shallow mid new j r p depth deep i k q = let o = old_path inputs mid outputs j r new p q in let l : o.0 ≤ depth = deep i o.0 o.2 in omega (arith, o.1)
 
   pub after_put : (old mid new : List NetTable) (j r : ℕ) → IsAfter inputs outputs old mid → IsPut mid j r new → IsAfter inputs outputs old new
   after_put old mid new j r a p = record {
@@ -185,6 +189,7 @@ module _ (inputs : ℕ) (outputs : List Source) where
     network = put_network inputs mid outputs j r new p a.network;
     rows = λ vectors rows. (let f = a.rows vectors rows in let g = put_rows inputs mid outputs j r new p a.network vectors rows in (λ q. g.0 (f.0 q), λ q. f.1 (g.1 q)));
     unread = λ x u. still_unread inputs mid outputs j r new p x (a.unread x u);
+    shallow = λ depth deep. put_shallow mid new j r p depth (a.shallow depth deep);
   }
 
   pub after_puts : {old new : List NetTable} {f g : List Bool} → Puts old f new g → IsNetwork (net inputs old outputs) → IsAfter inputs outputs old new

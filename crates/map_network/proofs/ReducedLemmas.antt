@@ -6,10 +6,11 @@ use Rattle.design_netlist.specs.declared.netlist_data.PortDef.{PortDef}
 use Rattle.map_network.specs.declared.network.NetTable.{NetTable}
 use Rattle.map_network.specs.declared.network.Network.{Network}
 use Rattle.map_network.specs.declared.merge.Found.{Found}
-use Rattle.map_network.specs.Vocabulary.{IsNetwork, HasRowsOf, plain_network, source_of, CanJoin, MayPut, IsPutOn, Puts, none, more, IsReduced, is_dropped, IsClosed, IsCompacted, none_gone, drops, IsFound, IsSmaller, IsMergedOf}
+use Rattle.map_network.specs.Vocabulary.{IsNetwork, HasRowsOf, plain_network, source_of, CanJoin, MayPut, IsPutOn, Puts, none, more, IsReduced, is_dropped, IsClosed, IsCompacted, none_gone, drops, IsFound, IsPruned, IsSmaller, IsMergedOf}
 use Rattle.map_network.specs.Merges.{begins}
 use Rattle.map_network.proofs.PutLemmas.{net, IsAfter, after_puts, puts_on, same_tables, unread_now}
-use Rattle.map_network.proofs.CompactLemmas.{compacted_reduced, one_dropped, reduced_same, same_none, same_then}
+use Rattle.map_network.proofs.CompactLemmas.{compacted_leads, compacted_reduced, one_dropped, reduced_same, same_then}
+use Rattle.map_network.proofs.LeadLemmas.{puts_lead}
 use Rattle.map_network.proofs.MergeLemmas.{clean_of, merged_by, none_is_gone}
 use Rattle.map_network.proofs.ReaderLemmas.{may_put}
 
@@ -84,12 +85,14 @@ module _ (n : Network) (is : IsNetwork n) (j : ℕ) (lj : j < length n.tables) (
     inputs = less.inputs;
     outputs = less.outputs;
     less = (let l = less.less in let k = all.len in omega arith);
+    shallow = λ depth deep. less.shallow depth (all.shallow depth deep);
   }
 
   pub found_smaller : IsSmaller n m
   found_smaller = record {
     reduced = reduced;
     merged = λ start from. drops (merged_by start n.inputs n.outputs f.puts is (length-replicate (length n.tables) false) (clean_of n.inputs f.tables n.outputs found.gone.items f.closed) from) dropped;
+    lead = λ each. compacted_leads (net n.inputs f.tables n.outputs) m found.gone.items all.network f.closed dropped (puts_lead n.inputs n.outputs f.puts (length-replicate (length n.tables) false) (λ x lx stands. each x lx));
   }
 
 pub if_ok_map : {T E : Type 0} {P Q : T → Type 0} (r : Result T E) → ((x : T) → P x → Q x) → IfOk r P → IfOk r Q
@@ -97,11 +100,11 @@ if_ok_map (Ok x) f h = f x h
 if_ok_map (Err e) f h = tt
 
 -- the passes
-pub merged_none : (n : Network) → IsNetwork n → IsMergedOf n n
-merged_none n is = record { same = same_none n is; merged = begins }
+pub merged_first : (n m : Network) → IsPruned n m → IsMergedOf n m
+merged_first n m p = record { same = p.same; merged = p.merged n begins; lead = p.lead }
 
 pub merged_on : (n m k : Network) → IsMergedOf n m → IsSmaller m k → IsMergedOf n k
-merged_on n m k old next = record { same = same_then n m k old.same (reduced_same m k next.reduced); merged = next.merged n old.merged }
+merged_on n m k old next = record { same = same_then n m k old.same (reduced_same m k next.reduced); merged = next.merged n old.merged; lead = next.lead old.lead }
 
 -- from the plain network on
 module _ (d : NetlistData) where

@@ -3,10 +3,10 @@ use Rattle.std.proofs.Common.{◌≡◌, Bool, ℕ, ◌<◌, ◌≤◌, List, []
 use Rattle.map_network.specs.declared.source.Source.{Source}
 use Rattle.map_network.specs.declared.network.NetTable.{NetTable}
 use Rattle.map_network.specs.declared.network.Network.{Network}
-use Rattle.map_network.specs.Vocabulary.{IsNetwork, in_tables, MayPut, IsPut, IsJoined, DoesSame, is_dropped, IsClosed, IsCompacted, Spreads, puts}
+use Rattle.map_network.specs.Vocabulary.{IsNetwork, in_tables, MayPut, IsPut, IsJoined, DoesSame, is_dropped, IsClosed, IsCompacted, IsPruned, Spreads, puts}
 use Rattle.map_network.specs.Spreading.{begins}
 use Rattle.map_network.proofs.PutLemmas.{net, IsAfter, after_none, after_put, same_length}
-use Rattle.map_network.proofs.CompactLemmas.{compacted_reduced, reduced_same}
+use Rattle.map_network.proofs.CompactLemmas.{compacted_reduced, reduced_same, same_then}
 
 -- a table is put into a reader
 pub one_spread : (ts us : List NetTable) (j r : ℕ) (t : NetTable) → us ≡ ts → MayPut us j r × IsJoined j (in_tables us j) (in_tables us r) t → Spreads ts (set ts r t)
@@ -32,6 +32,7 @@ spread_put n m ts is ps e = subst (DoesSame n) (sym e) (record {
   network = all.network;
   rows = all.rows;
   fewer = (let l = all.len in omega arith);
+  shallow = all.shallow;
   inputs = refl;
   outputs = refl;
 })
@@ -45,3 +46,7 @@ spread_changed n ts us qs is ps e f = spread_put n (net n.inputs us qs) ts is ps
 -- what is marked is dropped
 pub spread_less : (n m : Network) (marks : List Bool) → IsNetwork n → IsClosed marks n.tables n.outputs → IsCompacted n marks m → (j : ℕ) → j < length n.tables → is_dropped marks j ≡ true → DoesSame n m
 spread_less n m marks is closed comp j lj at = reduced_same n m (compacted_reduced n m marks is closed comp j lj at)
+
+-- a round: tables that lead to no output go, and others are put into all their readers
+pub rounds_on : (n a b c : Network) → DoesSame n a → IsPruned a b → DoesSame b c → DoesSame n c
+rounds_on n a b c start p spread = same_then n b c (same_then n a b start p.same) spread

@@ -7,7 +7,7 @@ use Rattle.map_network.specs.declared.source.Source.TheVariants.{Input, Table}
 use Rattle.map_network.specs.declared.network.NetTable.{NetTable}
 use Rattle.map_network.specs.declared.network.Network.{Network}
 use Rattle.map_network.specs.declared.readers.Readers.{Readers}
-use Rattle.map_network.specs.Networks.{no_table, IsNetwork}
+use Rattle.map_network.specs.Networks.{no_table, IsNetwork, IsNoDeeper}
 use Rattle.map_network.specs.Plain.{distinct, pin_named, cells_where}
 use Rattle.map_network.specs.Rows.{number_of, cell_at, AreRows}
 use Rattle.map_network.specs.Merging.{number, numbers_without, Reads}
@@ -111,11 +111,13 @@ pub record IsReduced (n m : Network) : Type 0 where
   pub inputs : m.inputs ≡ n.inputs
   pub outputs : length m.outputs ≡ length n.outputs
   pub less : length m.tables < length n.tables
+  pub shallow : IsNoDeeper n m
 
 -- no more tables do the same
 pub record DoesSame (n m : Network) : Type 0 where
   pub network : IsNetwork m
   pub rows : (vectors rows : List (List Bool)) → AreRows n vectors rows ↔ AreRows m vectors rows
   pub fewer : length m.tables ≤ length n.tables
+  pub shallow : IsNoDeeper n m
   pub inputs : m.inputs ≡ n.inputs
   pub outputs : length m.outputs ≡ length n.outputs

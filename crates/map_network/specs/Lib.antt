@@ -1,6 +1,7 @@
 -- Networks of tables.
 
--- Cited above: what a network is and does, the plain network, how deep it is, and tables that are put into their readers
+-- Cited above: what a network is and does, the plain network, how deep it is, tables that are put into their readers, and those
+-- that an output needs
 pub mod Networks
 pub mod Rows
 pub mod Depths
@@ -8,6 +9,7 @@ pub mod Plain
 pub mod Merging
 pub mod Joining
 pub mod Compacting
+pub mod Leading
 pub mod Merges
 -- For the bodies of this crate
 pub mod Levels
@@ -17,4 +19,5 @@ pub mod Drives
 pub mod Bounds
 pub mod Passes
 pub mod Spreading
+pub mod Pruning
 pub mod Vocabulary

@@ -1,4 +1,5 @@
--- By which steps one network comes from another: a table is put into its one reader, and tables that were are dropped.
+-- By which steps one network comes from another: a table is put into its one reader, tables that were are dropped, and so are
+-- those that lead to no output.
 use Rattle.std.specs.Prelude.{◌≡◌, ◌≤◌, ℕ, List, Bool, false, true, length, replicate, slice_set}
 use Rattle.std.specs.List.{Contains}
 use Rattle.map_network.specs.declared.source.Source.TheVariants.{Table}
@@ -8,6 +9,7 @@ use Rattle.map_network.specs.Networks.{table_at, IsCombinational}
 use Rattle.map_network.specs.Merging.{sources_together, Reads}
 use Rattle.map_network.specs.Joining.{IsJoined}
 use Rattle.map_network.specs.Compacting.{is_dropped, IsCompacted}
+use Rattle.map_network.specs.Leading.{AreUseless}
 
 -- A table is gone once it was put into its reader, though it stays in the list until it is dropped. Table r isn't gone, and
 -- reads table j
@@ -42,6 +44,8 @@ pub data Merges (n : Network) : Network → List Bool → Type 0 where
   merges : {a b : Network} {gone : List Bool} {j r : ℕ} → Merges n a gone → IsMerge a gone j r b →
       Merges n b (slice_set gone j true)
   drops : {a b : Network} {gone : List Bool} → Merges n a gone → IsCompacted a gone b → Merges n b (none_gone b)
+  prunes : {a b : Network} {useless : List Bool} → Merges n a (none_gone a) → AreUseless a useless → IsCompacted a useless b →
+      Merges n b (none_gone b)
 
 -- and none is gone that still stands in its list
 abbrev pub IsMergedFrom : Network → Network → Type 0

@@ -34,6 +34,10 @@ pub data IsPath (n : Network) : ℕ → ℕ → Type 0 where
 abbrev pub IsDeepest : Network → ℕ → Type 0
 IsDeepest n depth = (j k : ℕ) → IsPath n j k → k ≤ depth
 
+-- what no path of the first is longer than, no path of the second is longer than
+abbrev pub IsNoDeeper : Network → Network → Type 0
+IsNoDeeper n m = (depth : ℕ) → IsDeepest n depth → IsDeepest m depth
+
 -- sources are in range, tables have at most six inputs and aren't too many, and combinational tables have no cycle
 pub record IsNetwork (n : Network) : Type 0 where
   pub few : length n.tables < 4294967296

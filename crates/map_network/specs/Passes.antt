@@ -6,6 +6,7 @@ use Rattle.map_network.specs.declared.merge.Found.{Found}
 use Rattle.map_network.specs.Joining.{DoesSame, IsReduced, Puts}
 use Rattle.map_network.specs.Compacting.{is_dropped, IsClosed}
 use Rattle.map_network.specs.Merges.{none_gone, IsMergedFrom}
+use Rattle.map_network.specs.Leading.{AllLead}
 
 -- tables were put into readers, the given one among them, and nothing that stands reads one of these
 pub record IsFound (n : Network) (j : ℕ) (found : Found) : Type 0 where
@@ -19,8 +20,10 @@ pub record IsFound (n : Network) (j : ℕ) (found : Found) : Type 0 where
 pub record IsSmaller (n m : Network) : Type 0 where
   pub reduced : IsReduced n m
   pub merged : (start : Network) → IsMergedFrom start n → IsMergedFrom start m
+  pub lead : AllLead n → AllLead m
 
 -- what each network of the passes is
 pub record IsMergedOf (n m : Network) : Type 0 where
   pub same : DoesSame n m
   pub merged : IsMergedFrom n m
+  pub lead : AllLead m

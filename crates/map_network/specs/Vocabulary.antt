@@ -1,6 +1,6 @@
 -- What the crates above, and the proofs here, speak of.
-pub use Rattle.map_network.specs.Networks.{IsCombinational, IsDeepest, IsLatched, IsNetwork, IsPath, IsSourceOf, alone, no_table, onward}
-pub use Rattle.map_network.specs.Networks.{table_at}
+pub use Rattle.map_network.specs.Networks.{IsCombinational, IsDeepest, IsLatched, IsNetwork, IsNoDeeper, IsPath, IsSourceOf, alone}
+pub use Rattle.map_network.specs.Networks.{no_table, onward, table_at}
 pub use Rattle.map_network.specs.Rows.{AreRows, HasOneRows, HasRowsOf, IsNetworkValuation, RowsFrom, bit_of, cell_at, first_state}
 pub use Rattle.map_network.specs.Rows.{next_state, number_of, outputs_in, pins_of, truth}
 pub use Rattle.map_network.specs.Depths.{IsDepth}
@@ -15,7 +15,8 @@ pub use Rattle.map_network.specs.Joining.{in_tables, more, none, noted, noted_on
 unfoldable pub use Rattle.map_network.specs.Joining.{all_readers, joined_truth}
 pub use Rattle.map_network.specs.Compacting.{AreKept, AreRanks, IsClosed, IsCompacted, IsKept, compacted, is_dropped, kept_tables, named_by}
 pub use Rattle.map_network.specs.Compacting.{rank, renamed, renamed_table}
-pub use Rattle.map_network.specs.Merges.{IsMerge, Merges, StillReads, drops, merges, none_gone}
+pub use Rattle.map_network.specs.Leading.{AllLead, AreUseless, LeadsToOutput, is_read, is_shown}
+pub use Rattle.map_network.specs.Merges.{IsMerge, Merges, StillReads, drops, merges, none_gone, prunes}
 pub use Rattle.map_network.specs.Levels.{AreMarks, AreSourcesIn, IsDoneIn, IsLastOf, IsLevel, IsMost, IsNewAmong, IsReadByLast, IsSearch}
 pub use Rattle.map_network.specs.Levels.{IsSearching, IsSourceIn, StaysSeen, cost, done_in, if_new, is_done, level_at, level_in, level_of}
 pub use Rattle.map_network.specs.Levels.{mark_at, new_table, source_at, source_level, work_of}
@@ -26,3 +27,4 @@ pub use Rattle.map_network.specs.Drives.{Drive, all_drives, cover_drives, input_
 pub use Rattle.map_network.specs.Bounds.{AreBelow, AreCovers, AreLatches, ArePorts, latch_at, no_latch}
 pub use Rattle.map_network.specs.Passes.{IsFound, IsMergedOf, IsSmaller}
 pub use Rattle.map_network.specs.Spreading.{Spreads, puts}
+pub use Rattle.map_network.specs.Pruning.{AreUsed, IsAsBefore, IsFollowing, IsPruned, IsTaken, IsUsed, if_marked, marked_in}

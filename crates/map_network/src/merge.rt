@@ -1,11 +1,12 @@
 //! A network with tables put into their readers.
 
 ghost use Rattle.std.specs.Prelude.{◌≡◌, ◌<◌, ◌≤◌, ◌↔◌, List, Bool, true, length, IfOk, IfSome};
-ghost use Rattle.map_network.specs.Networks.{IsNetwork};
+ghost use Rattle.map_network.specs.Networks.{IsNetwork, IsNoDeeper};
 ghost use Rattle.map_network.specs.Rows.{AreRows, HasRowsOf};
 ghost use Rattle.map_network.specs.Plain.{plain_network};
 ghost use Rattle.map_network.specs.Merging.{CanJoin, IsWhole};
 ghost use Rattle.map_network.specs.Compacting.{is_dropped, IsClosed};
+ghost use Rattle.map_network.specs.Leading.{AllLead};
 ghost use Rattle.map_network.specs.Merges.{none_gone, IsMergedFrom};
 ghost use Rattle.map_network.specs.Passes.{IsFound, IsMergedOf, IsSmaller};
 
@@ -14,6 +15,7 @@ use crate::compact::{compacted, is_closed};
 use crate::copying::{copied_network, copied_sources, copied_tables};
 use crate::network::Network;
 use crate::readers::{find_joinable, readers_of};
+use crate::useless::without_useless;
 use crate::work::{Work, join, run};
 use base_lists::Items;
 use design_netlist::Netlist;
@@ -155,13 +157,13 @@ fn reduce_from(
     Ok(smaller)
 }
 
-/// The network in which tables are put into their readers until none can be.
+/// The network without the tables that lead to no output, in which tables are put into their readers until none can be.
 fn merged_whole(alloc: Global, whole: Network) -> Result<Network, AllocError>
     requires { IsNetwork whole }
     ensures merged { IfOk result (λ network. IsMergedOf whole network) }
     ensures whole { IfOk result (λ network. IsWhole network) }
 {
-    let mut network = whole;
+    let mut network = without_useless(alloc, whole)?;
     let mut found = find_joinable(alloc, &network)?;
     'passes: while let Some((table, reader)) = found {
         network = reduce_from(alloc, network, table, reader)?;
@@ -170,9 +172,9 @@ fn merged_whole(alloc: Global, whole: Network) -> Result<Network, AllocError>
     Ok(network)
 }
 
-/// A network in which tables are put into their readers until none can be: a combinational table that exactly one
-/// table reads and no output, where both have at most six different sources together. It has the same rows. The time is
-/// near linear in the number of tables.
+/// A network without the tables that lead to no output, in which tables are put into their readers until none can be: a
+/// combinational table that exactly one table reads and no output, where both have at most six different sources together. It has
+/// the same rows, and is no deeper. The time is near linear in the number of tables.
 ///
 /// # Errors
 ///
@@ -187,13 +189,16 @@ pub fn merged_of(alloc: Global, network: &Network) -> Result<Network, AllocError
     ensures outputs { IfOk result (λ merged. length merged.outputs ≡ length network.now.outputs) }
     ensures merged { IfOk result (λ merged. IsMergedFrom network.now merged) }
     ensures whole { IfOk result (λ merged. IsWhole merged) }
+    ensures leads { IfOk result (λ merged. AllLead merged) }
+    ensures shallow { IfOk result (λ merged. IsNoDeeper network.now merged) }
 {
     let whole = copied_network(alloc, network)?;
     let merged = merged_whole(alloc, whole)?;
     Ok(merged)
 }
 
-/// The plain network of a design, in which tables are put into their readers until none can be, as [`merged_of`] does it.
+/// The plain network of a design without the tables that lead to no output, in which tables are put into their readers until
+/// none can be, as [`merged_of`] does it.
 /// Its rows are the design's.
 ///
 /// # Errors
@@ -207,6 +212,8 @@ pub fn merge_tables(alloc: Global, netlist: &Netlist) -> Result<Network, AllocEr
     ensures outputs { IfOk result (λ network. length network.outputs ≡ length netlist.now.outputs) }
     ensures merged { IfOk result (λ network. IsMergedFrom (plain_network netlist.now) network) }
     ensures whole { IfOk result (λ network. IsWhole network) }
+    ensures leads { IfOk result (λ network. AllLead network) }
+    ensures shallow { IfOk result (λ network. IsNoDeeper (plain_network netlist.now) network) }
 {
     let whole = plain(alloc, netlist)?;
     let network = merged_whole(alloc, whole)?;

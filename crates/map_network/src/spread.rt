@@ -1,34 +1,23 @@
 //! A network with tables put into all their readers.
 
-ghost use Rattle.std.specs.Prelude.{◌≡◌, ◌<◌, ◌≤◌, ◌↔◌, ℕ, List, Bool, true, length, IfOk};
-ghost use Rattle.map_network.specs.Networks.{IsNetwork};
+ghost use Rattle.std.specs.Prelude.{◌≡◌, ◌≤◌, ◌↔◌, List, Bool, length, IfOk};
+ghost use Rattle.map_network.specs.Networks.{IsNetwork, IsNoDeeper};
 ghost use Rattle.map_network.specs.Rows.{AreRows};
 ghost use Rattle.map_network.specs.Merging.{IsWhole};
-ghost use Rattle.map_network.specs.Compacting.{is_dropped};
 ghost use Rattle.map_network.specs.Joining.{DoesSame};
+ghost use Rattle.map_network.specs.Leading.{AllLead};
 
 use crate::compact::{compacted, is_closed};
 use crate::copying::{copied_network, copied_sources};
 use crate::merge::merged_of;
 use crate::network::Network;
 use crate::spreading::spread_tables;
-use crate::useless::useless_tables;
+use crate::useless::{is_some_marked, without_useless};
 use base_lists::Items;
 use std::alloc::{AllocError, Global};
 
 /// How often tables are put into their readers at most.
 const ROUNDS: usize = 3;
-
-fn is_some_marked(marks: &[bool]) -> bool
-    ensures { result ≡ true → (j : ℕ) × (j < length marks.now) × (is_dropped marks.now j ≡ true) }
-{
-    'marks: for j in 0..marks.len() {
-        if marks[j] {
-            return true;
-        }
-    }
-    false
-}
 
 /// The network without the marked tables, where nothing that stays reads one of them, and else as it is.
 fn without(alloc: Global, network: Network, marks: &[bool]) -> Result<Network, AllocError>
@@ -46,15 +35,6 @@ fn without(alloc: Global, network: Network, marks: &[bool]) -> Result<Network, A
     }
     let smaller = compacted(alloc, &network, marks)?;
     Ok(smaller)
-}
-
-/// The network without the tables that no way leads to from an output.
-fn without_useless(alloc: Global, network: Network) -> Result<Network, AllocError>
-    requires { IsNetwork network }
-    ensures { IfOk result (DoesSame network) }
-{
-    let marks = useless_tables(alloc, &network)?;
-    without(alloc, network, &marks)
 }
 
 /// The network with tables put into all their readers.
@@ -107,6 +87,8 @@ pub fn spread_of(alloc: Global, network: &Network) -> Result<Network, AllocError
     ensures inputs { IfOk result (λ spread. spread.inputs ≡ network.now.inputs) }
     ensures outputs { IfOk result (λ spread. length spread.outputs ≡ length network.now.outputs) }
     ensures whole { IfOk result (λ spread. IsWhole spread) }
+    ensures leads { IfOk result (λ spread. AllLead spread) }
+    ensures shallow { IfOk result (λ spread. IsNoDeeper network.now spread) }
 {
     let whole = copied_network(alloc, network)?;
     let spread = spread_rounds(alloc, whole)?;

@@ -63,7 +63,8 @@ fn push_tables(queue: &mut Vec<u32>, sources: &[Source]) -> Result<(), AllocErro
     Ok(())
 }
 
-fn is_marked(merged: &[bool], table: u32) -> bool
+/// Whether the table has a mark. One that isn't there has none.
+pub fn is_marked(merged: &[bool], table: u32) -> bool
     ensures { result ≡ is_dropped merged.now table }
 {
     if table as usize >= merged.len() {

@@ -1,5 +1,5 @@
 -- Where two designs are laid, and where they aren't.
-use Rattle.std.proofs.Common.{◌≡◌, ◌⊎◌, ◌+◌, ℕ, [], map, length, ◌∙◌, subst, refl, inl, inr, length-append, Result, Ok, Err, IfOk, IfErr}
+use Rattle.std.proofs.Common.{◌≡◌, ◌≤◌, ◌⊎◌, ◌+◌, ℕ, arith, [], map, length, ◌∙◌, subst, refl, inl, inr, length-append, Result, Ok, Err, IfOk, IfErr}
 use Rattle.std.specs.List.{All}
 use Rattle.machine_meaning.specs.Vocabulary.{Covers, Faults}
 use Rattle.machine_defects.specs.Lists.{DefectList}
@@ -7,10 +7,10 @@ use Rattle.design_netlist.specs.declared.netlist_data.NetlistData.{NetlistData}
 use Rattle.map_network.specs.declared.network.Network.{Network}
 use Rattle.map_network.specs.Vocabulary.{IsPlainNetwork, HasRowsOf}
 use Rattle.machine_image.specs.Vocabulary.{ImageValue, IsImage, image_row, IsFreeImage}
-use Rattle.place_route.specs.Vocabulary.{IsRightImage, ReadsRows, IsRoutedInOrder}
+use Rattle.place_route.specs.Vocabulary.{IsRightImage, ReadsRows}
 use Rattle.place_pair.specs.JointNetworks as joint
 use Rattle.place_pair.specs.JointNetworks.{joint_network}
-use Rattle.place_pair.specs.Tenants.{AreTenants, HasPinsOf, HaveRoom, StandApart}
+use Rattle.place_pair.specs.Tenants.{AreTenants, HasPinsOf, StandApart}
 use Rattle.cmd_steps.specs.Vocabulary.{Around, Outside, StepStops, IsCounted, ShortPlace, status_of, Took, IsExcused}
 use Rattle.cmd_steps.specs.declared.refusal.Refusal.{Refusal}
 use Rattle.cmd_steps.specs.declared.refusal.Refusal.TheVariants as refused
@@ -18,9 +18,17 @@ use Rattle.cmd_steps.specs.declared.refusal.Stop.{Stop}
 use Rattle.cmd_steps.specs.declared.refusal.Stop.TheVariants.{Refused}
 use Rattle.cmd_steps.proofs.Taking.{took-stop, took-value}
 use Rattle.place_design.specs.Wants.{PlanStops}
-use Rattle.place_design.proofs.PlainWidths.{plain-inputs, plain-outputs}
+use Rattle.place_design.specs.Smaller.{IsLeanFor}
+use Rattle.place_design.proofs.Fewer.{better-fits, no-more-crossings, plain-for}
 use Rattle.place_design.proofs.Rooms.{AreDecided}
-use Rattle.place_both.specs.Both.{BothHaveRoom, BothLackRoom, IsNoRoomForBoth, NotBothLaid, joint_of, lays_both}
+use Rattle.place_plan.specs.declared.plan.Plan.{Plan}
+use Rattle.place_plan.specs.declared.layout.Placed.{Placed}
+use Rattle.place_plan.specs.Plans.{Fits, FitsInOrder, IsInOrder, IsPlan}
+use Rattle.place_anneal.specs.Better.{IsBetterLaid}
+use Rattle.place_anneal.specs.Crossings.{HasCrossings, HasNoMore}
+use Rattle.place_both.specs.declared.networks.TwoNetworks.{TwoNetworks}
+use Rattle.place_both.specs.Both.{AreLean, ArePlainInOrder, BothHaveRoom, BothLackRoom, IsImageForBoth, IsNoRoomForBoth, IsRoutedForBoth, NotBothLaid, joint_of, lays_both}
+use Rattle.place_both.specs.Smaller.{AreFor, AreLeanFor, ArePlainFor, AreSmallerFor}
 use Rattle.place_both.proofs.RowsOfBoth.{both-rows}
 
 -- ---- what is laid
@@ -32,44 +40,91 @@ module _ (d : DefectList) (first second : NetlistData) (n o : Network) (first_is
   joint-stops (Refused refused.Memory) stops = tt
   joint-stops stop stops = absurd stops
 
-  pub place-stops : (stop : Stop) → PlanStops d (joint_network n o) stop → StepStops (lays_both d first second) stop
+  place-stops : (stop : Stop) → PlanStops d (joint_network n o) stop → StepStops (lays_both d first second) stop
   place-stops stop stops = joint-stops stop (rw (first_is, second_is) at stops)
 
-  -- an image of both networks is one of both designs
-  module _ (first_rows : HasRowsOf n first) (second_rows : HasRowsOf o second) (whole one other : ImageValue) (tenants : AreTenants whole one other) (first_pins : HasPinsOf n one) (second_pins : HasPinsOf o other) where
-    inputs-are : length whole.inputs ≡ n.inputs + o.inputs
-    inputs-are = rw (tenants.inputs, length-append one.inputs other.inputs, first_pins.inputs, second_pins.inputs) refl
+-- an image of both networks is one of both designs
+module _ (d : DefectList) (first second : NetlistData) (networks : TwoNetworks) (are : AreFor first second networks) (whole one other : ImageValue) (tenants : AreTenants whole one other) (first_pins : HasPinsOf networks.first one) (second_pins : HasPinsOf networks.second other) where
+  inputs-are : length whole.inputs ≡ networks.first.inputs + networks.second.inputs
+  inputs-are = rw (tenants.inputs, length-append one.inputs other.inputs, first_pins.inputs, second_pins.inputs) refl
 
-    outputs-are : length whole.outputs ≡ length n.outputs + length o.outputs
-    outputs-are = rw (tenants.outputs, length-append one.outputs other.outputs, first_pins.outputs, second_pins.outputs) refl
+  outputs-are : length whole.outputs ≡ length networks.first.outputs + length networks.second.outputs
+  outputs-are = rw (tenants.outputs, length-append one.outputs other.outputs, first_pins.outputs, second_pins.outputs) refl
 
-    pub both-image : IsImage whole → IsImage one → IsImage other → whole.config.shape ≡ d.shape → IsFreeImage d.list whole → ((f : Faults) → Covers d.shape d.list f → StandApart f whole one other) → ((netlist : NetlistData) (f : Faults) → HasRowsOf n netlist → Covers d.shape d.list f → IsRightImage f one netlist) → ((netlist : NetlistData) (f : Faults) → HasRowsOf o netlist → Covers d.shape d.list f → IsRightImage f other netlist) → ((f : Faults) → Covers d.shape d.list f → ReadsRows f whole (joint.AreBothRows n o)) → IsRoutedInOrder d.shape d.list (joint_network n o) whole → HaveRoom d.shape d.list n o → (lays_both d first second).gives whole
-    both-image image one_is other_is shape free apart first_right second_right rows routed room = (
-      record {
-        image = image;
-        shape = shape;
-        inputs = rw (inputs-are, plain-inputs first n first_is, plain-inputs second o second_is) refl;
-        outputs = rw (outputs-are, plain-outputs first n first_is, plain-outputs second o second_is) refl;
-        free = free;
-        routed = rw (first_is, second_is) at routed;
-        right = λ f covers vectors reads widths run.
-            both-rows n o first second first_rows second_rows (plain-inputs first n first_is) vectors (map (image_row whole) reads)
-            (subst (λ (k : ℕ). All (λ v. length v ≡ k) vectors) inputs-are widths) (rows f covers vectors reads widths run);
-        first_image = one;
-        second_image = other;
-        first_is = one_is;
-        second_is = other_is;
-        first_inputs = first_pins.inputs ∙ plain-inputs first n first_is;
-        first_outputs = first_pins.outputs ∙ plain-outputs first n first_is;
-        second_inputs = second_pins.inputs ∙ plain-inputs second o second_is;
-        second_outputs = second_pins.outputs ∙ plain-outputs second o second_is;
-        tenants = tenants;
-        apart = apart;
-        first_right = λ f covers. first_right first f first_rows covers;
-        second_right = λ f covers. second_right second f second_rows covers;
-      },
-      rw (first_is, second_is) at room,
-    )
+  pub both-image : IsImage whole → IsImage one → IsImage other → whole.config.shape ≡ d.shape → IsFreeImage d.list whole → ((f : Faults) → Covers d.shape d.list f → StandApart f whole one other) → ((netlist : NetlistData) (f : Faults) → HasRowsOf networks.first netlist → Covers d.shape d.list f → IsRightImage f one netlist) → ((netlist : NetlistData) (f : Faults) → HasRowsOf networks.second netlist → Covers d.shape d.list f → IsRightImage f other netlist) → ((f : Faults) → Covers d.shape d.list f → ReadsRows f whole (joint.AreBothRows networks.first networks.second)) → IsRoutedForBoth d first second whole → IsImageForBoth d first second whole
+  both-image image one_is other_is shape free apart first_right second_right rows routed = record {
+    image = image;
+    shape = shape;
+    inputs = rw (inputs-are, are.first_for.inputs, are.second_for.inputs) refl;
+    outputs = rw (outputs-are, are.first_for.outputs, are.second_for.outputs) refl;
+    free = free;
+    routed = routed;
+    right = λ f covers vectors reads widths run.
+        both-rows networks.first networks.second first second are.first_for.rows are.second_for.rows are.first_for.inputs vectors (map (image_row whole) reads)
+        (subst (λ (k : ℕ). All (λ v. length v ≡ k) vectors) inputs-are widths) (rows f covers vectors reads widths run);
+    first_image = one;
+    second_image = other;
+    first_is = one_is;
+    second_is = other_is;
+    first_inputs = first_pins.inputs ∙ are.first_for.inputs;
+    first_outputs = first_pins.outputs ∙ are.first_for.outputs;
+    second_inputs = second_pins.inputs ∙ are.second_for.inputs;
+    second_outputs = second_pins.outputs ∙ are.second_for.outputs;
+    tenants = tenants;
+    apart = apart;
+    first_right = λ f covers. first_right first f are.first_for.rows covers;
+    second_right = λ f covers. second_right second f are.second_for.rows covers;
+  }
+
+-- the plain networks of two designs
+module _ (first second : NetlistData) (networks : TwoNetworks) (are : ArePlainFor first second networks) where
+  pub plain-are : AreFor first second networks
+  plain-are = record {
+    first_for = plain-for first networks.first are.first_plain are.first_is are.first_rows;
+    second_for = plain-for second networks.second are.second_plain are.second_is are.second_rows;
+    few = are.few;
+  }
+
+  -- networks for the designs with no more inputs and tables can be numbered together too
+  pub fewer-are : (less : TwoNetworks) → IsLeanFor first less.first → IsLeanFor second less.second → less.first.inputs ≡ networks.first.inputs → less.second.inputs ≡ networks.second.inputs → length less.first.tables ≤ length networks.first.tables → length less.second.tables ≤ length networks.second.tables → AreLeanFor first second less
+  fewer-are less one other i j t u = record { first_for = one; second_for = other; few = (let a = are.few.0 in omega arith, let b = are.few.1 in omega arith) }
+
+  -- on the plan in order of their joint network
+  module _ (d : DefectList) (p : Plan) (fits : FitsInOrder d.shape d.list (joint_network networks.first networks.second) p) where
+    pub plain-choice : ArePlainInOrder d first second networks.first networks.second p ⊎ AreLean d first second networks.first networks.second p
+    plain-choice = inl (record { first_plain = are.first_plain; second_plain = are.second_plain; fits = fits })
+
+    pub have-room : BothHaveRoom d first second
+    have-room = rw (are.first_plain, are.second_plain) at (p, fits)
+
+-- their joint network
+module _ (d : DefectList) (first second : NetlistData) (networks : TwoNetworks) (network : Network) (joint-is : network ≡ joint_network networks.first networks.second) where
+  pub joint-fits : (p : Plan) → FitsInOrder d.shape d.list network p → FitsInOrder d.shape d.list (joint_network networks.first networks.second) p
+  joint-fits p fits = subst (λ (x : Network). FitsInOrder d.shape d.list x p) joint-is fits
+
+  pub joint-refused : ArePlainFor first second networks → (stop : Stop) → PlanStops d network stop → StepStops (lays_both d first second) stop
+  joint-refused are stop stops = place-stops d first second networks.first networks.second are.first_plain are.second_plain stop (subst (λ (x : Network). PlanStops d x stop) joint-is stops)
+
+  -- an improved plan of it
+  module _ (are : AreLeanFor first second networks) (old better : Placed) (crossings : ℕ) (fits : FitsInOrder d.shape d.list network old.plan) (is-better : (better ≡ old) ⊎ IsBetterLaid d.shape d.list network old.plan better) (has : HasCrossings d.shape network better.plan crossings) where
+    lean-now : AreLean d first second networks.first networks.second better.plan
+    lean-now = record {
+      first_lead = are.first_for.lead;
+      second_lead = are.second_for.lead;
+      first_shallow = are.first_for.shallow;
+      second_shallow = are.second_for.shallow;
+      before = old.plan;
+      in_order = subst (λ (x : Network). IsInOrder d.shape d.list x old.plan) joint-is fits.in_order;
+      crossings = subst (λ (x : Network). HasNoMore d.shape x old.plan better.plan) joint-is (no-more-crossings d.shape d.list network old better crossings has is-better);
+    }
+
+    pub smaller-are : IsPlan d.shape d.list network better.plan → AreSmallerFor d first second (record { networks = networks; placed = better; crossings = crossings })
+    smaller-are plan = record {
+      are = are;
+      plan = subst (λ (x : Network). IsPlan d.shape d.list x better.plan) joint-is plan;
+      fits = subst (λ (x : Network). Fits d.shape d.list x better.plan) joint-is (better-fits d.shape d.list network old better fits.fits is-better);
+      lean = lean-now;
+    }
 
 -- ---- the step
 

@@ -1,15 +1,17 @@
 -- Two designs side by side on what a list of defects leaves free.
-use Rattle.std.specs.Prelude.{◌≡◌, ◌+◌, ◌<◌, Bool, List, [], ◌∷◌, ◌++◌, map, length, take, drop}
+use Rattle.std.specs.Prelude.{◌≡◌, ◌⊎◌, ◌+◌, ◌<◌, ◌≤◌, Bool, List, [], ◌∷◌, ◌++◌, map, length, take, drop}
 use Rattle.machine_meaning.specs.Vocabulary.{Covers, Faults}
 use Rattle.machine_defects.specs.Lists.{DefectList}
 use Rattle.design_netlist.specs.declared.netlist_data.NetlistData.{NetlistData}
 use Rattle.design_netlist.specs.Rows.{AreRows}
 use Rattle.map_network.specs.declared.network.Network.{Network}
-use Rattle.map_network.specs.Plain.{plain_network}
+use Rattle.map_network.specs.Vocabulary.{AllLead, HasRowsOf, IsNetwork, IsNoDeeper, IsPlainNetwork, plain_network}
+use Rattle.place_anneal.specs.Crossings.{HasNoMore}
+use Rattle.place_plan.specs.declared.plan.Plan.{Plan}
 use Rattle.place_plan.specs.declared.short.Short.{Short}
-use Rattle.place_plan.specs.Plans.{IsShortInOrder}
+use Rattle.place_plan.specs.Plans.{FitsInOrder, IsInOrder, IsShortInOrder}
 use Rattle.machine_image.specs.Vocabulary.{ImageValue, IsImage, IsFreeImage}
-use Rattle.place_route.specs.Vocabulary.{IsRightImage, ReadsRows, IsRoutedInOrder}
+use Rattle.place_route.specs.Vocabulary.{IsRightImage, ReadsRows, IsRoutedFor}
 use Rattle.place_pair.specs.JointNetworks.{joint_network}
 use Rattle.place_pair.specs.Tenants.{AreTenants, HaveRoom, StandApart}
 use Rattle.cmd_steps.specs.Vocabulary.{Step, ShortPlace}
@@ -58,17 +60,48 @@ pub record IsNoRoomForBoth (d : DefectList) (first second : NetlistData) (place 
 
 -- ---- the image of both
 
+-- they are the plain networks of the designs, and this is the plan in order of their joint network, which fits
+pub record ArePlainInOrder (d : DefectList) (first second : NetlistData) (one other : Network) (p : Plan) : Type 0 where
+  pub first_plain : IsPlainNetwork first one
+  pub second_plain : IsPlainNetwork second other
+  pub fits : FitsInOrder d.shape d.list (joint_network one other) p
+
+-- Each table of either leads to an output, and in neither is a path of tables longer than in the design's plain network. Nets cross
+-- at most as many nodes in sum as by the plan in order of their joint network
+pub record AreLean (d : DefectList) (first second : NetlistData) (one other : Network) (p : Plan) : Type 0 where
+  pub first_lead : AllLead one
+  pub second_lead : AllLead other
+  pub first_shallow : IsNoDeeper (plain_network first) one
+  pub second_shallow : IsNoDeeper (plain_network second) other
+  pub before : Plan
+  pub in_order : IsInOrder d.shape d.list (joint_network one other) before
+  pub crossings : HasNoMore d.shape (joint_network one other) before p
+
+-- The image is routed for the joint network of the designs' plain networks on its plan in order, or for that of networks with the
+-- same rows and no more tables of which nothing is in vain
+pub record IsRoutedForBoth (d : DefectList) (first second : NetlistData) (i : ImageValue) : Type 0 where
+  pub one : Network
+  pub other : Network
+  pub plan : Plan
+  pub one_is : IsNetwork one
+  pub other_is : IsNetwork other
+  pub first_rows : HasRowsOf one first
+  pub second_rows : HasRowsOf other second
+  pub first_no_more : length one.tables ≤ length (plain_network first).tables
+  pub second_no_more : length other.tables ≤ length (plain_network second).tables
+  pub choice : ArePlainInOrder d first second one other plan ⊎ AreLean d first second one other plan
+  pub routed : IsRoutedFor d.shape d.list (joint_network one other) plan i
+
 -- The image is of the machine, has a pin for each input and output of the first design and then of the second, touches only what
--- the list leaves free, closes and switches on nothing that the joint network doesn't need on its in-order plan, and reads the rows of
--- both under all faults that the list covers. What of it is each design's uses no wire of the other's, runs as it does alone, and is
--- right for that design
+-- the list leaves free, closes and switches on nothing idle, and reads the rows of both under all faults that the list covers. What of
+-- it is each design's uses no wire of the other's, runs as it does alone, and is right for that design
 pub record IsImageForBoth (d : DefectList) (first second : NetlistData) (i : ImageValue) : Type 0 where
   pub image : IsImage i
   pub shape : i.config.shape ≡ d.shape
   pub inputs : length i.inputs ≡ length first.inputs + length second.inputs
   pub outputs : length i.outputs ≡ length first.outputs + length second.outputs
   pub free : IsFreeImage d.list i
-  pub routed : IsRoutedInOrder d.shape d.list (joint_of first second) i
+  pub routed : IsRoutedForBoth d first second i
   pub right : (f : Faults) → Covers d.shape d.list f → ReadsRows f i (AreBothRows first second)
   pub first_image : ImageValue
   pub second_image : ImageValue

@@ -1,28 +1,111 @@
 //! Two designs side by side on a machine.
-ghost use Rattle.std.specs.Prelude.{◌↔◌, IsTrue, [], IfOk, IfErr};
+ghost use Rattle.std.specs.Prelude.{◌⊎◌, [], IfOk, IfErr, IfSome};
+ghost use Rattle.place_plan.specs.Vocabulary.{Fits, FitsInOrder, IsPlan};
+ghost use Rattle.place_pair.specs.JointNetworks.{joint_network};
 ghost use Rattle.cmd_steps.specs.Vocabulary.{Outside, Took, StepStops};
-ghost use Rattle.place_both.specs.Both.{CanBeNumbered, lays_both};
+ghost use Rattle.place_both.specs.Both.{AreLean, ArePlainInOrder, IsImageForBoth, lays_both};
+ghost use Rattle.place_both.specs.Smaller.{AreFor, ArePlainFor};
 
+use crate::networks::{TwoNetworks, plain_networks};
+use crate::smaller::smaller_for;
 use cmd_steps::{Refusal, Stop};
 use design_netlist::Netlist;
 use machine_defects::Defects;
 use machine_image::Image;
-use map_network::{Network, plain};
 use place_design::no_place;
-use place_pair::lay_pair;
-use std::alloc::Global;
+use place_pair::{joint, lay_pair_on};
+use place_plan::{Plan, in_order};
+use std::alloc::{AllocError, Global};
 
-/// How many inputs, or tables, a network may have and no more.
-const END: u64 = 4_294_967_296;
-
-// Whether the inputs and the tables of two networks can be numbered together.
-fn are_few(first: &Network, second: &Network) -> bool
-    ensures { IsTrue result ↔ CanBeNumbered first.now second.now }
+// The plan in order of the joint network of two designs' plain networks, where it fits.
+fn plan_for(
+    alloc: Global,
+    first: &Netlist,
+    second: &Netlist,
+    networks: &TwoNetworks,
+    list: &Defects,
+) -> Result<Plan, Stop>
+    requires { ArePlainFor first.now second.now networks.now }
+    ensures found { IfOk result (FitsInOrder list.now.shape list.now.list (joint_network networks.now.first networks.now.second)) }
+    ensures refused { IfErr result (StepStops (lays_both list.now first.now second.now)) }
 {
-    let inputs = u64::from(first.inputs) + u64::from(second.inputs);
-    let tables = first.tables.as_slice().len() as u64;
-    let more = second.tables.as_slice().len() as u64;
-    inputs < END && tables < END && more < END - tables
+    let network = joint(alloc, &networks.first, &networks.second)?;
+    match in_order(alloc, &network, list) {
+        Ok(plan) => Ok(plan),
+        Err(fail) => Err(no_place(alloc, list.shape(), fail)),
+    }
+}
+
+// The image of both designs by networks with their rows and no more tables than their plain ones, on a plan that fits.
+fn drawn(
+    alloc: Global,
+    first: &Netlist,
+    second: &Netlist,
+    networks: &TwoNetworks,
+    plan: &Plan,
+    list: &Defects,
+) -> Result<Image, AllocError>
+    requires networks { AreFor first.now second.now networks.now }
+    requires choice { ArePlainInOrder list.now first.now second.now networks.now.first networks.now.second plan.now ⊎
+        AreLean list.now first.now second.now networks.now.first networks.now.second plan.now }
+    requires plan { IsPlan list.now.shape list.now.list (joint_network networks.now.first networks.now.second) plan.now }
+    requires fits { Fits list.now.shape list.now.list (joint_network networks.now.first networks.now.second) plan.now }
+    ensures { IfOk result (IsImageForBoth list.now first.now second.now) }
+{
+    let pair = lay_pair_on(alloc, &networks.first, &networks.second, plan, list)?;
+    // Their contracts say that the values are images.
+    pair.whole.config();
+    pair.first.config();
+    pair.second.config();
+    Ok(pair.whole)
+}
+
+// The image of both designs by networks with fewer tables, if a plan of theirs fits.
+fn drawn_smaller(
+    alloc: Global,
+    first: &Netlist,
+    second: &Netlist,
+    plain: &TwoNetworks,
+    list: &Defects,
+) -> Result<Option<Image>, AllocError>
+    requires { ArePlainFor first.now second.now plain.now }
+    ensures { IfOk result (λ o. IfSome o (IsImageForBoth list.now first.now second.now)) }
+{
+    let Some(smaller) = smaller_for(alloc, first, second, plain, list)? else {
+        return Ok(None);
+    };
+    let image = drawn(
+        alloc,
+        first,
+        second,
+        &smaller.networks,
+        &smaller.placed.plan,
+        list,
+    )?;
+    Ok(Some(image))
+}
+
+// The image of both designs, of which these are the plain networks, or why there is none.
+fn image_of(
+    alloc: Global,
+    first: &Netlist,
+    second: &Netlist,
+    networks: &TwoNetworks,
+    list: &Defects,
+) -> Result<Image, Stop>
+    requires { ArePlainFor first.now second.now networks.now }
+    ensures found { IfOk result (lays_both list.now first.now second.now).gives }
+    ensures refused { IfErr result (StepStops (lays_both list.now first.now second.now)) }
+{
+    let plan = match plan_for(alloc, first, second, networks, list) {
+        Ok(plan) => plan,
+        Err(stop) => return Err(stop),
+    };
+    if let Some(image) = drawn_smaller(alloc, first, second, networks, list)? {
+        return Ok(image);
+    }
+    let image = drawn(alloc, first, second, networks, &plan, list)?;
+    Ok(image)
 }
 
 // The image of both, or why there is none.
@@ -35,28 +118,19 @@ fn image_for(
     ensures found { IfOk result (lays_both list.now first.now second.now).gives }
     ensures refused { IfErr result (StepStops (lays_both list.now first.now second.now)) }
 {
-    let one = plain(alloc, first)?;
-    let other = plain(alloc, second)?;
-    if !are_few(&one, &other) {
-        return Err(Stop::Refused(Refusal::Memory));
+    match plain_networks(alloc, first, second)? {
+        Some(networks) => image_of(alloc, first, second, &networks, list),
+        None => Err(Stop::Refused(Refusal::Memory)),
     }
-    let pair = match lay_pair(alloc, &one, &other, list) {
-        Ok(pair) => pair,
-        Err(fail) => return Err(no_place(alloc, list.shape(), fail)),
-    };
-    // Their contracts say that the values are images.
-    pair.whole.config();
-    pair.first.config();
-    pair.second.config();
-    Ok(pair.whole)
 }
 
-/// An image of both designs on what the list leaves free, by the in-order plan of the joint network of their plain networks. The
-/// two may be one design, which is laid twice then.
+/// An image of both designs on what the list leaves free, where the in-order plan of the joint network of their plain networks
+/// fits. It is that of networks with fewer tables, on a plan with fewer crossings, where such a plan fits. The two may be one
+/// design, which is laid twice then.
 ///
 /// # Errors
 ///
-/// What the plan is short of, or out of memory. More tables than can be numbered count as that.
+/// What the plan in order is short of, or out of memory. More tables than can be numbered count as that.
 pub fn lay_both(
     alloc: Global,
     first: &Netlist,

@@ -1,20 +1,17 @@
 -- Where a design is laid, and where it isn't.
-use Rattle.std.proofs.Common.{◌≡◌, ◌<◌, ◌≤◌, ◌⊎◌, ◌↔◌, Bool, List, [], length, inl, inr, sym, subst, arith, ◌∙◌, Result, Ok, Err, IfOk, IfErr}
+use Rattle.std.proofs.Common.{◌≡◌, ◌<◌, [], Result, Ok, Err, IfOk, IfErr}
 use Rattle.machine_shape.specs.declared.Shape.{Shape}
 use Rattle.machine_shape.specs.Shape.{nodes_of}
-use Rattle.machine_meaning.specs.Defects.{Defects}
 use Rattle.machine_shape.proofs.Totals.{nodes_are}
 use Rattle.machine_defects.specs.Lists.{DefectList}
 use Rattle.design_netlist.specs.declared.netlist_data.NetlistData.{NetlistData}
 use Rattle.map_network.specs.declared.network.Network.{Network}
-use Rattle.map_network.specs.Vocabulary.{IsNetwork, AreRows, HasRowsOf, IsPlainNetwork, plain_network}
-use Rattle.place_anneal.specs.Better.{IsBetterLaid}
+use Rattle.map_network.specs.Vocabulary.{IsPlainNetwork}
 use Rattle.place_plan.specs.declared.short.Need.{Need}
 use Rattle.place_plan.specs.declared.short.Short.{Short}
 use Rattle.place_plan.specs.declared.short.Resource.{Resource}
 use Rattle.place_plan.specs.declared.short.Resource.TheVariants.{Tables, Pins, Ports, Lines}
-use Rattle.place_plan.specs.declared.layout.Placed.{Placed}
-use Rattle.place_plan.specs.Plans.{Fits, InOrderIsShort, IsShortInOrder}
+use Rattle.place_plan.specs.Plans.{InOrderIsShort, IsShortInOrder}
 use Rattle.machine_image.specs.Images.{ImageValue}
 use Rattle.cmd_steps.specs.Vocabulary.{Outside, StepStops, IsCounted, Took}
 use Rattle.cmd_steps.specs.declared.refusal.Refusal.TheVariants as refused
@@ -22,8 +19,6 @@ use Rattle.cmd_steps.specs.declared.refusal.Stop.{Stop}
 use Rattle.cmd_steps.specs.declared.refusal.Stop.TheVariants.{Refused}
 use Rattle.cmd_steps.proofs.Taking.{took-stop, took-value}
 use Rattle.place_design.specs.Laying.{lays}
-use Rattle.place_design.specs.Smaller.{IsFor}
-use Rattle.place_design.proofs.PlainWidths.{plain-inputs, plain-outputs}
 use Rattle.place_design.specs.Wants.{IsRefusedFor, PlanStops}
 
 -- what is short is short at a node of the machine
@@ -47,32 +42,6 @@ pub plan-image : (d : DefectList) (draft : NetlistData) (n : Network) (stop : St
 plan-image d draft n (Refused (refused.Room place)) plain stops = record { network = n; plain = plain; shape = stops.0; short = stops.1 }
 plan-image d draft n (Refused refused.Memory) plain stops = tt
 plan-image d draft n stop plain stops = absurd stops
-
--- the network with fewer tables has the design's rows
-pub fewer-rows : (draft : NetlistData) (n m : Network) → HasRowsOf n draft → ((vectors rows : List (List Bool)) → AreRows n vectors rows ↔ AreRows m vectors rows) → HasRowsOf m draft
-fewer-rows draft n m has same vectors rows = (let f = has vectors rows in let g = same vectors rows in (λ q. g.0 (f.0 q), λ q. f.1 (g.1 q)))
-
--- and no more tables than the design's plain network, as that itself has
-pub no-more : (draft : NetlistData) (n m : Network) → IsPlainNetwork draft n → length m.tables ≤ length n.tables → length m.tables ≤ length (plain_network draft).tables
-no-more draft n m plain fewer = subst (λ (x : Network). length m.tables ≤ length x.tables) plain fewer
-
-pub just-as-many : (draft : NetlistData) (n : Network) → IsPlainNetwork draft n → length n.tables ≤ length (plain_network draft).tables
-just-as-many draft n plain = no-more draft n n plain (omega arith)
-
--- a network with fewer tables than the plain one, and the same rows
-pub is-for : (draft : NetlistData) (n m : Network) → IsPlainNetwork draft n → HasRowsOf n draft → IsNetwork m → ((vectors rows : List (List Bool)) → AreRows n vectors rows ↔ AreRows m vectors rows) → length m.tables ≤ length n.tables → m.inputs ≡ n.inputs → length m.outputs ≡ length n.outputs → IsFor draft m
-is-for draft n m plain has network same fewer inputs outputs = record {
-  network = network;
-  rows = fewer-rows draft n m has same;
-  inputs = inputs ∙ plain-inputs draft n plain;
-  outputs = outputs ∙ plain-outputs draft n plain;
-  tables = no-more draft n m plain fewer;
-}
-
--- a plan that is as good or better fits where the first does
-pub better-fits : (m : Shape) (d : Defects) (n : Network) (old new : Placed) → Fits m d n old.plan → (new ≡ old) ⊎ IsBetterLaid m d n old.plan new → Fits m d n new.plan
-better-fits m d n old new fits (inl same) = subst (λ (x : Placed). Fits m d n x.plan) (sym same) fits
-better-fits m d n old new fits (inr better) = better.better.fits
 
 -- ---- the step
 

@@ -1,13 +1,14 @@
 -- A design is laid on what a list of defects leaves free.
-use Rattle.std.specs.Prelude.{◌≡◌, ◌≤◌, length}
+use Rattle.std.specs.Prelude.{◌≡◌, ◌≤◌, ◌⊎◌, length}
 use Rattle.machine_meaning.specs.Vocabulary.{Covers, Faults}
 use Rattle.machine_defects.specs.Lists.{DefectList}
 use Rattle.design_netlist.specs.declared.netlist_data.NetlistData.{NetlistData}
 use Rattle.map_network.specs.declared.network.Network.{Network}
-use Rattle.map_network.specs.Vocabulary.{IsNetwork, IsPlainNetwork, plain_network, HasRowsOf}
+use Rattle.map_network.specs.Vocabulary.{AllLead, IsNetwork, IsNoDeeper, IsPlainNetwork, plain_network, HasRowsOf}
 use Rattle.place_plan.specs.declared.plan.Plan.{Plan}
 use Rattle.place_plan.specs.declared.short.Short.{Short}
-use Rattle.place_plan.specs.Plans.{FitsInOrder, IsShortInOrder}
+use Rattle.place_plan.specs.Plans.{FitsInOrder, IsInOrder, IsShortInOrder}
+use Rattle.place_anneal.specs.Crossings.{HasNoMore}
 use Rattle.machine_image.specs.Vocabulary.{ImageValue, IsImage, IsFreeImage}
 use Rattle.place_route.specs.Vocabulary.{IsRightImage, IsRoutedFor}
 use Rattle.cmd_steps.specs.Vocabulary.{Step, ShortPlace}
@@ -35,13 +36,29 @@ pub record IsNoRoom (d : DefectList) (draft : NetlistData) (place : ShortPlace) 
   pub shape : place.shape ≡ d.shape
   pub short : IsShortInOrder d.shape d.list network place.short
 
--- The image is routed for the design's plain network, or for another with the same rows and no more tables, on some plan
+-- it is the design's plain network, on its plan in order
+pub record IsPlainInOrder (d : DefectList) (draft : NetlistData) (n : Network) (p : Plan) : Type 0 where
+  pub plain : IsPlainNetwork draft n
+  pub fits : FitsInOrder d.shape d.list n p
+
+-- Each table leads to an output, and no path of tables is longer than those of the design's plain network. Nets cross at most as
+-- many nodes in sum as by the network's plan in order
+pub record IsLean (d : DefectList) (draft : NetlistData) (n : Network) (p : Plan) : Type 0 where
+  pub lead : AllLead n
+  pub shallow : IsNoDeeper (plain_network draft) n
+  pub first : Plan
+  pub in_order : IsInOrder d.shape d.list n first
+  pub crossings : HasNoMore d.shape n first p
+
+-- The image is routed for the design's plain network on its plan in order, or for a network with the same rows and no more tables
+-- of which nothing is in vain
 pub record IsRoutedDesign (d : DefectList) (draft : NetlistData) (i : ImageValue) : Type 0 where
   pub network : Network
   pub plan : Plan
   pub is_network : IsNetwork network
   pub rows : HasRowsOf network draft
   pub no_more : length network.tables ≤ length (plain_network draft).tables
+  pub choice : IsPlainInOrder d draft network plan ⊎ IsLean d draft network plan
   pub routed : IsRoutedFor d.shape d.list network plan i
 
 -- The image is of the machine, has a pin for each input and output of the design, touches only what the list leaves free, closes

@@ -3,7 +3,7 @@
 -- ---- cited above
 
 pub mod Laying
+pub mod Smaller
 -- ---- of this crate's bodies
 
 pub mod Wants
-pub mod Smaller

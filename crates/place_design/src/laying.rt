@@ -1,9 +1,9 @@
 //! Designs that are laid on a machine.
-ghost use Rattle.std.specs.Prelude.{◌≡◌, ◌≤◌, [], IfOk, IfErr, IfSome, length};
+ghost use Rattle.std.specs.Prelude.{◌≡◌, ◌≤◌, ◌⊎◌, [], IfOk, IfErr, IfSome, length};
 ghost use Rattle.map_network.specs.Vocabulary.{IsNetwork, IsPlainNetwork, plain_network, HasRowsOf};
 ghost use Rattle.place_plan.specs.Vocabulary.{IsLayout, Fits, IsPlan};
 ghost use Rattle.cmd_steps.specs.Vocabulary.{Outside, StepStops, Took};
-ghost use Rattle.place_design.specs.Laying.{lays, IsImageFor};
+ghost use Rattle.place_design.specs.Laying.{lays, IsImageFor, IsLean, IsPlainInOrder};
 
 use crate::room::plan_of;
 use crate::smaller::smaller_for;
@@ -29,6 +29,8 @@ fn drawn(
     requires inputs { network.now.inputs ≡ length netlist.now.inputs }
     requires outputs { length network.now.outputs ≡ length netlist.now.outputs }
     requires tables { length network.now.tables ≤ length (plain_network netlist.now).tables }
+    requires choice { IsPlainInOrder defects.now netlist.now network.now placed.now.plan ⊎
+        IsLean defects.now netlist.now network.now placed.now.plan }
     requires plan { IsPlan defects.now.shape defects.now.list network.now placed.now.plan }
     requires fits { Fits defects.now.shape defects.now.list network.now placed.now.plan }
     requires layout { IsLayout defects.now.shape defects.now.list network.now placed.now.plan placed.now.layout }
@@ -75,7 +77,8 @@ fn image_for(alloc: Global, netlist: &Netlist, defects: &Defects) -> Result<Imag
 
 /// An image of a design on what the list leaves free, where there is room for its plain network in order. It is that of a
 /// network with fewer tables, on a plan with fewer crossings, where such a plan fits. No table of it is on and no crosspoint closed that
-/// the network doesn't need.
+/// the network doesn't need. Unless it is the plain network on its plan in order, each table leads to an output, no path of tables
+/// is longer than in the plain network, and nets cross at most as many nodes in sum as by the network's plan in order.
 ///
 /// # Errors
 ///

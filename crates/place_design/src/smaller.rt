@@ -3,7 +3,7 @@ ghost use Rattle.std.specs.Prelude.{IfOk, IfSome};
 ghost use Rattle.map_network.specs.Vocabulary.{IsNetwork, IsPlainNetwork, HasRowsOf};
 ghost use Rattle.machine_defects.specs.Lists.{DefectList};
 ghost use Rattle.design_netlist.specs.declared.netlist_data.NetlistData.{NetlistData};
-ghost use Rattle.place_design.specs.Smaller.{IsFor, IsSmallerFor};
+ghost use Rattle.place_design.specs.Smaller.{IsLeanFor, IsSmallerFor};
 
 use design_netlist::Netlist;
 use machine_defects::Defects;
@@ -27,7 +27,7 @@ fn planned(
     network: Network,
     defects: &Defects,
 ) -> Result<Option<Smaller>, AllocError>
-    requires { IsFor netlist.now network }
+    requires { IsLeanFor netlist.now network }
     ensures { IfOk result (λ o. IfSome o (IsSmallerFor defects.now netlist.now)) }
 {
     let placed = match in_order_laid(alloc, &network, defects) {

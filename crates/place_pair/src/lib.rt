@@ -10,7 +10,8 @@
 //! Under every fault set that the list covers, each network's image is right by itself for each netlist whose rows are the
 //! network's (`first_right`, `second_right`); what is read at its pins in the whole is what its image alone gives for its part of
 //! the vectors (`apart`); and so each row of the whole is the first network's row and then the second's (`rows`). `Short` comes
-//! exactly where the in-order plan of the joint network doesn't fit, with what `in_order` says of it (`room`, `fail`).
+//! exactly where the in-order plan of the joint network doesn't fit, with what `in_order` says of it (`room`, `fail`). `lay_pair_on`
+//! does the same on another plan that fits.
 //!
 //! Over a history of faults each network runs as its image alone as long as it is left alone (`laws::either_runs_alone`).
 #![tactic(auto)]
@@ -23,4 +24,4 @@ mod site;
 mod splitting;
 
 pub use joining::joint;
-pub use pairing::{Pair, lay_pair};
+pub use pairing::{Pair, lay_pair, lay_pair_on};

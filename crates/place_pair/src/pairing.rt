@@ -4,8 +4,8 @@ ghost use Rattle.machine_meaning.specs.Vocabulary.{Covers, Faults};
 ghost use Rattle.machine_image.specs.Parts.{IsFreeImage};
 ghost use Rattle.design_netlist.specs.declared.netlist_data.NetlistData.{NetlistData};
 ghost use Rattle.map_network.specs.Vocabulary.{IsNetwork, HasRowsOf};
-ghost use Rattle.place_plan.specs.Vocabulary.{IsLayout, FitsInOrder, IsPlaceFail};
-ghost use Rattle.place_route.specs.Vocabulary.{IsRightImage, ReadsRows, IsRoutedInOrder};
+ghost use Rattle.place_plan.specs.Vocabulary.{IsLayout, Fits, IsPlaceFail, IsPlan};
+ghost use Rattle.place_route.specs.Vocabulary.{IsRightImage, ReadsRows, IsRoutedFor, IsRoutedInOrder};
 ghost use Rattle.place_pair.specs.JointNetworks.{AreBothRows, MayBeJoint, joint_network};
 ghost use Rattle.place_pair.specs.Sites.{IsSplit, first_site, second_site};
 ghost use Rattle.place_pair.specs.Tenants.{AreTenants, HasPinsOf, HaveRoom, StandApart};
@@ -17,7 +17,7 @@ use crate::splitting::tenant;
 use machine_defects::Defects;
 use machine_image::Image;
 use map_network::Network;
-use place_plan::{PlaceFail, Placed, in_order_laid};
+use place_plan::{Layout, PlaceFail, Plan, in_order_laid, lay_out};
 use place_route::route_laid;
 use std::alloc::{AllocError, Global};
 
@@ -30,6 +30,12 @@ pub struct Pair {
     pub first: Image,
     /// What of it is the second's.
     pub second: Image,
+}
+
+// A plan of a joint network with its layout.
+struct Spot<'p, 'l> {
+    plan: &'p Plan,
+    layout: &'l Layout,
 }
 
 // Where the first of two networks stands in their joint network.
@@ -58,28 +64,30 @@ fn second_of(first: &Network, second: &Network) -> Site
     }
 }
 
-// The image of both on the in-order plan of their joint network with this layout, and the image of each.
+// The image of both on a plan of their joint network with this layout, and the image of each.
 fn split(
     alloc: Global,
     first: &Network,
     second: &Network,
     network: &Network,
-    placed: &Placed,
+    spot: &Spot<'_, '_>,
     defects: &Defects,
 ) -> Result<Pair, AllocError>
     requires pair { MayBeJoint first.now second.now }
     requires joint { network.now ≡ joint_network first.now second.now }
     requires network { IsNetwork network.now }
-    requires fits { FitsInOrder defects.now.shape defects.now.list network.now placed.now.plan }
-    requires layout { IsLayout defects.now.shape defects.now.list network.now placed.now.plan placed.now.layout }
+    requires plan { IsPlan defects.now.shape defects.now.list network.now spot.now.plan.now }
+    requires fits { Fits defects.now.shape defects.now.list network.now spot.now.plan.now }
+    requires layout { IsLayout defects.now.shape defects.now.list network.now spot.now.plan.now spot.now.layout.now }
     ensures parts { IfOk result (λ p. IsSplit defects.now.shape defects.now.list first.now second.now p.whole p.first p.second) }
-    ensures routed { IfOk result (λ p. IsRoutedInOrder defects.now.shape defects.now.list network.now p.whole) }
+    ensures routed { IfOk result (λ p. IsRoutedFor defects.now.shape defects.now.list network.now spot.now.plan.now p.whole) }
 {
     machine_shape::the_numbering_is_sound();
     machine_shape::the_crosspoints_are_sound();
     machine_shape::ports_and_lines_ascend();
     map_network::laws::networks_have_one_list_of_rows();
-    let Placed { plan, layout } = placed;
+    let plan = spot.plan;
+    let layout = spot.layout;
     let whole = route_laid(alloc, network, plan, layout, defects)?;
     let owners = owners_by(alloc, layout, defects)?;
     let one = first_of(first, second);
@@ -142,8 +150,59 @@ pub fn lay_pair(
         Ok(placed) => placed,
         Err(fail) => return Err(fail),
     };
-    match split(alloc, first, second, &network, &placed, defects) {
+    let spot = Spot {
+        plan: &placed.plan,
+        layout: &placed.layout,
+    };
+    match split(alloc, first, second, &network, &spot, defects) {
         Ok(pair) => Ok(pair),
         Err(_) => Err(PlaceFail::Memory),
     }
+}
+
+/// The same two networks on another plan of their joint network: the three images of [`lay_pair`], with this plan in place of
+/// that in order.
+///
+/// # Errors
+///
+/// Out of memory.
+pub fn lay_pair_on(
+    alloc: Global,
+    first: &Network,
+    second: &Network,
+    plan: &Plan,
+    defects: &Defects,
+) -> Result<Pair, AllocError>
+    requires first { IsNetwork first.now }
+    requires second { IsNetwork second.now }
+    requires inputs { first.now.inputs + second.now.inputs < 4294967296 }
+    requires tables { length first.now.tables + length second.now.tables < 4294967296 }
+    requires plan { IsPlan defects.now.shape defects.now.list (joint_network first.now second.now) plan.now }
+    requires fits { Fits defects.now.shape defects.now.list (joint_network first.now second.now) plan.now }
+    ensures shape { IfOk result (λ p. p.whole.config.shape ≡ defects.now.shape) }
+    ensures tenants { IfOk result (λ p. AreTenants p.whole p.first p.second) }
+    ensures free { IfOk result (λ p. IsFreeImage defects.now.list p.whole) }
+    ensures first_free { IfOk result (λ p. IsFreeImage defects.now.list p.first) }
+    ensures second_free { IfOk result (λ p. IsFreeImage defects.now.list p.second) }
+    ensures first_pins { IfOk result (λ p. HasPinsOf first.now p.first) }
+    ensures second_pins { IfOk result (λ p. HasPinsOf second.now p.second) }
+    ensures apart { IfOk result (λ p. (f : Faults) → Covers defects.now.shape defects.now.list f →
+        StandApart f p.whole p.first p.second) }
+    ensures first_right { IfOk result (λ p. (netlist : NetlistData) (f : Faults) → HasRowsOf first.now netlist →
+        Covers defects.now.shape defects.now.list f → IsRightImage f p.first netlist) }
+    ensures second_right { IfOk result (λ p. (netlist : NetlistData) (f : Faults) → HasRowsOf second.now netlist →
+        Covers defects.now.shape defects.now.list f → IsRightImage f p.second netlist) }
+    ensures rows { IfOk result (λ p. (f : Faults) → Covers defects.now.shape defects.now.list f →
+        ReadsRows f p.whole (AreBothRows first.now second.now)) }
+    ensures routed { IfOk result (λ p. IsRoutedFor defects.now.shape defects.now.list
+        (joint_network first.now second.now) plan.now p.whole) }
+{
+    let network = joint(alloc, first, second)?;
+    let layout = lay_out(alloc, &network, plan, defects)?.unwrap();
+    let spot = Spot {
+        plan,
+        layout: &layout,
+    };
+    let pair = split(alloc, first, second, &network, &spot, defects)?;
+    Ok(pair)
 }

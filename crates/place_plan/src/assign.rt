@@ -5,7 +5,8 @@ ghost use Rattle.machine_shape.specs.Shape.{wires_of};
 ghost use Rattle.place_plan.specs.Choices.{AreWires, IsAnswer, IsSite, serves_any, serves_by};
 ghost use Rattle.place_plan.specs.Search.{ArePicks, IsDeadEnd, IsPartial};
 
-use crate::search::{Ask, Assigned, Hold, Step, give, serves_ask};
+use crate::keeping::owners_keeping;
+use crate::search::{Ask, Assigned, Hold, Site, Step, give, serves_ask};
 use machine_defects::Defects;
 use std::alloc::{AllocError, Global};
 
@@ -96,8 +97,8 @@ fn lacking(
     Ok(Assigned::Lacking { set, need, have })
 }
 
-/// A line for each who asks, no two the same, or a set of them that fewer lines serve than it has members.
-pub fn assign(
+// A line for each who asks, no two the same, or a set of them that fewer lines serve than it has members.
+fn assign_anew(
     alloc: Global,
     defects: &Defects,
     asks: &[Ask],
@@ -114,4 +115,28 @@ pub fn assign(
         }
     }
     Ok(Assigned::Given(holds(alloc, lines, &owners)?))
+}
+
+/// A line for each who asks, no two the same, or a set of them that fewer lines serve than it has members. Where it is told
+/// which net had each wire, old lines are tried first.
+pub fn assign(
+    alloc: Global,
+    defects: &Defects,
+    asks: &[Ask],
+    lines: &[u32],
+    had: &[u32],
+) -> Result<Assigned, AllocError>
+    requires site { IsSite defects.now.shape asks.now lines.now }
+    requires apart { AllPairs (λ w v. w ≢ v) lines.now }
+    ensures { IfOk result (IsAnswer (serves_by defects.now asks.now) (range_with_len 0 (length asks.now)) lines.now) }
+{
+    let site = Site {
+        defects,
+        asks,
+        lines,
+    };
+    if let Some(owners) = owners_keeping(alloc, &site, had)? {
+        return Ok(Assigned::Given(holds(alloc, lines, &owners)?));
+    }
+    assign_anew(alloc, defects, asks, lines)
 }

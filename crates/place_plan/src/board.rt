@@ -10,17 +10,24 @@ use base_lists::Items;
 use machine_defects::Defects;
 use std::alloc::{AllocError, Global};
 
-/// The tree of nodes, and for each node the nets with a terminal inside, the nets that cross it, and its free ports.
+/// The tree of nodes, and for each node the nets with a terminal inside, the nets that cross it, and its free ports. For each
+/// wire the number of the net that had it, where that is told.
 #[derive(Drop)]
 pub struct Board {
     pub tree: Tree,
     pub touched: Vec<Items<u32>>,
     pub crossing: Vec<Items<u32>>,
     pub ports: Vec<Items<u32>>,
+    pub had: Vec<u32>,
 }
 
 /// The board of these nets.
-pub fn board_of(alloc: Global, defects: &Defects, nets: &[Items<u32>]) -> Result<Board, AllocError>
+pub fn board_of(
+    alloc: Global,
+    defects: &Defects,
+    nets: &[Items<u32>],
+    had: Vec<u32>,
+) -> Result<Board, AllocError>
     requires few { length nets.now < 2 ^ 32 }
     requires within { All (AreWires defects.now.shape) nets.now }
     ensures { IfOk result (IsBoardOf defects.now nets.now) }
@@ -34,5 +41,6 @@ pub fn board_of(alloc: Global, defects: &Defects, nets: &[Items<u32>]) -> Result
         touched,
         crossing,
         ports,
+        had,
     })
 }

@@ -19,6 +19,7 @@
 mod assign;
 mod board;
 mod fit;
+mod keeping;
 mod laws;
 mod layout;
 mod numbers;
@@ -41,7 +42,7 @@ pub use layout::{Layout, Placed};
 pub use numbers::empty_lists;
 pub use plan::Plan;
 pub use ports::crossings as crossing_nets;
-pub use room::look_for_room;
+pub use room::{look_for_room, look_for_room_keeping};
 pub use short::{Need, Net, PlaceFail, Port, Resource, Room, Short, Visit, short_of};
 pub use sound_room::{enough_free_parts_are_room, sound_parts_are_room, standing_parts_are_room};
 pub use strand::strand_at;

@@ -80,7 +80,7 @@ fn choose_lines(
         node,
     )?;
     let lines = free_lines(alloc, defects, node)?;
-    match assign(alloc, defects, &asks, lines.as_slice())? {
+    match assign(alloc, defects, &asks, lines.as_slice(), &board.had)? {
         Assigned::Given(holds) => {
             push_visits(visits, node, &asks, &holds)?;
             Ok(None)
@@ -212,13 +212,35 @@ pub fn look_for_room(
     requires within { All (AreWires defects.now.shape) nets.now }
     ensures { IfOk result (IsRoom defects.now.shape defects.now.list (length nets.now) (HasTerminal nets.now) tables pins) }
 {
+    look_for_room_keeping(alloc, defects, nets, tables, pins, Vec::new(alloc))
+}
+
+/// The same, with old lines tried first: those whose old line at a node serves them there keep it, where the others can be
+/// served by what is left, and else some leave theirs. For each wire it is told the number of the net that had it, or a
+/// number that no net has. That lines are kept isn't proved.
+///
+/// # Errors
+///
+/// Out of memory.
+pub fn look_for_room_keeping(
+    alloc: Global,
+    defects: &Defects,
+    nets: &[Items<u32>],
+    tables: Need,
+    pins: Need,
+    had: Vec<u32>,
+) -> Result<Room, AllocError>
+    requires few { length nets.now < 2 ^ 32 }
+    requires within { All (AreWires defects.now.shape) nets.now }
+    ensures { IfOk result (IsRoom defects.now.shape defects.now.list (length nets.now) (HasTerminal nets.now) tables pins) }
+{
     if tables.have < tables.need {
         return Ok(Room::Lacks(short_of(alloc, Resource::Tables, tables)));
     }
     if pins.have < pins.need {
         return Ok(Room::Lacks(short_of(alloc, Resource::Pins, pins)));
     }
-    let board = board_of(alloc, defects, nets)?;
+    let board = board_of(alloc, defects, nets, had)?;
     let room = rooms(alloc, defects, nets, &board)?;
     Ok(room)
 }

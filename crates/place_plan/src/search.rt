@@ -98,8 +98,8 @@ pub fn serves_ask(defects: &Defects, asks: &[Ask], ask: usize, line: u32) -> boo
     serves(defects, asks[ask].taps.as_slice(), line)
 }
 
-// Whether the line at a place serves one who asks.
-fn serves_at(site: &Site<'_>, ask: usize, j: usize) -> bool
+/// Whether the line at a place serves one who asks.
+pub fn serves_at(site: &Site<'_>, ask: usize, j: usize) -> bool
     requires site { IsSite site.now.defects.now.shape site.now.asks.now site.now.lines.now }
     requires ask { ask < length site.now.asks.now }
     requires line { j < length site.now.lines.now }

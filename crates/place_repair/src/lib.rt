@@ -1,7 +1,8 @@
 //! Repairs an image: what still works of it stays, and the rest is laid anew on what a list of defects leaves free.
 //!
 //! A net of the image is a group of wires that its closed crosspoints join. One that touches nothing listed, and none of whose tables
-//! has to go, keeps its wires. Every other is laid anew whole, as nets of a plan are: its ports are given in order, its lines by choice.
+//! has to go, keeps its wires. Every other is laid anew, as nets of a plan are: its ports are given in order, its lines by choice. Old
+//! lines are tried first. So whole nets are kept, and of others their lines where they can be; the latter isn't proved.
 //!
 //! Promised (`repair`): of an image of at most 1,000,000 closed crosspoints and a list of defects on its machine, an image that
 //! touches only what the list leaves free (`free`) and has the old one's rows (`rows`): under every fault set that the list

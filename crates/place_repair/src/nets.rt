@@ -120,3 +120,30 @@ pub fn net_of(config: &Config, nets: &NetList, wire: Wire) -> Option<u32>
     let number = nets.numbers[low as usize];
     Some(number)
 }
+
+// The net of a wire by its number, or a number that no net has.
+fn number_of(nets: &NetList, wire: usize) -> u32 {
+    let touched = match nets.touched.get(wire) {
+        Some(touched) => *touched,
+        None => false,
+    };
+    if !touched {
+        return u32::MAX;
+    }
+    let Some(low) = nets.lows.get(wire) else {
+        return u32::MAX;
+    };
+    match nets.numbers.get(*low as usize) {
+        Some(number) => *number,
+        None => u32::MAX,
+    }
+}
+
+/// For each wire the net that has it, or a number that no net has.
+pub fn nets_by_wire(alloc: Global, nets: &NetList) -> Result<Vec<u32>, AllocError> {
+    let mut numbers = Vec::with_capacity(alloc, nets.lows.len())?;
+    'wires: for wire in 0..nets.lows.len() {
+        numbers.push(number_of(nets, wire))?;
+    }
+    Ok(numbers)
+}

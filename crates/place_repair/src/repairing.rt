@@ -9,13 +9,14 @@ ghost use Rattle.place_repair.specs.Plans.{AreSeats, need_of};
 ghost use Rattle.place_repair.specs.Repairs.{HasSameRows, IsRepair, IsRepairFail};
 
 use crate::drawing::draw;
+use crate::nets::nets_by_wire;
 use crate::plan::{Plan, plan_of};
 use crate::rest::rest_of;
 use crate::seats::{Seats, moved, need_of, seats_of};
 use crate::terminals::terminals_of;
 use machine_defects::Defects;
 use machine_image::Image;
-use place_plan::{Layout, PlaceFail, Resource, Room, look_for_room, short_of};
+use place_plan::{Layout, PlaceFail, Resource, Room, look_for_room_keeping, short_of};
 use std::alloc::{AllocError, Global};
 
 // The image that follows a plan and whose moving nets have this layout.
@@ -59,12 +60,14 @@ fn laid(alloc: Global, image: &Image, defects: &Defects, seats: &Seats) -> Resul
     let plan = plan_of(alloc, image, defects, seats)?;
     let terminals = terminals_of(alloc, image, &plan)?;
     let rest = rest_of(alloc, image, &plan, defects)?;
-    let room = look_for_room(
+    let had = nets_by_wire(alloc, &plan.nets)?;
+    let room = look_for_room_keeping(
         alloc,
         &rest,
         &terminals,
         need_of(&seats.tables),
         need_of(&seats.pins),
+        had,
     )?;
     match room {
         Room::Lacks(short) => Err(PlaceFail::Short(short)),
@@ -85,8 +88,9 @@ fn laid(alloc: Global, image: &Image, defects: &Defects, seats: &Seats) -> Resul
 /// A switched-on table that isn't free goes: the k-th of them to the k-th free table that is off and has no used pin. So do pins, inputs
 /// before outputs, to free pins that aren't used. A net, that is a group of wires that closed crosspoints join, is kept where its wires and
 /// closed crosspoints are free and none of its tables and pins goes; all other nets are laid anew, on ports and lines that are free and
-/// that no kept net has. The j-th of them that crosses a node has the j-th of these ports there. Nothing else is closed: what a net leaves
-/// that is laid anew is open, but where another one needs it.
+/// that no kept net has. The j-th of them that crosses a node has the j-th of these ports there. Those whose
+/// old line at a node still serves them there keep it, where the others can be served by what is left; else some leave theirs. Nothing else
+/// is closed: what a net leaves that is laid anew is open, but where another one needs it.
 ///
 /// The new image has the rows of the old one under each fault set that the list covers, and touches only what is free.
 ///

@@ -10,7 +10,6 @@ use Rattle.rig.proofs.Narrowing.{session_run}
 use Rattle.diag_list.specs.Possible.{MayHave}
 use Rattle.run_image.specs.Pins.{pins_in}
 use Rattle.run_image.specs.Run.{RunsRow}
-use Rattle.run_image.specs.Rows.{AreRunRows}
 
 -- the image is loaded with room for so many rows, these vectors were driven, and these rows were read
 pub record HasDriven (room : ℕ) (i : ImageValue) (vectors rows : List (List Bool)) (rig : RigState) : Type 0 where
@@ -57,10 +56,3 @@ told-run rig i vectors config drives told f is =
 pub may-run : (rig : RigState) (i : ImageValue) (vectors : List (List Bool)) → config_of rig ≡ Some i.config → drives_of (cycles_of rig) ≡ map (drive_of i) vectors → IsTold rig → (f : Faults) → MayHave f rig → IsRun f i.config (map (drive_of i) vectors) (readings_of (cycles_of rig))
 may-run rig i vectors config drives told f (inl is) = told-run rig i vectors config drives told f is
 may-run rig i vectors config drives told f (inr e) = subst (λ (ds : List Pins). IsRun f i.config ds (readings_of (cycles_of rig))) drives (session_run f rig i.config config e)
-
--- so what was read is what the machine reads under each of these
-pub may-read : (rig : RigState) (i : ImageValue) (vectors rows : List (List Bool)) → config_of rig ≡ Some i.config → drives_of (cycles_of rig) ≡ map (drive_of i) vectors → rows ≡ map (image_row i) (readings_of (cycles_of rig))
-    → IfSome rig.machine.faults (λ f. AreRunRows f i vectors rows) → (f : Faults) → MayHave f rig → AreRunRows f i vectors rows
-may-read rig i vectors rows config drives rows_are read f (inl told) = subst (λ (faults : Option Faults). IfSome faults (λ g. AreRunRows g i vectors rows)) told read
-may-read rig i vectors rows config drives rows_are read f (inr e) =
-    (readings_of (cycles_of rig), subst (λ (ds : List Pins). IsRun f i.config ds (readings_of (cycles_of rig))) drives (session_run f rig i.config config e), rows_are)

@@ -1,19 +1,21 @@
 -- How the steps follow one another: a lemma for each place where the body ends, over plain states.
-use Rattle.std.proofs.Common.{◌≡◌, ◌∙◌, ℕ, List, [], ◌∷◌, Bool, Option, None, Some, IfSome, length, refl, sym, ap, inl, subst, Result, Ok, Err}
-use Rattle.std.specs.List.{All}
+use Rattle.std.proofs.Common.{◌≡◌, ℕ, List, [], ◌∷◌, Bool, refl, sym, subst, Result, Ok, Err}
 use Rattle.base_io.specs.Vocabulary.{StoreState, SinkState}
 use Rattle.machine_shape.specs.declared.Shape.{Shape}
 use Rattle.machine_meaning.specs.Vocabulary.{Covers, Faults}
 use Rattle.machine_defects.specs.Lists.{DefectList}
 use Rattle.machine_image.specs.Images.{ImageValue}
 use Rattle.place_route.specs.RightImages.{ReadsRows}
-use Rattle.rig.specs.Rig.{RigState, Machine}
+use Rattle.rig.specs.Rig.{RigState}
 use Rattle.cmd_steps.specs.Vocabulary.{Outside, StandsIn, outside, around, Took, Follows}
 use Rattle.cmd_steps.specs.declared.refusal.Stop.{Stop}
 use Rattle.cmd_steps.proofs.Following.{course-map}
+use Rattle.cmd_steps.proofs.Logs.{narrows_by}
 use Rattle.cmd_steps.proofs.Taking.{step-stops, step-gives}
+use Rattle.diag_list.specs.Possible.{MayHave}
 use Rattle.diag_list.specs.Lists.{Listed, IsListed, WritesList}
 use Rattle.diag_list.proofs.Following.{list-ends, list-goes}
+use Rattle.diag_list.proofs.ListedLemmas.{may-earlier}
 use Rattle.run_image.specs.Copying.{all_repeated}
 use Rattle.run_image.specs.declared.copies.Copies.{Copies}
 use Rattle.run_image.specs.Rows.{RowsBegin, AreRunRows, AreRowsOf, copied_rows, image_course}
@@ -23,14 +25,13 @@ use Rattle.run_image.specs.Runs.{RunBegin, HasStayed, machine_listed, laid_run, 
 
 -- ---- rows of an image that are those of what was laid
 
-told-rows : (faults : Option Faults) (w : Laid) (i : ImageValue) (vectors rows : List (List Bool)) → ((f : Faults) → faults ≡ Some f → ReadsRows f i w.rows) → All (λ vector. length vector ≡ length i.inputs) vectors → IfSome faults (λ f. AreRunRows f i vectors rows) → IfSome faults (λ f. w.rows vectors rows)
-told-rows None w i vectors rows right widths read = tt
-told-rows (Some f) w i vectors rows right widths read =
-    subst (λ (r : List (List Bool)). w.rows vectors r) (sym read.2) (right f refl vectors read.0 widths read.1)
-
-are-laid : (w : Laid) (i : ImageValue) (rig : RigState) → ((f : Faults) → rig.machine.faults ≡ Some f → ReadsRows f i w.rows) → (vectors rows : List (List Bool)) → AreRowsOf rig i vectors rows → AreLaidRows w rig i vectors rows
-are-laid w i rig right vectors rows are =
-    record { read = are; right = told-rows rig.machine.faults w i vectors rows right are.widths are.read }
+are-laid : (w : Laid) (i : ImageValue) (rig : RigState) → ((f : Faults) → MayHave f rig → ReadsRows f i w.rows) → (vectors rows : List (List Bool)) → AreRowsOf rig i vectors rows → AreLaidRows w rig i vectors rows
+are-laid w i rig right vectors rows are = record {
+  read = are;
+  right = λ f may.
+      let read : AreRunRows f i vectors rows = are.read f may in
+      subst (λ (r : List (List Bool)). w.rows vectors r) (sym read.2) (right f may vectors read.0 are.widths read.1);
+}
 
 -- ---- it is laid
 
@@ -45,8 +46,8 @@ module _ {U : Type 0} (w : Laid) (d : DefectList) (b : RunBegin) where
   lay-gives m before i result old new list took on same is =
       let made : Listed = record { list = d; loads = old.rig.loads } in
       let at : RowsBegin = record { image = i; vectors = b.vectors; files = b.files; begun = b.begun; before = old.rig.loads } in
-      let right : (f : Faults) → new.rig.machine.faults ≡ Some f → ReadsRows f i w.rows = λ f faults.
-      on.right f (subst (λ (s : Shape). Covers s d.list f) (sym list.shape) (list.right.covers f (inl (sym (ap (λ (x : Machine). x.faults) is.machines) ∙ faults)))) in
+      let right : (f : Faults) → MayHave f new.rig → ReadsRows f i w.rows = λ f may.
+      on.right f (subst (λ (s : Shape). Covers s d.list f) (sym list.shape) (list.right.covers f (may-earlier f is.machines (narrows_by is.later.log is.machines) may))) in
       let rows = copied_rows w.copies i (old.store.contents b.vectors) new.store.current b.failures new.rig in
       let written = course-map (image_course rows at (around new)) _ (rows-also rows (λ vectors rows. AreLaidRows w new.rig i (all_repeated w.copies vectors) (all_repeated w.copies rows)) (λ vectors rows are. are-laid w i new.rig right (all_repeated w.copies vectors) (all_repeated w.copies rows) are) at (around new)) result old.sink new.sink is.written in
       step-gives (w.lays d) (HasStayed b made (around new)) (image_run w b (around new) made) (w.lays d) [] (b.vectors ∷ []) _ _ i i result old old new took took.gives

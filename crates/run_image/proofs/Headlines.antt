@@ -1,17 +1,15 @@
 -- What such a command has done, from where its course stands.
-use Rattle.std.proofs.Common.{◌≡◌, ◌∙◌, ℕ, All, List, [], ◌∷◌, ◌++◌, Bool, refl, sym, ap, subst, inl, inr, append_assoc, length, Option, Some, IfSome, Result}
+use Rattle.std.proofs.Common.{◌≡◌, ◌∙◌, ℕ, All, List, [], ◌∷◌, ◌++◌, Bool, sym, ap, subst, inl, inr, append_assoc, length, Some, Result}
 use Rattle.base_io.specs.Vocabulary.{next_count, IfTold, Wrote}
 use Rattle.machine_shape.specs.declared.Shape.{Shape}
-use Rattle.machine_meaning.specs.Vocabulary.{Faults, Covers, Pins}
+use Rattle.machine_meaning.specs.Vocabulary.{Faults, Covers}
 use Rattle.machine_meaning.proofs.Faultless.{covers_none}
-use Rattle.machine_config.specs.Faulty.{IsRun}
 use Rattle.machine_defects.specs.Text.{text_of}
 use Rattle.machine_image.specs.Images.{ImageValue}
 use Rattle.machine_history.specs.Vocabulary.{History, IsHistoryOf, IsRunOver}
 use Rattle.machine_history.proofs.RowsOver.{clean, clean_faultless, covered_rows}
 use Rattle.place_route.specs.RightImages.{ReadsRows}
-use Rattle.rig.specs.Rig.{RigState, cycles_of, drives_of, readings_of}
-use Rattle.rig.proofs.Narrowing.{session_run}
+use Rattle.rig.specs.Rig.{cycles_of, drives_of, readings_of}
 use Rattle.cmd_steps.specs.Vocabulary.{AreAll, Outside, around, Course, Next, ends, refuses, writes, IsWritten, IsMachineText, LoadsOnce, reads_machine}
 use Rattle.cmd_steps.specs.declared.refusal.Refusal.{Refusal}
 use Rattle.cmd_steps.specs.declared.refusal.Stop.{Stop}
@@ -21,20 +19,12 @@ use Rattle.diag_list.specs.Possible.{MayHave}
 use Rattle.diag_list.specs.Lists.{Listed, IsListed, MadeFewLoads, unloaded, few, lists}
 use Rattle.run_image.specs.Copying.{all_repeated}
 use Rattle.run_image.proofs.Copied.{repeated-count}
-use Rattle.run_image.specs.Rows.{loads, RowsBegin, IsSession}
+use Rattle.run_image.specs.Rows.{loads, RowsBegin}
 use Rattle.run_image.proofs.CourseLemmas.{image-ends}
 use Rattle.run_image.specs.Laid.{Laid, rows_work}
 use Rattle.run_image.specs.Runs.{image_run, machine_listed}
 use Rattle.run_image.specs.Headline.{BeginsWithList, none, part, whole, IsWrittenWhole, UsesNothingListed, IsAsRead}
 use Rattle.run_image.proofs.Scripts.{AreLaidOn, Words, AreRead, begin-at, run-course, run-leads}
-
--- the session's readings are the run under each set that explains what was read
-rows-right : (x : Laid) (i : ImageValue) (rig : RigState) (f : Faults) → ReadsRows f i x.rows → (vectors rows : List (List Bool)) → All (λ vector. length vector ≡ length i.inputs) vectors → IsSession rig i vectors rows
-    → IfSome rig.machine.faults (λ f. x.rows vectors rows) → MayHave f rig → x.rows vectors rows
-rows-right x i rig f right vectors rows widths session are (inl told) = subst (λ (t : Option Faults). IfSome t (λ _. x.rows vectors rows)) told are
-rows-right x i rig f right vectors rows widths session are (inr e) =
-    let read = subst (λ (ds : List Pins). IsRun f i.config ds (readings_of (cycles_of rig))) session.drives (session_run f rig i.config session.config e) in
-    subst (λ (r : List (List Bool)). x.rows vectors r) (sym session.rows_are) (right vectors (readings_of (cycles_of rig)) widths read)
 
 module _ (w : Words) (old new : Outside) where
   abbrev course : Course
@@ -79,7 +69,7 @@ module _ (w : Words) (old new : Outside) where
     pub written_whole : IsWrittenWhole w.vectors made.list x.width vectors rows old new
     pub covers : (f : Faults) → MayHave f new.rig → Covers made.list.shape made.list.list f
     pub uses_nothing_listed : UsesNothingListed made.list image new.rig
-    pub right : (f : Faults) → MayHave f new.rig → ReadsRows f image x.rows
+    pub right : (f : Faults) → Covers made.list.shape made.list.list f → ReadsRows f image x.rows
     pub widths : All (λ vector. length vector ≡ length image.inputs) (all_repeated x.copies vectors)
     pub as_read : IsAsRead image (all_repeated x.copies vectors) (all_repeated x.copies rows) new.rig
     pub outputs : (f : Faults) → MayHave f new.rig → x.rows (all_repeated x.copies vectors) (all_repeated x.copies rows)
@@ -148,10 +138,10 @@ module _ (w : Words) (old new : Outside) where
             };
             covers = covers;
             uses_nothing_listed = record { is_image = o.image; shape = o.shape; config = run.rows.session.config; free = o.free };
-            right = λ f may. o.right f (covers f may);
+            right = o.right;
             widths = has.are.read.widths;
             as_read = record { drives = run.rows.session.drives; rows_are = run.rows.session.rows_are };
-            outputs = λ f may. rows-right x i new.rig f (o.right f (covers f may)) (all_repeated x.copies has.vectors) (all_repeated x.copies has.rows) has.are.read.widths run.rows.session has.are.right may;
+            outputs = has.are.right;
             over = λ h faults covered ran_over.
                 subst (λ (r : List (List Bool)). x.rows (all_repeated x.copies has.vectors) r) (sym run.rows.session.rows_are)
                 (covered_rows x.rows i o.image (o.right clean (covers_none clean_faultless)) h (all_repeated x.copies has.vectors) _ has.are.read.widths

@@ -1,17 +1,15 @@
 -- How the rows of an image go on, and how they stop.
-use Rattle.std.proofs.Common.{◌≡◌, ◌⊎◌, ℕ, zero, suc, ◌≤◌, Bool, false, List, [], ◌∷◌, ◌++◌, length, map, flat_map, Option, None, Some, IfSome, arith, refl, sym, ap, subst, inl, inr, ◌∙◌, Ok, Err}
+use Rattle.std.proofs.Common.{◌≡◌, ◌⊎◌, ℕ, zero, suc, ◌≤◌, Bool, false, List, [], ◌∷◌, ◌++◌, length, map, flat_map, arith, refl, sym, ap, subst, inl, inr, ◌∙◌, Ok, Err}
 use Rattle.std.specs.List.{All}
 use Rattle.std.proofs.lemmas.List.Elements.{All-append}
 use Rattle.base_io.specs.Sink.{SinkState}
 use Rattle.base_io.specs.Told.{Told}
-use Rattle.machine_meaning.specs.Vocabulary.{Pins, Faults}
-use Rattle.machine_config.specs.Vocabulary.{Configuration, IsRun}
-use Rattle.rig.specs.Rig.{RigState, Exchange, config_of, cycles_of, drives_of, readings_of}
-use Rattle.machine_image.specs.Images.{ImageValue, drive_of, image_row}
+use Rattle.rig.specs.Rig.{RigState, Narrows, cycles_of, readings_of}
+use Rattle.machine_image.specs.Images.{ImageValue}
 use Rattle.run_image.specs.Pins.{pins_in}
 use Rattle.run_image.specs.Run.{RunsRow}
 use Rattle.run_image.proofs.Copied.{repeated-more, repeated-count, repeated-none, repeated-long}
-use Rattle.run_image.proofs.Driving.{HasDriven, driven-start, driven-more}
+use Rattle.run_image.proofs.Driving.{HasDriven, driven-start, driven-more, may-run}
 use Rattle.design_vectors.specs.declared.vectors.VectorsFail.{VectorsFail}
 use Rattle.design_vectors.specs.declared.vectors.VectorsFail.TheVariants.{Text, Failed}
 use Rattle.design_vectors.specs.Readings.{NextGives, NextFails}
@@ -23,10 +21,11 @@ use Rattle.cmd_steps.specs.declared.refusal.Stop.{Stop}
 use Rattle.cmd_steps.specs.declared.refusal.Stop.TheVariants.{Refused, Sink}
 use Rattle.cmd_steps.proofs.WrittenRows.{AreWritten, none-written, row-later, put-out, after-put, read-after, was-read, all-written, added, not-added, some-lines, stays-same, near-next, taken-more, waits-more, has-rows, rows-follow, vectors-follow, end-follows, held-follows}
 use Rattle.cmd_steps.proofs.VectorLemmas.{taken-first}
+use Rattle.diag_list.proofs.ListedLemmas.{may-earlier}
 use Rattle.run_image.specs.Copying.{share, times, repeated, all_repeated, IsApart}
 use Rattle.run_image.specs.declared.copies.Copies.{Copies}
 use Rattle.run_image.specs.declared.copies.Copies.TheVariants.{One, Two}
-use Rattle.run_image.specs.Rows.{most_rows, copied_rows, AreRunRows, AreRowsOf, IsSession, DiffersBehind}
+use Rattle.run_image.specs.Rows.{most_rows, copied_rows, AreRowsOf, IsSession, DiffersBehind}
 use Rattle.run_image.specs.Running.{IsFitting, IsLoaded, IsDriven, IsReadApart, Keeps, CycleGives, CycleStops, HasOrFailed, at_rows}
 use Rattle.run_image.specs.declared.image.Running.{Running}
 
@@ -56,18 +55,12 @@ pub record IsDriving (copies : Copies) (image : ImageValue) (begun : Outside) (r
 
 -- ---- what a session has read
 
-read-told : (faults : Option Faults) (config : Option Configuration) (cycles : List Exchange) (i : ImageValue) (vectors rows : List (List Bool)) → config ≡ Some i.config → drives_of cycles ≡ map (drive_of i) vectors → rows ≡ map (image_row i) (readings_of cycles) → IfSome faults (λ f. IfSome config (λ g. IsRun f g (drives_of cycles) (readings_of cycles))) → IfSome faults (λ f. AreRunRows f i vectors rows)
-read-told None config cycles i vectors rows is drives rows_are told = tt
-read-told (Some f) config cycles i vectors rows is drives rows_are told =
-    let run : IsRun f i.config (drives_of cycles) (readings_of cycles) = rw is at told in
-    (readings_of cycles, subst (λ (d : List Pins). IsRun f i.config d (readings_of cycles)) drives run, rows_are)
-
--- the rows of a session are those of the machine, also where it has ended since
-session-rows : (rig rig' : RigState) (i : ImageValue) (vectors rows : List (List Bool)) → rig'.machine ≡ rig.machine → length rows ≡ length vectors → All (HasWidth i) vectors → HasDriven most_rows i vectors rows rig → AreRowsOf rig' i vectors rows
-session-rows rig rig' i vectors rows same count widths is = record {
+-- the rows of a session are those of the machine, also where it has ended since: what it may have then it may have had
+session-rows : (rig rig' : RigState) (i : ImageValue) (vectors rows : List (List Bool)) → rig'.machine ≡ rig.machine → Narrows rig rig' → length rows ≡ length vectors → All (HasWidth i) vectors → HasDriven most_rows i vectors rows rig → AreRowsOf rig' i vectors rows
+session-rows rig rig' i vectors rows same narrows count widths is = record {
   count = count;
   widths = widths;
-  read = rw same (read-told rig.machine.faults (config_of rig) (cycles_of rig) i vectors rows is.config is.drives is.rows_are is.told);
+  read = λ f may. (readings_of (cycles_of rig), may-run rig i vectors is.config is.drives is.told f (may-earlier f same narrows may), is.rows_are);
 }
 
 -- a session that is still open
@@ -129,7 +122,7 @@ module _ (copies : Copies) (image : ImageValue) (failures : ℕ) (begun now new 
 
   -- the rows so far are those of the machine
   are-rows : AreRowsOf new.rig image (all_repeated copies so_far.vectors) (all_repeated copies so_far.done)
-  are-rows = session-rows now.rig new.rig image _ _ keeps.machine (counts-are copies so_far.vectors so_far.done so_far.written.count) so_far.widths so_far.driven
+  are-rows = session-rows now.rig new.rig image _ _ keeps.machine keeps.narrows (counts-are copies so_far.vectors so_far.done so_far.written.count) so_far.widths so_far.driven
 
   session-still : new.rig.session ≡ now.rig.session → work.session so_far.vectors so_far.done
   session-still same = session-is now.rig new.rig image _ _ same so_far.driven
@@ -252,7 +245,7 @@ module _ (copies : Copies) (image : ImageValue) (failures : ℕ) (begun now new 
     row-stops stop left last waits =
         let held = not-added _ left stop new.store new.sink last (some-lines rows'.block.text rows'.row.items) waits in
         held-follows work begun new (outside new.store new.rig last) rows'.vectors _ _ _ with-it (still last held.kind held.later) refl refl refl same_rig rig-same
-        (session-rows new.rig new.rig image _ _ refl (counts-are copies _ _ with-it.count) widths-next driven-next) (inl (session-is new.rig new.rig image _ _ refl driven-next)) refl stop held
+        (session-rows new.rig new.rig image _ _ refl (λ f e. e) (counts-are copies _ _ with-it.count) widths-next driven-next) (inl (session-is new.rig new.rig image _ _ refl driven-next)) refl stop held
 
     -- or they are, or wait
     pub IsDriving-more : (last_rows : Running) (last : SinkState) → last_rows.image ≡ rows'.image → last_rows.copies ≡ rows'.copies → last_rows.vectors ≡ rows'.vectors → IsFitting last_rows → WaitsOrPuts (rows'.block.text ++ row_line rows'.row.items) last_rows.block.text (Ok tt) new.sink last → IsDriving copies image begun last_rows (outside new.store new.rig last)

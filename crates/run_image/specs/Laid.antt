@@ -1,5 +1,5 @@
 -- What is laid on a machine: one design, or several side by side.
-use Rattle.std.specs.Prelude.{◌≡◌, ◌≤◌, ℕ, Bool, List, length, Option, IfSome}
+use Rattle.std.specs.Prelude.{◌≡◌, ◌≤◌, ℕ, Bool, List, length, Option}
 use Rattle.base_io.specs.Vocabulary.{Told, Rose, StorePlace}
 use Rattle.machine_meaning.specs.Vocabulary.{Covers, Faults}
 use Rattle.machine_defects.specs.Lists.{DefectList}
@@ -7,6 +7,7 @@ use Rattle.machine_image.specs.Vocabulary.{ImageValue, IsImage, IsFreeImage}
 use Rattle.place_route.specs.RightImages.{ReadsRows}
 use Rattle.rig.specs.Rig.{RigState}
 use Rattle.cmd_steps.specs.Courses.{Step, RowWork}
+use Rattle.diag_list.specs.Possible.{MayHave}
 use Rattle.run_image.specs.Copying.{share, all_repeated, AreEqualShares}
 use Rattle.run_image.specs.Rows.{most_rows, AreRowsOf, IsSession, DiffersBehind}
 use Rattle.run_image.specs.declared.copies.Copies.{Copies}
@@ -29,10 +30,10 @@ pub record IsLaidOn (w : Laid) (d : DefectList) (i : ImageValue) : Type 0 where
   pub free : IsFreeImage d.list i
   pub right : (f : Faults) → Covers d.shape d.list f → ReadsRows f i w.rows
 
--- the rows are those of the image; where the faults of the machine are told, they are those of what was laid
+-- the rows are those of the image; if there are faults that the machine may have, they are those of what was laid
 pub record AreLaidRows (w : Laid) (rig : RigState) (i : ImageValue) (vectors rows : List (List Bool)) : Type 0 where
   pub read : AreRowsOf rig i vectors rows
-  pub right : IfSome rig.machine.faults (λ f. w.rows vectors rows)
+  pub right : (f : Faults) → MayHave f rig → w.rows vectors rows
 
 -- the rig had failed so many times as the command began
 abbrev pub rows_work : Laid → ImageValue → Told → Option StorePlace → (failures : ℕ) → RigState → RowWork

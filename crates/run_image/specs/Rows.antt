@@ -1,5 +1,5 @@
 -- The rows of an image that is loaded, wherever it comes from.
-use Rattle.std.specs.Prelude.{◌≡◌, ℕ, ◌+◌, ◌≤◌, Bool, List, [], ◌∷◌, ◌++◌, map, length, Option, Some, IfSome}
+use Rattle.std.specs.Prelude.{◌≡◌, ℕ, ◌+◌, ◌≤◌, Bool, List, [], ◌∷◌, ◌++◌, map, length, Option, Some}
 use Rattle.std.specs.List.{All}
 use Rattle.base_io.specs.Vocabulary.{Told, next_count, Rose, StorePlace, StoreState}
 use Rattle.machine_meaning.specs.Vocabulary.{Pins, Faults}
@@ -9,6 +9,7 @@ use Rattle.rig.specs.Rig.{RigState, config_of, cycles_of, drives_of, readings_of
 use Rattle.cmd_steps.specs.Vocabulary.{AreFirst, outputs_line, Around, StandsIn, Course, Step}
 use Rattle.cmd_steps.specs.Vocabulary.{RowWork, after, write, all_rows, opens, FailsOnRig}
 use Rattle.cmd_steps.specs.Vocabulary.{LoadsOnce}
+use Rattle.diag_list.specs.Possible.{MayHave}
 use Rattle.run_image.specs.Copying.{share, all_repeated, HalvesDiffer}
 use Rattle.run_image.specs.declared.copies.Copies.{Copies}
 use Rattle.run_image.specs.declared.copies.Copies.TheVariants.{One, Two}
@@ -21,11 +22,11 @@ most_rows = 4096
 abbrev pub AreRunRows : Faults → ImageValue → (vectors rows : List (List Bool)) → Type 0
 AreRunRows f i vectors rows = (reads : List Pins) × IsRun f i.config (map (drive_of i) vectors) reads × (rows ≡ map (image_row i) reads)
 
--- a row for each vector, which has a bit for each input; where the faults of the machine are told, they are what it reads
+-- a row for each vector, which has a bit for each input; whatever faults the machine may have, they are what it reads under them
 pub record AreRowsOf (rig : RigState) (i : ImageValue) (vectors rows : List (List Bool)) : Type 0 where
   pub count : length rows ≡ length vectors
   pub widths : All (λ vector. length vector ≡ length i.inputs) vectors
-  pub read : IfSome rig.machine.faults (λ f. AreRunRows f i vectors rows)
+  pub read : (f : Faults) → MayHave f rig → AreRunRows f i vectors rows
 
 -- the rig's session: it has loaded the image, and has a cycle for each vector, which it drove; the rows are what it read, and
 -- with those that it still has room for they are as many as it was asked for

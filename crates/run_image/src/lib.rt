@@ -15,10 +15,9 @@
 //!
 //! Promised (`list_and_run`): what `go` and `pair` do once their designs are read. It lists, writes the list, lays what it is
 //! given, and runs the image, of any value that says by its trait (`Lays`) how it is laid, how wide its vectors are and what its
-//! rows are, and that its images are right for these. The list covers each set of faults that the machine may have (`diag_list`);
-//! that the rows are right is said at every end where the rig tells the faults. Of a set that explains all that was read, `go` and
-//! `pair` say it at status 0. Copies that are driven alike (`Copies`) are compared, and a row is written once: where they read
-//! differently nothing is written of that reading, and the command is refused.
+//! rows are, and that its images are right for these. The list covers each set of faults that the machine may have (`diag_list`),
+//! and at every end the rows are right if there is such a set. Copies that are driven alike (`Copies`) are compared, and a row is
+//! written once: where they read differently nothing is written of that reading, and the command is refused.
 #![tactic(auto)]
 
 mod copies;

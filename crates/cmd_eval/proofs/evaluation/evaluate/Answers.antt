@@ -1,8 +1,6 @@
-use Rattle.std.proofs.Common.{◌∙◌, refl, ap}
+use Rattle.std.proofs.Common.{refl, ap}
 use Rattle.std.proofs.lemmas.Result.{err_from_is_err_and}
-use Rattle.cmd_steps.proofs.Making.{nothing}
-use Rattle.cmd_steps.proofs.OpenedRows.{opening-lacks, opening-stops, outputs-stops, rows-then}
-use Rattle.cmd_steps.proofs.StartLemmas.{begun-file}
+use Rattle.cmd_steps.proofs.OpenedRows.{opening-lacks}
 use Rattle.cmd_eval.proofs.evaluation.evaluate.Goals as goal
 
 pub returns-in_err-rows : goal.returns-in_err-rows
@@ -12,36 +10,5 @@ returns-in_err-rows g c =
     let told = ap (λ contents. contents c.args.vectors.now) same in
     rw (p.1, p.2) (opening-lacks _ _ files begun _ _ _ told stands _ refl)
 
-pub returns-in_err-open_vectors : goal.returns-in_err-open_vectors
-returns-in_err-open_vectors g c =
-    let p = err_from_is_err_and c.from_residual-in_err-open_vectors.result c.from_residual-in_err-open_vectors.ensures.1 in
-    let a = g.K.Sink.sink_state c.args.sink.now in
-    λ begun files rig same stands.
-    let told = ap (λ contents. contents c.args.vectors.now) same in
-    rw (p.1, p.2) (opening-stops _ _ files begun _ _ _ told stands _ _ _ _ refl (c.in_err-open_vectors.ensures.took rig a) tt)
-
-pub returns-in_err-write : goal.returns-in_err-write
-returns-in_err-write g c =
-    let p = err_from_is_err_and c.from_residual-in_err-write.result c.from_residual-in_err-write.ensures.1 in
-    let a = g.K.Sink.sink_state c.args.sink.now in
-    let opened = c.in_ok-open_vectors.ensures in
-    λ begun files rig same stands.
-    let told = ap (λ contents. contents c.args.vectors.now) same in
-    rw (p.1, p.2) (outputs-stops _ _ files begun _ _ _ told stands _ (opened.took rig a) _ _ _ _ refl c.in_err-write.ensures.puts opened.begun tt)
-
-pub write_rows-requires-clause-begun : goal.write_rows-requires-clause-begun
-write_rows-requires-clause-begun g c =
-    let opened = c.in_ok-open_vectors.ensures in
-    let took = opened.took nothing.rig (g.K.Sink.sink_state c.args.sink.now) in
-    (c.args.vectors.now, opened.begun, rw took.later.contents took.gives)
-
 pub returns : goal.returns
-returns g c =
-    let a = g.K.Sink.sink_state c.args.sink.now in
-    let s1 = g.S.Store.store_state c.open_vectors.new.store in
-    let opened = c.in_ok-open_vectors.ensures in
-    λ begun files rig same stands.
-    let told = ap (λ contents. contents c.args.vectors.now) same in
-    let took = opened.took rig a in
-    let file = begun-file s1 begun.contents c.args.vectors.now (took.later.contents ∙ same) opened.begun in
-    rows-then _ _ files begun _ _ _ told stands _ took _ _ _ _ _ _ c.in_ok-write.ensures.puts (rw (c.in_ok-rows.ensures.eval.netlist, file) at (c.write_rows.ensures rig)) tt
+returns g c = λ begun files rig same stands. rw c.in_ok-rows.ensures.eval.netlist at (c.open_and_write.ensures begun files rig same stands)

@@ -6,7 +6,7 @@ use Rattle.cmd_steps.proofs.image.image_of_text.Goals as goal
 pub returns-in-Ok : goal.returns-in-Ok
 returns-in-Ok c =
     let e = c.in-Ok.ensures in
-    λ o. took-value (reads_image (holds c.args.text.now) c.args.shape.now) c.in-Ok.image o (e.found.shape, e.found)
+    λ o. took-value (reads_image (holds c.args.text.now) c.args.shape.now) c.in-Ok.image o (e.found.shape, e.found.image, e.found)
 
 pub returns-in-Err-At : goal.returns-in-Err-At
 returns-in-Err-At c =

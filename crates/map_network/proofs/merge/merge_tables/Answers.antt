@@ -1,3 +1,6 @@
+use Rattle.std.proofs.Common.{subst}
+use Rattle.map_network.specs.declared.network.Network.{Network}
+use Rattle.map_network.specs.Networks.{IsNoDeeper}
 use Rattle.map_network.proofs.ReducedLemmas.{inputs_of, outputs_of}
 use Rattle.map_network.proofs.merge.merge_tables.Goals as goal
 
@@ -6,3 +9,6 @@ returns-clause-inputs c = inputs_of c.args.netlist.now c.in_ok-whole.whole c.in_
 
 pub returns-clause-outputs : goal.returns-clause-outputs
 returns-clause-outputs c = outputs_of c.args.netlist.now c.in_ok-whole.whole c.in_ok-network.network c.in_ok-whole.ensures.plain c.in_ok-network.ensures.merged
+
+pub returns-clause-shallow : goal.returns-clause-shallow
+returns-clause-shallow c = subst (λ (n : Network). IsNoDeeper n c.in_ok-network.network) c.in_ok-whole.ensures.plain c.in_ok-network.ensures.merged.same.shallow

@@ -16,6 +16,7 @@ returns c =
         is_network = c.requires.network;
         rows = c.requires.rows;
         no_more = c.requires.tables;
+        choice = c.requires.choice;
         routed = made.routed c.requires.fits;
       };
       right = λ f covers. made.right c.args.netlist.now f c.requires.rows covers;

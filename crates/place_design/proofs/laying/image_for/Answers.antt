@@ -1,5 +1,7 @@
+use Rattle.std.proofs.Common.{inl}
 use Rattle.std.proofs.lemmas.Result.{err_from_is_err_and}
-use Rattle.place_design.proofs.LayLemmas.{just-as-many, plan-image}
+use Rattle.place_design.proofs.Fewer.{just-as-many}
+use Rattle.place_design.proofs.LayLemmas.{plan-image}
 use Rattle.place_design.proofs.PlainWidths.{plain-inputs, plain-outputs}
 use Rattle.place_design.proofs.laying.image_for.Goals as goal
 
@@ -16,3 +18,6 @@ drawn-requires-clause-outputs c = plain-outputs c.args.netlist.now c.in_ok-netwo
 
 pub drawn-requires-clause-tables : goal.drawn-requires-clause-tables
 drawn-requires-clause-tables c = just-as-many c.args.netlist.now c.in_ok-network.network c.in_ok-network.ensures.plain
+
+pub drawn-requires-clause-choice : goal.drawn-requires-clause-choice
+drawn-requires-clause-choice c = inl (record { plain = c.in_ok-network.ensures.plain; fits = c.in_ok-placed.ensures.found })

@@ -1,3 +1,7 @@
+use Rattle.std.proofs.Common.{subst}
+use Rattle.map_network.specs.declared.network.Network.{Network}
+use Rattle.place_plan.specs.Plans.{FitsInOrder}
+use Rattle.place_route.specs.Vocabulary.{IsRoutedFor}
 use Rattle.place_route.proofs.Reading.{right_image}
 use Rattle.place_pair.proofs.pairing.lay_pair.Goals as goal
 
@@ -9,3 +13,14 @@ returns-in-Ok-split-clause-first_right c = λ netlist f has covers. right_image 
 
 pub returns-in-Ok-split-clause-second_right : goal.returns-in-Ok-split-clause-second_right
 returns-in-Ok-split-clause-second_right c = λ netlist f has covers. right_image c.args.second.now netlist f c.in-Ok-split.pair.second has (c.in-Ok-split.ensures.parts.second_right f covers)
+
+pub returns-in-Ok-split-clause-routed : goal.returns-in-Ok-split-clause-routed
+returns-in-Ok-split-clause-routed c =
+    let m = c.args.defects.now.shape in
+    let d = c.args.defects.now.list in
+    let plan = c.in-Ok-in_order_laid.placed.plan in
+    record {
+      plan = plan;
+      fits = subst (λ (x : Network). FitsInOrder m d x plan) c.in-Ok.ensures.joint c.in-Ok-in_order_laid.ensures.plan;
+      routed = subst (λ (x : Network). IsRoutedFor m d x plan c.in-Ok-split.pair.whole) c.in-Ok.ensures.joint c.in-Ok-split.ensures.routed;
+    }

@@ -14,11 +14,11 @@ terminals_of-requires c = sized_for c.args.defects.now.list c.args.image.now c.c
 pub rest_of-requires-clause-plan : goal.rest_of-requires-clause-plan
 rest_of-requires-clause-plan c = sized_for c.args.defects.now.list c.args.image.now c.config-config.ensures.right (numbering c.the_numbering_is_sound.ensures.numbered c.the_numbering_is_sound.ensures.tree c.the_numbering_is_sound.ensures.parents c.the_numbering_is_sound.ensures.meanings c.the_crosspoints_are_sound.ensures.taps c.the_crosspoints_are_sound.ensures.crosses c.ports_and_lines_ascend.ensures c.args.image.now.config.shape) (c.the_tests_are_right.ensures.tables c.args.image.now.config.shape c.args.defects.now.list) c.args.seats.now c.requires.seats c.in_ok-plan.plan c.in_ok-plan.ensures c.requires.tables c.requires.pins
 
-pub look_for_room-requires-clause-few : goal.look_for_room-requires-clause-few
-look_for_room-requires-clause-few c = few_lists c.args.defects.now.list c.args.image.now c.args.seats.now c.in_ok-plan.plan c.in_ok-terminals.terminals.items _ c.shape.result _ c.deref.ensures.value c.wires-wires.ensures.wires (c.shape.ensures.shape ∙ c.requires.shape) c.wires-wires.ensures.few c.in_ok-plan.ensures c.in_ok-terminals.ensures
+pub look_for_room_keeping-requires-clause-few : goal.look_for_room_keeping-requires-clause-few
+look_for_room_keeping-requires-clause-few c = few_lists c.args.defects.now.list c.args.image.now c.args.seats.now c.in_ok-plan.plan c.in_ok-terminals.terminals.items _ c.shape.result _ c.deref.ensures.value c.wires-wires.ensures.wires (c.shape.ensures.shape ∙ c.requires.shape) c.wires-wires.ensures.few c.in_ok-plan.ensures c.in_ok-terminals.ensures
 
-pub look_for_room-requires-clause-within : goal.look_for_room-requires-clause-within
-look_for_room-requires-clause-within c =
+pub look_for_room_keeping-requires-clause-within : goal.look_for_room_keeping-requires-clause-within
+look_for_room_keeping-requires-clause-within c =
     subst (λ (z : Shape). All (AreWires z) c.deref.result.now) (sym c.in_ok-rest.ensures.shape)
     (subst (All (AreWires c.args.image.now.config.shape)) (sym c.deref.ensures.value) (lists_within c.args.defects.now.list c.args.image.now c.config-config.ensures.right (numbering c.the_numbering_is_sound.ensures.numbered c.the_numbering_is_sound.ensures.tree c.the_numbering_is_sound.ensures.parents c.the_numbering_is_sound.ensures.meanings c.the_crosspoints_are_sound.ensures.taps c.the_crosspoints_are_sound.ensures.crosses c.ports_and_lines_ascend.ensures c.args.image.now.config.shape) (c.the_tests_are_right.ensures.tables c.args.image.now.config.shape c.args.defects.now.list) c.args.seats.now c.requires.seats c.in_ok-plan.plan c.in_ok-plan.ensures c.requires.tables c.requires.pins c.in_ok-terminals.terminals.items c.in_ok-terminals.ensures c.in_ok-rest.rest c.in_ok-rest.ensures))
 

@@ -1,0 +1,7 @@
+use Rattle.std.proofs.Common.{subst}
+use Rattle.map_network.specs.declared.network.Network.{Network}
+use Rattle.map_network.specs.Networks.{IsNoDeeper}
+use Rattle.map_network.proofs.merge.merged_of.Goals as goal
+
+pub returns-clause-shallow : goal.returns-clause-shallow
+returns-clause-shallow c = subst (λ (n : Network). IsNoDeeper n c.in_ok-merged.merged) (c.in_ok-whole.ensures {u = tt}) c.in_ok-merged.ensures.merged.same.shallow

@@ -1,0 +1,6 @@
+use Rattle.std.proofs.Common.{◌≡◌, ◌<◌, ℕ, false}
+use Rattle.map_network.specs.Compacting.{is_dropped}
+use Rattle.map_network.proofs.useless.is_some_marked.Given as goal
+
+abbrev pub invariant-marks : goal.invariant-marks
+invariant-marks l = (i : ℕ) → i < l.j → is_dropped l.marks i ≡ false

@@ -1,0 +1,6 @@
+use Rattle.std.specs.List.{range_with_len}
+use Rattle.place_plan.specs.Vocabulary.{serves_by, IsPartial}
+use Rattle.place_plan.proofs.keeping.owners_by.Given as goal
+
+abbrev pub invariant-asks : goal.invariant-asks
+invariant-asks l = IsPartial (serves_by l.site.defects.now l.site.asks.now) l.site.lines.now (range_with_len 0 l.k) l.owners.items
