@@ -1,5 +1,5 @@
 //! The test of an image.
-ghost use Rattle.std.specs.Prelude.{◌≡◌, ◌≤◌, ◌+◌, ◌*◌, Some, IfOk, IsErrOf, IsTrue};
+ghost use Rattle.std.specs.Prelude.{◌≡◌, ◌≤◌, ◌+◌, ◌*◌, Bool, List, Some, IfOk, IsErrOf, IsTrue};
 ghost use Rattle.base_bits.specs.Numbers.{size_of};
 ghost use Rattle.base_io.specs.Counts.{Rose};
 ghost use Rattle.diag_evidence.specs.Kept.{Advances};
@@ -67,17 +67,16 @@ fn look_at_tables(
     facts: &mut Facts,
     known: &Known,
     image: &Image,
-    used: &BitSet,
 ) -> Result<bool, RigFail>
     requires attached { shape_of (rig_state rig.old) ≡ Some facts.old.shape }
     requires known { IsKnown facts.old known.now }
     requires image { image.now.config.shape ≡ facts.old.shape }
-    requires used { AreUsed image.now used.now }
     ensures keeps { IfOk result (λ yes. IsTrue yes → KeepsTables facts.new image.now) }
     ensures whole { IfOk result (TablesIf (rig_state rig.old).machine.faults facts.old known.now.steps image.now) }
     ensures whole_each { IfOk result (λ yes. ForEach (rig_state rig.new) (λ told. TablesIf told facts.old known.now.steps image.now yes)) }
     ensures advances { Advances (rig_state rig.old) (rig_state rig.new) facts.old facts.new }
-    ensures loads { TakesForTables image.now used.now (rig_state rig.old).loads (rig_state rig.new).loads }
+    ensures loads { (used : List Bool) → AreUsed image.now used →
+        TakesForTables image.now used (rig_state rig.old).loads (rig_state rig.new).loads }
     ensures cause { IsErrOf result RigFail.Failed → Rose (rig_state rig.old).failures (rig_state rig.new).failures }
 {
     the_numbering_is_sound();
@@ -117,7 +116,7 @@ fn check_in(
         Ok(false) => return Ok(false),
         Err(fail) => return Err(fail),
     }
-    look_at_tables(rig, facts, known, image, used)
+    look_at_tables(rig, facts, known, image)
 }
 
 // How many ports and lines of each involved node a sweep goes over.

@@ -25,7 +25,7 @@ returns-clause-whole_each g c = if_ok_so c.look_at_tables.result c.look_at_table
     field_found refl (held c.grow_over.ensures.advances before) (c.in-Ok-true.ensures.whole_each f before) (each f e))
 
 pub returns-clause-loads : goal.returns-clause-loads
-returns-clause-loads g c = loads_field _ _ _ _ _ _ c.grow_over.ensures.loads c.look_at_tables.ensures.loads
+returns-clause-loads g c = loads_field _ _ _ _ _ _ c.grow_over.ensures.loads (c.look_at_tables.ensures.loads c.args.used.now c.requires.used)
 
 pub returns-in-Ok-false-clause-keeps : goal.returns-in-Ok-false-clause-keeps
 returns-in-Ok-false-clause-keeps g c = λ e. absurd (false≢true e)
