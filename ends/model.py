@@ -32,36 +32,39 @@ class Session:
     def __init__(self, machine, faults, configuration):
         self._machine, self._faults, self._set = machine, faults, configuration
         self._groups = self._joined()
-        self._zero = {self._groups[wire] for wire in faults.wires_stuck(0)}
-        self._one = {self._groups[wire] for wire in faults.wires_stuck(1)}
+        self._zero = {self._group(wire) for wire in faults.wires_stuck(0)}
+        self._one = {self._group(wire) for wire in faults.wires_stuck(1)}
         tables = configuration.tables.items()
         self._out = {t: faults.registers.get(t, s.initial) if s.latched else s.initial for t, s in tables}
 
     def _joined(self):
-        """Of each wire one wire that stands for all that are joined to it."""
-        above = list(range(len(self._machine.wires)))
+        """Of each wire that is joined to others one wire that stands for all of these."""
+        above = {}
 
         def find(wire):
-            while above[wire] != wire:
-                above[wire] = above[above[wire]]
-                wire = above[wire]
+            while (next_wire := above.get(wire, wire)) != wire:
+                above[wire] = above.get(next_wire, next_wire)
+                wire = next_wire
             return wire
 
         faults = self._faults
         closed = (self._set.closed | faults.crosses_stuck(True)) - faults.crosses_stuck(False)
         for first, second in [*(self._machine.crosses[cross] for cross in closed), *faults.bridges]:
             above[find(first)] = find(second)
-        return [find(wire) for wire in above]
+        return {wire: find(wire) for wire in above}
+
+    def _group(self, wire):
+        return self._groups.get(wire, wire)
 
     def _level(self, wire, pulled):
         """Stuck at 0 wins over stuck at 1, that over whatever pulls, and what nothing pulls is 1."""
-        group = self._groups[wire]
+        group = self._groups.get(wire, wire)
         return 0 if group in self._zero else 1 if group in self._one else int(group not in pulled)
 
     def _pulled(self, drive):
         pins = [wire for k, wire in enumerate(self._machine.pins) if not drive >> k & 1]
         outputs = [self._machine.tables[table][OUTPUT] for table, out in self._out.items() if not out]
-        return {self._groups[wire] for wire in pins + outputs}
+        return {self._groups.get(wire, wire) for wire in pins + outputs}
 
     def _look_up(self, pulled, latched):
         """What the tables of one kind have at their inputs."""

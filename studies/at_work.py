@@ -59,7 +59,7 @@ def serve(device, requests, replies):
                 reply = reply[os.write(replies, reply) :]
 
 
-def run_at_work(port, command, machine_path, schedule, design, vectors, seconds=None):
+def run_at_work(port, command, machine_path, schedule, *files, seconds=None):
     """Runs a command over a port to a machine with a schedule; gives its answer, and what it loaded last with the number of its loads."""
     machine = end_machine.read_machine(Path(machine_path).read_text(encoding="ascii"))
     sessions = Sessions(end_schedule.Schedule(machine, end_machine.Faults(), schedule).begin)
@@ -69,7 +69,7 @@ def run_at_work(port, command, machine_path, schedule, design, vectors, seconds=
         os.mkfifo(to)
         os.mkfifo(back)
         start = time.monotonic()
-        words = [port, command, machine_path, f"{to},{back}", design, vectors]
+        words = [port, command, machine_path, f"{to},{back}", *files]
         with subprocess.Popen(words, stdout=subprocess.PIPE) as ran:
             cut = threading.Timer(seconds or 1e6, ran.kill)
             cut.start()

@@ -195,8 +195,8 @@ class Study:
         get = self.settings.get
         lists = [name for name in get("lists", ["exact", "diagnosed"]) if name != "mapped" or MAPPER]
         at_work = not {"go", "twice"}.isdisjoint(lists)
-        if at_work and not (PORT and REPORT):
-            sys.exit("go and twice want teramac_port and teramac_report: build them, or name them by TERAMAC_PORT and TERAMAC_REPORT")
+        if at_work and not PORT:
+            sys.exit("go and twice want teramac_port: build it, or name it by TERAMAC_PORT")
         others = {"mapper": MAPPER if "mapped" in lists else "", "report": REPORT, "port": PORT if "loads" in self.figures or at_work else ""}
         called = {"program": self.program, **{name: path and from_here(path) for name, path in others.items()}}
         more = ["--lists", ",".join(lists), "--seconds", str(get("seconds", 600))]
@@ -210,7 +210,7 @@ class Study:
             drawn = ["--name", place.name, *spared, "--kind", kind, "--rate", rate, "--seed", str(seed)]
             return [of(place.machine), *pairs, *drawn, *more, *programs]
 
-        return words_by, [*SCRIPTS, *(COST if called["port"] else []), *(RUNS if at_work else [])]
+        return words_by, [*SCRIPTS, *(COST if called["port"] and "loads" in self.figures else []), *(RUNS if at_work else [])]
 
     def made_trials(self):
         """For each place, kind and rate `seeds` trials, and as many more at a time while those are done and an interval is too wide."""

@@ -12,7 +12,7 @@ import unittest
 
 import designs
 import teramac_texts as texts
-from at_work import schedule_text
+from at_work import run_at_work, schedule_text
 from draw import MARKS
 from faults import KINDS, make_faults
 from program import DEFAULT, HERE, PORT, REPORT, call
@@ -185,14 +185,14 @@ class Studies(unittest.TestCase):
         counts = list(map(int, ran.stdout.split(",")[-13:-5]))
         self.assertEqual((sum(counts[1:4]), sum(counts[5:]), counts[1] < counts[5]), (counts[0], counts[4], True))
 
-    @unittest.skipUnless(PORT and REPORT, "teramac_port or teramac_report isn't there")
+    @unittest.skipUnless(PORT, "teramac_port isn't there")
     def test_at_work(self):
         """Where faults come while a design runs `go` writes wrong rows, and `twice` ends with the rows before them."""
         design, vectors, machine = f"{EXAMPLES}/counter.blif", f"{EXAMPLES}/counter.vec", f"{self.out}.machine"
         ran = run("size.py", design, "--copies", "--spare", "50%", "-o", machine)
         self.assertEqual(ran.returncode, 0, ran.stderr)
         want, found = call(DEFAULT, "eval", design, vectors).rows, []
-        for rate in ("0", *["60"] * 6):
+        for rate in ("0", *["400"] * 4):
             words = [machine, f"{design}:{vectors}", "--rate", rate, "--seed", str(len(found)), "--lists", "go,twice", "--port", PORT]
             ran = run("trial.py", *words)
             self.assertEqual(ran.returncode, 0, ran.stderr)
@@ -201,8 +201,28 @@ class Studies(unittest.TestCase):
             self.assertEqual([row[name] for name in ("status", "written", "wrong_rows")], ["0", str(len(want)), "0"])
             self.assertEqual(int(row["pins"]), 3 * copies)
         self.assertIn("wrong", {one["status"] for one, _ in found})
-        self.assertEqual({two["wrong_rows"] for _, two in found}, {"0"})
         self.assertIn("7", {two["status"] for _, two in found})
+        self.assertLess(*(sum(int(row["wrong_rows"]) for row in rows) for rows in zip(*((two, one) for one, two in found))))
+
+    @unittest.skipUnless(PORT, "teramac_port isn't there")
+    def test_one_copy_is_enough(self):
+        """By hand: an output pin of one copy is stuck from a cycle on, and `twice` ends there; both alike, and it can't notice."""
+        design, vectors, machine = f"{EXAMPLES}/counter.blif", f"{EXAMPLES}/counter.vec", f"{self.out}.machine"
+        self.assertEqual(run("size.py", design, "--copies", "--spare", "50%", "-o", machine).returncode, 0)
+        load = 1 + run_at_work(PORT, "diagnose", machine, "")[1].loads
+        want = call(DEFAULT, "eval", design, vectors).rows
+        self.assertEqual(want, [b"00", b"01", b"10", b"11", b"11", b"00"])
+        # Inputs are on the first pins, outputs behind them: of `go` pins 1 and 2, of the copies 2 and 3, and 4 and 5.
+        high = [b"00", b"01", b"00", b"01", b"01", b"00"]
+        for command, schedule, status, rows in (
+            ("go", f"{load}.1 stuck0 r.p1\n", 0, high),
+            ("twice", f"{load}.1 stuck0 r.p4\n", 7, want[:2]),
+            ("twice", f"{load}.3.1 {load}.4 stuck0 r.p2\n", 7, want[:3]),
+            ("twice", f"{load}.1 stuck0 r.p2\n{load}.1 stuck0 r.p4\n", 0, high),
+        ):
+            answer, sessions = run_at_work(PORT, command, machine, schedule, design, vectors)
+            found = answer.rows[: -len(answer.refusal) or None]
+            self.assertEqual((answer.status, found, sessions.loads), (status, rows, load), (command, schedule))
 
     def test_schedule(self):
         """Each fault of a set comes within the run, in the design's load, and some go again later."""

@@ -146,8 +146,7 @@ class Trial:
 
     def load_of_design(self):
         """The number of the load behind a diagnosis of the sound machine."""
-        answer = call(self.args.report, self.args.machine, b"", seconds=self.args.seconds)
-        return 1 + int(re.search(rb"^diagnosis loads (\d+)", answer.written, re.MULTILINE)[1])
+        return 1 + run_at_work(self.args.port, "diagnose", self.args.machine, "", seconds=self.args.seconds)[1].loads
 
     def at_work_rows(self, command):
         """`go` or `twice`, where the faults come while the design runs; rows that are wrong are counted."""
@@ -155,8 +154,8 @@ class Trial:
         for name, design, vectors in self.args.designs:
             want = self.call("eval", design, vectors).rows
             schedule = schedule_text(self.machine, self.faults, load, len(want), self.args.seed)
-            words = command, self.args.machine, schedule, design, vectors
-            answer, sessions = run_at_work(self.args.port, *words, seconds=self.args.seconds)
+            words = self.args.port, command, self.args.machine, schedule, design, vectors
+            answer, sessions = run_at_work(*words, seconds=self.args.seconds)
             rows, more = answer.rows[: -len(answer.refusal) or None], {}
             if answer.status in NO_RUN or (answer.status in (0, 7) and sessions.loads != load):
                 sys.exit(f"{command} on {self.head['machine']}: status {answer.status} after {sessions.loads} loads; no run")
@@ -232,8 +231,8 @@ def main():
     args.lists = args.lists.split(",")
     if not set(args.lists) <= set(LISTS if args.mapper else LISTS[:2] + LISTS[3:]):
         sys.exit(f"--lists: some of {', '.join(LISTS)}; mapped wants teramac_map, built or named by --mapper")
-    if not set(args.lists).isdisjoint(AT_WORK) and not (args.port and args.report):
-        sys.exit("--lists: go and twice want teramac_port and teramac_report, named by --port and --report")
+    if not set(args.lists).isdisjoint(AT_WORK) and not args.port:
+        sys.exit("--lists: go and twice want teramac_port, named by --port")
     try:
         rows = list(Trial(args).rows())
     except ValueError as error:

@@ -3,7 +3,7 @@ ghost use Rattle.std.specs.Prelude.{◌≡◌, [], Some, IfOk, OnOk, string_byte
 ghost use Rattle.machine_bench.specs.Work as work;
 ghost use Rattle.cmd_bench.specs.Design.{bench_draft};
 ghost use Rattle.cmd_steps.specs.Vocabulary.{StoreState, shape_of, outside, around, Follows, Does, IsLawful, AsksMachine};
-ghost use Rattle.cmd_bench.specs.Bench.{bench_course, bench_job, design_laid, design_made, generated_name, machine_listed};
+ghost use Rattle.cmd_bench.specs.Bench.{bench_course, bench_job, design_laid, generated_name};
 ghost use Rattle.cmd_bench.specs.Headline.{IsBenched};
 
 use crate::summary::summary;
@@ -13,7 +13,6 @@ use cmd_steps::{Stop, attach, write};
 use design_netlist::Netlist;
 use diag_list::list_of;
 use machine_defects::Defects;
-use machine_shape::Shape;
 use place_design::lay;
 use place_plan::sound_parts_are_room;
 use rig::Rig;
@@ -67,54 +66,6 @@ fn run_on<K: Sink>(
     write(sink, text.as_bytes())
 }
 
-// Lists the defects of the machine that is attached, and runs the design on what the list leaves free.
-fn list_and_run<K: Sink>(
-    alloc: Global,
-    n: u32,
-    shape: &Shape,
-    netlist: &Netlist,
-    rig: &mut Box<dyn Rig>,
-    sink: &mut K,
-) -> Result<(), Stop>
-    requires shape { shape_of (rig_state rig.old) ≡ Some shape.now }
-    requires netlist { netlist.now ≡ bench_draft }
-
-    // Whatever the store is: it isn't touched.
-    ensures { (store : StoreState) →
-        let old = outside store (rig_state rig.old) (K.sink_state sink.old) in
-        let new = outside store (rig_state rig.new) (K.sink_state sink.new) in
-        Follows ⊥ [] (new.rig.machine ≡ old.rig.machine)
-        (machine_listed n (around old) (around new) shape.now netlist.now) result old new }
-{
-    let begun = loads_of(rig);
-    let list = list_of(alloc, shape, rig)?;
-    let task = Task {
-        netlist,
-        list: &list,
-    };
-    run_on(alloc, n, &task, begun, rig, sink)
-}
-
-// Makes the design, and runs it on the machine that is attached.
-fn make_and_run<K: Sink>(
-    alloc: Global,
-    n: u32,
-    shape: &Shape,
-    rig: &mut Box<dyn Rig>,
-    sink: &mut K,
-) -> Result<(), Stop>
-    requires { shape_of (rig_state rig.old) ≡ Some shape.now }
-
-    // Whatever the store is: it isn't touched.
-    ensures { (store : StoreState) →
-        let old = outside store (rig_state rig.old) (K.sink_state sink.old) in
-        let new = outside store (rig_state rig.new) (K.sink_state sink.new) in
-        Follows ⊥ [] (new.rig.machine ≡ old.rig.machine) (design_made n (around old) (around new) shape.now) result old new }
-{
-    let netlist = bench_netlist(alloc)?;
-    list_and_run(alloc, n, shape, &netlist, rig, sink)
-}
-
 // Attaches the machine, lists its defects, and runs the design on what the list leaves free.
 fn work<K: Sink>(alloc: Global, n: u32, rig: &mut Box<dyn Rig>, sink: &mut K) -> Result<(), Stop>
     // Whatever the store is: it isn't touched.
@@ -124,10 +75,17 @@ fn work<K: Sink>(alloc: Global, n: u32, rig: &mut Box<dyn Rig>, sink: &mut K) ->
         Follows ⊥ [] (AsksMachine (λ m. m.counts ≡ work.bench_counts) (generated_name n) old.rig.machine.asked new.rig.machine.asked)
         (bench_course n (around old) (around new)) result old new }
 {
+    let begun = loads_of(rig);
     let shape = bench_shape();
     let name = name_of(alloc, n)?;
     attach(rig, &shape, name.as_str())?;
-    make_and_run(alloc, n, &shape, rig, sink)
+    let netlist = bench_netlist(alloc)?;
+    let list = list_of(alloc, &shape, rig)?;
+    let task = Task {
+        netlist: &netlist,
+        list: &list,
+    };
+    run_on(alloc, n, &task, begun, rig, sink)
 }
 
 /// Attaches the machine that the number makes, lists its defects, lays the generated design on what the list leaves free,

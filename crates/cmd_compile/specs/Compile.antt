@@ -20,11 +20,6 @@ image_written files old new i = write (image_bytes i) (StandsIn files old new) (
 abbrev pub design_laid : (files : List (List ℕ)) → StoreState → StoreState → DefectList → NetlistData → Course
 design_laid files old new d draft = after (lays d draft) (StandsIn files old new) (image_written files old new)
 
--- The design is read and laid on what the list leaves free. These files were read before, the last first
-abbrev pub file_laid : (design : List ℕ) → (files : List (List ℕ)) → StoreState → StoreState → DefectList → Course
-file_laid design files old new d =
-    after (reads_design Design (old.contents design)) (StandsIn (design ∷ files) old new) (design_laid (design ∷ files) old new d)
-
 -- The machine is read, then the list and the design, which is laid
 abbrev pub compile_course : (machine defects design : List ℕ) → StoreState → StoreState → Course
 compile_course machine defects design = listed_course (λ told m. reads_design Design told) design_laid machine defects design

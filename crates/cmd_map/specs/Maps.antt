@@ -45,11 +45,6 @@ design_mapped files old new read = after (maps read) (StandsIn files old new) (t
 abbrev pub design_fitted : (files : List (List ℕ)) → StoreState → StoreState → DefectList → DesignText → Course
 design_fitted files old new d read = after (maps_within d read) (StandsIn files old new) (text_written files old new)
 
--- The design is read and remapped with room on a list. These files were read before, the last first
-abbrev pub file_fitted : (design : List ℕ) → (files : List (List ℕ)) → StoreState → StoreState → DefectList → Course
-file_fitted design files old new d =
-    after (reads_text Design (old.contents design)) (StandsIn (design ∷ files) old new) (design_fitted (design ∷ files) old new d)
-
 -- the design is read and remapped
 abbrev pub map_course : (design : List ℕ) → StoreState → StoreState → Course
 map_course design old new =

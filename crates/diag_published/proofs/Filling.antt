@@ -1,5 +1,5 @@
 -- Where all that can be known of a crossbar is known, what is known of it is full.
-use Rattle.std.proofs.Common.{◌≡◌, ◌≢◌, ◌⊎◌, ℕ, ◌+◌, ◌*◌, ◌<◌, ◌≤◌, true, None, Some, Option, refl, sym, ap, ◌∙◌, subst, inl, inr, arith, IsSome}
+use Rattle.std.proofs.Common.{◌≡◌, ◌≢◌, ◌⊎◌, ℕ, ◌+◌, ◌*◌, ◌<◌, ◌≤◌, true, None, Option, refl, sym, ap, ◌∙◌, subst, inl, inr, arith, IsSome}
 use Rattle.base_bits.specs.Numbers.{has_number, size_of}
 use Rattle.machine_shape.specs.declared.Shape.{Shape}
 use Rattle.machine_shape.specs.Shape.{in_order, turned, ends_of, crosses_of, nodes_of, node_of_cross, taps_of, IsLine, IsTap, itself}
@@ -7,7 +7,8 @@ use Rattle.machine_meaning.specs.Vocabulary.{Faults, stuck_cross, IsSoundWire, I
 use Rattle.machine_meaning.proofs.Clear.{clear_of_sound}
 use Rattle.machine_config.specs.Groups.{among}
 use Rattle.machine_config.proofs.Grouped.{LeadsTo-end}
-use Rattle.diag_evidence.specs.Kept.{Kept, HoldsFor, keeps_cross}
+use Rattle.rig.specs.Rig.{RigState}
+use Rattle.diag_evidence.specs.Kept.{Kept, Advances, keeps_cross}
 use Rattle.diag_known.specs.Vocabulary.{IsClosed, ClosedIf, TakesFew, fresh, pins_in, KnownWires, HasWire}
 use Rattle.diag_known.proofs.Taking.{few_wide, takes_wide}
 use Rattle.diag_known.specs.declared.field.Field.{Field}
@@ -123,10 +124,10 @@ module _ (k : Kept) (f : Faults) (known : KnownWires) (laws : AreLaws k.shape) (
     open_pair = has_pair;
   }
 
-pub full_is : (told : Option Faults) (k l : Kept) (known : KnownWires) (field : Field) (t : Findings) → AreLaws l.shape → ((f : Faults) → told ≡ Some f → HoldsFor k f → HoldsFor l f) → IsBarField l.shape t.node field → ClosedIf told l field known.steps →
-    IsHeld l known t → HasKnown l known t → FullIf told k l t
-full_is told k l known field t laws later bar closed held all = record {
-  at = λ f is holds served. all_known l f known laws field t bar (closed.at f is (later f is holds)) held all served;
+pub full_is : (a b : RigState) (k l : Kept) (known : KnownWires) (field : Field) (t : Findings) → AreLaws l.shape → Advances a b k l → IsBarField l.shape t.node field → ClosedIf a.machine.faults l field known.steps → IsHeld l known t → HasKnown l known t →
+    FullIf a.machine.faults k l t
+full_is a b k l known field t laws adv bar closed held all = record {
+  at = λ f told holds served. all_known l f known laws field t bar (closed.at f told (adv.holds f told holds)) held all served;
 }
 
 -- the same, of the same node

@@ -85,11 +85,11 @@ pin_known {m} {k} {f} {a} {ss} j e closed within marked sound = by (known_or ss 
         (closed.pins j (subst (λ s. j < pins_of s) e within) (subst (λ s. has_number a.wires (pin_wire s j) ≡ true) e marked) (subst (λ s. IsClear s f (pin_wire s j)) e (clear_of_sound sound))
         (subst (λ s. IsAlone s f (HasWire ss) (pin_wire s j)) e (sound_alone sound never)))
 
-pub pins_grown : (told : Option Faults) (k l : Kept) (known : KnownWires) (count : ℕ) (ws : List Wire) (start : List Bool) (field : Field) → l.shape ≡ k.shape → ((f : Faults) → told ≡ Some f → HoldsFor k f → HoldsFor l f) → count ≤ pins_of k.shape →
-    IsListOf (IsAtOneOf (pin_wire k.shape) count) (wire_numbers ws) → Gets (IsWireBefore ws (length ws)) (length ws) start field.wires → ClosedIf told l field known.steps → SoundPinsAreKnown told k known count
-pins_grown told k l known count ws start field shape later few list got closed = record {
-  at = λ f is holds j below sound.
-      pin_known j (sym shape) (closed.at f is (later f is holds)) (omega (arith, below, few)) (got.all (pin_wire k.shape j) (before_of ws (pin_wire k.shape j) (list.all (pin_wire k.shape j) (record { position = j; early = below; is = refl })))) sound;
+pub pins_grown : (a b : RigState) (k l : Kept) (known : KnownWires) (count : ℕ) (ws : List Wire) (start : List Bool) (field : Field) → Advances a b k l → count ≤ pins_of k.shape → IsListOf (IsAtOneOf (pin_wire k.shape) count) (wire_numbers ws) →
+    Gets (IsWireBefore ws (length ws)) (length ws) start field.wires → ClosedIf a.machine.faults l field known.steps → SoundPinsAreKnown a.machine.faults k known count
+pins_grown a b k l known count ws start field adv few list got closed = record {
+  at = λ f told holds j below sound.
+      pin_known j (sym adv.more.shape) (closed.at f told (adv.holds f told holds)) (omega (arith, below, few)) (got.all (pin_wire k.shape j) (before_of ws (pin_wire k.shape j) (list.all (pin_wire k.shape j) (record { position = j; early = below; is = refl })))) sound;
 }
 
 pub few_loads : (told : Option Faults) (k : Kept) (field : Field) (ws : List Wire) (start : List Bool) (before after count : ℕ) → length ws ≡ count → size_of start ≡ 0 → size_of field.crosses ≡ 0 → Gets (IsWireBefore ws (length ws)) (length ws) start field.wires →
@@ -113,40 +113,32 @@ few_pins told k known count ws laws few list found one = record {
 pub told_still : {a b : RigState} {k l : Kept} (f : Faults) → Advances a b k l → a.machine.faults ≡ Some f → b.machine.faults ≡ Some f
 told_still f adv told = ap (λ (m : Machine). m.faults) adv.machine ∙ told
 
-pub unserved_by : (told : Option Faults) (k l : Kept) (pins : ℕ) → l.shape ≡ k.shape → ((f : Faults) → told ≡ Some f → HoldsFor k f → HoldsFor l f) → pins ≡ pins_of k.shape → FewPins told l pins → UnservedIf told k 0
-unserved_by told k l pins shape later e few = record {
-  at = λ f is holds served. few.at f is (later f is holds)
-      (subst (λ s. HasTwo (λ j. (j < pins) × IsSoundWire s f (pin_wire s j))) (sym shape) (subst (λ n. HasTwo (λ j. (j < n) × IsSoundWire k.shape f (pin_wire k.shape j))) (sym e) served.pins));
-}
-
 pub unserved_root : (a b : RigState) (k l : Kept) (pins : ℕ) → Advances a b k l → pins ≡ pins_of k.shape → FewPins b.machine.faults l pins → UnservedIf a.machine.faults k 0
-unserved_root a b k l pins adv e few = unserved_by _ k l pins adv.more.shape adv.holds e (record { at = λ f is holds. few.at f (told_still f adv is) holds })
+unserved_root a b k l pins adv e few = record {
+  at = λ f told holds served. few.at f (told_still f adv told) (adv.holds f told holds)
+      (subst (λ s. HasTwo (λ j. (j < pins) × IsSoundWire s f (pin_wire s j))) (sym adv.more.shape) (subst (λ n. HasTwo (λ j. (j < n) × IsSoundWire k.shape f (pin_wire k.shape j))) (sym e) served.pins));
+}
 
 -- without faults a trunk is found among the first two pins, if there are two
-pub root_by : (told : Option Faults) (k l : Kept) (first pins before mid after : ℕ) → ((f : Faults) → told ≡ Some f → HoldsFor k f → HoldsFor l f) → first ≤ 2 → (first < 2 → first ≡ pins) → ((f : Faults) → IsFaultless f → (w : ℕ) → IsSoundWire k.shape f w) →
-    FewPins told k first → LoadsAtMost told k before mid (3 * first) → LoadsAtMost told l mid after (3 * pins) → LoadsAtMost told k before after 6
-root_by told k l first pins before mid after later few all sound none one other = record {
-  at = λ f is faultless holds. by f is faultless holds (cases_eq first 2);
+pub root_loads : (a b : RigState) (k l : Kept) (first pins after : ℕ) → Advances a b k l → first ≤ 2 → (first < 2 → first ≡ pins) → ((f : Faults) → IsFaultless f → (w : ℕ) → IsSoundWire k.shape f w) → FewPins a.machine.faults k first →
+    LoadsAtMost a.machine.faults k a.loads b.loads (3 * first) → LoadsAtMost b.machine.faults l b.loads after (3 * pins) → LoadsAtMost a.machine.faults k a.loads after 6
+root_loads a b k l first pins after adv few all sound none one other = record {
+  at = λ f told faultless holds. by f told faultless holds (cases_eq first 2);
 }
   where
-    by : (f : Faults) → told ≡ Some f → IsFaultless f → HoldsFor k f → (first ≡ 2) ⊎ (first ≡ 2 → ⊥) → after ≤ before + 6
-    by f is faultless holds (inl e) = absurd (none.at f is holds (record {
+    by : (f : Faults) → a.machine.faults ≡ Some f → IsFaultless f → HoldsFor k f → (first ≡ 2) ⊎ (first ≡ 2 → ⊥) → after ≤ a.loads + 6
+    by f told faultless holds (inl e) = absurd (none.at f told holds (record {
       one = 0;
       two = 1;
       different = λ e. let no : ⊥ = omega (arith, e) in no;
       first = (omega (arith, e), sound f faultless (pin_wire k.shape 0));
       second = (omega (arith, e), sound f faultless (pin_wire k.shape 1));
     }))
-    by f is faultless holds (inr other_count) =
-        let x = one.at f is faultless holds in
-        let y = other.at f is faultless (later f is holds) in
+    by f told faultless holds (inr other_count) =
+        let x = one.at f told faultless holds in
+        let y = other.at f (told_still f adv told) faultless (adv.holds f told holds) in
         let s : first ≡ pins = all (omega (arith, few, other_count)) in
         omega (arith, x, y, s, few, other_count)
-
-pub root_loads : (a b : RigState) (k l : Kept) (first pins after : ℕ) → Advances a b k l → first ≤ 2 → (first < 2 → first ≡ pins) → ((f : Faults) → IsFaultless f → (w : ℕ) → IsSoundWire k.shape f w) → FewPins a.machine.faults k first →
-    LoadsAtMost a.machine.faults k a.loads b.loads (3 * first) → LoadsAtMost b.machine.faults l b.loads after (3 * pins) → LoadsAtMost a.machine.faults k a.loads after 6
-root_loads a b k l first pins after adv few all sound none one other =
-    root_by _ k l first pins a.loads b.loads after adv.holds few all sound none one (record { at = λ f is faultless holds. other.at f (told_still f adv is) faultless holds })
 
 pub at_most_six : (told : Option Faults) (k : Kept) (before after first : ℕ) → first ≤ 2 → LoadsAtMost told k before after (3 * first) → LoadsAtMost told k before after 6
 at_most_six told k before after first few h = record { at = λ f is faultless holds. (let most = h.at f is faultless holds in omega (arith, most, few)) }

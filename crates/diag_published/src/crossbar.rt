@@ -2,7 +2,7 @@
 ghost use Rattle.std.specs.Prelude.{◌≡◌, ◌<◌, ℕ, All, Some, IfOk, IsErrOf};
 ghost use Rattle.base_io.specs.Counts.{Rose};
 ghost use Rattle.machine_shape.specs.Shape.{wires_of, nodes_of, taps_of, node_of};
-ghost use Rattle.rig.specs.Rig.{ForEach, shape_of};
+ghost use Rattle.rig.specs.Rig.{shape_of};
 ghost use Rattle.diag_evidence.specs.Kept.{Advances};
 ghost use Rattle.diag_known.specs.Known.{IsKnown, HasWire};
 ghost use Rattle.diag_published.specs.Bars.{AreBarOf, HasKnown, IsBarField};
@@ -81,11 +81,8 @@ fn test_node(
     ensures node { IfOk result (λ tested. tested.node ≡ node.0) }
     ensures held { IfOk result (IsHeld facts.new known.new) }
     ensures full { IfOk result (FullIf (rig_state rig.old).machine.faults facts.old facts.new) }
-    ensures full_each { IfOk result (λ yes. ForEach (rig_state rig.new) (λ told. FullIf told facts.old facts.new yes)) }
     ensures loads { LoadsForBar facts.old.shape node.0 (rig_state rig.old).loads (rig_state rig.new).loads }
     ensures few { FewLoadsForBar (rig_state rig.old).machine.faults facts.old node.0 (rig_state rig.old).loads (rig_state rig.new).loads }
-    ensures few_each { ForEach (rig_state rig.new) (λ told. FewLoadsForBar told facts.old node.0 (rig_state rig.old).loads (rig_state
-        rig.new).loads) }
     ensures advances { Advances (rig_state rig.old) (rig_state rig.new) facts.old facts.new }
     ensures cause { IsErrOf result RigFail.Failed → Rose (rig_state rig.old).failures (rig_state rig.new).failures }
 {
@@ -123,13 +120,10 @@ pub fn test_crossbar(
     ensures node { IfOk result (λ tested. tested.node ≡ node_of facts.old.shape trunk.left.end) }
     ensures held { IfOk result (IsHeld facts.new known.new) }
     ensures full { IfOk result (FullIf (rig_state rig.old).machine.faults facts.old facts.new) }
-    ensures full_each { IfOk result (λ yes. ForEach (rig_state rig.new) (λ told. FullIf told facts.old facts.new yes)) }
     ensures loads { LoadsForBar facts.old.shape (node_of facts.old.shape trunk.left.end) (rig_state rig.old).loads
         (rig_state rig.new).loads }
     ensures few { FewLoadsForBar (rig_state rig.old).machine.faults facts.old (node_of facts.old.shape trunk.left.end)
         (rig_state rig.old).loads (rig_state rig.new).loads }
-    ensures few_each { ForEach (rig_state rig.new) (λ told. FewLoadsForBar told facts.old (node_of facts.old.shape trunk.left.end)
-        (rig_state rig.old).loads (rig_state rig.new).loads) }
     ensures advances { Advances (rig_state rig.old) (rig_state rig.new) facts.old facts.new }
     ensures cause { IsErrOf result RigFail.Failed → Rose (rig_state rig.old).failures (rig_state rig.new).failures }
 {

@@ -2,7 +2,7 @@
 ghost use Rattle.std.specs.Prelude.{◌≡◌, ◌≢◌, ◌<◌, ◌≤◌, ◌*◌, ℕ, All, Some, IfOk, IfSome, IfNone, OnOk, IsErrOf, length};
 ghost use Rattle.base_io.specs.Counts.{Rose};
 ghost use Rattle.machine_shape.specs.Shape.{wires_of, pins_of, pin_wire};
-ghost use Rattle.rig.specs.Rig.{ForEach, shape_of};
+ghost use Rattle.rig.specs.Rig.{shape_of};
 ghost use Rattle.diag_evidence.specs.Kept.{Advances};
 ghost use Rattle.diag_known.specs.Known.{IsKnown, HasWire};
 ghost use Rattle.diag_published.specs.Bars.{FewPins, IsAtOneOf, IsKnownOf, IsListOf, IsTrunkOf, IsTrunkTo, SoundPinsAreKnown};
@@ -72,11 +72,8 @@ fn grow_pins(
     ensures known { IsKnown facts.new known.new }
     ensures stays { (w : ℕ) → HasWire known.old.steps w → HasWire known.new.steps w }
     ensures found { OnOk result (SoundPinsAreKnown (rig_state rig.old).machine.faults facts.old known.new count) }
-    ensures found_each { OnOk result (ForEach (rig_state rig.new) (λ told. SoundPinsAreKnown told facts.old known.new count)) }
     ensures loads { LoadsAtMost (rig_state rig.old).machine.faults facts.old (rig_state rig.old).loads
         (rig_state rig.new).loads (3 * count) }
-    ensures loads_each { ForEach (rig_state rig.new) (λ told. LoadsAtMost told facts.old (rig_state rig.old).loads (rig_state
-        rig.new).loads (3 * count)) }
     ensures advances { Advances (rig_state rig.old) (rig_state rig.new) facts.old facts.new }
     ensures cause { IsErrOf result RigFail.Failed → Rose (rig_state rig.old).failures (rig_state rig.new).failures }
 {
@@ -105,11 +102,8 @@ fn try_pins(
     ensures stays { (w : ℕ) → HasWire known.old.steps w → HasWire known.new.steps w }
     ensures held { IfOk result (λ found. IfSome found (λ t. IsHeldTrunk facts.new known.new 0 t.left t.right)) }
     ensures none { IfOk result (λ found. IfNone found (FewPins (rig_state rig.old).machine.faults facts.old count)) }
-    ensures none_each { IfOk result (λ found. ForEach (rig_state rig.new) (λ told. IfNone found (FewPins told facts.old count))) }
     ensures loads { LoadsAtMost (rig_state rig.old).machine.faults facts.old (rig_state rig.old).loads
         (rig_state rig.new).loads (3 * count) }
-    ensures loads_each { ForEach (rig_state rig.new) (λ told. LoadsAtMost told facts.old (rig_state rig.old).loads (rig_state
-        rig.new).loads (3 * count)) }
     ensures advances { Advances (rig_state rig.old) (rig_state rig.new) facts.old facts.new }
     ensures cause { IsErrOf result RigFail.Failed → Rose (rig_state rig.old).failures (rig_state rig.new).failures }
 {
@@ -149,10 +143,7 @@ pub(crate) fn root_trunk(
     ensures stays { (w : ℕ) → HasWire known.old.steps w → HasWire known.new.steps w }
     ensures held { IfOk result (λ found. IfSome found (λ t. IsHeldTrunk facts.new known.new 0 t.left t.right)) }
     ensures none { IfOk result (λ found. IfNone found (UnservedIf (rig_state rig.old).machine.faults facts.old 0)) }
-    ensures none_each { IfOk result (λ found. ForEach (rig_state rig.new) (λ told. IfNone found (UnservedIf told facts.old 0))) }
     ensures loads { LoadsAtMost (rig_state rig.old).machine.faults facts.old (rig_state rig.old).loads (rig_state rig.new).loads 6 }
-    ensures loads_each { ForEach (rig_state rig.new) (λ told. LoadsAtMost told facts.old (rig_state rig.old).loads (rig_state
-        rig.new).loads 6) }
     ensures advances { Advances (rig_state rig.old) (rig_state rig.new) facts.old facts.new }
     ensures cause { IsErrOf result RigFail.Failed → Rose (rig_state rig.old).failures (rig_state rig.new).failures }
 {

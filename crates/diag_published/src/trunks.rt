@@ -2,7 +2,7 @@
 ghost use Rattle.std.specs.Prelude.{◌≡◌, ℕ, Err, Some, IfOk, IfSome, IfNone, IsErrOf};
 ghost use Rattle.base_io.specs.Counts.{Rose};
 ghost use Rattle.machine_shape.specs.Shape.{node_of, parent_of};
-ghost use Rattle.rig.specs.Rig.{ForEach, shape_of};
+ghost use Rattle.rig.specs.Rig.{shape_of};
 ghost use Rattle.diag_evidence.specs.Kept.{Advances};
 ghost use Rattle.diag_known.specs.Known.{IsKnown, HasWire};
 ghost use Rattle.diag_published.specs.Held.{FullIf, IsHeld, IsHeldTrunk, IsUnserved, LoadsAtMost, UnservedIf};
@@ -71,11 +71,7 @@ pub fn find_trunk(
     ensures held { IfOk result (λ found. IfSome found (λ trunk. IsHeldTrunk facts.new known.new node.0 trunk.left trunk.right)) }
     ensures node { IfOk result (λ found. IfSome found (λ trunk. node_of facts.old.shape trunk.left.end ≡ node.0)) }
     ensures none { IfOk result (λ found. IfNone found (UnservedIf (rig_state rig.old).machine.faults facts.old node.0)) }
-    ensures none_each { IfOk result (λ found. ForEach (rig_state rig.new) (λ told. IfSome parent (λ tested. FullIf told facts.old
-        facts.old tested.now) → IfNone found (UnservedIf told facts.old node.0))) }
     ensures loads { LoadsAtMost (rig_state rig.old).machine.faults facts.old (rig_state rig.old).loads (rig_state rig.new).loads 6 }
-    ensures loads_each { ForEach (rig_state rig.new) (λ told. LoadsAtMost told facts.old (rig_state rig.old).loads (rig_state
-        rig.new).loads 6) }
     ensures advances { Advances (rig_state rig.old) (rig_state rig.new) facts.old facts.new }
     ensures cause { IsErrOf result RigFail.Failed → Rose (rig_state rig.old).failures (rig_state rig.new).failures }
 {

@@ -51,45 +51,37 @@ fn tell(rt: &HostRuntime, status: u8) -> io::Result<bool> {
     Ok(true)
 }
 
-// Does what the words of a command line say over a rig, on the files of the folder. Gives the status.
-fn run_over(rt: &HostRuntime, rig: &mut Box<dyn Rig>, words: &[String]) -> io::Result<u8> {
-    let alloc: Global = rt.alloc();
-    let mut store = FileStore::new(alloc, rt.clone()?);
-    let mut sink = StdSink::new(rt.clone()?);
-    Ok(teramac(alloc, words, &mut store, rig, &mut sink))
-}
-
 // Over a rig that asks again, over one that turns the reading of a number.
 fn try_repeat(rt: &HostRuntime, turned: &str, words: &[String]) -> io::Result<bool> {
     let alloc: Global = rt.alloc();
     let inner = TurnRig::new(sim_of(rt)?, number_of(turned));
     let mut rig: Box<dyn Rig> = Box::new(alloc, RepeatRig::new(alloc, inner))?;
-    tell(rt, run_over(rt, &mut rig, words)?)
+    let mut store = FileStore::new(alloc, rt.clone()?);
+    let mut sink = StdSink::new(rt.clone()?);
+    tell(rt, teramac(alloc, words, &mut store, &mut rig, &mut sink))
 }
 
 // Over a rig that turns the reading of a number.
 fn try_turn(rt: &HostRuntime, turned: &str, words: &[String]) -> io::Result<bool> {
     let alloc: Global = rt.alloc();
     let mut rig: Box<dyn Rig> = Box::new(alloc, TurnRig::new(sim_of(rt)?, number_of(turned)))?;
-    tell(rt, run_over(rt, &mut rig, words)?)
-}
-
-// Over a rig that asks again. Gives the status, the loads that were asked for and those that reached its inner rig.
-fn passes(rt: &HostRuntime, words: &[String]) -> io::Result<(u8, u64, u64)> {
-    let alloc: Global = rt.alloc();
-    let loads = Rc::new(alloc, Cell::new(0u64))?;
-    let inner = TellingRig::new(sim_of(rt)?, loads.clone()?);
-    let mut rig: Box<dyn Rig> = Box::new(alloc, RepeatRig::new(alloc, inner))?;
-    let status = run_over(rt, &mut rig, words)?;
-    Ok((status, rig.loads(), loads.get()))
+    let mut store = FileStore::new(alloc, rt.clone()?);
+    let mut sink = StdSink::new(rt.clone()?);
+    tell(rt, teramac(alloc, words, &mut store, &mut rig, &mut sink))
 }
 
 // Over a rig that asks again. False where its inner rig wasn't loaded so often for each load but the last, and once for that.
 fn try_passes(rt: &HostRuntime, times: &str, words: &[String]) -> io::Result<bool> {
-    let (status, asked, made) = passes(rt, words)?;
-    let but_last = asked.saturating_sub(1);
+    let alloc: Global = rt.alloc();
+    let loads = Rc::new(alloc, Cell::new(0u64))?;
+    let inner = TellingRig::new(sim_of(rt)?, loads.clone()?);
+    let mut rig: Box<dyn Rig> = Box::new(alloc, RepeatRig::new(alloc, inner))?;
+    let mut store = FileStore::new(alloc, rt.clone()?);
+    let mut sink = StdSink::new(rt.clone()?);
+    let status = teramac(alloc, words, &mut store, &mut rig, &mut sink);
+    let but_last = rig.loads().saturating_sub(1);
     let due = but_last.saturating_mul(number_of(times)).saturating_add(1);
-    let right = 0 < but_last && made == due;
+    let right = 0 < but_last && loads.get() == due;
     println!(rt; "status {status}, each load but the last was made {times} times: {right}")?;
     Ok(right)
 }
@@ -100,7 +92,9 @@ fn try_twin(rt: &HostRuntime, name: &str, words: &[String]) -> io::Result<bool> 
     let name = String::from_str(alloc, name)?;
     let twin = TwinRig::new(alloc, sim_of(rt)?, sim_of(rt)?, name);
     let mut rig: Box<dyn Rig> = Box::new(alloc, twin)?;
-    tell(rt, run_over(rt, &mut rig, words)?)
+    let mut store = FileStore::new(alloc, rt.clone()?);
+    let mut sink = StdSink::new(rt.clone()?);
+    tell(rt, teramac(alloc, words, &mut store, &mut rig, &mut sink))
 }
 
 // Over a machine that is another, of this name, from a load on.
@@ -109,7 +103,9 @@ fn try_late(rt: &HostRuntime, from: &str, name: &str, words: &[String]) -> io::R
     let late = String::from_str(alloc, name)?;
     let board = LateBoard::new(alloc, sim_of(rt)?, number_of(from), late);
     let mut rig: Box<dyn Rig> = Box::new(alloc, BoardRig::new(alloc, board))?;
-    tell(rt, run_over(rt, &mut rig, words)?)
+    let mut store = FileStore::new(alloc, rt.clone()?);
+    let mut sink = StdSink::new(rt.clone()?);
+    tell(rt, teramac(alloc, words, &mut store, &mut rig, &mut sink))
 }
 
 // Over a machine behind files.
@@ -117,38 +113,39 @@ fn try_port(rt: &HostRuntime, words: &[String]) -> io::Result<bool> {
     let alloc: Global = rt.alloc();
     let board = FileBoard::new(alloc, rt.clone()?);
     let mut rig: Box<dyn Rig> = Box::new(alloc, BoardRig::new(alloc, board))?;
-    tell(rt, run_over(rt, &mut rig, words)?)
+    let mut store = FileStore::new(alloc, rt.clone()?);
+    let mut sink = StdSink::new(rt.clone()?);
+    tell(rt, teramac(alloc, words, &mut store, &mut rig, &mut sink))
 }
 
-// A machine of this shape behind a port: a simulated rig that answers requests.
-fn behind_port(rt: &HostRuntime, shape: Shape) -> io::Result<Box<dyn Rig>> {
-    let alloc: Global = rt.alloc();
-    let board = PortBoard::new(alloc, RigPort::new(alloc, sim_of(rt)?, shape));
-    Ok(Box::new(alloc, BoardRig::new(alloc, board))?)
-}
-
-// Over a machine of the counts of `tiny` behind a port.
+// Over a simulated rig that answers requests: a machine of the counts of `tiny` behind a port.
 fn try_end(rt: &HostRuntime, words: &[String]) -> io::Result<bool> {
+    let alloc: Global = rt.alloc();
     let Ok(shape) = Shape::new(TINY) else {
         return Ok(false);
     };
-    let mut rig = behind_port(rt, shape)?;
-    tell(rt, run_over(rt, &mut rig, words)?)
+    let board = PortBoard::new(alloc, RigPort::new(alloc, sim_of(rt)?, shape));
+    let mut store = FileStore::new(alloc, rt.clone()?);
+    let mut sink = StdSink::new(rt.clone()?);
+    let mut rig: Box<dyn Rig> = Box::new(alloc, BoardRig::new(alloc, board))?;
+    tell(rt, teramac(alloc, words, &mut store, &mut rig, &mut sink))
 }
 
-// Over such a machine, what is read behind a load that may have been made again.
+// Over a machine behind a port, what is read behind a load that may have been made again.
 fn try_lost(rt: &HostRuntime, name: &str) -> io::Result<bool> {
+    let alloc: Global = rt.alloc();
     let Ok(shape) = Shape::new(TINY) else {
         return Ok(false);
     };
-    let mut rig = behind_port(rt, shape)?;
+    let board = PortBoard::new(alloc, RigPort::new(alloc, sim_of(rt)?, shape));
+    let mut rig: Box<dyn Rig> = Box::new(alloc, BoardRig::new(alloc, board))?;
     if rig.attach(&shape, name).is_err() {
         return Ok(false);
     }
-    let Ok(found) = load_twice(rt.alloc(), &mut rig, &shape) else {
-        return Ok(false);
-    };
-    tell_lost(rt, &found)
+    match load_twice(alloc, &mut rig, &shape) {
+        Ok(found) => tell_lost(rt, &found),
+        Err(_) => Ok(false),
+    }
 }
 
 // Tries the case that words say; false where they say none.

@@ -1,5 +1,5 @@
 -- What such a command has done, from where its course stands.
-use Rattle.std.proofs.Common.{◌≡◌, ◌∙◌, ℕ, All, List, [], ◌∷◌, ◌++◌, Bool, sym, ap, subst, inl, inr, append_assoc, length, Some, Result}
+use Rattle.std.proofs.Common.{◌≡◌, ◌∙◌, ℕ, All, List, [], ◌∷◌, ◌++◌, Bool, refl, sym, ap, subst, inl, inr, append_assoc, length, Some, Result}
 use Rattle.base_io.specs.Vocabulary.{next_count, IfTold, Wrote}
 use Rattle.machine_shape.specs.declared.Shape.{Shape}
 use Rattle.machine_meaning.specs.Vocabulary.{Faults, Covers}

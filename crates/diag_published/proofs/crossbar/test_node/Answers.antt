@@ -6,7 +6,6 @@ use Rattle.diag_published.specs.Bars.{AreBarOf}
 use Rattle.diag_published.specs.Held.{wire_numbers}
 use Rattle.diag_published.proofs.Filling.{bar_at, full_is, bar_loads, bar_few, no_few, trunk_node, trunk_taps}
 use Rattle.diag_published.proofs.Staying.{trunk_later}
-use Rattle.diag_growth.proofs.Explained.{held}
 use Rattle.diag_published.proofs.crossbar.test_node.Goals as goal
 
 pub ground_of-requires-clause-node : goal.ground_of-requires-clause-node
@@ -36,26 +35,15 @@ found_in-requires-clause-lines g c = subst (λ (m : Shape). All (λ (w : Wire). 
 pub returns-in_default-clause-few : goal.returns-in_default-clause-few
 returns-in_default-clause-few g c = no_few _ c.args.facts.now c.args.node.0 _
 
-pub returns-in_default-clause-few_each : goal.returns-in_default-clause-few_each
-returns-in_default-clause-few_each g c = λ f e. no_few _ c.args.facts.now c.args.node.0 _
-
 pub returns-in_err-grow-clause-loads : goal.returns-in_err-grow-clause-loads
 returns-in_err-grow-clause-loads g c = bar_loads c.args.node.0 c.in-Ok.field _ _ c.args.facts.now c.in-Ok.ensures.field c.in_err-grow.ensures.loads
 
 pub returns-in_err-grow-clause-few : goal.returns-in_err-grow-clause-few
 returns-in_err-grow-clause-few g c = bar_few c.args.node.0 c.in-Ok.field _ _ _ c.args.facts.now c.in-Ok.ensures.field c.in_err-grow.ensures.few
 
-pub returns-in_err-grow-clause-few_each : goal.returns-in_err-grow-clause-few_each
-returns-in_err-grow-clause-few_each g c = λ f e. bar_few c.args.node.0 c.in-Ok.field _ _ _ c.args.facts.now c.in-Ok.ensures.field (c.in_err-grow.ensures.few_each f e)
-
 pub returns-in-Ok-found_in-clause-full : goal.returns-in-Ok-found_in-clause-full
-returns-in-Ok-found_in-clause-full g c = full_is _ c.args.facts.now c.grow.new.facts c.grow.new.known c.in-Ok.field c.in-Ok-found_in.tested (c.the_laws_hold.ensures c.grow.new.facts.shape) c.in_ok-grow.ensures.advances.holds
+returns-in-Ok-found_in-clause-full g c = full_is _ _ c.args.facts.now c.grow.new.facts c.grow.new.known c.in-Ok.field c.in-Ok-found_in.tested (c.the_laws_hold.ensures c.grow.new.facts.shape) c.in_ok-grow.ensures.advances
     (bar_at (sym c.in_ok-grow.ensures.advances.more.shape) (sym (rw c.in-Ok-found_in.is at c.found_in.ensures.node)) c.in-Ok.ensures.field) c.in_ok-grow.ensures.closed
-    (rw c.in-Ok-found_in.is at c.found_in.ensures.held) (rw c.in-Ok-found_in.is at c.found_in.ensures.all)
-
-pub returns-in-Ok-found_in-clause-full_each : goal.returns-in-Ok-found_in-clause-full_each
-returns-in-Ok-found_in-clause-full_each g c = λ f e. full_is _ c.args.facts.now c.grow.new.facts c.grow.new.known c.in-Ok.field c.in-Ok-found_in.tested (c.the_laws_hold.ensures c.grow.new.facts.shape) (held c.in_ok-grow.ensures.advances e)
-    (bar_at (sym c.in_ok-grow.ensures.advances.more.shape) (sym (rw c.in-Ok-found_in.is at c.found_in.ensures.node)) c.in-Ok.ensures.field) (c.in_ok-grow.ensures.closed_each f e)
     (rw c.in-Ok-found_in.is at c.found_in.ensures.held) (rw c.in-Ok-found_in.is at c.found_in.ensures.all)
 
 pub returns-in-Ok-found_in-clause-loads : goal.returns-in-Ok-found_in-clause-loads
@@ -64,14 +52,8 @@ returns-in-Ok-found_in-clause-loads g c = bar_loads c.args.node.0 c.in-Ok.field 
 pub returns-in-Ok-found_in-clause-few : goal.returns-in-Ok-found_in-clause-few
 returns-in-Ok-found_in-clause-few g c = bar_few c.args.node.0 c.in-Ok.field _ _ _ c.args.facts.now c.in-Ok.ensures.field c.in_ok-grow.ensures.few
 
-pub returns-in-Ok-found_in-clause-few_each : goal.returns-in-Ok-found_in-clause-few_each
-returns-in-Ok-found_in-clause-few_each g c = λ f e. bar_few c.args.node.0 c.in-Ok.field _ _ _ c.args.facts.now c.in-Ok.ensures.field (c.in_ok-grow.ensures.few_each f e)
-
 pub returns-clause-loads : goal.returns-clause-loads
 returns-clause-loads g c = bar_loads c.args.node.0 c.in-Ok.field _ _ c.args.facts.now c.in-Ok.ensures.field c.in_ok-grow.ensures.loads
 
 pub returns-clause-few : goal.returns-clause-few
 returns-clause-few g c = bar_few c.args.node.0 c.in-Ok.field _ _ _ c.args.facts.now c.in-Ok.ensures.field c.in_ok-grow.ensures.few
-
-pub returns-clause-few_each : goal.returns-clause-few_each
-returns-clause-few_each g c = λ f e. bar_few c.args.node.0 c.in-Ok.field _ _ _ c.args.facts.now c.in-Ok.ensures.field (c.in_ok-grow.ensures.few_each f e)

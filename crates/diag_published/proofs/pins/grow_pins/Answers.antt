@@ -4,7 +4,6 @@ use Rattle.machine_shape.specs.Shape.{wires_of, crosses_of}
 use Rattle.diag_published.proofs.Fielding.{within_marks}
 use Rattle.diag_published.proofs.Laid.{on_ok}
 use Rattle.diag_published.proofs.Trunking.{pins_grown, few_loads}
-use Rattle.diag_growth.proofs.Explained.{held}
 use Rattle.diag_published.proofs.pins.grow_pins.Goals as goal
 
 pub add_wires-requires : goal.add_wires-requires
@@ -14,14 +13,7 @@ pub grow-requires-clause-field : goal.grow-requires-clause-field
 grow-requires-clause-field g c = record { wires = c.add_wires.ensures.len ∙ c.in-Ok.ensures.field.wires ∙ ap wires_of c.shape-shape.ensures; crosses = c.in-Ok.ensures.field.crosses ∙ ap crosses_of c.shape-shape.ensures }
 
 pub returns-clause-found : goal.returns-clause-found
-returns-clause-found g c = on_ok c.grow.result c.grow.ensures.closed (λ closed. pins_grown _ _ _ _ c.args.count c.args.pins.now.items _ _ c.grow.ensures.advances.more.shape c.grow.ensures.advances.holds c.requires.count c.requires.pins c.add_wires.ensures closed)
-
-pub returns-clause-found_each : goal.returns-clause-found_each
-returns-clause-found_each g c = on_ok c.grow.result c.grow.ensures.closed_each
-    (λ closed f e. pins_grown _ _ _ _ c.args.count c.args.pins.now.items _ _ c.grow.ensures.advances.more.shape (held c.grow.ensures.advances e) c.requires.count c.requires.pins c.add_wires.ensures (closed f e))
+returns-clause-found g c = on_ok c.grow.result c.grow.ensures.closed (λ closed. pins_grown _ _ _ _ _ c.args.count c.args.pins.now.items _ _ c.grow.ensures.advances c.requires.count c.requires.pins c.add_wires.ensures closed)
 
 pub returns-clause-loads : goal.returns-clause-loads
 returns-clause-loads g c = few_loads _ _ _ c.args.pins.now.items _ _ _ c.args.count c.requires.length c.in-Ok.ensures.wires c.in-Ok.ensures.crosses c.add_wires.ensures c.grow.ensures.few
-
-pub returns-clause-loads_each : goal.returns-clause-loads_each
-returns-clause-loads_each g c = λ f e. few_loads _ _ _ c.args.pins.now.items _ _ _ c.args.count c.requires.length c.in-Ok.ensures.wires c.in-Ok.ensures.crosses c.add_wires.ensures (c.grow.ensures.few_each f e)

@@ -1,7 +1,5 @@
-use Rattle.std.proofs.Common.{◌≡◌, ℕ, Some, refl, sym, subst, arith}
+use Rattle.std.proofs.Common.{◌≡◌, refl, arith}
 use Rattle.diag_published.proofs.Trunking.{trunks_end, unserved_if}
-use Rattle.diag_published.specs.Held.{UnservedIf}
-use Rattle.diag_published.proofs.Laid.{if_ok, if_none, of_some}
 use Rattle.diag_published.proofs.trunks.find_trunk.Goals as goal
 
 pub returns-in-None-clause-held : goal.returns-in-None-clause-held
@@ -14,11 +12,6 @@ returns-in-None-clause-none g c =
     let root : c.args.node.0 ≡ 0 = rw c.in-None.is at c.requires.root in
     rw root c.root_trunk.ensures.none
 
-pub returns-in-None-clause-none_each : goal.returns-in-None-clause-none_each
-returns-in-None-clause-none_each g c =
-    let root : c.args.node.0 ≡ 0 = rw c.in-None.is at c.requires.root in
-    if_ok c.root_trunk.result c.root_trunk.ensures.none_each (λ found none f e full. if_none found (none f e) (subst (λ (n : ℕ). UnservedIf (Some f) c.args.facts.now n) (sym root)))
-
 pub returns-in-None-clause-node : goal.returns-in-None-clause-node
 returns-in-None-clause-node g c =
     let root : c.args.node.0 ≡ 0 = rw c.in-None.is at c.requires.root in
@@ -30,12 +23,5 @@ returns-in-Some-clause-node g c = trunks_end c.args.facts.now c.args.known.now c
 pub returns-in-Some-clause-none : goal.returns-in-Some-clause-none
 returns-in-Some-clause-none g c = unserved_if c.child_trunk.result _ c.args.facts.now c.in-Some.tested.now c.args.node.0 (rw c.in-Some.is at c.requires.full) c.child_trunk.ensures.none
 
-pub returns-in-Some-clause-none_each : goal.returns-in-Some-clause-none_each
-returns-in-Some-clause-none_each g c = if_ok c.child_trunk.result c.child_trunk.ensures.none
-    (λ found none f e full. if_none found none (λ unserved. record { at = λ h is holds. unserved h ((of_some c.in-Some.is full).at h is holds) }))
-
 pub returns-in-Some-clause-loads : goal.returns-in-Some-clause-loads
 returns-in-Some-clause-loads g c = record { at = λ f is faultless holds. omega arith }
-
-pub returns-in-Some-clause-loads_each : goal.returns-in-Some-clause-loads_each
-returns-in-Some-clause-loads_each g c = λ f e. record { at = λ h is faultless holds. omega arith }
