@@ -13,6 +13,7 @@ from itertools import combinations, cycle
 import matplotlib.pyplot as plt
 
 from program import UNDECIDED, mcnemar
+from size import TREES, bearing_crosspoints, network_named
 from study_rows import COSTS, cause, diagnoses, mean, paired, read_rows, share, split
 
 plt.switch_backend("svg")
@@ -371,7 +372,25 @@ def at_work(rows, _):
     return picture, ["machine", "design", "kind", "rate", "list", *columns], table
 
 
-FIGURES = {draw.__name__: draw for draw in (fits, machines, why, thrown, loads, redundancy, price, compare, pairs, at_work)}
+def borne(rows, _):
+    """What so many faults cost in crosspoints: borne for certain, wherever they lie, and borne in the runs with an exact list"""
+    picture, parts = facets([row for row in rows if row["list"] == "exact" and row["faults"]], ("design", "kind"))
+    table = []
+    for axes, names, part in parts:
+        certain = bearing_crosspoints(network_named(names[0]), TREES)[1:]
+        table += [[*names, "certain", faults, crosspoints, ""] for faults, crosspoints in enumerate(certain, 1)]
+        axes.plot(range(1, len(certain) + 1), certain, color="C0", label="for certain, up to the most within the limits")
+        for fits_in, marker, label in ((True, "o", "a random set, with room"), (False, "x", "a random set, without")):
+            runs = [row for row in part if (row["status"] == "0") == fits_in]
+            table += [[*names, "random", row["faults"], row["crosspoints"], int(fits_in)] for row in runs]
+            look = {"color": "C1" if fits_in else "C3", "marker": marker, "markersize": 5, "linestyle": "none", "label": label}
+            axes.plot([row["faults"] for row in runs], [row["crosspoints"] for row in runs], **look)
+        axes.set(xscale="log", yscale="log", xlabel="faults", ylabel="crosspoints of the machine")
+        axes.legend(loc="upper center", bbox_to_anchor=(0.5, -0.15), ncol=2)
+    return picture, ["design", "kind", "faults_are", "faults", "crosspoints", "room"], table
+
+
+FIGURES = {draw.__name__: draw for draw in (fits, machines, why, thrown, loads, redundancy, price, compare, pairs, borne, at_work)}
 
 
 def main():

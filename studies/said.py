@@ -14,6 +14,8 @@ conditions as `design=uart rate<=0.1 list=exact,mapped`, WHAT is one of the sums
     pairs LIST LIST              sets of faults with both lists right, the first alone, the second alone, none, and McNemar's p
     short                        what was short in the runs that didn't fit
     values C, sets, designs      which values there are; how many sets of faults at each rate; how many designs of each fill
+    most C                       the greatest value
+    bears K, bears most          the crosspoints of the machine that bears K faults of the one design for certain; the most faults borne
 """
 
 import argparse
@@ -27,6 +29,7 @@ from functools import lru_cache
 from pathlib import Path
 
 from program import HERE, mcnemar
+from size import TREES, bearing_crosspoints, network_named
 from study_rows import COSTS, NUMBERS, cause, diagnoses, mean, paired, read_rows, share, split
 
 TOP = Path(HERE).parent
@@ -39,6 +42,11 @@ COMPARED = {"<=": float.__le__, ">=": float.__ge__}
 @lru_cache(None)
 def rows_of(path):
     return read_rows(path)
+
+
+@lru_cache(None)
+def borne_by(design):
+    return bearing_crosspoints(network_named(design), TREES)
 
 
 def spelled(number):
@@ -135,6 +143,11 @@ def sum_of(rows, what):
         return ", ".join(f"{found} {many:,}" for found, many in Counter(filter(None, map(cause, rows))).most_common()) or "nothing"
     if words[0] == "values":
         return " ".join(spelled(value) if isinstance(value, float) else value for (value,) in split(rows, words[1]))
+    if words[0] == "most":
+        return spelled(max(row[words[1]] for row in rows))
+    if words[0] == "bears":
+        crosspoints = borne_by(*{row["design"] for row in rows})
+        return spelled(len(crosspoints) - 1 if words[1] == "most" else crosspoints[int(words[1])])
     if words[0] == "sets":
         return span(len({row["seed"] for row in part}) for (_, _, rate), part in split(rows, "machine", "kind", "rate").items() if rate)
     if words[0] == "designs":

@@ -3,7 +3,9 @@
 
 How much must be spare at which rate of faults is the study `redundancy`. With --copies the machine is one for `twice`, which has two of
 the design, and is checked by a `twice` without faults or vectors. With --map the machine is one for a text of `teramac_map`
-with the same rows: ports and lines are pressed down while the mapper finds a text that fits.
+with the same rows: ports and lines are pressed down while the mapper finds a text that fits. With --bear K it is a machine on which
+every set of at most K faults leaves room for certain, by what is proved: 2 K tables and pins more than the design wants, and at each
+node 2 K lines and ports more than it has nets.
 """
 
 import argparse
@@ -14,7 +16,7 @@ from pathlib import Path
 import designs
 import teramac_texts as texts
 from faults import amount
-from program import MAPPER, add_program, call, checked_design
+from program import HERE, MAPPER, add_program, call, checked_design
 
 LINES = range(3, 7)  # their places among ports, lines and pins
 TREES = [(m, c, h) for m in (1, 2, 4) for c in (1, 2, 4) for h in (1, 2, 4, 8)]
@@ -34,12 +36,50 @@ def counts_for(network, tree, spare, tables=0, lines_alone=False):
     return (*tree, tables, *(spared(count, 0 if lines_alone and k not in LINES else spare) for k, count in enumerate(wanted)))
 
 
-def best_machine(network, trees, spare):
-    """Of the trees the one with the fewest crosspoints, within the limits of a machine."""
-    found = [texts.Machine(counts) for tree in trees if texts.are_within_limits(counts := counts_for(network, tree, spare))]
+def bearing_counts(network, tree, faults):
+    """The counts of a machine on this tree that bears every set of so many faults, whatever they are and wherever they lie.
+
+    A fault spoils two wires at most, so two lines of a crossbar, two ports of a node, two pins and two tables.
+    """
+    tables, pins = len(network.tables), network.inputs + len(network.outputs)
+    lost, nets = 2 * faults, network.inputs + tables
+    return (*tree, -(-(tables + lost) // math.prod(tree)), *7 * [max(nets, 2) + lost], max(pins, 2) + lost)
+
+
+def cheapest(several):
+    """Of these counts the machine with the fewest crosspoints, within the limits of a machine."""
+    found = [counts for counts in several if texts.are_within_limits(counts)]
     if not found:
         sys.exit("no machine within the limits (16,384 wires, 4,194,304 crosspoints, 4,096 tables) holds this design")
-    return min(found, key=lambda machine: machine.sizes["cross"])
+    return texts.Machine(min(found, key=lambda counts: texts.sizes_of(counts)[2]))
+
+
+def best_machine(network, trees, spare):
+    """The cheapest machine on one of the trees, with so much to spare."""
+    return cheapest(counts_for(network, tree, spare) for tree in trees)
+
+
+def bearing_machine(network, trees, faults):
+    """The cheapest on one of the trees that bears so many faults."""
+    return cheapest(bearing_counts(network, tree, faults) for tree in trees)
+
+
+def bearing_crosspoints(network, trees):
+    """How many crosspoints that machine has, for 0, 1, 2 .. faults, up to the most that a machine within the limits bears."""
+    several = []
+    while True:
+        counts = [bearing_counts(network, tree, len(several)) for tree in trees]
+        found = [texts.sizes_of(one)[2] for one in counts if texts.are_within_limits(one)]
+        if not found:
+            return several
+        several.append(min(found))
+
+
+def network_named(name):
+    """The network of a design of the examples or the studies."""
+    places = [Path(HERE, folder, f"{name}.blif") for folder in (".", "../examples")]
+    path = next((place for place in places if place.is_file()), None)
+    return designs.plain_network(texts.read_text(texts.read_design, path)) if path else sys.exit(f"{name}: no design of that name")
 
 
 def compiles(program, machine, defects, design):
@@ -89,7 +129,9 @@ def main():
     parser.add_argument("design", help="the design's BLIF file")
     for name in ("modules", "chips", "hextants"):
         parser.add_argument(f"--{name}", type=int, metavar="N", help=f"how many {name} in each node above (default: the cheapest)")
-    parser.add_argument("--spare", type=amount, default=0.0, metavar="SHARE", help="so much more, as 10%% or 0.1 (default: 0)")
+    more = parser.add_mutually_exclusive_group()
+    more.add_argument("--spare", type=amount, default=0.0, metavar="SHARE", help="so much more, as 10%% or 0.1 (default: 0)")
+    more.add_argument("--bear", type=int, metavar="K", help="so much more that every set of K faults leaves room for certain")
     parser.add_argument("-o", "--output", default="-", help="the machine's new file (default: standard output)")
     parser.add_argument("--copies", action="store_true", help="for the two copies of `twice`")
     parser.add_argument("--map", metavar="FILE", help="a new file for the text of teramac_map that this machine holds")
@@ -100,11 +142,14 @@ def main():
     trees = [tree for tree in TREES if all(want in (None, have) for want, have in zip(given, tree))] or [given]
     if min(count for count in given + (1,) if count is not None) < 1 or None in trees[0]:
         sys.exit("--modules, --chips, --hextants: give all three, each at least 1, beyond 4, 4 and 8")
+    if args.bear is not None and (args.bear < 0 or args.map):
+        sys.exit("--bear: at least 0, and not with --map")
     if args.copies and args.map:
         sys.exit("--copies: the plan in order of two copies is that of the design as given, so --map says nothing of them")
     network, text = designs.plain_network(checked_design(args.program, args.design)), args.design
     network = designs.side_by_side([network] * 2) if args.copies else network
-    machine = given = best_machine(network, trees, 0.0 if args.map else args.spare)
+    bears = args.bear is not None
+    machine = given = bearing_machine(network, trees, args.bear) if bears else best_machine(network, trees, 0.0 if args.map else args.spare)
     if args.map:
         text = call(args.mapper, args.design).written
         held = (given, Path(args.design).read_bytes()), (best_machine(designs.plain_network(texts.read_design(text)), trees, 0.0), text)

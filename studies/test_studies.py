@@ -16,7 +16,7 @@ from at_work import run_at_work, schedule_text
 from draw import MARKS
 from faults import KINDS, make_faults
 from program import DEFAULT, HERE, PORT, REPORT, call
-from size import compiles, counts_for
+from size import TREES, bearing_counts, bearing_machine, compiles, counts_for
 from trial import hextants_list, wires_list
 
 sys.path.append(os.path.join(HERE, "../bench"))
@@ -131,6 +131,24 @@ class Studies(unittest.TestCase):
             refusal = compiles(DEFAULT, texts.Machine(counts), texts.Defects(), data).refusal
             self.assertEqual(refusal[:3], ["refused", "noroom", "ports" if at < 7 else "lines"])
             self.assertIn(refusal[4:6], [[str(need), str(need - 1)]])
+
+    def test_bears(self):
+        """On a machine that bears so many faults sets of them leave room, by the program itself; it has just so much to spare."""
+        for _ in range(TURNS // 3):
+            data, faults = random_blif(self.chance).encode(), self.chance.randint(0, 4)
+            network = designs.plain_network(texts.read_design(data))
+            nets, pins = network.inputs + len(network.tables), network.inputs + len(network.outputs)
+            self.assertEqual(bearing_counts(network, (1, 1, 1), 0), (1, 1, 1, len(network.tables), *7 * [max(nets, 2)], max(pins, 2)))
+            machine = bearing_machine(network, [self.chance.choice(TREES[:8])], faults)
+            self.assertGreaterEqual(machine.sizes["table"], len(network.tables) + 2 * faults)
+            self.assertEqual({*machine.counts[4:11]}, {max(nets, 2) + 2 * faults})
+            self.assertEqual(machine.counts[11], max(pins, 2) + 2 * faults)
+            amounts = {kind: 0 for kind in KINDS}
+            for _ in range(faults):
+                amounts[self.chance.choice(list(KINDS))] += 1
+            found = make_faults(machine, amounts, self.chance.random(), self.chance.choice([0, 4]))
+            listed = texts.defects_text(machine, texts.exact_list(machine, found)).encode()
+            self.assertEqual(call(DEFAULT, "compile", machine.text.encode(), listed, data).status, 0)
 
     def test_writes_over_nothing(self):
         for k, words in enumerate((("faults.py", "tiny.machine"), ("size.py", "and.blif"), ("draw.py", "tiny.machine"))):

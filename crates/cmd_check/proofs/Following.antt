@@ -4,7 +4,7 @@ use Rattle.base_io.specs.Store.{StoreState}
 use Rattle.machine_meaning.specs.Faults.{Faults}
 use Rattle.machine_image.specs.Images.{ImageValue}
 use Rattle.rig.specs.Rig.{RigState, Explains, ForEach}
-use Rattle.diag_check.specs.Soundly.{IsUnharmed, IsSoundUnder, SoundIf, YesIf}
+use Rattle.diag_check.specs.Soundly.{FewIf, IsUnharmed, IsSoundUnder, SoundIf, StandsBySurroundings, TakesForParts, YesIf}
 use Rattle.cmd_steps.specs.Vocabulary.{Outside, Took, Follows}
 use Rattle.cmd_steps.specs.declared.refusal.Stop.{Stop}
 use Rattle.cmd_steps.proofs.Keeping.{kept-gives}
@@ -19,6 +19,14 @@ sound-under new each f e = (each f e).at f refl
 
 pub whole-under : (new : RigState) {i : ImageValue} {yes : Bool} → ForEach new (λ told. YesIf told i yes) → (f : Faults) → Explains f new → IsUnharmed f i → IsTrue yes
 whole-under new each f e = (each f e).at f refl
+
+pub ways-may : (old new : RigState) {i : ImageValue} {yes : Bool} → new.machine ≡ old.machine → YesIf old.machine.faults i yes → ForEach new (λ told. YesIf told i yes) → (f : Faults) → MayHave f new → StandsBySurroundings f i → IsTrue yes
+ways-may old new machine whole each f (inl told) = whole.ways f (sym (ap (λ (m : Machine). m.faults) machine) ∙ told)
+ways-may old new machine whole each f (inr e) = (each f e).ways f refl
+
+pub fewer-may : (old new : RigState) {i : ImageValue} {before after : ℕ} → new.machine ≡ old.machine → FewIf old.machine.faults i before after → ForEach new (λ told. FewIf told i before after) → (f : Faults) → MayHave f new → IsUnharmed f i → TakesForParts i before after
+fewer-may old new machine few each f (inl told) = few.at f (sym (ap (λ (m : Machine). m.faults) machine) ∙ told)
+fewer-may old new machine few each f (inr e) = (each f e).at f refl
 
 -- ---- the steps
 
@@ -38,4 +46,10 @@ module _ (files : List (List ℕ)) (begun : StoreState) (i : ImageValue) (result
   tested-then mid found sound took same is follows =
       let narrows = narrows_by follows.later.log follows.machines in
       kept-gives _ _ _ (tests_now i old.rig mid.rig) found (record { sound = found; loads = mid.rig.loads }) result old mid new took
-      (λ t. record { sound = λ f e. t.sound f (narrows f e); whole = λ f e. t.whole f (narrows f e); few = t.few }) same (rw is follows)
+      (λ t. record {
+        sound = λ f e. t.sound f (narrows f e);
+        whole = λ f e. t.whole f (narrows f e);
+        ways = λ f may. t.ways f (may-earlier f machine narrows may);
+        few = t.few;
+        fewer = λ f may. t.fewer f (may-earlier f machine narrows may);
+      }) same (rw is follows)

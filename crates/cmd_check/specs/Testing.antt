@@ -3,7 +3,7 @@ use Rattle.std.specs.Prelude.{ℕ, Bool, IsTrue}
 use Rattle.machine_meaning.specs.Faults.{Faults}
 use Rattle.machine_image.specs.Images.{ImageValue}
 use Rattle.rig.specs.Rig.{RigState, Explains}
-use Rattle.diag_check.specs.Soundly.{IsUnharmed, IsSoundUnder, TakesForParts}
+use Rattle.diag_check.specs.Soundly.{IsUnharmed, IsSoundUnder, StandsBySurroundings, TakesForParts, TakesForWays}
 use Rattle.cmd_steps.specs.Vocabulary.{Step, FailsOnRig}
 
 -- what a test found, and how many loads the rig counted then
@@ -12,19 +12,22 @@ pub record Tried : Type 0 where
   pub loads : ℕ
 
 -- Each set of faults that explains what was read leaves what is found sound alone, so that it runs soundly; and where one such set
--- leaves the image unharmed, it is found sound. It took few loads from so many that the rig counted before
+-- leaves the image unharmed, or it stands by its surroundings, it is found sound. It took few loads from so many that the rig counted before, and fewer
+-- where it is unharmed
 pub record IsTried (i : ImageValue) (before : ℕ) (rig : RigState) (t : Tried) : Type 0 where
   pub sound : (f : Faults) → Explains f rig → IsTrue t.sound → IsSoundUnder f i
   pub whole : (f : Faults) → Explains f rig → IsUnharmed f i → IsTrue t.sound
-  pub few : TakesForParts i before t.loads
+  pub ways : (f : Faults) → MayHave f rig → StandsBySurroundings f i → IsTrue t.sound
+  pub few : TakesForWays i before t.loads
+  pub fewer : (f : Faults) → MayHave f rig → IsUnharmed f i → TakesForParts i before t.loads
 
 -- an image is tested, with few loads, also where the test isn't made
 abbrev pub tests : ImageValue → (before : ℕ) → RigState → Step Tried
-tests i before rig = record { stops = λ refusal. FailsOnRig refusal × TakesForParts i before rig.loads; gives = IsTried i before rig }
+tests i before rig = record { stops = λ refusal. FailsOnRig refusal × TakesForWays i before rig.loads; gives = IsTried i before rig }
 
 -- the same of what it found alone, from the rig as it was before to the rig as it is then
 abbrev pub tests_now : ImageValue → (old new : RigState) → Step Bool
 tests_now i old new = record {
-  stops = λ refusal. FailsOnRig refusal × TakesForParts i old.loads new.loads;
+  stops = λ refusal. FailsOnRig refusal × TakesForWays i old.loads new.loads;
   gives = λ sound. IsTried i old.loads new (record { sound = sound; loads = new.loads });
 }

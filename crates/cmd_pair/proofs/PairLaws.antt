@@ -1,16 +1,23 @@
 -- What the command `pair` does with its words, and what it comes to.
-use Rattle.std.proofs.Common.{ℕ, List, refl}
+use Rattle.std.proofs.Common.{◌≡◌, ◌⊎◌, ℕ, List, refl, inl, inr}
 use Rattle.machine_shape.specs.declared.Shape.{Shape}
-use Rattle.cmd_steps.specs.Vocabulary.{Around, IsLawful}
+use Rattle.machine_defects.specs.Text.{text_of}
+use Rattle.design_netlist.specs.declared.netlist_data.NetlistData.{NetlistData}
+use Rattle.design_netlist.specs.Checks.{IsChecked}
+use Rattle.cmd_steps.specs.Vocabulary.{Around, IsLawful, ShortPlace}
 use Rattle.cmd_steps.specs.declared.design_file.DesignFile.TheVariants.{First, Second}
+use Rattle.diag_list.specs.Lists.{Listed, IsListed}
 use Rattle.diag_list.proofs.Texts.{AreNamed}
 use Rattle.place_design.proofs.Rooms.{AreDecided}
 use Rattle.run_image.specs.Laid.{Laid}
+use Rattle.run_image.specs.Runs.{IfList}
 use Rattle.run_image.proofs.Scripts.{Words, reads, runs, IsRight}
 use Rattle.run_image.proofs.Ends.{Fits, Lacks, HasFew, run-well, run-short, run-few}
 use Rattle.cmd_pair.specs.Both.{both_laid}
-use Rattle.cmd_pair.specs.Pair.{pair_files, pair_job, PairFiles, ArePairTexts, PairRight, PairShort, PairFew}
-use Rattle.place_both.proofs.BothLemmas.{never-both-lack, both-excused, both-short}
+use Rattle.cmd_pair.specs.Pair.{pair_files, pair_job, PairFiles, ArePairTexts, HasPartsForBoth, PairRight, PairShort, PairFew}
+use Rattle.place_both.specs.Both.{BothHaveRoom, IsNoRoomForBoth}
+use Rattle.place_both.proofs.BothLemmas.{never-both-lack, never-both-refused, both-excused, both-short}
+use Rattle.place_both.proofs.Certain.{AreNetworks, AreSure, both-certain}
 
 module _ (machine name first second vectors : List ℕ) where
   abbrev pub words : Words
@@ -40,16 +47,27 @@ module _ (machine name first second vectors : List ℕ) where
         right-files t (HasFew words old new) (record { file = t.vectors.bytes; is_told = t.vectors.is_told; few = r.few })
 
     module _ (decided : AreDecided) (front : List ℕ) where
-      fits : PairRight files front → IsRight words old (Fits words old new front)
-      fits r =
-          let t = r.texts in
-          right-files t (Fits words old new front) (record {
-            vectors = t.vectors;
-            alike = λ l list same i laid vectors rows never. never;
-            room = λ l list same refusal stops.
-                let room = r.room l.list list.shape list.kept same in
-                both-excused l.list t.first_draft t.second_draft old new decided room refusal stops;
-          })
+      module _ (sure : AreSure) (networks : AreNetworks) where
+        -- room on the list that stands there, or standing parts of the machine
+        has-room : (m : Shape) (one other : NetlistData) → IsChecked one → IsChecked other
+            → IfList m front (λ d. BothHaveRoom d one other) ⊎ HasPartsForBoth new.rig m one other
+            → (l : Listed) → IsListed m old.rig.loads new.rig l → front ≡ text_of l.list
+            → (place : ShortPlace) → IsNoRoomForBoth l.list one other place → ⊥
+        has-room m one other one_is other_is (inl room) l list same place none =
+            never-both-refused l.list one other decided (room l.list list.shape list.kept same) place none
+        has-room m one other one_is other_is (inr parts) l list same place none =
+            both-certain sure networks one other one_is other_is m l.list parts.faults list.shape (list.right.tight parts.faults parts.may_have) parts.standing place none
+
+        fits : PairRight files new.rig front → IsRight words old (Fits words old new front)
+        fits r =
+            let t = r.texts in
+            right-files t (Fits words old new front) (record {
+              vectors = t.vectors;
+              alike = λ l list same i laid vectors rows never. never;
+              room = λ l list same refusal stops.
+                  let never = has-room t.shape t.first_draft t.second_draft t.first.says.checked t.second.says.checked r.room l list same in
+                  both-excused l.list t.first_draft t.second_draft old new never refusal stops;
+            })
 
       lacks-room : PairShort files front → IsRight words old (Lacks words old new front)
       lacks-room r =
@@ -60,9 +78,10 @@ module _ (machine name first second vectors : List ℕ) where
             never = λ l list same i laid. never-both-lack l.list one other decided laid.1 (r.room l.list list.shape list.kept same);
           })
 
-  pub pair-lawful : AreDecided → AreNamed → IsLawful (pair_job machine name first second vectors)
-  pair-lawful decided named = record {
-    right = λ old new text next is. run-well words old new text next (λ front more eq. fits old new decided front (is front more eq));
+  pub pair-lawful : AreDecided → AreSure → AreNetworks → AreNamed → IsLawful (pair_job machine name first second vectors)
+  pair-lawful decided sure networks named = record {
+    right = λ old new text next is.
+        run-well words old new text next (λ front more eq. fits old new decided front sure networks (is front more eq));
     short = λ old new text next is.
         run-short words old new text next (λ front more eq. lacks-room old new decided front (is front more eq));
     few = λ old new few text begun. run-few words old new named (few-vectors old new few) text begun;

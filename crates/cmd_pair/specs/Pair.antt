@@ -1,7 +1,10 @@
 -- What the command `pair` is.
-use Rattle.std.specs.Prelude.{ℕ, ◌+◌, ◌≤◌, List, [], ◌∷◌, length}
+use Rattle.std.specs.Prelude.{◌⊎◌, ℕ, ◌+◌, ◌≤◌, List, [], ◌∷◌, length}
 use Rattle.base_io.specs.Told.{Told}
 use Rattle.machine_shape.specs.declared.Shape.{Shape}
+use Rattle.machine_meaning.specs.Faults.{Faults}
+use Rattle.rig.specs.Rig.{RigState}
+use Rattle.diag_list.specs.Possible.{MayHave}
 use Rattle.machine_text.specs.Machine.{IsMachine}
 use Rattle.design_netlist.specs.declared.netlist_data.NetlistData.{NetlistData}
 use Rattle.design_blif.specs.Designs.{IsDesign}
@@ -10,7 +13,8 @@ use Rattle.cmd_steps.specs.Vocabulary.{reads_machine, reads_design, AsksMachine,
 use Rattle.cmd_steps.specs.declared.design_file.DesignFile.TheVariants.{First, Second}
 use Rattle.run_image.specs.Rows.{most_rows}
 use Rattle.run_image.specs.Runs.{RunBegin, machine_listed, IfList, HasOutputs}
-use Rattle.place_both.specs.Both.{BothHaveRoom, BothLackRoom}
+use Rattle.place_plan.specs.Enough.{HasStandingRoom}
+use Rattle.place_both.specs.Both.{BothHaveRoom, BothLackRoom, joint_of}
 use Rattle.cmd_pair.specs.Both.{both_laid}
 
 abbrev pub pair_begin : Around → (machine first second vectors : List ℕ) → RunBegin
@@ -61,10 +65,17 @@ pub record ArePairTexts (t : PairFiles) : Type 0 where
   pub second : IsRightFile t.second (λ bytes. IsDesign bytes second_draft)
   pub vectors : AreRightVectors t.vectors (length first_draft.inputs + length second_draft.inputs)
 
--- there is room on the list that stands there
-pub record PairRight (t : PairFiles) (front : List ℕ) : Type 0 where
+-- the machine may have faults under which as many parts stand as the joint network of the two plain networks has
+pub record HasPartsForBoth (rig : RigState) (m : Shape) (first second : NetlistData) : Type 0 where
+  pub faults : Faults
+  pub may_have : MayHave faults rig
+  pub standing : HasStandingRoom m faults (joint_of first second)
+
+-- There is room on the list that stands there, or for certain on the machine
+pub record PairRight (t : PairFiles) (rig : RigState) (front : List ℕ) : Type 0 where
   pub texts : ArePairTexts t
   pub room : IfList texts.shape front (λ d. BothHaveRoom d texts.first_draft texts.second_draft)
+      ⊎ HasPartsForBoth rig texts.shape texts.first_draft texts.second_draft
 
 -- there is no room on it
 pub record PairShort (t : PairFiles) (front : List ℕ) : Type 0 where
@@ -81,7 +92,7 @@ pair_job machine name first second vectors = record {
   files = machine ∷ first ∷ second ∷ vectors ∷ [];
   asks = λ old new. AsksMachine (reads_machine (old.store.contents machine)).gives name old.rig.machine.asked new.rig.machine.asked;
   course = pair_course machine name first second vectors;
-  right = λ old new front. PairRight (pair_files old machine first second vectors) front;
+  right = λ old new front. PairRight (pair_files old machine first second vectors) new.rig front;
   short = λ old new front. PairShort (pair_files old machine first second vectors) front;
   few = λ old new. PairFew (pair_files old machine first second vectors);
   has_begun = λ old new text. HasOutputs (reads_machine (old.store.contents machine)).gives text;

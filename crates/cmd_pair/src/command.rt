@@ -8,7 +8,8 @@ ghost use Rattle.cmd_pair.specs.Headline.{IsPaired, HaveRoomLeft};
 use crate::both::TwoDesigns;
 use base_io::{Sink, Store};
 use cmd_steps::{DesignFile, Stop, attach, read_design, read_shape};
-use place_plan::in_order_plans_are_decided;
+use map_network::laws::plain_networks_have_the_rows;
+use place_plan::{in_order_plans_are_decided, standing_parts_are_room};
 use rig::Rig;
 use run_image::list_and_run;
 use std::alloc::Global;
@@ -88,6 +89,8 @@ pub fn pair<S: Store, K: Sink>(
         OnOk result (HaveRoomLeft machine.now first.now second.now old new) }
 {
     in_order_plans_are_decided();
+    standing_parts_are_room();
+    plain_networks_have_the_rows();
     machine_shape::names_are_one_to_one();
     machine_shape::the_crosspoints_are_sound();
     machine_shape::the_numbering_is_sound();

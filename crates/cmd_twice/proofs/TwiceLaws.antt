@@ -1,26 +1,35 @@
 -- What the command `twice` does with its words, and what it comes to.
-use Rattle.std.proofs.Common.{ℕ, Bool, List, [], sym}
+use Rattle.std.proofs.Common.{◌≡◌, ◌⊎◌, ℕ, Bool, List, [], ◌∷◌, ◌++◌, sym, subst, inl, inr}
 use Rattle.machine_shape.specs.declared.Shape.{Shape}
+use Rattle.machine_meaning.specs.Vocabulary.{Covers, Faults}
+use Rattle.machine_defects.specs.Text.{text_of}
+use Rattle.design_netlist.specs.declared.netlist_data.NetlistData.{NetlistData}
+use Rattle.design_netlist.specs.Checks.{IsChecked}
 use Rattle.machine_image.specs.Images.{ImageValue}
-use Rattle.rig.specs.Rig.{RigState}
+use Rattle.rig.specs.Rig.{RigState, Explains}
 use Rattle.base_io.specs.Told.{Told}
-use Rattle.cmd_steps.specs.Vocabulary.{Around, IsLawful}
+use Rattle.cmd_steps.specs.Vocabulary.{Around, IsLawful, ShortPlace}
 use Rattle.cmd_steps.specs.declared.design_file.DesignFile.TheVariants.{Design}
+use Rattle.diag_list.specs.Lists.{Listed, IsListed}
 use Rattle.diag_list.proofs.Texts.{AreNamed}
 use Rattle.place_design.proofs.Rooms.{AreDecided}
-use Rattle.place_both.proofs.BothLemmas.{never-both-lack, both-excused, both-short}
+use Rattle.place_both.specs.Both.{IsNoRoomForBoth}
+use Rattle.place_both.proofs.BothLemmas.{never-both-lack, never-both-refused, both-excused, both-short}
+use Rattle.place_both.proofs.Certain.{AreNetworks, AreSure, both-certain}
 use Rattle.run_image.specs.Copying.{all_repeated}
 use Rattle.run_image.specs.Laid.{Laid}
 use Rattle.run_image.specs.Rows.{ReadsApart}
 use Rattle.run_image.specs.declared.copies.Copies.TheVariants.{Two}
 use Rattle.run_image.proofs.Scripts.{Words, reads, runs, IsRight}
 use Rattle.run_image.proofs.Ends.{Fits, Lacks, HasFew, run-well, run-short, run-few}
-use Rattle.cmd_twice.specs.Twice.{twice_laid, twice_files, twice_job, TwiceFiles, AreTwiceTexts, ReadsAlike, TwiceRight, TwiceShort, TwiceFew}
+use Rattle.cmd_twice.specs.Twice.{twice_laid, twice_files, twice_job, IsImageForTwice, TwiceFiles, AreTwiceTexts, HasPartsForTwo, HasRoomAlike, ReadsAlike, TwiceRight, TwiceShort, TwiceFew}
 use Rattle.cmd_twice.proofs.Laying.{twice-on}
+use Rattle.cmd_twice.proofs.Reading.{never-alarmed}
 
 -- copies that read alike don't differ
 never-apart : (told : Told) (i : ImageValue) (rig : RigState) (vectors rows : List (List Bool)) → ReadsAlike i rig → ReadsApart told i rig vectors rows → ⊥
-never-apart told i rig vectors rows alike apart = alike (all_repeated Two rows) [] apart.reading (sym apart.session.rows_are) apart.halves
+never-apart told i rig vectors rows alike apart =
+    alike (vectors ++ apart.vector ∷ []) (all_repeated Two rows) [] apart.reading apart.session.config apart.session.drives (sym apart.session.rows_are) apart.halves
 
 module _ (machine name design vectors : List ℕ) where
   abbrev pub words : Words
@@ -48,16 +57,35 @@ module _ (machine name design vectors : List ℕ) where
         right-files t (HasFew words old new) (record { file = t.vectors.bytes; is_told = t.vectors.is_told; few = r.few })
 
     module _ (decided : AreDecided) (front : List ℕ) where
-      fits : TwiceRight files new.rig front → IsRight words old (Fits words old new front)
-      fits r =
+      module _ (sure : AreSure) (networks : AreNetworks) (m : Shape) (draft : NetlistData) (checked : IsChecked draft) where
+        -- room on the list that stands there, or standing parts of the machine
+        has-room : HasRoomAlike m draft new.rig front ⊎ HasPartsForTwo new.rig m draft
+            → (l : Listed) → IsListed m old.rig.loads new.rig l → front ≡ text_of l.list
+            → (place : ShortPlace) → IsNoRoomForBoth l.list draft draft place → ⊥
+        has-room (inl room) l list same place none =
+            never-both-refused l.list draft draft decided (room.room l.list list.shape list.kept same) place none
+        has-room (inr parts) l list same place none =
+            both-certain sure networks draft draft checked checked m l.list parts.faults list.shape (list.right.tight parts.faults (inr parts.explain)) parts.standing place none
+
+        -- the copies read alike, as they do where some faults explain all that was read
+        has-alike : HasRoomAlike m draft new.rig front ⊎ HasPartsForTwo new.rig m draft
+            → (l : Listed) → IsListed m old.rig.loads new.rig l → front ≡ text_of l.list
+            → (i : ImageValue) → IsImageForTwice l.list draft i
+            → (vs rows : List (List Bool)) → ReadsApart (old.store.contents vectors) i new.rig vs rows → ⊥
+        has-alike (inl room) l list same i laid vs rows apart =
+            never-apart (old.store.contents vectors) i new.rig vs rows (room.alike l.list list.shape list.kept same i laid) apart
+        has-alike (inr parts) l list same i laid vs rows apart =
+            let covers : (f : Faults) → Explains f new.rig → Covers l.list.shape l.list.list f = λ f e. subst (λ (s : Shape). Covers s l.list.list f) (sym list.shape) (list.right.covers f (inr e)) in
+            never-alarmed l.list draft i laid (vs ++ apart.vector ∷ []) new.rig apart.session.config apart.session.drives apart.widths covers (all_repeated Two rows) [] apart.reading (sym apart.session.rows_are) apart.halves parts.faults parts.explain
+
+      fits : AreSure → AreNetworks → TwiceRight files new.rig front → IsRight words old (Fits words old new front)
+      fits sure networks r =
           let t = r.texts in
           right-files t (Fits words old new front) (record {
             vectors = t.vectors;
-            alike = λ l list same i laid vs rows apart.
-                never-apart (old.store.contents vectors) i new.rig vs rows (r.alike l.list list.shape list.kept same i laid) apart;
+            alike = λ l list same i laid vs rows apart. has-alike sure networks t.shape t.draft t.design.says.checked r.room l list same i laid vs rows apart;
             room = λ l list same refusal stops.
-                let room = r.room l.list list.shape list.kept same in
-                both-excused l.list t.draft t.draft old new decided room refusal stops;
+                both-excused l.list t.draft t.draft old new (has-room sure networks t.shape t.draft t.design.says.checked r.room l list same) refusal stops;
           })
 
       lacks-room : TwiceShort files front → IsRight words old (Lacks words old new front)
@@ -68,9 +96,10 @@ module _ (machine name design vectors : List ℕ) where
             never = λ l list same i laid. never-both-lack l.list draft draft decided laid.room (r.room l.list list.shape list.kept same);
           })
 
-  pub twice-lawful : AreDecided → AreNamed → IsLawful (twice_job machine name design vectors)
-  twice-lawful decided named = record {
-    right = λ old new text next is. run-well words old new text next (λ front more eq. fits old new decided front (is front more eq));
+  pub twice-lawful : AreDecided → AreSure → AreNetworks → AreNamed → IsLawful (twice_job machine name design vectors)
+  twice-lawful decided sure networks named = record {
+    right = λ old new text next is.
+        run-well words old new text next (λ front more eq. fits old new decided front sure networks (is front more eq));
     short = λ old new text next is.
         run-short words old new text next (λ front more eq. lacks-room old new decided front (is front more eq));
     few = λ old new few text begun. run-few words old new named (few-vectors old new few) text begun;

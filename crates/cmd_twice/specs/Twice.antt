@@ -1,20 +1,22 @@
 -- What the command `twice` is.
-use Rattle.std.specs.Prelude.{◌≡◌, ℕ, ◌≤◌, Bool, List, [], ◌∷◌, ◌++◌, map, length}
+use Rattle.std.specs.Prelude.{◌≡◌, ◌⊎◌, ℕ, ◌≤◌, Bool, List, [], ◌∷◌, ◌++◌, map, length, Some}
 use Rattle.std.specs.List.{All}
 use Rattle.base_io.specs.Told.{Told}
 use Rattle.machine_shape.specs.declared.Shape.{Shape}
+use Rattle.machine_meaning.specs.Faults.{Faults}
 use Rattle.machine_text.specs.Machine.{IsMachine}
 use Rattle.machine_defects.specs.Lists.{DefectList}
 use Rattle.design_netlist.specs.declared.netlist_data.NetlistData.{NetlistData}
 use Rattle.design_netlist.specs.Rows.{HasOneRows}
 use Rattle.design_blif.specs.Designs.{IsDesign}
-use Rattle.machine_image.specs.Images.{ImageValue, image_row}
-use Rattle.rig.specs.Rig.{RigState, cycles_of, readings_of}
+use Rattle.machine_image.specs.Images.{ImageValue, drive_of, image_row}
+use Rattle.rig.specs.Rig.{RigState, Explains, config_of, cycles_of, drives_of, readings_of}
 use Rattle.cmd_steps.specs.Vocabulary.{AreRightVectors, vectors_at, Around, Course, Step, after, Unloaded, machine_attached, IsRightFile}
 use Rattle.cmd_steps.specs.Vocabulary.{reads_machine, reads_design, AsksMachine, Job}
 use Rattle.cmd_steps.specs.declared.design_file.DesignFile.TheVariants.{Design}
-use Rattle.place_both.specs.Both.{AreBothRows, BothHaveRoom, BothLackRoom, IsImageForBoth, NotBothLaid}
-use Rattle.run_image.specs.Copying.{share, AreEqualShares, HalvesDiffer}
+use Rattle.place_plan.specs.Enough.{HasStandingRoom}
+use Rattle.place_both.specs.Both.{AreBothRows, BothHaveRoom, BothLackRoom, IsImageForBoth, NotBothLaid, joint_of}
+use Rattle.run_image.specs.Copying.{all_repeated, share, AreEqualShares, HalvesDiffer}
 use Rattle.run_image.specs.Rows.{most_rows}
 use Rattle.run_image.specs.Laid.{Laid}
 use Rattle.run_image.specs.Runs.{RunBegin, machine_listed, IfList, HasOutputs}
@@ -82,16 +84,28 @@ pub record AreTwiceTexts (t : TwiceFiles) : Type 0 where
   pub design : IsRightFile t.design (λ bytes. IsDesign bytes draft)
   pub vectors : AreRightVectors t.vectors (length draft.inputs)
 
--- no reading of the session has halves at the output pins of the image that differ
+-- where the session is of the image, and has driven these vectors, no reading has halves at the output pins that differ
 abbrev pub ReadsAlike : ImageValue → RigState → Type 0
-ReadsAlike i rig = (front rest : List (List Bool)) (reading : List Bool) →
+ReadsAlike i rig = (vectors front rest : List (List Bool)) (reading : List Bool) → config_of rig ≡ Some i.config →
+    drives_of (cycles_of rig) ≡ map (drive_of i) (all_repeated Two vectors) →
     map (image_row i) (readings_of (cycles_of rig)) ≡ front ++ reading ∷ rest → HalvesDiffer reading → ⊥
 
 -- there is room on the list that stands there, and the copies read alike
+pub record HasRoomAlike (m : Shape) (draft : NetlistData) (rig : RigState) (front : List ℕ) : Type 0 where
+  pub room : IfList m front (λ d. BothHaveRoom d draft draft)
+  pub alike : IfList m front (λ d. (i : ImageValue) → IsImageForTwice d draft i → ReadsAlike i rig)
+
+-- some faults explain all that was read of the machine, so that the copies read alike; and under these as many parts stand as the
+-- joint network of the plain network and itself has
+pub record HasPartsForTwo (rig : RigState) (m : Shape) (draft : NetlistData) : Type 0 where
+  pub faults : Faults
+  pub explain : Explains faults rig
+  pub standing : HasStandingRoom m faults (joint_of draft draft)
+
+-- The one or the other
 pub record TwiceRight (t : TwiceFiles) (rig : RigState) (front : List ℕ) : Type 0 where
   pub texts : AreTwiceTexts t
-  pub room : IfList texts.shape front (λ d. BothHaveRoom d texts.draft texts.draft)
-  pub alike : IfList texts.shape front (λ d. (i : ImageValue) → IsImageForTwice d texts.draft i → ReadsAlike i rig)
+  pub room : HasRoomAlike texts.shape texts.draft rig front ⊎ HasPartsForTwo rig texts.shape texts.draft
 
 -- there is no room on it
 pub record TwiceShort (t : TwiceFiles) (front : List ℕ) : Type 0 where

@@ -13,8 +13,8 @@ use Rattle.std.proofs.lemmas.Map.Views.{list_any-from_Contains}
 use Rattle.base_bits.specs.Numbers.{has_number, size_of}
 use Rattle.base_bits.proofs.NumbersLemmas.{size_of-taken}
 use Rattle.machine_image.specs.Vocabulary.{ImageValue, Part, WirePart, CrossPart, TablePart}
-use Rattle.diag_check.specs.Looks.{TakesAtMost}
-use Rattle.diag_check.specs.Soundly.{AreAllOf, TakesForParts}
+use Rattle.diag_check.specs.Looks.{TakesAtMost, TakesAround}
+use Rattle.diag_check.specs.Soundly.{AreAllOf, HasSurroundings, TakesForParts, TakesForWays}
 use Rattle.diag_check.specs.Used.{AreUsed, AreInvolved}
 use Rattle.diag_known.proofs.Getting.{marked_within}
 
@@ -52,6 +52,34 @@ marks_fit (x ∷ xs) marks each = by (λ ms h. marks_fit xs ms h) (has_number ma
     by again false e =
         let rest = again marks (λ n h. tail_of x xs n (λ same. false≢true (sym e ∙ ap (has_number marks) (sym same) ∙ h)) (each n h)) in
         omega (arith, rest)
+
+then_in : (x : ℕ) (xs : List ℕ) (y : ℕ) → Contains xs y → Contains (x ∷ xs) y
+then_in x xs y (k, lt, e) = (suc k, omega arith, e)
+
+head_in : (x : ℕ) (xs : List ℕ) (y : ℕ) → x ≡ y → Contains (x ∷ xs) y
+head_in x xs y e = (0, omega arith, e)
+
+all_in : (P : ℕ → Type 0) (xs : List ℕ) (y : ℕ) → AllByRecursion P xs → Contains xs y → P y
+all_in P [] y all (k, lt, e) = absurd (let no : ⊥ = omega (arith, lt) in no)
+all_in P (x ∷ xs) y all (zero, lt, e) = subst P e all.0
+all_in P (x ∷ xs) y all (suc k, lt, e) = all_in P xs y all.1 (k, omega arith, e)
+
+-- a list is no longer than there are marks, where each has a mark of its own
+module _ (place : ℕ → ℕ) where
+  marks_hold : (ts : List ℕ) (marks : List Bool) → IsDistinct eqb ts → ((t : ℕ) → Contains ts t → has_number marks (place t) ≡ true) →
+      ((t u : ℕ) → Contains ts t → Contains ts u → place t ≡ place u → t ≡ u) → length ts ≤ size_of marks
+  unfolding IsDistinct
+  marks_hold [] marks distinct each apart = omega arith
+  marks_hold (t ∷ ts) marks distinct each apart =
+      let on = each t (head_in t ts t refl) in
+      let within = marked_within marks (place t) on in
+      let rest = marks_hold ts (set marks (place t) false) distinct.1
+      (λ u c. get_or-set_other marks (place t) (place u) false false (λ same. other u c (apart u t (then_in t ts u c) (head_in t ts t refl) same)) ∙ each u (then_in t ts u c))
+      (λ u v p q. apart u v (then_in t ts u p) (then_in t ts v q)) in
+      omega (arith, rest, size_of-taken marks (place t) within on)
+    where
+      other : (u : ℕ) → Contains ts u → u ≡ t → ⊥
+      other u c same = let yes : eqb t u ≡ true = grind (arith, nat_tests, same) in false≢true (sym (all_in (λ y. eqb t y ≡ false) ts u distinct.0 c) ∙ yes)
 
 -- ---- lists in which each stands once
 
@@ -102,6 +130,14 @@ module _ {X : Type 0} (key : X → ℕ) where
         by true e = refl
         by false e = absurd (let no : ⊥ = omega (arith, e, l) in no)
 
+    pub list_marks : (place : ℕ → ℕ) (marks : List Bool) → ((q : ℕ) → f q ≡ true → has_number marks (place q) ≡ true) → ((p q : ℕ) → f p ≡ true → f q ≡ true → place p ≡ place q → p ≡ q) → length xs ≤ size_of marks
+    list_marks place marks each apart =
+        let holds = marks_hold place (map key xs) marks (distinct_once xs once) (λ q c. each q (is_told q c)) (λ p q a b. apart p q (is_told p a) (is_told q b)) in
+        omega (arith, holds, length-map xs key)
+      where
+        is_told : (q : ℕ) → Contains (map key xs) q → f q ≡ true
+        is_told q c = told q (counted_member xs q (list_any-from_Contains nat_eq_equiv q (map key xs) c))
+
     pub list_fits : (ys : List ℕ) → ((q : ℕ) → f q ≡ true → Contains ys q) → length xs ≤ length ys
     list_fits ys each =
         let fits = length-le_from_is_member nat_eq_equiv (map key xs) ys (distinct_once xs once) (λ q h. list_any-from_Contains nat_eq_equiv q ys (each q (told q (counted_member xs q h)))) in
@@ -132,12 +168,6 @@ kinds_add_up [] = refl
 kinds_add_up (WirePart w ∷ ps) = let e = kinds_add_up ps in omega (arith, e)
 kinds_add_up (CrossPart x ∷ ps) = let e = kinds_add_up ps in omega (arith, e)
 kinds_add_up (TablePart t ∷ ps) = let e = kinds_add_up ps in omega (arith, e)
-
-then_in : (x : ℕ) (xs : List ℕ) (y : ℕ) → Contains xs y → Contains (x ∷ xs) y
-then_in x xs y (k, lt, e) = (suc k, omega arith, e)
-
-head_in : (x : ℕ) (xs : List ℕ) (y : ℕ) → x ≡ y → Contains (x ∷ xs) y
-head_in x xs y e = (0, omega arith, e)
 
 wire_in : (w : ℕ) (ps : List Part) → Contains ps (WirePart w) → Contains (wires_in ps) w
 wire_in w [] (k, lt, e) = absurd (let no : ⊥ = omega (arith, lt) in no)
@@ -177,3 +207,14 @@ for_parts i nodes used before after are involved takes = record { few = few }
         let marked = marks_fit ns nodes (λ n h. all.each_node n (involved.only n h)) in
         let sum = kinds_add_up parts in
         omega (arith, loads, wires, marked, sum)
+
+pub for_ways : (i : ImageValue) (nodes used : List Bool) (before after : ℕ) → AreUsed i used → AreInvolved i nodes → TakesAround i nodes used before after → TakesForWays i before after
+for_ways i nodes used before after are involved takes = record { few = few }
+  where
+    few : (parts : List Part) (ns crosses wires : List ℕ) → AreAllOf i parts ns → HasSurroundings i crosses wires → after ≤ before + 256 * (length parts + length ns) + (8 * length crosses + 3 * length wires)
+    few parts ns crosses wires all around =
+        let loads = takes.few (crosses_in parts) (tables_in parts) crosses wires (λ x e. cross_in x parts (all.each_part (CrossPart x) e)) (λ t e. table_in t parts (all.each_part (TablePart t) e)) around in
+        let marks = marks_fit (wires_in parts) used (λ w h. wire_in w parts (all.each_part (WirePart w) (are.only w h))) in
+        let marked = marks_fit ns nodes (λ n h. all.each_node n (involved.only n h)) in
+        let sum = kinds_add_up parts in
+        omega (arith, loads, marks, marked, sum)

@@ -9,5 +9,7 @@ mod Covering
 mod Building
 mod Looking
 mod Wholly
+mod Ways
+mod Surrounding
 mod Counting
 mod Checking

@@ -29,12 +29,12 @@ involved_too i a (by_wire w uses b) = by_wire w uses (above_too a b)
 involved_too i a (by_cross x closed b) = by_cross x closed (above_too a b)
 
 -- closed, over the shape of the image
-record IsClosedOver (m : Shape) (k : Kept) (f : Faults) (a : Field) (known : ℕ → Type 0) : Type 0 where
-  pins : (j : ℕ) → j < pins_of m → has_number a.wires (pin_wire m j) ≡ true → IsClear m f (pin_wire m j) → IsAlone m f known (pin_wire m j) → known (pin_wire m j)
-  wires : (w : ℕ) → has_number a.wires w ≡ true → IsClear m f w → IsAlone m f known w → HasFeet m f (λ x. has_number a.crosses x ≡ true) known w → known w
-  crosses : (x : ℕ) → has_number a.crosses x ≡ true → known (ends_of m x).0 → known (ends_of m x).1 → stuck_cross f x ≡ None → keeps_cross k x ≡ true
+pub record IsClosedOver (m : Shape) (k : Kept) (f : Faults) (a : Field) (known : ℕ → Type 0) : Type 0 where
+  pub pins : (j : ℕ) → j < pins_of m → has_number a.wires (pin_wire m j) ≡ true → IsClear m f (pin_wire m j) → IsAlone m f known (pin_wire m j) → known (pin_wire m j)
+  pub wires : (w : ℕ) → has_number a.wires w ≡ true → IsClear m f w → IsAlone m f known w → HasFeet m f (λ x. has_number a.crosses x ≡ true) known w → known w
+  pub crosses : (x : ℕ) → has_number a.crosses x ≡ true → known (ends_of m x).0 → known (ends_of m x).1 → stuck_cross f x ≡ None → keeps_cross k x ≡ true
 
-closed_over : (m : Shape) (k : Kept) (f : Faults) (a : Field) (known : ℕ → Type 0) → k.shape ≡ m → IsClosed k f a known → IsClosedOver m k f a known
+pub closed_over : (m : Shape) (k : Kept) (f : Faults) (a : Field) (known : ℕ → Type 0) → k.shape ≡ m → IsClosed k f a known → IsClosedOver m k f a known
 closed_over m k f a known e c = record {
   pins = subst (λ s. (j : ℕ) → j < pins_of s → has_number a.wires (pin_wire s j) ≡ true → IsClear s f (pin_wire s j) → IsAlone s f known (pin_wire s j) → known (pin_wire s j)) e c.pins;
   wires = subst (λ s. (w : ℕ) → has_number a.wires w ≡ true → IsClear s f w → IsAlone s f known w → HasFeet s f (λ x. has_number a.crosses x ≡ true) known w → known w) e c.wires;

@@ -6,4 +6,5 @@ pub mod Marks
 pub mod Picked
 pub mod Skeleton
 pub mod Fields
+pub mod Near
 pub mod Looks

@@ -4,7 +4,7 @@ use Rattle.base_bits.specs.Numbers.{has_number}
 use Rattle.machine_shape.specs.declared.Shape.{Shape}
 use Rattle.machine_shape.specs.declared.Cross.{Cross}
 use Rattle.machine_shape.specs.declared.Table.{Table}
-use Rattle.machine_shape.specs.Shape.{pin_wire, table_wire, ends_of, node_of, parent_of, IsAbove}
+use Rattle.machine_shape.specs.Shape.{pin_wire, table_wire, ends_of, node_of, node_of_cross, parent_of, IsAbove}
 
 -- what was marked still is, and so is each of these numbers; and nothing else is
 pub record Adds (these : ℕ → Type 0) (old new : List Bool) : Type 0 where
@@ -54,3 +54,14 @@ pub record Rises (m : Shape) (nodes marks : List Bool) (place : ℕ) : Type 0 wh
   pub stays : (n : ℕ) → has_number nodes n ≡ true → has_number marks n ≡ true
   pub above : (n : ℕ) → has_number marks n ≡ true → (c : ℕ) × (has_number nodes c ≡ true) × IsAbove m n c
   pub up : (c p : ℕ) → place ≤ c → has_number marks c ≡ true → parent_of m c ≡ Some p → has_number marks p ≡ true
+
+-- a crosspoint of a marked node between two marked wires
+pub record IsNearCross (m : Shape) (nodes wires : List Bool) (x : ℕ) : Type 0 where
+  pub node : has_number nodes (node_of_cross m x) ≡ true
+  pub tap : has_number wires (ends_of m x).0 ≡ true
+  pub line : has_number wires (ends_of m x).1 ≡ true
+
+-- one of the first n
+pub record IsNearBefore (m : Shape) (nodes wires : List Bool) (n x : ℕ) : Type 0 where
+  pub early : x < n
+  pub near : IsNearCross m nodes wires x

@@ -1,6 +1,6 @@
 -- When an image runs soundly, what has to be kept for that, and how many loads that takes.
 use Rattle.std.specs.Prelude.{◌≡◌, ◌≢◌, ℕ, ◌+◌, ◌*◌, ◌<◌, ◌≤◌, Bool, true, List, map, length, Option, Some, IsSome, IsTrue, Contains}
-use Rattle.machine_meaning.specs.Vocabulary.{Pins, Faults, IsFaultless, IsSoundWire, IsSoundCross, IsSoundTable}
+use Rattle.machine_meaning.specs.Vocabulary.{Pins, Faults, IsFaultless, IsSoundWire, IsSoundCross, IsSoundTable, StandsBy, IsSeated}
 use Rattle.machine_config.specs.declared.Setting.{Setting}
 use Rattle.machine_config.specs.Vocabulary.{is_closed, setting_of, IsRun}
 use Rattle.machine_image.specs.Vocabulary.{ImageValue, drive_of, image_row, Uses, Part, IsPartOf, IsInvolved, IsWideEnough}
@@ -57,9 +57,27 @@ pub record IsUnharmed (f : Faults) (i : ImageValue) : Type 0 where
   pub parts : PartsAreSound f i
   pub surroundings : SurroundingsAreSound f i
 
--- where they are told, and leave the image unharmed, the answer is yes: faults that are far from the image don't matter
+-- a sound crosspoint of the surroundings
+abbrev pub IsSoundNear : Faults → ImageValue → ℕ → Type 0
+IsSoundNear f i x = IsSurroundingCross i x × IsSoundCross i.config.shape f x
+
+-- the least set of sound wires of the surroundings that has each such pin of the machine, and each such wire with sound crosspoints of
+-- the surroundings to two different wires of the set
+abbrev pub StandsNear : Faults → ImageValue → ℕ → Type 0
+StandsNear f i w = StandsBy i.config.shape (λ u. IsSoundWire i.config.shape f u × IsSurroundingWire i u) (IsSoundNear f i) w
+
+-- Two good ways are left to each wire that the image uses, whatever is bad beside them: its parts are sound, its wires are in that
+-- set, and its switched-on tables are seated among the wires of the set and those crosspoints
+pub record StandsBySurroundings (f : Faults) (i : ImageValue) : Type 0 where
+  pub parts : PartsAreSound f i
+  pub wires : (w : ℕ) → Uses i w → StandsNear f i w
+  pub tables : (t : ℕ) → IsSome (setting_of i.config t) → IsSeated i.config.shape (StandsNear f i) (IsSoundNear f i) t
+
+-- where they are told, and leave the image unharmed, or it stands by its surroundings, the answer is yes: faults that are far from the
+-- image don't matter, nor those that leave two good ways
 pub record YesIf (told : Option Faults) (i : ImageValue) (yes : Bool) : Type 0 where
   pub at : (f : Faults) → told ≡ Some f → IsUnharmed f i → IsTrue yes
+  pub ways : (f : Faults) → told ≡ Some f → StandsBySurroundings f i → IsTrue yes
 
 -- each part of the image is in the one list, and each involved node in the other
 pub record AreAllOf (i : ImageValue) (parts : List Part) (nodes : List ℕ) : Type 0 where
@@ -69,3 +87,17 @@ pub record AreAllOf (i : ImageValue) (parts : List Part) (nodes : List ℕ) : Ty
 -- at most 256 loads for each part and each involved node: so many for any two such lists, also those that have each once
 pub record TakesForParts (i : ImageValue) (before after : ℕ) : Type 0 where
   pub few : (parts : List Part) (nodes : List ℕ) → AreAllOf i parts nodes → after ≤ before + 256 * (length parts + length nodes)
+
+-- each crosspoint of the surroundings is in the one list, and each wire in the other
+pub record HasSurroundings (i : ImageValue) (crosses wires : List ℕ) : Type 0 where
+  pub each_cross : (x : ℕ) → IsSurroundingCross i x → Contains crosses x
+  pub each_wire : (w : ℕ) → IsSurroundingWire i w → Contains wires w
+
+-- besides these 256, 8 for each crosspoint and 3 for each wire of the surroundings
+pub record TakesForWays (i : ImageValue) (before after : ℕ) : Type 0 where
+  pub few : (parts : List Part) (nodes crosses wires : List ℕ) → AreAllOf i parts nodes → HasSurroundings i crosses wires →
+      after ≤ before + 256 * (length parts + length nodes) + (8 * length crosses + 3 * length wires)
+
+-- where the faults are told, and leave the image unharmed, the 256 alone
+pub record FewIf (told : Option Faults) (i : ImageValue) (before after : ℕ) : Type 0 where
+  pub at : (f : Faults) → told ≡ Some f → IsUnharmed f i → TakesForParts i before after

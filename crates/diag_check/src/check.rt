@@ -1,22 +1,28 @@
 //! The test of an image.
-ghost use Rattle.std.specs.Prelude.{◌≡◌, ◌≤◌, ◌+◌, ◌*◌, ℕ, List, Some, IsSome, IfOk, IfNone, IsErrOf, IsTrue, true, length, Contains};
+ghost use Rattle.std.specs.Prelude.{◌≡◌, ◌≤◌, ◌+◌, ◌*◌, Bool, List, Some, IfOk, IsErrOf, IsTrue};
 ghost use Rattle.base_bits.specs.Numbers.{size_of};
 ghost use Rattle.base_io.specs.Counts.{Rose};
-ghost use Rattle.machine_config.specs.Configuration.{setting_of};
 ghost use Rattle.diag_evidence.specs.Kept.{Advances};
 ghost use Rattle.diag_known.specs.Vocabulary.{IsFieldOf, IsKnown};
+<<<<<<< HEAD
 ghost use Rattle.rig.specs.Rig.{ForEach, Narrows, Tells, shape_of};
 ghost use Rattle.machine_image.specs.Parts.{IsWideEnough};
 ghost use Rattle.diag_check.specs.Fields.{IsFewFor};
 ghost use Rattle.diag_check.specs.Skeleton.{HasSkeleton};
 ghost use Rattle.diag_check.specs.Looks.{FieldIf, RoutesIf, TablesIf, TakesAtMost, TakesInField, WholeIf};
 ghost use Rattle.diag_check.specs.Soundly.{KeepsParts, KeepsRoutes, KeepsTables, SoundIf, TakesForParts, YesIf};
+=======
+ghost use Rattle.rig.specs.Rig.{ForEach, Narrows, shape_of};
+ghost use Rattle.diag_check.specs.Looks.{FewerIf, FieldIf, RoutesIf, TablesIf, TakesAround, TakesForTables, TakesInField, WholeIf};
+ghost use Rattle.diag_check.specs.Soundly.{FewIf, KeepsParts, KeepsRoutes, KeepsTables, SoundIf, TakesForWays, YesIf};
+>>>>>>> laws/next_laws_all
 ghost use Rattle.diag_check.specs.Used.{AreInvolved, AreUsed};
 
 use crate::fields::field_of;
 use crate::laws::kept_images_run_soundly;
 use crate::look::{keeps_routes, keeps_tables};
 use crate::marks::{Parts, parts_of};
+use crate::near::surroundings_of;
 use base_bits::BitSet;
 use diag_evidence::Facts;
 use diag_evidence::laws::{kept_facts_are_sound, tests_add_up};
@@ -76,10 +82,11 @@ fn look_at_tables(
     ensures keeps { IfOk result (λ yes. IsTrue yes → KeepsTables facts.new image.now) }
     ensures whole_each { IfOk result (λ yes. ForEach (rig_state rig.new) (λ told. TablesIf told facts.old known.now.steps image.now yes)) }
     ensures advances { Advances (rig_state rig.old) (rig_state rig.new) facts.old facts.new }
-    ensures loads { (ts : List ℕ) → ((t : ℕ) → IsSome (setting_of image.now.config t) → Contains ts t) →
-        (rig_state rig.new).loads ≤ (rig_state rig.old).loads + 130 * length ts }
+    ensures loads { (used : List Bool) → AreUsed image.now used →
+        TakesForTables image.now used (rig_state rig.old).loads (rig_state rig.new).loads }
     ensures cause { IsErrOf result RigFail.Failed → Rose (rig_state rig.old).failures (rig_state rig.new).failures }
 {
+    the_numbering_is_sound();
     without_faults_all_is_sound();
     let config = image.config();
     match test_tables(rig, facts, known, config.tables_on()) {
@@ -88,7 +95,7 @@ fn look_at_tables(
     }
 }
 
-// Tests the image in a field. It answers nothing where that doesn't reach all its wires and crosspoints.
+// Tests the image in a field: whether that reaches all its wires and crosspoints, and its tables are right.
 fn check_in(
     rig: &mut Box<dyn Rig>,
     facts: &mut Facts,
@@ -96,31 +103,32 @@ fn check_in(
     field: &Field,
     image: &Image,
     used: &BitSet,
-) -> Result<Option<bool>, RigFail>
+) -> Result<bool, RigFail>
     requires attached { shape_of (rig_state rig.old) ≡ Some facts.old.shape }
     requires known { IsKnown facts.old known.old }
     requires field { IsFieldOf facts.old.shape field.now }
     requires image { image.now.config.shape ≡ facts.old.shape }
     requires used { AreUsed image.now used.now }
+<<<<<<< HEAD
     ensures known { IfOk result (λ found. IfNone found (IsKnown facts.new known.new)) }
     ensures keeps { IfOk result (λ found. found ≡ Some true → KeepsParts facts.new image.now) }
+=======
+    ensures known { IsKnown facts.new known.new }
+    ensures keeps { IfOk result (λ yes. IsTrue yes → KeepsParts facts.new image.now) }
+    ensures whole { IfOk result (FieldIf (rig_state rig.old).machine.faults facts.old image.now field.now) }
+>>>>>>> laws/next_laws_all
     ensures whole_each { IfOk result (λ yes. ForEach (rig_state rig.new) (λ told. FieldIf told facts.old image.now field.now yes)) }
     ensures advances { Advances (rig_state rig.old) (rig_state rig.new) facts.old facts.new }
-    ensures loads { TakesInField image.now field.now (rig_state rig.old).loads (rig_state rig.new).loads }
-    ensures none { IfOk result (λ found. IfNone found
-        ((rig_state rig.new).loads ≤ (rig_state rig.old).loads + (8 * size_of field.now.crosses + 3 * size_of field.now.wires))) }
+    ensures loads { TakesInField image.now used.now field.now (rig_state rig.old).loads (rig_state rig.new).loads }
     ensures cause { IsErrOf result RigFail.Failed → Rose (rig_state rig.old).failures (rig_state rig.new).failures }
 {
     tests_add_up();
     match grow_over(rig, facts, known, field, image, used) {
         Ok(true) => {}
-        Ok(false) => return Ok(None),
+        Ok(false) => return Ok(false),
         Err(fail) => return Err(fail),
     }
-    match look_at_tables(rig, facts, known, image) {
-        Ok(yes) => Ok(Some(yes)),
-        Err(fail) => Err(fail),
-    }
+    look_at_tables(rig, facts, known, image)
 }
 
 // How many ports and lines of each involved node a sweep goes over.
@@ -168,6 +176,7 @@ fn sweep_around(
     sweep(rig, facts, known, &mut bad, &field, config.tables_on())
 }
 
+<<<<<<< HEAD
 // The fields in which an image is tested: the wide one has a further port and line of each involved node.
 #[derive(Drop)]
 struct TestFields {
@@ -266,6 +275,10 @@ fn check_in_both(
 }
 
 // Makes the fields of an image, and tests it in them.
+=======
+// Sweeps around the image, and then tests it in two fields: with two ports and lines of each node, and where that isn't enough, with
+// all that surrounds it.
+>>>>>>> laws/next_laws_all
 fn check_with(
     alloc: Global,
     rig: &mut Box<dyn Rig>,
@@ -280,13 +293,18 @@ fn check_with(
     ensures keeps { IfOk result (λ yes. IsTrue yes → KeepsParts facts.new image.now) }
     ensures whole_each { IfOk result (λ yes. ForEach (rig_state rig.new) (λ told. WholeIf told facts.old image.now yes)) }
     ensures advances { Advances (rig_state rig.old) (rig_state rig.new) facts.old facts.new }
-    ensures loads { TakesAtMost image.now parts.now.nodes parts.now.used (rig_state rig.old).loads (rig_state rig.new).loads }
+    ensures loads { TakesAround image.now parts.now.nodes parts.now.used (rig_state rig.old).loads (rig_state rig.new).loads }
+    ensures few { FewerIf (rig_state rig.old).machine.faults facts.old image.now parts.now.nodes parts.now.used
+        (rig_state rig.old).loads (rig_state rig.new).loads }
+    ensures few_each { ForEach (rig_state rig.new) (λ told. FewerIf told facts.old image.now parts.now.nodes parts.now.used
+        (rig_state rig.old).loads (rig_state rig.new).loads) }
     ensures cause { IsErrOf result RigFail.Failed → Rose (rig_state rig.old).failures (rig_state rig.new).failures }
 {
     tests_add_up();
     let Ok(fields) = fields_of(alloc, image, parts) else {
         return Err(RigFail::Memory);
     };
+<<<<<<< HEAD
     check_in_both(alloc, rig, facts, image, parts, &fields)
 }
 
@@ -295,6 +313,33 @@ fn check_with(
 /// that explains all that was read of the machine leaves the image alone, so that it runs as without faults. `false` may be wrong, but
 /// not where under one of these the machine is wide enough for the image and its parts and surroundings are sound, as all are without
 /// faults: a fault that is far from the image doesn't matter. Faults that the rig tells explain what was read, if they did before.
+=======
+    let Ok(wide) = surroundings_of(alloc, image, &parts.nodes) else {
+        return Err(RigFail::Memory);
+    };
+    let Ok(mut known) = Known::new(alloc, &facts.shape()) else {
+        return Err(RigFail::Memory);
+    };
+    match sweep_around(alloc, rig, facts, &mut known, image, parts) {
+        Ok(()) => {}
+        Err(fail) => return Err(fail),
+    }
+    match check_in(rig, facts, &mut known, &narrow, image, &parts.used) {
+        Ok(true) => return Ok(true),
+        Ok(false) => {}
+        Err(fail) => return Err(fail),
+    }
+    check_in(rig, facts, &mut known, &wide, image, &parts.used)
+}
+
+/// Whether an image still runs on the attached machine as on one without faults. Each part of it is tested over routes of the
+/// test's own. `true` means so under each set of faults that explains all that was read of the machine, and under those that the rig
+/// tells. `false` may be wrong, but not where under one of these the image stands by its surroundings: a fault that is far from the
+/// image doesn't matter, nor does a bad pin, line or port beside it as long as two good ways are left. Nor is it `false` where the
+/// machine is wide enough for the image and its parts and surroundings are sound, as all are without faults: then it takes at most
+/// 256 loads for each part and each involved node. Otherwise 8 for each crosspoint and 3 for each wire of the surroundings come
+/// besides, whatever the answer.
+>>>>>>> laws/next_laws_all
 ///
 /// # Errors
 ///
@@ -314,7 +359,9 @@ pub fn quick_check(
     ensures tells { Tells (rig_state rig.old) (rig_state rig.new) }
     ensures later { (rig_state rig.old).failures ≤ (rig_state rig.new).failures }
     ensures counted { (rig_state rig.old).loads ≤ (rig_state rig.new).loads }
-    ensures loads { TakesForParts image.now (rig_state rig.old).loads (rig_state rig.new).loads }
+    ensures loads { TakesForWays image.now (rig_state rig.old).loads (rig_state rig.new).loads }
+    ensures few { FewIf (rig_state rig.old).machine.faults image.now (rig_state rig.old).loads (rig_state rig.new).loads }
+    ensures few_each { ForEach (rig_state rig.new) (λ told. FewIf told image.now (rig_state rig.old).loads (rig_state rig.new).loads) }
     ensures cause { IsErrOf result RigFail.Failed → Rose (rig_state rig.old).failures (rig_state rig.new).failures }
 {
     kept_facts_are_sound();

@@ -30,8 +30,8 @@ pub(crate) struct Frame {
     pub most: usize,
 }
 
-// How many wires a side has.
-fn width(shape: &Shape, side: Side, node: Node) -> u32
+/// How many wires a side has.
+pub(crate) fn width(shape: &Shape, side: Side, node: Node) -> u32
     requires { node.0 < nodes_of shape.now }
     ensures { result ≡ width_of shape.now side node.0 }
 {
@@ -47,8 +47,8 @@ fn width(shape: &Shape, side: Side, node: Node) -> u32
     }
 }
 
-// The wire of a side at a position.
-fn wire_at(shape: &Shape, side: Side, node: Node, k: u32) -> Wire
+/// The wire of a side at a position.
+pub(crate) fn wire_at(shape: &Shape, side: Side, node: Node, k: u32) -> Wire
     requires node { node.0 < nodes_of shape.now }
     requires position { k < width_of shape.now side node.0 }
     ensures wire { result.0 ≡ side_wire shape.now side node.0 k }

@@ -12,7 +12,7 @@ use Rattle.machine_config.proofs.Readings.{conducting, swing_clears, apart_separ
 use Rattle.machine_config.proofs.Toggles.{closed_cross_shows, cell_shows, register_shows}
 use Rattle.diag_tests.specs.Routes.{Walk}
 use Rattle.rig.specs.Rig.{RigState, Explains, Narrows, Tells}
-use Rattle.diag_evidence.specs.Vocabulary.{Kept, HoldsFor, Gain, Gains, Advances, one_cross, one_cell, one_register, these_wires, these_pairs, Reads, ReadsPins, ReadsTwice, IsReady}
+use Rattle.diag_evidence.specs.Vocabulary.{Kept, HoldsFor, Gain, Gains, Advances, FewCycles, one_cross, one_cell, one_register, these_wires, these_pairs, Reads, ReadsPins, ReadsTwice, IsReady}
 use Rattle.diag_evidence.proofs.KeptLemmas.{GainHoldsFor, more_by_gain, holds_by_gain, cross_holds, cell_holds, register_holds, wires_hold, pairs_hold}
 use Rattle.diag_evidence.proofs.Shown.{differ, differ_turned}
 
@@ -23,13 +23,14 @@ different_bits true false e = λ d. cc
 different_bits false true e = λ d. cc
 
 -- a gain of what is true
-pub advances_by : {old new : RigState} {k l : Kept} (gain : Gain) → new.machine ≡ old.machine → old.failures ≤ new.failures → old.loads ≤ new.loads → Gains gain k l → Narrows old new → Tells old new →
+pub advances_by : {old new : RigState} {k l : Kept} (gain : Gain) → new.machine ≡ old.machine → old.failures ≤ new.failures → old.loads ≤ new.loads → FewCycles old new → Gains gain k l → Narrows old new → Tells old new →
     ((f : Faults) → old.machine.faults ≡ Some f → HoldsFor k f → GainHoldsFor k.shape gain f) →
     ((f : Faults) → Explains f new → HoldsFor k f → GainHoldsFor k.shape gain f) → Advances old new k l
-advances_by {k = k} {l = l} gain same later counted gains narrows tells true_ each = record {
+advances_by {k = k} {l = l} gain same later counted few gains narrows tells true_ each = record {
   machine = same;
   later = later;
   counted = counted;
+  few = few;
   more = more_by_gain gain k l gains;
   narrows = narrows;
   tells = tells;

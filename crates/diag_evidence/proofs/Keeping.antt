@@ -20,13 +20,14 @@ more_then p q = record {
 }
 
 pub advances_itself : (s : RigState) (k : Kept) → Advances s s k k
-advances_itself s k = record { machine = refl; later = omega arith; counted = omega arith; more = more_itself k; narrows = λ f e. e; tells = λ t. t; holds = λ f told h. h; explained = λ f e h. h }
+advances_itself s k = record { machine = refl; later = omega arith; counted = omega arith; few = λ n k h. h; more = more_itself k; narrows = λ f e. e; tells = λ t. t; holds = λ f told h. h; explained = λ f e h. h }
 
 pub advances_then : {a b c : RigState} {k l n : Kept} → Advances a b k l → Advances b c l n → Advances a c k n
 advances_then p q = record {
   machine = q.machine ∙ p.machine;
   later = omega (arith, p.later, q.later);
   counted = omega (arith, p.counted, q.counted);
+  few = λ n k h. q.few n k (p.few n k h);
   more = more_then p.more q.more;
   narrows = λ f e. p.narrows f (q.narrows f e);
   tells = λ t. q.tells (p.tells t);

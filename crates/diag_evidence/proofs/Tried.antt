@@ -6,7 +6,7 @@ use Rattle.machine_meaning.specs.Circuit.{Pins}
 use Rattle.rig.specs.Rig.{RigState, Explains, Narrows, Tells}
 use Rattle.diag_evidence.specs.declared.hangs.WireTest.{WireTest}
 use Rattle.diag_evidence.specs.declared.hangs.Views.{Views}
-use Rattle.diag_evidence.specs.Vocabulary.{Kept, HoldsFor, IsMore, Gains, Advances, Trees, IsForest, KnowsForest, Foot, IsFoot, IsLook, closes, AreHangs, AreAllOf, MarksUnfit, MarksUnclear, UnfitIf, UnclearIf, StayMarked, HasTried, silent, answered, over_of, turned, overs, others, shown, seen_on, HasViewed, HasLearnt}
+use Rattle.diag_evidence.specs.Vocabulary.{Kept, HoldsFor, IsMore, Gains, Advances, FewCycles, Trees, IsForest, KnowsForest, Foot, IsFoot, IsLook, closes, AreHangs, AreAllOf, MarksUnfit, MarksUnclear, UnfitIf, UnclearIf, StayMarked, HasTried, silent, answered, over_of, turned, overs, others, shown, seen_on, HasViewed, HasLearnt}
 use Rattle.diag_evidence.proofs.Keeping.{more_then}
 use Rattle.diag_evidence.proofs.KeptLemmas.{more_by_gain}
 use Rattle.diag_evidence.proofs.Hanging.{AreHung, hung_turned, overs_feet, overs_once, hung_holds}
@@ -72,12 +72,13 @@ module _ (told : Option Faults) (trees : Trees) (hs : List WireTest) (views : Vi
       tried_holds = hung_holds k trees hs views.all.rows views.without_over.rows views.without_other.rows forest knows.keeps hung viewed.all (viewed.without_over is_yes) (viewed.without_other is_yes)
           learnt.mid l learnt.first learnt.second
 
-      pub tried_advances : {old new : RigState} → old.machine.faults ≡ told → new.machine ≡ old.machine → old.failures ≤ new.failures → old.loads ≤ new.loads → Narrows old new → Tells old new
+      pub tried_advances : {old new : RigState} → old.machine.faults ≡ told → new.machine ≡ old.machine → old.failures ≤ new.failures → old.loads ≤ new.loads → FewCycles old new → Narrows old new → Tells old new
           → ((f : Faults) → Explains f new → HoldsFor k f → HoldsFor l f) → Advances old new k l
-      tried_advances same machine later counted narrows tells explained = record {
+      tried_advances same machine later counted few narrows tells explained = record {
         machine = machine;
         later = later;
         counted = counted;
+        few = few;
         more = more;
         narrows = narrows;
         tells = tells;

@@ -1,14 +1,15 @@
 -- Facts about a machine's faults that tests have shown, and when they are true.
-use Rattle.std.specs.Prelude.{◌≡◌, ℕ, ◌+◌, ◌*◌, ◌==◌, nat_lt, Bool, true, false, ◌&&◌, ◌||◌, Some, None, List, length, refl, ◌≤◌}
+use Rattle.std.specs.Prelude.{◌≡◌, ℕ, ◌+◌, ◌*◌, ◌^◌, ◌<◌, ◌==◌, max, nat_lt, Bool, true, false, ◌&&◌, ◌||◌, Some, None, List, length, refl, ◌≤◌}
+use Rattle.std.specs.Option.{option_map_or}
 use Rattle.std.specs.Coded.{Coded, code_by, coded×, coded_ℕ, coded_bool, coded_list}
 use Rattle.base_bits.specs.Numbers.{has_number}
 use Rattle.base_bits.specs.Pairs.{Pairs, has_pair}
 use Rattle.machine_shape.specs.contracts.Shape as shape
 use Rattle.machine_shape.specs.declared.Shape.{Shape}
 use Rattle.machine_meaning.specs.Vocabulary.{Faults, stuck_cross, wrong_cell, stuck_register, Shorted, IsClear}
-use Rattle.machine_shape.specs.Shape.{crosses_of, wires_of, tables_of}
+use Rattle.machine_shape.specs.Shape.{crosses_of, wires_of, tables_of, pins_of}
 use Rattle.machine_config.specs.Groups.{among}
-use Rattle.rig.specs.Rig.{RigState, Explains, Narrows, Tells}
+use Rattle.rig.specs.Rig.{Asked, Machine, RigState, Explains, Narrows, Tells, cycles_made}
 
 -- the facts that are kept, by marks for each number. A cell's number is 64 for each table before it, and its address.
 pub record Kept : Type 0 where
@@ -117,13 +118,32 @@ pub record Gains (gain : Gain) (old new : Kept) : Type 0 where
   pub cells : (t a : ℕ) → keeps_cell new t a ≡ (gain.cells t a || keeps_cell old t a)
   pub registers : (t : ℕ) → keeps_register new t ≡ (gain.registers t || keeps_register old t)
 
--- What calls that test a machine leave: the machine as it was, counts of failures and loads that didn't fall, and all that was
--- kept. What explains the log after them explained it before, and told faults explain it if they did before. Where what was kept is true of faults that are told, or that explain
--- the log after the calls, nothing is kept that isn't true of them.
+-- how many cycles a load has at most: the 65 of a test of tables, or those of a look, one more than the machine has pins
+abbrev pub most_cycles : Machine → ℕ
+most_cycles m = option_map_or (λ (a : Asked). max 65 (pins_of a.shape + 1)) m.attached 0
+
+-- the cycles, with k more, are no more than n and so many for each load, as long as the number of loads has room to grow
+pub record HasFew (n k : ℕ) (rig : RigState) : Type 0 where
+  pub at : rig.loads + 1 < 2 ^ 64 → cycles_made rig + k ≤ n + most_cycles rig.machine * rig.loads
+
+-- what was so of them before is so: then the cycles rose by at most so many for each load by which the loads rose
+abbrev pub FewCycles : RigState → RigState → Type 0
+FewCycles old new = (n k : ℕ) → HasFew n k old → HasFew n k new
+
+-- the cycles rose by at most so many for each load by which the loads rose, as long as the number of loads has room to grow
+abbrev pub TakesFewCycles : RigState → RigState → Type 0
+TakesFewCycles old new = new.loads + 1 < 2 ^ 64 →
+    cycles_made new + most_cycles old.machine * old.loads ≤ cycles_made old + most_cycles old.machine * new.loads
+
+-- What calls that test a machine leave: the machine as it was, counts of failures and loads that didn't fall, few cycles for each
+-- load, and all that was kept. What explains the log after them explained it before, and told faults explain it if they did before.
+-- Where what was kept is true of faults that are told, or that explain the log after the calls, nothing is kept that isn't true of
+-- them.
 pub record Advances (old new : RigState) (k l : Kept) : Type 0 where
   pub machine : new.machine ≡ old.machine
   pub later : old.failures ≤ new.failures
   pub counted : old.loads ≤ new.loads
+  pub few : FewCycles old new
   pub more : IsMore k l
   pub narrows : Narrows old new
   pub tells : Tells old new

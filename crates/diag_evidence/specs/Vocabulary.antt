@@ -1,5 +1,6 @@
 -- What the crates above, and the proofs here, speak of.
-pub use Rattle.diag_evidence.specs.Kept.{Advances, Gain, Gains, HoldsFor, IsMore, KeepsNothing, Kept, is_across, is_between, nothing}
+pub use Rattle.diag_evidence.specs.Kept.{Advances, FewCycles, Gain, Gains, HasFew, HoldsFor, IsMore, KeepsNothing, Kept, TakesFewCycles}
+pub use Rattle.diag_evidence.specs.Kept.{is_across, is_between, most_cycles, nothing}
 pub use Rattle.diag_evidence.specs.Kept.{one_cell, one_cross, one_register, these_pairs, these_wires}
 unfoldable pub use Rattle.diag_evidence.specs.Kept.{keeps_cell, keeps_cross, keeps_pair, keeps_register, keeps_wire}
 pub use Rattle.diag_evidence.specs.Readings.{AllApartPasses, ApartPasses, CellPasses, CrossPasses, HasCycled, IsReady, Reads, ReadsOnce}

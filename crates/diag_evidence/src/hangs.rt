@@ -1,9 +1,9 @@
 //! Wires that hang on two trees each over a crosspoint that isn't known, tested many at a time.
-ghost use Rattle.std.specs.Prelude.{◌≡◌, ◌≤◌, ◌<◌, ◌+◌, ◌++◌, ℕ, Bool, false, Some, All, map, length, IfOk, OnOk, OnErr, IsErrOf};
+ghost use Rattle.std.specs.Prelude.{◌*◌, ◌≡◌, ◌≤◌, ◌<◌, ◌+◌, ◌++◌, ℕ, Bool, false, Some, All, map, length, IfOk, OnOk, OnErr, IsErrOf};
 ghost use Rattle.base_io.specs.Counts.{Rose};
 ghost use Rattle.machine_shape.specs.Shape.{wires_of, pins_of};
-ghost use Rattle.rig.specs.Rig.{ForEach, shape_of};
-ghost use Rattle.diag_evidence.specs.Kept.{Advances};
+ghost use Rattle.rig.specs.Rig.{ForEach, cycles_made, shape_of};
+ghost use Rattle.diag_evidence.specs.Kept.{FewCycles, Advances};
 ghost use Rattle.diag_evidence.specs.Forests.{KnowsForest};
 ghost use Rattle.diag_evidence.specs.Hangs.{AreHangs, AreAllOf, HasTried, MarksUnfit, MarksUnclear, UnfitIf, UnclearIf, StayMarked};
 ghost use Rattle.diag_evidence.specs.Hangs.{IsFoot, over_of, turned, overs, is_shown, others_part_from, shown, some_answers};
@@ -216,6 +216,8 @@ impl Facts {
         ensures viewed { IfOk result (HasViewed (rig_state rig.old).machine.faults forest.now hangs.now views.new) }
         ensures viewed_each { IfOk result (λ yes. ForEach (rig_state rig.new) (λ told. HasViewed told forest.now hangs.now views.new yes)) }
         ensures loads { LoadsUpTo 3 result (rig_state rig.old) (rig_state rig.new) }
+        ensures few { FewCycles (rig_state rig.old) (rig_state rig.new) }
+        ensures made { cycles_made (rig_state rig.new) ≤ cycles_made (rig_state rig.old) + 3 * (pins_of self.old.shape + 1) }
         ensures once { IfOk result (λ yes. yes ≡ false → (rig_state rig.new).loads ≤ (rig_state rig.old).loads + 1) }
         ensures session { OnOk result (HasLooked self.old.shape (rig_state rig.new)) }
         ensures wanting { IsErrOf result RigFail.Memory → WantsRoom self.old.shape (rig_state rig.old) (rig_state rig.new) }
@@ -336,6 +338,7 @@ impl Facts {
         ensures unmarked_too { OnErr result (unclear.new ≡ unclear.old) }
         ensures advances { Advances (rig_state rig.old) (rig_state rig.new) self.old self.new }
         ensures loads { (rig_state rig.new).loads ≤ (rig_state rig.old).loads + 3 }
+        ensures cycles { cycles_made (rig_state rig.new) ≤ cycles_made (rig_state rig.old) + 3 * (pins_of self.old.shape + 1) }
         ensures session { OnOk result (HasLooked self.old.shape (rig_state rig.new)) }
         ensures cause { IsErrOf result RigFail.Failed → Rose (rig_state rig.old).failures (rig_state rig.new).failures }
         ensures wanting { IsErrOf result RigFail.Memory → WantsRoom self.old.shape (rig_state rig.old) (rig_state rig.new) }

@@ -1,10 +1,11 @@
 //! Walks from pins to pins, tested many at a time.
-ghost use Rattle.std.specs.Prelude.{◌≡◌, ◌≤◌, ◌<◌, ◌+◌, ◌||◌, ℕ, true, false, Some, None, [], ◌∷◌, All, length, IfSome, OnOk, OnErr, IsErrOf};
+ghost use Rattle.std.specs.Prelude.{◌≡◌, ◌≤◌, ◌<◌, ◌+◌, ◌||◌, ℕ, true, false, Some, None, [], ◌∷◌, All, length, IfSome, OnOk};
+ghost use Rattle.std.specs.Prelude.{OnErr, IsErrOf};
 ghost use Rattle.base_bits.specs.Numbers.{has_number};
 ghost use Rattle.base_io.specs.Counts.{Rose};
 ghost use Rattle.machine_shape.specs.Shape.{pins_of, crosses_of};
 ghost use Rattle.machine_config.specs.Groups.{among};
-ghost use Rattle.rig.specs.Rig.{ForEach, shape_of};
+ghost use Rattle.rig.specs.Rig.{ForEach, cycles_made, shape_of};
 ghost use Rattle.diag_tests.specs.Routes.{IsRoute};
 ghost use Rattle.diag_evidence.specs.Kept.{Gains, Advances};
 ghost use Rattle.diag_evidence.specs.Leads.{IsLead, IsPathTest, HasLed, MarksStuck, ShowsLed, StuckIf};
@@ -128,6 +129,7 @@ impl Facts {
         ensures unmarked { OnErr result (stuck.new ≡ stuck.old) }
         ensures advances { Advances (rig_state rig.old) (rig_state rig.new) self.old self.new }
         ensures loads { (rig_state rig.new).loads ≤ (rig_state rig.old).loads + 1 }
+        ensures cycles { cycles_made (rig_state rig.new) ≤ cycles_made (rig_state rig.old) + 1 }
         ensures session { OnOk result (HasCycled config.now.config (drive.now ∷ []) (rig_state rig.new)) }
         ensures cause { IsErrOf result RigFail.Failed → Rose (rig_state rig.old).failures (rig_state rig.new).failures }
         ensures wanting { IsErrOf result RigFail.Memory → WantsBefore (rig_state rig.old) (rig_state rig.new) }

@@ -1,6 +1,7 @@
 //! Looks: what all pins read while nothing is driven, and while each pin is driven alone.
-ghost use Rattle.std.specs.Prelude.{◌≡◌, ◌<◌, ◌+◌, ◌^◌, true, Some, None, All, length, IfOk, OnOk, IsErrOf, IsTrue};
-ghost use Rattle.rig.specs.Rig.{ForEach, shape_of};
+ghost use Rattle.std.specs.Prelude.{◌≤◌, ◌≡◌, ◌<◌, ◌+◌, ◌^◌, true, Some, None, All, length, IfOk, OnOk, IsErrOf, IsTrue};
+ghost use Rattle.diag_evidence.specs.Kept.{FewCycles};
+ghost use Rattle.rig.specs.Rig.{ForEach, cycles_made, shape_of};
 ghost use Rattle.diag_evidence.specs.Readings.{HasCycled, LoadsUpTo};
 ghost use Rattle.diag_evidence.specs.Logged.{LogsRows};
 ghost use Rattle.machine_shape.specs.Shape.{pins_of};
@@ -175,6 +176,8 @@ impl Looks {
         requires drives { drives.now.items ≡ look_drives self.old.pins }
         ensures pins { self.new.pins ≡ self.old.pins }
         ensures loads { LoadsUpTo 1 result (rig_state rig.old) (rig_state rig.new) }
+        ensures few { FewCycles (rig_state rig.old) (rig_state rig.new) }
+        ensures made { cycles_made (rig_state rig.new) ≤ cycles_made (rig_state rig.old) + (self.old.pins + 1) }
         ensures wanting { IsErrOf result RigFail.Memory → (rig_state rig.new).session ≡ None }
         ensures session { OnOk result (HasCycled config.now.config (look_drives self.old.pins) (rig_state rig.new)) }
         ensures run { OnOk result (ReadsEach (rig_state rig.old).machine.faults config.now.config (look_drives self.old.pins)

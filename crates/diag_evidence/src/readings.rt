@@ -1,8 +1,10 @@
 //! Readings of a rig.
-ghost use Rattle.std.specs.Prelude.{◌≡◌, ◌≢◌, ◌<◌, true, false, Some, None, [], ◌∷◌, All, length, slice_index_or, IfOk};
+ghost use Rattle.std.specs.Prelude.{◌≡◌, ◌≢◌, ◌+◌, ◌<◌, ◌≤◌, max, true, false, Some, None, [], ◌∷◌, All, length, slice_index_or, IfOk};
 ghost use Rattle.std.specs.Prelude.{OnOk, OnErr, IsTrue, IsErrOf};
 ghost use Rattle.machine_shape.specs.Shape.{pins_of};
-ghost use Rattle.rig.specs.Rig.{ForEach, shape_of, log_of, Begins, KeepLengths};
+ghost use Rattle.base_io.specs.Counts.{next_count};
+ghost use Rattle.rig.specs.Rig.{ForEach, shape_of, log_of, cycles_made, Begins, KeepLengths};
+ghost use Rattle.diag_evidence.specs.Kept.{FewCycles};
 ghost use Rattle.diag_evidence.specs.Logged.{HasLogged, LogsBit, LogsBits, LogsRows, LogsTwice, one_cycle};
 ghost use Rattle.diag_evidence.specs.Looks.{ReadsEach};
 ghost use Rattle.diag_evidence.specs.Readings.{HasCycled, LoadsUpTo, Reads, ReadsOnce, ReadsPins, ReadsTwice, WantsBefore};
@@ -17,6 +19,9 @@ use rig::{PinBits, Rig, RigFail, cycle, cycles, load};
 pub(crate) fn begin(rig: &mut Box<dyn Rig>, config: &Config, room: u32) -> Result<(), RigFail>
     requires { shape_of (rig_state rig.old) ≡ Some config.now.config.shape }
     ensures loads { LoadsUpTo 1 result (rig_state rig.old) (rig_state rig.new) }
+    ensures few { FewCycles (rig_state rig.old) (rig_state rig.new) }
+    ensures counted { OnOk result ((rig_state rig.new).loads ≡ next_count (rig_state rig.old).loads) }
+    ensures made { cycles_made (rig_state rig.new) ≡ cycles_made (rig_state rig.old) }
     ensures begins { OnOk result (Begins config.now.config room (rig_state rig.new)) }
     ensures logged { (rig_state rig.new).past ≡ log_of (rig_state rig.old) }
     ensures ended { OnErr result ((rig_state rig.new).session ≡ None) }
@@ -36,6 +41,8 @@ fn read_once(
     requires drive { length drive.now ≡ pins_of config.now.config.shape }
     requires read { length read.old ≡ pins_of config.now.config.shape }
     ensures loads { LoadsUpTo 1 result (rig_state rig.old) (rig_state rig.new) }
+    ensures few { FewCycles (rig_state rig.old) (rig_state rig.new) }
+    ensures made { cycles_made (rig_state rig.new) ≤ cycles_made (rig_state rig.old) + 1 }
     ensures wanting { IsErrOf result RigFail.Memory → (rig_state rig.new).session ≡ None }
     ensures session { OnOk result (HasCycled config.now.config (drive.now ∷ []) (rig_state rig.new)) }
     ensures run { OnOk result (ReadsOnce (rig_state rig.old).machine.faults config.now.config drive.now read.new) }
@@ -60,7 +67,10 @@ pub(crate) fn read_rows(
     requires rows { All (λ row. length row ≡ pins_of config.now.config.shape) rows.old }
     requires as_many { length drives.now ≡ length rows.old }
     requires room { room ≡ length drives.now }
+    requires few { length drives.now ≤ max 65 (pins_of config.now.config.shape + 1) }
     ensures loads { LoadsUpTo 1 result (rig_state rig.old) (rig_state rig.new) }
+    ensures few { FewCycles (rig_state rig.old) (rig_state rig.new) }
+    ensures made { cycles_made (rig_state rig.new) ≤ cycles_made (rig_state rig.old) + length drives.now }
     ensures wanting { IsErrOf result RigFail.Memory → (rig_state rig.new).session ≡ None }
     ensures lengths { KeepLengths rows.old rows.new }
     ensures session { OnOk result (HasCycled config.now.config drives.now (rig_state rig.new)) }
@@ -84,6 +94,8 @@ pub(crate) fn read_all(
     requires drive { length drive.now ≡ pins_of config.now.config.shape }
     ensures pins { pins.new ≡ pins.old }
     ensures loads { LoadsUpTo 1 result (rig_state rig.old) (rig_state rig.new) }
+    ensures few { FewCycles (rig_state rig.old) (rig_state rig.new) }
+    ensures made { cycles_made (rig_state rig.new) ≤ cycles_made (rig_state rig.old) + 1 }
     ensures wanting { IsErrOf result RigFail.Memory → WantsBefore (rig_state rig.old) (rig_state rig.new) }
     ensures session { OnOk result (HasCycled config.now.config (drive.now ∷ []) (rig_state rig.new)) }
     ensures length { IfOk result (λ read. length read ≡ pins_of config.now.config.shape) }
@@ -128,6 +140,8 @@ pub(crate) fn read_pin(
     requires read { length read.old ≡ pins_of config.now.config.shape }
     requires at { at < pins_of config.now.config.shape }
     ensures loads { LoadsUpTo 1 result (rig_state rig.old) (rig_state rig.new) }
+    ensures few { FewCycles (rig_state rig.old) (rig_state rig.new) }
+    ensures made { cycles_made (rig_state rig.new) ≤ cycles_made (rig_state rig.old) + 1 }
     ensures wanting { IsErrOf result RigFail.Memory → (rig_state rig.new).session ≡ None }
     ensures session { OnOk result (HasCycled config.now.config (drive.now ∷ []) (rig_state rig.new)) }
     ensures reads { IfOk result (λ bit. Reads (rig_state rig.old).machine.faults config.now.config drive.now at bit) }
@@ -155,6 +169,8 @@ pub(crate) fn read_pins(
     requires second { second < pins_of config.now.config.shape }
     ensures pins { pins.new ≡ pins.old }
     ensures loads { LoadsUpTo 1 result (rig_state rig.old) (rig_state rig.new) }
+    ensures few { FewCycles (rig_state rig.old) (rig_state rig.new) }
+    ensures made { cycles_made (rig_state rig.new) ≤ cycles_made (rig_state rig.old) + 1 }
     ensures wanting { IsErrOf result RigFail.Memory → WantsBefore (rig_state rig.old) (rig_state rig.new) }
     ensures session { OnOk result (HasCycled config.now.config (drive.now ∷ []) (rig_state rig.new)) }
     ensures reads { IfOk result (λ bits. ReadsPins
@@ -189,6 +205,8 @@ pub(crate) fn read_twice(
     requires at { at < pins_of config.now.config.shape }
     ensures pins { pins.new ≡ pins.old }
     ensures loads { LoadsUpTo 1 result (rig_state rig.old) (rig_state rig.new) }
+    ensures few { FewCycles (rig_state rig.old) (rig_state rig.new) }
+    ensures made { cycles_made (rig_state rig.new) ≤ cycles_made (rig_state rig.old) + 2 }
     ensures wanting { IsErrOf result RigFail.Memory → WantsBefore (rig_state rig.old) (rig_state rig.new) }
     ensures session { OnOk result (HasCycled config.now.config (low.now ∷ high.now ∷ []) (rig_state rig.new)) }
     ensures reads { IfOk result (λ bits. ReadsTwice

@@ -3,7 +3,7 @@ ghost use Rattle.std.specs.Prelude.{◌≡◌, ◌≤◌, ◌<◌, ◌+◌, ℕ,
 ghost use Rattle.base_io.specs.Counts.{Rose};
 ghost use Rattle.machine_shape.specs.Shape.{pins_of};
 ghost use Rattle.machine_config.specs.Groups.{among};
-ghost use Rattle.rig.specs.Rig.{ForEach, shape_of};
+ghost use Rattle.rig.specs.Rig.{ForEach, cycles_made, shape_of};
 ghost use Rattle.diag_evidence.specs.Kept.{Gains, Advances, these_wires, these_pairs};
 ghost use Rattle.diag_evidence.specs.Logged.{ShowsFromAll, ShowsPins, ShowsSwing};
 ghost use Rattle.diag_evidence.specs.Readings.{HasCycled, IsReady, TellsSwing, TellsPins, TellsFromAll, SwingPasses, ApartPasses};
@@ -47,6 +47,7 @@ impl Facts {
         ensures refused { OnErr result (self.new ≡ self.old) }
         ensures advances { Advances (rig_state rig.old) (rig_state rig.new) self.old self.new }
         ensures loads { (rig_state rig.new).loads ≤ (rig_state rig.old).loads + 1 }
+        ensures cycles { cycles_made (rig_state rig.new) ≤ cycles_made (rig_state rig.old) + 2 }
         ensures session { OnOk result (HasCycled config.now.config (low.now ∷ high.now ∷ []) (rig_state rig.new)) }
         ensures cause { IsErrOf result RigFail.Failed → Rose (rig_state rig.old).failures (rig_state rig.new).failures }
         ensures wanting { IsErrOf result RigFail.Memory → WantsBefore (rig_state rig.old) (rig_state rig.new) }
@@ -92,6 +93,7 @@ impl Facts {
         ensures refused { OnErr result (self.new ≡ self.old) }
         ensures advances { Advances (rig_state rig.old) (rig_state rig.new) self.old self.new }
         ensures loads { (rig_state rig.new).loads ≤ (rig_state rig.old).loads + 1 }
+        ensures cycles { cycles_made (rig_state rig.new) ≤ cycles_made (rig_state rig.old) + 1 }
         ensures session { OnOk result (HasCycled config.now.config (drive.now ∷ []) (rig_state rig.new)) }
         ensures cause { IsErrOf result RigFail.Failed → Rose (rig_state rig.old).failures (rig_state rig.new).failures }
         ensures wanting { IsErrOf result RigFail.Memory → WantsBefore (rig_state rig.old) (rig_state rig.new) }
@@ -135,6 +137,7 @@ impl Facts {
         ensures refused { OnErr result (self.new ≡ self.old) }
         ensures advances { Advances (rig_state rig.old) (rig_state rig.new) self.old self.new }
         ensures loads { (rig_state rig.new).loads ≤ (rig_state rig.old).loads + 1 }
+        ensures cycles { cycles_made (rig_state rig.new) ≤ cycles_made (rig_state rig.old) + 1 }
         ensures session { OnOk result (HasCycled config.now.config (drive.now ∷ []) (rig_state rig.new)) }
         ensures cause { IsErrOf result RigFail.Failed → Rose (rig_state rig.old).failures (rig_state rig.new).failures }
         ensures wanting { IsErrOf result RigFail.Memory → WantsBefore (rig_state rig.old) (rig_state rig.new) }

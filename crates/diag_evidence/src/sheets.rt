@@ -1,11 +1,13 @@
 //! What a test of many tables needs, and its two loads.
-ghost use Rattle.std.specs.Prelude.{◌≡◌, ◌==◌, ◌<◌, Some, None, OnOk, IfOk, IsErrOf, All, length, slice_get};
+ghost use Rattle.std.specs.Prelude.{◌≤◌, ◌+◌, ◌≡◌, ◌==◌, ◌<◌, Some, None, OnOk, IfOk, IsErrOf, All, length, slice_get};
 ghost use Rattle.std.specs.Int.{bit_at};
 ghost use Rattle.machine_shape.specs.Shape.{pins_of, tables_of};
-ghost use Rattle.rig.specs.Rig.{ForEach, shape_of};
+ghost use Rattle.diag_evidence.specs.Kept.{FewCycles};
+ghost use Rattle.rig.specs.Rig.{ForEach, cycles_made, shape_of};
 ghost use Rattle.diag_evidence.specs.Looks.{ReadsEach};
 ghost use Rattle.diag_evidence.specs.Readings.{HasCycled, LoadsUpTo};
-ghost use Rattle.diag_evidence.specs.Sheets.{AreTableDrives, HasAddress, HasInputs, HaveWidth, IsReadTwice, IsReadyFor, IsSheet, SwitchesOn};
+ghost use Rattle.diag_evidence.specs.Sheets.{AreTableDrives, HasAddress, HasInputs, HaveWidth, IsReadTwice, IsReadyFor};
+ghost use Rattle.diag_evidence.specs.Sheets.{IsSheet, SwitchesOn};
 ghost use Rattle.diag_evidence.specs.TableRows.{AreOpposite, AreTablesOn, IsTableConfig};
 
 use crate::Forest;
@@ -193,6 +195,8 @@ fn read_load(
     requires reads { HaveWidth (pins_of config.now.config.shape) reads.old }
     requires as_many { length reads.old ≡ 65 }
     ensures loads { LoadsUpTo 1 result (rig_state rig.old) (rig_state rig.new) }
+    ensures few { FewCycles (rig_state rig.old) (rig_state rig.new) }
+    ensures made { cycles_made (rig_state rig.new) ≤ cycles_made (rig_state rig.old) + 65 }
     ensures wanting { IsErrOf result RigFail.Memory → (rig_state rig.new).session ≡ None }
     ensures width { HaveWidth (pins_of config.now.config.shape) reads.new }
     ensures as_many { length reads.new ≡ 65 }
@@ -213,6 +217,8 @@ pub(crate) fn read_tables(
     requires sheet { IsSheet sheet.old.config.config.shape sheet.old }
     requires tables { All (λ t. t.0 < tables_of sheet.old.config.config.shape) tables.now }
     ensures loads { LoadsUpTo 2 result (rig_state rig.old) (rig_state rig.new) }
+    ensures few { FewCycles (rig_state rig.old) (rig_state rig.new) }
+    ensures made { cycles_made (rig_state rig.new) ≤ cycles_made (rig_state rig.old) + 130 }
     ensures wanting { IsErrOf result RigFail.Memory → (rig_state rig.new).session ≡ None }
     ensures read { OnOk result (IsReadTwice (rig_state rig.old).machine.faults tables.now sheet.old sheet.new (rig_state rig.new)) }
     ensures read_each { OnOk result (ForEach (rig_state rig.new) (λ told. IsReadTwice told tables.now sheet.old sheet.new (rig_state

@@ -2,9 +2,9 @@
 ghost use Rattle.std.specs.Prelude.{◌≡◌, ◌≤◌, ◌<◌, ◌+◌, Some, All, OnOk, OnErr, IsErrOf};
 ghost use Rattle.base_io.specs.Counts.{Rose};
 ghost use Rattle.machine_shape.specs.Shape.{pins_of, crosses_of};
-ghost use Rattle.rig.specs.Rig.{ForEach, shape_of};
+ghost use Rattle.rig.specs.Rig.{ForEach, cycles_made, shape_of};
 ghost use Rattle.diag_tests.specs.Configs.{Closes};
-ghost use Rattle.diag_evidence.specs.Kept.{Advances};
+ghost use Rattle.diag_evidence.specs.Kept.{FewCycles, Advances};
 ghost use Rattle.diag_evidence.specs.Forests.{KeepsForest};
 ghost use Rattle.diag_evidence.specs.Hangs.{ClosesJust, feet_crosses, closes};
 ghost use Rattle.diag_evidence.specs.Looks.{HasLooked, HasSeen, IsLook, LogsLook, ShowsSeen, look_drives};
@@ -62,6 +62,8 @@ impl Facts {
         ensures same { self.new ≡ self.old }
         ensures pins { reads.new.pins ≡ reads.old.pins }
         ensures loads { LoadsUpTo 1 result (rig_state rig.old) (rig_state rig.new) }
+        ensures few { FewCycles (rig_state rig.old) (rig_state rig.new) }
+        ensures made { cycles_made (rig_state rig.new) ≤ cycles_made (rig_state rig.old) + (pins_of self.old.shape + 1) }
         ensures wanting { IsErrOf result RigFail.Memory → WantsBefore (rig_state rig.old) (rig_state rig.new) }
         ensures looked { OnOk result (IsLook (rig_state rig.old).machine.faults forest.now.shape (closes forest.now feet.now)
             reads.new.rows) }
@@ -94,6 +96,7 @@ impl Facts {
         ensures refused { OnErr result (self.new ≡ self.old) }
         ensures advances { Advances (rig_state rig.old) (rig_state rig.new) self.old self.new }
         ensures loads { (rig_state rig.new).loads ≤ (rig_state rig.old).loads + 1 }
+        ensures cycles { cycles_made (rig_state rig.new) ≤ cycles_made (rig_state rig.old) + (pins_of self.old.shape + 1) }
         ensures session { OnOk result (HasLooked self.old.shape (rig_state rig.new)) }
         ensures cause { IsErrOf result RigFail.Failed → Rose (rig_state rig.old).failures (rig_state rig.new).failures }
         ensures wanting { IsErrOf result RigFail.Memory → WantsBefore (rig_state rig.old) (rig_state rig.new) }

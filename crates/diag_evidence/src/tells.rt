@@ -2,7 +2,7 @@
 ghost use Rattle.std.specs.Prelude.{◌≡◌, ◌≤◌, ◌<◌, ◌+◌, ℕ, Bool, true, Some, length, OnOk, OnErr, IsErrOf};
 ghost use Rattle.base_io.specs.Counts.{Rose};
 ghost use Rattle.machine_shape.specs.Shape.{wires_of, pins_of};
-ghost use Rattle.rig.specs.Rig.{ForEach, shape_of};
+ghost use Rattle.rig.specs.Rig.{ForEach, cycles_made, shape_of};
 ghost use Rattle.diag_evidence.specs.Kept.{Advances};
 ghost use Rattle.diag_evidence.specs.Forests.{KnowsForest};
 ghost use Rattle.diag_evidence.specs.Hangs.{AreFeet, AreAllOf, HasTold, MarksUnfit, MarksUnclear, UnfitIf, UnclearIf, StayMarked, closes};
@@ -71,6 +71,7 @@ impl Facts {
         ensures unread { OnErr result (reads.new ≡ reads.old) }
         ensures advances { Advances (rig_state rig.old) (rig_state rig.new) self.old self.new }
         ensures loads { (rig_state rig.new).loads ≤ (rig_state rig.old).loads + 1 }
+        ensures cycles { cycles_made (rig_state rig.new) ≤ cycles_made (rig_state rig.old) + (pins_of self.old.shape + 1) }
         ensures session { OnOk result (HasLooked self.old.shape (rig_state rig.new)) }
         ensures cause { IsErrOf result RigFail.Failed → Rose (rig_state rig.old).failures (rig_state rig.new).failures }
         ensures wanting { IsErrOf result RigFail.Memory → WantsBefore (rig_state rig.old) (rig_state rig.new) }

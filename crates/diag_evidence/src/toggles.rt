@@ -4,8 +4,8 @@ ghost use Rattle.std.specs.Prelude.{OnErr, IsErrOf};
 ghost use Rattle.base_io.specs.Counts.{Rose};
 ghost use Rattle.machine_shape.specs.Shape.{pins_of, crosses_of, tables_of};
 ghost use Rattle.machine_config.specs.Configuration.{is_closed, setting_of, with_open, with_setting, with_cell, with_init};
-ghost use Rattle.rig.specs.Rig.{ForEach, shape_of};
-ghost use Rattle.diag_evidence.specs.Kept.{Gains, Advances, one_cross, one_cell, one_register};
+ghost use Rattle.rig.specs.Rig.{ForEach, cycles_made, shape_of};
+ghost use Rattle.diag_evidence.specs.Kept.{FewCycles, Gains, Advances, one_cross, one_cell, one_register};
 ghost use Rattle.diag_evidence.specs.Logged.{LogsBit, ShowsApart};
 ghost use Rattle.diag_evidence.specs.Readings.{CellPasses, CrossPasses, HasCycled, LoadsUpTo, Reads, RegisterPasses, TellsApart};
 ghost use Rattle.diag_evidence.specs.Readings.{WantsBefore};
@@ -32,6 +32,8 @@ fn read_without(
     requires read { length read.old ≡ pins_of config.old.config.shape }
     requires at { at < pins_of config.old.config.shape }
     ensures loads { LoadsUpTo 1 result (rig_state rig.old) (rig_state rig.new) }
+    ensures few { FewCycles (rig_state rig.old) (rig_state rig.new) }
+    ensures made { cycles_made (rig_state rig.new) ≤ cycles_made (rig_state rig.old) + 1 }
     ensures wanting { IsErrOf result RigFail.Memory → (rig_state rig.new).session ≡ None }
     ensures session { OnOk result (HasCycled (with_open config.old.config c.0) (drive.now ∷ []) (rig_state rig.new)) }
     ensures reads { IfOk result (λ bit. Reads (rig_state rig.old).machine.faults (with_open config.old.config c.0) drive.now at bit) }
@@ -85,6 +87,8 @@ fn read_with(
     requires read { length read.old ≡ pins_of config.old.config.shape }
     requires at { at < pins_of config.old.config.shape }
     ensures loads { LoadsUpTo 1 result (rig_state rig.old) (rig_state rig.new) }
+    ensures few { FewCycles (rig_state rig.old) (rig_state rig.new) }
+    ensures made { cycles_made (rig_state rig.new) ≤ cycles_made (rig_state rig.old) + 1 }
     ensures wanting { IsErrOf result RigFail.Memory → (rig_state rig.new).session ≡ None }
     ensures session { OnOk result (HasCycled (with_setting config.old.config switch.table.0 (Some switch.setting)) (drive.now ∷ [])
         (rig_state rig.new)) }
@@ -140,6 +144,7 @@ impl Facts {
         ensures refused { OnErr result (self.new ≡ self.old) }
         ensures advances { Advances (rig_state rig.old) (rig_state rig.new) self.old self.new }
         ensures loads { (rig_state rig.new).loads ≤ (rig_state rig.old).loads + 2 }
+        ensures cycles { cycles_made (rig_state rig.new) ≤ cycles_made (rig_state rig.old) + 2 }
         ensures session { OnOk result (HasCycled (with_open config.old.config c.0) (drive.now ∷ []) (rig_state rig.new)) }
         ensures cause { IsErrOf result RigFail.Failed → Rose (rig_state rig.old).failures (rig_state rig.new).failures }
         ensures wanting { IsErrOf result RigFail.Memory → WantsBefore (rig_state rig.old) (rig_state rig.new) }
@@ -196,6 +201,7 @@ impl Facts {
         ensures refused { OnErr result (self.new ≡ self.old) }
         ensures advances { Advances (rig_state rig.old) (rig_state rig.new) self.old self.new }
         ensures loads { (rig_state rig.new).loads ≤ (rig_state rig.old).loads + 2 }
+        ensures cycles { cycles_made (rig_state rig.new) ≤ cycles_made (rig_state rig.old) + 2 }
         ensures session { OnOk result (IfSome (setting_of config.old.config t.0)
             (λ s. HasCycled (with_setting config.old.config t.0 (Some (with_cell s address true))) (drive.now ∷ []) (rig_state rig.new))) }
         ensures cause { IsErrOf result RigFail.Failed → Rose (rig_state rig.old).failures (rig_state rig.new).failures }
@@ -263,6 +269,7 @@ impl Facts {
         ensures refused { OnErr result (self.new ≡ self.old) }
         ensures advances { Advances (rig_state rig.old) (rig_state rig.new) self.old self.new }
         ensures loads { (rig_state rig.new).loads ≤ (rig_state rig.old).loads + 2 }
+        ensures cycles { cycles_made (rig_state rig.new) ≤ cycles_made (rig_state rig.old) + 2 }
         ensures session { OnOk result (IfSome (setting_of config.old.config t.0)
             (λ s. HasCycled (with_setting config.old.config t.0 (Some (with_init s true))) (drive.now ∷ []) (rig_state rig.new))) }
         ensures cause { IsErrOf result RigFail.Failed → Rose (rig_state rig.old).failures (rig_state rig.new).failures }

@@ -4,7 +4,7 @@ ghost use Rattle.base_bits.specs.Numbers.{has_number, size_of};
 ghost use Rattle.base_io.specs.Counts.{Rose};
 ghost use Rattle.machine_shape.specs.Shape.{tables_of, wires_of};
 ghost use Rattle.rig.specs.Rig.{ForEach, Narrows, Tells, shape_of};
-ghost use Rattle.diag_evidence.specs.Kept.{Advances, KeepsNothing};
+ghost use Rattle.diag_evidence.specs.Kept.{Advances, FewCycles, KeepsNothing, TakesFewCycles};
 ghost use Rattle.diag_known.specs.Vocabulary.{IsFieldOf, pins_in, IsKnown};
 ghost use Rattle.diag_known.specs.declared.verified_wire.VerifiedWire.{VerifiedWire};
 ghost use Rattle.diag_growth.specs.Seats.{AddsOnlyTableFacts};
@@ -470,6 +470,7 @@ pub fn diagnose_in_parts(
     ensures counted { (rig_state rig.old).loads ≤ (rig_state rig.new).loads }
     ensures narrows { Narrows (rig_state rig.old) (rig_state rig.new) }
     ensures tells { Tells (rig_state rig.old) (rig_state rig.new) }
+    ensures few { FewCycles (rig_state rig.old) (rig_state rig.new) }
     ensures loads { TakesAtMost shape.now (rig_state rig.old).loads (rig_state rig.new).loads }
     ensures loads_each { ForEach (rig_state rig.new) (λ told. TakesFewLoads told shape.now (rig_state rig.old).loads (rig_state
         rig.new).loads) }
@@ -485,7 +486,8 @@ pub fn diagnose_in_parts(
 /// was read of the machine, and is tight to it: nothing on it both works and can be reached over what is free. So it is fair: of served
 /// nodes it holds no sound part, but lines with fewer than two sound crosspoints. At every end it took at most 16 loads for each
 /// crosspoint, 20 for each wire and 130 for each table; and 2, 3 and 130 where all that was read is explained without faults. The count
-/// of loads didn't fall. Faults that the rig tells explain what was read, if they did before.
+/// of loads didn't fall. For each load it made at most 65 cycles, or one more than the machine has pins where that is more. Faults that
+/// the rig tells explain what was read, if they did before.
 ///
 /// # Errors
 ///
@@ -500,6 +502,8 @@ pub fn diagnose(alloc: Global, rig: &mut Box<dyn Rig>, shape: &Shape) -> Result<
     ensures counted { (rig_state rig.old).loads ≤ (rig_state rig.new).loads }
     ensures narrows { Narrows (rig_state rig.old) (rig_state rig.new) }
     ensures tells { Tells (rig_state rig.old) (rig_state rig.new) }
+    ensures few { FewCycles (rig_state rig.old) (rig_state rig.new) }
+    ensures cycles { TakesFewCycles (rig_state rig.old) (rig_state rig.new) }
     ensures loads { TakesAtMost shape.now (rig_state rig.old).loads (rig_state rig.new).loads }
     ensures loads_each { ForEach (rig_state rig.new) (λ told. TakesFewLoads told shape.now (rig_state rig.old).loads (rig_state
         rig.new).loads) }

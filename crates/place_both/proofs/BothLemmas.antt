@@ -11,7 +11,7 @@ use Rattle.place_route.specs.Vocabulary.{IsRightImage, ReadsRows}
 use Rattle.place_pair.specs.JointNetworks as joint
 use Rattle.place_pair.specs.JointNetworks.{joint_network}
 use Rattle.place_pair.specs.Tenants.{AreTenants, HasPinsOf, StandApart}
-use Rattle.cmd_steps.specs.Vocabulary.{Around, Outside, StepStops, IsCounted, status_of, Took, IsExcused}
+use Rattle.cmd_steps.specs.Vocabulary.{Around, Outside, StepStops, IsCounted, ShortPlace, status_of, Took, IsExcused}
 use Rattle.cmd_steps.specs.declared.refusal.Refusal.{Refusal}
 use Rattle.cmd_steps.specs.declared.refusal.Refusal.TheVariants as refused
 use Rattle.cmd_steps.specs.declared.refusal.Stop.{Stop}
@@ -24,7 +24,7 @@ use Rattle.place_design.proofs.Rooms.{AreDecided}
 use Rattle.place_plan.specs.declared.plan.Plan.{Plan}
 use Rattle.place_plan.specs.Plans.{FitsInOrder}
 use Rattle.place_both.specs.declared.networks.TwoNetworks.{TwoNetworks}
-use Rattle.place_both.specs.Both.{AreLean, ArePlainInOrder, BothHaveRoom, BothLackRoom, IsImageForBoth, IsRoutedForBoth, NotBothLaid, joint_of, lays_both}
+use Rattle.place_both.specs.Both.{AreLean, ArePlainInOrder, BothHaveRoom, BothLackRoom, IsImageForBoth, IsNoRoomForBoth, IsRoutedForBoth, NotBothLaid, joint_of, lays_both}
 use Rattle.place_both.specs.Smaller.{AreFor, AreLeanFor, ArePlainFor}
 use Rattle.place_both.proofs.RowsOfBoth.{both-rows}
 
@@ -123,10 +123,14 @@ module _ (d : DefectList) (first second : NetlistData) where
   pub never-both-lack : AreDecided → BothHaveRoom d first second → BothLackRoom d first second → ⊥
   never-both-lack decided room lacks = decided d.shape d.list (joint_of first second) room.0 lacks.0 room.1 lacks.1
 
-  pub both-excused : (old new : Around) → AreDecided → BothHaveRoom d first second → (refusal : Refusal) → NotBothLaid d first second refusal → IsExcused refusal old new
-  both-excused old new decided room (refused.Room place) stops = absurd (never-both-lack decided room (place.short, stops.short))
-  both-excused old new decided room refused.Memory stops = tt
-  both-excused old new decided room refusal stops = absurd stops
+  pub never-both-refused : AreDecided → BothHaveRoom d first second → (place : ShortPlace) → IsNoRoomForBoth d first second place → ⊥
+  never-both-refused decided room place none = never-both-lack decided room (place.short, none.short)
+
+  -- where room is never refused what isn't laid is excused
+  pub both-excused : (old new : Around) → ((place : ShortPlace) → IsNoRoomForBoth d first second place → ⊥) → (refusal : Refusal) → NotBothLaid d first second refusal → IsExcused refusal old new
+  both-excused old new never (refused.Room place) stops = absurd (never place stops)
+  both-excused old new never refused.Memory stops = tt
+  both-excused old new never refusal stops = absurd stops
 
   pub both-short : (old new : Around) (refusal : Refusal) → NotBothLaid d first second refusal → (status_of refusal ≡ 3) ⊎ IsExcused refusal old new
   both-short old new (refused.Room place) stops = inl refl

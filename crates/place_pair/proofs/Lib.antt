@@ -1,9 +1,9 @@
 -- What is cited above.
 pub mod Lonely
+pub mod Sounding
 -- For the proofs of this crate alone.
 mod Lists
 mod Moving
-mod Sounding
 mod Standing
 mod Behaving
 mod Owning

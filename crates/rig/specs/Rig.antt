@@ -1,7 +1,7 @@
 -- A rig: a machine that is attached by name, loaded and driven.
 use Rattle.std.specs.Prelude.{◌≡◌, ℕ, ◌+◌, ◌<◌, ◌≤◌, List, [], ◌∷◌, ◌++◌, map, length, All, Option, None, Some}
 use Rattle.std.specs.Prelude.{IfSome, IsSomeAnd, option_map}
-use Rattle.std.specs.List.{AllByRecursion}
+use Rattle.std.specs.List.{AllByRecursion, sum_by}
 use Rattle.std.specs.Option.{option_map_or}
 use Rattle.machine_shape.specs.declared.Shape.{Shape}
 use Rattle.machine_shape.specs.Shape.{pins_of}
@@ -18,6 +18,7 @@ use Rattle.rig.specs.declared.rig.AttachFail.TheVariants as attach
 use Rattle.rig.specs.declared.rig.RigFail.{RigFail}
 use Rattle.rig.specs.declared.rig.RigFail.TheVariants as work
 use Rattle.base_io.specs.Counts.{Rose, next_count}
+use Rattle.rig.specs.Names.{SpellsFaults}
 
 -- a machine as it was asked for
 pub record Asked : Type 0 where
@@ -101,6 +102,10 @@ standing session = option_map_or (λ s. record { config = s.config; cycles = s.c
 abbrev pub log_of : RigState → List Past
 log_of rig = rig.past ++ standing rig.session
 
+-- the number of cycles: those of all sessions in the log
+unfoldable pub cycles_made : RigState → ℕ
+cycles_made rig = sum_by (λ (s : Past). length s.cycles) (log_of rig)
+
 -- what was read in a session is the run of its configuration under these faults
 abbrev pub IsRunOf : Faults → Past → Type 0
 IsRunOf f s = IsRun f s.config (drives_of s.cycles) (readings_of s.cycles)
@@ -146,6 +151,8 @@ pub record Attaches (machine : Asked) (old new : RigState) : Type 0 where
   pub asked : new.machine.asked ≡ old.machine.asked ++ machine ∷ []
   pub attached : new.machine.attached ≡ Some machine
   pub faults : IfSome new.machine.faults (AreFaultsOf machine.shape)
+  -- told faults are those of the name
+  pub named : SpellsFaults (old.machine.texts machine.name) machine.name machine.shape new.machine.faults
   pub session : new.session ≡ None
   pub past : new.past ≡ []
   pub refused : new.machine.refused ≡ old.machine.refused

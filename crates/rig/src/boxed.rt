@@ -1,8 +1,8 @@
 //! Calls of a rig in a box.
-ghost use Rattle.std.specs.Prelude.{◌≡◌, ◌^◌, ◌<◌, ◌≤◌, None, Some, IsSome, IfErr, OnOk, OnErr, length};
+ghost use Rattle.std.specs.Prelude.{◌≡◌, ◌^◌, ◌+◌, ◌<◌, ◌≤◌, None, Some, IsSome, IfErr, OnOk, OnErr, length};
 ghost use Rattle.base_io.specs.Counts.{next_count};
 ghost use Rattle.rig.specs.Rig.{shape_of, width_of, HasFaultsOf, log_of, Begins, LoadFails, GoesOn, CycleFails, GoesOnBy};
-ghost use Rattle.rig.specs.Rig.{CyclesFail, AreRows, KeepLengths, Narrows, Tells};
+ghost use Rattle.rig.specs.Rig.{CyclesFail, AreRows, KeepLengths, Narrows, Tells, cycles_made};
 
 use crate::{PinBits, Rig, RigFail};
 use machine_config::Config;
@@ -26,7 +26,7 @@ fn load_raw(rig: &mut Box<dyn Rig>, config: &Config, room: u32) -> Result<(), Ri
 }
 
 /// Loads a configuration, as [`Rig::load`] does. What it says has names here, which proofs cite. What explains the log
-/// afterwards explained it before, and faults that are told explain it if they did before.
+/// afterwards explained it before, and faults that are told explain it if they did before. A load makes no cycle.
 pub fn load(rig: &mut Box<dyn Rig>, config: &Config, room: u32) -> Result<(), RigFail>
     requires { shape_of (rig_state rig.old) ≡ Some config.now.config.shape }
 
@@ -42,6 +42,7 @@ pub fn load(rig: &mut Box<dyn Rig>, config: &Config, room: u32) -> Result<(), Ri
     ensures refused { IfErr result (λ e. LoadFails e (rig_state rig.old) (rig_state rig.new)) }
     ensures narrows { Narrows (rig_state rig.old) (rig_state rig.new) }
     ensures tells { Tells (rig_state rig.old) (rig_state rig.new) }
+    ensures made { cycles_made (rig_state rig.new) ≡ cycles_made (rig_state rig.old) }
 {
     load_raw(rig, config, room)
 }
@@ -79,6 +80,7 @@ pub fn cycle(rig: &mut Box<dyn Rig>, drive: &PinBits, read: &mut PinBits) -> Res
     ensures refused { IfErr result (λ e. CycleFails e (rig_state rig.old) (rig_state rig.new)) }
     ensures narrows { Narrows (rig_state rig.old) (rig_state rig.new) }
     ensures tells { Tells (rig_state rig.old) (rig_state rig.new) }
+    ensures made { cycles_made (rig_state rig.new) ≤ cycles_made (rig_state rig.old) + 1 }
 {
     cycle_raw(rig, drive, read)
 }
@@ -126,6 +128,7 @@ pub fn cycles(
     ensures refused { IfErr result (λ e. CyclesFail e (length drives.now) (rig_state rig.old) (rig_state rig.new)) }
     ensures narrows { Narrows (rig_state rig.old) (rig_state rig.new) }
     ensures tells { Tells (rig_state rig.old) (rig_state rig.new) }
+    ensures made { cycles_made (rig_state rig.new) ≤ cycles_made (rig_state rig.old) + length drives.now }
 {
     cycles_raw(rig, drives, reads)
 }

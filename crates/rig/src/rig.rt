@@ -54,7 +54,8 @@ pub trait Rig: Drop {
     ghost rig_state: { Self → RigState };
 
     /// Makes the rig a machine of this shape under this name, with no session and an empty log. A refusal leaves nothing
-    /// attached, and the log empty.
+    /// attached, and the log empty. Where the rig tells both, the faults of the machine are those that the fault text of the
+    /// name spells; a name of an at sign and a numeral stands for generated faults, and is left out.
     ///
     /// The shape and the name are added to the machines asked, but after `Memory`. After `Failed` the count rose.
     /// After `Faults`, and then alone, one more text was refused; where the text of the name is told, it is no fault

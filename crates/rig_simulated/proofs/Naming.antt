@@ -1,6 +1,7 @@
 -- Names and their faults.
-use Rattle.std.proofs.Common.{◌≡◌, ◌⊎◌, ⊎_elim, ℕ, ◌≤◌, Bool, true, false, cond, leb, ◌&&◌, Some, None, List, length, refl, sym, ap, ◌∙◌, subst, arith, IfSome, bytes_eq}
+use Rattle.std.proofs.Common.{◌≡◌, ◌⊎◌, ⊎_elim, ℕ, ◌≤◌, Bool, true, false, cond, leb, ◌&&◌, Some, None, Option, List, length, refl, sym, ap, ◌∙◌, subst, arith, IfSome, bytes_eq}
 use Rattle.std.specs.Fmt.{decimal}
+use Rattle.std.proofs.lemmas.Option.{none-some}
 use Rattle.std.proofs.lemmas.Bool.{cases_lt, le-leb, leb-true, and_parts}
 use Rattle.std.proofs.lemmas.Slice.Eq.{bytes_eq-Decides}
 use Rattle.std.proofs.lemmas.Fmt.{digits_value-decimal}
@@ -13,7 +14,8 @@ use Rattle.machine_faults.specs.Refusals.{IsFaultAt}
 use Rattle.machine_faults.specs.declared.kind.FaultsKind.{FaultsKind}
 use Rattle.base_io.specs.Told.{Told, untold, absent, holds, bytes_of, IfTold}
 use Rattle.rig.specs.Rig.{IsNoText}
-use Rattle.rig_simulated.specs.Named.{number_of_word}
+use Rattle.rig.specs.Names.{generated_of, number_of_word, SpellsFaults}
+use Rattle.rig_simulated.specs.Named.{text_by, texts_of, AreNamed}
 
 pub no_text : (m : Shape) (told : Told) (text bytes : List ℕ) (line : ℕ) (kind : FaultsKind) → IfTold told (λ b. (text ≡ b) × (length b ≤ 16777216)) → bytes ≡ text → IsFaultAt m bytes line kind →
     ((f : Faults) → IsFaultText m bytes f → length bytes ≤ most_bytes → ⊥) → IfSome (bytes_of told) (λ b. IsNoText m b line kind)
@@ -21,6 +23,16 @@ no_text m untold text bytes line kind w e is only = tt
 no_text m absent text bytes line kind w e is only = tt
 no_text m (holds b) text bytes line kind w e is only =
     subst (λ (l : List ℕ). IsNoText m l line kind) (e ∙ w.0) (record { first = is; too_long = λ f t. ⊎_elim (λ l. l) (λ l. absurd (only f t l)) (cases_lt most_bytes (length bytes)) })
+
+-- the faults of a name are those that its text spells
+spells-by : (number found : Option ℕ) (told : Told) (m : Shape) (f : Faults) → found ≡ number → AreNamed number m told f → IfSome (text_by number (bytes_of told)) (λ bytes. found ≡ None → IsFaultText m bytes f)
+spells-by (Some n) found told m f is are none = absurd (none-some n (sym none ∙ is))
+spells-by None found untold m f is are = tt
+spells-by None found absent m f is are = absurd are
+spells-by None found (holds bytes) m f is are none = are.0
+
+pub spells : (name : List ℕ) (contents : List ℕ → Told) (m : Shape) (f : Faults) → AreNamed (generated_of name) m (contents name) f → SpellsFaults (texts_of contents name) name m (Some f)
+spells name contents m f are = spells-by (generated_of name) (generated_of name) (contents name) m f refl are
 
 same_bytes : (xs ys : List ℕ) → xs ≡ ys → bytes_eq xs ys ≡ true
 same_bytes xs ys e = grind (arith, bytes_eq-Decides xs ys, e)

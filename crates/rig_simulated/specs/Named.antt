@@ -1,25 +1,16 @@
 -- The faults that a name stands for.
-use Rattle.std.specs.Prelude.{◌≡◌, ◌⊎◌, ℕ, ◌≤◌, ◌&&◌, nat_le, ◌==◌, if◌then◌else◌, Option, Some, None, IfSome, List, [], ◌∷◌, ◌++◌, length}
-use Rattle.std.specs.Prelude.{slice_index, drop, bytes_eq}
-use Rattle.std.specs.Fmt.{decimal}
+use Rattle.std.specs.Prelude.{◌≡◌, ◌⊎◌, ℕ, ◌≤◌, Option, Some, None, IfSome, List, [], ◌∷◌, ◌++◌, length}
 use Rattle.machine_shape.specs.declared.Shape.{Shape}
 use Rattle.machine_meaning.specs.Faults.{Faults}
-use Rattle.base_text.specs.Vocabulary.{read_on, most_bytes}
+use Rattle.base_text.specs.Vocabulary.{most_bytes}
 use Rattle.base_io.specs.Vocabulary.{Rose, Told, bytes_of, IfTold, StoreState}
 use Rattle.machine_faults.specs.Text.{IsFaultText}
 use Rattle.machine_faults.specs.declared.kind.FaultsFault.TheVariants as text
 use Rattle.machine_bench.specs.Faults.{AreBenchFaults}
+use Rattle.rig.specs.Names.{generated_of}
 use Rattle.rig.specs.Rig.{IsNoText}
 use Rattle.rig.specs.declared.rig.AttachFail.{AttachFail}
 use Rattle.rig.specs.declared.rig.AttachFail.TheVariants as attach
-
--- the number of at most 4,294,967,295 whose numeral the word is
-abbrev pub number_of_word : List ℕ → Option ℕ
-number_of_word word = if bytes_eq (decimal (read_on 0 word)) word && nat_le (read_on 0 word) 4294967295 then Some (read_on 0 word) else None
-
--- the number of a name of an at sign and a numeral, which stands for generated faults
-abbrev pub generated_of : List ℕ → Option ℕ
-generated_of name = if slice_index name 0 == 64 then number_of_word (drop 1 name) else None
 
 -- the fault text of a name by its number, if it has one: that of generated faults is empty
 abbrev pub text_by : Option ℕ → Option (List ℕ) → Option (List ℕ)

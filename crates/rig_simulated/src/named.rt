@@ -2,7 +2,8 @@
 
 ghost use Rattle.std.specs.Prelude.{◌≡◌, ◌⊎◌, ◌≤◌, None, IfOk, IfErr, IsErrOf, OnOk};
 ghost use Rattle.base_io.specs.Told.{absent, bytes_of};
-ghost use Rattle.rig_simulated.specs.Named.{number_of_word, generated_of, texts_of, AreNamed, Asks, AsksAtMost, NamesFail};
+ghost use Rattle.rig.specs.Names.{number_of_word, generated_of};
+ghost use Rattle.rig_simulated.specs.Named.{texts_of, AreNamed, Asks, AsksAtMost, NamesFail};
 
 use base_io::{Store, StoreFail, read_within};
 use base_text::{MOST_BYTES, read_number};

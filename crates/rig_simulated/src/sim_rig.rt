@@ -7,7 +7,8 @@ ghost use Rattle.base_io.specs.Vocabulary.{next_count, Rose, absent};
 ghost use Rattle.rig.specs.Rig.{shape_of, width_of, IsDetached, Attaches, AttachFails, HasFaultsOf, log_of, standing, Begins, LoadFails};
 ghost use Rattle.rig.specs.Rig.{GoesOn, CycleFails, GoesOnBy, CyclesFail, AreRows, KeepLengths};
 ghost use Rattle.rig.specs.declared.rig.RigFail.TheVariants as work;
-ghost use Rattle.rig_simulated.specs.Named.{generated_of, texts_of, AreNamed, TellsNamed, Asks, AsksAtMost, NamesFail};
+ghost use Rattle.rig.specs.Names.{generated_of, SpellsFaults};
+ghost use Rattle.rig_simulated.specs.Named.{texts_of, AreNamed, TellsNamed, Asks, AsksAtMost, NamesFail};
 
 use crate::named::faults_of;
 use crate::sim::Sim;
@@ -43,6 +44,7 @@ pub struct SimRig<S: Store + Drop> {
 }
 
 /// The machine of a name.
+#[tactic(auto, using(crate::proofs::Naming::spells))]
 fn sim_of<S: Store>(
     alloc: Global,
     store: &mut S,
@@ -54,6 +56,8 @@ fn sim_of<S: Store>(
     ensures sound { IfOk result (λ s. AreFaultsOf shape.now s.machine.faults) }
     ensures faults { IfOk result (λ s. AreNamed (generated_of name.now) shape.now
         ((S.store_state store.old).contents name.now) s.machine.faults) }
+    ensures spelled { IfOk result (λ s. SpellsFaults (texts_of (S.store_state store.old).contents name.now) name.now shape.now
+        (Some s.machine.faults)) }
     ensures contents { (S.store_state store.new).contents ≡ (S.store_state store.old).contents }
     ensures asks { OnOk result (Asks (generated_of name.now) name.now (S.store_state store.old) (S.store_state store.new)) }
     ensures asks_at_most { AsksAtMost (generated_of name.now) name.now (S.store_state store.old) (S.store_state store.new) }

@@ -6,7 +6,9 @@ use Rattle.cmd_pair.proofs.command.pair.Goals as goal
 pub returns-clause-lawful : goal.returns-clause-lawful
 returns-clause-lawful g c =
     let room = c.in_order_plans_are_decided.ensures.never_both in
-    pair-lawful c.args.machine.now c.args.name.now c.args.first.now c.args.second.now c.args.vectors.now room (record {
+    let sure = c.standing_parts_are_room.ensures.room in
+    let networks = c.plain_networks_have_the_rows.ensures.network in
+    pair-lawful c.args.machine.now c.args.name.now c.args.first.now c.args.second.now c.args.vectors.now room sure networks (record {
       names = c.names_are_one_to_one.ensures;
       crosses = c.the_crosspoints_are_sound.ensures.crosses;
       numbered = c.the_numbering_is_sound.ensures.numbered;

@@ -1,18 +1,47 @@
-use Rattle.std.proofs.Common.{◌≡◌, true, rules, false}
-use Rattle.diag_check.proofs.Checking.{parts_found, field_found, field_lost}
+use Rattle.std.proofs.Common.{◌≡◌, true, false, rules, refl, ap}
+use Rattle.std.proofs.lemmas.Bool.{false≢true}
+use Rattle.rig.specs.Rig.{Machine}
+use Rattle.diag_known.proofs.Later.{known_later}
+use Rattle.diag_known.proofs.Settling.{if_ok_so}
+use Rattle.diag_check.proofs.Checking.{parts_found, field_found, field_lost, loads_field, loads_grown}
 use Rattle.diag_growth.proofs.Explained.{held}
 use Rattle.diag_check.proofs.check.check_in.Goals as goal
 
-pub returns-in-Ok-clause-keeps : goal.returns-in-Ok-clause-keeps
-returns-in-Ok-clause-keeps g c = λ e.
-    let grown : c.in-Ok-true.field-0 ≡ true = first_of (assumption (c.in-Ok-true.field-0-test), search rules) in
-    parts_found c.grow_over.new.facts c.look_at_tables.new.facts c.args.image.now c.in-Ok.yes c.look_at_tables.ensures.advances.more (c.in-Ok-true.ensures.keeps grown) c.in-Ok.ensures.keeps e
+pub returns-clause-known : goal.returns-clause-known
+returns-clause-known g c = known_later c.look_at_tables.ensures.advances.more c.grow_over.ensures.known
 
-pub returns-in-Ok-clause-whole_each : goal.returns-in-Ok-clause-whole_each
-returns-in-Ok-clause-whole_each g c = λ f e. let before = c.look_at_tables.ensures.advances.narrows f e in
-    field_found (held c.grow_over.ensures.advances before) (c.in-Ok-true.ensures.whole_each f before) (c.in-Ok.ensures.whole_each f e)
+pub returns-clause-keeps : goal.returns-clause-keeps
+returns-clause-keeps g c =
+    let grown : c.in-Ok-true.field-0 ≡ true = first_of (assumption (c.in-Ok-true.field-0-test), search rules) in
+    if_ok_so c.look_at_tables.result c.look_at_tables.ensures.keeps (λ answer keeps e.
+    parts_found c.grow_over.new.facts c.look_at_tables.new.facts c.args.image.now answer c.look_at_tables.ensures.advances.more (c.in-Ok-true.ensures.keeps grown) keeps e)
+
+pub returns-clause-whole : goal.returns-clause-whole
+returns-clause-whole g c = if_ok_so c.look_at_tables.result c.look_at_tables.ensures.whole (λ answer tables.
+    field_found (ap (λ (m : Machine). m.faults) c.grow_over.ensures.advances.machine) c.grow_over.ensures.advances.holds c.in-Ok-true.ensures.whole tables)
+
+pub returns-clause-whole_each : goal.returns-clause-whole_each
+returns-clause-whole_each g c = if_ok_so c.look_at_tables.result c.look_at_tables.ensures.whole_each (λ answer each f e. let before = c.look_at_tables.ensures.advances.narrows f e in
+    field_found refl (held c.grow_over.ensures.advances before) (c.in-Ok-true.ensures.whole_each f before) (each f e))
+
+pub returns-clause-loads : goal.returns-clause-loads
+returns-clause-loads g c = loads_field _ _ _ _ _ _ c.grow_over.ensures.loads (c.look_at_tables.ensures.loads c.args.used.now c.requires.used)
+
+pub returns-in-Ok-false-clause-keeps : goal.returns-in-Ok-false-clause-keeps
+returns-in-Ok-false-clause-keeps g c = λ e. absurd (false≢true e)
+
+pub returns-in-Ok-false-clause-whole : goal.returns-in-Ok-false-clause-whole
+returns-in-Ok-false-clause-whole g c =
+    let off : c.in-Ok-false.field-0 ≡ false = first_of (assumption (c.in-Ok-false.field-0-test), search rules) in
+    field_lost off c.in-Ok-false.ensures.whole
 
 pub returns-in-Ok-false-clause-whole_each : goal.returns-in-Ok-false-clause-whole_each
 returns-in-Ok-false-clause-whole_each g c =
     let off : c.in-Ok-false.field-0 ≡ false = first_of (assumption (c.in-Ok-false.field-0-test), search rules) in
     λ f e. field_lost off (c.in-Ok-false.ensures.whole_each f e)
+
+pub returns-in-Ok-false-clause-loads : goal.returns-in-Ok-false-clause-loads
+returns-in-Ok-false-clause-loads g c = loads_grown _ _ _ _ _ c.grow_over.ensures.loads
+
+pub returns-in-Err-clause-loads : goal.returns-in-Err-clause-loads
+returns-in-Err-clause-loads g c = loads_grown _ _ _ _ _ c.grow_over.ensures.loads

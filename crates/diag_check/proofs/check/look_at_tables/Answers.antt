@@ -17,9 +17,9 @@ returns-in-Ok-clause-whole_each g c = λ f e. tables_if _ c.args.facts.now c.tes
     (table_counts c.args.image.now c.config-config.result.now.config c.config-config.ensures.config c.tables_on.result.now c.tables_on.ensures) (c.in-Ok.ensures.tables_each f e) c.keeps_tables.ensures.1
 
 pub returns-in-Ok-clause-loads : goal.returns-in-Ok-clause-loads
-returns-in-Ok-clause-loads g c = loads_tables c.args.facts.now c.args.image.now c.tables_on.result.now _ _
+returns-in-Ok-clause-loads g c = λ used are. loads_tables c.args.facts.now c.args.image.now used c.tables_on.result.now _ _ (c.the_numbering_is_sound.ensures.numbered c.args.image.now.config.shape) c.config-config.ensures.right are
     (table_counts c.args.image.now c.config-config.result.now.config c.config-config.ensures.config c.tables_on.result.now c.tables_on.ensures) c.test_tables.ensures.loads
 
 pub returns-in-Err-clause-loads : goal.returns-in-Err-clause-loads
-returns-in-Err-clause-loads g c = loads_tables c.args.facts.now c.args.image.now c.tables_on.result.now _ _
+returns-in-Err-clause-loads g c = λ used are. loads_tables c.args.facts.now c.args.image.now used c.tables_on.result.now _ _ (c.the_numbering_is_sound.ensures.numbered c.args.image.now.config.shape) c.config-config.ensures.right are
     (table_counts c.args.image.now c.config-config.result.now.config c.config-config.ensures.config c.tables_on.result.now c.tables_on.ensures) c.test_tables.ensures.loads

@@ -1,6 +1,6 @@
 use Rattle.std.proofs.Common.{sym, ◌∙◌}
-use Rattle.diag_check.proofs.Checking.{sound_if, yes_if}
-use Rattle.diag_check.proofs.Counting.{for_parts}
+use Rattle.diag_check.proofs.Checking.{few_if, sound_if, yes_if}
+use Rattle.diag_check.proofs.Counting.{for_ways}
 use Rattle.diag_growth.proofs.Explained.{held}
 use Rattle.diag_known.proofs.Settling.{if_ok_so}
 use Rattle.diag_check.proofs.check.quick_check.Goals as goal
@@ -17,4 +17,10 @@ returns-clause-whole_each g c =
     if_ok_so c.check_with.result c.check_with.ensures.whole_each (λ answer whole f e. yes_if _ _ c.args.image.now answer (λ h. c.kept_facts_are_sound.ensures.nothing _ h c.in-Ok-new.ensures.nothing) (whole f e))
 
 pub returns-clause-loads : goal.returns-clause-loads
-returns-clause-loads g c = for_parts _ _ _ _ _ c.in-Ok.ensures.used c.in-Ok.ensures.nodes c.check_with.ensures.loads
+returns-clause-loads g c = for_ways _ _ _ _ _ c.in-Ok.ensures.used c.in-Ok.ensures.nodes c.check_with.ensures.loads
+
+pub returns-clause-few : goal.returns-clause-few
+returns-clause-few g c = few_if _ _ _ _ _ _ _ (λ f. c.kept_facts_are_sound.ensures.nothing _ f c.in-Ok-new.ensures.nothing) c.in-Ok.ensures.used c.in-Ok.ensures.nodes c.check_with.ensures.few
+
+pub returns-clause-few_each : goal.returns-clause-few_each
+returns-clause-few_each g c = λ f e. few_if _ _ _ _ _ _ _ (λ h. c.kept_facts_are_sound.ensures.nothing _ h c.in-Ok-new.ensures.nothing) c.in-Ok.ensures.used c.in-Ok.ensures.nodes (c.check_with.ensures.few_each f e)

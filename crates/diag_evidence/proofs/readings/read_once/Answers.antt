@@ -1,6 +1,12 @@
 use Rattle.diag_evidence.proofs.Sessions.{on_ok, cycled_once, once_each}
 use Rattle.diag_evidence.proofs.Logging.{logs_once}
+use Rattle.std.proofs.Common.{◌∙◌, arith}
+use Rattle.diag_evidence.proofs.Fewer.{few_load, most_two}
 use Rattle.diag_evidence.proofs.readings.read_once.Goals as goal
+
+pub returns-clause-few : goal.returns-clause-few
+returns-clause-few g c =
+    few_load _ _ 1 (c.cycle.ensures.machine ∙ c.in_ok-begin.ensures.loads.machine) (c.cycle.ensures.loads ∙ c.in_ok-begin.ensures.counted) (omega (arith, c.cycle.ensures.made, c.begin.ensures.made)) (most_two _ c.args.config.now.config.shape c.requires.attached 1 (omega arith))
 
 pub returns-clause-session : goal.returns-clause-session
 returns-clause-session g c = on_ok c.cycle.result c.cycle.ensures.cycles (λ one. cycled_once _ _ c.args.config.now.config _ c.args.drive.now _ c.in_ok-begin.ensures.begins one)

@@ -1,8 +1,21 @@
-use Rattle.std.proofs.Common.{◌∙◌, ap}
+use Rattle.std.proofs.Common.{◌∙◌, ap, arith}
 use Rattle.rig.specs.Rig.{Machine}
 use Rattle.diag_evidence.proofs.Sessions.{cycled_twice, two_cycles, twice_run, got}
 use Rattle.diag_evidence.proofs.Logging.{logs_twice}
+use Rattle.diag_evidence.proofs.Fewer.{few_load, most_two}
 use Rattle.diag_evidence.proofs.readings.read_twice.Goals as goal
+
+pub returns-in_err-cycle-clause-few : goal.returns-in_err-cycle-clause-few
+returns-in_err-cycle-clause-few g c =
+    few_load _ _ 1 (c.cycle.ensures.machine ∙ c.in_ok-begin.ensures.loads.machine) (c.cycle.ensures.loads ∙ c.in_ok-begin.ensures.counted) (omega (arith, c.cycle.ensures.made, c.begin.ensures.made)) (most_two _ c.args.config.now.config.shape c.requires.attached 1 (omega arith))
+
+pub returns-in_err-cycle-2-clause-few : goal.returns-in_err-cycle-2-clause-few
+returns-in_err-cycle-2-clause-few g c =
+    few_load _ _ 2 (c.cycle-2.ensures.machine ∙ c.in_ok-cycle.ensures.machine ∙ c.in_ok-begin.ensures.loads.machine) (c.cycle-2.ensures.loads ∙ c.in_ok-cycle.ensures.loads ∙ c.in_ok-begin.ensures.counted) (omega (arith, c.cycle-2.ensures.made, c.cycle.ensures.made, c.begin.ensures.made)) (most_two _ c.args.config.now.config.shape c.requires.attached 2 (omega arith))
+
+pub returns-clause-few : goal.returns-clause-few
+returns-clause-few g c =
+    few_load _ _ 2 (c.in_ok-cycle-2.ensures.machine ∙ c.in_ok-cycle.ensures.machine ∙ c.in_ok-begin.ensures.loads.machine) (c.in_ok-cycle-2.ensures.loads ∙ c.in_ok-cycle.ensures.loads ∙ c.in_ok-begin.ensures.counted) (omega (arith, c.cycle-2.ensures.made, c.cycle.ensures.made, c.begin.ensures.made)) (most_two _ c.args.config.now.config.shape c.requires.attached 2 (omega arith))
 
 pub returns-clause-reads : goal.returns-clause-reads
 returns-clause-reads g c = record {

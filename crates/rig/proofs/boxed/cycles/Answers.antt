@@ -1,5 +1,9 @@
 use Rattle.rig.proofs.Narrowing.{narrows_cycles, tells_cycles}
+use Rattle.rig.proofs.Cycling.{cycles-made}
 use Rattle.rig.proofs.boxed.cycles.Goals as goal
+
+pub returns-clause-made : goal.returns-clause-made
+returns-clause-made g c = cycles-made _ _ c.args.drives.now c.cycles_raw.new.reads c.cycles_raw.result c.cycles_raw.ensures.cycles c.cycles_raw.ensures.refused
 
 pub returns-clause-narrows : goal.returns-clause-narrows
 returns-clause-narrows g c = narrows_cycles c.args.drives.now c.cycles_raw.new.reads c.cycles_raw.result c.cycles_raw.ensures.machine c.cycles_raw.ensures.cycles c.cycles_raw.ensures.refused

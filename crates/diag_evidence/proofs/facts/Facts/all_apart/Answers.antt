@@ -34,6 +34,6 @@ returns-clause-logged g c = shows_all c.args.config.now.config c.args.drive.now 
 pub returns-clause-advances : goal.returns-clause-advances
 returns-clause-advances g c =
     let gains : Gains (these_pairs c.args.left.now.wires (wires_over c.args.rights.now)) c.args.self.now c.keep_all_pairs.new.self = rw (← c.self.view_is) c.keep_all_pairs.ensures in
-    advances_by (these_pairs c.args.left.now.wires (wires_over c.args.rights.now)) c.in_ok-read.ensures.loads.machine c.in_ok-read.ensures.loads.later c.in_ok-read.ensures.loads.counted gains c.in_ok-read.ensures.loads.narrows c.in_ok-read.ensures.loads.tells
+    advances_by (these_pairs c.args.left.now.wires (wires_over c.args.rights.now)) c.in_ok-read.ensures.loads.machine c.in_ok-read.ensures.loads.later c.in_ok-read.ensures.loads.counted c.in_ok-read.ensures.few gains c.in_ok-read.ensures.loads.narrows c.in_ok-read.ensures.loads.tells
     (all_gain c.args.left.now c.args.rights.now c.in_ok-read.ensures.reads c.args.self.now c.requires.shape c.requires.left c.requires.rights (rw c.pin.ensures at (c.all_differ-apart.ensures.yes c.if-not-apart.false)))
     (λ f e. all_gain c.args.left.now c.args.rights.now (c.in_ok-read.ensures.reads_each f e) c.args.self.now c.requires.shape c.requires.left c.requires.rights (rw c.pin.ensures at (c.all_differ-apart.ensures.yes c.if-not-apart.false)) f refl)

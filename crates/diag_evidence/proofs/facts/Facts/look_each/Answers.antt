@@ -28,7 +28,7 @@ returns-clause-logged g c = record {
 
 pub returns-clause-advances : goal.returns-clause-advances
 returns-clause-advances g c =
-    advances_by (seen_in c.args.forest.now c.look.new.reads.rows) c.in_ok-look.ensures.loads.machine c.in_ok-look.ensures.loads.later c.in_ok-look.ensures.loads.counted
+    advances_by (seen_in c.args.forest.now c.look.new.reads.rows) c.in_ok-look.ensures.loads.machine c.in_ok-look.ensures.loads.later c.in_ok-look.ensures.loads.counted c.in_ok-look.ensures.few
     (subst (λ (k : Kept). Gains (seen_in c.args.forest.now c.look.new.reads.rows) k c.keep_seen.new.self) c.in_ok-look.ensures.same c.keep_seen.ensures) c.in_ok-look.ensures.loads.narrows c.in_ok-look.ensures.loads.tells
     (look_holds _ c.args.self.now c.args.forest.now c.look.new.reads.rows c.shape-shape.ensures.forest c.requires.forest (no_feet _ c.args.forest.now c.look.new.reads.rows c.in_ok-look.ensures.looked))
     (λ f e. look_holds _ c.args.self.now c.args.forest.now c.look.new.reads.rows c.shape-shape.ensures.forest c.requires.forest (no_feet _ c.args.forest.now c.look.new.reads.rows (c.in_ok-look.ensures.looked_each f e)) f refl)

@@ -45,6 +45,6 @@ returns-clause-advances g c =
     let sheet = c.read_tables.new.sheet in
     let gains : Gains (right_parts c.args.forest.now c.args.tables.now sheet.setting sheet.reads.items sheet.opposite.items) c.args.self.now c.keep_right.new.self = c.keep_right.ensures in
     advances_by (right_parts c.args.forest.now c.args.tables.now sheet.setting sheet.reads.items sheet.opposite.items)
-    c.in_ok-read_tables.ensures.loads.machine c.in_ok-read_tables.ensures.loads.later c.in_ok-read_tables.ensures.loads.counted gains c.in_ok-read_tables.ensures.loads.narrows c.in_ok-read_tables.ensures.loads.tells
+    c.in_ok-read_tables.ensures.loads.machine c.in_ok-read_tables.ensures.loads.later c.in_ok-read_tables.ensures.loads.counted c.in_ok-read_tables.ensures.few gains c.in_ok-read_tables.ensures.loads.narrows c.in_ok-read_tables.ensures.loads.tells
     (holds_after _ c.args.forest.now c.args.tables.now c.in-Ok.sheet sheet _ c.in-Ok.ensures c.in_ok-read_tables.ensures.read c.args.self.now c.requires.forest c.requires.tables)
     (λ f e. holds_after _ c.args.forest.now c.args.tables.now c.in-Ok.sheet sheet _ c.in-Ok.ensures (c.in_ok-read_tables.ensures.read_each f e) c.args.self.now c.requires.forest c.requires.tables f refl)

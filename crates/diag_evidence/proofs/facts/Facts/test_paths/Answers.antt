@@ -7,7 +7,7 @@ use Rattle.diag_evidence.proofs.facts.Facts.test_paths.Goals as goal
 pub returns-clause-advances : goal.returns-clause-advances
 returns-clause-advances g c =
     let gains : Gains (these_crosses (led_over c.in_ok-read.read c.args.leads.now)) c.args.self.now c.keep_led.new.self = rw (← c.self.view_is) c.keep_led.ensures in
-    advances_by (these_crosses (led_over c.in_ok-read.read c.args.leads.now)) c.in_ok-read.ensures.loads.machine c.in_ok-read.ensures.loads.later c.in_ok-read.ensures.loads.counted
+    advances_by (these_crosses (led_over c.in_ok-read.read c.args.leads.now)) c.in_ok-read.ensures.loads.machine c.in_ok-read.ensures.loads.later c.in_ok-read.ensures.loads.counted c.in_ok-read.ensures.few
     (subst (Gains (these_crosses (led_over c.in_ok-read.read c.args.leads.now)) c.args.self.now) (sym c.self-2.view_is) gains) c.in_ok-read.ensures.loads.narrows c.in_ok-read.ensures.loads.tells
     (led_holds _ c.args.self.now c.args.config.now.config c.args.drive.now c.in_ok-read.read c.args.leads.now c.requires.paths c.in_ok-read.ensures.reads)
     (λ f e. led_holds _ c.args.self.now c.args.config.now.config c.args.drive.now c.in_ok-read.read c.args.leads.now c.requires.paths (c.in_ok-read.ensures.reads_each f e) f refl)

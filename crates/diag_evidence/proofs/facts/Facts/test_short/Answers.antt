@@ -40,6 +40,6 @@ pub returns-clause-advances : goal.returns-clause-advances
 returns-clause-advances g c =
     let reads = rw (c.pin.ensures, c.pin-2.ensures) at c.in_ok-near.ensures.reads in
     let gains : Gains (these_pairs c.args.left.now.wires c.args.right.now.wires) c.args.self.now c.keep_pairs.new.self = rw (← c.self.view_is) c.keep_pairs.ensures in
-    advances_by (these_pairs c.args.left.now.wires c.args.right.now.wires) c.in_ok-near.ensures.loads.machine c.in_ok-near.ensures.loads.later c.in_ok-near.ensures.loads.counted gains c.in_ok-near.ensures.loads.narrows c.in_ok-near.ensures.loads.tells
+    advances_by (these_pairs c.args.left.now.wires c.args.right.now.wires) c.in_ok-near.ensures.loads.machine c.in_ok-near.ensures.loads.later c.in_ok-near.ensures.loads.counted c.in_ok-near.ensures.few gains c.in_ok-near.ensures.loads.narrows c.in_ok-near.ensures.loads.tells
     (pairs_gain c.args.self.now c.args.left.now c.args.right.now c.requires.shape c.requires.left c.requires.right reads (different_bits _ _ c.if-near-far.false))
     (λ f e. pairs_gain c.args.self.now c.args.left.now c.args.right.now c.requires.shape c.requires.left c.requires.right (rw (c.pin.ensures, c.pin-2.ensures) at (c.in_ok-near.ensures.reads_each f e)) (different_bits _ _ c.if-near-far.false) f refl)

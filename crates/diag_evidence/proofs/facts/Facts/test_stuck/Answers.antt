@@ -40,6 +40,6 @@ pub returns-clause-advances : goal.returns-clause-advances
 returns-clause-advances g c =
     let reads = rw c.pin.ensures at c.in_ok-first.ensures.reads in
     let gains : Gains (these_wires c.args.route.now.wires) c.args.self.now c.keep_wires.new.self = rw (← c.self.view_is) c.keep_wires.ensures in
-    advances_by (these_wires c.args.route.now.wires) c.in_ok-first.ensures.loads.machine c.in_ok-first.ensures.loads.later c.in_ok-first.ensures.loads.counted gains c.in_ok-first.ensures.loads.narrows c.in_ok-first.ensures.loads.tells
+    advances_by (these_wires c.args.route.now.wires) c.in_ok-first.ensures.loads.machine c.in_ok-first.ensures.loads.later c.in_ok-first.ensures.loads.counted c.in_ok-first.ensures.few gains c.in_ok-first.ensures.loads.narrows c.in_ok-first.ensures.loads.tells
     (wires_gain c.args.self.now c.args.route.now c.requires.shape c.requires.ready reads (different_bits _ _ c.if-first-second.false))
     (λ f e. wires_gain c.args.self.now c.args.route.now c.requires.shape c.requires.ready (rw c.pin.ensures at (c.in_ok-first.ensures.reads_each f e)) (different_bits _ _ c.if-first-second.false) f refl)

@@ -49,6 +49,6 @@ returns-clause-advances g c =
     let second = rw (c.with_cell-2.ensures, c.in_ok-low.ensures.config, c.in_ok-low.ensures.loads.machine) at c.in_ok-high.ensures.reads in
     let gain = cell_gain c.args.self.now.shape c.args.config.now.config c.args.t.0 c.args.address c.in-Some.setting first second (different_bits _ _ c.if-low-high.false) in
     let gains : Gains (one_cell c.args.t.0 c.args.address) c.args.self.now c.keep_cell.new.self = rw (← c.self.view_is) c.keep_cell.ensures in
-    advances_by (one_cell c.args.t.0 c.args.address) (c.in_ok-high.ensures.loads.machine ∙ c.in_ok-low.ensures.loads.machine) (omega (arith, c.in_ok-high.ensures.loads.later, c.in_ok-low.ensures.loads.later)) (omega (arith, c.in_ok-high.ensures.loads.counted, c.in_ok-low.ensures.loads.counted)) gains
+    advances_by (one_cell c.args.t.0 c.args.address) (c.in_ok-high.ensures.loads.machine ∙ c.in_ok-low.ensures.loads.machine) (omega (arith, c.in_ok-high.ensures.loads.later, c.in_ok-low.ensures.loads.later)) (omega (arith, c.in_ok-high.ensures.loads.counted, c.in_ok-low.ensures.loads.counted)) (λ n k h. c.in_ok-high.ensures.few n k (c.in_ok-low.ensures.few n k h)) gains
     (λ f e. c.in_ok-low.ensures.loads.narrows f (c.in_ok-high.ensures.loads.narrows f e)) (λ told. c.in_ok-high.ensures.loads.tells (c.in_ok-low.ensures.loads.tells told))
     (λ f told h. gain f told) (λ f e h. cell_gain c.args.self.now.shape c.args.config.now.config c.args.t.0 c.args.address c.in-Some.setting (rw c.with_cell.ensures at (c.in_ok-low.ensures.reads_each f (c.in_ok-high.ensures.loads.narrows f e))) (rw (c.with_cell-2.ensures, c.in_ok-low.ensures.config) at (c.in_ok-high.ensures.reads_each f e)) (different_bits _ _ c.if-low-high.false) f refl)

@@ -41,6 +41,6 @@ returns-clause-advances g c =
     let second = rw c.in_ok-closed.ensures.loads.machine at c.in_ok-open.ensures.reads in
     let gain = cross_gain c.args.self.now.shape c.args.config.now.config c.args.c.0 c.requires.closed c.in_ok-closed.ensures.reads second (different_bits _ _ c.if-closed-open.false) in
     let gains : Gains (one_cross c.args.c.0) c.args.self.now c.keep_cross.new.self = rw (← c.self.view_is) c.keep_cross.ensures in
-    advances_by (one_cross c.args.c.0) (c.in_ok-open.ensures.loads.machine ∙ c.in_ok-closed.ensures.loads.machine) (omega (arith, c.in_ok-open.ensures.loads.later, c.in_ok-closed.ensures.loads.later)) (omega (arith, c.in_ok-open.ensures.loads.counted, c.in_ok-closed.ensures.loads.counted)) gains
+    advances_by (one_cross c.args.c.0) (c.in_ok-open.ensures.loads.machine ∙ c.in_ok-closed.ensures.loads.machine) (omega (arith, c.in_ok-open.ensures.loads.later, c.in_ok-closed.ensures.loads.later)) (omega (arith, c.in_ok-open.ensures.loads.counted, c.in_ok-closed.ensures.loads.counted)) (λ n k h. c.in_ok-open.ensures.few n k (c.in_ok-closed.ensures.few n k h)) gains
     (λ f e. c.in_ok-closed.ensures.loads.narrows f (c.in_ok-open.ensures.loads.narrows f e)) (λ told. c.in_ok-open.ensures.loads.tells (c.in_ok-closed.ensures.loads.tells told))
     (λ f told h. gain f told) (λ f e h. cross_gain c.args.self.now.shape c.args.config.now.config c.args.c.0 c.requires.closed (c.in_ok-closed.ensures.reads_each f (c.in_ok-open.ensures.loads.narrows f e)) (c.in_ok-open.ensures.reads_each f e) (different_bits _ _ c.if-closed-open.false) f refl)

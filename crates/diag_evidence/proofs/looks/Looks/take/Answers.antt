@@ -1,4 +1,5 @@
-use Rattle.std.proofs.Common.{◌≡◌, Some, ◌<◌, ◌+◌, ◌∙◌, All, List, ℕ, length, take, drop, subst, sym, ap, arith, map}
+use Rattle.std.proofs.Common.{◌≡◌, Some, ◌<◌, ◌+◌, ◌∙◌, All, List, ℕ, ◌≤◌, max, length, take, drop, subst, sym, ap, arith, map}
+use Rattle.std.proofs.Math.Nat.{le-max_right}
 use Rattle.machine_shape.specs.Shape.{pins_of}
 use Rattle.machine_meaning.specs.Circuit.{Pins}
 use Rattle.diag_evidence.specs.Looks.{Sights, AreSights, ReadsEach, look_drives}
@@ -19,6 +20,19 @@ read_rows-requires-clause-as_many g c =
 pub read_rows-requires-clause-room : goal.read_rows-requires-clause-room
 read_rows-requires-clause-room g c =
     ap (λ (s : Sights). s.pins + 1) c.self.view_is ∙ sym (drives_count c.args.self.now.pins) ∙ ap length (sym (c.deref.ensures.value ∙ c.requires.drives))
+
+pub read_rows-requires-clause-few : goal.read_rows-requires-clause-few
+read_rows-requires-clause-few g c =
+    let pins = drives_count c.args.self.now.pins in
+    let many : length c.deref.result.now ≡ length (look_drives c.args.self.now.pins) = ap length (c.deref.ensures.value ∙ c.requires.drives) in
+    let high = le-max_right 65 (pins_of c.args.config.now.config.shape + 1) in
+    omega (arith, pins, many, high, c.requires.pins)
+
+pub returns-clause-made : goal.returns-clause-made
+returns-clause-made g c =
+    let pins = drives_count c.args.self.now.pins in
+    let many : length c.deref.result.now ≡ length (look_drives c.args.self.now.pins) = ap length (c.deref.ensures.value ∙ c.requires.drives) in
+    omega (arith, c.read_rows.ensures.made, pins, many)
 
 pub invariant_of-self : goal.invariant_of-self
 invariant_of-self g c =

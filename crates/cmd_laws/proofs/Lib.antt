@@ -1,0 +1,2 @@
+-- For the laws of this crate alone.
+mod Bearing

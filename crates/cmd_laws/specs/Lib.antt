@@ -1,0 +1,2 @@
+-- What a machine with parts to spare bears.
+pub mod Borne

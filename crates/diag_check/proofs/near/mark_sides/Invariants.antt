@@ -1,0 +1,7 @@
+use Rattle.diag_check.specs.Fields.{OfMarked}
+use Rattle.diag_check.specs.Marks.{Adds}
+use Rattle.diag_check.specs.Near.{IsOfNode}
+use Rattle.diag_check.proofs.near.mark_sides.Given as goal
+
+abbrev pub invariant-nodes : goal.invariant-nodes
+invariant-nodes l = Adds (OfMarked l.nodes (IsOfNode l.shape) l.n) l.initial.wires l.wires

@@ -1,0 +1,2 @@
+-- How many parts a machine has beyond those that are wanted.
+pub mod Spare
