@@ -30,7 +30,7 @@ use Rattle.cmd_twice.proofs.Reading.{read-by-both, never-alarmed, first-taken, m
 module _ (vectors : List ℕ) (old new : Outside) (draft : NetlistData) (l : Listed) (i : ImageValue) (is : IsImageForTwice l.list draft i)
     (covers : (f : Faults) → Explains f new.rig → Covers l.list.shape l.list.list f) where
   abbrev work : RowWork
-  work = rows_work (twice_laid draft) i (old.store.contents vectors) new.store.current old.rig.failures new.rig
+  work = rows_work (twice_laid draft) i (old.store.contents vectors) new.store old.rig.failures new.rig
 
   abbrev AreFirstOf : List (List Bool) → Type 0
   AreFirstOf driven = AreFirst (length draft.inputs) (old.store.contents vectors) driven
@@ -162,7 +162,7 @@ module _ (machine name design vectors : List ℕ) (old new : Outside) (text more
 
     -- rows are written
     in-rows : (draft : NetlistData) → (reads_design Design (old.store.contents design)).gives draft → (rest : List ℕ) → text ≡ text_of l.list ++ rest → (i : ImageValue) → IsImageForTwice l.list draft i
-        → (lines : List ℕ) → rest ≡ outputs_line ++ lines → all_rows (rows_work (twice_laid draft) i (old.store.contents vectors) new.store.current old.rig.failures new.rig) lines next → Stands
+        → (lines : List ℕ) → rest ≡ outputs_line ++ lines → all_rows (rows_work (twice_laid draft) i (old.store.contents vectors) new.store old.rig.failures new.rig) lines next → Stands
     in-rows draft gives rest is i laid lines first at =
         let so = so-far vectors old new draft l i laid covers-all lines next at rose in
         let rows : rest ≡ output_text so.rows = first ∙ ap (λ (s : List ℕ). outputs_line ++ s) so.text_is in
@@ -200,7 +200,7 @@ module _ (machine name design vectors : List ℕ) (old new : Outside) (text : Li
   differ-at : (m : Shape) (read : (reads_machine (old.store.contents machine)).gives m) (attached : new.rig.machine.attached ≡ Some (record { shape = m; name = name }))
       (l : Listed) (list : IsListed m old.rig.loads new.rig l) (draft : NetlistData) → (reads_design Design (old.store.contents design)).gives draft → (rest : List ℕ) → text ≡ text_of l.list ++ rest
       → (i : ImageValue) → IsImageForTwice l.list draft i → (lines : List ℕ) → rest ≡ outputs_line ++ lines
-      → all_rows (rows_work (twice_laid draft) i (old.store.contents vectors) new.store.current old.rig.failures new.rig) lines (refuses refused.Differ) → ReadDifferently machine name design vectors old new
+      → all_rows (rows_work (twice_laid draft) i (old.store.contents vectors) new.store old.rig.failures new.rig) lines (refuses refused.Differ) → ReadDifferently machine name design vectors old new
   differ-at m read attached l list draft gives rest is i laid lines first h =
       let covers : (f : Faults) → Explains f new.rig → Covers l.list.shape l.list.list f = λ f e. subst (λ (s : Shape). Covers s l.list.list f) (sym list.shape) (list.right.covers f (inr e)) in
       let apart = h.1 in

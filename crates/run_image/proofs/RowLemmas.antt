@@ -1,5 +1,5 @@
 -- How the rows of an image go on, and how they stop.
-use Rattle.std.proofs.Common.{◌≡◌, ◌⊎◌, ℕ, zero, suc, ◌≤◌, Bool, false, List, [], ◌∷◌, ◌++◌, length, map, flat_map, Option, None, Some, IfSome, arith, refl, sym, ap, subst, inl, inr, ◌∙◌, Ok, Err}
+use Rattle.std.proofs.Common.{◌≡◌, ◌⊎◌, ℕ, zero, suc, ◌≤◌, Bool, false, List, [], ◌∷◌, ◌++◌, length, map, flat_map, Option, None, Some, IfSome, arith, refl, sym, ap, subst, inl, inr, ◌∙◌, append-nil, length-append, Ok, Err}
 use Rattle.std.specs.List.{All}
 use Rattle.std.proofs.lemmas.List.Elements.{All-append}
 use Rattle.base_io.specs.Sink.{SinkState}
@@ -14,15 +14,16 @@ use Rattle.run_image.proofs.Copied.{repeated-more, repeated-count, repeated-none
 use Rattle.run_image.proofs.Driving.{HasDriven, driven-start, driven-more}
 use Rattle.design_vectors.specs.declared.vectors.VectorsFail.{VectorsFail}
 use Rattle.design_vectors.specs.declared.vectors.VectorsFail.TheVariants.{Text, Failed}
-use Rattle.design_vectors.specs.Readings.{NextGives, NextFails}
+use Rattle.design_vectors.specs.Readings.{HasAsked}
 use Rattle.design_vectors.specs.Rows.{row_line}
-use Rattle.cmd_steps.specs.Vocabulary.{file_of, AreFirst, IsBegun, IsNearNext, IsRead, IsPutOut, IsHeldUp, WaitsOrPuts, Outside, outside, IsLater, RowWork, all_rows, HasRows, refuses, IsCounted, stop_of_vectors, Follows}
+use Rattle.cmd_steps.specs.Vocabulary.{file_of, AreFirst, IsBegun, IsNearNext, NoRowWaits, IsRead, EndsFile, IsNotRead, IsPutOut, IsHeldUp, WaitsOrPuts, Outside, outside, IsLater, RowWork, all_rows, HasRows, refuses, IsCounted, stop_of_vectors, Follows}
 use Rattle.cmd_steps.specs.declared.refusal.Refusal.{Refusal}
 use Rattle.cmd_steps.specs.declared.refusal.Refusal.TheVariants as refused
 use Rattle.cmd_steps.specs.declared.refusal.Stop.{Stop}
 use Rattle.cmd_steps.specs.declared.refusal.Stop.TheVariants.{Refused, Sink}
-use Rattle.cmd_steps.proofs.WrittenRows.{AreWritten, none-written, row-later, put-out, after-put, read-after, was-read, all-written, added, not-added, some-lines, stays-same, near-next, taken-more, waits-more, has-rows, rows-follow, vectors-follow, end-follows, held-follows}
-use Rattle.cmd_steps.proofs.VectorLemmas.{taken-first}
+use Rattle.cmd_steps.proofs.WrittenRows.{AreWritten, none-written, row-later, put-out, after-put, read-after, was-read, all-written, added, not-added, some-lines, stays-same, near-next, taken-more, takes-more, waits-more, has-rows, rows-follow, vectors-follow, end-follows, held-follows}
+use Rattle.cmd_steps.proofs.Prompt.{prompt-now}
+use Rattle.cmd_steps.proofs.VectorLemmas.{taken-first, near-end-of}
 use Rattle.run_image.specs.Copying.{share, times, repeated, all_repeated, IsApart}
 use Rattle.run_image.specs.declared.copies.Copies.{Copies}
 use Rattle.run_image.specs.declared.copies.Copies.TheVariants.{One, Two}
@@ -48,6 +49,7 @@ pub record IsDriving (copies : Copies) (image : ImageValue) (begun : Outside) (r
   pub fits : IsFitting rows
   pub vectors : List (List Bool)
   pub done : List (List Bool)
+  pub count : length done ≡ length vectors
   pub written : AreWritten (share copies (length image.inputs)) begun rows.vectors rows.block.text now vectors done
   pub widths : All (HasWidth image) (all_repeated copies vectors)
   pub machine : now.rig.machine ≡ begun.rig.machine
@@ -99,6 +101,7 @@ IsDriving-start rows o loaded begun = record {
   fits = loaded.fits;
   vectors = [];
   done = [];
+  count = refl;
   written = rw (loaded.vectors, loaded.none) (none-written (share rows.copies (length rows.image.inputs)) o begun);
   widths = subst (λ (vs : List (List Bool)). All (HasWidth rows.image) vs) (sym (repeated-none rows.copies)) (no-widths rows.image);
   machine = refl;
@@ -108,7 +111,7 @@ IsDriving-start rows o loaded begun = record {
 
 module _ (copies : Copies) (image : ImageValue) (failures : ℕ) (begun now new : Outside) (rows rows' : Running) (so_far : IsDriving copies image begun rows now) (few : failures ≤ begun.rig.failures) (keeps : Keeps rows rows' now.store new.store now.rig new.rig) where
   abbrev work : RowWork
-  work = copied_rows copies image (file_of begun.store) new.store.current failures new.rig
+  work = copied_rows copies image (file_of begun.store) new.store failures new.rig
 
   abbrev same_rig : Type 0
   same_rig = (new.rig.machine ≡ begun.rig.machine) × (new.rig.loads ≡ begun.rig.loads)
@@ -129,7 +132,17 @@ module _ (copies : Copies) (image : ImageValue) (failures : ℕ) (begun now new 
 
   -- the rows so far are those of the machine
   are-rows : AreRowsOf new.rig image (all_repeated copies so_far.vectors) (all_repeated copies so_far.done)
-  are-rows = session-rows now.rig new.rig image _ _ keeps.machine (counts-are copies so_far.vectors so_far.done so_far.written.count) so_far.widths so_far.driven
+  are-rows = session-rows now.rig new.rig image _ _ keeps.machine (counts-are copies so_far.vectors so_far.done so_far.count) so_far.widths so_far.driven
+
+  are-all : length so_far.vectors ≤ length so_far.done
+  are-all = omega (arith, so_far.count)
+
+  -- none of the rows is still to be written
+  all-of : (P : List (List Bool) → Type 0) (rs : List (List Bool)) → P rs → P (rs ++ [])
+  all-of P rs are = subst P (sym (append-nil rs)) are
+
+  first-of-file : AreFirst (share copies (length image.inputs)) (file_of begun.store) so_far.vectors
+  first-of-file = taken-first _ begun.store now.store rows.vectors so_far.vectors so_far.written.taking
 
   session-still : new.rig.session ≡ now.rig.session → work.session so_far.vectors so_far.done
   session-still same = session-is now.rig new.rig image _ _ same so_far.driven
@@ -169,7 +182,8 @@ module _ (copies : Copies) (image : ImageValue) (failures : ℕ) (begun now new 
 
   held-stops : {U : Type 0} (stop : Stop) → IsHeldUp stop rows.block.text now.store new.store now.sink new.sink → HasOrFailed now.rig new.rig ⊎ DrivenApart → Follows {T = U} ⊥ [] same_rig (all_rows work) (Err stop) begun new
   held-stops stop held rig =
-      held-follows work begun now new rows.vectors rows.block.text so_far.vectors so_far.done so_far.written (onward now.sink new.sink held.kind held.later) keeps.store.asked refl refl same_rig rig-same are-rows (held-session (onward now.sink new.sink held.kind held.later) rig) held.still stop held
+      held-follows work begun now new rows.vectors rows.block.text so_far.vectors so_far.done so_far.written (onward now.sink new.sink held.kind held.later) keeps.store.asked refl refl same_rig rig-same so_far.vectors [] first-of-file (all-of (work.are so_far.vectors) so_far.done are-rows)
+      (all-of (λ rs. work.session so_far.vectors rs ⊎ (work.differs so_far.vectors rs ⊎ work.lost)) so_far.done (held-session (onward now.sink new.sink held.kind held.later) rig)) held.still stop held
 
   -- ---- or they are
 
@@ -183,21 +197,25 @@ module _ (copies : Copies) (image : ImageValue) (failures : ℕ) (begun now new 
     all-put : AreWritten (share copies (length image.inputs)) begun rows.vectors rows'.block.text put_now so_far.vectors so_far.done
     all-put = put-out _ _ _ _ now _ _ so_far.written rows'.block.text new.sink out
 
-    abbrev has : HasRows work (flat_map row_line so_far.done)
-    has = has-rows work begun put_now new rows.vectors rows'.block.text so_far.vectors so_far.done all-put put-later keeps.store.asked refl refl same_rig rig-same are-rows
+    put-prompt : HasAsked rows.vectors now.store new.store → NoRowWaits (share copies (length image.inputs)) (file_of begun.store) new.store.read_at (length so_far.done)
+    put-prompt asked =
+        prompt-now (share copies (length image.inputs)) begun.store now.store new.store rows.vectors so_far.vectors (length so_far.done) (length so_far.done) all-put.taking asked all-put.prompt (omega arith) are-all
 
-    put-fails : {U : Type 0} (fail : VectorsFail) → NextFails fail rows.vectors now.store new.store → new.rig ≡ now.rig → Follows {T = U} ⊥ [] same_rig (all_rows work) (Err (stop_of_vectors fail)) begun new
-    put-fails fail fails same =
-        vectors-follow work begun put_now new rows.vectors rows'.block.text so_far.vectors so_far.done all-put put-later keeps.store.asked refl refl same_rig rig-same are-rows (session-still (ap (λ (r : RigState). r.session) same)) out.empty refl fail fails
+    abbrev has : HasAsked rows.vectors now.store new.store → HasRows work (flat_map row_line so_far.done)
+    has asked = has-rows work begun put_now new rows.vectors rows'.block.text so_far.vectors so_far.done all-put put-later keeps.store.asked refl refl same_rig rig-same so_far.vectors first-of-file are-rows (put-prompt asked)
 
-    put-ends : {U : Type 0} (x : U) → NextGives false rows'.vector.items rows.vectors rows'.vectors now.store new.store → new.rig ≡ now.rig → Follows ⊥ [] same_rig (all_rows work) (Ok x) begun new
-    put-ends x gives same =
-        end-follows work begun put_now new rows.vectors rows'.block.text so_far.vectors so_far.done all-put put-later keeps.store.asked refl refl same_rig rig-same are-rows (session-still (ap (λ (r : RigState). r.session) same)) out.empty refl x rows'.vectors rows'.vector.items gives
+    put-fails : {U : Type 0} (fail : VectorsFail) → IsNotRead fail rows.vectors now.store new.store → new.rig ≡ now.rig → Follows {T = U} ⊥ [] same_rig (all_rows work) (Err (stop_of_vectors fail)) begun new
+    put-fails fail not same =
+        vectors-follow work begun put_now new rows.vectors rows'.block.text so_far.vectors so_far.done all-put put-later keeps.store.asked refl refl same_rig rig-same are-rows (session-still (ap (λ (r : RigState). r.session) same)) are-all out.empty refl not.asked fail not.fails
+
+    put-ends : {U : Type 0} (x : U) → EndsFile rows.vectors rows'.vectors now.store new.store → new.rig ≡ now.rig → Follows ⊥ [] same_rig (all_rows work) (Ok x) begun new
+    put-ends x ends same =
+        end-follows work begun put_now new rows.vectors rows'.block.text so_far.vectors so_far.done all-put put-later keeps.store.asked refl refl same_rig rig-same are-rows (session-still (ap (λ (r : RigState). r.session) same)) are-all out.empty refl ends.asked x rows'.vectors [] ends.next
 
     -- the rig doesn't drive the vector that was read
     put-stops : {U : Type 0} (refusal : Refusal) → IsCounted ⊥ (Refused refusal) put_now new → (IsNearNext (share copies (length image.inputs)) (file_of begun.store) new.store.current (length so_far.done) → all_rows work (flat_map row_line so_far.done) (refuses refusal)) → IsRead rows'.vector.items rows.vectors rows'.vectors now.store new.store → Follows {T = U} ⊥ [] same_rig (all_rows work) (Err (Refused refusal)) begun new
     put-stops refusal counted at read =
-        let near = near-next (share copies (length image.inputs)) begun put_now new rows.vectors rows'.vectors rows'.block.text so_far.vectors so_far.done rows'.vector.items all-put put-later keeps.store.asked read in
+        let near = rw so_far.count (near-next (share copies (length image.inputs)) begun put_now new rows.vectors rows'.vectors rows'.block.text so_far.vectors so_far.done rows'.vector.items all-put put-later keeps.store.asked read) in
         let wrote = all-written _ begun _ _ put_now _ _ all-put out.empty in
         rows-follow work begun put_now new rows.vectors rows'.block.text so_far.vectors so_far.done all-put put-later keeps.store.asked refl refl same_rig rig-same (Err (Refused refusal)) (flat_map row_line so_far.done, at near, wrote) counted
 
@@ -206,14 +224,14 @@ module _ (copies : Copies) (image : ImageValue) (failures : ℕ) (begun now new 
   cycle-stops (Refused (refused.Vectors line kind)) stops = put-fails stops.0.1 (Text line kind) stops.0.0 stops.1
   cycle-stops (Refused refused.Store) stops = put-fails stops.0.1 Failed stops.0.0 stops.1
   cycle-stops (Refused refused.Rig) stops =
-      put-stops stops.out refused.Rig stops.fails.0 (λ near. (has stops.out, near)) stops.read
+      put-stops stops.out refused.Rig stops.fails.0 (λ near. (has stops.out stops.read.asked, near-end-of work.width work.told new.store.current (length so_far.done) near)) stops.read
   cycle-stops (Refused refused.Memory) stops =
       let left = so_far.driven.left in
       let size = repeated-count copies so_far.done in
       let lacks : most_rows ≤ length so_far.done = omega (arith, left, size, stops.fails.0) in
-      put-stops stops.out refused.Memory tt (λ near. (record { has = has stops.out; session = session-still stops.fails.1 }, lacks, near)) stops.read
+      put-stops stops.out refused.Memory tt (λ near. (record { has = has stops.out stops.read.asked; session = session-still stops.fails.1 }, lacks, near)) stops.read
   cycle-stops (Refused refused.Differ) stops =
-      put-stops stops.1 refused.Differ tt (λ near. (has stops.1, differs-behind stops.0 (onward now.sink new.sink stops.1.kind stops.1.later), near)) stops.0.read
+      put-stops stops.1 refused.Differ tt (λ near. (has stops.1 stops.0.read.asked, differs-behind stops.0 (onward now.sink new.sink stops.1.kind stops.1.later), near)) stops.0.read
   cycle-stops (Refused refusal) stops = absurd stops.0
 
   -- the file has ended
@@ -242,7 +260,12 @@ module _ (copies : Copies) (image : ImageValue) (failures : ℕ) (begun now new 
     before-it = read-after _ _ _ _ now _ _ so_far.written _ new.store new.sink driven.next.1
 
     with-it : AreWritten (share copies (length image.inputs)) begun rows'.vectors (rows'.block.text ++ row_line rows'.row.items) new (so_far.vectors ++ rows'.vector.items ∷ []) (so_far.done ++ rows'.row.items ∷ [])
-    with-it = waits-more _ _ put_now new _ _ _ _ _ _ before-it put-later keeps.store.asked driven.next.0 (was-read _ _ _ _ _ _ driven.next.1) refl rows'.row.items
+    with-it =
+        waits-more _ _ new _ _ _ _ rows'.row.items (takes-more _ _ put_now new _ _ _ _ _ _ before-it put-later keeps.store.asked driven.next.0 (was-read _ _ _ _ _ _ so_far.vectors so_far.done are-all driven.next.1) refl)
+        (rw (length-append so_far.vectors, so_far.count) (omega arith))
+
+    count-next : length (so_far.done ++ rows'.row.items ∷ []) ≡ length (so_far.vectors ++ rows'.vector.items ∷ [])
+    count-next = rw (length-append so_far.done, length-append so_far.vectors, so_far.count) refl
 
     still : (last : SinkState) → last.can_lack ≡ new.sink.can_lack → new.sink.failures ≤ last.failures → IsLater new (outside new.store new.rig last)
     still last kind later = row-later new.store new.store new.rig new.rig new.sink last (stays-same new.store) refl (λ f e. e) (omega arith) kind later
@@ -252,7 +275,9 @@ module _ (copies : Copies) (image : ImageValue) (failures : ℕ) (begun now new 
     row-stops stop left last waits =
         let held = not-added _ left stop new.store new.sink last (some-lines rows'.block.text rows'.row.items) waits in
         held-follows work begun new (outside new.store new.rig last) rows'.vectors _ _ _ with-it (still last held.kind held.later) refl refl refl same_rig rig-same
-        (session-rows new.rig new.rig image _ _ refl (counts-are copies _ _ with-it.count) widths-next driven-next) (inl (session-is new.rig new.rig image _ _ refl driven-next)) refl stop held
+        (so_far.vectors ++ rows'.vector.items ∷ []) [] (taken-first _ begun.store new.store rows'.vectors _ with-it.taking)
+        (all-of (work.are (so_far.vectors ++ rows'.vector.items ∷ [])) (so_far.done ++ rows'.row.items ∷ []) (session-rows new.rig new.rig image _ _ refl (counts-are copies _ _ count-next) widths-next driven-next))
+        (all-of (λ rs. work.session (so_far.vectors ++ rows'.vector.items ∷ []) rs ⊎ (work.differs (so_far.vectors ++ rows'.vector.items ∷ []) rs ⊎ work.lost)) (so_far.done ++ rows'.row.items ∷ []) (inl (session-is new.rig new.rig image _ _ refl driven-next))) refl stop held
 
     -- or they are, or wait
     pub IsDriving-more : (last_rows : Running) (last : SinkState) → last_rows.image ≡ rows'.image → last_rows.copies ≡ rows'.copies → last_rows.vectors ≡ rows'.vectors → IsFitting last_rows → WaitsOrPuts (rows'.block.text ++ row_line rows'.row.items) last_rows.block.text (Ok tt) new.sink last → IsDriving copies image begun last_rows (outside new.store new.rig last)
@@ -262,6 +287,7 @@ module _ (copies : Copies) (image : ImageValue) (failures : ℕ) (begun now new 
       fits = last_fits;
       vectors = so_far.vectors ++ rows'.vector.items ∷ [];
       done = so_far.done ++ rows'.row.items ∷ [];
+      count = count-next;
       written = rw vectors (after-put _ _ _ _ new _ _ with-it _ last (added _ _ _ _ waits));
       widths = widths-next;
       machine = rig-same.0;

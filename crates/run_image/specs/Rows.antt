@@ -1,7 +1,7 @@
 -- The rows of an image that is loaded, wherever it comes from.
-use Rattle.std.specs.Prelude.{◌≡◌, ℕ, ◌+◌, ◌≤◌, Bool, List, [], ◌∷◌, ◌++◌, map, length, Option, Some, IfSome}
+use Rattle.std.specs.Prelude.{◌≡◌, ℕ, ◌+◌, ◌≤◌, Bool, List, [], ◌∷◌, ◌++◌, map, length, Some, IfSome}
 use Rattle.std.specs.List.{All}
-use Rattle.base_io.specs.Vocabulary.{Told, next_count, Rose, StorePlace, StoreState}
+use Rattle.base_io.specs.Vocabulary.{Told, next_count, Rose, StoreState}
 use Rattle.machine_meaning.specs.Vocabulary.{Pins, Faults}
 use Rattle.machine_config.specs.Faulty.{IsRun}
 use Rattle.machine_image.specs.Images.{ImageValue, drive_of, image_row}
@@ -51,11 +51,11 @@ DiffersBehind Two told i rig vectors rows = ReadsApart told i rig vectors rows
 
 -- The rows of copies that an image lays: a vector is driven for each copy, and a row is what each of them read. The rig had failed so
 -- many times as the command began
-abbrev pub copied_rows : Copies → ImageValue → Told → Option StorePlace → (failures : ℕ) → RigState → RowWork
-copied_rows c i told place failures rig = record {
+abbrev pub copied_rows : Copies → ImageValue → Told → StoreState → (failures : ℕ) → RigState → RowWork
+copied_rows c i told store failures rig = record {
   width = share c (length i.inputs);
   told = told;
-  place = place;
+  store = store;
   are = λ vectors rows. AreRowsOf rig i (all_repeated c vectors) (all_repeated c rows);
   session = λ vectors rows. IsSession rig i (all_repeated c vectors) (all_repeated c rows);
   differs = λ vectors rows. DiffersBehind c told i rig vectors rows;
@@ -64,8 +64,8 @@ copied_rows c i told place failures rig = record {
 }
 
 -- the rows of an image
-abbrev pub image_rows : ImageValue → Told → Option StorePlace → (failures : ℕ) → RigState → RowWork
-image_rows i told place failures rig = copied_rows One i told place failures rig
+abbrev pub image_rows : ImageValue → Told → StoreState → (failures : ℕ) → RigState → RowWork
+image_rows i told store failures rig = copied_rows One i told store failures rig
 
 -- ---- an image is loaded, and all memory for its rows is taken
 

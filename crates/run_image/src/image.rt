@@ -206,7 +206,7 @@ fn write_rows<S: Store, K: Sink>(
     ensures follows { let old = outside (S.store_state store.old) (rig_state rig.old) (K.sink_state sink.old) in
         let new = outside (S.store_state store.new) (rig_state rig.new) (K.sink_state sink.new) in
         (failures : ℕ) → failures ≤ old.rig.failures →
-        let work = copied_rows rows.old.copies rows.old.image (file_of old.store) new.store.current failures new.rig in
+        let work = copied_rows rows.old.copies rows.old.image (file_of old.store) new.store failures new.rig in
         Follows ⊥ [] ((new.rig.machine ≡ old.rig.machine) × (new.rig.loads ≡ old.rig.loads)) (all_rows work) result old new }
 {
     'file: while next_row(rows, store, rig, sink)? {
@@ -238,7 +238,7 @@ pub(crate) fn run_copies<S: Store, K: Sink>(
     ensures follows { let old = outside (S.store_state store.old) (rig_state rig.old) (K.sink_state sink.old) in
         let new = outside (S.store_state store.new) (rig_state rig.new) (K.sink_state sink.new) in
         (files : List (List ℕ)) (begun : StoreState) (failures : ℕ) → StandsIn files begun old.store → failures ≤ old.rig.failures →
-        let rows = copied_rows copies image (old.store.contents vectors.now) new.store.current failures new.rig in
+        let rows = copied_rows copies image (old.store.contents vectors.now) new.store failures new.rig in
         let b : RowsBegin = record { image = image; vectors = vectors.now; files = files; begun = begun; before = old.rig.loads } in
         Follows ⊥ (vectors.now ∷ []) (new.rig.machine ≡ old.rig.machine) (image_course rows b (around new)) result old new }
 {
@@ -272,7 +272,7 @@ pub fn run_image<S: Store, K: Sink>(
     ensures follows { let old = outside (S.store_state store.old) (rig_state rig.old) (K.sink_state sink.old) in
         let new = outside (S.store_state store.new) (rig_state rig.new) (K.sink_state sink.new) in
         (files : List (List ℕ)) (begun : StoreState) (failures : ℕ) → StandsIn files begun old.store → failures ≤ old.rig.failures →
-        let rows = image_rows image (old.store.contents vectors.now) new.store.current failures new.rig in
+        let rows = image_rows image (old.store.contents vectors.now) new.store failures new.rig in
         let b : RowsBegin = record { image = image; vectors = vectors.now; files = files; begun = begun; before = old.rig.loads } in
         Follows ⊥ (vectors.now ∷ []) (new.rig.machine ≡ old.rig.machine) (image_course rows b (around new)) result old new }
 {
