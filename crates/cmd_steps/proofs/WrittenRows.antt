@@ -226,6 +226,21 @@ module _ (width : ℕ) (begun now new : Outside) (reading reading' : VectorReadi
       prompt = still-prompt still;
     }
 
+-- the rig went on meanwhile
+pub rig-moved : (width : ℕ) (begun now : Outside) (reading : VectorReading) (waiting : List ℕ) (vectors rows : List (List Bool)) (rig : RigState) → AreWritten width begun reading waiting now vectors rows → IsLater now (outside now.store rig now.sink) → AreWritten width begun reading waiting (outside now.store rig now.sink) vectors rows
+rig-moved width begun now reading waiting vectors rows rig so_far later = record {
+  later = later-later begun now (outside now.store rig now.sink) so_far.later later;
+  taking = so_far.taking;
+  few = so_far.few;
+  put = so_far.put;
+  rest = so_far.rest;
+  split = so_far.split;
+  wrote = so_far.wrote;
+  waits = so_far.waits;
+  near = so_far.near;
+  prompt = so_far.prompt;
+}
+
 -- ---- one more row, of a vector that was taken
 
 pub waits-more : (width : ℕ) (begun now : Outside) (reading : VectorReading) (waiting : List ℕ) (vectors rows : List (List Bool)) (row : List Bool) → AreWritten width begun reading waiting now vectors rows → length rows < length vectors → AreWritten width begun reading (waiting ++ row_line row) now vectors (rows ++ row ∷ [])

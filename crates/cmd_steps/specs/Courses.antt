@@ -53,7 +53,7 @@ pub record RowWork : Type 1 where
   pub are : (vectors rows : List (List Bool)) → Type 0
   -- and the rig's session is these vectors and rows
   pub session : (vectors rows : List (List Bool)) → Type 0
-  -- behind these rows the session has one more reading, which isn't the same for each copy
+  -- behind these rows the session has a reading that isn't the same for each copy
   pub differs : (vectors rows : List (List Bool)) → Type 0
   -- the rig has failed since the command began, and so has no session any more
   pub lost : Type 0
@@ -75,8 +75,8 @@ pub record HasReadRows (w : RowWork) (text : List ℕ) : Type 0 where
   pub session : w.session has.vectors has.rows
 
 -- The row of one more vector comes next, and the store isn't far beyond that vector's line, and wasn't asked for bytes while that row
--- waited. The rows behind it that were to go out with it have been read too, and perhaps a reading behind them that differs from copy
--- to copy, unless the rig has failed
+-- waited. The rows behind it that were to go out with it, or were driven with it, have been read too, and perhaps a reading behind them
+-- that differs from copy to copy, unless the rig has failed
 pub record IsBeforeRow (w : RowWork) (text line : List ℕ) : Type 0 where
   pub vectors : List (List Bool)
   pub rows : List (List Bool)

@@ -20,7 +20,7 @@ use Rattle.cmd_twice.proofs.Laying.{twice-on}
 
 -- copies that read alike don't differ
 never-apart : (told : Told) (i : ImageValue) (rig : RigState) (vectors rows : List (List Bool)) → ReadsAlike i rig → ReadsApart told i rig vectors rows → ⊥
-never-apart told i rig vectors rows alike apart = alike (all_repeated Two rows) [] apart.reading (sym apart.session.rows_are) apart.halves
+never-apart told i rig vectors rows alike apart = alike (all_repeated Two rows) apart.read_behind apart.reading (sym apart.session.rows_are) apart.halves
 
 module _ (machine name design vectors : List ℕ) where
   abbrev pub words : Words

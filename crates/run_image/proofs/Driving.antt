@@ -1,15 +1,15 @@
 -- The session of an image that is loaded, cycle by cycle.
-use Rattle.std.proofs.Common.{◌≡◌, ℕ, ◌+◌, ◌≤◌, Bool, List, [], ◌∷◌, ◌++◌, length, map, Option, None, Some, IfSome, arith, refl, ◌∙◌, subst, inl, inr, length-append}
-use Rattle.std.proofs.lemmas.List.{map-append}
+use Rattle.std.proofs.Common.{◌≡◌, ℕ, ◌+◌, ◌≤◌, Bool, List, [], ◌∷◌, ◌++◌, length, map, Option, None, Some, IfSome, arith, refl, sym, ap, ◌∙◌, subst, inl, inr, length-append}
+use Rattle.std.proofs.lemmas.List.{length-map, map-append}
 use Rattle.machine_meaning.specs.Faults.{Faults}
 use Rattle.machine_meaning.specs.Circuit.{Pins}
-use Rattle.machine_config.specs.Vocabulary.{Configuration, at_load, none, IsRun, circuit_of}
+use Rattle.machine_config.specs.Vocabulary.{Configuration, Cycles, at_load, none, cycle, IsRun, circuit_of}
 use Rattle.machine_image.specs.Images.{ImageValue, drive_of, image_row}
 use Rattle.rig.specs.Rig.{RigState, Exchange, IsTold, Begins, config_of, cycles_of, drives_of, readings_of, spare_of}
 use Rattle.rig.proofs.Narrowing.{session_run}
 use Rattle.diag_list.specs.Possible.{MayHave}
 use Rattle.run_image.specs.Pins.{pins_in}
-use Rattle.run_image.specs.Run.{RunsRow}
+use Rattle.run_image.specs.Run.{RunsRow, RunsRows}
 use Rattle.run_image.specs.Rows.{AreRunRows}
 
 -- the image is loaded with room for so many rows, these vectors were driven, and these rows were read
@@ -46,6 +46,40 @@ driven-more room i vectors rows vector row rig rig' is run =
       told = run.1.told;
       left = let spare = run.1.spare in let left = is.left in omega (arith, left, spare, size);
     }
+
+-- several cycles at once
+pub driven-all : (room : ℕ) (i : ImageValue) (vectors rows vs rs : List (List Bool)) (rig rig' : RigState) → HasDriven room i vectors rows rig → RunsRows (pins_in i) rig rig' vs rs → HasDriven room i (vectors ++ vs) (rows ++ rs) rig'
+driven-all room i vectors rows vs rs rig rig' is run =
+    let goes = run.1 in
+    let before : List Exchange = cycles_of rig in
+    let made : length rs ≡ length run.0 = ap length run.2 ∙ length-map run.0 (image_row i) in
+    let read : length run.0 ≡ length goes.more = ap length (sym goes.read) ∙ length-map goes.more (λ (x : Exchange). x.reading) in
+    let driven : length goes.more ≡ length (map (drive_of i) vs) = sym (length-map goes.more (λ (x : Exchange). x.drive)) ∙ ap length goes.driven in
+    let size = length-append rows rs in
+    record {
+      config = goes.config ∙ is.config;
+      drives =
+          ap drives_of goes.cycles ∙ (map-append (λ (x : Exchange). x.drive) before goes.more ∙ (ap (λ (t : List Pins). t ++ drives_of goes.more) is.drives
+          ∙ (ap (λ (t : List Pins). map (drive_of i) vectors ++ t) goes.driven ∙ sym (map-append (drive_of i) vectors vs))));
+      rows_are =
+          ap (λ (t : List (List Bool)). t ++ rs) is.rows_are
+          ∙ (ap (λ (t : List (List Bool)). map (image_row i) (readings_of before) ++ t) (run.2 ∙ ap (map (image_row i)) (sym goes.read))
+          ∙ (sym (map-append (image_row i) (readings_of before) (readings_of goes.more))
+          ∙ ap (map (image_row i)) (sym (map-append (λ (x : Exchange). x.reading) before goes.more) ∙ ap readings_of (sym goes.cycles))));
+      told = goes.told;
+      left = let spare = goes.spare in let left = is.left in omega (arith, left, spare, size, made, read, driven);
+    }
+
+-- the first of the cycles of a run
+less-cycles : {c : _} {x y : _} (ds more rs behind : List Pins) → length ds ≡ length rs → Cycles c x (ds ++ more) (rs ++ behind) y → (z : _) × Cycles c x ds rs z
+less-cycles {x = x} [] more [] behind size run = (x, none)
+less-cycles (d ∷ ds) more [] behind size run = absurd (let never : ⊥ = omega (arith, size) in never)
+less-cycles [] more (r ∷ rs) behind size run = absurd (let never : ⊥ = omega (arith, size) in never)
+less-cycles (d ∷ ds) more (r ∷ rs) behind size (cycle step steps) =
+    let less = less-cycles ds more rs behind (omega (arith, size)) steps in (less.0, cycle step less.1)
+
+pub run-less : (f : Faults) (g : Configuration) (ds more rs behind : List Pins) → length ds ≡ length rs → IsRun f g (ds ++ more) (rs ++ behind) → IsRun f g ds rs
+run-less f g ds more rs behind size run = let less = less-cycles ds more rs behind size run.cycles in record { outputs = less.0; cycles = less.1 }
 
 -- where the faults are told, what was read is the run of the image under what was driven
 pub told-run : (rig : RigState) (i : ImageValue) (vectors : List (List Bool)) → config_of rig ≡ Some i.config → drives_of (cycles_of rig) ≡ map (drive_of i) vectors → IsTold rig → (f : Faults) → rig.machine.faults ≡ Some f → IsRun f i.config (map (drive_of i) vectors) (readings_of (cycles_of rig))

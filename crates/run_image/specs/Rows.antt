@@ -35,13 +35,16 @@ pub record IsSession (rig : RigState) (i : ImageValue) (vectors rows : List (Lis
   pub rows_are : rows ≡ map (image_row i) (readings_of (cycles_of rig))
   pub room : most_rows ≤ spare_of rig + length rows
 
--- Behind these rows of two copies the session has one more reading, of the file's next vector, whose halves differ
+-- Behind these rows of two copies the session has the reading of the file's next vector, whose halves differ, and those of vectors
+-- behind that one which were driven with it
 pub record ReadsApart (told : Told) (i : ImageValue) (rig : RigState) (vectors rows : List (List Bool)) : Type 0 where
   pub vector : List Bool
   pub reading : List Bool
-  pub next : AreFirst (share Two (length i.inputs)) told (vectors ++ vector ∷ [])
-  pub widths : All (λ driven. length driven ≡ length i.inputs) (all_repeated Two (vectors ++ vector ∷ []))
-  pub session : IsSession rig i (all_repeated Two (vectors ++ vector ∷ [])) (all_repeated Two rows ++ reading ∷ [])
+  pub behind : List (List Bool)
+  pub read_behind : List (List Bool)
+  pub next : AreFirst (share Two (length i.inputs)) told (vectors ++ vector ∷ behind)
+  pub widths : All (λ driven. length driven ≡ length i.inputs) (all_repeated Two (vectors ++ vector ∷ behind))
+  pub session : IsSession rig i (all_repeated Two (vectors ++ vector ∷ behind)) (all_repeated Two rows ++ reading ∷ read_behind)
   pub halves : HalvesDiffer reading
 
 -- one copy alone never differs
