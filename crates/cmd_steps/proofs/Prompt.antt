@@ -3,9 +3,9 @@ use Rattle.std.proofs.Common.{◌≡◌, ◌⊎◌, ℕ, zero, suc, ◌+◌, ◌
 use Rattle.std.specs.List.{AllByRecursion}
 use Rattle.std.proofs.Math.Seq.{drop-append_seam}
 use Rattle.std.proofs.lemmas.List.{drop-drop, get_or-drop, length-map, length-take-le, take-append-drop, take_all, take_more}
-use Rattle.base_io.specs.Vocabulary.{Told, untold, absent, holds, bytes_of, IfTold, IsPresent, StoreState, rest_of}
+use Rattle.base_io.specs.Vocabulary.{Told, untold, absent, holds, bytes_of, IfTold, IsPresent, StoreState}
 use Rattle.design_vectors.specs.Vectors.{VectorLine}
-use Rattle.design_vectors.specs.Readings.{VectorReading, says_next, AreOpen, AskedOpen, HasAsked}
+use Rattle.design_vectors.specs.Readings.{VectorReading, says_next, AreOpen, HasAsked}
 use Rattle.design_vectors.proofs.OpenLemmas.{IsLate, all-more, open-late}
 use Rattle.cmd_steps.specs.Files.{says_at, HasEnded, NoRowWaits, file_of}
 use Rattle.cmd_steps.proofs.TextLemmas.{IfTold-with}

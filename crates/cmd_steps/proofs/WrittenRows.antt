@@ -12,7 +12,7 @@ use Rattle.design_vectors.specs.declared.vectors.VectorsFail.{VectorsFail}
 use Rattle.design_vectors.specs.declared.vectors.VectorsFail.TheVariants.{Text, Failed as VectorsFailed}
 use Rattle.design_vectors.specs.Readings.{VectorReading, new_reading, NextGives, NextFails, HasAsked}
 use Rattle.design_vectors.specs.Rows.{row_line}
-use Rattle.cmd_steps.specs.Vocabulary.{most_vector_bytes, file_of, vectors_at, AreFirst, AreAll, AreBeforeFault, IsBegun, IsNearNext, NoRowWaits, StaysOpen, IsRead, IsPutOut, IsHeldUp, WaitsOrPuts, Outside, outside, IsLater, RowWork, all_rows, HasRows, HasReadRows, IsBeforeRow, Asks, IsCounted, IsWritten, StopWrote, WriteStops, stop_of_vectors, Puts, Follows}
+use Rattle.cmd_steps.specs.Vocabulary.{most_vector_bytes, file_of, vectors_at, AreFirst, AreAll, AreBeforeFault, IsBegun, IsNearNext, NoRowWaits, StaysOpen, IsRead, IsPutOut, IsHeldUp, WaitsOrPuts, Outside, outside, IsLater, RowWork, all_rows, HasRows, HasReadRows, IsBeforeRow, Asks, IsCounted, IsWritten, StopWrote, stop_of_vectors, Puts, Follows}
 use Rattle.cmd_steps.specs.declared.refusal.Stop.{Stop}
 use Rattle.cmd_steps.specs.declared.refusal.Stop.TheVariants.{Refused, Sink}
 use Rattle.cmd_steps.proofs.Counting.{counted-after}
@@ -276,9 +276,13 @@ module _ (w : RowWork) (begun now new : Outside) (reading : VectorReading) (wait
   pub taken-are-first : AreFirst w.width w.told vectors
   taken-are-first = rw told (taken-first w.width begun.store now.store reading vectors so_far.taking)
 
+  -- what is so of the store is so of the work's
+  pub at-the-end : (P : StoreState → Type 0) → P new.store → P w.store
+  at-the-end P here = subst P (sym at_end) here
+
   -- rows of the first of them
   abbrev pub has-rows : (vs : List (List Bool)) → AreFirst w.width w.told vs → w.are vs rows → NoRowWaits w.width (file_of begun.store) new.store.read_at (length rows) → HasRows w text
-  has-rows vs first are prompt = record { vectors = vs; rows = rows; text_is = refl; first = first; are = are; prompt = rw (told, at_end) prompt }
+  has-rows vs first are prompt = record { vectors = vs; rows = rows; text_is = refl; first = first; are = are; prompt = at-the-end (λ (s : StoreState). NoRowWaits w.width w.told s.read_at (length rows)) (rw told prompt) }
 
   pub rows-follow : {U : Type 0} (result : Result U Stop) → IsWritten (all_rows w) result begun.sink new.sink → IfErr result (λ stop. IsCounted ⊥ stop now new) → Follows ⊥ [] asks (all_rows w) result begun new
   rows-follow result written counted = record {
@@ -302,7 +306,8 @@ module _ (w : RowWork) (begun now new : Outside) (reading : VectorReading) (wait
 
     pub vectors-follow : {U : Type 0} (fail : VectorsFail) → NextFails fail reading now.store new.store → Follows {T = U} ⊥ [] asks (all_rows w) (Err (stop_of_vectors fail)) begun new
     vectors-follow (Text line kind) fails =
-        let fault : AreBeforeFault w.width w.told w.store.current line kind vectors = rw (told, at_end) (taken-fault w.width begun.store now.store new.store reading vectors line kind so_far.taking fails) in
+        let fault : AreBeforeFault w.width w.told w.store.current line kind vectors =
+        at-the-end (λ (s : StoreState). AreBeforeFault w.width w.told s.current line kind vectors) (rw told (taken-fault w.width begun.store now.store new.store reading vectors line kind so_far.taking fails)) in
         rows-follow (Err (stop_of_vectors (Text line kind))) (text, (has-read, fault), all-wrote) tt
     vectors-follow VectorsFailed fails =
         rows-follow (Err (stop_of_vectors VectorsFailed)) (text, (has-read, ap (λ (s : StoreState). s.current) at_end ∙ fails.closed), all-wrote) fails.rose
@@ -322,7 +327,6 @@ module _ (w : RowWork) (begun now new : Outside) (reading : VectorReading) (wait
         let from : length so_far.put ≤ length (so_far.put ++ front) = rw (length-append so_far.put) (omega arith) in
         let within : length (so_far.put ++ front) < length rows = rw (these, length-append (so_far.put ++ front)) (omega arith) in
         let to : length (so_far.put ++ front) < length vectors = omega (arith, within, so_far.few) in
-        let at : w.store ≡ now.store = at_end ∙ still in
         record {
           vectors = vs;
           rows = so_far.put ++ front;
@@ -333,8 +337,10 @@ module _ (w : RowWork) (begun now new : Outside) (reading : VectorReading) (wait
           first = first;
           are = subst (λ t. w.are vs t) all are;
           session = subst (λ t. w.session vs t ⊎ (w.differs vs t ⊎ w.lost)) all session;
-          near = rw (told, at) (so_far.near (length (so_far.put ++ front)) from to);
-          prompt = rw (told, at) (waits-fewer w.width (file_of begun.store) now.store.read_at (length so_far.put) (length (so_far.put ++ front)) from so_far.prompt);
+          near = at-the-end (λ (s : StoreState). IsNearNext w.width w.told s.current (length (so_far.put ++ front)))
+              (subst (λ (s : StoreState). IsNearNext w.width w.told s.current (length (so_far.put ++ front))) (sym still) (rw told (so_far.near (length (so_far.put ++ front)) from to)));
+          prompt = at-the-end (λ (s : StoreState). NoRowWaits w.width w.told s.read_at (length (so_far.put ++ front)))
+              (subst (λ (s : StoreState). NoRowWaits w.width w.told s.read_at (length (so_far.put ++ front))) (sym still) (rw told (waits-fewer w.width (file_of begun.store) now.store.read_at (length so_far.put) (length (so_far.put ++ front)) from so_far.prompt)));
         }
 
     -- a prefix of the lines that wait, as a line that is cut behind whole ones

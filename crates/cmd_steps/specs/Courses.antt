@@ -1,5 +1,5 @@
 -- The course of a command: its steps in the order of work, and so what may have been written wherever it ends.
-use Rattle.std.specs.Prelude.{◌≡◌, ◌⊎◌, ℕ, Bool, List, [], ◌∷◌, ◌++◌, length, flat_map, Option, None}
+use Rattle.std.specs.Prelude.{◌≡◌, ◌⊎◌, ℕ, Bool, List, [], ◌∷◌, ◌++◌, length, flat_map, None}
 use Rattle.base_io.specs.Vocabulary.{Told, StoreState}
 use Rattle.design_vectors.specs.Rows.{row_line}
 use Rattle.cmd_steps.specs.Files.{AreFirst, AreAll, AreBeforeFault, IsNearNext, IsNearEnd, NoRowWaits}

@@ -1,5 +1,5 @@
 -- What the command `twice` does with its words, and what it comes to.
-use Rattle.std.proofs.Common.{ℕ, Bool, List, [], sym}
+use Rattle.std.proofs.Common.{ℕ, Bool, List, sym}
 use Rattle.machine_shape.specs.declared.Shape.{Shape}
 use Rattle.machine_image.specs.Images.{ImageValue}
 use Rattle.rig.specs.Rig.{RigState}

@@ -1,11 +1,11 @@
 -- Bytes that end no vector's line: each vector that is still to come ends its line behind them.
-use Rattle.std.proofs.Common.{◌≡◌, ◌⊎◌, ℕ, ◌+◌, ◌<◌, ◌≤◌, Bool, true, false, List, [], ◌∷◌, ◌++◌, length, get_or, refl, sym, ap, subst, ◌∙◌, inl, inr, arith, append_assoc, nat_le, Option, None, Some, if◌then◌else◌}
+use Rattle.std.proofs.Common.{◌≡◌, ℕ, ◌+◌, ◌≤◌, Bool, true, false, List, [], ◌∷◌, ◌++◌, length, get_or, refl, sym, ap, subst, ◌∙◌, arith, append_assoc, nat_le, Option, None, Some, if◌then◌else◌}
 use Rattle.std.specs.List.{AllByRecursion}
 use Rattle.std.proofs.lemmas.List.{append-nil}
 use Rattle.design_vectors.specs.declared.vectors.VectorKind.{VectorKind}
-use Rattle.design_vectors.specs.Vectors.{PhysicalLine, numbered_lines, put_before, shown, is_line_feed, byte_fault, end_fault, fault_or, line_fault, line_says, lines_say, SaidVectors, VectorLine, nothing_said, with_vector}
+use Rattle.design_vectors.specs.Vectors.{PhysicalLine, numbered_lines, put_before, shown, is_line_feed, byte_fault, end_fault, fault_or, line_fault, line_says, lines_say, bits_of, SaidVectors, VectorLine, nothing_said}
 use Rattle.design_vectors.specs.Readings.{VectorReading, says_next, AreOpen}
-use Rattle.design_vectors.proofs.TextLemmas.{lines-end, put_before-twice, put_before-nil, shown-nil}
+use Rattle.design_vectors.proofs.TextLemmas.{put_before-twice, put_before-nil, shown-nil}
 
 pub all-more : {X : Type 0} (P Q : X → Type 0) (xs : List X) → ((x : X) → P x → Q x) → AllByRecursion P xs → AllByRecursion Q xs
 all-more P Q [] more h = tt
@@ -90,10 +90,13 @@ nothing-fed width limit number at = by (nat_le limit at) (nothing-ends width lim
     by true later = rw shown-nil (empty-says width number at (line_fault width true []) nothing_said refl)
     by false later = rw shown-nil (empty-says width number (at + 1) (line_fault width false []) (lines_say width (numbered_lines limit (number + 1) (at + 1) [])) later)
 
+abbrev line_of : List Bool → ℕ → VectorLine
+line_of bits next_at = record { bits = bits; next_at = next_at }
+
 line-alike : (width number next_at : ℕ) (fault : Option VectorKind) (bytes : List ℕ) (later other : SaidVectors) → later.vectors ≡ other.vectors → (line_says width number next_at fault bytes later).vectors ≡ (line_says width number next_at fault bytes other).vectors
 line-alike width number next_at (Some kind) bytes later other same = refl
 line-alike width number next_at None [] later other same = same
-line-alike width number next_at None (b ∷ bs) later other same = ap (λ (vs : List VectorLine). (with_vector _ next_at (record { vectors = vs; fault = None })).vectors) same
+line-alike width number next_at None (b ∷ bs) later other same = ap (λ (vs : List VectorLine). line_of (bits_of width (b ∷ bs)) next_at ∷ vs) same
 
 first-alike : (width : ℕ) (front : List ℕ) (l : PhysicalLine) (ls others : List PhysicalLine) → (lines_say width ls).vectors ≡ (lines_say width others).vectors → (lines_say width (put_before front (l ∷ ls))).vectors ≡ (lines_say width (put_before front (l ∷ others))).vectors
 unfolding lines_say
@@ -114,12 +117,6 @@ feed-says width limit number at front [] = by (nat_le limit at)
 feed-says width limit number at front (b ∷ bytes) =
     by (nat_le limit at) (is_line_feed b) (feed-says width limit (number + 1) (at + 1) [] bytes) (feed-says width limit number (at + 1) (front ++ b ∷ []) bytes)
   where
-    once : List ℕ
-    once = bytes ++ 10 ∷ []
-
-    twice : List ℕ
-    twice = bytes ++ 10 ∷ 10 ∷ []
-
     plain : (ls others : List PhysicalLine) → SayAlike width [] ls others → (lines_say width ls).vectors ≡ (lines_say width others).vectors
     plain ls others h =
         ap (λ (l : List PhysicalLine). (lines_say width l).vectors) (sym (put_before-nil ls)) ∙ (h ∙ ap (λ (l : List PhysicalLine). (lines_say width l).vectors) (put_before-nil others))

@@ -79,8 +79,8 @@ same-bits (x ∷ xs) (y ∷ ys) = by (same-bit x y) (same-bits xs ys)
   where
     by : (x ≡ y) ⊎ (x ≡ y → ⊥) → (xs ≡ ys) ⊎ (xs ≡ ys → ⊥) → (x ∷ xs ≡ y ∷ ys) ⊎ (x ∷ xs ≡ y ∷ ys → ⊥)
     by (inl e) (inl f) = inl (ap (λ (b : Bool). b ∷ xs) e ∙ ap (λ (l : List Bool). y ∷ l) f)
-    by (inr no) more = inr (λ e. no (heads x y xs ys e))
-    by (inl e) (inr no) = inr (λ f. no (tails x y xs ys f))
+    by (inr other) more = inr (λ e. other (heads x y xs ys e))
+    by (inl e) (inr other) = inr (λ f. other (tails x y xs ys f))
 
 -- a reading of two copies: both have read this, or its halves differ
 pub data Shared (c : Copies) (reading : List Bool) : Type 0 where
@@ -98,12 +98,12 @@ halves-of n reading size = by (same-bits (take n reading) (drop n reading))
 
     by : (take n reading ≡ drop n reading) ⊎ (take n reading ≡ drop n reading → ⊥) → Shared Two reading
     by (inl e) = alike (take n reading) (whole ∙ ap (λ (l : List Bool). take n reading ++ l) (sym e))
-    by (inr no) = apart (record {
+    by (inr other) = apart (record {
       first = take n reading;
       second = drop n reading;
       bits_are = whole;
       halves = (let second = length-drop n reading in omega (arith, first, second, size));
-      differ = no;
+      differ = other;
     })
 
 pub shared-of : (c : Copies) (n : ℕ) (reading : List Bool) → length reading ≡ times c n → Shared c reading
@@ -123,6 +123,6 @@ all-shared c n (r ∷ rs) wide = by (shared-of c n r wide.0) (all-shared c n rs 
     by : Shared c r → AllShared c rs → AllShared c (r ∷ rs)
     by (apart is) more = first_apart [] r rs (ap (λ (t : List (List Bool)). t ++ r ∷ rs) (sym (repeated-none c))) is
     by (alike row is) (all_alike rows are) = all_alike (row ∷ rows) (ap (λ (b : List Bool). b ∷ rs) is ∙ (ap (λ (t : List (List Bool)). repeated c row ∷ t) are ∙ sym (repeated-cons c row rows)))
-    by (alike row is) (first_apart rows reading behind are no) =
+    by (alike row is) (first_apart rows reading behind are is_apart) =
         first_apart (row ∷ rows) reading behind
-        (ap (λ (b : List Bool). b ∷ rs) is ∙ (ap (λ (t : List (List Bool)). repeated c row ∷ t) are ∙ ap (λ (t : List (List Bool)). t ++ reading ∷ behind) (sym (repeated-cons c row rows)))) no
+        (ap (λ (b : List Bool). b ∷ rs) is ∙ (ap (λ (t : List (List Bool)). repeated c row ∷ t) are ∙ ap (λ (t : List (List Bool)). t ++ reading ∷ behind) (sym (repeated-cons c row rows)))) is_apart

@@ -1,23 +1,20 @@
 -- Vectors that are read together and driven, and the rows of what was read.
-use Rattle.std.proofs.Common.{◌≡◌, ◌⊎◌, ◌∙◌, ◌≤◌, ◌<◌, ◌+◌, ◌*◌, ℕ, suc, Bool, List, true, [], ◌∷◌, ◌++◌, map, take, drop, get_or, length, refl, sym, ap, subst, inl, inr, arith, append-nil, append_assoc, length-append, Err, Ok}
+use Rattle.std.proofs.Common.{◌≡◌, ◌∙◌, ◌≤◌, ◌<◌, ◌+◌, ◌*◌, ℕ, suc, Bool, List, [], ◌∷◌, ◌++◌, map, take, drop, get_or, length, refl, sym, ap, subst, inl, inr, arith, length-append, Err, Ok}
 use Rattle.std.proofs.lemmas.List.{map-append, take_more}
-use Rattle.base_io.specs.Vocabulary.{SinkState, Wrote, StoreState}
+use Rattle.base_io.specs.Vocabulary.{SinkState, StoreState}
 use Rattle.rig.specs.Rig.{RigState, CyclesFail}
 use Rattle.rig.specs.declared.rig.RigFail.{RigFail}
 use Rattle.rig.specs.declared.rig.RigFail.TheVariants.{Failed, Memory}
-use Rattle.design_vectors.specs.Rows.{row_line}
 use Rattle.design_vectors.specs.Readings.{VectorReading, GivesUnread}
-use Rattle.cmd_steps.specs.Vocabulary.{most_vector_bytes, RowsAt, IsRead, IsPutOut, IsHeldUp, NextOf, WaitsOrPuts, stop_of_rig, Puts}
+use Rattle.cmd_steps.specs.Vocabulary.{most_vector_bytes, IsRead, IsPutOut, stop_of_rig, Puts}
 use Rattle.cmd_steps.specs.declared.refusal.Refusal.TheVariants as refused
 use Rattle.cmd_steps.specs.declared.refusal.Stop.{Stop}
 use Rattle.cmd_steps.specs.declared.refusal.Stop.TheVariants.{Refused, Sink}
 use Rattle.cmd_steps.proofs.WrittenRows.{held-up}
-use Rattle.machine_image.specs.Images.{ImageValue}
 use Rattle.run_image.specs.Batches.{rows_in}
 use Rattle.run_image.specs.Copying.{repeated, IsApart}
 use Rattle.run_image.specs.declared.copies.Copies.{Copies}
-use Rattle.run_image.specs.Running.{AreKept, ReadsOn, HasBatch, ReadsMore, HasOrFailed, DriveStops, CompareStops, HasAddedOne, HasAddedAll, AddStops, AddsStop, at_rows}
-use Rattle.run_image.specs.declared.image.Running.{Running}
+use Rattle.run_image.specs.Running.{ReadsOn, HasOrFailed, DriveStops, CompareStops, HasAddedOne, HasAddedAll, AddStops, AddsStop}
 use Rattle.run_image.proofs.BatchLemmas.{rows-put}
 
 -- ---- vectors that are read on

@@ -1,5 +1,5 @@
 -- How the rows of an image go on, and how they stop.
-use Rattle.std.proofs.Common.{◌≡◌, ◌⊎◌, ℕ, zero, suc, ◌+◌, ◌-◌, ◌<◌, ◌≤◌, ◌==◌, Bool, true, false, List, [], ◌∷◌, ◌++◌, length, map, take, drop, get_or, flat_map, min, Option, None, Some, IfSome, arith, refl, sym, ap, subst, inl, inr, ◌∙◌, append-nil, append_assoc, length-append, if◌then◌else◌, Result, Ok, Err}
+use Rattle.std.proofs.Common.{◌≡◌, ◌⊎◌, ℕ, zero, suc, ◌+◌, ◌-◌, ◌<◌, ◌≤◌, ◌==◌, Bool, true, false, List, [], ◌∷◌, ◌++◌, length, map, take, drop, flat_map, min, Option, None, Some, IfSome, arith, refl, sym, ap, subst, inl, inr, ◌∙◌, append-nil, append_assoc, length-append, if◌then◌else◌, Result, Ok, Err}
 use Rattle.std.specs.List.{All, AllByRecursion}
 use Rattle.std.proofs.lemmas.List.{get_or_append_left, length-map, map-append, take-append-drop, take-map, length-take-le}
 use Rattle.std.proofs.Math.Seq.{take-append_seam}
@@ -17,13 +17,13 @@ use Rattle.run_image.specs.Batches.{most_together, rows_in}
 use Rattle.run_image.specs.Pins.{pins_in}
 use Rattle.run_image.specs.Run.{RunsRows}
 use Rattle.run_image.proofs.BatchLemmas.{rows-fit, rows-wide}
-use Rattle.run_image.proofs.Copied.{repeated-both, repeated-cons, repeated-map, repeated-count, repeated-none, repeated-long, AllShared, all_alike, first_apart, all-shared}
+use Rattle.run_image.proofs.Copied.{repeated-both, repeated-cons, repeated-map, repeated-count, repeated-none, AllShared, all_alike, first_apart, all-shared}
 use Rattle.run_image.proofs.Driving.{HasDriven, driven-start, driven-all, run-less}
 use Rattle.design_vectors.specs.declared.vectors.VectorsFail.{VectorsFail}
 use Rattle.design_vectors.specs.declared.vectors.VectorsFail.TheVariants.{Text, Failed}
-use Rattle.design_vectors.specs.Readings.{VectorReading, HasAsked}
+use Rattle.design_vectors.specs.Readings.{VectorReading}
 use Rattle.design_vectors.specs.Rows.{row_line}
-use Rattle.cmd_steps.specs.Vocabulary.{file_of, AreFirst, IsBegun, IsNearNext, NoRowWaits, IsRead, EndsFile, IsNotRead, IsPutOut, IsHeldUp, NextStops, StaysOpen, WaitsOrPuts, Outside, outside, IsLater, RowWork, all_rows, HasRows, refuses, IsCounted, stop_of_vectors, Follows}
+use Rattle.cmd_steps.specs.Vocabulary.{file_of, AreFirst, IsBegun, IsNearNext, NoRowWaits, EndsFile, IsNotRead, IsPutOut, IsHeldUp, NextStops, StaysOpen, Outside, outside, IsLater, RowWork, all_rows, HasRows, refuses, IsCounted, stop_of_vectors, Follows}
 use Rattle.cmd_steps.specs.declared.refusal.Refusal.{Refusal}
 use Rattle.cmd_steps.specs.declared.refusal.Refusal.TheVariants as refused
 use Rattle.cmd_steps.specs.declared.refusal.Stop.{Stop}
@@ -36,7 +36,7 @@ use Rattle.run_image.specs.Copying.{share, times, repeated, all_repeated, IsApar
 use Rattle.run_image.specs.declared.copies.Copies.{Copies}
 use Rattle.run_image.specs.declared.copies.Copies.TheVariants.{One, Two}
 use Rattle.run_image.specs.Rows.{most_rows, copied_rows, AreRunRows, AreRowsOf, IsSession, DiffersBehind}
-use Rattle.run_image.specs.Running.{IsFitting, IsLoaded, IsSameBut, IsSameRun, AreKept, ReadsOn, HasBatch, DrivesTo, HasOrFailed, DriveStops, CompareStops, HasAddedOne, HasAddedAll, AddStops, AddsStop, MakesRows, MakesStop, EndsSent, together_of, at_rows}
+use Rattle.run_image.specs.Running.{IsFitting, IsLoaded, IsSameBut, IsSameRun, ReadsOn, HasBatch, DrivesTo, HasOrFailed, DriveStops, HasAddedAll, AddStops, AddsStop, MakesStop, EndsSent, together_of, at_rows}
 use Rattle.run_image.specs.declared.image.Running.{Running}
 
 -- the vector has a bit for each input pin
@@ -336,9 +336,8 @@ module _ (copies : Copies) (image : ImageValue) (failures : ℕ) (begun : Outsid
             let all = taken-all width begun.store now.store store rows.vectors reading [] so_far.vectors so_far.written.taking ends.next in
             let near = rw so_far.count (taken-near-end width begun.store now.store store rows.vectors reading so_far.vectors so_far.written.taking all ends.moves) in
             let wrote = all-written width begun rows.vectors left put_now so_far.vectors so_far.done (all-put left out) out.empty in
-            let has = has-rows (work last) begun put_now last rows.vectors left so_far.vectors so_far.done (all-put left out) later-last stays.asked refl refl (SameRig last) same-last so_far.vectors first-of-file (are-rows rig machine) prompt in
             rows-follow (work last) begun put_now last rows.vectors left so_far.vectors so_far.done (all-put left out) later-last stays.asked refl refl (SameRig last) same-last
-            (Err (Refused refused.Rig)) (flat_map row_line so_far.done, (has, near), wrote) rose
+            (Err (Refused refused.Rig)) (flat_map row_line so_far.done, (has-rows (work last) begun put_now last rows.vectors left so_far.vectors so_far.done (all-put left out) later-last stays.asked refl refl (SameRig last) same-last so_far.vectors first-of-file (are-rows rig machine) prompt, near), wrote) rose
 
     -- ---- vectors are read together
 
@@ -429,7 +428,7 @@ module _ (copies : Copies) (image : ImageValue) (failures : ℕ) (begun : Outsid
             undriven-near : IsNearNext width (file_of begun.store) store.current (length so_far.done)
             undriven-near = undriven.near (length so_far.done) few-put (let size = size-taken in let most = some in omega (arith, size, most))
 
-            undriven-has : HasRows (work new) (flat_map row_line so_far.done)
+            abbrev undriven-has : HasRows (work new) (flat_map row_line so_far.done)
             undriven-has =
                 has-rows (work new) begun (outside store now.rig last) new rows1.vectors left (so_far.vectors ++ vs) so_far.done undriven (on-rig last refl (omega arith)) refl refl refl (SameRig new) same-new
                 so_far.vectors first-of-file (are-rows rig machine) undriven-prompt
@@ -614,10 +613,9 @@ module _ (copies : Copies) (image : ImageValue) (failures : ℕ) (begun : Outsid
                 let taken_size = size-taken in
                 let same_size = size-vs in
                 let near = put.near (length (so_far.done ++ made)) few_put (omega (arith, size, lt, taken_size, same_size)) in
-                let has = has-rows (work now2) begun now2 now2 rows1.vectors left (so_far.vectors ++ vs) (so_far.done ++ made) put (later-same now2) refl refl refl (SameRig now2) same-now2 (so_far.vectors ++ c.front) (first-front c.front (c.next ∷ c.rest) c.split) are prompt in
                 let wrote = all-written width begun rows1.vectors left now2 (so_far.vectors ++ vs) (so_far.done ++ made) put out.empty in
                 rows-follow (work now2) begun now2 now2 rows1.vectors left (so_far.vectors ++ vs) (so_far.done ++ made) put (later-same now2) refl refl refl (SameRig now2) same-now2
-                (Err (Refused refused.Differ)) (flat_map row_line (so_far.done ++ made), (has, differs-behind last made reading rest reads apart c, near), wrote) tt
+                (Err (Refused refused.Differ)) (flat_map row_line (so_far.done ++ made), (has-rows (work now2) begun now2 now2 rows1.vectors left (so_far.vectors ++ vs) (so_far.done ++ made) put (later-same now2) refl refl refl (SameRig now2) same-now2 (so_far.vectors ++ c.front) (first-front c.front (c.next ∷ c.rest) c.split) are prompt, differs-behind last made reading rest reads apart c, near), wrote) tt
 
             -- ---- so it is of the first of the readings that stops
 
@@ -659,9 +657,9 @@ module _ (copies : Copies) (image : ImageValue) (failures : ℕ) (begun : Outsid
                     let plain : rest ≡ all_repeated copies more ++ [] = are ∙ sym (append-nil (all_repeated copies more)) in
                     alike-held stop between (waiting ++ row_line h.0) ((so_far.done ++ made) ++ h.0 ∷ []) more (made ++ h.0 ∷ more) with-it (regroup more)
                     (reads-on more [] plain ∙ append-nil (all_repeated copies (made ++ h.0 ∷ more))) held
-                by (first_apart more other behind are no) =
+                by (first_apart more other behind are is_apart) =
                     apart-held stop between (waiting ++ row_line h.0) ((so_far.done ++ made) ++ h.0 ∷ []) more (made ++ h.0 ∷ more) other behind with-it (regroup more)
-                    (reads-on more (other ∷ behind) are) no held
+                    (reads-on more (other ∷ behind) are) is_apart held
             row-stops (Sink fail) between waiting left made reading rest written reads (inl stops) =
                 apart-held (Sink fail) between waiting (so_far.done ++ made) [] made reading rest written (sym (append-nil (so_far.done ++ made))) reads stops.1 (stops.0 store)
             row-stops (Refused refused.Differ) between waiting left made reading rest written reads (inl stops) =

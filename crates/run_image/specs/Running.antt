@@ -1,10 +1,9 @@
 -- What the steps of a run say.
-use Rattle.std.specs.Prelude.{◌≡◌, ◌⊎◌, ◌+◌, ◌-◌, ◌*◌, ◌==◌, ◌≤◌, ℕ, if◌then◌else◌, min, List, [], ◌∷◌, ◌++◌, Bool, false, length, map, Err, Ok}
+use Rattle.std.specs.Prelude.{◌≡◌, ◌⊎◌, ◌+◌, ◌-◌, ◌*◌, ◌==◌, ℕ, if◌then◌else◌, min, List, [], ◌∷◌, ◌++◌, Bool, false, length, map, Err, Ok}
 use Rattle.run_image.specs.Copying.{share, repeated, AreEqualShares, IsApart}
 use Rattle.run_image.specs.declared.copies.Copies.{Copies}
 use Rattle.base_io.specs.Vocabulary.{Rose, StoreState, SinkState}
 use Rattle.rig.specs.Rig.{RigState, Begins, CyclesFail}
-use Rattle.rig.specs.declared.rig.RigFail.{RigFail}
 use Rattle.rig.specs.declared.rig.RigFail.TheVariants as work
 use Rattle.run_image.specs.Batches.{most_together, rows_in}
 use Rattle.run_image.specs.Pins.{pins_in}

@@ -112,7 +112,7 @@ fn prepare(
 // Puts bits behind the first ones of others, and says where they end there.
 fn put_bits(bits: &[bool], all: &mut [bool], from: usize) -> usize
     requires { from + length bits.now ≤ length all.old }
-    ensures ends { result ≡ from + length bits.now }
+    ensures place { result ≡ from + length bits.now }
     ensures bits { take result all.new ≡ take from all.old ++ bits.now }
     ensures length { length all.new ≡ length all.old }
 {
@@ -125,7 +125,7 @@ fn put_bits(bits: &[bool], all: &mut [bool], from: usize) -> usize
 // Takes bits that stand behind the first ones of others, and says where they end there.
 fn take_bits(all: &[bool], from: usize, bits: &mut [bool]) -> usize
     requires { from + length bits.old ≤ length all.now }
-    ensures ends { result ≡ from + length bits.old }
+    ensures place { result ≡ from + length bits.old }
     ensures bits { bits.new ≡ take (length bits.old) (drop from all.now) }
 {
     let end = from + bits.len();
@@ -152,7 +152,7 @@ fn keep_drive(rows: &mut Running, from: usize) -> usize
     ensures vectors { rows.new.vectors ≡ rows.old.vectors }
     ensures vector { rows.new.vector ≡ rows.old.vector }
     ensures block { rows.new.block ≡ rows.old.block }
-    ensures ends { result ≡ from + length rows.old.image.inputs }
+    ensures place { result ≡ from + length rows.old.image.inputs }
     ensures drives { take result rows.new.drives.items ≡ take from rows.old.drives.items ++ repeated rows.old.copies rows.old.vector.items }
 {
     repeat(rows.copies, &rows.vector, &mut rows.drive);
@@ -217,7 +217,7 @@ fn next_batch<S: Store, K: Sink>(
 // Makes the cycles of the vectors that were kept, for each copy, and counts them.
 fn drive_rows(rows: &mut Running, count: usize, rig: &mut Box<dyn Rig>) -> Result<(), RigFail>
     requires fits { IsFitting rows.old }
-    requires count { count ≤ most_together }
+    requires few { count ≤ most_together }
     requires pins { width_of (rig_state rig.old) ≡ Some (pins_of rows.old.image.config.shape) }
 
     ensures same { IsSameBut rows.old rows.new }
@@ -291,7 +291,7 @@ fn next_row<K: Sink>(rows: &mut Running, from: usize, sink: &mut K) -> Result<us
     ensures readings { rows.new.readings ≡ rows.old.readings }
     ensures vectors { rows.new.vectors ≡ rows.old.vectors }
     ensures fits { OnOk result (IsFitting rows.new) }
-    ensures ends { IfOk result (λ end. end ≡ from + length rows.old.image.outputs) }
+    ensures place { IfOk result (λ end. end ≡ from + length rows.old.image.outputs) }
     ensures adds { let reading = take (length rows.old.image.outputs) (drop from rows.old.readings.items) in
         OnOk result (HasAddedOne rows.old.copies reading rows.old.block.text rows.new.block.text (K.sink_state sink.old) (K.sink_state sink.new)) }
     ensures refused { let reading = take (length rows.old.image.outputs) (drop from rows.old.readings.items) in
@@ -307,7 +307,7 @@ fn next_row<K: Sink>(rows: &mut Running, from: usize, sink: &mut K) -> Result<us
 // Compares what the copies read in these cycles, and lets the rows wait, one after the other.
 fn add_rows<K: Sink>(rows: &mut Running, count: usize, sink: &mut K) -> Result<(), Stop>
     requires fits { IsFitting rows.old }
-    requires count { count ≤ most_together }
+    requires few { count ≤ most_together }
 
     ensures same { IsSameRun rows.old rows.new }
     ensures vectors { rows.new.vectors ≡ rows.old.vectors }
@@ -334,7 +334,7 @@ fn make_rows<K: Sink>(
     sink: &mut K,
 ) -> Result<(), Stop>
     requires fits { IsFitting rows.old }
-    requires count { count ≤ most_together }
+    requires few { count ≤ most_together }
     requires pins { width_of (rig_state rig.old) ≡ Some (pins_of rows.old.image.config.shape) }
 
     ensures same { IsSameBut rows.old rows.new }

@@ -173,7 +173,7 @@ fn put_vectors(drives: &mut [PinBits], other: &PinBits, pins: &[u32], vectors: &
 fn put_pins(read: &PinBits, pins: &[u32], out: &mut [bool], from: usize) -> usize
     requires room { from + length pins.now ≤ length out.old }
     requires below { All (λ k. k < length read.now) pins.now }
-    ensures ends { result ≡ from + length pins.now }
+    ensures place { result ≡ from + length pins.now }
     ensures row { take result out.new ≡ take from out.old ++ row_at pins.now read.now }
     ensures length { length out.new ≡ length out.old }
 {
@@ -257,7 +257,7 @@ impl Run {
         vectors: &[bool],
         outs: &mut [bool],
     ) -> Result<(), RigFail>
-        requires count { count ≤ most_together }
+        requires few { count ≤ most_together }
         requires pins { width_of (rig_state rig.old) ≡ Some self.old.pins }
         requires vectors { length vectors.now ≡ count * length self.old.inputs }
         requires outs { length outs.old ≡ count * length self.old.outputs }
