@@ -1,6 +1,7 @@
 """The lines between the tool and a machine: spelling, and a machine that answers them (docs/PORT.md has them by example)."""
 
 import re
+from itertools import accumulate
 
 from model import Configuration, Session, Setting
 
@@ -26,9 +27,9 @@ class Check:
 
     def add(self, body):
         """Takes a body, and gives it as a line with its check."""
-        for byte in body:
-            self._first = (self._first + byte) % 256
-            self._second = (self._second + self._first) % 256
+        sums = [*accumulate(body, initial=self._first)]
+        self._second = (self._second + sum(sums) - self._first) % 256
+        self._first = sums[-1] % 256
         return body + b"*%02x%02x\n" % (self._second, self._first)
 
     def request(self, body):

@@ -25,7 +25,7 @@ import switch_end
 from machine import Refused, read_faults, read_machine
 
 HERE = Path(__file__).resolve().parent
-PYTHON_FILES = ("python_end.py", "lines.py", "machine.py", "model.py", "progress.py")
+PYTHON_FILES = ("python_end.py", "lines.py", "machine.py", "model.py", "progress.py", "schedule.py")
 VERILATOR = "verilator -Wno-fatal -Wno-WIDTH -O3 --x-assign fast --noassert --cc --exe --build -MAKEFLAGS OPT_FAST=-O2 -Mdir made"
 SIMULATED_DIVISOR = 4  # of a simulated serial line nothing hangs on how long a bit takes
 

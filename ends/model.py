@@ -77,12 +77,24 @@ class Session:
         """From now on the tables of both are one: what they give is kept once."""
         self._out = other._out
 
-    def cycle(self, drive):
-        """Drives the pins, ticks, gives what all pins read, and clocks the latched tables."""
-        for _ in range(self._set.ticks):
-            self._out.update(self._look_up(self._pulled(drive), False))
+    def settle(self):
+        """A latched table whose register is stuck takes its value, and keeps it when the register is stuck no longer."""
+        held = self._faults.registers.items()
+        self._out.update((table, out) for table, out in held if table in self._out and self._set.tables[table].latched)
+
+    def tick(self, drive):
+        self._out.update(self._look_up(self._pulled(drive), False))
+
+    def read(self, drive):
+        """What all pins read; then the latched tables are clocked."""
         pulled = self._pulled(drive)
         reading = sum(self._level(wire, pulled) << k for k, wire in enumerate(self._machine.pins))
         clocked = self._look_up(pulled, True).items()
         self._out.update((table, out) for table, out in clocked if table not in self._faults.registers)
         return reading
+
+    def cycle(self, drive):
+        """Drives the pins, ticks, gives what all pins read, and clocks the latched tables."""
+        for _ in range(self._set.ticks):
+            self.tick(drive)
+        return self.read(drive)

@@ -11,6 +11,7 @@ from lines import Device
 from machine import Refused, read_faults, read_machine
 from model import Session
 from progress import Progress
+from schedule import Schedule
 
 BLOCK = 65_536
 
@@ -57,6 +58,7 @@ def words():
     parser.add_argument("machine", type=Path)
     parser.add_argument("faults", type=Path, nargs="?", help="a fault file; without it nothing is wrong")
     parser.add_argument("--flicker", type=float, default=0, metavar="SHARE", help="a crosspoint is open in this share of cycles")
+    parser.add_argument("--schedule", type=Path, metavar="FILE", help="faults that come and go, as schedule.py says")
     parser.add_argument("--times", type=int, default=1, help="make what comes with a load so often, and refuse where it differs")
     parser.add_argument("--seed", type=int, default=1, help="which crosspoint flickers, and when")
     return parser.parse_args()
@@ -67,10 +69,10 @@ def main():
     try:
         machine = read_machine(given.machine.read_text())
         faults = read_faults(machine, given.faults.read_text() if given.faults else "")
+        begin = Schedule(machine, faults, given.schedule.read_text()).begin if given.schedule else Session
     except Refused as reason:
         sys.exit(f"refused {reason}")
     progress = Progress(machine.most_loads)
-    begin = Session
     if given.flicker:
         cross = random.Random(given.seed).randrange(len(machine.crosses))
         begin = Flicker(cross, given.flicker, given.seed).begin

@@ -20,6 +20,7 @@ from asker import Asker, DevicePort, WrongReply, edits, shorter, whole
 from lines import Check, Device
 from machine import Faults, Refused, read_faults, read_machine
 from model import Configuration, Session, Setting
+from schedule import Schedule
 
 EXAMPLES = HERE.parent / "examples"
 TINY = read_machine((EXAMPLES / "tiny.machine").read_text())
@@ -127,6 +128,89 @@ class Models(unittest.TestCase):
         latched = {0: Setting(0, True, True)}
         self.assertEqual(self.read("", ways, 15, latched), 15)
         self.assertEqual(self.read("register m0.c0.h0.t0 0", ways, 15, latched), 14)
+
+
+class Schedules(unittest.TestCase):
+    """Faults that come and go, by hand. Pins of `tiny` are joined as in the tests above."""
+
+    WAYS = ["r.p0 r.l0", "r.p1 r.l0"]
+    TABLE = ["m0.c0.h0.t0.q m0.c0.h0.l0", "m0.c0.h0.o0 m0.c0.h0.l0", "m0.c0.h0.o0 m0.c0.l0", "m0.c0.o0 m0.c0.l0"]
+    TABLE += ["m0.c0.o0 m0.l0", "m0.o0 m0.l0", "m0.o0 r.l0", "r.p0 r.l0"]
+
+    def read(self, schedule, closed, drives, tables=None, load=1, ticks=1, stay=""):
+        closed = {TINY.crosses.index(tuple(TINY.wires.index(name) for name in ends.split())) for ends in closed}
+        planned = Schedule(TINY, read_faults(TINY, stay), schedule)
+        for _ in range(load):
+            session = planned.begin(TINY, None, Configuration(closed, tables or {}, ticks))
+        return [session.cycle(drive) for drive in drives]
+
+    def test_comes_and_goes(self):
+        drives = [0b1110] * 4
+        for schedule, read in (
+            ("1.1 1.2 open r.p1 r.l0", [12, 14, 12, 12]),
+            ("1.1.0 open r.p1 r.l0", [12, 14, 14, 14]),
+            ("1.2 stuck1 r.l0\n1.3 stuck0 r.l0 # against, while the other is there", None),
+            ("1.2 1.3 stuck1 r.l0\n1.3 stuck0 r.l0", [12, 12, 15, 12]),
+            ("1.0 1.3 bridge r.p3 r.l0", [4, 4, 4, 12]),
+        ):
+            if read:
+                self.assertEqual(self.read(schedule, self.WAYS, drives), read, schedule)
+            else:
+                with self.assertRaises(Refused):
+                    self.read(schedule, self.WAYS, drives)
+
+    def test_loads(self):
+        """A fault is there in some loads alone, or from within one on; what stays is there throughout."""
+        schedule = "2.1 3.1 open r.p1 r.l0\n4 open r.p1 r.l0"
+        found = [self.read(schedule, self.WAYS, [0b1110] * 2, load=load, stay="stuck0 r.p3") for load in range(1, 6)]
+        self.assertEqual(found, [[4, 4], [4, 6], [6, 4], [6, 6], [6, 6]])
+
+    def test_within_a_cycle(self):
+        """A table evaluates at the tick; its output is read at the instant behind it."""
+        table = {0: Setting((1 << 64) - 1 - (1 << 63), False, True)}
+        for schedule, read in (
+            ("", [14, 14]),
+            ("1.0.0 1.0.1 stuck0 m0.c0.h0.t0.i0", [15, 14]),
+            ("1.0.1 1.1.0 stuck0 m0.c0.h0.t0.i0", [14, 14]),
+            ("1.0.1 1.1.0 stuck1 r.p0", [15, 14]),
+            ("1.0.0 1.0.1 stuck1 r.p0", [14, 14]),
+            ("1.1.0 1.1.1 cell m0.c0.h0.t0 63 1", [14, 15]),
+        ):
+            self.assertEqual(self.read(schedule, self.TABLE, [15] * 2, table), read, schedule)
+        self.assertEqual(self.read("1.0.0 1.0.1 stuck0 m0.c0.h0.t0.i0", self.TABLE, [15], table, ticks=2), [14])
+        self.assertEqual(self.read("1.0.1 1.0.2 stuck0 m0.c0.h0.t0.i0", self.TABLE, [15], table, ticks=2), [15])
+
+    def test_registers(self):
+        """A stuck register gives its value at once, isn't clocked, and is left with the value."""
+        kept = {0: Setting((1 << 64) - 1, True, True)}
+        self.assertEqual(self.read("1.1 1.2 register m0.c0.h0.t0 0", self.TABLE, [15] * 4, kept), [15, 14, 14, 15])
+        self.assertEqual(self.read("1.1.1 1.2 register m0.c0.h0.t0 0", self.TABLE, [15] * 4, kept), [15, 14, 14, 15])
+        self.assertEqual(self.read("1.1.0 1.1.1 register m0.c0.h0.t0 0", self.TABLE, [15] * 4, kept), [15, 14, 15, 15])
+        plain = {0: Setting((1 << 64) - 1, False, True)}
+        self.assertEqual(self.read("1 register m0.c0.h0.t0 0", self.TABLE, [15] * 2, plain), [15, 15])
+
+    def test_one_set_is_a_machine(self):
+        """What is there from the first load on reads as what stays."""
+        chance, entries = random.Random(8), [line for line in ALL_FAULTS.split("\n") if line]
+        for _ in range(40):
+            loaded = compare.random_load(TINY, chance, Configuration())
+            drives = [chance.randrange(16) for _ in range(6)]
+            come = [chance.random() < 0.5 for _ in entries]
+            # What comes at a time at which nothing is read makes it go from set to set.
+            lines = [f"1 {line}" for line, comes in zip(entries, come) if comes] + ["1.3.9 1.4.0 stuck1 m0.c0.h0.t1.i5"] * (loaded.ticks < 9)
+            stay = "\n".join(line for line, comes in zip(entries, come) if not comes)
+            session = Schedule(TINY, read_faults(TINY, stay), "\n".join(lines)).begin(TINY, None, loaded)
+            whole = Session(TINY, read_faults(TINY, ALL_FAULTS), loaded)
+            self.assertEqual([session.cycle(drive) for drive in drives], [whole.cycle(drive) for drive in drives])
+
+    def test_wrong_schedules(self):
+        wrong = ("1.x stuck0 r.l0", "stuck0 r.l0", "1", "1.0.0.0 stuck0 r.l0", "2 1 stuck0 r.l0", "1 1 stuck0 r.l0", "1 stuck0 r.l9")
+        wrong += ("1 2 3 stuck0 r.l0", "1 loose r.l0", "1 2 stuck0", "1 stuck0 r.l0\n2 stuck0 r.l0", "1 open r.p0 r.l0\n2 closed r.p0 r.l0")
+        for text in wrong:
+            with self.assertRaises(Refused, msg=text):
+                Schedule(TINY, Faults(), text)
+        with self.assertRaises(Refused):
+            Schedule(TINY, read_faults(TINY, "stuck0 r.l0"), "1 2 stuck1 r.l0")
 
 
 class Lines(unittest.TestCase):

@@ -35,6 +35,17 @@ def plain_network(design):
     return Network(inputs, numbered, [net[signal] for signal in design.outputs])
 
 
+def side_by_side(networks):
+    """Networks as one, as `pair` lays two designs and `twice` two copies: all inputs, and then the tables of one behind the other's."""
+    inputs, tables, joint = 0, sum(network.inputs for network in networks), Network(sum(network.inputs for network in networks), [], [])
+    for network in networks:
+        at = [*range(inputs, inputs + network.inputs), *range(tables, tables + len(network.tables))]
+        joint.tables.extend([at[source] for source in table] for table in network.tables)
+        joint.outputs.extend(at[source] for source in network.outputs)
+        inputs, tables = inputs + network.inputs, tables + len(network.tables)
+    return joint
+
+
 def needs(network, modules, chips, hextants, tables):
     """The ports, and then the lines, that the plan in order wants: for each level the most of any node, from the root down."""
     ports, lines = [Counter() for _ in range(4)], [Counter() for _ in range(4)]
@@ -99,6 +110,21 @@ def random_vectors(design, cycles=32, seed=1):
     chance = random.Random(seed)
     rows = ["".join(chance.choice("01") for _ in design.inputs) or "." for _ in range(cycles)]
     return "\n".join([*rows, ""])
+
+
+def both(first, second):
+    """Two designs as one: inputs, outputs, covers and latches of the first, and then those of the second."""
+
+    def own(k, signals):
+        return [(k, signal) for signal in signals]
+
+    parts = [[], [], [], []]
+    for k, design in enumerate((first, second)):
+        parts[0] += own(k, design.inputs)
+        parts[1] += own(k, design.outputs)
+        parts[2] += [(own(k, sources), (k, output), rows, off) for sources, output, rows, off in design.covers]
+        parts[3] += [((k, source), (k, output), initial) for source, output, initial in design.latches]
+    return Design(*parts)
 
 
 def triplicated(design, pins=False):

@@ -24,18 +24,12 @@ def table_names(design):
 
 def joined(found):
     """The network of designs side by side, and the names of its nets: all inputs, then all tables."""
-    networks, inputs, tables = [designs.plain_network(design) for design in found], 0, 0
-    all_inputs, all_tables = sum(network.inputs for network in networks), sum(len(network.tables) for network in networks)
-    joint, names, more = designs.Network(all_inputs, [], []), [], []
-    for number, (design, network) in enumerate(zip(found, networks)):
-        at = [*range(inputs, inputs + network.inputs), *range(all_inputs + tables, all_inputs + all_tables)]
-        joint.tables.extend([at[source] for source in table] for table in network.tables)
-        joint.outputs.extend(at[source] for source in network.outputs)
+    names, more = [], []
+    for number, design in enumerate(found):
         mark = f"{('first', 'second')[number]}:" if len(found) > 1 else ""
         names += [mark + printed(name) for name in design.inputs]
         more += [mark + name for name in table_names(design)]
-        inputs, tables = inputs + network.inputs, tables + len(network.tables)
-    return joint, names + more
+    return designs.side_by_side([*map(designs.plain_network, found)]), names + more
 
 
 def give_line(net, served, held):

@@ -39,6 +39,8 @@ STYLES = {  # how each list is drawn, named, and modelled
     "none": ((0, (8, 2, 1, 2)), "x", "no list", "the design as it is, undiagnosed; right where its rows are"),
     "triplicated": ((0, (3, 1, 1, 1)), "v", "three copies with voters", "voters at latches and outputs, undiagnosed"),
     "triplicated_pins": ((0, (3, 1, 3, 1, 1, 1)), "P", "three copies, also of pins", "likewise; outputs are voted outside"),
+    "go": ("-", "p", "one copy (go)", "go; the faults come while the design runs"),
+    "twice": ((0, (5, 2)), "h", "two copies (twice)", "twice; the faults come while the design runs"),
 }
 
 
@@ -346,7 +348,30 @@ def pairs(rows, _):
     return picture, ["machine", "design", "kind", "rate", "list", "other", *columns], table
 
 
-FIGURES = {draw.__name__: draw for draw in (fits, machines, why, thrown, loads, redundancy, price, compare, pairs)}
+def at_work(rows, _):
+    """Faults that come while a design runs: rows that are wrong, and rows that weren't written, of 100 rows that were due"""
+    picture, parts = facets([row for row in rows if row["written"] is not None], ("machine", "design", "kind"))
+    columns = ["runs", "stopped", "due", "written", "wrong_rows", "runs_with_wrong_rows"]
+    table = []
+    for axes, names, part in parts:
+        by_rate, due = split(part, "rate"), max(row["written"] for row in part)
+        places, colours = range(len(by_rate)), {"go": "C3", "twice": "C0"}
+        for kind, runs in ((kind, split([row for row in part if row["list"] == kind], "rate")) for kind in colours):
+            lines = [[sum(row["status"] == "7" for row in those), due * len(those), *(sum(row[name] for row in those) for name in columns[3:5]),
+                      sum(row["wrong_rows"] > 0 for row in those)] for those in runs.values()]  # fmt: skip
+            table += [[*names, rate, kind, len(those), *line] for ((rate,), those), line in zip(runs.items(), lines)]
+            look = {"color": colours[kind], "marker": STYLES[kind][1]}
+            axes.plot(places[: len(lines)], [100 * line[3] / line[1] for line in lines], label=f"wrong, {STYLES[kind][2]}", **look)
+            if kind == "twice":
+                left = [100 * (line[1] - line[2]) / line[1] for line in lines]
+                axes.plot(places[: len(lines)], left, linestyle=":", label=f"not written, {STYLES[kind][2]}", **look)
+        axes.set_xticks(places, [f"{rate:g}" for (rate,) in by_rate])
+        axes.set(ylim=(-4, 104), xlabel="rate of faults that come", ylabel="of 100 rows")
+        axes.legend(loc="upper center", bbox_to_anchor=(0.5, -0.15), ncol=2)
+    return picture, ["machine", "design", "kind", "rate", "list", *columns], table
+
+
+FIGURES = {draw.__name__: draw for draw in (fits, machines, why, thrown, loads, redundancy, price, compare, pairs, at_work)}
 
 
 def main():

@@ -48,24 +48,23 @@ class Plan:
         return [line for line in node.lines if self.is_free("wire", line) and all(self.is_free("cross", at) for at in crosses[line])]
 
 
-def net_of_plan(number, design):
+def net_of_plan(number, inputs):
     """What a net of the plain network is of: an input by its name, or a table by its number."""
-    inputs = ["".join(signal) for signal in design.inputs]
     return inputs[number] if number < len(inputs) else f"table {number - len(inputs)}"
 
 
-def shortage(machine, defects, design, network, words):
-    """What `refused noroom RESOURCE NODE NEED HAVE NET ..` says, in words and by the nets that it names."""
+def shortage(machine, defects, network, inputs, words):
+    """What `refused noroom RESOURCE NODE NEED HAVE NET ..` says, in words and by the nets that it names if the network is known."""
     resource, name, need, have, *numbers = words[2:]
     node = next((node for node in machine.nodes if node.name == name), None)
     if node is None:
         raise ValueError(f"{name} is no node of this machine")
     said = f"{need} {resource} are wanted at {LEVELS[node.level]} {name}, and {have} serve."
     found = {"node": name, "words": said, "nets": []}
-    if design is not None:
+    if network is not None:
         plan = Plan(machine, defects, network)
         for number in map(int, numbers):
             taps = plan.taps(node, number)
             serving = plan.serving(node, taps)
-            found["nets"].append({"number": number, "name": net_of_plan(number, design), "taps": taps, "serving": serving})
+            found["nets"].append({"number": number, "name": net_of_plan(number, inputs), "taps": taps, "serving": serving})
     return found

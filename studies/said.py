@@ -8,6 +8,7 @@ conditions as `design=uart rate<=0.1 list=exact,mapped`, WHAT is one of the sums
     right by COLUMNS             of the groups the one with the least share and the one with the most
     right from COLUMN            the least value from which on all runs are right
     mean C, mean C by COLUMNS    mean with its interval; of groups the least and the most. Of loads and cycles each diagnosis counts once
+    sum C                        of all these rows
     share C/D, .. by COLUMNS     sum of C by sum of D
     times C at COLUMN=X/Y, .. by COLUMNS   the mean of C where a column is X, by that where it is Y
     pairs LIST LIST              sets of faults with both lists right, the first alone, the second alone, none, and McNemar's p
@@ -120,6 +121,8 @@ def sum_of(rows, what):
         return right(rows, columns, words[2] if len(words) == 3 else "")
     if words[0] == "mean":
         return means(rows, words[1], columns)
+    if words[0] == "sum":
+        return spelled(sum(row[words[1]] for row in once_each(rows, words[1])))
     if words[0] == "share":
         return shares(rows, *words[1].split("/"), columns)
     if words[0] == "times":

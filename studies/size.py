@@ -1,7 +1,8 @@
 #!/usr/bin/env python3
 """The least machine on which a design fits: its tables, ports, lines and pins by the plan in order, checked by one compile.
 
-How much must be spare at which rate of faults is the study `redundancy`. With --map the machine is one for a text of `teramac_map`
+How much must be spare at which rate of faults is the study `redundancy`. With --copies the machine is one for `twice`, which has two of
+the design, and is checked by a `twice` without faults or vectors. With --map the machine is one for a text of `teramac_map`
 with the same rows: ports and lines are pressed down while the mapper finds a text that fits.
 """
 
@@ -46,6 +47,11 @@ def compiles(program, machine, defects, design):
     return call(program, "compile", machine.text.encode(), texts.defects_text(machine, defects).encode(), design)
 
 
+def runs_twice(program, machine, design):
+    """What twice says of the design on this machine without faults, for no vectors."""
+    return call(program, "twice", machine.text.encode(), b"", design, b"")
+
+
 def pressed(counts, share, levels, tables):
     """The counts with so much of these levels' ports and lines, but at least the pins' where all of a design's tables lie in one node."""
     shares = [share if level in levels else 1 for level in (1, 2, 3, 0, 1, 2, 3)]
@@ -85,6 +91,7 @@ def main():
         parser.add_argument(f"--{name}", type=int, metavar="N", help=f"how many {name} in each node above (default: the cheapest)")
     parser.add_argument("--spare", type=amount, default=0.0, metavar="SHARE", help="so much more, as 10%% or 0.1 (default: 0)")
     parser.add_argument("-o", "--output", default="-", help="the machine's new file (default: standard output)")
+    parser.add_argument("--copies", action="store_true", help="for the two copies of `twice`")
     parser.add_argument("--map", metavar="FILE", help="a new file for the text of teramac_map that this machine holds")
     parser.add_argument("--mapper", default=MAPPER, help="the built teramac_map (default: %(default)s)")
     add_program(parser)
@@ -93,7 +100,10 @@ def main():
     trees = [tree for tree in TREES if all(want in (None, have) for want, have in zip(given, tree))] or [given]
     if min(count for count in given + (1,) if count is not None) < 1 or None in trees[0]:
         sys.exit("--modules, --chips, --hextants: give all three, each at least 1, beyond 4, 4 and 8")
+    if args.copies and args.map:
+        sys.exit("--copies: the plan in order of two copies is that of the design as given, so --map says nothing of them")
     network, text = designs.plain_network(checked_design(args.program, args.design)), args.design
+    network = designs.side_by_side([network] * 2) if args.copies else network
     machine = given = best_machine(network, trees, 0.0 if args.map else args.spare)
     if args.map:
         text = call(args.mapper, args.design).written
@@ -101,9 +111,11 @@ def main():
         least, text = min((remapped(args.mapper, args.design, *pair) for pair in held), key=lambda pair: pair[0].sizes["cross"])
         print(f"crosspoints: {given.sizes['cross']:,} as given, {least.sizes['cross']:,} remapped", file=sys.stderr)
         machine = texts.Machine((*least.counts[:4], *(spared(count, args.spare) for count in least.counts[4:])))
-    answer = compiles(args.program, machine, texts.Defects(), text)
+    copied = args.copies and runs_twice(args.program, machine, text)
+    answer = copied or compiles(args.program, machine, texts.Defects(), text)
     if answer.status:
-        sys.exit(f"compile of the design on this machine: {' '.join(answer.refusal)}")
+        named = "twice (it diagnoses first, for which each node wants two ports and lines: leave more to spare)" if copied else "compile"
+        sys.exit(f"{named} of the design on this machine: {' '.join(answer.refusal)}")
     if args.map:
         texts.write_new(args.map, text)
     texts.write_new(args.output, machine.text)

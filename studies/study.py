@@ -33,6 +33,8 @@ SCRIPTS = [os.path.join(HERE, name + ".py") for name in ("trial", "faults", "ter
 # What decides about machines, designs and figures besides.
 MAKERS = [os.path.join(HERE, name + ".py") for name in ("study", "size", "figures")]
 COST = [os.path.join(HERE, "../ends", name) for name in ("cost.py", "make.py", "c_end.py", "machine.py", "c/port.c", "c/host.h")]
+# And where faults come while a design runs.
+RUNS = [os.path.join(HERE, name) for name in ("at_work.py", *(f"../ends/{end}.py" for end in ("lines", "machine", "model", "schedule")))]
 
 
 def sha256(path):
@@ -149,18 +151,20 @@ class Study:
     def sized(self, blif, name):
         """For each share of spare parts, or of spare lines, a machine on one tree, given or the best; with the share and of what it is.
 
-        `three`: what three copies with voters want, by any of the lists, and a quarter.
+        `three`: what three copies with voters want, by any of the lists, and a quarter; `two`: likewise, of the two copies of `twice`.
         """
         design = checked_design(self.program, blif)
         lists = [name for name in self.settings.get("lists", []) if name.startswith("triplicated")] or ["triplicated"]
-        copies = [designs.plain_network(designs.triplicated(design, name.endswith("_pins"))) for name in lists]
         network = designs.plain_network(design)
+        three = [designs.plain_network(designs.triplicated(design, name.endswith("_pins"))) for name in lists]
+        copies = {"three": three, "two": [designs.side_by_side([network] * 2)]}
         tree = self.settings.get("tree") or best_machine(network, TREES, 0.0).counts[:3]
         for spared, spare in product(self.settings.get("spared", ["all"]), self.settings["spares"]):
-            share, counts = spare, counts_for(network, tree, spare, 0, spared == "lines") if spare != "three" else None
-            if spare == "three":
-                share = 1.25 * max(len(three.tables) for three in copies) / len(network.tables) - 1
-                counts = [max(several) for several in zip(*(counts_for(three, tree, 0.25) for three in copies))]
+            if spare in copies:
+                share = 1.25 * max(len(those.tables) for those in copies[spare]) / len(network.tables) - 1
+                counts = [max(several) for several in zip(*(counts_for(those, tree, 0.25) for those in copies[spare]))]
+            else:
+                share, counts = spare, counts_for(network, tree, spare, 0, spared == "lines")
             if not texts.are_within_limits(counts):
                 sys.exit(f"{blif}: with {spare} to spare the machine is beyond its limits")
             word = "lines" if spared == "lines" else "spare"
@@ -190,7 +194,10 @@ class Study:
         """What gives a trial's words by how files are named, its place and what is drawn; and the scripts that decide about its rows."""
         get = self.settings.get
         lists = [name for name in get("lists", ["exact", "diagnosed"]) if name != "mapped" or MAPPER]
-        others = {"mapper": MAPPER if "mapped" in lists else "", "report": REPORT, "port": PORT if "loads" in self.figures else ""}
+        at_work = not {"go", "twice"}.isdisjoint(lists)
+        if at_work and not (PORT and REPORT):
+            sys.exit("go and twice want teramac_port and teramac_report: build them, or name them by TERAMAC_PORT and TERAMAC_REPORT")
+        others = {"mapper": MAPPER if "mapped" in lists else "", "report": REPORT, "port": PORT if "loads" in self.figures or at_work else ""}
         called = {"program": self.program, **{name: path and from_here(path) for name, path in others.items()}}
         more = ["--lists", ",".join(lists), "--seconds", str(get("seconds", 600))]
         more += ["--clustered", str(get("clustered", 0)), "--shape", get("shape", "spots")]
@@ -203,7 +210,7 @@ class Study:
             drawn = ["--name", place.name, *spared, "--kind", kind, "--rate", rate, "--seed", str(seed)]
             return [of(place.machine), *pairs, *drawn, *more, *programs]
 
-        return words_by, [*SCRIPTS, *(COST if called["port"] else [])]
+        return words_by, [*SCRIPTS, *(COST if called["port"] else []), *(RUNS if at_work else [])]
 
     def made_trials(self):
         """For each place, kind and rate `seeds` trials, and as many more at a time while those are done and an interval is too wide."""

@@ -9,8 +9,8 @@ from program import UNDECIDED, fill_of, interval, student
 
 PARTS = {"": "", " of growth": "_growth", " of the sweep": "_sweep", " of tests of tables": "_tables"}
 COSTS = {cost + words: cost + name for cost in ("loads", "cycles") for words, name in PARTS.items()}
-NUMBERS = [*"crosspoints rate seed faults thrown_wires thrown_crosses thrown_tables tables closed spare".split(), *COSTS.values()]
-DECIDED = ("0", "3", "wrong")
+NUMBERS = [*"crosspoints rate seed faults thrown_wires thrown_crosses thrown_tables tables closed spare pins written wrong_rows".split(), *COSTS.values()]
+DECIDED = ("0", "3", "7", "wrong")  # 7: the copies of `twice` differ
 LEVELS = ("root", "module", "chip", "hextant")
 
 

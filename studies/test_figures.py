@@ -72,6 +72,22 @@ class Figures(unittest.TestCase):
             self.assertEqual((picture.axes[0].get_xlabel(), len(picture.axes)), (label, 3))
             self.assertEqual(found["cycles of growth"], [1, ""])
 
+    def test_at_work(self):
+        """Rows that are wrong and rows that were left out, of those that were due; a run that stopped is no failure to be drawn apart."""
+        rows = rows_of(rate=[0.1, 0.2], seed=[1, 2], list=["go", "twice"], written=[8.0], wrong_rows=[0.0])
+        for row in rows:
+            if row["rate"] == 0.2:
+                row |= {"status": "wrong", "wrong_rows": 2.0} if row["list"] == "go" else {"status": "7", "written": 4.0}
+        picture, columns, table = figures.at_work(rows, 0)
+        found = {(line[4], line[3]): line[5:] for line in table}
+        self.assertEqual(columns[5:], ["runs", "stopped", "due", "written", "wrong_rows", "runs_with_wrong_rows"])
+        self.assertEqual(found, {("go", 0.1): [2, 0, 16, 16, 0, 0], ("go", 0.2): [2, 0, 16, 16, 4, 2],
+                                 ("twice", 0.1): [2, 0, 16, 16, 0, 0], ("twice", 0.2): [2, 2, 16, 8, 0, 0]})  # fmt: skip
+        drawn = {line.get_label(): [*line.get_ydata()] for line in picture.axes[0].lines}
+        self.assertEqual(drawn["wrong, one copy (go)"], [0, 25])
+        self.assertEqual(drawn["not written, two copies (twice)"], [0, 50])
+        self.assertEqual(study_rows.share([row for row in rows if row["list"] == "twice"])[:1], [0.5])
+
     def test_ticks_and_legends(self):
         picture, _, _ = figures.thrown(rows_of(list=["diagnosed"], rate=[0.1, 0.2], thrown_wires=[2000.0]), 0)
         self.assertEqual([tick.get_text() for tick in picture.axes[0].get_yticklabels()], ["0", "1", "10", "100", "1,000", "10,000"])

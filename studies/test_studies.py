@@ -1,6 +1,7 @@
 """Tests of readers, writers and scripts with the built program ($TERAMAC or the default): python3 -m unittest."""
 
 import contextlib
+import csv
 import os
 import random
 import re
@@ -11,6 +12,7 @@ import unittest
 
 import designs
 import teramac_texts as texts
+from at_work import schedule_text
 from draw import MARKS
 from faults import KINDS, make_faults
 from program import DEFAULT, HERE, PORT, REPORT, call
@@ -155,15 +157,68 @@ class Studies(unittest.TestCase):
         os.chmod(self.out, 0o755)
         pairs = [f"{EXAMPLES}/{name}.blif:{EXAMPLES}/{name}.vec" for name in ("and", "counter")]
         ran = run("trial.py", "tiny.machine", *pairs, "--rate", "0.0", "--report", self.out)
-        found = sorted(re.findall(r",(and|counter),(\w+),(\d),.*,(\d*),(\d*),(\d*),(\d*),,,,,,$", ran.stdout, re.MULTILINE))
+        found = sorted(re.findall(r",(and|counter),(\w+),(\d),.*,(\d*),(\d*),(\d*),(\d*),,,,,,,,,$", ran.stdout, re.MULTILINE))
         told = [("and", "diagnosed", "0", *"9405"), ("and", "exact", "0", *4 * [""])]
         self.assertEqual(found, told + [("counter", kind, "3", *loads) for _, kind, _, *loads in told])
 
     @unittest.skipUnless(PORT and REPORT, "teramac_port or teramac_report isn't there")
     def test_cycles(self):
         ran = run("trial.py", "tiny.machine", "--rate", "0.0", "--lists", "diagnosed", "--port", PORT)
-        counts = list(map(int, ran.stdout.split(",")[-10:-2]))
+        counts = list(map(int, ran.stdout.split(",")[-13:-5]))
         self.assertEqual((sum(counts[1:4]), sum(counts[5:]), counts[1] < counts[5]), (counts[0], counts[4], True))
+
+    @unittest.skipUnless(PORT and REPORT, "teramac_port or teramac_report isn't there")
+    def test_at_work(self):
+        """Where faults come while a design runs `go` writes wrong rows, and `twice` ends with the rows before them."""
+        design, vectors, machine = f"{EXAMPLES}/counter.blif", f"{EXAMPLES}/counter.vec", f"{self.out}.machine"
+        ran = run("size.py", design, "--copies", "--spare", "50%", "-o", machine)
+        self.assertEqual(ran.returncode, 0, ran.stderr)
+        want, found = call(DEFAULT, "eval", design, vectors).rows, []
+        for rate in ("0", *["60"] * 6):
+            words = [machine, f"{design}:{vectors}", "--rate", rate, "--seed", str(len(found)), "--lists", "go,twice", "--port", PORT]
+            ran = run("trial.py", *words)
+            self.assertEqual(ran.returncode, 0, ran.stderr)
+            found.append([{**row} for row in csv.DictReader(ran.stdout.splitlines())])
+        for row, copies in zip(found[0], (1, 2)):
+            self.assertEqual([row[name] for name in ("status", "written", "wrong_rows")], ["0", str(len(want)), "0"])
+            self.assertEqual(int(row["pins"]), 3 * copies)
+        self.assertIn("wrong", {one["status"] for one, _ in found})
+        self.assertEqual({two["wrong_rows"] for _, two in found}, {"0"})
+        self.assertIn("7", {two["status"] for _, two in found})
+
+    def test_schedule(self):
+        """Each fault of a set comes within the run, in the design's load, and some go again later."""
+        machine = texts.Machine((1, 1, 2, 3, 6, 6, 6, 6, 6, 6, 6, 6))
+        faults = make_faults(machine, {"open": 20, "wires": 6, "cells": 4, "registers": 2, "bridges": 3}, 5)
+        lines, entries, gone = schedule_text(machine, faults, 17, 40, 5).splitlines(), [], 0
+        for line in lines:
+            *times, entry = re.fullmatch(r"17\.(\d+)\.(\d+) (?:17\.(\d+)\.(\d+) )?([a-z].*)", line).groups()
+            begin, end = ([int(word) for word in pair if word] for pair in (times[:2], times[2:]))
+            self.assertTrue(begin[0] < 40 and (not end or begin < end and end[0] < 40), line)
+            gone += bool(end)
+            entries.append(entry)
+        self.assertEqual("\n".join([*entries, ""]), texts.faults_text(machine, faults))
+        self.assertTrue(0 < gone < len(lines))
+
+    def test_copies(self):
+        """A machine for two copies has what the plan of both wants, and a table less is too few."""
+        ran = run("size.py", "counter.blif", "--copies", "--modules", "1", "--chips", "1", "--hextants", "2", "--spare", "40%")
+        self.assertEqual(ran.returncode, 0, ran.stderr)
+        counts, design = texts.read_machine(ran.stdout.encode()).counts, f"{EXAMPLES}/counter.blif"
+        one = designs.plain_network(texts.read_text(texts.read_design, design))
+        self.assertGreaterEqual(2 * counts[3], 2 * len(one.tables))
+        self.assertEqual(counts_for(designs.side_by_side([one, one]), (1, 1, 2), 0.4)[3:], counts[3:])
+        machine = texts.Machine((*counts[:11], 5)).text.encode()
+        self.assertEqual(call(DEFAULT, "twice", machine, b"", design, b"").refusal[1:], ["noroom", "pins", "r", "6", "5"])
+        both = run("both.py", "counter.blif", "lfsr.blif").stdout.encode()
+        joint = designs.plain_network(texts.read_design(both))
+        other = designs.plain_network(texts.read_text(texts.read_design, f"{EXAMPLES}/lfsr.blif"))
+        self.assertEqual((joint.inputs, len(joint.tables), len(joint.outputs)), (5, len(one.tables) + len(other.tables), 8))
+        vectors = [format(self.chance.randrange(32), "05b") for _ in range(40)]
+        rows = [call(DEFAULT, "eval", f"{EXAMPLES}/{name}.blif", "".join(f"{vector[begin:end]}\n" for vector in vectors).encode()).rows
+                for name, begin, end in (("counter", 0, 1), ("lfsr", 1, 5))]  # fmt: skip
+        given = "".join(f"{vector}\n" for vector in vectors).encode()
+        self.assertEqual(call(DEFAULT, "eval", both, given).rows, [one + other for one, other in zip(*rows)])
 
     def test_picture(self):
         given = ["--faults", "tiny.faults", "--defects", "tiny.defects", "--image", "and.image", "--design", "and.blif"]

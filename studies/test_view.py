@@ -20,7 +20,7 @@ from plan import shortage
 from program import DEFAULT, HERE, call
 from size import compiles
 from test_studies import EXAMPLES, random_blif, run
-from view import PAGE_LIMIT, View, packed, page_of
+from view import PAGE_LIMIT, View, packed, page_of, walk_of
 
 try:
     from selenium import webdriver
@@ -109,7 +109,7 @@ class Made:
 def view_of(**words):
     """What a page has to show of these files."""
     given = {"faults": [], "defects": [], "image": [], "design": [], "part": [], "vectors": None, "rows": None, "refusal": None}
-    given |= {"study": None, "settings": None, "program": DEFAULT}
+    given |= {"study": None, "settings": None, "copies": False, "walk": None, "program": DEFAULT}
     return View(Namespace(**(given | words)))
 
 
@@ -375,6 +375,51 @@ class Page(unittest.TestCase):
         self.assertEqual(sorted(map(tuple, found))[-6:], sorted([("x", 0), ("y", 0), ("z", 0), ("x", 1), ("y", 1), ("z", 1)]))
         self.assertIn("all rows are those of eval", self.text("row-words"))
 
+    def test_twice(self):
+        """Two copies of a design are told apart, driven alike and compared: where they differ the page names the cycle."""
+        design, vectors = f"{EXAMPLES}/counter.blif", f"{EXAMPLES}/counter.vec"
+        self.assertEqual(run("both.py", design, "-o", f"{self.folder}/both.blif").returncode, 0)
+        machine = texts.read_text(texts.read_machine, self.small.machine)
+        image = compiles(DEFAULT, machine, texts.Defects(), Path(self.folder, "both.blif").read_bytes())
+        self.assertEqual(image.status, 0)
+        Path(self.folder, "both.image").write_bytes(image.written)
+        # The second copy's first output pin is stuck, which nothing of the first copy meets.
+        pin = machine.names[texts.read_image(machine, image.written).outputs[2]]
+        Path(self.folder, "both.faults").write_text(f"stuck0 {pin}\n", encoding="utf-8")
+        rows = call(DEFAULT, "eval", design, vectors).rows
+        Path(self.folder, "both.rows").write_bytes(b"outputs\n" + b"\n".join(rows[:1]) + b"\nrefused differ\n")
+        words = [self.small.machine, "--image", f"{self.folder}/both.image", "--vectors", vectors, "--design", design, "--copies"]
+        words += ["--faults", f"{self.folder}/both.faults", "--rows", f"{self.folder}/both.rows"]
+        self.assertEqual(run("view.py", *words, "-o", f"{self.folder}/both.html").returncode, 0)
+        self.open(f"{self.folder}/both.html")
+        names = [name for name, _ in self.asked("viewer.scene.nets.map(net => [net.name, net.design])")]
+        self.assertTrue({"high", "low", "up", "high'", "low'", "up'"} <= set(names), names)
+        self.assertEqual({net for net, copy in self.asked("viewer.scene.nets.map(net => [net.name, net.design])") if copy} & {"up", "up'"}, {"up'"})
+        first = next(k for k, row in enumerate(rows) if row[:1] == b"1")
+        self.assertIn(f"the copies differ in cycle {first}", self.text("row-words"))
+        before = self.asked("viewer.vectors[0]")
+        self.asked("(viewer.turnInput(1, 0), 1)")
+        self.assertEqual(self.asked("viewer.vectors[0]"), "".join("10"[int(bit)] for bit in before))
+        self.assertNotEqual(run("view.py", self.small.machine, "--copies", "-o", f"{self.folder}/none.html").returncode, 0)
+
+    def test_walk(self):
+        """A walk begins at its first step; a button goes to the next one, and to its cycle."""
+        Path(self.folder, "steps").write_text("r.l3: a line\nq[0] @5: a net\nm0.c0: a chip\n", encoding="utf-8")
+        ran = run("view.py", *self.small.words, "--walk", f"{self.folder}/steps", "-o", f"{self.folder}/walk.html")
+        self.assertEqual(ran.returncode, 0, ran.stderr)
+        self.open(f"{self.folder}/walk.html")
+        self.assertIn("a line", self.text("walk"))
+        self.assertEqual(self.asked("viewer.state.selection"), {"kind": "wire", "at": 19})
+        on, back = (f"[data-do={deed}]" for deed in ("step-on", "step-back"))
+        self.browser.find_element(By.CSS_SELECTOR, on).click()
+        self.assertIn("2 of 3", self.text("walk"))
+        self.assertEqual(self.asked("[viewer.state.cycle, viewer.state.selection.kind, viewer.state.showsValues]"), [5, "net", True])
+        for step, deed in ((3, on), (3, on), (2, back)):
+            self.browser.find_element(By.CSS_SELECTOR, deed).click()
+            self.assertIn(f"{step} of 3", self.text("walk"))
+        ran = run("view.py", self.small.machine, "--walk", f"{self.small.name}.rows")
+        self.assertIn("isn't PLACE: words", ran.stderr)
+
     def test_study(self):
         """The runs of a study, failed ones first; a click shows the faults of that run, made anew."""
         rows = f"{self.folder}/rows.csv"
@@ -404,6 +449,26 @@ class Page(unittest.TestCase):
         self.text("summary")
         times = [lost.count(cross) for cross in set(lost)]
         right = {"seldom": times.count(1), "often": times.count(2), "mostly": sum(count > 2 for count in times)}
+        self.assertEqual(self.asked("viewer.scene.marks.counts()"), {name: count for name, count in right.items() if count})
+
+    def test_images(self):
+        """Several images: how many crosspoints and tables one of them uses, several, and half or more."""
+        machine, used, words = texts.read_text(texts.read_machine, self.small.machine), [], []
+        for seed in range(5):
+            defects = texts.exact_list(machine, make_faults(machine, {"open": 0.1}, seed))
+            image = compiles(DEFAULT, machine, defects, self.small.design)
+            Path(self.folder, f"laid{seed}").write_bytes(image.written)
+            read = texts.read_image(machine, image.written)
+            used += [("cross", cross) for cross in read.crosses] + [("table", table) for table, *_ in read.tables]
+            used += [("wire", wire) for wire in read.net_of(machine)]
+            words.append(f"{self.folder}/laid{seed}")
+        ran = run("view.py", self.small.machine, "--image", *words, "--design", self.small.design, "-o", f"{self.folder}/laid.html")
+        self.assertEqual(ran.returncode, 0, ran.stderr)
+        self.open(f"{self.folder}/laid.html")
+        self.browser.find_element(By.CSS_SELECTOR, "[data-show=used]").click()
+        self.text("summary")
+        times = [used.count(part) for part in set(used)]
+        right = {"once": times.count(1), "several": times.count(2), "most": sum(count > 2 for count in times)}
         self.assertEqual(self.asked("viewer.scene.marks.counts()"), {name: count for name, count in right.items() if count})
 
     def test_speed(self):
@@ -444,11 +509,30 @@ class Words(unittest.TestCase):
             if refusal[1:3] != ["noroom", "lines"]:
                 continue
             read = texts.read_design(design)
-            found = shortage(machine, defects, read, designs.plain_network(read), refusal)
+            found = shortage(machine, defects, designs.plain_network(read), ["".join(signal) for signal in read.inputs], refusal)
             serving = {line for net in found["nets"] for line in net["serving"]}
             self.assertEqual([len(found["nets"]), len(serving)], [int(word) for word in refusal[4:6]])
             seen += 1
         self.assertGreater(seen, TURNS)
+
+    def test_shortage_of_copies(self):
+        """The same of what `twice` says, whose nets are those of two copies."""
+        chance, seen = random.Random(3), 0
+        for turn in range(6 * TURNS):
+            counts = [1, 1, 2, 6, *(chance.randint(8, 12) for _ in range(3)), *(chance.randint(4, 9) for _ in range(4)), 18]
+            machine, design = texts.Machine(counts), random_blif(chance, covers=3, latches=1).encode()
+            faults = texts.faults_text(machine, make_faults(machine, {"open": 0.03}, turn)).encode()
+            answer = call(DEFAULT, "twice", machine.text.encode(), faults, design, b"")
+            if answer.refusal[1:3] != ["noroom", "lines"]:
+                continue
+            read = texts.read_design(design)
+            network = designs.side_by_side([designs.plain_network(read)] * 2)
+            names = [f"{k}{''.join(signal)}" for k in range(2) for signal in read.inputs]
+            found = shortage(machine, texts.read_defects(machine, answer.defects), network, names, answer.refusal)
+            serving = {line for net in found["nets"] for line in net["serving"]}
+            self.assertEqual([len(found["nets"]), len(serving)], [int(word) for word in answer.refusal[4:6]])
+            seen += 1
+        self.assertGreater(seen, TURNS // 4)
 
     def test_large(self):
         """A page that would be too long has the crosspoints of named parts, counts of all others, and says so."""
@@ -466,6 +550,15 @@ class Words(unittest.TestCase):
         self.assertEqual(scene["faults"]["open"], packed(sorted(inside)))
         self.assertEqual(sum(of["open"] for of in scene["counted"].values()), len(faults["open"]) - len(inside))
         self.assertIn("m0.c1, and of all others how many are bad", " ".join(data["left"]))
+
+    def test_walks(self):
+        """Each step of the walk that is ready to open names a part of the machine or a net, and what it says stands on the page."""
+        machine = texts.read_text(texts.read_machine, f"{EXAMPLES}/tiny.machine")
+        text = Path(HERE, "../docs/pages/tiny.html").read_text(encoding="utf-8")
+        steps = walk_of(Path(HERE, "../docs/pages/tiny.walk"))
+        self.assertEqual(json.loads(text.split('id="data">')[1].split("</script>")[0])["walk"], steps)
+        known = {*machine.names, *machine.table_names, *(node.name for node in machine.nodes), "a", "b", "y", "open"}
+        self.assertEqual([step["place"] for step in steps if not set(step["place"].split()) <= known], [])
 
     def test_pages(self):
         """The pages that are ready to open have the scripts of today, and are within the limit."""

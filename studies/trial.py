@@ -14,15 +14,17 @@ from pathlib import Path
 
 import designs
 import teramac_texts as texts
+from at_work import run_at_work, schedule_text
 from faults import KINDS, SHAPES, add_clusters, amount, make_faults
 from program import HERE, MAPPER, REPORT, add_program, call
 
 COLUMNS = (
     "machine crosspoints kind rate seed faults design list status refusal listed_wires listed_crosses listed_tables thrown_wires "
     "thrown_crosses thrown_tables tables nets crossings closed seconds diagnose_seconds loads loads_sweep loads_growth loads_tables "
-    "cycles cycles_sweep cycles_growth cycles_tables spare spared"
+    "cycles cycles_sweep cycles_growth cycles_tables spare spared pins written wrong_rows"
 ).split()
-LISTS = ("exact", "diagnosed", "mapped", "wires", "hextants", "none", "triplicated", "triplicated_pins")
+AT_WORK = ("go", "twice")  # the faults come while the design runs
+LISTS = ("exact", "diagnosed", "mapped", "wires", "hextants", "none", "triplicated", "triplicated_pins", *AT_WORK)
 UNDIAGNOSED = ("none", "triplicated", "triplicated_pins")
 NO_RUN = (1, 2, 4, 5)  # which say nothing of room: wrong texts or words, a rig, a store or an output that failed
 
@@ -142,10 +144,36 @@ class Trial:
         costs = [(cost + part.replace(" ", "_"), many) for part, *counts in told for cost, many in zip(("loads", "cycles"), counts)]
         return {name: int(many) for name, many in costs if many and name in COLUMNS} if answer.status == 0 else {}
 
+    def load_of_design(self):
+        """The number of the load behind a diagnosis of the sound machine."""
+        answer = call(self.args.report, self.args.machine, b"", seconds=self.args.seconds)
+        return 1 + int(re.search(rb"^diagnosis loads (\d+)", answer.written, re.MULTILINE)[1])
+
+    def at_work_rows(self, command):
+        """`go` or `twice`, where the faults come while the design runs; rows that are wrong are counted."""
+        load = self.load_of_design()
+        for name, design, vectors in self.args.designs:
+            want = self.call("eval", design, vectors).rows
+            schedule = schedule_text(self.machine, self.faults, load, len(want), self.args.seed)
+            words = command, self.args.machine, schedule, design, vectors
+            answer, sessions = run_at_work(self.args.port, *words, seconds=self.args.seconds)
+            rows, more = answer.rows[: -len(answer.refusal) or None], {}
+            if answer.status in NO_RUN or (answer.status in (0, 7) and sessions.loads != load):
+                sys.exit(f"{command} on {self.head['machine']}: status {answer.status} after {sessions.loads} loads; no run")
+            if answer.status in (0, 7):
+                read, last, copies = texts.read_text(texts.read_design, design), sessions.last, 2 if command == "twice" else 1
+                more = {"tables": len(last.tables), "closed": len(last.closed), "pins": copies * len(read.inputs + read.outputs)}
+                more |= {"written": len(rows), "wrong_rows": sum(one != other for one, other in zip(rows, want))}
+            row = self.row(name, command, None, answer, **more)
+            yield row | ({"status": "wrong"} if more.get("wrong_rows") else {})
+
     def rows(self):
         for kind in self.args.lists:
             if kind == "diagnosed":
                 yield from self.diagnosed_rows()
+                continue
+            if kind in AT_WORK:
+                yield from self.at_work_rows(kind)
                 continue
             listed = texts.defects_text(self.machine, self.LISTED.get(kind, lambda *_: texts.Defects())(self.machine, self.faults)).encode()
             for name, design, vectors in self.args.designs:
@@ -190,7 +218,7 @@ def main():
     parser.add_argument("--lists", default="exact,diagnosed", help=f"of {','.join(LISTS)} (default: %(default)s)")
     parser.add_argument("--seconds", type=float, default=600, help="no call takes longer; it is cut off (default: 600)")
     parser.add_argument("--report", default=REPORT, help="the built teramac_report, which tells loads; '' for none (default: %(default)s)")
-    parser.add_argument("--port", default="", help="the built teramac_port, by which cycles are counted (default: none)")
+    parser.add_argument("--port", default="", help="the built teramac_port, by which cycles are counted, for go and twice (default: none)")
     parser.add_argument("--name", help="the machine's name in the table (default: its file's)")
     parser.add_argument("--spare", type=float, help="what the machine has to spare, for the table")
     parser.add_argument("--spared", default="", help="of what: all or lines, for the table")
@@ -204,6 +232,8 @@ def main():
     args.lists = args.lists.split(",")
     if not set(args.lists) <= set(LISTS if args.mapper else LISTS[:2] + LISTS[3:]):
         sys.exit(f"--lists: some of {', '.join(LISTS)}; mapped wants teramac_map, built or named by --mapper")
+    if not set(args.lists).isdisjoint(AT_WORK) and not (args.port and args.report):
+        sys.exit("--lists: go and twice want teramac_port and teramac_report, named by --port and --report")
     try:
         rows = list(Trial(args).rows())
     except ValueError as error:

@@ -2,7 +2,7 @@
 """One HTML file to look at a machine, for any browser and without a server: its crossbars, defects by cause, nets, and cycles.
 
 Two lists or two images are shown side by side or as their difference, several sets of faults together; two designs are those of a
-`pair`. Without a part that is named by --part the page of a large machine has counts alone where it would be too long, and says so.
+`pair`, and with --copies one is that of a `twice`. Without a part that is named by --part the page of a large machine has counts alone where it would be too long, and says so.
 """
 
 import argparse
@@ -121,10 +121,22 @@ def vectors_of(path, outputs):
         sys.exit(f"{path}: {error.strerror}")
 
 
+def walk_of(path):
+    """The steps of a walk, from lines `PLACE: words` or `PLACE @CYCLE: words`."""
+    try:
+        lines = [line for line in Path(path).read_text(encoding="utf-8").splitlines() if line]
+    except (OSError, UnicodeDecodeError) as error:
+        sys.exit(f"{path}: {error}")
+    steps = [re.fullmatch(r"([^:@]+?)(?: @(\d+))?: (.+)", line) for line in lines]
+    if None in steps:
+        sys.exit(f"{path}: {lines[steps.index(None)]!r} isn't PLACE: words, or PLACE @CYCLE: words")
+    return [{"place": step[1], "cycle": None if step[2] is None else int(step[2]), "words": step[3]} for step in steps]
+
+
 def rows_of(path):
     """The rows of what `run`, `go` or `eval` wrote."""
     try:
-        return Path(path).read_text(encoding="ascii").rsplit("outputs\n", 1)[-1].split()
+        return Path(path).read_text(encoding="ascii").rsplit("outputs\n", 1)[-1].partition("refused ")[0].split()
     except (OSError, UnicodeDecodeError) as error:
         sys.exit(f"{path}: {error}")
 
@@ -141,6 +153,11 @@ def expected_rows(program, paths, read, vectors):
         rows = [row + more.decode().replace(".", "") for row, more in zip(rows, answer.rows)]
         first = last
     return [row or "." for row in rows]
+
+
+def doubled(lines):
+    """Vectors or rows of one copy as those of two that are alike."""
+    return [line if line == "." else 2 * line for line in lines]
 
 
 class Study:
@@ -199,7 +216,9 @@ class View:
             if len(found) not in (0, 1, self.count):
                 sys.exit(f"--{name}: one file, or one for each of the {self.count}")
         self.read = {name: found * (self.count // max(1, len(found))) for name, found in read.items()}
-        self.designs = [checked_design(args.program, path) for path in args.design]
+        if args.copies and len(args.design) != 1:
+            sys.exit("--copies: of one design, and --design names none or several")
+        self.designs = [checked_design(args.program, path) for path in args.design] * (2 if args.copies else 1)
         self.check_pins()
         self.left = []
         nets = {name for net in args.part for name in self.nodes_of_net(net)}
@@ -214,7 +233,9 @@ class View:
         return [texts.read_text(partial(reader, self.machine), path) for path in getattr(self.args, name)]
 
     def names(self, which):
-        return ["".join(signal) for design in self.designs for signal in getattr(design, which)]
+        """Names of all inputs or outputs; those of a second copy are marked."""
+        marks = ["", "'" * self.args.copies]
+        return ["".join(signal) + mark for design, mark in zip(self.designs, marks) for signal in getattr(design, which)]
 
     def check_pins(self):
         for path, image in zip(self.args.image, self.read["image"]):
@@ -241,10 +262,10 @@ class View:
             return None
         if words[:2] != ["refused", "noroom"] or len(words) < 6:
             sys.exit("--refusal: a line `refused noroom RESOURCE NODE NEED HAVE ..`")
-        design = self.designs[0] if len(self.designs) == 1 else None
+        network = designs.side_by_side([*map(designs.plain_network, self.designs)]) if self.designs else None
         defects = self.read["defects"][0] if self.read["defects"] else texts.Defects()
         try:
-            found = shortage(self.machine, defects, design, design and designs.plain_network(design), words)
+            found = shortage(self.machine, defects, network, self.names("inputs"), words)
         except ValueError as error:
             sys.exit(f"--refusal: {error}")
         self.parts.names.append(found["node"])
@@ -268,6 +289,7 @@ class View:
         """All that the page has to know."""
         split = [len(self.designs[0].inputs), len(self.designs[0].outputs)] if len(self.designs) == 2 else None
         found = {"title": os.path.basename(self.args.machine), "counts": self.machine.counts, "split": split, "refusal": self.refusal}
+        found |= {"copies": self.args.copies, "walk": walk_of(self.args.walk) if self.args.walk else []}
         found |= {"inputs": self.names("inputs"), "outputs": self.names("outputs"), "vectors": [], "expected": [], "rows": [], "left": []}
         if self.args.vectors:
             found["vectors"], found["left"] = vectors_of(self.args.vectors, len(self.names("outputs")))
@@ -275,6 +297,8 @@ class View:
                 found["expected"] = expected_rows(self.args.program, self.args.design, self.designs, found["vectors"])
         if self.args.rows:
             found["rows"] = rows_of(self.args.rows)[: len(found["vectors"])]
+        if self.args.copies:
+            found |= {name: doubled(found[name]) for name in ("vectors", "expected", "rows")}
         found["scenes"] = [self.scene(number) for number in range(self.count)]
         if self.args.study:
             found["study"] = Study(self.args.study, self.args.settings, Path(self.args.machine).stem).sent(self.machine, self.parts)
@@ -321,12 +345,14 @@ def main():
     several = {"nargs": "+", "default": []}
     parser.add_argument("--faults", **several, metavar="FILE", help="the file of its faults, or several to see what is lost how often")
     parser.add_argument("--defects", **several, metavar="FILE", help="a list of defects, or two to compare")
-    parser.add_argument("--image", **several, metavar="FILE", help="an image, or two to compare")
+    parser.add_argument("--image", **several, metavar="FILE", help="an image, two to compare, or several to see what is used how often")
     parser.add_argument("--design", **several, metavar="FILE", help="the BLIF file of the image's design; two of a pair")
+    parser.add_argument("--copies", action="store_true", help="the image has two copies of the design, as `twice` lays it")
     parser.add_argument("--vectors", metavar="FILE", help="vectors, by which the page simulates the machine")
     parser.add_argument("--rows", metavar="FILE", help="what `run` wrote, to be compared")
     parser.add_argument("--part", **several, metavar="NAME", help="of a large machine: nodes, or nets by their pins, to be seen in full")
     parser.add_argument("--refusal", metavar="LINE", help="a line `refused noroom ..`, whose crossbar is shown with its nets")
+    parser.add_argument("--walk", metavar="FILE", help="steps through the page: a line each, a part or net, then `: ` and what is said there")
     parser.add_argument("--study", metavar="FILE", help="rows.csv of a study, whose runs on this machine are listed")
     parser.add_argument("--settings", metavar="FILE", help="that study's settings, where its kinds of faults have names")
     parser.add_argument("-o", "--output", default="-", help="a new file (default: standard output)")

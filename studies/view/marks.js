@@ -19,6 +19,9 @@ const CAUSES = {
   seldom: { words: "lost in one set of faults", colour: "#e0b050", shape: "ring", dash: [1, 5], letter: "1" },
   often: { words: "lost in several", colour: "#d07020", shape: "triangle", dash: [7, 4], letter: "2" },
   mostly: { words: "lost in half of them or more", colour: "#902010", shape: "square", dash: [], letter: "3" },
+  once: { words: "used by one image", colour: "#8fb8de", shape: "ring", dash: [1, 5], letter: "1" },
+  several: { words: "used by several", colour: "#3f7fbf", shape: "triangle", dash: [7, 4], letter: "2" },
+  most: { words: "used by half of them or more", colour: "#1c3f73", shape: "square", dash: [], letter: "3" },
 };
 
 class Marks {

@@ -105,6 +105,8 @@ const DEEDS = {
   right: () => viewer.pan(PAN, 0),
   above: () => viewer.pan(0, -PAN),
   below: () => viewer.pan(0, PAN),
+  "step-back": () => viewer.goToStep(viewer.state.step - 1),
+  "step-on": () => viewer.goToStep(viewer.state.step + 1),
   next: () => nextNet(1),
   last: () => nextNet(-1),
   search: () => search.focus(),
@@ -179,7 +181,8 @@ function listen() {
 function begin() {
   const { data, scenes } = viewer, own = scenes.map(({ name }, k) => [String(k), name]);
   const isCompared = scenes.length === 2 && scenes.every(({ image, list }) => image || list);
-  const more = isCompared ? [["both", "side by side"], ["difference", "difference"]] : [["overlay", "all together"]];
+  const together = [["overlay", "all together"], ...scenes.every(({ image }) => image) ? [["used", "used how often"]] : []];
+  const more = isCompared ? [["both", "side by side"], ["difference", "difference"]] : together;
   const shown = scenes.length > 1 ? [...own, ...more] : [];
   document.title = `${data.title} - teramac`;
   document.getElementById("title").textContent = data.title;
@@ -187,6 +190,7 @@ function begin() {
   document.getElementById("scenes").innerHTML = buttons.join("");
   listen();
   goToAddress();
+  if (data.walk.length && !location.hash) viewer.goToStep(0);
   viewer.paintNow();
   viewer.readyAfter = performance.now();
 }

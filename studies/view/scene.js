@@ -327,18 +327,27 @@ function sidesInWords(first, second) {
   return `${moved} of ${second.nets.length} nets lie otherwise, ${movedPins} pins moved.`;
 }
 
-// How often each part is lost among several sets of faults.
+// How often each part is lost among several sets of faults, or used by several images.
+const OVERLAYS = {
+  lost: { causes: ["seldom", "often", "mostly"], of: "sets of faults", parts: scene => scene.marks.kinds },
+  used: {
+    causes: ["once", "several", "most"],
+    of: "images",
+    parts: scene => ({ ...usedParts(scene.image), wire: new Set(scene.nets.flatMap(net => net.wires)) }),
+  },
+};
+
 class Overlay extends Scene {
-  constructor(machine, scenes, names) {
-    super(machine, { name: "all sets of faults" }, names);
-    const counts = { wire: new Map(), cross: new Map(), table: new Map() };
-    for (const { marks } of scenes) {
-      for (const kind in counts) for (const at of marks.kinds[kind].keys()) counts[kind].set(at, (counts[kind].get(at) || 0) + 1);
+  constructor(machine, scenes, names, what) {
+    super(machine, { name: `all ${OVERLAYS[what].of}` }, names);
+    const counts = { wire: new Map(), cross: new Map(), table: new Map() }, { causes, of, parts } = OVERLAYS[what];
+    for (const found of scenes.map(parts)) {
+      for (const kind in counts) for (const at of found[kind].keys()) counts[kind].set(at, (counts[kind].get(at) || 0) + 1);
     }
     for (const kind in counts) {
       for (const [at, count] of counts[kind]) {
-        const cause = count === 1 ? "seldom" : 2 * count < scenes.length ? "often" : "mostly";
-        this.marks.add(kind, at, cause, `lost in ${count} of ${scenes.length} sets of faults`);
+        const cause = causes[count === 1 ? 0 : 2 * count < scenes.length ? 1 : 2];
+        this.marks.add(kind, at, cause, `${what} in ${count} of ${scenes.length} ${of}`);
       }
     }
   }

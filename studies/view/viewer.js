@@ -10,10 +10,10 @@ class Viewer {
     this.machine = new Machine(data.counts);
     measure(this.machine.root);
     place(this.machine.root, 0, 0);
-    this.names = { inputs: data.inputs, outputs: data.outputs, split: data.split };
+    this.names = { inputs: data.inputs, outputs: data.outputs, split: data.split, of: data.copies ? "copy" : "design" };
     this.scenes = data.scenes.map(sent => new Scene(this.machine, sent, this.names));
     this.runScenes = new Map();
-    this.state = { selection: null, hidden: new Set(), showsValues: false, cycle: 0, tick: -1, show: "0", values: null,
+    this.state = { selection: null, hidden: new Set(), showsValues: false, cycle: 0, tick: -1, show: "0", values: null, step: 0,
       wanting: data.refusal?.nets ?? [] };
     this.vectors = [...data.vectors];
     this.off = [];
@@ -26,12 +26,13 @@ class Viewer {
     this.isDue = false;
   }
 
-  // Which scenes are painted, and which one the panels speak of: "0", "1", "both", "difference", "run 3", "overlay".
+  // Which scenes are painted, and which one the panels speak of: "0", "1", "both", "difference", "run 3", "overlay", "used".
   show(word) {
     const run = /^run ([0-9]+)$/.exec(word), { scenes } = this;
     if (word === "both") this.shown = scenes.slice(0, 2);
     else if (word === "difference") this.shown = [this.difference ??= new Difference(scenes[0], scenes[1])];
-    else if (word === "overlay") this.shown = [this.overlay ??= this.overlaid()];
+    else if (word === "overlay") this.shown = [this.overlay ??= this.overlaid("lost")];
+    else if (word === "used" && scenes.every(({ image }) => image)) this.shown = [this.used ??= this.overlaid("used")];
     else if (run && this.data.study?.runs[run[1]]) this.shown = [this.runScene(Number(run[1]))];
     else this.shown = [scenes[word] ?? scenes[0]];
     this.state.show = word;
@@ -42,10 +43,10 @@ class Viewer {
     this.simulate(0);
   }
 
-  // All sets of faults together: those of a study's runs, or of the files that were given.
-  overlaid() {
+  // All sets of faults together, those of a study's runs or of the files that were given; or what all images use.
+  overlaid(what) {
     const { study } = this.data, scenes = study ? study.runs.map((_, k) => this.runScene(k)) : this.scenes;
-    return new Overlay(this.machine, scenes, this.names);
+    return new Overlay(this.machine, what === "used" ? this.scenes : scenes, this.names, what);
   }
 
   // The machine of a run of a study, made when it is looked at.
@@ -100,9 +101,10 @@ class Viewer {
     this.setTick(next > ticks ? -1 : next);
   }
 
+  // Of two copies both are driven alike.
   turnInput(input, cycle) {
-    const bits = [...this.vectors[cycle]];
-    bits[input] = bits[input] === "1" ? "0" : "1";
+    const bits = [...this.vectors[cycle]], half = this.data.copies ? this.data.split[0] : 0;
+    for (const at of half ? [input % half, input % half + half] : [input]) bits[at] = bits[at] === "1" ? "0" : "1";
     this.vectors[cycle] = bits.join("");
     this.isChanged = true;
     this.state.cycle = cycle;
@@ -215,6 +217,17 @@ class Viewer {
     return found !== null;
   }
 
+  // A step of the walk: goes to its place, and to its cycle if it has one.
+  goToStep(step) {
+    const { walk } = this.data, { state } = this;
+    if (!walk[step]) return;
+    state.step = step;
+    this.find(walk[step].place);
+    state.showsValues = document.getElementById("values").checked = walk[step].cycle !== null;
+    if (walk[step].cycle !== null) this.setCycle(walk[step].cycle);
+    this.refresh();
+  }
+
   // Panels and picture anew, once for all changes of one moment.
   refresh() {
     this.panelsDue = true;
@@ -238,6 +251,7 @@ class Viewer {
   panels() {
     const { words } = this, set = (name, html) => { document.getElementById(name).innerHTML = html; };
     set("summary", words.summary());
+    set("walk", words.walk());
     set("causes", words.causes());
     set("selected", words.selection());
     set("nets", words.nets());

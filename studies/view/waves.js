@@ -111,12 +111,19 @@ class Waves {
     [range.max, range.value] = [Math.max(0, vectors.length - WINDOW), run.first];
   }
 
+  // The first cycle in which two copies read differently: there `twice` ends.
+  copies() {
+    const { run, data } = this.viewer, half = data.split[1];
+    const first = run.rows.findIndex(row => row.slice(0, half) !== row.slice(half));
+    return first < 0 ? "the copies read alike" : `<mark><a href="#" data-cycle="${first}">the copies differ in cycle ${first}</a></mark>`;
+  }
+
   // How many rows differ from those of `eval` and from those that were given.
   compared() {
-    const { viewer } = this, { run, data } = viewer, words = [];
+    const { viewer } = this, { run, data } = viewer, words = data.copies ? [this.copies()] : [];
     if (viewer.isChanged) return "<mark>inputs were changed</mark>, so rows are compared with a sound machine's";
     const count = rows => run.rows.findIndex((row, k) => rows[k] !== undefined && rows[k] !== row);
-    for (const [rows, of] of [[data.expected, "eval"], [viewer.off.length ? [] : data.rows, "run"]]) {
+    for (const [rows, of] of [[data.expected, "eval"], [viewer.off.length ? [] : data.rows, data.copies ? "twice" : "run"]]) {
       if (!rows.length) continue;
       const first = count(rows), bad = run.rows.filter((row, k) => rows[k] !== undefined && rows[k] !== row).length;
       const differ = `${many(bad, "row")} differ from ${of}, the first in cycle ${first}`;

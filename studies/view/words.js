@@ -57,6 +57,15 @@ class Words {
     return `<p class="small">${parts.join(", ")}</p>${short}${left}${paragraph(scene.words)}`;
   }
 
+  // The step of the walk at hand, with the way to those before and behind it.
+  walk() {
+    const { data: { walk }, state: { step } } = this.viewer;
+    if (!walk.length) return "";
+    const button = (deed, words) => `<button data-do="${deed}" title="${words}">${deed === "step-on" ? "▸" : "◂"}</button>`;
+    return `<h3>A walk</h3><p>${escaped(walk[step].words)}</p><p class="small">${button("step-back", "the step before")} `
+      + `${step + 1} of ${walk.length} ${button("step-on", "the next step")}</p>`;
+  }
+
   // How many parts have each cause; of crosspoints that were left out the number alone is known.
   causes() {
     const { scene } = this, { hidden } = this.viewer.state, here = scene.marks.counts(), all = { ...here };
@@ -172,7 +181,7 @@ class Words {
   netWords(number) {
     const { scene } = this, net = scene.nets[number], since = this.viewer.differs?.since.get(number);
     const also = net.also.slice(1).length ? `, also ${net.also.slice(1).map(escaped).join(", ")}` : "";
-    const design = scene.names.split ? `, of the ${net.design ? "second" : "first"} design` : "";
+    const design = scene.names.split ? `, of the ${net.design ? "second" : "first"} ${scene.names.of}` : "";
     const differs = since === undefined ? "" : paragraph(`<mark>reads other than on a sound machine from cycle ${since} on</mark>`);
     return `<h4>net ${escaped(net.name)} <small>${number}${also}${design}</small></h4>${differs}${this.tree(number)}`;
   }
@@ -223,7 +232,8 @@ class Words {
     const style = net => `border-color:${netColour(scene, net, false)};color:${netColour(scene, net, true)}`;
     const spot = net => `<a href="#" data-pick="net ${net.number}" style="${style(net)}">${escaped(net.name)}</a>`;
     const shown = scene.nets.slice(0, 600), of = design => shown.filter(net => net.design === design).map(spot).join(" ");
-    const lists = scene.names.split ? `<p class="small">the first design</p>${of(0)}<p class="small">the second design</p>${of(1)}` : of(0);
+    const kind = scene.names.of, told = ["first", "second"].map((which, k) => `<p class="small">the ${which} ${kind}</p>${of(k)}`);
+    const lists = scene.names.split ? told.join("") : of(0);
     const more = scene.nets.length > 600 ? paragraph(`and ${scene.nets.length - 600} more: search for them by name`) : "";
     return `<h3>Nets</h3>${this.doubt()}${viewer.run ? this.differing() : ""}<div class="nets">${lists}</div>${more}`;
   }

@@ -91,7 +91,7 @@ module _ (d : DefectList) (draft : NetlistData) (image : ImageValue) (is : IsIma
     backs : take (length rows) (map (drop m) raw) ≡ rows
     backs = take-map (drop m) (length rows) raw ∙ (ap (map (drop m)) readings ∙ backs-are m rows rows-wide)
 
-    one-copy : AreRightWhileOneIsAlone rig image is.both.first_image is.both.second_image draft driven rows
+    pub one-copy : AreRightWhileOneIsAlone rig image is.both.first_image is.both.second_image draft driven rows
     one-copy h (inl left) ran =
         let r = first-right d draft draft image is.both (all_repeated Two driven) raw rig widths drives refl (is.both.first_right clean (covers_none clean_faultless)) h (length rows) left ran in
         (r.0, subst (λ (vs : List (List Bool)). AreRows draft vs r.0) (fronts-are n driven wide) r.1, sym fronts ∙ r.2)
@@ -99,12 +99,13 @@ module _ (d : DefectList) (draft : NetlistData) (image : ImageValue) (is : IsIma
         let r = second-right d draft draft image is.both (all_repeated Two driven) raw rig widths drives refl (is.both.second_right clean (covers_none clean_faultless)) h (length rows) left ran in
         (r.0, subst (λ (vs : List (List Bool)). AreRows draft vs r.0) (backs-are n driven wide) r.1, sym backs ∙ r.2)
 
-    outputs : (f : Faults) → Explains f rig → AreFirstRows draft driven rows
+    pub outputs : (f : Faults) → Explains f rig → AreFirstRows draft driven rows
     outputs f e =
         let r = front-rows draft driven raw wide (both-rows f e) in
         (r.0, r.1, sym fronts ∙ ap (take (length rows)) r.2)
 
-    pub read-by-both : AreReadByBoth d draft driven rows rig
+    -- its image is this one
+    abbrev pub read-by-both : AreReadByBoth d draft driven rows rig
     read-by-both = record {
       image = image;
       laid = is.both;

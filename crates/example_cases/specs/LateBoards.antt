@@ -1,8 +1,8 @@
 -- What a board means that changes at a load.
-use Rattle.std.specs.Prelude.{◌≡◌, ℕ, Bool, true, Option, None, option_map}
+use Rattle.std.specs.Prelude.{◌≡◌, ℕ, Bool, true, Option, Some, None}
 use Rattle.machine_shape.specs.declared.Shape.{Shape}
-use Rattle.machine_shape.specs.Shape.{pins_of}
-use Rattle.rig.specs.Rig.{RigState, width_of}
+use Rattle.machine_config.specs.Configuration.{Configuration}
+use Rattle.rig.specs.Rig.{RigState, config_of}
 use Rattle.rig_board.specs.Boards.{BoardState}
 
 -- the shape that was found, whether a configuration was set up, and its count of failures
@@ -15,6 +15,12 @@ pub record Late : Type 0 where
 abbrev pub late_state : Late → BoardState
 late_state b = record { found = b.found; in_session = b.is_set; device = None; failures = b.failures }
 
--- where a configuration was set up, its rig has a session of a machine with as many pins
+-- its rig has a session, with a configuration of the shape that was found
+pub record HasSession (found : Option Shape) (rig : RigState) : Type 0 where
+  pub loaded : Configuration
+  pub config : config_of rig ≡ Some loaded
+  pub shape : found ≡ Some loaded.shape
+
+-- so it is where a configuration was set up
 abbrev pub IsDrivable : Option Shape → Bool → RigState → Type 0
-IsDrivable found is_set rig = is_set ≡ true → width_of rig ≡ option_map pins_of found
+IsDrivable found is_set rig = is_set ≡ true → HasSession found rig

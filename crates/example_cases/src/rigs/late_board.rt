@@ -69,6 +69,22 @@ fn begin_anew<R: Rig>(rig: &mut R, config: &Config, name: &str) -> Result<(), Ri
     rig.load(config, ROOM)
 }
 
+// The machine of the one name or of the other.
+fn begin_as<R: Rig>(
+    rig: &mut R,
+    config: &Config,
+    is_late: bool,
+    late: &str,
+    name: &str,
+) -> Result<(), RigFail>
+    ensures { OnOk result (config_of (R.rig_state rig.new) ≡ Some config.now.config) }
+{
+    if is_late {
+        return begin_anew(rig, config, late);
+    }
+    begin_anew(rig, config, name)
+}
+
 impl<R: Rig> Board for LateBoard<R> {
     ghost board_state = { late_state };
 
@@ -90,11 +106,10 @@ impl<R: Rig> Board for LateBoard<R> {
         let failures = self.failures;
         self.is_set = false;
         self.loads = self.loads.saturating_add(1);
-        let begun = if self.from <= self.loads {
-            begin_anew(&mut self.inner, config, self.late.as_str())
-        } else {
-            begin_anew(&mut self.inner, config, self.name.as_str())
-        };
+        let is_late = self.from <= self.loads;
+        let late = self.late.as_str();
+        let name = self.name.as_str();
+        let begun = begin_as(&mut self.inner, config, is_late, late, name);
         match begun {
             Ok(()) => {
                 self.is_set = true;

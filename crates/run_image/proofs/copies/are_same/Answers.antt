@@ -1,5 +1,5 @@
 use Rattle.std.proofs.lemmas.Slice.Eq.{slice_eq-Decides}
-use Rattle.core.specs.Cmp.{booleans_Decides}
+use Rattle.std.specs.Cmp.{booleans_Decides}
 use Rattle.run_image.proofs.copies.are_same.Goals as goal
 
 pub returns : goal.returns
