@@ -1,5 +1,5 @@
 -- How the rows of an image go on, and how they stop.
-use Rattle.std.proofs.Common.{◌≡◌, ◌⊎◌, ℕ, zero, suc, ◌+◌, ◌-◌, ◌<◌, ◌≤◌, ◌==◌, Bool, true, false, List, [], ◌∷◌, ◌++◌, length, map, take, drop, flat_map, min, Option, None, Some, IfSome, arith, refl, sym, ap, subst, inl, inr, ◌∙◌, append-nil, append_assoc, length-append, if◌then◌else◌, Result, Ok, Err}
+use Rattle.std.proofs.Common.{◌≡◌, ◌⊎◌, ℕ, zero, suc, ◌+◌, ◌-◌, ◌<◌, ◌≤◌, ◌==◌, Bool, true, false, List, [], ◌∷◌, ◌++◌, length, map, take, drop, flat_map, min, Option, None, Some, IfSome, arith, refl, sym, ap, subst, inl, inr, ◌∙◌, append-nil, append_assoc, length-append, if◌then◌else◌, option_map, OnOk, IfErr, Result, Ok, Err}
 use Rattle.std.specs.List.{All, AllByRecursion}
 use Rattle.std.proofs.lemmas.List.{get_or_append_left, length-map, map-append, take-append-drop, take-map, length-take-le}
 use Rattle.std.proofs.Math.Seq.{take-append_seam}
@@ -11,7 +11,8 @@ use Rattle.base_io.specs.Told.{Told}
 use Rattle.base_io.specs.Counts.{Rose}
 use Rattle.machine_meaning.specs.Vocabulary.{Pins, Faults}
 use Rattle.machine_config.specs.Vocabulary.{Configuration, IsRun}
-use Rattle.rig.specs.Rig.{RigState, Exchange, Narrows, config_of, cycles_of, drives_of, readings_of, spare_of}
+use Rattle.machine_shape.specs.Shape.{pins_of}
+use Rattle.rig.specs.Rig.{RigState, Exchange, Narrows, width_of, config_of, cycles_of, drives_of, readings_of, spare_of}
 use Rattle.machine_image.specs.Images.{ImageValue, drive_of, image_row}
 use Rattle.run_image.specs.Batches.{most_together, rows_in}
 use Rattle.run_image.specs.Pins.{pins_in}
@@ -23,7 +24,7 @@ use Rattle.design_vectors.specs.declared.vectors.VectorsFail.{VectorsFail}
 use Rattle.design_vectors.specs.declared.vectors.VectorsFail.TheVariants.{Text, Failed}
 use Rattle.design_vectors.specs.Readings.{VectorReading}
 use Rattle.design_vectors.specs.Rows.{row_line}
-use Rattle.cmd_steps.specs.Vocabulary.{file_of, AreFirst, IsBegun, IsNearNext, NoRowWaits, EndsFile, IsNotRead, IsPutOut, IsHeldUp, NextStops, StaysOpen, Outside, outside, IsLater, RowWork, all_rows, HasRows, refuses, IsCounted, stop_of_vectors, Follows}
+use Rattle.cmd_steps.specs.Vocabulary.{file_of, AreFirst, IsBegun, IsNearNext, NoRowWaits, EndsFile, IsNotRead, IsPutOut, IsHeldUp, NextOf, NextStops, RowsAt, StaysOpen, Outside, outside, IsLater, RowWork, all_rows, HasRows, refuses, IsCounted, stop_of_vectors, Follows}
 use Rattle.cmd_steps.specs.declared.refusal.Refusal.{Refusal}
 use Rattle.cmd_steps.specs.declared.refusal.Refusal.TheVariants as refused
 use Rattle.cmd_steps.specs.declared.refusal.Stop.{Stop}
@@ -36,7 +37,7 @@ use Rattle.run_image.specs.Copying.{share, times, repeated, all_repeated, IsApar
 use Rattle.run_image.specs.declared.copies.Copies.{Copies}
 use Rattle.run_image.specs.declared.copies.Copies.TheVariants.{One, Two}
 use Rattle.run_image.specs.Rows.{most_rows, copied_rows, AreRunRows, AreRowsOf, IsSession, DiffersBehind}
-use Rattle.run_image.specs.Running.{IsFitting, IsLoaded, IsSameBut, IsSameRun, ReadsOn, HasBatch, DrivesTo, HasOrFailed, DriveStops, HasAddedAll, AddStops, AddsStop, MakesStop, EndsSent, together_of, at_rows}
+use Rattle.run_image.specs.Running.{IsFitting, IsLoaded, IsSameBut, IsSameRun, ReadsOn, BatchGives, HasBatch, DrivesTo, HasOrFailed, DriveStops, HasAddedAll, AddStops, AddsStop, MakesStop, EndsSent, together_of, at_rows}
 use Rattle.run_image.specs.declared.image.Running.{Running}
 
 -- the vector has a bit for each input pin
@@ -126,6 +127,18 @@ apart-at : (c : Copies) (told : Told) (image : ImageValue) (rig : RigState) (vec
 apart-at One told image rig vectors rows vector reading behind read_behind next widths session apart = absurd apart
 apart-at Two told image rig vectors rows vector reading behind read_behind next widths session apart =
     record { vector = vector; reading = reading; behind = behind; read_behind = read_behind; next = next; widths = widths; session = session; halves = apart }
+
+-- ---- batches
+
+-- some vectors were read
+pub batch-of : (count : ℕ) (rows : Running) (from to : RowsAt) → (count ≡ 0 → ⊥) → BatchGives count rows from to → HasBatch count rows from to
+batch-of count rows from to some (inl h) = absurd (some h.0)
+batch-of count rows from to some (inr batch) = batch
+
+-- or none, at the end of the file
+pub end-of : (count : ℕ) (rows : Running) (from to : RowsAt) → count ≡ 0 → BatchGives count rows from to → NextOf false [] from to
+end-of count rows from to none (inl h) = h.1
+end-of count rows from to none (inr batch) = absurd (let size = batch.size in let never : ⊥ = omega (arith, size, none) in never)
 
 -- ---- lists
 
@@ -338,6 +351,15 @@ module _ (copies : Copies) (image : ImageValue) (failures : ℕ) (begun : Outsid
             let wrote = all-written width begun rows.vectors left put_now so_far.vectors so_far.done (all-put left out) out.empty in
             rows-follow (work last) begun put_now last rows.vectors left so_far.vectors so_far.done (all-put left out) later-last stays.asked refl refl (SameRig last) same-last
             (Err (Refused refused.Rig)) (flat_map row_line so_far.done, (has-rows (work last) begun put_now last rows.vectors left so_far.vectors so_far.done (all-put left out) later-last stays.asked refl refl (SameRig last) same-last so_far.vectors first-of-file (are-rows rig machine) prompt, near), wrote) rose
+
+        pub ends-so : {U : Type 0} (result : Result U Stop) (rows1 : Running) → IsSameRun rows rows1 → OnOk result (EndsSent rows1 now.rig rig) → IfErr result (λ stop. (stop ≡ Refused refused.Rig) × Rose now.rig.failures rig.failures) → Ends result last
+        ends-so (Ok x) rows1 same sent stops = file-ends x (subst (λ (i : ImageValue). (rig ≡ now.rig) ⊎ RunsRows (pins_in i) now.rig rig [] []) same.image sent)
+        ends-so (Err stop) rows1 same sent stops = subst (λ (s : Stop). Ends (Err s) last) (sym stops.0) (sending-stops stops.1)
+
+    pub pins-are : (rows1 : Running) → IsSameRun rows rows1 → width_of now.rig ≡ Some (pins_of rows1.image.config.shape)
+    pins-are rows1 same =
+        ap (option_map (λ (g : Configuration). pins_of g.shape)) so_far.driven.config
+        ∙ ap (λ (i : ImageValue). Some (pins_of i.config.shape)) (sym (same.image ∙ so_far.image_is))
 
     -- ---- vectors are read together
 
