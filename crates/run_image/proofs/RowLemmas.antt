@@ -24,7 +24,7 @@ use Rattle.design_vectors.specs.declared.vectors.VectorsFail.{VectorsFail}
 use Rattle.design_vectors.specs.declared.vectors.VectorsFail.TheVariants.{Text, Failed}
 use Rattle.design_vectors.specs.Readings.{VectorReading}
 use Rattle.design_vectors.specs.Rows.{row_line}
-use Rattle.cmd_steps.specs.Vocabulary.{file_of, AreFirst, IsBegun, IsNearNext, NoRowWaits, EndsFile, IsNotRead, IsPutOut, IsHeldUp, NextOf, NextStops, RowsAt, StaysOpen, Outside, outside, IsLater, RowWork, all_rows, HasRows, refuses, IsCounted, stop_of_vectors, Follows}
+use Rattle.cmd_steps.specs.Vocabulary.{file_of, AreFirst, IsBegun, IsNearEnd, IsNearNext, NoRowWaits, EndsFile, IsNotRead, IsPutOut, IsHeldUp, NextOf, NextStops, RowsAt, StaysOpen, Outside, outside, IsLater, RowWork, all_rows, HasRows, refuses, IsCounted, stop_of_vectors, Follows}
 use Rattle.cmd_steps.specs.declared.refusal.Refusal.{Refusal}
 use Rattle.cmd_steps.specs.declared.refusal.Refusal.TheVariants as refused
 use Rattle.cmd_steps.specs.declared.refusal.Stop.{Stop}
@@ -347,7 +347,8 @@ module _ (copies : Copies) (image : ImageValue) (failures : ℕ) (begun : Outsid
         sending-stops rose =
             let prompt = prompt-now width begun.store now.store store rows.vectors so_far.vectors (length so_far.done) (length so_far.done) (all-put left out).taking ends.asked (all-put left out).prompt (omega arith) are-all in
             let all = taken-all width begun.store now.store store rows.vectors reading [] so_far.vectors so_far.written.taking ends.next in
-            let near = rw so_far.count (taken-near-end width begun.store now.store store rows.vectors reading so_far.vectors so_far.written.taking all ends.moves) in
+            let near : IsNearEnd width (file_of begun.store) store.current (length so_far.done) =
+            subst (λ (n : ℕ). IsNearEnd width (file_of begun.store) store.current n) (sym so_far.count) (taken-near-end width begun.store now.store store rows.vectors reading so_far.vectors so_far.written.taking all ends.moves) in
             let wrote = all-written width begun rows.vectors left put_now so_far.vectors so_far.done (all-put left out) out.empty in
             rows-follow (work last) begun put_now last rows.vectors left so_far.vectors so_far.done (all-put left out) later-last stays.asked refl refl (SameRig last) same-last
             (Err (Refused refused.Rig)) (flat_map row_line so_far.done, (has-rows (work last) begun put_now last rows.vectors left so_far.vectors so_far.done (all-put left out) later-last stays.asked refl refl (SameRig last) same-last so_far.vectors first-of-file (are-rows rig machine) prompt, near), wrote) rose

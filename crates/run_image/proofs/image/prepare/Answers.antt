@@ -48,6 +48,20 @@ returns-in_err-block-clause-took g c =
     let rig = (goal.Rig-dyn g (box.vtable, box.value)).rig_state box.value in
     λ store sink. rw (p.1, p.2) (took-nothing (prepares rig rig) _ (outside store rig sink) refl (tt, inl refl))
 
+pub returns-in_err-drives-clause-took : goal.returns-in_err-drives-clause-took
+returns-in_err-drives-clause-took g c =
+    let p = err_from_is_err_and c.from_residual-in_err-drives.result c.from_residual-in_err-drives.ensures.1 in
+    let box = c.args.rig.now in
+    let rig = (goal.Rig-dyn g (box.vtable, box.value)).rig_state box.value in
+    λ store sink. rw (p.1, p.2) (took-nothing (prepares rig rig) _ (outside store rig sink) refl (tt, inl refl))
+
+pub returns-in_err-readings-clause-took : goal.returns-in_err-readings-clause-took
+returns-in_err-readings-clause-took g c =
+    let p = err_from_is_err_and c.from_residual-in_err-readings.result c.from_residual-in_err-readings.ensures.1 in
+    let box = c.args.rig.now in
+    let rig = (goal.Rig-dyn g (box.vtable, box.value)).rig_state box.value in
+    λ store sink. rw (p.1, p.2) (took-nothing (prepares rig rig) _ (outside store rig sink) refl (tt, inl refl))
+
 pub returns-in_err-run-clause-took : goal.returns-in_err-run-clause-took
 returns-in_err-run-clause-took g c =
     let p = err_from_is_err_and c.from_residual-in_err-run.result c.from_residual-in_err-run.ensures.1 in
