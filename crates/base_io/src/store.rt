@@ -1,5 +1,6 @@
 //! Files that are read by name.
 ghost use Rattle.std.specs.Prelude.{◌≡◌, ◌^◌, ◌<◌, ◌≤◌, [], ◌∷◌, ◌++◌, None, Some, length, IsSome, IfSome, IfOk, IfErr, OnOk};
+ghost use Rattle.std.specs.Prelude.{};
 ghost use Rattle.base_io.specs.Told.{IsPresent};
 ghost use Rattle.base_io.specs.Store.{StoreState, StartFails, ReadFails, AreNext, moved, place_of, rest_of};
 

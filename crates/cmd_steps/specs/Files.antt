@@ -1,5 +1,6 @@
 -- What the files of vectors say, and how far they are read.
-use Rattle.std.specs.Prelude.{◌≡◌, ℕ, ◌+◌, ◌-◌, ◌<◌, ◌≤◌, Bool, List, map, length, take, drop, get_or, slice_get, Option, None, Some, IfSome}
+use Rattle.std.specs.Prelude.{◌≡◌, ℕ, ◌+◌, ◌-◌, ◌<◌, ◌≤◌, Bool, List, map, length, take, drop, get_or, slice_get, Option, None}
+use Rattle.std.specs.Prelude.{Some, IfSome}
 use Rattle.std.specs.Prelude.{option_map, unwrap_or}
 use Rattle.std.specs.List.{AllByRecursion}
 use Rattle.base_io.specs.Vocabulary.{Told, untold, holds, IfTold, IsPresent, StorePlace, StoreState}

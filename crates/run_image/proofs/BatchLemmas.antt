@@ -60,7 +60,6 @@ pub rows-take : (n w : ℕ) (bits : List Bool) → n * w ≤ length bits → row
 rows-take n w bits le =
     sym (rows-front n w (take (n * w) bits) (drop (n * w) bits) (length-take-le (n * w) bits le)) ∙ ap (rows_in n w) (take-append-drop (n * w) bits)
 
-
 -- one more
 no-bits : (xs : List Bool) → length xs ≡ 0 → xs ≡ []
 no-bits [] none = refl

@@ -10,7 +10,8 @@ use Rattle.run_image.specs.Pins.{pins_in}
 use Rattle.run_image.specs.Run.{RunsRows}
 use Rattle.design_vectors.specs.Readings.{VectorReading, new_reading}
 use Rattle.design_vectors.specs.Rows.{row_line}
-use Rattle.cmd_steps.specs.Vocabulary.{most_vector_bytes, IsRead, IsReadAfter, RowsAt, rows_at, IsPutOut, IsHeldUp, NextOf, WaitsOrPuts, Step}
+use Rattle.cmd_steps.specs.Vocabulary.{most_vector_bytes, IsRead, IsReadAfter, RowsAt, rows_at, IsPutOut, IsHeldUp, NextOf}
+use Rattle.cmd_steps.specs.Vocabulary.{WaitsOrPuts, Step}
 use Rattle.cmd_steps.specs.declared.refusal.Refusal.TheVariants as refused
 use Rattle.cmd_steps.specs.declared.refusal.Stop.{Stop}
 use Rattle.cmd_steps.specs.declared.refusal.Stop.TheVariants.{Refused, Sink}

@@ -293,7 +293,8 @@ fn next_row<K: Sink>(rows: &mut Running, from: usize, sink: &mut K) -> Result<us
     ensures fits { OnOk result (IsFitting rows.new) }
     ensures place { IfOk result (λ end. end ≡ from + length rows.old.image.outputs) }
     ensures adds { let reading = take (length rows.old.image.outputs) (drop from rows.old.readings.items) in
-        OnOk result (HasAddedOne rows.old.copies reading rows.old.block.text rows.new.block.text (K.sink_state sink.old) (K.sink_state sink.new)) }
+        OnOk result (HasAddedOne rows.old.copies reading rows.old.block.text rows.new.block.text
+        (K.sink_state sink.old) (K.sink_state sink.new)) }
     ensures refused { let reading = take (length rows.old.image.outputs) (drop from rows.old.readings.items) in
         IfErr result (λ stop. AddStops stop rows.old.copies reading rows.old.block.text rows.new.block.text
         (K.sink_state sink.old) (K.sink_state sink.new)) }
@@ -313,7 +314,8 @@ fn add_rows<K: Sink>(rows: &mut Running, count: usize, sink: &mut K) -> Result<(
     ensures vectors { rows.new.vectors ≡ rows.old.vectors }
     ensures fits { OnOk result (IsFitting rows.new) }
     ensures adds { let readings = readings_in count rows.old in
-        OnOk result (HasAddedAll rows.old.copies readings rows.old.block.text rows.new.block.text (K.sink_state sink.old) (K.sink_state sink.new)) }
+        OnOk result (HasAddedAll rows.old.copies readings rows.old.block.text rows.new.block.text
+        (K.sink_state sink.old) (K.sink_state sink.new)) }
     ensures refused { let readings = readings_in count rows.old in
         IfErr result (λ stop. AddsStop stop rows.old.copies readings rows.old.block.text rows.new.block.text
         (K.sink_state sink.old) (K.sink_state sink.new)) }

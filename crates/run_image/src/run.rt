@@ -1,5 +1,6 @@
 //! Runs of images.
-ghost use Rattle.std.specs.Prelude.{◌≡◌, ◌+◌, ◌*◌, ◌^◌, ◌++◌, ◌≤◌, ◌<◌, Some, length, map, take, flat_map, IfOk, IfErr, OnOk, OnErr, All, AllPairs};
+ghost use Rattle.std.specs.Prelude.{◌≡◌, ◌+◌, ◌*◌, ◌^◌, ◌++◌, ◌≤◌, ◌<◌, Some, length, map, take, flat_map, IfOk, IfErr, OnOk};
+ghost use Rattle.std.specs.Prelude.{OnErr, All, AllPairs};
 ghost use Rattle.std.specs.Prelude.{◌≢◌};
 ghost use Rattle.base_io.specs.Counts.{next_count};
 ghost use Rattle.machine_shape.specs.Shape.{pins_of};
