@@ -26,11 +26,11 @@ IsDiffer (refuses Differ) = Unit {0}
 IsDiffer next = ⊥
 
 after-never : {T : Type 0} (step : Step T) (here : Type 0) (rest : T → Course) → (step.stops Differ → ⊥) → ((x : T) → step.gives x → IsAlike (rest x)) → (text : List ℕ) → after step here rest text (refuses Differ) → ⊥
-after-never step here rest no more text (inl h) = no h.1
-after-never step here rest no more text (inr h) = (more h.0 h.1).never text h.2
+after-never step here rest never more text (inl h) = never h.1
+after-never step here rest never more text (inr h) = (more h.0 h.1).never text h.2
 
 after-alike : {T : Type 0} (step : Step T) (here : Type 0) (rest : T → Course) → (step.stops Differ → ⊥) → ((x : T) → step.gives x → IsAlike (rest x)) → IsAlike (after step here rest)
-after-alike step here rest no more = record { never = after-never step here rest no more }
+after-alike step here rest never more = record { never = after-never step here rest never more }
 
 write-never : (line : List ℕ) (here : Type 0) (rest : Course) → IsAlike rest → (text : List ℕ) → write line here rest text (refuses Differ) → ⊥
 write-never line here rest more text (inl h) = subst (λ (x : Next). IsDiffer x) h.1 tt
@@ -43,7 +43,7 @@ done-alike : (here : Type 0) → IsAlike (done here)
 done-alike here = record { never = λ text h. subst (λ (x : Next). IsDiffer x) h.1 tt }
 
 rows-alike : (w : RowWork) → ((vectors rows : List (List Bool)) → w.differs vectors rows → ⊥) → IsAlike (all_rows w)
-rows-alike w no = record { never = λ text h. no h.0.vectors h.0.rows h.1 }
+rows-alike w alike = record { never = λ text h. alike h.0.vectors h.0.rows h.1 }
 
 test-alike : (b : Bool) (this that : Course) → IsAlike this → IsAlike that → IsAlike (by_test b this that)
 test-alike true this that one other = one
@@ -54,7 +54,7 @@ test-alike false this that one other = other
 module _ (old new : Around) where
   eval-alike : (design vectors : List ℕ) → IsAlike ((eval_job design vectors).course old new)
   eval-alike design vectors =
-      after-alike _ _ _ (λ h. h) (λ draft gives. after-alike _ _ _ (λ h. h) (λ _ opened. write-alike _ _ _ (rows-alike _ (λ vs rs no. no))))
+      after-alike _ _ _ (λ h. h) (λ draft gives. after-alike _ _ _ (λ h. h) (λ _ opened. write-alike _ _ _ (rows-alike _ (λ vs rs differs. differs))))
 
   compile-alike : (machine defects design : List ℕ) → IsAlike ((compile_job machine defects design).course old new)
   compile-alike machine defects design =
@@ -64,7 +64,7 @@ module _ (old new : Around) where
   run-alike : (machine name image vectors : List ℕ) → IsAlike ((run_job machine name image vectors).course old new)
   run-alike machine name image vectors =
       after-alike _ _ _ (λ h. h) (λ m read. after-alike _ _ _ (λ h. h) (λ _ attached. after-alike _ _ _ (λ h. h) (λ i gives.
-      after-alike _ _ _ (λ h. h.0) (λ _ once. after-alike _ _ _ (λ h. h) (λ _ opened. write-alike _ _ _ (rows-alike _ (λ vs rs no. no)))))))
+      after-alike _ _ _ (λ h. h.0) (λ _ once. after-alike _ _ _ (λ h. h) (λ _ opened. write-alike _ _ _ (rows-alike _ (λ vs rs differs. differs)))))))
 
   diagnose-alike : (machine name : List ℕ) → IsAlike ((diagnose_job machine name).course old new)
   diagnose-alike machine name =
@@ -74,13 +74,13 @@ module _ (old new : Around) where
   go-alike machine name design vectors =
       after-alike _ _ _ (λ h. h) (λ m read. after-alike _ _ _ (λ h. h) (λ _ attached. after-alike _ _ _ (λ h. h) (λ draft gives.
       after-alike _ _ _ (λ h. h.0) (λ l list. write-alike _ _ _ (after-alike _ _ _ (λ h. h) (λ i laid.
-      after-alike _ _ _ (λ h. h.0) (λ _ once. after-alike _ _ _ (λ h. h) (λ _ opened. write-alike _ _ _ (rows-alike _ (λ vs rs no. no))))))))))
+      after-alike _ _ _ (λ h. h.0) (λ _ once. after-alike _ _ _ (λ h. h) (λ _ opened. write-alike _ _ _ (rows-alike _ (λ vs rs differs. differs))))))))))
 
   pair-alike : (machine name first second vectors : List ℕ) → IsAlike ((pair_job machine name first second vectors).course old new)
   pair-alike machine name first second vectors =
       after-alike _ _ _ (λ h. h) (λ m read. after-alike _ _ _ (λ h. h) (λ _ attached. after-alike _ _ _ (λ h. h) (λ one gives. after-alike _ _ _ (λ h. h) (λ other more.
       after-alike _ _ _ (λ h. h.0) (λ l list. write-alike _ _ _ (after-alike _ _ _ (λ h. h) (λ i laid.
-      after-alike _ _ _ (λ h. h.0) (λ _ once. after-alike _ _ _ (λ h. h) (λ _ opened. write-alike _ _ _ (rows-alike _ (λ vs rs no. no)))))))))))
+      after-alike _ _ _ (λ h. h.0) (λ _ once. after-alike _ _ _ (λ h. h) (λ _ opened. write-alike _ _ _ (rows-alike _ (λ vs rs differs. differs)))))))))))
 
   bench-alike : (n : ℕ) → IsAlike ((bench_job n).course old new)
   bench-alike n =
@@ -153,7 +153,7 @@ module _ (words : List (List ℕ)) (old new : Around) where
       (line 5 (codes "go") _ _ (go-alike old new _ _ _ _)
       (of-if (AreTwice words) old new (begins_with words 2 (codes "bench")) _ _ (λ _. of-bench (AreTwice words) old new (number_of (word_at words 1)))
       (line 4 (codes "check") _ _ (check-alike old new _ _ _) (line 4 (codes "repair") _ _ (repair-alike old new _ _ _)
-      (line 6 (codes "pair") _ _ (pair-alike old new _ _ _ _ _) (twice-line _))))))))
+      (line 6 (codes "pair") _ _ (pair-alike old new _ _ _ _ _) (twice-line _)))))))))
 
   pub only-twice : (text : List ℕ) → (job_of (asked_by words)).course old new text (refuses Differ) → AreTwice words
   only-twice =
