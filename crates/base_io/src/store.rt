@@ -16,7 +16,8 @@ pub enum StoreFail {
 /// Files that are read by name, each from its first byte on.
 ///
 /// Contracts see which names were asked, which file is current and where in it the next byte is, where in the file that was
-/// started last `read` was asked last, and a count of failures, which is a `u64` and never falls. A store may tell of a name what its file holds, or that there is no
+/// started last `read` was asked last, and a count of failures, which is a `u64` and never falls.
+/// A store may tell of a name what its file holds, or that there is no
 /// such file. No call changes that.
 pub trait Store {
     ghost store_state: { Self → StoreState };
