@@ -78,17 +78,30 @@ empty-says : (width number next_at : ℕ) (fault : Option VectorKind) (later : S
 empty-says width number next_at (Some kind) later none = refl
 empty-says width number next_at None later none = none
 
+-- an empty line, before lines that say no vector
+first-empty : (width : ℕ) (l : PhysicalLine) (ls : List PhysicalLine) → l.bytes ≡ [] → (lines_say width ls).vectors ≡ [] → (lines_say width (l ∷ ls)).vectors ≡ []
+unfolding lines_say
+first-empty width l ls is none = by (shown l.bytes) (ap shown is ∙ shown-nil)
+  where
+    by : (s : List ℕ) → s ≡ [] → (line_says width l.number l.next_at (line_fault width l.is_cut s) s (lines_say width ls)).vectors ≡ []
+    by s e = subst (λ (t : List ℕ). (line_says width l.number l.next_at (line_fault width l.is_cut t) t (lines_say width ls)).vectors ≡ []) (sym e)
+        (empty-says width l.number l.next_at (line_fault width l.is_cut []) (lines_say width ls) none)
+
+no-lines : (width : ℕ) → (lines_say width []).vectors ≡ []
+unfolding lines_say
+no-lines width = refl
+
 nothing-ends : (width limit number at : ℕ) → (lines_say width (numbered_lines limit number at [])).vectors ≡ []
-unfolding numbered_lines lines_say
-nothing-ends width limit number at = rw shown-nil (empty-says width number at (line_fault width false []) nothing_said refl)
+unfolding numbered_lines
+nothing-ends width limit number at = first-empty width (record { number = number; bytes = []; next_at = at; is_cut = false }) [] refl (no-lines width)
 
 nothing-fed : (width limit number at : ℕ) → (lines_say width (numbered_lines limit number at (10 ∷ []))).vectors ≡ []
-unfolding numbered_lines lines_say
+unfolding numbered_lines
 nothing-fed width limit number at = by (nat_le limit at) (nothing-ends width limit (number + 1) (at + 1))
   where
     by : (c : Bool) → (lines_say width (numbered_lines limit (number + 1) (at + 1) [])).vectors ≡ [] → (lines_say width (if c then record { number = number; bytes = []; next_at = at; is_cut = true } ∷ [] else record { number = number; bytes = []; next_at = at + 1; is_cut = false } ∷ numbered_lines limit (number + 1) (at + 1) [])).vectors ≡ []
-    by true later = rw shown-nil (empty-says width number at (line_fault width true []) nothing_said refl)
-    by false later = rw shown-nil (empty-says width number (at + 1) (line_fault width false []) (lines_say width (numbered_lines limit (number + 1) (at + 1) [])) later)
+    by true later = first-empty width (record { number = number; bytes = []; next_at = at; is_cut = true }) [] refl (no-lines width)
+    by false later = first-empty width (record { number = number; bytes = []; next_at = at + 1; is_cut = false }) (numbered_lines limit (number + 1) (at + 1) []) refl later
 
 abbrev line_of : List Bool → ℕ → VectorLine
 line_of bits next_at = record { bits = bits; next_at = next_at }

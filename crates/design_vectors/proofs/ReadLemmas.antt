@@ -1,5 +1,6 @@
 -- Reading on: more bytes from the store, then the unread ones.
-use Rattle.std.proofs.Common.{◌≡◌, ◌⊎◌, ℕ, ◌+◌, ◌-◌, ◌<◌, ◌≤◌, Bool, true, false, List, [], ◌++◌, length, take, drop, Option, None, Some, IfSome, option_map, option_map_or, refl, sym, ap, subst, ◌∙◌, inl, inr, arith, append_assoc, Err, IsSome}
+use Rattle.std.proofs.Common.{◌≡◌, ◌⊎◌, ℕ, ◌+◌, ◌-◌, ◌<◌, ◌≤◌, Bool, true, false, List, [], ◌++◌, length, take, drop, Option, None, Some, IfSome, option_map, refl, sym, ap, subst, ◌∙◌, inl, inr, arith, append_assoc, Err, IsSome}
+use Rattle.std.specs.Option.{option_map_or}
 use Rattle.std.proofs.Math.Seq.{take-add, take-append-add, take-append_seam}
 use Rattle.std.proofs.lemmas.List.{length-drop, append-nil, drop-append-le, drop-drop, length-append, length-take-le}
 use Rattle.base_io.specs.Store.{StoreState, StorePlace, moved, place_of, rest_of}
@@ -49,7 +50,7 @@ moved-twice None m n = refl
 moved-twice (Some p) m n = let e : p.at + m + n ≡ p.at + (m + n) = omega arith in ap (λ (k : ℕ). Some (record { name = p.name; at = k })) e
 
 none-moved : (current : Option StorePlace) (n : ℕ) → IsSome current → current ≡ moved current n → n ≡ 0
-none-moved None n h e = absurd h
+none-moved None n h e = absurd (let some = h in cc)
 none-moved (Some p) n h e = let at : p.at ≡ p.at + n = ap (λ (o : Option StorePlace). option_map_or (λ (q : StorePlace). q.at) o 0) e in omega (arith, at)
 
 -- where the store is asked next
