@@ -1,4 +1,3 @@
-use Rattle.design_vectors.proofs.OpenLemmas.{open-late}
 use Rattle.std.proofs.Common.{Bool, Result, subst, sym, ◌∙◌, ap}
 use Rattle.std.proofs.lemmas.Result.{err_from_is_err_and}
 use Rattle.design_vectors.specs.declared.vectors.VectorsFail.{VectorsFail}
