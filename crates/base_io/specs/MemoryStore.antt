@@ -15,6 +15,7 @@ pub record MemoryFiles : Type 0 where
   pub calls : ℕ
   pub asked : List (List ℕ)
   pub current : Option StorePlace
+  pub read_at : Option ℕ
   pub failures : ℕ
 
 -- the bytes of the first file of this name
@@ -32,6 +33,7 @@ memory_store_state s = record {
   contents = λ name. told_as (bytes_named s.files name);
   asked = s.asked;
   current = s.current;
+  read_at = s.read_at;
   failures = s.failures;
 }
 

@@ -11,6 +11,7 @@ memory_files a = record {
   calls = a.calls;
   asked = map string_bytes a.asked.items;
   current = option_map (λ o. record { name = string_bytes o.name; at = o.at }) a.current;
+  read_at = a.read_at;
   failures = a.failures;
 }
 

@@ -18,6 +18,8 @@ pub record StoreState : Type 0 where
   pub asked : List (List ℕ)
   -- the file that `read` goes on with
   pub current : Option StorePlace
+  -- the place in the file that was started last at which `read` was asked last, if it was
+  pub read_at : Option ℕ
   -- a count that never falls
   pub failures : ℕ
 
@@ -36,6 +38,10 @@ pub record AreNext (n : ℕ) (into rest : List ℕ) : Type 0 where
   pub at_end : n ≡ 0 → rest ≡ []
   pub only_at_end : rest ≡ [] → n ≡ 0
 
+-- where the current file is
+abbrev pub place_of : StoreState → Option ℕ
+place_of s = option_map (λ p. p.at) s.current
+
 -- a failure leaves no current file, and the count rose
 pub record IsFailure (old new : StoreState) : Type 0 where
   pub closed : new.current ≡ None
@@ -43,7 +49,7 @@ pub record IsFailure (old new : StoreState) : Type 0 where
 
 -- what a refusal of `start` says
 abbrev pub StartFails : StoreFail → List ℕ → StoreState → StoreState → Type 0
-StartFails Failed name old new = IsFailure old new × (new.asked ≡ old.asked ++ name ∷ [])
+StartFails Failed name old new = IsFailure old new × (new.asked ≡ old.asked ++ name ∷ []) × (new.read_at ≡ None)
 StartFails Memory name old new = new ≡ old
 
 -- what a refusal of `read` says: it is never a lack of memory

@@ -29,6 +29,8 @@ pub struct FileStore<R: Files + Drop> {
     alloc: Global,
     asked: Vec<String>,
     current: Option<Opened<R::File>>,
+    /// Where `read` was asked last, for contracts alone.
+    read_at: Option<u64>,
     failures: u64,
 }
 
@@ -41,6 +43,7 @@ impl<R: Files + Drop> Model for FileStore<R> {
     ghost view = { λ a. record {
       asked = map string_bytes a.asked.items;
       current = option_map (λ o. record { name = string_bytes o.name; at = o.at }) a.current;
+      read_at = a.read_at;
       failures = a.failures;
     } };
 
@@ -50,13 +53,14 @@ impl<R: Files + Drop> Model for FileStore<R> {
 impl<R: Files + Drop> FileStore<R> {
     /// The files of this runtime, of which none is current.
     pub fn new(alloc: Global, rt: R) -> Self
-        ensures { result ≡ record { asked = []; current = None; failures = 0 } }
+        ensures { result ≡ record { asked = []; current = None; read_at = None; failures = 0 } }
     {
         FileStore {
             rt,
             alloc,
             asked: Vec::new(alloc),
             current: None,
+            read_at: None,
             failures: 0,
         }
     }
@@ -75,6 +79,7 @@ impl<R: Files + Drop> Store for FileStore<R> {
         if self.asked.push(asked).is_err() {
             return Err(StoreFail::Memory);
         }
+        self.read_at = None;
         match fs::open(&self.rt, name) {
             Ok(file) => {
                 self.current = Some(Opened {
@@ -97,6 +102,7 @@ impl<R: Files + Drop> Store for FileStore<R> {
         let Some(mut opened) = self.current.take() else {
             unreachable!()
         };
+        self.read_at = Some(opened.at);
         let mut block = [0u8; BLOCK];
         let room = into.len().min(BLOCK);
         if let Ok(count) = opened.file.read(&mut block[..room]) {

@@ -3,7 +3,7 @@ ghost use Rattle.std.specs.Prelude.{◌≡◌, ◌⊎◌, ◌↔◌, ◌+◌, �
 ghost use Rattle.std.specs.Prelude.{string_bytes, bytes_eq, is_some, IsSome, IsNone, IfSome, IfOk, IfErr, OnOk, IsErrOf, Contains};
 ghost use Rattle.base_io.specs.Counts.{next_count};
 ghost use Rattle.base_io.specs.Told.{IsPresent};
-ghost use Rattle.base_io.specs.Store.{StartFails, ReadFails, AreNext, moved, rest_of};
+ghost use Rattle.base_io.specs.Store.{StartFails, ReadFails, AreNext, moved, place_of, rest_of};
 ghost use Rattle.base_io.specs.MemoryStore.{bytes_named, memory_store_state, room_of};
 
 use crate::{Store, StoreFail};
@@ -40,6 +40,8 @@ pub struct MemoryStore {
     calls: u64,
     asked: Vec<String>,
     current: Option<Opened>,
+    /// Where `read` was asked last, for contracts alone.
+    read_at: Option<usize>,
     failures: u64,
 }
 
@@ -65,6 +67,7 @@ impl MemoryStore {
           calls = 0;
           asked = [];
           current = None;
+          read_at = None;
           failures = 0;
         } }
     {
@@ -76,6 +79,7 @@ impl MemoryStore {
             calls: 0,
             asked: Vec::new(alloc),
             current: None,
+            read_at: None,
             failures: 0,
         }
     }
@@ -90,6 +94,7 @@ impl MemoryStore {
           calls = 0;
           asked = [];
           current = None;
+          read_at = None;
           failures = 0;
         } }
     {
@@ -101,6 +106,7 @@ impl MemoryStore {
             calls: 0,
             asked: Vec::new(alloc),
             current: None,
+            read_at: None,
             failures: 0,
         }
     }
@@ -156,6 +162,7 @@ impl Store for MemoryStore {
         ensures count { self.new.failures < 2 ^ 64 }
         ensures opened { OnOk result (self.new.current ≡ Some (record { name = name.now; at = 0 })) }
         ensures asked { OnOk result (self.new.asked ≡ self.old.asked ++ name.now ∷ []) }
+        ensures unread { OnOk result (self.new.read_at ≡ None) }
         ensures present { OnOk result (IsPresent ((memory_store_state self.old).contents name.now)) }
         ensures refused { IfErr result (λ e. StartFails e name.now (memory_store_state self.old) (memory_store_state self.new)) }
 
@@ -181,6 +188,7 @@ impl Store for MemoryStore {
         }
         self.calls = self.calls.saturating_add(1);
         self.current = None;
+        self.read_at = None;
         if self.fails.contains(&self.calls) {
             self.failures = self.failures.saturating_add(1);
             return Err(StoreFail::Failed);
@@ -204,6 +212,7 @@ impl Store for MemoryStore {
         ensures later { self.old.failures ≤ self.new.failures }
         ensures count { self.new.failures < 2 ^ 64 }
         ensures asked { self.new.asked ≡ self.old.asked }
+        ensures asked_at { self.new.read_at ≡ place_of (memory_store_state self.old) }
         ensures room { IfOk result (λ n. n ≤ length into.new) }
         ensures place { IfOk result (λ n. self.new.current ≡ moved self.old.current n) }
         ensures bytes { IfOk result (λ n. IfSome (rest_of (memory_store_state self.old)) (AreNext n into.new)) }
@@ -223,6 +232,7 @@ impl Store for MemoryStore {
         let Some(mut opened) = self.current.take() else {
             unreachable!()
         };
+        self.read_at = Some(opened.at);
         if self.fails.contains(&self.calls) {
             self.failures = self.failures.saturating_add(1);
             return Err(StoreFail::Failed);

@@ -1,7 +1,8 @@
 //! Files that are read by name.
-ghost use Rattle.std.specs.Prelude.{◌≡◌, ◌^◌, ◌<◌, ◌≤◌, [], ◌∷◌, ◌++◌, Some, length, IsSome, IfSome, IfOk, IfErr, OnOk};
+ghost use Rattle.std.specs.Prelude.{◌≡◌, ◌^◌, ◌<◌, ◌≤◌, [], ◌∷◌, ◌++◌, None, Some, length, IsSome, IfSome, IfOk, IfErr, OnOk};
+ghost use Rattle.std.specs.Prelude.{};
 ghost use Rattle.base_io.specs.Told.{IsPresent};
-ghost use Rattle.base_io.specs.Store.{StoreState, StartFails, ReadFails, AreNext, moved, rest_of};
+ghost use Rattle.base_io.specs.Store.{StoreState, StartFails, ReadFails, AreNext, moved, place_of, rest_of};
 
 /// Why a store refuses.
 #[derive(Clone, Copy, Debug, PartialEq, Eq)]
@@ -14,8 +15,9 @@ pub enum StoreFail {
 
 /// Files that are read by name, each from its first byte on.
 ///
-/// Contracts see which names were asked, which file is current and where in it the next byte is, and a count of
-/// failures, which is a `u64` and never falls. A store may tell of a name what its file holds, or that there is no
+/// Contracts see which names were asked, which file is current and where in it the next byte is, where in the file that was
+/// started last `read` was asked last, and a count of failures, which is a `u64` and never falls.
+/// A store may tell of a name what its file holds, or that there is no
 /// such file. No call changes that.
 pub trait Store {
     ghost store_state: { Self → StoreState };
@@ -30,10 +32,12 @@ pub trait Store {
         ensures count { (store_state self.new).failures < 2 ^ 64 }
         ensures opened { OnOk result ((store_state self.new).current ≡ Some (record { name = name.now; at = 0 })) }
         ensures asked { OnOk result ((store_state self.new).asked ≡ (store_state self.old).asked ++ name.now ∷ []) }
+        ensures unread { OnOk result ((store_state self.new).read_at ≡ None) }
         ensures present { OnOk result (IsPresent ((store_state self.old).contents name.now)) }
         ensures refused { IfErr result (λ e. StartFails e name.now (store_state self.old) (store_state self.new)) };
 
-    /// Reads the next bytes of the current file to the front of `into`, and gives their number.
+    /// Reads the next bytes of the current file to the front of `into`, and gives their number. Whatever it answers, contracts
+    /// see from where on it was asked.
     ///
     /// It is 0 at the end of the file, and only there where the contents are told. After `Failed`, the only refusal, no file is
     /// current, the count rose and `into` is as it was. Takes no memory.
@@ -45,6 +49,7 @@ pub trait Store {
         ensures later { (store_state self.old).failures ≤ (store_state self.new).failures }
         ensures count { (store_state self.new).failures < 2 ^ 64 }
         ensures asked { (store_state self.new).asked ≡ (store_state self.old).asked }
+        ensures asked_at { (store_state self.new).read_at ≡ place_of (store_state self.old) }
         ensures room { IfOk result (λ n. n ≤ length into.new) }
         ensures place { IfOk result (λ n. (store_state self.new).current ≡ moved (store_state self.old).current n) }
         ensures bytes { IfOk result (λ n. IfSome (rest_of (store_state self.old)) (AreNext n into.new)) }

@@ -21,13 +21,13 @@ module _ (design vectors : List ℕ) (old new : Around) where
     eval-well : IsWell old new (eval_course design vectors old.store new.store)
     eval-well =
         well-after old new _ _ _ (λ refusal stops. design-excused old new Design right.file.bytes right.draft right.file.says right.file.within refusal (rw right.file.is_told at stops))
-        (λ draft gives. record { well = λ text next at. opened-well (eval_rows draft (old.store.contents vectors) new.store.current) _ vectors (design ∷ []) old.store new.store _ old new right.said.bytes right.said.is_told (same-fault draft gives) (λ vs rows h. h) text next tt at })
+        (λ draft gives. record { well = λ text next at. opened-well (eval_rows draft (old.store.contents vectors) new.store) _ vectors (design ∷ []) old.store new.store _ old new right.said.bytes right.said.is_told (same-fault draft gives) (λ vs rows h. h) text next tt at })
 
   -- no row wants memory
   eval-few : (text : List ℕ) → (more : List ℕ) × (text ≡ outputs_line ++ more) → eval_course design vectors old.store new.store text (refuses Memory) → ⊥
   eval-few text begun (inl h) = let begins = begun.1 in let empty = h.0 in absurd (cc)
   eval-few text begun (inr (draft, gives, h)) =
-      (opened-lacks (eval_rows draft (old.store.contents vectors) new.store.current) _ vectors (design ∷ []) old.store new.store _ text begun.0 begun.1 h).1.1
+      (opened-lacks (eval_rows draft (old.store.contents vectors) new.store) _ vectors (design ∷ []) old.store new.store _ text begun.0 begun.1 h).1.1
 
 pub eval-lawful : (design vectors : List ℕ) → IsLawful (eval_job design vectors)
 eval-lawful design vectors = record {

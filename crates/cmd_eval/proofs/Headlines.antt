@@ -10,7 +10,7 @@ module _ (design vectors : List ℕ) (old new : Outside) where
   pub evaled : (text : List ℕ) → new.store.asked ≡ old.store.asked ++ design ∷ vectors ∷ [] → Wrote old.sink.written new.sink.written text → eval_course design vectors old.store new.store text ends → IsEvaled design vectors old new
   evaled text asked wrote (inl h) = absurd h.1
   evaled text asked wrote (inr (draft, drawn, h)) =
-      let ended = opened-ends (eval_rows draft (old.store.contents vectors) new.store.current) _ vectors (design ∷ []) old.store new.store _ text h in
+      let ended = opened-ends (eval_rows draft (old.store.contents vectors) new.store) _ vectors (design ∷ []) old.store new.store _ text h in
       record {
         draft = draft;
         all_vectors = ended.rows.has.vectors;

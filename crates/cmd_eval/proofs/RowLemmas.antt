@@ -1,18 +1,18 @@
 -- A file of vectors that is read, row by row, and how that goes on and stops.
-use Rattle.std.proofs.Common.{◌≡◌, ◌≤◌, ℕ, Bool, false, List, [], ◌∷◌, ◌++◌, length, arith, refl, ap, subst, inl, ◌∙◌, append-nil, append_assoc, Result, Ok, Err}
+use Rattle.std.proofs.Common.{◌≡◌, ◌≤◌, ℕ, Bool, false, List, [], ◌∷◌, ◌++◌, length, arith, refl, sym, ap, subst, inl, ◌∙◌, append-nil, append_assoc, length-append, Result, Ok, Err}
 use Rattle.base_io.specs.Vocabulary.{StoreState, SinkState}
 use Rattle.design_netlist.specs.declared.netlist_data.NetlistData.{NetlistData}
 use Rattle.design_netlist.specs.Rows.{AreRows}
 use Rattle.rig.specs.Rig.{RigState}
 use Rattle.design_vectors.specs.declared.vectors.VectorsFail.{VectorsFail}
 use Rattle.design_vectors.specs.declared.vectors.VectorsFail.TheVariants.{Text, Failed}
-use Rattle.design_vectors.specs.Readings.{NextGives, NextFails}
 use Rattle.design_vectors.specs.Rows.{row_line}
-use Rattle.cmd_steps.specs.Vocabulary.{file_of, IsBegun, StaysOpen, IsPutOut, WaitsOrPuts, NextStops, outside, IsLater, RowWork, all_rows, stop_of_vectors, Follows}
+use Rattle.cmd_steps.specs.Vocabulary.{file_of, AreFirst, IsBegun, StaysOpen, EndsFile, IsNotRead, IsPutOut, WaitsOrPuts, NextStops, outside, IsLater, RowWork, all_rows, stop_of_vectors, Follows}
 use Rattle.cmd_steps.specs.declared.refusal.Refusal.TheVariants as refused
 use Rattle.cmd_steps.specs.declared.refusal.Stop.{Stop}
 use Rattle.cmd_steps.specs.declared.refusal.Stop.TheVariants.{Refused, Sink}
-use Rattle.cmd_steps.proofs.WrittenRows.{AreWritten, none-written, put-out, after-put, read-after, was-read, added, not-added, some-lines, stays-same, row-later, waits-more, vectors-follow, end-follows, held-follows}
+use Rattle.cmd_steps.proofs.WrittenRows.{AreWritten, none-written, put-out, after-put, read-after, was-read, added, not-added, some-lines, stays-same, row-later, takes-more, waits-more, vectors-follow, end-follows, held-follows}
+use Rattle.cmd_steps.proofs.VectorLemmas.{taken-first}
 use Rattle.cmd_eval.specs.declared.engine.Run.{Run}
 use Rattle.cmd_eval.specs.declared.engine.Run.TheVariants.{Netlist, Network}
 use Rattle.cmd_eval.specs.declared.evaluation.Evaluation.{Evaluation}
@@ -35,6 +35,7 @@ pub record IsRunning (draft : NetlistData) (before : StoreState) (old : SinkStat
   pub sized : IsSized rows
   pub taken : List (List Bool)
   pub made : List (List Bool)
+  pub count : length made ≡ length taken
   pub written : (rig : RigState) → AreWritten (length draft.inputs) (outside before rig old) rows.vectors rows.block.text (outside store rig sink) taken made
   pub go_on : RowsGoOn draft taken made rows.eval.run
 
@@ -44,6 +45,7 @@ running-start draft rows store sink ready begun = record {
   sized = ready.sized;
   taken = [];
   made = [];
+  count = refl;
   written = λ rig. rw (ready.vectors, ready.none) (none-written (length draft.inputs) (outside store rig sink) begun);
   go_on = ready.eval.rows;
 }
@@ -59,13 +61,16 @@ go-on-more draft taken made eval eval' vector row step go_on vs rs h =
 
 module _ (draft : NetlistData) (before : StoreState) (old : SinkState) (rows rows' : Evaluation) (store store' : StoreState) (sink sink' : SinkState) (so_far : IsRunning draft before old rows store sink) (stays : StaysOpen store store') where
   abbrev work : RowWork
-  work = eval_rows draft (file_of before) store'.current
+  work = eval_rows draft (file_of before) store'
 
   abbrev Ends : Result (Unit {0}) Stop → RigState → SinkState → Type 0
   Ends result rig last = Follows ⊥ [] (Unit {0}) (all_rows work) result (outside before rig old) (outside store' rig last)
 
   are-rows : AreRows draft so_far.taken so_far.made
   are-rows = rows-of draft so_far.taken so_far.made rows.eval.run so_far.go_on
+
+  are-all : length so_far.taken ≤ length so_far.made
+  are-all = omega (arith, so_far.count)
 
   onward : (rig : RigState) (from to : SinkState) → to.can_lack ≡ from.can_lack → from.failures ≤ to.failures → IsLater (outside store rig from) (outside store' rig to)
   onward rig from to kind later = row-later store store' rig rig from to stays refl (λ f e. e) (λ t. t) (omega arith) kind later
@@ -75,18 +80,25 @@ module _ (draft : NetlistData) (before : StoreState) (old : SinkState) (rows row
     now : AreWritten (length draft.inputs) (outside before rig old) rows.vectors left (outside store rig sink') so_far.taken so_far.made
     now = put-out _ _ _ _ (outside store rig sink) _ _ (so_far.written rig) left sink' out
 
-    put-fails : (fail : VectorsFail) → NextFails fail rows.vectors store store' → Ends (Err (stop_of_vectors fail)) rig sink'
-    put-fails fail fails =
-        vectors-follow work _ (outside store rig sink') (outside store' rig sink') _ _ _ _ now (onward rig sink' sink' refl (omega arith)) stays.asked refl refl (Unit {0}) tt are-rows tt out.empty refl fail fails
+    put-fails : (fail : VectorsFail) → IsNotRead fail rows.vectors store store' → Ends (Err (stop_of_vectors fail)) rig sink'
+    put-fails fail not =
+        vectors-follow work _ (outside store rig sink') (outside store' rig sink') _ _ _ _ now (onward rig sink' sink' refl (omega arith)) stays.asked refl refl (Unit {0}) tt are-rows tt are-all out.empty refl not.asked fail not.fails
 
-    put-ends : NextGives false rows'.vector.items rows.vectors rows'.vectors store store' → Ends (Ok tt) rig sink'
-    put-ends gives =
-        end-follows work _ (outside store rig sink') (outside store' rig sink') _ _ _ _ now (onward rig sink' sink' refl (omega arith)) stays.asked refl refl (Unit {0}) tt are-rows tt out.empty refl tt rows'.vectors rows'.vector.items gives
+    put-ends : EndsFile rows.vectors rows'.vectors store store' → Ends (Ok tt) rig sink'
+    put-ends ends =
+        end-follows work _ (outside store rig sink') (outside store' rig sink') _ _ _ _ now (onward rig sink' sink' refl (omega arith)) stays.asked refl refl (Unit {0}) tt are-rows tt are-all out.empty refl ends.asked tt rows'.vectors [] ends.next
+
+  -- none of the rows is still to be written
+  all-of : (vs rs : List (List Bool)) → AreRows draft vs rs → AreRows draft vs (rs ++ [])
+  all-of vs rs are = subst (λ (r : List (List Bool)). AreRows draft vs r) (sym (append-nil rs)) are
+
+  first-of-file : RigState → AreFirst (length draft.inputs) (file_of before) so_far.taken
+  first-of-file rig = taken-first _ before store rows.vectors so_far.taken (so_far.written rig).taking
 
   -- no further vector is read
   pub read-stops : (rig : RigState) (stop : Stop) → NextStops stop (at_rows rows store sink) (at_rows rows' store' sink') → Ends (Err stop) rig sink'
   read-stops rig (Sink fail) held =
-      held-follows work _ (outside store rig sink) (outside store' rig sink') _ _ _ _ (so_far.written rig) (onward rig sink sink' held.kind held.later) stays.asked refl refl (Unit {0}) tt are-rows (inl tt) held.still (Sink fail) held
+      held-follows work _ (outside store rig sink) (outside store' rig sink') _ _ _ _ (so_far.written rig) (onward rig sink sink' held.kind held.later) stays.asked refl refl (Unit {0}) tt so_far.taken [] (first-of-file rig) (all-of so_far.taken so_far.made are-rows) (inl tt) held.still (Sink fail) held
   read-stops rig (Refused (refused.Vectors line kind)) stops = put-fails rig _ stops.1 (Text line kind) stops.0
   read-stops rig (Refused refused.Store) stops = put-fails rig _ stops.1 Failed stops.0
   read-stops rig (Refused refusal) stops = absurd stops
@@ -105,16 +117,25 @@ module _ (draft : NetlistData) (before : StoreState) (old : SinkState) (rows row
     before-it : (rig : RigState) → AreWritten (length draft.inputs) (outside before rig old) rows.vectors rows'.block.text (outside store rig sink') so_far.taken so_far.made
     before-it rig = read-after _ _ _ _ (outside store rig sink) _ _ (so_far.written rig) _ store' sink' takes.next.1
 
+    took-it : (rig : RigState) → AreWritten (length draft.inputs) (outside before rig old) rows'.vectors rows'.block.text (outside store' rig sink') (so_far.taken ++ rows'.vector.items ∷ []) so_far.made
+    took-it rig =
+        takes-more _ _ (outside store rig sink') (outside store' rig sink') _ _ _ _ _ _ (before-it rig) (onward rig sink' sink' refl (omega arith)) stays.asked takes.next.0 (was-read _ _ _ _ _ _ so_far.taken so_far.made are-all takes.next.1) refl
+
+    more-taken : length so_far.made < length (so_far.taken ++ rows'.vector.items ∷ [])
+    more-taken = rw (length-append so_far.taken, so_far.count) (omega arith)
+
     with-it : (rig : RigState) → AreWritten (length draft.inputs) (outside before rig old) rows'.vectors (rows'.block.text ++ row_line rows'.row.items) (outside store' rig sink') (so_far.taken ++ rows'.vector.items ∷ []) (so_far.made ++ rows'.row.items ∷ [])
-    with-it rig =
-        waits-more _ _ (outside store rig sink') (outside store' rig sink') _ _ _ _ _ _ (before-it rig) (onward rig sink' sink' refl (omega arith)) stays.asked takes.next.0 (was-read _ _ _ _ _ _ takes.next.1) refl rows'.row.items
+    with-it rig = waits-more _ _ (outside store' rig sink') _ _ _ _ rows'.row.items (took-it rig) more-taken
+
+    count-more : length (so_far.made ++ rows'.row.items ∷ []) ≡ length (so_far.taken ++ rows'.vector.items ∷ [])
+    count-more = rw (length-append so_far.made, length-append so_far.taken, so_far.count) refl
 
     -- the rows aren't written
     pub row-stops : (rig : RigState) (stop : Stop) (left : List ℕ) (last : SinkState) → WaitsOrPuts (rows'.block.text ++ row_line rows'.row.items) left (Err stop) sink' last → Ends (Err stop) rig last
     row-stops rig stop left last waits =
         let held = not-added _ left stop store' sink' last (some-lines rows'.block.text rows'.row.items) waits in
         held-follows work _ (outside store' rig sink') (outside store' rig last) _ _ _ _ (with-it rig)
-        (row-later store' store' rig rig sink' last (stays-same store') refl (λ f e. e) (λ t. t) (omega arith) held.kind held.later) refl refl refl (Unit {0}) tt (rows-of draft _ _ rows'.eval.run more-on) (inl tt) refl stop held
+        (row-later store' store' rig rig sink' last (stays-same store') refl (λ f e. e) (λ t. t) (omega arith) held.kind held.later) refl refl refl (Unit {0}) tt (so_far.taken ++ rows'.vector.items ∷ []) [] (taken-first _ before store' rows'.vectors _ (with-it rig).taking) (all-of _ _ (rows-of draft _ _ rows'.eval.run more-on)) (inl tt) refl stop held
 
     -- or they are, or wait
     pub running-more : (last_rows : Evaluation) (last : SinkState) → last_rows.eval ≡ rows'.eval → last_rows.vectors ≡ rows'.vectors → IsSized last_rows → WaitsOrPuts (rows'.block.text ++ row_line rows'.row.items) last_rows.block.text (Ok tt) sink' last → IsRunning draft before old last_rows store' last
@@ -123,6 +144,7 @@ module _ (draft : NetlistData) (before : StoreState) (old : SinkState) (rows row
       sized = sized;
       taken = so_far.taken ++ rows'.vector.items ∷ [];
       made = so_far.made ++ rows'.row.items ∷ [];
+      count = count-more;
       written = λ rig. rw vectors (after-put _ _ _ _ (outside store' rig sink') _ _ (with-it rig) _ last (added _ _ _ _ waits));
       go_on = rw eval more-on;
     }

@@ -1,6 +1,6 @@
 -- What the command `eval` is.
-use Rattle.std.specs.Prelude.{◌≡◌, ℕ, List, [], ◌∷◌, ◌++◌, length, Option, Some}
-use Rattle.base_io.specs.Vocabulary.{Told, StoreState, StorePlace}
+use Rattle.std.specs.Prelude.{◌≡◌, ℕ, List, [], ◌∷◌, ◌++◌, length, Some}
+use Rattle.base_io.specs.Vocabulary.{Told, StoreState}
 use Rattle.design_netlist.specs.declared.netlist_data.NetlistData.{NetlistData}
 use Rattle.design_netlist.specs.Rows.{AreRows}
 use Rattle.design_blif.specs.Designs.{IsDesign}
@@ -9,11 +9,11 @@ use Rattle.cmd_steps.specs.Vocabulary.{reads_design, opens, Job}
 use Rattle.cmd_steps.specs.declared.design_file.DesignFile.TheVariants.{Design}
 
 -- the rows of a design, for which no memory is wanted
-abbrev pub eval_rows : NetlistData → Told → Option StorePlace → RowWork
-eval_rows draft told place = record {
+abbrev pub eval_rows : NetlistData → Told → StoreState → RowWork
+eval_rows draft told store = record {
   width = length draft.inputs;
   told = told;
-  place = place;
+  store = store;
   are = λ vectors rows. AreRows draft vectors rows;
   session = λ vectors rows. Unit {0};
   differs = λ vectors rows. ⊥;
@@ -31,7 +31,7 @@ abbrev pub design_evaluated : (vectors : List ℕ) → (files : List (List ℕ))
 design_evaluated vectors files old new draft =
     after (opens (old.contents vectors)) (StandsIn (vectors ∷ files) old new) (λ _.
     write outputs_line (IsAtFirst vectors new)
-    (all_rows (eval_rows draft (old.contents vectors) new.current)))
+    (all_rows (eval_rows draft (old.contents vectors) new new.read_at)))
 
 -- the design is read and evaluated
 abbrev pub eval_course : (design vectors : List ℕ) → StoreState → StoreState → Course

@@ -100,7 +100,8 @@ fn write_rows<S: Store, K: Sink>(
     ensures { (rig : RigState) →
         let old = outside (S.store_state store.old) rig (K.sink_state sink.old) in
         let new = outside (S.store_state store.new) rig (K.sink_state sink.new) in
-        Follows ⊥ [] (Unit {0}) (all_rows (eval_rows rows.old.eval.netlist (file_of old.store) new.store.current)) result old new }
+        Follows ⊥ [] (Unit {0}) (all_rows (eval_rows rows.old.eval.netlist (file_of old.store) new.store))
+        result old new }
 {
     'file: while next_row(rows, store, sink)? {
         add_row(rows, sink)?;

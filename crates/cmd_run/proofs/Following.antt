@@ -19,7 +19,7 @@ attached-shape rig m name i is shape = ap (option_map (λ (a : Asked). a.shape))
 -- failed so many times as the command began
 abbrev Runs : (machine image vectors : List ℕ) → StoreState → ImageValue → Result (Unit {0}) Stop → (mid new : Outside) → (failures : ℕ) → Told → ℕ → Type 0
 Runs machine image vectors begun i result mid new failures told before =
-    Follows ⊥ (vectors ∷ []) (new.rig.machine ≡ mid.rig.machine) (image_course (image_rows i told new.store.current failures new.rig)
+    Follows ⊥ (vectors ∷ []) (new.rig.machine ≡ mid.rig.machine) (image_course (image_rows i told new.store failures new.rig)
     (record { image = i; vectors = vectors; files = image ∷ machine ∷ []; begun = begun; before = before }) (around new)) result mid new
 
 module _ {machine name image vectors : List ℕ} {s0 s1 : StoreState} {r0 r1 : RigState} {a : SinkState} {m : Shape}

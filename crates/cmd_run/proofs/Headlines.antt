@@ -18,7 +18,7 @@ module _ (machine name image vectors : List ℕ) (old new : Outside) where
   ran text asked wrote (inr (m, read, inl h)) = absurd h.1
   ran text asked wrote (inr (m, read, inr (u, attached, inl h))) = absurd h.1
   ran text asked wrote (inr (m, read, inr (u, attached, inr (i, is, h)))) =
-      let run = image-ends (image_rows i (old.store.contents vectors) new.store.current old.rig.failures new.rig) (record { image = i; vectors = vectors; files = image ∷ machine ∷ []; begun = old.store; before = old.rig.loads }) (around new) text h in
+      let run = image-ends (image_rows i (old.store.contents vectors) new.store old.rig.failures new.rig) (record { image = i; vectors = vectors; files = image ∷ machine ∷ []; begun = old.store; before = old.rig.loads }) (around new) text h in
       let rows = run.rows in
       record {
         shape = m;

@@ -16,7 +16,7 @@ module _ (machine name image vectors : List ℕ) (old new : Around) where
 
   -- the rows of an image, and where its work begins
   abbrev rows : ImageValue → RowWork
-  rows i = image_rows i t.vectors new.store.current old.rig.failures new.rig
+  rows i = image_rows i t.vectors new.store old.rig.failures new.rig
 
   abbrev begin : ImageValue → RowsBegin
   begin i = record { image = i; vectors = vectors; files = image ∷ machine ∷ []; begun = old.store; before = old.rig.loads }

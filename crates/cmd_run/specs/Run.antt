@@ -11,7 +11,7 @@ use Rattle.run_image.specs.Rows.{most_rows, image_rows, image_course}
 -- The image is loaded by one load, and its rows are written
 abbrev pub image_run : (machine image vectors : List ℕ) → Around → Around → ImageValue → Course
 image_run machine image vectors old new i =
-    image_course (image_rows i (old.store.contents vectors) new.store.current old.rig.failures new.rig)
+    image_course (image_rows i (old.store.contents vectors) new.store old.rig.failures new.rig)
     (record { image = i; vectors = vectors; files = image ∷ machine ∷ []; begun = old.store; before = old.rig.loads }) new
 
 -- The image is read and run

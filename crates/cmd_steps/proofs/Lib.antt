@@ -15,6 +15,7 @@ pub mod Machines
 pub mod Standing
 pub mod Done
 pub mod JobLemmas
+pub mod Prompt
 pub mod WrittenRows
 pub mod OpenedRows
 pub mod OpenedLaws

@@ -9,7 +9,7 @@ use Rattle.cmd_steps.proofs.Logs.{log_kept}
 -- an outside to ask with for what doesn't depend on it
 abbrev pub nothing : Outside
 nothing = record {
-  store = record { contents = λ name. untold; asked = []; current = None; failures = 0 };
+  store = record { contents = λ name. untold; asked = []; current = None; read_at = None; failures = 0 };
   rig = record {
     machine = record { asked = []; attached = None; faults = None; texts = λ name. None; refused = record { times = 0; last = None } };
     session = None;

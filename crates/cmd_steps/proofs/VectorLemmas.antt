@@ -1,15 +1,16 @@
 -- A file of vectors that is read, vector by vector.
-use Rattle.std.proofs.Common.{◌≡◌, ℕ, ◌+◌, ◌-◌, ◌<◌, ◌≤◌, Bool, true, false, List, [], ◌∷◌, ◌++◌, length, take, drop, map, Some, IfSome, option_map, slice_get, unwrap_or, arith, refl, sym, ap, ◌∙◌, append-nil, append_assoc, length-append, length-drop}
+use Rattle.std.proofs.Common.{◌≡◌, ℕ, ◌+◌, ◌-◌, ◌<◌, ◌≤◌, Bool, true, false, List, [], ◌∷◌, ◌++◌, length, take, drop, map, Option, None, Some, IfSome, option_map, slice_get, unwrap_or, arith, refl, sym, ap, ◌∙◌, append-nil, append_assoc, length-append, length-drop}
+use Rattle.std.specs.Option.{option_map_or}
 use Rattle.std.proofs.Math.Seq.{take-append_seam, get_or-append_seam}
-use Rattle.std.proofs.lemmas.List.{length-map, map-append}
-use Rattle.std.proofs.lemmas.Option.{slice_get-get_or}
-use Rattle.base_io.specs.Vocabulary.{Told, untold, absent, holds, bytes_of, IfTold, IsPresent, StoreState, rest_of}
+use Rattle.std.proofs.lemmas.List.{length-map, map-append, drop-drop}
+use Rattle.std.proofs.lemmas.Option.{slice_get-get_or, slice_get_past}
+use Rattle.base_io.specs.Vocabulary.{Told, untold, absent, holds, bytes_of, IfTold, IsPresent, StorePlace, StoreState, rest_of}
 use Rattle.design_vectors.specs.declared.vectors.VectorKind.{VectorKind}
 use Rattle.design_vectors.specs.Vectors.{SaidVectors, VectorLine, nothing_said, with_vector}
 use Rattle.design_vectors.specs.declared.vectors.VectorsFail.TheVariants.{Text}
 use Rattle.cmd_steps.proofs.TextLemmas.{IfTold-with}
 use Rattle.design_vectors.specs.Readings.{VectorReading, new_reading, says_next, NextGives, NextFails, IsFaultOf, HasMoved}
-use Rattle.cmd_steps.specs.Files.{most_vector_bytes, most_ahead, says_at, vectors_at, end_at, AreFirst, AreAll, AreBeforeFault, IsNearNext, file_of, IsBegun}
+use Rattle.cmd_steps.specs.Files.{most_vector_bytes, most_ahead, says_at, vectors_at, end_at, AreFirst, AreAll, AreBeforeFault, IsNearNext, IsNearEnd, file_of, IsBegun}
 
 abbrev pub bits_of_line : VectorLine → List Bool
 bits_of_line v = v.bits
@@ -25,6 +26,7 @@ says_ahead reading bytes = says_next reading (reading.unread ++ drop (given_of r
 -- these vectors were taken, and the rest of the file is ahead
 pub record IsTakenTo (width : ℕ) (bytes : List ℕ) (reading : VectorReading) (taken : List (List Bool)) : Type 0 where
   pub within : given_of reading ≤ length bytes
+  pub ahead : reading.unread ++ drop (given_of reading) bytes ≡ drop reading.at bytes
   pub lines : List VectorLine
   pub bits : map bits_of_line lines ≡ taken
   pub vectors : (says_at width bytes).vectors ≡ lines ++ (says_ahead reading bytes).vectors
@@ -56,6 +58,7 @@ IsTaking-start width before begun = record {
   place = begun.1;
   told = IfTold-all (before.contents begun.0) _ begun.2 (λ bytes. record {
     within = omega arith;
+    ahead = refl;
     lines = [];
     bits = refl;
     vectors = refl;
@@ -68,16 +71,27 @@ said-more : (told : Told) (r r' : VectorReading) (vector : List Bool) (bytes : L
 said-more told r r' vector bytes is h =
     let e = rw is at h in cc
 
-told-more : (width : ℕ) (told : Told) (r r' : VectorReading) (vector : List Bool) (taken : List (List Bool)) (count : ℕ) → option_map (says_next r) (option_map (λ rest. r.unread ++ rest) (option_map (drop (given_of r)) (bytes_of told))) ≡ option_map (with_vector vector r'.at) (option_map (says_next r') (option_map (λ rest. r'.unread ++ rest) (option_map (drop (given_of r')) (bytes_of told)))) → IfSome (option_map (drop (given_of r)) (bytes_of told)) (λ rest. count ≤ length rest) → given_of r + count ≡ given_of r' → IfTold told (λ bytes. IsTakenTo width bytes r taken) → IfTold told (λ bytes. IsTakenTo width bytes r' (taken ++ vector ∷ []))
-told-more width untold r r' vector taken count said within place h = tt
-told-more width absent r r' vector taken count said within place h = h
-told-more width (holds bytes) r r' vector taken count said within place h =
+some-is : (x y : List ℕ) → Some x ≡ Some y → x ≡ y
+some-is x y e = ap (λ (o : Option (List ℕ)). option_map_or (λ (l : List ℕ). l) o []) e
+
+-- what is before the reader is the file's from its place on
+ahead-more : (r r' : VectorReading) (bytes : List ℕ) → r.at < r'.at → r.unread ++ drop (given_of r) bytes ≡ drop r.at bytes → Some (r'.unread ++ drop (given_of r') bytes) ≡ Some (drop (r'.at - r.at) (r.unread ++ drop (given_of r) bytes)) → r'.unread ++ drop (given_of r') bytes ≡ drop r'.at bytes
+ahead-more r r' bytes further ahead moves =
+    let place : r.at + (r'.at - r.at) ≡ r'.at = omega (arith, further) in
+    some-is (r'.unread ++ drop (given_of r') bytes) (drop (r'.at - r.at) (r.unread ++ drop (given_of r) bytes)) moves
+    ∙ (ap (λ (l : List ℕ). drop (r'.at - r.at) l) ahead ∙ (drop-drop (r'.at - r.at) r.at bytes ∙ ap (λ (n : ℕ). drop n bytes) place))
+
+told-more : (width : ℕ) (told : Told) (r r' : VectorReading) (vector : List Bool) (taken : List (List Bool)) (count : ℕ) → r.at < r'.at → option_map (λ rest. r'.unread ++ rest) (option_map (drop (given_of r')) (bytes_of told)) ≡ option_map (λ bytes. drop (r'.at - r.at) bytes) (option_map (λ rest. r.unread ++ rest) (option_map (drop (given_of r)) (bytes_of told))) → option_map (says_next r) (option_map (λ rest. r.unread ++ rest) (option_map (drop (given_of r)) (bytes_of told))) ≡ option_map (with_vector vector r'.at) (option_map (says_next r') (option_map (λ rest. r'.unread ++ rest) (option_map (drop (given_of r')) (bytes_of told)))) → IfSome (option_map (drop (given_of r)) (bytes_of told)) (λ rest. count ≤ length rest) → given_of r + count ≡ given_of r' → IfTold told (λ bytes. IsTakenTo width bytes r taken) → IfTold told (λ bytes. IsTakenTo width bytes r' (taken ++ vector ∷ []))
+told-more width untold r r' vector taken count further moves said within place h = tt
+told-more width absent r r' vector taken count further moves said within place h = h
+told-more width (holds bytes) r r' vector taken count further moves said within place h =
     let next = said-more (holds bytes) r r' vector bytes refl said in
     let line : VectorLine = record { bits = vector; next_at = r'.at } in
     let rest = (says_ahead r' bytes).vectors in
     let fits : count ≤ length bytes - given_of r = rw length-drop at within in
     record {
       within = omega (arith, h.within, fits, place);
+      ahead = ahead-more r r' bytes further h.ahead moves;
       lines = h.lines ++ line ∷ [];
       bits = map-append bits_of_line h.lines (line ∷ []) ∙ ap (λ t. t ++ vector ∷ []) h.bits;
       vectors = h.vectors ∙ (ap (λ (s : SaidVectors). h.lines ++ s.vectors) next ∙ sym (append_assoc h.lines (line ∷ []) rest));
@@ -85,11 +99,11 @@ told-more width (holds bytes) r r' vector taken count said within place h =
     }
 
 -- what a store has left of a file
-rest-is : (store : StoreState) (name : List ℕ) (contents : List ℕ → Told) (at : ℕ) → store.contents ≡ contents → store.current ≡ Some (record { name = name; at = at }) → rest_of store ≡ option_map (drop at) (bytes_of (contents name))
+pub rest-is : (store : StoreState) (name : List ℕ) (contents : List ℕ → Told) (at : ℕ) → store.contents ≡ contents → store.current ≡ Some (record { name = name; at = at }) → rest_of store ≡ option_map (drop at) (bytes_of (contents name))
 rest-is store name contents at same place = rw (place, same) refl
 
-pub IsTaking-more : (width : ℕ) (before store store' : StoreState) (r r' : VectorReading) (vector : List Bool) (taken : List (List Bool)) → IsTaking width before store r taken → store'.contents ≡ store.contents → store.failures ≤ store'.failures → store'.asked ≡ store.asked → NextGives true vector r r' store store' → HasMoved r r' store store' → IsTaking width before store' r' (taken ++ vector ∷ [])
-IsTaking-more width before store store' r r' vector taken so_far contents later asked gives moves =
+pub IsTaking-more : (width : ℕ) (before store store' : StoreState) (r r' : VectorReading) (vector : List Bool) (taken : List (List Bool)) → IsTaking width before store r taken → store'.contents ≡ store.contents → store.failures ≤ store'.failures → store'.asked ≡ store.asked → NextGives true vector r r' store store' → HasMoved r r' store store' → r.at < r'.at → IsTaking width before store' r' (taken ++ vector ∷ [])
+IsTaking-more width before store store' r r' vector taken so_far contents later asked gives moves further =
     let n : given_of r + moves.count ≡ given_of r' = moves.bytes in
     let contents' = contents ∙ so_far.contents in
     let place' : store'.current ≡ Some (record { name = so_far.name; at = given_of r' }) = rw (moves.place, so_far.place, n) refl in
@@ -97,6 +111,7 @@ IsTaking-more width before store store' r r' vector taken so_far contents later 
     let rest' = rest-is store' so_far.name before.contents (given_of r') contents' place' in
     let said = rw (rest, rest') at gives in
     let within = rw rest at moves.within in
+    let ahead = rw (rest, rest') at moves.ahead in
     record {
       name = so_far.name;
       begun = so_far.begun;
@@ -104,7 +119,7 @@ IsTaking-more width before store store' r r' vector taken so_far contents later 
       later = omega (arith, so_far.later, later);
       asked = asked ∙ so_far.asked;
       place = place';
-      told = told-more width (before.contents so_far.name) r r' vector taken moves.count said within n so_far.told;
+      told = told-more width (before.contents so_far.name) r r' vector taken moves.count further ahead said within n so_far.told;
     }
 
 -- the vectors of the file are those taken and those ahead
@@ -187,3 +202,24 @@ taken-fault width before store store' r taken line kind so_far fails =
     let rest = rest-is store so_far.name before.contents (given_of r) so_far.contents so_far.place in
     let place : store'.current ≡ Some (record { name = so_far.name; at = given_of r + fails.0 }) = rw (fails.1, so_far.place) refl in
     rw (file-is before so_far.name so_far.begun, place) (fault-told width (before.contents so_far.name) so_far.name r taken fails.0 line kind so_far.told (rw rest at fails.2))
+
+-- at the end of the file the store isn't beyond it
+end-near : (width : ℕ) (told : Told) (name : List ℕ) (r : VectorReading) (taken : List (List Bool)) (count : ℕ) → IfTold told (λ bytes. IsTakenTo width bytes r taken) → IfSome (option_map (drop (given_of r)) (bytes_of told)) (λ rest. count ≤ length rest) → AreAll width told taken → IsNearEnd width told (Some (record { name = name; at = given_of r + count })) (length taken)
+end-near width untold name r taken count h within all = tt
+end-near width absent name r taken count h within all = h
+end-near width (holds bytes) name r taken count h within all =
+    let fits : count ≤ length bytes - given_of r = rw length-drop at within in
+    let lines : length (says_at width bytes).vectors ≡ length taken = sym (length-map (says_at width bytes).vectors bits_of_line) ∙ ap length all.0 in
+    let past : slice_get (says_at width bytes).vectors (length taken) ≡ None = slice_get_past (says_at width bytes).vectors (length taken) (omega (arith, lines)) in
+    rw past (omega (arith, h.within, fits))
+
+pub taken-near-end : (width : ℕ) (before store store' : StoreState) (r r' : VectorReading) (taken : List (List Bool)) → IsTaking width before store r taken → AreAll width (file_of before) taken → HasMoved r r' store store' → IsNearEnd width (file_of before) store'.current (length taken)
+taken-near-end width before store store' r r' taken so_far all moves =
+    let name = so_far.name in
+    let rest = rest-is store name before.contents (given_of r) so_far.contents so_far.place in
+    let place : store'.current ≡ Some (record { name = name; at = given_of r + moves.count }) = rw (moves.place, so_far.place) refl in
+    let file = file-is before name so_far.begun in
+    rw (file, place) (end-near width (before.contents name) name r taken moves.count so_far.told (rw rest at moves.within) (rw file at all))
+
+pub near-end-of : (width : ℕ) (told : Told) (place : Option StorePlace) (count : ℕ) → IsNearNext width told place count → IsNearEnd width told place count
+near-end-of width told place count near = IfTold-with told _ _ near (λ bytes h. h.1)

@@ -1,8 +1,8 @@
 -- The course of a command: its steps in the order of work, and so what may have been written wherever it ends.
-use Rattle.std.specs.Prelude.{◌≡◌, ◌⊎◌, ℕ, Bool, List, [], ◌∷◌, ◌++◌, length, flat_map, Option, None}
-use Rattle.base_io.specs.Vocabulary.{Told, StorePlace}
+use Rattle.std.specs.Prelude.{◌≡◌, ◌⊎◌, ℕ, Bool, List, [], ◌∷◌, ◌++◌, length, flat_map, None}
+use Rattle.base_io.specs.Vocabulary.{Told, StoreState}
 use Rattle.design_vectors.specs.Rows.{row_line}
-use Rattle.cmd_steps.specs.Files.{AreFirst, AreAll, AreBeforeFault, IsNearNext}
+use Rattle.cmd_steps.specs.Files.{AreFirst, AreAll, AreBeforeFault, IsNearNext, IsNearEnd, NoRowWaits}
 use Rattle.cmd_steps.specs.declared.refusal.Refusal.{Refusal}
 use Rattle.cmd_steps.specs.declared.refusal.Refusal.TheVariants as refused
 
@@ -47,34 +47,36 @@ pub record RowWork : Type 1 where
   pub width : ℕ
   -- the file of vectors, where it is told
   pub told : Told
-  -- where the store stands at the end
-  pub place : Option StorePlace
+  -- the store at the end
+  pub store : StoreState
   -- these are the rows of these vectors
   pub are : (vectors rows : List (List Bool)) → Type 0
   -- and the rig's session is these vectors and rows
   pub session : (vectors rows : List (List Bool)) → Type 0
-  -- behind these rows the session has one more reading, which isn't the same for each copy
+  -- behind these rows the session has a reading that isn't the same for each copy
   pub differs : (vectors rows : List (List Bool)) → Type 0
   -- the rig has failed since the command began, and so has no session any more
   pub lost : Type 0
   -- after so many rows memory may be wanting
   pub lacks : ℕ → Type 0
 
--- the lines of the rows of the first vectors
+-- the lines of the rows of the first vectors. None waited when the store was asked last
 pub record HasRows (w : RowWork) (text : List ℕ) : Type 0 where
   pub vectors : List (List Bool)
   pub rows : List (List Bool)
   pub text_is : text ≡ flat_map row_line rows
   pub first : AreFirst w.width w.told vectors
   pub are : w.are vectors rows
+  pub prompt : NoRowWaits w.width w.told w.store.read_at (length rows)
 
 -- and the session has read them, and no more
 pub record HasReadRows (w : RowWork) (text : List ℕ) : Type 0 where
   pub has : HasRows w text
   pub session : w.session has.vectors has.rows
 
--- The row of one more vector comes next, and the store isn't far beyond that vector's line. The rows behind it that were to go
--- out with it have been read too, and perhaps a reading behind them that differs from copy to copy, unless the rig has failed
+-- The row of one more vector comes next, and the store isn't far beyond that vector's line, and wasn't asked for bytes while that row
+-- waited. The rows behind it that were to go out with it, or were driven with it, have been read too, and perhaps a reading behind them
+-- that differs from copy to copy, unless the rig has failed
 pub record IsBeforeRow (w : RowWork) (text line : List ℕ) : Type 0 where
   pub vectors : List (List Bool)
   pub rows : List (List Bool)
@@ -85,18 +87,19 @@ pub record IsBeforeRow (w : RowWork) (text line : List ℕ) : Type 0 where
   pub first : AreFirst w.width w.told vectors
   pub are : w.are vectors (rows ++ row ∷ more)
   pub session : w.session vectors (rows ++ row ∷ more) ⊎ (w.differs vectors (rows ++ row ∷ more) ⊎ w.lost)
-  pub near : IsNearNext w.width w.told w.place (length rows)
+  pub near : IsNearNext w.width w.told w.store.current (length rows)
+  pub prompt : NoRowWaits w.width w.told w.store.read_at (length rows)
 
 -- a row for each vector of the file
 abbrev pub all_rows : RowWork → Course
 all_rows w text ends = (h : HasReadRows w text) × AreAll w.width w.told h.has.vectors
 all_rows w text (writes line) = IsBeforeRow w text line
 all_rows w text (refuses (refused.Vectors line kind)) =
-    (h : HasReadRows w text) × AreBeforeFault w.width w.told w.place line kind h.has.vectors
-all_rows w text (refuses refused.Store) = HasReadRows w text × (w.place ≡ None)
-all_rows w text (refuses refused.Rig) = (h : HasRows w text) × IsNearNext w.width w.told w.place (length h.rows)
+    (h : HasReadRows w text) × AreBeforeFault w.width w.told w.store.current line kind h.has.vectors
+all_rows w text (refuses refused.Store) = HasReadRows w text × (w.store.current ≡ None)
+all_rows w text (refuses refused.Rig) = (h : HasRows w text) × IsNearEnd w.width w.told w.store.current (length h.rows)
 all_rows w text (refuses refused.Memory) =
-    (h : HasReadRows w text) × w.lacks (length h.has.rows) × IsNearNext w.width w.told w.place (length h.has.rows)
+    (h : HasReadRows w text) × w.lacks (length h.has.rows) × IsNearNext w.width w.told w.store.current (length h.has.rows)
 all_rows w text (refuses refused.Differ) =
-    (h : HasRows w text) × w.differs h.vectors h.rows × IsNearNext w.width w.told w.place (length h.rows)
+    (h : HasRows w text) × w.differs h.vectors h.rows × IsNearNext w.width w.told w.store.current (length h.rows)
 all_rows w text (refuses refusal) = ⊥

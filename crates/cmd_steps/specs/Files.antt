@@ -1,6 +1,8 @@
 -- What the files of vectors say, and how far they are read.
-use Rattle.std.specs.Prelude.{◌≡◌, ℕ, ◌+◌, ◌<◌, ◌≤◌, Bool, List, map, length, take, slice_get, Option, None, Some, IfSome, option_map}
-use Rattle.std.specs.Prelude.{unwrap_or}
+use Rattle.std.specs.Prelude.{◌≡◌, ℕ, ◌+◌, ◌-◌, ◌<◌, ◌≤◌, Bool, List, map, length, take, drop, get_or, slice_get, Option, None}
+use Rattle.std.specs.Prelude.{Some, IfSome}
+use Rattle.std.specs.Prelude.{option_map, unwrap_or}
+use Rattle.std.specs.List.{AllByRecursion}
 use Rattle.base_io.specs.Vocabulary.{Told, untold, holds, IfTold, IsPresent, StorePlace, StoreState}
 use Rattle.design_vectors.specs.Vectors.{SaidVectors, VectorLine, file_says}
 use Rattle.design_vectors.specs.declared.vectors.VectorKind.{VectorKind}
@@ -61,6 +63,21 @@ abbrev pub IsNearNext : ℕ → Told → Option StorePlace → ℕ → Type 0
 IsNearNext width told place count =
     IfTold told (λ bytes. (count < length (vectors_at width bytes)) × IsNear place (end_at width bytes count))
 
+-- a row is lacking after so many, or none is: the place is not far beyond the next vector's line, or the end of the file
+abbrev pub IsNearEnd : ℕ → Told → Option StorePlace → ℕ → Type 0
+IsNearEnd width told place count = IfTold told (λ bytes. IsNear place (end_at width bytes count))
+
+-- the line of a vector has ended in the first n bytes of the file: a line feed there ends it
+pub record HasEnded (n : ℕ) (bytes : List ℕ) (v : VectorLine) : Type 0 where
+  pub within : v.next_at ≤ n
+  pub feed : get_or bytes (v.next_at - 1) 0 ≡ 10
+
+-- When the store was asked for bytes last, no row waited: each vector whose line had ended in the bytes before is one of the first so
+-- many
+abbrev pub NoRowWaits : ℕ → Told → (read_at : Option ℕ) → (count : ℕ) → Type 0
+NoRowWaits width told read_at count =
+    IfTold told (λ bytes. IfSome read_at (λ n. AllByRecursion (λ v. HasEnded n bytes v → ⊥) (drop count (says_at width bytes).vectors)))
+
 -- ---- a file that is read on
 
 -- what is told of the current file
@@ -71,6 +88,7 @@ file_in contents (Some p) = contents p.name
 abbrev pub file_of : StoreState → Told
 file_of store = file_in store.contents store.current
 
--- the current file is at its first byte
+-- the current file is at its first byte, and wasn't asked for bytes
 abbrev pub IsBegun : StoreState → Type 0
-IsBegun store = (name : List ℕ) × (store.current ≡ Some (record { name = name; at = 0 })) × IsPresent (store.contents name)
+IsBegun store =
+    (name : List ℕ) × (store.current ≡ Some (record { name = name; at = 0 })) × IsPresent (store.contents name) × (store.read_at ≡ None)

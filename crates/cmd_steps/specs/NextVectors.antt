@@ -1,8 +1,9 @@
 -- The next vector of a file that is read from a store, and rows that wait to be written together.
 use Rattle.std.specs.Prelude.{◌≡◌, ◌⊎◌, ◌<◌, ◌≤◌, ℕ, List, [], Bool, true, false, length, Result, IsOk}
 use Rattle.base_io.specs.Vocabulary.{StoreState, SinkState, Wrote}
+use Rattle.design_vectors.specs.declared.vectors.VectorsFail.{VectorsFail}
 use Rattle.design_vectors.specs.declared.vectors.VectorsFail.TheVariants.{Text, Failed}
-use Rattle.design_vectors.specs.Readings.{VectorReading, NextGives, NextFails, HasMoved}
+use Rattle.design_vectors.specs.Readings.{VectorReading, NextGives, NextFails, HasMoved, HasAsked}
 use Rattle.cmd_steps.specs.Files.{most_vector_bytes, most_ahead}
 use Rattle.cmd_steps.specs.Stops.{WriteStops}
 use Rattle.cmd_steps.specs.Took.{Puts}
@@ -20,9 +21,21 @@ pub record StaysOpen (old new : StoreState) : Type 0 where
 pub record IsRead (vector : List Bool) (old new : VectorReading) (before after : StoreState) : Type 0 where
   pub next : NextGives true vector old new before after
   pub moves : HasMoved old new before after
+  pub asked : HasAsked old before after
   pub unread : length new.unread ≤ most_ahead
   pub onward : old.at < new.at
   pub within : new.at ≤ most_vector_bytes
+
+-- the file has ended, and where the store stands
+pub record EndsFile (old new : VectorReading) (before after : StoreState) : Type 0 where
+  pub next : NextGives false [] old new before after
+  pub moves : HasMoved old new before after
+  pub asked : HasAsked old before after
+
+-- why no vector is read, and the store wasn't asked but where no vector's line had ended
+pub record IsNotRead (fail : VectorsFail) (old : VectorReading) (before after : StoreState) : Type 0 where
+  pub fails : NextFails fail old before after
+  pub asked : HasAsked old before after
 
 -- ---- rows that wait to be written together
 
@@ -65,7 +78,7 @@ IsReadAfter old new =
 abbrev pub NextOf : Bool → List Bool → RowsAt → RowsAt → Type 0
 NextOf true vector old new = IsRead vector old.reading new.reading old.store new.store × IsReadAfter old new
 NextOf false vector old new =
-    NextGives false vector old.reading new.reading old.store new.store × IsPutOut old.waiting new.waiting old.sink new.sink
+    EndsFile old.reading new.reading old.store new.store × IsPutOut old.waiting new.waiting old.sink new.sink
 
 -- the lines that wait aren't put out, and the store wasn't read
 pub record IsHeldUp (stop : Stop) (waiting : List ℕ) (before after : StoreState) (old new : SinkState) : Type 0 where
@@ -79,7 +92,7 @@ pub record IsHeldUp (stop : Stop) (waiting : List ℕ) (before after : StoreStat
 abbrev pub NextStops : Stop → RowsAt → RowsAt → Type 0
 NextStops (Sink fail) old new = IsHeldUp (Sink fail) old.waiting old.store new.store old.sink new.sink
 NextStops (Refused (refused.Vectors line kind)) old new =
-    NextFails (Text line kind) old.reading old.store new.store × IsPutOut old.waiting new.waiting old.sink new.sink
+    IsNotRead (Text line kind) old.reading old.store new.store × IsPutOut old.waiting new.waiting old.sink new.sink
 NextStops (Refused refused.Store) old new =
-    NextFails Failed old.reading old.store new.store × IsPutOut old.waiting new.waiting old.sink new.sink
+    IsNotRead Failed old.reading old.store new.store × IsPutOut old.waiting new.waiting old.sink new.sink
 NextStops (Refused refusal) old new = ⊥

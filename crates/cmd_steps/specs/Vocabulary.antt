@@ -4,8 +4,8 @@ pub use Rattle.base_io.specs.Sink.{SinkState}
 pub use Rattle.rig.specs.Rig.{RigState, shape_of, width_of}
 pub use Rattle.cmd_steps.specs.Lines.{as_line, nets_text, output_text, outputs_line}
 pub use Rattle.cmd_steps.specs.Faults.{ShortPlace}
-pub use Rattle.cmd_steps.specs.Files.{AreAll, AreBeforeFault, AreFirst, AreRightVectors, IsBegun, IsNearNext, end_at, file_of, most_ahead}
-pub use Rattle.cmd_steps.specs.Files.{most_vector_bytes, says_at, vectors_at}
+pub use Rattle.cmd_steps.specs.Files.{AreAll, AreBeforeFault, AreFirst, AreRightVectors, HasEnded, IsBegun, IsNearEnd, IsNearNext}
+pub use Rattle.cmd_steps.specs.Files.{NoRowWaits, end_at, file_of, most_ahead, most_vector_bytes, says_at, vectors_at}
 pub use Rattle.cmd_steps.specs.Outside.{Around, IsLater, LogGoesOn, Outside, SomethingRose, StandsIn, TellsTruly, around, outside}
 pub use Rattle.cmd_steps.specs.Courses.{Course, HasReadRows, HasRows, IsBeforeRow, Next, RowWork, Step, StopsAt, after, all_rows, done}
 pub use Rattle.cmd_steps.specs.Courses.{ends, refuses, write, writes}
@@ -20,6 +20,6 @@ pub use Rattle.cmd_steps.specs.Took.{Follows, Puts, Took}
 pub use Rattle.cmd_steps.specs.Jobs.{Does, EndsShort, EndsWell, Fronts, IsExcused, IsLawful, Job, Leads, quiet, wrong_words}
 pub use Rattle.cmd_steps.specs.Ends.{EndWrote, Ended, Finishes, IsOfFronts, IsRefused, LacksBefore, Refuses, Stands, Unless, cut, cut_line}
 pub use Rattle.cmd_steps.specs.Ends.{no_line, refused, whole}
-pub use Rattle.cmd_steps.specs.NextVectors.{IsHeldUp, IsPutOut, IsRead, IsReadAfter, NextOf, NextStops, RowsAt, StaysOpen, WaitsOrPuts}
-pub use Rattle.cmd_steps.specs.NextVectors.{rows_at}
+pub use Rattle.cmd_steps.specs.NextVectors.{EndsFile, IsHeldUp, IsNotRead, IsPutOut, IsRead, IsReadAfter, NextOf, NextStops, RowsAt}
+pub use Rattle.cmd_steps.specs.NextVectors.{StaysOpen, WaitsOrPuts, rows_at}
 pub use Rattle.cmd_steps.specs.Words.{Asked, DoesAsked, HasNoJob, a_job, asked_if, is_dashed, job_of, no_job, word_at}

@@ -1,5 +1,5 @@
 //! Files of vectors that are started.
-ghost use Rattle.std.specs.Prelude.{◌≡◌, ◌∷◌, [], Some, OnOk};
+ghost use Rattle.std.specs.Prelude.{◌≡◌, ◌∷◌, [], None, Some, OnOk};
 ghost use Rattle.cmd_steps.specs.Vocabulary.{SinkState, RigState, outside, Took};
 ghost use Rattle.cmd_steps.specs.Texts.{opens};
 
@@ -17,6 +17,7 @@ pub fn open_vectors<S: Store>(store: &mut S, name: &str) -> Result<(), Stop>
         Took (name.now ∷ []) (opens ((S.store_state store.old).contents name.now)) result
         (outside (S.store_state store.old) rig sink) (outside (S.store_state store.new) rig sink) }
     ensures begun { OnOk result ((S.store_state store.new).current ≡ Some (record { name = name.now; at = 0 })) }
+    ensures unread { OnOk result ((S.store_state store.new).read_at ≡ None) }
 {
     store.start(name)?;
     Ok(())

@@ -30,7 +30,7 @@ use Rattle.cmd_twice.proofs.Reading.{read-by-both, never-alarmed, first-taken, m
 module _ (vectors : List ℕ) (old new : Outside) (draft : NetlistData) (l : Listed) (i : ImageValue) (is : IsImageForTwice l.list draft i)
     (covers : (f : Faults) → Explains f new.rig → Covers l.list.shape l.list.list f) where
   abbrev work : RowWork
-  work = rows_work (twice_laid draft) i (old.store.contents vectors) new.store.current old.rig.failures new.rig
+  work = rows_work (twice_laid draft) i (old.store.contents vectors) new.store old.rig.failures new.rig
 
   abbrev AreFirstOf : List (List Bool) → Type 0
   AreFirstOf driven = AreFirst (length draft.inputs) (old.store.contents vectors) driven
@@ -65,11 +65,23 @@ module _ (vectors : List ℕ) (old new : Outside) (draft : NetlistData) (l : Lis
   -- one more reading differs, behind these rows and perhaps others that wait
   from-apart : (text : List ℕ) (driven rows more : List (List Bool)) → text ≡ flat_map row_line rows
       → (all : List (List Bool)) → take (length rows) (all_repeated Two all ++ more) ≡ all_repeated Two rows
+<<<<<<< HEAD
       → (apart : ReadsApart (old.store.contents vectors) i new.rig driven all) → more ≡ apart.reading ∷ [] → SoFar text
   from-apart text driven rows more text_is all taken apart behind =
       by-session text (driven ++ apart.vector ∷ []) rows text_is (first-of (driven ++ apart.vector ∷ []) apart.next)
       (read-by-both l.list draft i is (driven ++ apart.vector ∷ []) new.rig apart.session.config apart.session.drives apart.widths covers rows
       (ap (take (length rows)) (sym apart.session.rows_are ∙ ap (λ (m : List (List Bool)). all_repeated Two all ++ m) (sym behind)) ∙ taken))
+=======
+      → (apart : ReadsApart (old.store.contents vectors) i new.rig driven all) → more ≡ apart.reading ∷ apart.read_behind → SoFar text
+  from-apart text driven rows more text_is all taken apart behind = record {
+    driven = driven ++ apart.vector ∷ apart.behind;
+    rows = rows;
+    text_is = text_is;
+    first = first-of (driven ++ apart.vector ∷ apart.behind) apart.next;
+    read = inl (read-by-both l.list draft i is (driven ++ apart.vector ∷ apart.behind) new.rig apart.session.config apart.session.drives apart.widths covers rows
+        (ap (take (length rows)) (sym apart.session.rows_are ∙ ap (λ (m : List (List Bool)). all_repeated Two all ++ m) (sym behind)) ∙ taken));
+  }
+>>>>>>> rows/ready
 
   -- rows and those that wait, before a further reading
   some-taken : (rows others more : List (List Bool)) → take (length rows) (all_repeated Two (rows ++ others) ++ more) ≡ all_repeated Two rows
@@ -87,16 +99,21 @@ module _ (vectors : List ℕ) (old new : Outside) (draft : NetlistData) (l : Lis
           (read-by-both l.list draft i is h.vectors new.rig session.config session.drives h.are.read.widths covers h.rows
           (ap (take (length h.rows)) (sym session.rows_are) ∙ more-taken h.rows (h.row ∷ h.more)))
       by-line (inr (inl apart)) =
+<<<<<<< HEAD
           from-apart text h.vectors h.rows (apart.reading ∷ []) h.text_is (h.rows ++ h.row ∷ h.more) (some-taken h.rows (h.row ∷ h.more) (apart.reading ∷ [])) apart refl
       by-line (inr (inr lost)) =
           by-log text h.vectors h.rows (h.rows ++ h.row ∷ h.more) h.text_is (first-of h.vectors h.first) (sym (take_at h.rows (h.row ∷ h.more) (length h.rows) refl)) h.are lost
+=======
+          from-apart text h.vectors h.rows (apart.reading ∷ apart.read_behind) h.text_is (h.rows ++ h.row ∷ h.more) (some-taken h.rows (h.row ∷ h.more) (apart.reading ∷ apart.read_behind)) apart refl
+      by-line (inr (inr lost)) = record { driven = h.vectors; rows = h.rows; text_is = h.text_is; first = first-of h.vectors h.first; read = inr lost }
+>>>>>>> rows/ready
   so-far text (refuses (refused.Vectors line kind)) h rose = from-read text h.0
   so-far text (refuses refused.Store) h rose = from-read text h.0
   so-far text (refuses refused.Rig) h rose =
       by-log text h.0.vectors h.0.rows h.0.rows h.0.text_is (first-of h.0.vectors h.0.first) (sym (take_all (length h.0.rows) h.0.rows (omega arith))) h.0.are (rose refl)
   so-far text (refuses refused.Memory) h rose = from-read text h.0
   so-far text (refuses refused.Differ) h rose =
-      from-apart text h.0.vectors h.0.rows (h.1.reading ∷ []) h.0.text_is h.0.rows (first-taken h.0.rows (h.1.reading ∷ [])) h.1 refl
+      from-apart text h.0.vectors h.0.rows (h.1.reading ∷ h.1.read_behind) h.0.text_is h.0.rows (first-taken h.0.rows (h.1.reading ∷ h.1.read_behind)) h.1 refl
   so-far text (refuses refusal) h rose = absurd h
 
 -- ---- wherever it ends
@@ -162,7 +179,7 @@ module _ (machine name design vectors : List ℕ) (old new : Outside) (text more
 
     -- rows are written
     in-rows : (draft : NetlistData) → (reads_design Design (old.store.contents design)).gives draft → (rest : List ℕ) → text ≡ text_of l.list ++ rest → (i : ImageValue) → IsImageForTwice l.list draft i
-        → (lines : List ℕ) → rest ≡ outputs_line ++ lines → all_rows (rows_work (twice_laid draft) i (old.store.contents vectors) new.store.current old.rig.failures new.rig) lines next → Stands
+        → (lines : List ℕ) → rest ≡ outputs_line ++ lines → all_rows (rows_work (twice_laid draft) i (old.store.contents vectors) new.store old.rig.failures new.rig) lines next → Stands
     in-rows draft gives rest is i laid lines first at =
         let so = so-far vectors old new draft l i laid covers-all lines next at rose in
         let rows : rest ≡ output_text so.rows = first ∙ ap (λ (s : List ℕ). outputs_line ++ s) so.text_is in
@@ -200,17 +217,17 @@ module _ (machine name design vectors : List ℕ) (old new : Outside) (text : Li
   differ-at : (m : Shape) (read : (reads_machine (old.store.contents machine)).gives m) (attached : new.rig.machine.attached ≡ Some (record { shape = m; name = name }))
       (l : Listed) (list : IsListed m old.rig.loads new.rig l) (draft : NetlistData) → (reads_design Design (old.store.contents design)).gives draft → (rest : List ℕ) → text ≡ text_of l.list ++ rest
       → (i : ImageValue) → IsImageForTwice l.list draft i → (lines : List ℕ) → rest ≡ outputs_line ++ lines
-      → all_rows (rows_work (twice_laid draft) i (old.store.contents vectors) new.store.current old.rig.failures new.rig) lines (refuses refused.Differ) → ReadDifferently machine name design vectors old new
+      → all_rows (rows_work (twice_laid draft) i (old.store.contents vectors) new.store old.rig.failures new.rig) lines (refuses refused.Differ) → ReadDifferently machine name design vectors old new
   differ-at m read attached l list draft gives rest is i laid lines first h =
       let covers : (f : Faults) → Explains f new.rig → Covers l.list.shape l.list.list f = λ f e. subst (λ (s : Shape). Covers s l.list.list f) (sym list.shape) (list.right.covers f e) in
       let apart = h.1 in
       let rows = h.0.rows in
-      let driven = h.0.vectors ++ apart.vector ∷ [] in
+      let driven = h.0.vectors ++ apart.vector ∷ apart.behind in
       let wide = subst (λ (k : ℕ). AreFirst k (old.store.contents vectors) driven) laid.width apart.next in
       let size = h.0.are.read.count in
       let size_rows = repeated-count Two rows in
       let size_vectors = repeated-count Two h.0.vectors in
-      let size_driven = length-append h.0.vectors (apart.vector ∷ []) in
+      let size_driven = length-append h.0.vectors (apart.vector ∷ apart.behind) in
       let written : text ≡ text_of l.list ++ output_text rows = is ∙ ap (λ (s : List ℕ). text_of l.list ++ s) (first ∙ ap (λ (s : List ℕ). outputs_line ++ s) h.0.text_is) in
       record {
         made = l;
@@ -218,15 +235,16 @@ module _ (machine name design vectors : List ℕ) (old new : Outside) (text : Li
         driven = driven;
         rows = rows;
         reading = apart.reading;
+        read_behind = apart.read_behind;
         files = record { list = record { shape = m; machine_is = read; attached = attached; is_listed = list }; design_is = gives; first = wide };
         count = omega (arith, size, size_rows, size_vectors, size_driven);
         written = subst (λ (s : List ℕ). Wrote old.sink.written new.sink.written s)
             (ap (λ (s : List ℕ). s ++ refusal_text refused.Differ) written ∙ append_assoc (text_of l.list) (output_text rows) (refusal_text refused.Differ)) wrote;
         read = read-by-both l.list draft i laid driven new.rig apart.session.config apart.session.drives apart.widths covers rows
-            (ap (take (length rows)) (sym apart.session.rows_are) ∙ first-taken rows (apart.reading ∷ []));
+            (ap (take (length rows)) (sym apart.session.rows_are) ∙ first-taken rows (apart.reading ∷ apart.read_behind));
         readings_are = sym apart.session.rows_are;
         halves = apart.halves;
-        no_false_alarm = never-alarmed l.list draft i laid driven new.rig apart.session.config apart.session.drives apart.widths covers (all_repeated Two rows) [] apart.reading (sym apart.session.rows_are) apart.halves;
+        no_false_alarm = never-alarmed l.list draft i laid driven new.rig apart.session.config apart.session.drives apart.widths covers (all_repeated Two rows) apart.read_behind apart.reading (sym apart.session.rows_are) apart.halves;
       }
 
   pub differ-twice : twice_course machine name design vectors (around old) (around new) text (refuses refused.Differ) → ReadDifferently machine name design vectors old new

@@ -1,5 +1,9 @@
 -- What the command `twice` does with its words, and what it comes to.
+<<<<<<< HEAD
 use Rattle.std.proofs.Common.{◌≡◌, ◌⊎◌, ℕ, Bool, List, [], ◌∷◌, ◌++◌, sym, subst, inl, inr}
+=======
+use Rattle.std.proofs.Common.{ℕ, Bool, List, sym}
+>>>>>>> rows/ready
 use Rattle.machine_shape.specs.declared.Shape.{Shape}
 use Rattle.machine_meaning.specs.Vocabulary.{Covers, Faults}
 use Rattle.machine_defects.specs.Text.{text_of}
@@ -28,8 +32,12 @@ use Rattle.cmd_twice.proofs.Reading.{never-alarmed}
 
 -- copies that read alike don't differ
 never-apart : (told : Told) (i : ImageValue) (rig : RigState) (vectors rows : List (List Bool)) → ReadsAlike i rig → ReadsApart told i rig vectors rows → ⊥
+<<<<<<< HEAD
 never-apart told i rig vectors rows alike apart =
     alike (vectors ++ apart.vector ∷ []) (all_repeated Two rows) [] apart.reading apart.session.config apart.session.drives (sym apart.session.rows_are) apart.halves
+=======
+never-apart told i rig vectors rows alike apart = alike (all_repeated Two rows) apart.read_behind apart.reading (sym apart.session.rows_are) apart.halves
+>>>>>>> rows/ready
 
 module _ (machine name design vectors : List ℕ) where
   abbrev pub words : Words

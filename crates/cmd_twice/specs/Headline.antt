@@ -1,5 +1,5 @@
 -- What a `twice` has done: when it is done, where the copies differ, and wherever it ends.
-use Rattle.std.specs.Prelude.{◌≡◌, ◌⊎◌, ℕ, ◌+◌, Bool, List, [], ◌∷◌, ◌++◌, map, length, take, Some}
+use Rattle.std.specs.Prelude.{◌≡◌, ◌⊎◌, ℕ, ◌+◌, ◌<◌, Bool, List, [], ◌∷◌, ◌++◌, map, length, take, Some}
 use Rattle.base_io.specs.Vocabulary.{next_count, IfTold, Rose, Wrote}
 use Rattle.machine_shape.specs.declared.Shape.{Shape}
 use Rattle.machine_meaning.specs.Vocabulary.{Faults, Covers, IsFair, IsTight}
@@ -75,19 +75,21 @@ pub data StandsTwice (machine name design vectors : List ℕ) (old new : Outside
 
 -- ---- the copies differ
 
--- The rows that both copies have read were written, and then the line of the refusal. The session has one reading behind these, for the
--- last vector that it drove, and its halves differ. So no set of faults explains all that was read: the machine has changed
+-- The rows that both copies have read were written, and then the line of the refusal. The session has a reading behind these, for the
+-- next vector, and its halves differ; there may be more, of vectors that were driven with it. So no set of faults explains all that was
+-- read: the machine has changed
 pub record ReadDifferently (machine name design vectors : List ℕ) (old new : Outside) : Type 0 where
   pub made : Listed
   pub draft : NetlistData
   pub driven : List (List Bool)
   pub rows : List (List Bool)
   pub reading : List Bool
+  pub read_behind : List (List Bool)
   pub files : AreOfFiles machine name design vectors old new made draft driven
-  pub count : length driven ≡ length rows + 1
+  pub count : length rows < length driven
   pub written : Wrote old.sink.written new.sink.written (text_of made.list ++ (output_text rows ++ refusal_text Differ))
   pub read : AreReadByBoth made.list draft driven rows new.rig
-  pub readings_are : map (image_row read.image) (readings_of (cycles_of new.rig)) ≡ all_repeated Two rows ++ reading ∷ []
+  pub readings_are : map (image_row read.image) (readings_of (cycles_of new.rig)) ≡ all_repeated Two rows ++ reading ∷ read_behind
   pub halves : HalvesDiffer reading
   pub no_false_alarm : (f : Faults) → Explains f new.rig → ⊥
 

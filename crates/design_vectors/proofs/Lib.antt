@@ -5,3 +5,5 @@ mod InsideLemmas
 mod StepLemmas
 mod FeedLemmas
 mod ReadLemmas
+-- ---- cited above
+pub mod OpenLemmas

@@ -1,15 +1,16 @@
 -- Reading on: more bytes from the store, then the unread ones.
 use Rattle.std.proofs.Common.{◌≡◌, ◌⊎◌, ℕ, ◌+◌, ◌-◌, ◌<◌, ◌≤◌, Bool, true, false, List, [], ◌++◌, length, take, drop, Option, None, Some, IfSome, option_map, refl, sym, ap, subst, ◌∙◌, inl, inr, arith, append_assoc, Err, IsSome}
+use Rattle.std.specs.Option.{option_map_or}
 use Rattle.std.proofs.Math.Seq.{take-add, take-append-add, take-append_seam}
-use Rattle.std.proofs.lemmas.List.{length-drop, append-nil}
-use Rattle.base_io.specs.Store.{StoreState, StorePlace, moved, rest_of}
+use Rattle.std.proofs.lemmas.List.{length-drop, append-nil, drop-append-le, drop-drop, length-append, length-take-le}
+use Rattle.base_io.specs.Store.{StoreState, StorePlace, moved, place_of, rest_of}
 use Rattle.design_vectors.specs.declared.vectors.VectorKind.{VectorKind}
 use Rattle.design_vectors.specs.declared.vectors.VectorsFail.{VectorsFail}
 use Rattle.design_vectors.specs.declared.vectors.VectorsFail.TheVariants.{Text, Failed}
 use Rattle.design_vectors.specs.declared.line.Step.{Step}
 use Rattle.design_vectors.specs.declared.line.Step.TheVariants.{Onward, Vector, Fault}
 use Rattle.design_vectors.specs.Vectors.{PhysicalLine, numbered_lines, put_before, shown, byte_fault, lines_say, SaidVectors, nothing_said, with_vector, bits_of, vector_size}
-use Rattle.design_vectors.specs.Readings.{bytes_ahead, says_next, said_ahead, NextGives, NextFails, HasMoved, AreOpen, AskedOpen, StaysWithin, GivesUnread, IsFaultOf}
+use Rattle.design_vectors.specs.Readings.{bytes_ahead, says_next, said_ahead, NextGives, NextFails, HasMoved, AreOpen, AskedOpen, HasAsked, StaysWithin, GivesUnread, IsFaultOf}
 use Rattle.design_vectors.specs.Lines.{PartLine, IsSound, front_of, begun, says_on, EndsAs, EndSays}
 use Rattle.design_vectors.specs.Steps.{reading_of, IsRefilled, IsStoreFail, HasReadOn, answer_of, LineGives, LineFails, HasAnswered, IsWaiting, GoesOn}
 use Rattle.design_vectors.proofs.FeedLemmas.{rest-moved}
@@ -48,6 +49,15 @@ moved-twice : (current : Option StorePlace) (m n : ℕ) → moved (moved current
 moved-twice None m n = refl
 moved-twice (Some p) m n = let e : p.at + m + n ≡ p.at + (m + n) = omega arith in ap (λ (k : ℕ). Some (record { name = p.name; at = k })) e
 
+none-moved : (current : Option StorePlace) (n : ℕ) → IsSome current → current ≡ moved current n → n ≡ 0
+none-moved None n h e = absurd (let some = h in cc)
+none-moved (Some p) n h e = let at : p.at ≡ p.at + n = ap (λ (o : Option StorePlace). option_map_or (λ (q : StorePlace). q.at) o 0) e in omega (arith, at)
+
+-- where the store is asked next
+asked-next : (current : Option StorePlace) (n : ℕ) → option_map (λ (p : StorePlace). p.at) (moved current n) ≡ option_map (λ k. k + n) (option_map (λ (p : StorePlace). p.at) current)
+asked-next None n = refl
+asked-next (Some p) n = refl
+
 still-open : (current : Option StorePlace) (n : ℕ) → IsSome current → IsSome (moved current n)
 still-open None n h = h
 still-open (Some p) n h = h
@@ -57,18 +67,37 @@ both-within : (told : Option (List ℕ)) (m n : ℕ) → IfSome told (λ rest. m
 both-within None m n h k = tt
 both-within (Some rest) m n h k = omega (arith, length-drop m rest)
 
+-- what is before the reader, when it took some of it
+ahead-drop : (told : Option (List ℕ)) (fresh rest : List ℕ) (n : ℕ) → n ≤ length fresh → rest ≡ drop n fresh →
+    option_map (λ (t : List ℕ). rest ++ t) told ≡ option_map (λ (bytes : List ℕ). drop n bytes) (option_map (λ (t : List ℕ). fresh ++ t) told)
+ahead-drop None fresh rest n within is = refl
+ahead-drop (Some t) fresh rest n within is = ap Some (ap (λ (r : List ℕ). r ++ t) is ∙ sym (drop-append-le n fresh t within))
+
+drop-twice : (told : Option (List ℕ)) (m n k : ℕ) → m + n ≡ k → option_map (λ (bytes : List ℕ). drop n bytes) (option_map (λ (bytes : List ℕ). drop m bytes) told) ≡ option_map (λ (bytes : List ℕ). drop k bytes) told
+drop-twice None m n k e = refl
+drop-twice (Some bytes) m n k e = ap Some (drop-drop n m bytes ∙ ap (λ (i : ℕ). drop i bytes) e)
+
+none-dropped : (told : Option (List ℕ)) → told ≡ option_map (λ (bytes : List ℕ). drop 0 bytes) told
+none-dropped None = refl
+none-dropped (Some bytes) = refl
+
 -- where everything stands
 
 pub moves-on : (old line new : PartLine) (unread left fresh rest : List ℕ) (more : Bool) (count : ℕ) (before mid after : StoreState) →
-    mid.contents ≡ before.contents → HasMoved (reading_of old unread) (reading_of line left) before mid →
+    mid.contents ≡ before.contents → old.at ≤ line.at → HasMoved (reading_of old unread) (reading_of line left) before mid →
     IsRefilled more left fresh mid after → line.at + count ≡ new.at → count ≤ length fresh → rest ≡ drop count fresh →
     HasMoved (reading_of old unread) (reading_of new rest) before after
-moves-on old line new unread left fresh rest more count before mid after contents h r at within is =
+moves-on old line new unread left fresh rest more count before mid after contents from h r at within is =
     let size : length rest ≡ length fresh - count = ap length is ∙ length-drop count fresh in
     record {
       count = h.count + r.count;
       place = r.place ∙ ap (λ (c : Option StorePlace). moved c r.count) h.place ∙ moved-twice before.current h.count r.count;
       bytes = omega (arith, h.bytes, r.bytes, size);
+      ahead =
+          let further : (line.at - old.at) + count ≡ new.at - old.at = omega (arith, from, at) in
+          ahead-drop (rest_of after) fresh rest count within is
+          ∙ ap (option_map (λ (bytes : List ℕ). drop count bytes)) (sym r.ahead ∙ h.ahead)
+          ∙ drop-twice (bytes_ahead unread before) (line.at - old.at) count (new.at - old.at) further;
       within = both-within (rest_of before) h.count r.count h.within
           (subst (λ (told : Option (List ℕ)). IfSome told (λ rest. r.count ≤ length rest))
           (rest-moved before mid h.count contents h.place) r.within);
@@ -77,8 +106,9 @@ moves-on old line new unread left fresh rest more count before mid after content
 -- what is undecided
 
 open-of : (old line : PartLine) (unread bytes : List ℕ) → front_of old ≡ [] → IsSound line → line.width ≡ old.width →
-    line.limit ≡ old.limit → ((rest : List ℕ) → says_on old (bytes ++ rest) ≡ says_on line rest) → AreOpen (reading_of old unread) bytes
-open-of old line unread bytes none sound w l says =
+    line.limit ≡ old.limit → line.at ≡ old.at + length bytes → ((rest : List ℕ) → says_on old (bytes ++ rest) ≡ says_on line rest) →
+    AreOpen (reading_of old unread) bytes
+open-of old line unread bytes none sound w l at says =
     let left : shown (front_of line) ≡ line.shown = ap shown (sym (append-nil (front_of line))) ∙ ended line sound in
     record {
       number = line.number;
@@ -86,6 +116,7 @@ open-of old line unread bytes none sound w l says =
       front = front_of line;
       right = ap (byte_fault old.width) left ∙ ap (λ (width : ℕ). byte_fault width line.shown) (sym w)
           ∙ no_byte_fault line.width line.shown sound.right sound.room;
+      behind = at;
       says = λ rest.
           let lines : List PhysicalLine = numbered_lines old.limit old.number old.at (bytes ++ rest) in
           sym (ap (λ (f : List ℕ). lines_say old.width (put_before f lines)) none ∙ ap (lines_say old.width) (put_before-nil lines)) ∙
@@ -96,6 +127,10 @@ open-of old line unread bytes none sound w l says =
 if-more : {X : Type 0} (P Q : X → Type 0) (o : Option X) → IfSome o P → ((x : X) → P x → Q x) → IfSome o Q
 if-more P Q None h more = tt
 if-more P Q (Some x) h more = more x h
+
+if-both : {X : Type 0} (P Q : X → Type 0) (o : Option X) → IfSome o P → IfSome o Q → IfSome o (λ x. P x × Q x)
+if-both P Q None h k = tt
+if-both P Q (Some x) h k = (h, k)
 
 a-piece : (current : Option StorePlace) (n c : ℕ) → c ≤ 65536 →
     IfSome (moved (moved current n) c) (λ p. IfSome current (λ q. p.at ≤ q.at + n + 65536))
@@ -125,6 +160,7 @@ goes-start line unread store open_ = record {
     count = 0;
     place = moved-none store.current;
     bytes = omega arith;
+    ahead = (let none : line.at - line.at ≡ 0 = omega arith in none-dropped (bytes_ahead unread store) ∙ ap (λ (n : ℕ). option_map (λ (bytes : List ℕ). drop n bytes) (bytes_ahead unread store)) (sym none));
     within =
         if-all (λ (rest : List ℕ). 0 ≤ length rest) (rest_of store) (λ rest. omega arith);
   };
@@ -160,23 +196,37 @@ module _ (old line : PartLine) (unread left fresh : List ℕ) (before mid after 
   opens : front_of old ≡ [] → IsSound line → left ≡ [] →
       IsWaiting old unread line left before mid ⊎ AskedOpen (reading_of old unread) before mid → AreOpen (reading_of old unread) unread
   opens none sound empty (inl w) = open-of old line unread unread none sound h.width h.limit
+      (let P : Option StorePlace → Type 0 = λ c. IsSome c in
+      let still : before.current ≡ moved before.current h.moves.count = sym (ap (λ (s : StoreState). s.current) w.0) ∙ h.moves.place in
+      let count = none-moved before.current h.moves.count (subst P (ap (λ (s : StoreState). s.current) w.0) h.current) still in
+      let left_size : length left ≡ 0 = ap length empty in
+      omega (arith, h.moves.bytes, count, left_size))
       (λ rest. w.1 rest ∙ ap (λ (l : List ℕ). says_on line (l ++ rest)) empty)
   opens none sound empty (inr a) = a.unread
 
   opens-last : front_of old ≡ [] → IsSound line → left ≡ [] →
       IfSome (rest_of before) (λ told. AreOpen (reading_of old unread) (unread ++ take h.moves.count told))
   opens-last none sound empty =
-      if-more (λ told. (rest : List ℕ) → says_on old ((unread ++ take h.moves.count told) ++ rest) ≡ says_on line (left ++ rest))
-      (λ told. AreOpen (reading_of old unread) (unread ++ take h.moves.count told)) (rest_of before) h.reads
-      (λ told says. open-of old line unread (unread ++ take h.moves.count told) none sound h.width h.limit
-      (λ rest. says rest ∙ ap (λ (l : List ℕ). says_on line (l ++ rest)) empty))
+      let left_size : length left ≡ 0 = ap length empty in
+      if-more (λ told. ((rest : List ℕ) → says_on old ((unread ++ take h.moves.count told) ++ rest) ≡ says_on line (left ++ rest)) × (h.moves.count ≤ length told))
+      (λ told. AreOpen (reading_of old unread) (unread ++ take h.moves.count told)) (rest_of before)
+      (if-both (λ told. (rest : List ℕ) → says_on old ((unread ++ take h.moves.count told) ++ rest) ≡ says_on line (left ++ rest)) (λ told. h.moves.count ≤ length told) (rest_of before) h.reads h.moves.within)
+      (λ told both. open-of old line unread (unread ++ take h.moves.count told) none sound h.width h.limit
+      (let all : length (unread ++ take h.moves.count told) ≡ length unread + h.moves.count = length-append unread (take h.moves.count told) ∙ ap (λ (n : ℕ). length unread + n) (length-take-le h.moves.count told both.1) in
+      omega (arith, h.moves.bytes, left_size, all))
+      (λ rest. both.0 rest ∙ ap (λ (l : List ℕ). says_on line (l ++ rest)) empty))
 
   -- the store was asked with nothing unread
-  asked-open : front_of old ≡ [] → IsSound line → length fresh ≤ 65536 → left ≡ [] → (more : Bool) →
+  asked-at : after.read_at ≡ place_of mid → after.read_at ≡ option_map (λ n. n + h.moves.count) (place_of before)
+  asked-at at = at ∙ ap (option_map (λ (p : StorePlace). p.at)) h.moves.place ∙ asked-next before.current h.moves.count
+
+  asked-open : front_of old ≡ [] → IsSound line → length fresh ≤ 65536 → left ≡ [] → after.read_at ≡ place_of mid → (more : Bool) →
       IsRefilled more left fresh mid after → AskedOpen (reading_of old unread) before after
-  asked-open none sound few empty more r = record {
+  asked-open none sound few empty at more r = record {
     unread = opens none sound empty (h.open_ none);
     count = h.moves.count;
+    within = h.moves.within;
+    read_at = asked-at at;
     last = opens-last none sound empty;
     piece = subst (λ (c : Option StorePlace). IfSome c (λ p. IfSome before.current (λ q. p.at ≤ q.at + h.moves.count + 65536)))
         (sym (r.place ∙ ap (λ (c : Option StorePlace). moved c r.count) h.moves.place))
@@ -190,19 +240,19 @@ module _ (old line : PartLine) (unread left fresh : List ℕ) (before mid after 
   open-now none sound few more r = by (h.open_ none) r.late
     where
       by : IsWaiting old unread line left before mid ⊎ AskedOpen (reading_of old unread) before mid →
-          ((after ≡ mid) × (fresh ≡ left)) ⊎ (left ≡ []) →
+          ((after ≡ mid) × (fresh ≡ left)) ⊎ ((left ≡ []) × (after.read_at ≡ place_of mid)) →
           ((after ≡ before) × ((rest : List ℕ) → says_on old (unread ++ rest) ≡ says_on line (fresh ++ rest)))
           ⊎ AskedOpen (reading_of old unread) before after
-      by w (inr empty) = inr (asked-open none sound few empty more r)
+      by w (inr empty) = inr (asked-open none sound few empty.0 empty.1 more r)
       by (inl w) (inl same) = inl (same.0 ∙ w.0, λ rest. w.1 rest ∙ ap (λ (l : List ℕ). says_on line (l ++ rest)) (sym same.1))
       by (inr a) (inl same) = inr (subst (λ (s : StoreState). AskedOpen (reading_of old unread) before s) (sym same.0) a)
 
   asked-now : front_of old ≡ [] → IsSound line → length fresh ≤ 65536 → (more : Bool) → IsRefilled more left fresh mid after →
-      (after ≡ before) ⊎ AskedOpen (reading_of old unread) before after
+      HasAsked (reading_of old unread) before after
   asked-now none sound few more r = by (open-now none sound few more r)
     where
       by : ((after ≡ before) × ((rest : List ℕ) → says_on old (unread ++ rest) ≡ says_on line (fresh ++ rest)))
-          ⊎ AskedOpen (reading_of old unread) before after → (after ≡ before) ⊎ AskedOpen (reading_of old unread) before after
+          ⊎ AskedOpen (reading_of old unread) before after → HasAsked (reading_of old unread) before after
       by (inl w) = inl w.0
       by (inr a) = inr a
 
@@ -246,7 +296,7 @@ module _ (old line : PartLine) (unread left fresh : List ℕ) (before mid after 
     says = says-fresh true r ∙ map-rest (says_on line) (says_on new) rest (rest_of after) s.says;
     width = s.width ∙ h.width;
     limit = s.limit ∙ h.limit;
-    moves = moves-on old line new unread left fresh rest true s.count before mid after h.contents h.moves r s.at s.within s.rest;
+    moves = moves-on old line new unread left fresh rest true s.count before mid after h.contents h.from h.moves r s.at s.within s.rest;
     open_ = λ none. open-on new rest s.says (open-now none sound few true r);
     reads = reads-now new rest true r s.says;
     from = (let grown = s.grows refl r.fed in omega (arith, h.from, grown.0));
@@ -260,7 +310,7 @@ module _ (old line : PartLine) (unread left fresh : List ℕ) (before mid after 
   -- the store went on to the fresh bytes
   stays-within : (more : Bool) → IsRefilled more left fresh mid after → StaysWithin before after
   stays-within more r =
-      let m = moves-on old line line unread left fresh fresh more 0 before mid after h.contents h.moves r (omega arith)
+      let m = moves-on old line line unread left fresh fresh more 0 before mid after h.contents h.from h.moves r (omega arith)
       (omega arith) refl in
       record { count = m.count; place = m.place; within = m.within }
 
@@ -272,7 +322,7 @@ module _ (old line : PartLine) (unread left fresh : List ℕ) (before mid after 
       IfSome (bytes_ahead fresh after) (λ bytes. FaultHere number kind (says_on line bytes)) →
       LineFails (Text number kind) old unread before after
   fault-ahead more number kind r here =
-      let m = moves-on old line line unread left fresh fresh more 0 before mid after h.contents h.moves r (omega arith)
+      let m = moves-on old line line unread left fresh fresh more 0 before mid after h.contents h.from h.moves r (omega arith)
       (omega arith) refl in (
         m.count,
         m.place,
@@ -311,7 +361,7 @@ module _ (old line : PartLine) (unread left fresh : List ℕ) (before mid after 
     width = s.width ∙ h.width;
     limit = s.limit ∙ h.limit;
     current = let P : Option StorePlace → Type 0 = λ c. IsSome c in subst P (sym r.place) (still-open mid.current r.count h.current);
-    moves = moves-on old line new unread left fresh rest true s.count before mid after h.contents h.moves r s.at s.within s.rest;
+    moves = moves-on old line new unread left fresh rest true s.count before mid after h.contents h.from h.moves r s.at s.within s.rest;
     onward = λ _. (let whole = s.whole refl in (omega (arith, h.from, whole.0), whole.1));
     stopped = tt;
     open_ = λ none. asked-now none sound few true r;
@@ -360,7 +410,7 @@ module _ (old line : PartLine) (unread left fresh : List ℕ) (before mid after 
     width = h.width;
     limit = h.limit;
     current = let P : Option StorePlace → Type 0 = λ c. IsSome c in subst P (sym r.place) (still-open mid.current r.count h.current);
-    moves = moves-on old line line unread left fresh fresh false 0 before mid after h.contents h.moves r (omega arith) (omega arith) refl;
+    moves = moves-on old line line unread left fresh fresh false 0 before mid after h.contents h.from h.moves r (omega arith) (omega arith) refl;
     onward = λ _. tt;
     stopped = tt;
     open_ = λ none. asked-now none sound few false r;
@@ -380,7 +430,7 @@ module _ (old line : PartLine) (unread left fresh : List ℕ) (before mid after 
     width = h.width;
     limit = h.limit;
     current = let P : Option StorePlace → Type 0 = λ c. IsSome c in subst P (sym r.place) (still-open mid.current r.count h.current);
-    moves = moves-on old line line unread left fresh fresh false 0 before mid after h.contents h.moves r (omega arith) (omega arith) refl;
+    moves = moves-on old line line unread left fresh fresh false 0 before mid after h.contents h.from h.moves r (omega arith) (omega arith) refl;
     onward = λ none. further none ends h.onward;
     stopped = tt;
     open_ = λ none. asked-now none sound few false r;
@@ -397,7 +447,7 @@ module _ (old line : PartLine) (unread left fresh : List ℕ) (before mid after 
   answers-failed (Text number kind) sound empty fault = absurd fault
   answers-failed Failed sound empty fault = record {
     gives = tt;
-    refused = record { closed = fault.closed; rose = omega (arith, h.later, fault.rose) };
+    refused = record { closed = fault.0.closed; rose = omega (arith, h.later, fault.0.rose) };
     width = h.width;
     limit = h.limit;
     current = tt;
@@ -407,9 +457,11 @@ module _ (old line : PartLine) (unread left fresh : List ℕ) (before mid after 
     open_ = λ none. inr (record {
       unread = opens none sound empty (h.open_ none);
       count = h.moves.count;
+      within = h.moves.within;
+      read_at = asked-at fault.1;
       last = opens-last none sound empty;
       piece = subst (λ (c : Option StorePlace). IfSome c (λ p. IfSome before.current (λ q. p.at ≤ q.at + h.moves.count + 65536)))
-          (sym fault.closed) tt;
+          (sym fault.0.closed) tt;
     });
     contents = contents ∙ h.contents;
     asked = asked ∙ h.asked;
@@ -484,6 +536,7 @@ gives-unread row line new unread left few h is = record {
     count = 0;
     place = moved-none store.current;
     bytes = (let size : length left ≡ length unread - h.count = ap length h.rest ∙ length-drop h.count unread in omega (arith, h.within, size, h.at));
+    ahead = (let further : h.count ≡ new.at - line.at = omega (arith, h.at) in ahead-drop (rest_of store) unread left h.count h.within h.rest ∙ ap (λ (n : ℕ). option_map (λ (bytes : List ℕ). drop n bytes) (bytes_ahead unread store)) further);
     within = if-all (λ (rest : List ℕ). 0 ≤ length rest) (rest_of store) (λ rest. omega arith);
   };
   unread = few;

@@ -1,6 +1,7 @@
 -- A vector file that is being read from a store.
-use Rattle.std.specs.Prelude.{◌≡◌, ℕ, ◌+◌, ◌<◌, ◌≤◌, List, [], ◌++◌, length, take, Bool, true, false, Option, None, IfSome, option_map}
-use Rattle.base_io.specs.Store.{StoreState, IsFailure, moved, rest_of}
+use Rattle.std.specs.Prelude.{◌≡◌, ◌⊎◌, ℕ, ◌+◌, ◌-◌, ◌<◌, ◌≤◌, List, [], ◌++◌, length, take, drop, Bool, true, false, Option, None}
+use Rattle.std.specs.Prelude.{IfSome, option_map}
+use Rattle.base_io.specs.Store.{StoreState, IsFailure, moved, place_of, rest_of}
 use Rattle.design_vectors.specs.declared.vectors.VectorsFail.{VectorsFail}
 use Rattle.design_vectors.specs.declared.vectors.VectorsFail.TheVariants.{Text, Failed}
 use Rattle.design_vectors.specs.declared.vectors.VectorKind.{VectorKind}
@@ -55,11 +56,12 @@ NextFails (Text line kind) old before after =
     × IfSome (said_ahead old before) (IsFaultOf line kind (old.at + length old.unread + count))
 NextFails Failed old before after = IsFailure before after
 
--- the store went on by as many bytes as the reader took or has unread
+-- the store went on by as many bytes as the reader took or has unread, and what is before the reader is what is left of what was
 pub record HasMoved (old new : VectorReading) (before after : StoreState) : Type 0 where
   pub count : ℕ
   pub place : after.current ≡ moved before.current count
   pub bytes : old.at + length old.unread + count ≡ new.at + length new.unread
+  pub ahead : bytes_ahead new.unread after ≡ option_map (λ bytes. drop (new.at - old.at) bytes) (bytes_ahead old.unread before)
   pub within : IfSome (rest_of before) (λ rest. count ≤ length rest)
 
 -- these bytes end no vector's line and have no fault: whatever follows them, they say what the beginning of one
@@ -69,17 +71,24 @@ pub record AreOpen (reading : VectorReading) (bytes : List ℕ) : Type 0 where
   pub at : ℕ
   pub front : List ℕ
   pub right : byte_fault reading.width (shown front) ≡ None
+  pub behind : at ≡ reading.at + length bytes
   pub says : (rest : List ℕ) → says_next reading (bytes ++ rest) ≡
       lines_say reading.width (put_before front (numbered_lines reading.limit number at rest))
 
 -- the store was asked for bytes only while no vector's line and no fault was decided in those before: neither in the
--- bytes that were unread, nor in those before the last piece
+-- bytes that were unread, nor in those before it was asked last
 pub record AskedOpen (old : VectorReading) (before after : StoreState) : Type 0 where
   pub unread : AreOpen old old.unread
-  -- how many bytes the store gave before the last piece
+  -- how many bytes the store gave before it was asked last
   pub count : ℕ
+  pub within : IfSome (rest_of before) (λ rest. count ≤ length rest)
+  pub read_at : after.read_at ≡ option_map (λ n. n + count) (place_of before)
   pub last : IfSome (rest_of before) (λ rest. AreOpen old (old.unread ++ take count rest))
   pub piece : IfSome after.current (λ p. IfSome before.current (λ q. p.at ≤ q.at + count + 65536))
+
+-- the store wasn't asked, or only so
+abbrev pub HasAsked : VectorReading → StoreState → StoreState → Type 0
+HasAsked old before after = (after ≡ before) ⊎ AskedOpen old before after
 
 -- a vector takes at least a byte, and no more than are allowed
 abbrev pub GoesFurther : Bool → VectorReading → VectorReading → Type 0

@@ -1,13 +1,13 @@
 -- What the parts of reading a vector's line from a store come to.
 use Rattle.std.specs.Prelude.{◌≡◌, ◌⊎◌, ℕ, ◌+◌, ◌<◌, ◌≤◌, List, [], ◌++◌, length, take, drop, Bool, true, false, Result, Ok, Err, IfSome}
 use Rattle.std.specs.Prelude.{IsSome, IfOk, IfErr, OnOk, option_map}
-use Rattle.base_io.specs.Store.{StoreState, IsFailure, moved, rest_of}
+use Rattle.base_io.specs.Store.{StoreState, IsFailure, moved, place_of, rest_of}
 use Rattle.design_vectors.specs.declared.vectors.VectorsFail.{VectorsFail}
 use Rattle.design_vectors.specs.declared.vectors.VectorsFail.TheVariants.{Text, Failed}
 use Rattle.design_vectors.specs.declared.line.Step.{Step}
 use Rattle.design_vectors.specs.declared.line.Step.TheVariants.{Onward, Vector, Fault}
 use Rattle.design_vectors.specs.Vectors.{nothing_said, with_vector, bits_of, vector_size}
-use Rattle.design_vectors.specs.Readings.{VectorReading, bytes_ahead, IsFaultOf, HasMoved, AskedOpen, GoesFurther, StopsWithin}
+use Rattle.design_vectors.specs.Readings.{VectorReading, bytes_ahead, IsFaultOf, HasMoved, AskedOpen, HasAsked, GoesFurther, StopsWithin}
 use Rattle.design_vectors.specs.Lines.{PartLine, front_of, begun, says_on, SaysStep, IsStepTo, IsFull}
 
 -- where a line and the unread bytes stand
@@ -23,7 +23,7 @@ IsFed false new before = IfSome (rest_of before) (λ rest. rest ≡ [])
 pub record IsRefilled (more : Bool) (old new : List ℕ) (before after : StoreState) : Type 0 where
   pub ahead : bytes_ahead old before ≡ bytes_ahead new after
   pub fed : IsFed more new before
-  pub late : ((after ≡ before) × (new ≡ old)) ⊎ (old ≡ [])
+  pub late : ((after ≡ before) × (new ≡ old)) ⊎ ((old ≡ []) × (after.read_at ≡ place_of before))
   pub ended : more ≡ false → (old ≡ []) × (new ≡ [])
   pub count : ℕ
   pub place : after.current ≡ moved before.current count
@@ -33,7 +33,7 @@ pub record IsRefilled (more : Bool) (old new : List ℕ) (before after : StoreSt
 -- the store's refusal
 abbrev pub IsStoreFail : VectorsFail → StoreState → StoreState → Type 0
 IsStoreFail (Text line kind) before after = ⊥
-IsStoreFail Failed before after = IsFailure before after
+IsStoreFail Failed before after = IsFailure before after × (after.read_at ≡ place_of before)
 
 -- unread bytes were read, all of them where the line or the text goes on
 pub record HasReadOn (step : Step) (old : PartLine) (unread : List ℕ) (new : PartLine) (left : List ℕ) : Type 0 where
@@ -78,7 +78,7 @@ pub record HasAnswered (result : Result Bool VectorsFail) (old : PartLine) (unre
   pub limit : new.limit ≡ old.limit
   pub moves : OnOk result (HasMoved (reading_of old unread) (reading_of new left) before after)
   pub current : OnOk result (IsSome after.current)
-  pub open_ : front_of old ≡ [] → (after ≡ before) ⊎ AskedOpen (reading_of old unread) before after
+  pub open_ : front_of old ≡ [] → HasAsked (reading_of old unread) before after
   pub onward : old.shown ≡ [] → IfOk result (λ more. GoesFurther more (reading_of old unread) (reading_of new left))
   pub stopped : IfErr result (λ e. StopsWithin e before after)
   pub contents : after.contents ≡ before.contents

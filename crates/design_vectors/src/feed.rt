@@ -1,7 +1,7 @@
 //! The bytes that a store gave and that nobody has looked at yet.
 
 ghost use Rattle.std.specs.Prelude.{◌≡◌, ◌≤◌, ◌<◌, [], length, drop, IfOk, IfErr, IfSome, IsSome};
-ghost use Rattle.base_io.specs.Store.{ReadFails, moved, rest_of};
+ghost use Rattle.base_io.specs.Store.{ReadFails, moved, place_of, rest_of};
 ghost use Rattle.design_vectors.specs.Readings.{bytes_ahead};
 
 use base_io::{Store, StoreFail};
@@ -67,6 +67,7 @@ impl Feed {
         ensures contents { (S.store_state store.new).contents ≡ (S.store_state store.old).contents }
         ensures later { (S.store_state store.old).failures ≤ (S.store_state store.new).failures }
         ensures asked { (S.store_state store.new).asked ≡ (S.store_state store.old).asked }
+        ensures asked_at { (S.store_state store.new).read_at ≡ place_of (S.store_state store.old) }
         ensures room { length self.new ≤ 65536 }
         ensures count { IfOk result (λ n. length self.new ≡ n) }
         ensures place { IfOk result (λ n. (S.store_state store.new).current ≡ moved (S.store_state store.old).current n) }

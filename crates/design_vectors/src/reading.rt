@@ -1,9 +1,9 @@
 //! Vector files, read from a store.
 
-ghost use Rattle.std.specs.Prelude.{◌≡◌, ◌⊎◌, ◌-◌, ◌^◌, ◌<◌, ◌≤◌, length, true, false, IfOk, IfErr, OnErr, OnOk, IsSome, []};
+ghost use Rattle.std.specs.Prelude.{◌≡◌, ◌-◌, ◌^◌, ◌<◌, ◌≤◌, length, true, false, IfOk, IfErr, OnErr, OnOk, IsSome, []};
 ghost use Rattle.design_vectors.specs.Lines.{begun};
 ghost use Rattle.design_vectors.specs.Steps.{IsRefilled, IsStoreFail, HasReadOn, reading_of, answer_of, HasAnswered};
-ghost use Rattle.design_vectors.specs.Readings.{new_reading, NextGives, NextFails, HasMoved, AskedOpen, GoesFurther, StopsWithin};
+ghost use Rattle.design_vectors.specs.Readings.{new_reading, NextGives, NextFails, HasMoved, HasAsked, GoesFurther, StopsWithin};
 ghost use Rattle.design_vectors.specs.Readings.{GivesUnread};
 
 use crate::feed::Feed;
@@ -94,9 +94,7 @@ impl VectorText {
         ensures limit { self.new.limit ≡ self.old.limit }
         ensures unread { length self.new.unread ≤ 65536 }
         ensures moved { OnOk result (HasMoved self.old self.new (S.store_state store.old) (S.store_state store.new)) }
-        ensures undecided { let before = S.store_state store.old in
-            let after = S.store_state store.new in
-            (after ≡ before) ⊎ AskedOpen self.old before after }
+        ensures undecided { HasAsked self.old (S.store_state store.old) (S.store_state store.new) }
         ensures onward { IfOk result (λ more. GoesFurther more self.old self.new) }
         ensures stopped { IfErr result (λ e. StopsWithin e (S.store_state store.old) (S.store_state store.new)) }
         ensures current { OnOk result (IsSome (S.store_state store.new).current) }

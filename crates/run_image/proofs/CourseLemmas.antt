@@ -12,7 +12,7 @@ use Rattle.run_image.specs.Rows.{most_rows, RowsBegin, IsAtOutputs, image_course
 
 -- the same work, of which the rows are such
 abbrev pub with_rows : RowWork → (are : (vectors rows : List (List Bool)) → Type 0) → RowWork
-with_rows w are = record { width = w.width; told = w.told; place = w.place; are = are; session = w.session; differs = w.differs; lost = w.lost; lacks = w.lacks }
+with_rows w are = record { width = w.width; told = w.told; store = w.store; are = are; session = w.session; differs = w.differs; lost = w.lost; lacks = w.lacks }
 
 module _ (w : RowWork) (are : (vectors rows : List (List Bool)) → Type 0) (also : (vectors rows : List (List Bool)) → w.are vectors rows → are vectors rows) where
   abbrev has-also : (text : List ℕ) → HasRows w text → HasRows (with_rows w are) text
@@ -22,6 +22,7 @@ module _ (w : RowWork) (are : (vectors rows : List (List Bool)) → Type 0) (als
     text_is = h.text_is;
     first = h.first;
     are = also h.vectors h.rows h.are;
+    prompt = h.prompt;
   }
 
   abbrev read-also : (text : List ℕ) → HasReadRows w text → HasReadRows (with_rows w are) text
@@ -39,6 +40,7 @@ module _ (w : RowWork) (are : (vectors rows : List (List Bool)) → Type 0) (als
     are = also h.vectors _ h.are;
     session = h.session;
     near = h.near;
+    prompt = h.prompt;
   }
 
   all-also : (text : List ℕ) (next : Next) → all_rows w text next → all_rows (with_rows w are) text next
@@ -73,7 +75,7 @@ module _ (w : RowWork) (b : RowsBegin) where
   image-few new bytes told most few text more begins (inl h) = let empty = h.0 in absurd (cc)
   image-few new bytes told most few text more begins (inr (u, loaded, h)) =
       let at = (opened-lacks w w.told b.vectors b.files b.begun new.store (IsAtOutputs b.image b.vectors new) text more begins h).1 in
-      let next = subst (λ t. IsNearNext w.width t w.place (length at.0.has.rows)) told at.2 in
+      let next = subst (λ t. IsNearNext w.width t w.store.current (length at.0.has.rows)) told at.2 in
       let lacks = most (length at.0.has.rows) at.1 in
       absurd (omega (arith, next.0, lacks, few))
 

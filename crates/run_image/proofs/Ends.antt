@@ -42,7 +42,7 @@ module _ (w : Words) (old new : Around) where
 
   module _ (m : Shape) (files : List (List ℕ)) (x : Laid) (on : AreLaidOn x) where
     abbrev rows-of : ImageValue → RowWork
-    rows-of i = rows_work x i (old.store.contents w.vectors) new.store.current old.rig.failures new.rig
+    rows-of i = rows_work x i (old.store.contents w.vectors) new.store old.rig.failures new.rig
 
     abbrev rows-begin : Listed → ImageValue → RowsBegin
     rows-begin l i = record { image = i; vectors = w.vectors; files = files; begun = old.store; before = l.loads }

@@ -40,13 +40,13 @@ module _ {U : Type 0} (w : Laid) (d : DefectList) (b : RunBegin) where
       step-stops (w.lays d) (HasStayed b made (around o)) (image_run w b (around o) made) (w.lays d) [] (b.vectors ∷ []) _ stop result o o is took took.stops (at, refl) refl
 
   -- the image is right under the faults that the list covers, so its rows are those of what was laid
-  lay-gives : (m : Shape) (before : ℕ) (i : ImageValue) (result : Result U Stop) (old new : Outside) → IsListed m before old.rig (record { list = d; loads = old.rig.loads }) → Took [] (w.lays d) (Ok i) old old → IsLaidOn w d i → old.store.contents ≡ b.begun.contents → Follows ⊥ (b.vectors ∷ []) (new.rig.machine ≡ old.rig.machine) (image_course (copied_rows w.copies i (old.store.contents b.vectors) new.store.current b.failures new.rig) (record { image = i; vectors = b.vectors; files = b.files; begun = b.begun; before = old.rig.loads }) (around new)) result old new → Follows ⊥ (b.vectors ∷ []) (new.rig.machine ≡ old.rig.machine) (laid_run w b (around new) (record { list = d; loads = old.rig.loads })) result old new
+  lay-gives : (m : Shape) (before : ℕ) (i : ImageValue) (result : Result U Stop) (old new : Outside) → IsListed m before old.rig (record { list = d; loads = old.rig.loads }) → Took [] (w.lays d) (Ok i) old old → IsLaidOn w d i → old.store.contents ≡ b.begun.contents → Follows ⊥ (b.vectors ∷ []) (new.rig.machine ≡ old.rig.machine) (image_course (copied_rows w.copies i (old.store.contents b.vectors) new.store b.failures new.rig) (record { image = i; vectors = b.vectors; files = b.files; begun = b.begun; before = old.rig.loads }) (around new)) result old new → Follows ⊥ (b.vectors ∷ []) (new.rig.machine ≡ old.rig.machine) (laid_run w b (around new) (record { list = d; loads = old.rig.loads })) result old new
   lay-gives m before i result old new list took on same is =
       let made : Listed = record { list = d; loads = old.rig.loads } in
       let at : RowsBegin = record { image = i; vectors = b.vectors; files = b.files; begun = b.begun; before = old.rig.loads } in
       let right : (f : Faults) → Explains f new.rig → ReadsRows f i w.rows = λ f e.
       on.right f (subst (λ (s : Shape). Covers s d.list f) (sym list.shape) (list.right.covers f (narrows_by is.later.log is.machines f e))) in
-      let rows = copied_rows w.copies i (old.store.contents b.vectors) new.store.current b.failures new.rig in
+      let rows = copied_rows w.copies i (old.store.contents b.vectors) new.store b.failures new.rig in
       let written = course-map (image_course rows at (around new)) _ (rows-also rows (λ vectors rows. AreLaidRows w new.rig i (all_repeated w.copies vectors) (all_repeated w.copies rows)) (λ vectors rows are. are-laid w i new.rig right (all_repeated w.copies vectors) (all_repeated w.copies rows) are) at (around new)) result old.sink new.sink is.written in
       step-gives (w.lays d) (HasStayed b made (around new)) (image_run w b (around new) made) (w.lays d) [] (b.vectors ∷ []) _ _ i i result old old new took took.gives
       (record { later = is.later; asked = is.asked; machines = is.machines; written = rw same at written; counted = is.counted }) is.machines
@@ -69,8 +69,8 @@ module _ (w : Laid) (m : Shape) (before : ℕ) (b : RunBegin) (s : StoreState) (
     lay-fails stop result is took = listed-then result (outside s r1 k) (lay-stops w d b stop result (outside s r1 k) is took at)
 
     -- or it is, and its image is run
-    pub laid-runs : {U : Type 0} (i : ImageValue) (c : Copies) (result : Result U Stop) (new : Outside) → c ≡ w.copies → s.contents ≡ b.begun.contents → Took [] (w.lays d) (Ok i) (outside s r1 k) (outside s r1 k) → IsLaidOn w d i → Follows ⊥ (b.vectors ∷ []) (new.rig.machine ≡ r1.machine) (image_course (copied_rows c i (s.contents b.vectors) new.store.current b.failures new.rig) (record { image = i; vectors = b.vectors; files = b.files; begun = b.begun; before = r1.loads }) (around new)) result (outside s r1 k) new → Follows ⊥ (b.vectors ∷ []) (new.rig.machine ≡ r0.machine) (machine_listed w m before b (around new)) result (outside s r0 a) new
+    pub laid-runs : {U : Type 0} (i : ImageValue) (c : Copies) (result : Result U Stop) (new : Outside) → c ≡ w.copies → s.contents ≡ b.begun.contents → Took [] (w.lays d) (Ok i) (outside s r1 k) (outside s r1 k) → IsLaidOn w d i → Follows ⊥ (b.vectors ∷ []) (new.rig.machine ≡ r1.machine) (image_course (copied_rows c i (s.contents b.vectors) new.store b.failures new.rig) (record { image = i; vectors = b.vectors; files = b.files; begun = b.begun; before = r1.loads }) (around new)) result (outside s r1 k) new → Follows ⊥ (b.vectors ∷ []) (new.rig.machine ≡ r0.machine) (machine_listed w m before b (around new)) result (outside s r0 a) new
     laid-runs i c result new copies same took on is =
         let at : RowsBegin = record { image = i; vectors = b.vectors; files = b.files; begun = b.begun; before = r1.loads } in
-        let follows : Copies → Type 0 = λ c. Follows ⊥ (b.vectors ∷ []) (new.rig.machine ≡ r1.machine) (image_course (copied_rows c i (s.contents b.vectors) new.store.current b.failures new.rig) at (around new)) result (outside s r1 k) new in
+        let follows : Copies → Type 0 = λ c. Follows ⊥ (b.vectors ∷ []) (new.rig.machine ≡ r1.machine) (image_course (copied_rows c i (s.contents b.vectors) new.store b.failures new.rig) at (around new)) result (outside s r1 k) new in
         listed-then result new (lay-gives w d b m r0.loads i result (outside s r1 k) new written.0.gives took on same (subst follows copies is))

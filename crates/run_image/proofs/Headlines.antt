@@ -112,7 +112,7 @@ module _ (w : Words) (old new : Outside) where
           → (i : ImageValue) → (x.lays l.list).gives i
           → image_run x (begin-at w (around old) (around new) files) (around new) l i rest ends → Ran m x
       ran l list rest is i gives at =
-          let work = rows_work x i (old.store.contents w.vectors) new.store.current old.rig.failures new.rig in
+          let work = rows_work x i (old.store.contents w.vectors) new.store old.rig.failures new.rig in
           let from : RowsBegin = record { image = i; vectors = w.vectors; files = files; begun = old.store; before = l.loads } in
           let run = image-ends work from (around new) rest at in
           let has = run.rows.has in

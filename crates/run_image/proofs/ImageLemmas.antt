@@ -43,7 +43,7 @@ module _ (c : Copies) (i : ImageValue) (vectors : List ℕ) (files : List (List 
   begin = record { image = i; vectors = vectors; files = files; begun = begun; before = old.rig.loads }
 
   abbrev work : Outside → RowWork
-  work new = copied_rows c i (mid.store.contents vectors) new.store.current failures new.rig
+  work new = copied_rows c i (mid.store.contents vectors) new.store failures new.rig
 
   abbrev course : Outside → Course
   course new = image_course (work new) begin (around new)
@@ -69,6 +69,6 @@ module _ (c : Copies) (i : ImageValue) (vectors : List ℕ) (files : List (List 
           loaded-then (work opened) begin rows result old mid (outside opened.store opened.rig sink) loaded refl machine (outputs-stops (mid.store.contents vectors) vectors files begun (here opened) (all_rows (work opened)) mid refl stands opened took _ stop result sink is puts at same)
 
       -- or it is, and the rows are followed: those of this image and this file
-      pub rows-follow : {U : Type 0} (k : Copies) (j : ImageValue) (told : Told) (result : Result U Stop) (sink : SinkState) (new : Outside) → k ≡ c → j ≡ i → told ≡ mid.store.contents vectors → Puts {T = Unit {0}} outputs_line (Ok tt) opened.sink sink → SameRig mid.rig new.rig → Follows ⊥ [] (SameRig opened.rig new.rig) (all_rows (copied_rows k j told new.store.current failures new.rig)) result (outside opened.store opened.rig sink) new → Follows ⊥ (vectors ∷ []) (new.rig.machine ≡ old.rig.machine) (course new) result old new
+      pub rows-follow : {U : Type 0} (k : Copies) (j : ImageValue) (told : Told) (result : Result U Stop) (sink : SinkState) (new : Outside) → k ≡ c → j ≡ i → told ≡ mid.store.contents vectors → Puts {T = Unit {0}} outputs_line (Ok tt) opened.sink sink → SameRig mid.rig new.rig → Follows ⊥ [] (SameRig opened.rig new.rig) (all_rows (copied_rows k j told new.store failures new.rig)) result (outside opened.store opened.rig sink) new → Follows ⊥ (vectors ∷ []) (new.rig.machine ≡ old.rig.machine) (course new) result old new
       rows-follow k j told result sink new copies image file puts rigs rest_is =
           loaded-then (work new) begin rows result old mid new loaded refl machine (rows-then (mid.store.contents vectors) vectors files begun (here new) (all_rows (work new)) mid refl stands opened took _ (SameRig opened.rig new.rig) _ result sink new puts (rw (← copies, ← image, ← file) rest_is) rigs)

@@ -9,6 +9,7 @@ pub mod Headlines
 pub mod WrongWords
 -- For the proofs of this crate alone.
 mod Vectors
+mod BatchLemmas
 mod ImageLemmas
 mod RowLemmas
 mod CycleLemmas

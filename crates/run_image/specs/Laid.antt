@@ -1,6 +1,11 @@
 -- What is laid on a machine: one design, or several side by side.
+<<<<<<< HEAD
 use Rattle.std.specs.Prelude.{◌≡◌, ◌≤◌, ℕ, Bool, List, length, Option}
 use Rattle.base_io.specs.Vocabulary.{Told, Rose, StorePlace}
+=======
+use Rattle.std.specs.Prelude.{◌≡◌, ◌≤◌, ℕ, Bool, List, length, IfSome}
+use Rattle.base_io.specs.Vocabulary.{Told, Rose, StoreState}
+>>>>>>> rows/ready
 use Rattle.machine_meaning.specs.Vocabulary.{Covers, Faults}
 use Rattle.machine_defects.specs.Lists.{DefectList}
 use Rattle.machine_image.specs.Vocabulary.{ImageValue, IsImage, IsFreeImage}
@@ -35,11 +40,11 @@ pub record AreLaidRows (w : Laid) (rig : RigState) (i : ImageValue) (vectors row
   pub right : (f : Faults) → Explains f rig → w.rows vectors rows
 
 -- the rig had failed so many times as the command began
-abbrev pub rows_work : Laid → ImageValue → Told → Option StorePlace → (failures : ℕ) → RigState → RowWork
-rows_work w i told place failures rig = record {
+abbrev pub rows_work : Laid → ImageValue → Told → StoreState → (failures : ℕ) → RigState → RowWork
+rows_work w i told store failures rig = record {
   width = share w.copies (length i.inputs);
   told = told;
-  place = place;
+  store = store;
   are = λ vectors rows. AreLaidRows w rig i (all_repeated w.copies vectors) (all_repeated w.copies rows);
   session = λ vectors rows. IsSession rig i (all_repeated w.copies vectors) (all_repeated w.copies rows);
   differs = λ vectors rows. DiffersBehind w.copies told i rig vectors rows;

@@ -1,5 +1,6 @@
 -- Runs of images.
 pub mod Driven
+pub mod Batches
 pub mod Pins
 pub mod Run
 pub mod Copying

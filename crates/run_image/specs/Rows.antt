@@ -1,7 +1,7 @@
 -- The rows of an image that is loaded, wherever it comes from.
-use Rattle.std.specs.Prelude.{◌≡◌, ℕ, ◌+◌, ◌≤◌, Bool, List, [], ◌∷◌, ◌++◌, map, length, Option, Some}
+use Rattle.std.specs.Prelude.{◌≡◌, ℕ, ◌+◌, ◌≤◌, Bool, List, [], ◌∷◌, ◌++◌, map, length, Some}
 use Rattle.std.specs.List.{All}
-use Rattle.base_io.specs.Vocabulary.{Told, next_count, Rose, StorePlace, StoreState}
+use Rattle.base_io.specs.Vocabulary.{Told, next_count, Rose, StoreState}
 use Rattle.machine_meaning.specs.Vocabulary.{Pins, Faults}
 use Rattle.machine_config.specs.Faulty.{IsRun}
 use Rattle.machine_image.specs.Images.{ImageValue, drive_of, image_row}
@@ -35,13 +35,16 @@ pub record IsSession (rig : RigState) (i : ImageValue) (vectors rows : List (Lis
   pub rows_are : rows ≡ map (image_row i) (readings_of (cycles_of rig))
   pub room : most_rows ≤ spare_of rig + length rows
 
--- Behind these rows of two copies the session has one more reading, of the file's next vector, whose halves differ
+-- Behind these rows of two copies the session has the reading of the file's next vector, whose halves differ, and those of vectors
+-- behind that one which were driven with it
 pub record ReadsApart (told : Told) (i : ImageValue) (rig : RigState) (vectors rows : List (List Bool)) : Type 0 where
   pub vector : List Bool
   pub reading : List Bool
-  pub next : AreFirst (share Two (length i.inputs)) told (vectors ++ vector ∷ [])
-  pub widths : All (λ driven. length driven ≡ length i.inputs) (all_repeated Two (vectors ++ vector ∷ []))
-  pub session : IsSession rig i (all_repeated Two (vectors ++ vector ∷ [])) (all_repeated Two rows ++ reading ∷ [])
+  pub behind : List (List Bool)
+  pub read_behind : List (List Bool)
+  pub next : AreFirst (share Two (length i.inputs)) told (vectors ++ vector ∷ behind)
+  pub widths : All (λ driven. length driven ≡ length i.inputs) (all_repeated Two (vectors ++ vector ∷ behind))
+  pub session : IsSession rig i (all_repeated Two (vectors ++ vector ∷ behind)) (all_repeated Two rows ++ reading ∷ read_behind)
   pub halves : HalvesDiffer reading
 
 -- one copy alone never differs
@@ -51,11 +54,11 @@ DiffersBehind Two told i rig vectors rows = ReadsApart told i rig vectors rows
 
 -- The rows of copies that an image lays: a vector is driven for each copy, and a row is what each of them read. The rig had failed so
 -- many times as the command began
-abbrev pub copied_rows : Copies → ImageValue → Told → Option StorePlace → (failures : ℕ) → RigState → RowWork
-copied_rows c i told place failures rig = record {
+abbrev pub copied_rows : Copies → ImageValue → Told → StoreState → (failures : ℕ) → RigState → RowWork
+copied_rows c i told store failures rig = record {
   width = share c (length i.inputs);
   told = told;
-  place = place;
+  store = store;
   are = λ vectors rows. AreRowsOf rig i (all_repeated c vectors) (all_repeated c rows);
   session = λ vectors rows. IsSession rig i (all_repeated c vectors) (all_repeated c rows);
   differs = λ vectors rows. DiffersBehind c told i rig vectors rows;
@@ -64,8 +67,8 @@ copied_rows c i told place failures rig = record {
 }
 
 -- the rows of an image
-abbrev pub image_rows : ImageValue → Told → Option StorePlace → (failures : ℕ) → RigState → RowWork
-image_rows i told place failures rig = copied_rows One i told place failures rig
+abbrev pub image_rows : ImageValue → Told → StoreState → (failures : ℕ) → RigState → RowWork
+image_rows i told store failures rig = copied_rows One i told store failures rig
 
 -- ---- an image is loaded, and all memory for its rows is taken
 

@@ -24,7 +24,7 @@ HasStayed b l new = StandsIn b.files b.begun new.store × (new.rig.loads ≡ l.l
 -- The image is loaded by one load more, and its rows, which are those of what was laid, are written
 abbrev pub image_run : Laid → RunBegin → (new : Around) → Listed → ImageValue → Course
 image_run w b new l i =
-    image_course (rows_work w i (b.begun.contents b.vectors) new.store.current b.failures new.rig)
+    image_course (rows_work w i (b.begun.contents b.vectors) new.store b.failures new.rig)
     (record { image = i; vectors = b.vectors; files = b.files; begun = b.begun; before = l.loads }) new
 
 -- It is laid on what the list leaves free, and the image is run

@@ -1,4 +1,5 @@
 //! The rows of an image.
+<<<<<<< HEAD
 ghost use Rattle.std.specs.Prelude.{◌≡◌, ◌≤◌, ℕ, List, ◌∷◌, ◌++◌, [], Some, OnOk, IfOk, IfErr, IsSome, length};
 ghost use Rattle.run_image.specs.Copying.{repeated, share, AreEqualShares};
 ghost use Rattle.machine_shape.specs.Shape.{pins_of};
@@ -9,10 +10,26 @@ ghost use Rattle.design_vectors.specs.Readings.{new_reading};
 ghost use Rattle.design_vectors.specs.Rows.{row_line};
 ghost use Rattle.cmd_steps.specs.Vocabulary.{IsBegun, file_of, StoreState, SinkState, shape_of, width_of, StandsIn, outside, around, Took};
 ghost use Rattle.cmd_steps.specs.Vocabulary.{Follows, all_rows, most_vector_bytes, WaitsOrPuts};
+=======
+ghost use Rattle.std.specs.Prelude.{◌≡◌, ◌+◌, ◌-◌, ◌≤◌, ℕ, List, ◌∷◌, ◌++◌, [], Some, OnOk, IfOk, IfErr, IsSome, length, take, drop};
+ghost use Rattle.run_image.specs.Copying.{repeated, AreEqualShares};
+ghost use Rattle.base_io.specs.Counts.{Rose};
+ghost use Rattle.machine_shape.specs.Shape.{pins_of};
+ghost use Rattle.rig.specs.Rig.{Narrows, CyclesFail};
+ghost use Rattle.run_image.specs.Batches.{most_together};
+ghost use Rattle.design_vectors.specs.Rows.{row_line};
+ghost use Rattle.cmd_steps.specs.Vocabulary.{IsBegun, file_of, StoreState, SinkState, shape_of, width_of, StandsIn, outside, around, Took};
+ghost use Rattle.cmd_steps.specs.Vocabulary.{Follows, all_rows, WaitsOrPuts, NextStops, StaysOpen};
+ghost use Rattle.cmd_steps.specs.declared.refusal.Refusal.TheVariants.{Rig};
+ghost use Rattle.cmd_steps.specs.declared.refusal.Stop.TheVariants.{Refused};
+>>>>>>> rows/ready
 ghost use Rattle.run_image.specs.Rows.{RowsBegin, copied_rows, image_rows, image_course};
-ghost use Rattle.run_image.specs.Running.{IsFitting, IsLoaded, Keeps, CycleGives, CycleStops, DriveStops, CompareStops, prepares, at_rows};
+ghost use Rattle.run_image.specs.Running.{IsFitting, IsLoaded, IsSameBut, IsSameRun, AreKept, ReadsMore, BatchGives, DrivesTo, readings_in};
+ghost use Rattle.run_image.specs.Running.{CompareStops, HasAddedOne, HasAddedAll, AddStops, AddsStop, MakesRows, MakesStop, EndsSent};
+ghost use Rattle.run_image.specs.Running.{together_of, prepares, at_rows};
 
 use crate::copies::{Copies, repeat, share_of, share_row};
+use crate::run::TOGETHER;
 use crate::{Run, begin};
 use base_io::{Sink, Store};
 use cmd_steps::{Refusal, RowBlock, Stop, next_vector, open_vectors, write};
@@ -38,6 +55,11 @@ struct Running {
     reading: Vec<bool>,
     row: Vec<bool>,
     block: RowBlock,
+    /// What is driven for the vectors that are driven together, one behind the other, and what is read then.
+    drives: Vec<bool>,
+    readings: Vec<bool>,
+    /// How many rows the rig has room for at least, of those that it was asked for.
+    left: u32,
 }
 
 // How many input pins an image has, and how many output pins: they are different pins of the machine.
@@ -117,60 +139,194 @@ fn prepare(
         Took [] (prepares old new) result (outside store old sink) (outside store new sink) }
 {
     let (inputs, outputs) = widths(&image);
+<<<<<<< HEAD
     let buffers = buffers_for(alloc, copies, inputs, outputs)?;
+=======
+    let width = share_of(copies, inputs);
+    let count = share_of(copies, outputs);
+    let vectors = VectorText::new(alloc, width)?;
+    let vector = vec![in alloc; false; width as usize]?;
+    let drive = vec![in alloc; false; inputs as usize]?;
+    let reading = vec![in alloc; false; outputs as usize]?;
+    let row = vec![in alloc; false; count as usize]?;
+    let block = RowBlock::new(alloc, count)?;
+    let drives = vec![in alloc; false; TOGETHER * inputs as usize]?;
+    let readings = vec![in alloc; false; TOGETHER * outputs as usize]?;
+>>>>>>> rows/ready
     let run = begin(alloc, rig, &image, ROOM)?;
     Ok(Running {
         image,
         copies,
         run,
+<<<<<<< HEAD
         vectors: buffers.vectors,
         vector: buffers.vector,
         drive: buffers.drive,
         reading: buffers.reading,
         row: buffers.row,
         block: buffers.block,
+=======
+        vectors,
+        vector,
+        drive,
+        reading,
+        row,
+        block,
+        drives,
+        readings,
+        left: ROOM,
+>>>>>>> rows/ready
     })
 }
 
-// Makes the cycle of the vector that was read, for each copy. Where the rig makes none, the rows that wait are written.
-fn drive_row<K: Sink>(rows: &mut Running, rig: &mut Box<dyn Rig>, sink: &mut K) -> Result<(), Stop>
-    requires fits { IsFitting rows.old }
-    requires pins { width_of (rig_state rig.old) ≡ Some (pins_of rows.old.image.config.shape) }
+// Puts bits behind the first ones of others, and says where they end there.
+fn put_bits(bits: &[bool], all: &mut [bool], from: usize) -> usize
+    requires { from + length bits.now ≤ length all.old }
+    ensures place { result ≡ from + length bits.now }
+    ensures bits { take result all.new ≡ take from all.old ++ bits.now }
+    ensures length { length all.new ≡ length all.old }
+{
+    'bits: for (k, bit) in bits.iter().enumerate() {
+        all[from + k] = *bit;
+    }
+    from + bits.len()
+}
 
-    ensures image { rows.new.image ≡ rows.old.image }
-    ensures copies { rows.new.copies ≡ rows.old.copies }
+// Takes bits that stand behind the first ones of others, and says where they end there.
+fn take_bits(all: &[bool], from: usize, bits: &mut [bool]) -> usize
+    requires { from + length bits.old ≤ length all.now }
+    ensures place { result ≡ from + length bits.old }
+    ensures bits { bits.new ≡ take (length bits.old) (drop from all.now) }
+{
+    let end = from + bits.len();
+    bits.copy_from_slice(&all[from..end]);
+    end
+}
+
+// How many vectors are driven together at most, where there is room for so many: one where there is none.
+fn most_of(left: u32) -> usize
+    ensures { result ≡ together_of left }
+{
+    if left == 0 {
+        return 1;
+    }
+    (left as usize).min(TOGETHER)
+}
+
+// Keeps what is driven for the vector that was read, behind that for others, and says where it ends there.
+fn keep_drive(rows: &mut Running, from: usize) -> usize
+    requires fits { IsFitting rows.old }
+    requires room { from + length rows.old.image.inputs ≤ length rows.old.drives.items }
+    ensures same { IsSameRun rows.old rows.new }
+    ensures fits { IsFitting rows.new }
     ensures vectors { rows.new.vectors ≡ rows.old.vectors }
     ensures vector { rows.new.vector ≡ rows.old.vector }
+    ensures block { rows.new.block ≡ rows.old.block }
+    ensures place { result ≡ from + length rows.old.image.inputs }
+    ensures drives { take result rows.new.drives.items ≡ take from rows.old.drives.items ++ repeated rows.old.copies rows.old.vector.items }
+{
+    repeat(rows.copies, &rows.vector, &mut rows.drive);
+    put_bits(&rows.drive, &mut rows.drives, from)
+}
+
+// Reads the vectors behind one that was read and kept, as far as they were read from the store with it. How many there are with it.
+fn read_on(rows: &mut Running) -> usize
+    requires fits { IsFitting rows.old }
+    requires kept { AreKept rows.old (rows.old.vector.items ∷ []) }
+    ensures same { IsSameRun rows.old rows.new }
+    ensures fits { IsFitting rows.new }
+    ensures block { rows.new.block ≡ rows.old.block }
+    ensures few { result ≤ together_of rows.old.left }
+    ensures reads { ReadsMore result rows.old rows.new }
+{
+    let most = most_of(rows.left);
+    let mut end = rows.drive.len();
+    'vectors: for k in 1..most {
+        if !rows.vectors.next_unread(&mut rows.vector) {
+            return k;
+        }
+        end = keep_drive(rows, end);
+    }
+    most
+}
+
+// Reads the next vector and those that were read from the store with it, and keeps what is driven for them. How many there are: none
+// at the end of the file.
+fn next_batch<S: Store, K: Sink>(
+    rows: &mut Running,
+    store: &mut S,
+    sink: &mut K,
+) -> Result<usize, Stop>
+    requires open { IsSome (S.store_state store.old).current }
+    requires fits { IsFitting rows.old }
+
+    ensures stays { StaysOpen (S.store_state store.old) (S.store_state store.new) }
+    ensures same { IsSameRun rows.old rows.new }
+    ensures fits { OnOk result (IsFitting rows.new) }
+    ensures few { IfOk result (λ count. count ≤ together_of rows.old.left) }
+    ensures gives { let from = at_rows rows.old (S.store_state store.old) (K.sink_state sink.old) in
+        let to = at_rows rows.new (S.store_state store.new) (K.sink_state sink.new) in
+        IfOk result (λ count. BatchGives count rows.new from to) }
+    ensures refused { let from = at_rows rows.old (S.store_state store.old) (K.sink_state sink.old) in
+        let to = at_rows rows.new (S.store_state store.new) (K.sink_state sink.new) in
+        IfErr result (λ stop. NextStops stop from to) }
+{
+    if !next_vector(
+        &mut rows.vectors,
+        &mut rows.vector,
+        &mut rows.block,
+        store,
+        sink,
+    )? {
+        return Ok(0);
+    }
+    keep_drive(rows, 0);
+    Ok(read_on(rows))
+}
+
+// Makes the cycles of the vectors that were kept, for each copy, and counts them.
+fn drive_rows(rows: &mut Running, count: usize, rig: &mut Box<dyn Rig>) -> Result<(), RigFail>
+    requires fits { IsFitting rows.old }
+    requires few { count ≤ most_together }
+    requires pins { width_of (rig_state rig.old) ≡ Some (pins_of rows.old.image.config.shape) }
+
+    ensures same { IsSameBut rows.old rows.new }
+    ensures fits { IsFitting rows.new }
+    ensures vectors { rows.new.vectors ≡ rows.old.vectors }
+    ensures block { rows.new.block ≡ rows.old.block }
+    ensures left { OnOk result (rows.new.left ≡ rows.old.left - count) }
     ensures machine { (rig_state rig.new).machine ≡ (rig_state rig.old).machine }
     ensures narrows { Narrows (rig_state rig.old) (rig_state rig.new) }
     ensures tells { Tells (rig_state rig.old) (rig_state rig.new) }
     ensures loads { (rig_state rig.new).loads ≡ (rig_state rig.old).loads }
     ensures failures { (rig_state rig.old).failures ≤ (rig_state rig.new).failures }
-    ensures fits { IsFitting rows.new }
-    ensures kept { OnOk result ((rows.new.block ≡ rows.old.block) × (K.sink_state sink.new ≡ K.sink_state sink.old)) }
-    ensures row { let pins = pins_in rows.old.image in
-        OnOk result (RunsRow pins (rig_state rig.old) (rig_state rig.new)
-        (repeated rows.old.copies rows.old.vector.items) rows.new.reading.items) }
-    ensures refused { IfErr result (λ stop. DriveStops stop rows.old.block.text rows.new.block.text
-        (K.sink_state sink.old) (K.sink_state sink.new) (rig_state rig.old) (rig_state rig.new)) }
+    ensures rows { OnOk result (DrivesTo count rows.old (readings_in count rows.new) (rig_state rig.old) (rig_state rig.new)) }
+    ensures refused { IfErr result (λ e. CyclesFail e count (rig_state rig.old) (rig_state rig.new)) }
 {
-    repeat(rows.copies, &rows.vector, &mut rows.drive);
-    let fail = match rows.run.row(rig, &rows.drive, &mut rows.reading) {
-        Ok(()) => return Ok(()),
-        Err(fail) => fail,
-    };
-    rows.block.put(sink)?;
-    Err(Stop::from(fail))
+    let driven = count * rows.drive.len();
+    let read = count * rows.reading.len();
+    let made = rows.run.rows(
+        rig,
+        count,
+        &rows.drives[..driven],
+        &mut rows.readings[..read],
+    );
+    match made {
+        Ok(()) => {
+            rows.left = rows.left.saturating_sub(count as u32);
+            Ok(())
+        }
+        Err(fail) => Err(fail),
+    }
 }
 
 // Makes a row of what the copies read. Where they read differently, the rows that wait are written.
 fn compare_row<K: Sink>(rows: &mut Running, sink: &mut K) -> Result<(), Stop>
     requires { IsFitting rows.old }
 
-    ensures image { rows.new.image ≡ rows.old.image }
-    ensures copies { rows.new.copies ≡ rows.old.copies }
+    ensures same { IsSameRun rows.old rows.new }
+    ensures readings { rows.new.readings ≡ rows.old.readings }
     ensures vectors { rows.new.vectors ≡ rows.old.vectors }
-    ensures vector { rows.new.vector ≡ rows.old.vector }
     ensures fits { IsFitting rows.new }
     ensures kept { OnOk result ((rows.new.block ≡ rows.old.block) × (K.sink_state sink.new ≡ K.sink_state sink.old)) }
     ensures row { OnOk result (rows.old.reading.items ≡ repeated rows.old.copies rows.new.row.items) }
@@ -184,45 +340,11 @@ fn compare_row<K: Sink>(rows: &mut Running, sink: &mut K) -> Result<(), Stop>
     Err(Stop::Refused(Refusal::Differ))
 }
 
-// Reads the next vector, makes its cycle, and compares what the copies read. False is the end of the file.
-fn next_row<S: Store, K: Sink>(
-    rows: &mut Running,
-    store: &mut S,
-    rig: &mut Box<dyn Rig>,
-    sink: &mut K,
-) -> Result<bool, Stop>
-    requires open { IsSome (S.store_state store.old).current }
-    requires fits { IsFitting rows.old }
-    requires pins { width_of (rig_state rig.old) ≡ Some (pins_of rows.old.image.config.shape) }
-
-    ensures keeps { Keeps rows.old rows.new (S.store_state store.old) (S.store_state store.new) (rig_state rig.old) (rig_state rig.new) }
-    ensures fits { OnOk result (IsFitting rows.new) }
-    ensures gives { let from = at_rows rows.old (S.store_state store.old) (K.sink_state sink.old) in
-        let to = at_rows rows.new (S.store_state store.new) (K.sink_state sink.new) in
-        IfOk result (λ more. CycleGives more rows.old rows.new from to (rig_state rig.old) (rig_state rig.new)) }
-    ensures refused { let from = at_rows rows.old (S.store_state store.old) (K.sink_state sink.old) in
-        let to = at_rows rows.new (S.store_state store.new) (K.sink_state sink.new) in
-        IfErr result (λ stop. CycleStops stop rows.old rows.new from to (rig_state rig.old) (rig_state rig.new)) }
-{
-    if !next_vector(
-        &mut rows.vectors,
-        &mut rows.vector,
-        &mut rows.block,
-        store,
-        sink,
-    )? {
-        return Ok(false);
-    }
-    drive_row(rows, rig, sink)?;
-    compare_row(rows, sink)?;
-    Ok(true)
-}
-
 // Lets the row that was made wait behind the others, or writes them all.
 fn add_row<K: Sink>(rows: &mut Running, sink: &mut K) -> Result<(), Stop>
     requires { IsFitting rows.old }
-    ensures image { rows.new.image ≡ rows.old.image }
-    ensures copies { rows.new.copies ≡ rows.old.copies }
+    ensures same { IsSameRun rows.old rows.new }
+    ensures readings { rows.new.readings ≡ rows.old.readings }
     ensures vectors { rows.new.vectors ≡ rows.old.vectors }
     ensures fits { IsFitting rows.new }
     ensures waits { let lines = rows.old.block.text ++ row_line rows.old.row.items in
@@ -231,7 +353,107 @@ fn add_row<K: Sink>(rows: &mut Running, sink: &mut K) -> Result<(), Stop>
     rows.block.add(&rows.row, sink)
 }
 
-// Makes a cycle for each vector of the current file, and writes all rows that wait before the store is read again.
+// Compares what the copies read in one of the cycles, and lets its row wait. Says where the next reading begins.
+fn next_row<K: Sink>(rows: &mut Running, from: usize, sink: &mut K) -> Result<usize, Stop>
+    requires fits { IsFitting rows.old }
+    requires room { from + length rows.old.image.outputs ≤ length rows.old.readings.items }
+
+    ensures same { IsSameRun rows.old rows.new }
+    ensures readings { rows.new.readings ≡ rows.old.readings }
+    ensures vectors { rows.new.vectors ≡ rows.old.vectors }
+    ensures fits { OnOk result (IsFitting rows.new) }
+    ensures place { IfOk result (λ end. end ≡ from + length rows.old.image.outputs) }
+    ensures adds { let reading = take (length rows.old.image.outputs) (drop from rows.old.readings.items) in
+        OnOk result (HasAddedOne rows.old.copies reading rows.old.block.text rows.new.block.text
+        (K.sink_state sink.old) (K.sink_state sink.new)) }
+    ensures refused { let reading = take (length rows.old.image.outputs) (drop from rows.old.readings.items) in
+        IfErr result (λ stop. AddStops stop rows.old.copies reading rows.old.block.text rows.new.block.text
+        (K.sink_state sink.old) (K.sink_state sink.new)) }
+{
+    let end = take_bits(&rows.readings, from, &mut rows.reading);
+    compare_row(rows, sink)?;
+    add_row(rows, sink)?;
+    Ok(end)
+}
+
+// Compares what the copies read in these cycles, and lets the rows wait, one after the other.
+fn add_rows<K: Sink>(rows: &mut Running, count: usize, sink: &mut K) -> Result<(), Stop>
+    requires fits { IsFitting rows.old }
+    requires few { count ≤ most_together }
+
+    ensures same { IsSameRun rows.old rows.new }
+    ensures vectors { rows.new.vectors ≡ rows.old.vectors }
+    ensures fits { OnOk result (IsFitting rows.new) }
+    ensures adds { let readings = readings_in count rows.old in
+        OnOk result (HasAddedAll rows.old.copies readings rows.old.block.text rows.new.block.text
+        (K.sink_state sink.old) (K.sink_state sink.new)) }
+    ensures refused { let readings = readings_in count rows.old in
+        IfErr result (λ stop. AddsStop stop rows.old.copies readings rows.old.block.text rows.new.block.text
+        (K.sink_state sink.old) (K.sink_state sink.new)) }
+{
+    let mut from = 0;
+    'rows: for _k in 0..count {
+        from = next_row(rows, from, sink)?;
+    }
+    Ok(())
+}
+
+// Makes the cycles of the vectors that were kept, compares what the copies read, and lets the rows wait. Where the rig makes no
+// cycles, the rows that wait are written.
+fn make_rows<K: Sink>(
+    rows: &mut Running,
+    count: usize,
+    rig: &mut Box<dyn Rig>,
+    sink: &mut K,
+) -> Result<(), Stop>
+    requires fits { IsFitting rows.old }
+    requires few { count ≤ most_together }
+    requires pins { width_of (rig_state rig.old) ≡ Some (pins_of rows.old.image.config.shape) }
+
+    ensures same { IsSameBut rows.old rows.new }
+    ensures vectors { rows.new.vectors ≡ rows.old.vectors }
+    ensures fits { OnOk result (IsFitting rows.new) }
+    ensures left { OnOk result (rows.new.left ≡ rows.old.left - count) }
+    ensures machine { (rig_state rig.new).machine ≡ (rig_state rig.old).machine }
+    ensures narrows { Narrows (rig_state rig.old) (rig_state rig.new) }
+    ensures loads { (rig_state rig.new).loads ≡ (rig_state rig.old).loads }
+    ensures failures { (rig_state rig.old).failures ≤ (rig_state rig.new).failures }
+    ensures makes { OnOk result (MakesRows count rows.old rows.old.block.text rows.new.block.text
+        (K.sink_state sink.old) (K.sink_state sink.new) (rig_state rig.old) (rig_state rig.new)) }
+    ensures refused { IfErr result (λ stop. MakesStop stop count rows.old rows.old.block.text rows.new.block.text
+        (K.sink_state sink.old) (K.sink_state sink.new) (rig_state rig.old) (rig_state rig.new)) }
+{
+    let fail = match drive_rows(rows, count, rig) {
+        Ok(()) => return add_rows(rows, count, sink),
+        Err(fail) => fail,
+    };
+    rows.block.put(sink)?;
+    Err(Stop::from(fail))
+}
+
+// Ends behind the last row. Where there was no vector the rig is asked for no cycles, so that a load which is due is made.
+fn end_rows(rows: &mut Running, none: bool, rig: &mut Box<dyn Rig>) -> Result<(), Stop>
+    requires fits { IsFitting rows.old }
+    requires pins { width_of (rig_state rig.old) ≡ Some (pins_of rows.old.image.config.shape) }
+
+    ensures machine { (rig_state rig.new).machine ≡ (rig_state rig.old).machine }
+    ensures narrows { Narrows (rig_state rig.old) (rig_state rig.new) }
+    ensures loads { (rig_state rig.new).loads ≡ (rig_state rig.old).loads }
+    ensures failures { (rig_state rig.old).failures ≤ (rig_state rig.new).failures }
+    ensures sent { OnOk result (EndsSent rows.old (rig_state rig.old) (rig_state rig.new)) }
+    ensures refused { IfErr result (λ stop. (stop ≡ Refused Rig) × Rose (rig_state rig.old).failures (rig_state rig.new).failures) }
+{
+    if !none {
+        return Ok(());
+    }
+    match drive_rows(rows, 0, rig) {
+        Ok(()) => Ok(()),
+        Err(fail) => Err(Stop::from(fail)),
+    }
+}
+
+// Makes a cycle for each vector of the current file, and writes all rows that wait before the store is read again. Where there is no
+// vector the load is sent.
 fn write_rows<S: Store, K: Sink>(
     rows: &mut Running,
     store: &mut S,
@@ -245,13 +467,18 @@ fn write_rows<S: Store, K: Sink>(
     ensures follows { let old = outside (S.store_state store.old) (rig_state rig.old) (K.sink_state sink.old) in
         let new = outside (S.store_state store.new) (rig_state rig.new) (K.sink_state sink.new) in
         (failures : ℕ) → failures ≤ old.rig.failures →
-        let work = copied_rows rows.old.copies rows.old.image (file_of old.store) new.store.current failures new.rig in
+        let work = copied_rows rows.old.copies rows.old.image (file_of old.store) new.store failures new.rig in
         Follows ⊥ [] ((new.rig.machine ≡ old.rig.machine) × (new.rig.loads ≡ old.rig.loads)) (all_rows work) result old new }
 {
-    'file: while next_row(rows, store, rig, sink)? {
-        add_row(rows, sink)?;
+    let mut none = true;
+    'file: loop {
+        let count = next_batch(rows, store, sink)?;
+        if count == 0 {
+            return end_rows(rows, none, rig);
+        }
+        make_rows(rows, count, rig, sink)?;
+        none = false;
     }
-    Ok(())
 }
 
 /// Loads an image of one thing or of copies on the machine that is attached, and writes the line `outputs` and, for each vector of
@@ -277,7 +504,7 @@ pub(crate) fn run_copies<S: Store, K: Sink>(
     ensures follows { let old = outside (S.store_state store.old) (rig_state rig.old) (K.sink_state sink.old) in
         let new = outside (S.store_state store.new) (rig_state rig.new) (K.sink_state sink.new) in
         (files : List (List ℕ)) (begun : StoreState) (failures : ℕ) → StandsIn files begun old.store → failures ≤ old.rig.failures →
-        let rows = copied_rows copies image (old.store.contents vectors.now) new.store.current failures new.rig in
+        let rows = copied_rows copies image (old.store.contents vectors.now) new.store failures new.rig in
         let b : RowsBegin = record { image = image; vectors = vectors.now; files = files; begun = begun; before = old.rig.loads } in
         Follows ⊥ (vectors.now ∷ []) (new.rig.machine ≡ old.rig.machine) (image_course rows b (around new)) result old new }
 {
@@ -311,7 +538,7 @@ pub fn run_image<S: Store, K: Sink>(
     ensures follows { let old = outside (S.store_state store.old) (rig_state rig.old) (K.sink_state sink.old) in
         let new = outside (S.store_state store.new) (rig_state rig.new) (K.sink_state sink.new) in
         (files : List (List ℕ)) (begun : StoreState) (failures : ℕ) → StandsIn files begun old.store → failures ≤ old.rig.failures →
-        let rows = image_rows image (old.store.contents vectors.now) new.store.current failures new.rig in
+        let rows = image_rows image (old.store.contents vectors.now) new.store failures new.rig in
         let b : RowsBegin = record { image = image; vectors = vectors.now; files = files; begun = begun; before = old.rig.loads } in
         Follows ⊥ (vectors.now ∷ []) (new.rig.machine ≡ old.rig.machine) (image_course rows b (around new)) result old new }
 {

@@ -1,17 +1,23 @@
 //! Runs of images.
-ghost use Rattle.std.specs.Prelude.{◌≡◌, ◌^◌, ◌≤◌, ◌<◌, Some, length, IfOk, IfErr, OnOk, OnErr, All, AllPairs, ◌≢◌};
+ghost use Rattle.std.specs.Prelude.{◌≡◌, ◌+◌, ◌*◌, ◌^◌, ◌++◌, ◌≤◌, ◌<◌, Some, length, map, take, flat_map, IfOk, IfErr, OnOk};
+ghost use Rattle.std.specs.Prelude.{OnErr, All, AllPairs};
+ghost use Rattle.std.specs.Prelude.{◌≢◌};
 ghost use Rattle.base_io.specs.Counts.{next_count};
 ghost use Rattle.machine_shape.specs.Shape.{pins_of};
 ghost use Rattle.machine_image.specs.Images.{drive_on, row_at};
-ghost use Rattle.rig.specs.Rig.{shape_of, width_of, HasFaultsOf, Narrows, Tells, Begins, LoadFails, CycleFails};
+ghost use Rattle.rig.specs.Rig.{shape_of, width_of, HasFaultsOf, Narrows, Tells, Begins, LoadFails, CycleFails, CyclesFail};
+ghost use Rattle.run_image.specs.Batches.{most_together, rows_in};
 ghost use Rattle.run_image.specs.Driven.{driven};
-ghost use Rattle.run_image.specs.Run.{RunsRow, EndsOrKeeps};
+ghost use Rattle.run_image.specs.Run.{RunsRow, RunsRows, EndsOrKeeps};
 
 use machine_image::Image;
 use machine_shape::Pin;
-use rig::{PinBits, Rig, RigFail, cycle, load};
+use rig::{PinBits, Rig, RigFail, cycle, cycles, load};
 use std::alloc::{AllocError, Global};
 use std::marker::Model;
+
+/// For how many vectors a rig is asked at once at most.
+pub const TOGETHER: usize = 128;
 
 /// A run of an image that is loaded. Contracts see the number of pins of its machine, and the image's input pins
 /// and output pins.
@@ -21,10 +27,14 @@ pub struct Run {
     outputs: Vec<u32>,
     drive: PinBits,
     read: PinBits,
+    /// For what is driven together: one for each row.
+    drives: Vec<PinBits>,
+    reads: Vec<PinBits>,
 }
 
 impl Model for Run {
     ghost use Rattle.std.specs.Prelude.{◌≡◌, length};
+    ghost use Rattle.run_image.specs.Batches.{HaveRows};
     ghost use Rattle.run_image.specs.Pins.{Rows, ArePinsOfRows, coded_rows};
 
     ghost Value = { Rows };
@@ -34,7 +44,19 @@ impl Model for Run {
     ghost view = { λ r. record { pins = length r.drive; inputs = r.inputs.items; outputs = r.outputs.items } };
 
     ghost invariant = { λ r. ArePinsOfRows (record { pins = length r.drive; inputs = r.inputs.items; outputs = r.outputs.items })
-        × (length r.read ≡ length r.drive) };
+        × (length r.read ≡ length r.drive) × HaveRows (length r.drive) r.drives.items × HaveRows (length r.drive) r.reads.items };
+}
+
+// As many rows as are driven together, with all pins released.
+fn blank_rows(alloc: Global, pins: u32) -> Result<Vec<PinBits>, AllocError>
+    ensures { IfOk result (λ rows. HaveRows pins rows.items) }
+{
+    let mut rows = Vec::new(alloc);
+    'rows: for _k in 0..TOGETHER {
+        let row = PinBits::new(alloc, pins)?;
+        rows.push(row)?;
+    }
+    Ok(rows)
 }
 
 // Copies of an image's pins, and the bits of its rows.
@@ -50,11 +72,15 @@ fn prepare(alloc: Global, image: &Image) -> Result<Run, AllocError>
     let outputs = Vec::from_slice(alloc, image.outputs())?;
     let drive = PinBits::new(alloc, pins)?;
     let read = PinBits::new(alloc, pins)?;
+    let drives = blank_rows(alloc, pins)?;
+    let reads = blank_rows(alloc, pins)?;
     Ok(Run {
         inputs,
         outputs,
         drive,
         read,
+        drives,
+        reads,
     })
 }
 
@@ -117,6 +143,60 @@ fn put_vector(drive: &mut PinBits, pins: &[u32], vector: &[bool])
     set_pins(drive, pins, vector);
 }
 
+// Drives a vector on these pins, over what another drive has.
+fn put_over(drive: &mut PinBits, other: &PinBits, pins: &[u32], vector: &[bool])
+    requires wide { length drive.old ≡ length other.now }
+    requires same { length vector.now ≡ length pins.now }
+    requires below { All (λ k. k < length other.now) pins.now }
+    ensures { drive.new ≡ driven pins.now vector.now other.now }
+{
+    drive.copy_from(other);
+    set_pins(drive, pins, vector);
+}
+
+// Drives vectors that stand one behind the other, each on these pins, over what another drive has.
+fn put_vectors(drives: &mut [PinBits], other: &PinBits, pins: &[u32], vectors: &[bool])
+    requires wide { All (λ drive. length drive ≡ length other.now) drives.old }
+    requires below { All (λ k. k < length other.now) pins.now }
+    requires many { length vectors.now ≡ length drives.old * length pins.now }
+    ensures driven { drives.new ≡ map (λ v. driven pins.now v other.now) (rows_in (length drives.old) (length pins.now) vectors.now) }
+    ensures wide { All (λ drive. length drive ≡ length other.now) drives.new }
+{
+    let width = pins.len();
+    let mut from = 0;
+    'rows: for k in 0..drives.len() {
+        let to = from + width;
+        put_over(&mut drives[k], other, pins, &vectors[from..to]);
+        from = to;
+    }
+}
+
+// Puts what these pins read behind the first bits, and says where it ends there.
+fn put_pins(read: &PinBits, pins: &[u32], out: &mut [bool], from: usize) -> usize
+    requires room { from + length pins.now ≤ length out.old }
+    requires below { All (λ k. k < length read.now) pins.now }
+    ensures place { result ≡ from + length pins.now }
+    ensures row { take result out.new ≡ take from out.old ++ row_at pins.now read.now }
+    ensures length { length out.new ≡ length out.old }
+{
+    'places: for (k, pin) in pins.iter().enumerate() {
+        out[from + k] = read.get(Pin(*pin));
+    }
+    from + pins.len()
+}
+
+// What these pins read, one row behind the other.
+fn read_rows(reads: &[PinBits], pins: &[u32], outs: &mut [bool])
+    requires room { length outs.old ≡ length reads.now * length pins.now }
+    requires below { All (λ read. All (λ k. k < length read) pins.now) reads.now }
+    ensures rows { outs.new ≡ flat_map (row_at pins.now) reads.now }
+{
+    let mut from = 0;
+    'rows: for k in 0..reads.len() {
+        from = put_pins(&reads[k], pins, outs, from);
+    }
+}
+
 // What these pins read.
 fn read_pins(read: &PinBits, pins: &[u32], out: &mut [bool])
     requires same { length out.old ≡ length pins.now }
@@ -149,7 +229,6 @@ impl Run {
         ensures same { self.new ≡ self.old }
         ensures machine { (rig_state rig.new).machine ≡ (rig_state rig.old).machine }
         ensures narrows { Narrows (rig_state rig.old) (rig_state rig.new) }
-        ensures tells { Tells (rig_state rig.old) (rig_state rig.new) }
         ensures loads { (rig_state rig.new).loads ≡ (rig_state rig.old).loads }
         ensures later { (rig_state rig.old).failures ≤ (rig_state rig.new).failures }
         ensures count { (rig_state rig.new).failures < 2 ^ 64 }
@@ -162,6 +241,52 @@ impl Run {
         match cycle(rig, &self.drive, &mut self.read) {
             Ok(()) => {
                 read_pins(&self.read, &self.outputs, out);
+                Ok(())
+            }
+            Err(fail) => Err(fail),
+        }
+    }
+
+    /// What so many Ok of [`Run::row`] in a row are, for vectors that stand one behind the other, from none to 128: the rig is asked
+    /// for their cycles at once. The rows stand one behind the other in `outs`. Takes no memory of its own.
+    ///
+    /// Its refusals are those of these cycles: after `Failed` the rig's count of failures rose and there is no session, and `Memory`
+    /// comes only where the session has room for fewer, and leaves it as it was. After a refusal `outs` is as it was.
+    pub fn rows(
+        &mut self,
+        rig: &mut Box<dyn Rig>,
+        count: usize,
+        vectors: &[bool],
+        outs: &mut [bool],
+    ) -> Result<(), RigFail>
+        requires few { count ≤ most_together }
+        requires pins { width_of (rig_state rig.old) ≡ Some self.old.pins }
+        requires vectors { length vectors.now ≡ count * length self.old.inputs }
+        requires outs { length outs.old ≡ count * length self.old.outputs }
+
+        ensures same { self.new ≡ self.old }
+        ensures machine { (rig_state rig.new).machine ≡ (rig_state rig.old).machine }
+        ensures narrows { Narrows (rig_state rig.old) (rig_state rig.new) }
+        ensures tells { Tells (rig_state rig.old) (rig_state rig.new) }
+        ensures loads { (rig_state rig.new).loads ≡ (rig_state rig.old).loads }
+        ensures later { (rig_state rig.old).failures ≤ (rig_state rig.new).failures }
+        ensures count { (rig_state rig.new).failures < 2 ^ 64 }
+        ensures rows { OnOk result (RunsRows self.old (rig_state rig.old) (rig_state rig.new)
+            (rows_in count (length self.old.inputs) vectors.now) (rows_in count (length self.old.outputs) outs.new)) }
+        ensures length { length outs.new ≡ length outs.old }
+        ensures kept { OnErr result (outs.new ≡ outs.old) }
+        ensures refused { IfErr result (λ e. CyclesFail e count (rig_state rig.old) (rig_state rig.new)) }
+    {
+        self.drive.release_all();
+        put_vectors(
+            &mut self.drives[..count],
+            &self.drive,
+            &self.inputs,
+            vectors,
+        );
+        match cycles(rig, &self.drives[..count], &mut self.reads[..count]) {
+            Ok(()) => {
+                read_rows(&self.reads[..count], &self.outputs, outs);
                 Ok(())
             }
             Err(fail) => Err(fail),

@@ -131,6 +131,8 @@ fn set(alloc: Global, step: &mut Step, key: &str, words: Vec<String>) -> Result<
         "stay" => step.stay = Some(String::from_str(alloc, first)?),
         "loads" => step.most_loads = first.parse::<u64>().ok(),
         "onward" => step.onward = true,
+        "until" => step.until = first.parse::<usize>().ok(),
+        "drips" => step.drips = first.parse::<usize>().ok(),
         "takes" => step.takes = first.parse::<usize>().ok(),
         "together" => match first.parse::<usize>() {
             Ok(lines) => step.together = lines,

@@ -180,13 +180,20 @@ fn try_piece(
 fn try_cuts(rt: &impl Print, alloc: Global, trial: &Trial<'_>) -> Result<bool, AllocError> {
     let bytes = trial.want.bytes;
     for most in 0..bytes.len() {
-        let outcome = outcome(alloc, trial, &trial.step.fails, None, Some(most))?;
+        let outcome = outcome(
+            alloc,
+            trial,
+            &trial.step.fails,
+            trial.step.drips,
+            Some(most),
+        )?;
         if outcome.status != CUT || outcome.bytes.as_slice() != &bytes[..most] {
             tell(rt, alloc, trial.name, &outcome)?;
             return Ok(false);
         }
     }
-    let outcome = outcome(alloc, trial, &trial.step.fails, None, Some(bytes.len()))?;
+    let all = Some(bytes.len());
+    let outcome = outcome(alloc, trial, &trial.step.fails, trial.step.drips, all)?;
     let right = is_wanted(&trial.want, &outcome);
     if !right {
         tell(rt, alloc, trial.name, &outcome)?;
@@ -201,7 +208,13 @@ fn is_next(trial: &Trial<'_>, before: usize, lines: usize) -> bool {
 
 // Whether an end with so many lines may be the last before the whole.
 fn is_last(trial: &Trial<'_>, lines: usize) -> bool {
-    !trial.step.onward || goes_on(lines, count_lines(trial.want.bytes), trial.step.together)
+    match trial.step.until {
+        Some(until) => lines == until,
+        None => {
+            let all = count_lines(trial.want.bytes);
+            !trial.step.onward || goes_on(lines, all, trial.step.together)
+        }
+    }
 }
 
 // Whether it ends as it has to where each call fails in turn, and at last as if none did.
@@ -214,7 +227,7 @@ fn try_each(
     let mut before = 0;
     for call in 1..MOST_CALLS {
         let fails = Fails::one(alloc, each.turn, call)?;
-        let outcome = outcome(alloc, trial, &fails, None, None)?;
+        let outcome = outcome(alloc, trial, &fails, trial.step.drips, None)?;
         if is_wanted(&trial.want, &outcome) {
             let right = 1 < call && is_last(trial, before);
             if !right {
@@ -256,7 +269,7 @@ pub fn judge(
     alloc: Global,
     trial: &Trial<'_>,
 ) -> Result<(bool, Vec<u8>), AllocError> {
-    let (right, bytes) = try_piece(rt, alloc, trial, None)?;
+    let (right, bytes) = try_piece(rt, alloc, trial, trial.step.drips)?;
     if !right {
         return Ok((false, bytes));
     }

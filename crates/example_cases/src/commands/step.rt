@@ -60,11 +60,15 @@ pub struct Step {
     pub cuts: bool,
     /// The sizes of the pieces in which the store gives its files, besides whole.
     pub pieces: Vec<usize>,
+    /// The size of the pieces in which it gives them otherwise, where it doesn't give them whole.
+    pub drips: Option<usize>,
     pub each: Option<Each>,
     /// How many of the first lines are written at once.
     pub together: usize,
     /// Whether every end where calls fail in turn goes on from the one before, by a line.
     pub onward: bool,
+    /// How many lines the last of these ends wrote, where it isn't all but one.
+    pub until: Option<usize>,
     pub most_loads: Option<u64>,
     pub marks: Marks,
     /// The name under which what is written is kept for later steps.
@@ -107,9 +111,11 @@ impl Step {
             takes: None,
             cuts: false,
             pieces: Vec::new(alloc),
+            drips: None,
             each: None,
             together: 0,
             onward: false,
+            until: None,
             most_loads: None,
             marks: Marks::new(alloc),
             keep: None,

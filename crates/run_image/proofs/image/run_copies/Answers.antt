@@ -43,7 +43,7 @@ write_rows-requires g c =
     let opened = c.in_ok-open_vectors.ensures in
     let took = opened.took nothing.rig nothing.sink in
     record {
-      begun = (c.args.vectors.now, opened.begun, rw took.later.contents took.gives);
+      begun = (c.args.vectors.now, opened.begun, rw took.later.contents took.gives, opened.unread);
       loaded = c.in_ok-rows.ensures.loaded;
     }
 
