@@ -7,16 +7,8 @@ use Rattle.machine_defects.specs.Vocabulary.{DefectList, IsDefectList, text_of}
 use Rattle.design_netlist.specs.declared.netlist_data.NetlistData.{NetlistData}
 use Rattle.machine_image.specs.Images.{ImageValue}
 use Rattle.machine_history.specs.Vocabulary.{History, IsHistoryOf, IsRunOver}
-<<<<<<< HEAD
 use Rattle.rig.specs.Rig.{Explains, cycles_of, drives_of, readings_of}
-use Rattle.place_route.specs.Vocabulary.{IsRightImage, ReadsRows, IsRoutedInOrder}
-||||||| 3b1fc541
-use Rattle.rig.specs.Rig.{cycles_of, drives_of, readings_of}
-use Rattle.place_route.specs.Vocabulary.{IsRightImage, ReadsRows, IsRoutedInOrder}
-=======
-use Rattle.rig.specs.Rig.{cycles_of, drives_of, readings_of}
 use Rattle.place_route.specs.Vocabulary.{IsRightImage, ReadsRows}
->>>>>>> n_bind
 use Rattle.place_pair.specs.Tenants.{AreTenants, StandApart}
 use Rattle.cmd_steps.specs.Vocabulary.{Outside, IsMachineText, IsDesignText}
 use Rattle.diag_list.specs.Possible.{TakesFewLoadsOn}

@@ -2,17 +2,9 @@
 //!
 //! Promised (`pair`): a `pair` that is done has done for two designs what a `go` has for one: the rows are the first design's
 //! and, behind each, the second's, and the two share no wire; it has room exactly where the in-order plan of the joint network of
-<<<<<<< HEAD
-//! their plain networks fits the list that it wrote (`does`, `lawful`, `Promises`). What it says of faults is said of each set that
-//! explains all that was read of the machine.
-||||||| 3b1fc541
-//! their plain networks fits the list that it wrote (`does`, `lawful`, `Promises`). What it says of faults is said of those that the
-//! rig tells, and of each set that explains all that was read of the machine.
-=======
 //! their plain networks fits the list that it wrote (`does`, `lawful`, `Promises`). What is loaded is laid for these on that plan,
-//! or for networks with the designs' rows of which nothing is in vain (`IsRoutedForBoth`). What it says of faults is said of those
-//! that the rig tells, and of each set that explains all that was read of the machine.
->>>>>>> n_bind
+//! or for networks with the designs' rows of which nothing is in vain (`IsRoutedForBoth`). What it says of faults is said of each set
+//! that explains all that was read of the machine.
 #![tactic(auto)]
 
 mod both;
