@@ -65,7 +65,7 @@ module _ (machine name design vectors : List ℕ) where
         has-room (inl room) l list same place none =
             never-both-refused l.list draft draft decided (room.room l.list list.shape list.kept same) place none
         has-room (inr parts) l list same place none =
-            both-certain sure networks draft draft checked checked m l.list parts.faults list.shape (list.right.tight parts.faults parts.explain) parts.standing place none
+            both-certain sure networks draft draft checked checked m l.list parts.faults list.shape (list.right.tight parts.faults parts.explained) parts.standing place none
 
         -- the copies read alike, as they do where some faults explain all that was read
         has-alike : HasRoomAlike m draft new.rig front ⊎ HasPartsForTwo new.rig m draft
@@ -76,7 +76,7 @@ module _ (machine name design vectors : List ℕ) where
             never-apart (old.store.contents vectors) i new.rig vs rows (room.alike l.list list.shape list.kept same i laid) apart
         has-alike (inr parts) l list same i laid vs rows apart =
             let covers : (f : Faults) → Explains f new.rig → Covers l.list.shape l.list.list f = λ f e. subst (λ (s : Shape). Covers s l.list.list f) (sym list.shape) (list.right.covers f e) in
-            never-alarmed l.list draft i laid (vs ++ apart.vector ∷ apart.behind) new.rig apart.session.config apart.session.drives apart.widths covers (all_repeated Two rows) apart.read_behind apart.reading (sym apart.session.rows_are) apart.halves parts.faults parts.explain
+            never-alarmed l.list draft i laid (vs ++ apart.vector ∷ apart.behind) new.rig apart.session.config apart.session.drives apart.widths covers (all_repeated Two rows) apart.read_behind apart.reading (sym apart.session.rows_are) apart.halves parts.faults parts.explained
 
       fits : AreSure → AreNetworks → TwiceRight files new.rig front → IsRight words old (Fits words old new front)
       fits sure networks r =
