@@ -1,6 +1,7 @@
 -- Vectors that are read together and driven, and the rows of what was read.
-use Rattle.std.proofs.Common.{◌≡◌, ◌∙◌, ◌≤◌, ◌<◌, ◌+◌, ◌*◌, ℕ, suc, Bool, List, [], ◌∷◌, ◌++◌, map, take, drop, get_or, length, refl, sym, ap, subst, inl, inr, arith, length-append, Result, Err, Ok, OnOk, IfErr}
-use Rattle.std.proofs.lemmas.List.{map-append, take_more, take-append-drop, at_drop_more}
+use Rattle.std.proofs.Common.{◌≡◌, ◌⊎◌, ◌∙◌, ◌≤◌, ◌<◌, ◌+◌, ◌*◌, ◌==◌, ℕ, zero, suc, min, if◌then◌else◌, Bool, true, false, List, [], ◌∷◌, ◌++◌, map, take, drop, get_or, length, refl, sym, ap, subst, inl, inr, arith, length-append, Result, Err, Ok, OnOk, IfErr}
+use Rattle.std.proofs.lemmas.Bool.{eqb-true, eqb-false}
+use Rattle.std.proofs.lemmas.List.{map-append, take_all, take_more, take-append-drop, at_drop_more}
 use Rattle.base_io.specs.Vocabulary.{Rose, SinkState, StoreState}
 use Rattle.rig.specs.Rig.{RigState, CyclesFail}
 use Rattle.rig.specs.declared.rig.RigFail.{RigFail}
@@ -13,13 +14,42 @@ use Rattle.cmd_steps.specs.declared.refusal.Refusal.TheVariants as refused
 use Rattle.cmd_steps.specs.declared.refusal.Stop.{Stop}
 use Rattle.cmd_steps.specs.declared.refusal.Stop.TheVariants.{Refused, Sink}
 use Rattle.cmd_steps.proofs.WrittenRows.{held-up}
-use Rattle.run_image.specs.Batches.{rows_in}
-use Rattle.run_image.specs.Copying.{repeated, IsApart}
+use Rattle.run_image.specs.Batches.{most_together, rows_in}
+use Rattle.run_image.specs.Copying.{repeated, times, IsApart}
 use Rattle.run_image.specs.declared.copies.Copies.{Copies}
-use Rattle.run_image.specs.Running.{IsSameRun, AreKept, ReadsOn, ReadsMore, BatchGives, HasOrFailed, DriveStops, CompareStops, HasAddedOne, HasAddedAll, AddStops, AddsStop, DrivesTo, MakesRows, MakesStop, readings_in, at_rows}
+use Rattle.run_image.specs.Running.{IsFitting, IsSameRun, together_of, AreKept, ReadsOn, ReadsMore, BatchGives, HasOrFailed, DriveStops, CompareStops, HasAddedOne, HasAddedAll, AddStops, AddsStop, DrivesTo, MakesRows, MakesStop, readings_in, at_rows}
 use Rattle.run_image.specs.declared.image.Running.{Running}
 use Rattle.machine_image.specs.Images.{ImageValue}
-use Rattle.run_image.proofs.BatchLemmas.{rows-put, rows-count, row-in}
+use Rattle.run_image.proofs.BatchLemmas.{rows-put, rows-count, row-fits, row-in}
+use Rattle.run_image.proofs.Copied.{repeated-long}
+
+-- ---- how many are driven together
+
+-- how many are driven together is one, or within the room
+pub together-within : (left count : ℕ) → count ≤ together_of left → ((left ≡ 0) × (count ≤ 1)) ⊎ (count ≤ left)
+together-within left count le = by (left == 0) refl le
+  where
+    by : (none : Bool) → (left == 0) ≡ none → count ≤ (if none then 1 else min left most_together) → ((left ≡ 0) × (count ≤ 1)) ⊎ (count ≤ left)
+    by true is few = inl (eqb-true left 0 is, few)
+    by false is few = inr (omega (arith, few))
+
+pub few-together : (left count : ℕ) → count ≤ together_of left → count ≤ most_together
+few-together left count le = by (left == 0) le
+  where
+    by : (none : Bool) → count ≤ (if none then 1 else min left most_together) → count ≤ most_together
+    by true few = omega (arith, few)
+    by false few = omega (arith, few)
+
+above-zero : (n : ℕ) → (n ≡ 0 → ⊥) → 0 < n
+above-zero zero never = absurd (never refl)
+above-zero (suc n) never = omega arith
+
+pub some-together : (left : ℕ) → 0 < together_of left
+some-together left = by (left == 0) refl
+  where
+    by : (none : Bool) → (left == 0) ≡ none → 0 < (if none then 1 else min left most_together)
+    by true is = omega arith
+    by false is = let some = above-zero left (eqb-false left 0 is) in omega (arith, some)
 
 -- ---- vectors that are read on
 
@@ -48,6 +78,48 @@ kept-more c n w from vs vector old new count is wide room same put kept =
     ap (λ (k : ℕ). rows_in k w new) size
     ∙ (rows-put n w from old new (repeated c vector) is wide room same put
     ∙ (ap (λ (rs : List (List Bool)). rs ++ repeated c vector ∷ []) before ∙ sym (map-append (repeated c) vs (vector ∷ []))))
+
+-- what is kept is so for another state with the same bits
+still-kept : (old new : Running) (vs : List (List Bool)) → new.image ≡ old.image → new.copies ≡ old.copies → rows_in (length vs) (length old.image.inputs) new.drives.items ≡ map (repeated old.copies) vs → AreKept new vs
+still-kept old new vs image copies kept =
+    subst (λ (c : Copies). rows_in (length vs) (length new.image.inputs) new.drives.items ≡ map (repeated c) vs) (sym copies)
+    (subst (λ (i : ImageValue). rows_in (length vs) (length i.inputs) new.drives.items ≡ map (repeated old.copies) vs) (sym image) kept)
+
+same-kept : (old new : Running) (vs : List (List Bool)) → IsSameRun old new → new.drives.items ≡ old.drives.items → AreKept old vs → AreKept new vs
+same-kept old new vs same drives kept =
+    still-kept old new vs same.image same.copies (subst (λ (bits : List Bool). rows_in (length vs) (length old.image.inputs) bits ≡ map (repeated old.copies) vs) (sym drives) kept)
+
+-- one more vector was read on, and kept
+pub reads-on : (k end to : ℕ) (rows0 rows1 mid rows2 : Running) → IsSameRun rows1 mid → IsSameRun mid rows2 → IsFitting mid → IsFitting rows2 → mid.drives.items ≡ rows1.drives.items → rows2.vectors ≡ mid.vectors → GivesUnread mid.vector.items rows1.vectors mid.vectors
+    → k < most_together → end ≡ k * length rows1.image.inputs → to ≡ end + length mid.image.inputs → take to rows2.drives.items ≡ take end mid.drives.items ++ repeated mid.copies mid.vector.items → ReadsMore k rows0 rows1 → ReadsMore (k + 1) rows0 rows2
+reads-on k end to rows0 rows1 mid rows2 same1 same2 fits fits2 drives vectors gives lt is place put m =
+    let w : ℕ = length mid.image.inputs in
+    let here : end ≡ k * w = is ∙ ap (λ (i : ImageValue). k * length i.inputs) (sym same1.image) in
+    let kept : AreKept mid (rows0.vector.items ∷ m.more) = same-kept rows1 mid (rows0.vector.items ∷ m.more) same1 drives m.kept in
+    let size = m.size in
+    let count : length (rows0.vector.items ∷ m.more) ≡ k = omega (arith, size) in
+    let wide : length (repeated mid.copies mid.vector.items) ≡ w = repeated-long mid.copies mid.vector.items ∙ (ap (times mid.copies) fits.vector ∙ fits.shares.inputs) in
+    let room = row-fits most_together k w end (length mid.drives.items) lt here fits.drives in
+    let many : length rows2.drives.items ≡ length mid.drives.items = fits2.drives ∙ (ap (λ (i : ImageValue). most_together * length i.inputs) same2.image ∙ sym fits.drives) in
+    let behind : take (end + w) rows2.drives.items ≡ take end mid.drives.items ++ repeated mid.copies mid.vector.items = ap (λ (n : ℕ). take n rows2.drives.items) (sym place) ∙ put in
+    let all = kept-more mid.copies k w end (rows0.vector.items ∷ m.more) mid.vector.items mid.drives.items rows2.drives.items count here wide room many behind kept in
+    let one : length (m.more ++ mid.vector.items ∷ []) ≡ length m.more + 1 = length-append m.more (mid.vector.items ∷ []) in
+    record {
+      more = m.more ++ mid.vector.items ∷ [];
+      size = omega (arith, one, size);
+      reads = λ store. subst (λ (r : VectorReading). ReadsOn (m.more ++ mid.vector.items ∷ []) rows0.vectors r store) (sym vectors)
+          (reads-more m.more mid.vector.items rows0.vectors rows1.vectors mid.vectors store (m.reads store) (unread-read mid.vector.items rows1.vectors mid.vectors store gives fits.limit));
+      kept = still-kept mid rows2 (rows0.vector.items ∷ (m.more ++ mid.vector.items ∷ [])) same2.image same2.copies all;
+    }
+
+-- or none was
+pub reads-same : (k : ℕ) (rows0 rows1 mid : Running) → IsSameRun rows1 mid → mid.drives.items ≡ rows1.drives.items → mid.vectors ≡ rows1.vectors → ReadsMore k rows0 rows1 → ReadsMore k rows0 mid
+reads-same k rows0 rows1 mid same drives vectors m = record {
+  more = m.more;
+  size = m.size;
+  reads = λ store. subst (λ (r : VectorReading). ReadsOn m.more rows0.vectors r store) (sym vectors) (m.reads store);
+  kept = same-kept rows1 mid (rows0.vector.items ∷ m.more) same drives m.kept;
+}
 
 -- what is driven for the first is kept
 pub kept-first : (old new : Running) (end : ℕ) (bits : List Bool) → IsSameRun old new → new.vector.items ≡ bits → end ≡ length old.image.inputs → take end new.drives.items ≡ repeated old.copies bits → AreKept new (new.vector.items ∷ [])
@@ -174,6 +246,11 @@ add-next count k from rows0 rows1 left s0 s1 s2 same readings is lt adds one =
     added-next rows0.copies (readings_in count rows0) k (take (length rows1.image.outputs) (drop from rows1.readings.items)) rows0.block.text rows1.block.text left s0 s1 s2 (within-readings count k rows0 lt)
     (reading-at count k from rows0 rows1 same readings is lt) adds
     (subst (λ (c : Copies). HasAddedOne c (take (length rows1.image.outputs) (drop from rows1.readings.items)) rows1.block.text left s1 s2) same.copies one)
+
+pub added-all : (count k : ℕ) (rows0 : Running) (left : List ℕ) (s0 s1 : SinkState) → k ≡ count → HasAddedAll rows0.copies (take k (readings_in count rows0)) rows0.block.text left s0 s1 → HasAddedAll rows0.copies (readings_in count rows0) rows0.block.text left s0 s1
+added-all count k rows0 left s0 s1 end adds =
+    let size = rows-count count (length rows0.image.outputs) rows0.readings.items in
+    subst (λ (rs : List (List Bool)). HasAddedAll rows0.copies rs rows0.block.text left s0 s1) (take_all k (readings_in count rows0) (omega (arith, size, end))) adds
 
 pub stop-next : (stop : Stop) (count k from : ℕ) (rows0 rows1 : Running) (left : List ℕ) (s0 s1 s2 : SinkState) → IsSameRun rows0 rows1 → rows1.readings ≡ rows0.readings → from ≡ k * length rows1.image.outputs → k < count
     → HasAddedAll rows0.copies (take k (readings_in count rows0)) rows0.block.text rows1.block.text s0 s1 → AddStops stop rows1.copies (take (length rows1.image.outputs) (drop from rows1.readings.items)) rows1.block.text left s1 s2

@@ -1,10 +1,9 @@
 -- How the rows of an image go on, and how they stop.
-use Rattle.std.proofs.Common.{◌≡◌, ◌⊎◌, ℕ, zero, suc, ◌+◌, ◌-◌, ◌<◌, ◌≤◌, ◌==◌, Bool, true, false, List, [], ◌∷◌, ◌++◌, length, map, take, drop, flat_map, min, Some, arith, refl, sym, ap, subst, inl, inr, ◌∙◌, append-nil, append_assoc, length-append, if◌then◌else◌, option_map, OnOk, IfErr, Result, Ok, Err}
+use Rattle.std.proofs.Common.{◌≡◌, ◌⊎◌, ℕ, zero, suc, ◌+◌, ◌-◌, ◌<◌, ◌≤◌, Bool, false, List, [], ◌∷◌, ◌++◌, length, map, take, drop, flat_map, Some, arith, refl, sym, ap, subst, inl, inr, ◌∙◌, append-nil, append_assoc, length-append, option_map, OnOk, IfErr, Result, Ok, Err}
 use Rattle.std.specs.List.{All, AllByRecursion}
 use Rattle.std.proofs.lemmas.List.{get_or_append_left, length-map, map-append, take-append-drop, take-map, length-take-le}
 use Rattle.std.proofs.Math.Seq.{take-append_seam}
 use Rattle.std.proofs.lemmas.List.Elements.{All-append}
-use Rattle.std.proofs.lemmas.Bool.{eqb-true}
 use Rattle.base_io.specs.Sink.{SinkState}
 use Rattle.base_io.specs.Store.{StoreState}
 use Rattle.base_io.specs.Told.{Told}
@@ -19,6 +18,7 @@ use Rattle.run_image.specs.Pins.{pins_in}
 use Rattle.run_image.specs.Run.{RunsRows}
 use Rattle.run_image.proofs.BatchLemmas.{rows-fit, rows-wide}
 use Rattle.run_image.proofs.Copied.{repeated-both, repeated-cons, repeated-map, repeated-count, repeated-none, AllShared, all_alike, first_apart, all-shared}
+use Rattle.run_image.proofs.CycleLemmas.{together-within, few-together}
 use Rattle.run_image.proofs.Driving.{HasDriven, driven-start, driven-all, run-less, explained-run}
 use Rattle.design_vectors.specs.declared.vectors.VectorsFail.{VectorsFail}
 use Rattle.design_vectors.specs.declared.vectors.VectorsFail.TheVariants.{Text, Failed}
@@ -222,21 +222,6 @@ IsDriving-start rows o loaded begun = record {
   driven = subst (λ (none : List (List Bool)). HasDriven most_rows rows.image none none o.rig) (sym (repeated-none rows.copies)) (driven-start most_rows rows.image o.rig loaded.begins);
 }
 
--- how many are driven together is one, or within the room
-together-within : (left count : ℕ) → count ≤ together_of left → ((left ≡ 0) × (count ≤ 1)) ⊎ (count ≤ left)
-together-within left count le = by (left == 0) refl le
-  where
-    by : (none : Bool) → (left == 0) ≡ none → count ≤ (if none then 1 else min left most_together) → ((left ≡ 0) × (count ≤ 1)) ⊎ (count ≤ left)
-    by true is few = inl (eqb-true left 0 is, few)
-    by false is few = inr (omega (arith, few))
-
-pub few-together : (left count : ℕ) → count ≤ together_of left → count ≤ most_together
-few-together left count le = by (left == 0) le
-  where
-    by : (none : Bool) → count ≤ (if none then 1 else min left most_together) → count ≤ most_together
-    by true few = omega (arith, few)
-    by false few = omega (arith, few)
-
 module _ (copies : Copies) (image : ImageValue) (failures : ℕ) (begun : Outside) (few : failures ≤ begun.rig.failures) where
   abbrev width : ℕ
   width = share copies (length image.inputs)
@@ -340,7 +325,9 @@ module _ (copies : Copies) (image : ImageValue) (failures : ℕ) (begun : Outsid
 
         pub sending-stops : {U : Type 0} → Rose now.rig.failures rig.failures → Ends {U = U} (Err (Refused refused.Rig)) last
         sending-stops rose =
-            let prompt = prompt-now width begun.store now.store store rows.vectors so_far.vectors (length so_far.done) (length so_far.done) (all-put left out).taking ends.asked (all-put left out).prompt (omega arith) are-all in
+            let put = all-put left out in
+            let few_put = put-few width begun rows.vectors left put_now so_far.vectors so_far.done put in
+            let prompt = prompt-now width begun.store now.store store rows.vectors so_far.vectors (length put.put) (length so_far.done) put.taking ends.asked put.prompt few_put are-all in
             let all = taken-all width begun.store now.store store rows.vectors reading [] so_far.vectors so_far.written.taking ends.next in
             let near : IsNearEnd width (file_of begun.store) store.current (length so_far.done) =
             subst (λ (n : ℕ). IsNearEnd width (file_of begun.store) store.current n) (sym so_far.count) (taken-near-end width begun.store now.store store rows.vectors reading so_far.vectors so_far.written.taking all ends.moves) in

@@ -1,11 +1,11 @@
 //! The rows of an image.
-ghost use Rattle.std.specs.Prelude.{◌≡◌, ◌+◌, ◌-◌, ◌*◌, ◌≤◌, ℕ, List, ◌∷◌, ◌++◌, [], Some, OnOk, IfOk, IfErr, IsSome, length, take, drop};
+ghost use Rattle.std.specs.Prelude.{◌≡◌, ◌+◌, ◌-◌, ◌*◌, ◌≤◌, ℕ, List, ◌∷◌, ◌++◌, [], true, false, Some, OnOk, IfOk, IfErr, IsSome, length, take, drop};
 ghost use Rattle.run_image.specs.Copying.{repeated, share, AreEqualShares};
 ghost use Rattle.base_io.specs.Counts.{Rose};
 ghost use Rattle.machine_shape.specs.Shape.{pins_of};
 ghost use Rattle.rig.specs.Rig.{Narrows, Tells, CyclesFail};
 ghost use Rattle.run_image.specs.Batches.{most_together};
-ghost use Rattle.design_vectors.specs.Readings.{new_reading};
+ghost use Rattle.design_vectors.specs.Readings.{new_reading, GivesUnread};
 ghost use Rattle.design_vectors.specs.Rows.{row_line};
 ghost use Rattle.cmd_steps.specs.Vocabulary.{IsBegun, file_of, StoreState, SinkState, shape_of, width_of, StandsIn, outside, around, Took};
 ghost use Rattle.cmd_steps.specs.Vocabulary.{Follows, all_rows, most_vector_bytes, WaitsOrPuts, NextStops, StaysOpen};
@@ -204,6 +204,19 @@ fn keep_drive(rows: &mut Running, from: usize) -> usize
     put_bits(&rows.drive, &mut rows.drives, from)
 }
 
+// Reads the next vector where it was read from the store already. False leaves the reading as it was.
+fn take_unread(rows: &mut Running) -> bool
+    requires { IsFitting rows.old }
+    ensures same { IsSameRun rows.old rows.new }
+    ensures fits { IsFitting rows.new }
+    ensures block { rows.new.block ≡ rows.old.block }
+    ensures drives { rows.new.drives ≡ rows.old.drives }
+    ensures gives { result ≡ true → GivesUnread rows.new.vector.items rows.old.vectors rows.new.vectors }
+    ensures none { result ≡ false → rows.new.vectors ≡ rows.old.vectors }
+{
+    rows.vectors.next_unread(&mut rows.vector)
+}
+
 // Reads the vectors behind one that was read and kept, as far as they were read from the store with it. How many there are with it.
 fn read_on(rows: &mut Running) -> usize
     requires fits { IsFitting rows.old }
@@ -217,7 +230,7 @@ fn read_on(rows: &mut Running) -> usize
     let most = most_of(rows.left);
     let mut end = rows.drive.len();
     'vectors: for k in 1..most {
-        if !rows.vectors.next_unread(&mut rows.vector) {
+        if !take_unread(rows) {
             return k;
         }
         end = keep_drive(rows, end);
@@ -278,15 +291,7 @@ fn drive_rows(rows: &mut Running, count: usize, rig: &mut Box<dyn Rig>) -> Resul
     ensures rows { OnOk result (DrivesTo count rows.old (readings_in count rows.new) (rig_state rig.old) (rig_state rig.new)) }
     ensures refused { IfErr result (λ e. CyclesFail e count (rig_state rig.old) (rig_state rig.new)) }
 {
-    let driven = count * rows.drive.len();
-    let read = count * rows.reading.len();
-    let made = rows.run.rows(
-        rig,
-        count,
-        &rows.drives[..driven],
-        &mut rows.readings[..read],
-    );
-    match made {
+    match rows.run.rows(rig, count, &rows.drives, &mut rows.readings) {
         Ok(()) => {
             rows.left = rows.left.saturating_sub(count as u32);
             Ok(())

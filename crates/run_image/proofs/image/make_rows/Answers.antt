@@ -12,12 +12,12 @@ returns-in-Ok-clause-same g c =
 pub returns-in-Ok-clause-makes : goal.returns-in-Ok-clause-makes
 returns-in-Ok-clause-makes g c =
     let d = c.in-Ok.ensures in
-    makes-rows c.add_rows.result c.args.count c.args.rows.now _ _ _ _ _ _ d.same.copies d.block d.rows c.add_rows.ensures.adds
+    makes-rows c.add_rows.result c.args.count c.args.rows.now c.drive_rows.new.rows c.add_rows.new.rows.block.text _ _ _ _ d.same.copies d.block d.rows c.add_rows.ensures.adds
 
 pub returns-in-Ok-clause-refused : goal.returns-in-Ok-clause-refused
 returns-in-Ok-clause-refused g c =
     let d = c.in-Ok.ensures in
-    makes-none c.add_rows.result c.args.count c.args.rows.now _ _ _ _ _ _ d.same.copies d.block d.rows c.add_rows.ensures.refused
+    makes-none c.add_rows.result c.args.count c.args.rows.now c.drive_rows.new.rows c.add_rows.new.rows.block.text _ _ _ _ d.same.copies d.block d.rows c.add_rows.ensures.refused
 
 pub returns-in_err-put-clause-fits : goal.returns-in_err-put-clause-fits
 returns-in_err-put-clause-fits g c =
@@ -39,10 +39,10 @@ returns-in_err-put-clause-refused g c =
     let p = err_from_is_err_and c.from_residual.result c.from_residual.ensures.1 in
     let e = c.in_err-put.ensures in
     let d = c.in-Err.ensures in
-    rw (p.1, p.2) (undriven-held _ c.in-Err.fail c.args.count c.args.rows.now _ _ _ _ _ _ d.block e.some e.puts d.refused)
+    rw (p.1, p.2) (undriven-held _ c.in-Err.fail c.args.count c.args.rows.now c.drive_rows.new.rows c.put.new.self.text _ _ _ _ d.block e.some e.puts d.refused)
 
 pub returns-clause-refused : goal.returns-clause-refused
 returns-clause-refused g c =
     let e = c.in_ok-put.ensures in
     let d = c.in-Err.ensures in
-    rw c.from.ensures (undriven c.in-Err.fail c.args.count c.args.rows.now _ _ _ _ _ _ d.block e.empty e.puts d.refused)
+    rw c.from.ensures (undriven c.in-Err.fail c.args.count c.args.rows.now c.drive_rows.new.rows c.put.new.self.text _ _ _ _ d.block e.empty e.puts d.refused)
