@@ -86,7 +86,6 @@ pub record IsReadTwice (told : Option Faults) (ts : List Table) (old new : Sheet
   pub switched : SwitchesOn ts other old.config.config new.config.config
   pub run_opposite : ReadsEach told new.config.config old.drives.items new.opposite.items
   pub session : HasCycled new.config.config old.drives.items rig
-  pub sheet : IsSheet old.config.config.shape new
 
 -- the sessions of these two loads are new in the log, with one state of the rig between
 pub record LogsSheet (ts : List Table) (old new : Sheet) (before after : RigState) : Type 0 where

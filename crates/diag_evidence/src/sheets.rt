@@ -221,6 +221,7 @@ pub(crate) fn read_tables(
     ensures few { FewCycles (rig_state rig.old) (rig_state rig.new) }
     ensures made { cycles_made (rig_state rig.new) ≤ cycles_made (rig_state rig.old) + 130 }
     ensures wanting { IsErrOf result RigFail.Memory → (rig_state rig.new).session ≡ None }
+    ensures whole { OnOk result (IsSheet sheet.old.config.config.shape sheet.new) }
     ensures logged { OnOk result (LogsSheet tables.now sheet.old sheet.new (rig_state rig.old) (rig_state rig.new)) }
     ensures read_each { OnOk result (ForEach (rig_state rig.new) (λ told. IsReadTwice told tables.now sheet.old sheet.new (rig_state
         rig.new))) }

@@ -1,8 +1,21 @@
-use Rattle.std.proofs.Common.{refl}
+use Rattle.std.proofs.Common.{refl, sym, subst, ◌∙◌}
+use Rattle.diag_evidence.specs.Sheets.{IsSheet}
 use Rattle.diag_evidence.specs.Vocabulary.{Gains, right_parts}
 use Rattle.diag_evidence.proofs.Advancing.{advances_by}
 use Rattle.diag_evidence.proofs.ReadTwice.{has_tabled, shows_tabled, holds_after, newly_after, wrong_after}
 use Rattle.diag_evidence.proofs.facts.Facts.tables_each.Goals as goal
+
+pub mark_wrong-requires-clause-sheet : goal.mark_wrong-requires-clause-sheet
+mark_wrong-requires-clause-sheet g c = subst (λ m. IsSheet m c.read_tables.new.sheet) (sym c.in_ok-read_tables.ensures.whole.shape) c.in_ok-read_tables.ensures.whole
+
+pub mark_wrong-requires-clause-shape : goal.mark_wrong-requires-clause-shape
+mark_wrong-requires-clause-shape g c = c.in_ok-read_tables.ensures.whole.shape ∙ c.in-Ok.ensures.laid.shape
+
+pub keep_right-requires-clause-sheet : goal.keep_right-requires-clause-sheet
+keep_right-requires-clause-sheet g c = subst (λ m. IsSheet m c.read_tables.new.sheet) (sym c.in_ok-read_tables.ensures.whole.shape) c.in_ok-read_tables.ensures.whole
+
+pub keep_right-requires-clause-shape : goal.keep_right-requires-clause-shape
+keep_right-requires-clause-shape g c = c.in_ok-read_tables.ensures.whole.shape ∙ c.in-Ok.ensures.laid.shape
 
 pub returns-clause-tabled_each : goal.returns-clause-tabled_each
 returns-clause-tabled_each g c = λ f e.
