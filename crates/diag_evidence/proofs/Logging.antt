@@ -39,6 +39,10 @@ logs_rows a b c g room drives rows past begins goes = record {
   read = goes.read;
 }
 
+-- new sessions, and further ones behind them
+pub logged_then : {xs ys : List Past} {s t u : RigState} → HasLogged xs s t → HasLogged ys t u → HasLogged (xs ++ ys) s u
+logged_then {xs} {ys} {s} p q = q ∙ ap (λ (l : List Past). l ++ ys) p ∙ append_assoc (log_of s) xs ys
+
 -- the same drives and rows by other names
 pub logs_as : {g : Configuration} {drives others rows same : List Pins} {s t : RigState} → LogsRows g drives rows s t → drives ≡ others → same ≡ rows → LogsRows g others same s t
 logs_as p d r = record { cycles = p.cycles; logged = p.logged; driven = p.driven ∙ d; read = p.read ∙ sym r }

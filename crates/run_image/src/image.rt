@@ -171,6 +171,7 @@ fn take_bits(all: &[bool], from: usize, bits: &mut [bool]) -> usize
     requires { from + length bits.old ≤ length all.now }
     ensures place { result ≡ from + length bits.old }
     ensures bits { bits.new ≡ take (length bits.old) (drop from all.now) }
+    ensures length { length bits.new ≡ length bits.old }
 {
     let end = from + bits.len();
     bits.copy_from_slice(&all[from..end]);
@@ -327,6 +328,21 @@ fn add_row<K: Sink>(rows: &mut Running, sink: &mut K) -> Result<(), Stop>
     rows.block.add(&rows.row, sink)
 }
 
+// Takes the reading of one of the cycles, and says where the next one begins.
+fn take_reading(rows: &mut Running, from: usize) -> usize
+    requires fits { IsFitting rows.old }
+    requires room { from + length rows.old.image.outputs ≤ length rows.old.readings.items }
+    ensures same { IsSameRun rows.old rows.new }
+    ensures fits { IsFitting rows.new }
+    ensures readings { rows.new.readings ≡ rows.old.readings }
+    ensures vectors { rows.new.vectors ≡ rows.old.vectors }
+    ensures block { rows.new.block ≡ rows.old.block }
+    ensures place { result ≡ from + length rows.old.image.outputs }
+    ensures reading { rows.new.reading.items ≡ take (length rows.old.image.outputs) (drop from rows.old.readings.items) }
+{
+    take_bits(&rows.readings, from, &mut rows.reading)
+}
+
 // Compares what the copies read in one of the cycles, and lets its row wait. Says where the next reading begins.
 fn next_row<K: Sink>(rows: &mut Running, from: usize, sink: &mut K) -> Result<usize, Stop>
     requires fits { IsFitting rows.old }
@@ -344,7 +360,7 @@ fn next_row<K: Sink>(rows: &mut Running, from: usize, sink: &mut K) -> Result<us
         IfErr result (λ stop. AddStops stop rows.old.copies reading rows.old.block.text rows.new.block.text
         (K.sink_state sink.old) (K.sink_state sink.new)) }
 {
-    let end = take_bits(&rows.readings, from, &mut rows.reading);
+    let end = take_reading(rows, from);
     compare_row(rows, sink)?;
     add_row(rows, sink)?;
     Ok(end)

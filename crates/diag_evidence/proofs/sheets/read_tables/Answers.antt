@@ -3,7 +3,8 @@ use Rattle.machine_shape.specs.Shape.{pins_of}
 use Rattle.machine_meaning.specs.Circuit.{Pins}
 use Rattle.diag_evidence.specs.Looks.{ReadsEach}
 use Rattle.diag_evidence.specs.Sheets.{HaveWidth}
-use Rattle.diag_evidence.proofs.Sessions.{on_ok_both}
+use Rattle.diag_evidence.proofs.Sessions.{on_ok, on_ok_both}
+use Rattle.diag_evidence.proofs.Logging.{logs_as}
 use Rattle.diag_evidence.proofs.Rows.{whole_again}
 use Rattle.diag_evidence.proofs.ReadTwice.{cycled_under}
 use Rattle.diag_evidence.proofs.sheets.read_tables.Goals as goal
@@ -37,4 +38,21 @@ returns-clause-read_each g c =
             (subst (λ n. HaveWidth n c.read_load-2.new.reads) (ap pins_of c.switch_all.ensures.shape) c.read_load-2.ensures.width);
         opposed = ap length opposed ∙ c.read_load-2.ensures.as_many;
       };
+    })
+
+pub returns-clause-logged : goal.returns-clause-logged
+returns-clause-logged g c =
+    let sheet = c.args.sheet.now in
+    let whole : take sheet.reads.len (c.read_load.new.reads ++ drop (length c.read_load.new.reads) sheet.reads.items) ≡ c.read_load.new.reads =
+    whole_again sheet.reads.len c.read_load.new.reads sheet.reads.items (c.read_load.ensures.as_many ∙ sym c.requires.sheet.as_many) sheet.reads.ok.0 in
+    let opposed : take sheet.opposite.len (c.read_load-2.new.reads ++ drop (length c.read_load-2.new.reads) sheet.opposite.items) ≡ c.read_load-2.new.reads =
+    whole_again sheet.opposite.len c.read_load-2.new.reads sheet.opposite.items (c.read_load-2.ensures.as_many ∙ sym c.requires.sheet.opposed) sheet.opposite.ok.0 in
+    on_ok c.read_load-2.result c.read_load-2.ensures.logged (λ second. record {
+      setting = refl;
+      between = _;
+      first = logs_as c.in_ok-read_load.ensures.logged c.deref.ensures.value whole;
+      other = c.opposite_of.result;
+      opposed = c.opposite_of.ensures;
+      switched = c.switch_all.ensures;
+      second = logs_as second c.deref-2.ensures.value opposed;
     })

@@ -1,7 +1,7 @@
 use Rattle.std.proofs.Common.{refl}
 use Rattle.diag_evidence.specs.Vocabulary.{Gains, right_parts}
 use Rattle.diag_evidence.proofs.Advancing.{advances_by}
-use Rattle.diag_evidence.proofs.ReadTwice.{has_tabled, holds_after, newly_after, wrong_after}
+use Rattle.diag_evidence.proofs.ReadTwice.{has_tabled, shows_tabled, holds_after, newly_after, wrong_after}
 use Rattle.diag_evidence.proofs.facts.Facts.tables_each.Goals as goal
 
 pub returns-clause-tabled_each : goal.returns-clause-tabled_each
@@ -29,3 +29,9 @@ returns-clause-advances g c =
     advances_by (right_parts c.args.forest.now c.args.tables.now sheet.setting sheet.reads.items sheet.opposite.items)
     c.in_ok-read_tables.ensures.loads.machine c.in_ok-read_tables.ensures.loads.later c.in_ok-read_tables.ensures.loads.counted c.in_ok-read_tables.ensures.few gains c.in_ok-read_tables.ensures.loads.narrows c.in_ok-read_tables.ensures.loads.tells
     (λ f e. holds_after _ c.args.forest.now c.args.tables.now c.in-Ok.sheet sheet _ c.in-Ok.ensures (c.in_ok-read_tables.ensures.read_each f e) c.args.self.now c.requires.forest c.requires.tables f refl)
+
+pub returns-clause-logged : goal.returns-clause-logged
+returns-clause-logged g c =
+    let sheet = c.read_tables.new.sheet in
+    let gains : Gains (right_parts c.args.forest.now c.args.tables.now sheet.setting sheet.reads.items sheet.opposite.items) c.args.self.now c.keep_right.new.self = c.keep_right.ensures in
+    shows_tabled c.args.forest.now c.args.tables.now c.in-Ok.sheet sheet c.in-Ok.ensures c.in_ok-read_tables.ensures.logged c.args.self.now c.keep_right.new.self c.args.wrong.now c.mark_wrong.new.wrong gains c.mark_wrong.ensures.marks
