@@ -19,6 +19,7 @@ pub fn outcome_over<S: Store, R: Rig + Drop, K: Sink>(
 }
 
 /// What a command is done with a first time, over a sink of its own, and the status that it has to end with then.
+#[derive(Drop)]
 pub struct First<'a, S: Store> {
     pub store: &'a mut S,
     pub status: u8,
