@@ -106,13 +106,13 @@ spread_first outside first grows over spends = record {
 }
 
 -- .. by what says so of right marks, since the first are
-pub growing_start : {told : Option Faults} {j k : Kept} {a : Field} {near : List Near} {old known : KnownWires} {start now : Marks} {before after : ℕ} → IsFieldOf j.shape a → AreFirst a start →
-    (AreAllMarks told j near old.steps start → AreTried told k known.steps start.barred now.barred) →
-    (AreAllMarks told j near old.steps start → IsGrown told j near old.steps start.barred 0 → IsGrown told k near known.steps now.barred (length known.steps)) →
-    (AreAllMarks told j near old.steps start → AreAllMarks told k near known.steps now) → (AreAllMarks told j near old.steps start → SpendsFew told j start now before after) → IsGrowing told j k near known start now before after
-growing_start {told = told} {j = j} {near = near} {old = old} {start = start} field first tried grown marks few = record { tried = tried right; grown = grown right grown_none; marks = marks right; few = few right }
+pub growing_start : {told : Option Faults} {j k : Kept} {a : Field} {near : List Near} {ss : List VerifiedWire} {known : KnownWires} {start now : Marks} {before after : ℕ} → IsFieldOf j.shape a → AreFirst a start →
+    (AreAllMarks told j near ss start → AreTried told k known.steps start.barred now.barred) →
+    (AreAllMarks told j near ss start → IsGrown told j near ss start.barred 0 → IsGrown told k near known.steps now.barred (length known.steps)) →
+    (AreAllMarks told j near ss start → AreAllMarks told k near known.steps now) → (AreAllMarks told j near ss start → SpendsFew told j start now before after) → IsGrowing told j k near known start now before after
+growing_start {told = told} {j = j} {near = near} {ss = ss} {start = start} field first tried grown marks few = record { tried = tried right; grown = grown right grown_none; marks = marks right; few = few right }
   where
-    right : AreAllMarks told j near old.steps start
+    right : AreAllMarks told j near ss start
     right = first_marks field first
 
 -- one pin more
