@@ -1,5 +1,5 @@
 -- Vectors that are read together and driven, and the rows of what was read.
-use Rattle.std.proofs.Common.{◌≡◌, ◌⊎◌, ◌∙◌, ◌≤◌, ◌<◌, ◌+◌, ◌*◌, ◌==◌, ℕ, zero, suc, min, if◌then◌else◌, Bool, true, false, List, [], ◌∷◌, ◌++◌, map, take, drop, get_or, length, refl, sym, ap, subst, inl, inr, arith, length-append, Result, Err, Ok, OnOk, IfErr}
+use Rattle.std.proofs.Common.{◌≡◌, ◌⊎◌, ◌∙◌, ◌≤◌, ◌<◌, ◌+◌, ◌-◌, ◌*◌, ◌==◌, ℕ, zero, suc, min, if◌then◌else◌, Bool, true, false, List, [], ◌∷◌, ◌++◌, map, take, drop, get_or, length, refl, sym, ap, subst, inl, inr, arith, length-append, Result, Err, Ok, OnOk, IfErr}
 use Rattle.std.proofs.lemmas.Bool.{eqb-true, eqb-false}
 use Rattle.std.proofs.lemmas.List.{map-append, take_all, take_more, take-append-drop, at_drop_more}
 use Rattle.base_io.specs.Vocabulary.{Rose, SinkState, StoreState}
@@ -17,7 +17,7 @@ use Rattle.cmd_steps.proofs.WrittenRows.{held-up}
 use Rattle.run_image.specs.Batches.{most_together, rows_in}
 use Rattle.run_image.specs.Copying.{repeated, times, IsApart}
 use Rattle.run_image.specs.declared.copies.Copies.{Copies}
-use Rattle.run_image.specs.Running.{IsFitting, IsSameRun, together_of, AreKept, ReadsOn, ReadsMore, BatchGives, HasOrFailed, DriveStops, CompareStops, HasAddedOne, HasAddedAll, AddStops, AddsStop, DrivesTo, MakesRows, MakesStop, readings_in, at_rows}
+use Rattle.run_image.specs.Running.{IsFitting, IsSameRun, together_of, AreKept, ReadsOn, ReadsMore, HasBatch, BatchGives, HasOrFailed, DriveStops, CompareStops, HasAddedOne, HasAddedAll, AddStops, AddsStop, DrivesTo, MakesRows, MakesStop, readings_in, at_rows}
 use Rattle.run_image.specs.declared.image.Running.{Running}
 use Rattle.machine_image.specs.Images.{ImageValue}
 use Rattle.run_image.proofs.BatchLemmas.{rows-put, rows-count, row-fits, row-in}
@@ -142,6 +142,23 @@ read-batch count mid new vector reading block from store sink first after vector
   after = subst (λ (b : WaitingRows). IsReadAfter from (rows_at new.vectors b store sink)) (sym blocks) after;
   kept = subst (λ (v : List Bool). AreKept new (v ∷ m.more)) same m.kept;
 })
+
+-- reading goes on
+reads-onward : (vs : List (List Bool)) (old new : VectorReading) (store : StoreState) → ReadsOn vs old new store → old.at ≤ most_vector_bytes → (old.at ≤ new.at) × (new.at ≤ most_vector_bytes)
+reads-onward [] old new store same le = let place : new.at ≡ old.at = ap (λ (r : VectorReading). r.at) same in (omega (arith, place), omega (arith, place, le))
+reads-onward (v ∷ vs) old new store read le =
+    let rest = reads-onward vs read.0 new store read.2 read.1.within in
+    let on = read.1.onward in
+    let first = rest.0 in (omega (arith, on, first), rest.1)
+
+pub batch-smaller : (count : ℕ) (rows new : Running) (from to : RowsAt) → HasBatch count rows from to → new.vectors ≡ to.reading → most_vector_bytes - new.vectors.at < most_vector_bytes - from.reading.at
+batch-smaller count rows new from to batch vectors =
+    let on = reads-onward batch.more batch.mid to.reading to.store batch.later batch.first.within in
+    let place : new.vectors.at ≡ to.reading.at = ap (λ (r : VectorReading). r.at) vectors in
+    let first = batch.first.onward in
+    let least = on.0 in
+    let most = on.1 in
+    omega (arith, place, first, least, most)
 
 -- ---- the rig drives nothing
 

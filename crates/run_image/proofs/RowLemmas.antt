@@ -336,8 +336,8 @@ module _ (copies : Copies) (image : ImageValue) (failures : ℕ) (begun : Outsid
             (Err (Refused refused.Rig)) (flat_map row_line so_far.done, (has-rows (work last) begun put_now last rows.vectors left so_far.vectors so_far.done (all-put left out) later-last stays.asked refl refl (SameRig last) same-last so_far.vectors first-of-file (are-rows rig narrows) prompt, near), wrote) rose
 
         pub ends-so : {U : Type 0} (result : Result U Stop) (rows1 : Running) → IsSameRun rows rows1 → OnOk result (EndsSent rows1 now.rig rig) → IfErr result (λ stop. (stop ≡ Refused refused.Rig) × Rose now.rig.failures rig.failures) → Ends result last
-        ends-so (Ok x) rows1 same sent stops = file-ends x (subst (λ (i : ImageValue). (rig ≡ now.rig) ⊎ RunsRows (pins_in i) now.rig rig [] []) same.image sent)
-        ends-so (Err stop) rows1 same sent stops = subst (λ (s : Stop). Ends (Err s) last) (sym stops.0) (sending-stops stops.1)
+        ends-so {U} (Ok x) rows1 same sent stops = file-ends x (subst (λ (i : ImageValue). (rig ≡ now.rig) ⊎ RunsRows (pins_in i) now.rig rig [] []) same.image sent)
+        ends-so {U} (Err stop) rows1 same sent stops = subst (λ (s : Stop). Ends {U = U} (Err s) last) (sym stops.0) (sending-stops stops.1)
 
     pub pins-are : (rows1 : Running) → IsSameRun rows rows1 → width_of now.rig ≡ Some (pins_of rows1.image.config.shape)
     pins-are rows1 same =
@@ -626,7 +626,7 @@ module _ (copies : Copies) (image : ImageValue) (failures : ℕ) (begun : Outsid
 
             row-stops : {U : Type 0} (stop : Stop) (between : SinkState) (waiting left : List ℕ) (made : List (List Bool)) (reading : List Bool) (rest : List (List Bool)) → AreWritten width begun rows1.vectors waiting (outside store rig between) (so_far.vectors ++ vs) (so_far.done ++ made)
                 → readings ≡ all_repeated copies made ++ reading ∷ rest → AddStops stop copies reading waiting left between last → Ends {U = U} (Err stop) now2
-            row-stops stop between waiting left made reading rest written reads (inr h) = by (all-shared copies (share copies (length image.outputs)) rest wide-rest)
+            row-stops {U} stop between waiting left made reading rest written reads (inr h) = by (all-shared copies (share copies (length image.outputs)) rest wide-rest)
               where
                 row : List Bool
                 row = h.0
@@ -657,7 +657,7 @@ module _ (copies : Copies) (image : ImageValue) (failures : ℕ) (begun : Outsid
                     reads ∙ (ap (λ (t : List (List Bool)). all_repeated copies made ++ t) behind ∙ (sym (append_assoc (all_repeated copies made) (all_repeated copies (h.0 ∷ more)) tail)
                     ∙ ap (λ (t : List (List Bool)). t ++ tail) (sym (repeated-both copies made (h.0 ∷ more)))))
 
-                by : AllShared copies rest → Ends (Err stop) now2
+                by : AllShared copies rest → Ends {U = U} (Err stop) now2
                 by (all_alike more are) =
                     let plain : rest ≡ all_repeated copies more ++ [] = are ∙ sym (append-nil (all_repeated copies more)) in
                     alike-held stop between (waiting ++ row_line h.0) ((so_far.done ++ made) ++ h.0 ∷ []) more (made ++ h.0 ∷ more) with-it (regroup more)
@@ -665,11 +665,11 @@ module _ (copies : Copies) (image : ImageValue) (failures : ℕ) (begun : Outsid
                 by (first_apart more other behind are is_apart) =
                     apart-held stop between (waiting ++ row_line h.0) ((so_far.done ++ made) ++ h.0 ∷ []) more (made ++ h.0 ∷ more) other behind with-it (regroup more)
                     (reads-on more (other ∷ behind) are) is_apart held
-            row-stops (Sink fail) between waiting left made reading rest written reads (inl stops) =
+            row-stops {U} (Sink fail) between waiting left made reading rest written reads (inl stops) =
                 apart-held (Sink fail) between waiting (so_far.done ++ made) [] made reading rest written (sym (append-nil (so_far.done ++ made))) reads stops.1 (stops.0 store)
-            row-stops (Refused refused.Differ) between waiting left made reading rest written reads (inl stops) =
+            row-stops {U} (Refused refused.Differ) between waiting left made reading rest written reads (inl stops) =
                 apart-put between waiting left made reading rest written reads stops.1 stops.0
-            row-stops (Refused refusal) between waiting left made reading rest written reads (inl stops) = absurd stops
+            row-stops {U} (Refused refusal) between waiting left made reading rest written reads (inl stops) = absurd stops
 
             adds-stop : {U : Type 0} (stop : Stop) (left : List ℕ) → AddsStop stop rows1.copies readings rows1.block.text left sink last → Ends {U = U} (Err stop) now2
             adds-stop stop left stops =

@@ -34,7 +34,7 @@ rows-preserved g c =
       fits = e.fits;
       vectors = e.vectors ∙ i.vectors;
       readings = e.readings ∙ i.readings;
-      from = subst (λ (m : ImageValue). _ ≡ (c.rows._k + 1) * length m.outputs) (sym e.same.image) next;
+      from = subst (λ (m : ImageValue). c.in_ok-from.from ≡ (c.rows._k + 1) * length m.outputs) (sym e.same.image) next;
       adds = add-next c.args.count c.rows._k c.rows.from c.args.rows.now c.rows.rows c.next_row.new.rows.block.text _ _ _ i.same i.readings i.from lt i.adds e.adds;
     }
 

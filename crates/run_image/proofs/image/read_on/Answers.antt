@@ -18,7 +18,7 @@ vectors-init c = record {
 pub keep_drive-end-requires-clause-room : goal.keep_drive-end-requires-clause-room
 keep_drive-end-requires-clause-room c =
     let u = c.take_unread.ensures in
-    let few = few-together _ c.most_of-most.result (omega (arith, c.most_of-most.ensures)) in
+    let few = few-together c.args.rows.now.left c.most_of-most.result (omega (arith, c.most_of-most.ensures)) in
     let lt : c.vectors.k < most_together = omega (arith, few) in
     row-fits most_together c.vectors.k (length c.take_unread.new.rows.image.inputs) c.vectors.end _ lt (subst (λ (i : ImageValue). c.vectors.end ≡ c.vectors.k * length i.inputs) (sym u.same.image) c.vectors.invariant.from) u.fits.drives
 
@@ -27,7 +27,7 @@ vectors-preserved c =
     let i = c.vectors.invariant in
     let u = c.take_unread.ensures in
     let k = c.keep_drive-end.ensures in
-    let few = few-together _ c.most_of-most.result (omega (arith, c.most_of-most.ensures)) in
+    let few = few-together c.args.rows.now.left c.most_of-most.result (omega (arith, c.most_of-most.ensures)) in
     let lt : c.vectors.k < most_together = omega (arith, few) in
     let here = subst (λ (m : ImageValue). c.vectors.end ≡ c.vectors.k * length m.inputs) (sym u.same.image) i.from in
     let next = next-from c.vectors.k (length c.take_unread.new.rows.image.inputs) c.vectors.end c.keep_drive-end.result here k.place in
