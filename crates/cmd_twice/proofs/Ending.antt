@@ -1,5 +1,5 @@
 -- What a `twice` has written wherever it ends, and where the copies differ, from its course.
-use Rattle.std.proofs.Common.{◌≡◌, ◌⊎◌, ◌+◌, ◌∙◌, ℕ, Bool, List, [], ◌∷◌, ◌++◌, map, flat_map, length, take, drop, refl, sym, ap, subst, inl, inr, arith, append_assoc, append-nil, length-append, take_all, Some}
+use Rattle.std.proofs.Common.{◌≡◌, ◌⊎◌, ◌+◌, ◌∙◌, ℕ, Bool, List, [], ◌∷◌, ◌++◌, flat_map, length, take, drop, refl, sym, ap, subst, inl, inr, arith, append_assoc, append-nil, length-append, take_all, Some}
 use Rattle.std.proofs.lemmas.List.{take_at, take-append-drop, map-append}
 use Rattle.base_io.specs.Vocabulary.{Rose, Wrote}
 use Rattle.machine_shape.specs.declared.Shape.{Shape}

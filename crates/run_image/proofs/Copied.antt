@@ -6,10 +6,6 @@ use Rattle.run_image.specs.Copying.{share, times, repeated, all_repeated, AreSha
 use Rattle.run_image.specs.declared.copies.Copies.{Copies}
 use Rattle.run_image.specs.declared.copies.Copies.TheVariants.{One, Two}
 
-pub repeated-more : (c : Copies) (rows : List (List Bool)) (row : List Bool) → all_repeated c (rows ++ row ∷ []) ≡ all_repeated c rows ++ repeated c row ∷ []
-repeated-more One rows row = refl
-repeated-more Two rows row = map-append (λ (r : List Bool). r ++ r) rows (row ∷ [])
-
 pub repeated-cons : (c : Copies) (row : List Bool) (rows : List (List Bool)) → all_repeated c (row ∷ rows) ≡ repeated c row ∷ all_repeated c rows
 repeated-cons One row rows = refl
 repeated-cons Two row rows = refl

@@ -11,7 +11,7 @@ use Rattle.base_io.specs.Counts.{Rose}
 use Rattle.machine_meaning.specs.Vocabulary.{Pins, Faults}
 use Rattle.machine_config.specs.Vocabulary.{Configuration, IsRun}
 use Rattle.machine_shape.specs.Shape.{pins_of}
-use Rattle.rig.specs.Rig.{RigState, Exchange, Explains, Narrows, Tells, width_of, cycles_of, readings_of, spare_of}
+use Rattle.rig.specs.Rig.{RigState, Exchange, Narrows, Tells, width_of, cycles_of, readings_of, spare_of}
 use Rattle.machine_image.specs.Images.{ImageValue, drive_of, image_row}
 use Rattle.run_image.specs.Batches.{most_together, rows_in}
 use Rattle.run_image.specs.Pins.{pins_in}

@@ -1,5 +1,5 @@
 -- Behind wrong words as much of the line of a refusal stands, and nothing else.
-use Rattle.std.proofs.Common.{◌≡◌, ◌∙◌, ℕ, List, ◌++◌, ap, subst}
+use Rattle.std.proofs.Common.{◌∙◌, ℕ, List, ◌++◌, ap, subst}
 use Rattle.base_io.specs.Sink.{Wrote}
 use Rattle.cmd_steps.specs.Vocabulary.{Outside, around, Next, refuses, wrong_words, Ended}
 use Rattle.cmd_steps.specs.declared.refusal.Refusal.TheVariants.{Words}

@@ -1,5 +1,5 @@
 -- What the steps of a run say.
-use Rattle.std.specs.Prelude.{◌≡◌, ◌⊎◌, ◌+◌, ◌-◌, ◌*◌, ◌==◌, ℕ, if◌then◌else◌, min, List, [], ◌∷◌, ◌++◌, Bool, false, length, map, Err, Ok}
+use Rattle.std.specs.Prelude.{◌≡◌, ◌⊎◌, ◌+◌, ◌*◌, ◌==◌, ℕ, if◌then◌else◌, min, List, [], ◌∷◌, ◌++◌, Bool, false, length, map, Err, Ok}
 use Rattle.run_image.specs.Copying.{share, repeated, AreEqualShares, IsApart}
 use Rattle.run_image.specs.declared.copies.Copies.{Copies}
 use Rattle.base_io.specs.Vocabulary.{Rose, StoreState, SinkState}
