@@ -40,8 +40,8 @@ logs_rows a b c g room drives rows past begins goes = record {
 }
 
 -- new sessions, and further ones behind them
-pub logged_then : {xs ys : List Past} {s t u : RigState} → HasLogged xs s t → HasLogged ys t u → HasLogged (xs ++ ys) s u
-logged_then {xs} {ys} {s} p q = q ∙ ap (λ (l : List Past). l ++ ys) p ∙ append_assoc (log_of s) xs ys
+pub logged_then : (was xs ys : List Past) {mid is : List Past} → mid ≡ was ++ xs → is ≡ mid ++ ys → is ≡ was ++ (xs ++ ys)
+logged_then was xs ys p q = q ∙ ap (λ (l : List Past). l ++ ys) p ∙ append_assoc was xs ys
 
 -- the same drives and rows by other names
 pub logs_as : {g : Configuration} {drives others rows same : List Pins} {s t : RigState} → LogsRows g drives rows s t → drives ≡ others → same ≡ rows → LogsRows g others same s t

@@ -1,9 +1,9 @@
 -- What a test of hangs leaves.
-use Rattle.std.proofs.Common.{◌≡◌, ◌≤◌, ◌+◌, ◌⊎◌, inl, inr, ℕ, Bool, true, false, Some, Option, List, All, refl, subst, ◌∙◌, map}
+use Rattle.std.proofs.Common.{◌≡◌, ◌≤◌, ◌+◌, ◌⊎◌, inl, inr, ℕ, Bool, true, false, Some, Option, List, [], ◌∷◌, All, refl, subst, ◌∙◌, map}
 use Rattle.std.proofs.lemmas.List.Elements.{All-map}
 use Rattle.machine_meaning.specs.Faults.{Faults}
 use Rattle.machine_meaning.specs.Circuit.{Pins}
-use Rattle.rig.specs.Rig.{RigState, Explains, Narrows, Tells}
+use Rattle.rig.specs.Rig.{RigState, Explains, Narrows, Tells, log_of}
 use Rattle.diag_evidence.specs.declared.hangs.WireTest.{WireTest}
 use Rattle.diag_evidence.specs.declared.hangs.Views.{Views}
 use Rattle.diag_evidence.specs.Vocabulary.{Kept, HoldsFor, IsMore, Gains, Advances, FewCycles, Trees, IsForest, KnowsForest, Foot, IsFoot, IsLook, LogsLook, LogsThree, LogsViews, ShowsTried, all_feet, closes, AreHangs, AreAllOf, MarksUnfit, MarksUnclear, UnfitIf, UnclearIf, StayMarked, HasTried, silent, answered, over_of, turned, overs, others, shown, seen_on, HasViewed, HasLearnt}
@@ -24,14 +24,14 @@ look_over_logged trees {rows = rows} {s = s} {t = t} same logs = subst (λ (fs :
 -- three looks, one after the other
 pub three_looks : (trees : Trees) (hs : List WireTest) {rows a b : List Pins} {s t u v : RigState} → LogsLook trees.shape (closes trees (all_feet hs)) rows s t → LogsLook trees.shape (closes trees (others hs)) a t u
     → LogsLook trees.shape (closes trees (overs hs)) b u v → LogsThree trees hs rows a b s v
-three_looks trees hs p q r = record {
+three_looks trees hs {s = s} p q r = record {
   all = p.session;
   all_look = p.look;
   over = q.session;
   over_look = q.look;
   other = r.session;
   other_look = r.look;
-  logged = logged_then (logged_then p.logged q.logged) r.logged;
+  logged = logged_then (log_of s) (p.session ∷ q.session ∷ []) (r.session ∷ []) (logged_then (log_of s) (p.session ∷ []) (q.session ∷ []) p.logged q.logged) r.logged;
 }
 
 pub are_hung : {trees : Trees} {hs : List WireTest} → AreHangs trees hs → AreHung trees hs
@@ -64,10 +64,10 @@ module _ {trees : Trees} {hs : List WireTest} {views : Views} {k l : Kept} {was 
 -- what the log shows of the test
 module _ (trees : Trees) (hs : List WireTest) {s t : RigState} (views : Views) (yes : Bool) (logs : LogsViews trees hs s t views yes) (k l : Kept) where
   pub shows_silent : (was were : List Bool) → yes ≡ false → l ≡ k → ShowsTried trees hs s t k l was was were were
-  shows_silent was were no same = inl (record {
+  shows_silent was were is_no same = inl (record {
     rows = views.all.rows;
-    look = logs.once no;
-    unanswered = logs.answers ∙ no;
+    look = logs.once is_no;
+    unanswered = logs.answers ∙ is_no;
     same = same;
     unmarked = refl;
     unmarked_too = refl;

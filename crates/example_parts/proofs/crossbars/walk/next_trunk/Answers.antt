@@ -1,4 +1,5 @@
 use Rattle.std.proofs.Common.{◌≡◌, ◌<◌, ◌≤◌, ℕ, Some, length, sym, subst, arith}
+use Rattle.std.specs.Prelude.{⊤}
 use Rattle.machine_shape.specs.declared.Shape.{Shape}
 use Rattle.machine_shape.specs.Shape.{nodes_of, parent_of}
 use Rattle.diag_published.specs.Held.{Findings, FullIf}
@@ -16,7 +17,7 @@ returns-in_default-clause-none g c = λ at within.
     absurd (has_one_above m n (c.the_numbering_is_sound.ensures.parents m) below_root within (λ i e. let past = none within i e in omega (arith, at, counted, past)))
 
 pub returns-then-node-eq0-clause-none : goal.returns-then-node-eq0-clause-none
-returns-then-node-eq0-clause-none g c = λ at within. unserved_each (λ told. Unit {0}) c.find_trunk.result c.find_trunk.ensures.none_each (λ f e. tt)
+returns-then-node-eq0-clause-none g c = λ at within. unserved_each (λ told. ⊤) c.find_trunk.result c.find_trunk.ensures.none_each (λ f e. tt)
 
 pub returns-clause-none : goal.returns-clause-none
 returns-clause-none g c = λ at within.
