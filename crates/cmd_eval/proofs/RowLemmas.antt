@@ -1,5 +1,5 @@
 -- A file of vectors that is read, row by row, and how that goes on and stops.
-use Rattle.std.proofs.Common.{◌≡◌, ◌≤◌, ℕ, Bool, false, List, [], ◌∷◌, ◌++◌, length, arith, refl, sym, ap, subst, inl, ◌∙◌, append-nil, append_assoc, length-append, Result, Ok, Err}
+use Rattle.std.proofs.Common.{◌≡◌, ◌≤◌, ◌<◌, ℕ, Bool, false, List, [], ◌∷◌, ◌++◌, length, arith, refl, sym, ap, subst, inl, ◌∙◌, append-nil, append_assoc, length-append, Result, Ok, Err}
 use Rattle.base_io.specs.Vocabulary.{StoreState, SinkState}
 use Rattle.design_netlist.specs.declared.netlist_data.NetlistData.{NetlistData}
 use Rattle.design_netlist.specs.Rows.{AreRows}
