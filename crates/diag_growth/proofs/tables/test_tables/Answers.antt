@@ -34,6 +34,9 @@ test_seated-requires-clause-links g c = links_same (c.tables.invariant.advances.
 pub returns-in_err-test_seated-clause-loads : goal.returns-in_err-test_seated-clause-loads
 returns-in_err-test_seated-clause-loads g c = takes_all c.args.facts.now c.args.tables.now (c.tables.i + 1) _ (takes_more c.args.tables.now c.tables.i (record { 0 = 0 }) _ c.tables-test.true c.tables.invariant.advances.more c.tables.invariant.loads c.test_seated.ensures.loads)
 
+pub returns-in_err-test_seated-clause-advances : goal.returns-in_err-test_seated-clause-advances
+returns-in_err-test_seated-clause-advances g c = advances_then c.tables.invariant.advances c.test_seated.ensures.advances
+
 pub returns-in_err-test_seated-clause-only : goal.returns-in_err-test_seated-clause-only
 returns-in_err-test_seated-clause-only g c = only_then c.tables.invariant.only c.test_seated.ensures.only
 
