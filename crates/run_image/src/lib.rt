@@ -16,8 +16,8 @@
 //! Promised (`list_and_run`): what `go` and `pair` do once their designs are read. It lists, writes the list, lays what it is
 //! given, and runs the image, of any value that says by its trait (`Lays`) how it is laid, how wide its vectors are and what its
 //! rows are, and that its images are right for these. The list covers each set of faults that explains all that was read
-//! (`diag_list`), and at every end the rows are right if there is such a set. Copies that are driven alike (`Copies`) are compared, and a row is
-//! written once: where they read differently nothing is written of that reading, and the command is refused.
+//! (`diag_list`), and at every end the rows are right if there is such a set. Copies that are driven alike (`Copies`) are compared,
+//! and a row is written once: where they read differently nothing is written of that reading, and the command is refused.
 #![tactic(auto)]
 
 mod copies;
