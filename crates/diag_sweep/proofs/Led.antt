@@ -7,7 +7,7 @@ use Rattle.base_bits.specs.Numbers.{has_number}
 use Rattle.machine_meaning.specs.Vocabulary.{Pins}
 use Rattle.machine_config.specs.Vocabulary.{Configuration, among}
 use Rattle.rig.specs.Rig.{RigState, ForEach}
-use Rattle.diag_evidence.specs.Vocabulary.{Kept, IsMore, keeps_cross, ShowsLed, StuckIf, arrives, held_up_at, is_only_unkept, crosses_of_leads}
+use Rattle.diag_evidence.specs.Vocabulary.{Kept, IsMore, keeps_cross, StuckIf, arrives, held_up_at, is_only_unkept, crosses_of_leads}
 use Rattle.diag_evidence.specs.declared.leads.Lead.{Lead}
 use Rattle.diag_known.specs.Known.{KnownWires}
 use Rattle.diag_known.specs.declared.field.Field.{Field}
@@ -42,8 +42,17 @@ held_up k reading (l ∷ ls) x on = by (held_up k reading ls x) (or_cases (not (
         record { on = whole ∙ or_left (among l.route.crosses x) (among (crosses_of_leads ls) x) two.0; loose = not_kept (keeps_cross k x) (and_parts (not (keeps_cross k x)) _ two.1).0 }
     by later (inr more) = record { on = whole ∙ or_right (among l.route.crosses x) (among (crosses_of_leads ls) x) (later more).on; loose = (later more).loose }
 
-stuck_marks : {before after : RigState} (a : Field) (k l : Kept) (known : KnownWires) (g : Configuration) (drive : List Bool) (ls : List Lead) (seen was is : List Bool) {T E : Type 0} (r : Result T E) → IsCourse k known.steps a g drive ls seen → length is ≡ length was →
-    OnOk r (ShowsLed g drive ls before after k l was is) → OnErr r (is ≡ was) → MarksSome (λ x. has_number a.crosses x ≡ true) was is
+-- by one reading, what is held up by it is marked, and what was marked
+pub record MarksHeldUp (k : Kept) (ls : List Lead) (was is : List Bool) : Type 0 where
+  pub reading : Pins
+  pub marks : (x : ℕ) → has_number is x ≡ (held_up_at k reading ls x || has_number was x)
+
+pub where_done : {T E P Q : Type 0} (r : Result T E) → OnOk r P → (P → Q) → OnOk r Q
+where_done (Ok v) p more = more p
+where_done (Err e) p more = tt
+
+stuck_marks : (a : Field) (k l : Kept) (known : KnownWires) (g : Configuration) (drive : List Bool) (ls : List Lead) (seen was is : List Bool) {T E : Type 0} (r : Result T E) → IsCourse k known.steps a g drive ls seen → length is ≡ length was →
+    OnOk r (MarksHeldUp k ls was is) → OnErr r (is ≡ was) → MarksSome (λ x. has_number a.crosses x ≡ true) was is
 stuck_marks a k l known g drive ls seen was is (Ok v) c len led same = record {
   len = len;
   stays = λ x on. led.marks x ∙ or_right (held_up_at k led.reading ls x) (has_number was x) on;
@@ -55,11 +64,11 @@ stuck_marks a k l known g drive ls seen was is (Ok v) c len led same = record {
     by x (inr on) = inl on
 stuck_marks a k l known g drive ls seen was is (Err e) c len led same = subst (MarksSome (λ x. has_number a.crosses x ≡ true) was) (sym same) (some_itself _ was)
 
-pub lead_goes : {first now : RigState} {a : Field} {k l : Kept} {known : KnownWires} {bad : DefectMarks} {budget : LoadBudget} {before after : ℕ} {g : Configuration} {drive : List Bool} {ls : List Lead} {seen stuck : List Bool} {T E : Type 0} (r : Result T E) →
+pub lead_goes : {now : RigState} {a : Field} {k l : Kept} {known : KnownWires} {bad : DefectMarks} {budget : LoadBudget} {before after : ℕ} {g : Configuration} {drive : List Bool} {ls : List Lead} {seen stuck : List Bool} {T E : Type 0} (r : Result T E) →
     IsHand a (in_hand k known bad budget before) → IsCourse k known.steps a g drive ls seen → before + 1 ≤ budget.most → after ≤ before + 1 → IsMore k l → length stuck ≡ length bad.stuck →
-    OnOk r (ShowsLed g drive ls first now k l bad.stuck stuck) → OnErr r (stuck ≡ bad.stuck) → ForEach now (λ told. StuckIf told k bad.stuck → StuckIf told l stuck) →
+    OnOk r (MarksHeldUp k ls bad.stuck stuck) → OnErr r (stuck ≡ bad.stuck) → ForEach now (λ told. StuckIf told k bad.stuck → StuckIf told l stuck) →
     Goes now a [] (in_hand k known bad budget before) (in_hand l known (record bad { stuck = stuck }) budget after)
-lead_goes {first} {now} {a} {k} {l} {known} {bad} {budget} {before} {after} {g} {drive} {ls} {seen} {stuck} r hand course can took more len led same true_ = goes_tested 1 hand can took more marked holds
+lead_goes {now} {a} {k} {l} {known} {bad} {budget} {before} {after} {g} {drive} {ls} {seen} {stuck} r hand course can took more len led same true_ = goes_tested 1 hand can took more marked holds
   where
     marked : MarksIn a [] bad (record bad { stuck = stuck })
     marked = record {

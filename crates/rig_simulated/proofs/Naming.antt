@@ -26,10 +26,10 @@ no_text m (holds b) text bytes line kind w e is only =
 
 -- the faults of a name are those that its text spells
 spells-by : (number found : Option ℕ) (told : Told) (m : Shape) (f : Faults) → found ≡ number → AreNamed number m told f → IfSome (text_by number (bytes_of told)) (λ bytes. found ≡ None → IsFaultText m bytes f)
-spells-by (Some n) found told m f is are none = absurd (none-some n (sym none ∙ is))
+spells-by (Some n) found told m f is are = λ none. absurd (none-some n (sym none ∙ is))
 spells-by None found untold m f is are = tt
-spells-by None found absent m f is are = absurd are
-spells-by None found (holds bytes) m f is are none = are.0
+spells-by None found absent m f is are = tt
+spells-by None found (holds bytes) m f is are = λ none. are.0
 
 pub spells : (name : List ℕ) (contents : List ℕ → Told) (m : Shape) (f : Faults) → AreNamed (generated_of name) m (contents name) f → SpellsFaults (texts_of contents name) name m (Some f)
 spells name contents m f are = spells-by (generated_of name) (generated_of name) (contents name) m f refl are
