@@ -209,7 +209,7 @@ fn price(
     aim: Aim,
 ) -> Result<(), AllocError> {
     'cuts: for k in 0..passes.chosen.len() {
-        let cut = passes.chosen[k];
+        let cut = passes.chosen.get(k).copied().unwrap_or(NO_CUT);
         let noise = noise_of(passes);
         let cost = cost_of(areas, node, &cut, aim, noise)?;
         put_cost(&mut passes.chosen, k, cost);
