@@ -81,8 +81,8 @@ has_one_above m n parents below_root within none =
     omega (arith, before, past)
 
 -- that no trunk is found says of each set of faults with P that the node isn't served
-pub unserved_each : {E : Type 0} {rig : RigState} {k : Kept} {n : ℕ} (P : Option Faults → Type 0) (r : Result (Option Trunk) E) → IfOk r (λ found. ForEach rig (λ told. P told → IfNone found (UnservedIf told k n))) → ForEach rig P →
+pub unserved_each : {E : Type 0} {rig : RigState} (k : Kept) (n : ℕ) (P : Option Faults → Type 0) (r : Result (Option Trunk) E) → IfOk r (λ found. ForEach rig (λ told. P told → IfNone found (UnservedIf told k n))) → ForEach rig P →
     IfOk r (λ found. IfNone found (ForEach rig (λ told. UnservedIf told k n)))
-unserved_each P (Ok None) h p = λ f e. h f e (p f e)
-unserved_each P (Ok (Some t)) h p = tt
-unserved_each P (Err x) h p = tt
+unserved_each k n P (Ok None) h p = λ f e. h f e (p f e)
+unserved_each k n P (Ok (Some t)) h p = tt
+unserved_each k n P (Err x) h p = tt
