@@ -16,5 +16,5 @@ positions-preserved c =
 
 pub returns : goal.returns
 returns c =
-    let e : c.positions.k ≡ width_of c.args.shape.now c.args.side c.args.node.0 = (let a = c.positions-k-end.ensures in omega (arith, a)) in
+    let e : c.positions.k ≡ width_of c.args.shape.now c.args.side c.args.node.0 = (let a = c.width-k-end.ensures in omega (arith, a)) in
     subst (λ n. Adds (IsAmongFirst (side_wire c.args.shape.now c.args.side c.args.node.0) n) c.args.wires.now c.positions.wires) e c.positions.invariant
