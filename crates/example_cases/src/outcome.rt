@@ -6,7 +6,7 @@ use rig::Rig;
 use std::alloc::{AllocError, Global};
 
 /// The status of a command, and how often the rig was loaded.
-pub fn outcome_over<S: Store, R: Rig + Drop, K: Sink>(
+pub fn outcome_over<S: Store, R: Rig + Drop + 'static, K: Sink>(
     alloc: Global,
     words: &[String],
     store: &mut S,
@@ -26,7 +26,7 @@ pub struct First<'a, S: Store> {
 }
 
 /// The same of a command that is done a second time over one rig. Where it doesn't end as it should the first time, that is the end.
-pub fn outcome_again<S: Store, R: Rig + Drop, K: Sink>(
+pub fn outcome_again<S: Store, R: Rig + Drop + 'static, K: Sink>(
     alloc: Global,
     words: &[String],
     first: First<'_, S>,

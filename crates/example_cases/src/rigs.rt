@@ -46,7 +46,11 @@ fn tell_lost(rt: &HostRuntime, found: &Outcome) -> io::Result<bool> {
 }
 
 // Does what the words of a command line say over a rig, on the files of the folder. Gives the status, and how often the rig was loaded.
-fn run_over<R: Rig + Drop>(rt: &HostRuntime, rig: R, words: &[String]) -> io::Result<(u8, u64)> {
+fn run_over<R: Rig + Drop + 'static>(
+    rt: &HostRuntime,
+    rig: R,
+    words: &[String],
+) -> io::Result<(u8, u64)> {
     let alloc: Global = rt.alloc();
     let mut store = FileStore::new(alloc, rt.clone()?);
     let mut sink = StdSink::new(rt.clone()?);
@@ -54,7 +58,11 @@ fn run_over<R: Rig + Drop>(rt: &HostRuntime, rig: R, words: &[String]) -> io::Re
 }
 
 // The same, and prints the status.
-fn tell_over<R: Rig + Drop>(rt: &HostRuntime, rig: R, words: &[String]) -> io::Result<bool> {
+fn tell_over<R: Rig + Drop + 'static>(
+    rt: &HostRuntime,
+    rig: R,
+    words: &[String],
+) -> io::Result<bool> {
     let (status, _) = run_over(rt, rig, words)?;
     println!(rt; "status {status}")?;
     Ok(true)
