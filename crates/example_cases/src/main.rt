@@ -8,7 +8,6 @@
 #![tactic(auto)]
 
 mod commands;
-mod outcome;
 mod rigs;
 
 use example_kit::{verdict, words_of_part};
