@@ -1,7 +1,6 @@
-//! What the search remembers of crosspoints and wires while it lays a load.
+//! What the search remembers of crosspoints and wires, and which of them a load uses.
 
-use crate::heights::Heights;
-use crate::wire_bits::WireBits;
+use crate::number_bits::NumberBits;
 use machine_shape::{Cross, Shape, Wire};
 use std::alloc::{AllocError, Global};
 
@@ -12,8 +11,6 @@ pub enum Mark {
     Kept,
     /// It is neither kept nor marked.
     Undecided,
-    /// The same, and it is on a walk that is tried, or on one that didn't lead.
-    Held,
     /// It is found stuck, or not of the field.
     Barred,
 }
@@ -22,82 +19,41 @@ pub enum Mark {
 #[derive(Drop)]
 pub(crate) struct Board {
     marks: Vec<Mark>,
-    known: WireBits,
+    known: NumberBits,
     // The wires of the field.
     field: Vec<bool>,
-    // The known wires that this load doesn't use.
-    idle: WireBits,
-    // How many pins of the machine there are, how many are known, and how many of these aren't used.
+    // How many pins of the machine there are, and how many are known. They are the first wires.
     pins: u32,
     known_pins: u32,
-    free_pins: u32,
-    // How many crosspoints of a wire and of a crossbar, between known wires, are undecided and not held.
-    left: Vec<u32>,
-    todo: Vec<u32>,
-}
-
-// One more.
-fn add(counts: &mut Vec<u32>, at: usize) {
-    if at < counts.len() {
-        counts[at] = counts[at].saturating_add(1);
-    }
-}
-
-// One less.
-fn sub(counts: &mut Vec<u32>, at: usize) {
-    if at < counts.len() {
-        counts[at] = counts[at].saturating_sub(1);
-    }
-}
-
-// All are none.
-fn clear(counts: &mut Vec<u32>) {
-    'places: for at in 0..counts.len() {
-        if at < counts.len() {
-            counts[at] = 0;
-        }
-    }
-}
-
-// No crosspoint is held.
-fn free_all(marks: &mut Vec<Mark>) {
-    'places: for at in 0..marks.len() {
-        if at < marks.len() && marks[at] == Mark::Held {
-            marks[at] = Mark::Undecided;
-        }
-    }
-}
-
-// A count at a place.
-fn count_at(counts: &Vec<u32>, at: usize) -> u32 {
-    counts.get(at).copied().unwrap_or(0)
+    // Which load is laid; and of each wire and of each tree the last load that used it.
+    turn: u32,
+    used: Vec<u32>,
+    busy: Vec<u32>,
 }
 
 impl Board {
-    // Takes room for what is known of each crosspoint, wire and crossbar.
+    // Takes room for what is known of each crosspoint, wire and tree.
     fn widen(&mut self, shape: &Shape) -> Result<(), AllocError> {
         let wires = shape.wires() as usize;
         self.marks.resize(shape.crosses() as usize, Mark::Barred)?;
         self.field.resize(wires, false)?;
-        self.left.resize(wires, 0)?;
-        self.todo.resize(shape.nodes() as usize, 0)?;
+        self.used.resize(wires, 0)?;
+        self.busy.resize(shape.pins() as usize, 0)?;
         Ok(())
     }
 
     /// The board before the first load. No wire is known or of the field, and no crosspoint may be tried.
     pub(crate) fn new(alloc: Global, shape: &Shape) -> Result<Board, AllocError> {
-        let known = WireBits::new(alloc, shape.wires())?;
-        let idle = WireBits::new(alloc, shape.wires())?;
+        let known = NumberBits::new(alloc, shape.wires())?;
         let mut board = Board {
             marks: Vec::new(alloc),
             known,
             field: Vec::new(alloc),
-            idle,
             pins: shape.pins(),
             known_pins: 0,
-            free_pins: 0,
-            left: Vec::new(alloc),
-            todo: Vec::new(alloc),
+            turn: 0,
+            used: Vec::new(alloc),
+            busy: Vec::new(alloc),
         };
         board.widen(shape)?;
         Ok(board)
@@ -119,14 +75,34 @@ impl Board {
         }
     }
 
+    /// Whether a crosspoint is kept.
+    pub(crate) fn is_kept(&self, c: Cross) -> bool {
+        self.mark(c) == Mark::Kept
+    }
+
+    /// Whether a crosspoint isn't decided.
+    pub(crate) fn is_undecided(&self, c: Cross) -> bool {
+        self.mark(c) == Mark::Undecided
+    }
+
     /// Whether a pin of the machine isn't known.
     pub(crate) fn wants_pins(&self) -> bool {
         self.known_pins < self.pins
     }
 
+    /// How many pins of the machine are known.
+    pub(crate) fn known_pins(&self) -> u32 {
+        self.known_pins
+    }
+
+    /// How many pins of the machine there are.
+    pub(crate) fn pins(&self) -> u32 {
+        self.pins
+    }
+
     /// Whether a wire is known.
     pub(crate) fn has(&self, w: Wire) -> bool {
-        self.known.has(w)
+        self.known.has(w.0)
     }
 
     /// Whether a wire is of the field.
@@ -147,125 +123,61 @@ impl Board {
         if self.has(w) {
             return;
         }
-        self.known.insert(w);
-        self.idle.insert(w);
+        self.known.insert(w.0);
         if w.0 < self.pins {
             self.known_pins = self.known_pins.saturating_add(1);
         }
     }
 
-    /// Whether a wire is known and not used by this load.
-    pub(crate) fn is_idle(&self, w: Wire) -> bool {
-        self.idle.has(w)
-    }
-
-    /// The first known wire, from a number on and before another, that this load doesn't use.
-    pub(crate) fn first_idle(&self, from: u32, end: u32) -> Option<u32> {
-        self.idle.first(from, end)
-    }
-
-    /// A new load, for which no wire is used.
+    /// A new load, for which no wire and no tree is used.
     pub(crate) fn begin(&mut self) {
-        self.idle.copy(&self.known);
-        self.free_pins = self.known_pins;
+        self.turn = self.turn.saturating_add(1);
+    }
+
+    /// Whether this load uses a wire.
+    pub(crate) fn is_used(&self, w: Wire) -> bool {
+        self.used.get(w.0 as usize).copied().unwrap_or(self.turn) == self.turn
     }
 
     /// A wire is used.
     pub(crate) fn take(&mut self, w: Wire) {
-        if !self.is_idle(w) {
-            return;
-        }
-        self.idle.remove(w);
-        if w.0 < self.pins {
-            self.free_pins = self.free_pins.saturating_sub(1);
+        let at = w.0 as usize;
+        if at < self.used.len() {
+            self.used[at] = self.turn;
         }
     }
 
     /// A wire isn't used any more.
     pub(crate) fn release(&mut self, w: Wire) {
-        if !self.has(w) || self.is_idle(w) {
-            return;
-        }
-        self.idle.insert(w);
-        if w.0 < self.pins {
-            self.free_pins = self.free_pins.saturating_add(1);
+        let at = w.0 as usize;
+        if at < self.used.len() {
+            self.used[at] = 0;
         }
     }
 
-    /// How many known pins of the machine aren't used.
-    pub(crate) fn free_pins(&self) -> u32 {
-        self.free_pins
+    /// Whether a wire is known and this load doesn't use it.
+    pub(crate) fn is_idle(&self, w: Wire) -> bool {
+        self.has(w) && !self.is_used(w)
     }
 
-    /// How many pins of the machine there are.
-    pub(crate) fn pins(&self) -> u32 {
-        self.pins
+    /// Whether this load uses a tree.
+    pub(crate) fn is_busy(&self, tree: u32) -> bool {
+        self.busy.get(tree as usize).copied().unwrap_or(self.turn) == self.turn
     }
 
-    /// How many crosspoints of a wire are left to try.
-    pub(crate) fn left(&self, w: Wire) -> u32 {
-        count_at(&self.left, w.0 as usize)
-    }
-
-    /// How many crosspoints of a crossbar are left to try.
-    pub(crate) fn todo(&self, node: u32) -> u32 {
-        count_at(&self.todo, node as usize)
-    }
-
-    /// A crosspoint of two wires in a crossbar is tried: it isn't left any more.
-    pub(crate) fn hold(&mut self, node: u32, c: Cross, from: Wire, to: Wire) {
-        if self.mark(c) == Mark::Undecided {
-            self.set_mark(c, Mark::Held);
-            sub(&mut self.left, from.0 as usize);
-            sub(&mut self.left, to.0 as usize);
-            sub(&mut self.todo, node as usize);
+    /// A tree is used.
+    pub(crate) fn occupy(&mut self, tree: u32) {
+        let at = tree as usize;
+        if at < self.busy.len() {
+            self.busy[at] = self.turn;
         }
     }
 
-    /// A crosspoint of two wires in a crossbar is left to be tried again.
-    pub(crate) fn put_back(&mut self, node: u32, c: Cross, from: Wire, to: Wire) {
-        if self.mark(c) == Mark::Held {
-            self.set_mark(c, Mark::Undecided);
-            add(&mut self.left, from.0 as usize);
-            add(&mut self.left, to.0 as usize);
-            add(&mut self.todo, node as usize);
-        }
-    }
-
-    // Counts the crosspoints that are left of a tap.
-    fn count_tap(&mut self, heights: &Heights, node: u32, tap: Wire) {
-        let (first, end) = heights.links_within(tap, node);
-        'links: for j in first..end {
-            let Some(link) = heights.link(tap, j) else {
-                continue;
-            };
-            if self.mark(link.cross) == Mark::Undecided && self.has(link.wire) {
-                add(&mut self.left, tap.0 as usize);
-                add(&mut self.left, link.wire.0 as usize);
-                add(&mut self.todo, node as usize);
-            }
-        }
-    }
-
-    // Counts the crosspoints that are left in a crossbar.
-    fn count_bar(&mut self, heights: &Heights, node: u32) {
-        'taps: for place in heights.bar_lines(node)..heights.bar_len(node) {
-            let Some(tap) = heights.bar_wire(node, place) else {
-                continue;
-            };
-            if self.has(tap) {
-                self.count_tap(heights, node, tap);
-            }
-        }
-    }
-
-    /// Counts the crosspoints that are left, and holds none.
-    pub(crate) fn count(&mut self, heights: &Heights) {
-        clear(&mut self.left);
-        clear(&mut self.todo);
-        free_all(&mut self.marks);
-        'bars: for node in 0..heights.nodes() {
-            self.count_bar(heights, node);
+    /// A tree isn't used any more.
+    pub(crate) fn vacate(&mut self, tree: u32) {
+        let at = tree as usize;
+        if at < self.busy.len() {
+            self.busy[at] = 0;
         }
     }
 }

@@ -4,17 +4,12 @@
 //! Looks tell for such a pin to which known wires it can be shorted, its suspects. Where one is left for each pin of a table, these give
 //! way. Nothing rests on it: a wire that gives way in vain is known again later, or another one that is shorted to it.
 
-use crate::climbs::Walk;
 use crate::feet::VerifiedWire;
 use crate::flags::{flag_at, in_set, set_flag};
-use crate::heights::Level;
 use crate::search::Search;
 use base_bits::BitSet;
-use machine_shape::{Cross, Shape, Table, Wire};
+use machine_shape::{Shape, Table, Wire};
 use std::alloc::{AllocError, Global};
-
-/// The height of the wires that are hung before all others in a sweep after a choice.
-pub const FIRST_HEIGHT: u32 = 9;
 
 /// How often a wire is looked at for a choice.
 const PARTNER_LOOKS: u32 = 16;
@@ -22,8 +17,15 @@ const PARTNER_LOOKS: u32 = 16;
 /// How often one is looked at that was unfit before a choice.
 const AGAIN_LOOKS: u32 = 5;
 
-/// How often one is looked at that is neither known nor unfit.
+/// How often one is looked at that is neither known nor unfit; and how often with few others, behind all passes.
 const REST_LOOKS: u32 = 4;
+
+const LEFT_LOOKS: u32 = 1;
+
+/// Of how many pins of the machine one has a wire that isn't known; and of how many behind all passes, so that each is seen by itself.
+const PINS_A_WIRE: u32 = 3;
+
+const PINS_A_LEFT_WIRE: u32 = 16;
 
 /// What looks are for.
 #[derive(Clone, Copy, PartialEq, Eq)]
@@ -34,6 +36,8 @@ pub enum Aim {
     Again,
     /// To mark wires unfit that are neither known nor marked.
     Rest,
+    /// The same behind all passes, few at a time.
+    Left,
 }
 
 /// At which value a pin stayed on which a wire hung.
@@ -57,22 +61,6 @@ pub(crate) struct Lack {
     pub pins: Vec<Wire>,
 }
 
-/// A crosspoint of a look's forest, and the wires that it leads from and to. A pin of the machine is led to from itself.
-#[derive(Clone, Copy)]
-pub struct Link {
-    pub cross: Cross,
-    pub from: Wire,
-    pub to: Wire,
-}
-
-/// A look that is to be taken: climbs, links by which the other known wires hang, in their order, and the feet of wires that aren't known.
-#[derive(Drop)]
-pub struct Told {
-    pub climbs: Vec<Walk>,
-    pub links: Vec<Link>,
-    pub feet: Vec<(Wire, Cross)>,
-}
-
 /// What the choice remembers. Where nothing else is said, there is an entry for each wire of the machine.
 #[derive(Drop)]
 pub struct Chooser {
@@ -83,9 +71,15 @@ pub struct Chooser {
     pub(crate) steps: Vec<VerifiedWire>,
     pub(crate) known: Vec<bool>,
     pub kept: Vec<bool>,
-    // The wires that the next looks are about, and how often each wire was looked at for that.
+    // The wires that the next looks are about.
     pub wanted: Vec<Wire>,
-    pub(crate) looks: Vec<u32>,
+    // Those to be looked at in this round, at which of them the next look begins, and those that have to wait for a look of their own; how
+    // many rounds were begun, and whether suspects of a wire became fewer in the last one.
+    pub(crate) due: Vec<Wire>,
+    pub(crate) at: usize,
+    pub(crate) later: Vec<Wire>,
+    pub(crate) rounds: u32,
+    pub(crate) has_narrowed: bool,
     pub still: Vec<Still>,
     pub suspects: Vec<Suspects>,
     // The known wire to which one was found to be shorted; and of a wire that gave way, for which one.
@@ -130,7 +124,11 @@ impl Chooser {
             known: Vec::new(alloc),
             kept: Vec::new(alloc),
             wanted: Vec::new(alloc),
-            looks: Vec::new(alloc),
+            due: Vec::new(alloc),
+            at: 0,
+            later: Vec::new(alloc),
+            rounds: 0,
+            has_narrowed: false,
             still: Vec::new(alloc),
             suspects: Vec::new(alloc),
             partner: Vec::new(alloc),
@@ -152,7 +150,6 @@ impl Chooser {
         let wires = self.shape.wires() as usize;
         self.known.resize(wires, false)?;
         self.kept.resize(wires, false)?;
-        self.looks.resize(wires, 0)?;
         self.still.resize(wires, Still::No)?;
         self.partner.resize(wires, None)?;
         self.heir.resize(wires, None)?;
@@ -198,26 +195,24 @@ impl Chooser {
         self.still.get(w.0 as usize).copied().unwrap_or(Still::No)
     }
 
-    /// How often a wire was looked at.
-    pub(crate) fn looks_of(&self, w: Wire) -> u32 {
-        self.looks.get(w.0 as usize).copied().unwrap_or(u32::MAX)
-    }
-
-    /// A wire was looked at so often.
-    pub fn set_looks(&mut self, w: Wire, looks: u32) {
-        let at = w.0 as usize;
-        if at < self.looks.len() {
-            self.looks[at] = looks;
-        }
-    }
-
     /// How often a wire is looked at for what is aimed at.
     pub(crate) fn most_looks(&self) -> u32 {
         match self.aim {
             Aim::Partners => PARTNER_LOOKS,
             Aim::Again => AGAIN_LOOKS,
             Aim::Rest => REST_LOOKS,
+            Aim::Left => LEFT_LOOKS,
         }
+    }
+
+    /// How many of so many pins have a wire that isn't known in a look.
+    pub(crate) fn most_wires(&self, pins: u32) -> usize {
+        let share = if self.aim == Aim::Left {
+            PINS_A_LEFT_WIRE
+        } else {
+            PINS_A_WIRE
+        };
+        (pins / share.max(1)).max(1) as usize
     }
 
     /// How many known wires one seems to be shorted to.
@@ -232,17 +227,19 @@ impl Chooser {
     pub fn set_suspects(&mut self, w: Wire, wires: Vec<Wire>) {
         let at = w.0 as usize;
         if at < self.suspects.len() {
+            let before = self.suspects[at].wires.len();
+            self.has_narrowed = self.has_narrowed || before == 0 || wires.len() < before;
             self.suspects[at] = Suspects { wires };
         }
     }
 
-    // No wire was looked at.
-    fn forget_looks(&mut self) {
-        'wires: for at in 0..self.looks.len() {
-            if at < self.looks.len() {
-                self.looks[at] = 0;
-            }
-        }
+    // No round of looks was begun.
+    fn forget_rounds(&mut self) {
+        self.due.clear();
+        self.later.clear();
+        self.at = 0;
+        self.rounds = 0;
+        self.has_narrowed = true;
     }
 
     /// Nothing was seen of any wire.
@@ -307,21 +304,22 @@ impl Chooser {
     ) -> Result<(), AllocError> {
         self.aim = aim;
         self.wanted.clear();
-        self.forget_looks();
+        self.forget_rounds();
         match aim {
             Aim::Partners => self.want_pins(unclear, wrong),
             Aim::Again => self.want_again(),
-            Aim::Rest => self.want_rest(unfit, unclear),
+            _ => self.want_rest(unfit, unclear),
         }
     }
 
-    /// Adds the wires that are hung before all others to what a search goes through.
-    pub fn hint(&self, search: &mut Search) -> Result<(), AllocError> {
-        let mut wires = Vec::new(self.alloc);
-        'wires: for w in &self.first {
-            wires.push(*w)?;
-        }
-        search.heights.levels.push(Level { wires })?;
-        Ok(())
+    /// From now on the wires are to be hung for which others gave way.
+    pub fn hint(&self, search: &mut Search, unfit: &BitSet) -> Result<(), AllocError> {
+        search.want_wires(unfit, &self.first, usize::MAX)
+    }
+
+    /// From now on the wires that the looks were about are to be hung, few at a time.
+    pub fn hint_left(&self, search: &mut Search, unfit: &BitSet) -> Result<(), AllocError> {
+        let most = self.most_wires(search.board.pins());
+        search.want_wires(unfit, &self.wanted, most)
     }
 }

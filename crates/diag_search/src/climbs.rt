@@ -1,227 +1,148 @@
-//! Climbs: from a wire to a pin of the machine, each step by a kept crosspoint to a wire that is one nearer to the pins.
+//! Climbs: from a wire of a crossbar over kept crosspoints to where a walk ends, in three steps at most.
 
-use crate::board::{Board, Mark};
-use crate::draws::Draws;
 use crate::feet::Support;
-use crate::heights::{HEIGHTS, Heights};
+use crate::search::Search;
+use crate::walk::Walk;
 use machine_shape::{Cross, Wire};
 use std::alloc::{AllocError, Global};
 
-/// How many wires a climb may look at.
-const MOST_STEPS: u32 = 40;
+/// How many steps a climb may try.
+const MOST_STEPS: u32 = 48;
 
-/// How many turns a climb may take: as many steps back as there were steps.
-const MOST_TURNS: u32 = 128;
+/// How many ports of a node are drawn for a step from one of its lines, and how many lines for one from another tap.
+const PORT_DRAWS: u32 = 24;
 
-/// Wires, and the crosspoint between each and the next one. Of a climb the last wire is a pin of the machine.
-#[derive(Drop)]
-pub struct Walk {
-    pub wires: Vec<Wire>,
-    pub crosses: Vec<Cross>,
-}
+const LINE_DRAWS: u32 = 16;
 
-/// A wire of a climb, how it was come to, and how many of its links were tried, from a drawn one on.
+/// How many steps a climb has at most.
+const LONGEST: usize = 3;
+
+/// The steps of a climb, the last one first, and the pin of the tree that it comes to.
 #[derive(Clone, Copy)]
-struct Rung {
-    wire: Wire,
-    over: Cross,
-    begin: u32,
-    tried: u32,
-}
-
-/// The way that a climb has come.
-#[derive(Drop)]
-struct Ladder {
-    rungs: [Rung; HEIGHTS],
+pub(crate) struct Climb {
+    steps: [Support; LONGEST],
     len: usize,
-    steps: u32,
+    pub tree: u32,
 }
 
-impl Walk {
-    /// No wire.
-    pub(crate) fn new(alloc: Global) -> Walk {
-        Walk {
-            wires: Vec::new(alloc),
-            crosses: Vec::new(alloc),
-        }
-    }
-
-    /// Goes on to a wire.
-    pub(crate) fn push(&mut self, over: Cross, to: Wire) -> Result<(), AllocError> {
-        self.wires.push(to)?;
-        self.crosses.push(over)?;
-        Ok(())
-    }
-
-    /// The wire at a place, or the first wire of the machine behind the end.
-    pub fn wire(&self, place: usize) -> Wire {
-        self.wires.get(place).copied().unwrap_or(Wire(0))
-    }
-
-    /// The crosspoint at a place, and the wire behind it.
-    pub fn foot(&self, place: usize) -> Support {
-        Support {
-            cross: self.crosses.get(place).copied().unwrap_or(Cross(0)),
-            wire: self.wire(place.saturating_add(1)),
-        }
-    }
-
-    /// The last wire.
-    pub(crate) fn end(&self) -> Wire {
-        self.wire(self.wires.len().saturating_sub(1))
-    }
-
-    /// Uses all wires.
-    pub(crate) fn take(&self, board: &mut Board) {
-        'wires: for w in &self.wires {
-            board.take(*w);
-        }
-    }
-
-    /// Uses none of its wires any more.
-    pub(crate) fn release(&self, board: &mut Board) {
-        'wires: for w in &self.wires {
-            board.release(*w);
-        }
-    }
-}
-
-impl Ladder {
-    // At a wire.
-    fn new(heights: &Heights, draws: &mut Draws, from: Wire) -> Ladder {
-        let first = Rung {
-            wire: from,
-            over: Cross(0),
-            begin: draws.draw_under(heights.ups(from)),
-            tried: 0,
+impl Climb {
+    // No step: a wire that is where it should be.
+    fn new(tree: u32) -> Climb {
+        let none = Support {
+            cross: Cross(0),
+            wire: Wire(0),
         };
-        Ladder {
-            rungs: [first; HEIGHTS],
-            len: 1,
-            steps: 0,
+        Climb {
+            steps: [none; LONGEST],
+            len: 0,
+            tree,
         }
     }
 
-    // The last rung.
-    fn top(&self) -> Rung {
-        let at = self.len.saturating_sub(1).min(HEIGHTS - 1);
-        self.rungs[at]
-    }
-
-    // So many links of the last rung were tried.
-    fn try_links(&mut self, tried: u32) {
-        let at = self.len.saturating_sub(1).min(HEIGHTS - 1);
-        self.rungs[at].tried = tried;
-    }
-
-    // One rung more.
-    fn push(&mut self, rung: Rung) {
-        if self.len < HEIGHTS {
-            self.rungs[self.len] = rung;
-            self.len += 1;
+    // The same behind a step.
+    fn behind(self, cross: Cross, wire: Wire) -> Climb {
+        let mut climb = self;
+        if climb.len < LONGEST {
+            climb.steps[climb.len] = Support { cross, wire };
+            climb.len += 1;
         }
+        climb
     }
 
-    // Goes up, or back where there is no way. False where it is back before the beginning.
-    fn turn(&mut self, heights: &Heights, board: &mut Board, draws: &mut Draws) -> bool {
-        let top = self.top();
-        match next_link(heights, board, top) {
-            Some((tried, link)) => {
-                self.try_links(tried);
-                board.take(link.wire);
-                self.steps = self.steps.saturating_add(1);
-                self.push(Rung {
-                    wire: link.wire,
-                    over: link.cross,
-                    begin: draws.draw_under(heights.ups(link.wire)),
-                    tried: 0,
-                });
-            }
-            None => {
-                board.release(top.wire);
-                self.len = self.len.saturating_sub(1);
-            }
-        }
-        self.len > 0
-    }
-
-    // The climb.
-    fn walk(&self, alloc: Global) -> Result<Walk, AllocError> {
-        let mut walk = Walk::new(alloc);
-        'rungs: for at in 0..self.len.min(HEIGHTS) {
-            let rung = self.rungs[at];
-            walk.wires.push(rung.wire)?;
-            if at > 0 {
-                walk.crosses.push(rung.over)?;
+    /// The climb as a walk from a wire.
+    pub(crate) fn walk(&self, from: Wire, search: &Search) -> Result<Walk, AllocError> {
+        let mut walk = Walk::new(search.alloc);
+        walk.wires.push(from)?;
+        'steps: for k in 0..self.len.min(LONGEST) {
+            let at = self.len.saturating_sub(k).saturating_sub(1);
+            if at < LONGEST {
+                walk.push(self.steps[at].cross, self.steps[at].wire)?;
             }
         }
         Ok(walk)
     }
 
-    // None of its wires is used any more.
-    fn release(&self, board: &mut Board) {
-        'rungs: for at in 0..self.len.min(HEIGHTS) {
-            board.release(self.rungs[at].wire);
+    /// None of its wires is used any more.
+    pub(crate) fn release(&self, search: &mut Search) {
+        'steps: for at in 0..self.len.min(LONGEST) {
+            search.board.release(self.steps[at].wire);
         }
     }
 }
 
-// The next link of a rung whose wire isn't used: how many links of the rung come before it. The wires of these links follow each other.
-fn next_idle(heights: &Heights, board: &Board, rung: Rung, tried: u32) -> Option<u32> {
-    let first = heights.first_up(rung.wire);
-    let begin = first.saturating_add(rung.begin);
-    let end = first.saturating_add(heights.ups(rung.wire));
-    let ahead = end.saturating_sub(begin);
-    if let Some(next) = board.first_idle(begin.saturating_add(tried), end) {
-        return Some(next.saturating_sub(begin));
+impl Search {
+    // One step more is tried. False where there were too many.
+    fn count_step(&mut self) -> bool {
+        if self.steps_left == 0 {
+            return false;
+        }
+        self.steps_left -= 1;
+        true
     }
-    let from = first.saturating_add(tried.saturating_sub(ahead));
-    let next = board.first_idle(from, begin)?;
-    Some(next.saturating_sub(first).saturating_add(ahead))
-}
 
-// The next link of a rung that can be climbed, and how many were tried then.
-fn next_link(heights: &Heights, board: &Board, rung: Rung) -> Option<(u32, Support)> {
-    let count = heights.ups(rung.wire);
-    let mut tried = rung.tried;
-    'links: for _link in 0..count {
-        let before = next_idle(heights, board, rung, tried)?;
-        let place = rung.begin.wrapping_add(before);
-        let j = if place >= count {
-            place.wrapping_sub(count)
-        } else {
-            place
+    // From a port of a node to a wire that hangs; at the root a pin of the machine is there.
+    fn climb_port(&self, port: Wire, end: Option<Wire>) -> Option<Climb> {
+        let Some(line) = end else {
+            return Some(Climb::new(port.0));
         };
-        let link = heights.link(rung.wire, j)?;
-        tried = before.saturating_add(1);
-        if board.mark(link.cross) == Mark::Kept {
-            return Some((tried, link));
+        let node = self.heights.home(line);
+        let cross = self.heights.cross_of(node, port, line)?;
+        if !self.board.is_kept(cross) {
+            return None;
         }
+        Some(Climb::new(self.forest.tree(line)).behind(cross, line))
     }
-    None
-}
 
-/// A climb from a wire over wires that aren't used, depth first. Its wires are used then.
-pub(crate) fn climb(
-    alloc: Global,
-    heights: &Heights,
-    board: &mut Board,
-    draws: &mut Draws,
-    from: Wire,
-) -> Result<Option<Walk>, AllocError> {
-    if !board.is_idle(from) {
-        return Ok(None);
-    }
-    board.take(from);
-    let mut ladder = Ladder::new(heights, draws, from);
-    'turns: for _turn in 0..MOST_TURNS {
-        if heights.height(ladder.top().wire) == 0 {
-            return Ok(Some(ladder.walk(alloc)?));
+    // From a line of a node over one of its ports, which are drawn. The port is used then.
+    fn climb_line(&mut self, node: u32, line: Wire, end: Option<Wire>) -> Option<Climb> {
+        'draws: for _draw in 0..PORT_DRAWS {
+            if !self.count_step() {
+                return None;
+            }
+            let place = self.draws.draw_under(self.heights.bar_ports(node));
+            let port = self.heights.tap_at(node, place)?;
+            let cross = self.heights.cross_of(node, port, line)?;
+            if !self.board.is_kept(cross) || !self.board.is_idle(port) {
+                continue;
+            }
+            if let Some(climb) = self.climb_port(port, end) {
+                self.board.take(port);
+                return Some(climb.behind(cross, port));
+            }
         }
-        if ladder.steps > MOST_STEPS || !ladder.turn(heights, board, draws) {
-            break;
-        }
+        None
     }
-    ladder.release(board);
-    Ok(None)
+
+    // From another tap of a crossbar over one of its lines, which are drawn. The line is used then.
+    fn climb_tap(&mut self, node: u32, tap: Wire, end: Option<Wire>) -> Option<Climb> {
+        'draws: for _draw in 0..LINE_DRAWS {
+            if !self.count_step() {
+                return None;
+            }
+            let place = self.draws.draw_under(self.heights.bar_lines(node));
+            let line = self.heights.line_at(node, place)?;
+            let cross = self.heights.cross_of(node, tap, line)?;
+            if !self.board.is_kept(cross) || !self.board.is_idle(line) {
+                continue;
+            }
+            self.board.take(line);
+            if let Some(climb) = self.climb_line(node, line, end) {
+                return Some(climb.behind(cross, line));
+            }
+            self.board.release(line);
+        }
+        None
+    }
+
+    /// A climb from a wire of a crossbar over wires that aren't used. Its wires are used then.
+    pub(crate) fn climb(&mut self, node: u32, from: Wire, end: Option<Wire>) -> Option<Climb> {
+        self.steps_left = MOST_STEPS;
+        if self.heights.is_port(from, node) {
+            return self.climb_port(from, end);
+        }
+        if self.heights.is_line(from) {
+            return self.climb_line(node, from, end);
+        }
+        self.climb_tap(node, from, end)
+    }
 }

@@ -22,3 +22,11 @@ pub struct VerifiedWire {
     pub wire: Wire,
     pub stand: SupportedBy,
 }
+
+/// A crosspoint of a forest, and the wires that it leads from and to. A pin of the machine is led to from itself.
+#[derive(Clone, Copy)]
+pub struct Link {
+    pub cross: Cross,
+    pub from: Wire,
+    pub to: Wire,
+}

@@ -1,155 +1,252 @@
-//! Which wires hang in the next load.
+//! Which wires hang in the next load: each over two crosspoints, to known wires on two trees that no other uses.
 
 use crate::board::Mark;
-use crate::climbs::Walk;
 use crate::feet::Support;
 use crate::flags::in_set;
-use crate::search::{ChosenTest, Search};
+use crate::search::Search;
 use base_bits::BitSet;
-use machine_shape::Wire;
-use std::alloc::AllocError;
+use machine_shape::{Shape, Wire};
+use std::alloc::{AllocError, Global};
 
 /// How often a wire is hung.
 const MOST_TRIES: u32 = 6;
 
-/// From how many wires a climb is tried, for each of the two crosspoints of a wire.
-const MOST_CLIMBS: u32 = 4;
+/// From how many tries on one of two wires that are shorted to each other is left out now and then.
+const EASY_TRIES: u32 = 2;
 
 /// How many wires in a row may fail to hang.
-const MOST_MISSES: u32 = 16;
+const MOST_MISSES: u32 = 48;
+
+/// How often it is tried to find wires that can hang.
+const MOST_DRY: u32 = 3;
 
 /// For how many pins of the machine a wire has to hang at least. A look goes over all pins for each of them: where they are many and few
 /// wires hang, growth takes less.
 pub(crate) const PINS_A_HANG: usize = 1_000;
 
-/// How high the pins of tables are.
-const PIN_HEIGHT: usize = 8;
+/// A wire that isn't known, and two crosspoints to wires that hang on two trees.
+#[derive(Clone, Copy)]
+pub struct ChosenTest {
+    pub wire: Wire,
+    pub first: Support,
+    pub second: Support,
+}
 
-impl Search {
-    // How often a wire was hung.
-    fn tries_of(&self, w: Wire) -> u32 {
+/// Which wires are to be hung, and which are in the next load.
+#[derive(Drop)]
+pub struct HangBook {
+    // How often each wire was hung.
+    tries: Vec<u32>,
+    // The wires that are to be hung, and at which of them the next load begins.
+    wanted: Vec<Wire>,
+    at: usize,
+    // Whether a wire may hang on any known one, or on lower ones alone; and how many hang in a load at most.
+    on_any: bool,
+    most: usize,
+    /// What hangs in the next load.
+    pub chosen: Vec<ChosenTest>,
+}
+
+impl HangBook {
+    /// No wire is to be hung.
+    pub(crate) fn new(alloc: Global, shape: &Shape) -> Result<HangBook, AllocError> {
+        let mut book = HangBook {
+            tries: Vec::new(alloc),
+            wanted: Vec::new(alloc),
+            at: 0,
+            on_any: false,
+            most: 0,
+            chosen: Vec::new(alloc),
+        };
+        book.tries.resize(shape.wires() as usize, 0)?;
+        Ok(book)
+    }
+
+    /// How often a wire was hung in this pass.
+    pub fn tries_of(&self, w: Wire) -> u32 {
         self.tries.get(w.0 as usize).copied().unwrap_or(MOST_TRIES)
     }
 
-    // Whether a wire is to be hung: it is of the field, neither known nor found unfit, and wasn't hung too often. Of two wires that are
-    // shorted to each other one must be left out now and then.
-    fn is_wanted(&mut self, unfit: &BitSet, w: Wire) -> bool {
-        if self.board.has(w) || in_set(unfit, w.0) || !self.board.may_know(w) {
-            return false;
+    // Takes the wire out at which the book is. The last one comes in its place.
+    fn drop_one(&mut self) {
+        if self.at < self.wanted.len() {
+            self.wanted.swap_remove(self.at);
         }
-        let tries = self.tries_of(w);
-        if tries >= MOST_TRIES {
-            return false;
-        }
-        tries < 2 || self.hangs.is_empty() || self.draws.coin()
     }
 
-    // The links of a wire to lower ones that aren't used, in an order that is drawn. Pins of tables are hung on the same lines at first.
-    fn offer_links(&mut self, w: Wire, height: usize) -> Result<(), AllocError> {
-        self.offers.clear();
-        'links: for j in 0..self.heights.ups(w) {
-            let Some(link) = self.heights.link(w, j) else {
-                continue;
-            };
-            if self.board.is_idle(link.wire) && self.board.mark(link.cross) != Mark::Barred {
-                self.offers.push(link)?;
-            }
+    // The wire at which the book is, counted around.
+    fn here(&mut self) -> Option<Wire> {
+        if self.at >= self.wanted.len() {
+            self.at = 0;
         }
-        if height != PIN_HEIGHT || self.tries_of(w) > 0 {
-            self.draws.shuffle(&mut self.offers);
+        self.wanted.get(self.at).copied()
+    }
+}
+
+impl Search {
+    // Whether a wire is to be hung: it is of the field, neither known nor found unfit, and wasn't hung too often.
+    fn is_wanted(&self, unfit: &BitSet, w: Wire) -> bool {
+        !self.board.has(w)
+            && !in_set(unfit, w.0)
+            && self.board.may_know(w)
+            && self.hanging.tries_of(w) < MOST_TRIES
+    }
+
+    // Wants a wire, if it is to be hung.
+    fn want(&mut self, unfit: &BitSet, w: Wire) -> Result<(), AllocError> {
+        if self.is_wanted(unfit, w) {
+            self.hanging.wanted.push(w)?;
         }
         Ok(())
     }
 
-    // The first of the links from a place on from whose wire a climb succeeds, that climb, and the place behind it.
-    fn first_foot(&mut self, from: usize) -> Result<Option<(usize, Support, Walk)>, AllocError> {
-        'offers: for k in 0..MOST_CLIMBS {
-            let place = from.saturating_add(k as usize);
-            let Some(foot) = self.offers.get(place).copied() else {
-                return Ok(None);
-            };
-            if let Some(walk) = self.climb(foot.wire)? {
-                return Ok(Some((place.saturating_add(1), foot, walk)));
-            }
-        }
-        Ok(None)
+    // Puts what is wanted into an order that is drawn, with all known wires in the forest.
+    fn open_hangs(&mut self, on_any: bool, most: usize) -> Result<(), AllocError> {
+        self.draws.shuffle(&mut self.hanging.wanted);
+        self.hanging.at = 0;
+        self.hanging.on_any = on_any;
+        self.hanging.most = most;
+        self.hold_all()
     }
 
-    // Hangs a wire on two climbs. False where there are none.
-    fn hang(&mut self, w: Wire) -> Result<bool, AllocError> {
-        let Some((place, first, near)) = self.first_foot(0)? else {
-            return Ok(false);
+    /// From now on the wires of a height are to be hung, on any known wires or on lower ones alone.
+    pub fn want_height(
+        &mut self,
+        unfit: &BitSet,
+        height: u32,
+        on_any: bool,
+    ) -> Result<(), AllocError> {
+        self.hanging.wanted.clear();
+        'wires: for at in 0..self.heights.level_len(height) {
+            if let Some(w) = self.heights.level_wire(height, at) {
+                self.want(unfit, w)?;
+            }
+        }
+        self.open_hangs(on_any, usize::MAX)
+    }
+
+    /// From now on these wires are to be hung, on any known ones, and so many in a load at most.
+    pub fn want_wires(
+        &mut self,
+        unfit: &BitSet,
+        wires: &Vec<Wire>,
+        most: usize,
+    ) -> Result<(), AllocError> {
+        self.hanging.wanted.clear();
+        'wires: for w in wires {
+            self.want(unfit, *w)?;
+        }
+        self.open_hangs(true, most)
+    }
+
+    // The next link of a wire, of so many counted around from a drawn one on, to a known wire on a tree that no other uses; and how many
+    // links come before the one behind it.
+    fn free_link(&self, w: Wire, count: u32, begin: u32, tried: u32) -> Option<(u32, Support)> {
+        'links: for k in tried..count {
+            let place = begin.saturating_add(k);
+            let j = if place >= count { place - count } else { place };
+            let Some(link) = self.heights.link(w, j) else {
+                continue;
+            };
+            if self.board.has(link.wire)
+                && !self.board.is_busy(self.forest.tree(link.wire))
+                && self.board.mark(link.cross) != Mark::Barred
+            {
+                return Some((k.saturating_add(1), link));
+            }
+        }
+        None
+    }
+
+    // Two crosspoints of a wire to known wires on two trees that no other uses. These are used then.
+    fn two_feet(&mut self, w: Wire) -> Option<(Support, Support)> {
+        let count = if self.hanging.on_any {
+            self.heights.links(w)
+        } else {
+            self.heights.ups(w)
         };
-        let Some((_place, second, far)) = self.first_foot(place)? else {
-            near.release(&mut self.board);
-            return Ok(false);
+        let begin = self.draws.draw_under(count);
+        let (tried, first) = self.free_link(w, count, begin, 0)?;
+        let tree = self.forest.tree(first.wire);
+        self.board.occupy(tree);
+        match self.free_link(w, count, begin, tried) {
+            Some((_tried, second)) => {
+                self.board.occupy(self.forest.tree(second.wire));
+                Some((first, second))
+            }
+            None => {
+                self.board.vacate(tree);
+                None
+            }
+        }
+    }
+
+    // Whether a wire is left out of this load: it hangs in it already, or it was hung often, and it is drawn so.
+    fn is_left_out(&mut self, w: Wire) -> bool {
+        if self.board.is_used(w) {
+            return true;
+        }
+        self.hanging.tries_of(w) >= EASY_TRIES
+            && !self.hanging.chosen.is_empty()
+            && self.draws.coin()
+    }
+
+    // Hangs a wire in the next load. The number of wires that failed to hang since one did.
+    fn try_hang(&mut self, w: Wire, misses: u32) -> Result<u32, AllocError> {
+        if self.is_left_out(w) {
+            return Ok(misses);
+        }
+        let Some((first, second)) = self.two_feet(w) else {
+            return Ok(misses.saturating_add(1));
         };
-        self.hangs.push(ChosenTest {
+        self.board.take(w);
+        self.hanging.chosen.push(ChosenTest {
             wire: w,
             first,
             second,
         })?;
-        self.climbs.push(near)?;
-        self.climbs.push(far)?;
-        Ok(true)
+        Ok(0)
     }
 
-    // The wire at a place of a height, counted around from a drawn one on.
-    fn wire_around(&self, height: usize, begin: usize, place: usize) -> Option<Wire> {
-        let level = self.heights.levels.get(height)?;
-        let count = level.wires.len();
-        let at = begin.saturating_add(place);
-        let at = if at >= count {
-            at.saturating_sub(count)
-        } else {
-            at
-        };
-        level.wires.get(at).copied()
+    // Whether no further wire can hang in the next load.
+    fn is_full(&self) -> bool {
+        let hung = self.hanging.chosen.len();
+        let trees = (self.board.known_pins() / 2) as usize;
+        hung >= trees || hung >= self.hanging.most
     }
 
-    // How many wires of a height there are.
-    fn level_len(&self, height: usize) -> usize {
-        match self.heights.levels.get(height) {
-            Some(level) => level.wires.len(),
-            None => 0,
-        }
-    }
-
-    // Hangs a wire if it is to be hung. The number of wires that failed to hang since one did.
-    fn try_hang(&mut self, unfit: &BitSet, w: Wire, misses: u32) -> Result<u32, AllocError> {
-        if !self.is_wanted(unfit, w) {
-            return Ok(misses);
-        }
-        let height = self.heights.height(w);
-        self.offer_links(w, height)?;
-        if self.offers.len() < 2 {
-            return Ok(misses);
-        }
-        if self.hang(w)? {
-            return Ok(0);
-        }
-        Ok(misses.saturating_add(1))
-    }
-
-    /// Chooses the wires of a height that hang in the next load. There are none where none can.
-    pub fn choose_hangs(&mut self, unfit: &BitSet, height: u32) -> Result<(), AllocError> {
-        let height = height as usize;
-        self.hangs.clear();
-        self.climbs.clear();
-        self.board.begin();
-        let count = self.level_len(height);
-        let begin = self.draws.draw_below(count);
+    // Goes once through the wires that are to be hung.
+    fn fill_hangs(&mut self, unfit: &BitSet) -> Result<(), AllocError> {
         let mut misses = 0;
-        'wires: for place in 0..count {
-            if self.board.free_pins() < 2 || misses >= MOST_MISSES {
+        self.hanging.chosen.clear();
+        self.board.begin();
+        'wires: for _k in 0..self.hanging.wanted.len() {
+            if misses >= MOST_MISSES || self.is_full() {
                 break;
             }
-            if let Some(w) = self.wire_around(height, begin, place) {
-                misses = self.try_hang(unfit, w, misses)?;
+            let Some(w) = self.hanging.here() else {
+                break;
+            };
+            if self.is_wanted(unfit, w) {
+                self.hanging.at = self.hanging.at.saturating_add(1);
+                misses = self.try_hang(w, misses)?;
+            } else {
+                self.hanging.drop_one();
             }
         }
-        if self.hangs.len().saturating_mul(PINS_A_HANG) < self.board.pins() as usize {
-            self.hangs.clear();
+        Ok(())
+    }
+
+    /// Chooses what hangs in the next load, of the wires that are to be hung and that weren't found unfit. There is none where none can.
+    pub fn choose_hangs(&mut self, unfit: &BitSet) -> Result<(), AllocError> {
+        'tries: for _try in 0..MOST_DRY {
+            self.fill_hangs(unfit)?;
+            if !self.hanging.chosen.is_empty() {
+                break;
+            }
+        }
+        if self.hanging.chosen.len().saturating_mul(PINS_A_HANG) < self.board.pins() as usize {
+            self.hanging.chosen.clear();
         }
         Ok(())
     }
@@ -157,15 +254,17 @@ impl Search {
     /// A wire was hung once more.
     pub fn count_try(&mut self, w: Wire) {
         let at = w.0 as usize;
-        if at < self.tries.len() {
-            self.tries[at] = self.tries[at].saturating_add(1);
+        if at < self.hanging.tries.len() {
+            self.hanging.tries[at] = self.hanging.tries[at].saturating_add(1);
         }
     }
 
     /// Each wire may be hung so often again.
-    pub fn begin_pass(&mut self) {
-        'wires: for at in 0..self.tries.len() {
-            self.tries[at] = 0;
+    pub fn forget_tries(&mut self) {
+        'wires: for at in 0..self.hanging.tries.len() {
+            if at < self.hanging.tries.len() {
+                self.hanging.tries[at] = 0;
+            }
         }
     }
 }

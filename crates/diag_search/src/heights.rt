@@ -19,6 +19,8 @@ struct Crossbar {
     low: u32,
     cross: u32,
     height: u32,
+    // The node above; of the root its own number.
+    above: u32,
 }
 
 /// The links of a wire to one side, to wires one lower or one higher: their other ends follow each other, and so do their crosspoints,
@@ -61,7 +63,18 @@ pub(crate) struct Heights {
     bars: Vec<Crossbar>,
     ends: Vec<Wire>,
     links: Vec<Links>,
-    pub levels: Vec<Level>,
+    levels: Vec<Level>,
+}
+
+// The node above one; of the root its own number.
+fn above_of(shape: &Shape, n: Node) -> u32 {
+    if n.0 >= shape.nodes() {
+        return n.0;
+    }
+    match shape.parent(n) {
+        Some(above) => above.0,
+        None => n.0,
+    }
 }
 
 impl Side {
@@ -207,6 +220,7 @@ impl Heights {
             low,
             cross: shape.first_cross(n),
             height: self.depth_of(shape, n),
+            above: above_of(shape, n),
         };
         self.add_lines(shape, n, bar)?;
         self.add_taps(shape, n, bar)?;
@@ -238,6 +252,25 @@ impl Heights {
         }
     }
 
+    /// How many wires of a height there are.
+    pub(crate) fn level_len(&self, height: u32) -> usize {
+        match self.levels.get(height as usize) {
+            Some(level) => level.wires.len(),
+            None => 0,
+        }
+    }
+
+    /// The wire of a height at a place.
+    pub(crate) fn level_wire(&self, height: u32, at: usize) -> Option<Wire> {
+        let level = self.levels.get(height as usize)?;
+        level.wires.get(at).copied()
+    }
+
+    /// Whether a wire is a line.
+    pub(crate) fn is_line(&self, w: Wire) -> bool {
+        self.height(w) % 2 == 1
+    }
+
     /// How many links a wire has to lower wires. They are its first ones.
     pub(crate) fn ups(&self, w: Wire) -> u32 {
         match self.links.get(w.0 as usize) {
@@ -254,14 +287,6 @@ impl Heights {
         }
     }
 
-    /// The first of the lower wires that a wire has links to. The others follow it.
-    pub(crate) fn first_up(&self, w: Wire) -> u32 {
-        match self.link(w, 0) {
-            Some(link) => link.wire.0,
-            None => 0,
-        }
-    }
-
     /// A link of a wire.
     pub(crate) fn link(&self, w: Wire, j: u32) -> Option<Support> {
         let links = self.links.get(w.0 as usize)?;
@@ -271,23 +296,73 @@ impl Heights {
         }
     }
 
-    /// The places of the links of a wire that are of one node's crossbar: the first, and the one behind the last.
-    pub(crate) fn links_within(&self, w: Wire, node: u32) -> (u32, u32) {
-        let Some(links) = self.links.get(w.0 as usize) else {
-            return (0, 0);
+    // The first crosspoint of a tap in a crossbar.
+    fn row(&self, tap: Wire, node: u32) -> Option<u32> {
+        let links = self.links.get(tap.0 as usize)?;
+        if links.low.count > 0 && links.low.node == node {
+            return Some(links.low.cross);
+        }
+        if links.high.count > 0 && links.high.node == node {
+            return Some(links.high.cross);
+        }
+        None
+    }
+
+    /// The place of a line among those of its crossbar.
+    pub(crate) fn line_place(&self, line: Wire, node: u32) -> u32 {
+        match (
+            self.links.get(line.0 as usize),
+            self.bars.get(node as usize),
+        ) {
+            (Some(links), Some(bar)) => links.low.cross.saturating_sub(bar.cross),
+            _ => 0,
+        }
+    }
+
+    /// The place of a tap among those of a crossbar.
+    pub(crate) fn tap_place(&self, tap: Wire, node: u32) -> u32 {
+        match (self.row(tap, node), self.bars.get(node as usize)) {
+            (Some(row), Some(bar)) => row.saturating_sub(bar.cross) / bar.lines.max(1),
+            _ => 0,
+        }
+    }
+
+    /// The crosspoint of a tap and a line in a crossbar.
+    pub(crate) fn cross_of(&self, node: u32, tap: Wire, line: Wire) -> Option<Cross> {
+        let row = self.row(tap, node)?;
+        Some(Cross(row.saturating_add(self.line_place(line, node))))
+    }
+
+    /// Whether a wire is a port of a node, or at the root a pin of the machine.
+    pub(crate) fn is_port(&self, w: Wire, node: u32) -> bool {
+        match self.links.get(w.0 as usize) {
+            Some(links) => {
+                links.height % 2 == 0 && links.high.count > 0 && links.high.node == node
+            }
+            None => false,
+        }
+    }
+
+    /// The node of which a wire is a line.
+    pub(crate) fn home(&self, line: Wire) -> u32 {
+        match self.links.get(line.0 as usize) {
+            Some(links) => links.low.node,
+            None => 0,
+        }
+    }
+
+    // The crossbar of a node.
+    fn bar(&self, node: u32) -> Crossbar {
+        let none = Crossbar {
+            start: 0,
+            lines: 0,
+            taps: 0,
+            low: 0,
+            cross: 0,
+            height: 0,
+            above: 0,
         };
-        let all = links.low.count.saturating_add(links.high.count);
-        let first = if links.low.count > 0 && links.low.node == node {
-            0
-        } else {
-            links.low.count
-        };
-        let end = if links.high.count > 0 && links.high.node == node {
-            all
-        } else {
-            links.low.count
-        };
-        (first, end)
+        self.bars.get(node as usize).copied().unwrap_or(none)
     }
 
     /// How many crossbars there are.
@@ -295,30 +370,55 @@ impl Heights {
         u32::try_from(self.bars.len()).unwrap_or(0)
     }
 
-    /// How many lines and taps a crossbar has. Its lines are the first.
-    pub(crate) fn bar_len(&self, node: u32) -> u32 {
-        match self.bars.get(node as usize) {
-            Some(bar) => bar.lines.saturating_add(bar.taps),
-            None => 0,
-        }
+    /// How deep a node is. The root is at 0.
+    pub(crate) fn depth(&self, node: u32) -> u32 {
+        self.bar(node).height / 2
+    }
+
+    /// The node above one. None of the root.
+    pub(crate) fn above(&self, node: u32) -> Option<u32> {
+        let above = self.bar(node).above;
+        if above == node { None } else { Some(above) }
     }
 
     /// How many lines a crossbar has.
     pub(crate) fn bar_lines(&self, node: u32) -> u32 {
-        match self.bars.get(node as usize) {
-            Some(bar) => bar.lines,
-            None => 0,
-        }
+        self.bar(node).lines
     }
 
-    /// The line or tap of a crossbar at a place.
-    pub(crate) fn bar_wire(&self, node: u32, place: u32) -> Option<Wire> {
-        let bar = self.bars.get(node as usize)?;
-        if place >= bar.lines.saturating_add(bar.taps) {
+    /// How many taps a crossbar has.
+    pub(crate) fn bar_taps(&self, node: u32) -> u32 {
+        self.bar(node).taps
+    }
+
+    /// How many of the taps of a crossbar are ports of its node. They are the first.
+    pub(crate) fn bar_ports(&self, node: u32) -> u32 {
+        self.bar(node).low
+    }
+
+    /// The first crosspoint of a crossbar.
+    pub(crate) fn bar_cross(&self, node: u32) -> u32 {
+        self.bar(node).cross
+    }
+
+    /// The line of a crossbar at a place.
+    pub(crate) fn line_at(&self, node: u32, place: u32) -> Option<Wire> {
+        let bar = self.bar(node);
+        if place >= bar.lines {
             return None;
         }
         self.ends
-            .get(bar.start.wrapping_add(place) as usize)
+            .get(bar.start.saturating_add(place) as usize)
             .copied()
+    }
+
+    /// The tap of a crossbar at a place.
+    pub(crate) fn tap_at(&self, node: u32, place: u32) -> Option<Wire> {
+        let bar = self.bar(node);
+        if place >= bar.taps {
+            return None;
+        }
+        let at = bar.start.saturating_add(bar.lines).saturating_add(place);
+        self.ends.get(at as usize).copied()
     }
 }

@@ -1,429 +1,452 @@
-//! Which walks are tried in the next load.
+//! Which walks are tried in the next load: each from a tree to another, over crosspoints of one crossbar.
+//!
+//! What hangs in a load of walks ends above the crossbars of one depth. Own ports of a node, its lines and its other taps are free for
+//! walks, and a walk ends at two wires that hang. Trees are points and walks are edges, and they make no circle: so the pins of the two
+//! ends read alike exactly where the walk between them leads.
 
-use crate::board::Mark;
-use crate::climbs::Walk;
-use crate::feet::Support;
-use crate::search::{Group, Search, Source};
-use machine_shape::{Cross, Wire};
-use std::alloc::AllocError;
+use crate::groups::Group;
+use crate::joins::{Turned, order_of};
+use crate::search::Search;
+use crate::stretches::Course;
+use crate::walk::Walk;
+use machine_shape::{Cross, Shape};
+use std::alloc::{AllocError, Global};
 
-/// Of how many wires of a crossbar, those with most to try first, one is looked for at which a walk can begin.
-const MOST_BEGINNINGS: u32 = 4;
+/// How many crossbars in a row may have no walk for a load though ends are left.
+const MOST_MISSES: u32 = 24;
 
-/// How often a stretch is taken back for a wire from which a climb succeeds.
-const MOST_ENDS: u32 = 12;
+/// How many groups are waited for, for each walk of a load, before further ones may come.
+const GROUPS_A_WALK: usize = 3;
 
-/// In how many crossbars no walk may be found for one load.
-const MOST_FULL: u32 = 6;
+/// How often no walk may be found while no group is left.
+const MOST_DRY: u32 = 3;
 
-/// The most crosspoints that are tried on one walk.
-const MOST_TRIED: u64 = 400;
+/// More loads in a row than groups are missed before they are given up.
+const MOST_EMPTY: u32 = 64;
 
-/// More wires than a walk of a crossbar can have.
-const MOST_WIRES: u32 = 65_536;
-
-/// The most that is left to try of some wires, and the first place of one that has so much.
-#[derive(Clone, Copy)]
-struct Peak {
+/// A walk of a load, from a wire that hangs to another, or at the root from a pin of the machine to another.
+#[derive(Drop)]
+pub struct Trial {
+    pub walk: Walk,
+    // The crossbar, what is tried there, how much of it wasn't decided, and the group of which it is the beginning.
+    node: u32,
+    tried: Walk,
     left: u32,
-    place: u32,
+    group: Option<usize>,
 }
 
-// Whether a beginning was found that has so many left to try.
-fn has_left(found: Option<(u32, u32, Wire)>, least: u32) -> bool {
-    match found {
-        Some(found) => found.0 >= least,
-        None => false,
+/// What came of a crossbar in which a walk was to be laid.
+#[derive(Clone, Copy, PartialEq, Eq)]
+enum Laying {
+    /// One was.
+    Laid,
+    /// None can be in this load.
+    Full,
+    /// None was, though there are ends for one.
+    Missed,
+}
+
+impl Trial {
+    // No walk.
+    fn none(alloc: Global) -> Trial {
+        Trial {
+            walk: Walk::new(alloc),
+            node: 0,
+            tried: Walk::new(alloc),
+            left: 0,
+            group: None,
+        }
+    }
+}
+
+/// The walks of the next load, and what remains of those before.
+#[derive(Drop)]
+pub struct WalkBook {
+    /// The walks of the next load, listed so that the tree at the end of each is at no end of an earlier one.
+    pub trials: Vec<Trial>,
+    pub(crate) groups: Vec<Group>,
+    pub(crate) at_group: usize,
+    // The trees at the ends of the walks.
+    trees: Vec<(u32, u32)>,
+    // The crossbars in which something is left, at which of them the next load begins, of each whether it is among them, and the last
+    // load in which no walk could be laid there.
+    nodes: Vec<u32>,
+    at_node: usize,
+    listed: Vec<bool>,
+    full: Vec<u64>,
+    load: u64,
+    // How often no walk was found, and how many crosspoints of groups were given up in this phase.
+    dry: u32,
+    pub(crate) given_up: u64,
+    // How many crosspoints walks have decided, and how many of these are stuck.
+    pub(crate) decided: u64,
+    pub(crate) found: u64,
+}
+
+impl WalkBook {
+    /// No walk.
+    pub(crate) fn new(alloc: Global, shape: &Shape) -> Result<WalkBook, AllocError> {
+        let mut book = WalkBook {
+            trials: Vec::new(alloc),
+            groups: Vec::new(alloc),
+            at_group: 0,
+            trees: Vec::new(alloc),
+            nodes: Vec::new(alloc),
+            at_node: 0,
+            listed: Vec::new(alloc),
+            full: Vec::new(alloc),
+            load: 0,
+            dry: 0,
+            given_up: 0,
+            decided: 0,
+            found: 0,
+        };
+        book.listed.resize(shape.nodes() as usize, false)?;
+        book.full.resize(shape.nodes() as usize, 0)?;
+        Ok(book)
+    }
+
+    // Whether no walk can be laid in a crossbar in this load, as far as is known.
+    fn is_full(&self, node: u32) -> bool {
+        self.full.get(node as usize).copied().unwrap_or(self.load) == self.load
+    }
+
+    // No further walk is laid in a crossbar in this load.
+    fn set_full(&mut self, node: u32) {
+        let at = node as usize;
+        if at < self.full.len() {
+            self.full[at] = self.load;
+        }
+    }
+
+    // A crossbar is gone through in each load.
+    fn list(&mut self, node: u32) -> Result<(), AllocError> {
+        let at = node as usize;
+        if at < self.listed.len() && !self.listed[at] {
+            self.listed[at] = true;
+            self.nodes.push(node)?;
+        }
+        Ok(())
+    }
+
+    // The crossbar at which the book is, counted around.
+    fn here(&mut self) -> Option<u32> {
+        if self.at_node >= self.nodes.len() {
+            self.at_node = 0;
+        }
+        self.nodes.get(self.at_node).copied()
+    }
+
+    // Takes the crossbar out at which the book is. The last one comes in its place.
+    fn drop_here(&mut self) {
+        if self.at_node >= self.nodes.len() {
+            return;
+        }
+        let node = self.nodes.swap_remove(self.at_node);
+        if (node as usize) < self.listed.len() {
+            self.listed[node as usize] = false;
+        }
+    }
+
+    // No crossbar is gone through, and there are no groups.
+    fn clear(&mut self) {
+        self.trials.clear();
+        self.groups.clear();
+        self.nodes.clear();
+        self.at_group = 0;
+        self.at_node = 0;
+        self.dry = 0;
+        self.given_up = 0;
+        'nodes: for at in 0..self.listed.len() {
+            if at < self.listed.len() {
+                self.listed[at] = false;
+            }
+        }
     }
 }
 
 impl Search {
-    /// Counts what is left to try, before the first load of walks. There are no groups yet.
-    pub fn begin_walks(&mut self) {
-        self.groups.clear();
-        self.board.count(&self.heights);
-    }
-
-    // How many crosspoints are tried on one walk, so that half of the walks lead: fewer, where more are found stuck.
-    fn limit(&self) -> u64 {
-        let decided = self.decided.saturating_add(64);
-        let found = self.found.saturating_add(1);
-        (decided.saturating_mul(7) / found.saturating_mul(10).max(1)).clamp(1, MOST_TRIED)
-    }
-
-    // The wire of a crossbar that isn't used and has most left to try, less than this many or the same at a later place; and its place.
-    fn next_beginning(&self, node: u32, most: u32, from: u32) -> Option<(u32, u32, Wire)> {
-        let lines = self.heights.bar_lines(node);
-        let mut best: Option<(u32, u32, Wire)> = None;
-        'places: for place in 0..self.heights.bar_len(node) {
-            // The lines are the first. A tap stands in two crossbars at most, so of taps hardly one has more left than twice as many.
-            if place >= lines && has_left(best, lines.saturating_mul(2)) {
-                break;
-            }
-            let Some(w) = self.heights.bar_wire(node, place) else {
-                continue;
-            };
-            let left = self.board.left(w);
-            if left == 0
-                || left > most
-                || (left == most && place < from)
-                || !self.board.is_idle(w)
-            {
-                continue;
-            }
-            if best.is_none_or(|found| found.0 < left) {
-                best = Some((left, place, w));
-            }
-        }
-        best
-    }
-
-    // The most that is left to try of the wires at the other ends of the links of a wire in a crossbar, of those that aren't used.
-    fn peak(&self, node: u32, w: Wire) -> Peak {
-        let (first, end) = self.heights.links_within(w, node);
-        let mut peak = Peak { left: 0, place: 0 };
-        'links: for j in first..end {
-            let Some(link) = self.heights.link(w, j) else {
-                continue;
-            };
-            let left = self.board.left(link.wire);
-            if left > peak.left && self.board.is_idle(link.wire) {
-                peak.left = left;
-                peak.place = j.saturating_sub(first);
-            }
-        }
-        peak
-    }
-
-    // Of the links of a wire from one place to another, to wires that aren't used, with this mark, the first one whose wire has most left
-    // to try, with that. None is looked for behind a wire with so much as the peak.
-    fn best_within(
-        &self,
-        w: Wire,
-        mark: Mark,
-        first: u32,
-        end: u32,
-        peak: u32,
-    ) -> Option<(u32, Support)> {
-        let mut best: Option<(u32, Support)> = None;
-        let mut most = 0;
-        'links: for j in first..end {
-            if most >= peak {
-                break;
-            }
-            let Some(link) = self.heights.link(w, j) else {
-                continue;
-            };
-            let left = self.board.left(link.wire);
-            if left > most && self.board.mark(link.cross) == mark && self.board.is_idle(link.wire) {
-                most = left;
-                best = Some((left, link));
-            }
-        }
-        best
-    }
-
-    // Of the links of a wire in a crossbar to wires that aren't used, with this mark, the first one whose wire has most left to try. No
-    // wire there has more than the peak, and none before the place of the peak has so much.
-    fn best_link(&self, node: u32, w: Wire, mark: Mark, peak: Peak) -> Option<(u32, Support)> {
-        let (first, end) = self.heights.links_within(w, node);
-        let from = first.saturating_add(peak.place);
-        let later = self.best_within(w, mark, from, end, peak.left);
-        let most = match later {
-            Some(found) => found.0,
-            None => 0,
-        };
-        if most >= peak.left {
-            return later;
-        }
-        let earlier = self.best_within(w, mark, first, from, peak.left);
-        match earlier {
-            Some(found) => { if found.0 >= most { earlier } else { later } }
-            None => later,
-        }
-    }
-
-    // Goes on over a crosspoint that isn't decided, or, where there is none, over one that is kept. None where it can't; else whether the
-    // crosspoint is tried.
-    fn go_on(&mut self, node: u32, peak: Peak) -> Result<Option<bool>, AllocError> {
-        let at = self.stretch.end();
-        if let Some((_left, link)) = self.best_link(node, at, Mark::Undecided, peak) {
-            self.board.take(link.wire);
-            self.stretch.push(link.cross, link.wire)?;
-            return Ok(Some(true));
-        }
-        if !self.ends_tried() {
-            return Ok(None);
-        }
-        if let Some((_left, link)) = self.best_link(node, at, Mark::Kept, peak) {
-            self.board.take(link.wire);
-            self.stretch.push(link.cross, link.wire)?;
-            return Ok(Some(false));
-        }
-        Ok(None)
-    }
-
-    // Whether the last crosspoint of the stretch is tried.
-    fn ends_tried(&self) -> bool {
-        match self.stretch.crosses.last() {
-            Some(cross) => self.board.mark(*cross) == Mark::Undecided,
-            None => false,
-        }
-    }
-
-    // Lays a stretch through a crossbar from a wire on, over so many crosspoints that are tried.
-    fn lay_stretch(&mut self, node: u32, from: Wire) -> Result<(), AllocError> {
-        let limit = self.limit();
-        let mut tried: u64 = 0;
-        self.stretch.wires.clear();
-        self.stretch.crosses.clear();
-        self.stretch.wires.push(from)?;
-        // The wires of a stretch are lines and taps by turns. What is left of a wire doesn't change while it is laid.
-        let mut peak: Option<Peak> = None;
-        let mut other: Option<Peak> = None;
-        'wires: for _wire in 0..MOST_WIRES {
-            if tried >= limit {
-                break;
-            }
-            let here = match peak {
-                Some(found) => found,
-                None => self.peak(node, self.stretch.end()),
-            };
-            match self.go_on(node, here)? {
-                Some(true) => {
-                    tried = tried.saturating_add(1);
-                }
-                Some(false) => {}
-                None => {
-                    break;
-                }
-            }
-            peak = other;
-            other = Some(here);
+    // A crossbar of the depth of a phase is gone through, if something is left there.
+    fn open_bar(&mut self, node: u32) -> Result<(), AllocError> {
+        self.pools.fill(&self.board, &self.heights, node)?;
+        if self.pools.left_of(node) > 0 {
+            self.walking.list(node)?;
         }
         Ok(())
     }
 
-    // Takes the stretch back by one wire.
-    fn take_back(&mut self) {
-        self.board.release(self.stretch.end());
-        self.stretch.wires.pop();
-        self.stretch.crosses.pop();
-    }
-
-    // Takes the stretch back to a wire from which a climb succeeds, behind a crosspoint that is tried.
-    fn end_stretch(&mut self) -> Result<Option<Walk>, AllocError> {
-        let mut misses = 0;
-        'wires: for _wire in 0..MOST_WIRES {
-            if self.stretch.crosses.is_empty() || misses >= MOST_ENDS {
-                break;
+    /// Begins with walks through the crossbars of a depth. Only what is above these hangs then.
+    pub fn begin_walks(&mut self, depth: u32) -> Result<(), AllocError> {
+        self.forest
+            .hold(&self.heights, depth.saturating_mul(2) as usize)?;
+        self.walking.clear();
+        self.pools.clear(&self.heights);
+        self.gather_landings(depth)?;
+        'nodes: for node in 0..self.heights.nodes() {
+            if self.heights.depth(node) == depth {
+                self.open_bar(node)?;
             }
-            if self.ends_tried() {
-                let end = self.stretch.end();
-                self.board.release(end);
-                if let Some(far) = self.climb(end)? {
-                    return Ok(Some(far));
-                }
-                misses += 1;
-            }
-            self.take_back();
         }
-        Ok(None)
+        Ok(())
     }
 
-    // Holds the crosspoints of the stretch that are tried.
-    fn hold_stretch(&mut self, node: u32) {
-        'crosses: for at in 0..self.stretch.crosses.len() {
-            if let Some(cross) = self.stretch.crosses.get(at).copied() {
-                let from = self.stretch.wire(at);
-                let to = self.stretch.wire(at.saturating_add(1));
-                self.board.hold(node, cross, from, to);
+    /// The crossbar of a group is gone through again.
+    pub(crate) fn list_node(&mut self, group: usize) -> Result<(), AllocError> {
+        match self.walking.groups.get(group) {
+            Some(group) => {
+                let node = group.node;
+                self.walking.list(node)
             }
+            None => Ok(()),
         }
     }
 
-    // Lays a walk through a crossbar from a wire on. False where none can be laid.
-    fn lay_from(&mut self, node: u32, from: Wire) -> Result<bool, AllocError> {
-        let Some(near) = self.climb(from)? else {
-            return Ok(false);
-        };
-        self.lay_stretch(node, from)?;
-        let Some(far) = self.end_stretch()? else {
-            self.stretch.release(&mut self.board);
-            near.release(&mut self.board);
-            return Ok(false);
-        };
-        self.hold_stretch(node);
-        let stretch = std::mem::replace(&mut self.stretch, Walk::new(self.alloc));
-        self.push_trial(&near, &stretch, &far, Source::Crossbar(node))?;
-        self.stretch = stretch;
-        Ok(true)
+    // The walk of a course: from where the near climb ends to where the far one does.
+    fn walk_of(&self, course: &Course) -> Result<Walk, AllocError> {
+        let from = course.stretch.wire(0);
+        let near = course.near.walk(from, self)?;
+        let mut walk = near.turned(self.alloc)?;
+        walk.add_all(&course.stretch)?;
+        let far = course.far.walk(course.stretch.end(), self)?;
+        walk.add_all(&far)?;
+        Ok(walk)
+    }
+
+    /// A course is tried, as the beginning of a group or anew. Its trees are joined.
+    pub(crate) fn push_trial(
+        &mut self,
+        node: u32,
+        group: Option<usize>,
+        course: Course,
+    ) -> Result<(), AllocError> {
+        let walk = self.walk_of(&course)?;
+        let trees = (course.near.tree, course.far.tree);
+        let left = course.stretch.count_undecided(&self.board);
+        self.landings.joins.join(trees.0, trees.1);
+        self.walking.trees.push(trees)?;
+        self.walking.trials.push(Trial {
+            walk,
+            node,
+            tried: course.stretch,
+            left,
+            group,
+        })?;
+        Ok(())
+    }
+
+    // The crosspoints of a stretch aren't left any more.
+    fn take_stretch(&mut self, node: u32, stretch: &Walk) {
+        'crosses: for c in &stretch.crosses {
+            self.pools.take(&self.heights, node, *c);
+        }
     }
 
     // Lays a walk through a crossbar. False where none can be laid.
-    fn lay_walk(&mut self, node: u32) -> Result<bool, AllocError> {
-        let mut most = u32::MAX;
-        let mut from = 0;
-        'wires: for _k in 0..MOST_BEGINNINGS {
-            let Some((left, place, w)) = self.next_beginning(node, most, from) else {
-                return Ok(false);
+    fn lay_bar(&mut self, node: u32) -> Result<bool, AllocError> {
+        match self.lay_course(node)? {
+            Some(course) => {
+                self.take_stretch(node, &course.stretch);
+                self.push_trial(node, None, course)?;
+                Ok(true)
+            }
+            None => Ok(false),
+        }
+    }
+
+    // A walk couldn't be laid in a crossbar. Where ends are left for one, it may be tried once more in this load.
+    fn note_bar_fail(&mut self, node: u32) -> Laying {
+        if self.next_ends(node).is_none() {
+            self.walking.set_full(node);
+            return Laying::Full;
+        }
+        if self.draws.coin() {
+            self.walking.set_full(node);
+        }
+        Laying::Missed
+    }
+
+    // Tries a walk in the crossbar at which the book is, and goes on to the next one.
+    fn lay_here(&mut self, node: u32) -> Result<Laying, AllocError> {
+        self.walking.at_node = self.walking.at_node.saturating_add(1);
+        if self.walking.is_full(node) {
+            return Ok(Laying::Full);
+        }
+        if self.lay_bar(node)? {
+            return Ok(Laying::Laid);
+        }
+        Ok(self.note_bar_fail(node))
+    }
+
+    // Lays walks through crossbars, up to so many, until none can be laid.
+    fn lay_bars(&mut self, most: usize) -> Result<(), AllocError> {
+        let mut none: usize = 0;
+        let mut misses: u32 = 0;
+        let steps = most.saturating_add(MOST_MISSES as usize);
+        let steps = steps.saturating_mul(self.walking.nodes.len().saturating_add(1));
+        'bars: for _step in 0..steps {
+            if self.walking.trials.len() >= most
+                || none >= self.walking.nodes.len()
+                || misses >= MOST_MISSES
+            {
+                break;
+            }
+            let Some(node) = self.walking.here() else {
+                break;
             };
-            if self.lay_from(node, w)? {
+            if self.pools.left_of(node) == 0 {
+                self.walking.drop_here();
+                continue;
+            }
+            match self.lay_here(node)? {
+                Laying::Laid => {
+                    none = 0;
+                    misses = 0;
+                }
+                Laying::Full => {
+                    none = none.saturating_add(1);
+                }
+                Laying::Missed => {
+                    none = none.saturating_add(1);
+                    misses = misses.saturating_add(1);
+                }
+            }
+        }
+        Ok(())
+    }
+
+    // Takes a walk out, turned around if need be.
+    fn take_trial(&mut self, turned: Turned) -> Result<Option<Trial>, AllocError> {
+        if turned.place >= self.walking.trials.len() {
+            return Ok(None);
+        }
+        let none = Trial::none(self.alloc);
+        let mut trial = std::mem::replace(&mut self.walking.trials[turned.place], none);
+        if turned.turned {
+            trial.walk = trial.walk.turned(self.alloc)?;
+        }
+        Ok(Some(trial))
+    }
+
+    // The walks of a load as they are listed.
+    fn list_trials(&mut self, order: &Vec<Turned>) -> Result<Vec<Trial>, AllocError> {
+        let mut listed = Vec::new(self.alloc);
+        'trials: for turned in order {
+            if let Some(trial) = self.take_trial(*turned)? {
+                listed.push(trial)?;
+            }
+        }
+        Ok(listed)
+    }
+
+    // Lists the walks so that the tree at the end of each is at no end of an earlier one.
+    fn order_trials(&mut self) -> Result<(), AllocError> {
+        let trees = std::mem::replace(&mut self.walking.trees, Vec::new(self.alloc));
+        let order = order_of(self.alloc, self.board.pins(), trees)?;
+        let listed = self.list_trials(&order)?;
+        self.walking.trials = listed;
+        Ok(())
+    }
+
+    // Lays the walks of a load.
+    fn fill_walks(&mut self) -> Result<(), AllocError> {
+        let most = self.board.known_pins().saturating_sub(1) as usize;
+        self.walking.trials.clear();
+        self.walking.trees.clear();
+        self.walking.load = self.walking.load.saturating_add(1);
+        self.board.begin();
+        self.landings.begin();
+        self.lay_groups(most)?;
+        if self.walking.groups.len() < most.saturating_mul(GROUPS_A_WALK) {
+            self.lay_bars(most)?;
+        }
+        self.order_trials()
+    }
+
+    // No walk was found once more. False where none is to be looked for any more.
+    fn may_go_on(&mut self) -> bool {
+        if self.age_groups() {
+            return true;
+        }
+        self.walking.dry = self.walking.dry.saturating_add(1);
+        self.walking.dry <= MOST_DRY
+    }
+
+    /// Chooses the walks of the next load. False where none are found any more.
+    pub fn choose_walks(&mut self) -> Result<bool, AllocError> {
+        'loads: for _load in 0..MOST_EMPTY {
+            self.fill_walks()?;
+            if !self.walking.trials.is_empty() {
+                self.walking.dry = 0;
                 return Ok(true);
             }
-            most = left;
-            from = place.saturating_add(1);
+            if !self.may_go_on() {
+                break;
+            }
         }
         Ok(false)
     }
 
-    // Whether it is known that no walk can be laid in a crossbar.
-    fn set_full(&mut self, node: u32, full: bool) {
-        let at = node as usize;
-        if at < self.full.len() {
-            self.full[at] = full;
-        }
-    }
-
-    // Sorts the crossbars in which something is left to try, those with most first.
-    fn sort_bars(&mut self) -> Result<(), AllocError> {
-        self.order.clear();
-        'nodes: for node in 0..self.heights.nodes() {
-            let todo = self.board.todo(node);
-            self.set_full(node, todo == 0);
-            if todo > 0 {
-                let less = u64::from(u32::MAX.saturating_sub(todo));
-                let drawn = self.draws.draw_short();
-                self.order
-                    .push((less << 31) | (drawn << 15) | (u64::from(node) % 32_768))?;
-            }
-        }
-        self.order.sort_unstable();
-        Ok(())
-    }
-
-    // Whether two lines of the root aren't used: a walk through another crossbar goes over two of them.
-    fn may_arrive(&self) -> bool {
-        let mut lines: u32 = 0;
-        'lines: for place in 0..self.heights.bar_lines(0) {
-            let Some(line) = self.heights.bar_wire(0, place) else {
-                continue;
-            };
-            lines = lines.saturating_add(u32::from(self.board.is_idle(line)));
-            if lines > 1 {
-                return true;
-            }
-        }
-        false
-    }
-
-    // Lays a walk through the crossbar at a place of the order. None where it is known already that none can be laid there; else whether
-    // one was laid.
-    fn lay_at(&mut self, place: usize) -> Result<Option<bool>, AllocError> {
-        let Some(key) = self.order.get(place).copied() else {
-            return Ok(None);
-        };
-        let node = u32::try_from(key % 32_768).unwrap_or(0);
-        if self.full.get(node as usize).copied().unwrap_or(true) {
-            return Ok(None);
-        }
-        if node > 0 && !self.may_arrive() {
-            return Ok(None);
-        }
-        if self.lay_walk(node)? {
-            return Ok(Some(true));
-        }
-        self.set_full(node, true);
-        Ok(Some(false))
-    }
-
-    // Lays one walk through each crossbar, up to so many walks in all. The number of those crossbars where none can be laid.
-    fn lay_round(&mut self, most: usize, blocked: u32) -> Result<u32, AllocError> {
-        let mut blocked = blocked;
-        'bars: for place in 0..self.order.len() {
-            if self.trials.len() >= most || blocked > MOST_FULL || self.board.free_pins() < 2 {
-                break;
-            }
-            if let Some(false) = self.lay_at(place)? {
-                blocked = blocked.saturating_add(1);
-            }
-        }
-        Ok(blocked)
-    }
-
-    // Lays walks through crossbars until no more can be laid, up to so many.
-    fn lay_bars(&mut self, most: usize) -> Result<(), AllocError> {
-        self.sort_bars()?;
-        let mut blocked = 0;
-        'rounds: for _round in 0..most {
-            let before = self.trials.len();
-            blocked = self.lay_round(most, blocked)?;
-            if self.trials.len() == before {
-                break;
-            }
-        }
-        Ok(())
-    }
-
-    /// Chooses the walks of the next load. False where nothing is left that could be tried.
-    pub fn choose_walks(&mut self) -> Result<bool, AllocError> {
-        let most = (self.board.pins() / 2) as usize;
-        self.trials.clear();
-        self.board.begin();
-        self.lay_groups(most)?;
-        self.lay_bars(most)?;
-        Ok(!self.trials.is_empty() || self.has_groups())
+    /// Whether crosspoints were given up in this phase, as no walk over them could be laid for long. Then the phase is worth a repetition.
+    pub fn has_given_up(&self) -> bool {
+        self.walking.given_up > 0
     }
 
     // Whether all crosspoints of a walk are kept.
-    fn leads(&self, at: usize) -> bool {
-        let Some(trial) = self.trials.get(at) else {
-            return false;
-        };
-        'crosses: for cross in &trial.walk.crosses {
-            if self.board.mark(*cross) != Mark::Kept {
+    fn leads(&self, walk: &Walk) -> bool {
+        'crosses: for c in &walk.crosses {
+            if !self.board.is_kept(*c) {
                 return false;
             }
         }
         true
     }
 
-    /// A crosspoint of a walk of the load.
-    pub fn cross_of(&self, at: usize, k: usize) -> Option<Cross> {
-        let trial = self.trials.get(at)?;
-        trial.walk.crosses.get(k).copied()
+    // Counts what a walk has decided.
+    fn count_trial(&mut self, leads: bool, left: u32) {
+        if leads {
+            self.walking.decided = self.walking.decided.saturating_add(u64::from(left));
+        } else if left == 1 {
+            self.walking.decided = self.walking.decided.saturating_add(1);
+            self.walking.found = self.walking.found.saturating_add(1);
+        }
     }
 
-    // What was tried on a walk that doesn't lead becomes a group.
-    fn push_group(&mut self, at: usize, node: u32) -> Result<(), AllocError> {
-        let Some(trial) = self.trials.get(at) else {
-            return Ok(());
-        };
-        let walk = self.trim_walk(&trial.walk, trial.begin, trial.end)?;
-        self.groups.push(Group {
-            walk,
-            node,
-            misses: 0,
-        })?;
-        Ok(())
-    }
-
-    /// Looks what came of a walk. What was found of its crosspoints was noted.
-    pub fn note_trial(&mut self, at: usize) -> Result<(), AllocError> {
-        let leads = self.leads(at);
-        let Some(trial) = self.trials.get(at) else {
-            return Ok(());
-        };
-        let tried = trial.end.saturating_sub(trial.begin);
-        let source = trial.source;
-        match source {
-            Source::Group(group) => self.note_half(group, tried, leads),
-            Source::Crossbar(node) => {
+    // Looks what came of a walk.
+    fn note_trial(&mut self, trial: &Trial) -> Result<(), AllocError> {
+        let leads = self.leads(&trial.walk);
+        self.count_trial(leads, trial.left);
+        match trial.group {
+            Some(group) => self.note_half(group, trial.tried.crosses.len(), leads),
+            None => {
                 if leads {
                     return Ok(());
                 }
-                self.push_group(at, node)
+                self.push_group(trial.node, &trial.tried)
             }
         }
+    }
+
+    /// Looks what came of the walks of a load. What was found of their crosspoints was noted.
+    pub fn note_walks(&mut self) -> Result<(), AllocError> {
+        let trials = std::mem::replace(&mut self.walking.trials, Vec::new(self.alloc));
+        'trials: for trial in &trials {
+            self.note_trial(trial)?;
+        }
+        self.drop_groups();
+        Ok(())
+    }
+
+    /// How many crosspoints a walk of the load has.
+    pub fn walk_len(&self, at: usize) -> usize {
+        match self.walking.trials.get(at) {
+            Some(trial) => trial.walk.crosses.len(),
+            None => 0,
+        }
+    }
+
+    /// A crosspoint of a walk of the load.
+    pub fn walk_cross(&self, at: usize, k: usize) -> Option<Cross> {
+        let trial = self.walking.trials.get(at)?;
+        trial.walk.crosses.get(k).copied()
     }
 }

@@ -10,11 +10,12 @@ ghost use Rattle.diag_sweep.specs.Courses.{CanLead};
 
 use crate::paths::{are_known_along, are_leads, hangs, lead_of, may_try_all};
 use crate::seen::see_all;
-use crate::trees::{is_known, lay_ends};
+use crate::trees::{held_forest, is_known, plant};
 use base_bits::BitSet;
 use diag_evidence::{Facts, Forest, Lead};
 use diag_known::{Field, Known};
-use diag_search::Trial;
+use diag_search::{Search, Trial};
+use machine_shape::Wire;
 use std::alloc::{AllocError, Global};
 
 /// Walks that are laid for one load, and the forest from which they branch.
@@ -24,18 +25,39 @@ pub(crate) struct Course {
     pub leads: Vec<Lead>,
 }
 
-// The forest of a load of walks: the climbs at both ends of each.
-fn climb_forest(alloc: Global, facts: &Facts, trials: &Vec<Trial>) -> Result<Forest, AllocError>
+// A wire at an end of a walk is planted, if it is a pin of the machine that hangs nowhere.
+fn plant_end(forest: &mut Forest, facts: &Facts, w: Wire)
+    requires { KeepsForest facts.now forest.old }
+    ensures { KeepsForest facts.now forest.new }
+{
+    if hangs(forest, w) {
+        return;
+    }
+    plant(forest, facts, w);
+}
+
+// The ends of walks that are pins of the machine are planted.
+fn plant_ends(forest: &mut Forest, facts: &Facts, trials: &Vec<Trial>)
+    requires { KeepsForest facts.now forest.old }
+    ensures { KeepsForest facts.now forest.new }
+{
+    'trials: for at in 0..trials.len() {
+        let walk = &trials[at].walk;
+        plant_end(forest, facts, walk.wire(0));
+        plant_end(forest, facts, walk.wire(walk.crosses.len()));
+    }
+}
+
+// The forest of a load of walks: what the search holds, and the pins of the machine at ends of walks.
+fn walk_forest(alloc: Global, facts: &Facts, search: &Search) -> Result<Forest, AllocError>
     ensures { IfOk result (KeepsForest facts.now) }
 {
-    let mut forest = Forest::new(alloc, &facts.shape())?;
-    'trials: for at in 0..trials.len() {
-        lay_ends(&mut forest, facts, &trials[at])?;
-    }
+    let mut forest = held_forest(alloc, facts, &search.forest)?;
+    plant_ends(&mut forest, facts, &search.walking.trials);
     Ok(forest)
 }
 
-// The walks between their climbs.
+// The walks as the test takes them.
 fn leads_of(alloc: Global, forest: &Forest, trials: &Vec<Trial>) -> Result<Vec<Lead>, AllocError> {
     let mut leads = Vec::new(alloc);
     'trials: for at in 0..trials.len() {
@@ -158,15 +180,15 @@ pub(crate) fn course_of(
     facts: &Facts,
     known: &Known,
     field: &Field,
-    trials: &Vec<Trial>,
+    search: &Search,
 ) -> Result<Option<Course>, AllocError>
     requires known { IsKnown facts.now known.now }
     requires field { IsFieldOf facts.now.shape field.now }
     ensures { IfOk result (λ found. IfSome found (λ c. CanLead facts.now field.now c.forest c.leads.items)) }
 {
     let alloc = known.alloc();
-    let forest = climb_forest(alloc, facts, trials)?;
-    let leads = leads_of(alloc, &forest, trials)?;
+    let forest = walk_forest(alloc, facts, search)?;
+    let leads = leads_of(alloc, &forest, &search.walking.trials)?;
     if may_lead(facts, known, field, &forest, &leads)? {
         return Ok(Some(Course { forest, leads }));
     }

@@ -55,8 +55,8 @@ fn first_state(
         search,
         chooser,
         aim: Aim::Partners,
-        height: 0,
-        start: 0,
+        on_any: false,
+        depth: 0,
     })
 }
 
@@ -144,7 +144,6 @@ impl Choices {
             left,
         )?;
         self.table_sweep.state.search = new_search(known.alloc(), facts, known, bad, field)?;
-        self.table_sweep.state.start = 0;
         Ok(())
     }
 

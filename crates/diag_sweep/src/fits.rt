@@ -7,14 +7,14 @@ ghost use Rattle.diag_sweep.specs.Sheets.{AreOn, InputsOn, OutputOn};
 ghost use Rattle.diag_sweep.specs.Sights.{SeesMore};
 
 use crate::seen::{is_new, see_all};
-use crate::trees::{lay, lay_climbs};
+use crate::trees::{held_forest, lay_links};
 use base_bits::BitSet;
 use diag_evidence::{Facts, Forest};
 use diag_search::Search;
 use machine_shape::Table;
 use std::alloc::{AllocError, Global};
 
-/// The forest of a load of tables: the climbs, and the pins of the tables on their lines.
+/// The forest of a load of tables: what the search holds, and the pins of the tables over further links.
 pub(crate) fn table_forest(
     alloc: Global,
     facts: &Facts,
@@ -22,11 +22,8 @@ pub(crate) fn table_forest(
 ) -> Result<Forest, AllocError>
     ensures { IfOk result (KeepsForest facts.now) }
 {
-    let mut forest = Forest::new(alloc, &facts.shape())?;
-    lay_climbs(&mut forest, facts, &search.climbs)?;
-    'taps: for tap in &search.taps {
-        lay(&mut forest, facts, tap.foot.cross, tap.foot.wire, tap.pin)?;
-    }
+    let mut forest = held_forest(alloc, facts, &search.forest)?;
+    lay_links(&mut forest, facts, &search.testing.links)?;
     Ok(forest)
 }
 

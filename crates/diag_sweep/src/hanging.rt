@@ -8,7 +8,7 @@ ghost use Rattle.diag_sweep.specs.Stages.{Goes, IsHand, in_hand};
 use crate::defect_marks::DefectMarks;
 use crate::footing::{are_fit, are_of_field, hangs_of};
 use crate::sweep_state::SweepState;
-use crate::trees::{hang_forest, is_known, pin_forest};
+use crate::trees::{held_forest, is_known, pin_forest};
 use diag_evidence::Facts;
 use diag_known::{Field, Known};
 use rig::{Rig, RigFail};
@@ -55,10 +55,10 @@ pub(crate) fn hang_load(
     ensures cause { IsErrOf result RigFail.Failed → Rose (rig_state rig.old).failures (rig_state rig.new).failures }
 {
     let alloc = known.alloc();
-    let Ok(forest) = hang_forest(alloc, facts, known, &mut state.search) else {
+    let Ok(forest) = held_forest(alloc, facts, &state.search.forest) else {
         return Err(RigFail::Memory);
     };
-    let Ok(chosen) = hangs_of(alloc, &state.search.hangs) else {
+    let Ok(chosen) = hangs_of(alloc, &state.search.hanging.chosen) else {
         return Err(RigFail::Memory);
     };
     let hangs = chosen.as_slice();

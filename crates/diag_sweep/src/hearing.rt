@@ -111,16 +111,13 @@ fn suspect(
 }
 
 // A pin stayed at one value with a wire. No known wire is to blame.
-fn note_still(chooser: &mut Chooser, bad: &DefectMarks, w: Wire, high: bool) {
+fn note_still(chooser: &mut Chooser, w: Wire, high: bool) {
     let at = w.0 as usize;
     if at < chooser.still.len() {
         chooser.still[at] = if high { Still::High } else { Still::Low };
     }
     if at < chooser.suspects.len() {
         chooser.suspects[at].wires.clear();
-    }
-    if in_set(&bad.unfit, w.0) {
-        chooser.set_looks(w, u32::MAX);
     }
 }
 
@@ -137,7 +134,7 @@ fn hear_one(
         return Ok(());
     }
     if !reads.swings(pin) {
-        note_still(chooser, bad, w, reads.read_free(pin));
+        note_still(chooser, w, reads.read_free(pin));
         return Ok(());
     }
     if chooser.aim != Aim::Partners && !in_set(&bad.unfit, w.0) {

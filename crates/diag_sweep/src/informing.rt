@@ -1,7 +1,8 @@
 //! What the search is told before the first load, and after each.
 
-use crate::asking::{keeps, knows};
+use crate::asking::keeps;
 use crate::defect_marks::DefectMarks;
+use crate::feet::step_of;
 use base_bits::BitSet;
 use diag_evidence::Facts;
 use diag_known::{Field, Known};
@@ -36,11 +37,18 @@ fn allow_wires(search: &mut Search, facts: &Facts, field: &Field, unclear: &BitS
     }
 }
 
-/// Wires have come to be known.
-pub(crate) fn note_known(search: &mut Search, known: &Known) {
-    'places: for place in 0..known.len() {
-        search.learn(known.wire_at(place));
+/// Wires have come to be known, from a place of their order on.
+pub(crate) fn note_known(
+    search: &mut Search,
+    known: &Known,
+    from: usize,
+) -> Result<(), AllocError> {
+    'places: for place in from..known.len() {
+        if place < known.len() {
+            search.learn(step_of(&known.step_at(place)))?;
+        }
     }
+    Ok(())
 }
 
 /// The search before the first load.
@@ -54,7 +62,8 @@ pub(crate) fn new_search(
     let mut search = Search::new(alloc, &facts.shape())?;
     mark_crosses(&mut search, facts, field, &bad.stuck);
     allow_wires(&mut search, facts, field, &bad.unclear);
-    note_known(&mut search, known);
+    note_known(&mut search, known, 0)?;
+    search.plant()?;
     Ok(search)
 }
 
@@ -68,32 +77,32 @@ fn note_cross(search: &mut Search, facts: &Facts, stuck: &BitSet, c: Cross) {
 }
 
 // Looks what came of a wire that was hung.
-fn note_hang(search: &mut Search, facts: &Facts, known: &Known, stuck: &BitSet, hung: ChosenTest) {
+fn note_hang(search: &mut Search, facts: &Facts, stuck: &BitSet, hung: ChosenTest) {
     search.count_try(hung.wire);
     note_cross(search, facts, stuck, hung.first.cross);
     note_cross(search, facts, stuck, hung.second.cross);
-    if knows(known, hung.wire) {
-        search.learn(hung.wire);
-    }
 }
 
-/// Looks what came of the wires that were hung.
-pub(crate) fn note_hangs(search: &mut Search, facts: &Facts, known: &Known, stuck: &BitSet) {
-    'hangs: for at in 0..search.hangs.len() {
-        if let Some(hung) = search.hangs.get(at).copied() {
-            note_hang(search, facts, known, stuck, hung);
+/// Looks what came of the wires that were hung. Those that came to be known stand from a place of their order on.
+pub(crate) fn note_hangs(
+    search: &mut Search,
+    facts: &Facts,
+    known: &Known,
+    stuck: &BitSet,
+    from: usize,
+) -> Result<(), AllocError> {
+    'hangs: for at in 0..search.hanging.chosen.len() {
+        if let Some(hung) = search.hanging.chosen.get(at).copied() {
+            note_hang(search, facts, stuck, hung);
         }
     }
+    note_known(search, known, from)
 }
 
 // Looks what came of the crosspoints of a walk.
 fn note_walk(search: &mut Search, facts: &Facts, stuck: &BitSet, at: usize) {
-    let Some(trial) = search.trials.get(at) else {
-        return;
-    };
-    let crosses = trial.walk.crosses.len();
-    'crosses: for k in 0..crosses {
-        if let Some(cross) = search.cross_of(at, k) {
+    'crosses: for k in 0..search.walk_len(at) {
+        if let Some(cross) = search.walk_cross(at, k) {
             note_cross(search, facts, stuck, cross);
         }
     }
@@ -105,24 +114,29 @@ pub(crate) fn note_walks(
     facts: &Facts,
     stuck: &BitSet,
 ) -> Result<(), AllocError> {
-    'trials: for at in 0..search.trials.len() {
+    'trials: for at in 0..search.walking.trials.len() {
         note_walk(search, facts, stuck, at);
-        search.note_trial(at)?;
     }
-    search.drop_groups();
-    Ok(())
+    search.note_walks()
 }
 
-// Whether a table stands in a hextant and is still to be tested.
+// Whether a table stands in a chip and is still to be tested.
 fn is_left(facts: &Facts, wrong: &BitSet, node: u32, t: Table) -> bool {
     let shape = facts.shape();
     if t.0 >= shape.tables() || t.0 >= wrong.len() || wrong.has(t.0) || facts.keeps_register(t) {
         return false;
     }
-    shape.hextant_of(t).0 == node
+    let hextant = shape.hextant_of(t);
+    if hextant.0 >= shape.nodes() {
+        return false;
+    }
+    match shape.parent(hextant) {
+        Some(chip) => chip.0 == node,
+        None => false,
+    }
 }
 
-// The tables of a hextant that are still to be tested.
+// The tables of a chip that are still to be tested.
 fn tables_left(
     alloc: Global,
     facts: &Facts,
@@ -139,7 +153,7 @@ fn tables_left(
     Ok(left)
 }
 
-/// Has the tables of the next load chosen, of the hextant that the search is at. False where none is left to test.
+/// Has the tables of the next load chosen, of the chip that the search is at. False where none is left to test.
 pub(crate) fn choose_tables(
     search: &mut Search,
     alloc: Global,
@@ -147,6 +161,6 @@ pub(crate) fn choose_tables(
     wrong: &BitSet,
     tables: &[Table],
 ) -> Result<bool, AllocError> {
-    let left = tables_left(alloc, facts, wrong, tables, search.node)?;
+    let left = tables_left(alloc, facts, wrong, tables, search.testing.chip)?;
     search.choose_tables(&left)
 }

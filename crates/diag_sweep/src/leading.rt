@@ -20,6 +20,12 @@ use rig::{Rig, RigFail};
 /// More loads of walks than a field takes.
 const MOST_LOADS: u32 = 10_000_000;
 
+/// How often the crossbars of a depth are gone through.
+const MOST_ROUNDS: u32 = 4;
+
+/// How many depths there are: of the root, of modules, of chips and of hextants.
+const DEPTHS: u32 = 4;
+
 // Leads the walks that the search has chosen, if they may be led together and it can be paid.
 fn lead_load(
     rig: &mut Box<dyn Rig>,
@@ -36,7 +42,7 @@ fn lead_load(
     ensures advances { Advances (rig_state rig.old) (rig_state rig.new) facts.old facts.new }
     ensures cause { IsErrOf result RigFail.Failed → Rose (rig_state rig.old).failures (rig_state rig.new).failures }
 {
-    let Ok(found) = course_of(facts, known, field, &state.search.trials) else {
+    let Ok(found) = course_of(facts, known, field, &state.search) else {
         return Err(RigFail::Memory);
     };
     let Some(course) = found else {
@@ -92,12 +98,9 @@ fn lead_turn(
     if !more {
         return Ok(false);
     }
-    if state.search.trials.is_empty() {
-        return Ok(true);
-    }
     let before = rig.loads();
     lead_load(rig, facts, known, bad, field, state)?;
-    settle_walks(&mut state.budget, facts, bad, &state.search.trials);
+    settle_walks(&mut state.budget, facts, bad, &state.search.walking.trials);
     if rig.loads() == before {
         return Ok(false);
     }
@@ -107,9 +110,9 @@ fn lead_turn(
     Ok(true)
 }
 
-/// Leads walks over undecided crosspoints between known wires, until no more are found or can be paid.
+// Leads walks through the crossbars of a depth, until no more are found or can be paid.
 #[tactic(auto, using(crate::proofs::Going::gone_none))]
-pub(crate) fn lead_paths(
+fn lead_depth(
     rig: &mut Box<dyn Rig>,
     facts: &mut Facts,
     known: &Known,
@@ -124,11 +127,66 @@ pub(crate) fn lead_paths(
     ensures advances { Advances (rig_state rig.old) (rig_state rig.new) facts.old facts.new }
     ensures cause { IsErrOf result RigFail.Failed → Rose (rig_state rig.old).failures (rig_state rig.new).failures }
 {
-    state.search.begin_walks();
+    let Ok(()) = state.search.begin_walks(state.depth) else {
+        return Err(RigFail::Memory);
+    };
     'loads: for _load in 0..MOST_LOADS {
         if !lead_turn(rig, facts, known, bad, field, state)? {
             return Ok(());
         }
+    }
+    Ok(())
+}
+
+// The same once more, as long as some were given up, a few times.
+#[tactic(auto, using(crate::proofs::Going::gone_none))]
+fn lead_rounds(
+    rig: &mut Box<dyn Rig>,
+    facts: &mut Facts,
+    known: &Known,
+    bad: &mut DefectMarks,
+    field: &Field,
+    state: &mut SweepState,
+) -> Result<(), RigFail>
+    requires attached { shape_of (rig_state rig.old) ≡ Some facts.old.shape }
+    requires hand { IsHand field.now (in_hand facts.old known.now bad.old state.old.budget (rig_state rig.old).loads) }
+    ensures goes { Goes (rig_state rig.new) field.now [] (in_hand facts.old known.now bad.old state.old.budget (rig_state rig.old).loads)
+        (in_hand facts.new known.now bad.new state.new.budget (rig_state rig.new).loads) }
+    ensures advances { Advances (rig_state rig.old) (rig_state rig.new) facts.old facts.new }
+    ensures cause { IsErrOf result RigFail.Failed → Rose (rig_state rig.old).failures (rig_state rig.new).failures }
+{
+    'rounds: for _round in 0..MOST_ROUNDS {
+        lead_depth(rig, facts, known, bad, field, state)?;
+        if !state.search.has_given_up() {
+            return Ok(());
+        }
+    }
+    Ok(())
+}
+
+/// Leads walks through all crossbars, those of the root first. Behind each depth the forest is drawn anew, so that trees are even.
+#[tactic(auto, using(crate::proofs::Going::gone_none))]
+pub(crate) fn lead_all(
+    rig: &mut Box<dyn Rig>,
+    facts: &mut Facts,
+    known: &Known,
+    bad: &mut DefectMarks,
+    field: &Field,
+    state: &mut SweepState,
+) -> Result<(), RigFail>
+    requires attached { shape_of (rig_state rig.old) ≡ Some facts.old.shape }
+    requires hand { IsHand field.now (in_hand facts.old known.now bad.old state.old.budget (rig_state rig.old).loads) }
+    ensures goes { Goes (rig_state rig.new) field.now [] (in_hand facts.old known.now bad.old state.old.budget (rig_state rig.old).loads)
+        (in_hand facts.new known.now bad.new state.new.budget (rig_state rig.new).loads) }
+    ensures advances { Advances (rig_state rig.old) (rig_state rig.new) facts.old facts.new }
+    ensures cause { IsErrOf result RigFail.Failed → Rose (rig_state rig.old).failures (rig_state rig.new).failures }
+{
+    'depths: for depth in 0..DEPTHS {
+        state.depth = depth;
+        lead_rounds(rig, facts, known, bad, field, state)?;
+        let Ok(()) = state.search.plant() else {
+            return Err(RigFail::Memory);
+        };
     }
     Ok(())
 }

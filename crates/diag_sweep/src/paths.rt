@@ -209,12 +209,13 @@ fn pin_under(forest: &Forest, w: Wire) -> u32 {
     forest.pin_of(w).unwrap_or(0)
 }
 
-/// A walk of the search between its two climbs, as the test takes it.
+/// A walk of the search as the test takes it.
 pub(crate) fn lead_of(alloc: Global, forest: &Forest, trial: &Trial) -> Result<Lead, AllocError> {
     let mut wires = Vec::new(alloc);
     let mut crosses = Vec::new(alloc);
-    wires.push(trial.walk.wire(trial.begin))?;
-    'places: for place in trial.begin..trial.end {
+    let count = trial.walk.crosses.len();
+    wires.push(trial.walk.wire(0))?;
+    'places: for place in 0..count {
         let foot = trial.walk.foot(place);
         crosses.push(foot.cross)?;
         wires.push(foot.wire)?;
@@ -222,7 +223,7 @@ pub(crate) fn lead_of(alloc: Global, forest: &Forest, trial: &Trial) -> Result<L
     Ok(Lead {
         wires,
         crosses,
-        from: pin_under(forest, trial.walk.wire(trial.begin)),
-        to: pin_under(forest, trial.walk.wire(trial.end)),
+        from: pin_under(forest, trial.walk.wire(0)),
+        to: pin_under(forest, trial.walk.wire(count)),
     })
 }

@@ -12,9 +12,9 @@ pub(crate) struct SweepState {
     pub chooser: Chooser,
     // What looks are taken for.
     pub aim: Aim,
-    // The height of the wires that are tested, and how many wires were known as the pass began.
-    pub height: u32,
-    pub start: usize,
+    // Whether wires are hung on any known ones, or on lower ones alone; and the depth of the crossbars through which walks lead.
+    pub on_any: bool,
+    pub depth: u32,
 }
 
 /// The same, and the tables that may be tested.

@@ -16,7 +16,7 @@ use diag_evidence::Facts;
 use diag_known::{Field, Known};
 use rig::{Rig, RigFail};
 
-/// More loads of tables than a hextant has tables.
+/// More loads of tables than a chip has tables.
 const MOST_LOADS: u32 = 65_536;
 
 // Tests the tables that the search has chosen, if they may be tested together and it can be paid.
@@ -43,7 +43,7 @@ fn table_load(
     let Ok(mut pins) = BitSet::new(alloc, forest.shape().pins()) else {
         return Err(RigFail::Memory);
     };
-    let tables = table_sweep.state.search.chosen.as_slice();
+    let tables = table_sweep.state.search.testing.chosen.as_slice();
     if !is_known(facts, known, &forest) {
         return Ok(());
     }
@@ -62,7 +62,7 @@ fn table_load(
     facts.tables_each(rig, &forest, tables, &mut bad.wrong)
 }
 
-// Tests tables of the hextant that the search is at in one load, if some are found. False where none is left to test, or none could
+// Tests tables of the chip that the search is at in one load, if some are found. False where none is left to test, or none could
 // be laid too often.
 fn table_turn(
     rig: &mut Box<dyn Rig>,
@@ -94,16 +94,16 @@ fn table_turn(
     if !found || !table_sweep.state.budget.can_pay(rig, 2) {
         return Ok(false);
     }
-    if table_sweep.state.search.chosen.is_empty() {
-        return Ok(table_sweep.state.search.count_fail());
+    if table_sweep.state.search.testing.chosen.is_empty() {
+        return Ok(true);
     }
     table_load(rig, facts, known, bad, field, table_sweep)?;
     Ok(true)
 }
 
-// Tests tables of the hextant that the search is at until none is left to test, or it can't be paid.
+// Tests tables of the chip that the search is at until none is left to test, or it can't be paid.
 #[tactic(auto, using(crate::proofs::Tabled::tested_none))]
-fn test_hextant(
+fn test_chip(
     rig: &mut Box<dyn Rig>,
     facts: &mut Facts,
     known: &Known,
@@ -128,7 +128,7 @@ fn test_hextant(
     Ok(())
 }
 
-// Tests the tables of each hextant.
+// Tests the tables of each chip.
 #[tactic(auto, using(crate::proofs::Tabled::tested_none))]
 fn test_tables(
     rig: &mut Box<dyn Rig>,
@@ -147,9 +147,14 @@ fn test_tables(
     ensures advances { Advances (rig_state rig.old) (rig_state rig.new) facts.old facts.new }
     ensures cause { IsErrOf result RigFail.Failed → Rose (rig_state rig.old).failures (rig_state rig.new).failures }
 {
+    let Ok(()) = table_sweep.state.search.begin_tables() else {
+        return Err(RigFail::Memory);
+    };
     'nodes: for node in 0..facts.shape().nodes() {
-        table_sweep.state.search.go_to(node);
-        test_hextant(rig, facts, known, bad, field, table_sweep)?;
+        if !table_sweep.state.search.go_to_chip(node) {
+            continue;
+        }
+        test_chip(rig, facts, known, bad, field, table_sweep)?;
     }
     Ok(())
 }

@@ -8,19 +8,18 @@ ghost use Rattle.diag_known.specs.Known.{IsKnown};
 ghost use Rattle.diag_sweep.specs.Stages.{Goes, IsHand, in_hand};
 ghost use Rattle.diag_sweep.specs.Views.{CanTell};
 
-use crate::asking::knows;
 use crate::defect_marks::DefectMarks;
 use crate::footing::{foot_at, pins_over};
 use crate::hearing::hear;
 use crate::losing::begin;
 use crate::seen::see_all;
 use crate::sweep_state::SweepState;
-use crate::trees::{is_known, lay, lay_climbs, plant};
+use crate::trees::{held_forest, is_known};
 use base_bits::BitSet;
 use diag_evidence::{Facts, Forest, Looks};
 use diag_known::{Field, Known};
-use diag_search::{Chooser, Link, Search, Told};
-use machine_shape::{Cross, Pin, Wire};
+use diag_search::{Chooser, Search, Told};
+use machine_shape::{Cross, Wire};
 use rig::{Rig, RigFail};
 use std::alloc::{AllocError, Global};
 
@@ -33,47 +32,6 @@ pub(crate) struct View {
     pub told: Told,
     pub forest: Forest,
     pub reads: Looks,
-}
-
-// Plants the pins of the machine that are known.
-fn plant_known(forest: &mut Forest, facts: &Facts, known: &Known)
-    requires { KeepsForest facts.now forest.old }
-    ensures { KeepsForest facts.now forest.new }
-{
-    let shape = facts.shape();
-    'pins: for pin in 0..shape.pins() {
-        let wire = shape.pin(Pin(pin));
-        if knows(known, wire) {
-            plant(forest, facts, wire);
-        }
-    }
-}
-
-// Lays links, where they may be laid.
-fn lay_links(forest: &mut Forest, facts: &Facts, links: &Vec<Link>) -> Result<(), AllocError>
-    requires { KeepsForest facts.now forest.old }
-    ensures { KeepsForest facts.now forest.new }
-{
-    'links: for link in links {
-        lay(forest, facts, link.cross, link.from, link.to)?;
-    }
-    Ok(())
-}
-
-// The forest of a look: the known pins of the machine, the climbs, and the links.
-fn told_forest(
-    alloc: Global,
-    facts: &Facts,
-    known: &Known,
-    told: &Told,
-) -> Result<Forest, AllocError>
-    ensures { IfOk result (KeepsForest facts.now) }
-{
-    let mut forest = Forest::new(alloc, &facts.shape())?;
-    plant_known(&mut forest, facts, known);
-    lay_climbs(&mut forest, facts, &told.climbs)?;
-    lay_links(&mut forest, facts, &told.links)?;
-    Ok(forest)
 }
 
 // The numbers of the wires of feet.
@@ -136,7 +94,7 @@ fn next_view(
         return Ok(None);
     };
     let alloc = known.alloc();
-    let forest = told_forest(alloc, facts, known, &told)?;
+    let forest = held_forest(alloc, facts, &search.forest)?;
     if !is_known(facts, known, &forest) {
         return Ok(None);
     }

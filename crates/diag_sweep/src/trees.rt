@@ -5,8 +5,8 @@ ghost use Rattle.diag_evidence.specs.Forests.{KeepsForest, KnowsForest, is_hung}
 ghost use Rattle.diag_known.specs.Known.{IsKnown, HasWire};
 
 use diag_evidence::{Facts, Forest};
-use diag_known::{Known, SupportedBy, VerifiedWire};
-use diag_search::{Draws, Search, Trial, Walk};
+use diag_known::Known;
+use diag_search::{Link, PlannedForest};
 use machine_shape::{Cross, Pin, Shape, Wire};
 use std::alloc::{AllocError, Global};
 
@@ -62,142 +62,35 @@ pub(crate) fn plant(forest: &mut Forest, facts: &Facts, w: Wire)
     forest.plant(pin);
 }
 
-// A step of a walk: the crosspoint behind a wire, and its two ends, the one nearer to the pin first.
-fn link_at(walk: &Walk, place: usize) -> Option<(Cross, Wire, Wire)> {
-    let cross = walk.crosses.get(place).copied()?;
-    let to = walk.wires.get(place).copied()?;
-    let from = walk.wires.get(place.saturating_add(1)).copied()?;
-    Some((cross, from, to))
-}
-
-// Lays a climb from its pin on.
-fn lay_climb(forest: &mut Forest, facts: &Facts, walk: &Walk) -> Result<(), AllocError>
+/// Lays links, where they may be laid. A pin of the machine that is led to from itself is planted.
+pub(crate) fn lay_links(
+    forest: &mut Forest,
+    facts: &Facts,
+    links: &Vec<Link>,
+) -> Result<(), AllocError>
     requires { KeepsForest facts.now forest.old }
     ensures { KeepsForest facts.now forest.new }
 {
-    let len = walk.crosses.len();
-    if let Some(last) = walk.wires.get(len).copied() {
-        plant(forest, facts, last);
-    }
-    'links: for k in 0..len {
-        let Some((cross, from, to)) = link_at(walk, len - 1 - k) else {
+    'links: for link in links {
+        if link.from.0 == link.to.0 {
+            plant(forest, facts, link.to);
             continue;
-        };
-        lay(forest, facts, cross, from, to)?;
-    }
-    Ok(())
-}
-
-/// Lays all climbs.
-pub(crate) fn lay_climbs(
-    forest: &mut Forest,
-    facts: &Facts,
-    climbs: &Vec<Walk>,
-) -> Result<(), AllocError>
-    requires { KeepsForest facts.now forest.old }
-    ensures { KeepsForest facts.now forest.new }
-{
-    'climbs: for walk in climbs {
-        lay_climb(forest, facts, walk)?;
-    }
-    Ok(())
-}
-
-// Lays the steps of a walk before a place, from its first wire on.
-fn lay_first(
-    forest: &mut Forest,
-    facts: &Facts,
-    walk: &Walk,
-    begin: usize,
-) -> Result<(), AllocError>
-    requires { KeepsForest facts.now forest.old }
-    ensures { KeepsForest facts.now forest.new }
-{
-    plant(forest, facts, walk.wire(0));
-    'steps: for place in 0..begin {
-        let foot = walk.foot(place);
-        lay(forest, facts, foot.cross, walk.wire(place), foot.wire)?;
-    }
-    Ok(())
-}
-
-// Lays the steps of a walk from a place on, from its last wire back.
-fn lay_last(forest: &mut Forest, facts: &Facts, walk: &Walk, end: usize) -> Result<(), AllocError>
-    requires { KeepsForest facts.now forest.old }
-    ensures { KeepsForest facts.now forest.new }
-{
-    let len = walk.crosses.len();
-    plant(forest, facts, walk.wire(len));
-    'steps: for k in end..len {
-        let place = len - 1 - (k - end);
-        let foot = walk.foot(place);
-        lay(forest, facts, foot.cross, foot.wire, walk.wire(place))?;
-    }
-    Ok(())
-}
-
-/// Lays the climbs at both ends of a walk.
-pub(crate) fn lay_ends(forest: &mut Forest, facts: &Facts, trial: &Trial) -> Result<(), AllocError>
-    requires { KeepsForest facts.now forest.old }
-    ensures { KeepsForest facts.now forest.new }
-{
-    lay_first(forest, facts, &trial.walk, trial.begin)?;
-    lay_last(forest, facts, &trial.walk, trial.end)
-}
-
-// Hangs a known wire on one of its feet, which is drawn, or plants it if it is a pin of the machine.
-fn lay_step(
-    forest: &mut Forest,
-    facts: &Facts,
-    step: &VerifiedWire,
-    draws: &mut Draws,
-) -> Result<(), AllocError>
-    requires { KeepsForest facts.now forest.old }
-    ensures { KeepsForest facts.now forest.new }
-{
-    match step.stand {
-        SupportedBy::Pin(_) => {
-            plant(forest, facts, step.wire);
-            Ok(())
         }
-        SupportedBy::Feet(first, second) => {
-            if draws.coin() {
-                return lay(forest, facts, first.cross, first.wire, step.wire);
-            }
-            lay(forest, facts, second.cross, second.wire, step.wire)
-        }
-    }
-}
-
-// Hangs all known wires that don't hang yet.
-fn lay_rest(
-    forest: &mut Forest,
-    facts: &Facts,
-    known: &Known,
-    draws: &mut Draws,
-) -> Result<(), AllocError>
-    requires { KeepsForest facts.now forest.old }
-    ensures { KeepsForest facts.now forest.new }
-{
-    'places: for place in 0..known.len() {
-        let step = known.step_at(place);
-        lay_step(forest, facts, &step, draws)?;
+        lay(forest, facts, link.cross, link.from, link.to)?;
     }
     Ok(())
 }
 
-/// The forest of a load of hangs: the climbs, and all other known wires on feet.
-pub(crate) fn hang_forest(
+/// The forest that the search holds, as it stays from load to load.
+pub(crate) fn held_forest(
     alloc: Global,
     facts: &Facts,
-    known: &Known,
-    search: &mut Search,
+    planned: &PlannedForest,
 ) -> Result<Forest, AllocError>
     ensures { IfOk result (KeepsForest facts.now) }
 {
     let mut forest = Forest::new(alloc, &facts.shape())?;
-    lay_climbs(&mut forest, facts, &search.climbs)?;
-    lay_rest(&mut forest, facts, known, &mut search.draws)?;
+    lay_links(&mut forest, facts, &planned.links)?;
     Ok(forest)
 }
 

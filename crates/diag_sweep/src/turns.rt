@@ -12,13 +12,13 @@ use crate::budget::LoadBudget;
 use crate::defect_marks::DefectMarks;
 use crate::hanging::{hang_load, pin_load};
 use crate::informing::{note_hangs, note_known};
-use crate::leading::lead_paths;
+use crate::leading::lead_all;
 use crate::learn::{learn_hangs, learn_pins};
 use crate::sweep_state::SweepState;
 use crate::telling::tell_all;
 use diag_evidence::Facts;
 use diag_known::{Field, Known};
-use diag_search::{Aim, ChosenTest, FIRST_HEIGHT};
+use diag_search::{Aim, ChosenTest};
 use machine_shape::Pin;
 use rig::{Rig, RigFail};
 
@@ -27,6 +27,12 @@ const MOST_LOADS: u32 = 1_000_000;
 
 /// The greatest height of a wire: the pins of tables of the deepest level.
 const MOST_HEIGHT: u32 = 8;
+
+/// More passes than a field takes.
+const MOST_PASSES: u32 = 1_000_000;
+
+/// How often what is left behind all passes is looked for.
+const LEFT_ROUNDS: u32 = 5;
 
 // Looks at the pins of the machine. Those that can be known are.
 fn pin_turn(
@@ -44,11 +50,14 @@ fn pin_turn(
     ensures advances { Advances (rig_state rig.old) (rig_state rig.new) facts.old facts.new }
     ensures cause { IsErrOf result RigFail.Failed → Rose (rig_state rig.old).failures (rig_state rig.new).failures }
 {
+    let before = known.len();
     pin_load(rig, facts, known, bad, field, state)?;
     let Ok(()) = learn_pins(known, facts, field) else {
         return Err(RigFail::Memory);
     };
-    note_known(&mut state.search, known);
+    let Ok(()) = note_known(&mut state.search, known, before) else {
+        return Err(RigFail::Memory);
+    };
     Ok(())
 }
 
@@ -64,7 +73,7 @@ fn settle_hangs(budget: &mut LoadBudget, facts: &Facts, bad: &DefectMarks, hangs
     }
 }
 
-// Tests some wires of a height in one load, if some are found and it can be paid. False where not.
+// Tests some of the wires that are to be hung in one load, if some are found and it can be paid. False where not.
 fn hang_turn(
     rig: &mut Box<dyn Rig>,
     facts: &mut Facts,
@@ -80,25 +89,27 @@ fn hang_turn(
     ensures advances { Advances (rig_state rig.old) (rig_state rig.new) facts.old facts.new }
     ensures cause { IsErrOf result RigFail.Failed → Rose (rig_state rig.old).failures (rig_state rig.new).failures }
 {
-    let height = state.height;
-    let Ok(()) = state.search.choose_hangs(&bad.unfit, height) else {
+    let before = known.len();
+    let Ok(()) = state.search.choose_hangs(&bad.unfit) else {
         return Err(RigFail::Memory);
     };
-    if state.search.hangs.is_empty() || !state.budget.can_pay(rig, 3) {
+    if state.search.hanging.chosen.is_empty() || !state.budget.can_pay(rig, 3) {
         return Ok(false);
     }
     hang_load(rig, facts, known, bad, field, state)?;
-    settle_hangs(&mut state.budget, facts, bad, &state.search.hangs);
-    let Ok(()) = learn_hangs(known, facts, field, &state.search.hangs) else {
+    settle_hangs(&mut state.budget, facts, bad, &state.search.hanging.chosen);
+    let Ok(()) = learn_hangs(known, facts, field, &state.search.hanging.chosen) else {
         return Err(RigFail::Memory);
     };
-    note_hangs(&mut state.search, facts, known, &bad.stuck);
+    let Ok(()) = note_hangs(&mut state.search, facts, known, &bad.stuck, before) else {
+        return Err(RigFail::Memory);
+    };
     Ok(true)
 }
 
-// Tests wires of a height until none is found, or it can't be paid.
+// Tests the wires that are to be hung until none is found, or it can't be paid.
 #[tactic(auto, using(crate::proofs::Going::gone_none))]
-fn hang_height(
+fn hang_wanted(
     rig: &mut Box<dyn Rig>,
     facts: &mut Facts,
     known: &mut Known,
@@ -121,29 +132,6 @@ fn hang_height(
     Ok(())
 }
 
-// Tests the wires of a height, and then the crosspoints between known wires, if some wires came to be known in this pass.
-fn sweep_height(
-    rig: &mut Box<dyn Rig>,
-    facts: &mut Facts,
-    known: &mut Known,
-    bad: &mut DefectMarks,
-    field: &Field,
-    state: &mut SweepState,
-) -> Result<(), RigFail>
-    requires attached { shape_of (rig_state rig.old) ≡ Some facts.old.shape }
-    requires hand { IsHand field.now (in_hand facts.old known.old bad.old state.old.budget (rig_state rig.old).loads) }
-    ensures goes { Goes (rig_state rig.new) field.now [] (in_hand facts.old known.old bad.old state.old.budget (rig_state rig.old).loads)
-        (in_hand facts.new known.new bad.new state.new.budget (rig_state rig.new).loads) }
-    ensures advances { Advances (rig_state rig.old) (rig_state rig.new) facts.old facts.new }
-    ensures cause { IsErrOf result RigFail.Failed → Rose (rig_state rig.old).failures (rig_state rig.new).failures }
-{
-    hang_height(rig, facts, known, bad, field, state)?;
-    if known.len() <= state.start {
-        return Ok(());
-    }
-    lead_paths(rig, facts, known, bad, field, state)
-}
-
 // Tests the wires of each height once more.
 #[tactic(auto, using(crate::proofs::Going::gone_none))]
 fn sweep_heights(
@@ -162,8 +150,10 @@ fn sweep_heights(
     ensures cause { IsErrOf result RigFail.Failed → Rose (rig_state rig.old).failures (rig_state rig.new).failures }
 {
     'heights: for height in 1..=MOST_HEIGHT {
-        state.height = height;
-        sweep_height(rig, facts, known, bad, field, state)?;
+        let Ok(()) = state.search.want_height(&bad.unfit, height, state.on_any) else {
+            return Err(RigFail::Memory);
+        };
+        hang_wanted(rig, facts, known, bad, field, state)?;
     }
     Ok(())
 }
@@ -185,14 +175,61 @@ fn sweep_pass(
     ensures cause { IsErrOf result RigFail.Failed → Rose (rig_state rig.old).failures (rig_state rig.new).failures }
 {
     tell_all(rig, facts, known, bad, field, state)?;
-    state.search.begin_pass();
-    sweep_heights(rig, facts, known, bad, field, state)?;
-    state.start = known.len();
-    Ok(())
+    state.search.forget_tries();
+    sweep_heights(rig, facts, known, bad, field, state)
 }
 
-// Goes through all heights twice.
-fn sweep_twice(
+// Makes a pass, and then tests the crosspoints between known wires: in the first pass, and where some wires came to be known.
+fn sweep_round(
+    rig: &mut Box<dyn Rig>,
+    facts: &mut Facts,
+    known: &mut Known,
+    bad: &mut DefectMarks,
+    field: &Field,
+    state: &mut SweepState,
+) -> Result<(), RigFail>
+    requires attached { shape_of (rig_state rig.old) ≡ Some facts.old.shape }
+    requires hand { IsHand field.now (in_hand facts.old known.old bad.old state.old.budget (rig_state rig.old).loads) }
+    ensures goes { Goes (rig_state rig.new) field.now [] (in_hand facts.old known.old bad.old state.old.budget (rig_state rig.old).loads)
+        (in_hand facts.new known.new bad.new state.new.budget (rig_state rig.new).loads) }
+    ensures advances { Advances (rig_state rig.old) (rig_state rig.new) facts.old facts.new }
+    ensures cause { IsErrOf result RigFail.Failed → Rose (rig_state rig.old).failures (rig_state rig.new).failures }
+{
+    let before = known.len();
+    sweep_pass(rig, facts, known, bad, field, state)?;
+    if state.on_any && known.len() <= before {
+        return Ok(());
+    }
+    lead_all(rig, facts, known, bad, field, state)
+}
+
+// The same. False where no wire came to be known and no crosspoint was decided. Later passes hang wires on any known ones.
+fn pass_turn(
+    rig: &mut Box<dyn Rig>,
+    facts: &mut Facts,
+    known: &mut Known,
+    bad: &mut DefectMarks,
+    field: &Field,
+    state: &mut SweepState,
+) -> Result<bool, RigFail>
+    requires attached { shape_of (rig_state rig.old) ≡ Some facts.old.shape }
+    requires hand { IsHand field.now (in_hand facts.old known.old bad.old state.old.budget (rig_state rig.old).loads) }
+    ensures goes { Goes (rig_state rig.new) field.now [] (in_hand facts.old known.old bad.old state.old.budget (rig_state rig.old).loads)
+        (in_hand facts.new known.new bad.new state.new.budget (rig_state rig.new).loads) }
+    ensures advances { Advances (rig_state rig.old) (rig_state rig.new) facts.old facts.new }
+    ensures cause { IsErrOf result RigFail.Failed → Rose (rig_state rig.old).failures (rig_state rig.new).failures }
+{
+    let before = known.len();
+    let decided = state.search.decided();
+    sweep_round(rig, facts, known, bad, field, state)?;
+    state.aim = Aim::Rest;
+    state.on_any = true;
+    Ok(known.len() > before || state.search.decided() > decided)
+}
+
+// Makes pass after pass, as long as wires come to be known or crosspoints to be decided.
+#[tactic(auto, using(crate::proofs::Going::gone_none))]
+fn sweep_passes(
     rig: &mut Box<dyn Rig>,
     facts: &mut Facts,
     known: &mut Known,
@@ -208,9 +245,108 @@ fn sweep_twice(
     ensures cause { IsErrOf result RigFail.Failed → Rose (rig_state rig.old).failures (rig_state rig.new).failures }
 {
     state.aim = Aim::Again;
-    sweep_pass(rig, facts, known, bad, field, state)?;
-    state.aim = Aim::Rest;
-    sweep_pass(rig, facts, known, bad, field, state)
+    state.on_any = false;
+    'passes: for _pass in 0..MOST_PASSES {
+        if !pass_turn(rig, facts, known, bad, field, state)? {
+            return Ok(());
+        }
+    }
+    Ok(())
+}
+
+// Looks at what is left, and hangs it, few wires at a time. False where nothing was left.
+fn left_turn(
+    rig: &mut Box<dyn Rig>,
+    facts: &mut Facts,
+    known: &mut Known,
+    bad: &mut DefectMarks,
+    field: &Field,
+    state: &mut SweepState,
+) -> Result<bool, RigFail>
+    requires attached { shape_of (rig_state rig.old) ≡ Some facts.old.shape }
+    requires hand { IsHand field.now (in_hand facts.old known.old bad.old state.old.budget (rig_state rig.old).loads) }
+    ensures goes { Goes (rig_state rig.new) field.now [] (in_hand facts.old known.old bad.old state.old.budget (rig_state rig.old).loads)
+        (in_hand facts.new known.new bad.new state.new.budget (rig_state rig.new).loads) }
+    ensures advances { Advances (rig_state rig.old) (rig_state rig.new) facts.old facts.new }
+    ensures cause { IsErrOf result RigFail.Failed → Rose (rig_state rig.old).failures (rig_state rig.new).failures }
+{
+    state.aim = Aim::Left;
+    tell_all(rig, facts, known, bad, field, state)?;
+    state.search.forget_tries();
+    let Ok(()) = state.chooser.hint_left(&mut state.search, &bad.unfit) else {
+        return Err(RigFail::Memory);
+    };
+    hang_wanted(rig, facts, known, bad, field, state)?;
+    Ok(!state.chooser.wanted.is_empty())
+}
+
+// The same a few times, as long as something is left.
+#[tactic(auto, using(crate::proofs::Going::gone_none))]
+fn sweep_left(
+    rig: &mut Box<dyn Rig>,
+    facts: &mut Facts,
+    known: &mut Known,
+    bad: &mut DefectMarks,
+    field: &Field,
+    state: &mut SweepState,
+) -> Result<(), RigFail>
+    requires attached { shape_of (rig_state rig.old) ≡ Some facts.old.shape }
+    requires hand { IsHand field.now (in_hand facts.old known.old bad.old state.old.budget (rig_state rig.old).loads) }
+    ensures goes { Goes (rig_state rig.new) field.now [] (in_hand facts.old known.old bad.old state.old.budget (rig_state rig.old).loads)
+        (in_hand facts.new known.new bad.new state.new.budget (rig_state rig.new).loads) }
+    ensures advances { Advances (rig_state rig.old) (rig_state rig.new) facts.old facts.new }
+    ensures cause { IsErrOf result RigFail.Failed → Rose (rig_state rig.old).failures (rig_state rig.new).failures }
+{
+    'rounds: for _round in 0..LEFT_ROUNDS {
+        if !left_turn(rig, facts, known, bad, field, state)? {
+            return Ok(());
+        }
+    }
+    Ok(())
+}
+
+// The same, and then tests the crosspoints between known wires, where some wires came to be known.
+fn sweep_remains(
+    rig: &mut Box<dyn Rig>,
+    facts: &mut Facts,
+    known: &mut Known,
+    bad: &mut DefectMarks,
+    field: &Field,
+    state: &mut SweepState,
+) -> Result<(), RigFail>
+    requires attached { shape_of (rig_state rig.old) ≡ Some facts.old.shape }
+    requires hand { IsHand field.now (in_hand facts.old known.old bad.old state.old.budget (rig_state rig.old).loads) }
+    ensures goes { Goes (rig_state rig.new) field.now [] (in_hand facts.old known.old bad.old state.old.budget (rig_state rig.old).loads)
+        (in_hand facts.new known.new bad.new state.new.budget (rig_state rig.new).loads) }
+    ensures advances { Advances (rig_state rig.old) (rig_state rig.new) facts.old facts.new }
+    ensures cause { IsErrOf result RigFail.Failed → Rose (rig_state rig.old).failures (rig_state rig.new).failures }
+{
+    let before = known.len();
+    sweep_left(rig, facts, known, bad, field, state)?;
+    if known.len() <= before {
+        return Ok(());
+    }
+    lead_all(rig, facts, known, bad, field, state)
+}
+
+// Makes all passes, and looks for what is left then.
+fn sweep_rest(
+    rig: &mut Box<dyn Rig>,
+    facts: &mut Facts,
+    known: &mut Known,
+    bad: &mut DefectMarks,
+    field: &Field,
+    state: &mut SweepState,
+) -> Result<(), RigFail>
+    requires attached { shape_of (rig_state rig.old) ≡ Some facts.old.shape }
+    requires hand { IsHand field.now (in_hand facts.old known.old bad.old state.old.budget (rig_state rig.old).loads) }
+    ensures goes { Goes (rig_state rig.new) field.now [] (in_hand facts.old known.old bad.old state.old.budget (rig_state rig.old).loads)
+        (in_hand facts.new known.new bad.new state.new.budget (rig_state rig.new).loads) }
+    ensures advances { Advances (rig_state rig.old) (rig_state rig.new) facts.old facts.new }
+    ensures cause { IsErrOf result RigFail.Failed → Rose (rig_state rig.old).failures (rig_state rig.new).failures }
+{
+    sweep_passes(rig, facts, known, bad, field, state)?;
+    sweep_remains(rig, facts, known, bad, field, state)
 }
 
 /// Looks at the pins of the machine, and tests what is further and further from them.
@@ -230,7 +366,7 @@ pub(crate) fn sweep_all(
     ensures cause { IsErrOf result RigFail.Failed → Rose (rig_state rig.old).failures (rig_state rig.new).failures }
 {
     pin_turn(rig, facts, known, bad, field, state)?;
-    sweep_twice(rig, facts, known, bad, field, state)
+    sweep_rest(rig, facts, known, bad, field, state)
 }
 
 // Whether all pins of the machine are known.
@@ -282,12 +418,11 @@ fn first_turns(
     ensures advances { Advances (rig_state rig.old) (rig_state rig.new) facts.old facts.new }
     ensures cause { IsErrOf result RigFail.Failed → Rose (rig_state rig.old).failures (rig_state rig.new).failures }
 {
-    let Ok(()) = state.chooser.hint(&mut state.search) else {
+    pins_left(rig, facts, known, bad, field, state)?;
+    let Ok(()) = state.chooser.hint(&mut state.search, &bad.unfit) else {
         return Err(RigFail::Memory);
     };
-    pins_left(rig, facts, known, bad, field, state)?;
-    state.height = FIRST_HEIGHT;
-    hang_height(rig, facts, known, bad, field, state)
+    hang_wanted(rig, facts, known, bad, field, state)
 }
 
 /// The same behind a choice: first the wires for which others gave way.
@@ -307,5 +442,5 @@ pub(crate) fn sweep_chosen(
     ensures cause { IsErrOf result RigFail.Failed → Rose (rig_state rig.old).failures (rig_state rig.new).failures }
 {
     first_turns(rig, facts, known, bad, field, state)?;
-    sweep_twice(rig, facts, known, bad, field, state)
+    sweep_rest(rig, facts, known, bad, field, state)
 }

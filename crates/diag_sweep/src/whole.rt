@@ -63,8 +63,8 @@ pub fn sweep(
         search,
         chooser,
         aim: Aim::Rest,
-        height: 0,
-        start: 0,
+        on_any: false,
+        depth: 0,
     };
     sweep_sheet(
         rig,

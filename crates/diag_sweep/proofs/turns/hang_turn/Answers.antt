@@ -12,3 +12,9 @@ returns-clause-goes g c =
     let tested = c.hang_load.ensures.goes in
     let settled = goes_then tested (goes_settled tested.hand c.settle_hangs.ensures) in
     goes_then settled (goes_learnt settled.hand c.learn_hangs.ensures.known c.learn_hangs.ensures.grows)
+
+pub returns-in_default-note_hangs-clause-goes : goal.returns-in_default-note_hangs-clause-goes
+returns-in_default-note_hangs-clause-goes g c =
+    let tested = c.hang_load.ensures.goes in
+    let settled = goes_then tested (goes_settled tested.hand c.settle_hangs.ensures) in
+    goes_then settled (goes_learnt settled.hand c.learn_hangs.ensures.known c.learn_hangs.ensures.grows)

@@ -6,3 +6,6 @@ returns-in_default-clause-goes g c = goes_then c.pin_load.ensures.goes (goes_lea
 
 pub returns-clause-goes : goal.returns-clause-goes
 returns-clause-goes g c = goes_then c.pin_load.ensures.goes (goes_learnt c.pin_load.ensures.goes.hand c.learn_pins.ensures.known c.learn_pins.ensures.grows)
+
+pub returns-in_default-note_known-clause-goes : goal.returns-in_default-note_known-clause-goes
+returns-in_default-note_known-clause-goes g c = goes_then c.pin_load.ensures.goes (goes_learnt c.pin_load.ensures.goes.hand c.learn_pins.ensures.known c.learn_pins.ensures.grows)

@@ -1,5 +1,0 @@
-use Rattle.diag_evidence.specs.Forests.{KeepsForest}
-use Rattle.diag_sweep.proofs.trees.lay_rest.Given as goal
-
-abbrev pub invariant-places : goal.invariant-places
-invariant-places l = KeepsForest l.facts l.forest

@@ -1,5 +1,0 @@
-use Rattle.diag_sweep.proofs.Going.{goes_on}
-use Rattle.diag_sweep.proofs.turns.sweep_twice.Goals as goal
-
-pub returns-clause-goes : goal.returns-clause-goes
-returns-clause-goes g c = goes_on c.sweep_pass.ensures.goes c.sweep_pass-2.ensures.advances c.sweep_pass-2.ensures.goes
