@@ -85,11 +85,6 @@ impl Board {
         self.mark(c) == Mark::Undecided
     }
 
-    /// Whether a pin of the machine isn't known.
-    pub(crate) fn wants_pins(&self) -> bool {
-        self.known_pins < self.pins
-    }
-
     /// How many pins of the machine are known.
     pub(crate) fn known_pins(&self) -> u32 {
         self.known_pins

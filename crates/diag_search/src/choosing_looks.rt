@@ -51,6 +51,28 @@ impl Stays {
     }
 }
 
+/// A look as it is laid: what hangs, at which values pins stay then, and how many wires couldn't hang.
+#[derive(Drop)]
+struct Look {
+    feet: Vec<(Wire, Cross)>,
+    stays: Stays,
+    fails: u32,
+}
+
+impl Look {
+    // Nothing hangs.
+    fn new(alloc: Global) -> Look {
+        Look {
+            feet: Vec::new(alloc),
+            stays: Stays {
+                low: false,
+                high: false,
+            },
+            fails: 0,
+        }
+    }
+}
+
 impl Search {
     // Whether a wire that isn't known may hang over a link in a look.
     fn may_tie(&self, link: Support) -> bool {
@@ -108,8 +130,8 @@ impl Chooser {
         Ok(())
     }
 
-    // Begins a round, in which each wire is looked at once. For a choice the forest is another one then. False where no wire is to be looked
-    // at any more, or the last round has told nothing.
+    // Begins a round, in which each wire is looked at once. For a choice the forest is another one then. False where no wire is to be
+    // looked at any more, or the last round has told nothing.
     fn begin_round(&mut self, search: &mut Search, unfit: &BitSet) -> Result<bool, AllocError> {
         if self.rounds >= self.most_looks() {
             return Ok(false);
@@ -147,47 +169,48 @@ impl Chooser {
         }
     }
 
-    // Hangs wires of the round for the next look.
-    fn fill_look(
+    // Hangs a wire in the next look, if it is to be looked at and can be.
+    fn try_due(
         &mut self,
         search: &mut Search,
         unfit: &BitSet,
-    ) -> Result<Vec<(Wire, Cross)>, AllocError> {
-        let most = self.most_wires(search.board.pins());
-        let mut feet = Vec::new(self.alloc);
-        let mut stays = Stays {
-            low: false,
-            high: false,
+        look: &mut Look,
+        w: Wire,
+    ) -> Result<(), AllocError> {
+        if !self.is_due(search, unfit, w) {
+            return Ok(());
+        }
+        let still = self.still_of(w);
+        if !look.stays.has_room(still) {
+            self.later.push(w)?;
+            return Ok(());
+        }
+        let Some(link) = search.tie(w) else {
+            look.fails = look.fails.saturating_add(1);
+            return Ok(());
         };
-        let mut fails: u32 = 0;
+        search.board.occupy(search.forest.tree(link.wire));
+        look.stays.add(still);
+        look.feet.push((w, link.cross))?;
+        Ok(())
+    }
+
+    // Hangs wires of the round for the next look.
+    fn fill_look(&mut self, search: &mut Search, unfit: &BitSet) -> Result<Look, AllocError> {
+        let most = self.most_wires(search.board.pins());
+        let mut look = Look::new(self.alloc);
         search.board.begin();
         self.take_later(self.alloc);
         'wires: for _wire in 0..self.due.len() {
-            if feet.len() >= most || fails >= MOST_FAILS {
+            if look.feet.len() >= most || look.fails >= MOST_FAILS {
                 break;
             }
             let Some(w) = self.next_due() else {
                 break;
             };
-            if !self.is_due(search, unfit, w) {
-                continue;
-            }
-            if !stays.has_room(self.still_of(w)) {
-                self.later.push(w)?;
-                continue;
-            }
-            match search.tie(w) {
-                Some(link) => {
-                    search.board.occupy(search.forest.tree(link.wire));
-                    stays.add(self.still_of(w));
-                    feet.push((w, link.cross))?;
-                }
-                None => {
-                    fails = fails.saturating_add(1);
-                }
-            }
+            self.try_due(search, unfit, &mut look, w)?;
         }
-        Ok(feet)
+        Ok(look)
     }
 
     // Wires that hang in the next look. There are none where none is to be looked at, or none can.
@@ -197,9 +220,9 @@ impl Chooser {
         unfit: &BitSet,
     ) -> Result<Vec<(Wire, Cross)>, AllocError> {
         'rounds: for _round in 0..MOST_ROUNDS {
-            let feet = self.fill_look(search, unfit)?;
-            if !feet.is_empty() {
-                return Ok(feet);
+            let look = self.fill_look(search, unfit)?;
+            if !look.feet.is_empty() {
+                return Ok(look.feet);
             }
             let ended = self.at >= self.due.len() && self.later.is_empty();
             if ended && !self.begin_round(search, unfit)? {

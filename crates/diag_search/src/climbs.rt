@@ -4,7 +4,7 @@ use crate::feet::Support;
 use crate::search::Search;
 use crate::walk::Walk;
 use machine_shape::{Cross, Wire};
-use std::alloc::{AllocError, Global};
+use std::alloc::AllocError;
 
 /// How many steps a climb may try.
 const MOST_STEPS: u32 = 48;

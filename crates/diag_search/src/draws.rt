@@ -22,22 +22,14 @@ impl Draws {
         self.numbers.step() >> 33
     }
 
-    /// A number of 16 bits.
-    pub(crate) fn draw_short(&mut self) -> u64 {
-        self.next() & 65_535
-    }
-
     /// A number below the count, or 0 where that is 0.
     pub(crate) fn draw_below(&mut self, count: usize) -> usize {
-        self.numbers.below(count)
+        self.numbers.portion(count)
     }
 
     /// A number below the count, or 0 where that is 0.
     pub(crate) fn draw_under(&mut self, count: u32) -> u32 {
-        if count == 0 {
-            return 0;
-        }
-        self.numbers.draw(count)
+        u32::try_from(self.numbers.portion(count as usize)).unwrap_or(0)
     }
 
     /// One of two, each as often.

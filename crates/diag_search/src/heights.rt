@@ -228,13 +228,19 @@ impl Heights {
         Ok(())
     }
 
-    // The wires of each height.
-    fn add_levels(&mut self, alloc: Global, wires: u32) -> Result<(), AllocError> {
+    // Takes room for the wires of each height.
+    fn open_levels(&mut self, alloc: Global) -> Result<(), AllocError> {
         'heights: for _height in 0..HEIGHTS {
             self.levels.push(Level {
                 wires: Vec::new(alloc),
             })?;
         }
+        Ok(())
+    }
+
+    // The wires of each height.
+    fn add_levels(&mut self, alloc: Global, wires: u32) -> Result<(), AllocError> {
+        self.open_levels(alloc)?;
         'wires: for w in 0..wires {
             let height = self.height(Wire(w));
             if height < self.levels.len() {

@@ -3,7 +3,8 @@
 //! It chooses wires that hang on two crosspoints, walks over crosspoints that aren't decided, tables, looks, and known wires that give way
 //! for pins of tables. It makes no test and learns nothing by itself: which crosspoints are kept or stuck, which wires are known and which
 //! tables are left it is told (`Search::mark`, `Search::learn`, `Search::note_kept`, `Chooser::push_known`). Nothing rests on what it
-//! chooses, so it promises nothing but that no call fails otherwise than for lack of memory: who makes the tests looks at each of them first.
+//! chooses, so it promises nothing but that no call fails otherwise than for lack of memory: who makes the tests looks at each of them
+//! first.
 //!
 //! What stands where:
 //!

@@ -6,7 +6,7 @@ use crate::landings::Ends;
 use crate::search::Search;
 use crate::walk::Walk;
 use machine_shape::{Cross, Wire};
-use std::alloc::{AllocError, Global};
+use std::alloc::AllocError;
 
 /// The most crosspoints that are tried on one walk.
 pub(crate) const MOST_TRIED: u64 = 400;

@@ -3,7 +3,7 @@ ghost use Rattle.std.specs.Prelude.{◌≡◌, ◌<◌, [], true, Some, All, IfO
 ghost use Rattle.base_io.specs.Counts.{Rose};
 ghost use Rattle.base_bits.specs.Numbers.{has_number};
 ghost use Rattle.rig.specs.Rig.{shape_of};
-ghost use Rattle.diag_evidence.specs.Vocabulary.{KeepsForest, AreFeet, Advances};
+ghost use Rattle.diag_evidence.specs.Vocabulary.{AreFeet, Advances};
 ghost use Rattle.diag_known.specs.Known.{IsKnown};
 ghost use Rattle.diag_sweep.specs.Stages.{Goes, IsHand, in_hand};
 ghost use Rattle.diag_sweep.specs.Views.{CanTell};
