@@ -17,10 +17,15 @@ const MOST_WIRES: u32 = 65_536;
 /// How often a wire is drawn that follows over a kept crosspoint.
 const KEPT_DRAWS: u32 = 12;
 
-/// How often a beginning is drawn in a crossbar, and how many of these draws are ports of its node.
-const BEGIN_DRAWS: u32 = 4;
+/// How often a beginning is drawn in a crossbar. The first draws are ports of its node, and so are the last, from which two crosspoints at
+/// least are tried: a wire without a kept crosspoint to a port is gone through by two that aren't decided, or not at all.
+const BEGIN_DRAWS: u32 = 8;
 
 const PORT_BEGINS: u32 = 2;
+
+const LONG_BEGINS: u32 = 4;
+
+const LEAST_LONG: u64 = 2;
 
 /// How often a stretch is taken back for a wire from which a climb succeeds.
 const MOST_ENDS: u32 = 6;
@@ -154,9 +159,8 @@ impl Search {
         (decided.saturating_mul(7) / found.saturating_mul(10).max(1)).clamp(1, MOST_TRIED)
     }
 
-    // Lays a stretch through a crossbar from a wire on. Its wires are used then.
-    fn lay_stretch(&mut self, node: u32, from: Wire) -> Result<Walk, AllocError> {
-        let limit = self.limit();
+    // Lays a stretch through a crossbar from a wire on, over so many crosspoints that are tried. Its wires are used then.
+    fn lay_stretch(&mut self, node: u32, from: Wire, limit: u64) -> Result<Walk, AllocError> {
         let mut tried: u64 = 0;
         let mut stretch = Walk::new(self.alloc);
         stretch.wires.push(from)?;
@@ -213,7 +217,7 @@ impl Search {
     // A wire of a crossbar where a stretch may begin: at first a port of the node, and in a young crossbar always.
     fn beginning(&mut self, node: u32, draw: u32) -> Option<Wire> {
         let young = self.pools.is_young(node);
-        if young || draw < PORT_BEGINS {
+        if young || draw < PORT_BEGINS || draw >= LONG_BEGINS {
             if let Some(port) = self.port_beginning(node) {
                 return Some(port);
             }
@@ -230,13 +234,14 @@ impl Search {
         node: u32,
         from: Wire,
         ends: Ends,
+        limit: u64,
     ) -> Result<Option<Course>, AllocError> {
         self.board.take(from);
         let Some(near) = self.climb(node, from, ends.near) else {
             self.board.release(from);
             return Ok(None);
         };
-        let mut stretch = self.lay_stretch(node, from)?;
+        let mut stretch = self.lay_stretch(node, from, limit)?;
         match self.end_stretch(node, &mut stretch, ends.far) {
             Some(far) => Ok(Some(Course { near, stretch, far })),
             None => {
@@ -250,14 +255,16 @@ impl Search {
 
     // Lays a walk through a crossbar between these ends, if it can.
     fn lay_between(&mut self, node: u32, ends: Ends) -> Result<Option<Course>, AllocError> {
+        let limit = self.limit();
         'draws: for draw in 0..BEGIN_DRAWS {
+            let long = if draw < LONG_BEGINS { 0 } else { LEAST_LONG };
             let Some(from) = self.beginning(node, draw) else {
                 continue;
             };
             if self.board.is_used(from) {
                 continue;
             }
-            if let Some(course) = self.lay_from(node, from, ends)? {
+            if let Some(course) = self.lay_from(node, from, ends, limit.max(long))? {
                 return Ok(Some(course));
             }
         }
