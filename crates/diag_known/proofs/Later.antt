@@ -1,10 +1,11 @@
 -- Known wires stay known, and one more is known.
-use Rattle.std.proofs.Common.{◌≡◌, ◌⊎◌, ℕ, ◌+◌, ◌<◌, Some, List, [], ◌∷◌, ◌++◌, length, sym, ◌∙◌, subst, inl, inr, arith, slice_get}
+use Rattle.std.proofs.Common.{◌≡◌, ◌⊎◌, ℕ, ◌+◌, ◌<◌, Some, List, [], ◌∷◌, ◌++◌, length, refl, sym, ap, ◌∙◌, subst, true, inl, inr, arith, slice_get}
 use Rattle.std.proofs.lemmas.Option.{slice_get_within}
 use Rattle.machine_shape.specs.declared.Shape.{Shape}
 use Rattle.machine_shape.specs.Shape.{Ends, ends_of, pin_wire, pins_of, crosses_of}
-use Rattle.diag_evidence.specs.Kept.{Kept, IsMore}
-use Rattle.diag_known.specs.Vocabulary.{KnownWires, IsBefore, IsFoot, Stands, on_pin, on_feet, IsKnownStep, IsKnown, IsGood, IsWay, AreWays}
+use Rattle.diag_evidence.specs.Kept.{Kept, is_apart, IsMore}
+use Rattle.diag_evidence.proofs.KeptLemmas.{pair_apart, pair_differs}
+use Rattle.diag_known.specs.Vocabulary.{KnownWires, HasWire, IsBefore, IsFoot, Stands, on_pin, on_feet, IsKnownStep, IsKnown, IsGood, IsWay, AreWays}
 use Rattle.diag_known.specs.declared.verified_wire.Support.{Support}
 use Rattle.diag_known.specs.declared.verified_wire.SupportedBy.{SupportedBy}
 use Rattle.diag_known.specs.declared.verified_wire.VerifiedWire.{VerifiedWire}
@@ -26,9 +27,11 @@ stands_later more (on_feet f g differ) = on_feet (foot_later more f) (foot_later
 pub known_later : {k l : Kept} {known : KnownWires} → IsMore k l → IsKnown k known → IsKnown l known
 known_later {k} {l} {known} more is = record {
   shape = is.shape ∙ sym more.shape;
+  of_set = λ w has. more.apart w (is.of_set w has);
   steps = λ i s here. let step = is.steps i s here in record {
     kept = more.wires s.wire.0 step.kept;
-    apart = λ u before. more.pairs u s.wire.0 (step.apart u before);
+    apart = λ u before. pair_apart l u s.wire.0 (pair_differs k u s.wire.0 (step.apart u before)) (more.apart u (is.of_set u (before_has before)))
+        (more.apart s.wire.0 (is.of_set s.wire.0 (record { place = i; at = record { step = s; here = here; wire = refl } })));
     stands = stands_later more step.stands;
   };
 }
@@ -52,9 +55,17 @@ pub learnt : {k : Kept} {known new : KnownWires} {s : VerifiedWire} → IsKnown 
     new.shape ≡ known.shape → new.steps ≡ known.steps ++ s ∷ [] → IsKnown k new
 learnt {k} {known} {new} {s} is good stands shape steps = record {
   shape = shape ∙ is.shape;
+  of_set = λ w has. of_set w (subst (λ ss. HasWire ss w) steps has);
   steps = λ i t here. subst (λ ss. IsKnownStep k ss i t) (sym steps) (by_place i t (get_pushed known.steps s i t (subst (λ ss. slice_get ss i ≡ Some t) steps here)));
 }
   where
+    of_set : (w : ℕ) → HasWire (known.steps ++ s ∷ []) w → is_apart k w ≡ true
+    of_set w has = by (get_pushed known.steps s has.place has.at.step has.at.here)
+      where
+        by : (slice_get known.steps has.place ≡ Some has.at.step) ⊎ ((has.place ≡ length known.steps) × (s ≡ has.at.step)) → is_apart k w ≡ true
+        by (inl here) = is.of_set w (record { place = has.place; at = record { step = has.at.step; here = here; wire = has.at.wire } })
+        by (inr last) = subst (λ v. is_apart k v ≡ true) (ap (λ (t : VerifiedWire). t.wire.0) last.1 ∙ has.at.wire) good.of_set
+
     by_place : (i : ℕ) (t : VerifiedWire) → (slice_get known.steps i ≡ Some t) ⊎ ((i ≡ length known.steps) × (s ≡ t)) → IsKnownStep k (known.steps ++ s ∷ []) i t
     by_place i t (inl h) = let step = is.steps i t h in let low = slice_get_within known.steps i t h in record {
       kept = step.kept;
