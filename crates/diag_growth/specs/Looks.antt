@@ -5,7 +5,7 @@ use Rattle.machine_meaning.specs.Faults.{Faults}
 use Rattle.machine_shape.specs.declared.Shape.{Shape}
 use Rattle.machine_shape.specs.Shape.{Ends, ends_of, crosses_of}
 use Rattle.diag_evidence.specs.Kept.{Kept}
-use Rattle.diag_known.specs.Vocabulary.{Links, list_at, KnownWires, IsKnown, IsAt, IsBefore, HasWire, AreMarks, AreMarksOver}
+use Rattle.diag_known.specs.Vocabulary.{Links, list_at, KnownWires, IsKnown, KnowsAll, IsAt, IsBefore, HasWire, AreMarks, AreMarksOver}
 use Rattle.diag_known.specs.Vocabulary.{IsOffer, IsPlaced, AreLost, IsKeptUnlessStuck, IsTried}
 use Rattle.diag_known.specs.declared.links.Near.{Near}
 use Rattle.diag_growth.specs.declared.look.Look.{Look}
@@ -64,9 +64,10 @@ pub record StayBarred (old new : List Bool) : Type 0 where
 pub record AreTried (told : Option Faults) (k : Kept) (ss : List VerifiedWire) (old new : List Bool) : Type 0 where
   pub tried : (w : ℕ) → has_number new w ≡ true → (has_number old w ≡ true) ⊎ IsTried told k ss w
 
--- Further wires are known, none of which was barred.
+-- Further wires are known, none of which was barred, and all wires of the set are.
 pub record Grows (k : Kept) (old new : KnownWires) (barred now : List Bool) : Type 0 where
   pub known : IsKnown k new
+  pub all : KnowsAll k new.steps
   pub shape : new.shape ≡ old.shape
   pub more : List VerifiedWire
   pub steps : new.steps ≡ old.steps ++ more
