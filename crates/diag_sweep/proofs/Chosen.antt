@@ -64,12 +64,15 @@ module _ {ss : List VerifiedWire} where
 -- Without the marks of unfit wires they are true of whatever is known.
 pub true_of_any : {k : Kept} {ss ts : List VerifiedWire} {b : DefectMarks} (unfit : List Bool) (n : ℕ) → unfit ≡ replicate n false → (told : Option Faults) → TrueIf told k ss b → TrueIf told k ts (record b { unfit = unfit })
 true_of_any {k} {ss} {ts} {b} unfit n none told t = record {
-  at = λ f e h. let old = t.at f e h in record {
-    stuck = old.stuck;
-    unfit = λ w on clear alone. absurd (false≢true (sym (none_on n w) ∙ subst (λ (s : List Bool). has_number s w ≡ true) none on));
-    unclear = old.unclear;
-    wrong = old.wrong;
-  };
+  at = λ f e. let old = t.at f e in (
+    old.0,
+    record {
+      stuck = old.1.stuck;
+      unfit = λ w on clear alone. absurd (false≢true (sym (none_on n w) ∙ subst (λ (s : List Bool). has_number s w ≡ true) none on));
+      unclear = old.1.unclear;
+      wrong = old.1.wrong;
+    },
+  );
 }
 
 pub marks_cleared : {m : Shape} {b : DefectMarks} (unfit : List Bool) → length unfit ≡ length b.unfit → AreMarksFor m b → AreMarksFor m (record b { unfit = unfit })

@@ -125,6 +125,6 @@ goes_learnt {now} {a} {tables} {k} {old} {new} {bad} {budget} {loads} hand known
   hand = record { known = known; field = hand.field; marks = hand.marks; budget = hand.budget };
   grows = grows;
   marks = marks_itself a tables bad;
-  holds = λ f e t. true_later (more_itself k) grows.stays t;
+  holds = λ f e t. true_later (more_itself k) (λ g is h. h) grows.stays t;
   funded = λ limit f. record { paid = f.paid; within = f.within; whole = f.whole };
 }

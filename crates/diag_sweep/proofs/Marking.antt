@@ -6,7 +6,6 @@ use Rattle.machine_shape.specs.declared.Table.{Table}
 use Rattle.machine_meaning.specs.Faults.{Faults}
 use Rattle.machine_shape.specs.Shape.{wires_of, crosses_of, tables_of}
 use Rattle.diag_evidence.specs.Kept.{Kept, IsMore, HoldsFor}
-use Rattle.diag_evidence.proofs.Keeping.{holds_earlier}
 use Rattle.diag_known.specs.Known.{HasWire}
 use Rattle.diag_known.specs.declared.field.Field.{Field}
 use Rattle.diag_known.specs.declared.verified_wire.VerifiedWire.{VerifiedWire}
@@ -38,8 +37,8 @@ marks_for same are in_ = record {
 }
 
 -- more is kept and more is known: the same marks stay true
-pub true_later : {told : Option Faults} {k l : Kept} {ss ts : List VerifiedWire} {b : DefectMarks} → IsMore k l → ((w : ℕ) → HasWire ss w → HasWire ts w) → TrueIf told k ss b → TrueIf told l ts b
-true_later {told} {k} {l} {ss} {ts} {b} more known t = record { at = λ f e h. subst (λ (m : Shape). AreTrueMarks m f (HasWire ts) b) (sym more.shape) (at f (t.at f e (holds_earlier more h))) }
+pub true_later : {told : Option Faults} {k l : Kept} {ss ts : List VerifiedWire} {b : DefectMarks} → IsMore k l → ((f : Faults) → told ≡ Some f → HoldsFor k f → HoldsFor l f) → ((w : ℕ) → HasWire ss w → HasWire ts w) → TrueIf told k ss b → TrueIf told l ts b
+true_later {told} {k} {l} {ss} {ts} {b} more explained known t = record { at = λ f e. (explained f e (t.at f e).0, subst (λ (m : Shape). AreTrueMarks m f (HasWire ts) b) (sym more.shape) (at f (t.at f e).1)) }
   where
     at : (f : Faults) → AreTrueMarks k.shape f (HasWire ss) b → AreTrueMarks k.shape f (HasWire ts) b
     at f old = record {

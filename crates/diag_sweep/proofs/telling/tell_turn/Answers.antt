@@ -11,7 +11,7 @@ returns-clause-goes g c =
     let can = of_some (CanTell c.args.facts.now c.args.known.now.steps c.args.field.now) c.in-Ok.found c.in-Some.view c.in-Some.is c.in-Ok.ensures in
     let test = c.screen_wires.ensures in
     let of = rw (← c.as_slice-feet.ensures.value) at can.field in
-    hang_goes 1 c.requires.hand (c.if-not-can_pay.ensures refl) test.loads test.advances.more
+    hang_goes 1 c.requires.hand (c.if-not-can_pay.ensures refl) test.loads test.advances.more test.advances.explained
     (told_unfit c.args.field.now _ _ _ _ _ _ _ c.screen_wires.result of test.marks test.stay test.marked test.unmarked)
     (told_unclear c.args.field.now _ _ _ _ _ _ _ c.screen_wires.result of test.marks_too test.stay_too test.marked test.unmarked_too)
     (λ f e. test.unfit_each f e (is_step c.args.known.now.steps) (λ w on. step_has c.args.known.now.steps w (can.known w on)))
@@ -22,7 +22,7 @@ returns-in_err-screen_wires-clause-goes g c =
     let can = of_some (CanTell c.args.facts.now c.args.known.now.steps c.args.field.now) c.in-Ok.found c.in-Some.view c.in-Some.is c.in-Ok.ensures in
     let test = c.screen_wires.ensures in
     let of = rw (← c.as_slice-feet.ensures.value) at can.field in
-    hang_goes 1 c.requires.hand (c.if-not-can_pay.ensures refl) test.loads test.advances.more
+    hang_goes 1 c.requires.hand (c.if-not-can_pay.ensures refl) test.loads test.advances.more test.advances.explained
     (told_unfit c.args.field.now _ _ _ _ _ _ _ c.screen_wires.result of test.marks test.stay test.marked test.unmarked)
     (told_unclear c.args.field.now _ _ _ _ _ _ _ c.screen_wires.result of test.marks_too test.stay_too test.marked test.unmarked_too)
     (λ f e. test.unfit_each f e (is_step c.args.known.now.steps) (λ w on. step_has c.args.known.now.steps w (can.known w on)))
