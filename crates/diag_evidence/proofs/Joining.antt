@@ -76,7 +76,7 @@ turned_at : (hs : List WireTest) (i : ℕ) → i < length hs → get_or (map tur
 turned_at hs i below = get_or-map turned hs i some_hang some_hang below
 
 first_foot : (hs : List WireTest) (i : ℕ) → i < length hs → get_or (all_feet hs) i some_foot ≡ over_of (get_or hs i some_hang)
-first_foot hs i below = get_or_append_left (overs hs) (others hs) i some_foot (let e = count_overs hs in omega (arith, below, e)) ∙ get_or-map over_of hs i some_hang some_foot below
+first_foot hs i below = get_or_append_left (overs hs) (others hs) some_foot i (let e = count_overs hs in omega (arith, below, e)) ∙ get_or-map over_of hs i some_hang some_foot below
 
 second_foot : (hs : List WireTest) (i : ℕ) → i < length hs → get_or (all_feet hs) (length (overs hs) + i) some_foot ≡ over_of (turned (get_or hs i some_hang))
 second_foot hs i below = get_or-append-add (overs hs) (others hs) i some_foot ∙ get_or-map over_of (map turned hs) i some_hang some_foot (let e = count_turned hs in omega (arith, below, e)) ∙ ap over_of (turned_at hs i below)

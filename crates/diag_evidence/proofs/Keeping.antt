@@ -5,7 +5,7 @@ use Rattle.std.proofs.lemmas.Bool.Decides.{nat_tests}
 use Rattle.base_bits.specs.Numbers.{has_number}
 use Rattle.machine_meaning.specs.Vocabulary.{IsClear, Shorted, Faults, stuck_cross, wrong_cell, stuck_register}
 use Rattle.rig.specs.Rig.{RigState}
-use Rattle.diag_evidence.specs.Kept.{Kept, keeps_cross, keeps_wire, is_apart, on_trial, in_row, keeps_pair, keeps_cell, keeps_register, untried, HoldsFor, HoldsUntried, KeepsNothing, IsMore, Gain, Gains, KeepsTrial, Advances, CanSettle, HasSettled, HasRetaken, with_trial}
+use Rattle.diag_evidence.specs.Kept.{Kept, keeps_cross, keeps_wire, is_apart, on_trial, in_row, keeps_pair, keeps_cell, keeps_register, untried, HoldsFor, HoldsUntried, KeepsNothing, IsMore, Gain, Gains, KeepsTrial, Advances, AdvancesButPairs, IsButPairs, CanSettle, HasSettled, HasRetaken, with_trial}
 use Rattle.diag_evidence.proofs.KeptLemmas.{more_itself, IsPair, of_set, of_row, of_other, pair_of, pair_is, pair_differs, pair_apart, has_apart, mark_set, tried_is, tried_only, tried_none, same_trial, no_mark}
 
 pub more_then : {k l n : Kept} → IsMore k l → IsMore l n → IsMore k n
@@ -206,14 +206,14 @@ module _ (k : Kept) (w : ℕ) where
   begun_holds f h = record { crosses = h.crosses; wires = h.wires; pairs = λ a b is. h.pairs a b (begun_pair a b is); cells = h.cells; registers = h.registers }
 
 -- .. under another name
-pub more_begun : {k l : Kept} (w : ℕ) → l ≡ with_trial k w → IsMore k l
-more_begun {k} w e = subst (λ (n : Kept). IsMore k n) (sym e) (begun_more k w)
+pub more_begun : (k : Kept) {l : Kept} (w : ℕ) → l ≡ with_trial k w → IsMore k l
+more_begun k w e = subst (λ (n : Kept). IsMore k n) (sym e) (begun_more k w)
 
-pub begun_apart : {k l : Kept} {w : ℕ} → l ≡ with_trial k w → (u : ℕ) → is_apart l u ≡ is_apart k u
-begun_apart {k} {w = w} e u = ap (λ (n : Kept). is_apart n u) e ∙ begun_set k w u
+pub begun_apart : (k : Kept) {l : Kept} {w : ℕ} → l ≡ with_trial k w → (u : ℕ) → is_apart l u ≡ is_apart k u
+begun_apart k {w = w} e u = ap (λ (n : Kept). is_apart n u) e ∙ begun_set k w u
 
-pub holds_begun : {k l : Kept} (w : ℕ) → l ≡ with_trial k w → (f : Faults) → HoldsFor k f → HoldsFor l f
-holds_begun {k} w e f h = subst (λ (n : Kept). HoldsFor n f) (sym e) (begun_holds k w f h)
+pub holds_begun : (k : Kept) {l : Kept} (w : ℕ) → l ≡ with_trial k w → (f : Faults) → HoldsFor k f → HoldsFor l f
+holds_begun k w e f h = subst (λ (n : Kept). HoldsFor n f) (sym e) (begun_holds k w f h)
 
 -- The wire on trial comes into the set.
 module _ {k l : Kept} (s : HasSettled k l) where
@@ -323,11 +323,11 @@ module _ {k l : Kept} {wires : List Bool} (r : HasRetaken wires k l) where
       by (of_row p q) = absurd (false≢true (sym (tried_none l a none) ∙ p))
       by (of_other p q) = absurd (false≢true (sym (tried_none l b none) ∙ p))
 
-  retaken_cross : (x : ℕ) → keeps_cross l x ≡ keeps_cross k x
+  pub retaken_cross : (x : ℕ) → keeps_cross l x ≡ keeps_cross k x
   unfolding keeps_cross
   retaken_cross x = ap (λ (n : Kept). has_number n.crosses x) r.is
 
-  retaken_wire : (w : ℕ) → keeps_wire l w ≡ keeps_wire k w
+  pub retaken_wire : (w : ℕ) → keeps_wire l w ≡ keeps_wire k w
   unfolding keeps_wire
   retaken_wire w = ap (λ (n : Kept). has_number n.wires w) r.is
 
@@ -351,16 +351,83 @@ module _ {k l : Kept} {wires : List Bool} (r : HasRetaken wires k l) where
     registers = λ t is. h.registers t (sym (retaken_register t) ∙ is);
   }
 
-  -- where the wires that were of the set are among these, all that was kept stays so
-  pub more_retaken : ((w : ℕ) → is_apart k w ≡ true → has_number wires w ≡ true) → IsMore k l
-  more_retaken all = record {
-    shape = retaken_shape;
-    crosses = λ x is. retaken_cross x ∙ is;
-    wires = λ w is. retaken_wire w ∙ is;
-    apart = λ w is. r.apart w ∙ and_true (has_number wires w) (is_apart k w) (all w is) is;
-    cells = λ t a is. retaken_cell t a ∙ is;
-    registers = λ t is. retaken_register t ∙ is;
+  -- what was kept earlier stays so, where the wires that were of the set then are among these
+  pub retaken_still : {j : Kept} → IsMore j k → ((w : ℕ) → is_apart j w ≡ true → has_number wires w ≡ true) → IsMore j l
+  retaken_still more all = record {
+    shape = retaken_shape ∙ more.shape;
+    crosses = λ x is. retaken_cross x ∙ more.crosses x is;
+    wires = λ w is. retaken_wire w ∙ more.wires w is;
+    apart = λ w is. r.apart w ∙ and_true (has_number wires w) (is_apart k w) (all w is) (more.apart w is);
+    cells = λ t a is. retaken_cell t a ∙ more.cells t a is;
+    registers = λ t is. retaken_register t ∙ more.registers t is;
   }
     where
       and_true : (x y : Bool) → x ≡ true → y ≡ true → (x && y) ≡ true
       and_true x y e f = rw (e, f) refl
+
+  -- where the wires that were of the set are among these, all that was kept stays so
+  pub more_retaken : ((w : ℕ) → is_apart k w ≡ true → has_number wires w ≡ true) → IsMore k l
+  more_retaken all = retaken_still (more_itself k) all
+
+-- What stays but for pairs.
+module _ {k l : Kept} (is : IsButPairs k l) where
+  pub but_shape : l.shape ≡ k.shape
+  but_shape = ap (λ (n : Kept). n.shape) is
+
+  pub but_cross : (x : ℕ) → keeps_cross l x ≡ keeps_cross k x
+  unfolding keeps_cross
+  but_cross x = ap (λ (n : Kept). has_number n.crosses x) is
+
+  pub but_wire : (w : ℕ) → keeps_wire l w ≡ keeps_wire k w
+  unfolding keeps_wire
+  but_wire w = ap (λ (n : Kept). has_number n.wires w) is
+
+  but_cell : (t a : ℕ) → keeps_cell l t a ≡ keeps_cell k t a
+  unfolding keeps_cell
+  but_cell t a = ap (λ (n : Kept). nat_lt a 64 && has_number n.cells (64 * t + a)) is
+
+  but_register : (t : ℕ) → keeps_register l t ≡ keeps_register k t
+  unfolding keeps_register
+  but_register t = ap (λ (n : Kept). has_number n.registers t) is
+
+  -- calls, and then such a change of which nothing is told that isn't true
+  pub advances_but : {r s : RigState} {j : Kept} → ((f : Faults) → HoldsFor k f → HoldsFor l f) → Advances r s j k → AdvancesButPairs r s j l
+  advances_but explained p = record {
+    machine = p.machine;
+    later = p.later;
+    counted = p.counted;
+    few = p.few;
+    shape = but_shape ∙ p.more.shape;
+    crosses = λ x on. but_cross x ∙ p.more.crosses x on;
+    wires = λ w on. but_wire w ∙ p.more.wires w on;
+    cells = λ t a on. but_cell t a ∙ p.more.cells t a on;
+    registers = λ t on. but_register t ∙ p.more.registers t on;
+    narrows = p.narrows;
+    tells = p.tells;
+    explained = λ f e h. explained f (p.explained f e h);
+  }
+
+pub advances_rest : {r s : RigState} {k l : Kept} → Advances r s k l → AdvancesButPairs r s k l
+advances_rest {k = k} {l = l} p = advances_but {k = l} {l = l} refl (λ f h. h) p
+
+pub rest_itself : (r : RigState) (k : Kept) → AdvancesButPairs r r k k
+rest_itself r k = advances_rest (advances_itself r k)
+
+pub rest_then : {a b c : RigState} {k l n : Kept} → AdvancesButPairs a b k l → AdvancesButPairs b c l n → AdvancesButPairs a c k n
+rest_then p q = record {
+  machine = q.machine ∙ p.machine;
+  later = omega (arith, p.later, q.later);
+  counted = omega (arith, p.counted, q.counted);
+  few = λ n k h. q.few n k (p.few n k h);
+  shape = q.shape ∙ p.shape;
+  crosses = λ x on. q.crosses x (p.crosses x on);
+  wires = λ w on. q.wires w (p.wires w on);
+  cells = λ t a on. q.cells t a (p.cells t a on);
+  registers = λ t on. q.registers t (p.registers t on);
+  narrows = λ f e. p.narrows f (q.narrows f e);
+  tells = λ t. q.tells (p.tells t);
+  explained = λ f e h. q.explained f e (p.explained f (q.narrows f e) h);
+}
+
+pub retaken_but : {k l : Kept} {wires : List Bool} → HasRetaken wires k l → IsButPairs k l
+retaken_but {k} {l} r = subst (λ (n : Kept). n ≡ record k { apart = n.apart; trial = n.trial }) (sym r.is) refl

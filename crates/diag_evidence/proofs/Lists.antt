@@ -157,7 +157,7 @@ pub loop_passes : (told : Option Faults) (k : Kept) (g : Configuration) (left ri
 loop_passes told k g left right ties x drive answer config on off lefts rights tied driven passes = record {
   at = λ f l r is h loop.
       let it = loop_of_lists f g left right ties x l r (turn (λ m. IsLoopConfig m left right ties g) config) (turn (λ m. IsRoute m left) on) (turn (λ m. IsRoute m right) off)
-      (λ y a. untried_crosses k {f} h y (lefts y a)) (λ y a. untried_crosses k {f} h y (rights y a)) tied (turn (λ m. IsLoopBy m f left right ties x l r) loop) in
+      (λ y a. untried_crosses k h y (lefts y a)) (λ y a. untried_crosses k h y (rights y a)) tied (turn (λ m. IsLoopBy m f left right ties x l r) loop) in
       passes.at f l r left.pin is it (driven_in g.shape drive left.pin l it.k_left driven);
 }
   where

@@ -210,6 +210,25 @@ pub record Advances (old new : RigState) (k l : Kept) : Type 0 where
   pub tells : Tells old new
   pub explained : (f : Faults) → Explains f new → HoldsFor k f → HoldsFor l f
 
+-- all is kept that was, and nothing else, but for pairs: wires may have left the set or joined it, and another may be on trial
+abbrev pub IsButPairs : Kept → Kept → Type 0
+IsButPairs old new = new ≡ record old { apart = new.apart; trial = new.trial }
+
+-- What calls leave that may have taken wires out of the set: what others do, but that pairs stay kept.
+pub record AdvancesButPairs (old new : RigState) (k l : Kept) : Type 0 where
+  pub machine : new.machine ≡ old.machine
+  pub later : old.failures ≤ new.failures
+  pub counted : old.loads ≤ new.loads
+  pub few : FewCycles old new
+  pub shape : l.shape ≡ k.shape
+  pub crosses : (x : ℕ) → keeps_cross k x ≡ true → keeps_cross l x ≡ true
+  pub wires : (w : ℕ) → keeps_wire k w ≡ true → keeps_wire l w ≡ true
+  pub cells : (t a : ℕ) → keeps_cell k t a ≡ true → keeps_cell l t a ≡ true
+  pub registers : (t : ℕ) → keeps_register k t ≡ true → keeps_register l t ≡ true
+  pub narrows : Narrows old new
+  pub tells : Tells old new
+  pub explained : (f : Faults) → Explains f new → HoldsFor k f → HoldsFor l f
+
 -- there is a mark for each number of the shape
 pub record AreMarksOf (k : Kept) : Type 0 where
   pub crosses : length k.crosses ≡ crosses_of k.shape

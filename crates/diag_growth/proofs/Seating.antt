@@ -141,8 +141,8 @@ module _ (k : Kept) (f : Faults) (holds : HoldsUntried k f) (s : Seat) (seat : I
   near_clear w h = by (near_cases w h)
     where
       by : (among (near_wires s) w ≡ true) ⊎ LowInput m t bits 6 w → IsClear m f w
-      by (inl g) = untried_wires k {f} holds w (seat.near_kept w g)
-      by (inr g) = untried_wires k {f} holds w (subst (λ v. keeps_wire k v ≡ true) g.is (seat.inputs g.place g.below))
+      by (inl g) = untried_wires k holds w (seat.near_kept w g)
+      by (inr g) = untried_wires k holds w (subst (λ v. keeps_wire k v ≡ true) g.is (seat.inputs g.place g.below))
 
   sides_apart : AreUnshorted m f near far
   sides_apart w u h on = by (near_cases w h)
@@ -158,7 +158,7 @@ module _ (k : Kept) (f : Faults) (holds : HoldsUntried k f) (s : Seat) (seat : I
 
   -- a kept tie
   tie : (y c a b : ℕ) → IsKeptBetween k c a b → IsSeatTie s bits 6 c → c ≡ y → (among ties y ≡ true) × (stuck_cross f y ≡ None)
-  tie y c a b kept is e = subst (λ z. (among ties z ≡ true) × (stuck_cross f z ≡ None)) e (tied.all c is, untried_crosses k {f} holds c kept.kept)
+  tie y c a b kept is e = subst (λ z. (among ties z ≡ true) × (stuck_cross f z ≡ None)) e (tied.all c is, untried_crosses k holds c kept.kept)
 
   output_tied : IsTied m f ties s.far.end (table_wire m t 6)
   output_tied = record {
@@ -188,14 +188,14 @@ module _ (k : Kept) (f : Faults) (holds : HoldsUntried k f) (s : Seat) (seat : I
     right_in = far_in;
     ties_in = λ y is. tie_in y (tied.only y is);
     left_clear = near_clear;
-    right_clear = λ w h. untried_wires k {f} holds w (seat.far_kept w h);
+    right_clear = λ w h. untried_wires k holds w (seat.far_kept w h);
     apart = sides_apart;
     output = output_tied;
   }
 
   -- an input whose bit is 1
   loose : (j : ℕ) → j < 6 → bits j ≡ true → IsLoose m f near far (table_wire m t j)
-  loose j h high = record { clear = untried_wires k {f} holds (table_wire m t j) (seat.inputs j h); off_left = off; off_right = λ u on. holds.pairs (table_wire m t j) u (seat.far_inputs j u h on) }
+  loose j h high = record { clear = untried_wires k holds (table_wire m t j) (seat.inputs j h); off_left = off; off_right = λ u on. holds.pairs (table_wire m t j) u (seat.far_inputs j u h on) }
     where
       off : (u : ℕ) → near u ≡ true → ¬ Shorted m f (table_wire m t j) u
       off u is = by (near_cases u is)

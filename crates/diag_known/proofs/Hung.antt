@@ -237,7 +237,7 @@ module _ {k : Kept} {known : KnownWires} (is : IsKnown k known) {o : Offer} (off
     pub hung_loop : (g : Configuration) → IsLoopConfig k.shape q q ties g → IsLoop f g c hung (among q.wires) walk_to.route.pin q.pin
     hung_loop g laid = loop_of_lists f g near q ties c hung (among q.wires)
         (turn (λ m. IsLoopConfig m near q ties g) (laid_near laid)) (turn (λ m. IsRoute m near) near_route) (turn (λ m. IsRoute m q) way.route)
-        (λ y on. untried_crosses k {f} holds y (tree.crosses y (start.some_crosses y on))) (λ y on. untried_crosses k {f} holds y (way.crosses y on)) tied (turn (λ m. IsLoopBy m f near q ties c hung (among q.wires)) hung_by)
+        (λ y on. untried_crosses k holds y (tree.crosses y (start.some_crosses y on))) (λ y on. untried_crosses k holds y (way.crosses y on)) tied (turn (λ m. IsLoopBy m f near q ties c hung (among q.wires)) hung_by)
       where
         turn : (P : Shape → Type 0) → P k.shape → P g.shape
         turn P p = subst P (sym laid.shape) p

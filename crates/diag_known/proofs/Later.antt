@@ -1,40 +1,65 @@
 -- Known wires stay known, and one more is known.
-use Rattle.std.proofs.Common.{◌≡◌, ◌⊎◌, ℕ, ◌+◌, ◌<◌, Some, List, [], ◌∷◌, ◌++◌, length, refl, sym, ap, ◌∙◌, subst, true, inl, inr, arith, slice_get}
+use Rattle.std.proofs.Common.{◌≡◌, ◌⊎◌, ℕ, ◌+◌, ◌<◌, ◌&&◌, Bool, Some, List, [], ◌∷◌, ◌++◌, length, refl, sym, ap, ◌∙◌, subst, true, inl, inr, arith, slice_get}
+use Rattle.std.proofs.lemmas.Bool.{and_parts}
+use Rattle.base_bits.specs.Numbers.{has_number}
 use Rattle.std.proofs.lemmas.Option.{slice_get_within}
 use Rattle.machine_shape.specs.declared.Shape.{Shape}
 use Rattle.machine_shape.specs.Shape.{Ends, ends_of, pin_wire, pins_of, crosses_of}
-use Rattle.diag_evidence.specs.Kept.{Kept, is_apart, IsMore}
+use Rattle.diag_evidence.specs.Kept.{Kept, keeps_cross, keeps_wire, is_apart, IsMore, HasRetaken}
+use Rattle.diag_evidence.proofs.Keeping.{retaken_shape, retaken_cross, retaken_wire}
 use Rattle.diag_evidence.proofs.KeptLemmas.{pair_apart, pair_differs}
-use Rattle.diag_known.specs.Vocabulary.{KnownWires, HasWire, IsBefore, IsFoot, Stands, on_pin, on_feet, IsKnownStep, IsKnown, IsGood, IsWay, AreWays}
+use Rattle.diag_known.specs.Vocabulary.{KnownWires, HasWire, IsBefore, IsFoot, Stands, on_pin, on_feet, IsKnownStep, IsKnown, IsGood, KnowsAll, IsWay, AreWays}
 use Rattle.diag_known.specs.declared.verified_wire.Support.{Support}
 use Rattle.diag_known.specs.declared.verified_wire.SupportedBy.{SupportedBy}
 use Rattle.diag_known.specs.declared.verified_wire.VerifiedWire.{VerifiedWire}
 use Rattle.diag_known.proofs.Places.{get_pushed, before_later, before_has}
 use Rattle.diag_tests.specs.Routes.{Walk, IsRoute}
 
+-- What is known stays so where the crosspoints and wires that were kept are, and the known wires are of the set.
+module _ {k l : Kept} (shape : l.shape ≡ k.shape) (crosses : (x : ℕ) → keeps_cross k x ≡ true → keeps_cross l x ≡ true) where
+  foot_stays : {ss : List VerifiedWire} {i w : ℕ} {a : Support} → IsFoot k ss i w a → IsFoot l ss i w a
+  foot_stays {w = w} {a = a} f = record {
+    within = subst (λ (m : Shape). a.cross.0 < crosses_of m) (sym shape) f.within;
+    kept = crosses a.cross.0 f.kept;
+    at = subst (λ (m : Shape). Ends (ends_of m a.cross.0) a.wire.0 w) (sym shape) f.at;
+    before = f.before;
+  }
+
+  stands_still : {ss : List VerifiedWire} {i w : ℕ} {s : SupportedBy} → Stands k ss i w s → Stands l ss i w s
+  stands_still {w = w} (on_pin {n = n} within e) = on_pin (subst (λ (m : Shape). n < pins_of m) (sym shape) within) (subst (λ (m : Shape). w ≡ pin_wire m n) (sym shape) e)
+  stands_still (on_feet f g differ) = on_feet (foot_stays f) (foot_stays g) differ
+
+  pub known_stays : {known : KnownWires} → ((w : ℕ) → keeps_wire k w ≡ true → keeps_wire l w ≡ true) → ((w : ℕ) → HasWire known.steps w → is_apart l w ≡ true) → IsKnown k known → IsKnown l known
+  known_stays {known} wires of_set is = record {
+    shape = is.shape ∙ sym shape;
+    of_set = of_set;
+    steps = λ i s here. let step = is.steps i s here in record {
+      kept = wires s.wire.0 step.kept;
+      apart = λ u before. pair_apart l u s.wire.0 (pair_differs k u s.wire.0 (step.apart u before)) (of_set u (before_has before)) (of_set s.wire.0 (record { place = i; at = record { step = s; here = here; wire = refl } }));
+      stands = stands_still step.stands;
+    };
+  }
+
 pub foot_later : {k l : Kept} {ss : List VerifiedWire} {i w : ℕ} {a : Support} → IsMore k l → IsFoot k ss i w a → IsFoot l ss i w a
-foot_later {w = w} {a = a} more f = record {
-  within = subst (λ (m : Shape). a.cross.0 < crosses_of m) (sym more.shape) f.within;
-  kept = more.crosses a.cross.0 f.kept;
-  at = subst (λ (m : Shape). Ends (ends_of m a.cross.0) a.wire.0 w) (sym more.shape) f.at;
-  before = f.before;
-}
+foot_later more f = foot_stays more.shape more.crosses f
 
 pub stands_later : {k l : Kept} {ss : List VerifiedWire} {i w : ℕ} {s : SupportedBy} → IsMore k l → Stands k ss i w s → Stands l ss i w s
-stands_later {w = w} more (on_pin {n = n} within e) = on_pin (subst (λ (m : Shape). n < pins_of m) (sym more.shape) within) (subst (λ (m : Shape). w ≡ pin_wire m n) (sym more.shape) e)
-stands_later more (on_feet f g differ) = on_feet (foot_later more f) (foot_later more g) differ
+stands_later more s = stands_still more.shape more.crosses s
 
 pub known_later : {k l : Kept} {known : KnownWires} → IsMore k l → IsKnown k known → IsKnown l known
-known_later {k} {l} {known} more is = record {
-  shape = is.shape ∙ sym more.shape;
-  of_set = λ w has. more.apart w (is.of_set w has);
-  steps = λ i s here. let step = is.steps i s here in record {
-    kept = more.wires s.wire.0 step.kept;
-    apart = λ u before. pair_apart l u s.wire.0 (pair_differs k u s.wire.0 (step.apart u before)) (more.apart u (is.of_set u (before_has before)))
-        (more.apart s.wire.0 (is.of_set s.wire.0 (record { place = i; at = record { step = s; here = here; wire = refl } })));
-    stands = stands_later more step.stands;
-  };
-}
+known_later more is = known_stays more.shape more.crosses more.wires (λ w has. more.apart w (is.of_set w has)) is
+
+-- .. so where the set is taken back to what is known
+pub known_retaken : {k l : Kept} {known : KnownWires} {wires : List Bool} → HasRetaken wires k l → ((w : ℕ) → HasWire known.steps w → has_number wires w ≡ true) → IsKnown k known → IsKnown l known
+known_retaken {k} {l} {known} {wires} r whole is =
+    known_stays (retaken_shape r) (λ x on. retaken_cross r x ∙ on) (λ w on. retaken_wire r w ∙ on) (λ w has. r.apart w ∙ both (has_number wires w) (is_apart k w) (whole w has) (is.of_set w has)) is
+  where
+    both : (a b : Bool) → a ≡ true → b ≡ true → (a && b) ≡ true
+    both a b p q = rw (p, q) refl
+
+-- .. and then all of it is known
+pub retaken_all : {k l : Kept} {ss : List VerifiedWire} {wires : List Bool} → HasRetaken wires k l → ((w : ℕ) → has_number wires w ≡ true → HasWire ss w) → KnowsAll l ss
+retaken_all {k} {wires = wires} r known w on = known w (and_parts (has_number wires w) (is_apart k w) (sym (r.apart w) ∙ on)).0
 
 foot_more : {k : Kept} {ss : List VerifiedWire} {i w : ℕ} {a : Support} (ts : List VerifiedWire) → IsFoot k ss i w a → IsFoot k (ss ++ ts) i w a
 foot_more ts f = record { within = f.within; kept = f.kept; at = f.at; before = before_later ts f.before }

@@ -70,10 +70,10 @@ module _ {k : Kept} {known : KnownWires} (is : IsKnown k known) where
 
   module _ {f : Faults} (holds : HoldsUntried k f) where
     pub known_clear : {u : ℕ} → HasWire known.steps u → IsClear k.shape f u
-    known_clear {u} h = untried_wires k {f} holds u (known_wire h)
+    known_clear {u} h = untried_wires k holds u (known_wire h)
 
     pub known_unshorted : {u v : ℕ} → HasWire known.steps u → HasWire known.steps v → u ≢ v → ¬ Shorted k.shape f u v
-    known_unshorted {u} {v} h g differ = untried_pairs k {f} holds u v differ (is.of_set u h) (is.of_set v g)
+    known_unshorted {u} {v} h g differ = untried_pairs k holds u v differ (is.of_set u h) (is.of_set v g)
 
     module _ {a b : ℕ} {p q : Walk} (routes : AreRoutesTo k known.steps a b p q) where
       left_known : (w : ℕ) → among p.wires w ≡ true → HasWire known.steps w
@@ -133,7 +133,7 @@ module _ {k : Kept} {known : KnownWires} (is : IsKnown k known) where
         rights = g ∷ [];
         right_way = q.end ∷ w ∷ [];
         leads_right = goes within over_end ends;
-        right_ties = ((among_last (x ∷ []) g, (other_cross, untried_crosses k {f} holds g kept)), tt);
+        right_ties = ((among_last (x ∷ []) g, (other_cross, untried_crosses k holds g kept)), tt);
       }
         where
           over_end : Ends (ends_of k.shape g) q.end w

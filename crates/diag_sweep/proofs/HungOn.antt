@@ -16,7 +16,7 @@ use Rattle.diag_known.specs.declared.field.Field.{Field}
 use Rattle.diag_known.specs.declared.verified_wire.VerifiedWire.{VerifiedWire}
 use Rattle.diag_known.proofs.Later.{known_later}
 use Rattle.diag_sweep.specs.Marks.{MarksIn, MarksSome, TrueIf}
-use Rattle.diag_sweep.specs.Stages.{Goes, IsHand, in_hand}
+use Rattle.diag_sweep.specs.Stages.{GoesYet, IsHand, in_hand}
 use Rattle.diag_sweep.specs.declared.defect_marks.DefectMarks.{DefectMarks}
 use Rattle.diag_sweep.specs.declared.budget.LoadBudget.{LoadBudget}
 use Rattle.diag_sweep.proofs.Going.{grows_itself, goes_tested}
@@ -129,7 +129,7 @@ unclear_marks a trees hs before after k l was is were are (Err e) of len stay tr
 pub hang_goes : {now : RigState} {a : Field} {tables : List Table} {k l : Kept} {known : KnownWires} {bad : DefectMarks} {unfit unclear : List Bool} {budget : LoadBudget} {before after : ℕ} (n : ℕ) → IsHand a (in_hand k known bad budget before) → before + n ≤ budget.most → after ≤ before + n → IsMore k l →
     ((f : Faults) → Explains f now → HoldsFor k f → HoldsFor l f) → MarksSome (λ w. has_number a.wires w ≡ true) bad.unfit unfit → MarksSome (λ w. has_number a.wires w ≡ true) bad.unclear unclear →
     ForEach now (λ told. UnfitIf told k (is_step known.steps) bad.unfit → UnfitIf told l (is_step known.steps) unfit) → ForEach now (λ told. UnclearIf told k bad.unclear → UnclearIf told l unclear) →
-    Goes now a tables (in_hand k known bad budget before) (in_hand l known (record bad { unfit = unfit; unclear = unclear }) budget after)
+    GoesYet now a tables (in_hand k known bad budget before) (in_hand l known (record bad { unfit = unfit; unclear = unclear }) budget after)
 hang_goes {now} {a} {tables} {k} {l} {known} {bad} {unfit} {unclear} {budget} {before} {after} n hand can took more explained marks also fit clear = goes_tested n hand can took more marked holds
   where
     marked : MarksIn a tables bad (record bad { unfit = unfit; unclear = unclear })
@@ -150,7 +150,7 @@ hang_goes {now} {a} {tables} {k} {l} {known} {bad} {unfit} {unclear} {budget} {b
 
 -- a test that marks nothing, and was paid for
 pub plain_goes : {now : RigState} {a : Field} {tables : List Table} {k l : Kept} {known : KnownWires} {bad : DefectMarks} {budget : LoadBudget} {before after : ℕ} (n : ℕ) → IsHand a (in_hand k known bad budget before) → before + n ≤ budget.most → after ≤ before + n → IsMore k l →
-    ((f : Faults) → Explains f now → HoldsFor k f → HoldsFor l f) → Goes now a tables (in_hand k known bad budget before) (in_hand l known bad budget after)
+    ((f : Faults) → Explains f now → HoldsFor k f → HoldsFor l f) → GoesYet now a tables (in_hand k known bad budget before) (in_hand l known bad budget after)
 plain_goes {now} {a} {tables} {k} {l} {known} {bad} {budget} {before} {after} n hand can took more explained = record {
   hand = record {
     known = known_later more hand.known;

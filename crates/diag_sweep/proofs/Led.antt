@@ -8,14 +8,14 @@ use Rattle.machine_meaning.specs.Vocabulary.{Pins}
 use Rattle.machine_config.specs.Vocabulary.{Configuration, among}
 use Rattle.machine_meaning.specs.Faults.{Faults}
 use Rattle.rig.specs.Rig.{Explains, RigState, ForEach}
-use Rattle.diag_evidence.specs.Vocabulary.{Kept, HoldsFor, IsMore, keeps_cross, StuckIf, arrives, held_up_at, is_only_unkept, crosses_of_leads}
+use Rattle.diag_evidence.specs.Vocabulary.{Kept, HoldsFor, IsMore, KeepsSet, keeps_cross, ShowsLed, StuckIf, arrives, held_up_at, is_only_unkept, crosses_of_leads, led_over, these_crosses}
 use Rattle.diag_evidence.specs.declared.leads.Lead.{Lead}
-use Rattle.diag_evidence.proofs.Keeping.{of_told}
+use Rattle.diag_evidence.proofs.Keeping.{of_told, trial_by_gain}
 use Rattle.diag_known.specs.Known.{KnownWires}
 use Rattle.diag_known.specs.declared.field.Field.{Field}
 use Rattle.diag_sweep.specs.Courses.{IsCourse}
 use Rattle.diag_sweep.specs.Marks.{MarksSome, MarksIn, TrueIf}
-use Rattle.diag_sweep.specs.Stages.{Goes, IsHand, in_hand}
+use Rattle.diag_sweep.specs.Stages.{GoesYet, IsHand, in_hand}
 use Rattle.diag_sweep.specs.declared.defect_marks.DefectMarks.{DefectMarks}
 use Rattle.diag_sweep.specs.declared.budget.LoadBudget.{LoadBudget}
 use Rattle.diag_sweep.proofs.Going.{goes_tested}
@@ -66,10 +66,14 @@ stuck_marks a k l known g drive ls seen was is (Ok v) c len led same = record {
     by x (inr on) = inl on
 stuck_marks a k l known g drive ls seen was is (Err e) c len led same = subst (MarksSome (λ x. has_number a.crosses x ≡ true) was) (sym same) (some_itself _ was)
 
+-- no wire joins the set by it
+pub led_set : {g : Configuration} {drive : Pins} {ls : List Lead} {before after : RigState} {k l : Kept} {was is : List Bool} → ShowsLed g drive ls before after k l was is → KeepsSet k l
+led_set {ls = ls} {k = k} {l = l} led = (trial_by_gain (these_crosses (led_over led.reading ls)) k l led.gains (λ w. refl)).apart
+
 pub lead_goes : {now : RigState} {a : Field} {k l : Kept} {known : KnownWires} {bad : DefectMarks} {budget : LoadBudget} {before after : ℕ} {g : Configuration} {drive : List Bool} {ls : List Lead} {seen stuck : List Bool} {T E : Type 0} (r : Result T E) →
     IsHand a (in_hand k known bad budget before) → IsCourse k known.steps a g drive ls seen → before + 1 ≤ budget.most → after ≤ before + 1 → IsMore k l → ((f : Faults) → Explains f now → HoldsFor k f → HoldsFor l f) → length stuck ≡ length bad.stuck →
     OnOk r (MarksHeldUp k ls bad.stuck stuck) → OnErr r (stuck ≡ bad.stuck) → ForEach now (λ told. StuckIf told k bad.stuck → StuckIf told l stuck) →
-    Goes now a [] (in_hand k known bad budget before) (in_hand l known (record bad { stuck = stuck }) budget after)
+    GoesYet now a [] (in_hand k known bad budget before) (in_hand l known (record bad { stuck = stuck }) budget after)
 lead_goes {now} {a} {k} {l} {known} {bad} {budget} {before} {after} {g} {drive} {ls} {seen} {stuck} r hand course can took more explained len led same true_ = goes_tested 1 hand can took more marked holds
   where
     marked : MarksIn a [] bad (record bad { stuck = stuck })

@@ -1,5 +1,5 @@
 -- Marks stay true as more is kept and more is known.
-use Rattle.std.proofs.Common.{◌≡◌, ◌⊎◌, ℕ, Bool, true, Option, List, refl, sym, ap, ◌∙◌, subst, inl, inr}
+use Rattle.std.proofs.Common.{◌≡◌, ◌⊎◌, ℕ, Bool, true, Option, Some, List, refl, sym, ap, ◌∙◌, subst, inl, inr}
 use Rattle.base_bits.specs.Numbers.{has_number}
 use Rattle.machine_shape.specs.declared.Shape.{Shape}
 use Rattle.machine_shape.specs.declared.Table.{Table}
@@ -35,6 +35,10 @@ marks_for same are in_ = record {
   unclear = in_.unclear.len ∙ are.unclear ∙ ap wires_of (sym same);
   wrong = in_.wrong.len ∙ are.wrong ∙ ap tables_of (sym same);
 }
+
+-- less of the set is kept: the same marks stay true
+pub true_back : {told : Option Faults} {k l : Kept} {ss : List VerifiedWire} {b : DefectMarks} → l.shape ≡ k.shape → ((f : Faults) → told ≡ Some f → HoldsFor k f → HoldsFor l f) → TrueIf told k ss b → TrueIf told l ss b
+true_back {ss = ss} {b = b} shape explained t = record { at = λ f e. (explained f e (t.at f e).0, subst (λ (m : Shape). AreTrueMarks m f (HasWire ss) b) (sym shape) (t.at f e).1) }
 
 -- more is kept and more is known: the same marks stay true
 pub true_later : {told : Option Faults} {k l : Kept} {ss ts : List VerifiedWire} {b : DefectMarks} → IsMore k l → ((f : Faults) → told ≡ Some f → HoldsFor k f → HoldsFor l f) → ((w : ℕ) → HasWire ss w → HasWire ts w) → TrueIf told k ss b → TrueIf told l ts b

@@ -6,12 +6,12 @@ use Rattle.base_bits.specs.Numbers.{has_number}
 use Rattle.machine_shape.specs.declared.Table.{Table}
 use Rattle.machine_meaning.specs.Faults.{Faults}
 use Rattle.rig.specs.Rig.{Explains, RigState, ForEach}
-use Rattle.diag_evidence.specs.Vocabulary.{Trees, Kept, Advances, HoldsFor, IsMore, ShowsTabled, WrongIf, is_one_of, is_right_before, output_pin}
-use Rattle.diag_evidence.proofs.Keeping.{advances_itself, advances_then, of_told}
+use Rattle.diag_evidence.specs.Vocabulary.{Trees, Kept, Advances, HoldsFor, IsMore, KeepsSet, ShowsTabled, WrongIf, is_one_of, is_right_before, output_pin, right_parts}
+use Rattle.diag_evidence.proofs.Keeping.{advances_itself, advances_then, of_told, trial_by_gain}
 use Rattle.diag_known.specs.Known.{KnownWires}
 use Rattle.diag_known.specs.declared.field.Field.{Field}
 use Rattle.diag_sweep.specs.Marks.{HasTable, MarksSome, MarksIn, TrueIf}
-use Rattle.diag_sweep.specs.Stages.{Goes, Hand, IsHand, in_hand}
+use Rattle.diag_sweep.specs.Stages.{Goes, GoesYet, Hand, IsHand, in_hand}
 use Rattle.diag_sweep.specs.declared.defect_marks.DefectMarks.{DefectMarks}
 use Rattle.diag_sweep.specs.declared.budget.LoadBudget.{LoadBudget}
 use Rattle.diag_sweep.proofs.Going.{goes_itself, goes_on, goes_tested}
@@ -42,9 +42,13 @@ wrong_marks trees tables ts before after k l was is (Ok v) of len tabled same = 
     by t (inr on) = inl on
 wrong_marks trees tables ts before after k l was is (Err e) of len tabled same = subst (MarksSome (HasTable tables) was) (sym same) (some_itself (HasTable tables) was)
 
+-- no wire joins the set by it
+pub tabled_set : {trees : Trees} {ts : List Table} {before after : RigState} {k l : Kept} {was is : List Bool} → ShowsTabled trees ts before after k l was is → KeepsSet k l
+tabled_set {trees} {ts} {k = k} {l = l} t = (trial_by_gain (right_parts trees ts t.setting t.reads t.opposite) k l t.gains (λ w. refl)).apart
+
 pub table_goes : {now : RigState} {a : Field} {k l : Kept} {known : KnownWires} {bad : DefectMarks} {wrong : List Bool} {budget : LoadBudget} {before after : ℕ} (tables : List Table) → IsHand a (in_hand k known bad budget before) → before + 2 ≤ budget.most →
     after ≤ before + 2 → IsMore k l → ((f : Faults) → Explains f now → HoldsFor k f → HoldsFor l f) → MarksSome (HasTable tables) bad.wrong wrong → ForEach now (λ told. WrongIf told k bad.wrong → WrongIf told l wrong) →
-    Goes now a tables (in_hand k known bad budget before) (in_hand l known (record bad { wrong = wrong }) budget after)
+    GoesYet now a tables (in_hand k known bad budget before) (in_hand l known (record bad { wrong = wrong }) budget after)
 table_goes {now} {a} {k} {l} {known} {bad} {wrong} {budget} {before} {after} tables hand can took more explained marks true_ = goes_tested 2 hand can took more marked holds
   where
     marked : MarksIn a tables bad (record bad { wrong = wrong })

@@ -5,7 +5,7 @@ ghost use Rattle.machine_shape.specs.Shape.{crosses_of};
 ghost use Rattle.rig.specs.Rig.{shape_of};
 ghost use Rattle.diag_evidence.specs.Kept.{Advances};
 ghost use Rattle.diag_sweep.specs.Marks.{AreMarksFor};
-ghost use Rattle.diag_sweep.specs.Stages.{Goes, IsHand, Settles, in_hand};
+ghost use Rattle.diag_sweep.specs.Stages.{Goes, GoesYet, IsHand, Settles, in_hand};
 
 use crate::asking::knows;
 use crate::budget::LoadBudget;
@@ -29,6 +29,30 @@ const MOST_LOADS: u32 = 1_000_000;
 const MOST_HEIGHT: u32 = 8;
 
 // Looks at the pins of the machine. Those that can be known are.
+fn pin_test(
+    rig: &mut Box<dyn Rig>,
+    facts: &mut Facts,
+    known: &mut Known,
+    bad: &DefectMarks,
+    field: &Field,
+    state: &mut SweepState,
+) -> Result<(), RigFail>
+    requires attached { shape_of (rig_state rig.old) ≡ Some facts.old.shape }
+    requires hand { IsHand field.now (in_hand facts.old known.old bad.now state.old.budget (rig_state rig.old).loads) }
+    ensures goes { GoesYet (rig_state rig.new) field.now [] (in_hand facts.old known.old bad.now state.old.budget (rig_state rig.old).loads)
+        (in_hand facts.new known.new bad.now state.new.budget (rig_state rig.new).loads) }
+    ensures advances { Advances (rig_state rig.old) (rig_state rig.new) facts.old facts.new }
+    ensures cause { IsErrOf result RigFail.Failed → Rose (rig_state rig.old).failures (rig_state rig.new).failures }
+{
+    pin_load(rig, facts, known, bad, field, state)?;
+    let Ok(()) = learn_pins(known, facts, field) else {
+        return Err(RigFail::Memory);
+    };
+    note_known(&mut state.search, known);
+    Ok(())
+}
+
+// The same, and what joined the set and isn't known leaves it.
 fn pin_turn(
     rig: &mut Box<dyn Rig>,
     facts: &mut Facts,
@@ -44,12 +68,9 @@ fn pin_turn(
     ensures advances { Advances (rig_state rig.old) (rig_state rig.new) facts.old facts.new }
     ensures cause { IsErrOf result RigFail.Failed → Rose (rig_state rig.old).failures (rig_state rig.new).failures }
 {
-    pin_load(rig, facts, known, bad, field, state)?;
-    let Ok(()) = learn_pins(known, facts, field) else {
-        return Err(RigFail::Memory);
-    };
-    note_known(&mut state.search, known);
-    Ok(())
+    let tested = pin_test(rig, facts, known, bad, field, state);
+    facts.retake(known.wires());
+    tested
 }
 
 // Takes loads in for those crosspoints of hangs that were undecided and aren't any more.
@@ -65,7 +86,7 @@ fn settle_hangs(budget: &mut LoadBudget, facts: &Facts, bad: &DefectMarks, hangs
 }
 
 // Tests some wires of a height in one load, if some are found and it can be paid. False where not.
-fn hang_turn(
+fn hang_test(
     rig: &mut Box<dyn Rig>,
     facts: &mut Facts,
     known: &mut Known,
@@ -75,7 +96,7 @@ fn hang_turn(
 ) -> Result<bool, RigFail>
     requires attached { shape_of (rig_state rig.old) ≡ Some facts.old.shape }
     requires hand { IsHand field.now (in_hand facts.old known.old bad.old state.old.budget (rig_state rig.old).loads) }
-    ensures goes { Goes (rig_state rig.new) field.now [] (in_hand facts.old known.old bad.old state.old.budget (rig_state rig.old).loads)
+    ensures goes { GoesYet (rig_state rig.new) field.now [] (in_hand facts.old known.old bad.old state.old.budget (rig_state rig.old).loads)
         (in_hand facts.new known.new bad.new state.new.budget (rig_state rig.new).loads) }
     ensures advances { Advances (rig_state rig.old) (rig_state rig.new) facts.old facts.new }
     ensures cause { IsErrOf result RigFail.Failed → Rose (rig_state rig.old).failures (rig_state rig.new).failures }
@@ -94,6 +115,27 @@ fn hang_turn(
     };
     note_hangs(&mut state.search, facts, known, &bad.stuck);
     Ok(true)
+}
+
+// The same, and what joined the set and isn't known leaves it.
+fn hang_turn(
+    rig: &mut Box<dyn Rig>,
+    facts: &mut Facts,
+    known: &mut Known,
+    bad: &mut DefectMarks,
+    field: &Field,
+    state: &mut SweepState,
+) -> Result<bool, RigFail>
+    requires attached { shape_of (rig_state rig.old) ≡ Some facts.old.shape }
+    requires hand { IsHand field.now (in_hand facts.old known.old bad.old state.old.budget (rig_state rig.old).loads) }
+    ensures goes { Goes (rig_state rig.new) field.now [] (in_hand facts.old known.old bad.old state.old.budget (rig_state rig.old).loads)
+        (in_hand facts.new known.new bad.new state.new.budget (rig_state rig.new).loads) }
+    ensures advances { Advances (rig_state rig.old) (rig_state rig.new) facts.old facts.new }
+    ensures cause { IsErrOf result RigFail.Failed → Rose (rig_state rig.old).failures (rig_state rig.new).failures }
+{
+    let tested = hang_test(rig, facts, known, bad, field, state);
+    facts.retake(known.wires());
+    tested
 }
 
 // Tests wires of a height until none is found, or it can't be paid.

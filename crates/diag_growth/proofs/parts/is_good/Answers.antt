@@ -24,7 +24,7 @@ returns-then-not-apart-clause-bad_each g c = λ f e is_no. c.in_ok-apart.ensures
 pub returns-clause-good : goal.returns-clause-good
 returns-clause-good g c = IfOk-weaker c.part-2.result _ _ (λ yes apart. λ is_yes.
     let begun = ap (λ (k : Kept). k.trial) c.begin.ensures.begun in
-    parted_both c.requires.known c.requires.all c.requires.new c.requires.ways (λ u. c.part-2.ensures.trial.apart u ∙ c.part.ensures.trial.apart u ∙ begun_apart c.begin.ensures.begun u ∙ c.test_stuck.ensures.trial.apart u)
+    parted_both c.requires.known c.requires.all c.requires.new c.requires.ways (λ u. c.part-2.ensures.trial.apart u ∙ c.part.ensures.trial.apart u ∙ begun_apart _ c.begin.ensures.begun u ∙ c.test_stuck.ensures.trial.apart u)
     (c.part-2.ensures.trial.trial ∙ c.part.ensures.trial.trial ∙ begun)
     (c.part-2.ensures.advances.more.wires c.args.w.0 (c.part.ensures.advances.more.wires c.args.w.0 (c.begin.ensures.more.wires c.args.w.0 (c.in_ok-kept.ensures.kept c.if-not-kept.false))))
     (apart_later c.part-2.ensures.trial (c.in_ok-apart.ensures.apart c.if-not-apart.false)) (apart is_yes)) c.part-2.ensures.apart

@@ -25,5 +25,5 @@ pub returns-clause-good : goal.returns-clause-good
 returns-clause-good g c = IfOk-weaker c.part.result _ _ (λ yes apart. λ is_yes.
     let begun = ap (λ (k : Kept). k.trial) c.begin.ensures.begun in
     parted_both c.requires.known c.requires.all c.requires.new (subst (λ (u : ℕ). AreWays c.args.facts.now c.args.known.now.steps u c.in-Ok.way c.in-Ok.way) (sym c.requires.wire) (c.in-Ok.ensures c.args.facts.now (sym c.requires.known.shape)))
-    (λ u. c.part.ensures.trial.apart u ∙ begun_apart c.begin.ensures.begun u ∙ c.test_stuck.ensures.trial.apart u) (c.part.ensures.trial.trial ∙ begun)
+    (λ u. c.part.ensures.trial.apart u ∙ begun_apart _ c.begin.ensures.begun u ∙ c.test_stuck.ensures.trial.apart u) (c.part.ensures.trial.trial ∙ begun)
     (c.part.ensures.advances.more.wires c.args.w.0 (c.begin.ensures.more.wires c.args.w.0 (c.in_ok-kept.ensures.kept c.if-not-kept.false))) (apart is_yes) (apart is_yes)) c.part.ensures.apart
