@@ -5,7 +5,7 @@ use Rattle.std.proofs.lemmas.Bool.Decides.{nat_tests}
 use Rattle.base_bits.specs.Numbers.{has_number}
 use Rattle.machine_meaning.specs.Vocabulary.{IsClear, Shorted, Faults, stuck_cross, wrong_cell, stuck_register}
 use Rattle.rig.specs.Rig.{RigState}
-use Rattle.diag_evidence.specs.Kept.{Kept, keeps_cross, keeps_wire, is_apart, on_trial, in_row, keeps_pair, keeps_cell, keeps_register, untried, HoldsFor, HoldsUntried, KeepsNothing, IsMore, Gain, Gains, KeepsTrial, Advances, AdvancesButPairs, IsButPairs, CanSettle, HasSettled, HasRetaken, with_trial}
+use Rattle.diag_evidence.specs.Kept.{Kept, keeps_cross, keeps_wire, is_apart, on_trial, in_row, keeps_pair, keeps_cell, keeps_register, untried, HoldsFor, HoldsUntried, KeepsNothing, IsMore, Gain, Gains, KeepsTrial, Advances, AdvancesButPairs, IsButPairs, IsMoreButPairs, CanSettle, HasSettled, HasRetaken, with_trial}
 use Rattle.diag_evidence.proofs.KeptLemmas.{more_itself, IsPair, of_set, of_row, of_other, pair_of, pair_is, pair_differs, pair_apart, has_apart, mark_set, tried_is, tried_only, tried_none, same_trial, no_mark}
 
 pub more_then : {k l n : Kept} → IsMore k l → IsMore l n → IsMore k n
@@ -397,18 +397,23 @@ module _ {k l : Kept} (is : IsButPairs k l) where
     later = p.later;
     counted = p.counted;
     few = p.few;
-    shape = but_shape ∙ p.more.shape;
-    crosses = λ x on. but_cross x ∙ p.more.crosses x on;
-    wires = λ w on. but_wire w ∙ p.more.wires w on;
-    cells = λ t a on. but_cell t a ∙ p.more.cells t a on;
-    registers = λ t on. but_register t ∙ p.more.registers t on;
+    more = record {
+      shape = but_shape ∙ p.more.shape;
+      crosses = λ x on. but_cross x ∙ p.more.crosses x on;
+      wires = λ w on. but_wire w ∙ p.more.wires w on;
+      cells = λ t a on. but_cell t a ∙ p.more.cells t a on;
+      registers = λ t on. but_register t ∙ p.more.registers t on;
+    };
     narrows = p.narrows;
     tells = p.tells;
     explained = λ f e h. explained f (p.explained f e h);
   }
 
+pub more_rest : {k l : Kept} → IsMore k l → IsMoreButPairs k l
+more_rest more = record { shape = more.shape; crosses = more.crosses; wires = more.wires; cells = more.cells; registers = more.registers }
+
 pub advances_rest : {r s : RigState} {k l : Kept} → Advances r s k l → AdvancesButPairs r s k l
-advances_rest {k = k} {l = l} p = advances_but {k = l} {l = l} refl (λ f h. h) p
+advances_rest p = record { machine = p.machine; later = p.later; counted = p.counted; few = p.few; more = more_rest p.more; narrows = p.narrows; tells = p.tells; explained = p.explained }
 
 pub rest_itself : (r : RigState) (k : Kept) → AdvancesButPairs r r k k
 rest_itself r k = advances_rest (advances_itself r k)
@@ -419,11 +424,13 @@ rest_then p q = record {
   later = omega (arith, p.later, q.later);
   counted = omega (arith, p.counted, q.counted);
   few = λ n k h. q.few n k (p.few n k h);
-  shape = q.shape ∙ p.shape;
-  crosses = λ x on. q.crosses x (p.crosses x on);
-  wires = λ w on. q.wires w (p.wires w on);
-  cells = λ t a on. q.cells t a (p.cells t a on);
-  registers = λ t on. q.registers t (p.registers t on);
+  more = record {
+    shape = q.more.shape ∙ p.more.shape;
+    crosses = λ x on. q.more.crosses x (p.more.crosses x on);
+    wires = λ w on. q.more.wires w (p.more.wires w on);
+    cells = λ t a on. q.more.cells t a (p.more.cells t a on);
+    registers = λ t on. q.more.registers t (p.more.registers t on);
+  };
   narrows = λ f e. p.narrows f (q.narrows f e);
   tells = λ t. q.tells (p.tells t);
   explained = λ f e h. q.explained f e (p.explained f (q.narrows f e) h);

@@ -414,6 +414,7 @@ keeps_none m a b c d e r = record {
   crosses = no_mark a;
   wires = no_mark b;
   pairs = λ w u. neither (not (w == u)) _ (ap (λ t. (t && has_number (replicate c false) u) || false) (no_mark c w));
+  apart = no_mark c;
   registers = no_mark e;
   cells = λ t y. neither (nat_lt y 64) _ (no_mark d (64 * t + y));
 }

@@ -95,11 +95,12 @@ pub record IsMore (old new : Kept) : Type 0 where
   pub cells : (t a : ℕ) → keeps_cell old t a ≡ true → keeps_cell new t a ≡ true
   pub registers : (t : ℕ) → keeps_register old t ≡ true → keeps_register new t ≡ true
 
--- nothing is kept
+-- nothing is kept, and no wire is of the set
 pub record KeepsNothing (k : Kept) : Type 0 where
   pub crosses : (x : ℕ) → keeps_cross k x ≡ false
   pub wires : (w : ℕ) → keeps_wire k w ≡ false
   pub pairs : (a b : ℕ) → keeps_pair k a b ≡ false
+  pub apart : (w : ℕ) → is_apart k w ≡ false
   pub cells : (t a : ℕ) → keeps_cell k t a ≡ false
   pub registers : (t : ℕ) → keeps_register k t ≡ false
 
@@ -214,17 +215,21 @@ pub record Advances (old new : RigState) (k l : Kept) : Type 0 where
 abbrev pub IsButPairs : Kept → Kept → Type 0
 IsButPairs old new = new ≡ record old { apart = new.apart; trial = new.trial }
 
+-- what was kept stays kept, but for pairs
+pub record IsMoreButPairs (old new : Kept) : Type 0 where
+  pub shape : new.shape ≡ old.shape
+  pub crosses : (x : ℕ) → keeps_cross old x ≡ true → keeps_cross new x ≡ true
+  pub wires : (w : ℕ) → keeps_wire old w ≡ true → keeps_wire new w ≡ true
+  pub cells : (t a : ℕ) → keeps_cell old t a ≡ true → keeps_cell new t a ≡ true
+  pub registers : (t : ℕ) → keeps_register old t ≡ true → keeps_register new t ≡ true
+
 -- What calls leave that may have taken wires out of the set: what others do, but that pairs stay kept.
 pub record AdvancesButPairs (old new : RigState) (k l : Kept) : Type 0 where
   pub machine : new.machine ≡ old.machine
   pub later : old.failures ≤ new.failures
   pub counted : old.loads ≤ new.loads
   pub few : FewCycles old new
-  pub shape : l.shape ≡ k.shape
-  pub crosses : (x : ℕ) → keeps_cross k x ≡ true → keeps_cross l x ≡ true
-  pub wires : (w : ℕ) → keeps_wire k w ≡ true → keeps_wire l w ≡ true
-  pub cells : (t a : ℕ) → keeps_cell k t a ≡ true → keeps_cell l t a ≡ true
-  pub registers : (t : ℕ) → keeps_register k t ≡ true → keeps_register l t ≡ true
+  pub more : IsMoreButPairs k l
   pub narrows : Narrows old new
   pub tells : Tells old new
   pub explained : (f : Faults) → Explains f new → HoldsFor k f → HoldsFor l f

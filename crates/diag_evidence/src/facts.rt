@@ -106,7 +106,7 @@ fn no_table_marks(alloc: Global, shape: Shape) -> Result<TableMarks, AllocError>
 }
 
 impl Facts {
-    /// Keeps nothing.
+    /// Keeps nothing, and has no wire in its set.
     pub fn new(alloc: Global, shape: Shape) -> Result<Facts, AllocError>
         ensures shape { IfOk result (λ p. p.shape ≡ shape) }
         ensures nothing { IfOk result KeepsNothing }
