@@ -1,5 +1,5 @@
 -- What the looks at an image say.
-use Rattle.std.proofs.Common.{◌≡◌, ℕ, true, Some, List, All, get_or, ap, subst, is_some}
+use Rattle.std.proofs.Common.{◌≡◌, ℕ, true, Some, Option, List, All, get_or, ap, subst, is_some}
 use Rattle.std.proofs.lemmas.Option.{slice_get-get_or}
 use Rattle.machine_shape.specs.declared.Table.{Table}
 use Rattle.machine_shape.specs.declared.Shape.{Shape}
