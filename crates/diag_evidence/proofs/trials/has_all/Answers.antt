@@ -14,13 +14,13 @@ wires-preserved-then-not-has c =
     below_next (λ u. has_number c.args.set.now u ≡ true → u ≢ c.args.wire → has_number c.args.row.now u ≡ true) c.wires.w c.wires.invariant
     (λ on differ. absurd (false≢true (sym (sym c.has.ensures ∙ c.if-not-has.true) ∙ on)))
 
-pub returns-then-not-has-in-wires-clause-no : goal.returns-then-not-has-in-wires-clause-no
-returns-then-not-has-in-wires-clause-no c = λ e. (c.wires.w, sym c.has.ensures ∙ c.if-not-has.false, c.if-w-wire.false, sym c.has-in-wires.ensures ∙ c.if-not-has-in-wires.true)
+pub returns-then-not-has-2-clause-no : goal.returns-then-not-has-2-clause-no
+returns-then-not-has-2-clause-no c = λ e. (c.wires.w, sym c.has.ensures ∙ c.if-not-has.false, c.if-w-wire.false, sym c.has-in-wires.ensures ∙ c.if-not-has-2.true)
 
 pub wires-preserved : goal.wires-preserved
 wires-preserved c =
     below_next (λ u. has_number c.args.set.now u ≡ true → u ≢ c.args.wire → has_number c.args.row.now u ≡ true) c.wires.w c.wires.invariant
-    (λ on differ. sym c.has-in-wires.ensures ∙ c.if-not-has-in-wires.false)
+    (λ on differ. sym c.has-in-wires.ensures ∙ c.if-not-has-2.false)
 
 pub returns-clause-yes : goal.returns-clause-yes
 returns-clause-yes c = λ is w on differ. (let below = number_below c.args.set.now w on in c.wires.invariant w (omega (arith, below)) on differ)
