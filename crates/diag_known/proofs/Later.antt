@@ -114,3 +114,14 @@ way_later {q = q} more way = record {
 
 pub ways_later : {k l : Kept} {ss : List VerifiedWire} {w : ℕ} {p q : Walk} → IsMore k l → AreWays k ss w p q → AreWays l ss w p q
 ways_later more a = record { first = way_later more a.first; second = way_later more a.second; meet = a.meet }
+
+-- nothing is known at first
+pub known_none : {k : Kept} {known : KnownWires} → known.shape ≡ k.shape → known.steps ≡ [] → IsKnown k known
+known_none {k} {known} shape none = record {
+  shape = shape;
+  of_set = λ w has. absurd (at_none has.place has.at.step (subst (λ (ss : List VerifiedWire). slice_get ss has.place ≡ Some has.at.step) none has.at.here));
+  steps = λ i s here. absurd (at_none i s (subst (λ (ss : List VerifiedWire). slice_get ss i ≡ Some s) none here));
+}
+  where
+    at_none : (i : ℕ) (s : VerifiedWire) → slice_get [] i ≡ Some s → ⊥
+    at_none i s e = cc

@@ -13,7 +13,7 @@ use Rattle.diag_tests.specs.declared.trunk.Trunk.{Trunk}
 use Rattle.diag_evidence.specs.Kept.{Kept, HoldsFor, is_apart}
 use Rattle.diag_evidence.proofs.Keeping.{more_then, of_told}
 use Rattle.diag_known.specs.Known.{KnownWires, IsKnown, KnowsAll}
-use Rattle.diag_known.specs.declared.verified_wire.VerifiedWire.{VerifiedWire}
+use Rattle.diag_known.proofs.Later.{known_none}
 use Rattle.diag_published.specs.Held.{Findings, IsHeld, IsHeldTrunk, FullIf, IsLater, UnservedIf}
 use Rattle.diag_published.proofs.Staying.{held_later, full_later}
 use Rattle.example_parts.specs.Found.{IsFoundAt, AreFound}
@@ -21,18 +21,11 @@ use Rattle.example_parts.specs.Found.{IsFoundAt, AreFound}
 -- nothing is known and found at first
 pub none_found : (rig : RigState) (k : Kept) (known : KnownWires) (found : List Findings) → known.shape ≡ k.shape → known.steps ≡ [] → found ≡ [] → ((w : ℕ) → is_apart k w ≡ false) → ((f : Faults) → HoldsFor k f) → AreFound rig k known found
 none_found rig k known found shape none empty set holds = record {
-  known = record {
-    shape = shape;
-    of_set = λ w has. absurd (at_none has.place has.at.step (subst (λ (ss : List VerifiedWire). slice_get ss has.place ≡ Some has.at.step) none has.at.here));
-    steps = λ i s here. absurd (at_none i s (subst (λ (ss : List VerifiedWire). slice_get ss i ≡ Some s) none here));
-  };
+  known = known_none shape none;
   all = λ w on. absurd (false≢true (sym (set w) ∙ on));
   holds = λ f e. holds f;
   each = λ n d below. absurd (let e = ap (λ (ts : List Findings). length ts) empty in let no : ⊥ = omega (arith, below, e) in no);
 }
-  where
-    at_none : (i : ℕ) (s : VerifiedWire) → slice_get [] i ≡ Some s → ⊥
-    at_none i s e = cc
 
 -- those found stay as more is read, kept and known
 pub found_later : {a b : RigState} {k l : Kept} {old new : KnownWires} {found : List Findings} → Narrows a b → ((f : Faults) → Explains f b → HoldsFor k f → HoldsFor l f) → IsLater k l old new → IsKnown l new → KnowsAll l new.steps → AreFound a k old found → AreFound b l new found
