@@ -370,7 +370,7 @@ module _ {k l : Kept} {wires : List Bool} (r : HasRetaken wires k l) where
   more_retaken all = retaken_still (more_itself k) all
 
 -- What stays but for pairs.
-module _ {k l : Kept} (is : IsButPairs k l) where
+module _ (k : Kept) {l : Kept} (is : IsButPairs k l) where
   pub but_shape : l.shape ≡ k.shape
   but_shape = ap (λ (n : Kept). n.shape) is
 

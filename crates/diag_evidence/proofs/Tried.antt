@@ -88,8 +88,8 @@ module _ (trees : Trees) (hs : List WireTest) {s t : RigState} (views : Views) (
     mid = learnt.mid;
     first = learnt.first;
     near = learnt.near;
-      second = learnt.second;
-      third = learnt.third;
+    second = learnt.second;
+    third = learnt.third;
     some = learnt.some;
     few = learnt.few;
     first_marks = learnt.first_marks;

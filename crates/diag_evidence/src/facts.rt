@@ -268,13 +268,13 @@ impl Facts {
         &mut self,
         forest: &Forest,
         hangs: &[WireTest],
-        turned: &[WireTest],
+        swapped: &[WireTest],
         views: &Views,
     )
         requires forest { forest.now.shape ≡ self.old.shape }
         requires over { All (λ h. IsFoot forest.now (over_of h)) hangs.now }
         requires other { All (λ h. IsFoot forest.now (over_of (turned h))) hangs.now }
-        requires turned { turned.now ≡ map turned hangs.now }
+        requires swapped { swapped.now ≡ map turned hangs.now }
         requires views { AreViews (pins_of self.old.shape) views.now }
         ensures { Gains (joined_by self.old.apart forest.now hangs.now views.now.all.rows views.now.without_over.rows
             views.now.without_other.rows) self.old self.new }
@@ -282,7 +282,7 @@ impl Facts {
         if !all_hang(&self.apart, forest) {
             return;
         }
-        mark_joined(&mut self.apart, forest, hangs, turned, views);
+        mark_joined(&mut self.apart, forest, hangs, swapped, views);
     }
 }
 

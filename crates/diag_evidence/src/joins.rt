@@ -116,13 +116,13 @@ fn parts_from_hung(forest: &Forest, reads: &Looks, pin: u32) -> bool
 fn joins(
     forest: &Forest,
     hangs: &[WireTest],
-    turned: &[WireTest],
+    swapped: &[WireTest],
     views: &Views,
     hang: WireTest,
 ) -> bool
     requires over { All (λ h. IsFoot forest.now (over_of h)) hangs.now }
     requires other { All (λ h. IsFoot forest.now (over_of (turned h))) hangs.now }
-    requires turned { turned.now ≡ map turned hangs.now }
+    requires swapped { swapped.now ≡ map turned hangs.now }
     requires views { AreViews (pins_of forest.now.shape) views.now }
     requires foot { IsFoot forest.now (over_of hang) }
     requires foot_too { IsFoot forest.now (over_of (turned hang)) }
@@ -131,7 +131,13 @@ fn joins(
     if !is_shown(forest, hangs, &views.all, &views.without_over, hang) {
         return false;
     }
-    if !is_shown(forest, turned, &views.all, &views.without_other, turn(hang)) {
+    if !is_shown(
+        forest,
+        swapped,
+        &views.all,
+        &views.without_other,
+        turn(hang),
+    ) {
         return false;
     }
     let p = pin_at(forest, (hang.wire, hang.over));
@@ -150,13 +156,13 @@ pub(crate) fn mark_joined(
     apart: &mut BitSet,
     forest: &Forest,
     hangs: &[WireTest],
-    turned: &[WireTest],
+    swapped: &[WireTest],
     views: &Views,
 )
     requires apart { length apart.old ≡ wires_of forest.now.shape }
     requires over { All (λ h. IsFoot forest.now (over_of h)) hangs.now }
     requires other { All (λ h. IsFoot forest.now (over_of (turned h))) hangs.now }
-    requires turned { turned.now ≡ map turned hangs.now }
+    requires swapped { swapped.now ≡ map turned hangs.now }
     requires views { AreViews (pins_of forest.now.shape) views.now }
     ensures marked { (w : ℕ) → has_number apart.new w ≡ (list_any (λ h. (h.wire.0 == w) && joins forest.now hangs.now
         views.now.all.rows views.now.without_over.rows views.now.without_other.rows h) hangs.now || has_number apart.old w) }
@@ -164,7 +170,7 @@ pub(crate) fn mark_joined(
 {
     'hangs: for k in 0..hangs.len() {
         let hang = hangs[k];
-        if !joins(forest, hangs, turned, views, hang) {
+        if !joins(forest, hangs, swapped, views, hang) {
             continue;
         }
         apart.insert(hang.wire.0);

@@ -146,39 +146,34 @@ gone_none {r} {k} hand = record { hand = hand; goes = goes_itself hand; advances
 pub gone_on : {r s t : RigState} {j k l : Kept} {a : Field} {tables : List Table} {x y z : Hand} → HasGone r s j k a tables x y → Goes t a tables y z → Advances s t k l → HasGone r t j l a tables x z
 gone_on p q on = record { hand = q.hand; goes = goes_on p.goes on q; advances = advances_then p.advances on }
 
--- The set is taken back to what is known.
-module _ {a : Field} {k l n : Kept} {old new : KnownWires} {wires : List Bool} (all : KnowsAll k old.steps) (grows : GrowsIn a old.steps new.steps) (whole : (w : ℕ) → HasWire new.steps w → has_number wires w ≡ true) (r : HasRetaken wires l n) where
-  back_more : IsMore k l → IsMore k n
-  back_more more = retaken_still r more (λ w on. whole w (grows.stays w (all w on)))
+-- The set is taken back to what is known: a step that advances, seen from what was known before.
+pub advances_back : {a : Field} {k l n : Kept} {ss ts : List VerifiedWire} {wires : List Bool} {r s : RigState} → KnowsAll k ss → GrowsIn a ss ts → ((w : ℕ) → HasWire ts w → has_number wires w ≡ true) → HasRetaken wires l n → Advances r s k l → Advances r s k n
+advances_back all grows whole ret adv = record {
+  machine = adv.machine;
+  later = adv.later;
+  counted = adv.counted;
+  few = adv.few;
+  more = retaken_still ret adv.more (λ w on. whole w (grows.stays w (all w on)));
+  narrows = adv.narrows;
+  tells = adv.tells;
+  explained = λ f e h. holds_retaken ret f (adv.explained f e h);
+}
 
-  -- .. which is a step that advances, seen from what was known before
-  pub advances_back : {r s : RigState} → Advances r s k l → Advances r s k n
-  advances_back adv = record {
-    machine = adv.machine;
-    later = adv.later;
-    counted = adv.counted;
-    few = adv.few;
-    more = back_more adv.more;
-    narrows = adv.narrows;
-    tells = adv.tells;
-    explained = λ f e h. holds_retaken r f (adv.explained f e h);
-  }
-
-  pub goes_back : {now : RigState} {tables : List Table} {bad found : DefectMarks} {budget purse : LoadBudget} {before after : ℕ} → ((w : ℕ) → has_number wires w ≡ true → HasWire new.steps w) →
-      GoesYet now a tables (in_hand k old bad budget before) (in_hand l new found purse after) → Goes now a tables (in_hand k old bad budget before) (in_hand n new found purse after)
-  goes_back {now} {tables} {bad} {found} known g = record {
-    hand = record {
-      known = known_retaken r whole g.hand.known;
-      all = retaken_all r known;
-      field = subst (λ m. IsFieldOf m a) (sym (retaken_shape r)) g.hand.field;
-      marks = marks_for (retaken_shape r) g.hand.marks (marks_itself a tables found);
-      budget = g.hand.budget ∙ ap crosses_of (sym (retaken_shape r));
-    };
-    grows = g.grows;
-    marks = g.marks;
-    holds = λ f e t. true_back (retaken_shape r) (λ h _. holds_retaken r h) (g.holds f e t);
-    funded = λ limit f. funded_back (retaken_cross r) (g.funded limit f);
-  }
+pub goes_back : {now : RigState} {a : Field} {tables : List Table} {j l n : Kept} {old new : KnownWires} {bad found : DefectMarks} {budget purse : LoadBudget} {before after : ℕ} {wires : List Bool} → ((w : ℕ) → HasWire new.steps w → has_number wires w ≡ true) →
+    ((w : ℕ) → has_number wires w ≡ true → HasWire new.steps w) → HasRetaken wires l n → GoesYet now a tables (in_hand j old bad budget before) (in_hand l new found purse after) → Goes now a tables (in_hand j old bad budget before) (in_hand n new found purse after)
+goes_back {now} {a} {tables} {j} {l} {n} {old} {new} {bad} {found} whole known ret g = record {
+  hand = record {
+    known = known_retaken ret whole g.hand.known;
+    all = retaken_all ret known;
+    field = subst (λ m. IsFieldOf m a) (sym (retaken_shape ret)) g.hand.field;
+    marks = marks_for (retaken_shape ret) g.hand.marks (marks_itself a tables found);
+    budget = g.hand.budget ∙ ap crosses_of (sym (retaken_shape ret));
+  };
+  grows = g.grows;
+  marks = g.marks;
+  holds = λ f e t. true_back (retaken_shape ret) (λ h _. holds_retaken ret h) (g.holds f e t);
+  funded = λ limit f. funded_back (retaken_cross ret) (g.funded limit f);
+}
 
 -- a purse that is settled anew
 pub yet_settled : {now : RigState} {a : Field} {tables : List Table} {k : Kept} {known : KnownWires} {bad : DefectMarks} {old new : LoadBudget} {loads : ℕ} → IsHandYet a (in_hand k known bad old loads) → Settles k bad old new →

@@ -12,7 +12,7 @@ returns-then-not-is_shown-2 c =
     let rows = c.args.views.now.all.rows in
     let no_other = c.args.views.now.without_other.rows in
     let second : is_shown c.args.forest.now (map turned c.args.hangs.now) rows no_other (turned c.args.hang) ≡ false =
-    ap (λ hs. is_shown c.args.forest.now hs rows no_other (turned c.args.hang)) (sym c.requires.turned) ∙ ap (is_shown c.args.forest.now c.args.turned.now rows no_other) (sym c.turn.ensures) ∙ sym c.is_shown-2.ensures ∙ c.if-not-is_shown-2.true in
+    ap (λ hs. is_shown c.args.forest.now hs rows no_other (turned c.args.hang)) (sym c.requires.swapped) ∙ ap (is_shown c.args.forest.now c.args.swapped.now rows no_other) (sym c.turn.ensures) ∙ sym c.is_shown-2.ensures ∙ c.if-not-is_shown-2.true in
     sym (not_at_second (is_shown c.args.forest.now c.args.hangs.now rows c.args.views.now.without_over.rows c.args.hang) _ (not_at_first (is_shown c.args.forest.now (map turned c.args.hangs.now) rows no_other (turned c.args.hang)) _ second))
 
 pub returns-then-not-swings : goal.returns-then-not-swings
@@ -41,7 +41,7 @@ returns c =
     let trees = c.args.forest.now in
     let first : is_shown trees c.args.hangs.now rows no_over c.args.hang ≡ true = sym c.is_shown.ensures ∙ c.if-not-is_shown.false in
     let second : is_shown trees (map turned c.args.hangs.now) rows no_other (turned c.args.hang) ≡ true =
-    ap (λ hs. is_shown trees hs rows no_other (turned c.args.hang)) (sym c.requires.turned) ∙ ap (is_shown trees c.args.turned.now rows no_other) (sym c.turn.ensures) ∙ sym c.is_shown-2.ensures ∙ c.if-not-is_shown-2.false in
+    ap (λ hs. is_shown trees hs rows no_other (turned c.args.hang)) (sym c.requires.swapped) ∙ ap (is_shown trees c.args.swapped.now rows no_other) (sym c.turn.ensures) ∙ sym c.is_shown-2.ensures ∙ c.if-not-is_shown-2.false in
     let third : swings no_over (pin_q trees c.args.hang) ≡ true = ap (swings no_over) (sym c.pin_at-q.ensures.pin) ∙ sym c.swings.ensures ∙ c.if-not-swings.false in
     let fourth : parts_from_hung trees no_over (pin_q trees c.args.hang) ≡ true = ap (parts_from_hung trees no_over) (sym c.pin_at-q.ensures.pin) ∙ sym c.parts_from_hung.ensures ∙ c.if-not-parts_from_hung.false in
     c.parts_from_hung-2.ensures ∙ ap (parts_from_hung trees no_other) c.pin_at-p.ensures.pin
