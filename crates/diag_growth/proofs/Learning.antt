@@ -64,10 +64,6 @@ module _ {k l : Kept} {a b : KnownWires} {s : VerifiedWire} (result : Bool) (set
       by (inl e) = subst (HasWire b.steps) (let same : s.wire.0 ≡ u = grind (arith, nat_tests, e) in same) (learnt_has p)
       by (inr h) = subst (λ ss. HasWire ss u) (sym p.steps) (has_later (s ∷ []) (all u h))
 
--- all wires of the set are known, where it is the same
-pub all_still : {k l : Kept} {ss : List VerifiedWire} → KeepsSet k l → KnowsAll k ss → KnowsAll l ss
-all_still same all w on = all w (sym (same w) ∙ on)
-
 pub learnt_marks : {told : Option Faults} {k l : Kept} {a b : KnownWires} {s : VerifiedWire} {m : Marks} → IsMore k l → IsLearnt a b s → AreMarks told k a.steps m → AreMarks told l b.steps m
 learnt_marks {told} {k} {l} {a} {b} {s} {m} more p are = subst (λ ss. AreMarks told l ss m) (sym p.steps) (marks_later (s ∷ []) more are)
 

@@ -5,7 +5,7 @@ use Rattle.base_bits.specs.Numbers.{has_number}
 use Rattle.std.proofs.lemmas.Option.{slice_get_within}
 use Rattle.machine_shape.specs.declared.Shape.{Shape}
 use Rattle.machine_shape.specs.Shape.{Ends, ends_of, pin_wire, pins_of, crosses_of}
-use Rattle.diag_evidence.specs.Kept.{Kept, keeps_cross, keeps_wire, is_apart, IsMore, HasRetaken}
+use Rattle.diag_evidence.specs.Kept.{Kept, keeps_cross, keeps_wire, is_apart, IsMore, KeepsSet, HasRetaken}
 use Rattle.diag_evidence.proofs.Keeping.{retaken_shape, retaken_cross, retaken_wire}
 use Rattle.diag_evidence.proofs.KeptLemmas.{pair_apart, pair_differs}
 use Rattle.diag_known.specs.Vocabulary.{KnownWires, HasWire, IsBefore, IsFoot, Stands, on_pin, on_feet, IsKnownStep, IsKnown, IsGood, KnowsAll, IsWay, AreWays}
@@ -114,6 +114,10 @@ way_later {q = q} more way = record {
 
 pub ways_later : {k l : Kept} {ss : List VerifiedWire} {w : ℕ} {p q : Walk} → IsMore k l → AreWays k ss w p q → AreWays l ss w p q
 ways_later more a = record { first = way_later more a.first; second = way_later more a.second; meet = a.meet }
+
+-- where the set stays as it was, all of it is known still
+pub all_still : {k l : Kept} {ss : List VerifiedWire} → KeepsSet k l → KnowsAll k ss → KnowsAll l ss
+all_still same all w on = all w (sym (same w) ∙ on)
 
 -- nothing is known at first
 pub known_none : {k : Kept} {known : KnownWires} → known.shape ≡ k.shape → known.steps ≡ [] → IsKnown k known

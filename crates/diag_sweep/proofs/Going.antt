@@ -106,14 +106,10 @@ yet_then p q = record {
   funded = λ limit f. q.funded limit (p.funded limit f);
 }
 
--- where the set stays as it was, all of it is known still
-pub all_same : {k l : Kept} {ss : List VerifiedWire} → KnowsAll k ss → KeepsSet k l → KnowsAll l ss
-all_same all same w on = all w (sym (same w) ∙ on)
-
+-- the set stays as it was by what a test shows, or what it leaves where it ends early
 pub set_of : {k l : Kept} → l ≡ k → KeepsSet k l
 set_of still w = ap (λ (n : Kept). is_apart n w) still
 
--- .. by what a test shows, or what it leaves where it ends early
 pub set_by : {T E : Type 0} {k l : Kept} (r : Result T E) → OnOk r (KeepsSet k l) → OnErr r (l ≡ k) → KeepsSet k l
 set_by (Ok v) same still = same
 set_by (Err e) same still = set_of still

@@ -3,9 +3,9 @@ use Rattle.base_bits.specs.Numbers.{has_number}
 use Rattle.machine_shape.specs.declared.Shape.{Shape}
 use Rattle.machine_shape.specs.Shape.{wires_of}
 use Rattle.diag_known.specs.Vocabulary.{barred, lost}
-use Rattle.diag_known.proofs.Later.{known_later}
+use Rattle.diag_known.proofs.Later.{all_still, known_later}
 use Rattle.diag_growth.proofs.Explained.{held}
-use Rattle.diag_growth.proofs.Learning.{all_still, none_more, offers_barred, barred_twice, ready_later}
+use Rattle.diag_growth.proofs.Learning.{none_more, offers_barred, barred_twice, ready_later}
 use Rattle.diag_known.proofs.Marking.{few_then, few_barred, spends_then, spends_barred}
 use Rattle.diag_known.proofs.Settling.{on_ok_so}
 use Rattle.diag_growth.proofs.learn.try_offer.Goals as goal

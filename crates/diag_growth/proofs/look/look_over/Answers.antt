@@ -3,7 +3,7 @@ use Rattle.base_bits.specs.Numbers.{has_number}
 use Rattle.machine_shape.specs.declared.Shape.{Shape}
 use Rattle.machine_shape.specs.Shape.{wires_of}
 use Rattle.diag_evidence.proofs.KeptLemmas.{more_itself}
-use Rattle.diag_growth.proofs.Learning.{all_still}
+use Rattle.diag_known.proofs.Later.{all_still}
 use Rattle.diag_growth.proofs.Leaving.{look_plain, all_later, joins_few, joins_spent, joins_barred, joins_offered}
 use Rattle.diag_growth.proofs.Looking.{look_within, look_other, looked_barred, looked_known, not_earlier}
 use Rattle.diag_known.proofs.Places.{before_has}

@@ -1,8 +1,9 @@
 use Rattle.std.proofs.Common.{List, refl, sym, subst}
 use Rattle.diag_evidence.specs.declared.leads.Lead.{Lead}
+use Rattle.diag_known.proofs.Later.{all_still}
 use Rattle.diag_sweep.specs.Courses.{IsCourse}
 use Rattle.diag_sweep.proofs.Coursing.{path_test}
-use Rattle.diag_sweep.proofs.Going.{all_same, goes_whole, set_by}
+use Rattle.diag_sweep.proofs.Going.{goes_whole, set_by}
 use Rattle.diag_sweep.proofs.Led.{lead_goes, led_set, where_done}
 use Rattle.diag_sweep.proofs.leading.lead_load.Goals as goal
 
@@ -14,6 +15,6 @@ returns-clause-goes g c =
     let test = c.test_paths.ensures in
     let course = subst (λ (ls : List Lead). IsCourse c.args.facts.now c.args.known.now.steps c.args.field.now c.lay_walks.new.course.config.config c.lay_walks.new.course.drive ls c.lay_walks.new.course.seen)
     (sym c.deref.ensures.value) (c.in-Ok-lay_walks.ensures c.if-not-laid.false) in
-    goes_whole (all_same c.requires.hand.all (set_by c.test_paths.result (where_done c.test_paths.result test.logged led_set) test.refused))
+    goes_whole (all_still (set_by c.test_paths.result (where_done c.test_paths.result test.logged led_set) test.refused) c.requires.hand.all)
     (lead_goes c.test_paths.result c.requires.hand course (c.if-not-can_pay.ensures refl) test.loads test.advances.more test.advances.explained test.marks
     (where_done c.test_paths.result test.logged (λ led. record { reading = led.reading; marks = led.marks })) test.unmarked test.stuck_each)
