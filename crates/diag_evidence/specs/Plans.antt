@@ -7,7 +7,8 @@ use Rattle.diag_evidence.specs.declared.hangs.Views.{Views}
 use Rattle.diag_evidence.specs.Forests.{Trees}
 use Rattle.diag_evidence.specs.Kept.{Kept, Gains}
 use Rattle.rig.specs.Rig.{RigState}
-use Rattle.diag_evidence.specs.Hangs.{Foot, turned, overs, others, all_feet, closes, some_answers, shown, seen_on, joined_by, HasMarked, LogsThree}
+use Rattle.diag_evidence.specs.Hangs.{Foot, turned, overs, others, all_feet, closes, some_answers, shown, seen_on, joined_by}
+use Rattle.diag_evidence.specs.Hangs.{HasMarked, LogsThree}
 use Rattle.diag_evidence.specs.Looks.{IsLook, LogsLook, look_drives}
 
 -- what is closed in the looks, and how they are driven

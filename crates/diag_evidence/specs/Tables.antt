@@ -40,7 +40,8 @@ pub record IsCellBy (m : Shape) (f : Faults) (left right : Walk) (ties : List �
 -- Where the faults are told and what is kept is true of them, the row of a wire on trial left out, the answer is yes if the cell, or the
 -- register, is tested by the routes and ties.
 pub record CellPassesBy (told : Option Faults) (k : Kept) (left right : Walk) (ties : List ℕ) (t a : ℕ) (yes : Bool) : Type 0 where
-  pub at : (f : Faults) (l r bits : ℕ → Bool) → told ≡ Some f → HoldsUntried k f → IsCellBy k.shape f left right ties t a l r bits → IsTrue yes
+  pub at : (f : Faults) (l r bits : ℕ → Bool) → told ≡ Some f → HoldsUntried k f → IsCellBy k.shape f left right ties t a l r bits →
+      IsTrue yes
 
 pub record RegisterPassesBy (told : Option Faults) (k : Kept) (left right : Walk) (ties : List ℕ) (t : ℕ) (yes : Bool) : Type 0 where
   pub at : (f : Faults) (l r : ℕ → Bool) → told ≡ Some f → HoldsUntried k f → IsTableBy k.shape f left right ties t l r →

@@ -1,6 +1,7 @@
 -- What the crates above, and the proofs here, speak of.
-pub use Rattle.diag_evidence.specs.Kept.{Advances, AdvancesButPairs, CanSettle, FewCycles, Gain, Gains, HasFew, HasRetaken, HasSettled, HoldsFor}
-pub use Rattle.diag_evidence.specs.Kept.{HoldsUntried, IsButPairs, IsMore, IsMoreButPairs, KeepsNothing, KeepsSet, KeepsTrial, Kept, TakesFewCycles, most_cycles, nothing}
+pub use Rattle.diag_evidence.specs.Kept.{Advances, AdvancesButPairs, CanSettle, FewCycles, Gain, Gains, HasFew, HasRetaken}
+pub use Rattle.diag_evidence.specs.Kept.{HasSettled, HoldsFor, HoldsUntried, IsButPairs, IsMore, IsMoreButPairs, KeepsNothing}
+pub use Rattle.diag_evidence.specs.Kept.{KeepsSet, KeepsTrial, Kept, TakesFewCycles, most_cycles, nothing}
 pub use Rattle.diag_evidence.specs.Kept.{one_cell, one_cross, one_register, row_over, these_wires, untried, with_trial}
 unfoldable pub use Rattle.diag_evidence.specs.Kept.{in_row, is_apart, keeps_cell, keeps_cross, keeps_pair, keeps_register, keeps_wire}
 unfoldable pub use Rattle.diag_evidence.specs.Kept.{on_trial}

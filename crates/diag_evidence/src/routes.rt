@@ -88,7 +88,8 @@ impl Facts {
             (rig_state rig.old) (rig_state rig.new)) }
         ensures passes_each { IfOk result (λ yes. ForEach (rig_state rig.new) (λ told. AllApartPasses told config.now.config drive.now
             left.now rights.now yes)) }
-        ensures gains { IfOk result (λ yes. IsTrue yes → Gains (row_over self.old.trial left.now.wires (wires_over rights.now)) self.old self.new) }
+        ensures gains { IfOk result (λ yes. IsTrue yes → Gains (row_over self.old.trial left.now.wires (wires_over rights.now))
+            self.old self.new) }
         ensures same { IfOk result (λ yes. yes ≡ false → self.new ≡ self.old) }
         ensures refused { OnErr result (self.new ≡ self.old) }
         ensures trial { KeepsTrial self.old self.new }

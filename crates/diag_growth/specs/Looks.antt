@@ -49,7 +49,8 @@ pub record IsOfferOf (near : List Near) (ss : List VerifiedWire) (l : Look) (o :
 
 -- What a look has found, from a wire at a place over a crosspoint to another: it is kept unless it is stuck, where the other came
 -- before; otherwise the other is known, or barred, or the crosspoint and each other one to a wire before are lost.
-pub record IsLooked (told : Option Faults) (k : Kept) (near : List Near) (ss : List VerifiedWire) (barred : List Bool) (n x w : ℕ) : Type 0 where
+pub record IsLooked (told : Option Faults) (k : Kept) (near : List Near) (ss : List VerifiedWire) (barred : List Bool)
+    (n x w : ℕ) : Type 0 where
   pub between : IsBefore ss n w → IsKeptUnlessStuck told k x
   pub seconds : (y v : ℕ) → Links near y v w → IsBefore ss n v → HasWire ss w ⊎ ((has_number barred w ≡ true) ⊎ AreLost told k ss w x y)
 
@@ -76,7 +77,8 @@ pub record Grows (k : Kept) (old new : KnownWires) (barred now : List Bool) : Ty
   pub len : length now ≡ length barred
 
 -- Of the wire to which the crosspoint was offered, from a known wire, all has been found that its look can find.
-pub record IsOfferedMark (told : Option Faults) (k : Kept) (near : List Near) (ss : List VerifiedWire) (barred : List Bool) (x : ℕ) : Type 0 where
+pub record IsOfferedMark (told : Option Faults) (k : Kept) (near : List Near) (ss : List VerifiedWire) (barred : List Bool)
+    (x : ℕ) : Type 0 where
   pub place : ℕ
   pub from : ℕ
   pub to : ℕ

@@ -47,7 +47,8 @@ pub record IsSeat (k : Kept) (s : Seat) : Type 0 where
   pub inputs : (j : ℕ) → j < 6 → keeps_wire k (table_wire k.shape s.table.0 j) ≡ true
   pub sides : (w u : ℕ) → among (near_wires s) w ≡ true → among (far_wires k.shape s) u ≡ true → keeps_pair (untried k) w u ≡ true
   pub near_inputs : (j w : ℕ) → j < 6 → among (near_wires s) w ≡ true → keeps_pair (untried k) (table_wire k.shape s.table.0 j) w ≡ true
-  pub far_inputs : (j w : ℕ) → j < 6 → among (far_wires k.shape s) w ≡ true → keeps_pair (untried k) (table_wire k.shape s.table.0 j) w ≡ true
+  pub far_inputs : (j w : ℕ) → j < 6 → among (far_wires k.shape s) w ≡ true →
+      keeps_pair (untried k) (table_wire k.shape s.table.0 j) w ≡ true
   pub between_inputs : (i j : ℕ) → i < 6 → j < 6 → i ≢ j →
       keeps_pair (untried k) (table_wire k.shape s.table.0 i) (table_wire k.shape s.table.0 j) ≡ true
 

@@ -1,6 +1,6 @@
 //! Known wires, in the order in which they came.
-ghost use Rattle.std.specs.Prelude.{◌≡◌, ◌<◌, ◌≤◌, ◌++◌, ◌∷◌, ℕ, true, false, [], IfOk, IfSome, IfNone, IsTrue, OnOk, OnErr, length, replicate};
-ghost use Rattle.std.specs.Prelude.{slice_get, Some, None};
+ghost use Rattle.std.specs.Prelude.{◌≡◌, ◌<◌, ◌≤◌, ◌++◌, ◌∷◌, ℕ, true, false, [], IfOk, IfSome, IfNone, IsTrue, OnOk, OnErr, length};
+ghost use Rattle.std.specs.Prelude.{replicate, slice_get, Some, None};
 ghost use Rattle.base_bits.specs.Numbers.{has_number};
 ghost use Rattle.machine_shape.specs.Shape.{wires_of};
 ghost use Rattle.diag_known.specs.Known.{IsAt, HasWire};
