@@ -10,6 +10,7 @@ use Rattle.machine_shape.specs.Vocabulary.{IsNumbered, table_wire}
 use Rattle.machine_config.specs.Configuration.{setting_of}
 use Rattle.machine_image.specs.Vocabulary.{ImageValue, IsImage, IsWideEnough, at_table}
 use Rattle.diag_evidence.specs.Kept.{Kept, HoldsFor, IsMore}
+use Rattle.diag_evidence.proofs.Keeping.{holds_untried}
 use Rattle.diag_known.specs.Field.{IsFieldOf, ClosedIf}
 use Rattle.diag_growth.specs.Tables.{SeatedAreKept, fresh_tables, keeps_table}
 use Rattle.diag_known.specs.declared.field.Field.{Field}
@@ -37,7 +38,7 @@ routes_if told old new ss i used a answer laws right are fits shape closed holds
   where
     at : (f : Faults) → told ≡ Some f → HoldsFor old f → IsUnharmed f i → HasSkeleton i a → IsTrue answer × AreSeated new ss i
     at f is holds unharmed sk =
-        let grown = closed.at f is (holds_on f is holds) in
+        let grown = closed.at f is (holds_untried (holds_on f is holds)) in
         let within = used_within i used right are in (
           known (routes_known i laws within f unharmed a fits sk new shape ss grown),
           λ t on. seated i laws within f unharmed a fits sk new shape ss grown t on (on_within i right t on),
@@ -45,7 +46,7 @@ routes_if told old new ss i used a answer laws right are fits shape closed holds
 
     ways : (f : Faults) → told ≡ Some f → HoldsFor old f → StandsBySurroundings f i → AreSurroundings i a → IsTrue answer × AreSeated new ss i
     ways f is holds stands around =
-        let grown = closed.at f is (holds_on f is holds) in
+        let grown = closed.at f is (holds_untried (holds_on f is holds)) in
         (known (routes_near i right f stands a around new shape ss grown), λ t on. seats_near i right f stands a around new shape ss grown t on)
 
 -- the tests of the tables that are on keep what the image needs of them, where they are seated

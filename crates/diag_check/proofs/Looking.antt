@@ -1,46 +1,31 @@
 -- What the looks at an image say.
-use Rattle.std.proofs.Common.{◌≡◌, ◌≢◌, ◌⊎◌, ℕ, ◌<◌, ◌≤◌, true, Some, Option, List, All, get_or, sym, ap, ◌∙◌, subst, inl, inr, arith, is_some, slice_get}
-use Rattle.std.proofs.lemmas.Bool.{cases_eq, cases_lt}
+use Rattle.std.proofs.Common.{◌≡◌, ℕ, true, Some, Option, List, All, get_or, ap, subst, is_some}
 use Rattle.std.proofs.lemmas.Option.{slice_get-get_or}
 use Rattle.machine_shape.specs.declared.Table.{Table}
 use Rattle.machine_shape.specs.declared.Shape.{Shape}
 use Rattle.machine_meaning.specs.Vocabulary.{Faults, IsSoundTable, IsRightTable}
 use Rattle.machine_config.specs.Configuration.{setting_of}
 use Rattle.machine_image.specs.Images.{ImageValue}
-use Rattle.diag_evidence.specs.Kept.{Kept, HoldsFor, IsMore, keeps_wire, keeps_pair}
-use Rattle.diag_known.specs.Known.{KnownWires, HasWire, IsAt, IsKnown}
+use Rattle.diag_evidence.specs.Kept.{Kept, HoldsFor, IsMore, keeps_wire}
+use Rattle.diag_known.specs.Known.{KnownWires, HasWire, IsKnown}
 use Rattle.diag_growth.specs.Tables.{SeatedAreKept}
 use Rattle.diag_known.specs.declared.verified_wire.VerifiedWire.{VerifiedWire}
 use Rattle.diag_growth.specs.Seats.{KeepsTable}
 use Rattle.diag_check.specs.Looks.{KeepsTableOf, AreSeated}
 use Rattle.diag_check.specs.Soundly.{KeepsRoutes, KeepsTables, PartsAreSound}
 
--- ---- known wires are kept, and each two of them are a kept pair
+-- ---- known wires are kept
 
 module _ (k : Kept) (known : KnownWires) (is : IsKnown k known) where
   pub wire_kept : (w : ℕ) → HasWire known.steps w → keeps_wire k w ≡ true
   wire_kept w h = subst (λ u. keeps_wire k u ≡ true) h.at.wire (is.steps h.place h.at.step h.at.here).kept
-
-  earlier_kept : (w u i j : ℕ) → i < j → IsAt known.steps i w → IsAt known.steps j u → keeps_pair k w u ≡ true
-  earlier_kept w u i j l a b = subst (λ v. keeps_pair k w v ≡ true) b.wire ((is.steps j b.step b.here).apart w (record { place = i; early = l; at = a }))
-
-  pub pair_kept : ((a b : ℕ) → keeps_pair k a b ≡ keeps_pair k b a) → (w u : ℕ) → HasWire known.steps w → HasWire known.steps u → w ≢ u → keeps_pair k w u ≡ true
-  pair_kept turned w u a b differ = by (cases_eq a.place b.place) (cases_lt a.place b.place)
-    where
-      same : a.place ≡ b.place → w ≡ u
-      same e = sym a.at.wire ∙ ap (λ (s : VerifiedWire). s.wire.0) (let one = a.at.here in let other = b.at.here in let at = sym one ∙ ap (slice_get known.steps) e ∙ other in let is_ : a.at.step ≡ b.at.step = cc in is_) ∙ b.at.wire
-
-      by : (a.place ≡ b.place) ⊎ (a.place ≡ b.place → ⊥) → (a.place < b.place) ⊎ (b.place ≤ a.place) → keeps_pair k w u ≡ true
-      by (inl e) less = absurd (differ (same e))
-      by (inr other) (inl l) = earlier_kept w u a.place b.place l a.at b.at
-      by (inr other) (inr l) = turned w u ∙ earlier_kept u w b.place a.place (omega arith) b.at a.at
 
 -- what was kept of routes stays kept
 pub routes_stay : {k l : Kept} {i : ImageValue} → IsMore k l → KeepsRoutes k i → KeepsRoutes l i
 routes_stay more keeps = record {
   crosses = λ x c. more.crosses x (keeps.crosses x c);
   wires = λ w uses. more.wires w (keeps.wires w uses);
-  pairs = λ w u p q differ. more.pairs w u (keeps.pairs w u p q differ);
+  apart = λ w uses. more.apart w (keeps.apart w uses);
 }
 
 -- ---- tables

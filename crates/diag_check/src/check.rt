@@ -1,9 +1,9 @@
 //! The test of an image.
-ghost use Rattle.std.specs.Prelude.{◌≡◌, ◌≤◌, ◌+◌, ◌*◌, Bool, List, Some, IfOk, IsErrOf, IsTrue};
+ghost use Rattle.std.specs.Prelude.{◌≡◌, ◌≤◌, ◌+◌, ◌*◌, ℕ, Bool, false, List, Some, IfOk, IsErrOf, IsTrue};
 ghost use Rattle.base_bits.specs.Numbers.{size_of};
 ghost use Rattle.base_io.specs.Counts.{Rose};
-ghost use Rattle.diag_evidence.specs.Kept.{Advances};
-ghost use Rattle.diag_known.specs.Vocabulary.{IsFieldOf, IsKnown};
+ghost use Rattle.diag_evidence.specs.Kept.{Advances, KeepsSet, is_apart};
+ghost use Rattle.diag_known.specs.Vocabulary.{IsFieldOf, IsKnown, KnowsAll};
 ghost use Rattle.rig.specs.Rig.{ForEach, Narrows, Tells, shape_of};
 ghost use Rattle.machine_image.specs.Parts.{IsWideEnough};
 ghost use Rattle.diag_check.specs.Fields.{IsFewFor};
@@ -42,10 +42,12 @@ fn grow_over(
 ) -> Result<bool, RigFail>
     requires attached { shape_of (rig_state rig.old) ≡ Some facts.old.shape }
     requires known { IsKnown facts.old known.old }
+    requires all { KnowsAll facts.old known.old.steps }
     requires field { IsFieldOf facts.old.shape field.now }
     requires image { image.now.config.shape ≡ facts.old.shape }
     requires used { AreUsed image.now used.now }
     ensures known { IsKnown facts.new known.new }
+    ensures all { KnowsAll facts.new known.new.steps }
     ensures keeps { IfOk result (λ yes. IsTrue yes → KeepsRoutes facts.new image.now) }
     ensures whole_each { IfOk result (λ yes. ForEach (rig_state rig.new) (λ told. RoutesIf told facts.old facts.new known.new.steps
         image.now field.now yes)) }
@@ -77,6 +79,7 @@ fn look_at_tables(
     ensures keeps { IfOk result (λ yes. IsTrue yes → KeepsTables facts.new image.now) }
     ensures whole_each { IfOk result (λ yes. ForEach (rig_state rig.new) (λ told. TablesIf told facts.old known.now.steps image.now yes)) }
     ensures advances { Advances (rig_state rig.old) (rig_state rig.new) facts.old facts.new }
+    ensures set { KeepsSet facts.old facts.new }
     ensures loads { (used : List Bool) → AreUsed image.now used →
         TakesForTables image.now used (rig_state rig.old).loads (rig_state rig.new).loads }
     ensures cause { IsErrOf result RigFail.Failed → Rose (rig_state rig.old).failures (rig_state rig.new).failures }
@@ -101,10 +104,12 @@ fn check_in(
 ) -> Result<bool, RigFail>
     requires attached { shape_of (rig_state rig.old) ≡ Some facts.old.shape }
     requires known { IsKnown facts.old known.old }
+    requires all { KnowsAll facts.old known.old.steps }
     requires field { IsFieldOf facts.old.shape field.now }
     requires image { image.now.config.shape ≡ facts.old.shape }
     requires used { AreUsed image.now used.now }
     ensures known { IsKnown facts.new known.new }
+    ensures all { KnowsAll facts.new known.new.steps }
     ensures keeps { IfOk result (λ yes. IsTrue yes → KeepsParts facts.new image.now) }
     ensures whole_each { IfOk result (λ yes. ForEach (rig_state rig.new) (λ told. FieldIf told facts.old image.now field.now yes)) }
     ensures advances { Advances (rig_state rig.old) (rig_state rig.new) facts.old facts.new }
@@ -142,10 +147,12 @@ fn sweep_around(
 ) -> Result<(), RigFail>
     requires attached { shape_of (rig_state rig.old) ≡ Some facts.old.shape }
     requires known { IsKnown facts.old known.old }
+    requires all { KnowsAll facts.old known.old.steps }
     requires image { image.now.config.shape ≡ facts.old.shape }
     requires used { AreUsed image.now parts.now.used }
     requires nodes { AreInvolved image.now parts.now.nodes }
     ensures known { IsKnown facts.new known.new }
+    ensures all { KnowsAll facts.new known.new.steps }
     ensures advances { Advances (rig_state rig.old) (rig_state rig.new) facts.old facts.new }
     ensures loads { (rig_state rig.new).loads ≤ (rig_state rig.old).loads + 170 * size_of parts.now.used }
     ensures cause { IsErrOf result RigFail.Failed → Rose (rig_state rig.old).failures (rig_state rig.new).failures }
@@ -201,6 +208,7 @@ fn check_over(
     requires used { AreUsed image.now parts.now.used }
     requires nodes { AreInvolved image.now parts.now.nodes }
     requires known { IsKnown facts.old known.old }
+    requires all { KnowsAll facts.old known.old.steps }
     requires narrow { IsFieldOf image.now.config.shape fields.now.narrow }
     requires narrow_whole { IsWideEnough image.now.config.shape image.now → HasSkeleton image.now fields.now.narrow }
     requires narrow_few { IsFewFor image.now parts.now.nodes parts.now.used 2 fields.now.narrow }
@@ -238,6 +246,7 @@ fn check_in_both(
 ) -> Result<bool, RigFail>
     requires attached { shape_of (rig_state rig.old) ≡ Some facts.old.shape }
     requires image { image.now.config.shape ≡ facts.old.shape }
+    requires nothing { (w : ℕ) → is_apart facts.old w ≡ false }
     requires used { AreUsed image.now parts.now.used }
     requires nodes { AreInvolved image.now parts.now.nodes }
     requires narrow { IsFieldOf image.now.config.shape fields.now.narrow }
@@ -270,6 +279,7 @@ fn check_with(
 ) -> Result<bool, RigFail>
     requires attached { shape_of (rig_state rig.old) ≡ Some facts.old.shape }
     requires image { image.now.config.shape ≡ facts.old.shape }
+    requires nothing { (w : ℕ) → is_apart facts.old w ≡ false }
     requires used { AreUsed image.now parts.now.used }
     requires nodes { AreInvolved image.now parts.now.nodes }
     ensures keeps { IfOk result (λ yes. IsTrue yes → KeepsParts facts.new image.now) }

@@ -1,9 +1,9 @@
 //! Whether an image's parts are kept.
-ghost use Rattle.std.specs.Prelude.{◌≡◌, ◌≢◌, ◌<◌, ◌↔◌, ℕ, All, IsTrue, true, length};
+ghost use Rattle.std.specs.Prelude.{◌≡◌, ◌<◌, ◌↔◌, ℕ, All, IsTrue, true, length};
 ghost use Rattle.base_bits.specs.Numbers.{has_number};
 ghost use Rattle.machine_shape.specs.Shape.{wires_of, crosses_of, tables_of};
 ghost use Rattle.machine_image.specs.Images.{IsImage};
-ghost use Rattle.diag_evidence.specs.Kept.{keeps_cell, keeps_cross, keeps_pair, keeps_wire};
+ghost use Rattle.diag_evidence.specs.Kept.{is_apart, keeps_cell, keeps_cross, keeps_wire};
 ghost use Rattle.diag_known.specs.Known.{HasWire, IsKnown};
 ghost use Rattle.diag_check.specs.Looks.{AreRoutesKnown, KeepsTableOf};
 ghost use Rattle.diag_check.specs.Soundly.{KeepsRoutes, KeepsTables};
@@ -11,7 +11,6 @@ ghost use Rattle.diag_check.specs.Used.{AreUsed};
 
 use base_bits::BitSet;
 use diag_evidence::Facts;
-use diag_evidence::laws::kept_facts_are_sound;
 use diag_growth::Known;
 use machine_image::Image;
 use machine_shape::{Cross, Table, Wire};
@@ -45,17 +44,15 @@ fn has_each(facts: &Facts, known: &Known, used: &BitSet) -> bool
     true
 }
 
-// The same. Each two known wires are kept apart, which no look at the wires one by one shows.
+// The same. Known wires are of the set, which no look at the wires one by one shows.
 fn has_wires(facts: &Facts, known: &Known, used: &BitSet) -> bool
     requires known { IsKnown facts.now known.now }
     requires used { length used.now ≡ wires_of facts.now.shape }
     ensures wires { IsTrue result → (w : ℕ) → has_number used.now w ≡ true → keeps_wire facts.now w ≡ true }
-    ensures pairs { IsTrue result → (w u : ℕ) → has_number used.now w ≡ true → has_number used.now u ≡ true → w ≢ u →
-        keeps_pair facts.now w u ≡ true }
+    ensures apart { IsTrue result → (w : ℕ) → has_number used.now w ≡ true → is_apart facts.now w ≡ true }
     ensures all { ((w : ℕ) → has_number used.now w ≡ true → (keeps_wire facts.now w ≡ true) × HasWire known.now.steps w) →
         IsTrue result }
 {
-    kept_facts_are_sound();
     has_each(facts, known, used)
 }
 

@@ -2,18 +2,16 @@
 use Rattle.std.proofs.Common.{◌≡◌, ◌≢◌, ◌≤◌, ℕ, Bool, true, false, Some, Option, List, refl, sym, ◌∙◌, subst, arith, ◌==◌}
 use mathlib.Core.Bool.{beq}
 use Rattle.std.proofs.lemmas.Bool.Decides.{nat_tests}
-use Rattle.machine_shape.specs.declared.Shape.{Shape}
 use Rattle.machine_shape.specs.Shape.{pin_wire}
-use Rattle.machine_meaning.specs.Vocabulary.{Pins, Faults, stuck_cross, Net, Joined, here, then, crossed, Shorted, net_of}
-use Rattle.machine_meaning.proofs.JoinedLemmas.{Joined-sym}
+use Rattle.machine_meaning.specs.Vocabulary.{Pins, Faults, stuck_cross, Net, Joined, here, then, crossed, IsClear, net_of}
 use Rattle.machine_config.specs.declared.Setting.{Setting}
 use Rattle.machine_config.specs.Vocabulary.{Configuration, is_closed, with_open, with_setting, with_cell, with_init, among, LeadsTo, ends, goes}
-use Rattle.machine_config.proofs.Readings.{conducting, swing_clears, apart_separates}
+use Rattle.machine_config.proofs.Readings.{conducting, swing_clears}
 use Rattle.machine_config.proofs.Toggles.{closed_cross_shows, cell_shows, register_shows}
 use Rattle.diag_tests.specs.Routes.{Walk}
 use Rattle.rig.specs.Rig.{RigState, Explains, Narrows, Tells}
-use Rattle.diag_evidence.specs.Vocabulary.{Kept, HoldsFor, Gain, Gains, Advances, FewCycles, one_cross, one_cell, one_register, these_wires, these_pairs, Reads, ReadsPins, ReadsTwice, IsReady}
-use Rattle.diag_evidence.proofs.KeptLemmas.{GainHoldsFor, more_by_gain, holds_by_gain, cross_holds, cell_holds, register_holds, wires_hold, pairs_hold}
+use Rattle.diag_evidence.specs.Vocabulary.{Kept, HoldsFor, Gain, Gains, Advances, FewCycles, one_cross, one_cell, one_register, these_wires, Reads, ReadsTwice, IsReady}
+use Rattle.diag_evidence.proofs.KeptLemmas.{GainHoldsFor, more_by_gain, holds_by_gain, cross_holds, cell_holds, register_holds, wires_hold}
 use Rattle.diag_evidence.proofs.Shown.{differ, differ_turned}
 
 pub different_bits : (a b : Bool) → beq a b ≡ false → a ≢ b
@@ -24,7 +22,7 @@ different_bits false true e = λ d. cc
 
 -- a gain of what is true
 pub advances_by : {old new : RigState} {k l : Kept} (gain : Gain) → new.machine ≡ old.machine → old.failures ≤ new.failures → old.loads ≤ new.loads → FewCycles old new → Gains gain k l → Narrows old new → Tells old new →
-    ((f : Faults) → Explains f new → HoldsFor k f → GainHoldsFor k.shape gain f) → Advances old new k l
+    ((f : Faults) → Explains f new → HoldsFor k f → GainHoldsFor k gain f) → Advances old new k l
 advances_by {k = k} {l = l} gain same later counted few gains narrows tells each = record {
   machine = same;
   later = later;
@@ -36,19 +34,19 @@ advances_by {k = k} {l = l} gain same later counted few gains narrows tells each
   explained = λ f e h. holds_by_gain gain k l f gains h (each f e h);
 }
 
-pub cross_gain : {told : Option Faults} {drive : Pins} {pin : ℕ} {a b : Bool} (m : Shape) (g : Configuration) (x : ℕ) → is_closed g x ≡ true → (p : Reads told g drive pin a) (q : Reads told (with_open g x) drive pin b) → a ≢ b →
-    (f : Faults) → told ≡ Some f → GainHoldsFor m (one_cross x) f
-cross_gain m g x closed p q n f told = cross_holds m x f (closed_cross_shows f g x closed (p.run f told) (q.run f told) (differ p q n))
+pub cross_gain : {told : Option Faults} {drive : Pins} {pin : ℕ} {a b : Bool} (k : Kept) (g : Configuration) (x : ℕ) → is_closed g x ≡ true → (p : Reads told g drive pin a) (q : Reads told (with_open g x) drive pin b) → a ≢ b →
+    (f : Faults) → told ≡ Some f → GainHoldsFor k (one_cross x) f
+cross_gain k g x closed p q n f told = cross_holds k x f (closed_cross_shows f g x closed (p.run f told) (q.run f told) (differ p q n))
 
-pub cell_gain : {told : Option Faults} {drive : Pins} {pin : ℕ} {a b : Bool} (m : Shape) (g : Configuration) (t y : ℕ) (s : Setting) →
+pub cell_gain : {told : Option Faults} {drive : Pins} {pin : ℕ} {a b : Bool} (k : Kept) (g : Configuration) (t y : ℕ) (s : Setting) →
     (p : Reads told (with_setting g t (Some (with_cell s y false))) drive pin a) (q : Reads told (with_setting g t (Some (with_cell s y true))) drive pin b) → a ≢ b →
-    (f : Faults) → told ≡ Some f → GainHoldsFor m (one_cell t y) f
-cell_gain m g t y s p q n f told = cell_holds m t y f (cell_shows f g t s y (q.run f told) (p.run f told) (differ_turned p q n))
+    (f : Faults) → told ≡ Some f → GainHoldsFor k (one_cell t y) f
+cell_gain k g t y s p q n f told = cell_holds k t y f (cell_shows f g t s y (q.run f told) (p.run f told) (differ_turned p q n))
 
-pub register_gain : {told : Option Faults} {drive : Pins} {pin : ℕ} {a b : Bool} (m : Shape) (g : Configuration) (t : ℕ) (s : Setting) → s.latched ≡ true →
+pub register_gain : {told : Option Faults} {drive : Pins} {pin : ℕ} {a b : Bool} (k : Kept) (g : Configuration) (t : ℕ) (s : Setting) → s.latched ≡ true →
     (p : Reads told (with_setting g t (Some (with_init s false))) drive pin a) (q : Reads told (with_setting g t (Some (with_init s true))) drive pin b) → a ≢ b →
-    (f : Faults) → told ≡ Some f → GainHoldsFor m (one_register t) f
-register_gain m g t s latched p q n f told = register_holds m t f (register_shows f g t s latched (q.run f told) (p.run f told) (differ_turned p q n))
+    (f : Faults) → told ≡ Some f → GainHoldsFor k (one_register t) f
+register_gain k g t s latched p q n f told = register_holds k t f (register_shows f g t s latched (q.run f told) (p.run f told) (differ_turned p q n))
 
 -- the wires of a walk are joined to its start
 pub joined_along : {net : Net} {start a e : ℕ} {xs ws : List ℕ} → Joined net start a → LeadsTo net.shape a xs ws e → ((x : ℕ) → among xs x ≡ true → net.conducts x ≡ true) → (w : ℕ) → among ws w ≡ true → Joined net start w
@@ -67,16 +65,7 @@ ready_joined f k g r same h ready w is =
     (λ x on. conducting f g (stuck_cross f x) (is_closed g x) (ready.closed x on) (h.crosses x (ready.kept x on))) w is
 
 pub wires_gain : {told : Option Faults} {g : Configuration} {low high : Pins} {a b : Bool} (k : Kept) (r : Walk) → g.shape ≡ k.shape → IsReady k g r → (p : ReadsTwice told g low high r.pin a b) → a ≢ b →
-    (f : Faults) → told ≡ Some f → HoldsFor k f → GainHoldsFor k.shape (these_wires r.wires) f
+    (f : Faults) → told ≡ Some f → HoldsFor k f → GainHoldsFor k (these_wires r.wires) f
 wires_gain {g = g} k r same ready p n f told h =
-    subst (λ m. GainHoldsFor m (these_wires r.wires) f) same (wires_hold g.shape r.wires f (λ w is.
-    swing_clears f g r.pin w (p.run f told) (rw same ready.route.pin) (λ e. n (p.first_is ∙ e ∙ sym p.second_is)) (ready_joined f k g r same h ready w is)))
-
-pub pairs_gain : {told : Option Faults} {g : Configuration} {drive : Pins} {a b : Bool} (k : Kept) (r s : Walk) → g.shape ≡ k.shape → IsReady k g r → IsReady k g s → (p : ReadsPins told g drive r.pin s.pin a b) → a ≢ b →
-    (f : Faults) → told ≡ Some f → HoldsFor k f → GainHoldsFor k.shape (these_pairs r.wires s.wires) f
-pairs_gain {g = g} k r s same left right p n f told h =
-    subst (λ m. GainHoldsFor m (these_pairs r.wires s.wires) f) same (pairs_hold g.shape r.wires s.wires f apart (λ w u is on j. apart u w on is (Joined-sym j)))
-  where
-    apart : (w u : ℕ) → among r.wires w ≡ true → among s.wires u ≡ true → ¬ Shorted g.shape f w u
-    apart w u is on = apart_separates f g r.pin s.pin w u (p.run f told) (rw same left.route.pin) (rw same right.route.pin) (λ e. n (p.first_is ∙ e ∙ sym p.second_is))
-        (ready_joined f k g r same h left w is) (ready_joined f k g s same h right u on)
+    wires_hold k r.wires f (λ w is. subst (λ m. IsClear m f w) same
+    (swing_clears f g r.pin w (p.run f told) (rw same ready.route.pin) (λ e. n (p.first_is ∙ e ∙ sym p.second_is)) (ready_joined f k g r same h ready w is)))

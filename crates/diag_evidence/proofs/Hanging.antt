@@ -15,17 +15,17 @@ use Rattle.machine_config.specs.Vocabulary.{Configuration, is_closed, OpensFarFr
 use Rattle.machine_config.proofs.Distance.{change_at_a_distance}
 use Rattle.diag_tests.specs.Routes.{other_end}
 use Rattle.diag_evidence.specs.declared.hangs.WireTest.{WireTest}
-use Rattle.diag_evidence.specs.Vocabulary.{Kept, HoldsFor, Gains, Trees, HangsOn, is_laid, IsForest, KeepsForest, KnowsForest, IsLook, differ, parts, read_under, Foot, IsFoot, AreHangs, over_of, turned, overs, others, all_feet, closes, pin_at, pin_p, pin_q, feet_crosses, others_part_from, is_shown, shown, seen_on}
-use Rattle.diag_evidence.proofs.KeptLemmas.{GainHoldsFor, holds_by_gain}
+use Rattle.diag_evidence.specs.Vocabulary.{Kept, HoldsFor, Trees, HangsOn, is_laid, IsForest, KeepsForest, KnowsForest, IsLook, differ, parts, read_under, Foot, IsFoot, AreHangs, over_of, turned, overs, others, all_feet, closes, pin_at, pin_p, pin_q, feet_crosses, others_part_from, is_shown, shown, seen_on}
+use Rattle.diag_evidence.proofs.KeptLemmas.{GainHoldsFor}
 use Rattle.diag_evidence.proofs.Rows.{differ_so}
 use Rattle.diag_evidence.proofs.Seeing.{g, row_under, standing, pin_inside, part_unjoined, seen_on_holds}
 use Rattle.diag_evidence.proofs.Unfitting.{StandsAt, stands_at, all_pass, one_place, num_in, end_is}
 
 -- a hang to name one beyond a list by
-abbrev some_hang : WireTest
+abbrev pub some_hang : WireTest
 some_hang = record { wire = record { 0 = 0 }; over = record { 0 = 0 }; other = record { 0 = 0 } }
 
-abbrev some_foot : Foot
+abbrev pub some_foot : Foot
 some_foot = (record { 0 = 0 }, record { 0 = 0 })
 
 -- conditions on hangs, of which the pins are left out
@@ -180,9 +180,9 @@ module _ {told : Option Faults} (trees : Trees) (hs : List WireTest) (rows witho
 
   -- what is kept over feet that are shown is true, by a look that closes them
   pub shown_holds : (others_ : List Pins) (closing : ℕ → Bool) → IsLook told trees.shape closing others_ → ((x : ℕ) → is_laid trees x ≡ true → closing x ≡ true) → ((x : ℕ) → among (feet_crosses (overs hs)) x ≡ true → closing x ≡ true) →
-      GainHoldsFor trees.shape (seen_on trees (shown trees hs rows without) others_) f
-  shown_holds others_ closing view laid on = seen_on_holds view f is trees refl forest free laid (shown trees hs rows without)
-      (overs_feet (filter (is_shown trees hs rows without) hs) (All-filter (is_shown trees hs rows without) (λ h. IsFoot trees (over_of h)) hs hung.over)) free_of on_of
+      (k : Kept) → k.shape ≡ trees.shape → GainHoldsFor k (seen_on trees (shown trees hs rows without) others_) f
+  shown_holds others_ closing view laid on k there = seen_on_holds view f is trees refl forest free laid (shown trees hs rows without)
+      (overs_feet (filter (is_shown trees hs rows without) hs) (All-filter (is_shown trees hs rows without) (λ h. IsFoot trees (over_of h)) hs hung.over)) free_of on_of k there
     where
       p : WireTest → Bool
       p = is_shown trees hs rows without
@@ -238,25 +238,32 @@ module _ {told : Option Faults} (k : Kept) (trees : Trees) (hs : List WireTest) 
     shut : (feet : List Foot) (x : ℕ) → is_laid trees x ≡ true → closes trees feet x ≡ true
     shut feet x on = or_left (is_laid trees x) (among (feet_crosses feet) x) on
 
-    pub second_holds : GainHoldsFor k.shape (seen_on trees (shown trees hs rows no_over) no_other) f
-    second_holds = subst (λ m. GainHoldsFor m (seen_on trees (shown trees hs rows no_over) no_other) f) keeps.shape
-        (shown_holds trees hs rows no_over (closes trees (all_feet hs)) (closes trees (others hs)) look over_look
-        (λ y on. closes_all y ∙ bool_second (is_laid trees y) (among (feet_crosses (overs hs)) y) (among (feet_crosses (others hs)) y) on)
-        (λ y on off. bool_left (is_laid trees y) (among (feet_crosses (overs hs)) y) (among (feet_crosses (others hs)) y) (sym (closes_all y) ∙ on) off)
-        (shut (all_feet hs)) forest hung f is free no_other (closes trees (overs hs)) other_look (shut (overs hs)) (λ x on. or_right (is_laid trees x) (among (feet_crosses (overs hs)) x) on))
+    over_fewer : (y : ℕ) → closes trees (others hs) y ≡ true → closes trees (all_feet hs) y ≡ true
+    over_fewer y on = closes_all y ∙ bool_second (is_laid trees y) (among (feet_crosses (overs hs)) y) (among (feet_crosses (others hs)) y) on
 
-    pub first_holds : GainHoldsFor k.shape (seen_on trees (shown trees (map turned hs) rows no_other) no_over) f
-    first_holds = subst (λ m. GainHoldsFor m (seen_on trees (shown trees (map turned hs) rows no_other) no_over) f) keeps.shape
-        (shown_holds trees (map turned hs) rows no_other (closes trees (all_feet hs)) (closes trees (overs hs)) look other_look
-        (λ y on. closes_all y ∙ bool_first (is_laid trees y) (among (feet_crosses (overs hs)) y) (among (feet_crosses (others hs)) y) on)
-        (λ y on off. bool_right (is_laid trees y) (among (feet_crosses (overs hs)) y) (among (feet_crosses (others hs)) y) (sym (closes_all y) ∙ on) off)
-        (shut (all_feet hs)) forest (hung_turned hung) f is free no_over (closes trees (others hs)) over_look (shut (others hs)) (λ x on. or_right (is_laid trees x) (among (feet_crosses (others hs)) x) on))
+    over_opened : (y : ℕ) → closes trees (all_feet hs) y ≡ true → closes trees (others hs) y ≡ false → among (feet_crosses (overs hs)) y ≡ true
+    over_opened y on off = bool_left (is_laid trees y) (among (feet_crosses (overs hs)) y) (among (feet_crosses (others hs)) y) (sym (closes_all y) ∙ on) off
 
-  -- so what is kept is true
-  pub hung_holds : (mid l : Kept) → Gains (seen_on trees (shown trees (map turned hs) rows no_other) no_over) k mid → Gains (seen_on trees (shown trees hs rows no_over) no_other) mid l →
-      (f : Faults) → told ≡ Some f → HoldsFor k f → HoldsFor l f
-  hung_holds mid l one two f is holds = holds_by_gain _ mid l f two (holds_by_gain _ k mid f one holds (first_holds f is holds))
-      (subst (λ m. GainHoldsFor m (seen_on trees (shown trees hs rows no_over) no_other) f) (sym one.shape) (second_holds f is holds))
+    other_fewer : (y : ℕ) → closes trees (overs hs) y ≡ true → closes trees (all_feet hs) y ≡ true
+    other_fewer y on = closes_all y ∙ bool_first (is_laid trees y) (among (feet_crosses (overs hs)) y) (among (feet_crosses (others hs)) y) on
+
+    other_opened : (y : ℕ) → closes trees (all_feet hs) y ≡ true → closes trees (overs hs) y ≡ false → among (feet_crosses (others hs)) y ≡ true
+    other_opened y on off = bool_right (is_laid trees y) (among (feet_crosses (overs hs)) y) (among (feet_crosses (others hs)) y) (sym (closes_all y) ∙ on) off
+
+    -- crosspoints that are shown aren't stuck
+    pub overs_free : (i : ℕ) → i < length hs → is_shown trees hs rows no_over (get_or hs i some_hang) ≡ true → stuck_cross f (get_or hs i some_hang).over.0 ≡ None
+    overs_free = shown_free trees hs rows no_over (closes trees (all_feet hs)) (closes trees (others hs)) look over_look over_fewer over_opened (shut (all_feet hs)) forest hung f is free
+
+    pub others_free : (i : ℕ) → i < length (map turned hs) → is_shown trees (map turned hs) rows no_other (get_or (map turned hs) i some_hang) ≡ true → stuck_cross f (get_or (map turned hs) i some_hang).over.0 ≡ None
+    others_free = shown_free trees (map turned hs) rows no_other (closes trees (all_feet hs)) (closes trees (overs hs)) look other_look other_fewer other_opened (shut (all_feet hs)) forest (hung_turned hung) f is free
+
+    pub second_holds : (n : Kept) → n.shape ≡ trees.shape → GainHoldsFor n (seen_on trees (shown trees hs rows no_over) no_other) f
+    second_holds = shown_holds trees hs rows no_over (closes trees (all_feet hs)) (closes trees (others hs)) look over_look over_fewer over_opened
+        (shut (all_feet hs)) forest hung f is free no_other (closes trees (overs hs)) other_look (shut (overs hs)) (λ x on. or_right (is_laid trees x) (among (feet_crosses (overs hs)) x) on)
+
+    pub first_holds : (n : Kept) → n.shape ≡ trees.shape → GainHoldsFor n (seen_on trees (shown trees (map turned hs) rows no_other) no_over) f
+    first_holds = shown_holds trees (map turned hs) rows no_other (closes trees (all_feet hs)) (closes trees (overs hs)) look other_look other_fewer other_opened
+        (shut (all_feet hs)) forest (hung_turned hung) f is free no_over (closes trees (others hs)) over_look (shut (others hs)) (λ x on. or_right (is_laid trees x) (among (feet_crosses (others hs)) x) on)
 
 -- crosspoints of feet are some of the machine
 pub feet_below : {trees : Trees} (feet : List Foot) → All (IsFoot trees) feet → All (λ foot. foot.1.0 < crosses_of trees.shape) feet

@@ -1,18 +1,19 @@
 -- What is kept after a gain.
-use Rattle.std.proofs.Common.{◌≡◌, ◌≢◌, ◌<◌, ◌≤◌, ◌+◌, ◌*◌, ℕ, Bool, true, false, not, ◌&&◌, inl, inr, ◌⊎◌, Some, None, List, [], ◌∷◌, length, get_or, set, take, replicate, refl, sym, ap, ◌∙◌, subst, arith, ◌==◌, ◌||◌, nat_lt, slice_set, slice_get}
+use Rattle.std.proofs.Common.{◌≡◌, ◌≢◌, ◌<◌, ◌≤◌, ◌+◌, ◌*◌, ℕ, Bool, true, false, not, ◌&&◌, inl, inr, ◌⊎◌, Some, None, Option, List, [], ◌∷◌, length, get_or, set, take, replicate, refl, sym, ap, ◌∙◌, subst, arith, ◌==◌, ◌||◌, nat_lt, slice_set, slice_get}
 use Rattle.std.proofs.lemmas.Option.{gets}
 use Rattle.std.proofs.lemmas.List.Folds.{list_any_more}
 use native.Mathlib.Decide.{dec_lt}
 use Rattle.std.proofs.lemmas.Bool.Decides.{nat_tests}
 use Rattle.std.proofs.lemmas.List.{get_or-set_same, get_or-set_other, get_or-replicate, get_or_past, length-replicate}
-use Rattle.std.proofs.lemmas.Bool.{and_parts, cases_eq}
+use Rattle.std.specs.Option.{option_map_or}
+use Rattle.std.proofs.lemmas.Bool.{and_parts, false≢true}
 use Rattle.base_bits.specs.Numbers.{has_number}
-use Rattle.base_bits.specs.Pairs.{Pairs, has_pair, is_same_pair, is_with}
 use Rattle.machine_shape.specs.declared.Shape.{Shape}
 use Rattle.machine_shape.specs.Shape.{tables_of}
 use Rattle.machine_meaning.specs.Vocabulary.{Faults, stuck_cross, wrong_cell, stuck_register, Shorted, IsClear}
 use Rattle.machine_config.specs.Groups.{among}
-use Rattle.diag_evidence.specs.Kept.{Kept, keeps_cross, keeps_wire, keeps_pair, keeps_cell, keeps_register, HoldsFor, IsMore, KeepsNothing, Gain, one_cross, these_wires, these_pairs, one_cell, one_register, is_between, is_across, Gains}
+use Rattle.machine_meaning.proofs.JoinedLemmas.{Joined-sym}
+use Rattle.diag_evidence.specs.Kept.{Kept, keeps_cross, keeps_wire, is_apart, on_trial, in_row, keeps_pair, keeps_cell, keeps_register, HoldsFor, IsMore, KeepsNothing, Gain, one_cross, these_wires, row_over, one_cell, one_register, nothing, Gains}
 
 -- a mark that is set
 marked : (xs : List Bool) (x y : ℕ) → x < length xs → get_or (set xs x true) y false ≡ ((x == y) || get_or xs y false)
@@ -27,12 +28,12 @@ pub mark_set : (xs : List Bool) (x y : ℕ) → x < length xs → has_number (sl
 mark_set xs x y below = marked xs x y below
 
 pub gains_cross : (k : Kept) (x : ℕ) → x < length k.crosses → Gains (one_cross x) k (record k { crosses = slice_set k.crosses x true })
-unfolding keeps_cross keeps_wire keeps_pair keeps_cell keeps_register
-gains_cross k x below = record { shape = refl; crosses = λ y. marked k.crosses x y below; wires = λ w. refl; pairs = λ a b. refl; cells = λ t a. refl; registers = λ t. refl }
+unfolding keeps_cross keeps_wire is_apart in_row keeps_cell keeps_register
+gains_cross k x below = record { shape = refl; crosses = λ y. marked k.crosses x y below; wires = λ w. refl; apart = λ w. refl; trial = refl; row = λ w. refl; cells = λ t a. refl; registers = λ t. refl }
 
 pub gains_register : (k : Kept) (t : ℕ) → t < length k.registers → Gains (one_register t) k (record k { registers = slice_set k.registers t true })
-unfolding keeps_cross keeps_wire keeps_pair keeps_cell keeps_register
-gains_register k t below = record { shape = refl; crosses = λ x. refl; wires = λ w. refl; pairs = λ a b. refl; cells = λ t a. refl; registers = λ u. marked k.registers t u below }
+unfolding keeps_cross keeps_wire is_apart in_row keeps_cell keeps_register
+gains_register k t below = record { shape = refl; crosses = λ x. refl; wires = λ w. refl; apart = λ w. refl; trial = refl; row = λ w. refl; cells = λ t a. refl; registers = λ u. marked k.registers t u below }
 
 same_place : (t a u b : ℕ) → a < 64 → b < 64 → (64 * t + a == 64 * u + b) ≡ ((t == u) && (a == b))
 same_place t a u b p q = by_tests (t == u) (a == b) refl refl
@@ -55,16 +56,45 @@ marked_cell cells t a u b p below = by_test (nat_lt b 64) refl
         neither false w h = refl
 
 pub gains_cell : (k : Kept) (t a : ℕ) → a < 64 → 64 * t + a < length k.cells → Gains (one_cell t a) k (record k { cells = slice_set k.cells (64 * t + a) true })
-unfolding keeps_cross keeps_wire keeps_pair keeps_cell keeps_register
-gains_cell k t a p below = record { shape = refl; crosses = λ x. refl; wires = λ w. refl; pairs = λ a b. refl; cells = λ u b. marked_cell k.cells t a u b p below; registers = λ t. refl }
+unfolding keeps_cross keeps_wire is_apart in_row keeps_cell keeps_register
+gains_cell k t a p below = record { shape = refl; crosses = λ x. refl; wires = λ w. refl; apart = λ w. refl; trial = refl; row = λ w. refl; cells = λ u b. marked_cell k.cells t a u b p below; registers = λ t. refl }
 
 pub gains_wires : (k : Kept) (ws : List ℕ) (wires : List Bool) → ((w : ℕ) → has_number wires w ≡ (among ws w || has_number k.wires w)) → Gains (these_wires ws) k (record k { wires = wires })
-unfolding keeps_cross keeps_wire keeps_pair keeps_cell keeps_register
-gains_wires k ws wires marks = record { shape = refl; crosses = λ x. refl; wires = marks; pairs = λ a b. refl; cells = λ t a. refl; registers = λ t. refl }
+unfolding keeps_cross keeps_wire is_apart in_row keeps_cell keeps_register
+gains_wires k ws wires marks = record { shape = refl; crosses = λ x. refl; wires = marks; apart = λ w. refl; trial = refl; row = λ w. refl; cells = λ t a. refl; registers = λ t. refl }
 
-pub gains_pairs : (k : Kept) (ws us : List ℕ) (pairs : Pairs) → ((a b : ℕ) → has_pair pairs a b ≡ (is_between ws us a b || has_pair k.pairs a b)) → Gains (these_pairs ws us) k (record k { pairs = pairs })
-unfolding keeps_cross keeps_wire keeps_pair keeps_cell keeps_register
-gains_pairs k ws us pairs marks = record { shape = refl; crosses = λ x. refl; wires = λ w. refl; pairs = marks; cells = λ t a. refl; registers = λ t. refl }
+pub gains_row : (k : Kept) (ws us : List ℕ) (row : List Bool) (t : ℕ) → k.trial ≡ Some t → among ws t ≡ true →
+    ((u : ℕ) → has_number row u ≡ (among us u || has_number k.row u)) → Gains (row_over k.trial ws us) k (record k { row = row })
+unfolding keeps_cross keeps_wire is_apart in_row keeps_cell keeps_register
+gains_row k ws us row t tried is marks = record {
+  shape = refl;
+  crosses = λ x. refl;
+  wires = λ w. refl;
+  apart = λ w. refl;
+  trial = refl;
+  row = λ u. marks u ∙ ap (λ b. (b && among us u) || has_number k.row u) (sym (ap (λ o. option_map_or (λ t. among ws t) o false) tried ∙ is));
+  cells = λ t a. refl;
+  registers = λ t. refl;
+}
+
+-- where the wire on trial is none of the first list, nothing is gained
+pub gains_no_row : (k : Kept) (ws us : List ℕ) → option_map_or (λ t. among ws t) k.trial false ≡ false → Gains (row_over k.trial ws us) k k
+gains_no_row k ws us none = record {
+  shape = refl;
+  crosses = λ x. refl;
+  wires = λ w. refl;
+  apart = λ w. refl;
+  trial = refl;
+  row = λ u. sym (ap (λ b. (b && among us u) || in_row k u) none);
+  cells = λ t a. refl;
+  registers = λ t. refl;
+}
+
+-- wires join the set
+pub gains_apart : (gain : ℕ → Bool) (k : Kept) (apart : List Bool) → ((w : ℕ) → has_number apart w ≡ (gain w || has_number k.apart w)) →
+    Gains (record nothing { apart = gain }) k (record k { apart = apart })
+unfolding keeps_cross keeps_wire is_apart in_row keeps_cell keeps_register
+gains_apart gain k apart marks = record { shape = refl; crosses = λ x. refl; wires = λ w. refl; apart = marks; trial = refl; row = λ w. refl; cells = λ t a. refl; registers = λ t. refl }
 
 -- what is kept by code
 pub has_cross : (k : Kept) (x : ℕ) → has_number k.crosses x ≡ keeps_cross k x
@@ -75,9 +105,131 @@ pub has_wire : (k : Kept) (w : ℕ) → has_number k.wires w ≡ keeps_wire k w
 unfolding keeps_wire
 has_wire k w = refl
 
-pub has_two : (k : Kept) (a b : ℕ) → has_pair k.pairs a b ≡ keeps_pair k a b
+pub has_apart : (k : Kept) (w : ℕ) → has_number k.apart w ≡ is_apart k w
+unfolding is_apart
+has_apart k w = refl
+
+pub has_row : (k : Kept) (w : ℕ) → has_number k.row w ≡ in_row k w
+unfolding in_row
+has_row k w = refl
+
+-- the wire on trial
+pub tried_is : (k : Kept) (t : ℕ) → k.trial ≡ Some t → on_trial k t ≡ true
+unfolding on_trial
+tried_is k t e = ap (λ o. option_map_or (λ u. u == t) o false) e ∙ (let same : (t == t) ≡ true = grind (arith, nat_tests) in same)
+
+pub tried_only : (k : Kept) (t w : ℕ) → k.trial ≡ Some t → on_trial k w ≡ true → t ≡ w
+unfolding on_trial
+tried_only k t w e is =
+    let s : (t == w) ≡ true = sym (ap (λ o. option_map_or (λ u. u == w) o false) e) ∙ is in
+    grind (arith, nat_tests, s)
+
+pub tried_none : (k : Kept) (w : ℕ) → k.trial ≡ None → on_trial k w ≡ false
+unfolding on_trial
+tried_none k w e = ap (λ o. option_map_or (λ u. u == w) o false) e
+
+pub tried_other : (k : Kept) (t w : ℕ) → k.trial ≡ Some t → (t == w) ≡ false → on_trial k w ≡ false
+unfolding on_trial
+tried_other k t w e n = ap (λ o. option_map_or (λ u. u == w) o false) e ∙ n
+
+-- a kept pair: both are of the set, or one is on trial and the other of its row
+pub data IsPair (k : Kept) (a b : ℕ) : Type 0 where
+  of_set : is_apart k a ≡ true → is_apart k b ≡ true → IsPair k a b
+  of_row : on_trial k a ≡ true → in_row k b ≡ true → IsPair k a b
+  of_other : on_trial k b ≡ true → in_row k a ≡ true → IsPair k a b
+
+pub pair_differs : (k : Kept) (a b : ℕ) → keeps_pair k a b ≡ true → a ≢ b
 unfolding keeps_pair
-has_two k a b = refl
+pair_differs k a b is e = (let p = and_parts (not (a == b)) _ is in let n = p.0 in let no : ⊥ = grind (arith, nat_tests, n, e) in no)
+
+pub pair_is : (k : Kept) (a b : ℕ) → keeps_pair k a b ≡ true → IsPair k a b
+unfolding keeps_pair
+pair_is k a b is = by (is_apart k a) (is_apart k b) (on_trial k a) (in_row k b) (on_trial k b) (in_row k a) refl refl refl refl refl refl (and_parts (not (a == b)) _ is).1
+  where
+    by : (x y t r u s : Bool) → is_apart k a ≡ x → is_apart k b ≡ y → on_trial k a ≡ t → in_row k b ≡ r → on_trial k b ≡ u → in_row k a ≡ s →
+        ((x && y) || ((t && r) || (u && s))) ≡ true → IsPair k a b
+    by true true t r u s e f g h i j on = of_set e f
+    by true false true true u s e f g h i j on = of_row g h
+    by true false true false true true e f g h i j on = of_other i j
+    by true false true false true false e f g h i j on = absurd (false≢true on)
+    by true false true false false s e f g h i j on = absurd (false≢true on)
+    by true false false r true true e f g h i j on = of_other i j
+    by true false false r true false e f g h i j on = absurd (false≢true on)
+    by true false false r false s e f g h i j on = absurd (false≢true on)
+    by false y true true u s e f g h i j on = of_row g h
+    by false y true false true true e f g h i j on = of_other i j
+    by false y true false true false e f g h i j on = absurd (false≢true on)
+    by false y true false false s e f g h i j on = absurd (false≢true on)
+    by false y false r true true e f g h i j on = of_other i j
+    by false y false r true false e f g h i j on = absurd (false≢true on)
+    by false y false r false s e f g h i j on = absurd (false≢true on)
+
+pub pair_of : (k : Kept) (a b : ℕ) → a ≢ b → IsPair k a b → keeps_pair k a b ≡ true
+unfolding keeps_pair
+pair_of k a b n is = ap (λ t. t && ((is_apart k a && is_apart k b) || ((on_trial k a && in_row k b) || (on_trial k b && in_row k a)))) other ∙ by is
+  where
+    other : not (a == b) ≡ true
+    other = grind (arith, nat_tests, n)
+
+    first : (x y t : Bool) → x ≡ true → y ≡ true → ((x && y) || t) ≡ true
+    first x y t e f = rw (e, f) refl
+
+    second : (x y t u : Bool) → x ≡ true → y ≡ true → (t || ((x && y) || u)) ≡ true
+    second x y true u e f = refl
+    second x y false u e f = rw (e, f) refl
+
+    third : (x y t u : Bool) → x ≡ true → y ≡ true → (t || (u || (x && y))) ≡ true
+    third x y true u e f = refl
+    third x y false true e f = refl
+    third x y false false e f = rw (e, f) refl
+
+    by : IsPair k a b → ((is_apart k a && is_apart k b) || ((on_trial k a && in_row k b) || (on_trial k b && in_row k a))) ≡ true
+    by (of_set e f) = first (is_apart k a) (is_apart k b) _ e f
+    by (of_row e f) = second (on_trial k a) (in_row k b) (is_apart k a && is_apart k b) (on_trial k b && in_row k a) e f
+    by (of_other e f) = third (on_trial k b) (in_row k a) (is_apart k a && is_apart k b) (on_trial k a && in_row k b) e f
+
+-- two different wires of the set are a kept pair
+pub pair_apart : (k : Kept) (a b : ℕ) → a ≢ b → is_apart k a ≡ true → is_apart k b ≡ true → keeps_pair k a b ≡ true
+pair_apart k a b n e f = pair_of k a b n (of_set e f)
+
+-- .. and all that code says of one
+pub pair_set : (k : Kept) (a b : ℕ) → a ≢ b → (has_number k.apart a && has_number k.apart b) ≡ true → true ≡ keeps_pair k a b
+pair_set k a b n on = let p = and_parts (has_number k.apart a) (has_number k.apart b) on in sym (pair_apart k a b n (sym (has_apart k a) ∙ p.0) (sym (has_apart k b) ∙ p.1))
+
+pub pair_tried : (k : Kept) (a b : ℕ) → a ≢ b → (has_number k.apart a && has_number k.apart b) ≡ false → k.trial ≡ Some a → has_number k.row b ≡ keeps_pair k a b
+unfolding keeps_pair is_apart in_row
+pair_tried k a b n off e =
+    let other : not (a == b) ≡ true = grind (arith, nat_tests, n) in
+    let differ : (a == b) ≡ false = grind (arith, nat_tests, n) in
+    sym (ap (λ t. t && ((is_apart k a && is_apart k b) || ((on_trial k a && in_row k b) || (on_trial k b && in_row k a)))) other
+    ∙ ap (λ t. t || ((on_trial k a && in_row k b) || (on_trial k b && in_row k a))) off
+    ∙ ap (λ t. (t && in_row k b) || (on_trial k b && in_row k a)) (tried_is k a e)
+    ∙ ap (λ t. in_row k b || (t && in_row k a)) (tried_other k a b e differ) ∙ or_none (in_row k b))
+  where
+    or_none : (t : Bool) → (t || false) ≡ t
+    or_none true = refl
+    or_none false = refl
+
+pub pair_other : (k : Kept) (a b : ℕ) → a ≢ b → (has_number k.apart a && has_number k.apart b) ≡ false → k.trial ≡ Some b → has_number k.row a ≡ keeps_pair k a b
+unfolding keeps_pair is_apart in_row
+pair_other k a b n off e =
+    let other : not (a == b) ≡ true = grind (arith, nat_tests, n) in
+    let differ : (b == a) ≡ false = grind (arith, nat_tests, n) in
+    sym (ap (λ t. t && ((is_apart k a && is_apart k b) || ((on_trial k a && in_row k b) || (on_trial k b && in_row k a)))) other
+    ∙ ap (λ t. t || ((on_trial k a && in_row k b) || (on_trial k b && in_row k a))) off
+    ∙ ap (λ t. (t && in_row k b) || (on_trial k b && in_row k a)) (tried_other k b a e differ)
+    ∙ ap (λ t. t && in_row k a) (tried_is k b e))
+
+pub pair_none : (k : Kept) (a b : ℕ) → (has_number k.apart a && has_number k.apart b) ≡ false → on_trial k a ≡ false → on_trial k b ≡ false → false ≡ keeps_pair k a b
+unfolding keeps_pair is_apart
+pair_none k a b off e f =
+    sym (ap (λ t. not (a == b) && (t || ((on_trial k a && in_row k b) || (on_trial k b && in_row k a)))) off
+    ∙ ap (λ t. not (a == b) && ((t && in_row k b) || (on_trial k b && in_row k a))) e
+    ∙ ap (λ t. not (a == b) && (t && in_row k a)) f ∙ none (not (a == b)))
+  where
+    none : (t : Bool) → (t && false) ≡ false
+    none true = refl
+    none false = refl
 
 pub has_cell : (k : Kept) (t a : ℕ) → a < 64 → has_number k.cells (64 * t + a) ≡ keeps_cell k t a
 unfolding keeps_cell
@@ -96,7 +248,7 @@ or_case true b c P e is one other = one refl
 or_case false b c P e is one other = other (sym e ∙ is)
 
 pub more_itself : (k : Kept) → IsMore k k
-more_itself k = record { shape = refl; crosses = λ x is. is; wires = λ w is. is; pairs = λ a b is. is; cells = λ t a is. is; registers = λ t is. is }
+more_itself k = record { shape = refl; crosses = λ x is. is; wires = λ w is. is; apart = λ w is. is; cells = λ t a is. is; registers = λ t is. is }
 
 -- with a gain more is kept
 pub more_by_gain : (gain : Gain) (k l : Kept) → Gains gain k l → IsMore k l
@@ -104,51 +256,98 @@ more_by_gain gain k l g = record {
   shape = g.shape;
   crosses = λ x. or_right (gain.crosses x) _ _ (g.crosses x);
   wires = λ w. or_right (gain.wires w) _ _ (g.wires w);
-  pairs = λ a b. or_right (gain.pairs a b) _ _ (g.pairs a b);
+  apart = λ w. or_right (gain.apart w) _ _ (g.apart w);
   cells = λ t a. or_right (gain.cells t a) _ _ (g.cells t a);
   registers = λ t. or_right (gain.registers t) _ _ (g.registers t);
 }
 
--- what is gained is true of the faults
-pub record GainHoldsFor (m : Shape) (gain : Gain) (f : Faults) : Type 0 where
+-- What is gained is true of the faults: wires that join the set are shorted neither to one another nor to one of it, nor is the wire on
+-- trial to those that come into its row.
+pub record GainHoldsFor (k : Kept) (gain : Gain) (f : Faults) : Type 0 where
   pub crosses : (x : ℕ) → gain.crosses x ≡ true → stuck_cross f x ≡ None
-  pub wires : (w : ℕ) → gain.wires w ≡ true → IsClear m f w
-  pub pairs : (a b : ℕ) → gain.pairs a b ≡ true → ¬ Shorted m f a b
+  pub wires : (w : ℕ) → gain.wires w ≡ true → IsClear k.shape f w
+  pub joined : (a b : ℕ) → gain.apart a ≡ true → gain.apart b ≡ true → a ≢ b → ¬ Shorted k.shape f a b
+  pub joins : (a b : ℕ) → gain.apart a ≡ true → is_apart k b ≡ true → a ≢ b → ¬ Shorted k.shape f a b
+  pub row : (a b : ℕ) → on_trial k a ≡ true → gain.row b ≡ true → a ≢ b → ¬ Shorted k.shape f a b
   pub cells : (t a : ℕ) → gain.cells t a ≡ true → wrong_cell f t a ≡ None
   pub registers : (t : ℕ) → gain.registers t ≡ true → stuck_register f t ≡ None
 
-pub holds_by_gain : (gain : Gain) (k l : Kept) (f : Faults) → Gains gain k l → HoldsFor k f → GainHoldsFor k.shape gain f → HoldsFor l f
-holds_by_gain gain k l f g h n = record {
-  crosses = λ x is. or_case (gain.crosses x) _ _ _ (g.crosses x) is (n.crosses x) (h.crosses x);
-  wires = λ w is. rw g.shape (or_case (gain.wires w) _ _ _ (g.wires w) is (n.wires w) (h.wires w));
-  pairs = λ a b is. rw g.shape (or_case (gain.pairs a b) _ _ _ (g.pairs a b) is (n.pairs a b) (h.pairs a b));
-  cells = λ t a is. or_case (gain.cells t a) _ _ _ (g.cells t a) is (n.cells t a) (h.cells t a);
-  registers = λ t is. or_case (gain.registers t) _ _ _ (g.registers t) is (n.registers t) (h.registers t);
+-- the same wire is on trial
+pub same_trial : (k l : Kept) (w : ℕ) → l.trial ≡ k.trial → on_trial l w ≡ on_trial k w
+unfolding on_trial
+same_trial k l w e = ap (λ o. option_map_or (λ t. t == w) o false) e
+
+module _ (gain : Gain) (k l : Kept) (f : Faults) (g : Gains gain k l) (h : HoldsFor k f) (n : GainHoldsFor k gain f) where
+  both_apart : (a b : ℕ) → a ≢ b → is_apart l a ≡ true → is_apart l b ≡ true → ¬ Shorted k.shape f a b
+  both_apart a b d p q = or_case (gain.apart a) _ _ _ (g.apart a) p
+      (λ e. or_case (gain.apart b) _ _ _ (g.apart b) q (λ i. n.joined a b e i d) (λ i. n.joins a b e i d))
+      (λ e. or_case (gain.apart b) _ _ _ (g.apart b) q (λ i j. n.joins b a i e (λ same. d (sym same)) (Joined-sym j)) (λ i. h.pairs a b (pair_apart k a b d e i)))
+
+  one_row : (a b : ℕ) → a ≢ b → on_trial l a ≡ true → in_row l b ≡ true → ¬ Shorted k.shape f a b
+  one_row a b d p q = let t = sym (same_trial k l a g.trial) ∙ p in or_case (gain.row b) _ _ _ (g.row b) q (λ i. n.row a b t i d) (λ i. h.pairs a b (pair_of k a b d (of_row t i)))
+
+  unshorted : (a b : ℕ) → a ≢ b → IsPair l a b → ¬ Shorted k.shape f a b
+  unshorted a b d (of_set p q) = both_apart a b d p q
+  unshorted a b d (of_row p q) = one_row a b d p q
+  unshorted a b d (of_other p q) = λ j. one_row b a (λ same. d (sym same)) p q (Joined-sym j)
+
+  pub holds_by_gain : HoldsFor l f
+  holds_by_gain = record {
+    crosses = λ x is. or_case (gain.crosses x) _ _ _ (g.crosses x) is (n.crosses x) (h.crosses x);
+    wires = λ w is. rw g.shape (or_case (gain.wires w) _ _ _ (g.wires w) is (n.wires w) (h.wires w));
+    pairs = λ a b is. rw g.shape (unshorted a b (pair_differs l a b is) (pair_is l a b is));
+    cells = λ t a is. or_case (gain.cells t a) _ _ _ (g.cells t a) is (n.cells t a) (h.cells t a);
+    registers = λ t is. or_case (gain.registers t) _ _ _ (g.registers t) is (n.registers t) (h.registers t);
+  }
+
+-- each pair that was kept before a gain is after it
+same_row : (gain : Gain) (k l : Kept) → Gains gain k l → (a b : ℕ) → keeps_pair k a b ≡ true → keeps_pair l a b ≡ true
+same_row gain k l g a b is = pair_of l a b (pair_differs k a b is) (by (pair_is k a b is))
+  where
+    by : IsPair k a b → IsPair l a b
+    by (of_set p q) = of_set (or_right (gain.apart a) _ _ (g.apart a) p) (or_right (gain.apart b) _ _ (g.apart b) q)
+    by (of_row p q) = of_row (same_trial k l a g.trial ∙ p) (or_right (gain.row b) _ _ (g.row b) q)
+    by (of_other p q) = of_other (same_trial k l b g.trial ∙ p) (or_right (gain.row a) _ _ (g.row a) q)
+
+-- what is kept with a gain is true only of faults of which it was true before
+pub held_before : (gain : Gain) (k l : Kept) (f : Faults) → Gains gain k l → HoldsFor l f → HoldsFor k f
+held_before gain k l f g h = record {
+  crosses = λ x is. h.crosses x (or_right (gain.crosses x) _ _ (g.crosses x) is);
+  wires = λ w is. subst (λ m. IsClear m f w) g.shape (h.wires w (or_right (gain.wires w) _ _ (g.wires w) is));
+  pairs = λ a b is. subst (λ m. ¬ Shorted m f a b) g.shape (h.pairs a b (same_row gain k l g a b is));
+  cells = λ t a is. h.cells t a (or_right (gain.cells t a) _ _ (g.cells t a) is);
+  registers = λ t is. h.registers t (or_right (gain.registers t) _ _ (g.registers t) is);
 }
 
-pub cross_holds : (m : Shape) (x : ℕ) (f : Faults) → stuck_cross f x ≡ None → GainHoldsFor m (one_cross x) f
-cross_holds m x f free = record {
+pub cross_holds : (k : Kept) (x : ℕ) (f : Faults) → stuck_cross f x ≡ None → GainHoldsFor k (one_cross x) f
+cross_holds k x f free = record {
   crosses = λ y is. (let same : x ≡ y = grind (arith, nat_tests) in subst (λ z. stuck_cross f z ≡ None) same free);
   wires = λ w is. cc;
-  pairs = λ a b is. cc;
+  joined = λ a b is. cc;
+  joins = λ a b is. cc;
+  row = λ a b t is. cc;
   cells = λ t a is. cc;
   registers = λ t is. cc;
 }
 
-pub register_holds : (m : Shape) (t : ℕ) (f : Faults) → stuck_register f t ≡ None → GainHoldsFor m (one_register t) f
-register_holds m t f free = record {
+pub register_holds : (k : Kept) (t : ℕ) (f : Faults) → stuck_register f t ≡ None → GainHoldsFor k (one_register t) f
+register_holds k t f free = record {
   crosses = λ x is. cc;
   wires = λ w is. cc;
-  pairs = λ a b is. cc;
+  joined = λ a b is. cc;
+  joins = λ a b is. cc;
+  row = λ a b t is. cc;
   cells = λ t a is. cc;
   registers = λ u is. (let same : t ≡ u = grind (arith, nat_tests) in subst (λ z. stuck_register f z ≡ None) same free);
 }
 
-pub cell_holds : (m : Shape) (t a : ℕ) (f : Faults) → wrong_cell f t a ≡ None → GainHoldsFor m (one_cell t a) f
-cell_holds m t a f free = record {
+pub cell_holds : (k : Kept) (t a : ℕ) (f : Faults) → wrong_cell f t a ≡ None → GainHoldsFor k (one_cell t a) f
+cell_holds k t a f free = record {
   crosses = λ x is. cc;
   wires = λ w is. cc;
-  pairs = λ a b is. cc;
+  joined = λ a b is. cc;
+  joins = λ a b is. cc;
+  row = λ a b t is. cc;
   registers = λ t is. cc;
   cells = λ u b is. by_both u b (and_parts (t == u) (a == b) is);
 }
@@ -159,18 +358,23 @@ cell_holds m t a f free = record {
         let address : a ≡ b = grind (arith, nat_tests, h.1) in
         subst (λ z. wrong_cell f z b ≡ None) table (subst (λ z. wrong_cell f t z ≡ None) address free)
 
-pub wires_hold : (m : Shape) (ws : List ℕ) (f : Faults) → ((w : ℕ) → among ws w ≡ true → IsClear m f w) → GainHoldsFor m (these_wires ws) f
-wires_hold m ws f clear = record { crosses = λ x is. cc; wires = clear; pairs = λ a b is. cc; cells = λ t a is. cc; registers = λ t is. cc }
+pub wires_hold : (k : Kept) (ws : List ℕ) (f : Faults) → ((w : ℕ) → among ws w ≡ true → IsClear k.shape f w) → GainHoldsFor k (these_wires ws) f
+wires_hold k ws f clear = record { crosses = λ x is. cc; wires = clear; joined = λ a b is. cc; joins = λ a b is. cc; row = λ a b t is. cc; cells = λ t a is. cc; registers = λ t is. cc }
 
-pub pairs_hold : (m : Shape) (ws us : List ℕ) (f : Faults) → ((w u : ℕ) → among ws w ≡ true → among us u ≡ true → ¬ Shorted m f w u) → ((w u : ℕ) → among us w ≡ true → among ws u ≡ true → ¬ Shorted m f w u) → GainHoldsFor m (these_pairs ws us) f
-pairs_hold m ws us f apart turned = record {
+pub row_holds : (k : Kept) (ws us : List ℕ) (f : Faults) → ((w u : ℕ) → among ws w ≡ true → among us u ≡ true → ¬ Shorted k.shape f w u) → GainHoldsFor k (row_over k.trial ws us) f
+row_holds k ws us f apart = record {
   crosses = λ x is. cc;
   wires = λ w is. cc;
+  joined = λ a b is. cc;
+  joins = λ a b is. cc;
+  row = λ a b t is n. by k.trial refl a b t (and_parts (option_map_or (λ t. among ws t) k.trial false) (among us b) is);
   cells = λ t a is. cc;
   registers = λ t is. cc;
-  pairs = λ a b is. or_case (among ws a && among us b) (among ws b && among us a) _ _ refl is
-      (λ h. let p = and_parts _ _ h in apart a b p.0 p.1) (λ h. let p = and_parts _ _ h in turned a b p.1 p.0);
 }
+  where
+    by : (o : Option ℕ) → k.trial ≡ o → (a b : ℕ) → on_trial k a ≡ true → (option_map_or (λ t. among ws t) k.trial false ≡ true) × (among us b ≡ true) → ¬ Shorted k.shape f a b
+    by None e a b t p = absurd (false≢true (sym (tried_none k a e) ∙ t))
+    by (Some w) e a b t p = apart a b (subst (λ v. among ws v ≡ true) (tried_only k w a e t) (sym (ap (λ o. option_map_or (λ t. among ws t) o false) e) ∙ p.0)) p.1
 
 pub or_swapped : (a b c : Bool) → (a || (b || c)) ≡ ((b || a) || c)
 or_swapped true true c = refl
@@ -191,128 +395,6 @@ more_among ws k x y below at =
     let value : get_or ws k 0 ≡ x = grind (arith, gets, at) in
     list_any_more (λ z. z == y) ws k 0 below ∙ ap (λ z. among (take k ws) y || (z == y)) value
 
--- one pair more is marked
-pub pair_next : (us : List ℕ) (w k u a b : ℕ) (o : Bool) → k < length us → slice_get us k ≡ Some u →
-    (is_same_pair w u a b || (is_between (w ∷ []) (take k us) a b || o)) ≡ (is_between (w ∷ []) (take (k + 1) us) a b || o)
-pair_next us w k u a b o below at =
-    rw (more_among us k u a below at, more_among us k u b below at) (by_parts (w == a) (w == b) (u == a) (u == b) (among (take k us) a) (among (take k us) b))
-  where
-    by_parts : (wa wb ua ub ta tb : Bool) → (((wa && ub) || (wb && ua)) || ((((wa || false) && tb) || ((wb || false) && ta)) || o)) ≡ ((((wa || false) && (tb || ub)) || ((wb || false) && (ta || ua))) || o)
-    by_parts false false ua ub ta tb = refl
-    by_parts true false ua true ta true = refl
-    by_parts true false ua true ta false = refl
-    by_parts true false ua false ta true = refl
-    by_parts true false ua false ta false = refl
-    by_parts false true true ub true tb = refl
-    by_parts false true true ub false tb = refl
-    by_parts false true false ub true tb = refl
-    by_parts false true false ub false tb = refl
-    by_parts true true ua true ta true = refl
-    by_parts true true ua true ta false = refl
-    by_parts true true true false ta true = refl
-    by_parts true true false false ta true = refl
-    by_parts true true true false true false = refl
-    by_parts true true true false false false = refl
-    by_parts true true false false true false = refl
-    by_parts true true false false false false = refl
-
-one_more : (o wa wb ua ub ta tb : Bool) → ((((wa || false) && ub) || ((wb || false) && ua)) || (((ta && ub) || (tb && ua)) || o)) ≡ ((((ta || wa) && ub) || ((tb || wb) && ua)) || o)
-one_more o true true true true true true = refl
-one_more o true true true true true false = refl
-one_more o true true true true false true = refl
-one_more o true true true true false false = refl
-one_more o true true true false true true = refl
-one_more o true true true false true false = refl
-one_more o true true true false false true = refl
-one_more o true true true false false false = refl
-one_more o true true false true true true = refl
-one_more o true true false true true false = refl
-one_more o true true false true false true = refl
-one_more o true true false true false false = refl
-one_more o true true false false true true = refl
-one_more o true true false false true false = refl
-one_more o true true false false false true = refl
-one_more o true true false false false false = refl
-one_more o true false true true true true = refl
-one_more o true false true true true false = refl
-one_more o true false true true false true = refl
-one_more o true false true true false false = refl
-one_more o true false true false true true = refl
-one_more o true false true false true false = refl
-one_more o true false true false false true = refl
-one_more o true false true false false false = refl
-one_more o true false false true true true = refl
-one_more o true false false true true false = refl
-one_more o true false false true false true = refl
-one_more o true false false true false false = refl
-one_more o true false false false true true = refl
-one_more o true false false false true false = refl
-one_more o true false false false false true = refl
-one_more o true false false false false false = refl
-one_more o false true true true true true = refl
-one_more o false true true true true false = refl
-one_more o false true true true false true = refl
-one_more o false true true true false false = refl
-one_more o false true true false true true = refl
-one_more o false true true false true false = refl
-one_more o false true true false false true = refl
-one_more o false true true false false false = refl
-one_more o false true false true true true = refl
-one_more o false true false true true false = refl
-one_more o false true false true false true = refl
-one_more o false true false true false false = refl
-one_more o false true false false true true = refl
-one_more o false true false false true false = refl
-one_more o false true false false false true = refl
-one_more o false true false false false false = refl
-one_more o false false ua ub true true = refl
-one_more o false false ua ub true false = refl
-one_more o false false ua ub false true = refl
-one_more o false false ua ub false false = refl
-
--- one wire more is marked with each of the others
-pub pairs_next : (ws us : List ℕ) (k w a b : ℕ) (o : Bool) → k < length ws → slice_get ws k ≡ Some w →
-    (is_between (w ∷ []) us a b || (is_between (take k ws) us a b || o)) ≡ (is_between (take (k + 1) ws) us a b || o)
-pairs_next ws us k w a b o below at =
-    rw (more_among ws k w a below at, more_among ws k w b below at) (one_more o (w == a) (w == b) (among us a) (among us b) (among (take k ws) a) (among (take k ws) b))
-
--- one wire more is marked with each number of a set that it isn't in
-pub each_next : (ws : List ℕ) (numbers : List Bool) (k w a b : ℕ) (o : Bool) → k < length ws → slice_get ws k ≡ Some w → has_number numbers w ≡ false →
-    ((not (a == b) && is_with w numbers a b) || (is_across (take k ws) numbers a b || o)) ≡ (is_across (take (k + 1) ws) numbers a b || o)
-each_next ws numbers k w a b o below at out =
-    ap (λ t. t || (is_across (take k ws) numbers a b || o)) (apart (cases_eq a b) (cases_eq w a))
-    ∙ ap (λ t. ((t && has_number numbers b) || ((w == b) && has_number numbers a)) || (is_across (take k ws) numbers a b || o)) (sym (or_none (w == a)))
-    ∙ ap (λ t. ((((w == a) || false) && has_number numbers b) || (t && has_number numbers a)) || (is_across (take k ws) numbers a b || o)) (sym (or_none (w == b)))
-    ∙ rw (more_among ws k w a below at, more_among ws k w b below at)
-    (one_more o (w == a) (w == b) (has_number numbers a) (has_number numbers b) (among (take k ws) a) (among (take k ws) b))
-  where
-    or_none : (t : Bool) → (t || false) ≡ t
-    or_none true = refl
-    or_none false = refl
-
-    plain : (p q : Bool) → ((p && false) || (q && false)) ≡ false
-    plain true true = refl
-    plain true false = refl
-    plain false true = refl
-    plain false false = refl
-
-    none : (p q x y : Bool) → x ≡ false → y ≡ false → ((p && x) || (q && y)) ≡ false
-    none p q x y no_x no_y = ap (λ t. (p && t) || (q && y)) no_x ∙ ap (λ t. (p && false) || (q && t)) no_y ∙ plain p q
-
-    -- no number is with itself, since this one isn't in the set
-    apart : (a ≡ b) ⊎ (a ≡ b → ⊥) → (w ≡ a) ⊎ (w ≡ a → ⊥) → (not (a == b) && is_with w numbers a b) ≡ is_with w numbers a b
-    apart (inl e) (inl f) =
-        let first : has_number numbers a ≡ false = ap (has_number numbers) (sym f) ∙ out in
-        let second : has_number numbers b ≡ false = ap (has_number numbers) (sym (f ∙ e)) ∙ out in
-        let same : not (a == b) ≡ false = grind arith in
-        ap (λ t. t && is_with w numbers a b) same ∙ sym (none (w == a) (w == b) _ _ second first)
-    apart (inl e) (inr f) =
-        let same : not (a == b) ≡ false = grind arith in
-        let one : (w == a) ≡ false = grind arith in
-        let two : (w == b) ≡ false = grind arith in
-        ap (λ t. t && is_with w numbers a b) same ∙ sym (ap (λ t. (t && has_number numbers b) || ((w == b) && has_number numbers a)) one ∙ ap (λ t. t && has_number numbers a) two)
-    apart (inr e) f = let other : not (a == b) ≡ true = grind arith in ap (λ t. t && is_with w numbers a b) other
-
 pub no_mark : (n x : ℕ) → has_number (replicate n false) x ≡ false
 no_mark n x = by_place (dec_lt x n)
   where
@@ -325,16 +407,40 @@ neither true b e = e
 neither false b e = refl
 
 -- where no mark is set, nothing is kept
-pub keeps_none : (m : Shape) (a b c d : ℕ) (pairs : Pairs) → ((w u : ℕ) → has_pair pairs w u ≡ false) →
-    KeepsNothing (record { shape = m; crosses = replicate a false; wires = replicate b false; pairs = pairs; cells = replicate c false; registers = replicate d false })
-unfolding keeps_cross keeps_wire keeps_pair keeps_cell keeps_register
-keeps_none m a b c d pairs none = record {
+pub keeps_none : (m : Shape) (a b c d e r : ℕ) →
+    KeepsNothing (record { shape = m; crosses = replicate a false; wires = replicate b false; apart = replicate c false; trial = None; row = replicate r false; cells = replicate d false; registers = replicate e false })
+unfolding keeps_cross keeps_wire is_apart on_trial keeps_pair keeps_cell keeps_register
+keeps_none m a b c d e r = record {
   crosses = no_mark a;
   wires = no_mark b;
-  pairs = none;
-  registers = no_mark d;
-  cells = λ t y. neither (nat_lt y 64) _ (no_mark c (64 * t + y));
+  pairs = λ w u. neither (not (w == u)) _ (ap (λ t. (t && has_number (replicate c false) u) || false) (no_mark c w));
+  apart = no_mark c;
+  registers = no_mark e;
+  cells = λ t y. neither (nat_lt y 64) _ (no_mark d (64 * t + y));
 }
+
+-- a number that is marked has a mark
+pub number_below : (marks : List Bool) (x : ℕ) → has_number marks x ≡ true → x < length marks
+number_below marks x is = by (dec_lt x (length marks))
+  where
+    by : Dec (x < length marks) → x < length marks
+    by (yes h) = h
+    by (no h) = let past : length marks ≤ x = omega arith in absurd (false≢true (sym (get_or_past marks x false past) ∙ is))
+
+-- of both are those that are so below the last number, and beyond it there is none
+pub both_all : (other old now : List Bool) (n : ℕ) → length old ≤ n → ((u : ℕ) → u < n → has_number now u ≡ (has_number other u && has_number old u)) →
+    ((u : ℕ) → n ≤ u → has_number now u ≡ has_number old u) → (u : ℕ) → has_number now u ≡ (has_number other u && has_number old u)
+both_all other old now n few done rest u = by (dec_lt u n)
+  where
+    none : (b : Bool) → (b && false) ≡ false
+    none true = refl
+    none false = refl
+
+    by : Dec (u < n) → has_number now u ≡ (has_number other u && has_number old u)
+    by (yes h) = done u h
+    by (no h) =
+        let off = get_or_past old u false (omega (arith, few, h)) in
+        rest u (omega (arith, h)) ∙ off ∙ sym (ap (λ t. has_number other u && t) off ∙ none (has_number other u))
 
 -- a table of the machine, whichever way the facts are read
 pub table_within : {k l : Kept} {t : ℕ} → k ≡ l → t < tables_of l.shape → t < tables_of k.shape

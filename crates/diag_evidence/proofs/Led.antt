@@ -3,11 +3,11 @@ use Rattle.std.proofs.Common.{◌≡◌, ◌≢◌, ◌⊎◌, inl, inr, ℕ, �
 use Rattle.std.proofs.lemmas.Bool.{false≢true, and_parts, or_cases}
 use Rattle.std.proofs.lemmas.List.Folds.{list_any_more}
 use Rattle.base_bits.specs.Numbers.{has_number}
-use Rattle.machine_meaning.specs.Vocabulary.{Pins, Faults, stuck_cross, IsClear, Shorted}
+use Rattle.machine_meaning.specs.Vocabulary.{Pins, Faults, stuck_cross}
 use Rattle.machine_config.specs.Vocabulary.{among}
 use Rattle.diag_evidence.specs.declared.leads.Lead.{Lead}
 use Rattle.diag_evidence.specs.Vocabulary.{Kept, Gains, HoldsFor, keeps_cross, Trees, IsForest, IsLook, parts, BranchFrom, KnowsLeads, MarksStuck, StuckIf, arrives, closes_along, crosses_along, led_over, held_up_at, is_only_unkept, these_crosses}
-use Rattle.diag_evidence.proofs.KeptLemmas.{GainHoldsFor, mark_set, or_swapped}
+use Rattle.diag_evidence.proofs.KeptLemmas.{GainHoldsFor, held_before, mark_set, or_swapped}
 use Rattle.diag_evidence.proofs.Found.{IsSome_of, some_of}
 use Rattle.diag_evidence.proofs.Branching.{free_arrives, free_where_arrives}
 use Rattle.diag_evidence.proofs.Leading.{not_true}
@@ -18,7 +18,9 @@ gains_same {a = a} g same = record {
   shape = g.shape;
   crosses = λ x. g.crosses x ∙ ap (λ t. t || keeps_cross a x) (sym (same x));
   wires = g.wires;
-  pairs = g.pairs;
+  apart = g.apart;
+  trial = g.trial;
+  row = g.row;
   cells = g.cells;
   registers = g.registers;
 }
@@ -75,11 +77,13 @@ not_not_true false e = absurd (false≢true e)
 module _ (told : Option Faults) (k : Kept) (trees : Trees) (rows : List Pins) (ls : List Lead) (forest : IsForest trees) (branch : BranchFrom trees ls) (knows : KnowsLeads k trees ls)
     (look : IsLook told trees.shape (closes_along trees ls) rows) where
   -- the crosspoints of walks that arrive aren't stuck
-  pub led_holds : (f : Faults) → told ≡ Some f → HoldsFor k f → GainHoldsFor k.shape (these_crosses (led_over rows ls)) f
+  pub led_holds : (f : Faults) → told ≡ Some f → HoldsFor k f → GainHoldsFor k (these_crosses (led_over rows ls)) f
   led_holds f is holds = record {
     crosses = λ x on. by x (some_of (λ l. arrives rows l && among (crosses_along l) x) ls on);
     wires = λ w on. absurd (false≢true on);
-    pairs = λ a b on. absurd (false≢true on);
+    joined = λ a b on. absurd (false≢true on);
+    joins = λ a b on. absurd (false≢true on);
+    row = λ a b t on. absurd (false≢true on);
     cells = λ u a on. absurd (false≢true on);
     registers = λ u on. absurd (false≢true on);
   }
@@ -118,13 +122,7 @@ module _ (told : Option Faults) (k : Kept) (trees : Trees) (rows : List Pins) (l
   marked_stuck was is l gains marks before f same holds x on = by (or_cases (held_up_at k rows ls x) (has_number was x) (sym (marks x) ∙ on))
     where
       held : HoldsFor k f
-      held = record {
-        crosses = λ y h. holds.crosses y (gains.crosses y ∙ or_true (led_over rows ls y) (keeps_cross k y) h);
-        wires = λ w h. subst (λ m. IsClear m f w) gains.shape (holds.wires w (gains.wires w ∙ h));
-        pairs = λ a b h. subst (λ m. ¬ Shorted m f a b) gains.shape (holds.pairs a b (gains.pairs a b ∙ h));
-        cells = λ u a h. holds.cells u a (gains.cells u a ∙ h);
-        registers = λ u h. holds.registers u (gains.registers u ∙ h);
-      }
+      held = held_before (these_crosses (led_over rows ls)) k l f gains holds
 
       by : (held_up_at k rows ls x ≡ true) ⊎ (has_number was x ≡ true) → stuck_cross f x ≢ None
       by (inl h) = held_up_stuck f same held x h

@@ -12,7 +12,8 @@ use Rattle.machine_config.proofs.Grouped.{LeadsTo-within, LeadsTo-start, LeadsTo
 use Rattle.machine_config.proofs.Loops.{closed_before}
 use Rattle.machine_config.proofs.Passing.{driven_in}
 use Rattle.diag_tests.specs.Vocabulary.{Walk, IsRoute, IsLoopConfig, is_laid}
-use Rattle.diag_evidence.specs.Vocabulary.{Kept, keeps_cross, CrossPasses, SwingPasses, ApartPasses, AreTied, IsLoopBy, LoopPasses, RoutePasses, RoutesPass}
+use Rattle.diag_evidence.specs.Vocabulary.{Kept, keeps_cross, CrossPasses, SwingPasses, AreTied, IsLoopBy, LoopPasses, RoutePasses}
+use Rattle.diag_evidence.proofs.Keeping.{untried_crosses}
 
 all_append : (P : ℕ → Type 0) (xs ys : List ℕ) → AllByRecursion P xs → AllByRecursion P ys → AllByRecursion P (xs ++ ys)
 all_append P [] ys p q = q
@@ -156,7 +157,7 @@ pub loop_passes : (told : Option Faults) (k : Kept) (g : Configuration) (left ri
 loop_passes told k g left right ties x drive answer config on off lefts rights tied driven passes = record {
   at = λ f l r is h loop.
       let it = loop_of_lists f g left right ties x l r (turn (λ m. IsLoopConfig m left right ties g) config) (turn (λ m. IsRoute m left) on) (turn (λ m. IsRoute m right) off)
-      (λ y a. h.crosses y (lefts y a)) (λ y a. h.crosses y (rights y a)) tied (turn (λ m. IsLoopBy m f left right ties x l r) loop) in
+      (λ y a. untried_crosses k h y (lefts y a)) (λ y a. untried_crosses k h y (rights y a)) tied (turn (λ m. IsLoopBy m f left right ties x l r) loop) in
       passes.at f l r left.pin is it (driven_in g.shape drive left.pin l it.k_left driven);
 }
   where
@@ -180,24 +181,4 @@ route_passes told m g r low high answer config route driven released passes = re
     by_cases : (x : ℕ) → (among r.crosses x ≡ true) ⊎ ((among r.crosses x ≡ true) ⊎ (false ≡ true)) → among r.crosses x ≡ true
     by_cases x (inl h) = h
     by_cases x (inr (inl h)) = h
-    by_cases x (inr (inr h)) = absurd (false≢true h)
-
--- two routes, where nothing else is closed
-pub routes_pass : (told : Option Faults) (m : Shape) (g : Configuration) (left right : Walk) (drive : Pins) (answer : Bool) →
-    IsLoopConfig m left right [] g → IsRoute m left → IsRoute m right → IsDrivenAlone drive left.pin → ApartPasses told g drive left.pin right.pin answer → RoutesPass told m left right answer
-routes_pass told m g left right drive answer config on off driven passes = record {
-  at = λ f is left_clear right_clear apart. passes.at f (among left.wires) (among right.wires) is config.off
-      (subst (λ n. AreGroups n f (is_closed g) (among left.wires) (among right.wires)) (sym config.shape) (record {
-        within = λ x h. by_cases x (laid_cases _ _ _ (sym (config.closed x) ∙ h));
-        left_clear = left_clear;
-        right_clear = right_clear;
-        apart = apart;
-      }))
-      (subst (λ n. among left.wires (pin_wire n left.pin) ≡ true) (sym config.shape) (LeadsTo-start on.leads))
-      (subst (λ n. among right.wires (pin_wire n right.pin) ≡ true) (sym config.shape) (LeadsTo-start off.leads)) driven;
-}
-  where
-    by_cases : (x : ℕ) → (among left.crosses x ≡ true) ⊎ ((among right.crosses x ≡ true) ⊎ (false ≡ true)) → IsWithin m (among left.wires) x ⊎ IsWithin m (among right.wires) x
-    by_cases x (inl h) = inl (LeadsTo-within on.leads x h)
-    by_cases x (inr (inl h)) = inr (LeadsTo-within off.leads x h)
     by_cases x (inr (inr h)) = absurd (false≢true h)

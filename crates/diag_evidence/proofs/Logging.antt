@@ -7,7 +7,7 @@ use Rattle.machine_meaning.specs.Vocabulary.{Pins}
 use Rattle.machine_config.specs.Vocabulary.{Configuration}
 use Rattle.rig.specs.Rig.{RigState, Session, Past, Exchange, Begins, GoesOn, GoesOnBy, log_of, standing}
 use Rattle.diag_tests.specs.Routes.{Walk}
-use Rattle.diag_evidence.specs.Logged.{one_cycle, two_cycles, HasLogged, LogsBit, LogsBits, LogsRows, LogsTwice, ShowsApart, ShowsSwing, ShowsPins, ShowsFromAll}
+use Rattle.diag_evidence.specs.Logged.{one_cycle, two_cycles, HasLogged, LogsBit, LogsRows, LogsTwice, ShowsApart, ShowsSwing, ShowsFromAll}
 
 -- a session with this configuration and these cycles
 standing_is : (o : Option Session) (g : Configuration) (cs : List Exchange) → option_map (λ (s : Session). s.config) o ≡ Some g
@@ -71,13 +71,6 @@ module _ {g : Configuration} {low high : Pins} {pin : ℕ} {s t : RigState} {a b
 
   pub shows_swing : a ≢ b → ShowsSwing g low high pin s t true
   shows_swing n = record { first = p.reading; second = p.later; logged = p.logged; exact = yes_where (λ e. n (p.first_is ∙ e ∙ sym p.second_is)) }
-
-module _ {g : Configuration} {drive : Pins} {k l : ℕ} {s t : RigState} {a b : Bool} (p : LogsBits g drive k l s t a b) where
-  pub shows_alike : a ≡ b → ShowsPins g drive k l s t false
-  shows_alike e = record { reading = p.reading; logged = p.logged; exact = no_where (sym p.first_is ∙ e ∙ p.second_is) }
-
-  pub shows_parted : a ≢ b → ShowsPins g drive k l s t true
-  shows_parted n = record { reading = p.reading; logged = p.logged; exact = yes_where (λ e. n (p.first_is ∙ e ∙ sym p.second_is)) }
 
 module _ (g : Configuration) (drive reading : Pins) (left : Walk) (rights : List Walk) (s t : RigState) (logged : HasLogged (one_cycle g drive reading ∷ []) s t) where
   pub shows_none : (All (λ (r : Walk). get_or reading left.pin true ≢ get_or reading r.pin true) rights → ⊥) → ShowsFromAll g drive left rights s t false

@@ -6,7 +6,6 @@ use Rattle.std.proofs.lemmas.Bool.Decides.{nat_tests}
 use Rattle.machine_meaning.specs.Vocabulary.{Pins, Faults, Shorted, IsClear, IsAlone}
 use Rattle.base_bits.specs.Numbers.{has_number}
 use Rattle.diag_evidence.specs.Vocabulary.{Kept, HoldsFor, IsMore, Trees, IsForest, KnowsForest, is_hung, IsLook, Foot, IsFoot, closes, pin_at, others_part, reads_oddly, reads_alike, shows_unfit, shows_unclear, is_unfit_in, is_unclear_in, MarksUnfit, MarksUnclear, UnfitIf, UnclearIf, AreAllOf, StayMarked, HasMarked}
-use Rattle.diag_evidence.proofs.Keeping.{holds_earlier}
 use Rattle.diag_evidence.proofs.Found.{IsSome_of, some_of}
 use Rattle.diag_evidence.proofs.Unfitting.{not_odd, not_alike}
 
@@ -20,13 +19,13 @@ still_unfit {trees} {feet} {rows} {was} h w on = h.unfit w ∙ or_right (is_unfi
 pub still_unclear : {trees : Trees} {feet : List Foot} {rows : List Pins} {was is were are : List Bool} → HasMarked trees feet rows was is were are → StayMarked were are
 still_unclear {trees} {feet} {rows} {were = were} h w on = h.unclear w ∙ or_right (is_unclear_in trees feet rows w) (has_number were w) on
 
--- marks are true of what is kept later
-pub unfit_later : (told : Option Faults) (k l : Kept) (known : ℕ → Bool) (marks : List Bool) → IsMore k l → UnfitIf told k known marks → UnfitIf told l known marks
-unfit_later told k l known marks more h f is holds w on clear alone =
-    h f is (holds_earlier more holds) w on (subst (λ m. IsClear m f w) more.shape clear) (subst (λ m. IsAlone m f (λ u. known u ≡ true) w) more.shape alone)
+-- marks are true of what is kept later, where that is true only of faults of which it was true before
+pub unfit_later : (told : Option Faults) (k l : Kept) (known : ℕ → Bool) (marks : List Bool) → IsMore k l → ((f : Faults) → HoldsFor l f → HoldsFor k f) → UnfitIf told k known marks → UnfitIf told l known marks
+unfit_later told k l known marks more before h f is holds w on clear alone =
+    h f is (before f holds) w on (subst (λ m. IsClear m f w) more.shape clear) (subst (λ m. IsAlone m f (λ u. known u ≡ true) w) more.shape alone)
 
-pub unclear_later : (told : Option Faults) (k l : Kept) (marks : List Bool) → IsMore k l → UnclearIf told k marks → UnclearIf told l marks
-unclear_later told k l marks more h f is holds w on clear = h f is (holds_earlier more holds) w on (subst (λ m. IsClear m f w) more.shape clear)
+pub unclear_later : (told : Option Faults) (k l : Kept) (marks : List Bool) → IsMore k l → ((f : Faults) → HoldsFor l f → HoldsFor k f) → UnclearIf told k marks → UnclearIf told l marks
+unclear_later told k l marks more before h f is holds w on clear = h f is (before f holds) w on (subst (λ m. IsClear m f w) more.shape clear)
 
 -- .. and of the same
 pub unfit_same : (told : Option Faults) (k l : Kept) (known : ℕ → Bool) (marks : List Bool) → l ≡ k → UnfitIf told k known marks → UnfitIf told l known marks

@@ -161,7 +161,9 @@ gains_then {p} {q} {r} {a} g h same = record {
   shape = h.shape ∙ g.shape;
   crosses = λ x. h.crosses x ∙ ap (λ t. q x || t) (g.crosses x) ∙ turned (q x) (p x) (keeps_cross a x) ∙ ap (λ t. t || keeps_cross a x) (sym (same x));
   wires = λ w. h.wires w ∙ g.wires w;
-  pairs = λ u v. h.pairs u v ∙ g.pairs u v;
+  apart = λ w. h.apart w ∙ g.apart w;
+  trial = h.trial ∙ g.trial;
+  row = λ w. h.row w ∙ g.row w;
   cells = λ t i. h.cells t i ∙ g.cells t i;
   registers = λ t. h.registers t ∙ g.registers t;
 }
@@ -171,7 +173,7 @@ gains_then {p} {q} {r} {a} g h same = record {
     turned false y z = refl
 
 pub gains_none : (a : Kept) → Gains (these_crosses (λ _. false)) a a
-gains_none a = record { shape = refl; crosses = λ x. refl; wires = λ w. refl; pairs = λ u v. refl; cells = λ t i. refl; registers = λ t. refl }
+gains_none a = record { shape = refl; crosses = λ x. refl; wires = λ w. refl; apart = λ w. refl; trial = refl; row = λ w. refl; cells = λ t i. refl; registers = λ t. refl }
 
 pub gains_more : {a b c : Kept} (xs : List ℕ) (i x : ℕ) → i < length xs → slice_get xs i ≡ Some x → Gains (these_crosses (among (take i xs))) a b → Gains (one_cross x) b c → Gains (these_crosses (among (take (i + 1) xs))) a c
 gains_more xs i x below at g h = gains_then g h (λ y. more_among xs i x y below at ∙ or_comm (among (take i xs) y) (x == y))

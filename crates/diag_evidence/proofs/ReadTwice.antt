@@ -61,7 +61,7 @@ module _ (told : Option Faults) (trees : Trees) (ts : List Table) (old new : She
     }
 
     module _ (known : KnowsForest k trees) (on : AreTablesOn trees ts) where
-      pub holds_after : (f : Faults) → told ≡ Some f → HoldsFor k f → GainHoldsFor k.shape (right_parts trees ts new.setting new.reads.items new.opposite.items) f
+      pub holds_after : (f : Faults) → told ≡ Some f → HoldsFor k f → GainHoldsFor k (right_parts trees ts new.setting new.reads.items new.opposite.items) f
       holds_after = right_holds told k trees ts ready.forest known on new.setting read.other latched opposed old.drives.items new.reads.items new.opposite.items ready.driven first_load second_load
 
       pub newly_after : (was is : List Bool) →

@@ -6,7 +6,7 @@ use Rattle.base_bits.specs.Numbers.{has_number}
 use Rattle.machine_shape.specs.declared.Table.{Table}
 use Rattle.machine_meaning.specs.Circuit.{Pins}
 use Rattle.machine_config.specs.declared.Setting.{Setting}
-use Rattle.diag_evidence.specs.Vocabulary.{Trees, Kept, Gain, Gains, nothing, one_register, keeps_cross, keeps_wire, keeps_pair, keeps_cell, keeps_register, right_cells, is_one_of, is_right_before, is_right_in, output_pin, right_parts}
+use Rattle.diag_evidence.specs.Vocabulary.{Trees, Kept, Gain, Gains, nothing, one_register, keeps_cross, keeps_wire, is_apart, in_row, keeps_cell, keeps_register, right_cells, is_one_of, is_right_before, is_right_in, output_pin, right_parts}
 use Rattle.diag_evidence.proofs.KeptLemmas.{mark_set}
 use Rattle.diag_evidence.proofs.Settings.{one_more}
 
@@ -14,7 +14,8 @@ use Rattle.diag_evidence.proofs.Settings.{one_more}
 pub record IsBoth (g h k : Gain) : Type 0 where
   pub crosses : (x : ℕ) → k.crosses x ≡ (h.crosses x || g.crosses x)
   pub wires : (w : ℕ) → k.wires w ≡ (h.wires w || g.wires w)
-  pub pairs : (a b : ℕ) → k.pairs a b ≡ (h.pairs a b || g.pairs a b)
+  pub apart : (w : ℕ) → k.apart w ≡ (h.apart w || g.apart w)
+  pub row : (w : ℕ) → k.row w ≡ (h.row w || g.row w)
   pub cells : (t a : ℕ) → k.cells t a ≡ (h.cells t a || g.cells t a)
   pub registers : (t : ℕ) → k.registers t ≡ (h.registers t || g.registers t)
 
@@ -30,13 +31,15 @@ both_gained {g} {h} {a = old} i p q = record {
   shape = q.shape ∙ p.shape;
   crosses = λ x. joined (h.crosses x) (g.crosses x) (keeps_cross old x) (q.crosses x) (p.crosses x) (i.crosses x);
   wires = λ w. joined (h.wires w) (g.wires w) (keeps_wire old w) (q.wires w) (p.wires w) (i.wires w);
-  pairs = λ a b. joined (h.pairs a b) (g.pairs a b) (keeps_pair old a b) (q.pairs a b) (p.pairs a b) (i.pairs a b);
+  apart = λ w. joined (h.apart w) (g.apart w) (is_apart old w) (q.apart w) (p.apart w) (i.apart w);
+  trial = q.trial ∙ p.trial;
+  row = λ w. joined (h.row w) (g.row w) (in_row old w) (q.row w) (p.row w) (i.row w);
   cells = λ t a. joined (h.cells t a) (g.cells t a) (keeps_cell old t a) (q.cells t a) (p.cells t a) (i.cells t a);
   registers = λ t. joined (h.registers t) (g.registers t) (keeps_register old t) (q.registers t) (p.registers t) (i.registers t);
 }
 
 pub none_gained : (a : Kept) → Gains nothing a a
-none_gained a = record { shape = refl; crosses = λ x. refl; wires = λ w. refl; pairs = λ a b. refl; cells = λ t a. refl; registers = λ t. refl }
+none_gained a = record { shape = refl; crosses = λ x. refl; wires = λ w. refl; apart = λ w. refl; trial = refl; row = λ w. refl; cells = λ t a. refl; registers = λ t. refl }
 
 -- tables, one after the other
 module _ (ts : List Table) (k : ℕ) (t : Table) (below : k < length ts) (at : slice_get ts k ≡ Some t) where
@@ -66,7 +69,8 @@ module _ (ts : List Table) (k : ℕ) (t : Table) (below : k < length ts) (at : s
     table_kept {a} {b} {c} {d} on p q r = both_gained {h = both} (record {
       crosses = λ x. refl;
       wires = λ w. refl;
-      pairs = λ a b. refl;
+      apart = λ w. refl;
+      row = λ w. refl;
       cells = λ u a. more_of (λ v. nat_lt a 64 && (of_table v 0 && of_table v (suc a))) u
           ∙ ap (λ x. ((t.0 == u) && (nat_lt a 64 && (x && of_table t.0 (suc a)))) || (is_one_of (take k ts) u && (nat_lt a 64 && (of_table u 0 && of_table u (suc a))))) on
           ∙ ap (λ x. x || (is_one_of (take k ts) u && (nat_lt a 64 && (of_table u 0 && of_table u (suc a))))) (or_false _);
@@ -74,7 +78,8 @@ module _ (ts : List Table) (k : ℕ) (t : Table) (below : k < length ts) (at : s
     }) p (both_gained {k = both} (record {
       crosses = λ x. refl;
       wires = λ w. refl;
-      pairs = λ a b. refl;
+      apart = λ w. refl;
+      row = λ w. refl;
       cells = λ u a. refl;
       registers = λ u. refl;
     }) q r)
@@ -102,7 +107,8 @@ module _ (ts : List Table) (k : ℕ) (t : Table) (below : k < length ts) (at : s
     table_left {a} {b} off p = both_gained (record {
       crosses = λ x. refl;
       wires = λ w. refl;
-      pairs = λ a b. refl;
+      apart = λ w. refl;
+      row = λ w. refl;
       cells = λ u a. more_of (λ v. nat_lt a 64 && (of_table v 0 && of_table v (suc a))) u
           ∙ ap (λ x. ((t.0 == u) && (nat_lt a 64 && (x && of_table t.0 (suc a)))) || (is_one_of (take k ts) u && (nat_lt a 64 && (of_table u 0 && of_table u (suc a))))) off
           ∙ ap (λ x. x || (is_one_of (take k ts) u && (nat_lt a 64 && (of_table u 0 && of_table u (suc a))))) (and_off (t.0 == u) (nat_lt a 64));

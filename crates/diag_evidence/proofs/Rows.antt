@@ -1,9 +1,10 @@
 -- Readings row by row.
-use Rattle.std.proofs.Common.{◌≡◌, ◌≢◌, ℕ, zero, suc, ◌<◌, ◌+◌, ◌++◌, ◌∷◌, All, Bool, true, false, not, Some, List, [], length, get_or, set, take, drop, refl, sym, ap, ◌∙◌, arith, slice_get, ◌||◌, ◌&&◌, map}
+use Rattle.std.proofs.Common.{◌≡◌, ◌≢◌, ℕ, zero, suc, ◌<◌, ◌+◌, ◌++◌, ◌∷◌, All, Bool, true, false, not, Some, List, [], length, get_or, set, take, drop, refl, sym, ap, ◌∙◌, subst, arith, slice_get, ◌||◌, ◌&&◌, map}
+use native.Mathlib.Decide.{ℕ_discrete}
 use mathlib.Core.Bool.{beq}
 use Rattle.std.specs.List.{list_any, list_all, range_with_len}
 use Rattle.std.proofs.lemmas.Bool.{false≢true}
-use Rattle.std.proofs.lemmas.List.Folds.{list_any_more, list_any_at, list_any-append, list_all_more, list_all_at}
+use Rattle.std.proofs.lemmas.List.Folds.{list_any_more, list_any_at, list_any-append, list_all_more, list_all_at, list_all-append}
 use Rattle.std.proofs.lemmas.Option.{gets}
 use Rattle.std.proofs.lemmas.List.{append-nil, take_all, length-map, length-replicate, length-set, get_or-map}
 use Rattle.std.proofs.lemmas.List.FromFn.{length-range_with_len, length-map-range_with_len, map-range_with_len_more, get_or-range_with_len}
@@ -11,6 +12,7 @@ use Rattle.std.proofs.lemmas.List.Elements.{All-map}
 use Rattle.std.proofs.Math.ListN.{drop_of_length-le}
 use Rattle.machine_meaning.specs.Circuit.{Pins}
 use Rattle.diag_evidence.specs.Looks.{differ, look_drives, none_driven, one_driven, parts}
+use Rattle.diag_evidence.proofs.Found.{IsSome_of, some_of}
 
 -- what a bit of a row is
 pub bit_of : (row : Pins) (k : ℕ) (b : Bool) → slice_get row k ≡ Some b → get_or row k true ≡ b
@@ -69,6 +71,44 @@ number_not_yet q k before no_ = any_number q k ∙ ap (λ t. t || q k) before �
 
 pub number_shown : (q : ℕ → Bool) (n k : ℕ) → k < n → q k ≡ true → list_any q (range_with_len 0 n) ≡ true
 number_shown q n k below is = let e = length-range_with_len 0 n in list_any_at q (range_with_len 0 n) k 0 (omega (arith, below, e)) (ap q (get_or-range_with_len 0 n k 0 below ∙ (let e : 0 + k ≡ k = omega arith in e)) ∙ is)
+
+-- a number of which a test holds
+pub number_of_any : (q : ℕ → Bool) (n : ℕ) → list_any q (range_with_len 0 n) ≡ true → (k : ℕ) × (k < n) × (q k ≡ true)
+number_of_any q n is =
+    let s = some_of q (range_with_len 0 n) is in
+    let e = length-range_with_len 0 n in
+    let l = s.below in
+    let below : s.place < n = omega (arith, e, l) in
+    let at : get_or (range_with_len 0 n) s.place 0 ≡ s.place = get_or-range_with_len 0 n s.place 0 below ∙ (let z : 0 + s.place ≡ s.place = omega arith in z) in
+    (s.place, below, sym (ap q at) ∙ s.holds 0)
+
+-- .. of all, one after the other
+pub every_number : (q : ℕ → Bool) (k : ℕ) → list_all q (range_with_len 0 (k + 1)) ≡ (list_all q (range_with_len 0 k) && q k)
+every_number q k = ap (list_all q) (one_longer k) ∙ list_all-append q (range_with_len 0 k) (k ∷ []) ∙ ap (λ t. list_all q (range_with_len 0 k) && t) (last (q k))
+  where
+    same : (xs : List ℕ) → map (λ n. n) xs ≡ xs
+    same [] = refl
+    same (x ∷ xs) = ap (λ ys. x ∷ ys) (same xs)
+
+    one_longer : (k : ℕ) → range_with_len 0 (k + 1) ≡ range_with_len 0 k ++ k ∷ []
+    one_longer k = sym (same (range_with_len 0 (k + 1))) ∙ map-range_with_len_more (λ n. n) 0 k k (omega arith) ∙ ap (λ ys. ys ++ k ∷ []) (same (range_with_len 0 k))
+
+    last : (b : Bool) → (b && true) ≡ b
+    last true = refl
+    last false = refl
+
+pub every_yet : (q : ℕ → Bool) (k : ℕ) → list_all q (range_with_len 0 k) ≡ true → q k ≡ true → list_all q (range_with_len 0 (k + 1)) ≡ true
+every_yet q k before is = every_number q k ∙ ap (λ t. t && q k) before ∙ is
+
+pub not_every : (q : ℕ → Bool) (n k : ℕ) → k < n → q k ≡ false → list_all q (range_with_len 0 n) ≡ false
+not_every q n k below no_ = let e = length-range_with_len 0 n in list_all_at q (range_with_len 0 n) k 0 (omega (arith, below, e)) (ap q (get_or-range_with_len 0 n k 0 below ∙ (let z : 0 + k ≡ k = omega arith in z)) ∙ no_)
+
+pub of_every : (q : ℕ → Bool) (n k : ℕ) → list_all q (range_with_len 0 n) ≡ true → k < n → q k ≡ true
+of_every q n k all below = by (q k) refl
+  where
+    by : (t : Bool) → q k ≡ t → q k ≡ true
+    by true e = e
+    by false e = absurd (false≢true (sym (not_every q n k below e) ∙ all))
 
 -- what two bits of a row are to each other
 pub differ_at : (row : Pins) (a b : ℕ) (x y : Bool) → slice_get row a ≡ Some x → slice_get row b ≡ Some y → differ (get_or row a true) (get_or row b true) ≡ not (beq x y)
@@ -135,3 +175,26 @@ differ_self false = refl
 pub parts_self : (rows : List Pins) (a : ℕ) → parts rows a a ≡ false
 parts_self [] a = refl
 parts_self (row ∷ rows) a = ap (λ b. b || parts rows a a) (differ_self (get_or row a true)) ∙ parts_self rows a
+
+-- one of two, and neither
+pub or_first : (a b : Bool) → a ≡ true → (a || b) ≡ true
+or_first a b e = ap (λ t. t || b) e
+
+pub or_second : (a b : Bool) → b ≡ true → (a || b) ≡ true
+or_second true b e = refl
+or_second false b e = e
+
+pub or_neither : (a b : Bool) → a ≡ false → b ≡ false → (a || b) ≡ false
+or_neither a b e f = ap (λ t. t || b) e ∙ f
+
+-- what is left of three, and of five
+pub and_rest : (a b c : Bool) → a ≡ true → b ≡ true → (a && (b && c)) ≡ c
+and_rest a b c p q = rw (p, q) refl
+
+-- one number more
+pub below_next : (P : ℕ → Type 0) (k : ℕ) → ((u : ℕ) → u < k → P u) → P k → (u : ℕ) → u < k + 1 → P u
+below_next P k before here u below = by (ℕ_discrete k u)
+  where
+    by : Dec (k ≡ u) → P u
+    by (yes e) = subst P e here
+    by (no n) = before u (omega (arith, below, n))

@@ -1,30 +1,33 @@
 -- What a look shows is true.
 use Rattle.std.proofs.Common.{◌≡◌, ◌≢◌, ◌⊎◌, inl, inr, ℕ, zero, suc, ◌<◌, ◌+◌, Bool, true, false, not, ◌&&◌, ◌||◌, Some, None, Option, List, [], ◌∷◌, All, length, get_or, refl, sym, ap, ◌∙◌, subst, arith, ◌==◌, slice_get, map}
-use Rattle.std.specs.List.{list_any, range_with_len}
+use Rattle.std.specs.List.{list_any, list_all, range_with_len}
 use Rattle.std.specs.Option.{option_map_or}
-use Rattle.std.proofs.lemmas.Bool.{false≢true, and_parts, or_cases, or_left, or_right}
+use Rattle.std.proofs.lemmas.Bool.{false≢true, and_parts, or_left, or_right}
 use Rattle.std.proofs.lemmas.Bool.Decides.{nat_tests}
 use Rattle.std.proofs.lemmas.List.FromFn.{get_or-map-range_with_len}
 use Rattle.std.proofs.lemmas.Option.{slice_get-get_or}
 use Rattle.machine_shape.specs.declared.Shape.{Shape}
-use Rattle.machine_shape.specs.Shape.{Ends, ends_of, pin_wire, pins_of}
+use native.Mathlib.Decide.{dec_lt}
+use Rattle.std.proofs.lemmas.List.{get_or_past}
+use Rattle.base_bits.specs.Numbers.{has_number}
+use Rattle.machine_shape.specs.Shape.{Ends, ends_of, pin_wire, pins_of, wires_of}
 use Rattle.machine_meaning.specs.Vocabulary.{Circuit, Pins, Outputs, IsValue, IsHeld, Faults, stuck_cross, stuck_wire, Net, Joined, here, then, crossed, Shorted, net_of, IsClear}
 use Rattle.machine_meaning.proofs.JoinedLemmas.{Joined-sym, Joined-trans, Joined-Shorted, Ends-swap}
 use Rattle.machine_meaning.proofs.Values.{swings as two_values}
 use Rattle.machine_config.specs.Vocabulary.{Configuration, is_closed, circuit_of, IsRun, among, Runs, Cycles, none, cycle, at_load, LeadsTo}
 use Rattle.machine_config.proofs.Distance.{cycles_alike}
 use Rattle.machine_config.proofs.Grouped.{LeadsTo-end}
-use Rattle.machine_config.proofs.Readings.{conducting, pin_value, reads_apart, apart_separates}
+use Rattle.machine_config.proofs.Readings.{conducting, pin_value, reads_apart}
 use Rattle.machine_config.proofs.Runs.{Cycles-length}
 use Rattle.rig.specs.Rig.{RigState}
 use Rattle.diag_tests.specs.Routes.{other_end}
-use Rattle.diag_evidence.specs.Vocabulary.{Kept, HoldsFor, Gain, Trees, HangsOn, pin_of, is_laid, IsForest, KeepsForest, IsLook, LogsLook, look_drives, one_driven, none_driven, differ, parts, swings, reads_somewhere, hangs_apart, hangs_swinging, hang_apart, read_at, seen_in, Foot, IsFoot, closes, pin_at, feet_crosses, seen_on, stands_apart, is_swinging_on, are_apart_on}
+use Rattle.diag_evidence.specs.Vocabulary.{Kept, is_apart, HoldsFor, Gain, Trees, HangsOn, pin_of, is_hung, is_laid, IsForest, KeepsForest, IsLook, LogsLook, look_drives, one_driven, none_driven, differ, parts, swings, reads_somewhere, hangs_swinging, parts_from_others, joins_alone, read_at, seen_in, Foot, IsFoot, closes, pin_at, feet_crosses, seen_on, is_swinging_on, all_hang}
 use Rattle.diag_evidence.proofs.Advancing.{joined_along}
 use Rattle.diag_evidence.proofs.Found.{IsSome_of, some_of}
 use Rattle.diag_evidence.proofs.Footing.{pin_below, foot_below}
-use Rattle.diag_evidence.proofs.KeptLemmas.{GainHoldsFor}
-use Rattle.diag_evidence.proofs.Rows.{differ_so, drives_count}
-use Rattle.diag_evidence.proofs.Sighted.{HangApart, apart_so}
+use Rattle.diag_evidence.proofs.KeptLemmas.{GainHoldsFor, has_apart}
+use Rattle.diag_evidence.proofs.Growing.{hung_by, within_places}
+use Rattle.diag_evidence.proofs.Rows.{differ_so, drives_count, number_of_any, of_every}
 
 none_by : (o : Option Bool) → ((v : Bool) → o ≡ Some v → ⊥) → o ≡ None
 none_by None n = refl
@@ -133,12 +136,53 @@ module _ {told : Option Faults} {m : Shape} {close : ℕ → Bool} {rows : List 
     pub foot_inside : (foot : Foot) → IsFoot trees foot → pin_at trees foot < pins_of m
     foot_inside foot at = subst (λ n. pin_at trees foot < pins_of n) same (foot_below trees foot forest at)
 
+    -- A pin of the machine that joins the set ..
+    record Joins (a : ℕ) : Type 0 where
+      pin : ℕ
+      below : pin < pins_of trees.shape
+      is_it : pin_wire trees.shape pin ≡ a
+      hangs : HangsOn trees a pin
+      parts_all : parts_from_others trees rows pin a ≡ true
+
+    joins_so : (a : ℕ) → (seen_in trees rows).apart a ≡ true → Joins a
+    joins_so a is_on =
+        let s = number_of_any (λ k. (pin_wire trees.shape k == a) && joins_alone trees rows k) (pins_of trees.shape) is_on in
+        let b = and_parts (pin_wire trees.shape s.0 == a) (joins_alone trees rows s.0) s.2 in
+        let j = and_parts (is_hung trees (pin_wire trees.shape s.0)) (swings rows s.0 && parts_from_others trees rows s.0 (pin_wire trees.shape s.0)) b.1 in
+        let h = hung_by (pin_of trees (pin_wire trees.shape s.0)) j.0 in
+        let own : h.0 ≡ s.0 = forest.pins s.0 h.0 s.1 h.1 in
+        let here_ : pin_wire trees.shape s.0 ≡ a = (let e = b.0 in grind (arith, nat_tests, e)) in
+        record {
+          pin = s.0;
+          below = s.1;
+          is_it = here_;
+          hangs = subst (λ w. HangsOn trees w s.0) here_ (subst (λ p. HangsOn trees (pin_wire trees.shape s.0) p) own h.1);
+          parts_all = subst (λ w. parts_from_others trees rows s.0 w ≡ true) here_ (and_parts (swings rows s.0) (parts_from_others trees rows s.0 (pin_wire trees.shape s.0)) j.1).1;
+        }
+
+    -- .. isn't shorted to another wire that hangs
+    joins_apart : (a b p : ℕ) → Joins a → HangsOn trees b p → a ≢ b → ¬ Shorted m f a b
+    joins_apart a b p j h n short = part_unshorted p j.pin b a (pin_inside b p h) (pin_inside a j.pin j.hangs) part (standing b p h) (standing a j.pin j.hangs) (Joined-sym short)
+      where
+        below_wires : b < wires_of trees.shape
+        below_wires = let w = within_places trees.pins b p h in let e = forest.wires in omega (arith, w, e)
+
+        case_of : ((b == a) || option_map_or (λ q. parts rows q j.pin) (pin_of trees b) true) ≡ true
+        case_of = of_every (λ u. (u == a) || option_map_or (λ q. parts rows q j.pin) (pin_of trees u) true) (wires_of trees.shape) b j.parts_all below_wires
+
+        part : parts rows p j.pin ≡ true
+        part =
+            let other : (b == a) ≡ false = (let d : b ≢ a = λ e. n (sym e) in grind (arith, nat_tests, d)) in
+            sym (ap (λ o. option_map_or (λ q. parts rows q j.pin) o true) h) ∙ sym (ap (λ t. t || option_map_or (λ q. parts rows q j.pin) (pin_of trees b) true) other) ∙ case_of
+
     -- what is seen of wires that hang is true
-    pub seen_in_holds : GainHoldsFor m (seen_in trees rows) f
-    seen_in_holds = record {
+    pub seen_in_holds : (k : Kept) → k.shape ≡ m → ((w : ℕ) → is_apart k w ≡ true → is_hung trees w ≡ true) → GainHoldsFor k (seen_in trees rows) f
+    seen_in_holds k there hang = record {
       crosses = λ x no_. absurd (false≢true no_);
-      wires = λ w on. clear w (pin_of trees w) refl on;
-      pairs = λ a b on. unshorted a b (apart_so trees rows a b on);
+      wires = λ w is_on. subst (λ n. IsClear n f w) (sym there) (clear w (pin_of trees w) refl is_on);
+      joined = λ a b is_on also n. subst (λ s. ¬ Shorted s f a b) (sym there) (let j = joins_so b also in joins_apart a b j.pin (joins_so a is_on) j.hangs n);
+      joins = λ a b is_on of_set n. subst (λ s. ¬ Shorted s f a b) (sym there) (let h = hung_by (pin_of trees b) (hang b of_set) in joins_apart a b h.0 (joins_so a is_on) h.1 n);
+      row = λ a b t no_. absurd (false≢true no_);
       cells = λ t a no_. absurd (false≢true no_);
       registers = λ t no_. absurd (false≢true no_);
     }
@@ -146,9 +190,6 @@ module _ {told : Option Faults} {m : Shape} {close : ℕ → Bool} {rows : List 
         clear : (w : ℕ) (o : Option ℕ) → pin_of trees w ≡ o → option_map_or (λ p. swings rows p) o false ≡ true → IsClear m f w
         clear w None e no_ = absurd (false≢true no_)
         clear w (Some p) e test_stuck = swing_clear p w (pin_inside w p e) test_stuck (standing w p e)
-
-        unshorted : (a b : ℕ) → HangApart trees rows a b → ¬ Shorted m f a b
-        unshorted a b s j = part_unshorted s.other s.one b a (pin_inside b s.other s.second) (pin_inside a s.one s.first) s.part (standing b s.other s.second) (standing a s.one s.first) (Joined-sym j)
 
     -- and what is seen of wires on feet
     module _ (feet : List Foot) (each : All (IsFoot trees) feet) (opens : (x : ℕ) → among (feet_crosses feet) x ≡ true → stuck_cross f x ≡ None) (on : (x : ℕ) → among (feet_crosses feet) x ≡ true → close x ≡ true) where
@@ -173,27 +214,13 @@ module _ {told : Option Faults} {m : Shape} {close : ℕ → Bool} {rows : List 
       same_number : (a b : ℕ) → (a == b) ≡ true → a ≡ b
       same_number a b e = grind (arith, nat_tests, e)
 
-      -- a wire that stands apart from a pin isn't shorted to what is joined to this one
-      apart_from : (p w u : ℕ) → p < pins_of m → Joined net (pin_wire g.shape p) w → stands_apart trees feet rows p u ≡ true → ¬ Shorted m f w u
-      apart_from p w u below j apart s = by (or_cases (hangs_apart trees rows p u) (list_any (λ foot. (foot.0.0 == u) && parts rows (pin_at trees foot) p) feet) apart)
-        where
-          hung : (o : Option ℕ) → pin_of trees u ≡ o → option_map_or (λ q. parts rows q p) o false ≡ true → ⊥
-          hung None e no_ = false≢true no_
-          hung (Some q) e part = part_unshorted q p u w (pin_inside u q e) below part (standing u q e) j (Joined-sym s)
-
-          footed : IsSome_of (λ (foot : Foot). (foot.0.0 == u) && parts rows (pin_at trees foot) p) feet → ⊥
-          footed t = let h = and_parts _ _ (t.holds d) in
-              part_unshorted (pin_at trees (get_or feet t.place d)) p u w (foot_pin t.place t.below) below h.1 (subst (Joined net _) (same_number _ _ h.0) (foot_joined t.place t.below)) j (Joined-sym s)
-
-          by : (hangs_apart trees rows p u ≡ true) ⊎ (list_any (λ foot. (foot.0.0 == u) && parts rows (pin_at trees foot) p) feet ≡ true) → ⊥
-          by (inl h) = hung (pin_of trees u) refl h
-          by (inr h) = footed (some_of _ feet h)
-
-      pub seen_on_holds : GainHoldsFor m (seen_on trees feet rows) f
-      seen_on_holds = record {
+      pub seen_on_holds : (k : Kept) → k.shape ≡ m → GainHoldsFor k (seen_on trees feet rows) f
+      seen_on_holds k there = record {
         crosses = opens;
-        wires = λ w is_on. clear w (some_of (λ (foot : Foot). (foot.0.0 == w) && swings rows (pin_at trees foot)) feet is_on);
-        pairs = λ a b is_on. unshorted a b (some_of (λ (foot : Foot). ((foot.0.0 == a) && stands_apart trees feet rows (pin_at trees foot) b) || ((foot.0.0 == b) && stands_apart trees feet rows (pin_at trees foot) a)) feet (and_parts _ _ is_on).1);
+        wires = λ w is_on. subst (λ n. IsClear n f w) (sym there) (clear w (some_of (λ (foot : Foot). (foot.0.0 == w) && swings rows (pin_at trees foot)) feet is_on));
+        joined = λ a b no_. absurd (false≢true no_);
+        joins = λ a b no_. absurd (false≢true no_);
+        row = λ a b t no_. absurd (false≢true no_);
         cells = λ t a no_. absurd (false≢true no_);
         registers = λ t no_. absurd (false≢true no_);
       }
@@ -202,21 +229,23 @@ module _ {told : Option Faults} {m : Shape} {close : ℕ → Bool} {rows : List 
           clear w t = let h = and_parts _ _ (t.holds d) in
               subst (IsClear m f) (same_number _ _ h.0) (swing_clear (pin_at trees (get_or feet t.place d)) _ (foot_pin t.place t.below) h.1 (foot_joined t.place t.below))
 
-          unshorted : (a b : ℕ) → IsSome_of (λ (foot : Foot). ((foot.0.0 == a) && stands_apart trees feet rows (pin_at trees foot) b) || ((foot.0.0 == b) && stands_apart trees feet rows (pin_at trees foot) a)) feet → ¬ Shorted m f a b
-          unshorted a b t = by (or_cases _ _ (t.holds d))
-            where
-              foot : Foot
-              foot = get_or feet t.place d
+-- all wires of the set hang
+pub all_hang_so : (set : List Bool) (trees : Trees) → all_hang set trees ≡ true → (w : ℕ) → has_number set w ≡ true → is_hung trees w ≡ true
+all_hang_so set trees all w is = by (dec_lt w (length set))
+  where
+    second : (a b : Bool) → (not a || b) ≡ true → a ≡ true → b ≡ true
+    second true b e f = e
+    second false b e f = absurd (false≢true f)
 
-              by : (((foot.0.0 == a) && stands_apart trees feet rows (pin_at trees foot) b) ≡ true) ⊎ (((foot.0.0 == b) && stands_apart trees feet rows (pin_at trees foot) a) ≡ true) → ¬ Shorted m f a b
-              by (inl h) s = let p = and_parts _ _ h in apart_from (pin_at trees foot) a b (foot_pin t.place t.below) (subst (Joined net _) (same_number _ _ p.0) (foot_joined t.place t.below)) p.1 s
-              by (inr h) s = let p = and_parts _ _ h in apart_from (pin_at trees foot) b a (foot_pin t.place t.below) (subst (Joined net _) (same_number _ _ p.0) (foot_joined t.place t.below)) p.1 (Joined-sym s)
+    by : Dec (w < length set) → is_hung trees w ≡ true
+    by (yes h) = second (has_number set w) (is_hung trees w) (of_every (λ w. not (has_number set w) || is_hung trees w) (length set) w all h) is
+    by (no n) = absurd (false≢true (sym (get_or_past set w false (omega arith)) ∙ is))
 
 -- what a look at a forest shows, over what is kept
-pub look_holds : (told : Option Faults) (k : Kept) (trees : Trees) (rows : List Pins) → IsForest trees → KeepsForest k trees → IsLook told trees.shape (is_laid trees) rows →
-    (f : Faults) → told ≡ Some f → HoldsFor k f → GainHoldsFor k.shape (seen_in trees rows) f
-look_holds told k trees rows forest keeps look f is holds = subst (λ n. GainHoldsFor n (seen_in trees rows) f) keeps.shape
-    (seen_in_holds look f is trees refl forest (λ x on. holds.crosses x (keeps.crosses x on)) (λ x on. on))
+pub look_holds : (told : Option Faults) (k : Kept) (trees : Trees) (rows : List Pins) → IsForest trees → KeepsForest k trees → all_hang k.apart trees ≡ true → IsLook told trees.shape (is_laid trees) rows →
+    (f : Faults) → told ≡ Some f → HoldsFor k f → GainHoldsFor k (seen_in trees rows) f
+look_holds told k trees rows forest keeps hang look f is holds =
+    seen_in_holds look f is trees refl forest (λ x on. holds.crosses x (keeps.crosses x on)) (λ x on. on) k (sym keeps.shape) (λ w of_set. all_hang_so k.apart trees hang w (has_apart k w ∙ of_set))
 
 -- no feet close nothing more ..
 bare_too : (b : Bool) → (b || false) ≡ b

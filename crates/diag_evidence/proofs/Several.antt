@@ -1,21 +1,18 @@
 -- One route against several.
 use Rattle.std.proofs.Common.{◌≡◌, ◌≢◌, ◌⊎◌, ◌<◌, ◌+◌, ℕ, zero, suc, Bool, true, false, ◌&&◌, Some, Option, List, [], ◌∷◌, ◌++◌, length, get_or, take, refl, sym, ap, ◌∙◌, subst, inl, inr, arith, ◌==◌, ◌||◌, All}
-use Rattle.std.proofs.Math.Bool.{or_comm}
 use Rattle.std.proofs.lemmas.Bool.{false≢true, or_cases, or_left, or_right}
 use Rattle.std.proofs.lemmas.List.{take_more, flat_map_more}
 use Rattle.std.proofs.lemmas.List.Folds.{list_any-append}
-use Rattle.base_bits.specs.Numbers.{has_number}
 use Rattle.machine_shape.specs.Shape.{pins_of}
 use Rattle.machine_meaning.specs.Vocabulary.{Pins, Faults, Shorted}
-use Rattle.machine_meaning.proofs.JoinedLemmas.{Joined-sym}
 use Rattle.machine_config.specs.Vocabulary.{Configuration, circuit_of, IsRun, among}
 use Rattle.machine_config.proofs.Passing.{apart_passes}
 use Rattle.machine_config.proofs.Readings.{apart_separates}
 use Rattle.machine_config.proofs.Runs.{Runs-unique}
 use Rattle.diag_tests.specs.Routes.{Walk}
-use Rattle.diag_evidence.specs.Vocabulary.{Kept, HoldsFor, is_between, is_across, these_pairs, ReadsOnce, TellsFromAll, AllApartPasses, IsReady, wires_over}
+use Rattle.diag_evidence.specs.Vocabulary.{Kept, HoldsFor, row_over, ReadsOnce, TellsFromAll, AllApartPasses, IsReady, wires_over}
 use Rattle.diag_evidence.proofs.Advancing.{ready_joined}
-use Rattle.diag_evidence.proofs.KeptLemmas.{GainHoldsFor, pairs_hold}
+use Rattle.diag_evidence.proofs.KeptLemmas.{GainHoldsFor, or_swapped, row_holds}
 
 -- the wires of one route more
 over_more : (rs : List Walk) (k : ℕ) (s : Walk) → k < length rs → s ≡ get_or rs k s → wires_over (take (k + 1) rs) ≡ wires_over (take k rs) ++ s.wires
@@ -27,15 +24,10 @@ among_more : (rs : List Walk) (k y : ℕ) (s : Walk) → k < length rs → s ≡
 among_more rs k y s below at = ap (λ ws. among ws y) (over_more rs k s below at) ∙ list_any-append (λ z. z == y) (wires_over (take k rs)) s.wires
 
 -- one route more is in a set
-pub gathered_next : (rs : List Walk) (k w : ℕ) (s : Walk) (t : Bool) → k < length rs → s ≡ get_or rs k s → t ≡ among (wires_over (take k rs)) w →
-    (among s.wires w || t) ≡ among (wires_over (take (k + 1) rs)) w
-gathered_next rs k w s t below at is =
-    ap (λ x. among s.wires w || x) is ∙ or_comm (among s.wires w) (among (wires_over (take k rs)) w) ∙ sym (among_more rs k w s below at)
-
--- a set of the wires of a list serves as the list does
-pub across_between : (ws us : List ℕ) (numbers : List Bool) (a b : ℕ) → ((w : ℕ) → has_number numbers w ≡ among us w) → is_across ws numbers a b ≡ is_between ws us a b
-across_between ws us numbers a b same =
-    ap (λ t. (among ws a && t) || (among ws b && has_number numbers a)) (same b) ∙ ap (λ t. (among ws a && among us b) || (among ws b && t)) (same a)
+pub gathered_next : (rs : List Walk) (k w : ℕ) (s : Walk) (t o : Bool) → k < length rs → s ≡ get_or rs k s → t ≡ (among (wires_over (take k rs)) w || o) →
+    (among s.wires w || t) ≡ (among (wires_over (take (k + 1) rs)) w || o)
+gathered_next rs k w s t o below at is =
+    ap (λ x. among s.wires w || x) is ∙ or_swapped (among s.wires w) (among (wires_over (take k rs)) w) o ∙ ap (λ x. x || o) (sym (among_more rs k w s below at))
 
 -- a wire of one of the routes
 pub over_has : (rs : List Walk) (k w : ℕ) (d : Walk) → k < length rs → among (get_or rs k d).wires w ≡ true → among (wires_over rs) w ≡ true
@@ -82,9 +74,9 @@ module _ {told : Option Faults} {g : Configuration} {drive reading : Pins} (left
   }
 
   pub all_gain : (k : Kept) → g.shape ≡ k.shape → IsReady k g left → All (IsReady k g) rights → Differ reading left.pin rights →
-      (f : Faults) → told ≡ Some f → HoldsFor k f → GainHoldsFor k.shape (these_pairs left.wires (wires_over rights)) f
+      (f : Faults) → told ≡ Some f → HoldsFor k f → GainHoldsFor k (row_over k.trial left.wires (wires_over rights)) f
   all_gain k same ready others differ f t h =
-      subst (λ m. GainHoldsFor m (these_pairs left.wires (wires_over rights)) f) same (pairs_hold g.shape left.wires (wires_over rights) f apart (λ w u is on j. apart u w on is (Joined-sym j)))
+      row_holds k left.wires (wires_over rights) f (λ w u is on. subst (λ m. ¬ Shorted m f w u) same (apart w u is on))
     where
       apart : (w u : ℕ) → among left.wires w ≡ true → among (wires_over rights) u ≡ true → ¬ Shorted g.shape f w u
       apart w u is on =

@@ -5,9 +5,9 @@ use Rattle.machine_meaning.specs.Vocabulary.{Pins, Faults}
 use Rattle.machine_config.specs.Vocabulary.{Configuration, with_open, circuit_of, IsRun}
 use Rattle.machine_config.proofs.Runs.{Runs-unique}
 use Rattle.machine_config.proofs.Loops.{loop_toggles}
-use Rattle.machine_config.proofs.Passing.{swing_passes, apart_passes}
+use Rattle.machine_config.proofs.Passing.{swing_passes}
 use Rattle.machine_shape.specs.Shape.{pins_of}
-use Rattle.diag_evidence.specs.Readings.{Reads, ReadsPins, ReadsTwice, TellsApart, TellsSwing, TellsPins, CrossPasses, SwingPasses, ApartPasses}
+use Rattle.diag_evidence.specs.Readings.{Reads, ReadsTwice, TellsApart, TellsSwing, CrossPasses, SwingPasses}
 
 first_of : {r q : Pins} {rs qs : List Pins} → ◌≡◌ {A = List Pins} (r ∷ rs) (q ∷ qs) → r ≡ q
 first_of e = ap (λ xs. get_or xs 0 []) e
@@ -45,19 +45,6 @@ low_and_high p q h e = false≢true (sym (p ∙ h.0) ∙ e ∙ q ∙ h.1)
 -- a loop passes
 pub loop_shows : {told : Option Faults} {drive : Pins} {pin : ℕ} {a b : Bool} (g : Configuration) (x : ℕ) (p : Reads told g drive pin a) (q : Reads told (with_open g x) drive pin b) → a ≡ b → CrossPasses told g x drive pin false
 loop_shows {drive = drive} {pin = pin} g x p q e = record { at = λ f left right k t loop driven. absurd (low_and_high p.bit_is q.bit_is (loop_toggles f g x k pin left right drive _ _ loop driven (p.run f t) (q.run f t)) e) }
-
-module _ {told : Option Faults} {g : Configuration} {drive : Pins} {k l : ℕ} {a b : Bool} (p : ReadsPins told g drive k l a b) where
-  same_pins : (f : Faults) (r : Pins) → told ≡ Some f → IsRun f g (drive ∷ []) (r ∷ []) → p.reading ≡ r
-  same_pins f r t run = first_of (Runs-unique (circuit_of f g) (p.run f t) run)
-
-  pub pins_same : a ≡ b → TellsPins told g drive k l false
-  pins_same e = record { exact = λ f r t run. ((λ is. absurd (false≢true is)), (λ n. absurd (n (sym (p.first_is ∙ bit_of k (same_pins f r t run)) ∙ e ∙ p.second_is ∙ bit_of l (same_pins f r t run))))) }
-
-  pub pins_apart : a ≢ b → TellsPins told g drive k l true
-  pins_apart n = record { exact = λ f r t run. ((λ is e. n (p.first_is ∙ bit_of k (same_pins f r t run) ∙ e ∙ sym (p.second_is ∙ bit_of l (same_pins f r t run)))), (λ n. refl)) }
-
-  pub apart_shows : k < pins_of g.shape → l < pins_of g.shape → a ≡ b → ApartPasses told g drive k l false
-  apart_shows h i e = record { at = λ f left right t off groups is on driven. absurd (low_and_high p.first_is p.second_is (apart_passes f g left right drive _ k l off groups h i is on driven (p.run f t)) e) }
 
 module _ {told : Option Faults} {g : Configuration} {low high : Pins} {pin : ℕ} {a b : Bool} (p : ReadsTwice told g low high pin a b) where
   same_both : (f : Faults) (r q : Pins) → told ≡ Some f → IsRun f g (low ∷ high ∷ []) (r ∷ q ∷ []) → ◌≡◌ {A = List Pins} (p.reading ∷ p.later ∷ []) (r ∷ q ∷ [])

@@ -11,6 +11,7 @@ use Rattle.machine_config.proofs.Readings.{conducting}
 use Rattle.diag_tests.specs.Vocabulary.{Walk, IsRoute, IsCellConfig, cell_setting}
 use Rattle.diag_evidence.specs.Vocabulary.{Kept, keeps_cross, CellPasses, RegisterPasses, IsTied, IsTableBy, IsCellBy, CellPassesBy, RegisterPassesBy}
 use Rattle.diag_evidence.proofs.Advancing.{joined_along}
+use Rattle.diag_evidence.proofs.Keeping.{untried_crosses}
 use Rattle.diag_evidence.proofs.Lists.{AreOn, all_on, laid_cases, grown}
 use Rattle.diag_evidence.proofs.TableTests.{on_after, off_after}
 
@@ -91,7 +92,7 @@ module _ (told : Option Faults) (k : Kept) (g : Configuration) (left right : Wal
   cell_passes a passes = record {
     at = λ f l r bits is h test. passes.at f (cell_setting cells) l r bits left.pin is
         (cell_of_lists f g left right ties t cells l r (turn (λ m. IsCellConfig m left right ties t cells g) config) (turn (λ m. IsRoute m left) on) (turn (λ m. IsRoute m right) off)
-        (λ y i. h.crosses y (lefts y i)) (λ y i. h.crosses y (rights y i)) (turn (λ m. IsTableBy m f left right ties t l r) test.table) a bits
+        (λ y i. untried_crosses k h y (lefts y i)) (λ y i. untried_crosses k h y (rights y i)) (turn (λ m. IsTableBy m f left right ties t l r) test.table) a bits
         (turn (λ m. IsCellBy m f left right ties t a l r bits) test)) driven;
   }
 
@@ -99,5 +100,5 @@ module _ (told : Option Faults) (k : Kept) (g : Configuration) (left right : Wal
   register_passes s latched passes = record {
     at = λ f l r is h test free. passes.at f s l r is
         (register_of_lists f g left right ties t cells l r (turn (λ m. IsCellConfig m left right ties t cells g) config) (turn (λ m. IsRoute m left) on) (turn (λ m. IsRoute m right) off)
-        (λ y i. h.crosses y (lefts y i)) (λ y i. h.crosses y (rights y i)) (turn (λ m. IsTableBy m f left right ties t l r) test) s drive latched free driven);
+        (λ y i. untried_crosses k h y (lefts y i)) (λ y i. untried_crosses k h y (rights y i)) (turn (λ m. IsTableBy m f left right ties t l r) test) s drive latched free driven);
   }

@@ -13,8 +13,7 @@ use Rattle.machine_meaning.specs.Vocabulary.{Pins, Faults, stuck_register, wrong
 use Rattle.machine_config.specs.declared.Setting.{Setting}
 use Rattle.machine_config.specs.Vocabulary.{Configuration, cell_of, IsRun, number_of}
 use Rattle.diag_evidence.specs.Vocabulary.{Trees, IsForest, KnowsForest, pin_of, Kept, Gains, HoldsFor, AreTablesOn, AreAddressDrives, AreOpposite, IsTableConfig, IsTableLoad, MarksWrong, WrongIf, is_one_of, is_right_before, is_right_in, output_pin, right_parts, read_at}
-use Rattle.diag_evidence.proofs.Keeping.{holds_earlier}
-use Rattle.diag_evidence.proofs.KeptLemmas.{GainHoldsFor, more_by_gain}
+use Rattle.diag_evidence.proofs.KeptLemmas.{GainHoldsFor, held_before}
 use Rattle.diag_evidence.proofs.Nets.{IsNet, AreHung, IsInputDrive, shown, shows, address_of}
 use Rattle.diag_evidence.proofs.Planted.{net_of_forest, same_pin}
 
@@ -167,11 +166,13 @@ module _ (told : Option Faults) (k : Kept) (trees : Trees) (ts : List Table) (fo
     right_before r (suc n) b = and_true _ _ (right_before r n (omega (arith, b))) (right_in r n (omega (arith, b)))
 
   -- what is kept is true
-  pub right_holds : (f : Faults) → told ≡ Some f → HoldsFor k f → GainHoldsFor k.shape (right_parts trees ts s reads opposite) f
+  pub right_holds : (f : Faults) → told ≡ Some f → HoldsFor k f → GainHoldsFor k (right_parts trees ts s reads opposite) f
   right_holds f is holds = record {
     crosses = λ x on. absurd (false≢true on);
     wires = λ w on. absurd (false≢true on);
-    pairs = λ a b on. absurd (false≢true on);
+    joined = λ a b on. absurd (false≢true on);
+    joins = λ a b on. absurd (false≢true on);
+    row = λ a b t on. absurd (false≢true on);
     cells = λ t a on. by_cell t a on;
     registers = λ t on. let p = and_parts (is_one_of ts t) _ on in register_free f is holds t p.0 p.1;
   }
@@ -205,7 +206,7 @@ module _ (told : Option Faults) (k : Kept) (trees : Trees) (ts : List Table) (fo
   marks_wrong was is l gains marks before f same holds t on = by (or_cases (is_one_of ts t && not (is_right_before s reads opposite (output_pin trees t) 65)) (has_number was t) (sym (marks t) ∙ on))
     where
       held : HoldsFor k f
-      held = holds_earlier (more_by_gain (right_parts trees ts s reads opposite) k l gains) holds
+      held = held_before (right_parts trees ts s reads opposite) k l f gains holds
 
       by : ((is_one_of ts t && not (is_right_before s reads opposite (output_pin trees t) 65)) ≡ true) ⊎ (has_number was t ≡ true) → ¬ IsRightTable f t
       by (inl h) = not_right_wrong f same held t h

@@ -6,11 +6,12 @@ use Rattle.machine_meaning.specs.Circuit.{Pins}
 use Rattle.rig.specs.Rig.{RigState, Explains, Narrows, Tells, log_of}
 use Rattle.diag_evidence.specs.declared.hangs.WireTest.{WireTest}
 use Rattle.diag_evidence.specs.declared.hangs.Views.{Views}
-use Rattle.diag_evidence.specs.Vocabulary.{Kept, HoldsFor, IsMore, Gains, Advances, FewCycles, Trees, IsForest, KnowsForest, Foot, IsFoot, IsLook, LogsLook, LogsThree, LogsViews, ShowsTried, all_feet, closes, AreHangs, AreAllOf, MarksUnfit, MarksUnclear, UnfitIf, UnclearIf, StayMarked, HasTried, silent, answered, over_of, turned, overs, others, shown, seen_on, HasViewed, HasLearnt}
+use Rattle.diag_evidence.specs.Vocabulary.{Kept, HoldsFor, IsMore, Gains, Advances, FewCycles, Trees, IsForest, KnowsForest, Foot, IsFoot, IsLook, LogsLook, LogsThree, LogsViews, ShowsTried, all_feet, closes, AreHangs, AreAllOf, MarksUnfit, MarksUnclear, UnfitIf, UnclearIf, StayMarked, HasTried, silent, answered, over_of, turned, overs, others, shown, seen_on, joined_by, HasViewed, HasLearnt}
 use Rattle.diag_evidence.proofs.Keeping.{more_then}
 use Rattle.diag_evidence.proofs.Logging.{logged_then}
-use Rattle.diag_evidence.proofs.KeptLemmas.{more_by_gain}
-use Rattle.diag_evidence.proofs.Hanging.{AreHung, hung_turned, overs_feet, overs_once, hung_holds}
+use Rattle.diag_evidence.proofs.KeptLemmas.{more_by_gain, held_before}
+use Rattle.diag_evidence.proofs.Hanging.{AreHung, hung_turned, overs_feet, overs_once}
+use Rattle.diag_evidence.proofs.Joining.{hung_holds}
 use Rattle.diag_evidence.proofs.Marked.{still_unfit, still_unclear, unfit_new, unclear_new, unfit_then, unclear_then, unfit_all, unclear_all, unfit_later, unclear_later}
 
 -- a look over these feet, under another name
@@ -46,7 +47,11 @@ module _ {trees : Trees} {hs : List WireTest} {views : Views} {k l : Kept} {was 
   stay_unclear w on = still_unclear learnt.second_marks w (still_unclear learnt.first_marks w on)
 
   pub learnt_more : IsMore k l
-  learnt_more = more_then (more_by_gain _ k learnt.mid learnt.first) (more_by_gain _ learnt.mid l learnt.second)
+  learnt_more = more_then (more_by_gain _ k learnt.mid learnt.first) (more_then (more_by_gain _ learnt.mid learnt.near learnt.second) (more_by_gain _ learnt.near l learnt.third))
+
+  -- what is kept then is true only of faults of which it was true before
+  pub learnt_before : (f : Faults) → HoldsFor l f → HoldsFor k f
+  learnt_before f h = held_before _ k learnt.mid f learnt.first (held_before _ learnt.mid learnt.near f learnt.second (held_before _ learnt.near l f learnt.third h))
 
   pub learnt_advances : {old new : RigState} → new.machine ≡ old.machine → old.failures ≤ new.failures → old.loads ≤ new.loads → FewCycles old new → Narrows old new → Tells old new
       → ((f : Faults) → Explains f new → HoldsFor k f → HoldsFor l f) → Advances old new k l
@@ -82,7 +87,9 @@ module _ (trees : Trees) (hs : List WireTest) {s t : RigState} (views : Views) (
     answers = logs.answers ∙ is_yes;
     mid = learnt.mid;
     first = learnt.first;
+    near = learnt.near;
     second = learnt.second;
+    third = learnt.third;
     some = learnt.some;
     few = learnt.few;
     first_marks = learnt.first_marks;
@@ -102,7 +109,9 @@ module _ (told : Option Faults) (trees : Trees) (hs : List WireTest) (views : Vi
       other_look = viewed.without_other is_yes;
       mid = learnt.mid;
       first = learnt.first;
+      near = learnt.near;
       second = learnt.second;
+      third = learnt.third;
       some = learnt.some;
       few = learnt.few;
       first_marks = learnt.first_marks;
@@ -124,11 +133,11 @@ module _ (told : Option Faults) (trees : Trees) (hs : List WireTest) (views : Vi
           (unclear_new told k trees (overs hs) views.without_other.rows forest knows (overs_feet hs hung.over) (overs_once hung) (viewed.without_other is_yes) learnt.second_marks)
 
       pub unfit_hung : (known : ℕ → Bool) → AreAllOf trees known → UnfitIf told k known was → UnfitIf told l known is
-      unfit_hung known all before = unfit_later told k l known is (learnt_more learnt) (unfit_all told k trees was is newly_unfit known all before)
+      unfit_hung known all before = unfit_later told k l known is (learnt_more learnt) (learnt_before learnt) (unfit_all told k trees was is newly_unfit known all before)
 
       pub unclear_hung : UnclearIf told k were → UnclearIf told l are
-      unclear_hung before = unclear_later told k l are (learnt_more learnt) (unclear_all told k were are newly_unclear before)
+      unclear_hung before = unclear_later told k l are (learnt_more learnt) (learnt_before learnt) (unclear_all told k were are newly_unclear before)
 
-      pub tried_holds : (f : Faults) → told ≡ Some f → HoldsFor k f → HoldsFor l f
-      tried_holds = hung_holds k trees hs views.all.rows views.without_over.rows views.without_other.rows forest knows.keeps hung viewed.all (viewed.without_over is_yes) (viewed.without_other is_yes)
-          learnt.mid l learnt.first learnt.second
+      pub tried_holds : AreHangs trees hs → (f : Faults) → told ≡ Some f → HoldsFor k f → HoldsFor l f
+      tried_holds hangs = hung_holds k trees hs views.all.rows views.without_over.rows views.without_other.rows forest knows.keeps hangs hung viewed.all (viewed.without_over is_yes) (viewed.without_other is_yes)
+          learnt.mid learnt.near l learnt.first learnt.second learnt.third

@@ -1,6 +1,6 @@
 -- Wires that are hung on forests, to be tested.
 use Rattle.std.specs.Prelude.{◌≡◌, ◌⊎◌, ℕ, ◌<◌, ◌≤◌, ◌+◌, ◌==◌, Bool, true, false, not, ◌&&◌, ◌||◌, Option, Some, None, List, [], ◌∷◌}
-use Rattle.std.specs.Prelude.{◌++◌, All, map, filter, unwrap_or}
+use Rattle.std.specs.Prelude.{◌++◌, All, length, map, filter, unwrap_or}
 use Rattle.std.specs.List.{list_any, list_all, range_with_len, IsDistinct}
 use Rattle.machine_meaning.specs.Vocabulary.{Pins, Faults, IsClear, IsAlone}
 use Rattle.machine_shape.specs.Shape.{Ends, ends_of, pin_wire, pins_of, wires_of, crosses_of}
@@ -14,7 +14,7 @@ use Rattle.diag_evidence.specs.Forests.{Trees, HangsOn, pin_of, is_hung, is_laid
 use Rattle.diag_evidence.specs.Kept.{Kept, HoldsFor, Gain, Gains, nothing}
 use Rattle.rig.specs.Rig.{RigState, Past}
 use Rattle.diag_evidence.specs.Logged.{HasLogged}
-use Rattle.diag_evidence.specs.Looks.{IsLook, IsLookOf, LogsLook, differ, swings, parts, hangs_apart, read_free, read_under}
+use Rattle.diag_evidence.specs.Looks.{IsLook, IsLookOf, LogsLook, differ, swings, parts, read_free, read_under}
 
 -- a wire, and a crosspoint from it to a wire that hangs
 abbrev pub Foot : Type 0
@@ -172,30 +172,41 @@ is_shown trees hs rows without h =
 abbrev pub shown : Trees → List WireTest → List Pins → List Pins → List Foot
 shown trees hs rows without = overs (filter (is_shown trees hs rows without) hs)
 
--- a wire hangs on a pin that parts from this one, over the forest or a foot
-abbrev pub stands_apart : Trees → List Foot → List Pins → ℕ → ℕ → Bool
-stands_apart trees feet rows pin u =
-    hangs_apart trees rows pin u || list_any (λ foot. (foot.0.0 == u) && parts rows (pin_at trees foot) pin) feet
-
--- whether a wire is that of a foot whose pin swings, and two different wires are that of a foot and one on a pin that parts from its
+-- whether a wire is that of a foot whose pin swings
 abbrev pub is_swinging_on : Trees → List Foot → List Pins → ℕ → Bool
 is_swinging_on trees feet rows w = list_any (λ foot. (foot.0.0 == w) && swings rows (pin_at trees foot)) feet
 
-abbrev pub are_apart_on : Trees → List Foot → List Pins → ℕ → ℕ → Bool
-are_apart_on trees feet rows a b = not (a == b) && list_any (λ foot. ((foot.0.0 == a) && stands_apart trees feet rows (pin_at trees foot) b)
-    || ((foot.0.0 == b) && stands_apart trees feet rows (pin_at trees foot) a)) feet
-
--- What a look shows of wires on feet that are kept: the crosspoints of the feet, the wires whose pins swing, and their pairs with wires
--- on pins that part from theirs.
+-- What a look shows of wires on feet that are kept: the crosspoints of the feet, and the wires whose pins swing.
 abbrev pub seen_on : Trees → List Foot → List Pins → Gain
 seen_on trees feet rows = record nothing {
   crosses = among (feet_crosses feet);
   wires = is_swinging_on trees feet rows;
-  pairs = are_apart_on trees feet rows;
+}
+
+-- whether a pin parts from each other pin of the machine that hangs
+abbrev pub parts_from_hung : Trees → List Pins → ℕ → Bool
+parts_from_hung trees rows pin = list_all
+    (λ k. (k == pin) || (not (is_hung trees (pin_wire trees.shape k)) || parts rows k pin)) (range_with_len 0 (pins_of trees.shape))
+
+-- whether all wires of the set hang
+abbrev pub all_hang : List Bool → Trees → Bool
+all_hang set trees = list_all (λ w. not (has_number set w) || is_hung trees w) (range_with_len 0 (length set))
+
+-- Whether both crosspoints of a hang are shown, its q swings without the first crosspoints, and there parts from each other pin that
+-- hangs, and its p does that without the second ones.
+abbrev pub joins : Trees → List WireTest → List Pins → List Pins → List Pins → WireTest → Bool
+joins trees hs rows without_over without_other h = is_shown trees hs rows without_over h
+    && (is_shown trees (map turned hs) rows without_other (turned h) && (swings without_over (pin_q trees h)
+    && (parts_from_hung trees without_over (pin_q trees h) && parts_from_hung trees without_other (pin_p trees h))))
+
+-- where all wires of the set hang, the wires of such hangs join it
+abbrev pub joined_by : List Bool → Trees → List WireTest → List Pins → List Pins → List Pins → Gain
+joined_by set trees hs rows without_over without_other = record nothing {
+  apart = λ w. all_hang set trees && list_any (λ h. (h.wire.0 == w) && joins trees hs rows without_over without_other h) hs;
 }
 
 -- The second and third look: in one the second crosspoints alone are closed beside the forest, in the other the first ones. The feet
--- over second crosspoints that are shown are seen in the former, the others in the latter.
+-- over second crosspoints that are shown are seen in the former, the others in the latter; and wires join the set by both.
 pub record HasHungOn (told : Option Faults) (trees : Trees) (hs : List WireTest) (rows : List Pins) (old new : Kept)
     (was is were are : List Bool) : Type 0 where
   pub without_over : List Pins
@@ -204,7 +215,9 @@ pub record HasHungOn (told : Option Faults) (trees : Trees) (hs : List WireTest)
   pub other_look : IsLook told trees.shape (closes trees (overs hs)) without_other
   pub mid : Kept
   pub first : Gains (seen_on trees (shown trees (map turned hs) rows without_other) without_over) old mid
-  pub second : Gains (seen_on trees (shown trees hs rows without_over) without_other) mid new
+  pub near : Kept
+  pub second : Gains (seen_on trees (shown trees hs rows without_over) without_other) mid near
+  pub third : Gains (joined_by near.apart trees hs rows without_over without_other) near new
   pub some : List Bool
   pub few : List Bool
   pub first_marks : HasMarked trees (others hs) without_over was some were few
@@ -251,7 +264,9 @@ pub record ShowsHung (trees : Trees) (hs : List WireTest) (before after : RigSta
   pub answers : some_answers trees hs rows ≡ true
   pub mid : Kept
   pub first : Gains (seen_on trees (shown trees (map turned hs) rows without_other) without_over) old mid
-  pub second : Gains (seen_on trees (shown trees hs rows without_over) without_other) mid new
+  pub near : Kept
+  pub second : Gains (seen_on trees (shown trees hs rows without_over) without_other) mid near
+  pub third : Gains (joined_by near.apart trees hs rows without_over without_other) near new
   pub some : List Bool
   pub few : List Bool
   pub first_marks : HasMarked trees (others hs) without_over was some were few

@@ -7,7 +7,9 @@ kept_in p = record {
   shape = p.shape;
   crosses = p.crosses;
   wires = p.wires;
-  pairs = p.pairs;
+  apart = p.apart;
+  trial = p.trial;
+  row = p.row;
   cells = p.cells;
   registers = p.registers;
 }

@@ -17,18 +17,11 @@ two_cycles g low first high second =
 abbrev pub HasLogged : List Past → RigState → RigState → Type 0
 HasLogged sessions old new = log_of new ≡ log_of old ++ sessions
 
--- A session of one cycle is new in the log, where a pin reads this bit ..
+-- a session of one cycle is new in the log, where a pin reads this bit
 pub record LogsBit (g : Configuration) (drive : Pins) (pin : ℕ) (old new : RigState) (bit : Bool) : Type 0 where
   pub reading : Pins
   pub logged : HasLogged (one_cycle g drive reading ∷ []) old new
   pub bit_is : bit ≡ slice_index_or reading pin true
-
--- .. and where two pins read these bits
-pub record LogsBits (g : Configuration) (drive : Pins) (k l : ℕ) (old new : RigState) (first second : Bool) : Type 0 where
-  pub reading : Pins
-  pub logged : HasLogged (one_cycle g drive reading ∷ []) old new
-  pub first_is : first ≡ slice_index_or reading k true
-  pub second_is : second ≡ slice_index_or reading l true
 
 -- a session of two cycles is new in the log, where a pin reads these bits
 pub record LogsTwice (g : Configuration) (low high : Pins) (pin : ℕ) (old new : RigState) (first second : Bool) : Type 0 where
@@ -59,13 +52,8 @@ pub record ShowsSwing (g : Configuration) (low high : Pins) (pin : ℕ) (old new
   pub logged : HasLogged (two_cycles g low first high second ∷ []) old new
   pub exact : IsTrue yes ↔ (slice_index_or first pin true ≢ slice_index_or second pin true)
 
--- A session of one cycle is new in the log, and the answer is yes exactly where two pins read different values in it ..
-pub record ShowsPins (g : Configuration) (drive : Pins) (k l : ℕ) (old new : RigState) (yes : Bool) : Type 0 where
-  pub reading : Pins
-  pub logged : HasLogged (one_cycle g drive reading ∷ []) old new
-  pub exact : IsTrue yes ↔ (slice_index_or reading k true ≢ slice_index_or reading l true)
-
--- .. and exactly where the pin of a route reads otherwise than that of each of some others
+-- A session of one cycle is new in the log, and the answer is yes exactly where the pin of a route reads otherwise than that of each of
+-- some others.
 pub record ShowsFromAll (g : Configuration) (drive : Pins) (left : Walk) (rights : List Walk) (old new : RigState)
     (yes : Bool) : Type 0 where
   pub reading : Pins

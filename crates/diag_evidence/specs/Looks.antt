@@ -1,15 +1,16 @@
 -- Looks: what all pins read while nothing is driven, and while each pin is driven alone.
-use Rattle.std.specs.Prelude.{◌≡◌, ◌⊎◌, ℕ, ◌+◌, ◌^◌, ◌<◌, Bool, true, false, not, ◌&&◌, if◌then◌else◌, Option, Some, None, List, [], ◌∷◌}
+use Rattle.std.specs.Prelude.{◌≡◌, ◌⊎◌, ℕ, ◌+◌, ◌^◌, ◌<◌, ◌==◌, Bool, true, false, not, ◌&&◌, ◌||◌, if◌then◌else◌}
+use Rattle.std.specs.Prelude.{Option, Some, None, List, [], ◌∷◌}
 use Rattle.std.specs.Prelude.{map, length, All, replicate, slice_index_or, slice_set, refl}
-use Rattle.std.specs.List.{list_any, range_with_len}
+use Rattle.std.specs.List.{list_any, list_all, range_with_len}
 use Rattle.std.specs.Option.{option_map_or}
 use Rattle.std.specs.Coded.{Coded, code_by, coded×, coded_ℕ, coded_bool, coded_list}
 use Rattle.machine_shape.specs.declared.Shape.{Shape}
 use Rattle.machine_meaning.specs.Vocabulary.{Pins, Faults}
-use Rattle.machine_shape.specs.Shape.{pins_of}
+use Rattle.machine_shape.specs.Shape.{pin_wire, pins_of, wires_of}
 use Rattle.machine_config.specs.Vocabulary.{Configuration, is_closed, IsRun, AreOff}
 use Rattle.rig.specs.Rig.{RigState, Past, drives_of, readings_of}
-use Rattle.diag_evidence.specs.Forests.{Trees, pin_of, is_laid}
+use Rattle.diag_evidence.specs.Forests.{Trees, pin_of, is_hung, is_laid}
 use Rattle.diag_evidence.specs.Kept.{Kept, Gain, Gains, nothing}
 use Rattle.diag_evidence.specs.Readings.{HasCycled}
 use Rattle.diag_evidence.specs.Logged.{HasLogged}
@@ -104,22 +105,29 @@ pub record HasLooked (m : Shape) (rig : RigState) : Type 0 where
 abbrev pub WantsRoom : Shape → RigState → RigState → Type 0
 WantsRoom m old new = (new ≡ old) ⊎ ((new.session ≡ None) ⊎ HasLooked m new)
 
--- whether a wire hangs on a pin that swings, and on one that parts from this one
+-- whether a wire hangs on a pin that swings
 abbrev pub hangs_swinging : Trees → List Pins → ℕ → Bool
 hangs_swinging trees rows w = option_map_or (λ p. swings rows p) (pin_of trees w) false
 
-abbrev pub hangs_apart : Trees → List Pins → ℕ → ℕ → Bool
-hangs_apart trees rows pin w = option_map_or (λ p. parts rows p pin) (pin_of trees w) false
+-- whether all wires that hang, but for one, do so on pins that part from this one
+abbrev pub parts_from_others : Trees → List Pins → ℕ → ℕ → Bool
+parts_from_others trees rows pin w = list_all (λ u. (u == w) || option_map_or (λ p. parts rows p pin) (pin_of trees u) true)
+    (range_with_len 0 (wires_of trees.shape))
 
--- whether two wires hang on pins that part
-abbrev pub hang_apart : Trees → List Pins → ℕ → ℕ → Bool
-hang_apart trees rows a b = option_map_or (λ p. hangs_apart trees rows p b) (pin_of trees a) false
+-- whether a pin of the machine hangs, is alone on its pin, which is itself, swings, and parts from each other pin on which a wire hangs
+abbrev pub joins_alone : Trees → List Pins → ℕ → Bool
+joins_alone trees rows k = is_hung trees (pin_wire trees.shape k)
+    && (swings rows k && parts_from_others trees rows k (pin_wire trees.shape k))
 
--- the wires that hang on pins that swing, and the pairs of wires that hang on pins that part
+-- the wires that hang on pins that swing, and the pins of the machine that join the set
 abbrev pub seen_in : Trees → List Pins → Gain
-seen_in trees rows = record nothing { wires = hangs_swinging trees rows; pairs = hang_apart trees rows }
+seen_in trees rows = record nothing {
+  wires = hangs_swinging trees rows;
+  apart = λ w. list_any (λ k. (pin_wire trees.shape k == w) && joins_alone trees rows k) (range_with_len 0 (pins_of trees.shape));
+}
 
--- What a look shows: just the wires that hang on pins that swing are kept, and the pairs of those that hang on pins that part.
+-- What a look shows: just the wires that hang on pins that swing are kept, and just those pins of the machine join the set that swing
+-- alone and part from all others.
 pub record HasSeen (told : Option Faults) (trees : Trees) (old new : Kept) : Type 0 where
   pub rows : List Pins
   pub look : IsLook told trees.shape (is_laid trees) rows

@@ -6,7 +6,7 @@ use Rattle.machine_shape.specs.Shape.{Ends, ends_of}
 use Rattle.machine_meaning.specs.Faults.{Faults, stuck_cross}
 use Rattle.machine_config.specs.Vocabulary.{among, AreClear, AreUnshorted, IsWithin, LeadsTo}
 use Rattle.diag_tests.specs.Routes.{Walk}
-use Rattle.diag_evidence.specs.Kept.{Kept, HoldsFor}
+use Rattle.diag_evidence.specs.Kept.{Kept, HoldsUntried}
 
 -- these crosspoints are among the ties, and neither the one that is toggled nor stuck
 abbrev pub AreTied : Faults → List ℕ → ℕ → List ℕ → Type 0
@@ -38,15 +38,10 @@ pub record IsLoopBy (m : Shape) (f : Faults) (left right : Walk) (ties : List �
 
 -- Where the faults are told, the answer is yes if ..
 
--- .. what is kept is true of them, and the routes and ties are a loop
+-- .. what is kept is true of them, the row of a wire on trial left out, and the routes and ties are a loop
 pub record LoopPasses (told : Option Faults) (k : Kept) (left right : Walk) (ties : List ℕ) (x : ℕ) (yes : Bool) : Type 0 where
-  pub at : (f : Faults) (l r : ℕ → Bool) → told ≡ Some f → HoldsFor k f → IsLoopBy k.shape f left right ties x l r → IsTrue yes
+  pub at : (f : Faults) (l r : ℕ → Bool) → told ≡ Some f → HoldsUntried k f → IsLoopBy k.shape f left right ties x l r → IsTrue yes
 
 -- .. no wire of the route is shorted to a stuck wire
 pub record RoutePasses (told : Option Faults) (m : Shape) (r : Walk) (yes : Bool) : Type 0 where
   pub at : (f : Faults) → told ≡ Some f → AreClear m f (among r.wires) → IsTrue yes
-
--- .. no wire of the routes is shorted to a stuck wire, and none of the left to one of the right
-pub record RoutesPass (told : Option Faults) (m : Shape) (left right : Walk) (yes : Bool) : Type 0 where
-  pub at : (f : Faults) → told ≡ Some f → AreClear m f (among left.wires) → AreClear m f (among right.wires) →
-      AreUnshorted m f (among left.wires) (among right.wires) → IsTrue yes

@@ -7,7 +7,8 @@ use Rattle.diag_evidence.specs.declared.hangs.Views.{Views}
 use Rattle.diag_evidence.specs.Forests.{Trees}
 use Rattle.diag_evidence.specs.Kept.{Kept, Gains}
 use Rattle.rig.specs.Rig.{RigState}
-use Rattle.diag_evidence.specs.Hangs.{Foot, turned, overs, others, all_feet, closes, some_answers, shown, seen_on, HasMarked, LogsThree}
+use Rattle.diag_evidence.specs.Hangs.{Foot, turned, overs, others, all_feet, closes, some_answers, shown, seen_on, joined_by}
+use Rattle.diag_evidence.specs.Hangs.{HasMarked, LogsThree}
 use Rattle.diag_evidence.specs.Looks.{IsLook, LogsLook, look_drives}
 
 -- what is closed in the looks, and how they are driven
@@ -35,7 +36,9 @@ pub record HasViewed (told : Option Faults) (trees : Trees) (hs : List WireTest)
 pub record HasLearnt (trees : Trees) (hs : List WireTest) (views : Views) (old new : Kept) (was is were are : List Bool) : Type 0 where
   pub mid : Kept
   pub first : Gains (seen_on trees (shown trees (map turned hs) views.all.rows views.without_other.rows) views.without_over.rows) old mid
-  pub second : Gains (seen_on trees (shown trees hs views.all.rows views.without_over.rows) views.without_other.rows) mid new
+  pub near : Kept
+  pub second : Gains (seen_on trees (shown trees hs views.all.rows views.without_over.rows) views.without_other.rows) mid near
+  pub third : Gains (joined_by near.apart trees hs views.all.rows views.without_over.rows views.without_other.rows) near new
   pub some : List Bool
   pub few : List Bool
   pub first_marks : HasMarked trees (others hs) views.without_over.rows was some were few

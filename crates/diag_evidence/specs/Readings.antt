@@ -37,17 +37,11 @@ WantsBefore old new = (new ≡ old) ⊎ (new.session ≡ None)
 pub record ReadsOnce (told : Option Faults) (g : Configuration) (drive reading : Pins) : Type 0 where
   pub run : (f : Faults) → told ≡ Some f → IsRun f g (drive ∷ []) (reading ∷ [])
 
--- a pin, two pins at one time, and a pin in two cycles read these bits after a load
+-- a pin, and a pin in two cycles, read these bits after a load
 pub record Reads (told : Option Faults) (g : Configuration) (drive : Pins) (pin : ℕ) (bit : Bool) : Type 0 where
   pub reading : Pins
   pub run : (f : Faults) → told ≡ Some f → IsRun f g (drive ∷ []) (reading ∷ [])
   pub bit_is : bit ≡ slice_index_or reading pin true
-
-pub record ReadsPins (told : Option Faults) (g : Configuration) (drive : Pins) (k l : ℕ) (first second : Bool) : Type 0 where
-  pub reading : Pins
-  pub run : (f : Faults) → told ≡ Some f → IsRun f g (drive ∷ []) (reading ∷ [])
-  pub first_is : first ≡ slice_index_or reading k true
-  pub second_is : second ≡ slice_index_or reading l true
 
 pub record ReadsTwice (told : Option Faults) (g : Configuration) (low high : Pins) (pin : ℕ) (first second : Bool) : Type 0 where
   pub reading : Pins
@@ -65,11 +59,6 @@ pub record TellsApart (told : Option Faults) (g h : Configuration) (drive : Pins
 pub record TellsSwing (told : Option Faults) (g : Configuration) (low high : Pins) (pin : ℕ) (yes : Bool) : Type 0 where
   pub exact : (f : Faults) (r q : Pins) → told ≡ Some f → IsRun f g (low ∷ high ∷ []) (r ∷ q ∷ []) →
       (IsTrue yes ↔ (slice_index_or r pin true ≢ slice_index_or q pin true))
-
--- yes exactly where two pins read different values at one time
-pub record TellsPins (told : Option Faults) (g : Configuration) (drive : Pins) (k l : ℕ) (yes : Bool) : Type 0 where
-  pub exact : (f : Faults) (r : Pins) → told ≡ Some f → IsRun f g (drive ∷ []) (r ∷ []) →
-      (IsTrue yes ↔ (slice_index_or r k true ≢ slice_index_or r l true))
 
 -- yes exactly where the pin of a route reads otherwise, at one time, than that of each of some others
 pub record TellsFromAll (told : Option Faults) (g : Configuration) (drive : Pins) (left : Walk) (rights : List Walk)
@@ -108,11 +97,6 @@ pub record RegisterPasses (told : Option Faults) (g : Configuration) (t : ℕ) (
 pub record SwingPasses (told : Option Faults) (g : Configuration) (low high : Pins) (k : ℕ) (yes : Bool) : Type 0 where
   pub at : (f : Faults) (left right : ℕ → Bool) → told ≡ Some f → AreOff g → AreGroups g.shape f (is_closed g) left right →
       left (pin_wire g.shape k) ≡ true → slice_index_or low k true ≡ false → AreReleased high → IsTrue yes
-
--- .. all tables are off, and the pins are in two groups that are apart, of which the one pin alone is driven
-pub record ApartPasses (told : Option Faults) (g : Configuration) (drive : Pins) (k l : ℕ) (yes : Bool) : Type 0 where
-  pub at : (f : Faults) (left right : ℕ → Bool) → told ≡ Some f → AreOff g → AreGroups g.shape f (is_closed g) left right →
-      left (pin_wire g.shape k) ≡ true → right (pin_wire g.shape l) ≡ true → IsDrivenAlone drive k → IsTrue yes
 
 -- .. all tables are off, and the pin of the left route is in one group and those of the right ones in another that is
 -- apart from it, of which the left one alone is driven

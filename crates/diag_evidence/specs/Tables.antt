@@ -7,7 +7,7 @@ use Rattle.machine_shape.specs.Shape.{table_wire}
 use Rattle.machine_meaning.specs.Faults.{Faults, stuck_cross, wrong_cell, stuck_register}
 use Rattle.machine_config.specs.Vocabulary.{among, AreClear, AreUnshorted, IsWithin, LeadsTo, number_of, IsLoose}
 use Rattle.diag_tests.specs.Routes.{Walk}
-use Rattle.diag_evidence.specs.Kept.{Kept, HoldsFor}
+use Rattle.diag_evidence.specs.Kept.{Kept, HoldsUntried}
 
 -- ties that aren't stuck lead from a wire to another
 pub record IsTied (m : Shape) (f : Faults) (ties : List ℕ) (w u : ℕ) : Type 0 where
@@ -37,11 +37,12 @@ pub record IsCellBy (m : Shape) (f : Faults) (left right : Walk) (ties : List �
       ((bits j ≡ true) × IsLoose m f l r (table_wire m t j))
   pub number : number_of (map bits (range_with_len 0 6)) ≡ a
 
--- Where the faults are told and what is kept is true of them, the answer is yes if the cell, or the register, is tested
--- by the routes and ties.
+-- Where the faults are told and what is kept is true of them, the row of a wire on trial left out, the answer is yes if the cell, or the
+-- register, is tested by the routes and ties.
 pub record CellPassesBy (told : Option Faults) (k : Kept) (left right : Walk) (ties : List ℕ) (t a : ℕ) (yes : Bool) : Type 0 where
-  pub at : (f : Faults) (l r bits : ℕ → Bool) → told ≡ Some f → HoldsFor k f → IsCellBy k.shape f left right ties t a l r bits → IsTrue yes
+  pub at : (f : Faults) (l r bits : ℕ → Bool) → told ≡ Some f → HoldsUntried k f → IsCellBy k.shape f left right ties t a l r bits →
+      IsTrue yes
 
 pub record RegisterPassesBy (told : Option Faults) (k : Kept) (left right : Walk) (ties : List ℕ) (t : ℕ) (yes : Bool) : Type 0 where
-  pub at : (f : Faults) (l r : ℕ → Bool) → told ≡ Some f → HoldsFor k f → IsTableBy k.shape f left right ties t l r →
+  pub at : (f : Faults) (l r : ℕ → Bool) → told ≡ Some f → HoldsUntried k f → IsTableBy k.shape f left right ties t l r →
       stuck_register f t ≡ None → IsTrue yes

@@ -1,20 +1,22 @@
 //! Facts about one rig's faults.
-ghost use Rattle.std.specs.Prelude.{◌≡◌, ◌≢◌, ◌<◌, ◌||◌, ℕ, All, IfOk, length, replicate, true, false, [], ◌∷◌, ◌*◌, ◌≤◌};
+ghost use Rattle.std.specs.Prelude.{◌≡◌, ◌≢◌, ◌<◌, ◌||◌, ◌&&◌, ℕ, All, IfOk, IsTrue, length, replicate, true, false, ◌*◌, ◌≤◌, map};
 ghost use Rattle.base_bits.specs.Numbers.{has_number};
-ghost use Rattle.base_bits.specs.Pairs.{has_pair};
 ghost use Rattle.machine_shape.specs.Shape.{crosses_of, pins_of, wires_of, tables_of};
-ghost use Rattle.diag_evidence.specs.Hangs.{IsFoot, feet_crosses, seen_on};
+ghost use Rattle.diag_evidence.specs.Hangs.{IsFoot, feet_crosses, joined_by, over_of, seen_on, turned};
 ghost use Rattle.diag_evidence.specs.Looks.{seen_in};
 ghost use Rattle.machine_config.specs.Groups.{among};
 ghost use Rattle.diag_tests.specs.Routes.{IsRoute};
 ghost use Rattle.diag_evidence.specs.Kept.{KeepsNothing, Gains, keeps_cross, keeps_wire, keeps_pair, keeps_cell, keeps_register, one_cross};
-ghost use Rattle.diag_evidence.specs.Kept.{these_wires, these_pairs, one_cell, one_register, is_between, is_across};
+ghost use Rattle.diag_evidence.specs.Kept.{these_wires, row_over, one_cell, one_register, is_apart};
+ghost use Rattle.diag_evidence.specs.Plans.{AreViews};
 ghost use Rattle.diag_evidence.specs.Readings.{wires_over};
 
-use crate::apart::{mark_apart, mark_apart_feet, mark_swinging, mark_swinging_feet};
+use crate::hangs::{Views, WireTest};
+use crate::joins::{all_hang, mark_joined, mark_joined_pins};
 use crate::pins::Pins;
+use crate::swinging::{mark_swinging, mark_swinging_feet};
 use crate::{Forest, Looks};
-use base_bits::{BitSet, PairSet};
+use base_bits::BitSet;
 use diag_tests::Route;
 use machine_config::Config;
 use machine_shape::{Cross, Shape, Table, Wire};
@@ -33,17 +35,18 @@ pub struct Facts {
     pub(crate) pins: Pins,
     crosses: BitSet,
     wires: BitSet,
-    pairs: PairSet,
+    // Each two wires of this set are a kept pair.
+    pub(crate) apart: BitSet,
+    // The number of the wire on trial, and the row of those with which it is a kept pair.
+    pub(crate) trial: Option<u32>,
+    pub(crate) row: BitSet,
     cells: BitSet,
     registers: BitSet,
-    // The wires, and the pins, that were last told apart from one.
-    others: BitSet,
-    parted: BitSet,
 }
 
 impl Model for Facts {
-    ghost use Rattle.std.specs.Prelude.{◌≡◌, length, IfSome};
-    ghost use Rattle.machine_shape.specs.Shape.{pins_of, wires_of};
+    ghost use Rattle.std.specs.Prelude.{◌≡◌, IfSome};
+    ghost use Rattle.machine_shape.specs.Shape.{pins_of};
     ghost use Rattle.diag_evidence.specs.Kept.{Kept, coded_kept, AreMarksOf};
     ghost use Rattle.diag_evidence.specs.Inside.{kept_in};
 
@@ -53,32 +56,34 @@ impl Model for Facts {
 
     ghost view = { kept_in };
 
-    ghost invariant = { λ p. AreMarksOf (kept_in p) × IfSome p.done (λ g. g.config.shape ≡ p.shape) × (p.pins ≡ pins_of p.shape)
-        × (length p.others ≡ wires_of p.shape) × (length p.parted ≡ pins_of p.shape) };
+    ghost invariant = { λ p. AreMarksOf (kept_in p) × IfSome p.done (λ g. g.config.shape ≡ p.shape) × (p.pins ≡ pins_of p.shape) };
 }
 
-// Marks of crosspoints, of wires, and of pairs of wires.
+// Marks of crosspoints, of wires, of wires that are apart from one another, and of those that are apart from one.
 #[derive(Drop)]
 struct WireMarks {
     crosses: BitSet,
     wires: BitSet,
-    pairs: PairSet,
+    apart: BitSet,
+    row: BitSet,
 }
 
 // No marks of a machine's crosspoints and wires.
 fn no_wire_marks(alloc: Global, shape: Shape) -> Result<WireMarks, AllocError>
     ensures crosses { IfOk result (λ m. m.crosses ≡ replicate (crosses_of shape) false) }
     ensures wires { IfOk result (λ m. m.wires ≡ replicate (wires_of shape) false) }
-    ensures size { IfOk result (λ m. m.pairs.n ≡ wires_of shape) }
-    ensures pairs { IfOk result (λ m. (a b : ℕ) → has_pair m.pairs a b ≡ false) }
+    ensures apart { IfOk result (λ m. m.apart ≡ replicate (wires_of shape) false) }
+    ensures row { IfOk result (λ m. m.row ≡ replicate (wires_of shape) false) }
 {
     let crosses = BitSet::new(alloc, shape.crosses())?;
     let wires = BitSet::new(alloc, shape.wires())?;
-    let pairs = PairSet::new(alloc, shape.wires())?;
+    let apart = BitSet::new(alloc, shape.wires())?;
+    let row = BitSet::new(alloc, shape.wires())?;
     Ok(WireMarks {
         crosses,
         wires,
-        pairs,
+        apart,
+        row,
     })
 }
 
@@ -100,32 +105,14 @@ fn no_table_marks(alloc: Global, shape: Shape) -> Result<TableMarks, AllocError>
     Ok(TableMarks { cells, registers })
 }
 
-// The wires, and the pins, that were last told apart from one.
-#[derive(Drop)]
-struct Told {
-    others: BitSet,
-    parted: BitSet,
-}
-
-// None of a machine's wires and pins.
-fn none_told(alloc: Global, shape: Shape) -> Result<Told, AllocError>
-    ensures others { IfOk result (λ t. length t.others ≡ wires_of shape) }
-    ensures parted { IfOk result (λ t. length t.parted ≡ pins_of shape) }
-{
-    let others = BitSet::new(alloc, shape.wires())?;
-    let parted = BitSet::new(alloc, shape.pins())?;
-    Ok(Told { others, parted })
-}
-
 impl Facts {
-    /// Keeps nothing.
+    /// Keeps nothing, and has no wire in its set.
     pub fn new(alloc: Global, shape: Shape) -> Result<Facts, AllocError>
         ensures shape { IfOk result (λ p. p.shape ≡ shape) }
         ensures nothing { IfOk result KeepsNothing }
     {
         let on_wires = no_wire_marks(alloc, shape)?;
         let on_tables = no_table_marks(alloc, shape)?;
-        let told = none_told(alloc, shape)?;
         Ok(Facts {
             alloc,
             shape,
@@ -133,11 +120,11 @@ impl Facts {
             pins: Pins::new(alloc, shape.pins()),
             crosses: on_wires.crosses,
             wires: on_wires.wires,
-            pairs: on_wires.pairs,
+            apart: on_wires.apart,
+            trial: None,
+            row: on_wires.row,
             cells: on_tables.cells,
             registers: on_tables.registers,
-            others: told.others,
-            parted: told.parted,
         })
     }
 
@@ -164,14 +151,34 @@ impl Facts {
         self.wires.has(w.0)
     }
 
-    /// Whether a pair of wires is kept, in either order.
+    /// Whether a pair of wires is kept, in either order: both are of the set, or one is on trial and its row has the other.
     pub fn keeps_pair(&self, a: Wire, b: Wire) -> bool
         requires a { a.0 < wires_of self.now.shape }
         requires b { b.0 < wires_of self.now.shape }
         requires differ { a.0 ≢ b.0 }
         ensures { result ≡ keeps_pair self.now a.0 b.0 }
     {
-        self.pairs.has(a.0, b.0)
+        if has_both(&self.apart, a.0, b.0) {
+            return true;
+        }
+        let Some(tried) = self.trial else {
+            return false;
+        };
+        if tried == a.0 {
+            return self.row.has(b.0);
+        }
+        if tried == b.0 {
+            return self.row.has(a.0);
+        }
+        false
+    }
+
+    /// Whether a wire is of the set: each two wires of it are a kept pair.
+    pub fn is_apart(&self, w: Wire) -> bool
+        requires { w.0 < wires_of self.now.shape }
+        ensures { result ≡ is_apart self.now w.0 }
+    {
+        self.apart.has(w.0)
     }
 
     /// Whether a cell of a table is kept.
@@ -220,38 +227,29 @@ impl Facts {
         mark_wires(&mut self.wires, route);
     }
 
-    pub(crate) fn keep_pairs(&mut self, left: &Route, right: &Route)
-        requires left { IsRoute self.old.shape left.now }
-        requires right { IsRoute self.old.shape right.now }
-        requires apart { (w : ℕ) → among left.now.wires w ≡ true → among right.now.wires w ≡ false }
-        ensures { Gains (these_pairs left.now.wires right.now.wires) self.old self.new }
-    {
-        mark_pairs(&mut self.pairs, left, right);
-    }
-
-    pub(crate) fn keep_all_pairs(&mut self, left: &Route, rights: &[Route])
+    // The wire on trial, where it is on the left route, gets each wire of the right ones into its row.
+    pub(crate) fn keep_in_row(&mut self, left: &Route, rights: &[Route])
         requires left { IsRoute self.old.shape left.now }
         requires rights { All (IsRoute self.old.shape) rights.now }
-        requires apart { (w : ℕ) → among left.now.wires w ≡ true → among (wires_over rights.now) w ≡ false }
-        ensures { Gains (these_pairs left.now.wires (wires_over rights.now)) self.old self.new }
+        ensures { Gains (row_over self.old.trial left.now.wires (wires_over rights.now)) self.old self.new }
     {
-        mark_all(&mut self.pairs, &mut self.others, left, rights);
+        let Some(wire) = self.trial else {
+            return;
+        };
+        if !left.touches(Wire(wire)) {
+            return;
+        }
+        mark_routes(&mut self.row, rights);
     }
 
-    // Keeps what a look at a forest shows: the wires that hang on pins that swing, and the pairs of those on pins that part.
+    // Keeps what a look at a forest shows: the wires that hang on pins that swing, and the pins of the machine that join the set.
     pub(crate) fn keep_seen(&mut self, forest: &Forest, reads: &Looks)
         requires forest { forest.now.shape ≡ self.old.shape }
         requires reads { reads.now.pins ≡ pins_of self.old.shape }
         ensures { Gains (seen_in forest.now reads.now.rows) self.old self.new }
     {
         mark_swinging(&mut self.wires, forest, reads);
-        mark_apart(
-            &mut self.pairs,
-            &mut self.others,
-            &mut self.parted,
-            forest,
-            reads,
-        );
+        mark_joined_pins(&mut self.apart, forest, reads);
     }
 
     // Keeps the crosspoints of feet, and what a look shows of their wires.
@@ -263,15 +261,38 @@ impl Facts {
     {
         mark_crosses(&mut self.crosses, feet);
         mark_swinging_feet(&mut self.wires, forest, feet, reads);
-        mark_apart_feet(
-            &mut self.pairs,
-            &mut self.others,
-            &mut self.parted,
-            forest,
-            feet,
-            reads,
-        );
     }
+
+    // The wires of hangs join the set where three looks show them apart from all of it, and all of it hangs.
+    pub(crate) fn keep_joined(
+        &mut self,
+        forest: &Forest,
+        hangs: &[WireTest],
+        swapped: &[WireTest],
+        views: &Views,
+    )
+        requires forest { forest.now.shape ≡ self.old.shape }
+        requires over { All (λ h. IsFoot forest.now (over_of h)) hangs.now }
+        requires other { All (λ h. IsFoot forest.now (over_of (turned h))) hangs.now }
+        requires swapped { swapped.now ≡ map turned hangs.now }
+        requires views { AreViews (pins_of self.old.shape) views.now }
+        ensures { Gains (joined_by self.old.apart forest.now hangs.now views.now.all.rows views.now.without_over.rows
+            views.now.without_other.rows) self.old self.new }
+    {
+        if !all_hang(&self.apart, forest) {
+            return;
+        }
+        mark_joined(&mut self.apart, forest, hangs, swapped, views);
+    }
+}
+
+// Whether a set has both numbers.
+fn has_both(set: &BitSet, a: u32, b: u32) -> bool
+    requires a { a < length set.now }
+    requires b { b < length set.now }
+    ensures { result ≡ (has_number set.now a && has_number set.now b) }
+{
+    set.has(a) && set.has(b)
 }
 
 // Marks the wires of a route.
@@ -296,68 +317,13 @@ fn mark_crosses(crosses: &mut BitSet, feet: &[(Wire, Cross)])
     }
 }
 
-// Marks a wire with each wire of a route.
-fn mark_with(pairs: &mut PairSet, w: Wire, route: &Route)
-    requires wire { w.0 < pairs.old.n }
-    requires wires { (u : ℕ) → among route.now.wires u ≡ true → u < pairs.old.n }
-    requires apart { among route.now.wires w.0 ≡ false }
-    ensures marked { (a b : ℕ) → has_pair pairs.new a b ≡ (is_between (w.0 ∷ []) route.now.wires a b || has_pair pairs.old a b) }
-    ensures n { pairs.new.n ≡ pairs.old.n }
-{
-    'wires: for k in 0..=route.len() {
-        pairs.mark(w.0, route.wire_at(k).0);
-    }
-}
-
-// Marks each wire of one route with each of the other.
-fn mark_pairs(pairs: &mut PairSet, left: &Route, right: &Route)
-    requires left { (w : ℕ) → among left.now.wires w ≡ true → w < pairs.old.n }
-    requires right { (w : ℕ) → among right.now.wires w ≡ true → w < pairs.old.n }
-    requires apart { (w : ℕ) → among left.now.wires w ≡ true → among right.now.wires w ≡ false }
-    ensures marked { (a b : ℕ) → has_pair pairs.new a b ≡ (is_between left.now.wires right.now.wires a b || has_pair pairs.old a b) }
-    ensures n { pairs.new.n ≡ pairs.old.n }
-{
-    'wires: for k in 0..=left.len() {
-        mark_with(pairs, left.wire_at(k), right);
-    }
-}
-
-// Puts the wires of some routes into a set, and no other.
-fn gather(wires: &mut BitSet, routes: &[Route])
+// Marks the wires of some routes.
+fn mark_routes(wires: &mut BitSet, routes: &[Route])
     requires { All (λ s. (w : ℕ) → among s.wires w ≡ true → w < length wires.old) routes.now }
-    ensures marked { (w : ℕ) → has_number wires.new w ≡ among (wires_over routes.now) w }
+    ensures marked { (w : ℕ) → has_number wires.new w ≡ (among (wires_over routes.now) w || has_number wires.old w) }
     ensures len { length wires.new ≡ length wires.old }
 {
-    wires.clear();
     'routes: for k in 0..routes.len() {
         mark_wires(wires, &routes[k]);
     }
-}
-
-// Marks each wire of a route with each of a set.
-fn mark_each(pairs: &mut PairSet, route: &Route, others: &BitSet)
-    requires wires { (w : ℕ) → among route.now.wires w ≡ true → w < pairs.old.n }
-    requires others { length others.now ≡ pairs.old.n }
-    requires apart { (w : ℕ) → among route.now.wires w ≡ true → has_number others.now w ≡ false }
-    ensures marked { (a b : ℕ) → has_pair pairs.new a b ≡ (is_across route.now.wires others.now a b || has_pair pairs.old a b) }
-    ensures n { pairs.new.n ≡ pairs.old.n }
-{
-    'wires: for k in 0..=route.len() {
-        pairs.mark_with(route.wire_at(k).0, others);
-    }
-}
-
-// Marks each wire of one route with each of the others, which go over many wires more than once: so by a set of these.
-fn mark_all(pairs: &mut PairSet, others: &mut BitSet, left: &Route, rights: &[Route])
-    requires left { (w : ℕ) → among left.now.wires w ≡ true → w < pairs.old.n }
-    requires rights { All (λ s. (w : ℕ) → among s.wires w ≡ true → w < pairs.old.n) rights.now }
-    requires apart { (w : ℕ) → among left.now.wires w ≡ true → among (wires_over rights.now) w ≡ false }
-    requires others { length others.old ≡ pairs.old.n }
-    ensures marked { (a b : ℕ) → has_pair pairs.new a b ≡
-        (is_between left.now.wires (wires_over rights.now) a b || has_pair pairs.old a b) }
-    ensures n { pairs.new.n ≡ pairs.old.n }
-    ensures len { length others.new ≡ length others.old }
-{
-    gather(others, rights);
-    mark_each(pairs, left, others);
 }

@@ -40,10 +40,21 @@ struct Plan {
 
 // The three looks: with all crosspoints, and without those over and the other ones.
 #[derive(Drop)]
-struct Views {
-    all: Looks,
-    without_over: Looks,
-    without_other: Looks,
+pub(crate) struct Views {
+    pub(crate) all: Looks,
+    pub(crate) without_over: Looks,
+    pub(crate) without_other: Looks,
+}
+
+// A hang whose crosspoints have changed places.
+pub(crate) fn turn(hang: WireTest) -> WireTest
+    ensures { result ≡ turned hang }
+{
+    WireTest {
+        wire: hang.wire,
+        over: hang.other,
+        other: hang.over,
+    }
 }
 
 // The hangs whose crosspoints have changed places.
@@ -52,11 +63,7 @@ fn turn_hangs(alloc: Global, hangs: &[WireTest]) -> Result<Vec<WireTest>, AllocE
 {
     let mut turned = Vec::new(alloc);
     'hangs: for k in 0..hangs.len() {
-        turned.push(WireTest {
-            wire: hangs[k].wire,
-            over: hangs[k].other,
-            other: hangs[k].over,
-        })?;
+        turned.push(turn(hangs[k]))?;
     }
     Ok(turned)
 }
@@ -148,7 +155,7 @@ fn others_part_from(forest: &Forest, hangs: &[WireTest], reads: &Looks, wire: Wi
 }
 
 // Whether the first crosspoint of a hang is shown.
-fn is_shown(
+pub(crate) fn is_shown(
     forest: &Forest,
     hangs: &[WireTest],
     reads: &Looks,
@@ -280,6 +287,7 @@ impl Facts {
         mark_unfit(forest, &plan.overs, &views.without_other, unfit, unclear);
         self.keep_feet(forest, &others, &views.without_over);
         self.keep_feet(forest, &overs, &views.without_other);
+        self.keep_joined(forest, hangs, &plan.turned, views);
         Ok(())
     }
 
@@ -289,8 +297,9 @@ impl Facts {
     /// Where in the first look no q reads 1 with nothing driven and 0 with its p driven, the others aren't made, and nothing is kept
     /// or marked. Otherwise `over` is kept exactly where q reads otherwise without it while p alone is driven, and in the first look
     /// the p of each other hang parts from this q; and `other` the other way round. Where `other` is kept, the wire is kept exactly
-    /// where q swings in the look without the crosspoints `over`, and a pair of it and a wire that hangs there on another
-    /// pin, over the forest or by such a crosspoint, exactly where q and that pin part in that look; and so with `over`.
+    /// where q swings in the look without the crosspoints `over`; and so with `over`. Where all wires of the set hang, the wire joins the
+    /// set exactly where both are kept, q swings in the look without the crosspoints `over` and parts there from each other pin on which
+    /// a wire hangs, and p parts from each such one in the look without `other`. Where one of the set hangs nowhere, none joins.
     /// A wire is marked unfit exactly where in one of these two looks the pins of the other hangs part from its own, which reads
     /// otherwise than 0 where it is driven, or otherwise than 1 where nothing is or another pin that hangs; and unclear besides where
     /// that pin reads the same driven as with nothing driven. `unfit` and `unclear` have a mark for each wire.

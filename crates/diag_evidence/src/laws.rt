@@ -6,9 +6,9 @@ ghost use Rattle.machine_config.specs.Vocabulary.{Configuration, with_setting, a
 ghost use Rattle.machine_config.specs.declared.Setting.{Setting};
 ghost use Rattle.rig.specs.Rig.{RigState};
 ghost use Rattle.diag_tests.specs.Vocabulary.{IsLoopConfig, IsCellConfig, Walk, IsRoute};
-ghost use Rattle.diag_evidence.specs.Kept.{Kept, HoldsFor, KeepsNothing, IsMore, Advances, keeps_cross, keeps_pair};
-ghost use Rattle.diag_evidence.specs.Loops.{LoopPasses, RoutePasses, RoutesPass};
-ghost use Rattle.diag_evidence.specs.Readings.{CrossPasses, CellPasses, RegisterPasses, SwingPasses, ApartPasses};
+ghost use Rattle.diag_evidence.specs.Kept.{Kept, HoldsFor, HoldsUntried, KeepsNothing, IsMore, Advances, keeps_cross, keeps_pair};
+ghost use Rattle.diag_evidence.specs.Loops.{LoopPasses, RoutePasses};
+ghost use Rattle.diag_evidence.specs.Readings.{CrossPasses, CellPasses, RegisterPasses, SwingPasses};
 ghost use Rattle.diag_evidence.specs.Tables.{CellPassesBy, RegisterPassesBy};
 
 /// What keeps nothing is true of all faults. A kept pair is of two different wires, in either order.
@@ -18,15 +18,18 @@ pub fn kept_facts_are_sound()
     ensures turned { (k : Kept) (a b : ℕ) → keeps_pair k a b ≡ keeps_pair k b a }
 {}
 
-/// What two calls leave, one after the other. What is kept later is true only of faults of which it was true before.
+/// What two calls leave, one after the other, and what a call that makes no load does. What is kept later is true only of faults of which
+/// it was true before, the row of a wire on trial left out, and what is kept is so without it.
 pub fn tests_add_up()
     ensures itself { (s : RigState) (k : Kept) → Advances s s k k }
     ensures onward { (a b c : RigState) (k l n : Kept) → Advances a b k l → Advances b c l n → Advances a c k n }
-    ensures earlier { (k l : Kept) (f : Faults) → IsMore k l → HoldsFor l f → HoldsFor k f }
+    ensures stays { (s : RigState) (k l : Kept) → IsMore k l → ((f : Faults) → HoldsFor k f → HoldsFor l f) → Advances s s k l }
+    ensures earlier { (k l : Kept) (f : Faults) → IsMore k l → HoldsUntried l f → HoldsUntried k f }
+    ensures untried { (k : Kept) (f : Faults) → HoldsFor k f → HoldsUntried k f }
 {}
 
 /// Where just two routes and the ties are closed, the tests pass that are bound to by lists: a toggle of a tie in a
-/// loop, a swing of a route, and two routes apart.
+/// loop, and a swing of a route.
 pub fn tests_by_lists_pass()
     ensures toggle { (told : Option Faults) (k : Kept) (g : Configuration) (left right : Walk) (ties : List ℕ) (x : ℕ) (drive : Pins)
         (yes : Bool) →
@@ -38,9 +41,6 @@ pub fn tests_by_lists_pass()
     ensures test_stuck { (told : Option Faults) (m : Shape) (g : Configuration) (r : Walk) (low high : Pins) (yes : Bool) →
         IsLoopConfig m r r [] g → IsRoute m r → IsDrivenAlone low r.pin → AreReleased high → SwingPasses told g low high r.pin yes →
         RoutePasses told m r yes }
-    ensures apart { (told : Option Faults) (m : Shape) (g : Configuration) (left right : Walk) (drive : Pins) (yes : Bool) →
-        IsLoopConfig m left right [] g → IsRoute m left → IsRoute m right → IsDrivenAlone drive left.pin →
-        ApartPasses told g drive left.pin right.pin yes → RoutesPass told m left right yes }
 {}
 
 /// Where just two routes and the ties are closed and one table is on, the tests of its cells and its register pass that

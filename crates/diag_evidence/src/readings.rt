@@ -5,9 +5,9 @@ ghost use Rattle.machine_shape.specs.Shape.{pins_of};
 ghost use Rattle.base_io.specs.Counts.{next_count};
 ghost use Rattle.rig.specs.Rig.{ForEach, shape_of, log_of, cycles_made, Begins, KeepLengths};
 ghost use Rattle.diag_evidence.specs.Kept.{FewCycles};
-ghost use Rattle.diag_evidence.specs.Logged.{HasLogged, LogsBit, LogsBits, LogsRows, LogsTwice, one_cycle};
+ghost use Rattle.diag_evidence.specs.Logged.{HasLogged, LogsBit, LogsRows, LogsTwice, one_cycle};
 ghost use Rattle.diag_evidence.specs.Looks.{ReadsEach};
-ghost use Rattle.diag_evidence.specs.Readings.{HasCycled, LoadsUpTo, Reads, ReadsOnce, ReadsPins, ReadsTwice, WantsBefore};
+ghost use Rattle.diag_evidence.specs.Readings.{HasCycled, LoadsUpTo, Reads, ReadsOnce, ReadsTwice, WantsBefore};
 
 use crate::pins::Pins;
 use diag_tests::Route;
@@ -147,40 +147,6 @@ pub(crate) fn read_pin(
 {
     read_once(rig, config, drive, read)?;
     Ok(read.get(Pin(at)))
-}
-
-// What two pins read at one time after a load.
-pub(crate) fn read_pins(
-    pins: &mut Pins,
-    rig: &mut Box<dyn Rig>,
-    config: &Config,
-    drive: &PinBits,
-    first: u32,
-    second: u32,
-) -> Result<(bool, bool), RigFail>
-    requires pins { pins.old ≡ pins_of config.now.config.shape }
-    requires attached { shape_of (rig_state rig.old) ≡ Some config.now.config.shape }
-    requires drive { length drive.now ≡ pins_of config.now.config.shape }
-    requires first { first < pins_of config.now.config.shape }
-    requires second { second < pins_of config.now.config.shape }
-    ensures pins { pins.new ≡ pins.old }
-    ensures loads { LoadsUpTo 1 result (rig_state rig.old) (rig_state rig.new) }
-    ensures few { FewCycles (rig_state rig.old) (rig_state rig.new) }
-    ensures made { cycles_made (rig_state rig.new) ≤ cycles_made (rig_state rig.old) + 1 }
-    ensures wanting { IsErrOf result RigFail.Memory → WantsBefore (rig_state rig.old) (rig_state rig.new) }
-    ensures session { OnOk result (HasCycled config.now.config (drive.now ∷ []) (rig_state rig.new)) }
-    ensures reads_each { IfOk result (λ bits. ForEach (rig_state rig.new) (λ told. ReadsPins told config.now.config drive.now first second
-        bits.0 bits.1)) }
-    ensures logged { IfOk result (λ bits. LogsBits config.now.config drive.now first second
-        (rig_state rig.old) (rig_state rig.new) bits.0 bits.1) }
-{
-    let Ok(mut read) = pins.take() else {
-        return Err(RigFail::Memory);
-    };
-    read_once(rig, config, drive, &mut read)?;
-    let bits = (read.get(Pin(first)), read.get(Pin(second)));
-    pins.put(read);
-    Ok(bits)
 }
 
 // What a pin reads in two cycles after a load.

@@ -1,12 +1,12 @@
 //! Looks at forests.
-ghost use Rattle.std.specs.Prelude.{◌≡◌, ◌≤◌, ◌<◌, ◌+◌, Some, All, OnOk, OnErr, IsErrOf};
+ghost use Rattle.std.specs.Prelude.{◌≡◌, ◌≤◌, ◌<◌, ◌+◌, true, Some, All, OnOk, OnErr, IsErrOf};
 ghost use Rattle.base_io.specs.Counts.{Rose};
 ghost use Rattle.machine_shape.specs.Shape.{pins_of, crosses_of};
 ghost use Rattle.rig.specs.Rig.{ForEach, cycles_made, shape_of};
 ghost use Rattle.diag_tests.specs.Configs.{Closes};
 ghost use Rattle.diag_evidence.specs.Kept.{FewCycles, Advances};
 ghost use Rattle.diag_evidence.specs.Forests.{KeepsForest};
-ghost use Rattle.diag_evidence.specs.Hangs.{ClosesJust, feet_crosses, closes};
+ghost use Rattle.diag_evidence.specs.Hangs.{ClosesJust, all_hang, feet_crosses, closes};
 ghost use Rattle.diag_evidence.specs.Looks.{HasLooked, HasSeen, IsLook, LogsLook, ShowsSeen, look_drives};
 ghost use Rattle.diag_evidence.specs.Readings.{LoadsUpTo, WantsBefore};
 
@@ -78,8 +78,9 @@ impl Facts {
         looked
     }
 
-    /// Takes a look while just the crosspoints of a forest are closed. A wire that hangs is kept exactly where its pin reads 0 in one
-    /// cycle and 1 in another, and two wires that hang are a kept pair exactly where their pins read different values in some cycle.
+    /// Takes a look while just the crosspoints of a forest are closed, on which all wires of the set hang. A wire that hangs is kept
+    /// exactly where its pin reads 0 in one cycle and 1 in another. A pin of the machine that hangs, and is alone on its pin, joins the set exactly
+    /// where it does so, and reads otherwise than each other pin on which a wire hangs in some cycle.
     ///
     /// # Errors
     ///
@@ -87,6 +88,7 @@ impl Facts {
     pub fn look_each(&mut self, rig: &mut Box<dyn Rig>, forest: &Forest) -> Result<(), RigFail>
         requires attached { shape_of (rig_state rig.old) ≡ Some self.old.shape }
         requires forest { KeepsForest self.old forest.now }
+        requires hang { all_hang self.old.apart forest.now ≡ true }
 
         ensures seen_each { OnOk result (ForEach (rig_state rig.new) (λ told. HasSeen told forest.now self.old self.new)) }
         ensures logged { OnOk result (ShowsSeen forest.now (rig_state rig.old) (rig_state rig.new) self.old self.new) }

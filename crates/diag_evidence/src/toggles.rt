@@ -5,7 +5,7 @@ ghost use Rattle.base_io.specs.Counts.{Rose};
 ghost use Rattle.machine_shape.specs.Shape.{pins_of, crosses_of, tables_of};
 ghost use Rattle.machine_config.specs.Configuration.{is_closed, setting_of, with_open, with_setting, with_cell, with_init};
 ghost use Rattle.rig.specs.Rig.{ForEach, cycles_made, shape_of};
-ghost use Rattle.diag_evidence.specs.Kept.{FewCycles, Gains, Advances, one_cross, one_cell, one_register};
+ghost use Rattle.diag_evidence.specs.Kept.{FewCycles, Gains, Advances, KeepsTrial, one_cross, one_cell, one_register};
 ghost use Rattle.diag_evidence.specs.Logged.{LogsBit, ShowsApart};
 ghost use Rattle.diag_evidence.specs.Readings.{CellPasses, CrossPasses, HasCycled, LoadsUpTo, Reads, RegisterPasses, TellsApart};
 ghost use Rattle.diag_evidence.specs.Readings.{WantsBefore};
@@ -138,6 +138,7 @@ impl Facts {
         ensures gains { IfOk result (λ yes. IsTrue yes → Gains (one_cross c.0) self.old self.new) }
         ensures same { IfOk result (λ yes. yes ≡ false → self.new ≡ self.old) }
         ensures refused { OnErr result (self.new ≡ self.old) }
+        ensures trial { KeepsTrial self.old self.new }
         ensures advances { Advances (rig_state rig.old) (rig_state rig.new) self.old self.new }
         ensures loads { (rig_state rig.new).loads ≤ (rig_state rig.old).loads + 2 }
         ensures cycles { cycles_made (rig_state rig.new) ≤ cycles_made (rig_state rig.old) + 2 }
@@ -194,6 +195,7 @@ impl Facts {
         ensures gains { IfOk result (λ yes. IsTrue yes → Gains (one_cell t.0 address) self.old self.new) }
         ensures same { IfOk result (λ yes. yes ≡ false → self.new ≡ self.old) }
         ensures refused { OnErr result (self.new ≡ self.old) }
+        ensures trial { KeepsTrial self.old self.new }
         ensures advances { Advances (rig_state rig.old) (rig_state rig.new) self.old self.new }
         ensures loads { (rig_state rig.new).loads ≤ (rig_state rig.old).loads + 2 }
         ensures cycles { cycles_made (rig_state rig.new) ≤ cycles_made (rig_state rig.old) + 2 }
@@ -261,6 +263,7 @@ impl Facts {
         ensures gains { IfOk result (λ yes. IsTrue yes → Gains (one_register t.0) self.old self.new) }
         ensures same { IfOk result (λ yes. yes ≡ false → self.new ≡ self.old) }
         ensures refused { OnErr result (self.new ≡ self.old) }
+        ensures trial { KeepsTrial self.old self.new }
         ensures advances { Advances (rig_state rig.old) (rig_state rig.new) self.old self.new }
         ensures loads { (rig_state rig.new).loads ≤ (rig_state rig.old).loads + 2 }
         ensures cycles { cycles_made (rig_state rig.new) ≤ cycles_made (rig_state rig.old) + 2 }

@@ -7,7 +7,7 @@ use Rattle.machine_shape.specs.declared.Shape.{Shape}
 use Rattle.machine_meaning.specs.Faults.{Faults}
 use Rattle.machine_shape.specs.Vocabulary.{IsTree, HasMeetings, pins_of, wires_of, crosses_of, pin_wire}
 use Rattle.diag_evidence.specs.Kept.{Kept, HoldsFor, IsMore}
-use Rattle.diag_known.specs.Vocabulary.{IsFieldOf, ClosedIf, GrowsIn, TakesFew, fresh, pins_in, AreLinks, KnownWires, HasWire, IsKnown, AreOutside, is_spent, AreMarks, AreMarksOver, Spends, SpendsFew}
+use Rattle.diag_known.specs.Vocabulary.{IsFieldOf, ClosedIf, GrowsIn, TakesFew, fresh, pins_in, AreLinks, KnownWires, HasWire, IsKnown, KnowsAll, AreOutside, is_spent, AreMarks, AreMarksOver, Spends, SpendsFew}
 use Rattle.diag_growth.specs.Grown.{IsGrown, IsOneMore}
 use Rattle.diag_growth.specs.Looks.{AreAllMarks, AreTried, Grows, IsLinking}
 use Rattle.diag_known.specs.declared.field.Field.{Field}
@@ -27,8 +27,8 @@ module _ {m : Shape} {s t : Marks} {w : ℕ} (over : AreMarksOver m s) (low : w 
   pub pin_has : t ≡ record s { barred = slice_set s.barred w true } → has_number t.barred w ≡ true
   pin_has marks = ap (λ (u : Marks). has_number u.barred w) marks ∙ set_has s.barred w (subst (λ n. w < n) (sym over.barred) low)
 
-  pub pin_grows : {l : Kept} {a b : KnownWires} → has_number s.barred w ≡ false → IsKnown l b → IsOneMore a b w → t ≡ record s { barred = slice_set s.barred w true } → Grows l a b s.barred t.barred
-  pin_grows free is one marks = grows_one is one free (subst (λ n. w < n) (sym over.barred) low) (inr (ap (λ (u : Marks). u.barred) marks))
+  pub pin_grows : {l : Kept} {a b : KnownWires} → has_number s.barred w ≡ false → IsKnown l b → KnowsAll l b.steps → IsOneMore a b w → t ≡ record s { barred = slice_set s.barred w true } → Grows l a b s.barred t.barred
+  pin_grows free is all one marks = grows_one is all one free (subst (λ n. w < n) (sym over.barred) low) (inr (ap (λ (u : Marks). u.barred) marks))
 
 pub pin_marks : {told : Option Faults} {k l : Kept} {near : List Near} {a b : KnownWires} {s t : Marks} (w : ℕ) → IsMore k l → Grows l a b s.barred t.barred → AreAllMarks told k near a.steps s → AreMarks told l b.steps t →
     t ≡ record s { barred = slice_set s.barred w true } → AreAllMarks told l near b.steps t

@@ -6,7 +6,7 @@ use Rattle.base_bits.specs.Numbers.{has_number}
 use Rattle.machine_shape.specs.declared.Shape.{Shape}
 use Rattle.machine_shape.specs.Vocabulary.{IsTree, HasMeetings, Ends, in_order, ends_of, crosses_of, pins_of, pin_wire, IsTap, IsLine, IsPort, tap_pin, tap_port, tap_child, tap_table}
 use Rattle.machine_meaning.specs.Vocabulary.{Faults, stuck_cross, IsClear, IsAlone, HasFeet, two}
-use Rattle.diag_evidence.specs.Kept.{Kept, HoldsFor, keeps_cross}
+use Rattle.diag_evidence.specs.Kept.{Kept, HoldsUntried, keeps_cross}
 use Rattle.diag_known.specs.Vocabulary.{IsFieldOf, IsClosed, ClosedIf, GrowsIn, Links, AreLinks, KnownWires, IsBefore, HasWire, AreOutside, AreLost, IsFit, IsTried}
 use Rattle.diag_growth.specs.Grown.{IsGrown}
 use Rattle.diag_growth.specs.Looks.{AreTried, Grows}
@@ -33,7 +33,7 @@ module _ {told : Option Faults} {k : Kept} {near : List Near} {a : Field} {ss : 
     (outside : AreOutside a.wires barred) (g : AreTried told k ss barred now) (grown : IsGrown told k near ss now (length ss))
     (pins : (i : ℕ) → i < pins_of k.shape → HasWire ss (pin_wire k.shape i) ⊎ (has_number now (pin_wire k.shape i) ≡ true)) where
   -- a wire of the field that is barred, and fit, is known
-  barred_known : {f : Faults} (w : ℕ) → told ≡ Some f → HoldsFor k f → has_number a.wires w ≡ true → IsFit k.shape f ss w → has_number now w ≡ true → HasWire ss w
+  barred_known : {f : Faults} (w : ℕ) → told ≡ Some f → HoldsUntried k f → has_number a.wires w ≡ true → IsFit k.shape f ss w → has_number now w ≡ true → HasWire ss w
   barred_known w told_is holds on fit bar = by_bar (g.tried w bar)
     where
       by_tried : IsTried told k ss w → HasWire ss w
@@ -50,7 +50,7 @@ module _ {told : Option Faults} {k : Kept} {near : List Near} {a : Field} {ss : 
       cross_within : (x : ℕ) → has_number a.crosses x ≡ true → x < crosses_of k.shape
       cross_within x on = subst (λ n. x < n) is_field.crosses (number_within a.crosses x on)
 
-  module _ {f : Faults} (told_is : told ≡ Some f) (holds : HoldsFor k f) where
+  module _ {f : Faults} (told_is : told ≡ Some f) (holds : HoldsUntried k f) where
     pin_closed : (i : ℕ) → i < pins_of k.shape → has_number a.wires (pin_wire k.shape i) ≡ true → IsClear k.shape f (pin_wire k.shape i) →
         IsAlone k.shape f (HasWire ss) (pin_wire k.shape i) → HasWire ss (pin_wire k.shape i)
     pin_closed i within on clear alone = by_pin (pins i within)

@@ -1,16 +1,20 @@
 -- One more wire is known, or none.
-use Rattle.std.proofs.Common.{◌≡◌, ℕ, true, Option, [], ◌∷◌, length, refl, sym, ap, ◌∙◌, subst, inl, inr, Result, Ok, Err, OnOk, OnErr, slice_set}
+use Rattle.std.proofs.Common.{◌≡◌, ◌⊎◌, ◌==◌, ◌||◌, ℕ, Bool, true, false, Option, Some, List, [], ◌∷◌, length, refl, sym, ap, ◌∙◌, subst, inl, inr, arith, Result, Ok, Err, OnOk, OnErr, IsTrue, slice_set}
+use Rattle.std.proofs.lemmas.Bool.{or_cases, or_left}
+use Rattle.std.proofs.lemmas.Bool.Decides.{nat_tests}
 use Rattle.base_bits.specs.Numbers.{has_number}
 use Rattle.machine_meaning.specs.Faults.{Faults}
-use Rattle.diag_evidence.specs.Kept.{Kept, IsMore}
+use Rattle.diag_evidence.specs.Vocabulary.{Kept, IsMore, KeepsSet, CanSettle, HasSettled, is_apart}
 use Rattle.diag_growth.specs.Grown.{IsLearnt, IsOneMore}
 use Rattle.diag_growth.specs.Looks.{IsReady}
-use Rattle.diag_known.specs.Vocabulary.{KnownWires, HasWire, IsKnown, Stands, IsGood, AreMarks, AreMarksOver, OffersOnly}
+use Rattle.diag_growth.specs.Partings.{IsParted}
+use Rattle.diag_known.specs.Vocabulary.{KnownWires, HasWire, IsKnown, KnowsAll, Stands, AreMarks, AreMarksOver, OffersOnly}
 use Rattle.diag_known.specs.declared.marks.Marks.{Marks}
 use Rattle.diag_known.specs.declared.offers.Offer.{Offer}
 use Rattle.diag_known.specs.declared.verified_wire.VerifiedWire.{VerifiedWire}
-use Rattle.diag_known.proofs.Later.{known_later, learnt}
-use Rattle.diag_known.proofs.Places.{get_last}
+use Rattle.diag_known.proofs.Apart.{good_of}
+use Rattle.diag_known.proofs.Later.{known_later, stands_later, learnt}
+use Rattle.diag_known.proofs.Places.{get_last, has_later}
 use Rattle.diag_known.proofs.Seconds.{offer_still}
 use Rattle.diag_known.proofs.Settling.{marks_later}
 
@@ -28,8 +32,37 @@ learnt_more {s = s} l = record { shape = l.shape; steps = inr (s, refl, l.steps)
 pub learnt_has : {a b : KnownWires} {s : VerifiedWire} → IsLearnt a b s → HasWire b.steps s.wire.0
 learnt_has {a} {b} {s} l = subst (λ ss. HasWire ss s.wire.0) (sym l.steps) (record { place = length a.steps; at = record { step = s; here = get_last a.steps s; wire = refl } })
 
-pub learnt_known : {k : Kept} {a b : KnownWires} {s : VerifiedWire} → IsKnown k a → IsGood k a.steps s.wire.0 → Stands k a.steps (length a.steps) s.wire.0 s.stand → IsLearnt a b s → IsKnown k b
-learnt_known is good stands l = learnt is good stands l.shape l.steps
+-- A wire that is parted is learnt, and then settled.
+module _ {k l : Kept} {a b : KnownWires} {s : VerifiedWire} (result : Bool) (settled : IsTrue result → HasSettled k l) (refused : result ≡ false → CanSettle k → ⊥) (more : IsMore k l) (parted : IsParted k s.wire.0)
+    (is : IsKnown k a) (all : KnowsAll k a.steps) where
+  has_settled : HasSettled k l
+  has_settled = by result refl
+    where
+      by : (t : Bool) → result ≡ t → HasSettled k l
+      by true e = settled e
+      by false e = absurd (refused e parted.can)
+
+  this : has_settled.can.wire ≡ s.wire.0
+  this = some_same (sym has_settled.can.tried ∙ parted.can.tried) ∙ parted.this
+    where
+      some_same : {x y : ℕ} → ◌≡◌ {A = Option ℕ} (Some x) (Some y) → x ≡ y
+      some_same e = cc
+
+  set_after : (u : ℕ) → is_apart l u ≡ ((s.wire.0 == u) || is_apart k u)
+  set_after u = has_settled.apart u ∙ ap (λ w. (w == u) || is_apart k u) this
+
+  of_it : is_apart l s.wire.0 ≡ true
+  of_it = set_after s.wire.0 ∙ or_left (s.wire.0 == s.wire.0) (is_apart k s.wire.0) (let same : (s.wire.0 == s.wire.0) ≡ true = grind (arith, nat_tests) in same)
+
+  pub settled_known : ¬ HasWire a.steps s.wire.0 → Stands k a.steps (length a.steps) s.wire.0 s.stand → IsLearnt a b s → IsKnown l b
+  settled_known new stands p = learnt (known_later more is) (good_of (known_later more is) new (more.wires s.wire.0 parted.kept) of_it) (stands_later more stands) p.shape p.steps
+
+  pub settled_all : IsLearnt a b s → KnowsAll l b.steps
+  settled_all p u on = by (or_cases (s.wire.0 == u) (is_apart k u) (sym (set_after u) ∙ on))
+    where
+      by : ((s.wire.0 == u) ≡ true) ⊎ (is_apart k u ≡ true) → HasWire b.steps u
+      by (inl e) = subst (HasWire b.steps) (let same : s.wire.0 ≡ u = grind (arith, nat_tests, e) in same) (learnt_has p)
+      by (inr h) = subst (λ ss. HasWire ss u) (sym p.steps) (has_later (s ∷ []) (all u h))
 
 pub learnt_marks : {told : Option Faults} {k l : Kept} {a b : KnownWires} {s : VerifiedWire} {m : Marks} → IsMore k l → IsLearnt a b s → AreMarks told k a.steps m → AreMarks told l b.steps m
 learnt_marks {told} {k} {l} {a} {b} {s} {m} more p are = subst (λ ss. AreMarks told l ss m) (sym p.steps) (marks_later (s ∷ []) more are)

@@ -1,5 +1,6 @@
 -- Swings and partings of a wire that isn't known pass, where it is clear and shorted to no known wire.
-use Rattle.std.proofs.Common.{◌≡◌, ◌≢◌, ◌⊎◌, ℕ, ◌+◌, ◌<◌, ◌≤◌, Bool, true, false, Some, None, Option, All, List, [], length, refl, sym, ◌∙◌, subst, inl, inr, arith, slice_get, slice_index_or, ◌==◌, ◌||◌, ◌&&◌}
+use Rattle.std.proofs.Common.{◌≡◌, ◌≢◌, ◌⊎◌, ℕ, ◌+◌, ◌<◌, ◌≤◌, Bool, true, false, Some, None, Option, All, List, [], length, refl, sym, ap, ◌∙◌, subst, inl, inr, arith, slice_get, slice_index_or, ◌==◌, ◌||◌, ◌&&◌}
+use Rattle.std.specs.Option.{option_map_or}
 use Rattle.std.proofs.lemmas.Bool.{false≢true}
 use Rattle.std.proofs.lemmas.Bool.Decides.{nat_tests}
 use Rattle.std.proofs.lemmas.Option.{slice_get-get_or}
@@ -11,11 +12,12 @@ use Rattle.machine_meaning.specs.Vocabulary.{Pins, Faults, Shorted, IsClear}
 use Rattle.machine_config.specs.Vocabulary.{Configuration, is_closed, among, IsWithin, AreGroups, IsDrivenAlone}
 use Rattle.machine_config.proofs.Grouped.{LeadsTo-start, LeadsTo-end, LeadsTo-within}
 use Rattle.diag_tests.specs.Vocabulary.{Walk, IsLoopConfig}
-use Rattle.diag_evidence.specs.Vocabulary.{Kept, HoldsFor, IsMore, Gains, these_wires, these_pairs, keeps_wire, keeps_pair, RoutePasses, AllApartPasses, IsReady, wires_over}
-use Rattle.diag_evidence.proofs.Keeping.{pair_turned, holds_earlier}
+use Rattle.diag_evidence.specs.Vocabulary.{Kept, HoldsUntried, IsMore, KeepsSet, KeepsTrial, Gains, these_wires, row_over, keeps_wire, keeps_pair, in_row, RoutePasses, AllApartPasses, IsReady, wires_over}
+use Rattle.diag_evidence.proofs.KeptLemmas.{IsPair, of_set, of_row, of_other, pair_is, pair_of, tried_is, tried_only}
+use Rattle.diag_evidence.proofs.Keeping.{holds_earlier, trial_by_gain, trial_pair}
 use Rattle.diag_evidence.proofs.Lists.{grown, laid_cases, or_first, or_third}
-use Rattle.diag_known.specs.Vocabulary.{KnownWires, IsAt, HasWire, IsKnown, IsGood, InSome, IsOn, IsReached, IsOnWalk, IsFit, IsBad, IsWay, AreWays}
-use Rattle.diag_growth.specs.Partings.{IsListed, AreLeft, LeavesAt, IsParting, IsApartBeside}
+use Rattle.diag_known.specs.Vocabulary.{KnownWires, IsAt, HasWire, IsKnown, KnowsAll, InSome, IsOn, IsReached, IsOnWalk, IsFit, IsBad, IsWay, AreWays}
+use Rattle.diag_growth.specs.Partings.{IsListed, AreLeft, LeavesAt, IsParting, IsParted, IsApartBeside}
 use Rattle.diag_known.specs.declared.verified_wire.VerifiedWire.{VerifiedWire}
 use Rattle.diag_known.proofs.Besides.{beside}
 use Rattle.diag_known.proofs.Hung.{over_at, at_over, reached_known, reached_off}
@@ -53,8 +55,8 @@ swing_bad {k = k} {known = known} {w = w} is way passes more is_no = record {
 }
 
 -- a parting
-between_now : (a b c d e : Bool) → a ≡ true → b ≡ true → (((a && b) || (c && d)) || e) ≡ true
-between_now a b c d e p q = rw (p, q) refl
+row_now : (a b c : Bool) → a ≡ true → b ≡ true → ((a && b) || c) ≡ true
+row_now a b c p q = rw (p, q) refl
 
 module _ {k : Kept} (known : KnownWires) {w : ℕ} {q : Walk} {routes : List Walk} {ties : List ℕ} (way : IsWay k known.steps w q) (h : IsParting k known.steps w q routes ties) where
   walk_reached : (u : ℕ) → IsOnWalk routes u → IsReached h.rs u
@@ -77,21 +79,25 @@ module _ {k : Kept} (known : KnownWires) {w : ℕ} {q : Walk} {routes : List Wal
   way_ready laid = record { route = way.route; closed = λ x on. laid.closed x ∙ or_first (among q.crosses x) (among q.crosses x) (among ties x) on; kept = way.crosses }
 
   -- what the load keeps apart
-  pub parted : {l : Kept} → IsMore k l → Gains (these_pairs q.wires (wires_over routes)) k l → IsApartBeside l known.steps w q
-  parted {l} more gains = record {
+  pub parted : {l : Kept} → k.trial ≡ Some w → ¬ HasWire known.steps w → Gains (row_over k.trial q.wires (wires_over routes)) k l → IsApartBeside l known.steps w q
+  parted {l} tried new gains = record {
     rs = h.rs;
     all = h.all;
-    apart = λ u has reached. by_list u reached (h.wanted u has);
+    apart = λ u has reached. by_list u has reached (h.wanted u has);
   }
     where
-      by_list : (u : ℕ) → IsReached h.rs u → (keeps_pair k w u ≡ true) ⊎ IsListed h.ends u → keeps_pair l w u ≡ true
-      by_list u reached (inl e) = more.pairs w u e
-      by_list u reached (inr e) =
+      listed : option_map_or (λ t. among q.wires t) k.trial false ≡ true
+      listed = ap (λ o. option_map_or (λ t. among q.wires t) o false) tried ∙ end_on way
+
+      by_list : (u : ℕ) → HasWire known.steps u → IsReached h.rs u → (keeps_pair k w u ≡ true) ⊎ IsListed h.ends u → keeps_pair l w u ≡ true
+      by_list u has reached (inl e) = trial_pair w u (trial_by_gain (row_over k.trial q.wires (wires_over routes)) k l gains (λ v. refl)) e
+      by_list u has reached (inr e) =
           let over = h.walks.over e.place e.wire e.here (subst (IsReached h.rs) (sym e.is) reached) in
           let on = subst (λ v. among (wires_over routes) v ≡ true) e.is (over_at routes over.place e.wire.0 over.route over.here over.on) in
-          gains.pairs w u ∙ between_now (among q.wires w) (among (wires_over routes) u) (among q.wires u) (among (wires_over routes) w) (keeps_pair k w u) (end_on way) on
+          pair_of l w u (λ same. new (subst (HasWire known.steps) (sym same) has)) (of_row (tried_is l w (gains.trial ∙ tried))
+          (gains.row u ∙ row_now (option_map_or (λ t. among q.wires t) k.trial false) (among (wires_over routes) u) (in_row k u) listed on))
 
-  module _ (is : IsKnown k known) {f : Faults} (holds : HoldsFor k f) (fit : IsFit k.shape f known.steps w) where
+  module _ (is : IsKnown k known) {f : Faults} (holds : HoldsUntried k f) (fit : IsFit k.shape f known.steps w) where
     part_unshorted : (u v : ℕ) → among q.wires u ≡ true → among (wires_over routes) v ≡ true → ¬ Shorted k.shape f u v
     part_unshorted u v on over = on_way way (λ u. among q.wires u ≡ true → ¬ Shorted k.shape f u v) (λ here. fit.alone v (walk_known v over))
         (λ u has here. known_unshorted is holds has (walk_known v over) (λ e. reached_off q h.on (walk_reached v (at_over routes v over)) (subst (λ z. among q.wires z ≡ true) e here))) u on on
@@ -128,23 +134,33 @@ part_bad {known = known} {w = w} is way h laid driven passes more is_no = record
 }
 
 -- .. where nothing is reached that isn't kept apart
-pub none_left : {k l : Kept} {ss : List VerifiedWire} {w : ℕ} {q : Walk} {ties : List ℕ} → IsMore k l → IsParting k ss w q [] ties → IsApartBeside l ss w q
-none_left {k} {l} {ss} {w} more h = record { rs = h.rs; all = h.all; apart = λ u has reached. by_list u reached (h.wanted u has) }
+pub none_left : {k l : Kept} {ss : List VerifiedWire} {w : ℕ} {q : Walk} {ties : List ℕ} → KeepsTrial k l → IsParting k ss w q [] ties → IsApartBeside l ss w q
+none_left {k} {l} {ss} {w} stays h = record { rs = h.rs; all = h.all; apart = λ u has reached. by_list u reached (h.wanted u has) }
   where
     by_list : (u : ℕ) → IsReached h.rs u → (keeps_pair k w u ≡ true) ⊎ IsListed h.ends u → keeps_pair l w u ≡ true
-    by_list u reached (inl e) = more.pairs w u e
+    by_list u reached (inl e) = trial_pair w u stays e
     by_list u reached (inr e) = absurd (let on = h.walks.over e.place e.wire e.here (subst (IsReached h.rs) (sym e.is) reached) in let there : ◌≡◌ {A = Option Walk} None (Some on.route) = on.here in cc)
 
 -- a swing and two partings
-pub good : {k l : Kept} {known : KnownWires} {w : ℕ} {p q : Walk} → IsKnown k known → ¬ HasWire known.steps w → AreWays k known.steps w p q → keeps_wire l w ≡ true → IsApartBeside l known.steps w p → IsApartBeside l known.steps w q → IsGood l known.steps w
-good {l = l} {known = known} {w = w} is new ways kept left right = record { kept = kept; apart = λ u has. pair_turned l u w ∙ by_side u has (beside is ways left.all right.all u has (λ e. new (subst (HasWire known.steps) e has))).either }
+pub parted_both : {k l : Kept} {known : KnownWires} {w : ℕ} {p q : Walk} → IsKnown k known → KnowsAll k known.steps → ¬ HasWire known.steps w → AreWays k known.steps w p q → KeepsSet k l → l.trial ≡ Some w → keeps_wire l w ≡ true →
+    IsApartBeside l known.steps w p → IsApartBeside l known.steps w q → IsParted l w
+parted_both {k = k} {l = l} {known = known} {w = w} is all new ways set tried kept left right = record {
+  kept = kept;
+  can = record { wire = w; tried = tried; row = λ u of_it differ. let has = all u (sym (set u) ∙ of_it) in in_it u differ (pair_is l w u (by_side u has (beside is ways left.all right.all u has (λ e. new (subst (HasWire known.steps) e has))).either)) };
+  this = refl;
+}
   where
     by_side : (u : ℕ) → HasWire known.steps u → IsReached left.rs u ⊎ IsReached right.rs u → keeps_pair l w u ≡ true
     by_side u has (inl r) = left.apart u has r
     by_side u has (inr r) = right.apart u has r
 
-pub apart_later : {k l : Kept} {ss : List VerifiedWire} {w : ℕ} {q : Walk} → IsMore k l → IsApartBeside k ss w q → IsApartBeside l ss w q
-apart_later {w = w} more a = record { rs = a.rs; all = a.all; apart = λ u has r. more.pairs w u (a.apart u has r) }
+    in_it : (u : ℕ) → u ≢ w → IsPair l w u → in_row l u ≡ true
+    in_it u differ (of_set p o) = absurd (new (all w (sym (set w) ∙ p)))
+    in_it u differ (of_row p o) = o
+    in_it u differ (of_other p o) = absurd (differ (sym (tried_only l w u tried p)))
+
+pub apart_later : {k l : Kept} {ss : List VerifiedWire} {w : ℕ} {q : Walk} → KeepsTrial k l → IsApartBeside k ss w q → IsApartBeside l ss w q
+apart_later {w = w} stays a = record { rs = a.rs; all = a.all; apart = λ u has r. trial_pair w u stays (a.apart u has r) }
 
 -- the known wires that are left, place by place
 pub leaves_next : (k : Kept) {ss : List VerifiedWire} (w : ℕ) (old new : List Wire) (n : ℕ) → ((u : ℕ) → IsListed old u → IsListed new u) → LeavesAt k ss w new n → ((j : ℕ) → j < n → LeavesAt k ss w old j) → (j : ℕ) → j < n + 1 → LeavesAt k ss w new j

@@ -9,12 +9,12 @@ use Rattle.machine_meaning.specs.Standing.{StandsWithout, IsSeated}
 use Rattle.machine_config.specs.Groups.{among}
 use Rattle.diag_tests.specs.Routes.{Walk, IsRoute, Extends}
 use Rattle.diag_tests.proofs.Longer.{among_both}
-use Rattle.diag_evidence.specs.Kept.{Kept, keeps_cross, keeps_wire, keeps_pair}
+use Rattle.diag_evidence.specs.Kept.{Kept, keeps_cross, keeps_wire, untried, keeps_pair}
 use Rattle.diag_known.specs.Vocabulary.{KnownWires, HasWire, IsKnown, IsKeptCrossOf, AreRoutesTo, IsKnownRoute}
 use Rattle.diag_growth.specs.Seating.{IsPlaceFor, IsMeeting, IsPlaceAt, IsPlace, IsWithout}
 use Rattle.diag_growth.specs.declared.seats.Place.{Place}
 use Rattle.diag_known.specs.declared.verified_wire.VerifiedWire.{VerifiedWire}
-use Rattle.diag_known.proofs.Apart.{known_pair}
+use Rattle.diag_evidence.proofs.Keeping.{untried_two}
 use Rattle.diag_growth.specs.declared.seat.Arm.{Arm}
 use Rattle.diag_growth.specs.declared.seat.Seat.{Seat}
 use Rattle.diag_growth.specs.Seats.{near_wires, far_wires, IsKeptBetween, IsSeat}
@@ -152,8 +152,8 @@ module _ {k : Kept} {known : KnownWires} {without : List VerifiedWire} (is : IsK
   far_input {w} j within (on_line e) same = no_line_pin w j (subst (IsLine m h) (sym e) is_line) (omega (arith, within)) same
   far_input j within (on_output e) same = let n : 6 ≡ j = (numbered.tables_apart t.0 t.0 6 j below below (omega arith) (omega (arith, within)) (sym e ∙ same)).1 in absurd (let none : ⊥ = omega (arith, n, within) in none)
 
-  pair : (w u : ℕ) → HasWire known.steps w → HasWire known.steps u → w ≢ u → keeps_pair k w u ≡ true
-  pair w u a b differ = known_pair is u w b a differ
+  pair : (w u : ℕ) → HasWire known.steps w → HasWire known.steps u → w ≢ u → keeps_pair (untried k) w u ≡ true
+  pair w u a b differ = untried_two k w u differ (is.of_set w a) (is.of_set u b)
 
   kept : (w : ℕ) → HasWire known.steps w → keeps_wire k w ≡ true
   kept w a = subst (λ v. keeps_wire k v ≡ true) a.at.wire (is.steps a.place a.at.step a.at.here).kept

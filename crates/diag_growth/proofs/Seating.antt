@@ -9,7 +9,8 @@ use Rattle.machine_shape.specs.Shape.{Ends, in_order, turned, ends_of, table_wir
 use Rattle.machine_meaning.specs.Vocabulary.{Shorted, IsClear, Faults, wrong_cell, stuck_cross}
 use Rattle.machine_config.specs.Vocabulary.{among, both, IsWithin, AreClear, AreUnshorted, ends, goes, number_of, IsLoose}
 use Rattle.machine_config.proofs.Grouped.{LeadsTo-end}
-use Rattle.diag_evidence.specs.Vocabulary.{Kept, HoldsFor, keeps_wire, keeps_pair, IsTied, IsTableBy, IsCellBy}
+use Rattle.diag_evidence.specs.Vocabulary.{Kept, HoldsUntried, untried, keeps_wire, keeps_pair, IsTied, IsTableBy, IsCellBy}
+use Rattle.diag_evidence.proofs.Keeping.{untried_crosses, untried_wires}
 use Rattle.diag_growth.specs.declared.seat.Arm.{Arm}
 use Rattle.diag_growth.specs.declared.seat.Seat.{Seat}
 use Rattle.diag_growth.specs.Seats.{near_wires, far_wires, IsKeptBetween, IsSeat}
@@ -98,7 +99,7 @@ within_of : {m : Shape} {x a b : ℕ} (group : ℕ → Bool) → Ends (ends_of m
 within_of group (in_order s t) p q = record { tap = subst (λ w. group w ≡ true) (sym s) p; line = subst (λ w. group w ≡ true) (sym t) q }
 within_of group (turned s t) p q = record { tap = subst (λ w. group w ≡ true) (sym s) q; line = subst (λ w. group w ≡ true) (sym t) p }
 
-module _ (k : Kept) (f : Faults) (holds : HoldsFor k f) (s : Seat) (seat : IsSeat k s) (bits : ℕ → Bool) (ties : List ℕ) (tied : AreSeatTies s bits 6 (among ties)) where
+module _ (k : Kept) (f : Faults) (holds : HoldsUntried k f) (s : Seat) (seat : IsSeat k s) (bits : ℕ → Bool) (ties : List ℕ) (tied : AreSeatTies s bits 6 (among ties)) where
   abbrev m : Shape
   m = k.shape
 
@@ -140,15 +141,15 @@ module _ (k : Kept) (f : Faults) (holds : HoldsFor k f) (s : Seat) (seat : IsSea
   near_clear w h = by (near_cases w h)
     where
       by : (among (near_wires s) w ≡ true) ⊎ LowInput m t bits 6 w → IsClear m f w
-      by (inl g) = holds.wires w (seat.near_kept w g)
-      by (inr g) = holds.wires w (subst (λ v. keeps_wire k v ≡ true) g.is (seat.inputs g.place g.below))
+      by (inl g) = untried_wires k holds w (seat.near_kept w g)
+      by (inr g) = untried_wires k holds w (subst (λ v. keeps_wire k v ≡ true) g.is (seat.inputs g.place g.below))
 
   sides_apart : AreUnshorted m f near far
   sides_apart w u h on = by (near_cases w h)
     where
       by : (among (near_wires s) w ≡ true) ⊎ LowInput m t bits 6 w → ¬ Shorted m f w u
       by (inl g) = holds.pairs w u (seat.sides w u g on)
-      by (inr g) = holds.pairs w u (subst (λ v. keeps_pair k v u ≡ true) g.is (seat.far_inputs g.place u g.below on))
+      by (inr g) = holds.pairs w u (subst (λ v. keeps_pair (untried k) v u ≡ true) g.is (seat.far_inputs g.place u g.below on))
 
   tie_in : (y : ℕ) → IsSeatTie s bits 6 y → IsWithin m near y ⊎ IsWithin m far y
   tie_in y (to_output e) = inr (subst (IsWithin m far) e (within_of far seat.output.at (far_in s.far.end (LeadsTo-end seat.far.route.leads)) output_in))
@@ -157,7 +158,7 @@ module _ (k : Kept) (f : Faults) (holds : HoldsFor k f) (s : Seat) (seat : IsSea
 
   -- a kept tie
   tie : (y c a b : ℕ) → IsKeptBetween k c a b → IsSeatTie s bits 6 c → c ≡ y → (among ties y ≡ true) × (stuck_cross f y ≡ None)
-  tie y c a b kept is e = subst (λ z. (among ties z ≡ true) × (stuck_cross f z ≡ None)) e (tied.all c is, holds.crosses c kept.kept)
+  tie y c a b kept is e = subst (λ z. (among ties z ≡ true) × (stuck_cross f z ≡ None)) e (tied.all c is, untried_crosses k holds c kept.kept)
 
   output_tied : IsTied m f ties s.far.end (table_wire m t 6)
   output_tied = record {
@@ -187,21 +188,21 @@ module _ (k : Kept) (f : Faults) (holds : HoldsFor k f) (s : Seat) (seat : IsSea
     right_in = far_in;
     ties_in = λ y is. tie_in y (tied.only y is);
     left_clear = near_clear;
-    right_clear = λ w h. holds.wires w (seat.far_kept w h);
+    right_clear = λ w h. untried_wires k holds w (seat.far_kept w h);
     apart = sides_apart;
     output = output_tied;
   }
 
   -- an input whose bit is 1
   loose : (j : ℕ) → j < 6 → bits j ≡ true → IsLoose m f near far (table_wire m t j)
-  loose j h high = record { clear = holds.wires (table_wire m t j) (seat.inputs j h); off_left = off; off_right = λ u on. holds.pairs (table_wire m t j) u (seat.far_inputs j u h on) }
+  loose j h high = record { clear = untried_wires k holds (table_wire m t j) (seat.inputs j h); off_left = off; off_right = λ u on. holds.pairs (table_wire m t j) u (seat.far_inputs j u h on) }
     where
       off : (u : ℕ) → near u ≡ true → ¬ Shorted m f (table_wire m t j) u
       off u is = by (near_cases u is)
         where
           by : (among (near_wires s) u ≡ true) ⊎ LowInput m t bits 6 u → ¬ Shorted m f (table_wire m t j) u
           by (inl g) = holds.pairs (table_wire m t j) u (seat.near_inputs j u h g)
-          by (inr g) = holds.pairs (table_wire m t j) u (subst (λ v. keeps_pair k (table_wire m t j) v ≡ true) g.is (seat.between_inputs j g.place h g.below (λ e. false≢true (sym g.low ∙ ap bits (sym e) ∙ high))))
+          by (inr g) = holds.pairs (table_wire m t j) u (subst (λ v. keeps_pair (untried k) (table_wire m t j) v ≡ true) g.is (seat.between_inputs j g.place h g.below (λ e. false≢true (sym g.low ∙ ap bits (sym e) ∙ high))))
 
   pub cell_by : (a : ℕ) → number_of (map bits (range_with_len 0 6)) ≡ a → wrong_cell f t a ≡ None → IsCellBy m f s.near s.far ties t a near far bits
   cell_by a number right = record { table = table_by; not_wrong = right; inputs = λ j h. by j h (bits j) refl; number = number }

@@ -1,7 +1,7 @@
 -- What tests over the rig have found, and what they took, so far.
 use Rattle.std.proofs.Common.{◌≡◌, ℕ, ◌+◌, ◌<◌, ◌≤◌, Some, List, slice_get}
 use Rattle.rig.specs.Rig.{RigState, ForEach}
-use Rattle.diag_evidence.specs.Kept.{Kept, Advances}
+use Rattle.diag_evidence.specs.Kept.{Kept, Advances, KeepsTrial}
 use Rattle.diag_known.specs.Vocabulary.{KnownWires, AreMarks, AreMarksOver, Spends, SpendsFew, SpendsOn, AreLost}
 use Rattle.diag_known.specs.declared.field.Field.{Field}
 use Rattle.diag_known.specs.declared.links.Near.{Near}
@@ -33,6 +33,7 @@ pub record HasLooked (first now : RigState) (j k : Kept) (near : List Near) (old
 -- the first n other crosspoints of an offer were tried
 pub record HaveTriedOthers (first now : RigState) (j k : Kept) (ss : List VerifiedWire) (o : Offer) (old new : Marks) (n : ℕ) : Type 0 where
   pub advances : Advances first now j k
+  pub trial : KeepsTrial j k
   pub marks : AreMarksOver k.shape new
   pub spends : SpendsOn j o old new first.loads now.loads
   pub marks_each : ForEach now (λ told. AreMarks told j ss old → AreMarks told k ss new)

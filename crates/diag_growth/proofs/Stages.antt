@@ -6,7 +6,7 @@ use Rattle.base_bits.specs.Numbers.{has_number}
 use Rattle.machine_meaning.specs.Faults.{Faults}
 use Rattle.diag_evidence.specs.Kept.{Kept, IsMore}
 use Rattle.diag_growth.specs.Grown.{IsGrown, IsOneMore}
-use Rattle.diag_known.specs.Vocabulary.{IsTried, KnownWires, HasWire, IsKnown, BarsAtMost}
+use Rattle.diag_known.specs.Vocabulary.{IsTried, KnownWires, HasWire, IsKnown, KnowsAll, BarsAtMost}
 use Rattle.diag_growth.specs.Looks.{IsLooked, StayBarred, AreTried, Grows}
 use Rattle.diag_known.specs.declared.links.Near.{Near}
 use Rattle.diag_known.specs.declared.verified_wire.VerifiedWire.{VerifiedWire}
@@ -39,9 +39,10 @@ tried_then {told} {k} {l} {ss} {ts} {x} {y} {z} rest e more first second = recor
     by_second w (inr t) = inr t
 
 -- nothing grows
-pub grows_itself : {k l : Kept} {known : KnownWires} {old new : List Bool} → IsKnown k known → IsMore k l → new ≡ old → Grows l known known old new
-grows_itself {known = known} {old = old} is more same = record {
+pub grows_itself : {k l : Kept} {known : KnownWires} {old new : List Bool} → IsKnown k known → IsMore k l → KnowsAll l known.steps → new ≡ old → Grows l known known old new
+grows_itself {known = known} {old = old} is more all same = record {
   known = known_later more is;
+  all = all;
   shape = refl;
   more = [];
   steps = sym (append-nil known.steps);
@@ -60,6 +61,7 @@ free_before {old = old} stays w off = by_bit (has_number old w) refl
 pub grows_then : {k l : Kept} {a b c : KnownWires} {x y z : List Bool} → Grows k a b x y → Grows l b c y z → Grows l a c x z
 grows_then {k} {l} {a} {b} {c} {x} {y} {z} g h = record {
   known = h.known;
+  all = h.all;
   shape = h.shape ∙ g.shape;
   more = g.more ++ h.more;
   steps = h.steps ∙ ap (λ (ss : List VerifiedWire). ss ++ h.more) g.steps ∙ append_assoc a.steps g.more h.more;
@@ -83,8 +85,8 @@ pub longer : {k : Kept} {a b : KnownWires} {x y : List Bool} → Grows k a b x y
 longer {a = a} g = let e = ap length g.steps ∙ length-append a.steps g.more in omega (arith, e)
 
 -- one wire more, which wasn't barred
-pub grows_one : {k : Kept} {a b : KnownWires} {x y : List Bool} {w : ℕ} → IsKnown k b → IsOneMore a b w → has_number x w ≡ false → w < length x → BarsAtMost w x y → Grows k a b x y
-grows_one {k} {a} {b} {x} {y} {w} is one free low bars = by_steps one.steps
+pub grows_one : {k : Kept} {a b : KnownWires} {x y : List Bool} {w : ℕ} → IsKnown k b → KnowsAll k b.steps → IsOneMore a b w → has_number x w ≡ false → w < length x → BarsAtMost w x y → Grows k a b x y
+grows_one {k} {a} {b} {x} {y} {w} is all one free low bars = by_steps one.steps
   where
     stays : BarsAtMost w x y → StayBarred x y
     stays (inl same) = record { stays = λ v on. ap (λ bits. has_number bits v) same ∙ on }
@@ -102,5 +104,5 @@ grows_one {k} {a} {b} {x} {y} {w} is one free low bars = by_steps one.steps
         by_place (inr h) = let same : v ≡ w = sym has.at.wire ∙ ap (λ (t : VerifiedWire). t.wire.0) (sym h.1) ∙ e in inr (ap (has_number x) same ∙ free, subst (λ u. u < length x) (sym same) low)
 
     by_steps : (b.steps ≡ a.steps) ⊎ ((s : VerifiedWire) × (s.wire.0 ≡ w) × (b.steps ≡ a.steps ++ s ∷ [])) → Grows k a b x y
-    by_steps (inl e) = record { known = is; shape = one.shape; more = []; steps = e ∙ sym (append-nil a.steps); within = λ v has. inl (subst (λ ss. HasWire ss v) e has); stays = stays bars; len = len bars }
-    by_steps (inr p) = record { known = is; shape = one.shape; more = p.0 ∷ []; steps = p.2; within = within_one p.0 p.1 p.2; stays = stays bars; len = len bars }
+    by_steps (inl e) = record { known = is; all = all; shape = one.shape; more = []; steps = e ∙ sym (append-nil a.steps); within = λ v has. inl (subst (λ ss. HasWire ss v) e has); stays = stays bars; len = len bars }
+    by_steps (inr p) = record { known = is; all = all; shape = one.shape; more = p.0 ∷ []; steps = p.2; within = within_one p.0 p.1 p.2; stays = stays bars; len = len bars }

@@ -8,7 +8,8 @@ use Rattle.machine_meaning.specs.Faults.{Faults, wrong_cell}
 use Rattle.machine_config.specs.Groups.{among}
 use Rattle.diag_tests.specs.Routes.{Walk, cross_numbers}
 use Rattle.rig.specs.Rig.{RigState, ForEach}
-use Rattle.diag_evidence.specs.Kept.{Kept, HoldsFor, IsMore, Advances, Gains, one_cell, one_register, keeps_wire, keeps_pair, keeps_cell, keeps_register}
+use Rattle.diag_evidence.specs.Kept.{Kept, HoldsFor, IsMore, Advances, Gains, untried, one_cell, one_register, keeps_wire, keeps_pair, keeps_cell, keeps_register}
+use Rattle.diag_evidence.proofs.Keeping.{untried_later}
 use Rattle.diag_growth.specs.declared.seat.Arm.{Arm}
 use Rattle.diag_growth.specs.declared.seat.Seat.{Seat}
 use Rattle.diag_growth.specs.Seats.{near_wires, far_wires, IsKeptBetween, IsKeptWalk, IsArm, IsSeat, TableIf, AddsOnlyTableFacts}
@@ -50,14 +51,14 @@ seat_later {k} {l} {s} more h = record {
   near_kept = λ w is. more.wires w (h.near_kept w is);
   far_kept = of_shape (λ m. (w : ℕ) → among (far_wires m s) w ≡ true → keeps_wire l w ≡ true) (λ w is. more.wires w (h.far_kept w is));
   inputs = of_shape (λ m. (j : ℕ) → j < 6 → keeps_wire l (table_wire m s.table.0 j) ≡ true) (λ j b. more.wires _ (h.inputs j b));
-  sides = of_shape (λ m. (w u : ℕ) → among (near_wires s) w ≡ true → among (far_wires m s) u ≡ true → keeps_pair l w u ≡ true)
-      (λ w u is on. more.pairs w u (h.sides w u is on));
-  near_inputs = of_shape (λ m. (j w : ℕ) → j < 6 → among (near_wires s) w ≡ true → keeps_pair l (table_wire m s.table.0 j) w ≡ true)
-      (λ j w b is. more.pairs _ w (h.near_inputs j w b is));
-  far_inputs = of_shape (λ m. (j w : ℕ) → j < 6 → among (far_wires m s) w ≡ true → keeps_pair l (table_wire m s.table.0 j) w ≡ true)
-      (λ j w b is. more.pairs _ w (h.far_inputs j w b is));
-  between_inputs = of_shape (λ m. (i j : ℕ) → i < 6 → j < 6 → i ≢ j → keeps_pair l (table_wire m s.table.0 i) (table_wire m s.table.0 j) ≡ true)
-      (λ i j b d n. more.pairs _ _ (h.between_inputs i j b d n));
+  sides = of_shape (λ m. (w u : ℕ) → among (near_wires s) w ≡ true → among (far_wires m s) u ≡ true → keeps_pair (untried l) w u ≡ true)
+      (λ w u is on. untried_later w u more (h.sides w u is on));
+  near_inputs = of_shape (λ m. (j w : ℕ) → j < 6 → among (near_wires s) w ≡ true → keeps_pair (untried l) (table_wire m s.table.0 j) w ≡ true)
+      (λ j w b is. untried_later _ w more (h.near_inputs j w b is));
+  far_inputs = of_shape (λ m. (j w : ℕ) → j < 6 → among (far_wires m s) w ≡ true → keeps_pair (untried l) (table_wire m s.table.0 j) w ≡ true)
+      (λ j w b is. untried_later _ w more (h.far_inputs j w b is));
+  between_inputs = of_shape (λ m. (i j : ℕ) → i < 6 → j < 6 → i ≢ j → keeps_pair (untried l) (table_wire m s.table.0 i) (table_wire m s.table.0 j) ≡ true)
+      (λ i j b d n. untried_later _ _ more (h.between_inputs i j b d n));
 }
   where
     of_shape : (P : Shape → Type 0) → P k.shape → P l.shape
@@ -107,18 +108,18 @@ table_next later more cells register = record {
 
 -- only facts of tables are new
 pub only_itself : {k : Kept} → AddsOnlyTableFacts k k
-only_itself = record { crosses = λ x. refl; wires = λ w. refl; pairs = λ a b. refl }
+only_itself = record { crosses = λ x. refl; wires = λ w. refl; apart = λ w. refl }
 
 pub only_then : {k l n : Kept} → AddsOnlyTableFacts k l → AddsOnlyTableFacts l n → AddsOnlyTableFacts k n
-only_then a b = record { crosses = λ x. b.crosses x ∙ a.crosses x; wires = λ w. b.wires w ∙ a.wires w; pairs = λ u v. b.pairs u v ∙ a.pairs u v }
+only_then a b = record { crosses = λ x. b.crosses x ∙ a.crosses x; wires = λ w. b.wires w ∙ a.wires w; apart = λ w. b.apart w ∙ a.apart w }
 
 pub only_same : {k l : Kept} → l ≡ k → AddsOnlyTableFacts k l
 only_same {k} e = subst (AddsOnlyTableFacts k) (sym e) only_itself
 
 pub only_cell : {k l : Kept} (t a : ℕ) (yes : Bool) → (IsTrue yes → Gains (one_cell t a) k l) → (yes ≡ false → l ≡ k) → AddsOnlyTableFacts k l
-only_cell t a true g same = let h = g refl in record { crosses = λ x. h.crosses x; wires = λ w. h.wires w; pairs = λ u v. h.pairs u v }
+only_cell t a true g same = let h = g refl in record { crosses = λ x. h.crosses x; wires = λ w. h.wires w; apart = λ w. h.apart w }
 only_cell t a false g same = only_same (same refl)
 
 pub only_register : {k l : Kept} (t : ℕ) (yes : Bool) → (IsTrue yes → Gains (one_register t) k l) → (yes ≡ false → l ≡ k) → AddsOnlyTableFacts k l
-only_register t true g same = let h = g refl in record { crosses = λ x. h.crosses x; wires = λ w. h.wires w; pairs = λ u v. h.pairs u v }
+only_register t true g same = let h = g refl in record { crosses = λ x. h.crosses x; wires = λ w. h.wires w; apart = λ w. h.apart w }
 only_register t false g same = only_same (same refl)

@@ -82,10 +82,10 @@ table_below k l e tables i d below all = subst (λ (m : Shape). (get_or tables i
 
 -- no facts are new, and one after the other
 pub only_none : {k : Kept} → AddsOnlyTableFacts k k
-only_none = record { crosses = λ x. refl; wires = λ w. refl; pairs = λ a b. refl }
+only_none = record { crosses = λ x. refl; wires = λ w. refl; apart = λ w. refl }
 
 pub only_then : {k l n : Kept} → AddsOnlyTableFacts k l → AddsOnlyTableFacts l n → AddsOnlyTableFacts k n
-only_then f g = record { crosses = λ x. g.crosses x ∙ f.crosses x; wires = λ w. g.wires w ∙ f.wires w; pairs = λ a b. g.pairs a b ∙ f.pairs a b }
+only_then f g = record { crosses = λ x. g.crosses x ∙ f.crosses x; wires = λ w. g.wires w ∙ f.wires w; apart = λ w. g.apart w ∙ f.apart w }
 
 -- What stands without a hextant, by the shape of what is known and by that of the proof.
 module _ {k : Kept} {known : KnownWires} (is : IsKnown k known) (h : ℕ) (set : List Bool) where

@@ -5,7 +5,7 @@ use Rattle.machine_meaning.specs.Faults.{Faults}
 use Rattle.machine_shape.specs.declared.Shape.{Shape}
 use Rattle.machine_shape.specs.Shape.{Ends, ends_of, crosses_of}
 use Rattle.diag_evidence.specs.Kept.{Kept}
-use Rattle.diag_known.specs.Vocabulary.{Links, list_at, KnownWires, IsKnown, IsAt, IsBefore, HasWire, AreMarks, AreMarksOver}
+use Rattle.diag_known.specs.Vocabulary.{Links, list_at, KnownWires, IsKnown, KnowsAll, IsAt, IsBefore, HasWire, AreMarks, AreMarksOver}
 use Rattle.diag_known.specs.Vocabulary.{IsOffer, IsPlaced, AreLost, IsKeptUnlessStuck, IsTried}
 use Rattle.diag_known.specs.declared.links.Near.{Near}
 use Rattle.diag_growth.specs.declared.look.Look.{Look}
@@ -49,7 +49,8 @@ pub record IsOfferOf (near : List Near) (ss : List VerifiedWire) (l : Look) (o :
 
 -- What a look has found, from a wire at a place over a crosspoint to another: it is kept unless it is stuck, where the other came
 -- before; otherwise the other is known, or barred, or the crosspoint and each other one to a wire before are lost.
-pub record IsLooked (told : Option Faults) (k : Kept) (near : List Near) (ss : List VerifiedWire) (barred : List Bool) (n x w : ℕ) : Type 0 where
+pub record IsLooked (told : Option Faults) (k : Kept) (near : List Near) (ss : List VerifiedWire) (barred : List Bool)
+    (n x w : ℕ) : Type 0 where
   pub between : IsBefore ss n w → IsKeptUnlessStuck told k x
   pub seconds : (y v : ℕ) → Links near y v w → IsBefore ss n v → HasWire ss w ⊎ ((has_number barred w ≡ true) ⊎ AreLost told k ss w x y)
 
@@ -64,9 +65,10 @@ pub record StayBarred (old new : List Bool) : Type 0 where
 pub record AreTried (told : Option Faults) (k : Kept) (ss : List VerifiedWire) (old new : List Bool) : Type 0 where
   pub tried : (w : ℕ) → has_number new w ≡ true → (has_number old w ≡ true) ⊎ IsTried told k ss w
 
--- Further wires are known, none of which was barred.
+-- Further wires are known, none of which was barred, and all wires of the set are.
 pub record Grows (k : Kept) (old new : KnownWires) (barred now : List Bool) : Type 0 where
   pub known : IsKnown k new
+  pub all : KnowsAll k new.steps
   pub shape : new.shape ≡ old.shape
   pub more : List VerifiedWire
   pub steps : new.steps ≡ old.steps ++ more
@@ -75,7 +77,8 @@ pub record Grows (k : Kept) (old new : KnownWires) (barred now : List Bool) : Ty
   pub len : length now ≡ length barred
 
 -- Of the wire to which the crosspoint was offered, from a known wire, all has been found that its look can find.
-pub record IsOfferedMark (told : Option Faults) (k : Kept) (near : List Near) (ss : List VerifiedWire) (barred : List Bool) (x : ℕ) : Type 0 where
+pub record IsOfferedMark (told : Option Faults) (k : Kept) (near : List Near) (ss : List VerifiedWire) (barred : List Bool)
+    (x : ℕ) : Type 0 where
   pub place : ℕ
   pub from : ℕ
   pub to : ℕ

@@ -3,7 +3,7 @@ use Rattle.std.specs.Prelude.{◌≡◌, ◌⊎◌, ℕ, true, Some, List, [], s
 use Rattle.machine_shape.specs.declared.Wire.{Wire}
 use Rattle.machine_config.specs.Groups.{among}
 use Rattle.diag_tests.specs.Routes.{Walk}
-use Rattle.diag_evidence.specs.Kept.{Kept, keeps_pair}
+use Rattle.diag_evidence.specs.Kept.{CanSettle, Kept, keeps_pair, keeps_wire}
 use Rattle.diag_known.specs.Vocabulary.{IsAt, HasWire, Adds, InSome, IsOn, reach_at, IsReached, AreTrees, AreWalks, ReachesAll}
 use Rattle.diag_known.specs.declared.beside.Reach.{Reach}
 use Rattle.diag_known.specs.declared.beside.Reach.TheVariants as reach
@@ -34,6 +34,12 @@ pub record IsParting (k : Kept) (ss : List VerifiedWire) (w : ℕ) (q : Walk) (r
   pub wanted : AreLeft k ss w ends
   pub walks : AreWalks k rs ends routes
   pub laid : Adds (InSome routes IsOn) [] ties
+
+-- the wire is kept and on trial, and its row has all other wires of the set
+pub record IsParted (k : Kept) (w : ℕ) : Type 0 where
+  pub kept : keeps_wire k w ≡ true
+  pub can : CanSettle k
+  pub this : can.wire ≡ w
 
 -- the wire is kept apart from all that is reached beside the route
 pub record IsApartBeside (k : Kept) (ss : List VerifiedWire) (w : ℕ) (q : Walk) : Type 0 where

@@ -5,7 +5,7 @@ use Rattle.machine_shape.specs.Shape.{Ends, ends_of, table_wire, crosses_of, tab
 use Rattle.machine_meaning.specs.Vocabulary.{Faults, IsRightTable}
 use Rattle.machine_config.specs.Groups.{among}
 use Rattle.diag_tests.specs.Routes.{Walk, IsRoute}
-use Rattle.diag_evidence.specs.Kept.{Kept, HoldsFor, keeps_cross, keeps_wire, keeps_pair, keeps_cell, keeps_register}
+use Rattle.diag_evidence.specs.Kept.{Kept, KeepsSet, HoldsFor, untried, keeps_cross, keeps_wire, keeps_pair, keeps_cell, keeps_register}
 use Rattle.diag_growth.specs.declared.seat.Arm.{Arm}
 use Rattle.diag_growth.specs.declared.seat.Seat.{Seat}
 
@@ -34,7 +34,7 @@ pub record IsArm (k : Kept) (s : Seat) (j : ℕ) (a : Arm) : Type 0 where
   pub to_input : IsKeptBetween k a.to_input.0 a.line.0 (table_wire k.shape s.table.0 j)
 
 -- Kept crosspoints lead from the near pin to each input, and from the far pin to the output. The wires are kept, and those
--- of the two sides and of the inputs are kept apart from one another.
+-- of the two sides and of the inputs are of the set, and so kept apart from one another.
 pub record IsSeat (k : Kept) (s : Seat) : Type 0 where
   pub table : s.table.0 < tables_of k.shape
   pub near : IsKeptWalk k s.near
@@ -45,11 +45,12 @@ pub record IsSeat (k : Kept) (s : Seat) : Type 0 where
   pub near_kept : (w : ℕ) → among (near_wires s) w ≡ true → keeps_wire k w ≡ true
   pub far_kept : (w : ℕ) → among (far_wires k.shape s) w ≡ true → keeps_wire k w ≡ true
   pub inputs : (j : ℕ) → j < 6 → keeps_wire k (table_wire k.shape s.table.0 j) ≡ true
-  pub sides : (w u : ℕ) → among (near_wires s) w ≡ true → among (far_wires k.shape s) u ≡ true → keeps_pair k w u ≡ true
-  pub near_inputs : (j w : ℕ) → j < 6 → among (near_wires s) w ≡ true → keeps_pair k (table_wire k.shape s.table.0 j) w ≡ true
-  pub far_inputs : (j w : ℕ) → j < 6 → among (far_wires k.shape s) w ≡ true → keeps_pair k (table_wire k.shape s.table.0 j) w ≡ true
+  pub sides : (w u : ℕ) → among (near_wires s) w ≡ true → among (far_wires k.shape s) u ≡ true → keeps_pair (untried k) w u ≡ true
+  pub near_inputs : (j w : ℕ) → j < 6 → among (near_wires s) w ≡ true → keeps_pair (untried k) (table_wire k.shape s.table.0 j) w ≡ true
+  pub far_inputs : (j w : ℕ) → j < 6 → among (far_wires k.shape s) w ≡ true →
+      keeps_pair (untried k) (table_wire k.shape s.table.0 j) w ≡ true
   pub between_inputs : (i j : ℕ) → i < 6 → j < 6 → i ≢ j →
-      keeps_pair k (table_wire k.shape s.table.0 i) (table_wire k.shape s.table.0 j) ≡ true
+      keeps_pair (untried k) (table_wire k.shape s.table.0 i) (table_wire k.shape s.table.0 j) ≡ true
 
 -- the 64 cells and the register are kept
 pub record KeepsTable (k : Kept) (t : ℕ) : Type 0 where
@@ -60,8 +61,8 @@ pub record KeepsTable (k : Kept) (t : ℕ) : Type 0 where
 pub record TableIf (told : Option Faults) (k l : Kept) (t : ℕ) : Type 0 where
   pub at : (f : Faults) → told ≡ Some f → HoldsFor k f → IsRightTable f t → KeepsTable l t
 
--- Only facts of tables are new: what is kept of crosspoints, wires and pairs is what was.
+-- Only facts of tables are new: what is kept of crosspoints and wires is what was, and the same wires are of the set.
 pub record AddsOnlyTableFacts (old new : Kept) : Type 0 where
   pub crosses : (x : ℕ) → keeps_cross new x ≡ keeps_cross old x
   pub wires : (w : ℕ) → keeps_wire new w ≡ keeps_wire old w
-  pub pairs : (a b : ℕ) → keeps_pair new a b ≡ keeps_pair old a b
+  pub apart : KeepsSet old new

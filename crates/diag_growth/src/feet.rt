@@ -3,7 +3,7 @@ ghost use Rattle.std.specs.Prelude.{◌≡◌, ◌<◌, ℕ, true, false, Some, 
 ghost use Rattle.base_io.specs.Counts.{Rose};
 ghost use Rattle.machine_shape.specs.Shape.{crosses_of};
 ghost use Rattle.rig.specs.Rig.{ForEach, shape_of};
-ghost use Rattle.diag_evidence.specs.Kept.{Advances, keeps_cross};
+ghost use Rattle.diag_evidence.specs.Kept.{Advances, KeepsTrial, keeps_cross};
 ghost use Rattle.diag_known.specs.declared.verified_wire.Support.{Support};
 ghost use Rattle.diag_known.specs.Vocabulary.{AreMarks, AreMarksOver, SpendsFew, SpendsOn, IsPlaced, IsKeptOther};
 ghost use Rattle.diag_known.specs.Vocabulary.{IsSecond, AreLost, HasNoSecond};
@@ -49,6 +49,7 @@ fn try_over(
     ensures spends { SpendsOn facts.old offer.now marks.old marks.new (rig_state rig.old).loads (rig_state rig.new).loads }
     ensures spends_each { ForEach (rig_state rig.new) (λ told. AreMarks told facts.old known.now.steps marks.old → SpendsFew told
         facts.old marks.old marks.new (rig_state rig.old).loads (rig_state rig.new).loads) }
+    ensures trial { KeepsTrial facts.old facts.new }
     ensures advances { Advances (rig_state rig.old) (rig_state rig.new) facts.old facts.new }
     ensures cause { IsErrOf result RigFail.Failed → Rose (rig_state rig.old).failures (rig_state rig.new).failures }
 {
@@ -86,6 +87,7 @@ fn try_other(
     ensures spends { SpendsOn facts.old offer.now marks.old marks.new (rig_state rig.old).loads (rig_state rig.new).loads }
     ensures spends_each { ForEach (rig_state rig.new) (λ told. AreMarks told facts.old known.now.steps marks.old → SpendsFew told
         facts.old marks.old marks.new (rig_state rig.old).loads (rig_state rig.new).loads) }
+    ensures trial { KeepsTrial facts.old facts.new }
     ensures advances { Advances (rig_state rig.old) (rig_state rig.new) facts.old facts.new }
     ensures cause { IsErrOf result RigFail.Failed → Rose (rig_state rig.old).failures (rig_state rig.new).failures }
 {
@@ -119,6 +121,7 @@ fn try_others(
     ensures spends { SpendsOn facts.old offer.now marks.old marks.new (rig_state rig.old).loads (rig_state rig.new).loads }
     ensures spends_each { ForEach (rig_state rig.new) (λ told. AreMarks told facts.old known.now.steps marks.old → SpendsFew told
         facts.old marks.old marks.new (rig_state rig.old).loads (rig_state rig.new).loads) }
+    ensures trial { KeepsTrial facts.old facts.new }
     ensures advances { Advances (rig_state rig.old) (rig_state rig.new) facts.old facts.new }
     ensures cause { IsErrOf result RigFail.Failed → Rose (rig_state rig.old).failures (rig_state rig.new).failures }
 {
@@ -153,6 +156,7 @@ pub(crate) fn second_foot(
     ensures spends { SpendsOn facts.old offer.now marks.old marks.new (rig_state rig.old).loads (rig_state rig.new).loads }
     ensures spends_each { ForEach (rig_state rig.new) (λ told. AreMarks told facts.old known.now.steps marks.old → SpendsFew told
         facts.old marks.old marks.new (rig_state rig.old).loads (rig_state rig.new).loads) }
+    ensures trial { KeepsTrial facts.old facts.new }
     ensures advances { Advances (rig_state rig.old) (rig_state rig.new) facts.old facts.new }
     ensures cause { IsErrOf result RigFail.Failed → Rose (rig_state rig.old).failures (rig_state rig.new).failures }
 {

@@ -5,10 +5,11 @@ ghost use Rattle.base_bits.specs.Numbers.{has_number};
 ghost use Rattle.base_io.specs.Counts.{Rose};
 ghost use Rattle.machine_shape.specs.Shape.{pins_of, pin_wire, wires_of};
 ghost use Rattle.rig.specs.Rig.{ForEach, shape_of};
-ghost use Rattle.diag_evidence.specs.Kept.{Advances};
+ghost use Rattle.diag_evidence.specs.Kept.{Advances, KeepsSet};
 ghost use Rattle.diag_growth.specs.Grown.{IsLearnt, IsOneMore};
 ghost use Rattle.diag_growth.specs.Looks.{IsNewOffer, IsReady};
-ghost use Rattle.diag_known.specs.Vocabulary.{IsBad, IsTried, IsKnown, HasWire, IsGood, AreMarks, AreMarksOver, IsOfOffer, OffersOnly};
+ghost use Rattle.diag_growth.specs.Partings.{IsParted};
+ghost use Rattle.diag_known.specs.Vocabulary.{IsBad, IsTried, IsKnown, HasWire, KnowsAll, AreMarks, AreMarksOver, IsOfOffer, OffersOnly};
 ghost use Rattle.diag_known.specs.Vocabulary.{BarsAtMost, HasTried, Spends, SpendsFew, TakesForWire, IsOffer, IsSecond};
 
 use crate::feet::second_foot;
@@ -48,7 +49,7 @@ fn machine_pin(shape: &Shape, w: Wire) -> Option<u32>
 }
 
 // Tests the wire of an offer that hangs on two kept crosspoints, by its two ways, or by its one way if it is a pin of the machine.
-// True exactly where it is kept then, and kept apart from each known wire.
+// True exactly where it is kept then, and its row has each known wire.
 fn is_good_over(
     known: &Known,
     rig: &mut Box<dyn Rig>,
@@ -60,9 +61,11 @@ fn is_good_over(
     requires known { IsKnown facts.old known.now }
     requires offer { IsOffer facts.old.shape known.now.steps offer.now }
     requires over { IsSecond facts.old offer.now over }
-    ensures good { IfOk result (λ yes. IsTrue yes → IsGood facts.new known.now.steps offer.now.wire.0) }
+    requires all { KnowsAll facts.old known.now.steps }
+    ensures good { IfOk result (λ yes. IsTrue yes → IsParted facts.new offer.now.wire.0) }
     ensures bad_each { IfOk result (λ yes. ForEach (rig_state rig.new) (λ told. yes ≡ false → IsBad told facts.new known.now.steps
         offer.now.wire.0)) }
+    ensures set { KeepsSet facts.old facts.new }
     ensures advances { Advances (rig_state rig.old) (rig_state rig.new) facts.old facts.new }
     ensures loads { TakesForWire facts.old.shape offer.now.wire.0 (rig_state rig.old).loads (rig_state rig.new).loads }
     ensures cause { IsErrOf result RigFail.Failed → Rose (rig_state rig.old).failures (rig_state rig.new).failures }
@@ -88,8 +91,10 @@ fn try_feet(
     requires attached { shape_of (rig_state rig.old) ≡ Some facts.old.shape }
     requires ready { IsReady facts.old known.old offer.now marks.old }
     requires over { IsSecond facts.old offer.now over }
+    requires all { KnowsAll facts.old known.old.steps }
     requires first { has_number marks.old.barred offer.now.wire.0 ≡ false }
     ensures known { IsKnown facts.new known.new }
+    ensures all { KnowsAll facts.new known.new.steps }
     ensures more { IsOneMore known.old known.new offer.now.wire.0 }
     ensures tried_each { OnOk result (ForEach (rig_state rig.new) (λ told. IsTried told facts.new known.new.steps offer.now.wire.0)) }
     ensures marks { AreMarksOver facts.new.shape marks.new }
@@ -109,7 +114,9 @@ fn try_feet(
         wire: offer.wire,
         stand: SupportedBy::Feet(offer.foot, over),
     };
-    learn(known, step)
+    learn(known, step)?;
+    facts.settle();
+    Ok(())
 }
 
 /// Tries the wire of an offer. It is barred then, and known unless it isn't fit; or nothing is barred, and the crosspoint of
@@ -124,8 +131,10 @@ pub(crate) fn try_offer(
     requires attached { shape_of (rig_state rig.old) ≡ Some facts.old.shape }
     requires ready { IsReady facts.old known.old offer.now marks.old }
     requires first { IsNewOffer offer.now marks.old }
+    requires all { KnowsAll facts.old known.old.steps }
     requires wire { has_number marks.old.barred offer.now.wire.0 ≡ false }
     ensures known { IsKnown facts.new known.new }
+    ensures all { KnowsAll facts.new known.new.steps }
     ensures more { IsOneMore known.old known.new offer.now.wire.0 }
     ensures found_each { OnOk result (ForEach (rig_state rig.new) (λ told. AreMarks told facts.old known.old.steps marks.old → HasTried
         told facts.new known.new.steps offer.now marks.old marks.new)) }
@@ -161,8 +170,10 @@ pub(crate) fn try_pin(
     requires marks { AreMarksOver facts.old.shape marks.old }
     requires pin { pin < pins_of facts.old.shape }
     requires new { ¬ HasWire known.old.steps (pin_wire facts.old.shape pin) }
+    requires all { KnowsAll facts.old known.old.steps }
     requires first { has_number marks.old.barred (pin_wire facts.old.shape pin) ≡ false }
     ensures known { IsKnown facts.new known.new }
+    ensures all { KnowsAll facts.new known.new.steps }
     ensures more { IsOneMore known.old known.new (pin_wire facts.old.shape pin) }
     ensures tried_each { OnOk result (ForEach (rig_state rig.new) (λ told. IsTried told facts.new known.new.steps
         (pin_wire facts.old.shape pin))) }
@@ -184,5 +195,7 @@ pub(crate) fn try_pin(
         wire,
         stand: SupportedBy::Pin(pin),
     };
-    learn(known, step)
+    learn(known, step)?;
+    facts.settle();
+    Ok(())
 }

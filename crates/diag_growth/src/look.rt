@@ -4,9 +4,9 @@ ghost use Rattle.base_bits.specs.Numbers.{has_number};
 ghost use Rattle.base_io.specs.Counts.{Rose};
 ghost use Rattle.machine_shape.specs.Shape.{wires_of};
 ghost use Rattle.rig.specs.Rig.{ForEach, shape_of};
-ghost use Rattle.diag_evidence.specs.Kept.{Advances};
-ghost use Rattle.diag_known.specs.Vocabulary.{AreLinked, IsKnown, IsBefore, HasWire, AreMarks, AreMarksOver, JoinsAtMost, IsOffer};
-ghost use Rattle.diag_known.specs.Vocabulary.{IsKeptUnlessStuck, Spends, SpendsFew};
+ghost use Rattle.diag_evidence.specs.Kept.{Advances, KeepsTrial};
+ghost use Rattle.diag_known.specs.Vocabulary.{AreLinked, IsKnown, KnowsAll, IsBefore, HasWire, AreMarks, AreMarksOver, JoinsAtMost};
+ghost use Rattle.diag_known.specs.Vocabulary.{IsKeptUnlessStuck, IsOffer, Spends, SpendsFew};
 ghost use Rattle.diag_growth.specs.Grown.{IsGrown};
 ghost use Rattle.diag_growth.specs.Looks.{IsLook, IsLookAt, IsLinking, IsOfferOf, IsLookedOver, AreEarlier, AreAllMarks, AreTried};
 ghost use Rattle.diag_growth.specs.Looks.{TakesEarlier, Grows};
@@ -110,6 +110,7 @@ fn look_known(
     ensures marks_each { OnOk result (ForEach (rig_state rig.new) (λ told. AreMarks told facts.old known.now.steps marks.old → AreMarks
         told facts.new known.now.steps marks.new)) }
     ensures joins { JoinsAtMost facts.old look.link.cross.0 marks.old marks.new (rig_state rig.old).loads (rig_state rig.new).loads }
+    ensures trial { KeepsTrial facts.old facts.new }
     ensures advances { Advances (rig_state rig.old) (rig_state rig.new) facts.old facts.new }
     ensures cause { IsErrOf result RigFail.Failed → Rose (rig_state rig.old).failures (rig_state rig.new).failures }
 {
@@ -141,6 +142,7 @@ fn look_new(
 ) -> Result<(), RigFail>
     requires attached { shape_of (rig_state rig.old) ≡ Some facts.old.shape }
     requires known { IsKnown facts.old known.old }
+    requires all { KnowsAll facts.old known.old.steps }
     requires links { AreLinked facts.old.shape near.now.items }
     requires look { IsLook near.now.items known.old.steps look }
     requires marks { AreMarksOver facts.old.shape marks.old }
@@ -182,6 +184,7 @@ fn look_over(
 ) -> Result<(), RigFail>
     requires attached { shape_of (rig_state rig.old) ≡ Some facts.old.shape }
     requires known { IsKnown facts.old known.old }
+    requires all { KnowsAll facts.old known.old.steps }
     requires links { AreLinked facts.old.shape near.now.items }
     requires look { IsLook near.now.items known.old.steps look }
     requires marks { AreMarksOver facts.old.shape marks.old }
@@ -224,6 +227,7 @@ pub(crate) fn look_at(
 ) -> Result<(), RigFail>
     requires attached { shape_of (rig_state rig.old) ≡ Some facts.old.shape }
     requires known { IsKnown facts.old known.old }
+    requires all { KnowsAll facts.old known.old.steps }
     requires links { AreLinked facts.old.shape near.now.items }
     requires place { place < length known.old.steps }
     requires marks { AreMarksOver facts.old.shape marks.old }

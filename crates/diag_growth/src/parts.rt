@@ -5,9 +5,9 @@ ghost use Rattle.machine_shape.specs.Shape.{pin_wire, pins_of, wires_of};
 ghost use Rattle.machine_config.specs.Tests.{AreReleased};
 ghost use Rattle.rig.specs.Rig.{ForEach, shape_of};
 ghost use Rattle.diag_tests.specs.Routes.{IsRoute, cross_numbers};
-ghost use Rattle.diag_evidence.specs.Kept.{Advances, keeps_wire, keeps_pair};
-ghost use Rattle.diag_known.specs.Vocabulary.{IsKnown, HasWire, IsGood, IsBad, IsWay, AreWays};
-ghost use Rattle.diag_growth.specs.Partings.{AreLeft, IsListed, LeavesAt, IsParting, IsApartBeside};
+ghost use Rattle.diag_evidence.specs.Kept.{Advances, KeepsSet, KeepsTrial, keeps_wire};
+ghost use Rattle.diag_known.specs.Vocabulary.{IsKnown, HasWire, KnowsAll, IsBad, IsWay, AreWays};
+ghost use Rattle.diag_growth.specs.Partings.{AreLeft, IsListed, LeavesAt, IsParting, IsParted, IsApartBeside};
 
 use diag_evidence::Facts;
 use diag_evidence::laws::tests_by_lists_pass;
@@ -43,6 +43,7 @@ fn test_stuck(
     requires way { IsWay facts.old known.now.steps w.0 way.now }
     ensures kept { IfOk result (λ yes. IsTrue yes → keeps_wire facts.new w.0 ≡ true) }
     ensures bad_each { IfOk result (λ yes. ForEach (rig_state rig.new) (λ told. yes ≡ false → IsBad told facts.new known.now.steps w.0)) }
+    ensures trial { KeepsTrial facts.old facts.new }
     ensures advances { Advances (rig_state rig.old) (rig_state rig.new) facts.old facts.new }
     ensures loads { (rig_state rig.new).loads ≤ (rig_state rig.old).loads + 1 }
     ensures cause { IsErrOf result RigFail.Failed → Rose (rig_state rig.old).failures (rig_state rig.new).failures }
@@ -129,8 +130,10 @@ fn part_from(
     requires way { IsWay facts.old known.now.steps w.0 way.now }
     requires beside { IsParting facts.old known.now.steps w.0 way.now beside.now.walks.items (cross_numbers beside.now.ties.items) }
     requires new { ¬ HasWire known.now.steps w.0 }
+    requires tried { facts.old.trial ≡ Some w.0 }
     ensures apart { IfOk result (λ yes. IsTrue yes → IsApartBeside facts.new known.now.steps w.0 way.now) }
     ensures bad_each { IfOk result (λ yes. ForEach (rig_state rig.new) (λ told. yes ≡ false → IsBad told facts.new known.now.steps w.0)) }
+    ensures trial { KeepsTrial facts.old facts.new }
     ensures advances { Advances (rig_state rig.old) (rig_state rig.new) facts.old facts.new }
     ensures loads { (rig_state rig.new).loads ≤ (rig_state rig.old).loads + 1 }
     ensures cause { IsErrOf result RigFail.Failed → Rose (rig_state rig.old).failures (rig_state rig.new).failures }
@@ -155,8 +158,10 @@ fn part(
     requires known { IsKnown facts.old known.now }
     requires way { IsWay facts.old known.now.steps w.0 way.now }
     requires new { ¬ HasWire known.now.steps w.0 }
+    requires tried { facts.old.trial ≡ Some w.0 }
     ensures apart { IfOk result (λ yes. IsTrue yes → IsApartBeside facts.new known.now.steps w.0 way.now) }
     ensures bad_each { IfOk result (λ yes. ForEach (rig_state rig.new) (λ told. yes ≡ false → IsBad told facts.new known.now.steps w.0)) }
+    ensures trial { KeepsTrial facts.old facts.new }
     ensures advances { Advances (rig_state rig.old) (rig_state rig.new) facts.old facts.new }
     ensures loads { (rig_state rig.new).loads ≤ (rig_state rig.old).loads + 1 }
     ensures cause { IsErrOf result RigFail.Failed → Rose (rig_state rig.old).failures (rig_state rig.new).failures }
@@ -170,7 +175,7 @@ fn part(
     part_from(known, rig, facts, w, way, &beside)
 }
 
-/// Tests a wire by two ways to it. True exactly where it is kept then, and kept apart from each known wire.
+/// Tests a wire by two ways to it, and puts it on trial. True exactly where it is kept then, and its row has each known wire.
 pub(crate) fn is_good(
     known: &Known,
     rig: &mut Box<dyn Rig>,
@@ -183,8 +188,10 @@ pub(crate) fn is_good(
     requires known { IsKnown facts.old known.now }
     requires ways { AreWays facts.old known.now.steps w.0 left.now right.now }
     requires new { ¬ HasWire known.now.steps w.0 }
-    ensures good { IfOk result (λ yes. IsTrue yes → IsGood facts.new known.now.steps w.0) }
+    requires all { KnowsAll facts.old known.now.steps }
+    ensures good { IfOk result (λ yes. IsTrue yes → IsParted facts.new w.0) }
     ensures bad_each { IfOk result (λ yes. ForEach (rig_state rig.new) (λ told. yes ≡ false → IsBad told facts.new known.now.steps w.0)) }
+    ensures set { KeepsSet facts.old facts.new }
     ensures advances { Advances (rig_state rig.old) (rig_state rig.new) facts.old facts.new }
     ensures loads { (rig_state rig.new).loads ≤ (rig_state rig.old).loads + 3 }
     ensures cause { IsErrOf result RigFail.Failed → Rose (rig_state rig.old).failures (rig_state rig.new).failures }
@@ -193,6 +200,7 @@ pub(crate) fn is_good(
     if !kept {
         return Ok(false);
     }
+    facts.begin(w);
     let apart = part(known, rig, facts, w, left)?;
     if !apart {
         return Ok(false);
@@ -200,8 +208,8 @@ pub(crate) fn is_good(
     part(known, rig, facts, w, right)
 }
 
-/// Tests a pin of the machine by its one way, which is the pin alone. True exactly where it is kept then, and kept apart from each
-/// known wire.
+/// Tests a pin of the machine by its one way, which is the pin alone, and puts it on trial. True exactly where it is kept then, and its
+/// row has each known wire.
 pub(crate) fn is_good_pin(
     known: &Known,
     rig: &mut Box<dyn Rig>,
@@ -214,8 +222,10 @@ pub(crate) fn is_good_pin(
     requires pin { pin < pins_of facts.old.shape }
     requires wire { w.0 ≡ pin_wire facts.old.shape pin }
     requires new { ¬ HasWire known.now.steps w.0 }
-    ensures good { IfOk result (λ yes. IsTrue yes → IsGood facts.new known.now.steps w.0) }
+    requires all { KnowsAll facts.old known.now.steps }
+    ensures good { IfOk result (λ yes. IsTrue yes → IsParted facts.new w.0) }
     ensures bad_each { IfOk result (λ yes. ForEach (rig_state rig.new) (λ told. yes ≡ false → IsBad told facts.new known.now.steps w.0)) }
+    ensures set { KeepsSet facts.old facts.new }
     ensures advances { Advances (rig_state rig.old) (rig_state rig.new) facts.old facts.new }
     ensures loads { (rig_state rig.new).loads ≤ (rig_state rig.old).loads + 2 }
     ensures cause { IsErrOf result RigFail.Failed → Rose (rig_state rig.old).failures (rig_state rig.new).failures }
@@ -227,5 +237,6 @@ pub(crate) fn is_good_pin(
     if !kept {
         return Ok(false);
     }
+    facts.begin(w);
     part(known, rig, facts, w, &way)
 }

@@ -5,8 +5,8 @@ ghost use Rattle.base_io.specs.Counts.{Rose};
 ghost use Rattle.machine_shape.specs.Shape.{pins_of, pin_wire};
 ghost use Rattle.rig.specs.Rig.{ForEach, shape_of};
 ghost use Rattle.diag_evidence.specs.Kept.{Advances};
-ghost use Rattle.diag_known.specs.Vocabulary.{IsFieldOf, ClosedIf, GrowsIn, TakesFew, fresh, pins_in, AreLinked, IsKnown, HasWire};
-ghost use Rattle.diag_known.specs.Vocabulary.{AreMarksOver, Spends, SpendsFew};
+ghost use Rattle.diag_known.specs.Vocabulary.{IsFieldOf, ClosedIf, GrowsIn, TakesFew, fresh, pins_in, AreLinked, IsKnown, KnowsAll};
+ghost use Rattle.diag_known.specs.Vocabulary.{AreMarksOver, HasWire, Spends, SpendsFew};
 ghost use Rattle.diag_growth.specs.Grown.{IsGrown};
 ghost use Rattle.diag_growth.specs.Looks.{AreAllMarks, AreTried, Grows, IsLinking};
 
@@ -28,6 +28,7 @@ fn look_on(
 ) -> Result<(), RigFail>
     requires attached { shape_of (rig_state rig.old) ≡ Some facts.old.shape }
     requires known { IsKnown facts.old known.old }
+    requires all { KnowsAll facts.old known.old.steps }
     requires links { AreLinked facts.old.shape near.now.items }
     requires marks { AreMarksOver facts.old.shape marks.old }
     requires from { from ≤ length known.old.steps }
@@ -66,6 +67,7 @@ fn grow_pin(
 ) -> Result<(), RigFail>
     requires attached { shape_of (rig_state rig.old) ≡ Some facts.old.shape }
     requires known { IsKnown facts.old known.old }
+    requires all { KnowsAll facts.old known.old.steps }
     requires links { AreLinked facts.old.shape near.now.items }
     requires marks { AreMarksOver facts.old.shape marks.old }
     requires pin { pin < pins_of facts.old.shape }
@@ -100,9 +102,9 @@ fn grow_pin(
     look_on(known, rig, facts, marks, near, from)
 }
 
-/// Known wires grow in a field: until each wire of it that is clear, is shorted to no known wire, and is a pin of the machine or
-/// has two crosspoints of the field that aren't stuck to two different known wires, is known, and each crosspoint of the field
-/// between two known wires is kept unless it is stuck. What was known stays known, and what is new is of the field. What is kept
+/// Known wires, which are all of the set, grow in a field: until each wire of it that is clear, is shorted to no known wire, and is a pin
+/// of the machine or has two crosspoints of the field that aren't stuck to two different known wires, is known, and each crosspoint of
+/// the field between two known wires is kept unless it is stuck. What was known stays known, and what is new is of the field. What is kept
 /// costs nothing again: it takes at most 8 loads for each crosspoint of the field that the proof doesn't keep and 3 for each of its
 /// wires, less one for each pin of the machine in it, and without faults 2 and 3, less one for each such pin, whatever it answers.
 ///
@@ -117,8 +119,10 @@ pub fn grow(
 ) -> Result<(), RigFail>
     requires attached { shape_of (rig_state rig.old) ≡ Some facts.old.shape }
     requires known { IsKnown facts.old known.old }
+    requires all { KnowsAll facts.old known.old.steps }
     requires field { IsFieldOf facts.old.shape field.now }
     ensures known { IsKnown facts.new known.new }
+    ensures all { KnowsAll facts.new known.new.steps }
     ensures grows { GrowsIn field.now known.old.steps known.new.steps }
     ensures closed_each { OnOk result (ForEach (rig_state rig.new) (λ told. ClosedIf told facts.new field.now known.new.steps)) }
     ensures loads { (rig_state rig.new).loads + pins_in facts.old.shape field.now

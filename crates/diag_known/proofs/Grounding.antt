@@ -63,6 +63,7 @@ module _ {k : Kept} {n m : KnownWires} {left : List Bool} {feet : List (Option S
   good : IsGood k n.steps s.wire.0
   good = record {
     kept = g.kept s.wire.0 was;
+    of_set = g.of_set s.wire.0 was;
     apart = λ u has. g.pairs s.wire.0 u was (inr has) (λ e. g.fresh s.wire.0 was (subst (HasWire n.steps) e has));
   }
 
@@ -86,6 +87,7 @@ module _ {k : Kept} {n m : KnownWires} {left : List Bool} {feet : List (Option S
     room = g.room;
     fresh = λ w h has. fresh w (in_after left s.wire.0 w within h) (has_from w has);
     kept = λ w h. g.kept w (in_after left s.wire.0 w within h).1;
+    of_set = λ w h. g.of_set w (in_after left s.wire.0 w within h).1;
     pairs = λ w u h other differ. g.pairs w u (in_after left s.wire.0 w within h).1 (pairs u other) differ;
     found = λ w a e. let f = g.found w a e in record { between = f.between; kept = f.kept; stands = has_still a.wire.0 f.stands };
   }
@@ -148,6 +150,7 @@ module _ {k : Kept} {n : KnownWires} {left : List Bool} {feet more : List (Optio
     room = ap length put ∙ length-set feet w (Some a) ∙ g.room;
     fresh = g.fresh;
     kept = g.kept;
+    of_set = g.of_set;
     pairs = g.pairs;
     found = λ v b e. by v b e (ℕ_discrete v w);
   }
@@ -231,11 +234,12 @@ settled_none k near n left feet w x u b link kept = absurd (let e = b.early in l
 -- before anything stands
 pub ground_none : {k : Kept} {n : KnownWires} (wires : List Bool) (feet : List (Option Support)) (len : ℕ) → AreApart k wires → n.shape ≡ k.shape → n.steps ≡ [] → feet ≡ replicate len None → len ≡ wires_of k.shape → IsGround k n wires feet
 ground_none {k} {n} wires feet len apart shape steps none wide = record {
-  known = record { shape = shape; steps = λ i s here. absurd (let no_step : None ≡ Some s = subst (λ ss. slice_get ss i ≡ Some s) steps here in cc) };
+  known = record { shape = shape; of_set = λ w has. absurd (none_has w has); steps = λ i s here. absurd (let no_step : None ≡ Some s = subst (λ ss. slice_get ss i ≡ Some s) steps here in cc) };
   len = apart.len;
   room = ap length none ∙ length-replicate len None ∙ wide;
   fresh = λ w h has. absurd (none_has w has);
   kept = apart.kept;
+  of_set = apart.of_set;
   pairs = λ w u h other differ. pairs w u h other differ;
   found = λ w a e. absurd (let no_foot : None ≡ Some a = sym (no_foot_at w) ∙ e in cc);
 }

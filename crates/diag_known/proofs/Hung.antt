@@ -12,8 +12,8 @@ use Rattle.machine_config.specs.Vocabulary.{Configuration, among, IsWithin, Lead
 use Rattle.machine_config.proofs.Grouped.{LeadsTo-start, LeadsTo-end, LeadsTo-within}
 use Rattle.diag_tests.specs.Vocabulary.{Walk, IsRoute, cross_numbers, IsLoopConfig}
 use Rattle.diag_tests.proofs.Longer.{among_both}
-use Rattle.diag_evidence.specs.Vocabulary.{Kept, HoldsFor, IsMore, IsLoopBy, CrossPasses, wires_over}
-use Rattle.diag_evidence.proofs.Keeping.{holds_earlier}
+use Rattle.diag_evidence.specs.Vocabulary.{Kept, HoldsUntried, IsMore, IsLoopBy, CrossPasses, wires_over}
+use Rattle.diag_evidence.proofs.Keeping.{holds_earlier, untried_crosses}
 use Rattle.diag_evidence.proofs.Lists.{grown, loop_of_lists}
 use Rattle.diag_known.specs.Vocabulary.{KnownWires, HasWire, IsKnown, IsOffer, IsHanging, InSome, IsOn, IsHung, HangsNot, ArePulled, HasNoneBeside, reach_at, IsReached, AreTrees, IsTreeWalk, IsOnWalk, IsLinkTo, IsFit, IsFaulty, IsWay}
 use Rattle.diag_known.specs.declared.beside.Reach.{Reach}
@@ -121,7 +121,7 @@ way_known {k} {ss} {x} {q} way has u on = by_test (u == x) refl
     by_test false e = rests_known (way.wires u on (grind (arith, nat_tests, e)))
 
 module _ {k : Kept} {known : KnownWires} (is : IsKnown k known) {o : Offer} (offer : IsOffer k.shape known.steps o) {q : Walk} (way : IsWay k known.steps o.foot.wire.0 q) {routes : List Walk} {ties : List ℕ}
-    (h : IsHanging k known.steps o q routes ties) {f : Faults} (holds : HoldsFor k f) (fit : IsFit k.shape f known.steps o.wire.0) (free : stuck_cross f o.foot.cross.0 ≡ None) where
+    (h : IsHanging k known.steps o q routes ties) {f : Faults} (holds : HoldsUntried k f) (fit : IsFit k.shape f known.steps o.wire.0) (free : stuck_cross f o.foot.cross.0 ≡ None) where
   abbrev w : ℕ
   w = o.wire.0
 
@@ -237,7 +237,7 @@ module _ {k : Kept} {known : KnownWires} (is : IsKnown k known) {o : Offer} (off
     pub hung_loop : (g : Configuration) → IsLoopConfig k.shape q q ties g → IsLoop f g c hung (among q.wires) walk_to.route.pin q.pin
     hung_loop g laid = loop_of_lists f g near q ties c hung (among q.wires)
         (turn (λ m. IsLoopConfig m near q ties g) (laid_near laid)) (turn (λ m. IsRoute m near) near_route) (turn (λ m. IsRoute m q) way.route)
-        (λ y on. holds.crosses y (tree.crosses y (start.some_crosses y on))) (λ y on. holds.crosses y (way.crosses y on)) tied (turn (λ m. IsLoopBy m f near q ties c hung (among q.wires)) hung_by)
+        (λ y on. untried_crosses k holds y (tree.crosses y (start.some_crosses y on))) (λ y on. untried_crosses k holds y (way.crosses y on)) tied (turn (λ m. IsLoopBy m f near q ties c hung (among q.wires)) hung_by)
       where
         turn : (P : Shape → Type 0) → P k.shape → P g.shape
         turn P p = subst P (sym laid.shape) p

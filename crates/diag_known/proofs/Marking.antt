@@ -9,6 +9,7 @@ use Rattle.machine_meaning.specs.Faults.{Faults, IsFaultless}
 use Rattle.machine_meaning.proofs.Clear.{clear_of_sound}
 use Rattle.machine_meaning.proofs.Faultless.{all_sound}
 use Rattle.diag_evidence.specs.Kept.{Kept, HoldsFor, IsMore, keeps_cross}
+use Rattle.diag_evidence.proofs.Keeping.{holds_untried}
 use Rattle.diag_known.specs.Vocabulary.{how_many, HasWire, is_spent, most_loads, few_loads, barred_pins, TakesForWire, Spends, SpendsFew, AreMarks, AreMarksOver, IsFit}
 use Rattle.diag_known.specs.declared.marks.Marks.{Marks}
 use Rattle.diag_known.specs.declared.verified_wire.VerifiedWire.{VerifiedWire}
@@ -151,7 +152,7 @@ unspent : {told : Option Faults} {k : Kept} {ss : List VerifiedWire} {s : Marks}
 unspent {k = k} {s = s} {f = f} x are fresh is none holds = by_bit (is_spent s x) refl
   where
     by_bit : (b : Bool) → is_spent s x ≡ b → b ≡ false
-    by_bit true e = absurd (false≢true (sym fresh ∙ are.spent f is none holds x e))
+    by_bit true e = absurd (false≢true (sym fresh ∙ are.spent f is none (holds_untried holds) x e))
     by_bit false e = refl
 
 pins_same : (m : Shape) (s t : Marks) → t.barred ≡ s.barred → barred_pins m t ≡ barred_pins m s

@@ -6,6 +6,7 @@ use Rattle.base_bits.specs.Numbers.{has_number}
 use Rattle.machine_shape.specs.declared.Shape.{Shape}
 use Rattle.machine_meaning.specs.Faults.{Faults}
 use Rattle.diag_evidence.specs.Kept.{Kept, HoldsFor, IsMore, keeps_cross}
+use Rattle.diag_evidence.proofs.Keeping.{holds_untried}
 use Rattle.diag_known.specs.Vocabulary.{barred_pins, is_spent, AreMarks, AreMarksOver, IsOfOffer, OffersAtMost, OffersOnly, SpendsFew, SpendsOn, IsOffer, IsPlaced}
 use Rattle.diag_known.specs.declared.marks.Marks.{Marks}
 use Rattle.diag_known.specs.declared.offers.Offer.{Offer}
@@ -76,7 +77,7 @@ few_both {ss = ss} {o = o} a b c are offer more later mid (inl first) second =
 few_both a b c are offer more later mid (inr first) (inl second) = few_then more later (few_own are offer first.fresh first.marks first.loads) (few_none second.0 second.1)
 few_both {o = o} {s = s} a b c are offer more later mid (inr first) (inr second) = record {
   few = λ f is none holds.
-      absurd (false≢true (sym second.fresh ∙ mid.spent f is none (later f is holds) o.foot.cross.0 (subst (λ v. is_spent v o.foot.cross.0 ≡ true) (sym first.marks)
+      absurd (false≢true (sym second.fresh ∙ mid.spent f is none (holds_untried (later f is holds)) o.foot.cross.0 (subst (λ v. is_spent v o.foot.cross.0 ≡ true) (sym first.marks)
       (offered_one s o.foot.cross.0 (subst (λ n. o.foot.cross.0 < n) (sym are.over.offered) offer.foot.within)).this)));
 }
 

@@ -11,8 +11,8 @@ use Rattle.machine_config.specs.Vocabulary.{among, IsWithin, ends, goes}
 use Rattle.machine_config.proofs.Grouped.{LeadsTo-end}
 use Rattle.diag_tests.specs.Routes.{Walk}
 use Rattle.diag_tests.proofs.Longer.{among-push, among_both}
-use Rattle.diag_evidence.specs.Vocabulary.{Kept, HoldsFor, IsMore, keeps_cross, keeps_wire, keeps_pair, IsLoopBy, LoopPasses}
-use Rattle.diag_evidence.proofs.Keeping.{pair_turned, holds_earlier}
+use Rattle.diag_evidence.specs.Vocabulary.{Kept, HoldsUntried, IsMore, keeps_cross, keeps_wire, keeps_pair, IsLoopBy, LoopPasses}
+use Rattle.diag_evidence.proofs.Keeping.{pair_turned, holds_earlier, untried_crosses, untried_wires, untried_pairs}
 use Rattle.diag_known.specs.Vocabulary.{KnownWires, IsAt, HasWire, IsKnown, RestsOn, IsKnownRoute, AreRoutesTo, IsKeptRoute, IsFit, IsKeptUnlessStuck, IsLost}
 use Rattle.diag_known.specs.declared.verified_wire.VerifiedWire.{VerifiedWire}
 use Rattle.diag_known.proofs.Places.{at_one}
@@ -68,12 +68,12 @@ module _ {k : Kept} {known : KnownWires} (is : IsKnown k known) where
       by_less (no l) (yes o) = pair_turned k u v ∙ kept_later g h o
       by_less (no l) (no o) = let same : g.place ≡ h.place = omega arith in absurd (differ (at_one h.at (subst (λ i. IsAt known.steps i v) same g.at)))
 
-  module _ {f : Faults} (holds : HoldsFor k f) where
+  module _ {f : Faults} (holds : HoldsUntried k f) where
     pub known_clear : {u : ℕ} → HasWire known.steps u → IsClear k.shape f u
-    known_clear {u} h = holds.wires u (known_wire h)
+    known_clear {u} h = untried_wires k holds u (known_wire h)
 
     pub known_unshorted : {u v : ℕ} → HasWire known.steps u → HasWire known.steps v → u ≢ v → ¬ Shorted k.shape f u v
-    known_unshorted {u} {v} h g differ = holds.pairs u v (known_pair h g differ)
+    known_unshorted {u} {v} h g differ = untried_pairs k holds u v differ (is.of_set u h) (is.of_set v g)
 
     module _ {a b : ℕ} {p q : Walk} (routes : AreRoutesTo k known.steps a b p q) where
       left_known : (w : ℕ) → among p.wires w ≡ true → HasWire known.steps w
@@ -133,7 +133,7 @@ module _ {k : Kept} {known : KnownWires} (is : IsKnown k known) where
         rights = g ∷ [];
         right_way = q.end ∷ w ∷ [];
         leads_right = goes within over_end ends;
-        right_ties = ((among_last (x ∷ []) g, (other_cross, holds.crosses g kept)), tt);
+        right_ties = ((among_last (x ∷ []) g, (other_cross, untried_crosses k holds g kept)), tt);
       }
         where
           over_end : Ends (ends_of k.shape g) q.end w

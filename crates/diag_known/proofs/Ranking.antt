@@ -1,11 +1,15 @@
 -- The places of wires, where one more is known.
-use Rattle.std.proofs.Common.{◌≡◌, ◌≢◌, ◌⊎◌, ℕ, ◌+◌, ◌*◌, ◌<◌, ◌≤◌, Some, None, Option, List, [], ◌∷◌, ◌++◌, length, refl, sym, ap, ◌∙◌, subst, inl, inr, arith, set, get_or, slice_get, replicate, IfNone, is_some, if◌then◌else◌}
+use Rattle.std.proofs.Common.{◌≡◌, ◌≢◌, ◌⊎◌, ℕ, ◌+◌, ◌*◌, ◌<◌, ◌≤◌, Bool, true, false, Some, None, Option, List, [], ◌∷◌, ◌++◌, ◌||◌, length, refl, sym, ap, ◌∙◌, subst, inl, inr, arith, set, get_or, slice_get, replicate, IfNone, is_some, if◌then◌else◌, ◌==◌}
 use Rattle.std.proofs.lemmas.List.{get_or-set_same, get_or-set_other, get_or-replicate, get_or_past, length-replicate, length-set, length-append}
 use Rattle.std.specs.List.{count_by}
 use Rattle.std.proofs.lemmas.List.Sums.{sum_by-set, count_by-le-length}
 use Rattle.std.proofs.lemmas.List.Folds.{sum_by-replicate}
+use Rattle.std.proofs.lemmas.Bool.Decides.{nat_tests}
+use Rattle.std.proofs.lemmas.Bool.{false≢true}
 use native.Mathlib.Decide.{dec_lt, ℕ_discrete}
+use Rattle.base_bits.specs.Numbers.{has_number}
 use Rattle.machine_shape.specs.Shape.{wires_of}
+use Rattle.diag_evidence.proofs.KeptLemmas.{mark_set, no_mark}
 use Rattle.diag_known.specs.Vocabulary.{KnownWires, IsAt, HasWire, rank_in, AreRanks}
 use Rattle.diag_known.specs.declared.known.Known.TheInside.{Inside}
 use Rattle.diag_known.specs.declared.verified_wire.VerifiedWire.{VerifiedWire}
@@ -83,26 +87,41 @@ no_rank a r w known e within None is =
     λ h. let at : HasWire a.steps.items w = subst (λ (k : KnownWires). HasWire k.steps w) (sym e) h in
     let some : rank_in a.ranks.items w ≡ Some at.place = r.whole w at.place at.at in cc
 
-pub ranks_same : (a b : Inside) → AreRanks a → b.shape ≡ a.shape → b.ranks.items ≡ a.ranks.items → b.steps.items ≡ a.steps.items → AreRanks b
-ranks_same a b r shape ranks steps = record {
+pub ranks_same : (a b : Inside) → AreRanks a → b.shape ≡ a.shape → b.ranks.items ≡ a.ranks.items → b.steps.items ≡ a.steps.items → b.wires ≡ a.wires → AreRanks b
+ranks_same a b r shape ranks steps wires = record {
   wide = ap length ranks ∙ r.wide ∙ ap wires_of (sym shape);
   right = same.right;
   whole = same.whole;
   counted = ap (count_by is_some) ranks ∙ r.counted ∙ ap length (sym steps);
+  marks = ap length wires ∙ r.marks ∙ ap wires_of (sym shape);
+  marked = λ w. ap (λ (ws : List Bool). has_number ws w) wires ∙ r.marked w ∙ ap (λ (ns : List (Option ℕ)). is_some (rank_in ns w)) (sym ranks);
 }
   where
     same : AreRanksOf b.ranks.items b.steps.items
     same = subst (λ ss. AreRanksOf b.ranks.items ss) (sym steps) (subst (λ ns. AreRanksOf ns a.steps.items) (sym ranks) (of_inside a r))
 
 pub ranks_then : (a b : Inside) → AreRanks a → (s : VerifiedWire) → s.wire.0 < length a.ranks.items → ¬ HasWire a.steps.items s.wire.0 →
-    b.shape ≡ a.shape → b.steps.items ≡ a.steps.items ++ s ∷ [] → (n : ℕ) → n ≡ length a.steps.items → b.ranks.items ≡ set a.ranks.items s.wire.0 (Some n) → AreRanks b
-ranks_then a b r s within new shape steps n len ranks = record {
+    b.shape ≡ a.shape → b.steps.items ≡ a.steps.items ++ s ∷ [] → (n : ℕ) → n ≡ length a.steps.items → b.ranks.items ≡ set a.ranks.items s.wire.0 (Some n) → b.wires ≡ set a.wires s.wire.0 true → AreRanks b
+ranks_then a b r s within new shape steps n len ranks wires = record {
   wide = ap length ranks ∙ length-set a.ranks.items s.wire.0 (Some n) ∙ r.wide ∙ ap wires_of (sym shape);
   right = next.right;
   whole = next.whole;
   counted = ap (count_by is_some) ranks ∙ one_more ∙ ap length (sym steps);
+  marks = ap length wires ∙ length-set a.wires s.wire.0 true ∙ r.marks ∙ ap wires_of (sym shape);
+  marked = λ w. ap (λ (ws : List Bool). has_number ws w) wires ∙ mark_set a.wires s.wire.0 w marked_within ∙ by_wire w (ℕ_discrete w s.wire.0) ∙ ap (λ (ns : List (Option ℕ)). is_some (rank_in ns w)) (sym ranks);
 }
   where
+    marked_within : s.wire.0 < length a.wires
+    marked_within = let wide = r.wide in let marks = r.marks in omega (arith, within, wide, marks)
+
+    by_wire : (w : ℕ) → Dec (w ≡ s.wire.0) → ((s.wire.0 == w) || has_number a.wires w) ≡ is_some (rank_in (set a.ranks.items s.wire.0 (Some n)) w)
+    by_wire w (yes e) =
+        let on : (s.wire.0 == w) ≡ true = grind (arith, nat_tests, e) in
+        ap (λ t. t || has_number a.wires w) on ∙ sym (ap (λ v. is_some (rank_in (set a.ranks.items s.wire.0 (Some n)) v)) e ∙ ap is_some (get_or-set_same a.ranks.items s.wire.0 (Some n) None within))
+    by_wire w (no other) =
+        let off : (s.wire.0 == w) ≡ false = grind (arith, nat_tests, other) in
+        ap (λ t. t || has_number a.wires w) off ∙ r.marked w ∙ sym (ap is_some (get_or-set_other a.ranks.items s.wire.0 w (Some n) None other))
+
     unranked : get_or {A = Option ℕ} a.ranks.items s.wire.0 None ≡ None
     unranked = by_rank (rank_in a.ranks.items s.wire.0) refl
       where
@@ -125,14 +144,23 @@ ranks_then a b r s within new shape steps n len ranks = record {
     next = subst (λ ss. AreRanksOf b.ranks.items ss) (sym steps)
         (subst (λ ns. AreRanksOf ns (a.steps.items ++ s ∷ [])) (sym then_ranks) (ranks_learnt a.ranks.items a.steps.items s (of_inside a r) within new))
 
-pub ranks_none : (a : Inside) → a.ranks.items ≡ replicate (wires_of a.shape) None → a.steps.items ≡ [] → AreRanks a
-ranks_none a ranks steps = record {
+pub ranks_none : (a : Inside) → a.ranks.items ≡ replicate (wires_of a.shape) None → a.steps.items ≡ [] → a.wires ≡ replicate (wires_of a.shape) false → AreRanks a
+ranks_none a ranks steps wires = record {
   wide = ap length ranks ∙ length-replicate (wires_of a.shape) None;
   right = none.right;
   whole = none.whole;
   counted = ap (count_by is_some) ranks ∙ sum_by-replicate (λ (o : Option ℕ). if is_some o then 1 else 0) (wires_of a.shape) None ∙ zero_times ∙ ap length (sym steps);
+  marks = ap length wires ∙ length-replicate (wires_of a.shape) false;
+  marked = λ w. ap (λ (ws : List Bool). has_number ws w) wires ∙ no_mark (wires_of a.shape) w ∙ sym (ap is_some (unranked w));
 }
   where
+    unranked : (w : ℕ) → rank_in a.ranks.items w ≡ None
+    unranked w = by_rank (rank_in a.ranks.items w) refl
+      where
+        by_rank : (o : Option ℕ) → rank_in a.ranks.items w ≡ o → o ≡ None
+        by_rank None e = refl
+        by_rank (Some i) e = absurd (let at = none.right w i e in let h : None ≡ Some at.step = sym (ap (λ ss. slice_get ss i) steps) ∙ at.here in cc)
+
     none : AreRanksOf a.ranks.items a.steps.items
     none = subst (λ ss. AreRanksOf a.ranks.items ss) (sym steps) (subst (λ ns. AreRanksOf ns []) (sym ranks) (no_ranks (wires_of a.shape)))
 
@@ -142,3 +170,15 @@ ranks_none a ranks steps = record {
 -- no more wires are known than there are
 pub ranks_few : (a : Inside) → AreRanks a → length a.steps.items ≤ wires_of a.shape
 ranks_few a r = let few = count_by-le-length is_some a.ranks.items in let counted = r.counted in let wide = r.wide in omega (arith, few, counted, wide)
+
+-- the marks are of the known wires
+module _ (a : Inside) (r : AreRanks a) (known : KnownWires) (is : record { shape = a.shape; steps = a.steps.items } ≡ known) (w : ℕ) where
+  pub marked_has : has_number a.wires w ≡ true → HasWire known.steps w
+  marked_has on = subst (λ (k : KnownWires). HasWire k.steps w) is (by_rank (rank_in a.ranks.items w) refl)
+    where
+      by_rank : (o : Option ℕ) → rank_in a.ranks.items w ≡ o → HasWire a.steps.items w
+      by_rank None e = absurd (false≢true (sym (r.marked w ∙ ap is_some e) ∙ on))
+      by_rank (Some i) e = record { place = i; at = r.right w i e }
+
+  pub has_marked : HasWire known.steps w → has_number a.wires w ≡ true
+  has_marked has = let h : HasWire a.steps.items w = subst (λ (k : KnownWires). HasWire k.steps w) (sym is) has in r.marked w ∙ ap is_some (r.whole w h.place h.at)

@@ -8,7 +8,7 @@ use Rattle.base_bits.specs.Numbers.{has_number}
 use Rattle.machine_shape.specs.declared.Shape.{Shape}
 use Rattle.machine_shape.specs.Shape.{Ends, in_order, turned, ends_of, crosses_of}
 use Rattle.machine_meaning.specs.Faults.{Faults, IsFaultless}
-use Rattle.diag_evidence.specs.Kept.{Kept, HoldsFor, IsMore, Gains, one_cross, keeps_cross}
+use Rattle.diag_evidence.specs.Kept.{Kept, HoldsUntried, IsMore, Gains, one_cross, keeps_cross}
 use Rattle.diag_evidence.proofs.Keeping.{holds_earlier}
 use Rattle.diag_known.specs.Vocabulary.{HasWire, is_spent, IsSecondMark, AreMarks, AreMarksOver, OffersAtMost, IsLost, IsLinkTo, IsKeptUnlessStuck, IsFaulty}
 use Rattle.diag_known.specs.declared.marks.Marks.{Marks}
@@ -68,8 +68,8 @@ marks_still {told} {k} {l} {ss} {s} more are = subst (λ rs. AreMarks told l rs 
 
 -- a mark is set, at a crosspoint that without faults is kept now
 module _ {told : Option Faults} {k l : Kept} {ss : List VerifiedWire} {s : Marks} (x : ℕ) (are : AreMarks told k ss s) (more : IsMore k l)
-    (kept : (f : Faults) → told ≡ Some f → IsFaultless f → HoldsFor l f → keeps_cross l x ≡ true) where
-  spent_one : {new : Marks} → MarksOne x s new → (f : Faults) → told ≡ Some f → IsFaultless f → HoldsFor l f → (y : ℕ) → is_spent new y ≡ true → keeps_cross l y ≡ true
+    (kept : (f : Faults) → told ≡ Some f → IsFaultless f → HoldsUntried l f → keeps_cross l x ≡ true) where
+  spent_one : {new : Marks} → MarksOne x s new → (f : Faults) → told ≡ Some f → IsFaultless f → HoldsUntried l f → (y : ℕ) → is_spent new y ≡ true → keeps_cross l y ≡ true
   spent_one one f is none holds y on = by_mark (one.only y on)
     where
       by_mark : (is_spent s y ≡ true) ⊎ (x ≡ y) → keeps_cross l y ≡ true
@@ -120,7 +120,7 @@ marks_barred {told} {k} {ss} {s} {t} w are e = subst (AreMarks told k ss) (sym e
 -- a toggle that is bound to pass without faults
 pub kept_by : (told : Option Faults) (l : Kept) (x : ℕ) {E : Type 0} (r : Result Bool E) → IfOk r (λ yes. IsTrue yes → keeps_cross l x ≡ true) →
     IfOk r (λ yes. yes ≡ false → IsFaulty told l) →
-    OnOk r ((f : Faults) → told ≡ Some f → IsFaultless f → HoldsFor l f → keeps_cross l x ≡ true)
+    OnOk r ((f : Faults) → told ≡ Some f → IsFaultless f → HoldsUntried l f → keeps_cross l x ≡ true)
 kept_by told l x (Ok true) kept none = λ f is fault holds. kept refl
 kept_by told l x (Ok false) kept none = λ f is fault holds. absurd ((none refl).at f is fault holds)
 kept_by told l x (Err e) kept none = tt
@@ -139,7 +139,7 @@ faulty_later more p = record { at = λ f is none holds. p.at f is none (holds_ea
 
 -- .. the same for each of some faults
 pub kept_each : (X : Faults → Type 0) (k l : Kept) (x : ℕ) {E : Type 0} (r : Result Bool E) → IsMore k l → IfOk r (λ yes. IsTrue yes → keeps_cross l x ≡ true) →
-    IfOk r (λ yes. (f : Faults) → X f → yes ≡ false → IsFaulty (Some f) k) → OnOk r ((f : Faults) → X f → (h : Faults) → Some f ≡ Some h → IsFaultless h → HoldsFor l h → keeps_cross l x ≡ true)
+    IfOk r (λ yes. (f : Faults) → X f → yes ≡ false → IsFaulty (Some f) k) → OnOk r ((f : Faults) → X f → (h : Faults) → Some f ≡ Some h → IsFaultless h → HoldsUntried l h → keeps_cross l x ≡ true)
 kept_each X k l x {E} (Ok true) more kept none = λ f e. kept_by (Some f) l x {E = E} (Ok true) kept (λ is_no. faulty_later more (none f e is_no))
 kept_each X k l x {E} (Ok false) more kept none = λ f e. kept_by (Some f) l x {E = E} (Ok false) kept (λ is_no. faulty_later more (none f e is_no))
 kept_each X k l x (Err e) more kept none = tt

@@ -5,7 +5,7 @@ use Rattle.base_bits.specs.Numbers.{has_number, size_of}
 use Rattle.machine_shape.specs.declared.Shape.{Shape}
 use Rattle.machine_shape.specs.Shape.{wires_of, crosses_of, pins_of, pin_wire, ends_of}
 use Rattle.machine_meaning.specs.Vocabulary.{Faults, IsFaultless, stuck_cross, IsClear, IsAlone, HasFeet}
-use Rattle.diag_evidence.specs.Kept.{Kept, HoldsFor, keeps_cross}
+use Rattle.diag_evidence.specs.Kept.{Kept, HoldsFor, HoldsUntried, keeps_cross}
 use Rattle.diag_known.specs.Known.{HasWire}
 use Rattle.diag_known.specs.declared.verified_wire.VerifiedWire.{VerifiedWire}
 use Rattle.diag_known.specs.declared.field.Field.{Field}
@@ -26,7 +26,7 @@ pub record IsClosed (k : Kept) (f : Faults) (a : Field) (known : ℕ → Type 0)
       stuck_cross f x ≡ None → keeps_cross k x ≡ true
 
 pub record ClosedIf (told : Option Faults) (k : Kept) (a : Field) (ss : List VerifiedWire) : Type 0 where
-  pub at : (f : Faults) → told ≡ Some f → HoldsFor k f → IsClosed k f a (HasWire ss)
+  pub at : (f : Faults) → told ≡ Some f → HoldsUntried k f → IsClosed k f a (HasWire ss)
 
 -- what was known still is, and what is new is of the field
 pub record GrowsIn (a : Field) (old new : List VerifiedWire) : Type 0 where

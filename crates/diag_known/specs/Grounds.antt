@@ -4,7 +4,7 @@ use Rattle.std.specs.Prelude.{length, slice_get, slice_index_or}
 use Rattle.base_bits.specs.Numbers.{has_number, size_of}
 use Rattle.machine_shape.specs.declared.Shape.{Shape}
 use Rattle.machine_shape.specs.Shape.{Ends, ends_of, crosses_of, wires_of}
-use Rattle.diag_evidence.specs.Kept.{Kept, keeps_cross, keeps_wire, keeps_pair}
+use Rattle.diag_evidence.specs.Kept.{Kept, is_apart, keeps_cross, keeps_wire, keeps_pair}
 use Rattle.diag_known.specs.Known.{KnownWires, IsAt, IsBefore, HasWire, IsKnown, InSet}
 use Rattle.diag_known.specs.Linked.{list_at, HasLink}
 use Rattle.diag_known.specs.declared.links.Near.{Near}
@@ -31,14 +31,15 @@ pub record IsFootTo (k : Kept) (ss : List VerifiedWire) (w : ℕ) (a : Support) 
   pub kept : keeps_cross k a.cross.0 ≡ true
   pub stands : HasWire ss a.wire.0
 
--- Some wires stand, others are left; all are kept, and each one that is left is kept apart from all others. Of some that are left a
--- foot was found.
+-- Some wires stand, others are left; all are kept and of the set, and so each one that is left is kept apart from all others. Of some
+-- that are left a foot was found.
 pub record IsGround (k : Kept) (n : KnownWires) (left : List Bool) (feet : List (Option Support)) : Type 0 where
   pub known : IsKnown k n
   pub len : length left ≡ wires_of k.shape
   pub room : length feet ≡ wires_of k.shape
   pub fresh : (w : ℕ) → InSet left w → ¬ HasWire n.steps w
   pub kept : (w : ℕ) → InSet left w → keeps_wire k w ≡ true
+  pub of_set : (w : ℕ) → InSet left w → is_apart k w ≡ true
   pub pairs : (w u : ℕ) → InSet left w → InSet left u ⊎ HasWire n.steps u → u ≢ w → keeps_pair k u w ≡ true
   pub found : (w : ℕ) (a : Support) → foot_at feet w ≡ Some a → IsFootTo k n.steps w a
 

@@ -4,7 +4,7 @@ use Rattle.std.specs.Prelude.{◌≡◌, ◌≢◌, ℕ, ◌<◌, Bool, true, So
 use Rattle.base_bits.specs.Numbers.{has_number}
 use Rattle.machine_shape.specs.declared.Shape.{Shape}
 use Rattle.machine_shape.specs.Shape.{Ends, ends_of, pin_wire, pins_of, crosses_of, wires_of}
-use Rattle.diag_evidence.specs.Kept.{Kept, keeps_cross, keeps_wire, keeps_pair}
+use Rattle.diag_evidence.specs.Kept.{Kept, is_apart, keeps_cross, keeps_wire, keeps_pair}
 use Rattle.diag_known.specs.declared.verified_wire.Support.{Support}
 use Rattle.diag_known.specs.declared.verified_wire.SupportedBy.{SupportedBy}
 use Rattle.diag_known.specs.declared.verified_wire.SupportedBy.TheVariants as stand
@@ -49,14 +49,20 @@ pub record IsKnownStep (k : Kept) (ss : List VerifiedWire) (i : ℕ) (s : Verifi
   pub apart : (u : ℕ) → IsBefore ss i u → keeps_pair k u s.wire.0 ≡ true
   pub stands : Stands k ss i s.wire.0 s.stand
 
--- these wires are known by a proof
+-- these wires are known by a proof, and of its set
 pub record IsKnown (k : Kept) (known : KnownWires) : Type 0 where
   pub shape : known.shape ≡ k.shape
+  pub of_set : (w : ℕ) → HasWire known.steps w → is_apart k w ≡ true
   pub steps : (i : ℕ) (s : VerifiedWire) → slice_get known.steps i ≡ Some s → IsKnownStep k known.steps i s
 
--- the wire is kept, and kept apart from each known one
+-- all wires of the set are known
+abbrev pub KnowsAll : Kept → List VerifiedWire → Type 0
+KnowsAll k ss = (w : ℕ) → is_apart k w ≡ true → HasWire ss w
+
+-- the wire is kept and of the set, and so kept apart from each known one
 pub record IsGood (k : Kept) (ss : List VerifiedWire) (w : ℕ) : Type 0 where
   pub kept : keeps_wire k w ≡ true
+  pub of_set : is_apart k w ≡ true
   pub apart : (u : ℕ) → HasWire ss u → keeps_pair k u w ≡ true
 
 -- the wires at two places, where both are known
@@ -71,8 +77,9 @@ IsKeptCrossOf k x = (x < crosses_of k.shape) × (keeps_cross k x ≡ true)
 abbrev pub InSet : List Bool → ℕ → Type 0
 InSet wires w = has_number wires w ≡ true
 
--- they are kept, and each two of them kept apart
+-- they are kept and of the set, and so each two of them kept apart
 pub record AreApart (k : Kept) (wires : List Bool) : Type 0 where
   pub len : length wires ≡ wires_of k.shape
   pub kept : (w : ℕ) → InSet wires w → keeps_wire k w ≡ true
+  pub of_set : (w : ℕ) → InSet wires w → is_apart k w ≡ true
   pub pairs : (w u : ℕ) → InSet wires w → InSet wires u → u ≢ w → keeps_pair k u w ≡ true

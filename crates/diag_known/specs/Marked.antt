@@ -4,7 +4,7 @@ use Rattle.base_bits.specs.Numbers.{has_number}
 use Rattle.machine_shape.specs.declared.Shape.{Shape}
 use Rattle.machine_shape.specs.Shape.{Ends, ends_of, pin_wire, pins_of, wires_of, crosses_of}
 use Rattle.machine_meaning.specs.Faults.{Faults, IsFaultless}
-use Rattle.diag_evidence.specs.Kept.{Kept, HoldsFor, keeps_cross}
+use Rattle.diag_evidence.specs.Kept.{Kept, HoldsFor, HoldsUntried, keeps_cross}
 use Rattle.diag_known.specs.Field.{how_many}
 use Rattle.diag_known.specs.Known.{HasWire}
 use Rattle.diag_known.specs.Offers.{InSome, HasNoSecond}
@@ -65,7 +65,7 @@ pub record AreMarks (told : Option Faults) (k : Kept) (ss : List VerifiedWire) (
   pub over : AreMarksOver k.shape s
   pub seconds : (x : ℕ) → has_number s.second x ≡ true → IsSecondMark told k ss x
   pub joined : (x : ℕ) → has_number s.between x ≡ true → IsKeptUnlessStuck told k x
-  pub spent : (f : Faults) → told ≡ Some f → IsFaultless f → HoldsFor k f → (x : ℕ) → is_spent s x ≡ true → keeps_cross k x ≡ true
+  pub spent : (f : Faults) → told ≡ Some f → IsFaultless f → HoldsUntried k f → (x : ℕ) → is_spent s x ≡ true → keeps_cross k x ≡ true
 
 -- a crosspoint of the offer
 abbrev pub IsOfOffer : Offer → ℕ → Type 0

@@ -6,7 +6,7 @@ use Rattle.machine_shape.specs.Shape.{wires_of}
 use Rattle.machine_meaning.specs.Vocabulary.{Pins, Faults, stuck_cross}
 use Rattle.machine_config.specs.Groups.{among}
 use Rattle.diag_tests.specs.Routes.{Walk}
-use Rattle.diag_evidence.specs.Kept.{Kept, HoldsFor, keeps_cross}
+use Rattle.diag_evidence.specs.Kept.{Kept, HoldsUntried, keeps_cross}
 use Rattle.diag_known.specs.Known.{HasWire}
 use Rattle.diag_known.specs.Reaches.{reach_at, IsReached, AreTrees, AreWalks}
 use Rattle.diag_known.specs.Trials.{IsLinkTo, IsFit}
@@ -27,7 +27,7 @@ pub record IsOffer (m : Shape) (ss : List VerifiedWire) (o : Offer) : Type 0 whe
 
 -- where what is kept is true of the faults, one of the two crosspoints is stuck, or the wire isn't fit
 pub record AreLost (told : Option Faults) (k : Kept) (ss : List VerifiedWire) (w x y : ℕ) : Type 0 where
-  pub at : (f : Faults) → told ≡ Some f → HoldsFor k f → IsFit k.shape f ss w → stuck_cross f x ≡ None → stuck_cross f y ≡ None → ⊥
+  pub at : (f : Faults) → told ≡ Some f → HoldsUntried k f → IsFit k.shape f ss w → stuck_cross f x ≡ None → stuck_cross f y ≡ None → ⊥
 
 -- the crosspoint and each other one are lost
 pub record HasNoSecond (told : Option Faults) (k : Kept) (ss : List VerifiedWire) (o : Offer) : Type 0 where

@@ -5,7 +5,7 @@ use Rattle.machine_shape.specs.Shape.{Ends, ends_of, crosses_of}
 use Rattle.machine_meaning.specs.Vocabulary.{Faults, IsFaultless, stuck_cross, IsClear, IsAlone}
 use Rattle.machine_config.specs.Groups.{among}
 use Rattle.diag_tests.specs.Routes.{Walk, IsRoute}
-use Rattle.diag_evidence.specs.Kept.{Kept, HoldsFor, keeps_cross}
+use Rattle.diag_evidence.specs.Kept.{Kept, HoldsUntried, keeps_cross}
 use Rattle.diag_known.specs.Known.{HasWire}
 use Rattle.diag_known.specs.declared.verified_wire.Support.{Support}
 use Rattle.diag_known.specs.declared.verified_wire.VerifiedWire.{VerifiedWire}
@@ -26,19 +26,19 @@ pub record IsFit (m : Shape) (f : Faults) (ss : List VerifiedWire) (w : ℕ) : T
   pub clear : IsClear m f w
   pub alone : IsAlone m f (HasWire ss) w
 
--- Where what is kept is true of the faults ..
+-- Where what is kept is true of the faults, the row of a wire on trial left out ..
 
 -- .. the crosspoint is kept, unless it is stuck
 pub record IsKeptUnlessStuck (told : Option Faults) (k : Kept) (x : ℕ) : Type 0 where
-  pub at : (f : Faults) → told ≡ Some f → HoldsFor k f → stuck_cross f x ≡ None → keeps_cross k x ≡ true
+  pub at : (f : Faults) → told ≡ Some f → HoldsUntried k f → stuck_cross f x ≡ None → keeps_cross k x ≡ true
 
 -- .. the crosspoint is stuck, or the wire isn't fit
 pub record IsLost (told : Option Faults) (k : Kept) (ss : List VerifiedWire) (w x : ℕ) : Type 0 where
-  pub at : (f : Faults) → told ≡ Some f → HoldsFor k f → IsFit k.shape f ss w → stuck_cross f x ≡ None → ⊥
+  pub at : (f : Faults) → told ≡ Some f → HoldsUntried k f → IsFit k.shape f ss w → stuck_cross f x ≡ None → ⊥
 
 -- .. the wire isn't fit
 pub record IsBad (told : Option Faults) (k : Kept) (ss : List VerifiedWire) (w : ℕ) : Type 0 where
-  pub at : (f : Faults) → told ≡ Some f → HoldsFor k f → IsFit k.shape f ss w → ⊥
+  pub at : (f : Faults) → told ≡ Some f → HoldsUntried k f → IsFit k.shape f ss w → ⊥
 
 -- the wire is known, unless it isn't fit
 abbrev pub IsTried : Option Faults → Kept → List VerifiedWire → ℕ → Type 0
@@ -46,4 +46,4 @@ IsTried told k ss w = HasWire ss w ⊎ IsBad told k ss w
 
 -- .. there are faults
 pub record IsFaulty (told : Option Faults) (k : Kept) : Type 0 where
-  pub at : (f : Faults) → told ≡ Some f → IsFaultless f → HoldsFor k f → ⊥
+  pub at : (f : Faults) → told ≡ Some f → IsFaultless f → HoldsUntried k f → ⊥

@@ -1,5 +1,5 @@
 -- What the crates above, and the proofs here, speak of.
-pub use Rattle.diag_known.specs.Known.{AreApart, AreTwo, HasWire, InSet, IsAt, IsBefore, IsFoot, IsGood, IsKeptCrossOf, IsKnown}
+pub use Rattle.diag_known.specs.Known.{AreApart, AreTwo, HasWire, InSet, IsAt, IsBefore, IsFoot, IsGood, IsKeptCrossOf, IsKnown, KnowsAll}
 pub use Rattle.diag_known.specs.Known.{IsKnownStep, KnownWires, Stands, on_feet, on_pin}
 pub use Rattle.diag_known.specs.Routes.{AreRoutes, AreRoutesTo, HasFootOn, IsEarly, IsKnownRoute, IsPin, RestsOn, first, is_pin, second}
 pub use Rattle.diag_known.specs.Field.{ClosedIf, GrowsIn, IsClosed, IsFieldOf, TakesFew, fresh, how_many, pins_in}

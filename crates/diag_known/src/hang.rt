@@ -4,7 +4,7 @@ ghost use Rattle.base_bits.specs.Numbers.{has_number};
 ghost use Rattle.base_io.specs.Counts.{Rose};
 ghost use Rattle.rig.specs.Rig.{ForEach, shape_of};
 ghost use Rattle.diag_tests.specs.Routes.{cross_numbers};
-ghost use Rattle.diag_evidence.specs.Kept.{Advances, keeps_cross};
+ghost use Rattle.diag_evidence.specs.Kept.{Advances, KeepsTrial, keeps_cross};
 ghost use Rattle.diag_known.specs.Known.{IsKnown};
 ghost use Rattle.diag_known.specs.Marked.{AreMarks, AreMarksOver, OffersAtMost, SpendsFew, SpendsOn};
 ghost use Rattle.diag_known.specs.Offers.{IsOffer, IsHanging, HasNoneBeside, HasNoSecond};
@@ -37,6 +37,7 @@ fn toggle_hung(
     ensures lost_each { IfOk result (λ yes. ForEach (rig_state rig.new) (λ told. yes ≡ false → HasNoneBeside told facts.new
         known.now.steps offer.now way.now)) }
     ensures faulty_each { IfOk result (λ yes. ForEach (rig_state rig.new) (λ told. yes ≡ false → IsFaulty told facts.old)) }
+    ensures trial { KeepsTrial facts.old facts.new }
     ensures advances { Advances (rig_state rig.old) (rig_state rig.new) facts.old facts.new }
     ensures loads { (rig_state rig.new).loads ≤ (rig_state rig.old).loads + 2 }
     ensures cause { IsErrOf result RigFail.Failed → Rose (rig_state rig.old).failures (rig_state rig.new).failures }
@@ -70,6 +71,7 @@ fn hang(
     ensures marks_each { OnOk result (ForEach (rig_state rig.new) (λ told. AreMarks told facts.old known.now.steps marks.old → AreMarks
         told facts.new known.now.steps marks.new)) }
     ensures offers { OffersAtMost facts.old offer.now.foot.cross.0 marks.old marks.new (rig_state rig.old).loads (rig_state rig.new).loads }
+    ensures trial { KeepsTrial facts.old facts.new }
     ensures advances { Advances (rig_state rig.old) (rig_state rig.new) facts.old facts.new }
     ensures cause { IsErrOf result RigFail.Failed → Rose (rig_state rig.old).failures (rig_state rig.new).failures }
 {
@@ -113,6 +115,7 @@ pub fn toggle_first(
     ensures spends { SpendsOn facts.old offer.now marks.old marks.new (rig_state rig.old).loads (rig_state rig.new).loads }
     ensures spends_each { ForEach (rig_state rig.new) (λ told. AreMarks told facts.old known.now.steps marks.old → SpendsFew told
         facts.old marks.old marks.new (rig_state rig.old).loads (rig_state rig.new).loads) }
+    ensures trial { KeepsTrial facts.old facts.new }
     ensures advances { Advances (rig_state rig.old) (rig_state rig.new) facts.old facts.new }
     ensures cause { IsErrOf result RigFail.Failed → Rose (rig_state rig.old).failures (rig_state rig.new).failures }
 {

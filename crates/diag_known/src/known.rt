@@ -1,10 +1,12 @@
 //! Known wires, in the order in which they came.
-ghost use Rattle.std.specs.Prelude.{◌≡◌, ◌<◌, ◌≤◌, ◌++◌, ◌∷◌, false, [], IfOk, IfSome, IfNone, IsTrue, OnOk, OnErr, length, replicate};
-ghost use Rattle.std.specs.Prelude.{slice_get, Some, None};
+ghost use Rattle.std.specs.Prelude.{◌≡◌, ◌<◌, ◌≤◌, ◌++◌, ◌∷◌, ℕ, true, false, [], IfOk, IfSome, IfNone, IsTrue, OnOk, OnErr, length};
+ghost use Rattle.std.specs.Prelude.{replicate, slice_get, Some, None};
+ghost use Rattle.base_bits.specs.Numbers.{has_number};
 ghost use Rattle.machine_shape.specs.Shape.{wires_of};
 ghost use Rattle.diag_known.specs.Known.{IsAt, HasWire};
 
 use crate::verified_wire::VerifiedWire;
+use base_bits::BitSet;
 use machine_shape::{Shape, Wire};
 use std::alloc::{AllocError, Global};
 use std::marker::Model;
@@ -16,6 +18,8 @@ pub struct Known {
     shape: Shape,
     steps: Vec<VerifiedWire>,
     ranks: Vec<Option<usize>>,
+    // The same wires as a set.
+    wires: BitSet,
 }
 
 impl Model for Known {
@@ -50,6 +54,7 @@ impl Known {
             shape: *shape,
             steps: Vec::new(alloc),
             ranks: no_ranks(alloc, shape.wires())?,
+            wires: BitSet::new(alloc, shape.wires())?,
         })
     }
 
@@ -116,6 +121,15 @@ impl Known {
         self.place_of(w).is_some()
     }
 
+    /// The known wires, as a set.
+    pub fn wires(&self) -> &BitSet
+        ensures len { length result.now ≡ wires_of self.now.shape }
+        ensures known { (w : ℕ) → has_number result.now w ≡ true → HasWire self.now.steps w }
+        ensures whole { (w : ℕ) → HasWire self.now.steps w → has_number result.now w ≡ true }
+    {
+        &self.wires
+    }
+
     /// A further wire is known. Wants memory; where that is wanting, nothing is learnt.
     pub fn learn(&mut self, step: VerifiedWire) -> Result<(), AllocError>
         requires wire { step.wire.0 < wires_of self.old.shape }
@@ -127,6 +141,7 @@ impl Known {
         let place = self.steps.len();
         self.steps.push(step)?;
         self.ranks[step.wire.0 as usize] = Some(place);
+        self.wires.insert(step.wire.0);
         Ok(())
     }
 }

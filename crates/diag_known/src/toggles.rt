@@ -5,7 +5,7 @@ ghost use Rattle.machine_shape.specs.Shape.{Ends, ends_of, crosses_of, pins_of};
 ghost use Rattle.machine_config.specs.Vocabulary.{among, IsDrivenAlone};
 ghost use Rattle.rig.specs.Rig.{ForEach, shape_of};
 ghost use Rattle.diag_tests.specs.Vocabulary.{IsLoopConfig, IsRoute, cross_numbers};
-ghost use Rattle.diag_evidence.specs.Vocabulary.{Advances, keeps_cross, LoopPasses};
+ghost use Rattle.diag_evidence.specs.Vocabulary.{Advances, KeepsTrial, keeps_cross, LoopPasses};
 ghost use Rattle.diag_known.specs.Known.{IsKnown, HasWire};
 ghost use Rattle.diag_known.specs.Trials.{IsKeptRoute, IsKeptUnlessStuck, IsLinkTo, IsLost};
 
@@ -69,6 +69,7 @@ fn toggle(
     ensures passes_each { IfOk result (λ yes. ForEach (rig_state rig.new) (λ told. LoopPasses told facts.old left.now right.now
         (cross_numbers ties.now) c.0 yes)) }
     ensures kept { IfOk result (λ yes. IsTrue yes → keeps_cross facts.new c.0 ≡ true) }
+    ensures trial { KeepsTrial facts.old facts.new }
     ensures advances { Advances (rig_state rig.old) (rig_state rig.new) facts.old facts.new }
     ensures loads { (rig_state rig.new).loads ≤ (rig_state rig.old).loads + 2 }
     ensures cause { IsErrOf result RigFail.Failed → Rose (rig_state rig.old).failures (rig_state rig.new).failures }
@@ -103,6 +104,7 @@ pub fn toggle_known(
     requires b { HasWire known.now.steps b.0 }
     requires differ { a.0 ≢ b.0 }
     ensures kept_each { OnOk result (ForEach (rig_state rig.new) (λ told. IsKeptUnlessStuck told facts.new c.0)) }
+    ensures trial { KeepsTrial facts.old facts.new }
     ensures advances { Advances (rig_state rig.old) (rig_state rig.new) facts.old facts.new }
     ensures loads { (rig_state rig.new).loads ≤ (rig_state rig.old).loads + 2 }
     ensures cause { IsErrOf result RigFail.Failed → Rose (rig_state rig.old).failures (rig_state rig.new).failures }
@@ -140,6 +142,7 @@ pub fn toggle_over(
     ensures kept { IfOk result (λ yes. IsTrue yes → keeps_cross facts.new foot.cross.0 ≡ true) }
     ensures lost_each { IfOk result (λ yes. ForEach (rig_state rig.new) (λ told. yes ≡ false → IsLost told facts.new known.now.steps w.0
         foot.cross.0)) }
+    ensures trial { KeepsTrial facts.old facts.new }
     ensures advances { Advances (rig_state rig.old) (rig_state rig.new) facts.old facts.new }
     ensures loads { (rig_state rig.new).loads ≤ (rig_state rig.old).loads + 2 }
     ensures cause { IsErrOf result RigFail.Failed → Rose (rig_state rig.old).failures (rig_state rig.new).failures }

@@ -1,15 +1,16 @@
 -- What choices have made so far of what a diagnosis has at hand.
 use Rattle.std.proofs.Common.{◌≡◌, ◌≤◌}
 use Rattle.rig.specs.Rig.{RigState, ForEach}
-use Rattle.diag_evidence.specs.Kept.{Kept, Advances}
-use Rattle.diag_known.specs.Known.{KnownWires, IsKnown}
+use Rattle.diag_evidence.specs.Kept.{Kept, AdvancesButPairs}
+use Rattle.diag_known.specs.Known.{KnownWires, IsKnown, KnowsAll}
 use Rattle.diag_sweep.specs.Marks.{AreMarksFor, TrueIf, worth}
 use Rattle.diag_sweep.specs.declared.defect_marks.DefectMarks.{DefectMarks}
 use Rattle.diag_machine.specs.declared.whole.DiagnosisState.{DiagnosisState}
 
 pub record HasChosen (first now : RigState) (j k : Kept) (those : KnownWires) (was is : DefectMarks) (old new : DiagnosisState) : Type 0 where
-  pub advances : Advances first now j k
+  pub advances : AdvancesButPairs first now j k
   pub known : IsKnown k those
+  pub all : KnowsAll k those.steps
   pub field : new.field ≡ old.field
   pub marks : AreMarksFor j.shape is
   pub right_each : ForEach now (λ told. TrueIf told k those.steps is)

@@ -7,11 +7,12 @@ use Rattle.machine_shape.specs.Vocabulary.{in_order, turned, ends_of, pin_wire, 
 use Rattle.machine_meaning.specs.Vocabulary.{Faults, stuck_cross, Shorted, Defects, Covers, IsSeated, IsFreeWireOf, IsFreeCrossOf, IsAlone, HasFeet, two, HasFreeFeet, IsRightTable, IsTight}
 use Rattle.machine_meaning.proofs.Seats.{seated_also}
 use Rattle.diag_evidence.specs.Kept.{Kept, HoldsFor, IsMore}
+use Rattle.diag_evidence.proofs.KeptLemmas.{pair_apart}
 use Rattle.diag_known.specs.Known.{KnownWires, HasWire, IsKnown, IsKeptCrossOf}
 use Rattle.diag_growth.specs.Seats.{AddsOnlyTableFacts, KeepsTable}
 use Rattle.diag_machine.specs.Listing.{IsListOf}
 use Rattle.diag_machine.specs.Stages.{IsReached}
-use Rattle.diag_machine.proofs.Knowing.{known_wire, known_pair, known_within}
+use Rattle.diag_machine.proofs.Knowing.{known_wire, known_within}
 
 same_or_not : (w u : ℕ) → (w ≡ u) ⊎ (w ≢ u)
 same_or_not w u = by (nat_eq w u) refl
@@ -28,7 +29,7 @@ module _ {k l : Kept} {known : KnownWires} {f : Faults} {d : Defects} (is : IsKn
     where
       by : (w ≡ u) ⊎ (w ≢ u) → w ≡ u
       by (inl e) = e
-      by (inr n) = absurd (holds.pairs w u (more.pairs w u (known_pair is u w g h n)) (subst (λ m. Shorted m f w u) (sym more.shape) s))
+      by (inr n) = absurd (holds.pairs w u (pair_apart l w u n (more.apart w (is.of_set w h)) (more.apart u (is.of_set u g))) (subst (λ m. Shorted m f w u) (sym more.shape) s))
 
   pub covers : Covers k.shape d f
   covers = record {

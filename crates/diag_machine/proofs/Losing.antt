@@ -3,7 +3,7 @@ use Rattle.std.proofs.Common.{◌<◌, ℕ, Option, List, ap, subst}
 use Rattle.machine_shape.specs.Shape.{turned, wires_of}
 use Rattle.machine_meaning.specs.Vocabulary.{Faults, IsFaultless, two}
 use Rattle.machine_meaning.proofs.Faultless.{all_sound}
-use Rattle.diag_evidence.specs.Kept.{Kept, IsMore}
+use Rattle.diag_evidence.specs.Kept.{Kept, IsMoreButPairs}
 use Rattle.diag_known.specs.Known.{HasWire}
 use Rattle.diag_known.specs.declared.verified_wire.VerifiedWire.{VerifiedWire}
 use Rattle.diag_machine.specs.Choice.{AreLeftOut, IsLeftOut}
@@ -20,7 +20,7 @@ none_left_out {k} {f} {ss} {w} none reached within out =
     a.known b.known (none.crosses a.meets.0) (none.crosses b.meets.0)))
 
 -- What was reached stays reached when more is kept.
-pub reached_later : {k l : Kept} {f : Faults} {known : ℕ → Type 0} → IsMore k l → IsReached k f known → IsReached l f known
+pub reached_later : {k l : Kept} {f : Faults} {known : ℕ → Type 0} → IsMoreButPairs k l → IsReached k f known → IsReached l f known
 reached_later more r = record {
   pins = rw more.shape r.pins;
   wires = rw more.shape r.wires;
@@ -29,4 +29,4 @@ reached_later more r = record {
 
 -- So a wire that is left out shows that there are faults.
 pub out_never : {told : Option Faults} {k : Kept} {ss : List VerifiedWire} {P : Type 0} → ReachedIf told k ss → AreLeftOut k ss → IfFaultless told k P
-out_never reached out = record { at = λ f e none holds. absurd (none_left_out none (reached.at f e holds) out.within out.out) }
+out_never reached out = record { at = λ f e none holds. absurd (none_left_out none (reached.at f e) out.within out.out) }

@@ -10,7 +10,7 @@ use Rattle.machine_shape.specs.Shape.{tables_of}
 use Rattle.machine_meaning.specs.Faults.{Faults, IsFaultless}
 use Rattle.machine_meaning.proofs.Faultless.{all_sound}
 use Rattle.rig.specs.Rig.{RigState, ForEach, Narrows}
-use Rattle.diag_evidence.specs.Kept.{Kept, HoldsFor, IsMore}
+use Rattle.diag_evidence.specs.Kept.{Kept, HoldsFor, IsMoreButPairs}
 use Rattle.diag_known.specs.Vocabulary.{IsFieldOf, HasWire}
 use Rattle.diag_known.proofs.Counting.{none_has, set_only}
 use Rattle.diag_known.specs.declared.field.Field.{Field}
@@ -33,32 +33,35 @@ pub marks_each : {r s : RigState} {k l : Kept} {old new : List VerifiedWire} {b 
     ForEach r (λ told. TrueIf told k old b) → ForEach s (λ told. TrueIf told l new c)
 marks_each p narrows q = λ f e. p f e (q f (narrows f e))
 
--- Nothing is marked.
-pub marks_of_none : {told : Option Faults} {k : Kept} (ss : List VerifiedWire) {b : DefectMarks} → ((x : ℕ) → has_number b.stuck x ≡ false) → ((x : ℕ) → has_number b.unfit x ≡ false) → ((x : ℕ) → has_number b.unclear x ≡ false) →
+-- Nothing is marked, and what is kept is true.
+pub marks_of_none : {told : Option Faults} {k : Kept} (ss : List VerifiedWire) {b : DefectMarks} → ((f : Faults) → HoldsFor k f) → ((x : ℕ) → has_number b.stuck x ≡ false) → ((x : ℕ) → has_number b.unfit x ≡ false) → ((x : ℕ) → has_number b.unclear x ≡ false) →
     ((x : ℕ) → has_number b.wrong x ≡ false) → TrueIf told k ss b
-marks_of_none ss stuck unfit unclear wrong = record {
-  at = λ f e h. record {
-    stuck = λ x on. absurd (false≢true (sym (stuck x) ∙ on));
-    unfit = λ x on. absurd (false≢true (sym (unfit x) ∙ on));
-    unclear = λ x on. absurd (false≢true (sym (unclear x) ∙ on));
-    wrong = λ x on. absurd (false≢true (sym (wrong x) ∙ on));
-  };
+marks_of_none ss holds stuck unfit unclear wrong = record {
+  at = λ f e. (
+    holds f,
+    record {
+      stuck = λ x on. absurd (false≢true (sym (stuck x) ∙ on));
+      unfit = λ x on. absurd (false≢true (sym (unfit x) ∙ on));
+      unclear = λ x on. absurd (false≢true (sym (unclear x) ∙ on));
+      wrong = λ x on. absurd (false≢true (sym (wrong x) ∙ on));
+    },
+  );
 }
 
 -- Marks of a machine stay so.
 pub marks_of : {m : Shape} {a : Field} {tables : List Table} {b c : DefectMarks} → AreMarksFor m b → MarksIn a tables b c → AreMarksFor m c
 marks_of are in_ = marks_for refl are in_
 
-pub field_later : {k l : Kept} {a : Field} → IsMore k l → IsFieldOf k.shape a → IsFieldOf l.shape a
+pub field_later : {k l : Kept} {a : Field} → IsMoreButPairs k l → IsFieldOf k.shape a → IsFieldOf l.shape a
 field_later {a = a} more field = subst (λ (m : Shape). IsFieldOf m a) (sym more.shape) field
 
-pub whole_later : {k l : Kept} {a : Field} → IsMore k l → IsWhole k.shape a → IsWhole l.shape a
+pub whole_later : {k l : Kept} {a : Field} → IsMoreButPairs k l → IsWhole k.shape a → IsWhole l.shape a
 whole_later {a = a} more whole = subst (λ (m : Shape). IsWhole m a) (sym more.shape) whole
 
-pub marks_on : {k l : Kept} {b : DefectMarks} → IsMore k l → AreMarksFor k.shape b → AreMarksFor l.shape b
+pub marks_on : {k l : Kept} {b : DefectMarks} → IsMoreButPairs k l → AreMarksFor k.shape b → AreMarksFor l.shape b
 marks_on {b = b} more marks = subst (λ (m : Shape). AreMarksFor m b) (sym more.shape) marks
 
-pub marks_back : {k l : Kept} {b : DefectMarks} → IsMore k l → AreMarksFor l.shape b → AreMarksFor k.shape b
+pub marks_back : {k l : Kept} {b : DefectMarks} → IsMoreButPairs k l → AreMarksFor l.shape b → AreMarksFor k.shape b
 marks_back {b = b} more marks = subst (λ (m : Shape). AreMarksFor m b) more.shape marks
 
 pub at_once : {x y : ℕ} → x ≡ y → x ≤ y
@@ -68,13 +71,13 @@ pub at_most : {x y z : ℕ} → x ≤ y → y ≤ z → x ≤ z
 at_most a b = omega (arith, a, b)
 
 -- Without faults no wire is marked unfit that isn't known.
-pub none_unfit : {told : Option Faults} {k : Kept} {ss : List VerifiedWire} {b : DefectMarks} (set : List Bool) (f : Faults) → told ≡ Some f → IsFaultless f → HoldsFor k f → TrueIf told k ss b →
+pub none_unfit : {told : Option Faults} {k : Kept} {ss : List VerifiedWire} {b : DefectMarks} (set : List Bool) (f : Faults) → told ≡ Some f → IsFaultless f → TrueIf told k ss b →
     ((w : ℕ) → has_number set w ≡ true → (has_number b.unfit w ≡ true) × (¬ HasWire ss w)) → (w : ℕ) → has_number set w ≡ false
-none_unfit {ss = ss} {b = b} set f e none holds marks each w = by (has_number set w) refl
+none_unfit {ss = ss} {b = b} set f e none marks each w = by (has_number set w) refl
   where
     by : (x : Bool) → has_number set w ≡ x → x ≡ false
     by false is = refl
-    by true is = let both = each w is in absurd ((marks.at f e holds).unfit w both.0 (λ u s. none.wires u) (λ u has s. both.1 (subst (HasWire ss) ((all_sound none w).alone u s) has)))
+    by true is = let both = each w is in absurd ((marks.at f e).1.unfit w both.0 (λ u s. none.wires u) (λ u has s. both.1 (subst (HasWire ss) ((all_sound none w).alone u s) has)))
 
 -- numbers that are marked one by one
 pub marked_none : (set : List Bool) (n : ℕ) → set ≡ replicate n false → (w : ℕ) → has_number set w ≡ true → ⊥
@@ -116,7 +119,7 @@ pub tables_left_if : {told : Option Faults} {m : Shape} {k l : Kept} {ss ts : Li
 tables_left_if {told} {m} {k} {l} {ss} {ts} {b} {tables} e marks has kept = record { each = λ t h. by t (has t (subst (λ n. t < tables_of n) (sym e) h)) }
   where
     by : (t : ℕ) → (has_number b.wrong t ≡ true) ⊎ HasTable tables t → SeatedIsKept told k l ss t
-    by t (inl on) = record { at = λ f is holds seated right. absurd ((marks.at f is holds).wrong t on right) }
+    by t (inl on) = record { at = λ f is holds seated right. absurd ((marks.at f is).1.wrong t on right) }
     by t (inr x) = subst (SeatedIsKept told k l ss) x.is (kept.each x.place x.table x.here)
 
 pub tables_left_most : (k : Kept) (tables : List Table) (before : ℕ) {n after : ℕ} → length tables ≤ n → after ≤ before + 130 * fresh_tables k tables → after ≤ before + 130 * n

@@ -20,9 +20,9 @@ pub record IsReached (k : Kept) (f : Faults) (known : ℕ → Type 0) : Type 0 w
   pub crosses : (x : ℕ) → x < crosses_of k.shape → known (ends_of k.shape x).0 → known (ends_of k.shape x).1 →
       stuck_cross f x ≡ None → keeps_cross k x ≡ true
 
--- .. where the faults are told, and what is kept is true of them
+-- .. where the faults are told
 pub record ReachedIf (told : Option Faults) (k : Kept) (ss : List VerifiedWire) : Type 0 where
-  pub at : (f : Faults) → told ≡ Some f → HoldsFor k f → IsReached k f (HasWire ss)
+  pub at : (f : Faults) → told ≡ Some f → IsReached k f (HasWire ss)
 
 -- where the machine is told to have no faults, and what is kept is true of that
 pub record IfFaultless (told : Option Faults) (k : Kept) (P : Type 0) : Type 0 where

@@ -4,8 +4,8 @@ ghost use Rattle.base_bits.specs.Numbers.{has_number, size_of};
 ghost use Rattle.base_io.specs.Counts.{Rose};
 ghost use Rattle.machine_shape.specs.Shape.{tables_of, wires_of};
 ghost use Rattle.rig.specs.Rig.{ForEach, Narrows, Tells, shape_of};
-ghost use Rattle.diag_evidence.specs.Kept.{Advances, FewCycles, KeepsNothing, TakesFewCycles};
-ghost use Rattle.diag_known.specs.Vocabulary.{IsFieldOf, pins_in, IsKnown};
+ghost use Rattle.diag_evidence.specs.Kept.{Advances, AdvancesButPairs, FewCycles, KeepsNothing, TakesFewCycles, is_apart};
+ghost use Rattle.diag_known.specs.Vocabulary.{IsFieldOf, pins_in, IsKnown, KnowsAll};
 ghost use Rattle.diag_known.specs.declared.verified_wire.VerifiedWire.{VerifiedWire};
 ghost use Rattle.diag_growth.specs.Seats.{AddsOnlyTableFacts};
 ghost use Rattle.diag_sweep.specs.Marks.{AreMarksFor, HasTable, TrueIf, undecided, worth};
@@ -105,10 +105,12 @@ fn choose_once(
 ) -> Result<bool, RigFail>
     requires attached { shape_of (rig_state rig.old) ≡ Some facts.old.shape }
     requires known { IsKnown facts.old known.old }
+    requires all { KnowsAll facts.old known.old.steps }
     requires field { IsFieldOf facts.old.shape state.old.field }
     requires marks { AreMarksFor facts.old.shape bad.old }
     requires right_each { ForEach (rig_state rig.old) (λ told. TrueIf told facts.old known.old.steps bad.old) }
     ensures known { IsKnown facts.new known.new }
+    ensures all { KnowsAll facts.new known.new.steps }
     ensures field { state.new.field ≡ state.old.field }
     ensures marks { AreMarksFor facts.old.shape bad.new }
     ensures right_each { ForEach (rig_state rig.new) (λ told. TrueIf told facts.new known.new.steps bad.new) }
@@ -116,7 +118,7 @@ fn choose_once(
     ensures pays { worth state.new.field facts.new bad.new (rig_state rig.new).loads state.new.choices.left
         ≤ worth state.old.field facts.old bad.old (rig_state rig.old).loads state.old.choices.left }
     ensures paid { state.new.choices.paid ≡ state.old.choices.paid }
-    ensures advances { Advances (rig_state rig.old) (rig_state rig.new) facts.old facts.new }
+    ensures advances { AdvancesButPairs (rig_state rig.old) (rig_state rig.new) facts.old facts.new }
     ensures cause { IsErrOf result RigFail.Failed → Rose (rig_state rig.old).failures (rig_state rig.new).failures }
 {
     let choices = &mut state.choices;
@@ -137,17 +139,19 @@ fn choose_all(
 ) -> Result<(), RigFail>
     requires attached { shape_of (rig_state rig.old) ≡ Some facts.old.shape }
     requires known { IsKnown facts.old known.old }
+    requires all { KnowsAll facts.old known.old.steps }
     requires field { IsFieldOf facts.old.shape state.old.field }
     requires marks { AreMarksFor facts.old.shape bad.old }
     requires right_each { ForEach (rig_state rig.old) (λ told. TrueIf told facts.old known.old.steps bad.old) }
     ensures known { IsKnown facts.new known.new }
+    ensures all { KnowsAll facts.new known.new.steps }
     ensures field { state.new.field ≡ state.old.field }
     ensures marks { AreMarksFor facts.old.shape bad.new }
     ensures right_each { ForEach (rig_state rig.new) (λ told. TrueIf told facts.new known.new.steps bad.new) }
     ensures pays { worth state.new.field facts.new bad.new (rig_state rig.new).loads state.new.choices.left
         ≤ worth state.old.field facts.old bad.old (rig_state rig.old).loads state.old.choices.left }
     ensures paid { state.new.choices.paid ≡ state.old.choices.paid }
-    ensures advances { Advances (rig_state rig.old) (rig_state rig.new) facts.old facts.new }
+    ensures advances { AdvancesButPairs (rig_state rig.old) (rig_state rig.new) facts.old facts.new }
     ensures cause { IsErrOf result RigFail.Failed → Rose (rig_state rig.old).failures (rig_state rig.new).failures }
 {
     'choices: for _choice in 0..MOST_CHOICES {
@@ -168,11 +172,13 @@ fn sweep_whole(
 ) -> Result<(), RigFail>
     requires attached { shape_of (rig_state rig.old) ≡ Some facts.old.shape }
     requires known { IsKnown facts.old known.old }
+    requires all { KnowsAll facts.old known.old.steps }
     requires field { IsFieldOf facts.old.shape state.old.field }
     requires marks { AreMarksFor facts.old.shape bad.old }
     requires right_each { ForEach (rig_state rig.old) (λ told. TrueIf told facts.old known.old.steps bad.old) }
     requires paid { length state.old.choices.paid ≡ wires_of facts.old.shape }
     ensures known { IsKnown facts.new known.new }
+    ensures all { KnowsAll facts.new known.new.steps }
     ensures field { state.new.field ≡ state.old.field }
     ensures marks { AreMarksFor facts.old.shape bad.new }
     ensures right_each { ForEach (rig_state rig.new) (λ told. TrueIf told facts.new known.new.steps bad.new) }
@@ -182,7 +188,7 @@ fn sweep_whole(
         + (pins_in facts.old.shape state.old.field + 14 * size_of state.new.choices.paid) }
     ensures few_each { ForEach (rig_state rig.new) (λ told. IfFaultless told facts.old (state.new.choices.paid ≡ state.old.choices.paid)) }
     ensures paid { length state.new.choices.paid ≡ length state.old.choices.paid }
-    ensures advances { Advances (rig_state rig.old) (rig_state rig.new) facts.old facts.new }
+    ensures advances { AdvancesButPairs (rig_state rig.old) (rig_state rig.new) facts.old facts.new }
     ensures cause { IsErrOf result RigFail.Failed → Rose (rig_state rig.old).failures (rig_state rig.new).failures }
 {
     let Ok(tables) = all_tables(known.alloc(), &facts.shape()) else {
@@ -206,11 +212,13 @@ fn grow_whole(
 ) -> Result<(), RigFail>
     requires attached { shape_of (rig_state rig.old) ≡ Some facts.old.shape }
     requires known { IsKnown facts.old known.old }
+    requires all { KnowsAll facts.old known.old.steps }
     requires field { IsFieldOf facts.old.shape field.now }
     requires whole { IsWhole facts.old.shape field.now }
     requires marks { AreMarksFor facts.old.shape bad.now }
     requires right_each { ForEach (rig_state rig.old) (λ told. TrueIf told facts.old known.old.steps bad.now) }
     ensures known { IsKnown facts.new known.new }
+    ensures all { KnowsAll facts.new known.new.steps }
     ensures right_each { ForEach (rig_state rig.new) (λ told. TrueIf told facts.new known.new.steps bad.now) }
     ensures reached_each { OnOk result (ForEach (rig_state rig.new) (λ told. ReachedIf told facts.new known.new.steps)) }
     ensures loads { (rig_state rig.new).loads + pins_in facts.old.shape field.now
@@ -218,7 +226,7 @@ fn grow_whole(
     ensures few_each { ForEach (rig_state rig.new) (λ told. IfFaultless told facts.old ((rig_state rig.new).loads + pins_in
         facts.old.shape field.now ≤ (rig_state rig.old).loads + (2 * undecided facts.old bad.now field.now + 3 * size_of
         field.now.wires))) }
-    ensures advances { Advances (rig_state rig.old) (rig_state rig.new) facts.old facts.new }
+    ensures advances { AdvancesButPairs (rig_state rig.old) (rig_state rig.new) facts.old facts.new }
     ensures cause { IsErrOf result RigFail.Failed → Rose (rig_state rig.old).failures (rig_state rig.new).failures }
 {
     the_numbering_is_sound();
@@ -240,6 +248,7 @@ fn know_lost(
 ) -> Result<(), RigFail>
     requires attached { shape_of (rig_state rig.old) ≡ Some facts.old.shape }
     requires known { IsKnown facts.old known.old }
+    requires all { KnowsAll facts.old known.old.steps }
     requires field { IsFieldOf facts.old.shape state.old.field }
     requires marks { AreMarksFor facts.old.shape bad.old }
     requires right_each { ForEach (rig_state rig.old) (λ told. TrueIf told facts.old known.old.steps bad.old) }
@@ -247,6 +256,7 @@ fn know_lost(
     requires paid { length state.old.choices.paid ≡ wires_of facts.old.shape }
     requires reached_each { ForEach (rig_state rig.old) (λ told. ReachedIf told facts.old known.old.steps) }
     ensures known { IsKnown facts.new known.new }
+    ensures all { KnowsAll facts.new known.new.steps }
     ensures marks { AreMarksFor facts.old.shape bad.new }
     ensures right_each { ForEach (rig_state rig.new) (λ told. TrueIf told facts.new known.new.steps bad.new) }
     ensures reached_each { OnOk result (ForEach (rig_state rig.new) (λ told. ReachedIf told facts.new known.new.steps)) }
@@ -254,7 +264,7 @@ fn know_lost(
         ≤ (rig_state rig.old).loads + (state.old.choices.left + (loads_for facts.old 8 3 + 14 * wires_of facts.old.shape)) }
     ensures few_each { ForEach (rig_state rig.new) (λ told. IfFaultless told facts.old ((rig_state rig.new).loads ≤ (rig_state
         rig.old).loads)) }
-    ensures advances { Advances (rig_state rig.old) (rig_state rig.new) facts.old facts.new }
+    ensures advances { AdvancesButPairs (rig_state rig.old) (rig_state rig.new) facts.old facts.new }
     ensures cause { IsErrOf result RigFail.Failed → Rose (rig_state rig.old).failures (rig_state rig.new).failures }
 {
     growth_without_bad_is_paid();
@@ -284,6 +294,7 @@ fn know_all(
 ) -> Result<(), RigFail>
     requires attached { shape_of (rig_state rig.old) ≡ Some facts.old.shape }
     requires known { IsKnown facts.old known.old }
+    requires all { KnowsAll facts.old known.old.steps }
     requires marks { AreMarksFor facts.old.shape bad.old }
     requires right_each { ForEach (rig_state rig.old) (λ told. TrueIf told facts.old known.old.steps bad.old) }
     requires field { IsFieldOf facts.old.shape state.old.field }
@@ -295,7 +306,7 @@ fn know_all(
     ensures marks { AreMarksFor facts.old.shape bad.new }
     ensures right_each { OnOk result (ForEach (rig_state rig.new) (λ told. TrueIf told facts.new known.new.steps bad.new)) }
     ensures reached_each { OnOk result (ForEach (rig_state rig.new) (λ told. ReachedIf told facts.new known.new.steps)) }
-    ensures advances { Advances (rig_state rig.old) (rig_state rig.new) facts.old facts.new }
+    ensures advances { AdvancesButPairs (rig_state rig.old) (rig_state rig.new) facts.old facts.new }
     ensures loads { (rig_state rig.new).loads ≤ (rig_state rig.old).loads + loads_for facts.old 16 20 }
     ensures few_each { ForEach (rig_state rig.new) (λ told. IfFaultless told facts.old ((rig_state rig.new).loads ≤ (rig_state
         rig.old).loads + loads_for facts.old 2 3)) }
@@ -322,13 +333,14 @@ fn know_from_first(
 ) -> Result<(), RigFail>
     requires attached { shape_of (rig_state rig.old) ≡ Some facts.old.shape }
     requires known { IsKnown facts.old known.old }
+    requires all { KnowsAll facts.old known.old.steps }
     requires marks { AreMarksFor facts.old.shape bad.old }
     requires right_each { ForEach (rig_state rig.old) (λ told. TrueIf told facts.old known.old.steps bad.old) }
     ensures known { OnOk result (IsKnown facts.new known.new) }
     ensures marks { AreMarksFor facts.old.shape bad.new }
     ensures right_each { OnOk result (ForEach (rig_state rig.new) (λ told. TrueIf told facts.new known.new.steps bad.new)) }
     ensures reached_each { OnOk result (ForEach (rig_state rig.new) (λ told. ReachedIf told facts.new known.new.steps)) }
-    ensures advances { Advances (rig_state rig.old) (rig_state rig.new) facts.old facts.new }
+    ensures advances { AdvancesButPairs (rig_state rig.old) (rig_state rig.new) facts.old facts.new }
     ensures loads { (rig_state rig.new).loads ≤ (rig_state rig.old).loads + loads_for facts.old 16 20 }
     ensures few_each { ForEach (rig_state rig.new) (λ told. IfFaultless told facts.old ((rig_state rig.new).loads ≤ (rig_state
         rig.old).loads + loads_for facts.old 2 3)) }
@@ -353,11 +365,12 @@ fn known_wires(
     requires attached { shape_of (rig_state rig.old) ≡ Some facts.old.shape }
     requires marks { AreMarksFor facts.old.shape bad.old }
     requires right_each { (ss : List VerifiedWire) → ForEach (rig_state rig.old) (λ told. TrueIf told facts.old ss bad.old) }
+    requires nothing { (w : ℕ) → is_apart facts.old w ≡ false }
     ensures known { IfOk result (IsKnown facts.new) }
     ensures marks { AreMarksFor facts.old.shape bad.new }
     ensures right_each { IfOk result (λ known. ForEach (rig_state rig.new) (λ told. TrueIf told facts.new known.steps bad.new)) }
     ensures reached_each { IfOk result (λ known. ForEach (rig_state rig.new) (λ told. ReachedIf told facts.new known.steps)) }
-    ensures advances { Advances (rig_state rig.old) (rig_state rig.new) facts.old facts.new }
+    ensures advances { AdvancesButPairs (rig_state rig.old) (rig_state rig.new) facts.old facts.new }
     ensures loads { (rig_state rig.new).loads ≤ (rig_state rig.old).loads + loads_for facts.old 16 20 }
     ensures few_each { ForEach (rig_state rig.new) (λ told. IfFaultless told facts.old ((rig_state rig.new).loads ≤ (rig_state
         rig.old).loads + loads_for facts.old 2 3)) }
@@ -426,7 +439,7 @@ fn diagnose_with(
 
     ensures shape { IfOk result (λ d. d.shape ≡ facts.old.shape) }
     ensures right_each { IfOk result (λ d. ForEach (rig_state rig.new) (λ told. IsDiagnosis told facts.old.shape d.list)) }
-    ensures advances { Advances (rig_state rig.old) (rig_state rig.new) facts.old facts.new }
+    ensures advances { AdvancesButPairs (rig_state rig.old) (rig_state rig.new) facts.old facts.new }
     ensures loads { TakesAtMost facts.old.shape (rig_state rig.old).loads (rig_state rig.new).loads }
     ensures loads_each { ForEach (rig_state rig.new) (λ told. TakesFewLoads told facts.old.shape (rig_state rig.old).loads (rig_state
         rig.new).loads) }

@@ -7,6 +7,7 @@ use Rattle.machine_meaning.specs.Vocabulary.{Faults, stuck_cross, IsSoundWire, I
 use Rattle.machine_meaning.proofs.Clear.{clear_of_sound}
 use Rattle.machine_config.specs.Groups.{among}
 use Rattle.machine_config.proofs.Grouped.{LeadsTo-end}
+use Rattle.diag_evidence.proofs.Keeping.{holds_untried}
 use Rattle.diag_evidence.specs.Kept.{Kept, HoldsFor, keeps_cross}
 use Rattle.diag_known.specs.Vocabulary.{IsClosed, ClosedIf, TakesFew, fresh, pins_in, KnownWires, HasWire}
 use Rattle.diag_known.proofs.Taking.{few_wide, takes_wide}
@@ -126,7 +127,7 @@ module _ (k : Kept) (f : Faults) (known : KnownWires) (laws : AreLaws k.shape) (
 pub full_is : (told : Option Faults) (k l : Kept) (known : KnownWires) (field : Field) (t : Findings) → AreLaws l.shape → ((f : Faults) → told ≡ Some f → HoldsFor k f → HoldsFor l f) → IsBarField l.shape t.node field → ClosedIf told l field known.steps →
     IsHeld l known t → HasKnown l known t → FullIf told k l t
 full_is told k l known field t laws later bar closed held all = record {
-  at = λ f is holds served. all_known l f known laws field t bar (closed.at f is (later f is holds)) held all served;
+  at = λ f is holds served. all_known l f known laws field t bar (closed.at f is (holds_untried (later f is holds))) held all served;
 }
 
 -- the same, of the same node

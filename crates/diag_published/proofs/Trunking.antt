@@ -11,6 +11,7 @@ use Rattle.machine_config.specs.Groups.{among}
 use Rattle.machine_config.proofs.Grouped.{LeadsTo-start}
 use Rattle.diag_tests.specs.Routes.{Walk}
 use Rattle.diag_tests.specs.declared.trunk.Trunk.{Trunk}
+use Rattle.diag_evidence.proofs.Keeping.{holds_untried}
 use Rattle.diag_evidence.specs.Kept.{Kept, HoldsFor}
 use Rattle.diag_known.specs.Vocabulary.{IsClosed, ClosedIf, TakesFew, Gets, IsWireBefore, KnownWires, HasWire, IsKnownRoute, AreRoutesTo}
 use Rattle.diag_known.proofs.Taking.{few_wide}
@@ -88,7 +89,7 @@ pub pins_grown : (told : Option Faults) (k l : Kept) (known : KnownWires) (count
     IsListOf (IsAtOneOf (pin_wire k.shape) count) (wire_numbers ws) → Gets (IsWireBefore ws (length ws)) (length ws) start field.wires → ClosedIf told l field known.steps → SoundPinsAreKnown told k known count
 pins_grown told k l known count ws start field shape later few list got closed = record {
   at = λ f is holds j below sound.
-      pin_known j (sym shape) (closed.at f is (later f is holds)) (omega (arith, below, few)) (got.all (pin_wire k.shape j) (before_of ws (pin_wire k.shape j) (list.all (pin_wire k.shape j) (record { position = j; early = below; is = refl })))) sound;
+      pin_known j (sym shape) (closed.at f is (holds_untried (later f is holds))) (omega (arith, below, few)) (got.all (pin_wire k.shape j) (before_of ws (pin_wire k.shape j) (list.all (pin_wire k.shape j) (record { position = j; early = below; is = refl })))) sound;
 }
 
 pub few_loads : (told : Option Faults) (k : Kept) (field : Field) (ws : List Wire) (start : List Bool) (before after count : ℕ) → length ws ≡ count → size_of start ≡ 0 → size_of field.crosses ≡ 0 → Gets (IsWireBefore ws (length ws)) (length ws) start field.wires →

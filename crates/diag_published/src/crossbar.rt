@@ -4,7 +4,7 @@ ghost use Rattle.base_io.specs.Counts.{Rose};
 ghost use Rattle.machine_shape.specs.Shape.{wires_of, nodes_of, taps_of, node_of};
 ghost use Rattle.rig.specs.Rig.{ForEach, shape_of};
 ghost use Rattle.diag_evidence.specs.Kept.{Advances};
-ghost use Rattle.diag_known.specs.Known.{IsKnown, HasWire};
+ghost use Rattle.diag_known.specs.Known.{IsKnown, KnowsAll, HasWire};
 ghost use Rattle.diag_published.specs.Bars.{AreBarOf, HasKnown, IsBarField};
 ghost use Rattle.diag_published.specs.Held.{FewLoadsForBar, FullIf, IsHeld, IsHeldTrunk, LoadsForBar, wire_numbers};
 
@@ -74,9 +74,11 @@ fn test_node(
 ) -> Result<Tested, RigFail>
     requires attached { shape_of (rig_state rig.old) ≡ Some facts.old.shape }
     requires known { IsKnown facts.old known.old }
+    requires all { KnowsAll facts.old known.old.steps }
     requires trunk { IsHeldTrunk facts.old known.old node.0 trunk.left trunk.right }
 
     ensures known { IsKnown facts.new known.new }
+    ensures all { KnowsAll facts.new known.new.steps }
     ensures stays { (w : ℕ) → HasWire known.old.steps w → HasWire known.new.steps w }
     ensures node { IfOk result (λ tested. tested.node ≡ node.0) }
     ensures held { IfOk result (IsHeld facts.new known.new) }
@@ -114,9 +116,11 @@ pub fn test_crossbar(
 ) -> Result<Tested, RigFail>
     requires attached { shape_of (rig_state rig.old) ≡ Some facts.old.shape }
     requires known { IsKnown facts.old known.old }
+    requires all { KnowsAll facts.old known.old.steps }
     requires trunk { IsHeldTrunk facts.old known.old (node_of facts.old.shape trunk.left.end) trunk.left trunk.right }
 
     ensures known { IsKnown facts.new known.new }
+    ensures all { KnowsAll facts.new known.new.steps }
     ensures stays { (w : ℕ) → HasWire known.old.steps w → HasWire known.new.steps w }
     ensures node { IfOk result (λ tested. tested.node ≡ node_of facts.old.shape trunk.left.end) }
     ensures held { IfOk result (IsHeld facts.new known.new) }

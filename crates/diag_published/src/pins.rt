@@ -4,7 +4,7 @@ ghost use Rattle.base_io.specs.Counts.{Rose};
 ghost use Rattle.machine_shape.specs.Shape.{wires_of, pins_of, pin_wire};
 ghost use Rattle.rig.specs.Rig.{ForEach, shape_of};
 ghost use Rattle.diag_evidence.specs.Kept.{Advances};
-ghost use Rattle.diag_known.specs.Known.{IsKnown, HasWire};
+ghost use Rattle.diag_known.specs.Known.{IsKnown, KnowsAll, HasWire};
 ghost use Rattle.diag_published.specs.Bars.{FewPins, IsAtOneOf, IsKnownOf, IsListOf, IsTrunkOf, IsTrunkTo, SoundPinsAreKnown};
 ghost use Rattle.diag_published.specs.Held.{IsHeldTrunk, LoadsAtMost, UnservedIf, wire_numbers};
 
@@ -64,12 +64,14 @@ fn grow_pins(
 ) -> Result<(), RigFail>
     requires attached { shape_of (rig_state rig.old) ≡ Some facts.old.shape }
     requires known { IsKnown facts.old known.old }
+    requires all { KnowsAll facts.old known.old.steps }
     requires count { count ≤ pins_of facts.old.shape }
     requires pins { IsListOf (IsAtOneOf (pin_wire facts.old.shape) count) (wire_numbers pins.now.items) }
     requires length { length pins.now.items ≡ count }
     requires within { All (λ w. w.0 < wires_of facts.old.shape) pins.now.items }
 
     ensures known { IsKnown facts.new known.new }
+    ensures all { KnowsAll facts.new known.new.steps }
     ensures stays { (w : ℕ) → HasWire known.old.steps w → HasWire known.new.steps w }
     ensures found_each { OnOk result (ForEach (rig_state rig.new) (λ told. SoundPinsAreKnown told facts.old known.new count)) }
     ensures loads_each { ForEach (rig_state rig.new) (λ told. LoadsAtMost told facts.old (rig_state rig.old).loads (rig_state
@@ -96,9 +98,11 @@ fn try_pins(
 ) -> Result<Option<Trunk>, RigFail>
     requires attached { shape_of (rig_state rig.old) ≡ Some facts.old.shape }
     requires known { IsKnown facts.old known.old }
+    requires all { KnowsAll facts.old known.old.steps }
     requires count { count ≤ pins_of facts.old.shape }
 
     ensures known { IsKnown facts.new known.new }
+    ensures all { KnowsAll facts.new known.new.steps }
     ensures stays { (w : ℕ) → HasWire known.old.steps w → HasWire known.new.steps w }
     ensures held { IfOk result (λ found. IfSome found (λ t. IsHeldTrunk facts.new known.new 0 t.left t.right)) }
     ensures none_each { IfOk result (λ found. ForEach (rig_state rig.new) (λ told. IfNone found (FewPins told facts.old count))) }
@@ -138,8 +142,10 @@ pub(crate) fn root_trunk(
 ) -> Result<Option<Trunk>, RigFail>
     requires attached { shape_of (rig_state rig.old) ≡ Some facts.old.shape }
     requires known { IsKnown facts.old known.old }
+    requires all { KnowsAll facts.old known.old.steps }
 
     ensures known { IsKnown facts.new known.new }
+    ensures all { KnowsAll facts.new known.new.steps }
     ensures stays { (w : ℕ) → HasWire known.old.steps w → HasWire known.new.steps w }
     ensures held { IfOk result (λ found. IfSome found (λ t. IsHeldTrunk facts.new known.new 0 t.left t.right)) }
     ensures none_each { IfOk result (λ found. ForEach (rig_state rig.new) (λ told. IfNone found (UnservedIf told facts.old 0))) }

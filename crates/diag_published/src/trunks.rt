@@ -4,7 +4,7 @@ ghost use Rattle.base_io.specs.Counts.{Rose};
 ghost use Rattle.machine_shape.specs.Shape.{node_of, parent_of};
 ghost use Rattle.rig.specs.Rig.{ForEach, shape_of};
 ghost use Rattle.diag_evidence.specs.Kept.{Advances};
-ghost use Rattle.diag_known.specs.Known.{IsKnown, HasWire};
+ghost use Rattle.diag_known.specs.Known.{IsKnown, KnowsAll, HasWire};
 ghost use Rattle.diag_published.specs.Held.{FullIf, IsHeld, IsHeldTrunk, IsUnserved, LoadsAtMost, UnservedIf};
 
 use crate::laws::the_laws_hold;
@@ -62,11 +62,13 @@ pub fn find_trunk(
 ) -> Result<Option<Trunk>, RigFail>
     requires attached { shape_of (rig_state rig.old) ≡ Some facts.old.shape }
     requires known { IsKnown facts.old known.old }
+    requires all { KnowsAll facts.old known.old.steps }
     requires root { IfNone parent (node.0 ≡ 0) }
     requires child { IfSome parent (λ tested. parent_of facts.old.shape node.0 ≡ Some tested.now.node) }
     requires held { IfSome parent (λ tested. IsHeld facts.old known.old tested.now) }
 
     ensures known { IsKnown facts.new known.new }
+    ensures all { KnowsAll facts.new known.new.steps }
     ensures stays { (w : ℕ) → HasWire known.old.steps w → HasWire known.new.steps w }
     ensures held { IfOk result (λ found. IfSome found (λ trunk. IsHeldTrunk facts.new known.new node.0 trunk.left trunk.right)) }
     ensures node { IfOk result (λ found. IfSome found (λ trunk. node_of facts.old.shape trunk.left.end ≡ node.0)) }

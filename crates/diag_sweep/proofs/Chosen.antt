@@ -1,10 +1,10 @@
 -- What a choice leaves: of what is known some gives way, and what is left to spend.
-use Rattle.std.proofs.Common.{◌≡◌, ◌⊎◌, inl, inr, ℕ, ◌+◌, ◌≤◌, Bool, true, false, ◌&&◌, Option, List, length, replicate, refl, sym, ap, ◌∙◌, subst, arith, slice_set}
+use Rattle.std.proofs.Common.{◌≡◌, ◌⊎◌, inl, inr, ℕ, ◌+◌, ◌≤◌, Bool, true, false, not, ◌&&◌, Option, List, length, replicate, refl, sym, ap, ◌∙◌, subst, arith, slice_set}
 use Rattle.std.proofs.lemmas.Bool.{false≢true, and_parts}
 use Rattle.base_bits.specs.Numbers.{has_number, size_of}
 use Rattle.machine_shape.specs.declared.Shape.{Shape}
 use Rattle.machine_meaning.specs.Faults.{Faults}
-use Rattle.diag_evidence.specs.Kept.{Kept}
+use Rattle.diag_evidence.specs.Kept.{Kept, keeps_cross}
 use Rattle.diag_known.specs.Vocabulary.{how_many, HasWire, InSet, KnownWires}
 use Rattle.diag_known.specs.declared.field.Field.{Field}
 use Rattle.diag_known.specs.declared.verified_wire.VerifiedWire.{VerifiedWire}
@@ -38,9 +38,12 @@ worth_paid limit left {l} {c} {a} {budget = budget} hand f kept =
 pub worth_none : (limit left : ℕ) {l : Kept} {c : DefectMarks} {a : Field} {known : KnownWires} {budget : LoadBudget} {after : ℕ} → IsHand a (in_hand l known c budget after) → IsFunded limit a (in_hand l known c budget after) → left ≡ 0 → worth a l c after left ≤ limit
 worth_none limit left {budget = budget} {after = after} hand f e = worth_paid limit left hand f (λ low. omega (arith, low, e))
 
--- the marks of unfit wires are no matter
-pub worth_same : (l : Kept) (c d : DefectMarks) (a : Field) (loads left : ℕ) {limit : ℕ} → d.stuck ≡ c.stuck → worth a l c loads left ≤ limit → worth a l d loads left ≤ limit
-worth_same l c d a loads left {limit} same paid = subst (λ (s : List Bool). worth a l (record d { stuck = s }) loads left ≤ limit) (sym same) paid
+-- the marks of unfit wires are no matter, nor is what is kept but crosspoints
+pub worth_less : (k l : Kept) (c d : DefectMarks) (a : Field) (loads left : ℕ) {limit : ℕ} → ((x : ℕ) → keeps_cross l x ≡ keeps_cross k x) → d.stuck ≡ c.stuck → worth a k c loads left ≤ limit → worth a l d loads left ≤ limit
+worth_less k l c d a loads left {limit} crosses same paid =
+    let few : undecided l d a ≤ undecided k c a = many_more (λ x. has_number a.crosses x && is_undecided l d x) (λ x. has_number a.crosses x && is_undecided k c x) (length a.crosses)
+    (λ x less on. ap (λ t. has_number a.crosses x && (not t && not (has_number c.stuck x))) (sym (crosses x)) ∙ ap (λ (s : List Bool). has_number a.crosses x && (not (keeps_cross l x) && not (has_number s x))) (sym same) ∙ on) in
+    omega (arith, few, paid)
 
 none_on : (n w : ℕ) → has_number (replicate n false) w ≡ false
 none_on n w = by (has_number (replicate n false) w) refl
@@ -64,12 +67,15 @@ module _ {ss : List VerifiedWire} where
 -- Without the marks of unfit wires they are true of whatever is known.
 pub true_of_any : {k : Kept} {ss ts : List VerifiedWire} {b : DefectMarks} (unfit : List Bool) (n : ℕ) → unfit ≡ replicate n false → (told : Option Faults) → TrueIf told k ss b → TrueIf told k ts (record b { unfit = unfit })
 true_of_any {k} {ss} {ts} {b} unfit n none told t = record {
-  at = λ f e h. let old = t.at f e h in record {
-    stuck = old.stuck;
-    unfit = λ w on clear alone. absurd (false≢true (sym (none_on n w) ∙ subst (λ (s : List Bool). has_number s w ≡ true) none on));
-    unclear = old.unclear;
-    wrong = old.wrong;
-  };
+  at = λ f e. let old = t.at f e in (
+    old.0,
+    record {
+      stuck = old.1.stuck;
+      unfit = λ w on clear alone. absurd (false≢true (sym (none_on n w) ∙ subst (λ (s : List Bool). has_number s w ≡ true) none on));
+      unclear = old.1.unclear;
+      wrong = old.1.wrong;
+    },
+  );
 }
 
 pub marks_cleared : {m : Shape} {b : DefectMarks} (unfit : List Bool) → length unfit ≡ length b.unfit → AreMarksFor m b → AreMarksFor m (record b { unfit = unfit })

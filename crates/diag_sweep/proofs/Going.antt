@@ -1,22 +1,22 @@
 -- Steps of a sweep, one after the other.
-use Rattle.std.proofs.Common.{◌≡◌, ◌⊎◌, ℕ, ◌+◌, ◌≤◌, true, List, [], sym, ap, ◌∙◌, subst, inl, inr, arith}
+use Rattle.std.proofs.Common.{◌≡◌, ◌⊎◌, ℕ, ◌+◌, ◌≤◌, Bool, true, Result, Ok, Err, OnOk, OnErr, List, [], sym, ap, ◌∙◌, subst, inl, inr, arith}
 use Rattle.base_bits.specs.Numbers.{has_number}
 use Rattle.machine_shape.specs.declared.Table.{Table}
 use Rattle.machine_shape.specs.Shape.{crosses_of}
-use Rattle.diag_evidence.specs.Kept.{Kept, IsMore, Advances}
-use Rattle.diag_evidence.proofs.Keeping.{advances_itself, advances_then}
+use Rattle.diag_evidence.specs.Kept.{Kept, IsMore, Advances, HasRetaken, KeepsSet, is_apart}
+use Rattle.diag_evidence.proofs.Keeping.{advances_itself, advances_then, holds_retaken, retaken_cross, retaken_shape, retaken_still}
 use Rattle.diag_evidence.proofs.KeptLemmas.{more_itself}
 use Rattle.rig.specs.Rig.{RigState, ForEach, Narrows}
-use Rattle.diag_known.specs.Vocabulary.{KnownWires, HasWire, IsKnown, IsFieldOf, GrowsIn}
+use Rattle.diag_known.specs.Vocabulary.{KnownWires, HasWire, IsKnown, KnowsAll, IsFieldOf, GrowsIn}
 use Rattle.diag_known.specs.declared.field.Field.{Field}
 use Rattle.diag_known.specs.declared.verified_wire.VerifiedWire.{VerifiedWire}
-use Rattle.diag_known.proofs.Later.{known_later}
+use Rattle.diag_known.proofs.Later.{known_later, known_retaken, retaken_all}
 use Rattle.diag_sweep.specs.Marks.{HasTable, MarksIn, TrueIf}
-use Rattle.diag_sweep.specs.Stages.{Hand, Goes, IsHand, Settles, in_hand}
+use Rattle.diag_sweep.specs.Stages.{Hand, Goes, GoesYet, IsHand, IsHandYet, Settles, in_hand}
 use Rattle.diag_sweep.specs.declared.defect_marks.DefectMarks.{DefectMarks}
 use Rattle.diag_sweep.specs.declared.budget.LoadBudget.{LoadBudget}
-use Rattle.diag_sweep.proofs.Marking.{marks_itself, marks_then, marks_for, true_later}
-use Rattle.diag_sweep.proofs.Paying.{funded_test}
+use Rattle.diag_sweep.proofs.Marking.{marks_itself, marks_then, marks_for, true_later, true_back}
+use Rattle.diag_sweep.proofs.Paying.{funded_test, funded_back}
 
 pub grows_itself : (a : Field) (ss : List VerifiedWire) → GrowsIn a ss ss
 grows_itself a ss = record { stays = λ w has. has; within = λ w has. inl has }
@@ -75,9 +75,48 @@ goes_wider {now} {a} {x} {y} tables g = record {
     by i (inl on) = inl on
     by i (inr has) = absurd (none i has)
 
+-- a step whose hand knows all of the set, and back
+pub goes_whole : {now : RigState} {a : Field} {tables : List Table} {x y : Hand} → KnowsAll y.kept y.known.steps → GoesYet now a tables x y → Goes now a tables x y
+goes_whole all g = record {
+  hand = record { known = g.hand.known; all = all; field = g.hand.field; marks = g.hand.marks; budget = g.hand.budget };
+  grows = g.grows;
+  marks = g.marks;
+  holds = g.holds;
+  funded = g.funded;
+}
+
+pub hand_yet : {a : Field} {h : Hand} → IsHand a h → IsHandYet a h
+hand_yet is = record { known = is.known; field = is.field; marks = is.marks; budget = is.budget }
+
+pub yet_itself : {now : RigState} {a : Field} {tables : List Table} {h : Hand} → IsHand a h → GoesYet now a tables h h
+yet_itself {a = a} {tables = tables} {h = h} is = record {
+  hand = hand_yet is;
+  grows = grows_itself a h.known.steps;
+  marks = marks_itself a tables h.bad;
+  holds = λ f e t. t;
+  funded = λ limit f. f;
+}
+
+pub yet_then : {now : RigState} {a : Field} {tables : List Table} {x y z : Hand} → GoesYet now a tables x y → GoesYet now a tables y z → GoesYet now a tables x z
+yet_then p q = record {
+  hand = q.hand;
+  grows = grows_then p.grows q.grows;
+  marks = marks_then p.marks q.marks;
+  holds = λ f e t. q.holds f e (p.holds f e t);
+  funded = λ limit f. q.funded limit (p.funded limit f);
+}
+
+-- the set stays as it was by what a test shows, or what it leaves where it ends early
+pub set_of : {k l : Kept} → l ≡ k → KeepsSet k l
+set_of still w = ap (λ (n : Kept). is_apart n w) still
+
+pub set_by : {T E : Type 0} {k l : Kept} (r : Result T E) → OnOk r (KeepsSet k l) → OnErr r (l ≡ k) → KeepsSet k l
+set_by (Ok v) same still = same
+set_by (Err e) same still = set_of still
+
 -- a test that marks, and was paid for
 pub goes_tested : {now : RigState} {a : Field} {tables : List Table} {k l : Kept} {known : KnownWires} {bad new : DefectMarks} {budget : LoadBudget} {before after : ℕ} (n : ℕ) → IsHand a (in_hand k known bad budget before) → before + n ≤ budget.most → after ≤ before + n → IsMore k l →
-    MarksIn a tables bad new → ForEach now (λ told. TrueIf told k known.steps bad → TrueIf told l known.steps new) → Goes now a tables (in_hand k known bad budget before) (in_hand l known new budget after)
+    MarksIn a tables bad new → ForEach now (λ told. TrueIf told k known.steps bad → TrueIf told l known.steps new) → GoesYet now a tables (in_hand k known bad budget before) (in_hand l known new budget after)
 goes_tested {a = a} {known = known} n hand can took more marked holds = record {
   hand = record {
     known = known_later more hand.known;
@@ -103,10 +142,39 @@ gone_none {r} {k} hand = record { hand = hand; goes = goes_itself hand; advances
 pub gone_on : {r s t : RigState} {j k l : Kept} {a : Field} {tables : List Table} {x y z : Hand} → HasGone r s j k a tables x y → Goes t a tables y z → Advances s t k l → HasGone r t j l a tables x z
 gone_on p q on = record { hand = q.hand; goes = goes_on p.goes on q; advances = advances_then p.advances on }
 
+-- The set is taken back to what is known: a step that advances, seen from what was known before.
+pub advances_back : {a : Field} {k l n : Kept} {ss ts : List VerifiedWire} {wires : List Bool} {r s : RigState} → KnowsAll k ss → GrowsIn a ss ts → ((w : ℕ) → HasWire ts w → has_number wires w ≡ true) → HasRetaken wires l n → Advances r s k l → Advances r s k n
+advances_back all grows whole ret adv = record {
+  machine = adv.machine;
+  later = adv.later;
+  counted = adv.counted;
+  few = adv.few;
+  more = retaken_still ret adv.more (λ w on. whole w (grows.stays w (all w on)));
+  narrows = adv.narrows;
+  tells = adv.tells;
+  explained = λ f e h. holds_retaken ret f (adv.explained f e h);
+}
+
+pub goes_back : {now : RigState} {a : Field} {tables : List Table} {j l n : Kept} {old new : KnownWires} {bad found : DefectMarks} {budget purse : LoadBudget} {before after : ℕ} {wires : List Bool} → ((w : ℕ) → HasWire new.steps w → has_number wires w ≡ true) →
+    ((w : ℕ) → has_number wires w ≡ true → HasWire new.steps w) → HasRetaken wires l n → GoesYet now a tables (in_hand j old bad budget before) (in_hand l new found purse after) → Goes now a tables (in_hand j old bad budget before) (in_hand n new found purse after)
+goes_back {now} {a} {tables} {j} {l} {n} {old} {new} {bad} {found} whole known ret g = record {
+  hand = record {
+    known = known_retaken ret whole g.hand.known;
+    all = retaken_all ret known;
+    field = subst (λ m. IsFieldOf m a) (sym (retaken_shape ret)) g.hand.field;
+    marks = marks_for (retaken_shape ret) g.hand.marks (marks_itself a tables found);
+    budget = g.hand.budget ∙ ap crosses_of (sym (retaken_shape ret));
+  };
+  grows = g.grows;
+  marks = g.marks;
+  holds = λ f e t. true_back (retaken_shape ret) (λ h _. holds_retaken ret h) (g.holds f e t);
+  funded = λ limit f. funded_back (retaken_cross ret) (g.funded limit f);
+}
+
 -- a purse that is settled anew
-pub goes_settled : {now : RigState} {a : Field} {tables : List Table} {k : Kept} {known : KnownWires} {bad : DefectMarks} {old new : LoadBudget} {loads : ℕ} → IsHand a (in_hand k known bad old loads) → Settles k bad old new →
-    Goes now a tables (in_hand k known bad old loads) (in_hand k known bad new loads)
-goes_settled {now} {a} {tables} {k} {known} {bad} {old} {new} {loads} hand s = record {
+pub yet_settled : {now : RigState} {a : Field} {tables : List Table} {k : Kept} {known : KnownWires} {bad : DefectMarks} {old new : LoadBudget} {loads : ℕ} → IsHandYet a (in_hand k known bad old loads) → Settles k bad old new →
+    GoesYet now a tables (in_hand k known bad old loads) (in_hand k known bad new loads)
+yet_settled {now} {a} {tables} {k} {known} {bad} {old} {new} {loads} hand s = record {
   hand = record { known = hand.known; field = hand.field; marks = hand.marks; budget = s.len ∙ hand.budget };
   grows = grows_itself a known.steps;
   marks = marks_itself a tables bad;
@@ -118,13 +186,17 @@ goes_settled {now} {a} {tables} {k} {known} {bad} {old} {new} {loads} hand s = r
   };
 }
 
+pub goes_settled : {now : RigState} {a : Field} {tables : List Table} {k : Kept} {known : KnownWires} {bad : DefectMarks} {old new : LoadBudget} {loads : ℕ} → IsHand a (in_hand k known bad old loads) → Settles k bad old new →
+    Goes now a tables (in_hand k known bad old loads) (in_hand k known bad new loads)
+goes_settled hand s = goes_whole hand.all (yet_settled (hand_yet hand) s)
+
 -- more is known
-pub goes_learnt : {now : RigState} {a : Field} {tables : List Table} {k : Kept} {old new : KnownWires} {bad : DefectMarks} {budget : LoadBudget} {loads : ℕ} → IsHand a (in_hand k old bad budget loads) → IsKnown k new → GrowsIn a old.steps new.steps →
-    Goes now a tables (in_hand k old bad budget loads) (in_hand k new bad budget loads)
-goes_learnt {now} {a} {tables} {k} {old} {new} {bad} {budget} {loads} hand known grows = record {
+pub yet_learnt : {now : RigState} {a : Field} {tables : List Table} {k : Kept} {old new : KnownWires} {bad : DefectMarks} {budget : LoadBudget} {loads : ℕ} → IsHandYet a (in_hand k old bad budget loads) → IsKnown k new → GrowsIn a old.steps new.steps →
+    GoesYet now a tables (in_hand k old bad budget loads) (in_hand k new bad budget loads)
+yet_learnt {now} {a} {tables} {k} {old} {new} {bad} {budget} {loads} hand known grows = record {
   hand = record { known = known; field = hand.field; marks = hand.marks; budget = hand.budget };
   grows = grows;
   marks = marks_itself a tables bad;
-  holds = λ f e t. true_later (more_itself k) grows.stays t;
+  holds = λ f e t. true_later (more_itself k) (λ g is h. h) grows.stays t;
   funded = λ limit f. record { paid = f.paid; within = f.within; whole = f.whole };
 }

@@ -6,15 +6,17 @@ use Rattle.std.proofs.lemmas.Bool.Decides.{nat_tests}
 use Rattle.base_bits.specs.Numbers.{has_number}
 use Rattle.machine_shape.specs.declared.Table.{Table}
 use Rattle.machine_shape.specs.Shape.{crosses_of}
-use Rattle.rig.specs.Rig.{RigState, ForEach}
-use Rattle.diag_evidence.specs.Vocabulary.{Trees, Foot, HasMarked, ShowsTried, StayMarked, UnfitIf, UnclearIf, is_unfit_in, is_unclear_in, overs, turned, Kept, IsMore}
+use Rattle.machine_meaning.specs.Faults.{Faults}
+use Rattle.rig.specs.Rig.{RigState, Explains, ForEach}
+use Rattle.diag_evidence.specs.Vocabulary.{Trees, Foot, HasMarked, ShowsTried, StayMarked, UnfitIf, UnclearIf, is_unfit_in, is_unclear_in, overs, turned, Kept, HoldsFor, IsMore}
+use Rattle.diag_evidence.proofs.Keeping.{of_told}
 use Rattle.diag_evidence.specs.declared.hangs.WireTest.{WireTest}
 use Rattle.diag_known.specs.Vocabulary.{IsFieldOf, KnownWires, HasWire}
 use Rattle.diag_known.specs.declared.field.Field.{Field}
 use Rattle.diag_known.specs.declared.verified_wire.VerifiedWire.{VerifiedWire}
 use Rattle.diag_known.proofs.Later.{known_later}
 use Rattle.diag_sweep.specs.Marks.{MarksIn, MarksSome, TrueIf}
-use Rattle.diag_sweep.specs.Stages.{Goes, IsHand, in_hand}
+use Rattle.diag_sweep.specs.Stages.{GoesYet, IsHand, in_hand}
 use Rattle.diag_sweep.specs.declared.defect_marks.DefectMarks.{DefectMarks}
 use Rattle.diag_sweep.specs.declared.budget.LoadBudget.{LoadBudget}
 use Rattle.diag_sweep.proofs.Going.{grows_itself, goes_tested}
@@ -125,28 +127,31 @@ unclear_marks a trees hs before after k l was is were are (Err e) of len stay tr
 
 -- a test that marks wires, and was paid for
 pub hang_goes : {now : RigState} {a : Field} {tables : List Table} {k l : Kept} {known : KnownWires} {bad : DefectMarks} {unfit unclear : List Bool} {budget : LoadBudget} {before after : ℕ} (n : ℕ) → IsHand a (in_hand k known bad budget before) → before + n ≤ budget.most → after ≤ before + n → IsMore k l →
-    MarksSome (λ w. has_number a.wires w ≡ true) bad.unfit unfit → MarksSome (λ w. has_number a.wires w ≡ true) bad.unclear unclear →
+    ((f : Faults) → Explains f now → HoldsFor k f → HoldsFor l f) → MarksSome (λ w. has_number a.wires w ≡ true) bad.unfit unfit → MarksSome (λ w. has_number a.wires w ≡ true) bad.unclear unclear →
     ForEach now (λ told. UnfitIf told k (is_step known.steps) bad.unfit → UnfitIf told l (is_step known.steps) unfit) → ForEach now (λ told. UnclearIf told k bad.unclear → UnclearIf told l unclear) →
-    Goes now a tables (in_hand k known bad budget before) (in_hand l known (record bad { unfit = unfit; unclear = unclear }) budget after)
-hang_goes {now} {a} {tables} {k} {l} {known} {bad} {unfit} {unclear} {budget} {before} {after} n hand can took more marks also fit clear = goes_tested n hand can took more marked holds
+    GoesYet now a tables (in_hand k known bad budget before) (in_hand l known (record bad { unfit = unfit; unclear = unclear }) budget after)
+hang_goes {now} {a} {tables} {k} {l} {known} {bad} {unfit} {unclear} {budget} {before} {after} n hand can took more explained marks also fit clear = goes_tested n hand can took more marked holds
   where
     marked : MarksIn a tables bad (record bad { unfit = unfit; unclear = unclear })
     marked = record { stuck = some_itself _ bad.stuck; unfit = marks; unclear = also; wrong = some_itself _ bad.wrong }
 
     holds : ForEach now (λ told. TrueIf told k known.steps bad → TrueIf told l known.steps (record bad { unfit = unfit; unclear = unclear }))
     holds s x t = record {
-      at = λ f e h. let old = (true_later more (λ u on. on) t).at f e h in record {
-        stuck = old.stuck;
-        unfit = λ w on is alone. fit s x (λ f e h w on is alone. (t.at f e h).unfit w on is (λ u has. alone u (step_has known.steps u has))) f e h w on is (λ u step. alone u (has_step known.steps u step));
-        unclear = λ w on. clear s x (λ f e h. (t.at f e h).unclear) f e h w on;
-        wrong = old.wrong;
-      };
+      at = λ f e. let both = (true_later more (of_told (λ g. HoldsFor k g → HoldsFor l g) (explained s x)) (λ u on. on) t).at f e in (
+        both.0,
+        record {
+          stuck = both.1.stuck;
+          unfit = λ w on is alone. fit s x (λ f e h w on is alone. (t.at f e).1.unfit w on is (λ u has. alone u (step_has known.steps u has))) f e both.0 w on is (λ u step. alone u (has_step known.steps u step));
+          unclear = λ w on. clear s x (λ f e h. (t.at f e).1.unclear) f e both.0 w on;
+          wrong = both.1.wrong;
+        },
+      );
     }
 
 -- a test that marks nothing, and was paid for
 pub plain_goes : {now : RigState} {a : Field} {tables : List Table} {k l : Kept} {known : KnownWires} {bad : DefectMarks} {budget : LoadBudget} {before after : ℕ} (n : ℕ) → IsHand a (in_hand k known bad budget before) → before + n ≤ budget.most → after ≤ before + n → IsMore k l →
-    Goes now a tables (in_hand k known bad budget before) (in_hand l known bad budget after)
-plain_goes {now} {a} {tables} {k} {l} {known} {bad} {budget} {before} {after} n hand can took more = record {
+    ((f : Faults) → Explains f now → HoldsFor k f → HoldsFor l f) → GoesYet now a tables (in_hand k known bad budget before) (in_hand l known bad budget after)
+plain_goes {now} {a} {tables} {k} {l} {known} {bad} {budget} {before} {after} n hand can took more explained = record {
   hand = record {
     known = known_later more hand.known;
     field = subst (λ m. IsFieldOf m a) (sym more.shape) hand.field;
@@ -155,6 +160,6 @@ plain_goes {now} {a} {tables} {k} {l} {known} {bad} {budget} {before} {after} n 
   };
   grows = grows_itself a known.steps;
   marks = marks_itself a tables bad;
-  holds = λ f e t. true_later more (λ u on. on) t;
+  holds = λ f e t. true_later more (of_told (λ g. HoldsFor k g → HoldsFor l g) (explained f e)) (λ u on. on) t;
   funded = funded_test n can took more (λ x on. on);
 }

@@ -1,16 +1,15 @@
 -- Wires that come to be known.
-use Rattle.std.proofs.Common.{◌≡◌, ◌≢◌, ◌⊎◌, ℕ, ◌+◌, ◌<◌, ◌≤◌, true, List, [], ◌∷◌, ◌++◌, length, refl, sym, ap, ◌∙◌, subst, inl, inr, arith, slice_get, Some, Result, Ok, Err, OnOk, OnErr}
-use native.Mathlib.Decide.{ℕ_discrete}
+use Rattle.std.proofs.Common.{◌≡◌, ◌≢◌, ◌⊎◌, ℕ, ◌<◌, true, List, [], ◌∷◌, ◌++◌, length, refl, sym, ap, ◌∙◌, subst, inl, inr, slice_get, Some, Result, Ok, Err, OnOk, OnErr}
 use Rattle.base_bits.specs.Numbers.{has_number}
 use Rattle.machine_shape.specs.Shape.{pins_of, pin_wire}
-use Rattle.diag_evidence.specs.Kept.{Kept, keeps_wire, keeps_pair}
-use Rattle.diag_known.specs.Vocabulary.{KnownWires, HasWire, IsAt, IsBefore, IsFoot, IsGood, IsKnown, Stands, on_pin, on_feet, GrowsIn}
+use Rattle.diag_evidence.specs.Kept.{Kept}
+use Rattle.diag_known.specs.Vocabulary.{KnownWires, HasWire, IsFoot, IsGood, IsKnown, Stands, on_pin, on_feet, GrowsIn}
 use Rattle.diag_known.specs.declared.field.Field.{Field}
 use Rattle.diag_known.specs.declared.verified_wire.Support.{Support}
 use Rattle.diag_known.specs.declared.verified_wire.SupportedBy.TheVariants as stand
 use Rattle.diag_known.specs.declared.verified_wire.VerifiedWire.{VerifiedWire}
 use Rattle.diag_known.proofs.Later.{learnt}
-use Rattle.diag_known.proofs.Places.{at_one, at_within, get_pushed, has_later}
+use Rattle.diag_known.proofs.Places.{get_pushed, has_later}
 use Rattle.diag_sweep.proofs.Going.{grows_itself}
 
 -- one step more
@@ -43,14 +42,3 @@ stands_on_feet f g a b differ = on_feet a b differ
 
 pub stands_on_pin : {k : Kept} {ss : List VerifiedWire} {w pin : ℕ} → pin < pins_of k.shape → w ≡ pin_wire k.shape pin → Stands k ss (length ss) w (stand.Pin pin)
 stands_on_pin within e = on_pin within e
-
--- a wire that was looked at with one known wire after the other
-pub apart_next : {ss : List VerifiedWire} {n v : ℕ} (P : ℕ → Type 0) → ((u : ℕ) → IsBefore ss n u → P u) → IsAt ss n v → P v → (u : ℕ) → IsBefore ss (n + 1) u → P u
-apart_next {ss} {n} {v} P all here is u b = by (ℕ_discrete b.place n)
-  where
-    by : Dec (b.place ≡ n) → P u
-    by (yes e) = subst P (at_one here (subst (λ i. IsAt ss i u) e b.at)) is
-    by (no other) = all u (record { place = b.place; early = (let early = b.early in omega (arith, early, other)); at = b.at })
-
-pub good_all : {k : Kept} {ss : List VerifiedWire} {n w : ℕ} → keeps_wire k w ≡ true → length ss ≤ n → ((u : ℕ) → IsBefore ss n u → keeps_pair k u w ≡ true) → IsGood k ss w
-good_all {k} {ss} kept whole all = record { kept = kept; apart = λ u has. all u (record { place = has.place; early = (let within = at_within has.at in omega (arith, within, whole)); at = has.at }) }

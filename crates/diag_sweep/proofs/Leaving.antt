@@ -102,7 +102,7 @@ none_some o e n = n e
 
 -- what is closed without what is marked is closed with it
 pub closed_with : (told : Option Faults) (k : Kept) (ss : List VerifiedWire) (b : DefectMarks) (a rest : Field) → IsWithout b a rest → TrueIf told k ss b → ClosedIf told k rest ss → ClosedIf told k a ss
-closed_with told k ss b a rest without true_ closed = record { at = λ f e h. whole f (true_.at f e h) (closed.at f e h) }
+closed_with told k ss b a rest without true_ closed = record { at = λ f e h. whole f (true_.at f e).1 (closed.at f e h) }
   where
     whole : (f : Faults) → AreTrueMarks k.shape f (HasWire ss) b → IsClosed k f rest (HasWire ss) → IsClosed k f a (HasWire ss)
     whole f marks c = record {

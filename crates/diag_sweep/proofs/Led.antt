@@ -6,14 +6,16 @@ use Rattle.std.proofs.lemmas.List.Folds.{list_any-append}
 use Rattle.base_bits.specs.Numbers.{has_number}
 use Rattle.machine_meaning.specs.Vocabulary.{Pins}
 use Rattle.machine_config.specs.Vocabulary.{among}
-use Rattle.rig.specs.Rig.{RigState, ForEach}
-use Rattle.diag_evidence.specs.Vocabulary.{Kept, IsMore, keeps_cross, StuckIf, Trees, arrives, held_up_at, is_only_unkept, crosses_along, crosses_of_leads}
+use Rattle.machine_meaning.specs.Faults.{Faults}
+use Rattle.rig.specs.Rig.{Explains, RigState, ForEach}
+use Rattle.diag_evidence.specs.Vocabulary.{Kept, HoldsFor, IsMore, KeepsSet, keeps_cross, ShowsLed, StuckIf, Trees, arrives, held_up_at, is_only_unkept, crosses_along, crosses_of_leads, led_over, these_crosses}
 use Rattle.diag_evidence.specs.declared.leads.Lead.{Lead}
+use Rattle.diag_evidence.proofs.Keeping.{of_told, trial_by_gain}
 use Rattle.diag_known.specs.Known.{KnownWires}
 use Rattle.diag_known.specs.declared.field.Field.{Field}
 use Rattle.diag_sweep.specs.Courses.{CanLead}
 use Rattle.diag_sweep.specs.Marks.{MarksSome, MarksIn, TrueIf}
-use Rattle.diag_sweep.specs.Stages.{Goes, IsHand, in_hand}
+use Rattle.diag_sweep.specs.Stages.{GoesYet, IsHand, in_hand}
 use Rattle.diag_sweep.specs.declared.defect_marks.DefectMarks.{DefectMarks}
 use Rattle.diag_sweep.specs.declared.budget.LoadBudget.{LoadBudget}
 use Rattle.diag_sweep.proofs.Going.{goes_tested}
@@ -64,11 +66,15 @@ stuck_marks a k l trees ls was is (Ok v) c len led same = record {
     by x (inr on) = inl on
 stuck_marks a k l trees ls was is (Err e) c len led same = subst (MarksSome (λ x. has_number a.crosses x ≡ true) was) (sym same) (some_itself _ was)
 
+-- no wire joins the set by it
+pub led_set : {trees : Trees} {ls : List Lead} {before after : RigState} {k l : Kept} {was is : List Bool} → ShowsLed trees ls before after k l was is → KeepsSet k l
+led_set {ls = ls} {k = k} {l = l} led = (trial_by_gain (these_crosses (led_over led.rows ls)) k l led.gains (λ w. refl)).apart
+
 pub lead_goes : {now : RigState} {a : Field} {k l : Kept} {known : KnownWires} {bad : DefectMarks} {budget : LoadBudget} {before after : ℕ} {trees : Trees} {ls : List Lead} {stuck : List Bool} {T E : Type 0} (r : Result T E) →
-    IsHand a (in_hand k known bad budget before) → CanLead k a trees ls → before + 1 ≤ budget.most → after ≤ before + 1 → IsMore k l → length stuck ≡ length bad.stuck →
+    IsHand a (in_hand k known bad budget before) → CanLead k a trees ls → before + 1 ≤ budget.most → after ≤ before + 1 → IsMore k l → ((f : Faults) → Explains f now → HoldsFor k f → HoldsFor l f) → length stuck ≡ length bad.stuck →
     OnOk r (MarksHeldUp k ls bad.stuck stuck) → OnErr r (stuck ≡ bad.stuck) → ForEach now (λ told. StuckIf told k bad.stuck → StuckIf told l stuck) →
-    Goes now a [] (in_hand k known bad budget before) (in_hand l known (record bad { stuck = stuck }) budget after)
-lead_goes {now} {a} {k} {l} {known} {bad} {budget} {before} {after} {trees} {ls} {stuck} r hand course can took more len led same true_ = goes_tested 1 hand can took more marked holds
+    GoesYet now a [] (in_hand k known bad budget before) (in_hand l known (record bad { stuck = stuck }) budget after)
+lead_goes {now} {a} {k} {l} {known} {bad} {budget} {before} {after} {trees} {ls} {stuck} r hand course can took more explained len led same true_ = goes_tested 1 hand can took more marked holds
   where
     marked : MarksIn a [] bad (record bad { stuck = stuck })
     marked = record {
@@ -80,10 +86,13 @@ lead_goes {now} {a} {k} {l} {known} {bad} {budget} {before} {after} {trees} {ls}
 
     holds : ForEach now (λ told. TrueIf told k known.steps bad → TrueIf told l known.steps (record bad { stuck = stuck }))
     holds s x t = record {
-      at = λ f e h. let old = (true_later more (λ u on. on) t).at f e h in record {
-        stuck = true_ s x (λ f e h. (t.at f e h).stuck) f e h;
-        unfit = old.unfit;
-        unclear = old.unclear;
-        wrong = old.wrong;
-      };
+      at = λ f e. let both = (true_later more (of_told (λ g. HoldsFor k g → HoldsFor l g) (explained s x)) (λ u on. on) t).at f e in (
+        both.0,
+        record {
+          stuck = true_ s x (λ f e h. (t.at f e).1.stuck) f e both.0;
+          unfit = both.1.unfit;
+          unclear = both.1.unclear;
+          wrong = both.1.wrong;
+        },
+      );
     }

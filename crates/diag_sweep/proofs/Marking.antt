@@ -1,12 +1,11 @@
 -- Marks stay true as more is kept and more is known.
-use Rattle.std.proofs.Common.{◌≡◌, ◌⊎◌, ℕ, Bool, true, Option, List, refl, sym, ap, ◌∙◌, subst, inl, inr}
+use Rattle.std.proofs.Common.{◌≡◌, ◌⊎◌, ℕ, Bool, true, Option, Some, List, refl, sym, ap, ◌∙◌, subst, inl, inr}
 use Rattle.base_bits.specs.Numbers.{has_number}
 use Rattle.machine_shape.specs.declared.Shape.{Shape}
 use Rattle.machine_shape.specs.declared.Table.{Table}
 use Rattle.machine_meaning.specs.Faults.{Faults}
 use Rattle.machine_shape.specs.Shape.{wires_of, crosses_of, tables_of}
 use Rattle.diag_evidence.specs.Kept.{Kept, IsMore, HoldsFor}
-use Rattle.diag_evidence.proofs.Keeping.{holds_earlier}
 use Rattle.diag_known.specs.Known.{HasWire}
 use Rattle.diag_known.specs.declared.field.Field.{Field}
 use Rattle.diag_known.specs.declared.verified_wire.VerifiedWire.{VerifiedWire}
@@ -37,9 +36,13 @@ marks_for same are in_ = record {
   wrong = in_.wrong.len ∙ are.wrong ∙ ap tables_of (sym same);
 }
 
+-- less of the set is kept: the same marks stay true
+pub true_back : {told : Option Faults} {k l : Kept} {ss : List VerifiedWire} {b : DefectMarks} → l.shape ≡ k.shape → ((f : Faults) → told ≡ Some f → HoldsFor k f → HoldsFor l f) → TrueIf told k ss b → TrueIf told l ss b
+true_back {ss = ss} {b = b} shape explained t = record { at = λ f e. (explained f e (t.at f e).0, subst (λ (m : Shape). AreTrueMarks m f (HasWire ss) b) (sym shape) (t.at f e).1) }
+
 -- more is kept and more is known: the same marks stay true
-pub true_later : {told : Option Faults} {k l : Kept} {ss ts : List VerifiedWire} {b : DefectMarks} → IsMore k l → ((w : ℕ) → HasWire ss w → HasWire ts w) → TrueIf told k ss b → TrueIf told l ts b
-true_later {told} {k} {l} {ss} {ts} {b} more known t = record { at = λ f e h. subst (λ (m : Shape). AreTrueMarks m f (HasWire ts) b) (sym more.shape) (at f (t.at f e (holds_earlier more h))) }
+pub true_later : {told : Option Faults} {k l : Kept} {ss ts : List VerifiedWire} {b : DefectMarks} → IsMore k l → ((f : Faults) → told ≡ Some f → HoldsFor k f → HoldsFor l f) → ((w : ℕ) → HasWire ss w → HasWire ts w) → TrueIf told k ss b → TrueIf told l ts b
+true_later {told} {k} {l} {ss} {ts} {b} more explained known t = record { at = λ f e. (explained f e (t.at f e).0, subst (λ (m : Shape). AreTrueMarks m f (HasWire ts) b) (sym more.shape) (at f (t.at f e).1)) }
   where
     at : (f : Faults) → AreTrueMarks k.shape f (HasWire ss) b → AreTrueMarks k.shape f (HasWire ts) b
     at f old = record {

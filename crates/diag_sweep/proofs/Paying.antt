@@ -32,3 +32,11 @@ funded_test {b = b} {c = c} n can took more stays limit f = record {
   within = f.within;
   whole = λ x on is. f.whole x on (undecided_before b c more stays x is);
 }
+
+-- where the same crosspoints are kept
+pub funded_back : {a : Field} {k l : Kept} {known : KnownWires} {b : DefectMarks} {budget : LoadBudget} {loads limit : ℕ} → ((x : ℕ) → keeps_cross l x ≡ keeps_cross k x) → IsFunded limit a (in_hand k known b budget loads) → IsFunded limit a (in_hand l known b budget loads)
+funded_back {b = b} same f = record {
+  paid = f.paid;
+  within = f.within;
+  whole = λ x on is. f.whole x on (ap (λ t. not t && not (has_number b.stuck x)) (sym (same x)) ∙ is);
+}

@@ -4,13 +4,14 @@ use Rattle.std.proofs.lemmas.Bool.{false≢true, or_cases, and_parts, or_right}
 use Rattle.std.proofs.lemmas.Bool.Decides.{nat_tests}
 use Rattle.base_bits.specs.Numbers.{has_number}
 use Rattle.machine_shape.specs.declared.Table.{Table}
-use Rattle.rig.specs.Rig.{RigState, ForEach}
-use Rattle.diag_evidence.specs.Vocabulary.{Trees, Kept, Advances, IsMore, ShowsTabled, WrongIf, is_one_of, is_right_before, output_pin}
-use Rattle.diag_evidence.proofs.Keeping.{advances_itself, advances_then}
+use Rattle.machine_meaning.specs.Faults.{Faults}
+use Rattle.rig.specs.Rig.{Explains, RigState, ForEach}
+use Rattle.diag_evidence.specs.Vocabulary.{Trees, Kept, Advances, HoldsFor, IsMore, KeepsSet, ShowsTabled, WrongIf, is_one_of, is_right_before, output_pin, right_parts}
+use Rattle.diag_evidence.proofs.Keeping.{advances_itself, advances_then, of_told, trial_by_gain}
 use Rattle.diag_known.specs.Known.{KnownWires}
 use Rattle.diag_known.specs.declared.field.Field.{Field}
 use Rattle.diag_sweep.specs.Marks.{HasTable, MarksSome, MarksIn, TrueIf}
-use Rattle.diag_sweep.specs.Stages.{Goes, Hand, IsHand, in_hand}
+use Rattle.diag_sweep.specs.Stages.{Goes, GoesYet, Hand, IsHand, in_hand}
 use Rattle.diag_sweep.specs.declared.defect_marks.DefectMarks.{DefectMarks}
 use Rattle.diag_sweep.specs.declared.budget.LoadBudget.{LoadBudget}
 use Rattle.diag_sweep.proofs.Going.{goes_itself, goes_on, goes_tested}
@@ -41,10 +42,14 @@ wrong_marks trees tables ts before after k l was is (Ok v) of len tabled same = 
     by t (inr on) = inl on
 wrong_marks trees tables ts before after k l was is (Err e) of len tabled same = subst (MarksSome (HasTable tables) was) (sym same) (some_itself (HasTable tables) was)
 
+-- no wire joins the set by it
+pub tabled_set : {trees : Trees} {ts : List Table} {before after : RigState} {k l : Kept} {was is : List Bool} → ShowsTabled trees ts before after k l was is → KeepsSet k l
+tabled_set {trees} {ts} {k = k} {l = l} t = (trial_by_gain (right_parts trees ts t.setting t.reads t.opposite) k l t.gains (λ w. refl)).apart
+
 pub table_goes : {now : RigState} {a : Field} {k l : Kept} {known : KnownWires} {bad : DefectMarks} {wrong : List Bool} {budget : LoadBudget} {before after : ℕ} (tables : List Table) → IsHand a (in_hand k known bad budget before) → before + 2 ≤ budget.most →
-    after ≤ before + 2 → IsMore k l → MarksSome (HasTable tables) bad.wrong wrong → ForEach now (λ told. WrongIf told k bad.wrong → WrongIf told l wrong) →
-    Goes now a tables (in_hand k known bad budget before) (in_hand l known (record bad { wrong = wrong }) budget after)
-table_goes {now} {a} {k} {l} {known} {bad} {wrong} {budget} {before} {after} tables hand can took more marks true_ = goes_tested 2 hand can took more marked holds
+    after ≤ before + 2 → IsMore k l → ((f : Faults) → Explains f now → HoldsFor k f → HoldsFor l f) → MarksSome (HasTable tables) bad.wrong wrong → ForEach now (λ told. WrongIf told k bad.wrong → WrongIf told l wrong) →
+    GoesYet now a tables (in_hand k known bad budget before) (in_hand l known (record bad { wrong = wrong }) budget after)
+table_goes {now} {a} {k} {l} {known} {bad} {wrong} {budget} {before} {after} tables hand can took more explained marks true_ = goes_tested 2 hand can took more marked holds
   where
     marked : MarksIn a tables bad (record bad { wrong = wrong })
     marked = record {
@@ -56,12 +61,15 @@ table_goes {now} {a} {k} {l} {known} {bad} {wrong} {budget} {before} {after} tab
 
     holds : ForEach now (λ told. TrueIf told k known.steps bad → TrueIf told l known.steps (record bad { wrong = wrong }))
     holds s x t = record {
-      at = λ f e h. let old = (true_later more (λ u on. on) t).at f e h in record {
-        stuck = old.stuck;
-        unfit = old.unfit;
-        unclear = old.unclear;
-        wrong = true_ s x (λ f e h. (t.at f e h).wrong) f e h;
-      };
+      at = λ f e. let both = (true_later more (of_told (λ g. HoldsFor k g → HoldsFor l g) (explained s x)) (λ u on. on) t).at f e in (
+        both.0,
+        record {
+          stuck = both.1.stuck;
+          unfit = both.1.unfit;
+          unclear = both.1.unclear;
+          wrong = true_ s x (λ f e h. (t.at f e).1.wrong) f e both.0;
+        },
+      );
     }
 
 -- a step after calls that left the tables as they were

@@ -26,9 +26,9 @@ pub record AreTrueMarks (m : Shape) (f : Faults) (wires : ℕ → Type 0) (b : D
   pub unclear : (w : ℕ) → has_number b.unclear w ≡ true → ¬ IsClear m f w
   pub wrong : (t : ℕ) → has_number b.wrong t ≡ true → ¬ IsRightTable f t
 
--- .. for what is known, where the faults are told and what is kept is true of them
+-- .. for what is known; and what is kept is true too, where the faults are told
 pub record TrueIf (told : Option Faults) (k : Kept) (ss : List VerifiedWire) (b : DefectMarks) : Type 0 where
-  pub at : (f : Faults) → told ≡ Some f → HoldsFor k f → AreTrueMarks k.shape f (HasWire ss) b
+  pub at : (f : Faults) → told ≡ Some f → HoldsFor k f × AreTrueMarks k.shape f (HasWire ss) b
 
 -- the table is one of these
 pub record HasTable (tables : List Table) (t : ℕ) : Type 0 where

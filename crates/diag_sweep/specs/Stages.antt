@@ -5,7 +5,7 @@ use Rattle.machine_shape.specs.declared.Table.{Table}
 use Rattle.machine_shape.specs.Shape.{crosses_of}
 use Rattle.rig.specs.Rig.{RigState, ForEach}
 use Rattle.diag_evidence.specs.Kept.{Kept}
-use Rattle.diag_known.specs.Vocabulary.{KnownWires, IsKnown, IsFieldOf, GrowsIn}
+use Rattle.diag_known.specs.Vocabulary.{KnownWires, IsKnown, KnowsAll, IsFieldOf, GrowsIn}
 use Rattle.diag_known.specs.declared.field.Field.{Field}
 use Rattle.diag_sweep.specs.Marks.{AreMarksFor, MarksIn, TrueIf, is_undecided}
 use Rattle.diag_sweep.specs.declared.defect_marks.DefectMarks.{DefectMarks}
@@ -22,8 +22,16 @@ pub record Hand : Type 0 where
 abbrev pub in_hand : Kept → KnownWires → DefectMarks → LoadBudget → ℕ → Hand
 in_hand k known bad budget loads = record { kept = k; known = known; bad = bad; budget = budget; loads = loads }
 
--- what is known is known by what is kept, and all is of one shape
+-- what is known is known by what is kept and is its set, and all is of one shape
 pub record IsHand (a : Field) (h : Hand) : Type 0 where
+  pub known : IsKnown h.kept h.known
+  pub all : KnowsAll h.kept h.known.steps
+  pub field : IsFieldOf h.kept.shape a
+  pub marks : AreMarksFor h.kept.shape h.bad
+  pub budget : length h.budget.unsettled ≡ crosses_of h.kept.shape
+
+-- .. where wires may have joined the set that aren't known yet
+pub record IsHandYet (a : Field) (h : Hand) : Type 0 where
   pub known : IsKnown h.kept h.known
   pub field : IsFieldOf h.kept.shape a
   pub marks : AreMarksFor h.kept.shape h.bad
@@ -40,6 +48,14 @@ pub record IsFunded (limit : ℕ) (a : Field) (h : Hand) : Type 0 where
 -- and stay true of each set of faults that explains what was read; and the purse has paid for it.
 pub record Goes (now : RigState) (a : Field) (tables : List Table) (old new : Hand) : Type 0 where
   pub hand : IsHand a new
+  pub grows : GrowsIn a old.known.steps new.known.steps
+  pub marks : MarksIn a tables old.bad new.bad
+  pub holds : ForEach now (λ told. TrueIf told old.kept old.known.steps old.bad → TrueIf told new.kept new.known.steps new.bad)
+  pub funded : (limit : ℕ) → IsFunded limit a old → IsFunded limit a new
+
+-- .. a step after which wires may have joined the set that aren't known yet
+pub record GoesYet (now : RigState) (a : Field) (tables : List Table) (old new : Hand) : Type 0 where
+  pub hand : IsHandYet a new
   pub grows : GrowsIn a old.known.steps new.known.steps
   pub marks : MarksIn a tables old.bad new.bad
   pub holds : ForEach now (λ told. TrueIf told old.kept old.known.steps old.bad → TrueIf told new.kept new.known.steps new.bad)

@@ -5,8 +5,8 @@ ghost use Rattle.base_bits.specs.Numbers.{has_number, size_of};
 ghost use Rattle.machine_meaning.specs.Faults.{Faults};
 ghost use Rattle.machine_shape.specs.Shape.{crosses_of, wires_of};
 ghost use Rattle.rig.specs.Rig.{ForEach, shape_of};
-ghost use Rattle.diag_evidence.specs.Kept.{Advances};
-ghost use Rattle.diag_known.specs.Vocabulary.{GrowsIn, IsFieldOf, HasWire, InSet, IsKnown, KnownWires};
+ghost use Rattle.diag_evidence.specs.Kept.{Advances, AdvancesButPairs, HoldsFor, IsButPairs};
+ghost use Rattle.diag_known.specs.Vocabulary.{GrowsIn, IsFieldOf, HasWire, InSet, IsKnown, KnownWires, KnowsAll};
 ghost use Rattle.diag_sweep.specs.Marks.{AreMarksFor, MarksIn, TrueIf, worth};
 ghost use Rattle.diag_sweep.specs.Stages.{IsFunded, in_hand};
 
@@ -182,35 +182,41 @@ fn known_among(known: &Known, wires: &BitSet) -> Result<BitSet, AllocError>
     Ok(set)
 }
 
-// Of the known wires some give way, if that was chosen. Which wires are unfit isn't known then.
+// Of the known wires some give way, and leave the set, if that was chosen. Which wires are unfit isn't known then.
 fn give_way(
-    facts: &Facts,
+    facts: &mut Facts,
     known: &mut Known,
     bad: &mut DefectMarks,
     chooser: &mut Chooser,
 ) -> Result<bool, AllocError>
-    requires known { IsKnown facts.now known.old }
-    requires marks { AreMarksFor facts.now.shape bad.old }
-    ensures known { IsKnown facts.now known.new }
+    requires known { IsKnown facts.old known.old }
+    requires all { KnowsAll facts.old known.old.steps }
+    requires marks { AreMarksFor facts.old.shape bad.old }
+    ensures known { IsKnown facts.new known.new }
+    ensures all { KnowsAll facts.new known.new.steps }
     ensures fewer { (w : ℕ) → HasWire known.new.steps w → HasWire known.old.steps w }
     ensures same { IfOk result (λ chosen. chosen ≡ false → known.new ≡ known.old) }
-    ensures marks { AreMarksFor facts.now.shape bad.new }
+    ensures marks { AreMarksFor facts.old.shape bad.new }
     ensures stuck { bad.new.stuck ≡ bad.old.stuck }
-    ensures right { (told : Option Faults) → TrueIf told facts.now known.old.steps bad.old →
-        TrueIf told facts.now known.new.steps bad.new }
+    ensures but { IsButPairs facts.old facts.new }
+    ensures explained { (f : Faults) → HoldsFor facts.old f → HoldsFor facts.new f }
+    ensures right { (told : Option Faults) → TrueIf told facts.old known.old.steps bad.old →
+        TrueIf told facts.new known.new.steps bad.new }
 {
     let Some(wires) = give_up(chooser, facts, bad)? else {
         return Ok(false);
     };
     let stay = known_among(known, &wires)?;
     *known = standing(known.alloc(), facts, stay)?;
+    facts.retake(known.wires());
     // An unfit wire may have been shorted to one that gives way.
     bad.unfit.clear();
     Ok(true)
 }
 
 /// Looks to which known wires unfit ones are shorted, as far as what is left pays for it, and gives those up that stand in the way of more.
-/// Says whether some were. What is known is then known of fewer wires, and the marks of unfit ones are dropped. Nothing is promised of
+/// Says whether some were. What is known is then known of fewer wires, the marks of unfit ones are dropped, and so are the pairs of those
+/// that were given up. Nothing is promised of
 /// what it chooses.
 ///
 /// # Errors
@@ -226,10 +232,12 @@ pub fn choose(
 ) -> Result<bool, RigFail>
     requires attached { shape_of (rig_state rig.old) ≡ Some facts.old.shape }
     requires known { IsKnown facts.old known.old }
+    requires all { KnowsAll facts.old known.old.steps }
     requires field { IsFieldOf facts.old.shape field.now }
     requires marks { AreMarksFor facts.old.shape bad.old }
 
     ensures known { IsKnown facts.new known.new }
+    ensures all { KnowsAll facts.new known.new.steps }
     ensures fewer { (w : ℕ) → HasWire known.new.steps w → HasWire known.old.steps w }
     ensures same { IfOk result (λ chosen. chosen ≡ false → known.new ≡ known.old) }
     ensures marks { AreMarksFor facts.old.shape bad.new }
@@ -239,7 +247,7 @@ pub fn choose(
         ≤ worth field.now facts.old bad.old (rig_state rig.old).loads choices.old.left }
     ensures paid { choices.new.paid ≡ choices.old.paid }
     ensures tables { choices.new.table_sweep.tables ≡ choices.old.table_sweep.tables }
-    ensures advances { Advances (rig_state rig.old) (rig_state rig.new) facts.old facts.new }
+    ensures advances { AdvancesButPairs (rig_state rig.old) (rig_state rig.new) facts.old facts.new }
     ensures cause { IsErrOf result RigFail.Failed → Rose (rig_state rig.old).failures (rig_state rig.new).failures }
 {
     if choices.left == 0 {
@@ -280,10 +288,12 @@ pub fn sweep_with(
 ) -> Result<(), RigFail>
     requires attached { shape_of (rig_state rig.old) ≡ Some facts.old.shape }
     requires known { IsKnown facts.old known.old }
+    requires all { KnowsAll facts.old known.old.steps }
     requires field { IsFieldOf facts.old.shape field.now }
     requires marks { AreMarksFor facts.old.shape bad.old }
 
     ensures known { IsKnown facts.new known.new }
+    ensures all { KnowsAll facts.new known.new.steps }
     ensures grows { GrowsIn field.now known.old.steps known.new.steps }
     ensures marks { MarksIn field.now choices.old.table_sweep.tables.items bad.old bad.new }
     ensures right_each { ForEach (rig_state rig.new) (λ told. TrueIf told facts.old known.old.steps bad.old → TrueIf told facts.new

@@ -3,7 +3,7 @@ ghost use Rattle.std.specs.Prelude.{◌≡◌, [], Some, IsErrOf};
 ghost use Rattle.base_io.specs.Counts.{Rose};
 ghost use Rattle.rig.specs.Rig.{shape_of};
 ghost use Rattle.diag_evidence.specs.Kept.{Advances};
-ghost use Rattle.diag_sweep.specs.Stages.{Goes, IsHand, in_hand};
+ghost use Rattle.diag_sweep.specs.Stages.{GoesYet, IsHand, in_hand};
 
 use crate::defect_marks::DefectMarks;
 use crate::footing::{are_fit, are_of_field, hangs_of};
@@ -13,7 +13,7 @@ use diag_evidence::Facts;
 use diag_known::{Field, Known};
 use rig::{Rig, RigFail};
 
-/// Looks at the pins of the machine with nothing closed, if it can be paid.
+/// Looks at the pins of the machine while all known wires hang, if it can be paid. Pins may join the set.
 pub(crate) fn pin_load(
     rig: &mut Box<dyn Rig>,
     facts: &mut Facts,
@@ -24,21 +24,25 @@ pub(crate) fn pin_load(
 ) -> Result<(), RigFail>
     requires attached { shape_of (rig_state rig.old) ≡ Some facts.old.shape }
     requires hand { IsHand field.now (in_hand facts.old known.now bad.now state.now.budget (rig_state rig.old).loads) }
-    ensures goes { Goes (rig_state rig.new) field.now [] (in_hand facts.old known.now bad.now state.now.budget (rig_state rig.old).loads)
+    ensures goes { GoesYet (rig_state rig.new) field.now [] (in_hand facts.old known.now bad.now state.now.budget (rig_state rig.old).loads)
         (in_hand facts.new known.now bad.now state.now.budget (rig_state rig.new).loads) }
     ensures advances { Advances (rig_state rig.old) (rig_state rig.new) facts.old facts.new }
     ensures cause { IsErrOf result RigFail.Failed → Rose (rig_state rig.old).failures (rig_state rig.new).failures }
 {
-    let Ok(forest) = pin_forest(known.alloc(), facts) else {
+    let Ok(forest) = pin_forest(known.alloc(), facts, known, field) else {
         return Err(RigFail::Memory);
     };
+    if !facts.all_hang(&forest) {
+        return Ok(());
+    }
     if !state.budget.can_pay(rig, 1) {
         return Ok(());
     }
     facts.look_each(rig, &forest)
 }
 
-/// Tests the wires that the search has chosen over two crosspoints each, if they may be tested together and it can be paid.
+/// Tests the wires that the search has chosen over two crosspoints each, if they may be tested together and it can be paid. Wires may
+/// join the set.
 pub(crate) fn hang_load(
     rig: &mut Box<dyn Rig>,
     facts: &mut Facts,
@@ -49,7 +53,7 @@ pub(crate) fn hang_load(
 ) -> Result<(), RigFail>
     requires attached { shape_of (rig_state rig.old) ≡ Some facts.old.shape }
     requires hand { IsHand field.now (in_hand facts.old known.now bad.old state.old.budget (rig_state rig.old).loads) }
-    ensures goes { Goes (rig_state rig.new) field.now [] (in_hand facts.old known.now bad.old state.old.budget (rig_state rig.old).loads)
+    ensures goes { GoesYet (rig_state rig.new) field.now [] (in_hand facts.old known.now bad.old state.old.budget (rig_state rig.old).loads)
         (in_hand facts.new known.now bad.new state.new.budget (rig_state rig.new).loads) }
     ensures advances { Advances (rig_state rig.old) (rig_state rig.new) facts.old facts.new }
     ensures cause { IsErrOf result RigFail.Failed → Rose (rig_state rig.old).failures (rig_state rig.new).failures }

@@ -27,7 +27,7 @@ fn hung_of(hung: diag_search::ChosenTest) -> ChosenTest {
     }
 }
 
-// Whether a wire is kept, and kept apart from each known one.
+// Whether a wire is kept and of the set, and so kept apart from each known one.
 fn is_good(facts: &Facts, known: &Known, w: Wire) -> bool
     requires known { IsKnown facts.now known.now }
     requires wire { w.0 < wires_of facts.now.shape }
@@ -37,12 +37,7 @@ fn is_good(facts: &Facts, known: &Known, w: Wire) -> bool
     if !facts.keeps_wire(w) {
         return false;
     }
-    'places: for place in 0..known.len() {
-        if !facts.keeps_pair(w, known.wire_at(place)) {
-            return false;
-        }
-    }
-    true
+    facts.is_apart(w)
 }
 
 // Whether a kept crosspoint leads from a wire to a known one.
@@ -73,7 +68,7 @@ fn is_foot(facts: &Facts, known: &Known, w: Wire, foot: Support) -> bool
     tap.0 == w.0
 }
 
-// Whether a wire may come to be known: one of the field that isn't yet, is kept, and is kept apart from each known one.
+// Whether a wire may come to be known: one of the field that isn't yet, is kept, and is of the set.
 fn is_wanted(facts: &Facts, known: &Known, field: &Field, w: Wire) -> bool
     requires known { IsKnown facts.now known.now }
     requires field { IsFieldOf facts.now.shape field.now }
@@ -94,7 +89,7 @@ fn is_wanted(facts: &Facts, known: &Known, field: &Field, w: Wire) -> bool
     is_good(facts, known, w)
 }
 
-// A wire comes to be known, if it hangs on two kept crosspoints to different known ones, and is kept apart from all known ones.
+// A wire comes to be known, if it hangs on two kept crosspoints to different known ones, is kept, and is of the set.
 fn learn_hung(
     known: &mut Known,
     facts: &Facts,
@@ -124,8 +119,7 @@ fn learn_hung(
     })
 }
 
-/// Of some wires those come to be known that hang on two kept crosspoints to different known ones, are kept, and are kept apart from all
-/// known ones.
+/// Of some wires those come to be known that hang on two kept crosspoints to different known ones, are kept, and are of the set.
 pub(crate) fn learn_hangs(
     known: &mut Known,
     facts: &Facts,
@@ -143,7 +137,7 @@ pub(crate) fn learn_hangs(
     Ok(())
 }
 
-// A pin of the machine comes to be known, if it is kept, and kept apart from all known wires.
+// A pin of the machine comes to be known, if it is kept and of the set.
 fn learn_pin(known: &mut Known, facts: &Facts, field: &Field, pin: u32) -> Result<(), AllocError>
     requires known { IsKnown facts.now known.old }
     requires field { IsFieldOf facts.now.shape field.now }
@@ -161,7 +155,7 @@ fn learn_pin(known: &mut Known, facts: &Facts, field: &Field, pin: u32) -> Resul
     })
 }
 
-/// The pins of the machine come to be known that are kept, and kept apart from all known wires.
+/// The pins of the machine come to be known that are kept and of the set.
 pub(crate) fn learn_pins(known: &mut Known, facts: &Facts, field: &Field) -> Result<(), AllocError>
     requires known { IsKnown facts.now known.old }
     requires field { IsFieldOf facts.now.shape field.now }

@@ -5,8 +5,8 @@ ghost use Rattle.diag_evidence.specs.Forests.{KeepsForest, KnowsForest, is_hung}
 ghost use Rattle.diag_known.specs.Known.{IsKnown, HasWire};
 
 use diag_evidence::{Facts, Forest};
-use diag_known::Known;
-use diag_search::{Link, PlannedForest};
+use diag_known::{Field, Known, SupportedBy, VerifiedWire};
+use diag_search::{Link, PlannedForest, in_set};
 use machine_shape::{Cross, Pin, Shape, Wire};
 use std::alloc::{AllocError, Global};
 
@@ -94,15 +94,58 @@ pub(crate) fn held_forest(
     Ok(forest)
 }
 
-/// The forest of the pins of the machine alone.
-pub(crate) fn pin_forest(alloc: Global, facts: &Facts) -> Result<Forest, AllocError>
-    ensures { IfOk result (KeepsForest facts.now) }
+// Hangs a known wire on the first of its feet, or plants it if it is a pin of the machine.
+fn lay_known(forest: &mut Forest, facts: &Facts, step: &VerifiedWire) -> Result<(), AllocError>
+    requires { KeepsForest facts.now forest.old }
+    ensures { KeepsForest facts.now forest.new }
+{
+    match step.stand {
+        SupportedBy::Pin(_) => {
+            plant(forest, facts, step.wire);
+            Ok(())
+        }
+        SupportedBy::Feet(foot, _) => lay(forest, facts, foot.cross, foot.wire, step.wire),
+    }
+}
+
+// Hangs all known wires, in the order in which they came.
+fn lay_all(forest: &mut Forest, facts: &Facts, known: &Known) -> Result<(), AllocError>
+    requires { KeepsForest facts.now forest.old }
+    ensures { KeepsForest facts.now forest.new }
+{
+    'places: for place in 0..known.len() {
+        let step = known.step_at(place);
+        lay_known(forest, facts, &step)?;
+    }
+    Ok(())
+}
+
+// Plants the pins of the machine that are of a field.
+fn plant_pins(forest: &mut Forest, facts: &Facts, field: &Field)
+    requires { KeepsForest facts.now forest.old }
+    ensures { KeepsForest facts.now forest.new }
 {
     let shape = facts.shape();
-    let mut forest = Forest::new(alloc, &shape)?;
     'pins: for pin in 0..shape.pins() {
-        plant(&mut forest, facts, shape.pin(Pin(pin)));
+        let wire = shape.pin(Pin(pin));
+        if in_set(&field.wires, wire.0) {
+            plant(forest, facts, wire);
+        }
     }
+}
+
+/// The forest of all known wires, and of the pins of the machine that are of the field.
+pub(crate) fn pin_forest(
+    alloc: Global,
+    facts: &Facts,
+    known: &Known,
+    field: &Field,
+) -> Result<Forest, AllocError>
+    ensures { IfOk result (KeepsForest facts.now) }
+{
+    let mut forest = Forest::new(alloc, &facts.shape())?;
+    plant_pins(&mut forest, facts, field);
+    lay_all(&mut forest, facts, known)?;
     Ok(forest)
 }
 

@@ -5,7 +5,7 @@ ghost use Rattle.machine_shape.specs.Shape.{crosses_of};
 ghost use Rattle.rig.specs.Rig.{shape_of};
 ghost use Rattle.diag_evidence.specs.Kept.{Advances};
 ghost use Rattle.diag_sweep.specs.Marks.{AreMarksFor};
-ghost use Rattle.diag_sweep.specs.Stages.{Goes, IsHand, Settles, in_hand};
+ghost use Rattle.diag_sweep.specs.Stages.{Goes, GoesYet, IsHand, Settles, in_hand};
 
 use crate::asking::knows;
 use crate::budget::LoadBudget;
@@ -35,7 +35,7 @@ const MOST_PASSES: u32 = 1_000_000;
 const LEFT_ROUNDS: u32 = 5;
 
 // Looks at the pins of the machine. Those that can be known are.
-fn pin_turn(
+fn pin_test(
     rig: &mut Box<dyn Rig>,
     facts: &mut Facts,
     known: &mut Known,
@@ -45,7 +45,7 @@ fn pin_turn(
 ) -> Result<(), RigFail>
     requires attached { shape_of (rig_state rig.old) ≡ Some facts.old.shape }
     requires hand { IsHand field.now (in_hand facts.old known.old bad.now state.old.budget (rig_state rig.old).loads) }
-    ensures goes { Goes (rig_state rig.new) field.now [] (in_hand facts.old known.old bad.now state.old.budget (rig_state rig.old).loads)
+    ensures goes { GoesYet (rig_state rig.new) field.now [] (in_hand facts.old known.old bad.now state.old.budget (rig_state rig.old).loads)
         (in_hand facts.new known.new bad.now state.new.budget (rig_state rig.new).loads) }
     ensures advances { Advances (rig_state rig.old) (rig_state rig.new) facts.old facts.new }
     ensures cause { IsErrOf result RigFail.Failed → Rose (rig_state rig.old).failures (rig_state rig.new).failures }
@@ -61,6 +61,27 @@ fn pin_turn(
     Ok(())
 }
 
+// The same, and what joined the set and isn't known leaves it.
+fn pin_turn(
+    rig: &mut Box<dyn Rig>,
+    facts: &mut Facts,
+    known: &mut Known,
+    bad: &DefectMarks,
+    field: &Field,
+    state: &mut SweepState,
+) -> Result<(), RigFail>
+    requires attached { shape_of (rig_state rig.old) ≡ Some facts.old.shape }
+    requires hand { IsHand field.now (in_hand facts.old known.old bad.now state.old.budget (rig_state rig.old).loads) }
+    ensures goes { Goes (rig_state rig.new) field.now [] (in_hand facts.old known.old bad.now state.old.budget (rig_state rig.old).loads)
+        (in_hand facts.new known.new bad.now state.new.budget (rig_state rig.new).loads) }
+    ensures advances { Advances (rig_state rig.old) (rig_state rig.new) facts.old facts.new }
+    ensures cause { IsErrOf result RigFail.Failed → Rose (rig_state rig.old).failures (rig_state rig.new).failures }
+{
+    let tested = pin_test(rig, facts, known, bad, field, state);
+    facts.retake(known.wires());
+    tested
+}
+
 // Takes loads in for those crosspoints of hangs that were undecided and aren't any more.
 fn settle_hangs(budget: &mut LoadBudget, facts: &Facts, bad: &DefectMarks, hangs: &Vec<ChosenTest>)
     requires budget { length budget.old.unsettled ≡ crosses_of facts.now.shape }
@@ -74,7 +95,7 @@ fn settle_hangs(budget: &mut LoadBudget, facts: &Facts, bad: &DefectMarks, hangs
 }
 
 // Tests some of the wires that are to be hung in one load, if some are found and it can be paid. False where not.
-fn hang_turn(
+fn hang_test(
     rig: &mut Box<dyn Rig>,
     facts: &mut Facts,
     known: &mut Known,
@@ -84,7 +105,7 @@ fn hang_turn(
 ) -> Result<bool, RigFail>
     requires attached { shape_of (rig_state rig.old) ≡ Some facts.old.shape }
     requires hand { IsHand field.now (in_hand facts.old known.old bad.old state.old.budget (rig_state rig.old).loads) }
-    ensures goes { Goes (rig_state rig.new) field.now [] (in_hand facts.old known.old bad.old state.old.budget (rig_state rig.old).loads)
+    ensures goes { GoesYet (rig_state rig.new) field.now [] (in_hand facts.old known.old bad.old state.old.budget (rig_state rig.old).loads)
         (in_hand facts.new known.new bad.new state.new.budget (rig_state rig.new).loads) }
     ensures advances { Advances (rig_state rig.old) (rig_state rig.new) facts.old facts.new }
     ensures cause { IsErrOf result RigFail.Failed → Rose (rig_state rig.old).failures (rig_state rig.new).failures }
@@ -105,6 +126,27 @@ fn hang_turn(
         return Err(RigFail::Memory);
     };
     Ok(true)
+}
+
+// The same, and what joined the set and isn't known leaves it.
+fn hang_turn(
+    rig: &mut Box<dyn Rig>,
+    facts: &mut Facts,
+    known: &mut Known,
+    bad: &mut DefectMarks,
+    field: &Field,
+    state: &mut SweepState,
+) -> Result<bool, RigFail>
+    requires attached { shape_of (rig_state rig.old) ≡ Some facts.old.shape }
+    requires hand { IsHand field.now (in_hand facts.old known.old bad.old state.old.budget (rig_state rig.old).loads) }
+    ensures goes { Goes (rig_state rig.new) field.now [] (in_hand facts.old known.old bad.old state.old.budget (rig_state rig.old).loads)
+        (in_hand facts.new known.new bad.new state.new.budget (rig_state rig.new).loads) }
+    ensures advances { Advances (rig_state rig.old) (rig_state rig.new) facts.old facts.new }
+    ensures cause { IsErrOf result RigFail.Failed → Rose (rig_state rig.old).failures (rig_state rig.new).failures }
+{
+    let tested = hang_test(rig, facts, known, bad, field, state);
+    facts.retake(known.wires());
+    tested
 }
 
 // Tests the wires that are to be hung until none is found, or it can't be paid.

@@ -3,7 +3,7 @@ ghost use Rattle.std.specs.Prelude.{◌≡◌, Some, IsErrOf};
 ghost use Rattle.base_io.specs.Counts.{Rose};
 ghost use Rattle.rig.specs.Rig.{ForEach, shape_of};
 ghost use Rattle.diag_evidence.specs.Kept.{Advances};
-ghost use Rattle.diag_known.specs.Vocabulary.{IsFieldOf, GrowsIn, IsKnown};
+ghost use Rattle.diag_known.specs.Vocabulary.{IsFieldOf, GrowsIn, IsKnown, KnowsAll};
 ghost use Rattle.diag_sweep.specs.Marks.{AreMarksFor, MarksIn, Pays, TrueIf};
 
 use crate::budget::LoadBudget;
@@ -34,10 +34,12 @@ pub fn sweep(
 ) -> Result<(), RigFail>
     requires attached { shape_of (rig_state rig.old) ≡ Some facts.old.shape }
     requires known { IsKnown facts.old known.old }
+    requires all { KnowsAll facts.old known.old.steps }
     requires field { IsFieldOf facts.old.shape field.now }
     requires marks { AreMarksFor facts.old.shape bad.old }
 
     ensures known { IsKnown facts.new known.new }
+    ensures all { KnowsAll facts.new known.new.steps }
     ensures grows { GrowsIn field.now known.old.steps known.new.steps }
     ensures marks { MarksIn field.now tables.now bad.old bad.new }
     ensures right_each { ForEach (rig_state rig.new) (λ told. TrueIf told facts.old known.old.steps bad.old → TrueIf told facts.new

@@ -2,7 +2,8 @@
 ghost use Rattle.std.specs.Prelude.{◌≡◌, ◌<◌, All, Some, IfOk};
 ghost use Rattle.rig.specs.Rig.{shape_of};
 ghost use Rattle.machine_shape.specs.Shape.{tables_of};
-ghost use Rattle.diag_known.specs.Vocabulary.{IsFieldOf, IsKnown};
+ghost use Rattle.diag_evidence.specs.Kept.{KeepsNothing};
+ghost use Rattle.diag_known.specs.Vocabulary.{IsFieldOf, IsKnown, KnowsAll};
 ghost use Rattle.diag_sweep.specs.Marks.{AreMarksFor};
 ghost use Rattle.example_diagnoses.specs.Stages.{IsStageOf};
 
@@ -20,6 +21,7 @@ use std::alloc::Global;
 fn stage_of(shape: &Shape, facts: Facts, known: Known, bad: DefectMarks) -> Stage
     requires shape { facts.shape ≡ shape.now }
     requires known { IsKnown facts known }
+    requires all { KnowsAll facts known.steps }
     requires marks { AreMarksFor shape.now bad }
     ensures { IsStageOf shape.now result }
 {
@@ -36,6 +38,7 @@ fn unmarked_stage(
 ) -> Result<Stage, &'static str>
     requires shape { facts.shape ≡ shape.now }
     requires known { IsKnown facts known }
+    requires all { KnowsAll facts known.steps }
     ensures { IfOk result (IsStageOf shape.now) }
 {
     match DefectMarks::none(alloc, shape) {
@@ -46,7 +49,8 @@ fn unmarked_stage(
 
 // The same with these facts, where nothing is known.
 fn stage_by(alloc: Global, shape: &Shape, facts: Facts) -> Result<Stage, &'static str>
-    requires { facts.shape ≡ shape.now }
+    requires shape { facts.shape ≡ shape.now }
+    requires nothing { KeepsNothing facts }
     ensures { IfOk result (IsStageOf shape.now) }
 {
     match Known::new(alloc, shape) {

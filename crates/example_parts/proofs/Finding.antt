@@ -1,36 +1,38 @@
 -- Tested crossbars stay as more is kept, and one more is found.
-use Rattle.std.proofs.Common.{All, ◌≡◌, ◌<◌, ◌≤◌, ◌+◌, ℕ, Option, None, Result, Ok, Err, IfOk, IfNone, List, [], ◌∷◌, ◌++◌, length, get_or, Some, arith, subst, sym, ap, ◌∙◌, slice_get}
+use Rattle.std.proofs.Common.{All, ◌≡◌, ◌<◌, ◌≤◌, ◌+◌, ℕ, true, false, Option, None, Result, Ok, Err, IfOk, IfNone, List, [], ◌∷◌, ◌++◌, length, get_or, Some, arith, subst, sym, ap, ◌∙◌, slice_get}
 use native.Mathlib.Decide.{dec_lt}
+use Rattle.std.proofs.lemmas.Bool.{false≢true}
 use Rattle.std.proofs.lemmas.List.{get_or_append_left, length-append}
 use Rattle.std.proofs.Math.Seq.{get_or-append_seam}
 use Rattle.machine_shape.specs.declared.Shape.{Shape}
 use Rattle.machine_shape.specs.Vocabulary.{nodes_of, node_of, parent_of, HasParents}
 use Rattle.machine_meaning.specs.Faults.{Faults}
-use Rattle.rig.specs.Rig.{RigState, Narrows, ForEach}
+use Rattle.rig.specs.Rig.{RigState, Explains, Narrows, ForEach}
 use Rattle.diag_tests.specs.Routes.{Walk}
 use Rattle.diag_tests.specs.declared.trunk.Trunk.{Trunk}
-use Rattle.diag_evidence.specs.Kept.{Kept, IsMore}
-use Rattle.diag_evidence.proofs.Keeping.{holds_earlier, more_then}
-use Rattle.diag_known.specs.Known.{KnownWires, IsKnown}
-use Rattle.diag_known.specs.declared.verified_wire.VerifiedWire.{VerifiedWire}
+use Rattle.diag_evidence.specs.Kept.{Kept, HoldsFor, is_apart}
+use Rattle.diag_evidence.proofs.Keeping.{more_then, of_told}
+use Rattle.diag_known.specs.Known.{KnownWires, IsKnown, KnowsAll}
+use Rattle.diag_known.proofs.Later.{known_none}
 use Rattle.diag_published.specs.Held.{Findings, IsHeld, IsHeldTrunk, FullIf, IsLater, UnservedIf}
 use Rattle.diag_published.proofs.Staying.{held_later, full_later}
 use Rattle.example_parts.specs.Found.{IsFoundAt, AreFound}
 
 -- nothing is known and found at first
-pub none_found : (rig : RigState) (k : Kept) (known : KnownWires) (found : List Findings) → known.shape ≡ k.shape → known.steps ≡ [] → found ≡ [] → AreFound rig k known found
-none_found rig k known found shape none empty = record {
-  known = record { shape = shape; steps = λ i s here. absurd (at_none i s (subst (λ (ss : List VerifiedWire). slice_get ss i ≡ Some s) none here)) };
+pub none_found : (rig : RigState) (k : Kept) (known : KnownWires) (found : List Findings) → known.shape ≡ k.shape → known.steps ≡ [] → found ≡ [] → ((w : ℕ) → is_apart k w ≡ false) → ((f : Faults) → HoldsFor k f) → AreFound rig k known found
+none_found rig k known found shape none empty set holds = record {
+  known = known_none shape none;
+  all = λ w on. absurd (false≢true (sym (set w) ∙ on));
+  holds = λ f e. holds f;
   each = λ n d below. absurd (let e = ap (λ (ts : List Findings). length ts) empty in let no : ⊥ = omega (arith, below, e) in no);
 }
-  where
-    at_none : (i : ℕ) (s : VerifiedWire) → slice_get [] i ≡ Some s → ⊥
-    at_none i s e = cc
 
 -- those found stay as more is read, kept and known
-pub found_later : {a b : RigState} {k l : Kept} {old new : KnownWires} {found : List Findings} → Narrows a b → IsLater k l old new → IsKnown l new → AreFound a k old found → AreFound b l new found
-found_later {a} {b} {k} {l} {old} {new} {found} narrows later is p = record {
+pub found_later : {a b : RigState} {k l : Kept} {old new : KnownWires} {found : List Findings} → Narrows a b → ((f : Faults) → Explains f b → HoldsFor k f → HoldsFor l f) → IsLater k l old new → IsKnown l new → KnowsAll l new.steps → AreFound a k old found → AreFound b l new found
+found_later {a} {b} {k} {l} {old} {new} {found} narrows explained later is all p = record {
   known = is;
+  all = all;
+  holds = λ f e. explained f e (p.holds f (narrows f e));
   each = λ n d below. at n (get_or found n d) (p.each n d below);
 }
   where
@@ -38,12 +40,12 @@ found_later {a} {b} {k} {l} {old} {new} {found} narrows later is p = record {
     at n t was = record {
       node = was.node;
       held = held_later later t was.held;
-      full = λ f e. record { at = λ h told holds. full_later later.kept ((was.full f (narrows f e)).at h told (holds_earlier later.kept holds)) };
+      full = λ f e. record { at = λ h told holds. full_later later.kept ((was.full f (narrows f e)).at h told (of_told (λ g. HoldsFor k g) (p.holds f (narrows f e)) h told)) };
     }
 
--- what is full of what was kept before is full of what is kept
-pub full_now : {told : Option Faults} {k l : Kept} {t : Findings} → IsMore k l → FullIf told k l t → FullIf told l l t
-full_now more full = record { at = λ f is holds. full.at f is (holds_earlier more holds) }
+-- what is full where what was kept before is true is so, where that is true
+pub full_now : {f : Faults} {k l : Kept} {t : Findings} → HoldsFor k f → FullIf (Some f) k l t → FullIf (Some f) l l t
+full_now {k = k} holds full = record { at = λ h is _. full.at h is (of_told (λ g. HoldsFor k g) holds h is) }
 
 -- one step after the other
 pub later_then : {k l n : Kept} {a b c : KnownWires} → IsLater k l a b → IsLater l n b c → IsLater k n a c
@@ -54,15 +56,17 @@ pub trunk_at : {k : Kept} {known : KnownWires} {n : ℕ} {left right : Walk} (m 
 trunk_at {k} {known} {n} {left} {right} m same e held = subst (λ i. IsHeldTrunk k known i left right) (sym (ap (λ s. node_of s left.end) same ∙ e)) held
 
 -- one more is found
-pub found_next : {a b : RigState} {k l : Kept} {old new : KnownWires} {found : List Findings} (t : Findings) → Narrows a b → IsLater k l old new → IsKnown l new → AreFound a k old found → t.node ≡ length found → IsHeld l new t →
+pub found_next : {a b : RigState} {k l : Kept} {old new : KnownWires} {found : List Findings} (t : Findings) → Narrows a b → ((f : Faults) → Explains f b → HoldsFor k f → HoldsFor l f) → IsLater k l old new → IsKnown l new → KnowsAll l new.steps → AreFound a k old found → t.node ≡ length found → IsHeld l new t →
     ForEach b (λ told. FullIf told l l t) → AreFound b l new (found ++ t ∷ [])
-found_next {a} {b} {k} {l} {old} {new} {found} t narrows later is p node held full = record {
+found_next {a} {b} {k} {l} {old} {new} {found} t narrows explained later is all p node held full = record {
   known = is;
+  all = all;
+  holds = λ f e. explained f e (p.holds f (narrows f e));
   each = λ n d below. at n d below (dec_lt n (length found));
 }
   where
     at : (n : ℕ) (d : Findings) → n < length (found ++ t ∷ []) → Dec (n < length found) → IsFoundAt b l new n (get_or (found ++ t ∷ []) n d)
-    at n d below (yes within) = rw (get_or_append_left found (t ∷ []) d n within) ((found_later narrows later is p).each n d within)
+    at n d below (yes within) = rw (get_or_append_left found (t ∷ []) d n within) ((found_later narrows explained later is all p).each n d within)
     at n d below (no past) =
         let last : n ≡ length found = omega (arith, below, past, length-append found (t ∷ [])) in
         subst (λ i. IsFoundAt b l new i (get_or (found ++ t ∷ []) i d)) (sym last)

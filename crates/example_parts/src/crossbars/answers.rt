@@ -4,7 +4,7 @@ ghost use Rattle.machine_shape.specs.Shape.{crosses_of, pins_of, tables_of};
 ghost use Rattle.machine_config.specs.Groups.{among};
 ghost use Rattle.rig.specs.Rig.{shape_of};
 ghost use Rattle.diag_tests.specs.Routes.{IsRoute};
-ghost use Rattle.diag_evidence.specs.Kept.{Advances, keeps_cross};
+ghost use Rattle.diag_evidence.specs.Kept.{Advances, KeepsSet, keeps_cross};
 ghost use Rattle.example_parts.specs.Laid.{IsLaid};
 
 use crate::crossbars::setup::{Laid, Setup, lay};
@@ -14,6 +14,7 @@ use diag_tests::Route;
 use machine_shape::{Cross, Table, Wire};
 use rig::{PinBits, Rig, RigFail};
 use std::alloc::Global;
+use std::slice;
 
 // Toggles a crosspoint of what is laid, if it is closed, and reads a pin.
 fn toggle_laid(
@@ -29,6 +30,7 @@ fn toggle_laid(
     requires cross { c.0 < crosses_of facts.old.shape }
     requires at { at < pins_of facts.old.shape }
     ensures advances { Advances (rig_state rig.old) (rig_state rig.new) facts.old facts.new }
+    ensures set { KeepsSet facts.old facts.new }
 {
     tests_add_up();
     if !laid.config.has_cross(c) {
@@ -49,6 +51,7 @@ fn toggle_cross(
 ) -> Result<Option<bool>, RigFail>
     requires attached { shape_of (rig_state rig.old) ≡ Some facts.old.shape }
     ensures advances { Advances (rig_state rig.old) (rig_state rig.new) facts.old facts.new }
+    ensures set { KeepsSet facts.old facts.new }
 {
     tests_add_up();
     let shape = facts.shape();
@@ -87,6 +90,7 @@ fn toggle_laid_cell(
     requires address { address < 64 }
     requires at { at < pins_of facts.old.shape }
     ensures advances { Advances (rig_state rig.old) (rig_state rig.new) facts.old facts.new }
+    ensures set { KeepsSet facts.old facts.new }
 {
     tests_add_up();
     if laid.config.setting(t).is_none() {
@@ -107,6 +111,7 @@ fn toggle_cell(
 ) -> Result<Option<bool>, RigFail>
     requires attached { shape_of (rig_state rig.old) ≡ Some facts.old.shape }
     ensures advances { Advances (rig_state rig.old) (rig_state rig.new) facts.old facts.new }
+    ensures set { KeepsSet facts.old facts.new }
 {
     tests_add_up();
     let shape = facts.shape();
@@ -140,6 +145,7 @@ fn toggle_laid_register(
     requires table { t.0 < tables_of facts.old.shape }
     requires at { at < pins_of facts.old.shape }
     ensures advances { Advances (rig_state rig.old) (rig_state rig.new) facts.old facts.new }
+    ensures set { KeepsSet facts.old facts.new }
 {
     tests_add_up();
     let Some(setting) = laid.config.setting(t) else {
@@ -163,6 +169,7 @@ fn toggle_register(
 ) -> Result<Option<bool>, RigFail>
     requires attached { shape_of (rig_state rig.old) ≡ Some facts.old.shape }
     ensures advances { Advances (rig_state rig.old) (rig_state rig.new) facts.old facts.new }
+    ensures set { KeepsSet facts.old facts.new }
 {
     tests_add_up();
     let shape = facts.shape();
@@ -202,6 +209,7 @@ fn swing_laid(
     requires laid { IsLaid facts.old.shape laid.now.left laid.now.right laid.now.config.config }
     requires drive { length laid.now.drive ≡ pins_of facts.old.shape }
     ensures advances { Advances (rig_state rig.old) (rig_state rig.new) facts.old facts.new }
+    ensures set { KeepsSet facts.old facts.new }
 {
     tests_add_up();
     if !keeps_route(facts, &laid.left) {
@@ -225,6 +233,7 @@ fn test_stuck(
 ) -> Result<Option<bool>, RigFail>
     requires attached { shape_of (rig_state rig.old) ≡ Some facts.old.shape }
     ensures advances { Advances (rig_state rig.old) (rig_state rig.new) facts.old facts.new }
+    ensures set { KeepsSet facts.old facts.new }
 {
     tests_add_up();
     let shape = facts.shape();
@@ -234,7 +243,8 @@ fn test_stuck(
     }
 }
 
-// Whether the two routes of what is laid are apart, if their crosspoints are kept and they don't meet.
+// Whether the two routes of what is laid are apart, if their crosspoints are kept and they don't meet. The last wire of the left one is
+// put on trial before.
 fn part_laid(
     rig: &mut Box<dyn Rig>,
     facts: &mut Facts,
@@ -244,6 +254,7 @@ fn part_laid(
     requires laid { IsLaid facts.old.shape laid.now.left laid.now.right laid.now.config.config }
     requires drive { length laid.now.drive ≡ pins_of facts.old.shape }
     ensures advances { Advances (rig_state rig.old) (rig_state rig.new) facts.old facts.new }
+    ensures set { KeepsSet facts.old facts.new }
 {
     tests_add_up();
     if !keeps_route(facts, &laid.left) {
@@ -255,12 +266,14 @@ fn part_laid(
     if laid.left.meets(&laid.right) {
         return Ok(None);
     }
-    let yes = facts.test_short(rig, &laid.config, &laid.drive, &laid.left, &laid.right)?;
+    facts.begin(laid.left.wire_at(laid.left.len()));
+    let rights = slice::from_ref(&laid.right);
+    let yes = facts.all_apart(rig, &laid.config, &laid.drive, &laid.left, rights)?;
     Ok(Some(yes))
 }
 
 // Whether the two routes are apart.
-fn test_short(
+fn test_apart(
     alloc: Global,
     rig: &mut Box<dyn Rig>,
     facts: &mut Facts,
@@ -268,6 +281,7 @@ fn test_short(
 ) -> Result<Option<bool>, RigFail>
     requires attached { shape_of (rig_state rig.old) ≡ Some facts.old.shape }
     ensures advances { Advances (rig_state rig.old) (rig_state rig.new) facts.old facts.new }
+    ensures set { KeepsSet facts.old facts.new }
 {
     tests_add_up();
     let shape = facts.shape();
@@ -288,6 +302,7 @@ pub fn answer(
 ) -> Result<Option<bool>, RigFail>
     requires attached { shape_of (rig_state rig.old) ≡ Some facts.old.shape }
     ensures advances { Advances (rig_state rig.old) (rig_state rig.new) facts.old facts.new }
+    ensures set { KeepsSet facts.old facts.new }
 {
     tests_add_up();
     match (key, numbers) {
@@ -301,7 +316,7 @@ pub fn answer(
         },
         ("register", [t, at]) => toggle_register(alloc, rig, facts, setup, *t, *at),
         ("swing", []) => test_stuck(alloc, rig, facts, setup),
-        ("apart", []) => test_short(alloc, rig, facts, setup),
+        ("apart", []) => test_apart(alloc, rig, facts, setup),
         _ => Ok(None),
     }
 }

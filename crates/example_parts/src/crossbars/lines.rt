@@ -1,7 +1,7 @@
 //! The lines of a case: what comes of each, and whether it is what has to come.
 ghost use Rattle.std.specs.Prelude.{◌≡◌, Some};
 ghost use Rattle.rig.specs.Rig.{shape_of};
-ghost use Rattle.diag_evidence.specs.Kept.{Advances};
+ghost use Rattle.diag_evidence.specs.Kept.{Advances, KeepsNothing, KeepsSet};
 ghost use Rattle.example_parts.specs.Found.{AreFound};
 
 use crate::crossbars::answers::{answer, keeps};
@@ -12,7 +12,7 @@ use crate::crossbars::routes::seen;
 use crate::crossbars::walk::{Loads, Progress, are_separated, test_next};
 use crate::crossbars::words::{text_of, word, yes_or_no};
 use diag_evidence::Facts;
-use diag_evidence::laws::tests_add_up;
+use diag_evidence::laws::{kept_facts_are_sound, tests_add_up};
 use diag_published::Tested;
 use example_kit::numbers_of;
 use machine_shape::{Node, Wire};
@@ -129,6 +129,7 @@ fn asked(
 ) -> Result<Option<String>, AllocError>
     requires attached { shape_of (rig_state rig.old) ≡ Some facts.old.shape }
     ensures advances { Advances (rig_state rig.old) (rig_state rig.new) facts.old facts.new }
+    ensures set { KeepsSet facts.old facts.new }
 {
     tests_add_up();
     let Some(numbers) = numbers_of(alloc, words)? else {
@@ -237,7 +238,9 @@ fn try_lines(
     case: &Case,
 ) -> Result<bool, AllocError>
     requires attached { shape_of (rig_state rig.old) ≡ Some facts.old.shape }
+    requires nothing { KeepsNothing facts.old }
 {
+    kept_facts_are_sound();
     let mut bench = Bench::new(alloc);
     let mut walk = Progress::new(alloc, &facts.shape())?;
     let mut right = true;

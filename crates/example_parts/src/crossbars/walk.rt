@@ -6,7 +6,7 @@ ghost use Rattle.machine_shape.specs.Shape.{node_of, nodes_of, parent_of, wires_
 ghost use Rattle.rig.specs.Rig.{ForEach, shape_of};
 ghost use Rattle.rig.specs.declared.rig.RigFail.TheVariants as work;
 ghost use Rattle.diag_evidence.specs.Kept.{Advances};
-ghost use Rattle.diag_known.specs.Known.{HasWire, IsKnown};
+ghost use Rattle.diag_known.specs.Known.{HasWire, IsKnown, KnowsAll};
 ghost use Rattle.diag_published.specs.Held.{IsHeld, IsHeldTrunk, UnservedIf};
 ghost use Rattle.example_parts.specs.Found.{AreFound};
 
@@ -75,6 +75,7 @@ fn next_trunk(
     requires found { AreFound (rig_state rig.old) facts.old walk.old.known walk.old.found.items }
 
     ensures known { IsKnown facts.new walk.new.known }
+    ensures all { KnowsAll facts.new walk.new.known.steps }
     ensures stays { (w : ℕ) → HasWire walk.old.known.steps w → HasWire walk.new.known.steps w }
     ensures same { walk.new.found.items ≡ walk.old.found.items }
     ensures held { IfOk result (λ found. IfSome found (λ t. IsHeldTrunk facts.new walk.new.known node.0 t.left t.right)) }

@@ -1,6 +1,6 @@
 use Rattle.std.proofs.Common.{◌≡◌, true, false, rules}
 use Rattle.std.proofs.lemmas.Bool.{false≢true}
-use Rattle.diag_known.proofs.Later.{known_later}
+use Rattle.diag_known.proofs.Later.{all_still, known_later}
 use Rattle.diag_known.proofs.Settling.{if_ok_so}
 use Rattle.diag_check.proofs.Checking.{parts_found, field_found, field_lost, loads_field, loads_grown}
 use Rattle.diag_growth.proofs.Explained.{held}
@@ -35,3 +35,6 @@ returns-in-Ok-false-clause-loads g c = loads_grown _ _ _ _ _ c.grow_over.ensures
 
 pub returns-in-Err-clause-loads : goal.returns-in-Err-clause-loads
 returns-in-Err-clause-loads g c = loads_grown _ _ _ _ _ c.grow_over.ensures.loads
+
+pub returns-clause-all : goal.returns-clause-all
+returns-clause-all g c = all_still c.look_at_tables.ensures.set c.grow_over.ensures.all

@@ -23,3 +23,9 @@ returns-in-Ok-clause-loads g c = λ used are. loads_tables c.args.facts.now c.ar
 pub returns-in-Err-clause-loads : goal.returns-in-Err-clause-loads
 returns-in-Err-clause-loads g c = λ used are. loads_tables c.args.facts.now c.args.image.now used c.tables_on.result.now _ _ (c.the_numbering_is_sound.ensures.numbered c.args.image.now.config.shape) c.config-config.ensures.right are
     (table_counts c.args.image.now c.config-config.result.now.config c.config-config.ensures.config c.tables_on.result.now c.tables_on.ensures) c.test_tables.ensures.loads
+
+pub returns-in-Ok-clause-set : goal.returns-in-Ok-clause-set
+returns-in-Ok-clause-set g c = c.test_tables.ensures.only.apart
+
+pub returns-in-Err-clause-set : goal.returns-in-Err-clause-set
+returns-in-Err-clause-set g c = c.test_tables.ensures.only.apart

@@ -21,3 +21,6 @@ returns-clause-loads g c = for_ways _ _ _ _ _ c.in-Ok.ensures.used c.in-Ok.ensur
 
 pub returns-clause-few_each : goal.returns-clause-few_each
 returns-clause-few_each g c = λ f e. few_if _ _ _ _ _ _ _ (λ h. c.kept_facts_are_sound.ensures.nothing _ h c.in-Ok-new.ensures.nothing) c.in-Ok.ensures.used c.in-Ok.ensures.nodes (c.check_with.ensures.few_each f e)
+
+pub check_with-requires-clause-nothing : goal.check_with-requires-clause-nothing
+check_with-requires-clause-nothing g c = c.in-Ok-new.ensures.nothing.apart

@@ -21,7 +21,7 @@ returns-clause-keeps c =
     λ e. record {
       crosses = to_set (λ (y : Cross). y.0) c.closed.result.now (is_closed c.args.image.now.config) counts (λ q. keeps_cross c.args.facts.now q ≡ true) (c.keeps_crosses.ensures.0 e);
       wires = λ w uses. c.has_wires.ensures.wires has w (all w uses);
-      pairs = λ w u p q differ. c.has_wires.ensures.pairs has w u (all w p) (all u q) differ;
+      apart = λ w uses. c.has_wires.ensures.apart has w (all w uses);
     }
 
 pub returns-clause-all : goal.returns-clause-all

@@ -2,6 +2,7 @@ use Rattle.std.proofs.Common.{ℕ, List, sym, subst}
 use Rattle.machine_shape.specs.declared.Cross.{Cross}
 use Rattle.machine_config.specs.Groups.{among}
 use Rattle.diag_tests.specs.Vocabulary.{cross_numbers, IsCellConfig}
+use Rattle.diag_evidence.proofs.Keeping.{holds_untried}
 use Rattle.diag_growth.specs.Ties.{bit_of, AreSeatTies}
 use Rattle.diag_growth.proofs.Seating.{cell_by, number_is}
 use Rattle.diag_growth.proofs.Tested.{ties_below, gained_cell}
@@ -29,5 +30,5 @@ returns-in-Ok-answer-clause-cell_each g c =
     record {
       at = λ h told holds right.
           rw (c.give_back_drive.ensures, c.give_back.ensures) (gained_cell _ _ t a (c.in-Ok-answer.ensures.gains
-          (passes.at h _ _ (bit_of a) told holds (cell_by k h holds s seat (bit_of a) ties tied a (number_is a c.requires.address) right))));
+          (passes.at h _ _ (bit_of a) told (holds_untried holds) (cell_by k h (holds_untried holds) s seat (bit_of a) ties tied a (number_is a c.requires.address) right))));
     }

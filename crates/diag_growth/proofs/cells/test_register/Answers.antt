@@ -3,6 +3,7 @@ use Rattle.machine_shape.specs.declared.Cross.{Cross}
 use Rattle.machine_config.specs.declared.Setting.{Setting}
 use Rattle.machine_config.specs.Groups.{among}
 use Rattle.diag_tests.specs.Vocabulary.{cross_numbers, IsCellConfig}
+use Rattle.diag_evidence.proofs.Keeping.{holds_untried}
 use Rattle.diag_growth.specs.Ties.{AreSeatTies}
 use Rattle.diag_growth.proofs.Seating.{table_by}
 use Rattle.diag_growth.proofs.Tested.{ties_below, gained_register}
@@ -29,5 +30,5 @@ returns-in-Ok-answer-clause-register_each g c =
     record {
       at = λ h told holds right.
           rw (c.give_back_drive.ensures, c.give_back.ensures) (gained_register _ _ t (c.in-Ok-answer.ensures.gains
-          (passes.at h _ _ told holds (table_by k h holds s seat (λ _. true) ties tied) right)));
+          (passes.at h _ _ told (holds_untried holds) (table_by k h (holds_untried holds) s seat (λ _. true) ties tied) right)));
     }

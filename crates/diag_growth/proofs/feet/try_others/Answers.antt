@@ -1,6 +1,6 @@
 use Rattle.std.proofs.Common.{◌≡◌, Some, length, refl, arith, slice_get}
 use Rattle.std.proofs.lemmas.Option.{slice_get_within, slice_get_read}
-use Rattle.diag_evidence.proofs.Keeping.{advances_itself, advances_then}
+use Rattle.diag_evidence.proofs.Keeping.{advances_itself, advances_then, trial_itself, trial_then}
 use Rattle.diag_known.proofs.Marking.{few_none, few_then}
 use Rattle.diag_known.proofs.Offering.{spends_on_none, spends_on_then}
 use Rattle.diag_known.proofs.Seconds.{lost_next}
@@ -11,6 +11,7 @@ use Rattle.diag_growth.proofs.feet.try_others.Goals as goal
 pub others-init : goal.others-init
 others-init g c = record {
   advances = advances_itself _ c.args.facts.now;
+  trial = trial_itself c.args.facts.now;
   marks = c.requires.ready.marks;
   spends = spends_on_none refl refl;
   marks_each = λ f e marks. marks;
@@ -55,6 +56,7 @@ others-preserved g c =
     let here : slice_get c.args.offer.now.others.items c.others.k ≡ Some other = slice_get_read c.args.offer.now.others.items (length c.args.offer.now.others.items) c.others.k other refl (omega arith) c.index-other.ensures in
     record {
       advances = advances_then old.advances c.try_other.ensures.advances;
+      trial = trial_then old.trial c.try_other.ensures.trial;
       marks = c.try_other.ensures.marks;
       spends = spends_on_then old.advances.more old.spends c.try_other.ensures.spends;
       marks_each = λ f e marks. c.in_ok-kept.ensures.marks_each f e (old.marks_each f (c.try_other.ensures.advances.narrows f e) marks);

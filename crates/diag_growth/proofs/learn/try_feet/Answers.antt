@@ -1,9 +1,10 @@
 use Rattle.std.proofs.Common.{◌<◌, refl, sym, subst, inl, inr}
-use Rattle.diag_known.specs.Known.{KnownWires, IsKnown}
-use Rattle.diag_known.proofs.Later.{known_later, stands_later}
-use Rattle.diag_growth.proofs.Learning.{by_result, none_more, learnt_more, learnt_has, learnt_known, learnt_marks}
+use Rattle.diag_known.specs.Known.{KnownWires, IsKnown, KnowsAll}
+use Rattle.diag_known.proofs.Later.{all_still, known_later, stands_later}
+use Rattle.diag_evidence.proofs.Keeping.{more_then}
+use Rattle.diag_growth.proofs.Learning.{none_more, learnt_more, learnt_has, settled_known, settled_all, learnt_marks}
 use Rattle.diag_known.proofs.Seconds.{offer_stands}
-use Rattle.diag_known.proofs.Settling.{marks_barred, marks_still, on_ok_so, over_barred, over_later}
+use Rattle.diag_known.proofs.Settling.{marks_barred, marks_still, over_barred, over_later}
 use Rattle.diag_growth.proofs.learn.try_feet.Goals as goal
 
 pub bar-requires : goal.bar-requires
@@ -27,21 +28,32 @@ returns-then-not-good-clause-tried_each g c = λ f e. inr (c.in_ok-good.ensures.
 pub returns-then-not-good-clause-marks_each : goal.returns-then-not-good-clause-marks_each
 returns-then-not-good-clause-marks_each g c = λ f e marks. marks_still c.is_good_over.ensures.advances.more (marks_barred c.args.offer.now.wire.0 marks c.bar.ensures)
 
+pub returns-in_err-learn-clause-known : goal.returns-in_err-learn-clause-known
+returns-in_err-learn-clause-known g c = subst (λ (known : KnownWires). IsKnown c.is_good_over.new.facts known) (sym c.in_err-learn.ensures.same) (known_later c.is_good_over.ensures.advances.more c.requires.ready.known)
+
+pub returns-in_err-learn-clause-all : goal.returns-in_err-learn-clause-all
+returns-in_err-learn-clause-all g c = subst (λ (known : KnownWires). KnowsAll c.is_good_over.new.facts known.steps) (sym c.in_err-learn.ensures.same) (all_still c.is_good_over.ensures.set c.requires.all)
+
 pub returns-clause-known : goal.returns-clause-known
-returns-clause-known g c =
-    let later = known_later c.is_good_over.ensures.advances.more c.requires.ready.known in
-    by_result c.learn.result c.learn.ensures.learnt c.learn.ensures.same
-    (λ l. learnt_known later (c.in_ok-good.ensures.good c.if-not-good.false) (stands_later c.is_good_over.ensures.advances.more (offer_stands c.requires.ready.offer c.requires.over)) l)
-    (λ same. subst (λ (known : KnownWires). IsKnown c.is_good_over.new.facts known) (sym same) later)
+returns-clause-known g c = settled_known c.settle.result c.settle.ensures.settled c.settle.ensures.refused c.settle.ensures.more (c.in_ok-good.ensures.good c.if-not-good.false) (known_later c.is_good_over.ensures.advances.more c.requires.ready.known) (all_still c.is_good_over.ensures.set c.requires.all) c.requires.ready.offer.new (stands_later c.is_good_over.ensures.advances.more (offer_stands c.requires.ready.offer c.requires.over)) c.in_ok-learn.ensures.learnt
+
+pub returns-clause-all : goal.returns-clause-all
+returns-clause-all g c = settled_all c.settle.result c.settle.ensures.settled c.settle.ensures.refused c.settle.ensures.more (c.in_ok-good.ensures.good c.if-not-good.false) (known_later c.is_good_over.ensures.advances.more c.requires.ready.known) (all_still c.is_good_over.ensures.set c.requires.all) c.in_ok-learn.ensures.learnt
+
+pub returns-in_err-learn-clause-more : goal.returns-in_err-learn-clause-more
+returns-in_err-learn-clause-more g c = none_more c.args.offer.now.wire.0 c.in_err-learn.ensures.same
 
 pub returns-clause-more : goal.returns-clause-more
-returns-clause-more g c = by_result c.learn.result c.learn.ensures.learnt c.learn.ensures.same (λ l. learnt_more l) (λ same. none_more c.args.offer.now.wire.0 same)
+returns-clause-more g c = learnt_more c.in_ok-learn.ensures.learnt
 
 pub returns-clause-tried_each : goal.returns-clause-tried_each
-returns-clause-tried_each g c = on_ok_so c.learn.result c.learn.ensures.learnt (λ l f e. inl (learnt_has l))
+returns-clause-tried_each g c = λ f e. inl (learnt_has c.in_ok-learn.ensures.learnt)
 
 pub returns-clause-marks_each : goal.returns-clause-marks_each
-returns-clause-marks_each g c = on_ok_so c.learn.result c.learn.ensures.learnt (λ l f e marks. learnt_marks c.is_good_over.ensures.advances.more l (marks_barred c.args.offer.now.wire.0 marks c.bar.ensures))
+returns-clause-marks_each g c = λ f e marks. learnt_marks (more_then c.is_good_over.ensures.advances.more c.settle.ensures.more) c.in_ok-learn.ensures.learnt (marks_barred c.args.offer.now.wire.0 marks c.bar.ensures)
+
+pub returns-in_err-learn-clause-marks : goal.returns-in_err-learn-clause-marks
+returns-in_err-learn-clause-marks g c = over_later c.is_good_over.ensures.advances.more (over_barred c.args.offer.now.wire.0 c.requires.ready.marks c.bar.ensures)
 
 pub returns-in_err-good-clause-marks : goal.returns-in_err-good-clause-marks
 returns-in_err-good-clause-marks g c = over_later c.is_good_over.ensures.advances.more (over_barred c.args.offer.now.wire.0 c.requires.ready.marks c.bar.ensures)
@@ -50,4 +62,10 @@ pub returns-then-not-good-clause-marks : goal.returns-then-not-good-clause-marks
 returns-then-not-good-clause-marks g c = over_later c.is_good_over.ensures.advances.more (over_barred c.args.offer.now.wire.0 c.requires.ready.marks c.bar.ensures)
 
 pub returns-clause-marks : goal.returns-clause-marks
-returns-clause-marks g c = over_later c.is_good_over.ensures.advances.more (over_barred c.args.offer.now.wire.0 c.requires.ready.marks c.bar.ensures)
+returns-clause-marks g c = over_later (more_then c.is_good_over.ensures.advances.more c.settle.ensures.more) (over_barred c.args.offer.now.wire.0 c.requires.ready.marks c.bar.ensures)
+
+pub returns-in_err-good-clause-all : goal.returns-in_err-good-clause-all
+returns-in_err-good-clause-all g c = all_still c.is_good_over.ensures.set c.requires.all
+
+pub returns-then-not-good-clause-all : goal.returns-then-not-good-clause-all
+returns-then-not-good-clause-all g c = all_still c.is_good_over.ensures.set c.requires.all

@@ -3,7 +3,7 @@ use Rattle.base_bits.specs.Numbers.{has_number}
 use Rattle.machine_shape.specs.declared.Shape.{Shape}
 use Rattle.machine_shape.specs.Shape.{wires_of}
 use Rattle.diag_known.specs.Vocabulary.{barred, lost}
-use Rattle.diag_known.proofs.Later.{known_later}
+use Rattle.diag_known.proofs.Later.{all_still, known_later}
 use Rattle.diag_growth.proofs.Explained.{held}
 use Rattle.diag_growth.proofs.Learning.{none_more, offers_barred, barred_twice, ready_later}
 use Rattle.diag_known.proofs.Marking.{few_then, few_barred, spends_then, spends_barred}
@@ -70,3 +70,12 @@ returns-clause-spends_each g c =
     few_then more (held c.second_foot.ensures.advances before) (c.second_foot.ensures.spends_each f before marks)
     (few_barred _ _ c.second_foot.ensures.marks (subst (λ (m : Shape). w < wires_of m) (sym more.shape) c.requires.ready.offer.within)
     (ap (λ bits. has_number bits w) c.second_foot.ensures.spends.barred ∙ c.requires.wire) c.try_feet.ensures.barred c.try_feet.ensures.loads)
+
+pub returns-in_err-second-clause-all : goal.returns-in_err-second-clause-all
+returns-in_err-second-clause-all g c = all_still c.second_foot.ensures.trial.apart c.requires.all
+
+pub returns-in_default-clause-all : goal.returns-in_default-clause-all
+returns-in_default-clause-all g c = all_still c.second_foot.ensures.trial.apart c.requires.all
+
+pub try_feet-requires-clause-all : goal.try_feet-requires-clause-all
+try_feet-requires-clause-all g c = all_still c.second_foot.ensures.trial.apart c.requires.all

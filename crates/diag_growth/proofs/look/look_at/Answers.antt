@@ -15,7 +15,7 @@ use Rattle.diag_growth.proofs.look.look_at.Goals as goal
 pub links-init : goal.links-init
 links-init g c = record {
   advances = advances_itself _ c.args.facts.now;
-  grows = grows_itself c.requires.known (more_itself c.args.facts.now) refl;
+  grows = grows_itself c.requires.known (more_itself c.args.facts.now) c.requires.all refl;
   tried_each = λ f e marks. tried_none refl;
   marks = c.requires.marks;
   spends = spends_none refl refl;
@@ -89,3 +89,6 @@ returns-clause-grown_each g c =
     let old = c.links.invariant in
     λ f e marks grown. grown_next c.requires.links (subst (λ ss. IsAt ss c.args.place c.wire_at-wire.result.0) (sym old.grows.steps) (at_later old.grows.more c.wire_at-wire.ensures.at))
     (looks_all c.args.place c.wire_at-wire.result.0 _ (omega arith) (old.also f e marks)) (grown_on old.advances.more (let low = c.requires.place in omega (arith, low)) old.grows grown)
+
+pub look_over-requires-clause-all : goal.look_over-requires-clause-all
+look_over-requires-clause-all g c = c.links.invariant.grows.all

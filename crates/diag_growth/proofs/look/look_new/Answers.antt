@@ -14,13 +14,13 @@ pub has-requires : goal.has-requires
 has-requires g c = subst (λ n. c.args.look.link.cross.0 < n) (sym c.requires.marks.offered) (look_within c.requires.known (c.the_numbering_is_sound.ensures.numbered c.args.facts.now.shape) c.requires.links c.requires.look)
 
 pub returns-then-has-clause-grows : goal.returns-then-has-clause-grows
-returns-then-has-clause-grows g c = grows_itself c.requires.known (more_itself c.args.facts.now) refl
+returns-then-has-clause-grows g c = grows_itself c.requires.known (more_itself c.args.facts.now) c.requires.all refl
 
 pub returns-then-has-clause-looked_each : goal.returns-then-has-clause-looked_each
 returns-then-has-clause-looked_each g c = λ f e marks. looked_offered c.requires.known marks (look_plain c.requires.known (c.the_numbering_is_sound.ensures.numbered c.args.facts.now.shape) c.requires.links c.requires.look) c.requires.new (sym c.has.ensures ∙ c.if-has.true)
 
 pub returns-in_default-clause-grows : goal.returns-in_default-clause-grows
-returns-in_default-clause-grows g c = grows_itself c.requires.known (more_itself c.args.facts.now) refl
+returns-in_default-clause-grows g c = grows_itself c.requires.known (more_itself c.args.facts.now) c.requires.all refl
 
 pub try_offer-requires-clause-ready : goal.try_offer-requires-clause-ready
 try_offer-requires-clause-ready g c = record { known = c.requires.known; offer = c.in-Ok.ensures.offer; marks = c.requires.marks }
@@ -32,7 +32,7 @@ pub try_offer-requires-clause-first : goal.try_offer-requires-clause-first
 try_offer-requires-clause-first g c = ap (has_number c.args.marks.now.offered) c.in-Ok.ensures.of_look.cross ∙ sym c.has.ensures ∙ c.if-has.false
 
 pub returns-clause-grows : goal.returns-clause-grows
-returns-clause-grows g c = grows_one c.try_offer.ensures.known c.try_offer.ensures.more (ap (has_number c.args.marks.now.barred) c.in-Ok.ensures.of_look.wire ∙ c.requires.free)
+returns-clause-grows g c = grows_one c.try_offer.ensures.known c.try_offer.ensures.all c.try_offer.ensures.more (ap (has_number c.args.marks.now.barred) c.in-Ok.ensures.of_look.wire ∙ c.requires.free)
     (subst (λ n. c.in-Ok.offer.wire.0 < n) (sym c.requires.marks.barred) c.in-Ok.ensures.offer.within) c.try_offer.ensures.barred
 
 pub returns-clause-tried_each : goal.returns-clause-tried_each
@@ -40,13 +40,13 @@ returns-clause-tried_each g c = on_ok_so c.try_offer.result c.try_offer.ensures.
 
 pub returns-clause-looked_each : goal.returns-clause-looked_each
 returns-clause-looked_each g c =
-    let grows = grows_one c.try_offer.ensures.known c.try_offer.ensures.more (ap (has_number c.args.marks.now.barred) c.in-Ok.ensures.of_look.wire ∙ c.requires.free)
+    let grows = grows_one c.try_offer.ensures.known c.try_offer.ensures.all c.try_offer.ensures.more (ap (has_number c.args.marks.now.barred) c.in-Ok.ensures.of_look.wire ∙ c.requires.free)
     (subst (λ n. c.in-Ok.offer.wire.0 < n) (sym c.requires.marks.barred) c.in-Ok.ensures.offer.within) c.try_offer.ensures.barred in
     on_ok_so c.try_offer.result c.try_offer.ensures.found_each (λ found f e marks. looked_tried c.requires.look c.in-Ok.ensures.of_look c.requires.new (subst (λ n. c.args.look.link.wire.0 < n) (sym c.requires.marks.barred) (look_other c.requires.known (c.the_numbering_is_sound.ensures.numbered c.args.facts.now.shape) c.requires.links c.requires.look)) grows (found f e marks.are))
 
 pub returns-clause-marks_each : goal.returns-clause-marks_each
 returns-clause-marks_each g c =
-    let grows = grows_one c.try_offer.ensures.known c.try_offer.ensures.more (ap (has_number c.args.marks.now.barred) c.in-Ok.ensures.of_look.wire ∙ c.requires.free)
+    let grows = grows_one c.try_offer.ensures.known c.try_offer.ensures.all c.try_offer.ensures.more (ap (has_number c.args.marks.now.barred) c.in-Ok.ensures.of_look.wire ∙ c.requires.free)
     (subst (λ n. c.in-Ok.offer.wire.0 < n) (sym c.requires.marks.barred) c.in-Ok.ensures.offer.within) c.try_offer.ensures.barred in
     let more = c.try_offer.ensures.advances.more in
     let linked = subst (λ (m : Shape). AreLinked m c.args.near.now.items) (sym more.shape) c.requires.links in

@@ -3,6 +3,7 @@ use Rattle.base_bits.specs.Numbers.{has_number}
 use Rattle.machine_shape.specs.declared.Shape.{Shape}
 use Rattle.machine_shape.specs.Shape.{wires_of}
 use Rattle.diag_evidence.proofs.KeptLemmas.{more_itself}
+use Rattle.diag_known.proofs.Later.{all_still}
 use Rattle.diag_growth.proofs.Leaving.{look_plain, all_later, joins_few, joins_spent, joins_barred, joins_offered}
 use Rattle.diag_growth.proofs.Looking.{look_within, look_other, looked_barred, looked_known, not_earlier}
 use Rattle.diag_known.proofs.Places.{before_has}
@@ -18,13 +19,13 @@ pub has-requires : goal.has-requires
 has-requires g c = subst (λ n. c.args.look.link.wire.0 < n) (sym c.requires.marks.barred) (look_other c.requires.known (c.the_numbering_is_sound.ensures.numbered c.args.facts.now.shape) c.requires.links c.requires.look)
 
 pub returns-then-has-clause-grows : goal.returns-then-has-clause-grows
-returns-then-has-clause-grows g c = grows_itself c.requires.known (more_itself c.args.facts.now) refl
+returns-then-has-clause-grows g c = grows_itself c.requires.known (more_itself c.args.facts.now) c.requires.all refl
 
 pub returns-then-has-clause-looked_each : goal.returns-then-has-clause-looked_each
 returns-then-has-clause-looked_each g c = λ f e marks. looked_barred (λ before. c.in_default.ensures.unknown (before_has before)) (sym c.has.ensures ∙ c.if-has.true)
 
 pub returns-then-other-look-clause-grows : goal.returns-then-other-look-clause-grows
-returns-then-other-look-clause-grows g c = grows_itself c.requires.known (more_itself c.args.facts.now) refl
+returns-then-other-look-clause-grows g c = grows_itself c.requires.known (more_itself c.args.facts.now) c.requires.all refl
 
 pub returns-then-other-look-clause-looked_each : goal.returns-then-other-look-clause-looked_each
 returns-then-other-look-clause-looked_each g c =
@@ -37,7 +38,7 @@ pub look_known-requires-clause-other : goal.look_known-requires-clause-other
 look_known-requires-clause-other g c = record { place = c.in-Some.other; early = omega arith; at = c.in-Some.ensures.known }
 
 pub returns-clause-grows : goal.returns-clause-grows
-returns-clause-grows g c = grows_itself c.requires.known c.look_known.ensures.advances.more (joins_barred c.look_known.ensures.joins)
+returns-clause-grows g c = grows_itself c.requires.known c.look_known.ensures.advances.more (all_still c.look_known.ensures.trial.apart c.requires.all) (joins_barred c.look_known.ensures.joins)
 
 pub returns-clause-tried_each : goal.returns-clause-tried_each
 returns-clause-tried_each g c = on_ok_so c.look_known.result c.look_known.ensures.kept_each (λ kept f e marks. tried_none (joins_barred c.look_known.ensures.joins))
@@ -48,7 +49,7 @@ returns-clause-looked_each g c = on_ok_so c.look_known.result c.look_known.ensur
 pub returns-clause-marks_each : goal.returns-clause-marks_each
 returns-clause-marks_each g c =
     let more = c.look_known.ensures.advances.more in
-    on_ok_so c.look_known.result c.look_known.ensures.marks_each (λ each f e marks. all_later more (grows_itself c.requires.known more (joins_barred c.look_known.ensures.joins)) marks (each f e marks.are)
+    on_ok_so c.look_known.result c.look_known.ensures.marks_each (λ each f e marks. all_later more (grows_itself c.requires.known more (all_still c.look_known.ensures.trial.apart c.requires.all) (joins_barred c.look_known.ensures.joins)) marks (each f e marks.are)
     (λ x on. inl (ap (λ bits. has_number bits x) (sym (joins_offered c.look_known.ensures.joins)) ∙ on)))
 
 pub returns-clause-spends_each : goal.returns-clause-spends_each

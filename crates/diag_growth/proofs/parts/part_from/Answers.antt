@@ -4,7 +4,7 @@ use Rattle.machine_shape.specs.declared.Cross.{Cross}
 use Rattle.machine_shape.specs.Shape.{crosses_of}
 use Rattle.machine_config.specs.Vocabulary.{among, IsDrivenAlone}
 use Rattle.diag_tests.specs.Vocabulary.{IsLoopConfig, Walk, cross_numbers}
-use Rattle.diag_evidence.specs.Vocabulary.{Kept, IsMore, Gains, these_pairs, IsReady, wires_over}
+use Rattle.diag_evidence.specs.Vocabulary.{Kept, IsMore, KeepsTrial, Gains, row_over, IsReady, wires_over}
 use Rattle.diag_known.proofs.Adding.{all_numbers}
 use Rattle.diag_growth.proofs.Listing.{parting_within}
 use Rattle.diag_growth.proofs.Parting.{walk_off, walks_ready, way_ready, parted, part_bad}
@@ -35,8 +35,8 @@ all_apart-answer-requires-clause-disjoint g c = λ u on. rw c.deref-2.ensures.va
 
 pub returns-clause-apart : goal.returns-clause-apart
 returns-clause-apart g c = IfOk-weaker c.all_apart-answer.result _ _ (λ yes gains. λ is_yes.
-    rw (c.give_back_drive.ensures, c.give_back.ensures) (parted c.args.known.now c.requires.way c.requires.beside (subst (λ (k : Kept). IsMore k c.all_apart-answer.new.self) (c.in_ok-drive.ensures.same ∙ c.in_ok-config.ensures.same) c.all_apart-answer.ensures.advances.more)
-    (subst (λ (k : Kept). Gains (these_pairs c.args.way.now.wires (wires_over c.args.beside.now.walks.items)) k c.all_apart-answer.new.self) (c.in_ok-drive.ensures.same ∙ c.in_ok-config.ensures.same) (rw c.deref-2.ensures.value at (gains is_yes)))))
+    rw (c.give_back_drive.ensures, c.give_back.ensures) (parted c.args.known.now c.requires.way c.requires.beside c.requires.tried c.requires.new
+    (subst (λ (k : Kept). Gains (row_over k.trial c.args.way.now.wires (wires_over c.args.beside.now.walks.items)) k c.all_apart-answer.new.self) (c.in_ok-drive.ensures.same ∙ c.in_ok-config.ensures.same) (rw c.deref-2.ensures.value at (gains is_yes)))))
     c.all_apart-answer.ensures.gains
 
 pub returns-clause-bad_each : goal.returns-clause-bad_each
@@ -48,3 +48,6 @@ returns-clause-bad_each g c =
     rw (c.give_back_drive.ensures, c.give_back.ensures)
     (part_bad c.requires.known c.requires.way c.requires.beside laid (subst (IsDrivenAlone c.in_ok-drive.drive) c.pin.ensures c.in_ok-drive.ensures.alone) (rw c.deref-2.ensures.value at (passes f e))
     (subst (λ (k : Kept). IsMore k c.all_apart-answer.new.self) (c.in_ok-drive.ensures.same ∙ c.in_ok-config.ensures.same) c.all_apart-answer.ensures.advances.more) is_no))
+
+pub returns-clause-trial : goal.returns-clause-trial
+returns-clause-trial g c = rw (c.give_back_drive.ensures, c.give_back.ensures) (subst (λ (k : Kept). KeepsTrial k c.all_apart-answer.new.self) (c.in_ok-drive.ensures.same ∙ c.in_ok-config.ensures.same) c.all_apart-answer.ensures.trial)

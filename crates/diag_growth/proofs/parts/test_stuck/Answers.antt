@@ -2,7 +2,7 @@ use Rattle.std.proofs.Common.{◌∙◌, [], subst}
 use Rattle.std.proofs.lemmas.Result.{IfOk-weaker}
 use Rattle.machine_config.specs.Tests.{IsDrivenAlone}
 use Rattle.diag_tests.specs.Configs.{IsLoopConfig}
-use Rattle.diag_evidence.specs.Kept.{Kept, IsMore, Gains, these_wires}
+use Rattle.diag_evidence.specs.Kept.{Kept, IsMore, KeepsTrial, Gains, these_wires}
 use Rattle.diag_evidence.proofs.Lists.{route_passes}
 use Rattle.diag_growth.proofs.Parting.{end_on, swing_kept, swing_bad}
 use Rattle.diag_known.proofs.Settling.{if_ok_so}
@@ -26,3 +26,7 @@ returns-clause-bad_each g c =
     (route_passes _ m c.in_ok-config.config.config q c.in_ok-low.low c.in_ok-high.high yes laid c.requires.way.route
     (subst (IsDrivenAlone c.in_ok-low.low) c.pin.ensures c.in_ok-low.ensures.alone) c.in_ok-high.ensures.released (passes f e))
     (subst (λ (k : Kept). IsMore k c.test_stuck-answer.new.self) (c.in_ok-high.ensures.same ∙ c.in_ok-low.ensures.same ∙ c.in_ok-config.ensures.same) c.test_stuck-answer.ensures.advances.more) is_no))
+
+pub returns-clause-trial : goal.returns-clause-trial
+returns-clause-trial g c = rw (c.give_back_drive-2.ensures, c.give_back_drive.ensures, c.give_back.ensures)
+    (subst (λ (k : Kept). KeepsTrial k c.test_stuck-answer.new.self) (c.in_ok-high.ensures.same ∙ c.in_ok-low.ensures.same ∙ c.in_ok-config.ensures.same) c.test_stuck-answer.ensures.trial)

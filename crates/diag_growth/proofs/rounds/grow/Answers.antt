@@ -40,6 +40,9 @@ look_on-requires-clause-marks g c = first_over c.requires.field (record { len = 
 pub returns-in_err-look_on-clause-known : goal.returns-in_err-look_on-clause-known
 returns-in_err-look_on-clause-known g c = c.look_on.ensures.grows.known
 
+pub returns-in_err-look_on-clause-all : goal.returns-in_err-look_on-clause-all
+returns-in_err-look_on-clause-all g c = c.look_on.ensures.grows.all
+
 pub returns-in_err-look_on-clause-grows : goal.returns-in_err-look_on-clause-grows
 returns-in_err-look_on-clause-grows g c = grows_in c.in-Ok-new.ensures.barred c.in-Ok-new.ensures.len c.look_on.ensures.grows
 
@@ -61,6 +64,9 @@ pins-init g c = record {
 pub grow_pin-requires-clause-known : goal.grow_pin-requires-clause-known
 grow_pin-requires-clause-known g c = c.pins.invariant.spread.grows.known
 
+pub grow_pin-requires-clause-all : goal.grow_pin-requires-clause-all
+grow_pin-requires-clause-all g c = c.pins.invariant.spread.grows.all
+
 pub grow_pin-requires-clause-marks : goal.grow_pin-requires-clause-marks
 grow_pin-requires-clause-marks g c = c.pins.invariant.spread.over
 
@@ -74,6 +80,9 @@ grow_pin-requires-clause-pin g c =
 
 pub returns-in_err-grow_pin-clause-known : goal.returns-in_err-grow_pin-clause-known
 returns-in_err-grow_pin-clause-known g c = c.grow_pin.ensures.grows.known
+
+pub returns-in_err-grow_pin-clause-all : goal.returns-in_err-grow_pin-clause-all
+returns-in_err-grow_pin-clause-all g c = c.grow_pin.ensures.grows.all
 
 pub returns-in_err-grow_pin-clause-grows : goal.returns-in_err-grow_pin-clause-grows
 returns-in_err-grow_pin-clause-grows g c = spread_in c.pins.invariant.spread c.grow_pin.ensures.grows
@@ -100,6 +109,9 @@ pins-preserved g c =
 
 pub returns-clause-known : goal.returns-clause-known
 returns-clause-known g c = c.pins.invariant.spread.grows.known
+
+pub returns-clause-all : goal.returns-clause-all
+returns-clause-all g c = c.pins.invariant.spread.grows.all
 
 pub returns-clause-grows : goal.returns-clause-grows
 returns-clause-grows g c = grows_in c.pins.invariant.spread.outside c.pins.invariant.spread.len c.pins.invariant.spread.grows

@@ -13,7 +13,7 @@ use Rattle.diag_growth.proofs.rounds.look_on.Goals as goal
 pub places-init : goal.places-init
 places-init g c = record {
   advances = advances_itself _ c.args.facts.now;
-  grows = grows_itself c.requires.known (more_itself c.args.facts.now) refl;
+  grows = grows_itself c.requires.known (more_itself c.args.facts.now) c.requires.all refl;
   tried_each = λ f e marks. tried_none refl;
   marks = c.requires.marks;
   spends = spends_none refl refl;

@@ -1,12 +1,12 @@
 use Rattle.std.proofs.Common.{◌∙◌, ap, refl, sym, subst, arith}
-use Rattle.diag_evidence.proofs.Keeping.{advances_itself, advances_then}
+use Rattle.diag_evidence.proofs.Keeping.{rest_itself, rest_then}
 use Rattle.diag_known.specs.Field.{IsFieldOf}
 use Rattle.diag_known.specs.declared.field.Field.{Field}
 use Rattle.diag_machine.proofs.Sweeping.{at_most, field_later, marks_back, marks_on}
 use Rattle.diag_machine.proofs.whole.choose_all.Goals as goal
 
 pub choices-init : goal.choices-init
-choices-init g c = record { advances = advances_itself _ c.args.facts.now; known = c.requires.known; field = refl; marks = c.requires.marks; right_each = c.requires.right_each; pays = omega arith; paid = refl }
+choices-init g c = record { advances = rest_itself _ c.args.facts.now; known = c.requires.known; all = c.requires.all; field = refl; marks = c.requires.marks; right_each = c.requires.right_each; pays = omega arith; paid = refl }
 
 pub choose_once-requires-clause-field : goal.choose_once-requires-clause-field
 choose_once-requires-clause-field g c = subst (λ (a : Field). IsFieldOf c.choices.facts.shape a) (sym c.choices.invariant.field) (field_later c.choices.invariant.advances.more c.requires.field)
@@ -16,8 +16,9 @@ choose_once-requires-clause-marks g c = marks_on c.choices.invariant.advances.mo
 
 pub choices-preserved : goal.choices-preserved
 choices-preserved g c = record {
-  advances = advances_then c.choices.invariant.advances c.choose_once.ensures.advances;
+  advances = rest_then c.choices.invariant.advances c.choose_once.ensures.advances;
   known = c.choose_once.ensures.known;
+  all = c.choose_once.ensures.all;
   field = c.choose_once.ensures.field ∙ c.choices.invariant.field;
   marks = marks_back c.choices.invariant.advances.more c.choose_once.ensures.marks;
   right_each = c.choose_once.ensures.right_each;

@@ -1,6 +1,6 @@
 use Rattle.std.proofs.Common.{◌∙◌}
 use Rattle.diag_machine.proofs.Sweeping.{at_most, field_later, marks_each, marks_of, marks_on}
-use Rattle.diag_evidence.proofs.Keeping.{advances_then}
+use Rattle.diag_evidence.proofs.Keeping.{advances_rest, rest_then}
 use Rattle.diag_machine.proofs.whole.choose_once.Goals as goal
 
 pub sweep_with-requires-clause-field : goal.sweep_with-requires-clause-field
@@ -38,3 +38,9 @@ returns-in_err-choose-clause-right_each g c = marks_each c.choose.ensures.right_
 
 pub returns-then-not-branch-clause-right_each : goal.returns-then-not-branch-clause-right_each
 returns-then-not-branch-clause-right_each g c = marks_each c.choose.ensures.right_each c.choose.ensures.advances.narrows c.requires.right_each
+
+pub returns-in_err-sweep_with-clause-advances : goal.returns-in_err-sweep_with-clause-advances
+returns-in_err-sweep_with-clause-advances g c = rest_then c.choose.ensures.advances (advances_rest c.sweep_with.ensures.advances)
+
+pub returns-clause-advances : goal.returns-clause-advances
+returns-clause-advances g c = rest_then c.choose.ensures.advances (advances_rest c.sweep_with.ensures.advances)

@@ -1,8 +1,8 @@
 use Rattle.std.proofs.Common.{sym, arith}
 use Rattle.std.proofs.lemmas.Result.{on_ok_weaker}
-use Rattle.diag_machine.proofs.Stepping.{reached_if}
+use Rattle.diag_evidence.proofs.Keeping.{advances_rest, rest_itself}
+use Rattle.diag_machine.proofs.Stepping.{grown_true, reached_if}
 use Rattle.diag_machine.proofs.Sweeping.{always, few_when}
-use Rattle.diag_sweep.proofs.Marking.{true_later}
 use Rattle.diag_machine.proofs.whole.grow_whole.Goals as goal
 
 pub returns-in_default-clause-loads : goal.returns-in_default-clause-loads
@@ -15,13 +15,17 @@ pub returns-in_default-clause-few_each : goal.returns-in_default-clause-few_each
 returns-in_default-clause-few_each g c = λ f e. always (let pins = c.growth_without_bad_is_paid.ensures.pins c.args.field.now c.args.facts.now c.requires.field in omega (arith, pins))
 
 pub returns-clause-right_each : goal.returns-clause-right_each
-returns-clause-right_each g c = λ f e. true_later c.grow.ensures.advances.more c.grow.ensures.grows.stays (c.requires.right_each f (c.grow.ensures.advances.narrows f e))
+returns-clause-right_each g c = λ f e. grown_true c.grow.ensures.advances e c.grow.ensures.grows (c.requires.right_each f (c.grow.ensures.advances.narrows f e))
 
 pub returns-clause-reached_each : goal.returns-clause-reached_each
 returns-clause-reached_each g c =
-    on_ok_weaker c.grow.result (λ closed f e. reached_if (sym c.grow.ensures.advances.more.shape) (c.the_numbering_is_sound.ensures.numbered _) c.requires.whole.wires c.requires.whole.crosses
-    (c.closed_without_bad.ensures _ c.grow.new.facts c.grow.new.known.steps c.args.bad.now c.args.field.now c.in-Ok.rest c.in-Ok.ensures (true_later c.grow.ensures.advances.more c.grow.ensures.grows.stays (c.requires.right_each f (c.grow.ensures.advances.narrows f e))) (closed f e)))
+    on_ok_weaker c.grow.result (λ closed f e. let true_ = grown_true c.grow.ensures.advances e c.grow.ensures.grows (c.requires.right_each f (c.grow.ensures.advances.narrows f e)) in
+    reached_if (sym c.grow.ensures.advances.more.shape) (c.the_numbering_is_sound.ensures.numbered _) c.requires.whole.wires c.requires.whole.crosses (λ g same. (true_.at g same).0)
+    (c.closed_without_bad.ensures _ c.grow.new.facts c.grow.new.known.steps c.args.bad.now c.args.field.now c.in-Ok.rest c.in-Ok.ensures true_ (closed f e)))
     c.grow.ensures.closed_each
 
 pub returns-clause-few_each : goal.returns-clause-few_each
 returns-clause-few_each g c = λ f e. few_when (λ h is none holds. c.growth_without_bad_is_paid.ensures.few c.args.field.now c.in-Ok.rest c.args.facts.now c.args.bad.now _ _ c.requires.field c.in-Ok.ensures ((c.grow.ensures.few_each f e).at h is none holds))
+
+pub returns-clause-advances : goal.returns-clause-advances
+returns-clause-advances g c = advances_rest c.grow.ensures.advances

@@ -4,7 +4,7 @@ use Rattle.base_bits.specs.Numbers.{size_of}
 use Rattle.diag_known.specs.Field.{IsFieldOf}
 use Rattle.diag_known.specs.declared.field.Field.{Field}
 use Rattle.diag_machine.specs.Stages.{IsWhole}
-use Rattle.diag_evidence.proofs.Keeping.{advances_then}
+use Rattle.diag_evidence.proofs.Keeping.{rest_then}
 use Rattle.diag_machine.proofs.Counted.{grown_few, grown_most, known_few, known_most, pins_same, size_most, swept_few, swept_most, wires_most}
 use Rattle.diag_machine.proofs.Stepping.{holds_each}
 use Rattle.diag_machine.proofs.Sweeping.{always, at_most, at_once, few_when, field_later, marks_back, marks_on, whole_later}
@@ -20,16 +20,16 @@ pub grow_whole-requires-clause-marks : goal.grow_whole-requires-clause-marks
 grow_whole-requires-clause-marks g c = marks_on c.sweep_whole.ensures.advances.more c.sweep_whole.ensures.marks
 
 pub know_lost-requires-clause-field : goal.know_lost-requires-clause-field
-know_lost-requires-clause-field g c = subst (λ (a : Field). IsFieldOf c.grow_whole.new.facts.shape a) (sym c.sweep_whole.ensures.field) (field_later (advances_then c.sweep_whole.ensures.advances c.grow_whole.ensures.advances).more c.requires.field)
+know_lost-requires-clause-field g c = subst (λ (a : Field). IsFieldOf c.grow_whole.new.facts.shape a) (sym c.sweep_whole.ensures.field) (field_later (rest_then c.sweep_whole.ensures.advances c.grow_whole.ensures.advances).more c.requires.field)
 
 pub know_lost-requires-clause-whole : goal.know_lost-requires-clause-whole
-know_lost-requires-clause-whole g c = subst (λ (a : Field). IsWhole c.grow_whole.new.facts.shape a) (sym c.sweep_whole.ensures.field) (whole_later (advances_then c.sweep_whole.ensures.advances c.grow_whole.ensures.advances).more c.requires.whole)
+know_lost-requires-clause-whole g c = subst (λ (a : Field). IsWhole c.grow_whole.new.facts.shape a) (sym c.sweep_whole.ensures.field) (whole_later (rest_then c.sweep_whole.ensures.advances c.grow_whole.ensures.advances).more c.requires.whole)
 
 pub know_lost-requires-clause-marks : goal.know_lost-requires-clause-marks
-know_lost-requires-clause-marks g c = marks_on (advances_then c.sweep_whole.ensures.advances c.grow_whole.ensures.advances).more c.sweep_whole.ensures.marks
+know_lost-requires-clause-marks g c = marks_on (rest_then c.sweep_whole.ensures.advances c.grow_whole.ensures.advances).more c.sweep_whole.ensures.marks
 
 pub know_lost-requires-clause-paid : goal.know_lost-requires-clause-paid
-know_lost-requires-clause-paid g c = c.sweep_whole.ensures.paid ∙ c.requires.paid ∙ ap wires_of (sym (advances_then c.sweep_whole.ensures.advances c.grow_whole.ensures.advances).more.shape)
+know_lost-requires-clause-paid g c = c.sweep_whole.ensures.paid ∙ c.requires.paid ∙ ap wires_of (sym (rest_then c.sweep_whole.ensures.advances c.grow_whole.ensures.advances).more.shape)
 
 pub returns-in_err-sweep_whole-clause-loads : goal.returns-in_err-sweep_whole-clause-loads
 returns-in_err-sweep_whole-clause-loads g c = swept_most _ _ _ _ _ _ _ _ _ _ _ _ _ c.sweep_whole.ensures.pays c.requires.left c.requires.none
@@ -56,7 +56,7 @@ returns-in_err-know_lost-clause-loads g c = known_most _ _ _ _ _ _ _ _ _ _ _ _ _
     (c.growth_without_bad_is_paid.ensures.pins c.sweep_whole.new.state.field c.sweep_whole.new.facts (subst (λ (a : Field). IsFieldOf c.sweep_whole.new.facts.shape a) (sym c.sweep_whole.ensures.field) (field_later c.sweep_whole.ensures.advances.more c.requires.field)))
     (pins_same c.sweep_whole.ensures.advances.more.shape c.sweep_whole.ensures.field)
     (wires_most c.requires.field c.sweep_whole.ensures.field)
-    (size_most c.sweep_whole.new.state.choices.paid (wires_of c.args.facts.now.shape) (c.sweep_whole.ensures.paid ∙ c.requires.paid)) _ _ _ _ c.grow_whole.ensures.loads (ap crosses_of (advances_then c.sweep_whole.ensures.advances c.grow_whole.ensures.advances).more.shape) (ap wires_of (advances_then c.sweep_whole.ensures.advances c.grow_whole.ensures.advances).more.shape) c.know_lost.ensures.loads
+    (size_most c.sweep_whole.new.state.choices.paid (wires_of c.args.facts.now.shape) (c.sweep_whole.ensures.paid ∙ c.requires.paid)) _ _ _ _ c.grow_whole.ensures.loads (ap crosses_of (rest_then c.sweep_whole.ensures.advances c.grow_whole.ensures.advances).more.shape) (ap wires_of (rest_then c.sweep_whole.ensures.advances c.grow_whole.ensures.advances).more.shape) c.know_lost.ensures.loads
 
 pub returns-clause-loads : goal.returns-clause-loads
 returns-clause-loads g c = known_most _ _ _ _ _ _ _ _ _ _ _ _ _ c.sweep_whole.ensures.pays c.requires.left c.requires.none
@@ -65,13 +65,13 @@ returns-clause-loads g c = known_most _ _ _ _ _ _ _ _ _ _ _ _ _ c.sweep_whole.en
     (c.growth_without_bad_is_paid.ensures.pins c.sweep_whole.new.state.field c.sweep_whole.new.facts (subst (λ (a : Field). IsFieldOf c.sweep_whole.new.facts.shape a) (sym c.sweep_whole.ensures.field) (field_later c.sweep_whole.ensures.advances.more c.requires.field)))
     (pins_same c.sweep_whole.ensures.advances.more.shape c.sweep_whole.ensures.field)
     (wires_most c.requires.field c.sweep_whole.ensures.field)
-    (size_most c.sweep_whole.new.state.choices.paid (wires_of c.args.facts.now.shape) (c.sweep_whole.ensures.paid ∙ c.requires.paid)) _ _ _ _ c.grow_whole.ensures.loads (ap crosses_of (advances_then c.sweep_whole.ensures.advances c.grow_whole.ensures.advances).more.shape) (ap wires_of (advances_then c.sweep_whole.ensures.advances c.grow_whole.ensures.advances).more.shape) c.know_lost.ensures.loads
+    (size_most c.sweep_whole.new.state.choices.paid (wires_of c.args.facts.now.shape) (c.sweep_whole.ensures.paid ∙ c.requires.paid)) _ _ _ _ c.grow_whole.ensures.loads (ap crosses_of (rest_then c.sweep_whole.ensures.advances c.grow_whole.ensures.advances).more.shape) (ap wires_of (rest_then c.sweep_whole.ensures.advances c.grow_whole.ensures.advances).more.shape) c.know_lost.ensures.loads
 
 pub returns-in_err-know_lost-clause-marks : goal.returns-in_err-know_lost-clause-marks
-returns-in_err-know_lost-clause-marks g c = marks_back (advances_then c.sweep_whole.ensures.advances c.grow_whole.ensures.advances).more c.know_lost.ensures.marks
+returns-in_err-know_lost-clause-marks g c = marks_back (rest_then c.sweep_whole.ensures.advances c.grow_whole.ensures.advances).more c.know_lost.ensures.marks
 
 pub returns-clause-marks : goal.returns-clause-marks
-returns-clause-marks g c = marks_back (advances_then c.sweep_whole.ensures.advances c.grow_whole.ensures.advances).more c.know_lost.ensures.marks
+returns-clause-marks g c = marks_back (rest_then c.sweep_whole.ensures.advances c.grow_whole.ensures.advances).more c.know_lost.ensures.marks
 
 pub grow_whole-requires-clause-right_each : goal.grow_whole-requires-clause-right_each
 grow_whole-requires-clause-right_each g c = c.sweep_whole.ensures.right_each

@@ -8,7 +8,7 @@ use Rattle.diag_machine.proofs.Counted.{again_most, lost_most, size_most, wires_
 use Rattle.diag_machine.proofs.Losing.{out_never}
 use Rattle.diag_machine.proofs.Stepping.{reached_then}
 use Rattle.diag_machine.proofs.Sweeping.{always, at_most, at_once, field_later, marks_on, whole_later}
-use Rattle.diag_evidence.proofs.Keeping.{advances_then}
+use Rattle.diag_evidence.proofs.Keeping.{rest_then}
 use Rattle.diag_machine.proofs.whole.know_lost.Goals as goal
 
 pub returns-in_default-clause-loads : goal.returns-in_default-clause-loads

@@ -1,12 +1,24 @@
 use Rattle.std.proofs.Common.{◌∙◌, ap, length}
 use Rattle.std.proofs.lemmas.List.{length-replicate}
 use Rattle.machine_shape.specs.Shape.{wires_of}
+use Rattle.diag_evidence.proofs.Keeping.{holds_retaken, retaken_but, retaken_shape}
 use Rattle.diag_known.proofs.Apart.{known_apart}
+use Rattle.diag_known.proofs.Later.{known_retaken, retaken_all}
 use Rattle.diag_sweep.proofs.Chosen.{marks_cleared, true_of_any}
+use Rattle.diag_sweep.proofs.Marking.{true_back}
 use Rattle.diag_sweep.proofs.choice.give_way.Goals as goal
 
 pub standing-requires : goal.standing-requires
 standing-requires c = record { apart = known_apart c.in_ok-stay.stay c.requires.known (c.in_ok-stay.ensures.len ∙ ap wires_of c.requires.known.shape) c.in_ok-stay.ensures.known }
+
+pub retake-requires : goal.retake-requires
+retake-requires c = c.wires.ensures.len ∙ ap wires_of c.in_ok-known.ensures.known.shape
+
+pub returns-clause-known : goal.returns-clause-known
+returns-clause-known c = known_retaken c.retake.ensures.retaken c.wires.ensures.whole c.in_ok-known.ensures.known
+
+pub returns-clause-all : goal.returns-clause-all
+returns-clause-all c = retaken_all c.retake.ensures.retaken c.wires.ensures.known
 
 pub returns-clause-fewer : goal.returns-clause-fewer
 returns-clause-fewer c = λ w has. c.in_ok-stay.ensures.known w (c.in_ok-known.ensures.within w has)
@@ -14,5 +26,8 @@ returns-clause-fewer c = λ w has. c.in_ok-stay.ensures.known w (c.in_ok-known.e
 pub returns-clause-marks : goal.returns-clause-marks
 returns-clause-marks c = marks_cleared c.clear.new.self (ap length c.clear.ensures ∙ length-replicate _ _) c.requires.marks
 
+pub returns-clause-but : goal.returns-clause-but
+returns-clause-but c = retaken_but c.retake.ensures.retaken
+
 pub returns-clause-right : goal.returns-clause-right
-returns-clause-right c = true_of_any c.clear.new.self _ c.clear.ensures
+returns-clause-right c = λ told t. true_back (retaken_shape c.retake.ensures.retaken) (λ f _. c.retake.ensures.explained f) (true_of_any c.clear.new.self _ c.clear.ensures told t)

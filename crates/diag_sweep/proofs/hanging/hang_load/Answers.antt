@@ -1,4 +1,5 @@
 use Rattle.std.proofs.Common.{refl}
+use Rattle.diag_sweep.proofs.Going.{yet_itself}
 use Rattle.diag_sweep.proofs.HungOn.{hang_goes, is_step, step_has, unfit_marks, unclear_marks}
 use Rattle.diag_sweep.proofs.hanging.hang_load.Goals as goal
 
@@ -6,7 +7,7 @@ pub returns-clause-goes : goal.returns-clause-goes
 returns-clause-goes g c =
     let test = c.test_wires.ensures in
     let of = c.if-not-are_of_field.ensures refl in
-    hang_goes 3 c.requires.hand (c.if-not-can_pay.ensures refl) test.loads test.advances.more
+    hang_goes 3 c.requires.hand (c.if-not-can_pay.ensures refl) test.loads test.advances.more test.advances.explained
     (unfit_marks c.args.field.now _ _ _ _ _ _ _ _ _ _ c.test_wires.result of test.marks test.stay test.logged test.unmarked)
     (unclear_marks c.args.field.now _ _ _ _ _ _ _ _ _ _ c.test_wires.result of test.marks_too test.stay_too test.logged test.unmarked_too)
     (λ f e. test.unfit_each f e (is_step c.args.known.now.steps) (λ w on. step_has c.args.known.now.steps w (c.if-not-is_known.ensures.all refl w on)))

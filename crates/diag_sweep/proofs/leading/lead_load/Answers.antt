@@ -1,7 +1,9 @@
 use Rattle.std.proofs.Common.{List, refl, sym, subst}
 use Rattle.diag_evidence.specs.declared.leads.Lead.{Lead}
+use Rattle.diag_known.proofs.Later.{all_still}
 use Rattle.diag_sweep.specs.Courses.{CanLead}
-use Rattle.diag_sweep.proofs.Led.{lead_goes, where_done}
+use Rattle.diag_sweep.proofs.Going.{goes_whole, set_by}
+use Rattle.diag_sweep.proofs.Led.{lead_goes, led_set, where_done}
 use Rattle.diag_sweep.proofs.leading.lead_load.Goals as goal
 
 pub test_paths-requires-clause-knows : goal.test_paths-requires-clause-knows
@@ -14,5 +16,6 @@ pub returns-clause-goes : goal.returns-clause-goes
 returns-clause-goes g c =
     let test = c.test_paths.ensures in
     let course = subst (λ (ls : List Lead). CanLead c.args.facts.now c.args.field.now c.in-Some.course.forest ls) (sym c.deref.ensures.value) (rw c.in-Some.is at c.in-Ok.ensures) in
-    lead_goes c.test_paths.result c.requires.hand course (c.if-not-can_pay.ensures refl) test.loads test.advances.more test.marks
-    (where_done c.test_paths.result test.logged (λ led. record { rows = led.rows; marks = led.marks })) test.unmarked test.stuck_each
+    goes_whole (all_still (set_by c.test_paths.result (where_done c.test_paths.result test.logged led_set) test.refused) c.requires.hand.all)
+    (lead_goes c.test_paths.result c.requires.hand course (c.if-not-can_pay.ensures refl) test.loads test.advances.more test.advances.explained test.marks
+    (where_done c.test_paths.result test.logged (λ led. record { rows = led.rows; marks = led.marks })) test.unmarked test.stuck_each)

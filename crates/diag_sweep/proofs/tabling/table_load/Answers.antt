@@ -1,10 +1,14 @@
 use Rattle.std.proofs.Common.{refl}
-use Rattle.diag_sweep.proofs.Tabled.{table_goes, wrong_marks}
+use Rattle.diag_known.proofs.Later.{all_still}
+use Rattle.diag_sweep.proofs.Going.{goes_whole, set_by}
+use Rattle.diag_sweep.proofs.Led.{where_done}
+use Rattle.diag_sweep.proofs.Tabled.{table_goes, tabled_set, wrong_marks}
 use Rattle.diag_sweep.proofs.tabling.table_load.Goals as goal
 
 pub returns-clause-goes : goal.returns-clause-goes
 returns-clause-goes g c =
     let test = c.tables_each.ensures in
     let given = rw c.deref.ensures.value at c.if-not-are_given.ensures refl in
-    table_goes c.args.table_sweep.now.tables.items c.requires.hand (c.if-not-can_pay.ensures refl) test.loads test.advances.more
-    (wrong_marks _ c.args.table_sweep.now.tables.items _ _ _ _ _ _ _ c.tables_each.result given test.marks test.logged test.unmarked) test.wrong_each
+    goes_whole (all_still (set_by c.tables_each.result (where_done c.tables_each.result test.logged tabled_set) test.refused) c.requires.hand.all)
+    (table_goes c.args.table_sweep.now.tables.items c.requires.hand (c.if-not-can_pay.ensures refl) test.loads test.advances.more test.advances.explained
+    (wrong_marks _ c.args.table_sweep.now.tables.items _ _ _ _ _ _ _ c.tables_each.result given test.marks test.logged test.unmarked) test.wrong_each)

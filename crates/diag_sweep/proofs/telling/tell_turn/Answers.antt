@@ -1,7 +1,8 @@
 use Rattle.std.proofs.Common.{refl}
+use Rattle.diag_known.proofs.Later.{all_still}
 use Rattle.diag_sweep.specs.Views.{CanTell}
 use Rattle.diag_sweep.proofs.Footed.{of_some}
-use Rattle.diag_sweep.proofs.Going.{goes_itself}
+use Rattle.diag_sweep.proofs.Going.{goes_itself, goes_whole, set_of}
 use Rattle.diag_sweep.proofs.HungOn.{hang_goes, is_step, step_has}
 use Rattle.diag_sweep.proofs.Viewing.{told_unclear, told_unfit}
 use Rattle.diag_sweep.proofs.telling.tell_turn.Goals as goal
@@ -11,19 +12,21 @@ returns-clause-goes g c =
     let can = of_some (CanTell c.args.facts.now c.args.known.now.steps c.args.field.now) c.in-Ok.found c.in-Some.view c.in-Some.is c.in-Ok.ensures in
     let test = c.screen_wires.ensures in
     let of = rw (← c.as_slice-feet.ensures.value) at can.field in
-    hang_goes 1 c.requires.hand (c.if-not-can_pay.ensures refl) test.loads test.advances.more
+    goes_whole (all_still (set_of test.same) c.requires.hand.all)
+    (hang_goes 1 c.requires.hand (c.if-not-can_pay.ensures refl) test.loads test.advances.more test.advances.explained
     (told_unfit c.args.field.now _ _ _ _ _ _ _ c.screen_wires.result of test.marks test.stay test.marked test.unmarked)
     (told_unclear c.args.field.now _ _ _ _ _ _ _ c.screen_wires.result of test.marks_too test.stay_too test.marked test.unmarked_too)
     (λ f e. test.unfit_each f e (is_step c.args.known.now.steps) (λ w on. step_has c.args.known.now.steps w (can.known w on)))
-    test.unclear_each
+    test.unclear_each)
 
 pub returns-in_err-screen_wires-clause-goes : goal.returns-in_err-screen_wires-clause-goes
 returns-in_err-screen_wires-clause-goes g c =
     let can = of_some (CanTell c.args.facts.now c.args.known.now.steps c.args.field.now) c.in-Ok.found c.in-Some.view c.in-Some.is c.in-Ok.ensures in
     let test = c.screen_wires.ensures in
     let of = rw (← c.as_slice-feet.ensures.value) at can.field in
-    hang_goes 1 c.requires.hand (c.if-not-can_pay.ensures refl) test.loads test.advances.more
+    goes_whole (all_still (set_of test.same) c.requires.hand.all)
+    (hang_goes 1 c.requires.hand (c.if-not-can_pay.ensures refl) test.loads test.advances.more test.advances.explained
     (told_unfit c.args.field.now _ _ _ _ _ _ _ c.screen_wires.result of test.marks test.stay test.marked test.unmarked)
     (told_unclear c.args.field.now _ _ _ _ _ _ _ c.screen_wires.result of test.marks_too test.stay_too test.marked test.unmarked_too)
     (λ f e. test.unfit_each f e (is_step c.args.known.now.steps) (λ w on. step_has c.args.known.now.steps w (can.known w on)))
-    test.unclear_each
+    test.unclear_each)

@@ -1,20 +1,13 @@
-use Rattle.diag_sweep.proofs.Going.{goes_itself, goes_learnt, goes_settled, goes_then}
+use Rattle.std.proofs.Common.{◌∙◌, ap}
+use Rattle.machine_shape.specs.Shape.{wires_of}
+use Rattle.diag_sweep.proofs.Going.{advances_back, goes_back}
 use Rattle.diag_sweep.proofs.turns.hang_turn.Goals as goal
 
-pub returns-in_default-learn_hangs-clause-goes : goal.returns-in_default-learn_hangs-clause-goes
-returns-in_default-learn_hangs-clause-goes g c =
-    let tested = c.hang_load.ensures.goes in
-    let settled = goes_then tested (goes_settled tested.hand c.settle_hangs.ensures) in
-    goes_then settled (goes_learnt settled.hand c.learn_hangs.ensures.known c.learn_hangs.ensures.grows)
+pub retake-requires : goal.retake-requires
+retake-requires g c = c.wires.ensures.len ∙ ap wires_of c.hang_test.ensures.goes.hand.known.shape
 
 pub returns-clause-goes : goal.returns-clause-goes
-returns-clause-goes g c =
-    let tested = c.hang_load.ensures.goes in
-    let settled = goes_then tested (goes_settled tested.hand c.settle_hangs.ensures) in
-    goes_then settled (goes_learnt settled.hand c.learn_hangs.ensures.known c.learn_hangs.ensures.grows)
+returns-clause-goes g c = goes_back c.wires.ensures.whole c.wires.ensures.known c.retake.ensures.retaken c.hang_test.ensures.goes
 
-pub returns-in_default-note_hangs-clause-goes : goal.returns-in_default-note_hangs-clause-goes
-returns-in_default-note_hangs-clause-goes g c =
-    let tested = c.hang_load.ensures.goes in
-    let settled = goes_then tested (goes_settled tested.hand c.settle_hangs.ensures) in
-    goes_then settled (goes_learnt settled.hand c.learn_hangs.ensures.known c.learn_hangs.ensures.grows)
+pub returns-clause-advances : goal.returns-clause-advances
+returns-clause-advances g c = advances_back c.requires.hand.all c.hang_test.ensures.goes.grows c.wires.ensures.whole c.retake.ensures.retaken c.hang_test.ensures.advances

@@ -1,11 +1,13 @@
-use Rattle.diag_sweep.proofs.Going.{goes_learnt, goes_then}
+use Rattle.std.proofs.Common.{◌∙◌, ap}
+use Rattle.machine_shape.specs.Shape.{wires_of}
+use Rattle.diag_sweep.proofs.Going.{advances_back, goes_back}
 use Rattle.diag_sweep.proofs.turns.pin_turn.Goals as goal
 
-pub returns-in_default-clause-goes : goal.returns-in_default-clause-goes
-returns-in_default-clause-goes g c = goes_then c.pin_load.ensures.goes (goes_learnt c.pin_load.ensures.goes.hand c.learn_pins.ensures.known c.learn_pins.ensures.grows)
+pub retake-requires : goal.retake-requires
+retake-requires g c = c.wires.ensures.len ∙ ap wires_of c.pin_test.ensures.goes.hand.known.shape
 
 pub returns-clause-goes : goal.returns-clause-goes
-returns-clause-goes g c = goes_then c.pin_load.ensures.goes (goes_learnt c.pin_load.ensures.goes.hand c.learn_pins.ensures.known c.learn_pins.ensures.grows)
+returns-clause-goes g c = goes_back c.wires.ensures.whole c.wires.ensures.known c.retake.ensures.retaken c.pin_test.ensures.goes
 
-pub returns-in_default-note_known-clause-goes : goal.returns-in_default-note_known-clause-goes
-returns-in_default-note_known-clause-goes g c = goes_then c.pin_load.ensures.goes (goes_learnt c.pin_load.ensures.goes.hand c.learn_pins.ensures.known c.learn_pins.ensures.grows)
+pub returns-clause-advances : goal.returns-clause-advances
+returns-clause-advances g c = advances_back c.requires.hand.all c.pin_test.ensures.goes.grows c.wires.ensures.whole c.retake.ensures.retaken c.pin_test.ensures.advances

@@ -1,8 +1,9 @@
 use Rattle.std.proofs.Common.{refl}
-use Rattle.diag_evidence.specs.Vocabulary.{Gains, these_pairs, wires_over}
+use Rattle.diag_evidence.specs.Vocabulary.{Gains, row_over, wires_over}
 use Rattle.diag_evidence.proofs.Advancing.{advances_by}
 use Rattle.diag_evidence.proofs.Several.{tells_none, tells_all, all_pass, all_gain}
 use Rattle.diag_evidence.proofs.Logging.{shows_none, shows_all}
+use Rattle.diag_evidence.proofs.Keeping.{trial_by_gain}
 use Rattle.diag_evidence.proofs.facts.Facts.all_apart.Goals as goal
 
 pub all_differ-apart-requires-clause-pin : goal.all_differ-apart-requires-clause-pin
@@ -29,6 +30,11 @@ returns-clause-logged g c = shows_all c.args.config.now.config c.args.drive.now 
 
 pub returns-clause-advances : goal.returns-clause-advances
 returns-clause-advances g c =
-    let gains : Gains (these_pairs c.args.left.now.wires (wires_over c.args.rights.now)) c.args.self.now c.keep_all_pairs.new.self = rw (← c.self.view_is) c.keep_all_pairs.ensures in
-    advances_by (these_pairs c.args.left.now.wires (wires_over c.args.rights.now)) c.in_ok-read.ensures.loads.machine c.in_ok-read.ensures.loads.later c.in_ok-read.ensures.loads.counted c.in_ok-read.ensures.few gains c.in_ok-read.ensures.loads.narrows c.in_ok-read.ensures.loads.tells
+    let gains : Gains (row_over c.args.self.now.trial c.args.left.now.wires (wires_over c.args.rights.now)) c.args.self.now c.keep_in_row.new.self = rw (← c.self.view_is) c.keep_in_row.ensures in
+    advances_by (row_over c.args.self.now.trial c.args.left.now.wires (wires_over c.args.rights.now)) c.in_ok-read.ensures.loads.machine c.in_ok-read.ensures.loads.later c.in_ok-read.ensures.loads.counted c.in_ok-read.ensures.few gains c.in_ok-read.ensures.loads.narrows c.in_ok-read.ensures.loads.tells
     (λ f e. all_gain c.args.left.now c.args.rights.now (c.in_ok-read.ensures.reads_each f e) c.args.self.now c.requires.shape c.requires.left c.requires.rights (rw c.pin.ensures at (c.all_differ-apart.ensures.yes c.if-not-apart.false)) f refl)
+
+pub returns-clause-trial : goal.returns-clause-trial
+returns-clause-trial g c =
+    let gains : Gains (row_over c.args.self.now.trial c.args.left.now.wires (wires_over c.args.rights.now)) c.args.self.now c.keep_in_row.new.self = rw (← c.self.view_is) c.keep_in_row.ensures in
+    trial_by_gain (row_over c.args.self.now.trial c.args.left.now.wires (wires_over c.args.rights.now)) c.args.self.now c.keep_in_row.new.self gains (λ w. refl)

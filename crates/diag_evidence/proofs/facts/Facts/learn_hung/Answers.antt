@@ -1,7 +1,7 @@
 use Rattle.std.proofs.Common.{◌≡◌, ◌<◌, ◌∙◌, All, List, Bool, sym, ap, subst, map}
 use Rattle.std.proofs.lemmas.List.Elements.{All-map}
 use Rattle.diag_evidence.specs.declared.hangs.WireTest.{WireTest}
-use Rattle.diag_evidence.specs.Vocabulary.{Kept, Gains, Foot, IsFoot, HasMarked, over_of, turned, overs, others, shown, seen_on}
+use Rattle.diag_evidence.specs.Vocabulary.{Kept, Gains, Foot, IsFoot, HasMarked, over_of, turned, overs, others, shown, seen_on, joined_by}
 use Rattle.diag_evidence.proofs.Hanging.{overs_feet, shown_feet}
 use Rattle.diag_evidence.proofs.facts.Facts.learn_hung.Goals as goal
 
@@ -43,9 +43,12 @@ returns-clause-learnt c =
     let second_feet = c.deref-5.ensures.value ∙ c.in_ok-overs.ensures in
     let gained : Gains (seen_on trees c.deref-4.result.now views.without_over.rows) c.args.self.now c.keep_feet.new.self = c.keep_feet.ensures in
     let gained_too : Gains (seen_on trees c.deref-5.result.now views.without_other.rows) c.keep_feet.new.self c.keep_feet-2.new.self = c.keep_feet-2.ensures in
+    let joins : Gains (joined_by c.keep_feet-2.new.self.apart trees hs views.all.rows views.without_over.rows views.without_other.rows) c.keep_feet-2.new.self c.keep_joined.new.self = c.keep_joined.ensures in
     record {
       mid = c.keep_feet.new.self;
+      near = c.keep_feet-2.new.self;
       first = subst (λ (feet : List Foot). Gains (seen_on trees feet views.without_over.rows) c.args.self.now c.keep_feet.new.self) first_feet gained;
+      third = joins;
       second = subst (λ (feet : List Foot). Gains (seen_on trees feet views.without_other.rows) c.keep_feet.new.self c.keep_feet-2.new.self) second_feet gained_too;
       some = c.mark_unfit.new.unfit;
       few = c.mark_unfit.new.unclear;

@@ -5,5 +5,5 @@ pub returns-clause-nothing : goal.returns-clause-nothing
 returns-clause-nothing c =
     let wires = c.in_ok-on_wires.ensures in
     let tables = c.in_ok-on_tables.ensures in
-    rw (wires.crosses, wires.wires, tables.cells, tables.registers)
-    (keeps_none c.args.shape _ _ _ _ c.in_ok-on_wires.on_wires.pairs wires.pairs)
+    rw (wires.crosses, wires.wires, wires.apart, wires.row, tables.cells, tables.registers)
+    (keeps_none c.args.shape _ _ _ _ _ _)

@@ -4,6 +4,7 @@ use Rattle.diag_evidence.proofs.Shown.{swing_same, swing_apart, swing_shows}
 use Rattle.base_bits.proofs.SetsLemmas.{same_bits}
 use Rattle.diag_evidence.proofs.Advancing.{different_bits, advances_by, wires_gain}
 use Rattle.diag_evidence.proofs.Logging.{shows_still, shows_swing}
+use Rattle.diag_evidence.proofs.Keeping.{trial_by_gain}
 use Rattle.diag_evidence.proofs.facts.Facts.test_stuck.Goals as goal
 
 pub returns-then-first-second-clause-exact_each : goal.returns-then-first-second-clause-exact_each
@@ -36,3 +37,8 @@ returns-clause-advances g c =
     let gains : Gains (these_wires c.args.route.now.wires) c.args.self.now c.keep_wires.new.self = rw (← c.self.view_is) c.keep_wires.ensures in
     advances_by (these_wires c.args.route.now.wires) c.in_ok-first.ensures.loads.machine c.in_ok-first.ensures.loads.later c.in_ok-first.ensures.loads.counted c.in_ok-first.ensures.few gains c.in_ok-first.ensures.loads.narrows c.in_ok-first.ensures.loads.tells
     (λ f e. wires_gain c.args.self.now c.args.route.now c.requires.shape c.requires.ready (rw c.pin.ensures at (c.in_ok-first.ensures.reads_each f e)) (different_bits _ _ c.if-first-second.false) f refl)
+
+pub returns-clause-trial : goal.returns-clause-trial
+returns-clause-trial g c =
+    let gains : Gains (these_wires c.args.route.now.wires) c.args.self.now c.keep_wires.new.self = rw (← c.self.view_is) c.keep_wires.ensures in
+    trial_by_gain (these_wires c.args.route.now.wires) c.args.self.now c.keep_wires.new.self gains (λ w. refl)

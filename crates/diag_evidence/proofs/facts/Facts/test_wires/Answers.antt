@@ -53,7 +53,7 @@ pub returns-clause-advances : goal.returns-clause-advances
 returns-clause-advances g c =
     let learnt = subst (λ (k : Kept). HasLearnt c.args.forest.now c.args.hangs.now c.view.new.views k c.learn_hung.new.self c.args.unfit.now c.learn_hung.new.unfit c.args.unclear.now c.learn_hung.new.unclear) c.in_ok-view.ensures.same c.in_ok-learn_hung.ensures.learnt in
     learnt_advances learnt c.in_ok-view.ensures.loads.machine c.in_ok-view.ensures.loads.later c.in_ok-view.ensures.loads.counted c.in_ok-view.ensures.few c.in_ok-view.ensures.loads.narrows c.in_ok-view.ensures.loads.tells
-    (λ f e. tried_holds _ c.args.forest.now c.args.hangs.now c.view.new.views c.in_ok-view.field-0 (c.in_ok-view.ensures.viewed_each f e) c.args.self.now c.learn_hung.new.self c.if-not-branch.false learnt c.shape-shape.ensures.forest c.requires.forest (are_hung c.requires.hangs) f refl)
+    (λ f e. tried_holds _ c.args.forest.now c.args.hangs.now c.view.new.views c.in_ok-view.field-0 (c.in_ok-view.ensures.viewed_each f e) c.args.self.now c.learn_hung.new.self c.if-not-branch.false learnt c.shape-shape.ensures.forest c.requires.forest (are_hung c.requires.hangs) c.requires.hangs f refl)
 
 pub returns-then-not-branch-clause-logged : goal.returns-then-not-branch-clause-logged
 returns-then-not-branch-clause-logged g c =

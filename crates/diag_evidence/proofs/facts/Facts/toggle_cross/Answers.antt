@@ -4,6 +4,7 @@ use Rattle.diag_evidence.proofs.Shown.{tells_same, tells_apart, loop_shows}
 use Rattle.base_bits.proofs.SetsLemmas.{same_bits}
 use Rattle.diag_evidence.proofs.Advancing.{different_bits, advances_by, cross_gain}
 use Rattle.diag_evidence.proofs.Logging.{shows_same, shows_apart}
+use Rattle.diag_evidence.proofs.Keeping.{trial_by_gain}
 use Rattle.diag_evidence.proofs.facts.Facts.toggle_cross.Goals as goal
 
 pub returns-then-closed-open-clause-exact_each : goal.returns-then-closed-open-clause-exact_each
@@ -34,4 +35,9 @@ returns-clause-advances g c =
     let gains : Gains (one_cross c.args.c.0) c.args.self.now c.keep_cross.new.self = rw (← c.self.view_is) c.keep_cross.ensures in
     advances_by (one_cross c.args.c.0) (c.in_ok-open.ensures.loads.machine ∙ c.in_ok-closed.ensures.loads.machine) (omega (arith, c.in_ok-open.ensures.loads.later, c.in_ok-closed.ensures.loads.later)) (omega (arith, c.in_ok-open.ensures.loads.counted, c.in_ok-closed.ensures.loads.counted)) (λ n k h. c.in_ok-open.ensures.few n k (c.in_ok-closed.ensures.few n k h)) gains
     (λ f e. c.in_ok-closed.ensures.loads.narrows f (c.in_ok-open.ensures.loads.narrows f e)) (λ told. c.in_ok-open.ensures.loads.tells (c.in_ok-closed.ensures.loads.tells told))
-    (λ f e h. cross_gain c.args.self.now.shape c.args.config.now.config c.args.c.0 c.requires.closed (c.in_ok-closed.ensures.reads_each f (c.in_ok-open.ensures.loads.narrows f e)) (c.in_ok-open.ensures.reads_each f e) (different_bits _ _ c.if-closed-open.false) f refl)
+    (λ f e h. cross_gain c.args.self.now c.args.config.now.config c.args.c.0 c.requires.closed (c.in_ok-closed.ensures.reads_each f (c.in_ok-open.ensures.loads.narrows f e)) (c.in_ok-open.ensures.reads_each f e) (different_bits _ _ c.if-closed-open.false) f refl)
+
+pub returns-clause-trial : goal.returns-clause-trial
+returns-clause-trial g c =
+    let gains : Gains (one_cross c.args.c.0) c.args.self.now c.keep_cross.new.self = rw (← c.self.view_is) c.keep_cross.ensures in
+    trial_by_gain (one_cross c.args.c.0) c.args.self.now c.keep_cross.new.self gains (λ w. refl)

@@ -5,6 +5,7 @@ use Rattle.diag_evidence.proofs.TableTests.{register_shows}
 use Rattle.base_bits.proofs.SetsLemmas.{same_bits}
 use Rattle.diag_evidence.proofs.Advancing.{different_bits, advances_by, register_gain}
 use Rattle.diag_evidence.proofs.Logging.{shows_same, shows_apart}
+use Rattle.diag_evidence.proofs.Keeping.{trial_by_gain}
 use Rattle.diag_evidence.proofs.facts.Facts.toggle_register.Goals as goal
 
 pub returns-then-low-high-clause-exact_each : goal.returns-then-low-high-clause-exact_each
@@ -38,4 +39,9 @@ returns-clause-advances g c =
     let gains : Gains (one_register c.args.t.0) c.args.self.now c.keep_register.new.self = rw (← c.self.view_is) c.keep_register.ensures in
     advances_by (one_register c.args.t.0) (c.in_ok-high.ensures.loads.machine ∙ c.in_ok-low.ensures.loads.machine) (omega (arith, c.in_ok-high.ensures.loads.later, c.in_ok-low.ensures.loads.later)) (omega (arith, c.in_ok-high.ensures.loads.counted, c.in_ok-low.ensures.loads.counted)) (λ n k h. c.in_ok-high.ensures.few n k (c.in_ok-low.ensures.few n k h)) gains
     (λ f e. c.in_ok-low.ensures.loads.narrows f (c.in_ok-high.ensures.loads.narrows f e)) (λ told. c.in_ok-high.ensures.loads.tells (c.in_ok-low.ensures.loads.tells told))
-    (λ f e h. register_gain c.args.self.now.shape c.args.config.now.config c.args.t.0 c.in-Some.setting latched (c.in_ok-low.ensures.reads_each f (c.in_ok-high.ensures.loads.narrows f e)) (rw c.in_ok-low.ensures.config at (c.in_ok-high.ensures.reads_each f e)) (different_bits _ _ c.if-low-high.false) f refl)
+    (λ f e h. register_gain c.args.self.now c.args.config.now.config c.args.t.0 c.in-Some.setting latched (c.in_ok-low.ensures.reads_each f (c.in_ok-high.ensures.loads.narrows f e)) (rw c.in_ok-low.ensures.config at (c.in_ok-high.ensures.reads_each f e)) (different_bits _ _ c.if-low-high.false) f refl)
+
+pub returns-clause-trial : goal.returns-clause-trial
+returns-clause-trial g c =
+    let gains : Gains (one_register c.args.t.0) c.args.self.now c.keep_register.new.self = rw (← c.self.view_is) c.keep_register.ensures in
+    trial_by_gain (one_register c.args.t.0) c.args.self.now c.keep_register.new.self gains (λ w. refl)

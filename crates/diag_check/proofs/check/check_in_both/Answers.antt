@@ -1,0 +1,10 @@
+use Rattle.std.proofs.Common.{◌∙◌, sym}
+use Rattle.std.proofs.lemmas.Bool.{false≢true}
+use Rattle.diag_known.proofs.Later.{known_none}
+use Rattle.diag_check.proofs.check.check_in_both.Goals as goal
+
+pub check_over-requires-clause-all : goal.check_over-requires-clause-all
+check_over-requires-clause-all g c = λ w on. absurd (false≢true (sym (c.requires.nothing w) ∙ on))
+
+pub check_over-requires-clause-known : goal.check_over-requires-clause-known
+check_over-requires-clause-known g c = known_none (c.in-Ok.ensures.shape ∙ c.shape.ensures) c.in-Ok.ensures.none

@@ -1,0 +1,14 @@
+use Rattle.std.proofs.Common.{◌≡◌, ◌∙◌, length, sym, ap}
+use Rattle.machine_shape.specs.Shape.{wires_of}
+use Rattle.diag_evidence.specs.Kept.{Kept}
+use Rattle.diag_evidence.proofs.Keeping.{retakes, holds_retaken}
+use Rattle.diag_evidence.proofs.facts.Facts.retake.Goals as goal
+
+pub keep_both-requires : goal.keep_both-requires
+keep_both-requires c = c.requires ∙ ap (λ (k : Kept). wires_of k.shape) (sym c.self.view_is) ∙ sym c.self.invariant.0.apart
+
+pub returns-clause-retaken : goal.returns-clause-retaken
+returns-clause-retaken c = rw (← c.self.view_is) (retakes _ c.args.wires.now _ c.keep_both.ensures.both)
+
+pub returns-clause-explained : goal.returns-clause-explained
+returns-clause-explained c = rw (← c.self.view_is) (holds_retaken (retakes _ c.args.wires.now _ c.keep_both.ensures.both))

@@ -1,0 +1,8 @@
+use Rattle.std.proofs.Common.{◌≡◌, ◌||◌, not, true}
+use Rattle.std.specs.List.{list_all, range_with_len}
+use Rattle.base_bits.specs.Numbers.{has_number}
+use Rattle.diag_evidence.specs.Vocabulary.{is_hung}
+use Rattle.diag_evidence.proofs.joins.all_hang.Given as goal
+
+abbrev pub invariant-wires : goal.invariant-wires
+invariant-wires l = list_all (λ w. not (has_number l.set w) || is_hung l.forest w) (range_with_len 0 l.w) ≡ true

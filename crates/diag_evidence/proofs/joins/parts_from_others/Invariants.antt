@@ -1,0 +1,8 @@
+use Rattle.std.proofs.Common.{◌≡◌, ◌||◌, true, ◌==◌}
+use Rattle.std.specs.List.{list_all, range_with_len}
+use Rattle.std.specs.Option.{option_map_or}
+use Rattle.diag_evidence.specs.Vocabulary.{parts, pin_of}
+use Rattle.diag_evidence.proofs.joins.parts_from_others.Given as goal
+
+abbrev pub invariant-wires : goal.invariant-wires
+invariant-wires l = list_all (λ u. (u == l.wire.0) || option_map_or (λ p. parts l.reads.rows p l.pin) (pin_of l.forest u) true) (range_with_len 0 l.u) ≡ true

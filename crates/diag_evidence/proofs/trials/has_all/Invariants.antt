@@ -1,0 +1,6 @@
+use Rattle.std.proofs.Common.{◌≡◌, ◌≢◌, ◌<◌, ℕ, true}
+use Rattle.base_bits.specs.Numbers.{has_number}
+use Rattle.diag_evidence.proofs.trials.has_all.Given as goal
+
+abbrev pub invariant-wires : goal.invariant-wires
+invariant-wires l = (u : ℕ) → u < l.w → has_number l.set u ≡ true → u ≢ l.wire → has_number l.row u ≡ true

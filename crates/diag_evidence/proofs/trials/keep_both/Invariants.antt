@@ -1,0 +1,10 @@
+use Rattle.std.proofs.Common.{◌≡◌, ◌≤◌, ◌<◌, ◌&&◌, ℕ, length}
+use Rattle.base_bits.specs.Numbers.{has_number}
+use Rattle.diag_evidence.proofs.trials.keep_both.Given as goal
+
+abbrev pub invariant-wires : goal.invariant-wires
+invariant-wires l = record {
+  done : (u : ℕ) → u < l.w → has_number l.set u ≡ (has_number l.other u && has_number l.fn.set u);
+  rest : (u : ℕ) → l.w ≤ u → has_number l.set u ≡ has_number l.fn.set u;
+  len_is : length l.set ≡ length l.fn.set;
+}

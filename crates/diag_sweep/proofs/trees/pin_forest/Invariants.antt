@@ -1,5 +1,0 @@
-use Rattle.diag_evidence.specs.Forests.{KeepsForest}
-use Rattle.diag_sweep.proofs.trees.pin_forest.Given as goal
-
-abbrev pub invariant-pins : goal.invariant-pins
-invariant-pins l = KeepsForest l.facts l.forest
