@@ -10,8 +10,8 @@ pub use Rattle.diag_evidence.specs.Readings.{ReadsTwice, RegisterPasses, SwingPa
 pub use Rattle.diag_evidence.specs.Logged.{HasLogged, LogsRows, ShowsApart, ShowsFromAll, ShowsSwing, one_cycle, two_cycles}
 pub use Rattle.diag_evidence.specs.Loops.{AreTied, IsLoopBy, LoopPasses, RoutePasses}
 pub use Rattle.diag_evidence.specs.Tables.{CellPassesBy, IsCellBy, IsTableBy, IsTied, RegisterPassesBy}
-pub use Rattle.diag_evidence.specs.Leads.{BranchFrom, ClosesAlong, HasLed, IsLead, IsLeadOf, KnowsLeads, MarksStuck, ShowsLed, StuckIf, arrives}
-pub use Rattle.diag_evidence.specs.Leads.{closes_along, crosses_along, crosses_of_leads, ends_on, held_up_at, is_met, is_only_unkept}
+pub use Rattle.diag_evidence.specs.Leads.{BranchFrom, ClosesAlong, HasLed, IsLead, IsLeadOf, KnowsLeads, MarksStuck, ShowsLed, StuckIf}
+pub use Rattle.diag_evidence.specs.Leads.{arrives, closes_along, crosses_along, crosses_of_leads, ends_on, held_up_at, is_met, is_only_unkept}
 pub use Rattle.diag_evidence.specs.Leads.{led_over, loose_along, these_crosses, wires_along, wires_of_leads}
 pub use Rattle.diag_evidence.specs.Forests.{CanLay, HangsOn, IsForest, IsLedOver, IsOfTree, KeepsForest, KnowsForest, Trees, bare, is_hung}
 pub use Rattle.diag_evidence.specs.Forests.{is_laid, pin_of, with_laid, with_planted}

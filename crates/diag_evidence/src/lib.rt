@@ -29,9 +29,8 @@
 //! (`led_each`). Marks stay true of the faults (`stuck_each`). `test_wires` hangs further wires on the forest, over two crosspoints each
 //! that aren't known, and looks at both and at either alone: a crosspoint is kept where its pin changes without it and no other can be
 //! felt there, the wire by what the pin of the other one reads, and where all of the set hangs it joins it if its two pins part from all
-//! others (`tried_each`). A wire that makes a pin read oddly isn't fit, and is
-//! marked; `screen_wires` marks the same by one look (`told_each`). What is kept stays true of the faults and so do marks (`advances`,
-//! `unfit_each`, `unclear_each`).
+//! others (`tried_each`). A wire that makes a pin read oddly isn't fit, and is marked; `screen_wires` marks the same by one look
+//! (`told_each`). What is kept stays true of the faults and so do marks (`advances`, `unfit_each`, `unclear_each`).
 //! `tables_each` reads many tables that hang in a forest through all addresses, in two loads, the second with all bits turned: of each
 //! just the parts that read rightly in both are kept, and just those tables are marked that don't in some cycle (`tabled_each`). Under
 //! the faults a marked table has a wrong cell or a stuck register (`wrong_each`).

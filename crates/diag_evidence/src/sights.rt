@@ -79,8 +79,8 @@ impl Facts {
     }
 
     /// Takes a look while just the crosspoints of a forest are closed, on which all wires of the set hang. A wire that hangs is kept
-    /// exactly where its pin reads 0 in one cycle and 1 in another. A pin of the machine that hangs, and is alone on its pin, joins the set exactly
-    /// where it does so, and reads otherwise than each other pin on which a wire hangs in some cycle.
+    /// exactly where its pin reads 0 in one cycle and 1 in another. A pin of the machine that hangs, and is alone on its pin, joins the
+    /// set exactly where it does so, and reads otherwise than each other pin on which a wire hangs in some cycle.
     ///
     /// # Errors
     ///

@@ -2,7 +2,8 @@
 use Rattle.std.specs.Prelude.{◌≡◌, ℕ, ◌<◌, true, false, None, List, length, slice_index_or}
 use Rattle.base_bits.specs.Numbers.{has_number}
 use Rattle.machine_config.specs.Vocabulary.{among}
-use Rattle.diag_evidence.specs.Vocabulary.{Kept, keeps_cross, Trees, pin_of, BranchFrom, KnowsLeads, crosses_along, crosses_of_leads, wires_along}
+use Rattle.diag_evidence.specs.Vocabulary.{BranchFrom, Kept, KnowsLeads, Trees, crosses_along, crosses_of_leads, keeps_cross, pin_of}
+use Rattle.diag_evidence.specs.Vocabulary.{wires_along}
 use Rattle.diag_evidence.specs.declared.leads.Lead.{Lead}
 use Rattle.diag_known.specs.declared.field.Field.{Field}
 

@@ -216,8 +216,7 @@ fn give_way(
 
 /// Looks to which known wires unfit ones are shorted, as far as what is left pays for it, and gives those up that stand in the way of more.
 /// Says whether some were. What is known is then known of fewer wires, the marks of unfit ones are dropped, and so are the pairs of those
-/// that were given up. Nothing is promised of
-/// what it chooses.
+/// that were given up. Nothing is promised of what it chooses.
 ///
 /// # Errors
 ///

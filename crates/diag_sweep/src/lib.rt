@@ -1,8 +1,8 @@
 //! Bulk tests before growth: many crosspoints, wires and tables are decided in one load.
 //!
-//! The search owes nothing, and stands in a crate of its own (`diag_search`). Each test is looked at before it is made, so each fact and each mark rests on the test's own condition, and a
-//! purse pays for it: a load for each pin of the machine in the field, and two for each crosspoint that was decided. What a sweep misses
-//! growth decides, and takes no load for what is decided.
+//! The search owes nothing, and stands in a crate of its own (`diag_search`). Each test is looked at before it is made, so each fact and
+//! each mark rests on the test's own condition, and a purse pays for it: a load for each pin of the machine in the field, and two for
+//! each crosspoint that was decided. What a sweep misses growth decides, and takes no load for what is decided.
 //!
 //! Promised of `sweep`, at every end, on every machine: what is known is so, and what is new is of the field (`known`, `grows`); marks are
 //! of the field and of the given tables, and stay true of each set of faults that explains what was read (`marks`, `right_each`); and
