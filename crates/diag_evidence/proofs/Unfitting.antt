@@ -42,10 +42,10 @@ none_low n j = by (dec_lt j n)
     by (yes h) = get_or-replicate n j true true h
     by (no h) = get_or_past (none_driven n) j true (let e = length-replicate n true in omega (arith, h, e))
 
-one_low : (n k : ℕ) → k < n → get_or (one_driven n k) k true ≡ false
+pub one_low : (n k : ℕ) → k < n → get_or (one_driven n k) k true ≡ false
 one_low n k below = get_or-set_same (none_driven n) k false true (let e = length-replicate n true in omega (arith, below, e))
 
-only_low : (n k j : ℕ) → get_or (one_driven n k) j true ≡ false → j ≡ k
+pub only_low : (n k j : ℕ) → get_or (one_driven n k) j true ≡ false → j ≡ k
 only_low n k j low = by (ℕ_discrete j k)
   where
     by : Dec (j ≡ k) → j ≡ k

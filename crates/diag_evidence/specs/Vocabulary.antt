@@ -9,8 +9,9 @@ pub use Rattle.diag_evidence.specs.Readings.{TellsSwing, wires_over}
 pub use Rattle.diag_evidence.specs.Logged.{HasLogged, LogsRows, ShowsApart, ShowsFromAll, ShowsPins, ShowsSwing, one_cycle, two_cycles}
 pub use Rattle.diag_evidence.specs.Loops.{AreTied, IsLoopBy, LoopPasses, RoutePasses, RoutesPass}
 pub use Rattle.diag_evidence.specs.Tables.{CellPassesBy, IsCellBy, IsTableBy, IsTied, RegisterPassesBy}
-pub use Rattle.diag_evidence.specs.Leads.{HasLed, IsLead, IsPathTest, MarksStuck, ShowsLed, StuckIf, arrives, crosses_of_leads, held_up_at}
-pub use Rattle.diag_evidence.specs.Leads.{is_only_unkept, led_over, these_crosses, wires_of_leads}
+pub use Rattle.diag_evidence.specs.Leads.{BranchFrom, ClosesAlong, HasLed, IsLead, IsLeadOf, KnowsLeads, MarksStuck, ShowsLed, StuckIf, arrives}
+pub use Rattle.diag_evidence.specs.Leads.{closes_along, crosses_along, crosses_of_leads, ends_on, held_up_at, is_met, is_only_unkept}
+pub use Rattle.diag_evidence.specs.Leads.{led_over, loose_along, these_crosses, wires_along, wires_of_leads}
 pub use Rattle.diag_evidence.specs.Forests.{CanLay, HangsOn, IsForest, IsLedOver, IsOfTree, KeepsForest, KnowsForest, Trees, bare, is_hung}
 pub use Rattle.diag_evidence.specs.Forests.{is_laid, pin_of, with_laid, with_planted}
 pub use Rattle.diag_evidence.specs.Looks.{AreSights, IsLook, IsLookOf, LogsLook, ReadsEach, ShowsSeen, Sights, differ, hang_apart}

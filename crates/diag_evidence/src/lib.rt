@@ -16,13 +16,12 @@
 //! the log after a test explained it before (`narrows` of `advances`), and where a rig tells a set that did, it still does (`tells`).
 //! The six tests say besides which sessions they add to the log, and that their answers are by the readings of these (`logged`).
 //!
-//! `test_paths` reads once while walks from pins to pins are closed, many of them: the crosspoints of those that lead are kept, and of
-//! one that doesn't the only crosspoint that isn't kept is marked (`led_each`). Marks stay true of the faults (`stuck_each`).
-//! What it misses the six tests decide, so nothing says that it passes.
-//!
-//! The other bulk tests take looks: loads in which first nothing is driven, and then one pin after the other alone. A forest hangs wires
-//! on pins of the machine, over crosspoints that are kept. `look_each` looks at a forest: wires that hang on pins that swing are kept,
-//! and pairs of those on pins that part (`seen_each`). `test_wires` hangs further wires on it, over two crosspoints each that aren't
+//! The bulk tests take looks: loads in which first nothing is driven, and then one pin after the other alone. A forest hangs wires
+//! on pins of the machine, over crosspoints that are kept. What they miss the six tests decide, so nothing says that they pass.
+//! `look_each` looks at a forest: wires that hang on pins that swing are kept, and pairs of those on pins that part (`seen_each`).
+//! `test_paths` closes walks besides, which branch from the forest: the crosspoints of those whose two ends hang on pins that don't part
+//! are kept, and of each other one the only crosspoint that isn't kept is marked (`led_each`). Marks stay true of the faults
+//! (`stuck_each`). `test_wires` hangs further wires on the forest, over two crosspoints each that aren't
 //! known, and looks at both and at either alone: a crosspoint is kept where its pin changes without it and no other can be felt there,
 //! the wire and its pairs by what the pin of the other one reads (`tried_each`). A wire that makes a pin read oddly isn't fit, and is
 //! marked; `screen_wires` marks the same by one look (`told_each`). What is kept stays true of the faults and so do marks (`advances`,

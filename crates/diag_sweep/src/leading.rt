@@ -1,117 +1,24 @@
 //! Loads of walks: looked at, paid for, and made.
-ghost use Rattle.std.specs.Prelude.{◌≡◌, [], true, Some, IfOk, OnOk, IsTrue, IsErrOf, length};
+ghost use Rattle.std.specs.Prelude.{◌≡◌, [], true, Some, IsErrOf, length};
 ghost use Rattle.base_io.specs.Counts.{Rose};
 ghost use Rattle.machine_shape.specs.Shape.{crosses_of};
 ghost use Rattle.rig.specs.Rig.{shape_of};
-ghost use Rattle.diag_tests.specs.Vocabulary.{IsRoute, Closes};
 ghost use Rattle.diag_evidence.specs.Kept.{Advances};
-ghost use Rattle.diag_known.specs.Vocabulary.{IsFieldOf, IsKnown};
-ghost use Rattle.diag_sweep.specs.Courses.{IsCourse};
 ghost use Rattle.diag_sweep.specs.Marks.{AreMarksFor};
 ghost use Rattle.diag_sweep.specs.Stages.{Goes, IsHand, Settles, in_hand};
 
+use crate::branching::course_of;
 use crate::budget::LoadBudget;
 use crate::defect_marks::DefectMarks;
 use crate::informing::note_walks;
-use crate::paths::lead_of;
 use crate::sweep_state::SweepState;
-use base_bits::BitSet;
-use diag_evidence::{Facts, Lead};
+use diag_evidence::Facts;
 use diag_known::{Field, Known};
 use diag_search::{Trial, Walk};
-use diag_tests::Route;
-use machine_config::Config;
-use machine_shape::Pin;
-use rig::{PinBits, Rig, RigFail};
-use std::alloc::AllocError;
+use rig::{Rig, RigFail};
 
 /// More loads of walks than a field takes.
 const MOST_LOADS: u32 = 10_000_000;
-
-/// Walks that are laid for one load, with what is closed and driven then, and the wires that they go over.
-#[derive(Drop)]
-struct Course {
-    config: Config,
-    drive: PinBits,
-    leads: Vec<Lead>,
-    seen: BitSet,
-}
-
-impl Course {
-    // No walks.
-    fn new(facts: &Facts, known: &Known, field: &Field) -> Result<Course, AllocError>
-        requires known { IsKnown facts.now known.now }
-        requires field { IsFieldOf facts.now.shape field.now }
-        ensures { IfOk result (λ c. IsCourse facts.now known.now.steps field.now c.config.config c.drive c.leads.items c.seen) }
-    {
-        let shape = facts.shape();
-        let alloc = known.alloc();
-        Ok(Course {
-            config: Config::with_room(alloc, shape, 0)?,
-            drive: PinBits::new(alloc, shape.pins())?,
-            leads: Vec::new(alloc),
-            seen: BitSet::new(alloc, shape.wires())?,
-        })
-    }
-}
-
-// Closes the crosspoints of a route.
-fn close_route(config: &mut Config, route: &Route) -> Result<(), AllocError>
-    requires { IsRoute config.old.config.shape route.now }
-    ensures { OnOk result (Closes route.now.crosses config.old.config config.new.config) }
-{
-    'steps: for k in 0..route.len() {
-        config.close_cross(route.cross_at(k))?;
-    }
-    Ok(())
-}
-
-// Lays a walk besides. False where it may not be laid.
-fn add_walk(
-    course: &mut Course,
-    facts: &Facts,
-    known: &Known,
-    field: &Field,
-    walk: &Walk,
-) -> Result<bool, AllocError>
-    requires known { IsKnown facts.now known.now }
-    requires field { IsFieldOf facts.now.shape field.now }
-    requires course { IsCourse facts.now known.now.steps field.now course.old.config.config course.old.drive course.old.leads.items
-        course.old.seen }
-    ensures { IfOk result (λ yes. IsTrue yes → IsCourse facts.now known.now.steps field.now course.new.config.config course.new.drive
-        course.new.leads.items course.new.seen) }
-{
-    let Some(lead) = lead_of(known.alloc(), facts, known, field, &mut course.seen, walk)? else {
-        return Ok(false);
-    };
-    close_route(&mut course.config, &lead.route)?;
-    course.drive.set(Pin(lead.route.pin()), false);
-    course.leads.push(lead)?;
-    Ok(true)
-}
-
-// Lays all walks of a load. False where one may not be laid.
-fn lay_walks(
-    course: &mut Course,
-    facts: &Facts,
-    known: &Known,
-    field: &Field,
-    trials: &Vec<Trial>,
-) -> Result<bool, AllocError>
-    requires known { IsKnown facts.now known.now }
-    requires field { IsFieldOf facts.now.shape field.now }
-    requires course { IsCourse facts.now known.now.steps field.now course.old.config.config course.old.drive course.old.leads.items
-        course.old.seen }
-    ensures { IfOk result (λ yes. IsTrue yes → IsCourse facts.now known.now.steps field.now course.new.config.config course.new.drive
-        course.new.leads.items course.new.seen) }
-{
-    'trials: for at in 0..trials.len() {
-        if !add_walk(course, facts, known, field, &trials[at].walk)? {
-            return Ok(false);
-        }
-    }
-    Ok(true)
-}
 
 // Leads the walks that the search has chosen, if they may be led together and it can be paid.
 fn lead_load(
@@ -129,25 +36,16 @@ fn lead_load(
     ensures advances { Advances (rig_state rig.old) (rig_state rig.new) facts.old facts.new }
     ensures cause { IsErrOf result RigFail.Failed → Rose (rig_state rig.old).failures (rig_state rig.new).failures }
 {
-    let Ok(mut course) = Course::new(facts, known, field) else {
+    let Ok(found) = course_of(facts, known, field, &state.search.trials) else {
         return Err(RigFail::Memory);
     };
-    let Ok(laid) = lay_walks(&mut course, facts, known, field, &state.search.trials) else {
-        return Err(RigFail::Memory);
-    };
-    if !laid {
+    let Some(course) = found else {
         return Ok(());
-    }
+    };
     if !state.budget.can_pay(rig, 1) {
         return Ok(());
     }
-    facts.test_paths(
-        rig,
-        &course.config,
-        &course.drive,
-        &course.leads,
-        &mut bad.stuck,
-    )
+    facts.test_paths(rig, &course.forest, &course.leads, &mut bad.stuck)
 }
 
 // Takes loads in for the crosspoints of a walk that were undecided and aren't any more.

@@ -10,6 +10,7 @@
 #![tactic(auto)]
 
 mod asking;
+mod branching;
 mod budget;
 mod choice;
 mod defect_marks;

@@ -6,7 +6,7 @@ ghost use Rattle.diag_known.specs.Known.{IsKnown, HasWire};
 
 use diag_evidence::{Facts, Forest};
 use diag_known::{Known, SupportedBy, VerifiedWire};
-use diag_search::{Draws, Search, Walk};
+use diag_search::{Draws, Search, Trial, Walk};
 use machine_shape::{Cross, Pin, Shape, Wire};
 use std::alloc::{AllocError, Global};
 
@@ -101,6 +101,48 @@ pub(crate) fn lay_climbs(
         lay_climb(forest, facts, walk)?;
     }
     Ok(())
+}
+
+// Lays the steps of a walk before a place, from its first wire on.
+fn lay_first(
+    forest: &mut Forest,
+    facts: &Facts,
+    walk: &Walk,
+    begin: usize,
+) -> Result<(), AllocError>
+    requires { KeepsForest facts.now forest.old }
+    ensures { KeepsForest facts.now forest.new }
+{
+    plant(forest, facts, walk.wire(0));
+    'steps: for place in 0..begin {
+        let foot = walk.foot(place);
+        lay(forest, facts, foot.cross, walk.wire(place), foot.wire)?;
+    }
+    Ok(())
+}
+
+// Lays the steps of a walk from a place on, from its last wire back.
+fn lay_last(forest: &mut Forest, facts: &Facts, walk: &Walk, end: usize) -> Result<(), AllocError>
+    requires { KeepsForest facts.now forest.old }
+    ensures { KeepsForest facts.now forest.new }
+{
+    let len = walk.crosses.len();
+    plant(forest, facts, walk.wire(len));
+    'steps: for k in end..len {
+        let place = len - 1 - (k - end);
+        let foot = walk.foot(place);
+        lay(forest, facts, foot.cross, foot.wire, walk.wire(place))?;
+    }
+    Ok(())
+}
+
+/// Lays the climbs at both ends of a walk.
+pub(crate) fn lay_ends(forest: &mut Forest, facts: &Facts, trial: &Trial) -> Result<(), AllocError>
+    requires { KeepsForest facts.now forest.old }
+    ensures { KeepsForest facts.now forest.new }
+{
+    lay_first(forest, facts, &trial.walk, trial.begin)?;
+    lay_last(forest, facts, &trial.walk, trial.end)
 }
 
 // Hangs a known wire on one of its feet, which is drawn, or plants it if it is a pin of the machine.

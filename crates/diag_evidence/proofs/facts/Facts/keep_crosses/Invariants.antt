@@ -1,7 +1,7 @@
 use Rattle.std.proofs.Common.{take}
 use Rattle.machine_config.specs.Groups.{among}
-use Rattle.diag_evidence.specs.Vocabulary.{Gains, these_crosses}
+use Rattle.diag_evidence.specs.Vocabulary.{Gains, crosses_along, these_crosses}
 use Rattle.diag_evidence.proofs.facts.Facts.keep_crosses.Given as goal
 
 abbrev pub invariant-crosses : goal.invariant-crosses
-invariant-crosses l = record { gains : Gains (these_crosses (among (take l.k l.route.crosses))) l.fn.self l.self }
+invariant-crosses l = record { gains : Gains (these_crosses (among (take l.k (crosses_along l.lead)))) l.fn.self l.self }

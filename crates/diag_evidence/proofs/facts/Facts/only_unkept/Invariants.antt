@@ -1,10 +1,10 @@
 use Rattle.std.proofs.Common.{◌≡◌, true, None, IfSome, take}
-use Rattle.diag_evidence.specs.Leads.{is_only_unkept}
+use Rattle.diag_evidence.specs.Leads.{crosses_along, is_only_unkept}
 use Rattle.diag_evidence.proofs.Only.{AllKept}
 use Rattle.diag_evidence.proofs.facts.Facts.only_unkept.Given as goal
 
 abbrev pub invariant-crosses : goal.invariant-crosses
 invariant-crosses l = record {
-  none : l.found ≡ None → AllKept l.self (take l.k l.route.crosses);
-  one : IfSome l.found (λ c. is_only_unkept l.self (take l.k l.route.crosses) c.0 ≡ true);
+  none : l.found ≡ None → AllKept l.self (take l.k (crosses_along l.lead));
+  one : IfSome l.found (λ c. is_only_unkept l.self (take l.k (crosses_along l.lead)) c.0 ≡ true);
 }

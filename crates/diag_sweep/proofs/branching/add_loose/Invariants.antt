@@ -1,0 +1,7 @@
+use Rattle.std.proofs.Common.{◌≡◌, ◌++◌, not, take}
+use Rattle.std.specs.List.{filter}
+use Rattle.diag_evidence.specs.Vocabulary.{is_hung, wires_along}
+use Rattle.diag_sweep.proofs.branching.add_loose.Given as goal
+
+abbrev pub invariant-places : goal.invariant-places
+invariant-places l = record { items : l.wires.items ≡ l.fn.wires.items ++ filter (λ w. not (is_hung l.forest w)) (take l.k (wires_along l.lead)) }

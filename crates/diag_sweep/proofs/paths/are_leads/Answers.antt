@@ -1,0 +1,14 @@
+use Rattle.std.proofs.Common.{◌≤◌, length, arith, subst, refl, All}
+use Rattle.std.proofs.lemmas.List.{take_all}
+use Rattle.diag_evidence.specs.Vocabulary.{IsLead}
+use Rattle.diag_sweep.proofs.Coursing.{all_next}
+use Rattle.diag_sweep.proofs.paths.are_leads.Goals as goal
+
+pub leads-init : goal.leads-init
+leads-init c = λ k d none. absurd (let no : ⊥ = omega (arith, none) in no)
+
+pub leads-preserved : goal.leads-preserved
+leads-preserved c = all_next c.args.leads.now c.leads.k c.index-leads-k.result (omega arith) c.index-leads-k.is (IsLead c.args.forest.now) c.leads.invariant (c.if-not-is_lead.ensures refl)
+
+pub returns : goal.returns
+returns c = let whole : length c.args.leads.now ≤ c.leads.k = omega arith in λ _. subst (All (IsLead c.args.forest.now)) (take_all c.leads.k c.args.leads.now whole) c.leads.invariant

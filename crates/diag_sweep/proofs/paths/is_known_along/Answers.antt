@@ -1,0 +1,15 @@
+use Rattle.std.proofs.Common.{refl, arith}
+use Rattle.std.proofs.lemmas.Bool.{false≢true}
+use Rattle.diag_evidence.specs.Vocabulary.{wires_along}
+use Rattle.diag_known.specs.Known.{HasWire}
+use Rattle.diag_sweep.proofs.Coursing.{each_more, each_whole}
+use Rattle.diag_sweep.proofs.paths.is_known_along.Goals as goal
+
+pub places-init : goal.places-init
+places-init c = λ w on. absurd (false≢true on)
+
+pub places-preserved : goal.places-preserved
+places-preserved c = each_more (HasWire c.args.known.now.steps) (wires_along c.args.lead.now) c.places.k c.wire_at-w.result.0 (omega arith) c.wire_at-w.ensures c.places.invariant (c.if-not-has.ensures.known refl)
+
+pub returns : goal.returns
+returns c = λ _. each_whole (HasWire c.args.known.now.steps) (wires_along c.args.lead.now) c.places.k (omega arith) c.places.invariant
