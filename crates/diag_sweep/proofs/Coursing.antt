@@ -175,13 +175,13 @@ stays_in set n m within on = by (ℕ_discrete m n)
     by (no d) = set_other set n m d ∙ on
 
 -- a set stays as long
-pub still_within : {was mid : List Bool} (a b : ℕ) → mid ≡ slice_set was a true → b < length was → b < length mid
-still_within {was} {mid} a b put in_b = let len : length mid ≡ length was = ap length put ∙ length-set was a true in omega (arith, in_b, len)
+pub still_within : (was mid : List Bool) (a b : ℕ) → mid ≡ slice_set was a true → b < length was → b < length mid
+still_within was mid a b put in_b = let len : length mid ≡ length was = ap length put ∙ length-set was a true in omega (arith, in_b, len)
 
 -- two numbers are put in, one after the other
-module _ {was mid is : List Bool} (a b : ℕ) (first : mid ≡ slice_set was a true) (second : is ≡ slice_set mid b true) (in_a : a < length was) (in_b : b < length was) where
+module _ (was mid is : List Bool) (a b : ℕ) (first : mid ≡ slice_set was a true) (second : is ≡ slice_set mid b true) (in_a : a < length was) (in_b : b < length was) where
   within : b < length mid
-  within = still_within a b first in_b
+  within = still_within was mid a b first in_b
 
   pub stays_both : (p : ℕ) → has_number was p ≡ true → has_number is p ≡ true
   stays_both p on = subst (λ set. has_number set p ≡ true) (sym second) (stays_in mid b p within (subst (λ set. has_number set p ≡ true) (sym first) (stays_in was a p in_a on)))
@@ -215,8 +215,8 @@ neither true b e f = e
 neither false b e f = f
 
 -- a pin that isn't met is none of those that are
-unmet : {met : List Bool} {p q : ℕ} → has_number met p ≡ false → has_number met q ≡ true → (p == q) ≡ false
-unmet {met} {p} {q} off on = by (ℕ_discrete p q)
+unmet : (met : List Bool) (p q : ℕ) → has_number met p ≡ false → has_number met q ≡ true → (p == q) ≡ false
+unmet met p q off on = by (ℕ_discrete p q)
   where
     by : Dec (p ≡ q) → (p == q) ≡ false
     by (yes e) = absurd (false≢true (sym off ∙ ap (has_number met) e ∙ on))
@@ -242,8 +242,8 @@ order_more {was} {is} {ls} {k} {l} below at order own anew stays both = record {
     later_by i j d lower less (no h) =
         let same : k ≡ j = omega (arith, less, h) in
         let two = order.both i d (omega (arith, lower, less, h)) in
-        let e : (l.to == (get_or ls i d).from) ≡ false = unmet anew two.0 in
-        let f : (l.to == (get_or ls i d).to) ≡ false = unmet anew two.1 in
+        let e : (l.to == (get_or ls i d).from) ≡ false = unmet was l.to (get_or ls i d).from anew two.0 in
+        let f : (l.to == (get_or ls i d).to) ≡ false = unmet was l.to (get_or ls i d).to anew two.1 in
         subst (λ n. ends_on (get_or ls i d) (get_or ls n d) ≡ false) same (subst (λ (m : Lead). ends_on (get_or ls i d) m ≡ false) (here d) (neither (l.to == (get_or ls i d).from) (l.to == (get_or ls i d).to) e f))
 
     both_by : (i : ℕ) (d : Lead) → i < k + 1 → Dec (i < k) → (has_number is (get_or ls i d).from ≡ true) × (has_number is (get_or ls i d).to ≡ true)

@@ -10,10 +10,10 @@ pub returns-clause-anew : goal.returns-clause-anew
 returns-clause-anew c = λ _. sym c.has.ensures ∙ c.if-has.false
 
 pub returns-clause-stays : goal.returns-clause-stays
-returns-clause-stays c = λ _. stays_both c.args.lead.now.from c.args.lead.now.to c.insert.ensures c.insert-2.ensures (omega arith) (omega arith)
+returns-clause-stays c = λ _. stays_both c.args.met.now _ _ c.args.lead.now.from c.args.lead.now.to c.insert.ensures c.insert-2.ensures (omega arith) (omega arith)
 
 pub returns-clause-both : goal.returns-clause-both
-returns-clause-both c = λ _. has_both c.args.lead.now.from c.args.lead.now.to c.insert.ensures c.insert-2.ensures (omega arith) (omega arith)
+returns-clause-both c = λ _. has_both c.args.met.now _ _ c.args.lead.now.from c.args.lead.now.to c.insert.ensures c.insert-2.ensures (omega arith) (omega arith)
 
 pub insert-requires-2 : goal.insert-requires-2
-insert-requires-2 c = still_within c.args.lead.now.from c.args.lead.now.to c.insert.ensures (omega arith)
+insert-requires-2 c = still_within c.args.met.now _ c.args.lead.now.from c.args.lead.now.to c.insert.ensures (omega arith)
