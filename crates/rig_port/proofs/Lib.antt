@@ -6,6 +6,7 @@ mod Held
 mod OneMachine
 mod Readings
 mod Requested
+mod Resumed
 mod Room
 mod Settings
 mod Spelled

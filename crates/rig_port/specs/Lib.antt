@@ -9,3 +9,4 @@ pub mod Lines
 pub mod Ports
 pub mod Requests
 pub mod RigPorts
+pub mod Sessions

@@ -8,6 +8,7 @@
 //! lines are made and read may change, as long as they are spelled so; the tool takes a reply byte by byte (docs/PORT.md).
 #![tactic(auto)]
 
+mod again;
 mod check;
 mod edits;
 mod file_board;
@@ -16,7 +17,9 @@ mod link;
 mod parse;
 mod port;
 mod port_board;
+mod question;
 mod respell;
+mod resume;
 mod rig_port;
 mod spelling;
 mod talk;

@@ -1,0 +1,127 @@
+-- A session that was made again is the one that was.
+use Rattle.std.proofs.Common.{◌≡◌, ℕ, suc, zero, ◌+◌, ◌≤◌, ◌<◌, Bool, true, false, List, [], ◌∷◌, ◌++◌, map, length, take, drop, set, All, Option, None, Some, refl, sym, ap, ◌∙◌, arith, subst, IfSome, IsSome, is_some, option_map}
+use Rattle.std.proofs.lemmas.Bool.{false≢true}
+use Rattle.std.proofs.lemmas.List.{append_assoc, append-nil, length-take-le, take_more_set, length-set}
+use Rattle.std.proofs.lemmas.List.Elements.{All-set, All-take}
+use Rattle.machine_shape.specs.declared.Shape.{Shape}
+use Rattle.machine_shape.specs.Shape.{pins_of}
+use Rattle.machine_meaning.specs.Vocabulary.{Pins, Faults}
+use Rattle.machine_config.specs.Configuration.{Configuration, cleared}
+use Rattle.rig.specs.Rig.{Exchange, Session, drives_of, readings_of}
+use Rattle.rig_board.specs.Device.{Device, IsInSession, HasRunSession, GoesOnWith, WhereTold}
+use Rattle.rig_board.proofs.Driven.{same_pairs}
+use Rattle.rig_port.specs.declared.again.Again.{Again}
+use Rattle.rig_port.specs.Requests.{edited}
+use Rattle.rig_port.specs.Answers.{start_of}
+use Rattle.rig_port.specs.Ports.{PortState, machine_told}
+use Rattle.rig_port.specs.Linked.{IsPosted, IsLinked, HasTurned, told_with}
+use Rattle.rig_port.specs.Sessions.{SetsAnew, HasRows, HasMade, IsOf, kept_drives, kept_reads, paired}
+use Rattle.rig_port.proofs.Alarm.{told_map}
+use Rattle.rig_port.proofs.Turned.{drives_paired, readings_paired, length_drives}
+
+-- words that set all anew are posted on every machine of their shape
+pub posted_whole : (device : Option Device) (set : Configuration) (whole : List ℕ) → IfSome device (λ d. d.shape ≡ set.shape) → SetsAnew set whole → IsPosted device set whole true
+posted_whole device set whole shape a = record { edits = a.edits; right = a.right; line_is = a.line_is; told = told device shape } where
+  told : (device : Option Device) → IfSome device (λ d. d.shape ≡ set.shape) → IfSome device (λ d. (d.shape ≡ set.shape) × (set ≡ edited (start_of true d) a.edits))
+  told None s = tt
+  told (Some d) s = (s, a.set_is ∙ ap (λ m. edited (cleared m) a.edits) (sym s))
+
+pub linked_whole : (device : Option Device) (set : Configuration) (whole line : List ℕ) (anew running due : Bool) → line ≡ whole → anew ≡ true → due ≡ true → IfSome device (λ d. d.shape ≡ set.shape)
+    → SetsAnew set whole → IsLinked device set line anew running due
+linked_whole device set whole line anew running due is is_anew is_due shape a = record {
+  posted = subst (λ b. IsPosted device set line b) (sym is_anew) (subst (λ l. IsPosted device set l true) (sym is) (posted_whole device set whole shape a));
+  loaded = λ _ idle. absurd (false≢true (sym idle ∙ is_due));
+}
+
+-- a machine that is told has its shape before and after
+pub still_shaped : (m : Shape) (old new : Option Device) → option_map (λ (d : Device). (d.shape, d.faults)) new ≡ option_map (λ (d : Device). (d.shape, d.faults)) old
+    → IfSome old (λ d. d.shape ≡ m) → IfSome new (λ d. d.shape ≡ m)
+still_shaped m old None same is = tt
+still_shaped m None (Some e) same is = absurd (false≢true (sym (ap is_some same)))
+still_shaped m (Some d) (Some e) same is = let shapes : e.shape ≡ d.shape = first same in shapes ∙ is where
+  shape_or : Option (Shape × Faults) → Shape
+  shape_or None = m
+  shape_or (Some p) = p.0
+
+  first : Some (e.shape, e.faults) ≡ Some (d.shape, d.faults) → e.shape ≡ d.shape
+  first s = ap shape_or s
+
+-- it goes on from a session that is known
+went_on : (pairs : List Exchange) (g : Configuration) (cycles : List Exchange) (old new : Option Device) → IfSome old (IsInSession g cycles) → WhereTold (GoesOnWith pairs) old new
+    → IfSome new (λ d. IsInSession g (cycles ++ pairs) d × HasRunSession d)
+went_on pairs g cycles None new at w = rw w tt
+went_on pairs g cycles (Some d) None at w = absurd w
+went_on pairs g cycles (Some d) (Some e) at w = (w.goes_on g cycles at, w.run)
+
+-- these pairs are those of the drives and readings
+turned_pairs : (drives reads : List Pins) (pairs : List Exchange) → drives_of pairs ≡ drives → readings_of pairs ≡ reads → pairs ≡ paired drives reads
+turned_pairs drives reads pairs driven read =
+    let many : length drives ≡ length reads = sym (ap length driven) ∙ length_drives pairs ∙ ap length read in
+    same_pairs pairs (paired drives reads) (driven ∙ sym (drives_paired drives reads many)) (read ∙ sym (readings_paired drives reads many))
+
+-- after a turn behind a session that is known
+pub made_more : (drives reads : List Pins) (g : Configuration) (cycles : List Exchange) (due due_now : Bool) (old new : Option Device) → IfSome (told_with due g old) (IsInSession g cycles)
+    → HasTurned drives reads due g old due_now new → HasMade g (cycles ++ paired drives reads) due_now new
+made_more drives reads g cycles due due_now old new at t =
+    subst (λ ps. HasMade g (cycles ++ ps) due_now new) (turned_pairs drives reads t.pairs t.driven t.read)
+    (went_on t.pairs g cycles (told_with due g old) (told_with due_now g new) at t.turned)
+
+-- after one behind a load that is due
+pub made_first : (drives reads : List Pins) (g : Configuration) (due due_now : Bool) (old new : Option Device) → due ≡ true → HasTurned drives reads due g old due_now new
+    → HasMade g (paired drives reads) due_now new
+made_first drives reads g due due_now old new is t =
+    made_more drives reads g [] true due_now old new (fresh old) (subst (λ b. HasTurned drives reads b g old due_now new) is t) where
+  fresh : (old : Option Device) → IfSome (told_with true g old) (IsInSession g [])
+  fresh None = tt
+  fresh (Some d) = record { config = refl; so_far = refl }
+
+pub in_session : (g : Configuration) (cycles : List Exchange) (due : Bool) (device : Option Device) → HasMade g cycles due device → IfSome (told_with due g device) (IsInSession g cycles)
+in_session g cycles due device made = only (told_with due g device) made where
+  only : (d : Option Device) → IfSome d (λ d. IsInSession g cycles d × HasRunSession d) → IfSome d (IsInSession g cycles)
+  only None m = tt
+  only (Some d) m = m.0
+
+-- of two sessions of which one goes on from the other, it was made by these pairs
+turned_on : (pairs : List Exchange) (g : Configuration) (cycles : List Exchange) (old new : Option Device) → is_some new ≡ is_some old → IfSome old (IsInSession g cycles)
+    → IfSome new (λ d. IsInSession g (cycles ++ pairs) d × HasRunSession d) → WhereTold (GoesOnWith pairs) old new
+turned_on pairs g cycles None None same at made = refl
+turned_on pairs g cycles None (Some e) same at made = absurd (false≢true (sym same))
+turned_on pairs g cycles (Some d) None same at made = absurd (false≢true same)
+turned_on pairs g cycles (Some d) (Some e) same at made = record {
+  goes_on = λ h more i.
+      let config : Some g ≡ Some h = sym at.config ∙ i.config in
+      let so_far : Some cycles ≡ Some more = sym at.so_far ∙ i.so_far in
+      record { config = made.0.config ∙ config; so_far = made.0.so_far ∙ ap (option_map (λ cs. cs ++ pairs)) so_far };
+  run = made.1;
+}
+
+still_told : (due : Bool) (g : Configuration) (device : Option Device) → is_some (told_with due g device) ≡ is_some device
+still_told true g None = refl
+still_told true g (Some d) = refl
+still_told false g device = refl
+
+-- what was asked again was turned
+pub turned_again : (drives reads : List Pins) (g : Configuration) (cycles : List Exchange) (due due_now : Bool) (old new : Option Device) → length drives ≡ length reads
+    → option_map (λ (d : Device). (d.shape, d.faults)) new ≡ option_map (λ (d : Device). (d.shape, d.faults)) old → IfSome (told_with due g old) (IsInSession g cycles)
+    → HasMade g (cycles ++ paired drives reads) due_now new → HasTurned drives reads due g old due_now new
+turned_again drives reads g cycles due due_now old new many same at made = record {
+  pairs = paired drives reads;
+  driven = drives_paired drives reads many;
+  read = readings_paired drives reads many;
+  turned = turned_on (paired drives reads) g cycles (told_with due g old) (told_with due_now g new)
+      (still_told due_now g new ∙ sym (told_map (λ (d : Device). (d.shape, d.faults)) new) ∙ ap is_some same ∙ told_map (λ (d : Device). (d.shape, d.faults)) old ∙ sym (still_told due g old))
+      at made;
+}
+
+pub paired_more : (a b c d : List Pins) → length a ≡ length c → paired (a ++ b) (c ++ d) ≡ paired a c ++ paired b d
+paired_more [] b [] d e = refl
+paired_more [] b (r ∷ c) d e = absurd (omega (arith, e))
+paired_more (x ∷ a) b [] d e = absurd (omega (arith, e))
+paired_more (x ∷ a) b (r ∷ c) d e = ap (λ l. record { drive = x; reading = r } ∷ l) (paired_more a b c d (omega (arith, e)))
+
+-- one row more is kept
+pub more_rows : (n : ℕ) (rows : List Pins) (made : ℕ) (row : Pins) (all : List Pins) → made < length rows → take made rows ≡ all → take (made + 1) (set rows made row) ≡ all ++ row ∷ []
+more_rows n rows made row all room same = take_more_set rows made row room ∙ ap (λ xs. xs ++ row ∷ []) same
+
+pub wide_more : (n : ℕ) (rows : List Pins) (at : ℕ) (row : Pins) → length row ≡ n → All (λ (r : Pins). length r ≡ n) rows → All (λ (r : Pins). length r ≡ n) (set rows at row)
+wide_more n rows at row is wide = All-set (λ (r : Pins). length r ≡ n) rows at row is wide
