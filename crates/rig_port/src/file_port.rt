@@ -1,5 +1,5 @@
 //! Files of the system as a port.
-ghost use Rattle.std.specs.Prelude.{◌≡◌, ◌^◌, ◌<◌, ◌≤◌, [], true, false, length, take, is_some, IfSome, IfOk, IfErr, OnOk, OnErr, IsErrOf};
+ghost use Rattle.std.specs.Prelude.{◌≡◌, ◌^◌, ◌<◌, ◌≤◌, [], true, false, None, length, take, is_some, IfSome, IfOk, IfErr, OnOk, OnErr, IsErrOf};
 ghost use Rattle.base_io.specs.Counts.{Rose, next_count};
 ghost use Rattle.rig_board.specs.Device.{WhereTold};
 ghost use Rattle.rig_port.specs.Answers.{Answers};
@@ -28,8 +28,8 @@ pub struct FilePort<R: Files + Drop> {
     failures: u64,
 }
 
-// The name without the digit and the `x` that say how often each load is made.
-fn without_times(name: &str) -> &str {
+/// The name without the digit and the `x` that say how often each load is made.
+pub fn without_times(name: &str) -> &str {
     for times in ["2x", "3x", "4x", "5x", "6x", "7x", "8x", "9x"] {
         if let Some(rest) = name.strip_prefix(times) {
             return rest;
@@ -79,6 +79,20 @@ impl<R: Files + Drop> FilePort<R> {
             asks: 0,
             failures: 0,
         }
+    }
+
+    /// The runtime of its files.
+    pub fn runtime(&self) -> &R {
+        &self.rt
+    }
+
+    /// Closes what is open.
+    pub fn close(&mut self)
+        ensures closed { self.new.ends ≡ None }
+        ensures asks { self.new.asks ≡ self.old.asks }
+        ensures failures { self.new.failures ≡ self.old.failures }
+    {
+        self.ends = None;
     }
 }
 
