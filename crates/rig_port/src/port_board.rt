@@ -156,7 +156,22 @@ fn spell_anew(
     Ok(())
 }
 
-// Takes the words that set all anew in the place of edits, where they are shorter.
+/// So many bytes has the line that clears all, and sets nothing.
+const CLEARS: usize = 2;
+
+// Whether all is set anew: where that line is shorter than edits, and where nothing is to be edited, as where a session is made again,
+// but something is set.
+fn is_anew(edits: usize, whole: usize) -> bool
+    ensures shorter { result ≡ false → edits ≤ whole }
+    ensures edited { result ≡ false → edits ≡ 0 → whole ≤ 2 }
+{
+    if edits == 0 {
+        return whole > CLEARS;
+    }
+    whole < edits
+}
+
+// Takes the words that set all anew in the place of edits, where they are shorter, or nothing is to be edited.
 fn shorten(link: &mut Link, whole: &[u8]) -> Result<(), AllocError>
     requires { SetsAnew link.old.set.config whole.now }
 
@@ -165,11 +180,12 @@ fn shorten(link: &mut Link, whole: &[u8]) -> Result<(), AllocError>
     ensures check { link.new.check ≡ link.old.check }
     ensures idle { (link.new.running ≡ link.old.running) × (link.new.due ≡ link.old.due) × (link.new.lost ≡ link.old.lost) }
     ensures shortest { OnOk result (vec_len link.new.line ≤ length whole.now) }
+    ensures edited { OnOk result (vec_len link.new.line ≡ 0 → length whole.now ≤ 2) }
     ensures posted { OnOk result ((device : Option Device) → IfSome device (λ d. d.shape ≡ link.old.set.config.shape) →
         IsPosted device link.old.set.config link.old.line.items link.old.anew →
         IsPosted device link.new.set.config link.new.line.items link.new.anew) }
 {
-    if link.line.len() <= whole.len() {
+    if !is_anew(link.line.len(), whole.len()) {
         return Ok(());
     }
     link.line.clear();
@@ -178,8 +194,8 @@ fn shorten(link: &mut Link, whole: &[u8]) -> Result<(), AllocError>
     Ok(())
 }
 
-// Posts a load: its words are made, and those that set all anew; the shorter ones go out with the first cycle. Where memory is lacking,
-// all is to be set anew.
+// Posts a load: its words are made, and those that set all anew; the shorter ones go out with the first cycle, and those that set all anew
+// where the configuration is the one that is set. Where memory is lacking, all is to be set anew.
 fn post(
     alloc: Global,
     link: &mut Link,
@@ -200,6 +216,7 @@ fn post(
     ensures lost { OnErr result ((link.new.running ≡ false) × (link.new.due ≡ false) × (link.new.lost ≡ true)) }
     ensures anew { OnOk result (SetsAnew config.now.config whole.new.items) }
     ensures shortest { OnOk result (vec_len link.new.line ≤ vec_len whole.new) }
+    ensures edited { OnOk result (vec_len link.new.line ≡ 0 → vec_len whole.new ≤ 2) }
 {
     begin(link)?;
     add_edits(alloc, link, config)?;
