@@ -2,6 +2,7 @@ mod Alarm
 mod Answered
 mod Closings
 mod Edited
+mod Heard
 mod Held
 mod OneMachine
 mod Readings

@@ -12,6 +12,7 @@ use Rattle.rig_board.specs.Device.{Device, IsInSession, HasRunSession, GoesOnWit
 use Rattle.rig_board.proofs.Driven.{same_pairs}
 use Rattle.rig_port.specs.declared.again.Again.{Again}
 use Rattle.rig_port.specs.Requests.{edited}
+use Rattle.rig_port.specs.Lines.{AreCounts}
 use Rattle.rig_port.specs.Answers.{start_of}
 use Rattle.rig_port.specs.Ports.{PortState, machine_told}
 use Rattle.rig_port.specs.Linked.{IsPosted, IsLinked, HasTurned, told_with}
@@ -36,8 +37,9 @@ linked_whole device set whole line anew running due is is_anew is_due shape a = 
 -- a machine that is told has its shape before and after
 pub still_shaped : (m : Shape) (old new : Option Device) → option_map (λ (d : Device). (d.shape, d.faults)) new ≡ option_map (λ (d : Device). (d.shape, d.faults)) old
     → IfSome old (λ d. d.shape ≡ m) → IfSome new (λ d. d.shape ≡ m)
-still_shaped m old None same is = tt
+still_shaped m None None same is = tt
 still_shaped m None (Some e) same is = absurd (false≢true (sym (ap is_some same)))
+still_shaped m (Some d) None same is = tt
 still_shaped m (Some d) (Some e) same is = let shapes : e.shape ≡ d.shape = first same in shapes ∙ is where
   shape_or : Option (Shape × Faults) → Shape
   shape_or None = m
@@ -125,3 +127,46 @@ more_rows n rows made row all room same = take_more_set rows made row room ∙ a
 
 pub wide_more : (n : ℕ) (rows : List Pins) (at : ℕ) (row : Pins) → length row ≡ n → All (λ (r : Pins). length r ≡ n) rows → All (λ (r : Pins). length r ≡ n) (set rows at row)
 wide_more n rows at row is wide = All-set (λ (r : Pins). length r ≡ n) rows at row is wide
+
+-- what is kept where it isn't all of a session is nothing to anybody
+pub not_covered : (a : Again) (ds rs : List Pins) → a.covers ≡ false → IsOf a ds rs
+not_covered a ds rs is = record { driven = λ c. absurd (false≢true (sym is ∙ c)); read = λ c. absurd (false≢true (sym is ∙ c)) }
+
+module _ (k new : Again) (drive reading : Pins) (room : k.made < length k.drives.items) (covers : new.covers ≡ k.covers) (made : new.made ≡ k.made + 1)
+    (drives : new.drives.items ≡ set k.drives.items k.made drive) (readings : new.readings.items ≡ set k.readings.items k.made reading) where
+  pub kept_more : (n : ℕ) (ds rs : List Pins) → HasRows n k → IsOf k ds rs → IsOf new (ds ++ drive ∷ []) (rs ++ reading ∷ [])
+  kept_more n ds rs h is = record {
+    driven = λ c. rw (made, drives) (more_rows n k.drives.items k.made drive ds room (is.driven (sym covers ∙ c)));
+    read = λ c. rw (made, readings) (more_rows n k.readings.items k.made reading rs (omega (arith, room, h.many)) (is.read (sym covers ∙ c)));
+  }
+
+  pub rows_more : (n : ℕ) → new.spare.items ≡ k.spare.items → length drive ≡ n → length reading ≡ n → HasRows n k → HasRows n new
+  rows_more n spare drive_pins read_pins h =
+      let d : length new.drives.items ≡ length k.drives.items = ap length drives ∙ length-set k.drives.items k.made drive in
+      let r : length new.readings.items ≡ length k.readings.items = ap length readings ∙ length-set k.readings.items k.made reading in
+      let s : length new.spare.items ≡ length k.spare.items = ap length spare in
+      record {
+        drives = subst (All (λ (row : Pins). length row ≡ n)) (sym drives) (wide_more n k.drives.items k.made drive drive_pins h.drives);
+        readings = subst (All (λ (row : Pins). length row ≡ n)) (sym readings) (wide_more n k.readings.items k.made reading read_pins h.readings);
+        spare = subst (All (λ (row : Pins). length row ≡ n)) (sym spare) h.spare;
+        many = r ∙ h.many ∙ sym d;
+        many_spare = s ∙ h.many_spare ∙ sym d;
+        made = omega (arith, room, d, made);
+      }
+
+-- the shape, and the counts, of a machine that is told
+abbrev pub HasShape : Shape → Option Device → Type 0
+HasShape m device = IfSome device (λ d. d.shape ≡ m)
+
+abbrev pub HasCounts : Option Device → Type 0
+HasCounts device = IfSome device (λ d. AreCounts d.shape.counts)
+
+pub still_counts : (old new : Option Device) → option_map (λ (d : Device). (d.shape, d.faults)) new ≡ option_map (λ (d : Device). (d.shape, d.faults)) old → HasCounts old → HasCounts new
+still_counts None None same is = tt
+still_counts None (Some e) same is = absurd (false≢true (sym (ap is_some same)))
+still_counts (Some d) None same is = tt
+still_counts (Some d) (Some e) same is = subst (λ (m : Shape). AreCounts m.counts) (sym (still_shaped d.shape (Some d) (Some e) same refl)) is
+
+pub shaped_counts : (m : Shape) (device : Option Device) → AreCounts m.counts → HasShape m device → HasCounts device
+shaped_counts m None counts is = tt
+shaped_counts m (Some d) counts is = subst (λ (s : Shape). AreCounts s.counts) (sym is) counts
