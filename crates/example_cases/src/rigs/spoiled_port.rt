@@ -52,6 +52,7 @@ pub struct Plan {
 /// A simulated rig behind a port, of which chosen replies are spoilt. It stays open, and tells no machine.
 #[derive(Drop)]
 pub struct SpoiledPort {
+    alloc: Global,
     inner: RigPort<SimRig<MemoryStore>>,
     plan: Plan,
     asked: Rc<Cell<u64>>,
@@ -107,6 +108,7 @@ impl SpoiledPort {
         asked: Rc<Cell<u64>>,
     ) -> SpoiledPort {
         SpoiledPort {
+            alloc,
             inner,
             plan,
             asked,
@@ -147,7 +149,7 @@ impl SpoiledPort {
         let Ok(count) = self.inner.ask(request, reply) else {
             return None;
         };
-        let mut now = Vec::new(self.before.allocator());
+        let mut now = Vec::new(self.alloc);
         if now.extend_from_slice(&reply[..count]).is_err() {
             return None;
         }
