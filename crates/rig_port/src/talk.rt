@@ -108,18 +108,28 @@ fn is_numbered(request: &[u8], line: &[u8]) -> bool {
     part(line, end, end.saturating_add(1)) == b" ".as_slice()
 }
 
+// Whether a line begins with this byte.
+fn begins(line: &[u8], byte: u8) -> bool
+    ensures { result ≡ true → get_or line.now 0 0 ≡ byte }
+{
+    if line.is_empty() {
+        return false;
+    }
+    line[0] == byte
+}
+
 // Whether a line is taken for the reply to a request. What asks what a machine is passes over what was left on the way, but takes a
 // refusal, for nothing else may come.
 fn is_due(request: &[u8], line: &[u8]) -> bool
     ensures { result ≡ false → get_or request.now 0 0 ≡ 97 }
 {
-    if request.first() == Some(&b'a') {
-        if line.first() == Some(&b'!') {
-            return true;
-        }
-        return is_numbered(request, line);
+    if !begins(request, b'a') {
+        return true;
     }
-    true
+    if begins(line, b'!') {
+        return true;
+    }
+    is_numbered(request, line)
 }
 
 // A line of so many bytes, where it is whole.
