@@ -1,13 +1,15 @@
 -- A session that was made again is the one that was.
 use Rattle.std.proofs.Common.{◌≡◌, ℕ, suc, zero, ◌+◌, ◌≤◌, ◌<◌, Bool, true, false, List, [], ◌∷◌, ◌++◌, map, length, take, drop, set, All, Option, None, Some, refl, sym, ap, ◌∙◌, arith, subst, IfSome, IsSome, is_some, option_map}
 use Rattle.std.proofs.lemmas.Bool.{false≢true}
-use Rattle.std.proofs.lemmas.List.{append_assoc, append-nil, length-take-le, take_more_set, length-set}
-use Rattle.std.proofs.lemmas.List.Elements.{All-set, All-take}
+use Rattle.std.proofs.lemmas.List.{append_assoc, append-nil, length-append, length-drop, length-map, length-take-le, take_more_set, length-set}
+use Rattle.std.proofs.lemmas.List.Elements.{All-set, All-take, All-drop, All-append}
+use Rattle.rig_board.proofs.OneByOne.{lengths_kept}
 use Rattle.machine_shape.specs.declared.Shape.{Shape}
 use Rattle.machine_shape.specs.Shape.{pins_of}
 use Rattle.machine_meaning.specs.Vocabulary.{Pins, Faults}
 use Rattle.machine_config.specs.Configuration.{Configuration, cleared}
-use Rattle.rig.specs.Rig.{Exchange, Session, drives_of, readings_of}
+use Rattle.base_io.specs.Counts.{Rose}
+use Rattle.rig.specs.Rig.{Exchange, Session, KeepLengths, drives_of, readings_of}
 use Rattle.rig_board.specs.Device.{Device, IsInSession, HasRunSession, GoesOnWith, WhereTold}
 use Rattle.rig_board.proofs.Driven.{same_pairs}
 use Rattle.rig_port.specs.declared.again.Again.{Again}
@@ -17,7 +19,7 @@ use Rattle.rig_port.specs.Answers.{start_of}
 use Rattle.rig_port.specs.Ports.{PortState, machine_told}
 use Rattle.rig_port.specs.Linked.{IsPosted, IsLinked, HasTurned, told_with}
 use Rattle.rig_port.specs.Sessions.{SetsAnew, HasRows, HasMade, IsOf, kept_drives, kept_reads, paired}
-use Rattle.rig_port.proofs.Alarm.{told_map}
+use Rattle.rig_port.proofs.Alarm.{told_map, rose_later}
 use Rattle.rig_port.proofs.Turned.{drives_paired, readings_paired, length_drives}
 
 -- words that set all anew are posted on every machine of their shape
@@ -158,15 +160,55 @@ module _ (k new : Again) (drive reading : Pins) (room : k.made < length k.drives
 abbrev pub HasShape : Shape → Option Device → Type 0
 HasShape m device = IfSome device (λ d. d.shape ≡ m)
 
-abbrev pub HasCounts : Option Device → Type 0
-HasCounts device = IfSome device (λ d. AreCounts d.shape.counts)
+abbrev pub HasCounts : Shape → Option Device → Type 0
+HasCounts m device = IfSome device (λ d. AreCounts m.counts → AreCounts d.shape.counts)
 
-pub still_counts : (old new : Option Device) → option_map (λ (d : Device). (d.shape, d.faults)) new ≡ option_map (λ (d : Device). (d.shape, d.faults)) old → HasCounts old → HasCounts new
-still_counts None None same is = tt
-still_counts None (Some e) same is = absurd (false≢true (sym (ap is_some same)))
-still_counts (Some d) None same is = tt
-still_counts (Some d) (Some e) same is = subst (λ (m : Shape). AreCounts m.counts) (sym (still_shaped d.shape (Some d) (Some e) same refl)) is
+pub still_counts : (m : Shape) (old new : Option Device) → option_map (λ (d : Device). (d.shape, d.faults)) new ≡ option_map (λ (d : Device). (d.shape, d.faults)) old → HasCounts m old → HasCounts m new
+still_counts m None None same is = tt
+still_counts m None (Some e) same is = absurd (false≢true (sym (ap is_some same)))
+still_counts m (Some d) None same is = tt
+still_counts m (Some d) (Some e) same is = λ counts. subst (λ (s : Shape). AreCounts s.counts) (sym (still_shaped d.shape (Some d) (Some e) same refl)) (is counts)
 
-pub shaped_counts : (m : Shape) (device : Option Device) → AreCounts m.counts → HasShape m device → HasCounts device
-shaped_counts m None counts is = tt
-shaped_counts m (Some d) counts is = subst (λ (s : Shape). AreCounts s.counts) (sym is) counts
+pub shaped_counts : (m : Shape) (device : Option Device) → HasShape m device → HasCounts m device
+shaped_counts m None is = tt
+shaped_counts m (Some d) is = λ counts. subst (λ (s : Shape). AreCounts s.counts) (sym is) counts
+
+pub plain_counts : (m : Shape) (device : Option Device) → IfSome device (λ d. AreCounts d.shape.counts) → HasCounts m device
+plain_counts m None is = tt
+plain_counts m (Some d) is = λ _. is
+
+pub told_counts : (m : Shape) (device : Option Device) → AreCounts m.counts → HasCounts m device → IfSome device (λ d. AreCounts d.shape.counts)
+told_counts m None counts is = tt
+told_counts m (Some d) counts is = is counts
+
+-- a failure that was seen is seen later too
+pub alarm_on : (m : Shape) (mid new : Option Device) (a b c : ℕ) → option_map (λ (d : Device). (d.shape, d.faults)) new ≡ option_map (λ (d : Device). (d.shape, d.faults)) mid → b ≤ c
+    → IfSome mid (λ d. d.shape ≡ m → Rose a b) → IfSome new (λ d. d.shape ≡ m → Rose a c)
+alarm_on m None None a b c same le rose = tt
+alarm_on m None (Some e) a b c same le rose = absurd (false≢true (sym (ap is_some same)))
+alarm_on m (Some d) None a b c same le rose = tt
+alarm_on m (Some d) (Some e) a b c same le rose = λ is. rose_later a b c le (rose (sym (still_shaped d.shape (Some d) (Some e) same refl) ∙ is))
+
+pub many_rows : (old new : List Pins) → KeepLengths old new → length new ≡ length old
+many_rows old new same = sym (length-map new length) ∙ ap length same ∙ length-map old length
+
+-- the rows beside those that are kept were read anew
+pub rows_again : (n : ℕ) (old new : Again) (ys : List Pins) → HasRows n old → KeepLengths (take old.made old.spare.items) ys → new.drives ≡ old.drives → new.readings ≡ old.readings → new.made ≡ old.made
+    → new.spare.items ≡ ys ++ drop old.made old.spare.items → HasRows n new
+rows_again n old new ys h keep drives readings made spare =
+    let d : length new.drives.items ≡ length old.drives.items = ap (λ v. length v.items) drives in
+    let r : length new.readings.items ≡ length old.readings.items = ap (λ v. length v.items) readings in
+    let within : old.made ≤ length old.spare.items = omega (arith, h.made, h.many_spare) in
+    let many : length ys ≡ old.made = many_rows (take old.made old.spare.items) ys keep ∙ length-take-le old.made old.spare.items within in
+    let s : length new.spare.items ≡ length old.spare.items
+    = ap length spare ∙ length-append ys (drop old.made old.spare.items) ∙ (let e : length ys + length (drop old.made old.spare.items) ≡ length old.spare.items = omega (arith, many, length-drop old.made old.spare.items, within) in e) in
+    record {
+      drives = subst (λ v. All (λ (row : Pins). length row ≡ n) v.items) (sym drives) h.drives;
+      readings = subst (λ v. All (λ (row : Pins). length row ≡ n) v.items) (sym readings) h.readings;
+      spare = subst (All (λ (row : Pins). length row ≡ n)) (sym spare)
+          (All-append (λ (row : Pins). length row ≡ n) ys (drop old.made old.spare.items) (lengths_kept (λ l. l ≡ n) (take old.made old.spare.items) ys keep
+          (All-take (λ (row : Pins). length row ≡ n) old.made old.spare.items h.spare)) (All-drop (λ (row : Pins). length row ≡ n) old.made old.spare.items h.spare));
+      many = r ∙ h.many ∙ sym d;
+      many_spare = s ∙ h.many_spare ∙ sym d;
+      made = omega (arith, made, d, h.made);
+    }

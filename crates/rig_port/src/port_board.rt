@@ -281,9 +281,9 @@ impl<P: Port> Board for PortBoard<P> {
     {
         self.found = None;
         self.link = None;
-        if self.again.make_rows(self.alloc, shape.pins()).is_err() {
+        let Ok(()) = self.again.make_rows(self.alloc, shape.pins()) else {
             return Err(RigFail::Memory);
-        }
+        };
         let Ok(mut link) = link_of(self.alloc, *shape) else {
             return Err(RigFail::Memory);
         };

@@ -98,7 +98,7 @@ pub fn attach_next<P: Port>(
     question: &mut Vec<u8>,
 ) -> bool
     requires open { (P.port_state port.old).is_open ≡ true }
-    requires told { IfSome (P.port_state port.old).device (λ d. AreCounts d.shape.counts) }
+    requires told { IfSome (P.port_state port.old).device (λ d. AreCounts link.old.set.config.shape.counts → AreCounts d.shape.counts) }
 
     ensures machine { machine_told (P.port_state port.new) ≡ machine_told (P.port_state port.old) }
     ensures later { (P.port_state port.old).failures ≤ (P.port_state port.new).failures }
@@ -125,7 +125,7 @@ fn attach_again<P: Port>(
     again: &mut Again,
     failures: &mut u64,
 ) -> bool
-    requires told { IfSome (P.port_state port.old).device (λ d. AreCounts d.shape.counts) }
+    requires told { IfSome (P.port_state port.old).device (λ d. AreCounts link.old.set.config.shape.counts → AreCounts d.shape.counts) }
 
     ensures machine { machine_told (P.port_state port.new) ≡ machine_told (P.port_state port.old) }
     ensures later { (P.port_state port.old).failures ≤ (P.port_state port.new).failures }

@@ -94,9 +94,9 @@ fn resume<P: Port>(port: &mut P, link: &mut Link, again: &mut Again) -> bool
     if !attach_next(port, link, &mut again.number, &mut again.question) {
         return false;
     }
-    if load_anew(link, &again.whole).is_err() {
+    let Ok(()) = load_anew(link, &again.whole) else {
         return false;
-    }
+    };
     let made = again.made;
     redrive(
         port,

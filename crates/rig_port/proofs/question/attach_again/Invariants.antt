@@ -7,7 +7,7 @@ use Rattle.rig_port.proofs.question.attach_again.Given as goal
 abbrev pub invariant-tries : goal.invariant-tries
 invariant-tries g l = record {
   machine : machine_told (g.P.Port.port_state l.port) ≡ machine_told (g.P.Port.port_state l.initial.port);
-  told : HasCounts (g.P.Port.port_state l.port).device;
+  told : HasCounts l.initial.link.set.config.shape (g.P.Port.port_state l.port).device;
   later : (g.P.Port.port_state l.initial.port).failures ≤ (g.P.Port.port_state l.port).failures;
   stays : StaysPosted l.initial.link l.link;
   past : KeepsSession l.initial.again l.again;
