@@ -13,12 +13,13 @@ use Rattle.rig.specs.Rig.{Exchange, Session, KeepLengths, drives_of, readings_of
 use Rattle.rig_board.specs.Device.{Device, IsInSession, HasRunSession, GoesOnWith, WhereTold}
 use Rattle.rig_board.proofs.Driven.{same_pairs}
 use Rattle.rig_port.specs.declared.again.Again.{Again}
+use Rattle.rig_port.specs.declared.link.Link.{Link}
 use Rattle.rig_port.specs.Requests.{edited}
 use Rattle.rig_port.specs.Lines.{AreCounts}
 use Rattle.rig_port.specs.Answers.{start_of}
 use Rattle.rig_port.specs.Ports.{PortState, machine_told}
 use Rattle.rig_port.specs.Linked.{IsPosted, IsLinked, HasTurned, told_with}
-use Rattle.rig_port.specs.Sessions.{SetsAnew, HasRows, HasMade, IsOf, kept_drives, kept_reads, paired}
+use Rattle.rig_port.specs.Sessions.{SetsAnew, HasRows, CanResume, HasMade, IsOf, KeepsSession, kept_drives, kept_reads, kept_pairs, paired}
 use Rattle.rig_port.proofs.Alarm.{told_map, rose_later}
 use Rattle.rig_port.proofs.Turned.{drives_paired, readings_paired, length_drives}
 
@@ -212,3 +213,50 @@ rows_again n old new ys h keep drives readings made spare =
       many_spare = s ∙ h.many_spare ∙ sym d;
       made = omega (arith, made, d, h.made);
     }
+
+pub same_pairs_kept : (old new : Again) → KeepsSession old new → kept_pairs new ≡ kept_pairs old
+same_pairs_kept old new k =
+    ap (λ v. paired (take new.made v.items) (take new.made new.readings.items)) k.drives
+    ∙ ap (λ v. paired (take new.made old.drives.items) (take new.made v.items)) k.readings
+    ∙ ap (λ n. paired (take n old.drives.items) (take n old.readings.items)) k.made
+
+-- what is kept after a turn is the session
+pub resumed : (n : ℕ) (g : Configuration) (due due_now : Bool) (old new : Option Device) (a mid now : Again) (drives reads : List Pins) → HasRows n mid → KeepsSession a mid
+    → ((before after : List Pins) → IsOf mid before after → IsOf now (before ++ drives) (after ++ reads)) → (now.covers ≡ true → mid.covers ≡ true)
+    → (a.covers ≡ true → IfSome (told_with due g old) (IsInSession g (kept_pairs a))) → HasTurned drives reads due g old due_now new
+    → now.covers ≡ true → IfSome (told_with due_now g new) (IsInSession g (kept_pairs now))
+resumed n g due due_now old new a mid now drives reads rows past keep covers kept t c =
+    subst (λ ps. IfSome (told_with due_now g new) (IsInSession g ps)) (sym pairs)
+    (in_session g (kept_pairs a ++ paired drives reads) due_now new (made_more drives reads g (kept_pairs a) due due_now old new (kept (sym past.covers ∙ covers c)) t)) where
+  now_is : IsOf now (kept_drives mid ++ drives) (kept_reads mid ++ reads)
+  now_is = keep (kept_drives mid) (kept_reads mid) (record { driven = λ _. refl; read = λ _. refl })
+
+  as_many : length (kept_drives mid) ≡ length (kept_reads mid)
+  as_many =
+      length-take-le mid.made mid.drives.items rows.made
+      ∙ sym (length-take-le mid.made mid.readings.items (let le : mid.made ≤ length mid.readings.items = omega (arith, rows.made, rows.many) in le))
+
+  pairs : kept_pairs now ≡ kept_pairs a ++ paired drives reads
+  pairs =
+      ap (λ l. paired l (kept_reads now)) (now_is.driven c) ∙ ap (λ l. paired (kept_drives mid ++ drives) l) (now_is.read c)
+      ∙ paired_more (kept_drives mid) drives (kept_reads mid) reads as_many ∙ ap (λ ps. ps ++ paired drives reads) (same_pairs_kept a mid past)
+
+-- rows that stay
+rows_stay : (n : ℕ) (old new : Again) → KeepsSession old new → new.spare ≡ old.spare → HasRows n old → HasRows n new
+rows_stay n old new k spare h = record {
+  drives = subst (λ v. All (λ (row : Pins). length row ≡ n) v.items) (sym k.drives) h.drives;
+  readings = subst (λ v. All (λ (row : Pins). length row ≡ n) v.items) (sym k.readings) h.readings;
+  spare = subst (λ v. All (λ (row : Pins). length row ≡ n) v.items) (sym spare) h.spare;
+  many = ap (λ v. length v.items) k.readings ∙ h.many ∙ sym (ap (λ v. length v.items) k.drives);
+  many_spare = ap (λ v. length v.items) spare ∙ h.many_spare ∙ sym (ap (λ v. length v.items) k.drives);
+  made = (let d : length new.drives.items ≡ length old.drives.items = ap (λ v. length v.items) k.drives in let m = k.made in let le : new.made ≤ length new.drives.items = omega (arith, d, m, h.made) in le);
+}
+
+-- a machine that was just found
+pub fresh_resumes : (device : Option Device) (m : Shape) (l : Link) (made now : Again) → l.set.config ≡ cleared m → l.running ≡ false → HasRows (pins_of m) made → KeepsSession made now → now.spare ≡ made.spare
+    → CanResume device l now
+fresh_resumes device m l made now set idle rows past spare = record {
+  rows = subst (λ (g : Configuration). HasRows (pins_of g.shape) now) (sym set) (rows_stay (pins_of m) made now past spare rows);
+  whole = λ runs. absurd (false≢true (sym idle ∙ runs));
+  kept = λ runs _. absurd (false≢true (sym idle ∙ runs));
+}
