@@ -14,11 +14,11 @@ use Rattle.rig_board.specs.Device.{Device, IsInSession, HasRunSession, GoesOnWit
 use Rattle.rig_board.proofs.Driven.{same_pairs}
 use Rattle.rig_port.specs.declared.again.Again.{Again}
 use Rattle.rig_port.specs.declared.link.Link.{Link}
-use Rattle.rig_port.specs.Requests.{edited}
+use Rattle.rig_port.specs.Requests.{edited, IsEditOf, edits_text}
 use Rattle.rig_port.specs.Lines.{AreCounts}
 use Rattle.rig_port.specs.Answers.{start_of}
 use Rattle.rig_port.specs.Ports.{PortState, machine_told}
-use Rattle.rig_port.specs.Linked.{IsPosted, IsLinked, HasTurned, told_with}
+use Rattle.rig_port.specs.Linked.{AreEdited, IsPosted, IsLinked, HasTurned, told_with}
 use Rattle.rig_port.specs.Sessions.{SetsAnew, HasRows, CanResume, HasMade, IsOf, KeepsSession, kept_drives, kept_reads, kept_pairs, paired}
 use Rattle.rig_port.proofs.Alarm.{told_map, rose_later}
 use Rattle.rig_port.proofs.Turned.{drives_paired, readings_paired, length_drives}
@@ -260,3 +260,50 @@ fresh_resumes device m l made now set idle rows past spare = record {
   whole = λ runs. absurd (false≢true (sym idle ∙ runs));
   kept = λ runs _. absurd (false≢true (sym idle ∙ runs));
 }
+
+-- the words that set all anew
+pub anew_of : (m : Shape) (g h config : Configuration) (line more : List ℕ) → g ≡ cleared m → line ≡ 122 ∷ 32 ∷ [] → AreEdited g line h more → h ≡ config → config.shape ≡ m → SetsAnew config more
+anew_of m g h config line more g_is line_is a h_is shape = record {
+  edits = a.edits;
+  right = subst (λ (s : Shape). All (IsEditOf s) a.edits) (ap (λ (x : Configuration). x.shape) g_is ∙ sym shape) a.right;
+  line_is = a.line_is ∙ ap (λ l. l ++ edits_text a.edits) line_is;
+  set_is = sym h_is ∙ a.set_is ∙ ap (λ x. edited x a.edits) (g_is ∙ ap cleared (sym shape));
+}
+
+take_none : (xs : List Pins) → take 0 xs ≡ []
+take_none [] = refl
+take_none (x ∷ xs) = refl
+
+-- a load that was posted
+pub posted_resumes : (device : Option Device) (l : Link) (a : Again) → HasRows (pins_of l.set.config.shape) a → SetsAnew l.set.config a.whole.items → a.made ≡ 0 → l.due ≡ true → CanResume device l a
+posted_resumes device l a rows whole made due = record {
+  rows = rows;
+  whole = λ _. whole;
+  kept = λ _ _. subst (λ b. IfSome (told_with b l.set.config device) (IsInSession l.set.config (kept_pairs a))) (sym due)
+      (subst (λ ps. IfSome (told_with true l.set.config device) (IsInSession l.set.config ps)) (sym none) (fresh device));
+} where
+  none : kept_pairs a ≡ []
+  none = ap (λ n. paired (take n a.drives.items) (take n a.readings.items)) made ∙ ap (λ l. paired l (take 0 a.readings.items)) (take_none a.drives.items)
+
+  fresh : (device : Option Device) → IfSome (told_with true l.set.config device) (IsInSession l.set.config [])
+  fresh None = tt
+  fresh (Some d) = record { config = refl; so_far = refl }
+
+-- one that wasn't, since memory was lacking
+pub lost_resumes : (device : Option Device) (l : Link) (a : Again) → HasRows (pins_of l.set.config.shape) a → l.running ≡ false → CanResume device l a
+lost_resumes device l a rows idle = record {
+  rows = rows;
+  whole = λ runs. absurd (false≢true (sym idle ∙ runs));
+  kept = λ runs _. absurd (false≢true (sym idle ∙ runs));
+}
+
+-- the rows are those of the shape that was found, and stay beside new words
+pub rows_beside : (m n : Shape) (old new : Again) → n ≡ m → new.drives ≡ old.drives → new.readings ≡ old.readings → new.spare ≡ old.spare → new.made ≡ 0 → HasRows (pins_of m) old → HasRows (pins_of n) new
+rows_beside m n old new same drives readings spare made h = subst (λ s. HasRows (pins_of s) new) (sym same) (record {
+  drives = subst (λ v. All (λ (row : Pins). length row ≡ pins_of m) v.items) (sym drives) h.drives;
+  readings = subst (λ v. All (λ (row : Pins). length row ≡ pins_of m) v.items) (sym readings) h.readings;
+  spare = subst (λ v. All (λ (row : Pins). length row ≡ pins_of m) v.items) (sym spare) h.spare;
+  many = ap (λ v. length v.items) readings ∙ h.many ∙ sym (ap (λ v. length v.items) drives);
+  many_spare = ap (λ v. length v.items) spare ∙ h.many_spare ∙ sym (ap (λ v. length v.items) drives);
+  made = (let le : new.made ≤ length new.drives.items = omega (arith, made) in le);
+})

@@ -45,7 +45,9 @@ fn most_rows(pins: u32) -> usize {
 
 impl Again {
     /// Nothing, with no room.
-    pub fn new(alloc: Global) -> Again {
+    pub fn new(alloc: Global) -> Again
+        ensures { result.number ≡ 0 }
+    {
         Again {
             number: 0,
             question: Vec::new(alloc),
