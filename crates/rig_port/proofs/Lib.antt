@@ -6,6 +6,7 @@ mod Heard
 mod Held
 mod OneMachine
 mod Readings
+mod Replayed
 mod Requested
 mod Resumed
 mod Room

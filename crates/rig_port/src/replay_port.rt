@@ -1,5 +1,5 @@
 //! A recorded talk as a port.
-ghost use Rattle.std.specs.Prelude.{◌≡◌, ◌⊎◌, ◌^◌, ◌<◌, ◌≤◌, ◌++◌, ⊥, List, ℕ, true, false};
+ghost use Rattle.std.specs.Prelude.{◌≡◌, ◌^◌, ◌<◌, ◌≤◌, ◌++◌, ⊥, List, ℕ, true, false};
 ghost use Rattle.std.specs.Prelude.{length, take, drop, IfSome, IfNone, IfOk, IfErr, OnOk, OnErr, IsErrOf};
 ghost use Rattle.base_io.specs.Counts.{Rose};
 ghost use Rattle.rig_board.specs.Device.{WhereTold};
@@ -62,7 +62,7 @@ fn give_line(bytes: &[u8], reply: &mut [u8]) -> Option<usize>
 // Whether this line stands in front of all else.
 fn is_next(bytes: &[u8], request: &[u8]) -> bool
     ensures right { result ≡ true → IsLine request.now × (bytes.now ≡ request.now ++ drop (length request.now) bytes.now) }
-    ensures wrong { result ≡ true ⊎ ((rest : List ℕ) → IsLine request.now → bytes.now ≡ request.now ++ rest → ⊥) }
+    ensures wrong { result ≡ false → (rest : List ℕ) → IsLine request.now → bytes.now ≡ request.now ++ rest → ⊥ }
 {
     match line_length(bytes) {
         Some(count) => &bytes[..count] == request,
