@@ -55,12 +55,16 @@ next_is n bytes request within found is =
     let many : length request ≡ n = sym (ap length is) ∙ length-take-le n bytes within in
     (subst IsLine is found, sym (take-append-drop n bytes) ∙ ap (λ l. l ++ drop n bytes) is ∙ ap (λ k. request ++ drop k bytes) (sym many))
 
+abbrev no_bytes : List ℕ
+no_bytes = []
+
+drop_nothing : (k : ℕ) → drop k no_bytes ≡ no_bytes
+drop_nothing zero = refl
+drop_nothing (suc k) = refl
+
 drop_more : (a b : ℕ) (bytes : List ℕ) → drop b (drop a bytes) ≡ drop (a + b) bytes
 drop_more zero b bytes = ap (λ k. drop k bytes) (let e : b ≡ 0 + b = omega arith in e)
-drop_more (suc a) b [] = drop_nil b ∙ sym (drop_nil (suc a + b)) where
-  drop_nil : (k : ℕ) → drop k (let none : List ℕ = [] in none) ≡ []
-  drop_nil zero = refl
-  drop_nil (suc k) = refl
+drop_more (suc a) b [] = drop_nothing b ∙ sym (drop_nothing (suc a + b))
 drop_more (suc a) b (x ∷ bytes) = drop_more a b bytes ∙ ap (λ k. drop k (x ∷ bytes)) (let e : suc (a + b) ≡ suc a + b = omega arith in e)
 
 some_bytes : (request : List ℕ) → IsLine request → 0 < length request
