@@ -1,6 +1,6 @@
 -- Lines of a recorded talk.
 use Rattle.std.proofs.Common.{◌≡◌, ◌≢◌, ℕ, suc, zero, ◌+◌, ◌-◌, ◌^◌, ◌≤◌, ◌<◌, min, List, [], ◌∷◌, ◌++◌, take, drop, length, get_or, All, refl, sym, ap, ◌∙◌, arith, subst}
-use Rattle.std.proofs.lemmas.List.{append_assoc, append-nil, length-append, length-drop, length-take-le, take-append-drop, take_all}
+use Rattle.std.proofs.lemmas.List.{append_assoc, drop-drop, length-append, length-drop, length-take-le, take-append-drop, take_all}
 use Rattle.rig_port.specs.FilePorts.{IsLine}
 use Rattle.rig_port.specs.Replays.{HasReplayed, IsDue}
 
@@ -55,17 +55,8 @@ next_is n bytes request within found is =
     let many : length request ≡ n = sym (ap length is) ∙ length-take-le n bytes within in
     (subst IsLine is found, sym (take-append-drop n bytes) ∙ ap (λ l. l ++ drop n bytes) is ∙ ap (λ k. request ++ drop k bytes) (sym many))
 
-abbrev no_bytes : List ℕ
-no_bytes = []
-
-drop_nothing : (k : ℕ) → drop k no_bytes ≡ no_bytes
-drop_nothing zero = refl
-drop_nothing (suc k) = refl
-
 drop_more : (a b : ℕ) (bytes : List ℕ) → drop b (drop a bytes) ≡ drop (a + b) bytes
-drop_more zero b bytes = ap (λ k. drop k bytes) (let e : b ≡ 0 + b = omega arith in e)
-drop_more (suc a) b [] = drop_nothing b ∙ sym (drop_nothing (suc a + b))
-drop_more (suc a) b (x ∷ bytes) = drop_more a b bytes ∙ ap (λ k. drop k (x ∷ bytes)) (let e : suc (a + b) ≡ suc a + b = omega arith in e)
+drop_more a b bytes = drop-drop b a bytes
 
 some_bytes : (request : List ℕ) → IsLine request → 0 < length request
 some_bytes request is = omega (arith, ap length is.bytes_are, length-append is.front (10 ∷ []))

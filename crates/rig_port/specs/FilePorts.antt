@@ -56,3 +56,12 @@ pub record HasTalked {F : Type 0} (contents left : F → Option (List ℕ)) (old
 abbrev pub HaveTalked : {F : Type 0} → (F → Option (List ℕ)) → (F → Option (List ℕ)) → Option (Ends F) → Option (Ends F) → List ℕ → List ℕ →
     Type 0
 HaveTalked contents left old new request line = IfSome old (λ o. IfSome new (λ n. HasTalked contents left o n request line))
+
+-- the whole request went out: to one file for both ways, of which more may have been read since, or to the one of two
+abbrev pub HasWritten : {F : Type 0} → (F → Option (List ℕ)) → Ends F → Ends F → List ℕ → Type 0
+HasWritten {F} contents old new request =
+    MatchOption old.from ((between : F) × Appends (contents old.to) (contents between) request) (λ _. Appends (contents old.to) (contents new.to) request)
+
+-- the same of files that are open before and after
+abbrev pub HaveWritten : {F : Type 0} → (F → Option (List ℕ)) → Option (Ends F) → Option (Ends F) → List ℕ → Type 0
+HaveWritten contents old new request = IfSome old (λ o. IfSome new (λ n. HasWritten contents o n request))

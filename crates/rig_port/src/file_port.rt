@@ -4,7 +4,7 @@ ghost use Rattle.base_io.specs.Counts.{Rose, next_count};
 ghost use Rattle.rig_board.specs.Device.{WhereTold};
 ghost use Rattle.rig_port.specs.Answers.{Answers};
 ghost use Rattle.rig_port.specs.Ports.{machine_told, Opens, AskFails};
-ghost use Rattle.rig_port.specs.FilePorts.{file_port_state, HaveTalked};
+ghost use Rattle.rig_port.specs.FilePorts.{file_port_state, HaveTalked, HaveWritten};
 
 use crate::talk::{Ends, NoReply, Rest, talk};
 use crate::{Port, PortFail};
@@ -139,7 +139,7 @@ impl<R: Files + Drop> Port for FilePort<R> {
     /// # Errors
     ///
     /// `Failed` where a write or a read fails or the file ends before the line does, which closes the port; and where `reply` is full
-    /// before, or the line begins with `!`, which leaves it open.
+    /// before, or the line begins with `!`, which leaves it open: then the whole request was written (`wrote`).
     fn ask(&mut self, request: &[u8], reply: &mut [u8]) -> Result<usize, PortFail>
         requires { (⟦<FilePort<R> as Port>⟧.port_state self.old).is_open ≡ true }
 
@@ -156,6 +156,7 @@ impl<R: Files + Drop> Port for FilePort<R> {
         ensures refused { IfErr result (λ e. AskFails e (⟦<FilePort<R> as Port>⟧.port_state self.old)
             (⟦<FilePort<R> as Port>⟧.port_state self.new)) }
         ensures asks { self.new.asks ≡ next_count self.old.asks }
+        ensures wrote { OnErr result (HaveWritten R.File.contents self.old.ends self.new.ends request.now) }
         ensures talked { IfOk result (λ n. HaveTalked R.File.contents R.File.remaining self.old.ends self.new.ends request.now
             (take n reply.new)) }
     {

@@ -1,7 +1,7 @@
 //! A talk over files: a request goes to one, and a line comes from one.
-ghost use Rattle.std.specs.Prelude.{◌≡◌, ◌≤◌, [], ◌∷◌, true, false, length, take, get_or, IfSome, IfOk};
+ghost use Rattle.std.specs.Prelude.{◌≡◌, ◌≤◌, [], ◌∷◌, true, false, length, take, get_or, IfSome, IfOk, IsErrOf};
 ghost use Rattle.std.specs.Io.KnownBytes.{Consumes};
-ghost use Rattle.rig_port.specs.FilePorts.{ahead, IsLine, HasHeard, HasTalked};
+ghost use Rattle.rig_port.specs.FilePorts.{ahead, IsLine, HasHeard, HasTalked, HasWritten};
 
 use crate::parse::part;
 use std::io::{Read, Write};
@@ -189,6 +189,7 @@ pub fn talk<F: Read + Write + Drop>(
     ensures length { length reply.new ≡ length reply.old }
     ensures within { IfOk result (λ n. n ≤ length reply.new) }
     ensures talked { IfOk result (λ n. HasTalked F.contents F.remaining ends.old ends.new request.now (take n reply.new)) }
+    ensures wrote { IsErrOf result NoReply.Wrong → HasWritten F.contents ends.old ends.new request.now }
 {
     if ends.to.write_all(request).is_err() {
         return Err(NoReply::Ended);
