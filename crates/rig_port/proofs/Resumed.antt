@@ -76,9 +76,9 @@ pub made_first : (drives reads : List Pins) (g : Configuration) (due due_now : B
     → HasMade g (paired drives reads) due_now new
 made_first drives reads g due due_now old new is t =
     made_more drives reads g [] true due_now old new (fresh old) (subst (λ b. HasTurned drives reads b g old due_now new) is t) where
-  fresh : (old : Option Device) → IfSome (told_with true g old) (IsInSession g [])
-  fresh None = tt
-  fresh (Some d) = record { config = refl; so_far = refl }
+      fresh : (old : Option Device) → IfSome (told_with true g old) (IsInSession g [])
+      fresh None = tt
+      fresh (Some d) = record { config = refl; so_far = refl }
 
 pub in_session : (g : Configuration) (cycles : List Exchange) (due : Bool) (device : Option Device) → HasMade g cycles due device → IfSome (told_with due g device) (IsInSession g cycles)
 in_session g cycles due device made = only (told_with due g device) made where
@@ -228,18 +228,18 @@ pub resumed : (n : ℕ) (g : Configuration) (due due_now : Bool) (old new : Opti
 resumed n g due due_now old new a mid now drives reads rows past keep covers kept t c =
     subst (λ ps. IfSome (told_with due_now g new) (IsInSession g ps)) (sym pairs)
     (in_session g (kept_pairs a ++ paired drives reads) due_now new (made_more drives reads g (kept_pairs a) due due_now old new (kept (sym past.covers ∙ covers c)) t)) where
-  now_is : IsOf now (kept_drives mid ++ drives) (kept_reads mid ++ reads)
-  now_is = keep (kept_drives mid) (kept_reads mid) (record { driven = λ _. refl; read = λ _. refl })
+      now_is : IsOf now (kept_drives mid ++ drives) (kept_reads mid ++ reads)
+      now_is = keep (kept_drives mid) (kept_reads mid) (record { driven = λ _. refl; read = λ _. refl })
 
-  as_many : length (kept_drives mid) ≡ length (kept_reads mid)
-  as_many =
-      length-take-le mid.made mid.drives.items rows.made
-      ∙ sym (length-take-le mid.made mid.readings.items (let le : mid.made ≤ length mid.readings.items = omega (arith, rows.made, rows.many) in le))
+      as_many : length (kept_drives mid) ≡ length (kept_reads mid)
+      as_many =
+          length-take-le mid.made mid.drives.items rows.made
+          ∙ sym (length-take-le mid.made mid.readings.items (let le : mid.made ≤ length mid.readings.items = omega (arith, rows.made, rows.many) in le))
 
-  pairs : kept_pairs now ≡ kept_pairs a ++ paired drives reads
-  pairs =
-      ap (λ l. paired l (kept_reads now)) (now_is.driven c) ∙ ap (λ l. paired (kept_drives mid ++ drives) l) (now_is.read c)
-      ∙ paired_more (kept_drives mid) drives (kept_reads mid) reads as_many ∙ ap (λ ps. ps ++ paired drives reads) (same_pairs_kept a mid past)
+      pairs : kept_pairs now ≡ kept_pairs a ++ paired drives reads
+      pairs =
+          ap (λ l. paired l (kept_reads now)) (now_is.driven c) ∙ ap (λ l. paired (kept_drives mid ++ drives) l) (now_is.read c)
+          ∙ paired_more (kept_drives mid) drives (kept_reads mid) reads as_many ∙ ap (λ ps. ps ++ paired drives reads) (same_pairs_kept a mid past)
 
 -- rows that stay
 rows_stay : (n : ℕ) (old new : Again) → KeepsSession old new → new.spare ≡ old.spare → HasRows n old → HasRows n new

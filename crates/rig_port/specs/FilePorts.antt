@@ -64,4 +64,4 @@ HasWritten {F} contents old new request =
 
 -- the same of files that are open before and after
 abbrev pub HaveWritten : {F : Type 0} → (F → Option (List ℕ)) → Option (Ends F) → Option (Ends F) → List ℕ → Type 0
-HaveWritten contents old new request = IfSome old (λ o. IfSome new (λ n. HasWritten contents o n request))
+HaveWritten contents old new request = IfSome new (λ n. IfSome old (λ o. HasWritten contents o n request))

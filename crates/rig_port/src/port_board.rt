@@ -224,7 +224,8 @@ fn post(
     shorten(link, whole)?;
     // Enough for all to be set anew too.
     let pins = link.set.shape().pins();
-    link.line.reserve(whole.len().saturating_add(room_for(pins)))?;
+    link.line
+        .reserve(whole.len().saturating_add(room_for(pins)))?;
     link.running = true;
     link.due = true;
     link.lost = false;
@@ -287,12 +288,8 @@ impl<P: Port> Board for PortBoard<P> {
         let Ok(mut link) = link_of(self.alloc, *shape) else {
             return Err(RigFail::Memory);
         };
-        let Ok(check) = put_question(
-            &mut self.again.question,
-            &mut link.expected,
-            FIRST,
-            shape,
-        ) else {
+        let Ok(check) = put_question(&mut self.again.question, &mut link.expected, FIRST, shape)
+        else {
             return Err(RigFail::Memory);
         };
         link.check = check;

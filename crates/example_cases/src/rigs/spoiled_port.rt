@@ -153,7 +153,11 @@ impl SpoiledPort {
         if now.extend_from_slice(&reply[..count]).is_err() {
             return None;
         }
-        let given = if is_before { put(&self.before, reply) } else { Some(count) };
+        let given = if is_before {
+            put(&self.before, reply)
+        } else {
+            Some(count)
+        };
         self.before = now;
         given
     }

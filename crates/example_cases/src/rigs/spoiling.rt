@@ -30,16 +30,8 @@ fn spoiled_rig(
     asked: Rc<Cell<u64>>,
 ) -> io::Result<Box<dyn Rig>> {
     let alloc: Global = rt.alloc();
-    let port = SpoiledPort::new(
-        alloc,
-        RigPort::new(alloc, sim_of(rt)?, shape),
-        plan,
-        asked,
-    );
-    Ok(Box::new(
-        alloc,
-        BoardRig::new(alloc, PortBoard::new(alloc, port)),
-    )?)
+    let port = SpoiledPort::new(alloc, RigPort::new(alloc, sim_of(rt)?, shape), plan, asked);
+    Ok(Box::new(alloc, BoardRig::new(alloc, PortBoard::new(alloc, port)))?)
 }
 
 // Does what the words of a command line say over such a machine.
