@@ -224,8 +224,8 @@ fn post(
     shorten(link, whole)?;
     // Enough for all to be set anew too.
     let pins = link.set.shape().pins();
-    link.line
-        .reserve(whole.len().saturating_add(room_for(pins)))?;
+    let room = whole.len().saturating_add(room_for(pins));
+    link.line.reserve(room)?;
     link.running = true;
     link.due = true;
     link.lost = false;
