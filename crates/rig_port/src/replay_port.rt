@@ -1,5 +1,5 @@
 //! A recorded talk as a port.
-ghost use Rattle.std.specs.Prelude.{◌≡◌, ◌^◌, ◌<◌, ◌≤◌, ◌++◌, ⊥, List, ℕ, true, false};
+ghost use Rattle.std.specs.Prelude.{◌≡◌, ◌^◌, ◌<◌, ◌≤◌, ◌++◌, List, ℕ, true, false};
 ghost use Rattle.std.specs.Prelude.{length, take, drop, IfSome, IfNone, IfOk, IfErr, OnOk, OnErr, IsErrOf};
 ghost use Rattle.base_io.specs.Counts.{Rose};
 ghost use Rattle.rig_board.specs.Device.{WhereTold};
