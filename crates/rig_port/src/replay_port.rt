@@ -8,6 +8,7 @@ ghost use Rattle.rig_port.specs.Ports.{machine_told, Opens, AskFails};
 ghost use Rattle.rig_port.specs.FilePorts.{file_port_state, IsLine};
 ghost use Rattle.rig_port.specs.Replays.{HasReplayed, IsDue};
 
+use crate::question::is_line;
 use crate::{Port, PortFail};
 
 /// A recorded talk as a port: lines, by turns a request and its reply. A request is answered by the recorded reply, and only where it is,
@@ -51,7 +52,9 @@ fn give_line(bytes: &[u8], reply: &mut [u8]) -> Option<usize>
     ensures line { IfSome result (λ n. (take n reply.new ≡ take n bytes.now) × IsLine (take n reply.new)) }
     ensures none { IfNone result ((line rest : List ℕ) → IsLine line → length line ≤ length reply.old → bytes.now ≡ line ++ rest → ⊥) }
 {
-    let count = line_length(bytes)?;
+    let Some(count) = line_length(bytes) else {
+        return None;
+    };
     if reply.len() < count {
         return None;
     }
@@ -65,7 +68,7 @@ fn is_next(bytes: &[u8], request: &[u8]) -> bool
     ensures wrong { result ≡ false → (rest : List ℕ) → IsLine request.now → bytes.now ≡ request.now ++ rest → ⊥ }
 {
     match line_length(bytes) {
-        Some(count) => &bytes[..count] == request,
+        Some(count) => is_line(&bytes[..count], request),
         None => false,
     }
 }
@@ -89,7 +92,9 @@ fn next_reply(recorded: &[u8], at: usize, request: &[u8], reply: &mut [u8]) -> O
         return None;
     }
     let next = at.saturating_add(request.len());
-    let count = give_line(behind(recorded, next), reply)?;
+    let Some(count) = give_line(behind(recorded, next), reply) else {
+        return None;
+    };
     Some(Replied {
         count,
         next: next.saturating_add(count),
