@@ -242,7 +242,7 @@ resumed n g due due_now old new a mid now drives reads rows past keep covers kep
           ∙ paired_more (kept_drives mid) drives (kept_reads mid) reads as_many ∙ ap (λ ps. ps ++ paired drives reads) (same_pairs_kept a mid past)
 
 -- rows that stay
-rows_stay : (n : ℕ) (old new : Again) → KeepsSession old new → new.spare ≡ old.spare → HasRows n old → HasRows n new
+pub rows_stay : (n : ℕ) (old new : Again) → KeepsSession old new → new.spare ≡ old.spare → HasRows n old → HasRows n new
 rows_stay n old new k spare h = record {
   drives = subst (λ v. All (λ (row : Pins). length row ≡ n) v.items) (sym k.drives) h.drives;
   readings = subst (λ v. All (λ (row : Pins). length row ≡ n) v.items) (sym k.readings) h.readings;

@@ -34,3 +34,22 @@ returns-clause-rose g c = λ _. omega (arith, c.attach_again.ensures.count, c.sa
 
 pub returns-clause-number : goal.returns-clause-number
 returns-clause-number g c = inr (let rose : Rose c.args.failures.now c.attach_again.new.failures = omega (arith, c.attach_again.ensures.count, c.saturating_add.ensures) in rose)
+
+pub returns-clause-stays : goal.returns-clause-stays
+returns-clause-stays g c = record {
+  set = c.attach_again.ensures.stays.set ∙ c.attach.ensures.stays.set;
+  line = c.attach_again.ensures.stays.line ∙ c.attach.ensures.stays.line;
+  anew = c.attach_again.ensures.stays.anew ∙ c.attach.ensures.stays.anew;
+  running = c.attach_again.ensures.stays.running ∙ c.attach.ensures.stays.running;
+  due = c.attach_again.ensures.stays.due ∙ c.attach.ensures.stays.due;
+  lost = c.attach_again.ensures.stays.lost ∙ c.attach.ensures.stays.lost;
+}
+
+pub returns-clause-past : goal.returns-clause-past
+returns-clause-past g c = record {
+  whole = c.attach_again.ensures.past.whole;
+  drives = c.attach_again.ensures.past.drives;
+  readings = c.attach_again.ensures.past.readings;
+  made = c.attach_again.ensures.past.made;
+  covers = c.attach_again.ensures.past.covers;
+}

@@ -9,7 +9,7 @@ use Rattle.machine_config.specs.Configuration.{Configuration, Roomy}
 use Rattle.rig_port.specs.Lines.{turn_room}
 use Rattle.rig_port.specs.Linked.{HasTurned}
 use Rattle.rig_port.specs.Sessions.{SetsAnew, HasMade}
-use Rattle.rig_port.proofs.Resumed.{HasShape, shaped_counts, still_shaped, made_first, rows_again}
+use Rattle.rig_port.proofs.Resumed.{HasShape, shaped_counts, still_shaped, made_first, rows_again, rows_stay}
 use Rattle.rig_port.proofs.resume.resume.Goals as goal
 
 pub attach_next-requires-clause-told : goal.attach_next-requires-clause-told
@@ -66,3 +66,43 @@ returns-clause-made g c = λ right.
 
 pub returns-clause-rows : goal.returns-clause-rows
 returns-clause-rows g c = rows_again (pins_of c.args.link.now.set.config.shape) c.args.again.now _ c.redrive.new.spare c.requires.rows c.redrive.ensures.lengths refl refl refl refl
+
+pub returns-then-not-attach_next-clause-stays : goal.returns-then-not-attach_next-clause-stays
+returns-then-not-attach_next-clause-stays g c = record {
+  set = ap (λ (s : Roomy). s.config) c.attach_next.ensures.stays.set;
+  lost = c.attach_next.ensures.stays.lost;
+  running = c.attach_next.ensures.stays.running;
+}
+
+pub returns-in_default-clause-stays : goal.returns-in_default-clause-stays
+returns-in_default-clause-stays g c = record {
+  set = c.load_anew.ensures.stays.set ∙ ap (λ (s : Roomy). s.config) c.attach_next.ensures.stays.set;
+  lost = c.load_anew.ensures.stays.lost ∙ c.attach_next.ensures.stays.lost;
+  running = c.load_anew.ensures.stays.running ∙ c.attach_next.ensures.stays.running;
+}
+
+pub returns-clause-stays : goal.returns-clause-stays
+returns-clause-stays g c = record {
+  set = c.redrive.ensures.stays.set ∙ c.load_anew.ensures.stays.set ∙ ap (λ (s : Roomy). s.config) c.attach_next.ensures.stays.set;
+  lost = c.redrive.ensures.stays.lost ∙ c.load_anew.ensures.stays.lost ∙ c.attach_next.ensures.stays.lost;
+  running = c.redrive.ensures.stays.running ∙ c.load_anew.ensures.stays.running ∙ c.attach_next.ensures.stays.running;
+}
+
+pub returns-clause-held : goal.returns-clause-held
+returns-clause-held g c = λ right.
+    let held = c.redrive.ensures.held right in
+    record {
+      is_open = held.is_open;
+      set = held.set ∙ c.load_anew.ensures.stays.set ∙ ap (λ (s : Roomy). s.config) c.attach_next.ensures.stays.set;
+      lost = held.lost ∙ c.load_anew.ensures.stays.lost ∙ c.attach_next.ensures.stays.lost;
+      running = held.running;
+      check = held.check;
+      linked = held.linked;
+      room = held.room;
+    }
+
+pub returns-then-not-attach_next-clause-rows : goal.returns-then-not-attach_next-clause-rows
+returns-then-not-attach_next-clause-rows g c = rows_stay (pins_of c.args.link.now.set.config.shape) c.args.again.now _ (record { whole = refl; drives = refl; readings = refl; made = refl; covers = refl }) refl c.requires.rows
+
+pub returns-in_default-clause-rows : goal.returns-in_default-clause-rows
+returns-in_default-clause-rows g c = rows_stay (pins_of c.args.link.now.set.config.shape) c.args.again.now _ (record { whole = refl; drives = refl; readings = refl; made = refl; covers = refl }) refl c.requires.rows

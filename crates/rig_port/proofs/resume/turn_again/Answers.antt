@@ -37,3 +37,10 @@ returns-clause-held g c = λ right.
       linked = held.linked;
       room = held.room;
     }
+
+pub returns-clause-stays : goal.returns-clause-stays
+returns-clause-stays g c = record {
+  set = c.turn_all.ensures.stays.set ∙ c.resume.ensures.stays.set;
+  lost = c.turn_all.ensures.stays.lost ∙ c.resume.ensures.stays.lost;
+  running = c.turn_all.ensures.stays.running ∙ c.resume.ensures.stays.running;
+}
