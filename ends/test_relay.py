@@ -378,7 +378,7 @@ class Noisy(Relayed):
     def test_a_talk_comes_through(self):
         failed = 0
         for seed in range(4):
-            said = self.assert_right(self.run_relay(self.noisy_end(1e-4, seed), "--limit", 1, seed=seed), seed)
+            said = self.assert_right(self.run_relay(self.noisy_end(1e-4, seed), seed=seed), seed)
             failed += "failures of the port" in said
         self.assertGreater(failed, 0)
 
