@@ -2,7 +2,7 @@ use Rattle.std.proofs.Common.{◌≡◌, ◌∙◌, take, length, sym, ap, arith
 use Rattle.rig_port.proofs.Alarm.{right_counts, for_any, rose_of}
 use Rattle.rig_port.proofs.Held.{seam}
 use Rattle.rig_port.proofs.OneMachine.{attached, attached_check}
-use Rattle.rig_port.proofs.port_board.attach.Goals as goal
+use Rattle.rig_port.proofs.question.attach.Goals as goal
 
 pub returns-in-Ok-clause-fresh : goal.returns-in-Ok-clause-fresh
 returns-in-Ok-clause-fresh g c = λ right.
