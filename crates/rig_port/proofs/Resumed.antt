@@ -1,5 +1,5 @@
 -- A session that was made again is the one that was.
-use Rattle.std.proofs.Common.{◌≡◌, ℕ, suc, zero, ◌+◌, ◌≤◌, ◌<◌, Bool, true, false, List, [], ◌∷◌, ◌++◌, map, length, take, drop, set, All, Option, None, Some, refl, sym, ap, ◌∙◌, arith, subst, IfSome, IsSome, is_some, option_map}
+use Rattle.std.proofs.Common.{◌≡◌, ℕ, suc, zero, ◌+◌, ◌≤◌, ◌<◌, Bool, true, false, List, [], ◌∷◌, ◌++◌, map, length, take, drop, set, All, Option, None, Some, refl, sym, ap, ◌∙◌, arith, subst, IfSome, IsSome, is_some, option_map, Result, Ok, Err, OnOk, OnErr}
 use Rattle.std.proofs.lemmas.Bool.{false≢true}
 use Rattle.std.proofs.lemmas.List.{append_assoc, append-nil, length-append, length-drop, length-map, length-take-le, take_more_set, length-set}
 use Rattle.std.proofs.lemmas.List.Elements.{All-set, All-take, All-drop, All-append}
@@ -296,6 +296,13 @@ lost_resumes device l a rows idle = record {
   whole = λ runs. absurd (false≢true (sym idle ∙ runs));
   kept = λ runs _. absurd (false≢true (sym idle ∙ runs));
 }
+
+-- one that was posted, or wasn't
+pub resumes_behind : {T E : Type 0} (r : Result T E) (device : Option Device) (l : Link) (a : Again) (config : Configuration) → HasRows (pins_of l.set.config.shape) a → a.made ≡ 0
+    → OnOk r ((l.set.config ≡ config) × (l.running ≡ true) × (l.due ≡ true) × (l.lost ≡ false)) → OnOk r (SetsAnew config a.whole.items)
+    → OnErr r ((l.running ≡ false) × (l.due ≡ false) × (l.lost ≡ true)) → CanResume device l a
+resumes_behind (Ok _) device l a config rows made posted words lost = posted_resumes device l a rows (subst (λ (s : Configuration). SetsAnew s a.whole.items) (sym posted.0) words) made posted.2
+resumes_behind (Err _) device l a config rows made posted words lost = lost_resumes device l a rows lost.0
 
 -- the rows are those of the shape that was found, and stay beside new words
 pub rows_beside : (m n : Shape) (old new : Again) → n ≡ m → new.drives ≡ old.drives → new.readings ≡ old.readings → new.spare ≡ old.spare → new.made ≡ 0 → HasRows (pins_of m) old → HasRows (pins_of n) new

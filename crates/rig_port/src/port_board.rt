@@ -11,7 +11,7 @@ ghost use Rattle.rig_board.specs.Boards.{width_found, Finds, SetsUp, HasCycled, 
 ghost use Rattle.rig_board.specs.Device.{Device, faults_told};
 ghost use Rattle.rig_port.specs.Lines.{turn_room};
 ghost use Rattle.rig_port.specs.Linked.{IsPosted, board_of};
-ghost use Rattle.rig_port.specs.Sessions.{SetsAnew};
+ghost use Rattle.rig_port.specs.Sessions.{SetsAnew, HasRows, CanResume};
 
 use crate::again::Again;
 use crate::check::Check;
@@ -232,6 +232,34 @@ fn post(
     Ok(())
 }
 
+// Posts a load whose session has no cycles yet. Whatever comes of it, what is kept goes with it.
+fn post_session(
+    alloc: Global,
+    link: &mut Link,
+    again: &mut Again,
+    config: &Config,
+) -> Result<(), AllocError>
+    requires shape { link.old.set.config.shape ≡ config.now.config.shape }
+    requires rows { HasRows (pins_of link.old.set.config.shape) again.old }
+
+    ensures shape { link.new.set.config.shape ≡ link.old.set.config.shape }
+    ensures expected { link.new.expected ≡ link.old.expected }
+    ensures check { link.new.check ≡ link.old.check }
+    ensures room { OnOk result (vec_len link.new.line + turn_room (pins_of link.new.set.config.shape) ≤ vec_capacity link.new.line) }
+    ensures linked { OnOk result ((device : Option Device) → IfSome device (λ d. d.shape ≡ link.old.set.config.shape) →
+        (link.old.lost ≡ false → IsPosted device link.old.set.config link.old.line.items link.old.anew) →
+        IsPosted device link.new.set.config link.new.line.items link.new.anew) }
+    ensures posted { OnOk result ((link.new.set.config ≡ config.now.config) × (link.new.running ≡ true) × (link.new.due ≡ true)
+        × (link.new.lost ≡ false)) }
+    ensures lost { OnErr result ((link.new.running ≡ false) × (link.new.due ≡ false) × (link.new.lost ≡ true)) }
+    ensures number { again.new.number ≡ again.old.number }
+    ensures resumes { (device : Option Device) → CanResume device link.new again.new }
+{
+    again.made = 0;
+    again.covers = true;
+    post(alloc, link, &mut again.whole, config)
+}
+
 impl<P: Port> PortBoard<P> {
     /// A board over this port, which isn't up.
     pub fn new(alloc: Global, port: P) -> Self
@@ -340,9 +368,7 @@ impl<P: Port> Board for PortBoard<P> {
             self.failures = self.failures.saturating_add(1);
             return Err(RigFail::Failed);
         };
-        let posted = post(self.alloc, &mut link, &mut self.again.whole, config);
-        self.again.made = 0;
-        self.again.covers = true;
+        let posted = post_session(self.alloc, &mut link, &mut self.again, config);
         self.link = Some(link);
         match posted {
             Ok(()) => Ok(()),
