@@ -1,5 +1,5 @@
 //! A talk over files: a request goes to one, and a line comes from one.
-ghost use Rattle.std.specs.Prelude.{◌≡◌, ◌≤◌, [], ◌∷◌, true, false, length, take, get_or, IfSome, IfOk, IsErrOf};
+ghost use Rattle.std.specs.Prelude.{◌≡◌, ◌≤◌, ◌⊎◌, [], ◌∷◌, true, false, length, take, get_or, IfSome, IfOk, IsErrOf};
 ghost use Rattle.std.specs.Io.KnownBytes.{Consumes};
 ghost use Rattle.rig_port.specs.FilePorts.{ahead, IsLine, HasHeard, HasTalked, HasWritten};
 
@@ -118,7 +118,7 @@ fn begins(line: &[u8], byte: u8) -> bool
     line[0] == byte
 }
 
-// Whether a line is taken for the reply to a request. What asks what a machine is passes over what was left on the way, but takes a
+// Whether a line is the reply to a request by how it begins. What asks what a machine is passes over what was left on the way, but takes a
 // refusal, for nothing else may come.
 fn is_due(request: &[u8], line: &[u8]) -> bool
     ensures { result ≡ false → get_or request.now 0 0 ≡ 97 }
@@ -130,6 +130,16 @@ fn is_due(request: &[u8], line: &[u8]) -> bool
         return true;
     }
     is_numbered(request, line)
+}
+
+// Whether what was read is taken for the reply to a request: it is no end of a line that was too long, and is due.
+fn is_taken(was_cut: bool, request: &[u8], line: &[u8]) -> bool
+    ensures { result ≡ false → (was_cut ≡ true) ⊎ (get_or request.now 0 0 ≡ 97) }
+{
+    if was_cut {
+        return false;
+    }
+    is_due(request, line)
 }
 
 // A line of so many bytes, where it is whole.
@@ -159,14 +169,12 @@ fn listen<F: Read>(
 {
     let mut dropped = 0usize;
     'parts: for _k in 0..MOST_DROPPED {
-        let begins = !*is_cut;
+        let was_cut = *is_cut;
         let Some(count) = read_line(from, rest, reply, is_cut) else {
             return Err(NoReply::Ended);
         };
-        if begins {
-            if is_due(request, &reply[..count]) {
-                return whole(*is_cut, count);
-            }
+        if is_taken(was_cut, request, &reply[..count]) {
+            return whole(*is_cut, count);
         }
         dropped = dropped.saturating_add(count);
         if dropped > MOST_DROPPED {
