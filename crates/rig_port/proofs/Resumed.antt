@@ -1,5 +1,5 @@
 -- A session that was made again is the one that was.
-use Rattle.std.proofs.Common.{◌≡◌, ℕ, suc, zero, ◌+◌, ◌≤◌, ◌<◌, Bool, true, false, List, [], ◌∷◌, ◌++◌, map, length, take, drop, set, All, Option, None, Some, refl, sym, ap, ◌∙◌, arith, subst, IfSome, IsSome, is_some, option_map, Result, Ok, Err, OnOk, OnErr}
+use Rattle.std.proofs.Common.{◌≡◌, ℕ, suc, zero, ◌+◌, ◌≤◌, ◌<◌, Bool, true, false, List, [], ◌∷◌, ◌++◌, map, length, take, drop, set, All, Option, None, Some, refl, sym, ap, ◌∙◌, arith, subst, IfSome, IsSome, is_some, option_map, Result, Ok, Err, OnOk, OnErr, ◌⊎◌, inl, inr, ◌^◌, ◌-◌, min}
 use Rattle.std.proofs.lemmas.Bool.{false≢true}
 use Rattle.std.proofs.lemmas.List.{append_assoc, append-nil, length-append, length-drop, length-map, length-take-le, take_more_set, length-set}
 use Rattle.std.proofs.lemmas.List.Elements.{All-set, All-take, All-drop, All-append}
@@ -9,6 +9,7 @@ use Rattle.machine_shape.specs.Shape.{pins_of}
 use Rattle.machine_meaning.specs.Vocabulary.{Pins, Faults}
 use Rattle.machine_config.specs.Configuration.{Configuration, cleared}
 use Rattle.base_io.specs.Counts.{Rose}
+use Rattle.rig.specs.Flaky.{both_counts}
 use Rattle.rig.specs.Rig.{Exchange, Session, KeepLengths, drives_of, readings_of}
 use Rattle.rig_board.specs.Device.{Device, IsInSession, HasRunSession, GoesOnWith, WhereTold}
 use Rattle.rig_board.proofs.Driven.{same_pairs}
@@ -296,6 +297,11 @@ lost_resumes device l a rows idle = record {
   whole = λ runs. absurd (false≢true (sym idle ∙ runs));
   kept = λ runs _. absurd (false≢true (sym idle ∙ runs));
 }
+
+-- a board's own count rose, and so did that of both
+pub both_rose : {P : Type 0} (a b p q : ℕ) → p ≤ q → P ⊎ Rose a b → P ⊎ Rose (both_counts a p) (both_counts b q)
+both_rose a b p q le (inl same) = inl same
+both_rose a b p q le (inr rose) = inr (let both : Rose (both_counts a p) (both_counts b q) = omega (arith, le, rose) in both)
 
 -- one that was posted, or wasn't
 pub resumes_behind : {T E : Type 0} (r : Result T E) (device : Option Device) (l : Link) (a : Again) (config : Configuration) → HasRows (pins_of l.set.config.shape) a → a.made ≡ 0

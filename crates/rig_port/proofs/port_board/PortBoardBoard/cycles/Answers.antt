@@ -1,6 +1,7 @@
 use Rattle.std.proofs.Common.{ap}
 use Rattle.rig_port.proofs.Alarm.{told_alarm}
 use Rattle.rig_port.proofs.Held.{told_on}
+use Rattle.rig_port.proofs.Resumed.{both_rose}
 use Rattle.rig_port.proofs.port_board.PortBoardBoard.cycles.Goals as goal
 
 pub returns-clause-cycles : goal.returns-clause-cycles
@@ -12,3 +13,13 @@ returns-clause-cycles g c =
 
 pub returns-then-not-drive_on-clause-alarm : goal.returns-then-not-drive_on-clause-alarm
 returns-then-not-drive_on-clause-alarm g c = told_alarm (g.P.Port.port_state c.self.inside.port).device c.in-Some.ensures.value (ap (λ s. s.device) c.self.view_is) (ap (λ s. s.port_failures) c.self.view_is) (c.drive_on.ensures.alarm c.if-not-drive_on.true)
+
+pub returns-clause-again : goal.returns-clause-again
+returns-clause-again g c =
+    rw (← c.self.view_is) (both_rose c.self.inside.failures c.drive_on.new.failures (g.P.Port.port_state c.self.inside.port).failures (g.P.Port.port_state c.drive_on.new.port).failures
+    c.drive_on.ensures.later c.drive_on.ensures.number)
+
+pub returns-then-not-drive_on-clause-again : goal.returns-then-not-drive_on-clause-again
+returns-then-not-drive_on-clause-again g c =
+    rw (← c.self.view_is) (both_rose c.self.inside.failures c.drive_on.new.failures (g.P.Port.port_state c.self.inside.port).failures (g.P.Port.port_state c.drive_on.new.port).failures
+    c.drive_on.ensures.later c.drive_on.ensures.number)

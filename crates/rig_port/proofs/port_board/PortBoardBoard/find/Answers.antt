@@ -1,4 +1,4 @@
-use Rattle.std.proofs.Common.{◌≡◌, ◌≤◌, ◌∙◌, sym, ap, subst, refl, IfSome}
+use Rattle.std.proofs.Common.{◌≡◌, ◌≤◌, ◌∙◌, arith, sym, ap, subst, refl, IfSome}
 use Rattle.machine_shape.specs.declared.Shape.{Shape}
 use Rattle.machine_config.specs.Configuration.{cleared}
 use Rattle.std.specs.Vec.{vec_capacity}
@@ -7,7 +7,7 @@ use Rattle.rig_port.specs.Checks.{fresh_check, after}
 use Rattle.rig_port.specs.Requests.{attach_body}
 use Rattle.rig_port.specs.Lines.{AreCounts, counts_body, counts_line, turn_room}
 use Rattle.rig_port.proofs.Held.{fresh_held}
-use Rattle.rig_port.proofs.Resumed.{fresh_resumes}
+use Rattle.rig_port.proofs.Resumed.{both_rose, fresh_resumes}
 use Rattle.rig_port.proofs.port_board.PortBoardBoard.find.Goals as goal
 
 pub attach_some-requires-clause-counts : goal.attach_some-requires-clause-counts
@@ -26,3 +26,8 @@ invariant_of-self-2 g c =
           (c.attach_some.ensures.check c.if-not-attach_some.false),
       fresh_resumes (g.P.Port.port_state c.attach_some.new.port).device m c.attach_some.new.link c.in-Ok.new.self c.attach_some.new.again set idle c.in-Ok.ensures c.attach_some.ensures.past c.attach_some.ensures.spare,
     )
+
+pub returns-clause-again : goal.returns-clause-again
+returns-clause-again g c =
+    rw (← c.self.view_is) (both_rose c.self.inside.failures c.attach_some.new.failures (g.P.Port.port_state c.self.inside.port).failures (g.P.Port.port_state c.attach_some.new.port).failures
+    (omega (arith, c.open.ensures.later, c.attach_some.ensures.later)) c.attach_some.ensures.number)
