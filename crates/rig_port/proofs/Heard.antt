@@ -1,5 +1,5 @@
 -- What was read before a reply.
-use Rattle.std.proofs.Common.{◌≡◌, ◌⊎◌, inl, inr, ℕ, ◌+◌, ◌-◌, ◌^◌, ◌≤◌, min, Bool, true, false, not, List, [], ◌∷◌, ◌++◌, length, get_or, Option, None, Some, refl, sym, ap, ◌∙◌, arith, subst}
+use Rattle.std.proofs.Common.{◌≡◌, ◌⊎◌, inl, inr, ℕ, ◌+◌, ◌-◌, ◌^◌, ◌≤◌, min, Bool, true, false, not, List, [], ◌∷◌, ◌++◌, length, get_or, Option, None, Some, refl, sym, ap, ◌∙◌, arith, subst, Result, Ok, Err, IfOk}
 use Rattle.std.proofs.lemmas.Bool.{false≢true}
 use Rattle.std.proofs.lemmas.List.{append_assoc, length-append}
 use Rattle.std.specs.Io.KnownBytes.{Consumes}
@@ -54,3 +54,8 @@ heard was_cut is_cut request a b c count line d q = record {
   why_of : ((d.dropped ≡ []) × (is_cut ≡ was_cut)) ⊎ ((was_cut ≡ true) ⊎ (get_or request 0 0 ≡ 97)) → (d.dropped ≡ []) ⊎ ((was_cut ≡ true) ⊎ (get_or request 0 0 ≡ 97))
   why_of (inl s) = inl s.0
   why_of (inr w) = inr w
+
+-- a line that is whole
+pub where_whole : {E : Type 0} (r : Result ℕ E) (count : ℕ) (is_cut : Bool) (P : ℕ → Type 0) → IfOk r (λ n. (n ≡ count) × (is_cut ≡ false)) → (is_cut ≡ false → P count) → IfOk r P
+where_whole (Ok n) count is_cut P is p = subst P (sym is.0) (p is.1)
+where_whole (Err e) count is_cut P is p = tt
