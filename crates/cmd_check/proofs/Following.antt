@@ -20,13 +20,11 @@ sound-under new each f e = (each f e).at f refl
 pub whole-under : (new : RigState) {i : ImageValue} {yes : Bool} → ForEach new (λ told. YesIf told i yes) → (f : Faults) → Explains f new → IsUnharmed f i → IsTrue yes
 whole-under new each f e = (each f e).at f refl
 
-pub ways-may : (old new : RigState) {i : ImageValue} {yes : Bool} → new.machine ≡ old.machine → YesIf old.machine.faults i yes → ForEach new (λ told. YesIf told i yes) → (f : Faults) → MayHave f new → StandsBySurroundings f i → IsTrue yes
-ways-may old new machine whole each f (inl told) = whole.ways f (sym (ap (λ (m : Machine). m.faults) machine) ∙ told)
-ways-may old new machine whole each f (inr e) = (each f e).ways f refl
+pub ways-under : (new : RigState) {i : ImageValue} {yes : Bool} → ForEach new (λ told. YesIf told i yes) → (f : Faults) → Explains f new → StandsBySurroundings f i → IsTrue yes
+ways-under new each f e = (each f e).ways f refl
 
-pub fewer-may : (old new : RigState) {i : ImageValue} {before after : ℕ} → new.machine ≡ old.machine → FewIf old.machine.faults i before after → ForEach new (λ told. FewIf told i before after) → (f : Faults) → MayHave f new → IsUnharmed f i → TakesForParts i before after
-fewer-may old new machine few each f (inl told) = few.at f (sym (ap (λ (m : Machine). m.faults) machine) ∙ told)
-fewer-may old new machine few each f (inr e) = (each f e).at f refl
+pub fewer-under : (new : RigState) {i : ImageValue} {before after : ℕ} → ForEach new (λ told. FewIf told i before after) → (f : Faults) → Explains f new → IsUnharmed f i → TakesForParts i before after
+fewer-under new each f e = (each f e).at f refl
 
 -- ---- the steps
 
@@ -49,7 +47,7 @@ module _ (files : List (List ℕ)) (begun : StoreState) (i : ImageValue) (result
       (λ t. record {
         sound = λ f e. t.sound f (narrows f e);
         whole = λ f e. t.whole f (narrows f e);
-        ways = λ f may. t.ways f (may-earlier f machine narrows may);
+        ways = λ f e. t.ways f (narrows f e);
         few = t.few;
-        fewer = λ f may. t.fewer f (may-earlier f machine narrows may);
+        fewer = λ f e. t.fewer f (narrows f e);
       }) same (rw is follows)

@@ -5,13 +5,8 @@ use Rattle.base_io.specs.Sink.{Wrote}
 use Rattle.machine_shape.specs.declared.Shape.{Shape}
 use Rattle.machine_meaning.specs.Vocabulary.{Faults, Covers, IsTight}
 use Rattle.machine_image.specs.Images.{ImageValue}
-<<<<<<< HEAD
 use Rattle.rig.specs.Rig.{Explains}
-use Rattle.diag_check.specs.Soundly.{IsUnharmed, TakesForParts}
-=======
 use Rattle.diag_check.specs.Soundly.{IsUnharmed, StandsBySurroundings, TakesForParts, TakesForWays}
-use Rattle.diag_list.specs.Possible.{MayHave}
->>>>>>> laws/next_laws_all
 use Rattle.cmd_steps.specs.Vocabulary.{Outside, around, ends, reads_machine, reads_image}
 use Rattle.cmd_steps.proofs.QuietJobs.{line-ended}
 use Rattle.cmd_check.specs.Answers.{IsTrueUnder, answer_line}
@@ -28,14 +23,9 @@ module _ (machine name image : List ℕ) (old new : Outside) (text : List ℕ)
     (is : (reads_image (old.store.contents image) m).gives i) where
   -- the line of an answer was written
   answered : (loads : ℕ) (a : Answer) → answer_written (image ∷ machine ∷ []) old.store new.store new.rig loads i a text ends →
-<<<<<<< HEAD
       (new.rig.loads ≡ loads → IsFound i old.rig.loads new.rig a) → ((f : Faults) → Explains f new.rig → IsTrueUnder f i a) →
       ((f : Faults) → Explains f new.rig → IsUnharmed f i → (a ≡ Sound) × TakesForParts i old.rig.loads loads) →
-=======
-      (new.rig.loads ≡ loads → IsFound i old.rig.loads new.rig a) → ((f : Faults) → MayHave f new.rig → IsTrueUnder f i a) →
-      ((f : Faults) → MayHave f new.rig → IsUnharmed f i → (a ≡ Sound) × TakesForParts i old.rig.loads loads) →
-      ((f : Faults) → MayHave f new.rig → StandsBySurroundings f i → (a ≡ Sound) × TakesForWays i old.rig.loads loads) →
->>>>>>> laws/next_laws_all
+      ((f : Faults) → Explains f new.rig → StandsBySurroundings f i → (a ≡ Sound) × TakesForWays i old.rig.loads loads) →
       IsChecked machine name image old new
   answered loads a at found right whole ways =
       let here = StandsLoaded (image ∷ machine ∷ []) old.store new.store new.rig loads in
@@ -53,12 +43,8 @@ module _ (machine name image : List ℕ) (old new : Outside) (text : List ℕ)
         found = found line.1.1;
         written = subst (λ t. Wrote old.sink.written new.sink.written t) (line.0 ∙ ap (λ (s : Shape). answer_line s a) is.0) wrote;
         right = right;
-<<<<<<< HEAD
         whole = λ f e unharmed. let all = whole f e unharmed in (all.0, rw line.1.1 all.1);
-=======
-        whole = λ f may unharmed. let all = whole f may unharmed in (all.0, rw line.1.1 all.1);
-        ways = λ f may stands. let all = ways f may stands in (all.0, rw line.1.1 all.1);
->>>>>>> laws/next_laws_all
+        ways = λ f e stands. let all = ways f e stands in (all.0, rw line.1.1 all.1);
       }
 
   -- by the test, or by a list: a machine whose faults leave the image unharmed isn't listed
@@ -66,27 +52,16 @@ module _ (machine name image : List ℕ) (old new : Outside) (text : List ℕ)
       by_test sound (answer_written (image ∷ machine ∷ []) old.store new.store new.rig t.loads i Sound)
       (machine_listed (image ∷ machine ∷ []) old.store new.store new.rig i t) text ends → IsChecked machine name image old new
   by-test t tried true found at =
-<<<<<<< HEAD
       answered t.loads Sound at (λ loads. tested t tried found refl loads) (λ f e. tried.sound f e found)
-      (λ f e unharmed. (refl, tried.few))
-=======
-      answered t.loads Sound at (λ loads. tested t tried found refl loads) (λ f may. tried.sound f may found)
-      (λ f may unharmed. (refl, tried.fewer f may unharmed)) (λ f may stands. (refl, tried.few))
->>>>>>> laws/next_laws_all
+      (λ f e unharmed. (refl, tried.fewer f e unharmed)) (λ f e stands. (refl, tried.few))
   by-test t tried false found (inl h) = absurd h.1
   by-test t tried false found (inr (l, list, inl h)) = absurd h.1
   by-test t tried false found (inr (l, list, inr (a, said, at))) =
       answered l.loads a at (λ loads. listed t l tried found list said.by_list loads)
-<<<<<<< HEAD
       (λ f e. subst (λ (s : Shape). Covers s l.list.list f → IsTight s l.list.list f → IsTrueUnder f i a) list.shape (said.right f)
       (list.right.covers f e) (list.right.tight f e))
       (λ f e unharmed. absurd (false≢true (sym found ∙ tried.whole f e unharmed)))
-=======
-      (λ f may. subst (λ (s : Shape). Covers s l.list.list f → IsTight s l.list.list f → IsTrueUnder f i a) list.shape (said.right f)
-      (list.right.covers f may) (list.right.tight f may))
-      (λ f may unharmed. absurd (false≢true (sym found ∙ tried.whole f may unharmed)))
-      (λ f may stands. absurd (false≢true (sym found ∙ tried.ways f may stands)))
->>>>>>> laws/next_laws_all
+      (λ f e stands. absurd (false≢true (sym found ∙ tried.ways f e stands)))
 
 module _ (machine name image : List ℕ) (old new : Outside) where
   pub checked : (text : List ℕ) → new.store.asked ≡ old.store.asked ++ machine ∷ image ∷ [] → Wrote old.sink.written new.sink.written text → check_course machine name image (around old) (around new) text ends → IsChecked machine name image old new

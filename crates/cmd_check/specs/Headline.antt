@@ -4,13 +4,8 @@ use Rattle.base_io.specs.Vocabulary.{IfTold, Wrote}
 use Rattle.machine_shape.specs.declared.Shape.{Shape}
 use Rattle.machine_meaning.specs.Faults.{Faults}
 use Rattle.machine_image.specs.Images.{ImageValue, IsImage, Reads}
-<<<<<<< HEAD
 use Rattle.rig.specs.Rig.{RigState, Explains}
-use Rattle.diag_check.specs.Soundly.{IsUnharmed, TakesForParts}
-=======
-use Rattle.rig.specs.Rig.{RigState}
 use Rattle.diag_check.specs.Soundly.{IsUnharmed, StandsBySurroundings, TakesForParts, TakesForWays}
->>>>>>> laws/next_laws_all
 use Rattle.cmd_steps.specs.Vocabulary.{Outside, IsMachineText}
 use Rattle.diag_list.specs.Lists.{Listed, IsListed}
 use Rattle.cmd_check.specs.Answers.{IsByList, IsTrueUnder, answer_line}
@@ -26,18 +21,11 @@ pub data IsFound (i : ImageValue) (before : ℕ) (rig : RigState) (a : Answer) :
       → IsByList l.list.list i a → rig.loads ≡ l.loads → IsFound i before rig a
 
 -- The machine of the text is attached under the name, and one line is written: that the image of the file is sound, or its first part
-<<<<<<< HEAD
 -- that isn't free on a list of the machine's defects. Each set of faults that explains what was read leaves an image that is called
--- sound alone, so that it runs soundly under it, and under it a part that is in doubt isn't sound, or is out of reach; and where one
--- such set has no fault near the image and the machine is wide enough for it, it is called sound, with at most 256 loads for each part
--- and each involved node
-=======
--- that isn't free on a list of the machine's defects. Whatever faults the machine may have, they leave an image that is called sound
--- alone, so that it runs soundly under them, and a part that is in doubt isn't sound, or is out of reach; and where the image stands by
--- its surroundings, it is called sound, with at most 256 loads for each part and each involved node, and 8 for each crosspoint and 3
--- for each wire of the surroundings. So it is where no fault is near the image and the machine is wide enough for it, with those 256
--- alone
->>>>>>> laws/next_laws_all
+-- sound alone, so that it runs soundly under it, and under it a part that is in doubt isn't sound, or is out of reach; and where the
+-- image stands by its surroundings under one such set, it is called sound, with at most 256 loads for each part and each involved node,
+-- and 8 for each crosspoint and 3 for each wire of the surroundings. So it is where one such set has no fault near the image and the
+-- machine is wide enough for it, with those 256 alone
 pub record IsChecked (machine name image : List ℕ) (old new : Outside) : Type 0 where
   pub shape : Shape
   pub given : ImageValue
@@ -53,5 +41,5 @@ pub record IsChecked (machine name image : List ℕ) (old new : Outside) : Type 
   pub right : (f : Faults) → Explains f new.rig → IsTrueUnder f given answer
   pub whole : (f : Faults) → Explains f new.rig → IsUnharmed f given →
       (answer ≡ Sound) × TakesForParts given old.rig.loads new.rig.loads
-  pub ways : (f : Faults) → MayHave f new.rig → StandsBySurroundings f given →
+  pub ways : (f : Faults) → Explains f new.rig → StandsBySurroundings f given →
       (answer ≡ Sound) × TakesForWays given old.rig.loads new.rig.loads

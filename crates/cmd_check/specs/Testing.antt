@@ -12,14 +12,14 @@ pub record Tried : Type 0 where
   pub loads : ℕ
 
 -- Each set of faults that explains what was read leaves what is found sound alone, so that it runs soundly; and where one such set
--- leaves the image unharmed, or it stands by its surroundings, it is found sound. It took few loads from so many that the rig counted before, and fewer
--- where it is unharmed
+-- leaves the image unharmed, or it stands by its surroundings under one, it is found sound. It took few loads from so many that the
+-- rig counted before, and fewer where one such set leaves it unharmed
 pub record IsTried (i : ImageValue) (before : ℕ) (rig : RigState) (t : Tried) : Type 0 where
   pub sound : (f : Faults) → Explains f rig → IsTrue t.sound → IsSoundUnder f i
   pub whole : (f : Faults) → Explains f rig → IsUnharmed f i → IsTrue t.sound
-  pub ways : (f : Faults) → MayHave f rig → StandsBySurroundings f i → IsTrue t.sound
+  pub ways : (f : Faults) → Explains f rig → StandsBySurroundings f i → IsTrue t.sound
   pub few : TakesForWays i before t.loads
-  pub fewer : (f : Faults) → MayHave f rig → IsUnharmed f i → TakesForParts i before t.loads
+  pub fewer : (f : Faults) → Explains f rig → IsUnharmed f i → TakesForParts i before t.loads
 
 -- an image is tested, with few loads, also where the test isn't made
 abbrev pub tests : ImageValue → (before : ℕ) → RigState → Step Tried

@@ -7,6 +7,7 @@ use Rattle.machine_defects.specs.Text.{text_of}
 use Rattle.cmd_steps.specs.Vocabulary.{Around, StandsIn, Course, after, write, done, machine_attached, IsRightFile, reads_machine}
 use Rattle.cmd_steps.specs.Vocabulary.{AsksMachine, Job, quiet}
 use Rattle.diag_list.specs.Lists.{Listed, lists}
+use Rattle.diag_list.specs.Possible.{MakesFewCycles}
 
 -- The list is written, and no load follows on those that it took
 abbrev pub list_written : (machine : List ℕ) → Around → Around → Listed → Course
@@ -28,9 +29,15 @@ pub record DiagnoseRight (machine : Told) : Type 0 where
   pub shape : Shape
   pub text : IsRightFile machine (λ bytes. IsMachine bytes shape.counts)
 
+-- no machine but this one is asked of the rig, and few cycles for each load
+abbrev pub DiagnoseAsks : (machine name : List ℕ) → Around → Around → Type 0
+DiagnoseAsks machine name old new =
+    AsksMachine (reads_machine (old.store.contents machine)).gives name old.rig.machine.asked new.rig.machine.asked
+    × MakesFewCycles old.rig new.rig
+
 abbrev pub diagnose_job : (machine name : List ℕ) → Job
 diagnose_job machine name =
     quiet (machine ∷ [])
-    (λ old new. AsksMachine (reads_machine (old.store.contents machine)).gives name old.rig.machine.asked new.rig.machine.asked)
+    (DiagnoseAsks machine name)
     (diagnose_course machine name)
     (λ old. DiagnoseRight (old.store.contents machine))

@@ -2,6 +2,7 @@
 use Rattle.std.specs.Prelude.{◌≡◌, ℕ, List, [], ◌∷◌, codes}
 use Rattle.cmd_steps.specs.Outside.{Outside, around}
 use Rattle.diag_list.specs.Lists.{MadeFewLoads}
+use Rattle.diag_list.specs.Possible.{MakesFewCycles}
 use Rattle.cmd_diagnose.specs.Headline.{IsDiagnosed}
 
 -- its words
@@ -16,3 +17,5 @@ pub record DiagnosePromises (words : List (List ℕ)) (status : ℕ) (old new : 
   -- whatever the status: few loads were made, and none but those of the list
   pub loads : (machine name : List ℕ) → words ≡ diagnose_words machine name →
       MadeFewLoads machine name (λ made now. now ≡ made) (around old) (around new)
+  -- and few cycles for each load
+  pub cycles : (machine name : List ℕ) → words ≡ diagnose_words machine name → MakesFewCycles old.rig new.rig

@@ -31,7 +31,7 @@ abbrev pub design_evaluated : (vectors : List ℕ) → (files : List (List ℕ))
 design_evaluated vectors files old new draft =
     after (opens (old.contents vectors)) (StandsIn (vectors ∷ files) old new) (λ _.
     write outputs_line (IsAtFirst vectors new)
-    (all_rows (eval_rows draft (old.contents vectors) new new.read_at)))
+    (all_rows (eval_rows draft (old.contents vectors) new)))
 
 -- the design is read and evaluated
 abbrev pub eval_course : (design vectors : List ℕ) → StoreState → StoreState → Course

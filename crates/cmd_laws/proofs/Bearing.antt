@@ -39,7 +39,7 @@ module _ (bears : BearsAll) (k status : ℕ) (old new : Outside) where
         texts = t;
         room = inr (record {
           faults = b.faults;
-          may_have = b.has_them;
+          explained = b.explained;
           network = plain_network t.draft;
           plain = refl;
           standing = bears t.shape b.faults (plain_network t.draft) k b.few b.spare;
@@ -54,7 +54,7 @@ module _ (bears : BearsAll) (k status : ℕ) (old new : Outside) where
         texts = t;
         room = inr (record {
           faults = b.faults;
-          may_have = b.has_them;
+          explained = b.explained;
           standing = bears t.shape b.faults (joint_of t.first_draft t.second_draft) k b.few b.spare;
         });
       })
@@ -67,7 +67,7 @@ module _ (bears : BearsAll) (k status : ℕ) (old new : Outside) where
         texts = t;
         room = inr (record {
           faults = b.faults;
-          explain = b.has_them;
+          explained = b.explained;
           standing = bears t.shape b.faults (joint_of t.draft t.draft) k b.few b.spare;
         });
       })

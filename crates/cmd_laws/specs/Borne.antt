@@ -7,9 +7,8 @@ use Rattle.machine_faults.specs.Adding.{count_of}
 use Rattle.map_network.specs.declared.network.Network.{Network}
 use Rattle.map_network.specs.Plain.{plain_network}
 use Rattle.place_spare.specs.Spare.{HasToSpare}
-use Rattle.rig.specs.Rig.{Explains}
+use Rattle.rig.specs.Rig.{RigState, Explains}
 use Rattle.cmd_steps.specs.Vocabulary.{Outside, around, Unless, is_dashed}
-use Rattle.diag_list.specs.Possible.{MayHave}
 use Rattle.place_both.specs.Both.{joint_of}
 use Rattle.cmd_go.specs.Go.{go_files, AreGoTexts}
 use Rattle.cmd_go.specs.Promises.{go_words}
@@ -19,11 +18,11 @@ use Rattle.cmd_twice.specs.Twice.{twice_files, AreTwiceTexts}
 use Rattle.cmd_twice.specs.Promises.{twice_words}
 use Rattle.cmd_top.specs.Promises.{Promises}
 
--- The machine may have, in this sense, some set of at most k faults, and has 2 k of each resource to spare for the network
-pub record BearsFaults (may_have : Faults → Type 0) (m : Shape) (n : Network) (k : ℕ) : Type 0 where
+-- Some set of at most k faults explains all that was read of the machine, which has 2 k of each resource to spare for the network
+pub record BearsFaults (rig : RigState) (m : Shape) (n : Network) (k : ℕ) : Type 0 where
   pub faults : Faults
   pub few : count_of faults ≤ k
-  pub has_them : may_have faults
+  pub explained : Explains faults rig
   pub spare : HasToSpare m n k
 
 -- none of the words begins with `-`
@@ -39,16 +38,16 @@ abbrev pub GoIsBorne : (machine name design vectors : List ℕ) → (k status : 
 GoIsBorne machine name design vectors k status old new =
     Promises (go_words machine name design vectors) status old new → HaveNoDash (go_words machine name design vectors) →
     (t : AreGoTexts (go_files (around old) machine design vectors)) →
-    BearsFaults (λ f. MayHave f new.rig) t.shape (plain_network t.draft) k → IsBorne status old new
+    BearsFaults new.rig t.shape (plain_network t.draft) k → IsBorne status old new
 
 abbrev pub PairIsBorne : (machine name first second vectors : List ℕ) → (k status : ℕ) → (old new : Outside) → Type 0
 PairIsBorne machine name first second vectors k status old new =
     Promises (pair_words machine name first second vectors) status old new → HaveNoDash (pair_words machine name first second vectors) →
     (t : ArePairTexts (pair_files (around old) machine first second vectors)) →
-    BearsFaults (λ f. MayHave f new.rig) t.shape (joint_of t.first_draft t.second_draft) k → IsBorne status old new
+    BearsFaults new.rig t.shape (joint_of t.first_draft t.second_draft) k → IsBorne status old new
 
 abbrev pub TwiceIsBorne : (machine name design vectors : List ℕ) → (k status : ℕ) → (old new : Outside) → Type 0
 TwiceIsBorne machine name design vectors k status old new =
     Promises (twice_words machine name design vectors) status old new → HaveNoDash (twice_words machine name design vectors) →
     (t : AreTwiceTexts (twice_files (around old) machine design vectors)) →
-    BearsFaults (λ f. Explains f new.rig) t.shape (joint_of t.draft t.draft) k → IsBorne status old new
+    BearsFaults new.rig t.shape (joint_of t.draft t.draft) k → IsBorne status old new

@@ -9,8 +9,7 @@ ghost use Rattle.cmd_steps.specs.Outside.{Outside};
 ghost use Rattle.cmd_laws.specs.Borne.{GoIsBorne, PairIsBorne, TwiceIsBorne};
 
 /// On a machine that has 2 k of each resource to spare, right words and files lead to status 0 or out of memory, if some set of at
-/// most k faults is one that the machine may have (of `twice`, one that explains all that was read), no count of failures rose, and
-/// the rig refused no text of its faults.
+/// most k faults explains all that was read, no count of failures rose, and the rig refused no text of its faults.
 pub fn few_faults_are_borne()
     ensures go { (machine name design vectors : List ℕ) (k status : ℕ) (old new : Outside) →
         GoIsBorne machine name design vectors k status old new }

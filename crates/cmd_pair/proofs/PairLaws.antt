@@ -56,7 +56,7 @@ module _ (machine name first second vectors : List ℕ) where
         has-room m one other one_is other_is (inl room) l list same place none =
             never-both-refused l.list one other decided (room l.list list.shape list.kept same) place none
         has-room m one other one_is other_is (inr parts) l list same place none =
-            both-certain sure networks one other one_is other_is m l.list parts.faults list.shape (list.right.tight parts.faults parts.may_have) parts.standing place none
+            both-certain sure networks one other one_is other_is m l.list parts.faults list.shape (list.right.tight parts.faults parts.explained) parts.standing place none
 
         fits : PairRight files new.rig front → IsRight words old (Fits words old new front)
         fits r =

@@ -3,8 +3,7 @@ use Rattle.std.specs.Prelude.{◌⊎◌, ℕ, ◌+◌, ◌≤◌, List, [], ◌�
 use Rattle.base_io.specs.Told.{Told}
 use Rattle.machine_shape.specs.declared.Shape.{Shape}
 use Rattle.machine_meaning.specs.Faults.{Faults}
-use Rattle.rig.specs.Rig.{RigState}
-use Rattle.diag_list.specs.Possible.{MayHave}
+use Rattle.rig.specs.Rig.{RigState, Explains}
 use Rattle.machine_text.specs.Machine.{IsMachine}
 use Rattle.design_netlist.specs.declared.netlist_data.NetlistData.{NetlistData}
 use Rattle.design_blif.specs.Designs.{IsDesign}
@@ -65,10 +64,11 @@ pub record ArePairTexts (t : PairFiles) : Type 0 where
   pub second : IsRightFile t.second (λ bytes. IsDesign bytes second_draft)
   pub vectors : AreRightVectors t.vectors (length first_draft.inputs + length second_draft.inputs)
 
--- the machine may have faults under which as many parts stand as the joint network of the two plain networks has
+-- some faults explain all that was read of the machine, and under these as many parts stand as the joint network of the two plain
+-- networks has
 pub record HasPartsForBoth (rig : RigState) (m : Shape) (first second : NetlistData) : Type 0 where
   pub faults : Faults
-  pub may_have : MayHave faults rig
+  pub explained : Explains faults rig
   pub standing : HasStandingRoom m faults (joint_of first second)
 
 -- There is room on the list that stands there, or for certain on the machine

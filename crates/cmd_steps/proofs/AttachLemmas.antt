@@ -1,13 +1,19 @@
 -- Machines that weren't attached.
-use Rattle.std.proofs.Common.{◌≡◌, ◌≤◌, [], Some, refl, inl, inr, arith, Ok, Err}
+use Rattle.std.proofs.Common.{◌≡◌, ◌≤◌, ◌++◌, [], Some, None, length, refl, inl, inr, arith, Ok, Err}
+use Rattle.std.specs.List.{sum_by}
 use Rattle.base_io.specs.Vocabulary.{StoreState, SinkState}
-use Rattle.rig.specs.Rig.{RigState, Asked, AttachFails, IsDetached}
+use Rattle.rig.specs.Rig.{RigState, Past, Asked, AttachFails, IsDetached, cycles_made, standing}
 use Rattle.rig.specs.declared.rig.AttachFail.{AttachFail}
 use Rattle.rig.specs.declared.rig.AttachFail.TheVariants as attach
 use Rattle.machine_faults.specs.declared.kind.FaultsFault.TheVariants as text
 use Rattle.cmd_steps.specs.Vocabulary.{outside, IsLater, LogGoesOn, StepStops, IsCounted, stop_of_attach, Took, attaches, MayAsk}
 use Rattle.cmd_steps.proofs.Making.{took-quietly, stopped-quietly}
 use Rattle.cmd_steps.proofs.Logs.{log_refused}
+
+-- an empty log has no cycles
+pub none-made : (rig : RigState) → rig.session ≡ None → rig.past ≡ [] → cycles_made rig ≡ 0
+unfolding cycles_made
+none-made rig session past = λ i. sum_by (λ (s : Past). length s.cycles) (past i ++ standing (session i))
 
 module _ (machine : Asked) (old new : RigState) where
   attach-stops : (fail : AttachFail) → IsDetached new → AttachFails fail machine old new → StepStops (attaches machine old new) (stop_of_attach fail)

@@ -1,6 +1,6 @@
 //! Machines that are attached.
 ghost use Rattle.std.specs.Prelude.{◌≡◌, ◌≤◌, [], OnOk, OnErr, IfErr};
-ghost use Rattle.rig.specs.Rig.{Asked, Attaches, AttachFails, IsDetached};
+ghost use Rattle.rig.specs.Rig.{Asked, Attaches, AttachFails, IsDetached, cycles_made};
 ghost use Rattle.cmd_steps.specs.Vocabulary.{StoreState, SinkState, outside, Took};
 ghost use Rattle.cmd_steps.specs.Texts.{attaches, MayAsk};
 
@@ -21,7 +21,7 @@ fn attach_boxed(rig: &mut Box<dyn Rig>, shape: &Shape, name: &str) -> Result<(),
     rig.attach(shape, name)
 }
 
-/// Attaches a machine under a name. After a refusal nothing is attached.
+/// Attaches a machine under a name, and its log is empty. After a refusal nothing is attached, and the log is empty too.
 ///
 /// # Errors
 ///
@@ -32,6 +32,7 @@ pub fn attach(rig: &mut Box<dyn Rig>, shape: &Shape, name: &str) -> Result<(), S
     requires always { name.now ≡ name.now }
 
     ensures loads { (rig_state rig.new).loads ≡ (rig_state rig.old).loads }
+    ensures unused { cycles_made (rig_state rig.new) ≡ 0 }
     ensures asked { let machine : Asked = record { shape = shape.now; name = name.now } in
         MayAsk machine (rig_state rig.old).machine.asked (rig_state rig.new).machine.asked }
     // Whatever the store and the sink are.

@@ -65,23 +65,11 @@ module _ (vectors : List ℕ) (old new : Outside) (draft : NetlistData) (l : Lis
   -- one more reading differs, behind these rows and perhaps others that wait
   from-apart : (text : List ℕ) (driven rows more : List (List Bool)) → text ≡ flat_map row_line rows
       → (all : List (List Bool)) → take (length rows) (all_repeated Two all ++ more) ≡ all_repeated Two rows
-<<<<<<< HEAD
-      → (apart : ReadsApart (old.store.contents vectors) i new.rig driven all) → more ≡ apart.reading ∷ [] → SoFar text
-  from-apart text driven rows more text_is all taken apart behind =
-      by-session text (driven ++ apart.vector ∷ []) rows text_is (first-of (driven ++ apart.vector ∷ []) apart.next)
-      (read-by-both l.list draft i is (driven ++ apart.vector ∷ []) new.rig apart.session.config apart.session.drives apart.widths covers rows
-      (ap (take (length rows)) (sym apart.session.rows_are ∙ ap (λ (m : List (List Bool)). all_repeated Two all ++ m) (sym behind)) ∙ taken))
-=======
       → (apart : ReadsApart (old.store.contents vectors) i new.rig driven all) → more ≡ apart.reading ∷ apart.read_behind → SoFar text
-  from-apart text driven rows more text_is all taken apart behind = record {
-    driven = driven ++ apart.vector ∷ apart.behind;
-    rows = rows;
-    text_is = text_is;
-    first = first-of (driven ++ apart.vector ∷ apart.behind) apart.next;
-    read = inl (read-by-both l.list draft i is (driven ++ apart.vector ∷ apart.behind) new.rig apart.session.config apart.session.drives apart.widths covers rows
-        (ap (take (length rows)) (sym apart.session.rows_are ∙ ap (λ (m : List (List Bool)). all_repeated Two all ++ m) (sym behind)) ∙ taken));
-  }
->>>>>>> rows/ready
+  from-apart text driven rows more text_is all taken apart behind =
+      by-session text (driven ++ apart.vector ∷ apart.behind) rows text_is (first-of (driven ++ apart.vector ∷ apart.behind) apart.next)
+      (read-by-both l.list draft i is (driven ++ apart.vector ∷ apart.behind) new.rig apart.session.config apart.session.drives apart.widths covers rows
+      (ap (take (length rows)) (sym apart.session.rows_are ∙ ap (λ (m : List (List Bool)). all_repeated Two all ++ m) (sym behind)) ∙ taken))
 
   -- rows and those that wait, before a further reading
   some-taken : (rows others more : List (List Bool)) → take (length rows) (all_repeated Two (rows ++ others) ++ more) ≡ all_repeated Two rows
@@ -99,14 +87,9 @@ module _ (vectors : List ℕ) (old new : Outside) (draft : NetlistData) (l : Lis
           (read-by-both l.list draft i is h.vectors new.rig session.config session.drives h.are.read.widths covers h.rows
           (ap (take (length h.rows)) (sym session.rows_are) ∙ more-taken h.rows (h.row ∷ h.more)))
       by-line (inr (inl apart)) =
-<<<<<<< HEAD
-          from-apart text h.vectors h.rows (apart.reading ∷ []) h.text_is (h.rows ++ h.row ∷ h.more) (some-taken h.rows (h.row ∷ h.more) (apart.reading ∷ [])) apart refl
+          from-apart text h.vectors h.rows (apart.reading ∷ apart.read_behind) h.text_is (h.rows ++ h.row ∷ h.more) (some-taken h.rows (h.row ∷ h.more) (apart.reading ∷ apart.read_behind)) apart refl
       by-line (inr (inr lost)) =
           by-log text h.vectors h.rows (h.rows ++ h.row ∷ h.more) h.text_is (first-of h.vectors h.first) (sym (take_at h.rows (h.row ∷ h.more) (length h.rows) refl)) h.are lost
-=======
-          from-apart text h.vectors h.rows (apart.reading ∷ apart.read_behind) h.text_is (h.rows ++ h.row ∷ h.more) (some-taken h.rows (h.row ∷ h.more) (apart.reading ∷ apart.read_behind)) apart refl
-      by-line (inr (inr lost)) = record { driven = h.vectors; rows = h.rows; text_is = h.text_is; first = first-of h.vectors h.first; read = inr lost }
->>>>>>> rows/ready
   so-far text (refuses (refused.Vectors line kind)) h rose = from-read text h.0
   so-far text (refuses refused.Store) h rose = from-read text h.0
   so-far text (refuses refused.Rig) h rose =

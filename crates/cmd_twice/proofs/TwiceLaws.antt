@@ -1,9 +1,5 @@
 -- What the command `twice` does with its words, and what it comes to.
-<<<<<<< HEAD
-use Rattle.std.proofs.Common.{◌≡◌, ◌⊎◌, ℕ, Bool, List, [], ◌∷◌, ◌++◌, sym, subst, inl, inr}
-=======
-use Rattle.std.proofs.Common.{ℕ, Bool, List, sym}
->>>>>>> rows/ready
+use Rattle.std.proofs.Common.{◌≡◌, ◌⊎◌, ℕ, Bool, List, ◌∷◌, ◌++◌, sym, subst, inl, inr}
 use Rattle.machine_shape.specs.declared.Shape.{Shape}
 use Rattle.machine_meaning.specs.Vocabulary.{Covers, Faults}
 use Rattle.machine_defects.specs.Text.{text_of}
@@ -32,12 +28,8 @@ use Rattle.cmd_twice.proofs.Reading.{never-alarmed}
 
 -- copies that read alike don't differ
 never-apart : (told : Told) (i : ImageValue) (rig : RigState) (vectors rows : List (List Bool)) → ReadsAlike i rig → ReadsApart told i rig vectors rows → ⊥
-<<<<<<< HEAD
 never-apart told i rig vectors rows alike apart =
-    alike (vectors ++ apart.vector ∷ []) (all_repeated Two rows) [] apart.reading apart.session.config apart.session.drives (sym apart.session.rows_are) apart.halves
-=======
-never-apart told i rig vectors rows alike apart = alike (all_repeated Two rows) apart.read_behind apart.reading (sym apart.session.rows_are) apart.halves
->>>>>>> rows/ready
+    alike (vectors ++ apart.vector ∷ apart.behind) (all_repeated Two rows) apart.read_behind apart.reading apart.session.config apart.session.drives (sym apart.session.rows_are) apart.halves
 
 module _ (machine name design vectors : List ℕ) where
   abbrev pub words : Words
@@ -73,7 +65,7 @@ module _ (machine name design vectors : List ℕ) where
         has-room (inl room) l list same place none =
             never-both-refused l.list draft draft decided (room.room l.list list.shape list.kept same) place none
         has-room (inr parts) l list same place none =
-            both-certain sure networks draft draft checked checked m l.list parts.faults list.shape (list.right.tight parts.faults (inr parts.explain)) parts.standing place none
+            both-certain sure networks draft draft checked checked m l.list parts.faults list.shape (list.right.tight parts.faults parts.explained) parts.standing place none
 
         -- the copies read alike, as they do where some faults explain all that was read
         has-alike : HasRoomAlike m draft new.rig front ⊎ HasPartsForTwo new.rig m draft
@@ -83,8 +75,8 @@ module _ (machine name design vectors : List ℕ) where
         has-alike (inl room) l list same i laid vs rows apart =
             never-apart (old.store.contents vectors) i new.rig vs rows (room.alike l.list list.shape list.kept same i laid) apart
         has-alike (inr parts) l list same i laid vs rows apart =
-            let covers : (f : Faults) → Explains f new.rig → Covers l.list.shape l.list.list f = λ f e. subst (λ (s : Shape). Covers s l.list.list f) (sym list.shape) (list.right.covers f (inr e)) in
-            never-alarmed l.list draft i laid (vs ++ apart.vector ∷ []) new.rig apart.session.config apart.session.drives apart.widths covers (all_repeated Two rows) [] apart.reading (sym apart.session.rows_are) apart.halves parts.faults parts.explain
+            let covers : (f : Faults) → Explains f new.rig → Covers l.list.shape l.list.list f = λ f e. subst (λ (s : Shape). Covers s l.list.list f) (sym list.shape) (list.right.covers f e) in
+            never-alarmed l.list draft i laid (vs ++ apart.vector ∷ apart.behind) new.rig apart.session.config apart.session.drives apart.widths covers (all_repeated Two rows) apart.read_behind apart.reading (sym apart.session.rows_are) apart.halves parts.faults parts.explained
 
       fits : AreSure → AreNetworks → TwiceRight files new.rig front → IsRight words old (Fits words old new front)
       fits sure networks r =

@@ -99,7 +99,7 @@ pub record HasRoomAlike (m : Shape) (draft : NetlistData) (rig : RigState) (fron
 -- joint network of the plain network and itself has
 pub record HasPartsForTwo (rig : RigState) (m : Shape) (draft : NetlistData) : Type 0 where
   pub faults : Faults
-  pub explain : Explains faults rig
+  pub explained : Explains faults rig
   pub standing : HasStandingRoom m faults (joint_of draft draft)
 
 -- The one or the other

@@ -30,21 +30,18 @@ fn new_text<'a>(alloc: Global) -> TextReader<'a>
     }
 }
 
-/// Reads the lines of a text behind those that were read.
+/// Reads the lines of a text.
 #[tactic(auto, unfolding(crate::specs::Runs::run))]
-fn read_into<'a>(
-    alloc: Global,
-    bytes: &'a [u8],
-    text: &mut TextReader<'a>,
-) -> Result<(), DesignFault>
-    ensures { Gives (λ _. text_of text.new) result (run (text_of text.old) (logical_lines true bytes.now)) }
+fn read_lines<'a>(alloc: Global, bytes: &'a [u8]) -> Result<TextReader<'a>, DesignFault>
+    ensures { Gives text_of result (run text_start (logical_lines true bytes.now)) }
 {
     let mut lines = Lines::new(alloc, bytes, true);
+    let mut text = new_text(alloc);
     'lines: loop {
         match lines.next_line() {
-            Ok(None) => return Ok(()),
+            Ok(None) => return Ok(text),
             Ok(Some(line)) => {
-                if let Err(refusal) = take_line(alloc, text, &line) {
+                if let Err(refusal) = take_line(alloc, &mut text, &line) {
                     return Err(refusal.at(line.number()));
                 }
             }
@@ -56,17 +53,6 @@ fn read_into<'a>(
                 });
             }
         }
-    }
-}
-
-/// Reads the lines of a text.
-fn read_lines<'a>(alloc: Global, bytes: &'a [u8]) -> Result<TextReader<'a>, DesignFault>
-    ensures { Gives text_of result (run text_start (logical_lines true bytes.now)) }
-{
-    let mut text = new_text(alloc);
-    match read_into(alloc, bytes, &mut text) {
-        Ok(()) => Ok(text),
-        Err(fault) => Err(fault),
     }
 }
 

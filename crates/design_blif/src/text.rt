@@ -16,7 +16,7 @@ use crate::reader::{self, Reader};
 use base_lists::Items;
 use base_text::Line;
 use design_flatten::Model;
-use design_netlist::{DesignKind, Name};
+use design_netlist::DesignKind;
 use std::alloc::{AllocError, Global};
 use std::mem;
 
@@ -45,42 +45,29 @@ pub fn new_reader<'a>(alloc: Global) -> Reader<'a>
     }
 }
 
-/// The name of a model, and those of its signals and clocks.
-#[derive(Drop)]
-struct ModelTexts {
-    name: Vec<u8>,
-    names: Vec<Name>,
-    clocks: Vec<Name>,
-}
-
-fn texts_of(alloc: Global, name: &[u8], reader: &Reader<'_>) -> Result<ModelTexts, AllocError>
-    ensures name { IfOk result (λ texts. texts.name.items ≡ name.now) }
-    ensures names { IfOk result (λ texts. texts.names.items ≡ reader.now.names) }
-    ensures clocks { IfOk result (λ texts. texts.clocks.items ≡ map (λ w. w.now) reader.now.clocks.items) }
-{
-    let name = Vec::from_slice(alloc, name)?;
-    let names = reader.names.to_names(alloc)?;
-    let clocks = names::copies(alloc, &reader.clocks)?;
-    Ok(ModelTexts {
-        name,
-        names,
-        clocks,
-    })
-}
-
 /// The model that was read.
-fn model_of(alloc: Global, name: &[u8], mut reader: Reader) -> Result<Model, AllocError>
+fn model_of(alloc: Global, name: &[u8], reader: Reader) -> Result<Model, AllocError>
     ensures { IfOk result (λ m. m ≡ model_from name.now (state_of reader.entry)) }
 {
-    reader::close(&mut reader.pieces, &mut reader.current)?;
-    let texts = texts_of(alloc, name, &reader)?;
+    let Reader {
+        begun: _,
+        ended: _,
+        names,
+        inputs,
+        outputs,
+        clocks,
+        mut pieces,
+        mut current,
+        control: _,
+    } = reader;
+    reader::close(&mut pieces, &mut current)?;
     Ok(Model {
-        name: Items::new(texts.name),
-        names: Items::new(texts.names),
-        inputs: Items::new(reader.inputs),
-        outputs: Items::new(reader.outputs),
-        clocks: Items::new(texts.clocks),
-        pieces: Items::new(reader.pieces),
+        name: Items::new(Vec::from_slice(alloc, name)?),
+        names: Items::new(names.to_names(alloc)?),
+        inputs: Items::new(inputs),
+        outputs: Items::new(outputs),
+        clocks: Items::new(names::copies(alloc, &clocks)?),
+        pieces: Items::new(pieces),
     })
 }
 

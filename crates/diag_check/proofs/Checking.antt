@@ -76,11 +76,11 @@ loads_tables k i used tables before after numbered right are counts loads = reco
 pub parts_found : (k l : Kept) (i : ImageValue) (answer : Bool) → IsMore k l → KeepsRoutes k i → (IsTrue answer → KeepsTables l i) → IsTrue answer → KeepsParts l i
 parts_found k l i answer more routes tables e = record { routes = routes_stay more routes; tables = tables e }
 
-pub field_found : {told mid : Option Faults} {k l : Kept} {ss : List VerifiedWire} {i : ImageValue} {a : Field} {yes answer : Bool} → mid ≡ told → ((f : Faults) → told ≡ Some f → HoldsFor k f → HoldsFor l f) → RoutesIf told k l ss i a yes → TablesIf mid l ss i answer →
+pub field_found : {told : Option Faults} {k l : Kept} {ss : List VerifiedWire} {i : ImageValue} {a : Field} {yes answer : Bool} → ((f : Faults) → told ≡ Some f → HoldsFor k f → HoldsFor l f) → RoutesIf told k l ss i a yes → TablesIf told l ss i answer →
     FieldIf told k i a answer
-field_found same later routes tables = record {
-  at = λ f is holds unharmed sk. tables.at f (same ∙ is) (later f is holds) unharmed.parts (routes.at f is holds unharmed sk).1;
-  ways = λ f is holds stands around. tables.at f (same ∙ is) (later f is holds) stands.parts (routes.ways f is holds stands around).1;
+field_found later routes tables = record {
+  at = λ f is holds unharmed sk. tables.at f is (later f is holds) unharmed.parts (routes.at f is holds unharmed sk).1;
+  ways = λ f is holds stands around. tables.at f is (later f is holds) stands.parts (routes.ways f is holds stands around).1;
 }
 
 pub field_lost : {told : Option Faults} {k l : Kept} {ss : List VerifiedWire} {i : ImageValue} {a : Field} {yes : Bool} → yes ≡ false → RoutesIf told k l ss i a yes → FieldIf told k i a false
@@ -101,16 +101,16 @@ pub whole_always : {told : Option Faults} {k : Kept} {i : ImageValue} → WholeI
 whole_always = record { at = λ f is holds unharmed. refl; ways = λ f is holds stands. refl }
 
 -- The first field isn't enough: then the image isn't unharmed, and what stands by its surroundings is found in the second
-pub whole_then : {told mid far : Option Faults} {k l n : Kept} {i : ImageValue} {a b : Field} {found answer : Bool} → mid ≡ told → far ≡ told → ((f : Faults) → told ≡ Some f → HoldsFor k f → HoldsFor l f) → ((f : Faults) → told ≡ Some f → HoldsFor k f → HoldsFor n f) →
-    (IsWideEnough i.config.shape i → HasSkeleton i a) → AreSurroundings i b → found ≡ false → FieldIf mid l i a found → FieldIf far n i b answer → WholeIf told k i answer
-whole_then same_mid same_far later last skeleton around off first second = record {
-  at = λ f is holds unharmed. absurd (false≢true (sym off ∙ first.at f (same_mid ∙ is) (later f is holds) unharmed (skeleton unharmed.wide)));
-  ways = λ f is holds stands. second.ways f (same_far ∙ is) (last f is holds) stands around;
+pub whole_then : {told : Option Faults} {k l n : Kept} {i : ImageValue} {a b : Field} {found answer : Bool} → ((f : Faults) → told ≡ Some f → HoldsFor k f → HoldsFor l f) → ((f : Faults) → told ≡ Some f → HoldsFor k f → HoldsFor n f) →
+    (IsWideEnough i.config.shape i → HasSkeleton i a) → AreSurroundings i b → found ≡ false → FieldIf told l i a found → FieldIf told n i b answer → WholeIf told k i answer
+whole_then later last skeleton around off first second = record {
+  at = λ f is holds unharmed. absurd (false≢true (sym off ∙ first.at f is (later f is holds) unharmed (skeleton unharmed.wide)));
+  ways = λ f is holds stands. second.ways f is (last f is holds) stands around;
 }
 
-pub fewer_then : {told mid : Option Faults} {k l : Kept} {i : ImageValue} {a : Field} {found : Bool} {nodes used : List Bool} {before after : ℕ} → mid ≡ told → ((f : Faults) → told ≡ Some f → HoldsFor k f → HoldsFor l f) → (IsWideEnough i.config.shape i → HasSkeleton i a) → found ≡ false →
-    FieldIf mid l i a found → FewerIf told k i nodes used before after
-fewer_then same later skeleton off first = record { at = λ f is holds unharmed. absurd (false≢true (sym off ∙ first.at f (same ∙ is) (later f is holds) unharmed (skeleton unharmed.wide))) }
+pub fewer_then : {told : Option Faults} {k l : Kept} {i : ImageValue} {a : Field} {found : Bool} {nodes used : List Bool} {before after : ℕ} → ((f : Faults) → told ≡ Some f → HoldsFor k f → HoldsFor l f) → (IsWideEnough i.config.shape i → HasSkeleton i a) → found ≡ false →
+    FieldIf told l i a found → FewerIf told k i nodes used before after
+fewer_then later skeleton off first = record { at = λ f is holds unharmed. absurd (false≢true (sym off ∙ first.at f is (later f is holds) unharmed (skeleton unharmed.wide))) }
 
 pub fewer_one : {told : Option Faults} {k : Kept} {i : ImageValue} {nodes used : List Bool} {before after : ℕ} → TakesAtMost i nodes used before after → FewerIf told k i nodes used before after
 fewer_one takes = record { at = λ f is holds unharmed. takes }

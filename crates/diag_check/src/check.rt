@@ -4,18 +4,13 @@ ghost use Rattle.base_bits.specs.Numbers.{size_of};
 ghost use Rattle.base_io.specs.Counts.{Rose};
 ghost use Rattle.diag_evidence.specs.Kept.{Advances};
 ghost use Rattle.diag_known.specs.Vocabulary.{IsFieldOf, IsKnown};
-<<<<<<< HEAD
 ghost use Rattle.rig.specs.Rig.{ForEach, Narrows, Tells, shape_of};
 ghost use Rattle.machine_image.specs.Parts.{IsWideEnough};
 ghost use Rattle.diag_check.specs.Fields.{IsFewFor};
+ghost use Rattle.diag_check.specs.Near.{AreSurroundings};
 ghost use Rattle.diag_check.specs.Skeleton.{HasSkeleton};
-ghost use Rattle.diag_check.specs.Looks.{FieldIf, RoutesIf, TablesIf, TakesAtMost, TakesInField, WholeIf};
-ghost use Rattle.diag_check.specs.Soundly.{KeepsParts, KeepsRoutes, KeepsTables, SoundIf, TakesForParts, YesIf};
-=======
-ghost use Rattle.rig.specs.Rig.{ForEach, Narrows, shape_of};
 ghost use Rattle.diag_check.specs.Looks.{FewerIf, FieldIf, RoutesIf, TablesIf, TakesAround, TakesForTables, TakesInField, WholeIf};
 ghost use Rattle.diag_check.specs.Soundly.{FewIf, KeepsParts, KeepsRoutes, KeepsTables, SoundIf, TakesForWays, YesIf};
->>>>>>> laws/next_laws_all
 ghost use Rattle.diag_check.specs.Used.{AreInvolved, AreUsed};
 
 use crate::fields::field_of;
@@ -109,14 +104,8 @@ fn check_in(
     requires field { IsFieldOf facts.old.shape field.now }
     requires image { image.now.config.shape ≡ facts.old.shape }
     requires used { AreUsed image.now used.now }
-<<<<<<< HEAD
-    ensures known { IfOk result (λ found. IfNone found (IsKnown facts.new known.new)) }
-    ensures keeps { IfOk result (λ found. found ≡ Some true → KeepsParts facts.new image.now) }
-=======
     ensures known { IsKnown facts.new known.new }
     ensures keeps { IfOk result (λ yes. IsTrue yes → KeepsParts facts.new image.now) }
-    ensures whole { IfOk result (FieldIf (rig_state rig.old).machine.faults facts.old image.now field.now) }
->>>>>>> laws/next_laws_all
     ensures whole_each { IfOk result (λ yes. ForEach (rig_state rig.new) (λ told. FieldIf told facts.old image.now field.now yes)) }
     ensures advances { Advances (rig_state rig.old) (rig_state rig.new) facts.old facts.new }
     ensures loads { TakesInField image.now used.now field.now (rig_state rig.old).loads (rig_state rig.new).loads }
@@ -176,8 +165,8 @@ fn sweep_around(
     sweep(rig, facts, known, &mut bad, &field, config.tables_on())
 }
 
-<<<<<<< HEAD
-// The fields in which an image is tested: the wide one has a further port and line of each involved node.
+// The fields in which an image is tested: the narrow one has two ports and lines of each involved node, the wide one all that surrounds
+// the image.
 #[derive(Drop)]
 struct TestFields {
     narrow: Field,
@@ -191,15 +180,14 @@ fn fields_of(alloc: Global, image: &Image, parts: &Parts) -> Result<TestFields, 
     ensures narrow_whole { IsWideEnough image.now.config.shape image.now → IfOk result (λ f. HasSkeleton image.now f.narrow) }
     ensures narrow_few { IfOk result (λ f. IsFewFor image.now parts.now.nodes parts.now.used 2 f.narrow) }
     ensures wide { IfOk result (λ f. IsFieldOf image.now.config.shape f.wide) }
-    ensures wide_whole { IsWideEnough image.now.config.shape image.now → IfOk result (λ f. HasSkeleton image.now f.wide) }
-    ensures wide_few { IfOk result (λ f. IsFewFor image.now parts.now.nodes parts.now.used 3 f.wide) }
+    ensures wide_whole { IfOk result (λ f. AreSurroundings image.now f.wide) }
 {
     let narrow = field_of(alloc, image, parts, 2)?;
-    let wide = field_of(alloc, image, parts, 3)?;
+    let wide = surroundings_of(alloc, image, &parts.nodes)?;
     Ok(TestFields { narrow, wide })
 }
 
-// Sweeps around the image, and then tests it in the narrow field, and in the wide one where a wire or crosspoint of that is bad.
+// Sweeps around the image, and then tests it in the narrow field, and where that isn't enough in the wide one.
 fn check_over(
     rig: &mut Box<dyn Rig>,
     facts: &mut Facts,
@@ -217,12 +205,13 @@ fn check_over(
     requires narrow_whole { IsWideEnough image.now.config.shape image.now → HasSkeleton image.now fields.now.narrow }
     requires narrow_few { IsFewFor image.now parts.now.nodes parts.now.used 2 fields.now.narrow }
     requires wide { IsFieldOf image.now.config.shape fields.now.wide }
-    requires wide_whole { IsWideEnough image.now.config.shape image.now → HasSkeleton image.now fields.now.wide }
-    requires wide_few { IsFewFor image.now parts.now.nodes parts.now.used 3 fields.now.wide }
+    requires wide_whole { AreSurroundings image.now fields.now.wide }
     ensures keeps { IfOk result (λ yes. IsTrue yes → KeepsParts facts.new image.now) }
     ensures whole_each { IfOk result (λ yes. ForEach (rig_state rig.new) (λ told. WholeIf told facts.old image.now yes)) }
     ensures advances { Advances (rig_state rig.old) (rig_state rig.new) facts.old facts.new }
-    ensures loads { TakesAtMost image.now parts.now.nodes parts.now.used (rig_state rig.old).loads (rig_state rig.new).loads }
+    ensures loads { TakesAround image.now parts.now.nodes parts.now.used (rig_state rig.old).loads (rig_state rig.new).loads }
+    ensures few_each { ForEach (rig_state rig.new) (λ told. FewerIf told facts.old image.now parts.now.nodes parts.now.used
+        (rig_state rig.old).loads (rig_state rig.new).loads) }
     ensures cause { IsErrOf result RigFail.Failed → Rose (rig_state rig.old).failures (rig_state rig.new).failures }
 {
     tests_add_up();
@@ -231,15 +220,11 @@ fn check_over(
         Err(fail) => return Err(fail),
     }
     match check_in(rig, facts, known, &fields.narrow, image, &parts.used) {
-        Ok(Some(yes)) => return Ok(yes),
-        Ok(None) => {}
+        Ok(true) => return Ok(true),
+        Ok(false) => {}
         Err(fail) => return Err(fail),
     }
-    match check_in(rig, facts, known, &fields.wide, image, &parts.used) {
-        Ok(Some(yes)) => Ok(yes),
-        Ok(None) => Ok(false),
-        Err(fail) => Err(fail),
-    }
+    check_in(rig, facts, known, &fields.wide, image, &parts.used)
 }
 
 // The same, with no known wires at first.
@@ -259,12 +244,13 @@ fn check_in_both(
     requires narrow_whole { IsWideEnough image.now.config.shape image.now → HasSkeleton image.now fields.now.narrow }
     requires narrow_few { IsFewFor image.now parts.now.nodes parts.now.used 2 fields.now.narrow }
     requires wide { IsFieldOf image.now.config.shape fields.now.wide }
-    requires wide_whole { IsWideEnough image.now.config.shape image.now → HasSkeleton image.now fields.now.wide }
-    requires wide_few { IsFewFor image.now parts.now.nodes parts.now.used 3 fields.now.wide }
+    requires wide_whole { AreSurroundings image.now fields.now.wide }
     ensures keeps { IfOk result (λ yes. IsTrue yes → KeepsParts facts.new image.now) }
     ensures whole_each { IfOk result (λ yes. ForEach (rig_state rig.new) (λ told. WholeIf told facts.old image.now yes)) }
     ensures advances { Advances (rig_state rig.old) (rig_state rig.new) facts.old facts.new }
-    ensures loads { TakesAtMost image.now parts.now.nodes parts.now.used (rig_state rig.old).loads (rig_state rig.new).loads }
+    ensures loads { TakesAround image.now parts.now.nodes parts.now.used (rig_state rig.old).loads (rig_state rig.new).loads }
+    ensures few_each { ForEach (rig_state rig.new) (λ told. FewerIf told facts.old image.now parts.now.nodes parts.now.used
+        (rig_state rig.old).loads (rig_state rig.new).loads) }
     ensures cause { IsErrOf result RigFail.Failed → Rose (rig_state rig.old).failures (rig_state rig.new).failures }
 {
     tests_add_up();
@@ -275,10 +261,6 @@ fn check_in_both(
 }
 
 // Makes the fields of an image, and tests it in them.
-=======
-// Sweeps around the image, and then tests it in two fields: with two ports and lines of each node, and where that isn't enough, with
-// all that surrounds it.
->>>>>>> laws/next_laws_all
 fn check_with(
     alloc: Global,
     rig: &mut Box<dyn Rig>,
@@ -294,8 +276,6 @@ fn check_with(
     ensures whole_each { IfOk result (λ yes. ForEach (rig_state rig.new) (λ told. WholeIf told facts.old image.now yes)) }
     ensures advances { Advances (rig_state rig.old) (rig_state rig.new) facts.old facts.new }
     ensures loads { TakesAround image.now parts.now.nodes parts.now.used (rig_state rig.old).loads (rig_state rig.new).loads }
-    ensures few { FewerIf (rig_state rig.old).machine.faults facts.old image.now parts.now.nodes parts.now.used
-        (rig_state rig.old).loads (rig_state rig.new).loads }
     ensures few_each { ForEach (rig_state rig.new) (λ told. FewerIf told facts.old image.now parts.now.nodes parts.now.used
         (rig_state rig.old).loads (rig_state rig.new).loads) }
     ensures cause { IsErrOf result RigFail.Failed → Rose (rig_state rig.old).failures (rig_state rig.new).failures }
@@ -304,42 +284,16 @@ fn check_with(
     let Ok(fields) = fields_of(alloc, image, parts) else {
         return Err(RigFail::Memory);
     };
-<<<<<<< HEAD
     check_in_both(alloc, rig, facts, image, parts, &fields)
 }
 
 /// Whether an image still runs on the attached machine as on one without faults. Each part of it is tested over routes of the
-/// test's own, with at most 256 loads for each part and each involved node, whatever the answer. `true` means that each set of faults
-/// that explains all that was read of the machine leaves the image alone, so that it runs as without faults. `false` may be wrong, but
-/// not where under one of these the machine is wide enough for the image and its parts and surroundings are sound, as all are without
-/// faults: a fault that is far from the image doesn't matter. Faults that the rig tells explain what was read, if they did before.
-=======
-    let Ok(wide) = surroundings_of(alloc, image, &parts.nodes) else {
-        return Err(RigFail::Memory);
-    };
-    let Ok(mut known) = Known::new(alloc, &facts.shape()) else {
-        return Err(RigFail::Memory);
-    };
-    match sweep_around(alloc, rig, facts, &mut known, image, parts) {
-        Ok(()) => {}
-        Err(fail) => return Err(fail),
-    }
-    match check_in(rig, facts, &mut known, &narrow, image, &parts.used) {
-        Ok(true) => return Ok(true),
-        Ok(false) => {}
-        Err(fail) => return Err(fail),
-    }
-    check_in(rig, facts, &mut known, &wide, image, &parts.used)
-}
-
-/// Whether an image still runs on the attached machine as on one without faults. Each part of it is tested over routes of the
-/// test's own. `true` means so under each set of faults that explains all that was read of the machine, and under those that the rig
-/// tells. `false` may be wrong, but not where under one of these the image stands by its surroundings: a fault that is far from the
-/// image doesn't matter, nor does a bad pin, line or port beside it as long as two good ways are left. Nor is it `false` where the
-/// machine is wide enough for the image and its parts and surroundings are sound, as all are without faults: then it takes at most
-/// 256 loads for each part and each involved node. Otherwise 8 for each crosspoint and 3 for each wire of the surroundings come
-/// besides, whatever the answer.
->>>>>>> laws/next_laws_all
+/// test's own. `true` means that each set of faults that explains all that was read of the machine leaves the image alone, so that it
+/// runs as without faults. `false` may be wrong, but not where under one of these sets the image stands by its surroundings: a fault
+/// that is far from the image doesn't matter, nor does a bad pin, line or port beside it as long as two good ways are left. Nor is it
+/// `false` where the machine is wide enough for the image and its parts and surroundings are sound, as all are without faults: then it
+/// takes at most 256 loads for each part and each involved node. Otherwise 8 for each crosspoint and 3 for each wire of the
+/// surroundings come besides, whatever the answer. Faults that the rig tells explain what was read, if they did before.
 ///
 /// # Errors
 ///
@@ -360,7 +314,6 @@ pub fn quick_check(
     ensures later { (rig_state rig.old).failures ≤ (rig_state rig.new).failures }
     ensures counted { (rig_state rig.old).loads ≤ (rig_state rig.new).loads }
     ensures loads { TakesForWays image.now (rig_state rig.old).loads (rig_state rig.new).loads }
-    ensures few { FewIf (rig_state rig.old).machine.faults image.now (rig_state rig.old).loads (rig_state rig.new).loads }
     ensures few_each { ForEach (rig_state rig.new) (λ told. FewIf told image.now (rig_state rig.old).loads (rig_state rig.new).loads) }
     ensures cause { IsErrOf result RigFail.Failed → Rose (rig_state rig.old).failures (rig_state rig.new).failures }
 {

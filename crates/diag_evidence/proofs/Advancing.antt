@@ -24,9 +24,8 @@ different_bits false true e = λ d. cc
 
 -- a gain of what is true
 pub advances_by : {old new : RigState} {k l : Kept} (gain : Gain) → new.machine ≡ old.machine → old.failures ≤ new.failures → old.loads ≤ new.loads → FewCycles old new → Gains gain k l → Narrows old new → Tells old new →
-    ((f : Faults) → old.machine.faults ≡ Some f → HoldsFor k f → GainHoldsFor k.shape gain f) →
     ((f : Faults) → Explains f new → HoldsFor k f → GainHoldsFor k.shape gain f) → Advances old new k l
-advances_by {k = k} {l = l} gain same later counted few gains narrows tells true_ each = record {
+advances_by {k = k} {l = l} gain same later counted few gains narrows tells each = record {
   machine = same;
   later = later;
   counted = counted;
@@ -34,7 +33,6 @@ advances_by {k = k} {l = l} gain same later counted few gains narrows tells true
   more = more_by_gain gain k l gains;
   narrows = narrows;
   tells = tells;
-  holds = λ f told h. holds_by_gain gain k l f gains h (true_ f told h);
   explained = λ f e h. holds_by_gain gain k l f gains h (each f e h);
 }
 

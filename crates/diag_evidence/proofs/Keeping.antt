@@ -20,7 +20,7 @@ more_then p q = record {
 }
 
 pub advances_itself : (s : RigState) (k : Kept) → Advances s s k k
-advances_itself s k = record { machine = refl; later = omega arith; counted = omega arith; few = λ n k h. h; more = more_itself k; narrows = λ f e. e; tells = λ t. t; holds = λ f told h. h; explained = λ f e h. h }
+advances_itself s k = record { machine = refl; later = omega arith; counted = omega arith; few = λ n k h. h; more = more_itself k; narrows = λ f e. e; tells = λ t. t; explained = λ f e h. h }
 
 pub advances_then : {a b c : RigState} {k l n : Kept} → Advances a b k l → Advances b c l n → Advances a c k n
 advances_then p q = record {
@@ -31,7 +31,6 @@ advances_then p q = record {
   more = more_then p.more q.more;
   narrows = λ f e. p.narrows f (q.narrows f e);
   tells = λ t. q.tells (p.tells t);
-  holds = λ f told h. q.holds f (ap (λ m. m.faults) p.machine ∙ told) (p.holds f told h);
   explained = λ f e h. q.explained f e (p.explained f (q.narrows f e) h);
 }
 

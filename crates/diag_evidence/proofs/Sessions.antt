@@ -1,5 +1,5 @@
 -- The readings of a session.
-use Rattle.std.proofs.Common.{◌≡◌, ℕ, Bool, true, Some, None, Option, List, [], ◌∷◌, ◌++◌, get_or, ap, ◌∙◌, subst, arith, Result, Ok, Err, OnOk, IfSome, unwrap_or, slice_get}
+use Rattle.std.proofs.Common.{◌≡◌, ℕ, Bool, true, Some, List, [], ◌∷◌, ◌++◌, get_or, ap, ◌∙◌, subst, arith, Result, Ok, Err, OnOk, slice_get}
 use Rattle.std.proofs.lemmas.Option.{gets}
 use Rattle.machine_meaning.specs.Vocabulary.{Pins, Faults}
 use Rattle.machine_config.specs.Vocabulary.{Configuration, IsRun}
@@ -8,20 +8,6 @@ use Rattle.diag_evidence.specs.Looks.{ReadsEach}
 use Rattle.rig.specs.Rig.{RigState, Exchange, Begins, GoesOn, GoesOnBy, Explains, ForEach, config_of, cycles_of, drives_of, readings_of}
 use Rattle.rig.proofs.Narrowing.{session_run}
 use Rattle.diag_evidence.proofs.Keeping.{of_told}
-
-if_some : {T : Type 0} (P : T → Type 0) (o : Option T) (x : T) → o ≡ Some x → IfSome o P → P x
-if_some P None x e p = cc
-if_some P (Some y) x e p = subst P (ap (λ o. unwrap_or o x) e) p
-
--- two cycles after a load
-pub two_cycles : (told : Option Faults) (b c d : RigState) (g : Configuration) (room : ℕ) (low high r q : Pins) → Begins g room b → GoesOn low r b c → GoesOn high q c d → d.machine.faults ≡ told →
-    (f : Faults) → told ≡ Some f → IsRun f g (low ∷ high ∷ []) (r ∷ q ∷ [])
-two_cycles told b c d g room low high r q begins one two same f is =
-    subst (λ (cs : List Exchange). IsRun f g (drives_of cs) (readings_of cs)) cycles
-    (if_some _ (config_of d) g (two.config ∙ one.config ∙ begins.config) (if_some _ d.machine.faults f (same ∙ is) two.told))
-  where
-    cycles : cycles_of d ≡ record { drive = low; reading = r } ∷ record { drive = high; reading = q } ∷ []
-    cycles = two.cycles ∙ ap (λ (cs : List Exchange). cs ++ record { drive = high; reading = q } ∷ []) (one.cycles ∙ ap (λ (cs : List Exchange). cs ++ record { drive = low; reading = r } ∷ []) begins.cycles)
 
 -- the cycles of the session that stands are the run of all faults that explain the log
 runs_of : (f : Faults) (d : RigState) (g : Configuration) (cycles : List Exchange) → config_of d ≡ Some g → cycles_of d ≡ cycles → Explains f d → IsRun f g (drives_of cycles) (readings_of cycles)

@@ -1,5 +1,5 @@
 -- What a test of hangs leaves.
-use Rattle.std.proofs.Common.{◌≡◌, ◌≤◌, ◌+◌, ℕ, Bool, true, false, Some, Option, List, All, refl, sym, subst, ◌∙◌, map}
+use Rattle.std.proofs.Common.{◌≡◌, ◌≤◌, ◌+◌, ℕ, Bool, true, false, Some, Option, List, All, refl, subst, ◌∙◌, map}
 use Rattle.std.proofs.lemmas.List.Elements.{All-map}
 use Rattle.machine_meaning.specs.Faults.{Faults}
 use Rattle.machine_meaning.specs.Circuit.{Pins}
@@ -18,6 +18,30 @@ look_over {told} trees {rows = rows} same look = subst (λ (fs : List Foot). IsL
 
 pub are_hung : {trees : Trees} {hs : List WireTest} → AreHangs trees hs → AreHung trees hs
 are_hung h = record { over = h.over; other = h.other; wires = h.wires }
+
+-- what is learnt unmarks nothing, and what was kept stays so
+module _ {trees : Trees} {hs : List WireTest} {views : Views} {k l : Kept} {was is were are : List Bool} (learnt : HasLearnt trees hs views k l was is were are) where
+  pub stay_unfit : StayMarked was is
+  stay_unfit w on = still_unfit learnt.second_marks w (still_unfit learnt.first_marks w on)
+
+  pub stay_unclear : StayMarked were are
+  stay_unclear w on = still_unclear learnt.second_marks w (still_unclear learnt.first_marks w on)
+
+  pub learnt_more : IsMore k l
+  learnt_more = more_then (more_by_gain _ k learnt.mid learnt.first) (more_by_gain _ learnt.mid l learnt.second)
+
+  pub learnt_advances : {old new : RigState} → new.machine ≡ old.machine → old.failures ≤ new.failures → old.loads ≤ new.loads → FewCycles old new → Narrows old new → Tells old new
+      → ((f : Faults) → Explains f new → HoldsFor k f → HoldsFor l f) → Advances old new k l
+  learnt_advances machine later counted few narrows tells explained = record {
+    machine = machine;
+    later = later;
+    counted = counted;
+    few = few;
+    more = learnt_more;
+    narrows = narrows;
+    tells = tells;
+    explained = explained;
+  }
 
 module _ (told : Option Faults) (trees : Trees) (hs : List WireTest) (views : Views) (yes : Bool) (viewed : HasViewed told trees hs views yes) (k l : Kept) where
   pub tried_silent : {before after : ℕ} (was were : List Bool) → yes ≡ false → after ≤ before + 1 → l ≡ k → HasTried told trees hs before after k l was was were were
@@ -39,15 +63,6 @@ module _ (told : Option Faults) (trees : Trees) (hs : List WireTest) (views : Vi
       second_marks = learnt.second_marks;
     })
 
-    pub stay_unfit : StayMarked was is
-    stay_unfit w on = still_unfit learnt.second_marks w (still_unfit learnt.first_marks w on)
-
-    pub stay_unclear : StayMarked were are
-    stay_unclear w on = still_unclear learnt.second_marks w (still_unclear learnt.first_marks w on)
-
-    more : IsMore k l
-    more = more_then (more_by_gain _ k learnt.mid learnt.first) (more_by_gain _ learnt.mid l learnt.second)
-
     module _ (forest : IsForest trees) (knows : KnowsForest k trees) (hung : AreHung trees hs) where
       other_feet : All (IsFoot trees) (others hs)
       other_feet = overs_feet (map turned hs) (hung_turned hung).over
@@ -63,25 +78,11 @@ module _ (told : Option Faults) (trees : Trees) (hs : List WireTest) (views : Vi
           (unclear_new told k trees (overs hs) views.without_other.rows forest knows (overs_feet hs hung.over) (overs_once hung) (viewed.without_other is_yes) learnt.second_marks)
 
       pub unfit_hung : (known : ℕ → Bool) → AreAllOf trees known → UnfitIf told k known was → UnfitIf told l known is
-      unfit_hung known all before = unfit_later told k l known is more (unfit_all told k trees was is newly_unfit known all before)
+      unfit_hung known all before = unfit_later told k l known is (learnt_more learnt) (unfit_all told k trees was is newly_unfit known all before)
 
       pub unclear_hung : UnclearIf told k were → UnclearIf told l are
-      unclear_hung before = unclear_later told k l are more (unclear_all told k were are newly_unclear before)
+      unclear_hung before = unclear_later told k l are (learnt_more learnt) (unclear_all told k were are newly_unclear before)
 
       pub tried_holds : (f : Faults) → told ≡ Some f → HoldsFor k f → HoldsFor l f
       tried_holds = hung_holds k trees hs views.all.rows views.without_over.rows views.without_other.rows forest knows.keeps hung viewed.all (viewed.without_over is_yes) (viewed.without_other is_yes)
           learnt.mid l learnt.first learnt.second
-
-      pub tried_advances : {old new : RigState} → old.machine.faults ≡ told → new.machine ≡ old.machine → old.failures ≤ new.failures → old.loads ≤ new.loads → FewCycles old new → Narrows old new → Tells old new
-          → ((f : Faults) → Explains f new → HoldsFor k f → HoldsFor l f) → Advances old new k l
-      tried_advances same machine later counted few narrows tells explained = record {
-        machine = machine;
-        later = later;
-        counted = counted;
-        few = few;
-        more = more;
-        narrows = narrows;
-        tells = tells;
-        holds = λ f e holds. tried_holds f (sym same ∙ e) holds;
-        explained = explained;
-      }

@@ -137,8 +137,7 @@ TakesFewCycles old new = new.loads + 1 < 2 ^ 64 →
 
 -- What calls that test a machine leave: the machine as it was, counts of failures and loads that didn't fall, few cycles for each
 -- load, and all that was kept. What explains the log after them explained it before, and told faults explain it if they did before.
--- Where what was kept is true of faults that are told, or that explain the log after the calls, nothing is kept that isn't true of
--- them.
+-- Where what was kept is true of faults that explain the log after the calls, nothing is kept that isn't true of them.
 pub record Advances (old new : RigState) (k l : Kept) : Type 0 where
   pub machine : new.machine ≡ old.machine
   pub later : old.failures ≤ new.failures
@@ -147,7 +146,6 @@ pub record Advances (old new : RigState) (k l : Kept) : Type 0 where
   pub more : IsMore k l
   pub narrows : Narrows old new
   pub tells : Tells old new
-  pub holds : (f : Faults) → old.machine.faults ≡ Some f → HoldsFor k f → HoldsFor l f
   pub explained : (f : Faults) → Explains f new → HoldsFor k f → HoldsFor l f
 
 -- there is a mark for each number of the shape

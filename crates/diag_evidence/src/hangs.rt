@@ -213,7 +213,6 @@ impl Facts {
         requires views { AreViews (pins_of self.old.shape) views.old }
         ensures same { self.new ≡ self.old }
         ensures views { AreViews (pins_of self.old.shape) views.new }
-        ensures viewed { IfOk result (HasViewed (rig_state rig.old).machine.faults forest.now hangs.now views.new) }
         ensures viewed_each { IfOk result (λ yes. ForEach (rig_state rig.new) (λ told. HasViewed told forest.now hangs.now views.new yes)) }
         ensures loads { LoadsUpTo 3 result (rig_state rig.old) (rig_state rig.new) }
         ensures few { FewCycles (rig_state rig.old) (rig_state rig.new) }
@@ -312,21 +311,12 @@ impl Facts {
         requires unfit { length unfit.old ≡ wires_of self.old.shape }
         requires unclear { length unclear.old ≡ wires_of self.old.shape }
 
-        ensures tried { OnOk result (HasTried (rig_state rig.old).machine.faults forest.now hangs.now (rig_state rig.old).loads
-            (rig_state rig.new).loads self.old self.new unfit.old unfit.new unclear.old unclear.new) }
         ensures tried_each { OnOk result (ForEach (rig_state rig.new) (λ told. HasTried told forest.now hangs.now (rig_state
             rig.old).loads (rig_state rig.new).loads self.old self.new unfit.old unfit.new unclear.old unclear.new)) }
-        ensures newly { OnOk result (MarksUnfit (rig_state rig.old).machine.faults self.old forest.now unfit.old unfit.new) }
         ensures newly_each { OnOk result (ForEach (rig_state rig.new) (λ told. MarksUnfit told self.old forest.now unfit.old unfit.new)) }
-        ensures newly_too { OnOk result (MarksUnclear (rig_state rig.old).machine.faults self.old unclear.old unclear.new) }
         ensures newly_too_each { OnOk result (ForEach (rig_state rig.new) (λ told. MarksUnclear told self.old unclear.old unclear.new)) }
-        ensures unfit { (known : ℕ → Bool) → AreAllOf forest.now known →
-            UnfitIf (rig_state rig.old).machine.faults self.old known unfit.old →
-            UnfitIf (rig_state rig.old).machine.faults self.new known unfit.new }
         ensures unfit_each { ForEach (rig_state rig.new) (λ told. (known : ℕ → Bool) → AreAllOf forest.now known → UnfitIf told self.old
             known unfit.old → UnfitIf told self.new known unfit.new) }
-        ensures unclear { UnclearIf (rig_state rig.old).machine.faults self.old unclear.old →
-            UnclearIf (rig_state rig.old).machine.faults self.new unclear.new }
         ensures unclear_each { ForEach (rig_state rig.new) (λ told. UnclearIf told self.old unclear.old → UnclearIf told self.new
             unclear.new) }
         ensures stay { StayMarked unfit.old unfit.new }

@@ -113,16 +113,11 @@ impl Facts {
         requires stuck { length stuck.old ≡ crosses_of self.old.shape }
         requires paths { IsPathTest self.old config.now.config drive.now leads.now }
 
-        ensures led { OnOk result (HasLed (rig_state rig.old).machine.faults config.now.config drive.now leads.now self.old self.new
-            stuck.old stuck.new) }
         ensures led_each { OnOk result (ForEach (rig_state rig.new) (λ told. HasLed told config.now.config drive.now leads.now self.old
             self.new stuck.old stuck.new)) }
         ensures logged { OnOk result (ShowsLed config.now.config drive.now leads.now (rig_state rig.old) (rig_state rig.new) self.old
             self.new stuck.old stuck.new) }
-        ensures newly { OnOk result (MarksStuck (rig_state rig.old).machine.faults self.old stuck.old stuck.new) }
         ensures newly_each { OnOk result (ForEach (rig_state rig.new) (λ told. MarksStuck told self.old stuck.old stuck.new)) }
-        ensures stuck { StuckIf (rig_state rig.old).machine.faults self.old stuck.old → StuckIf (rig_state rig.old).machine.faults
-            self.new stuck.new }
         ensures stuck_each { ForEach (rig_state rig.new) (λ told. StuckIf told self.old stuck.old → StuckIf told self.new stuck.new) }
         ensures marks { length stuck.new ≡ length stuck.old }
         ensures refused { OnErr result (self.new ≡ self.old) }

@@ -5,30 +5,31 @@
 //! is joined to no stuck wire, and two pins that read different values at one time aren't joined.
 //!
 //! Promised: each test answers true exactly where the two readings that it takes differ (`all_apart`: where the one pin reads
-//! otherwise than each of the others), and then alone keeps its fact, and no other (`exact`, `gains`, `same`, `refused`). What
-//! was kept stays kept, and where the rig tells its faults, what is kept stays true of them, whatever other faults there are;
-//! configurations and the attached machine are left as they were, and the number of loads never falls (`advances`). A toggle
-//! loads at most twice, `test_stuck`, `apart` and `all_apart` once (`loads`); `Failed` comes only where the rig's count rose
-//! (`cause`), and after `Memory` no session stands whose readings aren't all made (`wanting`). Each test is bound to answer true
-//! where its wires are as they should be (`passes`; by lists: `laws`). No other crate can add a fact.
+//! otherwise than each of the others), and then alone keeps its fact, and no other (`exact_each`, `gains`, `same`, `refused`). What
+//! was kept stays kept, and what is kept stays true of the faults, whatever other ones there are; configurations and the attached
+//! machine are left as they were, and the number of loads never falls (`advances`). A toggle loads at most twice, `test_stuck`,
+//! `apart` and `all_apart` once (`loads`); `Failed` comes only where the rig's count rose (`cause`), and after `Memory` no session
+//! stands whose readings aren't all made (`wanting`). Each test is bound to answer true where its wires are as they should be
+//! (`passes_each`; by lists: `laws`). No other crate can add a fact.
 //!
-//! What a clause says of told faults, the clause beside it whose name ends in `_each` says of each set of faults that explains the
-//! log after the call; no rig has to tell any. The six tests say besides which sessions they add to the log, and that their answers
-//! are by the readings of these (`logged`). What explains the log after a test explained it before (`narrows` of `advances`).
+//! What is said of faults is said of each set of them that explains the log after the call; no rig has to tell any. What explains
+//! the log after a test explained it before (`narrows` of `advances`), and where a rig tells a set that did, it still does (`tells`).
+//! The six tests say besides which sessions they add to the log, and that their answers are by the readings of these (`logged`).
 //!
 //! `test_paths` reads once while walks from pins to pins are closed, many of them: the crosspoints of those that lead are kept, and of
-//! one that doesn't the only crosspoint that isn't kept is marked (`led`). Where the faults are told, marks stay true (`stuck`).
+//! one that doesn't the only crosspoint that isn't kept is marked (`led_each`). Marks stay true of the faults (`stuck_each`).
 //! What it misses the six tests decide, so nothing says that it passes.
 //!
 //! The other bulk tests take looks: loads in which first nothing is driven, and then one pin after the other alone. A forest hangs wires
 //! on pins of the machine, over crosspoints that are kept. `look_each` looks at a forest: wires that hang on pins that swing are kept,
-//! and pairs of those on pins that part (`seen`). `test_wires` hangs further wires on it, over two crosspoints each that aren't known, and
-//! looks at both and at either alone: a crosspoint is kept where its pin changes without it and no other can be felt there, the wire and
-//! its pairs by what the pin of the other one reads (`tried`). A wire that makes a pin read oddly isn't fit, and is marked; `screen_wires`
-//! marks the same by one look (`told`). Where the faults are told, what is kept stays true and so do marks (`advances`, `unfit`, `unclear`).
+//! and pairs of those on pins that part (`seen_each`). `test_wires` hangs further wires on it, over two crosspoints each that aren't
+//! known, and looks at both and at either alone: a crosspoint is kept where its pin changes without it and no other can be felt there,
+//! the wire and its pairs by what the pin of the other one reads (`tried_each`). A wire that makes a pin read oddly isn't fit, and is
+//! marked; `screen_wires` marks the same by one look (`told_each`). What is kept stays true of the faults and so do marks (`advances`,
+//! `unfit_each`, `unclear_each`).
 //! `tables_each` reads many tables that hang in a forest through all addresses, in two loads, the second with all bits turned: of each
-//! just the parts that read rightly in both are kept, and just those tables are marked that don't in some cycle (`tabled`). Where the
-//! faults are told, a marked table has a wrong cell or a stuck register (`wrong`).
+//! just the parts that read rightly in both are kept, and just those tables are marked that don't in some cycle (`tabled_each`). Under
+//! the faults a marked table has a wrong cell or a stuck register (`wrong_each`).
 #![tactic(auto)]
 
 mod again;

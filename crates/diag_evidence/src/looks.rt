@@ -180,8 +180,6 @@ impl Looks {
         ensures made { cycles_made (rig_state rig.new) ≤ cycles_made (rig_state rig.old) + (self.old.pins + 1) }
         ensures wanting { IsErrOf result RigFail.Memory → (rig_state rig.new).session ≡ None }
         ensures session { OnOk result (HasCycled config.now.config (look_drives self.old.pins) (rig_state rig.new)) }
-        ensures run { OnOk result (ReadsEach (rig_state rig.old).machine.faults config.now.config (look_drives self.old.pins)
-            self.new.rows) }
         ensures run_each { OnOk result (ForEach (rig_state rig.new) (λ told. ReadsEach told config.now.config (look_drives self.old.pins)
             self.new.rows)) }
         ensures logged { OnOk result (LogsRows config.now.config (look_drives self.old.pins) self.new.rows (rig_state rig.old)

@@ -45,7 +45,6 @@ fn read_once(
     ensures made { cycles_made (rig_state rig.new) ≤ cycles_made (rig_state rig.old) + 1 }
     ensures wanting { IsErrOf result RigFail.Memory → (rig_state rig.new).session ≡ None }
     ensures session { OnOk result (HasCycled config.now.config (drive.now ∷ []) (rig_state rig.new)) }
-    ensures run { OnOk result (ReadsOnce (rig_state rig.old).machine.faults config.now.config drive.now read.new) }
     ensures run_each { OnOk result (ForEach (rig_state rig.new) (λ told. ReadsOnce told config.now.config drive.now read.new)) }
     ensures logged { OnOk result (HasLogged (one_cycle config.now.config drive.now read.new ∷ []) (rig_state rig.old) (rig_state rig.new)) }
     ensures length { length read.new ≡ length read.old }
@@ -74,7 +73,6 @@ pub(crate) fn read_rows(
     ensures wanting { IsErrOf result RigFail.Memory → (rig_state rig.new).session ≡ None }
     ensures lengths { KeepLengths rows.old rows.new }
     ensures session { OnOk result (HasCycled config.now.config drives.now (rig_state rig.new)) }
-    ensures run { OnOk result (ReadsEach (rig_state rig.old).machine.faults config.now.config drives.now rows.new) }
     ensures run_each { OnOk result (ForEach (rig_state rig.new) (λ told. ReadsEach told config.now.config drives.now rows.new)) }
     ensures logged { OnOk result (LogsRows config.now.config drives.now rows.new (rig_state rig.old) (rig_state rig.new)) }
 {
@@ -99,7 +97,6 @@ pub(crate) fn read_all(
     ensures wanting { IsErrOf result RigFail.Memory → WantsBefore (rig_state rig.old) (rig_state rig.new) }
     ensures session { OnOk result (HasCycled config.now.config (drive.now ∷ []) (rig_state rig.new)) }
     ensures length { IfOk result (λ read. length read ≡ pins_of config.now.config.shape) }
-    ensures reads { IfOk result (λ read. ReadsOnce (rig_state rig.old).machine.faults config.now.config drive.now read) }
     ensures reads_each { IfOk result (λ read. ForEach (rig_state rig.new) (λ told. ReadsOnce told config.now.config drive.now read)) }
     ensures logged { IfOk result (λ read. HasLogged (one_cycle config.now.config drive.now read ∷ [])
         (rig_state rig.old) (rig_state rig.new)) }
@@ -144,7 +141,6 @@ pub(crate) fn read_pin(
     ensures made { cycles_made (rig_state rig.new) ≤ cycles_made (rig_state rig.old) + 1 }
     ensures wanting { IsErrOf result RigFail.Memory → (rig_state rig.new).session ≡ None }
     ensures session { OnOk result (HasCycled config.now.config (drive.now ∷ []) (rig_state rig.new)) }
-    ensures reads { IfOk result (λ bit. Reads (rig_state rig.old).machine.faults config.now.config drive.now at bit) }
     ensures reads_each { IfOk result (λ bit. ForEach (rig_state rig.new) (λ told. Reads told config.now.config drive.now at bit)) }
     ensures logged { IfOk result (LogsBit config.now.config drive.now at (rig_state rig.old) (rig_state rig.new)) }
     ensures length { length read.new ≡ length read.old }
@@ -173,8 +169,6 @@ pub(crate) fn read_pins(
     ensures made { cycles_made (rig_state rig.new) ≤ cycles_made (rig_state rig.old) + 1 }
     ensures wanting { IsErrOf result RigFail.Memory → WantsBefore (rig_state rig.old) (rig_state rig.new) }
     ensures session { OnOk result (HasCycled config.now.config (drive.now ∷ []) (rig_state rig.new)) }
-    ensures reads { IfOk result (λ bits. ReadsPins
-        (rig_state rig.old).machine.faults config.now.config drive.now first second bits.0 bits.1) }
     ensures reads_each { IfOk result (λ bits. ForEach (rig_state rig.new) (λ told. ReadsPins told config.now.config drive.now first second
         bits.0 bits.1)) }
     ensures logged { IfOk result (λ bits. LogsBits config.now.config drive.now first second
@@ -209,8 +203,6 @@ pub(crate) fn read_twice(
     ensures made { cycles_made (rig_state rig.new) ≤ cycles_made (rig_state rig.old) + 2 }
     ensures wanting { IsErrOf result RigFail.Memory → WantsBefore (rig_state rig.old) (rig_state rig.new) }
     ensures session { OnOk result (HasCycled config.now.config (low.now ∷ high.now ∷ []) (rig_state rig.new)) }
-    ensures reads { IfOk result (λ bits. ReadsTwice
-        (rig_state rig.old).machine.faults config.now.config low.now high.now at bits.0 bits.1) }
     ensures reads_each { IfOk result (λ bits. ForEach (rig_state rig.new) (λ told. ReadsTwice told config.now.config low.now high.now at
         bits.0 bits.1)) }
     ensures logged { IfOk result (λ bits. LogsTwice config.now.config low.now high.now at

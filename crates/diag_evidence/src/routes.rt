@@ -36,10 +36,10 @@ impl Facts {
         requires high { length high.now ≡ pins_of self.old.shape }
         requires ready { IsReady self.old config.now.config route.now }
 
-        ensures exact { IfOk result (TellsSwing (rig_state rig.old).machine.faults config.now.config low.now high.now route.now.pin) }
+        ensures exact_each { IfOk result (λ yes. ForEach (rig_state rig.new) (λ told. TellsSwing told config.now.config low.now high.now
+            route.now.pin yes)) }
         ensures logged { IfOk result (ShowsSwing config.now.config low.now high.now route.now.pin
             (rig_state rig.old) (rig_state rig.new)) }
-        ensures passes { IfOk result (SwingPasses (rig_state rig.old).machine.faults config.now.config low.now high.now route.now.pin) }
         ensures passes_each { IfOk result (λ yes. ForEach (rig_state rig.new) (λ told. SwingPasses told config.now.config low.now high.now
             route.now.pin yes)) }
         ensures gains { IfOk result (λ yes. IsTrue yes → Gains (these_wires route.now.wires) self.old self.new) }
@@ -81,11 +81,10 @@ impl Facts {
         requires right { IsReady self.old config.now.config right.now }
         requires disjoint { (w : ℕ) → among left.now.wires w ≡ true → among right.now.wires w ≡ false }
 
-        ensures exact { IfOk result (TellsPins (rig_state rig.old).machine.faults config.now.config drive.now left.now.pin right.now.pin) }
+        ensures exact_each { IfOk result (λ yes. ForEach (rig_state rig.new) (λ told. TellsPins told config.now.config drive.now
+            left.now.pin right.now.pin yes)) }
         ensures logged { IfOk result (ShowsPins config.now.config drive.now left.now.pin right.now.pin
             (rig_state rig.old) (rig_state rig.new)) }
-        ensures passes { IfOk result
-            (ApartPasses (rig_state rig.old).machine.faults config.now.config drive.now left.now.pin right.now.pin) }
         ensures passes_each { IfOk result (λ yes. ForEach (rig_state rig.new) (λ told. ApartPasses told config.now.config drive.now
             left.now.pin right.now.pin yes)) }
         ensures gains { IfOk result (λ yes. IsTrue yes → Gains (these_pairs left.now.wires right.now.wires) self.old self.new) }
@@ -126,10 +125,10 @@ impl Facts {
         requires rights { All (IsReady self.old config.now.config) rights.now }
         requires disjoint { (w : ℕ) → among left.now.wires w ≡ true → among (wires_over rights.now) w ≡ false }
 
-        ensures exact { IfOk result (TellsFromAll (rig_state rig.old).machine.faults config.now.config drive.now left.now rights.now) }
+        ensures exact_each { IfOk result (λ yes. ForEach (rig_state rig.new) (λ told. TellsFromAll told config.now.config drive.now
+            left.now rights.now yes)) }
         ensures logged { IfOk result (ShowsFromAll config.now.config drive.now left.now rights.now
             (rig_state rig.old) (rig_state rig.new)) }
-        ensures passes { IfOk result (AllApartPasses (rig_state rig.old).machine.faults config.now.config drive.now left.now rights.now) }
         ensures passes_each { IfOk result (λ yes. ForEach (rig_state rig.new) (λ told. AllApartPasses told config.now.config drive.now
             left.now rights.now yes)) }
         ensures gains { IfOk result (λ yes. IsTrue yes → Gains (these_pairs left.now.wires (wires_over rights.now)) self.old self.new) }

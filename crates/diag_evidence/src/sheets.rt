@@ -201,7 +201,6 @@ fn read_load(
     ensures width { HaveWidth (pins_of config.now.config.shape) reads.new }
     ensures as_many { length reads.new ≡ 65 }
     ensures session { OnOk result (HasCycled config.now.config drives.now (rig_state rig.new)) }
-    ensures run { OnOk result (ReadsEach (rig_state rig.old).machine.faults config.now.config drives.now reads.new) }
     ensures run_each { OnOk result (ForEach (rig_state rig.new) (λ told. ReadsEach told config.now.config drives.now reads.new)) }
 {
     read_rows(rig, config, drives, reads, CYCLES)
@@ -220,7 +219,6 @@ pub(crate) fn read_tables(
     ensures few { FewCycles (rig_state rig.old) (rig_state rig.new) }
     ensures made { cycles_made (rig_state rig.new) ≤ cycles_made (rig_state rig.old) + 130 }
     ensures wanting { IsErrOf result RigFail.Memory → (rig_state rig.new).session ≡ None }
-    ensures read { OnOk result (IsReadTwice (rig_state rig.old).machine.faults tables.now sheet.old sheet.new (rig_state rig.new)) }
     ensures read_each { OnOk result (ForEach (rig_state rig.new) (λ told. IsReadTwice told tables.now sheet.old sheet.new (rig_state
         rig.new))) }
 {

@@ -65,8 +65,6 @@ impl Facts {
         ensures few { FewCycles (rig_state rig.old) (rig_state rig.new) }
         ensures made { cycles_made (rig_state rig.new) ≤ cycles_made (rig_state rig.old) + (pins_of self.old.shape + 1) }
         ensures wanting { IsErrOf result RigFail.Memory → WantsBefore (rig_state rig.old) (rig_state rig.new) }
-        ensures looked { OnOk result (IsLook (rig_state rig.old).machine.faults forest.now.shape (closes forest.now feet.now)
-            reads.new.rows) }
         ensures looked_each { OnOk result (ForEach (rig_state rig.new) (λ told. IsLook told forest.now.shape (closes forest.now feet.now)
             reads.new.rows)) }
         ensures logged { OnOk result (LogsLook forest.now.shape (closes forest.now feet.now) reads.new.rows (rig_state rig.old)
@@ -90,7 +88,6 @@ impl Facts {
         requires attached { shape_of (rig_state rig.old) ≡ Some self.old.shape }
         requires forest { KeepsForest self.old forest.now }
 
-        ensures seen { OnOk result (HasSeen (rig_state rig.old).machine.faults forest.now self.old self.new) }
         ensures seen_each { OnOk result (ForEach (rig_state rig.new) (λ told. HasSeen told forest.now self.old self.new)) }
         ensures logged { OnOk result (ShowsSeen forest.now (rig_state rig.old) (rig_state rig.new) self.old self.new) }
         ensures refused { OnErr result (self.new ≡ self.old) }

@@ -144,14 +144,9 @@ impl Facts {
         requires tables { AreTablesOn forest.now tables.now }
         requires wrong { length wrong.old ≡ tables_of self.old.shape }
 
-        ensures tabled { OnOk result (HasTabled (rig_state rig.old).machine.faults forest.now tables.now (rig_state rig.new) self.old
-            self.new wrong.old wrong.new) }
         ensures tabled_each { OnOk result (ForEach (rig_state rig.new) (λ told. HasTabled told forest.now tables.now (rig_state rig.new)
             self.old self.new wrong.old wrong.new)) }
-        ensures newly { OnOk result (MarksWrong (rig_state rig.old).machine.faults self.old wrong.old wrong.new) }
         ensures newly_each { OnOk result (ForEach (rig_state rig.new) (λ told. MarksWrong told self.old wrong.old wrong.new)) }
-        ensures wrong { WrongIf (rig_state rig.old).machine.faults self.old wrong.old → WrongIf (rig_state rig.old).machine.faults self.new
-            wrong.new }
         ensures wrong_each { ForEach (rig_state rig.new) (λ told. WrongIf told self.old wrong.old → WrongIf told self.new wrong.new) }
         ensures marks { length wrong.new ≡ length wrong.old }
         ensures refused { OnErr result (self.new ≡ self.old) }

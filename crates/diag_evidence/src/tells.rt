@@ -41,23 +41,14 @@ impl Facts {
         requires unclear { length unclear.old ≡ wires_of self.old.shape }
         requires reads { reads.old.pins ≡ pins_of self.old.shape }
 
-        ensures told { OnOk result (HasTold (rig_state rig.old).machine.faults forest.now hangs.now reads.new.rows
-            unfit.old unfit.new unclear.old unclear.new) }
         ensures told_each { OnOk result (ForEach (rig_state rig.new) (λ told. HasTold told forest.now hangs.now reads.new.rows unfit.old
             unfit.new unclear.old unclear.new)) }
         ensures logged { OnOk result (LogsLook forest.now.shape (closes forest.now hangs.now) reads.new.rows (rig_state rig.old)
             (rig_state rig.new)) }
-        ensures newly { OnOk result (MarksUnfit (rig_state rig.old).machine.faults self.old forest.now unfit.old unfit.new) }
         ensures newly_each { OnOk result (ForEach (rig_state rig.new) (λ told. MarksUnfit told self.old forest.now unfit.old unfit.new)) }
-        ensures newly_too { OnOk result (MarksUnclear (rig_state rig.old).machine.faults self.old unclear.old unclear.new) }
         ensures newly_too_each { OnOk result (ForEach (rig_state rig.new) (λ told. MarksUnclear told self.old unclear.old unclear.new)) }
-        ensures unfit { (known : ℕ → Bool) → AreAllOf forest.now known →
-            UnfitIf (rig_state rig.old).machine.faults self.old known unfit.old →
-            UnfitIf (rig_state rig.old).machine.faults self.new known unfit.new }
         ensures unfit_each { ForEach (rig_state rig.new) (λ told. (known : ℕ → Bool) → AreAllOf forest.now known → UnfitIf told self.old
             known unfit.old → UnfitIf told self.new known unfit.new) }
-        ensures unclear { UnclearIf (rig_state rig.old).machine.faults self.old unclear.old →
-            UnclearIf (rig_state rig.old).machine.faults self.new unclear.new }
         ensures unclear_each { ForEach (rig_state rig.new) (λ told. UnclearIf told self.old unclear.old → UnclearIf told self.new
             unclear.new) }
         ensures same { self.new ≡ self.old }

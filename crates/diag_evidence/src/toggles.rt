@@ -36,7 +36,6 @@ fn read_without(
     ensures made { cycles_made (rig_state rig.new) ≤ cycles_made (rig_state rig.old) + 1 }
     ensures wanting { IsErrOf result RigFail.Memory → (rig_state rig.new).session ≡ None }
     ensures session { OnOk result (HasCycled (with_open config.old.config c.0) (drive.now ∷ []) (rig_state rig.new)) }
-    ensures reads { IfOk result (λ bit. Reads (rig_state rig.old).machine.faults (with_open config.old.config c.0) drive.now at bit) }
     ensures reads_each { IfOk result (λ bit. ForEach (rig_state rig.new) (λ told. Reads told (with_open config.old.config c.0) drive.now
         at bit)) }
     ensures logged { IfOk result (LogsBit (with_open config.old.config c.0) drive.now at (rig_state rig.old) (rig_state rig.new)) }
@@ -92,8 +91,6 @@ fn read_with(
     ensures wanting { IsErrOf result RigFail.Memory → (rig_state rig.new).session ≡ None }
     ensures session { OnOk result (HasCycled (with_setting config.old.config switch.table.0 (Some switch.setting)) (drive.now ∷ [])
         (rig_state rig.new)) }
-    ensures reads { IfOk result (λ bit. Reads (rig_state rig.old).machine.faults
-        (with_setting config.old.config switch.table.0 (Some switch.setting)) drive.now at bit) }
     ensures reads_each { IfOk result (λ bit. ForEach (rig_state rig.new) (λ told. Reads told (with_setting config.old.config
         switch.table.0 (Some switch.setting)) drive.now at bit)) }
     ensures logged { IfOk result (LogsBit (with_setting config.old.config switch.table.0 (Some switch.setting)) drive.now at
@@ -132,11 +129,10 @@ impl Facts {
         requires drive { length drive.now ≡ pins_of self.old.shape }
         requires at { at < pins_of self.old.shape }
 
-        ensures exact { IfOk result (TellsApart (rig_state rig.old).machine.faults config.old.config
-            (with_open config.old.config c.0) drive.now at) }
+        ensures exact_each { IfOk result (λ yes. ForEach (rig_state rig.new) (λ told. TellsApart told config.old.config
+            (with_open config.old.config c.0) drive.now at yes)) }
         ensures logged { IfOk result (ShowsApart config.old.config (with_open config.old.config c.0) drive.now at
             (rig_state rig.old) (rig_state rig.new)) }
-        ensures passes { IfOk result (CrossPasses (rig_state rig.old).machine.faults config.old.config c.0 drive.now at) }
         ensures passes_each { IfOk result (λ yes. ForEach (rig_state rig.new) (λ told. CrossPasses told config.old.config c.0 drive.now at
             yes)) }
         ensures gains { IfOk result (λ yes. IsTrue yes → Gains (one_cross c.0) self.old self.new) }
@@ -186,14 +182,13 @@ impl Facts {
         requires drive { length drive.now ≡ pins_of self.old.shape }
         requires at { at < pins_of self.old.shape }
 
-        ensures exact { IfOk result (λ yes. IfSome (setting_of config.old.config t.0) (λ s.
-            TellsApart (rig_state rig.old).machine.faults (with_setting config.old.config t.0 (Some (with_cell s address false)))
-            (with_setting config.old.config t.0 (Some (with_cell s address true))) drive.now at yes)) }
+        ensures exact_each { IfOk result (λ yes. ForEach (rig_state rig.new) (λ told. IfSome (setting_of config.old.config t.0) (λ s.
+            TellsApart told (with_setting config.old.config t.0 (Some (with_cell s address false)))
+            (with_setting config.old.config t.0 (Some (with_cell s address true))) drive.now at yes))) }
         ensures logged { IfOk result (λ yes. IfSome (setting_of config.old.config t.0) (λ s.
             ShowsApart (with_setting config.old.config t.0 (Some (with_cell s address false)))
             (with_setting config.old.config t.0 (Some (with_cell s address true))) drive.now at
             (rig_state rig.old) (rig_state rig.new) yes)) }
-        ensures passes { IfOk result (CellPasses (rig_state rig.old).machine.faults config.old.config t.0 address drive.now at) }
         ensures passes_each { IfOk result (λ yes. ForEach (rig_state rig.new) (λ told. CellPasses told config.old.config t.0 address
             drive.now at yes)) }
         ensures gains { IfOk result (λ yes. IsTrue yes → Gains (one_cell t.0 address) self.old self.new) }
@@ -255,13 +250,12 @@ impl Facts {
         requires drive { length drive.now ≡ pins_of self.old.shape }
         requires at { at < pins_of self.old.shape }
 
-        ensures exact { IfOk result (λ yes. IfSome (setting_of config.old.config t.0) (λ s.
-            TellsApart (rig_state rig.old).machine.faults (with_setting config.old.config t.0 (Some (with_init s false)))
-            (with_setting config.old.config t.0 (Some (with_init s true))) drive.now at yes)) }
+        ensures exact_each { IfOk result (λ yes. ForEach (rig_state rig.new) (λ told. IfSome (setting_of config.old.config t.0) (λ s.
+            TellsApart told (with_setting config.old.config t.0 (Some (with_init s false)))
+            (with_setting config.old.config t.0 (Some (with_init s true))) drive.now at yes))) }
         ensures logged { IfOk result (λ yes. IfSome (setting_of config.old.config t.0) (λ s.
             ShowsApart (with_setting config.old.config t.0 (Some (with_init s false)))
             (with_setting config.old.config t.0 (Some (with_init s true))) drive.now at (rig_state rig.old) (rig_state rig.new) yes)) }
-        ensures passes { IfOk result (RegisterPasses (rig_state rig.old).machine.faults config.old.config t.0 drive.now at) }
         ensures passes_each { IfOk result (λ yes. ForEach (rig_state rig.new) (λ told. RegisterPasses told config.old.config t.0 drive.now
             at yes)) }
         ensures gains { IfOk result (λ yes. IsTrue yes → Gains (one_register t.0) self.old self.new) }

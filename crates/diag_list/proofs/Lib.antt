@@ -4,5 +4,6 @@ pub mod Following
 pub mod Made
 pub mod Texts
 pub mod WrongWords
+pub mod FewCycles
 -- For the proofs of this crate alone.
 mod MachineListed

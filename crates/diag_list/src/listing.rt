@@ -1,7 +1,8 @@
 //! Lists of defects that are made and written.
 ghost use Rattle.std.specs.Prelude.{◌≡◌, [], ◌∷◌, Some};
 ghost use Rattle.cmd_steps.specs.Vocabulary.{StoreState, SinkState, shape_of, outside, Took, AsksMachine, reads_machine};
-ghost use Rattle.diag_list.specs.Possible.{TakesFewLoadsOn};
+ghost use Rattle.diag_evidence.specs.Kept.{TakesFewCycles};
+ghost use Rattle.diag_list.specs.Possible.{TakesFewLoadsOn, MakesFewCycles};
 ghost use Rattle.diag_list.specs.Lists.{lists_machine, lists_now, WritesList};
 
 use base_io::{Sink, Store};
@@ -12,7 +13,7 @@ use machine_shape::Shape;
 use rig::Rig;
 use std::alloc::Global;
 
-/// Lists the defects of the machine that is attached. Whatever it answers, it took few loads.
+/// Lists the defects of the machine that is attached. Whatever it answers, it took few loads, and few cycles for each.
 ///
 /// # Errors
 ///
@@ -22,6 +23,7 @@ pub fn list_of(alloc: Global, shape: &Shape, rig: &mut Box<dyn Rig>) -> Result<D
 
     ensures machine { (rig_state rig.new).machine ≡ (rig_state rig.old).machine }
     ensures loads { TakesFewLoadsOn (rig_state rig.new) shape.now (rig_state rig.old).loads (rig_state rig.new).loads }
+    ensures cycles { TakesFewCycles (rig_state rig.old) (rig_state rig.new) }
     // Whatever the store and the sink are.
     ensures took { (store : StoreState) (sink : SinkState) → Took [] (lists_now shape.now (rig_state rig.old) (rig_state rig.new)) result
         (outside store (rig_state rig.old) sink) (outside store (rig_state rig.new) sink) }
@@ -36,7 +38,8 @@ pub fn list_of(alloc: Global, shape: &Shape, rig: &mut Box<dyn Rig>) -> Result<D
     }
 }
 
-/// Reads a machine, attaches it under a name, and lists its defects. Wherever it ends, it took few loads, and none before the list.
+/// Reads a machine, attaches it under a name, and lists its defects. Wherever it ends, it took few loads, and none before the list;
+/// and few cycles for each.
 ///
 /// # Errors
 ///
@@ -53,6 +56,7 @@ pub fn list_machine<S: Store>(
 
     ensures asked { AsksMachine (reads_machine ((S.store_state store.old).contents machine.now)).gives name.now
         (rig_state rig.old).machine.asked (rig_state rig.new).machine.asked }
+    ensures cycles { MakesFewCycles (rig_state rig.old) (rig_state rig.new) }
     // Whatever the sink is.
     ensures took { let text = (S.store_state store.old).contents machine.now in
         (sink : SinkState) → Took (machine.now ∷ []) (lists_machine name.now text (rig_state rig.old) (rig_state rig.new)) result
@@ -63,7 +67,7 @@ pub fn list_machine<S: Store>(
     list_of(alloc, &shape, rig)
 }
 
-/// Lists the defects of the machine that is attached, and writes the list.
+/// Lists the defects of the machine that is attached, and writes the list. Wherever it ends, it took few cycles for each load.
 ///
 /// # Errors
 ///
@@ -77,6 +81,7 @@ pub fn write_list<K: Sink>(
     requires { shape_of (rig_state rig.old) ≡ Some shape.now }
 
     ensures machine { (rig_state rig.new).machine ≡ (rig_state rig.old).machine }
+    ensures cycles { TakesFewCycles (rig_state rig.old) (rig_state rig.new) }
     // Whatever the store is.
     ensures written { (store : StoreState) → WritesList shape.now result
         (outside store (rig_state rig.old) (K.sink_state sink.old)) (outside store (rig_state rig.new) (K.sink_state sink.new)) }

@@ -1,12 +1,14 @@
 -- A reading that is turned.
-use Rattle.std.proofs.Common.{◌≡◌, ◌⊎◌, inl, inr, ℕ, zero, suc, ◌+◌, ◌<◌, Option, None, Some, IfSome, List, [], ◌∷◌, ◌++◌, length, get_or, set, map, refl, sym, ap, ◌∙◌, subst, arith, option_map, IsSome}
+use Rattle.std.proofs.Common.{◌≡◌, ◌⊎◌, inl, inr, ℕ, zero, suc, ◌+◌, ◌<◌, Option, None, Some, IfSome, List, [], ◌∷◌, ◌++◌, length, get_or, set, map, refl, sym, ap, ◌∙◌, subst, arith, option_map, IsSome, Result, Ok, Err, OnOk}
 use Rattle.std.specs.Option.{option_map_or}
 use Rattle.std.proofs.lemmas.List.{length-map, length-append, map-append, flat_map_more}
 use Rattle.std.proofs.lemmas.Bool.{false≢true}
 use Rattle.machine_meaning.specs.Circuit.{Pins}
+use Rattle.machine_shape.specs.declared.Shape.{Shape}
 use Rattle.machine_shape.specs.Shape.{pins_of}
 use Rattle.machine_config.specs.Configuration.{Configuration}
-use Rattle.rig.specs.Rig.{RigState, Session, Past, Exchange, GoesOn, GoesOnBy, CycleFails, CyclesFail, config_of, width_of, cycles_of, drives_of, readings_of, standing}
+use Rattle.rig.specs.Names.{SpellsFaults}
+use Rattle.rig.specs.Rig.{Asked, Attaches, RigState, Session, Past, Exchange, GoesOn, GoesOnBy, CycleFails, CyclesFail, config_of, width_of, cycles_of, drives_of, readings_of, standing}
 use Rattle.rig.specs.declared.rig.RigFail.TheVariants as work
 use Rattle.example_rigs.specs.declared.turn.Turn.{Turn}
 use Rattle.example_rigs.specs.Turns.{TurnedRig, turned, turned_at, turned_in, turned_past, turned_session, turn_state, IsTurned, Passes, CountsCycles}
@@ -180,6 +182,25 @@ pub past_more : {I C : Type 0} (state : I → RigState) (xs ys : List C) (x : C)
     → turned_past state (map seen ys) ≡ turned_past state (map seen xs) ++ standing (turned_session (state (seen x).inner).session (seen x).place)
 past_more state xs ys x e seen = ap (λ zs. turned_past state (map seen zs)) e ∙ ap (turned_past state) (map-append seen xs (x ∷ []))
     ∙ sym (flat_map_more (λ t. standing (turned_session (state t.inner).session t.place)) [] (map seen xs) (seen x))
+
+-- what tells no faults tells none that a text doesn't spell
+none_told : (text : Option (List ℕ)) (name : List ℕ) (m : Shape) → SpellsFaults text name m None
+none_told None name m = tt
+none_told (Some bytes) name m = λ _. tt
+
+-- a machine is attached, of which no faults are told
+pub turned_attached : {I C T E : Type 0} (state : I → RigState) (r : Result T E) (machine : Asked) (old new : RigState) (place now : Option ℕ) (past : List Past) (ended : List C) → ended ≡ [] → (seen : C → TurnedRig I)
+    → OnOk r (Attaches machine old new) → OnOk r (Attaches machine (turn_state old place past) (turn_state new now (turned_past state (map seen ended))))
+turned_attached state (Ok _) machine old new place now past ended none seen a = record {
+  asked = a.asked;
+  attached = a.attached;
+  faults = tt;
+  named = none_told (old.machine.texts machine.name) machine.name machine.shape;
+  session = ap (λ s. turned_session s now) a.session;
+  past = ap (λ zs. turned_past state (map seen zs)) none;
+  refused = a.refused;
+}
+turned_attached state (Err _) machine old new place now past ended none seen a = tt
 
 -- a failure ends the session
 pub turned_fails : (old new : RigState) (p q : Option ℕ) (past all : List Past) → all ≡ past ++ standing (turned_session old.session p)

@@ -101,8 +101,8 @@ fn image_of(
         Ok(plan) => plan,
         Err(stop) => return Err(stop),
     };
-    if let Some(image) = drawn_smaller(alloc, first, second, networks, list)? {
-        return Ok(image);
+    if let Some(smaller) = drawn_smaller(alloc, first, second, networks, list)? {
+        return Ok(smaller);
     }
     let image = drawn(alloc, first, second, networks, &plan, list)?;
     Ok(image)

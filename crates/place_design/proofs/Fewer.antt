@@ -1,5 +1,5 @@
 -- Networks with no more tables than the plain one, and plans with no more crossings.
-use Rattle.std.proofs.Common.{◌≡◌, ◌≤◌, ◌⊎◌, ◌↔◌, Bool, ℕ, List, length, inl, inr, sym, subst, arith, ◌∙◌}
+use Rattle.std.proofs.Common.{◌≡◌, ◌≤◌, ◌⊎◌, ◌↔◌, Bool, ℕ, List, Option, Some, IfSome, length, inl, inr, sym, subst, arith, ◌∙◌}
 use Rattle.machine_shape.specs.declared.Shape.{Shape}
 use Rattle.machine_meaning.specs.Defects.{Defects}
 use Rattle.design_netlist.specs.declared.netlist_data.NetlistData.{NetlistData}
@@ -36,6 +36,10 @@ lean-for draft n m plain has network same fewer inputs outputs lead shallow = re
   lead = lead;
   shallow = subst (λ (x : Network). IsNoDeeper x m) plain shallow;
 }
+
+-- what holds of the value, if there is one, holds of this one
+pub of_some : {A : Type 0} (P : A → Type 0) (o : Option A) (x : A) → o ≡ Some x → IfSome o P → P x
+of_some P o x is holds = subst (λ q. IfSome q P) is holds
 
 -- a plan that is as good or better fits where the first does
 pub better-fits : (m : Shape) (d : Defects) (n : Network) (old new : Placed) → Fits m d n old.plan → (new ≡ old) ⊎ IsBetterLaid m d n old.plan new → Fits m d n new.plan

@@ -33,6 +33,7 @@ pub struct Pair {
 }
 
 // A plan of a joint network with its layout.
+#[derive(Clone, Copy)]
 struct Spot<'p, 'l> {
     plan: &'p Plan,
     layout: &'l Layout,

@@ -1,27 +1,14 @@
 -- The session of an image that is loaded, cycle by cycle.
-<<<<<<< HEAD
-use Rattle.std.proofs.Common.{◌≡◌, ℕ, ◌+◌, ◌≤◌, Bool, List, [], ◌∷◌, ◌++◌, length, map, Some, arith, refl, ◌∙◌, subst, length-append}
-use Rattle.std.proofs.lemmas.List.{map-append}
-use Rattle.machine_meaning.specs.Faults.{Faults}
-use Rattle.machine_meaning.specs.Circuit.{Pins}
-use Rattle.machine_config.specs.Faulty.{IsRun}
-=======
-use Rattle.std.proofs.Common.{◌≡◌, ℕ, ◌+◌, ◌≤◌, Bool, List, [], ◌∷◌, ◌++◌, length, map, Option, None, Some, IfSome, arith, refl, sym, ap, ◌∙◌, subst, inl, inr, length-append}
+use Rattle.std.proofs.Common.{◌≡◌, ℕ, ◌+◌, ◌≤◌, Bool, List, [], ◌∷◌, ◌++◌, length, map, Some, arith, refl, sym, ap, ◌∙◌, subst, length-append}
 use Rattle.std.proofs.lemmas.List.{length-map, map-append}
 use Rattle.machine_meaning.specs.Faults.{Faults}
 use Rattle.machine_meaning.specs.Circuit.{Pins}
-use Rattle.machine_config.specs.Vocabulary.{Configuration, Cycles, at_load, none, cycle, IsRun, circuit_of}
->>>>>>> rows/ready
+use Rattle.machine_config.specs.Vocabulary.{Configuration, Cycles, none, cycle, IsRun}
 use Rattle.machine_image.specs.Images.{ImageValue, drive_of, image_row}
 use Rattle.rig.specs.Rig.{RigState, Explains, Exchange, Begins, config_of, cycles_of, drives_of, readings_of, spare_of}
 use Rattle.rig.proofs.Narrowing.{session_run}
 use Rattle.run_image.specs.Pins.{pins_in}
-<<<<<<< HEAD
-use Rattle.run_image.specs.Run.{RunsRow}
-=======
 use Rattle.run_image.specs.Run.{RunsRow, RunsRows}
-use Rattle.run_image.specs.Rows.{AreRunRows}
->>>>>>> rows/ready
 
 -- the image is loaded with room for so many rows, these vectors were driven, and these rows were read
 pub record HasDriven (room : ℕ) (i : ImageValue) (vectors rows : List (List Bool)) (rig : RigState) : Type 0 where
@@ -49,11 +36,6 @@ driven-more room i vectors rows vector row rig rig' is run =
       left = let spare = run.1.spare in let left = is.left in omega (arith, left, spare, size);
     }
 
-<<<<<<< HEAD
--- under each set that explains what was read, that is the run of the image under what was driven
-pub explained-run : (rig : RigState) (i : ImageValue) (vectors : List (List Bool)) → config_of rig ≡ Some i.config → drives_of (cycles_of rig) ≡ map (drive_of i) vectors → (f : Faults) → Explains f rig → IsRun f i.config (map (drive_of i) vectors) (readings_of (cycles_of rig))
-explained-run rig i vectors config drives f e = subst (λ (ds : List Pins). IsRun f i.config ds (readings_of (cycles_of rig))) drives (session_run f rig i.config config e)
-=======
 -- several cycles at once
 pub driven-all : (room : ℕ) (i : ImageValue) (vectors rows vs rs : List (List Bool)) (rig rig' : RigState) → HasDriven room i vectors rows rig → RunsRows (pins_in i) rig rig' vs rs → HasDriven room i (vectors ++ vs) (rows ++ rs) rig'
 driven-all room i vectors rows vs rs rig rig' is run =
@@ -73,7 +55,6 @@ driven-all room i vectors rows vs rs rig rig' is run =
           ∙ (ap (λ (t : List (List Bool)). map (image_row i) (readings_of before) ++ t) (run.2 ∙ ap (map (image_row i)) (sym goes.read))
           ∙ (sym (map-append (image_row i) (readings_of before) (readings_of goes.more))
           ∙ ap (map (image_row i)) (sym (map-append (λ (x : Exchange). x.reading) before goes.more) ∙ ap readings_of (sym goes.cycles))));
-      told = goes.told;
       left = let spare = goes.spare in let left = is.left in omega (arith, left, spare, size, made, read, driven);
     }
 
@@ -88,21 +69,6 @@ less-cycles (d ∷ ds) more (r ∷ rs) behind size (cycle step steps) =
 pub run-less : (f : Faults) (g : Configuration) (ds more rs behind : List Pins) → length ds ≡ length rs → IsRun f g (ds ++ more) (rs ++ behind) → IsRun f g ds rs
 run-less f g ds more rs behind size run = let less = less-cycles ds more rs behind size run.cycles in record { outputs = less.0; cycles = less.1 }
 
--- where the faults are told, what was read is the run of the image under what was driven
-pub told-run : (rig : RigState) (i : ImageValue) (vectors : List (List Bool)) → config_of rig ≡ Some i.config → drives_of (cycles_of rig) ≡ map (drive_of i) vectors → IsTold rig → (f : Faults) → rig.machine.faults ≡ Some f → IsRun f i.config (map (drive_of i) vectors) (readings_of (cycles_of rig))
-told-run rig i vectors config drives told f is =
-    let at : IfSome (Some i.config) (λ g. IsRun f g (drives_of (cycles_of rig)) (readings_of (cycles_of rig))) = rw (is, config) at told in
-    rw drives at at
-
--- and so it is under each set that explains what was read
-pub may-run : (rig : RigState) (i : ImageValue) (vectors : List (List Bool)) → config_of rig ≡ Some i.config → drives_of (cycles_of rig) ≡ map (drive_of i) vectors → IsTold rig → (f : Faults) → MayHave f rig → IsRun f i.config (map (drive_of i) vectors) (readings_of (cycles_of rig))
-may-run rig i vectors config drives told f (inl is) = told-run rig i vectors config drives told f is
-may-run rig i vectors config drives told f (inr e) = subst (λ (ds : List Pins). IsRun f i.config ds (readings_of (cycles_of rig))) drives (session_run f rig i.config config e)
-
--- so what was read is what the machine reads under each of these
-pub may-read : (rig : RigState) (i : ImageValue) (vectors rows : List (List Bool)) → config_of rig ≡ Some i.config → drives_of (cycles_of rig) ≡ map (drive_of i) vectors → rows ≡ map (image_row i) (readings_of (cycles_of rig))
-    → IfSome rig.machine.faults (λ f. AreRunRows f i vectors rows) → (f : Faults) → MayHave f rig → AreRunRows f i vectors rows
-may-read rig i vectors rows config drives rows_are read f (inl told) = subst (λ (faults : Option Faults). IfSome faults (λ g. AreRunRows g i vectors rows)) told read
-may-read rig i vectors rows config drives rows_are read f (inr e) =
-    (readings_of (cycles_of rig), subst (λ (ds : List Pins). IsRun f i.config ds (readings_of (cycles_of rig))) drives (session_run f rig i.config config e), rows_are)
->>>>>>> rows/ready
+-- under each set that explains what was read, that is the run of the image under what was driven
+pub explained-run : (rig : RigState) (i : ImageValue) (vectors : List (List Bool)) → config_of rig ≡ Some i.config → drives_of (cycles_of rig) ≡ map (drive_of i) vectors → (f : Faults) → Explains f rig → IsRun f i.config (map (drive_of i) vectors) (readings_of (cycles_of rig))
+explained-run rig i vectors config drives f e = subst (λ (ds : List Pins). IsRun f i.config ds (readings_of (cycles_of rig))) drives (session_run f rig i.config config e)

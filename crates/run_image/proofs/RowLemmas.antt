@@ -1,39 +1,25 @@
 -- How the rows of an image go on, and how they stop.
-<<<<<<< HEAD
-use Rattle.std.proofs.Common.{◌≡◌, ◌⊎◌, ℕ, zero, suc, ◌≤◌, Bool, false, List, [], ◌∷◌, ◌++◌, length, map, flat_map, arith, refl, sym, ap, subst, inl, inr, ◌∙◌, Ok, Err}
-use Rattle.std.specs.List.{All}
-=======
-use Rattle.std.proofs.Common.{◌≡◌, ◌⊎◌, ℕ, zero, suc, ◌+◌, ◌-◌, ◌<◌, ◌≤◌, ◌==◌, Bool, true, false, List, [], ◌∷◌, ◌++◌, length, map, take, drop, flat_map, min, Option, None, Some, IfSome, arith, refl, sym, ap, subst, inl, inr, ◌∙◌, append-nil, append_assoc, length-append, if◌then◌else◌, option_map, OnOk, IfErr, Result, Ok, Err}
+use Rattle.std.proofs.Common.{◌≡◌, ◌⊎◌, ℕ, zero, suc, ◌+◌, ◌-◌, ◌<◌, ◌≤◌, ◌==◌, Bool, true, false, List, [], ◌∷◌, ◌++◌, length, map, take, drop, flat_map, min, Some, arith, refl, sym, ap, subst, inl, inr, ◌∙◌, append-nil, append_assoc, length-append, if◌then◌else◌, option_map, OnOk, IfErr, Result, Ok, Err}
 use Rattle.std.specs.List.{All, AllByRecursion}
 use Rattle.std.proofs.lemmas.List.{get_or_append_left, length-map, map-append, take-append-drop, take-map, length-take-le}
 use Rattle.std.proofs.Math.Seq.{take-append_seam}
->>>>>>> rows/ready
 use Rattle.std.proofs.lemmas.List.Elements.{All-append}
 use Rattle.std.proofs.lemmas.Bool.{eqb-true}
 use Rattle.base_io.specs.Sink.{SinkState}
 use Rattle.base_io.specs.Store.{StoreState}
 use Rattle.base_io.specs.Told.{Told}
-<<<<<<< HEAD
-use Rattle.rig.specs.Rig.{RigState, Narrows, cycles_of, readings_of}
-use Rattle.machine_image.specs.Images.{ImageValue}
-use Rattle.run_image.specs.Pins.{pins_in}
-use Rattle.run_image.specs.Run.{RunsRow}
-use Rattle.run_image.proofs.Copied.{repeated-more, repeated-count, repeated-none, repeated-long}
-use Rattle.run_image.proofs.Driving.{HasDriven, driven-start, driven-more, explained-run}
-=======
 use Rattle.base_io.specs.Counts.{Rose}
 use Rattle.machine_meaning.specs.Vocabulary.{Pins, Faults}
 use Rattle.machine_config.specs.Vocabulary.{Configuration, IsRun}
 use Rattle.machine_shape.specs.Shape.{pins_of}
-use Rattle.rig.specs.Rig.{RigState, Exchange, Narrows, width_of, config_of, cycles_of, drives_of, readings_of, spare_of}
+use Rattle.rig.specs.Rig.{RigState, Exchange, Explains, Narrows, Tells, width_of, cycles_of, readings_of, spare_of}
 use Rattle.machine_image.specs.Images.{ImageValue, drive_of, image_row}
 use Rattle.run_image.specs.Batches.{most_together, rows_in}
 use Rattle.run_image.specs.Pins.{pins_in}
 use Rattle.run_image.specs.Run.{RunsRows}
 use Rattle.run_image.proofs.BatchLemmas.{rows-fit, rows-wide}
 use Rattle.run_image.proofs.Copied.{repeated-both, repeated-cons, repeated-map, repeated-count, repeated-none, AllShared, all_alike, first_apart, all-shared}
-use Rattle.run_image.proofs.Driving.{HasDriven, driven-start, driven-all, run-less}
->>>>>>> rows/ready
+use Rattle.run_image.proofs.Driving.{HasDriven, driven-start, driven-all, run-less, explained-run}
 use Rattle.design_vectors.specs.declared.vectors.VectorsFail.{VectorsFail}
 use Rattle.design_vectors.specs.declared.vectors.VectorsFail.TheVariants.{Text, Failed}
 use Rattle.design_vectors.specs.Readings.{VectorReading}
@@ -50,13 +36,8 @@ use Rattle.cmd_steps.proofs.WrittenRows.{AreWritten, none-written, row-later, pu
 use Rattle.run_image.specs.Copying.{share, times, repeated, all_repeated, IsApart}
 use Rattle.run_image.specs.declared.copies.Copies.{Copies}
 use Rattle.run_image.specs.declared.copies.Copies.TheVariants.{One, Two}
-<<<<<<< HEAD
-use Rattle.run_image.specs.Rows.{most_rows, copied_rows, AreRowsOf, IsSession, DiffersBehind}
-use Rattle.run_image.specs.Running.{IsFitting, IsLoaded, IsDriven, IsReadApart, Keeps, CycleGives, CycleStops, HasOrFailed, at_rows}
-=======
 use Rattle.run_image.specs.Rows.{most_rows, copied_rows, AreRunRows, AreRowsOf, IsSession, DiffersBehind}
 use Rattle.run_image.specs.Running.{IsFitting, IsLoaded, IsSameBut, IsSameRun, ReadsOn, BatchGives, HasBatch, DrivesTo, HasOrFailed, DriveStops, HasAddedAll, AddStops, AddsStop, MakesStop, EndsSent, together_of, at_rows}
->>>>>>> rows/ready
 use Rattle.run_image.specs.declared.image.Running.{Running}
 
 -- the vector has a bit for each input pin
@@ -94,31 +75,32 @@ session-rows rig rig' i vectors rows narrows count widths is = record {
 all-front : (P : List Bool → Type 0) (xs ys : List (List Bool)) → All P (xs ++ ys) → All P xs
 all-front P xs ys all i d l = subst P (get_or_append_left xs ys d i l) (all i d (omega (arith, length-append xs ys)))
 
--- the rows of the first cycles of a session
-front-told : (faults : Option Faults) (config : Option Configuration) (cycles : List Exchange) (i : ImageValue) (vectors more rows behind : List (List Bool)) → config ≡ Some i.config → drives_of cycles ≡ map (drive_of i) (vectors ++ more) → rows ++ behind ≡ map (image_row i) (readings_of cycles) → length rows ≡ length vectors → IfSome faults (λ f. IfSome config (λ g. IsRun f g (drives_of cycles) (readings_of cycles))) → IfSome faults (λ f. AreRunRows f i vectors rows)
-front-told None config cycles i vectors more rows behind is drives rows_are count told = tt
-front-told (Some f) config cycles i vectors more rows behind is drives rows_are count told =
-    let run : IsRun f i.config (drives_of cycles) (readings_of cycles) = rw is at told in
-    let split : drives_of cycles ≡ map (drive_of i) vectors ++ map (drive_of i) more = drives ∙ map-append (drive_of i) vectors more in
-    let reads : List Pins = take (length vectors) (readings_of cycles) in
-    let later : List Pins = drop (length vectors) (readings_of cycles) in
-    let both : readings_of cycles ≡ reads ++ later = sym (take-append-drop (length vectors) (readings_of cycles)) in
+-- the rows of the first of the cycles that a machine has made
+front-run : (f : Faults) (i : ImageValue) (readings : List Pins) (vectors more rows behind : List (List Bool)) → IsRun f i.config (map (drive_of i) (vectors ++ more)) readings → length readings ≡ length (vectors ++ more) → rows ++ behind ≡ map (image_row i) readings → length rows ≡ length vectors → AreRunRows f i vectors rows
+front-run f i readings vectors more rows behind run all_read rows_are count =
+    let reads : List Pins = take (length vectors) readings in
+    let later : List Pins = drop (length vectors) readings in
+    let both : readings ≡ reads ++ later = sym (take-append-drop (length vectors) readings) in
     let driven : length (map (drive_of i) vectors) ≡ length vectors = length-map vectors (drive_of i) in
-    let all_driven : length cycles ≡ length vectors + length (map (drive_of i) more) =
-    sym (length-map cycles (λ (x : Exchange). x.drive)) ∙ (ap length split ∙ (length-append (map (drive_of i) vectors) (map (drive_of i) more) ∙ ap (λ (k : ℕ). k + length (map (drive_of i) more)) driven)) in
-    let all_read : length (readings_of cycles) ≡ length cycles = length-map cycles (λ (x : Exchange). x.reading) in
-    let size : length reads ≡ length vectors = length-take-le (length vectors) (readings_of cycles) (omega (arith, all_driven, all_read)) in
+    let parts = length-append vectors more in
+    let size : length reads ≡ length vectors = length-take-le (length vectors) readings (omega (arith, all_read, parts)) in
     let whole : IsRun f i.config (map (drive_of i) vectors ++ map (drive_of i) more) (reads ++ later) =
-    subst (λ (ds : List Pins). IsRun f i.config ds (reads ++ later)) split (subst (λ (rs : List Pins). IsRun f i.config (drives_of cycles) rs) both run) in
+    subst (λ (ds : List Pins). IsRun f i.config ds (reads ++ later)) (map-append (drive_of i) vectors more) (subst (λ (rs : List Pins). IsRun f i.config (map (drive_of i) (vectors ++ more)) rs) both run) in
     let rows_of : rows ≡ map (image_row i) reads =
-    sym (take-append_seam rows behind) ∙ (ap (take (length rows)) rows_are ∙ (ap (λ (k : ℕ). take k (map (image_row i) (readings_of cycles))) count ∙ take-map (image_row i) (length vectors) (readings_of cycles))) in
+    sym (take-append_seam rows behind) ∙ (ap (take (length rows)) rows_are ∙ (ap (λ (k : ℕ). take k (map (image_row i) readings)) count ∙ take-map (image_row i) (length vectors) readings)) in
     (reads, run-less f i.config (map (drive_of i) vectors) (map (drive_of i) more) reads later (driven ∙ sym size) whole, rows_of)
+
+-- a cycle was made for each vector that was driven
+cycles-driven : (cycles : List Exchange) (i : ImageValue) (vectors : List (List Bool)) → map (λ (x : Exchange). x.drive) cycles ≡ map (drive_of i) vectors → length (readings_of cycles) ≡ length vectors
+cycles-driven cycles i vectors drives =
+    length-map cycles (λ (x : Exchange). x.reading) ∙ (sym (length-map cycles (λ (x : Exchange). x.drive)) ∙ (ap length drives ∙ length-map vectors (drive_of i)))
 
 front-rows-of : (rig : RigState) (i : ImageValue) (vectors more rows behind : List (List Bool)) → length rows ≡ length vectors → All (HasWidth i) (vectors ++ more) → HasDriven most_rows i (vectors ++ more) (rows ++ behind) rig → AreRowsOf rig i vectors rows
 front-rows-of rig i vectors more rows behind count widths is = record {
   count = count;
   widths = all-front (HasWidth i) vectors more widths;
-  read = front-told rig.machine.faults (config_of rig) (cycles_of rig) i vectors more rows behind is.config is.drives is.rows_are count is.told;
+  read = λ f e. front-run f i (readings_of (cycles_of rig)) vectors more rows behind (explained-run rig i (vectors ++ more) is.config is.drives f e)
+      (cycles-driven (cycles_of rig) i (vectors ++ more) is.drives) is.rows_are count;
 }
 
 -- a session that is still open
@@ -259,36 +241,25 @@ module _ (copies : Copies) (image : ImageValue) (failures : ℕ) (begun : Outsid
   abbrev width : ℕ
   width = share copies (length image.inputs)
 
-<<<<<<< HEAD
-  onward : (from to : SinkState) → to.can_lack ≡ from.can_lack → from.failures ≤ to.failures → IsLater (outside now.store now.rig from) (outside new.store new.rig to)
-  onward from to kind later = row-later now.store new.store now.rig new.rig from to keeps.store keeps.machine keeps.narrows keeps.tells keeps.failures kind later
-=======
   abbrev work : Outside → RowWork
   work new = copied_rows copies image (file_of begun.store) new.store failures new.rig
->>>>>>> rows/ready
 
   abbrev SameRig : Outside → Type 0
   SameRig new = (new.rig.machine ≡ begun.rig.machine) × (new.rig.loads ≡ begun.rig.loads)
 
-<<<<<<< HEAD
-  -- the rows so far are those of the machine
-  are-rows : AreRowsOf new.rig image (all_repeated copies so_far.vectors) (all_repeated copies so_far.done)
-  are-rows = session-rows now.rig new.rig image _ _ keeps.narrows (counts-are copies so_far.vectors so_far.done so_far.written.count) so_far.widths so_far.driven
-=======
   abbrev Ends : {U : Type 0} → Result U Stop → Outside → Type 0
   Ends result new = Follows ⊥ [] (SameRig new) (all_rows (work new)) result begun new
->>>>>>> rows/ready
 
   -- none of the rows is still to be written
   all-of : (P : List (List Bool) → Type 0) (rs : List (List Bool)) → P rs → P (rs ++ [])
   all-of P rs are = subst P (sym (append-nil rs)) are
 
-  onward : (store store' : StoreState) (rig rig' : RigState) (from to : SinkState) → StaysOpen store store' → rig'.machine ≡ rig.machine → Narrows rig rig' → rig.failures ≤ rig'.failures → to.can_lack ≡ from.can_lack → from.failures ≤ to.failures → IsLater (outside store rig from) (outside store' rig' to)
-  onward store store' rig rig' from to stays machine narrows later kind sink_later = row-later store store' rig rig' from to stays machine narrows later kind sink_later
+  onward : (store store' : StoreState) (rig rig' : RigState) (from to : SinkState) → StaysOpen store store' → rig'.machine ≡ rig.machine → Narrows rig rig' → Tells rig rig' → rig.failures ≤ rig'.failures → to.can_lack ≡ from.can_lack → from.failures ≤ to.failures → IsLater (outside store rig from) (outside store' rig' to)
+  onward store store' rig rig' from to stays machine narrows tells later kind sink_later = row-later store store' rig rig' from to stays machine narrows tells later kind sink_later
 
   -- rows of a session that a rig has had
-  rows-of : (now new : RigState) (vs rs : List (List Bool)) → new.machine ≡ now.machine → length rs ≡ length vs → All (HasWidth image) (all_repeated copies vs) → HasDriven most_rows image (all_repeated copies vs) (all_repeated copies rs) now → AreRowsOf new image (all_repeated copies vs) (all_repeated copies rs)
-  rows-of now new vs rs machine count widths driven = session-rows now new image (all_repeated copies vs) (all_repeated copies rs) machine (counts-are copies vs rs count) widths driven
+  rows-of : (now new : RigState) (vs rs : List (List Bool)) → Narrows now new → length rs ≡ length vs → All (HasWidth image) (all_repeated copies vs) → HasDriven most_rows image (all_repeated copies vs) (all_repeated copies rs) now → AreRowsOf new image (all_repeated copies vs) (all_repeated copies rs)
+  rows-of now new vs rs narrows count widths driven = session-rows now new image (all_repeated copies vs) (all_repeated copies rs) narrows (counts-are copies vs rs count) widths driven
 
   -- ---- at the beginning of a step
 
@@ -299,8 +270,8 @@ module _ (copies : Copies) (image : ImageValue) (failures : ℕ) (begun : Outsid
     first-of-file : AreFirst width (file_of begun.store) so_far.vectors
     first-of-file = taken-first width begun.store now.store rows.vectors so_far.vectors so_far.written.taking
 
-    are-rows : (rig : RigState) → rig.machine ≡ now.rig.machine → AreRowsOf rig image (all_repeated copies so_far.vectors) (all_repeated copies so_far.done)
-    are-rows rig machine = rows-of now.rig rig so_far.vectors so_far.done machine so_far.count so_far.widths so_far.driven
+    are-rows : (rig : RigState) → Narrows now.rig rig → AreRowsOf rig image (all_repeated copies so_far.vectors) (all_repeated copies so_far.done)
+    are-rows rig narrows = rows-of now.rig rig so_far.vectors so_far.done narrows so_far.count so_far.widths so_far.driven
 
     session-still : (rig : RigState) → rig.session ≡ now.rig.session → IsSession rig image (all_repeated copies so_far.vectors) (all_repeated copies so_far.done)
     session-still rig same = session-is now.rig rig image (all_repeated copies so_far.vectors) (all_repeated copies so_far.done) same so_far.driven
@@ -315,7 +286,7 @@ module _ (copies : Copies) (image : ImageValue) (failures : ℕ) (begun : Outsid
       end = outside store now.rig sink
 
       later-of : (from : SinkState) → sink.can_lack ≡ from.can_lack → from.failures ≤ sink.failures → IsLater (outside now.store now.rig from) end
-      later-of from kind later = onward now.store store now.rig now.rig from sink stays refl (λ f e. e) (omega arith) kind later
+      later-of from kind later = onward now.store store now.rig now.rig from sink stays refl (λ f e. e) (λ t. t) (omega arith) kind later
 
       abbrev put_now : Outside
       put_now = outside now.store now.rig sink
@@ -331,12 +302,12 @@ module _ (copies : Copies) (image : ImageValue) (failures : ℕ) (begun : Outsid
         put-fails : {U : Type 0} (fail : VectorsFail) → IsNotRead fail rows.vectors now.store store → Ends {U = U} (Err (stop_of_vectors fail)) end
         put-fails fail not =
             vectors-follow (work end) begun put_now end rows.vectors left so_far.vectors so_far.done all-put later-put stays.asked refl refl (SameRig end) same-rig
-            (are-rows now.rig refl) (session-still now.rig refl) are-all out.empty refl not.asked fail not.fails
+            (are-rows now.rig (λ f e. e)) (session-still now.rig refl) are-all out.empty refl not.asked fail not.fails
 
       pub read-stops : {U : Type 0} (stop : Stop) (rows' : Running) → NextStops stop (at_rows rows now.store now.sink) (at_rows rows' store sink) → Ends {U = U} (Err stop) end
       read-stops (Sink fail) rows' held =
           held-follows (work end) begun now end rows.vectors rows.block.text so_far.vectors so_far.done so_far.written (later-of now.sink held.kind held.later) stays.asked refl refl (SameRig end) same-rig
-          so_far.vectors [] first-of-file (all-of ((work end).are so_far.vectors) so_far.done (are-rows now.rig refl))
+          so_far.vectors [] first-of-file (all-of ((work end).are so_far.vectors) so_far.done (are-rows now.rig (λ f e. e)))
           (all-of (λ rs. (work end).session so_far.vectors rs ⊎ ((work end).differs so_far.vectors rs ⊎ (work end).lost)) so_far.done (inl (session-still now.rig refl))) held.still (Sink fail) held
       read-stops (Refused (refused.Vectors line kind)) rows' stops = put-fails rows'.block.text stops.1 (Text line kind) stops.0
       read-stops (Refused refused.Store) rows' stops = put-fails rows'.block.text stops.1 Failed stops.0
@@ -344,12 +315,12 @@ module _ (copies : Copies) (image : ImageValue) (failures : ℕ) (begun : Outsid
 
       -- ---- the file has ended
 
-      module _ (left : List ℕ) (reading : VectorReading) (ends : EndsFile rows.vectors reading now.store store) (out : IsPutOut rows.block.text left now.sink sink) (rig : RigState) (machine : rig.machine ≡ now.rig.machine) (loads : rig.loads ≡ now.rig.loads) (narrows : Narrows now.rig rig) (later : now.rig.failures ≤ rig.failures) where
+      module _ (left : List ℕ) (reading : VectorReading) (ends : EndsFile rows.vectors reading now.store store) (out : IsPutOut rows.block.text left now.sink sink) (rig : RigState) (machine : rig.machine ≡ now.rig.machine) (loads : rig.loads ≡ now.rig.loads) (narrows : Narrows now.rig rig) (tells : Tells now.rig rig) (later : now.rig.failures ≤ rig.failures) where
         abbrev last : Outside
         last = outside store rig sink
 
         later-last : IsLater put_now last
-        later-last = onward now.store store now.rig rig sink sink stays machine narrows later refl (omega arith)
+        later-last = onward now.store store now.rig rig sink sink stays machine narrows tells later refl (omega arith)
 
         same-last : SameRig last
         same-last = (machine ∙ so_far.machine, loads ∙ so_far.loads)
@@ -365,7 +336,7 @@ module _ (copies : Copies) (image : ImageValue) (failures : ℕ) (begun : Outsid
         pub file-ends : {U : Type 0} (x : U) → EndsSent rows now.rig rig → Ends (Ok x) last
         file-ends x sent =
             end-follows (work last) begun put_now last rows.vectors left so_far.vectors so_far.done (all-put left out) later-last stays.asked refl refl (SameRig last) same-last
-            (are-rows rig machine) (session-sent sent) are-all out.empty refl ends.asked x reading [] ends.next
+            (are-rows rig narrows) (session-sent sent) are-all out.empty refl ends.asked x reading [] ends.next
 
         pub sending-stops : {U : Type 0} → Rose now.rig.failures rig.failures → Ends {U = U} (Err (Refused refused.Rig)) last
         sending-stops rose =
@@ -375,30 +346,18 @@ module _ (copies : Copies) (image : ImageValue) (failures : ℕ) (begun : Outsid
             subst (λ (n : ℕ). IsNearEnd width (file_of begun.store) store.current n) (sym so_far.count) (taken-near-end width begun.store now.store store rows.vectors reading so_far.vectors so_far.written.taking all ends.moves) in
             let wrote = all-written width begun rows.vectors left put_now so_far.vectors so_far.done (all-put left out) out.empty in
             rows-follow (work last) begun put_now last rows.vectors left so_far.vectors so_far.done (all-put left out) later-last stays.asked refl refl (SameRig last) same-last
-            (Err (Refused refused.Rig)) (flat_map row_line so_far.done, (has-rows (work last) begun put_now last rows.vectors left so_far.vectors so_far.done (all-put left out) later-last stays.asked refl refl (SameRig last) same-last so_far.vectors first-of-file (are-rows rig machine) prompt, near), wrote) rose
+            (Err (Refused refused.Rig)) (flat_map row_line so_far.done, (has-rows (work last) begun put_now last rows.vectors left so_far.vectors so_far.done (all-put left out) later-last stays.asked refl refl (SameRig last) same-last so_far.vectors first-of-file (are-rows rig narrows) prompt, near), wrote) rose
 
         pub ends-so : {U : Type 0} (result : Result U Stop) (rows1 : Running) → IsSameRun rows rows1 → OnOk result (EndsSent rows1 now.rig rig) → IfErr result (λ stop. (stop ≡ Refused refused.Rig) × Rose now.rig.failures rig.failures) → Ends result last
         ends-so (Ok x) rows1 same sent stops = file-ends x (subst (λ (i : ImageValue). (rig ≡ now.rig) ⊎ RunsRows (pins_in i) now.rig rig [] []) same.image sent)
         ends-so (Err stop) rows1 same sent stops = subst (λ (s : Stop). Ends (Err s) last) (sym stops.0) (sending-stops stops.1)
 
-<<<<<<< HEAD
-    still : (last : SinkState) → last.can_lack ≡ new.sink.can_lack → new.sink.failures ≤ last.failures → IsLater new (outside new.store new.rig last)
-    still last kind later = row-later new.store new.store new.rig new.rig new.sink last (stays-same new.store) refl (λ f e. e) (λ t. t) (omega arith) kind later
-
-    -- the rows aren't written
-    pub row-stops : {U : Type 0} (stop : Stop) (left : List ℕ) (last : SinkState) → WaitsOrPuts (rows'.block.text ++ row_line rows'.row.items) left (Err stop) new.sink last → Follows {T = U} ⊥ [] same_rig (all_rows work) (Err stop) begun (outside new.store new.rig last)
-    row-stops stop left last waits =
-        let held = not-added _ left stop new.store new.sink last (some-lines rows'.block.text rows'.row.items) waits in
-        held-follows work begun new (outside new.store new.rig last) rows'.vectors _ _ _ with-it (still last held.kind held.later) refl refl refl same_rig rig-same
-        (session-rows new.rig new.rig image _ _ (λ f e. e) (counts-are copies _ _ with-it.count) widths-next driven-next) (inl (session-is new.rig new.rig image _ _ refl driven-next)) refl stop held
-=======
     pub pins-are : (rows1 : Running) → IsSameRun rows rows1 → width_of now.rig ≡ Some (pins_of rows1.image.config.shape)
     pins-are rows1 same =
         ap (option_map (λ (g : Configuration). pins_of g.shape)) so_far.driven.config
         ∙ ap (λ (i : ImageValue). Some (pins_of i.config.shape)) (sym (same.image ∙ so_far.image_is))
 
     -- ---- vectors are read together
->>>>>>> rows/ready
 
     module _ (rows1 : Running) (store : StoreState) (sink : SinkState) (stays : StaysOpen now.store store) (same : IsSameRun rows rows1) (fits1 : IsFitting rows1) (count : ℕ) (within : count ≤ together_of rows.left) (batch : HasBatch count rows1 (at_rows rows now.store now.sink) (at_rows rows1 store sink)) where
       abbrev vs : List (List Bool)
@@ -429,7 +388,7 @@ module _ (copies : Copies) (image : ImageValue) (failures : ℕ) (begun : Outsid
       took-first : AreWritten width begun batch.mid rows1.block.text read_now (so_far.vectors ++ batch.vector ∷ []) so_far.done
       took-first =
           takes-more width begun (outside now.store now.rig sink) read_now rows.vectors batch.mid rows1.block.text so_far.vectors so_far.done batch.vector before
-          (onward now.store store now.rig now.rig sink sink stays refl (λ f e. e) (omega arith) refl (omega arith)) stays.asked batch.first
+          (onward now.store store now.rig now.rig sink sink stays refl (λ f e. e) (λ t. t) (omega arith) refl (omega arith)) stays.asked batch.first
           (was-read rows.block.text rows1.block.text now.store store now.sink sink so_far.vectors so_far.done are-all batch.after) refl
 
       took-all : AreWritten width begun rows1.vectors rows1.block.text read_now (so_far.vectors ++ vs) so_far.done
@@ -462,7 +421,7 @@ module _ (copies : Copies) (image : ImageValue) (failures : ℕ) (begun : Outsid
 
       -- ---- the rig goes on, or fails
 
-      module _ (rig : RigState) (machine : rig.machine ≡ now.rig.machine) (loads : rig.loads ≡ now.rig.loads) (narrows : Narrows now.rig rig) (later : now.rig.failures ≤ rig.failures) where
+      module _ (rig : RigState) (machine : rig.machine ≡ now.rig.machine) (loads : rig.loads ≡ now.rig.loads) (narrows : Narrows now.rig rig) (tells : Tells now.rig rig) (later : now.rig.failures ≤ rig.failures) where
         module _ (last : SinkState) where
           abbrev new : Outside
           new = outside store rig last
@@ -471,7 +430,7 @@ module _ (copies : Copies) (image : ImageValue) (failures : ℕ) (begun : Outsid
           same-new = (machine ∙ so_far.machine, loads ∙ so_far.loads)
 
           on-rig : (from : SinkState) → last.can_lack ≡ from.can_lack → from.failures ≤ last.failures → IsLater (outside store now.rig from) new
-          on-rig from kind sink_later = onward store store now.rig rig from last (stays-same store) machine narrows later kind sink_later
+          on-rig from kind sink_later = onward store store now.rig rig from last (stays-same store) machine narrows tells later kind sink_later
 
           -- it makes no cycles, and the rows that wait are put out
           module _ (left : List ℕ) (out : IsPutOut rows1.block.text left sink last) where
@@ -490,7 +449,7 @@ module _ (copies : Copies) (image : ImageValue) (failures : ℕ) (begun : Outsid
             abbrev undriven-has : HasRows (work new) (flat_map row_line so_far.done)
             undriven-has =
                 has-rows (work new) begun (outside store now.rig last) new rows1.vectors left (so_far.vectors ++ vs) so_far.done undriven (on-rig last refl (omega arith)) refl refl refl (SameRig new) same-new
-                so_far.vectors first-of-file (are-rows rig machine) undriven-prompt
+                so_far.vectors first-of-file (are-rows rig narrows) undriven-prompt
 
             undriven-stops : {U : Type 0} (refusal : Refusal) → IsCounted ⊥ (Refused refusal) (outside store now.rig last) new → all_rows (work new) (flat_map row_line so_far.done) (refuses refusal) → Ends {U = U} (Err (Refused refusal)) new
             undriven-stops refusal counted at =
@@ -519,7 +478,7 @@ module _ (copies : Copies) (image : ImageValue) (failures : ℕ) (begun : Outsid
           drive-stops (Sink fail) left stops =
               let held = stops.0 store in
               held-follows (work new) begun read_now new rows1.vectors rows1.block.text (so_far.vectors ++ vs) so_far.done took-all (on-rig sink held.kind held.later) refl refl refl (SameRig new) same-new
-              so_far.vectors [] first-of-file (all-of ((work new).are so_far.vectors) so_far.done (are-rows rig machine))
+              so_far.vectors [] first-of-file (all-of ((work new).are so_far.vectors) so_far.done (are-rows rig narrows))
               (all-of (λ rs. (work new).session so_far.vectors rs ⊎ ((work new).differs so_far.vectors rs ⊎ (work new).lost)) so_far.done (held-session stops.1)) refl (Sink fail) held
           drive-stops (Refused refused.Rig) left stops =
               undriven-stops left stops.0 refused.Rig stops.1.0 (undriven-has left stops.0, near-end-of width (file_of begun.store) store.current (length so_far.done) (undriven-near left stops.0))
@@ -550,7 +509,7 @@ module _ (copies : Copies) (image : ImageValue) (failures : ℕ) (begun : Outsid
           wide-readings = subst (λ (rs : List (List Bool)). AllByRecursion (λ (r : List Bool). length r ≡ length image.outputs) rs) (sym run-is.2) (wide-rows image run-is.0)
 
           driven-rows : AreWritten width begun rows1.vectors rows1.block.text (outside store rig sink) (so_far.vectors ++ vs) so_far.done
-          driven-rows = rig-moved width begun read_now rows1.vectors rows1.block.text (so_far.vectors ++ vs) so_far.done rig took-all (onward store store now.rig rig sink sink (stays-same store) machine narrows later refl (omega arith))
+          driven-rows = rig-moved width begun read_now rows1.vectors rows1.block.text (so_far.vectors ++ vs) so_far.done rig took-all (onward store store now.rig rig sink sink (stays-same store) machine narrows tells later refl (omega arith))
 
           few-readings : length so_far.done + length readings ≤ length (so_far.vectors ++ vs)
           few-readings = (let size = size-taken in let count_is = size-readings in omega (arith, size, count_is))
@@ -630,7 +589,7 @@ module _ (copies : Copies) (image : ImageValue) (failures : ℕ) (begun : Outsid
             same-now2 = (machine ∙ so_far.machine, loads ∙ so_far.loads)
 
             later-sink : (from : SinkState) → last.can_lack ≡ from.can_lack → from.failures ≤ last.failures → IsLater (outside store rig from) now2
-            later-sink from kind sink_later = row-later store store rig rig from last (stays-same store) refl (λ f e. e) (omega arith) kind sink_later
+            later-sink from kind sink_later = row-later store store rig rig from last (stays-same store) refl (λ f e. e) (λ t. t) (omega arith) kind sink_later
 
             -- all readings are alike
             alike-held : {U : Type 0} (stop : Stop) (between : SinkState) (waiting : List ℕ) (done2 unwritten made : List (List Bool)) → AreWritten width begun rows1.vectors waiting (outside store rig between) (so_far.vectors ++ vs) done2

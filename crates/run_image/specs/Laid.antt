@@ -1,11 +1,6 @@
 -- What is laid on a machine: one design, or several side by side.
-<<<<<<< HEAD
-use Rattle.std.specs.Prelude.{◌≡◌, ◌≤◌, ℕ, Bool, List, length, Option}
-use Rattle.base_io.specs.Vocabulary.{Told, Rose, StorePlace}
-=======
-use Rattle.std.specs.Prelude.{◌≡◌, ◌≤◌, ℕ, Bool, List, length, IfSome}
+use Rattle.std.specs.Prelude.{◌≡◌, ◌≤◌, ℕ, Bool, List, length}
 use Rattle.base_io.specs.Vocabulary.{Told, Rose, StoreState}
->>>>>>> rows/ready
 use Rattle.machine_meaning.specs.Vocabulary.{Covers, Faults}
 use Rattle.machine_defects.specs.Lists.{DefectList}
 use Rattle.machine_image.specs.Vocabulary.{ImageValue, IsImage, IsFreeImage}

@@ -3,12 +3,7 @@ use Rattle.std.specs.Prelude.{◌≡◌, ◌⊎◌, ◌+◌, ◌-◌, ◌*◌, �
 use Rattle.run_image.specs.Copying.{share, repeated, AreEqualShares, IsApart}
 use Rattle.run_image.specs.declared.copies.Copies.{Copies}
 use Rattle.base_io.specs.Vocabulary.{Rose, StoreState, SinkState}
-<<<<<<< HEAD
-use Rattle.rig.specs.Rig.{RigState, Begins, CycleFails, Narrows, Tells}
-use Rattle.rig.specs.declared.rig.RigFail.{RigFail}
-=======
 use Rattle.rig.specs.Rig.{RigState, Begins, CyclesFail}
->>>>>>> rows/ready
 use Rattle.rig.specs.declared.rig.RigFail.TheVariants as work
 use Rattle.run_image.specs.Batches.{most_together, rows_in}
 use Rattle.run_image.specs.Pins.{pins_in}
@@ -53,19 +48,6 @@ pub record IsLoaded (rows : Running) (rig : RigState) : Type 0 where
 abbrev pub prepares : (old new : RigState) → Step Running
 prepares old new = record { stops = (loads old.loads new).stops; gives = λ _. (loads old.loads new).gives tt }
 
-<<<<<<< HEAD
--- What the next row leaves as it was, and counts that never fall. What explains all that is read then explained it before, and told
--- faults explain it if they did before
-pub record Keeps (old new : Running) (before after : StoreState) (rig_old rig_new : RigState) : Type 0 where
-  pub image : new.image ≡ old.image
-  pub copies : new.copies ≡ old.copies
-  pub store : StaysOpen before after
-  pub machine : rig_new.machine ≡ rig_old.machine
-  pub loads : rig_new.loads ≡ rig_old.loads
-  pub failures : rig_old.failures ≤ rig_new.failures
-  pub narrows : Narrows rig_old rig_new
-  pub tells : Tells rig_old rig_new
-=======
 -- the rows of the same image
 pub record IsSameBut (old new : Running) : Type 0 where
   pub image : new.image ≡ old.image
@@ -76,7 +58,6 @@ pub record IsSameRun (old new : Running) : Type 0 where
   pub image : new.image ≡ old.image
   pub copies : new.copies ≡ old.copies
   pub left : new.left ≡ old.left
->>>>>>> rows/ready
 
 -- where the reading stands: with the lines of the rows that wait
 abbrev pub at_rows : Running → StoreState → SinkState → RowsAt

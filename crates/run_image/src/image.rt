@@ -1,28 +1,16 @@
 //! The rows of an image.
-<<<<<<< HEAD
-ghost use Rattle.std.specs.Prelude.{◌≡◌, ◌≤◌, ℕ, List, ◌∷◌, ◌++◌, [], Some, OnOk, IfOk, IfErr, IsSome, length};
+ghost use Rattle.std.specs.Prelude.{◌≡◌, ◌+◌, ◌-◌, ◌*◌, ◌≤◌, ℕ, List, ◌∷◌, ◌++◌, [], Some, OnOk, IfOk, IfErr, IsSome, length, take, drop};
 ghost use Rattle.run_image.specs.Copying.{repeated, share, AreEqualShares};
+ghost use Rattle.base_io.specs.Counts.{Rose};
 ghost use Rattle.machine_shape.specs.Shape.{pins_of};
-ghost use Rattle.rig.specs.Rig.{Narrows, Tells};
-ghost use Rattle.run_image.specs.Pins.{pins_in};
-ghost use Rattle.run_image.specs.Run.{RunsRow};
+ghost use Rattle.rig.specs.Rig.{Narrows, Tells, CyclesFail};
+ghost use Rattle.run_image.specs.Batches.{most_together};
 ghost use Rattle.design_vectors.specs.Readings.{new_reading};
 ghost use Rattle.design_vectors.specs.Rows.{row_line};
 ghost use Rattle.cmd_steps.specs.Vocabulary.{IsBegun, file_of, StoreState, SinkState, shape_of, width_of, StandsIn, outside, around, Took};
-ghost use Rattle.cmd_steps.specs.Vocabulary.{Follows, all_rows, most_vector_bytes, WaitsOrPuts};
-=======
-ghost use Rattle.std.specs.Prelude.{◌≡◌, ◌+◌, ◌-◌, ◌≤◌, ℕ, List, ◌∷◌, ◌++◌, [], Some, OnOk, IfOk, IfErr, IsSome, length, take, drop};
-ghost use Rattle.run_image.specs.Copying.{repeated, AreEqualShares};
-ghost use Rattle.base_io.specs.Counts.{Rose};
-ghost use Rattle.machine_shape.specs.Shape.{pins_of};
-ghost use Rattle.rig.specs.Rig.{Narrows, CyclesFail};
-ghost use Rattle.run_image.specs.Batches.{most_together};
-ghost use Rattle.design_vectors.specs.Rows.{row_line};
-ghost use Rattle.cmd_steps.specs.Vocabulary.{IsBegun, file_of, StoreState, SinkState, shape_of, width_of, StandsIn, outside, around, Took};
-ghost use Rattle.cmd_steps.specs.Vocabulary.{Follows, all_rows, WaitsOrPuts, NextStops, StaysOpen};
+ghost use Rattle.cmd_steps.specs.Vocabulary.{Follows, all_rows, most_vector_bytes, WaitsOrPuts, NextStops, StaysOpen};
 ghost use Rattle.cmd_steps.specs.declared.refusal.Refusal.TheVariants.{Rig};
 ghost use Rattle.cmd_steps.specs.declared.refusal.Stop.TheVariants.{Refused};
->>>>>>> rows/ready
 ghost use Rattle.run_image.specs.Rows.{RowsBegin, copied_rows, image_rows, image_course};
 ghost use Rattle.run_image.specs.Running.{IsFitting, IsLoaded, IsSameBut, IsSameRun, AreKept, ReadsMore, BatchGives, DrivesTo, readings_in};
 ghost use Rattle.run_image.specs.Running.{CompareStops, HasAddedOne, HasAddedAll, AddStops, AddsStop, MakesRows, MakesStop, EndsSent};
@@ -35,7 +23,7 @@ use base_io::{Sink, Store};
 use cmd_steps::{Refusal, RowBlock, Stop, next_vector, open_vectors, write};
 use design_vectors::VectorText;
 use machine_image::Image;
-use rig::Rig;
+use rig::{Rig, RigFail};
 use std::alloc::{AllocError, Global};
 
 /// For how many rows the rig is asked for room.
@@ -84,6 +72,8 @@ struct Buffers {
     reading: Vec<bool>,
     row: Vec<bool>,
     block: RowBlock,
+    drives: Vec<bool>,
+    readings: Vec<bool>,
 }
 
 // Takes all memory for rows of so many input and output pins.
@@ -100,6 +90,8 @@ fn buffers_for(
     ensures row { IfOk result (λ b. length b.row.items ≡ share copies outputs) }
     ensures block { IfOk result (λ b. b.block.width ≡ share copies outputs) }
     ensures none { IfOk result (λ b. b.block.text ≡ []) }
+    ensures drives { IfOk result (λ b. length b.drives.items ≡ most_together * inputs) }
+    ensures readings { IfOk result (λ b. length b.readings.items ≡ most_together * outputs) }
 {
     let width = share_of(copies, inputs);
     let count = share_of(copies, outputs);
@@ -107,6 +99,8 @@ fn buffers_for(
     let drive = vec![in alloc; false; inputs as usize]?;
     let reading = vec![in alloc; false; outputs as usize]?;
     let row = vec![in alloc; false; count as usize]?;
+    let drives = vec![in alloc; false; TOGETHER * inputs as usize]?;
+    let readings = vec![in alloc; false; TOGETHER * outputs as usize]?;
     let vectors = VectorText::new(alloc, width)?;
     let block = RowBlock::new(alloc, count)?;
     Ok(Buffers {
@@ -116,6 +110,8 @@ fn buffers_for(
         reading,
         row,
         block,
+        drives,
+        readings,
     })
 }
 
@@ -139,43 +135,21 @@ fn prepare(
         Took [] (prepares old new) result (outside store old sink) (outside store new sink) }
 {
     let (inputs, outputs) = widths(&image);
-<<<<<<< HEAD
     let buffers = buffers_for(alloc, copies, inputs, outputs)?;
-=======
-    let width = share_of(copies, inputs);
-    let count = share_of(copies, outputs);
-    let vectors = VectorText::new(alloc, width)?;
-    let vector = vec![in alloc; false; width as usize]?;
-    let drive = vec![in alloc; false; inputs as usize]?;
-    let reading = vec![in alloc; false; outputs as usize]?;
-    let row = vec![in alloc; false; count as usize]?;
-    let block = RowBlock::new(alloc, count)?;
-    let drives = vec![in alloc; false; TOGETHER * inputs as usize]?;
-    let readings = vec![in alloc; false; TOGETHER * outputs as usize]?;
->>>>>>> rows/ready
     let run = begin(alloc, rig, &image, ROOM)?;
     Ok(Running {
         image,
         copies,
         run,
-<<<<<<< HEAD
         vectors: buffers.vectors,
         vector: buffers.vector,
         drive: buffers.drive,
         reading: buffers.reading,
         row: buffers.row,
         block: buffers.block,
-=======
-        vectors,
-        vector,
-        drive,
-        reading,
-        row,
-        block,
-        drives,
-        readings,
+        drives: buffers.drives,
+        readings: buffers.readings,
         left: ROOM,
->>>>>>> rows/ready
     })
 }
 
@@ -416,6 +390,7 @@ fn make_rows<K: Sink>(
     ensures left { OnOk result (rows.new.left ≡ rows.old.left - count) }
     ensures machine { (rig_state rig.new).machine ≡ (rig_state rig.old).machine }
     ensures narrows { Narrows (rig_state rig.old) (rig_state rig.new) }
+    ensures tells { Tells (rig_state rig.old) (rig_state rig.new) }
     ensures loads { (rig_state rig.new).loads ≡ (rig_state rig.old).loads }
     ensures failures { (rig_state rig.old).failures ≤ (rig_state rig.new).failures }
     ensures makes { OnOk result (MakesRows count rows.old rows.old.block.text rows.new.block.text
@@ -438,6 +413,7 @@ fn end_rows(rows: &mut Running, none: bool, rig: &mut Box<dyn Rig>) -> Result<()
 
     ensures machine { (rig_state rig.new).machine ≡ (rig_state rig.old).machine }
     ensures narrows { Narrows (rig_state rig.old) (rig_state rig.new) }
+    ensures tells { Tells (rig_state rig.old) (rig_state rig.new) }
     ensures loads { (rig_state rig.new).loads ≡ (rig_state rig.old).loads }
     ensures failures { (rig_state rig.old).failures ≤ (rig_state rig.new).failures }
     ensures sent { OnOk result (EndsSent rows.old (rig_state rig.old) (rig_state rig.new)) }

@@ -229,6 +229,7 @@ impl Run {
         ensures same { self.new ≡ self.old }
         ensures machine { (rig_state rig.new).machine ≡ (rig_state rig.old).machine }
         ensures narrows { Narrows (rig_state rig.old) (rig_state rig.new) }
+        ensures tells { Tells (rig_state rig.old) (rig_state rig.new) }
         ensures loads { (rig_state rig.new).loads ≡ (rig_state rig.old).loads }
         ensures later { (rig_state rig.old).failures ≤ (rig_state rig.new).failures }
         ensures count { (rig_state rig.new).failures < 2 ^ 64 }

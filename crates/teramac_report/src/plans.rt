@@ -1,4 +1,4 @@
-//! The plans of a design: in order for its plain network, in order for the one with fewer tables, and with fewer crossings.
+//! The plans of a design: in order for its plain network, for two copies of it, for the one with fewer tables, and with fewer crossings.
 ghost use Rattle.std.specs.Prelude.{IfOk, IfSome};
 ghost use Rattle.map_network.specs.Networks.{IsNetwork};
 ghost use Rattle.place_plan.specs.Plans.{FitsInOrder};
@@ -8,6 +8,7 @@ use design_netlist::Netlist;
 use machine_defects::Defects;
 use map_network::{Network, depth, merge_tables, plain};
 use place_anneal::{crossings_of, improve};
+use place_pair::joint;
 use place_plan::{PlaceFail, Plan, fits, in_order};
 use std::alloc::{AllocError, Global};
 
@@ -126,7 +127,28 @@ fn put_improved(
     put_crossings(text, crossings)
 }
 
-/// Adds a line for each of the three plans: the tables, nets and ticks of the network, and the crossings of the plan or that
+// Two copies can be counted in one network.
+const MOST_DOUBLED: u32 = 2_147_483_647;
+
+// Adds the line of the plan in order of two copies of a network, by which `twice` decides about room.
+fn put_twice(
+    alloc: Global,
+    text: &mut Vec<u8>,
+    network: &Network,
+    list: &Defects,
+) -> Result<(), AllocError>
+    requires { IsNetwork network.now }
+{
+    let tables = network.tables.as_slice().len();
+    if network.inputs > MOST_DOUBLED || tables > MOST_DOUBLED as usize {
+        return Ok(());
+    }
+    let both = joint(alloc, network, network)?;
+    put_in_order(alloc, text, "plan twice", &both, list)?;
+    Ok(())
+}
+
+/// Adds a line for each of the four plans: the tables, nets and ticks of the network, and the crossings of the plan or that
 /// it is short of something.
 ///
 /// # Errors
@@ -140,6 +162,7 @@ pub fn put_plans(
 ) -> Result<(), AllocError> {
     let network = plain(alloc, netlist)?;
     put_in_order(alloc, text, "plan plain", &network, list)?;
+    put_twice(alloc, text, &network, list)?;
     let network = merge_tables(alloc, netlist)?;
     if let Some(plan) = put_in_order(alloc, text, "plan merged", &network, list)? {
         put_improved(alloc, text, &network, plan, list)?;

@@ -1,9 +1,8 @@
-use Rattle.std.proofs.Common.{◌≡◌, ◌∙◌, ℕ, [], refl, subst}
+use Rattle.std.proofs.Common.{◌∙◌, refl}
 use Rattle.std.proofs.lemmas.Result.{err_from_is_err_and}
-use Rattle.diag_list.proofs.Made.{shape-attached}
-use Rattle.cmd_steps.specs.Vocabulary.{outside, Follows}
+use Rattle.diag_list.proofs.Made.{list-stops, list-gives, shape-attached, shape-listed}
+use Rattle.cmd_steps.proofs.Keeping.{kept-stops, kept-gives}
 use Rattle.cmd_steps.proofs.Making.{nothing}
-use Rattle.cmd_bench.specs.Bench.{design_made}
 use Rattle.cmd_bench.proofs.Following.{unnamed, unattached, attached}
 use Rattle.cmd_bench.proofs.command.work.Goals as goal
 
@@ -19,20 +18,42 @@ returns-in_err-attach g c = λ store.
     let named = c.as_str.ensures.value ∙ c.in_ok-name.ensures in
     rw (p.1, p.2) (unattached c.args.n _ _ _ c.bench_shape-shape.ensures _ named _ _ refl e.asked (e.took store _) (refl, e.loads))
 
-pub make_and_run-requires : goal.make_and_run-requires
-make_and_run-requires g c = shape-attached _ _ _ _ (c.in_ok-attach.ensures.took nothing.store nothing.sink)
+pub returns-in_err-netlist : goal.returns-in_err-netlist
+returns-in_err-netlist g c = λ store.
+    let p = err_from_is_err_and c.from_residual-in_err-netlist.result c.from_residual-in_err-netlist.ensures.1 in
+    let e = c.in_ok-attach.ensures in
+    let named = c.as_str.ensures.value ∙ c.in_ok-name.ensures in
+    rw (p.1, p.2) (attached c.args.n _ _ _ c.bench_shape-shape.ensures _ named _ _ e.asked (e.took store _)
+    (kept-stops _ _ _ _ _ _ _ _ refl (c.in_err-netlist.ensures.took _) (λ s. s) (refl, e.loads) refl))
+
+pub list_of-requires : goal.list_of-requires
+list_of-requires g c = shape-attached _ _ _ _ (c.in_ok-attach.ensures.took nothing.store nothing.sink)
+
+pub returns-in_err-list : goal.returns-in_err-list
+returns-in_err-list g c = λ store.
+    let p = err_from_is_err_and c.from_residual-in_err-list.result c.from_residual-in_err-list.ensures.1 in
+    let e = c.in_ok-attach.ensures in
+    let l = c.in_err-list.ensures in
+    let named = c.as_str.ensures.value ∙ c.in_ok-name.ensures in
+    rw (p.1, p.2) (attached c.args.n _ _ _ c.bench_shape-shape.ensures _ named _ _ e.asked (e.took store _)
+    (kept-gives _ _ _ _ _ c.in_ok-netlist.netlist _ _ _ _ (c.in_ok-netlist.ensures.took _) (λ s. s) refl
+    (list-stops _ _ _ _ _ _ _ _ refl (l.took store _) e.loads l.machine refl)))
+
+pub run_on-requires : goal.run_on-requires
+run_on-requires g c =
+    let l = c.in_ok-list.ensures in
+    let named = shape-attached _ _ _ _ (c.in_ok-attach.ensures.took nothing.store nothing.sink) in
+    record {
+      shape = shape-listed _ _ _ _ (l.took nothing.store nothing.sink) l.machine named;
+      netlist = c.in_ok-netlist.ensures.netlist;
+    }
 
 pub returns : goal.returns
 returns g c = λ store.
     let e = c.in_ok-attach.ensures in
+    let l = c.in_ok-list.ensures in
     let named = c.as_str.ensures.value ∙ c.in_ok-name.ensures in
-    let box0 = c.args.rig.now in
-    let r0 = (goal.Rig-dyn g (box0.vtable, box0.value)).rig_state box0.value in
-    let box1 = c.attach.new.rig in
-    let r1 = (goal.Rig-dyn g (box1.vtable, box1.value)).rig_state box1.value in
-    let box2 = c.make_and_run.new.rig in
-    let r2 = (goal.Rig-dyn g (box2.vtable, box2.value)).rig_state box2.value in
-    let a = g.K.Sink.sink_state c.args.sink.now in
-    let b = g.K.Sink.sink_state c.make_and_run.new.sink in
-    let from = λ (loads : ℕ). Follows ⊥ [] (r2.machine ≡ r1.machine) (design_made c.args.n (record { store = store; rig = record r0 { loads = loads } }) (record { store = store; rig = r2 }) c.bench_shape-shape.result) c.make_and_run.result (outside store r1 a) (outside store r2 b) in
-    attached c.args.n _ _ _ c.bench_shape-shape.ensures _ named _ _ e.asked (e.took store _) (subst from e.loads (c.make_and_run.ensures store))
+    attached c.args.n _ _ _ c.bench_shape-shape.ensures _ named _ _ e.asked (e.took store _)
+    (kept-gives _ _ _ _ _ c.in_ok-netlist.netlist _ _ _ _ (c.in_ok-netlist.ensures.took _) (λ s. s) refl
+    (list-gives _ _ _ _ _ _ _ c.in_ok-list.list _ (l.took store _) e.loads l.machine
+    (rw c.loads_of-begun.ensures at c.run_on.ensures store)))

@@ -1,12 +1,11 @@
-use Rattle.std.proofs.Common.{[], ◌∷◌, refl}
+use Rattle.std.proofs.Common.{[], ◌∷◌}
 use Rattle.std.proofs.lemmas.Result.{err_from_is_err_and}
 use Rattle.base_io.specs.Told.{Told}
 use Rattle.machine_shape.specs.declared.Shape.{Shape}
 use Rattle.design_netlist.specs.declared.netlist_data.NetlistData.{NetlistData}
-use Rattle.cmd_steps.specs.Vocabulary.{Step, reads_machine, reads_defects, reads_design, behind_list, behind_machine}
+use Rattle.cmd_steps.specs.Vocabulary.{Step, reads_design}
 use Rattle.cmd_steps.specs.declared.design_file.DesignFile.TheVariants.{Design}
-use Rattle.cmd_steps.proofs.ListFiles.{no-machine, no-list}
-use Rattle.cmd_steps.proofs.Reading.{none-read, more-read, file-gives}
+use Rattle.cmd_steps.proofs.ListFiles.{no-machine, no-list, no-third, all-read}
 use Rattle.cmd_compile.specs.Compile.{design_laid}
 use Rattle.cmd_compile.proofs.CompileLaws.{compile-lawful}
 use Rattle.cmd_compile.proofs.command.compile.Goals as goal
@@ -23,6 +22,9 @@ returns-in_err-shape-clause-lawful g c = compile-lawful c.in_order_plans_are_dec
 pub returns-in_err-list-clause-lawful : goal.returns-in_err-list-clause-lawful
 returns-in_err-list-clause-lawful g c = compile-lawful c.in_order_plans_are_decided.ensures.never_both _ _ _
 
+pub returns-in_err-netlist-clause-lawful : goal.returns-in_err-netlist-clause-lawful
+returns-in_err-netlist-clause-lawful g c = compile-lawful c.in_order_plans_are_decided.ensures.never_both _ _ _
+
 pub returns-in_err-shape-clause-does : goal.returns-in_err-shape-clause-does
 returns-in_err-shape-clause-does g c =
     let p = err_from_is_err_and c.from_residual.result c.from_residual.ensures.1 in
@@ -33,21 +35,16 @@ returns-in_err-list-clause-does g c =
     let p = err_from_is_err_and c.from_residual-in_err-list.result c.from_residual-in_err-list.ensures.1 in
     λ rig. rw (p.1, p.2) (no-list reads design_laid _ _ _ (c.in_ok-shape.ensures.took rig _) (c.in_err-list.ensures.took rig _))
 
+pub returns-in_err-netlist-clause-does : goal.returns-in_err-netlist-clause-does
+returns-in_err-netlist-clause-does g c =
+    let p = err_from_is_err_and c.from_residual-in_err-netlist.result c.from_residual-in_err-netlist.ensures.1 in
+    λ rig.
+    rw (p.1, p.2) (no-third reads design_laid _ _ _ (c.in_ok-shape.ensures.took rig _) (c.in_ok-list.ensures.took rig _)
+    (c.in_err-netlist.ensures.took rig _))
+
 pub returns-clause-does : goal.returns-clause-does
 returns-clause-does g c =
-    let s0 = g.S.Store.store_state c.args.store.now in
-    let s = g.S.Store.store_state c.read_and_lay.new.store in
-    let machine = c.args.machine.now in
-    let defects = c.args.defects.now in
-    let m = c.in_ok-shape.shape in
-    let d = c.in_ok-list.list in
-    let reads_list = λ (told : Told). reads_defects told m in
+    let files = c.args.design.now ∷ c.args.defects.now ∷ c.args.machine.now ∷ [] in
     λ rig.
-    let took_machine = c.in_ok-shape.ensures.took rig (g.K.Sink.sink_state c.args.sink.now) in
-    let took_list = c.in_ok-list.ensures.took rig (g.K.Sink.sink_state c.args.sink.now) in
-    let one = more-read reads_machine machine [] s0 m _ _ (none-read s0) took_machine in
-    let two = more-read reads_list defects (machine ∷ []) s0 d _ _ one took_list in
-    file-gives reads_machine machine [] s0 (behind_machine reads design_laid machine defects c.args.design.now s0 s) s _ _ _ m _ _ _ _
-    (none-read s0) took_machine
-    (file-gives reads_list defects (machine ∷ []) s0 (behind_list reads design_laid machine defects c.args.design.now s0 s m) s _ (Unit {0}) _ d _ _ _ _
-    one took_list (c.read_and_lay.ensures s0 (defects ∷ machine ∷ []) rig two.contents two.place) tt) refl
+    all-read reads design_laid _ _ _ (c.in_ok-shape.ensures.took rig _) (c.in_ok-list.ensures.took rig _)
+    (c.in_ok-netlist.ensures.took rig _) (c.lay_and_write.ensures files (g.S.Store.store_state c.args.store.now) _ rig)

@@ -1,5 +1,6 @@
 use Rattle.std.proofs.Common.{refl}
 use Rattle.std.proofs.lemmas.Result.{err_from_is_err_and}
+use Rattle.diag_list.proofs.FewCycles.{few-listed}
 use Rattle.diag_list.proofs.ListedLemmas.{attached-shape}
 use Rattle.cmd_diagnose.proofs.Following.{no-machine, unattached, unlisted, listed}
 use Rattle.cmd_diagnose.proofs.command.work.Goals as goal
@@ -15,7 +16,7 @@ pub returns-in_err-attach : goal.returns-in_err-attach
 returns-in_err-attach g c = record {
   does =
       let p = err_from_is_err_and c.from_residual-in_err-attach.result c.from_residual-in_err-attach.ensures.1 in
-      rw (p.1, p.2) (unattached c.args.machine.now c.args.name.now _ _ _ _ _ c.in_ok-shape.shape (c.in_ok-shape.ensures.took _ _) c.in_err-attach.ensures.asked c.in_err-attach.ensures.loads _ _ refl (c.in_err-attach.ensures.took _ _));
+      rw (p.1, p.2) (unattached c.args.machine.now c.args.name.now _ _ _ _ _ c.in_ok-shape.shape (c.in_ok-shape.ensures.took _ _) c.in_err-attach.ensures.asked c.in_err-attach.ensures.loads c.in_err-attach.ensures.unused _ _ refl (c.in_err-attach.ensures.took _ _));
 }
 
 pub write_list-requires : goal.write_list-requires
@@ -29,12 +30,14 @@ returns-in_err-write_list g c = record {
   does =
       let p = err_from_is_err_and c.from_residual-in_err-write_list.result c.from_residual-in_err-write_list.ensures.1 in
       let e = c.in_err-write_list.ensures in
-      rw (p.1, p.2) (unlisted c.args.machine.now c.args.name.now _ _ _ _ _ c.in_ok-shape.shape (c.in_ok-shape.ensures.took _ _) c.in_ok-attach.ensures.asked c.in_ok-attach.ensures.loads (c.in_ok-attach.ensures.took _ _) _ _ e.machine _ _ refl (e.written _));
+      let a = c.in_ok-attach.ensures in
+      rw (p.1, p.2) (unlisted c.args.machine.now c.args.name.now _ _ _ _ _ c.in_ok-shape.shape (c.in_ok-shape.ensures.took _ _) a.asked a.loads a.unused (a.took _ _) _ _ e.machine (few-listed _ _ _ a.unused a.loads e.machine e.cycles) _ _ refl (e.written _));
 }
 
 pub returns : goal.returns
 returns g c = record {
   does =
       let e = c.in_ok-write_list.ensures in
-      listed c.args.machine.now c.args.name.now _ _ _ _ _ c.in_ok-shape.shape (c.in_ok-shape.ensures.took _ _) c.in_ok-attach.ensures.asked c.in_ok-attach.ensures.loads (c.in_ok-attach.ensures.took _ _) _ _ e.machine _ _ (e.written _);
+      let a = c.in_ok-attach.ensures in
+      listed c.args.machine.now c.args.name.now _ _ _ _ _ c.in_ok-shape.shape (c.in_ok-shape.ensures.took _ _) a.asked a.loads a.unused (a.took _ _) _ _ e.machine (few-listed _ _ _ a.unused a.loads e.machine e.cycles) _ _ (e.written _);
 }

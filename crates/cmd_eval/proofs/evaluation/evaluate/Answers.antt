@@ -10,31 +10,5 @@ returns-in_err-rows g c =
     let told = ap (λ contents. contents c.args.vectors.now) same in
     rw (p.1, p.2) (opening-lacks _ _ files begun _ _ _ told stands _ refl)
 
-<<<<<<< HEAD
-=======
-pub returns-in_err-open_vectors : goal.returns-in_err-open_vectors
-returns-in_err-open_vectors g c =
-    let p = err_from_is_err_and c.from_residual-in_err-open_vectors.result c.from_residual-in_err-open_vectors.ensures.1 in
-    let a = g.K.Sink.sink_state c.args.sink.now in
-    λ begun files rig same stands.
-    let told = ap (λ contents. contents c.args.vectors.now) same in
-    rw (p.1, p.2) (opening-stops _ _ files begun _ _ _ told stands _ _ _ _ refl (c.in_err-open_vectors.ensures.took rig a) tt)
-
-pub returns-in_err-write : goal.returns-in_err-write
-returns-in_err-write g c =
-    let p = err_from_is_err_and c.from_residual-in_err-write.result c.from_residual-in_err-write.ensures.1 in
-    let a = g.K.Sink.sink_state c.args.sink.now in
-    let opened = c.in_ok-open_vectors.ensures in
-    λ begun files rig same stands.
-    let told = ap (λ contents. contents c.args.vectors.now) same in
-    rw (p.1, p.2) (outputs-stops _ _ files begun _ _ _ told stands _ (opened.took rig a) _ _ _ _ refl c.in_err-write.ensures.puts opened.begun tt)
-
-pub write_rows-requires-clause-begun : goal.write_rows-requires-clause-begun
-write_rows-requires-clause-begun g c =
-    let opened = c.in_ok-open_vectors.ensures in
-    let took = opened.took nothing.rig (g.K.Sink.sink_state c.args.sink.now) in
-    (c.args.vectors.now, opened.begun, rw took.later.contents took.gives, opened.unread)
-
->>>>>>> rows/ready
 pub returns : goal.returns
 returns g c = λ begun files rig same stands. rw c.in_ok-rows.ensures.eval.netlist at (c.open_and_write.ensures begun files rig same stands)

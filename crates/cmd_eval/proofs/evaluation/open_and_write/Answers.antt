@@ -26,7 +26,7 @@ pub write_rows-requires-clause-begun : goal.write_rows-requires-clause-begun
 write_rows-requires-clause-begun g c =
     let opened = c.in_ok-open_vectors.ensures in
     let took = opened.took nothing.rig (g.K.Sink.sink_state c.args.sink.now) in
-    (c.args.vectors.now, opened.begun, rw took.later.contents took.gives)
+    (c.args.vectors.now, opened.begun, rw took.later.contents took.gives, opened.unread)
 
 pub returns : goal.returns
 returns g c =

@@ -1,18 +1,21 @@
-use Rattle.std.proofs.Common.{[], ◌∷◌, refl}
+use Rattle.std.proofs.Common.{[], ◌∷◌}
 use Rattle.std.proofs.lemmas.Result.{err_from_is_err_and}
 use Rattle.base_io.specs.Told.{Told}
 use Rattle.machine_shape.specs.declared.Shape.{Shape}
-use Rattle.cmd_steps.specs.Vocabulary.{Step, reads_machine, reads_defects, reads_text, behind_list, behind_machine}
+use Rattle.cmd_steps.specs.Vocabulary.{Step, reads_text}
 use Rattle.cmd_steps.specs.declared.design.DesignText.{DesignText}
 use Rattle.cmd_steps.specs.declared.design_file.DesignFile.TheVariants.{Design}
-use Rattle.cmd_steps.proofs.ListFiles.{no-machine, no-list}
-use Rattle.cmd_steps.proofs.Reading.{none-read, more-read, file-gives}
+use Rattle.cmd_steps.proofs.ListFiles.{no-machine, no-list, no-third, all-read}
+use Rattle.cmd_steps.proofs.Making.{nothing}
 use Rattle.cmd_map.specs.Maps.{design_fitted}
 use Rattle.cmd_map.proofs.MapLaws.{fit-lawful}
 use Rattle.cmd_map.proofs.mapping.fit_design.Goals as goal
 
 abbrev reads : Told → Shape → Step DesignText
 reads told m = reads_text Design told
+
+pub fit_and_write-requires : goal.fit_and_write-requires
+fit_and_write-requires g c = (c.in_ok-read.ensures.took nothing.rig nothing.sink).gives.design
 
 pub returns-clause-lawful : goal.returns-clause-lawful
 returns-clause-lawful g c = fit-lawful c.in_order_plans_are_decided.ensures.never_both _ _ _
@@ -22,6 +25,9 @@ returns-in_err-shape-clause-lawful g c = fit-lawful c.in_order_plans_are_decided
 
 pub returns-in_err-list-clause-lawful : goal.returns-in_err-list-clause-lawful
 returns-in_err-list-clause-lawful g c = fit-lawful c.in_order_plans_are_decided.ensures.never_both _ _ _
+
+pub returns-in_err-read-clause-lawful : goal.returns-in_err-read-clause-lawful
+returns-in_err-read-clause-lawful g c = fit-lawful c.in_order_plans_are_decided.ensures.never_both _ _ _
 
 pub returns-in_err-shape-clause-does : goal.returns-in_err-shape-clause-does
 returns-in_err-shape-clause-does g c =
@@ -33,21 +39,16 @@ returns-in_err-list-clause-does g c =
     let p = err_from_is_err_and c.from_residual-in_err-list.result c.from_residual-in_err-list.ensures.1 in
     λ rig. rw (p.1, p.2) (no-list reads design_fitted _ _ _ (c.in_ok-shape.ensures.took rig _) (c.in_err-list.ensures.took rig _))
 
+pub returns-in_err-read-clause-does : goal.returns-in_err-read-clause-does
+returns-in_err-read-clause-does g c =
+    let p = err_from_is_err_and c.from_residual-in_err-read.result c.from_residual-in_err-read.ensures.1 in
+    λ rig.
+    rw (p.1, p.2) (no-third reads design_fitted _ _ _ (c.in_ok-shape.ensures.took rig _) (c.in_ok-list.ensures.took rig _)
+    (c.in_err-read.ensures.took rig _))
+
 pub returns-clause-does : goal.returns-clause-does
 returns-clause-does g c =
-    let s0 = g.S.Store.store_state c.args.store.now in
-    let s = g.S.Store.store_state c.read_and_fit.new.store in
-    let machine = c.args.machine.now in
-    let defects = c.args.defects.now in
-    let m = c.in_ok-shape.shape in
-    let d = c.in_ok-list.list in
-    let reads_list = λ (told : Told). reads_defects told m in
+    let files = c.args.design.now ∷ c.args.defects.now ∷ c.args.machine.now ∷ [] in
     λ rig.
-    let took_machine = c.in_ok-shape.ensures.took rig (g.K.Sink.sink_state c.args.sink.now) in
-    let took_list = c.in_ok-list.ensures.took rig (g.K.Sink.sink_state c.args.sink.now) in
-    let one = more-read reads_machine machine [] s0 m _ _ (none-read s0) took_machine in
-    let two = more-read reads_list defects (machine ∷ []) s0 d _ _ one took_list in
-    file-gives reads_machine machine [] s0 (behind_machine reads design_fitted machine defects c.args.design.now s0 s) s _ _ _ m _ _ _ _
-    (none-read s0) took_machine
-    (file-gives reads_list defects (machine ∷ []) s0 (behind_list reads design_fitted machine defects c.args.design.now s0 s m) s _ (Unit {0}) _ d _ _ _ _
-    one took_list (c.read_and_fit.ensures s0 (defects ∷ machine ∷ []) rig two.contents two.place) tt) refl
+    all-read reads design_fitted _ _ _ (c.in_ok-shape.ensures.took rig _) (c.in_ok-list.ensures.took rig _)
+    (c.in_ok-read.ensures.took rig _) (c.fit_and_write.ensures files (g.S.Store.store_state c.args.store.now) _ rig)

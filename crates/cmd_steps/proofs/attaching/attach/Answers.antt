@@ -1,9 +1,15 @@
 use Rattle.std.proofs.Common.{inr}
 use Rattle.std.proofs.lemmas.Result.{err_from_is_err_and}
 use Rattle.rig.proofs.Narrowing.{tells_attach}
-use Rattle.cmd_steps.proofs.AttachLemmas.{attach-asks, attach-took, attach-taken}
+use Rattle.cmd_steps.proofs.AttachLemmas.{attach-asks, attach-took, attach-taken, none-made}
 use Rattle.cmd_steps.proofs.Logs.{log_asked}
 use Rattle.cmd_steps.proofs.attaching.attach.Goals as goal
+
+pub returns-clause-unused : goal.returns-clause-unused
+returns-clause-unused g c = let e = c.in_ok-attach_boxed.ensures.attached in none-made _ e.session e.past
+
+pub returns-in_err-attach_boxed-clause-unused : goal.returns-in_err-attach_boxed-clause-unused
+returns-in_err-attach_boxed-clause-unused g c = let e = c.in_err-attach_boxed.ensures.detached in none-made _ e.session e.past
 
 pub returns-clause-asked : goal.returns-clause-asked
 returns-clause-asked g c = inr c.in_ok-attach_boxed.ensures.attached.asked

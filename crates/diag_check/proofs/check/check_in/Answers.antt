@@ -1,6 +1,5 @@
-use Rattle.std.proofs.Common.{◌≡◌, true, false, rules, refl, ap}
+use Rattle.std.proofs.Common.{◌≡◌, true, false, rules}
 use Rattle.std.proofs.lemmas.Bool.{false≢true}
-use Rattle.rig.specs.Rig.{Machine}
 use Rattle.diag_known.proofs.Later.{known_later}
 use Rattle.diag_known.proofs.Settling.{if_ok_so}
 use Rattle.diag_check.proofs.Checking.{parts_found, field_found, field_lost, loads_field, loads_grown}
@@ -16,24 +15,15 @@ returns-clause-keeps g c =
     if_ok_so c.look_at_tables.result c.look_at_tables.ensures.keeps (λ answer keeps e.
     parts_found c.grow_over.new.facts c.look_at_tables.new.facts c.args.image.now answer c.look_at_tables.ensures.advances.more (c.in-Ok-true.ensures.keeps grown) keeps e)
 
-pub returns-clause-whole : goal.returns-clause-whole
-returns-clause-whole g c = if_ok_so c.look_at_tables.result c.look_at_tables.ensures.whole (λ answer tables.
-    field_found (ap (λ (m : Machine). m.faults) c.grow_over.ensures.advances.machine) c.grow_over.ensures.advances.holds c.in-Ok-true.ensures.whole tables)
-
 pub returns-clause-whole_each : goal.returns-clause-whole_each
 returns-clause-whole_each g c = if_ok_so c.look_at_tables.result c.look_at_tables.ensures.whole_each (λ answer each f e. let before = c.look_at_tables.ensures.advances.narrows f e in
-    field_found refl (held c.grow_over.ensures.advances before) (c.in-Ok-true.ensures.whole_each f before) (each f e))
+    field_found (held c.grow_over.ensures.advances before) (c.in-Ok-true.ensures.whole_each f before) (each f e))
 
 pub returns-clause-loads : goal.returns-clause-loads
 returns-clause-loads g c = loads_field _ _ _ _ _ _ c.grow_over.ensures.loads (c.look_at_tables.ensures.loads c.args.used.now c.requires.used)
 
 pub returns-in-Ok-false-clause-keeps : goal.returns-in-Ok-false-clause-keeps
 returns-in-Ok-false-clause-keeps g c = λ e. absurd (false≢true e)
-
-pub returns-in-Ok-false-clause-whole : goal.returns-in-Ok-false-clause-whole
-returns-in-Ok-false-clause-whole g c =
-    let off : c.in-Ok-false.field-0 ≡ false = first_of (assumption (c.in-Ok-false.field-0-test), search rules) in
-    field_lost off c.in-Ok-false.ensures.whole
 
 pub returns-in-Ok-false-clause-whole_each : goal.returns-in-Ok-false-clause-whole_each
 returns-in-Ok-false-clause-whole_each g c =

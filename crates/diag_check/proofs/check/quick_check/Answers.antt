@@ -19,8 +19,5 @@ returns-clause-whole_each g c =
 pub returns-clause-loads : goal.returns-clause-loads
 returns-clause-loads g c = for_ways _ _ _ _ _ c.in-Ok.ensures.used c.in-Ok.ensures.nodes c.check_with.ensures.loads
 
-pub returns-clause-few : goal.returns-clause-few
-returns-clause-few g c = few_if _ _ _ _ _ _ _ (λ f. c.kept_facts_are_sound.ensures.nothing _ f c.in-Ok-new.ensures.nothing) c.in-Ok.ensures.used c.in-Ok.ensures.nodes c.check_with.ensures.few
-
 pub returns-clause-few_each : goal.returns-clause-few_each
 returns-clause-few_each g c = λ f e. few_if _ _ _ _ _ _ _ (λ h. c.kept_facts_are_sound.ensures.nothing _ h c.in-Ok-new.ensures.nothing) c.in-Ok.ensures.used c.in-Ok.ensures.nodes (c.check_with.ensures.few_each f e)

@@ -1,6 +1,5 @@
 use Rattle.std.proofs.Common.{◌∙◌, ap, arith}
-use Rattle.rig.specs.Rig.{Machine}
-use Rattle.diag_evidence.proofs.Sessions.{cycled_twice, two_cycles, twice_run, got}
+use Rattle.diag_evidence.proofs.Sessions.{cycled_twice, twice_run, got}
 use Rattle.diag_evidence.proofs.Logging.{logs_twice}
 use Rattle.diag_evidence.proofs.Fewer.{few_load, most_two}
 use Rattle.diag_evidence.proofs.readings.read_twice.Goals as goal
@@ -16,16 +15,6 @@ returns-in_err-cycle-2-clause-few g c =
 pub returns-clause-few : goal.returns-clause-few
 returns-clause-few g c =
     few_load _ _ 2 (c.in_ok-cycle-2.ensures.machine ∙ c.in_ok-cycle.ensures.machine ∙ c.in_ok-begin.ensures.loads.machine) (c.in_ok-cycle-2.ensures.loads ∙ c.in_ok-cycle.ensures.loads ∙ c.in_ok-begin.ensures.counted) (omega (arith, c.cycle-2.ensures.made, c.cycle.ensures.made, c.begin.ensures.made)) (most_two _ c.args.config.now.config.shape c.requires.attached 2 (omega arith))
-
-pub returns-clause-reads : goal.returns-clause-reads
-returns-clause-reads g c = record {
-  reading = c.cycle.new.read;
-  later = c.cycle-2.new.read;
-  run = two_cycles _ _ _ _ c.args.config.now.config _ c.args.low.now c.args.high.now _ _ c.in_ok-begin.ensures.begins c.in_ok-cycle.ensures.cycles c.in_ok-cycle-2.ensures.cycles
-      (ap (λ (m : Machine). m.faults) (c.in_ok-cycle-2.ensures.machine ∙ c.in_ok-cycle.ensures.machine ∙ c.in_ok-begin.ensures.loads.machine));
-  first_is = got c.cycle.new.read c.args.at _ c.get-first.ensures;
-  second_is = got c.cycle-2.new.read c.args.at _ c.get-second.ensures;
-}
 
 pub returns-clause-reads_each : goal.returns-clause-reads_each
 returns-clause-reads_each g c = λ f e. record {

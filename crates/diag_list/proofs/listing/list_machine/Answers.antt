@@ -3,8 +3,18 @@ use Rattle.cmd_steps.specs.Texts.{reads_machine}
 use Rattle.cmd_steps.proofs.Making.{nothing}
 use Rattle.cmd_steps.proofs.Taking.{asks-machine}
 use Rattle.diag_list.proofs.ListedLemmas.{attached-shape}
+use Rattle.diag_list.proofs.FewCycles.{few-unasked, few-unloaded, few-listed}
 use Rattle.diag_list.proofs.MachineListed.{asked-on, not-read, not-attached, then-listed}
 use Rattle.diag_list.proofs.listing.list_machine.Goals as goal
+
+pub returns-in_err-shape-clause-cycles : goal.returns-in_err-shape-clause-cycles
+returns-in_err-shape-clause-cycles g c = few-unasked _
+
+pub returns-in_err-attach-clause-cycles : goal.returns-in_err-attach-clause-cycles
+returns-in_err-attach-clause-cycles g c = let e = c.in_err-attach.ensures in few-unloaded _ _ e.unused e.loads
+
+pub returns-clause-cycles : goal.returns-clause-cycles
+returns-clause-cycles g c = let e = c.in_ok-attach.ensures in few-listed _ _ _ e.unused e.loads c.list_of.ensures.machine c.list_of.ensures.cycles
 
 pub returns-in_err-shape-clause-took : goal.returns-in_err-shape-clause-took
 returns-in_err-shape-clause-took g c =

@@ -1,9 +1,12 @@
+use Rattle.place_design.proofs.Fewer.{of_some}
+use Rattle.place_both.specs.Both.{IsImageForBoth}
 use Rattle.place_both.proofs.BothLemmas.{have-room, plain-are, plain-choice}
 use Rattle.place_both.proofs.laying.image_of.Goals as goal
 
 pub returns-in-Some-clause-found : goal.returns-in-Some-clause-found
 returns-in-Some-clause-found c =
-    (c.in-Some.ensures, have-room c.args.first.now c.args.second.now c.args.networks.now c.requires c.args.list.now c.in-Ok.plan c.in-Ok.ensures.found)
+    let image = of_some (IsImageForBoth c.args.list.now c.args.first.now c.args.second.now) _ c.in-Some.smaller c.in-Some.is (c.in_ok-smaller.ensures {u = tt}) in
+    (image, have-room c.args.first.now c.args.second.now c.args.networks.now c.requires c.args.list.now c.in-Ok.plan c.in-Ok.ensures.found)
 
 pub drawn-requires-clause-networks : goal.drawn-requires-clause-networks
 drawn-requires-clause-networks c = plain-are c.args.first.now c.args.second.now c.args.networks.now c.requires

@@ -1,3 +1,6 @@
+use Rattle.place_pair.specs.JointNetworks.{joint_network}
+use Rattle.place_design.specs.Smaller.{IsImproved}
+use Rattle.place_design.proofs.Fewer.{of_some}
 use Rattle.place_both.proofs.smaller.planned.Goals as goal
 
 pub improved_for-requires : goal.improved_for-requires
@@ -6,17 +9,19 @@ improved_for-requires c = let are = c.requires in record { first = are.first_for
 pub returns-in-Some : goal.returns-in-Some
 returns-in-Some c =
     let are = c.requires in
+    let n = joint_network c.args.networks.first c.args.networks.second in
+    let i = of_some (IsImproved c.args.list.now n) _ c.in-Some.improved c.in-Some.is (c.in_ok-improved.ensures {u = tt}) in
     record {
       are = are;
-      plan = c.in-Some.ensures.plan;
-      fits = c.in-Some.ensures.fits;
+      plan = i.plan;
+      fits = i.fits;
       lean = record {
         first_lead = are.first_for.lead;
         second_lead = are.second_for.lead;
         first_shallow = are.first_for.shallow;
         second_shallow = are.second_for.shallow;
-        before = c.in-Some.ensures.first;
-        in_order = c.in-Some.ensures.in_order;
-        crossings = c.in-Some.ensures.crossings;
+        before = i.first;
+        in_order = i.in_order;
+        crossings = i.crossings;
       };
     }

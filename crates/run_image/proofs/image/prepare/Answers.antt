@@ -13,58 +13,6 @@ returns-in_err-buffers-clause-took g c =
     let rig = (goal.Rig-dyn g (box.vtable, box.value)).rig_state box.value in
     λ store sink. rw (p.1, p.2) (took-nothing (prepares rig rig) _ (outside store rig sink) refl (tt, inl refl))
 
-<<<<<<< HEAD
-=======
-pub returns-in_err-vector-clause-took : goal.returns-in_err-vector-clause-took
-returns-in_err-vector-clause-took g c =
-    let p = err_from_is_err_and c.from_residual-in_err-vector.result c.from_residual-in_err-vector.ensures.1 in
-    let box = c.args.rig.now in
-    let rig = (goal.Rig-dyn g (box.vtable, box.value)).rig_state box.value in
-    λ store sink. rw (p.1, p.2) (took-nothing (prepares rig rig) _ (outside store rig sink) refl (tt, inl refl))
-
-pub returns-in_err-drive-clause-took : goal.returns-in_err-drive-clause-took
-returns-in_err-drive-clause-took g c =
-    let p = err_from_is_err_and c.from_residual-in_err-drive.result c.from_residual-in_err-drive.ensures.1 in
-    let box = c.args.rig.now in
-    let rig = (goal.Rig-dyn g (box.vtable, box.value)).rig_state box.value in
-    λ store sink. rw (p.1, p.2) (took-nothing (prepares rig rig) _ (outside store rig sink) refl (tt, inl refl))
-
-pub returns-in_err-reading-clause-took : goal.returns-in_err-reading-clause-took
-returns-in_err-reading-clause-took g c =
-    let p = err_from_is_err_and c.from_residual-in_err-reading.result c.from_residual-in_err-reading.ensures.1 in
-    let box = c.args.rig.now in
-    let rig = (goal.Rig-dyn g (box.vtable, box.value)).rig_state box.value in
-    λ store sink. rw (p.1, p.2) (took-nothing (prepares rig rig) _ (outside store rig sink) refl (tt, inl refl))
-
-pub returns-in_err-row-clause-took : goal.returns-in_err-row-clause-took
-returns-in_err-row-clause-took g c =
-    let p = err_from_is_err_and c.from_residual-in_err-row.result c.from_residual-in_err-row.ensures.1 in
-    let box = c.args.rig.now in
-    let rig = (goal.Rig-dyn g (box.vtable, box.value)).rig_state box.value in
-    λ store sink. rw (p.1, p.2) (took-nothing (prepares rig rig) _ (outside store rig sink) refl (tt, inl refl))
-
-pub returns-in_err-block-clause-took : goal.returns-in_err-block-clause-took
-returns-in_err-block-clause-took g c =
-    let p = err_from_is_err_and c.from_residual-in_err-block.result c.from_residual-in_err-block.ensures.1 in
-    let box = c.args.rig.now in
-    let rig = (goal.Rig-dyn g (box.vtable, box.value)).rig_state box.value in
-    λ store sink. rw (p.1, p.2) (took-nothing (prepares rig rig) _ (outside store rig sink) refl (tt, inl refl))
-
-pub returns-in_err-drives-clause-took : goal.returns-in_err-drives-clause-took
-returns-in_err-drives-clause-took g c =
-    let p = err_from_is_err_and c.from_residual-in_err-drives.result c.from_residual-in_err-drives.ensures.1 in
-    let box = c.args.rig.now in
-    let rig = (goal.Rig-dyn g (box.vtable, box.value)).rig_state box.value in
-    λ store sink. rw (p.1, p.2) (took-nothing (prepares rig rig) _ (outside store rig sink) refl (tt, inl refl))
-
-pub returns-in_err-readings-clause-took : goal.returns-in_err-readings-clause-took
-returns-in_err-readings-clause-took g c =
-    let p = err_from_is_err_and c.from_residual-in_err-readings.result c.from_residual-in_err-readings.ensures.1 in
-    let box = c.args.rig.now in
-    let rig = (goal.Rig-dyn g (box.vtable, box.value)).rig_state box.value in
-    λ store sink. rw (p.1, p.2) (took-nothing (prepares rig rig) _ (outside store rig sink) refl (tt, inl refl))
-
->>>>>>> rows/ready
 pub returns-in_err-run-clause-took : goal.returns-in_err-run-clause-took
 returns-in_err-run-clause-took g c =
     let p = err_from_is_err_and c.from_residual-in_err-run.result c.from_residual-in_err-run.ensures.1 in

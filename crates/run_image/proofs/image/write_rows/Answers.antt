@@ -35,7 +35,7 @@ file-preserved g c =
     let r2 = (goal.Rig-dyn g (box2.vtable, box2.value)).rig_state box2.value in
     let batch = batch-of c.in_ok-count.count c.next_batch.new.rows _ _ c.if-count-eq0.false b.gives in
     IsDriving-more _ _ r0.failures _ (omega arith) c.file.rows _ c.file.invariant c.next_batch.new.rows s1 k1 b.stays b.same b.fits c.in_ok-count.count b.few batch
-    r2 m.machine m.loads m.narrows m.failures m.makes.readings m.makes.drives c.make_rows.new.rows k2 m.same m.vectors m.fits m.left m.makes.adds
+    r2 m.machine m.loads m.narrows m.tells m.failures m.makes.readings m.makes.drives c.make_rows.new.rows k2 m.same m.vectors m.fits m.left m.makes.adds
 
 pub returns-in_err-count : goal.returns-in_err-count
 returns-in_err-count g c =
@@ -59,7 +59,7 @@ returns-in_err-make_rows g c =
     record {
       follows = λ failures few.
           rw (p.1, p.2) (makes-stop _ _ failures _ few c.file.rows _ c.file.invariant c.next_batch.new.rows s1 k1 b.stays b.same b.fits c.in_ok-count.count b.few batch
-          r2 m.machine m.loads m.narrows m.failures _ c.make_rows.new.rows.block.text k2 m.refused);
+          r2 m.machine m.loads m.narrows m.tells m.failures _ c.make_rows.new.rows.block.text k2 m.refused);
     }
 
 pub returns-then-count-eq0 : goal.returns-then-count-eq0
@@ -74,5 +74,5 @@ returns-then-count-eq0 g c =
     record {
       follows = λ failures few.
           ends-so _ _ failures _ few c.file.rows _ c.file.invariant s1 k1 b.stays c.next_batch.new.rows.block.text c.next_batch.new.rows.vectors ends.0 ends.1
-          r2 e.machine e.loads e.narrows e.failures c.end_rows.result c.next_batch.new.rows b.same e.sent e.refused;
+          r2 e.machine e.loads e.narrows e.tells e.failures c.end_rows.result c.next_batch.new.rows b.same e.sent e.refused;
     }

@@ -6,16 +6,6 @@ use Rattle.diag_evidence.proofs.Sessions.{on_ok}
 use Rattle.diag_evidence.proofs.Logging.{logs_as}
 use Rattle.diag_evidence.proofs.facts.Facts.look.Goals as goal
 
-pub returns-clause-looked : goal.returns-clause-looked
-returns-clause-looked g c = on_ok c.take-looked.result c.take-looked.ensures.run (λ p. let j = c.in_ok-close_just.ensures in record {
-  config = c.close_just.new.config.config;
-  shape = j.shape;
-  closed = j.closed;
-  off = j.off;
-  ticks = j.ticks;
-  run = λ f told. subst (λ n. IsRun f c.close_just.new.config.config (look_drives n) c.take-looked.new.self.rows) (c.requires.reads ∙ ap pins_of (sym c.requires.forest)) (p.run f told);
-})
-
 pub returns-clause-looked_each : goal.returns-clause-looked_each
 returns-clause-looked_each g c = on_ok c.take-looked.result c.take-looked.ensures.run_each (λ p f e. let j = c.in_ok-close_just.ensures in record {
   config = c.close_just.new.config.config;

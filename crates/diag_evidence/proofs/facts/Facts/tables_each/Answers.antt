@@ -4,34 +4,16 @@ use Rattle.diag_evidence.proofs.Advancing.{advances_by}
 use Rattle.diag_evidence.proofs.ReadTwice.{has_tabled, holds_after, newly_after, wrong_after}
 use Rattle.diag_evidence.proofs.facts.Facts.tables_each.Goals as goal
 
-pub returns-clause-tabled : goal.returns-clause-tabled
-returns-clause-tabled g c =
-    let sheet = c.read_tables.new.sheet in
-    let gains : Gains (right_parts c.args.forest.now c.args.tables.now sheet.setting sheet.reads.items sheet.opposite.items) c.args.self.now c.keep_right.new.self = c.keep_right.ensures in
-    has_tabled _ c.args.forest.now c.args.tables.now c.in-Ok.sheet sheet _ c.in-Ok.ensures c.in_ok-read_tables.ensures.read c.args.self.now c.keep_right.new.self c.args.wrong.now c.mark_wrong.new.wrong gains c.mark_wrong.ensures.marks
-
 pub returns-clause-tabled_each : goal.returns-clause-tabled_each
 returns-clause-tabled_each g c = λ f e.
     let sheet = c.read_tables.new.sheet in
     let gains : Gains (right_parts c.args.forest.now c.args.tables.now sheet.setting sheet.reads.items sheet.opposite.items) c.args.self.now c.keep_right.new.self = c.keep_right.ensures in
     has_tabled _ c.args.forest.now c.args.tables.now c.in-Ok.sheet sheet _ c.in-Ok.ensures (c.in_ok-read_tables.ensures.read_each f e) c.args.self.now c.keep_right.new.self c.args.wrong.now c.mark_wrong.new.wrong gains c.mark_wrong.ensures.marks
 
-pub returns-clause-newly : goal.returns-clause-newly
-returns-clause-newly g c =
-    newly_after _ c.args.forest.now c.args.tables.now c.in-Ok.sheet c.read_tables.new.sheet _ c.in-Ok.ensures c.in_ok-read_tables.ensures.read c.args.self.now c.requires.forest c.requires.tables
-    c.args.wrong.now c.mark_wrong.new.wrong c.mark_wrong.ensures.marks
-
 pub returns-clause-newly_each : goal.returns-clause-newly_each
 returns-clause-newly_each g c = λ f e.
     newly_after _ c.args.forest.now c.args.tables.now c.in-Ok.sheet c.read_tables.new.sheet _ c.in-Ok.ensures (c.in_ok-read_tables.ensures.read_each f e) c.args.self.now c.requires.forest c.requires.tables
     c.args.wrong.now c.mark_wrong.new.wrong c.mark_wrong.ensures.marks
-
-pub returns-clause-wrong : goal.returns-clause-wrong
-returns-clause-wrong g c =
-    let sheet = c.read_tables.new.sheet in
-    let gains : Gains (right_parts c.args.forest.now c.args.tables.now sheet.setting sheet.reads.items sheet.opposite.items) c.args.self.now c.keep_right.new.self = c.keep_right.ensures in
-    wrong_after _ c.args.forest.now c.args.tables.now c.in-Ok.sheet sheet _ c.in-Ok.ensures c.in_ok-read_tables.ensures.read c.args.self.now c.requires.forest c.requires.tables
-    c.args.wrong.now c.mark_wrong.new.wrong c.keep_right.new.self gains c.mark_wrong.ensures.marks
 
 pub returns-clause-wrong_each : goal.returns-clause-wrong_each
 returns-clause-wrong_each g c = λ f e.
@@ -46,5 +28,4 @@ returns-clause-advances g c =
     let gains : Gains (right_parts c.args.forest.now c.args.tables.now sheet.setting sheet.reads.items sheet.opposite.items) c.args.self.now c.keep_right.new.self = c.keep_right.ensures in
     advances_by (right_parts c.args.forest.now c.args.tables.now sheet.setting sheet.reads.items sheet.opposite.items)
     c.in_ok-read_tables.ensures.loads.machine c.in_ok-read_tables.ensures.loads.later c.in_ok-read_tables.ensures.loads.counted c.in_ok-read_tables.ensures.few gains c.in_ok-read_tables.ensures.loads.narrows c.in_ok-read_tables.ensures.loads.tells
-    (holds_after _ c.args.forest.now c.args.tables.now c.in-Ok.sheet sheet _ c.in-Ok.ensures c.in_ok-read_tables.ensures.read c.args.self.now c.requires.forest c.requires.tables)
     (λ f e. holds_after _ c.args.forest.now c.args.tables.now c.in-Ok.sheet sheet _ c.in-Ok.ensures (c.in_ok-read_tables.ensures.read_each f e) c.args.self.now c.requires.forest c.requires.tables f refl)

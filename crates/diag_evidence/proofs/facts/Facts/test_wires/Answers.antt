@@ -1,73 +1,38 @@
 use Rattle.std.proofs.Common.{◌≡◌, refl, subst}
 use Rattle.diag_evidence.specs.Vocabulary.{Kept, HasLearnt}
-use Rattle.diag_evidence.proofs.Tried.{are_hung, tried_silent, tried_answered, stay_unfit, stay_unclear, newly_unfit, newly_unclear, unfit_hung, unclear_hung, tried_holds, tried_advances}
+use Rattle.diag_evidence.proofs.Tried.{are_hung, tried_silent, tried_answered, stay_unfit, stay_unclear, newly_unfit, newly_unclear, unfit_hung, unclear_hung, tried_holds, learnt_advances}
 use Rattle.diag_evidence.proofs.Marked.{unfit_none, unclear_none}
 use Rattle.diag_evidence.proofs.facts.Facts.test_wires.Goals as goal
-
-pub returns-then-not-branch-clause-tried : goal.returns-then-not-branch-clause-tried
-returns-then-not-branch-clause-tried g c =
-    tried_silent _ c.args.forest.now c.args.hangs.now c.view.new.views c.in_ok-view.field-0 c.in_ok-view.ensures.viewed c.args.self.now c.view.new.self c.args.unfit.now c.args.unclear.now c.if-not-branch.true (c.in_ok-view.ensures.once c.if-not-branch.true) c.in_ok-view.ensures.same
 
 pub returns-then-not-branch-clause-tried_each : goal.returns-then-not-branch-clause-tried_each
 returns-then-not-branch-clause-tried_each g c = λ f e.
     tried_silent _ c.args.forest.now c.args.hangs.now c.view.new.views c.in_ok-view.field-0 (c.in_ok-view.ensures.viewed_each f e) c.args.self.now c.view.new.self c.args.unfit.now c.args.unclear.now c.if-not-branch.true (c.in_ok-view.ensures.once c.if-not-branch.true) c.in_ok-view.ensures.same
-
-pub returns-clause-tried : goal.returns-clause-tried
-returns-clause-tried g c =
-    let learnt = subst (λ (k : Kept). HasLearnt c.args.forest.now c.args.hangs.now c.view.new.views k c.learn_hung.new.self c.args.unfit.now c.learn_hung.new.unfit c.args.unclear.now c.learn_hung.new.unclear) c.in_ok-view.ensures.same c.in_ok-learn_hung.ensures.learnt in
-    tried_answered _ c.args.forest.now c.args.hangs.now c.view.new.views c.in_ok-view.field-0 c.in_ok-view.ensures.viewed c.args.self.now c.learn_hung.new.self c.if-not-branch.false learnt
 
 pub returns-clause-tried_each : goal.returns-clause-tried_each
 returns-clause-tried_each g c = λ f e.
     let learnt = subst (λ (k : Kept). HasLearnt c.args.forest.now c.args.hangs.now c.view.new.views k c.learn_hung.new.self c.args.unfit.now c.learn_hung.new.unfit c.args.unclear.now c.learn_hung.new.unclear) c.in_ok-view.ensures.same c.in_ok-learn_hung.ensures.learnt in
     tried_answered _ c.args.forest.now c.args.hangs.now c.view.new.views c.in_ok-view.field-0 (c.in_ok-view.ensures.viewed_each f e) c.args.self.now c.learn_hung.new.self c.if-not-branch.false learnt
 
-pub returns-then-not-branch-clause-newly : goal.returns-then-not-branch-clause-newly
-returns-then-not-branch-clause-newly g c = unfit_none _ c.args.self.now c.args.forest.now c.args.unfit.now
-
 pub returns-then-not-branch-clause-newly_each : goal.returns-then-not-branch-clause-newly_each
 returns-then-not-branch-clause-newly_each g c = λ f e. unfit_none _ c.args.self.now c.args.forest.now c.args.unfit.now
 
-pub returns-then-not-branch-clause-newly_too : goal.returns-then-not-branch-clause-newly_too
-returns-then-not-branch-clause-newly_too g c = unclear_none _ c.args.self.now c.args.unclear.now
-
 pub returns-then-not-branch-clause-newly_too_each : goal.returns-then-not-branch-clause-newly_too_each
 returns-then-not-branch-clause-newly_too_each g c = λ f e. unclear_none _ c.args.self.now c.args.unclear.now
-
-pub returns-clause-newly : goal.returns-clause-newly
-returns-clause-newly g c =
-    let learnt = subst (λ (k : Kept). HasLearnt c.args.forest.now c.args.hangs.now c.view.new.views k c.learn_hung.new.self c.args.unfit.now c.learn_hung.new.unfit c.args.unclear.now c.learn_hung.new.unclear) c.in_ok-view.ensures.same c.in_ok-learn_hung.ensures.learnt in
-    newly_unfit _ c.args.forest.now c.args.hangs.now c.view.new.views c.in_ok-view.field-0 c.in_ok-view.ensures.viewed c.args.self.now c.learn_hung.new.self c.if-not-branch.false learnt c.shape-shape.ensures.forest c.requires.forest (are_hung c.requires.hangs)
 
 pub returns-clause-newly_each : goal.returns-clause-newly_each
 returns-clause-newly_each g c = λ f e.
     let learnt = subst (λ (k : Kept). HasLearnt c.args.forest.now c.args.hangs.now c.view.new.views k c.learn_hung.new.self c.args.unfit.now c.learn_hung.new.unfit c.args.unclear.now c.learn_hung.new.unclear) c.in_ok-view.ensures.same c.in_ok-learn_hung.ensures.learnt in
     newly_unfit _ c.args.forest.now c.args.hangs.now c.view.new.views c.in_ok-view.field-0 (c.in_ok-view.ensures.viewed_each f e) c.args.self.now c.learn_hung.new.self c.if-not-branch.false learnt c.shape-shape.ensures.forest c.requires.forest (are_hung c.requires.hangs)
 
-pub returns-clause-newly_too : goal.returns-clause-newly_too
-returns-clause-newly_too g c =
-    let learnt = subst (λ (k : Kept). HasLearnt c.args.forest.now c.args.hangs.now c.view.new.views k c.learn_hung.new.self c.args.unfit.now c.learn_hung.new.unfit c.args.unclear.now c.learn_hung.new.unclear) c.in_ok-view.ensures.same c.in_ok-learn_hung.ensures.learnt in
-    newly_unclear _ c.args.forest.now c.args.hangs.now c.view.new.views c.in_ok-view.field-0 c.in_ok-view.ensures.viewed c.args.self.now c.learn_hung.new.self c.if-not-branch.false learnt c.shape-shape.ensures.forest c.requires.forest (are_hung c.requires.hangs)
-
 pub returns-clause-newly_too_each : goal.returns-clause-newly_too_each
 returns-clause-newly_too_each g c = λ f e.
     let learnt = subst (λ (k : Kept). HasLearnt c.args.forest.now c.args.hangs.now c.view.new.views k c.learn_hung.new.self c.args.unfit.now c.learn_hung.new.unfit c.args.unclear.now c.learn_hung.new.unclear) c.in_ok-view.ensures.same c.in_ok-learn_hung.ensures.learnt in
     newly_unclear _ c.args.forest.now c.args.hangs.now c.view.new.views c.in_ok-view.field-0 (c.in_ok-view.ensures.viewed_each f e) c.args.self.now c.learn_hung.new.self c.if-not-branch.false learnt c.shape-shape.ensures.forest c.requires.forest (are_hung c.requires.hangs)
 
-pub returns-clause-unfit : goal.returns-clause-unfit
-returns-clause-unfit g c known all before =
-    let learnt = subst (λ (k : Kept). HasLearnt c.args.forest.now c.args.hangs.now c.view.new.views k c.learn_hung.new.self c.args.unfit.now c.learn_hung.new.unfit c.args.unclear.now c.learn_hung.new.unclear) c.in_ok-view.ensures.same c.in_ok-learn_hung.ensures.learnt in
-    unfit_hung _ c.args.forest.now c.args.hangs.now c.view.new.views c.in_ok-view.field-0 c.in_ok-view.ensures.viewed c.args.self.now c.learn_hung.new.self c.if-not-branch.false learnt c.shape-shape.ensures.forest c.requires.forest (are_hung c.requires.hangs) known all before
-
 pub returns-clause-unfit_each : goal.returns-clause-unfit_each
 returns-clause-unfit_each g c = λ f e known all before.
     let learnt = subst (λ (k : Kept). HasLearnt c.args.forest.now c.args.hangs.now c.view.new.views k c.learn_hung.new.self c.args.unfit.now c.learn_hung.new.unfit c.args.unclear.now c.learn_hung.new.unclear) c.in_ok-view.ensures.same c.in_ok-learn_hung.ensures.learnt in
     unfit_hung _ c.args.forest.now c.args.hangs.now c.view.new.views c.in_ok-view.field-0 (c.in_ok-view.ensures.viewed_each f e) c.args.self.now c.learn_hung.new.self c.if-not-branch.false learnt c.shape-shape.ensures.forest c.requires.forest (are_hung c.requires.hangs) known all before
-
-pub returns-clause-unclear : goal.returns-clause-unclear
-returns-clause-unclear g c before =
-    let learnt = subst (λ (k : Kept). HasLearnt c.args.forest.now c.args.hangs.now c.view.new.views k c.learn_hung.new.self c.args.unfit.now c.learn_hung.new.unfit c.args.unclear.now c.learn_hung.new.unclear) c.in_ok-view.ensures.same c.in_ok-learn_hung.ensures.learnt in
-    unclear_hung _ c.args.forest.now c.args.hangs.now c.view.new.views c.in_ok-view.field-0 c.in_ok-view.ensures.viewed c.args.self.now c.learn_hung.new.self c.if-not-branch.false learnt c.shape-shape.ensures.forest c.requires.forest (are_hung c.requires.hangs) before
 
 pub returns-clause-unclear_each : goal.returns-clause-unclear_each
 returns-clause-unclear_each g c = λ f e before.
@@ -77,16 +42,15 @@ returns-clause-unclear_each g c = λ f e before.
 pub returns-clause-stay : goal.returns-clause-stay
 returns-clause-stay g c =
     let learnt = subst (λ (k : Kept). HasLearnt c.args.forest.now c.args.hangs.now c.view.new.views k c.learn_hung.new.self c.args.unfit.now c.learn_hung.new.unfit c.args.unclear.now c.learn_hung.new.unclear) c.in_ok-view.ensures.same c.in_ok-learn_hung.ensures.learnt in
-    stay_unfit _ c.args.forest.now c.args.hangs.now c.view.new.views c.in_ok-view.field-0 c.in_ok-view.ensures.viewed c.args.self.now c.learn_hung.new.self c.if-not-branch.false learnt
+    stay_unfit learnt
 
 pub returns-clause-stay_too : goal.returns-clause-stay_too
 returns-clause-stay_too g c =
     let learnt = subst (λ (k : Kept). HasLearnt c.args.forest.now c.args.hangs.now c.view.new.views k c.learn_hung.new.self c.args.unfit.now c.learn_hung.new.unfit c.args.unclear.now c.learn_hung.new.unclear) c.in_ok-view.ensures.same c.in_ok-learn_hung.ensures.learnt in
-    stay_unclear _ c.args.forest.now c.args.hangs.now c.view.new.views c.in_ok-view.field-0 c.in_ok-view.ensures.viewed c.args.self.now c.learn_hung.new.self c.if-not-branch.false learnt
+    stay_unclear learnt
 
 pub returns-clause-advances : goal.returns-clause-advances
 returns-clause-advances g c =
     let learnt = subst (λ (k : Kept). HasLearnt c.args.forest.now c.args.hangs.now c.view.new.views k c.learn_hung.new.self c.args.unfit.now c.learn_hung.new.unfit c.args.unclear.now c.learn_hung.new.unclear) c.in_ok-view.ensures.same c.in_ok-learn_hung.ensures.learnt in
-    tried_advances _ c.args.forest.now c.args.hangs.now c.view.new.views c.in_ok-view.field-0 c.in_ok-view.ensures.viewed c.args.self.now c.learn_hung.new.self c.if-not-branch.false learnt c.shape-shape.ensures.forest c.requires.forest (are_hung c.requires.hangs)
-    refl c.in_ok-view.ensures.loads.machine c.in_ok-view.ensures.loads.later c.in_ok-view.ensures.loads.counted c.in_ok-view.ensures.few c.in_ok-view.ensures.loads.narrows c.in_ok-view.ensures.loads.tells
+    learnt_advances learnt c.in_ok-view.ensures.loads.machine c.in_ok-view.ensures.loads.later c.in_ok-view.ensures.loads.counted c.in_ok-view.ensures.few c.in_ok-view.ensures.loads.narrows c.in_ok-view.ensures.loads.tells
     (λ f e. tried_holds _ c.args.forest.now c.args.hangs.now c.view.new.views c.in_ok-view.field-0 (c.in_ok-view.ensures.viewed_each f e) c.args.self.now c.learn_hung.new.self c.if-not-branch.false learnt c.shape-shape.ensures.forest c.requires.forest (are_hung c.requires.hangs) f refl)

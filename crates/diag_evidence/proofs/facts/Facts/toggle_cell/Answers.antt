@@ -7,10 +7,10 @@ use Rattle.diag_evidence.proofs.Advancing.{different_bits, advances_by, cell_gai
 use Rattle.diag_evidence.proofs.Logging.{shows_same, shows_apart}
 use Rattle.diag_evidence.proofs.facts.Facts.toggle_cell.Goals as goal
 
-pub returns-then-low-high-clause-exact : goal.returns-then-low-high-clause-exact
-returns-then-low-high-clause-exact g c =
-    let first = rw c.with_cell.ensures at c.in_ok-low.ensures.reads in
-    let second = rw (c.with_cell-2.ensures, c.in_ok-low.ensures.config, c.in_ok-low.ensures.loads.machine) at c.in_ok-high.ensures.reads in
+pub returns-then-low-high-clause-exact_each : goal.returns-then-low-high-clause-exact_each
+returns-then-low-high-clause-exact_each g c = λ f e.
+    let first = rw c.with_cell.ensures at (c.in_ok-low.ensures.reads_each f (c.in_ok-high.ensures.loads.narrows f e)) in
+    let second = rw (c.with_cell-2.ensures, c.in_ok-low.ensures.config) at (c.in_ok-high.ensures.reads_each f e) in
     rw (← c.in-Some.ensures) (tells_same first second (same_bits _ _ c.if-low-high.true))
 
 pub returns-then-low-high-clause-logged : goal.returns-then-low-high-clause-logged
@@ -19,22 +19,16 @@ returns-then-low-high-clause-logged g c =
     let second = rw (c.with_cell-2.ensures, c.in_ok-low.ensures.config) at c.in_ok-high.ensures.logged in
     rw (← c.in-Some.ensures) (shows_same first second (same_bits _ _ c.if-low-high.true))
 
-pub returns-then-low-high-clause-passes : goal.returns-then-low-high-clause-passes
-returns-then-low-high-clause-passes g c =
-    let first = rw c.with_cell.ensures at c.in_ok-low.ensures.reads in
-    let second = rw (c.with_cell-2.ensures, c.in_ok-low.ensures.config, c.in_ok-low.ensures.loads.machine) at c.in_ok-high.ensures.reads in
-    cell_shows c.args.config.now.config c.args.t.0 c.args.address c.in-Some.setting (sym c.in-Some.ensures) (rw c.requires.shape c.requires.at) first second (same_bits _ _ c.if-low-high.true)
-
 pub returns-then-low-high-clause-passes_each : goal.returns-then-low-high-clause-passes_each
 returns-then-low-high-clause-passes_each g c = λ f e.
     let first = rw c.with_cell.ensures at (c.in_ok-low.ensures.reads_each f (c.in_ok-high.ensures.loads.narrows f e)) in
     let second = rw (c.with_cell-2.ensures, c.in_ok-low.ensures.config) at (c.in_ok-high.ensures.reads_each f e) in
     cell_shows c.args.config.now.config c.args.t.0 c.args.address c.in-Some.setting (sym c.in-Some.ensures) (rw c.requires.shape c.requires.at) first second (same_bits _ _ c.if-low-high.true)
 
-pub returns-clause-exact : goal.returns-clause-exact
-returns-clause-exact g c =
-    let first = rw c.with_cell.ensures at c.in_ok-low.ensures.reads in
-    let second = rw (c.with_cell-2.ensures, c.in_ok-low.ensures.config, c.in_ok-low.ensures.loads.machine) at c.in_ok-high.ensures.reads in
+pub returns-clause-exact_each : goal.returns-clause-exact_each
+returns-clause-exact_each g c = λ f e.
+    let first = rw c.with_cell.ensures at (c.in_ok-low.ensures.reads_each f (c.in_ok-high.ensures.loads.narrows f e)) in
+    let second = rw (c.with_cell-2.ensures, c.in_ok-low.ensures.config) at (c.in_ok-high.ensures.reads_each f e) in
     rw (← c.in-Some.ensures) (tells_apart first second (different_bits _ _ c.if-low-high.false))
 
 pub returns-clause-logged : goal.returns-clause-logged
@@ -45,10 +39,7 @@ returns-clause-logged g c =
 
 pub returns-clause-advances : goal.returns-clause-advances
 returns-clause-advances g c =
-    let first = rw c.with_cell.ensures at c.in_ok-low.ensures.reads in
-    let second = rw (c.with_cell-2.ensures, c.in_ok-low.ensures.config, c.in_ok-low.ensures.loads.machine) at c.in_ok-high.ensures.reads in
-    let gain = cell_gain c.args.self.now.shape c.args.config.now.config c.args.t.0 c.args.address c.in-Some.setting first second (different_bits _ _ c.if-low-high.false) in
     let gains : Gains (one_cell c.args.t.0 c.args.address) c.args.self.now c.keep_cell.new.self = rw (← c.self.view_is) c.keep_cell.ensures in
     advances_by (one_cell c.args.t.0 c.args.address) (c.in_ok-high.ensures.loads.machine ∙ c.in_ok-low.ensures.loads.machine) (omega (arith, c.in_ok-high.ensures.loads.later, c.in_ok-low.ensures.loads.later)) (omega (arith, c.in_ok-high.ensures.loads.counted, c.in_ok-low.ensures.loads.counted)) (λ n k h. c.in_ok-high.ensures.few n k (c.in_ok-low.ensures.few n k h)) gains
     (λ f e. c.in_ok-low.ensures.loads.narrows f (c.in_ok-high.ensures.loads.narrows f e)) (λ told. c.in_ok-high.ensures.loads.tells (c.in_ok-low.ensures.loads.tells told))
-    (λ f told h. gain f told) (λ f e h. cell_gain c.args.self.now.shape c.args.config.now.config c.args.t.0 c.args.address c.in-Some.setting (rw c.with_cell.ensures at (c.in_ok-low.ensures.reads_each f (c.in_ok-high.ensures.loads.narrows f e))) (rw (c.with_cell-2.ensures, c.in_ok-low.ensures.config) at (c.in_ok-high.ensures.reads_each f e)) (different_bits _ _ c.if-low-high.false) f refl)
+    (λ f e h. cell_gain c.args.self.now.shape c.args.config.now.config c.args.t.0 c.args.address c.in-Some.setting (rw c.with_cell.ensures at (c.in_ok-low.ensures.reads_each f (c.in_ok-high.ensures.loads.narrows f e))) (rw (c.with_cell-2.ensures, c.in_ok-low.ensures.config) at (c.in_ok-high.ensures.reads_each f e)) (different_bits _ _ c.if-low-high.false) f refl)

@@ -6,30 +6,23 @@ use Rattle.diag_evidence.proofs.Advancing.{different_bits, advances_by, cross_ga
 use Rattle.diag_evidence.proofs.Logging.{shows_same, shows_apart}
 use Rattle.diag_evidence.proofs.facts.Facts.toggle_cross.Goals as goal
 
-pub returns-then-closed-open-clause-exact : goal.returns-then-closed-open-clause-exact
-returns-then-closed-open-clause-exact g c =
-    let second = rw c.in_ok-closed.ensures.loads.machine at c.in_ok-open.ensures.reads in
-    tells_same c.in_ok-closed.ensures.reads second (same_bits _ _ c.if-closed-open.true)
+pub returns-then-closed-open-clause-exact_each : goal.returns-then-closed-open-clause-exact_each
+returns-then-closed-open-clause-exact_each g c = λ f e.
+    tells_same (c.in_ok-closed.ensures.reads_each f (c.in_ok-open.ensures.loads.narrows f e)) (c.in_ok-open.ensures.reads_each f e) (same_bits _ _ c.if-closed-open.true)
 
 pub returns-then-closed-open-clause-logged : goal.returns-then-closed-open-clause-logged
 returns-then-closed-open-clause-logged g c =
     let second = c.in_ok-open.ensures.logged in
     shows_same c.in_ok-closed.ensures.logged second (same_bits _ _ c.if-closed-open.true)
 
-pub returns-then-closed-open-clause-passes : goal.returns-then-closed-open-clause-passes
-returns-then-closed-open-clause-passes g c =
-    let second = rw c.in_ok-closed.ensures.loads.machine at c.in_ok-open.ensures.reads in
-    loop_shows c.args.config.now.config c.args.c.0 c.in_ok-closed.ensures.reads second (same_bits _ _ c.if-closed-open.true)
-
 pub returns-then-closed-open-clause-passes_each : goal.returns-then-closed-open-clause-passes_each
 returns-then-closed-open-clause-passes_each g c = λ f e.
     let second = c.in_ok-open.ensures.reads_each f e in
     loop_shows c.args.config.now.config c.args.c.0 (c.in_ok-closed.ensures.reads_each f (c.in_ok-open.ensures.loads.narrows f e)) second (same_bits _ _ c.if-closed-open.true)
 
-pub returns-clause-exact : goal.returns-clause-exact
-returns-clause-exact g c =
-    let second = rw c.in_ok-closed.ensures.loads.machine at c.in_ok-open.ensures.reads in
-    tells_apart c.in_ok-closed.ensures.reads second (different_bits _ _ c.if-closed-open.false)
+pub returns-clause-exact_each : goal.returns-clause-exact_each
+returns-clause-exact_each g c = λ f e.
+    tells_apart (c.in_ok-closed.ensures.reads_each f (c.in_ok-open.ensures.loads.narrows f e)) (c.in_ok-open.ensures.reads_each f e) (different_bits _ _ c.if-closed-open.false)
 
 pub returns-clause-logged : goal.returns-clause-logged
 returns-clause-logged g c =
@@ -38,9 +31,7 @@ returns-clause-logged g c =
 
 pub returns-clause-advances : goal.returns-clause-advances
 returns-clause-advances g c =
-    let second = rw c.in_ok-closed.ensures.loads.machine at c.in_ok-open.ensures.reads in
-    let gain = cross_gain c.args.self.now.shape c.args.config.now.config c.args.c.0 c.requires.closed c.in_ok-closed.ensures.reads second (different_bits _ _ c.if-closed-open.false) in
     let gains : Gains (one_cross c.args.c.0) c.args.self.now c.keep_cross.new.self = rw (← c.self.view_is) c.keep_cross.ensures in
     advances_by (one_cross c.args.c.0) (c.in_ok-open.ensures.loads.machine ∙ c.in_ok-closed.ensures.loads.machine) (omega (arith, c.in_ok-open.ensures.loads.later, c.in_ok-closed.ensures.loads.later)) (omega (arith, c.in_ok-open.ensures.loads.counted, c.in_ok-closed.ensures.loads.counted)) (λ n k h. c.in_ok-open.ensures.few n k (c.in_ok-closed.ensures.few n k h)) gains
     (λ f e. c.in_ok-closed.ensures.loads.narrows f (c.in_ok-open.ensures.loads.narrows f e)) (λ told. c.in_ok-open.ensures.loads.tells (c.in_ok-closed.ensures.loads.tells told))
-    (λ f told h. gain f told) (λ f e h. cross_gain c.args.self.now.shape c.args.config.now.config c.args.c.0 c.requires.closed (c.in_ok-closed.ensures.reads_each f (c.in_ok-open.ensures.loads.narrows f e)) (c.in_ok-open.ensures.reads_each f e) (different_bits _ _ c.if-closed-open.false) f refl)
+    (λ f e h. cross_gain c.args.self.now.shape c.args.config.now.config c.args.c.0 c.requires.closed (c.in_ok-closed.ensures.reads_each f (c.in_ok-open.ensures.loads.narrows f e)) (c.in_ok-open.ensures.reads_each f e) (different_bits _ _ c.if-closed-open.false) f refl)

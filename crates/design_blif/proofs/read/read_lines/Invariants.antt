@@ -1,11 +1,11 @@
 use Rattle.std.proofs.Common.{◌≡◌, true, length}
 use Rattle.base_text.specs.Lines.{logical_lines}
 use Rattle.design_blif.specs.Texts.{text_of}
-use Rattle.design_blif.specs.Runs.{run}
-use Rattle.design_blif.proofs.read.read_into.Given as goal
+use Rattle.design_blif.specs.Runs.{run, text_start}
+use Rattle.design_blif.proofs.read.read_lines.Given as goal
 
 abbrev pub invariant-lines : goal.invariant-lines
-invariant-lines l = run (text_of l.text) l.lines ≡ run (text_of l.fn.text) (logical_lines true l.bytes)
+invariant-lines l = run (text_of l.text) l.lines ≡ run text_start (logical_lines true l.bytes)
 
 abbrev pub decreases-lines : goal.decreases-lines
 decreases-lines l = length l.lines
