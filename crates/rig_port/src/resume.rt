@@ -107,7 +107,7 @@ fn resume<P: Port>(port: &mut P, link: &mut Link, again: &mut Again) -> bool
     )
 }
 
-// Makes the session again, and then these cycles. False where something fails, or not all of the session is kept.
+// Makes the session again as far as it is kept, and then these cycles. False where something fails.
 fn turn_again<P: Port>(
     port: &mut P,
     link: &mut Link,
@@ -132,20 +132,16 @@ fn turn_again<P: Port>(
     ensures past { KeepsSession again.old again.new }
     ensures held { IsTrue result → IsKeptUp (P.port_state port.new) link.old link.new }
     ensures sent { IsTrue result → link.new.due ≡ false }
-    ensures covers { IsTrue result → again.old.covers ≡ true }
     ensures made { IsTrue result → HasMade link.old.set.config (kept_pairs again.old ++ paired drives.now reads.new) link.new.due
         (P.port_state port.new).device }
 {
-    if !again.covers {
-        return false;
-    }
     if !resume(port, link, again) {
         return false;
     }
     turn_all(port, link, drives, reads)
 }
 
-// Does that at most twice, while the port is open; each that fails is counted. False where all failed.
+// Does that at most twice, while the port is open; each that fails is counted. False where all failed, or not all of the session is kept.
 fn ask_again<P: Port>(
     port: &mut P,
     link: &mut Link,
@@ -175,6 +171,9 @@ fn ask_again<P: Port>(
         (P.port_state port.new).device }
     ensures count { failures.old ≤ failures.new }
 {
+    if !again.covers {
+        return false;
+    }
     'tries: for _k in 0..2 {
         if !port.is_open() {
             return false;
