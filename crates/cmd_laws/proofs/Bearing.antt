@@ -1,6 +1,5 @@
 -- A job that was asked for comes to its end where the machine has parts to spare.
-use Rattle.std.proofs.Common.{◌≡◌, ◌⊎◌, ℕ, ◌≤◌, Bool, List, false, refl, ap, subst, inr}
-use Rattle.std.specs.List.{list_any}
+use Rattle.std.proofs.Common.{◌≡◌, ℕ, ◌≤◌, Bool, List, refl, subst, inr}
 use Rattle.machine_shape.specs.declared.Shape.{Shape}
 use Rattle.machine_meaning.specs.Faults.{Faults}
 use Rattle.machine_faults.specs.Adding.{count_of}
@@ -9,7 +8,7 @@ use Rattle.map_network.specs.Plain.{plain_network}
 use Rattle.place_plan.specs.Enough.{HasStandingRoom}
 use Rattle.place_spare.specs.Spare.{HasToSpare}
 use Rattle.place_both.specs.Both.{joint_of}
-use Rattle.cmd_steps.specs.Vocabulary.{Outside, Ended, HasNoJob, Job, Asked, no_job, a_job, asked_if, job_of, is_dashed}
+use Rattle.cmd_steps.specs.Vocabulary.{Outside, Ended, HasNoJob, Job, Asked, no_job, a_job, asked_if, job_of}
 use Rattle.cmd_go.specs.Go.{go_job}
 use Rattle.cmd_go.specs.Promises.{go_words}
 use Rattle.cmd_pair.specs.Pair.{pair_job}

@@ -7,7 +7,7 @@ use Rattle.std.proofs.lemmas.Option.{none-some}
 use Rattle.machine_shape.specs.declared.Shape.{Shape}
 use Rattle.machine_shape.specs.Shape.{pins_of}
 use Rattle.base_io.specs.Counts.{next_count}
-use Rattle.rig.specs.Rig.{Asked, Machine, RigState, cycles_made, shape_of}
+use Rattle.rig.specs.Rig.{Asked, Machine, RigState, cycles_made}
 use Rattle.rig.specs.declared.rig.RigFail.{RigFail}
 use Rattle.diag_evidence.specs.Kept.{FewCycles, HasFew, TakesFewCycles, most_cycles}
 
@@ -57,17 +57,14 @@ few_cycles a c same few room =
     as-many : (c x : ℕ) → c + x ≤ c + x
     as-many c x = omega arith
 
--- ---- how many a load may have
+-- ---- how many a load of the attached machine may have
 
 most-at : (o : Option Asked) (m : Shape) → option_map (λ (a : Asked). a.shape) o ≡ Some m → option_map_or (λ (a : Asked). max 65 (pins_of a.shape + 1)) o 0 ≡ max 65 (pins_of m + 1)
 most-at None m is = absurd (none-some m is)
 most-at (Some a) m is = ap (λ (o : Option Shape). option_map_or (λ (s : Shape). max 65 (pins_of s + 1)) o 0) is
 
-pub most_of : (rig : RigState) (m : Shape) → shape_of rig ≡ Some m → most_cycles rig.machine ≡ max 65 (pins_of m + 1)
-most_of rig m is = most-at rig.machine.attached m is
+pub most_two : (o : Option Asked) (m : Shape) → option_map (λ (a : Asked). a.shape) o ≡ Some m → (n : ℕ) → n ≤ 65 → n ≤ option_map_or (λ (a : Asked). max 65 (pins_of a.shape + 1)) o 0
+most_two o m is n few = let all = most-at o m is in let low = le-max_left 65 (pins_of m + 1) in omega (arith, all, low, few)
 
-pub most_two : (rig : RigState) (m : Shape) → shape_of rig ≡ Some m → (n : ℕ) → n ≤ 65 → n ≤ most_cycles rig.machine
-most_two rig m is n few = let all = most_of rig m is in let low = le-max_left 65 (pins_of m + 1) in omega (arith, all, low, few)
-
-pub most_look : (rig : RigState) (m : Shape) → shape_of rig ≡ Some m → (n : ℕ) → n ≤ max 65 (pins_of m + 1) → n ≤ most_cycles rig.machine
-most_look rig m is n few = let all = most_of rig m is in omega (arith, all, few)
+pub most_look : (o : Option Asked) (m : Shape) → option_map (λ (a : Asked). a.shape) o ≡ Some m → (n : ℕ) → n ≤ max 65 (pins_of m + 1) → n ≤ option_map_or (λ (a : Asked). max 65 (pins_of a.shape + 1)) o 0
+most_look o m is n few = let all = most-at o m is in omega (arith, all, few)

@@ -39,6 +39,10 @@ logs_rows a b c g room drives rows past begins goes = record {
   read = goes.read;
 }
 
+-- new sessions, and further ones behind them
+pub logged_then : (was xs ys : List Past) {mid is : List Past} → mid ≡ was ++ xs → is ≡ mid ++ ys → is ≡ was ++ (xs ++ ys)
+logged_then was xs ys p q = q ∙ ap (λ (l : List Past). l ++ ys) p ∙ append_assoc was xs ys
+
 -- the same drives and rows by other names
 pub logs_as : {g : Configuration} {drives others rows same : List Pins} {s t : RigState} → LogsRows g drives rows s t → drives ≡ others → same ≡ rows → LogsRows g others same s t
 logs_as p d r = record { cycles = p.cycles; logged = p.logged; driven = p.driven ∙ d; read = p.read ∙ sym r }

@@ -235,11 +235,15 @@ no_feet told trees rows look = record {
 }
 
 pub no_feet_logged : (trees : Trees) (rows : List Pins) (old new : RigState) → LogsLook trees.shape (closes trees []) rows old new → LogsLook trees.shape (is_laid trees) rows old new
-no_feet_logged trees rows old new look = record {
-  config = look.config;
-  shape = look.shape;
-  closed = λ x. look.closed x ∙ bare_too (is_laid trees x);
-  off = look.off;
-  ticks = look.ticks;
-  logged = look.logged;
+no_feet_logged trees rows old new logs = let look = logs.look in record {
+  session = logs.session;
+  look = record {
+    shape = look.shape;
+    closed = λ x. look.closed x ∙ bare_too (is_laid trees x);
+    off = look.off;
+    ticks = look.ticks;
+    driven = look.driven;
+    read = look.read;
+  };
+  logged = logs.logged;
 }

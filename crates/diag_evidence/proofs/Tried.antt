@@ -1,13 +1,14 @@
 -- What a test of hangs leaves.
-use Rattle.std.proofs.Common.{◌≡◌, ◌≤◌, ◌+◌, ℕ, Bool, true, false, Some, Option, List, All, refl, subst, ◌∙◌, map}
+use Rattle.std.proofs.Common.{◌≡◌, ◌≤◌, ◌+◌, ◌⊎◌, inl, inr, ℕ, Bool, true, false, Some, Option, List, [], ◌∷◌, All, refl, subst, ◌∙◌, map}
 use Rattle.std.proofs.lemmas.List.Elements.{All-map}
 use Rattle.machine_meaning.specs.Faults.{Faults}
 use Rattle.machine_meaning.specs.Circuit.{Pins}
-use Rattle.rig.specs.Rig.{RigState, Explains, Narrows, Tells}
+use Rattle.rig.specs.Rig.{RigState, Explains, Narrows, Tells, log_of}
 use Rattle.diag_evidence.specs.declared.hangs.WireTest.{WireTest}
 use Rattle.diag_evidence.specs.declared.hangs.Views.{Views}
-use Rattle.diag_evidence.specs.Vocabulary.{Kept, HoldsFor, IsMore, Gains, Advances, FewCycles, Trees, IsForest, KnowsForest, Foot, IsFoot, IsLook, closes, AreHangs, AreAllOf, MarksUnfit, MarksUnclear, UnfitIf, UnclearIf, StayMarked, HasTried, silent, answered, over_of, turned, overs, others, shown, seen_on, HasViewed, HasLearnt}
+use Rattle.diag_evidence.specs.Vocabulary.{Kept, HoldsFor, IsMore, Gains, Advances, FewCycles, Trees, IsForest, KnowsForest, Foot, IsFoot, IsLook, LogsLook, LogsThree, LogsViews, ShowsTried, all_feet, closes, AreHangs, AreAllOf, MarksUnfit, MarksUnclear, UnfitIf, UnclearIf, StayMarked, HasTried, silent, answered, over_of, turned, overs, others, shown, seen_on, HasViewed, HasLearnt}
 use Rattle.diag_evidence.proofs.Keeping.{more_then}
+use Rattle.diag_evidence.proofs.Logging.{logged_then}
 use Rattle.diag_evidence.proofs.KeptLemmas.{more_by_gain}
 use Rattle.diag_evidence.proofs.Hanging.{AreHung, hung_turned, overs_feet, overs_once, hung_holds}
 use Rattle.diag_evidence.proofs.Marked.{still_unfit, still_unclear, unfit_new, unclear_new, unfit_then, unclear_then, unfit_all, unclear_all, unfit_later, unclear_later}
@@ -15,6 +16,23 @@ use Rattle.diag_evidence.proofs.Marked.{still_unfit, still_unclear, unfit_new, u
 -- a look over these feet, under another name
 pub look_over : {told : Option Faults} (trees : Trees) {feet those : List Foot} {rows : List Pins} → feet ≡ those → IsLook told trees.shape (closes trees feet) rows → IsLook told trees.shape (closes trees those) rows
 look_over {told} trees {rows = rows} same look = subst (λ (fs : List Foot). IsLook told trees.shape (closes trees fs) rows) same look
+
+-- .. and in the log
+pub look_over_logged : (trees : Trees) {feet those : List Foot} {rows : List Pins} {s t : RigState} → feet ≡ those → LogsLook trees.shape (closes trees feet) rows s t → LogsLook trees.shape (closes trees those) rows s t
+look_over_logged trees {rows = rows} {s = s} {t = t} same logs = subst (λ (fs : List Foot). LogsLook trees.shape (closes trees fs) rows s t) same logs
+
+-- three looks, one after the other
+pub three_looks : (trees : Trees) (hs : List WireTest) {rows a b : List Pins} {s t u v : RigState} → LogsLook trees.shape (closes trees (all_feet hs)) rows s t → LogsLook trees.shape (closes trees (others hs)) a t u
+    → LogsLook trees.shape (closes trees (overs hs)) b u v → LogsThree trees hs rows a b s v
+three_looks trees hs {s = s} p q r = record {
+  all = p.session;
+  all_look = p.look;
+  over = q.session;
+  over_look = q.look;
+  other = r.session;
+  other_look = r.look;
+  logged = logged_then (log_of s) (p.session ∷ q.session ∷ []) (r.session ∷ []) (logged_then (log_of s) (p.session ∷ []) (q.session ∷ []) p.logged q.logged) r.logged;
+}
 
 pub are_hung : {trees : Trees} {hs : List WireTest} → AreHangs trees hs → AreHung trees hs
 are_hung h = record { over = h.over; other = h.other; wires = h.wires }
@@ -42,6 +60,34 @@ module _ {trees : Trees} {hs : List WireTest} {views : Views} {k l : Kept} {was 
     tells = tells;
     explained = explained;
   }
+
+-- what the log shows of the test
+module _ (trees : Trees) (hs : List WireTest) {s t : RigState} (views : Views) (yes : Bool) (logs : LogsViews trees hs s t views yes) (k l : Kept) where
+  pub shows_silent : (was were : List Bool) → yes ≡ false → l ≡ k → ShowsTried trees hs s t k l was was were were
+  shows_silent was were is_no same = inl (record {
+    rows = views.all.rows;
+    look = logs.once is_no;
+    unanswered = logs.answers ∙ is_no;
+    same = same;
+    unmarked = refl;
+    unmarked_too = refl;
+  })
+
+  pub shows_hung : {was is were are : List Bool} → yes ≡ true → HasLearnt trees hs views k l was is were are → ShowsTried trees hs s t k l was is were are
+  shows_hung is_yes learnt = inr (record {
+    rows = views.all.rows;
+    without_over = views.without_over.rows;
+    without_other = views.without_other.rows;
+    looks = logs.thrice is_yes;
+    answers = logs.answers ∙ is_yes;
+    mid = learnt.mid;
+    first = learnt.first;
+    second = learnt.second;
+    some = learnt.some;
+    few = learnt.few;
+    first_marks = learnt.first_marks;
+    second_marks = learnt.second_marks;
+  })
 
 module _ (told : Option Faults) (trees : Trees) (hs : List WireTest) (views : Views) (yes : Bool) (viewed : HasViewed told trees hs views yes) (k l : Kept) where
   pub tried_silent : {before after : ℕ} (was were : List Bool) → yes ≡ false → after ≤ before + 1 → l ≡ k → HasTried told trees hs before after k l was was were were

@@ -1,6 +1,6 @@
 -- Wires that are hung on forests, to be tested.
-use Rattle.std.specs.Prelude.{◌≡◌, ℕ, ◌<◌, ◌≤◌, ◌+◌, ◌==◌, Bool, true, false, not, ◌&&◌, ◌||◌, Option, Some, None, List, ◌++◌, All, map}
-use Rattle.std.specs.Prelude.{filter, unwrap_or}
+use Rattle.std.specs.Prelude.{◌≡◌, ◌⊎◌, ℕ, ◌<◌, ◌≤◌, ◌+◌, ◌==◌, Bool, true, false, not, ◌&&◌, ◌||◌, Option, Some, None, List, [], ◌∷◌}
+use Rattle.std.specs.Prelude.{◌++◌, All, map, filter, unwrap_or}
 use Rattle.std.specs.List.{list_any, list_all, range_with_len, IsDistinct}
 use Rattle.machine_meaning.specs.Vocabulary.{Pins, Faults, IsClear, IsAlone}
 use Rattle.machine_shape.specs.Shape.{Ends, ends_of, pin_wire, pins_of, wires_of, crosses_of}
@@ -12,7 +12,9 @@ use Rattle.diag_tests.specs.Routes.{other_end}
 use Rattle.diag_evidence.specs.declared.hangs.WireTest.{WireTest}
 use Rattle.diag_evidence.specs.Forests.{Trees, HangsOn, pin_of, is_hung, is_laid}
 use Rattle.diag_evidence.specs.Kept.{Kept, HoldsFor, Gain, Gains, nothing}
-use Rattle.diag_evidence.specs.Looks.{IsLook, differ, swings, parts, hangs_apart, read_free, read_under}
+use Rattle.rig.specs.Rig.{RigState, Past}
+use Rattle.diag_evidence.specs.Logged.{HasLogged}
+use Rattle.diag_evidence.specs.Looks.{IsLook, IsLookOf, LogsLook, differ, swings, parts, hangs_apart, read_free, read_under}
 
 -- a wire, and a crosspoint from it to a wire that hangs
 abbrev pub Foot : Type 0
@@ -218,3 +220,43 @@ pub data HasTried (told : Option Faults) (trees : Trees) (hs : List WireTest) (b
   answered : (rows : List Pins) → IsLook told trees.shape (closes trees (all_feet hs)) rows →
       some_answers trees hs rows ≡ true → HasHungOn told trees hs rows old new was is were are →
       HasTried told trees hs before after old new was is were are
+
+-- the sessions of the three looks are new in the log
+pub record LogsThree (trees : Trees) (hs : List WireTest) (rows without_over without_other : List Pins) (old new : RigState) : Type 0 where
+  pub all : Past
+  pub all_look : IsLookOf trees.shape (closes trees (all_feet hs)) rows all
+  pub over : Past
+  pub over_look : IsLookOf trees.shape (closes trees (others hs)) without_over over
+  pub other : Past
+  pub other_look : IsLookOf trees.shape (closes trees (overs hs)) without_other other
+  pub logged : HasLogged (all ∷ over ∷ other ∷ []) old new
+
+-- What the log shows of it: the first look alone is new in it, no pin answers there, and all is as it was ..
+pub record ShowsSilent (trees : Trees) (hs : List WireTest) (before after : RigState) (old new : Kept) (was is were are : List Bool) :
+    Type 0 where
+  pub rows : List Pins
+  pub look : LogsLook trees.shape (closes trees (all_feet hs)) rows before after
+  pub unanswered : some_answers trees hs rows ≡ false
+  pub same : new ≡ old
+  pub unmarked : is ≡ was
+  pub unmarked_too : are ≡ were
+
+-- .. or all three are, some pin answers in the first, and they show what is kept and marked.
+pub record ShowsHung (trees : Trees) (hs : List WireTest) (before after : RigState) (old new : Kept) (was is were are : List Bool) :
+    Type 0 where
+  pub rows : List Pins
+  pub without_over : List Pins
+  pub without_other : List Pins
+  pub looks : LogsThree trees hs rows without_over without_other before after
+  pub answers : some_answers trees hs rows ≡ true
+  pub mid : Kept
+  pub first : Gains (seen_on trees (shown trees (map turned hs) rows without_other) without_over) old mid
+  pub second : Gains (seen_on trees (shown trees hs rows without_over) without_other) mid new
+  pub some : List Bool
+  pub few : List Bool
+  pub first_marks : HasMarked trees (others hs) without_over was some were few
+  pub second_marks : HasMarked trees (overs hs) without_other some is few are
+
+abbrev pub ShowsTried : Trees → List WireTest → RigState → RigState → Kept → Kept → List Bool → List Bool → List Bool → List Bool → Type 0
+ShowsTried trees hs before after old new was is were are =
+    ShowsSilent trees hs before after old new was is were are ⊎ ShowsHung trees hs before after old new was is were are

@@ -8,11 +8,11 @@ use Rattle.machine_shape.specs.declared.Shape.{Shape}
 use Rattle.machine_meaning.specs.Vocabulary.{Pins, Faults}
 use Rattle.machine_shape.specs.Shape.{pins_of}
 use Rattle.machine_config.specs.Vocabulary.{Configuration, is_closed, IsRun, AreOff}
-use Rattle.rig.specs.Rig.{RigState}
+use Rattle.rig.specs.Rig.{RigState, Past, drives_of, readings_of}
 use Rattle.diag_evidence.specs.Forests.{Trees, pin_of, is_laid}
 use Rattle.diag_evidence.specs.Kept.{Kept, Gain, Gains, nothing}
 use Rattle.diag_evidence.specs.Readings.{HasCycled}
-use Rattle.diag_evidence.specs.Logged.{LogsRows}
+use Rattle.diag_evidence.specs.Logged.{HasLogged}
 
 -- what so many pins read in each cycle of a look
 pub record Sights : Type 0 where
@@ -79,14 +79,20 @@ pub record IsLook (told : Option Faults) (m : Shape) (close : ℕ → Bool) (row
   pub ticks : config.ticks ≡ 1
   pub run : (f : Faults) → told ≡ Some f → IsRun f config (look_drives (pins_of m)) rows
 
--- the session of such a look is new in the log
+-- the session is that of such a look, and its pins read these rows
+pub record IsLookOf (m : Shape) (close : ℕ → Bool) (rows : List Pins) (session : Past) : Type 0 where
+  pub shape : session.config.shape ≡ m
+  pub closed : (x : ℕ) → is_closed session.config x ≡ close x
+  pub off : AreOff session.config
+  pub ticks : session.config.ticks ≡ 1
+  pub driven : drives_of session.cycles ≡ look_drives (pins_of m)
+  pub read : readings_of session.cycles ≡ rows
+
+-- such a session is new in the log
 pub record LogsLook (m : Shape) (close : ℕ → Bool) (rows : List Pins) (old new : RigState) : Type 0 where
-  pub config : Configuration
-  pub shape : config.shape ≡ m
-  pub closed : (x : ℕ) → is_closed config x ≡ close x
-  pub off : AreOff config
-  pub ticks : config.ticks ≡ 1
-  pub logged : LogsRows config (look_drives (pins_of m)) rows old new
+  pub session : Past
+  pub look : IsLookOf m close rows session
+  pub logged : HasLogged (session ∷ []) old new
 
 -- the session is that of a look, and all its cycles are made
 pub record HasLooked (m : Shape) (rig : RigState) : Type 0 where

@@ -6,8 +6,9 @@ use Rattle.diag_evidence.specs.declared.hangs.Plan.{Plan}
 use Rattle.diag_evidence.specs.declared.hangs.Views.{Views}
 use Rattle.diag_evidence.specs.Forests.{Trees}
 use Rattle.diag_evidence.specs.Kept.{Kept, Gains}
-use Rattle.diag_evidence.specs.Hangs.{Foot, turned, overs, others, all_feet, closes, some_answers, shown, seen_on, HasMarked}
-use Rattle.diag_evidence.specs.Looks.{IsLook, look_drives}
+use Rattle.rig.specs.Rig.{RigState}
+use Rattle.diag_evidence.specs.Hangs.{Foot, turned, overs, others, all_feet, closes, some_answers, shown, seen_on, HasMarked, LogsThree}
+use Rattle.diag_evidence.specs.Looks.{IsLook, LogsLook, look_drives}
 
 -- what is closed in the looks, and how they are driven
 pub record IsPlan (hs : List WireTest) (pins : ℕ) (plan : Plan) : Type 0 where
@@ -39,3 +40,9 @@ pub record HasLearnt (trees : Trees) (hs : List WireTest) (views : Views) (old n
   pub few : List Bool
   pub first_marks : HasMarked trees (others hs) views.without_over.rows was some were few
   pub second_marks : HasMarked trees (overs hs) views.without_other.rows some is few are
+
+-- the sessions of the looks are new in the log: of the first, and where some pin answers in it of all three
+pub record LogsViews (trees : Trees) (hs : List WireTest) (old new : RigState) (views : Views) (yes : Bool) : Type 0 where
+  pub answers : some_answers trees hs views.all.rows ≡ yes
+  pub once : yes ≡ false → LogsLook trees.shape (closes trees (all_feet hs)) views.all.rows old new
+  pub thrice : yes ≡ true → LogsThree trees hs views.all.rows views.without_over.rows views.without_other.rows old new

@@ -10,6 +10,7 @@ use Rattle.machine_config.specs.Configuration.{Configuration, setting_of}
 use Rattle.diag_evidence.specs.declared.sheets.Sheet.{Sheet}
 use Rattle.diag_evidence.specs.Forests.{Trees, HangsOn, IsForest}
 use Rattle.diag_evidence.specs.Kept.{Gain, nothing}
+use Rattle.diag_evidence.specs.Logged.{LogsRows}
 use Rattle.diag_evidence.specs.Looks.{ReadsEach}
 use Rattle.diag_evidence.specs.Readings.{HasCycled}
 use Rattle.diag_evidence.specs.TableRows.{AreAddressDrives, AreOpposite, IsTableConfig, is_one_of, is_right_in}
@@ -85,7 +86,16 @@ pub record IsReadTwice (told : Option Faults) (ts : List Table) (old new : Sheet
   pub switched : SwitchesOn ts other old.config.config new.config.config
   pub run_opposite : ReadsEach told new.config.config old.drives.items new.opposite.items
   pub session : HasCycled new.config.config old.drives.items rig
-  pub sheet : IsSheet old.config.config.shape new
+
+-- the sessions of these two loads are new in the log, with one state of the rig between
+pub record LogsSheet (ts : List Table) (old new : Sheet) (before after : RigState) : Type 0 where
+  pub setting : new.setting ≡ old.setting
+  pub between : RigState
+  pub first : LogsRows old.config.config old.drives.items new.reads.items before between
+  pub other : Setting
+  pub opposed : AreOpposite old.setting other
+  pub switched : SwitchesOn ts other old.config.config new.config.config
+  pub second : LogsRows new.config.config old.drives.items new.opposite.items between after
 
 -- of a table the first n cells, each where a pin is right in its cycle
 abbrev pub right_cells : ℕ → Setting → List Pins → List Pins → ℕ → ℕ → Gain

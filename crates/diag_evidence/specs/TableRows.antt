@@ -1,6 +1,6 @@
 -- Tables, many at once: two loads of 65 cycles, in which all of them are latched.
 use Rattle.std.specs.Prelude.{◌≡◌, ℕ, zero, suc, ◌<◌, ◌==◌, nat_lt, Bool, true, false, ◌&&◌, ◌||◌, not, if◌then◌else◌, Option, Some, None}
-use Rattle.std.specs.Prelude.{List, [], All, length, unwrap_or, slice_index_or}
+use Rattle.std.specs.Prelude.{List, [], ◌∷◌, All, length, unwrap_or, slice_index_or}
 use Rattle.std.specs.Int.{bit_at}
 use Rattle.std.specs.List.{list_any}
 use Rattle.base_bits.specs.Numbers.{has_number}
@@ -9,9 +9,10 @@ use Rattle.machine_meaning.specs.Vocabulary.{Pins, Faults, IsRightTable}
 use Rattle.machine_shape.specs.Shape.{table_wire, tables_of}
 use Rattle.machine_config.specs.declared.Setting.{Setting}
 use Rattle.machine_config.specs.Vocabulary.{Configuration, is_closed, setting_of, cell_of, IsRun}
-use Rattle.rig.specs.Rig.{RigState}
+use Rattle.rig.specs.Rig.{RigState, Past, drives_of, readings_of}
 use Rattle.diag_evidence.specs.Forests.{Trees, HangsOn, pin_of, is_laid}
 use Rattle.diag_evidence.specs.Kept.{Kept, Gain, Gains, HoldsFor, nothing}
+use Rattle.diag_evidence.specs.Logged.{HasLogged}
 use Rattle.diag_evidence.specs.Looks.{read_at}
 use Rattle.diag_evidence.specs.Readings.{HasCycled}
 
@@ -117,6 +118,32 @@ pub record HasTabled (told : Option Faults) (trees : Trees) (ts : List Table) (r
   pub marks : (t : ℕ) → has_number is t ≡
       ((is_one_of ts t && not (is_right_before setting reads opposite (output_pin trees t) 65)) || has_number was t)
   pub session : HasCycled second.config drives rig
+
+-- the tables had this setting in a session, and all pins read so under these drives
+pub record IsTableSession (trees : Trees) (ts : List Table) (s : Setting) (drives reads : List Pins) (session : Past) : Type 0 where
+  pub laid : IsTableConfig trees ts s session.config
+  pub driven : drives_of session.cycles ≡ drives
+  pub read : readings_of session.cycles ≡ reads
+
+-- the sessions of the two loads are new in the log, and just what they show is kept and marked
+pub record ShowsTabled (trees : Trees) (ts : List Table) (old new : RigState) (k l : Kept) (was is : List Bool) : Type 0 where
+  pub setting : Setting
+  pub latched : setting.latched ≡ true
+  pub low : setting.init ≡ false
+  pub other : Setting
+  pub opposed : AreOpposite setting other
+  pub drives : List Pins
+  pub driven : AreAddressDrives trees ts drives
+  pub reads : List Pins
+  pub first : Past
+  pub first_is : IsTableSession trees ts setting drives reads first
+  pub opposite : List Pins
+  pub second : Past
+  pub second_is : IsTableSession trees ts other drives opposite second
+  pub logged : HasLogged (first ∷ second ∷ []) old new
+  pub gains : Gains (right_parts trees ts setting reads opposite) k l
+  pub marks : (t : ℕ) → has_number is t ≡
+      ((is_one_of ts t && not (is_right_before setting reads opposite (output_pin trees t) 65)) || has_number was t)
 
 -- a table that is newly marked has a wrong cell or a stuck register, where the faults are told and what is kept is true of them
 abbrev pub MarksWrong : Option Faults → Kept → List Bool → List Bool → Type 0

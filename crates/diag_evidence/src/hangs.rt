@@ -6,10 +6,10 @@ ghost use Rattle.rig.specs.Rig.{ForEach, cycles_made, shape_of};
 ghost use Rattle.diag_evidence.specs.Kept.{FewCycles, Advances};
 ghost use Rattle.diag_evidence.specs.Forests.{KnowsForest};
 ghost use Rattle.diag_evidence.specs.Hangs.{AreHangs, AreAllOf, HasTried, MarksUnfit, MarksUnclear, UnfitIf, UnclearIf, StayMarked};
-ghost use Rattle.diag_evidence.specs.Hangs.{IsFoot, over_of, turned, overs, is_shown, others_part_from, shown, some_answers};
+ghost use Rattle.diag_evidence.specs.Hangs.{IsFoot, ShowsTried, over_of, turned, overs, is_shown, others_part_from, shown, some_answers};
 ghost use Rattle.diag_evidence.specs.Looks.{HasLooked, WantsRoom};
 ghost use Rattle.diag_evidence.specs.Readings.{LoadsUpTo};
-ghost use Rattle.diag_evidence.specs.Plans.{IsPlan, AreViews, HasViewed, HasLearnt};
+ghost use Rattle.diag_evidence.specs.Plans.{IsPlan, AreViews, HasViewed, HasLearnt, LogsViews};
 
 use crate::feet::{mark_unfit, pin_at};
 use crate::looks::look_drives;
@@ -213,6 +213,7 @@ impl Facts {
         requires views { AreViews (pins_of self.old.shape) views.old }
         ensures same { self.new ≡ self.old }
         ensures views { AreViews (pins_of self.old.shape) views.new }
+        ensures logged { IfOk result (LogsViews forest.now hangs.now (rig_state rig.old) (rig_state rig.new) views.new) }
         ensures viewed_each { IfOk result (λ yes. ForEach (rig_state rig.new) (λ told. HasViewed told forest.now hangs.now views.new yes)) }
         ensures loads { LoadsUpTo 3 result (rig_state rig.old) (rig_state rig.new) }
         ensures few { FewCycles (rig_state rig.old) (rig_state rig.new) }
@@ -313,6 +314,8 @@ impl Facts {
 
         ensures tried_each { OnOk result (ForEach (rig_state rig.new) (λ told. HasTried told forest.now hangs.now (rig_state
             rig.old).loads (rig_state rig.new).loads self.old self.new unfit.old unfit.new unclear.old unclear.new)) }
+        ensures logged { OnOk result (ShowsTried forest.now hangs.now (rig_state rig.old) (rig_state rig.new) self.old self.new
+            unfit.old unfit.new unclear.old unclear.new) }
         ensures newly_each { OnOk result (ForEach (rig_state rig.new) (λ told. MarksUnfit told self.old forest.now unfit.old unfit.new)) }
         ensures newly_too_each { OnOk result (ForEach (rig_state rig.new) (λ told. MarksUnclear told self.old unclear.old unclear.new)) }
         ensures unfit_each { ForEach (rig_state rig.new) (λ told. (known : ℕ → Bool) → AreAllOf forest.now known → UnfitIf told self.old

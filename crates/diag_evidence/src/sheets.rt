@@ -4,10 +4,11 @@ ghost use Rattle.std.specs.Int.{bit_at};
 ghost use Rattle.machine_shape.specs.Shape.{pins_of, tables_of};
 ghost use Rattle.diag_evidence.specs.Kept.{FewCycles};
 ghost use Rattle.rig.specs.Rig.{ForEach, cycles_made, shape_of};
+ghost use Rattle.diag_evidence.specs.Logged.{LogsRows};
 ghost use Rattle.diag_evidence.specs.Looks.{ReadsEach};
 ghost use Rattle.diag_evidence.specs.Readings.{HasCycled, LoadsUpTo};
 ghost use Rattle.diag_evidence.specs.Sheets.{AreTableDrives, HasAddress, HasInputs, HaveWidth, IsReadTwice, IsReadyFor};
-ghost use Rattle.diag_evidence.specs.Sheets.{IsSheet, SwitchesOn};
+ghost use Rattle.diag_evidence.specs.Sheets.{IsSheet, LogsSheet, SwitchesOn};
 ghost use Rattle.diag_evidence.specs.TableRows.{AreOpposite, AreTablesOn, IsTableConfig};
 
 use crate::Forest;
@@ -202,6 +203,7 @@ fn read_load(
     ensures as_many { length reads.new ≡ 65 }
     ensures session { OnOk result (HasCycled config.now.config drives.now (rig_state rig.new)) }
     ensures run_each { OnOk result (ForEach (rig_state rig.new) (λ told. ReadsEach told config.now.config drives.now reads.new)) }
+    ensures logged { OnOk result (LogsRows config.now.config drives.now reads.new (rig_state rig.old) (rig_state rig.new)) }
 {
     read_rows(rig, config, drives, reads, CYCLES)
 }
@@ -219,6 +221,8 @@ pub(crate) fn read_tables(
     ensures few { FewCycles (rig_state rig.old) (rig_state rig.new) }
     ensures made { cycles_made (rig_state rig.new) ≤ cycles_made (rig_state rig.old) + 130 }
     ensures wanting { IsErrOf result RigFail.Memory → (rig_state rig.new).session ≡ None }
+    ensures whole { OnOk result (IsSheet sheet.old.config.config.shape sheet.new) }
+    ensures logged { OnOk result (LogsSheet tables.now sheet.old sheet.new (rig_state rig.old) (rig_state rig.new)) }
     ensures read_each { OnOk result (ForEach (rig_state rig.new) (λ told. IsReadTwice told tables.now sheet.old sheet.new (rig_state
         rig.new))) }
 {

@@ -8,8 +8,8 @@ ghost use Rattle.diag_evidence.specs.Forests.{HangsOn, KnowsForest};
 ghost use Rattle.diag_evidence.specs.Kept.{Advances, Gains};
 ghost use Rattle.diag_evidence.specs.Readings.{WantsBefore};
 ghost use Rattle.diag_evidence.specs.Sheets.{IsSheet, right_cells};
-ghost use Rattle.diag_evidence.specs.TableRows.{AreTablesOn, HasTabled, MarksWrong, WrongIf, is_one_of, is_right_before, is_right_in};
-ghost use Rattle.diag_evidence.specs.TableRows.{output_pin, right_parts, shown_in};
+ghost use Rattle.diag_evidence.specs.TableRows.{AreTablesOn, HasTabled, MarksWrong, ShowsTabled, WrongIf, is_one_of, is_right_before};
+ghost use Rattle.diag_evidence.specs.TableRows.{is_right_in, output_pin, right_parts, shown_in};
 
 use crate::sheets::{CYCLES, Sheet, read_tables, sheet_of, table_at};
 use crate::{Facts, Forest};
@@ -146,6 +146,8 @@ impl Facts {
 
         ensures tabled_each { OnOk result (ForEach (rig_state rig.new) (λ told. HasTabled told forest.now tables.now (rig_state rig.new)
             self.old self.new wrong.old wrong.new)) }
+        ensures logged { OnOk result (ShowsTabled forest.now tables.now (rig_state rig.old) (rig_state rig.new) self.old self.new
+            wrong.old wrong.new) }
         ensures newly_each { OnOk result (ForEach (rig_state rig.new) (λ told. MarksWrong told self.old wrong.old wrong.new)) }
         ensures wrong_each { ForEach (rig_state rig.new) (λ told. WrongIf told self.old wrong.old → WrongIf told self.new wrong.new) }
         ensures marks { length wrong.new ≡ length wrong.old }

@@ -5,7 +5,7 @@ ghost use Rattle.machine_shape.specs.Shape.{wires_of, pins_of};
 ghost use Rattle.rig.specs.Rig.{ForEach, cycles_made, shape_of};
 ghost use Rattle.diag_evidence.specs.Kept.{Advances};
 ghost use Rattle.diag_evidence.specs.Forests.{KnowsForest};
-ghost use Rattle.diag_evidence.specs.Hangs.{AreFeet, AreAllOf, HasTold, MarksUnfit, MarksUnclear, UnfitIf, UnclearIf, StayMarked, closes};
+ghost use Rattle.diag_evidence.specs.Hangs.{AreFeet, AreAllOf, HasMarked, HasTold, MarksUnfit, MarksUnclear, UnfitIf, UnclearIf, StayMarked, closes};
 ghost use Rattle.diag_evidence.specs.Looks.{HasLooked, LogsLook};
 ghost use Rattle.diag_evidence.specs.Readings.{WantsBefore};
 
@@ -43,6 +43,7 @@ impl Facts {
 
         ensures told_each { OnOk result (ForEach (rig_state rig.new) (λ told. HasTold told forest.now hangs.now reads.new.rows unfit.old
             unfit.new unclear.old unclear.new)) }
+        ensures marked { OnOk result (HasMarked forest.now hangs.now reads.new.rows unfit.old unfit.new unclear.old unclear.new) }
         ensures logged { OnOk result (LogsLook forest.now.shape (closes forest.now hangs.now) reads.new.rows (rig_state rig.old)
             (rig_state rig.new)) }
         ensures newly_each { OnOk result (ForEach (rig_state rig.new) (λ told. MarksUnfit told self.old forest.now unfit.old unfit.new)) }

@@ -2,11 +2,10 @@
 use Rattle.std.proofs.Common.{◌≡◌, ℕ, true, Option, [], ◌∷◌, length, refl, sym, ap, ◌∙◌, subst, inl, inr, Result, Ok, Err, OnOk, OnErr, slice_set}
 use Rattle.base_bits.specs.Numbers.{has_number}
 use Rattle.machine_meaning.specs.Faults.{Faults}
-use Rattle.rig.specs.Rig.{RigState}
-use Rattle.diag_evidence.specs.Kept.{Kept, Advances, IsMore}
+use Rattle.diag_evidence.specs.Kept.{Kept, IsMore}
 use Rattle.diag_growth.specs.Grown.{IsLearnt, IsOneMore}
 use Rattle.diag_growth.specs.Looks.{IsReady}
-use Rattle.diag_known.specs.Vocabulary.{KnownWires, HasWire, IsKnown, Stands, IsGood, AreMarks, OffersOnly}
+use Rattle.diag_known.specs.Vocabulary.{KnownWires, HasWire, IsKnown, Stands, IsGood, AreMarks, AreMarksOver, OffersOnly}
 use Rattle.diag_known.specs.declared.marks.Marks.{Marks}
 use Rattle.diag_known.specs.declared.offers.Offer.{Offer}
 use Rattle.diag_known.specs.declared.verified_wire.VerifiedWire.{VerifiedWire}
@@ -36,11 +35,11 @@ pub learnt_marks : {told : Option Faults} {k l : Kept} {a b : KnownWires} {s : V
 learnt_marks {told} {k} {l} {a} {b} {s} {m} more p are = subst (λ ss. AreMarks told l ss m) (sym p.steps) (marks_later (s ∷ []) more are)
 
 -- an offer may still be tried after tests
-pub ready_later : {a b : RigState} {k l : Kept} {those : KnownWires} {o : Offer} {s t : Marks} → Advances a b k l → IsReady a.machine.faults k those o s → AreMarks a.machine.faults l those.steps t → IsReady b.machine.faults l those o t
-ready_later {l = l} {those = those} {t = t} advances ready marks = record {
-  known = known_later advances.more ready.known;
-  offer = offer_still advances.more.shape ready.offer;
-  marks = subst (λ (told : Option Faults). AreMarks told l those.steps t) (sym (ap (λ m. m.faults) advances.machine)) marks;
+pub ready_later : {k l : Kept} {those : KnownWires} {o : Offer} {s t : Marks} → IsMore k l → IsReady k those o s → AreMarksOver l.shape t → IsReady l those o t
+ready_later more ready marks = record {
+  known = known_later more ready.known;
+  offer = offer_still more.shape ready.offer;
+  marks = marks;
 }
 
 -- a barred wire changes no other mark

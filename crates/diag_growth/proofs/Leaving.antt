@@ -8,7 +8,7 @@ use Rattle.machine_shape.specs.Vocabulary.{IsNumbered, Ends, ends_of, crosses_of
 use Rattle.machine_meaning.specs.Faults.{Faults}
 use Rattle.machine_meaning.proofs.JoinedLemmas.{Ends-swap}
 use Rattle.diag_evidence.specs.Kept.{Kept, IsMore}
-use Rattle.diag_known.specs.Vocabulary.{Links, AreLinked, list_at, KnownWires, IsAt, IsBefore, HasWire, IsKnown, AreMarks, Spends, IsOfOffer, JoinsAtMost, OffersOnly, HasTried, barred, lost}
+use Rattle.diag_known.specs.Vocabulary.{Links, AreLinked, list_at, KnownWires, IsAt, IsBefore, HasWire, IsKnown, AreMarks, AreMarksOver, Spends, SpendsFew, IsOfOffer, JoinsAtMost, OffersOnly, HasTried, barred, lost}
 use Rattle.diag_growth.specs.Looks.{IsLook, IsLookAt, IsLooked, IsLookedOver, IsOfferOf, IsOfferedMark, AreAllMarks, AreTried, Grows, IsLinking}
 use Rattle.diag_known.specs.declared.links.Near.{Near}
 use Rattle.diag_growth.specs.declared.look.Look.{Look}
@@ -19,7 +19,7 @@ use Rattle.diag_known.specs.declared.verified_wire.VerifiedWire.{VerifiedWire}
 use Rattle.diag_known.proofs.Counting.{set_has}
 use Rattle.diag_growth.proofs.Growing.{before_old}
 use Rattle.diag_growth.proofs.Looking.{look_within, look_ends, looked_barred, looked_lost}
-use Rattle.diag_known.proofs.Marking.{spends_none, spends_between}
+use Rattle.diag_known.proofs.Marking.{few_none, few_between, spends_none, spends_between}
 use Rattle.diag_known.proofs.Places.{at_within, at_later, before_has, one_place, some_same}
 use Rattle.diag_known.proofs.Settling.{ends_same}
 use Rattle.diag_growth.proofs.Stages.{tried_none, tried_one, looked_on}
@@ -62,9 +62,13 @@ all_later {told} {k} {l} {near} {a} {b} {s} {t} more g all are only = record { a
     by_old x (inr m) = m
 
 -- a look at a known wire
-pub joins_spent : {told : Option Faults} {k : Kept} (near : List Near) {ss : List VerifiedWire} {s t : Marks} {x before after : ℕ} → AreMarks told k ss s → x < crosses_of k.shape → IsLinking near x → JoinsAtMost k x s t before after → Spends told k (IsLinking near) s t before after
-joins_spent near are within linking (inl same) = spends_none same.0 same.1
-joins_spent near {before = before} {after = after} are within linking (inr one) = spends_between before after are within linking one.fresh one.unmarked one.marks one.loads
+pub joins_spent : {k : Kept} (near : List Near) {s t : Marks} {x before after : ℕ} → AreMarksOver k.shape s → x < crosses_of k.shape → IsLinking near x → JoinsAtMost k x s t before after → Spends k (IsLinking near) s t before after
+joins_spent near over within linking (inl same) = spends_none same.0 same.1
+joins_spent near {before = before} {after = after} over within linking (inr one) = spends_between before after over within linking one.fresh one.unmarked one.marks one.loads
+
+pub joins_few : {told : Option Faults} {k : Kept} {ss : List VerifiedWire} {s t : Marks} {x before after : ℕ} → AreMarks told k ss s → x < crosses_of k.shape → JoinsAtMost k x s t before after → SpendsFew told k s t before after
+joins_few are within (inl same) = few_none same.0 same.1
+joins_few {before = before} {after = after} are within (inr one) = few_between before after are within one.fresh one.marks one.loads
 
 pub joins_barred : {k : Kept} {s t : Marks} {x before after : ℕ} → JoinsAtMost k x s t before after → t.barred ≡ s.barred
 joins_barred (inl same) = ap (λ (u : Marks). u.barred) same.0
@@ -112,10 +116,6 @@ pub offer_links : {near : List Near} {ss : List VerifiedWire} {l : Look} {o : Of
 offer_links {near} {l = l} look of_look x (inl e) = subst (IsLinking near) (sym of_look.cross ∙ e) (l.link.wire.0, l.wire.0, look.link)
 offer_links {near} {l = l} {o = o} look of_look x (inr p) =
     subst (IsLinking near) p.so (p.item.wire.0, l.link.wire.0, (of_look.earlier.right p.item (record { place = p.place; here = p.here })).0)
-
--- the same of faults that are told alike
-pub spends_told : {a b : Option Faults} {k : Kept} {these : ℕ → Type 0} {s t : Marks} {before after : ℕ} → a ≡ b → Spends a k these s t before after → Spends b k these s t before after
-spends_told {k = k} {these = these} {s = s} {t = t} {before = before} {after = after} e p = subst (λ told. Spends told k these s t before after) e p
 
 -- looks over the links of a wire, one after the other
 pub looks_next : {told : Option Faults} {k l : Kept} {near : List Near} {a b : KnownWires} {x y : List Bool} (place w n : ℕ) (link : Support) → IsMore k l → Grows l a b x y → place ≤ length a.steps → slice_get (list_at near w) n ≡ Some link →

@@ -2,7 +2,7 @@
 use Rattle.std.proofs.Common.{◌≡◌, ℕ, ◌+◌, ◌<◌, ◌≤◌, Some, List, slice_get}
 use Rattle.rig.specs.Rig.{RigState, ForEach}
 use Rattle.diag_evidence.specs.Kept.{Kept, Advances}
-use Rattle.diag_known.specs.Vocabulary.{KnownWires, AreMarks, Spends, SpendsOn, AreLost}
+use Rattle.diag_known.specs.Vocabulary.{KnownWires, AreMarks, AreMarksOver, Spends, SpendsFew, SpendsOn, AreLost}
 use Rattle.diag_known.specs.declared.field.Field.{Field}
 use Rattle.diag_known.specs.declared.links.Near.{Near}
 use Rattle.diag_known.specs.declared.verified_wire.Support.{Support}
@@ -10,32 +10,31 @@ use Rattle.diag_known.specs.declared.verified_wire.VerifiedWire.{VerifiedWire}
 use Rattle.diag_known.specs.declared.marks.Marks.{Marks}
 use Rattle.diag_known.specs.declared.offers.Offer.{Offer}
 use Rattle.diag_growth.specs.Looks.{AreAllMarks, AreTried, Grows, IsLinking}
-use Rattle.diag_growth.proofs.Circling.{IsGrowing}
+use Rattle.diag_growth.proofs.Circling.{HasSpread, IsGrowing}
 
 -- the first n pins were tried
 pub record HasGrown (first now : RigState) (j k : Kept) (a : Field) (near : List Near) (old known : KnownWires) (marks : Marks) (n : ℕ) : Type 0 where
   pub advances : Advances first now j k
-  pub growing : IsGrowing first.machine.faults j k a near old known marks first.loads now.loads n
-  pub growing_each : ForEach now (λ told. IsGrowing told j k a near old known marks first.loads now.loads n)
+  pub start : Marks
+  pub spread : HasSpread j k a near old known start marks first.loads now.loads n
+  pub growing_each : ForEach now (λ told. IsGrowing told j k near known start marks first.loads now.loads)
 
 -- known wires were looked at, and something else holds
 pub record HasLooked (first now : RigState) (j k : Kept) (near : List Near) (old known : KnownWires) (from new : Marks) (More : Type 0) : Type 0 where
   pub advances : Advances first now j k
   pub grows : Grows k old known from.barred new.barred
-  pub tried : AreTried first.machine.faults k known.steps from.barred new.barred
-  pub marks : AreAllMarks first.machine.faults k near known.steps new
-  pub spends : Spends first.machine.faults j (IsLinking near) from new first.loads now.loads
+  pub marks : AreMarksOver k.shape new
+  pub spends : Spends j (IsLinking near) from new first.loads now.loads
   pub tried_each : ForEach now (λ told. AreAllMarks told j near old.steps from → AreTried told k known.steps from.barred new.barred)
   pub marks_each : ForEach now (λ told. AreAllMarks told j near old.steps from → AreAllMarks told k near known.steps new)
-  pub spends_each : ForEach now (λ told. AreAllMarks told j near old.steps from → Spends told j (IsLinking near) from new first.loads now.loads)
+  pub spends_each : ForEach now (λ told. AreAllMarks told j near old.steps from → SpendsFew told j from new first.loads now.loads)
   pub also : More
 
 -- the first n other crosspoints of an offer were tried
 pub record HaveTriedOthers (first now : RigState) (j k : Kept) (ss : List VerifiedWire) (o : Offer) (old new : Marks) (n : ℕ) : Type 0 where
   pub advances : Advances first now j k
-  pub marks : AreMarks first.machine.faults k ss new
-  pub spends : SpendsOn first.machine.faults j o old new first.loads now.loads
-  pub lost : (i : ℕ) (a : Support) → i < n → slice_get o.others.items i ≡ Some a → AreLost first.machine.faults k ss o.wire.0 o.foot.cross.0 a.cross.0
+  pub marks : AreMarksOver k.shape new
+  pub spends : SpendsOn j o old new first.loads now.loads
   pub marks_each : ForEach now (λ told. AreMarks told j ss old → AreMarks told k ss new)
-  pub spends_each : ForEach now (λ told. AreMarks told j ss old → SpendsOn told j o old new first.loads now.loads)
+  pub spends_each : ForEach now (λ told. AreMarks told j ss old → SpendsFew told j old new first.loads now.loads)
   pub lost_each : ForEach now (λ told. AreMarks told j ss old → (i : ℕ) (a : Support) → i < n → slice_get o.others.items i ≡ Some a → AreLost told k ss o.wire.0 o.foot.cross.0 a.cross.0)

@@ -7,7 +7,7 @@ use Rattle.machine_shape.specs.Shape.{pin_wire, pins_of, wires_of, crosses_of}
 use Rattle.machine_meaning.specs.Faults.{Faults}
 use Rattle.machine_shape.proofs.Totals.{pins_are}
 use Rattle.diag_evidence.specs.Kept.{Kept, keeps_cross}
-use Rattle.diag_known.specs.Vocabulary.{IsFieldOf, TakesFew, fresh, how_many, pins_in, AreLinks, AreOutside, barred_pins, is_spent, Spends}
+use Rattle.diag_known.specs.Vocabulary.{IsFieldOf, TakesFew, fresh, how_many, pins_in, AreLinks, AreOutside, barred_pins, is_spent, Spends, SpendsFew}
 use Rattle.diag_growth.specs.Looks.{IsLinking}
 use Rattle.diag_known.specs.declared.field.Field.{Field}
 use Rattle.diag_known.specs.declared.links.Near.{Near}
@@ -34,8 +34,8 @@ pins_long m bits = subst (λ n. how_many (has_number bits) (pins_of m) ≤ how_m
 both_so : (a b : Bool) → a ≡ true → b ≡ false → (a && not b) ≡ true
 both_so a b e f = rw (e, f) refl
 
-module _ {told : Option Faults} {k : Kept} {a : Field} {near : List Near} {s t : Marks} {before after : ℕ} (field : IsFieldOf k.shape a) (links : AreLinks k.shape a near) (outside : AreOutside a.wires s.barred)
-    (unspent : (x : ℕ) → is_spent s x ≡ true → ⊥) (spends : Spends told k (IsLinking near) s t before after) where
+module _ {k : Kept} {a : Field} {near : List Near} {s t : Marks} {before after : ℕ} (field : IsFieldOf k.shape a) (links : AreLinks k.shape a near) (outside : AreOutside a.wires s.barred)
+    (unspent : (x : ℕ) → is_spent s x ≡ true → ⊥) (spends : Spends k (IsLinking near) s t before after) where
   abbrev c : ℕ
   c = crosses_of k.shape
 
@@ -86,8 +86,8 @@ module _ {told : Option Faults} {k : Kept} {a : Field} {near : List Near} {s t :
           h ≤ n → n ≤ d + y → u + z ≤ m → h + m ≤ v + n → after + z ≤ before + (8 * x + 3 * y)
       sums u v z m n o p q d e f g h i x y most i1 i2 i3 i4 i5 i6 i7 i8 = omega (arith, most, i1, i2, i3, i4, i5, i6, i7, i8)
 
-  pub takes_few : TakesFew told k a before after
-  takes_few = record { at = λ f is none holds. sums _ _ _ _ _ _ _ _ _ _ _ (spends.few f is none holds) spent_few barred_all wires_either pins_both pins_left }
+  pub takes_few : {told : Option Faults} → SpendsFew told k s t before after → TakesFew told k a before after
+  takes_few loads = record { at = λ f is none holds. sums _ _ _ _ _ _ _ _ _ _ _ (loads.few f is none holds) spent_few barred_all wires_either pins_both pins_left }
     where
       sums : (u v z m n p d i h x y : ℕ) → after + v + (2 * p + 3 * d) ≤ before + u + (2 * i + 3 * h) → i ≤ x → h ≤ n → n ≤ d + y → u + z ≤ m → h + m ≤ v + n → after + z ≤ before + (2 * x + 3 * y)
       sums u v z m n p d i h x y few i1 i2 i3 i4 i5 = omega (arith, few, i1, i2, i3, i4, i5)

@@ -1,5 +1,5 @@
 -- What tests over a seat leave.
-use Rattle.std.proofs.Common.{◌≡◌, ◌⊎◌, ◌<◌, ◌≤◌, ◌+◌, ◌*◌, ℕ, zero, suc, Bool, true, false, ◌&&◌, ◌||◌, Some, None, Option, List, [], ◌∷◌, refl, sym, ap, ◌∙◌, subst, inl, inr, arith, ◌==◌, ◌≢◌, All, IsTrue, length, slice_index_or}
+use Rattle.std.proofs.Common.{◌≡◌, ◌⊎◌, ◌<◌, ◌≤◌, ◌+◌, ◌*◌, ℕ, zero, suc, Bool, true, false, ◌&&◌, ◌||◌, Some, None, Option, List, [], ◌∷◌, refl, sym, ◌∙◌, subst, inl, inr, arith, ◌==◌, ◌≢◌, All, IsTrue, length, slice_index_or}
 use Rattle.std.proofs.lemmas.Bool.Decides.{nat_tests}
 use Rattle.machine_shape.specs.declared.Cross.{Cross}
 use Rattle.machine_shape.specs.declared.Shape.{Shape}
@@ -80,14 +80,10 @@ gained_register k l t g = g.registers t ∙ by (t == t) (keeps_register k t) (gr
 pub record HasTestedCells (first now : RigState) (k l : Kept) (s : Seat) (n : ℕ) : Type 0 where
   pub advances : Advances first now k l
   pub only : AddsOnlyTableFacts k l
-  pub cells : CellsIf first.machine.faults k l s.table.0 n
   pub cells_each : ForEach now (λ told. CellsIf told k l s.table.0 n)
   pub loads : now.loads ≤ first.loads + 2 * n
 
 -- one cell more
-told_later : {a b : RigState} {k l : Kept} {f : Faults} → Advances a b k l → a.machine.faults ≡ Some f → b.machine.faults ≡ Some f
-told_later {f = f} adv is = ap (λ m. m.faults) adv.machine ∙ is
-
 pub cells_first : (told : Option Faults) (k : Kept) (t : ℕ) → CellsIf told k k t 0
 cells_first told k t = record { at = λ f is h a below right. absurd (omega arith) }
 
@@ -97,9 +93,6 @@ cells_next {told} {k} {l} {n} {t} {i} later more old new = record { at = λ f is
     by : (f : Faults) → told ≡ Some f → HoldsFor k f → (c : ℕ) → wrong_cell f t c ≡ None → (c < i) ⊎ (c ≡ i) → keeps_cell n t c ≡ true
     by f is h c right (inl less) = more.cells t c (old.at f is h c less right)
     by f is h c right (inr same) = subst (λ d. keeps_cell n t d ≡ true) (sym same) (new.at f is (later f is h) (subst (λ d. wrong_cell f t d ≡ None) same right))
-
-pub cells_more : {a b : RigState} {k l n : Kept} {t i : ℕ} → Advances a b k l → IsMore l n → CellsIf a.machine.faults k l t i → CellIf b.machine.faults l n t i → CellsIf a.machine.faults k n t (i + 1)
-cells_more adv more old new = cells_next adv.holds more old (record { at = λ f is h right. new.at f (told_later adv is) h right })
 
 pub cells_end : {told : Option Faults} {k l : Kept} {t i : ℕ} → i ≡ 64 → CellsIf told k l t i → CellsIf told k l t 64
 cells_end {told} {k} {l} {t} e h = subst (λ i. CellsIf told k l t i) e h
@@ -111,9 +104,6 @@ table_next later more cells register = record {
     register = register.at f is (later f is h) right.register;
   };
 }
-
-pub table_end : {a b : RigState} {k l n : Kept} {t : ℕ} → Advances a b k l → IsMore l n → CellsIf a.machine.faults k l t 64 → RegisterIf b.machine.faults l n t → TableIf a.machine.faults k n t
-table_end adv more cells register = table_next adv.holds more cells (record { at = λ f is h right. register.at f (told_later adv is) h right })
 
 -- only facts of tables are new
 pub only_itself : {k : Kept} → AddsOnlyTableFacts k k

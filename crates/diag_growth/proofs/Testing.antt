@@ -7,8 +7,7 @@ use Rattle.machine_shape.specs.declared.Table.{Table}
 use Rattle.machine_shape.specs.Shape.{crosses_of, tables_of, hextant_of, IsLine, IsPort}
 use Rattle.machine_meaning.specs.Vocabulary.{Faults, StandsBy, IsOutside, StandsWithout, IsSeated, IsRightTable}
 use Rattle.machine_meaning.proofs.Seats.{stands_also, seated_also}
-use Rattle.rig.specs.Rig.{RigState}
-use Rattle.diag_evidence.specs.Kept.{Kept, HoldsFor, IsMore, Advances}
+use Rattle.diag_evidence.specs.Kept.{Kept, HoldsFor, IsMore}
 use Rattle.diag_known.specs.Known.{KnownWires, HasWire, IsKnown, IsKeptCrossOf, InSet}
 use Rattle.diag_growth.specs.Seating.{AreAllWithout, IsPlaceAt, IsWithout}
 use Rattle.diag_growth.specs.Tables.{SeatedIsKept, SeatedAreKept}
@@ -67,10 +66,6 @@ tested_on {told} {k} {l} {n} {ss} {tables} {i} {t} later first only more this ol
     by : (j : ℕ) (u : Table) → j < i + 1 → slice_get tables j ≡ Some u → Dec (j ≡ i) → SeatedIsKept told k n ss u.0
     by j u less here (yes e) = subst (λ (v : Table). SeatedIsKept told k n ss v.0) (some_same (sym this ∙ ap (slice_get tables) (sym e) ∙ here)) now
     by j u less here (no d) = before u.0 (old.each j u (omega (arith, less, d)) here)
-
-pub tested_next : {a b : RigState} {k l n : Kept} {ss : List VerifiedWire} {tables : List Table} {i : ℕ} {t : Table} → Advances a b k l → AddsOnlyTableFacts k l → IsMore l n → slice_get tables i ≡ Some t →
-    AreTested a.machine.faults k l ss tables i → SeatedIsKept b.machine.faults l n ss t.0 → AreTested a.machine.faults k n ss tables (i + 1)
-tested_next adv only more this old new = tested_on adv.holds adv.more only more this old (record { at = λ f is h seated right. new.at f (ap (λ m. m.faults) adv.machine ∙ is) h seated right })
 
 pub tested_all : {told : Option Faults} {k l : Kept} {ss : List VerifiedWire} {tables : List Table} {n : ℕ} → AreTested told k l ss tables n → length tables ≤ n → SeatedAreKept told k l ss tables
 tested_all {tables = tables} {n = n} are le = record { each = λ j t here. are.each j t (let low = slice_get_within tables j t here in omega (arith, low, le)) here }

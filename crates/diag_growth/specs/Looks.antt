@@ -5,8 +5,8 @@ use Rattle.machine_meaning.specs.Faults.{Faults}
 use Rattle.machine_shape.specs.declared.Shape.{Shape}
 use Rattle.machine_shape.specs.Shape.{Ends, ends_of, crosses_of}
 use Rattle.diag_evidence.specs.Kept.{Kept}
-use Rattle.diag_known.specs.Vocabulary.{Links, list_at, KnownWires, IsKnown, IsAt, IsBefore, HasWire, AreMarks, IsOffer, IsPlaced, AreLost}
-use Rattle.diag_known.specs.Vocabulary.{IsKeptUnlessStuck, IsTried}
+use Rattle.diag_known.specs.Vocabulary.{Links, list_at, KnownWires, IsKnown, IsAt, IsBefore, HasWire, AreMarks, AreMarksOver}
+use Rattle.diag_known.specs.Vocabulary.{IsOffer, IsPlaced, AreLost, IsKeptUnlessStuck, IsTried}
 use Rattle.diag_known.specs.declared.links.Near.{Near}
 use Rattle.diag_growth.specs.declared.look.Look.{Look}
 use Rattle.diag_known.specs.declared.marks.Marks.{Marks}
@@ -88,11 +88,11 @@ pub record AreAllMarks (told : Option Faults) (k : Kept) (near : List Near) (ss 
   pub are : AreMarks told k ss s
   pub offers : (x : ℕ) → has_number s.offered x ≡ true → IsOfferedMark told k near ss s.barred x
 
--- an offer may be tried: the wires are known, the offer is one over them, and the marks are right
-pub record IsReady (told : Option Faults) (k : Kept) (those : KnownWires) (o : Offer) (s : Marks) : Type 0 where
+-- an offer may be tried: the wires are known, the offer is one over them, and each crosspoint has its marks
+pub record IsReady (k : Kept) (those : KnownWires) (o : Offer) (s : Marks) : Type 0 where
   pub known : IsKnown k those
   pub offer : IsOffer k.shape those.steps o
-  pub marks : AreMarks told k those.steps s
+  pub marks : AreMarksOver k.shape s
 
 -- the crosspoint of the offer wasn't offered before
 abbrev pub IsNewOffer : Offer → Marks → Type 0

@@ -56,7 +56,7 @@ pub record KeepsTable (k : Kept) (t : ℕ) : Type 0 where
   pub cells : (a : ℕ) → a < 64 → keeps_cell k t a ≡ true
   pub register : keeps_register k t ≡ true
 
--- Where the faults are told and what was kept is true of them, a right table is kept.
+-- Where what was kept is true of the faults, a right table is kept.
 pub record TableIf (told : Option Faults) (k l : Kept) (t : ℕ) : Type 0 where
   pub at : (f : Faults) → told ≡ Some f → HoldsFor k f → IsRightTable f t → KeepsTable l t
 

@@ -8,8 +8,8 @@ use Rattle.diag_growth.specs.Seats.{KeepsTable}
 use Rattle.diag_known.specs.Vocabulary.{how_many, HasWire, IsKeptCrossOf}
 use Rattle.diag_known.specs.declared.verified_wire.VerifiedWire.{VerifiedWire}
 
--- Where the faults are told and what was kept is true of them, the table is kept, if it is seated in the known wires and the kept
--- crosspoints and is right.
+-- Where what was kept is true of the faults, the table is kept, if it is seated in the known wires and the kept crosspoints and
+-- is right.
 pub record SeatedIsKept (told : Option Faults) (k l : Kept) (ss : List VerifiedWire) (t : ℕ) : Type 0 where
   pub at : (f : Faults) → told ≡ Some f → HoldsFor k f → IsSeated k.shape (HasWire ss) (IsKeptCrossOf k) t → IsRightTable f t →
       KeepsTable l t

@@ -34,7 +34,7 @@ AddsArm old new a = (c : ℕ) → among new c ≡ ((among old c || (a.to_line.0 
 abbrev pub IsSeatConfig : Shape → Seat → List ℕ → Configuration → Type 0
 IsSeatConfig m s ties g = IsCellConfig m s.near s.far ties s.table.0 0 g
 
--- Where the faults are told and what was kept is true of them, a cell that isn't wrong is kept ..
+-- Where what was kept is true of the faults, a cell that isn't wrong is kept ..
 pub record CellIf (told : Option Faults) (k l : Kept) (t a : ℕ) : Type 0 where
   pub at : (f : Faults) → told ≡ Some f → HoldsFor k f → wrong_cell f t a ≡ None → keeps_cell l t a ≡ true
 

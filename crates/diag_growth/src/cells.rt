@@ -58,7 +58,6 @@ fn test_cell(
     requires seat { IsSeat facts.old seat.now }
     requires address { address < 64 }
 
-    ensures cell { OnOk result (CellIf (rig_state rig.old).machine.faults facts.old facts.new seat.now.table.0 address) }
     ensures cell_each { OnOk result (ForEach (rig_state rig.new) (λ told. CellIf told facts.old facts.new seat.now.table.0 address)) }
     ensures advances { Advances (rig_state rig.old) (rig_state rig.new) facts.old facts.new }
     ensures only { AddsOnlyTableFacts facts.old facts.new }
@@ -97,7 +96,6 @@ fn test_cells(
     requires attached { shape_of (rig_state rig.old) ≡ Some facts.old.shape }
     requires seat { IsSeat facts.old seat.now }
 
-    ensures cells { OnOk result (CellsIf (rig_state rig.old).machine.faults facts.old facts.new seat.now.table.0 64) }
     ensures cells_each { OnOk result (ForEach (rig_state rig.new) (λ told. CellsIf told facts.old facts.new seat.now.table.0 64)) }
     ensures advances { Advances (rig_state rig.old) (rig_state rig.new) facts.old facts.new }
     ensures only { AddsOnlyTableFacts facts.old facts.new }
@@ -120,7 +118,6 @@ fn test_register(
     requires attached { shape_of (rig_state rig.old) ≡ Some facts.old.shape }
     requires seat { IsSeat facts.old seat.now }
 
-    ensures register { OnOk result (RegisterIf (rig_state rig.old).machine.faults facts.old facts.new seat.now.table.0) }
     ensures register_each { OnOk result (ForEach (rig_state rig.new) (λ told. RegisterIf told facts.old facts.new seat.now.table.0)) }
     ensures advances { Advances (rig_state rig.old) (rig_state rig.new) facts.old facts.new }
     ensures only { AddsOnlyTableFacts facts.old facts.new }
@@ -148,9 +145,9 @@ fn test_register(
     }
 }
 
-/// Tests the 64 cells and the register of a table. Where the faults are told and what was kept is true of them, all of
-/// them are kept after an Ok, if no cell is wrong and the register isn't stuck. At every end no other facts are new, and at
-/// most 130 loads were made.
+/// Tests the 64 cells and the register of a table. For each set of faults that explains the log then, and of which what was kept
+/// is true, all of them are kept after an Ok, if no cell is wrong and the register isn't stuck. At every end no other facts are
+/// new, and at most 130 loads were made.
 ///
 /// # Errors
 ///
@@ -164,7 +161,6 @@ pub fn test_table(
     requires attached { shape_of (rig_state rig.old) ≡ Some facts.old.shape }
     requires seat { IsSeat facts.old seat.now }
 
-    ensures table { OnOk result (TableIf (rig_state rig.old).machine.faults facts.old facts.new seat.now.table.0) }
     ensures table_each { OnOk result (ForEach (rig_state rig.new) (λ told. TableIf told facts.old facts.new seat.now.table.0)) }
     ensures advances { Advances (rig_state rig.old) (rig_state rig.new) facts.old facts.new }
     ensures only { AddsOnlyTableFacts facts.old facts.new }

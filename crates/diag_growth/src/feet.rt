@@ -5,7 +5,8 @@ ghost use Rattle.machine_shape.specs.Shape.{crosses_of};
 ghost use Rattle.rig.specs.Rig.{ForEach, shape_of};
 ghost use Rattle.diag_evidence.specs.Kept.{Advances, keeps_cross};
 ghost use Rattle.diag_known.specs.declared.verified_wire.Support.{Support};
-ghost use Rattle.diag_known.specs.Vocabulary.{AreMarks, SpendsOn, IsPlaced, IsKeptOther, IsSecond, AreLost, HasNoSecond};
+ghost use Rattle.diag_known.specs.Vocabulary.{AreMarks, AreMarksOver, SpendsFew, SpendsOn, IsPlaced, IsKeptOther};
+ghost use Rattle.diag_known.specs.Vocabulary.{IsSecond, AreLost, HasNoSecond};
 ghost use Rattle.diag_growth.specs.Looks.{IsNewOffer, IsReady};
 
 use diag_evidence::Facts;
@@ -36,21 +37,18 @@ fn try_over(
     over: Support,
 ) -> Result<Option<Support>, RigFail>
     requires attached { shape_of (rig_state rig.old) ≡ Some facts.old.shape }
-    requires ready { IsReady (rig_state rig.old).machine.faults facts.old known.now offer.now marks.old }
+    requires ready { IsReady facts.old known.now offer.now marks.old }
     requires first { IsNewOffer offer.now marks.old }
     requires over { IsKeptOther facts.old offer.now.others.items over }
     ensures some { IfOk result (λ found. IfSome found (IsSecond facts.new offer.now)) }
-    ensures none { IfOk result (λ found. IfNone found
-        (HasNoSecond (rig_state rig.old).machine.faults facts.new known.now.steps offer.now)) }
     ensures none_each { IfOk result (λ found. ForEach (rig_state rig.new) (λ told. AreMarks told facts.old known.now.steps marks.old →
         IfNone found (HasNoSecond told facts.new known.now.steps offer.now))) }
-    ensures marks { OnOk result (AreMarks (rig_state rig.old).machine.faults facts.new known.now.steps marks.new) }
+    ensures marks { AreMarksOver facts.new.shape marks.new }
     ensures marks_each { OnOk result (ForEach (rig_state rig.new) (λ told. AreMarks told facts.old known.now.steps marks.old → AreMarks
         told facts.new known.now.steps marks.new)) }
-    ensures spends { SpendsOn (rig_state rig.old).machine.faults facts.old offer.now marks.old marks.new (rig_state rig.old).loads
-        (rig_state rig.new).loads }
-    ensures spends_each { ForEach (rig_state rig.new) (λ told. AreMarks told facts.old known.now.steps marks.old → SpendsOn told
-        facts.old offer.now marks.old marks.new (rig_state rig.old).loads (rig_state rig.new).loads) }
+    ensures spends { SpendsOn facts.old offer.now marks.old marks.new (rig_state rig.old).loads (rig_state rig.new).loads }
+    ensures spends_each { ForEach (rig_state rig.new) (λ told. AreMarks told facts.old known.now.steps marks.old → SpendsFew told
+        facts.old marks.old marks.new (rig_state rig.old).loads (rig_state rig.new).loads) }
     ensures advances { Advances (rig_state rig.old) (rig_state rig.new) facts.old facts.new }
     ensures cause { IsErrOf result RigFail.Failed → Rose (rig_state rig.old).failures (rig_state rig.new).failures }
 {
@@ -76,21 +74,18 @@ fn try_other(
     other: Support,
 ) -> Result<bool, RigFail>
     requires attached { shape_of (rig_state rig.old) ≡ Some facts.old.shape }
-    requires ready { IsReady (rig_state rig.old).machine.faults facts.old known.now offer.now marks.old }
+    requires ready { IsReady facts.old known.now offer.now marks.old }
     requires own { keeps_cross facts.old offer.now.foot.cross.0 ≡ true }
     requires other { IsPlaced offer.now.others.items other }
     ensures kept { IfOk result (λ yes. IsTrue yes → keeps_cross facts.new other.cross.0 ≡ true) }
-    ensures lost { IfOk result (λ yes. yes ≡ false →
-        AreLost (rig_state rig.old).machine.faults facts.new known.now.steps offer.now.wire.0 offer.now.foot.cross.0 other.cross.0) }
     ensures lost_each { IfOk result (λ yes. ForEach (rig_state rig.new) (λ told. AreMarks told facts.old known.now.steps marks.old →
         yes ≡ false → AreLost told facts.new known.now.steps offer.now.wire.0 offer.now.foot.cross.0 other.cross.0)) }
-    ensures marks { OnOk result (AreMarks (rig_state rig.old).machine.faults facts.new known.now.steps marks.new) }
+    ensures marks { AreMarksOver facts.new.shape marks.new }
     ensures marks_each { OnOk result (ForEach (rig_state rig.new) (λ told. AreMarks told facts.old known.now.steps marks.old → AreMarks
         told facts.new known.now.steps marks.new)) }
-    ensures spends { SpendsOn (rig_state rig.old).machine.faults facts.old offer.now marks.old marks.new (rig_state rig.old).loads
-        (rig_state rig.new).loads }
-    ensures spends_each { ForEach (rig_state rig.new) (λ told. AreMarks told facts.old known.now.steps marks.old → SpendsOn told
-        facts.old offer.now marks.old marks.new (rig_state rig.old).loads (rig_state rig.new).loads) }
+    ensures spends { SpendsOn facts.old offer.now marks.old marks.new (rig_state rig.old).loads (rig_state rig.new).loads }
+    ensures spends_each { ForEach (rig_state rig.new) (λ told. AreMarks told facts.old known.now.steps marks.old → SpendsFew told
+        facts.old marks.old marks.new (rig_state rig.old).loads (rig_state rig.new).loads) }
     ensures advances { Advances (rig_state rig.old) (rig_state rig.new) facts.old facts.new }
     ensures cause { IsErrOf result RigFail.Failed → Rose (rig_state rig.old).failures (rig_state rig.new).failures }
 {
@@ -113,20 +108,17 @@ fn try_others(
     offer: &Offer,
 ) -> Result<Option<Support>, RigFail>
     requires attached { shape_of (rig_state rig.old) ≡ Some facts.old.shape }
-    requires ready { IsReady (rig_state rig.old).machine.faults facts.old known.now offer.now marks.old }
+    requires ready { IsReady facts.old known.now offer.now marks.old }
     requires own { keeps_cross facts.old offer.now.foot.cross.0 ≡ true }
     ensures some { IfOk result (λ found. IfSome found (IsSecond facts.new offer.now)) }
-    ensures none { IfOk result (λ found. IfNone found
-        (HasNoSecond (rig_state rig.old).machine.faults facts.new known.now.steps offer.now)) }
     ensures none_each { IfOk result (λ found. ForEach (rig_state rig.new) (λ told. AreMarks told facts.old known.now.steps marks.old →
         IfNone found (HasNoSecond told facts.new known.now.steps offer.now))) }
-    ensures marks { OnOk result (AreMarks (rig_state rig.old).machine.faults facts.new known.now.steps marks.new) }
+    ensures marks { AreMarksOver facts.new.shape marks.new }
     ensures marks_each { OnOk result (ForEach (rig_state rig.new) (λ told. AreMarks told facts.old known.now.steps marks.old → AreMarks
         told facts.new known.now.steps marks.new)) }
-    ensures spends { SpendsOn (rig_state rig.old).machine.faults facts.old offer.now marks.old marks.new (rig_state rig.old).loads
-        (rig_state rig.new).loads }
-    ensures spends_each { ForEach (rig_state rig.new) (λ told. AreMarks told facts.old known.now.steps marks.old → SpendsOn told
-        facts.old offer.now marks.old marks.new (rig_state rig.old).loads (rig_state rig.new).loads) }
+    ensures spends { SpendsOn facts.old offer.now marks.old marks.new (rig_state rig.old).loads (rig_state rig.new).loads }
+    ensures spends_each { ForEach (rig_state rig.new) (λ told. AreMarks told facts.old known.now.steps marks.old → SpendsFew told
+        facts.old marks.old marks.new (rig_state rig.old).loads (rig_state rig.new).loads) }
     ensures advances { Advances (rig_state rig.old) (rig_state rig.new) facts.old facts.new }
     ensures cause { IsErrOf result RigFail.Failed → Rose (rig_state rig.old).failures (rig_state rig.new).failures }
 {
@@ -150,20 +142,17 @@ pub(crate) fn second_foot(
     offer: &Offer,
 ) -> Result<Option<Support>, RigFail>
     requires attached { shape_of (rig_state rig.old) ≡ Some facts.old.shape }
-    requires ready { IsReady (rig_state rig.old).machine.faults facts.old known.now offer.now marks.old }
+    requires ready { IsReady facts.old known.now offer.now marks.old }
     requires first { IsNewOffer offer.now marks.old }
     ensures some { IfOk result (λ found. IfSome found (IsSecond facts.new offer.now)) }
-    ensures none { IfOk result (λ found. IfNone found
-        (HasNoSecond (rig_state rig.old).machine.faults facts.new known.now.steps offer.now)) }
     ensures none_each { IfOk result (λ found. ForEach (rig_state rig.new) (λ told. AreMarks told facts.old known.now.steps marks.old →
         IfNone found (HasNoSecond told facts.new known.now.steps offer.now))) }
-    ensures marks { OnOk result (AreMarks (rig_state rig.old).machine.faults facts.new known.now.steps marks.new) }
+    ensures marks { AreMarksOver facts.new.shape marks.new }
     ensures marks_each { OnOk result (ForEach (rig_state rig.new) (λ told. AreMarks told facts.old known.now.steps marks.old → AreMarks
         told facts.new known.now.steps marks.new)) }
-    ensures spends { SpendsOn (rig_state rig.old).machine.faults facts.old offer.now marks.old marks.new (rig_state rig.old).loads
-        (rig_state rig.new).loads }
-    ensures spends_each { ForEach (rig_state rig.new) (λ told. AreMarks told facts.old known.now.steps marks.old → SpendsOn told
-        facts.old offer.now marks.old marks.new (rig_state rig.old).loads (rig_state rig.new).loads) }
+    ensures spends { SpendsOn facts.old offer.now marks.old marks.new (rig_state rig.old).loads (rig_state rig.new).loads }
+    ensures spends_each { ForEach (rig_state rig.new) (λ told. AreMarks told facts.old known.now.steps marks.old → SpendsFew told
+        facts.old marks.old marks.new (rig_state rig.old).loads (rig_state rig.new).loads) }
     ensures advances { Advances (rig_state rig.old) (rig_state rig.new) facts.old facts.new }
     ensures cause { IsErrOf result RigFail.Failed → Rose (rig_state rig.old).failures (rig_state rig.new).failures }
 {

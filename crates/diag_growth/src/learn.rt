@@ -8,8 +8,8 @@ ghost use Rattle.rig.specs.Rig.{ForEach, shape_of};
 ghost use Rattle.diag_evidence.specs.Kept.{Advances};
 ghost use Rattle.diag_growth.specs.Grown.{IsLearnt, IsOneMore};
 ghost use Rattle.diag_growth.specs.Looks.{IsNewOffer, IsReady};
-ghost use Rattle.diag_known.specs.Vocabulary.{IsBad, IsTried, IsKnown, HasWire, IsGood, AreMarks, IsOfOffer, OffersOnly, Spends};
-ghost use Rattle.diag_known.specs.Vocabulary.{BarsAtMost, HasTried, TakesForWire, IsOffer, IsSecond};
+ghost use Rattle.diag_known.specs.Vocabulary.{IsBad, IsTried, IsKnown, HasWire, IsGood, AreMarks, AreMarksOver, IsOfOffer, OffersOnly};
+ghost use Rattle.diag_known.specs.Vocabulary.{BarsAtMost, HasTried, Spends, SpendsFew, TakesForWire, IsOffer, IsSecond};
 
 use crate::feet::second_foot;
 use crate::parts::{is_good, is_good_pin};
@@ -61,8 +61,6 @@ fn is_good_over(
     requires offer { IsOffer facts.old.shape known.now.steps offer.now }
     requires over { IsSecond facts.old offer.now over }
     ensures good { IfOk result (λ yes. IsTrue yes → IsGood facts.new known.now.steps offer.now.wire.0) }
-    ensures bad { IfOk result (λ yes. yes ≡ false →
-        IsBad (rig_state rig.old).machine.faults facts.new known.now.steps offer.now.wire.0) }
     ensures bad_each { IfOk result (λ yes. ForEach (rig_state rig.new) (λ told. yes ≡ false → IsBad told facts.new known.now.steps
         offer.now.wire.0)) }
     ensures advances { Advances (rig_state rig.old) (rig_state rig.new) facts.old facts.new }
@@ -88,14 +86,13 @@ fn try_feet(
     over: Support,
 ) -> Result<(), RigFail>
     requires attached { shape_of (rig_state rig.old) ≡ Some facts.old.shape }
-    requires ready { IsReady (rig_state rig.old).machine.faults facts.old known.old offer.now marks.old }
+    requires ready { IsReady facts.old known.old offer.now marks.old }
     requires over { IsSecond facts.old offer.now over }
     requires first { has_number marks.old.barred offer.now.wire.0 ≡ false }
     ensures known { IsKnown facts.new known.new }
     ensures more { IsOneMore known.old known.new offer.now.wire.0 }
-    ensures tried { OnOk result (IsTried (rig_state rig.old).machine.faults facts.new known.new.steps offer.now.wire.0) }
     ensures tried_each { OnOk result (ForEach (rig_state rig.new) (λ told. IsTried told facts.new known.new.steps offer.now.wire.0)) }
-    ensures marks { OnOk result (AreMarks (rig_state rig.old).machine.faults facts.new known.new.steps marks.new) }
+    ensures marks { AreMarksOver facts.new.shape marks.new }
     ensures marks_each { OnOk result (ForEach (rig_state rig.new) (λ told. AreMarks told facts.old known.old.steps marks.old → AreMarks
         told facts.new known.new.steps marks.new)) }
     ensures barred { marks.new ≡ record marks.old { barred = slice_set marks.old.barred offer.now.wire.0 true } }
@@ -125,23 +122,22 @@ pub(crate) fn try_offer(
     offer: &Offer,
 ) -> Result<(), RigFail>
     requires attached { shape_of (rig_state rig.old) ≡ Some facts.old.shape }
-    requires ready { IsReady (rig_state rig.old).machine.faults facts.old known.old offer.now marks.old }
+    requires ready { IsReady facts.old known.old offer.now marks.old }
     requires first { IsNewOffer offer.now marks.old }
     requires wire { has_number marks.old.barred offer.now.wire.0 ≡ false }
     ensures known { IsKnown facts.new known.new }
     ensures more { IsOneMore known.old known.new offer.now.wire.0 }
-    ensures found { OnOk result (HasTried (rig_state rig.old).machine.faults facts.new known.new.steps offer.now marks.old marks.new) }
     ensures found_each { OnOk result (ForEach (rig_state rig.new) (λ told. AreMarks told facts.old known.old.steps marks.old → HasTried
         told facts.new known.new.steps offer.now marks.old marks.new)) }
-    ensures marks { OnOk result (AreMarks (rig_state rig.old).machine.faults facts.new known.new.steps marks.new) }
+    ensures marks { AreMarksOver facts.new.shape marks.new }
     ensures marks_each { OnOk result (ForEach (rig_state rig.new) (λ told. AreMarks told facts.old known.old.steps marks.old → AreMarks
         told facts.new known.new.steps marks.new)) }
     ensures barred { BarsAtMost offer.now.wire.0 marks.old.barred marks.new.barred }
     ensures offered { OffersOnly offer.now.foot.cross.0 marks.old marks.new }
-    ensures spends { Spends (rig_state rig.old).machine.faults facts.old (IsOfOffer offer.now) marks.old marks.new
-        (rig_state rig.old).loads (rig_state rig.new).loads }
-    ensures spends_each { ForEach (rig_state rig.new) (λ told. AreMarks told facts.old known.old.steps marks.old → Spends told
-        facts.old (IsOfOffer offer.now) marks.old marks.new (rig_state rig.old).loads (rig_state rig.new).loads) }
+    ensures spends { Spends facts.old (IsOfOffer offer.now) marks.old marks.new (rig_state rig.old).loads
+        (rig_state rig.new).loads }
+    ensures spends_each { ForEach (rig_state rig.new) (λ told. AreMarks told facts.old known.old.steps marks.old → SpendsFew told
+        facts.old marks.old marks.new (rig_state rig.old).loads (rig_state rig.new).loads) }
     ensures advances { Advances (rig_state rig.old) (rig_state rig.new) facts.old facts.new }
     ensures cause { IsErrOf result RigFail.Failed → Rose (rig_state rig.old).failures (rig_state rig.new).failures }
 {
@@ -162,16 +158,15 @@ pub(crate) fn try_pin(
 ) -> Result<(), RigFail>
     requires attached { shape_of (rig_state rig.old) ≡ Some facts.old.shape }
     requires known { IsKnown facts.old known.old }
-    requires marks { AreMarks (rig_state rig.old).machine.faults facts.old known.old.steps marks.old }
+    requires marks { AreMarksOver facts.old.shape marks.old }
     requires pin { pin < pins_of facts.old.shape }
     requires new { ¬ HasWire known.old.steps (pin_wire facts.old.shape pin) }
     requires first { has_number marks.old.barred (pin_wire facts.old.shape pin) ≡ false }
     ensures known { IsKnown facts.new known.new }
     ensures more { IsOneMore known.old known.new (pin_wire facts.old.shape pin) }
-    ensures tried { OnOk result (IsTried (rig_state rig.old).machine.faults facts.new known.new.steps (pin_wire facts.old.shape pin)) }
     ensures tried_each { OnOk result (ForEach (rig_state rig.new) (λ told. IsTried told facts.new known.new.steps
         (pin_wire facts.old.shape pin))) }
-    ensures marks { OnOk result (AreMarks (rig_state rig.old).machine.faults facts.new known.new.steps marks.new) }
+    ensures marks { AreMarksOver facts.new.shape marks.new }
     ensures marks_each { OnOk result (ForEach (rig_state rig.new) (λ told. AreMarks told facts.old known.old.steps marks.old → AreMarks
         told facts.new known.new.steps marks.new)) }
     ensures barred { marks.new ≡ record marks.old { barred = slice_set marks.old.barred (pin_wire facts.old.shape pin) true } }

@@ -7,23 +7,22 @@
 //! Promised (`grow`), in a field of wires and crosspoints: at every end what is known is so, what was known still is, what is new
 //! is of the field (`grows`), what was kept stays kept and true (`advances`), and it has made at most 8 loads for each crosspoint
 //! of the field that wasn't kept before and 3 for each of its wires, less one for each pin of the machine in it, and without faults
-//! 2 and 3, less one for each such pin (`loads`, `few`). After an Ok, where faults are told, what is
-//! known is closed (`closed`): a wire of the field that is clear, is shorted to no known wire, and is a pin or has two
-//! crosspoints of the field that aren't stuck to two different known wires, is known; a crosspoint of the field between known
-//! wires that isn't stuck is kept. `Failed` comes only where the rig's count rose (`cause`).
+//! 2 and 3, less one for each such pin (`loads`, `few_each`). After an Ok, what is known is closed (`closed_each`): a wire of the
+//! field that is clear, is shorted to no known wire, and is a pin or has two crosspoints of the field that aren't stuck to two
+//! different known wires, is known; a crosspoint of the field between known wires that isn't stuck is kept. `Failed` comes only
+//! where the rig's count rose (`cause`).
 //!
-//! What a clause says of told faults, the clause beside it whose name ends in `_each` says of each set of faults that explains the
-//! log after the call (`closed_each`, `few_each`, `tables_each`); no rig has to tell any. Between the functions of this crate it
-//! takes for granted that the marks are right for that set, as they are where growth begins.
+//! What is said of faults is said of each set that explains the log after the call (a clause whose name ends in `_each`); no rig
+//! has to tell any. Between the functions of this crate such a clause takes for granted that the marks are right for that set, as
+//! they are where growth begins.
 //!
 //! Seats of tables in known wires, over which their cells and registers are tested.
 //!
 //! A table is seated where two ports of its hextant, that stand without the hextant's own wires, and its lines reach each of
 //! its pins over kept crosspoints.
 //!
-//! Promised (`test_tables`): where faults are told, each of the given tables that is seated in known wires and kept crosspoints
-//! and is right has its cells and its register kept (`tables`), with at most 130 loads for each that wasn't kept before, at every
-//! end (`loads`).
+//! Promised (`test_tables`): each of the given tables that is seated in known wires and kept crosspoints and is right has its
+//! cells and its register kept (`tables_each`), with at most 130 loads for each that wasn't kept before, at every end (`loads`).
 //!
 //! Tests of a table's cells and of its register, over two routes that are apart.
 //!
@@ -32,10 +31,9 @@
 //!
 //! It is given a seat: kept crosspoints that lead from the end of one route over lines to the six inputs of a table, and from the
 //! end of another to its output, where all wires are kept, and those of the two sides and the inputs kept apart from one another
-//! (`seat`). Where the rig tells the machine's faults, a table without a wrong cell and a stuck register has its 64 cells and its
-//! register kept after an Ok, whatever other faults there are (`table`). At every end it has made at most 130 loads (`loads`), no
-//! crosspoint, wire or pair is newly kept (`only`), what was kept stays kept and true (`advances`), and `Failed` comes only where
-//! the rig's count rose (`cause`).
+//! (`seat`). A table without a wrong cell and a stuck register has its 64 cells and its register kept after an Ok, whatever other
+//! faults there are (`table_each`). At every end it has made at most 130 loads (`loads`), no crosspoint, wire or pair is newly kept
+//! (`only`), what was kept stays kept and true (`advances`), and `Failed` comes only where the rig's count rose (`cause`).
 #![tactic(auto)]
 
 mod cells;

@@ -5,8 +5,8 @@ ghost use Rattle.base_io.specs.Counts.{Rose};
 ghost use Rattle.machine_shape.specs.Shape.{wires_of};
 ghost use Rattle.rig.specs.Rig.{ForEach, shape_of};
 ghost use Rattle.diag_evidence.specs.Kept.{Advances};
-ghost use Rattle.diag_known.specs.Vocabulary.{AreLinked, IsKnown, IsBefore, HasWire, AreMarks, JoinsAtMost, Spends, IsOffer};
-ghost use Rattle.diag_known.specs.Vocabulary.{IsKeptUnlessStuck};
+ghost use Rattle.diag_known.specs.Vocabulary.{AreLinked, IsKnown, IsBefore, HasWire, AreMarks, AreMarksOver, JoinsAtMost, IsOffer};
+ghost use Rattle.diag_known.specs.Vocabulary.{IsKeptUnlessStuck, Spends, SpendsFew};
 ghost use Rattle.diag_growth.specs.Grown.{IsGrown};
 ghost use Rattle.diag_growth.specs.Looks.{IsLook, IsLookAt, IsLinking, IsOfferOf, IsLookedOver, AreEarlier, AreAllMarks, AreTried};
 ghost use Rattle.diag_growth.specs.Looks.{TakesEarlier, Grows};
@@ -103,11 +103,10 @@ fn look_known(
     requires known { IsKnown facts.old known.now }
     requires look { IsLookAt facts.old.shape known.now.steps look }
     requires other { IsBefore known.now.steps look.place look.link.wire.0 }
-    requires marks { AreMarks (rig_state rig.old).machine.faults facts.old known.now.steps marks.old }
-    ensures kept { OnOk result (IsKeptUnlessStuck (rig_state rig.old).machine.faults facts.new look.link.cross.0) }
+    requires marks { AreMarksOver facts.old.shape marks.old }
     ensures kept_each { OnOk result (ForEach (rig_state rig.new) (λ told. AreMarks told facts.old known.now.steps marks.old →
         IsKeptUnlessStuck told facts.new look.link.cross.0)) }
-    ensures marks { OnOk result (AreMarks (rig_state rig.old).machine.faults facts.new known.now.steps marks.new) }
+    ensures marks { AreMarksOver facts.new.shape marks.new }
     ensures marks_each { OnOk result (ForEach (rig_state rig.new) (λ told. AreMarks told facts.old known.now.steps marks.old → AreMarks
         told facts.new known.now.steps marks.new)) }
     ensures joins { JoinsAtMost facts.old look.link.cross.0 marks.old marks.new (rig_state rig.old).loads (rig_state rig.new).loads }
@@ -132,7 +131,6 @@ fn look_known(
 }
 
 // Looks from a known wire to one that isn't known, nor barred.
-#[tactic(auto, using(crate::proofs::Stages::tried_none, diag_known::proofs::Marking::spends_none))]
 fn look_new(
     known: &mut Known,
     rig: &mut Box<dyn Rig>,
@@ -145,24 +143,21 @@ fn look_new(
     requires known { IsKnown facts.old known.old }
     requires links { AreLinked facts.old.shape near.now.items }
     requires look { IsLook near.now.items known.old.steps look }
-    requires marks { AreAllMarks (rig_state rig.old).machine.faults facts.old near.now.items known.old.steps marks.old }
+    requires marks { AreMarksOver facts.old.shape marks.old }
     requires new { ¬ HasWire known.old.steps look.link.wire.0 }
     requires free { has_number marks.old.barred look.link.wire.0 ≡ false }
     ensures grows { Grows facts.new known.old known.new marks.old.barred marks.new.barred }
-    ensures tried { OnOk result (AreTried (rig_state rig.old).machine.faults facts.new known.new.steps marks.old.barred marks.new.barred) }
     ensures tried_each { OnOk result (ForEach (rig_state rig.new) (λ told. AreAllMarks told facts.old near.now.items known.old.steps
         marks.old → AreTried told facts.new known.new.steps marks.old.barred marks.new.barred)) }
-    ensures looked { OnOk result
-        (IsLookedOver (rig_state rig.old).machine.faults facts.new near.now.items known.new.steps marks.new.barred look) }
     ensures looked_each { OnOk result (ForEach (rig_state rig.new) (λ told. AreAllMarks told facts.old near.now.items known.old.steps
         marks.old → IsLookedOver told facts.new near.now.items known.new.steps marks.new.barred look)) }
-    ensures marks { OnOk result (AreAllMarks (rig_state rig.old).machine.faults facts.new near.now.items known.new.steps marks.new) }
+    ensures marks { AreMarksOver facts.new.shape marks.new }
     ensures marks_each { OnOk result (ForEach (rig_state rig.new) (λ told. AreAllMarks told facts.old near.now.items known.old.steps
         marks.old → AreAllMarks told facts.new near.now.items known.new.steps marks.new)) }
-    ensures spends { Spends (rig_state rig.old).machine.faults facts.old (IsLinking near.now.items) marks.old marks.new
-        (rig_state rig.old).loads (rig_state rig.new).loads }
+    ensures spends { Spends facts.old (IsLinking near.now.items) marks.old marks.new (rig_state rig.old).loads
+        (rig_state rig.new).loads }
     ensures spends_each { ForEach (rig_state rig.new) (λ told. AreAllMarks told facts.old near.now.items known.old.steps marks.old →
-        Spends told facts.old (IsLinking near.now.items) marks.old marks.new (rig_state rig.old).loads (rig_state rig.new).loads) }
+        SpendsFew told facts.old marks.old marks.new (rig_state rig.old).loads (rig_state rig.new).loads) }
     ensures advances { Advances (rig_state rig.old) (rig_state rig.new) facts.old facts.new }
     ensures cause { IsErrOf result RigFail.Failed → Rose (rig_state rig.old).failures (rig_state rig.new).failures }
 {
@@ -177,7 +172,6 @@ fn look_new(
 }
 
 // Looks from a known wire over a link.
-#[tactic(auto, using(crate::proofs::Stages::tried_none, diag_known::proofs::Marking::spends_none))]
 fn look_over(
     known: &mut Known,
     rig: &mut Box<dyn Rig>,
@@ -190,22 +184,19 @@ fn look_over(
     requires known { IsKnown facts.old known.old }
     requires links { AreLinked facts.old.shape near.now.items }
     requires look { IsLook near.now.items known.old.steps look }
-    requires marks { AreAllMarks (rig_state rig.old).machine.faults facts.old near.now.items known.old.steps marks.old }
+    requires marks { AreMarksOver facts.old.shape marks.old }
     ensures grows { Grows facts.new known.old known.new marks.old.barred marks.new.barred }
-    ensures tried { OnOk result (AreTried (rig_state rig.old).machine.faults facts.new known.new.steps marks.old.barred marks.new.barred) }
     ensures tried_each { OnOk result (ForEach (rig_state rig.new) (λ told. AreAllMarks told facts.old near.now.items known.old.steps
         marks.old → AreTried told facts.new known.new.steps marks.old.barred marks.new.barred)) }
-    ensures looked { OnOk result
-        (IsLookedOver (rig_state rig.old).machine.faults facts.new near.now.items known.new.steps marks.new.barred look) }
     ensures looked_each { OnOk result (ForEach (rig_state rig.new) (λ told. AreAllMarks told facts.old near.now.items known.old.steps
         marks.old → IsLookedOver told facts.new near.now.items known.new.steps marks.new.barred look)) }
-    ensures marks { OnOk result (AreAllMarks (rig_state rig.old).machine.faults facts.new near.now.items known.new.steps marks.new) }
+    ensures marks { AreMarksOver facts.new.shape marks.new }
     ensures marks_each { OnOk result (ForEach (rig_state rig.new) (λ told. AreAllMarks told facts.old near.now.items known.old.steps
         marks.old → AreAllMarks told facts.new near.now.items known.new.steps marks.new)) }
-    ensures spends { Spends (rig_state rig.old).machine.faults facts.old (IsLinking near.now.items) marks.old marks.new
-        (rig_state rig.old).loads (rig_state rig.new).loads }
+    ensures spends { Spends facts.old (IsLinking near.now.items) marks.old marks.new (rig_state rig.old).loads
+        (rig_state rig.new).loads }
     ensures spends_each { ForEach (rig_state rig.new) (λ told. AreAllMarks told facts.old near.now.items known.old.steps marks.old →
-        Spends told facts.old (IsLinking near.now.items) marks.old marks.new (rig_state rig.old).loads (rig_state rig.new).loads) }
+        SpendsFew told facts.old marks.old marks.new (rig_state rig.old).loads (rig_state rig.new).loads) }
     ensures advances { Advances (rig_state rig.old) (rig_state rig.new) facts.old facts.new }
     ensures cause { IsErrOf result RigFail.Failed → Rose (rig_state rig.old).failures (rig_state rig.new).failures }
 {
@@ -235,24 +226,20 @@ pub(crate) fn look_at(
     requires known { IsKnown facts.old known.old }
     requires links { AreLinked facts.old.shape near.now.items }
     requires place { place < length known.old.steps }
-    requires marks { AreAllMarks (rig_state rig.old).machine.faults facts.old near.now.items known.old.steps marks.old }
+    requires marks { AreMarksOver facts.old.shape marks.old }
     ensures grows { Grows facts.new known.old known.new marks.old.barred marks.new.barred }
-    ensures tried { OnOk result (AreTried (rig_state rig.old).machine.faults facts.new known.new.steps marks.old.barred marks.new.barred) }
     ensures tried_each { OnOk result (ForEach (rig_state rig.new) (λ told. AreAllMarks told facts.old near.now.items known.old.steps
         marks.old → AreTried told facts.new known.new.steps marks.old.barred marks.new.barred)) }
-    ensures grown { OnOk result
-        (IsGrown (rig_state rig.old).machine.faults facts.old near.now.items known.old.steps marks.old.barred place →
-        IsGrown (rig_state rig.old).machine.faults facts.new near.now.items known.new.steps marks.new.barred (place + 1)) }
     ensures grown_each { OnOk result (ForEach (rig_state rig.new) (λ told. AreAllMarks told facts.old near.now.items known.old.steps
         marks.old → IsGrown told facts.old near.now.items known.old.steps marks.old.barred place → IsGrown told facts.new near.now.items
         known.new.steps marks.new.barred (place + 1))) }
-    ensures marks { OnOk result (AreAllMarks (rig_state rig.old).machine.faults facts.new near.now.items known.new.steps marks.new) }
+    ensures marks { AreMarksOver facts.new.shape marks.new }
     ensures marks_each { OnOk result (ForEach (rig_state rig.new) (λ told. AreAllMarks told facts.old near.now.items known.old.steps
         marks.old → AreAllMarks told facts.new near.now.items known.new.steps marks.new)) }
-    ensures spends { Spends (rig_state rig.old).machine.faults facts.old (IsLinking near.now.items) marks.old marks.new
-        (rig_state rig.old).loads (rig_state rig.new).loads }
+    ensures spends { Spends facts.old (IsLinking near.now.items) marks.old marks.new (rig_state rig.old).loads
+        (rig_state rig.new).loads }
     ensures spends_each { ForEach (rig_state rig.new) (λ told. AreAllMarks told facts.old near.now.items known.old.steps marks.old →
-        Spends told facts.old (IsLinking near.now.items) marks.old marks.new (rig_state rig.old).loads (rig_state rig.new).loads) }
+        SpendsFew told facts.old marks.old marks.new (rig_state rig.old).loads (rig_state rig.new).loads) }
     ensures advances { Advances (rig_state rig.old) (rig_state rig.new) facts.old facts.new }
     ensures cause { IsErrOf result RigFail.Failed → Rose (rig_state rig.old).failures (rig_state rig.new).failures }
 {

@@ -42,7 +42,6 @@ fn test_stuck(
     requires known { IsKnown facts.old known.now }
     requires way { IsWay facts.old known.now.steps w.0 way.now }
     ensures kept { IfOk result (λ yes. IsTrue yes → keeps_wire facts.new w.0 ≡ true) }
-    ensures bad { IfOk result (λ yes. yes ≡ false → IsBad (rig_state rig.old).machine.faults facts.new known.now.steps w.0) }
     ensures bad_each { IfOk result (λ yes. ForEach (rig_state rig.new) (λ told. yes ≡ false → IsBad told facts.new known.now.steps w.0)) }
     ensures advances { Advances (rig_state rig.old) (rig_state rig.new) facts.old facts.new }
     ensures loads { (rig_state rig.new).loads ≤ (rig_state rig.old).loads + 1 }
@@ -131,7 +130,6 @@ fn part_from(
     requires beside { IsParting facts.old known.now.steps w.0 way.now beside.now.walks.items (cross_numbers beside.now.ties.items) }
     requires new { ¬ HasWire known.now.steps w.0 }
     ensures apart { IfOk result (λ yes. IsTrue yes → IsApartBeside facts.new known.now.steps w.0 way.now) }
-    ensures bad { IfOk result (λ yes. yes ≡ false → IsBad (rig_state rig.old).machine.faults facts.new known.now.steps w.0) }
     ensures bad_each { IfOk result (λ yes. ForEach (rig_state rig.new) (λ told. yes ≡ false → IsBad told facts.new known.now.steps w.0)) }
     ensures advances { Advances (rig_state rig.old) (rig_state rig.new) facts.old facts.new }
     ensures loads { (rig_state rig.new).loads ≤ (rig_state rig.old).loads + 1 }
@@ -158,7 +156,6 @@ fn part(
     requires way { IsWay facts.old known.now.steps w.0 way.now }
     requires new { ¬ HasWire known.now.steps w.0 }
     ensures apart { IfOk result (λ yes. IsTrue yes → IsApartBeside facts.new known.now.steps w.0 way.now) }
-    ensures bad { IfOk result (λ yes. yes ≡ false → IsBad (rig_state rig.old).machine.faults facts.new known.now.steps w.0) }
     ensures bad_each { IfOk result (λ yes. ForEach (rig_state rig.new) (λ told. yes ≡ false → IsBad told facts.new known.now.steps w.0)) }
     ensures advances { Advances (rig_state rig.old) (rig_state rig.new) facts.old facts.new }
     ensures loads { (rig_state rig.new).loads ≤ (rig_state rig.old).loads + 1 }
@@ -187,7 +184,6 @@ pub(crate) fn is_good(
     requires ways { AreWays facts.old known.now.steps w.0 left.now right.now }
     requires new { ¬ HasWire known.now.steps w.0 }
     ensures good { IfOk result (λ yes. IsTrue yes → IsGood facts.new known.now.steps w.0) }
-    ensures bad { IfOk result (λ yes. yes ≡ false → IsBad (rig_state rig.old).machine.faults facts.new known.now.steps w.0) }
     ensures bad_each { IfOk result (λ yes. ForEach (rig_state rig.new) (λ told. yes ≡ false → IsBad told facts.new known.now.steps w.0)) }
     ensures advances { Advances (rig_state rig.old) (rig_state rig.new) facts.old facts.new }
     ensures loads { (rig_state rig.new).loads ≤ (rig_state rig.old).loads + 3 }
@@ -219,7 +215,6 @@ pub(crate) fn is_good_pin(
     requires wire { w.0 ≡ pin_wire facts.old.shape pin }
     requires new { ¬ HasWire known.now.steps w.0 }
     ensures good { IfOk result (λ yes. IsTrue yes → IsGood facts.new known.now.steps w.0) }
-    ensures bad { IfOk result (λ yes. yes ≡ false → IsBad (rig_state rig.old).machine.faults facts.new known.now.steps w.0) }
     ensures bad_each { IfOk result (λ yes. ForEach (rig_state rig.new) (λ told. yes ≡ false → IsBad told facts.new known.now.steps w.0)) }
     ensures advances { Advances (rig_state rig.old) (rig_state rig.new) facts.old facts.new }
     ensures loads { (rig_state rig.new).loads ≤ (rig_state rig.old).loads + 2 }

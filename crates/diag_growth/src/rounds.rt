@@ -5,7 +5,8 @@ ghost use Rattle.base_io.specs.Counts.{Rose};
 ghost use Rattle.machine_shape.specs.Shape.{pins_of, pin_wire};
 ghost use Rattle.rig.specs.Rig.{ForEach, shape_of};
 ghost use Rattle.diag_evidence.specs.Kept.{Advances};
-ghost use Rattle.diag_known.specs.Vocabulary.{IsFieldOf, ClosedIf, GrowsIn, TakesFew, fresh, pins_in, AreLinked, IsKnown, HasWire, Spends};
+ghost use Rattle.diag_known.specs.Vocabulary.{IsFieldOf, ClosedIf, GrowsIn, TakesFew, fresh, pins_in, AreLinked, IsKnown, HasWire};
+ghost use Rattle.diag_known.specs.Vocabulary.{AreMarksOver, Spends, SpendsFew};
 ghost use Rattle.diag_growth.specs.Grown.{IsGrown};
 ghost use Rattle.diag_growth.specs.Looks.{AreAllMarks, AreTried, Grows, IsLinking};
 
@@ -28,24 +29,21 @@ fn look_on(
     requires attached { shape_of (rig_state rig.old) ≡ Some facts.old.shape }
     requires known { IsKnown facts.old known.old }
     requires links { AreLinked facts.old.shape near.now.items }
-    requires marks { AreAllMarks (rig_state rig.old).machine.faults facts.old near.now.items known.old.steps marks.old }
+    requires marks { AreMarksOver facts.old.shape marks.old }
     requires from { from ≤ length known.old.steps }
     ensures grows { Grows facts.new known.old known.new marks.old.barred marks.new.barred }
-    ensures tried { OnOk result (AreTried (rig_state rig.old).machine.faults facts.new known.new.steps marks.old.barred marks.new.barred) }
     ensures tried_each { OnOk result (ForEach (rig_state rig.new) (λ told. AreAllMarks told facts.old near.now.items known.old.steps
         marks.old → AreTried told facts.new known.new.steps marks.old.barred marks.new.barred)) }
-    ensures grown { OnOk result (IsGrown (rig_state rig.old).machine.faults facts.old near.now.items known.old.steps marks.old.barred from →
-        IsGrown (rig_state rig.old).machine.faults facts.new near.now.items known.new.steps marks.new.barred (length known.new.steps)) }
     ensures grown_each { OnOk result (ForEach (rig_state rig.new) (λ told. AreAllMarks told facts.old near.now.items known.old.steps
         marks.old → IsGrown told facts.old near.now.items known.old.steps marks.old.barred from → IsGrown told facts.new near.now.items
         known.new.steps marks.new.barred (length known.new.steps))) }
-    ensures marks { OnOk result (AreAllMarks (rig_state rig.old).machine.faults facts.new near.now.items known.new.steps marks.new) }
+    ensures marks { AreMarksOver facts.new.shape marks.new }
     ensures marks_each { OnOk result (ForEach (rig_state rig.new) (λ told. AreAllMarks told facts.old near.now.items known.old.steps
         marks.old → AreAllMarks told facts.new near.now.items known.new.steps marks.new)) }
-    ensures spends { Spends (rig_state rig.old).machine.faults facts.old (IsLinking near.now.items) marks.old marks.new
-        (rig_state rig.old).loads (rig_state rig.new).loads }
+    ensures spends { Spends facts.old (IsLinking near.now.items) marks.old marks.new (rig_state rig.old).loads
+        (rig_state rig.new).loads }
     ensures spends_each { ForEach (rig_state rig.new) (λ told. AreAllMarks told facts.old near.now.items known.old.steps marks.old →
-        Spends told facts.old (IsLinking near.now.items) marks.old marks.new (rig_state rig.old).loads (rig_state rig.new).loads) }
+        SpendsFew told facts.old marks.old marks.new (rig_state rig.old).loads (rig_state rig.new).loads) }
     ensures advances { Advances (rig_state rig.old) (rig_state rig.new) facts.old facts.new }
     ensures cause { IsErrOf result RigFail.Failed → Rose (rig_state rig.old).failures (rig_state rig.new).failures }
 {
@@ -69,27 +67,23 @@ fn grow_pin(
     requires attached { shape_of (rig_state rig.old) ≡ Some facts.old.shape }
     requires known { IsKnown facts.old known.old }
     requires links { AreLinked facts.old.shape near.now.items }
-    requires marks { AreAllMarks (rig_state rig.old).machine.faults facts.old near.now.items known.old.steps marks.old }
+    requires marks { AreMarksOver facts.old.shape marks.old }
     requires pin { pin < pins_of facts.old.shape }
     ensures grows { Grows facts.new known.old known.new marks.old.barred marks.new.barred }
-    ensures tried { OnOk result (AreTried (rig_state rig.old).machine.faults facts.new known.new.steps marks.old.barred marks.new.barred) }
     ensures tried_each { OnOk result (ForEach (rig_state rig.new) (λ told. AreAllMarks told facts.old near.now.items known.old.steps
         marks.old → AreTried told facts.new known.new.steps marks.old.barred marks.new.barred)) }
-    ensures grown { OnOk result (IsGrown (rig_state rig.old).machine.faults facts.old near.now.items known.old.steps marks.old.barred
-        (length known.old.steps) →
-        IsGrown (rig_state rig.old).machine.faults facts.new near.now.items known.new.steps marks.new.barred (length known.new.steps)) }
     ensures grown_each { OnOk result (ForEach (rig_state rig.new) (λ told. AreAllMarks told facts.old near.now.items known.old.steps
         marks.old → IsGrown told facts.old near.now.items known.old.steps marks.old.barred (length known.old.steps) → IsGrown told
         facts.new near.now.items known.new.steps marks.new.barred (length known.new.steps))) }
     ensures pin { OnOk result (HasWire known.new.steps (pin_wire facts.old.shape pin)
         ⊎ (has_number marks.new.barred (pin_wire facts.old.shape pin) ≡ true)) }
-    ensures marks { OnOk result (AreAllMarks (rig_state rig.old).machine.faults facts.new near.now.items known.new.steps marks.new) }
+    ensures marks { AreMarksOver facts.new.shape marks.new }
     ensures marks_each { OnOk result (ForEach (rig_state rig.new) (λ told. AreAllMarks told facts.old near.now.items known.old.steps
         marks.old → AreAllMarks told facts.new near.now.items known.new.steps marks.new)) }
-    ensures spends { Spends (rig_state rig.old).machine.faults facts.old (IsLinking near.now.items) marks.old marks.new
-        (rig_state rig.old).loads (rig_state rig.new).loads }
+    ensures spends { Spends facts.old (IsLinking near.now.items) marks.old marks.new (rig_state rig.old).loads
+        (rig_state rig.new).loads }
     ensures spends_each { ForEach (rig_state rig.new) (λ told. AreAllMarks told facts.old near.now.items known.old.steps marks.old →
-        Spends told facts.old (IsLinking near.now.items) marks.old marks.new (rig_state rig.old).loads (rig_state rig.new).loads) }
+        SpendsFew told facts.old marks.old marks.new (rig_state rig.old).loads (rig_state rig.new).loads) }
     ensures advances { Advances (rig_state rig.old) (rig_state rig.new) facts.old facts.new }
     ensures cause { IsErrOf result RigFail.Failed → Rose (rig_state rig.old).failures (rig_state rig.new).failures }
 {
@@ -126,11 +120,9 @@ pub fn grow(
     requires field { IsFieldOf facts.old.shape field.now }
     ensures known { IsKnown facts.new known.new }
     ensures grows { GrowsIn field.now known.old.steps known.new.steps }
-    ensures closed { OnOk result (ClosedIf (rig_state rig.old).machine.faults facts.new field.now known.new.steps) }
     ensures closed_each { OnOk result (ForEach (rig_state rig.new) (λ told. ClosedIf told facts.new field.now known.new.steps)) }
     ensures loads { (rig_state rig.new).loads + pins_in facts.old.shape field.now
         ≤ (rig_state rig.old).loads + (8 * fresh facts.old field.now + 3 * size_of field.now.wires) }
-    ensures few { TakesFew (rig_state rig.old).machine.faults facts.old field.now (rig_state rig.old).loads (rig_state rig.new).loads }
     ensures few_each { ForEach (rig_state rig.new) (λ told. TakesFew told facts.old field.now (rig_state rig.old).loads (rig_state
         rig.new).loads) }
     ensures advances { Advances (rig_state rig.old) (rig_state rig.new) facts.old facts.new }

@@ -138,7 +138,6 @@ fn test_seated(
     requires links { AreAllLinks facts.old.shape near.now.items }
     requires stands { AreAllWithout facts.old known.now.steps without.old.hextant.0 without.old.known }
     requires table { t.0 < tables_of facts.old.shape }
-    ensures table { OnOk result (SeatedIsKept (rig_state rig.old).machine.faults facts.old facts.new known.now.steps t.0) }
     ensures table_each { OnOk result (ForEach (rig_state rig.new) (λ told. SeatedIsKept told facts.old facts.new known.now.steps t.0)) }
     ensures stands { OnOk result (AreAllWithout facts.old known.now.steps without.new.hextant.0 without.new.known) }
     ensures advances { Advances (rig_state rig.old) (rig_state rig.new) facts.old facts.new }
@@ -159,9 +158,9 @@ fn test_seated(
 }
 
 /// Tests these tables over known wires, with 130 loads at most for each of which a cell or the register wasn't kept before, and
-/// none for the others. Where the faults are told and what was kept is true of them, each of these tables that is seated in the
-/// known wires and the kept crosspoints, has no wrong cell and no stuck register has its 64 cells and its register kept after an
-/// Ok. At every end no other facts are new.
+/// none for the others. For each set of faults that explains the log then, and of which what was kept is true, each of these tables
+/// that is seated in the known wires and the kept crosspoints, has no wrong cell and no stuck register has its 64 cells and its
+/// register kept after an Ok. At every end no other facts are new.
 ///
 /// # Errors
 ///
@@ -175,7 +174,6 @@ pub fn test_tables(
     requires attached { shape_of (rig_state rig.old) ≡ Some facts.old.shape }
     requires known { IsKnown facts.old known.now }
     requires tables { All (λ t. t.0 < tables_of facts.old.shape) tables.now }
-    ensures tables { OnOk result (SeatedAreKept (rig_state rig.old).machine.faults facts.old facts.new known.now.steps tables.now) }
     ensures tables_each { OnOk result (ForEach (rig_state rig.new) (λ told. SeatedAreKept told facts.old facts.new known.now.steps
         tables.now)) }
     ensures advances { Advances (rig_state rig.old) (rig_state rig.new) facts.old facts.new }

@@ -9,7 +9,7 @@ use Rattle.machine_meaning.specs.Faults.{Faults, IsFaultless}
 use Rattle.machine_meaning.proofs.Clear.{clear_of_sound}
 use Rattle.machine_meaning.proofs.Faultless.{all_sound}
 use Rattle.diag_evidence.specs.Kept.{Kept, HoldsFor, IsMore, keeps_cross}
-use Rattle.diag_known.specs.Vocabulary.{how_many, HasWire, is_spent, most_loads, few_loads, barred_pins, TakesForWire, Spends, AreMarks, IsFit}
+use Rattle.diag_known.specs.Vocabulary.{how_many, HasWire, is_spent, most_loads, few_loads, barred_pins, TakesForWire, Spends, SpendsFew, AreMarks, AreMarksOver, IsFit}
 use Rattle.diag_known.specs.declared.marks.Marks.{Marks}
 use Rattle.diag_known.specs.declared.verified_wire.VerifiedWire.{VerifiedWire}
 use Rattle.diag_known.proofs.Counting.{many_one, set_below, set_has, set_most, set_only, set_stays, set_one}
@@ -90,19 +90,22 @@ module _ (s : Marks) (x : ℕ) where
   }
 
 -- loads, one part after the other
-pub spends_none : {told : Option Faults} {k : Kept} {these : ℕ → Type 0} {s t : Marks} {before after : ℕ} → t ≡ s → after ≡ before → Spends told k these s t before after
-spends_none {told} {k} {these} {s} {t} {before} {after} same loads = subst (λ u. Spends told k these s u before after) (sym same) (record {
+alike : (p n before after : ℕ) → after ≡ before → after + p + n ≤ before + p + n
+alike p n before after loads = omega (arith, loads)
+
+pub spends_none : {k : Kept} {these : ℕ → Type 0} {s t : Marks} {before after : ℕ} → t ≡ s → after ≡ before → Spends k these s t before after
+spends_none {k} {these} {s} {t} {before} {after} same loads = subst (λ u. Spends k these s u before after) (sym same) (record {
   only = λ x on. inl on;
   fresh = λ x on. inl on;
-  most = alike (barred_pins k.shape s) (most_loads k.shape s);
-  few = λ f is none holds. alike (barred_pins k.shape s) (few_loads k.shape s);
+  most = alike (barred_pins k.shape s) (most_loads k.shape s) before after loads;
 })
-  where
-    alike : (p n : ℕ) → after + p + n ≤ before + p + n
-    alike p n = omega (arith, loads)
 
-pub spends_in : {told : Option Faults} {k : Kept} {these those : ℕ → Type 0} {s t : Marks} {before after : ℕ} → ((x : ℕ) → these x → those x) → Spends told k these s t before after → Spends told k those s t before after
-spends_in {these = these} {those = those} {s = s} put p = record { only = λ x on. by_old x (p.only x on); fresh = p.fresh; most = p.most; few = p.few }
+pub few_none : {told : Option Faults} {k : Kept} {s t : Marks} {before after : ℕ} → t ≡ s → after ≡ before → SpendsFew told k s t before after
+few_none {told} {k} {s} {t} {before} {after} same loads =
+    subst (λ u. SpendsFew told k s u before after) (sym same) (record { few = λ f is none holds. alike (barred_pins k.shape s) (few_loads k.shape s) before after loads })
+
+pub spends_in : {k : Kept} {these those : ℕ → Type 0} {s t : Marks} {before after : ℕ} → ((x : ℕ) → these x → those x) → Spends k these s t before after → Spends k those s t before after
+spends_in {these = these} {those = those} {s = s} put p = record { only = λ x on. by_old x (p.only x on); fresh = p.fresh; most = p.most }
   where
     by_old : (x : ℕ) → (is_spent s x ≡ true) ⊎ these x → (is_spent s x ≡ true) ⊎ those x
     by_old x (inl e) = inl e
@@ -116,16 +119,15 @@ fresh_before {k} {l} more x off = by_bit (keeps_cross k x) refl
     by_bit true e = absurd (false≢true (sym off ∙ more.crosses x e))
     by_bit false e = refl
 
-pub spends_then : {told : Option Faults} {k l : Kept} {these : ℕ → Type 0} {s t u : Marks} {a b c : ℕ} → IsMore k l → ((f : Faults) → told ≡ Some f → HoldsFor k f → HoldsFor l f) →
-    Spends told k these s t a b → Spends told l these t u b c → Spends told k these s u a c
-spends_then {told} {k} {l} {these} {s} {t} {u} {a} {b} {c} more later p q = record {
+chain : (v w z x y n a b c : ℕ) → b + w + x ≤ a + v + y → c + z + y ≤ b + w + n → c + z + x ≤ a + v + n
+chain v w z x y n a b c one two = omega (arith, one, two)
+
+pub spends_then : {k l : Kept} {these : ℕ → Type 0} {s t u : Marks} {a b c : ℕ} → IsMore k l → Spends k these s t a b → Spends l these t u b c → Spends k these s u a c
+spends_then {k} {l} {these} {s} {t} {u} {a} {b} {c} more p q = record {
   only = λ x on. by_mid x (q.only x on);
   fresh = λ x on. by_fresh x (q.fresh x on);
   most = (let two = subst (λ (m : Shape). c + barred_pins m u + most_loads m t ≤ b + barred_pins m t + most_loads m u) more.shape q.most in
-      chain (most_loads k.shape s) (most_loads k.shape t) (most_loads k.shape u) p.most two);
-  few = λ f is none holds.
-      (let two = subst (λ (m : Shape). c + barred_pins m u + few_loads m t ≤ b + barred_pins m t + few_loads m u) more.shape (q.few f is none (later f is holds)) in
-      chain (few_loads k.shape s) (few_loads k.shape t) (few_loads k.shape u) (p.few f is none holds) two);
+      chain (barred_pins k.shape s) (barred_pins k.shape t) (barred_pins k.shape u) (most_loads k.shape s) (most_loads k.shape t) (most_loads k.shape u) a b c p.most two);
 }
   where
     by_mid : (x : ℕ) → (is_spent t x ≡ true) ⊎ these x → (is_spent s x ≡ true) ⊎ these x
@@ -136,11 +138,13 @@ spends_then {told} {k} {l} {these} {s} {t} {u} {a} {b} {c} more later p q = reco
     by_fresh x (inl e) = p.fresh x e
     by_fresh x (inr off) = inr (fresh_before more x off)
 
-    sums : (v w z x y n : ℕ) → b + w + x ≤ a + v + y → c + z + y ≤ b + w + n → c + z + x ≤ a + v + n
-    sums v w z x y n one two = omega (arith, one, two)
-
-    chain : (x y n : ℕ) → b + barred_pins k.shape t + x ≤ a + barred_pins k.shape s + y → c + barred_pins k.shape u + y ≤ b + barred_pins k.shape t + n → c + barred_pins k.shape u + x ≤ a + barred_pins k.shape s + n
-    chain x y n one two = sums (barred_pins k.shape s) (barred_pins k.shape t) (barred_pins k.shape u) x y n one two
+pub few_then : {told : Option Faults} {k l : Kept} {s t u : Marks} {a b c : ℕ} → IsMore k l → ((f : Faults) → told ≡ Some f → HoldsFor k f → HoldsFor l f) →
+    SpendsFew told k s t a b → SpendsFew told l t u b c → SpendsFew told k s u a c
+few_then {told} {k} {l} {s} {t} {u} {a} {b} {c} more later p q = record {
+  few = λ f is none holds.
+      (let two = subst (λ (m : Shape). c + barred_pins m u + few_loads m t ≤ b + barred_pins m t + few_loads m u) more.shape (q.few f is none (later f is holds)) in
+      chain (barred_pins k.shape s) (barred_pins k.shape t) (barred_pins k.shape u) (few_loads k.shape s) (few_loads k.shape t) (few_loads k.shape u) a b c (p.few f is none holds) two);
+}
 
 -- a crosspoint that wasn't kept is marked, and two loads are made
 unspent : {told : Option Faults} {k : Kept} {ss : List VerifiedWire} {s : Marks} {f : Faults} (x : ℕ) → AreMarks told k ss s → keeps_cross k x ≡ false → told ≡ Some f → IsFaultless f → HoldsFor k f → is_spent s x ≡ false
@@ -161,13 +165,14 @@ few_one {k = k} {s = s} {t = t} {x = x} before after are within fresh one loads 
     sums : (p q v w a b : ℕ) → p + 1 ≤ q → w ≡ v → b ≡ a → after + b + (2 * p + 3 * v) ≤ before + a + (2 * q + 3 * w)
     sums p q v w a b less same pins = omega (arith, less, same, pins, loads)
 
-spends_one : {told : Option Faults} {k : Kept} {ss : List VerifiedWire} {these : ℕ → Type 0} {s t : Marks} {x : ℕ} (before after : ℕ) → AreMarks told k ss s → x < crosses_of k.shape → these x → keeps_cross k x ≡ false → MarksOne x s t → after ≤ before + 2 →
-    after + most_loads k.shape s ≤ before + most_loads k.shape t → Spends told k these s t before after
-spends_one {k = k} {these = these} {s = s} {t = t} {x = x} before after are within this fresh one loads most = record {
+few_marked : {told : Option Faults} {k : Kept} {ss : List VerifiedWire} {s t : Marks} {x : ℕ} (before after : ℕ) → AreMarks told k ss s → x < crosses_of k.shape → keeps_cross k x ≡ false → MarksOne x s t → after ≤ before + 2 → SpendsFew told k s t before after
+few_marked before after are within fresh one loads = record { few = λ f is none holds. few_one before after are within fresh one loads is none holds }
+
+spends_one : {k : Kept} {these : ℕ → Type 0} {s t : Marks} {x : ℕ} (before after : ℕ) → these x → keeps_cross k x ≡ false → MarksOne x s t → after + most_loads k.shape s ≤ before + most_loads k.shape t → Spends k these s t before after
+spends_one {k = k} {these = these} {s = s} {t = t} {x = x} before after this fresh one most = record {
   only = λ y on. by_this y (one.only y on);
   fresh = λ y on. by_fresh y (one.only y on);
   most = sums _ _ _ _ (pins_same k.shape s t one.barred) most;
-  few = λ f is none holds. few_one before after are within fresh one loads is none holds;
 }
   where
     by_this : (y : ℕ) → (is_spent s y ≡ true) ⊎ (x ≡ y) → (is_spent s y ≡ true) ⊎ these y
@@ -193,23 +198,37 @@ itself n = omega arith
 one_at : (bits : List Bool) {n x : ℕ} → length bits ≡ n → x < n → has_number bits x ≡ false → how_many (has_number bits) n + 1 ≤ how_many (has_number (slice_set bits x true)) n
 one_at bits {n} {x} len within off = subst (λ m. how_many (has_number bits) m + 1 ≤ how_many (has_number (slice_set bits x true)) m) len (set_one bits x (subst (λ m. x < m) (sym len) within) off)
 
+pub most_offered : {m : Shape} {s : Marks} {x : ℕ} (before after : ℕ) → AreMarksOver m s → x < crosses_of m → has_number s.offered x ≡ false → after ≤ before + 4 → after + most_loads m s ≤ before + most_loads m (record s { offered = slice_set s.offered x true })
+most_offered {s = s} before after over within off loads = four_parts _ _ _ _ _ _ _ _ before after loads (one_at s.offered over.offered within off) (itself _) (itself _) (itself _)
+
+module _ {k : Kept} {s : Marks} {x : ℕ} (before after : ℕ) (over : AreMarksOver k.shape s) (within : x < crosses_of k.shape) where
+  pub spends_offered : {these : ℕ → Type 0} {t : Marks} → these x → keeps_cross k x ≡ false → has_number s.offered x ≡ false → t ≡ record s { offered = slice_set s.offered x true } → after ≤ before + 2 → Spends k these s t before after
+  spends_offered {these} {t} this fresh off marks loads = subst (λ u. Spends k these s u before after) (sym marks)
+      (spends_one before after this fresh (offered_one s x (subst (λ n. x < n) (sym over.offered) within)) (most_offered before after over within off (omega (arith, loads))))
+
+  pub spends_second : {these : ℕ → Type 0} {t : Marks} → these x → keeps_cross k x ≡ false → has_number s.second x ≡ false → t ≡ record s { second = slice_set s.second x true } → after ≤ before + 2 → Spends k these s t before after
+  spends_second {these} {t} this fresh off marks loads = subst (λ u. Spends k these s u before after) (sym marks)
+      (spends_one before after this fresh (second_one s x (subst (λ n. x < n) (sym over.second) within))
+      (two_parts _ _ _ _ _ _ _ _ before after loads (itself _) (let less = one_at s.second over.second within off in omega (arith, less)) (itself _)))
+
+  pub spends_between : {these : ℕ → Type 0} {t : Marks} → these x → keeps_cross k x ≡ false → has_number s.between x ≡ false → t ≡ record s { between = slice_set s.between x true } → after ≤ before + 2 → Spends k these s t before after
+  spends_between {these} {t} this fresh off marks loads = subst (λ u. Spends k these s u before after) (sym marks)
+      (spends_one before after this fresh (between_one s x (subst (λ n. x < n) (sym over.between) within))
+      (two_parts _ _ _ _ _ _ _ _ before after loads (itself _) (let less = one_at s.between over.between within off in omega (arith, less)) (itself _)))
+
+-- .. where there are no faults
 module _ {told : Option Faults} {k : Kept} {ss : List VerifiedWire} {s : Marks} {x : ℕ} (before after : ℕ) (are : AreMarks told k ss s) (within : x < crosses_of k.shape) where
-  pub most_offered : has_number s.offered x ≡ false → after ≤ before + 4 → after + most_loads k.shape s ≤ before + most_loads k.shape (record s { offered = slice_set s.offered x true })
-  most_offered off loads = four_parts _ _ _ _ _ _ _ _ before after loads (one_at s.offered are.offered within off) (itself _) (itself _) (itself _)
+  pub few_offered : {t : Marks} → keeps_cross k x ≡ false → t ≡ record s { offered = slice_set s.offered x true } → after ≤ before + 2 → SpendsFew told k s t before after
+  few_offered {t} fresh marks loads = subst (λ u. SpendsFew told k s u before after) (sym marks)
+      (few_marked before after are within fresh (offered_one s x (subst (λ n. x < n) (sym are.over.offered) within)) loads)
 
-  pub spends_offered : {these : ℕ → Type 0} {t : Marks} → these x → keeps_cross k x ≡ false → has_number s.offered x ≡ false → t ≡ record s { offered = slice_set s.offered x true } → after ≤ before + 2 → Spends told k these s t before after
-  spends_offered {these} {t} this fresh off marks loads = subst (λ u. Spends told k these s u before after) (sym marks)
-      (spends_one before after are within this fresh (offered_one s x (subst (λ n. x < n) (sym are.offered) within)) loads (most_offered off (omega (arith, loads))))
+  pub few_second : {t : Marks} → keeps_cross k x ≡ false → t ≡ record s { second = slice_set s.second x true } → after ≤ before + 2 → SpendsFew told k s t before after
+  few_second {t} fresh marks loads = subst (λ u. SpendsFew told k s u before after) (sym marks)
+      (few_marked before after are within fresh (second_one s x (subst (λ n. x < n) (sym are.over.second) within)) loads)
 
-  pub spends_second : {these : ℕ → Type 0} {t : Marks} → these x → keeps_cross k x ≡ false → has_number s.second x ≡ false → t ≡ record s { second = slice_set s.second x true } → after ≤ before + 2 → Spends told k these s t before after
-  spends_second {these} {t} this fresh off marks loads = subst (λ u. Spends told k these s u before after) (sym marks)
-      (spends_one before after are within this fresh (second_one s x (subst (λ n. x < n) (sym are.second) within)) loads
-      (two_parts _ _ _ _ _ _ _ _ before after loads (itself _) (let less = one_at s.second are.second within off in omega (arith, less)) (itself _)))
-
-  pub spends_between : {these : ℕ → Type 0} {t : Marks} → these x → keeps_cross k x ≡ false → has_number s.between x ≡ false → t ≡ record s { between = slice_set s.between x true } → after ≤ before + 2 → Spends told k these s t before after
-  spends_between {these} {t} this fresh off marks loads = subst (λ u. Spends told k these s u before after) (sym marks)
-      (spends_one before after are within this fresh (between_one s x (subst (λ n. x < n) (sym are.between) within)) loads
-      (two_parts _ _ _ _ _ _ _ _ before after loads (itself _) (let less = one_at s.between are.between within off in omega (arith, less)) (itself _)))
+  pub few_between : {t : Marks} → keeps_cross k x ≡ false → t ≡ record s { between = slice_set s.between x true } → after ≤ before + 2 → SpendsFew told k s t before after
+  few_between {t} fresh marks loads = subst (λ u. SpendsFew told k s u before after) (sym marks)
+      (few_marked before after are within fresh (between_one s x (subst (λ n. x < n) (sym are.over.between) within)) loads)
 
 -- one wire more is barred, and one pin at most, which is that wire
 pins_most : (m : Shape) (bits : List Bool) (w : ℕ) → how_many (λ i. has_number (slice_set bits w true) (pin_wire m i)) (pins_of m) ≤ how_many (λ i. has_number bits (pin_wire m i)) (pins_of m) + 1
@@ -225,30 +244,32 @@ unfolding pin_wire
 is_pin_wire m w = refl
 
 -- a wire is barred, and three loads are made, or two if it is a pin
-pub spends_barred : {told : Option Faults} {k : Kept} {ss : List VerifiedWire} {s t : Marks} {these : ℕ → Type 0} {w : ℕ} (before after : ℕ) → AreMarks told k ss s → w < wires_of k.shape → has_number s.barred w ≡ false →
-    t ≡ record s { barred = slice_set s.barred w true } → TakesForWire k.shape w before after → Spends told k these s t before after
-spends_barred {told} {k} {ss} {s} {t} {these} {w} before after are within off marks loads = subst (λ u. Spends told k these s u before after) (sym marks) (by_place (dec_lt w (pins_of k.shape)))
+one_barred : {m : Shape} {s : Marks} {w : ℕ} → AreMarksOver m s → w < wires_of m → has_number s.barred w ≡ false → how_many (has_number s.barred) (wires_of m) + 1 ≤ how_many (has_number (slice_set s.barred w true)) (wires_of m)
+one_barred {s = s} over within off = one_at s.barred over.barred within off
+
+three_barred : {m : Shape} {w : ℕ} (s : Marks) (before after : ℕ) → TakesForWire m w before after → after + barred_pins m (record s { barred = slice_set s.barred w true }) ≤ before + barred_pins m s + 3
+three_barred {m} {w} s before after loads = by_place (dec_lt w (pins_of m))
   where
-    one : how_many (has_number s.barred) (wires_of k.shape) + 1 ≤ how_many (has_number (slice_set s.barred w true)) (wires_of k.shape)
-    one = one_at s.barred are.barred within off
+    by_place : Dec (w < pins_of m) → after + barred_pins m (record s { barred = slice_set s.barred w true }) ≤ before + barred_pins m s + 3
+    by_place (yes low) = let two = loads.pin w low (is_pin_wire m w) in let more = pins_most m s.barred w in omega (arith, two, more)
+    by_place (no high) = let three = loads.wire in let same = pins_still m s.barred w (omega (arith, high)) in omega (arith, three, same)
 
-    most_sum : (a b c d e p q : ℕ) → after + q ≤ before + p + 3 → d + 1 ≤ e → after + q + (4 * a + 2 * b + 2 * c + 3 * d) ≤ before + p + (4 * a + 2 * b + 2 * c + 3 * e)
-    most_sum a b c d e p q three less = omega (arith, three, less)
+module _ {k : Kept} {s : Marks} {w : ℕ} (before after : ℕ) (over : AreMarksOver k.shape s) (within : w < wires_of k.shape) (off : has_number s.barred w ≡ false) where
+  pub spends_barred : {t : Marks} {these : ℕ → Type 0} → t ≡ record s { barred = slice_set s.barred w true } → TakesForWire k.shape w before after → Spends k these s t before after
+  spends_barred {t} {these} marks loads = subst (λ u. Spends k these s u before after) (sym marks) (record {
+    only = λ x on. inl on;
+    fresh = λ x on. inl on;
+    most = sum _ _ _ _ _ _ _ (three_barred s before after loads) (one_barred over within off);
+  })
+    where
+      sum : (a b c d e p q : ℕ) → after + q ≤ before + p + 3 → d + 1 ≤ e → after + q + (4 * a + 2 * b + 2 * c + 3 * d) ≤ before + p + (4 * a + 2 * b + 2 * c + 3 * e)
+      sum a b c d e p q three less = omega (arith, three, less)
 
-    few_sum : (a d e p q : ℕ) → after + q ≤ before + p + 3 → d + 1 ≤ e → after + q + (2 * a + 3 * d) ≤ before + p + (2 * a + 3 * e)
-    few_sum a d e p q three less = omega (arith, three, less)
-
-    spent : after + barred_pins k.shape (record s { barred = slice_set s.barred w true }) ≤ before + barred_pins k.shape s + 3 → Spends told k these s (record s { barred = slice_set s.barred w true }) before after
-    spent three = record {
-      only = λ x on. inl on;
-      fresh = λ x on. inl on;
-      most = most_sum _ _ _ _ _ _ _ three one;
-      few = λ f is none holds. few_sum _ _ _ _ _ three one;
-    }
-
-    by_place : Dec (w < pins_of k.shape) → Spends told k these s (record s { barred = slice_set s.barred w true }) before after
-    by_place (yes low) = spent (let two = loads.pin w low (is_pin_wire k.shape w) in let more = pins_most k.shape s.barred w in omega (arith, two, more))
-    by_place (no high) = spent (let three = loads.wire in let same = pins_still k.shape s.barred w (omega (arith, high)) in omega (arith, three, same))
+  pub few_barred : {told : Option Faults} {t : Marks} → t ≡ record s { barred = slice_set s.barred w true } → TakesForWire k.shape w before after → SpendsFew told k s t before after
+  few_barred {told} {t} marks loads = subst (λ u. SpendsFew told k s u before after) (sym marks) (record { few = λ f is none holds. sum _ _ _ _ _ (three_barred s before after loads) (one_barred over within off) })
+    where
+      sum : (a d e p q : ℕ) → after + q ≤ before + p + 3 → d + 1 ≤ e → after + q + (2 * a + 3 * d) ≤ before + p + (2 * a + 3 * e)
+      sum a d e p q three less = omega (arith, three, less)
 
 -- so many loads are few enough
 pub takes_two : {m : Shape} {w before after : ℕ} → after ≤ before + 2 → TakesForWire m w before after

@@ -1,16 +1,16 @@
 -- Marks stay right, while more is kept and known, and where one is set.
-use Rattle.std.proofs.Common.{◌≡◌, ◌≢◌, ◌⊎◌, ℕ, ◌+◌, ◌<◌, Bool, true, false, Some, Option, List, [], ◌++◌, refl, sym, ap, ◌∙◌, subst, inl, inr, slice_get, slice_set, Result, Ok, Err, IfOk, OnOk, IsTrue, arith, ◌==◌}
+use Rattle.std.proofs.Common.{◌≡◌, ◌≢◌, ◌⊎◌, ℕ, ◌+◌, ◌<◌, Bool, true, false, Some, Option, List, [], ◌++◌, refl, sym, ◌∙◌, subst, inl, inr, slice_get, slice_set, Result, Ok, Err, IfOk, OnOk, IsTrue, arith, ◌==◌}
 use Rattle.std.proofs.lemmas.Bool.{false≢true, or_left}
 use Rattle.std.proofs.lemmas.Bool.Decides.{nat_tests}
 use Rattle.std.proofs.lemmas.List.{length-set, append-nil}
 use native.Mathlib.Decide.{ℕ_discrete}
 use Rattle.base_bits.specs.Numbers.{has_number}
 use Rattle.machine_shape.specs.declared.Shape.{Shape}
-use Rattle.machine_shape.specs.Shape.{Ends, in_order, turned, ends_of, wires_of, crosses_of}
+use Rattle.machine_shape.specs.Shape.{Ends, in_order, turned, ends_of, crosses_of}
 use Rattle.machine_meaning.specs.Faults.{Faults, IsFaultless}
 use Rattle.diag_evidence.specs.Kept.{Kept, HoldsFor, IsMore, Gains, one_cross, keeps_cross}
 use Rattle.diag_evidence.proofs.Keeping.{holds_earlier}
-use Rattle.diag_known.specs.Vocabulary.{HasWire, is_spent, IsSecondMark, AreMarks, IsLost, IsLinkTo, IsKeptUnlessStuck, IsFaulty}
+use Rattle.diag_known.specs.Vocabulary.{HasWire, is_spent, IsSecondMark, AreMarks, AreMarksOver, OffersAtMost, IsLost, IsLinkTo, IsKeptUnlessStuck, IsFaulty}
 use Rattle.diag_known.specs.declared.marks.Marks.{Marks}
 use Rattle.diag_known.specs.declared.verified_wire.Support.{Support}
 use Rattle.diag_known.specs.declared.verified_wire.VerifiedWire.{VerifiedWire}
@@ -33,13 +33,30 @@ second_mark_later {told} {k} {l} {ss} {x} ts more s = record {
     later (inr (inl h)) = inr (inl (has_later ts h))
     later (inr (inr p)) = inr (inr (lost_one_later ts more p))
 
+-- there is a mark for each wire and each crosspoint still: after tests, and where one is set
+pub over_later : {k l : Kept} {s : Marks} → IsMore k l → AreMarksOver k.shape s → AreMarksOver l.shape s
+over_later {s = s} more over = subst (λ (m : Shape). AreMarksOver m s) (sym more.shape) over
+
+pub over_offered : {m : Shape} {s t : Marks} (x : ℕ) → AreMarksOver m s → t ≡ record s { offered = slice_set s.offered x true } → AreMarksOver m t
+over_offered {m} {s} x over e = subst (AreMarksOver m) (sym e) (record { barred = over.barred; offered = length-set s.offered x true ∙ over.offered; second = over.second; between = over.between })
+
+pub over_second : {m : Shape} {s t : Marks} (x : ℕ) → AreMarksOver m s → t ≡ record s { second = slice_set s.second x true } → AreMarksOver m t
+over_second {m} {s} x over e = subst (AreMarksOver m) (sym e) (record { barred = over.barred; offered = over.offered; second = length-set s.second x true ∙ over.second; between = over.between })
+
+pub over_between : {m : Shape} {s t : Marks} (x : ℕ) → AreMarksOver m s → t ≡ record s { between = slice_set s.between x true } → AreMarksOver m t
+over_between {m} {s} x over e = subst (AreMarksOver m) (sym e) (record { barred = over.barred; offered = over.offered; second = over.second; between = length-set s.between x true ∙ over.between })
+
+pub over_barred : {m : Shape} {s t : Marks} (w : ℕ) → AreMarksOver m s → t ≡ record s { barred = slice_set s.barred w true } → AreMarksOver m t
+over_barred {m} {s} w over e = subst (AreMarksOver m) (sym e) (record { barred = length-set s.barred w true ∙ over.barred; offered = over.offered; second = over.second; between = over.between })
+
+pub over_offers : {k : Kept} {m : Shape} {s t : Marks} {before after : ℕ} (x : ℕ) → OffersAtMost k x s t before after → AreMarksOver m s → AreMarksOver m t
+over_offers {m = m} x (inl same) over = subst (AreMarksOver m) (sym same.0) over
+over_offers x (inr one) over = over_offered x over one.marks
+
 -- more is kept and known
 pub marks_later : {told : Option Faults} {k l : Kept} {ss : List VerifiedWire} {s : Marks} (ts : List VerifiedWire) → IsMore k l → AreMarks told k ss s → AreMarks told l (ss ++ ts) s
 marks_later ts more are = record {
-  barred = are.barred ∙ ap wires_of (sym more.shape);
-  offered = are.offered ∙ ap crosses_of (sym more.shape);
-  second = are.second ∙ ap crosses_of (sym more.shape);
-  between = are.between ∙ ap crosses_of (sym more.shape);
+  over = over_later more are.over;
   seconds = λ x on. second_mark_later ts more (are.seconds x on);
   joined = λ x on. kept_later more (are.joined x on);
   spent = λ f told none holds x on. more.crosses x (are.spent f told none (holds_earlier more holds) x on);
@@ -61,24 +78,18 @@ module _ {told : Option Faults} {k l : Kept} {ss : List VerifiedWire} {s : Marks
 
   pub marks_offered : {t : Marks} → x < crosses_of k.shape → t ≡ record s { offered = slice_set s.offered x true } → AreMarks told l ss t
   marks_offered within e = let later : AreMarks told l ss s = marks_still more are in subst (AreMarks told l ss) (sym e) (record {
-    barred = later.barred;
-    offered = length-set s.offered x true ∙ later.offered;
-    second = later.second;
-    between = later.between;
+    over = over_offered x later.over refl;
     seconds = later.seconds;
     joined = later.joined;
-    spent = spent_one (offered_one s x (subst (λ n. x < n) (sym are.offered) within));
+    spent = spent_one (offered_one s x (subst (λ n. x < n) (sym are.over.offered) within));
   })
 
   pub marks_second : {t : Marks} → x < crosses_of k.shape → t ≡ record s { second = slice_set s.second x true } → IsSecondMark told l ss x → AreMarks told l ss t
   marks_second within e mark = let later : AreMarks told l ss s = marks_still more are in subst (AreMarks told l ss) (sym e) (record {
-    barred = later.barred;
-    offered = later.offered;
-    second = length-set s.second x true ∙ later.second;
-    between = later.between;
+    over = over_second x later.over refl;
     seconds = λ y on. by_mark y (set_only s.second x y on);
     joined = later.joined;
-    spent = spent_one (second_one s x (subst (λ n. x < n) (sym are.second) within));
+    spent = spent_one (second_one s x (subst (λ n. x < n) (sym are.over.second) within));
   })
     where
       by_mark : (y : ℕ) → (has_number s.second y ≡ true) ⊎ (x ≡ y) → IsSecondMark told l ss y
@@ -87,13 +98,10 @@ module _ {told : Option Faults} {k l : Kept} {ss : List VerifiedWire} {s : Marks
 
   pub marks_between : {t : Marks} → x < crosses_of k.shape → t ≡ record s { between = slice_set s.between x true } → IsKeptUnlessStuck told l x → AreMarks told l ss t
   marks_between within e mark = let later : AreMarks told l ss s = marks_still more are in subst (AreMarks told l ss) (sym e) (record {
-    barred = later.barred;
-    offered = later.offered;
-    second = later.second;
-    between = length-set s.between x true ∙ later.between;
+    over = over_between x later.over refl;
     seconds = later.seconds;
     joined = λ y on. by_mark y (set_only s.between x y on);
-    spent = spent_one (between_one s x (subst (λ n. x < n) (sym are.between) within));
+    spent = spent_one (between_one s x (subst (λ n. x < n) (sym are.over.between) within));
   })
     where
       by_mark : (y : ℕ) → (has_number s.between y ≡ true) ⊎ (x ≡ y) → IsKeptUnlessStuck told l y
@@ -103,10 +111,7 @@ module _ {told : Option Faults} {k l : Kept} {ss : List VerifiedWire} {s : Marks
 -- a wire is barred
 pub marks_barred : {told : Option Faults} {k : Kept} {ss : List VerifiedWire} {s t : Marks} (w : ℕ) → AreMarks told k ss s → t ≡ record s { barred = slice_set s.barred w true } → AreMarks told k ss t
 marks_barred {told} {k} {ss} {s} {t} w are e = subst (AreMarks told k ss) (sym e) (record {
-  barred = length-set s.barred w true ∙ are.barred;
-  offered = are.offered;
-  second = are.second;
-  between = are.between;
+  over = over_barred w are.over refl;
   seconds = are.seconds;
   joined = are.joined;
   spent = are.spent;

@@ -35,10 +35,13 @@ pub record TakesForWire (m : Shape) (w before after : ℕ) : Type 0 where
   pub pin : (i : ℕ) → i < pins_of m → w ≡ pin_wire m i → after ≤ before + 2
 
 -- No more loads were made than the new marks stand for; of crosspoints these alone are marked anew, and none that was kept.
-pub record Spends (told : Option Faults) (k : Kept) (these : ℕ → Type 0) (old new : Marks) (before after : ℕ) : Type 0 where
+pub record Spends (k : Kept) (these : ℕ → Type 0) (old new : Marks) (before after : ℕ) : Type 0 where
   pub only : (x : ℕ) → is_spent new x ≡ true → (is_spent old x ≡ true) ⊎ these x
   pub fresh : (x : ℕ) → is_spent new x ≡ true → (is_spent old x ≡ true) ⊎ (keeps_cross k x ≡ false)
   pub most : after + barred_pins k.shape new + most_loads k.shape old ≤ before + barred_pins k.shape old + most_loads k.shape new
+
+-- .. where there are no faults
+pub record SpendsFew (told : Option Faults) (k : Kept) (old new : Marks) (before after : ℕ) : Type 0 where
   pub few : (f : Faults) → told ≡ Some f → IsFaultless f → HoldsFor k f →
       after + barred_pins k.shape new + few_loads k.shape old ≤ before + barred_pins k.shape old + few_loads k.shape new
 
@@ -50,12 +53,16 @@ pub record IsSecondMark (told : Option Faults) (k : Kept) (ss : List VerifiedWir
   pub known : HasWire ss from
   pub found : (keeps_cross k x ≡ true) ⊎ (HasWire ss to ⊎ IsLost told k ss to x)
 
+-- there is a mark for each wire, and of each kind for each crosspoint
+pub record AreMarksOver (m : Shape) (s : Marks) : Type 0 where
+  pub barred : length s.barred ≡ wires_of m
+  pub offered : length s.offered ≡ crosses_of m
+  pub second : length s.second ≡ crosses_of m
+  pub between : length s.between ≡ crosses_of m
+
 -- What was toggled between known wires is kept unless it is stuck, and so, without faults, is all that was toggled.
 pub record AreMarks (told : Option Faults) (k : Kept) (ss : List VerifiedWire) (s : Marks) : Type 0 where
-  pub barred : length s.barred ≡ wires_of k.shape
-  pub offered : length s.offered ≡ crosses_of k.shape
-  pub second : length s.second ≡ crosses_of k.shape
-  pub between : length s.between ≡ crosses_of k.shape
+  pub over : AreMarksOver k.shape s
   pub seconds : (x : ℕ) → has_number s.second x ≡ true → IsSecondMark told k ss x
   pub joined : (x : ℕ) → has_number s.between x ≡ true → IsKeptUnlessStuck told k x
   pub spent : (f : Faults) → told ≡ Some f → IsFaultless f → HoldsFor k f → (x : ℕ) → is_spent s x ≡ true → keeps_cross k x ≡ true
@@ -88,8 +95,8 @@ pub record OffersOnly (x : ℕ) (old new : Marks) : Type 0 where
   pub only : (y : ℕ) → has_number new.offered y ≡ true → (has_number old.offered y ≡ true) ⊎ (x ≡ y)
 
 -- crosspoints of the offer alone are marked anew, and as offered its own one alone
-pub record SpendsOn (told : Option Faults) (k : Kept) (o : Offer) (old new : Marks) (before after : ℕ) : Type 0 where
-  pub spends : Spends told k (IsOfOffer o) old new before after
+pub record SpendsOn (k : Kept) (o : Offer) (old new : Marks) (before after : ℕ) : Type 0 where
+  pub spends : Spends k (IsOfOffer o) old new before after
   pub offered : OffersOnly o.foot.cross.0 old new
   pub barred : new.barred ≡ old.barred
 

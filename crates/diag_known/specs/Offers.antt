@@ -25,7 +25,7 @@ pub record IsOffer (m : Shape) (ss : List VerifiedWire) (o : Offer) : Type 0 whe
   pub others : (j : ℕ) (a : Support) → slice_get o.others.items j ≡ Some a → IsLinkTo m ss o.wire.0 a
   pub differ : (j : ℕ) (a : Support) → slice_get o.others.items j ≡ Some a → a.wire.0 ≢ o.foot.wire.0
 
--- where the faults are told and what is kept is true of them, one of the two crosspoints is stuck, or the wire isn't fit
+-- where what is kept is true of the faults, one of the two crosspoints is stuck, or the wire isn't fit
 pub record AreLost (told : Option Faults) (k : Kept) (ss : List VerifiedWire) (w x y : ℕ) : Type 0 where
   pub at : (f : Faults) → told ≡ Some f → HoldsFor k f → IsFit k.shape f ss w → stuck_cross f x ≡ None → stuck_cross f y ≡ None → ⊥
 

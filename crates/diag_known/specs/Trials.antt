@@ -26,7 +26,7 @@ pub record IsFit (m : Shape) (f : Faults) (ss : List VerifiedWire) (w : ℕ) : T
   pub clear : IsClear m f w
   pub alone : IsAlone m f (HasWire ss) w
 
--- Where the faults are told and what is kept is true of them ..
+-- Where what is kept is true of the faults ..
 
 -- .. the crosspoint is kept, unless it is stuck
 pub record IsKeptUnlessStuck (told : Option Faults) (k : Kept) (x : ℕ) : Type 0 where

@@ -15,6 +15,6 @@ pub use Rattle.diag_known.specs.Reaches.{by_first, by_second, own, reach_at, upp
 pub use Rattle.diag_known.specs.Trials.{IsBad, IsFaulty, IsFit, IsKeptRoute, IsKeptUnlessStuck, IsLinkTo, IsLost, IsTried}
 pub use Rattle.diag_known.specs.Offers.{Adds, AreLost, ArePulled, HangsNot, HangsOnNone, HasNoSecond, HasNoneBeside, InSome, IsHanging}
 pub use Rattle.diag_known.specs.Offers.{IsHung, IsKeptOther, IsOffer, IsOn, IsPlaced, IsSecond}
-pub use Rattle.diag_known.specs.Marked.{AreMarks, AreOutside, BarsAtMost, HasTried, IsOfOffer, IsSecondMark, JoinsAtMost, OffersAtMost}
-pub use Rattle.diag_known.specs.Marked.{OffersOnly, Spends, SpendsOn, TakesForWire, barred, barred_pins, few_loads, is_spent, lost}
-pub use Rattle.diag_known.specs.Marked.{most_loads}
+pub use Rattle.diag_known.specs.Marked.{AreMarks, AreMarksOver, AreOutside, BarsAtMost, HasTried, IsOfOffer, IsSecondMark, JoinsAtMost}
+pub use Rattle.diag_known.specs.Marked.{OffersAtMost, OffersOnly, Spends, SpendsFew, SpendsOn, TakesForWire, barred, barred_pins}
+pub use Rattle.diag_known.specs.Marked.{few_loads, is_spent, lost, most_loads}

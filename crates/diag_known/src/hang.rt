@@ -6,7 +6,7 @@ ghost use Rattle.rig.specs.Rig.{ForEach, shape_of};
 ghost use Rattle.diag_tests.specs.Routes.{cross_numbers};
 ghost use Rattle.diag_evidence.specs.Kept.{Advances, keeps_cross};
 ghost use Rattle.diag_known.specs.Known.{IsKnown};
-ghost use Rattle.diag_known.specs.Marked.{AreMarks, OffersAtMost, SpendsOn};
+ghost use Rattle.diag_known.specs.Marked.{AreMarks, AreMarksOver, OffersAtMost, SpendsFew, SpendsOn};
 ghost use Rattle.diag_known.specs.Offers.{IsOffer, IsHanging, HasNoneBeside, HasNoSecond};
 ghost use Rattle.diag_known.specs.Trials.{IsFaulty};
 ghost use Rattle.diag_known.specs.Ways.{IsWay};
@@ -34,11 +34,8 @@ fn toggle_hung(
     requires way { IsWay facts.old known.now.steps offer.now.foot.wire.0 way.now }
     requires hung { IsHanging facts.old known.now.steps offer.now way.now hung.now.walks.items (cross_numbers hung.now.ties.items) }
     ensures kept { IfOk result (λ yes. IsTrue yes → keeps_cross facts.new offer.now.foot.cross.0 ≡ true) }
-    ensures lost { IfOk result (λ yes. yes ≡ false →
-        HasNoneBeside (rig_state rig.old).machine.faults facts.new known.now.steps offer.now way.now) }
     ensures lost_each { IfOk result (λ yes. ForEach (rig_state rig.new) (λ told. yes ≡ false → HasNoneBeside told facts.new
         known.now.steps offer.now way.now)) }
-    ensures faulty { IfOk result (λ yes. yes ≡ false → IsFaulty (rig_state rig.old).machine.faults facts.old) }
     ensures faulty_each { IfOk result (λ yes. ForEach (rig_state rig.new) (λ told. yes ≡ false → IsFaulty told facts.old)) }
     ensures advances { Advances (rig_state rig.old) (rig_state rig.new) facts.old facts.new }
     ensures loads { (rig_state rig.new).loads ≤ (rig_state rig.old).loads + 2 }
@@ -66,13 +63,10 @@ fn hang(
     requires known { IsKnown facts.old known.now }
     requires offer { IsOffer facts.old.shape known.now.steps offer.now }
     requires way { IsWay facts.old known.now.steps offer.now.foot.wire.0 way.now }
-    requires marks { AreMarks (rig_state rig.old).machine.faults facts.old known.now.steps marks.old }
+    requires marks { AreMarksOver facts.old.shape marks.old }
     ensures kept { IfOk result (λ yes. IsTrue yes → keeps_cross facts.new offer.now.foot.cross.0 ≡ true) }
-    ensures lost { IfOk result (λ yes. yes ≡ false →
-        HasNoneBeside (rig_state rig.old).machine.faults facts.new known.now.steps offer.now way.now) }
     ensures lost_each { IfOk result (λ yes. ForEach (rig_state rig.new) (λ told. yes ≡ false → HasNoneBeside told facts.new
         known.now.steps offer.now way.now)) }
-    ensures marks { OnOk result (AreMarks (rig_state rig.old).machine.faults facts.new known.now.steps marks.new) }
     ensures marks_each { OnOk result (ForEach (rig_state rig.new) (λ told. AreMarks told facts.old known.now.steps marks.old → AreMarks
         told facts.new known.now.steps marks.new)) }
     ensures offers { OffersAtMost facts.old offer.now.foot.cross.0 marks.old marks.new (rig_state rig.old).loads (rig_state rig.new).loads }
@@ -108,19 +102,17 @@ pub fn toggle_first(
     requires attached { shape_of (rig_state rig.old) ≡ Some facts.old.shape }
     requires known { IsKnown facts.old known.now }
     requires offer { IsOffer facts.old.shape known.now.steps offer.now }
-    requires marks { AreMarks (rig_state rig.old).machine.faults facts.old known.now.steps marks.old }
+    requires marks { AreMarksOver facts.old.shape marks.old }
     requires first { has_number marks.old.offered offer.now.foot.cross.0 ≡ false }
     ensures kept { IfOk result (λ yes. IsTrue yes → keeps_cross facts.new offer.now.foot.cross.0 ≡ true) }
-    ensures lost { IfOk result (λ yes. yes ≡ false → HasNoSecond (rig_state rig.old).machine.faults facts.new known.now.steps offer.now) }
     ensures lost_each { IfOk result (λ yes. ForEach (rig_state rig.new) (λ told. yes ≡ false → HasNoSecond told facts.new known.now.steps
         offer.now)) }
-    ensures marks { OnOk result (AreMarks (rig_state rig.old).machine.faults facts.new known.now.steps marks.new) }
+    ensures marks { AreMarksOver facts.new.shape marks.new }
     ensures marks_each { OnOk result (ForEach (rig_state rig.new) (λ told. AreMarks told facts.old known.now.steps marks.old → AreMarks
         told facts.new known.now.steps marks.new)) }
-    ensures spends { SpendsOn (rig_state rig.old).machine.faults facts.old offer.now marks.old marks.new (rig_state rig.old).loads
-        (rig_state rig.new).loads }
-    ensures spends_each { ForEach (rig_state rig.new) (λ told. AreMarks told facts.old known.now.steps marks.old → SpendsOn told facts.old
-        offer.now marks.old marks.new (rig_state rig.old).loads (rig_state rig.new).loads) }
+    ensures spends { SpendsOn facts.old offer.now marks.old marks.new (rig_state rig.old).loads (rig_state rig.new).loads }
+    ensures spends_each { ForEach (rig_state rig.new) (λ told. AreMarks told facts.old known.now.steps marks.old → SpendsFew told
+        facts.old marks.old marks.new (rig_state rig.old).loads (rig_state rig.new).loads) }
     ensures advances { Advances (rig_state rig.old) (rig_state rig.new) facts.old facts.new }
     ensures cause { IsErrOf result RigFail.Failed → Rose (rig_state rig.old).failures (rig_state rig.new).failures }
 {

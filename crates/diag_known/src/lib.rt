@@ -14,6 +14,7 @@
 //!
 //! A wire with crosspoints to two known ones has two ways, and every other known wire is reached beside one of them, on walks
 //! from the pins. On these hangs what a trial closes besides a way. Marks say what was tried, so that nothing is tried twice.
+//! What a trial says of faults it says of each set that explains the log after it (a clause whose name ends in `_each`).
 #![tactic(auto)]
 
 mod beside;

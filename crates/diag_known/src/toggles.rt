@@ -66,7 +66,6 @@ fn toggle(
     requires ties { All (λ x. x.0 < crosses_of facts.old.shape) ties.now }
     requires tie { among (cross_numbers ties.now) c.0 ≡ true }
     requires cross { c.0 < crosses_of facts.old.shape }
-    ensures passes { IfOk result (LoopPasses (rig_state rig.old).machine.faults facts.old left.now right.now (cross_numbers ties.now) c.0) }
     ensures passes_each { IfOk result (λ yes. ForEach (rig_state rig.new) (λ told. LoopPasses told facts.old left.now right.now
         (cross_numbers ties.now) c.0 yes)) }
     ensures kept { IfOk result (λ yes. IsTrue yes → keeps_cross facts.new c.0 ≡ true) }
@@ -103,7 +102,6 @@ pub fn toggle_known(
     requires a { HasWire known.now.steps a.0 }
     requires b { HasWire known.now.steps b.0 }
     requires differ { a.0 ≢ b.0 }
-    ensures kept { OnOk result (IsKeptUnlessStuck (rig_state rig.old).machine.faults facts.new c.0) }
     ensures kept_each { OnOk result (ForEach (rig_state rig.new) (λ told. IsKeptUnlessStuck told facts.new c.0)) }
     ensures advances { Advances (rig_state rig.old) (rig_state rig.new) facts.old facts.new }
     ensures loads { (rig_state rig.new).loads ≤ (rig_state rig.old).loads + 2 }
@@ -140,7 +138,6 @@ pub fn toggle_over(
     requires differ { foot.wire.0 ≢ over.wire.0 }
     requires hangs { keeps_cross facts.old over.cross.0 ≡ true }
     ensures kept { IfOk result (λ yes. IsTrue yes → keeps_cross facts.new foot.cross.0 ≡ true) }
-    ensures lost { IfOk result (λ yes. yes ≡ false → IsLost (rig_state rig.old).machine.faults facts.new known.now.steps w.0 foot.cross.0) }
     ensures lost_each { IfOk result (λ yes. ForEach (rig_state rig.new) (λ told. yes ≡ false → IsLost told facts.new known.now.steps w.0
         foot.cross.0)) }
     ensures advances { Advances (rig_state rig.old) (rig_state rig.new) facts.old facts.new }

@@ -1,5 +1,5 @@
 -- Trunks over known wires, and when there is none.
-use Rattle.std.proofs.Common.{◌≡◌, ◌≢◌, ◌⊎◌, ℕ, ◌+◌, ◌*◌, ◌<◌, ◌≤◌, Bool, true, false, Some, None, Option, Result, Ok, Err, IfOk, List, length, refl, sym, ap, ◌∙◌, subst, inl, inr, arith, AllPairs, IfSome, IfNone}
+use Rattle.std.proofs.Common.{◌≡◌, ◌≢◌, ◌⊎◌, ℕ, ◌+◌, ◌*◌, ◌<◌, ◌≤◌, Bool, true, false, Some, None, Option, Result, Ok, Err, IfOk, List, length, refl, sym, ap, ◌∙◌, subst, inl, inr, arith, AllPairs, IfSome}
 use Rattle.std.proofs.lemmas.Bool.{cases_eq, false≢true}
 use Rattle.base_bits.specs.Numbers.{has_number, size_of}
 use Rattle.machine_shape.specs.declared.Shape.{Shape}
@@ -11,15 +11,14 @@ use Rattle.machine_config.specs.Groups.{among}
 use Rattle.machine_config.proofs.Grouped.{LeadsTo-start}
 use Rattle.diag_tests.specs.Routes.{Walk}
 use Rattle.diag_tests.specs.declared.trunk.Trunk.{Trunk}
-use Rattle.rig.specs.Rig.{RigState, Machine}
-use Rattle.diag_evidence.specs.Kept.{Kept, HoldsFor, Advances}
+use Rattle.diag_evidence.specs.Kept.{Kept, HoldsFor}
 use Rattle.diag_known.specs.Vocabulary.{IsClosed, ClosedIf, TakesFew, Gets, IsWireBefore, KnownWires, HasWire, IsKnownRoute, AreRoutesTo}
 use Rattle.diag_known.proofs.Taking.{few_wide}
 use Rattle.diag_known.specs.declared.field.Field.{Field}
 use Rattle.diag_known.specs.declared.verified_wire.VerifiedWire.{VerifiedWire}
 use Rattle.diag_growth.proofs.Decided.{known_or}
 use Rattle.diag_published.specs.Bars.{IsListOf, IsAtOneOf, IsKnownOf, IsTrunkTo, IsTrunkOf, AreTwoOf, FewPins, SoundPinsAreKnown}
-use Rattle.diag_published.specs.Held.{Findings, IsTrunkEnd, at_pin, at_port, IsHeldRoute, IsHeldTrunk, IsHeld, FullIf, IsUnserved, LoadsAtMost, UnservedIf, wire_numbers}
+use Rattle.diag_published.specs.Held.{Findings, IsTrunkEnd, at_pin, at_port, IsHeldRoute, IsHeldTrunk, IsHeld, IsUnserved, LoadsAtMost, UnservedIf, wire_numbers}
 use Rattle.diag_published.specs.Laws.{AreLaws}
 use Rattle.diag_published.proofs.Fielding.{before_of, ports_are}
 
@@ -109,18 +108,11 @@ few_pins told k known count ws laws few list found one = record {
     pin : (f : Faults) → told ≡ Some f → HoldsFor k f → (j : ℕ) → (j < count) × IsSoundWire k.shape f (pin_wire k.shape j) → IsKnownOf known ws (pin_wire k.shape j)
     pin f is holds j p = (list.all (pin_wire k.shape j) (record { position = j; early = p.0; is = refl }), found.at f is holds j p.0 p.1)
 
--- faults that were told are told still
-pub told_still : {a b : RigState} {k l : Kept} (f : Faults) → Advances a b k l → a.machine.faults ≡ Some f → b.machine.faults ≡ Some f
-told_still f adv told = ap (λ (m : Machine). m.faults) adv.machine ∙ told
-
 pub unserved_by : (told : Option Faults) (k l : Kept) (pins : ℕ) → l.shape ≡ k.shape → ((f : Faults) → told ≡ Some f → HoldsFor k f → HoldsFor l f) → pins ≡ pins_of k.shape → FewPins told l pins → UnservedIf told k 0
 unserved_by told k l pins shape later e few = record {
   at = λ f is holds served. few.at f is (later f is holds)
       (subst (λ s. HasTwo (λ j. (j < pins) × IsSoundWire s f (pin_wire s j))) (sym shape) (subst (λ n. HasTwo (λ j. (j < n) × IsSoundWire k.shape f (pin_wire k.shape j))) (sym e) served.pins));
 }
-
-pub unserved_root : (a b : RigState) (k l : Kept) (pins : ℕ) → Advances a b k l → pins ≡ pins_of k.shape → FewPins b.machine.faults l pins → UnservedIf a.machine.faults k 0
-unserved_root a b k l pins adv e few = unserved_by _ k l pins adv.more.shape adv.holds e (record { at = λ f is holds. few.at f (told_still f adv is) holds })
 
 -- without faults a trunk is found among the first two pins, if there are two
 pub root_by : (told : Option Faults) (k l : Kept) (first pins before mid after : ℕ) → ((f : Faults) → told ≡ Some f → HoldsFor k f → HoldsFor l f) → first ≤ 2 → (first < 2 → first ≡ pins) → ((f : Faults) → IsFaultless f → (w : ℕ) → IsSoundWire k.shape f w) →
@@ -142,11 +134,6 @@ root_by told k l first pins before mid after later few all sound none one other 
         let y = other.at f is faultless (later f is holds) in
         let s : first ≡ pins = all (omega (arith, few, other_count)) in
         omega (arith, x, y, s, few, other_count)
-
-pub root_loads : (a b : RigState) (k l : Kept) (first pins after : ℕ) → Advances a b k l → first ≤ 2 → (first < 2 → first ≡ pins) → ((f : Faults) → IsFaultless f → (w : ℕ) → IsSoundWire k.shape f w) → FewPins a.machine.faults k first →
-    LoadsAtMost a.machine.faults k a.loads b.loads (3 * first) → LoadsAtMost b.machine.faults l b.loads after (3 * pins) → LoadsAtMost a.machine.faults k a.loads after 6
-root_loads a b k l first pins after adv few all sound none one other =
-    root_by _ k l first pins a.loads b.loads after adv.holds few all sound none one (record { at = λ f is faultless holds. other.at f (told_still f adv is) faultless holds })
 
 pub at_most_six : (told : Option Faults) (k : Kept) (before after first : ℕ) → first ≤ 2 → LoadsAtMost told k before after (3 * first) → LoadsAtMost told k before after 6
 at_most_six told k before after first few h = record { at = λ f is faultless holds. (let most = h.at f is faultless holds in omega (arith, most, few)) }
@@ -181,9 +168,3 @@ pub trunks_end : {E : Type 0} (k : Kept) (known : KnownWires) (n : ℕ) (r : Res
 trunks_end k known n (Err e) m laws same h = tt
 trunks_end k known n (Ok None) m laws same h = tt
 trunks_end k known n (Ok (Some t)) m laws same h = end_node m laws n t.left.end (subst (λ s. IsTrunkEnd s n t.left.end) same h.left_end)
-
-pub unserved_if : {E : Type 0} (r : Result (Option Trunk) E) (told : Option Faults) (k : Kept) (t : Findings) (n : ℕ) → FullIf told k k t → IfOk r (λ found. IfNone found (IsUnserved k t n)) →
-    IfOk r (λ found. IfNone found (UnservedIf told k n))
-unserved_if (Err e) told k t n full h = tt
-unserved_if (Ok (Some x)) told k t n full h = tt
-unserved_if (Ok None) told k t n full h = record { at = λ f is holds. h f (full.at f is holds) }

@@ -80,10 +80,8 @@ fn test_node(
     ensures stays { (w : ℕ) → HasWire known.old.steps w → HasWire known.new.steps w }
     ensures node { IfOk result (λ tested. tested.node ≡ node.0) }
     ensures held { IfOk result (IsHeld facts.new known.new) }
-    ensures full { IfOk result (FullIf (rig_state rig.old).machine.faults facts.old facts.new) }
     ensures full_each { IfOk result (λ yes. ForEach (rig_state rig.new) (λ told. FullIf told facts.old facts.new yes)) }
     ensures loads { LoadsForBar facts.old.shape node.0 (rig_state rig.old).loads (rig_state rig.new).loads }
-    ensures few { FewLoadsForBar (rig_state rig.old).machine.faults facts.old node.0 (rig_state rig.old).loads (rig_state rig.new).loads }
     ensures few_each { ForEach (rig_state rig.new) (λ told. FewLoadsForBar told facts.old node.0 (rig_state rig.old).loads (rig_state
         rig.new).loads) }
     ensures advances { Advances (rig_state rig.old) (rig_state rig.new) facts.old facts.new }
@@ -101,8 +99,8 @@ fn test_node(
     }
 }
 
-/// Tests the crossbar of the node at which a trunk ends. What is found is held and, where the faults are told, full. It takes at
-/// most 8 loads for each crosspoint and 3 for each tap and line of the crossbar, without faults 2 and 3, whatever it answers.
+/// Tests the crossbar of the node at which a trunk ends. What is found is held, and full for any faults that explain the log. It takes
+/// at most 8 loads for each crosspoint and 3 for each tap and line of the crossbar, without faults 2 and 3, whatever it answers.
 ///
 /// # Errors
 ///
@@ -122,12 +120,9 @@ pub fn test_crossbar(
     ensures stays { (w : ℕ) → HasWire known.old.steps w → HasWire known.new.steps w }
     ensures node { IfOk result (λ tested. tested.node ≡ node_of facts.old.shape trunk.left.end) }
     ensures held { IfOk result (IsHeld facts.new known.new) }
-    ensures full { IfOk result (FullIf (rig_state rig.old).machine.faults facts.old facts.new) }
     ensures full_each { IfOk result (λ yes. ForEach (rig_state rig.new) (λ told. FullIf told facts.old facts.new yes)) }
     ensures loads { LoadsForBar facts.old.shape (node_of facts.old.shape trunk.left.end) (rig_state rig.old).loads
         (rig_state rig.new).loads }
-    ensures few { FewLoadsForBar (rig_state rig.old).machine.faults facts.old (node_of facts.old.shape trunk.left.end)
-        (rig_state rig.old).loads (rig_state rig.new).loads }
     ensures few_each { ForEach (rig_state rig.new) (λ told. FewLoadsForBar told facts.old (node_of facts.old.shape trunk.left.end)
         (rig_state rig.old).loads (rig_state rig.new).loads) }
     ensures advances { Advances (rig_state rig.old) (rig_state rig.new) facts.old facts.new }

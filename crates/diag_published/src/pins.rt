@@ -71,10 +71,7 @@ fn grow_pins(
 
     ensures known { IsKnown facts.new known.new }
     ensures stays { (w : ℕ) → HasWire known.old.steps w → HasWire known.new.steps w }
-    ensures found { OnOk result (SoundPinsAreKnown (rig_state rig.old).machine.faults facts.old known.new count) }
     ensures found_each { OnOk result (ForEach (rig_state rig.new) (λ told. SoundPinsAreKnown told facts.old known.new count)) }
-    ensures loads { LoadsAtMost (rig_state rig.old).machine.faults facts.old (rig_state rig.old).loads
-        (rig_state rig.new).loads (3 * count) }
     ensures loads_each { ForEach (rig_state rig.new) (λ told. LoadsAtMost told facts.old (rig_state rig.old).loads (rig_state
         rig.new).loads (3 * count)) }
     ensures advances { Advances (rig_state rig.old) (rig_state rig.new) facts.old facts.new }
@@ -104,10 +101,7 @@ fn try_pins(
     ensures known { IsKnown facts.new known.new }
     ensures stays { (w : ℕ) → HasWire known.old.steps w → HasWire known.new.steps w }
     ensures held { IfOk result (λ found. IfSome found (λ t. IsHeldTrunk facts.new known.new 0 t.left t.right)) }
-    ensures none { IfOk result (λ found. IfNone found (FewPins (rig_state rig.old).machine.faults facts.old count)) }
     ensures none_each { IfOk result (λ found. ForEach (rig_state rig.new) (λ told. IfNone found (FewPins told facts.old count))) }
-    ensures loads { LoadsAtMost (rig_state rig.old).machine.faults facts.old (rig_state rig.old).loads
-        (rig_state rig.new).loads (3 * count) }
     ensures loads_each { ForEach (rig_state rig.new) (λ told. LoadsAtMost told facts.old (rig_state rig.old).loads (rig_state
         rig.new).loads (3 * count)) }
     ensures advances { Advances (rig_state rig.old) (rig_state rig.new) facts.old facts.new }
@@ -148,9 +142,7 @@ pub(crate) fn root_trunk(
     ensures known { IsKnown facts.new known.new }
     ensures stays { (w : ℕ) → HasWire known.old.steps w → HasWire known.new.steps w }
     ensures held { IfOk result (λ found. IfSome found (λ t. IsHeldTrunk facts.new known.new 0 t.left t.right)) }
-    ensures none { IfOk result (λ found. IfNone found (UnservedIf (rig_state rig.old).machine.faults facts.old 0)) }
     ensures none_each { IfOk result (λ found. ForEach (rig_state rig.new) (λ told. IfNone found (UnservedIf told facts.old 0))) }
-    ensures loads { LoadsAtMost (rig_state rig.old).machine.faults facts.old (rig_state rig.old).loads (rig_state rig.new).loads 6 }
     ensures loads_each { ForEach (rig_state rig.new) (λ told. LoadsAtMost told facts.old (rig_state rig.old).loads (rig_state
         rig.new).loads 6) }
     ensures advances { Advances (rig_state rig.old) (rig_state rig.new) facts.old facts.new }

@@ -45,8 +45,9 @@ fn child_trunk(
     }
 }
 
-/// A trunk of a node: of the root where no parent is given, and else of a child of the parent, by routes of known wires. Where the
-/// faults are told, there is none only if the node isn't served. Without faults it takes at most 6 loads, and below the root none.
+/// A trunk of a node: of the root where no parent is given, and else of a child of the parent, by routes of known wires. There is none
+/// only if the node isn't served, under any faults that explain the log and for which the parent's crossbar is full. Without faults it
+/// takes at most 6 loads, and below the root none.
 ///
 /// # Errors
 ///
@@ -64,16 +65,13 @@ pub fn find_trunk(
     requires root { IfNone parent (node.0 ≡ 0) }
     requires child { IfSome parent (λ tested. parent_of facts.old.shape node.0 ≡ Some tested.now.node) }
     requires held { IfSome parent (λ tested. IsHeld facts.old known.old tested.now) }
-    requires full { IfSome parent (λ tested. FullIf (rig_state rig.old).machine.faults facts.old facts.old tested.now) }
 
     ensures known { IsKnown facts.new known.new }
     ensures stays { (w : ℕ) → HasWire known.old.steps w → HasWire known.new.steps w }
     ensures held { IfOk result (λ found. IfSome found (λ trunk. IsHeldTrunk facts.new known.new node.0 trunk.left trunk.right)) }
     ensures node { IfOk result (λ found. IfSome found (λ trunk. node_of facts.old.shape trunk.left.end ≡ node.0)) }
-    ensures none { IfOk result (λ found. IfNone found (UnservedIf (rig_state rig.old).machine.faults facts.old node.0)) }
     ensures none_each { IfOk result (λ found. ForEach (rig_state rig.new) (λ told. IfSome parent.entry (λ tested. FullIf told facts.old
         facts.old tested.now) → IfNone found (UnservedIf told facts.old node.0))) }
-    ensures loads { LoadsAtMost (rig_state rig.old).machine.faults facts.old (rig_state rig.old).loads (rig_state rig.new).loads 6 }
     ensures loads_each { ForEach (rig_state rig.new) (λ told. LoadsAtMost told facts.old (rig_state rig.old).loads (rig_state
         rig.new).loads 6) }
     ensures advances { Advances (rig_state rig.old) (rig_state rig.new) facts.old facts.new }

@@ -1,14 +1,13 @@
 -- What a load of hangs leaves.
-use Rattle.std.proofs.Common.{◌≡◌, ◌≢◌, ◌⊎◌, ℕ, zero, suc, ◌+◌, ◌<◌, ◌≤◌, Bool, true, false, ◌&&◌, Option, Result, Ok, Err, Some, List, [], ◌∷◌, length, get_or, refl, sym, ap, ◌∙◌, subst, inl, inr, arith, All, OnOk, OnErr, ◌==◌, map, slice_get}
+use Rattle.std.proofs.Common.{◌≡◌, ◌≢◌, ◌⊎◌, ℕ, zero, suc, ◌+◌, ◌<◌, ◌≤◌, Bool, true, false, ◌&&◌, Result, Ok, Err, Some, List, [], ◌∷◌, length, get_or, refl, sym, ap, ◌∙◌, subst, inl, inr, arith, All, OnOk, OnErr, ◌==◌, map, slice_get}
 use Rattle.std.specs.List.{list_any}
 use Rattle.std.proofs.lemmas.Bool.{false≢true, or_cases, and_parts, or_left, or_right}
 use Rattle.std.proofs.lemmas.Bool.Decides.{nat_tests}
 use Rattle.base_bits.specs.Numbers.{has_number}
 use Rattle.machine_shape.specs.declared.Table.{Table}
-use Rattle.machine_meaning.specs.Faults.{Faults}
 use Rattle.machine_shape.specs.Shape.{crosses_of}
 use Rattle.rig.specs.Rig.{RigState, ForEach}
-use Rattle.diag_evidence.specs.Vocabulary.{Trees, Foot, HasMarked, HasTried, silent, answered, StayMarked, UnfitIf, UnclearIf, is_unfit_in, is_unclear_in, overs, turned, Kept, IsMore}
+use Rattle.diag_evidence.specs.Vocabulary.{Trees, Foot, HasMarked, ShowsTried, StayMarked, UnfitIf, UnclearIf, is_unfit_in, is_unclear_in, overs, turned, Kept, IsMore}
 use Rattle.diag_evidence.specs.declared.hangs.WireTest.{WireTest}
 use Rattle.diag_known.specs.Vocabulary.{IsFieldOf, KnownWires, HasWire}
 use Rattle.diag_known.specs.declared.field.Field.{Field}
@@ -106,23 +105,23 @@ one_unclear a hs of {trees} {rows} {were = were} m w on = by (or_cases (is_uncle
     by (inl new) = inr (wire_of_field a _ w hs of new)
     by (inr old) = inl old
 
-tried_unfit : (a : Field) (hs : List WireTest) → AreOf a hs → {told : Option Faults} {trees : Trees} {before after : ℕ} {k l : Kept} {was is were are : List Bool} → HasTried told trees hs before after k l was is were are → IsNewOf a was is
-tried_unfit a hs of {was = was} {is = is} (silent rows look none once kept same also) = new_same a was is same
-tried_unfit a hs of {was = was} {is = is} (answered rows look some h) = new_then a was h.some is (one_unfit a (map turned hs) (turned_of a hs of) h.first_marks) (one_unfit a hs of h.second_marks)
+tried_unfit : (a : Field) (hs : List WireTest) → AreOf a hs → {trees : Trees} {before after : RigState} {k l : Kept} {was is were are : List Bool} → ShowsTried trees hs before after k l was is were are → IsNewOf a was is
+tried_unfit a hs of {was = was} {is = is} (inl h) = new_same a was is h.unmarked
+tried_unfit a hs of {was = was} {is = is} (inr h) = new_then a was h.some is (one_unfit a (map turned hs) (turned_of a hs of) h.first_marks) (one_unfit a hs of h.second_marks)
 
-tried_unclear : (a : Field) (hs : List WireTest) → AreOf a hs → {told : Option Faults} {trees : Trees} {before after : ℕ} {k l : Kept} {was is were are : List Bool} → HasTried told trees hs before after k l was is were are → IsNewOf a were are
-tried_unclear a hs of {were = were} {are = are} (silent rows look none once kept same also) = new_same a were are also
-tried_unclear a hs of {were = were} {are = are} (answered rows look some h) = new_then a were h.few are (one_unclear a (map turned hs) (turned_of a hs of) h.first_marks) (one_unclear a hs of h.second_marks)
+tried_unclear : (a : Field) (hs : List WireTest) → AreOf a hs → {trees : Trees} {before after : RigState} {k l : Kept} {was is were are : List Bool} → ShowsTried trees hs before after k l was is were are → IsNewOf a were are
+tried_unclear a hs of {were = were} {are = are} (inl h) = new_same a were are h.unmarked_too
+tried_unclear a hs of {were = were} {are = are} (inr h) = new_then a were h.few are (one_unclear a (map turned hs) (turned_of a hs of) h.first_marks) (one_unclear a hs of h.second_marks)
 
-pub unfit_marks : (a : Field) (told : Option Faults) (trees : Trees) (hs : List WireTest) (before after : ℕ) (k l : Kept) (was is were are : List Bool) {T E : Type 0} (r : Result T E) → All (λ h. has_number a.wires h.wire.0 ≡ true) hs → length is ≡ length was → StayMarked was is →
-    OnOk r (HasTried told trees hs before after k l was is were are) → OnErr r (is ≡ was) → MarksSome (λ w. has_number a.wires w ≡ true) was is
-unfit_marks a told trees hs before after k l was is were are (Ok v) of len stay tried same = record { len = len; stays = stay; within = tried_unfit a hs of tried }
-unfit_marks a told trees hs before after k l was is were are (Err e) of len stay tried same = record { len = len; stays = stay; within = new_same a was is same }
+pub unfit_marks : (a : Field) (trees : Trees) (hs : List WireTest) (before after : RigState) (k l : Kept) (was is were are : List Bool) {T E : Type 0} (r : Result T E) → All (λ h. has_number a.wires h.wire.0 ≡ true) hs → length is ≡ length was → StayMarked was is →
+    OnOk r (ShowsTried trees hs before after k l was is were are) → OnErr r (is ≡ was) → MarksSome (λ w. has_number a.wires w ≡ true) was is
+unfit_marks a trees hs before after k l was is were are (Ok v) of len stay tried same = record { len = len; stays = stay; within = tried_unfit a hs of tried }
+unfit_marks a trees hs before after k l was is were are (Err e) of len stay tried same = record { len = len; stays = stay; within = new_same a was is same }
 
-pub unclear_marks : (a : Field) (told : Option Faults) (trees : Trees) (hs : List WireTest) (before after : ℕ) (k l : Kept) (was is were are : List Bool) {T E : Type 0} (r : Result T E) → All (λ h. has_number a.wires h.wire.0 ≡ true) hs → length are ≡ length were → StayMarked were are →
-    OnOk r (HasTried told trees hs before after k l was is were are) → OnErr r (are ≡ were) → MarksSome (λ w. has_number a.wires w ≡ true) were are
-unclear_marks a told trees hs before after k l was is were are (Ok v) of len stay tried same = record { len = len; stays = stay; within = tried_unclear a hs of tried }
-unclear_marks a told trees hs before after k l was is were are (Err e) of len stay tried same = record { len = len; stays = stay; within = new_same a were are same }
+pub unclear_marks : (a : Field) (trees : Trees) (hs : List WireTest) (before after : RigState) (k l : Kept) (was is were are : List Bool) {T E : Type 0} (r : Result T E) → All (λ h. has_number a.wires h.wire.0 ≡ true) hs → length are ≡ length were → StayMarked were are →
+    OnOk r (ShowsTried trees hs before after k l was is were are) → OnErr r (are ≡ were) → MarksSome (λ w. has_number a.wires w ≡ true) were are
+unclear_marks a trees hs before after k l was is were are (Ok v) of len stay tried same = record { len = len; stays = stay; within = tried_unclear a hs of tried }
+unclear_marks a trees hs before after k l was is were are (Err e) of len stay tried same = record { len = len; stays = stay; within = new_same a were are same }
 
 -- a test that marks wires, and was paid for
 pub hang_goes : {now : RigState} {a : Field} {tables : List Table} {k l : Kept} {known : KnownWires} {bad : DefectMarks} {unfit unclear : List Bool} {budget : LoadBudget} {before after : ℕ} (n : ℕ) → IsHand a (in_hand k known bad budget before) → before + n ≤ budget.most → after ≤ before + n → IsMore k l →

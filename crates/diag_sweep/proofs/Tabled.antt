@@ -1,12 +1,11 @@
 -- What a load of tables leaves.
-use Rattle.std.proofs.Common.{◌≡◌, ◌⊎◌, inl, inr, ℕ, suc, ◌≤◌, ◌+◌, Bool, true, false, not, ◌&&◌, Option, Result, Ok, Err, List, [], ◌∷◌, length, refl, sym, ◌∙◌, subst, arith, All, OnOk, OnErr, ◌==◌}
+use Rattle.std.proofs.Common.{◌≡◌, ◌⊎◌, inl, inr, ℕ, suc, ◌≤◌, ◌+◌, Bool, true, false, not, ◌&&◌, Result, Ok, Err, List, [], ◌∷◌, length, refl, sym, ◌∙◌, subst, arith, All, OnOk, OnErr, ◌==◌}
 use Rattle.std.proofs.lemmas.Bool.{false≢true, or_cases, and_parts, or_right}
 use Rattle.std.proofs.lemmas.Bool.Decides.{nat_tests}
 use Rattle.base_bits.specs.Numbers.{has_number}
 use Rattle.machine_shape.specs.declared.Table.{Table}
-use Rattle.machine_meaning.specs.Faults.{Faults}
 use Rattle.rig.specs.Rig.{RigState, ForEach}
-use Rattle.diag_evidence.specs.Vocabulary.{Trees, Kept, Advances, IsMore, HasTabled, WrongIf, is_one_of, is_right_before, output_pin}
+use Rattle.diag_evidence.specs.Vocabulary.{Trees, Kept, Advances, IsMore, ShowsTabled, WrongIf, is_one_of, is_right_before, output_pin}
 use Rattle.diag_evidence.proofs.Keeping.{advances_itself, advances_then}
 use Rattle.diag_known.specs.Known.{KnownWires}
 use Rattle.diag_known.specs.declared.field.Field.{Field}
@@ -29,9 +28,9 @@ given {tables} (a ∷ ts) all t on = by (given ts (λ i d below. all (suc i) d (
     by later (inl here) = subst (HasTable tables) (same here) (all 0 a (omega arith))
     by later (inr more) = later more
 
-pub wrong_marks : (told : Option Faults) (trees : Trees) (tables ts : List Table) (rig : RigState) (k l : Kept) (was is : List Bool) {T E : Type 0} (r : Result T E) → All (λ t. HasTable tables t.0) ts → length is ≡ length was →
-    OnOk r (HasTabled told trees ts rig k l was is) → OnErr r (is ≡ was) → MarksSome (HasTable tables) was is
-wrong_marks told trees tables ts rig k l was is (Ok v) of len tabled same = record {
+pub wrong_marks : (trees : Trees) (tables ts : List Table) (before after : RigState) (k l : Kept) (was is : List Bool) {T E : Type 0} (r : Result T E) → All (λ t. HasTable tables t.0) ts → length is ≡ length was →
+    OnOk r (ShowsTabled trees ts before after k l was is) → OnErr r (is ≡ was) → MarksSome (HasTable tables) was is
+wrong_marks trees tables ts before after k l was is (Ok v) of len tabled same = record {
   len = len;
   stays = λ t on. tabled.marks t ∙ or_right (is_one_of ts t && not (is_right_before tabled.setting tabled.reads tabled.opposite (output_pin trees t) 65)) (has_number was t) on;
   within = λ t on. by t (or_cases (is_one_of ts t && not (is_right_before tabled.setting tabled.reads tabled.opposite (output_pin trees t) 65)) (has_number was t) (sym (tabled.marks t) ∙ on));
@@ -40,7 +39,7 @@ wrong_marks told trees tables ts rig k l was is (Ok v) of len tabled same = reco
     by : (t : ℕ) → ((is_one_of ts t && not (is_right_before tabled.setting tabled.reads tabled.opposite (output_pin trees t) 65)) ≡ true) ⊎ (has_number was t ≡ true) → (has_number was t ≡ true) ⊎ HasTable tables t
     by t (inl new) = inr (given ts of t (and_parts (is_one_of ts t) (not (is_right_before tabled.setting tabled.reads tabled.opposite (output_pin trees t) 65)) new).0)
     by t (inr on) = inl on
-wrong_marks told trees tables ts rig k l was is (Err e) of len tabled same = subst (MarksSome (HasTable tables) was) (sym same) (some_itself (HasTable tables) was)
+wrong_marks trees tables ts before after k l was is (Err e) of len tabled same = subst (MarksSome (HasTable tables) was) (sym same) (some_itself (HasTable tables) was)
 
 pub table_goes : {now : RigState} {a : Field} {k l : Kept} {known : KnownWires} {bad : DefectMarks} {wrong : List Bool} {budget : LoadBudget} {before after : ℕ} (tables : List Table) → IsHand a (in_hand k known bad budget before) → before + 2 ≤ budget.most →
     after ≤ before + 2 → IsMore k l → MarksSome (HasTable tables) bad.wrong wrong → ForEach now (λ told. WrongIf told k bad.wrong → WrongIf told l wrong) →

@@ -1,10 +1,9 @@
 -- What a look leaves in which wires hang over one crosspoint each.
-use Rattle.std.proofs.Common.{◌≡◌, ◌⊎◌, ℕ, suc, Bool, true, false, ◌&&◌, Option, Result, Ok, Err, List, [], ◌∷◌, length, sym, ◌∙◌, subst, inl, inr, arith, All, OnOk, OnErr, ◌==◌, map}
+use Rattle.std.proofs.Common.{◌≡◌, ◌⊎◌, ℕ, suc, Bool, true, false, ◌&&◌, Result, Ok, Err, List, [], ◌∷◌, length, sym, ◌∙◌, subst, inl, inr, arith, All, OnOk, OnErr, ◌==◌, map}
 use Rattle.std.specs.List.{IsDistinct, list_any}
 use Rattle.std.proofs.lemmas.Bool.{false≢true, or_cases, and_parts}
 use Rattle.base_bits.specs.Numbers.{has_number}
-use Rattle.machine_meaning.specs.Faults.{Faults}
-use Rattle.diag_evidence.specs.Vocabulary.{Trees, AreFeet, Foot, HasMarked, HasTold, IsFoot, StayMarked, is_unfit_in, is_unclear_in, pin_at}
+use Rattle.diag_evidence.specs.Vocabulary.{Trees, AreFeet, Foot, HasMarked, IsFoot, StayMarked, is_unfit_in, is_unclear_in, pin_at}
 use Rattle.diag_known.specs.declared.field.Field.{Field}
 use Rattle.diag_sweep.specs.Marks.{MarksSome}
 use Rattle.diag_sweep.proofs.HungOn.{IsNewOf, equal, new_same}
@@ -39,15 +38,15 @@ one_unclear a feet of {trees} {rows} {were = were} m w on = by (or_cases (is_unc
     by (inr old) = inl old
 
 -- new marks are of the field
-pub told_unfit : (a : Field) (told : Option Faults) (trees : Trees) (feet : List Foot) (rows : List (List Bool)) (was is were are : List Bool) {T E : Type 0} (r : Result T E) → All (λ foot. has_number a.wires foot.0.0 ≡ true) feet → length is ≡ length was → StayMarked was is →
-    OnOk r (HasTold told trees feet rows was is were are) → OnErr r (is ≡ was) → MarksSome (λ w. has_number a.wires w ≡ true) was is
-told_unfit a told trees feet rows was is were are (Ok v) of len stay shows same = record { len = len; stays = stay; within = one_unfit a feet of shows.marks }
-told_unfit a told trees feet rows was is were are (Err e) of len stay shows same = record { len = len; stays = stay; within = new_same a was is same }
+pub told_unfit : (a : Field) (trees : Trees) (feet : List Foot) (rows : List (List Bool)) (was is were are : List Bool) {T E : Type 0} (r : Result T E) → All (λ foot. has_number a.wires foot.0.0 ≡ true) feet → length is ≡ length was → StayMarked was is →
+    OnOk r (HasMarked trees feet rows was is were are) → OnErr r (is ≡ was) → MarksSome (λ w. has_number a.wires w ≡ true) was is
+told_unfit a trees feet rows was is were are (Ok v) of len stay shows same = record { len = len; stays = stay; within = one_unfit a feet of shows }
+told_unfit a trees feet rows was is were are (Err e) of len stay shows same = record { len = len; stays = stay; within = new_same a was is same }
 
-pub told_unclear : (a : Field) (told : Option Faults) (trees : Trees) (feet : List Foot) (rows : List (List Bool)) (was is were are : List Bool) {T E : Type 0} (r : Result T E) → All (λ foot. has_number a.wires foot.0.0 ≡ true) feet → length are ≡ length were → StayMarked were are →
-    OnOk r (HasTold told trees feet rows was is were are) → OnErr r (are ≡ were) → MarksSome (λ w. has_number a.wires w ≡ true) were are
-told_unclear a told trees feet rows was is were are (Ok v) of len stay shows same = record { len = len; stays = stay; within = one_unclear a feet of shows.marks }
-told_unclear a told trees feet rows was is were are (Err e) of len stay shows same = record { len = len; stays = stay; within = new_same a were are same }
+pub told_unclear : (a : Field) (trees : Trees) (feet : List Foot) (rows : List (List Bool)) (was is were are : List Bool) {T E : Type 0} (r : Result T E) → All (λ foot. has_number a.wires foot.0.0 ≡ true) feet → length are ≡ length were → StayMarked were are →
+    OnOk r (HasMarked trees feet rows was is were are) → OnErr r (are ≡ were) → MarksSome (λ w. has_number a.wires w ≡ true) were are
+told_unclear a trees feet rows was is were are (Ok v) of len stay shows same = record { len = len; stays = stay; within = one_unclear a feet of shows }
+told_unclear a trees feet rows was is were are (Err e) of len stay shows same = record { len = len; stays = stay; within = new_same a were are same }
 
 -- wires that may be hung together
 pub feet_fit : {trees : Trees} (feet : List Foot) {pins wires : List ℕ} → All (IsFoot trees) feet → pins ≡ map (pin_at trees) feet → IsDistinct (λ a b. a == b) pins → wires ≡ map (λ foot. foot.0.0) feet → IsDistinct (λ a b. a == b) wires → AreFeet trees feet

@@ -14,6 +14,7 @@ mod table_port;
 mod talk;
 mod telling_rig;
 
+use crate::outcome::outcome_over;
 use crate::rigs::faults::sim_of;
 use crate::rigs::late_board::LateBoard;
 use crate::rigs::lost::{Outcome, load_twice};
@@ -21,7 +22,6 @@ use crate::rigs::spoiling::try_spoilt;
 use crate::rigs::steps::{try_answers, try_asks, try_board};
 use crate::rigs::telling_rig::TellingRig;
 use base_io::{FileStore, StdSink};
-use cmd_top::teramac;
 use example_kit::{TINY, words_of};
 use example_rigs::TurnRig;
 use machine_shape::Shape;
@@ -48,29 +48,30 @@ fn tell_lost(rt: &HostRuntime, found: &Outcome) -> io::Result<bool> {
     Ok(true)
 }
 
-// Prints the status of a command.
-fn tell(rt: &HostRuntime, status: u8) -> io::Result<bool> {
+// Does what the words of a command line say over a rig, on the files of the folder. Gives the status, and how often the rig was loaded.
+fn run_over<R: Rig + Drop>(rt: &HostRuntime, rig: R, words: &[String]) -> io::Result<(u8, u64)> {
+    let alloc: Global = rt.alloc();
+    let mut store = FileStore::new(alloc, rt.clone()?);
+    let mut sink = StdSink::new(rt.clone()?);
+    Ok(outcome_over(alloc, words, &mut store, rig, &mut sink)?)
+}
+
+// The same, and prints the status.
+fn tell_over<R: Rig + Drop>(rt: &HostRuntime, rig: R, words: &[String]) -> io::Result<bool> {
+    let (status, _) = run_over(rt, rig, words)?;
     println!(rt; "status {status}")?;
     Ok(true)
 }
 
 // Over a rig that asks again, over one that turns the reading of a number.
 fn try_repeat(rt: &HostRuntime, turned: &str, words: &[String]) -> io::Result<bool> {
-    let alloc: Global = rt.alloc();
     let inner = TurnRig::new(sim_of(rt)?, number_of(turned));
-    let mut rig: Box<dyn Rig> = Box::new(alloc, RepeatRig::new(alloc, inner))?;
-    let mut store = FileStore::new(alloc, rt.clone()?);
-    let mut sink = StdSink::new(rt.clone()?);
-    tell(rt, teramac(alloc, words, &mut store, &mut rig, &mut sink))
+    tell_over(rt, RepeatRig::new(rt.alloc(), inner), words)
 }
 
 // Over a rig that turns the reading of a number.
 fn try_turn(rt: &HostRuntime, turned: &str, words: &[String]) -> io::Result<bool> {
-    let alloc: Global = rt.alloc();
-    let mut rig: Box<dyn Rig> = Box::new(alloc, TurnRig::new(sim_of(rt)?, number_of(turned)))?;
-    let mut store = FileStore::new(alloc, rt.clone()?);
-    let mut sink = StdSink::new(rt.clone()?);
-    tell(rt, teramac(alloc, words, &mut store, &mut rig, &mut sink))
+    tell_over(rt, TurnRig::new(sim_of(rt)?, number_of(turned)), words)
 }
 
 // Over a rig that asks again. False where its inner rig wasn't loaded so often for each load but the last, and once for that.
@@ -78,11 +79,8 @@ fn try_passes(rt: &HostRuntime, times: &str, words: &[String]) -> io::Result<boo
     let alloc: Global = rt.alloc();
     let loads = Rc::new(alloc, Cell::new(0u64))?;
     let inner = TellingRig::new(sim_of(rt)?, loads.clone()?);
-    let mut rig: Box<dyn Rig> = Box::new(alloc, RepeatRig::new(alloc, inner))?;
-    let mut store = FileStore::new(alloc, rt.clone()?);
-    let mut sink = StdSink::new(rt.clone()?);
-    let status = teramac(alloc, words, &mut store, &mut rig, &mut sink);
-    let but_last = rig.loads().saturating_sub(1);
+    let (status, asked) = run_over(rt, RepeatRig::new(alloc, inner), words)?;
+    let but_last = asked.saturating_sub(1);
     let due = but_last.saturating_mul(number_of(times)).saturating_add(1);
     let right = 0 < but_last && loads.get() == due;
     println!(rt; "status {status}, each load but the last was made {times} times: {right}")?;
@@ -93,11 +91,11 @@ fn try_passes(rt: &HostRuntime, times: &str, words: &[String]) -> io::Result<boo
 fn try_twin(rt: &HostRuntime, name: &str, words: &[String]) -> io::Result<bool> {
     let alloc: Global = rt.alloc();
     let name = String::from_str(alloc, name)?;
-    let twin = TwinRig::new(alloc, sim_of(rt)?, sim_of(rt)?, name);
-    let mut rig: Box<dyn Rig> = Box::new(alloc, twin)?;
-    let mut store = FileStore::new(alloc, rt.clone()?);
-    let mut sink = StdSink::new(rt.clone()?);
-    tell(rt, teramac(alloc, words, &mut store, &mut rig, &mut sink))
+    tell_over(
+        rt,
+        TwinRig::new(alloc, sim_of(rt)?, sim_of(rt)?, name),
+        words,
+    )
 }
 
 // Over a machine that is another, of this name, from a load on.
@@ -105,20 +103,17 @@ fn try_late(rt: &HostRuntime, from: &str, name: &str, words: &[String]) -> io::R
     let alloc: Global = rt.alloc();
     let late = String::from_str(alloc, name)?;
     let board = LateBoard::new(alloc, sim_of(rt)?, number_of(from), late);
-    let mut rig: Box<dyn Rig> = Box::new(alloc, BoardRig::new(alloc, board))?;
-    let mut store = FileStore::new(alloc, rt.clone()?);
-    let mut sink = StdSink::new(rt.clone()?);
-    tell(rt, teramac(alloc, words, &mut store, &mut rig, &mut sink))
+    tell_over(rt, BoardRig::new(alloc, board), words)
 }
 
 // Over a machine behind files.
 fn try_port(rt: &HostRuntime, words: &[String]) -> io::Result<bool> {
     let alloc: Global = rt.alloc();
-    let board = FileBoard::new(alloc, rt.clone()?);
-    let mut rig: Box<dyn Rig> = Box::new(alloc, BoardRig::new(alloc, board))?;
-    let mut store = FileStore::new(alloc, rt.clone()?);
-    let mut sink = StdSink::new(rt.clone()?);
-    tell(rt, teramac(alloc, words, &mut store, &mut rig, &mut sink))
+    tell_over(
+        rt,
+        BoardRig::new(alloc, FileBoard::new(alloc, rt.clone()?)),
+        words,
+    )
 }
 
 // Over a simulated rig that answers requests: a machine of the counts of `tiny` behind a port.
@@ -128,10 +123,7 @@ fn try_end(rt: &HostRuntime, words: &[String]) -> io::Result<bool> {
         return Ok(false);
     };
     let board = PortBoard::new(alloc, RigPort::new(alloc, sim_of(rt)?, shape));
-    let mut store = FileStore::new(alloc, rt.clone()?);
-    let mut sink = StdSink::new(rt.clone()?);
-    let mut rig: Box<dyn Rig> = Box::new(alloc, BoardRig::new(alloc, board))?;
-    tell(rt, teramac(alloc, words, &mut store, &mut rig, &mut sink))
+    tell_over(rt, BoardRig::new(alloc, board), words)
 }
 
 // Over a machine behind a port, what is read behind a load that may have been made again.

@@ -1,24 +1,25 @@
 -- Tested crossbars stay as more is kept, and one more is found.
-use Rattle.std.proofs.Common.{All, ◌≡◌, ◌<◌, ◌≤◌, ◌+◌, ℕ, Option, List, [], ◌∷◌, ◌++◌, length, get_or, Some, arith, subst, sym, ap, ◌∙◌, slice_get}
+use Rattle.std.proofs.Common.{All, ◌≡◌, ◌<◌, ◌≤◌, ◌+◌, ℕ, Option, None, Result, Ok, Err, IfOk, IfNone, List, [], ◌∷◌, ◌++◌, length, get_or, Some, arith, subst, sym, ap, ◌∙◌, slice_get}
 use native.Mathlib.Decide.{dec_lt}
 use Rattle.std.proofs.lemmas.List.{get_or_append_left, length-append}
 use Rattle.std.proofs.Math.Seq.{get_or-append_seam}
 use Rattle.machine_shape.specs.declared.Shape.{Shape}
 use Rattle.machine_shape.specs.Vocabulary.{nodes_of, node_of, parent_of, HasParents}
 use Rattle.machine_meaning.specs.Faults.{Faults}
-use Rattle.rig.specs.Rig.{RigState, Machine}
+use Rattle.rig.specs.Rig.{RigState, Narrows, ForEach}
 use Rattle.diag_tests.specs.Routes.{Walk}
-use Rattle.diag_evidence.specs.Kept.{Kept, IsMore, Advances}
+use Rattle.diag_tests.specs.declared.trunk.Trunk.{Trunk}
+use Rattle.diag_evidence.specs.Kept.{Kept, IsMore}
 use Rattle.diag_evidence.proofs.Keeping.{holds_earlier, more_then}
 use Rattle.diag_known.specs.Known.{KnownWires, IsKnown}
 use Rattle.diag_known.specs.declared.verified_wire.VerifiedWire.{VerifiedWire}
-use Rattle.diag_published.specs.Held.{Findings, IsHeld, IsHeldTrunk, FullIf, IsLater}
+use Rattle.diag_published.specs.Held.{Findings, IsHeld, IsHeldTrunk, FullIf, IsLater, UnservedIf}
 use Rattle.diag_published.proofs.Staying.{held_later, full_later}
 use Rattle.example_parts.specs.Found.{IsFoundAt, AreFound}
 
 -- nothing is known and found at first
-pub none_found : (told : Option Faults) (k : Kept) (known : KnownWires) (found : List Findings) → known.shape ≡ k.shape → known.steps ≡ [] → found ≡ [] → AreFound told k known found
-none_found told k known found shape none empty = record {
+pub none_found : (rig : RigState) (k : Kept) (known : KnownWires) (found : List Findings) → known.shape ≡ k.shape → known.steps ≡ [] → found ≡ [] → AreFound rig k known found
+none_found rig k known found shape none empty = record {
   known = record { shape = shape; steps = λ i s here. absurd (at_none i s (subst (λ (ss : List VerifiedWire). slice_get ss i ≡ Some s) none here)) };
   each = λ n d below. absurd (let e = ap (λ (ts : List Findings). length ts) empty in let no : ⊥ = omega (arith, below, e) in no);
 }
@@ -26,18 +27,18 @@ none_found told k known found shape none empty = record {
     at_none : (i : ℕ) (s : VerifiedWire) → slice_get [] i ≡ Some s → ⊥
     at_none i s e = cc
 
--- those found stay as more is kept and known
-pub found_later : {told : Option Faults} {k l : Kept} {old new : KnownWires} {found : List Findings} → IsLater k l old new → IsKnown l new → AreFound told k old found → AreFound told l new found
-found_later {told} {k} {l} {old} {new} {found} later is p = record {
+-- those found stay as more is read, kept and known
+pub found_later : {a b : RigState} {k l : Kept} {old new : KnownWires} {found : List Findings} → Narrows a b → IsLater k l old new → IsKnown l new → AreFound a k old found → AreFound b l new found
+found_later {a} {b} {k} {l} {old} {new} {found} narrows later is p = record {
   known = is;
   each = λ n d below. at n (get_or found n d) (p.each n d below);
 }
   where
-    at : (n : ℕ) (t : Findings) → IsFoundAt told k old n t → IsFoundAt told l new n t
-    at n t a = record {
-      node = a.node;
-      held = held_later later t a.held;
-      full = record { at = λ f told holds. full_later later.kept (a.full.at f told (holds_earlier later.kept holds)) };
+    at : (n : ℕ) (t : Findings) → IsFoundAt a k old n t → IsFoundAt b l new n t
+    at n t was = record {
+      node = was.node;
+      held = held_later later t was.held;
+      full = λ f e. record { at = λ h told holds. full_later later.kept ((was.full f (narrows f e)).at h told (holds_earlier later.kept holds)) };
     }
 
 -- what is full of what was kept before is full of what is kept
@@ -48,30 +49,27 @@ full_now more full = record { at = λ f is holds. full.at f is (holds_earlier mo
 pub later_then : {k l n : Kept} {a b c : KnownWires} → IsLater k l a b → IsLater l n b c → IsLater k n a c
 later_then p q = record { kept = more_then p.kept q.kept; known = λ w h. q.known w (p.known w h) }
 
-pub full_since : {a b : RigState} {k l n : Kept} {t : Findings} → Advances a b k l → FullIf b.machine.faults l n t → FullIf a.machine.faults k n t
-full_since adv full = record { at = λ f told holds. full.at f (ap (λ (m : Machine). m.faults) adv.machine ∙ told) (adv.holds f told holds) }
-
 -- a trunk of the node at which it ends
 pub trunk_at : {k : Kept} {known : KnownWires} {n : ℕ} {left right : Walk} (m : Shape) → k.shape ≡ m → node_of m left.end ≡ n → IsHeldTrunk k known n left right → IsHeldTrunk k known (node_of k.shape left.end) left right
 trunk_at {k} {known} {n} {left} {right} m same e held = subst (λ i. IsHeldTrunk k known i left right) (sym (ap (λ s. node_of s left.end) same ∙ e)) held
 
 -- one more is found
-pub found_next : {told : Option Faults} {k l : Kept} {old new : KnownWires} {found : List Findings} (t : Findings) → IsLater k l old new → IsKnown l new → AreFound told k old found → t.node ≡ length found → IsHeld l new t → FullIf told k l t →
-    AreFound told l new (found ++ t ∷ [])
-found_next {told} {k} {l} {old} {new} {found} t later is p node held full = record {
+pub found_next : {a b : RigState} {k l : Kept} {old new : KnownWires} {found : List Findings} (t : Findings) → Narrows a b → IsLater k l old new → IsKnown l new → AreFound a k old found → t.node ≡ length found → IsHeld l new t →
+    ForEach b (λ told. FullIf told l l t) → AreFound b l new (found ++ t ∷ [])
+found_next {a} {b} {k} {l} {old} {new} {found} t narrows later is p node held full = record {
   known = is;
   each = λ n d below. at n d below (dec_lt n (length found));
 }
   where
-    at : (n : ℕ) (d : Findings) → n < length (found ++ t ∷ []) → Dec (n < length found) → IsFoundAt told l new n (get_or (found ++ t ∷ []) n d)
-    at n d below (yes within) = rw (get_or_append_left found (t ∷ []) d n within) ((found_later later is p).each n d within)
+    at : (n : ℕ) (d : Findings) → n < length (found ++ t ∷ []) → Dec (n < length found) → IsFoundAt b l new n (get_or (found ++ t ∷ []) n d)
+    at n d below (yes within) = rw (get_or_append_left found (t ∷ []) d n within) ((found_later narrows later is p).each n d within)
     at n d below (no past) =
         let last : n ≡ length found = omega (arith, below, past, length-append found (t ∷ [])) in
-        subst (λ i. IsFoundAt told l new i (get_or (found ++ t ∷ []) i d)) (sym last)
-        (rw (get_or-append_seam found t [] d) (record { node = node; held = held; full = full_now later.kept full }))
+        subst (λ i. IsFoundAt b l new i (get_or (found ++ t ∷ []) i d)) (sym last)
+        (rw (get_or-append_seam found t [] d) (record { node = node; held = held; full = full }))
 
 -- all of them are held
-pub all_held : {told : Option Faults} {k : Kept} {known : KnownWires} {found : List Findings} → AreFound told k known found → All (IsHeld k known) found
+pub all_held : {rig : RigState} {k : Kept} {known : KnownWires} {found : List Findings} → AreFound rig k known found → All (IsHeld k known) found
 all_held p = λ n d below. (p.each n d below).held
 
 -- below the root each node of the machine has a node above it, with a smaller number
@@ -81,3 +79,10 @@ has_one_above m n parents below_root within none =
     let before = parents.before n above.0 above.1 in
     let past = none above.0 above.1 in
     omega (arith, before, past)
+
+-- that no trunk is found says of each set of faults with P that the node isn't served
+pub unserved_each : {E : Type 0} {rig : RigState} {k : Kept} {n : ℕ} (P : Option Faults → Type 0) (r : Result (Option Trunk) E) → IfOk r (λ found. ForEach rig (λ told. P told → IfNone found (UnservedIf told k n))) → ForEach rig P →
+    IfOk r (λ found. IfNone found (ForEach rig (λ told. UnservedIf told k n)))
+unserved_each P (Ok None) h p = λ f e. h f e (p f e)
+unserved_each P (Ok (Some t)) h p = tt
+unserved_each P (Err x) h p = tt

@@ -34,6 +34,9 @@ pub row-fits : (n k w from size : ℕ) → k < n → from ≡ k * w → size ≡
 row-fits n k w from size lt is all =
     subst (λ (t : ℕ). t + w ≤ size) (sym is) (subst (λ (t : ℕ). k * w + w ≤ t) (sym all) (one-fits n k w lt))
 
+pub row-within : (n k w from size : ℕ) → k < n → from ≡ k * w → n * w ≤ size → from + w ≤ size
+row-within n k w from size lt is le = let first = row-fits n k w from (n * w) lt is refl in omega (arith, first, le)
+
 pub rows-fit : (n k w size : ℕ) → n ≤ k → size ≡ k * w → n * w ≤ size
 rows-fit n k w size le all = subst (λ (t : ℕ). n * w ≤ t) (sym all) (mul-le-mul_right w le)
 

@@ -10,6 +10,7 @@ pub mod WrongWords
 -- For the proofs of this crate alone.
 mod Vectors
 mod BatchLemmas
+mod Together
 mod ImageLemmas
 mod RowLemmas
 mod CycleLemmas

@@ -1,10 +1,9 @@
 -- How the rows of an image go on, and how they stop.
-use Rattle.std.proofs.Common.{◌≡◌, ◌⊎◌, ℕ, zero, suc, ◌+◌, ◌-◌, ◌<◌, ◌≤◌, ◌==◌, Bool, true, false, List, [], ◌∷◌, ◌++◌, length, map, take, drop, flat_map, min, Some, arith, refl, sym, ap, subst, inl, inr, ◌∙◌, append-nil, append_assoc, length-append, if◌then◌else◌, option_map, OnOk, IfErr, Result, Ok, Err}
+use Rattle.std.proofs.Common.{◌≡◌, ◌⊎◌, ℕ, zero, suc, ◌+◌, ◌-◌, ◌<◌, ◌≤◌, Bool, false, List, [], ◌∷◌, ◌++◌, length, map, take, drop, flat_map, Some, arith, refl, sym, ap, subst, inl, inr, ◌∙◌, append-nil, append_assoc, length-append, option_map, OnOk, IfErr, Result, Ok, Err}
 use Rattle.std.specs.List.{All, AllByRecursion}
 use Rattle.std.proofs.lemmas.List.{get_or_append_left, length-map, map-append, take-append-drop, take-map, length-take-le}
 use Rattle.std.proofs.Math.Seq.{take-append_seam}
 use Rattle.std.proofs.lemmas.List.Elements.{All-append}
-use Rattle.std.proofs.lemmas.Bool.{eqb-true}
 use Rattle.base_io.specs.Sink.{SinkState}
 use Rattle.base_io.specs.Store.{StoreState}
 use Rattle.base_io.specs.Told.{Told}
@@ -19,6 +18,7 @@ use Rattle.run_image.specs.Pins.{pins_in}
 use Rattle.run_image.specs.Run.{RunsRows}
 use Rattle.run_image.proofs.BatchLemmas.{rows-fit, rows-wide}
 use Rattle.run_image.proofs.Copied.{repeated-both, repeated-cons, repeated-map, repeated-count, repeated-none, AllShared, all_alike, first_apart, all-shared}
+use Rattle.run_image.proofs.CycleLemmas.{together-within, few-together}
 use Rattle.run_image.proofs.Driving.{HasDriven, driven-start, driven-all, run-less, explained-run}
 use Rattle.design_vectors.specs.declared.vectors.VectorsFail.{VectorsFail}
 use Rattle.design_vectors.specs.declared.vectors.VectorsFail.TheVariants.{Text, Failed}
@@ -222,21 +222,6 @@ IsDriving-start rows o loaded begun = record {
   driven = subst (λ (none : List (List Bool)). HasDriven most_rows rows.image none none o.rig) (sym (repeated-none rows.copies)) (driven-start most_rows rows.image o.rig loaded.begins);
 }
 
--- how many are driven together is one, or within the room
-together-within : (left count : ℕ) → count ≤ together_of left → ((left ≡ 0) × (count ≤ 1)) ⊎ (count ≤ left)
-together-within left count le = by (left == 0) refl le
-  where
-    by : (none : Bool) → (left == 0) ≡ none → count ≤ (if none then 1 else min left most_together) → ((left ≡ 0) × (count ≤ 1)) ⊎ (count ≤ left)
-    by true is few = inl (eqb-true left 0 is, few)
-    by false is few = inr (omega (arith, few))
-
-pub few-together : (left count : ℕ) → count ≤ together_of left → count ≤ most_together
-few-together left count le = by (left == 0) le
-  where
-    by : (none : Bool) → count ≤ (if none then 1 else min left most_together) → count ≤ most_together
-    by true few = omega (arith, few)
-    by false few = omega (arith, few)
-
 module _ (copies : Copies) (image : ImageValue) (failures : ℕ) (begun : Outside) (few : failures ≤ begun.rig.failures) where
   abbrev width : ℕ
   width = share copies (length image.inputs)
@@ -340,7 +325,9 @@ module _ (copies : Copies) (image : ImageValue) (failures : ℕ) (begun : Outsid
 
         pub sending-stops : {U : Type 0} → Rose now.rig.failures rig.failures → Ends {U = U} (Err (Refused refused.Rig)) last
         sending-stops rose =
-            let prompt = prompt-now width begun.store now.store store rows.vectors so_far.vectors (length so_far.done) (length so_far.done) (all-put left out).taking ends.asked (all-put left out).prompt (omega arith) are-all in
+            let put = all-put left out in
+            let few_put = put-few width begun rows.vectors left put_now so_far.vectors so_far.done put in
+            let prompt = prompt-now width begun.store now.store store rows.vectors so_far.vectors (length put.put) (length so_far.done) put.taking ends.asked put.prompt few_put are-all in
             let all = taken-all width begun.store now.store store rows.vectors reading [] so_far.vectors so_far.written.taking ends.next in
             let near : IsNearEnd width (file_of begun.store) store.current (length so_far.done) =
             subst (λ (n : ℕ). IsNearEnd width (file_of begun.store) store.current n) (sym so_far.count) (taken-near-end width begun.store now.store store rows.vectors reading so_far.vectors so_far.written.taking all ends.moves) in
@@ -349,8 +336,8 @@ module _ (copies : Copies) (image : ImageValue) (failures : ℕ) (begun : Outsid
             (Err (Refused refused.Rig)) (flat_map row_line so_far.done, (has-rows (work last) begun put_now last rows.vectors left so_far.vectors so_far.done (all-put left out) later-last stays.asked refl refl (SameRig last) same-last so_far.vectors first-of-file (are-rows rig narrows) prompt, near), wrote) rose
 
         pub ends-so : {U : Type 0} (result : Result U Stop) (rows1 : Running) → IsSameRun rows rows1 → OnOk result (EndsSent rows1 now.rig rig) → IfErr result (λ stop. (stop ≡ Refused refused.Rig) × Rose now.rig.failures rig.failures) → Ends result last
-        ends-so (Ok x) rows1 same sent stops = file-ends x (subst (λ (i : ImageValue). (rig ≡ now.rig) ⊎ RunsRows (pins_in i) now.rig rig [] []) same.image sent)
-        ends-so (Err stop) rows1 same sent stops = subst (λ (s : Stop). Ends (Err s) last) (sym stops.0) (sending-stops stops.1)
+        ends-so {U} (Ok x) rows1 same sent stops = file-ends x (subst (λ (i : ImageValue). (rig ≡ now.rig) ⊎ RunsRows (pins_in i) now.rig rig [] []) same.image sent)
+        ends-so {U} (Err stop) rows1 same sent stops = subst (λ (s : Stop). Ends {U = U} (Err s) last) (sym stops.0) (sending-stops stops.1)
 
     pub pins-are : (rows1 : Running) → IsSameRun rows rows1 → width_of now.rig ≡ Some (pins_of rows1.image.config.shape)
     pins-are rows1 same =
@@ -639,7 +626,7 @@ module _ (copies : Copies) (image : ImageValue) (failures : ℕ) (begun : Outsid
 
             row-stops : {U : Type 0} (stop : Stop) (between : SinkState) (waiting left : List ℕ) (made : List (List Bool)) (reading : List Bool) (rest : List (List Bool)) → AreWritten width begun rows1.vectors waiting (outside store rig between) (so_far.vectors ++ vs) (so_far.done ++ made)
                 → readings ≡ all_repeated copies made ++ reading ∷ rest → AddStops stop copies reading waiting left between last → Ends {U = U} (Err stop) now2
-            row-stops stop between waiting left made reading rest written reads (inr h) = by (all-shared copies (share copies (length image.outputs)) rest wide-rest)
+            row-stops {U} stop between waiting left made reading rest written reads (inr h) = by (all-shared copies (share copies (length image.outputs)) rest wide-rest)
               where
                 row : List Bool
                 row = h.0
@@ -670,7 +657,7 @@ module _ (copies : Copies) (image : ImageValue) (failures : ℕ) (begun : Outsid
                     reads ∙ (ap (λ (t : List (List Bool)). all_repeated copies made ++ t) behind ∙ (sym (append_assoc (all_repeated copies made) (all_repeated copies (h.0 ∷ more)) tail)
                     ∙ ap (λ (t : List (List Bool)). t ++ tail) (sym (repeated-both copies made (h.0 ∷ more)))))
 
-                by : AllShared copies rest → Ends (Err stop) now2
+                by : AllShared copies rest → Ends {U = U} (Err stop) now2
                 by (all_alike more are) =
                     let plain : rest ≡ all_repeated copies more ++ [] = are ∙ sym (append-nil (all_repeated copies more)) in
                     alike-held stop between (waiting ++ row_line h.0) ((so_far.done ++ made) ++ h.0 ∷ []) more (made ++ h.0 ∷ more) with-it (regroup more)
@@ -678,11 +665,11 @@ module _ (copies : Copies) (image : ImageValue) (failures : ℕ) (begun : Outsid
                 by (first_apart more other behind are is_apart) =
                     apart-held stop between (waiting ++ row_line h.0) ((so_far.done ++ made) ++ h.0 ∷ []) more (made ++ h.0 ∷ more) other behind with-it (regroup more)
                     (reads-on more (other ∷ behind) are) is_apart held
-            row-stops (Sink fail) between waiting left made reading rest written reads (inl stops) =
+            row-stops {U} (Sink fail) between waiting left made reading rest written reads (inl stops) =
                 apart-held (Sink fail) between waiting (so_far.done ++ made) [] made reading rest written (sym (append-nil (so_far.done ++ made))) reads stops.1 (stops.0 store)
-            row-stops (Refused refused.Differ) between waiting left made reading rest written reads (inl stops) =
+            row-stops {U} (Refused refused.Differ) between waiting left made reading rest written reads (inl stops) =
                 apart-put between waiting left made reading rest written reads stops.1 stops.0
-            row-stops (Refused refusal) between waiting left made reading rest written reads (inl stops) = absurd stops
+            row-stops {U} (Refused refusal) between waiting left made reading rest written reads (inl stops) = absurd stops
 
             adds-stop : {U : Type 0} (stop : Stop) (left : List ℕ) → AddsStop stop rows1.copies readings rows1.block.text left sink last → Ends {U = U} (Err stop) now2
             adds-stop stop left stops =

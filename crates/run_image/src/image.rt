@@ -1,11 +1,11 @@
 //! The rows of an image.
-ghost use Rattle.std.specs.Prelude.{◌≡◌, ◌+◌, ◌-◌, ◌*◌, ◌≤◌, ℕ, List, ◌∷◌, ◌++◌, [], Some, OnOk, IfOk, IfErr, IsSome, length, take, drop};
+ghost use Rattle.std.specs.Prelude.{◌≡◌, ◌+◌, ◌-◌, ◌*◌, ◌≤◌, ℕ, List, ◌∷◌, ◌++◌, [], true, false, Some, OnOk, IfOk, IfErr, IsSome, length, take, drop};
 ghost use Rattle.run_image.specs.Copying.{repeated, share, AreEqualShares};
 ghost use Rattle.base_io.specs.Counts.{Rose};
 ghost use Rattle.machine_shape.specs.Shape.{pins_of};
 ghost use Rattle.rig.specs.Rig.{Narrows, Tells, CyclesFail};
 ghost use Rattle.run_image.specs.Batches.{most_together};
-ghost use Rattle.design_vectors.specs.Readings.{new_reading};
+ghost use Rattle.design_vectors.specs.Readings.{new_reading, GivesUnread};
 ghost use Rattle.design_vectors.specs.Rows.{row_line};
 ghost use Rattle.cmd_steps.specs.Vocabulary.{IsBegun, file_of, StoreState, SinkState, shape_of, width_of, StandsIn, outside, around, Took};
 ghost use Rattle.cmd_steps.specs.Vocabulary.{Follows, all_rows, most_vector_bytes, WaitsOrPuts, NextStops, StaysOpen};
@@ -171,6 +171,7 @@ fn take_bits(all: &[bool], from: usize, bits: &mut [bool]) -> usize
     requires { from + length bits.old ≤ length all.now }
     ensures place { result ≡ from + length bits.old }
     ensures bits { bits.new ≡ take (length bits.old) (drop from all.now) }
+    ensures length { length bits.new ≡ length bits.old }
 {
     let end = from + bits.len();
     bits.copy_from_slice(&all[from..end]);
@@ -203,6 +204,19 @@ fn keep_drive(rows: &mut Running, from: usize) -> usize
     put_bits(&rows.drive, &mut rows.drives, from)
 }
 
+// Reads the next vector where it was read from the store already. False leaves the reading as it was.
+fn take_unread(rows: &mut Running) -> bool
+    requires { IsFitting rows.old }
+    ensures same { IsSameRun rows.old rows.new }
+    ensures fits { IsFitting rows.new }
+    ensures block { rows.new.block ≡ rows.old.block }
+    ensures drives { rows.new.drives ≡ rows.old.drives }
+    ensures gives { result ≡ true → GivesUnread rows.new.vector.items rows.old.vectors rows.new.vectors }
+    ensures none { result ≡ false → rows.new.vectors ≡ rows.old.vectors }
+{
+    rows.vectors.next_unread(&mut rows.vector)
+}
+
 // Reads the vectors behind one that was read and kept, as far as they were read from the store with it. How many there are with it.
 fn read_on(rows: &mut Running) -> usize
     requires fits { IsFitting rows.old }
@@ -216,7 +230,7 @@ fn read_on(rows: &mut Running) -> usize
     let most = most_of(rows.left);
     let mut end = rows.drive.len();
     'vectors: for k in 1..most {
-        if !rows.vectors.next_unread(&mut rows.vector) {
+        if !take_unread(rows) {
             return k;
         }
         end = keep_drive(rows, end);
@@ -277,15 +291,7 @@ fn drive_rows(rows: &mut Running, count: usize, rig: &mut Box<dyn Rig>) -> Resul
     ensures rows { OnOk result (DrivesTo count rows.old (readings_in count rows.new) (rig_state rig.old) (rig_state rig.new)) }
     ensures refused { IfErr result (λ e. CyclesFail e count (rig_state rig.old) (rig_state rig.new)) }
 {
-    let driven = count * rows.drive.len();
-    let read = count * rows.reading.len();
-    let made = rows.run.rows(
-        rig,
-        count,
-        &rows.drives[..driven],
-        &mut rows.readings[..read],
-    );
-    match made {
+    match rows.run.rows(rig, count, &rows.drives, &mut rows.readings) {
         Ok(()) => {
             rows.left = rows.left.saturating_sub(count as u32);
             Ok(())
@@ -327,6 +333,21 @@ fn add_row<K: Sink>(rows: &mut Running, sink: &mut K) -> Result<(), Stop>
     rows.block.add(&rows.row, sink)
 }
 
+// Takes the reading of one of the cycles, and says where the next one begins.
+fn take_reading(rows: &mut Running, from: usize) -> usize
+    requires fits { IsFitting rows.old }
+    requires room { from + length rows.old.image.outputs ≤ length rows.old.readings.items }
+    ensures same { IsSameRun rows.old rows.new }
+    ensures fits { IsFitting rows.new }
+    ensures readings { rows.new.readings ≡ rows.old.readings }
+    ensures vectors { rows.new.vectors ≡ rows.old.vectors }
+    ensures block { rows.new.block ≡ rows.old.block }
+    ensures place { result ≡ from + length rows.old.image.outputs }
+    ensures reading { rows.new.reading.items ≡ take (length rows.old.image.outputs) (drop from rows.old.readings.items) }
+{
+    take_bits(&rows.readings, from, &mut rows.reading)
+}
+
 // Compares what the copies read in one of the cycles, and lets its row wait. Says where the next reading begins.
 fn next_row<K: Sink>(rows: &mut Running, from: usize, sink: &mut K) -> Result<usize, Stop>
     requires fits { IsFitting rows.old }
@@ -344,7 +365,7 @@ fn next_row<K: Sink>(rows: &mut Running, from: usize, sink: &mut K) -> Result<us
         IfErr result (λ stop. AddStops stop rows.old.copies reading rows.old.block.text rows.new.block.text
         (K.sink_state sink.old) (K.sink_state sink.new)) }
 {
-    let end = take_bits(&rows.readings, from, &mut rows.reading);
+    let end = take_reading(rows, from);
     compare_row(rows, sink)?;
     add_row(rows, sink)?;
     Ok(end)

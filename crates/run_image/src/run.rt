@@ -1,12 +1,12 @@
 //! Runs of images.
 ghost use Rattle.std.specs.Prelude.{◌≡◌, ◌+◌, ◌*◌, ◌^◌, ◌++◌, ◌≤◌, ◌<◌, Some, length, map, take, flat_map, IfOk, IfErr, OnOk};
-ghost use Rattle.std.specs.Prelude.{OnErr, All, AllPairs};
+ghost use Rattle.std.specs.Prelude.{OnErr, All, AllPairs, IsSome};
 ghost use Rattle.std.specs.Prelude.{◌≢◌};
 ghost use Rattle.base_io.specs.Counts.{next_count};
 ghost use Rattle.machine_shape.specs.Shape.{pins_of};
 ghost use Rattle.machine_image.specs.Images.{drive_on, row_at};
-ghost use Rattle.rig.specs.Rig.{shape_of, width_of, HasFaultsOf, Narrows, Tells, Begins, LoadFails, CycleFails, CyclesFail};
-ghost use Rattle.run_image.specs.Batches.{most_together, rows_in};
+ghost use Rattle.rig.specs.Rig.{shape_of, width_of, HasFaultsOf, AreRows, KeepLengths, GoesOnBy, Narrows, Tells, Begins, LoadFails, CycleFails, CyclesFail};
+ghost use Rattle.run_image.specs.Batches.{most_together, rows_in, HaveRows};
 ghost use Rattle.run_image.specs.Driven.{driven};
 ghost use Rattle.run_image.specs.Run.{RunsRow, RunsRows, EndsOrKeeps};
 
@@ -148,23 +148,31 @@ fn put_over(drive: &mut PinBits, other: &PinBits, pins: &[u32], vector: &[bool])
     requires wide { length drive.old ≡ length other.now }
     requires same { length vector.now ≡ length pins.now }
     requires below { All (λ k. k < length other.now) pins.now }
-    ensures { drive.new ≡ driven pins.now vector.now other.now }
+    ensures driven { drive.new ≡ driven pins.now vector.now other.now }
+    ensures wide { length drive.new ≡ length other.now }
 {
     drive.copy_from(other);
     set_pins(drive, pins, vector);
 }
 
-// Drives vectors that stand one behind the other, each on these pins, over what another drive has.
-fn put_vectors(drives: &mut [PinBits], other: &PinBits, pins: &[u32], vectors: &[bool])
-    requires wide { All (λ drive. length drive ≡ length other.now) drives.old }
+// Drives so many vectors, the first of those that stand one behind the other, each on these pins, over what another drive has.
+fn put_vectors(
+    drives: &mut [PinBits],
+    count: usize,
+    other: &PinBits,
+    pins: &[u32],
+    vectors: &[bool],
+)
+    requires rows { HaveRows (length other.now) drives.old }
+    requires few { count ≤ most_together }
     requires below { All (λ k. k < length other.now) pins.now }
-    requires many { length vectors.now ≡ length drives.old * length pins.now }
-    ensures driven { drives.new ≡ map (λ v. driven pins.now v other.now) (rows_in (length drives.old) (length pins.now) vectors.now) }
-    ensures wide { All (λ drive. length drive ≡ length other.now) drives.new }
+    requires many { count * length pins.now ≤ length vectors.now }
+    ensures rows { HaveRows (length other.now) drives.new }
+    ensures driven { take count drives.new ≡ map (λ v. driven pins.now v other.now) (rows_in count (length pins.now) vectors.now) }
 {
     let width = pins.len();
     let mut from = 0;
-    'rows: for k in 0..drives.len() {
+    'rows: for k in 0..count {
         let to = from + width;
         put_over(&mut drives[k], other, pins, &vectors[from..to]);
         from = to;
@@ -185,16 +193,44 @@ fn put_pins(read: &PinBits, pins: &[u32], out: &mut [bool], from: usize) -> usiz
     from + pins.len()
 }
 
-// What these pins read, one row behind the other.
-fn read_rows(reads: &[PinBits], pins: &[u32], outs: &mut [bool])
-    requires room { length outs.old ≡ length reads.now * length pins.now }
+// Puts what these pins read in so many rows one behind the other.
+fn read_rows(reads: &[PinBits], count: usize, pins: &[u32], outs: &mut [bool])
+    requires few { count ≤ length reads.now }
+    requires room { count * length pins.now ≤ length outs.old }
     requires below { All (λ read. All (λ k. k < length read) pins.now) reads.now }
-    ensures rows { outs.new ≡ flat_map (row_at pins.now) reads.now }
+    ensures rows { take (count * length pins.now) outs.new ≡ flat_map (row_at pins.now) (take count reads.now) }
+    ensures length { length outs.new ≡ length outs.old }
 {
     let mut from = 0;
-    'rows: for k in 0..reads.len() {
+    'rows: for k in 0..count {
         from = put_pins(&reads[k], pins, outs, from);
     }
+}
+
+// Makes so many cycles, by the first of these drives, and reads into the first of these rows.
+fn cycle_first(
+    rig: &mut Box<dyn Rig>,
+    count: usize,
+    drives: &[PinBits],
+    reads: &mut [PinBits],
+) -> Result<(), RigFail>
+    requires session { IsSome (rig_state rig.old).session }
+    requires few { count ≤ length drives.now }
+    requires room { count ≤ length reads.old }
+    requires drives { AreRows (rig_state rig.old) drives.now }
+    requires reads { AreRows (rig_state rig.old) reads.old }
+
+    ensures machine { (rig_state rig.new).machine ≡ (rig_state rig.old).machine }
+    ensures narrows { Narrows (rig_state rig.old) (rig_state rig.new) }
+    ensures tells { Tells (rig_state rig.old) (rig_state rig.new) }
+    ensures loads { (rig_state rig.new).loads ≡ (rig_state rig.old).loads }
+    ensures later { (rig_state rig.old).failures ≤ (rig_state rig.new).failures }
+    ensures count { (rig_state rig.new).failures < 2 ^ 64 }
+    ensures lengths { KeepLengths reads.old reads.new }
+    ensures cycles { OnOk result (GoesOnBy (take count drives.now) (take count reads.new) (rig_state rig.old) (rig_state rig.new)) }
+    ensures refused { IfErr result (λ e. CyclesFail e count (rig_state rig.old) (rig_state rig.new)) }
+{
+    cycles(rig, &drives[..count], &mut reads[..count])
 }
 
 // What these pins read.
@@ -248,8 +284,9 @@ impl Run {
         }
     }
 
-    /// What so many Ok of [`Run::row`] in a row are, for vectors that stand one behind the other, from none to 128: the rig is asked
-    /// for their cycles at once. The rows stand one behind the other in `outs`. Takes no memory of its own.
+    /// What so many Ok of [`Run::row`] in a row are, from none to 128: the rig is asked for their cycles at once. The vectors stand one
+    /// behind the other at the front of `vectors`, and so do their rows in `outs`; bits behind them aren't looked at. Takes no memory
+    /// of its own.
     ///
     /// Its refusals are those of these cycles: after `Failed` the rig's count of failures rose and there is no session, and `Memory`
     /// comes only where the session has room for fewer, and leaves it as it was. After a refusal `outs` is as it was.
@@ -262,8 +299,8 @@ impl Run {
     ) -> Result<(), RigFail>
         requires few { count ≤ most_together }
         requires pins { width_of (rig_state rig.old) ≡ Some self.old.pins }
-        requires vectors { length vectors.now ≡ count * length self.old.inputs }
-        requires outs { length outs.old ≡ count * length self.old.outputs }
+        requires vectors { count * length self.old.inputs ≤ length vectors.now }
+        requires outs { count * length self.old.outputs ≤ length outs.old }
 
         ensures same { self.new ≡ self.old }
         ensures machine { (rig_state rig.new).machine ≡ (rig_state rig.old).machine }
@@ -279,15 +316,10 @@ impl Run {
         ensures refused { IfErr result (λ e. CyclesFail e count (rig_state rig.old) (rig_state rig.new)) }
     {
         self.drive.release_all();
-        put_vectors(
-            &mut self.drives[..count],
-            &self.drive,
-            &self.inputs,
-            vectors,
-        );
-        match cycles(rig, &self.drives[..count], &mut self.reads[..count]) {
+        put_vectors(&mut self.drives, count, &self.drive, &self.inputs, vectors);
+        match cycle_first(rig, count, &self.drives, &mut self.reads) {
             Ok(()) => {
-                read_rows(&self.reads[..count], &self.outputs, outs);
+                read_rows(&self.reads, count, &self.outputs, outs);
                 Ok(())
             }
             Err(fail) => Err(fail),

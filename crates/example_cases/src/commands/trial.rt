@@ -1,12 +1,12 @@
 //! A command over files, a rig and a sink in memory.
 
 use crate::commands::step::Call;
+use crate::outcome::{First, outcome_again, outcome_over};
 use base_io::{CutSink, File, MemorySink, MemoryStore, Sink};
 use cmd_map::teramac_map;
-use cmd_top::teramac;
 use example_kit::{Fails, TINY, Turn};
 use machine_shape::Shape;
-use rig::{FlakyRig, LogRig, Rig};
+use rig::{FlakyRig, LogRig};
 use rig_board::BoardRig;
 use rig_port::{PortBoard, RigPort};
 use rig_simulated::SimRig;
@@ -104,12 +104,16 @@ fn end_over_port<K: Sink>(
     let Ok(shape) = Shape::new(TINY) else {
         return Ok((NO_MACHINE, 0));
     };
+    let mut store = store_of(alloc, given, manner.fails, manner.piece)?;
     let sim = sim_of(alloc, given.faults, manner.fails)?;
     let board = PortBoard::new(alloc, RigPort::new(alloc, sim, shape));
-    let mut rig: Box<dyn Rig> = Box::new(alloc, BoardRig::new(alloc, board))?;
-    let mut store = store_of(alloc, given, manner.fails, manner.piece)?;
-    let status = teramac(alloc, manner.words, &mut store, &mut rig, sink);
-    Ok((status, rig.loads()))
+    outcome_over(
+        alloc,
+        manner.words,
+        &mut store,
+        BoardRig::new(alloc, board),
+        sink,
+    )
 }
 
 // The status of a command over a sink, and by how much the loads rose. Where it doesn't end as it should have before, that
@@ -120,27 +124,22 @@ fn end_over<K: Sink>(
     given: &Given<'_>,
     sink: &mut K,
 ) -> Result<(u8, u64), AllocError> {
+    let mut store = store_of(alloc, given, manner.fails, manner.piece)?;
     match manner.call {
-        Call::Mapper => {
-            let mut store = store_of(alloc, given, manner.fails, manner.piece)?;
-            return Ok((teramac_map(alloc, manner.words, &mut store, sink), 0));
-        }
+        Call::Mapper => return Ok((teramac_map(alloc, manner.words, &mut store, sink), 0)),
         Call::Port => return end_over_port(alloc, manner, given, sink),
         Call::Commands => {}
     }
-    let sim = flaky_of(alloc, given.faults, manner.fails)?;
-    let mut rig: Box<dyn Rig> = Box::new(alloc, LogRig::new(sim))?;
-    if let Some(before) = manner.before {
-        let mut store = store_of(alloc, given, manner.fails, manner.piece)?;
-        let mut first = MemorySink::new(alloc, Vec::new(alloc));
-        let status = teramac(alloc, manner.words, &mut store, &mut rig, &mut first);
-        if status != before {
-            return Ok((status, rig.loads()));
-        }
-    }
-    let mut store = store_of(alloc, given, manner.fails, manner.piece)?;
-    let status = teramac(alloc, manner.words, &mut store, &mut rig, sink);
-    Ok((status, rig.loads()))
+    let rig = LogRig::new(flaky_of(alloc, given.faults, manner.fails)?);
+    let Some(status) = manner.before else {
+        return outcome_over(alloc, manner.words, &mut store, rig, sink);
+    };
+    let mut before = store_of(alloc, given, manner.fails, manner.piece)?;
+    let first = First {
+        store: &mut before,
+        status,
+    };
+    outcome_again(alloc, manner.words, first, &mut store, rig, sink)
 }
 
 /// Does a command, and tells what came of it.

@@ -151,9 +151,9 @@ fn next(
     words: &[String],
 ) -> Result<Option<String>, AllocError>
     requires attached { shape_of (rig_state rig.old) ≡ Some facts.old.shape }
-    requires found { AreFound (rig_state rig.old).machine.faults facts.old walk.old.known walk.old.found.items }
+    requires found { AreFound (rig_state rig.old) facts.old walk.old.known walk.old.found.items }
     ensures advances { Advances (rig_state rig.old) (rig_state rig.new) facts.old facts.new }
-    ensures found { AreFound (rig_state rig.old).machine.faults facts.new walk.new.known walk.new.found.items }
+    ensures found { AreFound (rig_state rig.new) facts.new walk.new.known walk.new.found.items }
 {
     tests_add_up();
     let [node] = words else {
@@ -194,9 +194,9 @@ fn came_of(
     words: &[String],
 ) -> Result<Option<String>, AllocError>
     requires attached { shape_of (rig_state rig.old) ≡ Some facts.old.shape }
-    requires found { AreFound (rig_state rig.old).machine.faults facts.old walk.old.known walk.old.found.items }
+    requires found { AreFound (rig_state rig.old) facts.old walk.old.known walk.old.found.items }
     ensures advances { Advances (rig_state rig.old) (rig_state rig.new) facts.old facts.new }
-    ensures found { AreFound (rig_state rig.old).machine.faults facts.new walk.new.known walk.new.found.items }
+    ensures found { AreFound (rig_state rig.new) facts.new walk.new.known walk.new.found.items }
 {
     tests_add_up();
     let [key, words @ ..] = words else {

@@ -3,7 +3,7 @@ ghost use Rattle.std.specs.Prelude.{◌≡◌, ◌<◌, ◌≤◌, ◌+◌, ◌+
 ghost use Rattle.std.specs.Prelude.{OnErr, All, IsTrue, false, length};
 ghost use Rattle.base_io.specs.Counts.{Rose};
 ghost use Rattle.machine_shape.specs.Shape.{node_of, nodes_of, parent_of, wires_of};
-ghost use Rattle.rig.specs.Rig.{shape_of};
+ghost use Rattle.rig.specs.Rig.{ForEach, shape_of};
 ghost use Rattle.rig.specs.declared.rig.RigFail.TheVariants as work;
 ghost use Rattle.diag_evidence.specs.Kept.{Advances};
 ghost use Rattle.diag_known.specs.Known.{HasWire, IsKnown};
@@ -72,7 +72,7 @@ fn next_trunk(
     node: Node,
 ) -> Result<Option<Trunk>, RigFail>
     requires attached { shape_of (rig_state rig.old) ≡ Some facts.old.shape }
-    requires found { AreFound (rig_state rig.old).machine.faults facts.old walk.old.known walk.old.found.items }
+    requires found { AreFound (rig_state rig.old) facts.old walk.old.known walk.old.found.items }
 
     ensures known { IsKnown facts.new walk.new.known }
     ensures stays { (w : ℕ) → HasWire walk.old.known.steps w → HasWire walk.new.known.steps w }
@@ -80,7 +80,7 @@ fn next_trunk(
     ensures held { IfOk result (λ found. IfSome found (λ t. IsHeldTrunk facts.new walk.new.known node.0 t.left t.right)) }
     ensures node { IfOk result (λ found. IfSome found (λ t. node_of facts.old.shape t.left.end ≡ node.0)) }
     ensures none { node.0 ≡ length walk.old.found.items → node.0 < nodes_of facts.old.shape →
-        IfOk result (λ found. IfNone found (UnservedIf (rig_state rig.old).machine.faults facts.old node.0)) }
+        IfOk result (λ found. IfNone found (ForEach (rig_state rig.new) (λ told. UnservedIf told facts.old node.0))) }
     ensures advances { Advances (rig_state rig.old) (rig_state rig.new) facts.old facts.new }
     ensures cause { IsErrOf result RigFail.Failed → Rose (rig_state rig.old).failures (rig_state rig.new).failures }
 {
@@ -110,8 +110,8 @@ fn add(found: &mut Vec<Tested>, tested: Tested) -> Result<(), RigFail>
 }
 
 /// Adds the tested crossbar of the next node, and says how many loads that took. False where no trunk of it is found: where the
-/// faults are told and the machine has such a node, only where it isn't served. Then, and where it refuses, what was found before
-/// stays as it was.
+/// machine has such a node, only where it isn't served under any faults that explain the log. Then, and where it refuses, what was
+/// found before stays as it was.
 ///
 /// # Errors
 ///
@@ -124,14 +124,14 @@ pub fn test_next(
     node: Node,
 ) -> Result<bool, RigFail>
     requires attached { shape_of (rig_state rig.old) ≡ Some facts.old.shape }
-    requires found { AreFound (rig_state rig.old).machine.faults facts.old walk.old.known walk.old.found.items }
+    requires found { AreFound (rig_state rig.old) facts.old walk.old.known walk.old.found.items }
     requires node { node.0 ≡ length walk.old.found.items }
 
     ensures advances { Advances (rig_state rig.old) (rig_state rig.new) facts.old facts.new }
-    ensures found { AreFound (rig_state rig.old).machine.faults facts.new walk.new.known walk.new.found.items }
+    ensures found { AreFound (rig_state rig.new) facts.new walk.new.known walk.new.found.items }
     ensures length { IfOk result (λ yes. IsTrue yes → length walk.new.found.items ≡ node.0 + 1) }
     ensures unserved { node.0 < nodes_of facts.old.shape →
-        IfOk result (λ yes. yes ≡ false → UnservedIf (rig_state rig.old).machine.faults facts.old node.0) }
+        IfOk result (λ yes. yes ≡ false → ForEach (rig_state rig.new) (λ told. UnservedIf told facts.old node.0)) }
     ensures cause { IsErrOf result RigFail.Failed → Rose (rig_state rig.old).failures (rig_state rig.new).failures }
 {
     tests_add_up();

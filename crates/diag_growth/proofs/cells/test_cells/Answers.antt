@@ -1,6 +1,6 @@
 use Rattle.std.proofs.Common.{arith}
 use Rattle.diag_evidence.proofs.Keeping.{advances_then}
-use Rattle.diag_growth.proofs.Tested.{seat_later, only_then, cells_more, cells_end, cells_next}
+use Rattle.diag_growth.proofs.Tested.{seat_later, only_then, cells_end, cells_next}
 use Rattle.diag_growth.proofs.Explained.{held}
 use Rattle.diag_growth.proofs.cells.test_cells.Goals as goal
 
@@ -11,13 +11,9 @@ pub cells-preserved : goal.cells-preserved
 cells-preserved g c = let old = c.cells.invariant in let now = c.in_ok-test_cell.ensures in record {
   advances = advances_then old.advances now.advances;
   only = only_then old.only now.only;
-  cells = cells_more old.advances now.advances.more old.cells now.cell;
   cells_each = λ f e. let before = now.advances.narrows f e in cells_next (held old.advances before) now.advances.more (old.cells_each f before) (now.cell_each f e);
   loads = let a = old.loads in let b = now.loads in omega arith;
 }
-
-pub returns-clause-cells : goal.returns-clause-cells
-returns-clause-cells g c = cells_end (let a = c.cells.auto.address-end in let b = c.cells-test.false in omega arith) c.cells.invariant.cells
 
 pub returns-clause-cells_each : goal.returns-clause-cells_each
 returns-clause-cells_each g c = λ f e. cells_end (let a = c.cells.auto.address-end in let b = c.cells-test.false in omega arith) (c.cells.invariant.cells_each f e)

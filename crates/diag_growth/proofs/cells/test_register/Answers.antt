@@ -12,25 +12,6 @@ pub config_of-requires-clause-ties : goal.config_of-requires-clause-ties
 config_of-requires-clause-ties g c = ties_below c.deref.result.now c.requires.seat
     (subst (λ (xs : List Cross). AreSeatTies c.args.seat.now (λ _. true) 6 (among (cross_numbers xs))) (sym c.deref.ensures.value) c.in-Ok.ensures)
 
-pub returns-in-Ok-answer-clause-register : goal.returns-in-Ok-answer-clause-register
-returns-in-Ok-answer-clause-register g c =
-    let k = c.args.facts.now in
-    let s = c.args.seat.now in
-    let t = s.table.0 in
-    let config = c.in_ok-config.config.config in
-    let setting : Setting = record { cells = 0; latched = true; init = false } in
-    let ties = cross_numbers c.deref.result.now in
-    let tied : AreSeatTies s (λ _. true) 6 (among ties) = subst (λ (xs : List Cross). AreSeatTies s (λ _. true) 6 (among (cross_numbers xs))) (sym c.deref.ensures.value) c.in-Ok.ensures in
-    let seat = c.requires.seat in
-    let laid : IsCellConfig k.shape s.near s.far ties t 0 config = c.in_ok-config.ensures.laid in
-    let passes = c.table_tests_by_lists_pass.ensures.register _ k config s.near s.far ties t 0 setting c.in_ok-drive.drive _ laid seat.near.route seat.far.route seat.near.crosses seat.far.crosses
-    c.in_ok-drive.ensures.alone refl (rw (c.pin.ensures, ap (λ v. v.config) c.switch_on.ensures) at c.in-Ok-answer.ensures.passes) in
-    record {
-      at = λ f told h right.
-          rw (c.give_back_drive.ensures, c.give_back.ensures) (gained_register _ _ t (c.in-Ok-answer.ensures.gains
-          (passes.at f _ _ told h (table_by k f h s seat (λ _. true) ties tied) right)));
-    }
-
 pub returns-in-Ok-answer-clause-register_each : goal.returns-in-Ok-answer-clause-register_each
 returns-in-Ok-answer-clause-register_each g c =
     let k = c.args.facts.now in

@@ -1,5 +1,5 @@
 use Rattle.std.proofs.Common.{Result, Ok, Err, OnOk}
-use Rattle.diag_growth.proofs.Tested.{seat_later, table_end, table_next}
+use Rattle.diag_growth.proofs.Tested.{seat_later, table_next}
 use Rattle.diag_growth.proofs.Explained.{held}
 use Rattle.diag_growth.proofs.cells.test_table.Goals as goal
 
@@ -9,9 +9,6 @@ on_ok (Err e) p h = tt
 
 pub test_register-requires-clause-seat : goal.test_register-requires-clause-seat
 test_register-requires-clause-seat g c = seat_later c.in_ok-test_cells.ensures.advances.more c.requires.seat
-
-pub returns-clause-table : goal.returns-clause-table
-returns-clause-table g c = on_ok c.test_register.result c.test_register.ensures.register (λ h. table_end c.in_ok-test_cells.ensures.advances c.test_register.ensures.advances.more c.in_ok-test_cells.ensures.cells h)
 
 pub returns-clause-table_each : goal.returns-clause-table_each
 returns-clause-table_each g c = on_ok c.test_register.result c.test_register.ensures.register_each (λ each f e. let before = c.test_register.ensures.advances.narrows f e in table_next (held c.in_ok-test_cells.ensures.advances before) c.test_register.ensures.advances.more (c.in_ok-test_cells.ensures.cells_each f before) (each f e))

@@ -1,42 +1,32 @@
-use Rattle.std.proofs.Common.{◌≡◌, List, Option, Some, ap, subst, IfOk, OnOk, IfNone, slice_get}
-use Rattle.machine_meaning.specs.Faults.{Faults}
-use Rattle.diag_known.specs.Vocabulary.{AreMarks, HasNoSecond}
+use Rattle.std.proofs.Common.{◌≡◌, List, Some, subst, slice_get}
 use Rattle.diag_known.specs.declared.verified_wire.Support.{Support}
-use Rattle.diag_known.proofs.Offering.{spends_on_then, spends_on_told}
+use Rattle.diag_known.proofs.Marking.{few_then}
+use Rattle.diag_known.proofs.Offering.{spends_on_then}
 use Rattle.diag_growth.proofs.Explained.{held}
 use Rattle.diag_growth.proofs.Learning.{ready_later}
 use Rattle.diag_known.proofs.Settling.{if_ok_so, on_ok_so}
 use Rattle.diag_growth.proofs.feet.second_foot.Goals as goal
 
 pub try_others-requires-clause-ready : goal.try_others-requires-clause-ready
-try_others-requires-clause-ready g c = ready_later c.toggle_first.ensures.advances c.requires.ready c.in_ok-kept.ensures.marks
+try_others-requires-clause-ready g c = ready_later c.toggle_first.ensures.advances.more c.requires.ready c.toggle_first.ensures.marks
 
 pub try_others-requires-clause-own : goal.try_others-requires-clause-own
 try_others-requires-clause-own g c = c.in_ok-kept.ensures.kept c.if-not-kept.false
 
-pub returns-clause-none : goal.returns-clause-none
-returns-clause-none g c =
-    subst (λ (told : Option Faults). IfOk c.try_others.result (λ found. IfNone found (HasNoSecond told c.try_others.new.facts c.args.known.now.steps c.args.offer.now))) (ap (λ m. m.faults) c.toggle_first.ensures.advances.machine) c.try_others.ensures.none
-
 pub returns-clause-none_each : goal.returns-clause-none_each
 returns-clause-none_each g c = if_ok_so c.try_others.result c.try_others.ensures.none_each
     (λ found none f e marks. none f e (c.in_ok-kept.ensures.marks_each f (c.try_others.ensures.advances.narrows f e) marks))
-
-pub returns-clause-marks : goal.returns-clause-marks
-returns-clause-marks g c =
-    subst (λ (told : Option Faults). OnOk c.try_others.result (AreMarks told c.try_others.new.facts c.args.known.now.steps c.try_others.new.marks)) (ap (λ m. m.faults) c.toggle_first.ensures.advances.machine) c.try_others.ensures.marks
 
 pub returns-clause-marks_each : goal.returns-clause-marks_each
 returns-clause-marks_each g c = on_ok_so c.try_others.result c.try_others.ensures.marks_each
     (λ each f e marks. each f e (c.in_ok-kept.ensures.marks_each f (c.try_others.ensures.advances.narrows f e) marks))
 
 pub returns-clause-spends : goal.returns-clause-spends
-returns-clause-spends g c = spends_on_then c.toggle_first.ensures.advances.more c.toggle_first.ensures.advances.holds c.toggle_first.ensures.spends
-    (spends_on_told (ap (λ m. m.faults) c.toggle_first.ensures.advances.machine) c.try_others.ensures.spends)
+returns-clause-spends g c = spends_on_then c.toggle_first.ensures.advances.more c.toggle_first.ensures.spends c.try_others.ensures.spends
 
 pub returns-clause-spends_each : goal.returns-clause-spends_each
 returns-clause-spends_each g c = λ f e marks. let before = c.try_others.ensures.advances.narrows f e in
-    spends_on_then c.toggle_first.ensures.advances.more (held c.toggle_first.ensures.advances before) (c.toggle_first.ensures.spends_each f before marks)
+    few_then c.toggle_first.ensures.advances.more (held c.toggle_first.ensures.advances before) (c.toggle_first.ensures.spends_each f before marks)
     (c.try_others.ensures.spends_each f e (c.in_ok-kept.ensures.marks_each f before marks))
 
 pub kept_link-requires : goal.kept_link-requires

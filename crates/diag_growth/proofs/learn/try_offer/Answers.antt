@@ -1,14 +1,12 @@
-use Rattle.std.proofs.Common.{◌∙◌, ◌<◌, Option, refl, sym, ap, subst, inl, inr, OnOk}
-use Rattle.std.proofs.lemmas.Result.{on_ok_weaker}
+use Rattle.std.proofs.Common.{◌∙◌, ◌<◌, refl, sym, ap, subst, inl, inr}
 use Rattle.base_bits.specs.Numbers.{has_number}
 use Rattle.machine_shape.specs.declared.Shape.{Shape}
 use Rattle.machine_shape.specs.Shape.{wires_of}
-use Rattle.machine_meaning.specs.Faults.{Faults}
-use Rattle.diag_known.specs.Vocabulary.{AreMarks, barred, lost, IsTried}
+use Rattle.diag_known.specs.Vocabulary.{barred, lost}
 use Rattle.diag_known.proofs.Later.{known_later}
 use Rattle.diag_growth.proofs.Explained.{held}
 use Rattle.diag_growth.proofs.Learning.{none_more, offers_barred, barred_twice, ready_later}
-use Rattle.diag_known.proofs.Marking.{spends_then, spends_barred}
+use Rattle.diag_known.proofs.Marking.{few_then, few_barred, spends_then, spends_barred}
 use Rattle.diag_known.proofs.Settling.{on_ok_so}
 use Rattle.diag_growth.proofs.learn.try_offer.Goals as goal
 
@@ -27,9 +25,6 @@ returns-in_default-clause-known g c = known_later c.second_foot.ensures.advances
 pub returns-in_default-clause-more : goal.returns-in_default-clause-more
 returns-in_default-clause-more g c = none_more c.args.offer.now.wire.0 refl
 
-pub returns-in_default-clause-found : goal.returns-in_default-clause-found
-returns-in_default-clause-found g c = lost c.second_foot.ensures.spends.barred (rw c.in_default.is at c.in_ok-second.ensures.none)
-
 pub returns-in_default-clause-found_each : goal.returns-in_default-clause-found_each
 returns-in_default-clause-found_each g c = λ f e marks. lost c.second_foot.ensures.spends.barred (rw c.in_default.is at (c.in_ok-second.ensures.none_each f e marks))
 
@@ -37,7 +32,7 @@ pub returns-in_default-clause-barred : goal.returns-in_default-clause-barred
 returns-in_default-clause-barred g c = inl c.second_foot.ensures.spends.barred
 
 pub try_feet-requires-clause-ready : goal.try_feet-requires-clause-ready
-try_feet-requires-clause-ready g c = ready_later c.second_foot.ensures.advances c.requires.ready c.in_ok-second.ensures.marks
+try_feet-requires-clause-ready g c = ready_later c.second_foot.ensures.advances.more c.requires.ready c.second_foot.ensures.marks
 
 pub try_feet-requires-clause-over : goal.try_feet-requires-clause-over
 try_feet-requires-clause-over g c = rw c.in-Some.is at c.in_ok-second.ensures.some
@@ -45,18 +40,9 @@ try_feet-requires-clause-over g c = rw c.in-Some.is at c.in_ok-second.ensures.so
 pub try_feet-requires-clause-first : goal.try_feet-requires-clause-first
 try_feet-requires-clause-first g c = ap (λ bits. has_number bits c.args.offer.now.wire.0) c.second_foot.ensures.spends.barred ∙ c.requires.wire
 
-pub returns-clause-found : goal.returns-clause-found
-returns-clause-found g c = on_ok_weaker c.try_feet.result
-    (λ tried. barred (barred_twice c.args.marks.now c.args.offer.now.wire.0 c.second_foot.ensures.spends.barred c.try_feet.ensures.barred)
-    (subst (λ (told : Option Faults). IsTried told c.try_feet.new.facts c.try_feet.new.known.steps c.args.offer.now.wire.0) (ap (λ m. m.faults) c.second_foot.ensures.advances.machine) tried)) c.try_feet.ensures.tried
-
 pub returns-clause-found_each : goal.returns-clause-found_each
 returns-clause-found_each g c = on_ok_so c.try_feet.result c.try_feet.ensures.tried_each
     (λ tried f e marks. barred (barred_twice c.args.marks.now c.args.offer.now.wire.0 c.second_foot.ensures.spends.barred c.try_feet.ensures.barred) (tried f e))
-
-pub returns-clause-marks : goal.returns-clause-marks
-returns-clause-marks g c =
-    subst (λ (told : Option Faults). OnOk c.try_feet.result (AreMarks told c.try_feet.new.facts c.try_feet.new.known.steps c.try_feet.new.marks)) (ap (λ m. m.faults) c.second_foot.ensures.advances.machine) c.try_feet.ensures.marks
 
 pub returns-clause-marks_each : goal.returns-clause-marks_each
 returns-clause-marks_each g c = on_ok_so c.try_feet.result c.try_feet.ensures.marks_each
@@ -72,8 +58,8 @@ pub returns-clause-spends : goal.returns-clause-spends
 returns-clause-spends g c =
     let more = c.second_foot.ensures.advances.more in
     let w = c.args.offer.now.wire.0 in
-    spends_then more c.second_foot.ensures.advances.holds c.second_foot.ensures.spends.spends
-    (spends_barred _ _ c.in_ok-second.ensures.marks (subst (λ (m : Shape). w < wires_of m) (sym more.shape) c.requires.ready.offer.within)
+    spends_then more c.second_foot.ensures.spends.spends
+    (spends_barred _ _ c.second_foot.ensures.marks (subst (λ (m : Shape). w < wires_of m) (sym more.shape) c.requires.ready.offer.within)
     (ap (λ bits. has_number bits w) c.second_foot.ensures.spends.barred ∙ c.requires.wire) c.try_feet.ensures.barred c.try_feet.ensures.loads)
 
 pub returns-clause-spends_each : goal.returns-clause-spends_each
@@ -81,12 +67,6 @@ returns-clause-spends_each g c =
     let more = c.second_foot.ensures.advances.more in
     let w = c.args.offer.now.wire.0 in
     λ f e marks. let before = c.try_feet.ensures.advances.narrows f e in
-    spends_then more (held c.second_foot.ensures.advances before) ((c.second_foot.ensures.spends_each f before marks).spends)
-    (spends_barred _ _ (c.in_ok-second.ensures.marks_each f before marks) (subst (λ (m : Shape). w < wires_of m) (sym more.shape) c.requires.ready.offer.within)
+    few_then more (held c.second_foot.ensures.advances before) (c.second_foot.ensures.spends_each f before marks)
+    (few_barred _ _ c.second_foot.ensures.marks (subst (λ (m : Shape). w < wires_of m) (sym more.shape) c.requires.ready.offer.within)
     (ap (λ bits. has_number bits w) c.second_foot.ensures.spends.barred ∙ c.requires.wire) c.try_feet.ensures.barred c.try_feet.ensures.loads)
-
-pub returns-in_err-second-clause-spends_each : goal.returns-in_err-second-clause-spends_each
-returns-in_err-second-clause-spends_each g c = λ f e marks. (c.second_foot.ensures.spends_each f e marks).spends
-
-pub returns-in_default-clause-spends_each : goal.returns-in_default-clause-spends_each
-returns-in_default-clause-spends_each g c = λ f e marks. (c.second_foot.ensures.spends_each f e marks).spends

@@ -1,14 +1,12 @@
-use Rattle.std.proofs.Common.{◌∙◌, Option, refl, sym, ap, subst, arith}
+use Rattle.std.proofs.Common.{◌∙◌, refl, sym, subst, arith}
 use Rattle.machine_shape.specs.declared.Shape.{Shape}
-use Rattle.machine_meaning.specs.Faults.{Faults}
 use Rattle.diag_evidence.proofs.Keeping.{advances_itself, advances_then}
 use Rattle.diag_evidence.proofs.KeptLemmas.{more_itself}
 use Rattle.diag_known.specs.Vocabulary.{AreLinked, IsAt}
-use Rattle.diag_growth.specs.Looks.{AreAllMarks, AreTried, IsLooked}
 use Rattle.diag_growth.proofs.Growing.{grown_next}
-use Rattle.diag_growth.proofs.Leaving.{looks_next, looks_past, looks_all, spends_told}
+use Rattle.diag_growth.proofs.Leaving.{looks_next, looks_past, looks_all}
 use Rattle.diag_growth.proofs.Looking.{link_leads}
-use Rattle.diag_known.proofs.Marking.{spends_none, spends_then}
+use Rattle.diag_known.proofs.Marking.{few_none, few_then, spends_none, spends_then}
 use Rattle.diag_known.proofs.Places.{at_later}
 use Rattle.diag_growth.proofs.Stages.{grows_itself, grows_then, grown_on, longer, tried_none, tried_then}
 use Rattle.diag_growth.proofs.Explained.{held}
@@ -18,16 +16,12 @@ pub links-init : goal.links-init
 links-init g c = record {
   advances = advances_itself _ c.args.facts.now;
   grows = grows_itself c.requires.known (more_itself c.args.facts.now) refl;
-  tried = tried_none refl;
+  tried_each = λ f e marks. tried_none refl;
   marks = c.requires.marks;
   spends = spends_none refl refl;
-  tried_each = λ f e marks. tried_none refl;
   marks_each = λ f e marks. marks;
-  spends_each = λ f e marks. spends_none refl refl;
-  also = (
-    λ i b less at. absurd (let no : ⊥ = omega (arith, less) in no),
-    λ f e marks i b less at. absurd (let no : ⊥ = omega (arith, less) in no),
-  );
+  spends_each = λ f e marks. few_none refl refl;
+  also = λ f e marks i b less at. absurd (let no : ⊥ = omega (arith, less) in no);
 }
 
 pub links-preserved-in_default : goal.links-preserved-in_default
@@ -37,16 +31,12 @@ links-preserved-in_default g c =
     record {
       advances = old.advances;
       grows = old.grows;
-      tried = old.tried;
+      tried_each = old.tried_each;
       marks = old.marks;
       spends = old.spends;
-      tried_each = old.tried_each;
       marks_each = old.marks_each;
       spends_each = old.spends_each;
-      also = (
-        looks_past c.args.place c.wire_at-wire.result.0 c.links.j here old.also.0,
-        λ f e marks. looks_past c.args.place c.wire_at-wire.result.0 c.links.j here (old.also.1 f e marks),
-      );
+      also = λ f e marks. looks_past c.args.place c.wire_at-wire.result.0 c.links.j here (old.also f e marks);
     }
 
 pub look_over-requires-clause-links : goal.look_over-requires-clause-links
@@ -58,61 +48,44 @@ look_over-requires-clause-look g c = record {
   link = link_leads c.args.near.now.items c.wire_at-wire.result.0 c.links.j c.in-Some.link (sym c.link_at.ensures ∙ c.in-Some.is);
 }
 
-pub look_over-requires-clause-marks : goal.look_over-requires-clause-marks
-look_over-requires-clause-marks g c =
-    subst (λ (told : Option Faults). AreAllMarks told c.links.facts c.args.near.now.items c.links.known.steps c.links.marks) (sym (ap (λ m. m.faults) c.links.invariant.advances.machine)) c.links.invariant.marks
-
 pub returns-in_err-look_over-clause-grows : goal.returns-in_err-look_over-clause-grows
 returns-in_err-look_over-clause-grows g c = grows_then c.links.invariant.grows c.look_over.ensures.grows
 
+pub look_over-requires-clause-marks : goal.look_over-requires-clause-marks
+look_over-requires-clause-marks g c = c.links.invariant.marks
+
 pub returns-in_err-look_over-clause-spends : goal.returns-in_err-look_over-clause-spends
-returns-in_err-look_over-clause-spends g c =
-    let old = c.links.invariant in
-    spends_then old.advances.more old.advances.holds old.spends (spends_told (ap (λ m. m.faults) old.advances.machine) c.look_over.ensures.spends)
+returns-in_err-look_over-clause-spends g c = spends_then c.links.invariant.advances.more c.links.invariant.spends c.look_over.ensures.spends
 
 pub returns-in_err-look_over-clause-spends_each : goal.returns-in_err-look_over-clause-spends_each
 returns-in_err-look_over-clause-spends_each g c =
     let old = c.links.invariant in
     λ f e marks. let before = c.look_over.ensures.advances.narrows f e in
-    spends_then old.advances.more (held old.advances before) (old.spends_each f before marks) (c.look_over.ensures.spends_each f e (old.marks_each f before marks))
+    few_then old.advances.more (held old.advances before) (old.spends_each f before marks) (c.look_over.ensures.spends_each f e (old.marks_each f before marks))
 
 pub links-preserved : goal.links-preserved
 links-preserved g c =
     let old = c.links.invariant in
-    let same = ap (λ m. m.faults) old.advances.machine in
     let step = c.look_over.ensures.grows in
     let more = c.look_over.ensures.advances.more in
     let long = longer old.grows in
     record {
       advances = advances_then old.advances c.look_over.ensures.advances;
       grows = grows_then old.grows step;
-      tried = tried_then step.more step.steps more old.tried
-          (subst (λ (told : Option Faults). AreTried told c.look_over.new.facts c.look_over.new.known.steps c.links.marks.barred c.look_over.new.marks.barred) same c.in_ok-look_over.ensures.tried);
-      marks = subst (λ (told : Option Faults). AreAllMarks told c.look_over.new.facts c.args.near.now.items c.look_over.new.known.steps c.look_over.new.marks) same c.in_ok-look_over.ensures.marks;
-      spends = spends_then old.advances.more old.advances.holds old.spends (spends_told same c.look_over.ensures.spends);
       tried_each = λ f e marks. let before = c.look_over.ensures.advances.narrows f e in
           tried_then step.more step.steps more (old.tried_each f before marks) (c.in_ok-look_over.ensures.tried_each f e (old.marks_each f before marks));
+      marks = c.look_over.ensures.marks;
+      spends = spends_then old.advances.more old.spends c.look_over.ensures.spends;
       marks_each = λ f e marks. c.in_ok-look_over.ensures.marks_each f e (old.marks_each f (c.look_over.ensures.advances.narrows f e) marks);
       spends_each = λ f e marks. let before = c.look_over.ensures.advances.narrows f e in
-          spends_then old.advances.more (held old.advances before) (old.spends_each f before marks) (c.look_over.ensures.spends_each f e (old.marks_each f before marks));
-      also = (
-        looks_next c.args.place c.wire_at-wire.result.0 c.links.j c.in-Some.link more step (let low = c.requires.place in omega (arith, low, long)) (sym c.link_at.ensures ∙ c.in-Some.is)
-            (subst (λ (told : Option Faults). IsLooked told c.look_over.new.facts c.args.near.now.items c.look_over.new.known.steps c.look_over.new.marks.barred c.args.place c.in-Some.link.cross.0 c.in-Some.link.wire.0) same
-            c.in_ok-look_over.ensures.looked) old.also.0,
-        λ f e marks. let before = c.look_over.ensures.advances.narrows f e in
-            looks_next c.args.place c.wire_at-wire.result.0 c.links.j c.in-Some.link more step (let low = c.requires.place in omega (arith, low, long)) (sym c.link_at.ensures ∙ c.in-Some.is)
-            (c.in_ok-look_over.ensures.looked_each f e (old.marks_each f before marks)) (old.also.1 f before marks),
-      );
+          few_then old.advances.more (held old.advances before) (old.spends_each f before marks) (c.look_over.ensures.spends_each f e (old.marks_each f before marks));
+      also = λ f e marks. let before = c.look_over.ensures.advances.narrows f e in
+          looks_next c.args.place c.wire_at-wire.result.0 c.links.j c.in-Some.link more step (let low = c.requires.place in omega (arith, low, long)) (sym c.link_at.ensures ∙ c.in-Some.is)
+          (c.in_ok-look_over.ensures.looked_each f e (old.marks_each f before marks)) (old.also f before marks);
     }
-
-pub returns-clause-grown : goal.returns-clause-grown
-returns-clause-grown g c =
-    let old = c.links.invariant in
-    λ grown. grown_next c.requires.links (subst (λ ss. IsAt ss c.args.place c.wire_at-wire.result.0) (sym old.grows.steps) (at_later old.grows.more c.wire_at-wire.ensures.at))
-    (looks_all c.args.place c.wire_at-wire.result.0 _ (omega arith) old.also.0) (grown_on old.advances.more (let low = c.requires.place in omega (arith, low)) old.grows grown)
 
 pub returns-clause-grown_each : goal.returns-clause-grown_each
 returns-clause-grown_each g c =
     let old = c.links.invariant in
     λ f e marks grown. grown_next c.requires.links (subst (λ ss. IsAt ss c.args.place c.wire_at-wire.result.0) (sym old.grows.steps) (at_later old.grows.more c.wire_at-wire.ensures.at))
-    (looks_all c.args.place c.wire_at-wire.result.0 _ (omega arith) (old.also.1 f e marks)) (grown_on old.advances.more (let low = c.requires.place in omega (arith, low)) old.grows grown)
+    (looks_all c.args.place c.wire_at-wire.result.0 _ (omega arith) (old.also f e marks)) (grown_on old.advances.more (let low = c.requires.place in omega (arith, low)) old.grows grown)

@@ -1,18 +1,11 @@
 use Rattle.std.proofs.Common.{◌∙◌, ◌<◌, sym, subst, inr, arith}
-use Rattle.std.proofs.lemmas.Result.{on_ok_weaker}
 use Rattle.diag_known.specs.Known.{IsBefore}
 use Rattle.diag_growth.proofs.Looking.{kept_already, not_earlier}
-use Rattle.diag_known.proofs.Settling.{marks_between, on_ok_so}
+use Rattle.diag_known.proofs.Settling.{marks_between, on_ok_so, over_between, over_later}
 use Rattle.diag_growth.proofs.look.look_known.Goals as goal
-
-pub returns-then-keeps_cross-clause-kept : goal.returns-then-keeps_cross-clause-kept
-returns-then-keeps_cross-clause-kept g c = kept_already (sym c.keeps_cross.ensures ∙ c.if-keeps_cross.true)
 
 pub returns-then-keeps_cross-clause-kept_each : goal.returns-then-keeps_cross-clause-kept_each
 returns-then-keeps_cross-clause-kept_each g c = λ f e marks. kept_already (sym c.keeps_cross.ensures ∙ c.if-keeps_cross.true)
-
-pub returns-then-has-clause-kept : goal.returns-then-has-clause-kept
-returns-then-has-clause-kept g c = c.requires.marks.joined c.args.look.link.cross.0 (sym c.has.ensures ∙ c.if-has.true)
 
 pub returns-then-has-clause-kept_each : goal.returns-then-has-clause-kept_each
 returns-then-has-clause-kept_each g c = λ f e marks. marks.joined c.args.look.link.cross.0 (sym c.has.ensures ∙ c.if-has.true)
@@ -26,10 +19,6 @@ put_between-requires g c = subst (λ n. c.args.look.link.cross.0 < n) (sym c.req
 pub toggle_known-requires-clause-differ : goal.toggle_known-requires-clause-differ
 toggle_known-requires-clause-differ g c = λ same. not_earlier c.requires.known {i = c.args.look.place} {place = c.args.look.place} c.requires.look.at (omega arith) (subst (IsBefore c.args.known.now.steps c.args.look.place) same c.requires.other)
 
-pub returns-clause-marks : goal.returns-clause-marks
-returns-clause-marks g c = on_ok_weaker c.toggle_known.result
-    (λ mark. marks_between c.args.look.link.cross.0 c.requires.marks c.toggle_known.ensures.advances.more (λ f is none holds. mark.at f is holds (none.crosses c.args.look.link.cross.0)) c.requires.look.within c.put_between.ensures mark) c.toggle_known.ensures.kept
-
 pub returns-clause-marks_each : goal.returns-clause-marks_each
 returns-clause-marks_each g c = on_ok_so c.toggle_known.result c.toggle_known.ensures.kept_each
     (λ kept f e marks. marks_between c.args.look.link.cross.0 marks c.toggle_known.ensures.advances.more (λ h is none holds. (kept f e).at h is holds (none.crosses c.args.look.link.cross.0)) c.requires.look.within c.put_between.ensures (kept f e))
@@ -39,3 +28,6 @@ returns-clause-joins g c = inr (record { fresh = sym c.keeps_cross.ensures ∙ c
 
 pub returns-clause-kept_each : goal.returns-clause-kept_each
 returns-clause-kept_each g c = on_ok_so c.toggle_known.result c.toggle_known.ensures.kept_each (λ kept f e marks. kept f e)
+
+pub returns-clause-marks : goal.returns-clause-marks
+returns-clause-marks g c = over_later c.toggle_known.ensures.advances.more (over_between c.args.look.link.cross.0 c.requires.marks c.put_between.ensures)

@@ -1,38 +1,30 @@
 use Rattle.std.proofs.Common.{◌∙◌, ◌<◌, refl, sym, ap, subst, inl, arith}
-use Rattle.std.proofs.lemmas.Result.{on_ok_weaker}
 use Rattle.base_bits.specs.Numbers.{has_number}
 use Rattle.machine_shape.specs.declared.Shape.{Shape}
 use Rattle.machine_shape.specs.Shape.{wires_of}
 use Rattle.diag_evidence.proofs.KeptLemmas.{more_itself}
-use Rattle.diag_growth.proofs.Leaving.{look_plain, all_later, joins_spent, joins_barred, joins_offered}
+use Rattle.diag_growth.proofs.Leaving.{look_plain, all_later, joins_few, joins_spent, joins_barred, joins_offered}
 use Rattle.diag_growth.proofs.Looking.{look_within, look_other, looked_barred, looked_known, not_earlier}
 use Rattle.diag_known.proofs.Places.{before_has}
 use Rattle.diag_growth.proofs.Stages.{grows_itself, tried_none}
 use Rattle.diag_known.proofs.Settling.{on_ok_so}
-use Rattle.diag_known.proofs.Marking.{spends_none}
+use Rattle.diag_known.proofs.Marking.{few_none, spends_none}
 use Rattle.diag_growth.proofs.look.look_over.Goals as goal
 
 pub place_of-requires : goal.place_of-requires
 place_of-requires g c = subst (λ (m : Shape). c.args.look.link.wire.0 < wires_of m) (sym c.requires.known.shape) (look_other c.requires.known (c.the_numbering_is_sound.ensures.numbered c.args.facts.now.shape) c.requires.links c.requires.look)
 
 pub has-requires : goal.has-requires
-has-requires g c = subst (λ n. c.args.look.link.wire.0 < n) (sym c.requires.marks.are.barred) (look_other c.requires.known (c.the_numbering_is_sound.ensures.numbered c.args.facts.now.shape) c.requires.links c.requires.look)
+has-requires g c = subst (λ n. c.args.look.link.wire.0 < n) (sym c.requires.marks.barred) (look_other c.requires.known (c.the_numbering_is_sound.ensures.numbered c.args.facts.now.shape) c.requires.links c.requires.look)
 
 pub returns-then-has-clause-grows : goal.returns-then-has-clause-grows
 returns-then-has-clause-grows g c = grows_itself c.requires.known (more_itself c.args.facts.now) refl
-
-pub returns-then-has-clause-looked : goal.returns-then-has-clause-looked
-returns-then-has-clause-looked g c = looked_barred (λ before. c.in_default.ensures.unknown (before_has before)) (sym c.has.ensures ∙ c.if-has.true)
 
 pub returns-then-has-clause-looked_each : goal.returns-then-has-clause-looked_each
 returns-then-has-clause-looked_each g c = λ f e marks. looked_barred (λ before. c.in_default.ensures.unknown (before_has before)) (sym c.has.ensures ∙ c.if-has.true)
 
 pub returns-then-other-look-clause-grows : goal.returns-then-other-look-clause-grows
 returns-then-other-look-clause-grows g c = grows_itself c.requires.known (more_itself c.args.facts.now) refl
-
-pub returns-then-other-look-clause-looked : goal.returns-then-other-look-clause-looked
-returns-then-other-look-clause-looked g c =
-    looked_known (record { place = c.in-Some.other; at = c.in-Some.ensures.known }) (λ before. absurd (not_earlier c.requires.known c.in-Some.ensures.known (omega arith) before))
 
 pub returns-then-other-look-clause-looked_each : goal.returns-then-other-look-clause-looked_each
 returns-then-other-look-clause-looked_each g c =
@@ -44,29 +36,14 @@ look_known-requires-clause-look g c = look_plain c.requires.known (c.the_numberi
 pub look_known-requires-clause-other : goal.look_known-requires-clause-other
 look_known-requires-clause-other g c = record { place = c.in-Some.other; early = omega arith; at = c.in-Some.ensures.known }
 
-pub look_known-requires-clause-marks : goal.look_known-requires-clause-marks
-look_known-requires-clause-marks g c = c.requires.marks.are
-
 pub returns-clause-grows : goal.returns-clause-grows
 returns-clause-grows g c = grows_itself c.requires.known c.look_known.ensures.advances.more (joins_barred c.look_known.ensures.joins)
-
-pub returns-clause-tried : goal.returns-clause-tried
-returns-clause-tried g c = on_ok_weaker c.look_known.result (λ kept. tried_none (joins_barred c.look_known.ensures.joins)) c.look_known.ensures.kept
 
 pub returns-clause-tried_each : goal.returns-clause-tried_each
 returns-clause-tried_each g c = on_ok_so c.look_known.result c.look_known.ensures.kept_each (λ kept f e marks. tried_none (joins_barred c.look_known.ensures.joins))
 
-pub returns-clause-looked : goal.returns-clause-looked
-returns-clause-looked g c = on_ok_weaker c.look_known.result (λ kept. looked_known (record { place = c.in-Some.other; at = c.in-Some.ensures.known }) (λ before. kept)) c.look_known.ensures.kept
-
 pub returns-clause-looked_each : goal.returns-clause-looked_each
 returns-clause-looked_each g c = on_ok_so c.look_known.result c.look_known.ensures.kept_each (λ kept f e marks. looked_known (record { place = c.in-Some.other; at = c.in-Some.ensures.known }) (λ before. kept f e marks.are))
-
-pub returns-clause-marks : goal.returns-clause-marks
-returns-clause-marks g c =
-    let more = c.look_known.ensures.advances.more in
-    on_ok_weaker c.look_known.result (λ marks. all_later more (grows_itself c.requires.known more (joins_barred c.look_known.ensures.joins)) c.requires.marks marks
-    (λ x on. inl (ap (λ bits. has_number bits x) (sym (joins_offered c.look_known.ensures.joins)) ∙ on))) c.look_known.ensures.marks
 
 pub returns-clause-marks_each : goal.returns-clause-marks_each
 returns-clause-marks_each g c =
@@ -74,24 +51,29 @@ returns-clause-marks_each g c =
     on_ok_so c.look_known.result c.look_known.ensures.marks_each (λ each f e marks. all_later more (grows_itself c.requires.known more (joins_barred c.look_known.ensures.joins)) marks (each f e marks.are)
     (λ x on. inl (ap (λ bits. has_number bits x) (sym (joins_offered c.look_known.ensures.joins)) ∙ on)))
 
-pub returns-clause-spends : goal.returns-clause-spends
-returns-clause-spends g c =
-    joins_spent c.args.near.now.items c.requires.marks.are (look_within c.requires.known (c.the_numbering_is_sound.ensures.numbered c.args.facts.now.shape) c.requires.links c.requires.look)
-    (c.args.look.link.wire.0, c.args.look.wire.0, c.requires.look.link) c.look_known.ensures.joins
-
 pub returns-clause-spends_each : goal.returns-clause-spends_each
 returns-clause-spends_each g c =
-    λ f e marks. joins_spent c.args.near.now.items marks.are (look_within c.requires.known (c.the_numbering_is_sound.ensures.numbered c.args.facts.now.shape) c.requires.links c.requires.look)
-    (c.args.look.link.wire.0, c.args.look.wire.0, c.requires.look.link) c.look_known.ensures.joins
+    λ f e marks. joins_few marks.are (look_within c.requires.known (c.the_numbering_is_sound.ensures.numbered c.args.facts.now.shape) c.requires.links c.requires.look) c.look_known.ensures.joins
 
 pub returns-then-has-clause-tried_each : goal.returns-then-has-clause-tried_each
 returns-then-has-clause-tried_each g c = λ f e marks. tried_none refl
 
 pub returns-then-has-clause-spends_each : goal.returns-then-has-clause-spends_each
-returns-then-has-clause-spends_each g c = λ f e marks. spends_none refl refl
+returns-then-has-clause-spends_each g c = λ f e marks. few_none refl refl
 
 pub returns-then-other-look-clause-tried_each : goal.returns-then-other-look-clause-tried_each
 returns-then-other-look-clause-tried_each g c = λ f e marks. tried_none refl
 
 pub returns-then-other-look-clause-spends_each : goal.returns-then-other-look-clause-spends_each
-returns-then-other-look-clause-spends_each g c = λ f e marks. spends_none refl refl
+returns-then-other-look-clause-spends_each g c = λ f e marks. few_none refl refl
+
+pub returns-then-has-clause-spends : goal.returns-then-has-clause-spends
+returns-then-has-clause-spends g c = spends_none refl refl
+
+pub returns-then-other-look-clause-spends : goal.returns-then-other-look-clause-spends
+returns-then-other-look-clause-spends g c = spends_none refl refl
+
+pub returns-clause-spends : goal.returns-clause-spends
+returns-clause-spends g c =
+    joins_spent c.args.near.now.items c.requires.marks (look_within c.requires.known (c.the_numbering_is_sound.ensures.numbered c.args.facts.now.shape) c.requires.links c.requires.look)
+    (c.args.look.link.wire.0, c.args.look.wire.0, c.requires.look.link) c.look_known.ensures.joins

@@ -1,7 +1,4 @@
-use Rattle.std.proofs.Common.{◌∙◌, Option, ap, subst}
 use Rattle.std.proofs.lemmas.Result.{IfOk-weaker}
-use Rattle.machine_meaning.specs.Faults.{Faults}
-use Rattle.diag_known.specs.Trials.{IsBad}
 use Rattle.diag_known.proofs.Later.{known_later, ways_later}
 use Rattle.diag_growth.proofs.Parting.{apart_later, good}
 use Rattle.diag_growth.proofs.parts.is_good.Goals as goal
@@ -18,9 +15,6 @@ part-requires-2-clause-known g c = known_later c.part.ensures.advances.more (kno
 pub part-requires-2-clause-way : goal.part-requires-2-clause-way
 part-requires-2-clause-way g c = (ways_later c.part.ensures.advances.more (ways_later c.test_stuck.ensures.advances.more c.requires.ways)).second
 
-pub returns-then-not-apart-clause-bad : goal.returns-then-not-apart-clause-bad
-returns-then-not-apart-clause-bad g c = λ is_no. subst (λ (told : Option Faults). IsBad told c.part.new.facts c.args.known.now.steps c.args.w.0) (ap (λ m. m.faults) c.test_stuck.ensures.advances.machine) (c.in_ok-apart.ensures.bad c.if-not-apart.true)
-
 pub returns-then-not-apart-clause-bad_each : goal.returns-then-not-apart-clause-bad_each
 returns-then-not-apart-clause-bad_each g c = λ f e is_no. c.in_ok-apart.ensures.bad_each f e c.if-not-apart.true
 
@@ -28,7 +22,3 @@ pub returns-clause-good : goal.returns-clause-good
 returns-clause-good g c = IfOk-weaker c.part-2.result _ _ (λ yes apart. λ is_yes.
     good c.requires.known c.requires.new c.requires.ways (c.part-2.ensures.advances.more.wires c.args.w.0 (c.part.ensures.advances.more.wires c.args.w.0 (c.in_ok-kept.ensures.kept c.if-not-kept.false)))
     (apart_later c.part-2.ensures.advances.more (c.in_ok-apart.ensures.apart c.if-not-apart.false)) (apart is_yes)) c.part-2.ensures.apart
-
-pub returns-clause-bad : goal.returns-clause-bad
-returns-clause-bad g c = IfOk-weaker c.part-2.result _ _ (λ yes bad. λ is_no.
-    subst (λ (told : Option Faults). IsBad told c.part-2.new.facts c.args.known.now.steps c.args.w.0) (ap (λ m. m.faults) (c.part.ensures.advances.machine ∙ c.test_stuck.ensures.advances.machine)) (bad is_no)) c.part-2.ensures.bad

@@ -1,9 +1,8 @@
-use Rattle.std.proofs.Common.{◌<◌, ℕ, Option, sym, ap, subst}
+use Rattle.std.proofs.Common.{◌<◌, ℕ, sym, subst}
 use Rattle.std.proofs.lemmas.Result.{IfOk-weaker}
 use Rattle.machine_shape.specs.declared.Shape.{Shape}
 use Rattle.machine_shape.specs.Shape.{pins_of}
-use Rattle.machine_meaning.specs.Faults.{Faults}
-use Rattle.diag_known.specs.Vocabulary.{AreWays, IsBad}
+use Rattle.diag_known.specs.Vocabulary.{AreWays}
 use Rattle.diag_known.proofs.Later.{known_later, ways_later}
 use Rattle.diag_growth.proofs.Parting.{good}
 use Rattle.diag_growth.proofs.parts.is_good_pin.Goals as goal
@@ -24,7 +23,3 @@ pub returns-clause-good : goal.returns-clause-good
 returns-clause-good g c = IfOk-weaker c.part.result _ _ (λ yes apart. λ is_yes.
     good c.requires.known c.requires.new (subst (λ (u : ℕ). AreWays c.args.facts.now c.args.known.now.steps u c.in-Ok.way c.in-Ok.way) (sym c.requires.wire) (c.in-Ok.ensures c.args.facts.now (sym c.requires.known.shape)))
     (c.part.ensures.advances.more.wires c.args.w.0 (c.in_ok-kept.ensures.kept c.if-not-kept.false)) (apart is_yes) (apart is_yes)) c.part.ensures.apart
-
-pub returns-clause-bad : goal.returns-clause-bad
-returns-clause-bad g c = IfOk-weaker c.part.result _ _ (λ yes bad. λ is_no.
-    subst (λ (told : Option Faults). IsBad told c.part.new.facts c.args.known.now.steps c.args.w.0) (ap (λ m. m.faults) c.test_stuck.ensures.advances.machine) (bad is_no)) c.part.ensures.bad

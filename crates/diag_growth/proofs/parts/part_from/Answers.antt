@@ -39,17 +39,6 @@ returns-clause-apart g c = IfOk-weaker c.all_apart-answer.result _ _ (λ yes gai
     (subst (λ (k : Kept). Gains (these_pairs c.args.way.now.wires (wires_over c.args.beside.now.walks.items)) k c.all_apart-answer.new.self) (c.in_ok-drive.ensures.same ∙ c.in_ok-config.ensures.same) (rw c.deref-2.ensures.value at (gains is_yes)))))
     c.all_apart-answer.ensures.gains
 
-pub returns-clause-bad : goal.returns-clause-bad
-returns-clause-bad g c =
-    let q = c.args.way.now in
-    let config = c.in_ok-config.config.config in
-    let laid : IsLoopConfig c.args.facts.now.shape q q (cross_numbers c.args.beside.now.ties.items) config = subst (λ (xs : List Cross). IsLoopConfig c.args.facts.now.shape q q (cross_numbers xs) config) c.deref.ensures.value c.in_ok-config.ensures.laid in
-    IfOk-weaker c.all_apart-answer.result _ _ (λ yes passes. λ is_no.
-    rw (c.give_back_drive.ensures, c.give_back.ensures)
-    (part_bad c.requires.known c.requires.way c.requires.beside laid (subst (IsDrivenAlone c.in_ok-drive.drive) c.pin.ensures c.in_ok-drive.ensures.alone) (rw c.deref-2.ensures.value at passes)
-    (subst (λ (k : Kept). IsMore k c.all_apart-answer.new.self) (c.in_ok-drive.ensures.same ∙ c.in_ok-config.ensures.same) c.all_apart-answer.ensures.advances.more) is_no))
-    c.all_apart-answer.ensures.passes
-
 pub returns-clause-bad_each : goal.returns-clause-bad_each
 returns-clause-bad_each g c =
     let q = c.args.way.now in

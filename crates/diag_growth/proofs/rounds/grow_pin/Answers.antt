@@ -1,24 +1,19 @@
-use Rattle.std.proofs.Common.{◌∙◌, ◌<◌, Option, length, refl, sym, ap, subst, inl, inr, arith, OnOk}
-use Rattle.std.proofs.lemmas.Result.{on_ok_weaker}
+use Rattle.std.proofs.Common.{◌∙◌, ◌<◌, refl, sym, ap, subst, inl, inr, arith}
 use Rattle.base_bits.specs.Numbers.{has_number}
 use Rattle.machine_shape.specs.declared.Shape.{Shape}
-use Rattle.machine_meaning.specs.Faults.{Faults}
 use Rattle.machine_shape.specs.Shape.{pin_wire, wires_of}
 use Rattle.diag_evidence.proofs.KeptLemmas.{more_itself}
 use Rattle.diag_known.specs.Vocabulary.{AreLinked, HasWire}
-use Rattle.diag_growth.specs.Grown.{IsGrown}
-use Rattle.diag_growth.specs.Looks.{AreAllMarks, AreTried}
 use Rattle.diag_known.specs.declared.marks.Marks.{Marks}
 use Rattle.diag_growth.proofs.Circling.{grown_at, pin_grows, pin_marks, pin_has}
-use Rattle.diag_growth.proofs.Leaving.{spends_told}
-use Rattle.diag_known.proofs.Marking.{spends_none, spends_then, spends_barred, takes_two}
+use Rattle.diag_known.proofs.Marking.{few_none, few_then, few_barred, spends_none, spends_then, spends_barred, takes_two}
 use Rattle.diag_growth.proofs.Stages.{grows_itself, grows_then, grown_on, longer, tried_none, tried_one, tried_then}
 use Rattle.diag_growth.proofs.Explained.{held}
 use Rattle.diag_known.proofs.Settling.{on_ok_so}
 use Rattle.diag_growth.proofs.rounds.grow_pin.Goals as goal
 
 pub has-requires : goal.has-requires
-has-requires g c = subst (λ n. c.pin-wire.result.0 < n) (sym c.requires.marks.are.barred) (subst (λ (m : Shape). c.pin-wire.result.0 < wires_of m) c.shape.ensures c.pin-wire.ensures.within)
+has-requires g c = subst (λ n. c.pin-wire.result.0 < n) (sym c.requires.marks.barred) (subst (λ (m : Shape). c.pin-wire.result.0 < wires_of m) c.shape.ensures c.pin-wire.ensures.within)
 
 pub has-requires-2 : goal.has-requires-2
 has-requires-2 g c = subst (λ (m : Shape). c.pin-wire.result.0 < wires_of m) (c.shape.ensures ∙ sym c.requires.known.shape) c.pin-wire.ensures.within
@@ -26,53 +21,32 @@ has-requires-2 g c = subst (λ (m : Shape). c.pin-wire.result.0 < wires_of m) (c
 pub returns-then-has-clause-grows : goal.returns-then-has-clause-grows
 returns-then-has-clause-grows g c = grows_itself c.requires.known (more_itself c.args.facts.now) refl
 
-pub returns-then-has-clause-tried : goal.returns-then-has-clause-tried
-returns-then-has-clause-tried g c = tried_none refl
-
 pub returns-then-has-clause-tried_each : goal.returns-then-has-clause-tried_each
 returns-then-has-clause-tried_each g c = λ f e marks. tried_none refl
-
-pub returns-then-has-clause-grown : goal.returns-then-has-clause-grown
-returns-then-has-clause-grown g c = λ grown. grown
 
 pub returns-then-has-clause-grown_each : goal.returns-then-has-clause-grown_each
 returns-then-has-clause-grown_each g c = λ f e marks grown. grown
 
-pub returns-then-has-clause-spends : goal.returns-then-has-clause-spends
-returns-then-has-clause-spends g c = spends_none refl refl
-
 pub returns-then-has-clause-spends_each : goal.returns-then-has-clause-spends_each
-returns-then-has-clause-spends_each g c = λ f e marks. spends_none refl refl
+returns-then-has-clause-spends_each g c = λ f e marks. few_none refl refl
 
 pub returns-then-has-2-clause-grows : goal.returns-then-has-2-clause-grows
 returns-then-has-2-clause-grows g c = grows_itself c.requires.known (more_itself c.args.facts.now) refl
 
-pub returns-then-has-2-clause-tried : goal.returns-then-has-2-clause-tried
-returns-then-has-2-clause-tried g c = tried_none refl
-
 pub returns-then-has-2-clause-tried_each : goal.returns-then-has-2-clause-tried_each
 returns-then-has-2-clause-tried_each g c = λ f e marks. tried_none refl
-
-pub returns-then-has-2-clause-grown : goal.returns-then-has-2-clause-grown
-returns-then-has-2-clause-grown g c = λ grown. grown
 
 pub returns-then-has-2-clause-grown_each : goal.returns-then-has-2-clause-grown_each
 returns-then-has-2-clause-grown_each g c = λ f e marks grown. grown
 
-pub returns-then-has-2-clause-spends : goal.returns-then-has-2-clause-spends
-returns-then-has-2-clause-spends g c = spends_none refl refl
-
 pub returns-then-has-2-clause-spends_each : goal.returns-then-has-2-clause-spends_each
-returns-then-has-2-clause-spends_each g c = λ f e marks. spends_none refl refl
+returns-then-has-2-clause-spends_each g c = λ f e marks. few_none refl refl
 
 pub returns-then-has-clause-pin : goal.returns-then-has-clause-pin
 returns-then-has-clause-pin g c = inr (ap (has_number c.args.marks.now.barred) (sym (c.pin-wire.ensures.wire ∙ ap (λ m. pin_wire m c.args.pin) c.shape.ensures)) ∙ sym c.has.ensures ∙ c.if-has.true)
 
 pub returns-then-has-2-clause-pin : goal.returns-then-has-2-clause-pin
 returns-then-has-2-clause-pin g c = inl (subst (HasWire c.args.known.now.steps) (c.pin-wire.ensures.wire ∙ ap (λ m. pin_wire m c.args.pin) c.shape.ensures) (c.has-2.ensures.known c.if-has-2.true))
-
-pub try_pin-requires-clause-marks : goal.try_pin-requires-clause-marks
-try_pin-requires-clause-marks g c = c.requires.marks.are
 
 pub try_pin-requires-clause-new : goal.try_pin-requires-clause-new
 try_pin-requires-clause-new g c = subst (λ w. ¬ HasWire c.args.known.now.steps w) (c.pin-wire.ensures.wire ∙ ap (λ m. pin_wire m c.args.pin) c.shape.ensures) (c.has-2.ensures.unknown c.if-has-2.false)
@@ -81,79 +55,60 @@ pub try_pin-requires-clause-first : goal.try_pin-requires-clause-first
 try_pin-requires-clause-first g c = ap (has_number c.args.marks.now.barred) (sym (c.pin-wire.ensures.wire ∙ ap (λ m. pin_wire m c.args.pin) c.shape.ensures)) ∙ sym c.has.ensures ∙ c.if-has.false
 
 pub returns-in_err-try_pin-clause-grows : goal.returns-in_err-try_pin-clause-grows
-returns-in_err-try_pin-clause-grows g c = pin_grows c.requires.marks.are (subst (λ w. w < wires_of c.args.facts.now.shape) (c.pin-wire.ensures.wire ∙ ap (λ m. pin_wire m c.args.pin) c.shape.ensures) (subst (λ (m : Shape). c.pin-wire.result.0 < wires_of m) c.shape.ensures c.pin-wire.ensures.within)) (ap (has_number c.args.marks.now.barred) (sym (c.pin-wire.ensures.wire ∙ ap (λ m. pin_wire m c.args.pin) c.shape.ensures)) ∙ sym c.has.ensures ∙ c.if-has.false) c.try_pin.ensures.known c.try_pin.ensures.more c.try_pin.ensures.barred
-
-pub returns-in_err-try_pin-clause-spends : goal.returns-in_err-try_pin-clause-spends
-returns-in_err-try_pin-clause-spends g c = spends_barred _ _ c.requires.marks.are (subst (λ w. w < wires_of c.args.facts.now.shape) (c.pin-wire.ensures.wire ∙ ap (λ m. pin_wire m c.args.pin) c.shape.ensures) (subst (λ (m : Shape). c.pin-wire.result.0 < wires_of m) c.shape.ensures c.pin-wire.ensures.within)) (ap (has_number c.args.marks.now.barred) (sym (c.pin-wire.ensures.wire ∙ ap (λ m. pin_wire m c.args.pin) c.shape.ensures)) ∙ sym c.has.ensures ∙ c.if-has.false) c.try_pin.ensures.barred (takes_two c.try_pin.ensures.loads)
+returns-in_err-try_pin-clause-grows g c = pin_grows c.requires.marks (subst (λ w. w < wires_of c.args.facts.now.shape) (c.pin-wire.ensures.wire ∙ ap (λ m. pin_wire m c.args.pin) c.shape.ensures) (subst (λ (m : Shape). c.pin-wire.result.0 < wires_of m) c.shape.ensures c.pin-wire.ensures.within)) (ap (has_number c.args.marks.now.barred) (sym (c.pin-wire.ensures.wire ∙ ap (λ m. pin_wire m c.args.pin) c.shape.ensures)) ∙ sym c.has.ensures ∙ c.if-has.false) c.try_pin.ensures.known c.try_pin.ensures.more c.try_pin.ensures.barred
 
 pub returns-in_err-try_pin-clause-spends_each : goal.returns-in_err-try_pin-clause-spends_each
-returns-in_err-try_pin-clause-spends_each g c = λ f e marks. spends_barred _ _ marks.are (subst (λ w. w < wires_of c.args.facts.now.shape) (c.pin-wire.ensures.wire ∙ ap (λ m. pin_wire m c.args.pin) c.shape.ensures) (subst (λ (m : Shape). c.pin-wire.result.0 < wires_of m) c.shape.ensures c.pin-wire.ensures.within)) (ap (has_number c.args.marks.now.barred) (sym (c.pin-wire.ensures.wire ∙ ap (λ m. pin_wire m c.args.pin) c.shape.ensures)) ∙ sym c.has.ensures ∙ c.if-has.false) c.try_pin.ensures.barred (takes_two c.try_pin.ensures.loads)
+returns-in_err-try_pin-clause-spends_each g c = λ f e marks. few_barred _ _ c.requires.marks (subst (λ w. w < wires_of c.args.facts.now.shape) (c.pin-wire.ensures.wire ∙ ap (λ m. pin_wire m c.args.pin) c.shape.ensures) (subst (λ (m : Shape). c.pin-wire.result.0 < wires_of m) c.shape.ensures c.pin-wire.ensures.within)) (ap (has_number c.args.marks.now.barred) (sym (c.pin-wire.ensures.wire ∙ ap (λ m. pin_wire m c.args.pin) c.shape.ensures)) ∙ sym c.has.ensures ∙ c.if-has.false) c.try_pin.ensures.barred (takes_two c.try_pin.ensures.loads)
 
 pub look_on-requires-clause-links : goal.look_on-requires-clause-links
 look_on-requires-clause-links g c = subst (λ (m : Shape). AreLinked m c.args.near.now.items) (sym c.try_pin.ensures.advances.more.shape) c.requires.links
 
-pub look_on-requires-clause-marks : goal.look_on-requires-clause-marks
-look_on-requires-clause-marks g c =
-    let grows = pin_grows c.requires.marks.are (subst (λ w. w < wires_of c.args.facts.now.shape) (c.pin-wire.ensures.wire ∙ ap (λ m. pin_wire m c.args.pin) c.shape.ensures) (subst (λ (m : Shape). c.pin-wire.result.0 < wires_of m) c.shape.ensures c.pin-wire.ensures.within)) (ap (has_number c.args.marks.now.barred) (sym (c.pin-wire.ensures.wire ∙ ap (λ m. pin_wire m c.args.pin) c.shape.ensures)) ∙ sym c.has.ensures ∙ c.if-has.false) c.try_pin.ensures.known c.try_pin.ensures.more c.try_pin.ensures.barred in
-    subst (λ (told : Option Faults). AreAllMarks told c.try_pin.new.facts c.args.near.now.items c.try_pin.new.known.steps c.try_pin.new.marks) (sym (ap (λ m. m.faults) c.try_pin.ensures.advances.machine))
-    (pin_marks (pin_wire c.args.facts.now.shape c.args.pin) c.try_pin.ensures.advances.more grows c.requires.marks c.in_ok-try_pin.ensures.marks c.try_pin.ensures.barred)
-
 pub look_on-requires-clause-from : goal.look_on-requires-clause-from
 look_on-requires-clause-from g c =
-    let long = longer (pin_grows c.requires.marks.are (subst (λ w. w < wires_of c.args.facts.now.shape) (c.pin-wire.ensures.wire ∙ ap (λ m. pin_wire m c.args.pin) c.shape.ensures) (subst (λ (m : Shape). c.pin-wire.result.0 < wires_of m) c.shape.ensures c.pin-wire.ensures.within)) (ap (has_number c.args.marks.now.barred) (sym (c.pin-wire.ensures.wire ∙ ap (λ m. pin_wire m c.args.pin) c.shape.ensures)) ∙ sym c.has.ensures ∙ c.if-has.false) c.try_pin.ensures.known c.try_pin.ensures.more c.try_pin.ensures.barred) in
+    let long = longer (pin_grows c.requires.marks (subst (λ w. w < wires_of c.args.facts.now.shape) (c.pin-wire.ensures.wire ∙ ap (λ m. pin_wire m c.args.pin) c.shape.ensures) (subst (λ (m : Shape). c.pin-wire.result.0 < wires_of m) c.shape.ensures c.pin-wire.ensures.within)) (ap (has_number c.args.marks.now.barred) (sym (c.pin-wire.ensures.wire ∙ ap (λ m. pin_wire m c.args.pin) c.shape.ensures)) ∙ sym c.has.ensures ∙ c.if-has.false) c.try_pin.ensures.known c.try_pin.ensures.more c.try_pin.ensures.barred) in
     let len = c.len-from.ensures.len in
     omega (arith, long, len)
 
 pub returns-clause-grows : goal.returns-clause-grows
-returns-clause-grows g c = grows_then (pin_grows c.requires.marks.are (subst (λ w. w < wires_of c.args.facts.now.shape) (c.pin-wire.ensures.wire ∙ ap (λ m. pin_wire m c.args.pin) c.shape.ensures) (subst (λ (m : Shape). c.pin-wire.result.0 < wires_of m) c.shape.ensures c.pin-wire.ensures.within)) (ap (has_number c.args.marks.now.barred) (sym (c.pin-wire.ensures.wire ∙ ap (λ m. pin_wire m c.args.pin) c.shape.ensures)) ∙ sym c.has.ensures ∙ c.if-has.false) c.try_pin.ensures.known c.try_pin.ensures.more c.try_pin.ensures.barred) c.look_on.ensures.grows
-
-pub returns-clause-tried : goal.returns-clause-tried
-returns-clause-tried g c =
-    let step = c.look_on.ensures.grows in
-    let first = tried_one (ap (λ (m : Marks). m.barred) c.try_pin.ensures.barred) c.in_ok-try_pin.ensures.tried in
-    on_ok_weaker c.look_on.result (λ second. tried_then step.more step.steps c.look_on.ensures.advances.more first
-    (subst (λ (told : Option Faults). AreTried told c.look_on.new.facts c.look_on.new.known.steps c.try_pin.new.marks.barred c.look_on.new.marks.barred) (ap (λ m. m.faults) c.try_pin.ensures.advances.machine) second)) c.look_on.ensures.tried
+returns-clause-grows g c = grows_then (pin_grows c.requires.marks (subst (λ w. w < wires_of c.args.facts.now.shape) (c.pin-wire.ensures.wire ∙ ap (λ m. pin_wire m c.args.pin) c.shape.ensures) (subst (λ (m : Shape). c.pin-wire.result.0 < wires_of m) c.shape.ensures c.pin-wire.ensures.within)) (ap (has_number c.args.marks.now.barred) (sym (c.pin-wire.ensures.wire ∙ ap (λ m. pin_wire m c.args.pin) c.shape.ensures)) ∙ sym c.has.ensures ∙ c.if-has.false) c.try_pin.ensures.known c.try_pin.ensures.more c.try_pin.ensures.barred) c.look_on.ensures.grows
 
 pub returns-clause-tried_each : goal.returns-clause-tried_each
 returns-clause-tried_each g c =
-    let grows = pin_grows c.requires.marks.are (subst (λ w. w < wires_of c.args.facts.now.shape) (c.pin-wire.ensures.wire ∙ ap (λ m. pin_wire m c.args.pin) c.shape.ensures) (subst (λ (m : Shape). c.pin-wire.result.0 < wires_of m) c.shape.ensures c.pin-wire.ensures.within)) (ap (has_number c.args.marks.now.barred) (sym (c.pin-wire.ensures.wire ∙ ap (λ m. pin_wire m c.args.pin) c.shape.ensures)) ∙ sym c.has.ensures ∙ c.if-has.false) c.try_pin.ensures.known c.try_pin.ensures.more c.try_pin.ensures.barred in
+    let grows = pin_grows c.requires.marks (subst (λ w. w < wires_of c.args.facts.now.shape) (c.pin-wire.ensures.wire ∙ ap (λ m. pin_wire m c.args.pin) c.shape.ensures) (subst (λ (m : Shape). c.pin-wire.result.0 < wires_of m) c.shape.ensures c.pin-wire.ensures.within)) (ap (has_number c.args.marks.now.barred) (sym (c.pin-wire.ensures.wire ∙ ap (λ m. pin_wire m c.args.pin) c.shape.ensures)) ∙ sym c.has.ensures ∙ c.if-has.false) c.try_pin.ensures.known c.try_pin.ensures.more c.try_pin.ensures.barred in
     let step = c.look_on.ensures.grows in
     on_ok_so c.look_on.result c.look_on.ensures.tried_each (λ second f e marks. let before = c.look_on.ensures.advances.narrows f e in
     tried_then step.more step.steps c.look_on.ensures.advances.more (tried_one (ap (λ (m : Marks). m.barred) c.try_pin.ensures.barred) (c.in_ok-try_pin.ensures.tried_each f before))
     (second f e (pin_marks (pin_wire c.args.facts.now.shape c.args.pin) c.try_pin.ensures.advances.more grows marks (c.in_ok-try_pin.ensures.marks_each f before marks.are) c.try_pin.ensures.barred)))
 
-pub returns-clause-grown : goal.returns-clause-grown
-returns-clause-grown g c =
-    let grows = pin_grows c.requires.marks.are (subst (λ w. w < wires_of c.args.facts.now.shape) (c.pin-wire.ensures.wire ∙ ap (λ m. pin_wire m c.args.pin) c.shape.ensures) (subst (λ (m : Shape). c.pin-wire.result.0 < wires_of m) c.shape.ensures c.pin-wire.ensures.within)) (ap (has_number c.args.marks.now.barred) (sym (c.pin-wire.ensures.wire ∙ ap (λ m. pin_wire m c.args.pin) c.shape.ensures)) ∙ sym c.has.ensures ∙ c.if-has.false) c.try_pin.ensures.known c.try_pin.ensures.more c.try_pin.ensures.barred in
-    on_ok_weaker c.look_on.result (λ on. λ grown.
-    subst (λ (told : Option Faults). IsGrown told c.try_pin.new.facts c.args.near.now.items c.try_pin.new.known.steps c.try_pin.new.marks.barred c.len-from.result →
-    IsGrown told c.look_on.new.facts c.args.near.now.items c.look_on.new.known.steps c.look_on.new.marks.barred (length c.look_on.new.known.steps)) (ap (λ m. m.faults) c.try_pin.ensures.advances.machine) on
-    (grown_at (sym c.len-from.ensures.len)
-    (grown_on c.try_pin.ensures.advances.more (omega arith) grows grown))) c.look_on.ensures.grown
-
 pub returns-clause-grown_each : goal.returns-clause-grown_each
 returns-clause-grown_each g c =
-    let grows = pin_grows c.requires.marks.are (subst (λ w. w < wires_of c.args.facts.now.shape) (c.pin-wire.ensures.wire ∙ ap (λ m. pin_wire m c.args.pin) c.shape.ensures) (subst (λ (m : Shape). c.pin-wire.result.0 < wires_of m) c.shape.ensures c.pin-wire.ensures.within)) (ap (has_number c.args.marks.now.barred) (sym (c.pin-wire.ensures.wire ∙ ap (λ m. pin_wire m c.args.pin) c.shape.ensures)) ∙ sym c.has.ensures ∙ c.if-has.false) c.try_pin.ensures.known c.try_pin.ensures.more c.try_pin.ensures.barred in
+    let grows = pin_grows c.requires.marks (subst (λ w. w < wires_of c.args.facts.now.shape) (c.pin-wire.ensures.wire ∙ ap (λ m. pin_wire m c.args.pin) c.shape.ensures) (subst (λ (m : Shape). c.pin-wire.result.0 < wires_of m) c.shape.ensures c.pin-wire.ensures.within)) (ap (has_number c.args.marks.now.barred) (sym (c.pin-wire.ensures.wire ∙ ap (λ m. pin_wire m c.args.pin) c.shape.ensures)) ∙ sym c.has.ensures ∙ c.if-has.false) c.try_pin.ensures.known c.try_pin.ensures.more c.try_pin.ensures.barred in
     on_ok_so c.look_on.result c.look_on.ensures.grown_each (λ on f e marks grown. let before = c.look_on.ensures.advances.narrows f e in
     on f e (pin_marks (pin_wire c.args.facts.now.shape c.args.pin) c.try_pin.ensures.advances.more grows marks (c.in_ok-try_pin.ensures.marks_each f before marks.are) c.try_pin.ensures.barred) (grown_at (sym c.len-from.ensures.len) (grown_on c.try_pin.ensures.advances.more (omega arith) grows grown)))
 
 pub returns-clause-pin : goal.returns-clause-pin
-returns-clause-pin g c = on_ok_weaker c.look_on.result (λ marks. inr (c.look_on.ensures.grows.stays.stays (pin_wire c.args.facts.now.shape c.args.pin) (pin_has c.requires.marks.are (subst (λ w. w < wires_of c.args.facts.now.shape) (c.pin-wire.ensures.wire ∙ ap (λ m. pin_wire m c.args.pin) c.shape.ensures) (subst (λ (m : Shape). c.pin-wire.result.0 < wires_of m) c.shape.ensures c.pin-wire.ensures.within)) c.try_pin.ensures.barred))) c.look_on.ensures.marks
-
-pub returns-clause-marks : goal.returns-clause-marks
-returns-clause-marks g c = subst (λ (told : Option Faults). OnOk c.look_on.result (AreAllMarks told c.look_on.new.facts c.args.near.now.items c.look_on.new.known.steps c.look_on.new.marks)) (ap (λ m. m.faults) c.try_pin.ensures.advances.machine) c.look_on.ensures.marks
+returns-clause-pin g c = on_ok_so c.look_on.result c.look_on.ensures.marks_each (λ each. inr (c.look_on.ensures.grows.stays.stays (pin_wire c.args.facts.now.shape c.args.pin) (pin_has c.requires.marks (subst (λ w. w < wires_of c.args.facts.now.shape) (c.pin-wire.ensures.wire ∙ ap (λ m. pin_wire m c.args.pin) c.shape.ensures) (subst (λ (m : Shape). c.pin-wire.result.0 < wires_of m) c.shape.ensures c.pin-wire.ensures.within)) c.try_pin.ensures.barred)))
 
 pub returns-clause-marks_each : goal.returns-clause-marks_each
 returns-clause-marks_each g c =
-    let grows = pin_grows c.requires.marks.are (subst (λ w. w < wires_of c.args.facts.now.shape) (c.pin-wire.ensures.wire ∙ ap (λ m. pin_wire m c.args.pin) c.shape.ensures) (subst (λ (m : Shape). c.pin-wire.result.0 < wires_of m) c.shape.ensures c.pin-wire.ensures.within)) (ap (has_number c.args.marks.now.barred) (sym (c.pin-wire.ensures.wire ∙ ap (λ m. pin_wire m c.args.pin) c.shape.ensures)) ∙ sym c.has.ensures ∙ c.if-has.false) c.try_pin.ensures.known c.try_pin.ensures.more c.try_pin.ensures.barred in
+    let grows = pin_grows c.requires.marks (subst (λ w. w < wires_of c.args.facts.now.shape) (c.pin-wire.ensures.wire ∙ ap (λ m. pin_wire m c.args.pin) c.shape.ensures) (subst (λ (m : Shape). c.pin-wire.result.0 < wires_of m) c.shape.ensures c.pin-wire.ensures.within)) (ap (has_number c.args.marks.now.barred) (sym (c.pin-wire.ensures.wire ∙ ap (λ m. pin_wire m c.args.pin) c.shape.ensures)) ∙ sym c.has.ensures ∙ c.if-has.false) c.try_pin.ensures.known c.try_pin.ensures.more c.try_pin.ensures.barred in
     on_ok_so c.look_on.result c.look_on.ensures.marks_each (λ each f e marks. let before = c.look_on.ensures.advances.narrows f e in
     each f e (pin_marks (pin_wire c.args.facts.now.shape c.args.pin) c.try_pin.ensures.advances.more grows marks (c.in_ok-try_pin.ensures.marks_each f before marks.are) c.try_pin.ensures.barred))
 
-pub returns-clause-spends : goal.returns-clause-spends
-returns-clause-spends g c = spends_then c.try_pin.ensures.advances.more c.try_pin.ensures.advances.holds (spends_barred _ _ c.requires.marks.are (subst (λ w. w < wires_of c.args.facts.now.shape) (c.pin-wire.ensures.wire ∙ ap (λ m. pin_wire m c.args.pin) c.shape.ensures) (subst (λ (m : Shape). c.pin-wire.result.0 < wires_of m) c.shape.ensures c.pin-wire.ensures.within)) (ap (has_number c.args.marks.now.barred) (sym (c.pin-wire.ensures.wire ∙ ap (λ m. pin_wire m c.args.pin) c.shape.ensures)) ∙ sym c.has.ensures ∙ c.if-has.false) c.try_pin.ensures.barred (takes_two c.try_pin.ensures.loads)) (spends_told (ap (λ m. m.faults) c.try_pin.ensures.advances.machine) c.look_on.ensures.spends)
-
 pub returns-clause-spends_each : goal.returns-clause-spends_each
 returns-clause-spends_each g c =
-    let grows = pin_grows c.requires.marks.are (subst (λ w. w < wires_of c.args.facts.now.shape) (c.pin-wire.ensures.wire ∙ ap (λ m. pin_wire m c.args.pin) c.shape.ensures) (subst (λ (m : Shape). c.pin-wire.result.0 < wires_of m) c.shape.ensures c.pin-wire.ensures.within)) (ap (has_number c.args.marks.now.barred) (sym (c.pin-wire.ensures.wire ∙ ap (λ m. pin_wire m c.args.pin) c.shape.ensures)) ∙ sym c.has.ensures ∙ c.if-has.false) c.try_pin.ensures.known c.try_pin.ensures.more c.try_pin.ensures.barred in
+    let grows = pin_grows c.requires.marks (subst (λ w. w < wires_of c.args.facts.now.shape) (c.pin-wire.ensures.wire ∙ ap (λ m. pin_wire m c.args.pin) c.shape.ensures) (subst (λ (m : Shape). c.pin-wire.result.0 < wires_of m) c.shape.ensures c.pin-wire.ensures.within)) (ap (has_number c.args.marks.now.barred) (sym (c.pin-wire.ensures.wire ∙ ap (λ m. pin_wire m c.args.pin) c.shape.ensures)) ∙ sym c.has.ensures ∙ c.if-has.false) c.try_pin.ensures.known c.try_pin.ensures.more c.try_pin.ensures.barred in
     λ f e marks. let before = c.look_on.ensures.advances.narrows f e in
-    spends_then c.try_pin.ensures.advances.more (held c.try_pin.ensures.advances before) (spends_barred _ _ marks.are (subst (λ w. w < wires_of c.args.facts.now.shape) (c.pin-wire.ensures.wire ∙ ap (λ m. pin_wire m c.args.pin) c.shape.ensures) (subst (λ (m : Shape). c.pin-wire.result.0 < wires_of m) c.shape.ensures c.pin-wire.ensures.within)) (ap (has_number c.args.marks.now.barred) (sym (c.pin-wire.ensures.wire ∙ ap (λ m. pin_wire m c.args.pin) c.shape.ensures)) ∙ sym c.has.ensures ∙ c.if-has.false) c.try_pin.ensures.barred (takes_two c.try_pin.ensures.loads)) (c.look_on.ensures.spends_each f e (pin_marks (pin_wire c.args.facts.now.shape c.args.pin) c.try_pin.ensures.advances.more grows marks (c.in_ok-try_pin.ensures.marks_each f before marks.are) c.try_pin.ensures.barred))
+    few_then c.try_pin.ensures.advances.more (held c.try_pin.ensures.advances before) (few_barred _ _ c.requires.marks (subst (λ w. w < wires_of c.args.facts.now.shape) (c.pin-wire.ensures.wire ∙ ap (λ m. pin_wire m c.args.pin) c.shape.ensures) (subst (λ (m : Shape). c.pin-wire.result.0 < wires_of m) c.shape.ensures c.pin-wire.ensures.within)) (ap (has_number c.args.marks.now.barred) (sym (c.pin-wire.ensures.wire ∙ ap (λ m. pin_wire m c.args.pin) c.shape.ensures)) ∙ sym c.has.ensures ∙ c.if-has.false) c.try_pin.ensures.barred (takes_two c.try_pin.ensures.loads)) (c.look_on.ensures.spends_each f e (pin_marks (pin_wire c.args.facts.now.shape c.args.pin) c.try_pin.ensures.advances.more grows marks (c.in_ok-try_pin.ensures.marks_each f before marks.are) c.try_pin.ensures.barred))
+
+pub returns-then-has-clause-spends : goal.returns-then-has-clause-spends
+returns-then-has-clause-spends g c = spends_none refl refl
+
+pub returns-then-has-2-clause-spends : goal.returns-then-has-2-clause-spends
+returns-then-has-2-clause-spends g c = spends_none refl refl
+
+pub returns-in_err-try_pin-clause-spends : goal.returns-in_err-try_pin-clause-spends
+returns-in_err-try_pin-clause-spends g c = spends_barred _ _ c.requires.marks (subst (λ w. w < wires_of c.args.facts.now.shape) (c.pin-wire.ensures.wire ∙ ap (λ m. pin_wire m c.args.pin) c.shape.ensures) (subst (λ (m : Shape). c.pin-wire.result.0 < wires_of m) c.shape.ensures c.pin-wire.ensures.within)) (ap (has_number c.args.marks.now.barred) (sym (c.pin-wire.ensures.wire ∙ ap (λ m. pin_wire m c.args.pin) c.shape.ensures)) ∙ sym c.has.ensures ∙ c.if-has.false) c.try_pin.ensures.barred (takes_two c.try_pin.ensures.loads)
+
+pub returns-clause-spends : goal.returns-clause-spends
+returns-clause-spends g c = spends_then c.try_pin.ensures.advances.more (spends_barred _ _ c.requires.marks (subst (λ w. w < wires_of c.args.facts.now.shape) (c.pin-wire.ensures.wire ∙ ap (λ m. pin_wire m c.args.pin) c.shape.ensures) (subst (λ (m : Shape). c.pin-wire.result.0 < wires_of m) c.shape.ensures c.pin-wire.ensures.within)) (ap (has_number c.args.marks.now.barred) (sym (c.pin-wire.ensures.wire ∙ ap (λ m. pin_wire m c.args.pin) c.shape.ensures)) ∙ sym c.has.ensures ∙ c.if-has.false) c.try_pin.ensures.barred (takes_two c.try_pin.ensures.loads)) c.look_on.ensures.spends

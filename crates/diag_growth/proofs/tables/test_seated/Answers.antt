@@ -1,12 +1,8 @@
 use Rattle.std.proofs.Common.{◌∙◌, refl, sym}
-use Rattle.std.proofs.lemmas.Result.{on_ok_weaker}
 use Rattle.diag_growth.proofs.Fresh.{takes_kept, takes_fresh}
 use Rattle.diag_growth.proofs.Testing.{kept_over, kept_unseated, only_none}
 use Rattle.diag_known.proofs.Settling.{on_ok_so}
 use Rattle.diag_growth.proofs.tables.test_seated.Goals as goal
-
-pub returns-then-is_kept-clause-table : goal.returns-then-is_kept-clause-table
-returns-then-is_kept-clause-table g c = record { at = λ f is h seated right. c.is_kept.ensures.kept c.if-is_kept.true }
 
 pub returns-then-is_kept-clause-table_each : goal.returns-then-is_kept-clause-table_each
 returns-then-is_kept-clause-table_each g c = λ f e. record { at = λ h is holds seated right. c.is_kept.ensures.kept c.if-is_kept.true }
@@ -29,9 +25,6 @@ returns-clause-loads g c = takes_fresh (sym c.is_kept.ensures.is ∙ c.if-is_kep
 pub returns-in_default-clause-only : goal.returns-in_default-clause-only
 returns-in_default-clause-only g c = only_none
 
-pub returns-in_default-found-clause-table : goal.returns-in_default-found-clause-table
-returns-in_default-found-clause-table g c = kept_unseated (rw c.in_default-found.is at c.in-Ok.ensures.none)
-
 pub returns-in_default-found-clause-table_each : goal.returns-in_default-found-clause-table_each
 returns-in_default-found-clause-table_each g c = λ f e. kept_unseated (rw c.in_default-found.is at c.in-Ok.ensures.none)
 
@@ -41,11 +34,8 @@ returns-in_default-found-clause-only g c = only_none
 pub test_table-requires-clause-seat : goal.test_table-requires-clause-seat
 test_table-requires-clause-seat g c = let s = rw c.in-Some.is at c.in-Ok.ensures.seat in s.0
 
-pub returns-clause-table : goal.returns-clause-table
-returns-clause-table g c = on_ok_weaker c.test_table.result (λ table. let s = rw c.in-Some.is at c.in-Ok.ensures.seat in kept_over s.1 table) c.test_table.ensures.table
-
 pub returns-clause-table_each : goal.returns-clause-table_each
 returns-clause-table_each g c = on_ok_so c.test_table.result c.test_table.ensures.table_each (λ table f e. let s = rw c.in-Some.is at c.in-Ok.ensures.seat in kept_over s.1 (table f e))
 
 pub returns-clause-stands : goal.returns-clause-stands
-returns-clause-stands g c = on_ok_weaker c.test_table.result (λ table. c.in-Ok.ensures.stands) c.test_table.ensures.table
+returns-clause-stands g c = on_ok_so c.test_table.result c.test_table.ensures.table_each (λ table. c.in-Ok.ensures.stands)

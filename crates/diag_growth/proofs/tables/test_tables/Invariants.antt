@@ -14,7 +14,6 @@ invariant-tables g l =
     record {
       advances : Advances rig0 rig l.fn.facts l.facts;
       only : AddsOnlyTableFacts l.fn.facts l.facts;
-      tested : AreTested rig0.machine.faults l.fn.facts l.facts l.known.steps l.tables l.i;
       tested_each : ForEach rig (λ told. AreTested told l.fn.facts l.facts l.known.steps l.tables l.i);
       without : AreAllWithout l.facts l.known.steps l.without.hextant.0 l.without.known;
       loads : rig.loads ≤ rig0.loads + 130 * fresh_tables l.fn.facts (take l.i l.tables);

@@ -1,20 +1,10 @@
 use Rattle.std.proofs.Common.{◌∙◌, sym, inr}
-use Rattle.std.proofs.lemmas.Result.{IfOk-weaker, on_ok_weaker}
-use Rattle.diag_known.proofs.Settling.{kept_by, kept_each, faulty_later, marks_offered, on_ok_so}
+use Rattle.diag_known.proofs.Settling.{kept_each, marks_offered, on_ok_so}
 use Rattle.diag_known.proofs.Hung.{none_hung}
 use Rattle.diag_known.proofs.hang.hang.Goals as goal
 
-pub returns-in_default-found-clause-lost : goal.returns-in_default-found-clause-lost
-returns-in_default-found-clause-lost g c = λ e. none_hung (rw c.in_default-found.is at c.in-Ok.ensures.none)
-
 pub returns-in_default-found-clause-lost_each : goal.returns-in_default-found-clause-lost_each
 returns-in_default-found-clause-lost_each g c = λ f e is_no. none_hung (rw c.in_default-found.is at c.in-Ok.ensures.none)
-
-pub returns-clause-marks : goal.returns-clause-marks
-returns-clause-marks g c =
-    let more = c.toggle_hung.ensures.advances.more in
-    on_ok_weaker c.toggle_hung.result (λ kept. marks_offered c.args.offer.now.foot.cross.0 c.requires.marks more kept c.requires.offer.foot.within c.offer.ensures)
-    (kept_by _ _ _ c.toggle_hung.result c.toggle_hung.ensures.kept (IfOk-weaker c.toggle_hung.result _ _ (λ yes faulty. λ is_no. faulty_later more (faulty is_no)) c.toggle_hung.ensures.faulty))
 
 pub returns-clause-marks_each : goal.returns-clause-marks_each
 returns-clause-marks_each g c =

@@ -1,5 +1,4 @@
 use Rattle.std.proofs.Common.{◌≡◌, ◌<◌, ◌∙◌, true, Some, List, sym, subst, slice_get}
-use Rattle.std.proofs.lemmas.Result.{IfOk-weaker}
 use Rattle.machine_shape.specs.declared.Cross.{Cross}
 use Rattle.machine_shape.specs.Shape.{pins_of, crosses_of}
 use Rattle.machine_config.specs.Groups.{among}
@@ -25,21 +24,10 @@ toggle_cross-answer-requires-clause-closed g c =
     ∙ or_third (among c.args.way.now.crosses c.args.offer.now.foot.cross.0) (among c.args.way.now.crosses c.args.offer.now.foot.cross.0) (among (cross_numbers c.deref.result.now) c.args.offer.now.foot.cross.0)
     (subst (λ (xs : List Cross). among (cross_numbers xs) c.args.offer.now.foot.cross.0 ≡ true) (sym c.deref.ensures.value) (hung_tied c.requires.hung))
 
-pub returns-clause-lost : goal.returns-clause-lost
-returns-clause-lost g c =
-    IfOk-weaker c.toggle_cross-answer.result _ _ (λ yes passes. λ is_no.
-    rw (c.give_back_drive.ensures, c.give_back.ensures) (hung_lost c.requires.known c.requires.offer c.requires.way c.requires.hung (laid_as c.deref.ensures.value c.in_ok-config.ensures.laid) (pulled_as c.deref-2.ensures.value c.in_ok-drive.ensures.pulled) (rw c.pin.ensures at passes) (subst (λ (k : Kept). IsMore k c.toggle_cross-answer.new.self) (c.in_ok-drive.ensures.same ∙ c.in_ok-config.ensures.same) c.toggle_cross-answer.ensures.advances.more) is_no))
-    c.toggle_cross-answer.ensures.passes
-
 pub returns-clause-lost_each : goal.returns-clause-lost_each
 returns-clause-lost_each g c =
     if_ok_so c.toggle_cross-answer.result c.toggle_cross-answer.ensures.passes_each (λ yes passes f e is_no.
     rw (c.give_back_drive.ensures, c.give_back.ensures) (hung_lost c.requires.known c.requires.offer c.requires.way c.requires.hung (laid_as c.deref.ensures.value c.in_ok-config.ensures.laid) (pulled_as c.deref-2.ensures.value c.in_ok-drive.ensures.pulled) (rw c.pin.ensures at (passes f e)) (subst (λ (k : Kept). IsMore k c.toggle_cross-answer.new.self) (c.in_ok-drive.ensures.same ∙ c.in_ok-config.ensures.same) c.toggle_cross-answer.ensures.advances.more) is_no))
-
-pub returns-clause-faulty : goal.returns-clause-faulty
-returns-clause-faulty g c =
-    IfOk-weaker c.toggle_cross-answer.result _ _ (λ yes passes. λ is_no. hung_sound c.requires.known c.requires.offer c.requires.way c.requires.hung (laid_as c.deref.ensures.value c.in_ok-config.ensures.laid) (pulled_as c.deref-2.ensures.value c.in_ok-drive.ensures.pulled) (rw c.pin.ensures at passes) is_no)
-    c.toggle_cross-answer.ensures.passes
 
 pub returns-clause-faulty_each : goal.returns-clause-faulty_each
 returns-clause-faulty_each g c =

@@ -33,25 +33,14 @@ found_in-requires-clause-taps g c = subst (λ (m : Shape). All (λ (w : Wire). w
 pub found_in-requires-clause-lines : goal.found_in-requires-clause-lines
 found_in-requires-clause-lines g c = subst (λ (m : Shape). All (λ (w : Wire). w.0 < wires_of m) c.in-Ok.bar.lines.items) (sym c.in_ok-grow.ensures.advances.more.shape) c.in-Ok.ensures.lines
 
-pub returns-in_default-clause-few : goal.returns-in_default-clause-few
-returns-in_default-clause-few g c = no_few _ c.args.facts.now c.args.node.0 _
-
 pub returns-in_default-clause-few_each : goal.returns-in_default-clause-few_each
 returns-in_default-clause-few_each g c = λ f e. no_few _ c.args.facts.now c.args.node.0 _
 
 pub returns-in_err-grow-clause-loads : goal.returns-in_err-grow-clause-loads
 returns-in_err-grow-clause-loads g c = bar_loads c.args.node.0 c.in-Ok.field _ _ c.args.facts.now c.in-Ok.ensures.field c.in_err-grow.ensures.loads
 
-pub returns-in_err-grow-clause-few : goal.returns-in_err-grow-clause-few
-returns-in_err-grow-clause-few g c = bar_few c.args.node.0 c.in-Ok.field _ _ _ c.args.facts.now c.in-Ok.ensures.field c.in_err-grow.ensures.few
-
 pub returns-in_err-grow-clause-few_each : goal.returns-in_err-grow-clause-few_each
 returns-in_err-grow-clause-few_each g c = λ f e. bar_few c.args.node.0 c.in-Ok.field _ _ _ c.args.facts.now c.in-Ok.ensures.field (c.in_err-grow.ensures.few_each f e)
-
-pub returns-in-Ok-found_in-clause-full : goal.returns-in-Ok-found_in-clause-full
-returns-in-Ok-found_in-clause-full g c = full_is _ c.args.facts.now c.grow.new.facts c.grow.new.known c.in-Ok.field c.in-Ok-found_in.tested (c.the_laws_hold.ensures c.grow.new.facts.shape) c.in_ok-grow.ensures.advances.holds
-    (bar_at (sym c.in_ok-grow.ensures.advances.more.shape) (sym (rw c.in-Ok-found_in.is at c.found_in.ensures.node)) c.in-Ok.ensures.field) c.in_ok-grow.ensures.closed
-    (rw c.in-Ok-found_in.is at c.found_in.ensures.held) (rw c.in-Ok-found_in.is at c.found_in.ensures.all)
 
 pub returns-in-Ok-found_in-clause-full_each : goal.returns-in-Ok-found_in-clause-full_each
 returns-in-Ok-found_in-clause-full_each g c = λ f e. full_is _ c.args.facts.now c.grow.new.facts c.grow.new.known c.in-Ok.field c.in-Ok-found_in.tested (c.the_laws_hold.ensures c.grow.new.facts.shape) (held c.in_ok-grow.ensures.advances e)
@@ -61,17 +50,11 @@ returns-in-Ok-found_in-clause-full_each g c = λ f e. full_is _ c.args.facts.now
 pub returns-in-Ok-found_in-clause-loads : goal.returns-in-Ok-found_in-clause-loads
 returns-in-Ok-found_in-clause-loads g c = bar_loads c.args.node.0 c.in-Ok.field _ _ c.args.facts.now c.in-Ok.ensures.field c.in_ok-grow.ensures.loads
 
-pub returns-in-Ok-found_in-clause-few : goal.returns-in-Ok-found_in-clause-few
-returns-in-Ok-found_in-clause-few g c = bar_few c.args.node.0 c.in-Ok.field _ _ _ c.args.facts.now c.in-Ok.ensures.field c.in_ok-grow.ensures.few
-
 pub returns-in-Ok-found_in-clause-few_each : goal.returns-in-Ok-found_in-clause-few_each
 returns-in-Ok-found_in-clause-few_each g c = λ f e. bar_few c.args.node.0 c.in-Ok.field _ _ _ c.args.facts.now c.in-Ok.ensures.field (c.in_ok-grow.ensures.few_each f e)
 
 pub returns-clause-loads : goal.returns-clause-loads
 returns-clause-loads g c = bar_loads c.args.node.0 c.in-Ok.field _ _ c.args.facts.now c.in-Ok.ensures.field c.in_ok-grow.ensures.loads
-
-pub returns-clause-few : goal.returns-clause-few
-returns-clause-few g c = bar_few c.args.node.0 c.in-Ok.field _ _ _ c.args.facts.now c.in-Ok.ensures.field c.in_ok-grow.ensures.few
 
 pub returns-clause-few_each : goal.returns-clause-few_each
 returns-clause-few_each g c = λ f e. bar_few c.args.node.0 c.in-Ok.field _ _ _ c.args.facts.now c.in-Ok.ensures.field (c.in_ok-grow.ensures.few_each f e)

@@ -13,15 +13,9 @@ add_wires-requires g c = within_marks c.args.facts.now.shape c.args.pins.now.ite
 pub grow-requires-clause-field : goal.grow-requires-clause-field
 grow-requires-clause-field g c = record { wires = c.add_wires.ensures.len ∙ c.in-Ok.ensures.field.wires ∙ ap wires_of c.shape-shape.ensures; crosses = c.in-Ok.ensures.field.crosses ∙ ap crosses_of c.shape-shape.ensures }
 
-pub returns-clause-found : goal.returns-clause-found
-returns-clause-found g c = on_ok c.grow.result c.grow.ensures.closed (λ closed. pins_grown _ _ _ _ c.args.count c.args.pins.now.items _ _ c.grow.ensures.advances.more.shape c.grow.ensures.advances.holds c.requires.count c.requires.pins c.add_wires.ensures closed)
-
 pub returns-clause-found_each : goal.returns-clause-found_each
 returns-clause-found_each g c = on_ok c.grow.result c.grow.ensures.closed_each
     (λ closed f e. pins_grown _ _ _ _ c.args.count c.args.pins.now.items _ _ c.grow.ensures.advances.more.shape (held c.grow.ensures.advances e) c.requires.count c.requires.pins c.add_wires.ensures (closed f e))
-
-pub returns-clause-loads : goal.returns-clause-loads
-returns-clause-loads g c = few_loads _ _ _ c.args.pins.now.items _ _ _ c.args.count c.requires.length c.in-Ok.ensures.wires c.in-Ok.ensures.crosses c.add_wires.ensures c.grow.ensures.few
 
 pub returns-clause-loads_each : goal.returns-clause-loads_each
 returns-clause-loads_each g c = λ f e. few_loads _ _ _ c.args.pins.now.items _ _ _ c.args.count c.requires.length c.in-Ok.ensures.wires c.in-Ok.ensures.crosses c.add_wires.ensures (c.grow.ensures.few_each f e)

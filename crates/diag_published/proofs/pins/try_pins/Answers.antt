@@ -25,11 +25,6 @@ returns-in-Ok-trunk_of-clause-held g c =
     (pin_end c.grow_pins.new.facts.shape c.args.count (wire_numbers c.in-Ok.pins.items) (rw c.in_ok-grow_pins.ensures.advances.more.shape c.requires.count)
     (subst (λ (m : Shape). IsListOf (IsAtOneOf (pin_wire m) c.args.count) (wire_numbers c.in-Ok.pins.items)) same c.in-Ok.ensures.pins)))
 
-pub returns-in-Ok-trunk_of-clause-none : goal.returns-in-Ok-trunk_of-clause-none
-returns-in-Ok-trunk_of-clause-none g c = if_none _ (rw (c.in-Ok-trunk_of.is, c.deref.ensures.value) at c.trunk_of.ensures.none) (λ one.
-    few_pins _ c.args.facts.now c.grow_pins.new.known c.args.count (wire_numbers c.in-Ok.pins.items) (c.the_laws_hold.ensures c.args.facts.now.shape) c.requires.count
-    (subst (λ (m : Shape). IsListOf (IsAtOneOf (pin_wire m) c.args.count) (wire_numbers c.in-Ok.pins.items)) c.shape-shape.ensures c.in-Ok.ensures.pins) c.in_ok-grow_pins.ensures.found one)
-
 pub returns-in-Ok-trunk_of-clause-none_each : goal.returns-in-Ok-trunk_of-clause-none_each
 returns-in-Ok-trunk_of-clause-none_each g c = λ f e. if_none _ (rw (c.in-Ok-trunk_of.is, c.deref.ensures.value) at c.trunk_of.ensures.none) (λ one.
     few_pins _ c.args.facts.now c.grow_pins.new.known c.args.count (wire_numbers c.in-Ok.pins.items) (c.the_laws_hold.ensures c.args.facts.now.shape) c.requires.count

@@ -1,5 +1,5 @@
 use Rattle.std.proofs.Common.{◌≡◌, ℕ, Some, refl, sym, subst, arith}
-use Rattle.diag_published.proofs.Trunking.{trunks_end, unserved_if}
+use Rattle.diag_published.proofs.Trunking.{trunks_end}
 use Rattle.diag_published.specs.Held.{FullIf, UnservedIf}
 use Rattle.diag_published.proofs.Laid.{if_ok, if_none, of_some}
 use Rattle.diag_published.proofs.trunks.find_trunk.Goals as goal
@@ -8,11 +8,6 @@ pub returns-in-None-clause-held : goal.returns-in-None-clause-held
 returns-in-None-clause-held g c =
     let root : c.args.node.0 ≡ 0 = rw c.in-None.is at c.requires.root in
     rw root c.root_trunk.ensures.held
-
-pub returns-in-None-clause-none : goal.returns-in-None-clause-none
-returns-in-None-clause-none g c =
-    let root : c.args.node.0 ≡ 0 = rw c.in-None.is at c.requires.root in
-    rw root c.root_trunk.ensures.none
 
 pub returns-in-None-clause-none_each : goal.returns-in-None-clause-none_each
 returns-in-None-clause-none_each g c =
@@ -27,16 +22,10 @@ returns-in-None-clause-node g c =
 pub returns-in-Some-clause-node : goal.returns-in-Some-clause-node
 returns-in-Some-clause-node g c = trunks_end c.args.facts.now c.args.known.now c.args.node.0 c.child_trunk.result c.args.facts.now.shape (c.the_laws_hold.ensures c.args.facts.now.shape) refl c.child_trunk.ensures.held
 
-pub returns-in-Some-clause-none : goal.returns-in-Some-clause-none
-returns-in-Some-clause-none g c = unserved_if c.child_trunk.result _ c.args.facts.now c.in-Some.tested.now c.args.node.0 (rw c.in-Some.is at c.requires.full) c.child_trunk.ensures.none
-
 pub returns-in-Some-clause-none_each : goal.returns-in-Some-clause-none_each
 returns-in-Some-clause-none_each g c = if_ok c.child_trunk.result c.child_trunk.ensures.none
     (λ found none f e full. let above : FullIf (Some f) c.args.facts.now c.args.facts.now c.in-Some.tested.now = of_some _ c.in-Some.is full in
     if_none found none (λ unserved. record { at = λ h is holds. unserved h (above.at h is holds) }))
-
-pub returns-in-Some-clause-loads : goal.returns-in-Some-clause-loads
-returns-in-Some-clause-loads g c = record { at = λ f is faultless holds. omega arith }
 
 pub returns-in-Some-clause-loads_each : goal.returns-in-Some-clause-loads_each
 returns-in-Some-clause-loads_each g c = λ f e. record { at = λ h is faultless holds. omega arith }

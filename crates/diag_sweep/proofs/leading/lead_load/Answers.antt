@@ -13,4 +13,4 @@ returns-clause-goes g c =
     let test = c.test_paths.ensures in
     let course = subst (λ (ls : List Lead). IsCourse c.args.facts.now c.args.known.now.steps c.args.field.now c.lay_walks.new.course.config.config c.lay_walks.new.course.drive ls c.lay_walks.new.course.seen)
     (sym c.deref.ensures.value) (c.in-Ok-lay_walks.ensures c.if-not-laid.false) in
-    lead_goes _ c.test_paths.result c.requires.hand course (c.if-not-can_pay.ensures refl) test.loads test.advances.more test.marks test.led test.unmarked test.stuck_each
+    lead_goes c.test_paths.result c.requires.hand course (c.if-not-can_pay.ensures refl) test.loads test.advances.more test.marks test.logged test.unmarked test.stuck_each

@@ -7,4 +7,4 @@ returns-clause-goes g c =
     let test = c.tables_each.ensures in
     let given = rw c.deref.ensures.value at c.if-not-are_given.ensures refl in
     table_goes c.args.table_sweep.now.tables.items c.requires.hand (c.if-not-can_pay.ensures refl) test.loads test.advances.more
-    (wrong_marks _ _ c.args.table_sweep.now.tables.items _ _ _ _ _ _ c.tables_each.result given test.marks test.tabled test.unmarked) test.wrong_each
+    (wrong_marks _ c.args.table_sweep.now.tables.items _ _ _ _ _ _ _ c.tables_each.result given test.marks test.logged test.unmarked) test.wrong_each

@@ -12,8 +12,8 @@ returns-clause-goes g c =
     let test = c.screen_wires.ensures in
     let of = rw (← c.as_slice-feet.ensures.value) at can.field in
     hang_goes 1 c.requires.hand (c.if-not-can_pay.ensures refl) test.loads test.advances.more
-    (told_unfit c.args.field.now _ _ _ _ _ _ _ _ c.screen_wires.result of test.marks test.stay test.told test.unmarked)
-    (told_unclear c.args.field.now _ _ _ _ _ _ _ _ c.screen_wires.result of test.marks_too test.stay_too test.told test.unmarked_too)
+    (told_unfit c.args.field.now _ _ _ _ _ _ _ c.screen_wires.result of test.marks test.stay test.marked test.unmarked)
+    (told_unclear c.args.field.now _ _ _ _ _ _ _ c.screen_wires.result of test.marks_too test.stay_too test.marked test.unmarked_too)
     (λ f e. test.unfit_each f e (is_step c.args.known.now.steps) (λ w on. step_has c.args.known.now.steps w (can.known w on)))
     test.unclear_each
 
@@ -23,7 +23,7 @@ returns-in_err-screen_wires-clause-goes g c =
     let test = c.screen_wires.ensures in
     let of = rw (← c.as_slice-feet.ensures.value) at can.field in
     hang_goes 1 c.requires.hand (c.if-not-can_pay.ensures refl) test.loads test.advances.more
-    (told_unfit c.args.field.now _ _ _ _ _ _ _ _ c.screen_wires.result of test.marks test.stay test.told test.unmarked)
-    (told_unclear c.args.field.now _ _ _ _ _ _ _ _ c.screen_wires.result of test.marks_too test.stay_too test.told test.unmarked_too)
+    (told_unfit c.args.field.now _ _ _ _ _ _ _ c.screen_wires.result of test.marks test.stay test.marked test.unmarked)
+    (told_unclear c.args.field.now _ _ _ _ _ _ _ c.screen_wires.result of test.marks_too test.stay_too test.marked test.unmarked_too)
     (λ f e. test.unfit_each f e (is_step c.args.known.now.steps) (λ w on. step_has c.args.known.now.steps w (can.known w on)))
     test.unclear_each

@@ -1,7 +1,8 @@
 use Rattle.std.proofs.Common.{refl, arith}
 use Rattle.std.proofs.lemmas.Result.{err_from_is_err_and}
 use Rattle.cmd_steps.specs.Outside.{outside}
-use Rattle.run_image.proofs.RowLemmas.{IsDriving-start, IsDriving-more, batch-of, end-of, few-together, pins-are, read-stops, makes-stop, ends-so}
+use Rattle.run_image.proofs.CycleLemmas.{batch-smaller, few-together}
+use Rattle.run_image.proofs.RowLemmas.{IsDriving-start, IsDriving-more, batch-of, end-of, pins-are, read-stops, makes-stop, ends-so}
 use Rattle.run_image.proofs.image.write_rows.Goals as goal
 
 pub file-init : goal.file-init
@@ -36,6 +37,11 @@ file-preserved g c =
     let batch = batch-of c.in_ok-count.count c.next_batch.new.rows _ _ c.if-count-eq0.false b.gives in
     IsDriving-more _ _ r0.failures _ (omega arith) c.file.rows _ c.file.invariant c.next_batch.new.rows s1 k1 b.stays b.same b.fits c.in_ok-count.count b.few batch
     r2 m.machine m.loads m.narrows m.tells m.failures m.makes.readings m.makes.drives c.make_rows.new.rows k2 m.same m.vectors m.fits m.left m.makes.adds
+
+pub file-smaller : goal.file-smaller
+file-smaller g c =
+    let batch = batch-of c.in_ok-count.count c.next_batch.new.rows _ _ c.if-count-eq0.false c.in_ok-count.ensures.gives in
+    batch-smaller c.in_ok-count.count c.next_batch.new.rows c.make_rows.new.rows _ _ batch c.in_ok-make_rows.ensures.vectors
 
 pub returns-in_err-count : goal.returns-in_err-count
 returns-in_err-count g c =

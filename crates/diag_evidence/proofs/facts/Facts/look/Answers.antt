@@ -3,7 +3,6 @@ use Rattle.machine_shape.specs.Shape.{pins_of}
 use Rattle.machine_config.specs.Faulty.{IsRun}
 use Rattle.diag_evidence.specs.Looks.{look_drives}
 use Rattle.diag_evidence.proofs.Sessions.{on_ok}
-use Rattle.diag_evidence.proofs.Logging.{logs_as}
 use Rattle.diag_evidence.proofs.facts.Facts.look.Goals as goal
 
 pub returns-clause-looked_each : goal.returns-clause-looked_each
@@ -21,10 +20,14 @@ returns-clause-session g c = on_ok c.take-looked.result c.take-looked.ensures.se
 
 pub returns-clause-logged : goal.returns-clause-logged
 returns-clause-logged g c = on_ok c.take-looked.result c.take-looked.ensures.logged (λ log. let j = c.in_ok-close_just.ensures in record {
-  config = c.close_just.new.config.config;
-  shape = j.shape;
-  closed = j.closed;
-  off = j.off;
-  ticks = j.ticks;
-  logged = logs_as log (ap look_drives (c.requires.reads ∙ ap pins_of (sym c.requires.forest))) refl;
+  session = record { config = c.close_just.new.config.config; cycles = log.cycles };
+  look = record {
+    shape = j.shape;
+    closed = j.closed;
+    off = j.off;
+    ticks = j.ticks;
+    driven = log.driven ∙ ap look_drives (c.requires.reads ∙ ap pins_of (sym c.requires.forest));
+    read = log.read;
+  };
+  logged = log.logged;
 })

@@ -23,3 +23,6 @@ returns-clause-unclear_each g c = λ f e before. unclear_same _ c.args.self.now 
 
 pub returns-clause-told_each : goal.returns-clause-told_each
 returns-clause-told_each g c = λ f e. record { look = c.in_ok-look.ensures.looked_each f e; marks = c.mark_unfit.ensures.marked }
+
+pub returns-clause-marked : goal.returns-clause-marked
+returns-clause-marked g c = c.mark_unfit.ensures.marked

@@ -1,6 +1,6 @@
 use Rattle.std.proofs.Common.{◌≡◌, refl, subst}
 use Rattle.diag_evidence.specs.Vocabulary.{Kept, HasLearnt}
-use Rattle.diag_evidence.proofs.Tried.{are_hung, tried_silent, tried_answered, stay_unfit, stay_unclear, newly_unfit, newly_unclear, unfit_hung, unclear_hung, tried_holds, learnt_advances}
+use Rattle.diag_evidence.proofs.Tried.{are_hung, shows_silent, shows_hung, tried_silent, tried_answered, stay_unfit, stay_unclear, newly_unfit, newly_unclear, unfit_hung, unclear_hung, tried_holds, learnt_advances}
 use Rattle.diag_evidence.proofs.Marked.{unfit_none, unclear_none}
 use Rattle.diag_evidence.proofs.facts.Facts.test_wires.Goals as goal
 
@@ -54,3 +54,12 @@ returns-clause-advances g c =
     let learnt = subst (λ (k : Kept). HasLearnt c.args.forest.now c.args.hangs.now c.view.new.views k c.learn_hung.new.self c.args.unfit.now c.learn_hung.new.unfit c.args.unclear.now c.learn_hung.new.unclear) c.in_ok-view.ensures.same c.in_ok-learn_hung.ensures.learnt in
     learnt_advances learnt c.in_ok-view.ensures.loads.machine c.in_ok-view.ensures.loads.later c.in_ok-view.ensures.loads.counted c.in_ok-view.ensures.few c.in_ok-view.ensures.loads.narrows c.in_ok-view.ensures.loads.tells
     (λ f e. tried_holds _ c.args.forest.now c.args.hangs.now c.view.new.views c.in_ok-view.field-0 (c.in_ok-view.ensures.viewed_each f e) c.args.self.now c.learn_hung.new.self c.if-not-branch.false learnt c.shape-shape.ensures.forest c.requires.forest (are_hung c.requires.hangs) f refl)
+
+pub returns-then-not-branch-clause-logged : goal.returns-then-not-branch-clause-logged
+returns-then-not-branch-clause-logged g c =
+    shows_silent c.args.forest.now c.args.hangs.now c.view.new.views c.in_ok-view.field-0 c.in_ok-view.ensures.logged c.args.self.now c.view.new.self c.args.unfit.now c.args.unclear.now c.if-not-branch.true c.in_ok-view.ensures.same
+
+pub returns-clause-logged : goal.returns-clause-logged
+returns-clause-logged g c =
+    let learnt = subst (λ (k : Kept). HasLearnt c.args.forest.now c.args.hangs.now c.view.new.views k c.learn_hung.new.self c.args.unfit.now c.learn_hung.new.unfit c.args.unclear.now c.learn_hung.new.unclear) c.in_ok-view.ensures.same c.in_ok-learn_hung.ensures.learnt in
+    shows_hung c.args.forest.now c.args.hangs.now c.view.new.views c.in_ok-view.field-0 c.in_ok-view.ensures.logged c.args.self.now c.learn_hung.new.self c.if-not-branch.false learnt

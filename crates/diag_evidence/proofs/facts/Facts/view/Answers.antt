@@ -4,7 +4,7 @@ use Rattle.std.proofs.lemmas.List.Elements.{All-map}
 use Rattle.machine_shape.specs.Shape.{crosses_of}
 use Rattle.diag_evidence.specs.Hangs.{Foot, IsFoot, over_of, turned, overs, others, all_feet}
 use Rattle.diag_evidence.proofs.Hanging.{feet_below, all_are_feet, overs_feet}
-use Rattle.diag_evidence.proofs.Tried.{look_over}
+use Rattle.diag_evidence.proofs.Tried.{look_over, look_over_logged, three_looks}
 use Rattle.diag_evidence.proofs.facts.Facts.view.Goals as goal
 
 pub look-requires-clause-feet : goal.look-requires-clause-feet
@@ -40,3 +40,19 @@ returns-clause-viewed_each g c = λ f e.
       without_over = λ is. look_over c.args.forest.now (c.deref-2.ensures.value ∙ c.requires.plan.others_are) (c.in_ok-look-2.ensures.looked_each f second);
       without_other = λ is. look_over c.args.forest.now (c.deref-3.ensures.value ∙ c.requires.plan.overs_are) (c.in_ok-look-3.ensures.looked_each f e);
     }
+
+pub returns-then-not-some_answers-clause-logged : goal.returns-then-not-some_answers-clause-logged
+returns-then-not-some_answers-clause-logged g c = record {
+  answers = sym c.some_answers.ensures ∙ c.if-not-some_answers.true;
+  once = λ is. look_over_logged c.args.forest.now (c.deref.ensures.value ∙ c.requires.plan.all_are) c.in_ok-look.ensures.logged;
+  thrice = λ is. absurd (false≢true is);
+}
+
+pub returns-clause-logged : goal.returns-clause-logged
+returns-clause-logged g c = record {
+  answers = sym c.some_answers.ensures ∙ c.if-not-some_answers.false;
+  once = λ is. absurd (false≢true (sym is));
+  thrice = λ is. three_looks c.args.forest.now c.args.hangs.now (look_over_logged c.args.forest.now (c.deref.ensures.value ∙ c.requires.plan.all_are) c.in_ok-look.ensures.logged)
+      (look_over_logged c.args.forest.now (c.deref-2.ensures.value ∙ c.requires.plan.others_are) c.in_ok-look-2.ensures.logged)
+      (look_over_logged c.args.forest.now (c.deref-3.ensures.value ∙ c.requires.plan.overs_are) c.in_ok-look-3.ensures.logged);
+}

@@ -9,5 +9,5 @@ invariant-lines g l =
     record {
       machine : rig.machine ≡ rig0.machine;
       shape : l.facts.shape ≡ l.fn.facts.shape;
-      found : AreFound rig0.machine.faults l.facts l.walk.known l.walk.found.items;
+      found : AreFound rig l.facts l.walk.known l.walk.found.items;
     }
