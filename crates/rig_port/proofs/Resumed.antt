@@ -1,5 +1,7 @@
 -- A session that was made again is the one that was.
 use Rattle.std.proofs.Common.{◌≡◌, ℕ, suc, zero, ◌+◌, ◌≤◌, ◌<◌, Bool, true, false, List, [], ◌∷◌, ◌++◌, map, length, take, drop, set, All, Option, None, Some, refl, sym, ap, ◌∙◌, arith, subst, IfSome, IsSome, is_some, option_map, Result, Ok, Err, OnOk, OnErr, ◌⊎◌, inl, inr, ◌^◌, ◌-◌, min}
+use Rattle.std.proofs.Math.Bool.{beq}
+use lib.Pointwise.{pointwise}
 use Rattle.std.proofs.lemmas.Bool.{false≢true}
 use Rattle.std.proofs.lemmas.List.{append_assoc, append-nil, length-append, length-drop, length-map, length-take-le, take_more_set, length-set}
 use Rattle.std.proofs.lemmas.List.Elements.{All-set, All-take, All-drop, All-append}
@@ -24,6 +26,16 @@ use Rattle.rig_port.specs.Sessions.{SetsAnew, HasRows, CanResume, HasMade, IsOf,
 use Rattle.rig_port.proofs.Alarm.{told_map, rose_later}
 use Rattle.rig_port.proofs.Turned.{drives_paired, readings_paired, length_drives}
 
+-- rows whose bits are the same
+pub same_bits : (xs ys : List Bool) → pointwise beq xs ys ≡ true → xs ≡ ys
+same_bits [] [] e = refl
+same_bits [] (y ∷ ys) e = absurd (false≢true e)
+same_bits (x ∷ xs) [] e = absurd (false≢true e)
+same_bits (true ∷ xs) (true ∷ ys) e = ap (λ l. true ∷ l) (same_bits xs ys e)
+same_bits (true ∷ xs) (false ∷ ys) e = absurd (false≢true e)
+same_bits (false ∷ xs) (true ∷ ys) e = absurd (false≢true e)
+same_bits (false ∷ xs) (false ∷ ys) e = ap (λ l. false ∷ l) (same_bits xs ys e)
+
 -- words that set all anew are posted on every machine of their shape
 pub posted_whole : (device : Option Device) (set : Configuration) (whole : List ℕ) → IfSome device (λ d. d.shape ≡ set.shape) → SetsAnew set whole → IsPosted device set whole true
 posted_whole device set whole shape a = record { edits = a.edits; right = a.right; line_is = a.line_is; told = told device shape } where
@@ -38,8 +50,11 @@ linked_whole device set whole line anew running due is is_anew is_due shape a = 
   loaded = λ _ idle. absurd (false≢true (sym idle ∙ is_due));
 }
 
+abbrev pub shape_and_faults : Device → Shape × Faults
+shape_and_faults d = (d.shape, d.faults)
+
 -- a machine that is told has its shape before and after
-pub still_shaped : (m : Shape) (old new : Option Device) → option_map (λ (d : Device). (d.shape, d.faults)) new ≡ option_map (λ (d : Device). (d.shape, d.faults)) old
+pub still_shaped : (m : Shape) (old new : Option Device) → option_map shape_and_faults new ≡ option_map shape_and_faults old
     → IfSome old (λ d. d.shape ≡ m) → IfSome new (λ d. d.shape ≡ m)
 still_shaped m None None same is = tt
 still_shaped m None (Some e) same is = absurd (false≢true (sym (ap is_some same)))
@@ -108,14 +123,14 @@ still_told false g device = refl
 
 -- what was asked again was turned
 pub turned_again : (drives reads : List Pins) (g : Configuration) (cycles : List Exchange) (due due_now : Bool) (old new : Option Device) → length drives ≡ length reads
-    → option_map (λ (d : Device). (d.shape, d.faults)) new ≡ option_map (λ (d : Device). (d.shape, d.faults)) old → IfSome (told_with due g old) (IsInSession g cycles)
+    → option_map shape_and_faults new ≡ option_map shape_and_faults old → IfSome (told_with due g old) (IsInSession g cycles)
     → HasMade g (cycles ++ paired drives reads) due_now new → HasTurned drives reads due g old due_now new
 turned_again drives reads g cycles due due_now old new many same at made = record {
   pairs = paired drives reads;
   driven = drives_paired drives reads many;
   read = readings_paired drives reads many;
   turned = turned_on (paired drives reads) g cycles (told_with due g old) (told_with due_now g new)
-      (still_told due_now g new ∙ sym (told_map (λ (d : Device). (d.shape, d.faults)) new) ∙ ap is_some same ∙ told_map (λ (d : Device). (d.shape, d.faults)) old ∙ sym (still_told due g old))
+      (still_told due_now g new ∙ sym (told_map shape_and_faults new) ∙ ap is_some same ∙ told_map shape_and_faults old ∙ sym (still_told due g old))
       at made;
 }
 
@@ -165,7 +180,7 @@ HasShape m device = IfSome device (λ d. d.shape ≡ m)
 abbrev pub HasCounts : Shape → Option Device → Type 0
 HasCounts m device = IfSome device (λ d. AreCounts m.counts → AreCounts d.shape.counts)
 
-pub still_counts : (m : Shape) (old new : Option Device) → option_map (λ (d : Device). (d.shape, d.faults)) new ≡ option_map (λ (d : Device). (d.shape, d.faults)) old → HasCounts m old → HasCounts m new
+pub still_counts : (m : Shape) (old new : Option Device) → option_map shape_and_faults new ≡ option_map shape_and_faults old → HasCounts m old → HasCounts m new
 still_counts m None None same is = tt
 still_counts m None (Some e) same is = absurd (false≢true (sym (ap is_some same)))
 still_counts m (Some d) None same is = tt
@@ -184,7 +199,7 @@ told_counts m None counts is = tt
 told_counts m (Some d) counts is = is counts
 
 -- a failure that was seen is seen later too
-pub alarm_on : (m : Shape) (mid new : Option Device) (a b c : ℕ) → option_map (λ (d : Device). (d.shape, d.faults)) new ≡ option_map (λ (d : Device). (d.shape, d.faults)) mid → b ≤ c
+pub alarm_on : (m : Shape) (mid new : Option Device) (a b c : ℕ) → option_map shape_and_faults new ≡ option_map shape_and_faults mid → b ≤ c
     → IfSome mid (λ d. d.shape ≡ m → Rose a b) → IfSome new (λ d. d.shape ≡ m → Rose a c)
 alarm_on m None None a b c same le rose = tt
 alarm_on m None (Some e) a b c same le rose = absurd (false≢true (sym (ap is_some same)))
