@@ -23,7 +23,7 @@ use Rattle.rig_port.specs.Answers.{start_of}
 use Rattle.rig_port.specs.Ports.{PortState, machine_told}
 use Rattle.rig_port.specs.Linked.{AreEdited, IsPosted, IsLinked, HasTurned, told_with}
 use Rattle.rig_port.specs.Sessions.{SetsAnew, HasRows, CanResume, HasMade, IsOf, KeepsSession, kept_drives, kept_reads, kept_pairs, paired}
-use Rattle.rig_port.proofs.Alarm.{told_map, rose_later}
+use Rattle.rig_port.proofs.Alarm.{told_map}
 use Rattle.rig_port.proofs.Turned.{drives_paired, readings_paired, length_drives}
 
 -- rows whose bits are the same
@@ -64,7 +64,7 @@ still_shaped m (Some d) (Some e) same is = let shapes : e.shape ≡ d.shape = fi
   shape_or None = m
   shape_or (Some p) = p.0
 
-  first : Some (e.shape, e.faults) ≡ Some (d.shape, d.faults) → e.shape ≡ d.shape
+  first : Some (shape_and_faults e) ≡ Some (shape_and_faults d) → e.shape ≡ d.shape
   first s = ap shape_or s
 
 -- it goes on from a session that is known
@@ -199,12 +199,15 @@ told_counts m None counts is = tt
 told_counts m (Some d) counts is = is counts
 
 -- a failure that was seen is seen later too
+pub rose_still : (a b c : ℕ) → b ≤ c → Rose a b → Rose a c
+rose_still a b c le rose = omega (arith, le, rose)
+
 pub alarm_on : (m : Shape) (mid new : Option Device) (a b c : ℕ) → option_map shape_and_faults new ≡ option_map shape_and_faults mid → b ≤ c
     → IfSome mid (λ d. d.shape ≡ m → Rose a b) → IfSome new (λ d. d.shape ≡ m → Rose a c)
 alarm_on m None None a b c same le rose = tt
 alarm_on m None (Some e) a b c same le rose = absurd (false≢true (sym (ap is_some same)))
 alarm_on m (Some d) None a b c same le rose = tt
-alarm_on m (Some d) (Some e) a b c same le rose = λ is. rose_later a b c le (rose (sym (still_shaped d.shape (Some d) (Some e) same refl) ∙ is))
+alarm_on m (Some d) (Some e) a b c same le rose = λ is. rose_still a b c le (rose (sym (still_shaped d.shape (Some d) (Some e) same refl) ∙ is))
 
 pub many_rows : (old new : List Pins) → KeepLengths old new → length new ≡ length old
 many_rows old new same = sym (length-map new length) ∙ ap length same ∙ length-map old length

@@ -11,8 +11,10 @@ pub attach_again-requires : goal.attach_again-requires
 attach_again-requires g c =
     let m = c.args.link.now.set.config.shape in
     let device = (g.P.Port.port_state c.attach.new.port).device in
-    subst (λ (s : Roomy). HasCounts s.config.shape device) (sym c.attach.ensures.stays.set)
-    (still_counts m (g.P.Port.port_state c.args.port.now).device device c.attach.ensures.machine (plain_counts m (g.P.Port.port_state c.args.port.now).device c.requires.told))
+    record {
+      told = subst (λ (s : Roomy). HasCounts s.config.shape device) (sym c.attach.ensures.stays.set)
+          (still_counts m (g.P.Port.port_state c.args.port.now).device device c.attach.ensures.machine (plain_counts m (g.P.Port.port_state c.args.port.now).device c.requires.told));
+    }
 
 pub returns-clause-alarm : goal.returns-clause-alarm
 returns-clause-alarm g c = λ _.

@@ -76,7 +76,7 @@ returns-then-turn_again-clause-made g c = λ _.
     (subst (λ (s : Configuration). HasMade s (kept_pairs c.tries.again ++ pairs) c.turn_again.new.link.due new) c.tries.invariant.stays.set (c.turn_again.ensures.made c.if-turn_again.true))
 
 pub returns-then-turn_again-clause-covers : goal.returns-then-turn_again-clause-covers
-returns-then-turn_again-clause-covers g c = λ _. c.if-not-covers.false
+returns-then-turn_again-clause-covers g c = λ _. c.if-not-again.false
 
 pub returns-then-turn_again-clause-rows : goal.returns-then-turn_again-clause-rows
 returns-then-turn_again-clause-rows g c = subst (λ (s : Configuration). HasRows (pins_of s.shape) c.turn_again.new.again) c.tries.invariant.stays.set c.turn_again.ensures.rows

@@ -1,4 +1,5 @@
 use Rattle.std.proofs.Common.{◌≡◌, ◌∙◌, ◌++◌, [], sym, ap, refl, arith}
+use Rattle.machine_shape.specs.Shape.{pins_of}
 use Rattle.rig_port.proofs.Resumed.{linked_whole}
 use Rattle.rig_port.proofs.resume.load_anew.Goals as goal
 
@@ -9,6 +10,6 @@ returns-clause-linked c = λ device shape.
 
 pub returns-clause-room : goal.returns-clause-room
 returns-clause-room c = record {
-  line = λ _. omega (arith, c.reserve.ensures, c.room_for.ensures);
+  line = λ _. let pins = c.pins-pins.ensures.pins ∙ ap pins_of c.shape.ensures.shape in omega (arith, c.reserve.ensures.len, c.in_ok-reserve.ensures.ok, c.room_for.ensures, pins);
   expected = c.requires.expected;
 }

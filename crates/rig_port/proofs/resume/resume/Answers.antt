@@ -1,4 +1,4 @@
-use Rattle.std.proofs.Common.{◌≡◌, ◌∙◌, ◌≤◌, All, take, length, refl, arith, ap, sym, subst, IfSome}
+use Rattle.std.proofs.Common.{◌≡◌, ◌∙◌, ◌≤◌, List, All, take, length, refl, arith, ap, sym, subst, IfSome}
 use Rattle.std.proofs.lemmas.List.{length-take-le}
 use Rattle.std.proofs.lemmas.List.Elements.{All-take}
 use Rattle.std.specs.Vec.{vec_capacity}
@@ -8,7 +8,8 @@ use Rattle.machine_meaning.specs.Circuit.{Pins}
 use Rattle.machine_config.specs.Configuration.{Configuration, Roomy}
 use Rattle.rig_port.specs.Lines.{turn_room}
 use Rattle.rig_port.specs.Linked.{HasTurned}
-use Rattle.rig_port.specs.Sessions.{SetsAnew, HasMade}
+use Rattle.rig.specs.Rig.{KeepLengths}
+use Rattle.rig_port.specs.Sessions.{SetsAnew, HasMade, paired}
 use Rattle.rig_port.proofs.Resumed.{HasShape, shaped_counts, still_shaped, made_first, rows_again, rows_stay}
 use Rattle.rig_port.proofs.resume.resume.Goals as goal
 
@@ -17,7 +18,7 @@ attach_next-requires-clause-told g c = shaped_counts c.args.link.now.set.config.
 
 pub load_anew-requires-clause-whole : goal.load_anew-requires-clause-whole
 load_anew-requires-clause-whole g c =
-    subst (λ (s : Roomy). SetsAnew s.config c.args.again.now.whole.items) (sym c.attach_next.ensures.stays.set) c.requires.whole
+    rw c.deref.ensures.value (subst (λ (s : Roomy). SetsAnew s.config c.args.again.now.whole.items) (sym c.attach_next.ensures.stays.set) c.requires.whole)
 
 pub load_anew-requires-clause-expected : goal.load_anew-requires-clause-expected
 load_anew-requires-clause-expected g c =
@@ -33,39 +34,45 @@ redrive-requires-clause-linked g c =
 pub redrive-requires-clause-drives : goal.redrive-requires-clause-drives
 redrive-requires-clause-drives g c =
     let set = c.load_anew.ensures.stays.set ∙ ap (λ (s : Roomy). s.config) c.attach_next.ensures.stays.set in
-    subst (λ (s : Configuration). All (λ (row : Pins). length row ≡ pins_of s.shape) (take c.args.again.now.made c.args.again.now.drives.items)) (sym set)
-    (All-take (λ (row : Pins). length row ≡ pins_of c.args.link.now.set.config.shape) c.args.again.now.made c.args.again.now.drives.items c.requires.rows.drives)
+    rw c.deref-2.ensures.value (subst (λ (s : Configuration). All (λ (row : Pins). length row ≡ pins_of s.shape) (take c.args.again.now.made c.args.again.now.drives.items)) (sym set)
+    (All-take (λ (row : Pins). length row ≡ pins_of c.args.link.now.set.config.shape) c.args.again.now.made c.args.again.now.drives.items c.requires.rows.drives))
 
 pub redrive-requires-clause-spare : goal.redrive-requires-clause-spare
 redrive-requires-clause-spare g c =
     let set = c.load_anew.ensures.stays.set ∙ ap (λ (s : Roomy). s.config) c.attach_next.ensures.stays.set in
-    subst (λ (s : Configuration). All (λ (row : Pins). length row ≡ pins_of s.shape) (take c.args.again.now.made c.args.again.now.spare.items)) (sym set)
-    (All-take (λ (row : Pins). length row ≡ pins_of c.args.link.now.set.config.shape) c.args.again.now.made c.args.again.now.spare.items c.requires.rows.spare)
+    rw c.deref_mut.ensures.value (subst (λ (s : Configuration). All (λ (row : Pins). length row ≡ pins_of s.shape) (take c.args.again.now.made c.args.again.now.spare.items)) (sym set)
+    (All-take (λ (row : Pins). length row ≡ pins_of c.args.link.now.set.config.shape) c.args.again.now.made c.args.again.now.spare.items c.requires.rows.spare))
 
 pub redrive-requires-clause-as_many : goal.redrive-requires-clause-as_many
 redrive-requires-clause-as_many g c =
     let d = length-take-le c.args.again.now.made c.args.again.now.drives.items c.requires.rows.made in
     let s = length-take-le c.args.again.now.made c.args.again.now.spare.items (omega (arith, c.requires.rows.made, c.requires.rows.many_spare)) in
-    d ∙ sym s
+    rw (c.deref-2.ensures.value, c.deref_mut.ensures.value) (d ∙ sym s)
 
 pub redrive-requires-clause-as_many_read : goal.redrive-requires-clause-as_many_read
 redrive-requires-clause-as_many_read g c =
     let d = length-take-le c.args.again.now.made c.args.again.now.drives.items c.requires.rows.made in
     let r = length-take-le c.args.again.now.made c.args.again.now.readings.items (omega (arith, c.requires.rows.made, c.requires.rows.many)) in
-    r ∙ sym d
+    rw (c.deref-3.ensures.value, c.deref-2.ensures.value) (r ∙ sym d)
 
 pub returns-clause-made : goal.returns-clause-made
 returns-clause-made g c = λ right.
     let set = c.load_anew.ensures.stays.set ∙ ap (λ (s : Roomy). s.config) c.attach_next.ensures.stays.set in
-    let drives = take c.args.again.now.made c.args.again.now.drives.items in
-    let reads = take c.args.again.now.made c.args.again.now.readings.items in
-    made_first drives reads c.args.link.now.set.config c.load_anew.new.link.due c.redrive.new.link.due (g.P.Port.port_state c.attach_next.new.port).device
-    (g.P.Port.port_state c.redrive.new.port).device c.in-Ok.ensures.due
-    (subst (λ (s : Configuration). HasTurned drives reads c.load_anew.new.link.due s (g.P.Port.port_state c.attach_next.new.port).device c.redrive.new.link.due
-    (g.P.Port.port_state c.redrive.new.port).device) set (c.redrive.ensures.turned right))
+    let g0 = c.args.link.now.set.config in
+    let n = c.args.again.now.made in
+    let drives : List Pins = c.deref-2.result.now in
+    let reads : List Pins = c.deref-3.result.now in
+    let new = (g.P.Port.port_state c.redrive.new.port).device in
+    subst (λ (xs : List Pins). HasMade g0 (paired (take n xs) (take n c.args.again.now.readings.items)) c.redrive.new.link.due new) c.deref-2.ensures.value
+    (subst (λ (xs : List Pins). HasMade g0 (paired (take n drives) (take n xs)) c.redrive.new.link.due new) c.deref-3.ensures.value
+    (made_first (take n drives) (take n reads) g0 c.load_anew.new.link.due c.redrive.new.link.due (g.P.Port.port_state c.attach_next.new.port).device new c.in-Ok.ensures.due
+    (subst (λ (s : Configuration). HasTurned (take n drives) (take n reads) c.load_anew.new.link.due s (g.P.Port.port_state c.attach_next.new.port).device c.redrive.new.link.due new) set
+    (c.redrive.ensures.turned right))))
 
 pub returns-clause-rows : goal.returns-clause-rows
-returns-clause-rows g c = rows_again (pins_of c.args.link.now.set.config.shape) c.args.again.now _ c.redrive.new.spare c.requires.rows c.redrive.ensures.lengths refl refl refl refl
+returns-clause-rows g c =
+    rows_again (pins_of c.args.link.now.set.config.shape) c.args.again.now _ c.redrive.new.spare c.requires.rows
+    (subst (λ (xs : List Pins). KeepLengths (take c.args.again.now.made xs) c.redrive.new.spare) c.deref_mut.ensures.value c.redrive.ensures.lengths) refl refl refl refl
 
 pub returns-then-not-attach_next-clause-stays : goal.returns-then-not-attach_next-clause-stays
 returns-then-not-attach_next-clause-stays g c = record {

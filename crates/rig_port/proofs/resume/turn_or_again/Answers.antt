@@ -6,8 +6,7 @@ use Rattle.base_io.specs.Counts.{Rose}
 use Rattle.rig_board.proofs.OneByOne.{lengths_kept}
 use Rattle.rig_port.specs.Requests.{AreWide}
 use Rattle.rig_port.specs.Sessions.{SetsAnew, HasRows, HasMade, kept_pairs, paired}
-use Rattle.rig_port.proofs.Alarm.{rose_later}
-use Rattle.rig_port.proofs.Resumed.{HasShape, still_shaped, many_rows, turned_again}
+use Rattle.rig_port.proofs.Resumed.{HasShape, still_shaped, many_rows, rose_still, turned_again}
 use Rattle.rig_port.proofs.resume.turn_or_again.Goals as goal
 
 pub ask_again-requires-clause-told : goal.ask_again-requires-clause-told
@@ -66,7 +65,7 @@ returns-clause-turned g c = λ right.
 
 pub returns-clause-alarm : goal.returns-clause-alarm
 returns-clause-alarm g c = λ _ some.
-    rose_later (g.P.Port.port_state c.args.port.now).failures (g.P.Port.port_state c.turn_all.new.port).failures (g.P.Port.port_state c.ask_again.new.port).failures
+    rose_still (g.P.Port.port_state c.args.port.now).failures (g.P.Port.port_state c.turn_all.new.port).failures (g.P.Port.port_state c.ask_again.new.port).failures
     c.ask_again.ensures.later (c.turn_all.ensures.alarm c.if-turn_all.false some)
 
 pub returns-clause-rose : goal.returns-clause-rose
