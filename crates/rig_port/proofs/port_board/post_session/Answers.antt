@@ -1,4 +1,4 @@
-use Rattle.std.proofs.Common.{refl}
+use Rattle.std.proofs.Common.{refl, true}
 use Rattle.rig_port.proofs.Resumed.{resumes_behind, rows_beside}
 use Rattle.rig_port.proofs.port_board.post_session.Goals as goal
 
