@@ -18,7 +18,10 @@ use Rattle.rig_board.proofs.Driven.{same_pairs}
 use Rattle.rig_port.specs.declared.again.Again.{Again}
 use Rattle.rig_port.specs.declared.link.Link.{Link}
 use Rattle.rig_port.specs.Requests.{edited, IsEditOf, edits_text}
-use Rattle.rig_port.specs.Lines.{AreCounts}
+use Rattle.std.specs.Prelude.{vec_len}
+use Rattle.std.specs.Vec.{vec_capacity}
+use Rattle.rig_port.specs.Lines.{AreCounts, turn_room}
+use Rattle.rig_port.specs.Boards.{IsHeld, IsUp}
 use Rattle.rig_port.specs.Answers.{start_of}
 use Rattle.rig_port.specs.Ports.{PortState, machine_told}
 use Rattle.rig_port.specs.Linked.{AreEdited, IsPosted, IsLinked, HasTurned, told_with}
@@ -213,21 +216,16 @@ pub many_rows : (old new : List Pins) → KeepLengths old new → length new ≡
 many_rows old new same = sym (length-map new length) ∙ ap length same ∙ length-map old length
 
 -- the rows beside those that are kept were read anew
-pub rows_again : (n : ℕ) (old new : Again) (ys : List Pins) → HasRows n old → KeepLengths (take old.made old.spare.items) ys → new.drives ≡ old.drives → new.readings ≡ old.readings → new.made ≡ old.made
-    → new.spare.items ≡ ys ++ drop old.made old.spare.items → HasRows n new
+pub rows_again : (n : ℕ) (old new : Again) (ys : List Pins) → HasRows n old → KeepLengths old.spare.items ys → new.drives ≡ old.drives → new.readings ≡ old.readings → new.made ≡ old.made
+    → new.spare.items ≡ ys → HasRows n new
 rows_again n old new ys h keep drives readings made spare =
     let d : length new.drives.items ≡ length old.drives.items = ap (λ v. length v.items) drives in
     let r : length new.readings.items ≡ length old.readings.items = ap (λ v. length v.items) readings in
-    let within : old.made ≤ length old.spare.items = omega (arith, h.made, h.many_spare) in
-    let many : length ys ≡ old.made = many_rows (take old.made old.spare.items) ys keep ∙ length-take-le old.made old.spare.items within in
-    let s : length new.spare.items ≡ length old.spare.items
-    = ap length spare ∙ length-append ys (drop old.made old.spare.items) ∙ (let e : length ys + length (drop old.made old.spare.items) ≡ length old.spare.items = omega (arith, many, length-drop old.made old.spare.items, within) in e) in
+    let s : length new.spare.items ≡ length old.spare.items = ap length spare ∙ many_rows old.spare.items ys keep in
     record {
       drives = subst (λ v. All (λ (row : Pins). length row ≡ n) v.items) (sym drives) h.drives;
       readings = subst (λ v. All (λ (row : Pins). length row ≡ n) v.items) (sym readings) h.readings;
-      spare = subst (All (λ (row : Pins). length row ≡ n)) (sym spare)
-          (All-append (λ (row : Pins). length row ≡ n) ys (drop old.made old.spare.items) (lengths_kept (λ l. l ≡ n) (take old.made old.spare.items) ys keep
-          (All-take (λ (row : Pins). length row ≡ n) old.made old.spare.items h.spare)) (All-drop (λ (row : Pins). length row ≡ n) old.made old.spare.items h.spare));
+      spare = subst (All (λ (row : Pins). length row ≡ n)) (sym spare) (lengths_kept (λ l. l ≡ n) old.spare.items ys keep h.spare);
       many = r ∙ h.many ∙ sym d;
       many_spare = s ∙ h.many_spare ∙ sym d;
       made = omega (arith, made, d, h.made);
@@ -327,6 +325,55 @@ pub resumes_behind : {T E : Type 0} (r : Result T E) (device : Option Device) (l
     → OnErr r ((l.running ≡ false) × (l.due ≡ false) × (l.lost ≡ true)) → CanResume device l a
 resumes_behind (Ok _) device l a config rows made posted words lost = posted_resumes device l a rows (subst (λ (s : Configuration). SetsAnew s a.whole.items) (sym posted.0) words) made posted.2
 resumes_behind (Err _) device l a config rows made posted words lost = lost_resumes device l a rows lost.0
+
+-- what is held of a link that is there
+pub held_here : {l : Link} {o : Option Link} (port : PortState) (found : Option Shape) (again : Again) → Some l ≡ o → IsUp port found o again → IsHeld port found l
+held_here {l} port found again there up =
+    let both : IsHeld port found l × CanResume port.device l again = subst (λ (x : Option Link). IsUp port found x again) (sym there) up in
+    both.0
+
+-- a load was posted, or wasn't, since memory was lacking
+pub posted_held : {T E : Type 0} (r : Result T E) (port : PortState) (found : Option Shape) (old new : Link) (config : Configuration) → IsHeld port found old
+    → new.set.config.shape ≡ old.set.config.shape → new.expected ≡ old.expected → new.check ≡ old.check
+    → OnOk r (vec_len new.line + turn_room (pins_of new.set.config.shape) ≤ vec_capacity new.line)
+    → OnOk r ((device : Option Device) → IfSome device (λ d. d.shape ≡ old.set.config.shape) → (old.lost ≡ false → IsPosted device old.set.config old.line.items old.anew)
+    → IsPosted device new.set.config new.line.items new.anew)
+    → OnOk r ((new.set.config ≡ config) × (new.running ≡ true) × (new.due ≡ true) × (new.lost ≡ false))
+    → OnErr r ((new.running ≡ false) × (new.due ≡ false) × (new.lost ≡ true)) → IsHeld port found new
+posted_held r port found old new config h shape expected check room linked posted lost = by_result r room linked posted lost where
+  told : IfSome port.device (λ d. d.shape ≡ new.set.config.shape)
+  told = subst (λ (s : Shape). IfSome port.device (λ d. d.shape ≡ s)) (sym shape) h.told
+
+  same_room : turn_room (pins_of new.set.config.shape) ≤ vec_capacity new.expected
+  same_room = subst (λ v. turn_room (pins_of new.set.config.shape) ≤ vec_capacity v) (sym expected)
+      (subst (λ (s : Shape). turn_room (pins_of s) ≤ vec_capacity old.expected) (sym shape) h.room.expected)
+
+  by_result : {T E : Type 0} (r : Result T E) → OnOk r (vec_len new.line + turn_room (pins_of new.set.config.shape) ≤ vec_capacity new.line)
+      → OnOk r ((device : Option Device) → IfSome device (λ d. d.shape ≡ old.set.config.shape) → (old.lost ≡ false → IsPosted device old.set.config old.line.items old.anew)
+      → IsPosted device new.set.config new.line.items new.anew)
+      → OnOk r ((new.set.config ≡ config) × (new.running ≡ true) × (new.due ≡ true) × (new.lost ≡ false))
+      → OnErr r ((new.running ≡ false) × (new.due ≡ false) × (new.lost ≡ true)) → IsHeld port found new
+  by_result (Ok _) room linked posted lost = record {
+    is_open = h.is_open;
+    shape = h.shape ∙ ap Some (sym shape);
+    told = told;
+    linked = λ _. record {
+      posted = linked port.device h.told (λ kept. (h.linked kept).posted);
+      loaded = λ _ idle. absurd (false≢true (sym idle ∙ posted.2));
+    };
+    running = λ gone. absurd (false≢true (sym posted.3 ∙ gone));
+    check = λ some. h.check some ∙ sym check;
+    room = record { line = λ _. room; expected = same_room };
+  }
+  by_result (Err _) room linked posted lost = record {
+    is_open = h.is_open;
+    shape = h.shape ∙ ap Some (sym shape);
+    told = told;
+    linked = λ kept. absurd (false≢true (sym kept ∙ lost.2));
+    running = λ _. lost.0;
+    check = λ some. h.check some ∙ sym check;
+    room = record { line = λ runs. absurd (false≢true (sym lost.0 ∙ runs)); expected = same_room };
+  }
 
 -- the rows are those of the shape that was found, and stay beside new words
 pub rows_beside : (m n : Shape) (old new : Again) → n ≡ m → new.drives ≡ old.drives → new.readings ≡ old.readings → new.spare ≡ old.spare → new.made ≡ 0 → HasRows (pins_of m) old → HasRows (pins_of n) new

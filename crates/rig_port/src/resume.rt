@@ -74,6 +74,37 @@ fn redrive<P: Port>(
     are_same(spare, readings)
 }
 
+// The same, with rows beyond those that are read.
+fn redrive_first<P: Port>(
+    port: &mut P,
+    link: &mut Link,
+    drives: &[PinBits],
+    readings: &[PinBits],
+    spare: &mut [PinBits],
+) -> bool
+    requires open { (P.port_state port.old).is_open ≡ true }
+    requires linked { IsLinked (P.port_state port.old).device link.old.set.config link.old.line.items link.old.anew link.old.running
+        link.old.due }
+    requires running { link.old.running ≡ true }
+    requires drives { AreWide link.old.set.config.shape drives.now }
+    requires check { IsSome (P.port_state port.old).device → (P.port_state port.old).check ≡ link.old.check }
+    requires spare { All (λ row. length row ≡ pins_of link.old.set.config.shape) spare.old }
+    requires as_many { length drives.now ≤ length spare.old }
+    requires as_many_read { length readings.now ≡ length drives.now }
+    requires room { HasRoom (pins_of link.old.set.config.shape) link.old }
+
+    ensures machine { machine_told (P.port_state port.new) ≡ machine_told (P.port_state port.old) }
+    ensures later { (P.port_state port.old).failures ≤ (P.port_state port.new).failures }
+    ensures lengths { KeepLengths spare.old spare.new }
+    ensures stays { StaysLoaded link.old link.new }
+    ensures held { IsTrue result → IsKeptUp (P.port_state port.new) link.old link.new }
+    ensures turned { IsTrue result → HasTurned drives.now readings.now link.old.due link.old.set.config (P.port_state port.old).device
+        link.new.due (P.port_state port.new).device }
+{
+    let made = drives.len();
+    redrive(port, link, drives, readings, &mut spare[..made])
+}
+
 // Makes the session again as far as it is kept: the machine is asked under the next number what it is, all is set anew, and the cycles are
 // made again. False where one of these requests fails, or other bits are read than before.
 fn resume<P: Port>(port: &mut P, link: &mut Link, again: &mut Again) -> bool
@@ -98,12 +129,12 @@ fn resume<P: Port>(port: &mut P, link: &mut Link, again: &mut Again) -> bool
         return false;
     };
     let made = again.made;
-    redrive(
+    redrive_first(
         port,
         link,
         &again.drives[..made],
         &again.readings[..made],
-        &mut again.spare[..made],
+        &mut again.spare,
     )
 }
 

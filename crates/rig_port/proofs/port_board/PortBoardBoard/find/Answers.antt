@@ -24,7 +24,7 @@ invariant_of-self-2 g c =
           (c.attach_some.ensures.fresh c.if-not-attach_some.false))
           (subst (λ (s : Shape). turn_room (pins_of s) ≤ vec_capacity c.attach_some.new.link.expected) (ap (λ s. s.shape) c.in-Ok-link_of.ensures.set) (c.attach_some.ensures.room c.if-not-attach_some.false))
           (c.attach_some.ensures.check c.if-not-attach_some.false),
-      fresh_resumes (g.P.Port.port_state c.attach_some.new.port).device m c.attach_some.new.link c.in-Ok.new.self c.attach_some.new.again set idle c.in-Ok.ensures c.attach_some.ensures.past c.attach_some.ensures.spare,
+      fresh_resumes (g.P.Port.port_state c.attach_some.new.port).device m c.attach_some.new.link c.make_rows.new.self c.attach_some.new.again set idle c.in-Ok.ensures c.attach_some.ensures.past c.attach_some.ensures.spare,
     )
 
 pub returns-clause-again : goal.returns-clause-again
