@@ -6,6 +6,7 @@ use Rattle.machine_shape.specs.Shape.{pins_of}
 use Rattle.rig_port.specs.Checks.{fresh_check, after}
 use Rattle.rig_port.specs.Requests.{attach_body}
 use Rattle.rig_port.specs.Lines.{AreCounts, counts_body, counts_line, turn_room}
+use Rattle.rig_port.specs.Sessions.{HasRows}
 use Rattle.rig_port.proofs.Held.{fresh_held}
 use Rattle.rig_port.proofs.Resumed.{both_rose, fresh_resumes}
 use Rattle.rig_port.proofs.port_board.PortBoardBoard.find.Goals as goal
@@ -16,6 +17,7 @@ attach_some-requires-clause-counts g c = subst AreCounts (ap (λ s. s.shape.coun
 pub invariant_of-self-2 : goal.invariant_of-self-2
 invariant_of-self-2 g c =
     let m = c.args.shape.now in
+    let past = c.attach_some.ensures.past in
     let set = ap (λ s. s.config) c.attach_some.ensures.stays.set ∙ c.in-Ok-link_of.ensures.set in
     let idle = c.attach_some.ensures.stays.running ∙ c.in-Ok-link_of.ensures.idle.1 in (
       fresh_held (g.P.Port.port_state c.attach_some.new.port) m c.attach_some.new.link (c.attach_some.ensures.open c.if-not-attach_some.false)
@@ -24,7 +26,9 @@ invariant_of-self-2 g c =
           (c.attach_some.ensures.fresh c.if-not-attach_some.false))
           (subst (λ (s : Shape). turn_room (pins_of s) ≤ vec_capacity c.attach_some.new.link.expected) (ap (λ s. s.shape) c.in-Ok-link_of.ensures.set) (c.attach_some.ensures.room c.if-not-attach_some.false))
           (c.attach_some.ensures.check c.if-not-attach_some.false),
-      fresh_resumes (g.P.Port.port_state c.attach_some.new.port).device m c.attach_some.new.link c.make_rows.new.self c.attach_some.new.again set idle c.in-Ok.ensures c.attach_some.ensures.past c.attach_some.ensures.spare,
+      fresh_resumes (g.P.Port.port_state c.attach_some.new.port).device m c.attach_some.new.link c.make_rows.new.self c.attach_some.new.again set idle
+          (subst (λ n. HasRows n c.make_rows.new.self) c.pins.ensures.pins c.in-Ok.ensures)
+          (record { whole = past.whole; drives = past.drives; readings = past.readings; made = past.made; covers = past.covers }) c.attach_some.ensures.spare,
     )
 
 pub returns-clause-again : goal.returns-clause-again
