@@ -1,5 +1,5 @@
 -- Lines of a recorded talk.
-use Rattle.std.proofs.Common.{◌≡◌, ◌≢◌, ℕ, suc, zero, ◌+◌, ◌-◌, ◌^◌, ◌≤◌, ◌<◌, min, List, [], ◌∷◌, ◌++◌, take, drop, length, get_or, All, refl, sym, ap, ◌∙◌, arith, subst}
+use Rattle.std.proofs.Common.{◌≡◌, ◌≢◌, ℕ, suc, ◌+◌, ◌-◌, ◌^◌, ◌≤◌, ◌<◌, min, List, [], ◌∷◌, ◌++◌, take, drop, length, get_or, All, refl, sym, ap, ◌∙◌, arith, subst}
 use Rattle.std.proofs.lemmas.List.{append_assoc, drop-drop, length-append, length-drop, length-take-le, take-append-drop, take_all}
 use Rattle.rig_port.specs.FilePorts.{IsLine}
 use Rattle.rig_port.specs.Replays.{HasReplayed, IsDue}
@@ -61,20 +61,21 @@ drop_more a b bytes = drop-drop b a bytes
 some_bytes : (request : List ℕ) → IsLine request → 0 < length request
 some_bytes request is = omega (arith, ap length is.bytes_are, length-append is.front (10 ∷ []))
 
+-- where a request ends that stands at a place
+next_place : (at next : ℕ) (recorded request : List ℕ) → IsLine request → drop at recorded ≡ request ++ drop (length request) (drop at recorded) → next ≡ min (at + length request) (2 ^ 64 - 1)
+    → length recorded < 2 ^ 63 → next ≡ at + length request
+next_place at next recorded request asked here there_is small =
+    omega (arith, there_is, some_bytes request asked, ap length here, length-append request (drop (length request) (drop at recorded)), length-drop at recorded, small)
+
 -- a request that stands at a place, and the line behind it
 pub replayed : (at next end count : ℕ) (recorded request line : List ℕ) → IsLine request → drop at recorded ≡ request ++ drop (length request) (drop at recorded) → next ≡ min (at + length request) (2 ^ 64 - 1)
     → end ≡ min (next + count) (2 ^ 64 - 1) → length recorded < 2 ^ 63 → line ≡ take count (drop next recorded) → count ≤ length (drop next recorded) → IsLine line → HasReplayed (drop at recorded) (drop end recorded) request line
-replayed at next end count recorded request line asked here next_is end_is small line_is within replied = record { asked = asked; replied = replied; left = left } where
-  some = some_bytes request asked
-  room = ap length here
-  long = length-append request (drop (length request) (drop at recorded))
-  rest = length-drop at recorded
-
+replayed at next end count recorded request line asked here there_is end_is small line_is within replied = record { asked = asked; replied = replied; left = left } where
   there : next ≡ at + length request
-  there = omega (arith, next_is, some, room, long, rest, small)
+  there = next_place at next recorded request asked here there_is small
 
   then_is : end ≡ next + count
-  then_is = omega (arith, end_is, there, within, length-drop next recorded, some, room, long, rest, small)
+  then_is = omega (arith, end_is, there, within, length-drop next recorded, small)
 
   behind : drop (length request) (drop at recorded) ≡ drop next recorded
   behind = drop_more at (length request) recorded ∙ ap (λ k. drop k recorded) (sym there)
@@ -86,12 +87,11 @@ replayed at next end count recorded request line asked here next_is end_is small
       ∙ sym (append_assoc request line (drop end recorded))
 
 pub not_next : (bytes request : List ℕ) (room : ℕ) → ((rest : List ℕ) → IsLine request → bytes ≡ request ++ rest → ⊥) → IsDue bytes request room → ⊥
-not_next bytes request room no d = no (d.line ++ d.rest) d.asked (d.left_is ∙ append_assoc request d.line d.rest)
+not_next bytes request room other d = other (d.line ++ d.rest) d.asked (d.left_is ∙ append_assoc request d.line d.rest)
 
 pub no_reply : (at next : ℕ) (recorded request : List ℕ) (room : ℕ) → IsLine request → drop at recorded ≡ request ++ drop (length request) (drop at recorded) → next ≡ min (at + length request) (2 ^ 64 - 1)
     → length recorded < 2 ^ 63 → ((line rest : List ℕ) → IsLine line → length line ≤ room → drop next recorded ≡ line ++ rest → ⊥) → IsDue (drop at recorded) request room → ⊥
-no_reply at next recorded request room asked here next_is small no d =
-    let there : next ≡ at + length request
-    = omega (arith, next_is, some_bytes request asked, ap length here, length-append request (drop (length request) (drop at recorded)), length-drop at recorded, small) in
+no_reply at next recorded request room asked here there_is small other d =
+    let there = next_place at next recorded request asked here there_is small in
     let parts = one_line request request (drop (length request) (drop at recorded)) (d.line ++ d.rest) asked d.asked (sym here ∙ d.left_is ∙ append_assoc request d.line d.rest) in
-    no d.line d.rest d.replied d.few (ap (λ k. drop k recorded) there ∙ sym (drop_more at (length request) recorded) ∙ parts.1)
+    other d.line d.rest d.replied d.few (ap (λ k. drop k recorded) there ∙ sym (drop_more at (length request) recorded) ∙ parts.1)

@@ -22,25 +22,16 @@ struct Outcome {
     asked: u64,
 }
 
-// A machine of this shape behind such a port.
-fn spoiled_rig(
-    rt: &HostRuntime,
-    shape: Shape,
-    plan: Plan,
-    asked: Rc<Cell<u64>>,
-) -> io::Result<Box<dyn Rig>> {
-    let alloc: Global = rt.alloc();
-    let port = SpoiledPort::new(alloc, RigPort::new(alloc, sim_of(rt)?, shape), plan, asked);
-    Ok(Box::new(alloc, BoardRig::new(alloc, PortBoard::new(alloc, port)))?)
-}
-
-// Does what the words of a command line say over such a machine.
+// Does what the words of a command line say over a machine of this shape behind such a port.
 fn outcome_of(rt: &HostRuntime, shape: Shape, plan: Plan, words: &[String]) -> io::Result<Outcome> {
     let alloc: Global = rt.alloc();
     let asked = Rc::new(alloc, Cell::new(0u64))?;
-    let mut rig = spoiled_rig(rt, shape, plan, asked.clone()?)?;
+    let counted = asked.clone()?;
     let mut store = FileStore::new(alloc, rt.clone()?);
     let mut sink = MemorySink::new(alloc, Vec::new(alloc));
+    let end = RigPort::new(alloc, sim_of(rt)?, shape);
+    let board = PortBoard::new(alloc, SpoiledPort::new(alloc, end, plan, counted));
+    let mut rig: Box<dyn Rig> = Box::new(alloc, BoardRig::new(alloc, board))?;
     let status = teramac(alloc, words, &mut store, &mut rig, &mut sink);
     Ok(Outcome {
         status,

@@ -1,4 +1,5 @@
-use Rattle.std.proofs.Common.{ℕ, ◌≤◌, ◌∙◌, length, take, refl, arith}
+use Rattle.std.proofs.Common.{◌≤◌, ◌∙◌, length, take, refl, arith}
+use Rattle.std.proofs.lemmas.List.{length-take-le}
 use Rattle.rig_port.specs.FilePorts.{IsLine, HasHeard, ahead}
 use Rattle.rig_port.proofs.Heard.{dropped_more, heard, nothing_dropped, where_whole}
 use Rattle.rig_port.proofs.talk.listen.Goals as goal
@@ -14,7 +15,7 @@ parts-preserved g c = record {
   length = c.read_line.ensures.length ∙ c.parts.invariant.length;
   dropped = dropped_more c.args.is_cut.now c.parts.is_cut c.read_line.new.is_cut c.args.request.now (ahead c.args.rest.now (g.F.Read.remaining c.args.from.now))
       (ahead c.parts.rest (g.F.Read.remaining c.parts.from)) (ahead c.read_line.new.rest (g.F.Read.remaining c.read_line.new.from)) c.parts.dropped c.saturating_add-dropped.result
-      (take c.in-Some.count c.read_line.new.into) c.in-Some.count c.parts.invariant.dropped c.in-Some.ensures.read (omega (arith, c.in-Some.ensures.within)) c.saturating_add-dropped.ensures (omega (arith, c.if-dropped-gt-MOST_DROPPED.false))
+      (take c.in-Some.count c.read_line.new.into) c.in-Some.count c.parts.invariant.dropped c.in-Some.ensures.read (omega (arith, length-take-le c.in-Some.count c.read_line.new.into c.in-Some.ensures.within)) c.saturating_add-dropped.ensures (omega (arith, c.if-dropped-gt-MOST_DROPPED.false))
       (c.is_taken.ensures c.if-is_taken.false);
 }
 
