@@ -140,6 +140,8 @@ class Asker:
         self._number += 1
         line = self._port.ask(self._check.request(attach_body(self._number)))
         while not line.startswith(b"=2 %d " % self._number):
+            if line.startswith(b"!"):  # nothing else may come
+                raise WrongReply(line)
             line = self._port.next()
         if line != self._check.add(counts_body(self._number, self._machine)):
             raise WrongReply(line)

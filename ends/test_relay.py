@@ -364,6 +364,25 @@ class Spoilt(Relayed):
         self.assert_failed(self.run_relay("tcp:127.0.0.1:1", "--again", 0), "no connection")
 
 
+class Noisy(Relayed):
+    """Bits turn on the line, either way."""
+
+    def noisy_end(self, rate, seed):
+        port = self.fifos()
+        noise = [sys.executable, HERE / "noise.py", str(rate), str(seed), sys.executable, HERE / "python_end.py", TINY_FILE]
+        command = 'exec "$0" "$@" < %s > %s' % tuple(port.split(","))
+        end = subprocess.Popen(["sh", "-c", command, *noise], stderr=subprocess.DEVNULL)
+        self.addCleanup(lambda: (end.kill(), end.wait()))
+        return port
+
+    def test_a_talk_comes_through(self):
+        failed = 0
+        for seed in range(4):
+            said = self.assert_right(self.run_relay(self.noisy_end(1e-4, seed), seed=seed), seed)
+            failed += "failures of the port" in said
+        self.assertGreater(failed, 0)
+
+
 class Logs(Relayed):
     """What stands in a log, and what doesn't go on from it."""
 

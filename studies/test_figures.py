@@ -322,6 +322,7 @@ class Runs(unittest.TestCase):
         self.assertEqual(len((self.folder / "out/rows.csv").read_text().splitlines()), 3)
         self.assertIn("tiny,open,and,exact,0.0,1.0", (self.folder / "out/fits.csv").read_text())
 
+    @unittest.skipIf(figures is None, "matplotlib isn't there")
     def test_a_wrong_design_stops_the_study(self):
         (self.folder / "and.blif").write_text(".model and\n.outputs y\n.end\n")
         ran = self.study()

@@ -7,6 +7,8 @@ mod faults;
 mod late_board;
 mod lost;
 mod memory_board;
+mod spoiled_port;
+mod spoiling;
 mod steps;
 mod table_port;
 mod talk;
@@ -15,6 +17,7 @@ mod telling_rig;
 use crate::rigs::faults::sim_of;
 use crate::rigs::late_board::LateBoard;
 use crate::rigs::lost::{Outcome, load_twice};
+use crate::rigs::spoiling::try_spoilt;
 use crate::rigs::steps::{try_answers, try_asks, try_board};
 use crate::rigs::telling_rig::TellingRig;
 use base_io::{FileStore, StdSink};
@@ -175,6 +178,13 @@ fn try_words(rt: &HostRuntime, words: &[String]) -> io::Result<bool> {
         [kind, name, words @ ..] if kind.as_str() == "twin" => try_twin(rt, name.as_str(), words),
         [kind, words @ ..] if kind.as_str() == "port" => try_port(rt, words),
         [kind, words @ ..] if kind.as_str() == "end" => try_end(rt, words),
+        [kind, how, every, count, words @ ..] if kind.as_str() == "spoilt" => try_spoilt(
+            rt,
+            how.as_str(),
+            number_of(every.as_str()),
+            number_of(count.as_str()),
+            words,
+        ),
         [kind, name] if kind.as_str() == "lost" => try_lost(rt, name.as_str()),
         [kind, words @ ..] if kind.as_str() == "board" => try_board(rt, words),
         [kind, pins, table, words @ ..] if kind.as_str() == "asks" => try_asks(

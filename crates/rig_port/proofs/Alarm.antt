@@ -30,7 +30,7 @@ pub rose_of : (e : PortFail) (old new : PortState) → AskFails e old new → Ro
 rose_of port.Failed old new rose = rose
 rose_of port.Memory old new none = absurd none
 
-told_map : {X : Type 0} (f : Device → X) (device : Option Device) → is_some (option_map f device) ≡ is_some device
+pub told_map : {X : Type 0} (f : Device → X) (device : Option Device) → is_some (option_map f device) ≡ is_some device
 told_map f None = refl
 told_map f (Some d) = refl
 

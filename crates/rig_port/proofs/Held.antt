@@ -1,7 +1,7 @@
 -- What is kept of a machine goes with it.
 use Rattle.std.proofs.Common.{◌≡◌, ℕ, suc, zero, ◌+◌, ◌-◌, ◌≤◌, Bool, true, false, List, [], ◌∷◌, ◌++◌, map, take, drop, length, get_or, All, Option, None, Some, refl, sym, ap, ◌∙◌, arith, subst, IfSome, IsSome, Result, Ok, Err, OnOk}
 use Rattle.std.proofs.lemmas.Bool.{false≢true}
-use Rattle.std.proofs.lemmas.List.{append-nil, append_assoc, map-append, length-map, length-drop, length-take-le}
+use Rattle.std.proofs.lemmas.List.{append-nil, append_assoc, map-append, length-map, length-drop, length-take-le, take-append-drop}
 use Rattle.std.proofs.lemmas.List.Elements.{All-append}
 use Rattle.std.proofs.lemmas.Slice.{take-put_mid}
 use Rattle.std.proofs.lemmas.List.Sums.{fold-append}
@@ -175,8 +175,15 @@ turned_next set other drives rows ys at end due mid_due new_due old mid new same
     (subst (λ (l : List Pins). HasTurned l (take at rows ++ ys) due set old new_due new) (split_take drives at (end - at) end (omega (arith, le)))
     (turned_more set (take at drives) (take (end - at) (drop at drives)) (take at rows) ys due mid_due new_due old mid new a more))
 
+-- the first rows are read anew
+pub front_lengths : (count : ℕ) (rows ys : List Pins) → KeepLengths (take count rows) ys → KeepLengths rows (ys ++ drop count rows)
+front_lengths count rows ys same =
+    map-append length ys (drop count rows)
+    ∙ (ap (λ (ns : List ℕ). ns ++ map length (drop count rows)) same
+    ∙ (sym (map-append length (take count rows) (drop count rows)) ∙ ap (λ (l : List Pins). map length l) (take-append-drop count rows)))
+
 -- a buffer that was lent as a whole
-pub seam : (now old : List ℕ) (len : ℕ) → length now ≡ length old → len ≡ length old → take len (now ++ drop (length now) old) ≡ now
+pub seam : {X : Type 0} (now old : List X) (len : ℕ) → length now ≡ length old → len ≡ length old → take len (now ++ drop (length now) old) ≡ now
 seam now old len same is = ap (λ n. take n (now ++ drop (length now) old)) (is ∙ sym same) ∙ take-append_seam now (drop (length now) old)
 
 pub any_ok : {T E : Type 0} (r : Result T E) (P : Type 0) → P → OnOk r P

@@ -2,10 +2,13 @@ mod Alarm
 mod Answered
 mod Closings
 mod Edited
+mod Heard
 mod Held
 mod OneMachine
 mod Readings
+mod Replayed
 mod Requested
+mod Resumed
 mod Room
 mod Settings
 mod Spelled

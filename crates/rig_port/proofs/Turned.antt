@@ -14,30 +14,22 @@ use Rattle.rig_port.specs.Lines.{line_of, reading_body, reading_line}
 use Rattle.rig_port.specs.Requests.{edited, IsEditOf, AreWide, drives_text, led_drives, load_body, load_line}
 use Rattle.rig_port.specs.Answers.{Answers, Reads, Loads, Drives, start_of}
 use Rattle.rig_port.specs.Linked.{IsLinked, HasTurned, told_with}
+use Rattle.rig_port.specs.Sessions.{pair, paired}
 use Rattle.rig_port.proofs.Alarm.{IsAsked}
 use Rattle.rig_port.proofs.Readings.{AreOf, one_reading}
 
-abbrev pair : Pins → Pins → Exchange
-pair d r = record { drive = d; reading = r }
-
--- drives and readings as pairs
-abbrev paired : List Pins → List Pins → List Exchange
-paired [] rs = []
-paired (d ∷ ds) [] = []
-paired (d ∷ ds) (r ∷ rs) = pair d r ∷ paired ds rs
-
-drives_paired : (ds rs : List Pins) → length ds ≡ length rs → drives_of (paired ds rs) ≡ ds
+pub drives_paired : (ds rs : List Pins) → length ds ≡ length rs → drives_of (paired ds rs) ≡ ds
 drives_paired [] rs e = refl
 drives_paired (d ∷ ds) [] e = absurd (omega (arith, e))
 drives_paired (d ∷ ds) (r ∷ rs) e = ap (λ l. d ∷ l) (drives_paired ds rs (omega (arith, e)))
 
-readings_paired : (ds rs : List Pins) → length ds ≡ length rs → readings_of (paired ds rs) ≡ rs
+pub readings_paired : (ds rs : List Pins) → length ds ≡ length rs → readings_of (paired ds rs) ≡ rs
 readings_paired [] [] e = refl
 readings_paired [] (r ∷ rs) e = absurd (omega (arith, e))
 readings_paired (d ∷ ds) [] e = absurd (omega (arith, e))
 readings_paired (d ∷ ds) (r ∷ rs) e = ap (λ l. r ∷ l) (readings_paired ds rs (omega (arith, e)))
 
-length_drives : (ps : List Exchange) → length (drives_of ps) ≡ length (readings_of ps)
+pub length_drives : (ps : List Exchange) → length (drives_of ps) ≡ length (readings_of ps)
 length_drives [] = refl
 length_drives (p ∷ ps) = ap suc (length_drives ps)
 

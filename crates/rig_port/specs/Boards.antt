@@ -11,15 +11,18 @@ use Rattle.rig_port.specs.Checks.{after}
 use Rattle.rig_port.specs.Lines.{line_of, turn_room}
 use Rattle.rig_port.specs.Ports.{PortState}
 use Rattle.rig_port.specs.Linked.{PortBoardState, IsLinked, told_with}
+use Rattle.rig_port.specs.declared.again.Again.{Again}
+use Rattle.rig_port.specs.Sessions.{CanResume}
 
 -- its count of failures is the port's and its own together
-abbrev pub state_of : PortState → Option Shape → Option Link → ℕ → PortBoardState
-state_of port found link failures = record {
+abbrev pub state_of : PortState → Option Shape → Option Link → ℕ → ℕ → PortBoardState
+state_of port found link number failures = record {
   found = found;
   is_up = is_some link;
   in_session = option_map_or (λ l. l.running) link false;
   is_due = option_map_or (λ l. l.due) link false;
   device = option_map_or (λ l. told_with l.due l.set.config port.device) link port.device;
+  number = number;
   port_failures = port.failures;
   failures = both_counts failures port.failures;
 }
@@ -44,8 +47,8 @@ pub record IsHeld (port : PortState) (found : Option Shape) (l : Link) : Type 0 
   pub check : IsSome port.device → port.check ≡ l.check
   pub room : HasRoom (pins_of l.set.config.shape) l
 
-abbrev pub IsUp : PortState → Option Shape → Option Link → Type 0
-IsUp port found link = IfSome link (IsHeld port found)
+abbrev pub IsUp : PortState → Option Shape → Option Link → Again → Type 0
+IsUp port found link again = IfSome link (λ l. IsHeld port found l × CanResume port.device l again)
 
 -- after turns the configuration is as it was, and what is kept goes with the machine
 pub record IsKeptUp (port : PortState) (old new : Link) : Type 0 where

@@ -21,20 +21,21 @@ coded_device = code_by ((Shape × Faults) × (Configuration × Option Session))
     (λ d. ((d.shape, d.faults), (d.set, d.session)))
     (λ p. record { shape = p.0.0; faults = p.0.1; set = p.1.0; session = p.1.1 }) (λ _. refl)
 
-abbrev pub coded_told : Coded (Option Device × (ℕ × ℕ))
-coded_told = coded× (coded_option coded_device) (coded× coded_ℕ coded_ℕ)
+abbrev pub coded_told : Coded (Option Device × (ℕ × (ℕ × ℕ)))
+coded_told = coded× (coded_option coded_device) (coded× coded_ℕ (coded× coded_ℕ coded_ℕ))
 
 abbrev pub coded_board : Coded PortBoardState
-coded_board = code_by ((Option Shape × (Bool × (Bool × Bool))) × (Option Device × (ℕ × ℕ)))
+coded_board = code_by ((Option Shape × (Bool × (Bool × Bool))) × (Option Device × (ℕ × (ℕ × ℕ))))
     (coded× (coded× (coded_option shape.the_row.coded) (coded× coded_bool (coded× coded_bool coded_bool))) coded_told)
-    (λ s. ((s.found, (s.is_up, (s.in_session, s.is_due))), (s.device, (s.port_failures, s.failures))))
+    (λ s. ((s.found, (s.is_up, (s.in_session, s.is_due))), (s.device, (s.number, (s.port_failures, s.failures)))))
     (λ p. record {
       found = p.0.0;
       is_up = p.0.1.0;
       in_session = p.0.1.1.0;
       is_due = p.0.1.1.1;
       device = p.1.0;
-      port_failures = p.1.1.0;
-      failures = p.1.1.1;
+      number = p.1.1.0;
+      port_failures = p.1.1.1.0;
+      failures = p.1.1.1.1;
     })
     (λ _. refl)

@@ -7,5 +7,7 @@ pub mod FilePorts
 pub mod Linked
 pub mod Lines
 pub mod Ports
+pub mod Replays
 pub mod Requests
 pub mod RigPorts
+pub mod Sessions

@@ -18,6 +18,8 @@ pub record PortBoardState : Type 0 where
   -- whether a load waits to be sent
   pub is_due : Bool
   pub device : Option Device
+  -- the number under which the machine was asked last what it is
+  pub number : ℕ
   -- those of its port alone, and all
   pub port_failures : ℕ
   pub failures : ℕ

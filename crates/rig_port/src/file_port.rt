@@ -1,12 +1,12 @@
 //! Files of the system as a port.
-ghost use Rattle.std.specs.Prelude.{◌≡◌, ◌^◌, ◌<◌, ◌≤◌, [], true, false, length, take, is_some, IfSome, IfOk, IfErr, OnOk, OnErr, IsErrOf};
+ghost use Rattle.std.specs.Prelude.{◌≡◌, ◌^◌, ◌<◌, ◌≤◌, [], true, false, None, length, take, is_some, IfSome, IfOk, IfErr, OnOk, OnErr, IsErrOf};
 ghost use Rattle.base_io.specs.Counts.{Rose, next_count};
 ghost use Rattle.rig_board.specs.Device.{WhereTold};
 ghost use Rattle.rig_port.specs.Answers.{Answers};
 ghost use Rattle.rig_port.specs.Ports.{machine_told, Opens, AskFails};
-ghost use Rattle.rig_port.specs.FilePorts.{file_port_state, HaveTalked};
+ghost use Rattle.rig_port.specs.FilePorts.{file_port_state, HaveTalked, HaveWritten};
 
-use crate::talk::{Ends, Rest, talk};
+use crate::talk::{Ends, NoReply, Rest, talk};
 use crate::{Port, PortFail};
 use std::alloc::{AllocError, Global};
 use std::fs::OpenOptions;
@@ -28,8 +28,8 @@ pub struct FilePort<R: Files + Drop> {
     failures: u64,
 }
 
-// The name without the digit and the `x` that say how often each load is made.
-fn without_times(name: &str) -> &str {
+/// The name without the digit and the `x` that say how often each load is made.
+pub fn without_times(name: &str) -> &str {
     for times in ["2x", "3x", "4x", "5x", "6x", "7x", "8x", "9x"] {
         if let Some(rest) = name.strip_prefix(times) {
             return rest;
@@ -40,7 +40,8 @@ fn without_times(name: &str) -> &str {
 
 // Opens one file both ways, or one for requests and then one for replies. No file is made or cut; each may wait for the other end.
 fn open_ends<R: Files>(alloc: Global, rt: &R, name: &str) -> io::Result<Ends<R::File>>
-    ensures { IfOk result (λ ends. ends.rest ≡ []) }
+    ensures rest { IfOk result (λ ends. ends.rest ≡ []) }
+    ensures whole { IfOk result (λ ends. ends.is_cut ≡ false) }
 {
     let rest = Rest {
         block: vec![in alloc; 0u8; BLOCK]?,
@@ -53,6 +54,7 @@ fn open_ends<R: Files>(alloc: Global, rt: &R, name: &str) -> io::Result<Ends<R::
             to,
             from: None,
             rest,
+            is_cut: false,
         });
     };
     let to = OpenOptions::new().write(true).open(rt, to)?;
@@ -61,6 +63,7 @@ fn open_ends<R: Files>(alloc: Global, rt: &R, name: &str) -> io::Result<Ends<R::
         to,
         from: Some(from),
         rest,
+        is_cut: false,
     })
 }
 
@@ -76,6 +79,20 @@ impl<R: Files + Drop> FilePort<R> {
             asks: 0,
             failures: 0,
         }
+    }
+
+    /// The runtime of its files.
+    pub fn runtime(&self) -> &R {
+        &self.rt
+    }
+
+    /// Closes what is open.
+    pub fn close(&mut self)
+        ensures closed { self.new.ends ≡ None }
+        ensures asks { self.new.asks ≡ self.old.asks }
+        ensures failures { self.new.failures ≡ self.old.failures }
+    {
+        self.ends = None;
     }
 }
 
@@ -95,7 +112,7 @@ impl<R: Files + Drop> Port for FilePort<R> {
         ensures refused { IsErrOf result PortFail.Failed → Rose (⟦<FilePort<R> as Port>⟧.port_state self.old).failures
             (⟦<FilePort<R> as Port>⟧.port_state self.new).failures }
         ensures asks { self.new.asks ≡ self.old.asks }
-        ensures fresh { OnOk result (IfSome self.new.ends (λ ends. ends.rest ≡ [])) }
+        ensures fresh { OnOk result (IfSome self.new.ends (λ ends. (ends.rest ≡ []) × (ends.is_cut ≡ false))) }
     {
         self.ends = None;
         match open_ends(self.alloc, &self.rt, without_times(name)) {
@@ -111,12 +128,18 @@ impl<R: Files + Drop> Port for FilePort<R> {
         }
     }
 
-    /// One ask more, whatever it answers. Behind an `Ok` the whole request was written, and what is answered are the next bytes that were
-    /// read, to their first LF.
+    fn is_open(&self) -> bool {
+        self.ends.is_some()
+    }
+
+    /// One ask more, whatever it answers. Behind an `Ok` the whole request was written, and what is answered is the next line that was
+    /// read, to its LF. What is left of a line that was too long is dropped before; and where the request asks what a machine is, so are
+    /// lines that begin with another number, or otherwise, up to 1,048,576 bytes: a request that failed may have left them on the way.
     ///
     /// # Errors
     ///
-    /// `Failed` where a write or a read fails, the file ends before the line does, `reply` is full before, or the line begins with `!`.
+    /// `Failed` where a write or a read fails or the file ends before the line does, which closes the port; and where `reply` is full
+    /// before, or the line begins with `!`, which leaves it open: then the whole request was written (`wrote`).
     fn ask(&mut self, request: &[u8], reply: &mut [u8]) -> Result<usize, PortFail>
         requires { (⟦<FilePort<R> as Port>⟧.port_state self.old).is_open ≡ true }
 
@@ -130,10 +153,10 @@ impl<R: Files + Drop> Port for FilePort<R> {
         ensures told { IfOk result (λ n. WhereTold (λ d e. Answers d (⟦<FilePort<R> as Port>⟧.port_state self.old).check request.now
             (take n reply.new) e (⟦<FilePort<R> as Port>⟧.port_state self.new).check)
             (⟦<FilePort<R> as Port>⟧.port_state self.old).device (⟦<FilePort<R> as Port>⟧.port_state self.new).device) }
-        ensures closed { OnErr result ((⟦<FilePort<R> as Port>⟧.port_state self.new).is_open ≡ false) }
         ensures refused { IfErr result (λ e. AskFails e (⟦<FilePort<R> as Port>⟧.port_state self.old)
             (⟦<FilePort<R> as Port>⟧.port_state self.new)) }
         ensures asks { self.new.asks ≡ next_count self.old.asks }
+        ensures wrote { OnErr result (HaveWritten R.File.contents self.old.ends self.new.ends request.now) }
         ensures talked { IfOk result (λ n. HaveTalked R.File.contents R.File.remaining self.old.ends self.new.ends request.now
             (take n reply.new)) }
     {
@@ -142,11 +165,16 @@ impl<R: Files + Drop> Port for FilePort<R> {
             unreachable!()
         };
         match talk(&mut ends, request, reply) {
-            Some(count) => {
+            Ok(count) => {
                 self.ends = Some(ends);
                 Ok(count)
             }
-            None => {
+            Err(NoReply::Wrong) => {
+                self.ends = Some(ends);
+                self.failures = self.failures.saturating_add(1);
+                Err(PortFail::Failed)
+            }
+            Err(NoReply::Ended) => {
                 self.failures = self.failures.saturating_add(1);
                 Err(PortFail::Failed)
             }

@@ -8,15 +8,20 @@
 //! lines are made and read may change, as long as they are spelled so; the tool takes a reply byte by byte (docs/PORT.md).
 #![tactic(auto)]
 
+mod again;
 mod check;
 mod edits;
 mod file_board;
 mod file_port;
 mod link;
+mod named_port;
 mod parse;
 mod port;
 mod port_board;
+mod question;
+mod replay_port;
 mod respell;
+mod resume;
 mod rig_port;
 mod spelling;
 mod talk;
@@ -25,6 +30,8 @@ mod wanted;
 
 pub use file_board::FileBoard;
 pub use file_port::FilePort;
+pub use named_port::NamedPort;
 pub use port::{Port, PortFail};
 pub use port_board::PortBoard;
+pub use replay_port::ReplayPort;
 pub use rig_port::RigPort;

@@ -12,8 +12,8 @@ use machine_shape::{Cross, Shape, Table};
 use rig::PinBits;
 use std::alloc::{AllocError, Global};
 
-// The bytes from one place to another; none where these aren't places of it.
-fn part(bytes: &[u8], from: usize, to: usize) -> &[u8] {
+/// The bytes from one place to another; none where these aren't places of it.
+pub fn part(bytes: &[u8], from: usize, to: usize) -> &[u8] {
     if from <= to {
         if to <= bytes.len() {
             return &bytes[from..to];

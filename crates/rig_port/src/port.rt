@@ -33,8 +33,13 @@ pub trait Port: Drop {
         ensures closed { OnErr result ((port_state self.new).is_open ≡ false) }
         ensures refused { IsErrOf result PortFail.Failed → Rose (port_state self.old).failures (port_state self.new).failures };
 
-    /// Sends a request, and reads the line that answers to the front of `reply`; answers its length. A refusal leaves the port closed,
-    /// and any bytes in `reply`. It takes no memory, but for what an end that is code takes in the same process (`RigPort`).
+    /// Whether it is open.
+    fn is_open(&self) -> bool
+        ensures { result ≡ (port_state self.now).is_open };
+
+    /// Sends a request, and reads the line that answers to the front of `reply`; answers its length. A refusal leaves any bytes in
+    /// `reply`, and the port closed, or open for a further request. It takes no memory, but for what an end that is code takes in the
+    /// same process (`RigPort`).
     ///
     /// # Errors
     ///
@@ -51,6 +56,5 @@ pub trait Port: Drop {
         ensures stays { OnOk result ((port_state self.new).is_open ≡ true) }
         ensures told { IfOk result (λ n. WhereTold (λ d e. Answers d (port_state self.old).check request.now (take n reply.new) e
             (port_state self.new).check) (port_state self.old).device (port_state self.new).device) }
-        ensures closed { OnErr result ((port_state self.new).is_open ≡ false) }
         ensures refused { IfErr result (λ e. AskFails e (port_state self.old) (port_state self.new)) };
 }

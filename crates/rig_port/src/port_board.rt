@@ -1,6 +1,6 @@
 //! A board over a port.
-ghost use Rattle.std.specs.Prelude.{◌≡◌, ◌+◌, ◌^◌, ◌<◌, ◌≤◌, [], ◌∷◌, true, false, length, vec_len, Option, None, Some};
-ghost use Rattle.std.specs.Prelude.{IfSome, IsSome, IfOk, IfErr, OnOk, OnErr, IsErrOf, IsTrue};
+ghost use Rattle.std.specs.Prelude.{◌≡◌, ◌⊎◌, ◌+◌, ◌^◌, ◌<◌, ◌≤◌, [], ◌∷◌, true, false, length, vec_len, Option, None, Some};
+ghost use Rattle.std.specs.Prelude.{IfSome, IsSome, IfOk, IfErr, OnOk, OnErr, IsErrOf};
 ghost use Rattle.std.specs.Vec.{vec_capacity};
 ghost use Rattle.machine_shape.specs.Shape.{pins_of};
 ghost use Rattle.machine_config.specs.Configuration.{cleared};
@@ -9,18 +9,17 @@ ghost use Rattle.rig.specs.Flaky.{both_counts};
 ghost use Rattle.rig.specs.Rig.{KeepLengths};
 ghost use Rattle.rig_board.specs.Boards.{width_found, Finds, SetsUp, HasCycled, HasCycledAll, AreRowsOf, HasFailed};
 ghost use Rattle.rig_board.specs.Device.{Device, faults_told};
-ghost use Rattle.rig_port.specs.Checks.{fresh_check, after};
-ghost use Rattle.rig_port.specs.Lines.{counts_body, counts_line, AreCounts, turn_room};
-ghost use Rattle.rig_port.specs.Requests.{attach_body, attach_line};
-ghost use Rattle.rig_port.specs.Ports.{machine_told};
+ghost use Rattle.rig_port.specs.Lines.{turn_room};
 ghost use Rattle.rig_port.specs.Linked.{IsPosted, board_of};
+ghost use Rattle.rig_port.specs.Sessions.{SetsAnew, HasRows, CanResume};
 
+use crate::again::Again;
 use crate::check::Check;
-use crate::edits::{is_shorter_anew, put_edits};
+use crate::edits::put_edits;
 use crate::link::Link;
 use crate::port::{Port, PortFail};
-use crate::spelling::{put_attach, put_check, put_counts};
-use crate::turn::{turn, turn_all};
+use crate::question::{FIRST, attach_some, put_question, room_for};
+use crate::resume::drive_on;
 use machine_config::Config;
 use machine_shape::Shape;
 use rig::{PinBits, RigFail};
@@ -32,20 +31,11 @@ use std::slice;
 /// A line longer than this is no right reply.
 const MOST_REPLY: usize = 4101;
 
-/// The number under which a machine is attached.
-const FIRST: u32 = 1;
-
-// For how many bytes a line is to have room behind the words of its edits: a load's `l`, the drives of a request, and the sum.
-fn room_for(pins: u32) -> usize
-    ensures { result ≡ turn_room pins }
-{
-    8208 + pins as usize
-}
-
 /// A machine behind a port, as a board: it speaks the lines of its protocol, and tells the machine that its port tells.
 ///
 /// It is up from an `Ok` of `find` until a `find` is refused or `cycle` or `cycles` fails; lack of memory in `set_up` leaves it up. A
-/// load goes out with the cycles that follow it.
+/// load goes out with the cycles that follow it. A request that fails while the port stays open is asked again, at most twice in a call:
+/// the session is made anew behind an `a` with the next number. Its count tells each that failed, in a call that ends well too (`again`).
 #[derive(Drop)]
 pub struct PortBoard<P: Port> {
     alloc: Global,
@@ -53,6 +43,7 @@ pub struct PortBoard<P: Port> {
     found: Option<Shape>,
     // While the board is up.
     link: Option<Link>,
+    again: Again,
     failures: u64,
 }
 
@@ -67,9 +58,9 @@ impl<P: Port> Model for PortBoard<P> {
 
     ghost use Rattle.rig_port.specs.Boards.{state_of, IsUp};
 
-    ghost view = { λ b. state_of (P.port_state b.port) b.found b.link b.failures };
+    ghost view = { λ b. state_of (P.port_state b.port) b.found b.link b.again.number b.failures };
 
-    ghost invariant = { λ b. IsUp (P.port_state b.port) b.found b.link };
+    ghost invariant = { λ b. IsUp (P.port_state b.port) b.found b.link b.again };
 }
 
 // What is kept of a machine on which nothing is set, with nothing to be sent.
@@ -90,72 +81,6 @@ fn link_of(alloc: Global, shape: Shape) -> Result<Link, AllocError>
         reply: vec![in alloc; 0u8; MOST_REPLY]?,
         expected: Vec::new(alloc),
     })
-}
-
-// Makes the line that asks what machine it is, under a number, and that of the right answer, with room for those of readings. Answers
-// the check behind that.
-fn put_question(
-    line: &mut Vec<u8>,
-    expected: &mut Vec<u8>,
-    number: u32,
-    shape: &Shape,
-) -> Result<Check, AllocError>
-    requires line { line.old.items ≡ [] }
-    requires expected { expected.old.items ≡ [] }
-    ensures right { OnOk result (AreCounts shape.now.counts) }
-    ensures line { OnOk result (line.new.items ≡ attach_line number) }
-    ensures expected { OnOk result (expected.new.items
-        ≡ counts_line (after fresh_check (attach_body number)) number shape.now.counts) }
-    ensures behind { IfOk result (λ now. now ≡ after (after fresh_check (attach_body number)) (counts_body number shape.now.counts)) }
-    ensures room { OnOk result (turn_room (pins_of shape.now) ≤ vec_capacity expected.new) }
-{
-    put_attach(line, number)?;
-    line.reserve(6)?;
-    let asked = put_check(line, Check::new());
-    let now = put_counts(expected, asked, number, shape.counts())?;
-    expected.reserve(room_for(shape.pins()))?;
-    Ok(now)
-}
-
-/// Whether a line is another, byte by byte.
-pub fn is_line(reply: &[u8], expected: &[u8]) -> bool
-    ensures right { IsTrue result → reply.now ≡ expected.now }
-    ensures wrong { result ≡ false → reply.now ≡ expected.now → ⊥ }
-{
-    reply == expected
-}
-
-// Asks the machine behind an open port what it is. False where the port fails, or it is another machine.
-fn attach<P: Port>(port: &mut P, link: &mut Link) -> bool
-    requires open { (P.port_state port.old).is_open ≡ true }
-    requires line { link.old.line.items ≡ attach_line 1 }
-    requires expected { link.old.expected.items
-        ≡ counts_line (after fresh_check (attach_body 1)) 1 link.old.set.config.shape.counts }
-    requires check { link.old.check ≡ after (after fresh_check (attach_body 1)) (counts_body 1 link.old.set.config.shape.counts) }
-    requires counts { AreCounts link.old.set.config.shape.counts }
-    requires told { IfSome (P.port_state port.old).device (λ d. AreCounts d.shape.counts) }
-
-    ensures machine { machine_told (P.port_state port.new) ≡ machine_told (P.port_state port.old) }
-    ensures later { (P.port_state port.old).failures ≤ (P.port_state port.new).failures }
-    ensures open { IsTrue result → (P.port_state port.new).is_open ≡ true }
-    ensures line { link.new.line.items ≡ [] }
-    ensures set { link.new.set ≡ link.old.set }
-    ensures expected { link.new.expected ≡ link.old.expected }
-    ensures kept { link.new.check ≡ link.old.check }
-    ensures idle { (link.new.anew ≡ link.old.anew) × (link.new.running ≡ link.old.running) × (link.new.due ≡ link.old.due)
-        × (link.new.lost ≡ link.old.lost) }
-    ensures fresh { IsTrue result → IfSome (P.port_state port.new).device (λ d. (d.shape ≡ link.old.set.config.shape)
-        × (d.set ≡ cleared link.old.set.config.shape)) }
-    ensures check { IsTrue result → IsSome (P.port_state port.new).device → (P.port_state port.new).check ≡ link.new.check }
-    ensures alarm { result ≡ false → IfSome (P.port_state port.new).device (λ d. d.shape ≡ link.old.set.config.shape →
-        Rose (P.port_state port.old).failures (P.port_state port.new).failures) }
-{
-    let asked = port.ask(&link.line, &mut link.reply);
-    link.line.clear();
-    match asked {
-        Ok(count) => is_line(&link.reply[..count], &link.expected),
-        Err(_) => false,
-    }
 }
 
 // Begins a line that sets all anew: all is cleared, and the line begins with a `z`.
@@ -211,29 +136,72 @@ fn add_edits(alloc: Global, link: &mut Link, config: &Config) -> Result<(), Allo
     Ok(())
 }
 
-// Sets all anew in the place of edits, where the line is shorter so.
-fn shorten(alloc: Global, link: &mut Link, config: &Config) -> Result<(), AllocError>
-    requires { link.old.set.config ≡ config.now.config }
+// Spells the words that set all anew.
+fn spell_anew(
+    alloc: Global,
+    set: &mut Config,
+    whole: &mut Vec<u8>,
+    config: &Config,
+) -> Result<(), AllocError>
+    requires { set.old.config.shape ≡ config.now.config.shape }
 
-    ensures shape { link.new.set.config.shape ≡ link.old.set.config.shape }
+    ensures shape { set.new.config.shape ≡ set.old.config.shape }
+    ensures made { OnOk result (set.new.config ≡ config.now.config) }
+    ensures anew { OnOk result (SetsAnew config.now.config whole.new.items) }
+{
+    set.clear();
+    whole.clear();
+    whole.extend_from_slice(b"z ")?;
+    put_edits(alloc, whole, set, config)?;
+    Ok(())
+}
+
+/// So many bytes has the line that clears all, and sets nothing.
+const CLEARS: usize = 2;
+
+// Whether all is set anew: where that line is shorter than edits, and where nothing is to be edited, as where a session is made again,
+// but something is set.
+fn is_anew(edits: usize, whole: usize) -> bool
+    ensures shorter { result ≡ false → edits ≤ whole }
+    ensures edited { result ≡ false → edits ≡ 0 → whole ≤ 2 }
+{
+    if edits == 0 {
+        return whole > CLEARS;
+    }
+    whole < edits
+}
+
+// Takes the words that set all anew in the place of edits, where they are shorter, or nothing is to be edited.
+fn shorten(link: &mut Link, whole: &[u8]) -> Result<(), AllocError>
+    requires { SetsAnew link.old.set.config whole.now }
+
+    ensures set { link.new.set ≡ link.old.set }
     ensures expected { link.new.expected ≡ link.old.expected }
     ensures check { link.new.check ≡ link.old.check }
     ensures idle { (link.new.running ≡ link.old.running) × (link.new.due ≡ link.old.due) × (link.new.lost ≡ link.old.lost) }
-    ensures made { OnOk result (link.new.set.config ≡ config.now.config) }
+    ensures shortest { OnOk result (vec_len link.new.line ≤ length whole.now) }
+    ensures edited { OnOk result (vec_len link.new.line ≡ 0 → length whole.now ≤ 2) }
     ensures posted { OnOk result ((device : Option Device) → IfSome device (λ d. d.shape ≡ link.old.set.config.shape) →
         IsPosted device link.old.set.config link.old.line.items link.old.anew →
         IsPosted device link.new.set.config link.new.line.items link.new.anew) }
 {
-    if !is_shorter_anew(config, link.line.len()) {
+    if !is_anew(link.line.len(), whole.len()) {
         return Ok(());
     }
-    restart(link)?;
-    add_edits(alloc, link, config)?;
+    link.line.clear();
+    link.anew = true;
+    link.line.extend_from_slice(whole)?;
     Ok(())
 }
 
-// Posts a load: its words are made, and go out with the first cycle. Where memory is lacking, all is to be set anew.
-fn post(alloc: Global, link: &mut Link, config: &Config) -> Result<(), AllocError>
+// Posts a load: its words are made, and those that set all anew; the shorter ones go out with the first cycle, and those that set all anew
+// where the configuration is the one that is set. Where memory is lacking, all is to be set anew.
+fn post(
+    alloc: Global,
+    link: &mut Link,
+    whole: &mut Vec<u8>,
+    config: &Config,
+) -> Result<(), AllocError>
     requires { link.old.set.config.shape ≡ config.now.config.shape }
 
     ensures shape { link.new.set.config.shape ≡ link.old.set.config.shape }
@@ -246,16 +214,50 @@ fn post(alloc: Global, link: &mut Link, config: &Config) -> Result<(), AllocErro
     ensures posted { OnOk result ((link.new.set.config ≡ config.now.config) × (link.new.running ≡ true) × (link.new.due ≡ true)
         × (link.new.lost ≡ false)) }
     ensures lost { OnErr result ((link.new.running ≡ false) × (link.new.due ≡ false) × (link.new.lost ≡ true)) }
+    ensures anew { OnOk result (SetsAnew config.now.config whole.new.items) }
+    ensures shortest { OnOk result (vec_len link.new.line ≤ vec_len whole.new) }
+    ensures edited { OnOk result (vec_len link.new.line ≡ 0 → vec_len whole.new ≤ 2) }
 {
     begin(link)?;
     add_edits(alloc, link, config)?;
-    shorten(alloc, link, config)?;
+    spell_anew(alloc, &mut link.set, whole, config)?;
+    shorten(link, whole)?;
+    // Enough for all to be set anew too.
     let pins = link.set.shape().pins();
-    link.line.reserve(room_for(pins))?;
+    let room = whole.len().saturating_add(room_for(pins));
+    link.line.reserve(room)?;
     link.running = true;
     link.due = true;
     link.lost = false;
     Ok(())
+}
+
+// Posts a load whose session has no cycles yet. Whatever comes of it, what is kept goes with it.
+fn post_session(
+    alloc: Global,
+    link: &mut Link,
+    again: &mut Again,
+    config: &Config,
+) -> Result<(), AllocError>
+    requires shape { link.old.set.config.shape ≡ config.now.config.shape }
+    requires rows { HasRows (pins_of link.old.set.config.shape) again.old }
+
+    ensures shape { link.new.set.config.shape ≡ link.old.set.config.shape }
+    ensures expected { link.new.expected ≡ link.old.expected }
+    ensures check { link.new.check ≡ link.old.check }
+    ensures room { OnOk result (vec_len link.new.line + turn_room (pins_of link.new.set.config.shape) ≤ vec_capacity link.new.line) }
+    ensures linked { OnOk result ((device : Option Device) → IfSome device (λ d. d.shape ≡ link.old.set.config.shape) →
+        (link.old.lost ≡ false → IsPosted device link.old.set.config link.old.line.items link.old.anew) →
+        IsPosted device link.new.set.config link.new.line.items link.new.anew) }
+    ensures posted { OnOk result ((link.new.set.config ≡ config.now.config) × (link.new.running ≡ true) × (link.new.due ≡ true)
+        × (link.new.lost ≡ false)) }
+    ensures lost { OnErr result ((link.new.running ≡ false) × (link.new.due ≡ false) × (link.new.lost ≡ true)) }
+    ensures number { again.new.number ≡ again.old.number }
+    ensures resumes { (device : Option Device) → CanResume device link.new again.new }
+{
+    again.made = 0;
+    again.covers = true;
+    post(alloc, link, &mut again.whole, config)
 }
 
 impl<P: Port> PortBoard<P> {
@@ -267,6 +269,7 @@ impl<P: Port> PortBoard<P> {
           in_session = false;
           is_due = false;
           device = (P.port_state port).device;
+          number = 0;
           port_failures = (P.port_state port).failures;
           failures = both_counts 0 (P.port_state port).failures;
         } }
@@ -276,6 +279,7 @@ impl<P: Port> PortBoard<P> {
             port,
             found: None,
             link: None,
+            again: Again::new(alloc),
             failures: 0,
         }
     }
@@ -284,12 +288,12 @@ impl<P: Port> PortBoard<P> {
 impl<P: Port> Board for PortBoard<P> {
     ghost board_state = { board_of };
 
-    /// Opens the port, and asks the machine what it is. The board is up after an `Ok`, and isn't after a refusal. Where a machine of
-    /// this shape is told, it answers `Failed` only where the port failed.
+    /// Opens the port, and asks the machine what it is, at most three times. The board is up after an `Ok`, and isn't after a refusal.
+    /// Where a machine of this shape is told, it answers `Failed` only where the port failed.
     ///
     /// # Errors
     ///
-    /// `Failed` where the port fails, or another machine answers. Out of memory.
+    /// `Failed` where the port isn't opened or ends, or three times it fails or another machine answers. Out of memory.
     fn find(&mut self, shape: &Shape, name: &str) -> Result<(), RigFail>
         ensures later { (⟦<PortBoard<P> as Board>⟧.board_state self.old).failures
             ≤ (⟦<PortBoard<P> as Board>⟧.board_state self.new).failures }
@@ -302,13 +306,18 @@ impl<P: Port> Board for PortBoard<P> {
             Rose self.old.port_failures self.new.port_failures) }
         ensures up { OnOk result (self.new.is_up ≡ true) }
         ensures down { OnErr result (self.new.is_up ≡ false) }
+        ensures again { OnOk result ((self.new.number ≡ 1) ⊎ Rose self.old.failures self.new.failures) }
     {
         self.found = None;
         self.link = None;
+        let Ok(()) = self.again.make_rows(self.alloc, shape.pins()) else {
+            return Err(RigFail::Memory);
+        };
         let Ok(mut link) = link_of(self.alloc, *shape) else {
             return Err(RigFail::Memory);
         };
-        let Ok(check) = put_question(&mut link.line, &mut link.expected, FIRST, shape) else {
+        let Ok(check) = put_question(&mut self.again.question, &mut link.expected, FIRST, shape)
+        else {
             return Err(RigFail::Memory);
         };
         link.check = check;
@@ -317,8 +326,12 @@ impl<P: Port> Board for PortBoard<P> {
             Err(PortFail::Memory) => return Err(RigFail::Memory),
             Err(PortFail::Failed) => return Err(RigFail::Failed),
         }
-        if !attach(&mut self.port, &mut link) {
-            self.failures = self.failures.saturating_add(1);
+        if !attach_some(
+            &mut self.port,
+            &mut link,
+            &mut self.again,
+            &mut self.failures,
+        ) {
             return Err(RigFail::Failed);
         }
         self.found = Some(*shape);
@@ -349,12 +362,13 @@ impl<P: Port> Board for PortBoard<P> {
         ensures stays { self.new.is_up ≡ self.old.is_up }
         ensures unsent { self.new.port_failures ≡ self.old.port_failures }
         ensures waits { OnOk result (self.new.is_due ≡ true) }
+        ensures number { self.new.number ≡ self.old.number }
     {
         let Some(mut link) = self.link.take() else {
             self.failures = self.failures.saturating_add(1);
             return Err(RigFail::Failed);
         };
-        let posted = post(self.alloc, &mut link, config);
+        let posted = post_session(self.alloc, &mut link, &mut self.again, config);
         self.link = Some(link);
         match posted {
             Ok(()) => Ok(()),
@@ -367,7 +381,7 @@ impl<P: Port> Board for PortBoard<P> {
     ///
     /// # Errors
     ///
-    /// `Failed` where the port fails, or the line isn't that of a reading.
+    /// `Failed` where the port ends, or three times it fails, a line isn't that of a reading, or the session reads otherwise than before.
     fn cycle(&mut self, drive: &PinBits, read: &mut PinBits) -> Result<(), RigFail>
         requires session { (⟦<PortBoard<P> as Board>⟧.board_state self.old).in_session ≡ true }
         requires drive_pins { width_found (⟦<PortBoard<P> as Board>⟧.board_state self.old) ≡ Some (length drive.now) }
@@ -389,17 +403,19 @@ impl<P: Port> Board for PortBoard<P> {
         ensures up { OnOk result (self.new.is_up ≡ true) }
         ensures down { OnErr result (self.new.is_up ≡ false) }
         ensures sent { OnOk result (self.new.is_due ≡ false) }
+        ensures again { (self.new.number ≡ self.old.number) ⊎ Rose self.old.failures self.new.failures }
     {
         let Some(mut link) = self.link.take() else {
             unreachable!()
         };
-        if !turn(
+        if !drive_on(
             &mut self.port,
             &mut link,
+            &mut self.again,
             slice::from_ref(drive),
             slice::from_mut(read),
+            &mut self.failures,
         ) {
-            self.failures = self.failures.saturating_add(1);
             return Err(RigFail::Failed);
         }
         self.link = Some(link);
@@ -407,12 +423,13 @@ impl<P: Port> Board for PortBoard<P> {
     }
 
     /// Sends what is due with the drives, in as few requests as their replies allow, and reads what comes; without drives a load that is
-    /// due, so a machine is left loaded. The board is up after an
-    /// `Ok`, and isn't after a refusal. Where a machine is told, it answers `Failed` only where the port failed.
+    /// due, so a machine is left loaded. The board is up after an `Ok`, and isn't after a refusal. Where a machine is told, it answers
+    /// `Failed` only where the port failed.
     ///
     /// # Errors
     ///
-    /// `Failed` where the port fails, or a line isn't that of as many readings as were asked.
+    /// `Failed` where the port ends, or three times it fails, a line isn't that of as many readings as were asked, or the session reads
+    /// otherwise than before.
     fn cycles(&mut self, drives: &[PinBits], reads: &mut [PinBits]) -> Result<(), RigFail>
         requires session { (⟦<PortBoard<P> as Board>⟧.board_state self.old).in_session ≡ true }
         requires drive_pins { AreRowsOf (⟦<PortBoard<P> as Board>⟧.board_state self.old) drives.now }
@@ -435,12 +452,19 @@ impl<P: Port> Board for PortBoard<P> {
         ensures up { OnOk result (self.new.is_up ≡ true) }
         ensures down { OnErr result (self.new.is_up ≡ false) }
         ensures sent { OnOk result (self.new.is_due ≡ false) }
+        ensures again { (self.new.number ≡ self.old.number) ⊎ Rose self.old.failures self.new.failures }
     {
         let Some(mut link) = self.link.take() else {
             unreachable!()
         };
-        if !turn_all(&mut self.port, &mut link, drives, reads) {
-            self.failures = self.failures.saturating_add(1);
+        if !drive_on(
+            &mut self.port,
+            &mut link,
+            &mut self.again,
+            drives,
+            reads,
+            &mut self.failures,
+        ) {
             return Err(RigFail::Failed);
         }
         self.link = Some(link);

@@ -15,6 +15,7 @@ ghost use Rattle.rig_port.specs.Ports.{machine_told, Opens, AskFails};
 ghost use Rattle.rig_port.specs.RigPorts.{edit_of, edits_of, wanted_body, wanted_line, IsWantedOf, rig_port_state, IsReady};
 ghost use Rattle.rig_port.specs.RigPorts.{IsNoRequest, IsShort, IsDriven, IsAnswered, start_from};
 
+use crate::again::blank_rows;
 use crate::check::Check;
 use crate::parse::read_request;
 use crate::port::{Port, PortFail};
@@ -95,19 +96,6 @@ fn make_all(set: &mut Config, changes: &[Change]) -> Result<(), AllocError>
         make(set, changes[k])?;
     }
     Ok(())
-}
-
-// So many rows with all pins released.
-fn blank_rows(alloc: Global, pins: u32, count: usize) -> Result<Vec<PinBits>, AllocError>
-    ensures many { IfOk result (λ rows. length rows.items ≡ count) }
-    ensures wide { IfOk result (λ rows. All (λ row. length row ≡ pins) rows.items) }
-{
-    let mut rows = Vec::new(alloc);
-    'rows: for _k in 0..count {
-        let row = PinBits::new(alloc, pins)?;
-        rows.push(row)?;
-    }
-    Ok(rows)
 }
 
 // Drives the rig, reads into these rows, and spells what its pins read; answers the check behind it. `None` where that fails.
@@ -519,7 +507,11 @@ impl<R: Rig> Port for RigPort<R> {
         }
     }
 
-    /// Answers from its rig.
+    fn is_open(&self) -> bool {
+        self.set.is_some()
+    }
+
+    /// Answers from its rig. A refusal leaves it closed.
     ///
     /// # Errors
     ///

@@ -15,6 +15,7 @@ ghost use Rattle.rig_port.specs.Ports.{machine_told};
 ghost use Rattle.rig_port.specs.Linked.{IsLinked, HasTurned};
 ghost use Rattle.rig_port.specs.Boards.{IsKeptUp, HasRoom, IsRequest};
 ghost use Rattle.rig_port.specs.Checks.{after};
+ghost use Rattle.rig_port.specs.Sessions.{StaysLoaded};
 
 use crate::check::Check;
 use crate::link::Link;
@@ -190,6 +191,7 @@ pub fn turn<P: Port>(
     ensures machine { machine_told (P.port_state port.new) ≡ machine_told (P.port_state port.old) }
     ensures later { (P.port_state port.old).failures ≤ (P.port_state port.new).failures }
     ensures lengths { KeepLengths reads.old reads.new }
+    ensures stays { StaysLoaded link.old link.new }
     ensures held { IsTrue result → IsKeptUp (P.port_state port.new) link.old link.new }
     ensures sent { IsTrue result → link.new.due ≡ false }
     ensures turned { IsTrue result → HasTurned drives.now reads.new link.old.due link.old.set.config (P.port_state port.old).device
@@ -221,8 +223,8 @@ fn most_drives(pins: u32) -> usize
     (MOST_BODY / (digits + 1)).max(1)
 }
 
-// Sends all drives, in as few requests as their replies allow. False where a turn fails.
-fn turn_some<P: Port>(
+/// Sends all drives, in as few requests as their replies allow. False where a turn fails.
+pub fn turn_some<P: Port>(
     port: &mut P,
     link: &mut Link,
     drives: &[PinBits],
@@ -241,6 +243,7 @@ fn turn_some<P: Port>(
     ensures machine { machine_told (P.port_state port.new) ≡ machine_told (P.port_state port.old) }
     ensures later { (P.port_state port.old).failures ≤ (P.port_state port.new).failures }
     ensures lengths { KeepLengths reads.old reads.new }
+    ensures stays { StaysLoaded link.old link.new }
     ensures held { IsTrue result → IsKeptUp (P.port_state port.new) link.old link.new }
     ensures sent { IsTrue result → 0 < length drives.now → link.new.due ≡ false }
     ensures idle { IsTrue result → link.old.due ≡ false → link.new.due ≡ false }
@@ -283,6 +286,7 @@ pub fn turn_all<P: Port>(
     ensures machine { machine_told (P.port_state port.new) ≡ machine_told (P.port_state port.old) }
     ensures later { (P.port_state port.old).failures ≤ (P.port_state port.new).failures }
     ensures lengths { KeepLengths reads.old reads.new }
+    ensures stays { StaysLoaded link.old link.new }
     ensures held { IsTrue result → IsKeptUp (P.port_state port.new) link.old link.new }
     ensures sent { IsTrue result → link.new.due ≡ false }
     ensures turned { IsTrue result → HasTurned drives.now reads.new link.old.due link.old.set.config (P.port_state port.old).device

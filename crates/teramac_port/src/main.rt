@@ -1,7 +1,7 @@
 //! The program over a machine behind a port: real files, standard output, and a rig that speaks with a machine over a file or two.
 //!
-//! The word RIG names the machine: `FILE`, one file both ways, or `TO,FROM`; before it may stand a digit from 2 to 9 and `x`, and then
-//! each session is asked again so often that it was asked so many times in all.
+//! The word RIG names the machine: `FILE`, one file both ways, `TO,FROM`, or `=LOG`, a recorded talk; before it may stand a digit from 2 to
+//! 9 and `x`, and then each session is asked again so often that it was asked so many times in all.
 #![tactic(auto)]
 
 use cmd_top::teramac;

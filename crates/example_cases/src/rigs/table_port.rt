@@ -91,6 +91,10 @@ impl Port for TablePort {
         Ok(())
     }
 
+    fn is_open(&self) -> bool {
+        self.is_open
+    }
+
     fn ask(&mut self, request: &[u8], reply: &mut [u8]) -> Result<usize, PortFail> {
         let failures = self.failures;
         let asked = self.asked.get();

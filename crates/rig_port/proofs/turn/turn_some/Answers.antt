@@ -88,3 +88,17 @@ turn-requires-clause-some g c = λ _.
     let long = length-take (c.min-end.result - c.turns.at) (drop c.turns.at c.args.drives.now) in
     let rest = length-drop c.turns.at c.args.drives.now in
     omega (arith, long, rest, c.turns-test.true, c.min-end.ensures, c.saturating_add.ensures, c.most_drives-most.ensures.some)
+
+pub returns-then-not-turn-clause-stays : goal.returns-then-not-turn-clause-stays
+returns-then-not-turn-clause-stays g c = record {
+  set = c.turn.ensures.stays.set ∙ c.turns.invariant.3.set;
+  lost = c.turn.ensures.stays.lost ∙ c.turns.invariant.3.lost;
+  running = c.turn.ensures.stays.running ∙ c.turns.invariant.3.running ∙ sym c.requires.running;
+}
+
+pub returns-clause-stays : goal.returns-clause-stays
+returns-clause-stays g c = record {
+  set = c.turns.invariant.3.set;
+  lost = c.turns.invariant.3.lost;
+  running = c.turns.invariant.3.running ∙ sym c.requires.running;
+}

@@ -1,14 +1,25 @@
 use Rattle.std.proofs.Common.{ap}
 use Rattle.rig_port.proofs.Alarm.{told_alarm}
 use Rattle.rig_port.proofs.Held.{told_on}
+use Rattle.rig_port.proofs.Resumed.{both_rose}
 use Rattle.rig_port.proofs.port_board.PortBoardBoard.cycles.Goals as goal
 
 pub returns-clause-cycles : goal.returns-clause-cycles
 returns-clause-cycles g c =
-    let held = c.turn_all.ensures.held c.if-not-turn_all.false in
-    let turned = c.turn_all.ensures.turned c.if-not-turn_all.false in
-    let told = told_on turned.pairs (g.P.Port.port_state c.self.inside.port).device (g.P.Port.port_state c.turn_all.new.port).device c.turn_all.new.link.due c.in-Some.ensures.value (ap (λ s. s.device) c.self.view_is) held.set turned.turned in
+    let held = c.drive_on.ensures.held c.if-not-drive_on.false in
+    let turned = c.drive_on.ensures.turned c.if-not-drive_on.false in
+    let told = told_on turned.pairs (g.P.Port.port_state c.self.inside.port).device (g.P.Port.port_state c.drive_on.new.port).device c.drive_on.new.link.due c.in-Some.ensures.value (ap (λ s. s.device) c.self.view_is) held.set turned.turned in
     record { pairs = turned.pairs; driven = turned.driven; read = turned.read; cycled = record { ready = held.running; told = told } }
 
-pub returns-then-not-turn_all-clause-alarm : goal.returns-then-not-turn_all-clause-alarm
-returns-then-not-turn_all-clause-alarm g c = told_alarm (g.P.Port.port_state c.self.inside.port).device c.in-Some.ensures.value (ap (λ s. s.device) c.self.view_is) (ap (λ s. s.port_failures) c.self.view_is) (c.turn_all.ensures.alarm c.if-not-turn_all.true)
+pub returns-then-not-drive_on-clause-alarm : goal.returns-then-not-drive_on-clause-alarm
+returns-then-not-drive_on-clause-alarm g c = told_alarm (g.P.Port.port_state c.self.inside.port).device c.in-Some.ensures.value (ap (λ s. s.device) c.self.view_is) (ap (λ s. s.port_failures) c.self.view_is) (c.drive_on.ensures.alarm c.if-not-drive_on.true)
+
+pub returns-clause-again : goal.returns-clause-again
+returns-clause-again g c =
+    rw (← c.self.view_is) (both_rose c.self.inside.failures c.drive_on.new.failures (g.P.Port.port_state c.self.inside.port).failures (g.P.Port.port_state c.drive_on.new.port).failures
+    c.drive_on.ensures.later c.drive_on.ensures.number)
+
+pub returns-then-not-drive_on-clause-again : goal.returns-then-not-drive_on-clause-again
+returns-then-not-drive_on-clause-again g c =
+    rw (← c.self.view_is) (both_rose c.self.inside.failures c.drive_on.new.failures (g.P.Port.port_state c.self.inside.port).failures (g.P.Port.port_state c.drive_on.new.port).failures
+    c.drive_on.ensures.later c.drive_on.ensures.number)

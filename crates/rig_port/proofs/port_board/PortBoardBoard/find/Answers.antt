@@ -1,20 +1,37 @@
-use Rattle.std.proofs.Common.{◌≡◌, ◌≤◌, ◌∙◌, sym, ap, subst, IfSome}
+use Rattle.std.proofs.Common.{◌≡◌, ◌≤◌, ◌∙◌, arith, sym, ap, subst, refl, IfSome}
+use Rattle.machine_shape.specs.declared.Shape.{Shape}
 use Rattle.machine_config.specs.Configuration.{cleared}
 use Rattle.std.specs.Vec.{vec_capacity}
 use Rattle.machine_shape.specs.Shape.{pins_of}
-use Rattle.rig_port.specs.Lines.{AreCounts, turn_room}
+use Rattle.rig_port.specs.Checks.{fresh_check, after}
+use Rattle.rig_port.specs.Requests.{attach_body}
+use Rattle.rig_port.specs.Lines.{AreCounts, counts_body, counts_line, turn_room}
+use Rattle.rig_port.specs.Sessions.{HasRows}
 use Rattle.rig_port.proofs.Held.{fresh_held}
+use Rattle.rig_port.proofs.Resumed.{both_rose, fresh_resumes}
 use Rattle.rig_port.proofs.port_board.PortBoardBoard.find.Goals as goal
 
-pub attach-requires-clause-counts : goal.attach-requires-clause-counts
-attach-requires-clause-counts g c = subst AreCounts (ap (λ s. s.shape.counts) (sym c.in-Ok.ensures.set)) c.in-Ok-put_question.ensures.right
+pub attach_some-requires-clause-counts : goal.attach_some-requires-clause-counts
+attach_some-requires-clause-counts g c = subst AreCounts (ap (λ s. s.shape.counts) (sym c.in-Ok-link_of.ensures.set)) c.in-Ok-put_question.ensures.right
 
 pub invariant_of-self-2 : goal.invariant_of-self-2
 invariant_of-self-2 g c =
-    fresh_held (g.P.Port.port_state c.attach.new.port) c.args.shape.now c.attach.new.link (c.attach.ensures.open c.if-not-attach.false)
-    (ap (λ s. s.config) c.attach.ensures.set ∙ c.in-Ok.ensures.set) c.attach.ensures.line (c.attach.ensures.idle.0 ∙ c.in-Ok.ensures.idle.0)
-    (c.attach.ensures.idle.1 ∙ c.in-Ok.ensures.idle.1)
-    (subst (λ m. IfSome (g.P.Port.port_state c.attach.new.port).device (λ d. (d.shape ≡ m) × (d.set ≡ cleared m))) (ap (λ s. s.shape) c.in-Ok.ensures.set)
-    (c.attach.ensures.fresh c.if-not-attach.false))
-    (subst (λ (l : _). turn_room (pins_of c.args.shape.now) ≤ vec_capacity l) (sym c.attach.ensures.expected) c.in-Ok-put_question.ensures.room)
-    (c.attach.ensures.check c.if-not-attach.false)
+    let m = c.args.shape.now in
+    let past = c.attach_some.ensures.past in
+    let set = ap (λ s. s.config) c.attach_some.ensures.stays.set ∙ c.in-Ok-link_of.ensures.set in
+    let idle = c.attach_some.ensures.stays.running ∙ c.in-Ok-link_of.ensures.idle.1 in (
+      fresh_held (g.P.Port.port_state c.attach_some.new.port) m c.attach_some.new.link (c.attach_some.ensures.open c.if-not-attach_some.false)
+          set (ap (λ v. v.items) c.attach_some.ensures.stays.line ∙ c.in-Ok-link_of.ensures.line) (c.attach_some.ensures.stays.anew ∙ c.in-Ok-link_of.ensures.idle.0) idle
+          (subst (λ s. IfSome (g.P.Port.port_state c.attach_some.new.port).device (λ d. (d.shape ≡ s) × (d.set ≡ cleared s))) (ap (λ s. s.shape) c.in-Ok-link_of.ensures.set)
+          (c.attach_some.ensures.fresh c.if-not-attach_some.false))
+          (subst (λ (s : Shape). turn_room (pins_of s) ≤ vec_capacity c.attach_some.new.link.expected) (ap (λ s. s.shape) c.in-Ok-link_of.ensures.set) (c.attach_some.ensures.room c.if-not-attach_some.false))
+          (c.attach_some.ensures.check c.if-not-attach_some.false),
+      fresh_resumes (g.P.Port.port_state c.attach_some.new.port).device m c.attach_some.new.link c.make_rows.new.self c.attach_some.new.again set idle
+          (subst (λ n. HasRows n c.make_rows.new.self) c.pins.ensures.pins c.in-Ok.ensures)
+          (record { whole = past.whole; drives = past.drives; readings = past.readings; made = past.made; covers = past.covers }) c.attach_some.ensures.spare,
+    )
+
+pub returns-clause-again : goal.returns-clause-again
+returns-clause-again g c =
+    rw (← c.self.view_is) (both_rose c.self.inside.failures c.attach_some.new.failures (g.P.Port.port_state c.self.inside.port).failures (g.P.Port.port_state c.attach_some.new.port).failures
+    (omega (arith, c.open.ensures.later, c.attach_some.ensures.later)) c.attach_some.ensures.number)

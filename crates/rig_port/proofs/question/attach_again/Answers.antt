@@ -1,0 +1,53 @@
+use Rattle.std.proofs.Common.{◌≡◌, ◌∙◌, ◌≤◌, arith, ap, sym, subst, IfSome}
+use Rattle.std.specs.Vec.{vec_capacity}
+use Rattle.machine_shape.specs.Shape.{pins_of}
+use Rattle.machine_config.specs.Configuration.{Roomy, cleared}
+use Rattle.rig_port.specs.Lines.{turn_room}
+use Rattle.rig_port.proofs.Resumed.{HasCounts, still_counts}
+use Rattle.rig_port.proofs.question.attach_again.Goals as goal
+
+pub tries-preserved : goal.tries-preserved
+tries-preserved g c = record {
+  machine = c.attach_next.ensures.machine ∙ c.tries.invariant.machine;
+  told = still_counts c.args.link.now.set.config.shape (g.P.Port.port_state c.tries.port).device (g.P.Port.port_state c.attach_next.new.port).device c.attach_next.ensures.machine c.tries.invariant.told;
+  later = omega (arith, c.attach_next.ensures.later, c.tries.invariant.later);
+  stays = record {
+    set = c.attach_next.ensures.stays.set ∙ c.tries.invariant.stays.set;
+    line = c.attach_next.ensures.stays.line ∙ c.tries.invariant.stays.line;
+    anew = c.attach_next.ensures.stays.anew ∙ c.tries.invariant.stays.anew;
+    running = c.attach_next.ensures.stays.running ∙ c.tries.invariant.stays.running;
+    due = c.attach_next.ensures.stays.due ∙ c.tries.invariant.stays.due;
+    lost = c.attach_next.ensures.stays.lost ∙ c.tries.invariant.stays.lost;
+  };
+  past = record {
+    whole = c.tries.invariant.past.whole;
+    drives = c.tries.invariant.past.drives;
+    readings = c.tries.invariant.past.readings;
+    made = c.tries.invariant.past.made;
+    covers = c.tries.invariant.past.covers;
+  };
+  spare = c.tries.invariant.spare;
+  count = omega (arith, c.tries.invariant.count, c.saturating_add.ensures);
+}
+
+pub returns-then-attach_next-clause-fresh : goal.returns-then-attach_next-clause-fresh
+returns-then-attach_next-clause-fresh g c = λ _.
+    subst (λ (s : Roomy). IfSome (g.P.Port.port_state c.attach_next.new.port).device (λ d. (d.shape ≡ s.config.shape) × (d.set ≡ cleared s.config.shape))) c.tries.invariant.stays.set
+    (c.attach_next.ensures.fresh c.if-attach_next.true)
+
+pub returns-then-attach_next-clause-room : goal.returns-then-attach_next-clause-room
+returns-then-attach_next-clause-room g c = λ _.
+    subst (λ (s : Roomy). turn_room (pins_of s.config.shape) ≤ vec_capacity c.attach_next.new.link.expected) c.tries.invariant.stays.set (c.attach_next.ensures.room c.if-attach_next.true)
+
+pub returns-then-attach_next-clause-stays : goal.returns-then-attach_next-clause-stays
+returns-then-attach_next-clause-stays g c = record {
+  set = c.attach_next.ensures.stays.set ∙ c.tries.invariant.stays.set;
+  line = c.attach_next.ensures.stays.line ∙ c.tries.invariant.stays.line;
+  anew = c.attach_next.ensures.stays.anew ∙ c.tries.invariant.stays.anew;
+  running = c.attach_next.ensures.stays.running ∙ c.tries.invariant.stays.running;
+  due = c.attach_next.ensures.stays.due ∙ c.tries.invariant.stays.due;
+  lost = c.attach_next.ensures.stays.lost ∙ c.tries.invariant.stays.lost;
+}
+
+pub attach_next-requires-clause-told : goal.attach_next-requires-clause-told
+attach_next-requires-clause-told g c = subst (λ (s : Roomy). HasCounts s.config.shape (g.P.Port.port_state c.tries.port).device) (sym c.tries.invariant.stays.set) c.tries.invariant.told

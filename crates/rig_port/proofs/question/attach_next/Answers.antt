@@ -1,0 +1,24 @@
+use Rattle.std.proofs.Common.{◌∙◌, ap, subst}
+use Rattle.machine_shape.specs.declared.Shape.{Shape}
+use Rattle.machine_shape.specs.Shape.{pins_of}
+use Rattle.std.specs.Vec.{vec_capacity}
+use Rattle.rig_port.specs.Checks.{fresh_check, after}
+use Rattle.rig_port.specs.Lines.{counts_body, counts_line, AreCounts, turn_room}
+use Rattle.rig_port.specs.Requests.{attach_body}
+use Rattle.rig_port.proofs.Resumed.{told_counts}
+use Rattle.rig_port.proofs.question.attach_next.Goals as goal
+
+pub attach-requires-clause-expected : goal.attach-requires-clause-expected
+attach-requires-clause-expected g c =
+    c.in-Ok.ensures.expected ∙ ap (λ (m : Shape). counts_line (after fresh_check (attach_body c.saturating_add.result)) c.saturating_add.result m.counts) c.shape-shape.ensures.shape
+
+pub attach-requires-clause-check : goal.attach-requires-clause-check
+attach-requires-clause-check g c =
+    c.in-Ok.ensures.behind ∙ ap (λ (m : Shape). after (after fresh_check (attach_body c.saturating_add.result)) (counts_body c.saturating_add.result m.counts)) c.shape-shape.ensures.shape
+
+pub attach-requires-clause-counts : goal.attach-requires-clause-counts
+attach-requires-clause-counts g c = subst (λ (m : Shape). AreCounts m.counts) c.shape-shape.ensures.shape c.in-Ok.ensures.right
+
+pub attach-requires-clause-told : goal.attach-requires-clause-told
+attach-requires-clause-told g c =
+    told_counts c.args.link.now.set.config.shape (g.P.Port.port_state c.args.port.now).device (subst (λ (m : Shape). AreCounts m.counts) c.shape-shape.ensures.shape c.in-Ok.ensures.right) c.requires.told

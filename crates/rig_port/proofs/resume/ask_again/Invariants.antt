@@ -1,0 +1,19 @@
+use Rattle.std.proofs.Common.{◌≡◌, ◌≤◌, true}
+use Rattle.machine_shape.specs.Shape.{pins_of}
+use Rattle.rig.specs.Rig.{KeepLengths}
+use Rattle.rig_port.specs.Ports.{machine_told}
+use Rattle.rig_port.specs.Sessions.{HasRows, KeepsSession, StaysLoaded}
+use Rattle.rig_port.proofs.Resumed.{HasShape}
+use Rattle.rig_port.proofs.resume.ask_again.Given as goal
+
+abbrev pub invariant-tries : goal.invariant-tries
+invariant-tries g l = record {
+  machine : machine_told (g.P.Port.port_state l.port) ≡ machine_told (g.P.Port.port_state l.initial.port);
+  told : HasShape l.initial.link.set.config.shape (g.P.Port.port_state l.port).device;
+  later : (g.P.Port.port_state l.initial.port).failures ≤ (g.P.Port.port_state l.port).failures;
+  lengths : KeepLengths l.initial.reads l.reads;
+  stays : StaysLoaded l.initial.link l.link;
+  rows : HasRows (pins_of l.initial.link.set.config.shape) l.again;
+  past : KeepsSession l.initial.again l.again;
+  count : l.initial.failures ≤ l.failures;
+}

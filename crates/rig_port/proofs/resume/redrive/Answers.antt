@@ -1,0 +1,12 @@
+use Rattle.std.proofs.Common.{◌∙◌, sym, subst}
+use Rattle.rig_port.specs.Linked.{HasTurned}
+use Rattle.rig_port.proofs.Resumed.{many_rows}
+use Rattle.rig_port.proofs.resume.redrive.Goals as goal
+
+pub are_same-requires : goal.are_same-requires
+are_same-requires g c = many_rows c.args.spare.now c.turn_some.new.reads c.turn_some.ensures.lengths ∙ sym c.requires.as_many ∙ sym c.requires.as_many_read
+
+pub returns-clause-turned : goal.returns-clause-turned
+returns-clause-turned g c = λ same.
+    subst (λ rows. HasTurned c.args.drives.now rows c.args.link.now.due c.args.link.now.set.config (g.P.Port.port_state c.args.port.now).device c.turn_some.new.link.due
+    (g.P.Port.port_state c.turn_some.new.port).device) (c.are_same.ensures same) (c.turn_some.ensures.turned c.if-not-turn_some.false)
