@@ -1,11 +1,15 @@
 //! What the search asks of what is kept and known: whatever the number, there is an answer.
+ghost use Rattle.std.specs.Prelude.{◌≡◌, true, IsTrue};
+ghost use Rattle.diag_evidence.specs.Kept.{keeps_cross};
 
 use diag_evidence::Facts;
 use diag_known::Known;
 use machine_shape::{Cross, Wire};
 
 /// Whether a crosspoint is kept.
-pub(crate) fn keeps(facts: &Facts, c: Cross) -> bool {
+pub(crate) fn keeps(facts: &Facts, c: Cross) -> bool
+    ensures { IsTrue result → keeps_cross facts.now c.0 ≡ true }
+{
     if c.0 < facts.shape().crosses() {
         return facts.keeps_cross(c);
     }
