@@ -18,7 +18,7 @@ use crate::trees::{held_forest, is_known};
 use base_bits::BitSet;
 use diag_evidence::{Facts, Forest, Looks};
 use diag_known::{Field, Known};
-use diag_search::{Chooser, Search, Told};
+use diag_search::{Aim, Chooser, Search, Told};
 use machine_shape::{Cross, Wire};
 use rig::{Rig, RigFail};
 use std::alloc::{AllocError, Global};
@@ -139,6 +139,9 @@ fn tell_turn(
     ensures cause { IsErrOf result RigFail.Failed → Rose (rig_state rig.old).failures (rig_state rig.new).failures }
 {
     if !state.budget.can_pay(rig, 1) {
+        return Ok(false);
+    }
+    if state.aim == Aim::Rest && state.budget.is_low(rig) {
         return Ok(false);
     }
     let Ok(found) = next_view(
