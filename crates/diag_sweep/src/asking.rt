@@ -24,15 +24,6 @@ pub(crate) fn keeps_wire(facts: &Facts, w: Wire) -> bool {
     false
 }
 
-/// Whether two wires are kept apart.
-pub(crate) fn is_apart(facts: &Facts, a: Wire, b: Wire) -> bool {
-    let wires = facts.shape().wires();
-    if a.0 >= wires || b.0 >= wires || a.0 == b.0 {
-        return false;
-    }
-    facts.keeps_pair(a, b)
-}
-
 /// Whether a wire is known.
 pub(crate) fn knows(known: &Known, w: Wire) -> bool {
     if w.0 < known.shape().wires() {

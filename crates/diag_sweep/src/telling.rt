@@ -19,7 +19,7 @@ use crate::trees::is_known;
 use base_bits::BitSet;
 use diag_evidence::{Facts, Forest, Looks};
 use diag_known::{Field, Known};
-use diag_search::Told;
+use diag_search::{Aim, Told};
 use machine_shape::{Cross, Wire};
 use rig::{Rig, RigFail};
 use std::alloc::{AllocError, Global};
@@ -138,7 +138,7 @@ fn tell_turn(
     if !state.budget.can_pay(rig, 1) {
         return Ok(false);
     }
-    let Ok(found) = next_view(state, facts, known, bad, field) else {
+use diag_search::{Aim, Told};
         return Err(RigFail::Memory);
     };
     let Some(mut view) = found else {
