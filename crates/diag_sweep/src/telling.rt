@@ -138,7 +138,10 @@ fn tell_turn(
     if !state.budget.can_pay(rig, 1) {
         return Ok(false);
     }
-use diag_search::{Aim, Told};
+    if state.aim == Aim::Rest && state.budget.is_low(rig) {
+        return Ok(false);
+    }
+    let Ok(found) = next_view(state, facts, known, bad, field) else {
         return Err(RigFail::Memory);
     };
     let Some(mut view) = found else {
