@@ -116,8 +116,8 @@ pub ways_later : {k l : Kept} {ss : List VerifiedWire} {w : ℕ} {p q : Walk} �
 ways_later more a = record { first = way_later more a.first; second = way_later more a.second; meet = a.meet }
 
 -- where the set stays as it was, all of it is known still
-pub all_still : {k l : Kept} {ss : List VerifiedWire} → KeepsSet k l → KnowsAll k ss → KnowsAll l ss
-all_still same all w on = all w (sym (same w) ∙ on)
+pub all_still : (k l : Kept) {ss : List VerifiedWire} → KeepsSet k l → KnowsAll k ss → KnowsAll l ss
+all_still k l same all w on = all w (sym (same w) ∙ on)
 
 -- nothing is known at first
 pub known_none : {k : Kept} {known : KnownWires} → known.shape ≡ k.shape → known.steps ≡ [] → IsKnown k known

@@ -110,9 +110,9 @@ yet_then p q = record {
 pub set_of : {k l : Kept} → l ≡ k → KeepsSet k l
 set_of still w = ap (λ (n : Kept). is_apart n w) still
 
-pub set_by : {T E : Type 0} {k l : Kept} (r : Result T E) → OnOk r (KeepsSet k l) → OnErr r (l ≡ k) → KeepsSet k l
-set_by (Ok v) same still = same
-set_by (Err e) same still = set_of still
+pub set_by : {T E : Type 0} (k l : Kept) (r : Result T E) → OnOk r (KeepsSet k l) → OnErr r (l ≡ k) → KeepsSet k l
+set_by k l (Ok v) same still = same
+set_by k l (Err e) same still = set_of still
 
 -- a test that marks, and was paid for
 pub goes_tested : {now : RigState} {a : Field} {tables : List Table} {k l : Kept} {known : KnownWires} {bad new : DefectMarks} {budget : LoadBudget} {before after : ℕ} (n : ℕ) → IsHand a (in_hand k known bad budget before) → before + n ≤ budget.most → after ≤ before + n → IsMore k l →

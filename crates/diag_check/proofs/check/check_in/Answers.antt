@@ -37,4 +37,4 @@ pub returns-in-Err-clause-loads : goal.returns-in-Err-clause-loads
 returns-in-Err-clause-loads g c = loads_grown _ _ _ _ _ c.grow_over.ensures.loads
 
 pub returns-clause-all : goal.returns-clause-all
-returns-clause-all g c = all_still c.look_at_tables.ensures.set c.grow_over.ensures.all
+returns-clause-all g c = all_still _ _ c.look_at_tables.ensures.set c.grow_over.ensures.all
