@@ -1,11 +1,18 @@
-use Rattle.std.proofs.Common.{◌≡◌, ◌&&◌, Bool, true, false, map, sym, ap, ◌∙◌}
+use Rattle.std.proofs.Common.{◌≡◌, ◌&&◌, Bool, true, false, List, All, map, sym, ap, subst, ◌∙◌}
+use Rattle.std.proofs.lemmas.List.Elements.{All-map}
+use Rattle.diag_evidence.specs.declared.hangs.WireTest.{WireTest}
 use Rattle.diag_evidence.specs.Vocabulary.{swings}
-use Rattle.diag_evidence.specs.Hangs.{is_shown, turned, pin_p, pin_q, parts_from_hung}
+use Rattle.diag_evidence.specs.Hangs.{IsFoot, over_of, is_shown, turned, pin_p, pin_q, parts_from_hung}
 use Rattle.diag_evidence.proofs.Rows.{not_at_first, not_at_second, and_rest}
 use Rattle.diag_evidence.proofs.joins.joins.Goals as goal
 
 pub returns-then-not-is_shown : goal.returns-then-not-is_shown
 returns-then-not-is_shown c = sym (not_at_first (is_shown c.args.forest.now c.args.hangs.now c.args.views.now.all.rows c.args.views.now.without_over.rows c.args.hang) _ (sym c.is_shown.ensures ∙ c.if-not-is_shown.true))
+
+pub is_shown-requires-2-clause-over : goal.is_shown-requires-2-clause-over
+is_shown-requires-2-clause-over c =
+    subst (λ (hs : List WireTest). All (λ h. IsFoot c.args.forest.now (over_of h)) hs) (sym c.requires.swapped)
+    (All-map (λ h. IsFoot c.args.forest.now (over_of h)) turned c.args.hangs.now c.requires.other)
 
 pub returns-then-not-is_shown-2 : goal.returns-then-not-is_shown-2
 returns-then-not-is_shown-2 c =
