@@ -1,5 +1,5 @@
 -- What a choice leaves: of what is known some gives way, and what is left to spend.
-use Rattle.std.proofs.Common.{◌≡◌, ◌⊎◌, inl, inr, ℕ, ◌+◌, ◌≤◌, Bool, true, false, not, ◌&&◌, Option, List, length, replicate, refl, sym, ap, ◌∙◌, subst, arith, slice_set}
+use Rattle.std.proofs.Common.{◌≡◌, ◌⊎◌, inl, inr, ℕ, ◌+◌, ◌≤◌, Bool, true, false, not, ◌&&◌, Option, List, [], length, replicate, refl, sym, ap, ◌∙◌, subst, arith, slice_set}
 use Rattle.std.proofs.lemmas.Bool.{false≢true, and_parts}
 use Rattle.base_bits.specs.Numbers.{has_number, size_of}
 use Rattle.machine_shape.specs.declared.Shape.{Shape}
@@ -9,7 +9,7 @@ use Rattle.diag_known.specs.Vocabulary.{how_many, HasWire, InSet, KnownWires}
 use Rattle.diag_known.specs.declared.field.Field.{Field}
 use Rattle.diag_known.specs.declared.verified_wire.VerifiedWire.{VerifiedWire}
 use Rattle.diag_known.proofs.Counting.{many_more, many_size, none_has, set_only}
-use Rattle.diag_sweep.specs.Marks.{AreMarksFor, TrueIf, is_undecided, undecided, worth}
+use Rattle.diag_sweep.specs.Marks.{AreMarksFor, HasTable, MarksButUnfit, MarksIn, MarksSome, TrueIf, is_undecided, undecided, worth}
 use Rattle.diag_sweep.specs.Stages.{IsFunded, IsHand, in_hand}
 use Rattle.diag_sweep.specs.declared.defect_marks.DefectMarks.{DefectMarks}
 use Rattle.diag_sweep.specs.declared.budget.LoadBudget.{LoadBudget}
@@ -80,3 +80,23 @@ true_of_any {k} {ss} {ts} {b} unfit n none told t = record {
 
 pub marks_cleared : {m : Shape} {b : DefectMarks} (unfit : List Bool) → length unfit ≡ length b.unfit → AreMarksFor m b → AreMarksFor m (record b { unfit = unfit })
 marks_cleared unfit len are = record { stuck = are.stuck; unfit = len ∙ are.unfit; unclear = are.unclear; wrong = are.wrong }
+
+-- what a choice leaves of the marks
+pub unfit_none : (unfit : List Bool) (n : ℕ) → unfit ≡ replicate n false → (w : ℕ) → has_number unfit w ≡ false
+unfit_none unfit n none w = ap (λ (s : List Bool). has_number s w) none ∙ none_on n w
+
+pub none_unfit : (was is : List Bool) (n : ℕ) → is ≡ replicate n false → (w : ℕ) → has_number is w ≡ true → has_number was w ≡ true
+none_unfit was is n none w on = absurd (false≢true (sym (unfit_none is n none w) ∙ on))
+
+-- .. where looks marked some before it
+pub but_unfit : {a : Field} (old mid new : DefectMarks) → MarksIn a [] old mid → new.stuck ≡ mid.stuck → new.unclear ≡ mid.unclear → new.wrong ≡ mid.wrong → ((w : ℕ) → has_number new.unfit w ≡ true → has_number mid.unfit w ≡ true) →
+    MarksButUnfit a old new
+but_unfit {a} old mid new m stuck unclear wrong unfit = record {
+  stuck = subst (MarksSome (λ x. has_number a.crosses x ≡ true) old.stuck) (sym stuck) m.stuck;
+  unfit = λ w on. m.unfit.within w (unfit w on);
+  unclear = subst (MarksSome (λ w. has_number a.wires w ≡ true) old.unclear) (sym unclear) m.unclear;
+  wrong = subst (MarksSome (HasTable []) old.wrong) (sym wrong) m.wrong;
+}
+
+pub but_itself : {a : Field} (old new : DefectMarks) → MarksIn a [] old new → MarksButUnfit a old new
+but_itself old new m = record { stuck = m.stuck; unfit = m.unfit.within; unclear = m.unclear; wrong = m.wrong }

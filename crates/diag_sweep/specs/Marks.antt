@@ -1,5 +1,5 @@
 -- Marks of what tests have found bad, when they are true, and what finding them may cost.
-use Rattle.std.specs.Prelude.{◌≡◌, ◌≢◌, ◌⊎◌, ℕ, ◌+◌, ◌*◌, ◌≤◌, Bool, true, not, ◌&&◌, Option, Some, None, List, length, slice_get}
+use Rattle.std.specs.Prelude.{◌≡◌, ◌≢◌, ◌⊎◌, ℕ, ◌+◌, ◌*◌, ◌≤◌, Bool, true, not, ◌&&◌, Option, Some, None, List, [], length, slice_get}
 use Rattle.base_bits.specs.Numbers.{has_number}
 use Rattle.machine_shape.specs.declared.Shape.{Shape}
 use Rattle.machine_shape.specs.declared.Table.{Table}
@@ -49,6 +49,13 @@ pub record MarksIn (a : Field) (tables : List Table) (old new : DefectMarks) : T
   pub unfit : MarksSome (λ w. has_number a.wires w ≡ true) old.unfit new.unfit
   pub unclear : MarksSome (λ w. has_number a.wires w ≡ true) old.unclear new.unclear
   pub wrong : MarksSome (HasTable tables) old.wrong new.wrong
+
+-- What a choice leaves of the marks: they stay but for those of unfit wires, and each new mark is of the field, and of no table.
+pub record MarksButUnfit (a : Field) (old new : DefectMarks) : Type 0 where
+  pub stuck : MarksSome (λ x. has_number a.crosses x ≡ true) old.stuck new.stuck
+  pub unfit : (w : ℕ) → has_number new.unfit w ≡ true → (has_number old.unfit w ≡ true) ⊎ (has_number a.wires w ≡ true)
+  pub unclear : MarksSome (λ w. has_number a.wires w ≡ true) old.unclear new.unclear
+  pub wrong : MarksSome (HasTable []) old.wrong new.wrong
 
 -- a crosspoint that is neither kept nor marked stuck
 abbrev pub is_undecided : Kept → DefectMarks → ℕ → Bool

@@ -1,5 +1,5 @@
 //! Which of shorted wires stays known: choices, and the sweeps behind them.
-ghost use Rattle.std.specs.Prelude.{◌≡◌, ◌≤◌, ◌+◌, ◌*◌, ℕ, false, Option, Some, IfOk, OnOk, IsErrOf, length};
+ghost use Rattle.std.specs.Prelude.{◌≡◌, ◌≤◌, ◌+◌, ◌*◌, ℕ, true, false, Option, Some, IfOk, OnOk, IsErrOf, length};
 ghost use Rattle.base_io.specs.Counts.{Rose};
 ghost use Rattle.base_bits.specs.Numbers.{has_number, size_of};
 ghost use Rattle.machine_meaning.specs.Faults.{Faults};
@@ -7,7 +7,7 @@ ghost use Rattle.machine_shape.specs.Shape.{crosses_of, wires_of};
 ghost use Rattle.rig.specs.Rig.{ForEach, shape_of};
 ghost use Rattle.diag_evidence.specs.Kept.{Advances, AdvancesButPairs, HoldsFor, IsButPairs};
 ghost use Rattle.diag_known.specs.Vocabulary.{GrowsIn, IsFieldOf, HasWire, InSet, IsKnown, KnownWires, KnowsAll};
-ghost use Rattle.diag_sweep.specs.Marks.{AreMarksFor, MarksIn, TrueIf, worth};
+ghost use Rattle.diag_sweep.specs.Marks.{AreMarksFor, MarksButUnfit, MarksIn, TrueIf, worth};
 ghost use Rattle.diag_sweep.specs.Stages.{IsFunded, in_hand};
 
 use crate::budget::{LoadBudget, loads_of};
@@ -198,6 +198,10 @@ fn give_way(
     ensures same { IfOk result (λ chosen. chosen ≡ false → known.new ≡ known.old) }
     ensures marks { AreMarksFor facts.old.shape bad.new }
     ensures stuck { bad.new.stuck ≡ bad.old.stuck }
+    ensures unclear { bad.new.unclear ≡ bad.old.unclear }
+    ensures wrong { bad.new.wrong ≡ bad.old.wrong }
+    ensures unfit { (w : ℕ) → has_number bad.new.unfit w ≡ true → has_number bad.old.unfit w ≡ true }
+    ensures dropped { IfOk result (λ chosen. chosen ≡ true → (w : ℕ) → has_number bad.new.unfit w ≡ false) }
     ensures but { IsButPairs facts.old facts.new }
     ensures explained { (f : Faults) → HoldsFor facts.old f → HoldsFor facts.new f }
     ensures right { (told : Option Faults) → TrueIf told facts.old known.old.steps bad.old →
@@ -215,7 +219,7 @@ fn give_way(
 }
 
 /// Looks to which known wires unfit ones are shorted, as far as what is left pays for it, and gives those up that stand in the way of more.
-/// Says whether some were. What is known is then known of fewer wires, the marks of unfit ones are dropped, and so are the pairs of those
+/// Says whether some were. What is known is then known of fewer wires, all marks of unfit ones are dropped, and so are the pairs of those
 /// that were given up. Nothing is promised of what it chooses.
 ///
 /// # Errors
@@ -240,6 +244,8 @@ pub fn choose(
     ensures fewer { (w : ℕ) → HasWire known.new.steps w → HasWire known.old.steps w }
     ensures same { IfOk result (λ chosen. chosen ≡ false → known.new ≡ known.old) }
     ensures marks { AreMarksFor facts.old.shape bad.new }
+    ensures marked { MarksButUnfit field.now bad.old bad.new }
+    ensures dropped { IfOk result (λ chosen. chosen ≡ true → (w : ℕ) → has_number bad.new.unfit w ≡ false) }
     ensures right_each { ForEach (rig_state rig.new) (λ told. TrueIf told facts.old known.old.steps bad.old → TrueIf told facts.new
         known.new.steps bad.new) }
     ensures pays { worth field.now facts.new bad.new (rig_state rig.new).loads choices.new.left

@@ -4,7 +4,7 @@ use Rattle.diag_sweep.proofs.Coursing.{has_both, stays_both, still_within}
 use Rattle.diag_sweep.proofs.branching.ends_anew.Goals as goal
 
 pub returns-clause-own : goal.returns-clause-own
-returns-clause-own c = λ _ e. (let n = c.if-to-from.false in let b : ⊥ = grind (arith, nat_tests, n, e) in b)
+returns-clause-own c = λ _ e. (let n = c.if-lead.false in let b : ⊥ = grind (arith, nat_tests, n, e) in b)
 
 pub returns-clause-anew : goal.returns-clause-anew
 returns-clause-anew c = λ _. sym c.has.ensures ∙ c.if-has.false

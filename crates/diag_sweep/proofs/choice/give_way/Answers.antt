@@ -4,7 +4,7 @@ use Rattle.machine_shape.specs.Shape.{wires_of}
 use Rattle.diag_evidence.proofs.Keeping.{holds_retaken, retaken_but, retaken_shape}
 use Rattle.diag_known.proofs.Apart.{known_apart}
 use Rattle.diag_known.proofs.Later.{known_retaken, retaken_all}
-use Rattle.diag_sweep.proofs.Chosen.{marks_cleared, true_of_any}
+use Rattle.diag_sweep.proofs.Chosen.{marks_cleared, none_unfit, true_of_any, unfit_none}
 use Rattle.diag_sweep.proofs.Marking.{true_back}
 use Rattle.diag_sweep.proofs.choice.give_way.Goals as goal
 
@@ -31,3 +31,9 @@ returns-clause-but c = retaken_but c.retake.ensures.retaken
 
 pub returns-clause-right : goal.returns-clause-right
 returns-clause-right c = λ told t. true_back (retaken_shape c.retake.ensures.retaken) (λ f _. c.retake.ensures.explained f) (true_of_any c.clear.new.self _ c.clear.ensures told t)
+
+pub returns-clause-unfit : goal.returns-clause-unfit
+returns-clause-unfit c = none_unfit _ c.clear.new.self _ c.clear.ensures
+
+pub returns-clause-dropped : goal.returns-clause-dropped
+returns-clause-dropped c = λ _. unfit_none c.clear.new.self _ c.clear.ensures

@@ -2,8 +2,8 @@ use Rattle.std.proofs.Common.{sym, ◌∙◌, arith}
 use Rattle.diag_sweep.proofs.Coursing.{loose_first, loose_more}
 use Rattle.diag_sweep.proofs.paths.are_loose.Goals as goal
 
-pub wire_at-requires : goal.wire_at-requires
-wire_at-requires c = let many = c.requires in omega (arith, many)
+pub wire_at-w-requires : goal.wire_at-w-requires
+wire_at-w-requires c = let many = c.requires in omega (arith, many)
 
 pub places-init : goal.places-init
 places-init c = loose_first c.args.forest.now c.args.lead.now

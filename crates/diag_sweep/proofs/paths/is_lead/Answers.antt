@@ -4,11 +4,11 @@ use Rattle.diag_evidence.specs.Vocabulary.{HangsOn, crosses_along, wires_along}
 use Rattle.diag_sweep.proofs.Coursing.{is_lead, number_at}
 use Rattle.diag_sweep.proofs.paths.is_lead.Goals as goal
 
-pub wire_at-requires : goal.wire_at-requires
-wire_at-requires c = let many = c.if-not-is_walk.ensures.wires refl in omega (arith, many)
+pub wire_at-first-requires : goal.wire_at-first-requires
+wire_at-first-requires c = let many = c.if-not-is_walk.ensures.wires refl in omega (arith, many)
 
-pub wire_at-requires-2 : goal.wire_at-requires-2
-wire_at-requires-2 c = let many = c.if-not-is_walk.ensures.wires refl in let all = c.len-count.ensures in omega (arith, many, all)
+pub wire_at-last-requires : goal.wire_at-last-requires
+wire_at-last-requires c = let many = c.if-not-is_walk.ensures.wires refl in let all = c.len-count.ensures in omega (arith, many, all)
 
 pub are_loose-requires : goal.are_loose-requires
 are_loose-requires c = c.if-not-is_walk.ensures.wires refl

@@ -4,14 +4,14 @@ use Rattle.diag_evidence.specs.Vocabulary.{crosses_along, wires_along}
 use Rattle.diag_sweep.proofs.Coursing.{walk_first, walk_more, walk_whole}
 use Rattle.diag_sweep.proofs.paths.is_walk.Goals as goal
 
-pub wire_at-requires : goal.wire_at-requires
-wire_at-requires c =
+pub wire_at-from-requires : goal.wire_at-from-requires
+wire_at-from-requires c =
     let many : length (wires_along c.args.lead.now) ≡ length (crosses_along c.args.lead.now) + 1 = grind (arith, nat_tests, c.if-wires-crosses.false, c.count_wires-wires.ensures, c.len-crosses.ensures) in
     let all = c.len-crosses.ensures in
     omega (arith, many, all)
 
-pub wire_at-requires-2 : goal.wire_at-requires-2
-wire_at-requires-2 c =
+pub wire_at-to-requires : goal.wire_at-to-requires
+wire_at-to-requires c =
     let many : length (wires_along c.args.lead.now) ≡ length (crosses_along c.args.lead.now) + 1 = grind (arith, nat_tests, c.if-wires-crosses.false, c.count_wires-wires.ensures, c.len-crosses.ensures) in
     let all = c.len-crosses.ensures in
     omega (arith, many, all)
