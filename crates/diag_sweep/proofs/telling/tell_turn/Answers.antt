@@ -12,7 +12,7 @@ returns-clause-goes g c =
     let can = of_some (CanTell c.args.facts.now c.args.known.now.steps c.args.field.now) c.in-Ok.found c.in-Some.view c.in-Some.is c.in-Ok.ensures in
     let test = c.screen_wires.ensures in
     let of = rw (← c.as_slice-feet.ensures.value) at can.field in
-    goes_whole (all_still c.args.facts.now c.screen_wires.new.facts (set_of test.same) c.requires.hand.all)
+    goes_whole (all_still c.args.facts.now c.screen_wires.new.self (set_of test.same) c.requires.hand.all)
     (hang_goes 1 c.requires.hand (c.if-not-can_pay.ensures refl) test.loads test.advances.more test.advances.explained
     (told_unfit c.args.field.now _ _ _ _ _ _ _ c.screen_wires.result of test.marks test.stay test.marked test.unmarked)
     (told_unclear c.args.field.now _ _ _ _ _ _ _ c.screen_wires.result of test.marks_too test.stay_too test.marked test.unmarked_too)
@@ -24,7 +24,7 @@ returns-in_err-screen_wires-clause-goes g c =
     let can = of_some (CanTell c.args.facts.now c.args.known.now.steps c.args.field.now) c.in-Ok.found c.in-Some.view c.in-Some.is c.in-Ok.ensures in
     let test = c.screen_wires.ensures in
     let of = rw (← c.as_slice-feet.ensures.value) at can.field in
-    goes_whole (all_still c.args.facts.now c.screen_wires.new.facts (set_of test.same) c.requires.hand.all)
+    goes_whole (all_still c.args.facts.now c.screen_wires.new.self (set_of test.same) c.requires.hand.all)
     (hang_goes 1 c.requires.hand (c.if-not-can_pay.ensures refl) test.loads test.advances.more test.advances.explained
     (told_unfit c.args.field.now _ _ _ _ _ _ _ c.screen_wires.result of test.marks test.stay test.marked test.unmarked)
     (told_unclear c.args.field.now _ _ _ _ _ _ _ c.screen_wires.result of test.marks_too test.stay_too test.marked test.unmarked_too)
