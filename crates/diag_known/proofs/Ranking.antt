@@ -154,15 +154,15 @@ ranks_none a ranks steps wires = record {
   marked = λ w. ap (λ (ws : List Bool). has_number ws w) wires ∙ no_mark (wires_of a.shape) w ∙ sym (ap is_some (unranked w));
 }
   where
+    none : AreRanksOf a.ranks.items a.steps.items
+    none = subst (λ ss. AreRanksOf a.ranks.items ss) (sym steps) (subst (λ ns. AreRanksOf ns []) (sym ranks) (no_ranks (wires_of a.shape)))
+
     unranked : (w : ℕ) → rank_in a.ranks.items w ≡ None
     unranked w = by_rank (rank_in a.ranks.items w) refl
       where
         by_rank : (o : Option ℕ) → rank_in a.ranks.items w ≡ o → o ≡ None
         by_rank None e = refl
         by_rank (Some i) e = absurd (let at = none.right w i e in let h : None ≡ Some at.step = sym (ap (λ ss. slice_get ss i) steps) ∙ at.here in cc)
-
-    none : AreRanksOf a.ranks.items a.steps.items
-    none = subst (λ ss. AreRanksOf a.ranks.items ss) (sym steps) (subst (λ ns. AreRanksOf ns []) (sym ranks) (no_ranks (wires_of a.shape)))
 
     zero_times : wires_of a.shape * 0 ≡ 0
     zero_times = omega arith

@@ -32,13 +32,13 @@ pub returns-in_err-learn-clause-known : goal.returns-in_err-learn-clause-known
 returns-in_err-learn-clause-known g c = subst (λ (known : KnownWires). IsKnown c.is_good_over.new.facts known) (sym c.in_err-learn.ensures.same) (known_later c.is_good_over.ensures.advances.more c.requires.ready.known)
 
 pub returns-in_err-learn-clause-all : goal.returns-in_err-learn-clause-all
-returns-in_err-learn-clause-all g c = subst (λ (known : KnownWires). KnowsAll c.is_good_over.new.facts known.steps) (sym c.in_err-learn.ensures.same) (all_still c.is_good_over.ensures.set c.requires.all)
+returns-in_err-learn-clause-all g c = subst (λ (known : KnownWires). KnowsAll c.is_good_over.new.facts known.steps) (sym c.in_err-learn.ensures.same) (all_still c.args.facts.now c.is_good_over.new.facts c.is_good_over.ensures.set c.requires.all)
 
 pub returns-clause-known : goal.returns-clause-known
-returns-clause-known g c = settled_known c.settle.result c.settle.ensures.settled c.settle.ensures.refused c.settle.ensures.more (c.in_ok-good.ensures.good c.if-not-good.false) (known_later c.is_good_over.ensures.advances.more c.requires.ready.known) (all_still c.is_good_over.ensures.set c.requires.all) c.requires.ready.offer.new (stands_later c.is_good_over.ensures.advances.more (offer_stands c.requires.ready.offer c.requires.over)) c.in_ok-learn.ensures.learnt
+returns-clause-known g c = settled_known c.settle.result c.settle.ensures.settled c.settle.ensures.refused c.settle.ensures.more (c.in_ok-good.ensures.good c.if-not-good.false) (known_later c.is_good_over.ensures.advances.more c.requires.ready.known) (all_still c.args.facts.now c.is_good_over.new.facts c.is_good_over.ensures.set c.requires.all) c.requires.ready.offer.new (stands_later c.is_good_over.ensures.advances.more (offer_stands c.requires.ready.offer c.requires.over)) c.in_ok-learn.ensures.learnt
 
 pub returns-clause-all : goal.returns-clause-all
-returns-clause-all g c = settled_all c.settle.result c.settle.ensures.settled c.settle.ensures.refused c.settle.ensures.more (c.in_ok-good.ensures.good c.if-not-good.false) (known_later c.is_good_over.ensures.advances.more c.requires.ready.known) (all_still c.is_good_over.ensures.set c.requires.all) c.in_ok-learn.ensures.learnt
+returns-clause-all g c = settled_all c.settle.result c.settle.ensures.settled c.settle.ensures.refused c.settle.ensures.more (c.in_ok-good.ensures.good c.if-not-good.false) (known_later c.is_good_over.ensures.advances.more c.requires.ready.known) (all_still c.args.facts.now c.is_good_over.new.facts c.is_good_over.ensures.set c.requires.all) c.in_ok-learn.ensures.learnt
 
 pub returns-in_err-learn-clause-more : goal.returns-in_err-learn-clause-more
 returns-in_err-learn-clause-more g c = none_more c.args.offer.now.wire.0 c.in_err-learn.ensures.same
@@ -65,7 +65,7 @@ pub returns-clause-marks : goal.returns-clause-marks
 returns-clause-marks g c = over_later (more_then c.is_good_over.ensures.advances.more c.settle.ensures.more) (over_barred c.args.offer.now.wire.0 c.requires.ready.marks c.bar.ensures)
 
 pub returns-in_err-good-clause-all : goal.returns-in_err-good-clause-all
-returns-in_err-good-clause-all g c = all_still c.is_good_over.ensures.set c.requires.all
+returns-in_err-good-clause-all g c = all_still c.args.facts.now c.is_good_over.new.facts c.is_good_over.ensures.set c.requires.all
 
 pub returns-then-not-good-clause-all : goal.returns-then-not-good-clause-all
-returns-then-not-good-clause-all g c = all_still c.is_good_over.ensures.set c.requires.all
+returns-then-not-good-clause-all g c = all_still c.args.facts.now c.is_good_over.new.facts c.is_good_over.ensures.set c.requires.all

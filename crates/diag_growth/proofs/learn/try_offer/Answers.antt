@@ -72,10 +72,10 @@ returns-clause-spends_each g c =
     (ap (λ bits. has_number bits w) c.second_foot.ensures.spends.barred ∙ c.requires.wire) c.try_feet.ensures.barred c.try_feet.ensures.loads)
 
 pub returns-in_err-second-clause-all : goal.returns-in_err-second-clause-all
-returns-in_err-second-clause-all g c = all_still c.second_foot.ensures.trial.apart c.requires.all
+returns-in_err-second-clause-all g c = all_still c.args.facts.now c.second_foot.new.facts c.second_foot.ensures.trial.apart c.requires.all
 
 pub returns-in_default-clause-all : goal.returns-in_default-clause-all
-returns-in_default-clause-all g c = all_still c.second_foot.ensures.trial.apart c.requires.all
+returns-in_default-clause-all g c = all_still c.args.facts.now c.second_foot.new.facts c.second_foot.ensures.trial.apart c.requires.all
 
 pub try_feet-requires-clause-all : goal.try_feet-requires-clause-all
-try_feet-requires-clause-all g c = all_still c.second_foot.ensures.trial.apart c.requires.all
+try_feet-requires-clause-all g c = all_still c.args.facts.now c.second_foot.new.facts c.second_foot.ensures.trial.apart c.requires.all

@@ -38,7 +38,7 @@ pub look_known-requires-clause-other : goal.look_known-requires-clause-other
 look_known-requires-clause-other g c = record { place = c.in-Some.other; early = omega arith; at = c.in-Some.ensures.known }
 
 pub returns-clause-grows : goal.returns-clause-grows
-returns-clause-grows g c = grows_itself c.requires.known c.look_known.ensures.advances.more (all_still c.look_known.ensures.trial.apart c.requires.all) (joins_barred c.look_known.ensures.joins)
+returns-clause-grows g c = grows_itself c.requires.known c.look_known.ensures.advances.more (all_still c.args.facts.now c.look_known.new.facts c.look_known.ensures.trial.apart c.requires.all) (joins_barred c.look_known.ensures.joins)
 
 pub returns-clause-tried_each : goal.returns-clause-tried_each
 returns-clause-tried_each g c = on_ok_so c.look_known.result c.look_known.ensures.kept_each (λ kept f e marks. tried_none (joins_barred c.look_known.ensures.joins))
@@ -49,7 +49,7 @@ returns-clause-looked_each g c = on_ok_so c.look_known.result c.look_known.ensur
 pub returns-clause-marks_each : goal.returns-clause-marks_each
 returns-clause-marks_each g c =
     let more = c.look_known.ensures.advances.more in
-    on_ok_so c.look_known.result c.look_known.ensures.marks_each (λ each f e marks. all_later more (grows_itself c.requires.known more (all_still c.look_known.ensures.trial.apart c.requires.all) (joins_barred c.look_known.ensures.joins)) marks (each f e marks.are)
+    on_ok_so c.look_known.result c.look_known.ensures.marks_each (λ each f e marks. all_later more (grows_itself c.requires.known more (all_still c.args.facts.now c.look_known.new.facts c.look_known.ensures.trial.apart c.requires.all) (joins_barred c.look_known.ensures.joins)) marks (each f e marks.are)
     (λ x on. inl (ap (λ bits. has_number bits x) (sym (joins_offered c.look_known.ensures.joins)) ∙ on)))
 
 pub returns-clause-spends_each : goal.returns-clause-spends_each
