@@ -22,12 +22,12 @@ use Rattle.diag_check.specs.Fields.{IsFewFor}
 use Rattle.diag_check.specs.Looks.{AreRoutesKnown, KeepsTableOf, AreSeated, RoutesIf, TablesIf, FieldIf, WholeIf, FewerIf, TakesForTables, TakesInField, TakesAtMost, TakesAround, HasClosed, HasTablesOn}
 use Rattle.diag_check.specs.Near.{AreSurroundings}
 use Rattle.diag_check.specs.Skeleton.{HasSkeleton}
-use Rattle.diag_check.specs.Soundly.{KeepsRoutes, KeepsTables, KeepsParts, SoundIf, YesIf, FewIf, IsSoundUnder, IsUnharmed, StandsBySurroundings, HasSurroundings}
+use Rattle.diag_check.specs.Soundly.{KeepsRoutesInSet, KeepsTables, KeepsParts, SoundIf, YesIf, FewIf, IsSoundUnder, IsUnharmed, StandsBySurroundings, HasSurroundings}
 use Rattle.diag_check.specs.Used.{AreUsed, AreInvolved}
 use Rattle.diag_check.proofs.Covering.{on_within, used_within}
 use Rattle.machine_image.proofs.Keyed.{of_set, to_set}
 use Rattle.diag_check.proofs.Counting.{list_fits, list_marks, marks_fit, for_parts}
-use Rattle.diag_check.proofs.Looking.{routes_stay, tables_kept, tests_keep}
+use Rattle.diag_check.proofs.Looking.{routes_kept, routes_stay, tables_kept, tests_keep}
 use Rattle.diag_check.proofs.Wholly.{AreLaws, routes_known, seated}
 use Rattle.diag_check.proofs.Ways.{routes_near, seats_near}
 
@@ -74,8 +74,8 @@ loads_tables k i used tables before after numbered right are counts loads = reco
 
 -- ---- in one field
 
-pub parts_found : (k l : Kept) (i : ImageValue) (answer : Bool) → IsMore k l → KeepsRoutes k i → (IsTrue answer → KeepsTables l i) → IsTrue answer → KeepsParts l i
-parts_found k l i answer more routes tables e = record { routes = routes_stay more routes; tables = tables e }
+pub parts_found : (k l : Kept) (i : ImageValue) (answer : Bool) → IsMore k l → KeepsRoutesInSet k i → (IsTrue answer → KeepsTables l i) → IsTrue answer → KeepsParts l i
+parts_found k l i answer more routes tables e = record { routes = routes_kept (routes_stay more routes); tables = tables e }
 
 pub field_found : {told : Option Faults} {k l : Kept} {ss : List VerifiedWire} {i : ImageValue} {a : Field} {yes answer : Bool} → ((f : Faults) → told ≡ Some f → HoldsFor k f → HoldsFor l f) → RoutesIf told k l ss i a yes → TablesIf told l ss i answer →
     FieldIf told k i a answer

@@ -20,7 +20,6 @@ use Rattle.machine_config.specs.Configuration.{is_closed, setting_of}
 use Rattle.machine_image.specs.Vocabulary.{ImageValue, IsImage, IsFreeImage, Uses, at_pin, at_tap, at_line, at_table}
 use Rattle.machine_history.specs.Tenants.{LeavesAlone}
 use Rattle.diag_evidence.specs.Kept.{Kept, HoldsFor}
-use Rattle.diag_evidence.proofs.KeptLemmas.{pair_apart}
 use Rattle.diag_check.specs.Soundly.{KeepsParts}
 use Rattle.diag_check.specs.Used.{AreUsed}
 use Rattle.diag_known.proofs.Getting.{marked_within}
@@ -107,7 +106,7 @@ module _ (i : ImageValue) (used : List Bool) (is : IsImage i) (are : AreUsed i u
     clear_wire w uses = subst (λ (s : Shape). IsClear s f w) shape (holds.wires w (keeps.routes.wires w uses))
 
     apart : (w u : ℕ) → Uses i w → Uses i u → w ≢ u → Shorted m f w u → ⊥
-    apart w u p q differ s = holds.pairs w u (pair_apart k w u differ (keeps.routes.apart w p) (keeps.routes.apart u q)) (subst (λ (z : Shape). Shorted z f w u) (sym shape) s)
+    apart w u p q differ s = holds.pairs w u (keeps.routes.pairs w u p q differ) (subst (λ (z : Shape). Shorted z f w u) (sym shape) s)
 
     same_pair : (w u : ℕ) → Uses i w → Uses i u → Shorted m f w u → w ≡ u
     same_pair w u p q s = by (cases_eq w u)

@@ -12,7 +12,8 @@ use Rattle.diag_growth.specs.Tables.{SeatedAreKept}
 use Rattle.diag_known.specs.declared.verified_wire.VerifiedWire.{VerifiedWire}
 use Rattle.diag_growth.specs.Seats.{KeepsTable}
 use Rattle.diag_check.specs.Looks.{KeepsTableOf, AreSeated}
-use Rattle.diag_check.specs.Soundly.{KeepsRoutes, KeepsTables, PartsAreSound}
+use Rattle.diag_evidence.proofs.KeptLemmas.{pair_apart}
+use Rattle.diag_check.specs.Soundly.{KeepsRoutes, KeepsRoutesInSet, KeepsTables, PartsAreSound}
 
 -- ---- known wires are kept
 
@@ -20,8 +21,16 @@ module _ (k : Kept) (known : KnownWires) (is : IsKnown k known) where
   pub wire_kept : (w : ℕ) → HasWire known.steps w → keeps_wire k w ≡ true
   wire_kept w h = subst (λ u. keeps_wire k u ≡ true) h.at.wire (is.steps h.place h.at.step h.at.here).kept
 
+-- each two wires of the set are a kept pair
+pub routes_kept : {k : Kept} {i : ImageValue} → KeepsRoutesInSet k i → KeepsRoutes k i
+routes_kept {k} keeps = record {
+  crosses = keeps.crosses;
+  wires = keeps.wires;
+  pairs = λ w u p q differ. pair_apart k w u differ (keeps.apart w p) (keeps.apart u q);
+}
+
 -- what was kept of routes stays kept
-pub routes_stay : {k l : Kept} {i : ImageValue} → IsMore k l → KeepsRoutes k i → KeepsRoutes l i
+pub routes_stay : {k l : Kept} {i : ImageValue} → IsMore k l → KeepsRoutesInSet k i → KeepsRoutesInSet l i
 routes_stay more keeps = record {
   crosses = λ x c. more.crosses x (keeps.crosses x c);
   wires = λ w uses. more.wires w (keeps.wires w uses);

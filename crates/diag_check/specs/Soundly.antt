@@ -6,7 +6,7 @@ use Rattle.machine_config.specs.Vocabulary.{is_closed, setting_of, IsRun}
 use Rattle.machine_image.specs.Vocabulary.{ImageValue, drive_of, image_row, Uses, Part, IsPartOf, IsInvolved, IsWideEnough}
 use Rattle.machine_image.specs.Vocabulary.{IsSurroundingWire, IsSurroundingCross}
 use Rattle.machine_history.specs.Tenants.{LeavesAlone}
-use Rattle.diag_evidence.specs.Kept.{Kept, keeps_cross, keeps_wire, is_apart, keeps_cell, keeps_register}
+use Rattle.diag_evidence.specs.Kept.{Kept, keeps_cross, keeps_wire, keeps_pair, is_apart, keeps_cell, keeps_register}
 
 -- For every list of vectors on its input pins, with 1 on all other pins, the image reads at its output pins under these faults what
 -- it reads without faults.
@@ -21,8 +21,14 @@ pub record IsSoundUnder (f : Faults) (i : ImageValue) : Type 0 where
   pub alone : LeavesAlone f i i
   pub runs : RunsSoundly f i
 
--- its closed crosspoints and its used wires are kept, and these are of the set, so that each two of them are a kept pair
+-- its closed crosspoints, its used wires and each two of these are kept
 pub record KeepsRoutes (k : Kept) (i : ImageValue) : Type 0 where
+  pub crosses : (x : ℕ) → is_closed i.config x ≡ true → keeps_cross k x ≡ true
+  pub wires : (w : ℕ) → Uses i w → keeps_wire k w ≡ true
+  pub pairs : (w u : ℕ) → Uses i w → Uses i u → w ≢ u → keeps_pair k w u ≡ true
+
+-- .. and its used wires are of the set: so each two of them are a kept pair, and stay one whatever wire is on trial
+pub record KeepsRoutesInSet (k : Kept) (i : ImageValue) : Type 0 where
   pub crosses : (x : ℕ) → is_closed i.config x ≡ true → keeps_cross k x ≡ true
   pub wires : (w : ℕ) → Uses i w → keeps_wire k w ≡ true
   pub apart : (w : ℕ) → Uses i w → is_apart k w ≡ true

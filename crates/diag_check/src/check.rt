@@ -10,7 +10,7 @@ ghost use Rattle.diag_check.specs.Fields.{IsFewFor};
 ghost use Rattle.diag_check.specs.Near.{AreSurroundings};
 ghost use Rattle.diag_check.specs.Skeleton.{HasSkeleton};
 ghost use Rattle.diag_check.specs.Looks.{FewerIf, FieldIf, RoutesIf, TablesIf, TakesAround, TakesForTables, TakesInField, WholeIf};
-ghost use Rattle.diag_check.specs.Soundly.{FewIf, KeepsParts, KeepsRoutes, KeepsTables, SoundIf, TakesForWays, YesIf};
+ghost use Rattle.diag_check.specs.Soundly.{FewIf, KeepsParts, KeepsRoutesInSet, KeepsTables, SoundIf, TakesForWays, YesIf};
 ghost use Rattle.diag_check.specs.Used.{AreInvolved, AreUsed};
 
 use crate::fields::field_of;
@@ -48,7 +48,7 @@ fn grow_over(
     requires used { AreUsed image.now used.now }
     ensures known { IsKnown facts.new known.new }
     ensures all { KnowsAll facts.new known.new.steps }
-    ensures keeps { IfOk result (λ yes. IsTrue yes → KeepsRoutes facts.new image.now) }
+    ensures keeps { IfOk result (λ yes. IsTrue yes → KeepsRoutesInSet facts.new image.now) }
     ensures whole_each { IfOk result (λ yes. ForEach (rig_state rig.new) (λ told. RoutesIf told facts.old facts.new known.new.steps
         image.now field.now yes)) }
     ensures advances { Advances (rig_state rig.old) (rig_state rig.new) facts.old facts.new }

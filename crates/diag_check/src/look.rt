@@ -6,7 +6,7 @@ ghost use Rattle.machine_image.specs.Images.{IsImage};
 ghost use Rattle.diag_evidence.specs.Kept.{is_apart, keeps_cell, keeps_cross, keeps_wire};
 ghost use Rattle.diag_known.specs.Known.{HasWire, IsKnown};
 ghost use Rattle.diag_check.specs.Looks.{AreRoutesKnown, KeepsTableOf};
-ghost use Rattle.diag_check.specs.Soundly.{KeepsRoutes, KeepsTables};
+ghost use Rattle.diag_check.specs.Soundly.{KeepsRoutesInSet, KeepsTables};
 ghost use Rattle.diag_check.specs.Used.{AreUsed};
 
 use base_bits::BitSet;
@@ -74,7 +74,7 @@ pub(crate) fn keeps_routes(facts: &Facts, known: &Known, image: &Image, used: &B
     requires shape { image.now.config.shape ≡ facts.now.shape }
     requires known { IsKnown facts.now known.now }
     requires used { AreUsed image.now used.now }
-    ensures keeps { IsTrue result → KeepsRoutes facts.now image.now }
+    ensures keeps { IsTrue result → KeepsRoutesInSet facts.now image.now }
     ensures all { AreRoutesKnown facts.now known.now.steps image.now → IsTrue result }
     ensures right { IsImage image.now }
 {
