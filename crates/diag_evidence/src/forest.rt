@@ -179,6 +179,20 @@ impl Forest {
         self.pins[w.0 as usize]
     }
 
+    /// The same forest once more. Wants memory.
+    pub fn copied(&self, alloc: Global) -> Result<Forest, AllocError>
+        ensures { IfOk result (λ trees. trees ≡ self.now) }
+    {
+        let crosses = Vec::from_slice(alloc, self.crosses.as_slice())?;
+        let pins = Vec::from_slice(alloc, self.pins.as_slice())?;
+        Ok(Forest {
+            shape: self.shape,
+            last_pin: self.last_pin,
+            pins,
+            crosses,
+        })
+    }
+
     /// The crosspoints of the forest.
     pub fn crosses(&self) -> &[Cross]
         ensures crosses { result.now ≡ self.now.crosses }

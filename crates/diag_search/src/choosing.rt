@@ -23,9 +23,11 @@ const REST_LOOKS: u32 = 4;
 const LEFT_LOOKS: u32 = 1;
 
 /// Of how many pins of the machine one has a wire that isn't known; and of how many behind all passes, so that each is seen by itself.
-const PINS_A_WIRE: u32 = 3;
+const PINS_A_WIRE: u32 = 4;
 
 const PINS_A_LEFT_WIRE: u32 = 16;
+
+const PINS_A_LOST_WIRE: u32 = 7;
 
 /// What looks are for.
 #[derive(Clone, Copy, PartialEq, Eq)]
@@ -74,12 +76,13 @@ pub struct Chooser {
     // The wires that the next looks are about.
     pub wanted: Vec<Wire>,
     // Those to be looked at in this round, at which of them the next look begins, and those that have to wait for a look of their own; how
-    // many rounds were begun, and whether suspects of a wire became fewer in the last one.
+    // many rounds were begun, whether suspects of a wire became fewer in the last one, and in how many one after the other none did.
     pub(crate) due: Vec<Wire>,
     pub(crate) at: usize,
     pub(crate) later: Vec<Wire>,
     pub(crate) rounds: u32,
     pub(crate) has_narrowed: bool,
+    pub(crate) dry: u32,
     pub still: Vec<Still>,
     pub suspects: Vec<Suspects>,
     // The known wire to which one was found to be shorted; and of a wire that gave way, for which one.
@@ -129,6 +132,7 @@ impl Chooser {
             later: Vec::new(alloc),
             rounds: 0,
             has_narrowed: false,
+            dry: 0,
             still: Vec::new(alloc),
             suspects: Vec::new(alloc),
             partner: Vec::new(alloc),
@@ -207,10 +211,10 @@ impl Chooser {
 
     /// How many of so many pins have a wire that isn't known in a look.
     pub(crate) fn most_wires(&self, pins: u32) -> usize {
-        let share = if self.aim == Aim::Left {
-            PINS_A_LEFT_WIRE
-        } else {
-            PINS_A_WIRE
+        let share = match self.aim {
+            Aim::Partners => PINS_A_LOST_WIRE,
+            Aim::Left => PINS_A_LEFT_WIRE,
+            _ => PINS_A_WIRE,
         };
         (pins / share.max(1)).max(1) as usize
     }
@@ -240,6 +244,7 @@ impl Chooser {
         self.at = 0;
         self.rounds = 0;
         self.has_narrowed = true;
+        self.dry = 0;
     }
 
     /// Nothing was seen of any wire.
@@ -256,6 +261,7 @@ impl Chooser {
         'wires: for at in 0..self.again.len() {
             if let Some(w) = self.again.get(at).copied() {
                 self.wanted.push(w)?;
+                self.recall(w)?;
             }
         }
         Ok(())

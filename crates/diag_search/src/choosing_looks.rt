@@ -1,7 +1,7 @@
 //! What hangs in the next look: wires that aren't known, each over one crosspoint, on trees of the forest that stays.
 
 use crate::board::Mark;
-use crate::choosing::{Aim, Chooser, Still};
+use crate::choosing::{Aim, Chooser, Still, Suspects};
 use crate::feet::Support;
 use crate::flags::in_set;
 use crate::hangs::PINS_A_HANG;
@@ -17,6 +17,12 @@ const KEPT_DRAWS: u32 = 12;
 
 /// How many wires may not hang in one look.
 const MOST_FAILS: u32 = 20;
+
+/// How many suspects are few. Each hangs on a tree of its own then, as far as it can, that nothing else of the look is joined to.
+const FEW_SUSPECTS: usize = 6;
+
+/// In how many rounds for a choice no suspect may drop out: one that is on the tree of its wire, or a stuck crosspoint, shows nothing.
+const MOST_DRY: u32 = 3;
 
 /// More rounds of looks than are taken for one thing.
 const MOST_ROUNDS: u32 = 64;
@@ -51,11 +57,13 @@ impl Stays {
     }
 }
 
-/// A look as it is laid: what hangs, at which values pins stay then, and how many wires couldn't hang.
+/// A look as it is laid: what hangs, at which values pins stay then, how many of its wires may be shorted to many others, and how many
+/// couldn't hang.
 #[derive(Drop)]
 struct Look {
     feet: Vec<(Wire, Cross)>,
     stays: Stays,
+    vague: usize,
     fails: u32,
 }
 
@@ -68,6 +76,7 @@ impl Look {
                 low: false,
                 high: false,
             },
+            vague: 0,
             fails: 0,
         }
     }
@@ -130,22 +139,110 @@ impl Chooser {
         Ok(())
     }
 
+    // Whether few suspects are left of a wire.
+    fn has_few(&self, w: Wire) -> bool {
+        let count = self.suspect_count(w);
+        let names = self.aim == Aim::Partners || self.aim == Aim::Again;
+        names && count > 0 && count <= FEW_SUSPECTS
+    }
+
+    // Puts the wires last that have few suspects: what others join would hide to which of these they are shorted.
+    fn sort_due(&mut self, search: &mut Search) -> Result<(), AllocError> {
+        search.draws.shuffle(&mut self.due);
+        let mut many = Vec::new(self.alloc);
+        let mut few = Vec::new(self.alloc);
+        'wires: for w in &self.due {
+            if self.has_few(*w) {
+                few.push(*w)?;
+            } else {
+                many.push(*w)?;
+            }
+        }
+        many.extend_from_slice(&few)?;
+        self.due = many;
+        Ok(())
+    }
+
+    // The few suspects of a wire. None where they are many.
+    fn few_suspects(&self, w: Wire) -> Option<&Suspects> {
+        if self.has_few(w) {
+            return self.suspects.get(w.0 as usize);
+        }
+        None
+    }
+
+    // Whether something of the look is joined to a tree on which one of few suspects hangs.
+    fn is_crowded(&self, search: &Search, w: Wire) -> bool {
+        let Some(suspects) = self.few_suspects(w) else {
+            return false;
+        };
+        'suspects: for u in &suspects.wires {
+            if search.board.is_busy(search.forest.tree(*u)) {
+                return true;
+            }
+        }
+        false
+    }
+
+    // Nothing else may hang on the trees on which few suspects do, as long as their wire hangs in the look.
+    fn hold_suspects(&self, search: &mut Search, w: Wire, hangs: bool) {
+        let Some(suspects) = self.few_suspects(w) else {
+            return;
+        };
+        'suspects: for u in &suspects.wires {
+            let tree = search.forest.tree(*u);
+            if hangs {
+                search.board.occupy(tree);
+            } else {
+                search.board.vacate(tree);
+            }
+        }
+    }
+
+    // A crosspoint on which a wire hangs in a look, on another tree than its few suspects. The first of a look may hang with them.
+    fn tie_apart(&self, search: &mut Search, look: &Look, w: Wire) -> Option<Support> {
+        self.hold_suspects(search, w, true);
+        if let Some(link) = search.tie(w) {
+            return Some(link);
+        }
+        self.hold_suspects(search, w, false);
+        if !look.feet.is_empty() || !self.has_few(w) {
+            return None;
+        }
+        search.tie(w)
+    }
+
+    // Whether the last rounds for a choice have told nothing.
+    fn is_dry(&mut self) -> bool {
+        self.dry = if self.has_narrowed {
+            0
+        } else {
+            self.dry.saturating_add(1)
+        };
+        self.aim == Aim::Partners && self.dry >= MOST_DRY
+    }
+
+    // A round begins.
+    fn count_round(&mut self) {
+        self.rounds = self.rounds.saturating_add(1);
+        self.has_narrowed = false;
+    }
+
     // Begins a round, in which each wire is looked at once. For a choice the forest is another one then. False where no wire is to be
-    // looked at any more, or the last round has told nothing.
+    // looked at any more, or the last rounds have told nothing.
     fn begin_round(&mut self, search: &mut Search, unfit: &BitSet) -> Result<bool, AllocError> {
         if self.rounds >= self.most_looks() {
             return Ok(false);
         }
-        if self.aim == Aim::Partners && !self.has_narrowed {
+        if self.is_dry() {
             return Ok(false);
         }
         self.gather_due(search, unfit)?;
         if self.due.is_empty() {
             return Ok(false);
         }
-        search.draws.shuffle(&mut self.due);
-        self.rounds = self.rounds.saturating_add(1);
-        self.has_narrowed = false;
+        self.sort_due(search)?;
+        self.count_round();
         if self.aim == Aim::Partners {
             search.plant()?;
         } else {
@@ -181,28 +278,42 @@ impl Chooser {
             return Ok(());
         }
         let still = self.still_of(w);
-        if !look.stays.has_room(still) {
+        if !look.stays.has_room(still) || self.is_crowded(search, w) {
             self.later.push(w)?;
             return Ok(());
         }
-        let Some(link) = search.tie(w) else {
+        let Some(link) = self.tie_apart(search, look, w) else {
             look.fails = look.fails.saturating_add(1);
             return Ok(());
         };
         search.board.occupy(search.forest.tree(link.wire));
         look.stays.add(still);
+        if !self.has_few(w) {
+            look.vague = look.vague.saturating_add(1);
+        }
         look.feet.push((w, link.cross))?;
         Ok(())
     }
 
+    // Whether the next wire of the round isn't to hang in a look. One with few suspects hangs with others alone that have few.
+    fn is_full(&self, search: &Search, look: &Look) -> bool {
+        let vague = match self.due.get(self.at) {
+            Some(w) => !self.has_few(*w),
+            None => true,
+        };
+        if vague {
+            return look.vague >= self.most_wires(search.board.pins());
+        }
+        look.vague > 0
+    }
+
     // Hangs wires of the round for the next look.
     fn fill_look(&mut self, search: &mut Search, unfit: &BitSet) -> Result<Look, AllocError> {
-        let most = self.most_wires(search.board.pins());
         let mut look = Look::new(self.alloc);
         search.board.begin();
         self.take_later(self.alloc);
         'wires: for _wire in 0..self.due.len() {
-            if look.feet.len() >= most || look.fails >= MOST_FAILS {
+            if look.fails >= MOST_FAILS || self.is_full(search, &look) {
                 break;
             }
             let Some(w) = self.next_due() else {

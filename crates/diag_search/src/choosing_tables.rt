@@ -67,8 +67,8 @@ impl Chooser {
     }
 
     // A wire that was found to be shorted to a known one earlier is so to that, or to the one for which that gave way.
-    fn recall(&mut self, w: Wire) -> Result<(), AllocError> {
-        let Some(partner) = wire_of(&self.partner, w) else {
+    pub(crate) fn recall(&mut self, w: Wire) -> Result<(), AllocError> {
+        let Some(partner) = wire_of(&self.partner, w).or(wire_of(&self.heir, w)) else {
             return Ok(());
         };
         let partner = if self.knows(partner) {

@@ -8,8 +8,12 @@ use base_bits::BitSet;
 use machine_shape::{Shape, Wire};
 use std::alloc::{AllocError, Global};
 
-/// How often a wire is hung.
-const MOST_TRIES: u32 = 6;
+/// How often a wire is hung at least and at most; and for how many that come to be known, by what came of those that were hung before.
+const LEAST_TRIES: u32 = 6;
+
+const MOST_TRIES: u32 = 40;
+
+const LEARNT_TRIES: u64 = 3;
 
 /// From how many tries on one of two wires that are shorted to each other is left out now and then.
 const EASY_TRIES: u32 = 2;
@@ -24,6 +28,9 @@ const MOST_DRY: u32 = 3;
 /// wires hang, growth takes less.
 pub(crate) const PINS_A_HANG: usize = 1_000;
 
+/// Of how many wires it is taken at first that they hang and come to be known.
+const FIRST_HANGS: u64 = 8;
+
 /// A wire that isn't known, and two crosspoints to wires that hang on two trees.
 #[derive(Clone, Copy)]
 pub struct ChosenTest {
@@ -35,8 +42,10 @@ pub struct ChosenTest {
 /// Which wires are to be hung, and which are in the next load.
 #[derive(Drop)]
 pub struct HangBook {
-    // How often each wire was hung.
+    // How often each wire was hung; how many were hung in all loads, and how many came to be known by it.
     tries: Vec<u32>,
+    hung: u64,
+    learnt: u64,
     // The wires that are to be hung, and at which of them the next load begins.
     wanted: Vec<Wire>,
     at: usize,
@@ -52,6 +61,8 @@ impl HangBook {
     pub(crate) fn new(alloc: Global, shape: &Shape) -> Result<HangBook, AllocError> {
         let mut book = HangBook {
             tries: Vec::new(alloc),
+            hung: 0,
+            learnt: 0,
             wanted: Vec::new(alloc),
             at: 0,
             on_any: false,
@@ -65,6 +76,16 @@ impl HangBook {
     /// How often a wire was hung in this pass.
     pub fn tries_of(&self, w: Wire) -> u32 {
         self.tries.get(w.0 as usize).copied().unwrap_or(MOST_TRIES)
+    }
+
+    // How often a wire is hung: more often where few of those that were hung have come to be known.
+    fn most_tries(&self) -> u32 {
+        let hung = self.hung.saturating_add(FIRST_HANGS);
+        let learnt = self.learnt.saturating_add(FIRST_HANGS);
+        let tries = hung.saturating_mul(LEARNT_TRIES) / learnt.max(1);
+        u32::try_from(tries)
+            .unwrap_or(MOST_TRIES)
+            .clamp(LEAST_TRIES, MOST_TRIES)
     }
 
     // Takes the wire out at which the book is. The last one comes in its place.
@@ -89,7 +110,7 @@ impl Search {
         !self.board.has(w)
             && !in_set(unfit, w.0)
             && self.board.may_know(w)
-            && self.hanging.tries_of(w) < MOST_TRIES
+            && self.hanging.tries_of(w) < self.hanging.most_tries()
     }
 
     // Wants a wire, if it is to be hung.
@@ -251,9 +272,26 @@ impl Search {
         Ok(())
     }
 
+    /// Hangs nothing in the next load, where so many of these would hardly make a wire known, by how many came to be of those that were
+    /// hung. Where most of the crosspoints are stuck and few wires can hang, loads take more than they bring.
+    pub fn save_load(&mut self, loads: u64) {
+        let hung = self.hanging.hung.saturating_add(FIRST_HANGS);
+        let learnt = self.hanging.learnt.saturating_add(FIRST_HANGS);
+        let all = (self.hanging.chosen.len() as u64).saturating_mul(loads);
+        if learnt.saturating_mul(all) < hung {
+            self.hanging.chosen.clear();
+        }
+    }
+
+    /// So many of the wires that were hung have come to be known.
+    pub fn count_learnt(&mut self, wires: usize) {
+        self.hanging.learnt = self.hanging.learnt.saturating_add(wires as u64);
+    }
+
     /// A wire was hung once more.
     pub fn count_try(&mut self, w: Wire) {
         let at = w.0 as usize;
+        self.hanging.hung = self.hanging.hung.saturating_add(1);
         if at < self.hanging.tries.len() {
             self.hanging.tries[at] = self.hanging.tries[at].saturating_add(1);
         }

@@ -9,6 +9,7 @@ mod Footed
 mod HungOn
 mod Learnt
 mod Forested
+mod Holding
 mod Leaving
 mod Coursing
 mod Led

@@ -1,11 +1,15 @@
 //! What the search asks of what is kept and known: whatever the number, there is an answer.
+ghost use Rattle.std.specs.Prelude.{◌≡◌, true, IsTrue};
+ghost use Rattle.diag_evidence.specs.Kept.{keeps_cross};
 
 use diag_evidence::Facts;
 use diag_known::Known;
 use machine_shape::{Cross, Wire};
 
 /// Whether a crosspoint is kept.
-pub(crate) fn keeps(facts: &Facts, c: Cross) -> bool {
+pub(crate) fn keeps(facts: &Facts, c: Cross) -> bool
+    ensures { IsTrue result → keeps_cross facts.now c.0 ≡ true }
+{
     if c.0 < facts.shape().crosses() {
         return facts.keeps_cross(c);
     }
@@ -18,15 +22,6 @@ pub(crate) fn keeps_wire(facts: &Facts, w: Wire) -> bool {
         return facts.keeps_wire(w);
     }
     false
-}
-
-/// Whether two wires are kept apart.
-pub(crate) fn is_apart(facts: &Facts, a: Wire, b: Wire) -> bool {
-    let wires = facts.shape().wires();
-    if a.0 >= wires || b.0 >= wires || a.0 == b.0 {
-        return false;
-    }
-    facts.keeps_pair(a, b)
 }
 
 /// Whether a wire is known.

@@ -10,11 +10,11 @@ ghost use Rattle.diag_sweep.specs.Courses.{CanLead};
 
 use crate::paths::{are_known_along, are_leads, hangs, lead_of, may_try_all};
 use crate::seen::see_all;
-use crate::trees::{held_forest, is_known, plant};
+use crate::trees::{is_known, plant};
 use base_bits::BitSet;
 use diag_evidence::{Facts, Forest, Lead};
 use diag_known::{Field, Known};
-use diag_search::{Search, Trial};
+use diag_search::Trial;
 use machine_shape::Wire;
 use std::alloc::{AllocError, Global};
 
@@ -48,12 +48,18 @@ fn plant_ends(forest: &mut Forest, facts: &Facts, trials: &Vec<Trial>)
     }
 }
 
-// The forest of a load of walks: what the search holds, and the pins of the machine at ends of walks.
-fn walk_forest(alloc: Global, facts: &Facts, search: &Search) -> Result<Forest, AllocError>
+// The forest of a load of walks: what is held, and the pins of the machine at ends of walks.
+fn walk_forest(
+    alloc: Global,
+    facts: &Facts,
+    held: &Forest,
+    trials: &Vec<Trial>,
+) -> Result<Forest, AllocError>
+    requires { KeepsForest facts.now held.now }
     ensures { IfOk result (KeepsForest facts.now) }
 {
-    let mut forest = held_forest(alloc, facts, &search.forest)?;
-    plant_ends(&mut forest, facts, &search.walking.trials);
+    let mut forest = held.copied(alloc)?;
+    plant_ends(&mut forest, facts, trials);
     Ok(forest)
 }
 
@@ -180,15 +186,17 @@ pub(crate) fn course_of(
     facts: &Facts,
     known: &Known,
     field: &Field,
-    search: &Search,
+    held: &Forest,
+    trials: &Vec<Trial>,
 ) -> Result<Option<Course>, AllocError>
     requires known { IsKnown facts.now known.now }
     requires field { IsFieldOf facts.now.shape field.now }
+    requires forest { KeepsForest facts.now held.now }
     ensures { IfOk result (λ found. IfSome found (λ c. CanLead facts.now field.now c.forest c.leads.items)) }
 {
     let alloc = known.alloc();
-    let forest = walk_forest(alloc, facts, search)?;
-    let leads = leads_of(alloc, &forest, &search.walking.trials)?;
+    let forest = walk_forest(alloc, facts, held, trials)?;
+    let leads = leads_of(alloc, &forest, trials)?;
     if may_lead(facts, known, field, &forest, &leads)? {
         return Ok(Some(Course { forest, leads }));
     }

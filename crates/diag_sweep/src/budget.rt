@@ -14,6 +14,9 @@ use machine_shape::{Cross, Pin, Shape, the_numbering_is_sound};
 use rig::Rig;
 use std::alloc::{AllocError, Global};
 
+/// How many loads are few.
+const FEW_LOADS: u64 = 56;
+
 /// Up to which number of loads the rig may come, and the crosspoints of the field that count as undecided still.
 #[derive(Drop)]
 pub(crate) struct LoadBudget {
@@ -168,6 +171,11 @@ impl LoadBudget {
             return false;
         }
         rig.loads() <= self.most - loads
+    }
+
+    /// Whether few loads are left, which should bring more than they take.
+    pub(crate) fn is_low(&self, rig: &Box<dyn Rig>) -> bool {
+        !self.can_pay(rig, FEW_LOADS)
     }
 
     /// Takes two loads in for a crosspoint that was undecided and isn't any more.

@@ -12,9 +12,10 @@ ghost use Rattle.diag_sweep.specs.Stages.{IsFunded, in_hand};
 
 use crate::budget::{LoadBudget, loads_of};
 use crate::defect_marks::DefectMarks;
+use crate::held::forget;
 use crate::informing::new_search;
 use crate::losing::give_up;
-use crate::sweep_state::{SweepState, TableSweep};
+use crate::sweep_state::{TableSweep, first_state};
 use crate::tabling::sweep_again;
 use crate::telling::tell_all;
 use base_bits::BitSet;
@@ -38,28 +39,6 @@ pub struct Choices {
     table_sweep: TableSweep,
 }
 
-// What a sweep has at hand before the first choice.
-fn first_state(
-    facts: &Facts,
-    known: &Known,
-    bad: &DefectMarks,
-    field: &Field,
-) -> Result<SweepState, AllocError> {
-    let alloc = known.alloc();
-    let shape = facts.shape();
-    let budget = LoadBudget::empty(alloc, &shape)?;
-    let search = new_search(alloc, facts, known, bad, field)?;
-    let chooser = Chooser::new(alloc, &shape)?;
-    Ok(SweepState {
-        budget,
-        search,
-        chooser,
-        aim: Aim::Partners,
-        on_any: false,
-        depth: 0,
-    })
-}
-
 impl Choices {
     /// Before the first choice, with no loads. The tables are those that may be tested. Wants memory.
     pub fn new(
@@ -77,7 +56,8 @@ impl Choices {
         let alloc = known.alloc();
         let paid = BitSet::new(alloc, facts.shape().wires())?;
         let tables = Vec::from_slice(alloc, tables)?;
-        let state = first_state(facts, known, bad, field)?;
+        let budget = LoadBudget::empty(alloc, &facts.shape())?;
+        let state = first_state(facts, known, bad, field, budget, Aim::Partners)?;
         Ok(Choices {
             left: 0,
             paid,
@@ -144,6 +124,7 @@ impl Choices {
             left,
         )?;
         self.table_sweep.state.search = new_search(known.alloc(), facts, known, bad, field)?;
+        forget(&mut self.table_sweep.state.held);
         Ok(())
     }
 
@@ -207,10 +188,10 @@ fn give_way(
     ensures right { (told : Option Faults) → TrueIf told facts.old known.old.steps bad.old →
         TrueIf told facts.new known.new.steps bad.new }
 {
-    let Some(wires) = give_up(chooser, facts, bad)? else {
+    let Some(chosen) = give_up(chooser, facts, bad)? else {
         return Ok(false);
     };
-    let stay = known_among(known, &wires)?;
+    let stay = known_among(known, &chosen)?;
     *known = standing(known.alloc(), facts, stay)?;
     facts.retake(known.wires());
     // An unfit wire may have been shorted to one that gives way.

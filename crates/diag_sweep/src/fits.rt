@@ -7,23 +7,25 @@ ghost use Rattle.diag_sweep.specs.Sheets.{AreOn, InputsOn, OutputOn};
 ghost use Rattle.diag_sweep.specs.Sights.{SeesMore};
 
 use crate::seen::{is_new, see_all};
-use crate::trees::{held_forest, lay_links};
+use crate::trees::lay_links;
 use base_bits::BitSet;
 use diag_evidence::{Facts, Forest};
-use diag_search::Search;
+use diag_search::Link;
 use machine_shape::Table;
 use std::alloc::{AllocError, Global};
 
-/// The forest of a load of tables: what the search holds, and the pins of the tables over further links.
+/// The forest of a load of tables: what is held, and the pins of the tables over further links.
 pub(crate) fn table_forest(
     alloc: Global,
     facts: &Facts,
-    search: &Search,
+    held: &Forest,
+    links: &Vec<Link>,
 ) -> Result<Forest, AllocError>
+    requires { KeepsForest facts.now held.now }
     ensures { IfOk result (KeepsForest facts.now) }
 {
-    let mut forest = held_forest(alloc, facts, &search.forest)?;
-    lay_links(&mut forest, facts, &search.testing.links)?;
+    let mut forest = held.copied(alloc)?;
+    lay_links(&mut forest, facts, links, 0)?;
     Ok(forest)
 }
 

@@ -7,8 +7,9 @@ ghost use Rattle.diag_sweep.specs.Stages.{GoesYet, IsHand, in_hand};
 
 use crate::defect_marks::DefectMarks;
 use crate::footing::{are_fit, are_of_field, hangs_of};
+use crate::held::hold;
 use crate::sweep_state::SweepState;
-use crate::trees::{held_forest, is_known, pin_forest};
+use crate::trees::{is_known, pin_forest};
 use diag_evidence::Facts;
 use diag_known::{Field, Known};
 use rig::{Rig, RigFail};
@@ -59,20 +60,21 @@ pub(crate) fn hang_load(
     ensures cause { IsErrOf result RigFail.Failed → Rose (rig_state rig.old).failures (rig_state rig.new).failures }
 {
     let alloc = known.alloc();
-    let Ok(forest) = held_forest(alloc, facts, &state.search.forest) else {
+    let Ok(()) = hold(&mut state.held, alloc, facts, &state.search.forest) else {
         return Err(RigFail::Memory);
     };
+    let forest = &state.held.forest;
     let Ok(chosen) = hangs_of(alloc, &state.search.hanging.chosen) else {
         return Err(RigFail::Memory);
     };
     let hangs = chosen.as_slice();
-    if !is_known(facts, known, &forest) {
+    if !is_known(facts, known, forest) {
         return Ok(());
     }
     if !are_of_field(field, hangs) {
         return Ok(());
     }
-    let Ok(fit) = are_fit(alloc, &forest, hangs) else {
+    let Ok(fit) = are_fit(alloc, forest, hangs) else {
         return Err(RigFail::Memory);
     };
     if !fit {
@@ -81,5 +83,5 @@ pub(crate) fn hang_load(
     if !state.budget.can_pay(rig, 3) {
         return Ok(());
     }
-    facts.test_wires(rig, &forest, hangs, &mut bad.unfit, &mut bad.unclear)
+    facts.test_wires(rig, forest, hangs, &mut bad.unfit, &mut bad.unclear)
 }

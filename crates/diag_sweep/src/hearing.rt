@@ -3,7 +3,7 @@
 use crate::asking::keeps;
 use crate::defect_marks::DefectMarks;
 use diag_evidence::{Facts, Forest, Looks};
-use diag_search::{Aim, Chooser, Still, Told, flag_at, in_set};
+use diag_search::{Aim, Chooser, Still, Told, flag_at, in_set, set_flag};
 use machine_shape::{Cross, Pin, Shape, Wire};
 use std::alloc::{AllocError, Global};
 
@@ -36,25 +36,32 @@ fn is_alike(forest: &Forest, reads: &Looks, pin: u32, other: u32) -> bool {
     pin_of(forest, shape.pin(Pin(other))).is_some() && !reads.parts(other, pin)
 }
 
-// The pins that read in each cycle as the one on which a wire hung; or this one, where none does and the crosspoint is kept.
+// The pins that read in each cycle as the one on which a wire hung. This is one of them where none else is, and where another wire of the
+// look hung on one that is: a wire on its own tree may be to blame then. Nothing is seen in both cases unless the crosspoint is kept.
 fn pins_alike(
     alloc: Global,
     forest: &Forest,
     reads: &Looks,
+    own: &Vec<bool>,
     pin: u32,
     kept: bool,
 ) -> Result<Option<Vec<bool>>, AllocError> {
-    let mut found = false;
+    let mut alone = true;
+    let mut crowded = false;
     let mut alike = Vec::new(alloc);
     'pins: for other in 0..reads.pins() {
         let same = is_alike(forest, reads, pin, other);
-        found = found || same;
+        alone = alone && !same;
+        crowded = crowded || (same && flag_at(own, other));
         alike.push(same)?;
     }
-    if !found && !kept {
+    if !alone && !crowded {
+        return Ok(Some(alike));
+    }
+    if !kept {
         return Ok(None);
     }
-    if !found && (pin as usize) < alike.len() {
+    if (pin as usize) < alike.len() {
         alike[pin as usize] = true;
     }
     Ok(Some(alike))
@@ -127,6 +134,7 @@ fn hear_one(
     forest: &Forest,
     reads: &Looks,
     bad: &DefectMarks,
+    own: &Vec<bool>,
     hang: (Wire, bool, u32),
 ) -> Result<(), AllocError> {
     let (w, kept, pin) = hang;
@@ -140,10 +148,28 @@ fn hear_one(
     if chooser.aim != Aim::Partners && !in_set(&bad.unfit, w.0) {
         return Ok(());
     }
-    match pins_alike(chooser.alloc, forest, reads, pin, kept)? {
+    match pins_alike(chooser.alloc, forest, reads, own, pin, kept)? {
         Some(alike) => suspect(chooser, forest, &alike, w),
         None => Ok(()),
     }
+}
+
+// On which pins wires of a look hung.
+fn own_pins(
+    alloc: Global,
+    told: &Told,
+    forest: &Forest,
+    shape: &Shape,
+) -> Result<Vec<bool>, AllocError> {
+    let mut own = vec![in alloc; false; shape.pins() as usize]?;
+    'feet: for foot in &told.feet {
+        if let Some(end) = far_end(shape, foot.0, foot.1) {
+            if let Some(pin) = pin_of(forest, end) {
+                set_flag(&mut own, pin, true);
+            }
+        }
+    }
+    Ok(own)
 }
 
 /// Takes in what a look has read.
@@ -156,6 +182,7 @@ pub(crate) fn hear(
     bad: &DefectMarks,
 ) -> Result<(), AllocError> {
     let shape = facts.shape();
+    let own = own_pins(chooser.alloc, told, forest, &shape)?;
     'feet: for at in 0..told.feet.len() {
         let Some((w, cross)) = told.feet.get(at).copied() else {
             continue;
@@ -164,7 +191,8 @@ pub(crate) fn hear(
             continue;
         };
         if let Some(pin) = pin_of(forest, end) {
-            hear_one(chooser, forest, reads, bad, (w, keeps(facts, cross), pin))?;
+            let hang = (w, keeps(facts, cross), pin);
+            hear_one(chooser, forest, reads, bad, &own, hang)?;
         }
     }
     Ok(())

@@ -96,6 +96,7 @@ pub(crate) fn note_hangs(
             note_hang(search, facts, stuck, hung);
         }
     }
+    search.count_learnt(known.len().saturating_sub(from));
     note_known(search, known, from)
 }
 

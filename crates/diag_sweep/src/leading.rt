@@ -4,12 +4,14 @@ ghost use Rattle.base_io.specs.Counts.{Rose};
 ghost use Rattle.machine_shape.specs.Shape.{crosses_of};
 ghost use Rattle.rig.specs.Rig.{shape_of};
 ghost use Rattle.diag_evidence.specs.Kept.{Advances};
+ghost use Rattle.diag_evidence.specs.Forests.{KeepsForest};
 ghost use Rattle.diag_sweep.specs.Marks.{AreMarksFor};
 ghost use Rattle.diag_sweep.specs.Stages.{Goes, IsHand, Settles, in_hand};
 
 use crate::branching::course_of;
 use crate::budget::LoadBudget;
 use crate::defect_marks::DefectMarks;
+use crate::held::hold;
 use crate::informing::note_walks;
 use crate::sweep_state::SweepState;
 use diag_evidence::Facts;
@@ -37,12 +39,15 @@ fn lead_load(
 ) -> Result<(), RigFail>
     requires attached { shape_of (rig_state rig.old) ≡ Some facts.old.shape }
     requires hand { IsHand field.now (in_hand facts.old known.now bad.old state.now.budget (rig_state rig.old).loads) }
+    requires forest { KeepsForest facts.old state.now.held.forest }
     ensures goes { Goes (rig_state rig.new) field.now [] (in_hand facts.old known.now bad.old state.now.budget (rig_state rig.old).loads)
         (in_hand facts.new known.now bad.new state.now.budget (rig_state rig.new).loads) }
     ensures advances { Advances (rig_state rig.old) (rig_state rig.new) facts.old facts.new }
     ensures cause { IsErrOf result RigFail.Failed → Rose (rig_state rig.old).failures (rig_state rig.new).failures }
 {
-    let Ok(found) = course_of(facts, known, field, &state.search) else {
+    let held = &state.held.forest;
+    let trials = &state.search.walking.trials;
+    let Ok(found) = course_of(facts, known, field, held, trials) else {
         return Err(RigFail::Memory);
     };
     let Some(course) = found else {
@@ -98,6 +103,9 @@ fn lead_turn(
     if !more {
         return Ok(false);
     }
+    let Ok(()) = hold(&mut state.held, known.alloc(), facts, &state.search.forest) else {
+        return Err(RigFail::Memory);
+    };
     let before = rig.loads();
     lead_load(rig, facts, known, bad, field, state)?;
     settle_walks(&mut state.budget, facts, bad, &state.search.walking.trials);

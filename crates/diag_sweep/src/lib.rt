@@ -19,6 +19,7 @@ mod fits;
 mod footing;
 mod hanging;
 mod hearing;
+mod held;
 mod informing;
 mod laws;
 mod leading;

@@ -1,6 +1,6 @@
-//! What the choice is told: which wires are known, kept and lost, and from which known ones a pin isn't kept apart.
+//! What the choice is told: which wires are known, kept and lost.
 
-use crate::asking::{is_apart, keeps, keeps_wire, knows};
+use crate::asking::{keeps, keeps_wire, knows};
 use crate::defect_marks::DefectMarks;
 use crate::feet::step_of;
 use base_bits::BitSet;
@@ -19,17 +19,6 @@ fn table_of(shape: &Shape, w: Wire) -> Option<Table> {
         Meaning::TablePin { table, .. } => Some(table),
         _ => None,
     }
-}
-
-// How many wires were known when a wire was tried, as it seems: up to the last one from which it is kept apart.
-fn places_tried(facts: &Facts, known: &Known, w: Wire) -> usize {
-    let mut places = 0;
-    'places: for place in 0..known.len() {
-        if is_apart(facts, w, known.wire_at(place)) {
-            places = place.saturating_add(1);
-        }
-    }
-    places
 }
 
 // Whether a kept crosspoint leads from a pin of a table to a line of its hextant that is known.
@@ -111,31 +100,6 @@ fn tell_kept(chooser: &mut Chooser, facts: &Facts) {
     }
 }
 
-// A wire that was tried can be shorted to those alone from which it isn't kept apart, of the wires that were known by then.
-fn infer(chooser: &mut Chooser, facts: &Facts, known: &Known, w: Wire) -> Result<(), AllocError> {
-    if chooser.suspect_count(w) > 0 {
-        return Ok(());
-    }
-    let mut wires = Vec::new(known.alloc());
-    'places: for place in 0..places_tried(facts, known, w) {
-        if place < known.len() && !is_apart(facts, w, known.wire_at(place)) {
-            wires.push(known.wire_at(place))?;
-        }
-    }
-    chooser.set_suspects(w, wires);
-    Ok(())
-}
-
-// The same of all wires that the next looks are about.
-fn infer_all(chooser: &mut Chooser, facts: &Facts, known: &Known) -> Result<(), AllocError> {
-    'wires: for at in 0..chooser.wanted.len() {
-        if let Some(w) = chooser.wanted.get(at).copied() {
-            infer(chooser, facts, known, w)?;
-        }
-    }
-    Ok(())
-}
-
 /// What the next looks are for.
 pub(crate) fn begin(
     chooser: &mut Chooser,
@@ -145,14 +109,10 @@ pub(crate) fn begin(
     bad: &DefectMarks,
 ) -> Result<(), AllocError> {
     tell_known(chooser, known)?;
-    match aim {
-        Aim::Partners => {
-            tell_lost(chooser, facts, known, bad);
-            chooser.begin(aim, &bad.unfit, &bad.unclear, &bad.wrong)?;
-            infer_all(chooser, facts, known)
-        }
-        _ => chooser.begin(aim, &bad.unfit, &bad.unclear, &bad.wrong),
+    if aim == Aim::Partners {
+        tell_lost(chooser, facts, known, bad);
     }
+    chooser.begin(aim, &bad.unfit, &bad.unclear, &bad.wrong)
 }
 
 /// The known wires that stay, once others give way for pins of tables. None where none does.

@@ -1,20 +1,55 @@
 //! What a sweep has at hand: the purse, the search and the choice, with where they stand; and for tables those that may be tested.
+ghost use Rattle.std.specs.Prelude.{◌≡◌, IfOk};
 
 use crate::budget::LoadBudget;
+use crate::defect_marks::DefectMarks;
+use crate::held::{HeldForest, bare_forest};
+use crate::informing::new_search;
+use diag_evidence::Facts;
+use diag_known::{Field, Known};
 use diag_search::{Aim, Chooser, Search};
 use machine_shape::Table;
+use std::alloc::AllocError;
 
 /// What a sweep has at hand.
 #[derive(Drop)]
 pub(crate) struct SweepState {
     pub budget: LoadBudget,
     pub search: Search,
+    pub held: HeldForest,
     pub chooser: Chooser,
     // What looks are taken for.
     pub aim: Aim,
     // Whether wires are hung on any known ones, or on lower ones alone; and the depth of the crossbars through which walks lead.
     pub on_any: bool,
     pub depth: u32,
+}
+
+/// What a sweep has at hand before its first load.
+pub(crate) fn first_state(
+    facts: &Facts,
+    known: &Known,
+    bad: &DefectMarks,
+    field: &Field,
+    budget: LoadBudget,
+    aim: Aim,
+) -> Result<SweepState, AllocError>
+    ensures { IfOk result (λ state. state.budget ≡ budget) }
+{
+    let alloc = known.alloc();
+    let shape = facts.shape();
+    let chooser = Chooser::new(alloc, &shape)?;
+    let search = new_search(alloc, facts, known, bad, field)?;
+    let held = bare_forest(alloc, &shape)?;
+    Ok(SweepState {
+        budget,
+        search,
+        held,
+        chooser,
+        aim,
+        on_any: false,
+        depth: 0,
+    })
 }
 
 /// The same, and the tables that may be tested.

@@ -3,10 +3,12 @@ ghost use Rattle.std.specs.Prelude.{◌≡◌, Some, IsErrOf};
 ghost use Rattle.base_io.specs.Counts.{Rose};
 ghost use Rattle.rig.specs.Rig.{shape_of};
 ghost use Rattle.diag_evidence.specs.Kept.{Advances};
+ghost use Rattle.diag_evidence.specs.Forests.{KeepsForest};
 ghost use Rattle.diag_sweep.specs.Stages.{Goes, IsHand, in_hand};
 
 use crate::defect_marks::DefectMarks;
 use crate::fits::{are_fit, are_given, table_forest};
+use crate::held::hold;
 use crate::informing::choose_tables;
 use crate::sweep_state::TableSweep;
 use crate::trees::is_known;
@@ -30,6 +32,7 @@ fn table_load(
 ) -> Result<(), RigFail>
     requires attached { shape_of (rig_state rig.old) ≡ Some facts.old.shape }
     requires hand { IsHand field.now (in_hand facts.old known.now bad.old table_sweep.now.state.budget (rig_state rig.old).loads) }
+    requires forest { KeepsForest facts.old table_sweep.now.state.held.forest }
     ensures goes { Goes (rig_state rig.new) field.now table_sweep.now.tables.items (in_hand facts.old known.now bad.old
         table_sweep.now.state.budget (rig_state rig.old).loads) (in_hand facts.new known.now bad.new table_sweep.now.state.budget
         (rig_state rig.new).loads) }
@@ -37,7 +40,9 @@ fn table_load(
     ensures cause { IsErrOf result RigFail.Failed → Rose (rig_state rig.old).failures (rig_state rig.new).failures }
 {
     let alloc = known.alloc();
-    let Ok(forest) = table_forest(alloc, facts, &table_sweep.state.search) else {
+    let held = &table_sweep.state.held.forest;
+    let links = &table_sweep.state.search.testing.links;
+    let Ok(forest) = table_forest(alloc, facts, held, links) else {
         return Err(RigFail::Memory);
     };
     let Ok(mut pins) = BitSet::new(alloc, forest.shape().pins()) else {
@@ -97,6 +102,10 @@ fn table_turn(
     if table_sweep.state.search.testing.chosen.is_empty() {
         return Ok(true);
     }
+    let state = &mut table_sweep.state;
+    let Ok(()) = hold(&mut state.held, known.alloc(), facts, &state.search.forest) else {
+        return Err(RigFail::Memory);
+    };
     table_load(rig, facts, known, bad, field, table_sweep)?;
     Ok(true)
 }

@@ -11,14 +11,15 @@ ghost use Rattle.diag_sweep.specs.Views.{CanTell};
 use crate::defect_marks::DefectMarks;
 use crate::footing::{foot_at, pins_over};
 use crate::hearing::hear;
+use crate::held::hold;
 use crate::losing::begin;
 use crate::seen::see_all;
 use crate::sweep_state::SweepState;
-use crate::trees::{held_forest, is_known};
+use crate::trees::is_known;
 use base_bits::BitSet;
 use diag_evidence::{Facts, Forest, Looks};
 use diag_known::{Field, Known};
-use diag_search::{Chooser, Search, Told};
+use diag_search::{Aim, Told};
 use machine_shape::{Cross, Wire};
 use rig::{Rig, RigFail};
 use std::alloc::{AllocError, Global};
@@ -26,11 +27,10 @@ use std::alloc::{AllocError, Global};
 /// More looks than are taken for one thing.
 const MOST_LOOKS: u32 = 65_536;
 
-/// A look that may be made: what hangs, the forest, and room for what is read.
+/// A look that may be made: what hangs, and room for what is read.
 #[derive(Drop)]
 pub(crate) struct View {
     pub told: Told,
-    pub forest: Forest,
     pub reads: Looks,
 }
 
@@ -80,36 +80,33 @@ fn are_of_field(field: &Field, feet: &Vec<(Wire, Cross)>) -> bool
 
 // The next look, if one is wanted that may be made.
 fn next_view(
-    chooser: &mut Chooser,
-    search: &mut Search,
+    state: &mut SweepState,
     facts: &Facts,
     known: &Known,
     bad: &DefectMarks,
     field: &Field,
 ) -> Result<Option<View>, AllocError>
     requires known { IsKnown facts.now known.now }
-    ensures { IfOk result (λ found. IfSome found (CanTell facts.now known.now.steps field.now)) }
+    ensures view { IfOk result (λ found. IfSome found (CanTell facts.now known.now.steps field.now state.new.held.forest)) }
+    ensures budget { state.new.budget ≡ state.old.budget }
 {
-    let Some(told) = chooser.lay_look(search, &bad.unfit)? else {
+    let Some(told) = state.chooser.lay_look(&mut state.search, &bad.unfit)? else {
         return Ok(None);
     };
     let alloc = known.alloc();
-    let forest = held_forest(alloc, facts, &search.forest)?;
-    if !is_known(facts, known, &forest) {
+    hold(&mut state.held, alloc, facts, &state.search.forest)?;
+    let forest = &state.held.forest;
+    if !is_known(facts, known, forest) {
         return Ok(None);
     }
     if !are_of_field(field, &told.feet) {
         return Ok(None);
     }
-    if !are_feet(alloc, &forest, &told.feet)? {
+    if !are_feet(alloc, forest, &told.feet)? {
         return Ok(None);
     }
     let reads = Looks::new(alloc, &facts.shape())?;
-    Ok(Some(View {
-        told,
-        forest,
-        reads,
-    }))
+    Ok(Some(View { told, reads }))
 }
 
 // True where there was memory for what a look tells.
@@ -141,14 +138,10 @@ fn tell_turn(
     if !state.budget.can_pay(rig, 1) {
         return Ok(false);
     }
-    let Ok(found) = next_view(
-        &mut state.chooser,
-        &mut state.search,
-        facts,
-        known,
-        bad,
-        field,
-    ) else {
+    if state.aim == Aim::Rest && state.budget.is_low(rig) {
+        return Ok(false);
+    }
+    let Ok(found) = next_view(state, facts, known, bad, field) else {
         return Err(RigFail::Memory);
     };
     let Some(mut view) = found else {
@@ -157,14 +150,15 @@ fn tell_turn(
     let feet = view.told.feet.as_slice();
     facts.screen_wires(
         rig,
-        &view.forest,
+        &state.held.forest,
         feet,
         &mut bad.unfit,
         &mut bad.unclear,
         &mut view.reads,
     )?;
     let chooser = &mut state.chooser;
-    was_heard(hear(chooser, &view.told, &view.forest, &view.reads, facts, bad))
+    let forest = &state.held.forest;
+    was_heard(hear(chooser, &view.told, forest, &view.reads, facts, bad))
 }
 
 /// Takes looks for what the choice is asked for, until none is wanted, or it can't be paid.

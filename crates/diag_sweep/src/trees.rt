@@ -6,7 +6,7 @@ ghost use Rattle.diag_known.specs.Known.{IsKnown, HasWire};
 
 use diag_evidence::{Facts, Forest};
 use diag_known::{Field, Known, SupportedBy, VerifiedWire};
-use diag_search::{Link, PlannedForest, in_set};
+use diag_search::{Link, in_set};
 use machine_shape::{Cross, Pin, Shape, Wire};
 use std::alloc::{AllocError, Global};
 
@@ -62,36 +62,32 @@ pub(crate) fn plant(forest: &mut Forest, facts: &Facts, w: Wire)
     forest.plant(pin);
 }
 
-/// Lays links, where they may be laid. A pin of the machine that is led to from itself is planted.
+// Lays a link, where it may be laid. A pin of the machine that is led to from itself is planted.
+fn lay_link(forest: &mut Forest, facts: &Facts, link: &Link) -> Result<(), AllocError>
+    requires { KeepsForest facts.now forest.old }
+    ensures { KeepsForest facts.now forest.new }
+{
+    if link.from.0 == link.to.0 {
+        plant(forest, facts, link.to);
+        return Ok(());
+    }
+    lay(forest, facts, link.cross, link.from, link.to)
+}
+
+/// Lays links from a place on, where they may be laid. A pin of the machine that is led to from itself is planted.
 pub(crate) fn lay_links(
     forest: &mut Forest,
     facts: &Facts,
     links: &Vec<Link>,
+    from: usize,
 ) -> Result<(), AllocError>
     requires { KeepsForest facts.now forest.old }
     ensures { KeepsForest facts.now forest.new }
 {
-    'links: for link in links {
-        if link.from.0 == link.to.0 {
-            plant(forest, facts, link.to);
-            continue;
-        }
-        lay(forest, facts, link.cross, link.from, link.to)?;
+    'links: for k in from..links.len() {
+        lay_link(forest, facts, &links[k])?;
     }
     Ok(())
-}
-
-/// The forest that the search holds, as it stays from load to load.
-pub(crate) fn held_forest(
-    alloc: Global,
-    facts: &Facts,
-    planned: &PlannedForest,
-) -> Result<Forest, AllocError>
-    ensures { IfOk result (KeepsForest facts.now) }
-{
-    let mut forest = Forest::new(alloc, &facts.shape())?;
-    lay_links(&mut forest, facts, &planned.links)?;
-    Ok(forest)
 }
 
 // Hangs a known wire on the first of its feet, or plants it if it is a pin of the machine.

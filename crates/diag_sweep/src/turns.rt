@@ -25,6 +25,11 @@ use rig::{Rig, RigFail};
 /// More loads than the wires of one height take.
 const MOST_LOADS: u32 = 1_000_000;
 
+/// How many loads of hangs may be made for a wire where few are left; and in the first pass else.
+const POOR_LOADS: u64 = 2;
+
+const FIRST_LOADS: u64 = 8;
+
 /// The greatest height of a wire: the pins of tables of the deepest level.
 const MOST_HEIGHT: u32 = 8;
 
@@ -94,6 +99,18 @@ fn settle_hangs(budget: &mut LoadBudget, facts: &Facts, bad: &DefectMarks, hangs
     }
 }
 
+// How many loads of hangs are made at most for a wire that comes to be known, as it seems: few where few are left, and in the first pass,
+// as later more wires hang together.
+fn loads_for_wire(rig: &Box<dyn Rig>, state: &SweepState) -> u64 {
+    if state.budget.is_low(rig) {
+        return POOR_LOADS;
+    }
+    if state.on_any {
+        return u64::MAX;
+    }
+    FIRST_LOADS
+}
+
 // Tests some of the wires that are to be hung in one load, if some are found and it can be paid. False where not.
 fn hang_test(
     rig: &mut Box<dyn Rig>,
@@ -114,6 +131,8 @@ fn hang_test(
     let Ok(()) = state.search.choose_hangs(&bad.unfit) else {
         return Err(RigFail::Memory);
     };
+    let loads = loads_for_wire(rig, state);
+    state.search.save_load(loads);
     if state.search.hanging.chosen.is_empty() || !state.budget.can_pay(rig, 3) {
         return Ok(false);
     }
@@ -174,6 +193,49 @@ fn hang_wanted(
     Ok(())
 }
 
+// Tests crosspoints between known wires, where few loads are left: each takes two in, and hangs take more than they bring where most of
+// the crosspoints are stuck.
+fn refill(
+    rig: &mut Box<dyn Rig>,
+    facts: &mut Facts,
+    known: &Known,
+    bad: &mut DefectMarks,
+    field: &Field,
+    state: &mut SweepState,
+) -> Result<(), RigFail>
+    requires attached { shape_of (rig_state rig.old) ≡ Some facts.old.shape }
+    requires hand { IsHand field.now (in_hand facts.old known.now bad.old state.old.budget (rig_state rig.old).loads) }
+    ensures goes { Goes (rig_state rig.new) field.now [] (in_hand facts.old known.now bad.old state.old.budget (rig_state rig.old).loads)
+        (in_hand facts.new known.now bad.new state.new.budget (rig_state rig.new).loads) }
+    ensures advances { Advances (rig_state rig.old) (rig_state rig.new) facts.old facts.new }
+    ensures cause { IsErrOf result RigFail.Failed → Rose (rig_state rig.old).failures (rig_state rig.new).failures }
+{
+    if !state.budget.is_low(rig) {
+        return Ok(());
+    }
+    lead_all(rig, facts, known, bad, field, state)
+}
+
+// Tests the wires that are to be hung, and then crosspoints, where few loads are left.
+fn sweep_height(
+    rig: &mut Box<dyn Rig>,
+    facts: &mut Facts,
+    known: &mut Known,
+    bad: &mut DefectMarks,
+    field: &Field,
+    state: &mut SweepState,
+) -> Result<(), RigFail>
+    requires attached { shape_of (rig_state rig.old) ≡ Some facts.old.shape }
+    requires hand { IsHand field.now (in_hand facts.old known.old bad.old state.old.budget (rig_state rig.old).loads) }
+    ensures goes { Goes (rig_state rig.new) field.now [] (in_hand facts.old known.old bad.old state.old.budget (rig_state rig.old).loads)
+        (in_hand facts.new known.new bad.new state.new.budget (rig_state rig.new).loads) }
+    ensures advances { Advances (rig_state rig.old) (rig_state rig.new) facts.old facts.new }
+    ensures cause { IsErrOf result RigFail.Failed → Rose (rig_state rig.old).failures (rig_state rig.new).failures }
+{
+    hang_wanted(rig, facts, known, bad, field, state)?;
+    refill(rig, facts, known, bad, field, state)
+}
+
 // Tests the wires of each height once more.
 #[tactic(auto, using(crate::proofs::Going::gone_none))]
 fn sweep_heights(
@@ -195,7 +257,7 @@ fn sweep_heights(
         let Ok(()) = state.search.want_height(&bad.unfit, height, state.on_any) else {
             return Err(RigFail::Memory);
         };
-        hang_wanted(rig, facts, known, bad, field, state)?;
+        sweep_height(rig, facts, known, bad, field, state)?;
     }
     Ok(())
 }
@@ -221,7 +283,7 @@ fn sweep_pass(
     sweep_heights(rig, facts, known, bad, field, state)
 }
 
-// Makes a pass, and then tests the crosspoints between known wires: in the first pass, and where some wires came to be known.
+// Makes a pass, and then tests the crosspoints between known wires.
 fn sweep_round(
     rig: &mut Box<dyn Rig>,
     facts: &mut Facts,
@@ -237,11 +299,7 @@ fn sweep_round(
     ensures advances { Advances (rig_state rig.old) (rig_state rig.new) facts.old facts.new }
     ensures cause { IsErrOf result RigFail.Failed → Rose (rig_state rig.old).failures (rig_state rig.new).failures }
 {
-    let before = known.len();
     sweep_pass(rig, facts, known, bad, field, state)?;
-    if state.on_any && known.len() <= before {
-        return Ok(());
-    }
     lead_all(rig, facts, known, bad, field, state)
 }
 
@@ -444,7 +502,31 @@ fn pins_left(
     pin_turn(rig, facts, known, bad, field, state)
 }
 
-// The same, and then tests the wires for which others gave way.
+// Tests the wires for which others gave way.
+fn hang_first(
+    rig: &mut Box<dyn Rig>,
+    facts: &mut Facts,
+    known: &mut Known,
+    bad: &mut DefectMarks,
+    field: &Field,
+    state: &mut SweepState,
+) -> Result<(), RigFail>
+    requires attached { shape_of (rig_state rig.old) ≡ Some facts.old.shape }
+    requires hand { IsHand field.now (in_hand facts.old known.old bad.old state.old.budget (rig_state rig.old).loads) }
+    ensures goes { Goes (rig_state rig.new) field.now [] (in_hand facts.old known.old bad.old state.old.budget (rig_state rig.old).loads)
+        (in_hand facts.new known.new bad.new state.new.budget (rig_state rig.new).loads) }
+    ensures advances { Advances (rig_state rig.old) (rig_state rig.new) facts.old facts.new }
+    ensures cause { IsErrOf result RigFail.Failed → Rose (rig_state rig.old).failures (rig_state rig.new).failures }
+{
+    state.search.forget_tries();
+    let Ok(()) = state.chooser.hint(&mut state.search, &bad.unfit) else {
+        return Err(RigFail::Memory);
+    };
+    hang_wanted(rig, facts, known, bad, field, state)
+}
+
+// Looks at the pins that are left, and then tests the wires for which others gave way, as often again as others: else what gave way may
+// be known before them.
 fn first_turns(
     rig: &mut Box<dyn Rig>,
     facts: &mut Facts,
@@ -461,10 +543,8 @@ fn first_turns(
     ensures cause { IsErrOf result RigFail.Failed → Rose (rig_state rig.old).failures (rig_state rig.new).failures }
 {
     pins_left(rig, facts, known, bad, field, state)?;
-    let Ok(()) = state.chooser.hint(&mut state.search, &bad.unfit) else {
-        return Err(RigFail::Memory);
-    };
-    hang_wanted(rig, facts, known, bad, field, state)
+    hang_first(rig, facts, known, bad, field, state)?;
+    hang_first(rig, facts, known, bad, field, state)
 }
 
 /// The same behind a choice: first the wires for which others gave way.

@@ -8,12 +8,11 @@ ghost use Rattle.diag_sweep.specs.Marks.{AreMarksFor, MarksIn, Pays, TrueIf};
 
 use crate::budget::LoadBudget;
 use crate::defect_marks::DefectMarks;
-use crate::informing::new_search;
-use crate::sweep_state::{SweepState, TableSweep};
+use crate::sweep_state::{TableSweep, first_state};
 use crate::tabling::sweep_sheet;
 use diag_evidence::Facts;
 use diag_known::{Field, Known};
-use diag_search::{Aim, Chooser};
+use diag_search::Aim;
 use machine_shape::Table;
 use rig::{Rig, RigFail};
 
@@ -51,22 +50,11 @@ pub fn sweep(
     let Ok(budget) = LoadBudget::new(known.alloc(), rig, facts, bad, field) else {
         return Err(RigFail::Memory);
     };
-    let Ok(search) = new_search(known.alloc(), facts, known, bad, field) else {
-        return Err(RigFail::Memory);
-    };
-    let Ok(chooser) = Chooser::new(known.alloc(), &facts.shape()) else {
+    let Ok(state) = first_state(facts, known, bad, field, budget, Aim::Rest) else {
         return Err(RigFail::Memory);
     };
     let Ok(tables) = Vec::from_slice(known.alloc(), tables) else {
         return Err(RigFail::Memory);
-    };
-    let state = SweepState {
-        budget,
-        search,
-        chooser,
-        aim: Aim::Rest,
-        on_any: false,
-        depth: 0,
     };
     sweep_sheet(
         rig,

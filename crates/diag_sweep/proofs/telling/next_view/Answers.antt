@@ -2,8 +2,8 @@ use Rattle.std.proofs.Common.{◌∙◌, ap, refl}
 use Rattle.machine_shape.specs.Shape.{pins_of}
 use Rattle.diag_sweep.proofs.telling.next_view.Goals as goal
 
-pub returns : goal.returns
-returns c = record {
+pub returns-clause-view : goal.returns-clause-view
+returns-clause-view c = record {
   knows = c.if-not-is_known.ensures.knows refl;
   known = c.if-not-is_known.ensures.all refl;
   feet = c.in_ok-are_feet.ensures c.if-not-branch.false;

@@ -1,6 +1,8 @@
-use Rattle.std.proofs.Common.{List, subst}
+use Rattle.std.proofs.Common.{List, subst, sym}
 use Rattle.machine_shape.specs.declared.Table.{Table}
 use Rattle.diag_sweep.specs.Marks.{MarksIn}
+use Rattle.diag_sweep.specs.Stages.{IsFunded, in_hand}
+use Rattle.diag_sweep.specs.declared.budget.LoadBudget.{LoadBudget}
 use Rattle.diag_sweep.proofs.Budgets.{pays}
 use Rattle.diag_sweep.proofs.whole.sweep.Goals as goal
 
@@ -8,4 +10,4 @@ pub returns-clause-marks : goal.returns-clause-marks
 returns-clause-marks g c = subst (λ (ts : List Table). MarksIn c.args.field.now ts c.args.bad.now c.sweep_sheet.new.bad) c.in-Ok-from_slice.ensures.items c.sweep_sheet.ensures.goes.marks
 
 pub returns-clause-pays : goal.returns-clause-pays
-returns-clause-pays g c = pays c.args.facts.now c.args.bad.now _ c.sweep_sheet.ensures.goes.hand (c.sweep_sheet.ensures.goes.funded _ (c.in-Ok.ensures.funded c.args.known.now))
+returns-clause-pays g c = pays c.args.facts.now c.args.bad.now _ c.sweep_sheet.ensures.goes.hand (c.sweep_sheet.ensures.goes.funded _ (subst (λ (b : LoadBudget). IsFunded _ c.args.field.now (in_hand c.args.facts.now c.args.known.now c.args.bad.now b _)) (sym c.in-Ok-first_state.ensures) (c.in-Ok.ensures.funded c.args.known.now)))

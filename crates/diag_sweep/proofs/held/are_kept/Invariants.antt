@@ -1,0 +1,7 @@
+use Rattle.std.proofs.Common.{take}
+use Rattle.diag_tests.specs.Routes.{cross_numbers}
+use Rattle.diag_sweep.proofs.Holding.{AreKept}
+use Rattle.diag_sweep.proofs.held.are_kept.Given as goal
+
+abbrev pub invariant-crosses : goal.invariant-crosses
+invariant-crosses l = AreKept l.facts (take l.k (cross_numbers l.crosses))
