@@ -32,9 +32,8 @@ learnt_more {s = s} l = record { shape = l.shape; steps = inr (s, refl, l.steps)
 pub learnt_has : {a b : KnownWires} {s : VerifiedWire} → IsLearnt a b s → HasWire b.steps s.wire.0
 learnt_has {a} {b} {s} l = subst (λ ss. HasWire ss s.wire.0) (sym l.steps) (record { place = length a.steps; at = record { step = s; here = get_last a.steps s; wire = refl } })
 
--- A wire that is parted is learnt, and then settled.
-module _ {k l : Kept} {a b : KnownWires} {s : VerifiedWire} (result : Bool) (settled : IsTrue result → HasSettled k l) (refused : result ≡ false → CanSettle k → ⊥) (more : IsMore k l) (parted : IsParted k s.wire.0)
-    (is : IsKnown k a) (all : KnowsAll k a.steps) where
+-- The wire that is parted is settled.
+module _ {k l : Kept} {w : ℕ} (result : Bool) (settled : IsTrue result → HasSettled k l) (refused : result ≡ false → CanSettle k → ⊥) (parted : IsParted k w) where
   has_settled : HasSettled k l
   has_settled = by result refl
     where
@@ -42,27 +41,30 @@ module _ {k l : Kept} {a b : KnownWires} {s : VerifiedWire} (result : Bool) (set
       by true e = settled e
       by false e = absurd (refused e parted.can)
 
-  this : has_settled.can.wire ≡ s.wire.0
+  this : has_settled.can.wire ≡ w
   this = some_same (sym has_settled.can.tried ∙ parted.can.tried) ∙ parted.this
     where
       some_same : {x y : ℕ} → ◌≡◌ {A = Option ℕ} (Some x) (Some y) → x ≡ y
       some_same e = cc
 
-  set_after : (u : ℕ) → is_apart l u ≡ ((s.wire.0 == u) || is_apart k u)
-  set_after u = has_settled.apart u ∙ ap (λ w. (w == u) || is_apart k u) this
+  set_after : (u : ℕ) → is_apart l u ≡ ((w == u) || is_apart k u)
+  set_after u = has_settled.apart u ∙ ap (λ v. (v == u) || is_apart k u) this
 
-  of_it : is_apart l s.wire.0 ≡ true
-  of_it = set_after s.wire.0 ∙ or_left (s.wire.0 == s.wire.0) (is_apart k s.wire.0) (let same : (s.wire.0 == s.wire.0) ≡ true = grind (arith, nat_tests) in same)
+  of_it : is_apart l w ≡ true
+  of_it = set_after w ∙ or_left (w == w) (is_apart k w) (let same : (w == w) ≡ true = grind (arith, nat_tests) in same)
 
-  pub settled_known : ¬ HasWire a.steps s.wire.0 → Stands k a.steps (length a.steps) s.wire.0 s.stand → IsLearnt a b s → IsKnown l b
-  settled_known new stands p = learnt (known_later more is) (good_of (known_later more is) new (more.wires s.wire.0 parted.kept) of_it) (stands_later more stands) p.shape p.steps
+-- .. once it is learnt
+pub settled_known : {k l : Kept} {a b : KnownWires} {s : VerifiedWire} (result : Bool) → (IsTrue result → HasSettled k l) → (result ≡ false → CanSettle k → ⊥) → IsMore k l → IsParted k s.wire.0 → IsKnown k a → ¬ HasWire a.steps s.wire.0 →
+    Stands k a.steps (length a.steps) s.wire.0 s.stand → IsLearnt a b s → IsKnown l b
+settled_known {s = s} result settled refused more parted is new stands p =
+    learnt (known_later more is) (good_of (known_later more is) new (more.wires s.wire.0 parted.kept) (of_it result settled refused parted)) (stands_later more stands) p.shape p.steps
 
-  pub settled_all : IsLearnt a b s → KnowsAll l b.steps
-  settled_all p u on = by (or_cases (s.wire.0 == u) (is_apart k u) (sym (set_after u) ∙ on))
-    where
-      by : ((s.wire.0 == u) ≡ true) ⊎ (is_apart k u ≡ true) → HasWire b.steps u
-      by (inl e) = subst (HasWire b.steps) (let same : s.wire.0 ≡ u = grind (arith, nat_tests, e) in same) (learnt_has p)
-      by (inr h) = subst (λ ss. HasWire ss u) (sym p.steps) (has_later (s ∷ []) (all u h))
+pub settled_all : {k l : Kept} {a b : KnownWires} {s : VerifiedWire} (result : Bool) → (IsTrue result → HasSettled k l) → (result ≡ false → CanSettle k → ⊥) → IsParted k s.wire.0 → KnowsAll k a.steps → IsLearnt a b s → KnowsAll l b.steps
+settled_all {k} {l} {a} {b} {s} result settled refused parted all p u on = by (or_cases (s.wire.0 == u) (is_apart k u) (sym (set_after result settled refused parted u) ∙ on))
+  where
+    by : ((s.wire.0 == u) ≡ true) ⊎ (is_apart k u ≡ true) → HasWire b.steps u
+    by (inl e) = subst (HasWire b.steps) (let same : s.wire.0 ≡ u = grind (arith, nat_tests, e) in same) (learnt_has p)
+    by (inr h) = subst (λ ss. HasWire ss u) (sym p.steps) (has_later (s ∷ []) (all u h))
 
 pub learnt_marks : {told : Option Faults} {k l : Kept} {a b : KnownWires} {s : VerifiedWire} {m : Marks} → IsMore k l → IsLearnt a b s → AreMarks told k a.steps m → AreMarks told l b.steps m
 learnt_marks {told} {k} {l} {a} {b} {s} {m} more p are = subst (λ ss. AreMarks told l ss m) (sym p.steps) (marks_later (s ∷ []) more are)

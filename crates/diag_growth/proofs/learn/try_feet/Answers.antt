@@ -35,10 +35,10 @@ pub returns-in_err-learn-clause-all : goal.returns-in_err-learn-clause-all
 returns-in_err-learn-clause-all g c = subst (λ (known : KnownWires). KnowsAll c.is_good_over.new.facts known.steps) (sym c.in_err-learn.ensures.same) (all_still c.args.facts.now c.is_good_over.new.facts c.is_good_over.ensures.set c.requires.all)
 
 pub returns-clause-known : goal.returns-clause-known
-returns-clause-known g c = settled_known c.settle.result c.settle.ensures.settled c.settle.ensures.refused c.settle.ensures.more (c.in_ok-good.ensures.good c.if-not-good.false) (known_later c.is_good_over.ensures.advances.more c.requires.ready.known) (all_still c.args.facts.now c.is_good_over.new.facts c.is_good_over.ensures.set c.requires.all) c.requires.ready.offer.new (stands_later c.is_good_over.ensures.advances.more (offer_stands c.requires.ready.offer c.requires.over)) c.in_ok-learn.ensures.learnt
+returns-clause-known g c = settled_known c.settle.result c.settle.ensures.settled c.settle.ensures.refused c.settle.ensures.more (c.in_ok-good.ensures.good c.if-not-good.false) (known_later c.is_good_over.ensures.advances.more c.requires.ready.known) c.requires.ready.offer.new (stands_later c.is_good_over.ensures.advances.more (offer_stands c.requires.ready.offer c.requires.over)) c.in_ok-learn.ensures.learnt
 
 pub returns-clause-all : goal.returns-clause-all
-returns-clause-all g c = settled_all c.settle.result c.settle.ensures.settled c.settle.ensures.refused c.settle.ensures.more (c.in_ok-good.ensures.good c.if-not-good.false) (known_later c.is_good_over.ensures.advances.more c.requires.ready.known) (all_still c.args.facts.now c.is_good_over.new.facts c.is_good_over.ensures.set c.requires.all) c.in_ok-learn.ensures.learnt
+returns-clause-all g c = settled_all c.settle.result c.settle.ensures.settled c.settle.ensures.refused (c.in_ok-good.ensures.good c.if-not-good.false) (all_still c.args.facts.now c.is_good_over.new.facts c.is_good_over.ensures.set c.requires.all) c.in_ok-learn.ensures.learnt
 
 pub returns-in_err-learn-clause-more : goal.returns-in_err-learn-clause-more
 returns-in_err-learn-clause-more g c = none_more c.args.offer.now.wire.0 c.in_err-learn.ensures.same

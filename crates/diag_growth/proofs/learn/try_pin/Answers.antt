@@ -58,10 +58,10 @@ pub returns-in_err-learn-clause-all : goal.returns-in_err-learn-clause-all
 returns-in_err-learn-clause-all g c = subst (λ (known : KnownWires). KnowsAll c.is_good_pin.new.facts known.steps) (sym c.in_err-learn.ensures.same) (all_still c.args.facts.now c.is_good_pin.new.facts c.is_good_pin.ensures.set c.requires.all)
 
 pub returns-clause-known : goal.returns-clause-known
-returns-clause-known g c = settled_known c.settle.result c.settle.ensures.settled c.settle.ensures.refused c.settle.ensures.more (c.in_ok-good.ensures.good c.if-not-good.false) (known_later c.is_good_pin.ensures.advances.more c.requires.known) (all_still c.args.facts.now c.is_good_pin.new.facts c.is_good_pin.ensures.set c.requires.all) (subst (λ w. ¬ HasWire c.args.known.now.steps w) (sym (c.pin-wire.ensures.wire ∙ ap (λ m. pin_wire m c.args.pin) c.shape.ensures)) c.requires.new) (stands_later c.is_good_pin.ensures.advances.more (on_pin c.requires.pin (c.pin-wire.ensures.wire ∙ ap (λ m. pin_wire m c.args.pin) c.shape.ensures))) c.in_ok-learn.ensures.learnt
+returns-clause-known g c = settled_known c.settle.result c.settle.ensures.settled c.settle.ensures.refused c.settle.ensures.more (c.in_ok-good.ensures.good c.if-not-good.false) (known_later c.is_good_pin.ensures.advances.more c.requires.known) (subst (λ w. ¬ HasWire c.args.known.now.steps w) (sym (c.pin-wire.ensures.wire ∙ ap (λ m. pin_wire m c.args.pin) c.shape.ensures)) c.requires.new) (stands_later c.is_good_pin.ensures.advances.more (on_pin c.requires.pin (c.pin-wire.ensures.wire ∙ ap (λ m. pin_wire m c.args.pin) c.shape.ensures))) c.in_ok-learn.ensures.learnt
 
 pub returns-clause-all : goal.returns-clause-all
-returns-clause-all g c = settled_all c.settle.result c.settle.ensures.settled c.settle.ensures.refused c.settle.ensures.more (c.in_ok-good.ensures.good c.if-not-good.false) (known_later c.is_good_pin.ensures.advances.more c.requires.known) (all_still c.args.facts.now c.is_good_pin.new.facts c.is_good_pin.ensures.set c.requires.all) c.in_ok-learn.ensures.learnt
+returns-clause-all g c = settled_all c.settle.result c.settle.ensures.settled c.settle.ensures.refused (c.in_ok-good.ensures.good c.if-not-good.false) (all_still c.args.facts.now c.is_good_pin.new.facts c.is_good_pin.ensures.set c.requires.all) c.in_ok-learn.ensures.learnt
 
 pub returns-in_err-learn-clause-more : goal.returns-in_err-learn-clause-more
 returns-in_err-learn-clause-more g c = none_more (pin_wire c.args.facts.now.shape c.args.pin) c.in_err-learn.ensures.same

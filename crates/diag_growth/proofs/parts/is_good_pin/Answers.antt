@@ -6,7 +6,7 @@ use Rattle.diag_known.specs.Vocabulary.{AreWays}
 use Rattle.diag_known.proofs.Later.{known_later, ways_later}
 use Rattle.diag_evidence.specs.Kept.{Kept}
 use Rattle.diag_evidence.proofs.Keeping.{begun_apart}
-use Rattle.diag_growth.proofs.Parting.{parted_both}
+use Rattle.diag_growth.proofs.Parting.{end_on, parted_both}
 use Rattle.diag_growth.proofs.parts.is_good_pin.Goals as goal
 
 pub way_at-requires : goal.way_at-requires
@@ -14,6 +14,11 @@ way_at-requires g c = subst (λ (m : Shape). c.args.pin < pins_of m) (sym c.requ
 
 pub test_stuck-requires-clause-way : goal.test_stuck-requires-clause-way
 test_stuck-requires-clause-way g c = (subst (λ (u : ℕ). AreWays c.args.facts.now c.args.known.now.steps u c.in-Ok.way c.in-Ok.way) (sym c.requires.wire) (c.in-Ok.ensures c.args.facts.now (sym c.requires.known.shape))).first
+
+pub begin-requires : goal.begin-requires
+begin-requires g c =
+    let way = (ways_later c.test_stuck.ensures.advances.more (subst (λ (u : ℕ). AreWays c.args.facts.now c.args.known.now.steps u c.in-Ok.way c.in-Ok.way) (sym c.requires.wire) (c.in-Ok.ensures c.args.facts.now (sym c.requires.known.shape)))).first in
+    way.route.wires c.args.w.0 (end_on way)
 
 pub part-requires-clause-known : goal.part-requires-clause-known
 part-requires-clause-known g c = known_later c.begin.ensures.more (known_later c.test_stuck.ensures.advances.more c.requires.known)
@@ -27,3 +32,6 @@ returns-clause-good g c = IfOk-weaker c.part.result _ _ (λ yes apart. λ is_yes
     parted_both c.requires.known c.requires.all c.requires.new (subst (λ (u : ℕ). AreWays c.args.facts.now c.args.known.now.steps u c.in-Ok.way c.in-Ok.way) (sym c.requires.wire) (c.in-Ok.ensures c.args.facts.now (sym c.requires.known.shape)))
     (λ u. c.part.ensures.trial.apart u ∙ begun_apart _ c.begin.ensures.begun u ∙ c.test_stuck.ensures.trial.apart u) (c.part.ensures.trial.trial ∙ begun)
     (c.part.ensures.advances.more.wires c.args.w.0 (c.begin.ensures.more.wires c.args.w.0 (c.in_ok-kept.ensures.kept c.if-not-kept.false))) (apart is_yes) (apart is_yes)) c.part.ensures.apart
+
+pub returns-clause-set : goal.returns-clause-set
+returns-clause-set g c = λ u. c.part.ensures.trial.apart u ∙ begun_apart _ c.begin.ensures.begun u ∙ c.test_stuck.ensures.trial.apart u
