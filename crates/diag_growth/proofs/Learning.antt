@@ -1,10 +1,10 @@
 -- One more wire is known, or none.
-use Rattle.std.proofs.Common.{◌≡◌, ◌⊎◌, ◌==◌, ◌||◌, ℕ, Bool, true, false, Option, Some, List, [], ◌∷◌, length, refl, sym, ap, ◌∙◌, subst, inl, inr, arith, Result, Ok, Err, OnOk, OnErr, IsTrue, slice_set}
+use Rattle.std.proofs.Common.{◌≡◌, ◌⊎◌, ◌==◌, ◌||◌, ℕ, Bool, true, false, Option, Some, List, [], ◌∷◌, length, refl, sym, ap, ◌∙◌, subst, inl, inr, arith, IsTrue, slice_set}
 use Rattle.std.proofs.lemmas.Bool.{or_cases, or_left}
 use Rattle.std.proofs.lemmas.Bool.Decides.{nat_tests}
 use Rattle.base_bits.specs.Numbers.{has_number}
 use Rattle.machine_meaning.specs.Faults.{Faults}
-use Rattle.diag_evidence.specs.Vocabulary.{Kept, IsMore, KeepsSet, CanSettle, HasSettled, is_apart}
+use Rattle.diag_evidence.specs.Vocabulary.{Kept, IsMore, CanSettle, HasSettled, is_apart}
 use Rattle.diag_growth.specs.Grown.{IsLearnt, IsOneMore}
 use Rattle.diag_growth.specs.Looks.{IsReady}
 use Rattle.diag_growth.specs.Partings.{IsParted}
@@ -17,11 +17,6 @@ use Rattle.diag_known.proofs.Later.{known_later, stands_later, learnt}
 use Rattle.diag_known.proofs.Places.{get_last, has_later}
 use Rattle.diag_known.proofs.Seconds.{offer_still}
 use Rattle.diag_known.proofs.Settling.{marks_later}
-
--- what follows from both kinds of answer
-pub by_result : {T E A B C : Type 0} (r : Result T E) → OnOk r A → OnErr r B → (A → C) → (B → C) → C
-by_result (Ok x) a b f g = f a
-by_result (Err e) a b f g = g b
 
 pub none_more : {a b : KnownWires} (w : ℕ) → b ≡ a → IsOneMore a b w
 none_more {a} w same = subst (λ known. IsOneMore a known w) (sym same) (record { shape = refl; steps = inl refl })

@@ -1,16 +1,17 @@
 //! Known wires grow: from the pins of a machine on, all that two routes can reach, each two of them kept apart.
 //!
 //! A wire is tried at each pair of its crosspoints to known ones: the first that is kept and a second one, over which its two
-//! ways lead. Then it is swung, and parted from all that is reached beside its ways; a pin of the machine has one way, and is parted
-//! once. That is all that the tests of one more wire need. What is kept isn't tested again.
+//! ways lead. Then it is swung, put on trial, and parted from all that is reached beside its ways; a pin of the machine has one way,
+//! and is parted once. Parted from all known wires, which are the set of the facts, it is settled: it is of the set, and known. That is
+//! all that the tests of one more wire need. What is kept isn't tested again.
 //!
-//! Promised (`grow`), in a field of wires and crosspoints: at every end what is known is so, what was known still is, what is new
-//! is of the field (`grows`), what was kept stays kept and true (`advances`), and it has made at most 8 loads for each crosspoint
-//! of the field that wasn't kept before and 3 for each of its wires, less one for each pin of the machine in it, and without faults
-//! 2 and 3, less one for each such pin (`loads`, `few_each`). After an Ok, what is known is closed (`closed_each`): a wire of the
-//! field that is clear, is shorted to no known wire, and is a pin or has two crosspoints of the field that aren't stuck to two
-//! different known wires, is known; a crosspoint of the field between known wires that isn't stuck is kept. `Failed` comes only
-//! where the rig's count rose (`cause`).
+//! Promised (`grow`), in a field of wires and crosspoints, where all wires of the set are known: at every end what is known is so
+//! (`known`), all of the set is (`all`), what was known still is, what is new is of the field (`grows`), what was kept stays kept and
+//! true (`advances`), and it has made at most 8 loads for each crosspoint of the field that wasn't kept before and 3 for each of its
+//! wires, less one for each pin of the machine in it, and without faults 2 and 3, less one for each such pin (`loads`, `few_each`).
+//! After an Ok, what is known is closed (`closed_each`): a wire of the field that is clear, is shorted to no known wire, and is a pin
+//! or has two crosspoints of the field that aren't stuck to two different known wires, is known; a crosspoint of the field between
+//! known wires that isn't stuck is kept. `Failed` comes only where the rig's count rose (`cause`).
 //!
 //! What is said of faults is said of each set that explains the log after the call (a clause whose name ends in `_each`); no rig
 //! has to tell any. Between the functions of this crate such a clause takes for granted that the marks are right for that set, as
@@ -32,8 +33,8 @@
 //! It is given a seat: kept crosspoints that lead from the end of one route over lines to the six inputs of a table, and from the
 //! end of another to its output, where all wires are kept, and those of the two sides and the inputs kept apart from one another
 //! (`seat`). A table without a wrong cell and a stuck register has its 64 cells and its register kept after an Ok, whatever other
-//! faults there are (`table_each`). At every end it has made at most 130 loads (`loads`), no crosspoint, wire or pair is newly kept
-//! (`only`), what was kept stays kept and true (`advances`), and `Failed` comes only where the rig's count rose (`cause`).
+//! faults there are (`table_each`). At every end it has made at most 130 loads (`loads`), no crosspoint or wire is newly kept and none
+//! joins the set (`only`), what was kept stays kept and true (`advances`), and `Failed` comes only where the rig's count rose (`cause`).
 #![tactic(auto)]
 
 mod cells;
