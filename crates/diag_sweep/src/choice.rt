@@ -188,10 +188,10 @@ fn give_way(
     ensures right { (told : Option Faults) → TrueIf told facts.old known.old.steps bad.old →
         TrueIf told facts.new known.new.steps bad.new }
 {
-    let Some(wires) = give_up(chooser, facts, bad)? else {
+    let Some(chosen) = give_up(chooser, facts, bad)? else {
         return Ok(false);
     };
-    let stay = known_among(known, &wires)?;
+    let stay = known_among(known, &chosen)?;
     *known = standing(known.alloc(), facts, stay)?;
     facts.retake(known.wires());
     // An unfit wire may have been shorted to one that gives way.
