@@ -179,13 +179,36 @@ impl Search {
         None
     }
 
-    // Two crosspoints of a wire to known wires on two trees that no other uses. These are used then.
-    fn two_feet(&mut self, w: Wire) -> Option<(Support, Support)> {
-        let count = if self.hanging.on_any {
+    // Over how many of its links a wire may hang.
+    fn link_count(&self, w: Wire) -> u32 {
+        if self.hanging.on_any {
             self.heights.links(w)
         } else {
             self.heights.ups(w)
-        };
+        }
+    }
+
+    // Whether a wire was hung twice as often as there are pairs of its links to known wires: it can hardly hang, however often it is tried.
+    fn has_tried_all(&self, w: Wire) -> bool {
+        let tries = self.hanging.tries_of(w);
+        let mut feet: u32 = 0;
+        'links: for j in 0..self.link_count(w) {
+            if feet.saturating_mul(feet.saturating_sub(1)) > tries {
+                return false;
+            }
+            let Some(link) = self.heights.link(w, j) else {
+                continue;
+            };
+            if self.board.has(link.wire) && self.board.mark(link.cross) != Mark::Barred {
+                feet = feet.saturating_add(1);
+            }
+        }
+        feet.saturating_mul(feet.saturating_sub(1)) <= tries
+    }
+
+    // Two crosspoints of a wire to known wires on two trees that no other uses. These are used then.
+    fn two_feet(&mut self, w: Wire) -> Option<(Support, Support)> {
+        let count = self.link_count(w);
         let begin = self.draws.draw_under(count);
         let (tried, first) = self.free_link(w, count, begin, 0)?;
         let tree = self.forest.tree(first.wire);
@@ -202,9 +225,12 @@ impl Search {
         }
     }
 
-    // Whether a wire is left out of this load: it hangs in it already, or it was hung often, and it is drawn so.
+    // Whether a wire is left out of this load: it hangs in it already, or it was hung often, and it is drawn so or nothing is left to try.
     fn is_left_out(&mut self, w: Wire) -> bool {
         if self.board.is_used(w) {
+            return true;
+        }
+        if self.hanging.tries_of(w) >= EASY_TRIES && self.has_tried_all(w) {
             return true;
         }
         self.hanging.tries_of(w) >= EASY_TRIES

@@ -14,8 +14,8 @@ use machine_shape::{Cross, Pin, Shape, the_numbering_is_sound};
 use rig::Rig;
 use std::alloc::{AllocError, Global};
 
-/// How many loads are few.
-const FEW_LOADS: u64 = 56;
+/// How many loads for each pin of the machine are few.
+const FEW_LOADS: u64 = 2;
 
 /// Up to which number of loads the rig may come, and the crosspoints of the field that count as undecided still.
 #[derive(Drop)]
@@ -173,9 +173,10 @@ impl LoadBudget {
         rig.loads() <= self.most - loads
     }
 
-    /// Whether few loads are left, which should bring more than they take.
-    pub(crate) fn is_low(&self, rig: &Box<dyn Rig>) -> bool {
-        !self.can_pay(rig, FEW_LOADS)
+    /// Whether few loads are left, which should bring more than they take: fewer than these, or than some for each pin of the machine.
+    pub(crate) fn is_low(&self, rig: &Box<dyn Rig>, facts: &Facts, least: u64) -> bool {
+        let few = u64::from(facts.shape().pins()).saturating_mul(FEW_LOADS);
+        !self.can_pay(rig, few.max(least))
     }
 
     /// Takes two loads in for a crosspoint that was undecided and isn't any more.

@@ -23,6 +23,8 @@ pub(crate) struct SweepState {
     // Whether wires are hung on any known ones, or on lower ones alone; and the depth of the crossbars through which walks lead.
     pub on_any: bool,
     pub depth: u32,
+    // Whether nothing has come of the last pass, so that loads are made whatever they bring.
+    pub spends: bool,
 }
 
 /// What a sweep has at hand before its first load.
@@ -49,6 +51,7 @@ pub(crate) fn first_state(
         aim,
         on_any: false,
         depth: 0,
+        spends: false,
     })
 }
 

@@ -164,7 +164,7 @@ fn tell_turn(
     if !state.budget.can_pay(rig, 1) {
         return Ok(false);
     }
-    if state.aim == Aim::Rest && state.budget.is_low(rig) {
+    if state.aim == Aim::Rest && state.budget.is_low(rig, facts, 0) {
         return Ok(false);
     }
     let Ok(found) = next_view(

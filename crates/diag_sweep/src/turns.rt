@@ -25,6 +25,9 @@ use rig::{Rig, RigFail};
 /// More loads than the wires of one height take.
 const MOST_LOADS: u32 = 1_000_000;
 
+/// With how many loads left at least crosspoints are tested behind each height: with few pins walks bring more than hangs.
+const LEAST_LOADS: u64 = 56;
+
 /// How many loads of hangs may be made for a wire where few are left; and in the first pass else.
 const POOR_LOADS: u64 = 2;
 
@@ -101,8 +104,11 @@ fn settle_hangs(budget: &mut LoadBudget, facts: &Facts, bad: &DefectMarks, hangs
 
 // How many loads of hangs are made at most for a wire that comes to be known, as it seems: few where few are left, and in the first pass,
 // as later more wires hang together.
-fn loads_for_wire(rig: &Box<dyn Rig>, state: &SweepState) -> u64 {
-    if state.budget.is_low(rig) {
+fn loads_for_wire(rig: &Box<dyn Rig>, facts: &Facts, state: &SweepState) -> u64 {
+    if state.spends {
+        return u64::MAX;
+    }
+    if state.budget.is_low(rig, facts, 0) {
         return POOR_LOADS;
     }
     if state.on_any {
@@ -131,7 +137,7 @@ fn hang_test(
     let Ok(()) = state.search.choose_hangs(&bad.unfit) else {
         return Err(RigFail::Memory);
     };
-    let loads = loads_for_wire(rig, state);
+    let loads = loads_for_wire(rig, facts, state);
     state.search.save_load(loads);
     if state.search.hanging.chosen.is_empty() || !state.budget.can_pay(rig, 3) {
         return Ok(false);
@@ -210,7 +216,7 @@ fn refill(
     ensures advances { Advances (rig_state rig.old) (rig_state rig.new) facts.old facts.new }
     ensures cause { IsErrOf result RigFail.Failed → Rose (rig_state rig.old).failures (rig_state rig.new).failures }
 {
-    if !state.budget.is_low(rig) {
+    if !state.budget.is_low(rig, facts, LEAST_LOADS) {
         return Ok(());
     }
     lead_all(rig, facts, known, bad, field, state)
@@ -303,7 +309,8 @@ fn sweep_round(
     lead_all(rig, facts, known, bad, field, state)
 }
 
-// The same. False where no wire came to be known and no crosspoint was decided. Later passes hang wires on any known ones.
+// The same. False where no wire came to be known and no crosspoint was decided, though loads were made whatever they bring or weren't
+// few. Later passes hang wires on any known ones.
 fn pass_turn(
     rig: &mut Box<dyn Rig>,
     facts: &mut Facts,
@@ -324,7 +331,10 @@ fn pass_turn(
     sweep_round(rig, facts, known, bad, field, state)?;
     state.aim = Aim::Rest;
     state.on_any = true;
-    Ok(known.len() > before || state.search.decided() > decided)
+    let has_learnt = known.len() > before || state.search.decided() > decided;
+    let goes_on = has_learnt || (!state.spends && state.budget.is_low(rig, facts, 0));
+    state.spends = !has_learnt;
+    Ok(goes_on)
 }
 
 // Makes pass after pass, as long as wires come to be known or crosspoints to be decided.
@@ -346,6 +356,7 @@ fn sweep_passes(
 {
     state.aim = Aim::Again;
     state.on_any = false;
+    state.spends = false;
     'passes: for _pass in 0..MOST_PASSES {
         if !pass_turn(rig, facts, known, bad, field, state)? {
             return Ok(());
@@ -518,6 +529,7 @@ fn hang_first(
     ensures advances { Advances (rig_state rig.old) (rig_state rig.new) facts.old facts.new }
     ensures cause { IsErrOf result RigFail.Failed → Rose (rig_state rig.old).failures (rig_state rig.new).failures }
 {
+    state.spends = true;
     state.search.forget_tries();
     let Ok(()) = state.chooser.hint(&mut state.search, &bad.unfit) else {
         return Err(RigFail::Memory);
