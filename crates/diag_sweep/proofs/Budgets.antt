@@ -87,6 +87,10 @@ made_all set crosses q n whole has rest y = by (dec_lt y n)
     by (yes h) = has y h
     by (no h) = rest y (omega (arith, h)) ∙ sym (ap (λ (t : Bool). t && q y) (get_or_past crosses y false (omega (arith, h, whole))))
 
+-- the same purse
+pub funded_by : {limit : ℕ} {a : Field} {k : Kept} {known : KnownWires} {b : DefectMarks} {loads : ℕ} {x y : LoadBudget} → y ≡ x → IsFunded limit a (in_hand k known b x loads) → IsFunded limit a (in_hand k known b y loads)
+funded_by {limit} {a} {k} {known} {b} {loads} e f = subst (λ (z : LoadBudget). IsFunded limit a (in_hand k known b z loads)) (sym e) f
+
 -- what the purse has paid for in the end
 pub pays : (k : Kept) (b : DefectMarks) (before : ℕ) {l : Kept} {c : DefectMarks} {a : Field} {known : KnownWires} {budget : LoadBudget} {after : ℕ} → IsHand a (in_hand l known c budget after) → IsFunded (before + (pins_in k.shape a + 2 * undecided k b a)) a (in_hand l known c budget after) → Pays a k b before l c after
 pays k b before {l} {c} {a} {budget = budget} hand f =

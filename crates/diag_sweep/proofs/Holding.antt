@@ -1,7 +1,10 @@
 -- The forest that stays from load to load.
-use Rattle.std.proofs.Common.{◌≡◌, ℕ, ◌<◌, ◌≤◌, ◌+◌, true, Some, List, length, map, take, ap, sym, ◌∙◌, subst, slice_get}
+use Rattle.std.proofs.Common.{◌≡◌, ℕ, ◌<◌, ◌≤◌, ◌+◌, ◌&&◌, true, Some, List, [], ◌∷◌, length, take, nat_eq, refl, ap, sym, ◌∙◌, subst, slice_get, arith}
+use Rattle.std.specs.Cmp.Lexicographic.{pointwise}
 use Rattle.std.proofs.Math.Bridge.{le_prop}
 use Rattle.std.specs.Option.{option_map}
+use Rattle.std.proofs.lemmas.Bool.{false≢true, and_parts}
+use Rattle.std.proofs.lemmas.Bool.Decides.{nat_tests}
 use Rattle.std.proofs.lemmas.List.{length-map}
 use Rattle.std.proofs.lemmas.Option.{slice_get-map, slice_get_within}
 use Rattle.machine_shape.specs.declared.Counts.{Counts}
@@ -31,6 +34,35 @@ made-same c d p q same =
 pub same_shape : (m n : Shape) → m.counts ≡ n.counts → m ≡ n
 same_shape m n same =
     made-same m.counts n.counts (m.full, m.few_tables, m.few_wires, m.few_crosses, m.few_nodes) (n.full, n.few_tables, n.few_wires, n.few_crosses, n.few_nodes) same
+
+-- what the test of numbers and lists of them shows
+one_number : (a b : ℕ) → nat_eq a b ≡ true → a ≡ b
+one_number a b e = grind (arith, nat_tests, e)
+
+one_list : (xs ys : List ℕ) → pointwise nat_eq xs ys ≡ true → xs ≡ ys
+one_list [] [] e = refl
+one_list [] (y ∷ ys) e = absurd (false≢true e)
+one_list (x ∷ xs) [] e = absurd (false≢true e)
+one_list (x ∷ xs) (y ∷ ys) e =
+    let two = and_parts (nat_eq x y) (pointwise nat_eq xs ys) e in
+    ap (λ n. n ∷ xs) (one_number x y two.0) ∙ ap (λ l. y ∷ l) (one_list xs ys two.1)
+
+pub same_counts : (a b : Counts) → (nat_eq a.modules b.modules && (nat_eq a.chips b.chips && (nat_eq a.hextants b.hextants && (nat_eq a.tables b.tables && (pointwise nat_eq a.ports b.ports && (pointwise nat_eq a.lines b.lines && nat_eq a.pins b.pins)))))) ≡ true → a ≡ b
+same_counts a b e =
+    let first = and_parts (nat_eq a.modules b.modules) _ e in
+    let second = and_parts (nat_eq a.chips b.chips) _ first.1 in
+    let third = and_parts (nat_eq a.hextants b.hextants) _ second.1 in
+    let fourth = and_parts (nat_eq a.tables b.tables) _ third.1 in
+    let fifth = and_parts (pointwise nat_eq a.ports b.ports) _ fourth.1 in
+    let sixth = and_parts (pointwise nat_eq a.lines b.lines) (nat_eq a.pins b.pins) fifth.1 in
+    let modules = one_number a.modules b.modules first.0 in
+    let chips = one_number a.chips b.chips second.0 in
+    let hextants = one_number a.hextants b.hextants third.0 in
+    let tables = one_number a.tables b.tables fourth.0 in
+    let ports = one_list a.ports b.ports fifth.0 in
+    let lines = one_list a.lines b.lines sixth.0 in
+    let pins = one_number a.pins b.pins sixth.1 in
+    λ i. record { modules = modules i; chips = chips i; hextants = hextants i; tables = tables i; ports = ports i; lines = lines i; pins = pins i }
 
 -- crosspoints of which the first so many were found kept
 abbrev pub AreKept : Kept → List ℕ → Type 0

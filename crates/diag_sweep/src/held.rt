@@ -49,18 +49,27 @@ fn are_kept(facts: &Facts, crosses: &[Cross]) -> bool
     ensures { IsTrue result → (x : ℕ) → among (cross_numbers crosses.now) x ≡ true → keeps_cross facts.now x ≡ true }
 {
     'crosses: for k in 0..crosses.len() {
-        if !keeps(facts, cross_at(crosses, k)) {
+        let cross = cross_at(crosses, k);
+        if !keeps(facts, cross) {
             return false;
         }
     }
     true
 }
 
+// Whether two shapes are one: their counts are.
+fn is_same(one: &Shape, other: &Shape) -> bool
+    ensures { IsTrue result → one.now ≡ other.now }
+{
+    one.counts == other.counts
+}
+
 // Whether a forest is one of this shape.
 fn is_of(forest: &Forest, shape: &Shape) -> bool
     ensures { IsTrue result → forest.now.shape ≡ shape.now }
 {
-    forest.shape().counts == shape.counts
+    let own = forest.shape();
+    is_same(&own, shape)
 }
 
 // Whether a forest is of the machine, and its crosspoints are kept.

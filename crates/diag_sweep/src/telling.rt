@@ -1,9 +1,10 @@
 //! Looks in which wires that aren't known hang over one crosspoint each: looked at, paid for, and made.
-ghost use Rattle.std.specs.Prelude.{◌≡◌, ◌<◌, [], true, Some, All, IfOk, IfSome, IsErrOf, IsTrue, length, map};
+ghost use Rattle.std.specs.Prelude.{◌≡◌, [], true, Some, All, IfOk, IsErrOf, IsTrue, OnOk, map};
 ghost use Rattle.base_io.specs.Counts.{Rose};
 ghost use Rattle.base_bits.specs.Numbers.{has_number};
 ghost use Rattle.rig.specs.Rig.{shape_of};
-ghost use Rattle.diag_evidence.specs.Vocabulary.{AreFeet, Advances};
+ghost use Rattle.machine_shape.specs.Shape.{pins_of};
+ghost use Rattle.diag_evidence.specs.Vocabulary.{AreFeet, Advances, KeepsForest};
 ghost use Rattle.diag_known.specs.Known.{IsKnown};
 ghost use Rattle.diag_sweep.specs.Stages.{Goes, IsHand, in_hand};
 ghost use Rattle.diag_sweep.specs.Views.{CanTell};
@@ -11,7 +12,7 @@ ghost use Rattle.diag_sweep.specs.Views.{CanTell};
 use crate::defect_marks::DefectMarks;
 use crate::footing::{foot_at, pins_over};
 use crate::hearing::hear;
-use crate::held::hold;
+use crate::held::{HeldForest, hold};
 use crate::losing::begin;
 use crate::seen::see_all;
 use crate::sweep_state::SweepState;
@@ -19,8 +20,8 @@ use crate::trees::is_known;
 use base_bits::BitSet;
 use diag_evidence::{Facts, Forest, Looks};
 use diag_known::{Field, Known};
-use diag_search::{Aim, Told};
-use machine_shape::{Cross, Wire};
+use diag_search::{Aim, Chooser, Search, Told};
+use machine_shape::{Cross, Shape, Wire};
 use rig::{Rig, RigFail};
 use std::alloc::{AllocError, Global};
 
@@ -78,35 +79,60 @@ fn are_of_field(field: &Field, feet: &Vec<(Wire, Cross)>) -> bool
     true
 }
 
-// The next look, if one is wanted that may be made.
+// The next look, if one is wanted, and the forest on which it is made.
 fn next_view(
-    state: &mut SweepState,
+    chooser: &mut Chooser,
+    search: &mut Search,
+    held: &mut HeldForest,
     facts: &Facts,
     known: &Known,
     bad: &DefectMarks,
-    field: &Field,
 ) -> Result<Option<View>, AllocError>
-    requires known { IsKnown facts.now known.now }
-    ensures view { IfOk result (λ found. IfSome found (CanTell facts.now known.now.steps field.now state.new.held.forest)) }
-    ensures budget { state.new.budget ≡ state.old.budget }
+    ensures { OnOk result (KeepsForest facts.now held.new.forest) }
 {
-    let Some(told) = state.chooser.lay_look(&mut state.search, &bad.unfit)? else {
+    let alloc = known.alloc();
+    let told = chooser.lay_look(search, &bad.unfit)?;
+    hold(held, alloc, facts, &search.forest)?;
+    let Some(told) = told else {
         return Ok(None);
     };
-    let alloc = known.alloc();
-    hold(&mut state.held, alloc, facts, &state.search.forest)?;
-    let forest = &state.held.forest;
-    if !is_known(facts, known, forest) {
-        return Ok(None);
-    }
-    if !are_of_field(field, &told.feet) {
-        return Ok(None);
-    }
-    if !are_feet(alloc, forest, &told.feet)? {
-        return Ok(None);
-    }
     let reads = Looks::new(alloc, &facts.shape())?;
     Ok(Some(View { told, reads }))
+}
+
+// Whether there is room for what each pin of a machine reads.
+fn has_room(reads: &Looks, shape: &Shape) -> bool
+    ensures { IsTrue result → reads.now.pins ≡ pins_of shape.now }
+{
+    reads.pins() == shape.pins()
+}
+
+// Whether a look may be made.
+fn may_tell(
+    view: &View,
+    forest: &Forest,
+    facts: &Facts,
+    known: &Known,
+    field: &Field,
+) -> Result<bool, AllocError>
+    requires known { IsKnown facts.now known.now }
+    requires forest { KeepsForest facts.now forest.now }
+    ensures { IfOk result (λ yes. IsTrue yes → CanTell facts.now known.now.steps field.now forest.now view.now) }
+{
+    let alloc = known.alloc();
+    if !is_known(facts, known, forest) {
+        return Ok(false);
+    }
+    if !are_of_field(field, &view.told.feet) {
+        return Ok(false);
+    }
+    if !has_room(&view.reads, &facts.shape()) {
+        return Ok(false);
+    }
+    if !are_feet(alloc, forest, &view.told.feet)? {
+        return Ok(false);
+    }
+    Ok(true)
 }
 
 // True where there was memory for what a look tells.
@@ -141,12 +167,25 @@ fn tell_turn(
     if state.aim == Aim::Rest && state.budget.is_low(rig, facts, 0) {
         return Ok(false);
     }
-    let Ok(found) = next_view(state, facts, known, bad, field) else {
+    let Ok(found) = next_view(
+        &mut state.chooser,
+        &mut state.search,
+        &mut state.held,
+        facts,
+        known,
+        bad,
+    ) else {
         return Err(RigFail::Memory);
     };
     let Some(mut view) = found else {
         return Ok(false);
     };
+    let Ok(fit) = may_tell(&view, &state.held.forest, facts, known, field) else {
+        return Err(RigFail::Memory);
+    };
+    if !fit {
+        return Ok(false);
+    }
     let feet = view.told.feet.as_slice();
     facts.screen_wires(
         rig,

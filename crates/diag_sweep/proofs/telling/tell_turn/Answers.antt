@@ -1,7 +1,5 @@
 use Rattle.std.proofs.Common.{refl}
 use Rattle.diag_known.proofs.Later.{all_still}
-use Rattle.diag_sweep.specs.Views.{CanTell}
-use Rattle.diag_sweep.proofs.Footed.{of_some}
 use Rattle.diag_sweep.proofs.Going.{goes_itself, goes_whole, set_of}
 use Rattle.diag_sweep.proofs.HungOn.{hang_goes, is_step, step_has}
 use Rattle.diag_sweep.proofs.Viewing.{told_unclear, told_unfit}
@@ -9,7 +7,7 @@ use Rattle.diag_sweep.proofs.telling.tell_turn.Goals as goal
 
 pub returns-clause-goes : goal.returns-clause-goes
 returns-clause-goes g c =
-    let can = of_some (CanTell c.args.facts.now c.args.known.now.steps c.args.field.now c.next_view.new.state.held.forest) c.in-Ok.found c.in-Some.view c.in-Some.is c.in-Ok.ensures.view in
+    let can = c.in-Ok-may_tell.ensures c.if-not-fit.false in
     let test = c.screen_wires.ensures in
     let of = rw (← c.as_slice-feet.ensures.value) at can.field in
     goes_whole (all_still c.args.facts.now c.screen_wires.new.self (set_of test.same) c.requires.hand.all)
@@ -21,7 +19,7 @@ returns-clause-goes g c =
 
 pub returns-in_err-screen_wires-clause-goes : goal.returns-in_err-screen_wires-clause-goes
 returns-in_err-screen_wires-clause-goes g c =
-    let can = of_some (CanTell c.args.facts.now c.args.known.now.steps c.args.field.now c.next_view.new.state.held.forest) c.in-Ok.found c.in-Some.view c.in-Some.is c.in-Ok.ensures.view in
+    let can = c.in-Ok-may_tell.ensures c.if-not-fit.false in
     let test = c.screen_wires.ensures in
     let of = rw (← c.as_slice-feet.ensures.value) at can.field in
     goes_whole (all_still c.args.facts.now c.screen_wires.new.self (set_of test.same) c.requires.hand.all)
