@@ -1,5 +1,5 @@
 //! Wires that are known: each is a pin of the machine, or stands on two feet, kept crosspoints to two different known wires
-//! that came before it; and all are of the set of the facts, so that each two of them are kept apart.
+//! that came before it; and each two of them are kept apart.
 //!
 //! So any two known wires have routes from two pins without a common wire: the one that came later steps down to a foot at
 //! which the other doesn't stand, until two pins are reached. Which of some wires are known by kept crosspoints alone, over
@@ -7,7 +7,7 @@
 //!
 //! Promised: what is known is so at every moment (`known`), and any two known wires have routes from two pins over known wires
 //! and kept crosspoints, without a common wire, no wire twice on either (`Known::routes`). `standing` makes no load: of wires
-//! that are kept and of the set it answers those that stand by kept crosspoints alone. A `Field` is the wires that may become
+//! that are kept and kept apart it answers those that stand by kept crosspoints alone. A `Field` is the wires that may become
 //! known and the crosspoints that are looked at.
 //!
 //! What is reached from known wires: the tests of crosspoints between two of them, and from these to one wire more.

@@ -195,7 +195,7 @@ pub fn stand_on(
 }
 
 /// Those of some wires that stand by kept crosspoints alone: the pins of the machine, and each with two such crosspoints to
-/// different ones that stand. The wires are kept, and of the set of the facts. Wants memory, and makes no load.
+/// different ones that stand. The wires are kept, and each two of them kept apart. Wants memory, and makes no load.
 pub fn standing(alloc: Global, facts: &Facts, wires: BitSet) -> Result<Known, AllocError>
     requires apart { AreApart facts.now wires }
     ensures known { IfOk result (IsKnown facts.now) }
