@@ -32,3 +32,6 @@ returns-clause-advances g c = advances_then c.in_ok-found.ensures.advances c.in_
 
 pub returns-in_default-clause-unserved : goal.returns-in_default-clause-unserved
 returns-in_default-clause-unserved g c = λ within is. rw c.in_default.is at (c.in_ok-found.ensures.none c.requires.node within)
+
+pub returns-in_err-tested-clause-advances : goal.returns-in_err-tested-clause-advances
+returns-in_err-tested-clause-advances g c = advances_then c.in_ok-found.ensures.advances c.in_err-tested.ensures.advances
