@@ -4,3 +4,5 @@ pub mod Promising
 -- For the proofs of this crate alone.
 mod CheckLaws
 mod Following
+mod Counting
+mod Settling

@@ -1,9 +1,9 @@
 -- An image is tested on the machine that is attached, as a step.
-use Rattle.std.specs.Prelude.{ℕ, Bool, IsTrue}
+use Rattle.std.specs.Prelude.{ℕ, ◌+◌, ◌*◌, ◌<◌, Bool, IsTrue, List, length}
 use Rattle.machine_meaning.specs.Faults.{Faults}
-use Rattle.machine_image.specs.Images.{ImageValue}
+use Rattle.machine_image.specs.Vocabulary.{ImageValue, Part}
 use Rattle.rig.specs.Rig.{RigState, Explains}
-use Rattle.diag_check.specs.Soundly.{IsUnharmed, IsSoundUnder, StandsBySurroundings, TakesForParts, TakesForWays}
+use Rattle.diag_check.specs.Soundly.{AreAllOf, IsUnharmed, IsSoundUnder, StandsBySurroundings, TakesForParts, TakesForWays}
 use Rattle.cmd_steps.specs.Vocabulary.{Step, FailsOnRig}
 
 -- what a test found, and how many loads the rig counted then
@@ -31,3 +31,8 @@ tests_now i old new = record {
   stops = λ refusal. FailsOnRig refusal × TakesForWays i old.loads new.loads;
   gives = λ sound. IsTried i old.loads new (record { sound = sound; loads = new.loads });
 }
+
+-- A test that was begun when the rig counted so many loads has one left, when it counts so many: it took fewer than 256 for each part of
+-- the image
+pub record HasTestLeft (i : ImageValue) (before now : ℕ) : Type 0 where
+  pub few : (parts : List Part) (nodes : List ℕ) → AreAllOf i parts nodes → now < before + 256 * length parts

@@ -1,36 +1,19 @@
 //! The command that tells whether an image still runs on a machine of the rig.
 ghost use Rattle.std.specs.Prelude.{◌≡◌, ℕ, List, [], Some};
-ghost use Rattle.cmd_steps.specs.Vocabulary.{StoreState, SinkState, RigState, shape_of, outside, StandsIn, Does, IsLawful, Follows, Took};
-ghost use Rattle.cmd_check.specs.Testing.{tests_now};
+ghost use Rattle.cmd_steps.specs.Vocabulary.{StoreState, RigState, shape_of, outside, StandsIn, Does, IsLawful, Follows};
 ghost use Rattle.cmd_check.specs.Check.{check_job, image_looked_at, image_tested};
 
 use crate::answer::line_of;
 use crate::answering::answer_of;
+use crate::testing::test_settled;
 use base_io::{Sink, Store};
 use cmd_steps::{Stop, attach, read_image_file, read_shape, write};
-use diag_check::quick_check;
-use diag_list::list_of;
+use diag_settled::list_settled;
 use machine_defects::Defects;
 use machine_image::Image;
 use machine_shape::Shape;
 use rig::Rig;
 use std::alloc::Global;
-
-// Tests an image on the machine that is attached.
-fn test(alloc: Global, shape: &Shape, image: &Image, rig: &mut Box<dyn Rig>) -> Result<bool, Stop>
-    requires attached { shape_of (rig_state rig.old) ≡ Some shape.now }
-    requires image { image.now.config.shape ≡ shape.now }
-
-    ensures machine { (rig_state rig.new).machine ≡ (rig_state rig.old).machine }
-    // Whatever the store and the sink are.
-    ensures took { (store : StoreState) (sink : SinkState) → Took [] (tests_now image.now (rig_state rig.old) (rig_state rig.new)) result
-        (outside store (rig_state rig.old) sink) (outside store (rig_state rig.new) sink) }
-{
-    match quick_check(alloc, rig, shape, image) {
-        Ok(sound) => Ok(sound),
-        Err(fail) => Err(Stop::from(fail)),
-    }
-}
 
 // Looks what a list says of an image, and writes it.
 fn look_and_write<K: Sink>(
@@ -69,11 +52,11 @@ fn judge<K: Sink>(
         (image_tested files begun store (rig_state rig.new) (rig_state rig.old).loads image.now) result
         (outside store (rig_state rig.old) (K.sink_state sink.old)) (outside store (rig_state rig.new) (K.sink_state sink.new)) }
 {
-    let sound = test(alloc, shape, image, rig)?;
+    let sound = test_settled(alloc, shape, image, rig)?;
     if sound {
         return write(sink, b"sound\n");
     }
-    let list = list_of(alloc, shape, rig)?;
+    let list = list_settled(alloc, shape, rig)?;
     look_and_write(alloc, image, &list, sink)
 }
 

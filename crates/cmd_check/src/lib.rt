@@ -8,6 +8,7 @@
 mod answer;
 mod answering;
 mod command;
+mod testing;
 
 pub use answer::Answer;
 pub use command::check;

@@ -5,7 +5,7 @@ ghost use Rattle.cmd_diagnose.specs.Diagnose.{diagnose_job};
 
 use base_io::{Sink, Store};
 use cmd_steps::{Stop, attach, read_shape};
-use diag_list::write_list;
+use diag_settled::write_settled;
 use rig::Rig;
 use std::alloc::Global;
 
@@ -24,7 +24,7 @@ fn work<S: Store, K: Sink>(
 {
     let shape = read_shape(alloc, store, machine)?;
     attach(rig, &shape, name)?;
-    write_list(alloc, &shape, rig, sink)?;
+    write_settled(alloc, &shape, rig, sink)?;
     Ok(())
 }
 

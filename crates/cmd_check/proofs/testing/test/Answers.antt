@@ -2,7 +2,7 @@ use Rattle.std.proofs.Common.{refl}
 use Rattle.cmd_steps.proofs.Making.{rig-took}
 use Rattle.cmd_steps.proofs.RigFails.{rig-fails}
 use Rattle.cmd_check.proofs.Following.{fewer-under, sound-under, ways-under, whole-under}
-use Rattle.cmd_check.proofs.command.test.Goals as goal
+use Rattle.cmd_check.proofs.testing.test.Goals as goal
 
 pub returns-in-Ok-clause-took : goal.returns-in-Ok-clause-took
 returns-in-Ok-clause-took g c =

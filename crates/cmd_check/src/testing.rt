@@ -1,0 +1,67 @@
+//! Tests of an image, of which the last has ended too.
+ghost use Rattle.std.specs.Prelude.{◌≡◌, [], Some, IfOk, IsTrue};
+ghost use Rattle.cmd_steps.specs.Vocabulary.{StoreState, SinkState, shape_of, outside, Took};
+ghost use Rattle.cmd_check.specs.Testing.{HasTestLeft, tests_now};
+
+use cmd_steps::Stop;
+use diag_check::{quick_check, used_wires};
+use diag_settled::settle;
+use machine_image::Image;
+use machine_shape::Shape;
+use rig::Rig;
+use std::alloc::{AllocError, Global};
+
+// Tests an image on the machine that is attached.
+fn test(alloc: Global, shape: &Shape, image: &Image, rig: &mut Box<dyn Rig>) -> Result<bool, Stop>
+    requires attached { shape_of (rig_state rig.old) ≡ Some shape.now }
+    requires image { image.now.config.shape ≡ shape.now }
+
+    ensures machine { (rig_state rig.new).machine ≡ (rig_state rig.old).machine }
+    // Whatever the store and the sink are.
+    ensures took { (store : StoreState) (sink : SinkState) → Took [] (tests_now image.now (rig_state rig.old) (rig_state rig.new)) result
+        (outside store (rig_state rig.old) sink) (outside store (rig_state rig.new) sink) }
+{
+    match quick_check(alloc, rig, shape, image) {
+        Ok(sound) => Ok(sound),
+        Err(fail) => Err(Stop::from(fail)),
+    }
+}
+
+// Whether a test has a load left that it may take, where it was begun at so many.
+fn has_test_left(alloc: Global, image: &Image, before: u64, now: u64) -> Result<bool, AllocError>
+    ensures { IfOk result (λ yes. IsTrue yes → HasTestLeft image.now before now) }
+{
+    let used = used_wires(alloc, image)?;
+    Ok(now.saturating_sub(before) < 256 * u64::from(used.count()))
+}
+
+// The same, and loads nothing behind the last of what it did, where it found the image sound. The load is left out where the test took as
+// many as it may.
+pub(crate) fn test_settled(
+    alloc: Global,
+    shape: &Shape,
+    image: &Image,
+    rig: &mut Box<dyn Rig>,
+) -> Result<bool, Stop>
+    requires attached { shape_of (rig_state rig.old) ≡ Some shape.now }
+    requires image { image.now.config.shape ≡ shape.now }
+
+    ensures machine { (rig_state rig.new).machine ≡ (rig_state rig.old).machine }
+    // Whatever the store and the sink are.
+    ensures took { (store : StoreState) (sink : SinkState) → Took [] (tests_now image.now (rig_state rig.old) (rig_state rig.new)) result
+        (outside store (rig_state rig.old) sink) (outside store (rig_state rig.new) sink) }
+{
+    let before = rig.loads();
+    let sound = test(alloc, shape, image, rig)?;
+    if !sound {
+        return Ok(sound);
+    }
+    let now = rig.loads();
+    if !has_test_left(alloc, image, before, now)? {
+        return Ok(sound);
+    }
+    match settle(alloc, shape, rig) {
+        Ok(()) => Ok(sound),
+        Err(fail) => Err(Stop::from(fail)),
+    }
+}

@@ -1,0 +1,2 @@
+-- What is cited above.
+pub mod Settling

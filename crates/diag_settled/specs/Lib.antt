@@ -1,0 +1,2 @@
+-- Lists of which the last test has ended too.
+pub mod Settled

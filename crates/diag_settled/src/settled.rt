@@ -1,0 +1,104 @@
+//! A load of nothing behind the last test.
+ghost use Rattle.std.specs.Prelude.{◌≡◌, [], Some, IsErrOf, IsTrue};
+ghost use Rattle.base_io.specs.Counts.{Rose};
+ghost use Rattle.cmd_steps.specs.Vocabulary.{StoreState, SinkState, shape_of, outside, Took};
+ghost use Rattle.diag_evidence.specs.Kept.{TakesFewCycles};
+ghost use Rattle.diag_list.specs.Possible.{TakesFewLoadsOn};
+ghost use Rattle.diag_list.specs.Lists.{lists_now, WritesList};
+ghost use Rattle.diag_settled.specs.Settled.{HasLoadLeft, Settles};
+
+use base_io::Sink;
+use cmd_steps::{Stop, write};
+use diag_list::list_of;
+use machine_config::Config;
+use machine_defects::{Defects, defects_text};
+use machine_shape::Shape;
+use rig::{Rig, RigFail, load};
+use std::alloc::Global;
+
+/// Loads nothing: no crosspoint is closed and no table is on. So the session before has ended, as each one that was followed by
+/// another.
+///
+/// # Errors
+///
+/// `Failed` where the load failed, `Memory` where memory was lacking.
+pub fn settle(alloc: Global, shape: &Shape, rig: &mut Box<dyn Rig>) -> Result<(), RigFail>
+    requires { shape_of (rig_state rig.old) ≡ Some shape.now }
+
+    ensures settles { Settles (rig_state rig.old) (rig_state rig.new) }
+    ensures cause { IsErrOf result RigFail.Failed → Rose (rig_state rig.old).failures (rig_state rig.new).failures }
+{
+    let Ok(config) = Config::with_room(alloc, *shape, 0) else {
+        return Err(RigFail::Memory);
+    };
+    match load(rig, &config, 0) {
+        Ok(()) => Ok(()),
+        Err(fail) => Err(fail),
+    }
+}
+
+// Whether a list has a load left that it may take, where it was begun at so many.
+fn has_load_left(shape: &Shape, before: u64, now: u64) -> bool
+    ensures { IsTrue result → HasLoadLeft shape.now before now }
+{
+    let crosses = u64::from(shape.crosses());
+    let wires = u64::from(shape.wires());
+    let tables = u64::from(shape.tables());
+    let taken = now.saturating_sub(before);
+    taken < 16 * crosses + (20 * wires + 130 * tables)
+        && taken != 2 * crosses + (3 * wires + 130 * tables)
+}
+
+/// Lists the defects of the machine that is attached, and loads nothing behind the last test. Whatever it answers, it took few loads,
+/// this one among them, and few cycles for each. The load is left out where the list took as many as it may.
+///
+/// # Errors
+///
+/// The rig's fault, or out of memory.
+pub fn list_settled(alloc: Global, shape: &Shape, rig: &mut Box<dyn Rig>) -> Result<Defects, Stop>
+    requires { shape_of (rig_state rig.old) ≡ Some shape.now }
+
+    ensures machine { (rig_state rig.new).machine ≡ (rig_state rig.old).machine }
+    ensures loads { TakesFewLoadsOn (rig_state rig.new) shape.now (rig_state rig.old).loads (rig_state rig.new).loads }
+    ensures cycles { TakesFewCycles (rig_state rig.old) (rig_state rig.new) }
+    // Whatever the store and the sink are.
+    ensures took { (store : StoreState) (sink : SinkState) → Took [] (lists_now shape.now (rig_state rig.old) (rig_state rig.new)) result
+        (outside store (rig_state rig.old) sink) (outside store (rig_state rig.new) sink) }
+{
+    let before = rig.loads();
+    let list = list_of(alloc, shape, rig)?;
+    let now = rig.loads();
+    if !has_load_left(shape, before, now) {
+        return Ok(list);
+    }
+    match settle(alloc, shape, rig) {
+        Ok(()) => Ok(list),
+        Err(fail) => Err(Stop::from(fail)),
+    }
+}
+
+/// Lists the defects of the machine that is attached, loads nothing behind the last test, and writes the list. Wherever it ends, it took
+/// few cycles for each load.
+///
+/// # Errors
+///
+/// The rig's fault, lack of memory, or the sink's fault.
+pub fn write_settled<K: Sink>(
+    alloc: Global,
+    shape: &Shape,
+    rig: &mut Box<dyn Rig>,
+    sink: &mut K,
+) -> Result<Defects, Stop>
+    requires { shape_of (rig_state rig.old) ≡ Some shape.now }
+
+    ensures machine { (rig_state rig.new).machine ≡ (rig_state rig.old).machine }
+    ensures cycles { TakesFewCycles (rig_state rig.old) (rig_state rig.new) }
+    // Whatever the store is.
+    ensures written { (store : StoreState) → WritesList shape.now result
+        (outside store (rig_state rig.old) (K.sink_state sink.old)) (outside store (rig_state rig.new) (K.sink_state sink.new)) }
+{
+    let list = list_settled(alloc, shape, rig)?;
+    let text = defects_text(alloc, &list)?;
+    write(sink, &text)?;
+    Ok(list)
+}
