@@ -16,7 +16,7 @@ from pathlib import Path
 
 HERE = Path(__file__).resolve().parent
 REFUSED = 4  # the program's status
-SECONDS = 600  # without the relay a lost line's end is a wait without end
+SECONDS = 120  # without the relay a lost line's end is a wait without end
 
 
 def diagnose(given, folder, rate, seed):
