@@ -1,8 +1,8 @@
 -- What was read before a reply.
-use Rattle.std.proofs.Common.{◌≡◌, ◌⊎◌, inl, inr, ℕ, ◌+◌, ◌-◌, ◌^◌, ◌≤◌, min, Bool, true, false, List, [], ◌++◌, length, get_or, Option, None, Some, refl, sym, ap, ◌∙◌, arith, subst, Result, Ok, Err, IfOk}
+use Rattle.std.proofs.Common.{◌≡◌, ◌⊎◌, inl, inr, ℕ, ◌+◌, ◌-◌, ◌^◌, ◌≤◌, min, Bool, true, false, List, [], ◌++◌, length, Option, None, Some, refl, sym, ap, ◌∙◌, arith, subst, Result, Ok, Err, IfOk}
 use Rattle.std.proofs.lemmas.List.{append_assoc, length-append}
 use Rattle.std.specs.Io.KnownBytes.{Consumes}
-use Rattle.rig_port.specs.FilePorts.{HasHeard}
+use Rattle.rig_port.specs.FilePorts.{AsksWhatItIs, HasHeard}
 
 -- so far these bytes were read and dropped
 pub record HasDropped (was_cut is_cut : Bool) (request : List ℕ) (old new : Option (List ℕ)) (count : ℕ) : Type 0 where
@@ -10,7 +10,7 @@ pub record HasDropped (was_cut is_cut : Bool) (request : List ℕ) (old new : Op
   pub read : Consumes old new dropped
   pub many : length dropped ≤ count
   pub few : count ≤ 1048576
-  pub why : ((dropped ≡ []) × (is_cut ≡ was_cut)) ⊎ ((was_cut ≡ true) ⊎ (get_or request 0 0 ≡ 97))
+  pub why : ((dropped ≡ []) × (is_cut ≡ was_cut)) ⊎ ((was_cut ≡ true) ⊎ AsksWhatItIs request)
 
 consumed_more : (a b c : Option (List ℕ)) (xs ys : List ℕ) → Consumes a b xs → Consumes b c ys → Consumes a c (xs ++ ys)
 consumed_more None b c xs ys p q = tt
@@ -26,14 +26,14 @@ pub nothing_dropped : (was_cut : Bool) (request : List ℕ) (known : Option (Lis
 nothing_dropped was_cut request known = record { dropped = []; read = consumed_none known; many = omega arith; few = omega arith; why = inl (refl, refl) }
 
 -- a line that begins isn't the first one that began unless something was dropped for a reason
-why_more : (was_cut is_cut : Bool) (request dropped : List ℕ) → ((dropped ≡ []) × (is_cut ≡ was_cut)) ⊎ ((was_cut ≡ true) ⊎ (get_or request 0 0 ≡ 97))
-    → (is_cut ≡ true) ⊎ (get_or request 0 0 ≡ 97) → (was_cut ≡ true) ⊎ (get_or request 0 0 ≡ 97)
+why_more : (was_cut is_cut : Bool) (request dropped : List ℕ) → ((dropped ≡ []) × (is_cut ≡ was_cut)) ⊎ ((was_cut ≡ true) ⊎ AsksWhatItIs request)
+    → (is_cut ≡ true) ⊎ AsksWhatItIs request → (was_cut ≡ true) ⊎ AsksWhatItIs request
 why_more was_cut is_cut request dropped (inr w) r = w
 why_more was_cut is_cut request dropped (inl s) (inl cut) = inl (sym s.1 ∙ cut)
 why_more was_cut is_cut request dropped (inl s) (inr asks) = inr asks
 
 pub dropped_more : (was_cut is_cut cut_now : Bool) (request : List ℕ) (a b c : Option (List ℕ)) (count total : ℕ) (piece : List ℕ) (more : ℕ) → HasDropped was_cut is_cut request a b count → Consumes b c piece
-    → length piece ≤ more → total ≡ min (count + more) (2 ^ 64 - 1) → total ≤ 1048576 → (is_cut ≡ true) ⊎ (get_or request 0 0 ≡ 97) → HasDropped was_cut cut_now request a c total
+    → length piece ≤ more → total ≡ min (count + more) (2 ^ 64 - 1) → total ≤ 1048576 → (is_cut ≡ true) ⊎ AsksWhatItIs request → HasDropped was_cut cut_now request a c total
 dropped_more was_cut is_cut cut_now request a b c count total piece more d q short sum small reason = record {
   dropped = d.dropped ++ piece;
   read = consumed_more a b c d.dropped piece d.read q;
@@ -50,7 +50,7 @@ heard was_cut is_cut request a b c count line d q = record {
   few = omega (arith, d.many, d.few);
   why = why_of d.why;
 } where
-  why_of : ((d.dropped ≡ []) × (is_cut ≡ was_cut)) ⊎ ((was_cut ≡ true) ⊎ (get_or request 0 0 ≡ 97)) → (d.dropped ≡ []) ⊎ ((was_cut ≡ true) ⊎ (get_or request 0 0 ≡ 97))
+  why_of : ((d.dropped ≡ []) × (is_cut ≡ was_cut)) ⊎ ((was_cut ≡ true) ⊎ AsksWhatItIs request) → (d.dropped ≡ []) ⊎ ((was_cut ≡ true) ⊎ AsksWhatItIs request)
   why_of (inl s) = inl s.0
   why_of (inr w) = inr w
 

@@ -1,7 +1,7 @@
 -- What is kept of a machine goes with it.
 use Rattle.std.proofs.Common.{◌≡◌, ℕ, suc, zero, ◌+◌, ◌-◌, ◌≤◌, Bool, true, false, List, [], ◌∷◌, ◌++◌, map, take, drop, length, get_or, All, Option, None, Some, refl, sym, ap, ◌∙◌, arith, subst, IfSome, IsSome, Result, Ok, Err, OnOk}
 use Rattle.std.proofs.lemmas.Bool.{false≢true}
-use Rattle.std.proofs.lemmas.List.{append-nil, append_assoc, map-append, length-map, length-drop, length-take-le, take-append-drop}
+use Rattle.std.proofs.lemmas.List.{append-nil, append_assoc, map-append, length-map, length-drop, length-take, length-take-le, take_all, take-append-drop}
 use Rattle.std.proofs.lemmas.List.Elements.{All-append}
 use Rattle.std.proofs.lemmas.Slice.{take-put_mid}
 use Rattle.std.proofs.lemmas.List.Sums.{fold-append}
@@ -189,3 +189,18 @@ seam now old len same is = ap (λ n. take n (now ++ drop (length now) old)) (is 
 pub any_ok : {T E : Type 0} (r : Result T E) (P : Type 0) → P → OnOk r P
 any_ok (Ok x) P p = p
 any_ok (Err x) P p = tt
+
+-- all rows to the end were turned
+pub whole_turned : (drives reads : List Pins) (set : Configuration) (at : ℕ) (due due_now : Bool) (old new : Option Device) → length drives ≤ at → length reads ≤ at
+    → HasTurned (take at drives) (take at reads) due set old due_now new → HasTurned drives reads due set old due_now new
+whole_turned drives reads set at due due_now old new over over_too t =
+    subst (λ ds. HasTurned ds reads due set old due_now new) (take_all at drives over) (subst (λ rs. HasTurned (take at drives) rs due set old due_now new) (take_all at reads over_too) t)
+
+-- pieces at one place of rows that are as many
+pub same_piece : (xs ys : List Pins) (at k : ℕ) → length xs ≡ length ys → length (take k (drop at xs)) ≡ length (take k (drop at ys))
+same_piece xs ys at k same =
+    let a = length-take k (drop at xs) in
+    let b = length-take k (drop at ys) in
+    let c = length-drop at xs in
+    let d = length-drop at ys in
+    omega (arith, a, b, c, d, same)

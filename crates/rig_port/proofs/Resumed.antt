@@ -1,5 +1,5 @@
 -- A session that was made again is the one that was.
-use Rattle.std.proofs.Common.{◌≡◌, ℕ, suc, zero, ◌+◌, ◌≤◌, ◌<◌, Bool, true, false, List, [], ◌∷◌, ◌++◌, map, length, take, drop, set, All, Option, None, Some, refl, sym, ap, ◌∙◌, arith, subst, IfSome, IsSome, is_some, option_map, Result, Ok, Err, OnOk, OnErr, ◌⊎◌, inl, inr, ◌^◌, ◌-◌, min}
+use Rattle.std.proofs.Common.{◌≡◌, get_or, ℕ, suc, zero, ◌+◌, ◌≤◌, ◌<◌, Bool, true, false, List, [], ◌∷◌, ◌++◌, map, length, take, drop, set, All, Option, None, Some, refl, sym, ap, ◌∙◌, arith, subst, IfSome, IsSome, is_some, option_map, Result, Ok, Err, OnOk, OnErr, ◌⊎◌, inl, inr, ◌^◌, ◌-◌, min}
 use Rattle.std.proofs.Math.Bool.{beq}
 use lib.Pointwise.{pointwise}
 use Rattle.std.proofs.lemmas.Bool.{false≢true}
@@ -17,7 +17,9 @@ use Rattle.rig_board.specs.Device.{Device, IsInSession, HasRunSession, GoesOnWit
 use Rattle.rig_board.proofs.Driven.{same_pairs}
 use Rattle.rig_port.specs.declared.again.Again.{Again}
 use Rattle.rig_port.specs.declared.link.Link.{Link}
-use Rattle.rig_port.specs.Requests.{edited, IsEditOf, edits_text}
+use Rattle.rig_port.specs.Requests.{edited, IsEditOf, AreWide, edits_text}
+use Rattle.rig_port.specs.Turns.{CanTurn}
+use Rattle.std.specs.Option.{option_map_or}
 use Rattle.std.specs.Prelude.{vec_len}
 use Rattle.std.specs.Vec.{vec_capacity}
 use Rattle.rig_port.specs.Lines.{AreCounts, turn_room}
@@ -331,6 +333,46 @@ pub held_here : {l : Link} {o : Option Link} (port : PortState) (found : Option 
 held_here {l} port found again there up =
     let both : IsHeld port found l × CanResume port.device l again = subst (λ (x : Option Link). IsUp port found x again) (sym there) up in
     both.0
+
+-- a board in session can make cycles
+pub ready_here : {o : Option Link} (port : PortState) (found : Option Shape) (again : Again) (l : Link) (drives : List Pins) → Some l ≡ o → IsUp port found o again
+    → option_map_or (λ (l : Link). l.running) o false ≡ true → AreWide l.set.config.shape drives → CanTurn port l drives
+ready_here port found again l drives there up session wide =
+    let h = held_here port found again there up in
+    let runs : l.running ≡ true = ap (λ (o : Option Link). option_map_or (λ (l : Link). l.running) o false) there ∙ session in
+    record {
+      is_open = h.is_open;
+      linked = h.linked (not_lost l.lost refl h runs);
+      running = runs;
+      wide = wide;
+      check = h.check;
+      room = h.room;
+    } where
+  not_lost : (b : Bool) → l.lost ≡ b → IsHeld port found l → l.running ≡ true → l.lost ≡ false
+  not_lost false is h runs = is
+  not_lost true is h runs = absurd (false≢true (sym (h.running is) ∙ runs))
+
+-- rows as wide as what was found are as wide as what is linked
+pub wide_here : {o : Option Link} (port : PortState) (found : Option Shape) (again : Again) (l : Link) (rows : List Pins) → Some l ≡ o → IsUp port found o again
+    → All (λ (row : Pins). option_map pins_of found ≡ Some (length row)) rows → AreWide l.set.config.shape rows
+wide_here port found again l rows there up wide =
+    let h = held_here port found again there up in
+    λ k d lt.
+      let one : Some (pins_of l.set.config.shape) ≡ Some (length (get_or rows k d)) = sym (ap (option_map pins_of) h.shape) ∙ wide k d lt in
+      number_of (length (get_or rows k d)) one where
+  number_or : Option ℕ → ℕ
+  number_or None = 0
+  number_or (Some n) = n
+
+  number_of : (n : ℕ) → Some (pins_of l.set.config.shape) ≡ Some n → n ≡ pins_of l.set.config.shape
+  number_of n e = sym (ap number_or e)
+
+-- of one row alone
+pub one_row : {found : Option ℕ} (rows : List Pins) (row : Pins) → rows ≡ row ∷ [] → found ≡ Some (length row) → All (λ (r : Pins). found ≡ Some (length r)) rows
+one_row {found} rows row is wide = subst (All (λ (r : Pins). found ≡ Some (length r))) (sym is) (only (λ (r : Pins). found ≡ Some (length r)) wide) where
+  only : (P : Pins → Type 0) → P row → All P (row ∷ [])
+  only P p zero d lt = p
+  only P p (suc k) d lt = absurd (omega (arith, lt))
 
 -- a load was posted, or wasn't, since memory was lacking
 pub posted_held : {T E : Type 0} (r : Result T E) (port : PortState) (found : Option Shape) (old new : Link) (config : Configuration) → IsHeld port found old

@@ -1,5 +1,5 @@
 -- Files of the system as a port.
-use Rattle.std.specs.Prelude.{◌≡◌, ◌≢◌, ◌⊎◌, ℕ, ◌-◌, ◌^◌, ◌≤◌, Bool, true, List, [], ◌∷◌, ◌++◌, get_or, min, length, All, Option, None, IfSome, IsNone, MatchOption}
+use Rattle.std.specs.Prelude.{◌≡◌, ◌≢◌, ◌⊎◌, ℕ, ◌-◌, ◌^◌, ◌≤◌, Bool, true, List, [], ◌∷◌, ◌++◌, get_or, codes, min, length, All, Option, None, IfSome, IsNone, MatchOption}
 use Rattle.std.specs.Io.KnownBytes.{Appends, Consumes, prepend_known}
 use Rattle.rig_port.specs.Checks.{fresh_check}
 use Rattle.rig_port.specs.Ports.{PortState}
@@ -19,10 +19,22 @@ pub record IsLine (bytes : List ℕ) : Type 0 where
   pub bytes_are : bytes ≡ front ++ 10 ∷ []
   pub one : All (λ byte. byte ≢ 10) front
 
+-- it begins with the first of these bytes
+abbrev pub BeginsAs : List ℕ → List ℕ → Type 0
+BeginsAs words bytes = get_or bytes 0 0 ≡ get_or words 0 0
+
+-- of the requests that alone begins so which asks what a machine is
+abbrev pub AsksWhatItIs : List ℕ → Type 0
+AsksWhatItIs request = BeginsAs (codes "a") request
+
+-- so the other end says that it doesn't do what was asked
+abbrev pub IsRefusal : List ℕ → Type 0
+IsRefusal line = BeginsAs (codes "!") line
+
 -- a line that is no refusal
 pub record IsReply (bytes : List ℕ) : Type 0 where
   pub line : IsLine bytes
-  pub taken : get_or bytes 0 0 ≢ 33
+  pub taken : IsRefusal bytes → ⊥
 
 -- of what was ahead some bytes were dropped, and then came this line: none were, unless the end of a line that was too long was still to
 -- come, or it was asked what a machine is
@@ -30,7 +42,7 @@ pub record HasHeard (was_cut : Bool) (request : List ℕ) (old new : Option (Lis
   pub dropped : List ℕ
   pub read : Consumes old new (dropped ++ line)
   pub few : length dropped ≤ 1048576
-  pub why : (dropped ≡ []) ⊎ ((was_cut ≡ true) ⊎ (get_or request 0 0 ≡ 97))
+  pub why : (dropped ≡ []) ⊎ ((was_cut ≡ true) ⊎ AsksWhatItIs request)
 
 -- the request now stands behind what the one file held, and the line was ahead in the other
 pub record HasTalkedByTwo {F : Type 0} (contents left : F → Option (List ℕ)) (to from : F) (waiting : List ℕ) (was_cut : Bool) (to_now from_now : F)

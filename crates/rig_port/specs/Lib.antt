@@ -11,3 +11,4 @@ pub mod Replays
 pub mod Requests
 pub mod RigPorts
 pub mod Sessions
+pub mod Turns

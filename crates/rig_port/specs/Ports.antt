@@ -1,5 +1,5 @@
 -- A port: a request is sent, and a line comes back.
-use Rattle.std.specs.Prelude.{◌≡◌, ℕ, Bool, true, Option, IfSome, option_map}
+use Rattle.std.specs.Prelude.{◌≡◌, ℕ, ◌≤◌, Bool, true, Option, IfSome, option_map}
 use Rattle.machine_shape.specs.declared.Shape.{Shape}
 use Rattle.machine_meaning.specs.Faults.{Faults, AreFaultsOf}
 use Rattle.base_io.specs.Counts.{Rose}
@@ -22,6 +22,11 @@ pub record PortState : Type 0 where
 -- what never changes of a told machine
 abbrev pub machine_told : PortState → Option (Shape × Faults)
 machine_told p = option_map (λ d. (d.shape, d.faults)) p.device
+
+-- a later state: a told machine is the same one, and failures don't fall
+pub record IsLater (old new : PortState) : Type 0 where
+  pub machine : machine_told new ≡ machine_told old
+  pub failures : old.failures ≤ new.failures
 
 -- it is open; the counts of a told machine are counts of a machine, and its faults are those of its shape
 pub record Opens (p : PortState) : Type 0 where

@@ -1,5 +1,5 @@
 //! A session is made again where a request of it failed, and goes on.
-ghost use Rattle.std.specs.Prelude.{◌≡◌, ◌⊎◌, ◌++◌, ◌≤◌, ◌<◌, true, false, length, All, IfSome, IsSome, IsTrue, OnOk, Option};
+ghost use Rattle.std.specs.Prelude.{◌≡◌, ◌⊎◌, ◌++◌, ◌≤◌, ◌<◌, true, false, length, IfSome, IsSome, IsTrue, OnOk, Option};
 ghost use Rattle.std.specs.Vec.{vec_capacity};
 ghost use Rattle.machine_shape.specs.Shape.{pins_of};
 ghost use Rattle.base_io.specs.Counts.{Rose};
@@ -7,10 +7,11 @@ ghost use Rattle.rig.specs.Rig.{KeepLengths};
 ghost use Rattle.rig_board.specs.Device.{Device};
 ghost use Rattle.rig_port.specs.Lines.{turn_room};
 ghost use Rattle.rig_port.specs.Requests.{AreWide};
-ghost use Rattle.rig_port.specs.Ports.{machine_told};
-ghost use Rattle.rig_port.specs.Linked.{IsLinked, HasTurned};
+ghost use Rattle.rig_port.specs.Ports.{IsLater};
+ghost use Rattle.rig_port.specs.Linked.{IsLinked};
 ghost use Rattle.rig_port.specs.Boards.{IsKeptUp, HasRoom};
-ghost use Rattle.rig_port.specs.Sessions.{SetsAnew, HasRows, CanResume, HasMade, KeepsSession, StaysLoaded, kept_pairs, paired};
+ghost use Rattle.rig_port.specs.Sessions.{SetsAnew, CanResume, HasMade, StaysLoaded, kept_pairs, paired};
+ghost use Rattle.rig_port.specs.Turns.{CanTurn, AreRowsFor, HasMadeTurns, CanMakeAgain, KeepsRows};
 
 use crate::again::{Again, are_same};
 use crate::link::Link;
@@ -49,24 +50,15 @@ fn redrive<P: Port>(
     readings: &[PinBits],
     spare: &mut [PinBits],
 ) -> bool
-    requires open { (P.port_state port.old).is_open ≡ true }
-    requires linked { IsLinked (P.port_state port.old).device link.old.set.config link.old.line.items link.old.anew link.old.running
-        link.old.due }
-    requires running { link.old.running ≡ true }
-    requires drives { AreWide link.old.set.config.shape drives.now }
-    requires check { IsSome (P.port_state port.old).device → (P.port_state port.old).check ≡ link.old.check }
-    requires spare { All (λ row. length row ≡ pins_of link.old.set.config.shape) spare.old }
-    requires as_many { length drives.now ≡ length spare.old }
+    requires ready { CanTurn (P.port_state port.old) link.old drives.now }
+    requires rows { AreRowsFor link.old.set.config drives.now spare.old }
     requires as_many_read { length readings.now ≡ length drives.now }
-    requires room { HasRoom (pins_of link.old.set.config.shape) link.old }
 
-    ensures machine { machine_told (P.port_state port.new) ≡ machine_told (P.port_state port.old) }
-    ensures later { (P.port_state port.old).failures ≤ (P.port_state port.new).failures }
+    ensures later { IsLater (P.port_state port.old) (P.port_state port.new) }
     ensures lengths { KeepLengths spare.old spare.new }
     ensures stays { StaysLoaded link.old link.new }
-    ensures held { IsTrue result → IsKeptUp (P.port_state port.new) link.old link.new }
-    ensures turned { IsTrue result → HasTurned drives.now readings.now link.old.due link.old.set.config (P.port_state port.old).device
-        link.new.due (P.port_state port.new).device }
+    ensures turned { IsTrue result → HasMadeTurns drives.now readings.now (P.port_state port.old) (P.port_state port.new) link.old
+        link.new }
 {
     if !turn_some(port, link, drives, spare) {
         return false;
@@ -82,24 +74,16 @@ fn redrive_first<P: Port>(
     readings: &[PinBits],
     spare: &mut [PinBits],
 ) -> bool
-    requires open { (P.port_state port.old).is_open ≡ true }
-    requires linked { IsLinked (P.port_state port.old).device link.old.set.config link.old.line.items link.old.anew link.old.running
-        link.old.due }
-    requires running { link.old.running ≡ true }
-    requires drives { AreWide link.old.set.config.shape drives.now }
-    requires check { IsSome (P.port_state port.old).device → (P.port_state port.old).check ≡ link.old.check }
-    requires spare { All (λ row. length row ≡ pins_of link.old.set.config.shape) spare.old }
+    requires ready { CanTurn (P.port_state port.old) link.old drives.now }
+    requires spare { AreWide link.old.set.config.shape spare.old }
     requires as_many { length drives.now ≤ length spare.old }
     requires as_many_read { length readings.now ≡ length drives.now }
-    requires room { HasRoom (pins_of link.old.set.config.shape) link.old }
 
-    ensures machine { machine_told (P.port_state port.new) ≡ machine_told (P.port_state port.old) }
-    ensures later { (P.port_state port.old).failures ≤ (P.port_state port.new).failures }
+    ensures later { IsLater (P.port_state port.old) (P.port_state port.new) }
     ensures lengths { KeepLengths spare.old spare.new }
     ensures stays { StaysLoaded link.old link.new }
-    ensures held { IsTrue result → IsKeptUp (P.port_state port.new) link.old link.new }
-    ensures turned { IsTrue result → HasTurned drives.now readings.now link.old.due link.old.set.config (P.port_state port.old).device
-        link.new.due (P.port_state port.new).device }
+    ensures turned { IsTrue result → HasMadeTurns drives.now readings.now (P.port_state port.old) (P.port_state port.new) link.old
+        link.new }
 {
     let made = drives.len();
     redrive(port, link, drives, readings, &mut spare[..made])
@@ -109,16 +93,11 @@ fn redrive_first<P: Port>(
 // made again. False where one of these requests fails, or other bits are read than before.
 fn resume<P: Port>(port: &mut P, link: &mut Link, again: &mut Again) -> bool
     requires open { (P.port_state port.old).is_open ≡ true }
-    requires told { IfSome (P.port_state port.old).device (λ d. d.shape ≡ link.old.set.config.shape) }
-    requires running { link.old.running ≡ true }
-    requires rows { HasRows (pins_of link.old.set.config.shape) again.old }
-    requires whole { SetsAnew link.old.set.config again.old.whole.items }
+    requires again { CanMakeAgain (P.port_state port.old) link.old again.old }
 
-    ensures machine { machine_told (P.port_state port.new) ≡ machine_told (P.port_state port.old) }
-    ensures later { (P.port_state port.old).failures ≤ (P.port_state port.new).failures }
+    ensures later { IsLater (P.port_state port.old) (P.port_state port.new) }
     ensures stays { StaysLoaded link.old link.new }
-    ensures rows { HasRows (pins_of link.old.set.config.shape) again.new }
-    ensures past { KeepsSession again.old again.new }
+    ensures kept { KeepsRows (pins_of link.old.set.config.shape) again.old again.new }
     ensures held { IsTrue result → IsKeptUp (P.port_state port.new) link.old link.new }
     ensures made { IsTrue result → HasMade link.old.set.config (kept_pairs again.old) link.new.due (P.port_state port.new).device }
 {
@@ -147,20 +126,14 @@ fn turn_again<P: Port>(
     reads: &mut [PinBits],
 ) -> bool
     requires open { (P.port_state port.old).is_open ≡ true }
-    requires told { IfSome (P.port_state port.old).device (λ d. d.shape ≡ link.old.set.config.shape) }
-    requires running { link.old.running ≡ true }
-    requires rows { HasRows (pins_of link.old.set.config.shape) again.old }
-    requires whole { SetsAnew link.old.set.config again.old.whole.items }
+    requires again { CanMakeAgain (P.port_state port.old) link.old again.old }
     requires drives { AreWide link.old.set.config.shape drives.now }
-    requires reads { All (λ row. length row ≡ pins_of link.old.set.config.shape) reads.old }
-    requires as_many { length drives.now ≡ length reads.old }
+    requires rows { AreRowsFor link.old.set.config drives.now reads.old }
 
-    ensures machine { machine_told (P.port_state port.new) ≡ machine_told (P.port_state port.old) }
-    ensures later { (P.port_state port.old).failures ≤ (P.port_state port.new).failures }
+    ensures later { IsLater (P.port_state port.old) (P.port_state port.new) }
     ensures lengths { KeepLengths reads.old reads.new }
     ensures stays { StaysLoaded link.old link.new }
-    ensures rows { HasRows (pins_of link.old.set.config.shape) again.new }
-    ensures past { KeepsSession again.old again.new }
+    ensures kept { KeepsRows (pins_of link.old.set.config.shape) again.old again.new }
     ensures held { IsTrue result → IsKeptUp (P.port_state port.new) link.old link.new }
     ensures sent { IsTrue result → link.new.due ≡ false }
     ensures made { IsTrue result → HasMade link.old.set.config (kept_pairs again.old ++ paired drives.now reads.new) link.new.due
@@ -181,20 +154,14 @@ fn ask_again<P: Port>(
     reads: &mut [PinBits],
     failures: &mut u64,
 ) -> bool
-    requires told { IfSome (P.port_state port.old).device (λ d. d.shape ≡ link.old.set.config.shape) }
-    requires running { link.old.running ≡ true }
-    requires rows { HasRows (pins_of link.old.set.config.shape) again.old }
-    requires whole { SetsAnew link.old.set.config again.old.whole.items }
+    requires again { CanMakeAgain (P.port_state port.old) link.old again.old }
     requires drives { AreWide link.old.set.config.shape drives.now }
-    requires reads { All (λ row. length row ≡ pins_of link.old.set.config.shape) reads.old }
-    requires as_many { length drives.now ≡ length reads.old }
+    requires rows { AreRowsFor link.old.set.config drives.now reads.old }
 
-    ensures machine { machine_told (P.port_state port.new) ≡ machine_told (P.port_state port.old) }
-    ensures later { (P.port_state port.old).failures ≤ (P.port_state port.new).failures }
+    ensures later { IsLater (P.port_state port.old) (P.port_state port.new) }
     ensures lengths { KeepLengths reads.old reads.new }
     ensures stays { StaysLoaded link.old link.new }
-    ensures rows { HasRows (pins_of link.old.set.config.shape) again.new }
-    ensures past { KeepsSession again.old again.new }
+    ensures kept { KeepsRows (pins_of link.old.set.config.shape) again.old again.new }
     ensures held { IsTrue result → IsKeptUp (P.port_state port.new) link.old link.new }
     ensures sent { IsTrue result → link.new.due ≡ false }
     ensures covers { IsTrue result → again.old.covers ≡ true }
@@ -226,27 +193,17 @@ fn turn_or_again<P: Port>(
     reads: &mut [PinBits],
     failures: &mut u64,
 ) -> bool
-    requires open { (P.port_state port.old).is_open ≡ true }
+    requires ready { CanTurn (P.port_state port.old) link.old drives.now }
     requires told { IfSome (P.port_state port.old).device (λ d. d.shape ≡ link.old.set.config.shape) }
-    requires linked { IsLinked (P.port_state port.old).device link.old.set.config link.old.line.items link.old.anew link.old.running
-        link.old.due }
-    requires running { link.old.running ≡ true }
-    requires drives { AreWide link.old.set.config.shape drives.now }
-    requires check { IsSome (P.port_state port.old).device → (P.port_state port.old).check ≡ link.old.check }
-    requires reads { All (λ row. length row ≡ pins_of link.old.set.config.shape) reads.old }
-    requires as_many { length drives.now ≡ length reads.old }
-    requires room { HasRoom (pins_of link.old.set.config.shape) link.old }
+    requires rows { AreRowsFor link.old.set.config drives.now reads.old }
     requires resumes { CanResume (P.port_state port.old).device link.old again.old }
 
-    ensures machine { machine_told (P.port_state port.new) ≡ machine_told (P.port_state port.old) }
-    ensures later { (P.port_state port.old).failures ≤ (P.port_state port.new).failures }
+    ensures later { IsLater (P.port_state port.old) (P.port_state port.new) }
     ensures lengths { KeepLengths reads.old reads.new }
-    ensures rows { HasRows (pins_of link.old.set.config.shape) again.new }
-    ensures past { KeepsSession again.old again.new }
-    ensures held { IsTrue result → IsKeptUp (P.port_state port.new) link.old link.new }
+    ensures kept { KeepsRows (pins_of link.old.set.config.shape) again.old again.new }
     ensures sent { IsTrue result → link.new.due ≡ false }
-    ensures turned { IsTrue result → HasTurned drives.now reads.new link.old.due link.old.set.config (P.port_state port.old).device
-        link.new.due (P.port_state port.new).device }
+    ensures turned { IsTrue result → HasMadeTurns drives.now reads.new (P.port_state port.old) (P.port_state port.new) link.old
+        link.new }
     ensures alarm { result ≡ false → IsSome (P.port_state port.old).device →
         Rose (P.port_state port.old).failures (P.port_state port.new).failures }
     ensures count { failures.old ≤ failures.new }
@@ -271,25 +228,16 @@ pub fn drive_on<P: Port>(
     reads: &mut [PinBits],
     failures: &mut u64,
 ) -> bool
-    requires open { (P.port_state port.old).is_open ≡ true }
+    requires ready { CanTurn (P.port_state port.old) link.old drives.now }
     requires told { IfSome (P.port_state port.old).device (λ d. d.shape ≡ link.old.set.config.shape) }
-    requires linked { IsLinked (P.port_state port.old).device link.old.set.config link.old.line.items link.old.anew link.old.running
-        link.old.due }
-    requires running { link.old.running ≡ true }
-    requires drives { AreWide link.old.set.config.shape drives.now }
-    requires check { IsSome (P.port_state port.old).device → (P.port_state port.old).check ≡ link.old.check }
-    requires reads { All (λ row. length row ≡ pins_of link.old.set.config.shape) reads.old }
-    requires as_many { length drives.now ≡ length reads.old }
-    requires room { HasRoom (pins_of link.old.set.config.shape) link.old }
+    requires rows { AreRowsFor link.old.set.config drives.now reads.old }
     requires resumes { CanResume (P.port_state port.old).device link.old again.old }
 
-    ensures machine { machine_told (P.port_state port.new) ≡ machine_told (P.port_state port.old) }
-    ensures later { (P.port_state port.old).failures ≤ (P.port_state port.new).failures }
+    ensures later { IsLater (P.port_state port.old) (P.port_state port.new) }
     ensures lengths { KeepLengths reads.old reads.new }
-    ensures held { IsTrue result → IsKeptUp (P.port_state port.new) link.old link.new }
     ensures sent { IsTrue result → link.new.due ≡ false }
-    ensures turned { IsTrue result → HasTurned drives.now reads.new link.old.due link.old.set.config (P.port_state port.old).device
-        link.new.due (P.port_state port.new).device }
+    ensures turned { IsTrue result → HasMadeTurns drives.now reads.new (P.port_state port.old) (P.port_state port.new) link.old
+        link.new }
     ensures resumes { IsTrue result → CanResume (P.port_state port.new).device link.new again.new }
     ensures alarm { result ≡ false → IsSome (P.port_state port.old).device →
         Rose (P.port_state port.old).failures (P.port_state port.new).failures }

@@ -1,7 +1,7 @@
 //! A talk over files: a request goes to one, and a line comes from one.
 ghost use Rattle.std.specs.Prelude.{◌≡◌, ◌≤◌, ◌⊎◌, [], ◌∷◌, true, false, length, take, get_or, IfSome, IfOk, IsErrOf};
 ghost use Rattle.std.specs.Io.KnownBytes.{Consumes};
-ghost use Rattle.rig_port.specs.FilePorts.{ahead, IsLine, HasHeard, HasTalked, HasWritten};
+ghost use Rattle.rig_port.specs.FilePorts.{ahead, AsksWhatItIs, IsLine, HasHeard, HasTalked, HasWritten};
 
 use crate::parse::part;
 use std::io::{Read, Write};
@@ -121,7 +121,7 @@ fn begins(line: &[u8], byte: u8) -> bool
 // Whether a line is the reply to a request by how it begins. What asks what a machine is passes over what was left on the way, but takes a
 // refusal, for nothing else may come.
 fn is_due(request: &[u8], line: &[u8]) -> bool
-    ensures { result ≡ false → get_or request.now 0 0 ≡ 97 }
+    ensures { result ≡ false → AsksWhatItIs request.now }
 {
     if !begins(request, b'a') {
         return true;
@@ -134,7 +134,7 @@ fn is_due(request: &[u8], line: &[u8]) -> bool
 
 // Whether what was read is taken for the reply to a request: it is no end of a line that was too long, and is due.
 fn is_taken(was_cut: bool, request: &[u8], line: &[u8]) -> bool
-    ensures { result ≡ false → (was_cut ≡ true) ⊎ (get_or request.now 0 0 ≡ 97) }
+    ensures { result ≡ false → (was_cut ≡ true) ⊎ AsksWhatItIs request.now }
 {
     if was_cut {
         return false;

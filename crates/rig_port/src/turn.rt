@@ -1,6 +1,6 @@
 //! A turn: a request goes out, and its reply is read.
 ghost use Rattle.std.specs.Prelude.{◌≡◌, ℕ, ◌+◌, ◌*◌, ◌/◌, ◌%◌, ◌^◌, ◌<◌, ◌≤◌, ◌==◌, ◌++◌, ◌∷◌, [], List, true, false};
-ghost use Rattle.std.specs.Prelude.{length, vec_len, drop, get_or, All, IsTrue, IsSome, IfSome, IfNone};
+ghost use Rattle.std.specs.Prelude.{length, vec_len, drop, get_or, IsTrue, IsSome, IfSome, IfNone};
 ghost use Rattle.std.specs.Int.{div_ceil};
 ghost use Rattle.std.specs.List.{sum_by};
 ghost use Rattle.std.specs.Vec.{vec_capacity};
@@ -10,12 +10,12 @@ ghost use Rattle.machine_meaning.specs.Circuit.{Pins};
 ghost use Rattle.base_io.specs.Counts.{Rose};
 ghost use Rattle.rig.specs.Rig.{KeepLengths};
 ghost use Rattle.rig_port.specs.Lines.{pin_text, reading_body, reading_line, word_room, turn_room};
-ghost use Rattle.rig_port.specs.Requests.{AreWide, led_drives, drives_text};
-ghost use Rattle.rig_port.specs.Ports.{machine_told};
-ghost use Rattle.rig_port.specs.Linked.{IsLinked, HasTurned};
-ghost use Rattle.rig_port.specs.Boards.{IsKeptUp, HasRoom, IsRequest};
+ghost use Rattle.rig_port.specs.Requests.{led_drives, drives_text};
+ghost use Rattle.rig_port.specs.Ports.{IsLater};
+ghost use Rattle.rig_port.specs.Boards.{IsRequest};
 ghost use Rattle.rig_port.specs.Checks.{after};
 ghost use Rattle.rig_port.specs.Sessions.{StaysLoaded};
+ghost use Rattle.rig_port.specs.Turns.{CanTurn, AreRowsFor, HasMadeTurns};
 
 use crate::check::Check;
 use crate::link::Link;
@@ -176,26 +176,17 @@ pub fn turn<P: Port>(
     drives: &[PinBits],
     reads: &mut [PinBits],
 ) -> bool
-    requires open { (P.port_state port.old).is_open ≡ true }
-    requires linked { IsLinked (P.port_state port.old).device link.old.set.config link.old.line.items link.old.anew link.old.running
-        link.old.due }
-    requires running { link.old.running ≡ true }
-    requires drives { AreWide link.old.set.config.shape drives.now }
+    requires ready { CanTurn (P.port_state port.old) link.old drives.now }
+    requires rows { AreRowsFor link.old.set.config drives.now reads.old }
     requires some { link.old.due ≡ false → 0 < length drives.now }
-    requires check { IsSome (P.port_state port.old).device → (P.port_state port.old).check ≡ link.old.check }
-    requires reads { All (λ row. length row ≡ pins_of link.old.set.config.shape) reads.old }
-    requires as_many { length drives.now ≡ length reads.old }
-    requires room { HasRoom (pins_of link.old.set.config.shape) link.old }
     requires few { sum_by word_room drives.now + 8 ≤ turn_room (pins_of link.old.set.config.shape) }
 
-    ensures machine { machine_told (P.port_state port.new) ≡ machine_told (P.port_state port.old) }
-    ensures later { (P.port_state port.old).failures ≤ (P.port_state port.new).failures }
+    ensures later { IsLater (P.port_state port.old) (P.port_state port.new) }
     ensures lengths { KeepLengths reads.old reads.new }
     ensures stays { StaysLoaded link.old link.new }
-    ensures held { IsTrue result → IsKeptUp (P.port_state port.new) link.old link.new }
     ensures sent { IsTrue result → link.new.due ≡ false }
-    ensures turned { IsTrue result → HasTurned drives.now reads.new link.old.due link.old.set.config (P.port_state port.old).device
-        link.new.due (P.port_state port.new).device }
+    ensures turned { IsTrue result → HasMadeTurns drives.now reads.new (P.port_state port.old) (P.port_state port.new) link.old
+        link.new }
     ensures alarm { result ≡ false → IsSome (P.port_state port.old).device →
         Rose (P.port_state port.old).failures (P.port_state port.new).failures }
 {
@@ -230,25 +221,16 @@ pub fn turn_some<P: Port>(
     drives: &[PinBits],
     reads: &mut [PinBits],
 ) -> bool
-    requires open { (P.port_state port.old).is_open ≡ true }
-    requires linked { IsLinked (P.port_state port.old).device link.old.set.config link.old.line.items link.old.anew link.old.running
-        link.old.due }
-    requires running { link.old.running ≡ true }
-    requires drives { AreWide link.old.set.config.shape drives.now }
-    requires check { IsSome (P.port_state port.old).device → (P.port_state port.old).check ≡ link.old.check }
-    requires reads { All (λ row. length row ≡ pins_of link.old.set.config.shape) reads.old }
-    requires as_many { length drives.now ≡ length reads.old }
-    requires room { HasRoom (pins_of link.old.set.config.shape) link.old }
+    requires ready { CanTurn (P.port_state port.old) link.old drives.now }
+    requires rows { AreRowsFor link.old.set.config drives.now reads.old }
 
-    ensures machine { machine_told (P.port_state port.new) ≡ machine_told (P.port_state port.old) }
-    ensures later { (P.port_state port.old).failures ≤ (P.port_state port.new).failures }
+    ensures later { IsLater (P.port_state port.old) (P.port_state port.new) }
     ensures lengths { KeepLengths reads.old reads.new }
     ensures stays { StaysLoaded link.old link.new }
-    ensures held { IsTrue result → IsKeptUp (P.port_state port.new) link.old link.new }
     ensures sent { IsTrue result → 0 < length drives.now → link.new.due ≡ false }
     ensures idle { IsTrue result → link.old.due ≡ false → link.new.due ≡ false }
-    ensures turned { IsTrue result → HasTurned drives.now reads.new link.old.due link.old.set.config (P.port_state port.old).device
-        link.new.due (P.port_state port.new).device }
+    ensures turned { IsTrue result → HasMadeTurns drives.now reads.new (P.port_state port.old) (P.port_state port.new) link.old
+        link.new }
     ensures alarm { result ≡ false → IsSome (P.port_state port.old).device →
         Rose (P.port_state port.old).failures (P.port_state port.new).failures }
 {
@@ -273,24 +255,15 @@ pub fn turn_all<P: Port>(
     drives: &[PinBits],
     reads: &mut [PinBits],
 ) -> bool
-    requires open { (P.port_state port.old).is_open ≡ true }
-    requires linked { IsLinked (P.port_state port.old).device link.old.set.config link.old.line.items link.old.anew link.old.running
-        link.old.due }
-    requires running { link.old.running ≡ true }
-    requires drives { AreWide link.old.set.config.shape drives.now }
-    requires check { IsSome (P.port_state port.old).device → (P.port_state port.old).check ≡ link.old.check }
-    requires reads { All (λ row. length row ≡ pins_of link.old.set.config.shape) reads.old }
-    requires as_many { length drives.now ≡ length reads.old }
-    requires room { HasRoom (pins_of link.old.set.config.shape) link.old }
+    requires ready { CanTurn (P.port_state port.old) link.old drives.now }
+    requires rows { AreRowsFor link.old.set.config drives.now reads.old }
 
-    ensures machine { machine_told (P.port_state port.new) ≡ machine_told (P.port_state port.old) }
-    ensures later { (P.port_state port.old).failures ≤ (P.port_state port.new).failures }
+    ensures later { IsLater (P.port_state port.old) (P.port_state port.new) }
     ensures lengths { KeepLengths reads.old reads.new }
     ensures stays { StaysLoaded link.old link.new }
-    ensures held { IsTrue result → IsKeptUp (P.port_state port.new) link.old link.new }
     ensures sent { IsTrue result → link.new.due ≡ false }
-    ensures turned { IsTrue result → HasTurned drives.now reads.new link.old.due link.old.set.config (P.port_state port.old).device
-        link.new.due (P.port_state port.new).device }
+    ensures turned { IsTrue result → HasMadeTurns drives.now reads.new (P.port_state port.old) (P.port_state port.new) link.old
+        link.new }
     ensures alarm { result ≡ false → IsSome (P.port_state port.old).device →
         Rose (P.port_state port.old).failures (P.port_state port.new).failures }
 {

@@ -1,6 +1,5 @@
-use Rattle.std.proofs.Common.{◌≡◌, ◌∙◌, ◌++◌, All, length, arith, ap, sym, subst, true}
+use Rattle.std.proofs.Common.{◌≡◌, ◌∙◌, ◌++◌, arith, sym, subst, true}
 use Rattle.machine_shape.specs.Shape.{pins_of}
-use Rattle.machine_meaning.specs.Circuit.{Pins}
 use Rattle.machine_config.specs.Configuration.{Configuration}
 use Rattle.rig_board.proofs.OneByOne.{lengths_kept}
 use Rattle.rig_port.specs.Requests.{AreWide}
@@ -8,49 +7,27 @@ use Rattle.rig_port.specs.Sessions.{SetsAnew, HasRows, HasMade, kept_pairs, pair
 use Rattle.rig_port.proofs.Resumed.{HasShape, still_shaped, many_rows, same_pairs_kept}
 use Rattle.rig_port.proofs.resume.ask_again.Goals as goal
 
-pub turn_again-requires-clause-told : goal.turn_again-requires-clause-told
-turn_again-requires-clause-told g c = subst (λ (s : Configuration). HasShape s.shape (g.P.Port.port_state c.tries.port).device) (sym c.tries.invariant.stays.set) c.tries.invariant.told
-
-pub turn_again-requires-clause-rows : goal.turn_again-requires-clause-rows
-turn_again-requires-clause-rows g c = subst (λ (s : Configuration). HasRows (pins_of s.shape) c.tries.again) (sym c.tries.invariant.stays.set) c.tries.invariant.rows
-
-pub turn_again-requires-clause-whole : goal.turn_again-requires-clause-whole
-turn_again-requires-clause-whole g c =
-    subst (λ (s : Configuration). SetsAnew s c.tries.again.whole.items) (sym c.tries.invariant.stays.set)
-    (subst (λ v. SetsAnew c.args.link.now.set.config v.items) (sym c.tries.invariant.past.whole) c.requires.whole)
-
 pub turn_again-requires-clause-drives : goal.turn_again-requires-clause-drives
 turn_again-requires-clause-drives g c = subst (λ (s : Configuration). AreWide s.shape c.args.drives.now) (sym c.tries.invariant.stays.set) c.requires.drives
 
-pub turn_again-requires-clause-reads : goal.turn_again-requires-clause-reads
-turn_again-requires-clause-reads g c =
-    subst (λ (s : Configuration). All (λ (row : Pins). length row ≡ pins_of s.shape) c.tries.reads) (sym c.tries.invariant.stays.set)
-    (lengths_kept (λ l. l ≡ pins_of c.args.link.now.set.config.shape) c.args.reads.now c.tries.reads c.tries.invariant.lengths c.requires.reads)
-
-pub turn_again-requires-clause-as_many : goal.turn_again-requires-clause-as_many
-turn_again-requires-clause-as_many g c = c.requires.as_many ∙ sym (many_rows c.args.reads.now c.tries.reads c.tries.invariant.lengths)
-
-pub turn_again-requires-clause-running : goal.turn_again-requires-clause-running
-turn_again-requires-clause-running g c = c.tries.invariant.stays.running ∙ c.requires.running
-
 pub tries-preserved : goal.tries-preserved
 tries-preserved g c = record {
-  machine = c.turn_again.ensures.machine ∙ c.tries.invariant.machine;
-  told = still_shaped c.args.link.now.set.config.shape (g.P.Port.port_state c.tries.port).device (g.P.Port.port_state c.turn_again.new.port).device c.turn_again.ensures.machine c.tries.invariant.told;
-  later = omega (arith, c.turn_again.ensures.later, c.tries.invariant.later);
+  machine = c.turn_again.ensures.later.machine ∙ c.tries.invariant.machine;
+  told = still_shaped c.args.link.now.set.config.shape (g.P.Port.port_state c.tries.port).device (g.P.Port.port_state c.turn_again.new.port).device c.turn_again.ensures.later.machine c.tries.invariant.told;
+  later = omega (arith, c.turn_again.ensures.later.failures, c.tries.invariant.later);
   lengths = c.turn_again.ensures.lengths ∙ c.tries.invariant.lengths;
   stays = record {
     set = c.turn_again.ensures.stays.set ∙ c.tries.invariant.stays.set;
     lost = c.turn_again.ensures.stays.lost ∙ c.tries.invariant.stays.lost;
     running = c.turn_again.ensures.stays.running ∙ c.tries.invariant.stays.running;
   };
-  rows = subst (λ (s : Configuration). HasRows (pins_of s.shape) c.turn_again.new.again) c.tries.invariant.stays.set c.turn_again.ensures.rows;
+  rows = subst (λ (s : Configuration). HasRows (pins_of s.shape) c.turn_again.new.again) c.tries.invariant.stays.set c.turn_again.ensures.kept.rows;
   past = record {
-    whole = c.turn_again.ensures.past.whole ∙ c.tries.invariant.past.whole;
-    drives = c.turn_again.ensures.past.drives ∙ c.tries.invariant.past.drives;
-    readings = c.turn_again.ensures.past.readings ∙ c.tries.invariant.past.readings;
-    made = c.turn_again.ensures.past.made ∙ c.tries.invariant.past.made;
-    covers = c.turn_again.ensures.past.covers ∙ c.tries.invariant.past.covers;
+    whole = c.turn_again.ensures.kept.past.whole ∙ c.tries.invariant.past.whole;
+    drives = c.turn_again.ensures.kept.past.drives ∙ c.tries.invariant.past.drives;
+    readings = c.turn_again.ensures.kept.past.readings ∙ c.tries.invariant.past.readings;
+    made = c.turn_again.ensures.kept.past.made ∙ c.tries.invariant.past.made;
+    covers = c.turn_again.ensures.kept.past.covers ∙ c.tries.invariant.past.covers;
   };
   count = omega (arith, c.tries.invariant.count, c.saturating_add.ensures);
 }
@@ -78,21 +55,43 @@ returns-then-turn_again-clause-made g c = λ _.
 pub returns-then-turn_again-clause-covers : goal.returns-then-turn_again-clause-covers
 returns-then-turn_again-clause-covers g c = λ _. c.if-not-again.false
 
-pub returns-then-turn_again-clause-rows : goal.returns-then-turn_again-clause-rows
-returns-then-turn_again-clause-rows g c = subst (λ (s : Configuration). HasRows (pins_of s.shape) c.turn_again.new.again) c.tries.invariant.stays.set c.turn_again.ensures.rows
-
-pub returns-then-turn_again-clause-past : goal.returns-then-turn_again-clause-past
-returns-then-turn_again-clause-past g c = record {
-  whole = c.turn_again.ensures.past.whole ∙ c.tries.invariant.past.whole;
-  drives = c.turn_again.ensures.past.drives ∙ c.tries.invariant.past.drives;
-  readings = c.turn_again.ensures.past.readings ∙ c.tries.invariant.past.readings;
-  made = c.turn_again.ensures.past.made ∙ c.tries.invariant.past.made;
-  covers = c.turn_again.ensures.past.covers ∙ c.tries.invariant.past.covers;
-}
-
 pub returns-then-turn_again-clause-stays : goal.returns-then-turn_again-clause-stays
 returns-then-turn_again-clause-stays g c = record {
   set = c.turn_again.ensures.stays.set ∙ c.tries.invariant.stays.set;
   lost = c.turn_again.ensures.stays.lost ∙ c.tries.invariant.stays.lost;
   running = c.turn_again.ensures.stays.running ∙ c.tries.invariant.stays.running;
+}
+
+pub turn_again-requires-clause-again : goal.turn_again-requires-clause-again
+turn_again-requires-clause-again g c = record {
+  told = subst (λ (s : Configuration). HasShape s.shape (g.P.Port.port_state c.tries.port).device) (sym c.tries.invariant.stays.set) c.tries.invariant.told;
+  running = c.tries.invariant.stays.running ∙ c.requires.again.running;
+  rows = subst (λ (s : Configuration). HasRows (pins_of s.shape) c.tries.again) (sym c.tries.invariant.stays.set) c.tries.invariant.rows;
+  whole = subst (λ (s : Configuration). SetsAnew s c.tries.again.whole.items) (sym c.tries.invariant.stays.set)
+      (subst (λ v. SetsAnew c.args.link.now.set.config v.items) (sym c.tries.invariant.past.whole) c.requires.again.whole);
+}
+
+pub turn_again-requires-clause-rows : goal.turn_again-requires-clause-rows
+turn_again-requires-clause-rows g c = record {
+  wide = subst (λ (s : Configuration). AreWide s.shape c.tries.reads) (sym c.tries.invariant.stays.set)
+      (lengths_kept (λ l. l ≡ pins_of c.args.link.now.set.config.shape) c.args.reads.now c.tries.reads c.tries.invariant.lengths c.requires.rows.wide);
+  as_many = c.requires.rows.as_many ∙ sym (many_rows c.args.reads.now c.tries.reads c.tries.invariant.lengths);
+}
+
+pub returns-then-turn_again-clause-later : goal.returns-then-turn_again-clause-later
+returns-then-turn_again-clause-later g c = record {
+  machine = c.turn_again.ensures.later.machine ∙ c.tries.invariant.machine;
+  failures = omega (arith, c.turn_again.ensures.later.failures, c.tries.invariant.later);
+}
+
+pub returns-then-turn_again-clause-kept : goal.returns-then-turn_again-clause-kept
+returns-then-turn_again-clause-kept g c = record {
+  rows = subst (λ (s : Configuration). HasRows (pins_of s.shape) c.turn_again.new.again) c.tries.invariant.stays.set c.turn_again.ensures.kept.rows;
+  past = record {
+    whole = c.turn_again.ensures.kept.past.whole ∙ c.tries.invariant.past.whole;
+    drives = c.turn_again.ensures.kept.past.drives ∙ c.tries.invariant.past.drives;
+    readings = c.turn_again.ensures.kept.past.readings ∙ c.tries.invariant.past.readings;
+    made = c.turn_again.ensures.kept.past.made ∙ c.tries.invariant.past.made;
+    covers = c.turn_again.ensures.kept.past.covers ∙ c.tries.invariant.past.covers;
+  };
 }

@@ -1,12 +1,12 @@
-use Rattle.std.proofs.Common.{◌≡◌, ◌∙◌, ◌≤◌, List, All, take, length, refl, arith, ap, sym, subst, IfSome}
+use Rattle.std.proofs.Common.{◌≡◌, ◌∙◌, ◌≤◌, List, All, take, length, refl, arith, ap, sym, subst}
 use Rattle.std.proofs.lemmas.List.{length-take-le}
 use Rattle.std.proofs.lemmas.List.Elements.{All-take}
 use Rattle.std.specs.Vec.{vec_capacity}
-use Rattle.machine_shape.specs.declared.Shape.{Shape}
 use Rattle.machine_shape.specs.Shape.{pins_of}
 use Rattle.machine_meaning.specs.Circuit.{Pins}
 use Rattle.machine_config.specs.Configuration.{Configuration, Roomy}
 use Rattle.rig_port.specs.Lines.{turn_room}
+use Rattle.rig_port.specs.Requests.{AreWide}
 use Rattle.rig_port.specs.Linked.{HasTurned}
 use Rattle.rig.specs.Rig.{KeepLengths}
 use Rattle.rig_port.specs.Sessions.{SetsAnew, HasMade, paired}
@@ -15,43 +15,31 @@ use Rattle.rig_port.proofs.Held.{seam}
 use Rattle.rig_port.proofs.resume.resume.Goals as goal
 
 pub attach_next-requires-clause-told : goal.attach_next-requires-clause-told
-attach_next-requires-clause-told g c = shaped_counts c.args.link.now.set.config.shape (g.P.Port.port_state c.args.port.now).device c.requires.told
+attach_next-requires-clause-told g c = shaped_counts c.args.link.now.set.config.shape (g.P.Port.port_state c.args.port.now).device c.requires.again.told
 
 pub load_anew-requires-clause-whole : goal.load_anew-requires-clause-whole
 load_anew-requires-clause-whole g c =
-    rw c.deref.ensures.value (subst (λ (s : Roomy). SetsAnew s.config c.args.again.now.whole.items) (sym c.attach_next.ensures.stays.set) c.requires.whole)
+    rw c.deref.ensures.value (subst (λ (s : Roomy). SetsAnew s.config c.args.again.now.whole.items) (sym c.attach_next.ensures.stays.set) c.requires.again.whole)
 
 pub load_anew-requires-clause-expected : goal.load_anew-requires-clause-expected
 load_anew-requires-clause-expected g c =
     subst (λ (s : Roomy). turn_room (pins_of s.config.shape) ≤ vec_capacity c.attach_next.new.link.expected) (sym c.attach_next.ensures.stays.set)
     (c.attach_next.ensures.room c.if-not-attach_next.false)
 
-pub redrive_first-requires-clause-linked : goal.redrive_first-requires-clause-linked
-redrive_first-requires-clause-linked g c =
-    c.in-Ok.ensures.linked (g.P.Port.port_state c.attach_next.new.port).device
-    (subst (λ (s : Roomy). HasShape s.config.shape (g.P.Port.port_state c.attach_next.new.port).device) (sym c.attach_next.ensures.stays.set)
-    (still_shaped c.args.link.now.set.config.shape (g.P.Port.port_state c.args.port.now).device (g.P.Port.port_state c.attach_next.new.port).device c.attach_next.ensures.machine c.requires.told))
-
-pub redrive_first-requires-clause-drives : goal.redrive_first-requires-clause-drives
-redrive_first-requires-clause-drives g c =
-    let set = c.load_anew.ensures.stays.set ∙ ap (λ (s : Roomy). s.config) c.attach_next.ensures.stays.set in
-    rw c.deref-2.ensures.value (subst (λ (s : Configuration). All (λ (row : Pins). length row ≡ pins_of s.shape) (take c.args.again.now.made c.args.again.now.drives.items)) (sym set)
-    (All-take (λ (row : Pins). length row ≡ pins_of c.args.link.now.set.config.shape) c.args.again.now.made c.args.again.now.drives.items c.requires.rows.drives))
-
 pub redrive_first-requires-clause-spare : goal.redrive_first-requires-clause-spare
 redrive_first-requires-clause-spare g c =
     let set = c.load_anew.ensures.stays.set ∙ ap (λ (s : Roomy). s.config) c.attach_next.ensures.stays.set in
-    rw c.deref_mut.ensures.value (subst (λ (s : Configuration). All (λ (row : Pins). length row ≡ pins_of s.shape) c.args.again.now.spare.items) (sym set) c.requires.rows.spare)
+    rw c.deref_mut.ensures.value (subst (λ (s : Configuration). All (λ (row : Pins). length row ≡ pins_of s.shape) c.args.again.now.spare.items) (sym set) c.requires.again.rows.spare)
 
 pub redrive_first-requires-clause-as_many : goal.redrive_first-requires-clause-as_many
 redrive_first-requires-clause-as_many g c =
-    let d = length-take-le c.args.again.now.made c.args.again.now.drives.items c.requires.rows.made in
-    rw (c.deref-2.ensures.value, c.deref_mut.ensures.value) (omega (arith, d, c.requires.rows.made, c.requires.rows.many_spare))
+    let d = length-take-le c.args.again.now.made c.args.again.now.drives.items c.requires.again.rows.made in
+    rw (c.deref-2.ensures.value, c.deref_mut.ensures.value) (omega (arith, d, c.requires.again.rows.made, c.requires.again.rows.many_spare))
 
 pub redrive_first-requires-clause-as_many_read : goal.redrive_first-requires-clause-as_many_read
 redrive_first-requires-clause-as_many_read g c =
-    let d = length-take-le c.args.again.now.made c.args.again.now.drives.items c.requires.rows.made in
-    let r = length-take-le c.args.again.now.made c.args.again.now.readings.items (omega (arith, c.requires.rows.made, c.requires.rows.many)) in
+    let d = length-take-le c.args.again.now.made c.args.again.now.drives.items c.requires.again.rows.made in
+    let r = length-take-le c.args.again.now.made c.args.again.now.readings.items (omega (arith, c.requires.again.rows.made, c.requires.again.rows.many)) in
     rw (c.deref-3.ensures.value, c.deref-2.ensures.value) (r ∙ sym d)
 
 pub returns-clause-made : goal.returns-clause-made
@@ -66,15 +54,7 @@ returns-clause-made g c = λ right.
     (subst (λ (xs : List Pins). HasMade g0 (paired (take n drives) (take n xs)) c.redrive_first.new.link.due new) c.deref-3.ensures.value
     (made_first (take n drives) (take n reads) g0 c.load_anew.new.link.due c.redrive_first.new.link.due (g.P.Port.port_state c.attach_next.new.port).device new c.in-Ok.ensures.due
     (subst (λ (s : Configuration). HasTurned (take n drives) (take n reads) c.load_anew.new.link.due s (g.P.Port.port_state c.attach_next.new.port).device c.redrive_first.new.link.due new) set
-    (c.redrive_first.ensures.turned right))))
-
-pub returns-clause-rows : goal.returns-clause-rows
-returns-clause-rows g c =
-    let old = c.args.again.now.spare in
-    let keep : KeepLengths old.items c.redrive_first.new.spare
-    = subst (λ (xs : List Pins). KeepLengths xs c.redrive_first.new.spare) c.deref_mut.ensures.value c.redrive_first.ensures.lengths in
-    rows_again (pins_of c.args.link.now.set.config.shape) c.args.again.now _ c.redrive_first.new.spare c.requires.rows keep refl refl refl
-    (seam c.redrive_first.new.spare old.items old.len (many_rows old.items c.redrive_first.new.spare keep) old.ok.0)
+    (c.redrive_first.ensures.turned right).turned)))
 
 pub returns-then-not-attach_next-clause-stays : goal.returns-then-not-attach_next-clause-stays
 returns-then-not-attach_next-clause-stays g c = record {
@@ -99,7 +79,7 @@ returns-clause-stays g c = record {
 
 pub returns-clause-held : goal.returns-clause-held
 returns-clause-held g c = λ right.
-    let held = c.redrive_first.ensures.held right in
+    let held = (c.redrive_first.ensures.turned right).held in
     record {
       is_open = held.is_open;
       set = held.set ∙ c.load_anew.ensures.stays.set ∙ ap (λ (s : Roomy). s.config) c.attach_next.ensures.stays.set;
@@ -110,8 +90,46 @@ returns-clause-held g c = λ right.
       room = held.room;
     }
 
-pub returns-then-not-attach_next-clause-rows : goal.returns-then-not-attach_next-clause-rows
-returns-then-not-attach_next-clause-rows g c = rows_stay (pins_of c.args.link.now.set.config.shape) c.args.again.now _ (record { whole = refl; drives = refl; readings = refl; made = refl; covers = refl }) refl c.requires.rows
+pub redrive_first-requires-clause-ready : goal.redrive_first-requires-clause-ready
+redrive_first-requires-clause-ready g c =
+    let set = c.load_anew.ensures.stays.set ∙ ap (λ (s : Roomy). s.config) c.attach_next.ensures.stays.set in
+    record {
+      is_open = c.attach_next.ensures.open c.if-not-attach_next.false;
+      linked = c.in-Ok.ensures.linked (g.P.Port.port_state c.attach_next.new.port).device
+          (subst (λ (s : Roomy). HasShape s.config.shape (g.P.Port.port_state c.attach_next.new.port).device) (sym c.attach_next.ensures.stays.set)
+          (still_shaped c.args.link.now.set.config.shape (g.P.Port.port_state c.args.port.now).device (g.P.Port.port_state c.attach_next.new.port).device c.attach_next.ensures.machine c.requires.again.told));
+      running = c.load_anew.ensures.stays.running ∙ c.attach_next.ensures.stays.running ∙ c.requires.again.running;
+      wide = rw c.deref-2.ensures.value (subst (λ (s : Configuration). AreWide s.shape (take c.args.again.now.made c.args.again.now.drives.items)) (sym set)
+          (All-take (λ (row : Pins). length row ≡ pins_of c.args.link.now.set.config.shape) c.args.again.now.made c.args.again.now.drives.items c.requires.again.rows.drives));
+      check = λ some. c.attach_next.ensures.check c.if-not-attach_next.false some ∙ sym c.load_anew.ensures.check;
+      room = c.in-Ok.ensures.room;
+    }
 
-pub returns-in_default-clause-rows : goal.returns-in_default-clause-rows
-returns-in_default-clause-rows g c = rows_stay (pins_of c.args.link.now.set.config.shape) c.args.again.now _ (record { whole = refl; drives = refl; readings = refl; made = refl; covers = refl }) refl c.requires.rows
+pub returns-clause-later : goal.returns-clause-later
+returns-clause-later g c = record {
+  machine = c.redrive_first.ensures.later.machine ∙ c.attach_next.ensures.machine;
+  failures = omega (arith, c.redrive_first.ensures.later.failures, c.attach_next.ensures.later);
+}
+
+pub returns-clause-kept : goal.returns-clause-kept
+returns-clause-kept g c =
+    let old = c.args.again.now.spare in
+    let keep : KeepLengths old.items c.redrive_first.new.spare
+    = subst (λ (xs : List Pins). KeepLengths xs c.redrive_first.new.spare) c.deref_mut.ensures.value c.redrive_first.ensures.lengths in
+    record {
+      rows = rows_again (pins_of c.args.link.now.set.config.shape) c.args.again.now _ c.redrive_first.new.spare c.requires.again.rows keep refl refl refl
+          (seam c.redrive_first.new.spare old.items old.len (many_rows old.items c.redrive_first.new.spare keep) old.ok.0);
+      past = record { whole = refl; drives = refl; readings = refl; made = refl; covers = refl };
+    }
+
+pub returns-then-not-attach_next-clause-kept : goal.returns-then-not-attach_next-clause-kept
+returns-then-not-attach_next-clause-kept g c = record {
+  rows = rows_stay (pins_of c.args.link.now.set.config.shape) c.args.again.now _ (record { whole = refl; drives = refl; readings = refl; made = refl; covers = refl }) refl c.requires.again.rows;
+  past = record { whole = refl; drives = refl; readings = refl; made = refl; covers = refl };
+}
+
+pub returns-in_default-clause-kept : goal.returns-in_default-clause-kept
+returns-in_default-clause-kept g c = record {
+  rows = rows_stay (pins_of c.args.link.now.set.config.shape) c.args.again.now _ (record { whole = refl; drives = refl; readings = refl; made = refl; covers = refl }) refl c.requires.again.rows;
+  past = record { whole = refl; drives = refl; readings = refl; made = refl; covers = refl };
+}

@@ -1,6 +1,5 @@
-use Rattle.std.proofs.Common.{◌≡◌, ◌∙◌, ◌++◌, All, length, arith, ap, sym, subst, inl, inr}
+use Rattle.std.proofs.Common.{◌≡◌, ◌∙◌, ◌++◌, refl, arith, sym, subst, inr}
 use Rattle.machine_shape.specs.Shape.{pins_of}
-use Rattle.machine_meaning.specs.Circuit.{Pins}
 use Rattle.machine_config.specs.Configuration.{Configuration}
 use Rattle.base_io.specs.Counts.{Rose}
 use Rattle.rig_board.proofs.OneByOne.{lengths_kept}
@@ -9,48 +8,44 @@ use Rattle.rig_port.specs.Sessions.{SetsAnew, HasRows, HasMade, kept_pairs, pair
 use Rattle.rig_port.proofs.Resumed.{HasShape, still_shaped, many_rows, rose_still, turned_again}
 use Rattle.rig_port.proofs.resume.turn_or_again.Goals as goal
 
-pub ask_again-requires-clause-told : goal.ask_again-requires-clause-told
-ask_again-requires-clause-told g c =
+pub ask_again-requires-clause-again : goal.ask_again-requires-clause-again
+ask_again-requires-clause-again g c =
     let device = (g.P.Port.port_state c.turn_all.new.port).device in
-    subst (λ (s : Configuration). HasShape s.shape device) (sym c.turn_all.ensures.stays.set)
-    (still_shaped c.args.link.now.set.config.shape (g.P.Port.port_state c.args.port.now).device device c.turn_all.ensures.machine c.requires.told)
-
-pub ask_again-requires-clause-running : goal.ask_again-requires-clause-running
-ask_again-requires-clause-running g c = c.turn_all.ensures.stays.running ∙ c.requires.running
-
-pub ask_again-requires-clause-rows : goal.ask_again-requires-clause-rows
-ask_again-requires-clause-rows g c = subst (λ (s : Configuration). HasRows (pins_of s.shape) c.args.again.now) (sym c.turn_all.ensures.stays.set) c.requires.resumes.rows
-
-pub ask_again-requires-clause-whole : goal.ask_again-requires-clause-whole
-ask_again-requires-clause-whole g c =
-    subst (λ (s : Configuration). SetsAnew s c.args.again.now.whole.items) (sym c.turn_all.ensures.stays.set) (c.requires.resumes.whole c.requires.running)
-
-pub ask_again-requires-clause-drives : goal.ask_again-requires-clause-drives
-ask_again-requires-clause-drives g c = subst (λ (s : Configuration). AreWide s.shape c.args.drives.now) (sym c.turn_all.ensures.stays.set) c.requires.drives
-
-pub ask_again-requires-clause-reads : goal.ask_again-requires-clause-reads
-ask_again-requires-clause-reads g c =
-    subst (λ (s : Configuration). All (λ (row : Pins). length row ≡ pins_of s.shape) c.turn_all.new.reads) (sym c.turn_all.ensures.stays.set)
-    (lengths_kept (λ l. l ≡ pins_of c.args.link.now.set.config.shape) c.args.reads.now c.turn_all.new.reads c.turn_all.ensures.lengths c.requires.reads)
-
-pub ask_again-requires-clause-as_many : goal.ask_again-requires-clause-as_many
-ask_again-requires-clause-as_many g c = c.requires.as_many ∙ sym (many_rows c.args.reads.now c.turn_all.new.reads c.turn_all.ensures.lengths)
-
-pub returns-clause-held : goal.returns-clause-held
-returns-clause-held g c = λ right.
-    let held = c.ask_again.ensures.held right in
     record {
-      is_open = held.is_open;
-      set = held.set ∙ c.turn_all.ensures.stays.set;
-      lost = held.lost ∙ c.turn_all.ensures.stays.lost;
-      running = held.running;
-      check = held.check;
-      linked = held.linked;
-      room = held.room;
+      told = subst (λ (s : Configuration). HasShape s.shape device) (sym c.turn_all.ensures.stays.set)
+          (still_shaped c.args.link.now.set.config.shape (g.P.Port.port_state c.args.port.now).device device c.turn_all.ensures.later.machine c.requires.told);
+      running = c.turn_all.ensures.stays.running ∙ c.requires.ready.running;
+      rows = subst (λ (s : Configuration). HasRows (pins_of s.shape) c.args.again.now) (sym c.turn_all.ensures.stays.set) c.requires.resumes.rows;
+      whole = subst (λ (s : Configuration). SetsAnew s c.args.again.now.whole.items) (sym c.turn_all.ensures.stays.set) (c.requires.resumes.whole c.requires.ready.running);
     }
 
-pub returns-clause-rows : goal.returns-clause-rows
-returns-clause-rows g c = subst (λ (s : Configuration). HasRows (pins_of s.shape) c.ask_again.new.again) c.turn_all.ensures.stays.set c.ask_again.ensures.rows
+pub ask_again-requires-clause-drives : goal.ask_again-requires-clause-drives
+ask_again-requires-clause-drives g c = subst (λ (s : Configuration). AreWide s.shape c.args.drives.now) (sym c.turn_all.ensures.stays.set) c.requires.ready.wide
+
+pub ask_again-requires-clause-rows : goal.ask_again-requires-clause-rows
+ask_again-requires-clause-rows g c = record {
+  wide = subst (λ (s : Configuration). AreWide s.shape c.turn_all.new.reads) (sym c.turn_all.ensures.stays.set)
+      (lengths_kept (λ l. l ≡ pins_of c.args.link.now.set.config.shape) c.args.reads.now c.turn_all.new.reads c.turn_all.ensures.lengths c.requires.rows.wide);
+  as_many = c.requires.rows.as_many ∙ sym (many_rows c.args.reads.now c.turn_all.new.reads c.turn_all.ensures.lengths);
+}
+
+pub returns-clause-later : goal.returns-clause-later
+returns-clause-later g c = record {
+  machine = c.ask_again.ensures.later.machine ∙ c.turn_all.ensures.later.machine;
+  failures = omega (arith, c.ask_again.ensures.later.failures, c.turn_all.ensures.later.failures);
+}
+
+pub returns-clause-kept : goal.returns-clause-kept
+returns-clause-kept g c = record {
+  rows = subst (λ (s : Configuration). HasRows (pins_of s.shape) c.ask_again.new.again) c.turn_all.ensures.stays.set c.ask_again.ensures.kept.rows;
+  past = c.ask_again.ensures.kept.past;
+}
+
+pub returns-then-turn_all-clause-kept : goal.returns-then-turn_all-clause-kept
+returns-then-turn_all-clause-kept g c = record {
+  rows = c.requires.resumes.rows;
+  past = record { whole = refl; drives = refl; readings = refl; made = refl; covers = refl };
+}
 
 pub returns-clause-turned : goal.returns-clause-turned
 returns-clause-turned g c = λ right.
@@ -58,15 +53,27 @@ returns-clause-turned g c = λ right.
     let cycles = kept_pairs c.args.again.now in
     let reads = c.ask_again.new.reads in
     let new = (g.P.Port.port_state c.ask_again.new.port).device in
-    let many = c.requires.as_many ∙ sym (many_rows c.args.reads.now c.turn_all.new.reads c.turn_all.ensures.lengths) ∙ sym (many_rows c.turn_all.new.reads reads c.ask_again.ensures.lengths) in
-    turned_again c.args.drives.now reads set cycles c.args.link.now.due c.ask_again.new.link.due (g.P.Port.port_state c.args.port.now).device new many
-    (c.ask_again.ensures.machine ∙ c.turn_all.ensures.machine) (c.requires.resumes.kept c.requires.running (c.ask_again.ensures.covers right))
-    (subst (λ (s : Configuration). HasMade s (cycles ++ paired c.args.drives.now reads) c.ask_again.new.link.due new) c.turn_all.ensures.stays.set (c.ask_again.ensures.made right))
+    let many = c.requires.rows.as_many ∙ sym (many_rows c.args.reads.now c.turn_all.new.reads c.turn_all.ensures.lengths) ∙ sym (many_rows c.turn_all.new.reads reads c.ask_again.ensures.lengths) in
+    let held = c.ask_again.ensures.held right in
+    record {
+      held = record {
+        is_open = held.is_open;
+        set = held.set ∙ c.turn_all.ensures.stays.set;
+        lost = held.lost ∙ c.turn_all.ensures.stays.lost;
+        running = held.running;
+        check = held.check;
+        linked = held.linked;
+        room = held.room;
+      };
+      turned = turned_again c.args.drives.now reads set cycles c.args.link.now.due c.ask_again.new.link.due (g.P.Port.port_state c.args.port.now).device new many
+          (c.ask_again.ensures.later.machine ∙ c.turn_all.ensures.later.machine) (c.requires.resumes.kept c.requires.ready.running (c.ask_again.ensures.covers right))
+          (subst (λ (s : Configuration). HasMade s (cycles ++ paired c.args.drives.now reads) c.ask_again.new.link.due new) c.turn_all.ensures.stays.set (c.ask_again.ensures.made right));
+    }
 
 pub returns-clause-alarm : goal.returns-clause-alarm
 returns-clause-alarm g c = λ _ some.
     rose_still (g.P.Port.port_state c.args.port.now).failures (g.P.Port.port_state c.turn_all.new.port).failures (g.P.Port.port_state c.ask_again.new.port).failures
-    c.ask_again.ensures.later (c.turn_all.ensures.alarm c.if-turn_all.false some)
+    c.ask_again.ensures.later.failures (c.turn_all.ensures.alarm c.if-turn_all.false some)
 
 pub returns-clause-rose : goal.returns-clause-rose
 returns-clause-rose g c = λ _. omega (arith, c.ask_again.ensures.count, c.saturating_add.ensures)

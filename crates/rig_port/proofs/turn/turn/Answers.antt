@@ -1,4 +1,4 @@
-use Rattle.std.proofs.Common.{arith, ◌≡◌, ◌∙◌, ◌++◌, ◌∷◌, [], true, false, refl, sym, ap, length, take, subst}
+use Rattle.std.proofs.Common.{arith, ◌≡◌, ◌∙◌, [], true, false, refl, sym, ap, length, take, subst}
 use Rattle.std.proofs.lemmas.List.{length-map}
 use Rattle.machine_shape.specs.Shape.{pins_of}
 use Rattle.rig_board.proofs.OneByOne.{lengths_kept}
@@ -19,7 +19,7 @@ module _ (g : Over) (c : goal.After-link-3-1 g) where
   asked : IsAsked c.args.link.now.check c.args.link.now.set.config c.args.link.now.anew c.args.link.now.due c.args.link.now.line.items c.deref.result.now c.args.drives.now
       c.put_request-sent.result
   asked = record {
-    wide = c.requires.drives;
+    wide = c.requires.ready.wide;
     some = c.requires.some;
     loads = λ due. let r = c.put_request-sent.ensures.loads due in record { line_is = c.deref.ensures.value ∙ r.line_is; check = r.check };
     goes = λ due none. let r = c.put_request-sent.ensures.drives due none in record { line_is = c.deref.ensures.value ∙ r.line_is; check = r.check };
@@ -31,53 +31,53 @@ module _ (g : Over) (c : goal.After-link-3-1 g) where
       let whole = seam c.ask.new.reply c.args.link.now.reply.items c.args.link.now.reply.len (c.ask.ensures.length ∙ ap length c.deref_mut.ensures.value) c.args.link.now.reply.ok.0 in
       turn_stands (g.P.Port.port_state c.args.port.now).device (g.P.Port.port_state c.ask.new.self).device c.args.link.now.check (g.P.Port.port_state c.ask.new.self).check
       c.put_request-sent.result c.args.link.now.set.config c.args.link.now.anew c.args.link.now.running c.args.link.now.due c.args.link.now.line.items c.deref.result.now
-      (take c.in-Ok.count c.ask.new.reply) c.args.drives.now c.read_all.new.reads c.requires.linked asked (c.requires.as_many ∙ many)
-      (lengths_kept (λ l. l ≡ pins_of c.args.link.now.set.config.shape) c.args.reads.now c.read_all.new.reads c.read_all.ensures.lengths c.requires.reads)
-      (ap (λ l. take c.in-Ok.count l) (sym (c.deref-3.ensures.value ∙ whole)) ∙ c.in-Some.ensures.right.0) c.requires.running
+      (take c.in-Ok.count c.ask.new.reply) c.args.drives.now c.read_all.new.reads c.requires.ready.linked asked (c.requires.rows.as_many ∙ many)
+      (lengths_kept (λ l. l ≡ pins_of c.args.link.now.set.config.shape) c.args.reads.now c.read_all.new.reads c.read_all.ensures.lengths c.requires.rows.wide)
+      (ap (λ l. take c.in-Ok.count l) (sym (c.deref-3.ensures.value ∙ whole)) ∙ c.in-Some.ensures.right.0) c.requires.ready.running
       (own_answers (g.P.Port.port_state c.args.port.now).device (g.P.Port.port_state c.ask.new.self).device (g.P.Port.port_state c.args.port.now).check c.args.link.now.check
-      (g.P.Port.port_state c.ask.new.self).check c.deref.result.now (take c.in-Ok.count c.ask.new.reply) c.requires.check c.in-Ok.ensures.told)
-
-pub returns-clause-held : goal.returns-clause-held
-returns-clause-held g c = λ _. record {
-  is_open = c.in-Ok.ensures.stays;
-  set = refl;
-  lost = refl;
-  running = c.requires.running;
-  check = λ some. (stands g c).check some ∙ sym c.in-Some.ensures.right.1;
-  linked = rw c.requires.running (subst (λ l. IsLinked (g.P.Port.port_state c.ask.new.self).device c.args.link.now.set.config l false true false) (sym c.clear.ensures.items) (stands g c).linked);
-  room = record {
-    line = λ _. let room = c.requires.room.line c.requires.running in omega (arith, room, c.clear.ensures.len, c.clear.ensures.capacity, c.put_request-sent.ensures.room);
-    expected = omega (arith, c.requires.room.expected, c.read_check.ensures.room);
-  };
-}
+      (g.P.Port.port_state c.ask.new.self).check c.deref.result.now (take c.in-Ok.count c.ask.new.reply) c.requires.ready.check c.in-Ok.ensures.told)
 
 pub returns-clause-turned : goal.returns-clause-turned
-returns-clause-turned g c = λ _. (stands g c).turned
+returns-clause-turned g c = λ _. record {
+  held = record {
+    is_open = c.in-Ok.ensures.stays;
+    set = refl;
+    lost = refl;
+    running = c.requires.ready.running;
+    check = λ some. (stands g c).check some ∙ sym c.in-Some.ensures.right.1;
+    linked = rw c.requires.ready.running (subst (λ l. IsLinked (g.P.Port.port_state c.ask.new.self).device c.args.link.now.set.config l false true false) (sym c.clear.ensures.items) (stands g c).linked);
+    room = record {
+      line = λ _. let room = c.requires.ready.room.line c.requires.ready.running in omega (arith, room, c.clear.ensures.len, c.clear.ensures.capacity, c.put_request-sent.ensures.room);
+      expected = omega (arith, c.requires.ready.room.expected, c.read_check.ensures.room);
+    };
+  };
+  turned = (stands g c).turned;
+}
 
 pub read_check-requires : goal.read_check-requires
 read_check-requires g c =
     let n = pins_of c.args.link.now.set.config.shape in
     let many : length c.args.reads.now ≡ length c.read_all.new.reads
     = sym (length-map c.args.reads.now length) ∙ ap length (sym c.read_all.ensures.lengths) ∙ length-map c.read_all.new.reads length in
-    let same = same_room n c.args.drives.now c.read_all.new.reads c.requires.drives
-    (lengths_kept (λ l. l ≡ n) c.args.reads.now c.read_all.new.reads c.read_all.ensures.lengths c.requires.reads) (c.requires.as_many ∙ many) in
-    omega (arith, same, c.requires.few, c.requires.room.expected)
+    let same = same_room n c.args.drives.now c.read_all.new.reads c.requires.ready.wide
+    (lengths_kept (λ l. l ≡ n) c.args.reads.now c.read_all.new.reads c.read_all.ensures.lengths c.requires.rows.wide) (c.requires.rows.as_many ∙ many) in
+    omega (arith, same, c.requires.few, c.requires.ready.room.expected)
 
 pub returns-in_default-read_check-clause-alarm : goal.returns-in_default-read_check-clause-alarm
 returns-in_default-read_check-clause-alarm g c = λ _ some.
     let whole = seam c.ask.new.reply c.args.link.now.reply.items c.args.link.now.reply.len (c.ask.ensures.length ∙ ap length c.deref_mut.ensures.value) c.args.link.now.reply.ok.0 in
     let reply = right_reply (g.P.Port.port_state c.args.port.now).device (g.P.Port.port_state c.ask.new.self).device c.args.link.now.check (g.P.Port.port_state c.ask.new.self).check
     c.put_request-sent.result c.args.link.now.set.config c.args.link.now.anew c.args.link.now.running c.args.link.now.due c.args.link.now.line.items c.deref.result.now
-    (take c.in-Ok.count c.ask.new.reply) c.args.drives.now c.requires.linked
+    (take c.in-Ok.count c.ask.new.reply) c.args.drives.now c.requires.ready.linked
     (record {
-      wide = c.requires.drives;
+      wide = c.requires.ready.wide;
       some = c.requires.some;
       loads = λ due. let r = c.put_request-sent.ensures.loads due in record { line_is = c.deref.ensures.value ∙ r.line_is; check = r.check };
       goes = λ due none. let r = c.put_request-sent.ensures.drives due none in record { line_is = c.deref.ensures.value ∙ r.line_is; check = r.check };
     })
     (own_answers (g.P.Port.port_state c.args.port.now).device (g.P.Port.port_state c.ask.new.self).device (g.P.Port.port_state c.args.port.now).check c.args.link.now.check
-    (g.P.Port.port_state c.ask.new.self).check c.deref.result.now (take c.in-Ok.count c.ask.new.reply) c.requires.check c.in-Ok.ensures.told) c.requires.running some in
-    let keep = keep_of (pins_of c.args.link.now.set.config.shape) c.args.reads.now reply.rows c.requires.reads reply.wide (reply.many ∙ c.requires.as_many) in
+    (g.P.Port.port_state c.ask.new.self).check c.deref.result.now (take c.in-Ok.count c.ask.new.reply) c.requires.ready.check c.in-Ok.ensures.told) c.requires.ready.running some in
+    let keep = keep_of (pins_of c.args.link.now.set.config.shape) c.args.reads.now reply.rows c.requires.rows.wide reply.wide (reply.many ∙ c.requires.rows.as_many) in
     let same = c.read_all.ensures.right c.put_request-sent.result reply.rows keep (ap (λ l. take c.in-Ok.count l) (c.deref-2.ensures.value ∙ whole) ∙ reply.is) in
     absurd (c.in_default-read_check.ensures.wrong
     (ap (λ l. take c.in-Ok.count l) (c.deref-3.ensures.value ∙ whole) ∙ reply.is ∙ ap (reading_line c.put_request-sent.result) (sym same)))

@@ -1,10 +1,12 @@
-use Rattle.std.proofs.Common.{ℕ, ◌+◌, ◌*◌, ◌≡◌, ◌∙◌, ◌-◌, ◌≤◌, All, take, drop, length, refl, sym, ap, subst, arith}
+use Rattle.std.proofs.Common.{◌+◌, ◌*◌, ◌≡◌, ◌∙◌, ◌-◌, ◌≤◌, take, drop, length, refl, sym, ap, subst, arith}
 use Rattle.std.proofs.lemmas.List.{length-take, length-drop}
 use Rattle.std.proofs.lemmas.List.Elements.{All-take, All-drop}
 use Rattle.machine_shape.specs.Shape.{pins_of}
 use Rattle.machine_meaning.specs.Circuit.{Pins}
 use Rattle.rig_board.proofs.OneByOne.{lengths_kept}
-use Rattle.rig_port.proofs.Held.{put_lengths, not_turned, turned_next}
+use Rattle.rig_port.specs.Requests.{AreWide}
+use Rattle.rig_port.proofs.Held.{put_lengths, not_turned, turned_next, whole_turned, same_piece}
+use Rattle.rig_port.proofs.Resumed.{many_rows}
 use Rattle.std.specs.Int.{div_ceil}
 use Rattle.std.specs.List.{sum_by}
 use Rattle.machine_config.specs.Configuration.{Configuration}
@@ -19,7 +21,7 @@ turn-requires-clause-few g c =
     let n = pins_of set.shape in
     let k = c.min-end.result - c.turns.at in
     let piece = take k (drop c.turns.at c.args.drives.now) in
-    let rows = All-take (λ (row : Pins). length row ≡ n) k (drop c.turns.at c.args.drives.now) (All-drop (λ (row : Pins). length row ≡ n) c.turns.at c.args.drives.now c.requires.drives) in
+    let rows = All-take (λ (row : Pins). length row ≡ n) k (drop c.turns.at c.args.drives.now) (All-drop (λ (row : Pins). length row ≡ n) c.turns.at c.args.drives.now c.requires.ready.wide) in
     let pins : c.pins.result ≡ n = c.pins.ensures.pins ∙ ap pins_of c.shape-shape.ensures.shape in
     let fits = subst (λ p. c.most_drives-most.result * (2 * div_ceil p 8 + 2) + 8 ≤ turn_room p) pins c.most_drives-most.ensures.few in
     let short = piece_few c.args.drives.now c.turns.at k in
@@ -37,21 +39,41 @@ turns-init g c = (
   refl,
   omega arith,
   refl,
-  record { is_open = c.requires.open; set = refl; lost = refl; running = c.requires.running; check = c.requires.check; linked = c.requires.linked; room = c.requires.room },
+  record { is_open = c.requires.ready.is_open; set = refl; lost = refl; running = c.requires.ready.running; check = c.requires.ready.check; linked = c.requires.ready.linked; room = c.requires.ready.room },
   not_turned c.args.link.now.set.config c.args.link.now.line.items c.args.link.now.anew c.args.link.now.running c.args.link.now.due
-      (g.P.Port.port_state c.args.port.now).device c.requires.linked c.requires.running,
+      (g.P.Port.port_state c.args.port.now).device c.requires.ready.linked c.requires.ready.running,
   omega arith,
   λ some. absurd (omega (arith, some)),
   λ idle. idle,
 )
 
-pub turn-requires-clause-reads : goal.turn-requires-clause-reads
-turn-requires-clause-reads g c =
+pub turn-requires-clause-ready : goal.turn-requires-clause-ready
+turn-requires-clause-ready g c =
     let n = pins_of c.args.link.now.set.config.shape in
-    let rows = lengths_kept (λ l. l ≡ n) c.args.reads.now c.turns.reads c.turns.invariant.2 c.requires.reads in
-    let wide : ℕ → Type 0 = λ w. All (λ (row : Pins). length row ≡ w) (take (c.min-end.result - c.turns.at) (drop c.turns.at c.turns.reads)) in
-    subst wide (sym (ap (λ s. pins_of s.shape) c.turns.invariant.3.set))
-    (All-take (λ row. length row ≡ n) (c.min-end.result - c.turns.at) (drop c.turns.at c.turns.reads) (All-drop (λ row. length row ≡ n) c.turns.at c.turns.reads rows))
+    let k = c.min-end.result - c.turns.at in
+    let held = c.turns.invariant.3 in
+    record {
+      is_open = held.is_open;
+      linked = held.linked;
+      running = held.running;
+      wide = subst (λ (s : Configuration). AreWide s.shape (take k (drop c.turns.at c.args.drives.now))) (sym held.set)
+          (All-take (λ (row : Pins). length row ≡ n) k (drop c.turns.at c.args.drives.now)
+          (All-drop (λ (row : Pins). length row ≡ n) c.turns.at c.args.drives.now c.requires.ready.wide));
+      check = held.check;
+      room = held.room;
+    }
+
+pub turn-requires-clause-rows : goal.turn-requires-clause-rows
+turn-requires-clause-rows g c =
+    let n = pins_of c.args.link.now.set.config.shape in
+    let k = c.min-end.result - c.turns.at in
+    let rows = lengths_kept (λ l. l ≡ n) c.args.reads.now c.turns.reads c.turns.invariant.2 c.requires.rows.wide in
+    let many : length c.turns.reads ≡ length c.args.drives.now = many_rows c.args.reads.now c.turns.reads c.turns.invariant.2 ∙ sym c.requires.rows.as_many in
+    record {
+      wide = subst (λ (s : Configuration). AreWide s.shape (take k (drop c.turns.at c.turns.reads))) (sym c.turns.invariant.3.set)
+          (All-take (λ (row : Pins). length row ≡ n) k (drop c.turns.at c.turns.reads) (All-drop (λ (row : Pins). length row ≡ n) c.turns.at c.turns.reads rows));
+      as_many = same_piece c.args.drives.now c.turns.reads c.turns.at k (sym many);
+    }
 
 pub returns-then-not-turn-clause-lengths : goal.returns-then-not-turn-clause-lengths
 returns-then-not-turn-clause-lengths g c =
@@ -59,11 +81,11 @@ returns-then-not-turn-clause-lengths g c =
 
 pub turns-preserved : goal.turns-preserved
 turns-preserved g c =
-    let held = c.turn.ensures.held c.if-not-turn.false in
+    let held = (c.turn.ensures.turned c.if-not-turn.false).held in
     let le : c.turns.at ≤ c.min-end.result = omega (arith, c.min-end.ensures, c.saturating_add.ensures, c.turns-test.true, c.turns.invariant.5) in
     let within : c.min-end.result ≤ length c.args.drives.now = omega (arith, c.min-end.ensures) in (
-      c.turn.ensures.machine ∙ c.turns.invariant.0,
-      omega (arith, c.turns.invariant.1, c.turn.ensures.later),
+      c.turn.ensures.later.machine ∙ c.turns.invariant.0,
+      omega (arith, c.turns.invariant.1, c.turn.ensures.later.failures),
       put_lengths c.turns.at (c.min-end.result - c.turns.at) c.args.reads.now c.turns.reads c.turn.new.reads c.turns.invariant.2 c.turn.ensures.lengths,
       record {
         is_open = held.is_open;
@@ -76,8 +98,8 @@ turns-preserved g c =
       },
       turned_next c.args.link.now.set.config c.turns.link.set.config c.args.drives.now c.turns.reads c.turn.new.reads c.turns.at c.min-end.result
           c.args.link.now.due c.turns.link.due c.turn.new.link.due (g.P.Port.port_state c.args.port.now).device (g.P.Port.port_state c.turns.port).device
-          (g.P.Port.port_state c.turn.new.port).device c.turns.invariant.3.set le (omega (arith, within, c.requires.as_many, c.turns.auto.reads))
-          c.turn.ensures.lengths c.turns.invariant.4 (c.turn.ensures.turned c.if-not-turn.false),
+          (g.P.Port.port_state c.turn.new.port).device c.turns.invariant.3.set le (omega (arith, within, c.requires.rows.as_many, c.turns.auto.reads))
+          c.turn.ensures.lengths c.turns.invariant.4 (c.turn.ensures.turned c.if-not-turn.false).turned,
       within,
       λ _. c.turn.ensures.sent c.if-not-turn.false,
       λ _. c.turn.ensures.sent c.if-not-turn.false,
@@ -93,12 +115,22 @@ pub returns-then-not-turn-clause-stays : goal.returns-then-not-turn-clause-stays
 returns-then-not-turn-clause-stays g c = record {
   set = c.turn.ensures.stays.set ∙ c.turns.invariant.3.set;
   lost = c.turn.ensures.stays.lost ∙ c.turns.invariant.3.lost;
-  running = c.turn.ensures.stays.running ∙ c.turns.invariant.3.running ∙ sym c.requires.running;
+  running = c.turn.ensures.stays.running ∙ c.turns.invariant.3.running ∙ sym c.requires.ready.running;
 }
 
 pub returns-clause-stays : goal.returns-clause-stays
 returns-clause-stays g c = record {
   set = c.turns.invariant.3.set;
   lost = c.turns.invariant.3.lost;
-  running = c.turns.invariant.3.running ∙ sym c.requires.running;
+  running = c.turns.invariant.3.running ∙ sym c.requires.ready.running;
 }
+
+pub returns-clause-turned : goal.returns-clause-turned
+returns-clause-turned g c = λ _.
+    let over : length c.args.drives.now ≤ c.turns.at = omega (arith, c.turns-test.false) in
+    let many = many_rows c.args.reads.now c.turns.reads c.turns.invariant.2 in
+    record {
+      held = c.turns.invariant.3;
+      turned = whole_turned c.args.drives.now c.turns.reads c.args.link.now.set.config c.turns.at c.args.link.now.due c.turns.link.due
+          (g.P.Port.port_state c.args.port.now).device (g.P.Port.port_state c.turns.port).device over (omega (arith, over, many, c.requires.rows.as_many)) c.turns.invariant.4;
+    }
