@@ -1,9 +1,9 @@
 -- What stays of a test while the session of the last of what it did ends.
-use Rattle.std.proofs.Common.{◌≡◌, ◌∙◌, ⊥, ℕ, ◌+◌, ◌*◌, ◌-◌, ◌<◌, ◌≤◌, Bool, List, length, [], refl, arith, Ok, Err}
-use Rattle.base_io.specs.Vocabulary.{Rose, StoreState, SinkState}
+use Rattle.std.proofs.Common.{◌≡◌, ◌∙◌, ℕ, ◌+◌, ◌*◌, ◌-◌, ◌<◌, ◌≤◌, Bool, List, length, [], refl, arith, Ok, Err}
+use Rattle.base_io.specs.Vocabulary.{StoreState, SinkState}
 use Rattle.base_bits.specs.Numbers.{size_of}
 use Rattle.machine_image.specs.Vocabulary.{ImageValue, Part, WirePart}
-use Rattle.rig.specs.Rig.{RigState}
+use Rattle.rig.specs.Rig.{RigState, LoadFails}
 use Rattle.rig.specs.declared.rig.RigFail.{RigFail}
 use Rattle.rig.specs.declared.rig.RigFail.TheVariants as work
 use Rattle.diag_check.specs.Soundly.{AreAllOf, TakesForParts, TakesForWays}
@@ -11,8 +11,7 @@ use Rattle.diag_check.specs.Used.{AreUsed}
 use Rattle.cmd_steps.specs.Vocabulary.{outside, IsLater, StepStops, stop_of_rig, Took}
 use Rattle.cmd_steps.proofs.Making.{took-quietly, stopped-quietly}
 use Rattle.cmd_steps.proofs.Taking.{later-later}
-use Rattle.diag_settled.specs.Settled.{Settles}
-use Rattle.diag_settled.proofs.Settling.{one-more, settled-counted, settled-later}
+use Rattle.diag_settled.proofs.Settling.{Settles, one-more, settled-counted, settled-later}
 use Rattle.cmd_check.specs.Testing.{HasTestLeft, IsTried, tests_now}
 use Rattle.cmd_check.proofs.Counting.{wires-fit}
 
@@ -52,7 +51,7 @@ module _ (i : ImageValue) (r0 r1 r2 : RigState) (settles : Settles r1 r2) (left 
     fails work.Memory = (tt, for-ways)
 
     -- or the rig failed, or memory was lacking
-    pub test-unsettled : (fail : RigFail) → (fail ≡ work.Failed → Rose r1.failures r2.failures) →
+    pub test-unsettled : (fail : RigFail) → LoadFails fail r1 r2 →
         Took [] (tests_now i r0 r2) (Err (stop_of_rig fail)) (outside s r0 k) (outside s r2 k)
-    test-unsettled fail cause =
-        stopped-quietly (tests_now i r0 r2) later (stop_of_rig fail) (fails fail) (settled-counted r1 r2 settles r0 s k fail took.later.rig cause)
+    test-unsettled fail refused =
+        stopped-quietly (tests_now i r0 r2) later (stop_of_rig fail) (fails fail) (settled-counted r1 r2 settles r0 s k fail took.later.rig refused)

@@ -57,7 +57,8 @@ pub(crate) fn test_settled(
         return Ok(sound);
     }
     let now = rig.loads();
-    if !has_test_left(alloc, image, before, now)? {
+    let left = has_test_left(alloc, image, before, now)?;
+    if !left {
         return Ok(sound);
     }
     match settle(alloc, shape, rig) {

@@ -1,11 +1,11 @@
 -- What stays of a list while the session of its last test ends.
-use Rattle.std.proofs.Common.{◌≡◌, ◌≢◌, ◌∙◌, ◌⊎◌, ⊥, ℕ, ◌+◌, ◌*◌, ◌^◌, ◌-◌, ◌<◌, ◌≤◌, min, [], refl, sym, ap, subst, inl, inr, arith, Ok, Err}
+use Rattle.std.proofs.Common.{◌≡◌, ◌≢◌, ◌∙◌, ◌⊎◌, ℕ, ◌+◌, ◌*◌, ◌^◌, ◌-◌, ◌<◌, ◌≤◌, min, [], refl, sym, ap, subst, inl, inr, arith, Ok, Err}
 use Rattle.std.proofs.lemmas.Bool.{cases_lt}
 use Rattle.std.proofs.Math.Nat.{min-le_left}
-use Rattle.base_io.specs.Vocabulary.{Rose, StoreState, SinkState}
+use Rattle.base_io.specs.Vocabulary.{StoreState, SinkState}
 use Rattle.machine_shape.specs.declared.Shape.{Shape}
 use Rattle.machine_defects.specs.Lists.{DefectList}
-use Rattle.rig.specs.Rig.{RigState, Machine, cycles_made}
+use Rattle.rig.specs.Rig.{RigState, Machine, LoadFails, Narrows, Tells, cycles_made}
 use Rattle.rig.specs.declared.rig.RigFail.{RigFail}
 use Rattle.rig.specs.declared.rig.RigFail.TheVariants as work
 use Rattle.diag_evidence.specs.Kept.{FewCycles, HasFew, TakesFewCycles, most_cycles}
@@ -17,7 +17,7 @@ use Rattle.cmd_steps.specs.Vocabulary.{outside, IsLater, IsCounted, LoadsOnce, S
 use Rattle.cmd_steps.proofs.Logs.{log_kept}
 use Rattle.cmd_steps.proofs.Making.{took-quietly, stopped-quietly}
 use Rattle.cmd_steps.proofs.Taking.{later-later}
-use Rattle.diag_settled.specs.Settled.{HasLoadLeft, Settles}
+use Rattle.diag_settled.specs.Settled.{HasLoadLeft}
 
 -- ---- numbers
 
@@ -34,6 +34,15 @@ less a b few other = by (cases_lt a b)
 
 -- ---- a session ends
 
+-- what a load of nothing leaves
+pub record Settles (old new : RigState) : Type 0 where
+  pub machine : new.machine ≡ old.machine
+  pub later : old.failures ≤ new.failures
+  pub narrows : Narrows old new
+  pub tells : Tells old new
+  pub once : LoadsOnce old.loads new.loads
+  pub cycles : cycles_made new ≡ cycles_made old
+
 module _ (r1 r2 : RigState) (settles : Settles r1 r2) where
   -- nothing but the rig was used
   pub settled-later : (s : StoreState) (k : SinkState) → IsLater (outside s r1 k) (outside s r2 k)
@@ -49,9 +58,9 @@ module _ (r1 r2 : RigState) (settles : Settles r1 r2) where
 
   -- the count of the failure that ended it rose since before
   pub settled-counted : (r0 : RigState) (s : StoreState) (k : SinkState) (fail : RigFail) → r0.failures ≤ r1.failures →
-      (fail ≡ work.Failed → Rose r1.failures r2.failures) → IsCounted ⊥ (stop_of_rig fail) (outside s r0 k) (outside s r2 k)
-  settled-counted r0 s k work.Failed before cause = let rose = cause refl in omega (arith, before, rose)
-  settled-counted r0 s k work.Memory before cause = tt
+      LoadFails fail r1 r2 → IsCounted ⊥ (stop_of_rig fail) (outside s r0 k) (outside s r2 k)
+  settled-counted r0 s k work.Failed before rose = omega (arith, before, rose)
+  settled-counted r0 s k work.Memory before rose = tt
 
   few-more : FewCycles r1 r2
   few-more = by settles.once
@@ -96,7 +105,7 @@ module _ (r1 r2 : RigState) (settles : Settles r1 r2) where
       fails work.Memory = (tt, few)
 
       -- or the rig failed, or memory was lacking
-      pub list-unsettled : (fail : RigFail) → (fail ≡ work.Failed → Rose r1.failures r2.failures) →
+      pub list-unsettled : (fail : RigFail) → LoadFails fail r1 r2 →
           Took [] (lists_now m r0 r2) (Err (stop_of_rig fail)) (outside s r0 k) (outside s r2 k)
-      list-unsettled fail cause =
-          stopped-quietly (lists_now m r0 r2) later (stop_of_rig fail) (fails fail) (settled-counted r0 s k fail took.later.rig cause)
+      list-unsettled fail refused =
+          stopped-quietly (lists_now m r0 r2) later (stop_of_rig fail) (fails fail) (settled-counted r0 s k fail took.later.rig refused)

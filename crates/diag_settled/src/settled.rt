@@ -1,11 +1,12 @@
 //! A load of nothing behind the last test.
-ghost use Rattle.std.specs.Prelude.{◌≡◌, [], Some, IsErrOf, IsTrue};
-ghost use Rattle.base_io.specs.Counts.{Rose};
-ghost use Rattle.cmd_steps.specs.Vocabulary.{StoreState, SinkState, shape_of, outside, Took};
+ghost use Rattle.std.specs.Prelude.{◌≡◌, ◌≤◌, [], Some, IfErr, IsTrue, OnErr, OnOk};
+ghost use Rattle.base_io.specs.Counts.{next_count};
+ghost use Rattle.rig.specs.Rig.{LoadFails, Narrows, Tells, cycles_made, shape_of};
+ghost use Rattle.cmd_steps.specs.Vocabulary.{StoreState, SinkState, outside, Took};
 ghost use Rattle.diag_evidence.specs.Kept.{TakesFewCycles};
 ghost use Rattle.diag_list.specs.Possible.{TakesFewLoadsOn};
 ghost use Rattle.diag_list.specs.Lists.{lists_now, WritesList};
-ghost use Rattle.diag_settled.specs.Settled.{HasLoadLeft, Settles};
+ghost use Rattle.diag_settled.specs.Settled.{HasLoadLeft};
 
 use base_io::Sink;
 use cmd_steps::{Stop, write};
@@ -25,8 +26,14 @@ use std::alloc::Global;
 pub fn settle(alloc: Global, shape: &Shape, rig: &mut Box<dyn Rig>) -> Result<(), RigFail>
     requires { shape_of (rig_state rig.old) ≡ Some shape.now }
 
-    ensures settles { Settles (rig_state rig.old) (rig_state rig.new) }
-    ensures cause { IsErrOf result RigFail.Failed → Rose (rig_state rig.old).failures (rig_state rig.new).failures }
+    ensures machine { (rig_state rig.new).machine ≡ (rig_state rig.old).machine }
+    ensures later { (rig_state rig.old).failures ≤ (rig_state rig.new).failures }
+    ensures narrows { Narrows (rig_state rig.old) (rig_state rig.new) }
+    ensures tells { Tells (rig_state rig.old) (rig_state rig.new) }
+    ensures made { cycles_made (rig_state rig.new) ≡ cycles_made (rig_state rig.old) }
+    ensures counted { OnOk result ((rig_state rig.new).loads ≡ next_count (rig_state rig.old).loads) }
+    ensures not_counted { OnErr result ((rig_state rig.new).loads ≡ (rig_state rig.old).loads) }
+    ensures refused { IfErr result (λ e. LoadFails e (rig_state rig.old) (rig_state rig.new)) }
 {
     let Ok(config) = Config::with_room(alloc, *shape, 0) else {
         return Err(RigFail::Memory);
