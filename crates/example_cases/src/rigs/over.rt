@@ -21,21 +21,38 @@ use std::rc::Rc;
 #[derive(Drop)]
 pub enum Over<'a> {
     /// A rig that asks again, over one that turns the reading of this number.
-    Repeat { turned: u64 },
+    Repeat {
+        turned: u64,
+    },
     /// A rig that turns the reading of this number.
-    Turn { turned: u64 },
+    Turn {
+        turned: u64,
+    },
     /// A rig that asks again, over one whose loads are told there.
-    Telling { loads: Rc<Cell<u64>> },
+    Telling {
+        loads: Rc<Cell<u64>>,
+    },
     /// Two rigs side by side, the second under this name.
-    Twin { name: &'a str },
+    Twin {
+        name: &'a str,
+    },
     /// A machine that is another, of this name, from a load on.
-    Late { from: u64, name: &'a str },
+    Late {
+        from: u64,
+        name: &'a str,
+    },
     /// A machine behind files.
     Files,
     /// A simulated rig that answers requests: a machine of this shape behind a port.
-    End { shape: Shape },
+    End {
+        shape: Shape,
+    },
     /// The same with replies spoilt. How many requests were asked is told there.
-    Spoilt { shape: Shape, plan: Plan, asked: Rc<Cell<u64>> },
+    Spoilt {
+        shape: Shape,
+        plan: Plan,
+        asked: Rc<Cell<u64>>,
+    },
 }
 
 // Makes the rig, and does the command: the top call stands here alone, since each function that makes it is proved for a minute, and a
