@@ -1,15 +1,17 @@
 //! Tests of an image, of which the last has ended too.
-ghost use Rattle.std.specs.Prelude.{◌≡◌, [], Some, IfOk, IsTrue};
+ghost use Rattle.std.specs.Prelude.{◌≡◌, ◌*◌, ◌-◌, ◌<◌, [], Some, IsTrue};
+ghost use Rattle.base_bits.specs.Numbers.{size_of};
 ghost use Rattle.cmd_steps.specs.Vocabulary.{StoreState, SinkState, shape_of, outside, Took};
-ghost use Rattle.cmd_check.specs.Testing.{HasTestLeft, tests_now};
+ghost use Rattle.cmd_check.specs.Testing.{tests_now};
 
+use base_bits::BitSet;
 use cmd_steps::Stop;
 use diag_check::{quick_check, used_wires};
 use diag_settled::settle;
 use machine_image::Image;
 use machine_shape::Shape;
 use rig::Rig;
-use std::alloc::{AllocError, Global};
+use std::alloc::Global;
 
 // Tests an image on the machine that is attached.
 fn test(alloc: Global, shape: &Shape, image: &Image, rig: &mut Box<dyn Rig>) -> Result<bool, Stop>
@@ -27,12 +29,11 @@ fn test(alloc: Global, shape: &Shape, image: &Image, rig: &mut Box<dyn Rig>) -> 
     }
 }
 
-// Whether a test has a load left that it may take, where it was begun at so many.
-fn has_test_left(alloc: Global, image: &Image, before: u64, now: u64) -> Result<bool, AllocError>
-    ensures { IfOk result (λ yes. IsTrue yes → HasTestLeft image.now before now) }
+// Whether a test of an image that uses these wires took fewer loads than it may take for its wires alone.
+fn has_test_left(used: &BitSet, before: u64, now: u64) -> bool
+    ensures { IsTrue result → now - before < 256 * size_of used.now }
 {
-    let used = used_wires(alloc, image)?;
-    Ok(now.saturating_sub(before) < 256 * u64::from(used.count()))
+    now.saturating_sub(before) < 256 * u64::from(used.count())
 }
 
 // The same, and loads nothing behind the last of what it did, where it found the image sound. The load is left out where the test took as
@@ -57,8 +58,8 @@ pub(crate) fn test_settled(
         return Ok(sound);
     }
     let now = rig.loads();
-    let left = has_test_left(alloc, image, before, now)?;
-    if !left {
+    let used = used_wires(alloc, image)?;
+    if !has_test_left(&used, before, now) {
         return Ok(sound);
     }
     match settle(alloc, shape, rig) {
