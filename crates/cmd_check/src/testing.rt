@@ -7,7 +7,7 @@ ghost use Rattle.cmd_check.specs.Testing.{tests_now};
 use base_bits::BitSet;
 use cmd_steps::Stop;
 use diag_check::{quick_check, used_wires};
-use diag_settled::settle;
+use diag_settled::{loads_of, settle};
 use machine_image::Image;
 use machine_shape::Shape;
 use rig::Rig;
@@ -52,12 +52,12 @@ pub(crate) fn test_settled(
     ensures took { (store : StoreState) (sink : SinkState) → Took [] (tests_now image.now (rig_state rig.old) (rig_state rig.new)) result
         (outside store (rig_state rig.old) sink) (outside store (rig_state rig.new) sink) }
 {
-    let before = rig.loads();
+    let before = loads_of(rig);
     let sound = test(alloc, shape, image, rig)?;
     if !sound {
         return Ok(sound);
     }
-    let now = rig.loads();
+    let now = loads_of(rig);
     let used = used_wires(alloc, image)?;
     if !has_test_left(&used, before, now) {
         return Ok(sound);

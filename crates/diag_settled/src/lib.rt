@@ -9,4 +9,4 @@
 
 mod settled;
 
-pub use settled::{list_settled, settle, write_settled};
+pub use settled::{list_settled, loads_of, settle, write_settled};

@@ -17,6 +17,13 @@ use machine_shape::Shape;
 use rig::{Rig, RigFail, load};
 use std::alloc::Global;
 
+/// How many loads the rig counts.
+pub fn loads_of(rig: &Box<dyn Rig>) -> u64
+    ensures { result ≡ (rig_state rig.now).loads }
+{
+    rig.loads()
+}
+
 /// Loads nothing: no crosspoint is closed and no table is on. So the session before has ended, as each one that was followed by
 /// another.
 ///
@@ -72,9 +79,9 @@ pub fn list_settled(alloc: Global, shape: &Shape, rig: &mut Box<dyn Rig>) -> Res
     ensures took { (store : StoreState) (sink : SinkState) → Took [] (lists_now shape.now (rig_state rig.old) (rig_state rig.new)) result
         (outside store (rig_state rig.old) sink) (outside store (rig_state rig.new) sink) }
 {
-    let before = rig.loads();
+    let before = loads_of(rig);
     let list = list_of(alloc, shape, rig)?;
-    let now = rig.loads();
+    let now = loads_of(rig);
     if !has_load_left(shape, before, now) {
         return Ok(list);
     }

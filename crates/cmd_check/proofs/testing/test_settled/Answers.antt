@@ -36,7 +36,7 @@ returns-in-Ok-clause-took g c =
     let settles : Settles r1 r2 = record { machine = e.machine; later = e.later; narrows = e.narrows; tells = e.tells; once = inr e.counted; cycles = e.made } in
     let u = c.in_ok-used.used in
     let left : HasTestLeft c.args.image.now r0.loads r1.loads = test-left c.args.image.now u r0.loads r1.loads c.in_ok-used.ensures.used
-    (subst (λ n. n - r0.loads < 256 * size_of u) c.loads-now.ensures (subst (λ n. c.loads-now.result - n < 256 * size_of u) c.loads-before.ensures (c.if-not-has_test_left.ensures refl))) in
+    (subst (λ n. n - r0.loads < 256 * size_of u) c.loads_of-now.ensures (subst (λ n. c.loads_of-now.result - n < 256 * size_of u) c.loads_of-before.ensures (c.if-not-has_test_left.ensures refl))) in
     λ store sink. test-settled c.args.image.now r0 r1 r2 settles left store sink c.in_ok-sound.sound (c.in_ok-sound.ensures.took store sink)
 
 pub returns-in-Err-clause-took : goal.returns-in-Err-clause-took
@@ -51,5 +51,5 @@ returns-in-Err-clause-took g c =
     let settles : Settles r1 r2 = record { machine = e.machine; later = e.later; narrows = e.narrows; tells = e.tells; once = inl e.not_counted; cycles = e.made } in
     let u = c.in_ok-used.used in
     let left : HasTestLeft c.args.image.now r0.loads r1.loads = test-left c.args.image.now u r0.loads r1.loads c.in_ok-used.ensures.used
-    (subst (λ n. n - r0.loads < 256 * size_of u) c.loads-now.ensures (subst (λ n. c.loads-now.result - n < 256 * size_of u) c.loads-before.ensures (c.if-not-has_test_left.ensures refl))) in
+    (subst (λ n. n - r0.loads < 256 * size_of u) c.loads_of-now.ensures (subst (λ n. c.loads_of-now.result - n < 256 * size_of u) c.loads_of-before.ensures (c.if-not-has_test_left.ensures refl))) in
     λ store sink. rw c.from.ensures (test-unsettled c.args.image.now r0 r1 r2 settles left store sink c.in_ok-sound.sound (c.in_ok-sound.ensures.took store sink) c.in-Err.fail e.refused)

@@ -19,8 +19,8 @@ returns-in-Ok-clause-loads g c =
     let box2 = c.settle.new.rig in
     let r2 = (goal.Rig-dyn g (box2.vtable, box2.value)).rig_state box2.value in
     let settles : Settles r1 r2 = record { machine = e.machine; later = e.later; narrows = e.narrows; tells = e.tells; once = inr e.counted; cycles = e.made } in
-    let left : HasLoadLeft c.args.shape.now r0.loads r1.loads = subst (λ n. HasLoadLeft c.args.shape.now r0.loads n) c.loads-now.ensures
-    (subst (λ n. HasLoadLeft c.args.shape.now n c.loads-now.result) c.loads-before.ensures (c.if-not-has_load_left.ensures refl)) in
+    let left : HasLoadLeft c.args.shape.now r0.loads r1.loads = subst (λ n. HasLoadLeft c.args.shape.now r0.loads n) c.loads_of-now.ensures
+    (subst (λ n. HasLoadLeft c.args.shape.now n c.loads_of-now.result) c.loads_of-before.ensures (c.if-not-has_load_left.ensures refl)) in
     few-settled r1 r2 settles c.args.shape.now r0 left c.in_ok-list.ensures.loads
 
 pub returns-in-Ok-clause-took : goal.returns-in-Ok-clause-took
@@ -33,8 +33,8 @@ returns-in-Ok-clause-took g c =
     let box2 = c.settle.new.rig in
     let r2 = (goal.Rig-dyn g (box2.vtable, box2.value)).rig_state box2.value in
     let settles : Settles r1 r2 = record { machine = e.machine; later = e.later; narrows = e.narrows; tells = e.tells; once = inr e.counted; cycles = e.made } in
-    let left : HasLoadLeft c.args.shape.now r0.loads r1.loads = subst (λ n. HasLoadLeft c.args.shape.now r0.loads n) c.loads-now.ensures
-    (subst (λ n. HasLoadLeft c.args.shape.now n c.loads-now.result) c.loads-before.ensures (c.if-not-has_load_left.ensures refl)) in
+    let left : HasLoadLeft c.args.shape.now r0.loads r1.loads = subst (λ n. HasLoadLeft c.args.shape.now r0.loads n) c.loads_of-now.ensures
+    (subst (λ n. HasLoadLeft c.args.shape.now n c.loads_of-now.result) c.loads_of-before.ensures (c.if-not-has_load_left.ensures refl)) in
     λ store sink. list-settled r1 r2 settles c.args.shape.now r0 left store sink c.in_ok-list.list (c.in_ok-list.ensures.took store sink)
 
 pub returns-in-Err-clause-took : goal.returns-in-Err-clause-took
@@ -47,6 +47,6 @@ returns-in-Err-clause-took g c =
     let box2 = c.settle.new.rig in
     let r2 = (goal.Rig-dyn g (box2.vtable, box2.value)).rig_state box2.value in
     let settles : Settles r1 r2 = record { machine = e.machine; later = e.later; narrows = e.narrows; tells = e.tells; once = inl e.not_counted; cycles = e.made } in
-    let left : HasLoadLeft c.args.shape.now r0.loads r1.loads = subst (λ n. HasLoadLeft c.args.shape.now r0.loads n) c.loads-now.ensures
-    (subst (λ n. HasLoadLeft c.args.shape.now n c.loads-now.result) c.loads-before.ensures (c.if-not-has_load_left.ensures refl)) in
+    let left : HasLoadLeft c.args.shape.now r0.loads r1.loads = subst (λ n. HasLoadLeft c.args.shape.now r0.loads n) c.loads_of-now.ensures
+    (subst (λ n. HasLoadLeft c.args.shape.now n c.loads_of-now.result) c.loads_of-before.ensures (c.if-not-has_load_left.ensures refl)) in
     λ store sink. rw c.from.ensures (list-unsettled r1 r2 settles c.args.shape.now r0 left store sink c.in_ok-list.list (c.in_ok-list.ensures.took store sink) c.in-Err.fail e.refused)
