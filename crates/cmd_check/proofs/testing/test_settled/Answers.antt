@@ -39,8 +39,8 @@ returns-in-Ok-clause-took g c =
     (subst (λ n. n - r0.loads < 256 * size_of u) c.loads_of-now.ensures (subst (λ n. c.loads_of-now.result - n < 256 * size_of u) c.loads_of-before.ensures (c.if-not-has_test_left.ensures refl))) in
     λ store sink. test-settled c.args.image.now r0 r1 r2 settles left store sink c.in_ok-sound.sound (c.in_ok-sound.ensures.took store sink)
 
-pub returns-in-Err-clause-took : goal.returns-in-Err-clause-took
-returns-in-Err-clause-took g c =
+pub returns-clause-took : goal.returns-clause-took
+returns-clause-took g c =
     let box0 = c.args.rig.now in
     let r0 = (goal.Rig-dyn g (box0.vtable, box0.value)).rig_state box0.value in
     let box1 = c.test.new.rig in
