@@ -7,7 +7,6 @@ mod faults;
 mod late_board;
 mod lost;
 mod memory_board;
-mod over;
 mod spoiled_port;
 mod spoiling;
 mod steps;
@@ -16,16 +15,20 @@ mod talk;
 mod telling_rig;
 
 use crate::rigs::faults::sim_of;
+use crate::rigs::late_board::LateBoard;
 use crate::rigs::lost::{Outcome, load_twice};
-use crate::rigs::over::{Over, end_over};
 use crate::rigs::spoiling::try_spoilt;
 use crate::rigs::steps::{try_answers, try_asks, try_board};
-use base_io::StdSink;
+use crate::rigs::telling_rig::TellingRig;
+use base_io::{FileStore, StdSink};
+use cmd_top::teramac;
 use example_kit::{TINY, words_of};
+use example_rigs::TurnRig;
 use machine_shape::Shape;
 use rig::Rig;
 use rig_board::BoardRig;
-use rig_port::{PortBoard, RigPort};
+use rig_doubled::{RepeatRig, TwinRig};
+use rig_port::{FileBoard, PortBoard, RigPort};
 use std::alloc::Global;
 use std::cell::Cell;
 use std::rc::Rc;
@@ -45,35 +48,90 @@ fn tell_lost(rt: &HostRuntime, found: &Outcome) -> io::Result<bool> {
     Ok(true)
 }
 
-// Does a command over a rig of this kind, and prints its status.
-fn try_over(rt: &HostRuntime, over: &Over<'_>, words: &[String]) -> io::Result<bool> {
-    let mut sink = StdSink::new(rt.clone()?);
-    let (status, _) = end_over(rt, over, words, &mut sink)?;
+// Prints the status of a command.
+fn tell(rt: &HostRuntime, status: u8) -> io::Result<bool> {
     println!(rt; "status {status}")?;
     Ok(true)
 }
 
+// Over a rig that asks again, over one that turns the reading of a number.
+fn try_repeat(rt: &HostRuntime, turned: &str, words: &[String]) -> io::Result<bool> {
+    let alloc: Global = rt.alloc();
+    let inner = TurnRig::new(sim_of(rt)?, number_of(turned));
+    let mut rig: Box<dyn Rig> = Box::new(alloc, RepeatRig::new(alloc, inner))?;
+    let mut store = FileStore::new(alloc, rt.clone()?);
+    let mut sink = StdSink::new(rt.clone()?);
+    tell(rt, teramac(alloc, words, &mut store, &mut rig, &mut sink))
+}
+
+// Over a rig that turns the reading of a number.
+fn try_turn(rt: &HostRuntime, turned: &str, words: &[String]) -> io::Result<bool> {
+    let alloc: Global = rt.alloc();
+    let mut rig: Box<dyn Rig> = Box::new(alloc, TurnRig::new(sim_of(rt)?, number_of(turned)))?;
+    let mut store = FileStore::new(alloc, rt.clone()?);
+    let mut sink = StdSink::new(rt.clone()?);
+    tell(rt, teramac(alloc, words, &mut store, &mut rig, &mut sink))
+}
+
 // Over a rig that asks again. False where its inner rig wasn't loaded so often for each load but the last, and once for that.
 fn try_passes(rt: &HostRuntime, times: &str, words: &[String]) -> io::Result<bool> {
-    let loads = Rc::new(rt.alloc(), Cell::new(0u64))?;
-    let over = Over::Telling {
-        loads: loads.clone()?,
-    };
+    let alloc: Global = rt.alloc();
+    let loads = Rc::new(alloc, Cell::new(0u64))?;
+    let inner = TellingRig::new(sim_of(rt)?, loads.clone()?);
+    let mut rig: Box<dyn Rig> = Box::new(alloc, RepeatRig::new(alloc, inner))?;
+    let mut store = FileStore::new(alloc, rt.clone()?);
     let mut sink = StdSink::new(rt.clone()?);
-    let (status, asked) = end_over(rt, &over, words, &mut sink)?;
-    let but_last = asked.saturating_sub(1);
+    let status = teramac(alloc, words, &mut store, &mut rig, &mut sink);
+    let but_last = rig.loads().saturating_sub(1);
     let due = but_last.saturating_mul(number_of(times)).saturating_add(1);
     let right = 0 < but_last && loads.get() == due;
     println!(rt; "status {status}, each load but the last was made {times} times: {right}")?;
     Ok(right)
 }
 
+// Over two rigs side by side, the second under this name.
+fn try_twin(rt: &HostRuntime, name: &str, words: &[String]) -> io::Result<bool> {
+    let alloc: Global = rt.alloc();
+    let name = String::from_str(alloc, name)?;
+    let twin = TwinRig::new(alloc, sim_of(rt)?, sim_of(rt)?, name);
+    let mut rig: Box<dyn Rig> = Box::new(alloc, twin)?;
+    let mut store = FileStore::new(alloc, rt.clone()?);
+    let mut sink = StdSink::new(rt.clone()?);
+    tell(rt, teramac(alloc, words, &mut store, &mut rig, &mut sink))
+}
+
+// Over a machine that is another, of this name, from a load on.
+fn try_late(rt: &HostRuntime, from: &str, name: &str, words: &[String]) -> io::Result<bool> {
+    let alloc: Global = rt.alloc();
+    let late = String::from_str(alloc, name)?;
+    let board = LateBoard::new(alloc, sim_of(rt)?, number_of(from), late);
+    let mut rig: Box<dyn Rig> = Box::new(alloc, BoardRig::new(alloc, board))?;
+    let mut store = FileStore::new(alloc, rt.clone()?);
+    let mut sink = StdSink::new(rt.clone()?);
+    tell(rt, teramac(alloc, words, &mut store, &mut rig, &mut sink))
+}
+
+// Over a machine behind files.
+fn try_port(rt: &HostRuntime, words: &[String]) -> io::Result<bool> {
+    let alloc: Global = rt.alloc();
+    let board = FileBoard::new(alloc, rt.clone()?);
+    let mut rig: Box<dyn Rig> = Box::new(alloc, BoardRig::new(alloc, board))?;
+    let mut store = FileStore::new(alloc, rt.clone()?);
+    let mut sink = StdSink::new(rt.clone()?);
+    tell(rt, teramac(alloc, words, &mut store, &mut rig, &mut sink))
+}
+
 // Over a simulated rig that answers requests: a machine of the counts of `tiny` behind a port.
 fn try_end(rt: &HostRuntime, words: &[String]) -> io::Result<bool> {
+    let alloc: Global = rt.alloc();
     let Ok(shape) = Shape::new(TINY) else {
         return Ok(false);
     };
-    try_over(rt, &Over::End { shape }, words)
+    let board = PortBoard::new(alloc, RigPort::new(alloc, sim_of(rt)?, shape));
+    let mut store = FileStore::new(alloc, rt.clone()?);
+    let mut sink = StdSink::new(rt.clone()?);
+    let mut rig: Box<dyn Rig> = Box::new(alloc, BoardRig::new(alloc, board))?;
+    tell(rt, teramac(alloc, words, &mut store, &mut rig, &mut sink))
 }
 
 // Over a machine behind a port, what is read behind a load that may have been made again.
@@ -96,29 +154,29 @@ fn try_lost(rt: &HostRuntime, name: &str) -> io::Result<bool> {
 // Tries the case that words say; false where they say none.
 fn try_words(rt: &HostRuntime, words: &[String]) -> io::Result<bool> {
     match words {
-        [kind, turned, words @ ..] if kind.as_str() == "repeat" => {
-            let turned = number_of(turned.as_str());
-            try_over(rt, &Over::Repeat { turned }, words)
-        }
-        [kind, from, name, words @ ..] if kind.as_str() == "late" => {
-            let from = number_of(from.as_str());
-            let name = name.as_str();
-            try_over(rt, &Over::Late { from, name }, words)
-        }
-        [kind, turned, words @ ..] if kind.as_str() == "turn" => {
-            let turned = number_of(turned.as_str());
-            try_over(rt, &Over::Turn { turned }, words)
-        }
+        [kind, turned, words @ ..] if kind.as_str() == "repeat" => try_repeat(
+            rt,
+            turned.as_str(),
+            words,
+        ),
+        [kind, from, name, words @ ..] if kind.as_str() == "late" => try_late(
+            rt,
+            from.as_str(),
+            name.as_str(),
+            words,
+        ),
+        [kind, turned, words @ ..] if kind.as_str() == "turn" => try_turn(
+            rt,
+            turned.as_str(),
+            words,
+        ),
         [kind, times, words @ ..] if kind.as_str() == "passes" => try_passes(
             rt,
             times.as_str(),
             words,
         ),
-        [kind, name, words @ ..] if kind.as_str() == "twin" => {
-            let name = name.as_str();
-            try_over(rt, &Over::Twin { name }, words)
-        }
-        [kind, words @ ..] if kind.as_str() == "port" => try_over(rt, &Over::Files, words),
+        [kind, name, words @ ..] if kind.as_str() == "twin" => try_twin(rt, name.as_str(), words),
+        [kind, words @ ..] if kind.as_str() == "port" => try_port(rt, words),
         [kind, words @ ..] if kind.as_str() == "end" => try_end(rt, words),
         [kind, how, every, count, words @ ..] if kind.as_str() == "spoilt" => try_spoilt(
             rt,

@@ -1,10 +1,14 @@
 //! Commands over a machine behind a port of which chosen replies are spoilt.
 
-use crate::rigs::over::{Over, end_over};
-use crate::rigs::spoiled_port::{Plan, Spoil};
-use base_io::MemorySink;
+use crate::rigs::faults::sim_of;
+use crate::rigs::spoiled_port::{Plan, Spoil, SpoiledPort};
+use base_io::{FileStore, MemorySink};
+use cmd_top::teramac;
 use example_kit::TINY;
 use machine_shape::Shape;
+use rig::Rig;
+use rig_board::BoardRig;
+use rig_port::{PortBoard, RigPort};
 use std::alloc::Global;
 use std::cell::Cell;
 use std::io;
@@ -22,13 +26,13 @@ struct Outcome {
 fn outcome_of(rt: &HostRuntime, shape: Shape, plan: Plan, words: &[String]) -> io::Result<Outcome> {
     let alloc: Global = rt.alloc();
     let asked = Rc::new(alloc, Cell::new(0u64))?;
-    let over = Over::Spoilt {
-        shape,
-        plan,
-        asked: asked.clone()?,
-    };
+    let counted = asked.clone()?;
+    let mut store = FileStore::new(alloc, rt.clone()?);
     let mut sink = MemorySink::new(alloc, Vec::new(alloc));
-    let (status, _) = end_over(rt, &over, words, &mut sink)?;
+    let end = RigPort::new(alloc, sim_of(rt)?, shape);
+    let board = PortBoard::new(alloc, SpoiledPort::new(alloc, end, plan, counted));
+    let mut rig: Box<dyn Rig> = Box::new(alloc, BoardRig::new(alloc, board))?;
+    let status = teramac(alloc, words, &mut store, &mut rig, &mut sink);
     Ok(Outcome {
         status,
         bytes: Vec::from_slice(alloc, sink.bytes())?,
