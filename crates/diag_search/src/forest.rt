@@ -20,6 +20,11 @@ const NEAR_DRAWS: (u32, u32) = (200, 64);
 /// The same for the other wires.
 const FAR_DRAWS: (u32, u32) = (12, 3);
 
+/// How many trees are few, and how often feet are drawn then until each height hangs on all of them.
+const FEW_TREES: usize = 8;
+
+const MOST_PLANTS: u32 = 32;
+
 /// The tree of a wire that hangs nowhere.
 const NO_TREE: u32 = u32::MAX;
 
@@ -40,6 +45,17 @@ pub struct PlannedForest {
     pub links: Vec<Link>,
     /// How often it was laid anew: then the links are others, and else they only become more.
     pub round: u64,
+}
+
+// How many of few flags are set.
+fn count_set(flags: &[bool]) -> usize {
+    let mut count: usize = 0;
+    'flags: for flag in flags {
+        if *flag {
+            count = count.saturating_add(1);
+        }
+    }
+    count
 }
 
 impl PlannedForest {
@@ -239,18 +255,54 @@ impl PlannedForest {
         }
     }
 
-    /// Draws all feet anew, and then all known wires hang.
+    // Draws all feet anew.
+    fn draw_feet(&mut self, board: &Board, heights: &Heights, draws: &mut Draws) {
+        self.clear_sizes();
+        'steps: for at in 0..self.steps.len() {
+            if let Some(step) = self.steps.get(at).copied() {
+                let drawn = self.drawn_foot(board, heights, draws, step.wire);
+                self.hang(step, drawn);
+            }
+        }
+    }
+
+    // Whether the known wires of each height hang on all trees, or each on one of its own.
+    fn is_spread(&self, heights: &Heights) -> bool {
+        'heights: for height in 0..HEIGHTS {
+            let (wires, trees) = self.spread_at(heights, height);
+            if trees < wires.min(self.sizes.len()) {
+                return false;
+            }
+        }
+        true
+    }
+
+    // How many known wires there are of a height, and on how many trees they hang, of few ones.
+    fn spread_at(&self, heights: &Heights, height: usize) -> (usize, usize) {
+        let mut wires: usize = 0;
+        let mut trees: [bool; FEW_TREES] = [false; FEW_TREES];
+        'steps: for step in &self.steps {
+            let tree = self.tree(step.wire) as usize;
+            if heights.height(step.wire) == height && tree < FEW_TREES {
+                wires = wires.saturating_add(1);
+                trees[tree] = true;
+            }
+        }
+        (wires, count_set(&trees))
+    }
+
+    /// Draws all feet anew, and then all known wires hang. Where there are few trees, they are drawn so that a height hangs on all of them,
+    /// if that can be: on fewer trees fewer wires can be hung in a load.
     pub(crate) fn plant(
         &mut self,
         board: &Board,
         heights: &Heights,
         draws: &mut Draws,
     ) -> Result<(), AllocError> {
-        self.clear_sizes();
-        'steps: for at in 0..self.steps.len() {
-            if let Some(step) = self.steps.get(at).copied() {
-                let drawn = self.drawn_foot(board, heights, draws, step.wire);
-                self.hang(step, drawn);
+        'draws: for _draw in 0..MOST_PLANTS {
+            self.draw_feet(board, heights, draws);
+            if self.sizes.len() > FEW_TREES || self.is_spread(heights) {
+                break;
             }
         }
         self.hold(heights, HEIGHTS)
