@@ -214,7 +214,7 @@ impl Search {
         if count > FEW_LINKS {
             return self.draws.draw_under(count);
         }
-        self.hanging.tries_of(w) % count.max(1)
+        w.0.saturating_add(self.hanging.tries_of(w)) % count.max(1)
     }
 
     // Two crosspoints of a wire to known wires on two trees that no other uses. These are used then.
