@@ -12,6 +12,10 @@ use crate::walk::Walk;
 use machine_shape::{Cross, Shape};
 use std::alloc::{AllocError, Global};
 
+/// For how many pins of the machine a walk has to be laid at least. A look goes over all pins for each of them: where they are many and few
+/// walks are led, growth takes less.
+const PINS_A_WALK: usize = 1_000;
+
 /// How many crossbars in a row may have no walk for a load though ends are left.
 const MOST_MISSES: u32 = 24;
 
@@ -426,7 +430,17 @@ impl Search {
         } else {
             self.lay_long(most)?;
         }
+        self.drop_few();
         self.order_trials()
+    }
+
+    // Makes no load of few walks where there are many pins.
+    fn drop_few(&mut self) {
+        let walks = self.walking.trials.len();
+        if walks.saturating_mul(PINS_A_WALK) < self.board.pins() as usize {
+            self.walking.trials.clear();
+            self.walking.trees.clear();
+        }
     }
 
     // No walk was found once more. False where none is to be looked for any more.
