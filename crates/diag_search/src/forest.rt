@@ -20,10 +20,8 @@ const NEAR_DRAWS: (u32, u32) = (200, 64);
 /// The same for the other wires.
 const FAR_DRAWS: (u32, u32) = (12, 3);
 
-/// How many trees are few, and how often feet are drawn then until each height hangs on all of them.
+/// How many trees are few: then it is looked whether each height hangs on all of them.
 const FEW_TREES: usize = 8;
-
-const MOST_PLANTS: u32 = 32;
 
 /// The tree of a wire that hangs nowhere.
 const NO_TREE: u32 = u32::MAX;
@@ -266,8 +264,11 @@ impl PlannedForest {
         }
     }
 
-    // Whether the known wires of each height hang on all trees, or each on one of its own.
-    fn is_spread(&self, heights: &Heights) -> bool {
+    /// Whether the known wires of each height hang on all trees, or each on one of its own. Where there are many trees, that isn't asked.
+    pub(crate) fn is_spread(&self, heights: &Heights) -> bool {
+        if self.sizes.len() > FEW_TREES {
+            return true;
+        }
         'heights: for height in 0..HEIGHTS {
             let (wires, trees) = self.spread_at(heights, height);
             if trees < wires.min(self.sizes.len()) {
@@ -291,17 +292,17 @@ impl PlannedForest {
         (wires, count_set(&trees))
     }
 
-    /// Draws all feet anew, and then all known wires hang. Where there are few trees, they are drawn so that a height hangs on all of them,
-    /// if that can be: on fewer trees fewer wires can be hung in a load.
+    /// Draws all feet anew, so often at most until each height hangs on all trees, if there are few. Then all known wires hang.
     pub(crate) fn plant(
         &mut self,
         board: &Board,
         heights: &Heights,
         draws: &mut Draws,
+        most: u32,
     ) -> Result<(), AllocError> {
-        'draws: for _draw in 0..MOST_PLANTS {
+        'draws: for _draw in 0..most {
             self.draw_feet(board, heights, draws);
-            if self.sizes.len() > FEW_TREES || self.is_spread(heights) {
+            if self.is_spread(heights) {
                 break;
             }
         }

@@ -81,6 +81,11 @@ impl HangBook {
         self.tries.get(w.0 as usize).copied().unwrap_or(MOST_TRIES)
     }
 
+    /// Whether a wire that was hung hasn't come to be known by it.
+    pub(crate) fn has_missed(&self) -> bool {
+        self.hung > self.learnt
+    }
+
     // How often a wire is hung: more often where few of those that were hung have come to be known.
     fn most_tries(&self) -> u32 {
         let hung = self.hung.saturating_add(FIRST_HANGS);
@@ -209,12 +214,14 @@ impl Search {
         feet.saturating_mul(feet.saturating_sub(1)) <= tries
     }
 
-    // The link of a wire, of so many, from which on two are sought: it is drawn, but where there are few, each in its turn.
+    // The link of a wire, of so many, from which on two are sought: it is drawn, but where there are few and the wire was hung before,
+    // each in its turn.
     fn first_place(&mut self, w: Wire, count: u32) -> u32 {
-        if count > FEW_LINKS {
+        let tries = self.hanging.tries_of(w);
+        if tries == 0 || count > FEW_LINKS {
             return self.draws.draw_under(count);
         }
-        w.0.saturating_add(self.hanging.tries_of(w)) % count.max(1)
+        w.0.saturating_add(tries) % count.max(1)
     }
 
     // Two crosspoints of a wire to known wires on two trees that no other uses. These are used then.

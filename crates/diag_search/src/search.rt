@@ -13,6 +13,9 @@ use crate::walks::WalkBook;
 use machine_shape::{Cross, Shape, Wire};
 use std::alloc::{AllocError, Global};
 
+/// How often feet are drawn anew until each height hangs on all trees.
+const MOST_PLANTS: u32 = 32;
+
 /// What the search remembers.
 #[derive(Drop)]
 pub struct Search {
@@ -89,10 +92,21 @@ impl Search {
         self.forest.learn(&self.heights, step)
     }
 
-    /// Draws the feet of all known wires anew.
+    /// Draws the feet of all known wires anew. Where some could be hung on some trees alone, it is tried to spread the others.
     pub fn plant(&mut self) -> Result<(), AllocError> {
+        let most = if self.hanging.has_missed() {
+            MOST_PLANTS
+        } else {
+            1
+        };
         self.forest
-            .plant(&self.board, &self.heights, &mut self.draws)
+            .plant(&self.board, &self.heights, &mut self.draws, most)
+    }
+
+    /// Whether wires of one height hang on some of few trees, since some could be hung on others alone: then fewer wires can be hung in a
+    /// load than on all trees.
+    pub fn is_crowded(&self) -> bool {
+        self.hanging.has_missed() && !self.forest.is_spread(&self.heights)
     }
 
     /// From now on all known wires hang.

@@ -28,10 +28,6 @@ const MOST_LOADS: u32 = 1_000_000;
 /// With how many loads left at least crosspoints are tested behind each height: with few pins walks bring more than hangs.
 const LEAST_LOADS: u64 = 56;
 
-/// With how many pins of the machine at most they are tested so anyhow: with few trees a height seldom hangs on all of them unless its
-/// feet are drawn anew from many.
-const FEW_PINS: u32 = 8;
-
 /// How many loads of hangs may be made for a wire where few are left; and in the first pass else.
 const POOR_LOADS: u64 = 2;
 
@@ -204,7 +200,7 @@ fn hang_wanted(
 }
 
 // Tests crosspoints between known wires, where few loads are left: each takes two in, and hangs take more than they bring where most of
-// the crosspoints are stuck.
+// the crosspoints are stuck. So where wires of one height hang on few trees, as feet are drawn anew behind it.
 fn refill(
     rig: &mut Box<dyn Rig>,
     facts: &mut Facts,
@@ -220,7 +216,7 @@ fn refill(
     ensures advances { Advances (rig_state rig.old) (rig_state rig.new) facts.old facts.new }
     ensures cause { IsErrOf result RigFail.Failed → Rose (rig_state rig.old).failures (rig_state rig.new).failures }
 {
-    if facts.shape().pins() > FEW_PINS && !state.budget.is_low(rig, facts, LEAST_LOADS) {
+    if !state.search.is_crowded() && !state.budget.is_low(rig, facts, LEAST_LOADS) {
         return Ok(());
     }
     lead_all(rig, facts, known, bad, field, state)
