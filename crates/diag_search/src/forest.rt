@@ -21,7 +21,7 @@ const NEAR_DRAWS: (u32, u32) = (200, 64);
 const FAR_DRAWS: (u32, u32) = (12, 3);
 
 /// How many trees are few: then it is looked whether each height hangs on all of them.
-const FEW_TREES: usize = 8;
+const FEW_TREES: usize = 32;
 
 /// The tree of a wire that hangs nowhere.
 const NO_TREE: u32 = u32::MAX;

@@ -13,8 +13,12 @@ use crate::walks::WalkBook;
 use machine_shape::{Cross, Shape, Wire};
 use std::alloc::{AllocError, Global};
 
-/// How often feet are drawn anew until each height hangs on all trees.
+/// How often feet are drawn anew until each height hangs on all trees: at least and at most, and for all trees together.
+const LEAST_PLANTS: u32 = 4;
+
 const MOST_PLANTS: u32 = 32;
+
+const PLANTS_OF_TREES: u32 = 128;
 
 /// What the search remembers.
 #[derive(Drop)]
@@ -92,13 +96,18 @@ impl Search {
         self.forest.learn(&self.heights, step)
     }
 
+    // How often feet are drawn: once, as long as no wire was hung in vain, and else the oftener the fewer trees there are.
+    fn most_plants(&self) -> u32 {
+        if !self.hanging.has_missed() {
+            return 1;
+        }
+        let share = PLANTS_OF_TREES / self.board.pins().max(1);
+        share.clamp(LEAST_PLANTS, MOST_PLANTS)
+    }
+
     /// Draws the feet of all known wires anew. Where some could be hung on some trees alone, it is tried to spread the others.
     pub fn plant(&mut self) -> Result<(), AllocError> {
-        let most = if self.hanging.has_missed() {
-            MOST_PLANTS
-        } else {
-            1
-        };
+        let most = self.most_plants();
         self.forest
             .plant(&self.board, &self.heights, &mut self.draws, most)
     }
