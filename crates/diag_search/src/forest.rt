@@ -23,6 +23,9 @@ const FAR_DRAWS: (u32, u32) = (12, 3);
 /// How many trees are few: then it is looked whether each height hangs on all of them.
 const FEW_TREES: usize = 32;
 
+/// What a share of trees is said in.
+pub(crate) const QUARTERS: usize = 4;
+
 /// The tree of a wire that hangs nowhere.
 const NO_TREE: u32 = u32::MAX;
 
@@ -264,14 +267,16 @@ impl PlannedForest {
         }
     }
 
-    /// Whether the known wires of each height hang on all trees, or each on one of its own. Where there are many trees, that isn't asked.
-    pub(crate) fn is_spread(&self, heights: &Heights) -> bool {
+    /// Whether the known wires of each height hang on so many quarters of all trees, or of as many trees as there are of them. Where there
+    /// are many trees, that isn't asked.
+    pub(crate) fn is_spread(&self, heights: &Heights, quarters: usize) -> bool {
         if self.sizes.len() > FEW_TREES {
             return true;
         }
         'heights: for height in 0..HEIGHTS {
             let (wires, trees) = self.spread_at(heights, height);
-            if trees < wires.min(self.sizes.len()) {
+            let most = wires.min(self.sizes.len());
+            if trees.saturating_mul(QUARTERS) < most.saturating_mul(quarters) {
                 return false;
             }
         }
@@ -292,17 +297,17 @@ impl PlannedForest {
         (wires, count_set(&trees))
     }
 
-    /// Draws all feet anew, so often at most until each height hangs on all trees, if there are few. Then all known wires hang.
+    /// Draws all feet anew, as often as is wanted at most, until they are spread over the wanted quarters of few trees. Then all known wires hang.
     pub(crate) fn plant(
         &mut self,
         board: &Board,
         heights: &Heights,
         draws: &mut Draws,
-        most: u32,
+        wanted: (u32, usize),
     ) -> Result<(), AllocError> {
-        'draws: for _draw in 0..most {
+        'draws: for _draw in 0..wanted.0 {
             self.draw_feet(board, heights, draws);
-            if self.is_spread(heights) {
+            if self.is_spread(heights, wanted.1) {
                 break;
             }
         }
