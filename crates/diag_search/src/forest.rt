@@ -297,8 +297,8 @@ impl PlannedForest {
         (wires, count_set(&trees))
     }
 
-    /// Draws all feet anew, as often as is wanted at most, until they are spread over the wanted quarters of few trees. Then all known wires
-    /// hang.
+    /// Draws all feet anew, at most as often as is wanted, until they are spread over the wanted quarters of few trees. Then all known
+    /// wires hang.
     pub(crate) fn plant(
         &mut self,
         board: &Board,
