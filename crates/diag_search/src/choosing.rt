@@ -267,8 +267,16 @@ impl Chooser {
         Ok(())
     }
 
+    // Whether nothing is looked for: before all passes have been made, as long as no wire was found bad, so that hardly another one is.
+    fn rests(&self, unfit: &BitSet, unclear: &BitSet) -> bool {
+        self.aim == Aim::Rest && unfit.count() == 0 && unclear.count() == 0
+    }
+
     // All wires that are neither known nor unfit.
     fn want_rest(&mut self, unfit: &BitSet, unclear: &BitSet) -> Result<(), AllocError> {
+        if self.rests(unfit, unclear) {
+            return Ok(());
+        }
         'wires: for w in 0..self.shape.wires() {
             if !self.knows(Wire(w)) && !in_set(unfit, w) && !in_set(unclear, w) {
                 self.wanted.push(Wire(w))?;

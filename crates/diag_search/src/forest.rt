@@ -20,6 +20,12 @@ const NEAR_DRAWS: (u32, u32) = (200, 64);
 /// The same for the other wires.
 const FAR_DRAWS: (u32, u32) = (12, 3);
 
+/// How many trees are few: then it is looked whether each height hangs on all of them.
+const FEW_TREES: usize = 32;
+
+/// What a share of trees is said in.
+pub(crate) const QUARTERS: usize = 4;
+
 /// The tree of a wire that hangs nowhere.
 const NO_TREE: u32 = u32::MAX;
 
@@ -40,6 +46,17 @@ pub struct PlannedForest {
     pub links: Vec<Link>,
     /// How often it was laid anew: then the links are others, and else they only become more.
     pub round: u64,
+}
+
+// How many of few flags are set.
+fn count_set(flags: &[bool]) -> usize {
+    let mut count: usize = 0;
+    'flags: for flag in flags {
+        if *flag {
+            count = count.saturating_add(1);
+        }
+    }
+    count
 }
 
 impl PlannedForest {
@@ -239,18 +256,60 @@ impl PlannedForest {
         }
     }
 
-    /// Draws all feet anew, and then all known wires hang.
-    pub(crate) fn plant(
-        &mut self,
-        board: &Board,
-        heights: &Heights,
-        draws: &mut Draws,
-    ) -> Result<(), AllocError> {
+    // Draws all feet anew.
+    fn draw_feet(&mut self, board: &Board, heights: &Heights, draws: &mut Draws) {
         self.clear_sizes();
         'steps: for at in 0..self.steps.len() {
             if let Some(step) = self.steps.get(at).copied() {
                 let drawn = self.drawn_foot(board, heights, draws, step.wire);
                 self.hang(step, drawn);
+            }
+        }
+    }
+
+    /// Whether the known wires of each height hang on so many quarters of all trees, or of as many trees as there are of them. Where there
+    /// are many trees, that isn't asked.
+    pub(crate) fn is_spread(&self, heights: &Heights, quarters: usize) -> bool {
+        if self.sizes.len() > FEW_TREES {
+            return true;
+        }
+        'heights: for height in 0..HEIGHTS {
+            let (wires, trees) = self.spread_at(heights, height);
+            let most = wires.min(self.sizes.len());
+            if trees.saturating_mul(QUARTERS) < most.saturating_mul(quarters) {
+                return false;
+            }
+        }
+        true
+    }
+
+    // How many known wires there are of a height, and on how many trees they hang, of few ones.
+    fn spread_at(&self, heights: &Heights, height: usize) -> (usize, usize) {
+        let mut wires: usize = 0;
+        let mut trees: [bool; FEW_TREES] = [false; FEW_TREES];
+        'steps: for step in &self.steps {
+            let tree = self.tree(step.wire) as usize;
+            if heights.height(step.wire) == height && tree < FEW_TREES {
+                wires = wires.saturating_add(1);
+                trees[tree] = true;
+            }
+        }
+        (wires, count_set(&trees))
+    }
+
+    /// Draws all feet anew, at most as often as is wanted, until they are spread over the wanted quarters of few trees. Then all known
+    /// wires hang.
+    pub(crate) fn plant(
+        &mut self,
+        board: &Board,
+        heights: &Heights,
+        draws: &mut Draws,
+        wanted: (u32, usize),
+    ) -> Result<(), AllocError> {
+        'draws: for _draw in 0..wanted.0 {
+            self.draw_feet(board, heights, draws);
+            if self.is_spread(heights, wanted.1) {
+                break;
             }
         }
         self.hold(heights, HEIGHTS)

@@ -18,6 +18,9 @@ const LEARNT_TRIES: u64 = 3;
 /// From how many tries on one of two wires that are shorted to each other is left out now and then.
 const EASY_TRIES: u32 = 2;
 
+/// Of how many links a wire takes each in its turn, so that no two are tried over and over.
+const FEW_LINKS: u32 = 8;
+
 /// How many wires in a row may fail to hang.
 const MOST_MISSES: u32 = 48;
 
@@ -76,6 +79,11 @@ impl HangBook {
     /// How often a wire was hung in this pass.
     pub fn tries_of(&self, w: Wire) -> u32 {
         self.tries.get(w.0 as usize).copied().unwrap_or(MOST_TRIES)
+    }
+
+    /// Whether a wire that was hung hasn't come to be known by it.
+    pub(crate) fn has_missed(&self) -> bool {
+        self.hung > self.learnt
     }
 
     // How often a wire is hung: more often where few of those that were hung have come to be known.
@@ -206,10 +214,20 @@ impl Search {
         feet.saturating_mul(feet.saturating_sub(1)) <= tries
     }
 
+    // The link of a wire, of so many, from which on two are sought: it is drawn, but where there are few and the wire was hung before,
+    // each in its turn.
+    fn first_place(&mut self, w: Wire, count: u32) -> u32 {
+        let tries = self.hanging.tries_of(w);
+        if tries == 0 || count > FEW_LINKS {
+            return self.draws.draw_under(count);
+        }
+        w.0.saturating_add(tries) % count.max(1)
+    }
+
     // Two crosspoints of a wire to known wires on two trees that no other uses. These are used then.
     fn two_feet(&mut self, w: Wire) -> Option<(Support, Support)> {
         let count = self.link_count(w);
-        let begin = self.draws.draw_under(count);
+        let begin = self.first_place(w, count);
         let (tried, first) = self.free_link(w, count, begin, 0)?;
         let tree = self.forest.tree(first.wire);
         self.board.occupy(tree);

@@ -13,7 +13,7 @@
 //! | `heights`, `board` | the machine's links by distance from its pins; what was told of crosspoints and wires |
 //! | `forest` | the forest that stays from load to load: each known wire on one foot |
 //! | `hangs` | wires that hang over two crosspoints |
-//! | `pools`, `landings`, `joins`, `climbs`, `stretches`, `groups`, `walks` | walks from tree to tree over what is left of a crossbar |
+//! | `pools`, `landings`, `joins`, `climbs`, `stretches`, `groups`, `singles`, `walks` | walks from tree to tree over what is left |
 //! | `tables` | tables of a chip |
 //! | `choosing`, `choosing_looks`, `choosing_tables` | which of shorted wires stays, and the looks for it |
 //! | `search` | what all of these share |
@@ -36,6 +36,7 @@ mod landings;
 mod number_bits;
 mod pools;
 mod search;
+mod singles;
 mod stretches;
 mod tables;
 mod walk;

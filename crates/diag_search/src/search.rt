@@ -3,7 +3,7 @@
 use crate::board::{Board, Mark};
 use crate::draws::Draws;
 use crate::feet::VerifiedWire;
-use crate::forest::PlannedForest;
+use crate::forest::{PlannedForest, QUARTERS};
 use crate::hangs::HangBook;
 use crate::heights::{HEIGHTS, Heights};
 use crate::landings::Landings;
@@ -12,6 +12,18 @@ use crate::tables::TableBook;
 use crate::walks::WalkBook;
 use machine_shape::{Cross, Shape, Wire};
 use std::alloc::{AllocError, Global};
+
+/// How often feet are drawn anew until each height hangs on all trees: at least and at most, and for all trees together.
+const LEAST_PLANTS: u32 = 4;
+
+const MOST_PLANTS: u32 = 32;
+
+const PLANTS_OF_TREES: u32 = 128;
+
+/// Most trees, in quarters, and how many pins are few.
+const MOST_TREES: usize = 3;
+
+const FEW_PINS: u32 = 8;
 
 /// What the search remembers.
 #[derive(Drop)]
@@ -89,10 +101,35 @@ impl Search {
         self.forest.learn(&self.heights, step)
     }
 
-    /// Draws the feet of all known wires anew.
+    // How often feet are drawn at most: the oftener the fewer trees there are.
+    fn most_plants(&self) -> u32 {
+        let share = PLANTS_OF_TREES / self.board.pins().max(1);
+        share.clamp(LEAST_PLANTS, MOST_PLANTS)
+    }
+
+    /// Draws the feet of all known wires anew, a few times where they aren't spread over few trees.
     pub fn plant(&mut self) -> Result<(), AllocError> {
+        let wanted = (self.most_plants(), self.wanted_quarters());
         self.forest
-            .plant(&self.board, &self.heights, &mut self.draws)
+            .plant(&self.board, &self.heights, &mut self.draws, wanted)
+    }
+
+    /// Whether wires of one height hang on some of few trees, where more could be had: then fewer wires can be hung in a load.
+    pub fn is_crowded(&self) -> bool {
+        !self.forest.is_spread(&self.heights, self.wanted_quarters())
+    }
+
+    // On how many quarters of the trees a height should hang: on most of them, and on all once a wire was hung in vain. With few pins that
+    // is asked then alone.
+    fn wanted_quarters(&self) -> usize {
+        if self.hanging.has_missed() {
+            return QUARTERS;
+        }
+        if self.board.pins() > FEW_PINS {
+            MOST_TREES
+        } else {
+            0
+        }
     }
 
     /// From now on all known wires hang.

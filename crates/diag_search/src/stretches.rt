@@ -152,8 +152,8 @@ impl Search {
         self.kept_step(node, at)
     }
 
-    // How many crosspoints are tried on one walk, so that half of the walks lead: fewer, where walks found more stuck.
-    fn limit(&self) -> u64 {
+    /// How many crosspoints are tried on one walk, so that half of the walks lead: fewer, where walks found more stuck.
+    pub(crate) fn limit(&self) -> u64 {
         let decided = self.walking.decided.saturating_add(64);
         let found = self.walking.found.saturating_add(1);
         (decided.saturating_mul(7) / found.saturating_mul(10).max(1)).clamp(1, MOST_TRIED)

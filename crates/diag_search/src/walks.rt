@@ -12,6 +12,10 @@ use crate::walk::Walk;
 use machine_shape::{Cross, Shape};
 use std::alloc::{AllocError, Global};
 
+/// For how many pins of the machine a walk has to be laid at least. A look goes over all pins for each of them: where they are many and few
+/// walks are led, growth takes less.
+const PINS_A_WALK: usize = 1_000;
+
 /// How many crossbars in a row may have no walk for a load though ends are left.
 const MOST_MISSES: u32 = 24;
 
@@ -57,6 +61,18 @@ impl Trial {
             group: None,
         }
     }
+
+    /// A walk over one crosspoint that isn't decided.
+    pub(crate) fn single(alloc: Global, walk: Walk, node: u32) -> Result<Trial, AllocError> {
+        let tried = walk.cut(alloc, 0, walk.crosses.len())?;
+        Ok(Trial {
+            walk,
+            node,
+            tried,
+            left: 1,
+            group: None,
+        })
+    }
 }
 
 /// The walks of the next load, and what remains of those before.
@@ -66,6 +82,9 @@ pub struct WalkBook {
     pub trials: Vec<Trial>,
     pub(crate) groups: Vec<Group>,
     pub(crate) at_group: usize,
+    // Whether walks lead over one crosspoint each, and the depth of their crossbars.
+    single: bool,
+    depth: u32,
     // The trees at the ends of the walks.
     trees: Vec<(u32, u32)>,
     // The crossbars in which something is left, at which of them the next load begins, of each whether it is among them, and the last
@@ -90,6 +109,8 @@ impl WalkBook {
             trials: Vec::new(alloc),
             groups: Vec::new(alloc),
             at_group: 0,
+            single: false,
+            depth: 0,
             trees: Vec::new(alloc),
             nodes: Vec::new(alloc),
             at_node: 0,
@@ -137,6 +158,18 @@ impl WalkBook {
         self.nodes.get(self.at_node).copied()
     }
 
+    /// How many crossbars are gone through.
+    pub(crate) fn count_nodes(&self) -> usize {
+        self.nodes.len()
+    }
+
+    /// The crossbar at which the book is, counted around, and goes on to the next one.
+    pub(crate) fn next_node(&mut self) -> Option<u32> {
+        let node = self.here();
+        self.at_node = self.at_node.saturating_add(1);
+        node
+    }
+
     // Takes the crossbar out at which the book is. The last one comes in its place.
     fn drop_here(&mut self) {
         if self.at_node >= self.nodes.len() {
@@ -175,19 +208,35 @@ impl Search {
         Ok(())
     }
 
-    /// Begins with walks through the crossbars of a depth. Only what is above these hangs then.
-    pub fn begin_walks(&mut self, depth: u32) -> Result<(), AllocError> {
+    // Begins with walks through crossbars of the depth of this phase: only what is above these hangs.
+    fn begin_long(&mut self) -> Result<(), AllocError> {
+        let depth = self.walking.depth;
+        self.walking.single = false;
         self.forest
             .hold(&self.heights, depth.saturating_mul(2) as usize)?;
+        self.gather_landings(depth)
+    }
+
+    // The same with walks over one crosspoint each, if these are best: all that is known hangs.
+    fn begin_lengths(&mut self) -> Result<(), AllocError> {
+        if self.are_singles_best()? {
+            self.walking.single = true;
+            return self.hold_all();
+        }
+        self.begin_long()
+    }
+
+    /// Begins with walks through the crossbars of a depth.
+    pub fn begin_walks(&mut self, depth: u32) -> Result<(), AllocError> {
         self.walking.clear();
+        self.walking.depth = depth;
         self.pools.clear(&self.heights);
-        self.gather_landings(depth)?;
         'nodes: for node in 0..self.heights.nodes() {
             if self.heights.depth(node) == depth {
                 self.open_bar(node)?;
             }
         }
-        Ok(())
+        self.begin_lengths()
     }
 
     /// The crossbar of a group is gone through again.
@@ -231,6 +280,18 @@ impl Search {
             left,
             group,
         })?;
+        Ok(())
+    }
+
+    /// A walk over one crosspoint is tried. Its trees are joined.
+    pub(crate) fn push_single(
+        &mut self,
+        trees: (u32, u32),
+        trial: Trial,
+    ) -> Result<(), AllocError> {
+        self.landings.joins.join(trees.0, trees.1);
+        self.walking.trees.push(trees)?;
+        self.walking.trials.push(trial)?;
         Ok(())
     }
 
@@ -347,6 +408,15 @@ impl Search {
         Ok(())
     }
 
+    // Lays walks over stretches of crossbars, those that were tried before first.
+    fn lay_long(&mut self, most: usize) -> Result<(), AllocError> {
+        self.lay_groups(most)?;
+        if self.walking.groups.len() < most.saturating_mul(GROUPS_A_WALK) {
+            self.lay_bars(most)?;
+        }
+        Ok(())
+    }
+
     // Lays the walks of a load.
     fn fill_walks(&mut self) -> Result<(), AllocError> {
         let most = self.board.known_pins().saturating_sub(1) as usize;
@@ -355,20 +425,35 @@ impl Search {
         self.walking.load = self.walking.load.saturating_add(1);
         self.board.begin();
         self.landings.begin();
-        self.lay_groups(most)?;
-        if self.walking.groups.len() < most.saturating_mul(GROUPS_A_WALK) {
-            self.lay_bars(most)?;
+        if self.walking.single {
+            self.lay_singles(most)?;
+        } else {
+            self.lay_long(most)?;
         }
+        self.drop_few();
         self.order_trials()
     }
 
+    // Makes no load of few walks where there are many pins.
+    fn drop_few(&mut self) {
+        let walks = self.walking.trials.len();
+        if walks.saturating_mul(PINS_A_WALK) < self.board.pins() as usize {
+            self.walking.trials.clear();
+            self.walking.trees.clear();
+        }
+    }
+
     // No walk was found once more. False where none is to be looked for any more.
-    fn may_go_on(&mut self) -> bool {
+    fn may_go_on(&mut self) -> Result<bool, AllocError> {
+        if self.walking.single {
+            self.begin_long()?;
+            return Ok(true);
+        }
         if self.age_groups() {
-            return true;
+            return Ok(true);
         }
         self.walking.dry = self.walking.dry.saturating_add(1);
-        self.walking.dry <= MOST_DRY
+        Ok(self.walking.dry <= MOST_DRY)
     }
 
     /// Chooses the walks of the next load. False where none are found any more.
@@ -379,7 +464,7 @@ impl Search {
                 self.walking.dry = 0;
                 return Ok(true);
             }
-            if !self.may_go_on() {
+            if !self.may_go_on()? {
                 break;
             }
         }

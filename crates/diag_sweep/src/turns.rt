@@ -200,7 +200,7 @@ fn hang_wanted(
 }
 
 // Tests crosspoints between known wires, where few loads are left: each takes two in, and hangs take more than they bring where most of
-// the crosspoints are stuck.
+// the crosspoints are stuck. So where wires of one height hang on few trees, as feet are drawn anew behind it.
 fn refill(
     rig: &mut Box<dyn Rig>,
     facts: &mut Facts,
@@ -216,7 +216,7 @@ fn refill(
     ensures advances { Advances (rig_state rig.old) (rig_state rig.new) facts.old facts.new }
     ensures cause { IsErrOf result RigFail.Failed → Rose (rig_state rig.old).failures (rig_state rig.new).failures }
 {
-    if !state.budget.is_low(rig, facts, LEAST_LOADS) {
+    if !state.search.is_crowded() && !state.budget.is_low(rig, facts, LEAST_LOADS) {
         return Ok(());
     }
     lead_all(rig, facts, known, bad, field, state)
