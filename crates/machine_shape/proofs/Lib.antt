@@ -9,6 +9,8 @@ pub mod PlainNames
 pub mod Full
 pub mod Halves
 pub mod Decimals
+pub mod HighLimits
+pub mod OneShape
 -- For the proofs of this crate alone.
 mod Walks
 mod Ways
