@@ -266,8 +266,10 @@ module _ (c : Said) where
   pub is_shape-made : KeepsLimits c → is_shape c ≡ true
   is_shape-made m = shape_from (
     λ k d lt. one k d lt,
-    λ k d lt. from_not (get_or c.counts.ports k d) (λ e. m.shape.full field.Ports (k, lt, sym (get_or_default_zero c.counts.ports k d lt) ∙ e)),
-    λ k d lt. from_not (get_or c.counts.lines k d) (λ e. m.shape.full field.Lines (k, lt, sym (get_or_default_zero c.counts.lines k d lt) ∙ e)),
+    (
+      λ k d lt. from_not (get_or c.counts.ports k d) (λ e. m.shape.full field.Ports (k, lt, sym (get_or_default_zero c.counts.ports k d lt) ∙ e)),
+      λ k d lt. from_not (get_or c.counts.lines k d) (λ e. m.shape.full field.Lines (k, lt, sym (get_or_default_zero c.counts.lines k d lt) ∙ e)),
+    ),
   ) (elim (cases_Bool (is_small c.counts)) [
     | inl small ↦ or_left (is_small c.counts) (not (c.form == 1) && keeps_large c.counts) small
     | inr large ↦
@@ -309,4 +311,4 @@ module _ (c : Said) where
     where
       no_fault : KeepsLimits c → (fault : ShapeFault) → IsShapeFault c.counts fault → ⊥
       no_fault m (Zero f) h = m.shape.full f h.zero
-      no_fault m (Limit kind n) h = let le = m.shape.within h.1.0 kind in let lt = h.1.1.passed in omega (arith, le, lt)
+      no_fault m (Limit kind n) h = let le = m.shape.within h.1 kind in let lt = h.2.passed in omega (arith, le, lt)

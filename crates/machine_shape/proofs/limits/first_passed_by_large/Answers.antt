@@ -7,4 +7,4 @@ pub returns-then-is_small_by-clause-none : goal.returns-then-is_small_by-clause-
 returns-then-is_small_by-clause-none c =
     let small = sym c.is_small_by.ensures ∙ c.if-is_small_by.true in
     let few = small_is c.args.counts small in
-    (omega (arith, few.0), (omega (arith, few.1), (omega (arith, few.2), λ large. absurd (both_ways _ large small))))
+    (omega (arith, few.0), omega (arith, few.1), omega (arith, few.2), λ large. absurd (both_ways _ large small))
