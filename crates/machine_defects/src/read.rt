@@ -271,7 +271,8 @@ pub fn read_defects(alloc: Global, shape: &Shape, bytes: &[u8]) -> Result<Defect
     machine_shape::names_are_one_to_one();
     machine_shape::the_crosspoints_are_sound();
     machine_shape::the_numbering_is_sound();
-    if bytes.len() as u64 > shape.most_text() {
+    let most = shape.most_text() as usize;
+    if bytes.len() > most {
         return Err(DefectsFault::At {
             line: 0,
             kind: DefectsKind::Limit,

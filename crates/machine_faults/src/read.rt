@@ -95,7 +95,8 @@ pub fn read_faults(alloc: Global, shape: &Shape, bytes: &[u8]) -> Result<FaultSe
     machine_shape::names_are_one_to_one();
     machine_shape::the_crosspoints_are_sound();
     machine_shape::the_numbering_is_sound();
-    if bytes.len() as u64 > shape.most_text() {
+    let most = shape.most_text() as usize;
+    if bytes.len() > most {
         return Err(FaultsFault::At {
             line: 0,
             kind: FaultsKind::Limit,

@@ -1,9 +1,16 @@
-use Rattle.std.proofs.Common.{◌≡◌, ◌+◌, None, subst, sym, ap, ◌∙◌}
+use Rattle.std.proofs.Common.{◌≡◌, ◌+◌, None, subst, sym, ap, ◌∙◌, arith}
+use Rattle.machine_shape.proofs.HighLimits.{high_limits}
 use Rattle.machine_meaning.specs.Faults.{Faults}
 use Rattle.machine_faults.specs.Adding.{Faulty, IsFaultSet, CanHave, refusal_of, count_of}
 use Rattle.machine_faults.specs.Stored.{faults_in}
 use Rattle.machine_faults.proofs.Adding.{set_kept, count_more, free_from}
 use Rattle.machine_faults.proofs.set.FaultSet.add.Goals as goal
+
+pub overflow_add-self : goal.overflow_add-self
+overflow_add-self c =
+    let few = c.self.invariant.0.few in
+    let most = (high_limits c.self.inside.shape).faults.1 in
+    omega (arith, few, most, c.self.invariant.2)
 
 pub invariant_of-self-2 : goal.invariant_of-self-2
 invariant_of-self-2 c =
