@@ -77,12 +77,7 @@ pub fn how_many_tables(bytes: &[u8], at: usize, tables: u32) -> Result<u16, Imag
 }
 
 /// The number of closed crosspoints, of which there are and may be so many.
-pub fn how_many_closed(
-    bytes: &[u8],
-    at: usize,
-    most: u32,
-    crosses: u32,
-) -> Result<u32, ImageFault>
+pub fn how_many_closed(bytes: &[u8], at: usize, most: u32, crosses: u32) -> Result<u32, ImageFault>
     requires { at ≤ length bytes.now }
     ensures found { IfOk result (IsField 4 (closed_fault most crosses) bytes.now at) }
     ensures refused { IfErr result (IsRefusedField 4 (closed_fault most crosses) bytes.now at) }
