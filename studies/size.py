@@ -50,7 +50,7 @@ def cheapest(several):
     """Of these counts the machine with the fewest crosspoints, within the limits of a machine."""
     found = [counts for counts in several if texts.are_within_limits(counts)]
     if not found:
-        sys.exit("no machine within the limits (16,384 wires, 4,194,304 crosspoints, 4,096 tables) holds this design")
+        sys.exit("no machine within the limits (1,310,720 wires, 268,435,456 crosspoints, 65,536 tables, 8,192 pins) holds this design")
     return texts.Machine(min(found, key=lambda counts: texts.sizes_of(counts)[2]))
 
 
