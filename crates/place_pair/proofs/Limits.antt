@@ -7,7 +7,7 @@ use Rattle.machine_shape.specs.declared.Table.{Table}
 use Rattle.machine_shape.specs.Bounds.{most_closed, most_ticks}
 use Rattle.machine_config.specs.Configuration.{Configuration, setting_of}
 use Rattle.machine_image.specs.Images.{tables_on}
-use Rattle.machine_image.proofs.Counted.{few_on_of}
+use Rattle.machine_image.proofs.Counted.{on_few}
 use Rattle.map_network.specs.declared.network.Network.{Network}
 use Rattle.place_plan.specs.declared.plan.Plan.{Plan}
 use Rattle.place_plan.specs.Plans.{number_of}
@@ -41,6 +41,6 @@ module _ (s : Site) (n : Network) (p : Plan) (owners : List (Option ℕ)) (whole
 
     pub on_fit : length p.tables ≤ most_ticks whole.shape → length (tables_on g) ≤ most_ticks g.shape
     on_fit most =
-        let on = few_on_of g (map number_of seats) on_seat in
+        let on = on_few g (map number_of seats) on_seat in
         let many = seated in
         subst (λ m. length (tables_on g) ≤ most_ticks m) (sym share.shape) (omega (arith, on, many, within, most))

@@ -11,7 +11,7 @@ use Rattle.machine_shape.proofs.Totals.{wires_are}
 use Rattle.machine_meaning.specs.Defects.{Defects}
 use Rattle.machine_config.specs.Configuration.{Configuration, setting_of}
 use Rattle.machine_image.specs.Images.{tables_on}
-use Rattle.machine_image.proofs.Counted.{few_on_of}
+use Rattle.machine_image.proofs.Counted.{on_few}
 use Rattle.map_network.specs.declared.network.Network.{Network}
 use Rattle.place_plan.specs.declared.plan.Plan.{Plan}
 use Rattle.place_plan.specs.declared.short.Port.{Port}
@@ -49,7 +49,7 @@ module _ (m : Shape) (d : Defects) (n : Network) (p : Plan) (ports : List Port) 
 
   pub on_fit : length n.tables ≤ most_ticks m → length (tables_on g) ≤ most_ticks g.shape
   on_fit few =
-      let on = few_on_of g (places p) on_place in
+      let on = on_few g (places p) on_place in
       let a = length-map p.tables number_of in
       let b = plan.tables in
       subst (λ s. length (tables_on g) ≤ most_ticks s) (sym routed.shape) (omega (arith, on, a, b, few))
