@@ -82,7 +82,7 @@ short_text m k (x ∷ xs) p =
 -- so many bytes of each of the most faults are no more than are read
 pub enough_bytes : (m : Shape) → 64 * most_faults m ≤ most_text m
 unfolding most_faults most_text
-enough_bytes m = by_size (is_small m)
+enough_bytes m = by_size (is_small m.counts)
   where
     by_size : (b : Bool) → 64 * (if b then 65536 else 16777216) ≤ (if b then 16777216 else 1073741824)
     by_size true = omega arith

@@ -1,6 +1,6 @@
 //! The entries of a fault set, by their numbers.
 
-ghost use Rattle.std.specs.Prelude.{◌≡◌, ◌<◌, false, OnOk, OnErr, IfNone, None};
+ghost use Rattle.std.specs.Prelude.{◌≡◌, false, OnOk, OnErr, None};
 ghost use Rattle.std.specs.FinMap as maps;
 ghost use Rattle.std.specs.FinSet as set;
 ghost use Rattle.std.specs.Ordering.{nat_cmp};
@@ -176,8 +176,7 @@ fn is_loop(f: Fault) -> bool
 /// What comes first against adding a fault of a machine to so many.
 pub fn refusal_of(shape: &Shape, entries: &Entries, count: u32, f: Fault) -> Option<AddFault>
     requires { count ≡ count_of (faults_in entries.now) }
-    ensures refusal { result ≡ refusal_of shape.now (faults_in entries.now) f }
-    ensures few { IfNone result (count < 16777216) }
+    ensures { result ≡ refusal_of shape.now (faults_in entries.now) f }
 {
     if is_loop(f) {
         return Some(AddFault::Same);
