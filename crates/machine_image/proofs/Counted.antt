@@ -1,11 +1,13 @@
 -- How many closed crosspoints there are, and how many tables that are on.
-use Rattle.std.proofs.Common.{◌≡◌, ℕ, zero, suc, ◌+◌, ◌<◌, ◌≤◌, List, [], ◌∷◌, ◌++◌, Bool, true, false, not, ◌&&◌, nat_eq, Option, None, Some, IsSome, is_some, Contains, length, refl, sym, ap, ◌∙◌, arith, ◌==◌, if◌then◌else◌, le_trans}
+use Rattle.std.proofs.Common.{◌≡◌, ℕ, zero, suc, ◌+◌, ◌<◌, ◌≤◌, List, [], ◌∷◌, ◌++◌, Bool, true, false, not, ◌&&◌, nat_eq, Option, None, Some, IsSome, is_some, Contains, length, refl, sym, ap, ◌∙◌, subst, inl, inr, ◌⊎◌, arith, ◌==◌, if◌then◌else◌, le_trans}
 use Rattle.std.specs.List.{flat_map, range_with_len}
 use Rattle.std.specs.Ordering.{nat_cmp}
 use Rattle.std.specs.Cmp.{nat_cmp_total, unsigned_tied}
 use Rattle.std.specs.FinSet as set_
 use Rattle.std.specs.FinSet.{len-empty, len-insert, contains-remove, contains-from_list_nat}
+use Rattle.std.proofs.lemmas.Bool.{cases_lt}
 use Rattle.std.proofs.lemmas.List.Folds.{list_any_at}
+use Rattle.std.proofs.lemmas.List.Elements.{Contains-append_left, Contains-append_right}
 use Rattle.std.proofs.lemmas.Bool.Decides.{nat_tests}
 use Rattle.machine_shape.specs.declared.Shape.{Shape}
 use Rattle.machine_shape.specs.Vocabulary.{is_small, levels_of, tables_of, most_ticks}
@@ -70,6 +72,31 @@ set_len (t ∷ ts) = by_there (set_.contains (set_.from_list {R = nat_cmp} ts) t
 
 in_set : (ts : List ℕ) (t : ℕ) → Contains ts t → set_.contains (set_.from_list {R = nat_cmp} ts) t ≡ true
 in_set ts t c = contains-from_list_nat ts t ∙ list_any_at (λ y. nat_eq y t) ts c.0 t c.1 (ap (λ y. nat_eq y t) c.2 ∙ equal t)
+
+-- the numbers of the tables that are on
+abbrev pub on_list : Configuration → List ℕ
+on_list g = flat_map (λ t. if is_some (setting_of g t) then t ∷ [] else []) (range_with_len 0 (tables_of g.shape))
+
+pub on_list_len : (g : Configuration) → length (on_list g) ≡ length (tables_on g)
+on_list_len g = sym (on_numbers (λ t. setting_of g t) 0 (tables_of g.shape))
+
+listed : (f : ℕ → Bool) (a n t : ℕ) → a ≤ t → t < a + n → f t ≡ true → Contains (flat_map (λ x. if f x then x ∷ [] else []) (range_with_len a n)) t
+listed f a zero t l u on = absurd (let no : ⊥ = omega (arith, l, u) in no)
+listed f a (suc n) t l u on = by_place (cases_lt a t) (λ lt. listed f (a + 1) n t (omega (arith, lt)) (omega (arith, u)) on)
+  where
+    here : (a ≡ t) → Contains (if f a then a ∷ [] else []) t
+    here e = subst (λ b. Contains (if b then a ∷ [] else []) t) (sym (ap f e ∙ on)) (0, omega arith, e)
+
+    by_place : (a < t) ⊎ (t ≤ a) → (a < t → Contains (flat_map (λ x. if f x then x ∷ [] else []) (range_with_len (a + 1) n)) t) → Contains (flat_map (λ x. if f x then x ∷ [] else []) (range_with_len a (suc n))) t
+    by_place (inl lt) more = Contains-append_right (if f a then a ∷ [] else []) (flat_map (λ x. if f x then x ∷ [] else []) (range_with_len (a + 1) n)) t (more lt)
+    by_place (inr ge) more = Contains-append_left (if f a then a ∷ [] else []) (flat_map (λ x. if f x then x ∷ [] else []) (range_with_len (a + 1) n)) t (here (let e : a ≡ t = omega (arith, l, ge) in e))
+
+pub on_listed : (g : Configuration) (t : ℕ) → t < tables_of g.shape → IsSome (setting_of g t) → Contains (on_list g) t
+on_listed g t h on = listed (λ x. is_some (setting_of g x)) 0 (tables_of g.shape) t (omega arith) (omega (arith, h)) (is_on (setting_of g t) on)
+  where
+    is_on : (o : Option Setting) → IsSome o → is_some o ≡ true
+    is_on (Some s) e = refl
+    is_on None e = e
 
 -- each table that is on is of a list: there are no more of them than the list has
 pub on_few : (g : Configuration) (ts : List ℕ) → ((t : ℕ) → IsSome (setting_of g t) → Contains ts t) → length (tables_on g) ≤ length ts
