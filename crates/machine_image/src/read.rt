@@ -55,7 +55,6 @@ pub fn limits_of(shape: &Shape)
 {
     let counts = counts_of(shape);
     are_small(&counts);
-    let _wires = shape.wires();
     let _pins = shape.pins();
     let _tables = shape.tables();
     let _crosses = shape.crosses();
