@@ -73,7 +73,7 @@ own_within : (ls : Levels) → wires_in ls ≤ size wires_in ls
 own_within [] = le_refl _
 own_within (l ∷ ls) = omega arith
 
-IsFew : ℕ → List ℕ → Type 0
+abbrev IsFew : ℕ → List ℕ → Type 0
 IsFew most part = 10 ^ (length part - 2) ≤ most
 
 either_few : (most : ℕ) (b : Bool) (u v : List ℕ) → IsFew most u → IsFew most v → IsFew most (if b then u else v)
@@ -81,16 +81,18 @@ either_few most true u v p q = p
 either_few most false u v p q = q
 
 numbered_few : (most letter n : ℕ) → n < most → n < 2 ^ 64 → IsFew most (numbered letter n)
-unfolding IsFew
-numbered_few most letter n h small = few_digits n most h small
+numbered_few most letter n h small =
+    let e : length (numbered letter n) - 2 ≡ further n = omega arith in
+    subst (λ k. 10 ^ k ≤ most) (sym e) (few_digits n most h small)
+
+output_few : (most : ℕ) → 1 ≤ most → IsFew most (113 ∷ [])
+output_few most h = h
 
 part_few : (letter : ℕ) (ls : Levels) (k : ℕ) → k < wires_in ls → k < 2 ^ 63 → IsFew (wires_in ls) (part_name letter ls k)
 part_few letter [] k h small = either_few 7 (k == 6) (113 ∷ []) (numbered 105 k) (output_few 7 (omega arith)) (numbered_few 7 105 k h (omega (arith, small)))
-  where
-    output_few : (most : ℕ) → 1 ≤ most → IsFew most (113 ∷ [])
-    unfolding IsFew
-    output_few most h = h
-part_few letter (l ∷ ls) k h small = either_few _ (nat_lt k l.ports) (numbered letter k) (numbered 108 (k - l.ports)) (numbered_few _ letter k h (omega (arith, small))) (numbered_few _ 108 (k - l.ports) (omega (arith, h)) (omega (arith, small)))
+part_few letter (l ∷ ls) k h small =
+    either_few (wires_in (l ∷ ls)) (nat_lt k l.ports) (numbered letter k) (numbered 108 (k - l.ports)) (numbered_few (wires_in (l ∷ ls)) letter k h (omega (arith, small)))
+    (numbered_few (wires_in (l ∷ ls)) 108 (k - l.ports) (omega (arith, h)) (omega (arith, small)))
 
 -- seven further digits aren't there for so few wires
 six_more : (n wires : ℕ) → 10 ^ n ≤ wires → wires ≤ 1310720 → n ≤ 6
@@ -108,14 +110,13 @@ module _ (m : Shape) where
   wide few small k d b = let h = small k d b in omega (arith, h, few)
 
   pub short_wire_name : (w : ℕ) → w < wires_of m → length (wire_name m w) ≤ 24
-  unfolding IsFew
   short_wire_name w lt =
       let placed = wire_placed m w lt in
       let steps = wire_steps m w lt in
       let p : Path = (place_of m w).path in
       let below : Levels = rest (levels_of m) p in
       let part : List ℕ = part_name (port_letter p) below (place_of m w).position in
-      let around = far placed.spot (wide (omega arith) steps.0) in
+      let around = far placed.spot (wide {most = 10000000} (omega arith) steps.0) in
       let own : IsFew (wires_in below) part = part_few (port_letter p) below (place_of m w).position placed.within (omega (arith, steps.1)) in
       let inner = mul-le-mul (le_refl (10 ^ further_in p)) (le_trans own (own_within below)) in
       let all : 10 ^ (further_in p + (length part - 2)) ≤ wires_of m = subst (λ n. n ≤ wires_of m) (sym (pow-add 10 (further_in p) (length part - 2))) (le_trans inner (le_trans around (le_of_eq (wires_are m).0))) in
@@ -130,7 +131,7 @@ module _ (m : Shape) where
   short_table_name t lt =
       let way = table_way_is m t lt in
       let p : Path = way_to_table m t in
-      let around = far way.0 (wide (omega arith) (table_steps m t lt)) in
+      let around = far way.0 (wide {most = 10000000} (omega arith) (table_steps m t lt)) in
       let rest_is : size wires_in (rest (levels_of m) p) ≡ 7 = ap (size wires_in) way.1 in
       let all : 10 ^ further_in p ≤ wires_of m = omega (arith, around, rest_is, (wires_are m).0) in
       let few = six_more (further_in p) (wires_of m) all (omega (arith, (wires_are m).1)) in
