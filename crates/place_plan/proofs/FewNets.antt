@@ -57,12 +57,15 @@ tables-on m = by (cases_Bool (is_small m.counts))
 
 -- ---- there is a node below the root
 
+one-more : (k r : ℕ) → 0 < k → 1 < 1 + k * (1 + r)
+one-more k r some =
+    let one : 1 ≤ k = omega (arith, some) in
+    let more : 1 * (1 + r) ≤ k * (1 + r) = mul-le-mul_right (1 + r) one in
+    omega (arith, more)
+
 two_nodes : (m : Shape) → 1 < nodes_of m
 unfolding nodes_of levels_of levels_from
-two_nodes m =
-    let some : 0 < m.counts.modules = (m.full 0 (record { ports = 0; lines = 0; children = 0 }) (omega arith)).2 in
-    let more = mul-le-mul_right (1 + m.counts.chips * (1 + m.counts.hextants * (1 + m.counts.tables * 0))) some in
-    omega (arith, more)
+two_nodes m = one-more m.counts.modules (m.counts.chips * (1 + m.counts.hextants * (1 + m.counts.tables * 0))) (m.full 0 (record { ports = 0; lines = 0; children = 0 }) (omega arith)).2
 
 -- ---- a crosspoint far down at the root
 
