@@ -97,11 +97,10 @@ fn of_graphs(alloc: Global) -> [Value; 10] {
 }
 
 // Sets, vectors and the bytes of images; the store and the sink of this runtime.
-fn of_bytes(rt: &HostRuntime) -> [Value; 10] {
+fn of_bytes(rt: &HostRuntime) -> [Value; 9] {
     let alloc: Global = rt.alloc();
     [
         ("sets-of-numbers", sets::holds_numbers(alloc)),
-        ("sets-of-pairs", sets::holds_pairs(alloc)),
         ("numerals", sets::reads_and_writes_numerals(alloc)),
         ("vector-limit", vectors::vector_limit(alloc)),
         ("image-bytes", images::image_bytes(alloc)),
