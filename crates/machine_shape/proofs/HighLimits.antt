@@ -1,5 +1,5 @@
 -- What a small shape keeps, and how high the limits are that go by the shape.
-use Rattle.std.proofs.Common.{◌≡◌, ℕ, ◌≤◌, Bool, true, false, if◌then◌else◌, nat_le, arith}
+use Rattle.std.proofs.Common.{◌≡◌, ℕ, ◌≤◌, ◌&&◌, Bool, true, false, if◌then◌else◌, nat_le, arith}
 use Rattle.std.proofs.lemmas.Bool.{and_parts, and_from, leb-true, le-leb, cases_Bool}
 use Rattle.std.proofs.Math.Logic.{⊎_elim}
 use Rattle.machine_shape.specs.declared.Counts.{Counts}

@@ -106,8 +106,8 @@ six_more n wires h few = by_order (cases_lt 6 n)
         absurd (let no : ⊥ = omega (arith, much) in no)
 
 module _ (m : Shape) where
-  wide : {p : Path} {most : ℕ} → most ≤ 2 ^ 60 → All (λ i. i < most) p → All (λ i. i < 2 ^ 64) p
-  wide few small k d b = let h = small k d b in omega (arith, h, few)
+  wide : (p : Path) (most : ℕ) → most ≤ 2 ^ 60 → All (λ i. i < most) p → All (λ i. i < 2 ^ 64) p
+  wide p most few small k d b = let h = small k d b in omega (arith, h, few)
 
   pub short_wire_name : (w : ℕ) → w < wires_of m → length (wire_name m w) ≤ 24
   short_wire_name w lt =
@@ -116,7 +116,7 @@ module _ (m : Shape) where
       let p : Path = (place_of m w).path in
       let below : Levels = rest (levels_of m) p in
       let part : List ℕ = part_name (port_letter p) below (place_of m w).position in
-      let around = far placed.spot (wide {most = 10000000} (omega arith) steps.0) in
+      let around = far placed.spot (wide p 10000000 (omega arith) steps.0) in
       let own : IsFew (wires_in below) part = part_few (port_letter p) below (place_of m w).position placed.within (omega (arith, steps.1)) in
       let inner = mul-le-mul (le_refl (10 ^ further_in p)) (le_trans own (own_within below)) in
       let all : 10 ^ (further_in p + (length part - 2)) ≤ wires_of m = subst (λ n. n ≤ wires_of m) (sym (pow-add 10 (further_in p) (length part - 2))) (le_trans inner (le_trans around (le_of_eq (wires_are m).0))) in
@@ -131,7 +131,7 @@ module _ (m : Shape) where
   short_table_name t lt =
       let way = table_way_is m t lt in
       let p : Path = way_to_table m t in
-      let around = far way.0 (wide {most = 10000000} (omega arith) (table_steps m t lt)) in
+      let around = far way.0 (wide p 10000000 (omega arith) (table_steps m t lt)) in
       let rest_is : size wires_in (rest (levels_of m) p) ≡ 7 = ap (size wires_in) way.1 in
       let all : 10 ^ further_in p ≤ wires_of m = omega (arith, around, rest_is, (wires_are m).0) in
       let few = six_more (further_in p) (wires_of m) all (omega (arith, (wires_are m).1)) in
