@@ -151,6 +151,7 @@ fn read_table(
 ) -> Result<(Table, Setting), ImageFault>
     requires { at ≤ length bytes.now }
     ensures within { IfOk result (λ p. p.0.0 < tables_of shape.now) }
+    ensures few { IfOk result (λ p. p.0.0 < 65536) }
     ensures found { IfOk result (λ p. IsTable shape.now bytes.now at least p.0.0 p.1) }
     ensures refused { IfErr result (λ f. (left : ℕ) → FaultIn (λ l k. InTables shape.now bytes.now l k at (suc left) least) f) }
 {
