@@ -1,4 +1,5 @@
 """A machine as arrays in C, the `board.h` of c/port.c."""
+
 from itertools import accumulate
 
 
