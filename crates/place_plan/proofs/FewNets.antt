@@ -2,7 +2,7 @@
 use Rattle.std.proofs.Common.{◌≡◌, ◌≢◌, ◌⊎◌, ℕ, zero, suc, ◌+◌, ◌*◌, ◌<◌, ◌≤◌, Bool, true, false, Some, List, length, get_or, map, refl, sym, ap, ◌∙◌, subst, inl, inr, arith, if◌then◌else◌}
 use Rattle.std.proofs.Math.Nat.{mul-le-mul_right}
 use Rattle.std.specs.List.{All, AllPairs, Contains, range_with_len}
-use Rattle.std.proofs.lemmas.Bool.{cases_Bool, cases_lt}
+use Rattle.std.proofs.lemmas.Bool.{false≢true, cases_Bool, cases_lt}
 use Rattle.std.proofs.lemmas.List.{get_or-map, length-map}
 use Rattle.std.proofs.lemmas.List.Elements.{All-weaker}
 use Rattle.std.proofs.lemmas.List.FromFn.{get_or-range_with_len, length-range_with_len}
@@ -45,10 +45,10 @@ tables-on m = by (cases_Bool (is_small m.counts))
   where
     chosen : (b : Bool) → b ≡ true → tables_of m ≤ 4096 → tables_of m ≤ (if b then 4096 else 65535)
     chosen true e le = le
-    chosen false e le = absurd cc
+    chosen false e le = absurd (false≢true e)
 
     other : (b : Bool) → b ≡ false → (if b then 4096 else 65535) ≡ 65535
-    other true e = absurd cc
+    other true e = absurd (false≢true (sym e))
     other false e = refl
 
     by : (is_small m.counts ≡ true) ⊎ (is_small m.counts ≡ false) → (tables_of m ≤ (if is_small m.counts then 4096 else 65535)) ⊎ ((if is_small m.counts then 4096 else 65535) ≡ 65535)

@@ -2,7 +2,7 @@
 use Rattle.std.proofs.Common.{◌≡◌, ◌⊎◌, ℕ, ◌*◌, ◌<◌, ◌≤◌, Bool, true, false, if◌then◌else◌, IsSome, length, sym, ◌∙◌, subst, inl, inr, arith}
 use Rattle.std.specs.List.{Contains}
 use Rattle.std.specs.FinSet as set
-use Rattle.std.proofs.lemmas.Bool.{cases_Bool}
+use Rattle.std.proofs.lemmas.Bool.{false≢true, cases_Bool}
 use Rattle.std.proofs.lemmas.List.{get_or_default, length-map}
 use Rattle.machine_shape.specs.declared.Shape.{Shape}
 use Rattle.machine_shape.specs.Vocabulary.{is_small, most_closed, most_ticks, wires_of}
@@ -26,10 +26,10 @@ wires_twice m = by (cases_Bool (is_small m.counts))
   where
     chosen : (b : Bool) → b ≡ true → wires_of m ≤ 16384 → 2 * wires_of m ≤ (if b then 1048576 else 3670016)
     chosen true e le = omega (arith, le)
-    chosen false e le = absurd cc
+    chosen false e le = absurd (false≢true e)
 
     other : (b : Bool) → b ≡ false → 2 * wires_of m ≤ (if b then 1048576 else 3670016)
-    other true e = absurd cc
+    other true e = absurd (false≢true (sym e))
     other false e = let few = (wires_are m).1 in omega (arith, few)
 
     by : (is_small m.counts ≡ true) ⊎ (is_small m.counts ≡ false) → 2 * wires_of m ≤ (if is_small m.counts then 1048576 else 3670016)
