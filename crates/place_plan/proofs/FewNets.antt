@@ -1,5 +1,5 @@
 -- Where each node has lines and ports for as many nets as a network has, its tables are no more than may be on.
-use Rattle.std.proofs.Common.{◌≡◌, ◌≢◌, ◌⊎◌, ℕ, zero, suc, ◌+◌, ◌*◌, ◌<◌, ◌≤◌, Bool, true, false, Some, List, length, get_or, map, refl, sym, ap, ◌∙◌, subst, inl, inr, arith, if◌then◌else◌}
+use Rattle.std.proofs.Common.{◌≡◌, ◌≢◌, ◌⊎◌, ℕ, zero, suc, ◌+◌, ◌*◌, ◌<◌, ◌≤◌, Bool, true, false, Some, List, length, get_or, map, refl, sym, ap, ◌∙◌, inl, inr, arith, if◌then◌else◌}
 use Rattle.std.proofs.Math.Nat.{mul-le-mul_right}
 use Rattle.std.specs.List.{All, AllPairs, Contains, range_with_len}
 use Rattle.std.proofs.lemmas.Bool.{false≢true, cases_Bool, cases_lt}
@@ -9,7 +9,7 @@ use Rattle.std.proofs.lemmas.List.FromFn.{get_or-range_with_len, length-range_wi
 use Rattle.machine_shape.specs.declared.Shape.{Shape}
 use Rattle.machine_shape.specs.Vocabulary.{most_ticks, is_small, levels_of, levels_from, nodes_of, lines_of, taps_of, tables_of, crosses_of, cross_at, line_at, tap_at, parent_of, IsLine, IsPort, tap_child, HasParents, HasTaps, HasCrosses, HasSites}
 use Rattle.machine_shape.proofs.HighLimits.{small_is}
-use Rattle.machine_shape.proofs.Totals.{nodes_are, tables_are, crosses_are}
+use Rattle.machine_shape.proofs.Totals.{nodes_are, crosses_are}
 use Rattle.machine_meaning.specs.Vocabulary.{Defects}
 use Rattle.map_network.specs.declared.network.Network.{Network}
 use Rattle.place_plan.specs.Vocabulary.{AtLeast, HasEnough, IsFreePort, IsFreeTableOf, IsOpenLineOf, nets_in}
@@ -39,6 +39,10 @@ values-few P f count k value enough =
 
 -- ---- a machine has all its tables on, or 65,535 of them may be
 
+small-tables : (m : Shape) → is_small m.counts ≡ true → tables_of m ≤ 4096
+unfolding tables_of levels_of
+small-tables m s = (small_is m.counts s).0
+
 pub tables-on : (m : Shape) → (tables_of m ≤ most_ticks m) ⊎ (most_ticks m ≡ 65535)
 unfolding most_ticks
 tables-on m = by (cases_Bool (is_small m.counts))
@@ -52,7 +56,7 @@ tables-on m = by (cases_Bool (is_small m.counts))
     other false e = refl
 
     by : (is_small m.counts ≡ true) ⊎ (is_small m.counts ≡ false) → (tables_of m ≤ (if is_small m.counts then 4096 else 65535)) ⊎ ((if is_small m.counts then 4096 else 65535) ≡ 65535)
-    by (inl s) = inl (chosen (is_small m.counts) s (subst (λ k. k ≤ 4096) (tables_are m).0 (small_is m.counts s).0))
+    by (inl s) = inl (chosen (is_small m.counts) s (small-tables m s))
     by (inr s) = inr (other (is_small m.counts) s)
 
 -- ---- there is a node below the root

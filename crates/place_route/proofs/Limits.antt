@@ -5,7 +5,7 @@ use Rattle.std.specs.FinSet as set
 use Rattle.std.proofs.lemmas.Bool.{false≢true, cases_Bool}
 use Rattle.std.proofs.lemmas.List.{get_or_default, length-map}
 use Rattle.machine_shape.specs.declared.Shape.{Shape}
-use Rattle.machine_shape.specs.Vocabulary.{is_small, most_closed, most_ticks, wires_of}
+use Rattle.machine_shape.specs.Vocabulary.{is_small, levels_of, most_closed, most_ticks, wires_of}
 use Rattle.machine_shape.proofs.HighLimits.{small_is}
 use Rattle.machine_shape.proofs.Totals.{wires_are}
 use Rattle.machine_meaning.specs.Defects.{Defects}
@@ -18,6 +18,10 @@ use Rattle.place_plan.specs.declared.short.Port.{Port}
 use Rattle.place_plan.specs.declared.short.Visit.{Visit}
 use Rattle.place_plan.specs.Plans.{IsPlan, places, place_of, number_of}
 use Rattle.place_route.specs.Vocabulary.{IsRouted}
+
+small_wires : (m : Shape) → is_small m.counts ≡ true → wires_of m ≤ 16384
+unfolding wires_of levels_of
+small_wires m s = (small_is m.counts s).1
 
 -- a machine closes two crosspoints for each wire
 pub wires_twice : (m : Shape) → 2 * wires_of m ≤ most_closed m
@@ -33,7 +37,7 @@ wires_twice m = by (cases_Bool (is_small m.counts))
     other false e = let few = (wires_are m).1 in omega (arith, few)
 
     by : (is_small m.counts ≡ true) ⊎ (is_small m.counts ≡ false) → 2 * wires_of m ≤ (if is_small m.counts then 1048576 else 3670016)
-    by (inl s) = chosen (is_small m.counts) s (subst (λ k. k ≤ 16384) (wires_are m).0 (small_is m.counts s).1)
+    by (inl s) = chosen (is_small m.counts) s (small_wires m s)
     by (inr s) = other (is_small m.counts) s
 
 module _ (m : Shape) (d : Defects) (n : Network) (p : Plan) (ports : List Port) (visits : List Visit) (plan : IsPlan m d n p) (g : Configuration) (routed : IsRouted m d n p ports visits g) where
