@@ -13,6 +13,7 @@ def header(machine, faults):
         "CROSSES": len(crosses),
         "TABLES": len(tables),
         "WIRES": len(wires),
+        "MOST_TICKS": machine.most_ticks,
         "MOST_LOADS": machine.most_loads,
         "COUNTS": f'"{machine.counts_text}"',
     }

@@ -1,6 +1,6 @@
 /* A computer as a board for port.c: standard input and output, and a machine whose wires are joined in groups.
  *
- * Before it stand, made from a machine and a fault file: PINS, CROSSES, TABLES, WIRES, MOST_LOADS and COUNTS; of each
+ * Before it stand, made from a machine and a fault file: PINS, CROSSES, TABLES, WIRES, MOST_TICKS, MOST_LOADS and COUNTS; of each
  * crosspoint its tap and line, of each table seven legs, of each pin its wire; of each wire what it is stuck at (2: nothing),
  * of each crosspoint whether it is stuck closed (1), open (0) or not (-1); bridges by pairs up to -1; of each table the wrong
  * cells, their values, and what its register is stuck at (-1: nothing).

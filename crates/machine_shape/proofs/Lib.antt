@@ -5,6 +5,7 @@ pub mod Totals
 pub mod Ample
 pub mod Hextants
 pub mod Naming
+pub mod ShortNames
 pub mod PlainNames
 pub mod Full
 pub mod Halves

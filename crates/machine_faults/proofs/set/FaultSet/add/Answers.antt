@@ -8,10 +8,10 @@ use Rattle.machine_faults.proofs.set.FaultSet.add.Goals as goal
 pub invariant_of-self-2 : goal.invariant_of-self-2
 invariant_of-self-2 c =
     let old : Faults = faults_in c.self.inside.entries in
-    let none : refusal_of old c.args.f ≡ None = cc in
+    let none : refusal_of c.self.inside.shape old c.args.f ≡ None = cc in
     let of_shape : CanHave c.self.inside.shape c.args.f = subst (λ (s : Faulty). CanHave s.shape c.args.f) (sym c.self.view_is) c.requires in
     let e = c.in_ok-put.ensures.ok in (
       subst (λ (f : Faults). IsFaultSet (record { shape = c.self.inside.shape; faults = f })) (sym e) (set_kept (record { shape = c.self.inside.shape; faults = old }) c.args.f c.self.invariant.0 of_shape none),
       c.in_ok-put.ensures.listed,
-      ap (λ n. n + 1) c.self.invariant.2 ∙ sym (ap count_of e ∙ count_more old c.args.f (free_from old c.args.f none).free),
+      ap (λ n. n + 1) c.self.invariant.2 ∙ sym (ap count_of e ∙ count_more old c.args.f (free_from c.self.inside.shape old c.args.f none).free),
     )
