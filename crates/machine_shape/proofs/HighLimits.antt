@@ -6,7 +6,7 @@ use Rattle.machine_shape.specs.declared.Counts.{Counts}
 use Rattle.machine_shape.specs.declared.LimitedCount.{LimitedCount}
 use Rattle.machine_shape.specs.declared.LimitedCount.TheVariants as which
 use Rattle.machine_shape.specs.declared.Shape.{Shape}
-use Rattle.machine_shape.specs.Vocabulary.{HasHighLimits, IsFull, MakeSmall, MakeShape, amount_of, most_of_large, most_of_small, is_small, levels_from, most_closed, most_faults, most_repaired, most_text, most_ticks, size, wires_in}
+use Rattle.machine_shape.specs.Vocabulary.{HasHighLimits, amount_of, most_of_large, most_of_small, is_small, levels_from, most_closed, most_faults, most_repaired, most_text, most_ticks}
 use Rattle.machine_shape.proofs.Taps.{ports_in_size}
 
 -- what the test of small counts says
@@ -37,6 +37,14 @@ small_within c h which.Pins = let w = (small_is c h).1 in let p = pins_fit c in 
 pub within_small : (c : Counts) → ((kind : LimitedCount) → amount_of c kind ≤ most_of_small kind) → is_small c ≡ true
 within_small c h = small_from c (h which.Tables) (h which.Wires) (h which.Crosspoints)
 
+-- the limits of the others, one by one
+pub counts_within : (c : Counts) → amount_of c which.Tables ≤ 65536 → amount_of c which.Wires ≤ 1310720 → amount_of c which.Crosspoints ≤ 268435456 → (is_small c ≡ false → amount_of c which.Pins ≤ 8192) →
+    is_small c ≡ false → (kind : LimitedCount) → amount_of c kind ≤ most_of_large kind
+counts_within c t w x p large which.Tables = t
+counts_within c t w x p large which.Wires = w
+counts_within c t w x p large which.Crosspoints = x
+counts_within c t w x p large which.Pins = p large
+
 -- of a shape
 pub pins_few : (m : Shape) → m.counts.pins ≤ 16384
 pins_few m = ⊎_elim
@@ -45,10 +53,7 @@ pins_few m = ⊎_elim
     (cases_Bool (is_small m.counts))
 
 pub large_within : (m : Shape) → is_small m.counts ≡ false → (kind : LimitedCount) → amount_of m.counts kind ≤ most_of_large kind
-large_within m s which.Tables = m.few_tables
-large_within m s which.Wires = m.few_wires
-large_within m s which.Crosspoints = m.few_crosses
-large_within m s which.Pins = m.few_pins s
+large_within m = counts_within m.counts m.few_tables m.few_wires m.few_crosses m.few_pins
 
 -- one of two numbers
 between : (b : Bool) (low high : ℕ) → low ≤ high → (low ≤ (if b then low else high)) × ((if b then low else high) ≤ high)

@@ -133,7 +133,8 @@ module _ (m : Shape) where
       let p : Path = way_to_table m t in
       let around = far way.0 (wide p 10000000 (omega arith) (table_steps m t lt)) in
       let rest_is : size wires_in (rest (levels_of m) p) ≡ 7 = ap (size wires_in) way.1 in
-      let all : 10 ^ further_in p ≤ wires_of m = omega (arith, around, rest_is, (wires_are m).0) in
+      let seven : 10 ^ further_in p * 7 ≤ size wires_in (levels_of m) = subst (λ n. 10 ^ further_in p * n ≤ size wires_in (levels_of m)) rest_is around in
+      let all : 10 ^ further_in p ≤ wires_of m = omega (arith, seven, (wires_are m).0) in
       let few = six_more (further_in p) (wires_of m) all (omega (arith, (wires_are m).1)) in
       let long = way_long p in
       let deep = spot_long way.0 in

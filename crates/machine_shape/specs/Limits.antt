@@ -72,11 +72,6 @@ pub record IsFirstPassed (most : LimitedCount → ℕ) (c : Counts) (which : Lim
   pub passed : most which < amount_of c which
   pub first : (other : LimitedCount) → place_of_limit other < place_of_limit which → amount_of c other ≤ most other
 
--- the fault is that first one, and how many there are
-abbrev pub IsLimitFault : (LimitedCount → ℕ) → Counts → ShapeFault → Type 0
-IsLimitFault most c (Zero field) = ⊥
-IsLimitFault most c (Limit which value) = IsFirstPassed most c which × (value ≡ amount_of c which)
-
 -- the counts make no small shape, for this reason
 abbrev pub IsSmallFault : Counts → ShapeFault → Type 0
 IsSmallFault c (Zero field) = IsFirstZero c field

@@ -10,7 +10,7 @@ unfoldable pub use Rattle.machine_shape.specs.Shape.{IsLine, IsPort, cross_at, c
 unfoldable pub use Rattle.machine_shape.specs.Shape.{line_position, lines_of, node_at, node_of, node_of_cross, nodes_of, own_ports_of}
 unfoldable pub use Rattle.machine_shape.specs.Shape.{parent_of, pin_wire, pins_of, place_of, place_of_cross, port_at, ports_of, table_wire}
 unfoldable pub use Rattle.machine_shape.specs.Shape.{tables_of, tap_at, tap_position, taps_of, way_to, way_to_table, wires_of}
-pub use Rattle.machine_shape.specs.Limits.{HasZero, IsFirstPassed, IsFirstZero, IsLimitFault, IsShapeFault, IsSmallFault}
+pub use Rattle.machine_shape.specs.Limits.{HasZero, IsFirstPassed, IsFirstZero, IsShapeFault, IsSmallFault}
 pub use Rattle.machine_shape.specs.Limits.{MakeShape, MakeSmall, amount_of, most_of_large, most_of_small}
 unfoldable pub use Rattle.machine_shape.specs.Limits.{is_small}
 pub use Rattle.machine_shape.specs.Bounds.{HasHighLimits}

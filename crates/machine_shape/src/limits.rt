@@ -2,11 +2,10 @@
 ghost use Rattle.std.specs.Prelude.{◌≡◌, ◌+◌, ◌*◌, ◌<◌, ◌≤◌, ◌^◌, false, true, IfOk, IfErr, IfSome, IfNone};
 ghost use Rattle.machine_shape.specs.Bounds.{most_closed, most_faults, most_repaired, most_text, most_ticks};
 ghost use Rattle.machine_shape.specs.Counts.{IsFull, levels_from};
-ghost use Rattle.machine_shape.specs.Limits.{HasZero, IsFirstZero, IsLimitFault, IsShapeFault, IsSmallFault, MakeShape, MakeSmall};
-ghost use Rattle.machine_shape.specs.Limits.{amount_of, is_small, most_of_large, most_of_small};
+ghost use Rattle.machine_shape.specs.Limits.{HasZero, IsFirstZero, IsShapeFault, IsSmallFault, MakeShape, MakeSmall};
+ghost use Rattle.machine_shape.specs.Limits.{is_small};
 ghost use Rattle.machine_shape.specs.Walk.{size, wires_in, crosses_in, tables_in};
 ghost use Rattle.machine_shape.specs.declared.Field.{Field};
-ghost use Rattle.machine_shape.specs.declared.LimitedCount.{LimitedCount};
 
 use crate::{Counts, Field, LimitedCount, Shape, ShapeFault};
 
@@ -108,8 +107,10 @@ fn is_small_by(counts: Counts) -> bool
 
 /// The first limit of small machines that is passed, and by which number. Their pins are among their wires.
 fn first_passed(counts: Counts) -> Option<ShapeFault>
-    ensures found { IfSome result (λ fault. IsLimitFault most_of_small counts fault) }
-    ensures none { IfNone result (is_small counts ≡ true) }
+    requires { IsFull counts }
+    ensures found { IfSome result (λ fault. IsSmallFault counts fault) }
+    ensures none { IfNone result ((size tables_in (levels_from counts) ≤ 4096) × (size wires_in (levels_from counts) ≤ 16384)
+        × (size crosses_in (levels_from counts) ≤ 4194304)) }
 {
     let tables = tables_from(counts);
     if tables > 4096 {
@@ -135,11 +136,16 @@ fn first_passed(counts: Counts) -> Option<ShapeFault>
     None
 }
 
-/// The first limit of the other machines that is passed, and by which number.
+/// The first limit of the other machines that is passed, and by which number. A small one passes none.
 fn first_passed_by_large(counts: Counts) -> Option<ShapeFault>
-    ensures found { IfSome result (λ fault. IsLimitFault most_of_large counts fault) }
-    ensures none { IfNone result ((which : LimitedCount) → amount_of counts which ≤ most_of_large which) }
+    requires { IsFull counts }
+    ensures found { IfSome result (λ fault. IsShapeFault counts fault) }
+    ensures none { IfNone result ((size tables_in (levels_from counts) ≤ 65536) × (size wires_in (levels_from counts) ≤ 1310720)
+        × (size crosses_in (levels_from counts) ≤ 268435456) × (is_small counts ≡ false → counts.pins ≤ 8192)) }
 {
+    if is_small_by(counts) {
+        return None;
+    }
     let tables = tables_from(counts);
     if tables > 65536 {
         return Some(ShapeFault::Limit {
@@ -197,9 +203,6 @@ impl Shape {
     {
         if let Some(field) = first_zero(counts) {
             return Err(ShapeFault::Zero { field });
-        }
-        if is_small_by(counts) {
-            return Ok(Shape { counts });
         }
         if let Some(fault) = first_passed_by_large(counts) {
             return Err(fault);

@@ -1,15 +1,15 @@
-use Rattle.std.proofs.Common.{◌≡◌, refl, absurd, true, false, arith, ◌∙◌, sym}
+use Rattle.std.proofs.Common.{refl, arith}
 use Rattle.std.proofs.lemmas.Bool.{both_ways}
 use Rattle.machine_shape.specs.Counts.{levels_from}
 use Rattle.machine_shape.proofs.Full.{fewer_nodes}
-use Rattle.machine_shape.proofs.HighLimits.{small_is, small_within}
+use Rattle.machine_shape.proofs.HighLimits.{small_from, small_within}
 use Rattle.machine_shape.proofs.Shape.new.Goals as goal
 
 pub invariant_of-result : goal.invariant_of-result
 invariant_of-result c =
     let full = c.in_default.ensures.full in
-    let small = c.in_default-first_passed.ensures.none in
-    let few = small_is c.args.counts small in
+    let few = c.in_default-first_passed.ensures.none in
+    let small = small_from c.args.counts few.0 few.1 few.2 in
     let nodes = fewer_nodes (levels_from c.args.counts) full in
     record {
       full = full;
@@ -21,4 +21,9 @@ invariant_of-result c =
     }
 
 pub returns-clause-made : goal.returns-clause-made
-returns-clause-made c = (refl, record { full = c.in_default.ensures.none; within = small_within c.args.counts c.in_default-first_passed.ensures.none })
+returns-clause-made c =
+    let few = c.in_default-first_passed.ensures.none in
+    (refl, record { full = c.in_default.ensures.none; within = small_within c.args.counts (small_from c.args.counts few.0 few.1 few.2) })
+
+pub returns-clause-small : goal.returns-clause-small
+returns-clause-small c = let few = c.in_default-first_passed.ensures.none in small_from c.args.counts few.0 few.1 few.2
