@@ -1,5 +1,5 @@
 -- Which words are counts, and which counts make a shape.
-use Rattle.std.proofs.Common.{◌≡◌, ℕ, zero, suc, get_or, ◌+◌, ◌<◌, ◌≤◌, ◌^◌, Bool, true, false, not, ◌==◌, ◌&&◌, ◌||◌, nat_lt, nat_le, List, [], ◌∷◌, Option, Some, None, length, map, refl, sym, ap, ◌∙◌, arith, inl, inr, ◌⊎◌, subst, if◌then◌else◌, Bor, take, take_all}
+use Rattle.std.proofs.Common.{◌≡◌, ℕ, zero, suc, get_or, ◌+◌, ◌<◌, ◌≤◌, ◌^◌, Bool, true, false, not, ◌==◌, ◌&&◌, nat_lt, nat_le, List, [], ◌∷◌, Option, Some, None, length, map, refl, sym, ap, ◌∙◌, arith, inl, inr, ◌⊎◌, if◌then◌else◌, Bor, take, take_all}
 use Rattle.std.proofs.Math.ListN.{set}
 use Rattle.std.proofs.lemmas.Bool.{cases_eq, cases_Bool, and_parts, and_cases, and_from, or_cases, or_left, or_right, or_parts, false≢true}
 use Rattle.std.proofs.lemmas.Bool.{ltb-true, lt-ltb, leb-true, leb-false, le-leb, eq-eqb, eqb-true, ne_eqb, not-true, not-false, not_from_false}
@@ -26,7 +26,7 @@ use Rattle.machine_shape.specs.declared.LimitedCount.{LimitedCount}
 use Rattle.machine_shape.specs.declared.LimitedCount.TheVariants as which
 use Rattle.machine_shape.specs.declared.ShapeFault.{ShapeFault}
 use Rattle.machine_shape.specs.declared.ShapeFault.TheVariants.{Zero, Limit}
-use Rattle.machine_shape.specs.Limits.{HasZero, IsShapeFault, IsSmallFault, MakeShape, MakeSmall, amount_of, is_small, most_of_large, most_of_small}
+use Rattle.machine_shape.specs.Limits.{HasZero, IsShapeFault, IsSmallFault, MakeShape, MakeSmall, amount_of, is_small, most_of_large}
 use Rattle.machine_shape.proofs.HighLimits.{small_within, within_small}
 
 abbrev IsCount : List ℕ → Type 0
