@@ -23,7 +23,7 @@ value-in f count x a lt e = (
   a,
   (let l = length-map (range_with_len 0 count) f in let r = length-range_with_len 0 count in omega (arith, l, r, lt)),
   get_or-map f (range_with_len 0 count) a 0 x (let r = length-range_with_len 0 count in omega (arith, r, lt))
-  ∙ ap f (get_or-range_with_len 0 count a 0 lt ∙ (let z : 0 + a ≡ a = omega arith in z)) ∙ e,
+      ∙ ap f (get_or-range_with_len 0 count a 0 lt ∙ (let z : 0 + a ≡ a = omega arith in z)) ∙ e,
 )
 
 values-few : (P : ℕ → Type 0) (f : ℕ → ℕ) (count k : ℕ) → ((x : ℕ) → P x → (a : ℕ) × (a < count) × (f a ≡ x)) → AtLeast P k → k ≤ count
