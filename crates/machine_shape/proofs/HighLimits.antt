@@ -21,7 +21,7 @@ pub small_from : (c : Counts) → amount_of c which.Tables ≤ 4096 → amount_o
 unfolding is_small
 small_from c t w x =
     and_from (nat_le (amount_of c which.Tables) 4096) (nat_le (amount_of c which.Wires) 16384 && nat_le (amount_of c which.Crosspoints) 4194304) (le-leb _ 4096 t)
-        (and_from (nat_le (amount_of c which.Wires) 16384) (nat_le (amount_of c which.Crosspoints) 4194304) (le-leb _ 16384 w) (le-leb _ 4194304 x))
+    (and_from (nat_le (amount_of c which.Wires) 16384) (nat_le (amount_of c which.Crosspoints) 4194304) (le-leb _ 16384 w) (le-leb _ 4194304 x))
 
 -- the pins of a machine are among its wires
 pub pins_fit : (c : Counts) → amount_of c which.Pins ≤ amount_of c which.Wires

@@ -261,6 +261,10 @@ impl Shape {
     pub fn most_text(&self) -> u64
         ensures { result ≡ most_text self.now }
     {
-        if self.is_small() { 16777216 } else { 1073741824 }
+        if self.is_small() {
+            16777216
+        } else {
+            1073741824
+        }
     }
 }

@@ -242,10 +242,13 @@ module _ (c : Said) where
 
   -- where no count is 0, counts that make no shape pass a limit
   pub passed : All (λ n. 0 < n) singles → All (λ n. 0 < n) c.counts.ports → All (λ n. 0 < n) c.counts.lines → is_shape c ≡ false → PassesLimit c
-  passed single ports lines unshaped = (outside.0, elim (and_cases (not (c.form == 1)) (keeps_large c.counts) outside.1) [
-    | inl first ↦ inl (eqb-true c.form 1 (not-false (c.form == 1) first))
-    | inr over ↦ inr (over_large c.counts over)
-  ])
+  passed single ports lines unshaped = (
+    outside.0,
+    elim (and_cases (not (c.form == 1)) (keeps_large c.counts) outside.1) [
+      | inl first ↦ inl (eqb-true c.form 1 (not-false (c.form == 1) first))
+      | inr over ↦ inr (over_large c.counts over)
+    ],
+  )
     where
       outside : (is_small c.counts ≡ false) × ((not (c.form == 1) && keeps_large c.counts) ≡ false)
       outside = or_parts (is_small c.counts) (not (c.form == 1) && keeps_large c.counts) (elim (cases_Bool (is_within c)) [

@@ -50,13 +50,7 @@ fn form(word: &[u8]) -> Result<u16, MachineKind>
     ensures { Steps result (form_fault word.now) (λ n. n ≡ value_of word.now) }
 {
     match count(word) {
-        Ok(n) => {
-            if n < 3 {
-                Ok(n)
-            } else {
-                Err(MachineKind::Word)
-            }
-        }
+        Ok(n) => { if n < 3 { Ok(n) } else { Err(MachineKind::Word) } }
         Err(_) => Err(MachineKind::Word),
     }
 }
@@ -129,11 +123,7 @@ fn shape_of(said: Said) -> Result<Shape, MachineKind>
 }
 
 /// Takes up what a line gives: the form, counts, or the shape at the last line.
-fn take_words(
-    said: &mut Said,
-    head: Head,
-    words: &[&[u8]],
-) -> Result<Option<Shape>, MachineKind>
+fn take_words(said: &mut Said, head: Head, words: &[&[u8]]) -> Result<Option<Shape>, MachineKind>
     requires { length words.now ≡ follow_of head }
     ensures steps { Steps result (words_fault said.old head (map (λ w. w.now) words.now))
         (λ _. said.new ≡ with_numbers said.old head (map value_of (map (λ w. w.now) words.now))) }
