@@ -1,10 +1,9 @@
 -- The fault that reading comes to is the first of the text.
-use Rattle.std.proofs.Common.{◌≡◌, ℕ, zero, suc, ◌++◌, length-append, ◌<◌, ◌≤◌, ◌==◌, Bool, true, false, not, nat_lt, List, [], ◌∷◌, Option, Some, None, Result, Ok, Err, length, map, drop, take, get_or, refl, sym, ap, ◌∙◌, subst, arith, inl, inr, ◌⊎◌, if◌then◌else◌, IfErr}
+use Rattle.std.proofs.Common.{◌≡◌, ℕ, zero, suc, ◌++◌, length-append, ◌<◌, ◌≤◌, ◌==◌, Bool, true, false, not, nat_lt, List, [], ◌∷◌, Option, Some, None, Result, Ok, Err, length, map, drop, take, get_or, refl, sym, ap, ◌∙◌, subst, arith, inl, inr, ◌⊎◌, if◌then◌else◌}
 use Rattle.std.specs.Fmt.{decimal}
 use Rattle.std.specs.List.{list_all, All, AllByRecursion}
 use Rattle.std.proofs.lemmas.Bool.{ltb-true, ltb-false, eq-eqb, eqb-true, not-true, not-false, false≢true}
 use Rattle.std.proofs.lemmas.List.{nil_from_length, take_more, map-append, append-nil, append_assoc}
-use Rattle.machine_shape.specs.declared.Shape.{Shape}
 use Rattle.base_text.specs.Vocabulary.{LogicalLine, logical_lines, is_bad_line, most_bytes}
 use Rattle.machine_text.specs.declared.head.Head.{Head}
 use Rattle.machine_text.specs.declared.head.Head.TheVariants as head
@@ -248,7 +247,6 @@ first_from s above (l ∷ left) lines n k parts st e = by (fault_of s l) refl e 
 pub first_of : (lines : List LogicalLine) (n : ℕ) (k : MachineKind) → reading start lines ≡ Err (n, k) → IsFirstFault lines n k
 first_of lines n k e = first_from start [] lines lines n k refl (record { read = refl; few = omega arith; first = record { rows = refl; counts = tt; form = λ lt. absurd (omega (arith, lt)); shape = λ lt. absurd (omega (arith, lt)) } }) e
 
-pub refused_is : (bytes : List ℕ) (r : Result Shape MachineFault) → length bytes ≤ most_bytes → IfErr r (IsReadFault (logical_lines false bytes)) → IfErr r (IsRefusedAs bytes)
-refused_is bytes (Ok s) few h = tt
-refused_is bytes (Err Memory) few h = tt
-refused_is bytes (Err (At line kind)) few h = inr (few, first_of (logical_lines false bytes) line kind h)
+pub refused_is : (bytes : List ℕ) (fault : MachineFault) → length bytes ≤ most_bytes → IsReadFault (logical_lines false bytes) fault → IsRefusedAs bytes fault
+refused_is bytes Memory few h = tt
+refused_is bytes (At line kind) few h = inr (few, first_of (logical_lines false bytes) line kind h)

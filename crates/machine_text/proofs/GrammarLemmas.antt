@@ -1,5 +1,5 @@
 -- What is read without a fault is the text of a machine, and the text of a machine is read.
-use Rattle.std.proofs.Common.{◌≡◌, ℕ, zero, suc, ◌+◌, ◌*◌, ◌++◌, length-append, ◌<◌, ◌≤◌, ◌==◌, Bool, true, false, not, nat_lt, List, [], ◌∷◌, Option, Some, None, Result, Ok, Err, length, map, drop, get_or, refl, sym, ap, ◌∙◌, subst, arith, inl, inr, if◌then◌else◌, find, take, Contains, IfOk, IfErr, IsOkAnd, ◌&&◌}
+use Rattle.std.proofs.Common.{◌≡◌, ℕ, zero, suc, ◌+◌, ◌*◌, ◌++◌, length-append, ◌<◌, ◌≤◌, ◌==◌, Bool, true, false, not, nat_lt, List, [], ◌∷◌, Option, Some, None, Result, Ok, Err, length, map, drop, get_or, refl, sym, ap, ◌∙◌, subst, arith, inl, inr, if◌then◌else◌, find, take, Contains, ◌&&◌}
 use Rattle.std.specs.Fmt.{decimal}
 use Rattle.std.specs.List.{list_all, flat_map, All}
 use Rattle.std.specs.Str.{bytes_eq}
@@ -493,24 +493,18 @@ pub machine_is_read : (bytes : List ℕ) (c : Counts) (m : IsMachine bytes c) �
 machine_is_read bytes c m =
     read_back (logical_lines false bytes) (said_in m.form c) m.rows m.three m.four m.small m.known (is_shape-made (said_in m.form c) m.limits)
 
-some_said : {P : Said → Type 0} (r : Result Said (ℕ × MachineKind)) → IsOkAnd r P → (c : Said) × ((r ≡ Ok c) × P c)
-some_said (Ok c) p = (c, (refl, p))
-some_said (Err e) p = absurd p
+pub found_is : (bytes : List ℕ) (said : Said) (s : Shape) → length bytes ≤ most_bytes → IsReadShape (logical_lines false bytes) said s → IsMachine bytes s.counts × (length bytes ≤ most_bytes)
+found_is bytes said s few h = (subst (IsMachine bytes) (sym h.1) (is_machine bytes said h.0 h.2), few)
 
-pub found_is : (bytes : List ℕ) (r : Result Shape MachineFault) → length bytes ≤ most_bytes → IfOk r (λ s. IsReadShape (logical_lines false bytes) s) → IfOk r (λ s. IsMachine bytes s.counts × (length bytes ≤ most_bytes))
-found_is bytes (Ok s) few h =
-    let said = some_said (reading start (logical_lines false bytes)) h in
-    (subst (IsMachine bytes) said.1.1.0 (is_machine bytes said.0 said.1.0 said.1.1.1), few)
-found_is bytes (Err e) few h = tt
+pub only_is : (bytes : List ℕ) (said : Said) (s : Shape) → IsReadShape (logical_lines false bytes) said s → (c : Counts) → IsMachine bytes c → GivesOrLacks c (Ok s)
+only_is bytes said s h c m =
+    let one : ◌≡◌ {A = Result Said (ℕ × MachineKind)} (Ok said) (Ok (said_in m.form c)) = sym h.0 ∙ machine_is_read bytes c m in
+    let same : said ≡ said_in m.form c = cc in
+    h.1 ∙ ap (λ (x : Said). x.counts) same
 
-pub only_is : (bytes : List ℕ) (r : Result Shape MachineFault) → IfOk r (λ s. IsReadShape (logical_lines false bytes) s) → IfErr r (IsReadFault (logical_lines false bytes)) → (c : Counts) → IsMachine bytes c → GivesOrLacks c r
-only_is bytes (Ok s) got first c m =
-    let said = some_said (reading start (logical_lines false bytes)) got in
-    let one : ◌≡◌ {A = Result Said (ℕ × MachineKind)} (Ok said.0) (Ok (said_in m.form c)) = sym said.1.0 ∙ machine_is_read bytes c m in
-    let same : said.0 ≡ said_in m.form c = cc in
-    sym said.1.1.0 ∙ ap (λ (x : Said). x.counts) same
-only_is bytes (Err Memory) got first c m = tt
-only_is bytes (Err (At line kind)) got first c m = let e : ◌≡◌ {A = Result Said (ℕ × MachineKind)} (Err (line, kind)) (Ok (said_in m.form c)) = sym first ∙ machine_is_read bytes c m in absurd cc
+pub none_is : (bytes : List ℕ) (fault : MachineFault) → IsReadFault (logical_lines false bytes) fault → (c : Counts) → IsMachine bytes c → GivesOrLacks c (Err fault)
+none_is bytes Memory first c m = tt
+none_is bytes (At line kind) first c m = let e : ◌≡◌ {A = Result Said (ℕ × MachineKind)} (Err (line, kind)) (Ok (said_in m.form c)) = sym first ∙ machine_is_read bytes c m in absurd cc
 
 -- ---- what is written
 

@@ -1,7 +1,8 @@
 -- What a reader holds, and the fault that it comes to.
-use Rattle.std.specs.Prelude.{◌≡◌, ◌<◌, List, Err, IsOkAnd, MatchOption}
+use Rattle.std.specs.Prelude.{◌≡◌, ◌<◌, List, Ok, Err, MatchOption}
 use Rattle.machine_shape.specs.declared.Shape.{Shape}
 use Rattle.machine_text.specs.declared.reader.Reader.{Reader}
+use Rattle.machine_text.specs.declared.said.Said.{Said}
 use Rattle.base_text.specs.Lines.{LogicalLine}
 use Rattle.machine_text.specs.declared.kind.MachineFault.{MachineFault}
 use Rattle.machine_text.specs.declared.kind.MachineFault.TheVariants.{At, Memory}
@@ -15,9 +16,9 @@ state_of r = record { read = r.read; said = r.said }
 abbrev pub IsReader : Reader → Type 0
 IsReader r = MatchOption r.shape (r.read < 9) (λ s. (r.read ≡ 9) × (s.counts ≡ r.said.counts) × KeepsLimits r.said)
 
--- reading the lines gives this shape
-abbrev pub IsReadShape : List LogicalLine → Shape → Type 0
-IsReadShape lines s = IsOkAnd (reading start lines) (λ said. (said.counts ≡ s.counts) × KeepsLimits said)
+-- the lines say this, and it makes this shape
+abbrev pub IsReadShape : List LogicalLine → Said → Shape → Type 0
+IsReadShape lines said s = (reading start lines ≡ Ok said) × (s.counts ≡ said.counts) × KeepsLimits said
 
 -- reading the lines comes to this fault; of a lack of memory nothing is said
 abbrev pub IsReadFault : List LogicalLine → MachineFault → Type 0

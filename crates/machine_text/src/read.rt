@@ -36,10 +36,10 @@ fn new_reader() -> Reader
     }
 }
 
-/// Reads the lines of a text.
+/// Reads the lines of a text: what they say, and the shape of it.
 #[tactic(auto, unfolding(crate::specs::Reading::reading))]
-fn read_lines(alloc: Global, bytes: &[u8]) -> Result<Shape, MachineFault>
-    ensures found { IfOk result (λ s. IsReadShape (logical_lines false bytes.now) s) }
+fn read_lines(alloc: Global, bytes: &[u8]) -> Result<(Said, Shape), MachineFault>
+    ensures found { IfOk result (λ r. IsReadShape (logical_lines false bytes.now) r.0 r.1) }
     ensures refused { IfErr result (IsReadFault (logical_lines false bytes.now)) }
 {
     let mut lines = Lines::new(alloc, bytes, false);
@@ -60,10 +60,13 @@ fn read_lines(alloc: Global, bytes: &[u8]) -> Result<Shape, MachineFault>
             }
         }
     }
-    reader.shape.ok_or(MachineFault::At {
-        line: 0,
-        kind: MachineKind::Missing,
-    })
+    match reader.shape {
+        Some(shape) => Ok((reader.said, shape)),
+        None => Err(MachineFault::At {
+            line: 0,
+            kind: MachineKind::Missing,
+        }),
+    }
 }
 
 /// The shape whose machine the text is of, which is small where its first line says `teramac 1`. It is refused at its first faulty line, and there for what comes first
@@ -81,5 +84,8 @@ pub fn read_machine(alloc: Global, bytes: &[u8]) -> Result<Shape, MachineFault>
             kind: MachineKind::Limit,
         });
     }
-    read_lines(alloc, bytes)
+    match read_lines(alloc, bytes) {
+        Ok((_, shape)) => Ok(shape),
+        Err(fault) => Err(fault),
+    }
 }
