@@ -1,9 +1,7 @@
-use Rattle.std.proofs.Common.{◌≡◌, ℕ, ◌+◌, List, length, min, ap, ◌∙◌, subst}
-use Rattle.machine_shape.specs.declared.Shape.{Shape}
+use Rattle.std.proofs.Common.{◌≡◌, ℕ, ◌+◌, List, length, ap, ◌∙◌, subst}
 use Rattle.machine_shape.specs.Bounds.{most_ticks}
-use Rattle.place_plan.specs.declared.layout.Laid.TheVariants as laid
 use Rattle.place_plan.specs.declared.short.Need.{Need}
-use Rattle.place_plan.specs.Vocabulary.{IsLaid, AreThose, AreNeeds, Fits, FitsWith, IsTerminal, nets_in, IsFreeTableOf, IsFreePinOf, IsFirstShort}
+use Rattle.place_plan.specs.Vocabulary.{IsLaid, AreThose, AreNeeds, IsTerminal, nets_in, IsFreeTableOf, IsFreePinOf, IsFirstShort}
 use Rattle.place_plan.proofs.Fitting.{needs_are, have_is, few_tables, never_fits}
 use Rattle.place_plan.proofs.fit.lay_out.Goals as goal
 
