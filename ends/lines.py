@@ -11,7 +11,6 @@ DRIVES = rb"d[0-9a-f]+(?: d[0-9a-f]+)*"
 LOAD = rb"(?:z )?(?:(?:" + EDIT + rb") )*l"
 REQUEST = re.compile(rb"a (?P<number>0|[1-9][0-9]{0,9})|" + LOAD + rb"(?: " + DRIVES + rb")?|" + DRIVES)
 MOST_NUMBER = 2**32 - 1  # of an `a`
-MOST_TICKS = 4096
 REPLY_BYTES = 4096  # a reply has no more before its check, but for a single reading that is wider
 
 
@@ -156,6 +155,6 @@ class Device:
     def _check_edit(self, word):
         """Whether the number of an edit is one of this machine."""
         crosses, tables = range(len(self._machine.crosses)), range(len(self._machine.tables))
-        known = {b"c": crosses, b"o": crosses, b"k": range(1, MOST_TICKS + 1)}.get(word[:1], tables)
+        known = {b"c": crosses, b"o": crosses, b"k": range(1, self._machine.most_ticks + 1)}.get(word[:1], tables)
         if int(word[1:].split(b",")[0]) not in known:
             raise Refusal("number")

@@ -1,12 +1,16 @@
 """A machine's parts with their names and numbers, and its faults, as docs/FORMATS.md has them."""
 
 import re
+from bisect import bisect
+from collections.abc import Sequence
 from dataclasses import dataclass, field
 
 WORDS = {"teramac": 1, "modules": 1, "chips": 1, "hextants": 1, "tables": 1, "ports": 3, "lines": 4, "pins": 1, "end": 0}
 FAULT_WORDS = {"stuck0": 1, "stuck1": 1, "open": 2, "closed": 2, "bridge": 2, "cell": 3, "register": 2}
 TABLE_PINS = ("i0", "i1", "i2", "i3", "i4", "i5", "q")
 INPUTS, OUTPUT = 6, 6  # of a table's seven pins the first six are inputs, and the one behind them is the output
+SMALL, LARGE = (4_096, 16_384, 4_194_304), (65_536, 1_310_720, 268_435_456)  # most tables, wires and crosspoints
+LARGE_PINS = 8_192  # most pins of a machine that isn't small
 
 
 class Refused(Exception):
@@ -26,6 +30,36 @@ class Node:
         return range(self.first, self.first + len(self.taps) * len(self.lines))
 
 
+class Crosses(Sequence):
+    """The crosspoints of nodes by their numbers, each its tap and its line. They aren't kept: a large machine has many."""
+
+    def __init__(self, nodes):
+        self._nodes, self._firsts, self._count = nodes, [], 0
+        for node in nodes:
+            node.first = self._count
+            self._firsts.append(node.first)
+            self._count = node.crosses.stop
+        self._of_line = {line: node for node in nodes for line in node.lines}
+        self._rows = {}  # of a node, by its first crosspoint: the places of its taps
+
+    def __len__(self):
+        return self._count
+
+    def __getitem__(self, number):
+        if not 0 <= number < self._count:
+            raise IndexError(number)
+        node = self._nodes[bisect(self._firsts, number) - 1]
+        tap, line = divmod(number - node.first, len(node.lines))
+        return node.taps[tap], node.lines[line]
+
+    def number(self, tap, line):
+        """The crosspoint of a tap and a line; a `KeyError` where they have none."""
+        node = self._of_line[line]
+        if node.first not in self._rows:
+            self._rows[node.first] = {wire: place for place, wire in enumerate(node.taps)}
+        return node.first + self._rows[node.first][tap] * len(node.lines) + line - node.lines.start
+
+
 class Machine:
     """All parts of a machine of these twelve counts, each at its number."""
 
@@ -37,10 +71,7 @@ class Machine:
         self._lines = rest[3:7]
         self.wires, self.nodes, self.tables, self.table_names = [], [], [], []
         self.pins = self._add_node(0, "r")
-        self.crosses = []
-        for node in self.nodes:
-            node.first = len(self.crosses)
-            self.crosses += [(tap, line) for tap in node.taps for line in node.lines]
+        self.crosses = Crosses(self.nodes)
 
     def _add_wires(self, names):
         first = len(self.wires)
@@ -73,12 +104,17 @@ class Machine:
         return most_loads_of(self.counts)
 
     @property
+    def most_ticks(self):
+        """So many ticks a cycle may have."""
+        return 4_096 if is_small(self.counts) else 65_535
+
+    @property
     def counts_text(self):
         return " ".join(map(str, self.counts))
 
 
-def most_loads_of(counts):
-    """The same of a machine of these twelve counts: twice its crosspoints, three times its wires and 130 times its tables."""
+def sizes_of(counts):
+    """How many tables, wires and crosspoints a machine of these twelve counts has."""
     modules, chips, hextants, tables, *ports, root, module, chip, hextant, pins = counts
     above, wires, crosses, nodes = pins, 0, 0, 1
     parts = ((root, modules, ports[0]), (module, chips, ports[1]), (chip, hextants, ports[2]), (hextant, tables, len(TABLE_PINS)))
@@ -86,7 +122,22 @@ def most_loads_of(counts):
         wires += nodes * (above + lines)
         crosses += nodes * lines * (above + children * below)
         above, nodes = below, nodes * children
-    return 2 * crosses + 3 * (wires + nodes * len(TABLE_PINS)) + 130 * nodes
+    return nodes, wires + nodes * len(TABLE_PINS), crosses
+
+
+def most_loads_of(counts):
+    """So many loads a diagnosis takes at most: twice the crosspoints, three times the wires and 130 times the tables."""
+    tables, wires, crosses = sizes_of(counts)
+    return 2 * crosses + 3 * wires + 130 * tables
+
+
+def is_small(counts):
+    return all(count <= most for count, most in zip(sizes_of(counts), SMALL))
+
+
+def are_within_limits(counts):
+    """Whether there may be a machine of these counts."""
+    return is_small(counts) or counts[-1] <= LARGE_PINS and all(count <= most for count, most in zip(sizes_of(counts), LARGE))
 
 
 @dataclass
@@ -127,7 +178,7 @@ def numeral(word, least, most):
 
 
 def read_machine(text):
-    """The machine of a text of nine lines."""
+    """The machine of a text of nine lines. The first says whether it may be larger than a small one."""
     lines = list(lines_of(text))
     values = {}
     for (number, words), due in zip(lines, WORDS):
@@ -137,10 +188,13 @@ def read_machine(text):
             values[due] = [numeral(word, 1, 65_535) for word in words[1:]]
         except KeyError as wrong:
             raise Refused(f"machine, line {number}: {wrong}") from None
-    if len(lines) != len(WORDS) or values["teramac"] != [1]:
-        raise Refused("machine: not the nine lines of version 1")
-    single = [values[word][0] for word in ("modules", "chips", "hextants", "tables")]
-    return Machine(single + values["ports"] + values["lines"] + values["pins"])
+    if len(lines) != len(WORDS) or values["teramac"] not in ([1], [2]):
+        raise Refused("machine: not the nine lines of version 1 or 2")
+    counts = [values[word][0] for word in ("modules", "chips", "hextants", "tables")]
+    counts += values["ports"] + values["lines"] + values["pins"]
+    if not (is_small(counts) if values["teramac"] == [1] else are_within_limits(counts)):
+        raise Refused("machine: too large")
+    return Machine(counts)
 
 
 class FaultReader:
@@ -149,7 +203,7 @@ class FaultReader:
     def __init__(self, machine):
         self.faults = Faults()
         self._wires = {name: number for number, name in enumerate(machine.wires)}
-        self._crosses = {ends: number for number, ends in enumerate(machine.crosses)}
+        self._crosses = machine.crosses
         self._tables = {name: number for number, name in enumerate(machine.table_names)}
 
     def entry(self, kind, *words):
@@ -169,7 +223,7 @@ class FaultReader:
         return self.faults.stuck, self._wires[wire], int(kind[-1])
 
     def _open(self, kind, tap, line):
-        return self.faults.crosses, self._crosses[self._wires[tap], self._wires[line]], kind == "closed"
+        return self.faults.crosses, self._crosses.number(self._wires[tap], self._wires[line]), kind == "closed"
 
     _closed = _open
 

@@ -22,7 +22,7 @@ from pathlib import Path
 import c_end
 import overlay_end
 import switch_end
-from machine import Refused, read_faults, read_machine
+from machine import Refused, is_small, read_faults, read_machine
 
 HERE = Path(__file__).resolve().parent
 PYTHON_FILES = ("python_end.py", "lines.py", "machine.py", "model.py", "progress.py", "schedule.py")
@@ -63,13 +63,21 @@ def make_c(given):
     return Made(texts, ("c/port.c", "c/host.h"), ["cc -O2 -o end port.c"])
 
 
+def want_small(given):
+    """Refuses what no end in Verilog can be: numbers there have so many digits, and ticks, as a small machine wants."""
+    if not is_small(given.parts.counts):
+        raise Refused("machine: in Verilog it has at most 4,096 tables, 16,384 wires and 4,194,304 crosspoints")
+
+
 def make_switch(given):
+    want_small(given)
     texts = {"machine.v": switch_end.verilog(given.parts, given.wrong)}
     commands = ["iverilog -g2012 -o end.vvp -s port machine.v switch_port.v"]
     return Made(texts, ("verilog/switch_port.v",), commands + script('vvp -n "$(dirname "$0")"/end.vvp'))
 
 
 def overlay(given):
+    want_small(given)
     return {"machine.v": overlay_end.verilog(given.parts, given.wrong)}
 
 
@@ -126,9 +134,9 @@ def main():
     try:
         given.parts = read_machine(given.machine.read_text())
         given.wrong = read_faults(given.parts, given.faults.read_text() if given.faults else "")
+        made = KINDS[given.kind](given)
     except (Refused, OSError) as reason:
         sys.exit(f"refused {reason}")
-    made = KINDS[given.kind](given)
     made.write(given.folder)
     if not given.sources:
         built = subprocess.run([given.folder.resolve() / "build"], check=False)

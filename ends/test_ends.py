@@ -83,10 +83,24 @@ class Texts(unittest.TestCase):
 
     def test_wrong_machines(self):
         text = (EXAMPLES / "tiny.machine").read_text()
-        changes = (("tables 2", "tables 0"), ("pins 4", "pins 4 4"), ("end", ""), ("teramac 1", "teramac 2"))
+        changes = (("tables 2", "tables 0"), ("pins 4", "pins 4 4"), ("end", ""), ("teramac 1", "teramac 3"), ("tables 2", "tables 5000"))
         for wrong in ("", text + "end\n", *(text.replace(*change) for change in changes)):
             with self.assertRaises(Refused):
                 read_machine(wrong)
+
+    def test_large_machines(self):
+        text = (EXAMPLES / "tiny.machine").read_text().replace("teramac 1", "teramac 2")
+        self.assertEqual((read_machine(text).counts, TINY.most_ticks), (TINY.counts, 4_096))
+        large = read_machine(text.replace("tables 2", "tables 5000"))
+        self.assertEqual((len(large.tables), len(large.wires), large.most_ticks), (5_000, 35_032, 65_535))
+        for change in (("chips 1", "chips 14"), ("pins 4", "pins 8193"), ("lines 4 4 4 4", "lines 4 4 4 9000")):
+            with self.assertRaises(Refused):
+                read_machine(text.replace("tables 2", "tables 5000").replace(*change))
+        last = len(large.crosses) - 1
+        self.assertEqual(large.crosses[last], (len(large.wires) - 1, large.nodes[3].lines[-1]))
+        self.assertEqual(large.crosses.number(*large.crosses[last]), last)
+        session = Session(large, Faults(), Configuration({0, 4}))
+        self.assertEqual(session.cycle(0b1110), 0b1100)
 
     def test_wrong_faults(self):
         for wrong in ("stuck0 r.l9", "open r.l1 r.p0", "cell m0.c0.h0.t0 64 0", "bridge r.l0 r.l0", "stuck0", "loose r.l0"):

@@ -15,6 +15,7 @@ import teramac_texts as texts
 from program import add_program, checked_design
 
 CELL, GAP, LABEL, MARGIN, TABLE_ON = 7, 26, 62, 16, "#8fb1dd"
+MOST_CROSSES = 4_194_304  # of a picture
 MISSED, THROWN, LISTED = "missed", "thrown", "listed"
 WIRES = ("stuck0", "stuck1", "short")
 # For each cause its colour, its words, and the dashes of a wire or the path of a crosspoint in a square of 6 by 6 around its middle.
@@ -150,8 +151,20 @@ def draw_node(picture, node, x, y):
         picture.rect(left + width + 3, first + 1, 5, 7 * CELL - 2, colour, f"><title>{machine.table_names[table]}</title></rect>")
 
 
-def svg_text(picture, level, used):
-    """The picture of the nodes of a level, or of all, or of those that the image uses, below what the colours say."""
+def chosen(picture, part, level, used):
+    """The nodes that are to be drawn: of a part or of the whole machine, of a level or of all, or those that the image uses."""
+    busy = {picture.machine.node_of_cross(cross).name for cross in picture.closed}
+    nodes = [node for node in picture.machine.nodes if level in (None, texts.LEVELS[node.level]) and (node.name in busy or not used)]
+    nodes = [node for node in nodes if part in (None, "r", node.name) or node.name.startswith(f"{part}.")]
+    if not nodes:
+        sys.exit("--node, --level, --used: no crossbar of this machine is all that; or there is no image here")
+    if sum(len(node.taps) * len(node.lines) for node in nodes) > MOST_CROSSES:
+        sys.exit(f"these crossbars have more than {MOST_CROSSES:,} crosspoints: choose some by --node, --level or --used")
+    return nodes
+
+
+def svg_text(picture, nodes):
+    """The picture of these nodes, below what the colours say."""
     x, nets = MARGIN, len(set(picture.net_of.values()))
     seen = {*picture.wires.values(), *picture.crosses.values(), *picture.tables.values()}
     for cause, (colour, words, shape) in MARKS.items():
@@ -167,10 +180,6 @@ def svg_text(picture, level, used):
             x += 28 + 5 * len(words)
     if nets:
         picture.text(x, MARGIN, f"{nets} nets, pale; dots are closed crosspoints, blue bars switched-on tables")
-    busy = {picture.machine.node_of_cross(cross).name for cross in picture.closed}
-    nodes = [node for node in picture.machine.nodes if level in (None, texts.LEVELS[node.level]) and (node.name in busy or not used)]
-    if not nodes:
-        sys.exit("--used: there is no image here, or it uses no node of this level")
     places = layout(nodes, MARGIN + 14)
     for node in nodes:
         draw_node(picture, node, *places[node.name])
@@ -186,6 +195,7 @@ def main():
     parser.add_argument("--defects", help="a list of defects")
     parser.add_argument("--image", help="an image")
     parser.add_argument("--design", help="the BLIF file of the image's design, for the names of nets")
+    parser.add_argument("--node", metavar="NAME", help="only the crossbar of a node and those below it, as m0.c1")
     parser.add_argument("--level", choices=texts.LEVELS, help="only the crossbars of one level")
     parser.add_argument("--used", action="store_true", help="only the crossbars that the image uses")
     parser.add_argument("-o", "--output", default="-", help="a new file (default: standard output)")
@@ -201,7 +211,7 @@ def main():
         if (len(design.inputs), len(design.outputs)) != (len(image.inputs), len(image.outputs)):
             sys.exit(f"{args.image}: its inputs and outputs aren't as many as the design's")
         picture.names = net_names(machine, image, design)
-    texts.write_new(args.output, svg_text(picture, args.level, args.used))
+    texts.write_new(args.output, svg_text(picture, chosen(picture, args.node, args.level, args.used)))
 
 
 if __name__ == "__main__":

@@ -105,8 +105,10 @@ def text_wrong(call, file, number, kind, names):
         wanted = "words of pair" if file in ("first", "second") else f"{file} file"
         return f"give the {wanted} after the line, to hear more of line {number}"
     size = os.path.getsize(call.roles[role])
-    if kind == "limit" and not number and role != "vectors" and size > texts.FILE_LIMIT:
-        return f"the file has {size:,} bytes, and at most {texts.FILE_LIMIT:,} are read"
+    if kind == "limit" and not number and role != "vectors":
+        most = call.machine.limits.text if role in ("rig", "defects") else texts.FILE_LIMIT
+        if size > most:
+            return f"the file has {size:,} bytes, and at most {most:,} are read"
     if other := other_file(call, role, number, kind):
         return other
     if kind == "byte":

@@ -14,14 +14,14 @@ ENTRIES = {"wire": 1, "cross": 2, "table": 1}
 PLACES = {"ports": " (of a module, a chip and a hextant)", "lines": " (of the root, a module, a chip and a hextant)"}
 COUNTS = ("modules", "chips", "hextants", "tables", "ports of a module", "ports of a chip", "ports of a hextant")
 COUNTS += ("lines of the root", "lines of a module", "lines of a chip", "lines of a hextant", "pins")
-REPAIR_LIMIT = 1_000_000
 
 
 def machine_limit(data):
     """Which limit the counts of a machine pass."""
-    counts = [int(word) for _, words in numbered_words(data) for word in words[1:]][1:13]
-    found = zip(("tables", "wires", "crosspoints"), texts.sizes_of(counts), texts.LIMITS)
-    return "its counts give " + "; ".join(f"{count:,} {name}, and at most {most:,} may be" for name, count, most in found if count > most)
+    form, *counts = [int(word) for _, words in numbered_words(data) for word in words[1:]][:13]
+    found = texts.passed_limits(counts, texts.SMALL if form == 1 else texts.LARGE)
+    more = "; with `teramac 2` as its first line it is taken" if form == 1 and texts.are_within_limits(counts) else ""
+    return "its counts give " + "; ".join(f"{count:,} {name}, and at most {most:,} may be" for name, count, most in found) + more
 
 
 def machine_wrong(call, number, kind):
@@ -44,7 +44,7 @@ def machine_wrong(call, number, kind):
         case "word" if words[0] not in due:
             return f"`{shown(words[0])}` is no word of a machine, and `{due[len(before)]}` is due{alike(words[0], due)}"
         case "word" if words[0] == "teramac" and len(words) == 2:
-            return f"`teramac {shown(words[1])}` isn't known; the first line is `teramac 1`"
+            return f"`teramac {shown(words[1])}` isn't known; the first line is `teramac 1`, or `teramac 2` for a larger machine"
         case "word":
             takes = counted(texts.MACHINE_WORDS[words[0]] - 1, "number")
             return f"`{words[0]}` takes {takes}{PLACES.get(words[0], '')}, and {stand(len(words) - 1)}"
@@ -125,7 +125,7 @@ def faults_wrong(call, number, kind):
             at, first = next((at, line) for at, line in lines if fault_place(line) == fault_place(words))
             return f"line {at} says {'the same' if kind == 'doubled' else 'the other value of the same part'}: {' '.join(first)}"
         case "limit" if number:
-            return f"{texts.FAULT_LIMIT:,} entries stand before this line, and no more may be"
+            return f"{call.machine.limits.faults:,} entries stand before this line, and no more may be"
     return None
 
 
@@ -247,12 +247,12 @@ def image_range(machine, name, value):
     """Which values a field may have, as words."""
     tables, crosses = machine.sizes["table"], machine.sizes["cross"]
     for start, least, most in (
-        ("the number of ticks", 1, 4_096),
+        ("the number of ticks", 1, machine.limits.ticks),
         ("the pin", 0, len(machine.pins) - 1),
         ("the number of tables", 0, tables),
         ("the number of table", 0, tables - 1),
         ("the flags", 0, 3),
-        ("the number of crosspoints", 0, min(texts.CLOSED_LIMIT, crosses)),
+        ("the number of crosspoints", 0, min(machine.limits.closed, crosses)),
         ("crosspoint", 0, crosses - 1),
     ):
         if name.startswith(start):
@@ -294,7 +294,7 @@ def image_wrong(call, place, kind):
             return f"by its own counts the image has {place:,} bytes, and the file has {len(data):,}"
         case "limit" if len(data) <= texts.FILE_LIMIT:
             closed = next(value for _, name, _, value in image_fields(data) if name == "the number of crosspoints")
-            return f"the image closes {closed:,} crosspoints, and repair takes at most {REPAIR_LIMIT:,}"
+            return f"the image closes {closed:,} crosspoints, and repair takes at most {call.machine.limits.repaired:,}"
     return None
 
 

@@ -188,19 +188,19 @@ def make_faults(machine, amounts, seed, clustered=0, shape="spots"):
     chance, faults = random.Random(seed), texts.Faults()
     places = Places(machine, chance, clustered, shape)
     for kind, wanted in amounts.items():
-        group, each, room = KINDS[kind][0], PLACES.get(kind, 1), texts.FAULT_LIMIT - faults.count
+        group, each, room = KINDS[kind][0], PLACES.get(kind, 1), machine.limits.faults - faults.count
         parts, count = machine.sizes[group] * each, places.count(wanted, group, each)
         if count > room:
             rate = f"; of {kind} {largest_rate(room, parts):.4f} is the largest rate that fits" if isinstance(wanted, float) else ""
-            raise ValueError(f"{kind}: {count} faults, and a fault file holds at most {texts.FAULT_LIMIT:,} in all{rate}")
+            raise ValueError(f"{kind}: {count} faults, and a fault file holds at most {machine.limits.faults:,} in all{rate}")
         opened = len(faults["open"])
         for _ in range(count):
             # Of breaks a rate says how many crosspoints are open, not how many wires break.
             if kind == "broken" and isinstance(wanted, float) and len(faults["open"]) >= opened + count:
                 break
             add_one(places, kind, count, faults)
-            if faults.count > texts.FAULT_LIMIT:
-                raise ValueError(f"{kind}: so many wires open more crosspoints than the {texts.FAULT_LIMIT:,} faults of a file")
+            if faults.count > machine.limits.faults:
+                raise ValueError(f"{kind}: so many wires open more crosspoints than the {machine.limits.faults:,} faults of a file")
     return faults
 
 

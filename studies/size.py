@@ -47,10 +47,11 @@ def bearing_counts(network, tree, faults):
 
 
 def cheapest(several):
-    """Of these counts the machine with the fewest crosspoints, within the limits of a machine."""
-    found = [counts for counts in several if texts.are_within_limits(counts)]
+    """Of these counts the machine with the fewest crosspoints: a small one, or where none is small any other within the limits."""
+    several = list(several)
+    found = [counts for counts in several if texts.is_small(counts)] or [counts for counts in several if texts.are_within_limits(counts)]
     if not found:
-        sys.exit("no machine within the limits (16,384 wires, 4,194,304 crosspoints, 4,096 tables) holds this design")
+        sys.exit("no machine within the limits (1,310,720 wires, 268,435,456 crosspoints, 65,536 tables, 8,192 pins) holds this design")
     return texts.Machine(min(found, key=lambda counts: texts.sizes_of(counts)[2]))
 
 
@@ -65,11 +66,11 @@ def bearing_machine(network, trees, faults):
 
 
 def bearing_crosspoints(network, trees):
-    """How many crosspoints that machine has, for 0, 1, 2 .. faults, up to the most that a machine within the limits bears."""
+    """How many crosspoints that machine has, for 0, 1, 2 .. faults, up to the most that a small machine bears."""
     several = []
     while True:
         counts = [bearing_counts(network, tree, len(several)) for tree in trees]
-        found = [texts.sizes_of(one)[2] for one in counts if texts.are_within_limits(one)]
+        found = [texts.sizes_of(one)[2] for one in counts if texts.is_small(one)]
         if not found:
             return several
         several.append(min(found))

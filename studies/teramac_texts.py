@@ -13,9 +13,14 @@ from collections import namedtuple
 from itertools import islice
 from types import SimpleNamespace as Node
 
-FILE_LIMIT = 16_777_216
-LIMITS = 4_096, 16_384, 4_194_304  # tables, wires, crosspoints
-FAULT_LIMIT, CLOSED_LIMIT = 65_536, 1_048_576
+FILE_LIMIT = 16_777_216  # of a machine, an image or a design
+LIMITED = ("tables", "wires", "crosspoints", "pins")
+SMALL, LARGE = (4_096, 16_384, 4_194_304), (65_536, 1_310_720, 268_435_456, 8_192)  # how many of these a machine has at most
+# What goes by the machine: ticks of an image, its closed crosspoints, those of one that is repaired, entries of a fault file, and bytes
+# of one and of a list of defects.
+Limits = namedtuple("Limits", "ticks closed repaired faults text")
+SMALL_LIMITS = Limits(4_096, 1_048_576, 1_000_000, 65_536, 16_777_216)
+LARGE_LIMITS = Limits(65_535, 3_670_016, 1_048_576, 16_777_216, 1_073_741_824)
 PARTS = ("wire", "cross", "table")
 LEVELS = ("root", "module", "chip", "hextant")
 BLANK = str.maketrans("\t\r", "  ")
@@ -38,16 +43,16 @@ def numeral(word, most):
     return int(word) if re.fullmatch("0|[1-9][0-9]{0,9}", word) and int(word) <= most else None
 
 
-def lines_of(data, file):
-    """The lines of a text without their ends, and what stands behind the last end."""
-    if len(data) > FILE_LIMIT:
+def lines_of(data, file, most=FILE_LIMIT):
+    """The lines of a text of at most so many bytes without their ends, and what stands behind the last end."""
+    if len(data) > most:
         raise Refused(file, 0, "limit")
     return data.decode("utf-8", "surrogateescape").split("\n")
 
 
-def read_lines(data, file, take):
+def read_lines(data, file, take, most=FILE_LIMIT):
     """Gives `take` the words of each line that has some; refuses the first line that it says something wrong of."""
-    for number, line in enumerate(lines_of(data, file), 1):
+    for number, line in enumerate(lines_of(data, file, most), 1):
         line = line.split("#", 1)[0].translate(BLANK)
         words = [word for word in line.split(" ") if word]
         wrong = "byte" if re.search(r"[\x00-\x1f\x7f]", line) else words and take(words)
@@ -60,6 +65,7 @@ class Machine:
 
     def __init__(self, counts):
         self.counts = tuple(counts)
+        self.limits = SMALL_LIMITS if is_small(self.counts) else LARGE_LIMITS
         m, c, h, self._tables, p1, p2, p3, l0, l1, l2, l3, n = self.counts
         self._levels = [(0, l0, m, "m"), (p1, l1, c, ".c"), (p2, l2, h, ".h"), (p3, l3, 0, "")]
         self.pins, self.names, self.nodes, self.table_pins = range(n), [f"r.p{k}" for k in range(n)], [], []
@@ -67,6 +73,7 @@ class Machine:
         crosses = 0
         for node in self.nodes:
             node.first, crosses = crosses, crosses + len(node.taps) * len(node.lines)
+        self._firsts = [node.first for node in self.nodes]
         self.table_names = [f"{node.name}.t{k}" for node in self.nodes for k in range(len(node.tables))]
         self.sizes = {"wire": len(self.names), "cross": crosses, "table": len(self.table_names)}
         self.numbers = {name: number for number, name in enumerate(self.names)}
@@ -99,7 +106,7 @@ class Machine:
 
     @property
     def text(self):
-        counts = iter((1, *self.counts))
+        counts = iter((1 if is_small(self.counts) else 2, *self.counts))
         lines = [[word, *islice(counts, words - 1)] for word, words in MACHINE_WORDS.items()]
         return "".join(" ".join(map(str, line)) + "\n" for line in lines)
 
@@ -118,7 +125,7 @@ class Machine:
         return [cross for node, row in zip(self.taps[wire], rows) for cross in range(row, row + len(node.lines))]
 
     def node_of_cross(self, cross):
-        return self.nodes[bisect(self.nodes, cross, key=lambda node: node.first) - 1]
+        return self.nodes[bisect(self._firsts, cross) - 1]
 
     def ends(self, cross):
         """The tap and the line of a crosspoint."""
@@ -149,12 +156,23 @@ def sizes_of(counts):
     return m * c * h * t, wires, crosses
 
 
-def are_within_limits(counts, limits=LIMITS):
+def passed_limits(counts, limits):
+    """Of which parts these counts give more than there may be: their name, how many, and how many there may be."""
+    found = zip(LIMITED, (*sizes_of(counts), counts[11]), limits)
+    return [(name, count, most) for name, count, most in found if count > most]
+
+
+def is_small(counts):
+    """Whether a machine of these counts is small, so that `teramac 1` may stand over it."""
+    return not passed_limits(counts, SMALL)
+
+
+def are_within_limits(counts):
     """Whether a machine may have these counts."""
-    return all(count <= most for count, most in zip(sizes_of(counts), limits))
+    return is_small(counts) or not passed_limits(counts, LARGE)
 
 
-def read_machine(data, limits=LIMITS):
+def read_machine(data):
     """The machine of a text."""
     due, counts = list(MACHINE_WORDS), []
 
@@ -162,14 +180,15 @@ def read_machine(data, limits=LIMITS):
         """Takes the line as the next one that is due, or says what is wrong with it."""
         if not due or words[0] != due[0]:
             return "after" if not due else "order" if words[0] in MACHINE_WORDS else "word"
-        if len(words) != MACHINE_WORDS[words[0]] or (words[0] == "teramac" and words[1] != "1"):
+        if len(words) != MACHINE_WORDS[words[0]] or (words[0] == "teramac" and words[1] not in ("1", "2")):
             return "word"
         found = [numeral(word, 65_535) for word in words[1:]]
         if not all(found):
             return "number"
         due.pop(0)
         counts.extend(found)
-        return None if due or are_within_limits(counts[1:], limits) else "limit"
+        is_taken = due or (is_small if counts[0] == 1 else are_within_limits)(counts[1:])
+        return None if is_taken else "limit"
 
     read_lines(data, "machine", take)
     if due:
@@ -204,7 +223,7 @@ class Faults(dict):
 def read_faults(machine, data):
     """The faults of a text on a machine."""
     faults = Faults()
-    read_lines(data, "faults", lambda words: fault_entry(machine, words, faults))
+    read_lines(data, "faults", lambda words: fault_entry(machine, words, faults), machine.limits.text)
     return faults
 
 
@@ -228,7 +247,7 @@ def fault_entry(machine, words, faults):
             return "cross"
         if kind == "bridge" and wires[0] == wires[1]:
             return "same"
-    return faults.add(kind, at, value) or ("limit" if faults.count > FAULT_LIMIT else None)
+    return faults.add(kind, at, value) or ("limit" if faults.count > machine.limits.faults else None)
 
 
 def faults_text(machine, faults):
@@ -292,7 +311,7 @@ def sound_listed(machine, faults, defects):
 
 def read_defects(machine, data):
     """The list of a text on a machine."""
-    *lines, rest = lines_of(data, "defects")
+    *lines, rest = lines_of(data, "defects", machine.limits.text)
     defects, last, number = Defects(), (0, -1), 0
     for number, line in enumerate(lines, 1):
         kind, *words = line.split(" ")
@@ -351,7 +370,7 @@ def read_image(machine, data):
     number(8, [int.from_bytes(b"TERAIMG1", "big")], "magic")
     for count in machine.counts:
         number(2, [count], "shape")
-    ticks, inputs, outputs = number(2, range(1, 4_097)), number(2), number(2)
+    ticks, inputs, outputs = number(2, range(1, machine.limits.ticks + 1)), number(2), number(2)
     pins, tables, crosses = [], [], []
     for _ in range(inputs + outputs):
         pins.append(number(2, machine.pins, taken=pins))
@@ -359,7 +378,7 @@ def read_image(machine, data):
         table = number(2, range(machine.sizes["table"]), taken=range(tables[-1][0] + 1 if tables else 0))
         flags = number(1, range(4))
         tables.append((table, bool(flags & 1), flags >> 1, number(8)))
-    for _ in range(number(4, range(min(CLOSED_LIMIT, machine.sizes["cross"]) + 1))):
+    for _ in range(number(4, range(min(machine.limits.closed, machine.sizes["cross"]) + 1))):
         crosses.append(number(4, range(machine.sizes["cross"]), taken=range(crosses[-1] + 1 if crosses else 0)))
     if at != len(data):
         raise Refused("image", at, "after")

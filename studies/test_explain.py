@@ -98,7 +98,7 @@ class Explained(unittest.TestCase):
         for refusal, said, old, new in (
             ("7 word", "`lines` takes 4 numbers (of the root, a module, a chip and a hextant), and 3 stand here", b"4 4 4 4\n", b"4 4 4\n"),
             ("3 word", "`chip` is no word of a machine, and `chips` is due; did you mean `chips`?", b"chips", b"chip"),
-            ("1 word", "`teramac 2` isn't known; the first line is `teramac 1`", b"teramac 1", b"teramac 2"),
+            ("1 word", "`teramac 3` isn't known; the first line is `teramac 1`, or `teramac 2` for a larger machine", b"teramac 1", b"teramac 3"),
             ("5 order", f"`ports` stands where `tables` is due; the order is {order}", b"tables 2\n", b""),
             ("3 order", f"`modules` stands where `chips` is due, and stands above already; the order is {order}", b"chips", b"modules"),
             ("5 number", "`0` is no number from 1 to 65,535 without leading zeros", b"tables 2", b"tables 0"),
@@ -107,11 +107,13 @@ class Explained(unittest.TestCase):
             ("0 missing", "the file ends where `end` is due; the last line of a machine is `end`", b"end\n", b""),
             ("2 byte", "the byte 0 at place 8 of the line may not stand in a text; is this a text, and not UTF-16?", b"modules 1",
              b"modules\x001"),
-            ("9 limit", "its counts give 5,000 tables, and at most 4,096 may be; 35,032 wires, and at most 16,384 may be", b"tables 2",
-             b"tables 5000"),
+            ("9 limit", "its counts give 5,000 tables, and at most 4,096 may be; 35,032 wires, and at most 16,384 may be; "
+             "with `teramac 2` as its first line it is taken", b"tables 2", b"tables 5000"),
         ):  # fmt: skip
             self.says(f"refused machine {refusal}", said, "diagnose", TINY.replace(old, new), "@1")
         self.says("refused machine 0 missing", "the file is empty", "diagnose", b"", "@1")
+        large = TINY.replace(b"teramac 1", b"teramac 2").replace(b"chips 1", b"chips 2").replace(b"tables 2", b"tables 40000")
+        self.says("refused machine 9 limit", "its counts give 80,000 tables, and at most 65,536 may be", "diagnose", large, "@1")
 
     def test_faults(self):
         kinds = "stuck0, stuck1, open, closed, cell, register, bridge"

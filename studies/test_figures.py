@@ -209,8 +209,8 @@ class Kinds(unittest.TestCase):
         large = texts.Machine((2, 2, 4, 16, 32, 32, 32, 48, 48, 48, 48, 40))
         with self.assertRaisesRegex(ValueError, "65,536 in all; of open 0.[0-9]+ is the largest rate that fits"):
             make_faults(large, {"open": 0.9}, 1)
-        rate = largest_rate(texts.FAULT_LIMIT, large.sizes["cross"])
-        self.assertGreater(make_faults(large, {"open": rate}, 1).count, 0.95 * texts.FAULT_LIMIT)
+        rate = largest_rate(large.limits.faults, large.sizes["cross"])
+        self.assertGreater(make_faults(large, {"open": rate}, 1).count, 0.95 * large.limits.faults)
 
     def test_neighbours_and_broken_wires(self):
         faults = make_faults(SMALL, {"neighbours": 40}, 1)

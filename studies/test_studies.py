@@ -80,6 +80,18 @@ class Studies(unittest.TestCase):
         self.assertEqual(wrong, said if said.startswith(f"refused {file} ") else "")
         return found
 
+    def test_both_forms(self):
+        """A small machine under both first lines, and one that is too large for the first."""
+        tiny, large = texts.Machine((1, 1, 1, 2, 4, 4, 4, 4, 4, 4, 4, 4)), texts.Machine((1, 1, 1, 2343, 4, 4, 4, 4, 4, 4, 4, 4))
+        for machine, first in ((tiny, "teramac 1\n"), (large, "teramac 2\n")):
+            self.assertTrue(machine.text.startswith(first))
+            self.assertEqual(self.alike("machine", machine.text.encode(), ("diagnose", machine.text.encode(), "no-such-file")).counts, machine.counts)
+        data = tiny.text.replace("teramac 1", "teramac 2").encode()
+        self.assertEqual(self.alike("machine", data, ("diagnose", data, "no-such-file")).counts, tiny.counts)
+        for old, new in (("teramac 2", "teramac 1"), ("pins 4", "pins 9000"), ("teramac 2", "teramac 3")):
+            data = large.text.replace(old, new).encode()
+            self.assertIsNone(self.alike("machine", data, ("diagnose", data, "no-such-file")))
+
     def test_texts(self):
         """What is written is read the same, and taken; with a change both sides refuse it alike, or neither does."""
         for _ in range(TURNS):

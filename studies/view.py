@@ -23,7 +23,6 @@ from program import HERE, add_program, call, checked_design
 from trial import mix
 
 PAGE_LIMIT = 400_000  # bytes of a page
-LIMITS = 65_536, 1_310_720, 268_435_456  # tables, wires, crosspoints that a page can show: more than the program takes
 VECTORS_LIMIT, VECTORS_BYTES = 4_096, 100_000  # most vectors, and most characters of vectors and rows
 STUDY_SHARE = 0.6  # of a page for the faults of a study's runs
 CODE = [f"{name}.js" for name in "machine scene marks circuit layout painter words waves viewer page".split()]
@@ -209,7 +208,7 @@ class View:
 
     def __init__(self, args):
         self.args = args
-        self.machine = texts.read_text(partial(texts.read_machine, limits=LIMITS), args.machine)
+        self.machine = texts.read_text(texts.read_machine, args.machine)
         read = {name: self.read_all(name) for name in ("faults", "defects", "image")}
         self.count = max(1, *map(len, read.values()))
         for name, found in read.items():

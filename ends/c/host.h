@@ -1,9 +1,10 @@
 /* A computer as a board for port.c: standard input and output, and a machine whose wires are joined in groups.
  *
- * Before it stand, made from a machine and a fault file: PINS, CROSSES, TABLES, WIRES, MOST_LOADS and COUNTS; of each
- * crosspoint its tap and line, of each table seven legs, of each pin its wire; of each wire what it is stuck at (2: nothing),
- * of each crosspoint whether it is stuck closed (1), open (0) or not (-1); bridges by pairs up to -1; of each table the wrong
- * cells, their values, and what its register is stuck at (-1: nothing).
+ * Before it stand, made from a machine and a fault file: PINS, CROSSES, TABLES, WIRES, NODES, MOST_TICKS, MOST_LOADS and
+ * COUNTS; the taps of all crossbars, of each crossbar where its taps end, its first line and where its lines end; of each table
+ * seven legs, of each pin its wire; of each wire what it is stuck at (2: nothing), of each crosspoint whether it is stuck OPEN or
+ * CLOSED or not (0); bridges by pairs up to -1; of each table the wrong cells, their values, and what its register is stuck at (-1:
+ * nothing).
  */
 #include <stdio.h>
 #include <time.h>
@@ -67,9 +68,11 @@ static void join_all(void)
         above[w] = w;
         is_zero[w] = is_one[w] = 0;
     }
-    for (int k = 0; k < CROSSES; k++)
-        if (fixed[k] < 0 ? is_closed[k] : fixed[k])
-            join(tap[k], line[k]);
+    for (int n = 0, a = 0, k = 0; n < NODES; n++)
+        for (; a < end_of_taps[n]; a++)
+            for (int l = first_line[n]; l < end_of_lines[n]; l++, k++)
+                if (fixed[k] ? fixed[k] == CLOSED : is_closed[k])
+                    join(tap[a], l);
     for (int k = 0; bridge[k] >= 0; k += 2)
         join(bridge[k], bridge[k + 1]);
 }

@@ -7,14 +7,15 @@
  *   load                         a session begins with what is set
  *   cycle                        drives the pins, ticks, reads them and clocks; bit k of byte k / 8 is pin k
  *   finish                       there are no more requests
- * and the numbers PINS, CROSSES and TABLES, and COUNTS, the twelve counts of the machine as a text.
+ * and the numbers PINS, CROSSES, TABLES and MOST_TICKS (4096; 65535 where the machine isn't small), and COUNTS, the twelve counts of
+ * the machine as a text.
  *
  * A line that has to be refused may have set something before that showed. So behind a refusal, and at first, nothing but an `a` is
  * answered: then a machine that lost a word, or its power, gives no readings that the tool takes for those of another one.
  */
 #include "board.h"
 
-enum { PIN_BYTES = (PINS + 7) / 8, ONE_READING = 2 * PIN_BYTES + 1, MOST_TICKS = 4096, MOST_DIGITS = 10, CELL_DIGITS = 16, CHECK_DIGITS = 4 };
+enum { PIN_BYTES = (PINS + 7) / 8, ONE_READING = 2 * PIN_BYTES + 1, MOST_DIGITS = 10, CELL_DIGITS = 16, CHECK_DIGITS = 4 };
 enum { ROOM = ONE_READING > 4096 ? ONE_READING : 4096 }; /* for a reply */
 enum { END = '\n' };
 typedef unsigned long long number;

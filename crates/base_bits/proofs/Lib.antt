@@ -1,6 +1,5 @@
 -- What is cited above.
 pub mod NumbersLemmas
-pub mod PairsLemmas
 pub mod SetsLemmas
 -- For the proofs of this crate alone.
 mod WordsLemmas

@@ -1,11 +1,11 @@
 -- Bits of words, read and written.
-use Rattle.std.proofs.Common.{◌≡◌, ◌≢◌, ℕ, zero, suc, ◌+◌, ◌*◌, ◌/◌, ◌%◌, ◌<◌, ◌≤◌, ◌==◌, ◌||◌, ◌⊎◌, Bool, false, bit_or, max, refl, List, length, get_or, sym, ap, ◌∙◌, arith, replicate, inl, inr}
+use Rattle.std.proofs.Common.{◌≡◌, ◌≢◌, ℕ, ◌+◌, ◌*◌, ◌/◌, ◌%◌, ◌<◌, ◌≤◌, ◌==◌, Bool, false, List, length, get_or, sym, ap, ◌∙◌, arith, replicate, inl, inr}
 use Rattle.std.proofs.Math.ListN.{set, length-set, get_or-eq_default}
 use Rattle.std.specs.Int.{bit_at}
 use Rattle.std.proofs.lemmas.Bool.{cases_lt, cases_eq}
 use Rattle.std.proofs.lemmas.List.{same_lists, length-replicate, get_or-replicate, get_or-set_same, get_or-set_other}
 use Rattle.std.proofs.lemmas.List.FromFn.{length-map-range_with_len, get_or-map-range_with_len}
-use Rattle.std.proofs.lemmas.Nat.Bits.{bit_at-zero, bit_at-lt, bit_at_or}
+use Rattle.std.proofs.lemmas.Nat.Bits.{bit_at-zero}
 use Rattle.base_bits.specs.Words.{is_bit, is_bit_in, bits_of}
 
 pub length-bits_of : (len : ℕ) (words : List ℕ) → length (bits_of len words) ≡ len
@@ -87,80 +87,3 @@ module _ (words : List ℕ) (i word : ℕ) (bit : Bool) (len : ℕ) (inside : i 
             ∙ sym (ap (λ j. get_or (set (bits_of len words) i bit) j d) e ∙ get_or-set_same (bits_of len words) i bit d (omega (arith, length-bits_of len words)))
         | inr differ ↦ other_bit k differ ∙ sym (get_or-set_other (bits_of len words) i k bit d differ ∙ get_or-bits_of len words k d within)
       ])
-
--- ---- words joined with others
-
-most : (p q : ℕ) → p < 2 → q < 2 → (max p q == 1) ≡ ((p == 1) || (q == 1))
-most zero zero hp hq = refl
-most zero (suc zero) hp hq = refl
-most (suc zero) zero hp hq = refl
-most (suc zero) (suc zero) hp hq = refl
-most (suc (suc p)) q hp hq = absurd (omega arith)
-most zero (suc (suc q)) hp hq = absurd (omega arith)
-most (suc zero) (suc (suc q)) hp hq = absurd (omega arith)
-
-pub or_is : (x y b : ℕ) → is_bit (bit_or x y) b ≡ (is_bit x b || is_bit y b)
-or_is x y b = ap (λ m. m == 1) (bit_at_or x y b) ∙ most (bit_at x b) (bit_at y b) (bit_at-lt x b) (bit_at-lt y b)
-
--- so many words, from one of them on, have what they had and what as many others have
-pub record AreJoined (old others now : List ℕ) (first count : ℕ) : Type 0 where
-  pub joined : (k b : ℕ) → k < count → is_bit (get_or now (first + k) 0) b ≡ (is_bit (get_or old (first + k) 0) b || is_bit (get_or others k 0) b)
-  pub kept : (k : ℕ) → (k < first) ⊎ (first + count ≤ k) → get_or now k 0 ≡ get_or old k 0
-  pub len_is : length now ≡ length old
-
-pub none_joined : (old others : List ℕ) (first : ℕ) → AreJoined old others old first 0
-none_joined old others first = record { joined = λ k b lt. absurd (omega arith); kept = λ k out. refl; len_is = refl }
-
-pub one_joined : (old others now : List ℕ) (first count word : ℕ) → AreJoined old others now first count → first + count < length old →
-    ((b : ℕ) → is_bit word b ≡ (is_bit (get_or now (first + count) 0) b || is_bit (get_or others count 0) b)) →
-    AreJoined old others (set now (first + count) word) first (count + 1)
-one_joined old others now first count word is inside bits = record {
-  joined = λ k b lt. elim (cases_eq k count) [
-    | inl e ↦
-        ap (λ j. is_bit (get_or (set now (first + count) word) (first + j) 0) b) e
-        ∙ ap (λ w. is_bit w b) (get_or-set_same now (first + count) word 0 (omega (arith, is.len_is)))
-        ∙ bits b
-        ∙ ap (λ w. is_bit w b || is_bit (get_or others count 0) b) (is.kept (first + count) (inr (omega arith)))
-        ∙ ap (λ j. is_bit (get_or old (first + j) 0) b || is_bit (get_or others j 0) b) (sym e)
-    | inr differ ↦
-        let apart : first + k ≢ first + count = λ e. differ (omega (arith, e)) in
-        ap (λ w. is_bit w b) (get_or-set_other now (first + count) (first + k) word 0 apart) ∙ is.joined k b (omega arith)
-  ];
-  kept = λ k out. (
-      let apart : k ≢ first + count = λ e. outside k out e in
-      get_or-set_other now (first + count) k word 0 apart ∙ is.kept k (wider k out));
-  len_is = length-set now (first + count) word ∙ is.len_is;
-}
-  where
-    outside : (k : ℕ) → (k < first) ⊎ (first + (count + 1) ≤ k) → k ≡ first + count → ⊥
-    outside k (inl lt) e = omega arith
-    outside k (inr ge) e = omega arith
-
-    wider : (k : ℕ) → (k < first) ⊎ (first + (count + 1) ≤ k) → (k < first) ⊎ (first + count ≤ k)
-    wider k (inl lt) = inl lt
-    wider k (inr ge) = inr (omega arith)
-
-module _ (old others now : List ℕ) (first count len more : ℕ) (is : AreJoined old others now first count) (here : 64 * (first + count) ≤ len) where
-  pub bits_joined : (i : ℕ) → i < 64 * count → i < more →
-      get_or (bits_of len now) (64 * first + i) false ≡ (get_or (bits_of len old) (64 * first + i) false || get_or (bits_of more others) i false)
-  bits_joined i below within =
-      let word : (64 * first + i) / 64 ≡ first + i / 64 = omega arith in
-      let place : (64 * first + i) % 64 ≡ i % 64 = omega arith in
-      get_or-bits_of len now (64 * first + i) false (omega arith)
-      ∙ ap (λ k. is_bit (get_or now k 0) ((64 * first + i) % 64)) word
-      ∙ ap (λ b. is_bit (get_or now (first + i / 64) 0) b) place
-      ∙ is.joined (i / 64) (i % 64) (omega arith)
-      ∙ ap (λ b. is_bit (get_or old (first + i / 64) 0) b || is_bit (get_or others (i / 64) 0) (i % 64)) (sym place)
-      ∙ ap (λ k. is_bit (get_or old k 0) ((64 * first + i) % 64) || is_bit (get_or others (i / 64) 0) (i % 64)) (sym word)
-      ∙ ap (λ t. t || is_bit_in others i) (sym (get_or-bits_of len old (64 * first + i) false (omega arith)))
-      ∙ ap (λ t. get_or (bits_of len old) (64 * first + i) false || t) (sym (get_or-bits_of more others i false within))
-
-  pub bits_kept : (i : ℕ) → i < len → (i < 64 * first) ⊎ (64 * (first + count) ≤ i) → get_or (bits_of len now) i false ≡ get_or (bits_of len old) i false
-  bits_kept i within out =
-      get_or-bits_of len now i false within
-      ∙ ap (λ w. is_bit w (i % 64)) (is.kept (i / 64) (by_words out))
-      ∙ sym (get_or-bits_of len old i false within)
-    where
-      by_words : (i < 64 * first) ⊎ (64 * (first + count) ≤ i) → (i / 64 < first) ⊎ (first + count ≤ i / 64)
-      by_words (inl lt) = inl (omega arith)
-      by_words (inr ge) = inr (omega arith)

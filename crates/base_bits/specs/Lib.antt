@@ -1,4 +1,3 @@
 pub mod Changes
 pub mod Numbers
-pub mod Pairs
 pub mod Words

@@ -80,13 +80,6 @@ impl BitSet {
         self.count = 0;
     }
 
-    /// The set as bits.
-    pub(crate) fn bits(&self) -> &Bits
-        ensures { result.now ≡ self.now }
-    {
-        &self.bits
-    }
-
     /// How many numbers are in the set.
     pub fn count(&self) -> u32
         ensures { result ≡ size_of self.now }

@@ -1,6 +1,6 @@
 //! A list of bits, 64 to a word.
 
-ghost use Rattle.std.specs.Prelude.{◌≡◌, ◌≢◌, ℕ, ◌*◌, ◌/◌, ◌%◌, ◌-◌, ◌+◌, ◌<◌, ◌≤◌, ◌==◌, ◌||◌, ◌⊎◌, false, Bool, List, length, replicate};
+ghost use Rattle.std.specs.Prelude.{◌≡◌, ◌≢◌, ℕ, ◌*◌, ◌/◌, ◌%◌, ◌-◌, ◌+◌, ◌<◌, ◌≤◌, ◌==◌, false, Bool, List, length, replicate};
 ghost use Rattle.std.specs.Prelude.{IfOk, slice_set, slice_index, slice_index_or};
 ghost use Rattle.base_bits.specs.Words.{is_bit, is_bit_in, bits_of};
 
@@ -60,28 +60,6 @@ fn bit_at(words: &[u64], i: u64) -> bool
     (word >> (i % WORD_BITS)) & 1 == 1
 }
 
-/// The bits that are set in one of two words.
-fn word_or(left: u64, right: u64) -> u64
-    ensures { (b : ℕ) → is_bit result b ≡ (is_bit left b || is_bit right b) }
-{
-    left | right
-}
-
-/// Sets in some words, from one of them on, what is set in as many others.
-fn join_words(words: &mut [u64], first: usize, others: &[u64], count: usize)
-    requires here { first + count ≤ length words.old }
-    requires there { count ≤ length others.now }
-    ensures joined { (k b : ℕ) → k < count → is_bit (slice_index words.new (first + k)) b
-        ≡ (is_bit (slice_index words.old (first + k)) b || is_bit (slice_index others.now k) b) }
-    ensures kept { (k : ℕ) → (k < first) ⊎ (first + count ≤ k) → slice_index words.new k ≡ slice_index words.old k }
-    ensures len { length words.new ≡ length words.old }
-{
-    'words: for k in 0..count {
-        let at = first + k;
-        words[at] = word_or(words[at], others[k]);
-    }
-}
-
 /// Clears some words.
 fn clear_words(words: &mut [u64])
     ensures none { (k : ℕ) → slice_index words.new k ≡ 0 }
@@ -130,19 +108,5 @@ impl Bits {
         ensures { self.new ≡ replicate (length self.old) false }
     {
         clear_words(&mut self.words);
-    }
-
-    /// Sets what is set in other bits, whose first stands at a word here. So many words of theirs are joined; what comes
-    /// after the last bit in the last of them is unknown.
-    pub fn join(&mut self, first: usize, count: usize, other: &Bits)
-        requires here { 64 * (first + count) ≤ length self.old }
-        requires there { 64 * count < length other.now + 64 }
-        ensures joined { (i : ℕ) → i < 64 * count → i < length other.now → slice_index_or self.new (64 * first + i) false
-            ≡ (slice_index_or self.old (64 * first + i) false || slice_index_or other.now i false) }
-        ensures kept { (i : ℕ) → i < length self.old → (i < 64 * first) ⊎ (64 * (first + count) ≤ i)
-            → slice_index_or self.new i false ≡ slice_index_or self.old i false }
-        ensures len { length self.new ≡ length self.old }
-    {
-        join_words(&mut self.words, first, &other.words, count);
     }
 }

@@ -7,7 +7,7 @@ use Rattle.machine_shape.specs.declared.LimitedCount.{LimitedCount}
 use Rattle.machine_shape.specs.declared.LimitedCount.TheVariants as which
 use Rattle.machine_shape.specs.declared.ShapeFault.{ShapeFault}
 use Rattle.machine_shape.specs.declared.ShapeFault.TheVariants.{Zero, Limit}
-use Rattle.machine_shape.specs.Vocabulary.{levels_from, HasZero, IsShapeFault, amount_of, most_of}
+use Rattle.machine_shape.specs.Vocabulary.{levels_from, HasZero, IsSmallFault, amount_of, most_of_small}
 use Rattle.machine_bench.specs.Work.{bench_counts}
 
 no_port : (k : ℕ) → k < 3 → slice_index_or bench_counts.ports k 0 ≡ 0 → ⊥
@@ -32,15 +32,16 @@ no_zero Ports has = no_port has.0 has.1 has.2
 no_zero Lines has = no_line has.0 has.1 has.2
 no_zero Pins e = omega (arith, e)
 
-within : (which : LimitedCount) → most_of which < amount_of bench_counts which → ⊥
+within : (which : LimitedCount) → most_of_small which < amount_of bench_counts which → ⊥
 unfolding levels_from
 within which.Tables e = omega (arith, e)
 within which.Wires e = omega (arith, e)
 within which.Crosspoints e = omega (arith, e)
+within which.Pins e = omega (arith, e)
 
-no_fault : (fault : ShapeFault) → IsShapeFault bench_counts fault → ⊥
+no_fault : (fault : ShapeFault) → IsSmallFault bench_counts fault → ⊥
 no_fault (Zero field) is = no_zero field is.zero
 no_fault (Limit which value) is = within which is.1.passed
 
-pub makes_shape : (c : Counts) (fault : ShapeFault) → c ≡ bench_counts → IsShapeFault c fault → ⊥
+pub makes_shape : (c : Counts) (fault : ShapeFault) → c ≡ bench_counts → IsSmallFault c fault → ⊥
 makes_shape c fault same is = no_fault fault (rw same at is)

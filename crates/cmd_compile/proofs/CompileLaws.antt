@@ -1,6 +1,6 @@
 -- What the command `compile` comes to.
-use Rattle.std.proofs.Common.{ℕ, List, [], ◌∷◌, refl, inr}
-use Rattle.cmd_steps.specs.Vocabulary.{Around, Next, IsLawful, EndsWell, EndsShort}
+use Rattle.std.proofs.Common.{ℕ, List, [], refl, inr}
+use Rattle.cmd_steps.specs.Vocabulary.{Around, Next, IsLawful, EndsWell, EndsShort, third_files}
 use Rattle.cmd_steps.specs.declared.design_file.DesignFile.TheVariants.{Design}
 use Rattle.cmd_steps.proofs.Sure.{IsLed, Excuses, led-after, led-sure, led-line, machine-sure, list-sure, design-sure}
 use Rattle.place_design.proofs.Rooms.{AreDecided, never-lacks, never-refused, lay-excused, lay-short}
@@ -12,11 +12,11 @@ module _ (machine defects design : List ℕ) (old new : Around) where
 
   -- right files are read, whatever follows on them
   files-led : {next_is : Next → Type 0} (right : AreRightFiles t) → Excuses old new next_is →
-      IsLed next_is (design_laid (design ∷ defects ∷ machine ∷ []) old.store new.store right.list right.draft) →
+      IsLed next_is (design_laid (third_files machine defects design right.list.shape) old.store new.store right.list right.draft) →
       IsLed next_is (compile_course machine defects design old.store new.store)
   files-led right excused led =
       led-sure (machine-sure right.machine.is_told right.machine.within right.list.shape right.machine.says) excused
-      (led-sure (list-sure right.defects.is_told right.defects.within right.list right.defects.says) excused
+      (led-sure (list-sure right.list right.defects.is_told right.defects.within right.defects.says) excused
       (led-sure (design-sure right.design.is_told right.design.within Design right.draft right.design.says) excused led))
 
   -- where there is room the design is laid

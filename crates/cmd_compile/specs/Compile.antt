@@ -6,19 +6,19 @@ use Rattle.machine_defects.specs.Vocabulary.{DefectList, IsText}
 use Rattle.design_netlist.specs.declared.netlist_data.NetlistData.{NetlistData}
 use Rattle.design_blif.specs.Designs.{IsDesign}
 use Rattle.machine_image.specs.Images.{ImageValue, image_bytes}
-use Rattle.cmd_steps.specs.Vocabulary.{StandsIn, Course, after, write, done, listed_course, IsRightFile, reads_design, Job}
+use Rattle.cmd_steps.specs.Vocabulary.{ReadFile, StandsAmong, Course, after, write, done, listed_course, IsRightFile, IsRightList, reads_design, Job}
 use Rattle.cmd_steps.specs.declared.design_file.DesignFile.TheVariants.{Design}
 use Rattle.place_design.specs.Laying.{lays, HasRoom, LacksRoom}
 
 -- ---- the steps
 
 -- The bytes of an image are written at one go
-abbrev pub image_written : (files : List (List ℕ)) → StoreState → StoreState → ImageValue → Course
-image_written files old new i = write (image_bytes i) (StandsIn files old new) (done (StandsIn files old new))
+abbrev pub image_written : (files : List ReadFile) → StoreState → StoreState → ImageValue → Course
+image_written files old new i = write (image_bytes i) (StandsAmong files old new) (done (StandsAmong files old new))
 
 -- The design is laid on what the list leaves free, and its image is written
-abbrev pub design_laid : (files : List (List ℕ)) → StoreState → StoreState → DefectList → NetlistData → Course
-design_laid files old new d draft = after (lays d draft) (StandsIn files old new) (image_written files old new)
+abbrev pub design_laid : (files : List ReadFile) → StoreState → StoreState → DefectList → NetlistData → Course
+design_laid files old new d draft = after (lays d draft) (StandsAmong files old new) (image_written files old new)
 
 -- The machine is read, then the list and the design, which is laid
 abbrev pub compile_course : (machine defects design : List ℕ) → StoreState → StoreState → Course
@@ -37,7 +37,7 @@ pub record AreRightFiles (t : CompileFiles) : Type 0 where
   pub list : DefectList
   pub draft : NetlistData
   pub machine : IsRightFile t.machine (λ bytes. IsMachine bytes list.shape.counts)
-  pub defects : IsRightFile t.defects (λ bytes. IsText list.shape bytes list)
+  pub defects : IsRightList t.defects list.shape (λ bytes. IsText list.shape bytes list)
   pub design : IsRightFile t.design (λ bytes. IsDesign bytes draft)
 
 -- and there is room for the design

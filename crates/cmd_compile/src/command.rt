@@ -1,6 +1,6 @@
 //! The command that makes an image of a design for a machine with defects.
-ghost use Rattle.std.specs.Prelude.{ℕ, List, []};
-ghost use Rattle.cmd_steps.specs.Vocabulary.{StoreState, RigState, outside, StandsIn, Does, IsLawful, Follows};
+ghost use Rattle.std.specs.Prelude.{List, []};
+ghost use Rattle.cmd_steps.specs.Vocabulary.{StoreState, RigState, outside, ReadFile, StandsAmong, Does, IsLawful, Follows};
 ghost use Rattle.cmd_compile.specs.Compile.{compile_job, design_laid};
 
 use base_io::{Sink, Store};
@@ -20,7 +20,7 @@ fn lay_and_write<K: Sink>(
     sink: &mut K,
 ) -> Result<(), Stop>
     // Wherever the store stands after these files were read, and whatever the rig is.
-    ensures { (files : List (List ℕ)) (begun store : StoreState) (rig : RigState) → StandsIn files begun store →
+    ensures { (files : List ReadFile) (begun store : StoreState) (rig : RigState) → StandsAmong files begun store →
         Follows ⊥ [] (Unit {0}) (design_laid files begun store list.now netlist.now) result
         (outside store rig (K.sink_state sink.old)) (outside store rig (K.sink_state sink.new)) }
 {

@@ -8,7 +8,7 @@ use Rattle.machine_image.specs.Images.{ImageValue}
 use Rattle.place_route.specs.RightImages.{IsRightImage}
 use Rattle.map_text.specs.Remapped.{HaveSameRows}
 use Rattle.cmd_steps.specs.Vocabulary.{Outside, IsMachineText, IsDefectsText, IsDesignText}
-use Rattle.cmd_steps.proofs.ShapeLemmas.{same-shape}
+use Rattle.machine_shape.proofs.OneShape.{same-shape}
 use Rattle.cmd_compile.specs.Compile.{CompileRight, compile_files}
 use Rattle.cmd_compile.specs.Headline.{IsCompiled}
 use Rattle.cmd_map.specs.Headline.{IsFitted}

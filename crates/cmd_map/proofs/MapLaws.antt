@@ -22,7 +22,7 @@ module _ (old new : Around) where
   fit-right decided machine defects design right =
       let t = right.files in
       led-sure (machine-sure t.machine.is_told t.machine.within t.list.shape t.machine.says) (λ refusal h. h)
-      (led-sure (list-sure t.defects.is_told t.defects.within t.list t.defects.says) (λ refusal h. h)
+      (led-sure (list-sure t.list t.defects.is_told t.defects.within t.defects.says) (λ refusal h. h)
       (led-sure (text-sure t.design.is_told t.design.within Design t.draft t.design.says) (λ refusal h. h)
       (led-after (lay-excused t.list t.draft old new (never-refused decided t.list t.draft right.room)) (λ r is. led-line tt tt))))
 

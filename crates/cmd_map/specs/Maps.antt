@@ -7,8 +7,8 @@ use Rattle.design_blif.specs.Designs.{IsDesign}
 use Rattle.map_text.specs.Remapped.{MayStandFor}
 use Rattle.map_text.specs.declared.text.Remapped.{Remapped}
 use Rattle.place_design.specs.Laying.{NotLaid, HasRoom}
-use Rattle.cmd_steps.specs.Vocabulary.{Around, StandsIn, Course, Step, after, write, done, listed_course, IsRightFile, reads_text, Job}
-use Rattle.cmd_steps.specs.Vocabulary.{quiet}
+use Rattle.cmd_steps.specs.Vocabulary.{Around, ReadFile, StandsAmong, StandsIn, plain_file, Course, Step, after, write, done, listed_course, IsRightFile, reads_text}
+use Rattle.cmd_steps.specs.Vocabulary.{Job, quiet}
 use Rattle.cmd_steps.specs.declared.design.DesignText.{DesignText}
 use Rattle.cmd_steps.specs.declared.design_file.DesignFile.TheVariants.{Design}
 use Rattle.cmd_steps.specs.declared.refusal.Refusal.{Refusal}
@@ -34,21 +34,21 @@ maps_within d read =
 -- ---- the courses
 
 -- a text is written at one go
-abbrev pub text_written : (files : List (List ℕ)) → StoreState → StoreState → Remapped → Course
-text_written files old new r = write r.text (StandsIn files old new) (done (StandsIn files old new))
+abbrev pub text_written : (files : List ReadFile) → StoreState → StoreState → Remapped → Course
+text_written files old new r = write r.text (StandsAmong files old new) (done (StandsAmong files old new))
 
 -- the design is remapped, and the text written
-abbrev pub design_mapped : (files : List (List ℕ)) → StoreState → StoreState → DesignText → Course
-design_mapped files old new read = after (maps read) (StandsIn files old new) (text_written files old new)
+abbrev pub design_mapped : (files : List ReadFile) → StoreState → StoreState → DesignText → Course
+design_mapped files old new read = after (maps read) (StandsAmong files old new) (text_written files old new)
 
 -- the same, with room on a list
-abbrev pub design_fitted : (files : List (List ℕ)) → StoreState → StoreState → DefectList → DesignText → Course
-design_fitted files old new d read = after (maps_within d read) (StandsIn files old new) (text_written files old new)
+abbrev pub design_fitted : (files : List ReadFile) → StoreState → StoreState → DefectList → DesignText → Course
+design_fitted files old new d read = after (maps_within d read) (StandsAmong files old new) (text_written files old new)
 
 -- the design is read and remapped
 abbrev pub map_course : (design : List ℕ) → StoreState → StoreState → Course
 map_course design old new =
-    after (reads_text Design (old.contents design)) (StandsIn (design ∷ []) old new) (design_mapped (design ∷ []) old new)
+    after (reads_text Design (old.contents design)) (StandsIn (design ∷ []) old new) (design_mapped (plain_file design ∷ []) old new)
 
 -- the machine is read, then the list and the design, which is remapped
 abbrev pub fit_course : (machine defects design : List ℕ) → StoreState → StoreState → Course

@@ -1,6 +1,6 @@
 //! Designs that are remapped and written.
-ghost use Rattle.std.specs.Prelude.{ℕ, List, [], ◌∷◌};
-ghost use Rattle.cmd_steps.specs.Vocabulary.{StoreState, RigState, Outside, outside, StandsIn, Does, IsLawful, Follows, Took, IsDesignText};
+ghost use Rattle.std.specs.Prelude.{List, [], ◌∷◌};
+ghost use Rattle.cmd_steps.specs.Vocabulary.{StoreState, RigState, Outside, outside, ReadFile, StandsAmong, Does, IsLawful, Follows, Took, IsDesignText};
 ghost use Rattle.cmd_map.specs.Maps.{maps, maps_within, design_mapped, design_fitted, map_job, fit_job};
 
 use base_io::{Sink, Store};
@@ -39,7 +39,7 @@ fn fitted(alloc: Global, read: &DesignText, defects: &Defects) -> Result<Remappe
 fn map_and_write<K: Sink>(alloc: Global, read: &DesignText, sink: &mut K) -> Result<(), Stop>
     requires { IsDesignText read.now.text read.now.netlist }
     // Wherever the store stands after these files were read, and whatever the rig is.
-    ensures { (files : List (List ℕ)) (begun store : StoreState) (rig : RigState) → StandsIn files begun store →
+    ensures { (files : List ReadFile) (begun store : StoreState) (rig : RigState) → StandsAmong files begun store →
         Follows ⊥ [] (Unit {0}) (design_mapped files begun store read.now) result
         (outside store rig (K.sink_state sink.old)) (outside store rig (K.sink_state sink.new)) }
 {
@@ -56,7 +56,7 @@ fn fit_and_write<K: Sink>(
 ) -> Result<(), Stop>
     requires { IsDesignText read.now.text read.now.netlist }
     // Wherever the store stands after these files were read, and whatever the rig is.
-    ensures { (files : List (List ℕ)) (begun store : StoreState) (rig : RigState) → StandsIn files begun store →
+    ensures { (files : List ReadFile) (begun store : StoreState) (rig : RigState) → StandsAmong files begun store →
         Follows ⊥ [] (Unit {0}) (design_fitted files begun store defects.now read.now) result
         (outside store rig (K.sink_state sink.old)) (outside store rig (K.sink_state sink.new)) }
 {

@@ -1,11 +1,11 @@
 -- What the command `repair` comes to.
-use Rattle.std.proofs.Common.{ℕ, List, [], ◌∷◌, refl, inl, inr, arith}
+use Rattle.std.proofs.Common.{ℕ, List, [], refl, inl, inr, arith}
 use Rattle.machine_meaning.specs.Defects.{Defects}
 use Rattle.machine_image.specs.Images.{ImageValue}
 use Rattle.place_plan.specs.declared.short.Short.{Short}
 use Rattle.place_repair.specs.Plans.{AreSeats, AreNets, HasRoom, IsShortPlan, Nets}
 use Rattle.place_repair.specs.declared.seats.Seats.{Seats}
-use Rattle.cmd_steps.specs.Vocabulary.{ShortPlace, Around, Next, refuses, IsLawful, EndsWell, EndsShort}
+use Rattle.cmd_steps.specs.Vocabulary.{ShortPlace, Around, Next, refuses, IsLawful, EndsWell, EndsShort, third_files}
 use Rattle.cmd_steps.specs.declared.refusal.Refusal.{Refusal}
 use Rattle.cmd_steps.specs.declared.refusal.Refusal.TheVariants as refused
 use Rattle.cmd_steps.proofs.Sure.{IsLed, Excuses, led-after, led-sure, led-line, machine-sure, list-sure, image-sure}
@@ -17,13 +17,13 @@ module _ (machine defects image : List ℕ) (old new : Around) (next_is : Next �
   repair-led : (right : AreRightFiles (repair_files old.store machine defects image)) → Excuses old new next_is →
       ((place : ShortPlace) → IsShortPlan right.list.list right.image place.short → next_is (refuses (refused.Room place))) →
       ((j : ImageValue) → IsRepairOf right.list right.image j →
-      IsLed next_is (image_written (image ∷ defects ∷ machine ∷ []) old.store new.store j)) →
+      IsLed next_is (image_written (third_files machine defects image right.list.shape) old.store new.store j)) →
       IsLed next_is (repair_course machine defects image old.store new.store)
   repair-led right excused lacks repaired =
       let m = right.list.shape in
       let i = right.image in
       led-sure (machine-sure right.machine.is_told right.machine.within m right.machine.says) excused
-      (led-sure (list-sure right.defects.is_told right.defects.within right.list right.defects.says) excused
+      (led-sure (list-sure right.list right.defects.is_told right.defects.within right.defects.says) excused
       (led-sure (image-sure right.file.is_told right.file.within m i right.file.says.image right.file.says.shape right.file.says.text) excused
       (led-after too-many (λ _ _. led-after unrepaired repaired))))
     where

@@ -3,30 +3,33 @@ use Rattle.std.specs.Prelude.{◌≡◌, ℕ, ◌≤◌, List, [], ◌∷◌}
 use Rattle.std.specs.FinSet as set
 use Rattle.base_io.specs.Vocabulary.{Told, StoreState}
 use Rattle.machine_shape.specs.declared.Shape.{Shape}
+use Rattle.machine_shape.specs.Vocabulary.{most_repaired}
 use Rattle.machine_text.specs.Machine.{IsMachine}
 use Rattle.machine_defects.specs.Vocabulary.{DefectList, IsText}
 use Rattle.machine_image.specs.Images.{ImageValue, image_bytes}
-use Rattle.cmd_steps.specs.Vocabulary.{StandsIn, Course, after, write, done, listed_course, IsImageText, IsRightFile, reads_image, Job}
-use Rattle.cmd_repair.specs.Repairing.{most_closed, takes_few, repairs, HasPlanRoom, LacksPlanRoom}
+use Rattle.cmd_steps.specs.Vocabulary.{ReadFile, StandsAmong, plain_file, Course, after, write, done, listed_course, IsImageText, IsRightFile}
+use Rattle.cmd_steps.specs.Vocabulary.{IsRightList, reads_image, Job}
+use Rattle.cmd_repair.specs.Repairing.{takes_few, repairs, HasPlanRoom, LacksPlanRoom}
 
 -- ---- the steps
 
 -- The bytes of the new image are written at one go
-abbrev pub image_written : (files : List (List ℕ)) → StoreState → StoreState → ImageValue → Course
-image_written files old new i = write (image_bytes i) (StandsIn files old new) (done (StandsIn files old new))
+abbrev pub image_written : (files : List ReadFile) → StoreState → StoreState → ImageValue → Course
+image_written files old new i = write (image_bytes i) (StandsAmong files old new) (done (StandsAmong files old new))
 
 -- The image is repaired on what the list leaves free, and the new one is written
-abbrev pub image_repaired : (files : List (List ℕ)) → StoreState → StoreState → DefectList → ImageValue → Course
-image_repaired files old new d i = after (repairs d i) (StandsIn files old new) (image_written files old new)
+abbrev pub image_repaired : (files : List ReadFile) → StoreState → StoreState → DefectList → ImageValue → Course
+image_repaired files old new d i = after (repairs d i) (StandsAmong files old new) (image_written files old new)
 
 -- The image has few enough crosspoints, and is repaired
-abbrev pub image_taken : (files : List (List ℕ)) → StoreState → StoreState → DefectList → ImageValue → Course
-image_taken files old new d i = after (takes_few i) (StandsIn files old new) (λ _. image_repaired files old new d i)
+abbrev pub image_taken : (files : List ReadFile) → StoreState → StoreState → DefectList → ImageValue → Course
+image_taken files old new d i = after (takes_few i) (StandsAmong files old new) (λ _. image_repaired files old new d i)
 
 -- The image is read and taken. These files were read before, the last first
-abbrev pub file_taken : (image : List ℕ) → (files : List (List ℕ)) → StoreState → StoreState → Shape → DefectList → Course
+abbrev pub file_taken : (image : List ℕ) → (files : List ReadFile) → StoreState → StoreState → Shape → DefectList → Course
 file_taken image files old new m d =
-    after (reads_image (old.contents image) m) (StandsIn (image ∷ files) old new) (image_taken (image ∷ files) old new d)
+    after (reads_image (old.contents image) m) (StandsAmong (plain_file image ∷ files) old new)
+    (image_taken (plain_file image ∷ files) old new d)
 
 -- The machine is read, then the list and the image, which is taken
 abbrev pub repair_course : (machine defects image : List ℕ) → StoreState → StoreState → Course
@@ -45,9 +48,9 @@ pub record AreRightFiles (t : RepairFiles) : Type 0 where
   pub list : DefectList
   pub image : ImageValue
   pub machine : IsRightFile t.machine (λ bytes. IsMachine bytes list.shape.counts)
-  pub defects : IsRightFile t.defects (λ bytes. IsText list.shape bytes list)
+  pub defects : IsRightList t.defects list.shape (λ bytes. IsText list.shape bytes list)
   pub file : IsRightFile t.image (λ bytes. IsImageText list.shape bytes image)
-  pub few : set.len image.config.closed ≤ most_closed
+  pub few : set.len image.config.closed ≤ most_repaired image.config.shape
 
 -- and there is room for the repair
 pub record RepairRight (t : RepairFiles) : Type 0 where

@@ -1,6 +1,7 @@
 -- An image is repaired on what a list of defects leaves free, as a step.
 use Rattle.std.specs.Prelude.{◌≡◌, ℕ, ◌<◌, ◌≤◌}
 use Rattle.std.specs.FinSet as set
+use Rattle.machine_shape.specs.Vocabulary.{most_repaired}
 use Rattle.machine_meaning.specs.Vocabulary.{Covers, Faults, IsFaultless}
 use Rattle.machine_defects.specs.Lists.{DefectList}
 use Rattle.design_netlist.specs.declared.netlist_data.NetlistData.{NetlistData}
@@ -15,19 +16,15 @@ use Rattle.cmd_steps.specs.Courses.{Step}
 use Rattle.cmd_steps.specs.declared.refusal.Refusal.{Refusal}
 use Rattle.cmd_steps.specs.declared.refusal.Refusal.TheVariants as refused
 
--- so many crosspoints may be closed in an image that is repaired
-abbrev pub most_closed : ℕ
-most_closed = 1000000
-
 -- ---- the image isn't too large
 
--- it has more closed crosspoints: that is refused at place 0
+-- it has more closed crosspoints than one of its machine that is repaired may have: that is refused at place 0
 abbrev pub HasTooMany : ImageValue → Refusal → Type 0
-HasTooMany i (refused.Image line kind) = (line ≡ 0) × (kind ≡ Limit) × (most_closed < set.len i.config.closed)
+HasTooMany i (refused.Image line kind) = (line ≡ 0) × (kind ≡ Limit) × (most_repaired i.config.shape < set.len i.config.closed)
 HasTooMany i refusal = ⊥
 
 abbrev pub takes_few : ImageValue → Step (Unit {0})
-takes_few i = record { stops = HasTooMany i; gives = λ _. set.len i.config.closed ≤ most_closed }
+takes_few i = record { stops = HasTooMany i; gives = λ _. set.len i.config.closed ≤ most_repaired i.config.shape }
 
 -- ---- it is repaired
 

@@ -1,6 +1,6 @@
 //! The command that repairs an image for a machine with defects.
-ghost use Rattle.std.specs.Prelude.{◌≡◌, ℕ, List, [], ◌∷◌};
-ghost use Rattle.cmd_steps.specs.Vocabulary.{StoreState, RigState, outside, StandsIn, Does, IsLawful, Follows};
+ghost use Rattle.std.specs.Prelude.{◌≡◌, List, [], ◌∷◌};
+ghost use Rattle.cmd_steps.specs.Vocabulary.{StoreState, RigState, outside, ReadFile, StandsAmong, Does, IsLawful, Follows};
 ghost use Rattle.cmd_repair.specs.Repair.{repair_job, file_taken, image_taken};
 
 use crate::repairing::{repaired, take_few};
@@ -22,7 +22,7 @@ fn repair_and_write<K: Sink>(
     requires { list.now.shape ≡ image.now.config.shape }
 
     // Wherever the store stands after these files were read, and whatever the rig is.
-    ensures { (files : List (List ℕ)) (begun store : StoreState) (rig : RigState) → StandsIn files begun store →
+    ensures { (files : List ReadFile) (begun store : StoreState) (rig : RigState) → StandsAmong files begun store →
         Follows ⊥ [] (Unit {0}) (image_taken files begun store list.now image.now) result
         (outside store rig (K.sink_state sink.old)) (outside store rig (K.sink_state sink.new)) }
 {
@@ -44,10 +44,10 @@ fn read_and_repair<S: Store, K: Sink>(
     requires { list.now.shape ≡ shape.now }
 
     // Whatever the rig is, and whatever files were read before.
-    ensures { (begun : StoreState) (files : List (List ℕ)) (rig : RigState) →
+    ensures { (begun : StoreState) (files : List ReadFile) (rig : RigState) →
         let old = outside (S.store_state store.old) rig (K.sink_state sink.old) in
         let new = outside (S.store_state store.new) rig (K.sink_state sink.new) in
-        old.store.contents ≡ begun.contents → StandsIn files begun old.store →
+        old.store.contents ≡ begun.contents → StandsAmong files begun old.store →
         Follows ⊥ (image.now ∷ []) (Unit {0}) (file_taken image.now files begun new.store shape.now list.now) result old new }
 {
     let image = read_image_file(alloc, shape, image, store)?;
@@ -59,8 +59,8 @@ fn read_and_repair<S: Store, K: Sink>(
 ///
 /// # Errors
 ///
-/// The first step that refuses, in this order: the machine is read, the list, the image; it has at most 1,000,000 closed
-/// crosspoints; there is room for its repair; and the bytes are written.
+/// The first step that refuses, in this order: the machine is read, the list, the image; it has few enough closed
+/// crosspoints, which are 1,000,000, and of a machine that isn't small 1,048,576; there is room for its repair; and the bytes are written.
 pub fn repair<S: Store, K: Sink>(
     alloc: Global,
     machine: &str,

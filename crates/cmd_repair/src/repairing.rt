@@ -1,8 +1,9 @@
 //! Images that are repaired, or why not.
 ghost use Rattle.std.specs.Prelude.{◌≡◌, ◌≤◌, []};
 ghost use Rattle.std.specs.FinSet as set;
+ghost use Rattle.machine_shape.specs.Vocabulary.{most_repaired};
 ghost use Rattle.cmd_steps.specs.Vocabulary.{Outside, Took};
-ghost use Rattle.cmd_repair.specs.Repairing.{most_closed, repairs, takes_few};
+ghost use Rattle.cmd_repair.specs.Repairing.{repairs, takes_few};
 
 use cmd_steps::{Refusal, RefusedRoom, Stop};
 use machine_config::laws::runs_are_one;
@@ -12,17 +13,16 @@ use place_plan::PlaceFail;
 use place_repair::repair;
 use std::alloc::Global;
 
-/// The closed crosspoints that an image to be repaired may have. One that is read may have some more, so that there is room for
-/// those that are closed anew.
-const MOST_CLOSED: usize = 1_000_000;
-
-/// Refuses an image with too many closed crosspoints.
+/// Refuses an image with too many closed crosspoints. One that is read may have some more, so that there is room for those that
+/// are closed anew.
 pub fn take_few(image: &Image) -> Result<(), Stop>
     // Whatever is around it.
     ensures took { (o : Outside) → Took [] (takes_few image.now) result o o }
 {
-    let count = image.config().closed().len();
-    if count > MOST_CLOSED {
+    let config = image.config();
+    let count = config.closed().len();
+    let most = config.shape().most_repaired() as usize;
+    if count > most {
         return Err(Stop::Refused(Refusal::Image {
             line: 0,
             kind: ImageKind::Limit,
@@ -38,7 +38,7 @@ pub fn take_few(image: &Image) -> Result<(), Stop>
 /// The refusal for want of room exactly where the plan doesn't fit, with the first short resource, unless memory is lacking;
 /// lack of memory.
 pub fn repaired(alloc: Global, image: &Image, list: &Defects) -> Result<Image, Stop>
-    requires few { set.len image.now.config.closed ≤ most_closed }
+    requires few { set.len image.now.config.closed ≤ most_repaired image.now.config.shape }
     requires shape { list.now.shape ≡ image.now.config.shape }
 
     // Whatever is around it.

@@ -3,6 +3,7 @@ use Rattle.std.proofs.Common.{◌≡◌, ℕ, ◌≤◌, Bool, List, length, Non
 use Rattle.base_io.specs.Told.{holds}
 use Rattle.machine_shape.specs.declared.Counts.{Counts}
 use Rattle.machine_shape.specs.declared.Shape.{Shape}
+use Rattle.machine_shape.specs.Vocabulary.{most_text}
 use Rattle.machine_text.specs.Machine.{IsMachine}
 use Rattle.machine_defects.specs.Vocabulary.{DefectList, IsText}
 use Rattle.design_netlist.specs.declared.netlist_data.NetlistData.{NetlistData}
@@ -22,7 +23,7 @@ module _ (old new : Around) where
   machine-excused bytes c is within Memory stops = tt
   machine-excused bytes c is within refusal stops = absurd stops
 
-  pub defects-excused : (bytes : List ℕ) (m : Shape) (d : DefectList) → IsText m bytes d → length bytes ≤ most_bytes → (refusal : Refusal) → NoDefects (holds bytes) m refusal → IsExcused refusal old new
+  pub defects-excused : (bytes : List ℕ) (m : Shape) (d : DefectList) → IsText m bytes d → length bytes ≤ most_text m → (refusal : Refusal) → NoDefects (holds bytes) m refusal → IsExcused refusal old new
   defects-excused bytes m d is within (Defects line kind) stops = absurd (stops.1 d is within)
   defects-excused bytes m d is within Store stops = tt
   defects-excused bytes m d is within Memory stops = tt

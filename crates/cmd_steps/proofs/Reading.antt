@@ -1,42 +1,61 @@
 -- Files that are read one after another, and the line that is written last.
-use Rattle.std.proofs.Common.{◌≡◌, ◌∙◌, ℕ, List, [], ◌∷◌, refl, subst, Result, Ok, Err}
+use Rattle.std.proofs.Common.{◌≡◌, ◌∙◌, ℕ, List, [], ◌∷◌, map, refl, subst, Result, Ok, Err}
 use Rattle.base_io.specs.Vocabulary.{Told, StoreState, SinkState}
 use Rattle.rig.specs.Rig.{RigState}
-use Rattle.cmd_steps.specs.Vocabulary.{Outside, outside, StandsIn, Course, Step, after, write, done, Took, Puts, Follows}
+use Rattle.cmd_steps.specs.Vocabulary.{Outside, outside, ReadFile, StandsAmong, StandsIn, plain_file, Course, Step, after, write, done, Took, TookAmong, Puts, Follows}
 use Rattle.cmd_steps.specs.declared.refusal.Stop.{Stop}
-use Rattle.cmd_steps.proofs.Taking.{stands-then, step-stops, step-gives, line-stops, line-gives, all-done}
+use Rattle.cmd_steps.proofs.Taking.{stands-more, step-stops, step-gives, line-stops, line-gives, all-done}
 
 -- these files were read since the command began, the last first
-pub record HasRead (files : List (List ℕ)) (begun now : StoreState) : Type 0 where
+pub record HasReadAmong (files : List ReadFile) (begun now : StoreState) : Type 0 where
   pub contents : now.contents ≡ begun.contents
-  pub place : StandsIn files begun now
+  pub place : StandsAmong files begun now
+
+-- their limits go by no machine
+abbrev pub HasRead : (files : List (List ℕ)) → (begun now : StoreState) → Type 0
+HasRead files begun now = HasReadAmong (map plain_file files) begun now
 
 pub none-read : (begun : StoreState) → HasRead [] begun begun
 none-read begun = record { contents = refl; place = refl }
 
-module _ {T : Type 0} (step : Told → Step T) (name : List ℕ) (files : List (List ℕ)) (begun : StoreState) where
-  -- the file has what it had as the command began
-  same-told : (result : Result T Stop) (old new : Outside) → HasRead files begun old.store → Took (name ∷ []) (step (old.store.contents name)) result old new → Took (name ∷ []) (step (begun.contents name)) result old new
-  same-told result old new read took = subst (λ (contents : List ℕ → Told). Took (name ∷ []) (step (contents name)) result old new) read.contents took
+module _ {T : Type 0} (step : Told → Step T) (file : ReadFile) (files : List ReadFile) (begun : StoreState) where
+  abbrev TookIt : Result T Stop → (old new : Outside) → Type 0
+  TookIt result old new = TookAmong (file.name ∷ []) (file ∷ []) (step (old.store.contents file.name)) result old new
 
-  stands-read : (result : Result T Stop) (old new : Outside) → HasRead files begun old.store → Took (name ∷ []) (step (old.store.contents name)) result old new → StandsIn (name ∷ files) begun new.store
-  stands-read result old new read took = stands-then files (name ∷ []) begun old.store new.store read.place took.place
+  -- the file has what it had as the command began
+  same-told : (result : Result T Stop) (old new : Outside) → HasReadAmong files begun old.store → TookIt result old new → TookAmong (file.name ∷ []) (file ∷ []) (step (begun.contents file.name)) result old new
+  same-told result old new read took = subst (λ (contents : List ℕ → Told). TookAmong (file.name ∷ []) (file ∷ []) (step (contents file.name)) result old new) read.contents took
+
+  stands-read : (result : Result T Stop) (old new : Outside) → HasReadAmong files begun old.store → TookIt result old new → StandsAmong (file ∷ files) begun new.store
+  stands-read result old new read took = stands-more files (file ∷ []) begun old.store new.store read.place took.place
 
   -- one more was read
-  pub more-read : (x : T) (old new : Outside) → HasRead files begun old.store → Took (name ∷ []) (step (old.store.contents name)) (Ok x) old new → HasRead (name ∷ files) begun new.store
-  more-read x old new read took = record { contents = took.later.contents ∙ read.contents; place = stands-read (Ok x) old new read took }
+  pub more-among : (x : T) (old new : Outside) → HasReadAmong files begun old.store → TookIt (Ok x) old new → HasReadAmong (file ∷ files) begun new.store
+  more-among x old new read took = record { contents = took.later.contents ∙ read.contents; place = stands-read (Ok x) old new read took }
 
   -- it isn't right; `near` holds then
-  pub read-stops : {U : Type 0} (near : Type 0) (rest : T → Course) (more : List (List ℕ)) (asks : Type 0) (stop : Stop) (result : Result U Stop) (old new : Outside) → result ≡ Err stop → HasRead files begun old.store → Took (name ∷ []) (step (old.store.contents name)) (Err stop) old new → (StandsIn (name ∷ files) begun new.store → near) → asks → Follows ⊥ (name ∷ more) asks (after (step (begun.contents name)) near rest) result old new
-  read-stops near rest more asks stop result old new is read took holds asked =
+  pub stops-among : {U : Type 0} (near : Type 0) (rest : T → Course) (more : List (List ℕ)) (asks : Type 0) (stop : Stop) (result : Result U Stop) (old new : Outside) → result ≡ Err stop → HasReadAmong files begun old.store → TookIt (Err stop) old new → (StandsAmong (file ∷ files) begun new.store → near) → asks → Follows ⊥ (file.name ∷ more) asks (after (step (begun.contents file.name)) near rest) result old new
+  stops-among near rest more asks stop result old new is read took holds asked =
       let same = same-told (Err stop) old new read took in
-      step-stops (step (begun.contents name)) near rest (step (begun.contents name)) (name ∷ []) more asks stop result old new is same same.stops (holds (stands-read (Err stop) old new read took)) asked
+      step-stops (step (begun.contents file.name)) near rest (step (begun.contents file.name)) (file.name ∷ []) more asks stop result old new is same same.stops (holds (stands-read (Err stop) old new read took)) asked
 
   -- or it is, and the rest is followed
+  pub gives-among : {U : Type 0} (near : Type 0) (rest : T → Course) (more : List (List ℕ)) (asks then_asks : Type 0) (x : T) (result : Result U Stop) (old mid new : Outside) → HasReadAmong files begun old.store → TookIt (Ok x) old mid → Follows ⊥ more then_asks (rest x) result mid new → asks → Follows ⊥ (file.name ∷ more) asks (after (step (begun.contents file.name)) near rest) result old new
+  gives-among near rest more asks then_asks x result old mid new read took rest_is asked =
+      let same = same-told (Ok x) old mid read took in
+      step-gives (step (begun.contents file.name)) near rest (step (begun.contents file.name)) (file.name ∷ []) more asks then_asks x x result old mid new same same.gives rest_is asked
+
+module _ {T : Type 0} (step : Told → Step T) (name : List ℕ) (files : List (List ℕ)) (begun : StoreState) where
+  pub more-read : (x : T) (old new : Outside) → HasRead files begun old.store → Took (name ∷ []) (step (old.store.contents name)) (Ok x) old new → HasRead (name ∷ files) begun new.store
+  more-read x old new read took = more-among step (plain_file name) (map plain_file files) begun x old new read took
+
+  pub read-stops : {U : Type 0} (near : Type 0) (rest : T → Course) (more : List (List ℕ)) (asks : Type 0) (stop : Stop) (result : Result U Stop) (old new : Outside) → result ≡ Err stop → HasRead files begun old.store → Took (name ∷ []) (step (old.store.contents name)) (Err stop) old new → (StandsIn (name ∷ files) begun new.store → near) → asks → Follows ⊥ (name ∷ more) asks (after (step (begun.contents name)) near rest) result old new
+  read-stops near rest more asks stop result old new is read took holds asked =
+      stops-among step (plain_file name) (map plain_file files) begun near rest more asks stop result old new is read took holds asked
+
   pub read-gives : {U : Type 0} (near : Type 0) (rest : T → Course) (more : List (List ℕ)) (asks then_asks : Type 0) (x : T) (result : Result U Stop) (old mid new : Outside) → HasRead files begun old.store → Took (name ∷ []) (step (old.store.contents name)) (Ok x) old mid → Follows ⊥ more then_asks (rest x) result mid new → asks → Follows ⊥ (name ∷ more) asks (after (step (begun.contents name)) near rest) result old new
   read-gives near rest more asks then_asks x result old mid new read took rest_is asked =
-      let same = same-told (Ok x) old mid read took in
-      step-gives (step (begun.contents name)) near rest (step (begun.contents name)) (name ∷ []) more asks then_asks x x result old mid new same same.gives rest_is asked
+      gives-among step (plain_file name) (map plain_file files) begun near rest more asks then_asks x result old mid new read took rest_is asked
 
   -- both where no more is said than where the store stands
   pub file-stops : {U : Type 0} (rest : T → Course) (more : List (List ℕ)) (asks : Type 0) (stop : Stop) (result : Result U Stop) (old new : Outside) → result ≡ Err stop → HasRead files begun old.store → Took (name ∷ []) (step (old.store.contents name)) (Err stop) old new → asks → Follows ⊥ (name ∷ more) asks (after (step (begun.contents name)) (StandsIn (name ∷ files) begun new.store) rest) result old new

@@ -2,6 +2,7 @@
 use Rattle.std.proofs.Common.{◌≡◌, ℕ, ◌≤◌, List, length, refl, subst}
 use Rattle.base_io.specs.Told.{Told, holds}
 use Rattle.machine_shape.specs.declared.Shape.{Shape}
+use Rattle.machine_shape.specs.Vocabulary.{most_text}
 use Rattle.machine_text.specs.Machine.{IsMachine}
 use Rattle.machine_defects.specs.Vocabulary.{DefectList, IsText}
 use Rattle.design_netlist.specs.declared.netlist_data.NetlistData.{NetlistData}
@@ -62,12 +63,6 @@ module _ {old new : Around} {told : Told} {bytes : List ℕ} (is : told ≡ hold
     excused = λ refusal stops. machine-excused old new bytes m.counts right within refusal (rw is at stops);
   }
 
-  pub list-sure : (d : DefectList) → IsText d.shape bytes d → IsSure (reads_defects told d.shape) d old new
-  list-sure d right = record {
-    only = λ other. one-list told bytes d.shape d other is refl right;
-    excused = λ refusal stops. defects-excused old new bytes d.shape d right within refusal (rw is at stops);
-  }
-
   pub design-sure : (file : DesignFile) (draft : NetlistData) → IsDesign bytes draft → IsSure (reads_design file told) draft old new
   design-sure file draft right = record {
     only = λ other. one-design file told bytes draft other is right;
@@ -86,3 +81,11 @@ module _ {old new : Around} {told : Told} {bytes : List ℕ} (is : told ≡ hold
     only = λ other. one-image told bytes m i other is shape right same;
     excused = λ refusal stops. image-excused old new bytes m i right shape same within refusal (rw is at stops);
   }
+
+-- and of a right list, whose limit goes by the machine
+pub list-sure : {old new : Around} {told : Told} {bytes : List ℕ} (d : DefectList) → told ≡ holds bytes → length bytes ≤ most_text d.shape →
+    IsText d.shape bytes d → IsSure (reads_defects told d.shape) d old new
+list-sure {old} {new} {told} {bytes} d is within right = record {
+  only = λ other. one-list told bytes d.shape d other is refl right;
+  excused = λ refusal stops. defects-excused old new bytes d.shape d right within refusal (rw is at stops);
+}

@@ -3,7 +3,7 @@ use Rattle.std.proofs.Common.{◌≡◌, ℕ, List, [], ◌∷◌, ◌++◌, ref
 use Rattle.base_io.specs.Vocabulary.{StoreState, SinkState}
 use Rattle.machine_shape.specs.declared.Shape.{Shape}
 use Rattle.rig.specs.Rig.{RigState, Machine, Asked}
-use Rattle.cmd_steps.specs.Vocabulary.{Outside, outside, IsLater, StandsIn, Course, Step, after, write, done, StepStops, IsCounted, Took, Puts, Follows, attaches, MayAsk, AsksMachine}
+use Rattle.cmd_steps.specs.Vocabulary.{Outside, outside, IsLater, ReadFile, StandsAmong, StandsIn, Course, Step, after, write, done, StepStops, IsCounted, Took, TookAmong, Puts, Follows, attaches, MayAsk, AsksMachine}
 use Rattle.cmd_steps.specs.declared.refusal.Refusal.TheVariants.{Memory}
 use Rattle.cmd_steps.specs.declared.refusal.Stop.{Stop}
 use Rattle.cmd_steps.specs.declared.refusal.Stop.TheVariants.{Refused}
@@ -37,6 +37,14 @@ stands-then (file ∷ files) [] old mid new (inr near) second = inr (rw second n
 stands-then files (file ∷ more) old mid new first (inl second) = inl (stands-then files more old mid new first second)
 stands-then files (file ∷ more) old mid new first (inr near) = inr near
 
+-- the same of files with limits of their own
+pub stands-more : (files more : List ReadFile) (old mid new : StoreState) → StandsAmong files old mid → StandsAmong more mid new → StandsAmong (more ++ files) old new
+stands-more [] [] old mid new first second = second ∙ first
+stands-more (file ∷ files) [] old mid new (inl first) second = inl (stands-more files [] old mid new first second)
+stands-more (file ∷ files) [] old mid new (inr near) second = inr (rw second near)
+stands-more files (file ∷ more) old mid new first (inl second) = inl (stands-more files more old mid new first second)
+stands-more files (file ∷ more) old mid new first (inr near) = inr near
+
 -- ---- steps
 
 -- a step that has nothing to do with what is around it stops
@@ -53,7 +61,7 @@ took-nothing step result o is stops = rw is (took-stop step (Refused Memory) o s
 
 module _ {T U : Type 0} (step : Step T) (here : Type 0) (rest : T → Course) where
   -- the step stops
-  stops-now : {V : Type 0} (made : Step V) (names more : List (List ℕ)) (asks : Type 0) (stop : Stop) (old new : Outside) → Took names made (Err stop) old new → StepStops step stop → here → asks → Follows {T = U} ⊥ (names ++ more) asks (after step here rest) (Err stop) old new
+  stops-now : {V : Type 0} {files : List ReadFile} (made : Step V) (names more : List (List ℕ)) (asks : Type 0) (stop : Stop) (old new : Outside) → TookAmong names files made (Err stop) old new → StepStops step stop → here → asks → Follows {T = U} ⊥ (names ++ more) asks (after step here rest) (Err stop) old new
   stops-now made names more asks stop old new took stops at asked = record {
     later = took.later;
     asked = record { all = tt; some = asks-front names more old.store.asked new.store.asked took.asked.some };
@@ -62,11 +70,11 @@ module _ {T U : Type 0} (step : Step T) (here : Type 0) (rest : T → Course) wh
     counted = took.counted;
   }
 
-  pub step-stops : {V : Type 0} (made : Step V) (names more : List (List ℕ)) (asks : Type 0) (stop : Stop) (result : Result U Stop) (old new : Outside) → result ≡ Err stop → Took names made (Err stop) old new → StepStops step stop → here → asks → Follows ⊥ (names ++ more) asks (after step here rest) result old new
+  pub step-stops : {V : Type 0} {files : List ReadFile} (made : Step V) (names more : List (List ℕ)) (asks : Type 0) (stop : Stop) (result : Result U Stop) (old new : Outside) → result ≡ Err stop → TookAmong names files made (Err stop) old new → StepStops step stop → here → asks → Follows ⊥ (names ++ more) asks (after step here rest) result old new
   step-stops made names more asks stop result old new is took stops at asked = rw is (stops-now made names more asks stop old new took stops at asked)
 
   -- or it gives something: what it gave is known at the end, and the rest is followed from where it left the outside
-  pub step-gives : {V : Type 0} (made : Step V) (names more : List (List ℕ)) (asks then_asks : Type 0) (y : V) (x : T) (result : Result U Stop) (old mid new : Outside) → Took names made (Ok y) old mid → step.gives x → Follows ⊥ more then_asks (rest x) result mid new → asks → Follows ⊥ (names ++ more) asks (after step here rest) result old new
+  pub step-gives : {V : Type 0} {files : List ReadFile} (made : Step V) (names more : List (List ℕ)) (asks then_asks : Type 0) (y : V) (x : T) (result : Result U Stop) (old mid new : Outside) → TookAmong names files made (Ok y) old mid → step.gives x → Follows ⊥ more then_asks (rest x) result mid new → asks → Follows ⊥ (names ++ more) asks (after step here rest) result old new
   step-gives made names more asks then_asks y x result old mid new took gives rest_is asked = record {
     later = later-later old mid new took.later rest_is.later;
     asked = asks-after names more result old.store mid.store new.store took.asked.all rest_is.asked;
@@ -135,7 +143,7 @@ read-gives step here rest name more asks x result old mid new took rest_is =
     step-gives step here rest step (name ∷ []) more asks asks x x result old mid new took took.gives rest_is rest_is.machines
 
 -- something was given, but memory was lacking for what is made of it
-pub took-lacks : {T V : Type 0} (step : Step T) (made : Step V) (names : List (List ℕ)) (y : V) (old new : Outside) → Took names made (Ok y) old new → step.stops Memory → Took names step (Err (Refused Memory)) old new
+pub took-lacks : {T V : Type 0} {files : List ReadFile} (step : Step T) (made : Step V) (names : List (List ℕ)) (y : V) (old new : Outside) → TookAmong names files made (Ok y) old new → step.stops Memory → TookAmong names files step (Err (Refused Memory)) old new
 took-lacks step made names y old new took stops = record {
   later = took.later;
   silent = took.silent;

@@ -1,6 +1,8 @@
 -- What a command has around it: the store, the rig and the sink.
-use Rattle.std.specs.Prelude.{◌≡◌, ◌⊎◌, ℕ, ◌+◌, ◌<◌, ◌≤◌, List, [], ◌∷◌, length, IfSome, IsSome}
+use Rattle.std.specs.Prelude.{◌≡◌, ◌⊎◌, ℕ, ◌+◌, ◌<◌, ◌≤◌, List, [], ◌∷◌, length, map, IfSome, IsSome}
 use Rattle.base_io.specs.Vocabulary.{Rose, StoreState, SinkState}
+use Rattle.machine_shape.specs.declared.Shape.{Shape}
+use Rattle.machine_shape.specs.Vocabulary.{most_text}
 use Rattle.rig.specs.Rig.{RigState, Narrows, ToldExplain}
 use Rattle.base_text.specs.Size.{most_bytes}
 
@@ -49,11 +51,27 @@ pub record IsLater (old new : Outside) : Type 0 where
   pub sink : old.sink.failures ≤ new.sink.failures
   pub log : LogGoesOn old.rig new.rig
 
--- the store stands in this file, no further than one byte beyond the limit of a file that is read whole, or in none
-abbrev pub IsNearIn : (file : List ℕ) → StoreState → Type 0
-IsNearIn file store = IfSome store.current (λ p. (p.name ≡ file) × (p.at ≤ most_bytes + 1))
+-- a file that is read, and how many bytes it may have
+pub record ReadFile : Type 0 where
+  pub name : List ℕ
+  pub most : ℕ
+
+-- one whose limit goes by no machine, and a list of a machine's defects
+abbrev pub plain_file : List ℕ → ReadFile
+plain_file name = record { name = name; most = most_bytes }
+
+abbrev pub list_file : Shape → List ℕ → ReadFile
+list_file m name = record { name = name; most = most_text m }
+
+-- the store stands in this file, no further than one byte beyond its limit, or in none
+abbrev pub IsNearIn : (file : ReadFile) → StoreState → Type 0
+IsNearIn file store = IfSome store.current (λ p. (p.name ≡ file.name) × (p.at ≤ file.most + 1))
 
 -- the store stands so in one of these files, of which the last asked is the first here; or where it stood
+abbrev pub StandsAmong : (files : List ReadFile) → StoreState → StoreState → Type 0
+StandsAmong [] old new = new.current ≡ old.current
+StandsAmong (file ∷ files) old new = StandsAmong files old new ⊎ IsNearIn file new
+
+-- files whose limits go by no machine
 abbrev pub StandsIn : (files : List (List ℕ)) → StoreState → StoreState → Type 0
-StandsIn [] old new = new.current ≡ old.current
-StandsIn (file ∷ files) old new = StandsIn files old new ⊎ IsNearIn file new
+StandsIn files old new = StandsAmong (map plain_file files) old new

@@ -3,6 +3,7 @@ use Rattle.std.specs.Prelude.{◌≡◌, ◌⊎◌, ℕ, ◌≤◌, List, ◌∷
 use Rattle.base_io.specs.Vocabulary.{next_count, Told, IfTold, IsPresent, holds}
 use Rattle.machine_shape.specs.declared.Counts.{Counts}
 use Rattle.machine_shape.specs.declared.Shape.{Shape}
+use Rattle.machine_shape.specs.Vocabulary.{most_text}
 use Rattle.machine_text.specs.Machine.{IsMachine}
 use Rattle.machine_text.specs.Faults.{IsFault}
 use Rattle.machine_faults.specs.declared.kind.FaultsFault.TheVariants.{At}
@@ -27,6 +28,13 @@ pub record IsRightFile (told : Told) (Says : List ℕ → Type 0) : Type 0 where
   pub is_told : told ≡ holds bytes
   pub says : Says bytes
   pub within : length bytes ≤ most_bytes
+
+-- and so is a list of this machine's defects
+pub record IsRightList (told : Told) (m : Shape) (Says : List ℕ → Type 0) : Type 0 where
+  pub bytes : List ℕ
+  pub is_told : told ≡ holds bytes
+  pub says : Says bytes
+  pub within : length bytes ≤ most_text m
 
 -- ---- machines
 
@@ -54,12 +62,12 @@ reads_machine told = record { stops = NoMachine told; gives = λ m. IfTold told 
 -- the bytes are the text of this list of the machine's defects, and of no other
 pub record IsDefectsText (m : Shape) (bytes : List ℕ) (d : DefectList) : Type 0 where
   pub text : IsText m bytes d
-  pub within : length bytes ≤ most_bytes
+  pub within : length bytes ≤ most_text m
   pub only : (other : DefectList) → IsText m bytes other → other ≡ d
 
 -- the bytes are the text of no list of the machine's defects
 abbrev pub IsNoDefects : Shape → List ℕ → Type 0
-IsNoDefects m bytes = (d : DefectList) → IsText m bytes d → length bytes ≤ most_bytes → ⊥
+IsNoDefects m bytes = (d : DefectList) → IsText m bytes d → length bytes ≤ most_text m → ⊥
 
 abbrev pub NoDefects : Told → Shape → Refusal → Type 0
 NoDefects told m (refused.Defects line kind) = IfTold told (λ bytes. IsFaultAt m bytes line kind × IsNoDefects m bytes)

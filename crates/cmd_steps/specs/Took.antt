@@ -1,21 +1,26 @@
 -- What a step comes to, whatever command it stands in; and what a body comes to that makes the steps of a course.
-use Rattle.std.specs.Prelude.{◌≡◌, ℕ, ◌≤◌, List, OnOk, IfOk, IfErr, Result}
+use Rattle.std.specs.Prelude.{◌≡◌, ℕ, ◌≤◌, List, map, OnOk, IfOk, IfErr, Result}
 use Rattle.base_io.specs.Sink.{SinkState, Wrote}
-use Rattle.cmd_steps.specs.Outside.{Outside, IsLater, StandsIn}
+use Rattle.cmd_steps.specs.Outside.{Outside, IsLater, ReadFile, StandsAmong, plain_file}
 use Rattle.cmd_steps.specs.Courses.{Course, Step}
 use Rattle.cmd_steps.specs.Stops.{Asks, StepStops, WriteStops, IsWritten, IsCounted}
 use Rattle.cmd_steps.specs.declared.refusal.Stop.{Stop}
 
 -- A step was made that writes nothing. It asked the store for these names, it stands in one of these files or where it stood,
 -- and it gave something, or stopped for a cause
-pub record Took {T : Type 0} (names : List (List ℕ)) (step : Step T) (result : Result T Stop) (old new : Outside) : Type 0 where
+pub record TookAmong {T : Type 0} (names : List (List ℕ)) (files : List ReadFile) (step : Step T) (result : Result T Stop)
+    (old new : Outside) : Type 0 where
   pub later : IsLater old new
   pub silent : new.sink ≡ old.sink
   pub asked : Asks names result old.store new.store
-  pub place : StandsIn names old.store new.store
+  pub place : StandsAmong files old.store new.store
   pub gives : IfOk result step.gives
   pub stops : IfErr result (StepStops step)
   pub counted : IfErr result (λ stop. IsCounted ⊥ stop old new)
+
+-- the names are those of files whose limits go by no machine
+abbrev pub Took : {T : Type 0} → (names : List (List ℕ)) → Step T → Result T Stop → (old new : Outside) → Type 0
+Took names step result old new = TookAmong names (map plain_file names) step result old new
 
 -- A line was written at one go, or why it wasn't
 pub record Puts {T : Type 0} (line : List ℕ) (result : Result T Stop) (old new : SinkState) : Type 0 where

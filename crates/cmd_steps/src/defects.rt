@@ -1,12 +1,11 @@
 //! Lists of defects that are read.
 ghost use Rattle.std.specs.Prelude.{◌∷◌, []};
 ghost use Rattle.base_io.specs.Told.{holds};
-ghost use Rattle.cmd_steps.specs.Vocabulary.{SinkState, RigState, Outside, outside, Took};
+ghost use Rattle.cmd_steps.specs.Vocabulary.{SinkState, RigState, Outside, outside, list_file, Took, TookAmong};
 ghost use Rattle.cmd_steps.specs.Texts.{reads_defects};
 
 use crate::refusal::{Refusal, Stop};
 use base_io::{Store, read_within};
-use base_text::MOST_BYTES;
 use machine_defects::{Defects, DefectsFault, DefectsKind, read_defects};
 use machine_shape::Shape;
 use std::alloc::Global;
@@ -39,10 +38,10 @@ pub fn read_list<S: Store>(
 ) -> Result<Defects, Stop>
     // Whatever the rig and the sink are.
     ensures took { (rig : RigState) (sink : SinkState) →
-        Took (name.now ∷ []) (reads_defects ((S.store_state store.old).contents name.now) shape.now) result
+        TookAmong (name.now ∷ []) (list_file shape.now name.now ∷ []) (reads_defects ((S.store_state store.old).contents name.now) shape.now) result
         (outside (S.store_state store.old) rig sink) (outside (S.store_state store.new) rig sink) }
 {
-    match read_within(alloc, store, name, MOST_BYTES)? {
+    match read_within(alloc, store, name, shape.most_text() as usize)? {
         Some(text) => list_of_text(alloc, shape, &text),
         None => Err(Stop::Refused(Refusal::Defects {
             line: 0,

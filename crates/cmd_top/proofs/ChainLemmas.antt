@@ -11,7 +11,7 @@ use Rattle.machine_history.proofs.Leaving.{fewer_alone}
 use Rattle.place_route.specs.RightImages.{IsRightImage}
 use Rattle.rig.specs.Rig.{cycles_of, readings_of}
 use Rattle.cmd_steps.specs.Vocabulary.{Outside, IsMachineText, IsDefectsText}
-use Rattle.cmd_steps.proofs.ShapeLemmas.{same-shape}
+use Rattle.machine_shape.proofs.OneShape.{same-shape}
 use Rattle.diag_check.specs.Soundly.{IsSoundUnder}
 use Rattle.run_image.specs.Rows.{AreRunRows}
 use Rattle.cmd_check.specs.Answers.{IsTrueUnder}

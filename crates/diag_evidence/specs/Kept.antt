@@ -243,4 +243,4 @@ pub record AreMarksOf (k : Kept) : Type 0 where
   pub row : length k.row ≡ wires_of k.shape
   pub cells : length k.cells ≡ 64 * tables_of k.shape
   pub registers : length k.registers ≡ tables_of k.shape
-  pub few : tables_of k.shape ≤ 4096
+  pub few : tables_of k.shape ≤ 65536

@@ -98,7 +98,7 @@ struct TableMarks {
 fn no_table_marks(alloc: Global, shape: Shape) -> Result<TableMarks, AllocError>
     ensures cells { IfOk result (λ m. m.cells ≡ replicate (64 * tables_of shape) false) }
     ensures registers { IfOk result (λ m. m.registers ≡ replicate (tables_of shape) false) }
-    ensures few { tables_of shape ≤ 4096 }
+    ensures few { tables_of shape ≤ 65536 }
 {
     let cells = BitSet::new(alloc, 64 * shape.tables())?;
     let registers = BitSet::new(alloc, shape.tables())?;

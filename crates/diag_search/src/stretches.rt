@@ -11,8 +11,8 @@ use std::alloc::AllocError;
 /// The most crosspoints that are tried on one walk.
 pub(crate) const MOST_TRIED: u64 = 400;
 
-/// More wires than a walk of a crossbar can have.
-const MOST_WIRES: u32 = 65_536;
+/// More wires than a machine can have.
+const MOST_WIRES: u32 = 2_000_000;
 
 /// How often a wire is drawn that follows over a kept crosspoint.
 const KEPT_DRAWS: u32 = 12;

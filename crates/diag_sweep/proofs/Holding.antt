@@ -1,7 +1,6 @@
 -- The forest that stays from load to load.
 use Rattle.std.proofs.Common.{◌≡◌, ℕ, ◌<◌, ◌≤◌, ◌+◌, ◌&&◌, true, Some, List, [], ◌∷◌, length, take, nat_eq, refl, ap, sym, ◌∙◌, subst, slice_get, arith}
 use Rattle.std.specs.Cmp.Lexicographic.{pointwise}
-use Rattle.std.proofs.Math.Bridge.{le_prop}
 use Rattle.std.specs.Option.{option_map}
 use Rattle.std.proofs.lemmas.Bool.{false≢true, and_parts}
 use Rattle.std.proofs.lemmas.Bool.Decides.{nat_tests}
@@ -9,31 +8,10 @@ use Rattle.std.proofs.lemmas.List.{length-map}
 use Rattle.std.proofs.lemmas.Option.{slice_get-map, slice_get_within}
 use Rattle.machine_shape.specs.declared.Counts.{Counts}
 use Rattle.machine_shape.specs.declared.Cross.{Cross}
-use Rattle.machine_shape.specs.declared.Shape.{Shape}
-use Rattle.machine_shape.specs.Vocabulary.{levels_from, IsFull, size, tables_in, wires_in, crosses_in, nodes_in}
 use Rattle.machine_config.specs.Vocabulary.{among}
 use Rattle.diag_tests.specs.Routes.{cross_numbers}
 use Rattle.diag_evidence.specs.Kept.{Kept, keeps_cross}
 use Rattle.diag_sweep.proofs.Coursing.{each_more, each_whole}
-
--- what holds of the counts of a shape
-abbrev ShapeFacts : Counts → Type 0
-ShapeFacts c = IsFull c × (size tables_in (levels_from c) ≤ 4096) × (size wires_in (levels_from c) ≤ 16384) × (size crosses_in (levels_from c) ≤ 4194304) × (size nodes_in (levels_from c) ≤ 16384)
-
-abbrev made : (c : Counts) → ShapeFacts c → Shape
-made c p = record { counts = c; full = p.0; few_tables = p.1; few_wires = p.2; few_crosses = p.3; few_nodes = p.4 }
-
-facts-prop : (c : Counts) → IsProp (ShapeFacts c)
-facts-prop c = hlevel le_prop
-
-made-same : (c d : Counts) (p : ShapeFacts c) (q : ShapeFacts d) → c ≡ d → made c p ≡ made d q
-made-same c d p q same =
-    (subst (λ (e : Counts). (other : ShapeFacts e) → made c p ≡ made e other) same (λ other. ap (λ (facts : ShapeFacts c). made c facts) (facts-prop c p other))) q
-
--- a shape is what its counts are
-pub same_shape : (m n : Shape) → m.counts ≡ n.counts → m ≡ n
-same_shape m n same =
-    made-same m.counts n.counts (m.full, m.few_tables, m.few_wires, m.few_crosses, m.few_nodes) (n.full, n.few_tables, n.few_wires, n.few_crosses, n.few_nodes) same
 
 -- what the test of numbers and lists of them shows
 one_number : (a b : ℕ) → nat_eq a b ≡ true → a ≡ b

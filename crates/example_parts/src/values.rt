@@ -49,7 +49,7 @@ impl Tally {
 }
 
 // Machines, and what they hold.
-fn of_machines(alloc: Global) -> [Value; 10] {
+fn of_machines(alloc: Global) -> [Value; 13] {
     [
         ("tiny-numbering", shapes::tiny_numbering()),
         ("names-both-ways", shapes::names_both_ways()),
@@ -59,6 +59,9 @@ fn of_machines(alloc: Global) -> [Value; 10] {
         ("bench-faults-seven", generated::bench_faults_seven(alloc)),
         ("bench-design-parts", generated::bench_design_parts(alloc)),
         ("machine-text-faults", texts::machine_text_of_tiny(alloc)),
+        ("machine-two-forms", texts::machine_two_forms(alloc)),
+        ("large-counts", texts::large_counts(alloc)),
+        ("large-pins", texts::large_pins(alloc)),
         ("fault-text-faults", texts::faults_text_in_order(alloc)),
         ("defects-text-in-order", texts::defects_text_in_order(alloc)),
     ]
@@ -98,11 +101,11 @@ fn of_bytes(rt: &HostRuntime) -> [Value; 9] {
     let alloc: Global = rt.alloc();
     [
         ("sets-of-numbers", sets::holds_numbers(alloc)),
-        ("sets-of-pairs", sets::holds_pairs(alloc)),
         ("numerals", sets::reads_and_writes_numerals(alloc)),
         ("vector-limit", vectors::vector_limit(alloc)),
         ("image-bytes", images::image_bytes(alloc)),
         ("flipped-image-bits", images::flipped_image_bits(alloc)),
+        ("large-ticks", images::large_ticks(alloc)),
         ("touched-lists", images::touched_lists(alloc)),
         ("file-store", outside::file_store(rt)),
         ("std-sink", outside::std_sink(rt)),

@@ -99,7 +99,7 @@ module _ (m : Shape) where
     bridges = λ a b e. absurd (false≢true (sym (set.contains-empty pair_cmp (a, b)) ∙ e));
   }
 
-  after_one : {f : Faults} {x : Fault} {g : Faults} → HitsAllowed m f → IsAllowed m x → IsOneMore f x g → HitsAllowed m g
+  after_one : {f : Faults} {x : Fault} {g : Faults} → HitsAllowed m f → IsAllowed m x → IsOneMore m f x g → HitsAllowed m g
   after_one {f} {x} h a (added e) = with_allowed f x h a
   after_one h a (refused why e) = h
 

@@ -18,7 +18,7 @@ module _ (m : Shape) (n turns s : ℕ) (is : s ≡ turn_state n turns) where
 
 -- ---- a number makes one set of faults
 
-one_more_one : {f : Faults} {x : Fault} {g h : Faults} → IsOneMore f x g → IsOneMore f x h → g ≡ h
+one_more_one : {m : Shape} {f : Faults} {x : Fault} {g h : Faults} → IsOneMore m f x g → IsOneMore m f x h → g ≡ h
 one_more_one (added e) (added k) = refl
 one_more_one (added e) (refused why k) = absurd (none-some why (sym e ∙ k))
 one_more_one (refused why k) (added e) = absurd (none-some why (sym e ∙ k))

@@ -62,14 +62,14 @@ abbrev pub turn_state : ℕ → ℕ → ℕ
 turn_state n zero = n
 turn_state n (suc turns) = state_of_turn (turn_state n turns)
 
--- the set takes a fault, or refuses it and stays as it was
-pub data IsOneMore (f : Faults) (x : Fault) : Faults → Type 0 where
-  added : refusal_of f x ≡ None → IsOneMore f x (with_fault f x)
-  refused : (why : AddFault) → refusal_of f x ≡ Some why → IsOneMore f x f
+-- a machine's set takes a fault, or refuses it and stays as it was
+pub data IsOneMore (m : Shape) (f : Faults) (x : Fault) : Faults → Type 0 where
+  added : refusal_of m f x ≡ None → IsOneMore m f x (with_fault f x)
+  refused : (why : AddFault) → refusal_of m f x ≡ Some why → IsOneMore m f x f
 
 -- a fault that is allowed is added where the set takes it; each other is dropped
 pub data Takes (m : Shape) (f : Faults) (x : Fault) (g : Faults) : Type 0 where
-  allowed : IsAllowed m x → IsOneMore f x g → Takes m f x g
+  allowed : IsAllowed m x → IsOneMore m f x g → Takes m f x g
   not_allowed : ¬ IsAllowed m x → g ≡ f → Takes m f x g
 
 -- the faults after so many turns from the number n

@@ -81,7 +81,7 @@ fn draw_fault(draws: &mut Draws, shape: &Shape) -> Fault
 fn add_or_drop(set: &mut FaultSet, fault: Fault) -> Result<(), AllocError>
     requires { CanHave set.old.shape fault }
     ensures shape { set.new.shape ≡ set.old.shape }
-    ensures dropped { OnOk result (IsOneMore set.old.faults fault set.new.faults) }
+    ensures dropped { OnOk result (IsOneMore set.old.shape set.old.faults fault set.new.faults) }
 {
     match set.add(fault) {
         Ok(()) => Ok(()),

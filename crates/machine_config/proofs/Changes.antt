@@ -10,6 +10,7 @@ use Rattle.std.proofs.lemmas.List.Elements.{All-replicate}
 use Rattle.base_bits.proofs.SetsLemmas.{contains_more, contains_less}
 use Rattle.machine_shape.specs.declared.Shape.{Shape}
 use Rattle.machine_shape.specs.Shape.{tables_of}
+use Rattle.machine_shape.proofs.HighLimits.{high_limits}
 use Rattle.machine_config.specs.Configuration.{Configuration, CellsFit, IsConfiguration, is_closed, cleared, with_closed, with_open}
 
 pub same_number : (a b : ℕ) → eq_by_cmp nat_cmp a b ≡ true → a ≡ b
@@ -76,7 +77,7 @@ remove_within s c n within x is = by_test (eq_by_cmp nat_cmp x c) (sym (contains
     by_test false i = within x i
 
 pub IsConfiguration-cleared : (m : Shape) → IsConfiguration (cleared m)
-IsConfiguration-cleared m = record { crosses = λ x is. absurd (false≢true (sym (contains-empty nat_cmp x) ∙ is)); tables = length-replicate _ _; cells = All-replicate CellsFit (tables_of m) None tt; some_ticks = omega arith; few_ticks = omega arith }
+IsConfiguration-cleared m = record { crosses = λ x is. absurd (false≢true (sym (contains-empty nat_cmp x) ∙ is)); tables = length-replicate _ _; cells = All-replicate CellsFit (tables_of m) None tt; some_ticks = omega arith; few_ticks = (let high = (high_limits m).ticks.0 in omega (arith, high)) }
 
 -- what is closed after a change
 pub is_closed-closed : (g : Configuration) (x y : ℕ) → is_closed (with_closed g x) y ≡ (if y == x then true else is_closed g y)

@@ -7,6 +7,7 @@ use Rattle.std.specs.FinSet as set
 use Rattle.std.specs.Coded.{Coded, code_by, coded×, coded_ℕ, coded_bool, coded_list, coded_option}
 use Rattle.machine_shape.specs.contracts.Shape as shape
 use Rattle.machine_shape.specs.declared.Shape.{Shape}
+use Rattle.machine_shape.specs.Bounds.{most_ticks}
 use Rattle.machine_shape.specs.Shape.{crosses_of, tables_of}
 use Rattle.machine_config.specs.declared.Setting.{Setting}
 
@@ -28,7 +29,7 @@ pub record IsConfiguration (g : Configuration) : Type 0 where
   pub tables : length g.tables ≡ tables_of g.shape
   pub cells : All CellsFit g.tables
   pub some_ticks : 1 ≤ g.ticks
-  pub few_ticks : g.ticks ≤ 4096
+  pub few_ticks : g.ticks ≤ most_ticks g.shape
 
 -- a configuration, and for how many more closings there is room
 pub record Roomy : Type 0 where

@@ -10,6 +10,7 @@
 ghost use Rattle.std.specs.Prelude.{◌≡◌, ℕ, ◌+◌, ◌-◌, ◌≤◌, ◌<◌, true, IfOk, OnOk, OnErr, IsOk, IsSome, IfSome, Some, None, count_by};
 ghost use Rattle.std.specs.Prelude.{is_some, ◌==◌, if◌then◌else◌};
 ghost use Rattle.std.specs.FinSet as set;
+ghost use Rattle.machine_shape.specs.Bounds.{most_ticks};
 ghost use Rattle.machine_shape.specs.Shape.{crosses_of, tables_of};
 ghost use Rattle.machine_config.specs.Configuration.{IsConfiguration, cleared, is_closed, setting_of, with_closed, with_open, with_setting};
 ghost use Rattle.machine_config.specs.Configuration.{with_ticks, with_bit, with_cell};
@@ -94,7 +95,7 @@ impl Config {
     }
 
     /// The shape of the machine. What is set is always one of that machine: closed crosspoints are below
-    /// its number of crosspoints, there is a place for each table, and there are 1 to 4,096 ticks.
+    /// its number of crosspoints, there is a place for each table, and there are 1 to `most_ticks` ticks.
     pub fn shape(&self) -> Shape
         ensures shape { result ≡ self.now.config.shape }
         ensures right { IsConfiguration self.now.config }
@@ -102,7 +103,7 @@ impl Config {
         self.shape
     }
 
-    /// How many ticks a cycle has, 1 to 4,096.
+    /// How many ticks a cycle has, 1 to `most_ticks` of the shape.
     pub fn ticks(&self) -> u16
         ensures { result ≡ self.now.config.ticks }
     {
@@ -112,7 +113,7 @@ impl Config {
     /// Sets how many ticks a cycle has.
     pub fn set_ticks(&mut self, ticks: u16)
         requires some { 1 ≤ ticks }
-        requires few { ticks ≤ 4096 }
+        requires few { ticks ≤ most_ticks self.old.config.shape }
         ensures { self.new ≡ record self.old { config = with_ticks self.old.config ticks } }
     {
         self.ticks = ticks;

@@ -8,6 +8,7 @@ use native.Mathlib.Decide.{ℕ_discrete}
 use Rattle.base_bits.specs.Numbers.{has_number}
 use Rattle.machine_shape.specs.declared.Shape.{Shape}
 use Rattle.machine_shape.specs.Vocabulary.{HasCrosses, HasMeanings, levels_of, wires_of, crosses_of, tables_of, nodes_of, lines_of, ends_of, node_of_cross, line_position, line_at, table_wire}
+use Rattle.machine_shape.proofs.Totals.{crosses_are}
 use Rattle.machine_shape.specs.Shape.Meaning.{Line}
 use Rattle.machine_shape.specs.Shape.Means.{is_line}
 use Rattle.machine_defects.specs.Vocabulary.{all_below, is_free_wire, has_free_ends, has_free_pins, with_cross, with_table, Marks, IsWide, AreRight, AreShutBy, listed_by, marked, is_barred, is_lost, is_clear_line, count_at, shut_at, clear_lines_at}
@@ -15,9 +16,8 @@ use Rattle.machine_defects.proofs.Marks.{in_marked, marked_more, put_again, all_
 use Rattle.machine_defects.proofs.Counting.{how_many_less, how_many_same, how_many_some, how_many_at_most}
 use Rattle.machine_defects.proofs.Sweeping.{count_set, set_here, set_there, shut_less, shut_elsewhere, ends_are}
 
-pub few_crosses : (m : Shape) → crosses_of m ≤ 4194304
-unfolding crosses_of levels_of
-few_crosses m = m.few_crosses
+pub few_crosses : (m : Shape) → crosses_of m ≤ 268435456
+few_crosses m = (crosses_are m).1
 
 -- lists of the lengths that they had
 still_wide : {k l : Marks} → IsWide k → l.shape ≡ k.shape → length l.wires ≡ length k.wires → length l.crosses ≡ length k.crosses → length l.tables ≡ length k.tables → length l.barred ≡ length k.barred → length l.lost ≡ length k.lost → length l.owners ≡ length k.owners → length l.shut ≡ length k.shut → length l.open_lines ≡ length k.open_lines → length l.free_ports ≡ length k.free_ports → IsWide l

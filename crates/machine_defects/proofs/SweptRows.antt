@@ -41,7 +41,7 @@ module _ (m : Shape) (crosses : HasCrosses m) (rows : HasRows m) (n w : ℕ) (ln
     pub line_within : (j : ℕ) → j < lines_of m n → line + j < wires_of m
     line_within j lj = let r = in_row j lj in subst (λ l. l < wires_of m) (ap (λ (p : ℕ × ℕ). p.1) r.0.1) (ends_below m (x + j) r.0.0).1
 
-    pub few_in_row : (j : ℕ) → j < lines_of m n → (x + j < 4194304) × (line + j < 16384)
+    pub few_in_row : (j : ℕ) → j < lines_of m n → (x + j < 268435456) × (line + j < 1310720)
     few_in_row j lj = let r = in_row j lj in let l = line_within j lj in let c = crosses_are m in let k = wires_are m in (omega (arith, r.0.0, c.1), omega (arith, l, k.1))
 
   -- the crosspoints of a line, one in each row
@@ -59,7 +59,7 @@ module _ (m : Shape) (crosses : HasCrosses m) (rows : HasRows m) (n w : ℕ) (ln
       pub at_distance : (first + i * width + (w - line) < crosses_of m) × (ends_of m (first + i * width + (w - line)) ≡ (tap_at m n i, w))
       at_distance = in_rows i (w - line) li near (omega (arith, behind))
 
-      pub few_at_distance : first + i * width + (w - line) < 4194304
+      pub few_at_distance : first + i * width + (w - line) < 268435456
       few_at_distance = let r = at_distance in let c = crosses_are m in omega (arith, r.0, c.1)
 
   -- the wire is no line here

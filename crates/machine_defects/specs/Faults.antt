@@ -3,7 +3,8 @@ use Rattle.std.specs.Prelude.{◌≡◌, ◌≢◌, ◌⊎◌, ℕ, ◌+◌, ◌
 use Rattle.std.specs.Prelude.{Err}
 use Rattle.std.specs.List.{list_all, AllByRecursion}
 use Rattle.machine_shape.specs.declared.Shape.{Shape}
-use Rattle.base_text.specs.Vocabulary.{written, written_line, most_bytes}
+use Rattle.machine_shape.specs.Vocabulary.{most_text}
+use Rattle.base_text.specs.Vocabulary.{written, written_line}
 use Rattle.machine_defects.specs.declared.entry.Entry.{Entry}
 use Rattle.machine_defects.specs.declared.kind.DefectsKind.{DefectsKind}
 use Rattle.machine_defects.specs.declared.kind.DefectsKind.TheVariants.{Word, Order, Name, WrongMachine, Doubled, After, Limit}
@@ -90,8 +91,8 @@ IsFirstFault m bytes number kind = IsFaultAtLine m bytes number kind ⊎ IsFault
 -- too many bytes are a fault of the whole text
 abbrev pub IsFaultAt : Shape → List ℕ → ℕ → DefectsKind → Type 0
 IsFaultAt m bytes number kind =
-    ((most_bytes < length bytes) × (number ≡ 0) × (kind ≡ Limit))
-    ⊎ ((length bytes ≤ most_bytes) × IsFirstFault m bytes number kind)
+    ((most_text m < length bytes) × (number ≡ 0) × (kind ≡ Limit))
+    ⊎ ((length bytes ≤ most_text m) × IsFirstFault m bytes number kind)
 
 -- a text is refused for its first fault; of a lack of memory nothing is said
 abbrev pub IsRefusedAs : Shape → List ℕ → DefectsFault → Type 0

@@ -2,7 +2,7 @@
 //!
 //! A list of defects after any calls: a listed crosspoint has no listed wire, and a listed table no listed pin; which wires,
 //! crosspoints, tables and lines are free or open, and how many of each, exactly. A defects text has one spelling: what is read
-//! is the spelling of the list that is given (`found`), every list's spelling within 16,777,216 bytes is read (`only`), and each
+//! is the spelling of the list that is given (`found`), every list's spelling within the machine's limit on bytes is read (`only`), and each
 //! refusal is the first fault, by line and then by the order of the kinds (`refused`).
 #![tactic(auto)]
 

@@ -2,7 +2,8 @@
 
 ghost use Rattle.std.specs.Prelude.{◌≡◌, ◌≢◌, ◌↔◌, ◌<◌, ◌≤◌, ◌++◌, ◌∷◌, [], ℕ, List, None, codes, length, IsTrue, IfOk, IfErr, MatchOption};
 ghost use Rattle.std.specs.Prelude.{MatchResult, OnOk};
-ghost use Rattle.base_text.specs.Vocabulary.{written_line, most_bytes};
+ghost use Rattle.machine_shape.specs.Vocabulary.{most_text};
+ghost use Rattle.base_text.specs.Vocabulary.{written_line};
 ghost use Rattle.machine_defects.specs.Lists.{IsDefectList, DefectList, no_defects};
 ghost use Rattle.machine_defects.specs.Text.{IsEntryOf, IsFreeEntry, entry_words, counts_of, entries_of, is_before, first_row, shape_row};
 ghost use Rattle.machine_defects.specs.Faults.{AreCounts, IsLineFault, IsRefusedAs, IsText, GivesOrLacks};
@@ -13,7 +14,6 @@ use crate::entry::{Entry, is_before};
 use crate::form::{Form, behind, counts_in, cut, form_of};
 use crate::kind::{DefectsFault, DefectsKind};
 use crate::list::Defects;
-use base_text::MOST_BYTES;
 use machine_shape::{Counts, Shape};
 use std::alloc::Global;
 
@@ -205,7 +205,7 @@ fn take_line<'a>(list: &mut Defects, last: &mut Option<Entry>, left: &'a [u8]) -
 
 /// Reads the lines below the first two.
 fn read_entries(list: &mut Defects, bytes: &[u8], below: &[u8]) -> Result<(), DefectsFault>
-    requires few { length bytes.now ≤ most_bytes }
+    requires few { length bytes.now ≤ 1073741824 }
     requires begun { IsReadTo list.old.shape bytes.now below.now list.old None }
     ensures found { OnOk result (IsText list.old.shape bytes.now list.new) }
     ensures refused { IfErr result (IsFirst list.old.shape bytes.now) }
@@ -233,9 +233,9 @@ fn read_entries(list: &mut Defects, bytes: &[u8], below: &[u8]) -> Result<(), De
     }
 }
 
-/// Reads a text within the limit on bytes.
+/// Reads a text within the largest limit on bytes.
 fn read_within(alloc: Global, shape: &Shape, bytes: &[u8]) -> Result<Defects, DefectsFault>
-    requires { length bytes.now ≤ most_bytes }
+    requires { length bytes.now ≤ 1073741824 }
     ensures found { IfOk result (IsText shape.now bytes.now) }
     ensures refused { IfErr result (IsFirst shape.now bytes.now) }
 {
@@ -260,17 +260,19 @@ fn read_within(alloc: Global, shape: &Shape, bytes: &[u8]) -> Result<Defects, De
 
 /// The list of a text, of a machine of this shape. The bytes read are the one spelling of the list. A text is refused
 /// at its first faulty line, and there for what comes first in this order: After, Word, WrongMachine, Name, Order,
-/// Doubled. Where it has more than 16,777,216 bytes it is refused at line 0, whatever they are.
+/// Doubled. Where it has more than 16,777,216 bytes, and of a machine that isn't small more than 1,073,741,824, it is
+/// refused at line 0, whatever they are.
 pub fn read_defects(alloc: Global, shape: &Shape, bytes: &[u8]) -> Result<Defects, DefectsFault>
-    ensures found { IfOk result (λ d. IsText shape.now bytes.now d × (length bytes.now ≤ most_bytes)) }
+    ensures found { IfOk result (λ d. IsText shape.now bytes.now d × (length bytes.now ≤ most_text shape.now)) }
     ensures refused { IfErr result (IsRefusedAs shape.now bytes.now) }
     // The text of a list within the limit on bytes is read, unless memory is lacking.
-    ensures only { (d : DefectList) → IsText shape.now bytes.now d → length bytes.now ≤ most_bytes → GivesOrLacks d result }
+    ensures only { (d : DefectList) → IsText shape.now bytes.now d → length bytes.now ≤ most_text shape.now → GivesOrLacks d result }
 {
     machine_shape::names_are_one_to_one();
     machine_shape::the_crosspoints_are_sound();
     machine_shape::the_numbering_is_sound();
-    if bytes.len() > MOST_BYTES {
+    let most = shape.most_text() as usize;
+    if bytes.len() > most {
         return Err(DefectsFault::At {
             line: 0,
             kind: DefectsKind::Limit,

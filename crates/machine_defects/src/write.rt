@@ -133,7 +133,7 @@ fn put_tables(text: &mut Vec<u8>, list: &Defects) -> Result<(), AllocError>
 }
 
 /// The one spelling of a list: its machine's counts, then the listed wires, crosspoints and tables, each by number.
-/// Where it has at most 16,777,216 bytes, reading it gives the list again, unless memory is lacking; a longer one is
+/// Where it has no more bytes than are read, reading it gives the list again, unless memory is lacking; a longer one is
 /// written all the same, and can't be read.
 pub fn defects_text(alloc: Global, list: &Defects) -> Result<Vec<u8>, AllocError>
     ensures text { IfOk result (λ text. text.items ≡ text_of list.now) }

@@ -7,7 +7,7 @@ use Rattle.std.specs.Cmp.{nat_cmp_total}
 use Rattle.std.specs.Ordering.{nat_cmp}
 use Rattle.std.proofs.lemmas.Map.Lookups.{exact_unsigned}
 use Rattle.machine_shape.specs.declared.Shape.{Shape}
-use Rattle.machine_shape.specs.Shape.{wires_of, crosses_of, tables_of}
+use Rattle.machine_shape.specs.Vocabulary.{wires_of, crosses_of, tables_of, most_faults}
 use Rattle.machine_meaning.specs.Faults.{Faults, AreFaultsOf, pair_cmp, is_bridge}
 use Rattle.machine_faults.specs.declared.fault.Fault.{Fault}
 use Rattle.machine_faults.specs.declared.fault.Fault.TheVariants.{Stuck, CrossStuck, Cell, Register, Bridge}
@@ -18,24 +18,24 @@ use Rattle.machine_faults.proofs.Keeping.{all_put, all_added, len_put, len_added
 
 -- ---- what it is not to be refused
 
-pub record IsFree (f : Faults) (x : Fault) : Type 0 where
+pub record IsFree (most : ℕ) (f : Faults) (x : Fault) : Type 0 where
   pub apart : is_loop x ≡ false
   pub free : value_at f x ≡ None
-  pub few : count_of f < 65536
+  pub few : count_of f < most
 
-none_at : (there : Option Bool) (value : Bool) (n : ℕ) → refusal_at there value n ≡ None → (there ≡ None) × (n < 65536)
-none_at None value n e = elim (nat_lt n 65536) as (λ b. nat_lt n 65536 ≡ b → refusal_at None value n ≡ None → (◌≡◌ {A = Option Bool} None None) × (n < 65536)) [ true ↦ λ lt _. (refl, ltb-true n 65536 lt) | false ↦ λ ge g. absurd (let h : (if false then None else Some Limit) ≡ None = sym (ap (λ b. if b then None else Some Limit) ge) ∙ g in cc) ] refl e
-none_at (Some true) true n e = absurd cc
-none_at (Some true) false n e = absurd cc
-none_at (Some false) true n e = absurd cc
-none_at (Some false) false n e = absurd cc
+none_at : (most : ℕ) (there : Option Bool) (value : Bool) (n : ℕ) → refusal_at most there value n ≡ None → (there ≡ None) × (n < most)
+none_at most None value n e = elim (nat_lt n most) as (λ b. nat_lt n most ≡ b → refusal_at most None value n ≡ None → (◌≡◌ {A = Option Bool} None None) × (n < most)) [ true ↦ λ lt _. (refl, ltb-true n most lt) | false ↦ λ ge g. absurd (let h : (if false then None else Some Limit) ≡ None = sym (ap (λ b. if b then None else Some Limit) ge) ∙ g in cc) ] refl e
+none_at most (Some true) true n e = absurd cc
+none_at most (Some true) false n e = absurd cc
+none_at most (Some false) true n e = absurd cc
+none_at most (Some false) false n e = absurd cc
 
-pub free_from : (f : Faults) (x : Fault) → refusal_of f x ≡ None → IsFree f x
-free_from f x e =
-    elim (is_loop x) as (λ b. is_loop x ≡ b → refusal_of f x ≡ None → IsFree f x) [
-      | true ↦ λ l g. absurd (let h : refusal_of f x ≡ Some Same = ap (λ b. if b then Some Same else refusal_at (value_at f x) (value_of x) (count_of f)) l in cc)
+pub free_from : (m : Shape) (f : Faults) (x : Fault) → refusal_of m f x ≡ None → IsFree (most_faults m) f x
+free_from m f x e =
+    elim (is_loop x) as (λ b. is_loop x ≡ b → refusal_of m f x ≡ None → IsFree (most_faults m) f x) [
+      | true ↦ λ l g. absurd (let h : refusal_of m f x ≡ Some Same = ap (λ b. if b then Some Same else refusal_at (most_faults m) (value_at f x) (value_of x) (count_of f)) l in cc)
       | false ↦ λ l g.
-          let h = none_at (value_at f x) (value_of x) (count_of f) (sym (ap (λ b. if b then Some Same else refusal_at (value_at f x) (value_of x) (count_of f)) l) ∙ g) in
+          let h = none_at (most_faults m) (value_at f x) (value_of x) (count_of f) (sym (ap (λ b. if b then Some Same else refusal_at (most_faults m) (value_at f x) (value_of x) (count_of f)) l) ∙ g) in
           record { apart = l; free = h.0; few = h.1 }
     ] refl e
 
@@ -85,10 +85,10 @@ lower_kept s (Cell table address value) k is apart = k.lower_first
 lower_kept s (Register table value) k is apart = k.lower_first
 lower_kept s (Bridge a b) k is apart = λ w u there. (all_added pairs_total pairs_exact s.faults.bridges (lower_first a.0 b.0) (IsPair s.shape) (pair_of_set s k) (pair_is s.shape a.0 b.0 is.0 is.1 apart) (w, u) there).2
 
-pub set_kept : (s : Faulty) (x : Fault) → IsFaultSet s → CanHave s.shape x → refusal_of s.faults x ≡ None → IsFaultSet (record { shape = s.shape; faults = with_fault s.faults x })
+pub set_kept : (s : Faulty) (x : Fault) → IsFaultSet s → CanHave s.shape x → refusal_of s.shape s.faults x ≡ None → IsFaultSet (record { shape = s.shape; faults = with_fault s.faults x })
 set_kept s x k is e =
-    let free = free_from s.faults x e in
-    record { faults = faults_kept s x k is free.apart; lower_first = lower_kept s x k is free.apart; few = omega (arith, count_more s.faults x free.free) }
+    let free = free_from s.shape s.faults x e in
+    record { faults = faults_kept s x k is free.apart; lower_first = lower_kept s x k is free.apart; few = omega (arith, free.few, count_more s.faults x free.free) }
 
 -- ---- no faults
 

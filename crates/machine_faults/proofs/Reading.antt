@@ -61,7 +61,7 @@ pub with_all_more : (f : Faults) (xs : List Fault) (x : Fault) → with_all f (x
 with_all_more f [] x = refl
 with_all_more f (y ∷ xs) x = with_all_more (with_fault f y) xs x
 
-pub added_more : (m : Shape) (f : Faults) (xs : List Fault) (x : Fault) → AreAdded m f xs → CanHave m x → refusal_of (with_all f xs) x ≡ None → AreAdded m f (xs ++ x ∷ [])
+pub added_more : (m : Shape) (f : Faults) (xs : List Fault) (x : Fault) → AreAdded m f xs → CanHave m x → refusal_of m (with_all f xs) x ≡ None → AreAdded m f (xs ++ x ∷ [])
 added_more m f [] x all is free = (is, free, tt)
 added_more m f (y ∷ xs) x all is free = (all.0, all.1, added_more m (with_fault f y) xs x all.2 is free)
 
@@ -86,7 +86,7 @@ module _ (m : Shape) (lines left rest : List LogicalLine) (l : LogicalLine) (s :
     entries = k.entries ++ took.0 ∷ [];
     parts = append_assoc k.above (l ∷ []) rest ∙ ap (λ ls. k.above ++ ls) (sym next) ∙ k.parts;
     rows = map-append (λ (r : LogicalLine). r.words) k.above (l ∷ []) ∙ (λ i. k.rows i ++ sym (subst (λ n. fault_words n took.0 ≡ l.words) k.shape took.1) i ∷ []) ∙ sym (map-append (fault_words m) k.entries (took.0 ∷ []));
-    added = added_more m no_faults k.entries took.0 k.added (subst (λ n. CanHave n took.0) k.shape took.2) (subst (λ f. refusal_of f took.0 ≡ None) (sym k.all) took.3);
+    added = added_more m no_faults k.entries took.0 k.added (subst (λ n. CanHave n took.0) k.shape took.2) (subst (λ f. refusal_of m f took.0 ≡ None) (sym k.all) (subst (λ n. refusal_of n s.faults took.0 ≡ None) k.shape took.3));
     all = with_all_more no_faults k.entries took.0 ∙ ap (λ f. with_fault f took.0) k.all ∙ sym (ap (λ v. v.faults) took.4);
   }
 
@@ -125,7 +125,7 @@ ends m bytes left s k none = record {
 
 -- ---- what a refusal of the set is told
 
-pub refusal_told : (m : Shape) (s : Faulty) (l : LogicalLine) (x : Fault) (why : AddFault) (t : Faulty) → is_bad_line l ≡ false → fault_words s.shape x ≡ l.words → CanHave s.shape x → IsRefusal (refusal_of s.faults x) why → Takes s l (Err (told_of l.number why)) t
+pub refusal_told : (m : Shape) (s : Faulty) (l : LogicalLine) (x : Fault) (why : AddFault) (t : Faulty) → is_bad_line l ≡ false → fault_words s.shape x ≡ l.words → CanHave s.shape x → IsRefusal (refusal_of s.shape s.faults x) why → Takes s l (Err (told_of l.number why)) t
 refusal_told m s l x add.Memory t sound w is r = tt
 refusal_told m s l x add.Same t sound w is r = (refl, refused x add.Same sound w is r)
 refusal_told m s l x add.Doubled t sound w is r = (refl, refused x add.Doubled sound w is r)
@@ -133,7 +133,7 @@ refusal_told m s l x add.Against t sound w is r = (refl, refused x add.Against s
 refusal_told m s l x add.Limit t sound w is r = (refl, refused x add.Limit sound w is r)
 
 -- the same where the entry was read at this shape, of these words
-pub refusal_at_line : (s : Faulty) (l : LogicalLine) (x : Fault) (why : AddFault) (t : Faulty) (n : Shape) (words : List (List ℕ)) (number : ℕ) (e : FaultsFault) → n ≡ s.shape → words ≡ l.words → number ≡ l.number → e ≡ told_of number why → is_bad_line l ≡ false → CanHave n x × (fault_words n x ≡ words) → IsRefusal (refusal_of s.faults x) why → Takes s l (Err e) t
+pub refusal_at_line : (s : Faulty) (l : LogicalLine) (x : Fault) (why : AddFault) (t : Faulty) (n : Shape) (words : List (List ℕ)) (number : ℕ) (e : FaultsFault) → n ≡ s.shape → words ≡ l.words → number ≡ l.number → e ≡ told_of number why → is_bad_line l ≡ false → CanHave n x × (fault_words n x ≡ words) → IsRefusal (refusal_of s.shape s.faults x) why → Takes s l (Err e) t
 refusal_at_line s l x why t n words number e shape same here told sound got r =
     subst (λ f. Takes s l (Err f) t) (sym (told ∙ ap (λ k. told_of k why) here))
     (refusal_told s.shape s l x why t sound (subst (λ m. fault_words m x ≡ words) shape got.1 ∙ same) (subst (λ m. CanHave m x) shape got.0) r)
@@ -172,12 +172,12 @@ entry_right m k x p k' (formed h rest f r) =
     let tails : rest ≡ rest_of m x = cc (f.all) in
     rest_right m k x p k' (subst (λ t. IsRestFault m (head_of x) t k') tails (subst (λ g. IsRestFault m g rest k') same r))
 
-line_right : (m : Shape) → IsTold m → (f : Faults) (l : LogicalLine) (x : Fault) → l.words ≡ fault_words m x → CanHave m x → refusal_of f x ≡ None → (k' : FaultsKind) → IsLineFault m f l k' → ⊥
+line_right : (m : Shape) → IsTold m → (f : Faults) (l : LogicalLine) (x : Fault) → l.words ≡ fault_words m x → CanHave m x → refusal_of m f x ≡ None → (k' : FaultsKind) → IsLineFault m f l k' → ⊥
 line_right m k f l x w p free k' (bad b) = let e : true ≡ false = sym b ∙ ap (list_any (list_any is_bad)) w ∙ good_entry m k x p in cc
 line_right m k f l x w p free k' (no_entry sound n) = entry_right m k x p k' (subst (λ ws. IsNoEntry m ws k') w n)
 line_right m k f l x w p free k' (refused y why sound v q r) =
     let same : y ≡ x = one_fault m k y x q p (v ∙ w) in
-    let e : ◌≡◌ {A = Option AddFault} None (Some why) = sym free ∙ ap (refusal_of f) (sym same) ∙ r in
+    let e : ◌≡◌ {A = Option AddFault} None (Some why) = sym free ∙ ap (refusal_of m f) (sym same) ∙ r in
     cc
 
 no_first : (m : Shape) → IsTold m → (f : Faults) (above : List LogicalLine) (l : LogicalLine) (below : List LogicalLine) (es fs : List Fault) (k' : FaultsKind) → map (λ (r : LogicalLine). r.words) (above ++ l ∷ below) ≡ map (fault_words m) fs → map (λ (r : LogicalLine). r.words) above ≡ map (fault_words m) es → AreAdded m f es → AreAdded m f fs → IsLineFault m (with_all f es) l k' → ⊥

@@ -6,9 +6,9 @@ use Rattle.std.specs.List.{AllByRecursion, All, list_all}
 use Rattle.std.specs.Cmp.{nat_cmp_total}
 use Rattle.std.proofs.lemmas.Map.Lookups.{exact_unsigned}
 use Rattle.machine_shape.specs.declared.Shape.{Shape}
-use Rattle.machine_shape.specs.Shape.{wires_of, crosses_of, tables_of}
+use Rattle.machine_shape.specs.Vocabulary.{wires_of, crosses_of, tables_of, most_faults, most_text}
 use Rattle.machine_meaning.specs.Faults.{Faults}
-use Rattle.base_text.specs.Vocabulary.{logical_lines, is_graphic, written, numbered, most_bytes}
+use Rattle.base_text.specs.Vocabulary.{logical_lines, is_graphic, written, numbered}
 use Rattle.base_text.specs.Written as text
 use Rattle.base_text.proofs.WrittenLemmas.{lines_back}
 use Rattle.machine_faults.specs.declared.fault.Fault.{Fault}
@@ -21,7 +21,7 @@ use Rattle.machine_meaning.proofs.Pairs.{pairs_total, pairs_exact}
 use Rattle.machine_shape.proofs.PlainNames.{AllPlain}
 use Rattle.machine_faults.proofs.Names.{AreWords, entry_words}
 use Rattle.machine_faults.proofs.Words.{IsTold}
-use Rattle.machine_faults.proofs.Lengths.{short_text}
+use Rattle.machine_faults.proofs.Lengths.{short_text, enough_bytes}
 use Rattle.machine_faults.proofs.Parts.{put_all, AreNew, put_each, AreNewIn, all_filtered, all_weaker, all_new, all_put, failing_new, passing_new, parts_put, found_each, each_put_in, each_new_in, each_in}
 
 more : {A : Type 0} {s t u x y : List A} → s ≡ x → t ≡ s ++ u → u ≡ y → t ≡ x ++ y
@@ -39,10 +39,10 @@ with_more : (f : Faults) (xs ys : List Fault) → with_all f (xs ++ ys) ≡ with
 with_more f [] ys = refl
 with_more f (x ∷ xs) ys = with_more (with_fault f x) xs ys
 
-not_refused : (f : Faults) (x : Fault) → is_loop x ≡ false → value_at f x ≡ None → count_of f < 65536 → refusal_of f x ≡ None
-not_refused f x apart free few =
-    (λ i. if apart i then Some Same else refusal_at (free i) (value_of x) (count_of f))
-    ∙ ap (λ b. if b then None else Some Limit) (lt-ltb (count_of f) 65536 few)
+not_refused : (m : Shape) (f : Faults) (x : Fault) → is_loop x ≡ false → value_at f x ≡ None → count_of f < most_faults m → refusal_of m f x ≡ None
+not_refused m f x apart free few =
+    (λ i. if apart i then Some Same else refusal_at (most_faults m) (free i) (value_of x) (count_of f))
+    ∙ ap (λ b. if b then None else Some Limit) (lt-ltb (count_of f) (most_faults m) few)
 
 module _ (m : Shape) where
   abbrev AreFree : Faults → List Fault → Type 0
@@ -60,11 +60,11 @@ module _ (m : Shape) where
       let one = count_more f x p.2 in
       omega (arith, rest, one)
 
-  added : (f : Faults) (xs : List Fault) → AreFree f xs → count_of f + length xs ≤ 65536 → AreAdded m f xs
+  added : (f : Faults) (xs : List Fault) → AreFree f xs → count_of f + length xs ≤ most_faults m → AreAdded m f xs
   added f [] p few = tt
   added f (x ∷ xs) p few =
       let one = count_more f x p.2 in
-      (p.0, not_refused f x p.1 p.2 (omega arith), added (with_fault f x) xs p.3 (omega (arith, one)))
+      (p.0, not_refused m f x p.1 p.2 (omega (arith, few)), added (with_fault f x) xs p.3 (omega (arith, one, few)))
 
   all_of_shape : (f : Faults) (xs : List Fault) → AreFree f xs → AllByRecursion (CanHave m) xs
   all_of_shape f [] p = tt
@@ -182,7 +182,7 @@ module _ (m : Shape) where
     pub grouped_make : Makes no_faults (grouped k) (faults_of k)
     grouped_make = (all_made.0, all_made.1 ∙ made_is)
 
-    pub few_grouped : length (grouped k) ≤ 65536
+    pub few_grouped : length (grouped k) ≤ most_faults m
     few_grouped =
         let n = counted no_faults (grouped k) grouped_make.0 in
         let z = count_none in
@@ -222,8 +222,8 @@ module _ (m : Shape) (f : Faults) (s : IsFaultSet (record { shape = m; faults = 
   makes : Makes m no_faults xs f
   makes = subst (λ ys. Makes m no_faults ys f) (sym o.groups) (subst (λ g. Makes m no_faults (grouped o.kinds) g) o.all (grouped_make m o.kinds o.ascend s'))
 
-  few_of : length xs ≤ 65536
-  few_of = subst (λ ys. length ys ≤ 65536) (sym o.groups) (few_grouped m o.kinds o.ascend s')
+  few_of : length xs ≤ most_faults m
+  few_of = subst (λ ys. length ys ≤ most_faults m) (sym o.groups) (few_grouped m o.kinds o.ascend s')
 
   pub each_of_shape : All (CanHave m) xs
   each_of_shape = all_from (CanHave m) xs (all_of_shape m no_faults xs makes.0)
@@ -239,8 +239,8 @@ module _ (m : Shape) (f : Faults) (s : IsFaultSet (record { shape = m; faults = 
     all = makes.1;
   }
 
-  pub few_bytes : IsTold m → (bytes : List ℕ) → bytes ≡ written (map (fault_words m) xs) → length bytes ≤ most_bytes
+  pub few_bytes : IsTold m → (bytes : List ℕ) → bytes ≡ written (map (fault_words m) xs) → length bytes ≤ most_text m
   few_bytes k bytes is =
       let t = short_text m k xs (all_of_shape m no_faults xs makes.0) in
       let e = ap length is in
-      omega (arith, t, few_of, e)
+      omega (arith, t, few_of, e, enough_bytes m)

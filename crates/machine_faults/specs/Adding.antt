@@ -6,7 +6,7 @@ use Rattle.std.specs.Coded.{Coded, code_by, coded×, coded_ℕ, coded_bool}
 use Rattle.std.specs.Ordering.{nat_cmp}
 use Rattle.machine_shape.specs.contracts.Shape as shape
 use Rattle.machine_shape.specs.declared.Shape.{Shape}
-use Rattle.machine_shape.specs.Shape.{wires_of, crosses_of, tables_of}
+use Rattle.machine_shape.specs.Vocabulary.{wires_of, crosses_of, tables_of, most_faults}
 use Rattle.machine_meaning.specs.Faults.{Faults, pair_cmp, stuck_wire, stuck_cross, wrong_cell, stuck_register, is_bridge, AreFaultsOf}
 use Rattle.machine_faults.specs.declared.fault.Fault.{Fault}
 use Rattle.machine_faults.specs.declared.fault.Fault.TheVariants.{Stuck, CrossStuck, Cell, Register, Bridge}
@@ -81,25 +81,25 @@ value_at f (Cell table address value) = wrong_cell f table.0 address
 value_at f (Register table value) = stuck_register f table.0
 value_at f (Bridge a b) = if is_bridge f (lower_first a.0 b.0) then Some true else None
 
--- what there is against one more value where this stands at its place, in a set of this many faults
-abbrev pub refusal_at : Option Bool → Bool → ℕ → Option AddFault
-refusal_at None value n = if nat_lt n 65536 then None else Some Limit
-refusal_at (Some true) true n = Some Doubled
-refusal_at (Some true) false n = Some Against
-refusal_at (Some false) true n = Some Against
-refusal_at (Some false) false n = Some Doubled
+-- what there is against one more value where this stands at its place, in a set of this many faults that may have so many
+abbrev pub refusal_at : (most : ℕ) → Option Bool → Bool → ℕ → Option AddFault
+refusal_at most None value n = if nat_lt n most then None else Some Limit
+refusal_at most (Some true) true n = Some Doubled
+refusal_at most (Some true) false n = Some Against
+refusal_at most (Some false) true n = Some Against
+refusal_at most (Some false) false n = Some Doubled
 
--- what comes first against adding a fault
-abbrev pub refusal_of : Faults → Fault → Option AddFault
-refusal_of f x = if is_loop x then Some Same else refusal_at (value_at f x) (value_of x) (count_of f)
+-- what comes first against adding a fault of a machine
+abbrev pub refusal_of : Shape → Faults → Fault → Option AddFault
+refusal_of m f x = if is_loop x then Some Same else refusal_at (most_faults m) (value_at f x) (value_of x) (count_of f)
 
 -- a refusal is that one; of a lack of memory nothing is said
 abbrev pub IsRefusal : Option AddFault → AddFault → Type 0
 IsRefusal why Memory = Unit {0}
 IsRefusal why given = why ≡ Some given
 
--- what holds of every set: it is of its machine, has a bridge's lower wire first, and keeps the limit
+-- what holds of every set: it is of its machine, has a bridge's lower wire first, and keeps its machine's limit
 pub record IsFaultSet (s : Faulty) : Type 0 where
   pub faults : AreFaultsOf s.shape s.faults
   pub lower_first : (a b : ℕ) → is_bridge s.faults (a, b) ≡ true → a < b
-  pub few : count_of s.faults ≤ 65536
+  pub few : count_of s.faults ≤ most_faults s.shape

@@ -1,11 +1,11 @@
 -- Which fault a text has, and where.
 use Rattle.std.specs.Prelude.{ℕ, ◌≡◌, ◌≢◌, ◌⊎◌, ◌<◌, ◌≤◌, true, false, Some, None, List, [], ◌∷◌, ◌++◌, length, map, Result, Ok, Err}
 use Rattle.machine_shape.specs.declared.Shape.{Shape}
-use Rattle.machine_shape.specs.Vocabulary.{wires_of, crosses_of, wire_name}
+use Rattle.machine_shape.specs.Vocabulary.{wires_of, crosses_of, wire_name, most_text}
 use Rattle.machine_meaning.specs.Faults.{Faults}
 use Rattle.base_text.specs.declared.lines.LineFault.{LineFault}
 use Rattle.base_text.specs.declared.lines.LineFault.TheVariants as line
-use Rattle.base_text.specs.Vocabulary.{LogicalLine, logical_lines, is_bad_line, most_bytes}
+use Rattle.base_text.specs.Vocabulary.{LogicalLine, logical_lines, is_bad_line}
 use Rattle.machine_faults.specs.declared.fault.Fault.{Fault}
 use Rattle.machine_faults.specs.declared.fault.AddFault.{AddFault}
 use Rattle.machine_faults.specs.declared.fault.AddFault.TheVariants as add
@@ -61,7 +61,7 @@ kind_of add.Memory = Limit
 pub data IsLineFault (m : Shape) (f : Faults) (l : LogicalLine) : FaultsKind → Type 0 where
   bad : is_bad_line l ≡ true → IsLineFault m f l Byte
   no_entry : {kind : FaultsKind} → is_bad_line l ≡ false → IsNoEntry m l.words kind → IsLineFault m f l kind
-  refused : (x : Fault) (why : AddFault) → is_bad_line l ≡ false → fault_words m x ≡ l.words → CanHave m x → refusal_of f x ≡ Some why →
+  refused : (x : Fault) (why : AddFault) → is_bad_line l ≡ false → fault_words m x ≡ l.words → CanHave m x → refusal_of m f x ≡ Some why →
       IsLineFault m f l (kind_of why)
 
 -- the first line that has a fault: those above it are entries
@@ -79,8 +79,8 @@ pub record IsFirstFault (m : Shape) (lines : List LogicalLine) (number : ℕ) (k
 -- too many bytes are a fault of the whole text
 abbrev pub IsFaultAt : Shape → List ℕ → ℕ → FaultsKind → Type 0
 IsFaultAt m bytes number kind =
-    ((most_bytes < length bytes) × (number ≡ 0) × (kind ≡ Limit))
-    ⊎ ((length bytes ≤ most_bytes) × IsFirstFault m (logical_lines false bytes) number kind)
+    ((most_text m < length bytes) × (number ≡ 0) × (kind ≡ Limit))
+    ⊎ ((length bytes ≤ most_text m) × IsFirstFault m (logical_lines false bytes) number kind)
 
 -- a text is refused for its first fault; of a lack of memory nothing is said
 abbrev pub IsRefusedAs : Shape → List ℕ → FaultsFault → Type 0
@@ -112,7 +112,7 @@ IsFirst m lines (At number kind) = IsFirstFault m lines number kind
 
 -- the fault that the line gives is added, or the line's fault is told
 abbrev pub Takes : Faulty → LogicalLine → Result (Unit {0}) FaultsFault → Faulty → Type 0
-Takes old l (Ok u) new = (x : Fault) × (fault_words old.shape x ≡ l.words) × CanHave old.shape x × (refusal_of old.faults x ≡ None)
+Takes old l (Ok u) new = (x : Fault) × (fault_words old.shape x ≡ l.words) × CanHave old.shape x × (refusal_of old.shape old.faults x ≡ None)
     × (new ≡ record { shape = old.shape; faults = with_fault old.faults x })
 Takes old l (Err Memory) new = Unit {0}
 Takes old l (Err (At number kind)) new = (number ≡ l.number) × IsLineFault old.shape old.faults l kind

@@ -47,7 +47,7 @@ with_all f (x ∷ xs) = with_all (with_fault f x) xs
 
 abbrev pub AreAdded : Shape → Faults → List Fault → Type 0
 AreAdded m f [] = Unit {0}
-AreAdded m f (x ∷ xs) = CanHave m x × (refusal_of f x ≡ None) × AreAdded m (with_fault f x) xs
+AreAdded m f (x ∷ xs) = CanHave m x × (refusal_of m f x ≡ None) × AreAdded m (with_fault f x) xs
 
 -- a text gives these faults of a machine: each of its lines is an entry, and these are all its entries
 pub record IsFaultText (m : Shape) (bytes : List ℕ) (f : Faults) : Type 0 where

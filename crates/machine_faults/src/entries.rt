@@ -9,12 +9,9 @@ ghost use Rattle.machine_faults.specs.Adding.{no_faults, with_fault, value_at, l
 ghost use Rattle.machine_faults.specs.Stored.{faults_in, Lists};
 
 use crate::fault::{AddFault, Fault};
-use machine_shape::Wire;
+use machine_shape::{Shape, Wire};
 use std::alloc::{AllocError, Global};
 use std::collections::{BTreeMap, BTreeSet};
-
-/// The most faults of a set.
-const MOST_FAULTS: u32 = 65_536;
 
 /// The entries of a fault set.
 #[derive(Debug, Drop)]
@@ -176,10 +173,10 @@ fn is_loop(f: Fault) -> bool
     }
 }
 
-/// What comes first against adding a fault to so many.
-pub fn refusal_of(entries: &Entries, count: u32, f: Fault) -> Option<AddFault>
+/// What comes first against adding a fault of a machine to so many.
+pub fn refusal_of(shape: &Shape, entries: &Entries, count: u32, f: Fault) -> Option<AddFault>
     requires { count ≡ count_of (faults_in entries.now) }
-    ensures { result ≡ refusal_of (faults_in entries.now) f }
+    ensures { result ≡ refusal_of shape.now (faults_in entries.now) f }
 {
     if is_loop(f) {
         return Some(AddFault::Same);
@@ -193,7 +190,7 @@ pub fn refusal_of(entries: &Entries, count: u32, f: Fault) -> Option<AddFault>
             }
         }
         None => {
-            if count < MOST_FAULTS {
+            if count < shape.most_faults() {
                 None
             } else {
                 Some(AddFault::Limit)

@@ -42,7 +42,7 @@ pub enum AddFault {
     Doubled,
     /// The other value is there for its wire, crosspoint, cell or register.
     Against,
-    /// There are 65,536 faults.
+    /// There are as many faults as a set of this machine may have.
     Limit,
     /// Memory is wanting.
     Memory,

@@ -23,7 +23,7 @@ pub enum FaultsKind {
     Doubled,
     /// The other value is there for this wire, crosspoint, cell or register.
     Against,
-    /// 65,536 entries stand before; or there are too many bytes, at line 0.
+    /// As many entries stand before as the machine's set may have; or there are too many bytes, at line 0.
     Limit,
 }
 

@@ -1,8 +1,9 @@
 //! Reads a fault set.
 
 ghost use Rattle.std.specs.Prelude.{◌≡◌, ◌<◌, ◌≤◌, false, length, IfOk, IfErr};
+ghost use Rattle.machine_shape.specs.Vocabulary.{most_text};
 ghost use Rattle.machine_meaning.specs.Faults.{Faults};
-ghost use Rattle.base_text.specs.Vocabulary.{logical_lines, is_bad_line, most_bytes};
+ghost use Rattle.base_text.specs.Vocabulary.{logical_lines, is_bad_line};
 ghost use Rattle.machine_faults.specs.Text.{IsFaultText};
 ghost use Rattle.machine_faults.specs.Refusals.{IsRefusedAs, GivesOrLacks, IsFirst, Takes, told_of, line_told};
 
@@ -10,7 +11,7 @@ use crate::fault::AddFault;
 use crate::kind::{FaultsFault, FaultsKind};
 use crate::line::entry_of;
 use crate::set::FaultSet;
-use base_text::{Line, LineFault, Lines, MOST_BYTES};
+use base_text::{Line, LineFault, Lines};
 use machine_shape::Shape;
 use std::alloc::Global;
 
@@ -83,18 +84,19 @@ fn read_lines(alloc: Global, shape: &Shape, bytes: &[u8]) -> Result<FaultSet, Fa
 
 /// The faults that a text gives, of a machine of this shape. It is refused at its first faulty line, and there for
 /// what comes first in the order of [`FaultsKind`]; for its limit, at line 0, where it has more than 16,777,216
-/// bytes, whatever they are.
+/// bytes, and of a machine that isn't small more than 1,073,741,824, whatever they are.
 pub fn read_faults(alloc: Global, shape: &Shape, bytes: &[u8]) -> Result<FaultSet, FaultsFault>
-    ensures found { IfOk result (λ s. (s.shape ≡ shape.now) × IsFaultText shape.now bytes.now s.faults × (length bytes.now ≤ most_bytes)) }
+    ensures found { IfOk result (λ s. (s.shape ≡ shape.now) × IsFaultText shape.now bytes.now s.faults × (length bytes.now ≤ most_text shape.now)) }
     ensures refused { IfErr result (IsRefusedAs shape.now bytes.now) }
     // A text of faults within the limit on bytes is read, unless memory is lacking.
-    ensures only { (f : Faults) → IsFaultText shape.now bytes.now f → length bytes.now ≤ most_bytes →
+    ensures only { (f : Faults) → IsFaultText shape.now bytes.now f → length bytes.now ≤ most_text shape.now →
         GivesOrLacks (record { shape = shape.now; faults = f }) result }
 {
     machine_shape::names_are_one_to_one();
     machine_shape::the_crosspoints_are_sound();
     machine_shape::the_numbering_is_sound();
-    if bytes.len() > MOST_BYTES {
+    let most = shape.most_text() as usize;
+    if bytes.len() > most {
         return Err(FaultsFault::At {
             line: 0,
             kind: FaultsKind::Limit,

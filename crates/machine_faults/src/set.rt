@@ -63,15 +63,16 @@ impl FaultSet {
         self.shape
     }
 
-    /// Adds a fault. Where it is refused, the set is as it was.
+    /// Adds a fault. A set has at most 65,536 of them, and on a machine that isn't small 16,777,216. Where it is refused,
+    /// the set is as it was.
     pub fn add(&mut self, f: Fault) -> Result<(), AddFault>
         requires { CanHave self.old.shape f }
         ensures ok { OnOk result (self.new ≡ record { shape = self.old.shape; faults = with_fault self.old.faults f }) }
-        ensures free { OnOk result (refusal_of self.old.faults f ≡ None) }
-        ensures refused { IfErr result (IsRefusal (refusal_of self.old.faults f)) }
+        ensures free { OnOk result (refusal_of self.old.shape self.old.faults f ≡ None) }
+        ensures refused { IfErr result (IsRefusal (refusal_of self.old.shape self.old.faults f)) }
         ensures err { OnErr result (self.new ≡ self.old) }
     {
-        if let Some(why) = entries::refusal_of(&self.entries, self.count, f) {
+        if let Some(why) = entries::refusal_of(&self.shape, &self.entries, self.count, f) {
             return Err(why);
         }
         entries::put(&mut self.entries, f)?;

@@ -4,8 +4,9 @@ ghost use Rattle.std.specs.Prelude.{◌≡◌, ◌≤◌, length, ◌++◌, ◌�
 ghost use Rattle.std.specs.Map.{keys_of};
 ghost use Rattle.std.specs.Ordering.{nat_cmp};
 ghost use Rattle.std.specs.List.Sorted.{IsStrictlySortedBy};
+ghost use Rattle.machine_shape.specs.Vocabulary.{most_text};
 ghost use Rattle.machine_meaning.specs.Faults.{pair_cmp};
-ghost use Rattle.base_text.specs.Vocabulary.{written, written_line, most_bytes};
+ghost use Rattle.base_text.specs.Vocabulary.{written, written_line};
 ghost use Rattle.machine_faults.specs.Adding.{CanHave};
 ghost use Rattle.machine_faults.specs.Stored.{kinds_in};
 ghost use Rattle.machine_faults.specs.Text.{fault_words, bit_word, IsFaultText};
@@ -199,12 +200,12 @@ fn put_faults(text: &mut Vec<u8>, shape: &Shape, faults: &[Fault]) -> Result<(),
 
 /// The text of a fault set, an entry a line: what is stuck at 0, at 1, open and closed, then cells, registers and
 /// bridges, each group ascending by number. Cells stand by their table, then their address; bridges, the lower wire
-/// first, by that wire, then the other. It has at most 16,777,216 bytes, and reading it gives the set again, unless
-/// memory is lacking.
+/// first, by that wire, then the other. It has no more bytes than are read of such a text, and reading it gives the set
+/// again, unless memory is lacking.
 pub fn faults_text(alloc: Global, set: &FaultSet) -> Result<Vec<u8>, AllocError>
     ensures text { IfOk result (λ text. IsWritten set.now.shape set.now.faults text.items) }
     ensures faults { IfOk result (λ text. IsFaultText set.now.shape text.items set.now.faults) }
-    ensures few { IfOk result (λ text. length text.items ≤ most_bytes) }
+    ensures few { IfOk result (λ text. length text.items ≤ most_text set.now.shape) }
 {
     machine_shape::names_are_one_to_one();
     machine_shape::the_crosspoints_are_sound();

@@ -1,9 +1,10 @@
 -- What stands behind the pins, and the whole.
 use Rattle.std.proofs.Common.{◌≡◌, ℕ, ◌+◌, ◌<◌, ◌≤◌, List, [], ◌++◌, length, take, drop, inr, refl, sym, ap, ◌∙◌, subst, arith, codes}
 use Rattle.std.specs.List.{flat_map}
+use Rattle.std.specs.FinSet as set_
 use Rattle.std.proofs.lemmas.List.{append_assoc, append-nil, drop_all, take-append-drop, length-take-le, length-drop}
 use Rattle.machine_shape.specs.declared.Shape.{Shape}
-use Rattle.machine_shape.specs.Shape.{tables_of, crosses_of}
+use Rattle.machine_shape.specs.Vocabulary.{tables_of, crosses_of, most_ticks, most_closed}
 use Rattle.machine_config.specs.Configuration.{Configuration, cleared, with_ticks}
 use Rattle.machine_image.specs.declared.kind.ImageKind.{ImageKind}
 use Rattle.machine_image.specs.declared.kind.ImageKind.TheVariants as kind
@@ -11,8 +12,9 @@ use Rattle.machine_image.specs.declared.kind.ImageFault.{ImageFault}
 use Rattle.machine_image.specs.declared.kind.ImageFault.TheVariants.{At, Memory}
 use Rattle.machine_image.specs.declared.read.Head.{Head}
 use Rattle.machine_image.specs.Vocabulary.{counts_of, most_fault, closed_fault, InEnd, InCrosses, InTables, InPins, InImage, IsField, IsRefusedField, FaultIn, Passed, IsImage, two, four, table_bytes, tables_on, closed_in, image_bytes, IsFirstImageFault, IsRefusedAs, Reads, IsHead, ArePins, TablesRead, CrossesRead, AreSettings, Bounds, head_bytes, settings_bytes}
-use Rattle.machine_image.proofs.Wrong.{closed_right}
+use Rattle.machine_image.proofs.Wrong.{closed_right, most_right}
 use Rattle.machine_image.proofs.Passing.{refused_in, passed_in, pass_field, pass_both}
+use Rattle.machine_image.proofs.Counted.{on_fits}
 use Rattle.machine_image.proofs.Whole.{one_spelling}
 use Rattle.machine_image.proofs.Faultless.{faultless}
 
@@ -47,10 +49,10 @@ module _ (m : Shape) (bytes : List ℕ) (start ticks : ℕ) where
       passed_tables : Passed bytes start at (two n ++ flat_map table_bytes (tables_on g1)) (λ l k. Whole l k) (λ l k. InTables m bytes l k at 0 0)
       passed_tables = pass_both passed_number (subst (λ z. TablesRead z bytes (start + 2) at n g1) shape0 read).passed
 
-      pub closed_refused : (f : ImageFault) → IsRefusedField 4 (closed_fault (crosses_of m)) bytes at f → FaultIn (λ l k. Whole l k) f
+      pub closed_refused : (f : ImageFault) → IsRefusedField 4 (closed_fault (most_closed m) (crosses_of m)) bytes at f → FaultIn (λ l k. Whole l k) f
       closed_refused f r = passed_in passed_tables f (refused_in (λ l k x. InCrosses m bytes l k (at + 4) x 0) f r)
 
-      module _ (c : ℕ) (closed : IsField 4 (closed_fault (crosses_of m)) bytes at c) where
+      module _ (c : ℕ) (closed : IsField 4 (closed_fault (most_closed m) (crosses_of m)) bytes at c) where
         passed_closed : Passed bytes start (at + 4) ((two n ++ flat_map table_bytes (tables_on g1)) ++ four c) (λ l k. Whole l k) (λ l k. InCrosses m bytes l k (at + 4) c 0)
         passed_closed = pass_both passed_tables (pass_field (at + 4) (λ l k x. InCrosses m bytes l k (at + 4) x 0) refl closed)
 
@@ -67,11 +69,18 @@ module _ (m : Shape) (bytes : List ℕ) (start ticks : ℕ) where
           same_on : tables_on g2 ≡ tables_on g1
           same_on = ap tables_on kept2
 
+          shape2 : g2.shape ≡ m
+          shape2 = ap (λ g. g.shape) kept2 ∙ shape1
+
+          on_len : length (tables_on g2) ≡ n
+          on_len = ap length same_on ∙ read.len
+
           pub settings_read : length bytes ≤ end → AreSettings m bytes start ticks g2
           settings_read h = record {
-            shape = ap (λ g. g.shape) kept2 ∙ shape1;
+            shape = shape2;
             ticks_are = ap (λ g. g.ticks) kept2 ∙ ap (λ g. g.ticks) kept ∙ ap (λ g. g.ticks) made;
-            few = omega (arith, crosses.few, (closed_right (crosses_of m) c closed.right).1);
+            few = subst (λ (z : Shape). set_.len g2.closed ≤ most_closed z) (sym shape2) (omega (arith, crosses.few, (closed_right (most_closed m) (crosses_of m) c closed.right).1));
+            few_on = subst (λ (z : Shape). length (tables_on g2) ≤ most_ticks z) (sym shape2) (on_fits m (length (tables_on g2)) (omega (arith, on_len, most_right (tables_of m) n number.right)) (omega (arith, on_len, number.stands.0)));
             text =
                 passed_crosses.text ∙ ap (λ r. (((two n ++ flat_map table_bytes (tables_on g1)) ++ four c) ++ flat_map four (closed_in g2)) ++ r) (drop_all end bytes h) ∙ append-nil _
                 ∙ append_assoc (two n ++ flat_map table_bytes (tables_on g1)) (four c) (flat_map four (closed_in g2))

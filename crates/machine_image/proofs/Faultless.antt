@@ -8,7 +8,7 @@ use Rattle.std.proofs.Math.Seq.{get_or-append_seam}
 use Rattle.std.proofs.lemmas.List.Folds.{list_any_none}
 use Rattle.byteorder.specs.Endian.{big_bytes}
 use Rattle.machine_shape.specs.declared.Shape.{Shape}
-use Rattle.machine_shape.specs.Shape.{pins_of, tables_of, crosses_of}
+use Rattle.machine_shape.specs.Vocabulary.{pins_of, tables_of, crosses_of, most_ticks, most_closed}
 use Rattle.machine_config.specs.declared.Setting.{Setting}
 use Rattle.machine_config.specs.Configuration.{CellsFit, is_closed, setting_of}
 use Rattle.machine_image.specs.declared.kind.ImageKind.{ImageKind}
@@ -77,7 +77,7 @@ module _ (m : Shape) (bytes : List ℕ) (l : ℕ) (k : ImageKind) where
       few_right : (n : ℕ) → n ≤ 3 → flags_fault n ≡ None
       few_right n h = grind (arith, nat_tests, h)
 
-  tables_right : tables_of m ≤ 4096 → (f : ℕ → Option Setting) → ((t : ℕ) → t < tables_of m → CellsFit (f t)) → (a n least : ℕ) → least ≤ a → a + n ≤ tables_of m → AreTablesRight least (flat_map (λ t. on_at t (f t)) (range_with_len a n))
+  tables_right : tables_of m ≤ 65536 → (f : ℕ → Option Setting) → ((t : ℕ) → t < tables_of m → CellsFit (f t)) → (a n least : ℕ) → least ≤ a → a + n ≤ tables_of m → AreTablesRight least (flat_map (λ t. on_at t (f t)) (range_with_len a n))
   tables_right few f fit a zero least h u = tt
   tables_right few f fit a (suc n) least h u = by_piece (f a) (fit a (omega (arith, u))) (λ z hz. tables_right few f fit (a + 1) n z (omega (arith, hz)) (omega (arith, u)))
     where
@@ -98,7 +98,7 @@ module _ (m : Shape) (bytes : List ℕ) (l : ℕ) (k : ImageKind) where
       let r = pass x (flat_map four xs ++ more) (omega arith) (omega (arith, right.1.0)) (text ∙ append_assoc (four x) (flat_map four xs) more) right.0 fault in
       pass_crosses xs (suc x) (at + 4) more right.1.1 r.1 r.0
 
-  crosses_right : crosses_of m ≤ 4194304 → (f : ℕ → Bool) (a n least : ℕ) → least ≤ a → a + n ≤ crosses_of m → AreCrossesRight least (flat_map (λ x. if f x then x ∷ [] else []) (range_with_len a n))
+  crosses_right : crosses_of m ≤ 268435456 → (f : ℕ → Bool) (a n least : ℕ) → least ≤ a → a + n ≤ crosses_of m → AreCrossesRight least (flat_map (λ x. if f x then x ∷ [] else []) (range_with_len a n))
   crosses_right few f a zero least h u = tt
   crosses_right few f a (suc n) least h u = by_piece (f a) (λ z hz. crosses_right few f (a + 1) n z (omega (arith, hz)) (omega (arith, u)))
     where
@@ -120,14 +120,14 @@ module _ (i : ImageValue) (t : IsImage i) (b : Bounds i.config.shape) (bytes : L
       let m = i.config.shape in
       let p1 = pass magic (flat_map two (counts_of m) ++ tail i) (omega arith) (omega arith) (sym text) refl fault in
       let p2 = pass_counts m bytes l k (counts_of m) 8 (tail i) (each_of (λ n. n < 65536) Small (λ n h. h) (counts_of m) b.counts) p1.1 p1.0 in
-      let p3 = pass i.config.ticks _ (omega arith) (omega (arith, t.config.few_ticks)) p2.2 (ticks_fine i.config.ticks t.config.some_ticks t.config.few_ticks) p2.1 in
+      let p3 = pass i.config.ticks _ (omega arith) (omega (arith, t.config.few_ticks, b.ticks)) p2.2 (ticks_fine (most_ticks m) i.config.ticks t.config.some_ticks t.config.few_ticks) p2.1 in
       let p4 = pass (length i.inputs) _ (omega arith) (omega (arith, few_pins i t b)) p3.1 refl p3.0 in
       let p5 = pass (length i.outputs) _ (omega arith) (omega (arith, few_pins i t b)) (moved p2.0 2 2 4 (omega arith) p4.1) refl p4.0 in
       let p6 = pass_pins m bytes l k (i.inputs ++ i.outputs) [] (p2.0 + 6) _ (pins_right m bytes l k b.pins (i.inputs ++ i.outputs) [] t.within t.apart) (moved p2.0 4 2 6 (omega arith) p5.1)
       (subst (λ z. InPins m bytes l k (p2.0 + 6) z []) (sym (length-append i.inputs i.outputs)) p5.0) in
       let p7 = pass (length (tables_on i.config)) _ (omega arith) (omega (arith, few_on i t b)) p6.2 (most_fine (tables_of m) (length (tables_on i.config)) (on_within i)) p6.1 in
       let p8 = pass_tables m bytes l k (tables_on i.config) 0 (p6.0 + 2) _ (tables_right m bytes l k b.tables (λ x. setting_of i.config x) (λ x h. t.config.cells x None (omega (arith, h, t.config.tables))) 0 (tables_of m) 0 (omega arith) (omega arith)) p7.1 p7.0 in
-      let p9 = pass {B = λ n. InCrosses m bytes l k (p8.0 + 4) n 0} {at = p8.0} (length (closed_in i.config)) _ (omega arith) (omega (arith, few_closed i t b)) p8.2 (closed_fine (crosses_of m) (length (closed_in i.config)) (closed_within i) (omega (arith, closed_few i, t.few))) p8.1 in
+      let p9 = pass {B = λ n. InCrosses m bytes l k (p8.0 + 4) n 0} {at = p8.0} (length (closed_in i.config)) _ (omega arith) (omega (arith, few_closed i t b)) p8.2 (closed_fine (most_closed m) (crosses_of m) (length (closed_in i.config)) (closed_within i) (omega (arith, closed_few i, t.few))) p8.1 in
       let p10 = pass_crosses m bytes l k (closed_in i.config) 0 (p8.0 + 4) [] (crosses_right m bytes l k b.crosses (λ x. is_closed i.config x) 0 (crosses_of m) 0 (omega arith) (omega arith)) (with_end (p8.0 + 4) (flat_map four (closed_in i.config)) p9.1) p9.0 in
       at_end m bytes l k p10.0 p10.1 p10.2
     where
@@ -137,11 +137,11 @@ module _ (i : ImageValue) (t : IsImage i) (b : Bounds i.config.shape) (bytes : L
       with_end : (at : ℕ) (xs : List ℕ) → drop at bytes ≡ xs → drop at bytes ≡ xs ++ []
       with_end at xs e = e ∙ sym (append-nil xs)
 
-      ticks_fine : (n : ℕ) → 1 ≤ n → n ≤ 4096 → ticks_fault n ≡ None
-      ticks_fine n h u = grind (arith, nat_tests, h, u)
+      ticks_fine : (most n : ℕ) → 1 ≤ n → n ≤ most → ticks_fault most n ≡ None
+      ticks_fine most n h u = grind (arith, nat_tests, h, u)
 
-      closed_fine : (most n : ℕ) → n ≤ most → n ≤ 1048576 → closed_fault most n ≡ None
-      closed_fine most n h u = grind (arith, nat_tests, h, u)
+      closed_fine : (most crosses n : ℕ) → n ≤ crosses → n ≤ most → closed_fault most crosses n ≡ None
+      closed_fine most crosses n h u = grind (arith, nat_tests, h, u)
 
       most_fine : (most n : ℕ) → n ≤ most → most_fault most n ≡ None
       most_fine most n h = grind (arith, nat_tests, h)

@@ -4,7 +4,7 @@ use Rattle.std.specs.List.{flat_map}
 use Rattle.byteorder.specs.Endian.{big_bytes}
 use Rattle.machine_shape.specs.declared.Shape.{Shape}
 use Rattle.machine_shape.specs.declared.Counts.{Counts}
-use Rattle.machine_shape.specs.Shape.{tables_of}
+use Rattle.machine_shape.specs.Vocabulary.{tables_of, most_ticks}
 use Rattle.machine_image.specs.declared.kind.ImageKind.{ImageKind}
 use Rattle.machine_image.specs.declared.kind.ImageFault.{ImageFault}
 use Rattle.machine_image.specs.Vocabulary.{Stands, counts_of, no_fault, magic_fault, ticks_fault, above_fault, flags_fault, InField, InTicks, InCounts, InPins, InTables, InImage, IsCut, IsField, IsRefusedField, FaultIn, Passed, two, IsHead, IsTable}
@@ -59,10 +59,10 @@ module _ (m : Shape) (bytes : List ℕ) where
     counts_refused f r = passed_in (passed_magic n magic_is) f r
 
     module _ (at : ℕ) (counts : Passed bytes 8 at (flat_map two (counts_of m)) (λ l k. InCounts m bytes l k 8 (counts_of m)) (λ l k. InTicks m bytes l k at)) where
-      pub ticks_refused : (f : ImageFault) → IsRefusedField 2 ticks_fault bytes at f → FaultIn (λ l k. InImage m bytes l k) f
+      pub ticks_refused : (f : ImageFault) → IsRefusedField 2 (ticks_fault (most_ticks m)) bytes at f → FaultIn (λ l k. InImage m bytes l k) f
       ticks_refused f r = passed_in (pass_both (passed_magic n magic_is) counts) f (refused_in (λ l k _. InInputs l k at) f r)
 
-      module _ (ticks : ℕ) (ticks_are : IsField 2 ticks_fault bytes at ticks) where
+      module _ (ticks : ℕ) (ticks_are : IsField 2 (ticks_fault (most_ticks m)) bytes at ticks) where
         passed_ticks : Passed bytes at (at + 2) (two ticks) (λ l k. InTicks m bytes l k at) (λ l k. InInputs l k at)
         passed_ticks = pass_field (at + 2) (λ l k _. InInputs l k at) refl ticks_are
 
@@ -78,8 +78,8 @@ module _ (m : Shape) (bytes : List ℕ) where
 
           pub head_read : (outputs : ℕ) → IsField 2 no_fault bytes (at + 4) outputs → IsHead m bytes (record { ticks = ticks; inputs = inputs; outputs = outputs; at = at + 6 })
           head_read outputs outputs_are = record {
-            some = (ticks_right ticks ticks_are.right).0;
-            few = (ticks_right ticks ticks_are.right).1;
+            some = (ticks_right (most_ticks m) ticks ticks_are.right).0;
+            few = (ticks_right (most_ticks m) ticks ticks_are.right).1;
             passed = pass_both (passed_magic n magic_is) (pass_both counts (pass_both passed_ticks (pass_both passed_inputs (pass_field (at + 6) (λ l k x. InPins m bytes l k (at + 6) (inputs + x) []) (omega arith) outputs_are))));
           }
 

@@ -1,4 +1,5 @@
 -- What is cited above.
+pub mod Counted
 pub mod Driven
 pub mod FreeWires
 pub mod Keyed
@@ -10,7 +11,6 @@ mod Passing
 mod Growing
 mod Steps
 mod Heads
-mod Counted
 mod Whole
 mod Faultless
 mod Ends

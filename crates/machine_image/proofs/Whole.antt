@@ -244,10 +244,10 @@ module _ (i : ImageValue) (t : IsImage i) (b : Bounds i.config.shape) where
   pub small_pins : Each Small (i.inputs ++ i.outputs)
   small_pins = each_of (λ k. k < pins_of i.config.shape) Small (λ x h. omega (arith, h, b.pins)) (i.inputs ++ i.outputs) t.within
 
-  pub few_on : length (tables_on i.config) ≤ 4096
-  few_on = omega (arith, few_flat (λ t. on_at t (setting_of i.config t)) 0 (tables_of i.config.shape) (λ t. one_long t (setting_of i.config t)), b.tables)
+  pub few_on : length (tables_on i.config) ≤ 65535
+  few_on = omega (arith, t.few_on, b.ticks)
 
-  pub few_closed : length (closed_in i.config) ≤ 4194304
+  pub few_closed : length (closed_in i.config) ≤ 268435456
   few_closed = omega (arith, few_flat (λ x. if is_closed i.config x then x ∷ [] else []) 0 (crosses_of i.config.shape) (λ x. closed_long x (is_closed i.config x)), b.crosses)
 
   pub fit_tables : Each Fits (tables_on i.config)
@@ -308,7 +308,7 @@ module _ (i j : ImageValue) (ti : IsImage i) (tj : IsImage j) (same : j.config.s
   unfolding image_bytes
   one_spelling e =
       let t0 : tail i ≡ tail j = cancel (flat_map two (counts_of i.config.shape)) (tail i) (tail j) (cancel (codes "TERAIMG1") _ _ (e ∙ ap (λ z. codes "TERAIMG1" ++ (flat_map two (counts_of z) ++ tail j)) same)) in
-      let t1 = same_bytes 2 i.config.ticks j.config.ticks _ _ (omega (arith, ti.config.few_ticks)) (omega (arith, tj.config.few_ticks)) t0 in
+      let t1 = same_bytes 2 i.config.ticks j.config.ticks _ _ (omega (arith, ti.config.few_ticks, b.ticks)) (omega (arith, tj.config.few_ticks, bj.ticks)) t0 in
       let t2 = same_bytes 2 (length i.inputs) (length j.inputs) _ _ (omega (arith, few_pins i ti b)) (omega (arith, few_pins j tj bj)) t1.1 in
       let t3 = same_bytes 2 (length i.outputs) (length j.outputs) _ _ (omega (arith, few_pins i ti b)) (omega (arith, few_pins j tj bj)) t2.1 in
       let t4 = same_lists two Small cut_two (i.inputs ++ i.outputs) (j.inputs ++ j.outputs) _ _ (omega (arith, t2.0, t3.0, length-append i.inputs i.outputs, length-append j.inputs j.outputs)) (small_pins i ti b) (small_pins j tj bj) t3.1 in

@@ -11,20 +11,20 @@ magic_wrong n h = grind (arith, nat_tests, h)
 pub count_wrong : (due n : ℕ) → n ≢ due → count_fault due n ≡ Some kind.Shape
 count_wrong due n h = grind (arith, nat_tests, h)
 
-pub no_ticks : (n : ℕ) → n ≡ 0 → ticks_fault n ≡ Some kind.Range
-no_ticks n h = grind (arith, nat_tests, h)
+pub no_ticks : (most n : ℕ) → n ≡ 0 → ticks_fault most n ≡ Some kind.Range
+no_ticks most n h = grind (arith, nat_tests, h)
 
-pub many_ticks : (n : ℕ) → 4096 < n → ticks_fault n ≡ Some kind.Range
-many_ticks n h = grind (arith, nat_tests, h)
+pub many_ticks : (most n : ℕ) → most < n → ticks_fault most n ≡ Some kind.Range
+many_ticks most n h = grind (arith, nat_tests, h)
 
 pub most_wrong : (most n : ℕ) → most < n → most_fault most n ≡ Some kind.Range
 most_wrong most n h = grind (arith, nat_tests, h)
 
-pub many_closed : (crosses n : ℕ) → crosses < n → closed_fault crosses n ≡ Some kind.Range
-many_closed crosses n h = grind (arith, nat_tests, h)
+pub many_closed : (most crosses n : ℕ) → crosses < n → closed_fault most crosses n ≡ Some kind.Range
+many_closed most crosses n h = grind (arith, nat_tests, h)
 
-pub too_many_closed : (crosses n : ℕ) → 1048576 < n → closed_fault crosses n ≡ Some kind.Range
-too_many_closed crosses n h = grind (arith, nat_tests, h)
+pub too_many_closed : (most crosses n : ℕ) → most < n → closed_fault most crosses n ≡ Some kind.Range
+too_many_closed most crosses n h = grind (arith, nat_tests, h)
 
 pub not_below : (count least n : ℕ) → count ≤ n → above_fault count least n ≡ Some kind.Range
 not_below count least n h = grind (arith, nat_tests, h)
@@ -46,14 +46,14 @@ magic_right n h = grind (arith, nat_tests, h)
 pub count_right : (due n : ℕ) → count_fault due n ≡ None → n ≡ due
 count_right due n h = grind (arith, nat_tests, h)
 
-pub ticks_right : (n : ℕ) → ticks_fault n ≡ None → (1 ≤ n) × (n ≤ 4096)
-ticks_right n h = grind (arith, nat_tests, h)
+pub ticks_right : (most n : ℕ) → ticks_fault most n ≡ None → (1 ≤ n) × (n ≤ most)
+ticks_right most n h = grind (arith, nat_tests, h)
 
 pub most_right : (most n : ℕ) → most_fault most n ≡ None → n ≤ most
 most_right most n h = grind (arith, nat_tests, h)
 
-pub closed_right : (crosses n : ℕ) → closed_fault crosses n ≡ None → (n ≤ crosses) × (n ≤ 1048576)
-closed_right crosses n h = grind (arith, nat_tests, h)
+pub closed_right : (most crosses n : ℕ) → closed_fault most crosses n ≡ None → (n ≤ crosses) × (n ≤ most)
+closed_right most crosses n h = grind (arith, nat_tests, h)
 
 pub above_right : (count least n : ℕ) → above_fault count least n ≡ None → (n < count) × (least ≤ n)
 above_right count least n h = grind (arith, nat_tests, h)

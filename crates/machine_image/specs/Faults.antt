@@ -5,7 +5,7 @@ use Rattle.std.specs.Prelude.{drop, codes, Option, Some, None}
 use Rattle.std.specs.List.{list_any}
 use Rattle.byteorder.specs.Endian.{big_bytes, big_number}
 use Rattle.machine_shape.specs.declared.Shape.{Shape}
-use Rattle.machine_shape.specs.Shape.{pins_of, tables_of, crosses_of}
+use Rattle.machine_shape.specs.Vocabulary.{pins_of, tables_of, crosses_of, most_ticks, most_closed}
 use Rattle.machine_image.specs.declared.kind.ImageKind.{ImageKind}
 use Rattle.machine_image.specs.declared.kind.ImageKind.TheVariants as kind
 
@@ -37,17 +37,17 @@ magic_fault n = if n == magic then None else Some kind.Magic
 abbrev pub count_fault : ℕ → ℕ → Option ImageKind
 count_fault count n = if n == count then None else Some kind.Shape
 
--- ticks are 1 to 4,096
-abbrev pub ticks_fault : ℕ → Option ImageKind
-ticks_fault n = if nat_lt 0 n && nat_le n 4096 then None else Some kind.Range
+-- ticks are 1 to this many
+abbrev pub ticks_fault : ℕ → ℕ → Option ImageKind
+ticks_fault most n = if nat_lt 0 n && nat_le n most then None else Some kind.Range
 
 -- a number is at most this one
 abbrev pub most_fault : ℕ → ℕ → Option ImageKind
 most_fault most n = if nat_le n most then None else Some kind.Range
 
--- no more crosspoints are closed than the machine has, and than 1,048,576
-abbrev pub closed_fault : ℕ → ℕ → Option ImageKind
-closed_fault crosses n = if nat_le n crosses && nat_le n 1048576 then None else Some kind.Range
+-- no more crosspoints are closed than the machine has, and than an image may close
+abbrev pub closed_fault : (most crosses : ℕ) → ℕ → Option ImageKind
+closed_fault most crosses n = if nat_le n crosses && nat_le n most then None else Some kind.Range
 
 -- a pin is one of so many, and none of those before it
 abbrev pub pin_fault : ℕ → List ℕ → ℕ → Option ImageKind
@@ -75,7 +75,7 @@ InCrosses m bytes line fault at (suc left) least =
 -- so many switched-on tables, ascending, each with its number, its flags and its cells; and the number of crosspoints
 abbrev pub InTables : Shape → List ℕ → ℕ → ImageKind → (at left least : ℕ) → Type 0
 InTables m bytes line fault at zero least =
-    InField bytes line fault at 4 (closed_fault (crosses_of m)) (λ n. InCrosses m bytes line fault (at + 4) n 0)
+    InField bytes line fault at 4 (closed_fault (most_closed m) (crosses_of m)) (λ n. InCrosses m bytes line fault (at + 4) n 0)
 InTables m bytes line fault at (suc left) least =
     InField bytes line fault at 2 (above_fault (tables_of m) least) (λ t.
     InField bytes line fault (at + 2) 1 flags_fault (λ _.
@@ -92,7 +92,7 @@ InPins m bytes line fault at (suc left) before =
 -- ticks, and the numbers of inputs and of outputs
 abbrev pub InTicks : Shape → List ℕ → ℕ → ImageKind → ℕ → Type 0
 InTicks m bytes line fault at =
-    InField bytes line fault at 2 ticks_fault (λ _.
+    InField bytes line fault at 2 (ticks_fault (most_ticks m)) (λ _.
     InField bytes line fault (at + 2) 2 no_fault (λ inputs.
     InField bytes line fault (at + 4) 2 no_fault (λ outputs.
     InPins m bytes line fault (at + 6) (inputs + outputs) [])))

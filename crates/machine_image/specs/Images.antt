@@ -6,7 +6,7 @@ use Rattle.std.specs.FinSet as set
 use Rattle.std.specs.Coded.{Coded, code_by, coded×, coded_ℕ, coded_list}
 use Rattle.byteorder.specs.Endian.{big_bytes}
 use Rattle.machine_shape.specs.declared.Shape.{Shape}
-use Rattle.machine_shape.specs.Shape.{pins_of, tables_of, crosses_of}
+use Rattle.machine_shape.specs.Vocabulary.{pins_of, tables_of, crosses_of, most_ticks, most_closed}
 use Rattle.machine_meaning.specs.Circuit.{Pins}
 use Rattle.machine_config.specs.declared.Setting.{Setting}
 use Rattle.machine_config.specs.Configuration.{Configuration, IsConfiguration, coded_configuration, is_closed, setting_of}
@@ -21,13 +21,27 @@ pub record ImageValue : Type 0 where
   pub inputs : List ℕ
   pub outputs : List ℕ
 
+-- a table with its setting, where it is on
+abbrev pub on_at : ℕ → Option Setting → List (ℕ × Setting)
+on_at t None = []
+on_at t (Some s) = (t, s) ∷ []
+
+-- the switched-on tables with their settings, ascending
+abbrev pub tables_on : Configuration → List (ℕ × Setting)
+tables_on g = flat_map (λ t. on_at t (setting_of g t)) (range_with_len 0 (tables_of g.shape))
+
+-- the closed crosspoints, ascending
+abbrev pub closed_in : Configuration → List ℕ
+closed_in g = flat_map (λ x. if is_closed g x then x ∷ [] else []) (range_with_len 0 (crosses_of g.shape))
+
 -- What is set is of the machine. The pins are pins of the machine, each named once over both
--- lists, and no more than 1,048,576 crosspoints are closed.
+-- lists, and no more crosspoints are closed and tables on than an image of this machine may have.
 pub record IsImage (i : ImageValue) : Type 0 where
   pub config : IsConfiguration i.config
   pub within : All (λ k. k < pins_of i.config.shape) (i.inputs ++ i.outputs)
   pub apart : AllPairs (λ j k. j ≢ k) (i.inputs ++ i.outputs)
-  pub few : set.len i.config.closed ≤ 1048576
+  pub few : set.len i.config.closed ≤ most_closed i.config.shape
+  pub few_on : length (tables_on i.config) ≤ most_ticks i.config.shape
 
 -- codes, by which a proof tells these values apart
 abbrev pub coded_image : Coded ImageValue
@@ -64,19 +78,6 @@ two n = big_bytes 2 n
 
 abbrev pub four : ℕ → List ℕ
 four n = big_bytes 4 n
-
--- a table with its setting, where it is on
-abbrev pub on_at : ℕ → Option Setting → List (ℕ × Setting)
-on_at t None = []
-on_at t (Some s) = (t, s) ∷ []
-
--- the switched-on tables with their settings, ascending
-abbrev pub tables_on : Configuration → List (ℕ × Setting)
-tables_on g = flat_map (λ t. on_at t (setting_of g t)) (range_with_len 0 (tables_of g.shape))
-
--- the closed crosspoints, ascending
-abbrev pub closed_in : Configuration → List ℕ
-closed_in g = flat_map (λ x. if is_closed g x then x ∷ [] else []) (range_with_len 0 (crosses_of g.shape))
 
 -- bit 0 is latched, bit 1 the initial bit
 abbrev pub flags_of : Setting → ℕ

@@ -3,7 +3,7 @@ use Rattle.std.specs.Prelude.{◌≡◌, ◌≢◌, ℕ, suc, ◌+◌, ◌<◌, 
 use Rattle.std.specs.List.{flat_map}
 use Rattle.std.specs.FinSet as set
 use Rattle.machine_shape.specs.declared.Shape.{Shape}
-use Rattle.machine_shape.specs.Shape.{pins_of, tables_of, crosses_of}
+use Rattle.machine_shape.specs.Vocabulary.{pins_of, tables_of, crosses_of, most_ticks, most_closed}
 use Rattle.machine_config.specs.declared.Setting.{Setting}
 use Rattle.machine_config.specs.Configuration.{Configuration, is_closed, setting_of}
 use Rattle.machine_image.specs.declared.read.Head.{Head}
@@ -18,7 +18,7 @@ head_bytes m ticks inputs outputs =
 
 pub record IsHead (m : Shape) (bytes : List ℕ) (h : Head) : Type 0 where
   pub some : 1 ≤ h.ticks
-  pub few : h.ticks ≤ 4096
+  pub few : h.ticks ≤ most_ticks m
   pub passed : Passed bytes 0 h.at (head_bytes m h.ticks h.inputs h.outputs) (λ l k. InImage m bytes l k)
       (λ l k. InPins m bytes l k h.at (h.inputs + h.outputs) [])
 
@@ -64,7 +64,8 @@ settings_bytes g =
 pub record AreSettings (m : Shape) (bytes : List ℕ) (at ticks : ℕ) (g : Configuration) : Type 0 where
   pub shape : g.shape ≡ m
   pub ticks_are : g.ticks ≡ ticks
-  pub few : set.len g.closed ≤ 1048576
+  pub few : set.len g.closed ≤ most_closed g.shape
+  pub few_on : length (tables_on g) ≤ most_ticks g.shape
   pub text : drop at bytes ≡ settings_bytes g
 
 -- a table was read
@@ -77,5 +78,6 @@ pub record IsTable (m : Shape) (bytes : List ℕ) (at least t : ℕ) (s : Settin
 pub record Bounds (m : Shape) : Type 0 where
   pub counts : All (λ n. n < 65536) (counts_of m)
   pub pins : pins_of m ≤ 16384
-  pub tables : tables_of m ≤ 4096
-  pub crosses : crosses_of m ≤ 4194304
+  pub tables : tables_of m ≤ 65536
+  pub crosses : crosses_of m ≤ 268435456
+  pub ticks : most_ticks m ≤ 65535

@@ -13,12 +13,6 @@ use crate::kind::{ImageFault, ImageKind};
 /// `TERAIMG1`.
 pub const MAGIC: u64 = 0x5445_5241_494D_4731;
 
-/// The most ticks of a cycle.
-const MOST_TICKS: u16 = 4_096;
-
-/// The most closed crosspoints of an image.
-const MOST_CLOSED: u32 = 1_048_576;
-
 /// The field at a place has a fault of this kind.
 pub fn fault_at(at: usize, kind: ImageKind) -> ImageFault
     ensures { result ≡ At at kind }
@@ -55,15 +49,15 @@ pub fn count(bytes: &[u8], at: usize, due: u16) -> Result<u16, ImageFault>
     }
 }
 
-/// The number of ticks.
-pub fn ticks(bytes: &[u8], at: usize) -> Result<u16, ImageFault>
+/// The number of ticks, of which there may be so many.
+pub fn ticks(bytes: &[u8], at: usize, most: u16) -> Result<u16, ImageFault>
     requires { at ≤ length bytes.now }
-    ensures found { IfOk result (IsField 2 ticks_fault bytes.now at) }
-    ensures refused { IfErr result (IsRefusedField 2 ticks_fault bytes.now at) }
+    ensures found { IfOk result (IsField 2 (ticks_fault most) bytes.now at) }
+    ensures refused { IfErr result (IsRefusedField 2 (ticks_fault most) bytes.now at) }
 {
     match take2(bytes, at) {
         Ok(0) => Err(fault_at(at, ImageKind::Range)),
-        Ok(n) if n > MOST_TICKS => Err(fault_at(at, ImageKind::Range)),
+        Ok(n) if n > most => Err(fault_at(at, ImageKind::Range)),
         Ok(n) => Ok(n),
         Err(fault) => Err(fault),
     }
@@ -82,15 +76,15 @@ pub fn how_many_tables(bytes: &[u8], at: usize, tables: u32) -> Result<u16, Imag
     }
 }
 
-/// The number of closed crosspoints.
-pub fn how_many_closed(bytes: &[u8], at: usize, crosses: u32) -> Result<u32, ImageFault>
+/// The number of closed crosspoints, of which there are and may be so many.
+pub fn how_many_closed(bytes: &[u8], at: usize, most: u32, crosses: u32) -> Result<u32, ImageFault>
     requires { at ≤ length bytes.now }
-    ensures found { IfOk result (IsField 4 (closed_fault crosses) bytes.now at) }
-    ensures refused { IfErr result (IsRefusedField 4 (closed_fault crosses) bytes.now at) }
+    ensures found { IfOk result (IsField 4 (closed_fault most crosses) bytes.now at) }
+    ensures refused { IfErr result (IsRefusedField 4 (closed_fault most crosses) bytes.now at) }
 {
     match take4(bytes, at) {
         Ok(n) if n > crosses => Err(fault_at(at, ImageKind::Range)),
-        Ok(n) if n > MOST_CLOSED => Err(fault_at(at, ImageKind::Range)),
+        Ok(n) if n > most => Err(fault_at(at, ImageKind::Range)),
         Ok(n) => Ok(n),
         Err(fault) => Err(fault),
     }

@@ -1,15 +1,16 @@
 //! Images.
 
-ghost use Rattle.std.specs.Prelude.{◌≡◌, ◌≢◌, ◌<◌, ◌≤◌, ◌++◌, All, AllPairs};
+ghost use Rattle.std.specs.Prelude.{◌≡◌, ◌≢◌, ◌<◌, ◌≤◌, ◌++◌, length, All, AllPairs};
 ghost use Rattle.std.specs.FinSet as set;
-ghost use Rattle.machine_shape.specs.Shape.{pins_of};
-ghost use Rattle.machine_image.specs.Images.{IsImage};
+ghost use Rattle.machine_shape.specs.Vocabulary.{pins_of, most_ticks, most_closed};
+ghost use Rattle.machine_image.specs.Images.{IsImage, tables_on};
 
 use machine_config::Config;
 use std::marker::Model;
 
 /// A configuration with its input pins and its output pins. They are pins of the machine, each named once over both
-/// lists; what is set is of the machine, and at most 1,048,576 crosspoints are closed.
+/// lists; what is set is of the machine, and no more crosspoints are closed and tables on than an image of the machine may
+/// have: 1,048,576 and 4,096, and of a machine that isn't small 3,670,016 and 65,535.
 #[derive(Drop)]
 pub struct Image {
     config: Config,
@@ -34,7 +35,8 @@ impl Image {
     pub fn new(config: Config, inputs: Vec<u32>, outputs: Vec<u32>) -> Image
         requires within { All (λ k. k < pins_of config.config.shape) (inputs.items ++ outputs.items) }
         requires apart { AllPairs (λ j k. j ≢ k) (inputs.items ++ outputs.items) }
-        requires few { set.len config.config.closed ≤ 1048576 }
+        requires few { set.len config.config.closed ≤ most_closed config.config.shape }
+        requires few_on { length (tables_on config.config) ≤ most_ticks config.config.shape }
         ensures value { result ≡ record { config = config.config; inputs = inputs.items; outputs = outputs.items } }
         ensures right { IsImage result }
     {

@@ -3,7 +3,7 @@
 ghost use Rattle.std.specs.Prelude.{◌≡◌, ◌≤◌, ◌<◌, ◌+◌, ℕ, suc, [], length, false, None, IfOk, IfErr, OnOk, All};
 ghost use Rattle.std.specs.List.{flat_map};
 ghost use Rattle.std.specs.FinSet as set;
-ghost use Rattle.machine_shape.specs.Shape.{tables_of};
+ghost use Rattle.machine_shape.specs.Vocabulary.{tables_of, most_ticks};
 ghost use Rattle.machine_config.specs.Configuration.{is_closed, setting_of};
 ghost use Rattle.machine_image.specs.Faults.{counts_of, InTicks, InCounts, InPins, InTables, InCrosses, InImage};
 ghost use Rattle.machine_image.specs.Fields.{FaultIn, Passed};
@@ -55,10 +55,10 @@ pub fn limits_of(shape: &Shape)
 {
     let counts = counts_of(shape);
     are_small(&counts);
-    let _wires = shape.wires();
     let _pins = shape.pins();
     let _tables = shape.tables();
     let _crosses = shape.crosses();
+    machine_shape::limits_are_high();
 }
 
 /// Reads the counts, and answers the place behind them.
@@ -92,7 +92,7 @@ fn read_head(bytes: &[u8], shape: &Shape) -> Result<Head, ImageFault>
         Ok(at) => at,
         Err(fault) => return Err(fault),
     };
-    let ticks = match ticks(bytes, at) {
+    let ticks = match ticks(bytes, at, shape.most_ticks()) {
         Ok(ticks) => ticks,
         Err(fault) => return Err(fault),
     };
@@ -151,7 +151,7 @@ fn read_table(
 ) -> Result<(Table, Setting), ImageFault>
     requires { at ≤ length bytes.now }
     ensures within { IfOk result (λ p. p.0.0 < tables_of shape.now) }
-    ensures few { IfOk result (λ p. p.0.0 < 4096) }
+    ensures few { IfOk result (λ p. p.0.0 < 65536) }
     ensures found { IfOk result (λ p. IsTable shape.now bytes.now at least p.0.0 p.1) }
     ensures refused { IfErr result (λ f. (left : ℕ) → FaultIn (λ l k. InTables shape.now bytes.now l k at (suc left) least) f) }
 {
@@ -242,7 +242,7 @@ fn read_settings(
 ) -> Result<Config, ImageFault>
     requires within { start ≤ length bytes.now }
     requires some { 1 ≤ ticks }
-    requires few { ticks ≤ 4096 }
+    requires few { ticks ≤ most_ticks shape.now }
     ensures found { IfOk result (λ g. AreSettings shape.now bytes.now start ticks g.config) }
     ensures refused { IfErr result (FaultIn (λ l k. InPins shape.now bytes.now l k start 0 [])) }
 {
@@ -258,7 +258,7 @@ fn read_settings(
     if let Err(fault) = read_tables(bytes, &mut at, tables as usize, &mut config) {
         return Err(fault);
     }
-    let closed = match how_many_closed(bytes, at, shape.crosses()) {
+    let closed = match how_many_closed(bytes, at, shape.most_closed(), shape.crosses()) {
         Ok(closed) => closed,
         Err(fault) => return Err(fault),
     };

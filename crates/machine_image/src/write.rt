@@ -97,7 +97,7 @@ fn put_setting(out: &mut Vec<u8>, t: u16, setting: Setting) -> Result<(), AllocE
 /// A table, if it is on.
 fn put_table(out: &mut Vec<u8>, config: &Config, t: u32) -> Result<(), AllocError>
     requires within { t < tables_of config.now.config.shape }
-    requires few { t < 4096 }
+    requires few { t < 65536 }
     ensures { OnOk result (out.new.items ≡ out.old.items ++ flat_map table_bytes (on_at t (setting_of config.now.config t))) }
 {
     if let Some(setting) = config.setting(Table(t)) {
@@ -107,7 +107,7 @@ fn put_table(out: &mut Vec<u8>, config: &Config, t: u32) -> Result<(), AllocErro
 }
 
 /// Whether a table is on, as a number.
-fn count_table(config: &Config, t: u32) -> u16
+fn count_table(config: &Config, t: u32) -> u32
     requires { t < tables_of config.now.config.shape }
     ensures count { result ≡ length (on_at t (setting_of config.now.config t)) }
     ensures few { result ≤ 1 }
@@ -119,7 +119,7 @@ fn count_table(config: &Config, t: u32) -> u16
 }
 
 /// How many tables are on.
-fn count_tables(config: &Config) -> u16
+fn count_tables(config: &Config) -> u32
     ensures { result ≡ length (tables_on config.now.config) }
 {
     let mut count = 0;
@@ -201,10 +201,11 @@ fn put_head(
 
 /// What stands behind the pins.
 fn put_settings(out: &mut Vec<u8>, config: &Config) -> Result<(), AllocError>
+    requires { length (tables_on config.now.config) < 65536 }
     ensures { OnOk result (out.new.items ≡ out.old.items ++ settings_bytes config.now.config) }
 {
     let tables = count_tables(config);
-    put2(out, tables)?;
+    put2(out, tables as u16)?;
     put_tables(out, config)?;
     let closed = count_closed(config);
     put4(out, closed)?;

@@ -94,7 +94,7 @@ module _ (m : Shape) where
   unfolding wires_of
   wires-size = refl
 
-  pub few_wires : wires_of m ≤ 16384
+  pub few_wires : wires_of m ≤ 1310720
   unfolding wires_of levels_of
   few_wires = m.few_wires
 

@@ -43,7 +43,7 @@ split_once w v x y h g e =
     )
 
 abbrev pub AreShort : Path → Type 0
-AreShort p = All (λ i. i < 100000) p
+AreShort p = All (λ i. i < 10000000) p
 
 short_first : (i : ℕ) (p : Path) → AreShort (i ∷ p) → i < 2 ^ 64
 short_first i p s = let h = s 0 0 (omega arith) in omega arith

@@ -1,4 +1,4 @@
--- Counts without a 0, and the limits that they keep.
+-- Counts without a 0.
 use Rattle.std.proofs.Common.{◌≡◌, ℕ, zero, suc, ◌<◌, ◌≤◌, false, nat_eq, List, [], ◌∷◌, length, get_or, arith}
 use Rattle.std.proofs.lemmas.Bool.Decides.{nat_tests}
 use Rattle.std.proofs.Math.Nat.{mul-le-mul_left}
@@ -6,9 +6,7 @@ use Rattle.machine_shape.specs.declared.Counts.{Counts}
 use Rattle.machine_shape.specs.declared.Level.{Level}
 use Rattle.machine_shape.specs.declared.Field.{Field}
 use Rattle.machine_shape.specs.declared.Field.TheVariants.{Modules, Chips, Hextants, Tables, Ports, Lines, Pins}
-use Rattle.machine_shape.specs.declared.LimitedCount.{LimitedCount}
-use Rattle.machine_shape.specs.declared.LimitedCount.TheVariants as which
-use Rattle.machine_shape.specs.Vocabulary.{levels_from, AreFull, IsFull, HasZero, amount_of, most_of, Levels, size, wires_in, nodes_in, crosses_in, tables_in}
+use Rattle.machine_shape.specs.Vocabulary.{levels_from, AreFull, IsFull, HasZero, Levels, size, wires_in, nodes_in}
 
 -- no element is 0, at each place
 pub positive : (xs : List ℕ) → ((k d : ℕ) → 0 ≤ k → k < length xs → nat_eq (get_or xs k d) 0 ≡ false) → (k : ℕ) → k < length xs → 0 < get_or xs k 0
@@ -48,11 +46,6 @@ no_zero c p l full Lines e = no_line e.0 e.1 e.2
     no_line (suc (suc (suc zero))) b e = let f = (full 3 nth (omega arith)).1 in omega arith
     no_line (suc (suc (suc (suc k)))) b e = omega arith
 no_zero c p l full Pins e = let f = (full 0 nth (omega arith)).0 in omega arith
-
-pub all_within : (c : Counts) → size tables_in (levels_from c) ≤ 4096 → size wires_in (levels_from c) ≤ 16384 → size crosses_in (levels_from c) ≤ 4194304 → (which : LimitedCount) → amount_of c which ≤ most_of which
-all_within c t w x which.Tables = t
-all_within c t w x which.Wires = w
-all_within c t w x which.Crosspoints = x
 
 -- each node has a line of its own, so there are no more nodes than wires
 pub fewer_nodes : (ls : Levels) → AreFull ls → size nodes_in ls ≤ size wires_in ls

@@ -5,10 +5,13 @@ pub mod Totals
 pub mod Ample
 pub mod Hextants
 pub mod Naming
+pub mod ShortNames
 pub mod PlainNames
 pub mod Full
 pub mod Halves
 pub mod Decimals
+pub mod HighLimits
+pub mod OneShape
 -- For the proofs of this crate alone.
 mod Walks
 mod Ways

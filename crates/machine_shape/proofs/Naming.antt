@@ -1,4 +1,4 @@
--- Names, of which every number has at most five digits.
+-- Names, of which every number has at most seven digits.
 use Rattle.std.proofs.Common.{◌≡◌, ℕ, zero, suc, ◌<◌, ◌≤◌, List, [], ◌∷◌, ◌++◌, length, get_or, refl, sym, ap, ◌∙◌, arith, append_assoc, All}
 use Rattle.std.proofs.Math.Nat.{le-mul_of_pos_right}
 use Rattle.machine_shape.specs.declared.Shape.{Shape}
@@ -20,16 +20,16 @@ steps_small (step {l} {ls} {i} h s) f zero d b = let z = le-mul_of_pos_right i (
 steps_small (step {l} {ls} {i} h s) f (suc k) d b = let r = steps_small s (λ k d b. f (suc k) d (omega arith)) k d (omega arith) in omega arith
 
 module _ (m : Shape) where
-  pub short_steps : (p : Path) → IsSpot (levels_of m) p → All (λ i. i < 100000) p
+  pub short_steps : (p : Path) → IsSpot (levels_of m) p → All (λ i. i < 10000000) p
   short_steps p s k d b = let r = steps_small s (full_of m) k d b in let z = start_small wires_in s in let w = wires_are m in omega arith
 
-  pub node_steps : (n : ℕ) → n < nodes_of m → All (λ i. i < 100000) (way_to m n)
+  pub node_steps : (n : ℕ) → n < nodes_of m → All (λ i. i < 10000000) (way_to m n)
   node_steps n h = short_steps (way_to m n) (way_is m n h).0
 
-  pub table_steps : (t : ℕ) → t < tables_of m → All (λ i. i < 100000) (way_to_table m t)
+  pub table_steps : (t : ℕ) → t < tables_of m → All (λ i. i < 10000000) (way_to_table m t)
   table_steps t h = short_steps (way_to_table m t) (table_way_is m t h).0
 
-  pub wire_steps : (w : ℕ) → w < wires_of m → All (λ i. i < 100000) (place_of m w).path × ((place_of m w).position < 100000)
+  pub wire_steps : (w : ℕ) → w < wires_of m → All (λ i. i < 10000000) (place_of m w).path × ((place_of m w).position < 10000000)
   wire_steps w h =
       let r = wire_placed m w h in
       let n = r.number in let k = wires_are m in (short_steps (place_of m w).path r.spot, omega arith)

@@ -20,10 +20,10 @@ plain-decimal n h = decimal_by_steps (λ k ds. AllPlain ds)
     (λ k lt. (omega arith, omega arith, tt))
     (λ k ds lt p. plain-append ds ((48 + k % 10) ∷ []) p (omega arith, omega arith, tt)) n h
 
-plain-numbered : (c n : ℕ) → 35 < c → c < 127 → n < 100000 → AllPlain (numbered c n)
+plain-numbered : (c n : ℕ) → 35 < c → c < 127 → n < 10000000 → AllPlain (numbered c n)
 plain-numbered c n p q h = (p, q, plain-decimal n (omega arith))
 
-plain-steps : (letters : List ℕ) (p : Path) → AllPlain letters → All (λ i. i < 100000) p → AllPlain (steps_name letters p)
+plain-steps : (letters : List ℕ) (p : Path) → AllPlain letters → All (λ i. i < 10000000) p → AllPlain (steps_name letters p)
 plain-steps letters [] q small = tt
 plain-steps [] (i ∷ p) q small = tt
 plain-steps (c ∷ letters) (i ∷ p) q small = (omega arith, omega arith, plain-append (numbered c i) (steps_name letters p) (plain-numbered c i q.0 q.1 (small 0 0 (omega arith))) (plain-steps letters p q.2 (λ k d lt. small (suc k) d (omega arith))))
@@ -31,7 +31,7 @@ plain-steps (c ∷ letters) (i ∷ p) q small = (omega arith, omega arith, plain
 plain_letters : AllPlain inner_letters
 plain_letters = (omega arith, omega arith, (omega arith, omega arith, (omega arith, omega arith, tt)))
 
-plain-way : (p : Path) → All (λ i. i < 100000) p → AllPlain (way_name p)
+plain-way : (p : Path) → All (λ i. i < 10000000) p → AllPlain (way_name p)
 plain-way [] small = (omega arith, omega arith, tt)
 plain-way (i ∷ p) small = plain-append (numbered 109 i) (steps_name inner_letters p) (plain-numbered 109 i (omega arith) (omega arith) (small 0 0 (omega arith))) (plain-steps inner_letters p plain_letters (λ k d lt. small (suc k) d (omega arith)))
 
@@ -43,7 +43,7 @@ either_plain : (b : Bool) (u v : List ℕ) → AllPlain u → AllPlain v → All
 either_plain true u v p q = p
 either_plain false u v p q = q
 
-plain-part : (letter : ℕ) (ls : Levels) (k : ℕ) → 35 < letter → letter < 127 → k < 100000 → AllPlain (part_name letter ls k)
+plain-part : (letter : ℕ) (ls : Levels) (k : ℕ) → 35 < letter → letter < 127 → k < 10000000 → AllPlain (part_name letter ls k)
 plain-part letter [] k p q small = either_plain (k == 6) (113 ∷ []) (numbered 105 k) (omega arith, omega arith, tt) (plain-numbered 105 k (omega arith) (omega arith) small)
 plain-part letter (l ∷ ls) k p q small = either_plain (nat_lt k l.ports) (numbered letter k) (numbered 108 (k - l.ports)) (plain-numbered letter k p q small) (plain-numbered 108 (k - l.ports) (omega arith) (omega arith) (omega arith))
 

@@ -2,28 +2,29 @@
 use Rattle.std.proofs.Common.{◌≡◌, ◌≢◌, ℕ, zero, suc, ◌<◌, ◌≤◌, [], ◌∷◌, length, take, refl, arith}
 use Rattle.machine_shape.specs.declared.Shape.{Shape}
 use Rattle.machine_shape.specs.Vocabulary.{levels_from, Levels, Path, size, trunk, wires_in, nodes_in, tables_in, crosses_in, levels_of, wires_of, crosses_of, tables_of, nodes_of, pins_of, ports_of, own_ports_of}
+use Rattle.machine_shape.proofs.HighLimits.{pins_few}
 use Rattle.machine_shape.proofs.Taps.{ports_in_size}
 
 module _ (m : Shape) where
-  pub wires_are : (size wires_in (levels_of m) ≡ wires_of m) × (wires_of m ≤ 16384)
+  pub wires_are : (size wires_in (levels_of m) ≡ wires_of m) × (wires_of m ≤ 1310720)
   unfolding wires_of levels_of
   wires_are = (refl, m.few_wires)
 
-  pub crosses_are : (size crosses_in (levels_of m) ≡ crosses_of m) × (crosses_of m ≤ 4194304)
+  pub crosses_are : (size crosses_in (levels_of m) ≡ crosses_of m) × (crosses_of m ≤ 268435456)
   unfolding crosses_of levels_of
   crosses_are = (refl, m.few_crosses)
 
-  pub tables_are : (size tables_in (levels_of m) ≡ tables_of m) × (tables_of m ≤ 4096)
+  pub tables_are : (size tables_in (levels_of m) ≡ tables_of m) × (tables_of m ≤ 65536)
   unfolding tables_of levels_of
   tables_are = (refl, m.few_tables)
 
-  pub nodes_are : (size nodes_in (levels_of m) ≡ nodes_of m) × (nodes_of m ≤ 16384) × (0 < nodes_of m)
+  pub nodes_are : (size nodes_in (levels_of m) ≡ nodes_of m) × (nodes_of m ≤ 1310720) × (0 < nodes_of m)
   unfolding nodes_of levels_of levels_from
   nodes_are = (refl, m.few_nodes, omega arith)
 
-  pub pins_are : (m.counts.pins ≡ pins_of m) × (0 < pins_of m) × (pins_of m ≤ wires_of m)
+  pub pins_are : (m.counts.pins ≡ pins_of m) × (0 < pins_of m) × (pins_of m ≤ wires_of m) × (pins_of m ≤ 16384)
   unfolding pins_of wires_of levels_of levels_from
-  pins_are = (refl, (m.full 0 (record { ports = 0; lines = 0; children = 0 }) (omega arith)).0, ports_in_size (levels_from m.counts))
+  pins_are = (refl, (m.full 0 (record { ports = 0; lines = 0; children = 0 }) (omega arith)).0, ports_in_size (levels_from m.counts), pins_few m)
 
   pub root_ports : own_ports_of m 0 ≡ 0
   unfolding own_ports_of

@@ -35,7 +35,7 @@ pub record IsNodeBar (m : Shape) (n : ℕ) (b : Crossbar) : Type 0 where
   pub taps : b.ports + b.children * b.each ≡ taps_of m n
   pub some : 0 < b.lines
   pub fits : FitsBelow b (wires_of m)
-  pub few : wires_of m ≤ 16384
+  pub few : wires_of m ≤ 1310720
   pub line : (k : ℕ) → line_at m n k ≡ b.first + b.ports + k
   pub port : (k : ℕ) → port_at m n k ≡ b.first + k
   pub tap : (a : ℕ) → a < taps_of m n → tap_at m n a ≡ tap_by b a

@@ -3,6 +3,7 @@ pub mod Walk
 pub mod Counts
 pub mod Shape
 pub mod Limits
+pub mod Bounds
 pub mod Said
 pub mod Names
 pub mod Laws

@@ -10,7 +10,11 @@ unfoldable pub use Rattle.machine_shape.specs.Shape.{IsLine, IsPort, cross_at, c
 unfoldable pub use Rattle.machine_shape.specs.Shape.{line_position, lines_of, node_at, node_of, node_of_cross, nodes_of, own_ports_of}
 unfoldable pub use Rattle.machine_shape.specs.Shape.{parent_of, pin_wire, pins_of, place_of, place_of_cross, port_at, ports_of, table_wire}
 unfoldable pub use Rattle.machine_shape.specs.Shape.{tables_of, tap_at, tap_position, taps_of, way_to, way_to_table, wires_of}
-pub use Rattle.machine_shape.specs.Limits.{HasZero, IsShapeFault, MakeShape, amount_of, most_of}
+pub use Rattle.machine_shape.specs.Limits.{HasZero, IsFirstPassed, IsFirstZero, IsShapeFault, IsSmallFault}
+pub use Rattle.machine_shape.specs.Limits.{MakeShape, MakeSmall, amount_of, most_of_large, most_of_small}
+unfoldable pub use Rattle.machine_shape.specs.Limits.{is_small}
+pub use Rattle.machine_shape.specs.Bounds.{HasHighLimits}
+unfoldable pub use Rattle.machine_shape.specs.Bounds.{most_closed, most_faults, most_repaired, most_text, most_ticks}
 pub use Rattle.machine_shape.specs.Said.{meaning_of}
 pub use Rattle.machine_shape.specs.Names.{inner_letters, numbered, part_name, place_name, port_letter, steps_name, way_name}
 unfoldable pub use Rattle.machine_shape.specs.Names.{node_name, table_name, wire_name}

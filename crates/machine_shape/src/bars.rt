@@ -53,7 +53,7 @@ pub fn bar_of(shape: Shape, way: &[u32]) -> Crossbar
 /// The wire of the tap at a position.
 pub fn tap_at(bar: Crossbar, position: u32) -> u32
     requires within { position < bar.ports + bar.children * bar.each }
-    requires fits { FitsBelow bar 16384 }
+    requires fits { FitsBelow bar 1310720 }
     ensures { result ≡ tap_by bar position }
 {
     if position < bar.ports {
@@ -66,7 +66,7 @@ pub fn tap_at(bar: Crossbar, position: u32) -> u32
 
 /// The position of the tap that is a child's port, as many wires beyond the node's own.
 fn child_port(bar: Crossbar, further: u32) -> Option<u32>
-    requires fits { FitsBelow bar 16384 }
+    requires fits { FitsBelow bar 1310720 }
     requires step { 0 < bar.step }
     ensures found { IfSome result (λ a. (bar.ports ≤ a) × (a < bar.ports + bar.children * bar.each)
         × (tap_by bar a ≡ bar.first + bar.ports + bar.lines + further)) }
@@ -83,7 +83,7 @@ fn child_port(bar: Crossbar, further: u32) -> Option<u32>
 
 /// The position of the tap that is a wire, if it is a tap.
 pub fn position_of(bar: Crossbar, wire: u32) -> Option<u32>
-    requires fits { FitsBelow bar 16384 }
+    requires fits { FitsBelow bar 1310720 }
     requires step { 0 < bar.step }
     ensures found { IfSome result (λ a. (a < bar.ports + bar.children * bar.each) × (tap_by bar a ≡ wire)) }
     ensures none { IfNone result ((a : ℕ) → a < bar.ports + bar.children * bar.each → tap_by bar a ≢ wire) }

@@ -25,7 +25,7 @@ fn line_site(shape: Shape, wire: u32) -> (Crossbar, u32, u32)
     requires { wire < wires_of shape }
     ensures bar { IsBarAt (levels_of shape) (place_of shape wire).path result.0 }
     ensures fits { FitsBelow result.0 (wires_of shape) }
-    ensures few { wires_of shape ≤ 16384 }
+    ensures few { wires_of shape ≤ 1310720 }
     ensures step { 0 < result.0.step }
     ensures first { result.1 ≡ start crosses_in (levels_of shape) (place_of shape wire).path }
     ensures position { result.2 ≡ (place_of shape wire).position }

@@ -2,6 +2,7 @@
 ghost use Rattle.std.specs.Prelude.{◌≡◌};
 ghost use Rattle.machine_shape.specs.Laws.{IsNumbered, IsTree, HasMeanings, HasTaps, HasCrosses, HasMeetings, HasParents, HasNames, HasHomes};
 ghost use Rattle.machine_shape.specs.Laws.{IsNumberedAsTiny, tiny};
+ghost use Rattle.machine_shape.specs.Bounds.{HasHighLimits};
 ghost use Rattle.machine_shape.specs.PartNames.{HasPartNames};
 ghost use Rattle.machine_shape.specs.Rows.{HasRows};
 ghost use Rattle.machine_shape.specs.Sums.{HasSums};
@@ -47,6 +48,11 @@ pub fn names_follow_the_tree()
 /// All crossbars together have each crosspoint once, and at most two taps or lines for each wire.
 pub fn crossbars_add_up()
     ensures { (m : Shape) → HasSums m }
+{}
+
+/// The limits that go by the shape are at least those of small shapes, and at most those of the others.
+pub fn limits_are_high()
+    ensures { (m : Shape) → HasHighLimits m }
 {}
 
 /// Each wire is a tap or a line of its node, and none is both.

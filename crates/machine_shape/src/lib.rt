@@ -8,15 +8,17 @@
 //! pin of a table. Taps ascend; a crosspoint and its two ends determine each other: its tap and its line are a tap and a line
 //! of its node, and each tap and line of a node have a crosspoint there; the crossbars are a tree; names and numbers are one to
 //! one, and the name of a chip, of a hextant and of a table is that of the node above, a dot, and its letter and position
-//! (`laws`). `Shape::new` refuses exactly the counts that make no shape. Each wire is a tap or a line of its node, and none is
+//! (`laws`). `Shape::new` refuses exactly the counts that make no small shape, `Shape::large` those that make none. Limits that
+//! go by the shape are at least those of small shapes (`limits_are_high`). Each wire is a tap or a line of its node, and none is
 //! both (`each_wire_has_a_home`). All crossbars together have each crosspoint once, and at most two taps or lines for each wire
 //! (`crossbars_add_up`). From `first_cross` on a node's crosspoints stand in rows, one row for each tap and in it one
 //! crosspoint for each line, and the numbers of its lines follow each other, as those of its ports do
 //! (`crosspoints_stand_in_rows`).
 #![tactic(auto)]
 
-ghost use Rattle.std.specs.Prelude.{◌≤◌};
+ghost use Rattle.std.specs.Prelude.{◌≡◌, ◌≤◌, false};
 ghost use Rattle.machine_shape.specs.Counts.{levels_from, IsFull};
+ghost use Rattle.machine_shape.specs.Limits.{is_small};
 ghost use Rattle.machine_shape.specs.Walk.{size, wires_in, nodes_in, crosses_in, tables_in};
 
 mod bars;
@@ -35,8 +37,8 @@ mod wires;
 
 pub use laws::{
     a_small_machine_is_numbered_so, crossbars_add_up, crosspoints_stand_in_rows,
-    each_wire_has_a_home, names_are_one_to_one, names_follow_the_tree, the_crosspoints_are_sound,
-    the_numbering_is_sound,
+    each_wire_has_a_home, limits_are_high, names_are_one_to_one, names_follow_the_tree,
+    the_crosspoints_are_sound, the_numbering_is_sound,
 };
 pub use order::ports_and_lines_ascend;
 pub use part::PartName;
@@ -61,16 +63,17 @@ pub struct Level {
     pub children: u32,
 }
 
-/// The shape of a machine: twelve counts, each at least 1, which keep within the limits on tables, wires and
-/// crosspoints.
+/// The shape of a machine: twelve counts, each at least 1, which keep within the limits on tables, wires and crosspoints, and
+/// on pins where the shape isn't small.
 #[derive(Clone, Copy, Debug)]
 pub struct Shape {
     pub counts: Counts,
     pub ghost full: { IsFull counts },
-    pub ghost few_tables: { size tables_in (levels_from counts) ≤ 4096 },
-    pub ghost few_wires: { size wires_in (levels_from counts) ≤ 16384 },
-    pub ghost few_crosses: { size crosses_in (levels_from counts) ≤ 4194304 },
-    pub ghost few_nodes: { size nodes_in (levels_from counts) ≤ 16384 },
+    pub ghost few_tables: { size tables_in (levels_from counts) ≤ 65536 },
+    pub ghost few_wires: { size wires_in (levels_from counts) ≤ 1310720 },
+    pub ghost few_crosses: { size crosses_in (levels_from counts) ≤ 268435456 },
+    pub ghost few_nodes: { size nodes_in (levels_from counts) ≤ 1310720 },
+    pub ghost few_pins: { is_small counts ≡ false → counts.pins ≤ 8192 },
 }
 
 /// The number of a wire.
@@ -124,6 +127,7 @@ pub enum LimitedCount {
     Tables,
     Wires,
     Crosspoints,
+    Pins,
 }
 
 /// Why counts make no shape.
@@ -131,7 +135,8 @@ pub enum LimitedCount {
 pub enum ShapeFault {
     /// A count is 0; this is the first such field.
     Zero { field: Field },
-    /// No count is 0, and this is the first limit that is passed: 4,096 tables, 16,384 wires, or 4,194,304
-    /// crosspoints. The value is how many there would be.
+    /// No count is 0, and this is the first limit that is passed: of a small shape 4,096 tables, 16,384 wires, or 4,194,304
+    /// crosspoints; of another 65,536 tables, 1,310,720 wires, 268,435,456 crosspoints, or 8,192 pins. The value is how many
+    /// there would be.
     Limit { which: LimitedCount, value: u128 },
 }

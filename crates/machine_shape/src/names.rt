@@ -9,10 +9,10 @@ use crate::{Level, Node, PartName, Shape, Table, Wire};
 
 /// Appends the steps of a way, each with its letter.
 fn push_steps(name: &mut PartName, letters: &[u8], way: &[u32])
-    requires short { All (λ i. i < 100000) way.now }
-    requires room { length name.old + 7 * length way.now ≤ 42 }
+    requires short { All (λ i. i < 10000000) way.now }
+    requires room { length name.old + 9 * length way.now ≤ 42 }
     ensures text { name.new ≡ name.old ++ steps_name letters.now way.now }
-    ensures room { length name.new ≤ length name.old + 7 * length way.now }
+    ensures room { length name.new ≤ length name.old + 9 * length way.now }
 {
     match way {
         [] => {}
@@ -29,10 +29,10 @@ fn push_steps(name: &mut PartName, letters: &[u8], way: &[u32])
 
 /// The name of the node or table at the end of a way.
 fn name_of_way(way: &[u32]) -> PartName
-    requires short { All (λ i. i < 100000) way.now }
+    requires short { All (λ i. i < 10000000) way.now }
     requires deep { length way.now ≤ 4 }
     ensures name { result ≡ way_name way.now }
-    ensures room { length result ≤ 34 }
+    ensures room { length result ≤ 36 }
 {
     let mut name = PartName::empty();
     match way {
@@ -47,8 +47,8 @@ fn name_of_way(way: &[u32]) -> PartName
 
 /// Appends the part of a wire's name that follows its node's or table's.
 fn push_part(name: &mut PartName, letter: u8, levels: &[Level], position: u32)
-    requires short { position < 100000 }
-    requires room { length name.old ≤ 42 }
+    requires short { position < 10000000 }
+    requires room { length name.old ≤ 40 }
     ensures { name.new ≡ name.old ++ part_name letter levels.now position }
 {
     match levels {

@@ -23,44 +23,45 @@ fn node_bar(shape: Shape, node: u32) -> Crossbar
 }
 
 impl Shape {
-    /// How many wires there are: at most 16,384.
+    /// How many wires there are: at most 1,310,720.
     pub fn wires(&self) -> u32
         ensures wires { result ≡ wires_of self.now }
-        ensures few { result ≤ 16384 }
+        ensures few { result ≤ 1310720 }
     {
         total(*self, Kind::Wires)
     }
 
-    /// How many crosspoints there are: at most 4,194,304.
+    /// How many crosspoints there are: at most 268,435,456.
     pub fn crosses(&self) -> u32
         ensures crosses { result ≡ crosses_of self.now }
-        ensures few { result ≤ 4194304 }
+        ensures few { result ≤ 268435456 }
     {
         total(*self, Kind::Crosses)
     }
 
-    /// How many tables there are: at most 4,096.
+    /// How many tables there are: at most 65,536.
     pub fn tables(&self) -> u32
         ensures tables { result ≡ tables_of self.now }
-        ensures few { result ≤ 4096 }
+        ensures few { result ≤ 65536 }
     {
         total(*self, Kind::Tables)
     }
 
-    /// How many nodes there are: at most 16,384, since each has a line of its own.
+    /// How many nodes there are: at most 1,310,720, since each has a line of its own.
     pub fn nodes(&self) -> u32
         ensures nodes { result ≡ nodes_of self.now }
-        ensures few { result ≤ 16384 }
+        ensures few { result ≤ 1310720 }
         ensures root { 0 < result }
     {
         total(*self, Kind::Nodes)
     }
 
-    /// How many pins the machine has.
+    /// How many pins the machine has: at most 16,384, since there are at most 8,192 where it isn't small.
     pub fn pins(&self) -> u32
         ensures pins { result ≡ pins_of self.now }
         ensures some { 0 < result }
         ensures few { result ≤ wires_of self.now }
+        ensures most { result ≤ 16384 }
     {
         self.counts.pins as u32
     }

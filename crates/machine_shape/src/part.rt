@@ -70,12 +70,12 @@ impl PartName {
         self.push_all(&digits[place..]);
     }
 
-    /// Appends a letter and a number of at most five digits.
+    /// Appends a letter and a number of at most seven digits.
     pub(crate) fn push_numbered(&mut self, letter: u8, n: u32)
-        requires room { length self.old ≤ 42 }
-        requires short { n < 100000 }
+        requires room { length self.old ≤ 40 }
+        requires short { n < 10000000 }
         ensures text { self.new ≡ self.old ++ letter ∷ decimal n }
-        ensures room { length self.new ≤ length self.old + 6 }
+        ensures room { length self.new ≤ length self.old + 8 }
     {
         self.push(letter);
         self.push_number(n);

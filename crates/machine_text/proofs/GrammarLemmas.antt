@@ -1,5 +1,5 @@
 -- What is read without a fault is the text of a machine, and the text of a machine is read.
-use Rattle.std.proofs.Common.{◌≡◌, ℕ, zero, suc, ◌+◌, ◌*◌, ◌++◌, length-append, ◌<◌, ◌≤◌, ◌==◌, Bool, true, false, not, nat_lt, List, [], ◌∷◌, Option, Some, None, Result, Ok, Err, length, map, drop, get_or, refl, sym, ap, ◌∙◌, subst, arith, inl, inr, if◌then◌else◌, codes, find, take, Contains, IfOk, IfErr}
+use Rattle.std.proofs.Common.{◌≡◌, ℕ, zero, suc, ◌+◌, ◌*◌, ◌++◌, length-append, ◌<◌, ◌≤◌, ◌==◌, Bool, true, false, not, nat_lt, List, [], ◌∷◌, Option, Some, None, Result, Ok, Err, length, map, drop, get_or, refl, sym, ap, ◌∙◌, subst, arith, inl, inr, if◌then◌else◌, find, take, Contains, ◌&&◌}
 use Rattle.std.specs.Fmt.{decimal}
 use Rattle.std.specs.List.{list_all, flat_map, All}
 use Rattle.std.specs.Str.{bytes_eq}
@@ -7,26 +7,27 @@ use Rattle.std.proofs.lemmas.Bool.{cases_Bool, and_parts, and_from, ltb-true, eq
 use Rattle.std.proofs.lemmas.List.Elements.{All-append}
 use Rattle.machine_shape.specs.declared.Field.TheVariants as field
 use Rattle.std.proofs.lemmas.Grind.{flat_map-append, get_or_default_zero}
-use Rattle.std.proofs.lemmas.List.{nil_from_length, length-map, take_more, map-append, append-nil}
-use Rattle.std.proofs.lemmas.Fmt.{decimal_digit, length-decimal-le}
+use Rattle.std.proofs.lemmas.List.{nil_from_length, length-map, get_or-map, take_more, map-append, append-nil}
+use Rattle.std.proofs.lemmas.Fmt.{length-decimal-le}
 use Rattle.std.proofs.lemmas.Slice.Eq.{bytes_eq-Decides}
 use Rattle.machine_shape.specs.declared.Counts.{Counts}
-use Rattle.machine_shape.specs.Limits.{MakeShape}
+use Rattle.machine_shape.specs.Limits.{MakeShape, is_small}
 use Rattle.base_text.specs.Vocabulary.{LogicalLine, logical_lines, is_bad_line, has_bad_byte, IsWord, AreRows, numbered, written, written_line, spaced, most_bytes}
 use Rattle.base_text.proofs.WrittenLemmas.{decimal_word, sound_words, lines_back}
 use Rattle.machine_shape.specs.declared.Shape.{Shape}
 use Rattle.machine_text.specs.declared.kind.MachineFault.{MachineFault}
 use Rattle.machine_text.specs.declared.kind.MachineFault.TheVariants.{At, Memory}
 use Rattle.machine_text.specs.Faults.{GivesOrLacks}
-use Rattle.machine_text.specs.Readers.{IsReadFault}
+use Rattle.machine_text.specs.Readers.{IsReadFault, IsReadShape}
 use Rattle.machine_text.specs.declared.head.Head.{Head}
 use Rattle.machine_text.specs.declared.head.Head.TheVariants as head
 use Rattle.machine_text.specs.declared.kind.MachineKind.{MachineKind}
 use Rattle.machine_text.specs.declared.kind.MachineKind.TheVariants as kind
 use Rattle.machine_text.specs.Heads.{heads, word_of, place_of, follow_of, head_of}
-use Rattle.machine_text.specs.Machine.{numbers_of, count_row, count_rows, text_of, IsMachine}
-use Rattle.machine_text.specs.Reading.{State, start, value_of, is_count, counts_fault, words_fault, head_fault, said_fault, fault_of, with_numbers, with_line, after, if_sound, reading, is_shape}
-use Rattle.machine_text.proofs.CountLemmas.{count_parts, is_count-decimal, value-decimal, is_shape-made}
+use Rattle.machine_text.specs.declared.said.Said.{Said}
+use Rattle.machine_text.specs.Machine.{IsForm, KeepsLimits, said_in, form_of, numbers_of, count_row, count_rows, text_of, IsMachine}
+use Rattle.machine_text.specs.Reading.{State, start, value_of, is_count, is_form, counts_fault, words_fault, head_fault, said_fault, fault_of, with_numbers, with_line, after, if_sound, reading, is_shape}
+use Rattle.machine_text.proofs.CountLemmas.{count_parts, few_form, form_parts, form_word, is_count-decimal, value-decimal, is_shape-made}
 
 -- ---- heads
 
@@ -97,19 +98,18 @@ record HeadParts (s : State) (o : Option Head) (ws : List (List ℕ)) : Type 0 w
   is : o ≡ Some h
   place : place_of h ≡ s.read
   size : length ws ≡ follow_of h
-  sound : words_fault s.counts h ws ≡ None
+  sound : words_fault s.said h ws ≡ None
 
 head_parts : (s : State) (o : Option Head) (ws : List (List ℕ)) → head_fault s o ws ≡ None → HeadParts s o ws
 head_parts s None ws e = absurd cc
 head_parts s (Some h) ws e =
-    let placed = if_none (not (place_of h == s.read)) kind.Order (if not (length ws == follow_of h) then Some kind.Word else words_fault s.counts h ws) e in
-    let sized = if_none (not (length ws == follow_of h)) kind.Word (words_fault s.counts h ws) placed.1 in
+    let placed = if_none (not (place_of h == s.read)) kind.Order (if not (length ws == follow_of h) then Some kind.Word else words_fault s.said h ws) e in
+    let sized = if_none (not (length ws == follow_of h)) kind.Word (words_fault s.said h ws) placed.1 in
     record { h = h; is = refl; place = eqb-true _ _ (not-false _ placed.0); size = eqb-true _ _ (not-false _ sized.0); sound = sized.1 }
 
 -- the numbers of the words behind the first
 abbrev numbers_in : Head → List (List ℕ) → List ℕ
-numbers_in head.Teramac ws = 1 ∷ []
-numbers_in _ ws = map value_of ws
+numbers_in h ws = map value_of ws
 
 pub counts_are : (ws : List (List ℕ)) → list_all is_count ws ≡ true → (ws ≡ map decimal (map value_of ws)) × All (λ n. (0 < n) × (n ≤ 65535)) (map value_of ws)
 counts_are [] h = (refl, λ k d lt. absurd (omega arith))
@@ -123,14 +123,14 @@ counts_are (w ∷ ws) h =
     all first rest zero d lt = first
     all first rest (suc k) d lt = rest k d (omega arith)
 
-record Numbers (c : Counts) (h : Head) (ws : List (List ℕ)) : Type 0 where
+record Numbers (c : Said) (h : Head) (ws : List (List ℕ)) : Type 0 where
   words : ws ≡ map decimal (numbers_in h ws)
   size : length (numbers_in h ws) ≡ follow_of h
   small : All (λ n. (0 < n) × (n ≤ 65535)) (numbers_in h ws)
   given : with_numbers c h (map value_of ws) ≡ with_numbers c h (numbers_in h ws)
 
 -- the words are those of counts, as those of all lines but the first and the last
-by_counts : (c : Counts) (h : Head) (ws : List (List ℕ)) → length ws ≡ follow_of h → counts_fault ws ≡ None → numbers_in h ws ≡ map value_of ws → Numbers c h ws
+by_counts : (c : Said) (h : Head) (ws : List (List ℕ)) → length ws ≡ follow_of h → counts_fault ws ≡ None → numbers_in h ws ≡ map value_of ws → Numbers c h ws
 by_counts c h ws size e same =
     let are = counts_are ws (then_none (list_all is_count ws) kind.Number e) in
     record {
@@ -144,15 +144,24 @@ pub one_word : (ws : List (List ℕ)) → length ws ≡ 1 → ws ≡ get_or ws 0
 one_word [] e = absurd (omega arith)
 one_word (w ∷ ws) e = ap (λ r. w ∷ r) (nil_from_length ws (omega arith))
 
-numbers_from : (c : Counts) (h : Head) (ws : List (List ℕ)) → length ws ≡ follow_of h → words_fault c h ws ≡ None → Numbers c h ws
+-- the form that the only word gives
+form_from : (c : Said) (h : Head) (ws : List (List ℕ)) → h ≡ head.Teramac → length ws ≡ follow_of h → words_fault c h ws ≡ None → IsForm (get_or (map value_of ws) 0 0)
+form_from c head.Teramac ws is size e =
+    subst IsForm (sym (get_or-map value_of ws 0 [] 0 (omega (arith, size)))) (form_parts (get_or ws 0 []) (then_none (is_form (get_or ws 0 [])) kind.Word e)).2
+form_from c head.Modules ws is size e = absurd cc
+form_from c head.Chips ws is size e = absurd cc
+form_from c head.Hextants ws is size e = absurd cc
+form_from c head.Tables ws is size e = absurd cc
+form_from c head.Ports ws is size e = absurd cc
+form_from c head.Lines ws is size e = absurd cc
+form_from c head.Pins ws is size e = absurd cc
+form_from c head.End ws is size e = absurd cc
+
+numbers_from : (c : Said) (h : Head) (ws : List (List ℕ)) → length ws ≡ follow_of h → words_fault c h ws ≡ None → Numbers c h ws
 numbers_from c head.Teramac ws size e =
-    let is : get_or ws 0 [] ≡ codes "1" = (bytes_eq-Decides (get_or ws 0 []) (codes "1")).0 (then_none (bytes_eq (get_or ws 0 []) (codes "1")) kind.Word e) in
-    let one_is : decimal 1 ≡ codes "1" = decimal_digit 1 (omega arith) in
-    record { words = one_word ws size ∙ ap (λ w. w ∷ []) (is ∙ sym one_is); size = refl; small = λ k d lt. one k d lt; given = refl }
-  where
-    one : (k d : ℕ) → k < 1 → (0 < get_or (1 ∷ []) k d) × (get_or (1 ∷ []) k d ≤ 65535)
-    one zero d lt = (omega arith, omega arith)
-    one (suc k) d lt = absurd (omega arith)
+    let counted = (form_parts (get_or ws 0 []) (then_none (is_form (get_or ws 0 [])) kind.Word e)).0 in
+    let all : list_all is_count ws ≡ true = ap (list_all is_count) (one_word ws size) ∙ ap (λ t. t && true) counted in
+    by_counts c head.Teramac ws size (ap (λ t. if t then None else Some kind.Number) all) refl
 numbers_from c head.Modules ws size e = by_counts c head.Modules ws size e refl
 numbers_from c head.Chips ws size e = by_counts c head.Chips ws size e refl
 numbers_from c head.Hextants ws size e = by_counts c head.Hextants ws size e refl
@@ -168,9 +177,9 @@ numbers_from c head.End ws size e =
 
 -- the state after a line of this kind with these numbers
 abbrev pub moved : State → Head → List ℕ → State
-moved s h ns = record { read = s.read + 1; counts = with_numbers s.counts h ns }
+moved s h ns = record { read = s.read + 1; said = with_numbers s.said h ns }
 
-record Next (s : State) (lines : List LogicalLine) (c : Counts) (h : Head) : Type 0 where
+record Next (s : State) (lines : List LogicalLine) (c : Said) (h : Head) : Type 0 where
   line : LogicalLine
   rest : List LogicalLine
   lines_are : lines ≡ line ∷ rest
@@ -178,17 +187,17 @@ record Next (s : State) (lines : List LogicalLine) (c : Counts) (h : Head) : Typ
   words : line.words ≡ word_of h ∷ map decimal numbers
   size : length numbers ≡ follow_of h
   small : All (λ n. (0 < n) × (n ≤ 65535)) numbers
-  format : h ≡ head.Teramac → numbers ≡ 1 ∷ []
+  format : h ≡ head.Teramac → IsForm (get_or numbers 0 0)
   goes_on : reading (moved s h numbers) rest ≡ Ok c
 
-sound_ok : (n : ℕ) (f : Option MachineKind) (rest : Result Counts (ℕ × MachineKind)) (c : Counts) → if_sound n f rest ≡ Ok c → (f ≡ None) × (rest ≡ Ok c)
+sound_ok : (n : ℕ) (f : Option MachineKind) (rest : Result Said (ℕ × MachineKind)) (c : Said) → if_sound n f rest ≡ Ok c → (f ≡ None) × (rest ≡ Ok c)
 sound_ok n None rest c e = (refl, e)
 sound_ok n (Some k) rest c e = absurd cc
 
 abbrev missing : ℕ × MachineKind
 missing = (0, kind.Missing)
 
-ok_none : (b : Bool) (c d : Counts) → (if b then Err missing else Ok c) ≡ Ok d → (b ≡ false) × (c ≡ d)
+ok_none : (b : Bool) (c d : Said) → (if b then Err missing else Ok c) ≡ Ok d → (b ≡ false) × (c ≡ d)
 ok_none true c d e = absurd cc
 ok_none false c d e = (refl, cc)
 
@@ -215,8 +224,8 @@ pub record Sound (s : State) (l : LogicalLine) : Type 0 where
   pub words : l.words ≡ word_of h ∷ map decimal numbers
   pub size : length numbers ≡ follow_of h
   pub small : All (λ n. (0 < n) × (n ≤ 65535)) numbers
-  pub format : h ≡ head.Teramac → numbers ≡ 1 ∷ []
-  pub ready : h ≡ head.End → is_shape s.counts ≡ true
+  pub format : h ≡ head.Teramac → IsForm (get_or numbers 0 0)
+  pub ready : h ≡ head.End → is_shape s.said ≡ true
   pub moves : after s l.words ≡ moved s h numbers
 
 pub sound_line : (s : State) (l : LogicalLine) → fault_of s l ≡ None → Sound s l
@@ -224,7 +233,7 @@ sound_line s l e =
     let said = (if_none (is_bad_line l) kind.Byte (said_fault s l.words) e).1 in
     let headed = (if_none (nat_lt 8 s.read) kind.After (head_fault s (head_of (get_or l.words 0 [])) (drop 1 l.words)) said).1 in
     let parts = head_parts s (head_of (get_or l.words 0 [])) (drop 1 l.words) headed in
-    let numbers = numbers_from s.counts parts.h (drop 1 l.words) parts.size parts.sound in
+    let numbers = numbers_from s.said parts.h (drop 1 l.words) parts.size parts.sound in
     record {
       h = parts.h;
       place = parts.place;
@@ -232,14 +241,14 @@ sound_line s l e =
       words = word_first l.words parts.h parts.is ∙ ap (λ ws. word_of parts.h ∷ ws) numbers.words;
       size = numbers.size;
       small = numbers.small;
-      format = λ first. ap (λ g. numbers_in g (drop 1 l.words)) first;
-      ready = λ last. then_none (is_shape s.counts) kind.Limit (subst (λ g. words_fault s.counts g (drop 1 l.words) ≡ None) last parts.sound);
-      moves = ap (λ k. record { read = s.read + 1; counts = k }) (ap (λ o. with_line s.counts o (drop 1 l.words)) parts.is ∙ numbers.given);
+      format = λ first. form_from s.said parts.h (drop 1 l.words) first parts.size parts.sound;
+      ready = λ last. then_none (is_shape s.said) kind.Limit (subst (λ g. words_fault s.said g (drop 1 l.words) ≡ None) last parts.sound);
+      moves = ap (λ k. record { read = s.read + 1; said = k }) (ap (λ o. with_line s.said o (drop 1 l.words)) parts.is ∙ numbers.given);
     }
 
-next : (s : State) (lines : List LogicalLine) (c : Counts) (h : Head) → s.read ≡ place_of h → reading s lines ≡ Ok c → Next s lines c h
+next : (s : State) (lines : List LogicalLine) (c : Said) (h : Head) → s.read ≡ place_of h → reading s lines ≡ Ok c → Next s lines c h
 unfolding reading
-next s [] c h place e = let k = ok_none (nat_lt s.read 9) s.counts c e in absurd (false≢true (sym k.0 ∙ lt-ltb s.read 9 (omega (arith, place_below h))))
+next s [] c h place e = let k = ok_none (nat_lt s.read 9) s.said c e in absurd (false≢true (sym k.0 ∙ lt-ltb s.read 9 (omega (arith, place_below h))))
 next s (l ∷ lines) c h place e =
     let go = sound_ok l.number (fault_of s l) (reading (after s l.words) lines) c e in
     let this = sound_line s l go.0 in
@@ -255,9 +264,9 @@ next s (l ∷ lines) c h place e =
       goes_on = subst (λ t. reading t lines ≡ Ok c) this.moves go.1;
     })
 
-last : (s : State) (lines : List LogicalLine) (c : Counts) → s.read ≡ 9 → reading s lines ≡ Ok c → (lines ≡ []) × (s.counts ≡ c)
+last : (s : State) (lines : List LogicalLine) (c : Said) → s.read ≡ 9 → reading s lines ≡ Ok c → (lines ≡ []) × (s.said ≡ c)
 unfolding reading
-last s [] c full e = (refl, (ok_none (nat_lt s.read 9) s.counts c e).1)
+last s [] c full e = (refl, (ok_none (nat_lt s.read 9) s.said c e).1)
 last s (l ∷ lines) c full e =
     let go = sound_ok l.number (fault_of s l) (reading (after s l.words) lines) c e in
     let said = (if_none (is_bad_line l) kind.Byte (said_fault s l.words) go.0).1 in
@@ -270,10 +279,11 @@ last s (l ∷ lines) c full e =
 abbrev words_of_lines : List LogicalLine → List (List (List ℕ))
 words_of_lines lines = map (λ l. l.words) lines
 
-pub record Spelled (lines : List LogicalLine) (c : Counts) : Type 0 where
+pub record Spelled (lines : List LogicalLine) (c : Said) : Type 0 where
+  known : IsForm c.form
   rows : words_of_lines lines ≡ count_rows c
-  three : length c.ports ≡ 3
-  four : length c.lines ≡ 4
+  three : length c.counts.ports ≡ 3
+  four : length c.counts.lines ≡ 4
   small : (h : Head) → All (λ n. (0 < n) × (n ≤ 65535)) (numbers_of c h)
 
 pub only_number : (ns : List ℕ) → length ns ≡ 1 → ns ≡ get_or ns 0 0 ∷ []
@@ -281,13 +291,13 @@ only_number [] e = absurd (omega arith)
 only_number (n ∷ ns) e = ap (λ r. n ∷ r) (nil_from_length ns (omega arith))
 
 -- a line in front of others, with the numbers that the counts have
-row_in_front : {s : State} {lines : List LogicalLine} {c : Counts} {h : Head} (n : Next s lines c h) (d : Counts) (rows : List (List (List ℕ))) → n.numbers ≡ numbers_of d h → words_of_lines n.rest ≡ rows → words_of_lines lines ≡ count_row d h ∷ rows
+row_in_front : {s : State} {lines : List LogicalLine} {c : Said} {h : Head} (n : Next s lines c h) (d : Said) (rows : List (List (List ℕ))) → n.numbers ≡ numbers_of d h → words_of_lines n.rest ≡ rows → words_of_lines lines ≡ count_row d h ∷ rows
 row_in_front {h = h} n d rows same below = ap words_of_lines n.lines_are ∙ (λ i. (n.words ∙ ap (λ ns. word_of h ∷ map decimal ns) same) i ∷ below i)
 
 abbrev Small : List ℕ → Type 0
 Small ns = All (λ n. (0 < n) × (n ≤ 65535)) ns
 
-by_head : (c : Counts) → Small (1 ∷ []) → Small (c.modules ∷ []) → Small (c.chips ∷ []) → Small (c.hextants ∷ []) → Small (c.tables ∷ []) → Small c.ports → Small c.lines → Small (c.pins ∷ []) → Small [] → (h : Head) → Small (numbers_of c h)
+by_head : (c : Said) → Small (c.form ∷ []) → Small (c.counts.modules ∷ []) → Small (c.counts.chips ∷ []) → Small (c.counts.hextants ∷ []) → Small (c.counts.tables ∷ []) → Small c.counts.ports → Small c.counts.lines → Small (c.counts.pins ∷ []) → Small [] → (h : Head) → Small (numbers_of c h)
 by_head c n0 n1 n2 n3 n4 n5 n6 n7 n8 head.Teramac = n0
 by_head c n0 n1 n2 n3 n4 n5 n6 n7 n8 head.Modules = n1
 by_head c n0 n1 n2 n3 n4 n5 n6 n7 n8 head.Chips = n2
@@ -299,10 +309,10 @@ by_head c n0 n1 n2 n3 n4 n5 n6 n7 n8 head.Pins = n7
 by_head c n0 n1 n2 n3 n4 n5 n6 n7 n8 head.End = n8
 
 -- the next line as a variable, so that terms stay short
-with_next : {P : Type 0} (s : State) (lines : List LogicalLine) (c : Counts) (h : Head) → s.read ≡ place_of h → reading s lines ≡ Ok c → ((n : Next s lines c h) → P) → P
+with_next : {P : Type 0} (s : State) (lines : List LogicalLine) (c : Said) (h : Head) → s.read ≡ place_of h → reading s lines ≡ Ok c → ((n : Next s lines c h) → P) → P
 with_next s lines c h place e f = f (next s lines c h place e)
 
-pub spelled : (lines : List LogicalLine) (c : Counts) → reading start lines ≡ Ok c → Spelled lines c
+pub spelled : (lines : List LogicalLine) (c : Said) → reading start lines ≡ Ok c → Spelled lines c
 spelled lines c e =
     with_next start lines c head.Teramac refl e (λ n0.
     let s1 : State = moved start head.Teramac n0.numbers in
@@ -324,20 +334,21 @@ spelled lines c e =
     let s9 : State = moved s8 head.End n8.numbers in
     let end = last s9 n8.rest c refl n8.goes_on in
     subst (Spelled lines) end.1 (record {
+      known = n0.format refl;
       rows =
-          row_in_front n0 s9.counts _ (n0.format refl) (
-          row_in_front n1 s9.counts _ (only_number n1.numbers n1.size) (
-          row_in_front n2 s9.counts _ (only_number n2.numbers n2.size) (
-          row_in_front n3 s9.counts _ (only_number n3.numbers n3.size) (
-          row_in_front n4 s9.counts _ (only_number n4.numbers n4.size) (
-          row_in_front n5 s9.counts _ refl (
-          row_in_front n6 s9.counts _ refl (
-          row_in_front n7 s9.counts _ (only_number n7.numbers n7.size) (
-          row_in_front n8 s9.counts [] (nil_from_length n8.numbers n8.size) (ap words_of_lines end.0)))))))));
+          row_in_front n0 s9.said _ (only_number n0.numbers n0.size) (
+          row_in_front n1 s9.said _ (only_number n1.numbers n1.size) (
+          row_in_front n2 s9.said _ (only_number n2.numbers n2.size) (
+          row_in_front n3 s9.said _ (only_number n3.numbers n3.size) (
+          row_in_front n4 s9.said _ (only_number n4.numbers n4.size) (
+          row_in_front n5 s9.said _ refl (
+          row_in_front n6 s9.said _ refl (
+          row_in_front n7 s9.said _ (only_number n7.numbers n7.size) (
+          row_in_front n8 s9.said [] (nil_from_length n8.numbers n8.size) (ap words_of_lines end.0)))))))));
       three = n5.size;
       four = n6.size;
-      small = by_head s9.counts
-          (subst Small (n0.format refl) n0.small)
+      small = by_head s9.said
+          (subst Small (only_number n0.numbers n0.size) n0.small)
           (subst Small (only_number n1.numbers n1.size) n1.small)
           (subst Small (only_number n2.numbers n2.size) n2.small)
           (subst Small (only_number n3.numbers n3.size) n3.small)
@@ -379,17 +390,18 @@ numerals_are_words [] small k d lt = absurd (omega arith)
 numerals_are_words (n ∷ ns) small zero d lt = decimal_word n (omega (arith, (small 0 0 (omega arith)).1))
 numerals_are_words (n ∷ ns) small (suc k) d lt = numerals_are_words ns (λ j e within. small (suc j) e (omega arith)) k d (omega arith)
 
-row_is_words : (c : Counts) (h : Head) → Small (numbers_of c h) → All IsWord (count_row c h)
+row_is_words : (c : Said) (h : Head) → Small (numbers_of c h) → All IsWord (count_row c h)
 row_is_words c h small zero d lt = word_is_word h
 row_is_words c h small (suc k) d lt = numerals_are_words (numbers_of c h) small k d (omega arith)
 
--- the counts make a shape, where the last line stands
-abbrev pub IsReady : Counts → Head → Type 0
-IsReady c head.End = is_shape c ≡ true
-IsReady c _ = Unit {0}
+-- the form is one of the two, where the first line stands, and the counts above make a shape, where the last does
+abbrev pub IsReady : Said → Said → Head → Type 0
+IsReady c d head.Teramac = IsForm c.form
+IsReady c d head.End = is_shape d ≡ true
+IsReady c d _ = Unit {0}
 
-no_fault : (d c : Counts) (h : Head) → Small (numbers_of c h) → IsReady d h → words_fault d h (map decimal (numbers_of c h)) ≡ None
-no_fault d c head.Teramac small ready = ap (λ t. if t then None else Some kind.Word) ((bytes_eq-Decides (decimal 1) (codes "1")).1 (decimal_digit 1 (omega arith)))
+no_fault : (d c : Said) (h : Head) → Small (numbers_of c h) → IsReady c d h → words_fault d h (map decimal (numbers_of c h)) ≡ None
+no_fault d c head.Teramac small ready = ap (λ t. if t then None else Some kind.Word) (form_word (decimal c.form) c.form ready refl)
 no_fault d c head.Modules small ready = ap (λ t. if t then None else Some kind.Number) (some_counts (numbers_of c head.Modules) small)
 no_fault d c head.Chips small ready = ap (λ t. if t then None else Some kind.Number) (some_counts (numbers_of c head.Chips) small)
 no_fault d c head.Hextants small ready = ap (λ t. if t then None else Some kind.Number) (some_counts (numbers_of c head.Hextants) small)
@@ -402,13 +414,13 @@ no_fault d c head.End small ready = ap (λ t. if t then None else Some kind.Limi
 pub not_past : (k : ℕ) → k < 9 → nat_lt 8 k ≡ false
 not_past k lt = elim (cases_Bool (nat_lt 8 k)) [ inl over ↦ absurd (omega (arith, ltb-true 8 k over)) | inr within ↦ within ]
 
-head_sound : (s : State) (c : Counts) (h : Head) → s.read ≡ place_of h → length (numbers_of c h) ≡ follow_of h → Small (numbers_of c h) → IsReady s.counts h → head_fault s (Some h) (map decimal (numbers_of c h)) ≡ None
+head_sound : (s : State) (c : Said) (h : Head) → s.read ≡ place_of h → length (numbers_of c h) ≡ follow_of h → Small (numbers_of c h) → IsReady c s.said h → head_fault s (Some h) (map decimal (numbers_of c h)) ≡ None
 head_sound s c h place size small ready =
     let placed : (place_of h == s.read) ≡ true = eq-eqb (place_of h) s.read (sym place) in
     let sized : (length (map decimal (numbers_of c h)) == follow_of h) ≡ true = eq-eqb _ _ (length-map (numbers_of c h) decimal ∙ size) in
-    rw (placed, sized) (no_fault s.counts c h small ready)
+    rw (placed, sized) (no_fault s.said c h small ready)
 
-pub row_sound : (s : State) (c : Counts) (h : Head) (l : LogicalLine) → l.words ≡ count_row c h → s.read ≡ place_of h → length (numbers_of c h) ≡ follow_of h → Small (numbers_of c h) → IsReady s.counts h → fault_of s l ≡ None
+pub row_sound : (s : State) (c : Said) (h : Head) (l : LogicalLine) → l.words ≡ count_row c h → s.read ≡ place_of h → length (numbers_of c h) ≡ follow_of h → Small (numbers_of c h) → IsReady c s.said h → fault_of s l ≡ None
 row_sound s c h l words place size small ready =
     let good : is_bad_line l ≡ false = ap has_bad_byte words ∙ sound_words (count_row c h) (row_is_words c h small) in
     let within : nat_lt 8 s.read ≡ false = not_past s.read (omega (arith, place_below h)) in
@@ -418,18 +430,18 @@ row_sound s c h l words place size small ready =
     ∙ ap (λ o. head_fault s o (map decimal (numbers_of c h))) (head_of-word_of h)
     ∙ head_sound s c h place size small ready
 
-pub after_row : (s : State) (c : Counts) (h : Head) (words : List (List ℕ)) → words ≡ count_row c h → Small (numbers_of c h) → after s words ≡ moved s h (numbers_of c h)
+pub after_row : (s : State) (c : Said) (h : Head) (words : List (List ℕ)) → words ≡ count_row c h → Small (numbers_of c h) → after s words ≡ moved s h (numbers_of c h)
 after_row s c h words is small =
     ap (after s) is
-    ∙ ap (λ o. record { read = s.read + 1; counts = with_line s.counts o (map decimal (numbers_of c h)) }) (head_of-word_of h)
+    ∙ ap (λ o. record { read = s.read + 1; said = with_line s.said o (map decimal (numbers_of c h)) }) (head_of-word_of h)
     ∙ ap (moved s h) (same_values (numbers_of c h) small)
 
-record Read (s : State) (c : Counts) (h : Head) (lines : List LogicalLine) (rows : List (List (List ℕ))) : Type 0 where
+record Read (s : State) (c : Said) (h : Head) (lines : List LogicalLine) (rows : List (List (List ℕ))) : Type 0 where
   rest : List LogicalLine
   rows_are : words_of_lines rest ≡ rows
   same : reading s lines ≡ reading (moved s h (numbers_of c h)) rest
 
-row_read : (s : State) (c : Counts) (h : Head) (lines : List LogicalLine) (rows : List (List (List ℕ))) → words_of_lines lines ≡ count_row c h ∷ rows → s.read ≡ place_of h → length (numbers_of c h) ≡ follow_of h → Small (numbers_of c h) → IsReady s.counts h → Read s c h lines rows
+row_read : (s : State) (c : Said) (h : Head) (lines : List LogicalLine) (rows : List (List (List ℕ))) → words_of_lines lines ≡ count_row c h ∷ rows → s.read ≡ place_of h → length (numbers_of c h) ≡ follow_of h → Small (numbers_of c h) → IsReady c s.said h → Read s c h lines rows
 unfolding reading
 row_read s c h [] rows is place size small ready = absurd cc
 row_read s c h (l ∷ lines) rows is place size small ready =
@@ -440,17 +452,17 @@ row_read s c h (l ∷ lines) rows is place size small ready =
       same = ap (λ f. if_sound l.number f (reading (after s l.words) lines)) (row_sound s c h l words place size small ready) ∙ ap (λ t. reading t lines) (after_row s c h l.words words small);
     }
 
-with_row : {P : Type 0} (s : State) (c : Counts) (h : Head) (lines : List LogicalLine) (rows : List (List (List ℕ))) → words_of_lines lines ≡ count_row c h ∷ rows → s.read ≡ place_of h → length (numbers_of c h) ≡ follow_of h → Small (numbers_of c h) → IsReady s.counts h → ((r : Read s c h lines rows) → P) → P
+with_row : {P : Type 0} (s : State) (c : Said) (h : Head) (lines : List LogicalLine) (rows : List (List (List ℕ))) → words_of_lines lines ≡ count_row c h ∷ rows → s.read ≡ place_of h → length (numbers_of c h) ≡ follow_of h → Small (numbers_of c h) → IsReady c s.said h → ((r : Read s c h lines rows) → P) → P
 with_row s c h lines rows is place size small ready f = f (row_read s c h lines rows is place size small ready)
 
-all_read : (s : State) (lines : List LogicalLine) → s.read ≡ 9 → words_of_lines lines ≡ [] → reading s lines ≡ Ok s.counts
+all_read : (s : State) (lines : List LogicalLine) → s.read ≡ 9 → words_of_lines lines ≡ [] → reading s lines ≡ Ok s.said
 unfolding reading
 all_read s [] full is = rw full refl
 all_read s (l ∷ lines) full is = absurd cc
 
-pub read_back : (lines : List LogicalLine) (c : Counts) → words_of_lines lines ≡ count_rows c → length c.ports ≡ 3 → length c.lines ≡ 4 → ((h : Head) → Small (numbers_of c h)) → is_shape c ≡ true → reading start lines ≡ Ok c
-read_back lines c rows three four small shape =
-    with_row start c head.Teramac lines _ rows refl refl (small head.Teramac) tt (λ r0.
+pub read_back : (lines : List LogicalLine) (c : Said) → words_of_lines lines ≡ count_rows c → length c.counts.ports ≡ 3 → length c.counts.lines ≡ 4 → ((h : Head) → Small (numbers_of c h)) → IsForm c.form → is_shape c ≡ true → reading start lines ≡ Ok c
+read_back lines c rows three four small known shape =
+    with_row start c head.Teramac lines _ rows refl refl (small head.Teramac) known (λ r0.
     let s1 : State = moved start head.Teramac (numbers_of c head.Teramac) in
     with_row s1 c head.Modules r0.rest _ r0.rows_are refl refl (small head.Modules) tt (λ r1.
     let s2 : State = moved s1 head.Modules (numbers_of c head.Modules) in
@@ -472,26 +484,31 @@ read_back lines c rows three four small shape =
 
 -- ---- texts
 
-pub is_machine : (bytes : List ℕ) (c : Counts) → reading start (logical_lines false bytes) ≡ Ok c → MakeShape c → IsMachine bytes c
-is_machine bytes c e made =
+pub is_machine : (bytes : List ℕ) (c : Said) → reading start (logical_lines false bytes) ≡ Ok c → KeepsLimits c → IsMachine bytes c.counts
+is_machine bytes c e limits =
     let s = spelled (logical_lines false bytes) c e in
-    record { rows = s.rows; three = s.three; four = s.four; small = s.small; shape = made }
+    record { form = c.form; known = s.known; rows = s.rows; three = s.three; four = s.four; small = s.small; limits = limits }
 
-pub machine_is_read : (bytes : List ℕ) (c : Counts) → IsMachine bytes c → reading start (logical_lines false bytes) ≡ Ok c
-machine_is_read bytes c m = read_back (logical_lines false bytes) c m.rows m.three m.four m.small (is_shape-made c m.shape)
+pub machine_is_read : (bytes : List ℕ) (c : Counts) (m : IsMachine bytes c) → reading start (logical_lines false bytes) ≡ Ok (said_in m.form c)
+machine_is_read bytes c m =
+    read_back (logical_lines false bytes) (said_in m.form c) m.rows m.three m.four m.small m.known (is_shape-made (said_in m.form c) m.limits)
 
-pub found_is : (bytes : List ℕ) (r : Result Shape MachineFault) → length bytes ≤ most_bytes → IfOk r (λ s. (reading start (logical_lines false bytes) ≡ Ok s.counts) × MakeShape s.counts) → IfOk r (λ s. IsMachine bytes s.counts × (length bytes ≤ most_bytes))
-found_is bytes (Ok s) few h = (is_machine bytes s.counts h.0 h.1, few)
-found_is bytes (Err e) few h = tt
+pub found_is : (bytes : List ℕ) (said : Said) (s : Shape) → length bytes ≤ most_bytes → IsReadShape (logical_lines false bytes) said s → IsMachine bytes s.counts × (length bytes ≤ most_bytes)
+found_is bytes said s few h = (subst (IsMachine bytes) (sym h.1) (is_machine bytes said h.0 h.2), few)
 
-pub only_is : (bytes : List ℕ) (r : Result Shape MachineFault) → IfOk r (λ s. (reading start (logical_lines false bytes) ≡ Ok s.counts) × MakeShape s.counts) → IfErr r (IsReadFault (logical_lines false bytes)) → (c : Counts) → IsMachine bytes c → GivesOrLacks c r
-only_is bytes (Ok s) got first c m = let one : ◌≡◌ {A = Result Counts (ℕ × MachineKind)} (Ok s.counts) (Ok c) = sym got.0 ∙ machine_is_read bytes c m in cc
-only_is bytes (Err Memory) got first c m = tt
-only_is bytes (Err (At line kind)) got first c m = let e : ◌≡◌ {A = Result Counts (ℕ × MachineKind)} (Err (line, kind)) (Ok c) = sym first ∙ machine_is_read bytes c m in absurd cc
+pub only_is : (bytes : List ℕ) (said : Said) (s : Shape) → IsReadShape (logical_lines false bytes) said s → (c : Counts) → IsMachine bytes c → GivesOrLacks c (Ok s)
+only_is bytes said s h c m =
+    let one : ◌≡◌ {A = Result Said (ℕ × MachineKind)} (Ok said) (Ok (said_in m.form c)) = sym h.0 ∙ machine_is_read bytes c m in
+    let same : said ≡ said_in m.form c = cc in
+    h.1 ∙ ap (λ (x : Said). x.counts) same
+
+pub none_is : (bytes : List ℕ) (fault : MachineFault) → IsReadFault (logical_lines false bytes) fault → (c : Counts) → IsMachine bytes c → GivesOrLacks c (Err fault)
+none_is bytes Memory first c m = tt
+none_is bytes (At line kind) first c m = let e : ◌≡◌ {A = Result Said (ℕ × MachineKind)} (Err (line, kind)) (Ok (said_in m.form c)) = sym first ∙ machine_is_read bytes c m in absurd cc
 
 -- ---- what is written
 
-rows_from : (c : Counts) (hs : List Head) → ((h : Head) → Small (numbers_of c h)) → AreRows (map (count_row c) hs)
+rows_from : (c : Said) (hs : List Head) → ((h : Head) → Small (numbers_of c h)) → AreRows (map (count_row c) hs)
 rows_from c [] small k d lt = absurd (omega arith)
 rows_from c (h ∷ hs) small zero d lt = (omega arith, row_is_words c h (small h))
 rows_from c (h ∷ hs) small (suc k) d lt = rows_from c hs small k d (omega arith)
@@ -518,7 +535,7 @@ few_follow head.Lines = (omega arith, omega arith)
 few_follow head.Pins = (omega arith, omega arith)
 few_follow head.End = (omega arith, omega arith)
 
-short_rows : (c : Counts) (hs : List Head) → ((h : Head) → Small (numbers_of c h)) → ((h : Head) → length (numbers_of c h) ≡ follow_of h) → length (written (map (count_row c) hs)) ≤ 33 * length hs
+short_rows : (c : Said) (hs : List Head) → ((h : Head) → Small (numbers_of c h)) → ((h : Head) → length (numbers_of c h) ≡ follow_of h) → length (written (map (count_row c) hs)) ≤ 33 * length hs
 short_rows c [] small size = omega arith
 short_rows c (h ∷ hs) small size =
     let behind = flat_map (λ v. 32 ∷ v) (map decimal (numbers_of c h)) in
@@ -534,7 +551,7 @@ short_rows c (h ∷ hs) small size =
       short_rows c hs small size,
     )
 
-follow_are : (c : Counts) → length c.ports ≡ 3 → length c.lines ≡ 4 → (h : Head) → length (numbers_of c h) ≡ follow_of h
+follow_are : (c : Said) → length c.counts.ports ≡ 3 → length c.counts.lines ≡ 4 → (h : Head) → length (numbers_of c h) ≡ follow_of h
 follow_are c three four head.Teramac = refl
 follow_are c three four head.Modules = refl
 follow_are c three four head.Chips = refl
@@ -545,19 +562,21 @@ follow_are c three four head.Lines = four
 follow_are c three four head.Pins = refl
 follow_are c three four head.End = refl
 
-pub written_is : (c : Counts) → length c.ports ≡ 3 → length c.lines ≡ 4 → ((h : Head) → Small (numbers_of c h)) → MakeShape c → IsMachine (written (count_rows c)) c × (length (written (count_rows c)) ≤ most_bytes)
-written_is c three four small made = (
+pub written_is : (c : Said) → IsForm c.form → length c.counts.ports ≡ 3 → length c.counts.lines ≡ 4 → ((h : Head) → Small (numbers_of c h)) → KeepsLimits c → IsMachine (written (count_rows c)) c.counts × (length (written (count_rows c)) ≤ most_bytes)
+written_is c known three four small limits = (
   record {
+    form = c.form;
+    known = known;
     rows = ap words_of_lines (lines_back 1 (count_rows c) (rows_from c heads small)) ∙ words_numbered 1 (count_rows c);
     three = three;
     four = four;
     small = small;
-    shape = made;
+    limits = limits;
   },
   omega (arith, short_rows c heads small (follow_are c three four)),
 )
 
-pub written_more : (c : Counts) (hs : List Head) (i : ℕ) (d : Head) → i < length hs → written (map (count_row c) (take (i + 1) hs)) ≡ written (map (count_row c) (take i hs)) ++ written_line (count_row c (get_or hs i d))
+pub written_more : (c : Said) (hs : List Head) (i : ℕ) (d : Head) → i < length hs → written (map (count_row c) (take (i + 1) hs)) ≡ written (map (count_row c) (take i hs)) ++ written_line (count_row c (get_or hs i d))
 written_more c hs i d lt =
     ap (λ gs. written (map (count_row c) gs)) (take_more hs i d lt)
     ∙ ap written (map-append (count_row c) (take i hs) (get_or hs i d ∷ []))
@@ -566,7 +585,7 @@ written_more c hs i d lt =
 
 -- ---- the numbers of a shape
 
-abbrev AllFit : Counts → Head → Type 0
+abbrev AllFit : Said → Head → Type 0
 AllFit c h = All (λ n. n < 65536) (numbers_of c h)
 
 one_small : (n : ℕ) → (n ≡ 0 → ⊥) → All (λ n. n < 65536) (n ∷ []) → Small (n ∷ [])
@@ -579,24 +598,36 @@ list_small ns some fits k d within = (above (get_or ns k d) (λ e. some (k, with
     above : (n : ℕ) → (n ≡ 0 → ⊥) → 0 < n
     above n other = omega arith
 
-small_from : (c : Counts) → MakeShape c → ((h : Head) → AllFit c h) → (h : Head) → Small (numbers_of c h)
-small_from c made fits head.Teramac = one_small 1 (λ e. omega arith) (fits head.Teramac)
-small_from c made fits head.Modules = one_small c.modules (made.full field.Modules) (fits head.Modules)
-small_from c made fits head.Chips = one_small c.chips (made.full field.Chips) (fits head.Chips)
-small_from c made fits head.Hextants = one_small c.hextants (made.full field.Hextants) (fits head.Hextants)
-small_from c made fits head.Tables = one_small c.tables (made.full field.Tables) (fits head.Tables)
-small_from c made fits head.Ports = list_small c.ports (made.full field.Ports) (fits head.Ports)
-small_from c made fits head.Lines = list_small c.lines (made.full field.Lines) (fits head.Lines)
-small_from c made fits head.Pins = one_small c.pins (made.full field.Pins) (fits head.Pins)
-small_from c made fits head.End = λ k d lt. absurd (omega arith)
+small_from : (c : Said) → IsForm c.form → KeepsLimits c → ((h : Head) → AllFit c h) → (h : Head) → Small (numbers_of c h)
+small_from c known made fits head.Teramac = one_small c.form (λ e. let few = few_form c.form known in omega (arith, few.0, e)) (fits head.Teramac)
+small_from c known made fits head.Modules = one_small c.counts.modules (made.shape.full field.Modules) (fits head.Modules)
+small_from c known made fits head.Chips = one_small c.counts.chips (made.shape.full field.Chips) (fits head.Chips)
+small_from c known made fits head.Hextants = one_small c.counts.hextants (made.shape.full field.Hextants) (fits head.Hextants)
+small_from c known made fits head.Tables = one_small c.counts.tables (made.shape.full field.Tables) (fits head.Tables)
+small_from c known made fits head.Ports = list_small c.counts.ports (made.shape.full field.Ports) (fits head.Ports)
+small_from c known made fits head.Lines = list_small c.counts.lines (made.shape.full field.Lines) (fits head.Lines)
+small_from c known made fits head.Pins = one_small c.counts.pins (made.shape.full field.Pins) (fits head.Pins)
+small_from c known made fits head.End = λ k d lt. absurd (omega arith)
 
 -- each line is among them
 each_head : (P : Head → Type 0) → All P heads → (h : Head) → P h
 each_head P all h = subst P (at_place-place_of h) (all (place_of h) head.End (place_below h))
 
-pub shape_written : (c : Counts) → length c.ports ≡ 3 → length c.lines ≡ 4 → MakeShape c → All (AllFit c) heads → IsMachine (text_of c) c × (length (text_of c) ≤ most_bytes)
+-- the form of a shape's text
+form_known : (b : Bool) → IsForm (if b then 1 else 2)
+form_known true = inl refl
+form_known false = inr refl
+
+one_is_small : (b : Bool) → (if b then 1 else 2) ≡ 1 → b ≡ true
+one_is_small true e = refl
+one_is_small false e = absurd (omega (arith, e))
+
+pub shape_written : (c : Counts) → length c.ports ≡ 3 → length c.lines ≡ 4 → MakeShape c → All (AllFit (said_in (form_of c) c)) heads → IsMachine (text_of c) c × (length (text_of c) ≤ most_bytes)
 unfolding text_of
-shape_written c three four made fits = written_is c three four (small_from c made (each_head (AllFit c) fits)) made
+shape_written c three four made fits =
+    let s : Said = said_in (form_of c) c in
+    let limits : KeepsLimits s = record { shape = made; small = one_is_small (is_small c) } in
+    written_is s (form_known (is_small c)) three four (small_from s (form_known (is_small c)) limits (each_head (AllFit s) fits)) limits
 
 pub all_more : (P : Head → Type 0) (hs : List Head) (i : ℕ) (d : Head) → i < length hs → All P (take i hs) → P (get_or hs i d) → All P (take (i + 1) hs)
 all_more P hs i d lt before this = subst (All P) (sym (take_more hs i d lt)) (All-append P (take i hs) (get_or hs i d ∷ []) before (one this))

@@ -1,14 +1,9 @@
 -- A text has one first fault: reading comes to it.
-use Rattle.std.proofs.Common.{◌≡◌, ◌≢◌, ℕ, zero, suc, ◌+◌, ◌++◌, ◌<◌, ◌==◌, true, false, not, nat_lt, List, [], ◌∷◌, Option, Some, None, Ok, Err, length, map, drop, take, get_or, refl, sym, ap, ◌∙◌, subst, arith, inl, inr, ◌⊎◌, if◌then◌else◌, codes}
+use Rattle.std.proofs.Common.{◌≡◌, ◌≢◌, ℕ, zero, suc, ◌+◌, ◌++◌, ◌<◌, ◌==◌, true, false, not, nat_lt, List, [], ◌∷◌, Option, Some, None, Ok, Err, length, map, drop, take, get_or, refl, sym, ap, ◌∙◌, subst, arith, inl, inr, ◌⊎◌, if◌then◌else◌}
 use Rattle.std.specs.Fmt.{decimal}
 use Rattle.std.specs.List.{list_all, AllByRecursion}
-use Rattle.std.specs.Str.{bytes_eq}
 use Rattle.std.proofs.lemmas.Bool.{cases_Bool, ltb-true, ltb-false, lt-ltb, eq-eqb, eqb-true, false≢true}
 use Rattle.std.proofs.lemmas.List.{nil_from_length, length-map, append-nil, take-take}
-use Rattle.std.proofs.lemmas.Fmt.{decimal_digit}
-use Rattle.std.proofs.lemmas.Slice.Eq.{bytes_eq-Decides}
-use Rattle.machine_shape.specs.declared.Counts.{Counts}
-use Rattle.machine_shape.specs.Limits.{MakeShape}
 use Rattle.base_text.specs.Lines.{LogicalLine}
 use Rattle.machine_text.specs.declared.head.Head.{Head}
 use Rattle.machine_text.specs.declared.head.Head.TheVariants as head
@@ -16,15 +11,16 @@ use Rattle.machine_text.specs.declared.kind.MachineKind.{MachineKind}
 use Rattle.machine_text.specs.declared.kind.MachineKind.TheVariants as kind
 use Rattle.machine_text.specs.Faults.{AreCounts, HasCounts, AreFirstLines, PassesLimit, IsRestFault, size, format, number, limit, IsWordsFault, over, unknown, not_due, due, IsLineFault, bad, words, IsFirstFault, at_line, at_end}
 use Rattle.machine_text.specs.Heads.{heads, word_of, place_of, follow_of, head_of}
-use Rattle.machine_text.specs.Machine.{numbers_of, count_row}
-use Rattle.machine_text.specs.Reading.{State, start, is_count, words_fault, said_fault, fault_of, after, if_sound, reading, is_shape}
-use Rattle.machine_text.proofs.CountLemmas.{made, is_shape-made}
+use Rattle.machine_text.specs.declared.said.Said.{Said}
+use Rattle.machine_text.specs.Machine.{IsForm, KeepsLimits, numbers_of, count_row}
+use Rattle.machine_text.specs.Reading.{State, start, is_count, is_form, words_fault, said_fault, fault_of, after, if_sound, reading, is_shape}
+use Rattle.machine_text.proofs.CountLemmas.{form_parts, is_shape-made, no_shape}
 use Rattle.machine_text.proofs.GrammarLemmas.{place_below, word_first, head_of-word_of, moved, IsReady, not_past, row_sound, after_row, counts_are, one_word}
 use Rattle.machine_text.proofs.FaultLemmas.{stopped}
 
 -- ---- right lines are read
 
-module _ (c : Counts) where
+module _ (c : Said) where
   -- the state after lines of these kinds
   abbrev after_heads : State → List Head → State
   after_heads s [] = s
@@ -33,25 +29,29 @@ module _ (c : Counts) where
   -- each stands in its place, and at the last line the counts make a shape
   abbrev Fits : State → List Head → Type 0
   Fits s [] = Unit {0}
-  Fits s (h ∷ hs) = (s.read ≡ place_of h) × (IsReady s.counts h × Fits (moved s h (numbers_of c h)) hs)
+  Fits s (h ∷ hs) = (s.read ≡ place_of h) × (IsReady c s.said h × Fits (moved s h (numbers_of c h)) hs)
 
   fits_take : (n : ℕ) (s : State) (hs : List Head) → Fits s hs → Fits s (take n hs)
   fits_take zero s hs f = tt
   fits_take (suc n) s [] f = tt
   fits_take (suc n) s (h ∷ hs) f = (f.0, (f.1.0, fits_take n (moved s h (numbers_of c h)) hs f.1.1))
 
-  eight_fit : Fits start (take 8 heads)
-  eight_fit = (refl, (tt, (refl, (tt, (refl, (tt, (refl, (tt, (refl, (tt, (refl, (tt, (refl, (tt, (refl, (tt, tt))))))))))))))))
+  eight_fit : IsForm c.form → Fits start (take 8 heads)
+  eight_fit known = (refl, (known, (refl, (tt, (refl, (tt, (refl, (tt, (refl, (tt, (refl, (tt, (refl, (tt, (refl, (tt, tt))))))))))))))))
 
-  nine_fit : is_shape c ≡ true → Fits start heads
-  nine_fit e = (refl, (tt, (refl, (tt, (refl, (tt, (refl, (tt, (refl, (tt, (refl, (tt, (refl, (tt, (refl, (tt, (refl, (e, tt))))))))))))))))))
+  nine_fit : IsForm c.form → is_shape c ≡ true → Fits start heads
+  nine_fit known e = (refl, (known, (refl, (tt, (refl, (tt, (refl, (tt, (refl, (tt, (refl, (tt, (refl, (tt, (refl, (tt, (refl, (e, tt))))))))))))))))))
 
-  fit : (n : ℕ) → (8 < n → MakeShape c) → Fits start (take n heads)
-  fit n shape = by (cases_Bool (nat_lt 8 n))
+  fit : (n : ℕ) → (0 < n → IsForm c.form) → (8 < n → KeepsLimits c) → Fits start (take n heads)
+  fit zero form shape = tt
+  fit (suc n) form shape = by (cases_Bool (nat_lt 8 (suc n)))
     where
-      by : (nat_lt 8 n ≡ true) ⊎ (nat_lt 8 n ≡ false) → Fits start (take n heads)
-      by (inl past) = fits_take n start heads (nine_fit (is_shape-made c (shape (ltb-true 8 n past))))
-      by (inr within) = subst (Fits start) (take-take n 8 heads (ltb-false 8 n within)) (fits_take n start (take 8 heads) eight_fit)
+      known : IsForm c.form
+      known = form (omega arith)
+
+      by : (nat_lt 8 (suc n) ≡ true) ⊎ (nat_lt 8 (suc n) ≡ false) → Fits start (take (suc n) heads)
+      by (inl past) = fits_take (suc n) start heads (nine_fit known (is_shape-made c (shape (ltb-true 8 (suc n) past))))
+      by (inr within) = subst (Fits start) (take-take (suc n) 8 heads (ltb-false 8 (suc n) within)) (fits_take (suc n) start (take 8 heads) (eight_fit known))
 
   read_after : (s : State) (hs : List Head) → (after_heads s hs).read ≡ s.read + length hs
   read_after s [] = omega arith
@@ -80,10 +80,10 @@ module _ (c : Counts) where
     read_is = let e = read_after start (take (length above) heads) in let m = many in omega (arith, e, m)
 
     on : (rest : List LogicalLine) → reading start (above ++ rest) ≡ reading stood rest
-    on rest = walk start (take (length above) heads) above rest first.rows first.counts (fit (length above) first.shape)
+    on rest = walk start (take (length above) heads) above rest first.rows first.counts (fit (length above) first.form first.shape)
 
-    counts_at_last : length above ≡ 8 → stood.counts ≡ c
-    counts_at_last e = ap (λ n. (after_heads start (take n heads)).counts) e
+    counts_at_last : length above ≡ 8 → stood.said ≡ c
+    counts_at_last e = ap (λ n. (after_heads start (take n heads)).said) e
 
     -- ---- a fault is read
 
@@ -97,9 +97,9 @@ module _ (c : Counts) where
     no_head ws none None e = e
     no_head ws none (Some h) e = absurd (none h (drop 1 ws) (word_first ws h e))
 
-    unformed : (rest : List (List ℕ)) → length rest ≡ 1 → rest ≢ decimal 1 ∷ [] → bytes_eq (get_or rest 0 []) (codes "1") ≡ false
-    unformed rest sized other = elim (cases_Bool (bytes_eq (get_or rest 0 []) (codes "1"))) [
-      | inl is ↦ absurd (other (one_word rest sized ∙ ap (λ w. w ∷ []) ((bytes_eq-Decides (get_or rest 0 []) (codes "1")).0 is ∙ sym (decimal_digit 1 (omega arith)))))
+    unformed : (rest : List (List ℕ)) → length rest ≡ 1 → ((n : ℕ) → IsForm n → rest ≢ decimal n ∷ []) → is_form (get_or rest 0 []) ≡ false
+    unformed rest sized other = elim (cases_Bool (is_form (get_or rest 0 []))) [
+      | inl is ↦ let parts = form_parts (get_or rest 0 []) is in absurd (other _ parts.2 (one_word rest sized ∙ ap (λ w. w ∷ []) parts.1))
       | inr is ↦ is
     ]
 
@@ -109,7 +109,7 @@ module _ (c : Counts) where
       | inr is ↦ is
     ]
 
-    no_number : (d : Counts) (h : Head) (rest : List (List ℕ)) → length rest ≡ follow_of h → h ≢ head.Teramac → list_all is_count rest ≡ false → words_fault d h rest ≡ Some kind.Number
+    no_number : (d : Said) (h : Head) (rest : List (List ℕ)) → length rest ≡ follow_of h → h ≢ head.Teramac → list_all is_count rest ≡ false → words_fault d h rest ≡ Some kind.Number
     no_number d head.Teramac rest sized other e = absurd (other refl)
     no_number d head.Modules rest sized other e = rw e refl
     no_number d head.Chips rest sized other e = rw e refl
@@ -120,16 +120,15 @@ module _ (c : Counts) where
     no_number d head.Pins rest sized other e = rw e refl
     no_number d head.End rest sized other e = absurd (false≢true (sym e ∙ ap (list_all is_count) (nil_from_length rest sized)))
 
-    no_shape : (d : Counts) → PassesLimit d → is_shape d ≡ false
-    no_shape d p = elim (cases_Bool (is_shape d)) [ inl is ↦ let le = (made d is).within p.0 in let lt = p.1 in absurd (omega (arith, le, lt)) | inr is ↦ is ]
-
     -- of words behind the first that are as many as they are to be
-    sized_fault : {h : Head} {rest : List (List ℕ)} {k : MachineKind} → place_of h ≡ length above → IsRestFault c h rest k → (if not (length rest == follow_of h) then Some kind.Word else words_fault stood.counts h rest) ≡ Some k
+    sized_fault : {h : Head} {rest : List (List ℕ)} {k : MachineKind} → place_of h ≡ length above → IsRestFault c h rest k → (if not (length rest == follow_of h) then Some kind.Word else words_fault stood.said h rest) ≡ Some k
     sized_fault {h} {rest} at (size other) = rw (not_equal (length rest) (follow_of h) other) refl
-    sized_fault {rest = rest} at (format sized other) = rw (eq-eqb (length rest) 1 sized, unformed rest sized other) refl
-    sized_fault {h} {rest} at (number sized other none) = rw (eq-eqb (length rest) (follow_of h) sized) (no_number stood.counts h rest sized other (uncounted rest none))
+    sized_fault {rest = rest} at (format sized other) =
+        ap (λ t. if not t then Some kind.Word else words_fault stood.said head.Teramac rest) (eq-eqb (length rest) 1 sized)
+        ∙ ap (λ t. if t then None else Some kind.Word) (unformed rest sized other)
+    sized_fault {h} {rest} at (number sized other none) = rw (eq-eqb (length rest) (follow_of h) sized) (no_number stood.said h rest sized other (uncounted rest none))
     sized_fault {rest = rest} at (limit nil passes) =
-        rw (eq-eqb (length rest) 0 (ap length nil), no_shape stood.counts (subst PassesLimit (sym (counts_at_last (sym at))) passes)) refl
+        rw (eq-eqb (length rest) 0 (ap length nil), no_shape stood.said (subst PassesLimit (sym (counts_at_last (sym at))) passes)) refl
 
     words_read : {ws : List (List ℕ)} {k : MachineKind} → IsWordsFault c (length above) ws k → said_fault stood ws ≡ Some k
     words_read (over e) = let r = read_is in rw (lt-ltb 8 stood.read (omega (arith, e, r))) refl
@@ -143,7 +142,7 @@ module _ (c : Counts) where
         let r = read_is in
         let low = place_below h in
         rw (not_past stood.read (omega (arith, low, r, at)), some_head ws h rest is, eq-eqb (place_of h) stood.read (at ∙ sym r))
-        (subst (λ v. (if not (length v == follow_of h) then Some kind.Word else words_fault stood.counts h v) ≡ Some k) (sym (ap (drop 1) is)) (sized_fault at fault))
+        (subst (λ v. (if not (length v == follow_of h) then Some kind.Word else words_fault stood.said h v) ≡ Some k) (sym (ap (drop 1) is)) (sized_fault at fault))
 
     line_read : {l : LogicalLine} {k : MachineKind} → IsLineFault c (length above) l k → fault_of stood l ≡ Some k
     line_read (bad is) = rw is refl
@@ -155,7 +154,7 @@ module _ (c : Counts) where
 
     at_end_read : length above < 9 → reading start above ≡ Err (0, kind.Missing)
     unfolding reading
-    at_end_read low = ap (reading start) (sym (append-nil above)) ∙ on [] ∙ ap (λ t. if t then Err (0, kind.Missing) else Ok stood.counts) (let r = read_is in lt-ltb stood.read 9 (omega (arith, low, r)))
+    at_end_read low = ap (reading start) (sym (append-nil above)) ∙ on [] ∙ ap (λ t. if t then Err (0, kind.Missing) else Ok stood.said) (let r = read_is in lt-ltb stood.read 9 (omega (arith, low, r)))
 
 pub fault_read : (lines : List LogicalLine) (n : ℕ) (k : MachineKind) → IsFirstFault lines n k → reading start lines ≡ Err (n, k)
 fault_read lines n k (at_line c above line below parts first fault) = subst (λ ls. reading start ls ≡ Err (line.number, k)) parts (at_line_read c above first line below k fault)

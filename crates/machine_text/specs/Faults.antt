@@ -5,7 +5,7 @@ use Rattle.std.specs.List.{AllByRecursion}
 use Rattle.machine_shape.specs.declared.Counts.{Counts}
 use Rattle.machine_shape.specs.declared.Shape.{Shape}
 use Rattle.machine_shape.specs.declared.LimitedCount.{LimitedCount}
-use Rattle.machine_shape.specs.Limits.{MakeShape, amount_of, most_of}
+use Rattle.machine_shape.specs.Limits.{amount_of, is_small, most_of_large}
 use Rattle.base_text.specs.Vocabulary.{LogicalLine, logical_lines, is_bad_line, most_bytes}
 use Rattle.machine_text.specs.declared.head.Head.{Head}
 use Rattle.machine_text.specs.declared.head.Head.TheVariants as head
@@ -14,36 +14,38 @@ use Rattle.machine_text.specs.declared.kind.MachineKind.TheVariants.{Byte, Word,
 use Rattle.machine_text.specs.declared.kind.MachineFault.{MachineFault}
 use Rattle.machine_text.specs.declared.kind.MachineFault.TheVariants.{At, Memory}
 use Rattle.machine_text.specs.Heads.{heads, word_of, place_of, follow_of}
-use Rattle.machine_text.specs.Machine.{numbers_of, count_row}
+use Rattle.machine_text.specs.declared.said.Said.{Said}
+use Rattle.machine_text.specs.Machine.{IsForm, KeepsLimits, numbers_of, count_row}
 
 abbrev pub AreCounts : List ℕ → Type 0
 AreCounts ns = All (λ n. (0 < n) × (n ≤ 65535)) ns
 
 -- a line of this kind has as many counts as it is to have
-abbrev pub HasCounts : Counts → Head → Type 0
+abbrev pub HasCounts : Said → Head → Type 0
 HasCounts c h = (length (numbers_of c h) ≡ follow_of h) × AreCounts (numbers_of c h)
 
--- These are the first lines of a text with these counts: each is right. Where the last is among them, the counts make
--- a shape.
-pub record AreFirstLines (c : Counts) (lines : List LogicalLine) : Type 0 where
+-- These are the first lines of a text that says this: each is right. Where the last is among them, the counts make a shape,
+-- in the first form a small one.
+pub record AreFirstLines (c : Said) (lines : List LogicalLine) : Type 0 where
   pub rows : map (λ l. l.words) lines ≡ map (count_row c) (take (length lines) heads)
   pub counts : AllByRecursion (HasCounts c) (take (length lines) heads)
-  pub shape : 8 < length lines → MakeShape c
+  pub form : 0 < length lines → IsForm c.form
+  pub shape : 8 < length lines → KeepsLimits c
 
--- it has too many tables, wires or crosspoints
-abbrev pub PassesLimit : Counts → Type 0
-PassesLimit c = (which : LimitedCount) × (most_of which < amount_of c which)
+-- it has too many tables, wires or crosspoints for a small shape, and in the second form too many of something for the others
+abbrev pub PassesLimit : Said → Type 0
+PassesLimit c = (is_small c.counts ≡ false) × ((c.form ≡ 1) ⊎ ((which : LimitedCount) × (most_of_large which < amount_of c.counts which)))
 
 -- what is wrong with the words behind the first word of a line of this kind
-pub data IsRestFault (c : Counts) : Head → List (List ℕ) → MachineKind → Type 0 where
+pub data IsRestFault (c : Said) : Head → List (List ℕ) → MachineKind → Type 0 where
   size : {h : Head} {rest : List (List ℕ)} → length rest ≢ follow_of h → IsRestFault c h rest Word
-  format : {rest : List (List ℕ)} → length rest ≡ 1 → rest ≢ decimal 1 ∷ [] → IsRestFault c head.Teramac rest Word
+  format : {rest : List (List ℕ)} → length rest ≡ 1 → ((n : ℕ) → IsForm n → rest ≢ decimal n ∷ []) → IsRestFault c head.Teramac rest Word
   number : {h : Head} {rest : List (List ℕ)} → length rest ≡ follow_of h → h ≢ head.Teramac →
       ((ns : List ℕ) → AreCounts ns → rest ≢ map decimal ns) → IsRestFault c h rest Number
   limit : {rest : List (List ℕ)} → rest ≡ [] → PassesLimit c → IsRestFault c head.End rest Limit
 
--- what is wrong with the words of a line, n right lines above which give these counts
-pub data IsWordsFault (c : Counts) (n : ℕ) (words : List (List ℕ)) : MachineKind → Type 0 where
+-- what is wrong with the words of a line, n right lines above which say this
+pub data IsWordsFault (c : Said) (n : ℕ) (words : List (List ℕ)) : MachineKind → Type 0 where
   over : n ≡ 9 → IsWordsFault c n words After
   unknown : n < 9 → ((h : Head) (rest : List (List ℕ)) → words ≢ word_of h ∷ rest) → IsWordsFault c n words Word
   not_due : n < 9 → (h : Head) (rest : List (List ℕ)) → words ≡ word_of h ∷ rest → place_of h ≢ n →
@@ -52,16 +54,16 @@ pub data IsWordsFault (c : Counts) (n : ℕ) (words : List (List ℕ)) : Machine
       IsRestFault c h rest kind → IsWordsFault c n words kind
 
 -- a bad byte comes before what is wrong with the words
-pub data IsLineFault (c : Counts) (n : ℕ) (line : LogicalLine) : MachineKind → Type 0 where
+pub data IsLineFault (c : Said) (n : ℕ) (line : LogicalLine) : MachineKind → Type 0 where
   bad : is_bad_line line ≡ true → IsLineFault c n line Byte
   words : {kind : MachineKind} → is_bad_line line ≡ false → IsWordsFault c n line.words kind → IsLineFault c n line kind
 
 -- The first line that is wrong: those above it are right. A text of right lines alone that ends before the ninth is
 -- wrong as a whole, at line 0.
 pub data IsFirstFault (lines : List LogicalLine) : ℕ → MachineKind → Type 0 where
-  at_line : {kind : MachineKind} (c : Counts) (above : List LogicalLine) (line : LogicalLine) (below : List LogicalLine) →
+  at_line : {kind : MachineKind} (c : Said) (above : List LogicalLine) (line : LogicalLine) (below : List LogicalLine) →
       above ++ line ∷ below ≡ lines → AreFirstLines c above → IsLineFault c (length above) line kind → IsFirstFault lines line.number kind
-  at_end : (c : Counts) → AreFirstLines c lines → length lines < 9 → IsFirstFault lines 0 Missing
+  at_end : (c : Said) → AreFirstLines c lines → length lines < 9 → IsFirstFault lines 0 Missing
 
 -- too many bytes are a fault of the whole text; else it is the first fault of the lines
 abbrev pub IsFault : List ℕ → ℕ → MachineKind → Type 0

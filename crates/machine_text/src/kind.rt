@@ -7,7 +7,7 @@ use thiserror::Error;
 pub enum MachineKind {
     /// A bad byte stands in the line.
     Byte,
-    /// The first word is none of the nine, the number of words is wrong, or `teramac` isn't followed by `1`.
+    /// The first word is none of the nine, the number of words is wrong, or `teramac` isn't followed by `1` or `2`.
     Word,
     /// The first word is not the one that is due.
     Order,
@@ -15,7 +15,7 @@ pub enum MachineKind {
     Number,
     /// The text ends before the ninth line; this is at line 0.
     Missing,
-    /// There are too many tables, wires or crosspoints, at the line `end`; or too many bytes, at line 0.
+    /// There are too many tables, wires, crosspoints or pins for the form, at the line `end`; or too many bytes, at line 0.
     Limit,
     /// The nine lines are complete.
     After,

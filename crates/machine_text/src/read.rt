@@ -2,15 +2,15 @@
 
 ghost use Rattle.std.specs.Prelude.{◌≡◌, ◌≤◌, false, length, None, Some, Ok, Err, IfOk, IfErr};
 ghost use Rattle.machine_shape.specs.declared.Counts.{Counts};
-ghost use Rattle.machine_shape.specs.Limits.{MakeShape};
 ghost use Rattle.base_text.specs.Vocabulary.{logical_lines, most_bytes};
 ghost use Rattle.machine_text.specs.Faults.{IsRefusedAs, GivesOrLacks};
 ghost use Rattle.machine_text.specs.Machine.{IsMachine};
-ghost use Rattle.machine_text.specs.Readers.{state_of, IsReader, IsReadFault};
+ghost use Rattle.machine_text.specs.Readers.{state_of, IsReader, IsReadFault, IsReadShape};
 ghost use Rattle.machine_text.specs.Reading.{reading, start};
 
 use crate::kind::{MachineFault, MachineKind};
 use crate::reader::{Reader, take_line};
+use crate::said::Said;
 use base_text::{LineFault, Lines, MOST_BYTES};
 use machine_shape::{Counts, Shape};
 use std::alloc::Global;
@@ -31,15 +31,15 @@ fn new_reader() -> Reader
     };
     Reader {
         read: 0,
-        counts,
+        said: Said { form: 0, counts },
         shape: None,
     }
 }
 
-/// Reads the lines of a text.
+/// Reads the lines of a text: what they say, and the shape of it.
 #[tactic(auto, unfolding(crate::specs::Reading::reading))]
-fn read_lines(alloc: Global, bytes: &[u8]) -> Result<Shape, MachineFault>
-    ensures found { IfOk result (λ s. (reading start (logical_lines false bytes.now) ≡ Ok s.counts) × MakeShape s.counts) }
+fn read_lines(alloc: Global, bytes: &[u8]) -> Result<(Said, Shape), MachineFault>
+    ensures found { IfOk result (λ r. IsReadShape (logical_lines false bytes.now) r.0 r.1) }
     ensures refused { IfErr result (IsReadFault (logical_lines false bytes.now)) }
 {
     let mut lines = Lines::new(alloc, bytes, false);
@@ -60,13 +60,16 @@ fn read_lines(alloc: Global, bytes: &[u8]) -> Result<Shape, MachineFault>
             }
         }
     }
-    reader.shape.ok_or(MachineFault::At {
-        line: 0,
-        kind: MachineKind::Missing,
-    })
+    match reader.shape {
+        Some(shape) => Ok((reader.said, shape)),
+        None => Err(MachineFault::At {
+            line: 0,
+            kind: MachineKind::Missing,
+        }),
+    }
 }
 
-/// The shape whose machine the text is of. It is refused at its first faulty line, and there for what comes first
+/// The shape whose machine the text is of, which is small where its first line says `teramac 1`. It is refused at its first faulty line, and there for what comes first
 /// in the order byte, after, word, order, word, number, limit; as missing, at line 0, where it ends before its ninth
 /// line; and for its limit, at line 0, where it has more than 16,777,216 bytes.
 pub fn read_machine(alloc: Global, bytes: &[u8]) -> Result<Shape, MachineFault>
@@ -81,5 +84,8 @@ pub fn read_machine(alloc: Global, bytes: &[u8]) -> Result<Shape, MachineFault>
             kind: MachineKind::Limit,
         });
     }
-    read_lines(alloc, bytes)
+    match read_lines(alloc, bytes) {
+        Ok((_, shape)) => Ok(shape),
+        Err(fault) => Err(fault),
+    }
 }

@@ -2,6 +2,7 @@
 pub mod Lonely
 pub mod Sounding
 -- For the proofs of this crate alone.
+mod Limits
 mod Lists
 mod Moving
 mod Standing

@@ -1,5 +1,6 @@
 //! What of a whole image is one network's.
 ghost use Rattle.std.specs.Prelude.{◌≡◌, ◌≢◌, ◌<◌, ◌≤◌, ◌+◌, All, AllPairs, IfOk, OnOk, length, if◌then◌else◌};
+ghost use Rattle.machine_shape.specs.Bounds.{most_ticks};
 ghost use Rattle.machine_shape.specs.Shape.{crosses_of, tables_of, wires_of};
 ghost use Rattle.machine_config.specs.Configuration.{with_closed};
 ghost use Rattle.place_route.specs.Closing.{Closes};
@@ -106,6 +107,7 @@ pub fn tenant(
     requires outputs { site.now.output + length network.now.outputs ≤ length whole.now.outputs }
     requires within { All (λ t. t.0 < tables_of whole.now.config.shape) plan.now.tables }
     requires apart { AllPairs (λ t u. t.0 ≢ u.0) plan.now.tables }
+    requires few { length plan.now.tables ≤ most_ticks whole.now.config.shape }
     ensures { IfOk result (IsTenant site.now network.now plan.now owners.now whole.now) }
 {
     let tables = network.tables.as_slice().len();

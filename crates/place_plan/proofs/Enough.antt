@@ -1,12 +1,12 @@
 -- Enough free parts are room for the in-order plan.
-use Rattle.std.proofs.Common.{◌≡◌, ℕ, zero, suc, ◌+◌, ◌<◌, ◌≤◌, false, None, List, [], ◌∷◌, length, get_or, refl, sym, ap, subst, arith}
+use Rattle.std.proofs.Common.{◌≡◌, ℕ, zero, suc, ◌+◌, ◌<◌, ◌≤◌, false, None, List, [], ◌∷◌, length, get_or, min, refl, sym, ap, subst, arith}
 use Rattle.std.specs.FinSet as set
 use Rattle.std.specs.List.{All, AllPairs, Contains}
 use Rattle.std.proofs.lemmas.Bool.{false_from_ne_true}
 use Rattle.std.proofs.lemmas.List.{length-map}
 use Rattle.std.proofs.lemmas.List.Elements.{All-weaker, Contains-get_or}
 use Rattle.machine_shape.specs.declared.Shape.{Shape}
-use Rattle.machine_shape.specs.Vocabulary.{nodes_of, tables_of, pins_of, crosses_of, hextant_of, pin_wire, table_wire, IsLine, IsPort, IsNumbered, IsTree, HasParents}
+use Rattle.machine_shape.specs.Vocabulary.{nodes_of, tables_of, pins_of, crosses_of, hextant_of, pin_wire, table_wire, IsLine, IsPort, IsNumbered, IsTree, HasParents, HasTaps, HasCrosses, HasSites, most_ticks}
 use Rattle.machine_meaning.specs.Vocabulary.{Faults, stuck_cross, IsSoundWire, IsSoundTable, IsWholeLine, IsServed, Defects, IsFreeWire, IsFreeTable, IsOpenLine, IsTight, pin_stands, IsSeated, IsSoundCrossOf, IsStanding, HasStandingParts}
 use Rattle.design_netlist.proofs.ListLemmas.{few_numbers}
 use Rattle.map_network.specs.declared.network.Network.{Network}
@@ -19,6 +19,7 @@ use Rattle.place_plan.specs.declared.short.Resource.TheVariants.{Tables, Pins, P
 use Rattle.place_plan.specs.declared.short.Short.{Short}
 use Rattle.place_plan.specs.Vocabulary.{AreThose, nth_of, Crosses, HasPort, IsTapOf, by_terminal, by_child, by_port, IsFreePort, CrossesAt, VisitsAt, Serves, ArePorts, AreShort, IsUnmet, IsPlan, IsInOrder, IsTerminal, drives, reads, shows, nets_in, number_of, place_of, IsFreeTableOf, IsFreePinOf, AreNeeds, InOrderIsShort, IsShortInOrder, AtLeast, IsOpenLineOf, HasEnough, IsSoundTableOf, IsSoundPinOf, IsWholeLineOf, IsSoundPort, HasSoundParts, IsStandingTableOf, IsStandingLineOf, IsStandingPort, HasStandingRoom}
 use Rattle.place_plan.proofs.Counting.{pigeon}
+use Rattle.place_plan.proofs.FewNets.{few-on}
 use Rattle.place_plan.proofs.Fitting.{plan_is}
 use Rattle.machine_shape.proofs.Halves.{All-left, All-right}
 use Rattle.place_plan.proofs.PlanNets.{terminal_within}
@@ -46,6 +47,13 @@ at-least P Q k f enough = record {
   many = enough.many;
 }
 
+-- tables are wanted no more than there are and may be on
+tables-met : (P : ℕ → Type 0) (k most : ℕ) (xs : List ℕ) (q : Need) (s : Short) → AtLeast P k → k ≤ most → AreThose P xs → q.need ≡ k → q.have ≡ min (length xs) most → IsUnmet q s → ⊥
+tables-met P k most xs q s enough few those need have unmet =
+    let met = counted P k xs enough those in
+    let less : q.have < q.need = unmet.2 in
+    omega (arith, met, few, need, have, less)
+
 -- a need that is met
 never-unmet : (P : ℕ → Type 0) (k : ℕ) (xs : List ℕ) (q : Need) (s : Short) → AtLeast P k → AreThose P xs → q.need ≡ k → q.have ≡ length xs → IsUnmet q s → ⊥
 never-unmet P k xs q s enough those need have unmet =
@@ -53,7 +61,7 @@ never-unmet P k xs q s enough those need have unmet =
     let less : q.have < q.need = unmet.2 in
     omega (arith, met, need, have, less)
 
-module _ (m : Shape) (d : Defects) (n : Network) (network : IsNetwork n) (numbered : IsNumbered m) (tree : IsTree m) where
+module _ (m : Shape) (d : Defects) (n : Network) (network : IsNetwork n) (numbered : IsNumbered m) (tree : IsTree m) (parents : HasParents m) (taps : HasTaps m) (crosses : HasCrosses m) (sites : HasSites m) where
   module _ (p : Plan) (plan : IsPlan m d n p) where
     abbrev terminal : ℕ → ℕ → Type 0
     terminal = IsTerminal m n p
@@ -142,7 +150,7 @@ module _ (m : Shape) (d : Defects) (n : Network) (network : IsNetwork n) (number
   in-order-plan p is = plan_is m d n p is.free_tables is.free_pins is.are_tables is.are_pins is.tables_met is.pins_met (record { tables_are = is.tables_are; inputs_are = is.inputs_are; outputs_are = is.outputs_are })
 
   never : (enough : HasEnough m d n) (tables pins : Need) (s : Short) (r : Resource) → AreNeeds m d n tables pins → InOrderIsShort r m d n tables pins s → ⊥
-  never enough tables pins s Tables needs short = never-unmet (IsFreeTableOf m d) (length n.tables) needs.free_tables tables s enough.tables needs.are_tables needs.tables_need needs.tables_have short.1
+  never enough tables pins s Tables needs short = tables-met (IsFreeTableOf m d) (length n.tables) (most_ticks m) needs.free_tables tables s enough.tables (few-on m d n parents taps crosses sites enough) needs.are_tables needs.tables_need needs.tables_have short.1
   never enough tables pins s Pins needs short = never-unmet (IsFreePinOf m d) (n.inputs + length n.outputs) needs.free_pins pins s enough.pins needs.are_pins needs.pins_need needs.pins_have short.2
   never enough tables pins s Ports needs short =
       let within : s.node.0 < nodes_of m = short.2.0.2 in

@@ -1,9 +1,10 @@
 -- A plan's room, and the in-order plan.
-use Rattle.std.proofs.Common.{◌≡◌, ◌≢◌, ℕ, ◌+◌, ◌<◌, ◌≤◌, List, ◌++◌, length, get_or, take, drop, refl, sym, ap, ◌∙◌, subst, arith, length-take, length-drop}
+use Rattle.std.proofs.Common.{◌≡◌, ◌≢◌, ℕ, ◌+◌, ◌<◌, ◌≤◌, List, ◌++◌, length, get_or, take, drop, min, refl, sym, ap, ◌∙◌, subst, arith, length-take, length-drop}
 use Rattle.std.specs.List.{All, AllPairs}
 use Rattle.std.proofs.lemmas.List.{length-map, get_or-take, drop-take, take-append-drop, take-take}
 use Rattle.std.proofs.lemmas.List.Elements.{All-take, All-weaker}
 use Rattle.machine_shape.specs.declared.Shape.{Shape}
+use Rattle.machine_shape.specs.Bounds.{most_ticks}
 use Rattle.machine_shape.specs.Vocabulary.{nodes_of, tables_of, pins_of, node_of, pin_wire, table_wire, IsTap, tap_pin, tap_table, IsNumbered, IsTree, HasParents, HasTaps, HasCrosses, HasSites}
 use Rattle.machine_meaning.specs.Defects.{Defects, IsFreeWire, IsFreeTable}
 use Rattle.machine_shape.proofs.Halves.{All-left, All-right}
@@ -71,8 +72,16 @@ module _ (m : Shape) (d : Defects) (n : Network) (p : Plan) (nets : List (List �
     plan_choice ports vs held visits = choice_is m d (nets_in n) (IsTerminal m n p) tree parents taps crosses sites (terminal_within m d n p network plan numbered) own_tap ports vs (plan_held ports held) (plan_visited vs visits)
 
 module _ (m : Shape) (d : Defects) (n : Network) where
-  pub needs_are : (free_tables free_pins : List ℕ) (tables pins : Need) → AreThose (IsFreeTableOf m d) free_tables → AreThose (IsFreePinOf m d) free_pins → tables.need ≡ length n.tables → tables.have ≡ length free_tables → pins.need ≡ n.inputs + length n.outputs → pins.have ≡ length free_pins → AreNeeds m d n tables pins
+  pub needs_are : (free_tables free_pins : List ℕ) (tables pins : Need) → AreThose (IsFreeTableOf m d) free_tables → AreThose (IsFreePinOf m d) free_pins → tables.need ≡ length n.tables → tables.have ≡ min (length free_tables) (most_ticks m) → pins.need ≡ n.inputs + length n.outputs → pins.have ≡ length free_pins → AreNeeds m d n tables pins
   needs_are free_tables free_pins tables pins a b e f g h = record { free_tables = free_tables; free_pins = free_pins; are_tables = a; are_pins = b; tables_need = e; tables_have = f; pins_need = g; pins_have = h }
+
+  -- how many tables may be had, by lists and numbers that are equal
+  pub have_is : (have most : ℕ) (given free_tables : List ℕ) (s : Shape) → have ≡ min (length given) most → given ≡ free_tables → most ≡ most_ticks s → s ≡ m → have ≡ min (length free_tables) (most_ticks m)
+  have_is have most given free_tables s is e f same = is ∙ ap (λ (ts : List ℕ). min (length ts) most) e ∙ ap (λ k. min (length free_tables) k) (f ∙ ap most_ticks same)
+
+  -- a need that is met is of no more tables than may be on
+  pub few_tables : (tables : Need) (given : List ℕ) (most : ℕ) → tables.need ≡ length n.tables → tables.have ≡ min (length given) most → most ≡ most_ticks m → tables.need ≤ tables.have → length n.tables ≤ most_ticks m
+  few_tables tables given most need have is met = omega (arith, need, have, is, met)
 
   same_need : (a b : Need) → a.need ≡ b.need → a.have ≡ b.have → a ≡ b
   same_need a b e f = λ i. record { need = e i; have = f i }
@@ -82,7 +91,7 @@ module _ (m : Shape) (d : Defects) (n : Network) where
   one_needs a b c e x y =
       let t = those_unique (IsFreeTableOf m d) x.free_tables y.free_tables x.are_tables y.are_tables in
       let p = those_unique (IsFreePinOf m d) x.free_pins y.free_pins x.are_pins y.are_pins in
-      (same_need a c (x.tables_need ∙ sym y.tables_need) (x.tables_have ∙ ap length t ∙ sym y.tables_have), same_need b e (x.pins_need ∙ sym y.pins_need) (x.pins_have ∙ ap length p ∙ sym y.pins_have))
+      (same_need a c (x.tables_need ∙ sym y.tables_need) (x.tables_have ∙ ap (λ (ts : List ℕ). min (length ts) (most_ticks m)) t ∙ sym y.tables_have), same_need b e (x.pins_need ∙ sym y.pins_need) (x.pins_have ∙ ap length p ∙ sym y.pins_have))
 
   -- where something is short the plan doesn't fit
   pub never_fits : (p : Plan) (tables pins : Need) (s : Short) → AreNeeds m d n tables pins → IsFirstShort m d (nets_in n) (IsTerminal m n p) tables pins s → Fits m d n p → ⊥

@@ -31,4 +31,5 @@ mod AllTerminals
 mod Choosing
 mod Ranges
 mod Determined
+mod FewNets
 mod Enough

@@ -29,7 +29,7 @@ module _ (m : Shape) (d : Defects) (n : Network) (p : Plan) (network : IsNetwork
   net_below (source.Input k) is = let l : k < n.inputs = is in omega arith
   net_below (source.Table j) is = let l : j < length n.tables = is in omega arith
 
-  pub sized_is : tables_of m ≤ 4096 → pins_of m ≤ 16384 → IsSized m n p
+  pub sized_is : tables_of m ≤ 65536 → pins_of m ≤ 16384 → IsSized m n p
   sized_is few_tables few_pins = record {
     tables = sym plan.tables;
     inputs = sym plan.inputs;

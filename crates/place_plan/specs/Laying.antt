@@ -1,5 +1,7 @@
 -- A plan laid out: which net has which terminals, ports and lines.
+use Rattle.std.specs.Prelude.{◌≤◌, length}
 use Rattle.machine_shape.specs.declared.Shape.{Shape}
+use Rattle.machine_shape.specs.Bounds.{most_ticks}
 use Rattle.machine_shape.specs.Shape.{nodes_of}
 use Rattle.machine_meaning.specs.Defects.{Defects}
 use Rattle.map_network.specs.declared.network.Network.{Network}
@@ -15,8 +17,9 @@ use Rattle.place_plan.specs.Room.{IsFirstShort, Suffices}
 use Rattle.place_plan.specs.Terminals.{ArePlanNets}
 
 -- The layout has the terminals of the plan's nets, the port of each net that crosses a node, and the line of each that visits
--- one; so laid, the nets are a choice on the tree of crossbars
+-- one; so laid, the nets are a choice on the tree of crossbars. There are no more tables than may be on.
 pub record IsLayout (m : Shape) (d : Defects) (n : Network) (p : Plan) (l : Layout) : Type 0 where
+  pub few : length n.tables ≤ most_ticks m
   pub nets : ArePlanNets m n p l.nets.items
   pub held : AreHeld m d (nets_in n) (IsTerminal m n p) (nodes_of m) l.ports.items
   pub visited : AreVisits m d (nets_in n) (IsTerminal m n p) (nodes_of m) l.visits.items

@@ -1,8 +1,9 @@
 -- Where a network sits on a machine: the terminals of its nets, the in-order plan, and when a plan fits.
-use Rattle.std.specs.Prelude.{◌≡◌, ◌≢◌, ℕ, ◌+◌, ◌<◌, ◌≤◌, ◌++◌, List, map, length, take, drop, slice_index_or}
+use Rattle.std.specs.Prelude.{◌≡◌, ◌≢◌, ℕ, ◌+◌, ◌<◌, ◌≤◌, ◌++◌, List, map, length, take, drop, min, slice_index_or}
 use Rattle.std.specs.List.{All, AllPairs}
 use Rattle.machine_shape.specs.declared.Shape.{Shape}
 use Rattle.machine_shape.specs.declared.Table.{Table}
+use Rattle.machine_shape.specs.Bounds.{most_ticks}
 use Rattle.machine_shape.specs.Shape.{tables_of, pins_of, pin_wire, table_wire}
 use Rattle.machine_meaning.specs.Defects.{Defects, IsFreeWire, IsFreeTable}
 use Rattle.map_network.specs.declared.network.Network.{Network}
@@ -76,14 +77,14 @@ IsFreePin m d k = IsFreeWire d (pin_wire m k)
 abbrev pub IsFreePinOf : Shape → Defects → ℕ → Type 0
 IsFreePinOf m d k = (k < pins_of m) × IsFreePin m d k
 
--- how many tables and pins the network wants, and how many are free
+-- how many tables and pins the network wants, and how many are free; of tables at most as many as may be on
 pub record AreNeeds (m : Shape) (d : Defects) (n : Network) (tables pins : Need) : Type 0 where
   pub free_tables : List ℕ
   pub free_pins : List ℕ
   pub are_tables : AreThose (IsFreeTableOf m d) free_tables
   pub are_pins : AreThose (IsFreePinOf m d) free_pins
   pub tables_need : tables.need ≡ length n.tables
-  pub tables_have : tables.have ≡ length free_tables
+  pub tables_have : tables.have ≡ min (length free_tables) (most_ticks m)
   pub pins_need : pins.need ≡ n.inputs + length n.outputs
   pub pins_have : pins.have ≡ length free_pins
 

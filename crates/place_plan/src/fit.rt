@@ -1,5 +1,6 @@
 //! Whether a plan fits, and the in-order plan where it does.
-ghost use Rattle.std.specs.Prelude.{◌↔◌, IfOk, IfErr, IfSome, IfNone, IsTrue};
+ghost use Rattle.std.specs.Prelude.{◌↔◌, ◌≤◌, IfOk, IfErr, IfSome, IfNone, IsTrue, length};
+ghost use Rattle.machine_shape.specs.Bounds.{most_ticks};
 ghost use Rattle.place_plan.specs.Plans.{Fits, FitsInOrder, IsPlaceFail, IsPlan};
 ghost use Rattle.place_plan.specs.Laying.{FitsWith, IsLaid, IsLayout};
 ghost use Rattle.map_network.specs.Networks.{IsNetwork};
@@ -24,6 +25,7 @@ fn laid(
     pins: Need,
 ) -> Result<Laid, AllocError>
     requires network { IsNetwork network.now }
+    requires few { tables.need ≤ tables.have → length network.now.tables ≤ most_ticks defects.now.shape }
     requires plan { IsPlan defects.now.shape defects.now.list network.now plan.now }
     ensures { IfOk result (IsLaid defects.now.shape defects.now.list network.now plan.now tables pins) }
 {
@@ -58,9 +60,10 @@ pub fn lay_out(
     ensures some { IfOk result (λ o. IfSome o (FitsWith defects.now.shape defects.now.list network.now plan.now)) }
     ensures none { IfOk result (λ o. IfNone o (¬ Fits defects.now.shape defects.now.list network.now plan.now)) }
 {
+    let most = defects.shape().most_ticks();
     let tables = free_tables(alloc, defects)?;
     let pins = free_pins(alloc, defects)?;
-    let tables = tables_wanted(network, tables.as_slice());
+    let tables = tables_wanted(network, tables.as_slice(), most);
     let pins = pins_wanted(network, pins.as_slice());
     match laid(alloc, network, plan, defects, tables, pins)? {
         Laid::Out(layout) => Ok(Some(layout)),
@@ -106,9 +109,10 @@ pub fn in_order_laid(
     ensures layout { IfOk result (λ placed. IsLayout defects.now.shape defects.now.list network.now placed.plan placed.layout) }
     ensures fail { IfErr result (IsPlaceFail defects.now.shape defects.now.list network.now) }
 {
+    let most = defects.shape().most_ticks();
     let free_tables = free_tables(alloc, defects)?;
     let free_pins = free_pins(alloc, defects)?;
-    let tables = tables_wanted(network, free_tables.as_slice());
+    let tables = tables_wanted(network, free_tables.as_slice(), most);
     let pins = pins_wanted(network, free_pins.as_slice());
     if tables.have < tables.need {
         return Err(PlaceFail::Short(short_of(alloc, Resource::Tables, tables)));

@@ -1,5 +1,5 @@
 //! The in-order plan.
-ghost use Rattle.std.specs.Prelude.{◌≡◌, ◌<◌, ◌≤◌, ◌+◌, map, IfOk, length};
+ghost use Rattle.std.specs.Prelude.{◌≡◌, ◌<◌, ◌≤◌, ◌+◌, map, min, IfOk, length};
 ghost use Rattle.place_plan.specs.Lists.{AreThose};
 ghost use Rattle.place_plan.specs.Plans.{IsFreePinOf, IsFreeTableOf, IsInOrderOf, number_of};
 
@@ -36,14 +36,14 @@ pub fn free_pins(alloc: Global, defects: &Defects) -> Result<Items<u32>, AllocEr
     Ok(pins)
 }
 
-/// How many tables a network wants, where so many are free.
-pub fn tables_wanted(network: &Network, free: &[u32]) -> Need
+/// How many tables a network wants, where so many are free and at most so many may be on.
+pub fn tables_wanted(network: &Network, free: &[u32], most: u16) -> Need
     ensures need { result.need ≡ length network.now.tables }
-    ensures have { result.have ≡ length free.now }
+    ensures have { result.have ≡ min (length free.now) most }
 {
     Need {
         need: network.tables.as_slice().len() as u64,
-        have: free.len() as u64,
+        have: free.len().min(most as usize) as u64,
     }
 }
 

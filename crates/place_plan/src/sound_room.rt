@@ -13,10 +13,13 @@ ghost use Rattle.place_plan.specs.Enough.{HasEnough, HasSoundParts, HasStandingR
 
 /// Where as many tables and pins are free as a network has, and at each node as many lines are open and ports free as it has
 /// nets, nothing is short for its in-order plan: a net visits a node and crosses it once at most, and an open line serves each.
+/// A root with lines and ports for so many nets leaves no machine as many tables as may not all be on.
 pub fn enough_free_parts_are_room()
     ensures { (m : Shape) (d : Defects) (n : Network) (s : Short) → IsNetwork n → HasEnough m d n → ¬ IsShortInOrder m d n s }
 {
     machine_shape::the_numbering_is_sound();
+    machine_shape::the_crosspoints_are_sound();
+    machine_shape::ports_and_lines_ascend();
 }
 
 /// Where each node is served, a fair list leaves sound parts free. So where they are as many as a network has, there is room for

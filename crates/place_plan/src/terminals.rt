@@ -193,7 +193,7 @@ fn terminals_of(
 
 // A machine has few tables and pins.
 fn places_are_few(shape: &Shape)
-    ensures tables { tables_of shape.now ≤ 4096 }
+    ensures tables { tables_of shape.now ≤ 65536 }
     ensures pins { pins_of shape.now ≤ 16384 }
 {
     let _tables = shape.tables();

@@ -1,5 +1,5 @@
 -- A switched-on table is one of the machine.
-use Rattle.std.proofs.Common.{◌≡◌, ◌⊎◌, ℕ, ◌<◌, ◌≤◌, Option, None, length, subst, inl, inr, IsSome}
+use Rattle.std.proofs.Common.{◌≡◌, ◌⊎◌, ℕ, zero, suc, ◌<◌, ◌≤◌, Option, None, length, get_or, replicate, refl, subst, inl, inr, IsSome}
 use Rattle.std.proofs.lemmas.Bool.{cases_lt}
 use Rattle.std.proofs.lemmas.List.{get_or_past}
 use Rattle.machine_shape.specs.Shape.{tables_of}
@@ -8,6 +8,12 @@ use Rattle.machine_config.specs.Configuration.{Configuration, IsConfiguration, s
 
 pub some_none : {o : Option Setting} → IsSome o → o ≡ None → ⊥
 some_none is e = cc
+
+-- where none is on, none is
+pub off_at : (n t : ℕ) (none : Option Setting) → get_or (replicate n none) t none ≡ none
+off_at zero t o = refl
+off_at (suc n) zero o = refl
+off_at (suc n) (suc t) o = off_at n t o
 
 pub on_within : (g : Configuration) → IsConfiguration g → (t : ℕ) → IsSome (setting_of g t) → t < tables_of g.shape
 on_within g right t on = by (cases_lt t (length g.tables))

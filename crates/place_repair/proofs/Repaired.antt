@@ -32,17 +32,12 @@ use Rattle.place_repair.specs.Repairs.{HasSameRows, ArePinsAt, IsPortAt, IsRepai
 use Rattle.place_repair.specs.Making.{IsPlanOf, AreTerminalsOf, IsPinTerminal, IsTableTerminal, IsRestOf, HasStayingWire, IsKeptCross, IsRedrawn, AreSizedFor, AreApart, ArePinsApart}
 use Rattle.place_repair.proofs.Alike.{Moved, pin_at, table_at, Correspond, run_alike}
 use Rattle.place_repair.proofs.Hanging.{are_numbered}
-use Rattle.place_repair.proofs.Placed.{on_within}
+use Rattle.place_repair.proofs.Placed.{on_within, off_at}
 use Rattle.place_repair.proofs.Owning.{Spot, pin_spot, table_spot, drawn_by, draw_wires, hang_on, hung_before, crossing_within, terminals_joined, closed_for, port_joined, port_only, closed_free}
 use Rattle.place_repair.proofs.Seating.{table_sits_at, pin_sits_at, one_table_place, one_table_owner, one_pin_place, one_pin_owner, table_place_free, pin_place_free, search_gone}
 
 none_is_some : {X : Type 0} {o : Option X} → o ≡ None → IsSome o → ⊥
 none_is_some e h = cc
-
-off_at : (n t : ℕ) (none : Option Setting) → get_or (replicate n none) t none ≡ none
-off_at zero t o = refl
-off_at (suc n) zero o = refl
-off_at (suc n) (suc t) o = off_at n t o
 
 contains_map : (f : ℕ → ℕ) (xs : List ℕ) (k : ℕ) → k < length xs → get_or (map f xs) k 0 ≡ f (nth_of xs k)
 contains_map f xs k l = get_or-map f xs k 0 0 l
@@ -369,9 +364,9 @@ module _ (d : Defects) (i : ImageValue) (is : IsImage i) (laws : Numbering i.con
 
 -- the same room, by other names of its parts
 -- a machine of few wires has few nets
-pub few_lists : (d : Defects) (i : ImageValue) (s : Seats) (p : Plan) (lists given : List (List ℕ)) (m : Shape) (wires : ℕ) → given ≡ lists → wires ≡ wires_of m → m ≡ i.config.shape → wires ≤ 16384 → IsPlanOf d i s p → AreTerminalsOf i p lists → length given < 4294967296
+pub few_lists : (d : Defects) (i : ImageValue) (s : Seats) (p : Plan) (lists given : List (List ℕ)) (m : Shape) (wires : ℕ) → given ≡ lists → wires ≡ wires_of m → m ≡ i.config.shape → wires ≤ 1310720 → IsPlanOf d i s p → AreTerminalsOf i p lists → length given < 4294967296
 few_lists d i s p lists given m wires e w shape few plan terms =
-    let here : wires_of i.config.shape ≤ 16384 = subst (λ k. k ≤ 16384) (w ∙ ap wires_of shape) few in
+    let here : wires_of i.config.shape ≤ 1310720 = subst (λ k. k ≤ 1310720) (w ∙ ap wires_of shape) few in
     let given_are : length given ≡ length lists = ap length e in
     let sized = terms.sized in
     let nets = plan.nets_are.few in

@@ -4,7 +4,7 @@
 //! has to go, keeps its wires. Every other is laid anew, as nets of a plan are: its ports are given in order, its lines by choice. Old
 //! lines are tried first. So whole nets are kept, and of others their lines where they can be; the latter isn't proved.
 //!
-//! Promised (`repair`): of an image of at most 1,000,000 closed crosspoints and a list of defects on its machine, an image that
+//! Promised (`repair`): of an image of at most `most_repaired` closed crosspoints and a list of defects on its machine, an image that
 //! touches only what the list leaves free (`free`) and has the old one's rows (`rows`): under every fault set that the list
 //! covers it reads at its output pins, for every list of vectors on its input pins, what the old one reads at its own without
 //! faults. It follows the repair plan (`repair`, `IsRepair`): each table stands with its setting, and each pin, where the plan

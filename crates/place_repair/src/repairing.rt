@@ -1,6 +1,7 @@
 //! Repairs an image.
 ghost use Rattle.std.specs.Prelude.{◌≡◌, ◌≤◌, ◌<◌, ◌^◌, All, IfOk, IfErr, length};
 ghost use Rattle.std.specs.FinSet as set;
+ghost use Rattle.machine_shape.specs.Vocabulary.{most_repaired};
 ghost use Rattle.machine_image.specs.Parts.{IsFreeImage};
 ghost use Rattle.place_route.specs.Routed.{AreWiresOf};
 ghost use Rattle.place_repair.specs.Making.{AreApart, ArePinsApart, AreSizedFor, IsRedrawn};
@@ -24,7 +25,7 @@ use std::alloc::{AllocError, Global};
 
 // The image that follows a plan and whose moving nets have this layout.
 fn redraw(alloc: Global, image: &Image, plan: &Plan, layout: &Layout) -> Result<Image, AllocError>
-    requires few { set.len image.now.config.closed ≤ 1000000 }
+    requires few { set.len image.now.config.closed ≤ most_repaired image.now.config.shape }
     requires plan { AreSizedFor image.now.config plan.now }
     requires tables { AreApart image.now.config plan.now }
     requires pins { ArePinsApart image.now plan.now }
@@ -33,8 +34,6 @@ fn redraw(alloc: Global, image: &Image, plan: &Plan, layout: &Layout) -> Result<
     ensures { IfOk result (IsRedrawn image.now plan.now layout.now.nets.items layout.now.ports.items layout.now.visits.items) }
 {
     let old = image.config();
-    // Says that the machine has few wires.
-    let _wires = old.shape().wires();
     let config = draw(alloc, old, plan, layout)?;
     let inputs = moved(alloc, &plan.pins, image.inputs())?;
     let outputs = moved(alloc, &plan.pins, image.outputs())?;
@@ -60,7 +59,7 @@ fn room_for(
 
 // The repair of an image where there are tables and pins for all that go.
 fn laid(alloc: Global, image: &Image, defects: &Defects, seats: &Seats) -> Result<Image, PlaceFail>
-    requires few { set.len image.now.config.closed ≤ 1000000 }
+    requires few { set.len image.now.config.closed ≤ most_repaired image.now.config.shape }
     requires shape { defects.now.shape ≡ image.now.config.shape }
     requires seats { AreSeats defects.now.list image.now seats.now }
     requires tables { IsMet (need_of seats.now.tables) }
@@ -118,7 +117,7 @@ fn laid(alloc: Global, image: &Image, defects: &Defects, seats: &Seats) -> Resul
 /// `Short` exactly where the plan hasn't room, with the first short resource: tables, pins, and then node by node ports, lines. The numbers
 /// of nets are by their lowest wires. `Memory` for lack of memory.
 pub fn repair(alloc: Global, image: &Image, defects: &Defects) -> Result<Image, PlaceFail>
-    requires few { set.len image.now.config.closed ≤ 1000000 }
+    requires few { set.len image.now.config.closed ≤ most_repaired image.now.config.shape }
     requires shape { defects.now.shape ≡ image.now.config.shape }
     ensures repair { IfOk result (IsRepair defects.now.list image.now) }
     ensures free { IfOk result (IsFreeImage defects.now.list) }

@@ -13,6 +13,7 @@ pub mod Needed
 mod PinValues
 mod Turns
 mod Marking
+mod Limits
 mod Lining
 mod Seats
 mod Deep

@@ -15,7 +15,7 @@ numbering numbered tree parents meanings taps crosses sites m = record { numbere
 
 -- a layout of a plan is one of its nets
 pub laid_by : (m : Shape) (d : Defects) (n : Network) (p : Plan) (l : Layout) → IsLayout m d n p l → IsLaidBy m d n p l.nets.items l.ports.items l.visits.items
-laid_by m d n p l is = record { nets_are = is.nets; held = is.held; visited = is.visited }
+laid_by m d n p l is = record { few = is.few; nets_are = is.nets; held = is.held; visited = is.visited }
 
 -- where the plan fits there is one
 pub some_layout : {A : Type 0} (P : Type 0) (o : Option A) → P → IfNone o (¬ P) → IsSome o

@@ -1,5 +1,5 @@
 -- The steps of a route together.
-use Rattle.std.proofs.Common.{◌≡◌, ◌≢◌, ◌⊎◌, ℕ, zero, suc, ◌*◌, ◌<◌, ◌≤◌, true, Some, None, Option, IsSome, List, replicate, length, get_or, refl, sym, ap, ◌∙◌, subst, inl, inr, arith}
+use Rattle.std.proofs.Common.{◌≡◌, ◌≢◌, ◌⊎◌, ℕ, zero, suc, ◌*◌, ◌<◌, ◌≤◌, true, Some, None, Option, IsSome, List, replicate, length, get_or, max, refl, sym, ap, ◌∙◌, subst, inl, inr, arith}
 use Rattle.std.specs.List.{All, AllPairs}
 use Rattle.std.specs.BTreeMap.{BTreeMap}
 use Rattle.std.specs.FinSet as set
@@ -8,7 +8,9 @@ use Rattle.std.specs.Ordering.{nat_cmp}
 use Rattle.std.proofs.lemmas.List.{get_or-map, length-map}
 use Rattle.machine_shape.specs.declared.Shape.{Shape}
 use Rattle.machine_shape.specs.declared.Table.{Table}
+use Rattle.machine_shape.specs.Bounds.{most_ticks}
 use Rattle.machine_shape.specs.Shape.{pins_of, wires_of, crosses_of, tables_of}
+use Rattle.machine_shape.proofs.HighLimits.{high_limits}
 use Rattle.machine_meaning.specs.Defects.{Defects, IsFreeCross}
 use Rattle.machine_config.specs.declared.Setting.{Setting}
 use Rattle.machine_config.specs.Configuration.{Configuration, is_closed, setting_of, cleared, with_ticks}
@@ -18,7 +20,7 @@ use Rattle.place_plan.specs.declared.plan.Plan.{Plan}
 use Rattle.place_plan.specs.declared.short.Port.{Port}
 use Rattle.place_plan.specs.declared.short.Visit.{Visit}
 use Rattle.place_plan.specs.Plans.{IsPlan, IsTerminal, nets_in, places, place_of, number_of}
-use Rattle.place_plan.proofs.PlanNets.{terminal_within, terminal_net, few_below, sized_is}
+use Rattle.place_plan.proofs.PlanNets.{terminal_within, terminal_net, sized_is}
 use Rattle.place_route.specs.Vocabulary.{IsSet, IsLaidOnTree, AreTerminals, AreOwners, HasLine, AreLines, Closes, IsOwnedJoint, SwitchesOn, no_seat, IsLaidBy, AreWiresOf, IsJoined, HasPortIn, IsRouted}
 use Rattle.place_route.proofs.Terminals.{plan_terminals}
 use Rattle.place_route.proofs.Seats.{terminal_tap}
@@ -61,13 +63,13 @@ module _ (m : Shape) (d : Defects) (n : Network) (p : Plan) (nets : List (List �
   pub wires_are : AreWiresOf m nets ports visits
   wires_are = drawn_wires m d (nets_in n) (IsTerminal m n p) nets ports visits laws drawn
 
-  places_few : length (places p) ≤ tables_of m
-  places_few = few_below (places p) (tables_of m) plan.tables_within plan.tables_different
+  pub tables_few : length n.tables ≤ 65535
+  tables_few = let few = laid.few in let most = (high_limits m).ticks.1 in omega (arith, few, most)
 
-  pub tables_few : tables_of m ≤ 4096 → length n.tables ≤ 4096
-  tables_few few = omega (arith, places_few, few, length-map p.tables number_of, plan.tables)
+  pub ticks_few : (ticks : ℕ) → ticks ≤ max 1 (length n.tables) → ticks ≤ most_ticks m
+  ticks_few ticks le = let few = laid.few in let least = (high_limits m).ticks.0 in omega (arith, le, few, least)
 
-  pub nets_few : tables_of m ≤ 4096 → pins_of m ≤ 16384 → length nets < 4294967296
+  pub nets_few : tables_of m ≤ 65536 → pins_of m ≤ 16384 → length nets < 4294967296
   nets_few few_tables few_pins = omega (arith, (sized_is m d n p network plan few_tables few_pins).numbers, laid.nets_are.sized, plan.tables)
 
   seat_is : (j : ℕ) (t : Table) → j < length p.tables → get_or (places p) j 0 ≡ (get_or p.tables j t).0
@@ -129,6 +131,13 @@ module _ (m : Shape) (d : Defects) (n : Network) (p : Plan) (nets : List (List �
         few = subst (λ (c : set.FinSet nat_cmp). set.len c ≤ 2 * wires_of m) (sym (ap (λ (g : Configuration). g.closed) made)) (let l = all.few in let e = len-empty nat_cmp in omega arith);
       }
 
+    -- the machine that the tables are switched on at
+    pub on_shape : (second : Configuration) → SwitchesOn p.tables n.tables (length p.tables) new second → second.shape ≡ m
+    on_shape second on = ap (λ (g : Configuration). g.shape) (on.rest ∙ ap (λ (g : Configuration). record g { tables = second.tables }) all.rest)
+
   -- the steps together
   pub made_of : (mid second : Configuration) (ticks : ℕ) → IsJoined m nets ports visits mid → SwitchesOn p.tables n.tables (length p.tables) mid second → IsRouted m d n p ports visits (with_ticks second ticks)
   made_of mid second ticks joined on = routed joined.lines joined.owners joined.are_lines joined.are_owners mid joined.closed second on ticks
+
+  pub switched_shape : (mid second : Configuration) → IsJoined m nets ports visits mid → SwitchesOn p.tables n.tables (length p.tables) mid second → second.shape ≡ m
+  switched_shape mid second joined on = on_shape joined.lines joined.owners joined.are_lines joined.are_owners mid joined.closed second on

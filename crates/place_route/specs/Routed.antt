@@ -1,9 +1,10 @@
 -- A network that sits on a machine, with a layout of its nets, and the configuration that is made of it.
-use Rattle.std.specs.Prelude.{◌≡◌, ℕ, ◌*◌, ◌<◌, ◌≤◌, List, Option}
+use Rattle.std.specs.Prelude.{◌≡◌, ℕ, ◌*◌, ◌<◌, ◌≤◌, List, Option, length}
 use Rattle.std.specs.BTreeMap.{BTreeMap}
 use Rattle.std.specs.List.{All, Contains}
 use Rattle.std.specs.FinSet as set
 use Rattle.machine_shape.specs.declared.Shape.{Shape}
+use Rattle.machine_shape.specs.Bounds.{most_ticks}
 use Rattle.machine_shape.specs.Shape.{nodes_of, wires_of}
 use Rattle.machine_meaning.specs.Defects.{Defects}
 use Rattle.machine_config.specs.Configuration.{Configuration, is_closed, cleared}
@@ -19,9 +20,10 @@ use Rattle.place_route.specs.Owners.{HasLine, AreLines, AreOwners}
 use Rattle.place_route.specs.Ticks.{AreTicks}
 use Rattle.place_route.specs.Trees.{IsLaidOnTree}
 
--- the terminals of the plan's nets, and the ports and the lines of the nets
+-- the terminals of the plan's nets, and the ports and the lines of the nets; no more tables than may be on
 pub record IsLaidBy (m : Shape) (d : Defects) (n : Network) (p : Plan) (nets : List (List ℕ)) (ports : List Port)
     (visits : List Visit) : Type 0 where
+  pub few : length n.tables ≤ most_ticks m
   pub nets_are : ArePlanNets m n p nets
   pub held : AreHeld m d (nets_in n) (IsTerminal m n p) (nodes_of m) ports
   pub visited : AreVisits m d (nets_in n) (IsTerminal m n p) (nodes_of m) visits

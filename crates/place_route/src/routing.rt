@@ -1,9 +1,11 @@
 //! Routes a plan.
 ghost use Rattle.std.specs.Prelude.{◌≡◌, ◌≢◌, ◌≤◌, ◌<◌, ◌++◌, All, AllPairs, IfOk, length};
 ghost use Rattle.std.specs.FinSet as set;
-ghost use Rattle.machine_shape.specs.Shape.{pins_of, tables_of, wires_of};
+ghost use Rattle.machine_shape.specs.Bounds.{most_closed, most_ticks};
+ghost use Rattle.machine_shape.specs.Shape.{pins_of, tables_of};
 ghost use Rattle.machine_meaning.specs.Vocabulary.{Covers, Faults};
 ghost use Rattle.design_netlist.specs.declared.netlist_data.NetlistData.{NetlistData};
+ghost use Rattle.machine_image.specs.Images.{tables_on};
 ghost use Rattle.machine_image.specs.Parts.{IsFreeImage};
 ghost use Rattle.map_network.specs.Vocabulary.{IsNetwork, HasRowsOf};
 ghost use Rattle.place_plan.specs.Vocabulary.{IsLayout, Fits, IsPlan};
@@ -24,15 +26,13 @@ use map_network::Network;
 use place_plan::{Layout, Plan, lay_out};
 use std::alloc::{AllocError, Global};
 
-// A machine has few tables, pins and wires, as the counts of its shape say.
+// A machine has few tables and pins, as the counts of its shape say.
 fn counts_are_few(shape: &Shape)
-    ensures tables { tables_of shape.now ≤ 4096 }
+    ensures tables { tables_of shape.now ≤ 65536 }
     ensures pins { pins_of shape.now ≤ 16384 }
-    ensures wires { wires_of shape.now ≤ 16384 }
 {
     let _tables = shape.tables();
     let _pins = shape.pins();
-    let _wires = shape.wires();
 }
 
 /// A configuration with the crosspoints of a layout's lines and taps closed, and no table on.
@@ -88,7 +88,8 @@ fn configure(
 fn image_of(alloc: Global, plan: &Plan, config: Config) -> Result<Image, AllocError>
     requires within { All (λ k. k < pins_of config.config.shape) (plan.now.inputs ++ plan.now.outputs) }
     requires apart { AllPairs (λ j k. j ≢ k) (plan.now.inputs ++ plan.now.outputs) }
-    requires few { set.len config.config.closed ≤ 1048576 }
+    requires few { set.len config.config.closed ≤ most_closed config.config.shape }
+    requires few_on { length (tables_on config.config) ≤ most_ticks config.config.shape }
     ensures config { IfOk result (λ i. i.config ≡ config.config) }
     ensures inputs { IfOk result (λ i. i.inputs ≡ plan.now.inputs) }
     ensures outputs { IfOk result (λ i. i.outputs ≡ plan.now.outputs) }
@@ -112,8 +113,6 @@ fn draw(
         layout.now.nets.items layout.now.ports.items layout.now.visits.items }
     ensures { IfOk result (IsRouteOf defects.now.shape defects.now.list network.now plan.now) }
 {
-    let shape = defects.shape();
-    counts_are_few(&shape);
     let config = configure(alloc, network, plan, layout, defects)?;
     let image = image_of(alloc, plan, config)?;
     Ok(image)

@@ -4,6 +4,7 @@ use Rattle.std.specs.Prelude.{IfSome, IsSomeAnd, option_map}
 use Rattle.std.specs.List.{AllByRecursion, sum_by}
 use Rattle.std.specs.Option.{option_map_or}
 use Rattle.machine_shape.specs.declared.Shape.{Shape}
+use Rattle.machine_shape.specs.Bounds.{most_text}
 use Rattle.machine_shape.specs.Shape.{pins_of}
 use Rattle.machine_meaning.specs.Vocabulary.{Pins, Faults, AreFaultsOf}
 use Rattle.machine_config.specs.Vocabulary.{Configuration, IsRun}
@@ -11,7 +12,6 @@ use Rattle.machine_faults.specs.declared.kind.FaultsKind.{FaultsKind}
 use Rattle.machine_faults.specs.declared.kind.FaultsFault.{FaultsFault}
 use Rattle.machine_faults.specs.declared.kind.FaultsFault.TheVariants as text
 use Rattle.machine_faults.specs.Text.{IsFaultText}
-use Rattle.base_text.specs.Size.{most_bytes}
 use Rattle.machine_faults.specs.Refusals.{IsFaultAt}
 use Rattle.rig.specs.declared.rig.AttachFail.{AttachFail}
 use Rattle.rig.specs.declared.rig.AttachFail.TheVariants as attach
@@ -160,7 +160,7 @@ pub record Attaches (machine : Asked) (old new : RigState) : Type 0 where
 -- these bytes are no fault text of this machine within its limit, and this is their first fault
 pub record IsNoText (m : Shape) (bytes : List ℕ) (line : ℕ) (kind : FaultsKind) : Type 0 where
   pub first : IsFaultAt m bytes line kind
-  pub too_long : (f : Faults) → IsFaultText m bytes f → most_bytes < length bytes
+  pub too_long : (f : Faults) → IsFaultText m bytes f → most_text m < length bytes
 
 -- a fault text is refused once more, the last at this line for this kind, and rightly so where it is told
 abbrev pub RefusesText : FaultsFault → Shape → Option (List ℕ) → Refused → Refused → Type 0

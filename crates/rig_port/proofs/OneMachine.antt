@@ -5,10 +5,9 @@ use Rattle.std.proofs.lemmas.List.{append_assoc, ext_get_or}
 use Rattle.std.proofs.lemmas.Fmt.{decimal_injective, decimal_digit, decimal-digits_of}
 use Rattle.std.specs.List.{join_by}
 use Rattle.std.specs.Int.Digits.{digits_of}
-use Rattle.std.proofs.Math.Bridge.{le_prop}
 use Rattle.machine_shape.specs.declared.Counts.{Counts}
 use Rattle.machine_shape.specs.declared.Shape.{Shape}
-use Rattle.machine_shape.specs.Vocabulary.{levels_from, IsFull, size, tables_in, wires_in, crosses_in, nodes_in}
+use Rattle.machine_shape.proofs.OneShape.{same-shape}
 use Rattle.machine_config.specs.Configuration.{cleared}
 use Rattle.rig_board.specs.Device.{Device, WhereTold}
 use Rattle.rig_port.specs.Answers.{Answers}
@@ -110,24 +109,6 @@ one_machine c n a b h g e =
     ∙ append_assoc (counts_head n) (counts_text b) t in
     let parts = cut (counts_head n) (counts_head n) (counts_text a ++ s) (counts_text b ++ t) refl whole in
     same_counts a b h g (same_numbers (numbers_of a) (numbers_of b) (drop 1 s) (drop 1 t) h.small g.small refl (ap (λ l. 32 ∷ l) parts.1))
-
-abbrev ShapeFacts : Counts → Type 0
-ShapeFacts c = IsFull c × (size tables_in (levels_from c) ≤ 4096) × (size wires_in (levels_from c) ≤ 16384) × (size crosses_in (levels_from c) ≤ 4194304) × (size nodes_in (levels_from c) ≤ 16384)
-
-abbrev made : (c : Counts) → ShapeFacts c → Shape
-made c p = record { counts = c; full = p.0; few_tables = p.1; few_wires = p.2; few_crosses = p.3; few_nodes = p.4 }
-
-facts-prop : (c : Counts) → IsProp (ShapeFacts c)
-facts-prop c = hlevel le_prop
-
-made-same : (c d : Counts) (p : ShapeFacts c) (q : ShapeFacts d) → c ≡ d → made c p ≡ made d q
-made-same c d p q same =
-    (subst (λ (e : Counts). (other : ShapeFacts e) → made c p ≡ made e other) same (λ other. ap (λ (facts : ShapeFacts c). made c facts) (facts-prop c p other))) q
-
--- a shape is what its counts are
-same-shape : (m n : Shape) → m.counts ≡ n.counts → m ≡ n
-same-shape m n same =
-    made-same m.counts n.counts (m.full, m.few_tables, m.few_wires, m.few_crosses, m.few_nodes) (n.full, n.few_tables, n.few_wires, n.few_crosses, n.few_nodes) same
 
 -- the check behind a request under a number, and behind what a machine says of itself
 abbrev pub asked_check : ℕ → Check

@@ -8,6 +8,7 @@ use Rattle.std.specs.Int.{byte_at, bytes_high_first, to_be_bytes, from_be_bytes,
 use Rattle.hex.specs.Hex.{encode_lower, decode_of, lower_digits, IsBytes}
 use Rattle.hex.proofs.HexLemmas.{decode_of-encode_lower, length-encode_with}
 use Rattle.machine_shape.specs.declared.Shape.{Shape}
+use Rattle.machine_shape.proofs.HighLimits.{high_limits}
 use Rattle.machine_shape.specs.Shape.{crosses_of, tables_of, pins_of, levels_of}
 use Rattle.machine_meaning.specs.Circuit.{Pins}
 use Rattle.machine_config.specs.declared.Setting.{Setting}
@@ -104,7 +105,7 @@ small_edit m (Close x) lt = few_crosses m x lt
 small_edit m (Open x) lt = few_crosses m x lt
 small_edit m (On t s) r = (few_tables m t r.0, r.1)
 small_edit m (Off t) lt = few_tables m t lt
-small_edit m (Tick n) r = omega (arith, r.1)
+small_edit m (Tick n) r = let most = (high_limits m).ticks.1 in omega (arith, r.1, most)
 
 -- what an edit's word is behind its letter
 abbrev letter : Edit → ℕ

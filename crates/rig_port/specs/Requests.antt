@@ -5,6 +5,7 @@ use Rattle.std.specs.Int.{to_be_bytes, w64}
 use Rattle.std.specs.List.{join_by}
 use Rattle.hex.specs.Hex.{encode_lower}
 use Rattle.machine_shape.specs.declared.Shape.{Shape}
+use Rattle.machine_shape.specs.Bounds.{most_ticks}
 use Rattle.machine_shape.specs.Shape.{crosses_of, tables_of, pins_of}
 use Rattle.machine_meaning.specs.Circuit.{Pins}
 use Rattle.machine_config.specs.declared.Setting.{Setting}
@@ -42,7 +43,7 @@ IsEditOf m (Close x) = x < crosses_of m
 IsEditOf m (Open x) = x < crosses_of m
 IsEditOf m (On t s) = (t < tables_of m) × (s.cells < 2 ^ 64)
 IsEditOf m (Off t) = t < tables_of m
-IsEditOf m (Tick n) = (1 ≤ n) × (n ≤ 4096)
+IsEditOf m (Tick n) = (1 ≤ n) × (n ≤ most_ticks m)
 
 -- the flags of a table: bit 0 says that it is latched, bit 1 is its initial bit
 abbrev pub flag_digit : Setting → ℕ

@@ -88,6 +88,8 @@ fn give(
 
 // Sets the ticks that a cycle has there, in the line and here; where they are so, nothing is sent.
 fn give_ticks(line: &mut Vec<u8>, set: &mut Config, config: &Config) -> Result<(), AllocError>
+    requires { set.old.config.shape ≡ config.now.config.shape }
+
     ensures shape { set.new.config.shape ≡ set.old.config.shape }
     ensures made { OnOk result (AreEdited set.old.config line.old.items set.new.config line.new.items) }
     ensures given { OnOk result (set.new.config ≡ with_ticks set.old.config config.now.config.ticks) }

@@ -26,7 +26,7 @@ pub fn part(bytes: &[u8], from: usize, to: usize) -> &[u8] {
 fn number_of(word: &[u8], limit: u32) -> Option<u32>
     ensures { IfSome result (λ n. n < limit) }
 {
-    let n = read_number(word, 4194304)?;
+    let n = read_number(word, 268435456)?;
     let n = n as u32;
     if n < limit { Some(n) } else { None }
 }
@@ -88,7 +88,7 @@ fn on_of(word: &[u8], shape: &Shape) -> Option<Change>
 fn ticks_of(word: &[u8], shape: &Shape) -> Option<Change>
     ensures { IfSome result (λ c. IsEditOf shape.now (edit_of c)) }
 {
-    let n = number_of(word, 4097)?;
+    let n = number_of(word, u32::from(shape.most_ticks()) + 1)?;
     if n == 0 {
         return None;
     }

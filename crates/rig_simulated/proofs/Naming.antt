@@ -6,8 +6,9 @@ use Rattle.std.proofs.lemmas.Bool.{cases_lt, le-leb, leb-true, and_parts}
 use Rattle.std.proofs.lemmas.Slice.Eq.{bytes_eq-Decides}
 use Rattle.std.proofs.lemmas.Fmt.{digits_value-decimal}
 use Rattle.machine_shape.specs.declared.Shape.{Shape}
+use Rattle.machine_shape.specs.Bounds.{most_text}
 use Rattle.machine_meaning.specs.Faults.{Faults}
-use Rattle.base_text.specs.Vocabulary.{read_on, most_bytes}
+use Rattle.base_text.specs.Vocabulary.{read_on}
 use Rattle.base_text.proofs.NumberLemmas.{own}
 use Rattle.machine_faults.specs.Text.{IsFaultText}
 use Rattle.machine_faults.specs.Refusals.{IsFaultAt}
@@ -17,12 +18,12 @@ use Rattle.rig.specs.Rig.{IsNoText}
 use Rattle.rig.specs.Names.{generated_of, number_of_word, SpellsFaults}
 use Rattle.rig_simulated.specs.Named.{text_by, texts_of, AreNamed}
 
-pub no_text : (m : Shape) (told : Told) (text bytes : List ℕ) (line : ℕ) (kind : FaultsKind) → IfTold told (λ b. (text ≡ b) × (length b ≤ 16777216)) → bytes ≡ text → IsFaultAt m bytes line kind →
-    ((f : Faults) → IsFaultText m bytes f → length bytes ≤ most_bytes → ⊥) → IfSome (bytes_of told) (λ b. IsNoText m b line kind)
+pub no_text : (m : Shape) (told : Told) (text bytes : List ℕ) (line : ℕ) (kind : FaultsKind) → IfTold told (λ b. (text ≡ b) × (length b ≤ most_text m)) → bytes ≡ text → IsFaultAt m bytes line kind →
+    ((f : Faults) → IsFaultText m bytes f → length bytes ≤ most_text m → ⊥) → IfSome (bytes_of told) (λ b. IsNoText m b line kind)
 no_text m untold text bytes line kind w e is only = tt
 no_text m absent text bytes line kind w e is only = tt
 no_text m (holds b) text bytes line kind w e is only =
-    subst (λ (l : List ℕ). IsNoText m l line kind) (e ∙ w.0) (record { first = is; too_long = λ f t. ⊎_elim (λ l. l) (λ l. absurd (only f t l)) (cases_lt most_bytes (length bytes)) })
+    subst (λ (l : List ℕ). IsNoText m l line kind) (e ∙ w.0) (record { first = is; too_long = λ f t. ⊎_elim (λ l. l) (λ l. absurd (only f t l)) (cases_lt (most_text m) (length bytes)) })
 
 -- the faults of a name are those that its text spells
 spells-by : (number found : Option ℕ) (told : Told) (m : Shape) (f : Faults) → found ≡ number → AreNamed number m told f → IfSome (text_by number (bytes_of told)) (λ bytes. found ≡ None → IsFaultText m bytes f)

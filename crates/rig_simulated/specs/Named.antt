@@ -1,8 +1,8 @@
 -- The faults that a name stands for.
 use Rattle.std.specs.Prelude.{◌≡◌, ◌⊎◌, ℕ, ◌≤◌, Option, Some, None, IfSome, List, [], ◌∷◌, ◌++◌, length}
 use Rattle.machine_shape.specs.declared.Shape.{Shape}
+use Rattle.machine_shape.specs.Bounds.{most_text}
 use Rattle.machine_meaning.specs.Faults.{Faults}
-use Rattle.base_text.specs.Vocabulary.{most_bytes}
 use Rattle.base_io.specs.Vocabulary.{Rose, Told, bytes_of, IfTold, StoreState}
 use Rattle.machine_faults.specs.Text.{IsFaultText}
 use Rattle.machine_faults.specs.declared.kind.FaultsFault.TheVariants as text
@@ -23,7 +23,7 @@ texts_of contents name = text_by (generated_of name) (bytes_of (contents name))
 -- the faults are those that the number makes, or else those that the file spells, where it is told
 abbrev pub AreNamed : Option ℕ → Shape → Told → Faults → Type 0
 AreNamed (Some n) m told f = AreBenchFaults m n f
-AreNamed None m told f = IfTold told (λ bytes. IsFaultText m bytes f × (length bytes ≤ most_bytes))
+AreNamed None m told f = IfTold told (λ bytes. IsFaultText m bytes f × (length bytes ≤ most_text m))
 
 -- the store was asked for nothing where the name has a number, and else for the name alone
 abbrev pub Asks : Option ℕ → List ℕ → StoreState → StoreState → Type 0

@@ -34,7 +34,7 @@ fn bridge_all(knots: &mut [ClassNode], faults: &FaultSet)
     requires len { length knots.old ≡ wires_of faults.now.shape }
     requires tied { AreTied (bridged_net faults.now.shape []) (stuck_wire faults.now.faults) knots.old 0 }
     ensures len { length knots.new ≡ length knots.old }
-    ensures tied { AreTied (stuck_net faults.now.shape faults.now.faults 0) (stuck_wire faults.now.faults) knots.new 65536 }
+    ensures tied { AreTied (stuck_net faults.now.shape faults.now.faults 0) (stuck_wire faults.now.faults) knots.new 16777216 }
 {
     // The faults are those of their shape, so each bridge joins two wires of it.
     let _shape = faults.shape();
@@ -48,7 +48,7 @@ fn bridge_all(knots: &mut [ClassNode], faults: &FaultSet)
 // Joins the ends of the crosspoints that are stuck closed.
 fn close_stuck(knots: &mut [ClassNode], faults: &FaultSet)
     requires len { length knots.old ≡ wires_of faults.now.shape }
-    requires tied { AreTied (stuck_net faults.now.shape faults.now.faults 0) (stuck_wire faults.now.faults) knots.old 65536 }
+    requires tied { AreTied (stuck_net faults.now.shape faults.now.faults 0) (stuck_wire faults.now.faults) knots.old 16777216 }
     ensures { AreBase faults.now.shape faults.now.faults knots.new }
 {
     let shape = faults.shape();

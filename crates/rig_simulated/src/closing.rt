@@ -66,7 +66,7 @@ pub fn close_all(
     put_back(classes);
     'crosses: for i in 0..crosses.len() {
         if let Closing::Joins(tap, line) = closing_of(known, faults, crosses[i]) {
-            close(classes, tap as u32, line as u32)?;
+            close(classes, tap, line)?;
         }
     }
     Ok(())

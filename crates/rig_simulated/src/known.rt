@@ -12,7 +12,7 @@ use std::alloc::{AllocError, Global};
 #[derive(Clone, Copy, Debug)]
 pub enum Closing {
     /// It joins two wires, its tap and its line.
-    Joins(u16, u16),
+    Joins(u32, u32),
     /// It is stuck, so it changes nothing beyond what the faults do already.
     Nothing,
 }
@@ -34,11 +34,8 @@ fn find_closing(faults: &FaultSet, cross: Cross) -> Closing
     if faults.cross_stuck(cross).is_some() {
         return Closing::Nothing;
     }
-    let shape = faults.shape();
-    // A machine has at most 16,384 wires, so two bytes hold each.
-    let _wires = shape.wires();
-    let (tap, line) = shape.ends(cross);
-    Closing::Joins(tap.0 as u16, line.0 as u16)
+    let (tap, line) = faults.shape().ends(cross);
+    Closing::Joins(tap.0, line.0)
 }
 
 /// What a crosspoint does when it is closed: looked up, or found and kept.

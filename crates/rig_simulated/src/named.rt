@@ -6,7 +6,7 @@ ghost use Rattle.rig.specs.Names.{number_of_word, generated_of};
 ghost use Rattle.rig_simulated.specs.Named.{texts_of, AreNamed, Asks, AsksAtMost, NamesFail};
 
 use base_io::{Store, StoreFail, read_within};
-use base_text::{MOST_BYTES, read_number};
+use base_text::read_number;
 use machine_bench::bench_faults;
 use machine_faults::{FaultSet, FaultsFault, FaultsKind, read_faults};
 use machine_shape::Shape;
@@ -55,7 +55,8 @@ fn faults_of_file<S: Store>(
     ensures missing { (S.store_state store.old).contents name.now ≡ absent → IsErrOf result AttachFail.Failed
         ⊎ IsErrOf result AttachFail.Memory }
 {
-    match read_within(alloc, store, name, MOST_BYTES) {
+    let most = shape.most_text() as usize;
+    match read_within(alloc, store, name, most) {
         Ok(Some(text)) => match read_faults(alloc, shape, &text) {
             Ok(faults) => Ok(faults),
             Err(FaultsFault::At { line, kind }) => {

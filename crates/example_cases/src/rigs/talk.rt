@@ -147,7 +147,7 @@ impl<R: Rig> Talk<R> {
 
     /// Sets the ticks of a cycle. False where there can't be so many.
     pub fn set_ticks(&mut self, ticks: u16) -> bool {
-        if ticks < 1 || 4096 < ticks {
+        if ticks < 1 || self.config.shape().most_ticks() < ticks {
             return false;
         }
         self.config.set_ticks(ticks);

@@ -4,7 +4,7 @@ ghost use Rattle.std.specs.Prelude.{◌≡◌};
 use example_kit::TINY;
 use machine_defects::Defects;
 use machine_image::{Image, ImageFault, ImageKind, read_image, touches_none, write_image};
-use machine_shape::{Cross, Shape, Table, Wire};
+use machine_shape::{Counts, Cross, Shape, Table, Wire};
 use std::alloc::{AllocError, Global};
 
 // Two inputs and an output, one table that is on, 24 closed crosspoints.
@@ -96,6 +96,34 @@ pub fn image_bytes(alloc: Global) -> Option<bool> {
     let turned = exchanged(alloc).ok()?;
     let order = is_refused(alloc, &shape, &turned, 65, ImageKind::Order)?;
     Some(right && after && order)
+}
+
+// An image of 4,097 ticks with nothing closed or on, for `tiny` and for a machine of 16,413 wires.
+const MANY_TICKS: &[u8] = b"TERAIMG1\
+    \x00\x01\x00\x01\x00\x01\x00\x02\x00\x04\x00\x04\x00\x04\x00\x04\x00\x04\x00\x04\x00\x04\x00\x04\
+    \x10\x01\x00\x00\x00\x00\x00\x00\x00\x00\x00\x00";
+
+const MANY_TICKS_OF_LARGE: &[u8] = b"TERAIMG1\
+    \x00\x01\x00\x01\x00\x01\x00\x01\x00\x01\x00\x01\x00\x01\x00\x01\x00\x01\x00\x01\x23\x28\x1c\xe8\
+    \x10\x01\x00\x00\x00\x00\x00\x00\x00\x00\x00\x00";
+
+pub fn large_ticks(alloc: Global) -> Option<bool> {
+    let shape = Shape::new(TINY).ok()?;
+    let range = is_refused(alloc, &shape, MANY_TICKS, 32, ImageKind::Range)?;
+    let counts = Counts {
+        modules: 1,
+        chips: 1,
+        hextants: 1,
+        tables: 1,
+        ports: [1, 1, 1],
+        lines: [1, 1, 1, 9_000],
+        pins: 7_400,
+    };
+    let large = Shape::large(counts).ok()?;
+    let right = read_and_written(alloc, &large, MANY_TICKS_OF_LARGE)
+        .ok()?
+        .is_none();
+    Some(range && right)
 }
 
 // The sample with the lowest bit of a byte changed.

@@ -1,6 +1,6 @@
-//! Sets of numbers and of pairs, and numerals.
+//! Sets of numbers, and numerals.
 
-use base_bits::{BitSet, PairSet};
+use base_bits::BitSet;
 use base_text::{put_number, read_number};
 use std::alloc::Global;
 
@@ -25,14 +25,6 @@ pub fn holds_numbers(alloc: Global) -> Option<bool> {
         set.remove(63);
     }
     Some(four && set.count() == 3 && has_three(&set))
-}
-
-pub fn holds_pairs(alloc: Global) -> Option<bool> {
-    let mut set = PairSet::new(alloc, 20).ok()?;
-    let sized = set.n() == 20;
-    set.mark(3, 7);
-    set.mark(19, 18);
-    Some(sized && set.has(7, 3) && set.has(18, 19) && !set.has(3, 8))
 }
 
 pub fn reads_and_writes_numerals(alloc: Global) -> Option<bool> {

@@ -4,7 +4,7 @@ use example_kit::TINY;
 use machine_defects::{Defects, defects_text};
 use machine_faults::{AddFault, Fault, faults_text, read_faults};
 use machine_shape::{Cross, Node, Shape, Table, Wire};
-use machine_text::{machine_text, read_machine};
+use machine_text::{MachineFault, MachineKind, machine_text, read_machine};
 use std::alloc::Global;
 
 pub fn machine_text_of_tiny(alloc: Global) -> Option<bool> {
@@ -15,6 +15,43 @@ pub fn machine_text_of_tiny(alloc: Global) -> Option<bool> {
     let shape = read_machine(alloc, spread).ok()?;
     let text = machine_text(alloc, &shape).ok()?;
     Some(shape.counts() == TINY && text.as_slice() == due.as_slice())
+}
+
+// Whether a text of a machine is refused so.
+fn is_refused(alloc: Global, text: &[u8], line: u64, kind: MachineKind) -> bool {
+    match read_machine(alloc, text) {
+        Ok(_) => false,
+        Err(fault) => fault == MachineFault::At { line, kind },
+    }
+}
+
+pub fn machine_two_forms(alloc: Global) -> Option<bool> {
+    let due =
+        b"teramac 1\nmodules 1\nchips 1\nhextants 1\ntables 2\nports 4 4 4\nlines 4 4 4 4\npins 4\nend\n";
+    let other =
+        b"teramac 2\nmodules 1\nchips 1\nhextants 1\ntables 2\nports 4 4 4\nlines 4 4 4 4\npins 4\nend\n";
+    let shape = read_machine(alloc, other).ok()?;
+    let text = machine_text(alloc, &shape).ok()?;
+    let read = shape.counts() == TINY && text.as_slice() == due.as_slice();
+    Some(read && is_refused(alloc, b"teramac 3\n", 1, MachineKind::Word))
+}
+
+pub fn large_counts(alloc: Global) -> Option<bool> {
+    let small =
+        b"teramac 1\nmodules 1\nchips 1\nhextants 1\ntables 1\nports 1 1 1\nlines 1 1 1 9000\npins 7400\nend\n";
+    let due =
+        b"teramac 2\nmodules 1\nchips 1\nhextants 1\ntables 1\nports 1 1 1\nlines 1 1 1 9000\npins 7400\nend\n";
+    let refused = is_refused(alloc, small, 9, MachineKind::Limit);
+    let shape = read_machine(alloc, due).ok()?;
+    let text = machine_text(alloc, &shape).ok()?;
+    let large = !shape.is_small() && shape.wires() == 16_413;
+    Some(refused && large && text.as_slice() == due.as_slice())
+}
+
+pub fn large_pins(alloc: Global) -> Option<bool> {
+    let text =
+        b"teramac 2\nmodules 1\nchips 1\nhextants 1\ntables 1\nports 1 1 1\nlines 1 1 1 9000\npins 8193\nend\n";
+    Some(is_refused(alloc, text, 9, MachineKind::Limit))
 }
 
 pub fn faults_text_in_order(alloc: Global) -> Option<bool> {

@@ -1,9 +1,8 @@
-use Rattle.std.proofs.Common.{[], ◌∷◌}
 use Rattle.std.proofs.lemmas.Result.{err_from_is_err_and}
 use Rattle.base_io.specs.Told.{Told}
 use Rattle.machine_shape.specs.declared.Shape.{Shape}
 use Rattle.design_netlist.specs.declared.netlist_data.NetlistData.{NetlistData}
-use Rattle.cmd_steps.specs.Vocabulary.{Step, reads_design}
+use Rattle.cmd_steps.specs.Vocabulary.{Step, reads_design, third_files}
 use Rattle.cmd_steps.specs.declared.design_file.DesignFile.TheVariants.{Design}
 use Rattle.cmd_steps.proofs.ListFiles.{no-machine, no-list, no-third, all-read}
 use Rattle.cmd_compile.specs.Compile.{design_laid}
@@ -44,7 +43,7 @@ returns-in_err-netlist-clause-does g c =
 
 pub returns-clause-does : goal.returns-clause-does
 returns-clause-does g c =
-    let files = c.args.design.now ∷ c.args.defects.now ∷ c.args.machine.now ∷ [] in
+    let files = third_files c.args.machine.now c.args.defects.now c.args.design.now c.in_ok-shape.shape in
     λ rig.
     all-read reads design_laid _ _ _ (c.in_ok-shape.ensures.took rig _) (c.in_ok-list.ensures.took rig _)
     (c.in_ok-netlist.ensures.took rig _) (c.lay_and_write.ensures files (g.S.Store.store_state c.args.store.now) _ rig)

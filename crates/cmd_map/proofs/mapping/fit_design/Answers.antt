@@ -1,8 +1,7 @@
-use Rattle.std.proofs.Common.{[], ◌∷◌}
 use Rattle.std.proofs.lemmas.Result.{err_from_is_err_and}
 use Rattle.base_io.specs.Told.{Told}
 use Rattle.machine_shape.specs.declared.Shape.{Shape}
-use Rattle.cmd_steps.specs.Vocabulary.{Step, reads_text}
+use Rattle.cmd_steps.specs.Vocabulary.{Step, reads_text, third_files}
 use Rattle.cmd_steps.specs.declared.design.DesignText.{DesignText}
 use Rattle.cmd_steps.specs.declared.design_file.DesignFile.TheVariants.{Design}
 use Rattle.cmd_steps.proofs.ListFiles.{no-machine, no-list, no-third, all-read}
@@ -48,7 +47,7 @@ returns-in_err-read-clause-does g c =
 
 pub returns-clause-does : goal.returns-clause-does
 returns-clause-does g c =
-    let files = c.args.design.now ∷ c.args.defects.now ∷ c.args.machine.now ∷ [] in
+    let files = third_files c.args.machine.now c.args.defects.now c.args.design.now c.in_ok-shape.shape in
     λ rig.
     all-read reads design_fitted _ _ _ (c.in_ok-shape.ensures.took rig _) (c.in_ok-list.ensures.took rig _)
     (c.in_ok-read.ensures.took rig _) (c.fit_and_write.ensures files (g.S.Store.store_state c.args.store.now) _ rig)

@@ -1,5 +1,6 @@
 use Rattle.std.proofs.Common.{◌≡◌, [], ◌∷◌, refl}
 use Rattle.std.proofs.lemmas.Result.{err_from_is_err_and}
+use Rattle.cmd_steps.specs.Outside.{plain_file}
 use Rattle.cmd_steps.specs.Texts.{reads_text}
 use Rattle.cmd_steps.specs.declared.design_file.DesignFile.TheVariants.{Design}
 use Rattle.cmd_steps.proofs.Making.{nothing}
@@ -22,14 +23,14 @@ returns-in_err-read-clause-does g c =
     let p = err_from_is_err_and c.from_residual.result c.from_residual.ensures.1 in
     let s0 = g.S.Store.store_state c.args.store.now in
     let s1 = g.S.Store.store_state c.read_text.new.store in
-    let rest = design_mapped (c.args.design.now ∷ []) s0 s1 in
+    let rest = design_mapped (plain_file c.args.design.now ∷ []) s0 s1 in
     λ rig. rw (p.1, p.2) (file-stops (reads_text Design) _ [] s0 rest _ (rig ≡ rig) _ _ _ _ refl (none-read s0) (c.in_err-read.ensures.took rig (g.K.Sink.sink_state c.args.sink.now)) refl)
 
 pub returns-clause-does : goal.returns-clause-does
 returns-clause-does g c =
     let s0 = g.S.Store.store_state c.args.store.now in
     let s1 = g.S.Store.store_state c.read_text.new.store in
-    let rest = design_mapped (c.args.design.now ∷ []) s0 s1 in
+    let rest = design_mapped (plain_file c.args.design.now ∷ []) s0 s1 in
     λ rig.
     let took = c.in_ok-read.ensures.took rig (g.K.Sink.sink_state c.args.sink.now) in
-    file-gives (reads_text Design) _ [] s0 rest s1 _ (rig ≡ rig) _ _ _ _ _ _ (none-read s0) took (c.map_and_write.ensures (c.args.design.now ∷ []) s0 s1 rig took.place) refl
+    file-gives (reads_text Design) _ [] s0 rest s1 _ (rig ≡ rig) _ _ _ _ _ _ (none-read s0) took (c.map_and_write.ensures (plain_file c.args.design.now ∷ []) s0 s1 rig took.place) refl

@@ -1,9 +1,9 @@
 use Rattle.std.proofs.Common.{◌∙◌, ◌∷◌, refl, sym}
 use Rattle.std.proofs.lemmas.Result.{err_from_is_err_and}
 use Rattle.base_io.specs.Told.{Told}
-use Rattle.cmd_steps.specs.Texts.{reads_image}
+use Rattle.cmd_steps.specs.Vocabulary.{StandsAmong, plain_file, reads_image}
 use Rattle.cmd_steps.proofs.Making.{nothing}
-use Rattle.cmd_steps.proofs.Reading.{HasRead, more-read, file-stops, file-gives}
+use Rattle.cmd_steps.proofs.Reading.{HasReadAmong, more-among, stops-among, gives-among}
 use Rattle.cmd_repair.specs.Repair.{image_taken}
 use Rattle.cmd_repair.proofs.command.read_and_repair.Goals as goal
 
@@ -19,10 +19,10 @@ returns-in_err-image g c =
     let s1 = g.S.Store.store_state c.read_image_file.new.store in
     let reads = λ (told : Told). reads_image told c.args.shape.now in
     λ begun files rig same stands.
-    let known : HasRead files begun s0 = record { contents = same; place = stands } in
-    let rest = image_taken (c.args.image.now ∷ files) begun s1 c.args.list.now in
+    let known : HasReadAmong files begun s0 = record { contents = same; place = stands } in
+    let rest = image_taken (plain_file c.args.image.now ∷ files) begun s1 c.args.list.now in
     let took = c.in_err-image.ensures.took rig (g.K.Sink.sink_state c.args.sink.now) in
-    rw (p.1, p.2) (file-stops reads _ files begun rest _ (Unit {0}) _ _ _ _ refl known took tt)
+    rw (p.1, p.2) (stops-among reads (plain_file c.args.image.now) files begun (StandsAmong (plain_file c.args.image.now ∷ files) begun s1) rest _ (Unit {0}) _ _ _ _ refl known took (λ at. at) tt)
 
 pub returns : goal.returns
 returns g c =
@@ -30,9 +30,9 @@ returns g c =
     let s1 = g.S.Store.store_state c.read_image_file.new.store in
     let reads = λ (told : Told). reads_image told c.args.shape.now in
     λ begun files rig same stands.
-    let known : HasRead files begun s0 = record { contents = same; place = stands } in
-    let rest = image_taken (c.args.image.now ∷ files) begun s1 c.args.list.now in
+    let known : HasReadAmong files begun s0 = record { contents = same; place = stands } in
+    let rest = image_taken (plain_file c.args.image.now ∷ files) begun s1 c.args.list.now in
     let took = c.in_ok-image.ensures.took rig (g.K.Sink.sink_state c.args.sink.now) in
-    let read = more-read reads c.args.image.now files begun _ _ _ known took in
-    file-gives reads _ files begun rest s1 _ (Unit {0}) _ _ _ _ _ _ known took
-    (c.repair_and_write.ensures (c.args.image.now ∷ files) begun s1 rig read.place) tt
+    let read = more-among reads (plain_file c.args.image.now) files begun _ _ _ known took in
+    gives-among reads (plain_file c.args.image.now) files begun (StandsAmong (plain_file c.args.image.now ∷ files) begun s1) rest _ (Unit {0}) _ _ _ _ _ _ known took
+    (c.repair_and_write.ensures (plain_file c.args.image.now ∷ files) begun s1 rig read.place) tt

@@ -1,10 +1,10 @@
 use Rattle.std.proofs.Common.{[], ◌∷◌, refl}
 use Rattle.std.proofs.lemmas.Result.{err_from_is_err_and}
 use Rattle.base_io.specs.Told.{Told}
-use Rattle.cmd_steps.specs.Vocabulary.{reads_machine, reads_defects, reads_image, behind_list, behind_machine}
+use Rattle.cmd_steps.specs.Vocabulary.{StandsAmong, list_file, plain_file, reads_machine, reads_defects, reads_image, behind_list, behind_machine, list_files}
 use Rattle.cmd_steps.proofs.ListFiles.{no-machine, no-list}
 use Rattle.cmd_steps.proofs.Making.{nothing}
-use Rattle.cmd_steps.proofs.Reading.{none-read, more-read, file-gives}
+use Rattle.cmd_steps.proofs.Reading.{none-read, more-among, gives-among}
 use Rattle.cmd_repair.specs.Repair.{image_taken}
 use Rattle.cmd_repair.proofs.RepairLaws.{repair-lawful}
 use Rattle.cmd_repair.proofs.command.repair.Goals as goal
@@ -43,10 +43,12 @@ returns-clause-does g c =
     λ rig.
     let took_machine = c.in_ok-shape.ensures.took rig (g.K.Sink.sink_state c.args.sink.now) in
     let took_list = c.in_ok-list.ensures.took rig (g.K.Sink.sink_state c.args.sink.now) in
-    let one = more-read reads_machine machine [] s0 m _ _ (none-read s0) took_machine in
-    let two = more-read reads_list defects (machine ∷ []) s0 d _ _ one took_list in
-    let rest = c.read_and_repair.ensures s0 (defects ∷ machine ∷ []) rig two.contents two.place in
-    file-gives reads_machine machine [] s0 (behind_machine reads_image image_taken machine defects c.args.image.now s0 s) s _ _ _ m _ _ _ _
+    let one_file = plain_file machine ∷ [] in
+    let two_files = list_files machine defects m in
+    let one = more-among reads_machine (plain_file machine) [] s0 m _ _ (none-read s0) took_machine in
+    let two = more-among reads_list (list_file m defects) one_file s0 d _ _ one took_list in
+    let rest = c.read_and_repair.ensures s0 two_files rig two.contents two.place in
+    gives-among reads_machine (plain_file machine) [] s0 (StandsAmong one_file s0 s) (behind_machine reads_image image_taken machine defects c.args.image.now s0 s) _ _ _ m _ _ _ _
     (none-read s0) took_machine
-    (file-gives reads_list defects (machine ∷ []) s0 (behind_list reads_image image_taken machine defects c.args.image.now s0 s m) s _ (Unit {0}) _ d _ _ _ _
+    (gives-among reads_list (list_file m defects) one_file s0 (StandsAmong two_files s0 s) (behind_list reads_image image_taken machine defects c.args.image.now s0 s m) _ (Unit {0}) _ d _ _ _ _
     one took_list rest tt) refl

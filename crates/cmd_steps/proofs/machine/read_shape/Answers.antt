@@ -1,5 +1,6 @@
 use Rattle.std.proofs.lemmas.Result.{err_from_is_err_and}
 use Rattle.cmd_steps.specs.Texts.{reads_machine}
+use Rattle.cmd_steps.specs.Vocabulary.{plain_file}
 use Rattle.cmd_steps.proofs.TextLemmas.{of-machine, long-machine}
 use Rattle.cmd_steps.proofs.TookLemmas.{file-fails, file-text, file-long}
 use Rattle.cmd_steps.proofs.machine.read_shape.Goals as goal
@@ -9,19 +10,19 @@ returns-in_err-text g c = record {
   took =
       let p = err_from_is_err_and c.from_residual.result c.from_residual.ensures.1 in
       let e = c.in_err-text.ensures in
-      λ rig sink. rw (p.1, p.2) (file-fails reads_machine of-machine c.args.name.now _ _ rig sink e.contents e.later e.within _ e.refused);
+      λ rig sink. rw (p.1, p.2) (file-fails reads_machine (plain_file c.args.name.now) of-machine _ _ rig sink e.contents e.later e.within _ e.refused);
 }
 
 pub returns-in-Some : goal.returns-in-Some
 returns-in-Some g c = record {
   took =
       let e = c.in_ok-text.ensures in
-      λ rig sink. file-text reads_machine of-machine c.args.name.now _ _ rig sink e.contents e.later e.within c.in-Some.text.items _ e.asked (rw c.in-Some.is at e.text) (rw c.deref.ensures.value at c.shape_of_text.ensures);
+      λ rig sink. file-text reads_machine (plain_file c.args.name.now) of-machine _ _ rig sink e.contents e.later e.within c.in-Some.text.items _ e.asked (rw c.in-Some.is at e.text) (rw c.deref.ensures.value at c.shape_of_text.ensures);
 }
 
 pub returns-in-None : goal.returns-in-None
 returns-in-None g c = record {
   took =
       let e = c.in_ok-text.ensures in
-      λ rig sink. file-long reads_machine of-machine c.args.name.now _ _ rig sink e.contents e.later e.within _ e.asked (long-machine _ (rw c.in-None.is at e.text)) tt;
+      λ rig sink. file-long reads_machine (plain_file c.args.name.now) of-machine _ _ rig sink e.contents e.later e.within _ e.asked (long-machine _ (rw c.in-None.is at e.text)) tt;
 }

@@ -1,8 +1,12 @@
-use Rattle.std.proofs.Common.{subst}
+use Rattle.std.proofs.Common.{subst, arith}
+use Rattle.machine_shape.proofs.HighLimits.{high_limits}
 use Rattle.machine_shape.specs.declared.Counts.{Counts}
 use Rattle.machine_defects.specs.Vocabulary.{counts_of, AreCounts}
 use Rattle.machine_defects.proofs.Only.{IsTold, only_is}
 use Rattle.machine_defects.proofs.read.read_defects.Goals as goal
+
+pub read_within-requires : goal.read_within-requires
+read_within-requires c = omega (arith, c.if-bytes-most.false, c.most_text-most.ensures, (high_limits c.args.shape.now).text.1)
 
 pub returns-clause-only : goal.returns-clause-only
 returns-clause-only c = λ d p few.

@@ -1,7 +1,9 @@
 use Rattle.std.proofs.Common.{[], ◌<◌, ◌≤◌, ◌++◌, All, length, subst, sym, ap, ◌∙◌, arith}
 use Rattle.std.specs.List.{flat_map}
-use Rattle.machine_shape.specs.Shape.{pins_of}
-use Rattle.machine_image.specs.Vocabulary.{two, head_bytes, settings_bytes}
+use Rattle.machine_shape.specs.Vocabulary.{pins_of, most_ticks}
+use Rattle.machine_shape.proofs.HighLimits.{high_limits}
+use Rattle.machine_config.specs.Configuration.{Configuration}
+use Rattle.machine_image.specs.Vocabulary.{two, tables_on, head_bytes, settings_bytes}
 use Rattle.machine_image.proofs.Written.{both_put, image_written, few_pins_in, small_inputs, small_outputs}
 use Rattle.machine_image.proofs.write.write_image.Goals as goal
 
@@ -28,6 +30,12 @@ put_pins-requires-2 c =
     let i = c.args.image.now in
     let few : pins_of i.config.shape ≤ 16384 = subst (λ m. pins_of m ≤ 16384) (c.shape-shape.ensures.shape ∙ ap (λ g. g.shape) c.config-config.ensures.config) c.limits_of.ensures.pins in
     subst (All (λ n. n < 65536)) (sym c.outputs-outputs.ensures.pins) (small_outputs i c.config-config.ensures.right few)
+
+pub put_settings-requires : goal.put_settings-requires
+put_settings-requires c =
+    let i = c.args.image.now in
+    let few : most_ticks i.config.shape ≤ 65535 = (high_limits i.config.shape).ticks.1 in
+    subst (λ (g : Configuration). length (tables_on g) < 65536) (sym c.config-config.ensures.config) (omega (arith, few, c.config-config.ensures.right.few_on))
 
 pub returns : goal.returns
 returns c =

@@ -4,7 +4,7 @@ use Rattle.machine_shape.proofs.Naming.{node_steps, node_name-way}
 use Rattle.machine_shape.proofs.Shape.node_name.Goals as goal
 
 pub name_of_way-requires-clause-short : goal.name_of_way-requires-clause-short
-name_of_way-requires-clause-short c = subst (All (λ i. i < 100000)) (sym (c.steps_of.ensures ∙ c.node_way-way.ensures)) (node_steps c.args.self.now c.args.n.0 c.requires)
+name_of_way-requires-clause-short c = subst (All (λ i. i < 10000000)) (sym (c.steps_of.ensures ∙ c.node_way-way.ensures)) (node_steps c.args.self.now c.args.n.0 c.requires)
 
 pub returns : goal.returns
 returns c = c.name_of_way.ensures.name ∙ ap way_name (c.steps_of.ensures ∙ c.node_way-way.ensures) ∙ sym (node_name-way c.args.self.now c.args.n.0)

@@ -10,3 +10,6 @@ returns-clause-some c = let t = pins_are c.args.self.now in omega arith
 
 pub returns-clause-few : goal.returns-clause-few
 returns-clause-few c = let t = pins_are c.args.self.now in omega arith
+
+pub returns-clause-most : goal.returns-clause-most
+returns-clause-most c = let t = pins_are c.args.self.now in omega arith

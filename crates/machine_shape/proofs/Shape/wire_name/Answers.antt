@@ -6,7 +6,7 @@ use Rattle.machine_shape.proofs.Whereabouts.{wire_placed}
 use Rattle.machine_shape.proofs.Shape.wire_name.Goals as goal
 
 pub name_of_way-name-requires-clause-short : goal.name_of_way-name-requires-clause-short
-name_of_way-name-requires-clause-short c = subst (All (λ i. i < 100000)) (sym (c.steps_of-way.ensures ∙ c.wire_place-place.ensures.path)) (wire_steps c.args.self.now c.args.w.0 c.requires).0
+name_of_way-name-requires-clause-short c = subst (All (λ i. i < 10000000)) (sym (c.steps_of-way.ensures ∙ c.wire_place-place.ensures.path)) (wire_steps c.args.self.now c.args.w.0 c.requires).0
 
 pub push_part-requires-clause-short : goal.push_part-requires-clause-short
 push_part-requires-clause-short c = let w = wire_steps c.args.self.now c.args.w.0 c.requires in let e = c.wire_place-place.ensures.position in omega (arith, w.1)

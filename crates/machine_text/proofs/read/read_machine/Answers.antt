@@ -1,13 +1,16 @@
 use Rattle.std.proofs.Common.{arith}
-use Rattle.machine_text.proofs.GrammarLemmas.{found_is, only_is}
+use Rattle.machine_text.proofs.GrammarLemmas.{found_is, only_is, none_is}
 use Rattle.machine_text.proofs.FaultLemmas.{refused_is}
 use Rattle.machine_text.proofs.read.read_machine.Goals as goal
 
-pub returns-clause-found : goal.returns-clause-found
-returns-clause-found c = found_is c.args.bytes.now c.read_lines.result (omega arith) c.read_lines.ensures.found
+pub returns-in-Ok-clause-found : goal.returns-in-Ok-clause-found
+returns-in-Ok-clause-found c = found_is c.args.bytes.now _ _ (omega arith) c.in-Ok.ensures.found
 
-pub returns-clause-only : goal.returns-clause-only
-returns-clause-only c = λ d m _. only_is c.args.bytes.now c.read_lines.result c.read_lines.ensures.found c.read_lines.ensures.refused d m
+pub returns-in-Ok-clause-only : goal.returns-in-Ok-clause-only
+returns-in-Ok-clause-only c = λ d m _. only_is c.args.bytes.now _ _ c.in-Ok.ensures.found d m
 
-pub returns-clause-refused : goal.returns-clause-refused
-returns-clause-refused c = refused_is c.args.bytes.now c.read_lines.result (omega arith) c.read_lines.ensures.refused
+pub returns-in-Err-clause-only : goal.returns-in-Err-clause-only
+returns-in-Err-clause-only c = λ d m _. none_is c.args.bytes.now _ c.in-Err.ensures.refused d m
+
+pub returns-in-Err-clause-refused : goal.returns-in-Err-clause-refused
+returns-in-Err-clause-refused c = refused_is c.args.bytes.now _ (omega arith) c.in-Err.ensures.refused

@@ -1,7 +1,8 @@
-use Rattle.std.proofs.Common.{◌≡◌, ℕ, ◌<◌, List, Option, length, sym, subst}
+use Rattle.std.proofs.Common.{◌≡◌, ℕ, ◌<◌, ◌≤◌, List, Option, length, sym, subst, arith}
 use Rattle.std.specs.List.{All}
 use Rattle.machine_shape.specs.declared.Shape.{Shape}
 use Rattle.machine_shape.specs.declared.Table.{Table}
+use Rattle.machine_shape.specs.Bounds.{most_ticks}
 use Rattle.machine_shape.specs.Shape.{tables_of, wires_of}
 use Rattle.place_pair.specs.declared.site.Site.{Site}
 use Rattle.place_pair.specs.Sites.{first_site, second_site, IsTenant}
@@ -43,6 +44,12 @@ tenant-requires-clause-within c =
     subst (λ (m : Shape). All (λ (t : Table). t.0 < tables_of m) c.args.spot.now.plan.now.tables) (sym c.in_ok-whole.ensures.route.routed.shape)
     (seats_within c.args.defects.now.shape c.args.defects.now.list c.args.network.now c.args.spot.now.plan.now c.requires.plan)
 
+pub tenant-requires-clause-few : goal.tenant-requires-clause-few
+tenant-requires-clause-few c =
+    let few = c.requires.layout.few in
+    let sized = c.requires.plan.tables in
+    subst (λ (m : Shape). length c.args.spot.now.plan.now.tables ≤ most_ticks m) (sym c.in_ok-whole.ensures.route.routed.shape) (omega (arith, few, sized))
+
 pub tenant-requires-clause-apart : goal.tenant-requires-clause-apart
 tenant-requires-clause-apart c = seats_apart c.args.defects.now.shape c.args.defects.now.list c.args.network.now c.args.spot.now.plan.now c.requires.plan
 
@@ -71,6 +78,12 @@ pub tenant-requires-2-clause-within : goal.tenant-requires-2-clause-within
 tenant-requires-2-clause-within c =
     subst (λ (m : Shape). All (λ (t : Table). t.0 < tables_of m) c.args.spot.now.plan.now.tables) (sym c.in_ok-whole.ensures.route.routed.shape)
     (seats_within c.args.defects.now.shape c.args.defects.now.list c.args.network.now c.args.spot.now.plan.now c.requires.plan)
+
+pub tenant-requires-2-clause-few : goal.tenant-requires-2-clause-few
+tenant-requires-2-clause-few c =
+    let few = c.requires.layout.few in
+    let sized = c.requires.plan.tables in
+    subst (λ (m : Shape). length c.args.spot.now.plan.now.tables ≤ most_ticks m) (sym c.in_ok-whole.ensures.route.routed.shape) (omega (arith, few, sized))
 
 pub tenant-requires-2-clause-apart : goal.tenant-requires-2-clause-apart
 tenant-requires-2-clause-apart c = seats_apart c.args.defects.now.shape c.args.defects.now.list c.args.network.now c.args.spot.now.plan.now c.requires.plan

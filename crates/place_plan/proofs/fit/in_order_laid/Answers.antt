@@ -1,12 +1,13 @@
-use Rattle.std.proofs.Common.{◌≡◌, ◌≤◌, ◌+◌, ℕ, List, length, ap, ◌∙◌, subst}
+use Rattle.std.proofs.Common.{◌≡◌, ◌≤◌, ◌+◌, ℕ, List, length, min, sym, ap, ◌∙◌, subst, arith}
 use Rattle.machine_shape.specs.declared.Shape.{Shape}
+use Rattle.machine_shape.specs.Bounds.{most_ticks}
 use Rattle.machine_meaning.specs.Defects.{Defects}
 use Rattle.map_network.specs.declared.network.Network.{Network}
 use Rattle.place_plan.specs.declared.layout.Laid.TheVariants as laid
 use Rattle.place_plan.specs.declared.plan.Plan.{Plan}
 use Rattle.place_plan.specs.declared.short.Need.{Need}
 use Rattle.place_plan.specs.Vocabulary.{IsLaid, AreThose, AreNeeds, IsFreeTableOf, IsFreePinOf, IsInOrder, IsInOrderOf, IsPlan}
-use Rattle.place_plan.proofs.Fitting.{needs_are, in_order_is, plan_is}
+use Rattle.place_plan.proofs.Fitting.{needs_are, have_is, few_tables, in_order_is, plan_is}
 use Rattle.place_plan.proofs.fit.in_order_laid.Goals as goal
 
 -- what is known once tables and pins suffice
@@ -15,22 +16,22 @@ record Known (m : Shape) (d : Defects) (n : Network) (p : Plan) (tables pins : N
   pub plan : IsPlan m d n p
   pub in_order : IsInOrder m d n p
 
-known : (m : Shape) (d : Defects) (n : Network) (p : Plan) (free_tables free_pins ts ps us vs : List ℕ) (tables pins : Need) → AreThose (IsFreeTableOf m d) free_tables → AreThose (IsFreePinOf m d) free_pins → ts ≡ free_tables → ps ≡ free_pins → us ≡ free_tables → vs ≡ free_pins →
-    tables.need ≡ length n.tables → tables.have ≡ length ts → pins.need ≡ n.inputs + length n.outputs → pins.have ≡ length ps → tables.need ≤ tables.have → pins.need ≤ pins.have → IsInOrderOf n us vs p → Known m d n p tables pins
-known m d n p free_tables free_pins ts ps us vs tables pins a b e f g h tn th pn ph tm pm sits = record {
+known : (m : Shape) (d : Defects) (n : Network) (p : Plan) (free_tables free_pins ts ps us vs : List ℕ) (tables pins : Need) (s : Shape) (most : ℕ) → AreThose (IsFreeTableOf m d) free_tables → AreThose (IsFreePinOf m d) free_pins → ts ≡ free_tables → ps ≡ free_pins → us ≡ free_tables → vs ≡ free_pins →
+    s ≡ m → most ≡ most_ticks s → tables.need ≡ length n.tables → tables.have ≡ min (length ts) most → pins.need ≡ n.inputs + length n.outputs → pins.have ≡ length ps → tables.need ≤ tables.have → pins.need ≤ pins.have → IsInOrderOf n us vs p → Known m d n p tables pins
+known m d n p free_tables free_pins ts ps us vs tables pins s most a b e f g h same mt tn th pn ph tm pm sits = record {
   needs = needs_are m d n free_tables free_pins tables pins a b tn th' pn ph';
   plan = plan_is m d n p free_tables free_pins a b t q on;
   in_order = in_order_is m d n p free_tables free_pins a b t q on;
 }
   where
-    th' : tables.have ≡ length free_tables
-    th' = th ∙ ap length e
+    th' : tables.have ≡ min (length free_tables) (most_ticks m)
+    th' = have_is m d n tables.have most ts free_tables s th e mt same
 
     ph' : pins.have ≡ length free_pins
     ph' = ph ∙ ap length f
 
     t : length n.tables ≤ length free_tables
-    t = subst (λ z. z ≤ length free_tables) tn (subst (λ z. tables.need ≤ z) th' tm)
+    t = omega (arith, tn, th', tm)
 
     q : n.inputs + length n.outputs ≤ length free_pins
     q = subst (λ z. z ≤ length free_pins) pn (subst (λ z. pins.need ≤ z) ph' pm)
@@ -41,8 +42,18 @@ known m d n p free_tables free_pins ts ps us vs tables pins a b e f g h tn th pn
 pub laid-requires-clause-plan : goal.laid-requires-clause-plan
 laid-requires-clause-plan c =
     let D = c.args.defects.now in
-    (known D.shape D.list c.args.network.now c.in_ok-plan.plan c.in_ok-free_tables.free_tables c.in_ok-free_pins.free_pins c.as_slice.result.now c.as_slice-2.result.now c.as_slice-3.result.now c.as_slice-4.result.now c.tables_wanted-tables.result c.pins_wanted-pins.result c.in_ok-free_tables.ensures c.in_ok-free_pins.ensures c.as_slice.ensures c.as_slice-2.ensures c.as_slice-3.ensures c.as_slice-4.ensures
+    (known D.shape D.list c.args.network.now c.in_ok-plan.plan c.in_ok-free_tables.free_tables c.in_ok-free_pins.free_pins c.as_slice.result.now c.as_slice-2.result.now c.as_slice-3.result.now c.as_slice-4.result.now c.tables_wanted-tables.result c.pins_wanted-pins.result c.shape.result c.most_ticks-most.result c.in_ok-free_tables.ensures c.in_ok-free_pins.ensures c.as_slice.ensures c.as_slice-2.ensures c.as_slice-3.ensures c.as_slice-4.ensures c.shape.ensures.shape c.most_ticks-most.ensures
     c.tables_wanted-tables.ensures.need c.tables_wanted-tables.ensures.have c.pins_wanted-pins.ensures.need c.pins_wanted-pins.ensures.have c.if-tables.false c.if-pins.false c.in_ok-plan.ensures).plan
+
+pub sit-requires-clause-tables : goal.sit-requires-clause-tables
+sit-requires-clause-tables c =
+    let same : length c.as_slice.result.now ≡ length c.as_slice-3.result.now = ap (λ (ts : List ℕ). length ts) (c.as_slice.ensures ∙ sym c.as_slice-3.ensures) in
+    omega (arith, c.tables_wanted-tables.ensures.need, c.tables_wanted-tables.ensures.have, c.if-tables.false, same)
+
+pub laid-requires-clause-few : goal.laid-requires-clause-few
+laid-requires-clause-few c =
+    let D = c.args.defects.now in
+    few_tables D.shape D.list c.args.network.now c.tables_wanted-tables.result c.as_slice.result.now c.most_ticks-most.result c.tables_wanted-tables.ensures.need c.tables_wanted-tables.ensures.have (c.most_ticks-most.ensures ∙ ap most_ticks c.shape.ensures.shape)
 
 pub returns-in-Out-clause-plan : goal.returns-in-Out-clause-plan
 returns-in-Out-clause-plan c =
@@ -52,7 +63,7 @@ returns-in-Out-clause-plan c =
     let p = c.in_ok-plan.plan in
     let t = c.tables_wanted-tables.result in
     let q = c.pins_wanted-pins.result in
-    let k : Known m D.list n p t q = known m D.list n p c.in_ok-free_tables.free_tables c.in_ok-free_pins.free_pins c.as_slice.result.now c.as_slice-2.result.now c.as_slice-3.result.now c.as_slice-4.result.now t q c.in_ok-free_tables.ensures c.in_ok-free_pins.ensures c.as_slice.ensures c.as_slice-2.ensures c.as_slice-3.ensures c.as_slice-4.ensures
+    let k : Known m D.list n p t q = known m D.list n p c.in_ok-free_tables.free_tables c.in_ok-free_pins.free_pins c.as_slice.result.now c.as_slice-2.result.now c.as_slice-3.result.now c.as_slice-4.result.now t q c.shape.result c.most_ticks-most.result c.in_ok-free_tables.ensures c.in_ok-free_pins.ensures c.as_slice.ensures c.as_slice-2.ensures c.as_slice-3.ensures c.as_slice-4.ensures c.shape.ensures.shape c.most_ticks-most.ensures
     c.tables_wanted-tables.ensures.need c.tables_wanted-tables.ensures.have c.pins_wanted-pins.ensures.need c.pins_wanted-pins.ensures.have c.if-tables.false c.if-pins.false c.in_ok-plan.ensures in
     let is : IsLaid m D.list n p t q c.in_ok-layout.field-0 = c.in_ok-layout.ensures in
     let out : IsLaid m D.list n p t q (laid.Out c.in-Out.layout) = subst (IsLaid m D.list n p t q) c.in-Out.is is in

@@ -26,6 +26,7 @@ returns-in-Enough c =
     let on = found_for m D.list _ nets c.args.tables c.args.pins _ _ c.deref.ensures.value c.in-Enough.is c.in_ok-ports.ensures in (
       plan_suffices m D.list n c.args.plan.now nets are c.args.tables c.args.pins on.0,
       record {
+        few = c.requires.few on.0.tables_met;
         nets = are;
         held = plan_held m D.list n c.args.plan.now nets are c.in-Enough.ports.items on.1;
         visited = plan_visited m D.list n c.args.plan.now nets are c.in-Enough.visits.items on.2;

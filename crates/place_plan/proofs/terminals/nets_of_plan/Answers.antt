@@ -13,8 +13,8 @@ use Rattle.place_plan.proofs.PlanNets.{sized_is, nets_small, plan_nets}
 use Rattle.place_plan.proofs.terminals.nets_of_plan.Goals as goal
 
 -- what is few on an equal machine is few here, so the plan has its sizes
-sized_on : (D : DefectList) (n : Network) (p : Plan) (s : Shape) → IsNetwork n → IsPlan D.shape D.list n p → s ≡ D.shape → tables_of s ≤ 4096 → pins_of s ≤ 16384 → IsSized D.shape n p
-sized_on D n p s network plan e tables pins = sized_is D.shape D.list n p network plan (subst (λ (z : Shape). tables_of z ≤ 4096) e tables) (subst (λ (z : Shape). pins_of z ≤ 16384) e pins)
+sized_on : (D : DefectList) (n : Network) (p : Plan) (s : Shape) → IsNetwork n → IsPlan D.shape D.list n p → s ≡ D.shape → tables_of s ≤ 65536 → pins_of s ≤ 16384 → IsSized D.shape n p
+sized_on D n p s network plan e tables pins = sized_is D.shape D.list n p network plan (subst (λ (z : Shape). tables_of z ≤ 65536) e tables) (subst (λ (z : Shape). pins_of z ≤ 16384) e pins)
 
 -- these are the terminals on an equal machine
 all_on : (m : Shape) (n : Network) (p : Plan) (s : Shape) (given made : List Terminal) → s ≡ m → given ≡ made → made ≡ all_terminals s n p → given ≡ all_terminals m n p

@@ -1,5 +1,6 @@
-use Rattle.std.proofs.Common.{◌≤◌, sym, ap, ◌∙◌, subst}
+use Rattle.std.proofs.Common.{◌≡◌, ◌≤◌, sym, ap, ◌∙◌, subst}
 use Rattle.machine_shape.specs.declared.Shape.{Shape}
+use Rattle.machine_shape.specs.Vocabulary.{most_ticks}
 use Rattle.machine_config.specs.Configuration.{Configuration, with_ticks}
 use Rattle.place_route.specs.Routed.{AreWiresOf, IsJoined}
 use Rattle.place_repair.proofs.drawing.draw.Goals as goal
@@ -21,7 +22,10 @@ pub set_ticks-requires-clause-some : goal.set_ticks-requires-clause-some
 set_ticks-requires-clause-some c = subst (λ n. 1 ≤ n) (sym c.ticks-ticks.ensures) c.shape.ensures.right.some_ticks
 
 pub set_ticks-requires-clause-few : goal.set_ticks-requires-clause-few
-set_ticks-requires-clause-few c = subst (λ n. n ≤ 4096) (sym c.ticks-ticks.ensures) c.shape.ensures.right.few_ticks
+set_ticks-requires-clause-few c =
+    let joined : IsJoined c.shape.result c.args.layout.now.nets.items c.args.layout.now.ports.items c.args.layout.now.visits.items c.in_ok-config.config.config = c.in_ok-config.ensures in
+    let shape : c.seat_all.new.config.config.shape ≡ c.args.old.now.config.shape = ap (λ (g : Configuration). g.shape) c.seat_all.ensures.rest ∙ ap (λ (g : Configuration). g.shape) c.in_ok-keep_crosses.ensures.rest ∙ ap (λ (g : Configuration). g.shape) joined.closed.rest ∙ c.shape.ensures.shape in
+    subst (λ (m : Shape). c.ticks-ticks.result ≤ most_ticks m) (sym shape) (subst (λ n. n ≤ most_ticks c.args.old.now.config.shape) (sym c.ticks-ticks.ensures) c.shape.ensures.right.few_ticks)
 
 pub returns : goal.returns
 returns c = record {

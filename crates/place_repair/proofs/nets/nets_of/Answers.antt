@@ -19,7 +19,7 @@ number-requires-clause-few c =
     let g = c.args.config.now.config in
     let most : length c.in_ok-lowest.lowest ≤ wires_of g.shape = lowest_few g (c.the_numbering_is_sound.ensures.numbered g.shape) c.shape.ensures.right c.in_ok-lowest.lowest c.in_ok-lowest.ensures in
     let wires : c.wires-wires.result ≡ wires_of g.shape = c.wires-wires.ensures.wires ∙ ap wires_of c.shape.ensures.shape in
-    let few : c.wires-wires.result ≤ 16384 = c.wires-wires.ensures.few in
+    let few : c.wires-wires.result ≤ 1310720 = c.wires-wires.ensures.few in
     let same : length c.as_slice.result.now ≡ length c.in_ok-lowest.lowest = ap length c.as_slice.ensures in
     omega (arith, most, wires, few, same)
 

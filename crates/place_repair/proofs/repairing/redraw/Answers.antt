@@ -1,11 +1,11 @@
-use Rattle.std.proofs.Common.{◌≡◌, ◌<◌, ◌≤◌, All, length, refl, sym, ap, ◌∙◌, subst}
-use Rattle.machine_shape.specs.Shape.{pins_of, wires_of}
+use Rattle.std.proofs.Common.{◌≡◌, ◌<◌, All, length, refl, sym, ap, ◌∙◌, subst}
+use Rattle.machine_shape.specs.Shape.{pins_of}
 use Rattle.machine_config.specs.Configuration.{Configuration}
 use Rattle.machine_image.specs.Images.{ImageValue, IsImage}
 use Rattle.place_route.specs.Routed.{AreWiresOf}
 use Rattle.place_repair.specs.Making.{AreApart, AreSizedFor, IsDrawn, IsRedrawn}
 use Rattle.machine_image.proofs.Touching.{inputs_within, outputs_within}
-use Rattle.place_repair.proofs.Redrawing.{moved_as, drawn_shape, places_within, places_apart, few_closed}
+use Rattle.place_repair.proofs.Redrawing.{moved_as, drawn_shape, places_within, places_apart, few_closed, few_on}
 use Rattle.place_repair.proofs.repairing.redraw.Goals as goal
 
 pub draw-requires-clause-plan : goal.draw-requires-clause-plan
@@ -43,8 +43,14 @@ new-requires-clause-few c =
     let i = c.args.image.now in
     let p = c.args.plan.now in
     let drawn : IsDrawn i.config p c.args.layout.now.nets.items c.args.layout.now.ports.items c.args.layout.now.visits.items c.in_ok-config.config.config = subst (λ (g : Configuration). IsDrawn g p c.args.layout.now.nets.items c.args.layout.now.ports.items c.args.layout.now.visits.items c.in_ok-config.config.config) c.config-old.ensures.config c.in_ok-config.ensures in
-    let wires : wires_of i.config.shape ≤ 16384 = subst (λ n. n ≤ 16384) (c.wires-wires.ensures.wires ∙ ap wires_of (c.shape.ensures.shape ∙ ap (λ (g : Configuration). g.shape) c.config-old.ensures.config)) c.wires-wires.ensures.few in
-    few_closed i.config p c.args.layout.now.nets.items c.args.layout.now.ports.items c.args.layout.now.visits.items c.in_ok-config.config.config drawn c.requires.few wires
+    few_closed i.config p c.args.layout.now.nets.items c.args.layout.now.ports.items c.args.layout.now.visits.items c.in_ok-config.config.config drawn c.requires.few
+
+pub new-requires-clause-few_on : goal.new-requires-clause-few_on
+new-requires-clause-few_on c =
+    let i = c.args.image.now in
+    let p = c.args.plan.now in
+    let drawn : IsDrawn i.config p c.args.layout.now.nets.items c.args.layout.now.ports.items c.args.layout.now.visits.items c.in_ok-config.config.config = subst (λ (g : Configuration). IsDrawn g p c.args.layout.now.nets.items c.args.layout.now.ports.items c.args.layout.now.visits.items c.in_ok-config.config.config) c.config-old.ensures.config c.in_ok-config.ensures in
+    few_on i.config p c.args.layout.now.nets.items c.args.layout.now.ports.items c.args.layout.now.visits.items c.in_ok-config.config.config drawn c.config-old.ensures.right.config c.config-old.ensures.right.few_on
 
 pub returns : goal.returns
 returns c =

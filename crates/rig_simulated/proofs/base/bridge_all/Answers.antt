@@ -1,5 +1,6 @@
 use Rattle.std.proofs.Common.{◌≡◌, ◌≤◌, take, subst, ◌∙◌, arith}
 use Rattle.std.proofs.lemmas.List.{take_all}
+use Rattle.machine_shape.proofs.HighLimits.{high_limits}
 use Rattle.machine_meaning.specs.Faults.{stuck_wire}
 use Rattle.rig_simulated.specs.Classes.{AreTied}
 use Rattle.rig_simulated.specs.Building.{bridged_net}
@@ -26,6 +27,7 @@ bridges-preserved c = record {
 pub returns-clause-tied : goal.returns-clause-tied
 returns-clause-tied c =
     let all : take c.bridges.i c.bridges-bridges.result.now ≡ c.bridges-bridges.result.now = take_all c.bridges.i c.bridges-bridges.result.now (omega arith) in
-    let few : c.bridges.i ≤ 65536 = omega (arith, c.bridges-bridges.ensures.once, c.shape-shape.ensures.kept.few) in
-    tied_alike 65536 (all_bridged c.args.faults.now.shape c.bridges-bridges.result.now c.args.faults.now.faults c.bridges-bridges.ensures.all) few
+    let most = (high_limits c.args.faults.now.shape).faults.1 in
+    let few : c.bridges.i ≤ 16777216 = omega (arith, c.bridges-bridges.ensures.once, c.shape-shape.ensures.kept.few, most) in
+    tied_alike 16777216 (all_bridged c.args.faults.now.shape c.bridges-bridges.result.now c.args.faults.now.faults c.bridges-bridges.ensures.all) few
     (subst (λ ps. AreTied (bridged_net c.args.faults.now.shape ps) (stuck_wire c.args.faults.now.faults) c.bridges.knots c.bridges.i) all c.bridges.invariant.tied)

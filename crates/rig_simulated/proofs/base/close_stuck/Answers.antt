@@ -12,17 +12,17 @@ pub crosses-preserved : goal.crosses-preserved
 crosses-preserved c = elim c.if-unwrap_or.branch [
   | then-unwrap_or w ↦
       let link = stuck_more c.args.faults.now.shape c.args.faults.now.faults c.crosses.x (sym (ap (λ o. unwrap_or o false) c.cross_stuck.ensures) ∙ sym c.unwrap_or.ensures ∙ w.if-unwrap_or.true) in
-      let sum : 65536 + c.crosses.x + 1 ≡ 65536 + (c.crosses.x + 1) = omega arith in
+      let sum : 16777216 + c.crosses.x + 1 ≡ 16777216 + (c.crosses.x + 1) = omega arith in
       record {
         len = ap length w.knots-is ∙ w.join.ensures.len ∙ c.crosses.invariant.len;
-        tied = (rw w.knots-is (subst (AreTied (stuck_net c.args.faults.now.shape c.args.faults.now.faults (c.crosses.x + 1)) (stuck_wire c.args.faults.now.faults) w.join.new.knots) sum (w.join.ensures.joined (stuck_net c.args.faults.now.shape c.args.faults.now.faults c.crosses.x) (stuck_net c.args.faults.now.shape c.args.faults.now.faults (c.crosses.x + 1)) (stuck_wire c.args.faults.now.faults) (65536 + c.crosses.x) c.crosses.invariant.tied
+        tied = (rw w.knots-is (subst (AreTied (stuck_net c.args.faults.now.shape c.args.faults.now.faults (c.crosses.x + 1)) (stuck_wire c.args.faults.now.faults) w.join.new.knots) sum (w.join.ensures.joined (stuck_net c.args.faults.now.shape c.args.faults.now.faults c.crosses.x) (stuck_net c.args.faults.now.shape c.args.faults.now.faults (c.crosses.x + 1)) (stuck_wire c.args.faults.now.faults) (16777216 + c.crosses.x) c.crosses.invariant.tied
             (subst (λ (e : ℕ × ℕ). HasLink (stuck_net c.args.faults.now.shape c.args.faults.now.faults c.crosses.x) (stuck_net c.args.faults.now.shape c.args.faults.now.faults (c.crosses.x + 1)) e.0 e.1) (sym (w.ends.ensures.ends ∙ ap (λ s. ends_of s c.crosses.x) c.shape-shape.ensures.shape)) link))));
       }
   | else-unwrap_or w ↦
       let same = not_stuck_more c.args.faults.now.shape c.args.faults.now.faults c.crosses.x (sym (ap (λ o. unwrap_or o false) c.cross_stuck.ensures) ∙ sym c.unwrap_or.ensures ∙ w.if-unwrap_or.false) in
       record {
         len = ap length w.knots-is ∙ c.crosses.invariant.len;
-        tied = (rw w.knots-is (tied_alike (65536 + (c.crosses.x + 1)) same (omega arith) c.crosses.invariant.tied));
+        tied = (rw w.knots-is (tied_alike (16777216 + (c.crosses.x + 1)) same (omega arith) c.crosses.invariant.tied));
       }
 ]
 

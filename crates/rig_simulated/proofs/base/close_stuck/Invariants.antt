@@ -7,5 +7,5 @@ use Rattle.rig_simulated.proofs.base.close_stuck.Given as goal
 abbrev pub invariant-crosses : goal.invariant-crosses
 invariant-crosses l = record {
   len : length l.knots ≡ length l.fn.knots;
-  tied : AreTied (stuck_net l.faults.shape l.faults.faults l.x) (stuck_wire l.faults.faults) l.knots (65536 + l.x);
+  tied : AreTied (stuck_net l.faults.shape l.faults.faults l.x) (stuck_wire l.faults.faults) l.knots (16777216 + l.x);
 }

@@ -1,0 +1,10 @@
+use Rattle.std.proofs.Common.{◌∙◌, sym, arith}
+use Rattle.std.proofs.lemmas.Bool.{both_ways}
+use Rattle.machine_shape.proofs.HighLimits.{small_is}
+use Rattle.machine_shape.proofs.limits.first_passed_by_large.Goals as goal
+
+pub returns-then-is_small_by-clause-none : goal.returns-then-is_small_by-clause-none
+returns-then-is_small_by-clause-none c =
+    let small = sym c.is_small_by.ensures ∙ c.if-is_small_by.true in
+    let few = small_is c.args.counts small in
+    (omega (arith, few.0), omega (arith, few.1), omega (arith, few.2), λ large. absurd (both_ways _ large small))
