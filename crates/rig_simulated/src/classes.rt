@@ -2,7 +2,9 @@
 
 ghost use Rattle.std.specs.Prelude.{◌≡◌, ◌≢◌, ◌⊎◌, ℕ, ◌+◌, ◌-◌, ◌^◌, ◌<◌, ◌≤◌, Bool, false, Option, length};
 ghost use Rattle.machine_meaning.specs.Joined.{Net};
-ghost use Rattle.rig_simulated.specs.Classes.{knot_at, HasRoots, AreRooted, AreTied, HasLink, IsHung, stronger};
+ghost use Rattle.rig_simulated.specs.Classes.{knot_at, HasRoots, AreRooted, AreTied, HasLink, IsHung, IsTieOf, IsUntied, stronger};
+
+use machine_shape::Cross;
 
 /// What is kept of a wire.
 #[derive(Clone, Copy, Debug)]
@@ -15,15 +17,29 @@ pub struct ClassNode {
     pub held: Option<bool>,
 }
 
-/// The classes of a machine's wires, and how they were before any crosspoint was closed.
+/// A root that is put below another, and what was kept of the higher one before.
+#[derive(Clone, Copy, Debug)]
+pub struct Tie {
+    pub low: u32,
+    pub high: u32,
+    pub rank: u64,
+    pub held: Option<bool>,
+}
+
+/// A crosspoint that was closed, and the roots that it tied, if it did.
+#[derive(Clone, Copy, Debug)]
+pub struct Closed {
+    pub cross: Cross,
+    pub tie: Option<Tie>,
+}
+
+/// The classes of a machine's wires.
 #[derive(Drop)]
 pub struct Classes {
-    /// What the faults alone join.
-    pub base: Vec<ClassNode>,
-    /// What is joined now.
+    /// What is joined by the faults and by what is closed.
     pub knots: Vec<ClassNode>,
-    /// The wires whose knots may differ from the base.
-    pub touched: Vec<u32>,
+    /// What was closed, in this order, so that the last can be opened again.
+    pub closed: Vec<Closed>,
 }
 
 /// The root of a wire's class.
@@ -55,7 +71,7 @@ fn stronger(a: Option<bool>, b: Option<bool>) -> Option<bool>
 }
 
 /// Puts a root below another of no lower rank.
-fn hang(knots: &mut [ClassNode], low: u32, high: u32)
+pub fn hang(knots: &mut [ClassNode], low: u32, high: u32)
     requires low { low < length knots.old }
     requires high { high < length knots.old }
     requires apart { low ≢ high }
@@ -82,20 +98,44 @@ fn hang(knots: &mut [ClassNode], low: u32, high: u32)
     };
 }
 
-/// Puts one of two roots below the other.
-pub fn tie(knots: &mut [ClassNode], a: u32, b: u32)
-    requires a { a < length knots.old }
-    requires b { b < length knots.old }
-    requires apart { a ≢ b }
-    requires a_room { (knot_at knots.old a).rank + 1 < 2 ^ 64 }
-    requires b_room { (knot_at knots.old b).rank + 1 < 2 ^ 64 }
-    ensures { IsHung knots.old knots.new a b ⊎ IsHung knots.old knots.new b a }
+/// Which of two roots is put below the other.
+pub fn tie_of(knots: &[ClassNode], a: u32, b: u32) -> Tie
+    requires a { a < length knots.now }
+    requires b { b < length knots.now }
+    ensures { IsTieOf knots.now a b result }
 {
-    if knots[a as usize].rank <= knots[b as usize].rank {
-        hang(knots, a, b);
+    let (low, high) = if knots[a as usize].rank <= knots[b as usize].rank {
+        (a, b)
     } else {
-        hang(knots, b, a);
+        (b, a)
+    };
+    let above = knots[high as usize];
+    Tie {
+        low,
+        high,
+        rank: above.rank,
+        held: above.held,
     }
+}
+
+/// Parts again what was tied last.
+pub fn untie(knots: &mut [ClassNode], tie: Tie)
+    requires low { tie.low < length knots.old }
+    requires high { tie.high < length knots.old }
+    requires apart { tie.low ≢ tie.high }
+    ensures { IsUntied tie knots.old knots.new }
+{
+    let below = knots[tie.low as usize];
+    knots[tie.low as usize] = ClassNode {
+        parent: tie.low,
+        rank: below.rank,
+        held: below.held,
+    };
+    knots[tie.high as usize] = ClassNode {
+        parent: tie.high,
+        rank: tie.rank,
+        held: tie.held,
+    };
 }
 
 /// Joins the classes of two wires.
@@ -110,6 +150,7 @@ pub fn join(knots: &mut [ClassNode], a: u32, b: u32)
     let root = root_of(knots, a);
     let other = root_of(knots, b);
     if root != other {
-        tie(knots, root, other);
+        let tie = tie_of(knots, root, other);
+        hang(knots, tie.low, tie.high);
     }
 }
