@@ -3,13 +3,18 @@ use Rattle.std.proofs.Common.{◌≡◌, ◌≢◌, ◌⊎◌, inl, inr, ⊎_eli
 use Rattle.std.proofs.Math.Bool.{or-false}
 use Rattle.std.proofs.lemmas.Bool.{false≢true, cases_eq, cases_lt, cases_Bool, false_from_ne_true}
 use Rattle.std.proofs.lemmas.List.{get_or-set_other, get_or_default, get_or_past, get_or-replicate, length-replicate, get_or-map, length-map, same_lists}
+use Rattle.machine_shape.specs.declared.Shape.{Shape}
+use Rattle.machine_shape.specs.Shape.{wires_of, pins_of}
 use Rattle.machine_meaning.specs.Circuit.{Pins}
 use Rattle.rig_simulated.specs.declared.classes.ClassNode.{ClassNode}
+use Rattle.rig_simulated.specs.declared.driving.KeptPins.{KeptPins}
 use Rattle.rig_simulated.specs.declared.gates.Gate.{Gate}
 use Rattle.rig_simulated.specs.Classes.{knot_at}
 use Rattle.rig_simulated.specs.Gates.{is_low, IsClear, level_of, level_at, IsDrivenBy, IsPinOf, IsOutputOf}
 use Rattle.rig_simulated.specs.Cycles.{AreDriven}
-use Rattle.rig_simulated.specs.Tracked.{level_by, AreShown, AreAlikeBelow}
+use Rattle.rig_simulated.specs.Boards.{HasPins}
+use Rattle.rig_simulated.specs.Chains.{AreWithin}
+use Rattle.rig_simulated.specs.Tracked.{level_by, AreShown, AreAlikeBelow, IsTracked}
 
 -- nothing is driven
 pub driven_none : (pins : List ℕ) (drive : Pins) (low : List Bool) (n : ℕ) → IsClear low → drive ≡ replicate n true → AreDriven pins drive low
@@ -118,3 +123,19 @@ module _ (knots : List ClassNode) (low_pins low_tables : List Bool) (gates : Lis
       right : (k : ℕ) → k < length pins → get_or read k true ≡ level_at knots low_pins low_tables (slice_index pins k)
       right k l = ⊎_elim (λ e. e) (λ p. p.0 ∙ sym (ap (λ b. level_of (knot_at knots (slice_index pins k)).held (is_low low_pins (slice_index pins k) || b)) (none (slice_index pins k) p.1)
           ∙ ap (level_of (knot_at knots (slice_index pins k)).held) (or-false (is_low low_pins (slice_index pins k))))) (are.each k l)
+
+-- what is kept of pins that are driven anew is kept of the machine's pins
+pub has_still : (m : Shape) (knots : List ClassNode) (pins : List ℕ) (low new : List Bool) (kept after : KeptPins) → HasPins m pins low kept → IsTracked knots pins low kept → length knots ≡ wires_of m → IsTracked knots pins new after → HasPins m pins new after
+has_still m knots pins low new kept after has was len now = record {
+  within = has.within;
+  marks = now.marks ∙ len;
+  last = now.last ∙ len;
+  few = subst (AreWithin after.chains.last.items) count now.few;
+  before = now.before ∙ count;
+  drive = now.drive ∙ count;
+  levels = now.shown.len ∙ count;
+  driven = now.driven;
+}
+  where
+    count : length pins ≡ pins_of m
+    count = sym was.drive ∙ has.drive

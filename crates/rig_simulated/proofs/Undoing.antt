@@ -1,5 +1,5 @@
 -- What was closed last is opened again, and one crosspoint more is closed.
-use Rattle.std.proofs.Common.{◌≡◌, ◌≢◌, ◌⊎◌, inl, inr, ⊎_elim, ℕ, ◌+◌, ◌^◌, ◌<◌, ◌≤◌, Bool, true, false, Option, Some, None, List, [], ◌∷◌, ◌++◌, length, map, take, get_or, cond, ltb, refl, sym, ap, ◌∙◌, subst, arith, is_some}
+use Rattle.std.proofs.Common.{◌≡◌, ◌≢◌, ◌⊎◌, inl, inr, ⊎_elim, ℕ, ◌+◌, ◌^◌, ◌<◌, ◌≤◌, Bool, true, false, Option, Some, None, IfSome, List, [], ◌∷◌, ◌++◌, length, map, take, get_or, cond, ltb, refl, sym, ap, ◌∙◌, subst, arith, is_some}
 use Rattle.std.proofs.lemmas.Bool.{false≢true, cases_eq, cases_lt, cond-true, cond-false, lt-ltb, le-ltb}
 use Rattle.std.proofs.lemmas.List.{same_lists, length_push, take_all, take-append-le, get_or_push, get_or_append_left, map_push}
 use Rattle.machine_shape.specs.declared.Shape.{Shape}
@@ -10,10 +10,10 @@ use Rattle.rig_simulated.specs.declared.classes.ClassNode.{ClassNode}
 use Rattle.rig_simulated.specs.declared.classes.Tie.{Tie}
 use Rattle.rig_simulated.specs.declared.classes.Closed.{Closed}
 use Rattle.rig_simulated.specs.declared.classes.Classes.{Classes}
-use Rattle.rig_simulated.specs.Classes.{knot_at, AreTied, AreRooted, HasLink, HaveSameLinks, IsHung, IsUntied}
-use Rattle.rig_simulated.specs.Building.{closed_net, base_most, AreBase, CanPart, IsOpenedBy, AreOpenable, cross_of, AreClosedBy, HasClosed}
+use Rattle.rig_simulated.specs.Classes.{knot_at, HasRoots, AreTied, AreRooted, HasLink, HaveSameLinks, IsHung, IsTieOf, IsUntied, IsWithinKnots, IsOpenedBy}
+use Rattle.rig_simulated.specs.Building.{closed_net, base_most, AreBase, AreOpenable, cross_of, AreClosedBy, HasClosed}
 use Rattle.rig_simulated.proofs.ClassLemmas.{knot_is}
-use Rattle.rig_simulated.proofs.Joining.{tied_alike}
+use Rattle.rig_simulated.proofs.Joining.{same_knots, tied_roots, tied_alike}
 use Rattle.rig_simulated.proofs.Links.{closed_more, stuck_same}
 
 -- the knots before a tie are determined
@@ -30,18 +30,57 @@ untied_once tie tied before other x y = same_lists before other len (λ k d h. k
 
 -- a tie that was made can be parted again
 pub hung_parts : (tie : Tie) (before tied : List ClassNode) → IsHung before tied tie.low tie.high → (knot_at before tie.low).parent ≡ tie.low → (knot_at before tie.high).parent ≡ tie.high →
-    tie.rank ≡ (knot_at before tie.high).rank → tie.held ≡ (knot_at before tie.high).held → tie.low < length before → tie.high < length before → tie.low ≢ tie.high → CanPart tie tied before
-hung_parts tie before tied hung low_top high_top rank held low_in high_in apart = record {
-  low_in = omega (arith, low_in, hung.len);
-  high_in = omega (arith, high_in, hung.len);
-  apart = apart;
-  untied = record {
-    len = sym hung.len;
-    low = λ i. record { parent = low_top i; rank = sym hung.rank i; held = sym hung.low_held i };
-    high = λ i. record { parent = high_top i; rank = sym rank i; held = sym held i };
-    others = λ w n m. sym (hung.others w n m);
-  };
+    tie.rank ≡ (knot_at before tie.high).rank → tie.held ≡ (knot_at before tie.high).held → IsWithinKnots tie (length before) → IsUntied tie tied before
+hung_parts tie before tied hung low_top high_top rank held within = record {
+  within = subst (IsWithinKnots tie) (sym hung.len) within;
+  len = sym hung.len;
+  low = λ i. record { parent = low_top i; rank = sym hung.rank i; held = sym hung.low_held i };
+  high = λ i. record { parent = high_top i; rank = sym rank i; held = sym held i };
+  others = λ w n m. sym (hung.others w n m);
 }
+
+-- a tie of two roots
+module _ {knots : List ClassNode} {r o : ℕ} {tie : Tie} (is : IsTieOf knots r o tie) where
+  pub tie_sides : (P : ℕ → Type 0) → P r → P o → P tie.low × P tie.high
+  tie_sides P x y = ⊎_elim (λ p. (subst P (sym p.0) x, subst P (sym p.1) y)) (λ p. (subst P (sym p.0) y, subst P (sym p.1) x)) is.ends
+
+  pub tie_hung : (new : List ClassNode) → IsHung knots new tie.low tie.high → IsHung knots new r o ⊎ IsHung knots new o r
+  tie_hung new hung = ⊎_elim
+      (λ p. inl (subst (λ x. IsHung knots new x o) p.0 (subst (λ y. IsHung knots new tie.low y) p.1 hung)))
+      (λ p. inr (subst (λ x. IsHung knots new x r) p.0 (subst (λ y. IsHung knots new tie.low y) p.1 hung)))
+      is.ends
+
+-- what a crosspoint that is closed tied is within the knots
+pub parts_within : (tie : Option Tie) (knots before : List ClassNode) → IsOpenedBy tie knots before → IfSome tie (λ t. IsWithinKnots t (length knots))
+parts_within None knots before is = tt
+parts_within (Some tie) knots before is = is.within
+
+-- the roots of the ends of a crosspoint that is closed
+module _ (cross : Cross) (a b : ℕ) (old new : Classes) (r o : ℕ) (r_is : (most : ℕ) (root : ℕ → ℕ) → HasRoots old.knots.items most root → r ≡ root a) (o_is : (most : ℕ) (root : ℕ → ℕ) → HasRoots old.knots.items most root → o ≡ root b) where
+  pub closed_within : r ≡ o → new.closed.items ≡ old.closed.items ++ record { cross = cross; tie = None } ∷ [] → new.knots.items ≡ old.knots.items → HasClosed cross a b old new
+  closed_within same list knots = record {
+    step = record { cross = cross; tie = None };
+    is = refl;
+    closed = list;
+    back = sym knots;
+    len = ap length knots;
+    joined = λ net more stuck most t link. subst (λ ks. AreTied more stuck ks (most + 1)) (sym knots)
+        (record { root = t.root; knots_are = same_knots t.knots_are link (sym (r_is most t.root t.knots_are.roots) ∙ same ∙ o_is most t.root t.knots_are.roots) });
+  }
+
+  pub closed_tied : (tie : Tie) → r < length old.knots.items → o < length old.knots.items → (knot_at old.knots.items r).parent ≡ r → (knot_at old.knots.items o).parent ≡ o → r ≢ o → IsTieOf old.knots.items r o tie →
+      IsWithinKnots tie (length old.knots.items) → IsHung old.knots.items new.knots.items tie.low tie.high → new.closed.items ≡ old.closed.items ++ record { cross = cross; tie = Some tie } ∷ [] → HasClosed cross a b old new
+  closed_tied tie r_in o_in r_top o_top apart is within hung list =
+      let tops = tie_sides is (λ w. (knot_at old.knots.items w).parent ≡ w) r_top o_top in
+      record {
+        step = record { cross = cross; tie = Some tie };
+        is = refl;
+        closed = list;
+        back = hung_parts tie old.knots.items new.knots.items hung tops.0 tops.1 is.rank is.held within;
+        len = hung.len;
+        joined = λ net more stuck most t link.
+            tied_roots t link (r_is most t.root t.knots_are.roots) (o_is most t.root t.knots_are.roots) r_in o_in r_top o_top apart (tie_hung is new.knots.items hung);
+      }
 
 take_front : {X : Type 0} (xs : List X) (x : X) (n : ℕ) → n ≤ length xs → take n (xs ++ x ∷ []) ≡ take n xs
 take_front xs x n h = take-append-le n xs (x ∷ []) h
@@ -69,7 +108,7 @@ module _ (rest : List Closed) (last : Closed) (knots : List ClassNode) (o : AreO
 -- the knots that an opening leads to
 pub opened_is : (tie : Option Tie) (knots before other : List ClassNode) → IsOpenedBy tie knots before → IsOpenedBy tie knots other → before ≡ other
 opened_is None knots before other e f = e ∙ sym f
-opened_is (Some tie) knots before other e f = untied_once tie knots before other e.untied f.untied
+opened_is (Some tie) knots before other e f = untied_once tie knots before other e f
 
 pub opened_closed : (m : Shape) (f : Faults) (rest : List Closed) (last : Closed) (knots before : List ClassNode) → AreClosedBy m f (rest ++ last ∷ []) knots → IsOpenedBy last.tie knots before → AreClosedBy m f rest before
 opened_closed m f rest last knots before c back = record {

@@ -21,7 +21,7 @@ use Rattle.rig_simulated.specs.Events.{AreEvents}
 -- there is room for what the pins are driven, and the marks are those of it
 pub record HasPins (m : Shape) (pins : List ℕ) (low : List Bool) (kept : KeptPins) : Type 0 where
   pub within : All (λ r. r < wires_of m) pins
-  pub low : length low ≡ wires_of m
+  pub marks : length low ≡ wires_of m
   pub last : length kept.chains.last.items ≡ wires_of m
   pub few : AreWithin kept.chains.last.items (pins_of m)
   pub before : length kept.chains.before.items ≡ pins_of m

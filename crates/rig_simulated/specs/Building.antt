@@ -1,5 +1,5 @@
 -- How the classes of a machine are built, link by link.
-use Rattle.std.specs.Prelude.{◌≡◌, ◌≢◌, ℕ, ◌+◌, ◌<◌, ◌≤◌, Bool, false, ◌==◌, ◌&&◌, nat_lt, Option, Some, None, List, [], ◌∷◌, ◌++◌, length, map}
+use Rattle.std.specs.Prelude.{◌≡◌, ℕ, ◌+◌, ◌<◌, ◌≤◌, Bool, false, ◌==◌, ◌&&◌, nat_lt, Option, List, [], ◌∷◌, ◌++◌, length, map}
 use Rattle.std.specs.Prelude.{take, slice_index_or, unwrap_or}
 use Rattle.std.specs.List.{list_any}
 use Rattle.std.specs.FinSet as set
@@ -10,10 +10,9 @@ use Rattle.machine_shape.specs.Shape.{wires_of}
 use Rattle.machine_meaning.specs.Vocabulary.{Faults, stuck_wire, stuck_cross, is_bridge, pair_cmp, Net, net_of}
 use Rattle.machine_faults.specs.Stored.{pair_of}
 use Rattle.rig_simulated.specs.declared.classes.ClassNode.{ClassNode}
-use Rattle.rig_simulated.specs.declared.classes.Tie.{Tie}
 use Rattle.rig_simulated.specs.declared.classes.Closed.{Closed}
 use Rattle.rig_simulated.specs.declared.classes.Classes.{Classes}
-use Rattle.rig_simulated.specs.Classes.{AreTied, HasLink, IsUntied}
+use Rattle.rig_simulated.specs.Classes.{AreTied, HasLink, IsOpenedBy}
 
 -- nothing is linked but by these bridges
 abbrev pub bridged_net : Shape → List (Wire × Wire) → Net
@@ -44,18 +43,6 @@ base_most = 8589934592
 pub record AreBase (m : Shape) (f : Faults) (base : List ClassNode) : Type 0 where
   pub len : length base ≡ wires_of m
   pub tied : AreTied (closed_net m f []) (stuck_wire f) base base_most
-
--- what a crosspoint that is closed tied can be parted again
-pub record CanPart (tie : Tie) (tied before : List ClassNode) : Type 0 where
-  pub low_in : tie.low < length tied
-  pub high_in : tie.high < length tied
-  pub apart : tie.low ≢ tie.high
-  pub untied : IsUntied tie tied before
-
--- the knots before a crosspoint was closed
-abbrev pub IsOpenedBy : Option Tie → List ClassNode → List ClassNode → Type 0
-IsOpenedBy None tied before = before ≡ tied
-IsOpenedBy (Some tie) tied before = CanPart tie tied before
 
 -- what was closed can be opened again, the last first: over each beginning of the list the knots were these
 pub record AreOpenable (closed : List Closed) (knots : List ClassNode) : Type 0 where

@@ -91,9 +91,21 @@ pub record IsTieOf (knots : List ClassNode) (a b : ℕ) (tie : Tie) : Type 0 whe
   pub rank : tie.rank ≡ (knot_at knots tie.high).rank
   pub held : tie.held ≡ (knot_at knots tie.high).held
 
+-- two wires of so many are tied
+pub record IsWithinKnots (tie : Tie) (wires : ℕ) : Type 0 where
+  pub low : tie.low < wires
+  pub high : tie.high < wires
+  pub apart : tie.low ≢ tie.high
+
 -- the knots as they were before the tie
 pub record IsUntied (tie : Tie) (tied before : List ClassNode) : Type 0 where
+  pub within : IsWithinKnots tie (length tied)
   pub len : length before ≡ length tied
   pub low : knot_at before tie.low ≡ record { parent = tie.low; rank = (knot_at tied tie.low).rank; held = (knot_at tied tie.low).held }
   pub high : knot_at before tie.high ≡ record { parent = tie.high; rank = tie.rank; held = tie.held }
   pub others : (w : ℕ) → w ≢ tie.low → w ≢ tie.high → knot_at before w ≡ knot_at tied w
+
+-- the knots before a crosspoint was closed, which may have tied two wires
+abbrev pub IsOpenedBy : Option Tie → List ClassNode → List ClassNode → Type 0
+IsOpenedBy None tied before = before ≡ tied
+IsOpenedBy (Some tie) tied before = IsUntied tie tied before

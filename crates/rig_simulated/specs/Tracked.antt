@@ -20,7 +20,7 @@ pub record AreShown (knots : List ClassNode) (pins : List ℕ) (low : List Bool)
 -- the pins stand in chains, the marks are those of what they are driven, and the levels those under these marks
 pub record IsTracked (knots : List ClassNode) (pins : List ℕ) (low : List Bool) (kept : KeptPins) : Type 0 where
   pub within : All (λ r. r < length knots) pins
-  pub low : length low ≡ length knots
+  pub marks : length low ≡ length knots
   pub last : length kept.chains.last.items ≡ length knots
   pub few : AreWithin kept.chains.last.items (length pins)
   pub before : length kept.chains.before.items ≡ length pins

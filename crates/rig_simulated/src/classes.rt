@@ -1,8 +1,8 @@
 //! Wires in classes: those that are joined have one root.
 
-ghost use Rattle.std.specs.Prelude.{◌≡◌, ◌≢◌, ◌⊎◌, ℕ, ◌+◌, ◌-◌, ◌^◌, ◌<◌, ◌≤◌, Bool, false, Option, length};
+ghost use Rattle.std.specs.Prelude.{◌≡◌, ◌≢◌, ◌⊎◌, ℕ, ◌+◌, ◌-◌, ◌^◌, ◌<◌, ◌≤◌, Bool, false, Option, IfSome, length};
 ghost use Rattle.machine_meaning.specs.Joined.{Net};
-ghost use Rattle.rig_simulated.specs.Classes.{knot_at, HasRoots, AreRooted, AreTied, HasLink, IsHung, IsTieOf, IsUntied, stronger};
+ghost use Rattle.rig_simulated.specs.Classes.{knot_at, HasRoots, AreRooted, AreTied, HasLink, IsHung, IsTieOf, IsUntied, IsWithinKnots, IsOpenedBy, stronger};
 
 use machine_shape::Cross;
 
@@ -98,17 +98,14 @@ pub fn hang(knots: &mut [ClassNode], low: u32, high: u32)
     };
 }
 
-/// Which of two roots is put below the other.
-pub fn tie_of(knots: &[ClassNode], a: u32, b: u32) -> Tie
-    requires a { a < length knots.now }
-    requires b { b < length knots.now }
-    ensures { IsTieOf knots.now a b result }
+/// A root that is to be put below another.
+fn tie_below(knots: &[ClassNode], low: u32, high: u32) -> Tie
+    requires { high < length knots.now }
+    ensures low { result.low ≡ low }
+    ensures high { result.high ≡ high }
+    ensures rank { result.rank ≡ (knot_at knots.now high).rank }
+    ensures held { result.held ≡ (knot_at knots.now high).held }
 {
-    let (low, high) = if knots[a as usize].rank <= knots[b as usize].rank {
-        (a, b)
-    } else {
-        (b, a)
-    };
     let above = knots[high as usize];
     Tie {
         low,
@@ -118,11 +115,23 @@ pub fn tie_of(knots: &[ClassNode], a: u32, b: u32) -> Tie
     }
 }
 
+/// Which of two roots is to be put below the other.
+pub fn tie_of(knots: &[ClassNode], a: u32, b: u32) -> Tie
+    requires a { a < length knots.now }
+    requires b { b < length knots.now }
+    requires apart { a ≢ b }
+    ensures within { IsWithinKnots result (length knots.now) }
+    ensures tie { IsTieOf knots.now a b result }
+{
+    if knots[a as usize].rank <= knots[b as usize].rank {
+        return tie_below(knots, a, b);
+    }
+    tie_below(knots, b, a)
+}
+
 /// Parts again what was tied last.
-pub fn untie(knots: &mut [ClassNode], tie: Tie)
-    requires low { tie.low < length knots.old }
-    requires high { tie.high < length knots.old }
-    requires apart { tie.low ≢ tie.high }
+fn untie(knots: &mut [ClassNode], tie: Tie)
+    requires { IsWithinKnots tie (length knots.old) }
     ensures { IsUntied tie knots.old knots.new }
 {
     let below = knots[tie.low as usize];
@@ -136,6 +145,16 @@ pub fn untie(knots: &mut [ClassNode], tie: Tie)
         rank: tie.rank,
         held: tie.held,
     };
+}
+
+/// Parts again what a crosspoint tied that was closed last.
+pub fn part(knots: &mut [ClassNode], tie: Option<Tie>)
+    requires { IfSome tie (λ t. IsWithinKnots t (length knots.old)) }
+    ensures { IsOpenedBy tie knots.old knots.new }
+{
+    if let Some(tie) = tie {
+        untie(knots, tie);
+    }
 }
 
 /// Joins the classes of two wires.

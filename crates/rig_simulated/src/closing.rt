@@ -1,12 +1,12 @@
 //! The classes once crosspoints are closed.
 
 ghost use Rattle.std.specs.Prelude.{◌≡◌, ◌+◌, ◌-◌, ◌<◌, ◌≤◌, [], ◌∷◌, ◌++◌, length, map, take, All, OnOk, OnErr};
-ghost use Rattle.machine_shape.specs.Shape.{crosses_of};
+ghost use Rattle.machine_shape.specs.Shape.{wires_of, crosses_of};
 ghost use Rattle.rig_simulated.specs.Classes.{AreRooted};
 ghost use Rattle.rig_simulated.specs.Building.{cross_of, AreClosedBy, AreOpenable, StaysClosed, HasClosed};
 ghost use Rattle.rig_simulated.specs.Stuck.{AreStuck};
 
-use crate::classes::{Classes, Closed, hang, root_of, tie_of, untie};
+use crate::classes::{Classes, Closed, hang, part, root_of, tie_of};
 use base_bits::BitSet;
 use machine_faults::FaultSet;
 use machine_shape::Cross;
@@ -35,9 +35,7 @@ fn open_last(classes: &mut Classes)
     ensures closed { classes.new.closed.items ≡ take (length classes.old.closed.items - 1) classes.old.closed.items }
 {
     if let Some(last) = classes.closed.pop() {
-        if let Some(tie) = last.tie {
-            untie(&mut classes.knots, tie);
-        }
+        part(&mut classes.knots, last.tie);
     }
 }
 
@@ -112,6 +110,8 @@ pub fn close_all(
     requires within { All (λ c. c.0 < crosses_of faults.now.shape) crosses.now }
     ensures closed { AreClosedBy faults.now.shape faults.now.faults classes.new.closed.items classes.new.knots.items }
     ensures crosses { OnOk result (map cross_of classes.new.closed.items ≡ crosses.now) }
+    ensures len { length classes.new.knots.items ≡ wires_of faults.now.shape }
+    ensures rooted { AreRooted classes.new.knots.items }
 {
     let count = count_alike(&classes.closed, crosses);
     open_behind(classes, count);
