@@ -37,6 +37,7 @@ ArePinsOf m knots pins = (most : ℕ) (root : ℕ → ℕ) → HasRoots knots mo
 -- its faults are prepared, its classes are those of what is closed, and no class has a mark of a table or a count
 pub record IsPrepared (m : Shape) (f : Faults) (b : Board) : Type 0 where
   pub closed : AreClosedBy m f b.classes.closed.items b.classes.knots.items
+  pub knots : length b.classes.knots.items ≡ wires_of m
   pub stuck : AreStuck m f b.stuck
   pub pins : HasPins m b.pins.items b.low_pins.items b.kept
   pub low_tables : length b.low_tables.items ≡ wires_of m

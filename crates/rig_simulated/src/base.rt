@@ -62,7 +62,8 @@ fn close_stuck(knots: &mut [ClassNode], faults: &FaultSet)
 
 /// The classes of what the faults alone join, while nothing is closed.
 pub fn classes_of(alloc: Global, faults: &FaultSet) -> Result<Classes, AllocError>
-    ensures { IfOk result (λ c. AreClosedBy faults.now.shape faults.now.faults c.closed.items c.knots.items) }
+    ensures closed { IfOk result (λ c. AreClosedBy faults.now.shape faults.now.faults c.closed.items c.knots.items) }
+    ensures len { IfOk result (λ c. length c.knots.items ≡ wires_of faults.now.shape) }
 {
     let mut knots = lone_nodes(alloc, faults)?;
     bridge_all(&mut knots, faults);

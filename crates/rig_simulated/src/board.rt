@@ -201,12 +201,7 @@ pub fn load(board: &mut Board, faults: &FaultSet, config: &Config) -> Result<(),
         (at_load (circuit_of faults.now.faults config.now.config))) }
 {
     let shape = config.shape();
-    close_all(
-        &mut board.classes,
-        &board.stuck,
-        faults,
-        config.closed(),
-    )?;
+    close_all(&mut board.classes, &board.stuck, faults, config.closed())?;
     fill_gates(&mut board.gates, faults, &board.classes.knots, config)?;
     load_pins(
         &mut board.kept,

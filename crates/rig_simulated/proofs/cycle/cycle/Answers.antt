@@ -15,7 +15,6 @@ use Rattle.rig_simulated.specs.Tracks.{GivesCycle}
 use Rattle.rig_simulated.proofs.Eventing.{alike_map, events_stay}
 use Rattle.rig_simulated.specs.Tracked.{IsTracked}
 use Rattle.rig_simulated.proofs.Cycling.{whole_cycle}
-use Rattle.rig_simulated.proofs.Undoing.{closed_len}
 use Rattle.rig_simulated.proofs.Tracking.{has_still}
 use Rattle.rig_simulated.proofs.Twins.{settles_on, settles_clocked}
 use Rattle.rig_simulated.proofs.cycle.cycle.Goals as goal
@@ -81,7 +80,7 @@ returns-clause-cycled c = λ g before shape ticks loaded gives.
 pub returns-clause-loaded : goal.returns-clause-loaded
 returns-clause-loaded c = λ g before shape ticks loaded gives.
     let h = cycled c g before shape ticks loaded gives in
-    let len : length c.deref-6.result.now ≡ wires_of g.shape = ap length c.deref-6.ensures.value ∙ closed_len c.args.faults.now.shape c.args.faults.now.faults c.args.board.now.classes.closed.items c.args.board.now.classes.knots.items c.requires.prepared.closed ∙ ap wires_of (sym shape) in
+    let len : length c.deref-6.result.now ≡ wires_of g.shape = ap length c.deref-6.ensures.value ∙ c.requires.prepared.knots ∙ ap wires_of (sym shape) in
     record {
       fitting = record {
         gates = subst (λ (gs : List Gate). All (Fits (tables_of g.shape) (wires_of g.shape)) gs) (sym (gates_end c))
@@ -100,9 +99,10 @@ returns-clause-prepared c =
     let p = c.requires.prepared in
     record {
       closed = p.closed;
+      knots = p.knots;
       stuck = p.stuck;
       pins = has_still c.args.faults.now.shape c.args.board.now.classes.knots.items c.args.board.now.pins.items c.args.board.now.low_pins.items (with_items c.args.board.now.low_pins c.drive_pins.new.low).items c.args.board.now.kept c.drive_pins.new.kept p.pins
-          c.requires.fitting.pins (closed_len c.args.faults.now.shape c.args.faults.now.faults c.args.board.now.classes.closed.items c.args.board.now.classes.knots.items p.closed) (tracked c);
+          c.requires.fitting.pins p.knots (tracked c);
       low_tables = search rules;
       ranks = p.ranks;
       tables_clear = search rules;
