@@ -1,5 +1,5 @@
 -- The pins of a class are found one after the other.
-use Rattle.std.proofs.Common.{◌≡◌, ◌≢◌, ◌⊎◌, inl, inr, ⊎_elim, ℕ, ◌+◌, ◌-◌, ◌<◌, ◌≤◌, List, length, get_or, set, sym, ap, ◌∙◌, subst, arith, slice_index}
+use Rattle.std.proofs.Common.{◌≡◌, ◌≢◌, ◌⊎◌, inl, inr, ⊎_elim, ℕ, ◌+◌, ◌-◌, ◌<◌, ◌≤◌, Bool, true, List, length, get_or, set, sym, ap, ◌∙◌, subst, arith, slice_index}
 use Rattle.std.proofs.lemmas.Bool.{cases_eq, cases_lt}
 use Rattle.std.proofs.lemmas.List.{get_or-set_same, get_or-set_other, get_or_past}
 use Rattle.rig_simulated.specs.Chains.{IsLast, AreChained, AreWithin}
@@ -61,7 +61,7 @@ set_within last class x n are le h r = ⊎_elim
     (cases_eq r class)
 
 -- none is known of the classes of the first pins
-pub AreForgotten : List ℕ → List ℕ → ℕ → Type 0
+abbrev pub AreForgotten : List ℕ → List ℕ → ℕ → Type 0
 AreForgotten last pins n = (k : ℕ) → k < n → slice_index last (slice_index pins k) ≡ 0
 
 pub forgotten_more : (last pins : List ℕ) (n : ℕ) → AreForgotten last pins n → slice_index pins n < length last → AreForgotten (set last (slice_index pins n) 0) pins (n + 1)
@@ -115,3 +115,10 @@ all_linked pins last before n are h l = record {
   last_is = λ k b. subst (λ m. IsLast pins m (slice_index pins k) (slice_index last (slice_index pins k))) (let e : n ≡ length pins = omega (arith, h, l) in e) (are.last_is k b);
   before_is = λ k b. are.before_is k (omega (arith, b, h));
 }
+
+-- a level that is put
+pub put_here : (read : List Bool) (i : ℕ) (b : Bool) → i < length read → get_or (set read i b) i true ≡ b
+put_here read i b h = get_or-set_same read i b true h
+
+pub put_keeps : (read : List Bool) (i : ℕ) (b : Bool) → i < length read → (k : ℕ) → get_or read k true ≡ b → get_or (set read i b) k true ≡ b
+put_keeps read i b h k e = ⊎_elim (λ q. ap (λ j. get_or (set read i b) j true) q ∙ put_here read i b h) (λ n. get_or-set_other read i k b true n ∙ e) (cases_eq k i)

@@ -52,18 +52,18 @@ module _ (pins : List ℕ) (drive : Pins) (pin : ℕ) (bit : Bool) where
   pub driven_anew : (low new : List Bool) (pulled : Bool) → AreDriven pins drive low → ((r : ℕ) → r ≢ slice_index pins pin → is_low new r ≡ is_low low r) → is_low new (slice_index pins pin) ≡ pulled →
       (pulled ≡ true → IsDrivenBy pins (set drive pin bit) (length pins) (slice_index pins pin)) →
       (pulled ≡ false → (k : ℕ) → k < length pins → slice_index pins k ≡ slice_index pins pin → get_or (set drive pin bit) k true ≡ true) → AreDriven pins (set drive pin bit) new
-  driven_anew low new pulled driven others here yes no = record { to = λ r e. to r e (cases_eq r class); from = λ r d. from r d (cases_eq r class) (cases_Bool pulled) }
+  driven_anew low new pulled driven others here pulls frees = record { to = λ r e. to r e (cases_eq r class); from = λ r d. from r d (cases_eq r class) (cases_Bool pulled) }
     where
       class : ℕ
       class = slice_index pins pin
 
       to : (r : ℕ) → is_low new r ≡ true → (r ≡ class) ⊎ (r ≢ class) → IsDrivenBy pins (set drive pin bit) (length pins) r
-      to r e (inl q) = subst (IsDrivenBy pins (set drive pin bit) (length pins)) (sym q) (yes (sym here ∙ ap (is_low new) (sym q) ∙ e))
+      to r e (inl q) = subst (IsDrivenBy pins (set drive pin bit) (length pins)) (sym q) (pulls (sym here ∙ ap (is_low new) (sym q) ∙ e))
       to r e (inr n) = still_driven r n (driven.to r (sym (others r n) ∙ e))
 
       from : (r : ℕ) → IsDrivenBy pins (set drive pin bit) (length pins) r → (r ≡ class) ⊎ (r ≢ class) → (pulled ≡ true) ⊎ (pulled ≡ false) → is_low new r ≡ true
       from r d (inl q) (inl p) = ap (is_low new) q ∙ here ∙ p
-      from r d (inl q) (inr p) = absurd (false≢true (sym d.low ∙ no p d.place d.below (d.root ∙ q)))
+      from r d (inl q) (inr p) = absurd (false≢true (sym d.low ∙ frees p d.place d.below (d.root ∙ q)))
       from r d (inr n) o = others r n ∙ driven.from r (was_driven r n d)
 
 pub level_alike : (knots : List ClassNode) (low new : List Bool) (r : ℕ) → is_low new r ≡ is_low low r → level_by knots new r ≡ level_by knots low r

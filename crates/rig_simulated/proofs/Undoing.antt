@@ -1,7 +1,7 @@
 -- What was closed last is opened again, and one crosspoint more is closed.
-use Rattle.std.proofs.Common.{◌≡◌, ◌≢◌, ◌⊎◌, inl, inr, ⊎_elim, ℕ, ◌+◌, ◌^◌, ◌<◌, ◌≤◌, Bool, true, false, Option, Some, None, IfSome, List, [], ◌∷◌, ◌++◌, length, map, take, get_or, cond, ltb, refl, sym, ap, ◌∙◌, subst, arith, is_some}
+use Rattle.std.proofs.Common.{◌≡◌, ◌≢◌, ◌⊎◌, inl, inr, ⊎_elim, ℕ, ◌+◌, ◌-◌, ◌^◌, ◌<◌, ◌≤◌, Bool, true, false, Option, Some, None, IfSome, List, [], ◌∷◌, ◌++◌, length, map, take, get_or, cond, ltb, refl, sym, ap, ◌∙◌, subst, arith, is_some}
 use Rattle.std.proofs.lemmas.Bool.{false≢true, cases_eq, cases_lt, cond-true, cond-false, lt-ltb, le-ltb}
-use Rattle.std.proofs.lemmas.List.{same_lists, length_push, take_all, take-append-le, get_or_push, get_or_append_left, map_push}
+use Rattle.std.proofs.lemmas.List.{same_lists, length_push, take_all, take-take, length-take-le, take-append-le, get_or_push, get_or_append_left, map_push}
 use Rattle.machine_shape.specs.declared.Shape.{Shape}
 use Rattle.machine_shape.specs.declared.Cross.{Cross}
 use Rattle.machine_shape.specs.Shape.{wires_of, ends_of}
@@ -98,7 +98,7 @@ module _ (rest : List Closed) (last : Closed) (knots : List ClassNode) (o : AreO
       (subst (λ (s : Closed). IsOpenedBy s.tie (o.stage (length rest + 1)) (o.stage (length rest))) (get_or_push rest last last (length rest) refl)
       (o.back (length rest) last (omega (arith, count))))
 
-  pub opened : (before : List ClassNode) → before ≡ o.stage (length rest) → AreOpenable rest before
+  abbrev pub opened : (before : List ClassNode) → before ≡ o.stage (length rest) → AreOpenable rest before
   opened before e = record {
     stage = o.stage;
     back = λ n d h. subst (λ (s : Closed). IsOpenedBy s.tie (o.stage (n + 1)) (o.stage n)) (get_or_append_left rest (last ∷ []) d n h) (o.back n d (omega (arith, h, count)));
@@ -145,10 +145,10 @@ closed_rooted m f closed knots c few =
 -- one crosspoint more
 module _ (m : Shape) (f : Faults) (closed : List Closed) (knots new : List ClassNode) (c : AreClosedBy m f closed knots) (step : Closed) (back : IsOpenedBy step.tie new knots) (len : length new ≡ wires_of m)
     (tied : AreTied (closed_net m f (map cross_of (closed ++ step ∷ []))) (stuck_wire f) new (base_most + (length closed + 1))) where
-  count : length (closed ++ step ∷ []) ≡ length closed + 1
-  count = length_push closed step
+  all_count : length (closed ++ step ∷ []) ≡ length closed + 1
+  all_count = length_push closed step
 
-  stage : ℕ → List ClassNode
+  abbrev stage : ℕ → List ClassNode
   stage n = cond (ltb (length closed) n) new (c.openable.stage n)
 
   early : (n : ℕ) → n ≤ length closed → stage n ≡ c.openable.stage n
@@ -165,7 +165,7 @@ module _ (m : Shape) (f : Faults) (closed : List Closed) (knots new : List Class
       (subst (λ ks. IsOpenedBy (get_or closed n d).tie ks (stage n)) (sym (early (n + 1) (omega (arith, l))))
       (subst (λ ks. IsOpenedBy (get_or closed n d).tie (c.openable.stage (n + 1)) ks) (sym (early n (omega (arith, l)))) (c.openable.back n d l)))
   back_at n d h (inr l) =
-      let e : n ≡ length closed = omega (arith, h, l, count) in
+      let e : n ≡ length closed = omega (arith, h, l, all_count) in
       subst (λ (s : Closed). IsOpenedBy s.tie (stage (n + 1)) (stage n)) (sym (get_or_push closed step d n (sym e)))
       (subst (λ ks. IsOpenedBy step.tie ks (stage n)) (sym (late (n + 1) (omega (arith, e))))
       (subst (λ ks. IsOpenedBy step.tie new ks) (sym (before_is n e)) back))
@@ -178,30 +178,30 @@ module _ (m : Shape) (f : Faults) (closed : List Closed) (knots new : List Class
   tied_at n h (inl l) = subst (λ (l : List Closed). AreTied (closed_net m f (map cross_of l)) (stuck_wire f) (stage n) (base_most + n)) (sym (take_front closed step n l))
       (subst (λ ks. AreTied (closed_net m f (map cross_of (take n closed))) (stuck_wire f) ks (base_most + n)) (sym (early n l)) (c.tied n l))
   tied_at n h (inr l) =
-      let e : n ≡ length closed + 1 = omega (arith, h, l, count) in
-      subst (λ (l : List Closed). AreTied (closed_net m f (map cross_of l)) (stuck_wire f) (stage n) (base_most + n)) (sym (take_all n (closed ++ step ∷ []) (omega (arith, e, count))))
+      let e : n ≡ length closed + 1 = omega (arith, h, l, all_count) in
+      subst (λ (l : List Closed). AreTied (closed_net m f (map cross_of l)) (stuck_wire f) (stage n) (base_most + n)) (sym (take_all n (closed ++ step ∷ []) (omega (arith, e, all_count))))
       (subst (λ ks. AreTied (closed_net m f (map cross_of (closed ++ step ∷ []))) (stuck_wire f) ks (base_most + n)) (sym (late n l))
       (subst (λ k. AreTied (closed_net m f (map cross_of (closed ++ step ∷ []))) (stuck_wire f) new (base_most + k)) (sym e) tied))
 
   pub closed_by_more : AreClosedBy m f (closed ++ step ∷ []) new
   closed_by_more = record {
-    openable = record { stage = stage; back = λ n d h. back_at n d h (cases_lt n (length closed)); now = late (length (closed ++ step ∷ [])) (omega (arith, count)) };
+    openable = record { stage = stage; back = λ n d h. back_at n d h (cases_lt n (length closed)); now = late (length (closed ++ step ∷ [])) (omega (arith, all_count)) };
     len = λ n h. len_at n h (⊎_elim (λ l. inr l) (λ l. inl l) (cases_lt (length closed) n));
     tied = λ n h. tied_at n h (⊎_elim (λ l. inr l) (λ l. inl l) (cases_lt (length closed) n));
   }
 
 -- one crosspoint more in the list of crosspoints
 module _ (m : Shape) (f : Faults) (closed : List Closed) (step : Closed) where
-  crosses : List Cross
+  abbrev crosses : List Cross
   crosses = map cross_of closed
 
-  more : List Cross
+  abbrev more : List Cross
   more = map cross_of (closed ++ step ∷ [])
 
   more_is : more ≡ crosses ++ step.cross ∷ []
   more_is = map_push cross_of closed step
 
-  at : ℕ
+  abbrev at : ℕ
   at = length crosses
 
   here_is : (d : Cross) → get_or (crosses ++ step.cross ∷ []) at d ≡ step.cross
@@ -263,3 +263,10 @@ closed_joined m f cross old new c free h =
 
 pub crosses_more : (closed new : List Closed) (step : Closed) (cross : Cross) → new ≡ closed ++ step ∷ [] → step.cross ≡ cross → map cross_of new ≡ map cross_of closed ++ cross ∷ []
 crosses_more closed new step cross e is = ap (map cross_of) e ∙ map_push cross_of closed step ∙ ap (λ x. map cross_of closed ++ x ∷ []) is
+
+-- a shorter beginning of a beginning
+pub take_shorter : {X : Type 0} (xs ys zs : List X) → ys ≡ take (length ys) xs → zs ≡ take (length ys - 1) ys → (length zs ≡ length ys - 1) × (zs ≡ take (length zs) xs)
+take_shorter xs ys zs e f = (len, f ∙ ap (take (length ys - 1)) e ∙ take-take (length ys - 1) (length ys) xs (omega arith) ∙ ap (λ n. take n xs) (sym len))
+  where
+    len : length zs ≡ length ys - 1
+    len = ap length f ∙ length-take-le (length ys - 1) ys (omega arith)

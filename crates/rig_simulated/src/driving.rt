@@ -171,7 +171,7 @@ pub fn drive_pins(
     ensures drive { kept.new.drive ≡ drive.now }
 {
     let mut from = 0;
-    'blocks: while from < drive.len() {
+    'further: while from < drive.len() {
         from = drive_block(kept, pins, knots, low, drive, from);
     }
 }
