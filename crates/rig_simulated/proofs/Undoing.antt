@@ -98,7 +98,7 @@ module _ (rest : List Closed) (last : Closed) (knots : List ClassNode) (o : AreO
       (subst (λ (s : Closed). IsOpenedBy s.tie (o.stage (length rest + 1)) (o.stage (length rest))) (get_or_push rest last last (length rest) refl)
       (o.back (length rest) last (omega (arith, count))))
 
-  abbrev pub opened : (before : List ClassNode) → before ≡ o.stage (length rest) → AreOpenable rest before
+  pub opened : (before : List ClassNode) → before ≡ o.stage (length rest) → AreOpenable rest before
   opened before e = record {
     stage = o.stage;
     back = λ n d h. subst (λ (s : Closed). IsOpenedBy s.tie (o.stage (n + 1)) (o.stage n)) (get_or_append_left rest (last ∷ []) d n h) (o.back n d (omega (arith, h, count)));
@@ -111,6 +111,7 @@ opened_is None knots before other e f = e ∙ sym f
 opened_is (Some tie) knots before other e f = untied_once tie knots before other e f
 
 pub opened_closed : (m : Shape) (f : Faults) (rest : List Closed) (last : Closed) (knots before : List ClassNode) → AreClosedBy m f (rest ++ last ∷ []) knots → IsOpenedBy last.tie knots before → AreClosedBy m f rest before
+unfolding opened
 opened_closed m f rest last knots before c back = record {
   openable = opened rest last knots c.openable before (opened_is last.tie knots before (c.openable.stage (length rest)) back (last_back rest last knots c.openable));
   len = λ n h. c.len n (omega (arith, h, length_push rest last));
