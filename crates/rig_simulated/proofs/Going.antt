@@ -1,5 +1,5 @@
 -- A session goes on.
-use Rattle.std.proofs.Common.{◌≡◌, ℕ, ◌+◌, Bool, true, false, cond, Some, None, List, [], ◌∷◌, ◌++◌, length, refl, sym, ap, ◌∙◌, subst, option_map}
+use Rattle.std.proofs.Common.{◌≡◌, ℕ, ◌+◌, Bool, true, false, cond, Some, None, List, [], ◌∷◌, ◌++◌, length, refl, sym, ap, ◌∙◌, subst, arith, option_map}
 use Rattle.std.proofs.lemmas.List.{length_push}
 use Rattle.std.proofs.lemmas.List.FromFn.{length-map-range_with_len}
 use Rattle.machine_shape.specs.Shape.{tables_of, pins_of}
@@ -38,6 +38,11 @@ module _ (a : Inside) (s : SimState) (view : state_of_sim a ≡ s) (n : ℕ) (wi
 pub config_stays : (a : Inside) (b : Board) → IsLoaded a.faults.faults (config_of_sim a) b → config_in a.faults.shape a.closed.items b.gates.items a.ticks ≡ config_of_sim a
 config_stays a b loaded = config_is {g = config_of_sim a} b.gates.items loaded.wired.gates_are a.faults.shape a.closed.items a.ticks refl refl (length-map-range_with_len (setting_in a.board.gates.items) 0 (tables_of a.faults.shape)) refl
 
+-- a session that stays
+pub gone_on : (b : Bool) (machine : Faulty) (drive read : Pins) (s t : Session) → b ≡ true → GoesOnFrom machine.faults drive read s t → HasGoneOn drive read (record { machine = machine; session = cond b (Some s) None }) (record { machine = machine; session = cond b (Some t) None })
+gone_on true machine drive read s t e on = record { session = refl; goes_on = on }
+gone_on false machine drive read s t e on = cc
+
 module _ (a : Inside) (b : Board) (drive read : Pins) (ds rs : List Pins) (is : IsSim a) (running : a.running ≡ true)
     (loaded_on : (g : Configuration) (before : Outputs) → g.shape ≡ a.faults.shape → g.ticks ≡ a.ticks → IsLoaded a.faults.faults g a.board → AreOutputs g a.board.gates.items before → IsLoaded a.faults.faults g b)
     (cycled : (g : Configuration) (before : Outputs) → g.shape ≡ a.faults.shape → g.ticks ≡ a.ticks → IsLoaded a.faults.faults g a.board → AreOutputs g a.board.gates.items before → GivesCycle a.faults.faults g before drive read b.gates.items)
@@ -62,7 +67,12 @@ module _ (a : Inside) (b : Board) (drive read : Pins) (ds rs : List Pins) (is : 
   pub as_many : length ds ≡ length rs
   as_many = ap length driven ∙ length_push a.drives.items drive ∙ ap (λ n. n + 1) is.as_many ∙ sym (ap length given ∙ length_push a.readings.items read)
 
--- a session that stays
-pub gone_on : (b : Bool) (machine : Faulty) (drive read : Pins) (s t : Session) → b ≡ true → GoesOnFrom machine.faults drive read s t → HasGoneOn drive read (record { machine = machine; session = cond b (Some s) None }) (record { machine = machine; session = cond b (Some t) None })
-gone_on true machine drive read s t e on = record { session = refl; goes_on = on }
-gone_on false machine drive read s t e on = cc
+  -- the state once a cycle more was made
+  pub went_on : (s : SimState) → state_of_sim a ≡ s →
+      HasGoneOn drive read s (record { machine = a.faults; session = cond a.running (Some (record { config = config_in a.faults.shape a.closed.items b.gates.items a.ticks; cycles = cycles_in ds rs; spare = a.room })) None })
+  went_on s view =
+      let run = goes_on.run in
+      let goes : GoesOnFrom a.faults.faults drive read (record { config = config_of_sim a; cycles = cycles_of_sim a; spare = a.room }) (record { config = config_in a.faults.shape a.closed.items b.gates.items a.ticks; cycles = cycles_in ds rs; spare = a.room }) =
+      record { config = same_config; cycles = more_cycles; spare = omega arith; run = record { outputs = run.outputs; cycles = run.cycles } } in
+      subst (λ (t : SimState). HasGoneOn drive read t (record { machine = a.faults; session = cond a.running (Some (record { config = config_in a.faults.shape a.closed.items b.gates.items a.ticks; cycles = cycles_in ds rs; spare = a.room })) None })) view
+      (gone_on a.running a.faults drive read _ _ running goes)

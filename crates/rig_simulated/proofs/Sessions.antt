@@ -1,5 +1,5 @@
 -- What is kept of a session is the session.
-use Rattle.std.proofs.Common.{◌≡◌, ◌⊎◌, inl, inr, ⊎_elim, ℕ, zero, suc, ◌<◌, Bool, true, false, cond, eqb, Option, Some, None, List, [], ◌∷◌, ◌++◌, length, get_or, map, refl, sym, ap, ◌∙◌, arith, is_some, count_by, option_map}
+use Rattle.std.proofs.Common.{◌≡◌, ◌⊎◌, inl, inr, ⊎_elim, ℕ, zero, suc, ◌<◌, Bool, true, false, cond, eqb, Option, Some, None, List, [], ◌∷◌, ◌++◌, length, get_or, map, refl, sym, ap, ◌∙◌, subst, arith, is_some, count_by, option_map}
 use Rattle.std.specs.List.{range_with_len}
 use Rattle.std.proofs.lemmas.Bool.{cases_Bool, eqb-true, eq-eqb}
 use Rattle.std.proofs.lemmas.List.{map-append}
@@ -12,12 +12,15 @@ use Rattle.machine_shape.specs.declared.Cross.{Cross}
 use Rattle.machine_shape.specs.Shape.{tables_of}
 use Rattle.machine_meaning.specs.Vocabulary.{Faults, Pins}
 use Rattle.machine_config.specs.declared.Setting.{Setting}
-use Rattle.machine_config.specs.Vocabulary.{Configuration, is_closed, setting_of, set_of, circuit_of}
+use Rattle.machine_config.specs.Vocabulary.{Configuration, is_closed, setting_of, set_of, circuit_of, at_load, none}
 use Rattle.machine_config.proofs.Members.{contains_times}
 use Rattle.machine_config.proofs.Runs.{Cycles-push}
 use Rattle.rig.specs.Rig.{Exchange, Session, drives_of, readings_of}
 use Rattle.rig_simulated.specs.declared.gates.Gate.{Gate}
-use Rattle.rig_simulated.specs.Gates.{Stands, AreGates}
+use Rattle.rig_simulated.specs.declared.board.Board.{Board}
+use Rattle.rig_simulated.specs.Gates.{Stands, AreGates, AreOutputs}
+use Rattle.rig_simulated.specs.Boards.{IsLoaded}
+use Rattle.rig_simulated.specs.Sims.{IsRunning}
 use Rattle.rig_simulated.specs.Stored.{setting_in, config_in, cycles_in}
 use Rattle.rig_simulated.specs.Tracks.{GivesCycle, HasRun}
 
@@ -88,3 +91,15 @@ run_more {f} {g} cycles drive read run one = record {
   cycles = (rw (map-append (λ (c : Exchange). c.drive) cycles, map-append (λ (c : Exchange). c.reading) cycles) (Cycles-push (circuit_of f g) run.cycles one.cycle));
   gives = one.gives;
 }
+
+-- nothing was driven and read yet
+pub as_many_none : {ds rs : List Pins} → ds ≡ [] → rs ≡ [] → length ds ≡ length rs
+as_many_none d r = ap length d ∙ sym (ap length r)
+
+pub session_begun : {g h : Configuration} {ds rs : List Pins} {n m : ℕ} → g ≡ h → ds ≡ [] → rs ≡ [] → n ≡ m →
+    Some (record { config = g; cycles = cycles_in ds rs; spare = n }) ≡ Some (record { config = h; cycles = []; spare = m })
+session_begun e d r s = λ i. Some (record { config = e i; cycles = cycles_in (d i) (r i); spare = s i })
+
+pub running_begun : {f : Faults} {g h : Configuration} {b : Board} {ds rs : List Pins} → IsLoaded f h b → AreOutputs h b.gates.items (at_load (circuit_of f h)) → g ≡ h → ds ≡ [] → rs ≡ [] → IsRunning f g (cycles_in ds rs) b
+running_begun {f} {g} {h} {b} {ds} {rs} loaded first e d r = subst (λ k. IsRunning f k (cycles_in ds rs) b) (sym e)
+    (subst (λ cs. IsRunning f h cs b) (sym (λ i. cycles_in (d i) (r i))) (record { loaded = loaded; run = record { outputs = at_load (circuit_of f h); cycles = none; gives = first } }))

@@ -1,5 +1,5 @@
 -- What was closed last is opened again, and one crosspoint more is closed.
-use Rattle.std.proofs.Common.{◌≡◌, ◌≢◌, ◌⊎◌, inl, inr, ⊎_elim, ℕ, ◌+◌, ◌-◌, ◌^◌, ◌<◌, ◌≤◌, Bool, true, false, Option, Some, None, IfSome, List, [], ◌∷◌, ◌++◌, length, map, take, get_or, cond, ltb, refl, sym, ap, ◌∙◌, subst, arith, is_some}
+use Rattle.std.proofs.Common.{◌≡◌, ◌≢◌, ◌⊎◌, inl, inr, ⊎_elim, ℕ, ◌+◌, ◌-◌, ◌<◌, ◌≤◌, Bool, true, false, Option, Some, None, List, [], ◌∷◌, ◌++◌, length, map, take, get_or, cond, ltb, refl, sym, ap, ◌∙◌, subst, arith, is_some}
 use Rattle.std.proofs.lemmas.Bool.{false≢true, cases_eq, cases_lt, cond-true, cond-false, lt-ltb, le-ltb}
 use Rattle.std.proofs.lemmas.List.{same_lists, length_push, take_all, take-take, length-take-le, take-append-le, get_or_push, get_or_append_left, map_push}
 use Rattle.machine_shape.specs.declared.Shape.{Shape}
@@ -10,7 +10,7 @@ use Rattle.rig_simulated.specs.declared.classes.ClassNode.{ClassNode}
 use Rattle.rig_simulated.specs.declared.classes.Tie.{Tie}
 use Rattle.rig_simulated.specs.declared.classes.Closed.{Closed}
 use Rattle.rig_simulated.specs.declared.classes.Classes.{Classes}
-use Rattle.rig_simulated.specs.Classes.{knot_at, HasRoots, AreTied, AreRooted, HasLink, HaveSameLinks, IsHung, IsTieOf, IsUntied, IsWithinKnots, IsOpenedBy}
+use Rattle.rig_simulated.specs.Classes.{knot_at, HasRoots, AreTied, HasLink, HaveSameLinks, IsHung, IsTieOf, IsUntied, IsWithinKnots, IsOpenedBy}
 use Rattle.rig_simulated.specs.Building.{closed_net, base_most, AreBase, AreOpenable, cross_of, AreClosedBy, HasClosed}
 use Rattle.rig_simulated.proofs.ClassLemmas.{knot_is}
 use Rattle.rig_simulated.proofs.Joining.{same_knots, tied_roots, tied_alike}
@@ -49,11 +49,6 @@ module _ {knots : List ClassNode} {r o : ℕ} {tie : Tie} (is : IsTieOf knots r 
       (λ p. inl (subst (λ x. IsHung knots new x o) p.0 (subst (λ y. IsHung knots new tie.low y) p.1 hung)))
       (λ p. inr (subst (λ x. IsHung knots new x r) p.0 (subst (λ y. IsHung knots new tie.low y) p.1 hung)))
       is.ends
-
--- what a crosspoint that is closed tied is within the knots
-pub parts_within : (tie : Option Tie) (knots before : List ClassNode) → IsOpenedBy tie knots before → IfSome tie (λ t. IsWithinKnots t (length knots))
-parts_within None knots before is = tt
-parts_within (Some tie) knots before is = is.within
 
 -- the roots of the ends of a crosspoint that is closed
 module _ (cross : Cross) (a b : ℕ) (old new : Classes) (r o : ℕ) (r_is : (most : ℕ) (root : ℕ → ℕ) → HasRoots old.knots.items most root → r ≡ root a) (o_is : (most : ℕ) (root : ℕ → ℕ) → HasRoots old.knots.items most root → o ≡ root b) where
@@ -137,11 +132,6 @@ closed_now m f closed knots c = subst (λ ks. AreTied (closed_net m f (map cross
 
 pub closed_len : (m : Shape) (f : Faults) (closed : List Closed) (knots : List ClassNode) → AreClosedBy m f closed knots → length knots ≡ wires_of m
 closed_len m f closed knots c = ap length (sym c.openable.now) ∙ c.len (length closed) (omega arith)
-
-pub closed_rooted : (m : Shape) (f : Faults) (closed : List Closed) (knots : List ClassNode) → AreClosedBy m f closed knots → length closed < 2 ^ 63 → AreRooted knots
-closed_rooted m f closed knots c few =
-    let t = closed_now m f closed knots c in
-    record { most = base_most + length closed; low = omega (arith, few); root = t.root; roots = t.knots_are.roots }
 
 -- one crosspoint more
 module _ (m : Shape) (f : Faults) (closed : List Closed) (knots new : List ClassNode) (c : AreClosedBy m f closed knots) (step : Closed) (back : IsOpenedBy step.tie new knots) (len : length new ≡ wires_of m)
