@@ -43,11 +43,11 @@ module _ (g : Configuration) where
       (cases_Bool (eqb x.table.0 t))
 
 found_some : (gates : List Gate) (t k : ℕ) (d : Gate) → k < length gates → (get_or gates k d).table.0 ≡ t → setting_in gates t ≡ None → ⊥
-found_some [] t k d h e none = absurd (omega arith)
-found_some (x ∷ xs) t zero d h e none = let q = sym (here_is x xs t e) ∙ none in cc
-found_some (x ∷ xs) t (suc k) d h e none = ⊎_elim
-    (λ b. let q = sym (here_is x xs t (eqb-true x.table.0 t b)) ∙ none in cc)
-    (λ b. found_some xs t k d (omega (arith, h)) e (sym (later_is x xs t b) ∙ none))
+found_some [] t k d h e lacks = absurd (omega arith)
+found_some (x ∷ xs) t zero d h e lacks = let q = sym (here_is x xs t e) ∙ lacks in cc
+found_some (x ∷ xs) t (suc k) d h e lacks = ⊎_elim
+    (λ b. let q = sym (here_is x xs t (eqb-true x.table.0 t b)) ∙ lacks in cc)
+    (λ b. found_some xs t k d (omega (arith, h)) e (sym (later_is x xs t b) ∙ lacks))
     (cases_Bool (eqb x.table.0 t))
 
 module _ {f : Faults} {g : Configuration} {root : ℕ → ℕ} (gates : List Gate) (are : AreGates f g root gates) where
@@ -97,7 +97,7 @@ pub as_many_none : {ds rs : List Pins} → ds ≡ [] → rs ≡ [] → length ds
 as_many_none d r = ap length d ∙ sym (ap length r)
 
 pub session_begun : {g h : Configuration} {ds rs : List Pins} {n m : ℕ} → g ≡ h → ds ≡ [] → rs ≡ [] → n ≡ m →
-    Some (record { config = g; cycles = cycles_in ds rs; spare = n }) ≡ Some (record { config = h; cycles = []; spare = m })
+    ◌≡◌ {A = Option Session} (Some (record { config = g; cycles = cycles_in ds rs; spare = n })) (Some (record { config = h; cycles = []; spare = m }))
 session_begun e d r s = λ i. Some (record { config = e i; cycles = cycles_in (d i) (r i); spare = s i })
 
 pub running_begun : {f : Faults} {g h : Configuration} {b : Board} {ds rs : List Pins} → IsLoaded f h b → AreOutputs h b.gates.items (at_load (circuit_of f h)) → g ≡ h → ds ≡ [] → rs ≡ [] → IsRunning f g (cycles_in ds rs) b

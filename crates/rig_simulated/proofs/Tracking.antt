@@ -26,6 +26,13 @@ driven_none pins drive low n clear e = record { to = λ r is. absurd (false≢tr
         (λ h. get_or_past (replicate n true) k true (let l = length-replicate n true in omega (arith, h, l)))
         (cases_lt k n)
 
+-- all marks are taken away
+pub clear_all : (low : List Bool) (n : ℕ) → low ≡ replicate n false → IsClear low
+clear_all low n e r = ap (λ l. get_or l r false) e ∙ ⊎_elim
+    (λ h. get_or-replicate n r false false h)
+    (λ h. get_or_past (replicate n false) r false (let l = length-replicate n false in omega (arith, h, l)))
+    (cases_lt r n)
+
 -- marks of driven pins are marks of pins
 pub marks_of_pins : (pins : List ℕ) (drive : Pins) (low : List Bool) → AreDriven pins drive low → (r : ℕ) → is_low low r ≡ true → IsPinOf pins 0 r
 marks_of_pins pins drive low driven r e = let d = driven.to r e in record { place = d.place; from = omega arith; within = d.below; root = d.root }

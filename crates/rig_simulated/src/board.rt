@@ -147,12 +147,14 @@ pub fn prepare(alloc: Global, faults: &FaultSet) -> Result<Board, AllocError>
 {
     let shape = faults.shape();
     let wires = shape.wires() as usize;
+    let low_pins = vec![in alloc; false; wires]?;
+    let low_tables = vec![in alloc; false; wires]?;
     Ok(Board {
         classes: classes_of(alloc, faults)?,
         gates: Vec::new(alloc),
         pins: Vec::new(alloc),
-        low_pins: vec![in alloc; false; wires]?,
-        low_tables: vec![in alloc; false; wires]?,
+        low_pins,
+        low_tables,
         ranks: vec![in alloc; 0; wires]?,
         turns: Vec::new(alloc),
         ranked: false,

@@ -6,7 +6,8 @@ use Rattle.machine_shape.specs.Shape.{wires_of, tables_of}
 use Rattle.machine_meaning.specs.Circuit.{Outputs, Pins}
 use Rattle.machine_config.specs.Configuration.{Configuration}
 use Rattle.rig_simulated.specs.declared.gates.Gate.{Gate}
-use Rattle.rig_simulated.specs.Gates.{Fits, level_at, clocked, AreOutputs}
+use Rattle.rig_simulated.specs.declared.classes.ClassNode.{ClassNode}
+use Rattle.rig_simulated.specs.Gates.{Fits, IsClear, level_at, clocked, AreOutputs}
 use Rattle.rig_simulated.specs.Boards.{IsLoaded}
 use Rattle.rig_simulated.specs.Cycles.{IsWired, AreDriven, IsEdge, HaveTicked, HasCycled}
 use Rattle.rig_simulated.specs.Settling.{Settles}
@@ -19,7 +20,7 @@ use Rattle.rig_simulated.proofs.Tracking.{has_still}
 use Rattle.rig_simulated.proofs.Twins.{settles_on, settles_clocked}
 use Rattle.rig_simulated.proofs.cycle.cycle.Goals as goal
 
-module _ (c : goal.After-board-6-1) where
+module _ (c : goal.After-board-5-1) where
   low_is : (with_items c.args.board.now.low_pins c.drive_pins.new.low).items ≡ c.drive_pins.new.low
   low_is = with_items_is c.args.board.now.low_pins c.drive_pins.new.low (search rules)
 
@@ -31,6 +32,9 @@ module _ (c : goal.After-board-6-1) where
 
   gates_end : (with_items (with_items c.args.board.now.gates c.settle.new.gates) c.clock.new.gates).items ≡ c.clock.new.gates
   gates_end = with_items_is (with_items c.args.board.now.gates c.settle.new.gates) c.clock.new.gates (search rules)
+
+  tables_end : (with_items (with_items c.args.board.now.low_tables c.settle.new.low_tables) c.clock.new.low_tables).items ≡ c.clock.new.low_tables
+  tables_end = with_items_is (with_items c.args.board.now.low_tables c.settle.new.low_tables) c.clock.new.low_tables (search rules)
 
   driven : AreDriven c.args.board.now.pins.items c.args.drive.now c.drive_pins.new.low
   driven = subst (λ (ps : List ℕ). AreDriven ps c.args.drive.now c.drive_pins.new.low) c.deref.ensures.value
@@ -103,9 +107,9 @@ returns-clause-prepared c =
       stuck = p.stuck;
       pins = has_still c.args.faults.now.shape c.args.board.now.classes.knots.items c.args.board.now.pins.items c.args.board.now.low_pins.items (with_items c.args.board.now.low_pins c.drive_pins.new.low).items c.args.board.now.kept c.drive_pins.new.kept p.pins
           c.requires.fitting.pins p.knots (tracked c);
-      low_tables = search rules;
+      low_tables = ap length (tables_end c) ∙ c.clock.ensures.tables ∙ ap length c.deref-6.ensures.value ∙ p.knots;
       ranks = p.ranks;
-      tables_clear = search rules;
-      pulls = search rules;
+      tables_clear = subst IsClear (sym (tables_end c)) c.clock.ensures.clear;
+      pulls = c.settle.ensures.pulls ∙ ap length c.deref-3.ensures.value ∙ p.knots;
       pulls_zero = c.settle.ensures.zero;
     }
