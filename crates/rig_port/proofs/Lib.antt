@@ -1,5 +1,6 @@
 mod Alarm
 mod Answered
+mod Behind
 mod Closings
 mod Edited
 mod Heard

@@ -25,6 +25,7 @@ mod resume;
 mod rig_port;
 mod spelling;
 mod talk;
+mod transcript;
 mod turn;
 mod wanted;
 
