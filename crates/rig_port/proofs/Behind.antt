@@ -1,5 +1,5 @@
 -- Which machines may stand behind what was said.
-use Rattle.std.proofs.Common.{◌≡◌, ℕ, List, [], ◌∷◌, ◌++◌, refl, sym, ap, ◌∙◌, subst}
+use Rattle.std.proofs.Common.{◌≡◌, ℕ, List, [], ◌∷◌, ◌++◌, refl, sym, ap, ◌∙◌, subst, Some, Bool, true, false}
 use Rattle.std.proofs.lemmas.List.{append_assoc, append-nil}
 use Rattle.machine_shape.specs.declared.Shape.{Shape}
 use Rattle.machine_meaning.specs.Faults.{Faults}
@@ -38,6 +38,17 @@ stands_split m f xs ys e k s =
     let mid = said_split xs ys s.first s.check e k s.said in
     (mid.0, mid.1, record { first = s.first; check = s.check; shape = s.shape; faults = s.faults; said = mid.2 }, mid.3)
 
+-- devices of one machine
+abbrev pub SameMachine : Device → Device → Type 0
+SameMachine d e = (e.shape ≡ d.shape) × (e.faults ≡ d.faults)
+
+pub machine_of : (d e : Device) → SameMachine d e → Some (e.shape, e.faults) ≡ Some (d.shape, d.faults)
+machine_of d e s = ap (λ (m : Shape). Some (m, e.faults)) s.0 ∙ ap (λ (f : Faults). Some (d.shape, f)) s.1
+
+same_machine : (m : Shape) (f : Faults) (xs ys : List Said) (d : Device) (c : Check) (e : Device) (k : Check) → MayStand m f xs d c → MayStand m f ys e k → SameMachine d e
+same_machine m f xs ys d c e k s t =
+    (stands_shape m f ys e k t ∙ sym (stands_shape m f xs d c s), stands_faults m f ys e k t ∙ sym (stands_faults m f xs d c s))
+
 -- behind one request more
 pub behind_one : (R : Device → Check → Device → Check → Type 0) (was now : List Said) (request line : List ℕ) → now ≡ and_said was request line
     → ((d : Device) (c : Check) (e : Device) (k : Check) → Answers d c request line e k → R d c e k) → Behind R was now
@@ -49,26 +60,26 @@ behind_one R was now request line is to = λ m f e k s.
 pub behind_none : (R : Device → Check → Device → Check → Type 0) (talk : List Said) → ((d : Device) (c : Check) → R d c d c) → Behind R talk talk
 behind_none R talk to = λ m f e k s. (e, k, s, to e k)
 
--- behind what was said behind what was said
+-- whatever was said
+abbrev pub Anyhow : Device → Check → Device → Check → Type 0
+Anyhow d c e k = Unit {0}
+
+pub behind_all : (a b x y : List Said) → GoOn a b x y → Behind Anyhow a b
+behind_all a b x y g = λ m f e k s.
+    let mid = stands_split m f a g.more e k (subst (λ t. MayStand m f t e k) g.taken_is s) in
+    (mid.0, mid.1, mid.2, tt)
+
+-- what was said behind what was said
 pub behind_more : (R S T : Device → Check → Device → Check → Type 0) (a b z : List Said) → Behind R a b → Behind S b z
-    → ((d : Device) (c : Check) (e : Device) (k : Check) (x : Device) (y : Check) → R d c e k → S e k x y → T d c x y) → Behind T a z
+    → ((d : Device) (c : Check) (e : Device) (k : Check) (x : Device) (y : Check) → SameMachine d e → SameMachine d x → R d c e k → S e k x y → T d c x y) → Behind T a z
 behind_more R S T a b z r s to = λ m f x y st.
     let e = s m f x y st in
     let d = r m f e.0 e.1 e.2 in
-    (d.0, d.1, d.2, to d.0 d.1 e.0 e.1 x y d.3 e.3)
+    (d.0, d.1, d.2, to d.0 d.1 e.0 e.1 x y (same_machine m f a b d.0 d.1 e.0 e.1 d.2 e.2) (same_machine m f a z d.0 d.1 x y d.2 st) d.3 e.3)
 
 pub behind_so : (R T : Device → Check → Device → Check → Type 0) (a b : List Said) → Behind R a b
-    → ((d : Device) (c : Check) (e : Device) (k : Check) → R d c e k → T d c e k) → Behind T a b
-behind_so R T a b r to = λ m f e k st. let d = r m f e k st in (d.0, d.1, d.2, to d.0 d.1 e k d.3)
-
--- whatever was said, the machine has its shape
-abbrev pub KeepsShape : Device → Check → Device → Check → Type 0
-KeepsShape d c e k = e.shape ≡ d.shape
-
-pub behind_all : (a b x y : List Said) → GoOn a b x y → Behind KeepsShape a b
-behind_all a b x y g = λ m f e k s.
-    let mid = stands_split m f a g.more e k (subst (λ t. MayStand m f t e k) g.taken_is s) in
-    (mid.0, mid.1, mid.2, said_shape g.more mid.0 mid.1 e k mid.3)
+    → ((d : Device) (c : Check) (e : Device) (k : Check) → SameMachine d e → R d c e k → T d c e k) → Behind T a b
+behind_so R T a b r to = λ m f e k st. let d = r m f e k st in (d.0, d.1, d.2, to d.0 d.1 e k (same_machine m f a b d.0 d.1 e k d.2 st) d.3)
 
 among_more : {a b c d : List Said} → IsAmong a b → IsAmong c d → IsAmong (a ++ c) (b ++ d)
 among_more neither q = q
@@ -101,3 +112,9 @@ said_more a b z x y w p q = record {
   heard_is = q.heard_is ∙ ap (λ t. t ++ q.all) p.heard_is ∙ append_assoc x p.all q.all;
   among = among_more p.among q.among;
 }
+
+-- one that was heard, and taken or not
+pub said_maybe : (right : Bool) (a b x y : List Said) (request line taken : List ℕ) → (right ≡ true → line ≡ taken) → (right ≡ true → b ≡ and_said a request taken) → (right ≡ false → b ≡ a)
+    → y ≡ and_said x request line → GoOn a b x y
+said_maybe true a b x y request line taken same is left heard = said_one a b x y request line (is refl ∙ ap (and_said a request) (sym (same refl))) heard
+said_maybe false a b x y request line taken same is left heard = said_wrong a b x y request line (left refl) heard

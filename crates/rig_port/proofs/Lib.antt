@@ -13,5 +13,6 @@ mod Resumed
 mod Room
 mod Settings
 mod Spelled
+mod Standing
 mod Taken
 mod Turned
