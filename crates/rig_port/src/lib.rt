@@ -36,3 +36,4 @@ pub use port::{Port, PortFail};
 pub use port_board::PortBoard;
 pub use replay_port::ReplayPort;
 pub use rig_port::RigPort;
+pub use transcript::Transcript;

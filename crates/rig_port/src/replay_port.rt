@@ -6,7 +6,7 @@ ghost use Rattle.rig_board.specs.Device.{WhereTold};
 ghost use Rattle.rig_port.specs.Answers.{Answers};
 ghost use Rattle.rig_port.specs.Ports.{machine_told, Opens, AskFails};
 ghost use Rattle.rig_port.specs.FilePorts.{file_port_state, IsLine};
-ghost use Rattle.rig_port.specs.Replays.{HasReplayed, IsDue};
+ghost use Rattle.rig_port.specs.Replays.{BeginsWith, HasReplayed, IsDue};
 ghost use Rattle.rig_port.specs.Transcripts.{and_said};
 
 use crate::question::is_line;
@@ -110,6 +110,7 @@ impl ReplayPort {
         ensures recorded { result.recorded ≡ recorded }
         ensures at { result.at ≡ 0 }
         ensures talk { (⟦<ReplayPort as Port>⟧.port_state result).talk ≡ [] }
+        ensures begun { BeginsWith result.recorded.items result.at result.talk }
     {
         ReplayPort {
             recorded,
@@ -125,6 +126,7 @@ impl ReplayPort {
         ensures recorded { result.recorded ≡ recorded }
         ensures at { result.at ≡ 0 }
         ensures talk { (⟦<ReplayPort as Port>⟧.port_state result).talk ≡ [] }
+        ensures begun { BeginsWith result.recorded.items result.at result.talk }
         ensures open { (⟦<ReplayPort as Port>⟧.port_state result).is_open ≡ true }
     {
         ReplayPort {
@@ -164,7 +166,8 @@ impl Port for ReplayPort {
         self.is_open
     }
 
-    /// Behind an `Ok` the request and the reply stood, in this order, in front of all that is left of the recording.
+    /// Behind an `Ok` the request and the reply stood, in this order, in front of all that is left of the recording. So what was said is
+    /// the beginning of the recording (`begun`).
     ///
     /// # Errors
     ///
@@ -192,6 +195,8 @@ impl Port for ReplayPort {
         ensures open { (⟦<ReplayPort as Port>⟧.port_state self.new).is_open ≡ true }
         ensures replayed { IfOk result (λ n. HasReplayed (drop self.old.at self.old.recorded.items)
             (drop self.new.at self.new.recorded.items) request.now (take n reply.new)) }
+        ensures begun { BeginsWith self.old.recorded.items self.old.at self.old.talk →
+            BeginsWith self.new.recorded.items self.new.at self.new.talk }
         ensures kept { OnErr result (self.new.at ≡ self.old.at) }
         ensures due { OnErr result (IsDue (drop self.old.at self.old.recorded.items) request.now (length reply.old) → ⊥) }
     {
