@@ -5,6 +5,7 @@ mod Closings
 mod Edited
 mod Heard
 mod Held
+mod Logged
 mod OneMachine
 mod Readings
 mod Replayed

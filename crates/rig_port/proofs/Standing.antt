@@ -1,5 +1,5 @@
 -- What is kept of a machine goes with each that may stand behind what was said.
-use Rattle.std.proofs.Common.{◌≡◌, ℕ, ◌+◌, ◌<◌, ◌≤◌, ◌^◌, ◌-◌, Bool, true, false, List, [], ◌∷◌, ◌++◌, take, drop, length, All, Option, None, Some, refl, sym, ap, ◌∙◌, arith, subst, IfSome, IsSome, option_map, Result, OnOk, OnErr}
+use Rattle.std.proofs.Common.{◌≡◌, ℕ, ◌+◌, ◌<◌, ◌≤◌, ◌^◌, ◌-◌, Bool, true, false, List, [], ◌∷◌, ◌++◌, take, drop, get_or, length, Option, None, Some, refl, sym, ap, ◌∙◌, subst, IfSome, Result, OnOk, OnErr}
 use Rattle.std.proofs.lemmas.Bool.{false≢true}
 use Rattle.std.specs.Prelude.{vec_len}
 use Rattle.std.specs.Vec.{vec_capacity}
@@ -23,11 +23,11 @@ use Rattle.rig_port.specs.Linked.{IsPosted, IsLinked, HasTurned, PortBoardState,
 use Rattle.rig_port.specs.Ports.{PortState, machine_told}
 use Rattle.rig_port.specs.Requests.{attach_body, attach_line}
 use Rattle.rig_port.specs.Said.{Said}
-use Rattle.rig_port.specs.Sessions.{HasRows, CanResume, HasMade, KeepsSession, paired}
-use Rattle.rig_port.specs.Stands.{GoesWith, StandsUp, AllStandUp, IsFound, Finds, IsTurned, Turns, IsMade, Makes, TurnsAgain, GoesOn, GoesOnBy, as_told, MayBe, Narrows, EachWas}
+use Rattle.rig_port.specs.Sessions.{HasRows, CanResume, KeepsSession, paired}
+use Rattle.rig_port.specs.Stands.{StandsUp, AllStandUp, Finds, Turns, Makes, TurnsAgain, GoesOn, GoesOnBy, as_told, MayBe, Narrows, EachWas}
 use Rattle.rig_port.specs.Transcripts.{MayStand, Behind, GoOn}
-use Rattle.rig_port.proofs.Behind.{SameMachine, Anyhow, behind_all, behind_more, behind_none, behind_so, machine_of, said_none, stands_faults, stands_shape}
-use Rattle.rig_port.proofs.Held.{fresh_held, not_turned, turned_next, whole_turned}
+use Rattle.rig_port.proofs.Behind.{SameMachine, Anyhow, behind_all, machine_of, said_none, stands_faults, stands_shape}
+use Rattle.rig_port.proofs.Held.{cycled_one, fresh_held, not_turned, turned_next, whole_turned}
 use Rattle.rig_port.proofs.Resumed.{HasShape, fresh_resumes, made_first, made_more, in_session, posted_held, still_shaped, turned_again}
 
 -- what answers an attach is found
@@ -132,7 +132,7 @@ may_be s m f e k found st = record {
   told = refl;
 }
 
-told_faults : (w : Option Configuration) (e : Device) → (as_told w e).faults ≡ e.faults
+pub told_faults : (w : Option Configuration) (e : Device) → (as_told w e).faults ≡ e.faults
 told_faults None e = refl
 told_faults (Some g) e = refl
 
@@ -262,3 +262,12 @@ pub set_each : (g : Configuration) (old new : PortBoardState) → new.found ≡ 
 set_each g old new found talk port_talk waits =
     each_was Anyhow (λ o d. IsInSession g [] d) old new found (behind_all old.talk new.talk old.port_talk new.port_talk (said_none old.talk new.talk old.port_talk new.port_talk talk port_talk))
     (λ m f d c e k at st r. subst (λ (w : Option Configuration). IsInSession g [] (as_told w e)) (sym waits) (record { config = refl; so_far = refl }))
+
+-- one cycle
+pub one_cycle : (drives reads : List Pins) (drive d : Pins) (o e : Device) → drives ≡ drive ∷ [] → GoesOnBy drives reads o e → GoesOnBy (drive ∷ []) (get_or reads 0 d ∷ []) o e
+one_cycle drives reads drive d o e one t = record {
+  pairs = record { drive = drive; reading = get_or reads 0 d } ∷ [];
+  driven = refl;
+  read = refl;
+  went = cycled_one t.pairs drives reads drive d (Some o) (Some e) t.driven t.read one t.went;
+}

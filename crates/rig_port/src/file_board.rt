@@ -1,5 +1,4 @@
 //! A board behind files, or over a recorded talk.
-ghost use Rattle.std.specs.Prelude.{◌≡◌};
 
 use crate::named_port::NamedPort;
 use crate::port_board::PortBoard;

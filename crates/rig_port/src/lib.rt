@@ -11,6 +11,7 @@
 mod again;
 mod check;
 mod edits;
+mod exact;
 mod file_board;
 mod file_port;
 mod link;
@@ -29,6 +30,7 @@ mod transcript;
 mod turn;
 mod wanted;
 
+pub use exact::port_exact;
 pub use file_board::FileBoard;
 pub use file_port::FilePort;
 pub use named_port::NamedPort;

@@ -8,7 +8,7 @@ ghost use Rattle.base_io.specs.Counts.{Rose};
 ghost use Rattle.rig.specs.Flaky.{both_counts};
 ghost use Rattle.rig.specs.Rig.{KeepLengths};
 ghost use Rattle.rig_board.specs.Boards.{width_found, Finds, SetsUp, HasCycled, HasCycledAll, AreRowsOf, HasFailed};
-ghost use Rattle.rig_board.specs.Device.{Device, IsInSession, GoesOnWith, faults_told};
+ghost use Rattle.rig_board.specs.Device.{Device, IsInSession, faults_told};
 ghost use Rattle.rig_port.specs.Lines.{turn_room};
 ghost use Rattle.rig_port.specs.Linked.{IsPosted, board_of};
 ghost use Rattle.rig_port.specs.Sessions.{SetsAnew, HasRows, CanResume};
@@ -421,7 +421,7 @@ impl<P: Port> Board for PortBoard<P> {
             (⟦<PortBoard<P> as Board>⟧.board_state self.old) (⟦<PortBoard<P> as Board>⟧.board_state self.new)) }
         ensures refused { IfErr result (λ e. HasFailed e (⟦<PortBoard<P> as Board>⟧.board_state self.old)
             (⟦<PortBoard<P> as Board>⟧.board_state self.new)) }
-        ensures cycles_for_each { OnOk result (EachWas (GoesOnWith (record { drive = drive.now; reading = read.new } ∷ [])) self.old self.new) }
+        ensures cycles_for_each { OnOk result (EachWas (GoesOnBy (drive.now ∷ []) (read.new ∷ [])) self.old self.new) }
         ensures narrows { Narrows self.old self.new }
         ensures taken { GoOn self.old.talk self.new.talk self.old.port_talk self.new.port_talk }
         ensures alarm { OnErr result (IsSome self.old.device → Rose self.old.port_failures self.new.port_failures) }

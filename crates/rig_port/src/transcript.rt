@@ -1,5 +1,5 @@
 //! What was said over a port. Proofs alone read it.
-ghost use Rattle.std.specs.Prelude.{◌≡◌, [], take};
+ghost use Rattle.std.specs.Prelude.{◌≡◌, []};
 ghost use Rattle.rig_port.specs.Transcripts.{and_said};
 
 use base_log::Log;

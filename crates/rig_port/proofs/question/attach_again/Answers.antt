@@ -1,4 +1,4 @@
-use Rattle.std.proofs.Common.{◌≡◌, ◌∙◌, ◌≤◌, arith, ap, sym, subst, refl, IfSome}
+use Rattle.std.proofs.Common.{◌≡◌, ◌∙◌, ◌≤◌, arith, sym, subst, refl, IfSome}
 use Rattle.std.specs.Vec.{vec_capacity}
 use Rattle.machine_shape.specs.Shape.{pins_of}
 use Rattle.machine_config.specs.Configuration.{Roomy, cleared}

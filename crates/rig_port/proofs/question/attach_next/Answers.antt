@@ -1,9 +1,7 @@
 use Rattle.std.proofs.Common.{◌∙◌, ap, subst}
 use Rattle.machine_shape.specs.declared.Shape.{Shape}
-use Rattle.machine_shape.specs.Shape.{pins_of}
-use Rattle.std.specs.Vec.{vec_capacity}
 use Rattle.rig_port.specs.Checks.{fresh_check, after}
-use Rattle.rig_port.specs.Lines.{counts_body, counts_line, AreCounts, turn_room}
+use Rattle.rig_port.specs.Lines.{counts_body, counts_line, AreCounts}
 use Rattle.rig_port.specs.Requests.{attach_body}
 use Rattle.rig_port.proofs.Behind.{nothing_said}
 use Rattle.rig_port.proofs.Resumed.{told_counts}

@@ -1,4 +1,4 @@
-use Rattle.std.proofs.Common.{◌≡◌, ◌≤◌, true}
+use Rattle.std.proofs.Common.{◌≡◌, ◌≤◌}
 use Rattle.machine_shape.specs.Shape.{pins_of}
 use Rattle.rig.specs.Rig.{KeepLengths}
 use Rattle.rig_port.specs.Ports.{machine_told}

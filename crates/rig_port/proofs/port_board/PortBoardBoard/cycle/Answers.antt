@@ -7,7 +7,7 @@ use Rattle.rig_port.specs.Boards.{state_of}
 use Rattle.rig_port.specs.Said.{Said}
 use Rattle.rig_port.specs.Stands.{EachWas, GoesOnBy}
 use Rattle.rig_port.specs.Transcripts.{GoOn}
-use Rattle.rig_port.proofs.Standing.{all_here, all_on, cycles_each, held_on, narrows_down, narrows_of, talk_here}
+use Rattle.rig_port.proofs.Standing.{all_here, all_on, cycles_each, held_on, one_cycle, narrows_down, narrows_of, talk_here}
 use Rattle.rig_port.proofs.port_board.PortBoardBoard.cycle.Given.{Over}
 use Rattle.rig_port.proofs.port_board.PortBoardBoard.cycle.Goals.{If-not-drive_on-false}
 use Rattle.rig_port.proofs.Resumed.{both_rose, held_here, running_here, ready_here, wide_here, one_row}
@@ -78,7 +78,7 @@ invariant_of-self-2 g c =
 pub returns-clause-cycles_for_each : goal.returns-clause-cycles_for_each
 returns-clause-cycles_for_each g c = rw (← c.self.view_is) (λ x b.
       let w = each g c x b in
-      (w.0, w.1, w.2, cycled_one w.3.pairs c.from_ref.result.now c.drive_on.new.reads c.args.drive.now c.args.read.now (Some w.0) (Some x) w.3.driven w.3.read c.from_ref.ensures.value w.3.went))
+      (w.0, w.1, w.2, one_cycle c.from_ref.result.now c.drive_on.new.reads c.args.drive.now c.args.read.now w.0 x c.from_ref.ensures.value w.3))
 
 pub returns-clause-narrows : goal.returns-clause-narrows
 returns-clause-narrows g c = rw (← c.self.view_is) (narrows_of (GoesOnBy c.from_ref.result.now c.drive_on.new.reads) _ _ (each g c))

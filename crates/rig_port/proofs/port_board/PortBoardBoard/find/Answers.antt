@@ -1,11 +1,9 @@
-use Rattle.std.proofs.Common.{◌≡◌, ◌≤◌, ◌∙◌, arith, sym, ap, subst, refl, List, IfSome}
+use Rattle.std.proofs.Common.{◌≡◌, ◌≤◌, ◌∙◌, arith, sym, ap, subst, List, IfSome}
 use Rattle.machine_shape.specs.declared.Shape.{Shape}
 use Rattle.machine_config.specs.Configuration.{cleared}
 use Rattle.std.specs.Vec.{vec_capacity}
 use Rattle.machine_shape.specs.Shape.{pins_of}
-use Rattle.rig_port.specs.Checks.{fresh_check, after}
-use Rattle.rig_port.specs.Requests.{attach_body}
-use Rattle.rig_port.specs.Lines.{AreCounts, counts_body, counts_line, turn_room}
+use Rattle.rig_port.specs.Lines.{AreCounts, turn_room}
 use Rattle.rig_port.specs.Sessions.{HasRows}
 use Rattle.rig_port.specs.Said.{Said}
 use Rattle.rig_port.specs.Stands.{Finds}

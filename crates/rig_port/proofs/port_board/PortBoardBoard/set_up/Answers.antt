@@ -1,10 +1,5 @@
-use Rattle.std.proofs.Common.{◌≡◌, ◌∙◌, ap, refl, sym, subst, List, Option, Some}
-use Rattle.rig_port.specs.declared.link.Link.{Link}
-use Rattle.rig_port.specs.Boards.{state_of}
-use Rattle.rig_port.specs.Said.{Said}
-use Rattle.rig_port.specs.Stands.{EachWas, Narrows}
 use Rattle.rig_port.proofs.Resumed.{held_here, posted_held}
-use Rattle.rig_port.proofs.Standing.{all_here, all_posted, narrows_same, set_each, talk_here}
+use Rattle.rig_port.proofs.Standing.{all_here, all_posted}
 use Rattle.rig_port.proofs.port_board.PortBoardBoard.set_up.Goals as goal
 
 pub invariant_of-self-2 : goal.invariant_of-self-2
