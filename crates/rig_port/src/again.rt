@@ -1,5 +1,5 @@
 //! What a board over a port keeps of its session, to ask it again.
-ghost use Rattle.std.specs.Prelude.{◌≡◌, ◌++◌, ◌∷◌, [], List, true, All, length, IfOk, OnOk};
+ghost use Rattle.std.specs.Prelude.{◌≡◌, ◌++◌, ◌∷◌, [], List, true, All, length, take, IfOk, OnOk};
 ghost use Rattle.machine_meaning.specs.Circuit.{Pins};
 ghost use Rattle.rig_port.specs.Sessions.{HasRows, IsOf};
 

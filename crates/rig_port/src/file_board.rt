@@ -1,4 +1,5 @@
 //! A board behind files, or over a recorded talk.
+ghost use Rattle.std.specs.Prelude.{◌≡◌};
 
 use crate::named_port::NamedPort;
 use crate::port_board::PortBoard;

@@ -1,5 +1,5 @@
 //! How requests and replies are spelled.
-ghost use Rattle.std.specs.Prelude.{◌≡◌, ◌+◌, ◌*◌, ◌^◌, ◌<◌, ◌≤◌, ◌++◌, ◌∷◌, [], All, length, vec_len, decimal, OnOk, IfOk};
+ghost use Rattle.std.specs.Prelude.{◌≡◌, ◌+◌, ◌*◌, ◌^◌, ◌<◌, ◌≤◌, ◌++◌, ◌∷◌, [], All, length, vec_len, decimal, codes, OnOk, IfOk};
 ghost use Rattle.std.specs.Int.{div_ceil};
 ghost use Rattle.std.specs.List.{join_by, sum_by};
 ghost use Rattle.std.specs.Vec.{vec_capacity};
