@@ -17,7 +17,7 @@ use Rattle.rig_port.proofs.Turned.{StandsTurned, turn_stands}
 use Rattle.rig_port.proofs.turn.turn.Given.{Over}
 use Rattle.rig_port.proofs.turn.turn.Goals as goal
 
-module _ (g : Over) (c : goal.After-link-3-1 g) where
+module _ (g : Over) (c : goal.After-link-4-1 g) where
   many : length c.args.reads.now ≡ length c.read_all.new.reads
   many = sym (length-map c.args.reads.now length) ∙ ap length (sym c.read_all.ensures.lengths) ∙ length-map c.read_all.new.reads length
 
