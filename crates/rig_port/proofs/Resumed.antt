@@ -352,9 +352,9 @@ ready_here port found again l drives there up session wide =
       check = h.check;
       room = h.room;
     } where
-  not_lost : (b : Bool) → l.lost ≡ b → IsHeld port found l → l.running ≡ true → l.lost ≡ false
-  not_lost false is h runs = is
-  not_lost true is h runs = absurd (false≢true (sym (h.running is) ∙ runs))
+      not_lost : (b : Bool) → l.lost ≡ b → IsHeld port found l → l.running ≡ true → l.lost ≡ false
+      not_lost false is h runs = is
+      not_lost true is h runs = absurd (false≢true (sym (h.running is) ∙ runs))
 
 -- rows as wide as what was found are as wide as what is linked
 pub wide_here : {o : Option Link} (port : PortState) (found : Option Shape) (again : Again) (l : Link) (rows : List Pins) → Some l ≡ o → IsUp port found o again
@@ -362,14 +362,14 @@ pub wide_here : {o : Option Link} (port : PortState) (found : Option Shape) (aga
 wide_here port found again l rows there up wide =
     let h = held_here port found again there up in
     λ k d lt.
-      let one : Some (pins_of l.set.config.shape) ≡ Some (length (get_or rows k d)) = sym (ap (option_map pins_of) h.shape) ∙ wide k d lt in
-      number_of (length (get_or rows k d)) one where
-  number_or : Option ℕ → ℕ
-  number_or None = 0
-  number_or (Some n) = n
+    let one : Some (pins_of l.set.config.shape) ≡ Some (length (get_or rows k d)) = sym (ap (option_map pins_of) h.shape) ∙ wide k d lt in
+    number_of (length (get_or rows k d)) one where
+      number_or : Option ℕ → ℕ
+      number_or None = 0
+      number_or (Some n) = n
 
-  number_of : (n : ℕ) → Some (pins_of l.set.config.shape) ≡ Some n → n ≡ pins_of l.set.config.shape
-  number_of n e = sym (ap number_or e)
+      number_of : (n : ℕ) → Some (pins_of l.set.config.shape) ≡ Some n → n ≡ pins_of l.set.config.shape
+      number_of n e = sym (ap number_or e)
 
 -- of one row alone
 pub one_row : {found : Option ℕ} (rows : List Pins) (row : Pins) → rows ≡ row ∷ [] → found ≡ Some (length row) → All (λ (r : Pins). found ≡ Some (length r)) rows

@@ -142,8 +142,7 @@ pub each_was : (R : Device → Check → Device → Check → Type 0) (T : Devic
 each_was R T old new found behind to = λ x b.
     let d = behind b.shape b.last.faults b.last b.check b.stands in
     let at : old.found ≡ Some b.shape = sym found ∙ b.found in
-    let same : d.0.faults ≡ b.last.faults = stands_faults b.shape b.last.faults old.talk d.0 d.1 d.2 in
-    (
+    let same : d.0.faults ≡ b.last.faults = stands_faults b.shape b.last.faults old.talk d.0 d.1 d.2 in (
       as_told old.waits d.0,
       may_be old b.shape b.last.faults d.0 d.1 at d.2,
       told_faults old.waits d.0 ∙ same ∙ sym (told_faults new.waits b.last) ∙ ap (λ (d : Device). d.faults) (sym b.told),
@@ -223,15 +222,15 @@ pub cycles_each : {o : Option Link} (port now : PortState) (found : Option Shape
 cycles_each {o} port now found past past_now n n_now fs fs_now drives reads old new a b there h all runs sent said =
     subst (λ (x : Option Link). EachWas (GoesOnBy drives reads) (state_of port found x past n fs) (state_of now found (Some new) past_now n_now fs_now)) there
     (each_was (GoesOn drives reads a b old new) (GoesOnBy drives reads) (state_of port found (Some old) past n fs) (state_of now found (Some new) past_now n_now fs_now) refl said (λ m f d c e k at st r.
-      let s = all f d c (subst (λ (x : Shape). MayStand x f old.talk d c) (some_shape found m old.set.config.shape at h.shape) st) in
-      let t = r (record { linked = s.linked (not_lost old.lost old refl h.running runs); check = s.check }) s.resumes in
-      let turned = t.0.turned in
-      record {
-        pairs = turned.pairs;
-        driven = turned.driven;
-        read = turned.read;
-        went = told_both (GoesOnWith turned.pairs) old.due new.due old.set.config new.set.config d e sent turned.turned;
-      }))
+    let s = all f d c (subst (λ (x : Shape). MayStand x f old.talk d c) (some_shape found m old.set.config.shape at h.shape) st) in
+    let t = r (record { linked = s.linked (not_lost old.lost old refl h.running runs); check = s.check }) s.resumes in
+    let turned = t.0.turned in
+    record {
+      pairs = turned.pairs;
+      driven = turned.driven;
+      read = turned.read;
+      went = told_both (GoesOnWith turned.pairs) old.due new.due old.set.config new.set.config d e sent turned.turned;
+    }))
 
 -- a board that went down
 pub narrows_down : {o : Option Link} (port now : PortState) (found : Option Shape) (past : List Said) (n n_now fs fs_now : ℕ) (old new : Link) → Some old ≡ o → GoOn old.talk new.talk port.talk now.talk

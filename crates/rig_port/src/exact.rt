@@ -13,5 +13,4 @@ ghost use Rattle.rig_port.specs.Transcripts.{ExplainsTalk};
 pub fn port_exact()
     ensures { (s : PortBoardState) (past : List Past) (now : Option Past) → HasLogged s past now → (m : Shape) (f : Faults) →
         s.found ≡ Some m → ExplainsTalk m f s.talk → AllByRecursion (IsRunOf f) (past ++ standing now) }
-{
-}
+{}

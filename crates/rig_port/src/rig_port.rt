@@ -56,7 +56,6 @@ impl<R: Rig> Model for RigPort<R> {
 
     ghost use Rattle.std.specs.Coded.{codes};
     ghost use Rattle.machine_config.specs.Configuration.{coded_configuration};
-
     ghost use Rattle.rig_port.specs.Said.{coded_talk};
 
     ghost coded = { Prim.hlevel (codes, coded_configuration, coded_talk) };

@@ -58,8 +58,9 @@ returns-clause-said g c = λ _.
     let now = c.turn_or_again.new.link in
     let pins = c.pins-pins.ensures.pins ∙ ap pins_of c.shape.ensures.shape in
     behind_so _ _ c.args.link.now.talk now.talk (c.turn_or_again.ensures.said c.if-not-turn_or_again.false) (λ d b e k _ turns. λ goes resumes.
-      let t = turns goes resumes in
-      (t, record {
+    let t = turns goes resumes in (
+      t,
+      record {
         rows = subst (λ n. HasRows n c.keep.new.self) pins c.keep.ensures.rows;
         whole = λ _.
             subst (λ (s : Configuration). SetsAnew s c.keep.new.self.whole.items) (sym held.set)
@@ -69,4 +70,5 @@ returns-clause-said g c = λ _.
             (resumed (pins_of set.shape) set c.args.link.now.due now.due (Some d) (Some e) c.args.again.now c.turn_or_again.new.again c.keep.new.self c.args.drives.now
             c.turn_or_again.new.reads c.turn_or_again.ensures.kept.rows c.turn_or_again.ensures.kept.past c.keep.ensures.kept c.keep.ensures.covers (resumes.kept c.requires.ready.running)
             t.turned covers);
-      }))
+      },
+    ))

@@ -76,14 +76,14 @@ returns-in_default-read_check-clause-talks g c =
 pub returns-clause-said : goal.returns-clause-said
 returns-clause-said g c = λ _.
     behind_one _ c.args.link.now.talk c.and.result c.deref.result.now (take c.in-Ok.count c.ask.new.reply) (talk_is g c) (λ d b e k a. λ goes.
-      let s = stands g c (Some d) (Some e) k goes.linked (subst (λ (z : Check). Answers d z c.deref.result.now (take c.in-Ok.count c.ask.new.reply) e k) goes.check a) in
-      record {
-        goes = record {
-          linked = rw c.requires.ready.running (subst (λ l. IsLinked (Some e) c.args.link.now.set.config l false true false) (sym c.clear.ensures.items) s.linked);
-          check = s.check refl ∙ sym c.in-Some.ensures.right.1;
-        };
-        turned = s.turned;
-      })
+    let s = stands g c (Some d) (Some e) k goes.linked (subst (λ (z : Check). Answers d z c.deref.result.now (take c.in-Ok.count c.ask.new.reply) e k) goes.check a) in
+    record {
+      goes = record {
+        linked = rw c.requires.ready.running (subst (λ l. IsLinked (Some e) c.args.link.now.set.config l false true false) (sym c.clear.ensures.items) s.linked);
+        check = s.check refl ∙ sym c.in-Some.ensures.right.1;
+      };
+      turned = s.turned;
+    })
 
 pub returns-clause-turned : goal.returns-clause-turned
 returns-clause-turned g c = λ _. record {

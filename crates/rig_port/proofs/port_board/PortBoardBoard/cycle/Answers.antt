@@ -77,8 +77,8 @@ invariant_of-self-2 g c =
 
 pub returns-clause-cycles_for_each : goal.returns-clause-cycles_for_each
 returns-clause-cycles_for_each g c = rw (← c.self.view_is) (λ x b.
-      let w = each g c x b in
-      (w.0, w.1, w.2, one_cycle c.from_ref.result.now c.drive_on.new.reads c.args.drive.now c.args.read.now w.0 x c.from_ref.ensures.value w.3))
+    let w = each g c x b in
+    (w.0, w.1, w.2, one_cycle c.from_ref.result.now c.drive_on.new.reads c.args.drive.now c.args.read.now w.0 x c.from_ref.ensures.value w.3))
 
 pub returns-clause-narrows : goal.returns-clause-narrows
 returns-clause-narrows g c = rw (← c.self.view_is) (narrows_of (GoesOnBy c.from_ref.result.now c.drive_on.new.reads) _ _ (each g c))
