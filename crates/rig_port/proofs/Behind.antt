@@ -1,5 +1,5 @@
 -- Which machines may stand behind what was said.
-use Rattle.std.proofs.Common.{◌≡◌, ℕ, List, [], ◌∷◌, ◌++◌, refl, sym, ap, ◌∙◌, subst, Some, Bool, true, false}
+use Rattle.std.proofs.Common.{◌≡◌, ℕ, List, [], ◌∷◌, ◌++◌, refl, sym, ap, ◌∙◌, subst, Option, Some, Bool, true, false}
 use Rattle.std.proofs.lemmas.List.{append_assoc, append-nil}
 use Rattle.machine_shape.specs.declared.Shape.{Shape}
 use Rattle.machine_meaning.specs.Faults.{Faults}
@@ -42,8 +42,11 @@ stands_split m f xs ys e k s =
 abbrev pub SameMachine : Device → Device → Type 0
 SameMachine d e = (e.shape ≡ d.shape) × (e.faults ≡ d.faults)
 
-pub machine_of : (d e : Device) → SameMachine d e → Some (e.shape, e.faults) ≡ Some (d.shape, d.faults)
-machine_of d e s = ap (λ (m : Shape). Some (m, e.faults)) s.0 ∙ ap (λ (f : Faults). Some (d.shape, f)) s.1
+abbrev pub told_as : Shape → Faults → Option (Shape × Faults)
+told_as m f = Some (m, f)
+
+pub machine_of : (d e : Device) → SameMachine d e → told_as e.shape e.faults ≡ told_as d.shape d.faults
+machine_of d e s = ap (λ (m : Shape). told_as m e.faults) s.0 ∙ ap (λ (f : Faults). told_as d.shape f) s.1
 
 same_machine : (m : Shape) (f : Faults) (xs ys : List Said) (d : Device) (c : Check) (e : Device) (k : Check) → MayStand m f xs d c → MayStand m f ys e k → SameMachine d e
 same_machine m f xs ys d c e k s t =

@@ -54,14 +54,14 @@ module _ (g : Over) (c : goal.After-link-4-1 g) where
       (g.P.Port.port_state c.ask.new.self).check c.deref.result.now (take c.in-Ok.count c.ask.new.reply) c.requires.ready.check c.in-Ok.ensures.told)
 
   -- the line that was sent, and the one that came, are what is taken
-  talk_is : c.and.result ≡ and_said c.args.link.now.talk c.deref.result.now (take c.in-Ok.count c.ask.new.reply)
+  talk_is : c.and-link.result ≡ and_said c.args.link.now.talk c.deref.result.now (take c.in-Ok.count c.ask.new.reply)
   talk_is =
-      c.and.ensures ∙ ap (λ r. and_said c.args.link.now.talk r c.deref-5.result.now) (c.deref-4.ensures.value ∙ sym c.deref.ensures.value)
+      c.and-link.ensures ∙ ap (λ r. and_said c.args.link.now.talk r c.deref-5.result.now) (c.deref-4.ensures.value ∙ sym c.deref.ensures.value)
       ∙ ap (and_said c.args.link.now.talk c.deref.result.now) (c.deref-5.ensures.value ∙ sym c.in-Some.ensures.expected ∙ ap (λ l. take c.in-Ok.count l) whole)
 
 pub returns-clause-talks : goal.returns-clause-talks
 returns-clause-talks g c =
-    said_one c.args.link.now.talk c.and.result (g.P.Port.port_state c.args.port.now).talk (g.P.Port.port_state c.ask.new.self).talk c.deref.result.now (take c.in-Ok.count c.ask.new.reply)
+    said_one c.args.link.now.talk c.and-link.result (g.P.Port.port_state c.args.port.now).talk (g.P.Port.port_state c.ask.new.self).talk c.deref.result.now (take c.in-Ok.count c.ask.new.reply)
     (talk_is g c) c.in-Ok.ensures.said
 
 pub returns-in_default-clause-talks : goal.returns-in_default-clause-talks
@@ -75,7 +75,7 @@ returns-in_default-read_check-clause-talks g c =
 
 pub returns-clause-said : goal.returns-clause-said
 returns-clause-said g c = λ _.
-    behind_one _ c.args.link.now.talk c.and.result c.deref.result.now (take c.in-Ok.count c.ask.new.reply) (talk_is g c) (λ d b e k a. λ goes.
+    behind_one _ c.args.link.now.talk c.and-link.result c.deref.result.now (take c.in-Ok.count c.ask.new.reply) (talk_is g c) (λ d b e k a. λ goes.
     let s = stands g c (Some d) (Some e) k goes.linked (subst (λ (z : Check). Answers d z c.deref.result.now (take c.in-Ok.count c.ask.new.reply) e k) goes.check a) in
     record {
       goes = record {
