@@ -1,9 +1,11 @@
 mod Alarm
 mod Answered
+mod Behind
 mod Closings
 mod Edited
 mod Heard
 mod Held
+mod Logged
 mod OneMachine
 mod Readings
 mod Replayed
@@ -12,5 +14,6 @@ mod Resumed
 mod Room
 mod Settings
 mod Spelled
+mod Standing
 mod Taken
 mod Turned

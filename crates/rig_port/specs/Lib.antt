@@ -6,9 +6,13 @@ pub mod Codes
 pub mod FilePorts
 pub mod Linked
 pub mod Lines
+pub mod Logs
 pub mod Ports
 pub mod Replays
 pub mod Requests
 pub mod RigPorts
+pub mod Said
 pub mod Sessions
+pub mod Stands
+pub mod Transcripts
 pub mod Turns

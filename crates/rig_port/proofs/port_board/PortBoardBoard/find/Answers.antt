@@ -1,13 +1,15 @@
-use Rattle.std.proofs.Common.{◌≡◌, ◌≤◌, ◌∙◌, arith, sym, ap, subst, refl, IfSome}
+use Rattle.std.proofs.Common.{◌≡◌, ◌≤◌, ◌∙◌, arith, sym, ap, subst, List, IfSome}
 use Rattle.machine_shape.specs.declared.Shape.{Shape}
 use Rattle.machine_config.specs.Configuration.{cleared}
 use Rattle.std.specs.Vec.{vec_capacity}
 use Rattle.machine_shape.specs.Shape.{pins_of}
-use Rattle.rig_port.specs.Checks.{fresh_check, after}
-use Rattle.rig_port.specs.Requests.{attach_body}
-use Rattle.rig_port.specs.Lines.{AreCounts, counts_body, counts_line, turn_room}
+use Rattle.rig_port.specs.Lines.{AreCounts, turn_room}
 use Rattle.rig_port.specs.Sessions.{HasRows}
+use Rattle.rig_port.specs.Said.{Said}
+use Rattle.rig_port.specs.Stands.{Finds}
+use Rattle.rig_port.specs.Transcripts.{Behind}
 use Rattle.rig_port.proofs.Held.{fresh_held}
+use Rattle.rig_port.proofs.Standing.{all_found}
 use Rattle.rig_port.proofs.Resumed.{both_rose, fresh_resumes}
 use Rattle.rig_port.proofs.port_board.PortBoardBoard.find.Goals as goal
 
@@ -29,6 +31,14 @@ invariant_of-self-2 g c =
       fresh_resumes (g.P.Port.port_state c.attach_some.new.port).device m c.attach_some.new.link c.make_rows.new.self c.attach_some.new.again set idle
           (subst (λ n. HasRows n c.make_rows.new.self) c.pins.ensures.pins c.in-Ok.ensures)
           (record { whole = past.whole; drives = past.drives; readings = past.readings; made = past.made; covers = past.covers }) c.attach_some.ensures.spare,
+      all_found (g.P.Port.port_state c.attach_some.new.port) m c.attach_some.new.link c.make_rows.new.self c.attach_some.new.again (c.attach_some.ensures.open c.if-not-attach_some.false)
+          set (ap (λ v. v.items) c.attach_some.ensures.stays.line ∙ c.in-Ok-link_of.ensures.line) (c.attach_some.ensures.stays.anew ∙ c.in-Ok-link_of.ensures.idle.0) idle
+          (subst (λ (s : Shape). turn_room (pins_of s) ≤ vec_capacity c.attach_some.new.link.expected) (ap (λ s. s.shape) c.in-Ok-link_of.ensures.set) (c.attach_some.ensures.room c.if-not-attach_some.false))
+          (subst (λ n. HasRows n c.make_rows.new.self) c.pins.ensures.pins c.in-Ok.ensures)
+          (record { whole = past.whole; drives = past.drives; readings = past.readings; made = past.made; covers = past.covers }) c.attach_some.ensures.spare
+          (subst (λ (t : List Said). Behind (Finds m c.attach_some.new.link) t c.attach_some.new.link.talk) c.in-Ok-link_of.ensures.talk
+          (subst (λ (s : Shape). Behind (Finds s c.attach_some.new.link) c.in-Ok-link_of.link.talk c.attach_some.new.link.talk) (ap (λ s. s.shape) c.in-Ok-link_of.ensures.set)
+          (c.attach_some.ensures.said c.if-not-attach_some.false))),
     )
 
 pub returns-clause-again : goal.returns-clause-again
