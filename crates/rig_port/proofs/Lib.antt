@@ -5,7 +5,6 @@ mod Closings
 mod Edited
 mod Heard
 mod Held
-mod Logged
 mod OneMachine
 mod Readings
 mod Replayed

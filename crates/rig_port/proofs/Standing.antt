@@ -11,6 +11,7 @@ use Rattle.machine_config.specs.Configuration.{Configuration, cleared}
 use Rattle.rig.specs.Rig.{Exchange, KeepLengths}
 use borrow.Rule.Slice.PartMut.{put_mid}
 use Rattle.rig_board.specs.Device.{Device, IsInSession, GoesOnWith, WhereTold}
+use Rattle.rig_board.specs.Machines.{Narrows, EachWas, GoesOnBy}
 use Rattle.rig_port.specs.declared.again.Again.{Again}
 use Rattle.rig_port.specs.declared.check.Check.{Check}
 use Rattle.rig_port.specs.declared.link.Link.{Link}
@@ -24,7 +25,7 @@ use Rattle.rig_port.specs.Ports.{PortState, machine_told}
 use Rattle.rig_port.specs.Requests.{attach_body, attach_line}
 use Rattle.rig_port.specs.Said.{Said}
 use Rattle.rig_port.specs.Sessions.{HasRows, CanResume, KeepsSession, paired}
-use Rattle.rig_port.specs.Stands.{StandsUp, AllStandUp, Finds, Turns, Makes, TurnsAgain, GoesOn, GoesOnBy, as_told, MayBe, Narrows, EachWas}
+use Rattle.rig_port.specs.Stands.{StandsUp, AllStandUp, Finds, Turns, Makes, TurnsAgain, GoesOn, as_told, MayBe}
 use Rattle.rig_port.specs.Transcripts.{MayStand, Behind, GoOn}
 use Rattle.rig_port.proofs.Behind.{SameMachine, Anyhow, behind_all, machine_of, said_none, stands_faults, stands_shape}
 use Rattle.rig_port.proofs.Held.{cycled_one, fresh_held, not_turned, turned_next, whole_turned}
@@ -138,7 +139,7 @@ told_faults (Some g) e = refl
 
 -- whatever is said of the machines between two transcripts is said of what the board may be
 pub each_was : (R : Device → Check → Device → Check → Type 0) (T : Device → Device → Type 0) (old new : PortBoardState) → new.found ≡ old.found → Behind R old.talk new.talk
-    → ((m : Shape) (f : Faults) (d : Device) (c : Check) (e : Device) (k : Check) → old.found ≡ Some m → MayStand m f old.talk d c → R d c e k → T (as_told old.waits d) (as_told new.waits e)) → EachWas T old new
+    → ((m : Shape) (f : Faults) (d : Device) (c : Check) (e : Device) (k : Check) → old.found ≡ Some m → MayStand m f old.talk d c → R d c e k → T (as_told old.waits d) (as_told new.waits e)) → EachWas T (MayBe old) (MayBe new)
 each_was R T old new found behind to = λ x b.
     let d = behind b.shape b.last.faults b.last b.check b.stands in
     let at : old.found ≡ Some b.shape = sym found ∙ b.found in
@@ -149,7 +150,7 @@ each_was R T old new found behind to = λ x b.
       subst (T (as_told old.waits d.0)) (sym b.told) (to b.shape b.last.faults d.0 d.1 b.last b.check at d.2 d.3),
     )
 
-pub narrows : (old new : PortBoardState) → new.found ≡ old.found → GoOn old.talk new.talk old.port_talk new.port_talk → Narrows old new
+pub narrows : (old new : PortBoardState) → new.found ≡ old.found → GoOn old.talk new.talk old.port_talk new.port_talk → Narrows (MayBe old) (MayBe new)
 narrows old new found talks = λ x b.
     let w = each_was Anyhow (λ _ _. Unit {0}) old new found (behind_all old.talk new.talk old.port_talk new.port_talk talks) (λ m f d c e k at st r. tt) x b in
     (w.0, w.1, w.2)
@@ -218,9 +219,9 @@ some_shape found m n a b = ap shape_or (sym a ∙ b) where
 
 pub cycles_each : {o : Option Link} (port now : PortState) (found : Option Shape) (past past_now : List Said) (n n_now fs fs_now : ℕ) (drives reads : List Pins) (old new : Link) (a b : Again)
     → Some old ≡ o → IsHeld port found old → AllStandUp old a → old.running ≡ true → new.due ≡ false → Behind (GoesOn drives reads a b old new) old.talk new.talk
-    → EachWas (GoesOnBy drives reads) (state_of port found o past n fs) (state_of now found (Some new) past_now n_now fs_now)
+    → EachWas (GoesOnBy drives reads) (MayBe (state_of port found o past n fs)) (MayBe (state_of now found (Some new) past_now n_now fs_now))
 cycles_each {o} port now found past past_now n n_now fs fs_now drives reads old new a b there h all runs sent said =
-    subst (λ (x : Option Link). EachWas (GoesOnBy drives reads) (state_of port found x past n fs) (state_of now found (Some new) past_now n_now fs_now)) there
+    subst (λ (x : Option Link). EachWas (GoesOnBy drives reads) (MayBe (state_of port found x past n fs)) (MayBe (state_of now found (Some new) past_now n_now fs_now))) there
     (each_was (GoesOn drives reads a b old new) (GoesOnBy drives reads) (state_of port found (Some old) past n fs) (state_of now found (Some new) past_now n_now fs_now) refl said (λ m f d c e k at st r.
     let s = all f d c (subst (λ (x : Shape). MayStand x f old.talk d c) (some_shape found m old.set.config.shape at h.shape) st) in
     let t = r (record { linked = s.linked (not_lost old.lost old refl h.running runs); check = s.check }) s.resumes in
@@ -234,13 +235,13 @@ cycles_each {o} port now found past past_now n n_now fs fs_now drives reads old 
 
 -- a board that went down
 pub narrows_down : {o : Option Link} (port now : PortState) (found : Option Shape) (past : List Said) (n n_now fs fs_now : ℕ) (old new : Link) → Some old ≡ o → GoOn old.talk new.talk port.talk now.talk
-    → Narrows (state_of port found o past n fs) (state_of now found None new.talk n_now fs_now)
+    → Narrows (MayBe (state_of port found o past n fs)) (MayBe (state_of now found None new.talk n_now fs_now))
 narrows_down {o} port now found past n n_now fs fs_now old new there talks =
-    subst (λ (x : Option Link). Narrows (state_of port found x past n fs) (state_of now found None new.talk n_now fs_now)) there
+    subst (λ (x : Option Link). Narrows (MayBe (state_of port found x past n fs)) (MayBe (state_of now found None new.talk n_now fs_now))) there
     (narrows (state_of port found (Some old) past n fs) (state_of now found None new.talk n_now fs_now) refl talks)
 
 -- what is said of each is said of those that it was
-pub narrows_of : (T : Device → Device → Type 0) (old new : PortBoardState) → EachWas T old new → Narrows old new
+pub narrows_of : (T : Device → Device → Type 0) (old new : PortBoardState) → EachWas T (MayBe old) (MayBe new) → Narrows (MayBe old) (MayBe new)
 narrows_of T old new each = λ x b. let w = each x b in (w.0, w.1, w.2)
 
 -- what the board took before, as the board says it
@@ -253,11 +254,11 @@ all_here {l} port found again there up =
     every.2
 
 -- nothing was said
-pub narrows_same : (old new : PortBoardState) → new.found ≡ old.found → new.talk ≡ old.talk → new.port_talk ≡ old.port_talk → Narrows old new
+pub narrows_same : (old new : PortBoardState) → new.found ≡ old.found → new.talk ≡ old.talk → new.port_talk ≡ old.port_talk → Narrows (MayBe old) (MayBe new)
 narrows_same old new found talk port_talk = narrows old new found (said_none old.talk new.talk old.port_talk new.port_talk talk port_talk)
 
 -- a load that waits is the session of each
-pub set_each : (g : Configuration) (old new : PortBoardState) → new.found ≡ old.found → new.talk ≡ old.talk → new.port_talk ≡ old.port_talk → new.waits ≡ Some g → EachWas (λ o d. IsInSession g [] d) old new
+pub set_each : (g : Configuration) (old new : PortBoardState) → new.found ≡ old.found → new.talk ≡ old.talk → new.port_talk ≡ old.port_talk → new.waits ≡ Some g → EachWas (λ o d. IsInSession g [] d) (MayBe old) (MayBe new)
 set_each g old new found talk port_talk waits =
     each_was Anyhow (λ o d. IsInSession g [] d) old new found (behind_all old.talk new.talk old.port_talk new.port_talk (said_none old.talk new.talk old.port_talk new.port_talk talk port_talk))
     (λ m f d c e k at st r. subst (λ (w : Option Configuration). IsInSession g [] (as_told w e)) (sym waits) (record { config = refl; so_far = refl }))

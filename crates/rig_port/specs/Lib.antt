@@ -6,7 +6,6 @@ pub mod Codes
 pub mod FilePorts
 pub mod Linked
 pub mod Lines
-pub mod Logs
 pub mod Ports
 pub mod Replays
 pub mod Requests

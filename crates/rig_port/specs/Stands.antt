@@ -4,8 +4,8 @@ use Rattle.machine_shape.specs.declared.Shape.{Shape}
 use Rattle.machine_meaning.specs.Circuit.{Pins}
 use Rattle.machine_meaning.specs.Faults.{Faults}
 use Rattle.machine_config.specs.Configuration.{Configuration, cleared}
-use Rattle.rig.specs.Rig.{Exchange, drives_of, readings_of}
-use Rattle.rig_board.specs.Device.{Device, GoesOnWith}
+use Rattle.rig.specs.Rig.{Exchange}
+use Rattle.rig_board.specs.Device.{Device}
 use Rattle.rig_port.specs.declared.again.Again.{Again}
 use Rattle.rig_port.specs.declared.check.Check.{Check}
 use Rattle.rig_port.specs.declared.link.Link.{Link}
@@ -74,18 +74,3 @@ pub record MayBe (s : PortBoardState) (d : Device) : Type 0 where
   pub check : Check
   pub stands : MayStand shape last.faults s.talk last check
   pub told : d ≡ as_told s.waits last
-
--- each machine that it may be now is one that it may have been
-abbrev pub Narrows : PortBoardState → PortBoardState → Type 0
-Narrows old new = (d : Device) → MayBe new d → (o : Device) × MayBe old o × (o.faults ≡ d.faults)
-
--- and this is said of the two
-abbrev pub EachWas : (Device → Device → Type 0) → PortBoardState → PortBoardState → Type 0
-EachWas R old new = (d : Device) → MayBe new d → (o : Device) × MayBe old o × (o.faults ≡ d.faults) × R o d
-
--- these cycles came behind its session
-pub record GoesOnBy (drives readings : List Pins) (o d : Device) : Type 0 where
-  pub pairs : List Exchange
-  pub driven : drives_of pairs ≡ drives
-  pub read : readings_of pairs ≡ readings
-  pub went : GoesOnWith pairs o d

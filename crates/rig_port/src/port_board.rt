@@ -9,11 +9,12 @@ ghost use Rattle.rig.specs.Flaky.{both_counts};
 ghost use Rattle.rig.specs.Rig.{KeepLengths};
 ghost use Rattle.rig_board.specs.Boards.{width_found, Finds, SetsUp, HasCycled, HasCycledAll, AreRowsOf, HasFailed};
 ghost use Rattle.rig_board.specs.Device.{Device, IsInSession, faults_told};
+ghost use Rattle.rig_board.specs.Machines.{EachWas, Narrows, GoesOnBy};
 ghost use Rattle.rig_port.specs.Lines.{turn_room};
 ghost use Rattle.rig_port.specs.Linked.{IsPosted, board_of};
 ghost use Rattle.rig_port.specs.Sessions.{SetsAnew, HasRows, CanResume};
 ghost use Rattle.rig_port.specs.Transcripts.{GoOn};
-ghost use Rattle.rig_port.specs.Stands.{EachWas, Narrows, GoesOnBy};
+ghost use Rattle.rig_port.specs.Stands.{MayBe};
 
 use crate::again::Again;
 use crate::check::Check;
@@ -305,6 +306,8 @@ impl<P: Port> PortBoard<P> {
 impl<P: Port> Board for PortBoard<P> {
     ghost board_state = { board_of };
 
+    ghost may_be = { MayBe };
+
     /// Opens the port, and asks the machine what it is, at most three times. The board is up after an `Ok`, and isn't after a refusal.
     /// Where a machine of this shape is told, it answers `Failed` only where the port failed.
     ///
@@ -376,8 +379,10 @@ impl<P: Port> Board for PortBoard<P> {
         ensures begins { OnOk result (SetsUp config.now.config (⟦<PortBoard<P> as Board>⟧.board_state self.new)) }
         ensures refused { IsErrOf result RigFail.Failed → Rose (⟦<PortBoard<P> as Board>⟧.board_state self.old).failures
             (⟦<PortBoard<P> as Board>⟧.board_state self.new).failures }
-        ensures set_for_each { OnOk result (EachWas (λ o d. IsInSession config.now.config [] d) self.old self.new) }
-        ensures narrows { Narrows self.old self.new }
+        ensures set_for_each { OnOk result (EachWas (λ o d. IsInSession config.now.config [] d) (⟦<PortBoard<P> as Board>⟧.may_be self.old)
+            (⟦<PortBoard<P> as Board>⟧.may_be self.new)) }
+        ensures narrows { Narrows (⟦<PortBoard<P> as Board>⟧.may_be self.old)
+            (⟦<PortBoard<P> as Board>⟧.may_be self.new) }
         ensures taken { (self.new.talk ≡ self.old.talk) × (self.new.port_talk ≡ self.old.port_talk) }
         ensures up { IsErrOf result RigFail.Failed → self.old.is_up ≡ false }
         ensures down { self.old.is_up ≡ false → IsErrOf result RigFail.Failed }
@@ -421,8 +426,10 @@ impl<P: Port> Board for PortBoard<P> {
             (⟦<PortBoard<P> as Board>⟧.board_state self.old) (⟦<PortBoard<P> as Board>⟧.board_state self.new)) }
         ensures refused { IfErr result (λ e. HasFailed e (⟦<PortBoard<P> as Board>⟧.board_state self.old)
             (⟦<PortBoard<P> as Board>⟧.board_state self.new)) }
-        ensures cycles_for_each { OnOk result (EachWas (GoesOnBy (drive.now ∷ []) (read.new ∷ [])) self.old self.new) }
-        ensures narrows { Narrows self.old self.new }
+        ensures cycles_for_each { OnOk result (EachWas (GoesOnBy (drive.now ∷ []) (read.new ∷ [])) (⟦<PortBoard<P> as Board>⟧.may_be self.old)
+            (⟦<PortBoard<P> as Board>⟧.may_be self.new)) }
+        ensures narrows { Narrows (⟦<PortBoard<P> as Board>⟧.may_be self.old)
+            (⟦<PortBoard<P> as Board>⟧.may_be self.new) }
         ensures taken { GoOn self.old.talk self.new.talk self.old.port_talk self.new.port_talk }
         ensures alarm { OnErr result (IsSome self.old.device → Rose self.old.port_failures self.new.port_failures) }
         ensures up { OnOk result (self.new.is_up ≡ true) }
@@ -474,8 +481,10 @@ impl<P: Port> Board for PortBoard<P> {
             (⟦<PortBoard<P> as Board>⟧.board_state self.new)) }
         ensures refused { IfErr result (λ e. HasFailed e (⟦<PortBoard<P> as Board>⟧.board_state self.old)
             (⟦<PortBoard<P> as Board>⟧.board_state self.new)) }
-        ensures cycles_for_each { OnOk result (EachWas (GoesOnBy drives.now reads.new) self.old self.new) }
-        ensures narrows { Narrows self.old self.new }
+        ensures cycles_for_each { OnOk result (EachWas (GoesOnBy drives.now reads.new) (⟦<PortBoard<P> as Board>⟧.may_be self.old)
+            (⟦<PortBoard<P> as Board>⟧.may_be self.new)) }
+        ensures narrows { Narrows (⟦<PortBoard<P> as Board>⟧.may_be self.old)
+            (⟦<PortBoard<P> as Board>⟧.may_be self.new) }
         ensures taken { GoOn self.old.talk self.new.talk self.old.port_talk self.new.port_talk }
         ensures alarm { OnErr result (IsSome self.old.device → Rose self.old.port_failures self.new.port_failures) }
         ensures up { OnOk result (self.new.is_up ≡ true) }

@@ -3,7 +3,8 @@ use Rattle.rig_port.proofs.Alarm.{told_alarm}
 use Rattle.rig_port.proofs.Held.{told_on}
 use Rattle.rig_port.specs.Boards.{state_of}
 use Rattle.rig_port.specs.Said.{Said}
-use Rattle.rig_port.specs.Stands.{EachWas, GoesOnBy}
+use Rattle.rig_board.specs.Machines.{EachWas, GoesOnBy}
+use Rattle.rig_port.specs.Stands.{MayBe}
 use Rattle.rig_port.specs.Transcripts.{GoOn}
 use Rattle.rig_port.proofs.Standing.{all_here, all_on, cycles_each, held_on, narrows_down, narrows_of, talk_here}
 use Rattle.rig_port.proofs.port_board.PortBoardBoard.cycles.Given.{Over}
@@ -48,8 +49,8 @@ module _ (g : Over) (c : If-not-drive_on-false g) where
   runs : c.in-Some.link.running ≡ true
   runs = running_here c.in-Some.ensures.value (ap (λ s. s.in_session) c.self.view_is ∙ c.requires.session)
 
-  each : EachWas (GoesOnBy c.args.drives.now c.drive_on.new.reads) (state_of (g.P.Port.port_state c.self.inside.port) c.self.inside.found c.self.inside.link c.self.inside.past c.self.inside.again.number c.self.inside.failures)
-      (state_of (g.P.Port.port_state c.drive_on.new.port) c.self.inside.found (Some c.drive_on.new.link) c.self.inside.past c.drive_on.new.again.number c.drive_on.new.failures)
+  each : EachWas (GoesOnBy c.args.drives.now c.drive_on.new.reads) (MayBe (state_of (g.P.Port.port_state c.self.inside.port) c.self.inside.found c.self.inside.link c.self.inside.past c.self.inside.again.number c.self.inside.failures))
+      (MayBe (state_of (g.P.Port.port_state c.drive_on.new.port) c.self.inside.found (Some c.drive_on.new.link) c.self.inside.past c.drive_on.new.again.number c.drive_on.new.failures))
   each =
       let port = g.P.Port.port_state c.self.inside.port in
       cycles_each port (g.P.Port.port_state c.drive_on.new.port) c.self.inside.found c.self.inside.past c.self.inside.past c.self.inside.again.number c.drive_on.new.again.number
