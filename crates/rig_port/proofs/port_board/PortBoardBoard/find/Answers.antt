@@ -85,7 +85,7 @@ returns-clause-found g c =
     let m = c.args.shape.now in record {
       found = refl;
       told = finds_told m c.attach_some.new.link.due c.attach_some.new.link.set.config (g.P.Port.port_state c.open.new.self).device (g.P.Port.port_state c.attach_some.new.port).device
-          (c.attach_some.ensures.stays.due ∙ c.in-Ok-link_of.ensures.idle.2.0) c.attach_some.ensures.machine c.in-Ok-open.ensures.opens.told
+          (c.attach_some.ensures.stays.due ∙ c.in-Ok-link_of.ensures.idle.2) c.attach_some.ensures.machine c.in-Ok-open.ensures.opens.told
           (subst (λ s. IfSome (g.P.Port.port_state c.attach_some.new.port).device (λ d. (d.shape ≡ s) × (d.set ≡ cleared s))) (ap (λ s. s.shape) c.in-Ok-link_of.ensures.set)
           (c.attach_some.ensures.fresh c.if-not-attach_some.false));
     }
