@@ -1,7 +1,7 @@
 """Faults that come and go by a schedule, within a cycle too.
 
-A line is a time or two and a fault in the words of a fault file: `399.3.0 stuck0 r.l3` is there from then on, and
-`399.3.0 399.3.1 open r.p0 r.l1` up to the second time, without it. A time is LOAD.CYCLE.INSTANT, and what is left out is 0: loads
+A line is a time or two and a fault in the words of a fault file: `317.3.0 stuck0 r.l3` is there from then on, and
+`317.3.0 317.3.1 open r.p0 r.l1` up to the second time, without it. A time is LOAD.CYCLE.INSTANT, and what is left out is 0: loads
 count from 1 on, the cycles of a load from 0, and of a cycle of n ticks these are the instants 0 to n - 1, and its reading, with
 the clock edge, is instant n. A load is made with the faults of its first instant.
 """

@@ -1,3 +1,4 @@
 pub mod Driven
+mod Logging
 pub mod OneByOne
 mod SameSets

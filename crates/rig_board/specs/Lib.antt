@@ -4,4 +4,5 @@ pub mod Codes
 pub mod Device
 pub mod Kept
 pub mod Linked
+pub mod Machines
 pub mod Rows

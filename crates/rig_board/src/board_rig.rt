@@ -6,6 +6,7 @@ ghost use Rattle.rig_board.specs.Codes.{coded_config_told as configs, coded_cycl
 ghost use Rattle.rig_board.specs.Device.{faults_told};
 ghost use Rattle.rig_board.specs.Kept.{session_of, past_of};
 ghost use Rattle.rig_board.specs.Linked.{IsLinked};
+ghost use Rattle.rig_board.specs.Machines.{AreLogged};
 
 use crate::Board;
 use crate::kept::Kept;
@@ -29,6 +30,7 @@ pub struct BoardRig<B: Board> {
     past: Log<Kept>,
     loads: u64,
     ghost linked: { IsLinked (B.board_state board) (option_map (λ m. m.shape) machine) kept } by { Prim.hlevel (props, configs, cycles) },
+    ghost logged: { AreLogged (B.may_be board) (map past_of past.items) (option_map session_of kept) } by { Prim.hlevel (props, configs, cycles) },
 }
 
 impl<B: Board> BoardRig<B> {

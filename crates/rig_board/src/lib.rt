@@ -7,8 +7,10 @@
 
 mod board;
 mod board_rig;
+mod exact;
 mod keeping;
 mod kept;
 
 pub use board::Board;
 pub use board_rig::BoardRig;
+pub use exact::log_explained;

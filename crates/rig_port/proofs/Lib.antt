@@ -1,5 +1,6 @@
 mod Alarm
 mod Answered
+mod Behind
 mod Closings
 mod Edited
 mod Heard
@@ -12,5 +13,6 @@ mod Resumed
 mod Room
 mod Settings
 mod Spelled
+mod Standing
 mod Taken
 mod Turned

@@ -1,8 +1,11 @@
 -- Lines of a recorded talk.
 use Rattle.std.proofs.Common.{◌≡◌, ◌≢◌, ℕ, suc, ◌+◌, ◌-◌, ◌^◌, ◌≤◌, ◌<◌, min, List, [], ◌∷◌, ◌++◌, take, drop, length, get_or, All, refl, sym, ap, ◌∙◌, arith, subst}
-use Rattle.std.proofs.lemmas.List.{append_assoc, drop-drop, length-append, length-drop, length-take-le, take-append-drop, take_all}
+use Rattle.std.proofs.lemmas.List.{append-nil, append_assoc, drop-drop, length-append, length-drop, length-take-le, take-append-drop, take_all}
 use Rattle.rig_port.specs.FilePorts.{IsLine}
-use Rattle.rig_port.specs.Replays.{HasReplayed, IsDue}
+use Rattle.rig_port.specs.Replays.{HasReplayed, IsDue, BeginsWith, recorded_of}
+use Rattle.rig_port.specs.Said.{Said}
+use Rattle.rig_port.specs.Transcripts.{and_said}
+use Rattle.std.proofs.lemmas.Grind.{flat_map-append}
 
 abbrev AreInner : List ℕ → Type 0
 AreInner bytes = All (λ byte. byte ≢ 10) bytes
@@ -95,3 +98,15 @@ no_reply at next recorded request room asked here there_is small other d =
     let there = next_place at next recorded request asked here there_is small in
     let parts = one_line request request (drop (length request) (drop at recorded)) (d.line ++ d.rest) asked d.asked (sym here ∙ d.left_is ∙ append_assoc request d.line d.rest) in
     other d.line d.rest d.replied d.few (ap (λ k. drop k recorded) there ∙ sym (drop_more at (length request) recorded) ∙ parts.1)
+
+recorded_more : (talk : List Said) (request line : List ℕ) → recorded_of (and_said talk request line) ≡ recorded_of talk ++ (request ++ line)
+recorded_more talk request line =
+    flat_map-append (λ (s : Said). s.request ++ s.line) talk (record { request = request; line = line } ∷ [])
+    ∙ ap (λ t. recorded_of talk ++ t) (append-nil (request ++ line))
+
+-- what was said of a recording is its beginning
+pub begun_more : (recorded : List ℕ) (at end : ℕ) (talk now : List Said) (request line : List ℕ) → HasReplayed (drop at recorded) (drop end recorded) request line → now ≡ and_said talk request line
+    → BeginsWith recorded at talk → BeginsWith recorded end now
+begun_more recorded at end talk now request line h is b =
+    b ∙ ap (λ t. recorded_of talk ++ t) h.left ∙ sym (append_assoc (recorded_of talk) (request ++ line) (drop end recorded))
+    ∙ ap (λ t. t ++ drop end recorded) (sym (recorded_more talk request line) ∙ ap recorded_of (sym is))

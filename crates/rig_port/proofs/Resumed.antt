@@ -1,10 +1,10 @@
 -- A session that was made again is the one that was.
-use Rattle.std.proofs.Common.{◌≡◌, get_or, ℕ, suc, zero, ◌+◌, ◌≤◌, ◌<◌, Bool, true, false, List, [], ◌∷◌, ◌++◌, map, length, take, drop, set, All, Option, None, Some, refl, sym, ap, ◌∙◌, arith, subst, IfSome, IsSome, is_some, option_map, Result, Ok, Err, OnOk, OnErr, ◌⊎◌, inl, inr, ◌^◌, ◌-◌, min}
+use Rattle.std.proofs.Common.{◌≡◌, get_or, ℕ, suc, zero, ◌+◌, ◌≤◌, ◌<◌, Bool, true, false, List, [], ◌∷◌, ◌++◌, length, take, set, All, Option, None, Some, refl, sym, ap, ◌∙◌, arith, subst, IfSome, is_some, option_map, Result, Ok, Err, OnOk, OnErr, ◌⊎◌, inl, inr, ◌-◌}
 use Rattle.std.proofs.Math.Bool.{beq}
 use lib.Pointwise.{pointwise}
 use Rattle.std.proofs.lemmas.Bool.{false≢true}
-use Rattle.std.proofs.lemmas.List.{append_assoc, append-nil, length-append, length-drop, length-map, length-take-le, take_more_set, length-set}
-use Rattle.std.proofs.lemmas.List.Elements.{All-set, All-take, All-drop, All-append}
+use Rattle.std.proofs.lemmas.List.{length-map, length-take-le, take_more_set, length-set}
+use Rattle.std.proofs.lemmas.List.Elements.{All-set}
 use Rattle.rig_board.proofs.OneByOne.{lengths_kept}
 use Rattle.machine_shape.specs.declared.Shape.{Shape}
 use Rattle.machine_shape.specs.Shape.{pins_of}
@@ -12,12 +12,13 @@ use Rattle.machine_meaning.specs.Vocabulary.{Pins, Faults}
 use Rattle.machine_config.specs.Configuration.{Configuration, cleared}
 use Rattle.base_io.specs.Counts.{Rose}
 use Rattle.rig.specs.Flaky.{both_counts}
-use Rattle.rig.specs.Rig.{Exchange, Session, KeepLengths, drives_of, readings_of}
+use Rattle.rig.specs.Rig.{Exchange, KeepLengths, drives_of, readings_of}
 use Rattle.rig_board.specs.Device.{Device, IsInSession, HasRunSession, GoesOnWith, WhereTold}
 use Rattle.rig_board.proofs.Driven.{same_pairs}
 use Rattle.rig_port.specs.declared.again.Again.{Again}
 use Rattle.rig_port.specs.declared.link.Link.{Link}
 use Rattle.rig_port.specs.Requests.{edited, IsEditOf, AreWide, edits_text}
+use Rattle.rig_port.specs.Stands.{AllStandUp}
 use Rattle.rig_port.specs.Turns.{CanTurn}
 use Rattle.std.specs.Option.{option_map_or}
 use Rattle.std.specs.Prelude.{vec_len}
@@ -25,7 +26,7 @@ use Rattle.std.specs.Vec.{vec_capacity}
 use Rattle.rig_port.specs.Lines.{AreCounts, turn_room}
 use Rattle.rig_port.specs.Boards.{IsHeld, IsUp}
 use Rattle.rig_port.specs.Answers.{start_of}
-use Rattle.rig_port.specs.Ports.{PortState, machine_told}
+use Rattle.rig_port.specs.Ports.{PortState}
 use Rattle.rig_port.specs.Linked.{AreEdited, IsPosted, IsLinked, HasTurned, told_with}
 use Rattle.rig_port.specs.Sessions.{SetsAnew, HasRows, CanResume, HasMade, IsOf, KeepsSession, kept_drives, kept_reads, kept_pairs, paired}
 use Rattle.rig_port.proofs.Alarm.{told_map}
@@ -80,7 +81,7 @@ went_on pairs g cycles (Some d) None at w = absurd w
 went_on pairs g cycles (Some d) (Some e) at w = (w.goes_on g cycles at, w.run)
 
 -- these pairs are those of the drives and readings
-turned_pairs : (drives reads : List Pins) (pairs : List Exchange) → drives_of pairs ≡ drives → readings_of pairs ≡ reads → pairs ≡ paired drives reads
+pub turned_pairs : (drives reads : List Pins) (pairs : List Exchange) → drives_of pairs ≡ drives → readings_of pairs ≡ reads → pairs ≡ paired drives reads
 turned_pairs drives reads pairs driven read =
     let many : length drives ≡ length reads = sym (ap length driven) ∙ length_drives pairs ∙ ap length read in
     same_pairs pairs (paired drives reads) (driven ∙ sym (drives_paired drives reads many)) (read ∙ sym (readings_paired drives reads many))
@@ -331,8 +332,11 @@ resumes_behind (Err _) device l a config rows made posted words lost = lost_resu
 -- what is held of a link that is there
 pub held_here : {l : Link} {o : Option Link} (port : PortState) (found : Option Shape) (again : Again) → Some l ≡ o → IsUp port found o again → IsHeld port found l
 held_here {l} port found again there up =
-    let both : IsHeld port found l × CanResume port.device l again = subst (λ (x : Option Link). IsUp port found x again) (sym there) up in
+    let both : IsHeld port found l × CanResume port.device l again × AllStandUp l again = subst (λ (x : Option Link). IsUp port found x again) (sym there) up in
     both.0
+
+pub running_here : {l : Link} {o : Option Link} → Some l ≡ o → option_map_or (λ (l : Link). l.running) o false ≡ true → l.running ≡ true
+running_here there session = ap (λ (o : Option Link). option_map_or (λ (l : Link). l.running) o false) there ∙ session
 
 -- a board in session can make cycles
 pub ready_here : {o : Option Link} (port : PortState) (found : Option Shape) (again : Again) (l : Link) (drives : List Pins) → Some l ≡ o → IsUp port found o again

@@ -14,7 +14,7 @@ use Rattle.rig_port.specs.Lines.{line_of, reading_body, reading_line}
 use Rattle.rig_port.specs.Requests.{edited, IsEditOf, AreWide, drives_text, led_drives, load_body, load_line}
 use Rattle.rig_port.specs.Answers.{Answers, Reads, Loads, Drives, start_of}
 use Rattle.rig_port.specs.Linked.{IsLinked, HasTurned, told_with}
-use Rattle.rig_port.specs.Sessions.{pair, paired}
+use Rattle.rig_port.specs.Sessions.{paired}
 use Rattle.rig_port.proofs.Alarm.{IsAsked}
 use Rattle.rig_port.proofs.Readings.{AreOf, one_reading}
 

@@ -1,5 +1,5 @@
 -- What a board over a port means, by what it keeps.
-use Rattle.std.specs.Prelude.{◌≡◌, ℕ, ◌+◌, ◌≤◌, true, false, List, vec_len, Option, Some, IfSome, IsSome, is_some}
+use Rattle.std.specs.Prelude.{◌≡◌, ℕ, ◌+◌, ◌≤◌, true, false, List, vec_len, Option, None, Some, IfSome, IsSome, is_some}
 use Rattle.std.specs.Vec.{vec_capacity}
 use Rattle.std.specs.Option.{option_map_or}
 use Rattle.machine_shape.specs.declared.Shape.{Shape}
@@ -10,18 +10,23 @@ use Rattle.rig_port.specs.declared.check.Check.{Check}
 use Rattle.rig_port.specs.Checks.{after}
 use Rattle.rig_port.specs.Lines.{line_of, turn_room}
 use Rattle.rig_port.specs.Ports.{PortState}
-use Rattle.rig_port.specs.Linked.{PortBoardState, IsLinked, told_with}
+use Rattle.rig_port.specs.Linked.{PortBoardState, IsLinked, told_with, waiting}
 use Rattle.rig_port.specs.declared.again.Again.{Again}
+use Rattle.rig_port.specs.Said.{Said}
 use Rattle.rig_port.specs.Sessions.{CanResume}
+use Rattle.rig_port.specs.Stands.{AllStandUp}
 
 -- its count of failures is the port's and its own together
-abbrev pub state_of : PortState → Option Shape → Option Link → ℕ → ℕ → PortBoardState
-state_of port found link number failures = record {
+abbrev pub state_of : PortState → Option Shape → Option Link → List Said → ℕ → ℕ → PortBoardState
+state_of port found link past number failures = record {
   found = found;
   is_up = is_some link;
   in_session = option_map_or (λ l. l.running) link false;
   is_due = option_map_or (λ l. l.due) link false;
   device = option_map_or (λ l. told_with l.due l.set.config port.device) link port.device;
+  waits = option_map_or (λ l. waiting l.due l.set.config) link None;
+  talk = option_map_or (λ l. l.talk) link past;
+  port_talk = port.talk;
   number = number;
   port_failures = port.failures;
   failures = both_counts failures port.failures;
@@ -48,7 +53,7 @@ pub record IsHeld (port : PortState) (found : Option Shape) (l : Link) : Type 0 
   pub room : HasRoom (pins_of l.set.config.shape) l
 
 abbrev pub IsUp : PortState → Option Shape → Option Link → Again → Type 0
-IsUp port found link again = IfSome link (λ l. IsHeld port found l × CanResume port.device l again)
+IsUp port found link again = IfSome link (λ l. IsHeld port found l × CanResume port.device l again × AllStandUp l again)
 
 -- after turns the configuration is as it was, and what is kept goes with the machine
 pub record IsKeptUp (port : PortState) (old new : Link) : Type 0 where

@@ -10,6 +10,7 @@ use Rattle.rig.specs.Rig.{Exchange, Session}
 use Rattle.rig_board.specs.Codes.{coded_exchange}
 use Rattle.rig_board.specs.Device.{Device}
 use Rattle.rig_port.specs.Linked.{PortBoardState}
+use Rattle.rig_port.specs.Said.{Said, coded_talk}
 
 abbrev pub coded_session : Coded Session
 coded_session = code_by (Configuration × (List Exchange × ℕ)) (coded× coded_configuration (coded× (coded_list coded_exchange) coded_ℕ))
@@ -21,19 +22,22 @@ coded_device = code_by ((Shape × Faults) × (Configuration × Option Session))
     (λ d. ((d.shape, d.faults), (d.set, d.session)))
     (λ p. record { shape = p.0.0; faults = p.0.1; set = p.1.0; session = p.1.1 }) (λ _. refl)
 
-abbrev pub coded_told : Coded (Option Device × (ℕ × (ℕ × ℕ)))
-coded_told = coded× (coded_option coded_device) (coded× coded_ℕ (coded× coded_ℕ coded_ℕ))
+abbrev pub coded_told : Coded ((Option Device × Option Configuration) × (ℕ × (ℕ × ℕ)))
+coded_told = coded× (coded× (coded_option coded_device) (coded_option coded_configuration)) (coded× coded_ℕ (coded× coded_ℕ coded_ℕ))
 
 abbrev pub coded_board : Coded PortBoardState
-coded_board = code_by ((Option Shape × (Bool × (Bool × Bool))) × (Option Device × (ℕ × (ℕ × ℕ))))
-    (coded× (coded× (coded_option shape.the_row.coded) (coded× coded_bool (coded× coded_bool coded_bool))) coded_told)
-    (λ s. ((s.found, (s.is_up, (s.in_session, s.is_due))), (s.device, (s.number, (s.port_failures, s.failures)))))
+coded_board = code_by (((Option Shape × (Bool × (Bool × Bool))) × (List Said × List Said)) × ((Option Device × Option Configuration) × (ℕ × (ℕ × ℕ))))
+    (coded× (coded× (coded× (coded_option shape.the_row.coded) (coded× coded_bool (coded× coded_bool coded_bool))) (coded× coded_talk coded_talk)) coded_told)
+    (λ s. (((s.found, (s.is_up, (s.in_session, s.is_due))), (s.talk, s.port_talk)), ((s.device, s.waits), (s.number, (s.port_failures, s.failures)))))
     (λ p. record {
-      found = p.0.0;
-      is_up = p.0.1.0;
-      in_session = p.0.1.1.0;
-      is_due = p.0.1.1.1;
-      device = p.1.0;
+      found = p.0.0.0;
+      is_up = p.0.0.1.0;
+      in_session = p.0.0.1.1.0;
+      is_due = p.0.0.1.1.1;
+      device = p.1.0.0;
+      waits = p.1.0.1;
+      talk = p.0.1.0;
+      port_talk = p.0.1.1;
       number = p.1.1.0;
       port_failures = p.1.1.1.0;
       failures = p.1.1.1.1;

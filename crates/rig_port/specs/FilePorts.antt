@@ -2,12 +2,14 @@
 use Rattle.std.specs.Prelude.{◌≡◌, ◌≢◌, ◌⊎◌, ℕ, ◌-◌, ◌^◌, ◌≤◌, Bool, true, List, [], ◌∷◌, ◌++◌, get_or, codes, min, length, All, Option, None, IfSome, IsNone, MatchOption}
 use Rattle.std.specs.Io.KnownBytes.{Appends, Consumes, prepend_known}
 use Rattle.rig_port.specs.Checks.{fresh_check}
+use Rattle.rig_port.specs.Said.{Said}
 use Rattle.rig_port.specs.Ports.{PortState}
 use Rattle.rig_port.specs.declared.talk.Ends.{Ends}
 
 -- what they mean as a port: no machine is told
-abbrev pub file_port_state : Bool → ℕ → PortState
-file_port_state is_open failures = record { is_open = is_open; device = None; check = fresh_check; failures = min failures (2 ^ 64 - 1) }
+abbrev pub file_port_state : Bool → List Said → ℕ → PortState
+file_port_state is_open talk failures =
+    record { is_open = is_open; device = None; check = fresh_check; talk = talk; failures = min failures (2 ^ 64 - 1) }
 
 -- what reads give from here on, where it is known: bytes that were read and not yet used, and then those that the file has left
 abbrev pub ahead : List ℕ → Option (List ℕ) → Option (List ℕ)

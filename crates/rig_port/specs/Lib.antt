@@ -10,5 +10,8 @@ pub mod Ports
 pub mod Replays
 pub mod Requests
 pub mod RigPorts
+pub mod Said
 pub mod Sessions
+pub mod Stands
+pub mod Transcripts
 pub mod Turns

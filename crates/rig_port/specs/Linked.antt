@@ -1,5 +1,5 @@
 -- What a board over a port keeps beside the machine at the other end.
-use Rattle.std.specs.Prelude.{◌≡◌, ℕ, Bool, true, false, List, [], ◌++◌, Option, Some, IfSome, IsSome, All, option_map}
+use Rattle.std.specs.Prelude.{◌≡◌, ℕ, Bool, true, false, List, [], ◌++◌, Option, None, Some, IfSome, IsSome, All, option_map}
 use Rattle.machine_shape.specs.declared.Shape.{Shape}
 use Rattle.machine_meaning.specs.Circuit.{Pins}
 use Rattle.machine_config.specs.Configuration.{Configuration}
@@ -8,6 +8,7 @@ use Rattle.rig_board.specs.Boards.{BoardState}
 use Rattle.rig_board.specs.Device.{Device, HasRunSession, GoesOnWith, WhereTold}
 use Rattle.rig_port.specs.Requests.{Edit, edited, IsEditOf, edits_text, start_text}
 use Rattle.rig_port.specs.Answers.{start_of}
+use Rattle.rig_port.specs.Said.{Said}
 
 -- what it means
 pub record PortBoardState : Type 0 where
@@ -18,6 +19,11 @@ pub record PortBoardState : Type 0 where
   -- whether a load waits to be sent
   pub is_due : Bool
   pub device : Option Device
+  -- the load that waits to be sent
+  pub waits : Option Configuration
+  -- what it took for answers since the last `find` began, and what its port was asked and answered
+  pub talk : List Said
+  pub port_talk : List Said
   -- the number under which the machine was asked last what it is
   pub number : ℕ
   -- those of its port alone, and all
@@ -31,6 +37,11 @@ board_of s = record { found = s.found; in_session = s.in_session; device = s.dev
 abbrev pub told_with : Bool → Configuration → Option Device → Option Device
 told_with true g device = option_map (λ (d : Device). record d { session = Some (record { config = g; cycles = []; spare = 0 }) }) device
 told_with false g device = device
+
+-- the load that waits, where one is due
+abbrev pub waiting : Bool → Configuration → Option Configuration
+waiting true g = Some g
+waiting false g = None
 
 -- these edits are appended to a line, and made
 pub record AreEdited (g : Configuration) (line : List ℕ) (h : Configuration) (more : List ℕ) : Type 0 where

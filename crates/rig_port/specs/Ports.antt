@@ -1,10 +1,11 @@
 -- A port: a request is sent, and a line comes back.
-use Rattle.std.specs.Prelude.{◌≡◌, ℕ, ◌≤◌, Bool, true, Option, IfSome, option_map}
+use Rattle.std.specs.Prelude.{◌≡◌, ℕ, ◌≤◌, Bool, true, List, Option, IfSome, option_map}
 use Rattle.machine_shape.specs.declared.Shape.{Shape}
 use Rattle.machine_meaning.specs.Faults.{Faults, AreFaultsOf}
 use Rattle.base_io.specs.Counts.{Rose}
 use Rattle.rig_board.specs.Device.{Device}
 use Rattle.rig_port.specs.Lines.{AreCounts}
+use Rattle.rig_port.specs.Said.{Said}
 use Rattle.rig_port.specs.declared.check.Check.{Check}
 use Rattle.rig_port.specs.declared.port.PortFail.{PortFail}
 use Rattle.rig_port.specs.declared.port.PortFail.TheVariants as port
@@ -16,6 +17,8 @@ pub record PortState : Type 0 where
   pub device : Option Device
   -- and its running check
   pub check : Check
+  -- what it was asked and answered since it was made
+  pub talk : List Said
   -- a count that never falls
   pub failures : ℕ
 

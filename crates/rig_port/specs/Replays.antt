@@ -1,6 +1,7 @@
 -- A recorded talk as a port.
-use Rattle.std.specs.Prelude.{◌≡◌, ℕ, ◌≤◌, List, ◌++◌, length}
+use Rattle.std.specs.Prelude.{◌≡◌, ℕ, ◌≤◌, List, ◌++◌, length, drop, flat_map}
 use Rattle.rig_port.specs.FilePorts.{IsLine}
+use Rattle.rig_port.specs.Said.{Said}
 
 -- a request stood in front of all that was left of a recording, and then a line; what is left now stood behind them
 pub record HasReplayed (old new request line : List ℕ) : Type 0 where
@@ -16,3 +17,11 @@ pub record IsDue (left request : List ℕ) (room : ℕ) : Type 0 where
   pub replied : IsLine line
   pub few : length line ≤ room
   pub left_is : left ≡ request ++ line ++ rest
+
+-- what was said, as it is recorded
+abbrev pub recorded_of : List Said → List ℕ
+recorded_of talk = flat_map (λ s. s.request ++ s.line) talk
+
+-- a recording begins with what was said, and the rest is left
+abbrev pub BeginsWith : List ℕ → ℕ → List Said → Type 0
+BeginsWith recorded at talk = recorded ≡ recorded_of talk ++ drop at recorded

@@ -1,9 +1,8 @@
 -- A rig as the other end of a port.
 use Rattle.std.specs.Prelude.{◌≡◌, ℕ, ◌+◌, ◌-◌, ◌^◌, ◌<◌, min, Bool, true, false, if◌then◌else◌}
-use Rattle.std.specs.Prelude.{List, [], ◌++◌, map, length, All, Option, Some, None, IfSome, IsSome, is_some, option_map}
+use Rattle.std.specs.Prelude.{List, [], ◌++◌, map, length, All, Option, Some, None, is_some, option_map}
 use Rattle.std.specs.Option.{option_map_or}
 use Rattle.machine_shape.specs.declared.Shape.{Shape}
-use Rattle.machine_shape.specs.Shape.{pins_of}
 use Rattle.machine_meaning.specs.Circuit.{Pins}
 use Rattle.machine_config.specs.Configuration.{Configuration, cleared}
 use Rattle.rig.specs.Rig.{RigState, Exchange, shape_of, config_of, cycles_of, drives_of, readings_of, IsTold, KeepLengths}
@@ -14,6 +13,7 @@ use Rattle.rig_port.specs.Checks.{after}
 use Rattle.rig_port.specs.Lines.{line_of, counts_body, reading_body, reading_line}
 use Rattle.rig_port.specs.Requests.{Edit, Close, Open, On, Off, Tick, IsEditOf, AreWide, AreDrivesOf}
 use Rattle.rig_port.specs.Requests.{load_body, drives_text, attach_line, load_line, drives_line}
+use Rattle.rig_port.specs.Said.{Said}
 use Rattle.rig_port.specs.Ports.{PortState}
 use Rattle.rig_port.specs.declared.wanted.Change.{Change}
 use Rattle.rig_port.specs.declared.wanted.Change.TheVariants as change
@@ -43,13 +43,15 @@ pub record IsWantedOf (m : Shape) (w : Wanted) : Type 0 where
   pub drives : AreWide m w.drives.items
   pub some : w.loads ≡ false → 0 < length w.drives.items
 
--- a rig, the shape that it is to be, what is set while the port is open, whether that was loaded, the running check, and failures
+-- a rig, the shape that it is to be, what is set while the port is open, whether that was loaded, the running check, what was said,
+-- and failures
 pub record RigEnd (I : Type 0) : Type 0 where
   pub inner : I
   pub shape : Shape
   pub set : Option Configuration
   pub running : Bool
   pub check : Check
+  pub talk : List Said
   pub failures : ℕ
 
 -- the machine that it tells
@@ -65,6 +67,7 @@ rig_port_state rig e = record {
   is_open = is_some e.set;
   device = rig_device e.shape (set_or_cleared e.shape e.set) e.running rig;
   check = e.check;
+  talk = e.talk;
   failures = min e.failures (2 ^ 64 - 1);
 }
 

@@ -29,6 +29,8 @@ impl<R: Files + Drop> FileBoard<R> {
 impl<R: Files + Drop> Board for FileBoard<R> {
     ghost board_state = { λ s. ⟦<PortBoard<NamedPort<R>> as Board>⟧.board_state s.inner };
 
+    ghost may_be = { λ s. ⟦<PortBoard<NamedPort<R>> as Board>⟧.may_be s.inner };
+
     fn find(&mut self, shape: &Shape, name: &str) -> Result<(), RigFail> {
         self.inner.find(shape, name)
     }

@@ -5,8 +5,10 @@ ghost use Rattle.rig_board.specs.Device.{WhereTold};
 ghost use Rattle.rig_port.specs.Answers.{Answers};
 ghost use Rattle.rig_port.specs.Ports.{machine_told, Opens, AskFails};
 ghost use Rattle.rig_port.specs.FilePorts.{file_port_state, HaveTalked, HaveWritten};
+ghost use Rattle.rig_port.specs.Transcripts.{and_said};
 
 use crate::talk::{Ends, NoReply, Rest, talk};
+use crate::transcript::Transcript;
 use crate::{Port, PortFail};
 use std::alloc::{AllocError, Global};
 use std::fs::OpenOptions;
@@ -25,6 +27,7 @@ pub struct FilePort<R: Files + Drop> {
     ends: Option<Ends<R::File>>,
     /// How many requests there were, up to the last `u64`.
     pub asks: u64,
+    talk: Transcript,
     failures: u64,
 }
 
@@ -70,13 +73,15 @@ fn open_ends<R: Files>(alloc: Global, rt: &R, name: &str) -> io::Result<Ends<R::
 impl<R: Files + Drop> FilePort<R> {
     /// A port that isn't open, over the files of this runtime.
     pub fn new(alloc: Global, rt: R) -> Self
-        ensures { result.asks ≡ 0 }
+        ensures asks { result.asks ≡ 0 }
+        ensures talk { (⟦<FilePort<R> as Port>⟧.port_state result).talk ≡ [] }
     {
         FilePort {
             alloc,
             rt,
             ends: None,
             asks: 0,
+            talk: Transcript::new(),
             failures: 0,
         }
     }
@@ -90,6 +95,7 @@ impl<R: Files + Drop> FilePort<R> {
     pub fn close(&mut self)
         ensures closed { self.new.ends ≡ None }
         ensures asks { self.new.asks ≡ self.old.asks }
+        ensures talk { self.new.talk ≡ self.old.talk }
         ensures failures { self.new.failures ≡ self.old.failures }
     {
         self.ends = None;
@@ -97,7 +103,7 @@ impl<R: Files + Drop> FilePort<R> {
 }
 
 impl<R: Files + Drop> Port for FilePort<R> {
-    ghost port_state = { λ p. file_port_state (is_some p.ends) p.failures };
+    ghost port_state = { λ p. file_port_state (is_some p.ends) p.talk p.failures };
 
     /// What was open is closed first, and what was read is dropped. The number of asks stays.
     ///
@@ -107,6 +113,7 @@ impl<R: Files + Drop> Port for FilePort<R> {
     fn open(&mut self, name: &str) -> Result<(), PortFail>
         ensures later { (⟦<FilePort<R> as Port>⟧.port_state self.old).failures ≤ (⟦<FilePort<R> as Port>⟧.port_state self.new).failures }
         ensures count { (⟦<FilePort<R> as Port>⟧.port_state self.new).failures < 2 ^ 64 }
+        ensures talk { (⟦<FilePort<R> as Port>⟧.port_state self.new).talk ≡ (⟦<FilePort<R> as Port>⟧.port_state self.old).talk }
         ensures opens { OnOk result (Opens (⟦<FilePort<R> as Port>⟧.port_state self.new)) }
         ensures closed { OnErr result ((⟦<FilePort<R> as Port>⟧.port_state self.new).is_open ≡ false) }
         ensures refused { IsErrOf result PortFail.Failed → Rose (⟦<FilePort<R> as Port>⟧.port_state self.old).failures
@@ -147,6 +154,9 @@ impl<R: Files + Drop> Port for FilePort<R> {
             ≡ machine_told (⟦<FilePort<R> as Port>⟧.port_state self.old) }
         ensures later { (⟦<FilePort<R> as Port>⟧.port_state self.old).failures ≤ (⟦<FilePort<R> as Port>⟧.port_state self.new).failures }
         ensures count { (⟦<FilePort<R> as Port>⟧.port_state self.new).failures < 2 ^ 64 }
+        ensures said { IfOk result (λ n. (⟦<FilePort<R> as Port>⟧.port_state self.new).talk ≡ and_said (⟦<FilePort<R> as Port>⟧.port_state self.old).talk request.now
+            (take n reply.new)) }
+        ensures unsaid { OnErr result ((⟦<FilePort<R> as Port>⟧.port_state self.new).talk ≡ (⟦<FilePort<R> as Port>⟧.port_state self.old).talk) }
         ensures length { length reply.new ≡ length reply.old }
         ensures within { IfOk result (λ n. n ≤ length reply.new) }
         ensures stays { OnOk result ((⟦<FilePort<R> as Port>⟧.port_state self.new).is_open ≡ true) }
@@ -167,6 +177,7 @@ impl<R: Files + Drop> Port for FilePort<R> {
         match talk(&mut ends, request, reply) {
             Ok(count) => {
                 self.ends = Some(ends);
+                self.talk = self.talk.and(request, &reply[..count]);
                 Ok(count)
             }
             Err(NoReply::Wrong) => {

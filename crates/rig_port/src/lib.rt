@@ -11,6 +11,7 @@
 mod again;
 mod check;
 mod edits;
+mod exact;
 mod file_board;
 mod file_port;
 mod link;
@@ -25,9 +26,11 @@ mod resume;
 mod rig_port;
 mod spelling;
 mod talk;
+mod transcript;
 mod turn;
 mod wanted;
 
+pub use exact::port_exact;
 pub use file_board::FileBoard;
 pub use file_port::FilePort;
 pub use named_port::NamedPort;
@@ -35,3 +38,4 @@ pub use port::{Port, PortFail};
 pub use port_board::PortBoard;
 pub use replay_port::ReplayPort;
 pub use rig_port::RigPort;
+pub use transcript::Transcript;

@@ -1,5 +1,6 @@
 //! What a board over a port keeps while it is up.
 use crate::check::Check;
+use crate::transcript::Transcript;
 use machine_config::Config;
 
 /// The board's own configuration, the words that make the machine's of it, the running check, and buffers.
@@ -17,4 +18,6 @@ pub struct Link {
     pub check: Check,
     pub reply: Vec<u8>,
     pub expected: Vec<u8>,
+    // What was taken for answers since the machine was found.
+    pub talk: Transcript,
 }

@@ -5,6 +5,7 @@ ghost use Rattle.rig_port.specs.FilePorts.{file_port_state};
 
 use crate::file_port::{FilePort, without_times};
 use crate::replay_port::ReplayPort;
+use crate::transcript::Transcript;
 use crate::{Port, PortFail};
 use std::alloc::{AllocError, Global};
 use std::fs;
@@ -23,6 +24,7 @@ pub struct NamedPort<R: Files + Drop> {
     alloc: Global,
     files: FilePort<R>,
     replay: Option<ReplayPort>,
+    talk: Transcript,
     failures: u64,
 }
 
@@ -105,6 +107,7 @@ impl<R: Files + Drop> NamedPort<R> {
             alloc,
             files: FilePort::new(alloc, rt),
             replay: None,
+            talk: Transcript::new(),
             failures: 0,
         }
     }
@@ -115,6 +118,7 @@ impl<R: Files + Drop> NamedPort<R> {
             (⟦<FilePort<R> as Port>⟧.port_state self.new.files).is_open ≡ true) }
         ensures closed { OnErr result (option_map_or (λ r. (⟦<ReplayPort as Port>⟧.port_state r).is_open) self.new.replay
             (⟦<FilePort<R> as Port>⟧.port_state self.new.files).is_open ≡ false) }
+        ensures talk { self.new.talk ≡ self.old.talk }
         ensures failures { self.new.failures ≡ self.old.failures }
     {
         self.replay = None;
@@ -134,7 +138,7 @@ impl<R: Files + Drop> NamedPort<R> {
 
 impl<R: Files + Drop> Port for NamedPort<R> {
     ghost port_state = { λ p. file_port_state (option_map_or (λ r. (⟦<ReplayPort as Port>⟧.port_state r).is_open) p.replay
-        (⟦<FilePort<R> as Port>⟧.port_state p.files).is_open) p.failures };
+        (⟦<FilePort<R> as Port>⟧.port_state p.files).is_open) p.talk p.failures };
 
     /// Opens the files of a name, or reads a recorded talk from its beginning.
     ///
@@ -159,7 +163,10 @@ impl<R: Files + Drop> Port for NamedPort<R> {
     fn ask(&mut self, request: &[u8], reply: &mut [u8]) -> Result<usize, PortFail> {
         let failures = self.failures;
         match ask_either(&mut self.replay, &mut self.files, request, reply) {
-            Some(count) => Ok(count),
+            Some(count) => {
+                self.talk = self.talk.and(request, &reply[..count]);
+                Ok(count)
+            }
             None => {
                 self.failures = failures.saturating_add(1);
                 Err(PortFail::Failed)

@@ -4,6 +4,7 @@ ghost use Rattle.base_io.specs.Counts.{Rose};
 ghost use Rattle.rig_board.specs.Device.{WhereTold};
 ghost use Rattle.rig_port.specs.Answers.{Answers};
 ghost use Rattle.rig_port.specs.Ports.{PortState, machine_told, Opens, AskFails};
+ghost use Rattle.rig_port.specs.Transcripts.{and_said};
 
 /// Why a port isn't opened or gives no reply.
 #[derive(Clone, Copy, Debug, PartialEq, Eq)]
@@ -16,8 +17,8 @@ pub enum PortFail {
 
 /// A way to a machine: a request is sent, and a line comes back.
 ///
-/// Contracts see whether it is open, the device at the other end where the port tells one, and a count of failures, which is a
-/// `u64` and never falls. No code sees the device.
+/// Contracts see whether it is open, the device at the other end where the port tells one, the requests that were answered, each with
+/// the line that answered it, and a count of failures, which is a `u64` and never falls. No code sees the device or what was said.
 pub trait Port: Drop {
     ghost port_state: { Self → PortState };
 
@@ -29,6 +30,7 @@ pub trait Port: Drop {
     fn open(&mut self, name: &str) -> Result<(), PortFail>
         ensures later { (port_state self.old).failures ≤ (port_state self.new).failures }
         ensures count { (port_state self.new).failures < 2 ^ 64 }
+        ensures talk { (port_state self.new).talk ≡ (port_state self.old).talk }
         ensures opens { OnOk result (Opens (port_state self.new)) }
         ensures closed { OnErr result ((port_state self.new).is_open ≡ false) }
         ensures refused { IsErrOf result PortFail.Failed → Rose (port_state self.old).failures (port_state self.new).failures };
@@ -51,6 +53,8 @@ pub trait Port: Drop {
         ensures machine { machine_told (port_state self.new) ≡ machine_told (port_state self.old) }
         ensures later { (port_state self.old).failures ≤ (port_state self.new).failures }
         ensures count { (port_state self.new).failures < 2 ^ 64 }
+        ensures said { IfOk result (λ n. (port_state self.new).talk ≡ and_said (port_state self.old).talk request.now (take n reply.new)) }
+        ensures unsaid { OnErr result ((port_state self.new).talk ≡ (port_state self.old).talk) }
         ensures length { length reply.new ≡ length reply.old }
         ensures within { IfOk result (λ n. n ≤ length reply.new) }
         ensures stays { OnOk result ((port_state self.new).is_open ≡ true) }

@@ -8,10 +8,13 @@ ghost use Rattle.base_io.specs.Counts.{Rose};
 ghost use Rattle.rig.specs.Flaky.{both_counts};
 ghost use Rattle.rig.specs.Rig.{KeepLengths};
 ghost use Rattle.rig_board.specs.Boards.{width_found, Finds, SetsUp, HasCycled, HasCycledAll, AreRowsOf, HasFailed};
-ghost use Rattle.rig_board.specs.Device.{Device, faults_told};
+ghost use Rattle.rig_board.specs.Device.{Device, IsInSession, faults_told};
+ghost use Rattle.rig_board.specs.Machines.{EachWas, Narrows, GoesOnBy};
 ghost use Rattle.rig_port.specs.Lines.{turn_room};
 ghost use Rattle.rig_port.specs.Linked.{IsPosted, board_of};
 ghost use Rattle.rig_port.specs.Sessions.{SetsAnew, HasRows, CanResume};
+ghost use Rattle.rig_port.specs.Transcripts.{GoOn};
+ghost use Rattle.rig_port.specs.Stands.{MayBe};
 
 use crate::again::Again;
 use crate::check::Check;
@@ -20,6 +23,7 @@ use crate::link::Link;
 use crate::port::{Port, PortFail};
 use crate::question::{FIRST, attach_some, put_question, room_for};
 use crate::resume::drive_on;
+use crate::transcript::Transcript;
 use machine_config::Config;
 use machine_shape::Shape;
 use rig::{PinBits, RigFail};
@@ -44,6 +48,8 @@ pub struct PortBoard<P: Port> {
     // While the board is up.
     link: Option<Link>,
     again: Again,
+    // What was taken for answers before it went down.
+    past: Transcript,
     failures: u64,
 }
 
@@ -58,7 +64,7 @@ impl<P: Port> Model for PortBoard<P> {
 
     ghost use Rattle.rig_port.specs.Boards.{state_of, IsUp};
 
-    ghost view = { λ b. state_of (P.port_state b.port) b.found b.link b.again.number b.failures };
+    ghost view = { λ b. state_of (P.port_state b.port) b.found b.link b.past b.again.number b.failures };
 
     ghost invariant = { λ b. IsUp (P.port_state b.port) b.found b.link b.again };
 }
@@ -68,6 +74,7 @@ fn link_of(alloc: Global, shape: Shape) -> Result<Link, AllocError>
     ensures set { IfOk result (λ l. l.set.config ≡ cleared shape) }
     ensures line { IfOk result (λ l. l.line.items ≡ []) }
     ensures expected { IfOk result (λ l. l.expected.items ≡ []) }
+    ensures talk { IfOk result (λ l. l.talk ≡ []) }
     ensures idle { IfOk result (λ l. (l.anew ≡ false) × (l.running ≡ false) × (l.due ≡ false) × (l.lost ≡ false)) }
 {
     Ok(Link {
@@ -80,6 +87,7 @@ fn link_of(alloc: Global, shape: Shape) -> Result<Link, AllocError>
         check: Check::new(),
         reply: vec![in alloc; 0u8; MOST_REPLY]?,
         expected: Vec::new(alloc),
+        talk: Transcript::new(),
     })
 }
 
@@ -88,6 +96,7 @@ fn restart(link: &mut Link) -> Result<(), AllocError>
     ensures shape { link.new.set.config.shape ≡ link.old.set.config.shape }
     ensures expected { link.new.expected ≡ link.old.expected }
     ensures check { link.new.check ≡ link.old.check }
+    ensures talk { link.new.talk ≡ link.old.talk }
     ensures idle { (link.new.running ≡ link.old.running) × (link.new.due ≡ link.old.due) × (link.new.lost ≡ link.old.lost) }
     ensures posted { OnOk result ((device : Option Device) → IfSome device (λ d. d.shape ≡ link.old.set.config.shape) →
         IsPosted device link.new.set.config link.new.line.items link.new.anew) }
@@ -104,6 +113,7 @@ fn begin(link: &mut Link) -> Result<(), AllocError>
     ensures shape { link.new.set.config.shape ≡ link.old.set.config.shape }
     ensures expected { link.new.expected ≡ link.old.expected }
     ensures check { link.new.check ≡ link.old.check }
+    ensures talk { link.new.talk ≡ link.old.talk }
     ensures idle { (link.new.running ≡ false) × (link.new.due ≡ false) × (link.new.lost ≡ true) }
     ensures posted { OnOk result ((device : Option Device) → IfSome device (λ d. d.shape ≡ link.old.set.config.shape) →
         (link.old.lost ≡ false → IsPosted device link.old.set.config link.old.line.items link.old.anew) →
@@ -127,6 +137,7 @@ fn add_edits(alloc: Global, link: &mut Link, config: &Config) -> Result<(), Allo
     ensures shape { link.new.set.config.shape ≡ link.old.set.config.shape }
     ensures expected { link.new.expected ≡ link.old.expected }
     ensures check { link.new.check ≡ link.old.check }
+    ensures talk { link.new.talk ≡ link.old.talk }
     ensures idle { (link.new.running ≡ link.old.running) × (link.new.due ≡ link.old.due) × (link.new.lost ≡ link.old.lost) }
     ensures made { OnOk result (link.new.set.config ≡ config.now.config) }
     ensures posted { OnOk result ((device : Option Device) → IsPosted device link.old.set.config link.old.line.items link.old.anew →
@@ -178,6 +189,7 @@ fn shorten(link: &mut Link, whole: &[u8]) -> Result<(), AllocError>
     ensures set { link.new.set ≡ link.old.set }
     ensures expected { link.new.expected ≡ link.old.expected }
     ensures check { link.new.check ≡ link.old.check }
+    ensures talk { link.new.talk ≡ link.old.talk }
     ensures idle { (link.new.running ≡ link.old.running) × (link.new.due ≡ link.old.due) × (link.new.lost ≡ link.old.lost) }
     ensures shortest { OnOk result (vec_len link.new.line ≤ length whole.now) }
     ensures edited { OnOk result (vec_len link.new.line ≡ 0 → length whole.now ≤ 2) }
@@ -207,6 +219,7 @@ fn post(
     ensures shape { link.new.set.config.shape ≡ link.old.set.config.shape }
     ensures expected { link.new.expected ≡ link.old.expected }
     ensures check { link.new.check ≡ link.old.check }
+    ensures talk { link.new.talk ≡ link.old.talk }
     ensures room { OnOk result (vec_len link.new.line + turn_room (pins_of link.new.set.config.shape) ≤ vec_capacity link.new.line) }
     ensures linked { OnOk result ((device : Option Device) → IfSome device (λ d. d.shape ≡ link.old.set.config.shape) →
         (link.old.lost ≡ false → IsPosted device link.old.set.config link.old.line.items link.old.anew) →
@@ -245,6 +258,7 @@ fn post_session(
     ensures shape { link.new.set.config.shape ≡ link.old.set.config.shape }
     ensures expected { link.new.expected ≡ link.old.expected }
     ensures check { link.new.check ≡ link.old.check }
+    ensures talk { link.new.talk ≡ link.old.talk }
     ensures room { OnOk result (vec_len link.new.line + turn_room (pins_of link.new.set.config.shape) ≤ vec_capacity link.new.line) }
     ensures linked { OnOk result ((device : Option Device) → IfSome device (λ d. d.shape ≡ link.old.set.config.shape) →
         (link.old.lost ≡ false → IsPosted device link.old.set.config link.old.line.items link.old.anew) →
@@ -269,6 +283,9 @@ impl<P: Port> PortBoard<P> {
           in_session = false;
           is_due = false;
           device = (P.port_state port).device;
+          waits = None;
+          talk = [];
+          port_talk = (P.port_state port).talk;
           number = 0;
           port_failures = (P.port_state port).failures;
           failures = both_counts 0 (P.port_state port).failures;
@@ -280,6 +297,7 @@ impl<P: Port> PortBoard<P> {
             found: None,
             link: None,
             again: Again::new(alloc),
+            past: Transcript::new(),
             failures: 0,
         }
     }
@@ -287,6 +305,8 @@ impl<P: Port> PortBoard<P> {
 
 impl<P: Port> Board for PortBoard<P> {
     ghost board_state = { board_of };
+
+    ghost may_be = { MayBe };
 
     /// Opens the port, and asks the machine what it is, at most three times. The board is up after an `Ok`, and isn't after a refusal.
     /// Where a machine of this shape is told, it answers `Failed` only where the port failed.
@@ -304,12 +324,14 @@ impl<P: Port> Board for PortBoard<P> {
             (⟦<PortBoard<P> as Board>⟧.board_state self.new).failures }
         ensures alarm { IsErrOf result RigFail.Failed → IfSome self.new.device (λ d. d.shape ≡ shape.now →
             Rose self.old.port_failures self.new.port_failures) }
+        ensures taken { GoOn [] self.new.talk self.old.port_talk self.new.port_talk }
         ensures up { OnOk result (self.new.is_up ≡ true) }
         ensures down { OnErr result (self.new.is_up ≡ false) }
         ensures again { OnOk result ((self.new.number ≡ 1) ⊎ Rose self.old.failures self.new.failures) }
     {
         self.found = None;
         self.link = None;
+        self.past = Transcript::new();
         let Ok(()) = self.again.make_rows(self.alloc, shape.pins()) else {
             return Err(RigFail::Memory);
         };
@@ -357,6 +379,11 @@ impl<P: Port> Board for PortBoard<P> {
         ensures begins { OnOk result (SetsUp config.now.config (⟦<PortBoard<P> as Board>⟧.board_state self.new)) }
         ensures refused { IsErrOf result RigFail.Failed → Rose (⟦<PortBoard<P> as Board>⟧.board_state self.old).failures
             (⟦<PortBoard<P> as Board>⟧.board_state self.new).failures }
+        ensures set_for_each { OnOk result (EachWas (λ o d. IsInSession config.now.config [] d) (⟦<PortBoard<P> as Board>⟧.may_be self.old)
+            (⟦<PortBoard<P> as Board>⟧.may_be self.new)) }
+        ensures narrows { Narrows (⟦<PortBoard<P> as Board>⟧.may_be self.old)
+            (⟦<PortBoard<P> as Board>⟧.may_be self.new) }
+        ensures taken { (self.new.talk ≡ self.old.talk) × (self.new.port_talk ≡ self.old.port_talk) }
         ensures up { IsErrOf result RigFail.Failed → self.old.is_up ≡ false }
         ensures down { self.old.is_up ≡ false → IsErrOf result RigFail.Failed }
         ensures stays { self.new.is_up ≡ self.old.is_up }
@@ -399,6 +426,11 @@ impl<P: Port> Board for PortBoard<P> {
             (⟦<PortBoard<P> as Board>⟧.board_state self.old) (⟦<PortBoard<P> as Board>⟧.board_state self.new)) }
         ensures refused { IfErr result (λ e. HasFailed e (⟦<PortBoard<P> as Board>⟧.board_state self.old)
             (⟦<PortBoard<P> as Board>⟧.board_state self.new)) }
+        ensures cycles_for_each { OnOk result (EachWas (GoesOnBy (drive.now ∷ []) (read.new ∷ [])) (⟦<PortBoard<P> as Board>⟧.may_be self.old)
+            (⟦<PortBoard<P> as Board>⟧.may_be self.new)) }
+        ensures narrows { Narrows (⟦<PortBoard<P> as Board>⟧.may_be self.old)
+            (⟦<PortBoard<P> as Board>⟧.may_be self.new) }
+        ensures taken { GoOn self.old.talk self.new.talk self.old.port_talk self.new.port_talk }
         ensures alarm { OnErr result (IsSome self.old.device → Rose self.old.port_failures self.new.port_failures) }
         ensures up { OnOk result (self.new.is_up ≡ true) }
         ensures down { OnErr result (self.new.is_up ≡ false) }
@@ -416,6 +448,7 @@ impl<P: Port> Board for PortBoard<P> {
             slice::from_mut(read),
             &mut self.failures,
         ) {
+            self.past = link.talk;
             return Err(RigFail::Failed);
         }
         self.link = Some(link);
@@ -448,6 +481,11 @@ impl<P: Port> Board for PortBoard<P> {
             (⟦<PortBoard<P> as Board>⟧.board_state self.new)) }
         ensures refused { IfErr result (λ e. HasFailed e (⟦<PortBoard<P> as Board>⟧.board_state self.old)
             (⟦<PortBoard<P> as Board>⟧.board_state self.new)) }
+        ensures cycles_for_each { OnOk result (EachWas (GoesOnBy drives.now reads.new) (⟦<PortBoard<P> as Board>⟧.may_be self.old)
+            (⟦<PortBoard<P> as Board>⟧.may_be self.new)) }
+        ensures narrows { Narrows (⟦<PortBoard<P> as Board>⟧.may_be self.old)
+            (⟦<PortBoard<P> as Board>⟧.may_be self.new) }
+        ensures taken { GoOn self.old.talk self.new.talk self.old.port_talk self.new.port_talk }
         ensures alarm { OnErr result (IsSome self.old.device → Rose self.old.port_failures self.new.port_failures) }
         ensures up { OnOk result (self.new.is_up ≡ true) }
         ensures down { OnErr result (self.new.is_up ≡ false) }
@@ -465,6 +503,7 @@ impl<P: Port> Board for PortBoard<P> {
             reads,
             &mut self.failures,
         ) {
+            self.past = link.talk;
             return Err(RigFail::Failed);
         }
         self.link = Some(link);

@@ -1,5 +1,5 @@
 //! What asks a machine what it is, and whether the reply is right.
-ghost use Rattle.std.specs.Prelude.{◌≡◌, ◌⊎◌, ◌+◌, ◌≤◌, true, false, [], vec_len, IfSome, IsSome, IfOk, OnOk, IsTrue};
+ghost use Rattle.std.specs.Prelude.{◌≡◌, ◌⊎◌, ◌+◌, ◌≤◌, true, false, [], vec_len, take, IfSome, IsSome, IfOk, OnOk, IsTrue};
 ghost use Rattle.std.specs.Vec.{vec_capacity};
 ghost use Rattle.machine_shape.specs.Shape.{pins_of};
 ghost use Rattle.machine_config.specs.Configuration.{cleared};
@@ -9,6 +9,8 @@ ghost use Rattle.rig_port.specs.Lines.{counts_body, counts_line, AreCounts, turn
 ghost use Rattle.rig_port.specs.Requests.{attach_body, attach_line};
 ghost use Rattle.rig_port.specs.Ports.{machine_told};
 ghost use Rattle.rig_port.specs.Sessions.{KeepsSession, StaysPosted};
+ghost use Rattle.rig_port.specs.Transcripts.{Behind, GoOn, and_said};
+ghost use Rattle.rig_port.specs.Stands.{Finds};
 
 use crate::again::Again;
 use crate::check::Check;
@@ -61,6 +63,25 @@ pub fn is_line(reply: &[u8], expected: &[u8]) -> bool
     reply == expected
 }
 
+// Whether the line that came is the one that is expected; then it is what was answered.
+fn take_counts(link: &mut Link, question: &[u8], count: usize) -> bool
+    requires { count ≤ vec_len link.old.reply }
+
+    ensures right { IsTrue result → take count link.old.reply.items ≡ link.old.expected.items }
+    ensures wrong { result ≡ false → take count link.old.reply.items ≡ link.old.expected.items → ⊥ }
+    ensures taken { IsTrue result → link.new.talk ≡ and_said link.old.talk question.now link.old.expected.items }
+    ensures left { result ≡ false → link.new.talk ≡ link.old.talk }
+    ensures stays { StaysPosted link.old link.new }
+    ensures expected { link.new.expected ≡ link.old.expected }
+    ensures check { link.new.check ≡ link.old.check }
+{
+    if !is_line(&link.reply[..count], &link.expected) {
+        return false;
+    }
+    link.talk = link.talk.and(question, &link.expected);
+    true
+}
+
 /// Asks the machine behind an open port what it is, by a line under this number. False where the port fails, or it is another machine.
 pub fn attach<P: Port>(port: &mut P, number: u32, question: &[u8], link: &mut Link) -> bool
     requires open { (P.port_state port.old).is_open ≡ true }
@@ -74,6 +95,7 @@ pub fn attach<P: Port>(port: &mut P, number: u32, question: &[u8], link: &mut Li
 
     ensures machine { machine_told (P.port_state port.new) ≡ machine_told (P.port_state port.old) }
     ensures later { (P.port_state port.old).failures ≤ (P.port_state port.new).failures }
+    ensures talks { GoOn link.old.talk link.new.talk (P.port_state port.old).talk (P.port_state port.new).talk }
     ensures open { IsTrue result → (P.port_state port.new).is_open ≡ true }
     ensures stays { StaysPosted link.old link.new }
     ensures expected { link.new.expected ≡ link.old.expected }
@@ -81,11 +103,12 @@ pub fn attach<P: Port>(port: &mut P, number: u32, question: &[u8], link: &mut Li
     ensures fresh { IsTrue result → IfSome (P.port_state port.new).device (λ d. (d.shape ≡ link.old.set.config.shape)
         × (d.set ≡ cleared link.old.set.config.shape)) }
     ensures check { IsTrue result → IsSome (P.port_state port.new).device → (P.port_state port.new).check ≡ link.new.check }
+    ensures said { IsTrue result → Behind (Finds link.old.set.config.shape link.new) link.old.talk link.new.talk }
     ensures alarm { result ≡ false → IfSome (P.port_state port.new).device (λ d. d.shape ≡ link.old.set.config.shape →
         Rose (P.port_state port.old).failures (P.port_state port.new).failures) }
 {
     match port.ask(question, &mut link.reply) {
-        Ok(count) => is_line(&link.reply[..count], &link.expected),
+        Ok(count) => take_counts(link, question, count),
         Err(_) => false,
     }
 }
@@ -102,12 +125,14 @@ pub fn attach_next<P: Port>(
 
     ensures machine { machine_told (P.port_state port.new) ≡ machine_told (P.port_state port.old) }
     ensures later { (P.port_state port.old).failures ≤ (P.port_state port.new).failures }
+    ensures talks { GoOn link.old.talk link.new.talk (P.port_state port.old).talk (P.port_state port.new).talk }
     ensures open { IsTrue result → (P.port_state port.new).is_open ≡ true }
     ensures stays { StaysPosted link.old link.new }
     ensures room { IsTrue result → turn_room (pins_of link.old.set.config.shape) ≤ vec_capacity link.new.expected }
     ensures fresh { IsTrue result → IfSome (P.port_state port.new).device (λ d. (d.shape ≡ link.old.set.config.shape)
         × (d.set ≡ cleared link.old.set.config.shape)) }
     ensures check { IsTrue result → IsSome (P.port_state port.new).device → (P.port_state port.new).check ≡ link.new.check }
+    ensures said { IsTrue result → Behind (Finds link.old.set.config.shape link.new) link.old.talk link.new.talk }
 {
     *number = number.saturating_add(1);
     let shape = link.set.shape();
@@ -129,12 +154,14 @@ fn attach_again<P: Port>(
 
     ensures machine { machine_told (P.port_state port.new) ≡ machine_told (P.port_state port.old) }
     ensures later { (P.port_state port.old).failures ≤ (P.port_state port.new).failures }
+    ensures talks { GoOn link.old.talk link.new.talk (P.port_state port.old).talk (P.port_state port.new).talk }
     ensures open { IsTrue result → (P.port_state port.new).is_open ≡ true }
     ensures stays { StaysPosted link.old link.new }
     ensures room { IsTrue result → turn_room (pins_of link.old.set.config.shape) ≤ vec_capacity link.new.expected }
     ensures fresh { IsTrue result → IfSome (P.port_state port.new).device (λ d. (d.shape ≡ link.old.set.config.shape)
         × (d.set ≡ cleared link.old.set.config.shape)) }
     ensures check { IsTrue result → IsSome (P.port_state port.new).device → (P.port_state port.new).check ≡ link.new.check }
+    ensures said { IsTrue result → Behind (Finds link.old.set.config.shape link.new) link.old.talk link.new.talk }
     ensures past { KeepsSession again.old again.new }
     ensures spare { again.new.spare ≡ again.old.spare }
     ensures count { failures.old ≤ failures.new }
@@ -170,12 +197,14 @@ pub fn attach_some<P: Port>(
 
     ensures machine { machine_told (P.port_state port.new) ≡ machine_told (P.port_state port.old) }
     ensures later { (P.port_state port.old).failures ≤ (P.port_state port.new).failures }
+    ensures talks { GoOn link.old.talk link.new.talk (P.port_state port.old).talk (P.port_state port.new).talk }
     ensures open { IsTrue result → (P.port_state port.new).is_open ≡ true }
     ensures stays { StaysPosted link.old link.new }
     ensures room { IsTrue result → turn_room (pins_of link.old.set.config.shape) ≤ vec_capacity link.new.expected }
     ensures fresh { IsTrue result → IfSome (P.port_state port.new).device (λ d. (d.shape ≡ link.old.set.config.shape)
         × (d.set ≡ cleared link.old.set.config.shape)) }
     ensures check { IsTrue result → IsSome (P.port_state port.new).device → (P.port_state port.new).check ≡ link.new.check }
+    ensures said { IsTrue result → Behind (Finds link.old.set.config.shape link.new) link.old.talk link.new.talk }
     ensures alarm { result ≡ false → IfSome (P.port_state port.new).device (λ d. d.shape ≡ link.old.set.config.shape →
         Rose (P.port_state port.old).failures (P.port_state port.new).failures) }
     ensures past { KeepsSession again.old again.new }

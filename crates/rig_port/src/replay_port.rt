@@ -1,14 +1,16 @@
 //! A recorded talk as a port.
-ghost use Rattle.std.specs.Prelude.{◌≡◌, ◌^◌, ◌<◌, ◌≤◌, ◌++◌, List, ℕ, true, false};
+ghost use Rattle.std.specs.Prelude.{◌≡◌, ◌^◌, ◌<◌, ◌≤◌, ◌++◌, List, [], ℕ, true, false};
 ghost use Rattle.std.specs.Prelude.{length, take, drop, IfSome, IfNone, IfOk, IfErr, OnOk, OnErr, IsErrOf};
 ghost use Rattle.base_io.specs.Counts.{Rose};
 ghost use Rattle.rig_board.specs.Device.{WhereTold};
 ghost use Rattle.rig_port.specs.Answers.{Answers};
 ghost use Rattle.rig_port.specs.Ports.{machine_told, Opens, AskFails};
 ghost use Rattle.rig_port.specs.FilePorts.{file_port_state, IsLine};
-ghost use Rattle.rig_port.specs.Replays.{HasReplayed, IsDue};
+ghost use Rattle.rig_port.specs.Replays.{BeginsWith, HasReplayed, IsDue};
+ghost use Rattle.rig_port.specs.Transcripts.{and_said};
 
 use crate::question::is_line;
+use crate::transcript::Transcript;
 use crate::{Port, PortFail};
 
 /// A recorded talk as a port: lines, by turns a request and its reply. A request is answered by the recorded reply, and only where it is,
@@ -18,6 +20,7 @@ pub struct ReplayPort {
     recorded: Vec<u8>,
     at: usize,
     is_open: bool,
+    talk: Transcript,
     failures: u64,
 }
 
@@ -106,11 +109,14 @@ impl ReplayPort {
     pub fn new(recorded: Vec<u8>) -> ReplayPort
         ensures recorded { result.recorded ≡ recorded }
         ensures at { result.at ≡ 0 }
+        ensures talk { (⟦<ReplayPort as Port>⟧.port_state result).talk ≡ [] }
+        ensures begun { BeginsWith result.recorded.items result.at result.talk }
     {
         ReplayPort {
             recorded,
             at: 0,
             is_open: false,
+            talk: Transcript::new(),
             failures: 0,
         }
     }
@@ -119,19 +125,22 @@ impl ReplayPort {
     pub fn opened(recorded: Vec<u8>) -> ReplayPort
         ensures recorded { result.recorded ≡ recorded }
         ensures at { result.at ≡ 0 }
+        ensures talk { (⟦<ReplayPort as Port>⟧.port_state result).talk ≡ [] }
+        ensures begun { BeginsWith result.recorded.items result.at result.talk }
         ensures open { (⟦<ReplayPort as Port>⟧.port_state result).is_open ≡ true }
     {
         ReplayPort {
             recorded,
             at: 0,
             is_open: true,
+            talk: Transcript::new(),
             failures: 0,
         }
     }
 }
 
 impl Port for ReplayPort {
-    ghost port_state = { λ p. file_port_state p.is_open p.failures };
+    ghost port_state = { λ p. file_port_state p.is_open p.talk p.failures };
 
     /// It is always opened, and the place in the recording stays.
     ///
@@ -141,6 +150,7 @@ impl Port for ReplayPort {
     fn open(&mut self, name: &str) -> Result<(), PortFail>
         ensures later { (⟦<ReplayPort as Port>⟧.port_state self.old).failures ≤ (⟦<ReplayPort as Port>⟧.port_state self.new).failures }
         ensures count { (⟦<ReplayPort as Port>⟧.port_state self.new).failures < 2 ^ 64 }
+        ensures talk { (⟦<ReplayPort as Port>⟧.port_state self.new).talk ≡ (⟦<ReplayPort as Port>⟧.port_state self.old).talk }
         ensures opens { OnOk result (Opens (⟦<ReplayPort as Port>⟧.port_state self.new)) }
         ensures closed { OnErr result ((⟦<ReplayPort as Port>⟧.port_state self.new).is_open ≡ false) }
         ensures refused { IsErrOf result PortFail.Failed → Rose (⟦<ReplayPort as Port>⟧.port_state self.old).failures
@@ -156,7 +166,8 @@ impl Port for ReplayPort {
         self.is_open
     }
 
-    /// Behind an `Ok` the request and the reply stood, in this order, in front of all that is left of the recording.
+    /// Behind an `Ok` the request and the reply stood, in this order, in front of all that is left of the recording. So what was said is
+    /// the beginning of the recording (`begun`).
     ///
     /// # Errors
     ///
@@ -169,6 +180,9 @@ impl Port for ReplayPort {
             ≡ machine_told (⟦<ReplayPort as Port>⟧.port_state self.old) }
         ensures later { (⟦<ReplayPort as Port>⟧.port_state self.old).failures ≤ (⟦<ReplayPort as Port>⟧.port_state self.new).failures }
         ensures count { (⟦<ReplayPort as Port>⟧.port_state self.new).failures < 2 ^ 64 }
+        ensures said { IfOk result (λ n. (⟦<ReplayPort as Port>⟧.port_state self.new).talk ≡ and_said (⟦<ReplayPort as Port>⟧.port_state self.old).talk request.now
+            (take n reply.new)) }
+        ensures unsaid { OnErr result ((⟦<ReplayPort as Port>⟧.port_state self.new).talk ≡ (⟦<ReplayPort as Port>⟧.port_state self.old).talk) }
         ensures length { length reply.new ≡ length reply.old }
         ensures within { IfOk result (λ n. n ≤ length reply.new) }
         ensures stays { OnOk result ((⟦<ReplayPort as Port>⟧.port_state self.new).is_open ≡ true) }
@@ -181,6 +195,8 @@ impl Port for ReplayPort {
         ensures open { (⟦<ReplayPort as Port>⟧.port_state self.new).is_open ≡ true }
         ensures replayed { IfOk result (λ n. HasReplayed (drop self.old.at self.old.recorded.items)
             (drop self.new.at self.new.recorded.items) request.now (take n reply.new)) }
+        ensures begun { BeginsWith self.old.recorded.items self.old.at self.old.talk →
+            BeginsWith self.new.recorded.items self.new.at self.new.talk }
         ensures kept { OnErr result (self.new.at ≡ self.old.at) }
         ensures due { OnErr result (IsDue (drop self.old.at self.old.recorded.items) request.now (length reply.old) → ⊥) }
     {
@@ -188,6 +204,7 @@ impl Port for ReplayPort {
         match next_reply(&self.recorded, self.at, request, reply) {
             Some(replied) => {
                 self.at = replied.next;
+                self.talk = self.talk.and(request, &reply[..replied.count]);
                 Ok(replied.count)
             }
             None => {

@@ -11,6 +11,8 @@ ghost use Rattle.rig_port.specs.Ports.{IsLater};
 ghost use Rattle.rig_port.specs.Linked.{IsLinked};
 ghost use Rattle.rig_port.specs.Boards.{IsKeptUp, HasRoom};
 ghost use Rattle.rig_port.specs.Sessions.{SetsAnew, CanResume, HasMade, StaysLoaded, kept_pairs, paired};
+ghost use Rattle.rig_port.specs.Transcripts.{Behind, GoOn};
+ghost use Rattle.rig_port.specs.Stands.{Turns, Makes, TurnsAgain, GoesOn};
 ghost use Rattle.rig_port.specs.Turns.{CanTurn, AreRowsFor, HasMadeTurns, CanMakeAgain, KeepsRows};
 
 use crate::again::{Again, are_same};
@@ -28,6 +30,7 @@ fn load_anew(link: &mut Link, whole: &[u8]) -> Result<(), AllocError>
 
     ensures stays { StaysLoaded link.old link.new }
     ensures check { link.new.check ≡ link.old.check }
+    ensures talk { link.new.talk ≡ link.old.talk }
     ensures due { OnOk result (link.new.due ≡ true) }
     ensures linked { OnOk result ((device : Option Device) → IfSome device (λ d. d.shape ≡ link.old.set.config.shape) →
         IsLinked device link.new.set.config link.new.line.items link.new.anew link.new.running link.new.due) }
@@ -55,10 +58,12 @@ fn redrive<P: Port>(
     requires as_many_read { length readings.now ≡ length drives.now }
 
     ensures later { IsLater (P.port_state port.old) (P.port_state port.new) }
+    ensures talks { GoOn link.old.talk link.new.talk (P.port_state port.old).talk (P.port_state port.new).talk }
     ensures lengths { KeepLengths spare.old spare.new }
     ensures stays { StaysLoaded link.old link.new }
     ensures turned { IsTrue result → HasMadeTurns drives.now readings.now (P.port_state port.old) (P.port_state port.new) link.old
         link.new }
+    ensures said { IsTrue result → Behind (Turns drives.now readings.now link.old link.new) link.old.talk link.new.talk }
 {
     if !turn_some(port, link, drives, spare) {
         return false;
@@ -80,10 +85,12 @@ fn redrive_first<P: Port>(
     requires as_many_read { length readings.now ≡ length drives.now }
 
     ensures later { IsLater (P.port_state port.old) (P.port_state port.new) }
+    ensures talks { GoOn link.old.talk link.new.talk (P.port_state port.old).talk (P.port_state port.new).talk }
     ensures lengths { KeepLengths spare.old spare.new }
     ensures stays { StaysLoaded link.old link.new }
     ensures turned { IsTrue result → HasMadeTurns drives.now readings.now (P.port_state port.old) (P.port_state port.new) link.old
         link.new }
+    ensures said { IsTrue result → Behind (Turns drives.now readings.now link.old link.new) link.old.talk link.new.talk }
 {
     let made = drives.len();
     redrive(port, link, drives, readings, &mut spare[..made])
@@ -96,10 +103,12 @@ fn resume<P: Port>(port: &mut P, link: &mut Link, again: &mut Again) -> bool
     requires again { CanMakeAgain (P.port_state port.old) link.old again.old }
 
     ensures later { IsLater (P.port_state port.old) (P.port_state port.new) }
+    ensures talks { GoOn link.old.talk link.new.talk (P.port_state port.old).talk (P.port_state port.new).talk }
     ensures stays { StaysLoaded link.old link.new }
     ensures kept { KeepsRows (pins_of link.old.set.config.shape) again.old again.new }
     ensures held { IsTrue result → IsKeptUp (P.port_state port.new) link.old link.new }
     ensures made { IsTrue result → HasMade link.old.set.config (kept_pairs again.old) link.new.due (P.port_state port.new).device }
+    ensures said { IsTrue result → Behind (Makes link.old.set.config (kept_pairs again.old) link.new) link.old.talk link.new.talk }
 {
     if !attach_next(port, link, &mut again.number, &mut again.question) {
         return false;
@@ -131,6 +140,7 @@ fn turn_again<P: Port>(
     requires rows { AreRowsFor link.old.set.config drives.now reads.old }
 
     ensures later { IsLater (P.port_state port.old) (P.port_state port.new) }
+    ensures talks { GoOn link.old.talk link.new.talk (P.port_state port.old).talk (P.port_state port.new).talk }
     ensures lengths { KeepLengths reads.old reads.new }
     ensures stays { StaysLoaded link.old link.new }
     ensures kept { KeepsRows (pins_of link.old.set.config.shape) again.old again.new }
@@ -138,6 +148,8 @@ fn turn_again<P: Port>(
     ensures sent { IsTrue result → link.new.due ≡ false }
     ensures made { IsTrue result → HasMade link.old.set.config (kept_pairs again.old ++ paired drives.now reads.new) link.new.due
         (P.port_state port.new).device }
+    ensures said { IsTrue result → Behind (Makes link.old.set.config (kept_pairs again.old ++ paired drives.now reads.new) link.new)
+        link.old.talk link.new.talk }
 {
     if !resume(port, link, again) {
         return false;
@@ -159,6 +171,7 @@ fn ask_again<P: Port>(
     requires rows { AreRowsFor link.old.set.config drives.now reads.old }
 
     ensures later { IsLater (P.port_state port.old) (P.port_state port.new) }
+    ensures talks { GoOn link.old.talk link.new.talk (P.port_state port.old).talk (P.port_state port.new).talk }
     ensures lengths { KeepLengths reads.old reads.new }
     ensures stays { StaysLoaded link.old link.new }
     ensures kept { KeepsRows (pins_of link.old.set.config.shape) again.old again.new }
@@ -167,6 +180,8 @@ fn ask_again<P: Port>(
     ensures covers { IsTrue result → again.old.covers ≡ true }
     ensures made { IsTrue result → HasMade link.old.set.config (kept_pairs again.old ++ paired drives.now reads.new) link.new.due
         (P.port_state port.new).device }
+    ensures said { IsTrue result → Behind (Makes link.old.set.config (kept_pairs again.old ++ paired drives.now reads.new) link.new)
+        link.old.talk link.new.talk }
     ensures count { failures.old ≤ failures.new }
 {
     if !again.covers {
@@ -199,11 +214,13 @@ fn turn_or_again<P: Port>(
     requires resumes { CanResume (P.port_state port.old).device link.old again.old }
 
     ensures later { IsLater (P.port_state port.old) (P.port_state port.new) }
+    ensures talks { GoOn link.old.talk link.new.talk (P.port_state port.old).talk (P.port_state port.new).talk }
     ensures lengths { KeepLengths reads.old reads.new }
     ensures kept { KeepsRows (pins_of link.old.set.config.shape) again.old again.new }
     ensures sent { IsTrue result → link.new.due ≡ false }
     ensures turned { IsTrue result → HasMadeTurns drives.now reads.new (P.port_state port.old) (P.port_state port.new) link.old
         link.new }
+    ensures said { IsTrue result → Behind (TurnsAgain drives.now reads.new again.old link.old link.new) link.old.talk link.new.talk }
     ensures alarm { result ≡ false → IsSome (P.port_state port.old).device →
         Rose (P.port_state port.old).failures (P.port_state port.new).failures }
     ensures count { failures.old ≤ failures.new }
@@ -234,10 +251,12 @@ pub fn drive_on<P: Port>(
     requires resumes { CanResume (P.port_state port.old).device link.old again.old }
 
     ensures later { IsLater (P.port_state port.old) (P.port_state port.new) }
+    ensures talks { GoOn link.old.talk link.new.talk (P.port_state port.old).talk (P.port_state port.new).talk }
     ensures lengths { KeepLengths reads.old reads.new }
     ensures sent { IsTrue result → link.new.due ≡ false }
     ensures turned { IsTrue result → HasMadeTurns drives.now reads.new (P.port_state port.old) (P.port_state port.new) link.old
         link.new }
+    ensures said { IsTrue result → Behind (GoesOn drives.now reads.new again.old again.new link.old link.new) link.old.talk link.new.talk }
     ensures resumes { IsTrue result → CanResume (P.port_state port.new).device link.new again.new }
     ensures alarm { result ≡ false → IsSome (P.port_state port.old).device →
         Rose (P.port_state port.old).failures (P.port_state port.new).failures }

@@ -13,6 +13,7 @@ ghost use Rattle.rig_port.specs.Requests.{IsEditOf, edited, edited_by};
 ghost use Rattle.rig_port.specs.Answers.{Answers};
 ghost use Rattle.rig_port.specs.Ports.{machine_told, Opens, AskFails};
 ghost use Rattle.rig_port.specs.RigPorts.{edit_of, edits_of, wanted_body, wanted_line, IsWantedOf, rig_port_state, IsReady};
+ghost use Rattle.rig_port.specs.Transcripts.{and_said};
 ghost use Rattle.rig_port.specs.RigPorts.{IsNoRequest, IsShort, IsDriven, IsAnswered, start_from};
 
 use crate::again::blank_rows;
@@ -21,6 +22,7 @@ use crate::parse::read_request;
 use crate::port::{Port, PortFail};
 use crate::respell::{make_room, read_attach, spelled_check};
 use crate::spelling::{put_counts, put_readings};
+use crate::transcript::Transcript;
 use crate::wanted::{Asked, Change, Wanted};
 use machine_config::Config;
 use machine_shape::Shape;
@@ -42,6 +44,7 @@ pub struct RigPort<R: Rig> {
     set: Option<Config>,
     running: bool,
     check: Check,
+    talk: Transcript,
     failures: u64,
 }
 
@@ -53,8 +56,9 @@ impl<R: Rig> Model for RigPort<R> {
 
     ghost use Rattle.std.specs.Coded.{codes};
     ghost use Rattle.machine_config.specs.Configuration.{coded_configuration};
+    ghost use Rattle.rig_port.specs.Said.{coded_talk};
 
-    ghost coded = { Prim.hlevel (codes, coded_configuration) };
+    ghost coded = { Prim.hlevel (codes, coded_configuration, coded_talk) };
 
     ghost view = { λ p. record {
       inner = p.inner;
@@ -62,6 +66,7 @@ impl<R: Rig> Model for RigPort<R> {
       set = option_map (λ g. g.config) p.set;
       running = p.running;
       check = p.check;
+      talk = p.talk;
       failures = p.failures;
     } };
 
@@ -456,7 +461,15 @@ fn fresh_of(alloc: Global, shape: Shape) -> Result<Config, AllocError>
 impl<R: Rig> RigPort<R> {
     /// A port that isn't open, to this rig as a machine of this shape.
     pub fn new(alloc: Global, inner: R, shape: Shape) -> Self
-        ensures { result ≡ record { inner = inner; shape = shape; set = None; running = false; check = fresh_check; failures = 0 } }
+        ensures { result ≡ record {
+          inner = inner;
+          shape = shape;
+          set = None;
+          running = false;
+          check = fresh_check;
+          talk = [];
+          failures = 0;
+        } }
     {
         RigPort {
             alloc,
@@ -465,6 +478,7 @@ impl<R: Rig> RigPort<R> {
             set: None,
             running: false,
             check: Check::new(),
+            talk: Transcript::new(),
             failures: 0,
         }
     }
@@ -481,6 +495,7 @@ impl<R: Rig> Port for RigPort<R> {
     fn open(&mut self, name: &str) -> Result<(), PortFail>
         ensures later { (⟦<RigPort<R> as Port>⟧.port_state self.old).failures ≤ (⟦<RigPort<R> as Port>⟧.port_state self.new).failures }
         ensures count { (⟦<RigPort<R> as Port>⟧.port_state self.new).failures < 2 ^ 64 }
+        ensures talk { (⟦<RigPort<R> as Port>⟧.port_state self.new).talk ≡ (⟦<RigPort<R> as Port>⟧.port_state self.old).talk }
         ensures opens { OnOk result (Opens (⟦<RigPort<R> as Port>⟧.port_state self.new)) }
         ensures closed { OnErr result ((⟦<RigPort<R> as Port>⟧.port_state self.new).is_open ≡ false) }
         ensures refused { IsErrOf result PortFail.Failed → Rose (⟦<RigPort<R> as Port>⟧.port_state self.old).failures
@@ -524,6 +539,9 @@ impl<R: Rig> Port for RigPort<R> {
             ≡ machine_told (⟦<RigPort<R> as Port>⟧.port_state self.old) }
         ensures later { (⟦<RigPort<R> as Port>⟧.port_state self.old).failures ≤ (⟦<RigPort<R> as Port>⟧.port_state self.new).failures }
         ensures count { (⟦<RigPort<R> as Port>⟧.port_state self.new).failures < 2 ^ 64 }
+        ensures said { IfOk result (λ n. (⟦<RigPort<R> as Port>⟧.port_state self.new).talk ≡ and_said (⟦<RigPort<R> as Port>⟧.port_state self.old).talk request.now
+            (take n reply.new)) }
+        ensures unsaid { OnErr result ((⟦<RigPort<R> as Port>⟧.port_state self.new).talk ≡ (⟦<RigPort<R> as Port>⟧.port_state self.old).talk) }
         ensures length { length reply.new ≡ length reply.old }
         ensures within { IfOk result (λ n. n ≤ length reply.new) }
         ensures stays { OnOk result ((⟦<RigPort<R> as Port>⟧.port_state self.new).is_open ≡ true) }
@@ -560,6 +578,7 @@ impl<R: Rig> Port for RigPort<R> {
                 self.running = replied.left.running;
                 self.check = replied.left.check;
                 self.set = Some(set);
+                self.talk = self.talk.and(request, &reply[..replied.count]);
                 Ok(replied.count)
             }
             None => {

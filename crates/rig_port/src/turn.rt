@@ -15,6 +15,8 @@ ghost use Rattle.rig_port.specs.Ports.{IsLater};
 ghost use Rattle.rig_port.specs.Boards.{IsRequest};
 ghost use Rattle.rig_port.specs.Checks.{after};
 ghost use Rattle.rig_port.specs.Sessions.{StaysLoaded};
+ghost use Rattle.rig_port.specs.Transcripts.{Behind, GoOn};
+ghost use Rattle.rig_port.specs.Stands.{Turns};
 ghost use Rattle.rig_port.specs.Turns.{CanTurn, AreRowsFor, HasMadeTurns};
 
 use crate::check::Check;
@@ -156,6 +158,7 @@ fn read_check(
     requires { sum_by word_room reads.now + 7 ≤ vec_capacity expected.old }
 
     ensures right { IfSome result (λ now. (reply.now ≡ reading_line check reads.now) × (now ≡ after check (reading_body reads.now))) }
+    ensures expected { IfSome result (λ _. reply.now ≡ expected.new.items) }
     ensures wrong { IfNone result (reply.now ≡ reading_line check reads.now → ⊥) }
     ensures room { vec_capacity expected.old ≤ vec_capacity expected.new }
 {
@@ -182,11 +185,13 @@ pub fn turn<P: Port>(
     requires few { sum_by word_room drives.now + 8 ≤ turn_room (pins_of link.old.set.config.shape) }
 
     ensures later { IsLater (P.port_state port.old) (P.port_state port.new) }
+    ensures talks { GoOn link.old.talk link.new.talk (P.port_state port.old).talk (P.port_state port.new).talk }
     ensures lengths { KeepLengths reads.old reads.new }
     ensures stays { StaysLoaded link.old link.new }
     ensures sent { IsTrue result → link.new.due ≡ false }
     ensures turned { IsTrue result → HasMadeTurns drives.now reads.new (P.port_state port.old) (P.port_state port.new) link.old
         link.new }
+    ensures said { IsTrue result → Behind (Turns drives.now reads.new link.old link.new) link.old.talk link.new.talk }
     ensures alarm { result ≡ false → IsSome (P.port_state port.old).device →
         Rose (P.port_state port.old).failures (P.port_state port.new).failures }
 {
@@ -199,6 +204,7 @@ pub fn turn<P: Port>(
         return false;
     };
     link.check = now;
+    link.talk = link.talk.and(&link.line, &link.expected);
     link.line.clear();
     link.anew = false;
     link.due = false;
@@ -225,12 +231,14 @@ pub fn turn_some<P: Port>(
     requires rows { AreRowsFor link.old.set.config drives.now reads.old }
 
     ensures later { IsLater (P.port_state port.old) (P.port_state port.new) }
+    ensures talks { GoOn link.old.talk link.new.talk (P.port_state port.old).talk (P.port_state port.new).talk }
     ensures lengths { KeepLengths reads.old reads.new }
     ensures stays { StaysLoaded link.old link.new }
     ensures sent { IsTrue result → 0 < length drives.now → link.new.due ≡ false }
     ensures idle { IsTrue result → link.old.due ≡ false → link.new.due ≡ false }
     ensures turned { IsTrue result → HasMadeTurns drives.now reads.new (P.port_state port.old) (P.port_state port.new) link.old
         link.new }
+    ensures said { IsTrue result → Behind (Turns drives.now reads.new link.old link.new) link.old.talk link.new.talk }
     ensures alarm { result ≡ false → IsSome (P.port_state port.old).device →
         Rose (P.port_state port.old).failures (P.port_state port.new).failures }
 {
@@ -259,11 +267,13 @@ pub fn turn_all<P: Port>(
     requires rows { AreRowsFor link.old.set.config drives.now reads.old }
 
     ensures later { IsLater (P.port_state port.old) (P.port_state port.new) }
+    ensures talks { GoOn link.old.talk link.new.talk (P.port_state port.old).talk (P.port_state port.new).talk }
     ensures lengths { KeepLengths reads.old reads.new }
     ensures stays { StaysLoaded link.old link.new }
     ensures sent { IsTrue result → link.new.due ≡ false }
     ensures turned { IsTrue result → HasMadeTurns drives.now reads.new (P.port_state port.old) (P.port_state port.new) link.old
         link.new }
+    ensures said { IsTrue result → Behind (Turns drives.now reads.new link.old link.new) link.old.talk link.new.talk }
     ensures alarm { result ≡ false → IsSome (P.port_state port.old).device →
         Rose (P.port_state port.old).failures (P.port_state port.new).failures }
 {

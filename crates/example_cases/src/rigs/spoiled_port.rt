@@ -3,7 +3,7 @@ ghost use Rattle.std.specs.Prelude.{◌≡◌, ◌≤◌, length, None, IfSome};
 ghost use Rattle.rig_port.specs.Checks.{fresh_check};
 
 use base_io::MemoryStore;
-use rig_port::{Port, PortFail, RigPort};
+use rig_port::{Port, PortFail, RigPort, Transcript};
 use rig_simulated::SimRig;
 use std::alloc::Global;
 use std::cell::Cell;
@@ -60,6 +60,7 @@ pub struct SpoiledPort {
     is_late: bool,
     is_down: bool,
     is_open: bool,
+    talk: Transcript,
     failures: u64,
 }
 
@@ -116,6 +117,7 @@ impl SpoiledPort {
             is_late: false,
             is_down: false,
             is_open: false,
+            talk: Transcript::new(),
             failures: 0,
         }
     }
@@ -123,6 +125,7 @@ impl SpoiledPort {
     // Counts a request. Gives how its reply is spoilt, where it is.
     fn count(&mut self) -> Option<Spoil>
         ensures open { self.new.is_open ≡ self.old.is_open }
+        ensures talk { self.new.talk ≡ self.old.talk }
         ensures failures { self.new.failures ≡ self.old.failures }
     {
         let number = self.asked.get().saturating_add(1);
@@ -139,6 +142,7 @@ impl SpoiledPort {
     // What the simulated rig answers, in the place of the reply before, which is kept; gives that in its place where replies are late.
     fn reply(&mut self, request: &[u8], reply: &mut [u8], is_before: bool) -> Option<usize>
         ensures open { self.new.is_open ≡ self.old.is_open }
+        ensures talk { self.new.talk ≡ self.old.talk }
         ensures failures { self.new.failures ≡ self.old.failures }
         ensures length { length reply.new ≡ length reply.old }
         ensures within { IfSome result (λ n. n ≤ length reply.new) }
@@ -165,6 +169,7 @@ impl SpoiledPort {
     // Spoils the reply to a request, where it is its turn.
     fn spoil(&mut self, spoil: Spoil, request: &[u8], reply: &mut [u8]) -> Option<usize>
         ensures open { self.new.is_open ≡ self.old.is_open }
+        ensures talk { self.new.talk ≡ self.old.talk }
         ensures failures { self.new.failures ≡ self.old.failures }
         ensures length { length reply.new ≡ length reply.old }
         ensures within { IfSome result (λ n. n ≤ length reply.new) }
@@ -189,6 +194,7 @@ impl SpoiledPort {
     // Answers a request.
     fn answer(&mut self, request: &[u8], reply: &mut [u8]) -> Option<usize>
         ensures open { self.new.is_open ≡ self.old.is_open }
+        ensures talk { self.new.talk ≡ self.old.talk }
         ensures failures { self.new.failures ≡ self.old.failures }
         ensures length { length reply.new ≡ length reply.old }
         ensures within { IfSome result (λ n. n ≤ length reply.new) }
@@ -209,7 +215,7 @@ impl SpoiledPort {
 }
 
 impl Port for SpoiledPort {
-    ghost port_state = { λ p. record { is_open = p.is_open; device = None; check = fresh_check; failures = p.failures } };
+    ghost port_state = { λ p. record { is_open = p.is_open; device = None; check = fresh_check; talk = p.talk; failures = p.failures } };
 
     fn open(&mut self, name: &str) -> Result<(), PortFail> {
         let failures = self.failures;
@@ -237,7 +243,10 @@ impl Port for SpoiledPort {
     fn ask(&mut self, request: &[u8], reply: &mut [u8]) -> Result<usize, PortFail> {
         let failures = self.failures;
         match self.answer(request, reply) {
-            Some(count) => Ok(count),
+            Some(count) => {
+                self.talk = self.talk.and(request, &reply[..count]);
+                Ok(count)
+            }
             None => {
                 self.failures = failures.saturating_add(1);
                 Err(PortFail::Failed)

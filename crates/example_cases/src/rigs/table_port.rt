@@ -2,7 +2,7 @@
 ghost use Rattle.std.specs.Prelude.{◌≡◌, ◌≤◌, true, length, None, IfSome};
 ghost use Rattle.rig_port.specs.Checks.{fresh_check};
 
-use rig_port::{Port, PortFail};
+use rig_port::{Port, PortFail, Transcript};
 use std::alloc::{AllocError, Global};
 use std::cell::Cell;
 use std::rc::Rc;
@@ -50,6 +50,7 @@ pub struct TablePort {
     table: Vec<Exchange>,
     asked: Rc<Cell<usize>>,
     is_open: bool,
+    talk: Transcript,
     failures: u64,
 }
 
@@ -60,6 +61,7 @@ impl TablePort {
             table,
             asked,
             is_open: false,
+            talk: Transcript::new(),
             failures: 0,
         }
     }
@@ -83,7 +85,7 @@ fn reply_to(due: Option<&Exchange>, request: &[u8], reply: &mut [u8]) -> Option<
 }
 
 impl Port for TablePort {
-    ghost port_state = { λ p. record { is_open = p.is_open; device = None; check = fresh_check; failures = p.failures } };
+    ghost port_state = { λ p. record { is_open = p.is_open; device = None; check = fresh_check; talk = p.talk; failures = p.failures } };
 
     fn open(&mut self, name: &str) -> Result<(), PortFail> {
         let _failures = self.failures;
@@ -101,6 +103,7 @@ impl Port for TablePort {
         match reply_to(self.table.get(asked), request, reply) {
             Some(count) => {
                 self.asked.set(asked.saturating_add(1));
+                self.talk = self.talk.and(request, &reply[..count]);
                 Ok(count)
             }
             None => {

@@ -1,8 +1,11 @@
-use Rattle.std.proofs.Common.{◌≡◌, ◌∙◌, ◌≤◌, arith, ap, sym, subst, IfSome}
+use Rattle.std.proofs.Common.{◌≡◌, ◌∙◌, ◌≤◌, arith, sym, subst, refl, IfSome}
 use Rattle.std.specs.Vec.{vec_capacity}
 use Rattle.machine_shape.specs.Shape.{pins_of}
 use Rattle.machine_config.specs.Configuration.{Roomy, cleared}
 use Rattle.rig_port.specs.Lines.{turn_room}
+use Rattle.rig_port.specs.Stands.{Finds}
+use Rattle.rig_port.specs.Transcripts.{Behind}
+use Rattle.rig_port.proofs.Behind.{Anyhow, behind_all, behind_more, nothing_said, said_more}
 use Rattle.rig_port.proofs.Resumed.{HasCounts, still_counts}
 use Rattle.rig_port.proofs.question.attach_again.Goals as goal
 
@@ -27,6 +30,8 @@ tries-preserved g c = record {
     covers = c.tries.invariant.past.covers;
   };
   spare = c.tries.invariant.spare;
+  talks = said_more c.args.link.now.talk c.tries.link.talk c.attach_next.new.link.talk (g.P.Port.port_state c.args.port.now).talk (g.P.Port.port_state c.tries.port).talk
+      (g.P.Port.port_state c.attach_next.new.port).talk c.tries.invariant.talks c.attach_next.ensures.talks;
   count = omega (arith, c.tries.invariant.count, c.saturating_add.ensures);
 }
 
@@ -51,3 +56,29 @@ returns-then-attach_next-clause-stays g c = record {
 
 pub attach_next-requires-clause-told : goal.attach_next-requires-clause-told
 attach_next-requires-clause-told g c = subst (λ (s : Roomy). HasCounts s.config.shape (g.P.Port.port_state c.tries.port).device) (sym c.tries.invariant.stays.set) c.tries.invariant.told
+
+pub tries-init : goal.tries-init
+tries-init g c = record {
+  machine = refl;
+  told = c.requires.told;
+  later = omega arith;
+  stays = record { set = refl; line = refl; anew = refl; running = refl; due = refl; lost = refl };
+  past = record { whole = refl; drives = refl; readings = refl; made = refl; covers = refl };
+  spare = refl;
+  talks = nothing_said c.args.link.now.talk (g.P.Port.port_state c.args.port.now).talk;
+  count = omega arith;
+}
+
+pub returns-then-attach_next-clause-talks : goal.returns-then-attach_next-clause-talks
+returns-then-attach_next-clause-talks g c =
+    said_more c.args.link.now.talk c.tries.link.talk c.attach_next.new.link.talk (g.P.Port.port_state c.args.port.now).talk (g.P.Port.port_state c.tries.port).talk
+    (g.P.Port.port_state c.attach_next.new.port).talk c.tries.invariant.talks c.attach_next.ensures.talks
+
+pub returns-then-attach_next-clause-said : goal.returns-then-attach_next-clause-said
+returns-then-attach_next-clause-said g c = λ _.
+    let now = c.attach_next.new.link in
+    let found : Behind (Finds c.args.link.now.set.config.shape now) c.tries.link.talk now.talk
+    = subst (λ (s : Roomy). Behind (Finds s.config.shape now) c.tries.link.talk now.talk) c.tries.invariant.stays.set (c.attach_next.ensures.said c.if-attach_next.true) in
+    behind_more Anyhow _ _ c.args.link.now.talk c.tries.link.talk now.talk
+    (behind_all c.args.link.now.talk c.tries.link.talk (g.P.Port.port_state c.args.port.now).talk (g.P.Port.port_state c.tries.port).talk c.tries.invariant.talks) found
+    (λ d b e k x y near _ _ f. λ shape. f (near.0 ∙ shape))

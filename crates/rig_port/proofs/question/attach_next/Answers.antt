@@ -1,10 +1,9 @@
 use Rattle.std.proofs.Common.{◌∙◌, ap, subst}
 use Rattle.machine_shape.specs.declared.Shape.{Shape}
-use Rattle.machine_shape.specs.Shape.{pins_of}
-use Rattle.std.specs.Vec.{vec_capacity}
 use Rattle.rig_port.specs.Checks.{fresh_check, after}
-use Rattle.rig_port.specs.Lines.{counts_body, counts_line, AreCounts, turn_room}
+use Rattle.rig_port.specs.Lines.{counts_body, counts_line, AreCounts}
 use Rattle.rig_port.specs.Requests.{attach_body}
+use Rattle.rig_port.proofs.Behind.{nothing_said}
 use Rattle.rig_port.proofs.Resumed.{told_counts}
 use Rattle.rig_port.proofs.question.attach_next.Goals as goal
 
@@ -22,3 +21,6 @@ attach-requires-clause-counts g c = subst (λ (m : Shape). AreCounts m.counts) c
 pub attach-requires-clause-told : goal.attach-requires-clause-told
 attach-requires-clause-told g c =
     told_counts c.args.link.now.set.config.shape (g.P.Port.port_state c.args.port.now).device (subst (λ (m : Shape). AreCounts m.counts) c.shape-shape.ensures.shape c.in-Ok.ensures.right) c.requires.told
+
+pub returns-in_default-clause-talks : goal.returns-in_default-clause-talks
+returns-in_default-clause-talks g c = nothing_said c.args.link.now.talk (g.P.Port.port_state c.args.port.now).talk

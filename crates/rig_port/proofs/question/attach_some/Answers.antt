@@ -1,9 +1,12 @@
-use Rattle.std.proofs.Common.{◌≡◌, ◌∙◌, ◌≤◌, ◌⊎◌, inl, inr, arith, ap, sym, subst, refl, IfSome}
+use Rattle.std.proofs.Common.{◌≡◌, ◌∙◌, ◌≤◌, inr, arith, sym, subst, IfSome}
 use Rattle.std.specs.Vec.{vec_capacity}
 use Rattle.machine_shape.specs.Shape.{pins_of}
 use Rattle.machine_config.specs.Configuration.{Roomy, cleared}
 use Rattle.base_io.specs.Counts.{Rose}
 use Rattle.rig_port.specs.Lines.{turn_room}
+use Rattle.rig_port.specs.Stands.{Finds}
+use Rattle.rig_port.specs.Transcripts.{Behind}
+use Rattle.rig_port.proofs.Behind.{Anyhow, behind_all, behind_more, said_more}
 use Rattle.rig_port.proofs.Resumed.{HasCounts, still_counts, plain_counts, alarm_on}
 use Rattle.rig_port.proofs.question.attach_some.Goals as goal
 
@@ -55,3 +58,17 @@ returns-clause-past g c = record {
   made = c.attach_again.ensures.past.made;
   covers = c.attach_again.ensures.past.covers;
 }
+
+pub returns-clause-talks : goal.returns-clause-talks
+returns-clause-talks g c =
+    said_more c.args.link.now.talk c.attach.new.link.talk c.attach_again.new.link.talk (g.P.Port.port_state c.args.port.now).talk (g.P.Port.port_state c.attach.new.port).talk
+    (g.P.Port.port_state c.attach_again.new.port).talk c.attach.ensures.talks c.attach_again.ensures.talks
+
+pub returns-clause-said : goal.returns-clause-said
+returns-clause-said g c = λ right.
+    let now = c.attach_again.new.link in
+    let found : Behind (Finds c.args.link.now.set.config.shape now) c.attach.new.link.talk now.talk
+    = subst (λ (s : Roomy). Behind (Finds s.config.shape now) c.attach.new.link.talk now.talk) c.attach.ensures.stays.set (c.attach_again.ensures.said right) in
+    behind_more Anyhow _ _ c.args.link.now.talk c.attach.new.link.talk now.talk
+    (behind_all c.args.link.now.talk c.attach.new.link.talk (g.P.Port.port_state c.args.port.now).talk (g.P.Port.port_state c.attach.new.port).talk c.attach.ensures.talks) found
+    (λ d b e k x y near _ _ f. λ shape. f (near.0 ∙ shape))

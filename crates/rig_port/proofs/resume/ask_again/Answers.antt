@@ -1,9 +1,12 @@
-use Rattle.std.proofs.Common.{◌≡◌, ◌∙◌, ◌++◌, arith, sym, subst, true}
+use Rattle.std.proofs.Common.{◌≡◌, ◌∙◌, ◌++◌, arith, sym, subst, true, refl}
 use Rattle.machine_shape.specs.Shape.{pins_of}
 use Rattle.machine_config.specs.Configuration.{Configuration}
 use Rattle.rig_board.proofs.OneByOne.{lengths_kept}
 use Rattle.rig_port.specs.Requests.{AreWide}
 use Rattle.rig_port.specs.Sessions.{SetsAnew, HasRows, HasMade, kept_pairs, paired}
+use Rattle.rig_port.specs.Stands.{Makes}
+use Rattle.rig_port.specs.Transcripts.{Behind}
+use Rattle.rig_port.proofs.Behind.{Anyhow, behind_all, behind_more, nothing_said, said_more}
 use Rattle.rig_port.proofs.Resumed.{HasShape, still_shaped, many_rows, same_pairs_kept}
 use Rattle.rig_port.proofs.resume.ask_again.Goals as goal
 
@@ -29,6 +32,8 @@ tries-preserved g c = record {
     made = c.turn_again.ensures.kept.past.made ∙ c.tries.invariant.past.made;
     covers = c.turn_again.ensures.kept.past.covers ∙ c.tries.invariant.past.covers;
   };
+  talks = said_more c.args.link.now.talk c.tries.link.talk c.turn_again.new.link.talk (g.P.Port.port_state c.args.port.now).talk (g.P.Port.port_state c.tries.port).talk
+      (g.P.Port.port_state c.turn_again.new.port).talk c.tries.invariant.talks c.turn_again.ensures.talks;
   count = omega (arith, c.tries.invariant.count, c.saturating_add.ensures);
 }
 
@@ -95,3 +100,36 @@ returns-then-turn_again-clause-kept g c = record {
     covers = c.turn_again.ensures.kept.past.covers ∙ c.tries.invariant.past.covers;
   };
 }
+
+pub tries-init : goal.tries-init
+tries-init g c = record {
+  machine = refl;
+  told = c.requires.again.told;
+  later = omega arith;
+  lengths = refl;
+  stays = record { set = refl; lost = refl; running = refl };
+  rows = c.requires.again.rows;
+  past = record { whole = refl; drives = refl; readings = refl; made = refl; covers = refl };
+  talks = nothing_said c.args.link.now.talk (g.P.Port.port_state c.args.port.now).talk;
+  count = omega arith;
+}
+
+pub returns-then-not-again-clause-talks : goal.returns-then-not-again-clause-talks
+returns-then-not-again-clause-talks g c = nothing_said c.args.link.now.talk (g.P.Port.port_state c.args.port.now).talk
+
+pub returns-then-turn_again-clause-talks : goal.returns-then-turn_again-clause-talks
+returns-then-turn_again-clause-talks g c =
+    said_more c.args.link.now.talk c.tries.link.talk c.turn_again.new.link.talk (g.P.Port.port_state c.args.port.now).talk (g.P.Port.port_state c.tries.port).talk
+    (g.P.Port.port_state c.turn_again.new.port).talk c.tries.invariant.talks c.turn_again.ensures.talks
+
+pub returns-then-turn_again-clause-said : goal.returns-then-turn_again-clause-said
+returns-then-turn_again-clause-said g c = λ _.
+    let pairs = paired c.args.drives.now c.turn_again.new.reads in
+    let now = c.turn_again.new.link in
+    let made : Behind (Makes c.args.link.now.set.config (kept_pairs c.args.again.now ++ pairs) now) c.tries.link.talk now.talk
+    = subst (λ cycles. Behind (Makes c.args.link.now.set.config (cycles ++ pairs) now) c.tries.link.talk now.talk) (same_pairs_kept c.args.again.now c.tries.again c.tries.invariant.past)
+    (subst (λ (s : Configuration). Behind (Makes s (kept_pairs c.tries.again ++ pairs) now) c.tries.link.talk now.talk) c.tries.invariant.stays.set
+    (c.turn_again.ensures.said c.if-turn_again.true)) in
+    behind_more Anyhow _ _ c.args.link.now.talk c.tries.link.talk now.talk
+    (behind_all c.args.link.now.talk c.tries.link.talk (g.P.Port.port_state c.args.port.now).talk (g.P.Port.port_state c.tries.port).talk c.tries.invariant.talks) made
+    (λ d b e k x y same _ _ m. λ shape. m (same.0 ∙ shape))

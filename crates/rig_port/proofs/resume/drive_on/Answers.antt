@@ -1,4 +1,4 @@
-use Rattle.std.proofs.Common.{◌≡◌, ◌∙◌, All, length, ap, sym, subst, IfSome}
+use Rattle.std.proofs.Common.{◌≡◌, ◌∙◌, All, length, ap, sym, subst, IfSome, Some}
 use Rattle.machine_shape.specs.Shape.{pins_of}
 use Rattle.machine_meaning.specs.Circuit.{Pins}
 use Rattle.machine_config.specs.Configuration.{Configuration}
@@ -6,6 +6,7 @@ use Rattle.rig_board.specs.Device.{IsInSession}
 use Rattle.rig_board.proofs.OneByOne.{lengths_kept}
 use Rattle.rig_port.specs.Linked.{told_with}
 use Rattle.rig_port.specs.Sessions.{SetsAnew, HasRows, kept_pairs}
+use Rattle.rig_port.proofs.Behind.{behind_so}
 use Rattle.rig_port.proofs.Resumed.{many_rows, resumed}
 use Rattle.rig_port.proofs.resume.drive_on.Goals as goal
 
@@ -49,3 +50,25 @@ returns-clause-resumes g c = λ _.
           c.turn_or_again.new.reads c.turn_or_again.ensures.kept.rows c.turn_or_again.ensures.kept.past c.keep.ensures.kept c.keep.ensures.covers (c.requires.resumes.kept c.requires.ready.running)
           (c.turn_or_again.ensures.turned c.if-not-turn_or_again.false).turned covers);
     }
+
+pub returns-clause-said : goal.returns-clause-said
+returns-clause-said g c = λ _.
+    let held = (c.turn_or_again.ensures.turned c.if-not-turn_or_again.false).held in
+    let set = c.args.link.now.set.config in
+    let now = c.turn_or_again.new.link in
+    let pins = c.pins-pins.ensures.pins ∙ ap pins_of c.shape.ensures.shape in
+    behind_so _ _ c.args.link.now.talk now.talk (c.turn_or_again.ensures.said c.if-not-turn_or_again.false) (λ d b e k _ turns. λ goes resumes.
+    let t = turns goes resumes in (
+      t,
+      record {
+        rows = subst (λ n. HasRows n c.keep.new.self) pins c.keep.ensures.rows;
+        whole = λ _.
+            subst (λ (s : Configuration). SetsAnew s c.keep.new.self.whole.items) (sym held.set)
+            (subst (λ v. SetsAnew set v.items) (sym (c.keep.ensures.whole ∙ c.turn_or_again.ensures.kept.past.whole)) (c.requires.resumes.whole c.requires.ready.running));
+        kept = λ _ covers.
+            subst (λ (s : Configuration). IfSome (told_with now.due s (Some e)) (IsInSession s (kept_pairs c.keep.new.self))) (sym held.set)
+            (resumed (pins_of set.shape) set c.args.link.now.due now.due (Some d) (Some e) c.args.again.now c.turn_or_again.new.again c.keep.new.self c.args.drives.now
+            c.turn_or_again.new.reads c.turn_or_again.ensures.kept.rows c.turn_or_again.ensures.kept.past c.keep.ensures.kept c.keep.ensures.covers (resumes.kept c.requires.ready.running)
+            t.turned covers);
+      },
+    ))

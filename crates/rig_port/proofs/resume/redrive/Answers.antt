@@ -1,5 +1,7 @@
 use Rattle.std.proofs.Common.{◌∙◌, sym, subst}
 use Rattle.rig_port.specs.Linked.{HasTurned}
+use Rattle.rig_port.specs.Stands.{Turns}
+use Rattle.rig_port.specs.Transcripts.{Behind}
 use Rattle.rig_port.proofs.Resumed.{many_rows}
 use Rattle.rig_port.proofs.resume.redrive.Goals as goal
 
@@ -14,3 +16,8 @@ returns-clause-turned g c = λ same.
       turned = subst (λ rows. HasTurned c.args.drives.now rows c.args.link.now.due c.args.link.now.set.config (g.P.Port.port_state c.args.port.now).device c.turn_some.new.link.due
           (g.P.Port.port_state c.turn_some.new.port).device) (c.are_same.ensures same) made.turned;
     }
+
+pub returns-clause-said : goal.returns-clause-said
+returns-clause-said g c = λ same.
+    subst (λ rows. Behind (Turns c.args.drives.now rows c.args.link.now c.turn_some.new.link) c.args.link.now.talk c.turn_some.new.link.talk) (c.are_same.ensures same)
+    (c.turn_some.ensures.said c.if-not-turn_some.false)

@@ -11,6 +11,11 @@ use Rattle.rig_port.specs.Linked.{HasTurned}
 use Rattle.rig.specs.Rig.{KeepLengths}
 use Rattle.rig_port.specs.Sessions.{SetsAnew, HasMade, paired}
 use Rattle.rig_port.proofs.Resumed.{HasShape, shaped_counts, still_shaped, made_first, many_rows, rows_again, rows_stay}
+use Rattle.rig_port.specs.Said.{Said}
+use Rattle.rig_port.specs.Stands.{Turns, Makes}
+use Rattle.rig_port.specs.Transcripts.{Behind, GoOn}
+use Rattle.rig_port.proofs.Behind.{behind_more, said_more}
+use Rattle.rig_port.proofs.Standing.{makes_first}
 use Rattle.rig_port.proofs.Held.{seam}
 use Rattle.rig_port.proofs.resume.resume.Goals as goal
 
@@ -133,3 +138,32 @@ returns-in_default-clause-kept g c = record {
   rows = rows_stay (pins_of c.args.link.now.set.config.shape) c.args.again.now _ (record { whole = refl; drives = refl; readings = refl; made = refl; covers = refl }) refl c.requires.again.rows;
   past = record { whole = refl; drives = refl; readings = refl; made = refl; covers = refl };
 }
+
+pub returns-clause-talks : goal.returns-clause-talks
+returns-clause-talks g c =
+    said_more c.args.link.now.talk c.attach_next.new.link.talk c.redrive_first.new.link.talk (g.P.Port.port_state c.args.port.now).talk (g.P.Port.port_state c.attach_next.new.port).talk
+    (g.P.Port.port_state c.redrive_first.new.port).talk c.attach_next.ensures.talks
+    (subst (λ (t : List Said). GoOn t c.redrive_first.new.link.talk (g.P.Port.port_state c.attach_next.new.port).talk (g.P.Port.port_state c.redrive_first.new.port).talk) c.load_anew.ensures.talk
+    c.redrive_first.ensures.talks)
+
+pub returns-in_default-clause-talks : goal.returns-in_default-clause-talks
+returns-in_default-clause-talks g c =
+    subst (λ (t : List Said). GoOn c.args.link.now.talk t (g.P.Port.port_state c.args.port.now).talk (g.P.Port.port_state c.attach_next.new.port).talk) (sym c.load_anew.ensures.talk)
+    c.attach_next.ensures.talks
+
+pub returns-clause-said : goal.returns-clause-said
+returns-clause-said g c = λ right.
+    let set = c.load_anew.ensures.stays.set ∙ ap (λ (s : Roomy). s.config) c.attach_next.ensures.stays.set in
+    let g0 = c.args.link.now.set.config in
+    let n = c.args.again.now.made in
+    let drives : List Pins = c.deref-2.result.now in
+    let reads : List Pins = c.deref-3.result.now in
+    let now = c.redrive_first.new.link in
+    let old = c.args.link.now.talk in
+    let turned : Behind (Turns (take n drives) (take n reads) c.load_anew.new.link now) c.attach_next.new.link.talk now.talk
+    = subst (λ (t : List Said). Behind (Turns (take n drives) (take n reads) c.load_anew.new.link now) t now.talk) c.load_anew.ensures.talk (c.redrive_first.ensures.said right) in
+    subst (λ (xs : List Pins). Behind (Makes g0 (paired (take n xs) (take n c.args.again.now.readings.items)) now) old now.talk) c.deref-2.ensures.value
+    (subst (λ (xs : List Pins). Behind (Makes g0 (paired (take n drives) (take n xs)) now) old now.talk) c.deref-3.ensures.value
+    (behind_more _ _ _ old c.attach_next.new.link.talk now.talk (c.attach_next.ensures.said c.if-not-attach_next.false) turned
+    (λ d b e k x y _ _. makes_first g0 (take n drives) (take n reads) c.attach_next.new.link c.load_anew.new.link now set c.in-Ok.ensures.due c.load_anew.ensures.check
+    (λ device shape. c.in-Ok.ensures.linked device (subst (λ (s : Roomy). HasShape s.config.shape device) (sym c.attach_next.ensures.stays.set) shape)) d b e k x y)))

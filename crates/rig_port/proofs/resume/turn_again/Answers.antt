@@ -3,6 +3,8 @@ use Rattle.machine_config.specs.Configuration.{Configuration}
 use Rattle.rig_port.specs.Requests.{AreWide}
 use Rattle.rig_port.specs.Linked.{HasTurned}
 use Rattle.rig_port.specs.Sessions.{HasMade, kept_pairs}
+use Rattle.rig_port.proofs.Behind.{behind_more, said_more}
+use Rattle.rig_port.proofs.Standing.{makes_more}
 use Rattle.rig_port.proofs.Resumed.{made_more, in_session}
 use Rattle.rig_port.proofs.resume.turn_again.Goals as goal
 
@@ -60,3 +62,14 @@ returns-clause-later g c = record {
   machine = c.turn_all.ensures.later.machine ∙ c.resume.ensures.later.machine;
   failures = omega (arith, c.turn_all.ensures.later.failures, c.resume.ensures.later.failures);
 }
+
+pub returns-clause-talks : goal.returns-clause-talks
+returns-clause-talks g c =
+    said_more c.args.link.now.talk c.resume.new.link.talk c.turn_all.new.link.talk (g.P.Port.port_state c.args.port.now).talk (g.P.Port.port_state c.resume.new.port).talk
+    (g.P.Port.port_state c.turn_all.new.port).talk c.resume.ensures.talks c.turn_all.ensures.talks
+
+pub returns-clause-said : goal.returns-clause-said
+returns-clause-said g c = λ right.
+    behind_more _ _ _ c.args.link.now.talk c.resume.new.link.talk c.turn_all.new.link.talk (c.resume.ensures.said c.if-not-resume.false) (c.turn_all.ensures.said right)
+    (λ d b e k x y _ _. makes_more c.args.link.now.set.config (kept_pairs c.args.again.now) c.args.drives.now c.turn_all.new.reads c.resume.new.link c.turn_all.new.link
+    c.resume.ensures.stays.set d b e k x y)

@@ -5,6 +5,11 @@ use Rattle.base_io.specs.Counts.{Rose}
 use Rattle.rig_board.proofs.OneByOne.{lengths_kept}
 use Rattle.rig_port.specs.Requests.{AreWide}
 use Rattle.rig_port.specs.Sessions.{SetsAnew, HasRows, HasMade, kept_pairs, paired}
+use Rattle.rig_board.specs.Device.{Device}
+use Rattle.rig_port.specs.Stands.{Makes}
+use Rattle.rig_port.specs.Transcripts.{Behind}
+use Rattle.rig_port.proofs.Behind.{Anyhow, behind_all, behind_more, behind_so, said_more}
+use Rattle.rig_port.proofs.Standing.{turns_again}
 use Rattle.rig_port.proofs.Resumed.{HasShape, still_shaped, many_rows, rose_still, turned_again}
 use Rattle.rig_port.proofs.resume.turn_or_again.Goals as goal
 
@@ -80,3 +85,26 @@ returns-clause-rose g c = λ _. omega (arith, c.ask_again.ensures.count, c.satur
 
 pub returns-clause-number : goal.returns-clause-number
 returns-clause-number g c = inr (let rose : Rose c.args.failures.now c.ask_again.new.failures = omega (arith, c.ask_again.ensures.count, c.saturating_add.ensures) in rose)
+
+pub returns-clause-talks : goal.returns-clause-talks
+returns-clause-talks g c =
+    said_more c.args.link.now.talk c.turn_all.new.link.talk c.ask_again.new.link.talk (g.P.Port.port_state c.args.port.now).talk (g.P.Port.port_state c.turn_all.new.port).talk
+    (g.P.Port.port_state c.ask_again.new.port).talk c.turn_all.ensures.talks c.ask_again.ensures.talks
+
+pub returns-then-turn_all-clause-said : goal.returns-then-turn_all-clause-said
+returns-then-turn_all-clause-said g c = λ _.
+    behind_so _ _ c.args.link.now.talk c.turn_all.new.link.talk (c.turn_all.ensures.said c.if-turn_all.true) (λ d b e k _ turns. λ goes _. turns goes)
+
+pub returns-clause-said : goal.returns-clause-said
+returns-clause-said g c = λ right.
+    let set = c.args.link.now.set.config in
+    let cycles = kept_pairs c.args.again.now in
+    let now = c.ask_again.new.link in
+    let many = c.requires.rows.as_many ∙ sym (many_rows c.args.reads.now c.turn_all.new.reads c.turn_all.ensures.lengths) ∙ sym (many_rows c.turn_all.new.reads c.ask_again.new.reads c.ask_again.ensures.lengths) in
+    let made : Behind (Makes set (cycles ++ paired c.args.drives.now c.ask_again.new.reads) now) c.turn_all.new.link.talk now.talk
+    = subst (λ (s : Configuration). Behind (Makes s (cycles ++ paired c.args.drives.now c.ask_again.new.reads) now) c.turn_all.new.link.talk now.talk) c.turn_all.ensures.stays.set
+    (c.ask_again.ensures.said right) in
+    behind_more Anyhow _ _ c.args.link.now.talk c.turn_all.new.link.talk now.talk
+    (behind_all c.args.link.now.talk c.turn_all.new.link.talk (g.P.Port.port_state c.args.port.now).talk (g.P.Port.port_state c.turn_all.new.port).talk c.turn_all.ensures.talks) made
+    (λ d b e k x y near same _ m. turns_again c.args.drives.now c.ask_again.new.reads c.args.again.now c.args.link.now now cycles many
+    (λ (o : Device) resumes. resumes.kept c.requires.ready.running (c.ask_again.ensures.covers right)) d b x y same (λ shape. m (near.0 ∙ shape)))

@@ -1,8 +1,6 @@
-use Rattle.std.proofs.Common.{◌∙◌, ap, subst, sym}
+use Rattle.std.proofs.Common.{◌∙◌, ap}
 use Rattle.rig_port.proofs.Answered.{attach_told, attach_fits}
-use Rattle.rig_port.specs.RigPorts.{IsShort}
-use Rattle.rig_port.specs.Checks.{fresh_check, after}
-use Rattle.rig_port.specs.Requests.{attach_body}
+use Rattle.rig_port.specs.Checks.{after}
 use Rattle.rig_port.specs.Lines.{counts_line, counts_body}
 use Rattle.rig_port.proofs.rig_port.answer.Goals as goal
 

@@ -1,8 +1,6 @@
 use Rattle.std.proofs.Common.{◌∙◌, refl, ap}
 use Rattle.machine_shape.specs.Shape.{pins_of}
-use Rattle.rig_port.specs.RigPorts.{IsShort, wanted_line}
 use Rattle.rig_port.proofs.Answered.{wanted_fits}
-use Rattle.rig_port.proofs.rig_port.answer_spelled.Given.{Over}
 use Rattle.rig_port.proofs.rig_port.answer_spelled.Goals as goal
 
 pub returns-in_err-left-clause-short : goal.returns-in_err-left-clause-short

@@ -1,4 +1,4 @@
-use Rattle.std.proofs.Common.{◌∙◌, refl, sym, ap, subst, All}
+use Rattle.std.proofs.Common.{◌∙◌, refl, ap, subst}
 use Rattle.std.proofs.lemmas.Bool.{not-false}
 use Rattle.machine_shape.specs.Shape.{pins_of}
 use Rattle.rig.specs.Rig.{cycles_of}

@@ -1,6 +1,5 @@
-use Rattle.std.proofs.Common.{◌≡◌, ◌∙◌, ap, sym}
+use Rattle.std.proofs.Common.{◌≡◌}
 use Rattle.machine_shape.specs.Shape.{pins_of}
-use Rattle.rig_port.specs.Lines.{reading_line}
 use Rattle.rig_board.proofs.OneByOne.{lengths_kept}
 use Rattle.rig_port.proofs.Answered.{went_on}
 use Rattle.rig_port.proofs.rig_port.drive_rows.Goals as goal

@@ -1,7 +1,12 @@
-use Rattle.std.proofs.Common.{arith, ◌≡◌, ◌∙◌, [], true, false, refl, sym, ap, length, take, subst}
+use Rattle.std.proofs.Common.{arith, ◌≡◌, ◌∙◌, [], true, false, refl, sym, ap, length, take, subst, Option, Some}
 use Rattle.std.proofs.lemmas.List.{length-map}
 use Rattle.machine_shape.specs.Shape.{pins_of}
 use Rattle.rig_board.proofs.OneByOne.{lengths_kept}
+use Rattle.rig_board.specs.Device.{Device, WhereTold}
+use Rattle.rig_port.specs.declared.check.Check.{Check}
+use Rattle.rig_port.specs.Answers.{Answers}
+use Rattle.rig_port.specs.Transcripts.{and_said}
+use Rattle.rig_port.proofs.Behind.{behind_one, said_none, said_one, said_wrong}
 use Rattle.rig_port.specs.Checks.{after}
 use Rattle.rig_port.specs.Linked.{IsLinked}
 use Rattle.rig_port.specs.Lines.{reading_body, reading_line}
@@ -12,7 +17,7 @@ use Rattle.rig_port.proofs.Turned.{StandsTurned, turn_stands}
 use Rattle.rig_port.proofs.turn.turn.Given.{Over}
 use Rattle.rig_port.proofs.turn.turn.Goals as goal
 
-module _ (g : Over) (c : goal.After-link-3-1 g) where
+module _ (g : Over) (c : goal.After-link-4-1 g) where
   many : length c.args.reads.now ≡ length c.read_all.new.reads
   many = sym (length-map c.args.reads.now length) ∙ ap length (sym c.read_all.ensures.lengths) ∙ length-map c.read_all.new.reads length
 
@@ -25,17 +30,60 @@ module _ (g : Over) (c : goal.After-link-3-1 g) where
     goes = λ due none. let r = c.put_request-sent.ensures.drives due none in record { line_is = c.deref.ensures.value ∙ r.line_is; check = r.check };
   }
 
-  stands : StandsTurned (g.P.Port.port_state c.ask.new.self).check (after c.put_request-sent.result (reading_body c.read_all.new.reads)) c.args.link.now.set.config c.args.drives.now
-      c.read_all.new.reads c.args.link.now.due (g.P.Port.port_state c.args.port.now).device (g.P.Port.port_state c.ask.new.self).device
-  stands =
-      let whole = seam c.ask.new.reply c.args.link.now.reply.items c.args.link.now.reply.len (c.ask.ensures.length ∙ ap length c.deref_mut.ensures.value) c.args.link.now.reply.ok.0 in
-      turn_stands (g.P.Port.port_state c.args.port.now).device (g.P.Port.port_state c.ask.new.self).device c.args.link.now.check (g.P.Port.port_state c.ask.new.self).check
+  whole : c.deref-3.result.now ≡ c.ask.new.reply
+  whole = c.deref-3.ensures.value ∙ seam c.ask.new.reply c.args.link.now.reply.items c.args.link.now.reply.len (c.ask.ensures.length ∙ ap length c.deref_mut.ensures.value) c.args.link.now.reply.ok.0
+
+  reply_is : take c.in-Ok.count c.ask.new.reply ≡ reading_line c.put_request-sent.result c.read_all.new.reads
+  reply_is = ap (λ l. take c.in-Ok.count l) (sym whole) ∙ c.in-Some.ensures.right.0
+
+  stands : (old new : Option Device) (now : Check) → IsLinked old c.args.link.now.set.config c.args.link.now.line.items c.args.link.now.anew c.args.link.now.running c.args.link.now.due
+      → WhereTold (λ d e. Answers d c.args.link.now.check c.deref.result.now (take c.in-Ok.count c.ask.new.reply) e now) old new
+      → StandsTurned now (after c.put_request-sent.result (reading_body c.read_all.new.reads)) c.args.link.now.set.config c.args.drives.now c.read_all.new.reads c.args.link.now.due old new
+  stands old new now linked answers =
+      turn_stands old new c.args.link.now.check now
       c.put_request-sent.result c.args.link.now.set.config c.args.link.now.anew c.args.link.now.running c.args.link.now.due c.args.link.now.line.items c.deref.result.now
-      (take c.in-Ok.count c.ask.new.reply) c.args.drives.now c.read_all.new.reads c.requires.ready.linked asked (c.requires.rows.as_many ∙ many)
+      (take c.in-Ok.count c.ask.new.reply) c.args.drives.now c.read_all.new.reads linked asked (c.requires.rows.as_many ∙ many)
       (lengths_kept (λ l. l ≡ pins_of c.args.link.now.set.config.shape) c.args.reads.now c.read_all.new.reads c.read_all.ensures.lengths c.requires.rows.wide)
-      (ap (λ l. take c.in-Ok.count l) (sym (c.deref-3.ensures.value ∙ whole)) ∙ c.in-Some.ensures.right.0) c.requires.ready.running
+      reply_is c.requires.ready.running answers
+
+  told : StandsTurned (g.P.Port.port_state c.ask.new.self).check (after c.put_request-sent.result (reading_body c.read_all.new.reads)) c.args.link.now.set.config c.args.drives.now
+      c.read_all.new.reads c.args.link.now.due (g.P.Port.port_state c.args.port.now).device (g.P.Port.port_state c.ask.new.self).device
+  told =
+      stands (g.P.Port.port_state c.args.port.now).device (g.P.Port.port_state c.ask.new.self).device (g.P.Port.port_state c.ask.new.self).check c.requires.ready.linked
       (own_answers (g.P.Port.port_state c.args.port.now).device (g.P.Port.port_state c.ask.new.self).device (g.P.Port.port_state c.args.port.now).check c.args.link.now.check
       (g.P.Port.port_state c.ask.new.self).check c.deref.result.now (take c.in-Ok.count c.ask.new.reply) c.requires.ready.check c.in-Ok.ensures.told)
+
+  -- the line that was sent, and the one that came, are what is taken
+  talk_is : c.and-link.result ≡ and_said c.args.link.now.talk c.deref.result.now (take c.in-Ok.count c.ask.new.reply)
+  talk_is =
+      c.and-link.ensures ∙ ap (λ r. and_said c.args.link.now.talk r c.deref-5.result.now) (c.deref-4.ensures.value ∙ sym c.deref.ensures.value)
+      ∙ ap (and_said c.args.link.now.talk c.deref.result.now) (c.deref-5.ensures.value ∙ sym c.in-Some.ensures.expected ∙ ap (λ l. take c.in-Ok.count l) whole)
+
+pub returns-clause-talks : goal.returns-clause-talks
+returns-clause-talks g c =
+    said_one c.args.link.now.talk c.and-link.result (g.P.Port.port_state c.args.port.now).talk (g.P.Port.port_state c.ask.new.self).talk c.deref.result.now (take c.in-Ok.count c.ask.new.reply)
+    (talk_is g c) c.in-Ok.ensures.said
+
+pub returns-in_default-clause-talks : goal.returns-in_default-clause-talks
+returns-in_default-clause-talks g c =
+    said_none c.args.link.now.talk c.args.link.now.talk (g.P.Port.port_state c.args.port.now).talk (g.P.Port.port_state c.ask.new.self).talk refl c.in_default.ensures.unsaid
+
+pub returns-in_default-read_check-clause-talks : goal.returns-in_default-read_check-clause-talks
+returns-in_default-read_check-clause-talks g c =
+    said_wrong c.args.link.now.talk c.args.link.now.talk (g.P.Port.port_state c.args.port.now).talk (g.P.Port.port_state c.ask.new.self).talk c.deref.result.now
+    (take c.in-Ok.count c.ask.new.reply) refl c.in-Ok.ensures.said
+
+pub returns-clause-said : goal.returns-clause-said
+returns-clause-said g c = λ _.
+    behind_one _ c.args.link.now.talk c.and-link.result c.deref.result.now (take c.in-Ok.count c.ask.new.reply) (talk_is g c) (λ d b e k a. λ goes.
+    let s = stands g c (Some d) (Some e) k goes.linked (subst (λ (z : Check). Answers d z c.deref.result.now (take c.in-Ok.count c.ask.new.reply) e k) goes.check a) in
+    record {
+      goes = record {
+        linked = rw c.requires.ready.running (subst (λ l. IsLinked (Some e) c.args.link.now.set.config l false true false) (sym c.clear.ensures.items) s.linked);
+        check = s.check refl ∙ sym c.in-Some.ensures.right.1;
+      };
+      turned = s.turned;
+    })
 
 pub returns-clause-turned : goal.returns-clause-turned
 returns-clause-turned g c = λ _. record {
@@ -44,14 +92,14 @@ returns-clause-turned g c = λ _. record {
     set = refl;
     lost = refl;
     running = c.requires.ready.running;
-    check = λ some. (stands g c).check some ∙ sym c.in-Some.ensures.right.1;
-    linked = rw c.requires.ready.running (subst (λ l. IsLinked (g.P.Port.port_state c.ask.new.self).device c.args.link.now.set.config l false true false) (sym c.clear.ensures.items) (stands g c).linked);
+    check = λ some. (told g c).check some ∙ sym c.in-Some.ensures.right.1;
+    linked = rw c.requires.ready.running (subst (λ l. IsLinked (g.P.Port.port_state c.ask.new.self).device c.args.link.now.set.config l false true false) (sym c.clear.ensures.items) (told g c).linked);
     room = record {
       line = λ _. let room = c.requires.ready.room.line c.requires.ready.running in omega (arith, room, c.clear.ensures.len, c.clear.ensures.capacity, c.put_request-sent.ensures.room);
       expected = omega (arith, c.requires.ready.room.expected, c.read_check.ensures.room);
     };
   };
-  turned = (stands g c).turned;
+  turned = (told g c).turned;
 }
 
 pub read_check-requires : goal.read_check-requires

@@ -7,6 +7,8 @@ use Rattle.rig_board.proofs.OneByOne.{lengths_kept}
 use Rattle.rig_port.specs.Requests.{AreWide}
 use Rattle.rig_port.proofs.Held.{put_lengths, not_turned, turned_next, whole_turned, same_piece}
 use Rattle.rig_port.proofs.Resumed.{many_rows}
+use Rattle.rig_port.proofs.Behind.{behind_more, behind_none, behind_so, nothing_said, said_more}
+use Rattle.rig_port.proofs.Standing.{turns_next, turns_none, turns_whole}
 use Rattle.std.specs.Int.{div_ceil}
 use Rattle.std.specs.List.{sum_by}
 use Rattle.machine_config.specs.Configuration.{Configuration}
@@ -45,6 +47,8 @@ turns-init g c = (
   omega arith,
   λ some. absurd (omega (arith, some)),
   λ idle. idle,
+  nothing_said c.args.link.now.talk (g.P.Port.port_state c.args.port.now).talk,
+  behind_none _ c.args.link.now.talk (turns_none c.args.link.now c.requires.ready.running),
 )
 
 pub turn-requires-clause-ready : goal.turn-requires-clause-ready
@@ -103,6 +107,11 @@ turns-preserved g c =
       within,
       λ _. c.turn.ensures.sent c.if-not-turn.false,
       λ _. c.turn.ensures.sent c.if-not-turn.false,
+      said_more c.args.link.now.talk c.turns.link.talk c.turn.new.link.talk (g.P.Port.port_state c.args.port.now).talk (g.P.Port.port_state c.turns.port).talk
+          (g.P.Port.port_state c.turn.new.port).talk c.turns.invariant.8 c.turn.ensures.talks,
+      behind_more _ _ _ c.args.link.now.talk c.turns.link.talk c.turn.new.link.talk c.turns.invariant.9 (c.turn.ensures.said c.if-not-turn.false)
+          (λ d b e k x y _ _. turns_next c.args.link.now c.turns.link c.turn.new.link c.args.drives.now c.turns.reads c.turn.new.reads c.turns.at c.min-end.result c.turns.invariant.3.set le
+          (omega (arith, within, c.requires.rows.as_many, c.turns.auto.reads)) c.turn.ensures.lengths d b e k x y),
     )
 
 pub turn-requires-clause-some : goal.turn-requires-clause-some
@@ -134,3 +143,15 @@ returns-clause-turned g c = λ _.
       turned = whole_turned c.args.drives.now c.turns.reads c.args.link.now.set.config c.turns.at c.args.link.now.due c.turns.link.due
           (g.P.Port.port_state c.args.port.now).device (g.P.Port.port_state c.turns.port).device over (omega (arith, over, many, c.requires.rows.as_many)) c.turns.invariant.4;
     }
+
+pub returns-then-not-turn-clause-talks : goal.returns-then-not-turn-clause-talks
+returns-then-not-turn-clause-talks g c =
+    said_more c.args.link.now.talk c.turns.link.talk c.turn.new.link.talk (g.P.Port.port_state c.args.port.now).talk (g.P.Port.port_state c.turns.port).talk
+    (g.P.Port.port_state c.turn.new.port).talk c.turns.invariant.8 c.turn.ensures.talks
+
+pub returns-clause-said : goal.returns-clause-said
+returns-clause-said g c = λ _.
+    let over : length c.args.drives.now ≤ c.turns.at = omega (arith, c.turns-test.false) in
+    let many = many_rows c.args.reads.now c.turns.reads c.turns.invariant.2 in
+    behind_so _ _ c.args.link.now.talk c.turns.link.talk c.turns.invariant.9
+    (λ d b e k _. turns_whole c.args.link.now c.turns.link c.args.drives.now c.turns.reads c.turns.at over (omega (arith, over, many, c.requires.rows.as_many)) d b e k)

@@ -1,9 +1,17 @@
-use Rattle.std.proofs.Common.{ap, ◌∙◌, sym, length, option_map}
+use Rattle.std.proofs.Common.{◌≡◌, ap, subst, true, List, Some, ◌∙◌, sym, length, option_map}
 use Rattle.machine_shape.specs.Shape.{pins_of}
 use Rattle.rig_port.specs.Linked.{told_with}
 use Rattle.rig_port.proofs.Alarm.{told_alarm}
 use Rattle.rig_port.proofs.Held.{cycled_one, told_on}
-use Rattle.rig_port.proofs.Resumed.{both_rose, ready_here, wide_here, one_row}
+use Rattle.rig_port.specs.Boards.{state_of}
+use Rattle.rig_port.specs.Said.{Said}
+use Rattle.rig_board.specs.Machines.{EachWas, GoesOnBy}
+use Rattle.rig_port.specs.Stands.{MayBe}
+use Rattle.rig_port.specs.Transcripts.{GoOn}
+use Rattle.rig_port.proofs.Standing.{all_here, all_on, cycles_each, held_on, one_cycle, narrows_down, narrows_of, taken_down, talk_here}
+use Rattle.rig_port.proofs.port_board.PortBoardBoard.cycle.Given.{Over}
+use Rattle.rig_port.proofs.port_board.PortBoardBoard.cycle.Goals.{Joined-self}
+use Rattle.rig_port.proofs.Resumed.{both_rose, held_here, running_here, ready_here, wide_here, one_row}
 use Rattle.rig_port.proofs.port_board.PortBoardBoard.cycle.Goals as goal
 
 pub returns-clause-cycles : goal.returns-clause-cycles
@@ -42,3 +50,52 @@ drive_on-requires-clause-rows g c = record {
   wide = wide_here (g.P.Port.port_state c.self.inside.port) c.self.inside.found c.self.inside.again c.in-Some.link c.from_mut.result.now c.in-Some.ensures.value c.self.invariant (one_row c.from_mut.result.now c.args.read.now c.from_mut.ensures.value (ap (λ s. option_map pins_of s.found) c.self.view_is ∙ c.requires.read_pins));
   as_many = ap length c.from_ref.ensures.value ∙ sym (ap length c.from_mut.ensures.value);
 }
+
+module _ (g : Over) (c : Joined-self g) where
+  runs : c.in-Some.link.running ≡ true
+  runs = running_here c.in-Some.ensures.value (ap (λ s. s.in_session) c.self.view_is ∙ c.requires.session)
+
+  each : EachWas (GoesOnBy c.from_ref.result.now c.drive_on.new.reads) (MayBe (state_of (g.P.Port.port_state c.self.inside.port) c.self.inside.found c.self.inside.link c.self.inside.past c.self.inside.again.number c.self.inside.failures))
+      (MayBe (state_of (g.P.Port.port_state c.drive_on.new.port) c.self.inside.found (Some c.drive_on.new.link) c.self.inside.past c.drive_on.new.again.number c.drive_on.new.failures))
+  each =
+      let port = g.P.Port.port_state c.self.inside.port in
+      cycles_each port (g.P.Port.port_state c.drive_on.new.port) c.self.inside.found c.self.inside.past c.self.inside.past c.self.inside.again.number c.drive_on.new.again.number
+      c.self.inside.failures c.drive_on.new.failures c.from_ref.result.now c.drive_on.new.reads c.in-Some.link c.drive_on.new.link c.self.inside.again c.drive_on.new.again c.in-Some.ensures.value
+      (held_here port c.self.inside.found c.self.inside.again c.in-Some.ensures.value c.self.invariant) (all_here port c.self.inside.found c.self.inside.again c.in-Some.ensures.value c.self.invariant)
+      runs (c.drive_on.ensures.sent c.if-not-drive_on.false) (c.drive_on.ensures.said c.if-not-drive_on.false)
+
+pub invariant_of-self-2 : goal.invariant_of-self-2
+invariant_of-self-2 g c =
+    let port = g.P.Port.port_state c.self.inside.port in
+    let now = g.P.Port.port_state c.drive_on.new.port in
+    let held = held_here port c.self.inside.found c.self.inside.again c.in-Some.ensures.value c.self.invariant in
+    let kept = (c.drive_on.ensures.turned c.if-not-drive_on.false).held in (
+      held_on port now c.self.inside.found c.in-Some.link c.drive_on.new.link held kept c.drive_on.ensures.later.machine (runs g c),
+      c.drive_on.ensures.resumes c.if-not-drive_on.false,
+      all_on port now c.self.inside.found c.from_ref.result.now c.drive_on.new.reads c.in-Some.link c.drive_on.new.link c.self.inside.again c.drive_on.new.again held
+          (all_here port c.self.inside.found c.self.inside.again c.in-Some.ensures.value c.self.invariant) kept (runs g c) (c.drive_on.ensures.said c.if-not-drive_on.false),
+    )
+
+pub returns-clause-cycles_for_each : goal.returns-clause-cycles_for_each
+returns-clause-cycles_for_each g c = rw (← c.self.view_is) (λ x b.
+    let w = each g c x b in
+    (w.0, w.1, w.2, one_cycle c.from_ref.result.now c.drive_on.new.reads c.args.drive.now c.args.read.now w.0 x c.from_ref.ensures.value w.3))
+
+pub returns-clause-narrows : goal.returns-clause-narrows
+returns-clause-narrows g c = rw (← c.self.view_is) (narrows_of (GoesOnBy c.from_ref.result.now c.drive_on.new.reads) _ _ (each g c))
+
+pub returns-clause-taken : goal.returns-clause-taken
+returns-clause-taken g c =
+    rw (← c.self.view_is) (subst (λ (t : List Said). GoOn t c.drive_on.new.link.talk (g.P.Port.port_state c.self.inside.port).talk (g.P.Port.port_state c.drive_on.new.port).talk)
+    (talk_here c.self.inside.past c.in-Some.ensures.value) c.drive_on.ensures.talks)
+
+pub returns-then-not-drive_on-clause-narrows : goal.returns-then-not-drive_on-clause-narrows
+returns-then-not-drive_on-clause-narrows g c =
+    rw (← c.self.view_is) (narrows_down (g.P.Port.port_state c.self.inside.port) (g.P.Port.port_state c.drive_on.new.port) c.self.inside.found c.take.new.self c.self.inside.past
+    c.self.inside.again.number c.drive_on.new.again.number c.self.inside.failures c.drive_on.new.failures c.in-Some.link c.drive_on.new.link c.in-Some.ensures.value c.take.ensures.after
+    c.drive_on.ensures.talks)
+
+pub returns-then-not-drive_on-clause-taken : goal.returns-then-not-drive_on-clause-taken
+returns-then-not-drive_on-clause-taken g c =
+    rw (← c.self.view_is) (taken_down c.self.inside.past c.in-Some.link c.drive_on.new.link (g.P.Port.port_state c.self.inside.port).talk (g.P.Port.port_state c.drive_on.new.port).talk
+    c.in-Some.ensures.value c.take.ensures.after c.drive_on.ensures.talks)

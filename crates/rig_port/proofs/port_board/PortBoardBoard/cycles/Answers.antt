@@ -1,7 +1,15 @@
-use Rattle.std.proofs.Common.{ap, ◌∙◌}
+use Rattle.std.proofs.Common.{◌≡◌, ap, subst, true, List, Some, ◌∙◌}
 use Rattle.rig_port.proofs.Alarm.{told_alarm}
 use Rattle.rig_port.proofs.Held.{told_on}
-use Rattle.rig_port.proofs.Resumed.{both_rose, ready_here, wide_here}
+use Rattle.rig_port.specs.Boards.{state_of}
+use Rattle.rig_port.specs.Said.{Said}
+use Rattle.rig_board.specs.Machines.{EachWas, GoesOnBy}
+use Rattle.rig_port.specs.Stands.{MayBe}
+use Rattle.rig_port.specs.Transcripts.{GoOn}
+use Rattle.rig_port.proofs.Standing.{all_here, all_on, cycles_each, held_on, narrows_down, narrows_of, taken_down, talk_here}
+use Rattle.rig_port.proofs.port_board.PortBoardBoard.cycles.Given.{Over}
+use Rattle.rig_port.proofs.port_board.PortBoardBoard.cycles.Goals.{Joined-self}
+use Rattle.rig_port.proofs.Resumed.{both_rose, held_here, running_here, ready_here, wide_here}
 use Rattle.rig_port.proofs.port_board.PortBoardBoard.cycles.Goals as goal
 
 pub returns-clause-cycles : goal.returns-clause-cycles
@@ -36,3 +44,50 @@ drive_on-requires-clause-rows g c = record {
   wide = wide_here (g.P.Port.port_state c.self.inside.port) c.self.inside.found c.self.inside.again c.in-Some.link c.args.reads.now c.in-Some.ensures.value c.self.invariant (rw (ap (λ s. s.found) c.self.view_is) c.requires.read_pins);
   as_many = c.requires.as_many;
 }
+
+module _ (g : Over) (c : Joined-self g) where
+  runs : c.in-Some.link.running ≡ true
+  runs = running_here c.in-Some.ensures.value (ap (λ s. s.in_session) c.self.view_is ∙ c.requires.session)
+
+  each : EachWas (GoesOnBy c.args.drives.now c.drive_on.new.reads) (MayBe (state_of (g.P.Port.port_state c.self.inside.port) c.self.inside.found c.self.inside.link c.self.inside.past c.self.inside.again.number c.self.inside.failures))
+      (MayBe (state_of (g.P.Port.port_state c.drive_on.new.port) c.self.inside.found (Some c.drive_on.new.link) c.self.inside.past c.drive_on.new.again.number c.drive_on.new.failures))
+  each =
+      let port = g.P.Port.port_state c.self.inside.port in
+      cycles_each port (g.P.Port.port_state c.drive_on.new.port) c.self.inside.found c.self.inside.past c.self.inside.past c.self.inside.again.number c.drive_on.new.again.number
+      c.self.inside.failures c.drive_on.new.failures c.args.drives.now c.drive_on.new.reads c.in-Some.link c.drive_on.new.link c.self.inside.again c.drive_on.new.again c.in-Some.ensures.value
+      (held_here port c.self.inside.found c.self.inside.again c.in-Some.ensures.value c.self.invariant) (all_here port c.self.inside.found c.self.inside.again c.in-Some.ensures.value c.self.invariant)
+      runs (c.drive_on.ensures.sent c.if-not-drive_on.false) (c.drive_on.ensures.said c.if-not-drive_on.false)
+
+pub invariant_of-self-2 : goal.invariant_of-self-2
+invariant_of-self-2 g c =
+    let port = g.P.Port.port_state c.self.inside.port in
+    let now = g.P.Port.port_state c.drive_on.new.port in
+    let held = held_here port c.self.inside.found c.self.inside.again c.in-Some.ensures.value c.self.invariant in
+    let kept = (c.drive_on.ensures.turned c.if-not-drive_on.false).held in (
+      held_on port now c.self.inside.found c.in-Some.link c.drive_on.new.link held kept c.drive_on.ensures.later.machine (runs g c),
+      c.drive_on.ensures.resumes c.if-not-drive_on.false,
+      all_on port now c.self.inside.found c.args.drives.now c.drive_on.new.reads c.in-Some.link c.drive_on.new.link c.self.inside.again c.drive_on.new.again held
+          (all_here port c.self.inside.found c.self.inside.again c.in-Some.ensures.value c.self.invariant) kept (runs g c) (c.drive_on.ensures.said c.if-not-drive_on.false),
+    )
+
+pub returns-clause-cycles_for_each : goal.returns-clause-cycles_for_each
+returns-clause-cycles_for_each g c = rw (← c.self.view_is) (each g c)
+
+pub returns-clause-narrows : goal.returns-clause-narrows
+returns-clause-narrows g c = rw (← c.self.view_is) (narrows_of (GoesOnBy c.args.drives.now c.drive_on.new.reads) _ _ (each g c))
+
+pub returns-clause-taken : goal.returns-clause-taken
+returns-clause-taken g c =
+    rw (← c.self.view_is) (subst (λ (t : List Said). GoOn t c.drive_on.new.link.talk (g.P.Port.port_state c.self.inside.port).talk (g.P.Port.port_state c.drive_on.new.port).talk)
+    (talk_here c.self.inside.past c.in-Some.ensures.value) c.drive_on.ensures.talks)
+
+pub returns-then-not-drive_on-clause-narrows : goal.returns-then-not-drive_on-clause-narrows
+returns-then-not-drive_on-clause-narrows g c =
+    rw (← c.self.view_is) (narrows_down (g.P.Port.port_state c.self.inside.port) (g.P.Port.port_state c.drive_on.new.port) c.self.inside.found c.take.new.self c.self.inside.past
+    c.self.inside.again.number c.drive_on.new.again.number c.self.inside.failures c.drive_on.new.failures c.in-Some.link c.drive_on.new.link c.in-Some.ensures.value c.take.ensures.after
+    c.drive_on.ensures.talks)
+
+pub returns-then-not-drive_on-clause-taken : goal.returns-then-not-drive_on-clause-taken
+returns-then-not-drive_on-clause-taken g c =
+    rw (← c.self.view_is) (taken_down c.self.inside.past c.in-Some.link c.drive_on.new.link (g.P.Port.port_state c.self.inside.port).talk (g.P.Port.port_state c.drive_on.new.port).talk
+    c.in-Some.ensures.value c.take.ensures.after c.drive_on.ensures.talks)

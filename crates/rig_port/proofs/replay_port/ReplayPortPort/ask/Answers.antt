@@ -1,0 +1,10 @@
+use Rattle.std.proofs.Common.{ℕ, List, take, drop, subst}
+use Rattle.rig_port.specs.Replays.{HasReplayed}
+use Rattle.rig_port.proofs.Replayed.{begun_more}
+use Rattle.rig_port.proofs.replay_port.ReplayPortPort.ask.Goals as goal
+
+pub returns-in-Some-clause-begun : goal.returns-in-Some-clause-begun
+returns-in-Some-clause-begun c = λ begun.
+    let line = take c.in-Some.replied.count c.next_reply.new.reply in
+    begun_more c.args.self.now.recorded.items c.args.self.now.at c.in-Some.replied.next c.args.self.now.talk c.and-self.result c.args.request.now line
+    (subst (λ (xs : List ℕ). HasReplayed (drop c.args.self.now.at xs) (drop c.in-Some.replied.next xs) c.args.request.now line) c.deref.ensures.value c.in-Some.ensures.replied) c.and-self.ensures begun

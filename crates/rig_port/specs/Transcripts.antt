@@ -1,0 +1,51 @@
+-- What was said over a port, and which machines it can have come from.
+use Rattle.std.specs.Prelude.{◌≡◌, ℕ, List, [], ◌∷◌, ◌++◌}
+use Rattle.machine_shape.specs.declared.Shape.{Shape}
+use Rattle.machine_meaning.specs.Faults.{Faults, AreFaultsOf}
+use Rattle.rig_board.specs.Device.{Device}
+use Rattle.rig_port.specs.declared.check.Check.{Check}
+use Rattle.rig_port.specs.Answers.{Answers}
+use Rattle.rig_port.specs.Said.{Said}
+
+-- a transcript with one more behind
+abbrev pub and_said : List Said → List ℕ → List ℕ → List Said
+and_said talk request line = talk ++ record { request = request; line = line } ∷ []
+
+-- from one device to another there are devices, one in front of each of these and one behind it, that answer so
+abbrev pub HasSaid : Device → Check → List Said → Device → Check → Type 0
+HasSaid d c [] e k = (d ≡ e) × (c ≡ k)
+HasSaid d c (s ∷ more) e k = (f : Device) × (b : Check) × Answers d c s.request s.line f b × HasSaid f b more e k
+
+-- a machine of this shape with these faults may stand so behind what was said
+pub record MayStand (m : Shape) (f : Faults) (talk : List Said) (e : Device) (k : Check) : Type 0 where
+  pub first : Device
+  pub check : Check
+  pub shape : first.shape ≡ m
+  pub faults : first.faults ≡ f
+  pub said : HasSaid first check talk e k
+
+-- these faults of a machine of this shape explain what was said
+pub record ExplainsTalk (m : Shape) (f : Faults) (talk : List Said) : Type 0 where
+  pub faults : AreFaultsOf m f
+  pub last : Device
+  pub check : Check
+  pub stands : MayStand m f talk last check
+
+-- each machine that may stand behind what was said since comes from one that may have stood there before, of which this is said
+abbrev pub Behind : (Device → Check → Device → Check → Type 0) → List Said → List Said → Type 0
+Behind R was now = (m : Shape) (f : Faults) (e : Device) (k : Check) → MayStand m f now e k →
+    (d : Device) × (c : Check) × MayStand m f was d c × R d c e k
+
+-- these are some of those, in their order
+pub data IsAmong : List Said → List Said → Type 0 where
+  neither : IsAmong [] []
+  both : {xs ys : List Said} (s : Said) → IsAmong xs ys → IsAmong (s ∷ xs) (s ∷ ys)
+  passed : {xs ys : List Said} (s : Said) → IsAmong xs ys → IsAmong xs (s ∷ ys)
+
+-- two transcripts went on, and what came to the one is among what came to the other
+pub record GoOn (taken taken_now heard heard_now : List Said) : Type 0 where
+  pub more : List Said
+  pub all : List Said
+  pub taken_is : taken_now ≡ taken ++ more
+  pub heard_is : heard_now ≡ heard ++ all
+  pub among : IsAmong more all
