@@ -27,13 +27,13 @@ module _ (machine defects design : List ℕ) (old new : Around) where
       files-led right.files (λ refusal h. h)
       (led-after (lay-excused d draft old new (never-refused decided d draft right.room)) (λ i _. led-line tt tt))
 
-  -- where there is none it isn't
+  -- where there is none, on a small machine, it isn't
   compile-short : AreDecided → CompileShort t → IsLed (EndsShort old new) (compile_course machine defects design old.store new.store)
   compile-short decided short =
       let d = short.files.list in
       let draft = short.files.draft in
       files-led short.files (λ refusal h. inr h)
-      (led-after (lay-short d draft old new) (λ i laid. absurd (never-lacks decided d draft laid.1 short.lacks)))
+      (led-after (lay-short d draft old new) (λ i laid. absurd (never-lacks decided d draft (laid.1 short.small) short.lacks)))
 
 pub compile-lawful : AreDecided → (machine defects design : List ℕ) → IsLawful (compile_job machine defects design)
 compile-lawful decided machine defects design = record {

@@ -1,6 +1,7 @@
 -- What the command `compile` is.
-use Rattle.std.specs.Prelude.{◌≡◌, ℕ, List, [], ◌∷◌}
+use Rattle.std.specs.Prelude.{◌≡◌, ℕ, true, List, [], ◌∷◌}
 use Rattle.base_io.specs.Vocabulary.{Told, StoreState}
+use Rattle.machine_shape.specs.Limits.{is_small}
 use Rattle.machine_text.specs.Machine.{IsMachine}
 use Rattle.machine_defects.specs.Vocabulary.{DefectList, IsText}
 use Rattle.design_netlist.specs.declared.netlist_data.NetlistData.{NetlistData}
@@ -45,9 +46,10 @@ pub record CompileRight (t : CompileFiles) : Type 0 where
   pub files : AreRightFiles t
   pub room : HasRoom files.list files.draft
 
--- or there is none
+-- or there is none, and the machine is small
 pub record CompileShort (t : CompileFiles) : Type 0 where
   pub files : AreRightFiles t
+  pub small : is_small files.list.shape.counts ≡ true
   pub lacks : LacksRoom files.list files.draft
 
 abbrev pub compile_files : StoreState → (machine defects design : List ℕ) → CompileFiles

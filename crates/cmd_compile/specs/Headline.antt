@@ -5,10 +5,10 @@ use Rattle.machine_defects.specs.Lists.{DefectList}
 use Rattle.design_netlist.specs.declared.netlist_data.NetlistData.{NetlistData}
 use Rattle.machine_image.specs.Images.{ImageValue, image_bytes}
 use Rattle.cmd_steps.specs.Vocabulary.{Outside, IsMachineText, IsDefectsText, IsDesignText}
-use Rattle.place_design.specs.Laying.{IsImageFor, HasRoom}
+use Rattle.place_design.specs.Laying.{IsImageFor, HasRoomIfSmall}
 
 -- The bytes of an image are written that touches only what the list leaves free, closes and switches on nothing idle, and is right
--- for the design under all faults that the list covers. There is room for the design on the list
+-- for the design under all faults that the list covers. On a small machine there is room for the design in order on the list
 pub record IsCompiled (machine defects design : List ℕ) (old new : Outside) : Type 0 where
   pub list : DefectList
   pub draft : NetlistData
@@ -18,5 +18,5 @@ pub record IsCompiled (machine defects design : List ℕ) (old new : Outside) : 
   pub list_is : IfTold (old.store.contents defects) (λ bytes. IsDefectsText list.shape bytes list)
   pub design_is : IfTold (old.store.contents design) (λ bytes. IsDesignText bytes draft)
   pub image_for : IsImageFor list draft image
-  pub room : HasRoom list draft
+  pub room : HasRoomIfSmall list draft
   pub written : Wrote old.sink.written new.sink.written (image_bytes image)

@@ -34,8 +34,8 @@ fn lay_and_write<K: Sink>(
 ///
 /// # Errors
 ///
-/// The first step that refuses, in this order: the machine is read, the list, the design; there is room for it, by the
-/// in-order plan of its plain network; and the bytes are written.
+/// The first step that refuses, in this order: the machine is read, the list, the design; there is room for it, on a
+/// small machine by the in-order plan of its plain network; and the bytes are written.
 pub fn compile<S: Store, K: Sink>(
     alloc: Global,
     machine: &str,

@@ -1,6 +1,7 @@
 -- What the command `go` does with its words, and what it comes to.
-use Rattle.std.proofs.Common.{◌⊎◌, ◌∙◌, ◌≡◌, ℕ, List, refl, sym, subst, inl, inr}
+use Rattle.std.proofs.Common.{◌⊎◌, ◌∙◌, ◌≡◌, ℕ, true, List, refl, sym, subst, inl, inr}
 use Rattle.machine_shape.specs.declared.Shape.{Shape}
+use Rattle.machine_shape.specs.Limits.{is_small}
 use Rattle.machine_meaning.specs.Vocabulary.{Faults, Defects, IsTight}
 use Rattle.machine_defects.specs.Text.{text_of}
 use Rattle.design_netlist.specs.declared.netlist_data.NetlistData.{NetlistData}
@@ -60,7 +61,9 @@ module _ (machine name design vectors : List ℕ) where
           let draft = r.texts.draft in
           right-files r.texts (Lacks words old new front) (record {
             short = λ d refusal stops. lay-short d draft old new refusal stops;
-            never = λ l list same i laid. never-lacks decided l.list draft laid.1 (r.room l.list list.shape list.kept same);
+            never = λ l list same i laid.
+                let small = subst (λ (s : Shape). is_small s.counts ≡ true) (sym list.shape) r.small in
+                never-lacks decided l.list draft (laid.1 small) (r.room l.list list.shape list.kept same);
           })
 
       module _ (sure : AreSure) (networks : AreNetworks) where

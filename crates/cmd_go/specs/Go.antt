@@ -1,7 +1,8 @@
 -- What the command `go` is.
-use Rattle.std.specs.Prelude.{◌≡◌, ◌⊎◌, ℕ, ◌≤◌, List, [], ◌∷◌, length}
+use Rattle.std.specs.Prelude.{◌≡◌, ◌⊎◌, ℕ, ◌≤◌, true, List, [], ◌∷◌, length}
 use Rattle.base_io.specs.Told.{Told}
 use Rattle.machine_shape.specs.declared.Shape.{Shape}
+use Rattle.machine_shape.specs.Limits.{is_small}
 use Rattle.machine_meaning.specs.Faults.{Faults}
 use Rattle.rig.specs.Rig.{RigState, Explains}
 use Rattle.machine_text.specs.Machine.{IsMachine}
@@ -71,9 +72,10 @@ pub record GoRight (t : GoFiles) (rig : RigState) (front : List ℕ) : Type 0 wh
   pub texts : AreGoTexts t
   pub room : IfList texts.shape front (λ d. HasRoom d texts.draft) ⊎ HasPartsFor rig texts.shape texts.draft
 
--- there is no room on the list that stands there
+-- there is no room on the list that stands there, and the machine is small
 pub record GoShort (t : GoFiles) (front : List ℕ) : Type 0 where
   pub texts : AreGoTexts t
+  pub small : is_small texts.shape.counts ≡ true
   pub room : IfList texts.shape front (λ d. LacksRoom d texts.draft)
 
 -- there are no more vectors than the rig was asked to have room for

@@ -13,7 +13,7 @@ use Rattle.place_route.specs.RightImages.{IsRightImage}
 use Rattle.cmd_steps.specs.Vocabulary.{Outside, IsMachineText, IsDesignText}
 use Rattle.diag_list.specs.Possible.{TakesFewLoadsOn}
 use Rattle.diag_list.specs.Lists.{Listed}
-use Rattle.place_design.specs.Laying.{HasRoom, IsRoutedDesign}
+use Rattle.place_design.specs.Laying.{HasRoomIfSmall, IsRoutedDesign}
 use Rattle.run_image.specs.Headline.{IsAskedInOrder, IsWrittenWhole, UsesNothingListed, IsAsRead}
 
 -- Of the rig's one session: its configuration, with a list of input pins and a list of output pins, is `image`
@@ -54,7 +54,7 @@ pub record IsWellGone (machine name design vectors : List ℕ) (old new : Outsid
   pub few : TakesFewLoadsOn new.rig gone.shape old.rig.loads gone.made.loads
   pub loaded_once : new.rig.loads ≡ next_count gone.made.loads
 
--- The plain network of the design fits, in order, on the list that stands written
+-- On a small machine the plain network of the design fits, in order, on the list that stands written
 pub record HasRoomLeft (machine design : List ℕ) (old new : Outside) : Type 0 where
   pub draft : NetlistData
   pub list : DefectList
@@ -63,4 +63,4 @@ pub record HasRoomLeft (machine design : List ℕ) (old new : Outside) : Type 0 
   pub design_is : IfTold (old.store.contents design) (λ bytes. IsDesignText bytes draft)
   pub is_list : IsDefectList list
   pub written : Wrote old.sink.written new.sink.written (text_of list ++ rest)
-  pub room : HasRoom list draft
+  pub room : HasRoomIfSmall list draft

@@ -17,7 +17,7 @@ pub record GoPromises (words : List (List ℕ)) (status : ℕ) (old new : Outsid
   -- at status 0: every fault was listed, an image was loaded that uses nothing listed, and the rows of the design are written
   pub gone : (machine name design vectors : List ℕ) → words ≡ go_words machine name design vectors → status ≡ 0 →
       IsWellGone machine name design vectors old new
-  -- and the plain network of the design fits, in order, on the list
+  -- and on a small machine the plain network of the design fits, in order, on the list
   pub room : (machine name design vectors : List ℕ) → words ≡ go_words machine name design vectors → status ≡ 0 →
       HasRoomLeft machine design old new
   -- whatever the status: few loads were made for the list, and one more at most

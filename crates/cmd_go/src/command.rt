@@ -50,8 +50,8 @@ fn work<S: Store, K: Sink>(
 /// # Errors
 ///
 /// The first step that refuses, in this order: the machine is read and attached, the design is read, the defects are listed
-/// and the list is written; there is room for the design, by the in-order plan of its plain network; its image is loaded, the
-/// file of vectors is started, the line is written, and then each vector is read and driven and its row written.
+/// and the list is written; there is room for the design, on a small machine by the in-order plan of its plain network; its image
+/// is loaded, the file of vectors is started, the line is written, and then each vector is read and driven and its row written.
 // The condition always holds: see `attach` of `cmd_steps`.
 pub fn go<S: Store, K: Sink>(
     alloc: Global,

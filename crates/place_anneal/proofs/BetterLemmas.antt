@@ -1,17 +1,23 @@
 -- What a search found, with fewer crossings than so many.
-use Rattle.std.proofs.Common.{◌≡◌, ℕ, ◌<◌, ◌≤◌, Option, None, Some, IfSome, subst, arith}
+use Rattle.std.proofs.Common.{◌≡◌, ℕ, ◌<◌, ◌≤◌, Option, None, Some, IfSome, subst}
 use Rattle.machine_shape.specs.declared.Shape.{Shape}
 use Rattle.machine_meaning.specs.Defects.{Defects}
 use Rattle.map_network.specs.declared.network.Network.{Network}
 use Rattle.place_plan.specs.declared.plan.Plan.{Plan}
 use Rattle.place_anneal.specs.declared.better.Better.{Better}
-use Rattle.place_anneal.specs.Better.{IsBetterBy}
+use Rattle.place_anneal.specs.Better.{IsBetterBy, IsBetterLaid}
 use Rattle.place_anneal.specs.Crossings.{HasCrossings}
 
-pub found_fewer : (m : Shape) (d : Defects) (n : Network) (p : Plan) (before : ℕ) (o : Option Better) → HasCrossings m n p before → IfSome o (λ b. (sum : ℕ) → HasCrossings m n p sum → before ≤ sum → IsBetterBy m d n p before b) → IfSome o (λ b. b.crossings < before)
-found_fewer m d n p before None are is = tt
-found_fewer m d n p before (Some b) are is = (is before are (omega arith)).fewer
+-- what a search found for at most so many, of a plan that has no fewer
+abbrev pub IsFound : Shape → Defects → Network → Plan → ℕ → Option Better → Type 0
+IsFound m d n p most o = IfSome o (λ b. (sum : ℕ) → HasCrossings m n p sum → most ≤ sum → IsBetterBy m d n p most b)
 
--- what there is of a choice
-pub some_of : {A : Type 0} (P : A → Type 0) (o : Option A) (x : A) → o ≡ Some x → IfSome o P → P x
-some_of P o x e is = subst (λ z. IfSome z P) e is
+module _ (m : Shape) (d : Defects) (n : Network) (p : Plan) (before most : ℕ) where
+  pub found_fewer : (o : Option Better) → HasCrossings m n p before → most ≤ before → IsFound m d n p most o → IfSome o (λ b. b.crossings < most)
+  found_fewer None are few is = tt
+  found_fewer (Some b) are few is = (is before are few).fewer
+
+  pub found_laid : (o : Option Better) (b : Better) → HasCrossings m n p before → most ≤ before → o ≡ Some b → IsFound m d n p most o →
+      IsBetterLaid m d n p b.placed
+  found_laid o b are few e is =
+      (subst (λ z. IfSome z (λ x. (sum : ℕ) → HasCrossings m n p sum → most ≤ sum → IsBetterBy m d n p most x)) e is before are few).laid

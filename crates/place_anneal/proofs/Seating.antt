@@ -1,10 +1,10 @@
 -- Seats stay free and different.
-use Rattle.std.proofs.Common.{◌≡◌, ◌≢◌, ℕ, ◌<◌, ◌≤◌, ◌+◌, ◌==◌, List, [], ◌∷◌, ◌++◌, get_or, map, take, length, sym, ap, ◌∙◌, subst, arith, length-take}
+use Rattle.std.proofs.Common.{◌≡◌, ◌≢◌, ℕ, Bool, true, false, ◌<◌, ◌≤◌, ◌+◌, ◌==◌, List, [], ◌∷◌, ◌++◌, get_or, map, take, length, sym, ap, ◌∙◌, subst, arith, length-take}
 use Rattle.std.specs.List.{All, AllPairs}
 use Rattle.std.specs.List.Sorted.{IsPermutation}
 use Rattle.std.proofs.lemmas.Bool.Decides.{Decides-eqb}
 use Rattle.std.proofs.lemmas.List.{get_or-map, get_or-take, length-map, map-append, take-map, take_more}
-use Rattle.std.proofs.lemmas.List.Elements.{All-map, All-push, All-take, All-weaker}
+use Rattle.std.proofs.lemmas.List.Elements.{All-map, All-more, All-push, All-take, All-weaker}
 use Rattle.std.proofs.lemmas.List.Quantifiers.{all_pairs_push}
 use Rattle.std.proofs.lemmas.List.Sorted.{All-permutation, IsPermutation-map}
 use Rattle.std.proofs.lemmas.Map.Keys.{IsDistinct-IsPermutation}
@@ -17,7 +17,7 @@ use Rattle.map_network.specs.declared.network.Network.{Network}
 use Rattle.place_plan.specs.declared.plan.Plan.{Plan}
 use Rattle.place_plan.specs.Plans.{IsFreeTableOf, IsPlan, number_of, places}
 use Rattle.place_anneal.specs.declared.seats.Seat.{Seat}
-use Rattle.place_anneal.specs.Seats.{AreFreeTables, number_at}
+use Rattle.place_anneal.specs.Seats.{AreFreeTables, AreMarked, HasMark, number_at}
 
 -- the number at the end of the numbers
 pub numbers_push : (seats : List Seat) (s : Seat) → map number_at (seats ++ s ∷ []) ≡ map number_at seats ++ number_at s ∷ []
@@ -40,6 +40,25 @@ tables_within m n d ts e are i t l =
   where
     t_at : Table
     t_at = get_or ts i t
+
+-- marks stay, and the next seat gets one
+pub marked_more : (seats : List Seat) (s : Seat) (old new : List Bool) → AreMarked seats old →
+    ((t : ℕ) → HasMark old t → HasMark new t) → HasMark new (number_at s) → AreMarked (seats ++ s ∷ []) new
+marked_more seats s old new are kept this =
+    All-push (λ r. HasMark new (number_at r)) seats s
+    (All-weaker (λ r. HasMark old (number_at r)) (λ r. HasMark new (number_at r)) (λ r h. kept (number_at r) h) seats are) this
+
+pub marked_on : (seats : List Seat) (i : ℕ) (d : Seat) (old new : List Bool) → i < length seats → AreMarked (take i seats) old →
+    ((t : ℕ) → HasMark old t → HasMark new t) → HasMark new (number_at (get_or seats i d)) → AreMarked (take (i + 1) seats) new
+marked_on seats i d old new lt are kept this =
+    All-more (λ r. HasMark new (number_at r)) seats i d lt
+    (All-weaker (λ r. HasMark old (number_at r)) (λ r. HasMark new (number_at r)) (λ r h. kept (number_at r) h) (take i seats) are) this
+
+-- no seat is at a table without a mark
+pub unmarked : (seats : List Seat) (marks : List Bool) (t : ℕ) → AreMarked seats marks → slice_index_or marks t true ≡ false →
+    All (λ s. number_at s ≢ t) seats
+unmarked seats marks t are none =
+    All-weaker (λ s. HasMark marks (number_at s)) (λ s. number_at s ≢ t) (λ s has same. let no : false ≡ true = sym none ∙ subst (λ z. HasMark marks z) same has in cc) seats are
 
 module _ (m : Shape) (d : Defects) where
   pub free_push : (ts : List ℕ) (t : ℕ) → AreFreeTables m d ts → IsFreeTableOf m d t → All (λ u. u ≢ t) ts →

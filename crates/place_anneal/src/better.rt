@@ -6,7 +6,7 @@ ghost use Rattle.place_anneal.specs.Better.{IsBetterBy, IsBetterLaid};
 ghost use Rattle.place_anneal.specs.Crossings.{HasCrossings, HasNoMore, IsBetter, KeepsPins};
 
 use crate::count::crossings_of;
-use crate::search::search;
+use crate::search::{Begin, search};
 use crate::seats::{seats_of, tables_at};
 use base_lists::Items;
 use machine_defects::Defects;
@@ -29,13 +29,13 @@ fn copy_numbers(alloc: Global, numbers: &[u32]) -> Result<Items<u32>, AllocError
     Ok(Items::new(copy))
 }
 
-// The plan that a search finds from this one on, or anew; it may be worse.
+// The plan that a search finds; it may be worse.
 fn find_plan(
     alloc: Global,
     network: &Network,
     plan: &Plan,
     defects: &Defects,
-    anew: bool,
+    begin: Begin,
 ) -> Result<Plan, AllocError>
     requires { IsPlan defects.now.shape defects.now.list network.now plan.now }
     ensures plan { IfOk result (IsPlan defects.now.shape defects.now.list network.now) }
@@ -43,7 +43,7 @@ fn find_plan(
 {
     let tables = plan.tables.as_slice();
     let seats = seats_of(alloc, tables, defects)?;
-    let moved = search(alloc, &defects.shape(), network, seats, anew)?;
+    let moved = search(alloc, &defects.shape(), network, seats, begin)?;
     let first = &moved[..tables.len()];
     let tables = tables_at(alloc, first)?;
     let inputs = copy_numbers(alloc, plan.inputs.as_slice())?;
@@ -62,7 +62,7 @@ fn better_by(
     plan: &Plan,
     defects: &Defects,
     most: u128,
-    anew: bool,
+    begin: Begin,
 ) -> Result<Option<Better>, AllocError>
     requires network { IsNetwork network.now }
     requires plan { IsPlan defects.now.shape defects.now.list network.now plan.now }
@@ -70,7 +70,7 @@ fn better_by(
         HasCrossings defects.now.shape network.now plan.now before → most ≤ before →
         IsBetterBy defects.now.shape defects.now.list network.now plan.now most better)) }
 {
-    let plan = find_plan(alloc, network, plan, defects, anew)?;
+    let plan = find_plan(alloc, network, plan, defects, begin)?;
     let crossings = crossings_of(alloc, network, &plan, defects)?;
     if crossings >= most {
         return Ok(None);
@@ -95,9 +95,9 @@ fn fewest(better: &Option<Better>, before: u128) -> u128
     }
 }
 
-// The better of two plans that searches find, one from this plan on and one anew, if one of them is better than this plan with
-// its so many crossings. Of two that are as good it is the first.
-fn better_plan(
+// The best of the plans that searches find, if it is better than this plan with its so many crossings. Of those that are as good
+// it is the first.
+fn best_plan(
     alloc: Global,
     network: &Network,
     plan: &Plan,
@@ -109,16 +109,40 @@ fn better_plan(
     requires before { HasCrossings defects.now.shape network.now plan.now before }
     ensures { IfOk result (λ o. IfSome o (IsBetterLaid defects.now.shape defects.now.list network.now plan.now)) }
 {
-    let near = better_by(alloc, network, plan, defects, before, false)?;
+    let near = better_by(alloc, network, plan, defects, before, Begin::Given)?;
     let most = fewest(&near, before);
-    let other = better_by(alloc, network, plan, defects, most, true)?;
-    if let Some(better) = other {
+    let filled = better_by(alloc, network, plan, defects, most, Begin::Filled)?;
+    let least = fewest(&filled, most);
+    let chained = better_by(alloc, network, plan, defects, least, Begin::Chained)?;
+    if let Some(better) = chained {
+        return Ok(Some(better.placed));
+    }
+    if let Some(better) = filled {
         return Ok(Some(better.placed));
     }
     match near {
         Some(better) => Ok(Some(better.placed)),
         None => Ok(None),
     }
+}
+
+/// A plan that fits and has fewer crossings than this one, with its layout, if a search finds one. The pins stay.
+///
+/// # Errors
+///
+/// Out of memory.
+pub fn better_plan(
+    alloc: Global,
+    network: &Network,
+    plan: &Plan,
+    defects: &Defects,
+) -> Result<Option<Placed>, AllocError>
+    requires network { IsNetwork network.now }
+    requires plan { IsPlan defects.now.shape defects.now.list network.now plan.now }
+    ensures { IfOk result (λ o. IfSome o (IsBetterLaid defects.now.shape defects.now.list network.now plan.now)) }
+{
+    let before = crossings_of(alloc, network, plan, defects)?;
+    best_plan(alloc, network, plan, defects, before)
 }
 
 /// A plan in which tables have exchanged their places, or have gone to free tables that none had, so that fewer nets cross
@@ -140,8 +164,7 @@ pub fn improve(
     ensures crossings { IfOk result (HasNoMore defects.now.shape network.now plan) }
     ensures better { IfOk result (λ better. (better ≡ plan) ⊎ IsBetter defects.now.shape defects.now.list network.now plan better) }
 {
-    let before = crossings_of(alloc, network, &plan, defects)?;
-    match better_plan(alloc, network, &plan, defects, before)? {
+    match better_plan(alloc, network, &plan, defects)? {
         Some(better) => Ok(better.plan),
         None => Ok(plan),
     }
@@ -166,8 +189,7 @@ pub fn improve_laid(
     ensures better { IfOk result (λ better. (better ≡ placed) ⊎
         IsBetterLaid defects.now.shape defects.now.list network.now placed.plan better) }
 {
-    let before = crossings_of(alloc, network, &placed.plan, defects)?;
-    match better_plan(alloc, network, &placed.plan, defects, before)? {
+    match better_plan(alloc, network, &placed.plan, defects)? {
         Some(better) => Ok(better),
         None => Ok(placed),
     }

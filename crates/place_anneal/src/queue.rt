@@ -12,8 +12,8 @@ pub struct Queue {
     reached: usize,
 }
 
-// The numbers below this one.
-fn numbers_below(alloc: Global, count: usize) -> Result<Vec<usize>, AllocError> {
+/// The numbers below this one.
+pub fn numbers_below(alloc: Global, count: usize) -> Result<Vec<usize>, AllocError> {
     let mut numbers = Vec::new(alloc);
     for number in 0..count {
         numbers.push(number)?;

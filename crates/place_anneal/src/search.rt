@@ -2,6 +2,7 @@
 ghost use Rattle.std.specs.Prelude.{IfOk};
 ghost use Rattle.std.specs.List.Sorted.{IsPermutation};
 
+use crate::cutting::seat_chain;
 use crate::gain::exchange;
 use crate::growth::grow;
 use crate::links::{Links, links_of};
@@ -12,6 +13,14 @@ use base_random::Draws;
 use machine_shape::Shape;
 use map_network::Network;
 use std::alloc::{AllocError, Global};
+
+/// Where a search begins: with the seats as they are, with seats filled anew, or with tables seated by a chain.
+#[derive(Clone, Copy, Debug)]
+pub enum Begin {
+    Given,
+    Filled,
+    Chained,
+}
 
 /// How many more sixteenths of a crossing half of the tries may add in each round; a quarter may add twice as many, and so
 /// on. With so few what is good in the seats stays.
@@ -99,24 +108,29 @@ fn rounds(trial: &mut Trial, draws: &mut Draws)
     }
 }
 
-// Fills the seats anew, if that is wanted.
-fn begin(alloc: Global, trial: &mut Trial, anew: bool) -> Result<(), AllocError>
+// Seats the tables as the search begins.
+fn seat_first(
+    alloc: Global,
+    shape: &Shape,
+    trial: &mut Trial,
+    begin: Begin,
+) -> Result<(), AllocError>
     ensures { IsPermutation trial.old.seats.items trial.new.seats.items }
 {
-    if anew {
-        return grow(alloc, trial);
+    match begin {
+        Begin::Given => Ok(()),
+        Begin::Filled => grow(alloc, trial),
+        Begin::Chained => seat_chain(alloc, shape, trial),
     }
-    Ok(())
 }
 
-/// The same seats in another order, in which the network's tables have fewer crossings if the search has luck. It begins with
-/// the seats as they are, or with seats that it fills anew.
+/// The same seats in another order, in which the network's tables have fewer crossings if the search has luck.
 pub fn search(
     alloc: Global,
     shape: &Shape,
     network: &Network,
     seats: Vec<Seat>,
-    anew: bool,
+    begin: Begin,
 ) -> Result<Vec<Seat>, AllocError>
     ensures { IfOk result (λ other. IsPermutation seats.items other.items) }
 {
@@ -128,7 +142,7 @@ pub fn search(
         links,
         spans: spans_of(shape),
     };
-    begin(alloc, &mut trial, anew)?;
+    seat_first(alloc, shape, &mut trial, begin)?;
     rounds(&mut trial, &mut Draws::new(1));
     Ok(trial.seats)
 }

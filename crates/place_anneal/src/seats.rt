@@ -1,8 +1,8 @@
 //! The free tables of a machine as seats for the tables of a network.
-ghost use Rattle.std.specs.Prelude.{◌≡◌, ◌≢◌, ◌<◌, ◌≤◌, IfOk, IsFalse, OnOk, All, length, map};
+ghost use Rattle.std.specs.Prelude.{◌≡◌, ◌<◌, ◌≤◌, ℕ, IfOk, OnOk, All, length, map, slice_index_or, true};
 ghost use Rattle.machine_shape.specs.Shape.{nodes_of, tables_of};
 ghost use Rattle.place_plan.specs.Plans.{number_of};
-ghost use Rattle.place_anneal.specs.Seats.{AreFreeTables, number_at};
+ghost use Rattle.place_anneal.specs.Seats.{AreFreeTables, AreMarked, HasMark, number_at};
 
 use base_lists::Items;
 use machine_defects::Defects;
@@ -57,43 +57,77 @@ fn taken_seats(alloc: Global, shape: &Shape, tables: &[Table]) -> Result<Vec<Sea
     Ok(seats)
 }
 
-// Whether a table is among the seats.
-fn has_seat(seats: &[Seat], table: Table) -> bool
-    ensures { IsFalse result → All (λ s. number_at s ≢ table.0) seats.now }
+// Marks a table.
+fn mark(marks: &mut [bool], table: Table)
+    ensures this { HasMark marks.new table.0 }
+    ensures kept { (t : ℕ) → HasMark marks.old t → HasMark marks.new t }
 {
-    for seat in seats {
-        if seat.table.0 == table.0 {
-            return true;
-        }
+    let place = table.0 as usize;
+    if place < marks.len() {
+        marks[place] = true;
     }
-    false
+}
+
+// Whether a table has a mark.
+fn is_marked(marks: &[bool], table: Table) -> bool
+    ensures { result ≡ slice_index_or marks.now table.0 true }
+{
+    let place = table.0 as usize;
+    if place < marks.len() {
+        return marks[place];
+    }
+    true
+}
+
+// Marks for so many tables, on those of the seats.
+fn marks_of(alloc: Global, tables: u32, seats: &[Seat]) -> Result<Vec<bool>, AllocError>
+    ensures { IfOk result (λ marks. AreMarked seats.now marks.items) }
+{
+    let mut marks = vec![in alloc; false; tables as usize]?;
+    for seat in seats {
+        mark(&mut marks, seat.table);
+    }
+    Ok(marks)
 }
 
 // Adds the seat at a table, if that is free and isn't among them.
-fn add_other(seats: &mut Vec<Seat>, defects: &Defects, table: Table) -> Result<(), AllocError>
+fn add_other(
+    seats: &mut Vec<Seat>,
+    marks: &mut Vec<bool>,
+    defects: &Defects,
+    table: Table,
+) -> Result<(), AllocError>
     requires within { table.0 < tables_of defects.now.shape }
     requires free { AreFreeTables defects.now.shape defects.now.list (map number_at seats.old.items) }
+    requires marked { AreMarked seats.old.items marks.old.items }
     ensures free { OnOk result (AreFreeTables defects.now.shape defects.now.list (map number_at seats.new.items)) }
     ensures more { OnOk result (length seats.old.items ≤ length seats.new.items) }
+    ensures marked { OnOk result (AreMarked seats.new.items marks.new.items) }
 {
     if !defects.free_table(table) {
         return Ok(());
     }
-    if has_seat(seats, table) {
+    if is_marked(marks, table) {
         return Ok(());
     }
     seats.push(seat_at(&defects.shape(), table))?;
+    mark(marks, table);
     Ok(())
 }
 
 // Adds the seats at the free tables that aren't among them.
-fn add_others(seats: &mut Vec<Seat>, defects: &Defects) -> Result<(), AllocError>
-    requires { AreFreeTables defects.now.shape defects.now.list (map number_at seats.old.items) }
+fn add_others(
+    seats: &mut Vec<Seat>,
+    marks: &mut Vec<bool>,
+    defects: &Defects,
+) -> Result<(), AllocError>
+    requires free { AreFreeTables defects.now.shape defects.now.list (map number_at seats.old.items) }
+    requires marked { AreMarked seats.old.items marks.old.items }
     ensures free { OnOk result (AreFreeTables defects.now.shape defects.now.list (map number_at seats.new.items)) }
     ensures more { OnOk result (length seats.old.items ≤ length seats.new.items) }
 {
     for t in 0..defects.shape().tables() {
-        add_other(seats, defects, Table(t))?;
+        add_other(seats, marks, defects, Table(t))?;
     }
     Ok(())
 }
@@ -106,7 +140,8 @@ pub fn seats_of(alloc: Global, tables: &[Table], defects: &Defects) -> Result<Ve
 {
     let shape = defects.shape();
     let mut seats = taken_seats(alloc, &shape, tables)?;
-    add_others(&mut seats, defects)?;
+    let mut marks = marks_of(alloc, shape.tables(), &seats)?;
+    add_others(&mut seats, &mut marks, defects)?;
     Ok(seats)
 }
 

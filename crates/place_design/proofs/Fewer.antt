@@ -6,8 +6,9 @@ use Rattle.design_netlist.specs.declared.netlist_data.NetlistData.{NetlistData}
 use Rattle.map_network.specs.declared.network.Network.{Network}
 use Rattle.map_network.specs.Vocabulary.{AllLead, IsNetwork, IsNoDeeper, AreRows, HasRowsOf, IsPlainNetwork, plain_network}
 use Rattle.place_anneal.specs.Better.{IsBetterLaid}
-use Rattle.place_anneal.specs.Crossings.{HasCrossings, HasNoMore}
+use Rattle.place_anneal.specs.Crossings.{HasCrossings, HasFewer, HasNoMore}
 use Rattle.place_plan.specs.declared.layout.Placed.{Placed}
+use Rattle.place_plan.specs.declared.plan.Plan.{Plan}
 use Rattle.place_plan.specs.Plans.{Fits}
 use Rattle.place_design.specs.Smaller.{IsFor, IsLeanFor}
 use Rattle.place_design.proofs.PlainWidths.{plain-inputs, plain-outputs}
@@ -46,6 +47,16 @@ pub better-fits : (m : Shape) (d : Defects) (n : Network) (old new : Placed) →
 better-fits m d n old new fits (inl same) = subst (λ (x : Placed). Fits m d n x.plan) (sym same) fits
 better-fits m d n old new fits (inr better) = better.better.fits
 
+-- fewer crossings are no more
+pub no-more-from : (m : Shape) (n : Network) (old new : Plan) → HasFewer m n old new → HasNoMore m n old new
+no-more-from m n old new f = record {
+  before = f.before;
+  after = f.after;
+  are_before = f.are_before;
+  are_after = f.are_after;
+  fewer = let l = f.fewer in omega arith;
+}
+
 -- and has no more crossings
 pub no-more-crossings : (m : Shape) (d : Defects) (n : Network) (old new : Placed) (crossings : ℕ) → HasCrossings m n new.plan crossings → (new ≡ old) ⊎ IsBetterLaid m d n old.plan new → HasNoMore m n old.plan new.plan
 no-more-crossings m d n old new crossings has (inl same) = record {
@@ -55,13 +66,7 @@ no-more-crossings m d n old new crossings has (inl same) = record {
   are_after = has;
   fewer = omega arith;
 }
-no-more-crossings m d n old new crossings has (inr better) = let f = better.better.crossings in record {
-  before = f.before;
-  after = f.after;
-  are_before = f.are_before;
-  are_after = f.are_after;
-  fewer = let l = f.fewer in omega arith;
-}
+no-more-crossings m d n old new crossings has (inr better) = no-more-from m n old.plan new.plan better.better.crossings
 
 -- the plain network itself
 pub plain-for : (draft : NetlistData) (n : Network) → IsPlainNetwork draft n → IsNetwork n → HasRowsOf n draft → IsFor draft n

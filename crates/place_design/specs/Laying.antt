@@ -1,5 +1,6 @@
 -- A design is laid on what a list of defects leaves free.
-use Rattle.std.specs.Prelude.{◌≡◌, ◌≤◌, ◌⊎◌, length}
+use Rattle.std.specs.Prelude.{◌≡◌, ◌≤◌, ◌⊎◌, true, false, length}
+use Rattle.machine_shape.specs.Limits.{is_small}
 use Rattle.machine_meaning.specs.Vocabulary.{Covers, Faults}
 use Rattle.machine_defects.specs.Lists.{DefectList}
 use Rattle.design_netlist.specs.declared.netlist_data.NetlistData.{NetlistData}
@@ -7,7 +8,7 @@ use Rattle.map_network.specs.declared.network.Network.{Network}
 use Rattle.map_network.specs.Vocabulary.{AllLead, IsNetwork, IsNoDeeper, IsPlainNetwork, plain_network, HasRowsOf}
 use Rattle.place_plan.specs.declared.plan.Plan.{Plan}
 use Rattle.place_plan.specs.declared.short.Short.{Short}
-use Rattle.place_plan.specs.Plans.{FitsInOrder, IsInOrder, IsShortInOrder}
+use Rattle.place_plan.specs.Plans.{Fits, FitsInOrder, IsInOrder, IsShortInOrder}
 use Rattle.place_anneal.specs.Crossings.{HasNoMore}
 use Rattle.machine_image.specs.Vocabulary.{ImageValue, IsImage, IsFreeImage}
 use Rattle.place_route.specs.Vocabulary.{IsRightImage, IsRoutedFor}
@@ -50,15 +51,29 @@ pub record IsLean (d : DefectList) (draft : NetlistData) (n : Network) (p : Plan
   pub in_order : IsInOrder d.shape d.list n first
   pub crossings : HasNoMore d.shape n first p
 
+-- It is the design's plain network on a machine that isn't small, and nets cross at most as many nodes in sum as by its plan in
+-- order
+pub record IsPlainFound (d : DefectList) (draft : NetlistData) (n : Network) (p : Plan) : Type 0 where
+  pub large : is_small d.shape.counts ≡ false
+  pub plain : IsPlainNetwork draft n
+  pub first : Plan
+  pub in_order : IsInOrder d.shape d.list n first
+  pub crossings : HasNoMore d.shape n first p
+
+-- what may be laid
+abbrev pub IsChosen : DefectList → NetlistData → Network → Plan → Type 0
+IsChosen d draft n p = IsPlainInOrder d draft n p ⊎ (IsLean d draft n p ⊎ IsPlainFound d draft n p)
+
 -- The image is routed for the design's plain network on its plan in order, or for a network with the same rows and no more tables
--- of which nothing is in vain
+-- of which nothing is in vain; on a machine that isn't small also for the plain network on another plan. The plan fits
 pub record IsRoutedDesign (d : DefectList) (draft : NetlistData) (i : ImageValue) : Type 0 where
   pub network : Network
   pub plan : Plan
   pub is_network : IsNetwork network
   pub rows : HasRowsOf network draft
   pub no_more : length network.tables ≤ length (plain_network draft).tables
-  pub choice : IsPlainInOrder d draft network plan ⊎ IsLean d draft network plan
+  pub fits : Fits d.shape d.list network plan
+  pub choice : IsChosen d draft network plan
   pub routed : IsRoutedFor d.shape d.list network plan i
 
 -- The image is of the machine, has a pin for each input and output of the design, touches only what the list leaves free, closes
@@ -77,5 +92,9 @@ NotLaid d draft (refused.Room place) = IsNoRoom d draft place
 NotLaid d draft refused.Memory = Unit {0}
 NotLaid d draft refusal = ⊥
 
+-- on a small machine the plan in order alone decides
+abbrev pub HasRoomIfSmall : DefectList → NetlistData → Type 0
+HasRoomIfSmall d draft = is_small d.shape.counts ≡ true → HasRoom d draft
+
 abbrev pub lays : DefectList → NetlistData → Step ImageValue
-lays d draft = record { stops = NotLaid d draft; gives = λ i. IsImageFor d draft i × HasRoom d draft }
+lays d draft = record { stops = NotLaid d draft; gives = λ i. IsImageFor d draft i × HasRoomIfSmall d draft }

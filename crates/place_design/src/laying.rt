@@ -1,18 +1,19 @@
 //! Designs that are laid on a machine.
-ghost use Rattle.std.specs.Prelude.{◌≡◌, ◌≤◌, ◌⊎◌, [], IfOk, IfErr, IfSome, length};
+ghost use Rattle.std.specs.Prelude.{◌≡◌, ◌≤◌, [], false, IfOk, IfErr, IfSome, length};
+ghost use Rattle.machine_shape.specs.Limits.{is_small};
 ghost use Rattle.map_network.specs.Vocabulary.{IsNetwork, IsPlainNetwork, plain_network, HasRowsOf};
-ghost use Rattle.place_plan.specs.Vocabulary.{IsLayout, Fits, IsPlan};
+ghost use Rattle.place_plan.specs.Vocabulary.{IsLayout, Fits, FitsInOrder, IsPlan};
 ghost use Rattle.cmd_steps.specs.Vocabulary.{Outside, StepStops, Took};
-ghost use Rattle.place_design.specs.Laying.{lays, IsImageFor, IsLean, IsPlainInOrder};
+ghost use Rattle.place_design.specs.Laying.{lays, IsChosen, IsImageFor};
 
-use crate::room::plan_of;
-use crate::smaller::smaller_for;
-use cmd_steps::Stop;
+use crate::room::no_place;
+use crate::smaller::{found_plan, smaller_for};
+use cmd_steps::{Refusal, Stop};
 use design_netlist::Netlist;
 use machine_defects::Defects;
 use machine_image::Image;
 use map_network::{Network, plain};
-use place_plan::Placed;
+use place_plan::{PlaceFail, Placed, in_order_laid};
 use place_route::route_laid;
 use std::alloc::{AllocError, Global};
 
@@ -29,8 +30,7 @@ fn drawn(
     requires inputs { network.now.inputs ≡ length netlist.now.inputs }
     requires outputs { length network.now.outputs ≡ length netlist.now.outputs }
     requires tables { length network.now.tables ≤ length (plain_network netlist.now).tables }
-    requires choice { IsPlainInOrder defects.now netlist.now network.now placed.now.plan ⊎
-        IsLean defects.now netlist.now network.now placed.now.plan }
+    requires choice { IsChosen defects.now netlist.now network.now placed.now.plan }
     requires plan { IsPlan defects.now.shape defects.now.list network.now placed.now.plan }
     requires fits { Fits defects.now.shape defects.now.list network.now placed.now.plan }
     requires layout { IsLayout defects.now.shape defects.now.list network.now placed.now.plan placed.now.layout }
@@ -61,29 +61,99 @@ fn drawn_smaller(
     Ok(Some(image))
 }
 
+// An image of a design whose network has a plan in order that fits.
+fn drawn_in_order(
+    alloc: Global,
+    netlist: &Netlist,
+    whole: &Network,
+    placed: &Placed,
+    defects: &Defects,
+) -> Result<Image, AllocError>
+    requires plain { IsPlainNetwork netlist.now whole.now }
+    requires network { IsNetwork whole.now }
+    requires rows { HasRowsOf whole.now netlist.now }
+    requires fits { FitsInOrder defects.now.shape defects.now.list whole.now placed.now.plan }
+    requires layout { IsLayout defects.now.shape defects.now.list whole.now placed.now.plan placed.now.layout }
+    ensures { IfOk result (IsImageFor defects.now netlist.now) }
+{
+    match drawn_smaller(alloc, netlist, whole, defects)? {
+        Some(image) => Ok(image),
+        None => drawn(alloc, netlist, whole, placed, defects),
+    }
+}
+
+// An image of a design on a plan that was found, if one is, on a machine that isn't small.
+fn drawn_on_found(
+    alloc: Global,
+    netlist: &Netlist,
+    whole: &Network,
+    defects: &Defects,
+) -> Result<Option<Image>, AllocError>
+    requires plain { IsPlainNetwork netlist.now whole.now }
+    requires network { IsNetwork whole.now }
+    requires rows { HasRowsOf whole.now netlist.now }
+    requires large { is_small defects.now.shape.counts ≡ false }
+    ensures { IfOk result (λ o. IfSome o (IsImageFor defects.now netlist.now)) }
+{
+    let Some(found) = found_plan(alloc, whole, defects)? else {
+        return Ok(None);
+    };
+    let image = drawn(alloc, netlist, whole, &found.placed, defects)?;
+    Ok(Some(image))
+}
+
+// An image of a design whose network's plan in order doesn't fit, if the machine isn't small and another plan fits.
+fn drawn_out_of_order(
+    alloc: Global,
+    netlist: &Netlist,
+    whole: &Network,
+    defects: &Defects,
+) -> Result<Option<Image>, AllocError>
+    requires plain { IsPlainNetwork netlist.now whole.now }
+    requires network { IsNetwork whole.now }
+    requires rows { HasRowsOf whole.now netlist.now }
+    ensures image { IfOk result (λ o. IfSome o (IsImageFor defects.now netlist.now)) }
+    ensures large { IfOk result (λ o. IfSome o (λ _. is_small defects.now.shape.counts ≡ false)) }
+{
+    if defects.shape().is_small() {
+        return Ok(None);
+    }
+    let smaller = drawn_smaller(alloc, netlist, whole, defects)?;
+    if smaller.is_some() {
+        return Ok(smaller);
+    }
+    drawn_on_found(alloc, netlist, whole, defects)
+}
+
 // The image, or why there is none.
 fn image_for(alloc: Global, netlist: &Netlist, defects: &Defects) -> Result<Image, Stop>
     ensures found { IfOk result (lays defects.now netlist.now).gives }
     ensures refused { IfErr result (StepStops (lays defects.now netlist.now)) }
 {
     let network = plain(alloc, netlist)?;
-    let placed = plan_of(alloc, &network, defects)?;
-    if let Some(image) = drawn_smaller(alloc, netlist, &network, defects)? {
-        return Ok(image);
+    match in_order_laid(alloc, &network, defects) {
+        Ok(placed) => {
+            let image = drawn_in_order(alloc, netlist, &network, &placed, defects)?;
+            Ok(image)
+        }
+        Err(PlaceFail::Memory) => Err(Stop::Refused(Refusal::Memory)),
+        Err(fail) => match drawn_out_of_order(alloc, netlist, &network, defects)? {
+            Some(image) => Ok(image),
+            None => Err(no_place(alloc, defects.shape(), fail)),
+        },
     }
-    let image = drawn(alloc, netlist, &network, &placed, defects)?;
-    Ok(image)
 }
 
 /// An image of a design on what the list leaves free, where there is room for its plain network in order. It is that of a
-/// network with fewer tables, on a plan with fewer crossings, where such a plan fits. No table of it is on and no crosspoint closed that
-/// the network doesn't need. Unless it is the plain network on its plan in order, each table leads to an output, no path of tables
-/// is longer than in the plain network, and nets cross at most as many nodes in sum as by the network's plan in order.
+/// network with fewer tables, on a plan with fewer crossings, where such a plan fits. On a machine that isn't small there is also one
+/// where a plan is found that fits, of such a network or of the plain one. No table of it is on and no crosspoint closed that
+/// the network doesn't need. Unless it is the plain network, each table leads to an output, and no path of tables
+/// is longer than in the plain network; unless the plan is that in order, nets cross at most as many nodes in sum as by that.
 ///
 /// # Errors
 ///
-/// The refusal for want of room exactly where the in-order plan of the plain network doesn't fit, with the first short
-/// resource, unless memory is lacking; out of memory.
+/// The refusal for want of room only where the in-order plan of the plain network doesn't fit, and on a small machine exactly
+/// there, with the first short resource, unless memory is lacking; out of memory.
 pub fn lay(alloc: Global, netlist: &Netlist, defects: &Defects) -> Result<Image, Stop>
     // Whatever is around it.
     ensures took { (o : Outside) → Took [] (lays defects.now netlist.now) result o o }

@@ -1,17 +1,14 @@
 //! Room for a network, or what there is too little of.
-ghost use Rattle.std.specs.Prelude.{◌≡◌, ◌<◌, IfOk, IfErr};
+ghost use Rattle.std.specs.Prelude.{◌≡◌, ◌<◌};
 ghost use Rattle.machine_defects.specs.Lists.{DefectList};
 ghost use Rattle.machine_shape.specs.Shape.{nodes_of};
-ghost use Rattle.map_network.specs.Networks.{IsNetwork};
 ghost use Rattle.map_network.specs.declared.network.Network.{Network};
-ghost use Rattle.place_plan.specs.Vocabulary.{IsLayout, FitsInOrder, IsPlaceFail};
+ghost use Rattle.place_plan.specs.Vocabulary.{IsPlaceFail};
 ghost use Rattle.place_design.specs.Wants.{IsRefusedFor, PlanStops};
 
 use cmd_steps::{Refusal, RefusedRoom, Stop};
-use machine_defects::Defects;
 use machine_shape::Shape;
-use map_network::Network;
-use place_plan::{PlaceFail, Placed, Short, in_order_laid};
+use place_plan::{PlaceFail, Short};
 use std::alloc::Global;
 
 // The refusal for want of room.
@@ -34,18 +31,5 @@ pub fn no_place(alloc: Global, shape: Shape, fail: PlaceFail) -> Stop
     match fail {
         PlaceFail::Short(short) => no_room(alloc, shape, short),
         PlaceFail::Memory => Stop::Refused(Refusal::Memory),
-    }
-}
-
-/// The in-order plan of a network with its layout, where it fits.
-pub fn plan_of(alloc: Global, network: &Network, defects: &Defects) -> Result<Placed, Stop>
-    requires { IsNetwork network.now }
-    ensures found { IfOk result (λ placed. FitsInOrder defects.now.shape defects.now.list network.now placed.plan) }
-    ensures layout { IfOk result (λ placed. IsLayout defects.now.shape defects.now.list network.now placed.plan placed.layout) }
-    ensures refused { IfErr result (PlanStops defects.now network.now) }
-{
-    match in_order_laid(alloc, network, defects) {
-        Ok(placed) => Ok(placed),
-        Err(fail) => Err(no_place(alloc, defects.shape(), fail)),
     }
 }

@@ -8,8 +8,8 @@ ghost use Rattle.place_design.specs.Smaller.{IsImproved, IsLeanFor, IsSmallerFor
 use design_netlist::Netlist;
 use machine_defects::Defects;
 use map_network::{Network, merged_of, spread_of};
-use place_anneal::{crossings_of, improve_laid};
-use place_plan::{PlaceFail, Placed, in_order_laid};
+use place_anneal::{better_plan, crossings_of, improve_laid};
+use place_plan::{PlaceFail, Placed, in_order_laid, seat_in_order};
 use std::alloc::{AllocError, Global};
 
 /// A network, a plan for it that fits, and how many nets of the plan cross a node, summed over all nodes.
@@ -53,7 +53,48 @@ pub fn improved_plan(
     }))
 }
 
-// The network on its improved plan, if it has one.
+/// A plan of a network that fits and has fewer crossings than its plan in order, whether that fits or not, if a search finds
+/// one.
+///
+/// # Errors
+///
+/// Out of memory.
+pub fn found_plan(
+    alloc: Global,
+    network: &Network,
+    defects: &Defects,
+) -> Result<Option<Improved>, AllocError>
+    requires { IsNetwork network.now }
+    ensures { IfOk result (λ o. IfSome o (IsImproved defects.now network.now)) }
+{
+    let Some(plan) = seat_in_order(alloc, network, defects)? else {
+        return Ok(None);
+    };
+    let Some(placed) = better_plan(alloc, network, &plan, defects)? else {
+        return Ok(None);
+    };
+    let crossings = crossings_of(alloc, network, &placed.plan, defects)?;
+    Ok(Some(Improved { placed, crossings }))
+}
+
+// The plan that is tried for a network: the improved one, and on a machine that isn't small, where its plan in order doesn't fit,
+// one that is found.
+fn tried_plan(
+    alloc: Global,
+    network: &Network,
+    defects: &Defects,
+) -> Result<Option<Improved>, AllocError>
+    requires { IsNetwork network.now }
+    ensures { IfOk result (λ o. IfSome o (IsImproved defects.now network.now)) }
+{
+    let improved = improved_plan(alloc, network, defects)?;
+    if improved.is_some() || defects.shape().is_small() {
+        return Ok(improved);
+    }
+    found_plan(alloc, network, defects)
+}
+
+// The network on the plan that is tried for it, if there is one.
 fn planned(
     alloc: Global,
     netlist: &Netlist,
@@ -63,7 +104,7 @@ fn planned(
     requires { IsLeanFor netlist.now network }
     ensures { IfOk result (λ o. IfSome o (IsSmallerFor defects.now netlist.now)) }
 {
-    match improved_plan(alloc, &network, defects)? {
+    match tried_plan(alloc, &network, defects)? {
         Some(improved) => Ok(Some(Smaller {
             network,
             placed: improved.placed,

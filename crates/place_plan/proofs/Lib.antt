@@ -32,4 +32,5 @@ mod Choosing
 mod Ranges
 mod Determined
 mod FewNets
+mod Seated
 mod Enough

@@ -1,7 +1,7 @@
 //! Whether a plan fits, and the in-order plan where it does.
 ghost use Rattle.std.specs.Prelude.{◌↔◌, ◌≤◌, IfOk, IfErr, IfSome, IfNone, IsTrue, length};
 ghost use Rattle.machine_shape.specs.Bounds.{most_ticks};
-ghost use Rattle.place_plan.specs.Plans.{Fits, FitsInOrder, IsPlaceFail, IsPlan};
+ghost use Rattle.place_plan.specs.Plans.{Fits, FitsInOrder, IsInOrder, IsPlaceFail, IsPlan};
 ghost use Rattle.place_plan.specs.Laying.{FitsWith, IsLaid, IsLayout};
 ghost use Rattle.map_network.specs.Networks.{IsNetwork};
 
@@ -90,6 +90,34 @@ pub fn fits(
         Some(_) => Ok(true),
         None => Ok(false),
     }
+}
+
+/// The in-order plan, whether it fits or not; none where there are too few tables or pins for it.
+///
+/// # Errors
+///
+/// Out of memory.
+pub fn seat_in_order(
+    alloc: Global,
+    network: &Network,
+    defects: &Defects,
+) -> Result<Option<Plan>, AllocError>
+    ensures plan { IfOk result (λ o. IfSome o (IsPlan defects.now.shape defects.now.list network.now)) }
+    ensures in_order { IfOk result (λ o. IfSome o (IsInOrder defects.now.shape defects.now.list network.now)) }
+{
+    let most = defects.shape().most_ticks();
+    let free_tables = free_tables(alloc, defects)?;
+    let free_pins = free_pins(alloc, defects)?;
+    let tables = tables_wanted(network, free_tables.as_slice(), most);
+    let pins = pins_wanted(network, free_pins.as_slice());
+    if tables.have < tables.need {
+        return Ok(None);
+    }
+    if pins.have < pins.need {
+        return Ok(None);
+    }
+    let plan = sit(alloc, network, free_tables.as_slice(), free_pins.as_slice())?;
+    Ok(Some(plan))
 }
 
 /// The in-order plan with its layout: the k-th table of the network on the k-th free table, the inputs and then the outputs

@@ -6,8 +6,9 @@
 //! The in-order plan, and whether tables, pins, ports and lines suffice for a plan. `in_order` answers `Short` exactly where that
 //! plan doesn't fit, with the first short resource, its node, need and have; for lines with a set of nets that fewer lines serve
 //! than it has nets. `in_order_laid` answers the layout with the plan: the port of each net at each node that it crosses, and its
-//! line at each node that it visits. Lines are found by any choice in which each net has a line of its own whose crosspoints to
-//! the net's taps are free, and `Short` comes only where there is no such choice.
+//! line at each node that it visits; `seat_in_order` answers the plan alone, whether it fits or not. Lines are found by any choice
+//! in which each net has a line of its own whose crosspoints to the net's taps are free, and `Short` comes only where there is no
+//! such choice.
 //!
 //! When there is room for certain.
 //!
@@ -36,7 +37,7 @@ mod terminals;
 mod touch;
 mod tree;
 
-pub use fit::{fits, in_order, in_order_laid, lay_out};
+pub use fit::{fits, in_order, in_order_laid, lay_out, seat_in_order};
 pub use laws::{in_order_plans_are_decided, room_is_decided};
 pub use layout::{Layout, Placed};
 pub use numbers::empty_lists;

@@ -1,8 +1,5 @@
-use Rattle.std.proofs.Common.{◌≢◌, List, refl, subst}
-use Rattle.std.specs.List.{All}
-use Rattle.place_anneal.specs.declared.seats.Seat.{Seat}
-use Rattle.place_anneal.specs.Seats.{number_at}
-use Rattle.place_anneal.proofs.Seating.{others_more}
+use Rattle.std.proofs.Common.{◌∙◌, ap, refl, slice_index_or, sym, true}
+use Rattle.place_anneal.proofs.Seating.{marked_more, others_more, unmarked}
 use Rattle.place_anneal.proofs.seats.add_other.Goals as goal
 
 pub returns-clause-free : goal.returns-clause-free
@@ -11,5 +8,9 @@ returns-clause-free c =
     others_more D.shape D.list c.args.seats.now.items c.push.new.self.items c.seat_at.result c.args.table.0
     c.requires.free c.requires.within
     (c.if-not-free_table.ensures.0 refl)
-    (subst (λ (z : List Seat). All (λ r. number_at r ≢ c.args.table.0) z) c.deref.ensures.value (c.if-has_seat.ensures refl))
+    (unmarked c.args.seats.now.items c.args.marks.now.items c.args.table.0 c.requires.marked
+    (ap (λ z. slice_index_or z c.args.table.0 true) (sym c.deref.ensures.value) ∙ sym c.if-is_marked.ensures))
     c.seat_at.ensures (c.in_ok-push.ensures {u = tt}).items
+
+pub returns-clause-marked : goal.returns-clause-marked
+returns-clause-marked c = ?

@@ -16,6 +16,7 @@ returns c =
         is_network = c.requires.network;
         rows = c.requires.rows;
         no_more = c.requires.tables;
+        fits = c.requires.fits;
         choice = c.requires.choice;
         routed = made.routed c.requires.fits;
       };

@@ -1,43 +1,10 @@
-use Rattle.std.proofs.Common.{◌≡◌, ◌≤◌, ◌+◌, ℕ, List, length, min, sym, ap, ◌∙◌, subst, arith}
-use Rattle.machine_shape.specs.declared.Shape.{Shape}
+use Rattle.std.proofs.Common.{◌≡◌, ℕ, List, length, sym, ap, ◌∙◌, subst, arith}
 use Rattle.machine_shape.specs.Bounds.{most_ticks}
-use Rattle.machine_meaning.specs.Defects.{Defects}
-use Rattle.map_network.specs.declared.network.Network.{Network}
 use Rattle.place_plan.specs.declared.layout.Laid.TheVariants as laid
-use Rattle.place_plan.specs.declared.plan.Plan.{Plan}
-use Rattle.place_plan.specs.declared.short.Need.{Need}
-use Rattle.place_plan.specs.Vocabulary.{IsLaid, AreThose, AreNeeds, IsFreeTableOf, IsFreePinOf, IsInOrder, IsInOrderOf, IsPlan}
-use Rattle.place_plan.proofs.Fitting.{needs_are, have_is, few_tables, in_order_is, plan_is}
+use Rattle.place_plan.specs.Vocabulary.{IsLaid}
+use Rattle.place_plan.proofs.Fitting.{few_tables}
+use Rattle.place_plan.proofs.Seated.{Known, known}
 use Rattle.place_plan.proofs.fit.in_order_laid.Goals as goal
-
--- what is known once tables and pins suffice
-record Known (m : Shape) (d : Defects) (n : Network) (p : Plan) (tables pins : Need) : Type 0 where
-  pub needs : AreNeeds m d n tables pins
-  pub plan : IsPlan m d n p
-  pub in_order : IsInOrder m d n p
-
-known : (m : Shape) (d : Defects) (n : Network) (p : Plan) (free_tables free_pins ts ps us vs : List ℕ) (tables pins : Need) (s : Shape) (most : ℕ) → AreThose (IsFreeTableOf m d) free_tables → AreThose (IsFreePinOf m d) free_pins → ts ≡ free_tables → ps ≡ free_pins → us ≡ free_tables → vs ≡ free_pins →
-    s ≡ m → most ≡ most_ticks s → tables.need ≡ length n.tables → tables.have ≡ min (length ts) most → pins.need ≡ n.inputs + length n.outputs → pins.have ≡ length ps → tables.need ≤ tables.have → pins.need ≤ pins.have → IsInOrderOf n us vs p → Known m d n p tables pins
-known m d n p free_tables free_pins ts ps us vs tables pins s most a b e f g h same mt tn th pn ph tm pm sits = record {
-  needs = needs_are m d n free_tables free_pins tables pins a b tn th' pn ph';
-  plan = plan_is m d n p free_tables free_pins a b t q on;
-  in_order = in_order_is m d n p free_tables free_pins a b t q on;
-}
-  where
-    th' : tables.have ≡ min (length free_tables) (most_ticks m)
-    th' = have_is m d n tables.have most ts free_tables s th e mt same
-
-    ph' : pins.have ≡ length free_pins
-    ph' = ph ∙ ap length f
-
-    t : length n.tables ≤ length free_tables
-    t = omega (arith, tn, th', tm)
-
-    q : n.inputs + length n.outputs ≤ length free_pins
-    q = subst (λ z. z ≤ length free_pins) pn (subst (λ z. pins.need ≤ z) ph' pm)
-
-    on : IsInOrderOf n free_tables free_pins p
-    on = subst (λ z. IsInOrderOf n free_tables z p) h (subst (λ z. IsInOrderOf n z vs p) g sits)
 
 pub laid-requires-clause-plan : goal.laid-requires-clause-plan
 laid-requires-clause-plan c =

@@ -1,0 +1,16 @@
+use Rattle.std.proofs.Common.{inl}
+use Rattle.place_design.proofs.Fewer.{just-as-many}
+use Rattle.place_design.proofs.PlainWidths.{plain-inputs, plain-outputs}
+use Rattle.place_design.proofs.laying.drawn_in_order.Goals as goal
+
+pub drawn-requires-clause-inputs : goal.drawn-requires-clause-inputs
+drawn-requires-clause-inputs c = plain-inputs c.args.netlist.now c.args.whole.now c.requires.plain
+
+pub drawn-requires-clause-outputs : goal.drawn-requires-clause-outputs
+drawn-requires-clause-outputs c = plain-outputs c.args.netlist.now c.args.whole.now c.requires.plain
+
+pub drawn-requires-clause-tables : goal.drawn-requires-clause-tables
+drawn-requires-clause-tables c = just-as-many c.args.netlist.now c.args.whole.now c.requires.plain
+
+pub drawn-requires-clause-choice : goal.drawn-requires-clause-choice
+drawn-requires-clause-choice c = inl (record { plain = c.requires.plain; fits = c.requires.fits })
