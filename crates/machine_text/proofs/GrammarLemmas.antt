@@ -618,7 +618,7 @@ form_known : (b : Bool) → IsForm (if b then 1 else 2)
 form_known true = inl refl
 form_known false = inr refl
 
-one_is_small : (b : Bool) → (if b then 1 else 2) ≡ 1 → b ≡ true
+one_is_small : (b : Bool) → ◌≡◌ {A = ℕ} (if b then 1 else 2) 1 → b ≡ true
 one_is_small true e = refl
 one_is_small false e = absurd (omega (arith, e))
 

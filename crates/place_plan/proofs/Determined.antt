@@ -1,7 +1,8 @@
 -- The in-order plan is determined, so that it doesn't both fit and fall short.
-use Rattle.std.proofs.Common.{◌≡◌, ℕ, suc, List, [], ◌∷◌, map, length, take, drop, get_or, refl, sym, ap, ◌∙◌, subst, arith}
+use Rattle.std.proofs.Common.{◌≡◌, ℕ, suc, List, [], ◌∷◌, map, length, take, drop, get_or, min, refl, sym, ap, ◌∙◌, subst, arith}
 use Rattle.machine_shape.specs.declared.Shape.{Shape}
 use Rattle.machine_shape.specs.declared.Table.{Table}
+use Rattle.machine_shape.specs.Bounds.{most_ticks}
 use Rattle.machine_meaning.specs.Defects.{Defects}
 use Rattle.map_network.specs.declared.network.Network.{Network}
 use Rattle.place_plan.specs.declared.plan.Plan.{Plan}
@@ -60,7 +61,7 @@ module _ (m : Shape) (d : Defects) (n : Network) where
   -- so are the needs
   pub tables_unique : (t u x y : Need) → AreNeeds m d n t x → AreNeeds m d n u y → t ≡ u
   tables_unique t u x y a b = same_needs t u (a.tables_need ∙ sym b.tables_need)
-      (a.tables_have ∙ ap length (those_unique (IsFreeTableOf m d) a.free_tables b.free_tables a.are_tables b.are_tables) ∙ sym b.tables_have)
+      (a.tables_have ∙ ap (λ (ts : List ℕ). min (length ts) (most_ticks m)) (those_unique (IsFreeTableOf m d) a.free_tables b.free_tables a.are_tables b.are_tables) ∙ sym b.tables_have)
 
   pub pins_unique : (t u x y : Need) → AreNeeds m d n t x → AreNeeds m d n u y → x ≡ y
   pins_unique t u x y a b = same_needs x y (a.pins_need ∙ sym b.pins_need)

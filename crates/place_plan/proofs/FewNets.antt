@@ -2,7 +2,7 @@
 use Rattle.std.proofs.Common.{◌≡◌, ◌≢◌, ◌⊎◌, ℕ, ◌+◌, ◌*◌, ◌<◌, ◌≤◌, Bool, true, false, Some, length, get_or, map, refl, sym, ap, ◌∙◌, inl, inr, arith, if◌then◌else◌}
 use Rattle.std.proofs.Math.Nat.{mul-le-mul_right}
 use Rattle.std.specs.List.{Contains, range_with_len}
-use Rattle.std.proofs.lemmas.Bool.{false≢true, cases_Bool, cases_lt}
+use Rattle.std.proofs.lemmas.Bool.{cases_lt}
 use Rattle.std.proofs.lemmas.List.{get_or-map, length-map}
 use Rattle.std.proofs.lemmas.List.Elements.{All-weaker}
 use Rattle.std.proofs.lemmas.List.FromFn.{get_or-range_with_len, length-range_with_len}
@@ -28,14 +28,14 @@ value-in f count x a lt e = (
 
 values-few : (P : ℕ → Type 0) (f : ℕ → ℕ) (count k : ℕ) → ((x : ℕ) → P x → (a : ℕ) × (a < count) × (f a ≡ x)) → AtLeast P k → k ≤ count
 values-few P f count k value enough =
-    let few = pigeon enough.each (map f (range_with_len 0 count)) enough.different (λ i e lt. in' (get_or enough.each i e) (value (get_or enough.each i e) (enough.have i e lt))) in
+    let few = pigeon enough.each (map f (range_with_len 0 count)) enough.different (λ i e lt. inside (get_or enough.each i e) (value (get_or enough.each i e) (enough.have i e lt))) in
     let many = enough.many in
     let l = length-map (range_with_len 0 count) f in
     let r = length-range_with_len 0 count in
     omega (arith, few, many, l, r)
   where
-    in' : (x : ℕ) → (a : ℕ) × (a < count) × (f a ≡ x) → Contains (map f (range_with_len 0 count)) x
-    in' x v = value-in f count x v.0 v.1 v.2
+    inside : (x : ℕ) → (a : ℕ) × (a < count) × (f a ≡ x) → Contains (map f (range_with_len 0 count)) x
+    inside x v = value-in f count x v.0 v.1 v.2
 
 -- ---- a machine has all its tables on, or 65,535 of them may be
 
@@ -45,19 +45,11 @@ small-tables m s = (small_is m.counts s).0
 
 pub tables-on : (m : Shape) → (tables_of m ≤ most_ticks m) ⊎ (most_ticks m ≡ 65535)
 unfolding most_ticks
-tables-on m = by (cases_Bool (is_small m.counts))
+tables-on m = by_size (is_small m.counts) refl
   where
-    chosen : (b : Bool) → b ≡ true → tables_of m ≤ 4096 → tables_of m ≤ (if b then 4096 else 65535)
-    chosen true e le = le
-    chosen false e le = absurd (false≢true e)
-
-    other : (b : Bool) → b ≡ false → (if b then 4096 else 65535) ≡ 65535
-    other true e = absurd (false≢true (sym e))
-    other false e = refl
-
-    by : (is_small m.counts ≡ true) ⊎ (is_small m.counts ≡ false) → (tables_of m ≤ (if is_small m.counts then 4096 else 65535)) ⊎ ((if is_small m.counts then 4096 else 65535) ≡ 65535)
-    by (inl s) = inl (chosen (is_small m.counts) s (small-tables m s))
-    by (inr s) = inr (other (is_small m.counts) s)
+    by_size : (b : Bool) → is_small m.counts ≡ b → (tables_of m ≤ (if b then 4096 else 65535)) ⊎ (◌≡◌ {A = ℕ} (if b then 4096 else 65535) 65535)
+    by_size true e = inl (small-tables m e)
+    by_size false e = inr refl
 
 -- ---- there is a node below the root
 

@@ -4,10 +4,10 @@ use Rattle.machine_text.proofs.FaultLemmas.{refused_is}
 use Rattle.machine_text.proofs.read.read_machine.Goals as goal
 
 pub returns-in-Ok-clause-found : goal.returns-in-Ok-clause-found
-returns-in-Ok-clause-found c = found_is c.args.bytes.now _ _ (omega arith) c.in-Ok.ensures.found
+returns-in-Ok-clause-found c = found_is c.args.bytes.now _ c.in-Ok.shape (omega arith) c.in-Ok.ensures.found
 
 pub returns-in-Ok-clause-only : goal.returns-in-Ok-clause-only
-returns-in-Ok-clause-only c = λ d m _. only_is c.args.bytes.now _ _ c.in-Ok.ensures.found d m
+returns-in-Ok-clause-only c = λ d m _. only_is c.args.bytes.now _ c.in-Ok.shape c.in-Ok.ensures.found d m
 
 pub returns-in-Err-clause-only : goal.returns-in-Err-clause-only
 returns-in-Err-clause-only c = λ d m _. none_is c.args.bytes.now _ c.in-Err.ensures.refused d m
