@@ -1,5 +1,5 @@
 -- A right text is of one machine, one list, one design and one image.
-use Rattle.std.proofs.Common.{◌≡◌, ◌∙◌, List, ap, sym, subst}
+use Rattle.std.proofs.Common.{◌≡◌, ◌∙◌, ℕ, List, ap, sym, subst}
 use Rattle.base_io.specs.Told.{Told, holds}
 use Rattle.machine_shape.specs.declared.Shape.{Shape}
 use Rattle.machine_shape.proofs.OneShape.{same-shape}
