@@ -55,7 +55,7 @@ marked_on seats i d old new lt are kept this =
     (All-weaker (λ r. HasMark old (number_at r)) (λ r. HasMark new (number_at r)) (λ r h. kept (number_at r) h) (take i seats) are) this
 
 -- no seat is at a table without a mark
-pub unmarked : (seats : List Seat) (marks : List Bool) (t : ℕ) → AreMarked seats marks → slice_index_or marks t true ≡ false →
+pub unmarked : (seats : List Seat) (marks : List Bool) (t : ℕ) → AreMarked seats marks → get_or marks t true ≡ false →
     All (λ s. number_at s ≢ t) seats
 unmarked seats marks t are none =
     All-weaker (λ s. HasMark marks (number_at s)) (λ s. number_at s ≢ t) (λ s has same. let no : false ≡ true = sym none ∙ subst (λ z. HasMark marks z) same has in cc) seats are

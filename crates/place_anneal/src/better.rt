@@ -164,7 +164,8 @@ pub fn improve(
     ensures crossings { IfOk result (HasNoMore defects.now.shape network.now plan) }
     ensures better { IfOk result (λ better. (better ≡ plan) ⊎ IsBetter defects.now.shape defects.now.list network.now plan better) }
 {
-    match better_plan(alloc, network, &plan, defects)? {
+    let before = crossings_of(alloc, network, &plan, defects)?;
+    match best_plan(alloc, network, &plan, defects, before)? {
         Some(better) => Ok(better.plan),
         None => Ok(plan),
     }

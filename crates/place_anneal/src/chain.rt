@@ -98,7 +98,8 @@ fn meet(growth: &mut Growth, links: &Links, net: usize) {
         let lacks = before.saturating_sub(1);
         growth.lacks[net] = lacks;
         let begun = if before == all { BEGUN } else { 0 };
-        let by = if lacks == 1 { begun + ENDING } else { begun };
+        let ending = if lacks == 1 { ENDING } else { 0 };
+        let by = begun.saturating_add(ending);
         if by > 0 {
             raise_all(growth, links.nets[net].tables.as_slice(), by);
         }

@@ -55,7 +55,7 @@ fn cut_for(
 // How many nets of a hextant may cross so that it takes one more table: some ports are left for what comes of exchanges.
 fn borne_by(shape: &Shape) -> usize {
     let [_, _, ports] = shape.counts.ports;
-    ports as usize * 7 / 8
+    (ports as usize).saturating_mul(7) / 8
 }
 
 // A chain, and how many of its tables each hextant is to have.
@@ -73,17 +73,25 @@ fn row_of(alloc: Global, shape: &Shape, trial: &Trial) -> Result<Row, AllocError
     })
 }
 
+// Takes one off the count of a node, if there is any.
+fn take_one(counts: &mut Vec<usize>, node: usize) -> bool {
+    if node < counts.len() && counts[node] > 0 {
+        counts[node] = counts[node].saturating_sub(1);
+        return true;
+    }
+    false
+}
+
 // The seat at a table of the machine, and the table of the network that is to have it.
 fn next(trial: &Trial, row: &mut Row, target: usize) -> Option<(usize, usize)> {
     let place = trial.holders.get(target).copied()?;
-    let hextant = node_of(target, trial.spans[0]);
-    if place >= trial.seats.len() || hextant >= row.counts.len() || row.counts[hextant] == 0 {
-        return None;
-    }
     let table = row.chain.get(row.seated).copied()?;
-    row.counts[hextant] -= 1;
-    row.seated = row.seated.saturating_add(1);
-    Some((table, place))
+    let [hextant, _, _, _] = trial.spans;
+    if place < trial.seats.len() && take_one(&mut row.counts, node_of(target, hextant)) {
+        row.seated = row.seated.saturating_add(1);
+        return Some((table, place));
+    }
+    None
 }
 
 // Fills the seat at a table of the machine, if its hextant is to have one more.

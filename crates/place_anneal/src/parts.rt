@@ -80,7 +80,7 @@ fn count_of(part: &mut Part, links: &Links, tables: &[usize], bounds: Bounds) ->
 /// So many numbers from a place on, as far as there are any.
 pub fn piece(numbers: &[usize], from: usize, count: usize) -> &[usize] {
     let end = from.saturating_add(count).min(numbers.len());
-    if from <= end {
+    if from <= end && end <= numbers.len() {
         &numbers[from..end]
     } else {
         &numbers[..0]

@@ -49,12 +49,13 @@ impl Ranks {
 
     /// Puts a table into the list of a rank, if there is the rank, out of the one where it was.
     pub fn enter(&mut self, table: usize, rank: usize) {
-        if rank < RANKS && rank < self.nexts.len() {
+        if rank < RANKS {
             let place = RANKS.saturating_add(table);
             take_out(self, place);
-            let first = self.nexts[rank];
-            follow(self, place, first);
-            follow(self, rank, place);
+            if let Some(first) = self.nexts.get(rank).copied() {
+                follow(self, place, first);
+                follow(self, rank, place);
+            }
         }
     }
 

@@ -58,9 +58,9 @@ fn taken_seats(alloc: Global, shape: &Shape, tables: &[Table]) -> Result<Vec<Sea
 }
 
 // Marks a table.
-fn mark(marks: &mut [bool], table: Table)
-    ensures this { HasMark marks.new table.0 }
-    ensures kept { (t : ℕ) → HasMark marks.old t → HasMark marks.new t }
+fn mark(marks: &mut Vec<bool>, table: Table)
+    ensures this { HasMark marks.new.items table.0 }
+    ensures kept { (t : ℕ) → HasMark marks.old.items t → HasMark marks.new.items t }
 {
     let place = table.0 as usize;
     if place < marks.len() {

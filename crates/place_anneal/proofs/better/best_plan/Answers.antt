@@ -1,4 +1,4 @@
-use Rattle.std.proofs.Common.{ℕ, ◌≤◌, arith}
+use Rattle.std.proofs.Common.{◌≤◌, arith}
 use Rattle.place_anneal.proofs.BetterLemmas.{found_fewer, found_laid}
 use Rattle.place_anneal.proofs.better.best_plan.Goals as goal
 
