@@ -6,22 +6,16 @@ use Rattle.machine_shape.specs.Shape.{pins_of}
 use Rattle.rig_port.specs.Lines.{AreCounts, turn_room}
 use Rattle.rig_port.specs.Sessions.{HasRows}
 use Rattle.rig_port.specs.Said.{Said}
-use Rattle.rig_port.specs.Stands.{Finds, StandsTold}
+use Rattle.rig_port.specs.Stands.{Finds}
 use Rattle.rig_port.specs.Transcripts.{Behind}
 use Rattle.rig_port.proofs.Held.{fresh_held}
 use Rattle.rig_port.proofs.Standing.{all_found}
 use Rattle.rig_port.proofs.Resumed.{both_rose, fresh_resumes}
 use Rattle.rig_port.proofs.Telling.{stood_first, tells_held}
-use Rattle.rig_port.proofs.port_board.PortBoardBoard.find.Given.{Over}
-use Rattle.rig_port.proofs.port_board.PortBoardBoard.find.Goals.{If-not-attach_some-false}
 use Rattle.rig_port.proofs.port_board.PortBoardBoard.find.Goals as goal
 
 pub attach_some-requires-clause-counts : goal.attach_some-requires-clause-counts
 attach_some-requires-clause-counts g c = subst AreCounts (ap (λ s. s.shape.counts) (sym c.in-Ok-link_of.ensures.set)) c.in-Ok-put_question.ensures.right
-
-module _ (g : Over) (c : If-not-attach_some-false g) where
-  told_now : StandsTold (g.P.Port.port_state c.attach_some.new.port) c.attach_some.new.link.talk
-  told_now = c.attach_some.ensures.stands c.if-not-attach_some.false (stood_first (g.P.Port.port_state c.open.new.self) c.in-Ok-link_of.link.talk c.in-Ok-link_of.ensures.talk)
 
 pub invariant_of-self-2 : goal.invariant_of-self-2
 invariant_of-self-2 g c =
@@ -46,7 +40,7 @@ invariant_of-self-2 g c =
           (subst (λ (t : List Said). Behind (Finds m c.attach_some.new.link) t c.attach_some.new.link.talk) c.in-Ok-link_of.ensures.talk
           (subst (λ (s : Shape). Behind (Finds s c.attach_some.new.link) c.in-Ok-link_of.link.talk c.attach_some.new.link.talk) (ap (λ s. s.shape) c.in-Ok-link_of.ensures.set)
           (c.attach_some.ensures.said c.if-not-attach_some.false))),
-      told_now g c,
+      c.attach_some.ensures.stands c.if-not-attach_some.false (stood_first (g.P.Port.port_state c.open.new.self) c.in-Ok-link_of.link.talk c.in-Ok-link_of.ensures.talk),
     )
 
 pub returns-clause-again : goal.returns-clause-again
