@@ -1,5 +1,5 @@
 //! A board as a trait.
-ghost use Rattle.std.specs.Prelude.{◌≡◌, ◌^◌, ◌<◌, ◌≤◌, true, None, Some, [], ◌∷◌, OnOk, OnErr, IfErr, IfSome, IsErrOf, length};
+ghost use Rattle.std.specs.Prelude.{◌≡◌, ◌^◌, ◌<◌, ◌≤◌, ⊥, true, None, Some, [], ◌∷◌, OnOk, OnErr, IfErr, IfSome, IsErrOf, length};
 ghost use Rattle.base_io.specs.Counts.{Rose};
 ghost use Rattle.rig_board.specs.Device.{Device, IsInSession, faults_told};
 ghost use Rattle.rig.specs.Rig.{KeepLengths};
@@ -19,8 +19,8 @@ use rig::{PinBits, RigFail};
 pub trait Board: Drop {
     ghost board_state: { Self → BoardState };
 
-    // The machines that it may be, by what it was answered since it was found, where it says so.
-    ghost may_be: { Self → Device → Type 0 };
+    // The machines that it may be, by what it was answered since it was found; a board that tells none may leave this out.
+    ghost may_be: { Self → Device → Type 0 } = { λ _ _. ⊥ };
 
     /// Finds the board of this name, and that it has this shape. A refusal leaves none found. After `Failed` the count rose.
     fn find(&mut self, shape: &Shape, name: &str) -> Result<(), RigFail>

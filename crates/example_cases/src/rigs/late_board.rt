@@ -88,9 +88,6 @@ fn begin_as<R: Rig>(
 impl<R: Rig> Board for LateBoard<R> {
     ghost board_state = { late_state };
 
-    // Of no machine it says that it may be it.
-    ghost may_be = { λ _ _. ⊥ };
-
     fn find(&mut self, shape: &Shape, name: &str) -> Result<(), RigFail> {
         let _failures = self.failures;
         self.found = None;

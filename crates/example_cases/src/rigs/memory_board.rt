@@ -94,9 +94,6 @@ fn read_pins(drive: &PinBits, read: &mut PinBits, closes: bool)
 impl Board for MemoryBoard {
     ghost board_state = { state_of };
 
-    // Of no machine it says that it may be it.
-    ghost may_be = { λ _ _. ⊥ };
-
     fn find(&mut self, shape: &Shape, name: &str) -> Result<(), RigFail> {
         let failures = self.failures;
         self.found = None;
