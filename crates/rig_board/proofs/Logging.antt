@@ -1,5 +1,5 @@
 -- What is logged is what each machine that a board may be has read.
-use Rattle.std.proofs.Common.{◌≡◌, ℕ, List, [], ◌∷◌, ◌++◌, Option, None, Some, refl, sym, ap, ◌∙◌, subst, IfSome, IsSomeAnd, option_map}
+use Rattle.std.proofs.Common.{◌≡◌, List, [], ◌∷◌, ◌++◌, map, Option, None, Some, refl, sym, ap, ◌∙◌, subst, IfSome, IsSomeAnd, option_map}
 use Rattle.std.specs.List.{AllByRecursion}
 use Rattle.std.specs.Option.{ForSome}
 use Rattle.std.proofs.lemmas.Grind.{merely}
@@ -9,7 +9,8 @@ use Rattle.machine_meaning.specs.Vocabulary.{Pins, Faults, AreFaultsOf}
 use Rattle.machine_config.specs.Vocabulary.{Configuration, IsRun, circuit_of, none, at_load}
 use Rattle.rig.specs.Rig.{Asked, Exchange, Past, RigState, Session, IsRunOf, Explains, shape_of, drives_of, readings_of, standing}
 use Rattle.rig_board.specs.Device.{Device, IsInSession, HasRunSession}
-use Rattle.rig_board.specs.Kept.{HasAdded}
+use Rattle.rig_board.specs.declared.kept.Kept.{Kept}
+use Rattle.rig_board.specs.Kept.{HasAdded, past_of, session_of}
 use Rattle.rig_board.specs.Machines.{Narrows, EachWas, GoesOnBy, AreLogged}
 use Rattle.rig_board.proofs.Driven.{same_pairs}
 
@@ -63,13 +64,14 @@ logged_narrowed {M} {N} {past} {s} ended narrows l = record {
 }
 
 -- a session begins
-pub logged_set : {M N : Device → Type 0} {past : List Past} {old : Option Session} (s : Session) → old ≡ None → s.cycles ≡ [] → EachWas (λ o d. IsInSession s.config [] d) M N → AreLogged M past old
-    → AreLogged N past (Some s)
-logged_set {M} {N} {past} {old} s ended empty each l = record {
+pub logged_set : {M N : Device → Type 0} {past : List Past} {old : Option Session} (g : Configuration) (s : Session) → old ≡ None → s.config ≡ g → s.cycles ≡ []
+    → EachWas (λ o d. IsInSession g [] d) M N → AreLogged M past old → AreLogged N past (Some s)
+logged_set {M} {N} {past} {old} g s ended set empty each l = record {
   ran = λ d n. let o = each d n in
       ∥∥₁_map (subst (λ (f : Faults). ∥ AllByRecursion (IsRunOf f) (past ++ standing old) ∥₁) o.2 (l.ran o.0 o.1)) (λ all.
       all_more (IsRunOf d.faults) past _ (all_first (IsRunOf d.faults) past (standing old) all) (begun d, tt));
-  stands = λ d n. for_one (λ s. IsInSession s.config s.cycles d) s (subst (λ (ps : List Exchange). IsInSession s.config ps d) (sym empty) (each d n).3);
+  stands = λ d n. for_one (λ s. IsInSession s.config s.cycles d) s (subst (λ (c : Configuration). IsInSession c s.cycles d) (sym set)
+      (subst (λ (ps : List Exchange). IsInSession g ps d) (sym empty) (each d n).3));
 } where
   begun : (d : Device) → IsRunOf d.faults (record { config = s.config; cycles = s.cycles })
   begun d = subst (λ (ps : List Exchange). IsRun d.faults s.config (drives_of ps) (readings_of ps)) (sym empty) (record { outputs = at_load (circuit_of d.faults s.config); cycles = none })
@@ -104,3 +106,28 @@ pub found_at : {A : Type 0} (shape : A → Shape) (asked : A → Asked) (P : Sha
     → option_map (λ (a : Asked). a.shape) (option_map asked machine) ≡ Some m → P m
 found_at shape asked P None m same all at = cc
 found_at shape asked P (Some a) m same all at = all m (ap Some (sym (same a)) ∙ at)
+
+map_and : (past : List Kept) (k : Kept) → map past_of (past ++ k ∷ []) ≡ map past_of past ++ past_of k ∷ []
+map_and [] k = refl
+map_and (x ∷ past) k = ap (λ l. past_of x ∷ l) (map_and past k)
+
+-- the session that was kept is the last that ended
+pub past_more : {items past : List Kept} {found : Option Kept} (k l : Kept) → items ≡ past ++ l ∷ [] → found ≡ Some k → (session_of l).config ≡ (session_of k).config
+    → (session_of l).cycles ≡ (session_of k).cycles → map past_of items ≡ map past_of past ++ standing (option_map session_of found)
+past_more {items} {past} {found} k l is there config cycles =
+    let same : past_of l ≡ past_of k
+    = ap (λ (g : Configuration). past_with g (session_of l).cycles) config ∙ ap (λ (ps : List Exchange). past_with (session_of k).config ps) cycles in
+    ap (map past_of) is ∙ map_and past l ∙ ap (λ p. map past_of past ++ p ∷ []) same
+    ∙ ap (λ (o : Option Kept). map past_of past ++ standing (option_map session_of o)) (sym there) where
+  past_with : Configuration → List Exchange → Past
+  past_with g ps = record { config = g; cycles = ps }
+
+-- they are added to the session before
+pub added_from : (drives readings : List Pins) (s mid t : Session) → mid.cycles ≡ s.cycles → HasAdded drives readings mid t → HasAdded drives readings s t
+added_from drives readings s mid t same a = record { pairs = a.pairs; driven = a.driven; read = a.read; so_far = a.so_far ∙ ap (λ l. l ++ a.pairs) same }
+
+-- one is added
+pub added_one : (drive reading : Pins) (s mid t : Session) → mid.cycles ≡ s.cycles → t.cycles ≡ mid.cycles ++ record { drive = drive; reading = reading } ∷ []
+    → HasAdded (drive ∷ []) (reading ∷ []) s t
+added_one drive reading s mid t same so_far =
+    added_from (drive ∷ []) (reading ∷ []) s mid t same (record { pairs = record { drive = drive; reading = reading } ∷ []; driven = refl; read = refl; so_far = so_far })

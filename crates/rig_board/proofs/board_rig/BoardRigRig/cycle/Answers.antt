@@ -1,0 +1,21 @@
+use Rattle.std.proofs.Common.{[], ◌∷◌, ◌∙◌, ap, option_map, subst, sym}
+use Rattle.machine_meaning.specs.Circuit.{Pins}
+use Rattle.rig_board.specs.Kept.{session_of}
+use Rattle.rig_board.specs.Machines.{EachWas, GoesOnBy}
+use Rattle.rig_board.proofs.Logging.{added_one, logged_ended, logged_more, logged_narrowed, past_more}
+use Rattle.rig_board.proofs.board_rig.BoardRigRig.cycle.Goals as goal
+
+pub invariant_of-self-in-Ok-cycle-clause-logged : goal.invariant_of-self-in-Ok-cycle-clause-logged
+invariant_of-self-in-Ok-cycle-clause-logged g c =
+    let kept = session_of c.in-Some.kept in
+    let more = session_of c.add.new.self in
+    logged_more (c.copy_from.new.self ∷ []) (c.cycle.new.read ∷ []) kept more (ap (option_map session_of) (sym c.in-Some.ensures.value)) (c.add.ensures.config ∙ c.next_row.ensures.config)
+    (added_one c.copy_from.new.self c.cycle.new.read kept (session_of c.next_row.new.self) more c.next_row.ensures.cycles c.add.ensures.cycles)
+    (subst (λ (d : Pins). EachWas (GoesOnBy (d ∷ []) (c.cycle.new.read ∷ [])) (g.B.Board.may_be c.args.self.now.board) (g.B.Board.may_be c.cycle.new.self)) (sym c.copy_from.ensures)
+    c.in-Ok-cycle.ensures.cycles_for_each) c.args.self.now.logged
+
+pub invariant_of-self-in-Err-clause-logged : goal.invariant_of-self-in-Err-clause-logged
+invariant_of-self-in-Err-clause-logged g c =
+    let ended = ap (option_map session_of) c.take.ensures.after in
+    logged_narrowed ended c.cycle.ensures.narrows
+    (logged_ended (past_more c.in-Some.kept c.next_row.new.self c.and-self.ensures (sym c.in-Some.ensures.value) c.next_row.ensures.config c.next_row.ensures.cycles) ended c.args.self.now.logged)
