@@ -112,9 +112,9 @@ map_and [] k = refl
 map_and (x ∷ past) k = ap (λ l. past_of x ∷ l) (map_and past k)
 
 -- the session that was kept is the last that ended
-pub past_more : {items past : List Kept} {found : Option Kept} (k l : Kept) → items ≡ past ++ l ∷ [] → found ≡ Some k → (session_of l).config ≡ (session_of k).config
+pub past_more : (items past : List Kept) (found : Option Kept) (k l : Kept) → items ≡ past ++ l ∷ [] → found ≡ Some k → (session_of l).config ≡ (session_of k).config
     → (session_of l).cycles ≡ (session_of k).cycles → map past_of items ≡ map past_of past ++ standing (option_map session_of found)
-past_more {items} {past} {found} k l is there config cycles =
+past_more items past found k l is there config cycles =
     let same : past_of l ≡ past_of k
     = ap (λ (g : Configuration). past_with g (session_of l).cycles) config ∙ ap (λ (ps : List Exchange). past_with (session_of k).config ps) cycles in
     ap (map past_of) is ∙ map_and past l ∙ ap (λ p. map past_of past ++ p ∷ []) same

@@ -1,5 +1,5 @@
 //! A board as a trait.
-ghost use Rattle.std.specs.Prelude.{◌≡◌, ◌^◌, ◌<◌, ◌≤◌, ⊥, true, None, Some, [], ◌∷◌, OnOk, OnErr, IfErr, IfSome, IsErrOf, length};
+ghost use Rattle.std.specs.Prelude.{◌≡◌, ◌^◌, ◌<◌, ◌≤◌, true, None, Some, [], ◌∷◌, OnOk, OnErr, IfErr, IfSome, IsErrOf, length};
 ghost use Rattle.base_io.specs.Counts.{Rose};
 ghost use Rattle.rig_board.specs.Device.{Device, IsInSession, faults_told};
 ghost use Rattle.rig.specs.Rig.{KeepLengths};

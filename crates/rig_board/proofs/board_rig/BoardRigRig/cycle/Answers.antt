@@ -18,4 +18,4 @@ pub invariant_of-self-in-Err-clause-logged : goal.invariant_of-self-in-Err-claus
 invariant_of-self-in-Err-clause-logged g c =
     let ended = ap (option_map session_of) c.take.ensures.after in
     logged_narrowed ended c.cycle.ensures.narrows
-    (logged_ended (past_more c.in-Some.kept c.next_row.new.self c.and-self.ensures (sym c.in-Some.ensures.value) c.next_row.ensures.config c.next_row.ensures.cycles) ended c.args.self.now.logged)
+    (logged_ended (past_more c.and-self.result.items c.args.self.now.past.items c.args.self.now.kept c.in-Some.kept c.next_row.new.self c.and-self.ensures (sym c.in-Some.ensures.value) c.next_row.ensures.config c.next_row.ensures.cycles) ended c.args.self.now.logged)

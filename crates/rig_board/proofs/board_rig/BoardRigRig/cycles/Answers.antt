@@ -38,7 +38,7 @@ pub invariant_of-self-in-Err-clause-logged : goal.invariant_of-self-in-Err-claus
 invariant_of-self-in-Err-clause-logged g c =
     let ended = ap (option_map session_of) c.take.ensures.after in
     logged_narrowed ended c.cycles.ensures.narrows
-    (logged_ended (past_more c.in-Some.kept c.make_room.new.self c.and-self.ensures (sym c.in-Some.ensures.value) c.make_room.ensures.config c.make_room.ensures.cycles) ended
+    (logged_ended (past_more c.and-self.result.items c.args.self.now.past.items c.args.self.now.kept c.in-Some.kept c.make_room.new.self c.and-self.ensures (sym c.in-Some.ensures.value) c.make_room.ensures.config c.make_room.ensures.cycles) ended
     c.args.self.now.logged)
 
 pub returns-in-Ok-clause-cycles : goal.returns-in-Ok-clause-cycles
