@@ -121,3 +121,11 @@ pub said_maybe : (right : Bool) (a b x y : List Said) (request line taken : List
     → y ≡ and_said x request line → GoOn a b x y
 said_maybe true a b x y request line taken same is left heard = said_one a b x y request line (is refl ∙ ap (and_said a request) (sym (same refl))) heard
 said_maybe false a b x y request line taken same is left heard = said_wrong a b x y request line (left refl) heard
+
+none_among : (xs : List Said) → IsAmong [] xs
+none_among [] = neither
+none_among (x ∷ xs) = passed x (none_among xs)
+
+-- all was heard alone
+pub heard_only : (a b x y : List Said) → GoOn a b x y → GoOn [] [] x y
+heard_only a b x y g = record { more = []; all = g.all; taken_is = refl; heard_is = g.heard_is; among = none_among g.all }

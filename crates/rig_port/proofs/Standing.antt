@@ -1,12 +1,12 @@
 -- What is kept of a machine goes with each that may stand behind what was said.
-use Rattle.std.proofs.Common.{◌≡◌, ℕ, ◌+◌, ◌<◌, ◌≤◌, ◌^◌, ◌-◌, Bool, true, false, List, [], ◌∷◌, ◌++◌, take, drop, get_or, length, Option, None, Some, refl, sym, ap, ◌∙◌, subst, IfSome, Result, OnOk, OnErr}
+use Rattle.std.proofs.Common.{◌≡◌, ℕ, ◌+◌, ◌<◌, ◌≤◌, ◌^◌, ◌-◌, Bool, true, false, List, [], ◌∷◌, ◌++◌, take, drop, get_or, length, Option, None, Some, refl, sym, ap, ◌∙◌, subst, IfSome, is_some, option_map, Result, OnOk, OnErr}
 use Rattle.std.proofs.lemmas.Bool.{false≢true}
 use Rattle.std.specs.Prelude.{vec_len}
 use Rattle.std.specs.Vec.{vec_capacity}
 use Rattle.machine_shape.specs.declared.Shape.{Shape}
 use Rattle.machine_shape.specs.Shape.{pins_of}
 use Rattle.machine_meaning.specs.Circuit.{Pins}
-use Rattle.machine_meaning.specs.Faults.{Faults}
+use Rattle.machine_meaning.specs.Faults.{Faults, AreFaultsOf}
 use Rattle.machine_config.specs.Configuration.{Configuration, cleared}
 use Rattle.rig.specs.Rig.{Exchange, KeepLengths}
 use borrow.Rule.Slice.PartMut.{put_mid}
@@ -19,7 +19,7 @@ use Rattle.rig_port.specs.Answers.{Answers}
 use Rattle.rig_port.specs.Boards.{IsHeld, IsKeptUp, IsUp, state_of}
 use Rattle.std.specs.Option.{option_map_or}
 use Rattle.rig_port.specs.Checks.{fresh_check, after}
-use Rattle.rig_port.specs.Lines.{counts_body, turn_room}
+use Rattle.rig_port.specs.Lines.{AreCounts, counts_body, turn_room}
 use Rattle.rig_port.specs.Linked.{IsPosted, IsLinked, HasTurned, PortBoardState, told_with, waiting}
 use Rattle.rig_port.specs.Ports.{PortState, machine_told}
 use Rattle.rig_port.specs.Requests.{attach_body, attach_line}
@@ -30,6 +30,9 @@ use Rattle.rig_port.specs.Transcripts.{MayStand, Behind, GoOn}
 use Rattle.rig_port.proofs.Behind.{SameMachine, Anyhow, behind_all, machine_of, said_none, stands_faults, stands_shape}
 use Rattle.rig_port.proofs.Held.{cycled_one, fresh_held, not_turned, turned_next, whole_turned}
 use Rattle.rig_port.proofs.Resumed.{HasShape, fresh_resumes, made_first, made_more, in_session, posted_held, still_shaped, turned_again}
+
+abbrev pub told_pair : Device → Shape × Faults
+told_pair d = (d.shape, d.faults)
 
 -- what answers an attach is found
 pub found_one : (m : Shape) (n : ℕ) (now : Link) (request line : List ℕ) → n < 2 ^ 32 → request ≡ attach_line n
@@ -234,11 +237,18 @@ cycles_each {o} port now found past past_now n n_now fs fs_now drives reads old 
     }))
 
 -- a board that went down
-pub narrows_down : {o : Option Link} (port now : PortState) (found : Option Shape) (past : List Said) (n n_now fs fs_now : ℕ) (old new : Link) → Some old ≡ o → GoOn old.talk new.talk port.talk now.talk
-    → Narrows (MayBe (state_of port found o past n fs)) (MayBe (state_of now found None new.talk n_now fs_now))
-narrows_down {o} port now found past n n_now fs fs_now old new there talks =
-    subst (λ (x : Option Link). Narrows (MayBe (state_of port found x past n fs)) (MayBe (state_of now found None new.talk n_now fs_now))) there
-    (narrows (state_of port found (Some old) past n fs) (state_of now found None new.talk n_now fs_now) refl talks)
+pub narrows_down : {o : Option Link} (port now : PortState) (found : Option Shape) (x : Option Link) (past : List Said) (n n_now fs fs_now : ℕ) (old new : Link) → Some old ≡ o → x ≡ None
+    → GoOn old.talk new.talk port.talk now.talk → Narrows (MayBe (state_of port found o past n fs)) (MayBe (state_of now found x new.talk n_now fs_now))
+narrows_down {o} port now found x past n n_now fs fs_now old new there gone talks =
+    subst (λ (x : Option Link). Narrows (MayBe (state_of port found o past n fs)) (MayBe (state_of now found x new.talk n_now fs_now))) (sym gone)
+    (subst (λ (o : Option Link). Narrows (MayBe (state_of port found o past n fs)) (MayBe (state_of now found None new.talk n_now fs_now))) there
+    (narrows (state_of port found (Some old) past n fs) (state_of now found None new.talk n_now fs_now) refl talks))
+
+pub taken_down : {o x : Option Link} (past : List Said) (old new : Link) (heard heard_now : List Said) → Some old ≡ o → x ≡ None → GoOn old.talk new.talk heard heard_now
+    → GoOn (option_map_or (λ (l : Link). l.talk) o past) (option_map_or (λ (l : Link). l.talk) x new.talk) heard heard_now
+taken_down {o} {x} past old new heard heard_now there gone talks =
+    subst (λ (x : Option Link). GoOn (option_map_or (λ (l : Link). l.talk) o past) (option_map_or (λ (l : Link). l.talk) x new.talk) heard heard_now) (sym gone)
+    (subst (λ (o : Option Link). GoOn (option_map_or (λ (l : Link). l.talk) o past) new.talk heard heard_now) there talks)
 
 -- what is said of each is said of those that it was
 pub narrows_of : (T : Device → Device → Type 0) (old new : PortBoardState) → EachWas T (MayBe old) (MayBe new) → Narrows (MayBe old) (MayBe new)
@@ -271,3 +281,47 @@ one_cycle drives reads drive d o e one t = record {
   read = refl;
   went = cycled_one t.pairs drives reads drive d (Some o) (Some e) t.driven t.read one t.went;
 }
+
+-- it wasn't up, and isn't
+pub narrows_none : {o : Option Link} (port : PortState) (found : Option Shape) (x : Option Link) (past : List Said) (n fs fs_now : ℕ) → None ≡ o → x ≡ None
+    → Narrows (MayBe (state_of port found o past n fs)) (MayBe (state_of port found x past n fs_now))
+narrows_none {o} port found x past n fs fs_now there gone =
+    subst (λ (x : Option Link). Narrows (MayBe (state_of port found o past n fs)) (MayBe (state_of port found x past n fs_now))) (sym gone)
+    (subst (λ (o : Option Link). Narrows (MayBe (state_of port found o past n fs)) (MayBe (state_of port found None past n fs_now))) there
+    (narrows_same (state_of port found None past n fs) (state_of port found None past n fs_now) refl refl refl))
+
+waits_for : {due : Bool} {set config : Configuration} → due ≡ true → set ≡ config → waiting due set ≡ Some config
+waits_for {due} {set} {config} is same = ap (λ (b : Bool). waiting b set) is ∙ ap Some same
+
+-- a load was posted
+pub set_all : {o : Option Link} (port : PortState) (found : Option Shape) (past : List Said) (n n_now fs fs_now : ℕ) (old new : Link) (config : Configuration) → Some old ≡ o → new.talk ≡ old.talk
+    → new.due ≡ true → new.set.config ≡ config
+    → EachWas (λ o d. IsInSession config [] d) (MayBe (state_of port found o past n fs)) (MayBe (state_of port found (Some new) past n_now fs_now))
+set_all {o} port found past n n_now fs fs_now old new config there talk due set =
+    subst (λ (o : Option Link). EachWas (λ o d. IsInSession config [] d) (MayBe (state_of port found o past n fs)) (MayBe (state_of port found (Some new) past n_now fs_now))) there
+    (set_each config (state_of port found (Some old) past n fs) (state_of port found (Some new) past n_now fs_now) refl talk refl (waits_for due set))
+
+pub narrows_posted : {o : Option Link} (port : PortState) (found : Option Shape) (past : List Said) (n n_now fs fs_now : ℕ) (old new : Link) → Some old ≡ o → new.talk ≡ old.talk
+    → Narrows (MayBe (state_of port found o past n fs)) (MayBe (state_of port found (Some new) past n_now fs_now))
+narrows_posted {o} port found past n n_now fs fs_now old new there talk =
+    subst (λ (o : Option Link). Narrows (MayBe (state_of port found o past n fs)) (MayBe (state_of port found (Some new) past n_now fs_now))) there
+    (narrows_same (state_of port found (Some old) past n fs) (state_of port found (Some new) past n_now fs_now) refl talk refl)
+
+-- a machine that was found and told is as it was told when the port was opened
+pub finds_told : (m : Shape) (due : Bool) (g : Configuration) (o w : Option Device) → due ≡ false → option_map told_pair w ≡ option_map told_pair o
+    → IfSome o (λ d. AreCounts d.shape.counts × AreFaultsOf d.shape d.faults) → IfSome w (λ d. (d.shape ≡ m) × (d.set ≡ cleared m))
+    → IfSome (told_with due g w) (λ d. (d.shape ≡ m) × AreFaultsOf m d.faults)
+finds_told m true g o w idle same opened fresh = absurd (false≢true (sym idle))
+finds_told m false g o None idle same opened fresh = tt
+finds_told m false g None (Some e) idle same opened fresh = absurd (false≢true (sym (ap is_some same)))
+finds_told m false g (Some d) (Some e) idle same opened fresh =
+    (fresh.0, subst (λ (s : Shape). AreFaultsOf s e.faults) (sym (shape same) ∙ fresh.0) (subst (λ (f : Faults). AreFaultsOf d.shape f) (sym (faults same)) opened.1)) where
+  pair_or : Option (Shape × Faults) → Shape × Faults
+  pair_or None = told_pair d
+  pair_or (Some p) = p
+
+  shape : Some (told_pair e) ≡ Some (told_pair d) → e.shape ≡ d.shape
+  shape s = ap (λ (o : Option (Shape × Faults)). (pair_or o).0) s
+
+  faults : Some (told_pair e) ≡ Some (told_pair d) → e.faults ≡ d.faults
+  faults s = ap (λ (o : Option (Shape × Faults)). (pair_or o).1) s

@@ -8,9 +8,9 @@ use Rattle.rig_port.specs.Said.{Said}
 use Rattle.rig_board.specs.Machines.{EachWas, GoesOnBy}
 use Rattle.rig_port.specs.Stands.{MayBe}
 use Rattle.rig_port.specs.Transcripts.{GoOn}
-use Rattle.rig_port.proofs.Standing.{all_here, all_on, cycles_each, held_on, one_cycle, narrows_down, narrows_of, talk_here}
+use Rattle.rig_port.proofs.Standing.{all_here, all_on, cycles_each, held_on, one_cycle, narrows_down, narrows_of, taken_down, talk_here}
 use Rattle.rig_port.proofs.port_board.PortBoardBoard.cycle.Given.{Over}
-use Rattle.rig_port.proofs.port_board.PortBoardBoard.cycle.Goals.{If-not-drive_on-false}
+use Rattle.rig_port.proofs.port_board.PortBoardBoard.cycle.Goals.{Else-not-drive_on}
 use Rattle.rig_port.proofs.Resumed.{both_rose, held_here, running_here, ready_here, wide_here, one_row}
 use Rattle.rig_port.proofs.Telling.{tells_held, told_here}
 use Rattle.rig_port.proofs.port_board.PortBoardBoard.cycle.Goals as goal
@@ -52,7 +52,7 @@ drive_on-requires-clause-rows g c = record {
   as_many = ap length c.from_ref.ensures.value ∙ sym (ap length c.from_mut.ensures.value);
 }
 
-module _ (g : Over) (c : If-not-drive_on-false g) where
+module _ (g : Over) (c : Else-not-drive_on g) where
   runs : c.in-Some.link.running ≡ true
   runs = running_here c.in-Some.ensures.value (ap (λ s. s.in_session) c.self.view_is ∙ c.requires.session)
 
@@ -93,13 +93,14 @@ returns-clause-taken g c =
 
 pub returns-then-not-drive_on-clause-narrows : goal.returns-then-not-drive_on-clause-narrows
 returns-then-not-drive_on-clause-narrows g c =
-    rw (← c.self.view_is) (narrows_down (g.P.Port.port_state c.self.inside.port) (g.P.Port.port_state c.drive_on.new.port) c.self.inside.found c.self.inside.past c.self.inside.again.number
-    c.drive_on.new.again.number c.self.inside.failures c.drive_on.new.failures c.in-Some.link c.drive_on.new.link c.in-Some.ensures.value c.drive_on.ensures.talks)
+    rw (← c.self.view_is) (narrows_down (g.P.Port.port_state c.self.inside.port) (g.P.Port.port_state c.drive_on.new.port) c.self.inside.found c.take.new.self c.self.inside.past
+    c.self.inside.again.number c.drive_on.new.again.number c.self.inside.failures c.drive_on.new.failures c.in-Some.link c.drive_on.new.link c.in-Some.ensures.value c.take.ensures.after
+    c.drive_on.ensures.talks)
 
 pub returns-then-not-drive_on-clause-taken : goal.returns-then-not-drive_on-clause-taken
 returns-then-not-drive_on-clause-taken g c =
-    rw (← c.self.view_is) (subst (λ (t : List Said). GoOn t c.drive_on.new.link.talk (g.P.Port.port_state c.self.inside.port).talk (g.P.Port.port_state c.drive_on.new.port).talk)
-    (talk_here c.self.inside.past c.in-Some.ensures.value) c.drive_on.ensures.talks)
+    rw (← c.self.view_is) (taken_down c.self.inside.past c.in-Some.link c.drive_on.new.link (g.P.Port.port_state c.self.inside.port).talk (g.P.Port.port_state c.drive_on.new.port).talk
+    c.in-Some.ensures.value c.take.ensures.after c.drive_on.ensures.talks)
 
 pub returns-clause-told : goal.returns-clause-told
 returns-clause-told g c =

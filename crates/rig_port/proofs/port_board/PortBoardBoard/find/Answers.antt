@@ -1,4 +1,4 @@
-use Rattle.std.proofs.Common.{◌≡◌, ◌≤◌, ◌∙◌, arith, sym, ap, subst, List, IfSome}
+use Rattle.std.proofs.Common.{◌≡◌, ◌≤◌, ◌∙◌, arith, refl, sym, ap, subst, List, [], IfSome}
 use Rattle.machine_shape.specs.declared.Shape.{Shape}
 use Rattle.machine_config.specs.Configuration.{cleared}
 use Rattle.std.specs.Vec.{vec_capacity}
@@ -7,9 +7,11 @@ use Rattle.rig_port.specs.Lines.{AreCounts, turn_room}
 use Rattle.rig_port.specs.Sessions.{HasRows}
 use Rattle.rig_port.specs.Said.{Said}
 use Rattle.rig_port.specs.Stands.{Finds}
-use Rattle.rig_port.specs.Transcripts.{Behind}
+use Rattle.rig_port.specs.Linked.{PortBoardState}
+use Rattle.rig_port.specs.Transcripts.{Behind, GoOn}
+use Rattle.rig_port.proofs.Behind.{heard_only, said_none}
 use Rattle.rig_port.proofs.Held.{fresh_held}
-use Rattle.rig_port.proofs.Standing.{all_found}
+use Rattle.rig_port.proofs.Standing.{all_found, finds_told}
 use Rattle.rig_port.proofs.Resumed.{both_rose, fresh_resumes}
 use Rattle.rig_port.proofs.Telling.{stood_first, tells_held}
 use Rattle.rig_port.proofs.port_board.PortBoardBoard.find.Goals as goal
@@ -47,6 +49,48 @@ pub returns-clause-again : goal.returns-clause-again
 returns-clause-again g c =
     rw (← c.self.view_is) (both_rose c.self.inside.failures c.attach_some.new.failures (g.P.Port.port_state c.self.inside.port).failures (g.P.Port.port_state c.attach_some.new.port).failures
     (omega (arith, c.open.ensures.later, c.attach_some.ensures.later)) c.attach_some.ensures.number)
+
+pub returns-in_default-clause-taken : goal.returns-in_default-clause-taken
+returns-in_default-clause-taken g c =
+    subst (λ (t : List Said). GoOn [] c.new-self-inside.result t (g.P.Port.port_state c.self.inside.port).talk) (ap (λ (s : PortBoardState). s.port_talk) c.self.view_is)
+    (said_none [] c.new-self-inside.result (g.P.Port.port_state c.self.inside.port).talk (g.P.Port.port_state c.self.inside.port).talk c.new-self-inside.ensures refl)
+
+pub returns-in_default-link_of-clause-taken : goal.returns-in_default-link_of-clause-taken
+returns-in_default-link_of-clause-taken g c =
+    subst (λ (t : List Said). GoOn [] c.new-self-inside.result t (g.P.Port.port_state c.self.inside.port).talk) (ap (λ (s : PortBoardState). s.port_talk) c.self.view_is)
+    (said_none [] c.new-self-inside.result (g.P.Port.port_state c.self.inside.port).talk (g.P.Port.port_state c.self.inside.port).talk c.new-self-inside.ensures refl)
+
+pub returns-in_default-put_question-clause-taken : goal.returns-in_default-put_question-clause-taken
+returns-in_default-put_question-clause-taken g c =
+    subst (λ (t : List Said). GoOn [] c.new-self-inside.result t (g.P.Port.port_state c.self.inside.port).talk) (ap (λ (s : PortBoardState). s.port_talk) c.self.view_is)
+    (said_none [] c.new-self-inside.result (g.P.Port.port_state c.self.inside.port).talk (g.P.Port.port_state c.self.inside.port).talk c.new-self-inside.ensures refl)
+
+pub returns-in-Err-Memory-clause-taken : goal.returns-in-Err-Memory-clause-taken
+returns-in-Err-Memory-clause-taken g c =
+    subst (λ (t : List Said). GoOn [] c.new-self-inside.result t (g.P.Port.port_state c.open.new.self).talk) (ap (λ (s : PortBoardState). s.port_talk) c.self.view_is)
+    (said_none [] c.new-self-inside.result (g.P.Port.port_state c.self.inside.port).talk (g.P.Port.port_state c.open.new.self).talk c.new-self-inside.ensures c.open.ensures.talk)
+
+pub returns-in-Err-Failed-clause-taken : goal.returns-in-Err-Failed-clause-taken
+returns-in-Err-Failed-clause-taken g c =
+    subst (λ (t : List Said). GoOn [] c.new-self-inside.result t (g.P.Port.port_state c.open.new.self).talk) (ap (λ (s : PortBoardState). s.port_talk) c.self.view_is)
+    (said_none [] c.new-self-inside.result (g.P.Port.port_state c.self.inside.port).talk (g.P.Port.port_state c.open.new.self).talk c.new-self-inside.ensures c.open.ensures.talk)
+
+pub returns-then-not-attach_some-clause-taken : goal.returns-then-not-attach_some-clause-taken
+returns-then-not-attach_some-clause-taken g c =
+    subst (λ (t : List Said). GoOn [] c.new-self-inside.result t (g.P.Port.port_state c.attach_some.new.port).talk) (ap (λ (s : PortBoardState). s.port_talk) c.self.view_is)
+    (subst (λ (t : List Said). GoOn [] t (g.P.Port.port_state c.self.inside.port).talk (g.P.Port.port_state c.attach_some.new.port).talk) (sym c.new-self-inside.ensures)
+    (heard_only c.in-Ok-link_of.link.talk c.attach_some.new.link.talk (g.P.Port.port_state c.self.inside.port).talk (g.P.Port.port_state c.attach_some.new.port).talk
+    (subst (λ (t : List Said). GoOn c.in-Ok-link_of.link.talk c.attach_some.new.link.talk t (g.P.Port.port_state c.attach_some.new.port).talk) c.open.ensures.talk c.attach_some.ensures.talks)))
+
+pub returns-clause-found : goal.returns-clause-found
+returns-clause-found g c =
+    let m = c.args.shape.now in record {
+      found = refl;
+      told = finds_told m c.attach_some.new.link.due c.attach_some.new.link.set.config (g.P.Port.port_state c.open.new.self).device (g.P.Port.port_state c.attach_some.new.port).device
+          (c.attach_some.ensures.stays.due ∙ c.in-Ok-link_of.ensures.idle.2) c.attach_some.ensures.machine c.in-Ok-open.ensures.opens.told
+          (subst (λ s. IfSome (g.P.Port.port_state c.attach_some.new.port).device (λ d. (d.shape ≡ s) × (d.set ≡ cleared s))) (ap (λ s. s.shape) c.in-Ok-link_of.ensures.set)
+          (c.attach_some.ensures.fresh c.if-not-attach_some.false));
+    }
 
 pub returns-clause-told : goal.returns-clause-told
 returns-clause-told g c =

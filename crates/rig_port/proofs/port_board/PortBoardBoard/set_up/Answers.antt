@@ -1,8 +1,8 @@
-use Rattle.std.proofs.Common.{List, subst, sym}
+use Rattle.std.proofs.Common.{List, ◌∙◌, subst, sym}
 use Rattle.rig_port.specs.Said.{Said}
 use Rattle.rig_port.specs.Stands.{StandsTold}
 use Rattle.rig_port.proofs.Resumed.{held_here, posted_held}
-use Rattle.rig_port.proofs.Standing.{all_here, all_posted}
+use Rattle.rig_port.proofs.Standing.{all_here, all_posted, narrows_none, narrows_posted, set_all}
 use Rattle.rig_port.proofs.Telling.{told_here}
 use Rattle.rig_port.proofs.port_board.PortBoardBoard.set_up.Goals as goal
 
@@ -18,3 +18,16 @@ invariant_of-self-2 g c =
           (all_here port c.self.inside.found c.self.inside.again c.in-Some.ensures.value c.self.invariant) e.shape e.expected e.check e.talk e.room e.linked e.posted e.lost e.resumes,
       subst (λ (t : List Said). StandsTold port t) (sym e.talk) (told_here port c.self.inside.found c.self.inside.again c.in-Some.ensures.value c.self.invariant),
     )
+
+pub returns-in_default-clause-narrows : goal.returns-in_default-clause-narrows
+returns-in_default-clause-narrows g c =
+    rw (← c.self.view_is) (narrows_none (g.P.Port.port_state c.self.inside.port) c.self.inside.found c.take.new.self c.self.inside.past c.self.inside.again.number c.self.inside.failures
+    c.saturating_add-self-inside.result (sym c.in_default.is ∙ c.take.ensures.value) c.take.ensures.after)
+
+pub returns-clause-narrows : goal.returns-clause-narrows
+returns-clause-narrows g c =
+    rw (← c.self.view_is) (narrows_posted (g.P.Port.port_state c.self.inside.port) c.self.inside.found c.self.inside.past c.self.inside.again.number c.post_session-posted.new.again.number
+    c.self.inside.failures c.self.inside.failures c.in-Some.link c.post_session-posted.new.link c.in-Some.ensures.value c.post_session-posted.ensures.talk)
+
+pub returns-clause-set_for_each : goal.returns-clause-set_for_each
+returns-clause-set_for_each g c = ?
