@@ -8,7 +8,7 @@ use Rattle.machine_shape.specs.Shape.{pins_of}
 use Rattle.machine_meaning.specs.Circuit.{Pins}
 use Rattle.machine_meaning.specs.Faults.{Faults, AreFaultsOf}
 use Rattle.machine_config.specs.Configuration.{Configuration, cleared}
-use Rattle.rig.specs.Rig.{Exchange, KeepLengths}
+use Rattle.rig.specs.Rig.{Exchange, RigState, Explains, KeepLengths}
 use borrow.Rule.Slice.PartMut.{put_mid}
 use Rattle.rig_board.specs.Device.{Device, IsInSession, GoesOnWith, WhereTold}
 use Rattle.rig_board.specs.Machines.{Narrows, EachWas, GoesOnBy}
@@ -325,3 +325,6 @@ finds_told m false g (Some d) (Some e) idle same opened fresh =
 
   faults : Some (told_pair e) ≡ Some (told_pair d) → e.faults ≡ d.faults
   faults s = ap (λ (o : Option (Shape × Faults)). (pair_or o).1) s
+
+pub explained_as : (rig : RigState) (f h : Faults) → f ≡ h → ∥ Explains f rig ∥₁ → ∥ Explains h rig ∥₁
+explained_as rig f h same e = subst (λ (f : Faults). ∥ Explains f rig ∥₁) same e

@@ -1,8 +1,7 @@
 use Rattle.std.proofs.Common.{◌≡◌, ◌∙◌, sym, subst}
-use Rattle.machine_meaning.specs.Faults.{Faults, AreFaultsOf}
-use Rattle.rig.specs.Rig.{Explains}
+use Rattle.machine_meaning.specs.Faults.{AreFaultsOf}
 use Rattle.rig_port.proofs.Behind.{stands_faults}
-use Rattle.rig_port.proofs.Standing.{may_be, told_faults}
+use Rattle.rig_port.proofs.Standing.{explained_as, may_be, told_faults}
 use Rattle.rig_port.proofs.exact.port_exact.Goals as goal
 
 pub returns : goal.returns
@@ -10,4 +9,4 @@ returns g c = λ m f at e.
     let b = c.args.rig.now.board in
     let d = may_be b m f e.last e.check (c.log_explained.ensures.found m at) e.stands in
     let same = told_faults b.waits e.last ∙ stands_faults m f b.talk e.last e.check e.stands in
-    subst (λ (x : Faults). ∥ Explains x _ ∥₁) same (c.log_explained.ensures.each _ d m at (subst (AreFaultsOf m) (sym same) e.faults))
+    explained_as _ _ _ same (c.log_explained.ensures.each _ d m at (subst (AreFaultsOf m) (sym same) e.faults))

@@ -8,7 +8,7 @@ use Rattle.rig_port.specs.Stands.{MayBe}
 use Rattle.rig_port.specs.Transcripts.{GoOn}
 use Rattle.rig_port.proofs.Standing.{all_here, all_on, cycles_each, held_on, narrows_down, narrows_of, taken_down, talk_here}
 use Rattle.rig_port.proofs.port_board.PortBoardBoard.cycles.Given.{Over}
-use Rattle.rig_port.proofs.port_board.PortBoardBoard.cycles.Goals.{Else-not-drive_on}
+use Rattle.rig_port.proofs.port_board.PortBoardBoard.cycles.Goals.{Joined-self}
 use Rattle.rig_port.proofs.Resumed.{both_rose, held_here, running_here, ready_here, wide_here}
 use Rattle.rig_port.proofs.Telling.{tells_held, told_here}
 use Rattle.rig_port.proofs.port_board.PortBoardBoard.cycles.Goals as goal
@@ -46,7 +46,7 @@ drive_on-requires-clause-rows g c = record {
   as_many = c.requires.as_many;
 }
 
-module _ (g : Over) (c : Else-not-drive_on g) where
+module _ (g : Over) (c : Joined-self g) where
   runs : c.in-Some.link.running ≡ true
   runs = running_here c.in-Some.ensures.value (ap (λ s. s.in_session) c.self.view_is ∙ c.requires.session)
 

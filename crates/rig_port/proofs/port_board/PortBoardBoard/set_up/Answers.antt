@@ -4,6 +4,7 @@ use Rattle.rig_port.specs.Stands.{StandsTold}
 use Rattle.rig_port.proofs.Resumed.{held_here, posted_held}
 use Rattle.rig_port.proofs.Standing.{all_here, all_posted, narrows_none, narrows_posted, set_all}
 use Rattle.rig_port.proofs.Telling.{told_here}
+use Rattle.rig_port.proofs.port_board.PortBoardBoard.set_up.Goals.{in-Ok, in-Err}
 use Rattle.rig_port.proofs.port_board.PortBoardBoard.set_up.Goals as goal
 
 pub invariant_of-self-2 : goal.invariant_of-self-2
@@ -30,4 +31,9 @@ returns-clause-narrows g c =
     c.self.inside.failures c.self.inside.failures c.in-Some.link c.post_session-posted.new.link c.in-Some.ensures.value c.post_session-posted.ensures.talk)
 
 pub returns-clause-set_for_each : goal.returns-clause-set_for_each
-returns-clause-set_for_each g c = ?
+returns-clause-set_for_each g c = elim c.match-posted.branch [
+  | in-Ok w ↦ rw (w.result-is, ← c.self.view_is) (set_all (g.P.Port.port_state c.self.inside.port) c.self.inside.found c.self.inside.past c.self.inside.again.number
+      c.post_session-posted.new.again.number c.self.inside.failures c.self.inside.failures c.in-Some.link c.post_session-posted.new.link c.args.config.now.config c.in-Some.ensures.value
+      c.post_session-posted.ensures.talk w.in-Ok.ensures.posted.2 w.in-Ok.ensures.posted.0)
+  | in-Err w ↦ rw w.result-is tt
+]
