@@ -52,9 +52,9 @@ logged_none {M} {past} {session} empty ended = subst (λ (l : List Past). AreLog
 pub logged_ended : {M : Device → Type 0} {past now : List Past} {s rest : Option Session} → now ≡ past ++ standing s → rest ≡ None → AreLogged M past s → AreLogged M now rest
 logged_ended {M} {past} {now} {s} {rest} more ended l =
     subst (λ (list : List Past). AreLogged M list rest) (sym more) (subst (λ (r : Option Session). AreLogged M (past ++ standing s) r) (sym ended) (record {
-  ran = λ d m. ∥∥₁_map (l.ran d m) (λ all. all_more (IsRunOf d.faults) (past ++ standing s) [] all tt);
-  stands = λ d m. for_none (λ s. IsInSession s.config s.cycles d);
-}))
+      ran = λ d m. ∥∥₁_map (l.ran d m) (λ all. all_more (IsRunOf d.faults) (past ++ standing s) [] all tt);
+      stands = λ d m. for_none (λ s. IsInSession s.config s.cycles d);
+    }))
 
 -- fewer machines
 pub logged_narrowed : {M N : Device → Type 0} {past : List Past} {s : Option Session} → s ≡ None → Narrows M N → AreLogged M past s → AreLogged N past s
@@ -119,8 +119,8 @@ past_more items past found k l is there config cycles =
     = ap (λ (g : Configuration). past_with g (session_of l).cycles) config ∙ ap (λ (ps : List Exchange). past_with (session_of k).config ps) cycles in
     ap (map past_of) is ∙ map_and past l ∙ ap (λ p. map past_of past ++ p ∷ []) same
     ∙ ap (λ (o : Option Kept). map past_of past ++ standing (option_map session_of o)) (sym there) where
-  past_with : Configuration → List Exchange → Past
-  past_with g ps = record { config = g; cycles = ps }
+      past_with : Configuration → List Exchange → Past
+      past_with g ps = record { config = g; cycles = ps }
 
 -- they are added to the session before
 pub added_from : (drives readings : List Pins) (s mid t : Session) → mid.cycles ≡ s.cycles → HasAdded drives readings mid t → HasAdded drives readings s t

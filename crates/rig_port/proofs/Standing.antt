@@ -316,15 +316,15 @@ finds_told m false g o None idle same opened fresh = tt
 finds_told m false g None (Some e) idle same opened fresh = absurd (false≢true (sym (ap is_some same)))
 finds_told m false g (Some d) (Some e) idle same opened fresh =
     (fresh.0, subst (λ (s : Shape). AreFaultsOf s e.faults) (sym (shape same) ∙ fresh.0) (subst (λ (f : Faults). AreFaultsOf d.shape f) (sym (faults same)) opened.1)) where
-  pair_or : Option (Shape × Faults) → Shape × Faults
-  pair_or None = told_pair d
-  pair_or (Some p) = p
+      pair_or : Option (Shape × Faults) → Shape × Faults
+      pair_or None = told_pair d
+      pair_or (Some p) = p
 
-  shape : Some (told_pair e) ≡ Some (told_pair d) → e.shape ≡ d.shape
-  shape s = ap (λ (o : Option (Shape × Faults)). (pair_or o).0) s
+      shape : Some (told_pair e) ≡ Some (told_pair d) → e.shape ≡ d.shape
+      shape s = ap (λ (o : Option (Shape × Faults)). (pair_or o).0) s
 
-  faults : Some (told_pair e) ≡ Some (told_pair d) → e.faults ≡ d.faults
-  faults s = ap (λ (o : Option (Shape × Faults)). (pair_or o).1) s
+      faults : Some (told_pair e) ≡ Some (told_pair d) → e.faults ≡ d.faults
+      faults s = ap (λ (o : Option (Shape × Faults)). (pair_or o).1) s
 
 pub explained_as : (rig : RigState) (f h : Faults) → f ≡ h → ∥ Explains f rig ∥₁ → ∥ Explains h rig ∥₁
 explained_as rig f h same e = subst (λ (f : Faults). ∥ Explains f rig ∥₁) same e

@@ -1,20 +1,12 @@
 -- A whole cycle.
-use Rattle.std.proofs.Common.{◌≡◌, ⊎_elim, ℕ, Bool, List, length, sym, ◌∙◌, subst}
-use Rattle.std.proofs.lemmas.Bool.{false≢true}
+use Rattle.std.proofs.Common.{◌≡◌, ℕ, Bool, List, sym, subst}
 use Rattle.machine_meaning.specs.Vocabulary.{Outputs, Pins, Faults}
 use Rattle.machine_config.specs.Configuration.{Configuration}
 use Rattle.rig_simulated.specs.declared.classes.ClassNode.{ClassNode}
 use Rattle.rig_simulated.specs.declared.gates.Gate.{Gate}
-use Rattle.rig_simulated.specs.Gates.{IsClear, AreOutputs, IsDrivenBy, AreMarkedToo}
+use Rattle.rig_simulated.specs.Gates.{IsClear, AreOutputs}
 use Rattle.rig_simulated.specs.Cycles.{IsWired, AreDriven, HaveTicked, IsEdge, HasTicked, HasCycled}
 use Rattle.rig_simulated.proofs.Levels.{has_ticked, edge_cycle}
-
--- the marks that pins set over none are those of the drive
-pub driven_by_marks : (pins : List ℕ) (drive : Pins) (old low : List Bool) → IsClear old → AreMarkedToo old low (IsDrivenBy pins drive (length pins)) → AreDriven pins drive low
-driven_by_marks pins drive old low is_clear are = record {
-  to = λ r e. ⊎_elim (λ o. absurd (false≢true (sym (is_clear r) ∙ o))) (λ d. d) (are.only r e);
-  from = are.more;
-}
 
 -- ticks and a clock edge are a cycle
 pub whole_cycle : (f : Faults) (g : Configuration) (root : ℕ → ℕ) (knots : List ClassNode) (pins : List ℕ) (drive read : Pins) (low clear : List Bool) (old mid new : List Gate) (before : Outputs) (ticks : ℕ) → g.ticks ≡ ticks →

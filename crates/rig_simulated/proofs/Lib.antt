@@ -2,8 +2,9 @@ mod ClassLemmas
 mod Joining
 mod Links
 mod Bases
-mod Touching
-mod Knowing
+mod Undoing
+mod Chaining
+mod Tracking
 mod Marking
 mod Levels
 mod Ticking
@@ -11,7 +12,6 @@ mod Twins
 mod Counts
 mod Loading
 mod Cycling
-mod Logging
 mod Sessions
 mod Going
 mod Naming

@@ -2,9 +2,8 @@
 use Rattle.std.proofs.Common.{◌≡◌, ◌≢◌, ◌⊎◌, inl, inr, ⊎_elim, ℕ, ◌+◌, ◌<◌, ◌≤◌, Bool, true, false, List, length, get_or, set, refl, sym, ap, ◌∙◌, arith}
 use Rattle.std.proofs.lemmas.Bool.{false≢true, cases_eq, cases_lt, false_from_ne_true}
 use Rattle.std.proofs.lemmas.List.{get_or-set_other, get_or-set_same, length-set, get_or_default}
-use Rattle.machine_meaning.specs.Circuit.{Pins}
 use Rattle.rig_simulated.specs.declared.gates.Gate.{Gate}
-use Rattle.rig_simulated.specs.Gates.{is_low, IsClear, IsPulledBy, IsOutputOf, IsDrivenBy, IsPinOf, AreMarkedToo}
+use Rattle.rig_simulated.specs.Gates.{is_low, IsClear, IsPulledBy, IsOutputOf, IsPinOf, AreMarkedToo}
 
 -- no mark yet
 pub none_marked : (old : List Bool) (P : ℕ → Type 0) → ((r : ℕ) → ¬ P r) → AreMarkedToo old old P
@@ -75,28 +74,6 @@ module _ (gates : List Gate) where
 
   pub outputs_done : (low : List Bool) (n : ℕ) → length gates ≤ n → ((r : ℕ) → is_low low r ≡ true → IsOutputOf gates n r) → IsClear low
   outputs_done low n h only r = false_from_ne_true (is_low low r) (λ e. let o = only r e in let f = o.from in let w = o.within in omega (arith, f, w, h))
-
-module _ (pins : List ℕ) (drive : Pins) where
-  pub no_drive : (r : ℕ) → ¬ IsDrivenBy pins drive 0 r
-  no_drive r p = let h = p.below in omega (arith, h)
-
-  pub drive_kept : (n r : ℕ) → IsDrivenBy pins drive n r → IsDrivenBy pins drive (n + 1) r
-  drive_kept n r p = record { place = p.place; below = let h = p.below in omega (arith, h); root = p.root; low = p.low }
-
-  pub drive_here : (n : ℕ) → get_or drive n true ≡ false → IsDrivenBy pins drive (n + 1) (get_or pins n 0)
-  drive_here n low = record { place = n; below = omega arith; root = refl; low = low }
-
-  pub drive_last : (n r : ℕ) → IsDrivenBy pins drive (n + 1) r → IsDrivenBy pins drive n r ⊎ (r ≡ get_or pins n 0)
-  drive_last n r p = ⊎_elim
-      (λ l. inl (record { place = p.place; below = l; root = p.root; low = p.low }))
-      (λ l. inr (let e : p.place ≡ n = (let h = p.below in omega (arith, h, l)) in sym p.root ∙ ap (λ k. get_or pins k 0) e))
-      (cases_lt p.place n)
-
-  pub drive_not : (n : ℕ) → get_or drive n true ≡ true → (r : ℕ) → IsDrivenBy pins drive (n + 1) r → IsDrivenBy pins drive n r
-  drive_not n high r p = ⊎_elim
-      (λ l. record { place = p.place; below = l; root = p.root; low = p.low })
-      (λ l. let e : p.place ≡ n = (let h = p.below in omega (arith, h, l)) in absurd (false≢true (sym p.low ∙ ap (λ k. get_or drive k true) e ∙ high)))
-      (cases_lt p.place n)
 
 module _ (pins : List ℕ) where
   pub pin_later : (low : List Bool) (n : ℕ) → get_or pins n 0 < length low → ((r : ℕ) → is_low low r ≡ true → IsPinOf pins n r) → (r : ℕ) → is_low (set low (get_or pins n 0) false) r ≡ true → IsPinOf pins (n + 1) r

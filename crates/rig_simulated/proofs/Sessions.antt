@@ -1,8 +1,8 @@
 -- What is kept of a session is the session.
-use Rattle.std.proofs.Common.{◌≡◌, ◌⊎◌, inl, inr, ⊎_elim, ℕ, zero, suc, ◌+◌, ◌*◌, ◌<◌, ◌≤◌, Bool, true, false, cond, eqb, Option, Some, None, List, [], ◌∷◌, ◌++◌, length, take, drop, get_or, map, refl, sym, ap, ◌∙◌, arith, append_assoc, is_some, count_by, option_map}
+use Rattle.std.proofs.Common.{◌≡◌, ◌⊎◌, inl, inr, ⊎_elim, ℕ, zero, suc, ◌<◌, Bool, true, false, cond, eqb, Option, Some, None, List, [], ◌∷◌, ◌++◌, length, get_or, map, refl, sym, ap, ◌∙◌, subst, arith, is_some, count_by, option_map}
 use Rattle.std.specs.List.{range_with_len}
 use Rattle.std.proofs.lemmas.Bool.{cases_Bool, eqb-true, eq-eqb}
-use Rattle.std.proofs.lemmas.List.{length-drop, take_at, drop_at, take-append-le, drop-append-le, map-append, take_all}
+use Rattle.std.proofs.lemmas.List.{map-append}
 use Rattle.std.proofs.lemmas.List.FromFn.{fill_by_all}
 use Rattle.std.specs.FinSet as set_
 use Rattle.std.specs.FinSet.{same_set, nat_cmp-IsAntisymmetric}
@@ -12,12 +12,15 @@ use Rattle.machine_shape.specs.declared.Cross.{Cross}
 use Rattle.machine_shape.specs.Shape.{tables_of}
 use Rattle.machine_meaning.specs.Vocabulary.{Faults, Pins}
 use Rattle.machine_config.specs.declared.Setting.{Setting}
-use Rattle.machine_config.specs.Vocabulary.{Configuration, is_closed, setting_of, set_of, circuit_of}
+use Rattle.machine_config.specs.Vocabulary.{Configuration, is_closed, setting_of, set_of, circuit_of, at_load, none}
 use Rattle.machine_config.proofs.Members.{contains_times}
 use Rattle.machine_config.proofs.Runs.{Cycles-push}
 use Rattle.rig.specs.Rig.{Exchange, Session, drives_of, readings_of}
 use Rattle.rig_simulated.specs.declared.gates.Gate.{Gate}
-use Rattle.rig_simulated.specs.Gates.{Stands, AreGates}
+use Rattle.rig_simulated.specs.declared.board.Board.{Board}
+use Rattle.rig_simulated.specs.Gates.{Stands, AreGates, AreOutputs}
+use Rattle.rig_simulated.specs.Boards.{IsLoaded}
+use Rattle.rig_simulated.specs.Sims.{IsRunning}
 use Rattle.rig_simulated.specs.Stored.{setting_in, config_in, cycles_in}
 use Rattle.rig_simulated.specs.Tracks.{GivesCycle, HasRun}
 
@@ -40,11 +43,11 @@ module _ (g : Configuration) where
       (cases_Bool (eqb x.table.0 t))
 
 found_some : (gates : List Gate) (t k : ℕ) (d : Gate) → k < length gates → (get_or gates k d).table.0 ≡ t → setting_in gates t ≡ None → ⊥
-found_some [] t k d h e none = absurd (omega arith)
-found_some (x ∷ xs) t zero d h e none = let q = sym (here_is x xs t e) ∙ none in cc
-found_some (x ∷ xs) t (suc k) d h e none = ⊎_elim
-    (λ b. let q = sym (here_is x xs t (eqb-true x.table.0 t b)) ∙ none in cc)
-    (λ b. found_some xs t k d (omega (arith, h)) e (sym (later_is x xs t b) ∙ none))
+found_some [] t k d h e lacks = absurd (omega arith)
+found_some (x ∷ xs) t zero d h e lacks = let q = sym (here_is x xs t e) ∙ lacks in cc
+found_some (x ∷ xs) t (suc k) d h e lacks = ⊎_elim
+    (λ b. let q = sym (here_is x xs t (eqb-true x.table.0 t b)) ∙ lacks in cc)
+    (λ b. found_some xs t k d (omega (arith, h)) e (sym (later_is x xs t b) ∙ lacks))
     (cases_Bool (eqb x.table.0 t))
 
 module _ {f : Faults} {g : Configuration} {root : ℕ → ℕ} (gates : List Gate) (are : AreGates f g root gates) where
@@ -69,22 +72,11 @@ pub closed_is : (g : Configuration) (closed : List Cross) → ((x : ℕ) → cou
 closed_is g closed counts = same_set nat_cmp_total nat_cmp-IsAntisymmetric _ _ (λ q. contains_times closed q (is_closed g q) (counts q))
 
 -- one more cycle behind those that are kept
-pub cycles_more : (p n : ℕ) (bits : List Bool) (d r : List Bool) → length bits ≡ n * (2 * p) → length d ≡ p → length r ≡ p → cycles_in p (suc n) ((bits ++ d) ++ r) ≡ cycles_in p n bits ++ record { drive = d; reading = r } ∷ []
-cycles_more p zero bits d r lb ld lr = by_nil bits (omega (arith, lb))
-  where
-    by_nil : (bits : List Bool) → length bits ≡ 0 → cycles_in p 1 ((bits ++ d) ++ r) ≡ record { drive = d; reading = r } ∷ []
-    by_nil (x ∷ xs) l = absurd (omega (arith, l))
-    by_nil [] l = rw (take_at d r p ld, drop_at d r p ld, take_all p r (omega (arith, lr))) refl
-cycles_more p (suc n) bits d r lb ld lr =
-    let e : suc n * (2 * p) ≡ 2 * p + n * (2 * p) = omega arith in
-    let long : 2 * p ≤ length bits = omega (arith, lb, e) in
-    let rest : length (drop (2 * p) bits) ≡ n * (2 * p) = omega (arith, length-drop (2 * p) bits, lb, e) in
-    let first : take p ((bits ++ d) ++ r) ≡ take p bits = ap (take p) (append_assoc bits d r) ∙ take-append-le p bits (d ++ r) (omega (arith, long)) in
-    let off : drop p ((bits ++ d) ++ r) ≡ drop p bits ++ (d ++ r) = ap (drop p) (append_assoc bits d r) ∙ drop-append-le p bits (d ++ r) (omega (arith, long)) in
-    let second : take p (drop p ((bits ++ d) ++ r)) ≡ take p (drop p bits) = ap (take p) off ∙ take-append-le p (drop p bits) (d ++ r) (omega (arith, length-drop p bits, long)) in
-    let later : drop (2 * p) ((bits ++ d) ++ r) ≡ (drop (2 * p) bits ++ d) ++ r = ap (drop (2 * p)) (append_assoc bits d r) ∙ drop-append-le (2 * p) bits (d ++ r) long ∙ sym (append_assoc (drop (2 * p) bits) d r) in
-    let ih = cycles_more p n (drop (2 * p) bits) d r rest ld lr in
-    λ i. record { drive = first i; reading = second i } ∷ (ap (cycles_in p (suc n)) later ∙ ih) i
+pub cycles_more : (ds rs : List Pins) (d r : Pins) → length ds ≡ length rs → cycles_in (ds ++ d ∷ []) (rs ++ r ∷ []) ≡ cycles_in ds rs ++ record { drive = d; reading = r } ∷ []
+cycles_more [] [] d r e = refl
+cycles_more [] (y ∷ rs) d r e = absurd (omega (arith, e))
+cycles_more (x ∷ ds) [] d r e = absurd (omega (arith, e))
+cycles_more (x ∷ ds) (y ∷ rs) d r e = ap (λ l. record { drive = x; reading = y } ∷ l) (cycles_more ds rs d r (omega (arith, e)))
 
 -- from a session to what is kept
 pub has_session : (b : Bool) (s : Session) (F : Session → ℕ) (n : ℕ) → option_map F (cond b (Some s) None) ≡ Some n → (b ≡ true) × (F s ≡ n)
@@ -99,3 +91,15 @@ run_more {f} {g} cycles drive read run one = record {
   cycles = (rw (map-append (λ (c : Exchange). c.drive) cycles, map-append (λ (c : Exchange). c.reading) cycles) (Cycles-push (circuit_of f g) run.cycles one.cycle));
   gives = one.gives;
 }
+
+-- nothing was driven and read yet
+pub as_many_none : {ds rs : List Pins} → ds ≡ [] → rs ≡ [] → length ds ≡ length rs
+as_many_none d r = ap length d ∙ sym (ap length r)
+
+pub session_begun : {g h : Configuration} {ds rs : List Pins} {n m : ℕ} → g ≡ h → ds ≡ [] → rs ≡ [] → n ≡ m →
+    ◌≡◌ {A = Option Session} (Some (record { config = g; cycles = cycles_in ds rs; spare = n })) (Some (record { config = h; cycles = []; spare = m }))
+session_begun e d r s = λ i. Some (record { config = e i; cycles = cycles_in (d i) (r i); spare = s i })
+
+pub running_begun : {f : Faults} {g h : Configuration} {b : Board} {ds rs : List Pins} → IsLoaded f h b → AreOutputs h b.gates.items (at_load (circuit_of f h)) → g ≡ h → ds ≡ [] → rs ≡ [] → IsRunning f g (cycles_in ds rs) b
+running_begun {f} {g} {h} {b} {ds} {rs} loaded first e d r = subst (λ k. IsRunning f k (cycles_in ds rs) b) (sym e)
+    (subst (λ cs. IsRunning f h cs b) (sym (λ i. cycles_in (d i) (r i))) (record { loaded = loaded; run = record { outputs = at_load (circuit_of f h); cycles = none; gives = first } }))

@@ -1,35 +1,55 @@
 -- A machine that is prepared, and one that is loaded.
-use Rattle.std.specs.Prelude.{◌≡◌, ℕ, ◌<◌, true, length, All}
+use Rattle.std.specs.Prelude.{◌≡◌, ℕ, ◌<◌, Bool, true, List, length, slice_index, All}
 use Rattle.machine_shape.specs.declared.Shape.{Shape}
-use Rattle.machine_shape.specs.Shape.{wires_of, tables_of}
+use Rattle.machine_shape.specs.Shape.{wires_of, tables_of, pins_of, pin_wire}
 use Rattle.machine_meaning.specs.Faults.{Faults}
 use Rattle.machine_config.specs.Configuration.{Configuration}
 use Rattle.rig_simulated.specs.declared.board.Board.{Board}
-use Rattle.rig_simulated.specs.Building.{AreBase, AreKept}
-use Rattle.rig_simulated.specs.Known.{AreKnown}
+use Rattle.rig_simulated.specs.declared.classes.ClassNode.{ClassNode}
+use Rattle.rig_simulated.specs.declared.driving.KeptPins.{KeptPins}
+use Rattle.rig_simulated.specs.Classes.{HasRoots}
+use Rattle.rig_simulated.specs.Building.{AreClosedBy}
+use Rattle.rig_simulated.specs.Stuck.{AreStuck}
 use Rattle.rig_simulated.specs.Gates.{IsClear, Fits}
-use Rattle.rig_simulated.specs.Cycles.{IsWired}
+use Rattle.rig_simulated.specs.Cycles.{IsWired, AreDriven}
+use Rattle.rig_simulated.specs.Chains.{AreWithin}
+use Rattle.rig_simulated.specs.Tracked.{IsTracked}
 use Rattle.rig_simulated.specs.Settling.{Settles}
 use Rattle.rig_simulated.specs.Pulls.{AreZero}
 use Rattle.rig_simulated.specs.Events.{AreEvents}
 
--- its faults are prepared, what is kept of crosspoints is true, and no class has a mark or a count
+-- there is room for what the pins are driven, and the marks are those of it
+pub record HasPins (m : Shape) (pins : List ℕ) (low : List Bool) (kept : KeptPins) : Type 0 where
+  pub within : All (λ r. r < wires_of m) pins
+  pub marks : length low ≡ wires_of m
+  pub last : length kept.chains.last.items ≡ wires_of m
+  pub few : AreWithin kept.chains.last.items (pins_of m)
+  pub before : length kept.chains.before.items ≡ pins_of m
+  pub drive : length kept.drive ≡ pins_of m
+  pub levels : length kept.levels ≡ pins_of m
+  pub driven : AreDriven pins kept.drive low
+
+-- the pins are these
+abbrev pub ArePinsOf : Shape → List ClassNode → List ℕ → Type 0
+ArePinsOf m knots pins = (most : ℕ) (root : ℕ → ℕ) → HasRoots knots most root → (k : ℕ) → k < pins_of m →
+    slice_index pins k ≡ root (pin_wire m k)
+
+-- its faults are prepared, its classes are those of what is closed, and no class has a mark of a table or a count
 pub record IsPrepared (m : Shape) (f : Faults) (b : Board) : Type 0 where
-  pub base : AreBase m f b.classes.base.items
-  pub kept : AreKept b.classes
-  pub known : AreKnown m f b.known.items
-  pub low_pins : length b.low_pins.items ≡ wires_of m
+  pub closed : AreClosedBy m f b.classes.closed.items b.classes.knots.items
+  pub knots : length b.classes.knots.items ≡ wires_of m
+  pub stuck : AreStuck m f b.stuck
+  pub pins : HasPins m b.pins.items b.low_pins.items b.kept
   pub low_tables : length b.low_tables.items ≡ wires_of m
   pub ranks : length b.ranks.items ≡ wires_of m
-  pub pins_clear : IsClear b.low_pins.items
   pub tables_clear : IsClear b.low_tables.items
   pub pulls : length b.events.pulls.items ≡ wires_of m
   pub pulls_zero : AreZero b.events.pulls.items
 
--- the tables and pins are of the machine, and so are the readers where they are listed
+-- the tables are of the machine, and so are the readers where they are listed, and what is kept of the pins is true
 pub record AreFitting (m : Shape) (b : Board) : Type 0 where
   pub gates : All (Fits (tables_of m) (wires_of m)) b.gates.items
-  pub pins : All (λ r. r < wires_of m) b.pins.items
+  pub pins : IsTracked b.classes.knots.items b.pins.items b.low_pins.items b.kept
   pub events : b.events.listed ≡ true → AreEvents b.gates.items b.events
 
 -- the configuration is loaded

@@ -1,6 +1,7 @@
 -- How the classes of a machine are built, link by link.
-use Rattle.std.specs.Prelude.{◌≡◌, ℕ, ◌<◌, Bool, false, ◌==◌, ◌&&◌, nat_lt, List, [], length, map, unwrap_or, All}
-use Rattle.std.specs.List.{list_any, Contains}
+use Rattle.std.specs.Prelude.{◌≡◌, ℕ, ◌+◌, ◌<◌, ◌≤◌, Bool, false, ◌==◌, ◌&&◌, nat_lt, Option, List, [], ◌∷◌, ◌++◌, length, map}
+use Rattle.std.specs.Prelude.{take, slice_index_or, unwrap_or}
+use Rattle.std.specs.List.{list_any}
 use Rattle.std.specs.FinSet as set
 use Rattle.machine_shape.specs.declared.Shape.{Shape}
 use Rattle.machine_shape.specs.declared.Cross.{Cross}
@@ -9,8 +10,9 @@ use Rattle.machine_shape.specs.Shape.{wires_of}
 use Rattle.machine_meaning.specs.Vocabulary.{Faults, stuck_wire, stuck_cross, is_bridge, pair_cmp, Net, net_of}
 use Rattle.machine_faults.specs.Stored.{pair_of}
 use Rattle.rig_simulated.specs.declared.classes.ClassNode.{ClassNode}
+use Rattle.rig_simulated.specs.declared.classes.Closed.{Closed}
 use Rattle.rig_simulated.specs.declared.classes.Classes.{Classes}
-use Rattle.rig_simulated.specs.Classes.{knot_at, AreTied}
+use Rattle.rig_simulated.specs.Classes.{AreTied, HasLink, IsOpenedBy}
 
 -- nothing is linked but by these bridges
 abbrev pub bridged_net : Shape → List (Wire × Wire) → Net
@@ -42,11 +44,33 @@ pub record AreBase (m : Shape) (f : Faults) (base : List ClassNode) : Type 0 whe
   pub len : length base ≡ wires_of m
   pub tied : AreTied (closed_net m f []) (stuck_wire f) base base_most
 
--- the knots differ from the base at the touched wires at most
-pub record AreTouched (base knots : List ClassNode) (touched : List ℕ) : Type 0 where
-  pub len : length knots ≡ length base
-  pub within : All (λ w. w < length base) touched
-  pub others : (w : ℕ) → ¬ Contains touched w → knot_at knots w ≡ knot_at base w
+-- what was closed can be opened again, the last first: over each beginning of the list the knots were these
+pub record AreOpenable (closed : List Closed) (knots : List ClassNode) : Type 0 where
+  pub stage : ℕ → List ClassNode
+  pub back : (n : ℕ) (d : Closed) → n < length closed → IsOpenedBy (slice_index_or closed n d).tie (stage (n + 1)) (stage n)
+  pub now : stage (length closed) ≡ knots
 
-abbrev pub AreKept : Classes → Type 0
-AreKept c = AreTouched c.base.items c.knots.items c.touched.items
+abbrev pub cross_of : Closed → Cross
+cross_of c = c.cross
+
+-- over each beginning of the list the knots were those of closing it
+pub record AreClosedBy (m : Shape) (f : Faults) (closed : List Closed) (knots : List ClassNode) : Type 0 where
+  pub openable : AreOpenable closed knots
+  pub len : (n : ℕ) → n ≤ length closed → length (openable.stage n) ≡ wires_of m
+  pub tied : (n : ℕ) → n ≤ length closed →
+      AreTied (closed_net m f (map cross_of (take n closed))) (stuck_wire f) (openable.stage n) (base_most + n)
+
+-- whatever it was that was closed, it is so still
+abbrev pub StaysClosed : Classes → Classes → Type 0
+StaysClosed old new = (m : Shape) (f : Faults) → AreClosedBy m f old.closed.items old.knots.items →
+    AreClosedBy m f new.closed.items new.knots.items
+
+-- one crosspoint more was closed, which links two wires
+pub record HasClosed (cross : Cross) (a b : ℕ) (old new : Classes) : Type 0 where
+  pub step : Closed
+  pub is : step.cross ≡ cross
+  pub closed : new.closed.items ≡ old.closed.items ++ step ∷ []
+  pub back : IsOpenedBy step.tie new.knots.items old.knots.items
+  pub len : length new.knots.items ≡ length old.knots.items
+  pub joined : (net more : Net) (stuck : ℕ → Option Bool) (most : ℕ) → AreTied net stuck old.knots.items most → HasLink net more a b →
+      AreTied more stuck new.knots.items (most + 1)

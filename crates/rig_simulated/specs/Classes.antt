@@ -3,6 +3,7 @@ use Rattle.std.specs.Prelude.{◌≡◌, ◌≢◌, ◌⊎◌, ℕ, ◌+◌, ◌
 use Rattle.machine_shape.specs.Shape.{Ends}
 use Rattle.machine_meaning.specs.Joined.{Net, Linked, Joined}
 use Rattle.rig_simulated.specs.declared.classes.ClassNode.{ClassNode}
+use Rattle.rig_simulated.specs.declared.classes.Tie.{Tie}
 
 -- the knot of a wire; beyond the list each wire is alone
 abbrev pub knot_at : List ClassNode → ℕ → ClassNode
@@ -75,9 +76,36 @@ pub record IsHung (old new : List ClassNode) (low high : ℕ) : Type 0 where
   pub len : length new ≡ length old
   pub parent : (knot_at new low).parent ≡ high
   pub rank : (knot_at new low).rank ≡ (knot_at old low).rank
+  pub low_held : (knot_at new low).held ≡ (knot_at old low).held
   pub top : (knot_at new high).parent ≡ high
   pub higher : (knot_at old low).rank < (knot_at new high).rank
   pub no_lower : (knot_at old high).rank ≤ (knot_at new high).rank
   pub one_more : (knot_at new high).rank ≤ (knot_at old high).rank + 1
   pub held : (knot_at new high).held ≡ stronger (knot_at old low).held (knot_at old high).held
   pub others : (w : ℕ) → w ≢ low → w ≢ high → knot_at new w ≡ knot_at old w
+
+-- which of two roots is put below the other, and what is kept of the higher one
+pub record IsTieOf (knots : List ClassNode) (a b : ℕ) (tie : Tie) : Type 0 where
+  pub ends : ((tie.low ≡ a) × (tie.high ≡ b)) ⊎ ((tie.low ≡ b) × (tie.high ≡ a))
+  pub ranks : (knot_at knots tie.low).rank ≤ (knot_at knots tie.high).rank
+  pub rank : tie.rank ≡ (knot_at knots tie.high).rank
+  pub held : tie.held ≡ (knot_at knots tie.high).held
+
+-- two wires of so many are tied
+pub record IsWithinKnots (tie : Tie) (wires : ℕ) : Type 0 where
+  pub low : tie.low < wires
+  pub high : tie.high < wires
+  pub apart : tie.low ≢ tie.high
+
+-- the knots as they were before the tie
+pub record IsUntied (tie : Tie) (tied before : List ClassNode) : Type 0 where
+  pub within : IsWithinKnots tie (length tied)
+  pub len : length before ≡ length tied
+  pub low : knot_at before tie.low ≡ record { parent = tie.low; rank = (knot_at tied tie.low).rank; held = (knot_at tied tie.low).held }
+  pub high : knot_at before tie.high ≡ record { parent = tie.high; rank = tie.rank; held = tie.held }
+  pub others : (w : ℕ) → w ≢ tie.low → w ≢ tie.high → knot_at before w ≡ knot_at tied w
+
+-- the knots before a crosspoint was closed, which may have tied two wires
+abbrev pub IsOpenedBy : Option Tie → List ClassNode → List ClassNode → Type 0
+IsOpenedBy None tied before = before ≡ tied
+IsOpenedBy (Some tie) tied before = IsUntied tie tied before

@@ -1,9 +1,11 @@
 -- What a simulated machine keeps.
 pub mod Classes
 pub mod Building
-pub mod Known
+pub mod Stuck
 pub mod Gates
 pub mod Cycles
+pub mod Chains
+pub mod Tracked
 pub mod Settling
 pub mod Pulls
 pub mod Queues
@@ -12,7 +14,6 @@ pub mod Events
 pub mod Pasts
 pub mod Boards
 pub mod Tracks
-pub mod BitLogs
 pub mod Stored
 pub mod States
 pub mod Sims

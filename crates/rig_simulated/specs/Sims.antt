@@ -1,6 +1,5 @@
 -- A simulated machine and its session.
-use Rattle.std.specs.Prelude.{◌≡◌, ◌*◌, ◌-◌, ◌≤◌, true, if◌then◌else◌, Option, Some, None, List, length}
-use Rattle.machine_shape.specs.Shape.{pins_of}
+use Rattle.std.specs.Prelude.{◌≡◌, true, if◌then◌else◌, Option, Some, None, List, length}
 use Rattle.machine_meaning.specs.Faults.{Faults, AreFaultsOf}
 use Rattle.machine_config.specs.Configuration.{Configuration}
 use Rattle.rig.specs.Rig.{Exchange, Session, drives_of, readings_of}
@@ -16,10 +15,10 @@ abbrev pub config_of_sim : Inside → Configuration
 config_of_sim a = config_in a.faults.shape a.closed.items a.board.gates.items a.ticks
 
 abbrev pub cycles_of_sim : Inside → List Exchange
-cycles_of_sim a = cycles_in (pins_of a.faults.shape) a.used a.log.bits
+cycles_of_sim a = cycles_in a.drives.items a.readings.items
 
 abbrev pub session_of_sim : Inside → Option Session
-session_of_sim a = if a.running then Some (record { config = config_of_sim a; cycles = cycles_of_sim a; spare = a.room - a.used }) else None
+session_of_sim a = if a.running then Some (record { config = config_of_sim a; cycles = cycles_of_sim a; spare = a.room }) else None
 
 abbrev pub state_of_sim : Inside → SimState
 state_of_sim a = record { machine = a.faults; session = session_of_sim a }
@@ -33,9 +32,5 @@ pub record IsRunning (f : Faults) (g : Configuration) (cycles : List Exchange) (
 pub record IsSim (a : Inside) : Type 0 where
   pub sound : AreFaultsOf a.faults.shape a.faults.faults
   pub prepared : IsPrepared a.faults.shape a.faults.faults a.board
-  pub pins : a.pins ≡ pins_of a.faults.shape
-  pub few_pins : a.pins ≤ 16384
-  pub bits : length a.log.bits ≡ a.used * (2 * pins_of a.faults.shape)
-  pub room : a.room * (2 * pins_of a.faults.shape) ≤ a.log.room
-  pub within : a.used ≤ a.room
+  pub as_many : length a.drives.items ≡ length a.readings.items
   pub running : a.running ≡ true → IsRunning a.faults.faults (config_of_sim a) (cycles_of_sim a) a.board

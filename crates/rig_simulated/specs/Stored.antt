@@ -1,9 +1,10 @@
 -- What is kept of a session.
-use Rattle.std.specs.Prelude.{ℕ, zero, suc, ◌*◌, Bool, ◌==◌, Option, List, [], ◌∷◌, take, drop, map, find, option_map}
+use Rattle.std.specs.Prelude.{ℕ, ◌==◌, Option, List, [], ◌∷◌, map, find, option_map}
 use Rattle.std.specs.List.{range_with_len}
 use Rattle.machine_shape.specs.declared.Shape.{Shape}
 use Rattle.machine_shape.specs.declared.Cross.{Cross}
 use Rattle.machine_shape.specs.Shape.{tables_of}
+use Rattle.machine_meaning.specs.Vocabulary.{Pins}
 use Rattle.machine_config.specs.declared.Setting.{Setting}
 use Rattle.machine_config.specs.Vocabulary.{Configuration, set_of}
 use Rattle.rig.specs.Rig.{Exchange}
@@ -23,8 +24,8 @@ config_in m closed gates ticks = record {
   ticks = ticks;
 }
 
--- so many cycles, of each of which the drive stands before the reading
-abbrev pub cycles_in : ℕ → ℕ → List Bool → List Exchange
-cycles_in pins zero bits = []
-cycles_in pins (suc n) bits = record { drive = take pins bits; reading = take pins (drop pins bits) } ∷ cycles_in pins n
-    (drop (2 * pins) bits)
+-- the cycles of these drives and readings
+abbrev pub cycles_in : List Pins → List Pins → List Exchange
+cycles_in (d ∷ ds) (r ∷ rs) = record { drive = d; reading = r } ∷ cycles_in ds rs
+cycles_in (d ∷ ds) [] = []
+cycles_in [] rs = []

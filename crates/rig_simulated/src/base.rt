@@ -4,7 +4,7 @@ ghost use Rattle.std.specs.Prelude.{◌≡◌, ◌<◌, [], length, IfOk};
 ghost use Rattle.machine_meaning.specs.Faults.{stuck_wire};
 ghost use Rattle.machine_shape.specs.Shape.{wires_of};
 ghost use Rattle.rig_simulated.specs.Classes.{AreTied};
-ghost use Rattle.rig_simulated.specs.Building.{bridged_net, stuck_net, AreBase, AreKept};
+ghost use Rattle.rig_simulated.specs.Building.{bridged_net, stuck_net, AreBase, AreClosedBy};
 
 use crate::classes::{ClassNode, Classes, join};
 use machine_faults::FaultSet;
@@ -60,18 +60,16 @@ fn close_stuck(knots: &mut [ClassNode], faults: &FaultSet)
     }
 }
 
-/// The classes of what the faults alone join.
+/// The classes of what the faults alone join, while nothing is closed.
 pub fn classes_of(alloc: Global, faults: &FaultSet) -> Result<Classes, AllocError>
-    ensures base { IfOk result (λ c. AreBase faults.now.shape faults.now.faults c.base.items) }
-    ensures touched { IfOk result AreKept }
+    ensures closed { IfOk result (λ c. AreClosedBy faults.now.shape faults.now.faults c.closed.items c.knots.items) }
+    ensures len { IfOk result (λ c. length c.knots.items ≡ wires_of faults.now.shape) }
 {
-    let mut base = lone_nodes(alloc, faults)?;
-    bridge_all(&mut base, faults);
-    close_stuck(&mut base, faults);
-    let knots = Vec::from_slice(alloc, &base)?;
+    let mut knots = lone_nodes(alloc, faults)?;
+    bridge_all(&mut knots, faults);
+    close_stuck(&mut knots, faults);
     Ok(Classes {
-        base,
         knots,
-        touched: Vec::new(alloc),
+        closed: Vec::new(alloc),
     })
 }

@@ -1,34 +1,41 @@
 //! A machine that is prepared for its faults, and loaded.
 
-ghost use Rattle.std.specs.Prelude.{◌≡◌, ℕ, ◌<◌, Some, None, OnOk, IfOk, length, slice_index, All, unwrap_or};
-ghost use Rattle.machine_shape.specs.Shape.{wires_of, tables_of, pins_of, pin_wire, table_wire};
+ghost use Rattle.std.specs.Prelude.{◌≡◌, ℕ, ◌<◌, Some, None, OnOk, IfOk, length, All, unwrap_or};
+ghost use Rattle.machine_shape.specs.Shape.{wires_of, tables_of, pins_of, table_wire};
 ghost use Rattle.machine_config.specs.Vocabulary.{Configuration, setting_of, circuit_of, at_load};
 ghost use Rattle.rig_simulated.specs.Classes.{HasRoots, AreRooted};
-ghost use Rattle.rig_simulated.specs.Boards.{IsPrepared, IsLoaded};
+ghost use Rattle.rig_simulated.specs.Boards.{HasPins, ArePinsOf, IsPrepared, IsLoaded};
 ghost use Rattle.rig_simulated.specs.Gates.{Fits, IsGate, AreGates, AreOutputs};
+ghost use Rattle.rig_simulated.specs.Tracked.{IsTracked};
 
 use crate::base::classes_of;
+use crate::chains::chain_pins;
 use crate::classes::{ClassNode, Classes, root_of};
 use crate::closing::close_all;
+use crate::driving::{KeptPins, keep_pins, release_pins, show_pins};
 use crate::events::{Events, list_tables, new_events};
 use crate::gates::Gate;
-use crate::known::{Closing, nothing_known};
 use crate::past::{MANY_TICKS, Past, make_past, no_past};
 use crate::ranks::{FEW_TICKS, Turn, order_gates};
+use crate::stuck::stuck_marks;
+use base_bits::BitSet;
 use machine_config::{Config, Setting};
 use machine_faults::FaultSet;
 use machine_shape::{Pin, Shape, Table};
 use std::alloc::{AllocError, Global};
 
-/// What is kept of a machine: its wires in classes, what its crosspoints do, its tables that are on, its pins, and marks.
+/// What is kept of a machine: its wires in classes, which crosspoints are stuck, its tables that are on, its pins, and
+/// marks.
 #[derive(Drop)]
 pub struct Board {
     pub classes: Classes,
-    /// For each crosspoint, once it was closed, what it does then.
-    pub known: Vec<Option<Closing>>,
+    /// The crosspoints that are stuck.
+    pub stuck: BitSet,
     pub gates: Vec<Gate>,
     /// The roots of the pins.
     pub pins: Vec<u32>,
+    /// What the pins are driven.
+    pub kept: KeptPins,
     /// The classes that pins pull to 0.
     pub low_pins: Vec<bool>,
     /// The classes that tables pull to 0.
@@ -124,9 +131,8 @@ fn fill_pins(pins: &mut Vec<u32>, knots: &[ClassNode], shape: Shape) -> Result<(
     requires len { length knots.now ≡ wires_of shape }
     requires rooted { AreRooted knots.now }
     ensures len { OnOk result (length pins.new.items ≡ pins_of shape) }
-    ensures within { OnOk result (All (λ r. r < wires_of shape) pins.new.items) }
-    ensures roots { OnOk result ((most : ℕ) (root : ℕ → ℕ) → HasRoots knots.now most root → (k : ℕ) → k < pins_of shape →
-        slice_index pins.new.items k ≡ root (pin_wire shape k)) }
+    ensures within { All (λ r. r < wires_of shape) pins.new.items }
+    ensures roots { OnOk result (ArePinsOf shape knots.now pins.new.items) }
 {
     pins.clear();
     'pins: for k in 0..shape.pins() {
@@ -139,25 +145,55 @@ fn fill_pins(pins: &mut Vec<u32>, knots: &[ClassNode], shape: Shape) -> Result<(
 pub fn prepare(alloc: Global, faults: &FaultSet) -> Result<Board, AllocError>
     ensures { IfOk result (IsPrepared faults.now.shape faults.now.faults) }
 {
-    let wires = faults.shape().wires() as usize;
+    let shape = faults.shape();
+    let wires = shape.wires() as usize;
+    let low_pins = vec![in alloc; false; wires]?;
+    let low_tables = vec![in alloc; false; wires]?;
     Ok(Board {
         classes: classes_of(alloc, faults)?,
-        known: nothing_known(alloc, faults)?,
         gates: Vec::new(alloc),
         pins: Vec::new(alloc),
-        low_pins: vec![in alloc; false; wires]?,
-        low_tables: vec![in alloc; false; wires]?,
+        low_pins,
+        low_tables,
         ranks: vec![in alloc; 0; wires]?,
         turns: Vec::new(alloc),
         ranked: false,
         events: new_events(alloc, wires)?,
         past: no_past(alloc),
+        stuck: stuck_marks(alloc, faults)?,
+        kept: keep_pins(alloc, wires, shape.pins())?,
     })
 }
 
-/// Loads a configuration. Its cost grows with what is closed, on and faulty, with the pins, and, where there are more
-/// than two ticks, with the longest way through combinational tables. If that is longer than the ticks, what the tables
-/// read is sorted.
+/// Finds the pins anew, of which none is driven.
+fn load_pins(
+    kept: &mut KeptPins,
+    pins: &mut Vec<u32>,
+    low: &mut [bool],
+    knots: &[ClassNode],
+    shape: Shape,
+) -> Result<(), AllocError>
+    requires has { HasPins shape pins.old.items low.old kept.old }
+    requires len { length knots.now ≡ wires_of shape }
+    requires rooted { AreRooted knots.now }
+    ensures has { HasPins shape pins.new.items low.new kept.new }
+    ensures tracked { OnOk result (IsTracked knots.now pins.new.items low.new kept.new) }
+    ensures len { OnOk result (length pins.new.items ≡ pins_of shape) }
+    ensures roots { OnOk result (ArePinsOf shape knots.now pins.new.items) }
+{
+    // A machine has few wires, and no more pins.
+    let _wires = shape.wires();
+    let _pins = shape.pins();
+    release_pins(kept, pins, low);
+    fill_pins(pins, knots, shape)?;
+    chain_pins(&mut kept.chains, pins);
+    show_pins(&mut kept.levels, pins, knots, low);
+    Ok(())
+}
+
+/// Loads a configuration. Its cost grows with what is closed otherwise than before, with what is on, with the pins, and,
+/// where there are more than two ticks, with the longest way through combinational tables. If that is longer than the
+/// ticks, what the tables read is sorted.
 pub fn load(board: &mut Board, faults: &FaultSet, config: &Config) -> Result<(), AllocError>
     requires prepared { IsPrepared faults.now.shape faults.now.faults board.old }
     requires shape { config.now.config.shape ≡ faults.now.shape }
@@ -167,14 +203,15 @@ pub fn load(board: &mut Board, faults: &FaultSet, config: &Config) -> Result<(),
         (at_load (circuit_of faults.now.faults config.now.config))) }
 {
     let shape = config.shape();
-    close_all(
-        &mut board.classes,
-        &mut board.known,
-        faults,
-        config.closed(),
-    )?;
+    close_all(&mut board.classes, &board.stuck, faults, config.closed())?;
     fill_gates(&mut board.gates, faults, &board.classes.knots, config)?;
-    fill_pins(&mut board.pins, &board.classes.knots, shape)?;
+    load_pins(
+        &mut board.kept,
+        &mut board.pins,
+        &mut board.low_pins,
+        &board.classes.knots,
+        shape,
+    )?;
     board.ranked = order_gates(
         &mut board.turns,
         &mut board.ranks,

@@ -1,8 +1,10 @@
 //! Wires in classes: those that are joined have one root.
 
-ghost use Rattle.std.specs.Prelude.{◌≡◌, ◌≢◌, ◌⊎◌, ℕ, ◌+◌, ◌-◌, ◌^◌, ◌<◌, ◌≤◌, Bool, false, Option, length};
+ghost use Rattle.std.specs.Prelude.{◌≡◌, ◌≢◌, ◌⊎◌, ℕ, ◌+◌, ◌-◌, ◌^◌, ◌<◌, ◌≤◌, Bool, false, Option, IfSome, length};
 ghost use Rattle.machine_meaning.specs.Joined.{Net};
-ghost use Rattle.rig_simulated.specs.Classes.{knot_at, HasRoots, AreRooted, AreTied, HasLink, IsHung, stronger};
+ghost use Rattle.rig_simulated.specs.Classes.{knot_at, HasRoots, AreRooted, AreTied, HasLink, IsHung, IsTieOf, IsUntied, IsWithinKnots, IsOpenedBy, stronger};
+
+use machine_shape::Cross;
 
 /// What is kept of a wire.
 #[derive(Clone, Copy, Debug)]
@@ -15,15 +17,29 @@ pub struct ClassNode {
     pub held: Option<bool>,
 }
 
-/// The classes of a machine's wires, and how they were before any crosspoint was closed.
+/// A root that is put below another, and what was kept of the higher one before.
+#[derive(Clone, Copy, Debug)]
+pub struct Tie {
+    pub low: u32,
+    pub high: u32,
+    pub rank: u64,
+    pub held: Option<bool>,
+}
+
+/// A crosspoint that was closed, and the roots that it tied, if it did.
+#[derive(Clone, Copy, Debug)]
+pub struct Closed {
+    pub cross: Cross,
+    pub tie: Option<Tie>,
+}
+
+/// The classes of a machine's wires.
 #[derive(Drop)]
 pub struct Classes {
-    /// What the faults alone join.
-    pub base: Vec<ClassNode>,
-    /// What is joined now.
+    /// What is joined by the faults and by what is closed.
     pub knots: Vec<ClassNode>,
-    /// The wires whose knots may differ from the base.
-    pub touched: Vec<u32>,
+    /// What was closed, in this order, so that the last can be opened again.
+    pub closed: Vec<Closed>,
 }
 
 /// The root of a wire's class.
@@ -55,7 +71,7 @@ fn stronger(a: Option<bool>, b: Option<bool>) -> Option<bool>
 }
 
 /// Puts a root below another of no lower rank.
-fn hang(knots: &mut [ClassNode], low: u32, high: u32)
+pub fn hang(knots: &mut [ClassNode], low: u32, high: u32)
     requires low { low < length knots.old }
     requires high { high < length knots.old }
     requires apart { low ≢ high }
@@ -82,19 +98,62 @@ fn hang(knots: &mut [ClassNode], low: u32, high: u32)
     };
 }
 
-/// Puts one of two roots below the other.
-pub fn tie(knots: &mut [ClassNode], a: u32, b: u32)
-    requires a { a < length knots.old }
-    requires b { b < length knots.old }
+/// A root that is to be put below another.
+fn tie_below(knots: &[ClassNode], low: u32, high: u32) -> Tie
+    requires { high < length knots.now }
+    ensures low { result.low ≡ low }
+    ensures high { result.high ≡ high }
+    ensures rank { result.rank ≡ (knot_at knots.now high).rank }
+    ensures held { result.held ≡ (knot_at knots.now high).held }
+{
+    let above = knots[high as usize];
+    Tie {
+        low,
+        high,
+        rank: above.rank,
+        held: above.held,
+    }
+}
+
+/// Which of two roots is to be put below the other.
+pub fn tie_of(knots: &[ClassNode], a: u32, b: u32) -> Tie
+    requires a { a < length knots.now }
+    requires b { b < length knots.now }
     requires apart { a ≢ b }
-    requires a_room { (knot_at knots.old a).rank + 1 < 2 ^ 64 }
-    requires b_room { (knot_at knots.old b).rank + 1 < 2 ^ 64 }
-    ensures { IsHung knots.old knots.new a b ⊎ IsHung knots.old knots.new b a }
+    ensures within { IsWithinKnots result (length knots.now) }
+    ensures tie { IsTieOf knots.now a b result }
 {
     if knots[a as usize].rank <= knots[b as usize].rank {
-        hang(knots, a, b);
-    } else {
-        hang(knots, b, a);
+        return tie_below(knots, a, b);
+    }
+    tie_below(knots, b, a)
+}
+
+/// Parts again what was tied last.
+fn untie(knots: &mut [ClassNode], tie: Tie)
+    requires { IsWithinKnots tie (length knots.old) }
+    ensures { IsUntied tie knots.old knots.new }
+{
+    let below = knots[tie.low as usize];
+    knots[tie.low as usize] = ClassNode {
+        parent: tie.low,
+        rank: below.rank,
+        held: below.held,
+    };
+    knots[tie.high as usize] = ClassNode {
+        parent: tie.high,
+        rank: tie.rank,
+        held: tie.held,
+    };
+}
+
+/// Parts again what a crosspoint tied that was closed last.
+pub fn part(knots: &mut [ClassNode], tie: Option<Tie>)
+    requires { IfSome tie (λ t. IsWithinKnots t (length knots.old)) }
+    ensures { IsOpenedBy tie knots.old knots.new }
+{
+    if let Some(tie) = tie {
+        untie(knots, tie);
     }
 }
 
@@ -110,6 +169,7 @@ pub fn join(knots: &mut [ClassNode], a: u32, b: u32)
     let root = root_of(knots, a);
     let other = root_of(knots, b);
     if root != other {
-        tie(knots, root, other);
+        let tie = tie_of(knots, root, other);
+        hang(knots, tie.low, tie.high);
     }
 }

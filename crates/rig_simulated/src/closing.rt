@@ -1,73 +1,122 @@
 //! The classes once crosspoints are closed.
 
-ghost use Rattle.std.specs.Prelude.{◌≡◌, ℕ, ◌+◌, ◌<◌, Bool, Option, length, All, OnOk};
-ghost use Rattle.machine_meaning.specs.Vocabulary.{stuck_wire, Net};
-ghost use Rattle.machine_shape.specs.Shape.{crosses_of};
-ghost use Rattle.rig_simulated.specs.Classes.{AreTied, AreRooted, HasLink};
-ghost use Rattle.rig_simulated.specs.Building.{closed_net, base_most, AreBase, AreKept};
-ghost use Rattle.rig_simulated.specs.Known.{AreKnown};
+ghost use Rattle.std.specs.Prelude.{◌≡◌, ◌+◌, ◌-◌, ◌<◌, ◌≤◌, [], ◌∷◌, ◌++◌, length, map, take, All, OnOk, OnErr};
+ghost use Rattle.machine_shape.specs.Shape.{wires_of, crosses_of};
+ghost use Rattle.rig_simulated.specs.Classes.{AreRooted};
+ghost use Rattle.rig_simulated.specs.Building.{cross_of, AreClosedBy, AreOpenable, StaysClosed, HasClosed};
+ghost use Rattle.rig_simulated.specs.Stuck.{AreStuck};
 
-use crate::classes::{Classes, root_of, tie};
-use crate::known::{Closing, closing_of};
+use crate::classes::{Classes, Closed, hang, part, root_of, tie_of};
+use base_bits::BitSet;
 use machine_faults::FaultSet;
 use machine_shape::Cross;
 use std::alloc::AllocError;
 
-/// Makes the classes those of the faults alone again.
-fn put_back(classes: &mut Classes)
-    requires { AreKept classes.old }
-    ensures base { classes.new.base.items ≡ classes.old.base.items }
-    ensures knots { classes.new.knots.items ≡ classes.old.base.items }
-    ensures touched { AreKept classes.new }
+/// How many crosspoints come first in both.
+fn count_alike(closed: &[Closed], crosses: &[Cross]) -> usize
+    ensures closed { result ≤ length closed.now }
+    ensures crosses { result ≤ length crosses.now }
+    ensures alike { map cross_of (take result closed.now) ≡ take result crosses.now }
 {
-    'touched: while let Some(w) = classes.touched.pop() {
-        classes.knots[w as usize] = classes.base[w as usize];
+    let most = closed.len().min(crosses.len());
+    'places: for k in 0..most {
+        if closed[k].cross.0 != crosses[k].0 {
+            return k;
+        }
+    }
+    most
+}
+
+/// Opens what was closed last.
+fn open_last(classes: &mut Classes)
+    requires { AreOpenable classes.old.closed.items classes.old.knots.items }
+    ensures openable { AreOpenable classes.new.closed.items classes.new.knots.items }
+    ensures stays { StaysClosed classes.old classes.new }
+    ensures closed { classes.new.closed.items ≡ take (length classes.old.closed.items - 1) classes.old.closed.items }
+{
+    if let Some(last) = classes.closed.pop() {
+        part(&mut classes.knots, last.tie);
     }
 }
 
-/// Joins the classes of two wires.
-fn close(classes: &mut Classes, a: u32, b: u32) -> Result<(), AllocError>
-    requires a { a < length classes.old.base.items }
-    requires b { b < length classes.old.base.items }
-    requires touched { AreKept classes.old }
+/// Opens what was closed behind so many, the last first.
+fn open_behind(classes: &mut Classes, count: usize)
+    requires count { count ≤ length classes.old.closed.items }
+    requires openable { AreOpenable classes.old.closed.items classes.old.knots.items }
+    ensures stays { StaysClosed classes.old classes.new }
+    ensures closed { classes.new.closed.items ≡ take count classes.old.closed.items }
+{
+    'behind: while classes.closed.len() > count {
+        open_last(classes);
+    }
+}
+
+/// Joins the classes of the two ends of a crosspoint.
+fn close(classes: &mut Classes, cross: Cross, a: u32, b: u32) -> Result<(), AllocError>
+    requires a { a < length classes.old.knots.items }
+    requires b { b < length classes.old.knots.items }
     requires rooted { AreRooted classes.old.knots.items }
-    ensures base { classes.new.base.items ≡ classes.old.base.items }
-    ensures touched { AreKept classes.new }
-    ensures joined { OnOk result ((old new : Net) (stuck : ℕ → Option Bool) (most : ℕ) → AreTied old stuck classes.old.knots.items most →
-        HasLink old new a b → AreTied new stuck classes.new.knots.items (most + 1)) }
+    ensures joined { OnOk result (HasClosed cross a b classes.old classes.new) }
+    ensures closed { OnErr result (classes.new.closed.items ≡ classes.old.closed.items) }
+    ensures knots { OnErr result (classes.new.knots.items ≡ classes.old.knots.items) }
 {
     let root = root_of(&classes.knots, a);
     let other = root_of(&classes.knots, b);
-    if root != other {
-        classes.touched.push(root)?;
-        classes.touched.push(other)?;
-        tie(&mut classes.knots, root, other);
+    if root == other {
+        classes.closed.push(Closed { cross, tie: None })?;
+        return Ok(());
     }
+    let tie = tie_of(&classes.knots, root, other);
+    classes.closed.push(Closed {
+        cross,
+        tie: Some(tie),
+    })?;
+    hang(&mut classes.knots, tie.low, tie.high);
     Ok(())
 }
 
-/// Joins what these crosspoints join where they are closed and no others are.
+/// Closes one crosspoint more. One that is stuck changes nothing beyond what the faults do already.
+fn close_next(
+    classes: &mut Classes,
+    stuck: &BitSet,
+    faults: &FaultSet,
+    cross: Cross,
+) -> Result<(), AllocError>
+    requires closed { AreClosedBy faults.now.shape faults.now.faults classes.old.closed.items classes.old.knots.items }
+    requires stuck { AreStuck faults.now.shape faults.now.faults stuck.now }
+    requires cross { cross.0 < crosses_of faults.now.shape }
+    ensures closed { AreClosedBy faults.now.shape faults.now.faults classes.new.closed.items classes.new.knots.items }
+    ensures more { OnOk result (map cross_of classes.new.closed.items ≡ map cross_of classes.old.closed.items ++ cross ∷ []) }
+{
+    if stuck.has(cross.0) {
+        classes.closed.push(Closed { cross, tie: None })?;
+        return Ok(());
+    }
+    let (tap, line) = faults.shape().ends(cross);
+    close(classes, cross, tap.0, line.0)?;
+    Ok(())
+}
+
+/// Joins what these crosspoints join where they are closed and no others are. What was closed before is opened behind
+/// the crosspoints that come first in both lists.
 pub fn close_all(
     classes: &mut Classes,
-    known: &mut [Option<Closing>],
+    stuck: &BitSet,
     faults: &FaultSet,
     crosses: &[Cross],
 ) -> Result<(), AllocError>
-    requires base { AreBase faults.now.shape faults.now.faults classes.old.base.items }
-    requires touched { AreKept classes.old }
-    requires known { AreKnown faults.now.shape faults.now.faults known.old }
+    requires closed { AreClosedBy faults.now.shape faults.now.faults classes.old.closed.items classes.old.knots.items }
+    requires stuck { AreStuck faults.now.shape faults.now.faults stuck.now }
     requires within { All (λ c. c.0 < crosses_of faults.now.shape) crosses.now }
-    ensures base { classes.new.base.items ≡ classes.old.base.items }
-    ensures touched { AreKept classes.new }
-    ensures known { AreKnown faults.now.shape faults.now.faults known.new }
-    ensures tied { OnOk result (AreTied (closed_net faults.now.shape faults.now.faults crosses.now)
-        (stuck_wire faults.now.faults) classes.new.knots.items (base_most + length crosses.now)) }
+    ensures closed { AreClosedBy faults.now.shape faults.now.faults classes.new.closed.items classes.new.knots.items }
+    ensures crosses { OnOk result (map cross_of classes.new.closed.items ≡ crosses.now) }
+    ensures len { length classes.new.knots.items ≡ wires_of faults.now.shape }
+    ensures rooted { AreRooted classes.new.knots.items }
 {
-    put_back(classes);
-    'crosses: for i in 0..crosses.len() {
-        if let Closing::Joins(tap, line) = closing_of(known, faults, crosses[i]) {
-            close(classes, tap as u32, line as u32)?;
-        }
+    let count = count_alike(&classes.closed, crosses);
+    open_behind(classes, count);
+    'crosses: for i in count..crosses.len() {
+        close_next(classes, stuck, faults, crosses[i])?;
     }
     Ok(())
 }

@@ -11,14 +11,17 @@ ghost use Rattle.rig_simulated.specs.Cycles.{IsTick, HaveTicked, IsEdge};
 ghost use Rattle.rig_simulated.specs.Settling.{Settles};
 ghost use Rattle.rig_simulated.specs.Pulls.{AreZero};
 ghost use Rattle.rig_simulated.specs.Events.{AreEvents};
+ghost use Rattle.rig_simulated.specs.Tracked.{IsTracked};
 
 use crate::board::Board;
 use crate::classes::ClassNode;
+use crate::driving::{KeptPins, drive_pins};
 use crate::events::{Events, Frame, give_up, settle_listed};
-use crate::gates::{Gate, clock_all, read_pins, tick_all};
-use crate::marks::{clear_pins, clear_tables, mark_pins, mark_tables};
+use crate::gates::{Gate, clock_all, tick_all};
+use crate::marks::{clear_tables, mark_tables};
 use crate::past::{Past, forget, look_back};
 use crate::ranks::Turn;
+use crate::readings::read_pins;
 use crate::sweeping::sweep;
 use machine_faults::FaultSet;
 use rig::PinBits;
@@ -153,13 +156,14 @@ fn clock(
     low_tables: &mut [bool],
     gates: &mut [Gate],
     pins: &[u32],
+    kept: &KeptPins,
     read: &mut PinBits,
 )
     requires fits { All (Fits (tables_of frame.now.faults.now.shape) (length frame.now.knots.now)) gates.old }
     requires pins { length frame.now.low_pins.now ≡ length frame.now.knots.now }
     requires tables { length low_tables.old ≡ length frame.now.knots.now }
     requires clear { IsClear low_tables.old }
-    requires within { All (λ r. r < length frame.now.knots.now) pins.now }
+    requires tracked { IsTracked frame.now.knots.now pins.now frame.now.low_pins.now kept.now }
     requires read { length read.old ≡ length pins.now }
     ensures fits { All (Fits (tables_of frame.now.faults.now.shape) (length frame.now.knots.now)) gates.new }
     ensures tables { length low_tables.new ≡ length frame.now.knots.now }
@@ -168,13 +172,13 @@ fn clock(
         gates.new }
 {
     mark_tables(gates, low_tables);
-    read_pins(frame.knots, frame.low_pins, low_tables, pins, read);
+    read_pins(frame, low_tables, gates, pins, kept, read);
     clock_all(frame.faults, frame.knots, frame.low_pins, low_tables, gates);
     clear_tables(gates, low_tables);
 }
 
-/// Makes a cycle of so many ticks. Its cost grows with the tables that are on, the pins, and what changes in the ticks.
-/// Where there are fewer than three ticks, each tick costs what is on.
+/// Makes a cycle of so many ticks. Its cost grows with the tables that are on, the pins that are driven otherwise than in
+/// the cycle before, and what changes in the ticks. Where there are fewer than three ticks, each tick costs what is on.
 pub fn cycle(board: &mut Board, faults: &FaultSet, ticks: u16, drive: &PinBits, read: &mut PinBits)
     requires prepared { IsPrepared faults.now.shape faults.now.faults board.old }
     requires fitting { AreFitting faults.now.shape board.old }
@@ -190,7 +194,13 @@ pub fn cycle(board: &mut Board, faults: &FaultSet, ticks: u16, drive: &PinBits, 
 {
     // The shape keeps its limits, so its wires can be numbered.
     let _shape = faults.shape();
-    mark_pins(&board.pins, drive, &mut board.low_pins);
+    drive_pins(
+        &mut board.kept,
+        &board.pins,
+        &board.classes.knots,
+        &mut board.low_pins,
+        drive,
+    );
     settle(
         &Frame {
             faults,
@@ -216,7 +226,7 @@ pub fn cycle(board: &mut Board, faults: &FaultSet, ticks: u16, drive: &PinBits, 
         &mut board.low_tables,
         &mut board.gates,
         &board.pins,
+        &board.kept,
         read,
     );
-    clear_pins(&board.pins, &mut board.low_pins);
 }

@@ -8,8 +8,7 @@ use crate::classes::ClassNode;
 use base_table::TABLE_INPUTS;
 use machine_config::Setting;
 use machine_faults::FaultSet;
-use machine_shape::{Pin, Table};
-use rig::PinBits;
+use machine_shape::Table;
 
 /// A table that is on.
 #[derive(Clone, Copy, Debug)]
@@ -153,25 +152,5 @@ pub fn clock_all(
 {
     'gates: for i in 0..gates.len() {
         gates[i] = clocked(faults, knots, pins, tables, gates[i]);
-    }
-}
-
-/// Reads what the pins are.
-pub fn read_pins(
-    knots: &[ClassNode],
-    low_pins: &[bool],
-    low_tables: &[bool],
-    pins: &[u32],
-    read: &mut PinBits,
-)
-    requires fits { All (λ r. r < length knots.now) pins.now }
-    requires pins { length low_pins.now ≡ length knots.now }
-    requires tables { length low_tables.now ≡ length knots.now }
-    requires read { length read.old ≡ length pins.now }
-    ensures { read.new ≡ map (level_at knots.now low_pins.now low_tables.now) pins.now }
-{
-    'pins: for k in 0..read.len() {
-        let level = level_at(knots, low_pins, low_tables, pins[k as usize]);
-        read.set(Pin(k), level);
     }
 }

@@ -10,14 +10,14 @@
 #![tactic(auto)]
 
 mod base;
-mod bit_log;
 mod board;
+mod chains;
 mod classes;
 mod closing;
 mod cycle;
+mod driving;
 mod events;
 mod gates;
-mod known;
 mod marks;
 mod named;
 mod past;
@@ -25,8 +25,10 @@ mod pulls;
 mod queue;
 mod ranks;
 mod readers;
+mod readings;
 mod sim;
 mod sim_rig;
+mod stuck;
 mod sweeping;
 
 pub use sim_rig::SimRig;

@@ -1,11 +1,9 @@
 //! Marks at the classes that are pulled to 0.
 
 ghost use Rattle.std.specs.Prelude.{◌≡◌, ℕ, ◌<◌, true, length, All};
-ghost use Rattle.rig_simulated.specs.Gates.{is_low, IsClear, IsPulledBy, IsOutputOf, IsDrivenBy, IsPinOf, AreMarkedToo};
+ghost use Rattle.rig_simulated.specs.Gates.{is_low, IsClear, IsPulledBy, IsOutputOf, IsPinOf, AreMarkedToo};
 
 use crate::gates::Gate;
-use machine_shape::Pin;
-use rig::PinBits;
 
 /// Marks the classes that tables pull.
 pub fn mark_tables(gates: &[Gate], low: &mut [bool])
@@ -30,19 +28,6 @@ pub fn clear_tables(gates: &[Gate], low: &mut [bool])
     'gates: for i in 0..gates.len() {
         let gate = gates[i];
         low[gate.out as usize] = false;
-    }
-}
-
-/// Marks the classes that pins pull.
-pub fn mark_pins(pins: &[u32], drive: &PinBits, low: &mut [bool])
-    requires fits { All (λ r. r < length low.old) pins.now }
-    requires driven { length drive.now ≡ length pins.now }
-    ensures { AreMarkedToo low.old low.new (IsDrivenBy pins.now drive.now (length pins.now)) }
-{
-    'pins: for k in 0..drive.len() {
-        if !drive.get(Pin(k)) {
-            low[pins[k as usize] as usize] = true;
-        }
     }
 }
 

@@ -1,14 +1,14 @@
 //! A machine with its session.
 
-ghost use Rattle.std.specs.Prelude.{◌≡◌, ◌+◌, ◌*◌, ◌<◌, ◌≤◌, Some, None, [], ◌++◌, length, IfOk, IsSome, IfSome, OnOk, OnErr, option_map};
+ghost use Rattle.std.specs.Prelude.{◌≡◌, ◌<◌, Some, None, [], length, IfOk, IsSome, IfSome, OnOk, OnErr, option_map};
 ghost use Rattle.machine_shape.specs.Shape.{pins_of};
 ghost use Rattle.machine_meaning.specs.Faults.{AreFaultsOf};
 ghost use Rattle.rig.specs.Rig.{Session, KeepLengths};
 ghost use Rattle.rig_simulated.specs.States.{HasGoneOn, HasRoomFor, HasGoneOnBy, AreWide};
 
-use crate::bit_log::BitLog;
 use crate::board::{Board, load, prepare};
 use crate::cycle::cycle;
+use base_log::Log;
 use machine_config::Config;
 use machine_faults::FaultSet;
 use machine_shape::Cross;
@@ -24,12 +24,10 @@ pub struct Sim {
     // The configuration, beside its tables, which the board has.
     closed: Vec<Cross>,
     ticks: u16,
-    // How many pins the machine has.
-    pins: u32,
-    // Of each cycle the drive, then the reading.
-    log: BitLog,
-    used: u64,
-    // How many cycles there is room for.
+    // What was driven and read in each cycle, for proofs alone. So a cycle takes no memory.
+    drives: Log<PinBits>,
+    readings: Log<PinBits>,
+    // For how many cycles more there is to be room.
     room: u64,
     running: bool,
 }
@@ -48,58 +46,22 @@ impl Model for Sim {
     ghost invariant = { IsSim };
 }
 
-/// For how many cycles there is room once there is room for so many more than were used.
-fn grow(log: &mut BitLog, used: u64, room: u64, pins: u32, more: u64) -> Result<u64, AllocError>
-    requires used { used ≤ room }
-    requires room { room * (2 * pins) ≤ log.old.room }
-    ensures bits { log.new.bits ≡ log.old.bits }
-    ensures no_less { log.old.room ≤ log.new.room }
-    ensures more { IfOk result (λ n. (used + more ≤ n) × (room ≤ n) × (n * (2 * pins) ≤ log.new.room)) }
-    ensures full { OnErr result (room < used + more) }
-{
-    let Some(next) = used.checked_add(more) else {
-        return Err(AllocError);
-    };
-    if next <= room {
-        return Ok(room);
-    }
-    let Some(bits) = next.checked_mul(2 * u64::from(pins)) else {
-        return Err(AllocError);
-    };
-    match log.reserve(bits) {
-        Ok(()) => Ok(next),
-        Err(e) => Err(e),
-    }
-}
-
-/// Adds the bits of all pins.
-fn push_pins(log: &mut BitLog, pins: &PinBits)
-    requires { length log.old.bits + length pins.now ≤ log.old.room }
-    ensures bits { log.new.bits ≡ log.old.bits ++ pins.now }
-    ensures room { log.new.room ≡ log.old.room }
-{
-    log.push_all(pins.as_slice());
-}
-
 impl Sim {
     /// A machine with these faults, and no session.
     pub fn new(alloc: Global, faults: FaultSet) -> Result<Sim, AllocError>
         ensures made { IfOk result (λ s. s ≡ record { machine = faults; session = None }) }
         ensures sound { IfOk result (λ s. AreFaultsOf s.machine.shape s.machine.faults) }
     {
-        // The faults are those of their shape, and the shape keeps its limits.
-        let shape = faults.shape();
-        let _wires = shape.wires();
-        let pins = shape.pins();
+        // The faults are those of their shape.
+        let _shape = faults.shape();
         let board = prepare(alloc, &faults)?;
         Ok(Sim {
             faults,
             board,
             closed: Vec::new(alloc),
             ticks: 1,
-            pins,
-            log: BitLog::new(alloc),
-            used: 0,
+            drives: Log::new(),
+            readings: Log::new(),
             room: 0,
             running: false,
         })
@@ -116,14 +78,11 @@ impl Sim {
         // Each table of the shape has its setting.
         let _shape = config.shape();
         self.running = false;
-        self.used = 0;
-        self.room = 0;
-        self.log.clear();
+        self.drives = Log::new();
+        self.readings = Log::new();
         self.closed.clear();
         load(&mut self.board, &self.faults, config)?;
         self.closed.extend_from_slice(config.closed())?;
-        self.log
-            .reserve(u64::from(room) * (2 * u64::from(self.pins)))?;
         self.room = u64::from(room);
         self.ticks = config.ticks();
         self.running = true;
@@ -142,11 +101,9 @@ impl Sim {
         ensures full { OnErr result (IfSome self.old.session (λ s. s.spare ≡ 0)) }
         ensures read { OnErr result (read.new ≡ read.old) }
     {
-        self.room = grow(&mut self.log, self.used, self.room, self.pins, 1)?;
         cycle(&mut self.board, &self.faults, self.ticks, drive, read);
-        push_pins(&mut self.log, drive);
-        push_pins(&mut self.log, read);
-        self.used += 1;
+        self.drives = self.drives.and(drive);
+        self.readings = self.readings.and(read);
         Ok(())
     }
 
@@ -158,7 +115,7 @@ impl Sim {
         ensures kept { OnErr result (self.new.session ≡ self.old.session) }
         ensures full { OnErr result (IfSome self.old.session (λ s. s.spare < more)) }
     {
-        self.room = grow(&mut self.log, self.used, self.room, self.pins, more)?;
+        self.room = self.room.max(more);
         Ok(())
     }
 

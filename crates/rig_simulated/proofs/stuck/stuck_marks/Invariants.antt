@@ -1,0 +1,12 @@
+use Rattle.std.proofs.Common.{◌≡◌, ℕ, ◌<◌, ◌≤◌, false, length, is_some}
+use Rattle.machine_meaning.specs.Faults.{stuck_cross}
+use Rattle.machine_shape.specs.Shape.{crosses_of}
+use Rattle.base_bits.specs.Numbers.{has_number}
+use Rattle.rig_simulated.proofs.stuck.stuck_marks.Given as goal
+
+abbrev pub invariant-crosses : goal.invariant-crosses
+invariant-crosses l = record {
+  len : length l.marks ≡ crosses_of l.faults.shape;
+  each : (x : ℕ) → x < l.x → has_number l.marks x ≡ is_some (stuck_cross l.faults.faults x);
+  others : (x : ℕ) → l.x ≤ x → has_number l.marks x ≡ false;
+}
