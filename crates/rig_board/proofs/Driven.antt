@@ -141,12 +141,12 @@ cycled_one drive now reading old new same c = subst (λ (d : Pins). HasCycledAll
 pub added_pair : (drive reading : Pins) (old new : Session) → new.cycles ≡ old.cycles ++ pair drive reading ∷ [] → HasAdded (drive ∷ []) (reading ∷ []) old new
 added_pair drive reading old new so_far = record { pairs = pair drive reading ∷ []; driven = refl; read = refl; so_far = so_far }
 
-pub goes_on_one : (drive d q : Pins) (old new : RigState) → d ≡ drive → GoesOnBy (d ∷ []) (q ∷ []) old new → GoesOn drive q old new
-goes_on_one drive d q old new same g =
-    subst (λ (d : Pins). GoesOn d q old new) same (record {
+pub goes_on_one : (drive d reading q : Pins) (old new : RigState) → d ≡ drive → reading ≡ q → GoesOnBy (d ∷ []) (q ∷ []) old new → GoesOn drive reading old new
+goes_on_one drive d reading q old new same read g =
+    subst (λ (r : Pins). GoesOn drive r old new) (sym read) (subst (λ (d : Pins). GoesOn d q old new) same (record {
       config = g.config;
       cycles = g.cycles ∙ ap (λ ps. cycles_of old ++ ps) (same_pairs g.more (pair d q ∷ []) g.driven g.read);
       spare = g.spare;
       past = g.past;
       told = g.told;
-    })
+    }))

@@ -2,7 +2,6 @@ use Rattle.std.proofs.Common.{[], ◌∷◌, ◌+◌, ◌≤◌, ◌∙◌, ap, 
 use Rattle.machine_meaning.specs.Circuit.{Pins}
 use Rattle.rig_board.specs.Kept.{session_of}
 use Rattle.rig_board.specs.Machines.{EachWas, GoesOnBy}
-use Rattle.rig.specs.Rig.{GoesOn}
 use Rattle.rig_board.proofs.Driven.{added_pair, cycled_one, cycles_made, goes_on, goes_on_one}
 use Rattle.rig_board.proofs.Logging.{added_one, logged_ended, logged_more, logged_narrowed, past_more}
 use Rattle.rig_board.proofs.board_rig.BoardRigRig.cycle.Goals as goal
@@ -31,5 +30,5 @@ returns-in-Ok-cycle-clause-cycles g c =
     c.next_row.ensures.cycles c.add.ensures.config
     (added_pair drive c.cycle.new.read (session_of c.next_row.new.self) (session_of c.add.new.self) c.add.ensures.cycles) in
     let room : (session_of c.in-Some.kept).spare ≤ (session_of c.add.new.self).spare + 1 = omega (arith, c.in-Ok.ensures.spare, c.add.ensures.spare) in
-    subst (λ (q : Pins). GoesOn c.args.drive.now q _ _) (sym c.copy_from-in-Ok-cycle.ensures) (goes_on_one c.args.drive.now drive c.cycle.new.read _ _ c.copy_from.ensures
-    (goes_on (drive ∷ []) (c.cycle.new.read ∷ []) after_b c.in-Some.kept c.add.new.self _ _ (ap (option_map session_of) (sym c.in-Some.ensures.value)) refl refl room made.1 refl))
+    goes_on_one c.args.drive.now drive c.copy_from-in-Ok-cycle.new.self c.cycle.new.read _ _ c.copy_from.ensures c.copy_from-in-Ok-cycle.ensures
+    (goes_on (drive ∷ []) (c.cycle.new.read ∷ []) after_b c.in-Some.kept c.add.new.self _ _ (ap (option_map session_of) (sym c.in-Some.ensures.value)) refl refl room made.1 refl)
