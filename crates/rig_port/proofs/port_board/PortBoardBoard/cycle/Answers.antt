@@ -105,4 +105,4 @@ returns-then-not-drive_on-clause-taken g c =
 pub returns-clause-told : goal.returns-clause-told
 returns-clause-told g c =
     let up = invariant_of-self-2 g c in
-    tells_held _ _ c.drive_on.new.link _ _ _ up.0 up.3
+    tells_held (g.P.Port.port_state c.drive_on.new.port) c.self.inside.found c.drive_on.new.link c.self.inside.past c.drive_on.new.again.number c.drive_on.new.failures up.0 up.3

@@ -95,4 +95,4 @@ returns-clause-found g c =
 pub returns-clause-told : goal.returns-clause-told
 returns-clause-told g c =
     let up = invariant_of-self-2 g c in
-    tells_held _ _ c.attach_some.new.link _ _ _ up.0 up.3
+    tells_held (g.P.Port.port_state c.attach_some.new.port) _ c.attach_some.new.link c.new-self-inside.result c.attach_some.new.again.number c.attach_some.new.failures up.0 up.3
