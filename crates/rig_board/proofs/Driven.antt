@@ -5,10 +5,10 @@ use Rattle.machine_shape.specs.declared.Shape.{Shape}
 use Rattle.machine_shape.specs.Shape.{pins_of}
 use Rattle.machine_meaning.specs.Vocabulary.{Pins, Faults, AreFaultsOf}
 use Rattle.machine_config.specs.Vocabulary.{Configuration, IsRun}
-use Rattle.rig.specs.Rig.{Exchange, Session, RigState, GoesOnBy, KeepLengths, drives_of, readings_of}
+use Rattle.rig.specs.Rig.{Exchange, Session, RigState, GoesOn, GoesOnBy, KeepLengths, cycles_of, drives_of, readings_of}
 use Rattle.rig_board.specs.declared.kept.Kept.{Kept}
 use Rattle.rig_board.specs.Device.{Device, faults_told, IsInSession, HasRunSession, GoesOnWith, WhereTold}
-use Rattle.rig_board.specs.Boards.{BoardState, HasCycledAll}
+use Rattle.rig_board.specs.Boards.{BoardState, HasCycled, HasCycledAll}
 use Rattle.rig_board.specs.Kept.{session_of, HasAdded}
 use Rattle.rig_board.specs.Rows.{AreBlank}
 use Rattle.rig_board.specs.Linked.{IsLinked, IsAlongside}
@@ -128,3 +128,25 @@ linked_lost old new attached kept rest l found faults none = record {
 pub on_ok : {T E : Type 0} (r : Result T E) (P : Type 0) → is_err r ≡ false → OnOk r P → P
 on_ok (Ok x) P e p = p
 on_ok (Err x) P e p = cc
+
+-- one cycle as a list of them
+pub cycled_one : (drive now reading : Pins) (old new : BoardState) → now ≡ drive → HasCycled (pair drive reading ∷ []) old new → HasCycledAll (now ∷ []) (reading ∷ []) old new
+cycled_one drive now reading old new same c = subst (λ (d : Pins). HasCycledAll (d ∷ []) (reading ∷ []) old new) (sym same) (record {
+  pairs = pair drive reading ∷ [];
+  driven = refl;
+  read = refl;
+  cycled = c;
+})
+
+pub added_pair : (drive reading : Pins) (old new : Session) → new.cycles ≡ old.cycles ++ pair drive reading ∷ [] → HasAdded (drive ∷ []) (reading ∷ []) old new
+added_pair drive reading old new so_far = record { pairs = pair drive reading ∷ []; driven = refl; read = refl; so_far = so_far }
+
+pub goes_on_one : (drive d reading q : Pins) (old new : RigState) → d ≡ drive → reading ≡ q → GoesOnBy (d ∷ []) (q ∷ []) old new → GoesOn drive reading old new
+goes_on_one drive d reading q old new same read g =
+    subst (λ (r : Pins). GoesOn drive r old new) (sym read) (subst (λ (d : Pins). GoesOn d q old new) same (record {
+      config = g.config;
+      cycles = g.cycles ∙ ap (λ ps. cycles_of old ++ ps) (same_pairs g.more (pair d q ∷ []) g.driven g.read);
+      spare = g.spare;
+      past = g.past;
+      told = g.told;
+    }))

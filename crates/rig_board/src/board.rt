@@ -1,5 +1,5 @@
 //! A board as a trait.
-ghost use Rattle.std.specs.Prelude.{◌≡◌, ◌^◌, ◌<◌, ◌≤◌, true, None, Some, [], ◌∷◌, OnOk, OnErr, IfErr, IsErrOf, length};
+ghost use Rattle.std.specs.Prelude.{◌≡◌, ◌^◌, ◌<◌, ◌≤◌, true, None, Some, [], ◌∷◌, OnOk, OnErr, IfErr, IfSome, IsErrOf, length};
 ghost use Rattle.base_io.specs.Counts.{Rose};
 ghost use Rattle.rig_board.specs.Device.{Device, IsInSession, faults_told};
 ghost use Rattle.rig.specs.Rig.{KeepLengths};
@@ -15,7 +15,7 @@ use rig::{PinBits, RigFail};
 /// Contracts see the shape that was found, whether a configuration was set up, the device that the board is where it tells
 /// one, and a count of failures, which is a `u64` and never falls. No code sees the device. Whether or not one is told, contracts see
 /// which machines the board may be, by what it was answered: no call makes these more, and each of them has the session that was set
-/// up, and made the cycles that were driven.
+/// up, and made the cycles that were driven. Behind an `Ok` a machine that is told is one of them.
 pub trait Board: Drop {
     ghost board_state: { Self → BoardState };
 
@@ -27,6 +27,7 @@ pub trait Board: Drop {
         ensures later { (board_state self.old).failures ≤ (board_state self.new).failures }
         ensures count { (board_state self.new).failures < 2 ^ 64 }
         ensures found { OnOk result (Finds shape.now (board_state self.new)) }
+        ensures told { OnOk result (IfSome (board_state self.new).device (may_be self.new)) }
         ensures lost { OnErr result ((board_state self.new).found ≡ None) }
         ensures refused { IsErrOf result RigFail.Failed → Rose (board_state self.old).failures (board_state self.new).failures };
 
@@ -42,7 +43,8 @@ pub trait Board: Drop {
         ensures begins { OnOk result (SetsUp config.now.config (board_state self.new)) }
         ensures refused { IsErrOf result RigFail.Failed → Rose (board_state self.old).failures (board_state self.new).failures }
         ensures set_for_each { OnOk result (EachWas (λ o d. IsInSession config.now.config [] d) (may_be self.old) (may_be self.new)) }
-        ensures narrows { Narrows (may_be self.old) (may_be self.new) };
+        ensures narrows { Narrows (may_be self.old) (may_be self.new) }
+        ensures told { OnOk result (IfSome (board_state self.new).device (may_be self.new)) };
 
     /// Drives the pins, ticks, reads the pins, and clocks the registers; a bit that is 1 releases its pin. It takes no memory
     /// and never answers `Memory`. After `Failed` the count rose, and `read` has any bits.
@@ -60,7 +62,8 @@ pub trait Board: Drop {
             (board_state self.new)) }
         ensures refused { IfErr result (λ e. HasFailed e (board_state self.old) (board_state self.new)) }
         ensures cycles_for_each { OnOk result (EachWas (GoesOnBy (drive.now ∷ []) (read.new ∷ [])) (may_be self.old) (may_be self.new)) }
-        ensures narrows { Narrows (may_be self.old) (may_be self.new) };
+        ensures narrows { Narrows (may_be self.old) (may_be self.new) }
+        ensures told { OnOk result (IfSome (board_state self.new).device (may_be self.new)) };
 
     /// Makes as many cycles as there are drives, one after the other, as [`Board::cycle`] does. It takes no memory and never
     /// answers `Memory`. After `Failed` the count rose, and `reads` has its lengths, and any bits.
@@ -78,5 +81,6 @@ pub trait Board: Drop {
         ensures cycles { OnOk result (HasCycledAll drives.now reads.new (board_state self.old) (board_state self.new)) }
         ensures refused { IfErr result (λ e. HasFailed e (board_state self.old) (board_state self.new)) }
         ensures cycles_for_each { OnOk result (EachWas (GoesOnBy drives.now reads.new) (may_be self.old) (may_be self.new)) }
-        ensures narrows { Narrows (may_be self.old) (may_be self.new) };
+        ensures narrows { Narrows (may_be self.old) (may_be self.new) }
+        ensures told { OnOk result (IfSome (board_state self.new).device (may_be self.new)) };
 }

@@ -22,7 +22,7 @@ use Rattle.rig_port.proofs.Room.{length_line}
 use Rattle.rig_port.proofs.Requested.{AreEditsOf, IsSameLoad, attach_no_load, attach_no_drives, load_no_drives, one_number, one_load, one_drives_line}
 
 -- an answer to one form is an answer
-attach_answers : (d e : Device) (c now : Check) (n : ℕ) (request reply : List ℕ) → e.shape ≡ d.shape → e.faults ≡ d.faults → n < 2 ^ 32 → request ≡ attach_line n → IsFresh n d.shape reply e now
+pub attach_answers : (d e : Device) (c now : Check) (n : ℕ) (request reply : List ℕ) → e.shape ≡ d.shape → e.faults ≡ d.faults → n < 2 ^ 32 → request ≡ attach_line n → IsFresh n d.shape reply e now
     → Answers d c request reply e now
 attach_answers d e c now n request reply shape faults few asked fresh = record {
   shape = shape;

@@ -15,4 +15,5 @@ mod Settings
 mod Spelled
 mod Standing
 mod Taken
+mod Telling
 mod Turned

@@ -18,7 +18,7 @@ use Rattle.rig_board.proofs.Driven.{same_pairs}
 use Rattle.rig_port.specs.declared.again.Again.{Again}
 use Rattle.rig_port.specs.declared.link.Link.{Link}
 use Rattle.rig_port.specs.Requests.{edited, IsEditOf, AreWide, edits_text}
-use Rattle.rig_port.specs.Stands.{AllStandUp}
+use Rattle.rig_port.specs.Stands.{AllStandUp, StandsTold}
 use Rattle.rig_port.specs.Turns.{CanTurn}
 use Rattle.std.specs.Option.{option_map_or}
 use Rattle.std.specs.Prelude.{vec_len}
@@ -332,7 +332,7 @@ resumes_behind (Err _) device l a config rows made posted words lost = lost_resu
 -- what is held of a link that is there
 pub held_here : {l : Link} {o : Option Link} (port : PortState) (found : Option Shape) (again : Again) → Some l ≡ o → IsUp port found o again → IsHeld port found l
 held_here {l} port found again there up =
-    let both : IsHeld port found l × CanResume port.device l again × AllStandUp l again = subst (λ (x : Option Link). IsUp port found x again) (sym there) up in
+    let both : IsHeld port found l × CanResume port.device l again × AllStandUp l again × StandsTold port l.talk = subst (λ (x : Option Link). IsUp port found x again) (sym there) up in
     both.0
 
 pub running_here : {l : Link} {o : Option Link} → Some l ≡ o → option_map_or (λ (l : Link). l.running) o false ≡ true → l.running ≡ true

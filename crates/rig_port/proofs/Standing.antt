@@ -25,7 +25,7 @@ use Rattle.rig_port.specs.Ports.{PortState, machine_told}
 use Rattle.rig_port.specs.Requests.{attach_body, attach_line}
 use Rattle.rig_port.specs.Said.{Said}
 use Rattle.rig_port.specs.Sessions.{HasRows, CanResume, KeepsSession, paired}
-use Rattle.rig_port.specs.Stands.{StandsUp, AllStandUp, Finds, Turns, Makes, TurnsAgain, GoesOn, as_told, MayBe}
+use Rattle.rig_port.specs.Stands.{StandsTold, StandsUp, AllStandUp, Finds, Turns, Makes, TurnsAgain, GoesOn, as_told, MayBe}
 use Rattle.rig_port.specs.Transcripts.{MayStand, Behind, GoOn}
 use Rattle.rig_port.proofs.Behind.{SameMachine, Anyhow, behind_all, machine_of, said_none, stands_faults, stands_shape}
 use Rattle.rig_port.proofs.Held.{cycled_one, fresh_held, not_turned, turned_next, whole_turned}
@@ -260,7 +260,7 @@ talk_here past there = ap (λ (o : Option Link). option_map_or (λ (l : Link). l
 
 pub all_here : {l : Link} {o : Option Link} (port : PortState) (found : Option Shape) (again : Again) → Some l ≡ o → IsUp port found o again → AllStandUp l again
 all_here {l} port found again there up =
-    let every : IsHeld port found l × CanResume port.device l again × AllStandUp l again = subst (λ (x : Option Link). IsUp port found x again) (sym there) up in
+    let every : IsHeld port found l × CanResume port.device l again × AllStandUp l again × StandsTold port l.talk = subst (λ (x : Option Link). IsUp port found x again) (sym there) up in
     every.2
 
 -- nothing was said

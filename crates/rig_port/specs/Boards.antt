@@ -14,7 +14,7 @@ use Rattle.rig_port.specs.Linked.{PortBoardState, IsLinked, told_with, waiting}
 use Rattle.rig_port.specs.declared.again.Again.{Again}
 use Rattle.rig_port.specs.Said.{Said}
 use Rattle.rig_port.specs.Sessions.{CanResume}
-use Rattle.rig_port.specs.Stands.{AllStandUp}
+use Rattle.rig_port.specs.Stands.{AllStandUp, StandsTold}
 
 -- its count of failures is the port's and its own together
 abbrev pub state_of : PortState → Option Shape → Option Link → List Said → ℕ → ℕ → PortBoardState
@@ -53,7 +53,7 @@ pub record IsHeld (port : PortState) (found : Option Shape) (l : Link) : Type 0 
   pub room : HasRoom (pins_of l.set.config.shape) l
 
 abbrev pub IsUp : PortState → Option Shape → Option Link → Again → Type 0
-IsUp port found link again = IfSome link (λ l. IsHeld port found l × CanResume port.device l again × AllStandUp l again)
+IsUp port found link again = IfSome link (λ l. IsHeld port found l × CanResume port.device l again × AllStandUp l again × StandsTold port l.talk)
 
 -- after turns the configuration is as it was, and what is kept goes with the machine
 pub record IsKeptUp (port : PortState) (old new : Link) : Type 0 where

@@ -1,5 +1,5 @@
 -- What is kept of a machine goes with each that may stand behind what was said.
-use Rattle.std.specs.Prelude.{◌≡◌, false, List, [], Option, None, Some}
+use Rattle.std.specs.Prelude.{◌≡◌, false, List, [], Option, None, Some, IfSome}
 use Rattle.machine_shape.specs.declared.Shape.{Shape}
 use Rattle.machine_meaning.specs.Circuit.{Pins}
 use Rattle.machine_meaning.specs.Faults.{Faults}
@@ -10,6 +10,8 @@ use Rattle.rig_port.specs.declared.again.Again.{Again}
 use Rattle.rig_port.specs.declared.check.Check.{Check}
 use Rattle.rig_port.specs.declared.link.Link.{Link}
 use Rattle.rig_port.specs.Linked.{PortBoardState, IsLinked, HasTurned}
+use Rattle.rig_port.specs.Ports.{PortState}
+use Rattle.rig_port.specs.Said.{Said}
 use Rattle.rig_port.specs.Sessions.{CanResume, HasMade}
 use Rattle.rig_port.specs.Transcripts.{MayStand}
 
@@ -26,6 +28,14 @@ pub record StandsUp (l : Link) (a : Again) (e : Device) (k : Check) : Type 0 whe
 
 abbrev pub AllStandUp : Link → Again → Type 0
 AllStandUp l a = (f : Faults) (e : Device) (k : Check) → MayStand l.set.config.shape f l.talk e k → StandsUp l a e k
+
+-- some device of the machine that is told may stand behind what was said
+abbrev pub HasStood : PortState → List Said → Type 0
+HasStood p talk = IfSome p.device (λ t. (d : Device) × (c : Check) × MayStand t.shape t.faults talk d c)
+
+-- the one that is told does
+abbrev pub StandsTold : PortState → List Said → Type 0
+StandsTold p talk = IfSome p.device (λ t. MayStand t.shape t.faults talk t p.check)
 
 -- a machine of this shape says what it is, with nothing set, and its check is the one that is kept
 pub record IsFound (m : Shape) (now : Link) (e : Device) (k : Check) : Type 0 where

@@ -319,6 +319,7 @@ impl<P: Port> Board for PortBoard<P> {
             ≤ (⟦<PortBoard<P> as Board>⟧.board_state self.new).failures }
         ensures count { (⟦<PortBoard<P> as Board>⟧.board_state self.new).failures < 2 ^ 64 }
         ensures found { OnOk result (Finds shape.now (⟦<PortBoard<P> as Board>⟧.board_state self.new)) }
+        ensures told { OnOk result (IfSome (⟦<PortBoard<P> as Board>⟧.board_state self.new).device (⟦<PortBoard<P> as Board>⟧.may_be self.new)) }
         ensures lost { OnErr result ((⟦<PortBoard<P> as Board>⟧.board_state self.new).found ≡ None) }
         ensures refused { IsErrOf result RigFail.Failed → Rose (⟦<PortBoard<P> as Board>⟧.board_state self.old).failures
             (⟦<PortBoard<P> as Board>⟧.board_state self.new).failures }
@@ -383,6 +384,7 @@ impl<P: Port> Board for PortBoard<P> {
             (⟦<PortBoard<P> as Board>⟧.may_be self.new)) }
         ensures narrows { Narrows (⟦<PortBoard<P> as Board>⟧.may_be self.old)
             (⟦<PortBoard<P> as Board>⟧.may_be self.new) }
+        ensures told { OnOk result (IfSome (⟦<PortBoard<P> as Board>⟧.board_state self.new).device (⟦<PortBoard<P> as Board>⟧.may_be self.new)) }
         ensures taken { (self.new.talk ≡ self.old.talk) × (self.new.port_talk ≡ self.old.port_talk) }
         ensures up { IsErrOf result RigFail.Failed → self.old.is_up ≡ false }
         ensures down { self.old.is_up ≡ false → IsErrOf result RigFail.Failed }
@@ -430,6 +432,7 @@ impl<P: Port> Board for PortBoard<P> {
             (⟦<PortBoard<P> as Board>⟧.may_be self.new)) }
         ensures narrows { Narrows (⟦<PortBoard<P> as Board>⟧.may_be self.old)
             (⟦<PortBoard<P> as Board>⟧.may_be self.new) }
+        ensures told { OnOk result (IfSome (⟦<PortBoard<P> as Board>⟧.board_state self.new).device (⟦<PortBoard<P> as Board>⟧.may_be self.new)) }
         ensures taken { GoOn self.old.talk self.new.talk self.old.port_talk self.new.port_talk }
         ensures alarm { OnErr result (IsSome self.old.device → Rose self.old.port_failures self.new.port_failures) }
         ensures up { OnOk result (self.new.is_up ≡ true) }
@@ -485,6 +488,7 @@ impl<P: Port> Board for PortBoard<P> {
             (⟦<PortBoard<P> as Board>⟧.may_be self.new)) }
         ensures narrows { Narrows (⟦<PortBoard<P> as Board>⟧.may_be self.old)
             (⟦<PortBoard<P> as Board>⟧.may_be self.new) }
+        ensures told { OnOk result (IfSome (⟦<PortBoard<P> as Board>⟧.board_state self.new).device (⟦<PortBoard<P> as Board>⟧.may_be self.new)) }
         ensures taken { GoOn self.old.talk self.new.talk self.old.port_talk self.new.port_talk }
         ensures alarm { OnErr result (IsSome self.old.device → Rose self.old.port_failures self.new.port_failures) }
         ensures up { OnOk result (self.new.is_up ≡ true) }

@@ -10,7 +10,7 @@ ghost use Rattle.rig_port.specs.Requests.{attach_body, attach_line};
 ghost use Rattle.rig_port.specs.Ports.{machine_told};
 ghost use Rattle.rig_port.specs.Sessions.{KeepsSession, StaysPosted};
 ghost use Rattle.rig_port.specs.Transcripts.{Behind, GoOn, and_said};
-ghost use Rattle.rig_port.specs.Stands.{Finds};
+ghost use Rattle.rig_port.specs.Stands.{Finds, HasStood, StandsTold};
 
 use crate::again::Again;
 use crate::check::Check;
@@ -96,6 +96,8 @@ pub fn attach<P: Port>(port: &mut P, number: u32, question: &[u8], link: &mut Li
     ensures machine { machine_told (P.port_state port.new) ≡ machine_told (P.port_state port.old) }
     ensures later { (P.port_state port.old).failures ≤ (P.port_state port.new).failures }
     ensures talks { GoOn link.old.talk link.new.talk (P.port_state port.old).talk (P.port_state port.new).talk }
+    ensures stood { HasStood (P.port_state port.old) link.old.talk → HasStood (P.port_state port.new) link.new.talk }
+    ensures stands { IsTrue result → HasStood (P.port_state port.old) link.old.talk → StandsTold (P.port_state port.new) link.new.talk }
     ensures open { IsTrue result → (P.port_state port.new).is_open ≡ true }
     ensures stays { StaysPosted link.old link.new }
     ensures expected { link.new.expected ≡ link.old.expected }
@@ -126,6 +128,8 @@ pub fn attach_next<P: Port>(
     ensures machine { machine_told (P.port_state port.new) ≡ machine_told (P.port_state port.old) }
     ensures later { (P.port_state port.old).failures ≤ (P.port_state port.new).failures }
     ensures talks { GoOn link.old.talk link.new.talk (P.port_state port.old).talk (P.port_state port.new).talk }
+    ensures stood { HasStood (P.port_state port.old) link.old.talk → HasStood (P.port_state port.new) link.new.talk }
+    ensures stands { IsTrue result → HasStood (P.port_state port.old) link.old.talk → StandsTold (P.port_state port.new) link.new.talk }
     ensures open { IsTrue result → (P.port_state port.new).is_open ≡ true }
     ensures stays { StaysPosted link.old link.new }
     ensures room { IsTrue result → turn_room (pins_of link.old.set.config.shape) ≤ vec_capacity link.new.expected }
@@ -155,6 +159,8 @@ fn attach_again<P: Port>(
     ensures machine { machine_told (P.port_state port.new) ≡ machine_told (P.port_state port.old) }
     ensures later { (P.port_state port.old).failures ≤ (P.port_state port.new).failures }
     ensures talks { GoOn link.old.talk link.new.talk (P.port_state port.old).talk (P.port_state port.new).talk }
+    ensures stood { HasStood (P.port_state port.old) link.old.talk → HasStood (P.port_state port.new) link.new.talk }
+    ensures stands { IsTrue result → HasStood (P.port_state port.old) link.old.talk → StandsTold (P.port_state port.new) link.new.talk }
     ensures open { IsTrue result → (P.port_state port.new).is_open ≡ true }
     ensures stays { StaysPosted link.old link.new }
     ensures room { IsTrue result → turn_room (pins_of link.old.set.config.shape) ≤ vec_capacity link.new.expected }
@@ -198,6 +204,8 @@ pub fn attach_some<P: Port>(
     ensures machine { machine_told (P.port_state port.new) ≡ machine_told (P.port_state port.old) }
     ensures later { (P.port_state port.old).failures ≤ (P.port_state port.new).failures }
     ensures talks { GoOn link.old.talk link.new.talk (P.port_state port.old).talk (P.port_state port.new).talk }
+    ensures stood { HasStood (P.port_state port.old) link.old.talk → HasStood (P.port_state port.new) link.new.talk }
+    ensures stands { IsTrue result → HasStood (P.port_state port.old) link.old.talk → StandsTold (P.port_state port.new) link.new.talk }
     ensures open { IsTrue result → (P.port_state port.new).is_open ≡ true }
     ensures stays { StaysPosted link.old link.new }
     ensures room { IsTrue result → turn_room (pins_of link.old.set.config.shape) ≤ vec_capacity link.new.expected }

@@ -12,7 +12,7 @@ ghost use Rattle.rig_port.specs.Linked.{IsLinked};
 ghost use Rattle.rig_port.specs.Boards.{IsKeptUp, HasRoom};
 ghost use Rattle.rig_port.specs.Sessions.{SetsAnew, CanResume, HasMade, StaysLoaded, kept_pairs, paired};
 ghost use Rattle.rig_port.specs.Transcripts.{Behind, GoOn};
-ghost use Rattle.rig_port.specs.Stands.{Turns, Makes, TurnsAgain, GoesOn};
+ghost use Rattle.rig_port.specs.Stands.{Turns, Makes, TurnsAgain, GoesOn, HasStood, StandsTold};
 ghost use Rattle.rig_port.specs.Turns.{CanTurn, AreRowsFor, HasMadeTurns, CanMakeAgain, KeepsRows};
 
 use crate::again::{Again, are_same};
@@ -59,6 +59,8 @@ fn redrive<P: Port>(
 
     ensures later { IsLater (P.port_state port.old) (P.port_state port.new) }
     ensures talks { GoOn link.old.talk link.new.talk (P.port_state port.old).talk (P.port_state port.new).talk }
+    ensures stood { StandsTold (P.port_state port.old) link.old.talk → HasStood (P.port_state port.new) link.new.talk }
+    ensures stands { IsTrue result → StandsTold (P.port_state port.old) link.old.talk → StandsTold (P.port_state port.new) link.new.talk }
     ensures lengths { KeepLengths spare.old spare.new }
     ensures stays { StaysLoaded link.old link.new }
     ensures turned { IsTrue result → HasMadeTurns drives.now readings.now (P.port_state port.old) (P.port_state port.new) link.old
@@ -86,6 +88,8 @@ fn redrive_first<P: Port>(
 
     ensures later { IsLater (P.port_state port.old) (P.port_state port.new) }
     ensures talks { GoOn link.old.talk link.new.talk (P.port_state port.old).talk (P.port_state port.new).talk }
+    ensures stood { StandsTold (P.port_state port.old) link.old.talk → HasStood (P.port_state port.new) link.new.talk }
+    ensures stands { IsTrue result → StandsTold (P.port_state port.old) link.old.talk → StandsTold (P.port_state port.new) link.new.talk }
     ensures lengths { KeepLengths spare.old spare.new }
     ensures stays { StaysLoaded link.old link.new }
     ensures turned { IsTrue result → HasMadeTurns drives.now readings.now (P.port_state port.old) (P.port_state port.new) link.old
@@ -104,6 +108,8 @@ fn resume<P: Port>(port: &mut P, link: &mut Link, again: &mut Again) -> bool
 
     ensures later { IsLater (P.port_state port.old) (P.port_state port.new) }
     ensures talks { GoOn link.old.talk link.new.talk (P.port_state port.old).talk (P.port_state port.new).talk }
+    ensures stood { HasStood (P.port_state port.old) link.old.talk → HasStood (P.port_state port.new) link.new.talk }
+    ensures stands { IsTrue result → HasStood (P.port_state port.old) link.old.talk → StandsTold (P.port_state port.new) link.new.talk }
     ensures stays { StaysLoaded link.old link.new }
     ensures kept { KeepsRows (pins_of link.old.set.config.shape) again.old again.new }
     ensures held { IsTrue result → IsKeptUp (P.port_state port.new) link.old link.new }
@@ -141,6 +147,8 @@ fn turn_again<P: Port>(
 
     ensures later { IsLater (P.port_state port.old) (P.port_state port.new) }
     ensures talks { GoOn link.old.talk link.new.talk (P.port_state port.old).talk (P.port_state port.new).talk }
+    ensures stood { HasStood (P.port_state port.old) link.old.talk → HasStood (P.port_state port.new) link.new.talk }
+    ensures stands { IsTrue result → HasStood (P.port_state port.old) link.old.talk → StandsTold (P.port_state port.new) link.new.talk }
     ensures lengths { KeepLengths reads.old reads.new }
     ensures stays { StaysLoaded link.old link.new }
     ensures kept { KeepsRows (pins_of link.old.set.config.shape) again.old again.new }
@@ -172,6 +180,8 @@ fn ask_again<P: Port>(
 
     ensures later { IsLater (P.port_state port.old) (P.port_state port.new) }
     ensures talks { GoOn link.old.talk link.new.talk (P.port_state port.old).talk (P.port_state port.new).talk }
+    ensures stood { HasStood (P.port_state port.old) link.old.talk → HasStood (P.port_state port.new) link.new.talk }
+    ensures stands { IsTrue result → HasStood (P.port_state port.old) link.old.talk → StandsTold (P.port_state port.new) link.new.talk }
     ensures lengths { KeepLengths reads.old reads.new }
     ensures stays { StaysLoaded link.old link.new }
     ensures kept { KeepsRows (pins_of link.old.set.config.shape) again.old again.new }
@@ -215,6 +225,7 @@ fn turn_or_again<P: Port>(
 
     ensures later { IsLater (P.port_state port.old) (P.port_state port.new) }
     ensures talks { GoOn link.old.talk link.new.talk (P.port_state port.old).talk (P.port_state port.new).talk }
+    ensures stands { IsTrue result → StandsTold (P.port_state port.old) link.old.talk → StandsTold (P.port_state port.new) link.new.talk }
     ensures lengths { KeepLengths reads.old reads.new }
     ensures kept { KeepsRows (pins_of link.old.set.config.shape) again.old again.new }
     ensures sent { IsTrue result → link.new.due ≡ false }
@@ -252,6 +263,7 @@ pub fn drive_on<P: Port>(
 
     ensures later { IsLater (P.port_state port.old) (P.port_state port.new) }
     ensures talks { GoOn link.old.talk link.new.talk (P.port_state port.old).talk (P.port_state port.new).talk }
+    ensures stands { IsTrue result → StandsTold (P.port_state port.old) link.old.talk → StandsTold (P.port_state port.new) link.new.talk }
     ensures lengths { KeepLengths reads.old reads.new }
     ensures sent { IsTrue result → link.new.due ≡ false }
     ensures turned { IsTrue result → HasMadeTurns drives.now reads.new (P.port_state port.old) (P.port_state port.new) link.old

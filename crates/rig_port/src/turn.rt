@@ -16,7 +16,7 @@ ghost use Rattle.rig_port.specs.Boards.{IsRequest};
 ghost use Rattle.rig_port.specs.Checks.{after};
 ghost use Rattle.rig_port.specs.Sessions.{StaysLoaded};
 ghost use Rattle.rig_port.specs.Transcripts.{Behind, GoOn};
-ghost use Rattle.rig_port.specs.Stands.{Turns};
+ghost use Rattle.rig_port.specs.Stands.{Turns, HasStood, StandsTold};
 ghost use Rattle.rig_port.specs.Turns.{CanTurn, AreRowsFor, HasMadeTurns};
 
 use crate::check::Check;
@@ -186,6 +186,8 @@ pub fn turn<P: Port>(
 
     ensures later { IsLater (P.port_state port.old) (P.port_state port.new) }
     ensures talks { GoOn link.old.talk link.new.talk (P.port_state port.old).talk (P.port_state port.new).talk }
+    ensures stood { StandsTold (P.port_state port.old) link.old.talk → HasStood (P.port_state port.new) link.new.talk }
+    ensures stands { IsTrue result → StandsTold (P.port_state port.old) link.old.talk → StandsTold (P.port_state port.new) link.new.talk }
     ensures lengths { KeepLengths reads.old reads.new }
     ensures stays { StaysLoaded link.old link.new }
     ensures sent { IsTrue result → link.new.due ≡ false }
@@ -232,6 +234,8 @@ pub fn turn_some<P: Port>(
 
     ensures later { IsLater (P.port_state port.old) (P.port_state port.new) }
     ensures talks { GoOn link.old.talk link.new.talk (P.port_state port.old).talk (P.port_state port.new).talk }
+    ensures stood { StandsTold (P.port_state port.old) link.old.talk → HasStood (P.port_state port.new) link.new.talk }
+    ensures stands { IsTrue result → StandsTold (P.port_state port.old) link.old.talk → StandsTold (P.port_state port.new) link.new.talk }
     ensures lengths { KeepLengths reads.old reads.new }
     ensures stays { StaysLoaded link.old link.new }
     ensures sent { IsTrue result → 0 < length drives.now → link.new.due ≡ false }
@@ -268,6 +272,8 @@ pub fn turn_all<P: Port>(
 
     ensures later { IsLater (P.port_state port.old) (P.port_state port.new) }
     ensures talks { GoOn link.old.talk link.new.talk (P.port_state port.old).talk (P.port_state port.new).talk }
+    ensures stood { StandsTold (P.port_state port.old) link.old.talk → HasStood (P.port_state port.new) link.new.talk }
+    ensures stands { IsTrue result → StandsTold (P.port_state port.old) link.old.talk → StandsTold (P.port_state port.new) link.new.talk }
     ensures lengths { KeepLengths reads.old reads.new }
     ensures stays { StaysLoaded link.old link.new }
     ensures sent { IsTrue result → link.new.due ≡ false }

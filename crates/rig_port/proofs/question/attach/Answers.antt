@@ -4,6 +4,8 @@ use Rattle.rig_port.proofs.Behind.{behind_one, said_maybe, said_none}
 use Rattle.rig_port.proofs.Held.{seam}
 use Rattle.rig_port.proofs.OneMachine.{attached, attached_check}
 use Rattle.rig_port.proofs.Standing.{found_one}
+use Rattle.rig_port.proofs.Telling.{attach_stands, attach_stood, stood_on}
+use Rattle.rig_port.specs.Transcripts.{and_said}
 use Rattle.rig_port.proofs.question.attach.Goals as goal
 
 pub returns-in-Ok-clause-fresh : goal.returns-in-Ok-clause-fresh
@@ -54,3 +56,21 @@ pub returns-in-Err-clause-alarm : goal.returns-in-Err-clause-alarm
 returns-in-Err-clause-alarm g c = λ _.
     for_any (g.P.Port.port_state c.ask.new.self).device c.args.link.now.set.config.shape _
     (rose_of c.in-Err.field-0 (g.P.Port.port_state c.args.port.now) (g.P.Port.port_state c.ask.new.self) c.in-Err.ensures.refused)
+
+pub returns-in-Ok-clause-stands : goal.returns-in-Ok-clause-stands
+returns-in-Ok-clause-stands g c = λ right stood.
+    let whole = seam c.ask.new.reply c.args.link.now.reply.items c.args.link.now.reply.len (c.ask.ensures.length ∙ ap length c.deref_mut.ensures.value) c.args.link.now.reply.ok.0 in
+    let same : take c.in-Ok.count c.ask.new.reply ≡ c.args.link.now.expected.items
+    = ap (λ l. take c.in-Ok.count l) (sym whole) ∙ c.take_counts.ensures.right right in
+    attach_stands (g.P.Port.port_state c.args.port.now) (g.P.Port.port_state c.ask.new.self) c.args.number c.args.link.now.talk c.take_counts.new.link.talk c.args.question.now (take c.in-Ok.count c.ask.new.reply)
+    (omega arith) c.requires.line (c.take_counts.ensures.taken right ∙ ap (and_said c.args.link.now.talk c.args.question.now) (sym same)) c.in-Ok.ensures.told stood
+
+pub returns-in-Ok-clause-stood : goal.returns-in-Ok-clause-stood
+returns-in-Ok-clause-stood g c = λ stood.
+    let whole = seam c.ask.new.reply c.args.link.now.reply.items c.args.link.now.reply.len (c.ask.ensures.length ∙ ap length c.deref_mut.ensures.value) c.args.link.now.reply.ok.0 in
+    attach_stood c.take_counts.result (g.P.Port.port_state c.args.port.now) (g.P.Port.port_state c.ask.new.self) c.args.number c.args.link.now.talk c.take_counts.new.link.talk c.args.question.now
+    (take c.in-Ok.count c.ask.new.reply) c.args.link.now.expected.items (omega arith) c.requires.line
+    (λ right. ap (λ l. take c.in-Ok.count l) (sym whole) ∙ c.take_counts.ensures.right right) c.take_counts.ensures.taken c.take_counts.ensures.left c.ask.ensures.machine c.in-Ok.ensures.told stood
+
+pub returns-in-Err-clause-stood : goal.returns-in-Err-clause-stood
+returns-in-Err-clause-stood g c = λ stood. stood_on (g.P.Port.port_state c.args.port.now) (g.P.Port.port_state c.ask.new.self) c.args.link.now.talk c.args.link.now.talk c.ask.ensures.machine refl stood

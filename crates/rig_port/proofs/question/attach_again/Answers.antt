@@ -32,6 +32,7 @@ tries-preserved g c = record {
   spare = c.tries.invariant.spare;
   talks = said_more c.args.link.now.talk c.tries.link.talk c.attach_next.new.link.talk (g.P.Port.port_state c.args.port.now).talk (g.P.Port.port_state c.tries.port).talk
       (g.P.Port.port_state c.attach_next.new.port).talk c.tries.invariant.talks c.attach_next.ensures.talks;
+  stood = λ s. c.attach_next.ensures.stood (c.tries.invariant.stood s);
   count = omega (arith, c.tries.invariant.count, c.saturating_add.ensures);
 }
 
@@ -66,6 +67,7 @@ tries-init g c = record {
   past = record { whole = refl; drives = refl; readings = refl; made = refl; covers = refl };
   spare = refl;
   talks = nothing_said c.args.link.now.talk (g.P.Port.port_state c.args.port.now).talk;
+  stood = λ s. s;
   count = omega arith;
 }
 
@@ -82,3 +84,9 @@ returns-then-attach_next-clause-said g c = λ _.
     behind_more Anyhow _ _ c.args.link.now.talk c.tries.link.talk now.talk
     (behind_all c.args.link.now.talk c.tries.link.talk (g.P.Port.port_state c.args.port.now).talk (g.P.Port.port_state c.tries.port).talk c.tries.invariant.talks) found
     (λ d b e k x y near _ _ f. λ shape. f (near.0 ∙ shape))
+
+pub returns-then-attach_next-clause-stood : goal.returns-then-attach_next-clause-stood
+returns-then-attach_next-clause-stood g c = λ s. c.attach_next.ensures.stood (c.tries.invariant.stood s)
+
+pub returns-then-attach_next-clause-stands : goal.returns-then-attach_next-clause-stands
+returns-then-attach_next-clause-stands g c = λ _ s. c.attach_next.ensures.stands c.if-attach_next.true (c.tries.invariant.stood s)

@@ -1,6 +1,7 @@
 use Rattle.std.proofs.Common.{◌≡◌, ◌≤◌}
 use Rattle.rig_port.specs.Ports.{machine_told}
 use Rattle.rig_port.specs.Sessions.{KeepsSession, StaysPosted}
+use Rattle.rig_port.specs.Stands.{HasStood}
 use Rattle.rig_port.specs.Transcripts.{GoOn}
 use Rattle.rig_port.proofs.Resumed.{HasCounts}
 use Rattle.rig_port.proofs.question.attach_again.Given as goal
@@ -14,5 +15,6 @@ invariant-tries g l = record {
   past : KeepsSession l.initial.again l.again;
   spare : l.again.spare ≡ l.initial.again.spare;
   talks : GoOn l.initial.link.talk l.link.talk (g.P.Port.port_state l.initial.port).talk (g.P.Port.port_state l.port).talk;
+  stood : HasStood (g.P.Port.port_state l.initial.port) l.initial.link.talk → HasStood (g.P.Port.port_state l.port) l.link.talk;
   count : l.initial.failures ≤ l.failures;
 }

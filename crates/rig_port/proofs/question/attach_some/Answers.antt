@@ -72,3 +72,9 @@ returns-clause-said g c = λ right.
     behind_more Anyhow _ _ c.args.link.now.talk c.attach.new.link.talk now.talk
     (behind_all c.args.link.now.talk c.attach.new.link.talk (g.P.Port.port_state c.args.port.now).talk (g.P.Port.port_state c.attach.new.port).talk c.attach.ensures.talks) found
     (λ d b e k x y near _ _ f. λ shape. f (near.0 ∙ shape))
+
+pub returns-clause-stood : goal.returns-clause-stood
+returns-clause-stood g c = λ s. c.attach_again.ensures.stood (c.attach.ensures.stood s)
+
+pub returns-clause-stands : goal.returns-clause-stands
+returns-clause-stands g c = λ right s. c.attach_again.ensures.stands right (c.attach.ensures.stood s)

@@ -34,6 +34,7 @@ tries-preserved g c = record {
   };
   talks = said_more c.args.link.now.talk c.tries.link.talk c.turn_again.new.link.talk (g.P.Port.port_state c.args.port.now).talk (g.P.Port.port_state c.tries.port).talk
       (g.P.Port.port_state c.turn_again.new.port).talk c.tries.invariant.talks c.turn_again.ensures.talks;
+  stood = λ s. c.turn_again.ensures.stood (c.tries.invariant.stood s);
   count = omega (arith, c.tries.invariant.count, c.saturating_add.ensures);
 }
 
@@ -111,6 +112,7 @@ tries-init g c = record {
   rows = c.requires.again.rows;
   past = record { whole = refl; drives = refl; readings = refl; made = refl; covers = refl };
   talks = nothing_said c.args.link.now.talk (g.P.Port.port_state c.args.port.now).talk;
+  stood = λ s. s;
   count = omega arith;
 }
 
@@ -133,3 +135,9 @@ returns-then-turn_again-clause-said g c = λ _.
     behind_more Anyhow _ _ c.args.link.now.talk c.tries.link.talk now.talk
     (behind_all c.args.link.now.talk c.tries.link.talk (g.P.Port.port_state c.args.port.now).talk (g.P.Port.port_state c.tries.port).talk c.tries.invariant.talks) made
     (λ d b e k x y same _ _ m. λ shape. m (same.0 ∙ shape))
+
+pub returns-then-turn_again-clause-stood : goal.returns-then-turn_again-clause-stood
+returns-then-turn_again-clause-stood g c = λ s. c.turn_again.ensures.stood (c.tries.invariant.stood s)
+
+pub returns-then-turn_again-clause-stands : goal.returns-then-turn_again-clause-stands
+returns-then-turn_again-clause-stands g c = λ _ s. c.turn_again.ensures.stands c.if-turn_again.true (c.tries.invariant.stood s)

@@ -3,6 +3,7 @@ use Rattle.machine_shape.specs.Shape.{pins_of}
 use Rattle.rig.specs.Rig.{KeepLengths}
 use Rattle.rig_port.specs.Ports.{machine_told}
 use Rattle.rig_port.specs.Sessions.{HasRows, KeepsSession, StaysLoaded}
+use Rattle.rig_port.specs.Stands.{HasStood}
 use Rattle.rig_port.specs.Transcripts.{GoOn}
 use Rattle.rig_port.proofs.Resumed.{HasShape}
 use Rattle.rig_port.proofs.resume.ask_again.Given as goal
@@ -17,5 +18,6 @@ invariant-tries g l = record {
   rows : HasRows (pins_of l.initial.link.set.config.shape) l.again;
   past : KeepsSession l.initial.again l.again;
   talks : GoOn l.initial.link.talk l.link.talk (g.P.Port.port_state l.initial.port).talk (g.P.Port.port_state l.port).talk;
+  stood : HasStood (g.P.Port.port_state l.initial.port) l.initial.link.talk → HasStood (g.P.Port.port_state l.port) l.link.talk;
   count : l.initial.failures ≤ l.failures;
 }

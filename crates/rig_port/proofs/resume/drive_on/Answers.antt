@@ -72,3 +72,6 @@ returns-clause-said g c = λ _.
             t.turned covers);
       },
     ))
+
+pub returns-clause-stands : goal.returns-clause-stands
+returns-clause-stands g c = λ _ s. c.turn_or_again.ensures.stands c.if-not-turn_or_again.false s

@@ -21,3 +21,6 @@ pub returns-clause-said : goal.returns-clause-said
 returns-clause-said g c = λ same.
     subst (λ rows. Behind (Turns c.args.drives.now rows c.args.link.now c.turn_some.new.link) c.args.link.now.talk c.turn_some.new.link.talk) (c.are_same.ensures same)
     (c.turn_some.ensures.said c.if-not-turn_some.false)
+
+pub returns-clause-stands : goal.returns-clause-stands
+returns-clause-stands g c = λ _ s. c.turn_some.ensures.stands c.if-not-turn_some.false s

@@ -12,7 +12,7 @@ use Rattle.rig.specs.Rig.{KeepLengths}
 use Rattle.rig_port.specs.Sessions.{SetsAnew, HasMade, paired}
 use Rattle.rig_port.proofs.Resumed.{HasShape, shaped_counts, still_shaped, made_first, many_rows, rows_again, rows_stay}
 use Rattle.rig_port.specs.Said.{Said}
-use Rattle.rig_port.specs.Stands.{Turns, Makes}
+use Rattle.rig_port.specs.Stands.{Turns, Makes, HasStood, StandsTold}
 use Rattle.rig_port.specs.Transcripts.{Behind, GoOn}
 use Rattle.rig_port.proofs.Behind.{behind_more, said_more}
 use Rattle.rig_port.proofs.Standing.{makes_first}
@@ -167,3 +167,16 @@ returns-clause-said g c = λ right.
     (behind_more _ _ _ old c.attach_next.new.link.talk now.talk (c.attach_next.ensures.said c.if-not-attach_next.false) turned
     (λ d b e k x y _ _. makes_first g0 (take n drives) (take n reads) c.attach_next.new.link c.load_anew.new.link now set c.in-Ok.ensures.due c.load_anew.ensures.check
     (λ device shape. c.in-Ok.ensures.linked device (subst (λ (s : Roomy). HasShape s.config.shape device) (sym c.attach_next.ensures.stays.set) shape)) d b e k x y)))
+
+pub returns-in_default-clause-stood : goal.returns-in_default-clause-stood
+returns-in_default-clause-stood g c = λ s. subst (λ (t : List Said). HasStood (g.P.Port.port_state c.attach_next.new.port) t) (sym c.load_anew.ensures.talk) (c.attach_next.ensures.stood s)
+
+pub returns-clause-stood : goal.returns-clause-stood
+returns-clause-stood g c = λ s.
+    c.redrive_first.ensures.stood
+    (subst (λ (t : List Said). StandsTold (g.P.Port.port_state c.attach_next.new.port) t) (sym c.load_anew.ensures.talk) (c.attach_next.ensures.stands c.if-not-attach_next.false s))
+
+pub returns-clause-stands : goal.returns-clause-stands
+returns-clause-stands g c = λ right s.
+    c.redrive_first.ensures.stands right
+    (subst (λ (t : List Said). StandsTold (g.P.Port.port_state c.attach_next.new.port) t) (sym c.load_anew.ensures.talk) (c.attach_next.ensures.stands c.if-not-attach_next.false s))

@@ -73,3 +73,9 @@ returns-clause-said g c = λ right.
     behind_more _ _ _ c.args.link.now.talk c.resume.new.link.talk c.turn_all.new.link.talk (c.resume.ensures.said c.if-not-resume.false) (c.turn_all.ensures.said right)
     (λ d b e k x y _ _. makes_more c.args.link.now.set.config (kept_pairs c.args.again.now) c.args.drives.now c.turn_all.new.reads c.resume.new.link c.turn_all.new.link
     c.resume.ensures.stays.set d b e k x y)
+
+pub returns-clause-stood : goal.returns-clause-stood
+returns-clause-stood g c = λ s. c.turn_all.ensures.stood (c.resume.ensures.stands c.if-not-resume.false s)
+
+pub returns-clause-stands : goal.returns-clause-stands
+returns-clause-stands g c = λ right s. c.turn_all.ensures.stands right (c.resume.ensures.stands c.if-not-resume.false s)

@@ -108,3 +108,6 @@ returns-clause-said g c = λ right.
     (behind_all c.args.link.now.talk c.turn_all.new.link.talk (g.P.Port.port_state c.args.port.now).talk (g.P.Port.port_state c.turn_all.new.port).talk c.turn_all.ensures.talks) made
     (λ d b e k x y near same _ m. turns_again c.args.drives.now c.ask_again.new.reads c.args.again.now c.args.link.now now cycles many
     (λ (o : Device) resumes. resumes.kept c.requires.ready.running (c.ask_again.ensures.covers right)) d b x y same (λ shape. m (near.0 ∙ shape)))
+
+pub returns-clause-stands : goal.returns-clause-stands
+returns-clause-stands g c = λ right s. c.ask_again.ensures.stands right (c.turn_all.ensures.stood s)

@@ -15,6 +15,7 @@ use Rattle.rig_port.proofs.Held.{seam}
 use Rattle.rig_port.proofs.Room.{same_room}
 use Rattle.rig_port.proofs.Turned.{StandsTurned, turn_stands}
 use Rattle.rig_port.proofs.turn.turn.Given.{Over}
+use Rattle.rig_port.proofs.Telling.{answer_stands, stood_of, stood_on}
 use Rattle.rig_port.proofs.turn.turn.Goals as goal
 
 module _ (g : Over) (c : goal.After-link-4-1 g) where
@@ -129,3 +130,20 @@ returns-in_default-read_check-clause-alarm g c = λ _ some.
     let same = c.read_all.ensures.right c.put_request-sent.result reply.rows keep (ap (λ l. take c.in-Ok.count l) (c.deref-2.ensures.value ∙ whole) ∙ reply.is) in
     absurd (c.in_default-read_check.ensures.wrong
     (ap (λ l. take c.in-Ok.count l) (c.deref-3.ensures.value ∙ whole) ∙ reply.is ∙ ap (reading_line c.put_request-sent.result) (sym same)))
+
+pub returns-clause-stands : goal.returns-clause-stands
+returns-clause-stands g c = λ _ s.
+    answer_stands (g.P.Port.port_state c.args.port.now) (g.P.Port.port_state c.ask.new.self) c.args.link.now.talk c.and-link.result c.deref.result.now (take c.in-Ok.count c.ask.new.reply) (talk_is g c) c.in-Ok.ensures.told s
+
+pub returns-clause-stood : goal.returns-clause-stood
+returns-clause-stood g c = λ s.
+    stood_of (g.P.Port.port_state c.ask.new.self) c.and-link.result
+    (answer_stands (g.P.Port.port_state c.args.port.now) (g.P.Port.port_state c.ask.new.self) c.args.link.now.talk c.and-link.result c.deref.result.now (take c.in-Ok.count c.ask.new.reply) (talk_is g c) c.in-Ok.ensures.told s)
+
+pub returns-in_default-clause-stood : goal.returns-in_default-clause-stood
+returns-in_default-clause-stood g c = λ s.
+    stood_on (g.P.Port.port_state c.args.port.now) (g.P.Port.port_state c.ask.new.self) c.args.link.now.talk c.args.link.now.talk c.ask.ensures.machine refl (stood_of (g.P.Port.port_state c.args.port.now) c.args.link.now.talk s)
+
+pub returns-in_default-read_check-clause-stood : goal.returns-in_default-read_check-clause-stood
+returns-in_default-read_check-clause-stood g c = λ s.
+    stood_on (g.P.Port.port_state c.args.port.now) (g.P.Port.port_state c.ask.new.self) c.args.link.now.talk c.args.link.now.talk c.ask.ensures.machine refl (stood_of (g.P.Port.port_state c.args.port.now) c.args.link.now.talk s)

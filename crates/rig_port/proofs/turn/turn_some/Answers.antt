@@ -15,6 +15,7 @@ use Rattle.machine_config.specs.Configuration.{Configuration}
 use Rattle.rig_port.specs.Lines.{word_room, turn_room}
 use Rattle.rig_port.proofs.Alarm.{still_told, rose_later}
 use Rattle.rig_port.proofs.Room.{few_enough, piece_few}
+use Rattle.rig_port.proofs.Telling.{stood_of}
 use Rattle.rig_port.proofs.turn.turn_some.Goals as goal
 
 pub turn-requires-clause-few : goal.turn-requires-clause-few
@@ -49,6 +50,7 @@ turns-init g c = (
   λ idle. idle,
   nothing_said c.args.link.now.talk (g.P.Port.port_state c.args.port.now).talk,
   behind_none _ c.args.link.now.talk (turns_none c.args.link.now c.requires.ready.running),
+  λ s. s,
 )
 
 pub turn-requires-clause-ready : goal.turn-requires-clause-ready
@@ -112,6 +114,7 @@ turns-preserved g c =
       behind_more _ _ _ c.args.link.now.talk c.turns.link.talk c.turn.new.link.talk c.turns.invariant.9 (c.turn.ensures.said c.if-not-turn.false)
           (λ d b e k x y _ _. turns_next c.args.link.now c.turns.link c.turn.new.link c.args.drives.now c.turns.reads c.turn.new.reads c.turns.at c.min-end.result c.turns.invariant.3.set le
           (omega (arith, within, c.requires.rows.as_many, c.turns.auto.reads)) c.turn.ensures.lengths d b e k x y),
+      λ s. c.turn.ensures.stands c.if-not-turn.false (c.turns.invariant.10 s),
     )
 
 pub turn-requires-clause-some : goal.turn-requires-clause-some
@@ -155,3 +158,12 @@ returns-clause-said g c = λ _.
     let many = many_rows c.args.reads.now c.turns.reads c.turns.invariant.2 in
     behind_so _ _ c.args.link.now.talk c.turns.link.talk c.turns.invariant.9
     (λ d b e k _. turns_whole c.args.link.now c.turns.link c.args.drives.now c.turns.reads c.turns.at over (omega (arith, over, many, c.requires.rows.as_many)) d b e k)
+
+pub returns-then-not-turn-clause-stood : goal.returns-then-not-turn-clause-stood
+returns-then-not-turn-clause-stood g c = λ s. c.turn.ensures.stood (c.turns.invariant.10 s)
+
+pub returns-clause-stood : goal.returns-clause-stood
+returns-clause-stood g c = λ s. stood_of (g.P.Port.port_state c.turns.port) c.turns.link.talk (c.turns.invariant.10 s)
+
+pub returns-clause-stands : goal.returns-clause-stands
+returns-clause-stands g c = λ _ s. c.turns.invariant.10 s

@@ -3,7 +3,7 @@ use Rattle.rig.specs.Rig.{KeepLengths}
 use Rattle.rig_port.specs.Ports.{machine_told}
 use Rattle.rig_port.specs.Linked.{HasTurned}
 use Rattle.rig_port.specs.Boards.{IsKeptUp}
-use Rattle.rig_port.specs.Stands.{Turns}
+use Rattle.rig_port.specs.Stands.{Turns, StandsTold}
 use Rattle.rig_port.specs.Transcripts.{Behind, GoOn}
 use Rattle.rig_port.proofs.turn.turn_some.Given as goal
 
@@ -19,6 +19,7 @@ invariant-turns g l = (machine_told (g.P.Port.port_state l.port) ≡ machine_tol
     × (l.initial.link.due ≡ false → l.link.due ≡ false)
     × GoOn l.initial.link.talk l.link.talk (g.P.Port.port_state l.initial.port).talk (g.P.Port.port_state l.port).talk
     × Behind (Turns (take l.at l.drives) (take l.at l.reads) l.initial.link l.link) l.initial.link.talk l.link.talk
+    × (StandsTold (g.P.Port.port_state l.initial.port) l.initial.link.talk → StandsTold (g.P.Port.port_state l.port) l.link.talk)
 
 abbrev pub decreases-turns : goal.decreases-turns
 decreases-turns g l = length l.drives - l.at

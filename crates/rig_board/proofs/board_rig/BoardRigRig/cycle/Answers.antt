@@ -1,7 +1,8 @@
-use Rattle.std.proofs.Common.{[], ◌∷◌, ◌∙◌, ap, option_map, subst, sym}
+use Rattle.std.proofs.Common.{[], ◌∷◌, ◌+◌, ◌≤◌, ◌∙◌, ap, arith, option_map, refl, subst, sym}
 use Rattle.machine_meaning.specs.Circuit.{Pins}
 use Rattle.rig_board.specs.Kept.{session_of}
 use Rattle.rig_board.specs.Machines.{EachWas, GoesOnBy}
+use Rattle.rig_board.proofs.Driven.{added_pair, cycled_one, cycles_made, goes_on, goes_on_one}
 use Rattle.rig_board.proofs.Logging.{added_one, logged_ended, logged_more, logged_narrowed, past_more}
 use Rattle.rig_board.proofs.board_rig.BoardRigRig.cycle.Goals as goal
 
@@ -19,3 +20,15 @@ invariant_of-self-in-Err-clause-logged g c =
     let ended = ap (option_map session_of) c.take.ensures.after in
     logged_narrowed ended c.cycle.ensures.narrows
     (logged_ended (past_more c.and-self.result.items c.args.self.now.past.items c.args.self.now.kept c.in-Some.kept c.next_row.new.self c.and-self.ensures (sym c.in-Some.ensures.value) c.next_row.ensures.config c.next_row.ensures.cycles) ended c.args.self.now.logged)
+
+pub returns-in-Ok-cycle-clause-cycles : goal.returns-in-Ok-cycle-clause-cycles
+returns-in-Ok-cycle-clause-cycles g c =
+    let drive = c.copy_from.new.self in
+    let after_b = g.B.Board.board_state c.cycle.new.self in
+    let made = cycles_made c.next_row.new.self c.add.new.self (sym c.in-Some.ensures.value) c.args.self.now.linked
+    (cycled_one c.args.drive.now drive c.cycle.new.read (g.B.Board.board_state c.args.self.now.board) after_b c.copy_from.ensures c.in-Ok-cycle.ensures.cycles) c.next_row.ensures.config
+    c.next_row.ensures.cycles c.add.ensures.config
+    (added_pair drive c.cycle.new.read (session_of c.next_row.new.self) (session_of c.add.new.self) c.add.ensures.cycles) in
+    let room : (session_of c.in-Some.kept).spare ≤ (session_of c.add.new.self).spare + 1 = omega (arith, c.in-Ok.ensures.spare, c.add.ensures.spare) in
+    goes_on_one c.args.drive.now drive c.copy_from-in-Ok-cycle.new.self c.cycle.new.read _ _ c.copy_from.ensures c.copy_from-in-Ok-cycle.ensures
+    (goes_on (drive ∷ []) (c.cycle.new.read ∷ []) after_b c.in-Some.kept c.add.new.self _ _ (ap (option_map session_of) (sym c.in-Some.ensures.value)) refl refl room made.1 refl)

@@ -10,6 +10,7 @@ use Rattle.rig_port.proofs.Standing.{all_here, all_on, cycles_each, held_on, nar
 use Rattle.rig_port.proofs.port_board.PortBoardBoard.cycles.Given.{Over}
 use Rattle.rig_port.proofs.port_board.PortBoardBoard.cycles.Goals.{Joined-self}
 use Rattle.rig_port.proofs.Resumed.{both_rose, held_here, running_here, ready_here, wide_here}
+use Rattle.rig_port.proofs.Telling.{tells_held, told_here}
 use Rattle.rig_port.proofs.port_board.PortBoardBoard.cycles.Goals as goal
 
 pub returns-clause-cycles : goal.returns-clause-cycles
@@ -68,6 +69,7 @@ invariant_of-self-2 g c =
       c.drive_on.ensures.resumes c.if-not-drive_on.false,
       all_on port now c.self.inside.found c.args.drives.now c.drive_on.new.reads c.in-Some.link c.drive_on.new.link c.self.inside.again c.drive_on.new.again held
           (all_here port c.self.inside.found c.self.inside.again c.in-Some.ensures.value c.self.invariant) kept (runs g c) (c.drive_on.ensures.said c.if-not-drive_on.false),
+      c.drive_on.ensures.stands c.if-not-drive_on.false (told_here port c.self.inside.found c.self.inside.again c.in-Some.ensures.value c.self.invariant),
     )
 
 pub returns-clause-cycles_for_each : goal.returns-clause-cycles_for_each
@@ -91,3 +93,8 @@ pub returns-then-not-drive_on-clause-taken : goal.returns-then-not-drive_on-clau
 returns-then-not-drive_on-clause-taken g c =
     rw (← c.self.view_is) (taken_down c.self.inside.past c.in-Some.link c.drive_on.new.link (g.P.Port.port_state c.self.inside.port).talk (g.P.Port.port_state c.drive_on.new.port).talk
     c.in-Some.ensures.value c.take.ensures.after c.drive_on.ensures.talks)
+
+pub returns-clause-told : goal.returns-clause-told
+returns-clause-told g c =
+    let up = invariant_of-self-2 g c in
+    tells_held (g.P.Port.port_state c.drive_on.new.port) c.self.inside.found c.drive_on.new.link c.self.inside.past c.drive_on.new.again.number c.drive_on.new.failures up.0 up.3

@@ -13,6 +13,7 @@ use Rattle.rig_port.proofs.Behind.{heard_only, said_none}
 use Rattle.rig_port.proofs.Held.{fresh_held}
 use Rattle.rig_port.proofs.Standing.{all_found, finds_told}
 use Rattle.rig_port.proofs.Resumed.{both_rose, fresh_resumes}
+use Rattle.rig_port.proofs.Telling.{stood_first, tells_held}
 use Rattle.rig_port.proofs.port_board.PortBoardBoard.find.Goals as goal
 
 pub attach_some-requires-clause-counts : goal.attach_some-requires-clause-counts
@@ -41,6 +42,7 @@ invariant_of-self-2 g c =
           (subst (λ (t : List Said). Behind (Finds m c.attach_some.new.link) t c.attach_some.new.link.talk) c.in-Ok-link_of.ensures.talk
           (subst (λ (s : Shape). Behind (Finds s c.attach_some.new.link) c.in-Ok-link_of.link.talk c.attach_some.new.link.talk) (ap (λ s. s.shape) c.in-Ok-link_of.ensures.set)
           (c.attach_some.ensures.said c.if-not-attach_some.false))),
+      c.attach_some.ensures.stands c.if-not-attach_some.false (stood_first (g.P.Port.port_state c.open.new.self) c.in-Ok-link_of.link.talk c.in-Ok-link_of.ensures.talk),
     )
 
 pub returns-clause-again : goal.returns-clause-again
@@ -89,3 +91,8 @@ returns-clause-found g c =
           (subst (λ s. IfSome (g.P.Port.port_state c.attach_some.new.port).device (λ d. (d.shape ≡ s) × (d.set ≡ cleared s))) (ap (λ s. s.shape) c.in-Ok-link_of.ensures.set)
           (c.attach_some.ensures.fresh c.if-not-attach_some.false));
     }
+
+pub returns-clause-told : goal.returns-clause-told
+returns-clause-told g c =
+    let up = invariant_of-self-2 g c in
+    tells_held (g.P.Port.port_state c.attach_some.new.port) _ c.attach_some.new.link c.new-self-inside.result c.attach_some.new.again.number c.attach_some.new.failures up.0 up.3
