@@ -99,15 +99,15 @@ stood_on old new talk now same is s = by_told old.device new.device same s where
         subst (λ (l : List Said). MayStand e.shape e.faults l s.0 s.1) (sym is)
             (subst (λ (m : Shape). MayStand m e.faults talk s.0 s.1) (sym (shape same)) (subst (λ (f : Faults). MayStand t.shape f talk s.0 s.1) (sym (faults same)) st)),
       ) where
-    pair_or : Option (Shape × Faults) → Shape × Faults
-    pair_or None = told_pair t
-    pair_or (Some p) = p
+        pair_or : Option (Shape × Faults) → Shape × Faults
+        pair_or None = told_pair t
+        pair_or (Some p) = p
 
-    shape : Some (told_pair e) ≡ Some (told_pair t) → e.shape ≡ t.shape
-    shape s = ap (λ (o : Option (Shape × Faults)). (pair_or o).0) s
+        shape : Some (told_pair e) ≡ Some (told_pair t) → e.shape ≡ t.shape
+        shape s = ap (λ (o : Option (Shape × Faults)). (pair_or o).0) s
 
-    faults : Some (told_pair e) ≡ Some (told_pair t) → e.faults ≡ t.faults
-    faults s = ap (λ (o : Option (Shape × Faults)). (pair_or o).1) s
+        faults : Some (told_pair e) ≡ Some (told_pair t) → e.faults ≡ t.faults
+        faults s = ap (λ (o : Option (Shape × Faults)). (pair_or o).1) s
 
 -- nothing was said yet
 pub stood_first : (p : PortState) (talk : List Said) → talk ≡ [] → HasStood p talk
