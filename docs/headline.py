@@ -74,13 +74,15 @@ class Imports:
     def __init__(self, text):
         self.names, self.files, self.library, self.crates = {}, {}, {}, []
         text = re.sub(r'\n[ \t]+', ' ', text)
-        pattern = r'^(?:pub |ghost )?use Rattle\.(\w+)\.specs\.([\w.]+?)(?:\.\{([^}]*)\})?(?: as ([\w-]+))?;?$'
+        pattern = r'^(?:pub |ghost )?use Rattle\.(\w+)\.specs\.([\w.]*?)(?:\.?\{([^}]*)\})?(?: as ([\w-]+))?;?$'
         for crate, module, names, alias in re.findall(pattern, text, re.M):
             if alias:
                 self.files[alias] = (crate, module)
             for part in filter(None, map(str.strip, names.split(','))):
-                own, _, other = part.partition(' as ')
-                (self.library if crate == 'std' else self.names)[other or own] = (crate, module, own)
+                path, _, other = part.partition(' as ')
+                below, _, own = path.rpartition('.')
+                place = (crate, '.'.join(filter(None, (module, below))), own)
+                (self.library if crate == 'std' else self.names)[other or own] = place
         self.crates = re.findall(r'^use (\w+)::', text, re.M)
 
 
