@@ -1,12 +1,8 @@
 -- How many numbers are in a set, after one is put in or taken out.
 use Rattle.std.proofs.Common.{◌≡◌, ℕ, ◌+◌, ◌<◌, ◌==◌, ◌⊎◌, inl, inr, if◌then◌else◌, Bool, true, false, cond, List, [], ◌∷◌, length, get_or, ap, arith, refl, ◌∙◌, replicate}
-use Rattle.std.proofs.lemmas.Bool.{cases_eq}
-use Rattle.std.proofs.lemmas.List.{get_or-set_other, get_or-replicate, length-replicate}
-use Rattle.std.proofs.lemmas.Grind.{get_or-set_at}
-use Rattle.base_bits.specs.Changes.{after, last_said}
-use Rattle.std.proofs.Math.ListN.{set, length-set}
-use Rattle.std.proofs.lemmas.List.Sums.{sum_by-set, count_by-le-length}
-use Rattle.base_bits.specs.Numbers.{has_number, size_of}
+use Rattle.std.proofs.{lemmas.Bool.cases_eq, lemmas.Grind.get_or-set_at, Math.ListN.set, Math.ListN.length-set}
+use Rattle.std.proofs.lemmas.List.{get_or-set_other, get_or-replicate, length-replicate, Sums.sum_by-set, Sums.count_by-le-length}
+use Rattle.base_bits.specs.{Changes.after, Changes.last_said, Numbers.has_number, Numbers.size_of}
 
 module _ (numbers : List Bool) (i : ℕ) (within : i < length numbers) where
   pub size_of-put : has_number numbers i ≡ false → size_of (set numbers i true) ≡ size_of numbers + 1

@@ -1,12 +1,9 @@
 -- What a set of numbers contains after a change, what a slice of a vector was left with, and bits that are the same.
 use Rattle.std.proofs.Common.{◌≡◌, ℕ, Bool, true, false, not, ◌||◌, ◌&&◌, if◌then◌else◌, List, length, refl, sym, ap, ◌∙◌, ◌==◌, Vec}
 use Rattle.std.specs.Vec.{with_items}
-use Rattle.std.specs.Ordering.{nat_cmp}
-use Rattle.std.specs.Cmp.{nat_cmp_total, unsigned_tied}
+use Rattle.std.specs.{Ordering.nat_cmp, Cmp.nat_cmp_total, Cmp.unsigned_tied, FinSet.contains-insert, FinSet.contains-remove}
 use Rattle.std.specs.FinSet as sets
-use Rattle.std.specs.FinSet.{contains-insert, contains-remove}
-use Rattle.std.proofs.Math.Bool.{beq}
-use Rattle.std.proofs.lemmas.List.{with_items_is}
+use Rattle.std.proofs.{Math.Bool.beq, lemmas.List.with_items_is}
 
 or_if : (t b : Bool) → (t || b) ≡ (if t then true else b)
 or_if true b = refl

@@ -1,11 +1,9 @@
 -- Bits of words, read and written.
 use Rattle.std.proofs.Common.{◌≡◌, ◌≢◌, ℕ, ◌+◌, ◌*◌, ◌/◌, ◌%◌, ◌<◌, ◌≤◌, ◌==◌, Bool, false, List, length, get_or, sym, ap, ◌∙◌, arith, replicate, inl, inr}
-use Rattle.std.proofs.Math.ListN.{set, length-set, get_or-eq_default}
+use Rattle.std.proofs.{Math.ListN.set, Math.ListN.length-set, Math.ListN.get_or-eq_default, lemmas.Nat.Bits.bit_at-zero}
 use Rattle.std.specs.Int.{bit_at}
-use Rattle.std.proofs.lemmas.Bool.{cases_lt, cases_eq}
+use Rattle.std.proofs.lemmas.{Bool.cases_lt, Bool.cases_eq, List.FromFn.length-map-range_with_len, List.FromFn.get_or-map-range_with_len}
 use Rattle.std.proofs.lemmas.List.{same_lists, length-replicate, get_or-replicate, get_or-set_same, get_or-set_other}
-use Rattle.std.proofs.lemmas.List.FromFn.{length-map-range_with_len, get_or-map-range_with_len}
-use Rattle.std.proofs.lemmas.Nat.Bits.{bit_at-zero}
 use Rattle.base_bits.specs.Words.{is_bit, is_bit_in, bits_of}
 
 pub length-bits_of : (len : ℕ) (words : List ℕ) → length (bits_of len words) ≡ len

@@ -1,6 +1,5 @@
 -- A set of numbers below a length: for each number, whether it is in the set.
-use Rattle.std.specs.Prelude.{ℕ, Bool, false, List, slice_index_or}
-use Rattle.std.specs.List.{count_by}
+use Rattle.std.specs.{Prelude.ℕ, Prelude.Bool, Prelude.false, Prelude.List, Prelude.slice_index_or, List.count_by}
 
 abbrev pub has_number : List Bool → ℕ → Bool
 has_number set i = slice_index_or set i false

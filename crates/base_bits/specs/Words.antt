@@ -1,7 +1,6 @@
 -- Bits in words of 64, the lowest bit first.
 use Rattle.std.specs.Prelude.{ℕ, ◌/◌, ◌%◌, ◌==◌, Bool, List, map, slice_index}
-use Rattle.std.specs.Int.{bit_at}
-use Rattle.std.specs.List.{range_with_len}
+use Rattle.std.specs.{Int.bit_at, List.range_with_len}
 
 abbrev pub is_bit : ℕ → ℕ → Bool
 is_bit word k = bit_at word k == 1

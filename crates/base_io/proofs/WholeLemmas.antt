@@ -1,8 +1,6 @@
 -- The next bytes of a file make a longer front.
 use Rattle.std.proofs.Common.{◌≡◌, ℕ, ◌+◌, ◌≤◌, length, List, ◌++◌, take, drop, IfSome, option_map, arith, ◌∙◌, refl}
-use Rattle.std.proofs.lemmas.Grind.{common_steps}
-use Rattle.std.proofs.Math.Seq.{take-add}
-use Rattle.std.proofs.lemmas.List.{take-append-le}
+use Rattle.std.proofs.{lemmas.Grind.common_steps, Math.Seq.take-add, lemmas.List.take-append-le}
 use Rattle.base_io.specs.Vocabulary.{Told, untold, absent, holds, bytes_of, IfTold, StoreState, AreNext, moved, rest_of, IsFront}
 
 -- at bytes that may be told

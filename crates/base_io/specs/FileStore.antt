@@ -1,7 +1,6 @@
 -- Files of the system.
 use Rattle.std.specs.Prelude.{ℕ, List, Option}
-use Rattle.base_io.specs.Told.{untold}
-use Rattle.base_io.specs.Store.{StorePlace, StoreState}
+use Rattle.base_io.specs.{Told.untold, Store.StorePlace, Store.StoreState}
 
 -- what is known of them
 pub record SystemFiles : Type 0 where

@@ -1,8 +1,6 @@
 -- Files in memory.
 use Rattle.std.specs.Prelude.{ℕ, List, Option, None, Some, find, min, option_map, string_bytes, bytes_eq}
-use Rattle.base_io.specs.Told.{Told, absent, holds}
-use Rattle.base_io.specs.Store.{StorePlace, StoreState}
-use Rattle.base_io.specs.declared.memory_store.File.{File}
+use Rattle.base_io.specs.{Told.Told, Told.absent, Told.holds, Store.StorePlace, Store.StoreState, declared.memory_store.File.File}
 
 -- what a store in memory means
 pub record MemoryFiles : Type 0 where

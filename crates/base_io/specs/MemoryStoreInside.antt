@@ -1,7 +1,6 @@
 -- How a store in memory is kept.
 use Rattle.std.specs.Prelude.{◌<◌, IsSome, IfSome, map, option_map, string_bytes}
-use Rattle.base_io.specs.MemoryStore.{MemoryFiles, bytes_named}
-use Rattle.base_io.specs.declared.memory_store.MemoryStore.TheInside.{Inside}
+use Rattle.base_io.specs.{MemoryStore.MemoryFiles, MemoryStore.bytes_named, declared.memory_store.MemoryStore.TheInside.Inside}
 
 abbrev pub memory_files : Inside → MemoryFiles
 memory_files a = record {

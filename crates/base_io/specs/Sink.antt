@@ -1,8 +1,7 @@
 -- A sink of bytes, as callers see it.
 use Rattle.std.specs.Prelude.{◌≡◌, ℕ, List, ◌++◌, take, Option, Bool, IsTrue, option_map}
 use Rattle.base_io.specs.Counts.{Rose}
-use Rattle.base_io.specs.declared.sink.SinkFail.{SinkFail}
-use Rattle.base_io.specs.declared.sink.SinkFail.TheVariants.{Failed, Memory}
+use Rattle.base_io.specs.declared.sink.SinkFail.{SinkFail, TheVariants.Failed, TheVariants.Memory}
 
 -- what a sink means
 pub record SinkState : Type 0 where

@@ -1,9 +1,7 @@
 -- A store of files, as callers see it.
 use Rattle.std.specs.Prelude.{◌≡◌, ℕ, ◌+◌, ◌≤◌, List, [], ◌∷◌, ◌++◌, length, take, drop, Option, None, option_map, option_and_then}
-use Rattle.base_io.specs.Counts.{Rose}
-use Rattle.base_io.specs.Told.{Told, bytes_of}
-use Rattle.base_io.specs.declared.store.StoreFail.{StoreFail}
-use Rattle.base_io.specs.declared.store.StoreFail.TheVariants.{Failed, Memory}
+use Rattle.base_io.specs.{Counts.Rose, Told.Told, Told.bytes_of}
+use Rattle.base_io.specs.declared.store.StoreFail.{StoreFail, TheVariants.Failed, TheVariants.Memory}
 
 -- a file that was started, and how many of its bytes were read
 pub record StorePlace : Type 0 where

@@ -1,11 +1,8 @@
 -- A file read whole.
 use Rattle.std.specs.Prelude.{◌≡◌, ◌⊎◌, ℕ, ◌+◌, ◌<◌, ◌≤◌, List, [], ◌∷◌, ◌++◌, length, take, Option, None, Some, IfSome, Vec}
 use Rattle.std.specs.declared.alloc.Global.{Global}
-use Rattle.base_io.specs.Counts.{Rose}
-use Rattle.base_io.specs.Told.{Told, IfTold}
-use Rattle.base_io.specs.Store.{StoreState}
-use Rattle.base_io.specs.declared.store.StoreFail.{StoreFail}
-use Rattle.base_io.specs.declared.store.StoreFail.TheVariants.{Failed, Memory}
+use Rattle.base_io.specs.{Counts.Rose, Store.StoreState, declared.store.StoreFail.StoreFail}
+use Rattle.base_io.specs.{Told.Told, Told.IfTold, declared.store.StoreFail.TheVariants.Failed, declared.store.StoreFail.TheVariants.Memory}
 
 -- what a refusal says: a failure is counted and leaves no file current, and lack of memory may come
 -- before the name is asked or after it

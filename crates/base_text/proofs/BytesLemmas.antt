@@ -1,11 +1,8 @@
 -- Physical lines and words, taken off the front.
 use Rattle.std.proofs.Common.{◌≡◌, ℕ, ◌<◌, ◌≤◌, ◌==◌, Bool, true, false, cond, List, [], ◌∷◌, ◌++◌, length, take_all, refl, sym, ap, ◌∙◌, arith, append_assoc, nat_lt, inl, inr, add-one, map, ◌||◌}
 use Rattle.std.specs.Borrow.{Bor}
-use Rattle.std.specs.List.{position_or_len, before_first, after_first, list_any}
-use Rattle.std.proofs.Math.Numerals.{one-add}
-use Rattle.std.proofs.lemmas.Bool.{cases_Bool, cases_lt}
-use Rattle.std.proofs.lemmas.List.Sums.{fails_before_first}
-use Rattle.std.proofs.lemmas.List.Splits.{slice_split_first, slice_split_none}
+use Rattle.base_text.proofs.Vocabulary.{position_or_len, before_first, after_first, list_any, cases_Bool, cases_lt, fails_before_first}
+use Rattle.std.proofs.{Math.Numerals.one-add, lemmas.List.Splits.slice_split_first, lemmas.List.Splits.slice_split_none}
 use Rattle.base_text.specs.Bytes.{is_blank, is_bad, has_bad_byte, physical_lines, run_of, words_of}
 
 abbrev is_feed : ℕ → Bool

@@ -4,3 +4,4 @@ pub mod WrittenLemmas
 pub mod LinesLemmas
 -- For the proofs of this crate alone.
 mod BytesLemmas
+mod Vocabulary

@@ -1,14 +1,8 @@
 -- Numerals and their values.
 use Rattle.std.proofs.Common.{◌≡◌, ℕ, zero, suc, ◌+◌, ◌-◌, ◌*◌, ◌^◌, ◌<◌, ◌≤◌, ◌/◌, ◌%◌, ◌++◌, true, List, [], ◌∷◌, Option, Some, None, length, get_or, sym, ap, ◌∙◌, subst, arith, rules, drop, append_assoc, length-append, inl, inr, MatchOption, IfSome, IfNone}
-use Rattle.std.specs.Str.{all_ascii_digits}
-use Rattle.std.specs.Fmt.{decimal}
-use Rattle.std.proofs.Math.Seq.{drop-cons}
-use Rattle.std.proofs.lemmas.Bool.{cases_lt}
-use Rattle.std.proofs.Math.ListN.{set}
-use Rattle.std.proofs.lemmas.List.{drop-set, drop_all, append-nil}
+use Rattle.base_text.proofs.Vocabulary.{all_ascii_digits, decimal, cases_lt, set, drop-set, drop_all, append-nil, read_on, IsPlain}
+use Rattle.std.proofs.{Math.Seq.drop-cons, lemmas.Str.Parse.IsNumeralModel, lemmas.Str.Parse.numerals_by_fold}
 use Rattle.std.proofs.lemmas.Fmt.{decimal_nonempty, first_decimal, decimal_digit, decimal_step, length-decimal-le, digits_decimal, digits_value-decimal, decimal-digits_value}
-use Rattle.std.proofs.lemmas.Str.Parse.{IsNumeralModel, numerals_by_fold}
-use Rattle.base_text.specs.Number.{read_on, IsPlain}
 
 pub own : IsNumeralModel (λ ds. all_ascii_digits ds ≡ true) (read_on 0)
 own = numerals_by_fold _ (search rules) read_on (search rules)

@@ -1,15 +1,9 @@
 -- Written lines are read back.
 use Rattle.std.proofs.Common.{◌≡◌, ℕ, zero, suc, ◌+◌, ◌<◌, ◌≤◌, ◌==◌, Bool, true, false, not, ◌&&◌, ◌||◌, cond, nat_lt, List, [], ◌∷◌, ◌++◌, length, map, filter, refl, sym, ap, ◌∙◌, arith, append_assoc, take_all, ◌^◌}
-use Rattle.std.specs.List.{flat_map, list_all, list_any, All, position_or_len}
-use Rattle.std.proofs.lemmas.Bool.{and_parts, and_from, lt-ltb}
+use Rattle.std.specs.{List.flat_map, List.list_all, List.list_any, List.All, List.position_or_len, Char.is_ascii_digit}
+use Rattle.base_text.proofs.Vocabulary.{and_parts, and_from, lt-ltb, append-nil, decimal, all_ascii_digits}
 use Rattle.std.proofs.lemmas.Bool.Decides.{nat_tests}
-use Rattle.std.proofs.lemmas.List.{append-nil}
-use Rattle.std.proofs.lemmas.List.Folds.{list_all-append}
-use Rattle.std.proofs.lemmas.List.Splits.{slice_split_none}
-use Rattle.std.specs.Char.{is_ascii_digit}
-use Rattle.std.specs.Fmt.{decimal}
-use Rattle.std.specs.Str.{all_ascii_digits}
-use Rattle.std.proofs.lemmas.Fmt.{decimal_nonempty, digits_decimal}
+use Rattle.std.proofs.lemmas.{List.Folds.list_all-append, List.Splits.slice_split_none, Fmt.decimal_nonempty, Fmt.digits_decimal}
 use Rattle.base_text.proofs.NumberLemmas.{own}
 use Rattle.base_text.specs.Vocabulary.{is_blank, is_bad, has_bad_byte, physical_lines, uncommented, words_of, LogicalLine, texts_of, line_of, with_words, lines_from, spaced, written, is_graphic, IsWord, AreRows, numbered}
 use Rattle.base_text.proofs.LinesLemmas.{words-append}

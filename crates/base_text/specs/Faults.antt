@@ -1,7 +1,6 @@
 -- What a fault says of the lines that are left.
 use Rattle.std.specs.Prelude.{◌≡◌, true, false, Option, None, Some, List, [], ◌∷◌, ◌<◌, length}
-use Rattle.base_text.specs.declared.lines.LineFault.{LineFault}
-use Rattle.base_text.specs.declared.lines.LineFault.TheVariants.{BadByte, Memory}
+use Rattle.base_text.specs.declared.lines.LineFault.{LineFault, TheVariants.BadByte, TheVariants.Memory}
 use Rattle.base_text.specs.Lines.{LogicalLine, is_bad_line}
 
 -- the first of the lines has a bad byte, and this number; of a lack of memory nothing is said

@@ -1,6 +1,5 @@
 -- What is tried for each number below a bound.
-use Rattle.std.proofs.Common.{◌≡◌, ℕ, zero, suc, ◌<◌, Bool, true, false, cond, refl, arith}
-use Rattle.std.proofs.lemmas.Bool.{false≢true}
+use Rattle.cmd_bench.proofs.Vocabulary.{◌≡◌, ℕ, zero, suc, ◌<◌, Bool, true, false, cond, refl, arith, false≢true}
 
 abbrev pub tried : (ℕ → Bool) → ℕ → Bool
 tried p zero = true

@@ -1,17 +1,10 @@
 -- What the command `bench` comes to.
-use Rattle.std.proofs.Common.{◌≡◌, ℕ, [], refl, sym, subst}
-use Rattle.machine_shape.specs.declared.Shape.{Shape}
-use Rattle.machine_meaning.specs.Vocabulary.{Faults, Defects, IsFair}
-use Rattle.design_netlist.specs.declared.netlist_data.NetlistData.{NetlistData}
+use Rattle.cmd_bench.proofs.Vocabulary.{◌≡◌, ℕ, [], refl, sym, subst, Shape, Faults, Defects, IsFair, NetlistData, IsDesign, bench_draft}
 use Rattle.design_netlist.specs.Checks.{IsChecked}
-use Rattle.map_network.specs.declared.network.Network.{Network}
-use Rattle.map_network.specs.Vocabulary.{IsNetwork, plain_network}
-use Rattle.place_plan.specs.declared.short.Short.{Short}
-use Rattle.place_plan.specs.Vocabulary.{IsShortInOrder, HasSoundParts}
-use Rattle.design_blif.specs.Designs.{IsDesign}
+use Rattle.map_network.specs.{declared.network.Network.Network, Vocabulary.IsNetwork, Vocabulary.plain_network}
+use Rattle.place_plan.specs.{declared.short.Short.Short, Vocabulary.IsShortInOrder, Vocabulary.HasSoundParts}
 use Rattle.machine_bench.specs.Work as work
 use Rattle.machine_bench.specs.Faults.{AreBenchFaults}
-use Rattle.cmd_bench.specs.Design.{bench_draft}
 use Rattle.cmd_steps.specs.Vocabulary.{ShortPlace, Around, IsLawful, IsExcused}
 use Rattle.cmd_steps.specs.declared.refusal.Refusal.{Refusal}
 use Rattle.cmd_steps.specs.declared.refusal.Refusal.TheVariants as refused

@@ -1,9 +1,7 @@
 -- The generated design's netlist is sound.
 use Rattle.std.proofs.Common.{◌≡◌, ◌∙◌, ℕ, zero, suc, ◌<◌, ◌-◌, ◌==◌, nat_lt, true, [], length, slice_index_or, refl, sym, ap, arith, if◌then◌else◌}
-use Rattle.std.specs.List.{Contains}
-use Rattle.std.proofs.lemmas.Bool.{eqb-true, ltb-true}
+use Rattle.cmd_bench.proofs.Vocabulary.{Contains, eqb-true, ltb-true, bench_cover, bench_draft}
 use Rattle.design_netlist.specs.Vocabulary.{cover_at, IsCoverOver, IsOnCycle, drive_words, reads_of, signal_at, IsDriven, IsWellMade, IsChecked}
-use Rattle.cmd_bench.specs.Design.{bench_cover, bench_draft}
 use Rattle.cmd_bench.proofs.Below.{each_below}
 
 abbrev driven_at : ℕ → ℕ

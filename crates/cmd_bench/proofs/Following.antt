@@ -1,11 +1,8 @@
 -- How `bench` begins: a machine is made, and attached under the name of the number.
-use Rattle.std.proofs.Common.{◌≡◌, ℕ, List, [], refl, subst, inl, Result, Ok, Err}
-use Rattle.machine_shape.specs.declared.Shape.{Shape}
+use Rattle.cmd_bench.proofs.Vocabulary.{◌≡◌, ℕ, List, [], refl, subst, inl, Result, Ok, Err, Shape, Stop}
 use Rattle.machine_bench.specs.Work as work
 use Rattle.cmd_steps.specs.Vocabulary.{Outside, around, Does, Took, Follows, attaches, MayAsk}
-use Rattle.cmd_steps.specs.declared.refusal.Refusal.TheVariants.{Memory}
-use Rattle.cmd_steps.specs.declared.refusal.Stop.{Stop}
-use Rattle.cmd_steps.specs.declared.refusal.Stop.TheVariants.{Refused}
+use Rattle.cmd_steps.specs.declared.refusal.{Refusal.TheVariants.Memory, Stop.TheVariants.Refused}
 use Rattle.cmd_steps.proofs.Machines.{named}
 use Rattle.cmd_steps.proofs.Taking.{took-nothing, took-value, step-stops, step-gives, attach-gives, asks-machine}
 use Rattle.cmd_bench.specs.Bench.{makes_shape, generated_name, bench_machine, machine_attached, design_made, bench_job}

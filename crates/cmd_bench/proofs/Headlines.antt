@@ -1,22 +1,13 @@
 -- What a `bench` that is done has done, from its course.
 use Rattle.std.proofs.Common.{◌≡◌, ◌∙◌, ℕ, ◌-◌, Bool, List, ◌++◌, length, Some, sym, ap, subst, inl, inr, append-nil, Result, Ok, Err, OnOk}
-use Rattle.std.specs.List.{All, range_with_len}
+use Rattle.cmd_bench.proofs.Vocabulary.{All, range_with_len, Shape, Faults, Covers, NetlistData, plain_network, nets_in, explained-run}
+use Rattle.cmd_bench.proofs.Vocabulary.{bench_draft, Outside, around, ends, IsWritten, Stop}
 use Rattle.std.proofs.lemmas.List.Elements.{All-map}
 use Rattle.base_io.specs.Sink.{Wrote}
-use Rattle.machine_shape.specs.declared.Shape.{Shape}
-use Rattle.machine_meaning.specs.Vocabulary.{Faults, Covers}
-use Rattle.design_netlist.specs.declared.netlist_data.NetlistData.{NetlistData}
-use Rattle.map_network.specs.Plain.{plain_network}
-use Rattle.place_plan.specs.Plans.{nets_in}
 use Rattle.place_route.specs.RightImages.{IsRightImage}
 use Rattle.rig.specs.Rig.{Explains, cycles_of, readings_of}
-use Rattle.run_image.proofs.Driving.{explained-run}
-use Rattle.cmd_bench.specs.Design.{bench_draft}
-use Rattle.cmd_steps.specs.Vocabulary.{Outside, around, ends, IsWritten}
-use Rattle.cmd_steps.specs.declared.refusal.Stop.{Stop}
-use Rattle.cmd_bench.specs.Summary.{summary_text}
+use Rattle.cmd_bench.specs.{Summary.summary_text, Headline.IsBenched}
 use Rattle.cmd_bench.specs.Bench.{bench_rows, bench_course, bench_summary, bench_vector, bench_vectors}
-use Rattle.cmd_bench.specs.Headline.{IsBenched}
 use Rattle.cmd_bench.proofs.BenchLaws.{IsOnly}
 
 -- each vector has one bit

@@ -11,3 +11,4 @@ mod Checked
 mod Parts
 mod RunLemmas
 mod Following
+mod Vocabulary

@@ -1,10 +1,7 @@
 -- The netlist of the generated design's one model.
-use Rattle.std.proofs.Common.{◌≡◌, false, List, [], ◌∷◌, length, refl, arith}
-use Rattle.std.specs.Fmt.{digits}
-use Rattle.design_flatten.specs.declared.model.Model.{Model}
+use Rattle.cmd_bench.proofs.Vocabulary.{◌≡◌, false, List, [], ◌∷◌, length, refl, arith, digits, Model, bench_draft}
 use Rattle.design_flatten.specs.declared.model.Signal.{Signal}
 use Rattle.design_flatten.specs.Vocabulary.{Line, after, is_left, is_over, uses_of, KeepsRules, controls_of, IsReadFrom, IsNetlistOf}
-use Rattle.cmd_bench.specs.Design.{bench_draft}
 use Rattle.cmd_bench.proofs.Text.{bench_model}
 
 abbrev models : List Model

@@ -1,16 +1,10 @@
 -- What generated faults leave sound of the generated machine.
 use Rattle.std.proofs.Common.{◌≡◌, ◌≢◌, ◌∙◌, ℕ, zero, suc, ◌+◌, ◌*◌, ◌/◌, ◌%◌, ◌<◌, ◌==◌, nat_lt, true, map, length, get_or, refl, sym, ap, subst, arith}
-use Rattle.std.specs.List.{range_with_len}
-use Rattle.std.proofs.lemmas.Bool.{eqb-true, ltb-true}
-use Rattle.std.proofs.lemmas.List.FromFn.{get_or-map-range_with_len, length-map-range_with_len}
-use Rattle.machine_shape.specs.declared.Shape.{Shape}
+use Rattle.cmd_bench.proofs.Vocabulary.{range_with_len, eqb-true, ltb-true, get_or-map-range_with_len, length-map-range_with_len, Shape}
+use Rattle.cmd_bench.proofs.Vocabulary.{Faults, IsServed, plain_network, covers_tables, cover_tables, bench_counts, bench_draft}
 use Rattle.machine_shape.specs.Vocabulary.{levels_from, Levels, size, place_in, rest, nodes_in, tables_in, lines_in, ports_in, levels_of, nodes_of, tables_of, pins_of, lines_of, ports_of, own_ports_of, way_to, line_at, port_at, HasSites}
-use Rattle.machine_meaning.specs.Vocabulary.{Faults, IsServed}
-use Rattle.map_network.specs.Plain.{plain_network, covers_tables, cover_tables}
 use Rattle.place_plan.specs.Vocabulary.{nets_in, AtLeast, HasSoundParts, IsSoundTableOf, IsSoundPinOf, IsWholeLineOf, IsSoundPort}
-use Rattle.machine_bench.specs.Work.{bench_counts}
 use Rattle.machine_bench.specs.Left.{LeavesSound}
-use Rattle.cmd_bench.specs.Design.{bench_draft}
 use Rattle.cmd_bench.proofs.Below.{each_below}
 
 -- ---- the network

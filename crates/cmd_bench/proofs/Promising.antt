@@ -1,12 +1,7 @@
 -- The promises of a `bench`, from how it ended.
 use Rattle.std.proofs.Common.{◌≡◌, ℕ, ◌<◌, ◌^◌, List, [], ◌∷◌, length, codes}
-use Rattle.std.specs.Fmt.{decimal}
-use Rattle.map_network.specs.Plain.{plain_network}
-use Rattle.place_plan.specs.Plans.{nets_in}
-use Rattle.cmd_bench.specs.Design.{bench_draft}
-use Rattle.cmd_steps.specs.Outside.{Outside}
+use Rattle.cmd_bench.proofs.Vocabulary.{decimal, plain_network, nets_in, bench_draft, Outside, bench_job}
 use Rattle.cmd_steps.proofs.Done.{EndedAs, done-as}
-use Rattle.cmd_bench.specs.Bench.{bench_job}
 use Rattle.cmd_bench.specs.Promises.{BenchPromises}
 use Rattle.cmd_bench.proofs.BenchLaws.{IsOnly}
 use Rattle.cmd_bench.proofs.Headlines.{benched}

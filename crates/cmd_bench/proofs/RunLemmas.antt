@@ -1,19 +1,14 @@
 -- How the rows of generated work go on, and how they end.
 use Rattle.std.proofs.Common.{◌≡◌, ℕ, ◌+◌, ◌*◌, ◌<◌, ◌≤◌, Bool, List, [], ◌∷◌, ◌++◌, length, Some, option_map, arith, sym, ap, ◌∙◌, inl, inr, length-append, Ok, Err}
 use Rattle.std.proofs.lemmas.List.Sums.{sum_by-append}
-use Rattle.std.proofs.lemmas.List.FromFn.{map-range_with_len_more}
+use Rattle.cmd_bench.proofs.Vocabulary.{map-range_with_len_more, Rows, pins_in, HasDriven, driven-more, outside, stop_of_rig, Took}
+use Rattle.cmd_bench.proofs.Vocabulary.{rig-took, rig-stopped, RunsOnes, bench_rows, bench_vector, first_vectors, ones_in, ones_of, runs}
 use Rattle.base_io.specs.Vocabulary.{next_count, StoreState, SinkState}
 use Rattle.machine_shape.specs.Shape.{pins_of}
 use Rattle.machine_config.specs.Configuration.{Configuration}
-use Rattle.rig.specs.Rig.{RigState, LoadFails, CycleFails, Narrows, Tells, width_of}
-use Rattle.rig.specs.declared.rig.RigFail.{RigFail}
+use Rattle.rig.specs.{Rig.RigState, Rig.LoadFails, Rig.CycleFails, Rig.Narrows, Rig.Tells, Rig.width_of, declared.rig.RigFail.RigFail}
 use Rattle.rig.specs.declared.rig.RigFail.TheVariants.{Failed, Memory}
 use Rattle.machine_image.specs.Images.{ImageValue}
-use Rattle.run_image.specs.Pins.{Rows, pins_in}
-use Rattle.run_image.proofs.Driving.{HasDriven, driven-more}
-use Rattle.cmd_steps.specs.Vocabulary.{outside, stop_of_rig, Took}
-use Rattle.cmd_steps.proofs.Making.{rig-took, rig-stopped}
-use Rattle.cmd_bench.specs.Bench.{RunsOnes, bench_rows, bench_vector, first_vectors, ones_in, ones_of, runs}
 
 -- so many vectors were driven
 pub record IsRunning (n : ℕ) (i : ImageValue) (rig0 rig : RigState) (k ones : ℕ) : Type 0 where

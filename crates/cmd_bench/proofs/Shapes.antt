@@ -1,14 +1,10 @@
 -- The generator's counts make a shape.
-use Rattle.std.proofs.Common.{◌≡◌, ℕ, zero, suc, ◌<◌, slice_index_or, arith}
-use Rattle.machine_shape.specs.declared.Counts.{Counts}
-use Rattle.machine_shape.specs.declared.Field.{Field}
+use Rattle.cmd_bench.proofs.Vocabulary.{◌≡◌, ℕ, zero, suc, ◌<◌, slice_index_or, arith, Counts, bench_counts}
+use Rattle.machine_shape.specs.declared.{Field.Field, LimitedCount.LimitedCount, ShapeFault.TheVariants.Zero, ShapeFault.TheVariants.Limit}
 use Rattle.machine_shape.specs.declared.Field.TheVariants.{Modules, Chips, Hextants, Tables, Ports, Lines, Pins}
-use Rattle.machine_shape.specs.declared.LimitedCount.{LimitedCount}
 use Rattle.machine_shape.specs.declared.LimitedCount.TheVariants as which
 use Rattle.machine_shape.specs.declared.ShapeFault.{ShapeFault}
-use Rattle.machine_shape.specs.declared.ShapeFault.TheVariants.{Zero, Limit}
 use Rattle.machine_shape.specs.Vocabulary.{levels_from, HasZero, IsSmallFault, amount_of, most_of_small}
-use Rattle.machine_bench.specs.Work.{bench_counts}
 
 no_port : (k : ℕ) → k < 3 → slice_index_or bench_counts.ports k 0 ≡ 0 → ⊥
 no_port zero less e = omega (arith, e)

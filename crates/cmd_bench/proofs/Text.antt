@@ -1,17 +1,12 @@
 -- The text of the generated design is that of its netlist.
 use Rattle.std.proofs.Common.{◌≡◌, ◌≤◌, true, [], ◌∷◌, map, length, None, refl, arith, codes}
-use Rattle.std.specs.Fmt.{digits}
+use Rattle.cmd_bench.proofs.Vocabulary.{digits, Model, bench_design, bench_names, bench_cover, bench_latches, bench_draft}
 use Rattle.base_text.specs.Vocabulary.{logical_lines, texts_of, physical_lines}
 use Rattle.design_netlist.specs.declared.netlist_data.LatchDef.{LatchDef}
-use Rattle.design_flatten.specs.declared.model.Model.{Model}
-use Rattle.design_flatten.specs.declared.model.Piece.{Piece}
-use Rattle.design_flatten.specs.declared.model.Piece.TheVariants.{Names, Latch}
-use Rattle.design_blif.specs.Grammar.{AreModels, is_some_model, models_of, spelled_model}
-use Rattle.design_blif.specs.Heads.{head_of}
+use Rattle.design_flatten.specs.declared.model.Piece.{Piece, TheVariants.Names, TheVariants.Latch}
+use Rattle.design_blif.specs.{Grammar.AreModels, Grammar.is_some_model, Grammar.models_of, Grammar.spelled_model, Heads.head_of}
 use Rattle.design_blif.specs.Faults.{latch_parts_fault, first_fault}
 use Rattle.design_blif.proofs.RightLemmas.{right_lines}
-use Rattle.machine_bench.specs.Work.{bench_design}
-use Rattle.cmd_bench.specs.Design.{bench_names, bench_cover, bench_latches, bench_draft}
 
 abbrev pub latch_piece : LatchDef → Piece
 latch_piece l = Latch l None

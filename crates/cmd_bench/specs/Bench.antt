@@ -1,7 +1,6 @@
 -- What the command `bench` is.
 use Rattle.std.specs.Prelude.{◌≡◌, ℕ, ◌-◌, ◌%◌, ◌==◌, ◌≤◌, Bool, if◌then◌else◌, List, [], ◌∷◌, map, length, sum_by, Some}
-use Rattle.std.specs.List.{range_with_len}
-use Rattle.std.specs.Fmt.{decimal}
+use Rattle.std.specs.{List.range_with_len, Fmt.decimal}
 use Rattle.base_io.specs.Counts.{next_count}
 use Rattle.machine_shape.specs.declared.Shape.{Shape}
 use Rattle.machine_meaning.specs.Faults.{Faults}
@@ -11,8 +10,7 @@ use Rattle.map_network.specs.Plain.{plain_network}
 use Rattle.place_plan.specs.Plans.{nets_in}
 use Rattle.machine_image.specs.Images.{ImageValue, drive_of, image_row}
 use Rattle.rig.specs.Rig.{RigState, Explains, Asked, config_of, cycles_of, drives_of, readings_of}
-use Rattle.run_image.specs.Pins.{Rows}
-use Rattle.run_image.specs.Run.{RunsRow}
+use Rattle.run_image.specs.{Pins.Rows, Run.RunsRow}
 use Rattle.machine_bench.specs.Work as work
 use Rattle.machine_bench.specs.Faults.{AreBenchFaults}
 use Rattle.cmd_steps.specs.Vocabulary.{Around, Course, Step, after, write, done, attaches, AsksMachine, LoadsOnce, Job}

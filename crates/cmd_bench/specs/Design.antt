@@ -1,12 +1,8 @@
 -- The netlist of the generated design.
 use Rattle.std.specs.Prelude.{ℕ, ◌+◌, false, List, [], ◌∷◌, ◌++◌, map, codes}
-use Rattle.std.specs.List.{range_with_len}
-use Rattle.std.specs.Fmt.{decimal}
-use Rattle.design_netlist.specs.declared.netlist_data.NetlistData.{NetlistData}
-use Rattle.design_netlist.specs.declared.netlist_data.Cover.{Cover}
-use Rattle.design_netlist.specs.declared.netlist_data.LatchDef.{LatchDef}
-use Rattle.design_netlist.specs.declared.netlist_data.Lit.TheVariants.{Zero, One}
-use Rattle.design_netlist.specs.Drafts.{word}
+use Rattle.std.specs.{List.range_with_len, Fmt.decimal}
+use Rattle.design_netlist.specs.declared.netlist_data.{NetlistData.NetlistData, Cover.Cover, Lit.TheVariants.Zero, Lit.TheVariants.One}
+use Rattle.design_netlist.specs.{declared.netlist_data.LatchDef.LatchDef, Drafts.word}
 
 -- the input, what it and the last latch give together, the last latch, and the other latches in their order
 abbrev pub bench_names : List (List ℕ)

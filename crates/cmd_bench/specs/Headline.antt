@@ -3,8 +3,7 @@ use Rattle.std.specs.Prelude.{◌≡◌, ℕ, ◌-◌, map, length, Some}
 use Rattle.base_io.specs.Vocabulary.{next_count, Wrote}
 use Rattle.machine_shape.specs.declared.Shape.{Shape}
 use Rattle.machine_meaning.specs.Faults.{Faults}
-use Rattle.design_netlist.specs.declared.netlist_data.NetlistData.{NetlistData}
-use Rattle.design_netlist.specs.Rows.{AreRows}
+use Rattle.design_netlist.specs.{declared.netlist_data.NetlistData.NetlistData, Rows.AreRows}
 use Rattle.design_blif.specs.Designs.{IsDesign}
 use Rattle.machine_image.specs.Images.{ImageValue, IsImage, drive_of, image_row}
 use Rattle.place_route.specs.RightImages.{IsRightImage}
@@ -13,8 +12,7 @@ use Rattle.machine_bench.specs.Work as work
 use Rattle.cmd_steps.specs.Outside.{Outside}
 use Rattle.diag_list.specs.Lists.{Listed, IsListed}
 use Rattle.place_design.specs.Laying.{IsRoutedDesign}
-use Rattle.cmd_bench.specs.Summary.{summary_text}
-use Rattle.cmd_bench.specs.Bench.{bench_machine, bench_vectors, ones_of}
+use Rattle.cmd_bench.specs.{Summary.summary_text, Bench.bench_machine, Bench.bench_vectors, Bench.ones_of}
 
 -- Of the rig's one session: its configuration, with one input pin and two output pins, is `image`
 pub record IsBenched (n : ℕ) (old new : Outside) : Type 0 where

@@ -1,15 +1,11 @@
 -- What the command `check` comes to.
-use Rattle.std.proofs.Common.{ℕ, Bool, true, false, List, [], ◌∷◌}
-use Rattle.machine_image.specs.Images.{ImageValue}
-use Rattle.cmd_steps.specs.Vocabulary.{Around, Course, IsLawful, IsExcused}
+use Rattle.cmd_check.proofs.Vocabulary.{ℕ, Bool, true, false, List, [], ◌∷◌, ImageValue, Around, Course, IsLawful, IsExcused, Answer, Sound}
 use Rattle.cmd_steps.specs.declared.refusal.Refusal.{Refusal}
 use Rattle.cmd_steps.specs.declared.refusal.Refusal.TheVariants as refused
 use Rattle.cmd_steps.proofs.Excused.{image-excused, rig-excused}
 use Rattle.cmd_steps.proofs.QuietJobs.{quiet-lawful, machine-well}
 use Rattle.cmd_steps.proofs.Well.{IsWell, well-after, well-write, well-done}
 use Rattle.cmd_check.specs.Check.{Lacks, answer_written, by_test, check_course, CheckRight, check_files, check_job}
-use Rattle.cmd_check.specs.declared.answer.Answer.{Answer}
-use Rattle.cmd_check.specs.declared.answer.Answer.TheVariants.{Sound}
 
 module _ (machine name image : List ℕ) (old new : Around) where
   lack-excused : (refusal : Refusal) → Lacks refusal → IsExcused refusal old new

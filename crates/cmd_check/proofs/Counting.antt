@@ -1,13 +1,9 @@
 -- How many wires are marked that are all parts in a list.
 use Rattle.std.proofs.Common.{◌≡◌, ◌∙◌, ◌⊎◌, ℕ, zero, suc, ◌+◌, ◌<◌, ◌≤◌, Bool, true, false, cond, List, [], ◌∷◌, length, refl, sym, ap, inl, inr, arith, Contains}
-use Rattle.std.proofs.Math.ListN.{set}
-use Rattle.std.proofs.lemmas.Bool.{cases_eq, false≢true}
-use Rattle.std.proofs.lemmas.List.{get_or-set_same, get_or-set_other}
-use Rattle.std.proofs.lemmas.List.Sums.{sum_by-cons}
-use Rattle.base_bits.specs.Numbers.{has_number, size_of}
+use Rattle.std.proofs.{Math.ListN.set, lemmas.List.get_or-set_same, lemmas.List.get_or-set_other, lemmas.List.Sums.sum_by-cons}
+use Rattle.cmd_check.proofs.Vocabulary.{cases_eq, false≢true, has_number, size_of, Part, WirePart, CrossPart, TablePart}
 use Rattle.base_bits.proofs.NumbersLemmas.{size_of-taken}
 use Rattle.diag_known.proofs.Getting.{marked_within}
-use Rattle.machine_image.specs.Vocabulary.{Part, WirePart, CrossPart, TablePart}
 
 none-marked : (marks : List Bool) → ((n : ℕ) → has_number marks n ≡ true → ⊥) → size_of marks ≡ 0
 none-marked [] none = refl

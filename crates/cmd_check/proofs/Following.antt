@@ -1,16 +1,9 @@
 -- How the steps of `check` follow one another, over plain states.
-use Rattle.std.proofs.Common.{◌≡◌, ℕ, Bool, IsTrue, List, [], refl, subst, Result, Ok}
-use Rattle.base_io.specs.Store.{StoreState}
-use Rattle.machine_meaning.specs.Faults.{Faults}
-use Rattle.machine_image.specs.Images.{ImageValue}
-use Rattle.rig.specs.Rig.{RigState, Explains, ForEach}
+use Rattle.cmd_check.proofs.Vocabulary.{◌≡◌, ℕ, Bool, IsTrue, List, [], refl, subst, Result, Ok, StoreState, Faults, ImageValue, RigState}
+use Rattle.cmd_check.proofs.Vocabulary.{Explains, ForEach, Outside, Took, Follows, kept-gives, tests_now, image_tried, image_tested}
 use Rattle.diag_check.specs.Soundly.{FewIf, IsUnharmed, IsSoundUnder, SoundIf, StandsBySurroundings, TakesForParts, YesIf}
-use Rattle.cmd_steps.specs.Vocabulary.{Outside, Took, Follows}
 use Rattle.cmd_steps.specs.declared.refusal.Stop.{Stop}
-use Rattle.cmd_steps.proofs.Keeping.{kept-gives}
 use Rattle.cmd_steps.proofs.Logs.{narrows_by}
-use Rattle.cmd_check.specs.Testing.{tests_now}
-use Rattle.cmd_check.specs.Check.{image_tried, image_tested}
 
 -- ---- what is said of each set that explains what was read
 

@@ -1,20 +1,12 @@
 -- What a `check` that is done has done, from its course.
 use Rattle.std.proofs.Common.{◌≡◌, ◌∙◌, ℕ, Bool, true, false, List, [], ◌∷◌, ◌++◌, Some, refl, sym, ap, subst, inl, inr}
-use Rattle.std.proofs.lemmas.Bool.{false≢true}
-use Rattle.base_io.specs.Sink.{Wrote}
-use Rattle.machine_shape.specs.declared.Shape.{Shape}
-use Rattle.machine_meaning.specs.Vocabulary.{Faults, Covers, IsTight}
-use Rattle.machine_image.specs.Images.{ImageValue}
-use Rattle.rig.specs.Rig.{Explains}
+use Rattle.cmd_check.proofs.Vocabulary.{false≢true, Wrote, Shape, Faults, Covers, IsTight, ImageValue, Explains, Outside, around, ends}
+use Rattle.cmd_check.proofs.Vocabulary.{reads_machine, reads_image, Tried, IsTried, Answer, Sound}
 use Rattle.diag_check.specs.Soundly.{IsUnharmed, StandsBySurroundings, TakesForParts, TakesForWays}
-use Rattle.cmd_steps.specs.Vocabulary.{Outside, around, ends, reads_machine, reads_image}
 use Rattle.cmd_steps.proofs.QuietJobs.{line-ended}
 use Rattle.cmd_check.specs.Answers.{IsTrueUnder, answer_line}
-use Rattle.cmd_check.specs.Testing.{Tried, IsTried}
 use Rattle.cmd_check.specs.Check.{StandsLoaded, answer_written, machine_listed, by_test, check_course}
 use Rattle.cmd_check.specs.Headline.{IsFound, tested, listed, IsChecked}
-use Rattle.cmd_check.specs.declared.answer.Answer.{Answer}
-use Rattle.cmd_check.specs.declared.answer.Answer.TheVariants.{Sound}
 
 module _ (machine name image : List ℕ) (old new : Outside) (text : List ℕ)
     (asked : new.store.asked ≡ old.store.asked ++ machine ∷ image ∷ []) (wrote : Wrote old.sink.written new.sink.written text)

@@ -6,3 +6,4 @@ mod CheckLaws
 mod Following
 mod Counting
 mod Settling
+mod Vocabulary

@@ -1,8 +1,6 @@
 -- The promises of a `check`, from how it ended.
-use Rattle.std.proofs.Common.{◌≡◌, ℕ, List}
-use Rattle.cmd_steps.specs.Outside.{Outside}
+use Rattle.cmd_check.proofs.Vocabulary.{◌≡◌, ℕ, List, Outside, check_job}
 use Rattle.cmd_steps.proofs.Done.{EndedAs, done-as}
-use Rattle.cmd_check.specs.Check.{check_job}
 use Rattle.cmd_check.specs.Promises.{check_words, CheckPromises}
 use Rattle.cmd_check.proofs.Headlines.{checked}
 

@@ -1,18 +1,11 @@
 -- What stays of a test while the session of the last of what it did ends.
 use Rattle.std.proofs.Common.{◌≡◌, ◌∙◌, ℕ, ◌+◌, ◌*◌, ◌-◌, ◌<◌, ◌≤◌, Bool, List, length, [], refl, arith, Ok, Err}
-use Rattle.base_io.specs.Vocabulary.{StoreState, SinkState}
-use Rattle.base_bits.specs.Numbers.{size_of}
-use Rattle.machine_image.specs.Vocabulary.{ImageValue, Part, WirePart}
-use Rattle.rig.specs.Rig.{RigState, LoadFails}
+use Rattle.cmd_check.proofs.Vocabulary.{StoreState, SinkState, size_of, ImageValue, Part, WirePart, RigState, LoadFails, outside, IsLater}
+use Rattle.cmd_check.proofs.Vocabulary.{StepStops, stop_of_rig, Took, took-quietly, stopped-quietly, later-later, Settles, one-more}
+use Rattle.cmd_check.proofs.Vocabulary.{settled-counted, settled-later, HasTestLeft, IsTried, tests_now}
 use Rattle.rig.specs.declared.rig.RigFail.{RigFail}
 use Rattle.rig.specs.declared.rig.RigFail.TheVariants as work
-use Rattle.diag_check.specs.Soundly.{AreAllOf, TakesForParts, TakesForWays}
-use Rattle.diag_check.specs.Used.{AreUsed}
-use Rattle.cmd_steps.specs.Vocabulary.{outside, IsLater, StepStops, stop_of_rig, Took}
-use Rattle.cmd_steps.proofs.Making.{took-quietly, stopped-quietly}
-use Rattle.cmd_steps.proofs.Taking.{later-later}
-use Rattle.diag_settled.proofs.Settling.{Settles, one-more, settled-counted, settled-later}
-use Rattle.cmd_check.specs.Testing.{HasTestLeft, IsTried, tests_now}
+use Rattle.diag_check.specs.{Soundly.AreAllOf, Soundly.TakesForParts, Soundly.TakesForWays, Used.AreUsed}
 use Rattle.cmd_check.proofs.Counting.{wires-fit}
 
 -- the used wires are parts

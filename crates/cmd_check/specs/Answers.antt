@@ -10,8 +10,7 @@ use Rattle.machine_config.specs.Configuration.{is_closed, setting_of}
 use Rattle.machine_image.specs.Vocabulary.{ImageValue, IsFreeImage, Uses}
 use Rattle.diag_check.specs.Soundly.{IsSoundUnder}
 use Rattle.cmd_steps.specs.Lines.{as_line}
-use Rattle.cmd_check.specs.declared.answer.Answer.{Answer}
-use Rattle.cmd_check.specs.declared.answer.Answer.TheVariants.{Sound, Wire, Cross, Table}
+use Rattle.cmd_check.specs.declared.answer.Answer.{Answer, TheVariants.Sound, TheVariants.Wire, TheVariants.Cross, TheVariants.Table}
 
 -- ---- by a list
 

@@ -11,10 +11,8 @@ use Rattle.cmd_steps.specs.Vocabulary.{IsRightFile, reads_machine, reads_image, 
 use Rattle.cmd_steps.specs.declared.refusal.Refusal.{Refusal}
 use Rattle.cmd_steps.specs.declared.refusal.Refusal.TheVariants as refused
 use Rattle.diag_list.specs.Lists.{Listed, lists}
-use Rattle.cmd_check.specs.Answers.{IsAnswer, answer_line}
-use Rattle.cmd_check.specs.Testing.{Tried, tests}
+use Rattle.cmd_check.specs.{Answers.IsAnswer, Answers.answer_line, Testing.Tried, Testing.tests, declared.answer.Answer.TheVariants.Sound}
 use Rattle.cmd_check.specs.declared.answer.Answer.{Answer}
-use Rattle.cmd_check.specs.declared.answer.Answer.TheVariants.{Sound}
 
 -- ---- the steps
 

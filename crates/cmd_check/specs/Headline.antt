@@ -8,10 +8,8 @@ use Rattle.rig.specs.Rig.{RigState, Explains}
 use Rattle.diag_check.specs.Soundly.{IsUnharmed, StandsBySurroundings, TakesForParts, TakesForWays}
 use Rattle.cmd_steps.specs.Vocabulary.{Outside, IsMachineText}
 use Rattle.diag_list.specs.Lists.{Listed, IsListed}
-use Rattle.cmd_check.specs.Answers.{IsByList, IsTrueUnder, answer_line}
-use Rattle.cmd_check.specs.Testing.{Tried, IsTried}
-use Rattle.cmd_check.specs.declared.answer.Answer.{Answer}
-use Rattle.cmd_check.specs.declared.answer.Answer.TheVariants.{Sound}
+use Rattle.cmd_check.specs.{Answers.IsByList, Answers.IsTrueUnder, Answers.answer_line, Testing.Tried, Testing.IsTried}
+use Rattle.cmd_check.specs.declared.answer.Answer.{Answer, TheVariants.Sound}
 
 -- How the answer came: the image was tested and found sound; or it wasn't, the machine's defects were listed, and the list says so. No
 -- load was made but for this

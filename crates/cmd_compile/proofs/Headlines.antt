@@ -4,8 +4,7 @@ use Rattle.base_io.specs.Vocabulary.{IfTold, Wrote}
 use Rattle.machine_shape.specs.declared.Shape.{Shape}
 use Rattle.machine_image.specs.Images.{image_bytes}
 use Rattle.cmd_steps.specs.Vocabulary.{Outside, ends, IsMachineText, IsDefectsText}
-use Rattle.cmd_compile.specs.Compile.{compile_course}
-use Rattle.cmd_compile.specs.Headline.{IsCompiled}
+use Rattle.cmd_compile.specs.{Compile.compile_course, Headline.IsCompiled}
 
 module _ (machine defects design : List ℕ) (old new : Outside) where
   pub compiled : (text : List ℕ) → new.store.asked ≡ old.store.asked ++ machine ∷ defects ∷ design ∷ [] → Wrote old.sink.written new.sink.written text → compile_course machine defects design old.store new.store text ends → IsCompiled machine defects design old new

@@ -2,8 +2,7 @@
 use Rattle.std.proofs.Common.{◌≡◌, ℕ, List}
 use Rattle.cmd_steps.specs.Outside.{Outside}
 use Rattle.cmd_steps.proofs.Done.{EndedAs, done-as}
-use Rattle.cmd_compile.specs.Compile.{compile_job}
-use Rattle.cmd_compile.specs.Promises.{compile_words, CompilePromises}
+use Rattle.cmd_compile.specs.{Compile.compile_job, Promises.compile_words, Promises.CompilePromises}
 use Rattle.cmd_compile.proofs.Headlines.{compiled}
 
 pub compile-promises : (words : List (List ℕ)) (status : ℕ) (old new : Outside)

@@ -1,10 +1,7 @@
 -- What the command `diagnose` comes to.
-use Rattle.std.proofs.Common.{◌≡◌, ℕ, List, [], ◌∷◌, refl}
-use Rattle.machine_defects.specs.Text.{text_of}
+use Rattle.cmd_diagnose.proofs.Vocabulary.{◌≡◌, ℕ, List, [], ◌∷◌, refl, text_of, after-leads, write-leads, done-leads, lists}
 use Rattle.cmd_steps.specs.Vocabulary.{Around, StandsIn, after, done, Unloaded, reads_machine, attaches, IsLawful, Leads, Fronts, EndsWell}
-use Rattle.cmd_steps.proofs.Leading.{after-leads, write-leads, done-leads}
 use Rattle.cmd_steps.proofs.Excused.{machine-excused, attach-excused, rig-excused}
-use Rattle.diag_list.specs.Lists.{lists}
 use Rattle.cmd_diagnose.specs.Diagnose.{diagnose_course, diagnose_job, machine_listed, list_written, DiagnoseRight}
 
 module _ (machine name : List ℕ) (old new : Around) where

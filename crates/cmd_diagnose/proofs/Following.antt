@@ -1,6 +1,6 @@
 -- How the steps of `diagnose` follow one another: a lemma for each place where the body ends, over plain states.
-use Rattle.std.proofs.Common.{◌≡◌, ℕ, List, [], ◌∷◌, refl, sym, Result, Ok, Err}
-use Rattle.base_io.specs.Vocabulary.{StoreState, SinkState}
+use Rattle.cmd_diagnose.proofs.Vocabulary.{◌≡◌, ℕ, List, [], ◌∷◌, refl, sym, Result, Ok, Err, StoreState, SinkState, Listed, WritesList}
+use Rattle.cmd_diagnose.proofs.Vocabulary.{MakesFewCycles, few-unasked, few-unloaded, diagnose_course, diagnose_job, machine_listed}
 use Rattle.machine_shape.specs.declared.Shape.{Shape}
 use Rattle.machine_defects.specs.Lists.{DefectList}
 use Rattle.rig.specs.Rig.{RigState, cycles_made}
@@ -8,11 +8,7 @@ use Rattle.cmd_steps.specs.Vocabulary.{Outside, StandsIn, outside, around, Cours
 use Rattle.cmd_steps.specs.declared.refusal.Stop.{Stop}
 use Rattle.cmd_steps.proofs.Machines.{AsksNamed, named, machine-stops, attach-stops, attached-gives}
 use Rattle.cmd_steps.proofs.Taking.{all-done}
-use Rattle.diag_list.specs.Lists.{Listed, WritesList}
-use Rattle.diag_list.specs.Possible.{MakesFewCycles}
-use Rattle.diag_list.proofs.FewCycles.{few-unasked, few-unloaded}
 use Rattle.diag_list.proofs.Following.{list-ends, list-goes}
-use Rattle.cmd_diagnose.specs.Diagnose.{diagnose_course, diagnose_job, machine_listed}
 
 module _ (machine name : List ℕ) (s0 s1 : StoreState) (a : SinkState) where
   abbrev near : Type 0

@@ -1,11 +1,6 @@
 -- What a `diagnose` that is done has done, from its course.
-use Rattle.std.proofs.Common.{◌≡◌, ◌∙◌, ℕ, List, [], ◌∷◌, ◌++◌, refl, ap, subst, inl, inr, append-nil}
-use Rattle.base_io.specs.Sink.{Wrote}
-use Rattle.machine_defects.specs.Text.{text_of}
-use Rattle.cmd_steps.specs.Vocabulary.{Around, Outside, around, Next, ends}
-use Rattle.cmd_steps.proofs.Leading.{stopped}
-use Rattle.diag_list.specs.Lists.{MadeFewLoads, unloaded, few, lists}
-use Rattle.cmd_diagnose.specs.Diagnose.{diagnose_course}
+use Rattle.cmd_diagnose.proofs.Vocabulary.{◌≡◌, ◌∙◌, ℕ, List, [], ◌∷◌, ◌++◌, refl, ap, subst, inl, inr, append-nil, Wrote, text_of, Around}
+use Rattle.cmd_diagnose.proofs.Vocabulary.{Outside, around, Next, ends, stopped, MadeFewLoads, unloaded, few, lists, diagnose_course}
 use Rattle.cmd_diagnose.specs.Headline.{IsDiagnosed}
 
 module _ (machine name : List ℕ) (old new : Outside) where

@@ -4,3 +4,4 @@ pub mod Headlines
 pub mod Promising
 -- For the proofs of this crate alone.
 mod Following
+mod Vocabulary

@@ -1,10 +1,7 @@
 -- The promises of a `diagnose`, from how it ended.
-use Rattle.std.proofs.Common.{◌≡◌, ℕ, List, inl, inr}
-use Rattle.cmd_steps.specs.Outside.{Outside, around}
+use Rattle.cmd_diagnose.proofs.Vocabulary.{◌≡◌, ℕ, List, inl, inr, Outside, around, MakesFewCycles, diagnose_job}
 use Rattle.cmd_steps.proofs.Done.{EndedAs, whatever, done-as}
-use Rattle.diag_list.specs.Possible.{MakesFewCycles}
 use Rattle.diag_list.proofs.WrongWords.{wrong-loads}
-use Rattle.cmd_diagnose.specs.Diagnose.{diagnose_job}
 use Rattle.cmd_diagnose.specs.Promises.{diagnose_words, DiagnosePromises}
 use Rattle.cmd_diagnose.proofs.Headlines.{diagnosed, few-loads}
 

@@ -6,8 +6,7 @@ use Rattle.machine_text.specs.Machine.{IsMachine}
 use Rattle.machine_defects.specs.Text.{text_of}
 use Rattle.cmd_steps.specs.Vocabulary.{Around, StandsIn, Course, after, write, done, machine_attached, IsRightFile, reads_machine}
 use Rattle.cmd_steps.specs.Vocabulary.{AsksMachine, Job, quiet}
-use Rattle.diag_list.specs.Lists.{Listed, lists}
-use Rattle.diag_list.specs.Possible.{MakesFewCycles}
+use Rattle.diag_list.specs.{Lists.Listed, Lists.lists, Possible.MakesFewCycles}
 
 -- The list is written, and no load follows on those that it took
 abbrev pub list_written : (machine : List ℕ) → Around → Around → Listed → Course

@@ -1,8 +1,7 @@
 -- What a `diagnose` promises.
 use Rattle.std.specs.Prelude.{◌≡◌, ℕ, List, [], ◌∷◌, codes}
 use Rattle.cmd_steps.specs.Outside.{Outside, around}
-use Rattle.diag_list.specs.Lists.{MadeFewLoads}
-use Rattle.diag_list.specs.Possible.{MakesFewCycles}
+use Rattle.diag_list.specs.{Lists.MadeFewLoads, Possible.MakesFewCycles}
 use Rattle.cmd_diagnose.specs.Headline.{IsDiagnosed}
 
 -- its words

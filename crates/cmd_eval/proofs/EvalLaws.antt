@@ -1,14 +1,11 @@
 -- What the command `eval` comes to.
 use Rattle.std.proofs.Common.{◌≡◌, ℕ, List, [], ◌∷◌, ◌++◌, length, None, refl, subst, inl, inr}
 use Rattle.base_io.specs.Told.{IfTold}
-use Rattle.design_netlist.specs.declared.netlist_data.NetlistData.{NetlistData}
+use Rattle.cmd_eval.proofs.Vocabulary.{NetlistData, Design, opened-well, opened-lacks, eval_rows, eval_course, eval_job, EvalRight}
 use Rattle.cmd_steps.specs.Vocabulary.{says_at, outputs_line, Around, refuses, IsDesignText, IsLawful}
 use Rattle.cmd_steps.specs.declared.refusal.Refusal.TheVariants.{Memory}
-use Rattle.cmd_steps.specs.declared.design_file.DesignFile.TheVariants.{Design}
 use Rattle.cmd_steps.proofs.Excused.{design-excused}
-use Rattle.cmd_steps.proofs.OpenedLaws.{opened-well, opened-lacks}
 use Rattle.cmd_steps.proofs.Well.{IsWell, well-after}
-use Rattle.cmd_eval.specs.Eval.{eval_rows, eval_course, eval_job, EvalRight}
 
 module _ (design vectors : List ℕ) (old new : Around) where
   module _ (right : EvalRight (old.store.contents design) (old.store.contents vectors)) where

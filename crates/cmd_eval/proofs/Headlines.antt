@@ -1,9 +1,6 @@
 -- What an `eval` that is done has done, from its course.
-use Rattle.std.proofs.Common.{◌≡◌, ℕ, List, [], ◌∷◌, ◌++◌, subst, inl, inr}
+use Rattle.cmd_eval.proofs.Vocabulary.{◌≡◌, ℕ, List, [], ◌∷◌, ◌++◌, subst, inl, inr, Outside, ends, opened-ends, eval_course, eval_rows}
 use Rattle.base_io.specs.Sink.{Wrote}
-use Rattle.cmd_steps.specs.Vocabulary.{Outside, ends}
-use Rattle.cmd_steps.proofs.OpenedLaws.{opened-ends}
-use Rattle.cmd_eval.specs.Eval.{eval_course, eval_rows}
 use Rattle.cmd_eval.specs.Headline.{IsEvaled}
 
 module _ (design vectors : List ℕ) (old new : Outside) where

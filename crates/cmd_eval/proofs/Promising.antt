@@ -1,8 +1,6 @@
 -- The promises of an `eval`, from how it ended.
-use Rattle.std.proofs.Common.{◌≡◌, ℕ, List}
-use Rattle.cmd_steps.specs.Outside.{Outside}
+use Rattle.cmd_eval.proofs.Vocabulary.{◌≡◌, ℕ, List, Outside, eval_job}
 use Rattle.cmd_steps.proofs.Done.{EndedAs, done-as}
-use Rattle.cmd_eval.specs.Eval.{eval_job}
 use Rattle.cmd_eval.specs.Promises.{eval_words, EvalPromises}
 use Rattle.cmd_eval.proofs.Headlines.{evaled}
 

@@ -1,23 +1,18 @@
 -- A file of vectors that is read, row by row, and how that goes on and stops.
 use Rattle.std.proofs.Common.{◌≡◌, ◌≤◌, ◌<◌, ℕ, Bool, false, List, [], ◌∷◌, ◌++◌, length, arith, refl, sym, ap, subst, inl, ◌∙◌, append-nil, append_assoc, length-append, Result, Ok, Err}
 use Rattle.base_io.specs.Vocabulary.{StoreState, SinkState}
-use Rattle.design_netlist.specs.declared.netlist_data.NetlistData.{NetlistData}
+use Rattle.cmd_eval.proofs.Vocabulary.{NetlistData, eval_rows}
 use Rattle.design_netlist.specs.Rows.{AreRows}
 use Rattle.rig.specs.Rig.{RigState}
-use Rattle.design_vectors.specs.declared.vectors.VectorsFail.{VectorsFail}
-use Rattle.design_vectors.specs.declared.vectors.VectorsFail.TheVariants.{Text, Failed}
+use Rattle.design_vectors.specs.declared.vectors.VectorsFail.{VectorsFail, TheVariants.Text, TheVariants.Failed}
 use Rattle.design_vectors.specs.Rows.{row_line}
 use Rattle.cmd_steps.specs.Vocabulary.{file_of, AreFirst, IsBegun, StaysOpen, EndsFile, IsNotRead, IsPutOut, WaitsOrPuts, NextStops, outside, IsLater, RowWork, all_rows, stop_of_vectors, Follows}
 use Rattle.cmd_steps.specs.declared.refusal.Refusal.TheVariants as refused
-use Rattle.cmd_steps.specs.declared.refusal.Stop.{Stop}
-use Rattle.cmd_steps.specs.declared.refusal.Stop.TheVariants.{Refused, Sink}
+use Rattle.cmd_steps.specs.declared.refusal.Stop.{Stop, TheVariants.Refused, TheVariants.Sink}
 use Rattle.cmd_steps.proofs.WrittenRows.{AreWritten, none-written, put-out, after-put, read-after, was-read, added, not-added, some-lines, stays-same, row-later, takes-more, waits-more, vectors-follow, end-follows, held-follows}
 use Rattle.cmd_steps.proofs.VectorLemmas.{taken-first}
-use Rattle.cmd_eval.specs.declared.engine.Run.{Run}
-use Rattle.cmd_eval.specs.declared.engine.Run.TheVariants.{Netlist, Network}
-use Rattle.cmd_eval.specs.declared.evaluation.Evaluation.{Evaluation}
-use Rattle.cmd_eval.specs.Runs.{DesignState, RowsLeft, IsRowStep}
-use Rattle.cmd_eval.specs.Eval.{eval_rows}
+use Rattle.cmd_eval.specs.{declared.engine.Run.Run, Runs.DesignState, Runs.RowsLeft, Runs.IsRowStep}
+use Rattle.cmd_eval.specs.declared.{engine.Run.TheVariants.Netlist, engine.Run.TheVariants.Network, evaluation.Evaluation.Evaluation}
 use Rattle.cmd_eval.specs.Evaluations.{IsSized, IsReady, TakesRow, RowGives, at_rows}
 
 -- rows that go on from here follow on those that were made

@@ -1,8 +1,7 @@
 -- What the command `eval` is.
 use Rattle.std.specs.Prelude.{◌≡◌, ℕ, List, [], ◌∷◌, ◌++◌, length, Some}
 use Rattle.base_io.specs.Vocabulary.{Told, StoreState}
-use Rattle.design_netlist.specs.declared.netlist_data.NetlistData.{NetlistData}
-use Rattle.design_netlist.specs.Rows.{AreRows}
+use Rattle.design_netlist.specs.{declared.netlist_data.NetlistData.NetlistData, Rows.AreRows}
 use Rattle.design_blif.specs.Designs.{IsDesign}
 use Rattle.cmd_steps.specs.Vocabulary.{AreRightVectors, outputs_line, StandsIn, Course, RowWork, after, write, all_rows, IsRightFile}
 use Rattle.cmd_steps.specs.Vocabulary.{reads_design, opens, Job}

@@ -2,9 +2,8 @@
 use Rattle.std.specs.Prelude.{◌≡◌, Bool, true, false, [], length}
 use Rattle.base_io.specs.Vocabulary.{StoreState, SinkState}
 use Rattle.design_netlist.specs.declared.netlist_data.NetlistData.{NetlistData}
-use Rattle.cmd_eval.specs.Runs.{IsFirstOf, IsRowStep}
+use Rattle.cmd_eval.specs.{Runs.IsFirstOf, Runs.IsRowStep, declared.evaluation.Evaluation.Evaluation}
 use Rattle.design_vectors.specs.Readings.{new_reading}
-use Rattle.cmd_eval.specs.declared.evaluation.Evaluation.{Evaluation}
 use Rattle.cmd_steps.specs.Vocabulary.{most_vector_bytes, RowsAt, rows_at, NextOf}
 
 -- the buffers have the lengths that the netlist asks for

@@ -1,8 +1,7 @@
 -- What an `eval` that is done has done.
 use Rattle.std.specs.Prelude.{◌≡◌, ℕ, Bool, List, [], ◌∷◌, ◌++◌, length}
 use Rattle.base_io.specs.Vocabulary.{IfTold, Wrote}
-use Rattle.design_netlist.specs.declared.netlist_data.NetlistData.{NetlistData}
-use Rattle.design_netlist.specs.Rows.{AreRows}
+use Rattle.design_netlist.specs.{declared.netlist_data.NetlistData.NetlistData, Rows.AreRows}
 use Rattle.cmd_steps.specs.Vocabulary.{AreAll, output_text, Outside, IsDesignText}
 
 -- The line `outputs` and the design's rows for the vectors of the file are written, and the vectors were read to their end

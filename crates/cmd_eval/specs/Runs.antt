@@ -1,10 +1,8 @@
 -- A design that is run by its covers, or by a network.
 use Rattle.std.specs.Prelude.{◌≡◌, ◌∷◌, List, Bool, length}
-use Rattle.design_netlist.specs.declared.netlist_data.NetlistData.{NetlistData}
-use Rattle.design_netlist.specs.Rows.{RowsFrom, AreRows}
+use Rattle.design_netlist.specs.{declared.netlist_data.NetlistData.NetlistData, Rows.RowsFrom, Rows.AreRows}
 use Rattle.map_eval.specs.Evals.{NetworkState, RowsOn}
-use Rattle.cmd_eval.specs.declared.engine.Run.{Run}
-use Rattle.cmd_eval.specs.declared.engine.Run.TheVariants.{Netlist, Network}
+use Rattle.cmd_eval.specs.declared.engine.Run.{Run, TheVariants.Netlist, TheVariants.Network}
 
 -- a design, and what it is run by
 pub record DesignState : Type 0 where

@@ -1,23 +1,18 @@
 -- What the command `go` does with its words, and what it comes to.
 use Rattle.std.proofs.Common.{◌⊎◌, ◌∙◌, ◌≡◌, ℕ, true, List, refl, sym, subst, inl, inr}
-use Rattle.machine_shape.specs.declared.Shape.{Shape}
-use Rattle.machine_shape.specs.Limits.{is_small}
+use Rattle.machine_shape.specs.{declared.Shape.Shape, Limits.is_small}
 use Rattle.machine_meaning.specs.Vocabulary.{Faults, Defects, IsTight}
 use Rattle.machine_defects.specs.Text.{text_of}
-use Rattle.design_netlist.specs.declared.netlist_data.NetlistData.{NetlistData}
-use Rattle.design_netlist.specs.Checks.{IsChecked}
-use Rattle.map_network.specs.declared.network.Network.{Network}
-use Rattle.map_network.specs.Vocabulary.{IsNetwork, plain_network}
-use Rattle.place_plan.specs.declared.short.Short.{Short}
-use Rattle.place_plan.specs.Vocabulary.{IsShortInOrder, HasStandingRoom}
+use Rattle.design_netlist.specs.{declared.netlist_data.NetlistData.NetlistData, Checks.IsChecked}
+use Rattle.map_network.specs.{declared.network.Network.Network, Vocabulary.IsNetwork, Vocabulary.plain_network}
+use Rattle.place_plan.specs.{declared.short.Short.Short, Vocabulary.IsShortInOrder, Vocabulary.HasStandingRoom}
 use Rattle.cmd_steps.specs.Vocabulary.{ShortPlace, Around, IsLawful}
 use Rattle.cmd_steps.specs.declared.design_file.DesignFile.TheVariants.{Design}
 use Rattle.diag_list.specs.Lists.{Listed, IsListed}
 use Rattle.diag_list.proofs.Texts.{AreNamed}
 use Rattle.place_design.specs.Laying.{IsNoRoom, HasRoom}
 use Rattle.place_design.proofs.Rooms.{AreDecided, never-refused, never-lacks, lay-excused, lay-short}
-use Rattle.run_image.specs.Laid.{Laid}
-use Rattle.run_image.specs.Runs.{IfList}
+use Rattle.run_image.specs.{Laid.Laid, Runs.IfList}
 use Rattle.run_image.proofs.Scripts.{Words, reads, runs, IsRight}
 use Rattle.run_image.proofs.Ends.{Fits, Lacks, HasFew, run-well, run-short, run-few}
 use Rattle.cmd_go.specs.Go.{go_files, go_job, design_laid, GoFiles, AreGoTexts, HasPartsFor, GoRight, GoShort, GoFew}

@@ -10,8 +10,7 @@ use Rattle.cmd_steps.proofs.Standing.{Standing}
 use Rattle.diag_list.specs.Lists.{MadeFewLoads}
 use Rattle.run_image.specs.Headline.{BeginsWithList}
 use Rattle.run_image.proofs.Headlines as done
-use Rattle.cmd_go.specs.Go.{go_course}
-use Rattle.cmd_go.specs.Headline.{IsWellGone, HasRoomLeft}
+use Rattle.cmd_go.specs.{Go.go_course, Headline.IsWellGone, Headline.HasRoomLeft}
 use Rattle.cmd_go.proofs.GoLaws.{words}
 
 module _ (machine name design vectors : List ℕ) (old new : Outside) where

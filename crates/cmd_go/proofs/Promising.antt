@@ -4,8 +4,7 @@ use Rattle.cmd_steps.specs.Outside.{Outside}
 use Rattle.cmd_steps.proofs.Done.{EndedAs, whatever, done-as}
 use Rattle.diag_list.proofs.WrongWords.{wrong-loads}
 use Rattle.run_image.proofs.WrongWords.{wrong-begins}
-use Rattle.cmd_go.specs.Go.{go_job}
-use Rattle.cmd_go.specs.Promises.{go_words, GoPromises}
+use Rattle.cmd_go.specs.{Go.go_job, Promises.go_words, Promises.GoPromises}
 use Rattle.cmd_go.proofs.Headlines.{begins, gone, few-loads}
 
 pub go-promises : (words : List (List ℕ)) (status : ℕ) (old new : Outside)

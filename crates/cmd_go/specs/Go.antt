@@ -1,25 +1,20 @@
 -- What the command `go` is.
 use Rattle.std.specs.Prelude.{◌≡◌, ◌⊎◌, ℕ, ◌≤◌, true, List, [], ◌∷◌, length}
 use Rattle.base_io.specs.Told.{Told}
-use Rattle.machine_shape.specs.declared.Shape.{Shape}
-use Rattle.machine_shape.specs.Limits.{is_small}
+use Rattle.machine_shape.specs.{declared.Shape.Shape, Limits.is_small}
 use Rattle.machine_meaning.specs.Faults.{Faults}
 use Rattle.rig.specs.Rig.{RigState, Explains}
 use Rattle.machine_text.specs.Machine.{IsMachine}
-use Rattle.design_netlist.specs.declared.netlist_data.NetlistData.{NetlistData}
-use Rattle.design_netlist.specs.Rows.{AreRows}
+use Rattle.design_netlist.specs.{declared.netlist_data.NetlistData.NetlistData, Rows.AreRows}
 use Rattle.design_blif.specs.Designs.{IsDesign}
-use Rattle.map_network.specs.declared.network.Network.{Network}
-use Rattle.map_network.specs.Plain.{IsPlainNetwork}
+use Rattle.map_network.specs.{declared.network.Network.Network, Plain.IsPlainNetwork}
 use Rattle.place_plan.specs.Enough.{HasStandingRoom}
 use Rattle.cmd_steps.specs.Vocabulary.{AreRightVectors, vectors_at, Around, Course, after, Unloaded, machine_attached, IsRightFile}
 use Rattle.cmd_steps.specs.Vocabulary.{reads_machine, reads_design, AsksMachine, Job}
 use Rattle.cmd_steps.specs.declared.design_file.DesignFile.TheVariants.{Design}
 use Rattle.place_design.specs.Laying.{lays, HasRoom, LacksRoom}
-use Rattle.run_image.specs.Rows.{most_rows}
-use Rattle.run_image.specs.Laid.{Laid}
-use Rattle.run_image.specs.declared.copies.Copies.TheVariants.{One}
-use Rattle.run_image.specs.Runs.{RunBegin, machine_listed, IfList, HasOutputs}
+use Rattle.run_image.specs.{Rows.most_rows, Laid.Laid}
+use Rattle.run_image.specs.{declared.copies.Copies.TheVariants.One, Runs.RunBegin, Runs.machine_listed, Runs.IfList, Runs.HasOutputs}
 
 -- the design as what is laid: by its plain network, and with its rows
 abbrev pub design_laid : NetlistData → Laid

@@ -4,15 +4,13 @@ use Rattle.base_io.specs.Vocabulary.{next_count, IfTold, Wrote}
 use Rattle.machine_shape.specs.declared.Shape.{Shape}
 use Rattle.machine_meaning.specs.Vocabulary.{Faults, Covers, IsFair, IsTight}
 use Rattle.machine_defects.specs.Vocabulary.{DefectList, IsDefectList, text_of}
-use Rattle.design_netlist.specs.declared.netlist_data.NetlistData.{NetlistData}
-use Rattle.design_netlist.specs.Rows.{AreRows}
+use Rattle.design_netlist.specs.{declared.netlist_data.NetlistData.NetlistData, Rows.AreRows}
 use Rattle.machine_image.specs.Images.{ImageValue}
 use Rattle.machine_history.specs.Vocabulary.{History, IsHistoryOf, IsRunOver}
 use Rattle.rig.specs.Rig.{Explains, cycles_of, drives_of, readings_of}
 use Rattle.place_route.specs.RightImages.{IsRightImage}
 use Rattle.cmd_steps.specs.Vocabulary.{Outside, IsMachineText, IsDesignText}
-use Rattle.diag_list.specs.Possible.{TakesFewLoadsOn}
-use Rattle.diag_list.specs.Lists.{Listed}
+use Rattle.diag_list.specs.{Possible.TakesFewLoadsOn, Lists.Listed}
 use Rattle.place_design.specs.Laying.{HasRoomIfSmall, IsRoutedDesign}
 use Rattle.run_image.specs.Headline.{IsAskedInOrder, IsWrittenWhole, UsesNothingListed, IsAsRead}
 

@@ -3,18 +3,14 @@ use Rattle.std.proofs.Common.{◌≡◌, ℕ, ◌≤◌, Bool, List, refl, subst
 use Rattle.machine_shape.specs.declared.Shape.{Shape}
 use Rattle.machine_meaning.specs.Faults.{Faults}
 use Rattle.machine_faults.specs.Adding.{count_of}
-use Rattle.map_network.specs.declared.network.Network.{Network}
-use Rattle.map_network.specs.Plain.{plain_network}
+use Rattle.map_network.specs.{declared.network.Network.Network, Plain.plain_network}
 use Rattle.place_plan.specs.Enough.{HasStandingRoom}
 use Rattle.place_spare.specs.Spare.{HasToSpare}
 use Rattle.place_both.specs.Both.{joint_of}
 use Rattle.cmd_steps.specs.Vocabulary.{Outside, Ended, HasNoJob, Job, Asked, no_job, a_job, asked_if, job_of}
-use Rattle.cmd_go.specs.Go.{go_job}
-use Rattle.cmd_go.specs.Promises.{go_words}
-use Rattle.cmd_pair.specs.Pair.{pair_job}
-use Rattle.cmd_pair.specs.Promises.{pair_words}
-use Rattle.cmd_twice.specs.Twice.{twice_job}
-use Rattle.cmd_twice.specs.Promises.{twice_words}
+use Rattle.cmd_go.specs.{Go.go_job, Promises.go_words}
+use Rattle.cmd_pair.specs.{Pair.pair_job, Promises.pair_words}
+use Rattle.cmd_twice.specs.{Twice.twice_job, Promises.twice_words}
 use Rattle.cmd_top.specs.Words.{commands, asked_in, asked_by}
 use Rattle.cmd_laws.specs.Borne.{HaveNoDash, GoIsBorne, PairIsBorne, TwiceIsBorne}
 

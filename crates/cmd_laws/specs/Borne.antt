@@ -4,18 +4,14 @@ use Rattle.std.specs.List.{list_any}
 use Rattle.machine_shape.specs.declared.Shape.{Shape}
 use Rattle.machine_meaning.specs.Faults.{Faults}
 use Rattle.machine_faults.specs.Adding.{count_of}
-use Rattle.map_network.specs.declared.network.Network.{Network}
-use Rattle.map_network.specs.Plain.{plain_network}
+use Rattle.map_network.specs.{declared.network.Network.Network, Plain.plain_network}
 use Rattle.place_spare.specs.Spare.{HasToSpare}
 use Rattle.rig.specs.Rig.{RigState, Explains}
 use Rattle.cmd_steps.specs.Vocabulary.{Outside, around, Unless, is_dashed}
 use Rattle.place_both.specs.Both.{joint_of}
-use Rattle.cmd_go.specs.Go.{go_files, AreGoTexts}
-use Rattle.cmd_go.specs.Promises.{go_words}
-use Rattle.cmd_pair.specs.Pair.{pair_files, ArePairTexts}
-use Rattle.cmd_pair.specs.Promises.{pair_words}
-use Rattle.cmd_twice.specs.Twice.{twice_files, AreTwiceTexts}
-use Rattle.cmd_twice.specs.Promises.{twice_words}
+use Rattle.cmd_go.specs.{Go.go_files, Go.AreGoTexts, Promises.go_words}
+use Rattle.cmd_pair.specs.{Pair.pair_files, Pair.ArePairTexts, Promises.pair_words}
+use Rattle.cmd_twice.specs.{Twice.twice_files, Twice.AreTwiceTexts, Promises.twice_words}
 use Rattle.cmd_top.specs.Promises.{Promises}
 
 -- Some set of at most k faults explains all that was read of the machine, which has 2 k of each resource to spare for the network

@@ -1,18 +1,13 @@
 -- A `compile` of what the mapper wrote.
-use Rattle.std.proofs.Common.{◌≡◌, ℕ, List, sym, subst}
-use Rattle.machine_shape.specs.declared.Shape.{Shape}
+use Rattle.cmd_map.proofs.Vocabulary.{◌≡◌, ℕ, List, sym, subst, Shape, NetlistData, HaveSameRows, CompileRight, compile_files}
 use Rattle.machine_meaning.specs.Vocabulary.{Covers, Faults}
 use Rattle.machine_defects.specs.Vocabulary.{DefectList, IsText}
-use Rattle.design_netlist.specs.declared.netlist_data.NetlistData.{NetlistData}
 use Rattle.machine_image.specs.Images.{ImageValue}
 use Rattle.place_route.specs.RightImages.{IsRightImage}
-use Rattle.map_text.specs.Remapped.{HaveSameRows}
 use Rattle.cmd_steps.specs.Vocabulary.{Outside, IsMachineText, IsDefectsText, IsDesignText}
 use Rattle.machine_shape.proofs.OneShape.{same-shape}
-use Rattle.cmd_compile.specs.Compile.{CompileRight, compile_files}
 use Rattle.cmd_compile.specs.Headline.{IsCompiled}
-use Rattle.cmd_map.specs.Headline.{IsFitted}
-use Rattle.cmd_map.specs.Chain.{HoldsText, WroteRightImage, FitsThenCompiles}
+use Rattle.cmd_map.specs.{Headline.IsFitted, Chain.HoldsText, Chain.WroteRightImage, Chain.FitsThenCompiles}
 
 -- an image that is right for a design is right for one with the same rows
 right-for : (f : Faults) (i : ImageValue) (d e : NetlistData) → HaveSameRows d e → IsRightImage f i e → IsRightImage f i d

@@ -1,15 +1,10 @@
 -- What all is right asks, and the statuses.
 use Rattle.std.proofs.Common.{◌≡◌, ◌∙◌, ◌⊎◌, ◌≤◌, ℕ, zero, suc, List, [], ◌∷◌, length, Bool, true, false, ap, sym, subst, inl, inr, refl, arith}
-use Rattle.std.specs.List.{list_any}
-use Rattle.base_io.specs.Vocabulary.{Rose, StoreState}
+use Rattle.cmd_map.proofs.Vocabulary.{list_any, Rose, StoreState, EndedAs, ended-asked, map_job, fit_job, map_course, fit_course}
 use Rattle.rig.specs.Rig.{RigState}
 use Rattle.cmd_steps.specs.Vocabulary.{Around, Outside, outside, around, Next, refuses, status_of, wrong_words, Job, Ended, Unless, Asked, no_job, a_job, HasNoJob, job_of, asked_if, is_dashed, word_at}
 use Rattle.cmd_steps.specs.declared.refusal.Refusal.TheVariants.{Words, Differ}
-use Rattle.cmd_steps.proofs.Done.{EndedAs}
-use Rattle.cmd_steps.proofs.AskedLemmas.{ended-asked}
-use Rattle.cmd_map.specs.Maps.{map_job, fit_job, map_course, fit_course}
-use Rattle.cmd_map.specs.Words.{asked_in, asked_by}
-use Rattle.cmd_map.specs.Promises.{IsStatus}
+use Rattle.cmd_map.specs.{Words.asked_in, Words.asked_by, Promises.IsStatus}
 
 -- what all is right asks speaks of the files alone
 right-in : (words : List (List ℕ)) (store : StoreState) (rig other : RigState) (new new' : Around) (front : List ℕ) →

@@ -1,14 +1,8 @@
 -- What the mapper has done at status 0, from its courses.
-use Rattle.std.proofs.Common.{◌≡◌, ◌⊎◌, ℕ, List, [], ◌∷◌, ◌++◌, sym, subst, inl, inr}
-use Rattle.base_io.specs.Vocabulary.{IfTold, Wrote}
-use Rattle.machine_shape.specs.declared.Shape.{Shape}
-use Rattle.map_text.specs.Remapped.{MayStandFor, IsNarrowOr, HasNarrowCovers}
-use Rattle.map_text.specs.declared.text.Remapped.{Remapped}
+use Rattle.cmd_map.proofs.Vocabulary.{◌≡◌, ◌⊎◌, ℕ, List, [], ◌∷◌, ◌++◌, sym, subst, inl, inr, IfTold, Wrote, Shape, MayStandFor, IsNarrowOr}
+use Rattle.cmd_map.proofs.Vocabulary.{HasNarrowCovers, Remapped, DesignText, line-ended, map_course, fit_course}
 use Rattle.cmd_steps.specs.Vocabulary.{Outside, ends, IsMachineText, IsDefectsText, IsDesignText, IsTextRead}
-use Rattle.cmd_steps.specs.declared.design.DesignText.{DesignText}
-use Rattle.cmd_steps.proofs.QuietJobs.{line-ended}
 use Rattle.cmd_steps.proofs.TextLemmas.{IfTold-with}
-use Rattle.cmd_map.specs.Maps.{map_course, fit_course}
 use Rattle.cmd_map.specs.Headline.{WroteRemapped, IsMapped, IsFitted}
 
 module _ (design : List ℕ) (old new : Outside) where

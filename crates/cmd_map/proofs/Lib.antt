@@ -4,3 +4,4 @@ mod MapLaws
 mod Headlines
 mod Fronts
 mod ChainLemmas
+mod Vocabulary

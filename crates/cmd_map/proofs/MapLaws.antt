@@ -1,11 +1,7 @@
 -- What the jobs of the mapper lead to.
-use Rattle.std.proofs.Common.{ℕ, List, [], ◌∷◌}
-use Rattle.cmd_steps.specs.Vocabulary.{Around, IsLawful, EndsWell}
-use Rattle.cmd_steps.specs.declared.design_file.DesignFile.TheVariants.{Design}
+use Rattle.cmd_map.proofs.Vocabulary.{ℕ, List, [], ◌∷◌, Around, IsLawful, EndsWell, Design, quiet-lawful, CompileRight, compile_files}
 use Rattle.cmd_steps.proofs.Sure.{IsLed, led-after, led-sure, led-line, machine-sure, list-sure, text-sure}
-use Rattle.cmd_steps.proofs.QuietJobs.{quiet-lawful}
 use Rattle.place_design.proofs.Rooms.{AreDecided, never-refused, lay-excused}
-use Rattle.cmd_compile.specs.Compile.{CompileRight, compile_files}
 use Rattle.cmd_map.specs.Maps.{MapRight, HasSameRig, map_course, map_job, fit_course, fit_job}
 use Rattle.cmd_map.proofs.MapLemmas.{map-excused}
 

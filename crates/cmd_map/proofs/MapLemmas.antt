@@ -1,20 +1,10 @@
 -- The steps of the mapper.
-use Rattle.std.proofs.Common.{◌≡◌, [], refl, Result, Ok, Err}
+use Rattle.cmd_map.proofs.Vocabulary.{◌≡◌, [], refl, Result, Ok, Err, NetlistData, plain_network, HasPlan, MayStandFor, Remapped, Around}
+use Rattle.cmd_map.proofs.Vocabulary.{Outside, StepStops, IsCounted, Took, IsExcused, DesignText, took-stop, NotMapped, maps_within}
 use Rattle.machine_defects.specs.Lists.{DefectList}
-use Rattle.design_netlist.specs.declared.netlist_data.NetlistData.{NetlistData}
-use Rattle.map_network.specs.Plain.{plain_network}
-use Rattle.map_text.specs.Remapped.{HasPlan, MayStandFor}
-use Rattle.map_text.specs.declared.text.Remapped.{Remapped}
-use Rattle.place_design.specs.Laying.{HasRoom}
-use Rattle.place_design.specs.Wants.{PlanStops}
-use Rattle.cmd_steps.specs.Vocabulary.{Around, Outside, StepStops, IsCounted, Took, IsExcused}
-use Rattle.cmd_steps.specs.declared.design.DesignText.{DesignText}
-use Rattle.cmd_steps.specs.declared.refusal.Refusal.{Refusal}
+use Rattle.place_design.specs.{Laying.HasRoom, Wants.PlanStops}
+use Rattle.cmd_steps.specs.declared.refusal.{Refusal.Refusal, Stop.Stop, Stop.TheVariants.Refused}
 use Rattle.cmd_steps.specs.declared.refusal.Refusal.TheVariants as refused
-use Rattle.cmd_steps.specs.declared.refusal.Stop.{Stop}
-use Rattle.cmd_steps.specs.declared.refusal.Stop.TheVariants.{Refused}
-use Rattle.cmd_steps.proofs.Taking.{took-stop}
-use Rattle.cmd_map.specs.Maps.{NotMapped, maps_within}
 
 -- a plan of the plain network is room
 pub room-of : (d : DefectList) (draft : NetlistData) → HasPlan d draft → HasRoom d draft

@@ -7,8 +7,7 @@ use Rattle.design_netlist.specs.declared.netlist_data.NetlistData.{NetlistData}
 use Rattle.machine_image.specs.Images.{ImageValue, image_bytes}
 use Rattle.place_route.specs.RightImages.{IsRightImage}
 use Rattle.cmd_steps.specs.Outside.{Outside}
-use Rattle.cmd_compile.specs.Compile.{compile_files, CompileRight}
-use Rattle.cmd_compile.specs.Headline.{IsCompiled}
+use Rattle.cmd_compile.specs.{Compile.compile_files, Compile.CompileRight, Headline.IsCompiled}
 use Rattle.cmd_map.specs.Headline.{IsFitted}
 
 -- the store holds the machine's and the list's texts as before, and under a name the text that was written

@@ -4,14 +4,11 @@ use Rattle.base_io.specs.Vocabulary.{Told, StoreState}
 use Rattle.machine_defects.specs.Lists.{DefectList}
 use Rattle.design_netlist.specs.declared.netlist_data.NetlistData.{NetlistData}
 use Rattle.design_blif.specs.Designs.{IsDesign}
-use Rattle.map_text.specs.Remapped.{MayStandFor}
-use Rattle.map_text.specs.declared.text.Remapped.{Remapped}
+use Rattle.map_text.specs.{Remapped.MayStandFor, declared.text.Remapped.Remapped}
 use Rattle.place_design.specs.Laying.{NotLaid, HasRoom}
 use Rattle.cmd_steps.specs.Vocabulary.{Around, ReadFile, StandsAmong, StandsIn, plain_file, Course, Step, after, write, done, listed_course, IsRightFile, reads_text}
 use Rattle.cmd_steps.specs.Vocabulary.{Job, quiet}
-use Rattle.cmd_steps.specs.declared.design.DesignText.{DesignText}
-use Rattle.cmd_steps.specs.declared.design_file.DesignFile.TheVariants.{Design}
-use Rattle.cmd_steps.specs.declared.refusal.Refusal.{Refusal}
+use Rattle.cmd_steps.specs.declared.{design.DesignText.DesignText, design_file.DesignFile.TheVariants.Design, refusal.Refusal.Refusal}
 use Rattle.cmd_steps.specs.declared.refusal.Refusal.TheVariants as refused
 use Rattle.cmd_compile.specs.Compile.{compile_files, CompileRight}
 

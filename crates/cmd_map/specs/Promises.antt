@@ -2,8 +2,7 @@
 use Rattle.std.specs.Prelude.{◌≡◌, ◌≤◌, ◌⊎◌, ℕ, List, [], ◌∷◌}
 use Rattle.base_io.specs.Counts.{Rose}
 use Rattle.cmd_steps.specs.Vocabulary.{Outside, around, Ended, HasNoJob, job_of}
-use Rattle.cmd_map.specs.Words.{asked_by}
-use Rattle.cmd_map.specs.Headline.{IsMapped, IsFitted}
+use Rattle.cmd_map.specs.{Words.asked_by, Headline.IsMapped, Headline.IsFitted}
 
 -- the statuses: 4 is none
 abbrev pub IsStatus : ℕ → Type 0

@@ -12,8 +12,7 @@ use Rattle.cmd_steps.proofs.Standing.{Standing}
 use Rattle.diag_list.specs.Lists.{MadeFewLoads}
 use Rattle.run_image.specs.Headline.{BeginsWithList}
 use Rattle.run_image.proofs.Headlines as done
-use Rattle.cmd_pair.specs.Pair.{pair_course}
-use Rattle.cmd_pair.specs.Headline.{IsPaired, HaveRoomLeft}
+use Rattle.cmd_pair.specs.{Pair.pair_course, Headline.IsPaired, Headline.HaveRoomLeft}
 use Rattle.cmd_pair.proofs.PairLaws.{words}
 use Rattle.place_both.proofs.WhileAlone.{first-right, second-right}
 

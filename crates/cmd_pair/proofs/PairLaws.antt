@@ -2,15 +2,13 @@
 use Rattle.std.proofs.Common.{◌≡◌, ◌⊎◌, ℕ, List, refl, inl, inr}
 use Rattle.machine_shape.specs.declared.Shape.{Shape}
 use Rattle.machine_defects.specs.Text.{text_of}
-use Rattle.design_netlist.specs.declared.netlist_data.NetlistData.{NetlistData}
-use Rattle.design_netlist.specs.Checks.{IsChecked}
+use Rattle.design_netlist.specs.{declared.netlist_data.NetlistData.NetlistData, Checks.IsChecked}
 use Rattle.cmd_steps.specs.Vocabulary.{Around, IsLawful, ShortPlace}
 use Rattle.cmd_steps.specs.declared.design_file.DesignFile.TheVariants.{First, Second}
 use Rattle.diag_list.specs.Lists.{Listed, IsListed}
 use Rattle.diag_list.proofs.Texts.{AreNamed}
 use Rattle.place_design.proofs.Rooms.{AreDecided}
-use Rattle.run_image.specs.Laid.{Laid}
-use Rattle.run_image.specs.Runs.{IfList}
+use Rattle.run_image.specs.{Laid.Laid, Runs.IfList}
 use Rattle.run_image.proofs.Scripts.{Words, reads, runs, IsRight}
 use Rattle.run_image.proofs.Ends.{Fits, Lacks, HasFew, run-well, run-short, run-few}
 use Rattle.cmd_pair.specs.Both.{both_laid}

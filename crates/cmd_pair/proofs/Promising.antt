@@ -4,8 +4,7 @@ use Rattle.cmd_steps.specs.Outside.{Outside}
 use Rattle.cmd_steps.proofs.Done.{EndedAs, whatever, done-as}
 use Rattle.diag_list.proofs.WrongWords.{wrong-loads}
 use Rattle.run_image.proofs.WrongWords.{wrong-begins}
-use Rattle.cmd_pair.specs.Pair.{pair_job}
-use Rattle.cmd_pair.specs.Promises.{pair_words, PairPromises}
+use Rattle.cmd_pair.specs.{Pair.pair_job, Promises.pair_words, Promises.PairPromises}
 use Rattle.cmd_pair.proofs.Headlines.{begins, paired, few-loads}
 
 pub pair-promises : (words : List (List ℕ)) (status : ℕ) (old new : Outside)

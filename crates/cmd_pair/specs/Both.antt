@@ -2,8 +2,7 @@
 use Rattle.std.specs.Prelude.{◌+◌, length}
 use Rattle.design_netlist.specs.declared.netlist_data.NetlistData.{NetlistData}
 use Rattle.place_both.specs.Both.{AreBothRows, lays_both}
-use Rattle.run_image.specs.Laid.{Laid}
-use Rattle.run_image.specs.declared.copies.Copies.TheVariants.{One}
+use Rattle.run_image.specs.{Laid.Laid, declared.copies.Copies.TheVariants.One}
 
 -- the two designs as what is laid
 abbrev pub both_laid : NetlistData → NetlistData → Laid

@@ -11,11 +11,9 @@ use Rattle.rig.specs.Rig.{Explains, cycles_of, drives_of, readings_of}
 use Rattle.place_route.specs.Vocabulary.{IsRightImage, ReadsRows}
 use Rattle.place_pair.specs.Tenants.{AreTenants, StandApart}
 use Rattle.cmd_steps.specs.Vocabulary.{Outside, IsMachineText, IsDesignText}
-use Rattle.diag_list.specs.Possible.{TakesFewLoadsOn}
-use Rattle.diag_list.specs.Lists.{Listed}
+use Rattle.diag_list.specs.{Possible.TakesFewLoadsOn, Lists.Listed}
 use Rattle.run_image.specs.Headline.{IsAskedInOrder, IsWrittenWhole, UsesNothingListed, IsAsRead}
-use Rattle.place_both.specs.Both.{AreBothRows, BothHaveRoom, IsRoutedForBoth}
-use Rattle.place_both.specs.Alone.{AreRightWhileAlone}
+use Rattle.place_both.specs.{Both.AreBothRows, Both.BothHaveRoom, Both.IsRoutedForBoth, Alone.AreRightWhileAlone}
 
 -- Of the rig's one session: its configuration, with a list of input pins and a list of output pins, is `image`. The parts of it
 -- that are each design's, `first_image` and `second_image`, share no wire

@@ -10,8 +10,7 @@ use Rattle.design_blif.specs.Designs.{IsDesign}
 use Rattle.cmd_steps.specs.Vocabulary.{AreRightVectors, vectors_at, Around, Course, after, Unloaded, machine_attached, IsRightFile}
 use Rattle.cmd_steps.specs.Vocabulary.{reads_machine, reads_design, AsksMachine, Job}
 use Rattle.cmd_steps.specs.declared.design_file.DesignFile.TheVariants.{First, Second}
-use Rattle.run_image.specs.Rows.{most_rows}
-use Rattle.run_image.specs.Runs.{RunBegin, machine_listed, IfList, HasOutputs}
+use Rattle.run_image.specs.{Rows.most_rows, Runs.RunBegin, Runs.machine_listed, Runs.IfList, Runs.HasOutputs}
 use Rattle.place_plan.specs.Enough.{HasStandingRoom}
 use Rattle.place_both.specs.Both.{BothHaveRoom, BothLackRoom, joint_of}
 use Rattle.cmd_pair.specs.Both.{both_laid}

@@ -1,11 +1,9 @@
 -- A list that has each closed crosspoint once is as long as they are many.
 use Rattle.std.proofs.Common.{◌≡◌, ℕ, ◌+◌, ◌≤◌, Bool, true, false, List, [], ◌∷◌, length, sym, ap, ◌∙◌, arith, ◌==◌, if◌then◌else◌}
 use Rattle.std.specs.Ordering.{nat_cmp}
-use Rattle.std.specs.Cmp.{nat_cmp_total}
+use Rattle.std.specs.{Cmp.nat_cmp_total, FinSet.len-empty, FinSet.len-insert, FinSet.same_set, FinSet.nat_cmp-IsAntisymmetric}
 use Rattle.std.specs.FinSet as set_
-use Rattle.std.specs.FinSet.{len-empty, len-insert, same_set, nat_cmp-IsAntisymmetric}
-use Rattle.std.proofs.lemmas.Bool.Decides.{nat_tests}
-use Rattle.std.proofs.lemmas.List.Sums.{sum_by-cons}
+use Rattle.std.proofs.lemmas.{Bool.Decides.nat_tests, List.Sums.sum_by-cons}
 use Rattle.machine_shape.specs.declared.Cross.{Cross}
 use Rattle.machine_config.specs.Vocabulary.{Configuration, is_closed, set_of, times, once_if}
 use Rattle.machine_config.proofs.Members.{contains_times}

@@ -1,10 +1,7 @@
 -- What a `repair` that is done has done, from its course.
 use Rattle.std.proofs.Common.{◌≡◌, ◌∙◌, ℕ, List, [], ◌∷◌, ◌++◌, ap, sym, subst, inl, inr, append-nil}
 use Rattle.base_io.specs.Vocabulary.{IfTold, Wrote}
-use Rattle.machine_shape.specs.declared.Shape.{Shape}
-use Rattle.machine_image.specs.Images.{Reads, image_bytes}
-use Rattle.cmd_steps.specs.Vocabulary.{Outside, ends, IsMachineText, IsDefectsText}
-use Rattle.cmd_repair.specs.Repair.{repair_course}
+use Rattle.cmd_repair.proofs.Vocabulary.{Shape, Reads, image_bytes, Outside, ends, IsMachineText, IsDefectsText, repair_course}
 use Rattle.cmd_repair.specs.Headline.{IsRepaired}
 
 module _ (machine defects image : List ℕ) (old new : Outside) where

@@ -4,3 +4,4 @@ pub mod Promising
 -- For the proofs of this crate alone.
 mod RepairLaws
 mod Counting
+mod Vocabulary

@@ -1,8 +1,6 @@
 -- The promises of a `repair`, from how it ended.
-use Rattle.std.proofs.Common.{◌≡◌, ℕ, List}
-use Rattle.cmd_steps.specs.Outside.{Outside}
+use Rattle.cmd_repair.proofs.Vocabulary.{◌≡◌, ℕ, List, Outside, repair_job}
 use Rattle.cmd_steps.proofs.Done.{EndedAs, done-as}
-use Rattle.cmd_repair.specs.Repair.{repair_job}
 use Rattle.cmd_repair.specs.Promises.{repair_words, RepairPromises}
 use Rattle.cmd_repair.proofs.Headlines.{repaired}
 

@@ -1,16 +1,11 @@
 -- What the command `repair` comes to.
-use Rattle.std.proofs.Common.{ℕ, List, [], refl, inl, inr, arith}
-use Rattle.machine_meaning.specs.Defects.{Defects}
-use Rattle.machine_image.specs.Images.{ImageValue}
-use Rattle.place_plan.specs.declared.short.Short.{Short}
+use Rattle.cmd_repair.proofs.Vocabulary.{ℕ, List, [], refl, inl, inr, arith, Defects, ImageValue, Short, Seats, HasTooMany, NotRepaired}
+use Rattle.cmd_repair.proofs.Vocabulary.{IsRepairOf, repair_course, image_written, repair_files, repair_job, AreRightFiles}
 use Rattle.place_repair.specs.Plans.{AreSeats, AreNets, HasRoom, IsShortPlan, Nets}
-use Rattle.place_repair.specs.declared.seats.Seats.{Seats}
 use Rattle.cmd_steps.specs.Vocabulary.{ShortPlace, Around, Next, refuses, IsLawful, EndsWell, EndsShort, third_files}
 use Rattle.cmd_steps.specs.declared.refusal.Refusal.{Refusal}
 use Rattle.cmd_steps.specs.declared.refusal.Refusal.TheVariants as refused
 use Rattle.cmd_steps.proofs.Sure.{IsLed, Excuses, led-after, led-sure, led-line, machine-sure, list-sure, image-sure}
-use Rattle.cmd_repair.specs.Repairing.{HasTooMany, NotRepaired, IsRepairOf}
-use Rattle.cmd_repair.specs.Repair.{repair_course, image_written, repair_files, repair_job, AreRightFiles}
 
 -- right files are read and the image is taken; then there is no room, or it is repaired, whatever these lead to
 module _ (machine defects image : List ℕ) (old new : Around) (next_is : Next → Type 0) where

@@ -2,8 +2,7 @@
 use Rattle.std.specs.Prelude.{◌≡◌, ℕ, ◌≤◌, List, [], ◌∷◌}
 use Rattle.std.specs.FinSet as set
 use Rattle.base_io.specs.Vocabulary.{Told, StoreState}
-use Rattle.machine_shape.specs.declared.Shape.{Shape}
-use Rattle.machine_shape.specs.Vocabulary.{most_repaired}
+use Rattle.machine_shape.specs.{declared.Shape.Shape, Vocabulary.most_repaired}
 use Rattle.machine_text.specs.Machine.{IsMachine}
 use Rattle.machine_defects.specs.Vocabulary.{DefectList, IsText}
 use Rattle.machine_image.specs.Images.{ImageValue, image_bytes}

@@ -9,11 +9,9 @@ use Rattle.place_plan.specs.declared.short.Short.{Short}
 use Rattle.machine_image.specs.Vocabulary.{ImageValue, IsImage, IsFreeImage}
 use Rattle.machine_image.specs.declared.kind.ImageKind.TheVariants.{Limit}
 use Rattle.place_route.specs.RightImages.{IsRightImage}
-use Rattle.place_repair.specs.Plans.{AreSeats, AreNets, HasRoom, IsShortPlan, Nets}
+use Rattle.place_repair.specs.{Plans.AreSeats, Plans.AreNets, Plans.HasRoom, Plans.IsShortPlan, Plans.Nets, declared.seats.Seats.Seats}
 use Rattle.place_repair.specs.Repairs.{IsRepair, HasSameRows}
-use Rattle.place_repair.specs.declared.seats.Seats.{Seats}
-use Rattle.cmd_steps.specs.Courses.{Step}
-use Rattle.cmd_steps.specs.declared.refusal.Refusal.{Refusal}
+use Rattle.cmd_steps.specs.{Courses.Step, declared.refusal.Refusal.Refusal}
 use Rattle.cmd_steps.specs.declared.refusal.Refusal.TheVariants as refused
 
 -- ---- the image isn't too large

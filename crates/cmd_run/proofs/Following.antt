@@ -2,14 +2,10 @@
 use Rattle.std.proofs.Common.{◌≡◌, ◌≤◌, ℕ, List, [], ◌∷◌, Some, option_map, refl, sym, ap, subst, ◌∙◌, Result, Ok, Err}
 use Rattle.base_io.specs.Vocabulary.{Told, StoreState, SinkState}
 use Rattle.machine_shape.specs.declared.Shape.{Shape}
-use Rattle.rig.specs.Rig.{RigState, Asked, shape_of}
-use Rattle.machine_image.specs.Images.{ImageValue}
+use Rattle.cmd_run.proofs.Vocabulary.{RigState, Asked, shape_of, ImageValue, named, attached-gives, image_rows, image_course, run_job}
 use Rattle.cmd_steps.specs.Vocabulary.{Outside, StandsIn, outside, around, Does, Took, Follows, reads_machine, reads_image, attaches, MayAsk}
 use Rattle.cmd_steps.specs.declared.refusal.Stop.{Stop}
-use Rattle.cmd_steps.proofs.Machines.{named, attached-gives}
 use Rattle.cmd_steps.proofs.Reading.{none-read, more-read, read-stops, read-gives}
-use Rattle.run_image.specs.Rows.{image_rows, image_course}
-use Rattle.cmd_run.specs.Run.{run_job}
 
 -- the machine that is attached has the image's shape
 pub attached-shape : (rig : RigState) (m : Shape) (name : List ℕ) (i : ImageValue) → rig.machine.attached ≡ Some (record { shape = m; name = name }) → i.config.shape ≡ m → shape_of rig ≡ Some i.config.shape

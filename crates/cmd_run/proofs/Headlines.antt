@@ -2,14 +2,9 @@
 use Rattle.std.proofs.Common.{◌≡◌, ℕ, List, [], ◌∷◌, ◌++◌, take, sym, ap, ◌∙◌, subst, inl, inr}
 use Rattle.std.proofs.lemmas.List.{take-map}
 use Rattle.base_io.specs.Sink.{Wrote}
-use Rattle.machine_image.specs.Images.{image_row}
+use Rattle.cmd_run.proofs.Vocabulary.{image_row, cycles_of, readings_of, Outside, around, ends, image_rows, image-ends, run_course}
 use Rattle.machine_history.specs.Vocabulary.{IsRunOver}
 use Rattle.machine_history.proofs.Images.{image_runs_alone}
-use Rattle.rig.specs.Rig.{cycles_of, readings_of}
-use Rattle.cmd_steps.specs.Vocabulary.{Outside, around, ends}
-use Rattle.run_image.specs.Rows.{image_rows}
-use Rattle.run_image.proofs.CourseLemmas.{image-ends}
-use Rattle.cmd_run.specs.Run.{run_course}
 use Rattle.cmd_run.specs.Headline.{IsRan}
 
 module _ (machine name image vectors : List ℕ) (old new : Outside) where

@@ -1,8 +1,6 @@
 -- The promises of a `run`, from how it ended.
-use Rattle.std.proofs.Common.{◌≡◌, ℕ, List}
-use Rattle.cmd_steps.specs.Outside.{Outside}
+use Rattle.cmd_run.proofs.Vocabulary.{◌≡◌, ℕ, List, Outside, run_job}
 use Rattle.cmd_steps.proofs.Done.{EndedAs, done-as}
-use Rattle.cmd_run.specs.Run.{run_job}
 use Rattle.cmd_run.specs.Promises.{run_words, RunPromises}
 use Rattle.cmd_run.proofs.Headlines.{ran}
 

@@ -1,14 +1,12 @@
 -- What the command `run` comes to.
-use Rattle.std.proofs.Common.{◌≡◌, ◌∙◌, ℕ, ◌≤◌, List, [], ◌∷◌, ◌++◌, length, refl, subst, inl, inr}
-use Rattle.machine_image.specs.Images.{ImageValue}
+use Rattle.cmd_run.proofs.Vocabulary.{◌≡◌, ◌∙◌, ℕ, ◌≤◌, List, [], ◌∷◌, ◌++◌, length, refl, subst, inl, inr, ImageValue, most_rows}
+use Rattle.cmd_run.proofs.Vocabulary.{RowsBegin, image_rows, image-well, image-few, run_course, run_files, run_job, RunFiles, RunRight}
+use Rattle.cmd_run.proofs.Vocabulary.{RunFew}
 use Rattle.cmd_steps.specs.Vocabulary.{vectors_at, outputs_line, Around, RowWork, refuses, IsLawful, EndsWell}
 use Rattle.cmd_steps.specs.declared.refusal.Refusal.TheVariants.{Memory}
 use Rattle.cmd_steps.proofs.Excused.{attach-excused}
 use Rattle.cmd_steps.proofs.ShapeLemmas.{one-machine, one-image}
 use Rattle.cmd_steps.proofs.Sure.{IsLed, Excuses, led-after, led-sure, machine-sure, image-sure}
-use Rattle.run_image.specs.Rows.{most_rows, RowsBegin, image_rows}
-use Rattle.run_image.proofs.CourseLemmas.{image-well, image-few}
-use Rattle.cmd_run.specs.Run.{run_course, run_files, run_job, RunFiles, RunRight, RunFew}
 
 module _ (machine name image vectors : List ℕ) (old new : Around) where
   abbrev t : RunFiles

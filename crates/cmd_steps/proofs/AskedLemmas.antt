@@ -1,13 +1,9 @@
 -- What words ask for, done to the end of the program.
 use Rattle.std.proofs.Common.{◌≡◌, ◌∙◌, ◌⊎◌, ℕ, ◌≤◌, Bool, true, false, List, [], ◌∷◌, map, IsTrue, refl, sym, inl, inr, arith, Result, Ok, Err, OnOk, IfErr}
-use Rattle.std.specs.List.{list_any}
-use Rattle.base_io.specs.Vocabulary.{Rose, SinkState}
+use Rattle.cmd_steps.proofs.Vocabulary.{list_any, Rose, SinkState, Refusal, Stop, Refused, Sink}
 use Rattle.base_io.specs.declared.sink.SinkFail.TheVariants.{Failed as SinkFailed, Memory as SinkMemory}
 use Rattle.cmd_steps.specs.Vocabulary.{Outside, outside, around, IsLater, status_of, Job, IsLawful, Does, EndWrote, Ended, Finishes, Refuses, Asked, no_job, a_job, HasNoJob, job_of, asked_if, DoesAsked}
-use Rattle.cmd_steps.specs.declared.refusal.Refusal.{Refusal}
 use Rattle.cmd_steps.specs.declared.refusal.Refusal.TheVariants.{Words, Machine, Faults, Defects, Image, Design, Vectors, Room, Rig, Store, Memory}
-use Rattle.cmd_steps.specs.declared.refusal.Stop.{Stop}
-use Rattle.cmd_steps.specs.declared.refusal.Stop.TheVariants.{Refused, Sink}
 use Rattle.cmd_steps.proofs.EndLemmas.{ended}
 use Rattle.cmd_steps.proofs.JobLemmas.{wrong-lawful, does-wrong, does-asked, ends-done, ends-stopped, end-wrong}
 use Rattle.cmd_steps.proofs.Done.{EndedAs, finishes-some}

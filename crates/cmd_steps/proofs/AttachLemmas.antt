@@ -1,8 +1,6 @@
 -- Machines that weren't attached.
-use Rattle.std.proofs.Common.{◌≡◌, ◌≤◌, ◌++◌, [], Some, None, length, refl, inl, inr, arith, Ok, Err}
-use Rattle.std.specs.List.{sum_by}
-use Rattle.base_io.specs.Vocabulary.{StoreState, SinkState}
-use Rattle.rig.specs.Rig.{RigState, Past, Asked, AttachFails, IsDetached, cycles_made, standing}
+use Rattle.cmd_steps.proofs.Vocabulary.{◌≡◌, ◌≤◌, ◌++◌, [], Some, None, length, refl, inl, inr, arith, Ok, Err, sum_by, StoreState}
+use Rattle.cmd_steps.proofs.Vocabulary.{SinkState, RigState, Past, Asked, AttachFails, IsDetached, cycles_made, standing}
 use Rattle.rig.specs.declared.rig.AttachFail.{AttachFail}
 use Rattle.rig.specs.declared.rig.AttachFail.TheVariants as attach
 use Rattle.machine_faults.specs.declared.kind.FaultsFault.TheVariants as text

@@ -1,10 +1,6 @@
 -- Commands that attach a machine and read a file behind it.
-use Rattle.std.proofs.Common.{◌≡◌, ℕ, List, [], ◌∷◌, refl, Result, Ok, Err}
-use Rattle.base_io.specs.Vocabulary.{Told, StoreState, SinkState}
-use Rattle.machine_shape.specs.declared.Shape.{Shape}
-use Rattle.rig.specs.Rig.{RigState}
+use Rattle.cmd_steps.proofs.Vocabulary.{◌≡◌, ℕ, List, [], ◌∷◌, refl, Result, Ok, Err, Told, StoreState, SinkState, Shape, RigState, Stop}
 use Rattle.cmd_steps.specs.Vocabulary.{Outside, StandsIn, outside, Course, Step, after, Took, Follows, reads_machine, attaches, MayAsk}
-use Rattle.cmd_steps.specs.declared.refusal.Stop.{Stop}
 use Rattle.cmd_steps.proofs.Machines.{named, AsksNamed, attached_course, attached-gives}
 use Rattle.cmd_steps.proofs.Reading.{HasRead, more-read, read-stops, read-gives}
 

@@ -1,10 +1,8 @@
 -- Counts that rose, and stops that need one.
 use Rattle.std.proofs.Common.{ℕ, List, IsTrue, subst, arith, Result, Ok, Err, IfErr}
 use Rattle.base_io.specs.declared.sink.SinkFail.TheVariants.{Failed, Memory}
-use Rattle.cmd_steps.specs.Vocabulary.{Outside, IsLater, IsCounted, WriteStops}
+use Rattle.cmd_steps.proofs.Vocabulary.{Outside, IsLater, IsCounted, WriteStops, Stop, Refused, Sink}
 use Rattle.cmd_steps.specs.declared.refusal.Refusal.TheVariants as refused
-use Rattle.cmd_steps.specs.declared.refusal.Stop.{Stop}
-use Rattle.cmd_steps.specs.declared.refusal.Stop.TheVariants.{Refused, Sink}
 
 -- a write that stopped
 pub write-counted : (line : List ℕ) (stop : Stop) (old new : Outside) → WriteStops line stop old.sink new.sink → IsCounted ⊥ stop old new

@@ -1,9 +1,8 @@
 -- A prefix of the lines of rows: whole lines, and then a line that is cut.
 use Rattle.std.proofs.Common.{◌≡◌, ℕ, ◌+◌, ◌-◌, ◌<◌, ◌≤◌, Bool, List, [], ◌∷◌, ◌++◌, length, take, flat_map, refl, sym, ap, ◌∙◌, arith, append_assoc, length-append, subst}
 use Rattle.std.proofs.lemmas.List.{take-append-le, append-nil}
-use Rattle.std.proofs.Math.Seq.{take-append-add}
+use Rattle.cmd_steps.proofs.Vocabulary.{take-append-add, row_line}
 use native.Mathlib.Decide.{dec_lt}
-use Rattle.design_vectors.specs.Rows.{row_line}
 
 pub some-line : (row : List Bool) → 0 < length (row_line row)
 some-line [] = omega arith

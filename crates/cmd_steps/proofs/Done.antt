@@ -1,12 +1,8 @@
 -- What a program comes to at its end: wrong words, or a job that was done.
-use Rattle.std.proofs.Common.{◌≡◌, ◌∙◌, ◌⊎◌, ℕ, List, ◌++◌, sym, inl, inr, arith}
-use Rattle.base_io.specs.Sink.{SinkState, Wrote}
+use Rattle.cmd_steps.proofs.Vocabulary.{◌≡◌, ◌∙◌, ◌⊎◌, ℕ, List, ◌++◌, sym, inl, inr, arith, SinkState, Wrote, Refusal, Stop, Refused, Sink}
 use Rattle.base_io.specs.declared.sink.SinkFail.TheVariants.{Failed as SinkFailed, Memory as SinkMemory}
 use Rattle.cmd_steps.specs.Vocabulary.{Outside, around, Course, ends, refuses, status_of, Job, wrong_words, EndWrote, Ended, Finishes, Refuses, whole, refused, cut_line, no_line, cut}
-use Rattle.cmd_steps.specs.declared.refusal.Refusal.{Refusal}
 use Rattle.cmd_steps.specs.declared.refusal.Refusal.TheVariants.{Words, Machine, Faults, Defects, Image, Design, Vectors, Room, Rig, Store, Memory, Differ}
-use Rattle.cmd_steps.specs.declared.refusal.Stop.{Stop}
-use Rattle.cmd_steps.specs.declared.refusal.Stop.TheVariants.{Refused, Sink}
 use Rattle.cmd_steps.proofs.Standing.{Standing, stands-end}
 
 -- a refusal has a status of its own

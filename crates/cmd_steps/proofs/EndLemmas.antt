@@ -1,11 +1,8 @@
 -- How a job ends the program.
 use Rattle.std.proofs.Common.{◌≡◌, ◌⊎◌, ℕ, ◌<◌, ◌≤◌, List, [], ◌++◌, Bool, false, IsTrue, refl, sym, subst, inl, inr, ◌∙◌, arith, ap, append_assoc, append-nil}
-use Rattle.base_io.specs.Vocabulary.{Rose, SinkState, Wrote}
+use Rattle.cmd_steps.proofs.Vocabulary.{Rose, SinkState, Wrote, Stop, Refused, Sink, Refusal}
 use Rattle.base_io.specs.declared.sink.SinkFail.TheVariants.{Failed, Memory}
 use Rattle.cmd_steps.specs.Vocabulary.{Outside, IsLater, SomethingRose, around, Course, ends, refuses, AsksSome, IsCounted, StopWrote, status_of, refusal_text, Job, IsLawful, IsExcused, Fronts, ShortPlace, Ended, IsRefused, IsOfFronts, LacksBefore, EndWrote, Stands, Finishes, Refuses, whole, refused, cut_line, no_line, cut}
-use Rattle.cmd_steps.specs.declared.refusal.Stop.{Stop}
-use Rattle.cmd_steps.specs.declared.refusal.Stop.TheVariants.{Refused, Sink}
-use Rattle.cmd_steps.specs.declared.refusal.Refusal.{Refusal}
 use Rattle.cmd_steps.specs.declared.refusal.Refusal.TheVariants.{Words, Machine, Faults, Defects, Image, Design, Vectors, Room, Rig, Store, Memory as NoMemory, Differ}
 use Rattle.cmd_steps.proofs.WriteLemmas.{Wrote-then}
 

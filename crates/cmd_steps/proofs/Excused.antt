@@ -1,19 +1,9 @@
 -- Steps that read what is right don't refuse it, and give nothing else.
-use Rattle.std.proofs.Common.{◌≡◌, ℕ, ◌≤◌, Bool, List, length, None, arith}
-use Rattle.base_io.specs.Told.{holds}
+use Rattle.cmd_steps.proofs.Vocabulary.{◌≡◌, ℕ, ◌≤◌, Bool, List, length, None, arith, holds, Shape, most_text, IsMachine, DefectList}
+use Rattle.cmd_steps.proofs.Vocabulary.{IsText, NetlistData, IsDesign, ImageValue, IsImage, image_bytes, Asked, most_bytes, DesignFile}
+use Rattle.cmd_steps.proofs.Vocabulary.{Refusal}
 use Rattle.machine_shape.specs.declared.Counts.{Counts}
-use Rattle.machine_shape.specs.declared.Shape.{Shape}
-use Rattle.machine_shape.specs.Vocabulary.{most_text}
-use Rattle.machine_text.specs.Machine.{IsMachine}
-use Rattle.machine_defects.specs.Vocabulary.{DefectList, IsText}
-use Rattle.design_netlist.specs.declared.netlist_data.NetlistData.{NetlistData}
-use Rattle.design_blif.specs.Designs.{IsDesign}
-use Rattle.machine_image.specs.Images.{ImageValue, IsImage, image_bytes}
-use Rattle.rig.specs.Rig.{Asked}
-use Rattle.base_text.specs.Size.{most_bytes}
 use Rattle.cmd_steps.specs.Vocabulary.{says_at, Around, RowWork, all_rows, ends, refuses, writes, IsExcused, EndsWell, Leads, NoMachine, NoDefects, NoDesign, NoImage, NotAttached, FailsOnRig, NotOpened}
-use Rattle.cmd_steps.specs.declared.design_file.DesignFile.{DesignFile}
-use Rattle.cmd_steps.specs.declared.refusal.Refusal.{Refusal}
 use Rattle.cmd_steps.specs.declared.refusal.Refusal.TheVariants.{Machine, Faults, Defects, Image, Design, Vectors, Rig, Store, Memory, Differ}
 
 module _ (old new : Around) where

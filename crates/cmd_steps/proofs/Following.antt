@@ -1,10 +1,8 @@
 -- A course goes on: what a step or a line is followed by.
 use Rattle.std.proofs.Common.{ℕ, List, [], ◌++◌, take, refl, sym, subst, inl, inr, append_assoc, Result, Ok, Err}
-use Rattle.base_io.specs.Sink.{SinkState, Wrote}
+use Rattle.cmd_steps.proofs.Vocabulary.{SinkState, Wrote, Stop, Refused, Sink}
 use Rattle.base_io.specs.declared.sink.SinkFail.TheVariants.{Failed, Memory}
 use Rattle.cmd_steps.specs.Vocabulary.{Course, Next, Step, after, write, done, ends, refuses, writes, IsWritten, StopWrote, StepStops, WriteStops}
-use Rattle.cmd_steps.specs.declared.refusal.Stop.{Stop}
-use Rattle.cmd_steps.specs.declared.refusal.Stop.TheVariants.{Refused, Sink}
 use Rattle.cmd_steps.proofs.WriteLemmas.{Wrote-none, Wrote-then}
 
 module _ {T : Type 0} (step : Step T) (here : Type 0) (rest : T → Course) where

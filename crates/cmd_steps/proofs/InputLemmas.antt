@@ -1,9 +1,6 @@
 -- A checked design has few inputs, and so has an image.
 use Rattle.std.proofs.Common.{◌≡◌, ℕ, zero, suc, ◌+◌, ◌≤◌, List, [], ◌∷◌, ◌++◌, length, map, get_or, arith, refl, sym, ◌∙◌, length-append}
-use Rattle.std.proofs.lemmas.List.{length-map}
-use Rattle.machine_shape.specs.Shape.{pins_of}
-use Rattle.machine_image.specs.Images.{ImageValue, IsImage}
-use Rattle.design_netlist.specs.declared.netlist_data.NetlistData.{NetlistData}
+use Rattle.cmd_steps.proofs.Vocabulary.{length-map, pins_of, ImageValue, IsImage, NetlistData}
 use Rattle.design_netlist.specs.declared.netlist_data.PortDef.{PortDef}
 use Rattle.design_netlist.specs.Vocabulary.{signal_at, drive_words, cover_drive, IsChecked}
 use Rattle.design_netlist.proofs.ListLemmas.{few_numbers}

@@ -1,11 +1,8 @@
 -- Jobs that are done for words.
 use Rattle.std.proofs.Common.{◌≡◌, ◌⊎◌, ℕ, List, [], IsTrue, refl, inl, inr, arith, Result, Ok, Err}
-use Rattle.base_io.specs.Vocabulary.{Rose, Wrote}
+use Rattle.cmd_steps.proofs.Vocabulary.{Rose, Wrote, Refusal, Stop, Refused}
 use Rattle.cmd_steps.specs.Vocabulary.{Outside, around, ends, refuses, Asks, AsksSome, status_of, Job, wrong_words, IsLawful, Does, EndWrote, Stands, Finishes, whole, refused, cut_line, no_line, cut}
-use Rattle.cmd_steps.specs.declared.refusal.Refusal.{Refusal}
 use Rattle.cmd_steps.specs.declared.refusal.Refusal.TheVariants as refused
-use Rattle.cmd_steps.specs.declared.refusal.Stop.{Stop}
-use Rattle.cmd_steps.specs.declared.refusal.Stop.TheVariants.{Refused}
 use Rattle.cmd_steps.proofs.WriteLemmas.{Wrote-none, asks-all}
 use Rattle.cmd_steps.proofs.EndLemmas.{end-stop}
 use Rattle.cmd_steps.proofs.Logs.{log_same}

@@ -1,9 +1,6 @@
 -- Steps that leave the machine as it is.
-use Rattle.std.proofs.Common.{◌≡◌, List, ℕ, [], refl, ◌∙◌, Result, Ok, Err}
-use Rattle.base_io.specs.Vocabulary.{StoreState, SinkState}
-use Rattle.rig.specs.Rig.{RigState}
+use Rattle.cmd_steps.proofs.Vocabulary.{◌≡◌, List, ℕ, [], refl, ◌∙◌, Result, Ok, Err, StoreState, SinkState, RigState, Stop}
 use Rattle.cmd_steps.specs.Vocabulary.{Outside, outside, Course, Step, after, write, done, StepStops, Took, Puts, Follows}
-use Rattle.cmd_steps.specs.declared.refusal.Stop.{Stop}
 use Rattle.cmd_steps.proofs.Reading.{line-last}
 use Rattle.cmd_steps.proofs.Taking.{step-stops, step-gives}
 

@@ -1,7 +1,6 @@
 -- What a course leads to, from what its steps do.
-use Rattle.std.proofs.Common.{◌≡◌, ℕ, List, [], ◌++◌, refl, sym, subst, inl, inr}
+use Rattle.cmd_steps.proofs.Vocabulary.{◌≡◌, ℕ, List, [], ◌++◌, refl, sym, subst, inl, inr, Refusal}
 use Rattle.cmd_steps.specs.Vocabulary.{Course, Next, Step, StopsAt, after, write, done, ends, refuses, writes, Leads}
-use Rattle.cmd_steps.specs.declared.refusal.Refusal.{Refusal}
 
 -- a step that stops refuses something
 pub stopped : {T : Type 0} (step : Step T) (next : Next) → StopsAt step next → (refusal : Refusal) × (next ≡ refuses refusal) × step.stops refusal

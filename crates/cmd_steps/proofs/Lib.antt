@@ -36,3 +36,4 @@ pub mod Logs
 mod CutRows
 mod AttachLemmas
 mod TookLemmas
+mod Vocabulary

@@ -1,12 +1,8 @@
 -- A machine, a list of its defects and one more file are read, and the rest is of what they gave: a lemma for each place where
 -- the reading ends.
-use Rattle.std.proofs.Common.{◌≡◌, ℕ, List, [], ◌∷◌, refl, Result, Ok, Err}
-use Rattle.base_io.specs.Vocabulary.{Told, StoreState, SinkState}
-use Rattle.machine_shape.specs.declared.Shape.{Shape}
+use Rattle.cmd_steps.proofs.Vocabulary.{◌≡◌, ℕ, List, [], ◌∷◌, refl, Result, Ok, Err, Told, StoreState, SinkState, Shape, RigState, Stop}
 use Rattle.machine_defects.specs.Lists.{DefectList}
-use Rattle.rig.specs.Rig.{RigState}
 use Rattle.cmd_steps.specs.Vocabulary.{ReadFile, StandsAmong, list_file, plain_file, outside, Course, Step, TookAmong, Follows, reads_machine, reads_defects, behind_list, behind_machine, list_files, listed_course, third_files}
-use Rattle.cmd_steps.specs.declared.refusal.Stop.{Stop}
 use Rattle.cmd_steps.proofs.Reading.{HasReadAmong, none-read, more-among, stops-among, gives-among}
 
 -- a file was read, or it wasn't

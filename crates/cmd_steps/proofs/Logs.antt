@@ -1,10 +1,9 @@
 -- The log of a rig over the steps of a command.
 use Rattle.std.proofs.Common.{◌≡◌, ◌∙◌, ◌⊎◌, ◌+◌, ◌<◌, ◌≤◌, Option, List, [], ◌∷◌, ◌++◌, length, length-append, subst, ap, arith, inl, inr, IsSome}
 use Rattle.std.proofs.lemmas.Bool.{cases_lt, false≢true}
-use Rattle.rig.specs.Rig.{RigState, Machine, Asked, AttachFails, IsDetached, Narrows, Tells}
+use Rattle.cmd_steps.proofs.Vocabulary.{RigState, Machine, Asked, AttachFails, IsDetached, Narrows, Tells, LogGoesOn, TellsTruly}
 use Rattle.rig.specs.declared.rig.AttachFail.{AttachFail}
 use Rattle.rig.specs.declared.rig.AttachFail.TheVariants as attach
-use Rattle.cmd_steps.specs.Vocabulary.{LogGoesOn, TellsTruly}
 
 pub log_same : (r : RigState) → LogGoesOn r r
 log_same r = record { asked = omega arith; narrows = λ same f e. e; tells = λ t. t; told = λ more. absurd (let none : ⊥ = omega (arith, more) in none) }

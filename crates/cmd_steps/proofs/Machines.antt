@@ -1,10 +1,6 @@
 -- Commands that begin with a machine: it is read, and attached under a name.
-use Rattle.std.proofs.Common.{◌≡◌, ℕ, List, [], ◌∷◌, refl, inl, Result, Ok, Err}
-use Rattle.base_io.specs.Vocabulary.{StoreState, SinkState}
-use Rattle.machine_shape.specs.declared.Shape.{Shape}
-use Rattle.rig.specs.Rig.{RigState, Asked}
-use Rattle.cmd_steps.specs.Vocabulary.{Outside, outside, Course, after, Took, Follows, reads_machine, attaches, MayAsk, AsksMachine}
-use Rattle.cmd_steps.specs.declared.refusal.Stop.{Stop}
+use Rattle.cmd_steps.proofs.Vocabulary.{◌≡◌, ℕ, List, [], ◌∷◌, refl, inl, Result, Ok, Err, StoreState, SinkState, Shape, RigState, Asked}
+use Rattle.cmd_steps.proofs.Vocabulary.{Outside, outside, Course, after, Took, Follows, reads_machine, attaches, MayAsk, AsksMachine, Stop}
 use Rattle.cmd_steps.proofs.Taking.{step-stops, step-gives, attach-gives, asks-machine}
 
 abbrev pub named : List ℕ → Shape → Asked

@@ -1,9 +1,7 @@
 -- Steps that touch the rig alone.
 use Rattle.std.proofs.Common.{◌≡◌, ◌≤◌, false, [], None, refl, sym, ap, append-nil, arith, Ok, Err}
-use Rattle.base_io.specs.Vocabulary.{untold, StoreState, SinkState}
-use Rattle.rig.specs.Rig.{RigState, Machine, Narrows, Tells}
+use Rattle.cmd_steps.proofs.Vocabulary.{untold, StoreState, SinkState, RigState, Machine, Narrows, Tells, Stop}
 use Rattle.cmd_steps.specs.Vocabulary.{Outside, outside, IsLater, Step, StepStops, IsCounted, Took}
-use Rattle.cmd_steps.specs.declared.refusal.Stop.{Stop}
 use Rattle.cmd_steps.proofs.Logs.{log_kept}
 
 -- an outside to ask with for what doesn't depend on it

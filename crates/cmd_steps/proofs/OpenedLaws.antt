@@ -1,8 +1,6 @@
 -- What rows behind an opened file of vectors lead to.
-use Rattle.std.proofs.Common.{◌≡◌, ◌∙◌, ℕ, Bool, List, ◌∷◌, ◌++◌, None, ap, inl, inr}
-use Rattle.base_io.specs.Vocabulary.{Told, holds, StoreState}
+use Rattle.cmd_steps.proofs.Vocabulary.{◌≡◌, ◌∙◌, ℕ, Bool, List, ◌∷◌, ◌++◌, None, ap, inl, inr, Told, holds, StoreState, Memory}
 use Rattle.cmd_steps.specs.Vocabulary.{says_at, AreAll, outputs_line, output_text, Around, StandsIn, RowWork, all_rows, HasReadRows, ends, refuses, write, opens, Leads, EndsWell}
-use Rattle.cmd_steps.specs.declared.refusal.Refusal.TheVariants.{Memory}
 use Rattle.cmd_steps.proofs.Leading.{after-leads, write-leads}
 use Rattle.cmd_steps.proofs.Excused.{open-excused, rows-well}
 use Rattle.cmd_steps.proofs.OpenedRows.{opened}

@@ -1,10 +1,7 @@
 -- A file of vectors that is opened, the line `outputs` behind that, and then the rows.
 use Rattle.std.proofs.Common.{◌≡◌, List, ℕ, [], ◌∷◌, refl, subst, inl, Result, Ok, Err}
-use Rattle.base_io.specs.Vocabulary.{Told, IsPresent, StoreState, SinkState}
+use Rattle.cmd_steps.proofs.Vocabulary.{Told, IsPresent, StoreState, SinkState, Memory, Stop, Refused}
 use Rattle.cmd_steps.specs.Vocabulary.{outputs_line, Outside, outside, StandsIn, Course, after, write, opens, Took, Puts, Follows}
-use Rattle.cmd_steps.specs.declared.refusal.Refusal.TheVariants.{Memory}
-use Rattle.cmd_steps.specs.declared.refusal.Stop.{Stop}
-use Rattle.cmd_steps.specs.declared.refusal.Stop.TheVariants.{Refused}
 use Rattle.cmd_steps.proofs.Taking.{stands-then, took-nothing, step-stops, step-gives, line-stops, line-gives}
 
 -- `here` holds while the line is written

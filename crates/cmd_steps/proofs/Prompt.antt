@@ -1,11 +1,9 @@
 -- No row waits when the store is asked: no vector's line has ended in the bytes before, but those of the rows that were written.
 use Rattle.std.proofs.Common.{◌≡◌, ◌⊎◌, ℕ, zero, suc, ◌+◌, ◌-◌, ◌<◌, ◌≤◌, Bool, List, [], ◌∷◌, ◌++◌, length, take, drop, map, get_or, Option, None, Some, IfSome, option_map, arith, refl, sym, ap, subst, ◌∙◌, inl, inr, append-nil, append_assoc, length-append}
-use Rattle.std.specs.List.{AllByRecursion}
-use Rattle.std.proofs.Math.Seq.{drop-append_seam}
+use Rattle.cmd_steps.proofs.Vocabulary.{AllByRecursion, drop-append_seam}
 use Rattle.std.proofs.lemmas.List.{drop-drop, get_or-drop, length-map, length-take-le, take-append-drop, take_all, take_more}
 use Rattle.base_io.specs.Vocabulary.{Told, untold, absent, holds, bytes_of, IfTold, IsPresent, StoreState}
-use Rattle.design_vectors.specs.Vectors.{VectorLine}
-use Rattle.design_vectors.specs.Readings.{VectorReading, says_next, AreOpen, HasAsked}
+use Rattle.design_vectors.specs.{Vectors.VectorLine, Readings.VectorReading, Readings.says_next, Readings.AreOpen, Readings.HasAsked}
 use Rattle.design_vectors.proofs.OpenLemmas.{IsLate, all-more, open-late}
 use Rattle.cmd_steps.specs.Files.{says_at, HasEnded, NoRowWaits, file_of}
 use Rattle.cmd_steps.proofs.TextLemmas.{IfTold-with}

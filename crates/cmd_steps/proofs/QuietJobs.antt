@@ -1,9 +1,6 @@
 -- Commands that look for no room: what they owe, and what stands written at their end.
 use Rattle.std.proofs.Common.{◌≡◌, ◌∙◌, ℕ, ◌≤◌, List, [], ◌++◌, length, refl, ap, subst, append-nil, inl, inr}
-use Rattle.base_io.specs.Told.{holds}
-use Rattle.machine_shape.specs.declared.Shape.{Shape}
-use Rattle.machine_text.specs.Machine.{IsMachine}
-use Rattle.base_text.specs.Size.{most_bytes}
+use Rattle.cmd_steps.proofs.Vocabulary.{holds, Shape, IsMachine, most_bytes}
 use Rattle.cmd_steps.specs.Vocabulary.{Around, Course, after, write, done, ends, IsLawful, quiet, reads_machine, attaches}
 use Rattle.cmd_steps.proofs.Excused.{machine-excused, attach-excused}
 use Rattle.cmd_steps.proofs.ShapeLemmas.{one-machine}

@@ -1,9 +1,7 @@
 -- Files that are read one after another, and the line that is written last.
 use Rattle.std.proofs.Common.{◌≡◌, ◌∙◌, ℕ, List, [], ◌∷◌, map, refl, subst, Result, Ok, Err}
-use Rattle.base_io.specs.Vocabulary.{Told, StoreState, SinkState}
-use Rattle.rig.specs.Rig.{RigState}
+use Rattle.cmd_steps.proofs.Vocabulary.{Told, StoreState, SinkState, RigState, Stop}
 use Rattle.cmd_steps.specs.Vocabulary.{Outside, outside, ReadFile, StandsAmong, StandsIn, plain_file, Course, Step, after, write, done, Took, TookAmong, Puts, Follows}
-use Rattle.cmd_steps.specs.declared.refusal.Stop.{Stop}
 use Rattle.cmd_steps.proofs.Taking.{stands-more, step-stops, step-gives, line-stops, line-gives, all-done}
 
 -- these files were read since the command began, the last first

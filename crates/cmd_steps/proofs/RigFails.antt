@@ -1,14 +1,9 @@
 -- Steps that leave the machine as it is, and stop: by the fault of the rig, or for lack of memory.
-use Rattle.std.proofs.Common.{◌≡◌, ◌≤◌, [], refl, Result, Err}
-use Rattle.base_io.specs.Vocabulary.{Rose, StoreState, SinkState}
-use Rattle.rig.specs.Rig.{RigState, Narrows, Tells}
+use Rattle.cmd_steps.proofs.Vocabulary.{◌≡◌, ◌≤◌, [], refl, Result, Err, Rose, StoreState, SinkState, RigState, Narrows, Tells, Outside}
+use Rattle.cmd_steps.proofs.Vocabulary.{outside, Course, Step, after, stop_of_rig, FailsOnRig, Took, Follows, Refusal, Stop, Refused, Sink}
 use Rattle.rig.specs.declared.rig.RigFail.{RigFail}
 use Rattle.rig.specs.declared.rig.RigFail.TheVariants as work
-use Rattle.cmd_steps.specs.Vocabulary.{Outside, outside, Course, Step, after, stop_of_rig, FailsOnRig, Took, Follows}
-use Rattle.cmd_steps.specs.declared.refusal.Refusal.{Refusal}
 use Rattle.cmd_steps.specs.declared.refusal.Refusal.TheVariants as refused
-use Rattle.cmd_steps.specs.declared.refusal.Stop.{Stop}
-use Rattle.cmd_steps.specs.declared.refusal.Stop.TheVariants.{Refused, Sink}
 use Rattle.cmd_steps.proofs.Keeping.{kept-stops}
 use Rattle.cmd_steps.proofs.Making.{rig-stopped}
 use Rattle.cmd_steps.proofs.Taking.{took-nothing}

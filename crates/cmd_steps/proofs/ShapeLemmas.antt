@@ -1,15 +1,8 @@
 -- A right text is of one machine, one list, one design and one image.
-use Rattle.std.proofs.Common.{◌≡◌, ◌∙◌, ℕ, List, ap, sym, subst}
-use Rattle.base_io.specs.Told.{Told, holds}
-use Rattle.machine_shape.specs.declared.Shape.{Shape}
+use Rattle.cmd_steps.proofs.Vocabulary.{◌≡◌, ◌∙◌, ℕ, List, ap, sym, subst, Told, holds, Shape, IsMachine, DefectList, IsText, NetlistData}
+use Rattle.cmd_steps.proofs.Vocabulary.{IsDesign, ImageValue, IsImage, Reads, image_bytes, DesignFile}
 use Rattle.machine_shape.proofs.OneShape.{same-shape}
-use Rattle.machine_text.specs.Machine.{IsMachine}
-use Rattle.machine_defects.specs.Vocabulary.{DefectList, IsText}
-use Rattle.design_netlist.specs.declared.netlist_data.NetlistData.{NetlistData}
-use Rattle.design_blif.specs.Designs.{IsDesign}
-use Rattle.machine_image.specs.Images.{ImageValue, IsImage, Reads, image_bytes}
 use Rattle.cmd_steps.specs.Texts.{reads_machine, reads_defects, reads_design, reads_text, reads_image, IsMachineText, IsDefectsText, IsDesignText}
-use Rattle.cmd_steps.specs.declared.design_file.DesignFile.{DesignFile}
 use Rattle.cmd_steps.specs.declared.design.DesignText.{DesignText}
 
 pub one-machine : (told : Told) (bytes : List ℕ) (m n : Shape) → told ≡ holds bytes → IsMachine bytes m.counts → (reads_machine told).gives n → m ≡ n

@@ -1,11 +1,8 @@
 -- What stands written wherever a command ends: a text of its course, and a front of what comes next.
 use Rattle.std.proofs.Common.{◌≡◌, ◌⊎◌, ℕ, List, [], ◌++◌, length, take, refl, sym, subst, inl, inr, append-nil, take_all, le_refl, Result, Ok, Err}
-use Rattle.base_io.specs.Sink.{SinkState, Wrote}
+use Rattle.cmd_steps.proofs.Vocabulary.{SinkState, Wrote, Refusal, Stop, Refused, Sink}
 use Rattle.base_io.specs.declared.sink.SinkFail.TheVariants.{Failed, Memory}
 use Rattle.cmd_steps.specs.Vocabulary.{Outside, Course, Next, ends, refuses, writes, EndWrote, Stands, whole, refused, cut_line, no_line, cut, IsWritten, refusal_text}
-use Rattle.cmd_steps.specs.declared.refusal.Refusal.{Refusal}
-use Rattle.cmd_steps.specs.declared.refusal.Stop.{Stop}
-use Rattle.cmd_steps.specs.declared.refusal.Stop.TheVariants.{Refused, Sink}
 
 -- what may stand behind the text, by what comes next. Where the sink lacks memory for a line, a refusal comes in its place
 abbrev pub Adds : Next → List ℕ → Type 0

@@ -1,9 +1,7 @@
 -- Files of vectors that are started.
 use Rattle.std.proofs.Common.{◌≡◌, ℕ, ◌≤◌, List, [], ◌∷◌, ◌++◌, Some, refl, inl, inr, arith, Ok, Err}
-use Rattle.base_io.specs.Vocabulary.{Told, IsPresent, StoreState, StartFails, SinkState}
-use Rattle.base_io.specs.declared.store.StoreFail.{StoreFail}
+use Rattle.cmd_steps.proofs.Vocabulary.{Told, IsPresent, StoreState, StartFails, SinkState, StoreFail, RigState}
 use Rattle.base_io.specs.declared.store.StoreFail.TheVariants.{Failed, Memory}
-use Rattle.rig.specs.Rig.{RigState}
 use Rattle.cmd_steps.specs.Vocabulary.{file_of, Outside, outside, StandsIn, IsLater, AsksSome, StepStops, IsCounted, stop_of_store, opens, Took}
 use Rattle.cmd_steps.proofs.Logs.{log_same}
 

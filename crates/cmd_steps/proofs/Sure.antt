@@ -1,17 +1,7 @@
 -- Courses that come to such ends whatever they have written, and steps of which it is sure what they give.
-use Rattle.std.proofs.Common.{◌≡◌, ℕ, ◌≤◌, List, length, refl, subst}
-use Rattle.base_io.specs.Told.{Told, holds}
-use Rattle.machine_shape.specs.declared.Shape.{Shape}
-use Rattle.machine_shape.specs.Vocabulary.{most_text}
-use Rattle.machine_text.specs.Machine.{IsMachine}
-use Rattle.machine_defects.specs.Vocabulary.{DefectList, IsText}
-use Rattle.design_netlist.specs.declared.netlist_data.NetlistData.{NetlistData}
-use Rattle.design_blif.specs.Designs.{IsDesign}
-use Rattle.machine_image.specs.Images.{ImageValue, IsImage, image_bytes}
-use Rattle.base_text.specs.Size.{most_bytes}
+use Rattle.cmd_steps.proofs.Vocabulary.{◌≡◌, ℕ, ◌≤◌, List, length, refl, subst, Told, holds, Shape, most_text, IsMachine, DefectList}
+use Rattle.cmd_steps.proofs.Vocabulary.{IsText, NetlistData, IsDesign, ImageValue, IsImage, image_bytes, most_bytes, DesignFile, Refusal}
 use Rattle.cmd_steps.specs.Vocabulary.{Around, Course, Next, Step, after, write, done, ends, refuses, writes, IsExcused, reads_machine, reads_defects, reads_design, reads_text, reads_image}
-use Rattle.cmd_steps.specs.declared.design_file.DesignFile.{DesignFile}
-use Rattle.cmd_steps.specs.declared.refusal.Refusal.{Refusal}
 use Rattle.cmd_steps.proofs.Leading.{after-leads, write-leads, done-leads}
 use Rattle.cmd_steps.proofs.Excused.{machine-excused, defects-excused, design-excused, image-excused}
 use Rattle.cmd_steps.proofs.ShapeLemmas.{one-machine, one-list, one-design, one-text, one-image, with_text}

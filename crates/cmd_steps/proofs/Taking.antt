@@ -1,12 +1,7 @@
 -- Steps that compose: a step that stops ends each course that begins with it, and one that gives is followed by the rest.
 use Rattle.std.proofs.Common.{◌≡◌, ℕ, List, [], ◌∷◌, ◌++◌, refl, sym, subst, ap, ◌∙◌, inl, inr, arith, append-nil, Result, Ok, Err}
-use Rattle.base_io.specs.Vocabulary.{StoreState, SinkState}
-use Rattle.machine_shape.specs.declared.Shape.{Shape}
-use Rattle.rig.specs.Rig.{RigState, Machine, Asked}
+use Rattle.cmd_steps.proofs.Vocabulary.{StoreState, SinkState, Shape, RigState, Machine, Asked, Memory, Stop, Refused}
 use Rattle.cmd_steps.specs.Vocabulary.{Outside, outside, IsLater, ReadFile, StandsAmong, StandsIn, Course, Step, after, write, done, StepStops, IsCounted, Took, TookAmong, Puts, Follows, attaches, MayAsk, AsksMachine}
-use Rattle.cmd_steps.specs.declared.refusal.Refusal.TheVariants.{Memory}
-use Rattle.cmd_steps.specs.declared.refusal.Stop.{Stop}
-use Rattle.cmd_steps.specs.declared.refusal.Stop.TheVariants.{Refused}
 use Rattle.cmd_steps.proofs.Making.{took-quietly, stopped-quietly}
 use Rattle.cmd_steps.proofs.Counting.{counted-after, write-counted}
 use Rattle.cmd_steps.proofs.Following.{after-stops, after-gives, write-stops, write-then, done-now}

@@ -1,21 +1,13 @@
 -- Texts that are read: what is so of the bytes is so of the file that has them.
-use Rattle.std.proofs.Common.{◌≡◌, ◌∙◌, ℕ, ◌<◌, ◌≤◌, List, length, refl, inl, arith}
-use Rattle.base_io.specs.Told.{Told, untold, absent, holds, IfTold}
-use Rattle.machine_shape.specs.declared.Shape.{Shape}
-use Rattle.machine_shape.specs.Vocabulary.{most_text}
+use Rattle.cmd_steps.proofs.Vocabulary.{◌≡◌, ◌∙◌, ℕ, ◌<◌, ◌≤◌, List, length, refl, inl, arith, Told, untold, absent, holds, IfTold, Shape}
+use Rattle.cmd_steps.proofs.Vocabulary.{most_text, IsDesignFault, TooLong, most_bytes, DesignFile, Refusal, Stop, Refused}
 use Rattle.machine_text.specs.declared.kind.MachineKind.TheVariants as machine
 use Rattle.machine_defects.specs.declared.kind.DefectsKind.TheVariants as defects
 use Rattle.design_netlist.specs.declared.fault.DesignKind.{DesignKind}
 use Rattle.design_netlist.specs.declared.fault.DesignKind.TheVariants as design
-use Rattle.design_blif.specs.Designs.{IsDesignFault, TooLong}
 use Rattle.machine_image.specs.declared.kind.ImageKind.TheVariants as image
-use Rattle.base_text.specs.Size.{most_bytes}
 use Rattle.cmd_steps.specs.Vocabulary.{Step, Outside, StepStops, IsCounted, reads_machine, reads_defects, reads_design, reads_text, reads_image, NoMachine, NoDefects, NoDesign, NoImage, IsNoDesign, IsRefusedAt}
-use Rattle.cmd_steps.specs.declared.design_file.DesignFile.{DesignFile}
-use Rattle.cmd_steps.specs.declared.refusal.Refusal.{Refusal}
 use Rattle.cmd_steps.specs.declared.refusal.Refusal.TheVariants as refused
-use Rattle.cmd_steps.specs.declared.refusal.Stop.{Stop}
-use Rattle.cmd_steps.specs.declared.refusal.Stop.TheVariants.{Refused}
 
 pub IfTold-with : (told : Told) (P Q : List ℕ → Type 0) → IfTold told P → ((bytes : List ℕ) → P bytes → Q bytes) → IfTold told Q
 IfTold-with untold P Q h f = tt

@@ -1,12 +1,8 @@
 -- Files that are read, as steps.
 use Rattle.std.proofs.Common.{◌≡◌, ℕ, ◌≤◌, List, [], ◌∷◌, ◌++◌, refl, inr, arith, Result, Ok, Err, IfOk, IfErr}
-use Rattle.base_io.specs.Vocabulary.{Told, holds, StoreState, WholeFails, SinkState}
-use Rattle.base_io.specs.declared.store.StoreFail.{StoreFail}
+use Rattle.cmd_steps.proofs.Vocabulary.{Told, holds, StoreState, WholeFails, SinkState, StoreFail, RigState, Stop, Refused, Sink}
 use Rattle.base_io.specs.declared.store.StoreFail.TheVariants.{Failed, Memory}
-use Rattle.rig.specs.Rig.{RigState}
 use Rattle.cmd_steps.specs.Vocabulary.{Outside, outside, IsLater, ReadFile, StandsAmong, Step, Asks, AsksSome, StepStops, IsCounted, stop_of_store, Took, TookAmong}
-use Rattle.cmd_steps.specs.declared.refusal.Stop.{Stop}
-use Rattle.cmd_steps.specs.declared.refusal.Stop.TheVariants.{Refused, Sink}
 use Rattle.cmd_steps.proofs.Counting.{counted-after}
 use Rattle.cmd_steps.proofs.TextLemmas.{IsTextOf, IsOfFile}
 use Rattle.cmd_steps.proofs.WriteLemmas.{asks-after}

@@ -1,9 +1,5 @@
 -- Steps that touch nothing: a value is made, or it isn't.
-use Rattle.std.proofs.Common.{[], refl, Result, Ok, Err}
-use Rattle.cmd_steps.specs.Vocabulary.{Outside, Course, Step, after, Took, Follows}
-use Rattle.cmd_steps.specs.declared.refusal.Refusal.TheVariants.{Memory}
-use Rattle.cmd_steps.specs.declared.refusal.Stop.{Stop}
-use Rattle.cmd_steps.specs.declared.refusal.Stop.TheVariants.{Refused}
+use Rattle.cmd_steps.proofs.Vocabulary.{[], refl, Result, Ok, Err, Outside, Course, Step, after, Took, Follows, Memory, Stop, Refused}
 use Rattle.cmd_steps.proofs.Taking.{took-lacks, step-stops, step-gives}
 
 module _ {T U : Type 0} {step : Step T} {here : Type 0} {rest : T → Course} {o : Outside} where

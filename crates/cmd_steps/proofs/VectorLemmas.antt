@@ -1,13 +1,11 @@
 -- A file of vectors that is read, vector by vector.
 use Rattle.std.proofs.Common.{◌≡◌, ℕ, ◌+◌, ◌-◌, ◌<◌, ◌≤◌, Bool, true, false, List, [], ◌∷◌, ◌++◌, length, take, drop, map, Option, None, Some, IfSome, option_map, slice_get, unwrap_or, arith, refl, sym, ap, ◌∙◌, append-nil, append_assoc, length-append, length-drop}
 use Rattle.std.specs.Option.{option_map_or}
-use Rattle.std.proofs.Math.Seq.{take-append_seam, get_or-append_seam}
-use Rattle.std.proofs.lemmas.List.{length-map, map-append, drop-drop}
+use Rattle.cmd_steps.proofs.Vocabulary.{take-append_seam, get_or-append_seam, length-map, map-append, drop-drop}
 use Rattle.std.proofs.lemmas.Option.{slice_get-get_or, slice_get_past}
 use Rattle.base_io.specs.Vocabulary.{Told, untold, absent, holds, bytes_of, IfTold, IsPresent, StorePlace, StoreState, rest_of}
-use Rattle.design_vectors.specs.declared.vectors.VectorKind.{VectorKind}
+use Rattle.design_vectors.specs.declared.vectors.{VectorKind.VectorKind, VectorsFail.TheVariants.Text}
 use Rattle.design_vectors.specs.Vectors.{SaidVectors, VectorLine, nothing_said, with_vector}
-use Rattle.design_vectors.specs.declared.vectors.VectorsFail.TheVariants.{Text}
 use Rattle.cmd_steps.proofs.TextLemmas.{IfTold-with}
 use Rattle.design_vectors.specs.Readings.{VectorReading, new_reading, says_next, NextGives, NextFails, IsFaultOf, HasMoved}
 use Rattle.cmd_steps.specs.Files.{most_vector_bytes, most_ahead, says_at, vectors_at, end_at, AreFirst, AreAll, AreBeforeFault, IsNearNext, IsNearEnd, file_of, IsBegun}

@@ -1,7 +1,6 @@
 -- Courses of which nothing is refused but what is excused.
-use Rattle.std.proofs.Common.{ℕ, List, sym, subst, inl, inr}
+use Rattle.cmd_steps.proofs.Vocabulary.{ℕ, List, sym, subst, inl, inr, Refusal}
 use Rattle.cmd_steps.specs.Vocabulary.{Around, Course, Next, Step, after, write, done, IsExcused, EndsWell}
-use Rattle.cmd_steps.specs.declared.refusal.Refusal.{Refusal}
 use Rattle.cmd_steps.proofs.Leading.{step-leads}
 
 pub record IsWell (old new : Around) (course : Course) : Type 0 where

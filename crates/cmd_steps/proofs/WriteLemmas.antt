@@ -1,10 +1,6 @@
 -- One write after another.
 use Rattle.std.proofs.Common.{◌≡◌, ℕ, List, [], ◌∷◌, ◌++◌, Bool, flat_map, Option, None, Some, append-nil, option_map, refl, sym, ap, ◌∙◌, append_assoc, inr, inl, subst, Result, Ok, Err}
-use Rattle.std.proofs.lemmas.Grind.{flat_map-append}
-use Rattle.base_io.specs.Vocabulary.{Wrote, StoreState}
-use Rattle.design_vectors.specs.Rows.{row_line}
-use Rattle.cmd_steps.specs.Stops.{Asks, AsksSome}
-use Rattle.cmd_steps.specs.declared.refusal.Stop.{Stop}
+use Rattle.cmd_steps.proofs.Vocabulary.{flat_map-append, Wrote, StoreState, row_line, Asks, AsksSome, Stop}
 
 append_twice : (told : Option (List ℕ)) (s t : List ℕ) → option_map (λ w. w ++ t) (option_map (λ w. w ++ s) told) ≡ option_map (λ w. w ++ (s ++ t)) told
 append_twice None s t = refl

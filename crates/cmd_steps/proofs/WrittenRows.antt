@@ -1,20 +1,13 @@
 -- The rows of a file of vectors that is read row by row: those so far, how they go on, and how they end.
 use Rattle.std.proofs.Common.{◌≡◌, ◌⊎◌, ℕ, ◌+◌, ◌-◌, ◌<◌, ◌≤◌, Bool, false, List, [], ◌∷◌, ◌++◌, length, take, flat_map, refl, sym, ap, subst, ◌∙◌, arith, inl, inr, append-nil, append_assoc, length-append, Result, Ok, Err, IfErr}
-use Rattle.std.proofs.lemmas.Grind.{flat_map-append}
-use Rattle.std.proofs.lemmas.List.{take-take}
-use Rattle.std.proofs.Math.Seq.{take-append_seam}
+use Rattle.cmd_steps.proofs.Vocabulary.{flat_map-append, take-take, take-append_seam, Told, StoreState, SinkState, Wrote, PutFails}
+use Rattle.cmd_steps.proofs.Vocabulary.{RigState, Machine, Narrows, Tells, row_line, Stop, Refused, Sink}
 use native.Mathlib.Decide.{dec_lt}
-use Rattle.base_io.specs.Vocabulary.{Told, StoreState, SinkState, Wrote, PutFails}
-use Rattle.base_io.specs.declared.sink.SinkFail.{SinkFail}
-use Rattle.base_io.specs.declared.sink.SinkFail.TheVariants.{Failed, Memory}
-use Rattle.rig.specs.Rig.{RigState, Machine, Narrows, Tells}
+use Rattle.base_io.specs.declared.sink.SinkFail.{SinkFail, TheVariants.Failed, TheVariants.Memory}
 use Rattle.design_vectors.specs.declared.vectors.VectorsFail.{VectorsFail}
 use Rattle.design_vectors.specs.declared.vectors.VectorsFail.TheVariants.{Text, Failed as VectorsFailed}
 use Rattle.design_vectors.specs.Readings.{VectorReading, new_reading, NextGives, NextFails, HasAsked}
-use Rattle.design_vectors.specs.Rows.{row_line}
 use Rattle.cmd_steps.specs.Vocabulary.{most_vector_bytes, file_of, vectors_at, AreFirst, AreAll, AreBeforeFault, IsBegun, IsNearNext, NoRowWaits, StaysOpen, IsRead, IsPutOut, IsHeldUp, WaitsOrPuts, Outside, outside, IsLater, RowWork, all_rows, HasRows, HasReadRows, IsBeforeRow, Asks, IsCounted, IsWritten, StopWrote, stop_of_vectors, Puts, Follows}
-use Rattle.cmd_steps.specs.declared.refusal.Stop.{Stop}
-use Rattle.cmd_steps.specs.declared.refusal.Stop.TheVariants.{Refused, Sink}
 use Rattle.cmd_steps.proofs.Counting.{counted-after}
 use Rattle.cmd_steps.proofs.CutRows.{IsCutAt, some-line, cut-of, first-of, none-waits}
 use Rattle.cmd_steps.proofs.Prompt.{none-asked, waits-fewer, prompt-now}

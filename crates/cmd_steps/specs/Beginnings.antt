@@ -4,8 +4,7 @@ use Rattle.base_io.specs.Vocabulary.{Told, StoreState}
 use Rattle.machine_shape.specs.declared.Shape.{Shape}
 use Rattle.machine_defects.specs.Lists.{DefectList}
 use Rattle.cmd_steps.specs.Outside.{Around, ReadFile, StandsAmong, StandsIn, list_file, plain_file}
-use Rattle.cmd_steps.specs.Courses.{Course, Step, after}
-use Rattle.cmd_steps.specs.Texts.{reads_machine, reads_defects, attaches}
+use Rattle.cmd_steps.specs.{Courses.Course, Courses.Step, Courses.after, Texts.reads_machine, Texts.reads_defects, Texts.attaches}
 
 -- before the first load: where the store stands, and no load was made
 abbrev pub Unloaded : List (List ℕ) → Around → Around → Type 0

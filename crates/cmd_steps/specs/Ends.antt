@@ -2,14 +2,10 @@
 use Rattle.std.specs.Prelude.{◌≡◌, ◌⊎◌, ℕ, ◌≤◌, List, ◌++◌, take, IsTrue, false}
 use Rattle.base_io.specs.Vocabulary.{Rose, SinkState, Wrote}
 use Rattle.base_io.specs.declared.sink.SinkFail.TheVariants.{Failed as SinkFailed, Memory as SinkMemory}
-use Rattle.cmd_steps.specs.Outside.{Outside, IsLater, SomethingRose, around}
-use Rattle.cmd_steps.specs.Jobs.{Job}
-use Rattle.cmd_steps.specs.Faults.{ShortPlace}
-use Rattle.cmd_steps.specs.Courses.{Course, Next, ends, refuses, writes}
+use Rattle.cmd_steps.specs.{Outside.Outside, Outside.IsLater, Outside.SomethingRose, Outside.around, Jobs.Job, Faults.ShortPlace}
+use Rattle.cmd_steps.specs.{Courses.Course, Courses.Next, Courses.ends, Courses.refuses, Courses.writes, declared.refusal.Stop.Stop}
 use Rattle.cmd_steps.specs.Stops.{AsksSome, IsCounted, refusal_text, status_of}
-use Rattle.cmd_steps.specs.declared.refusal.Refusal.{Refusal}
-use Rattle.cmd_steps.specs.declared.refusal.Refusal.TheVariants.{Memory, Room, Differ}
-use Rattle.cmd_steps.specs.declared.refusal.Stop.{Stop}
+use Rattle.cmd_steps.specs.declared.refusal.Refusal.{Refusal, TheVariants.Memory, TheVariants.Room, TheVariants.Differ}
 use Rattle.cmd_steps.specs.declared.refusal.Stop.TheVariants.{Refused, Sink}
 
 -- what stands before the line of a refusal: what the course has before it, or before a line at which the sink answered a lack of memory

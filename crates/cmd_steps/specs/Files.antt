@@ -4,8 +4,7 @@ use Rattle.std.specs.Prelude.{Some, IfSome}
 use Rattle.std.specs.Prelude.{option_map, unwrap_or}
 use Rattle.std.specs.List.{AllByRecursion}
 use Rattle.base_io.specs.Vocabulary.{Told, untold, holds, IfTold, IsPresent, StorePlace, StoreState}
-use Rattle.design_vectors.specs.Vectors.{SaidVectors, VectorLine, file_says}
-use Rattle.design_vectors.specs.declared.vectors.VectorKind.{VectorKind}
+use Rattle.design_vectors.specs.{Vectors.SaidVectors, Vectors.VectorLine, Vectors.file_says, declared.vectors.VectorKind.VectorKind}
 
 -- the most bytes of a file of vectors
 abbrev pub most_vector_bytes : ℕ

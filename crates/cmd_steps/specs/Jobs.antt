@@ -1,13 +1,9 @@
 -- What a command is: one record for each.
 use Rattle.std.specs.Prelude.{◌≡◌, ◌⊎◌, ℕ, List, [], ◌++◌, Result}
 use Rattle.base_io.specs.Counts.{Rose}
-use Rattle.cmd_steps.specs.Outside.{Around, Outside, around}
-use Rattle.cmd_steps.specs.Courses.{Course, Next, ends, refuses, writes}
-use Rattle.cmd_steps.specs.Stops.{status_of}
-use Rattle.cmd_steps.specs.Took.{Follows}
-use Rattle.cmd_steps.specs.declared.refusal.Refusal.{Refusal}
+use Rattle.cmd_steps.specs.{Outside.Around, Outside.Outside, Outside.around, Stops.status_of, Took.Follows, declared.refusal.Stop.Stop}
+use Rattle.cmd_steps.specs.{Courses.Course, Courses.Next, Courses.ends, Courses.refuses, Courses.writes, declared.refusal.Refusal.Refusal}
 use Rattle.cmd_steps.specs.declared.refusal.Refusal.TheVariants.{Words, Faults, Rig, Store, Memory}
-use Rattle.cmd_steps.specs.declared.refusal.Stop.{Stop}
 
 -- The store and the rig as a job begins are `old`, and at its end `new`
 pub record Job : Type 1 where

@@ -1,8 +1,7 @@
 -- The lines that the program writes.
 use Rattle.std.specs.Prelude.{ℕ, Bool, List, [], ◌∷◌, ◌++◌, flat_map, codes}
 use Rattle.std.specs.Fmt.{decimal}
-use Rattle.machine_shape.specs.declared.Shape.{Shape}
-use Rattle.machine_shape.specs.Names.{node_name}
+use Rattle.machine_shape.specs.{declared.Shape.Shape, Names.node_name}
 use Rattle.machine_text.specs.declared.kind.MachineKind.{MachineKind}
 use Rattle.machine_text.specs.declared.kind.MachineKind.TheVariants as machine
 use Rattle.machine_faults.specs.declared.kind.FaultsKind.{FaultsKind}
@@ -15,14 +14,11 @@ use Rattle.design_netlist.specs.declared.fault.DesignKind.{DesignKind}
 use Rattle.design_netlist.specs.declared.fault.DesignKind.TheVariants.{Byte, Word, Unknown, NoModel, SameModel, Row, RowMixed}
 use Rattle.design_netlist.specs.declared.fault.DesignKind.TheVariants.{LatchType, LatchInit, Control, Limit, LeftOut}
 use Rattle.design_netlist.specs.declared.fault.DesignKind.TheVariants.{NoSuchModel, Formal, Recursive, Doubled, Undriven, Cyclic}
-use Rattle.design_vectors.specs.declared.vectors.VectorKind.{VectorKind}
+use Rattle.design_vectors.specs.{declared.vectors.VectorKind.VectorKind, Rows.row_line}
 use Rattle.design_vectors.specs.declared.vectors.VectorKind.TheVariants.{Char, Width, Limit as VectorLimit}
-use Rattle.design_vectors.specs.Rows.{row_line}
-use Rattle.place_plan.specs.declared.short.Resource.{Resource}
-use Rattle.cmd_steps.specs.declared.design_file.DesignFile.{DesignFile}
-use Rattle.cmd_steps.specs.declared.design_file.DesignFile.TheVariants.{Design, First, Second}
+use Rattle.place_plan.specs.declared.short.{Resource.Resource, Short.Short}
+use Rattle.cmd_steps.specs.declared.design_file.DesignFile.{DesignFile, TheVariants.Design, TheVariants.First, TheVariants.Second}
 use Rattle.place_plan.specs.declared.short.Resource.TheVariants as resource
-use Rattle.place_plan.specs.declared.short.Short.{Short}
 
 -- the byte LF behind a text
 abbrev pub as_line : List ℕ → List ℕ

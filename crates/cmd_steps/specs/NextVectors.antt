@@ -1,15 +1,11 @@
 -- The next vector of a file that is read from a store, and rows that wait to be written together.
 use Rattle.std.specs.Prelude.{◌≡◌, ◌⊎◌, ◌<◌, ◌≤◌, ℕ, List, [], Bool, true, false, length, Result, IsOk}
 use Rattle.base_io.specs.Vocabulary.{StoreState, SinkState, Wrote}
-use Rattle.design_vectors.specs.declared.vectors.VectorsFail.{VectorsFail}
-use Rattle.design_vectors.specs.declared.vectors.VectorsFail.TheVariants.{Text, Failed}
+use Rattle.design_vectors.specs.declared.vectors.VectorsFail.{VectorsFail, TheVariants.Text, TheVariants.Failed}
 use Rattle.design_vectors.specs.Readings.{VectorReading, NextGives, NextFails, HasMoved, HasAsked}
-use Rattle.cmd_steps.specs.Files.{most_vector_bytes, most_ahead}
-use Rattle.cmd_steps.specs.Stops.{WriteStops}
-use Rattle.cmd_steps.specs.Took.{Puts}
+use Rattle.cmd_steps.specs.{Files.most_vector_bytes, Files.most_ahead, Stops.WriteStops, Took.Puts}
 use Rattle.cmd_steps.specs.declared.refusal.Refusal.TheVariants as refused
-use Rattle.cmd_steps.specs.declared.refusal.Stop.{Stop}
-use Rattle.cmd_steps.specs.declared.refusal.Stop.TheVariants.{Refused, Sink}
+use Rattle.cmd_steps.specs.declared.refusal.Stop.{Stop, TheVariants.Refused, TheVariants.Sink}
 
 -- the store went on in its file, or its count rose
 pub record StaysOpen (old new : StoreState) : Type 0 where

@@ -1,8 +1,7 @@
 -- What a command has around it: the store, the rig and the sink.
 use Rattle.std.specs.Prelude.{◌≡◌, ◌⊎◌, ℕ, ◌+◌, ◌<◌, ◌≤◌, List, [], ◌∷◌, length, map, IfSome, IsSome}
 use Rattle.base_io.specs.Vocabulary.{Rose, StoreState, SinkState}
-use Rattle.machine_shape.specs.declared.Shape.{Shape}
-use Rattle.machine_shape.specs.Vocabulary.{most_text}
+use Rattle.machine_shape.specs.{declared.Shape.Shape, Vocabulary.most_text}
 use Rattle.rig.specs.Rig.{RigState, Narrows, ToldExplain}
 use Rattle.base_text.specs.Size.{most_bytes}
 

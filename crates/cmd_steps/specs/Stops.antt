@@ -6,19 +6,16 @@ use Rattle.base_io.specs.declared.store.StoreFail.TheVariants.{Failed as StoreFa
 use Rattle.base_io.specs.declared.sink.SinkFail.TheVariants.{Failed as SinkFailed, Memory as SinkMemory}
 use Rattle.design_vectors.specs.declared.vectors.VectorsFail.{VectorsFail}
 use Rattle.design_vectors.specs.declared.vectors.VectorsFail.TheVariants.{Text, Failed as VectorsFailed}
-use Rattle.rig.specs.declared.rig.RigFail.{RigFail}
+use Rattle.rig.specs.declared.rig.{RigFail.RigFail, AttachFail.AttachFail}
 use Rattle.rig.specs.declared.rig.RigFail.TheVariants as work
-use Rattle.rig.specs.declared.rig.AttachFail.{AttachFail}
 use Rattle.rig.specs.declared.rig.AttachFail.TheVariants as attach
 use Rattle.machine_faults.specs.declared.kind.FaultsFault.TheVariants as text
 use Rattle.cmd_steps.specs.Lines.{as_line, machine_line, faults_line, defects_line, image_line, design_line, vectors_line, room_line}
 use Rattle.cmd_steps.specs.Outside.{Outside}
-use Rattle.cmd_steps.specs.Courses.{Course, Step, ends, refuses, writes}
-use Rattle.cmd_steps.specs.declared.refusal.Refusal.{Refusal}
+use Rattle.cmd_steps.specs.{Courses.Course, Courses.Step, Courses.ends, Courses.refuses, Courses.writes, declared.refusal.Refusal.Refusal}
 use Rattle.cmd_steps.specs.declared.refusal.Refusal.TheVariants.{Words, Machine, Faults, Defects, Image, Design, Vectors, Room, Rig, Store}
 use Rattle.cmd_steps.specs.declared.refusal.Refusal.TheVariants.{Memory, Differ}
-use Rattle.cmd_steps.specs.declared.refusal.Stop.{Stop}
-use Rattle.cmd_steps.specs.declared.refusal.Stop.TheVariants.{Refused, Sink}
+use Rattle.cmd_steps.specs.declared.refusal.Stop.{Stop, TheVariants.Refused, TheVariants.Sink}
 
 -- the line of a refusal
 abbrev pub refusal_text : Refusal → List ℕ

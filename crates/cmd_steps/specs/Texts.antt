@@ -1,26 +1,18 @@
 -- The steps that read a file into a value, and those that attach a machine and open the vectors.
 use Rattle.std.specs.Prelude.{◌≡◌, ◌⊎◌, ℕ, ◌≤◌, List, ◌∷◌, [], ◌++◌, length, Some}
 use Rattle.base_io.specs.Vocabulary.{next_count, Told, IfTold, IsPresent, holds}
-use Rattle.machine_shape.specs.declared.Counts.{Counts}
-use Rattle.machine_shape.specs.declared.Shape.{Shape}
-use Rattle.machine_shape.specs.Vocabulary.{most_text}
-use Rattle.machine_text.specs.Machine.{IsMachine}
-use Rattle.machine_text.specs.Faults.{IsFault}
+use Rattle.machine_shape.specs.{declared.Counts.Counts, declared.Shape.Shape, Vocabulary.most_text}
+use Rattle.machine_text.specs.{Machine.IsMachine, Faults.IsFault}
 use Rattle.machine_faults.specs.declared.kind.FaultsFault.TheVariants.{At}
 use Rattle.machine_defects.specs.Vocabulary.{DefectList, IsText, IsFaultAt}
-use Rattle.design_netlist.specs.declared.netlist_data.NetlistData.{NetlistData}
-use Rattle.design_netlist.specs.declared.fault.DesignKind.{DesignKind}
+use Rattle.design_netlist.specs.declared.{netlist_data.NetlistData.NetlistData, fault.DesignKind.DesignKind}
 use Rattle.design_blif.specs.Designs.{IsDesign, IsDesignFault}
 use Rattle.machine_image.specs.Images.{ImageValue, IsImage, image_bytes, IsImageFault, Reads}
 use Rattle.rig.specs.Rig.{RigState, Asked, IsDetached, RefusesText}
 use Rattle.base_text.specs.Size.{most_bytes}
-use Rattle.cmd_steps.specs.Courses.{Step}
-use Rattle.cmd_steps.specs.declared.design_file.DesignFile.{DesignFile}
-use Rattle.cmd_steps.specs.declared.design.DesignText.{DesignText}
-use Rattle.cmd_steps.specs.declared.refusal.Refusal.{Refusal}
+use Rattle.cmd_steps.specs.{Courses.Step, declared.refusal.Refusal.Refusal, declared.refusal.Stop.Stop}
+use Rattle.cmd_steps.specs.declared.{design_file.DesignFile.DesignFile, design.DesignText.DesignText, refusal.Stop.TheVariants.Refused}
 use Rattle.cmd_steps.specs.declared.refusal.Refusal.TheVariants as refused
-use Rattle.cmd_steps.specs.declared.refusal.Stop.{Stop}
-use Rattle.cmd_steps.specs.declared.refusal.Stop.TheVariants.{Refused}
 
 -- The file is told, is no longer than a text may be, and says this
 pub record IsRightFile (told : Told) (Says : List ℕ → Type 0) : Type 0 where

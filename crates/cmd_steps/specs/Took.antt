@@ -2,8 +2,7 @@
 use Rattle.std.specs.Prelude.{◌≡◌, ℕ, ◌≤◌, List, map, OnOk, IfOk, IfErr, Result}
 use Rattle.base_io.specs.Sink.{SinkState, Wrote}
 use Rattle.cmd_steps.specs.Outside.{Outside, IsLater, ReadFile, StandsAmong, plain_file}
-use Rattle.cmd_steps.specs.Courses.{Course, Step}
-use Rattle.cmd_steps.specs.Stops.{Asks, StepStops, WriteStops, IsWritten, IsCounted}
+use Rattle.cmd_steps.specs.{Courses.Course, Courses.Step, Stops.Asks, Stops.StepStops, Stops.WriteStops, Stops.IsWritten, Stops.IsCounted}
 use Rattle.cmd_steps.specs.declared.refusal.Stop.{Stop}
 
 -- A step was made that writes nothing. It asked the store for these names, it stands in one of these files or where it stood,

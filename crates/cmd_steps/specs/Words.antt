@@ -1,8 +1,6 @@
 -- The words of a command line, and the job that they ask for.
 use Rattle.std.specs.Prelude.{ℕ, Bool, true, false, List, [], ◌∷◌, ◌==◌, slice_index_or, Result}
-use Rattle.cmd_steps.specs.Outside.{Outside}
-use Rattle.cmd_steps.specs.Jobs.{Job, wrong_words, IsLawful, Does}
-use Rattle.cmd_steps.specs.declared.refusal.Stop.{Stop}
+use Rattle.cmd_steps.specs.{Outside.Outside, Jobs.Job, Jobs.wrong_words, Jobs.IsLawful, Jobs.Does, declared.refusal.Stop.Stop}
 
 -- the word at a place
 abbrev pub word_at : List (List ℕ) → ℕ → List ℕ

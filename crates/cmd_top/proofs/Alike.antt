@@ -1,6 +1,6 @@
 -- Of all commands one alone compares what copies have read.
 use Rattle.std.proofs.Common.{◌≡◌, ℕ, List, [], ◌∷◌, Bool, true, false, Option, None, Some, length, refl, ap, subst, inl, inr, arith, codes}
-use Rattle.std.specs.List.{list_any}
+use Rattle.cmd_top.proofs.Vocabulary.{list_any, bench_job, commands, asked_in, asked_by, begins_with, number_of, of_number}
 use Rattle.cmd_steps.specs.Vocabulary.{Around, Course, Next, Step, RowWork, all_rows, after, write, done, refuses, Job, Asked, no_job, a_job, job_of, asked_if, is_dashed, word_at}
 use Rattle.cmd_steps.specs.declared.refusal.Refusal.TheVariants.{Differ}
 use Rattle.cmd_eval.specs.Eval.{eval_job}
@@ -8,12 +8,10 @@ use Rattle.cmd_compile.specs.Compile.{compile_job}
 use Rattle.cmd_run.specs.Run.{run_job}
 use Rattle.cmd_diagnose.specs.Diagnose.{diagnose_job}
 use Rattle.cmd_go.specs.Go.{go_job}
-use Rattle.cmd_bench.specs.Bench.{bench_job}
 use Rattle.cmd_check.specs.Check.{check_job, by_test}
 use Rattle.cmd_repair.specs.Repair.{repair_job}
 use Rattle.cmd_pair.specs.Pair.{pair_job}
 use Rattle.cmd_twice.specs.Promises.{twice_words}
-use Rattle.cmd_top.specs.Words.{commands, asked_in, asked_by, begins_with, number_of, of_number}
 use Rattle.cmd_top.proofs.WordLemmas.{begun}
 
 -- ---- courses that don't come to that refusal

@@ -14,8 +14,7 @@ use Rattle.cmd_steps.specs.Vocabulary.{Outside, IsMachineText, IsDefectsText}
 use Rattle.machine_shape.proofs.OneShape.{same-shape}
 use Rattle.diag_check.specs.Soundly.{IsSoundUnder}
 use Rattle.run_image.specs.Rows.{AreRunRows}
-use Rattle.cmd_check.specs.Answers.{IsTrueUnder}
-use Rattle.cmd_check.specs.declared.answer.Answer.{Answer}
+use Rattle.cmd_check.specs.{Answers.IsTrueUnder, declared.answer.Answer.Answer}
 use Rattle.cmd_top.specs.Chain.{RunsTheDesign, RunsOnItsMachine, IsCertified}
 
 module _ (machine defects design name image vectors : List ℕ) (old compiled handed ran : Outside) where

@@ -1,10 +1,7 @@
 -- What a program comes to, from what its words ask for.
-use Rattle.std.proofs.Common.{◌≡◌, ◌∙◌, ℕ, List, ap, subst}
-use Rattle.std.specs.List.{list_any}
+use Rattle.cmd_top.proofs.Vocabulary.{◌≡◌, ◌∙◌, ℕ, List, ap, subst, list_any, ended-asked, commands, asked_in, asked_by}
 use Rattle.cmd_steps.specs.Vocabulary.{Outside, Job, Ended, Asked, no_job, a_job, HasNoJob, job_of, asked_if, is_dashed}
-use Rattle.cmd_steps.proofs.AskedLemmas.{ended-asked}
 use Rattle.cmd_steps.proofs.Done.{EndedAs}
-use Rattle.cmd_top.specs.Words.{commands, asked_in, asked_by}
 
 -- words that the table has a line for are wrong, since one begins with `-`, or the job was done
 pub ended-as : {line : List (List ℕ)} {job : Job} (words : List (List ℕ)) {status : ℕ} (old new : Outside)

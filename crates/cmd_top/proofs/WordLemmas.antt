@@ -1,13 +1,10 @@
 -- Words that are looked at.
 use Rattle.std.proofs.Common.{◌≡◌, ◌∙◌, ℕ, ◌≤◌, List, Bool, true, false, cond, leb, ◌&&◌, Some, None, length, refl, sym, ap, arith, bytes_eq}
-use Rattle.std.specs.Fmt.{decimal}
-use Rattle.std.proofs.lemmas.Bool.{eqb-true, le-leb, leb-true, and_parts}
-use Rattle.std.proofs.lemmas.Slice.Eq.{bytes_eq-Decides}
+use Rattle.cmd_top.proofs.Vocabulary.{decimal, word_at, number_of, begins_with}
+use Rattle.std.proofs.lemmas.{Bool.eqb-true, Bool.le-leb, Bool.leb-true, Bool.and_parts, Slice.Eq.bytes_eq-Decides}
 use Rattle.std.proofs.lemmas.Fmt.{digits_value-decimal}
 use Rattle.base_text.specs.Number.{read_on}
 use Rattle.base_text.proofs.NumberLemmas.{own}
-use Rattle.cmd_steps.specs.Words.{word_at}
-use Rattle.cmd_top.specs.Words.{number_of, begins_with}
 
 -- ---- numerals
 

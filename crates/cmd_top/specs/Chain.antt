@@ -8,8 +8,7 @@ use Rattle.machine_image.specs.Images.{drive_of, image_row}
 use Rattle.machine_history.specs.Vocabulary.{AreAmong, History, IsRunOver}
 use Rattle.rig.specs.Rig.{Explains, cycles_of, drives_of, readings_of}
 use Rattle.cmd_steps.specs.Outside.{Outside}
-use Rattle.cmd_check.specs.Headline.{IsChecked}
-use Rattle.cmd_check.specs.declared.answer.Answer.TheVariants.{Sound}
+use Rattle.cmd_check.specs.{Headline.IsChecked, declared.answer.Answer.TheVariants.Sound}
 use Rattle.cmd_compile.specs.Headline.{IsCompiled}
 use Rattle.cmd_diagnose.specs.Headline.{IsDiagnosed}
 use Rattle.cmd_run.specs.Headline.{IsRan}

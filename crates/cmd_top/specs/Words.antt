@@ -1,7 +1,6 @@
 -- The words of the command line, and what they ask for.
 use Rattle.std.specs.Prelude.{ℕ, Bool, List, [], ◌∷◌, length, Option, None, Some, if◌then◌else◌, ◌==◌, ◌&&◌, codes, bytes_eq, nat_le}
-use Rattle.std.specs.List.{list_any}
-use Rattle.std.specs.Fmt.{decimal}
+use Rattle.std.specs.{List.list_any, Fmt.decimal}
 use Rattle.base_text.specs.Number.{read_on}
 use Rattle.cmd_steps.specs.Vocabulary.{Job, Asked, no_job, a_job, asked_if, is_dashed, word_at}
 use Rattle.cmd_eval.specs.Eval.{eval_job}

@@ -1,14 +1,8 @@
 -- Rows of two copies, each of which is the first copy's and then the second's.
 use Rattle.std.proofs.Common.{◌≡◌, ◌+◌, ◌∙◌, ℕ, Bool, List, [], ◌∷◌, ◌++◌, map, length, take, drop, get_or, refl, sym, ap, subst, arith, length-append}
-use Rattle.std.specs.List.{AllByRecursion}
-use Rattle.std.proofs.lemmas.List.{take_at, drop_at, length-map}
-use Rattle.machine_meaning.specs.Vocabulary.{Pins}
-use Rattle.machine_image.specs.Images.{ImageValue, image_row}
-use Rattle.design_netlist.specs.declared.netlist_data.NetlistData.{NetlistData}
+use Rattle.cmd_twice.proofs.Vocabulary.{AllByRecursion, take_at, drop_at, length-map, Pins, ImageValue, image_row, NetlistData}
+use Rattle.cmd_twice.proofs.Vocabulary.{side_by_side, AreBothRows, all_repeated, HalvesDiffer, Two}
 use Rattle.design_netlist.specs.Rows.{AreRows, RowsFrom, next_state, first_state, HasOneRows}
-use Rattle.place_both.specs.Both.{side_by_side, AreBothRows}
-use Rattle.run_image.specs.Copying.{all_repeated, HalvesDiffer}
-use Rattle.run_image.specs.declared.copies.Copies.TheVariants.{Two}
 
 abbrev pub AreWide : ℕ → List (List Bool) → Type 0
 AreWide n rows = AllByRecursion (λ (row : List Bool). length row ≡ n) rows

@@ -1,27 +1,13 @@
 -- What a `twice` has written wherever it ends, and where the copies differ, from its course.
 use Rattle.std.proofs.Common.{◌≡◌, ◌⊎◌, ◌+◌, ◌∙◌, ℕ, Bool, List, [], ◌∷◌, ◌++◌, flat_map, length, take, drop, refl, sym, ap, subst, inl, inr, arith, append_assoc, append-nil, length-append, take_all, Some}
-use Rattle.std.proofs.lemmas.List.{take_at, take-append-drop, map-append}
-use Rattle.base_io.specs.Vocabulary.{Rose, Wrote}
-use Rattle.machine_shape.specs.declared.Shape.{Shape}
-use Rattle.machine_meaning.specs.Vocabulary.{Covers, Faults}
-use Rattle.machine_defects.specs.Text.{text_of}
-use Rattle.design_netlist.specs.declared.netlist_data.NetlistData.{NetlistData}
+use Rattle.cmd_twice.proofs.Vocabulary.{take_at, take-append-drop, map-append, Rose, Wrote, Shape, Covers, Faults, text_of, NetlistData}
+use Rattle.cmd_twice.proofs.Vocabulary.{ImageValue, Asked, Explains, Design, Refusal, Adds, Listed, IsListed, lists, share, all_repeated}
+use Rattle.cmd_twice.proofs.Vocabulary.{ReadsApart, loads, rows_work, Two, repeated-count, IsImageForTwice, lays_twice, twice_laid}
+use Rattle.cmd_twice.proofs.Vocabulary.{twice_course}
 use Rattle.design_vectors.specs.Rows.{row_line}
-use Rattle.machine_image.specs.Images.{ImageValue}
-use Rattle.rig.specs.Rig.{Asked, Explains}
 use Rattle.cmd_steps.specs.Vocabulary.{AreFirst, outputs_line, output_text, Outside, around, Next, RowWork, all_rows, HasReadRows, ends, refuses, writes, opens, attaches, reads_machine, reads_design, refusal_text}
-use Rattle.cmd_steps.specs.declared.design_file.DesignFile.TheVariants.{Design}
-use Rattle.cmd_steps.specs.declared.refusal.Refusal.{Refusal}
 use Rattle.cmd_steps.specs.declared.refusal.Refusal.TheVariants as refused
 use Rattle.cmd_steps.proofs.Leading.{stopped}
-use Rattle.cmd_steps.proofs.Standing.{Adds}
-use Rattle.diag_list.specs.Lists.{Listed, IsListed, lists}
-use Rattle.run_image.specs.Copying.{share, all_repeated}
-use Rattle.run_image.specs.Rows.{ReadsApart, loads}
-use Rattle.run_image.specs.Laid.{rows_work}
-use Rattle.run_image.specs.declared.copies.Copies.TheVariants.{Two}
-use Rattle.run_image.proofs.Copied.{repeated-count}
-use Rattle.cmd_twice.specs.Twice.{IsImageForTwice, lays_twice, twice_laid, twice_course}
 use Rattle.cmd_twice.specs.Headline.{AreFirstRows, AreReadByBoth, StandsTwice, nothing, no_rows, some_rows, ReadDifferently}
 use Rattle.cmd_twice.proofs.Reading.{read-by-both, never-alarmed, first-taken, more-taken, all-taken, logged-rows}
 

@@ -1,20 +1,10 @@
 -- What a `twice` that is done has done, from its course.
 use Rattle.std.proofs.Common.{◌≡◌, ◌+◌, ◌∙◌, ℕ, List, [], ◌∷◌, ◌++◌, length, Result, Ok, Err, OnOk, sym, ap, subst, map, take}
-use Rattle.base_io.specs.Sink.{Wrote}
-use Rattle.machine_shape.specs.declared.Shape.{Shape}
-use Rattle.machine_meaning.specs.Vocabulary.{Covers, Faults}
-use Rattle.machine_image.specs.Images.{image_row}
+use Rattle.cmd_twice.proofs.Vocabulary.{Wrote, Shape, Covers, Faults, image_row, Explains, cycles_of, readings_of, Outside, around, Course}
+use Rattle.cmd_twice.proofs.Vocabulary.{ends, Asks, IsWritten, LoadsOnce, Stop, Standing, MadeFewLoads, all_repeated, Two, twice_course}
 use Rattle.machine_history.specs.Vocabulary.{IsHistoryOf}
-use Rattle.rig.specs.Rig.{Explains, cycles_of, readings_of}
-use Rattle.cmd_steps.specs.Vocabulary.{Outside, around, Course, ends, Asks, IsWritten, LoadsOnce}
-use Rattle.cmd_steps.specs.declared.refusal.Stop.{Stop}
-use Rattle.cmd_steps.proofs.Standing.{Standing}
-use Rattle.diag_list.specs.Lists.{MadeFewLoads}
-use Rattle.run_image.specs.Copying.{all_repeated}
 use Rattle.run_image.specs.Headline.{BeginsWithList}
-use Rattle.run_image.specs.declared.copies.Copies.TheVariants.{Two}
 use Rattle.run_image.proofs.Headlines as done
-use Rattle.cmd_twice.specs.Twice.{twice_course}
 use Rattle.cmd_twice.specs.Headline.{IsDoneTwice, HasRoomLeft, AreReadByBoth}
 use Rattle.cmd_twice.proofs.TwiceLaws.{words}
 use Rattle.cmd_twice.proofs.Doubles.{AreWide}

@@ -1,19 +1,7 @@
 -- Where two copies of a design are laid.
 use Rattle.std.proofs.Common.{◌≡◌, ◌+◌, ℕ, Bool, List, [], length, arith, Result, Ok, Err}
-use Rattle.std.specs.List.{All}
-use Rattle.machine_defects.specs.Lists.{DefectList}
-use Rattle.design_netlist.specs.declared.netlist_data.NetlistData.{NetlistData}
-use Rattle.design_netlist.specs.Rows.{HasOneRows}
-use Rattle.machine_image.specs.Images.{ImageValue}
-use Rattle.cmd_steps.specs.Vocabulary.{Outside, StepStops, Took}
-use Rattle.cmd_steps.specs.declared.refusal.Stop.{Stop}
-use Rattle.cmd_steps.specs.declared.refusal.Stop.TheVariants.{Refused, Sink}
-use Rattle.place_both.specs.Both.{lays_both}
-use Rattle.run_image.specs.Copying.{share, times}
-use Rattle.run_image.specs.Laid.{IsLaidOn}
-use Rattle.run_image.specs.declared.copies.Copies.TheVariants.{Two}
-use Rattle.run_image.proofs.Copied.{half-of}
-use Rattle.cmd_twice.specs.Twice.{IsImageForTwice, lays_twice, twice_laid}
+use Rattle.cmd_twice.proofs.Vocabulary.{All, DefectList, NetlistData, HasOneRows, ImageValue, Outside, StepStops, Took, Stop, Refused, Sink}
+use Rattle.cmd_twice.proofs.Vocabulary.{lays_both, share, times, IsLaidOn, Two, half-of, IsImageForTwice, lays_twice, twice_laid}
 
 even-of : (n k : ℕ) → k ≡ n + n → times Two (share Two k) ≡ k
 even-of n k is = let half = half-of n k is in omega (arith, half, is)

@@ -7,3 +7,4 @@ mod Laying
 mod Reading
 mod Ending
 mod TwiceLaws
+mod Vocabulary

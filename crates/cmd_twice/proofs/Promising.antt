@@ -1,17 +1,12 @@
 -- The promises of a `twice`, from how it ended.
 use Rattle.std.proofs.Common.{◌≡◌, ◌∙◌, ℕ, List, [], ◌++◌, length, take, refl, sym, ap, subst, inl, inr, take_all, le_refl, append-nil}
-use Rattle.base_io.specs.Vocabulary.{Wrote}
+use Rattle.cmd_twice.proofs.Vocabulary.{Wrote, Refusal, Refused, Adds, stands-end, twice_job, twice_course}
 use Rattle.cmd_steps.specs.Vocabulary.{Outside, around, Next, refuses, writes, ends, wrong_words, Ended, EndWrote, Stands, whole, refused, cut_line, no_line, cut, IsCounted, refusal_text}
-use Rattle.cmd_steps.specs.declared.refusal.Refusal.{Refusal}
 use Rattle.cmd_steps.specs.declared.refusal.Refusal.TheVariants.{Words, Differ}
-use Rattle.cmd_steps.specs.declared.refusal.Stop.TheVariants.{Refused}
 use Rattle.cmd_steps.proofs.Done.{EndedAs, whatever, done-as}
-use Rattle.cmd_steps.proofs.Standing.{Adds, stands-end}
 use Rattle.diag_list.proofs.WrongWords.{wrong-loads}
 use Rattle.run_image.proofs.WrongWords.{wrong-begins}
-use Rattle.cmd_twice.specs.Twice.{twice_job, twice_course}
-use Rattle.cmd_twice.specs.Headline.{StandsTwice, nothing, ReadDifferently}
-use Rattle.cmd_twice.specs.Promises.{twice_words, TwicePromises}
+use Rattle.cmd_twice.specs.{Headline.StandsTwice, Headline.nothing, Headline.ReadDifferently, Promises.twice_words, Promises.TwicePromises}
 use Rattle.cmd_twice.proofs.Headlines.{begins, compared, few-loads}
 use Rattle.cmd_twice.proofs.Ending.{stands-twice, differ-twice}
 

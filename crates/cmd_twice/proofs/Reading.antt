@@ -1,24 +1,14 @@
 -- What two copies have read, and what that shows of the design's rows.
 use Rattle.std.proofs.Common.{◌≡◌, ◌+◌, ◌∙◌, ℕ, Bool, List, ◌∷◌, ◌++◌, map, length, take, drop, refl, sym, ap, subst, inl, inr, arith, take_all, Some}
-use Rattle.std.specs.List.{All}
-use Rattle.std.proofs.lemmas.List.{take_at, take-map, map-append, length-map}
+use Rattle.cmd_twice.proofs.Vocabulary.{All, take_at, take-map, map-append, length-map, Covers, Faults, Pins, DefectList, ImageValue}
+use Rattle.cmd_twice.proofs.Vocabulary.{drive_of, image_row, NetlistData, AreRows, RigState, Explains, config_of, cycles_of, drives_of}
+use Rattle.cmd_twice.proofs.Vocabulary.{readings_of, AreBothRows, all_repeated, HalvesDiffer, AreLaidRows, Two, IsImageForTwice, twice_laid}
 use Rattle.std.proofs.lemmas.List.Elements.{recursion_from_All, All-from_recursion, All-take}
-use Rattle.machine_meaning.specs.Vocabulary.{Covers, Faults, Pins}
 use Rattle.machine_meaning.proofs.Faultless.{covers_none}
 use Rattle.machine_config.specs.Vocabulary.{IsRun}
-use Rattle.machine_defects.specs.Lists.{DefectList}
-use Rattle.machine_image.specs.Images.{ImageValue, drive_of, image_row}
 use Rattle.machine_history.proofs.RowsOver.{clean, clean_faultless}
-use Rattle.design_netlist.specs.declared.netlist_data.NetlistData.{NetlistData}
-use Rattle.design_netlist.specs.Rows.{AreRows}
-use Rattle.rig.specs.Rig.{RigState, Explains, config_of, cycles_of, drives_of, readings_of}
 use Rattle.rig.proofs.Narrowing.{session_run}
-use Rattle.place_both.specs.Both.{AreBothRows}
 use Rattle.place_both.proofs.WhileAlone.{first-right, second-right}
-use Rattle.run_image.specs.Copying.{all_repeated, HalvesDiffer}
-use Rattle.run_image.specs.Laid.{AreLaidRows}
-use Rattle.run_image.specs.declared.copies.Copies.TheVariants.{Two}
-use Rattle.cmd_twice.specs.Twice.{IsImageForTwice, twice_laid}
 use Rattle.cmd_twice.specs.Headline.{AreFirstRows, AreRightWhileOneIsAlone, AreReadByBoth}
 use Rattle.cmd_twice.proofs.Doubles.{AreWide, half-wide, fronts-are, backs-are, read-wide, front-rows, never-differ}
 

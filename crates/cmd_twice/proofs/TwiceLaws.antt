@@ -1,25 +1,11 @@
 -- What the command `twice` does with its words, and what it comes to.
-use Rattle.std.proofs.Common.{◌≡◌, ◌⊎◌, ℕ, Bool, List, ◌∷◌, ◌++◌, sym, subst, inl, inr}
-use Rattle.machine_shape.specs.declared.Shape.{Shape}
-use Rattle.machine_meaning.specs.Vocabulary.{Covers, Faults}
-use Rattle.machine_defects.specs.Text.{text_of}
-use Rattle.design_netlist.specs.declared.netlist_data.NetlistData.{NetlistData}
-use Rattle.design_netlist.specs.Checks.{IsChecked}
-use Rattle.machine_image.specs.Images.{ImageValue}
-use Rattle.rig.specs.Rig.{RigState, Explains}
-use Rattle.base_io.specs.Told.{Told}
-use Rattle.cmd_steps.specs.Vocabulary.{Around, IsLawful, ShortPlace}
-use Rattle.cmd_steps.specs.declared.design_file.DesignFile.TheVariants.{Design}
-use Rattle.diag_list.specs.Lists.{Listed, IsListed}
+use Rattle.cmd_twice.proofs.Vocabulary.{◌≡◌, ◌⊎◌, ℕ, Bool, List, ◌∷◌, ◌++◌, sym, subst, inl, inr, Shape, Covers, Faults, text_of}
+use Rattle.cmd_twice.proofs.Vocabulary.{NetlistData, IsChecked, ImageValue, RigState, Explains, Told, Around, IsLawful, ShortPlace, Design}
+use Rattle.cmd_twice.proofs.Vocabulary.{Listed, IsListed, IsNoRoomForBoth, all_repeated, Laid, ReadsApart, Two}
 use Rattle.diag_list.proofs.Texts.{AreNamed}
 use Rattle.place_design.proofs.Rooms.{AreDecided}
-use Rattle.place_both.specs.Both.{IsNoRoomForBoth}
 use Rattle.place_both.proofs.BothLemmas.{never-both-lack, never-both-refused, both-excused, both-short}
 use Rattle.place_both.proofs.Certain.{AreNetworks, AreSure, both-certain}
-use Rattle.run_image.specs.Copying.{all_repeated}
-use Rattle.run_image.specs.Laid.{Laid}
-use Rattle.run_image.specs.Rows.{ReadsApart}
-use Rattle.run_image.specs.declared.copies.Copies.TheVariants.{Two}
 use Rattle.run_image.proofs.Scripts.{Words, reads, runs, IsRight}
 use Rattle.run_image.proofs.Ends.{Fits, Lacks, HasFew, run-well, run-short, run-few}
 use Rattle.cmd_twice.specs.Twice.{twice_laid, twice_files, twice_job, IsImageForTwice, TwiceFiles, AreTwiceTexts, HasPartsForTwo, HasRoomAlike, ReadsAlike, TwiceRight, TwiceShort, TwiceFew}

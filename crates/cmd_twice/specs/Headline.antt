@@ -4,8 +4,7 @@ use Rattle.base_io.specs.Vocabulary.{next_count, IfTold, Rose, Wrote}
 use Rattle.machine_shape.specs.declared.Shape.{Shape}
 use Rattle.machine_meaning.specs.Vocabulary.{Faults, Covers, IsFair, IsTight}
 use Rattle.machine_defects.specs.Vocabulary.{DefectList, IsDefectList, text_of}
-use Rattle.design_netlist.specs.declared.netlist_data.NetlistData.{NetlistData}
-use Rattle.design_netlist.specs.Rows.{AreRows}
+use Rattle.design_netlist.specs.{declared.netlist_data.NetlistData.NetlistData, Rows.AreRows}
 use Rattle.machine_image.specs.Images.{ImageValue, drive_of, image_row}
 use Rattle.machine_history.specs.Vocabulary.{History, IsHistoryOf, IsRunOver, LeavesAloneFor}
 use Rattle.rig.specs.Rig.{RigState, Explains, config_of, cycles_of, drives_of, readings_of}
@@ -13,13 +12,10 @@ use Rattle.place_route.specs.Vocabulary.{IsRightImage, ReadsRows}
 use Rattle.place_pair.specs.Tenants.{AreTenants, StandApart}
 use Rattle.place_both.specs.Both.{AreBothRows, BothHaveRoom, IsImageForBoth, IsRoutedForBoth}
 use Rattle.cmd_steps.specs.Vocabulary.{AreFirst, outputs_line, output_text, Outside, refusal_text, IsMachineText, IsDesignText}
-use Rattle.cmd_steps.specs.declared.refusal.Refusal.{Refusal}
-use Rattle.cmd_steps.specs.declared.refusal.Refusal.TheVariants.{Differ}
-use Rattle.diag_list.specs.Possible.{TakesFewLoadsOn}
-use Rattle.diag_list.specs.Lists.{Listed}
-use Rattle.run_image.specs.Copying.{all_repeated, HalvesDiffer}
+use Rattle.cmd_steps.specs.declared.refusal.Refusal.{Refusal, TheVariants.Differ}
+use Rattle.diag_list.specs.{Possible.TakesFewLoadsOn, Lists.Listed}
+use Rattle.run_image.specs.{Copying.all_repeated, Copying.HalvesDiffer, declared.copies.Copies.TheVariants.Two}
 use Rattle.run_image.specs.Headline.{IsListOfMachine, IsAskedInOrder, IsWrittenWhole, UsesNothingListed, IsAsRead}
-use Rattle.run_image.specs.declared.copies.Copies.TheVariants.{Two}
 
 -- ---- as long as one copy is left alone
 

@@ -6,8 +6,7 @@ use Rattle.machine_shape.specs.declared.Shape.{Shape}
 use Rattle.machine_meaning.specs.Faults.{Faults}
 use Rattle.machine_text.specs.Machine.{IsMachine}
 use Rattle.machine_defects.specs.Lists.{DefectList}
-use Rattle.design_netlist.specs.declared.netlist_data.NetlistData.{NetlistData}
-use Rattle.design_netlist.specs.Rows.{HasOneRows}
+use Rattle.design_netlist.specs.{declared.netlist_data.NetlistData.NetlistData, Rows.HasOneRows}
 use Rattle.design_blif.specs.Designs.{IsDesign}
 use Rattle.machine_image.specs.Images.{ImageValue, drive_of, image_row}
 use Rattle.rig.specs.Rig.{RigState, Explains, config_of, cycles_of, drives_of, readings_of}
@@ -16,11 +15,8 @@ use Rattle.cmd_steps.specs.Vocabulary.{reads_machine, reads_design, AsksMachine,
 use Rattle.cmd_steps.specs.declared.design_file.DesignFile.TheVariants.{Design}
 use Rattle.place_plan.specs.Enough.{HasStandingRoom}
 use Rattle.place_both.specs.Both.{AreBothRows, BothHaveRoom, BothLackRoom, IsImageForBoth, NotBothLaid, joint_of}
-use Rattle.run_image.specs.Copying.{all_repeated, share, AreEqualShares, HalvesDiffer}
-use Rattle.run_image.specs.Rows.{most_rows}
-use Rattle.run_image.specs.Laid.{Laid}
-use Rattle.run_image.specs.Runs.{RunBegin, machine_listed, IfList, HasOutputs}
-use Rattle.run_image.specs.declared.copies.Copies.TheVariants.{Two}
+use Rattle.run_image.specs.{Copying.all_repeated, Copying.share, Copying.AreEqualShares, Copying.HalvesDiffer, Rows.most_rows, Laid.Laid}
+use Rattle.run_image.specs.{Runs.RunBegin, Runs.machine_listed, Runs.IfList, Runs.HasOutputs, declared.copies.Copies.TheVariants.Two}
 
 -- ---- the image of two copies
 

@@ -1,14 +1,10 @@
 -- What models are refused as is the first fault of their text, and a text has one design.
 use Rattle.std.proofs.Common.{ℕ, ◌≡◌, ◌∙◌, ◌≤◌, List, Result, Ok, Err, length, refl, sym, subst, IfErr}
 use Rattle.design_netlist.specs.declared.netlist_data.NetlistData.{NetlistData}
-use Rattle.design_netlist.specs.declared.fault.DesignFault.{DesignFault}
+use Rattle.design_blif.proofs.Vocabulary.{DesignFault, Model, IsNetlistOf, IsRefusalOfModels, IsFaultAs}
 use Rattle.design_netlist.specs.declared.fault.DesignFault.TheVariants as fault
-use Rattle.design_flatten.specs.declared.model.Model.{Model}
-use Rattle.design_flatten.specs.Vocabulary.{IsNetlistOf, IsRefusalOfModels}
 use Rattle.design_flatten.proofs.SubstitutionLemmas.{one_netlist}
-use Rattle.design_blif.specs.Runs.{IsFaultAs}
-use Rattle.design_blif.specs.Grammar.{AreModels}
-use Rattle.design_blif.specs.Designs.{IsDesign, InModels, IsRefusalOfBytes}
+use Rattle.design_blif.specs.{Grammar.AreModels, Designs.IsDesign, Designs.InModels, Designs.IsRefusalOfBytes}
 
 module _ (bytes : List ℕ) (few : length bytes ≤ 16777216) (ms : List Model) (text : AreModels bytes ms) where
   in_models : (e : DesignFault) → IsRefusalOfModels ms e → IsRefusalOfBytes bytes e

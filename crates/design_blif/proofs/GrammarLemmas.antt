@@ -1,14 +1,8 @@
 -- A line after the others.
-use Rattle.design_flatten.specs.declared.model.Piece.{Piece}
+use Rattle.design_blif.proofs.Vocabulary.{Piece, option_to_list, append-nil, LogicalLine, Head, Names, IsNew}
 use Rattle.std.proofs.Common.{option_map, ◌≡◌, ℕ, true, List, [], ◌∷◌, ◌++◌, refl, sym, ap, ◌∙◌, append_assoc, inl, inr, ◌⊎◌}
-use Rattle.std.specs.Option.{option_to_list}
-use Rattle.std.proofs.lemmas.List.{append-nil}
-use Rattle.base_text.specs.Lines.{LogicalLine}
-use Rattle.design_blif.specs.declared.head.Head.{Head}
 use Rattle.design_blif.specs.declared.head.Head.TheVariants as head
 use Rattle.design_blif.specs.Grammar.{Statement, Grouped, kind_of, grouped_behind, grouped, statements_of, is_end, ended_by, last_cover, cover_of, part_on, parts_of, is_some_statement}
-use Rattle.design_flatten.specs.declared.model.Piece.TheVariants.{Names}
-use Rattle.design_blif.specs.Faults.{IsNew}
 
 -- the last element is changed
 abbrev pub onto_last : {X : Type 0} → (X → X) → List X → List X

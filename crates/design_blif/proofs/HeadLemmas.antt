@@ -1,7 +1,5 @@
 -- What a line begins with that is no row.
-use Rattle.std.proofs.Common.{◌≡◌, ℕ, ◌==◌, Bool, true, false, List, [], ◌∷◌, refl, sym, ◌∙◌, slice_index}
-use Rattle.std.proofs.lemmas.Bool.{eqb-true}
-use Rattle.design_blif.specs.Heads.{head_of}
+use Rattle.design_blif.proofs.Vocabulary.{◌≡◌, ℕ, ◌==◌, Bool, true, false, List, [], ◌∷◌, refl, sym, ◌∙◌, slice_index, eqb-true, head_of}
 use Rattle.design_blif.specs.declared.head.Head.TheVariants as head
 
 unlike : (b : ℕ) → (b ≡ 46 → ⊥) → (b == 46) ≡ false

@@ -9,3 +9,4 @@ pub mod DesignLemmas
 mod RowLemmas
 mod SizeLemmas
 mod HeadLemmas
+mod Vocabulary

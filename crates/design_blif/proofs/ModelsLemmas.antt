@@ -1,18 +1,9 @@
 -- A line after the others, in a text of models.
-use Rattle.design_flatten.specs.declared.model.Model.{Model}
+use Rattle.design_blif.proofs.Vocabulary.{Model, option_to_list, append-nil, map_push, LogicalLine, is_bad_line, DesignKind, Head, nth_word}
+use Rattle.design_blif.proofs.Vocabulary.{Names, Seen, fault_of, head_fault, placed_fault, State, after_head}
 use Rattle.std.proofs.Common.{option_map, ◌≡◌, ℕ, Bool, true, false, cond, List, [], ◌∷◌, ◌++◌, Option, Some, None, Result, Ok, Err, map, refl, sym, ap, ◌∙◌, subst, inl, inr, ◌⊎◌}
-use Rattle.std.specs.Option.{option_to_list}
-use Rattle.std.proofs.lemmas.List.{append-nil, map_push}
-use Rattle.base_text.specs.Lines.{LogicalLine, is_bad_line}
-use Rattle.design_netlist.specs.declared.fault.DesignKind.{DesignKind}
 use Rattle.design_netlist.specs.declared.fault.DesignKind.TheVariants as kind
-use Rattle.design_blif.specs.declared.head.Head.{Head}
 use Rattle.design_blif.specs.declared.head.Head.TheVariants as head
-use Rattle.design_blif.specs.Parts.{nth_word}
-use Rattle.design_flatten.specs.declared.model.Piece.TheVariants.{Names}
-use Rattle.design_blif.specs.Seen.{Seen}
-use Rattle.design_blif.specs.Faults.{fault_of, head_fault, placed_fault}
-use Rattle.design_blif.specs.Steps.{State, after_head}
 use Rattle.design_blif.specs.Runs.{TextState, start, text_start, last_model, text_after_head, text_after, model_from, above_of, run}
 use Rattle.design_blif.specs.Grammar.{statements_of, kind_of, names_of, inputs_of, outputs_of, parts_of, spelled, ModelText, Parted, onto, parted, models_of, model_lines, name_of, spelled_model, is_some_model, last_lines, above_by}
 use Rattle.design_blif.proofs.GrammarLemmas.{onto_last, onto_last-at, last_split, parts_by_last}

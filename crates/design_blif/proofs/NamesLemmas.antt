@@ -1,19 +1,11 @@
 -- The names of a set of borrowed words.
 use Rattle.std.proofs.Common.{◌≡◌, ℕ, ◌+◌, ◌<◌, ◌≤◌, Bool, true, false, not, cond, List, [], ◌∷◌, ◌++◌, Some, None, position, length, map, refl, sym, ap, ◌∙◌, arith, ◌||◌, nat_lt, append_assoc, length-append, drop, get_or, take, add-one, add-zero, eqb, inl, inr, ◌⊎◌}
 use Rattle.std.specs.Borrow.{Bor}
-use Rattle.std.specs.List.{list_any, list_all, position_or_len}
-use Rattle.std.specs.Str.{bytes_eq}
+use Rattle.design_blif.proofs.Vocabulary.{list_any, list_all, position_or_len, bytes_eq, lt-ltb, ltb-true, le-ltb, eqb-true, length-map}
+use Rattle.design_blif.proofs.Vocabulary.{append-nil, take-append-drop, take_more, map-append, DesignKind, Limit, Refusal, Memory, Kind}
+use Rattle.design_blif.proofs.Vocabulary.{IsRefusedAs, with_name, names_after, name_number, numbers, is_long, limit_at}
 use Rattle.std.proofs.Math.Seq.{drop-cons}
-use Rattle.std.proofs.lemmas.Bool.{lt-ltb, ltb-true, le-ltb, eqb-true}
-use Rattle.std.proofs.Math.Bool.{or-true, or-false, and-false}
-use Rattle.std.proofs.lemmas.List.Folds.{position_or_len_push}
-use Rattle.std.proofs.lemmas.List.{length-map, append-nil, take-append-drop, take_more, map-append}
-use Rattle.design_netlist.specs.declared.fault.DesignKind.{DesignKind}
-use Rattle.design_netlist.specs.declared.fault.DesignKind.TheVariants.{Limit}
-use Rattle.design_blif.specs.declared.kind.Refusal.{Refusal}
-use Rattle.design_blif.specs.declared.kind.Refusal.TheVariants.{Memory, Kind}
-use Rattle.design_blif.specs.Refusals.{IsRefusedAs}
-use Rattle.design_blif.specs.Names.{with_name, names_after, name_number, numbers, is_long, limit_at}
+use Rattle.std.proofs.{Math.Bool.or-true, Math.Bool.or-false, Math.Bool.and-false, lemmas.List.Folds.position_or_len_push}
 use Rattle.design_flatten.proofs.NameLemmas.{now, same, any_keys, place_keys, some_is, same_name, inserted_key}
 
 module _ (w : List ℕ) (ks : List (Bor (List ℕ))) (names : List (List ℕ)) (view : map now ks ≡ names) where

@@ -1,20 +1,12 @@
 -- A line is right exactly where it has no fault.
 use Rattle.std.proofs.Common.{◌≡◌, ◌≤◌, ℕ, Bool, true, false, not, cond, ◌&&◌, ◌||◌, ◌==◌, List, [], ◌∷◌, ◌++◌, Option, Some, None, length, drop, map, refl, sym, subst, nat_lt, nat_le, codes}
-use Rattle.std.specs.List.{All, list_any, list_all}
-use Rattle.std.specs.Option.{option_or}
-use Rattle.std.specs.Str.{bytes_eq}
+use Rattle.design_blif.proofs.Vocabulary.{All, list_any, list_all, option_or, bytes_eq, LogicalLine, is_bad_line, Cover, DesignKind, Head}
+use Rattle.design_blif.proofs.Vocabulary.{head_of, names_after, is_long, limit_at, Seen, Above}
 use Rattle.std.proofs.lemmas.Bool.{ltb-true, ltb-false, le-ltb, lt-ltb, leb-false, lt-leb, eqb-true, eq-eqb, or_parts, not-false}
 use Rattle.std.proofs.lemmas.List.Elements.{All-nil, All-cons, All-head, All-tail}
 use Rattle.std.proofs.lemmas.Slice.Eq.{bytes_eq-Decides}
-use Rattle.base_text.specs.Lines.{LogicalLine, is_bad_line}
-use Rattle.design_netlist.specs.declared.netlist_data.Cover.{Cover}
-use Rattle.design_netlist.specs.declared.fault.DesignKind.{DesignKind}
 use Rattle.design_netlist.specs.declared.fault.DesignKind.TheVariants as kind
-use Rattle.design_blif.specs.declared.head.Head.{Head}
 use Rattle.design_blif.specs.declared.head.Head.TheVariants as head
-use Rattle.design_blif.specs.Heads.{head_of}
-use Rattle.design_blif.specs.Names.{names_after, is_long, limit_at}
-use Rattle.design_blif.specs.Seen.{Seen, Above}
 use Rattle.design_blif.specs.Parts.{nth_word, is_pair, actual_of, row_words, is_right_row, is_off, is_init, has_type, has_init, init_word, control_of}
 use Rattle.design_blif.specs.Faults.{row_fault, same_bool, names_fault, is_other, latch_parts_fault, latch_fault, pairs_fault, subckt_fault, line_fault, model_fault, head_fault, fault_of, first_fault}
 use Rattle.design_blif.specs.Right.{AreSignals, IsRow, IsNames, IsSame, IsLatch, IsSubckt, IsModel, AreRightWords, IsRightLine}

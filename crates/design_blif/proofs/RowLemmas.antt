@@ -1,25 +1,11 @@
 -- The rows of models that are read are as long as their cover's inputs.
 use Rattle.std.proofs.Common.{option_map, ◌≡◌, ℕ, Bool, true, false, not, cond, List, [], ◌∷◌, ◌++◌, Option, Some, None, Result, Ok, Err, length, map, refl, ◌∙◌, subst, ◌&&◌, ◌==◌, IfOk}
-use Rattle.std.specs.Option.{option_to_list}
-use Rattle.std.specs.Global.{Vec}
-use Rattle.design_netlist.specs.declared.fault.DesignFault.{DesignFault}
-use Rattle.std.proofs.lemmas.Bool.{eqb-true}
-use Rattle.std.proofs.lemmas.List.{length-map}
-use Rattle.base_text.specs.Lines.{LogicalLine, is_bad_line}
-use Rattle.design_netlist.specs.declared.netlist_data.Cover.{Cover}
-use Rattle.design_netlist.specs.declared.netlist_data.Lit.{Lit}
-use Rattle.design_netlist.specs.declared.fault.DesignKind.{DesignKind}
+use Rattle.design_blif.proofs.Vocabulary.{option_to_list, Vec, DesignFault, eqb-true, length-map, LogicalLine, is_bad_line, Cover, Lit}
+use Rattle.design_blif.proofs.Vocabulary.{DesignKind, Model, Piece, Names, RowsFit, PiecesFit, HaveRightRows, Head, head_of, row_fault}
+use Rattle.design_blif.proofs.Vocabulary.{placed_fault, fault_of, head_fault, State, after_head, closed_pieces}
 use Rattle.design_netlist.specs.declared.fault.DesignKind.TheVariants as kind
-use Rattle.design_flatten.specs.declared.model.Model.{Model}
-use Rattle.design_flatten.specs.declared.model.Piece.{Piece}
-use Rattle.design_flatten.specs.declared.model.Piece.TheVariants.{Names}
-use Rattle.design_flatten.specs.Lines.{RowsFit, PiecesFit, HaveRightRows}
-use Rattle.design_blif.specs.declared.head.Head.{Head}
 use Rattle.design_blif.specs.declared.head.Head.TheVariants as head
-use Rattle.design_blif.specs.Heads.{head_of}
 use Rattle.design_blif.specs.Parts.{nth_word, lit_of, pattern, row_words, is_right_row}
-use Rattle.design_blif.specs.Faults.{row_fault, placed_fault, fault_of, head_fault}
-use Rattle.design_blif.specs.Steps.{State, after_head, closed_pieces}
 use Rattle.design_blif.specs.Runs.{Gives, TextState, text_start, text_after_head, text_after, above_of, last_model, model_from, run, ended, whole}
 use Rattle.design_blif.proofs.ModelsLemmas.{not_bad, run_by}
 use Rattle.design_blif.proofs.StateLemmas.{placed_row}

@@ -1,12 +1,6 @@
 -- Reading line by line gives what the text spells, or its fault.
 use Rattle.std.proofs.Common.{◌≡◌, ℕ, Bool, true, false, cond, List, [], ◌∷◌, ◌++◌, Option, Some, None, Result, Ok, Err, map, refl, sym, ap, ◌∙◌, append_assoc, IfOk}
-use Rattle.std.specs.Global.{Vec}
-use Rattle.std.proofs.lemmas.List.{append-nil}
-use Rattle.base_text.specs.Lines.{LogicalLine, logical_lines}
-use Rattle.design_netlist.specs.declared.fault.DesignKind.{DesignKind}
-use Rattle.design_netlist.specs.declared.fault.DesignKind.TheVariants.{NoModel}
-use Rattle.design_netlist.specs.declared.fault.DesignFault.{DesignFault}
-use Rattle.design_flatten.specs.declared.model.Model.{Model}
+use Rattle.design_blif.proofs.Vocabulary.{Vec, append-nil, LogicalLine, logical_lines, DesignKind, NoModel, DesignFault, Model}
 use Rattle.design_blif.specs.Faults.{fault_of, first_fault, answer, reading}
 use Rattle.design_blif.specs.Runs.{Gives, TextState, text_start, text_after, above_of, run, ended, whole}
 use Rattle.design_blif.specs.Grammar.{models_of, spelled_model, is_some_model, above_by, AreModels}

@@ -1,24 +1,13 @@
 -- The outputs of the models that are read are no more than the bytes of their text.
 use Rattle.std.proofs.Common.{◌≡◌, ℕ, ◌+◌, ◌-◌, ◌≤◌, ◌&&◌, ◌==◌, Bool, true, false, cond, nat_lt, List, [], ◌∷◌, ◌++◌, Option, Some, None, Result, Ok, Err, length, map, filter, take, drop, slice_index, refl, ap, arith, inl, inr, IfOk}
-use Rattle.std.specs.Global.{Vec}
+use Rattle.design_blif.proofs.Vocabulary.{Vec, ltb-true, PortDef, DesignFault, DesignKind, Model, first_model, Head, head_of, with_name}
+use Rattle.design_blif.proofs.Vocabulary.{numbers, nth_word, port_defs, fault_of, State, after_head}
 use Rattle.std.specs.List.{slice_split, onto_first, position_or_len, suffix_len}
-use Rattle.std.proofs.lemmas.Bool.{ltb-true}
 use Rattle.std.proofs.lemmas.List.{length-take, length-drop, length-map, length-append}
 use Rattle.base_text.specs.Vocabulary.{is_blank, physical_lines, uncommented, joining_part, words_of, Text, LogicalLine, line_of, texts_of, in_front, onto_next, with_words, logical_lines}
 use Rattle.base_text.proofs.LinesLemmas.{cases_part}
-use Rattle.design_netlist.specs.declared.netlist_data.PortDef.{PortDef}
-use Rattle.design_netlist.specs.declared.fault.DesignFault.{DesignFault}
-use Rattle.design_netlist.specs.declared.fault.DesignKind.{DesignKind}
 use Rattle.design_netlist.specs.declared.fault.DesignKind.TheVariants as kind
-use Rattle.design_flatten.specs.declared.model.Model.{Model}
-use Rattle.design_flatten.specs.Substitution.{first_model}
-use Rattle.design_blif.specs.declared.head.Head.{Head}
 use Rattle.design_blif.specs.declared.head.Head.TheVariants as head
-use Rattle.design_blif.specs.Heads.{head_of}
-use Rattle.design_blif.specs.Names.{with_name, numbers}
-use Rattle.design_blif.specs.Parts.{nth_word, port_defs}
-use Rattle.design_blif.specs.Faults.{fault_of}
-use Rattle.design_blif.specs.Steps.{State, after_head}
 use Rattle.design_blif.specs.Runs.{Gives, TextState, text_start, text_after_head, text_after, above_of, last_model, model_from, run, ended, whole}
 use Rattle.design_blif.proofs.ModelsLemmas.{run_by}
 

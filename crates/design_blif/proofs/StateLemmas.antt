@@ -1,26 +1,13 @@
 -- What the reader holds is what the lines so far say.
-use Rattle.design_flatten.specs.declared.model.Piece.{Piece}
-use Rattle.design_netlist.specs.declared.netlist_data.Cover.{Cover}
+use Rattle.design_blif.proofs.Vocabulary.{Piece, Cover, flat_map, option_or, option_to_list, lt-ltb, append-nil, map_push, length-map}
+use Rattle.design_blif.proofs.Vocabulary.{LogicalLine, DesignKind, PortDef, Head, names_after, name_number, with_name, Names, Latch, Inst}
+use Rattle.design_blif.proofs.Vocabulary.{Lit, Seen, IsNew, placed_fault, line_fault, row_fault, same_bool}
 use Rattle.std.proofs.Common.{nat_le, ◌≡◌, ℕ, ◌-◌, ◌<◌, Bool, true, false, not, cond, List, [], ◌∷◌, ◌++◌, Option, Some, None, length, map, take, drop, slice_index, refl, sym, ap, ◌∙◌, subst, arith, append_assoc, inl, inr, ◌&&◌, ◌==◌, option_map}
-use Rattle.std.specs.List.{flat_map}
-use Rattle.std.specs.Option.{option_or, option_to_list}
-use Rattle.std.proofs.lemmas.Bool.{lt-ltb}
-use Rattle.std.proofs.lemmas.List.{append-nil, map_push, length-map}
-use Rattle.std.proofs.lemmas.List.Concat.{flat_map-append}
-use Rattle.std.proofs.lemmas.List.Sums.{fold-append}
-use Rattle.base_text.specs.Lines.{LogicalLine}
-use Rattle.design_netlist.specs.declared.fault.DesignKind.{DesignKind}
+use Rattle.std.proofs.lemmas.List.{Concat.flat_map-append, Sums.fold-append}
 use Rattle.design_netlist.specs.declared.fault.DesignKind.TheVariants as kind
-use Rattle.design_netlist.specs.declared.netlist_data.PortDef.{PortDef}
 use Rattle.design_netlist.specs.declared.netlist_data.LatchDef.{LatchDef}
-use Rattle.design_blif.specs.declared.head.Head.{Head}
 use Rattle.design_blif.specs.declared.head.Head.TheVariants as head
-use Rattle.design_blif.specs.Names.{names_after, name_number, with_name}
 use Rattle.design_blif.specs.Parts.{formal_of, actual_of, pairs_of, nth_word, port_defs, new_sum, with_row, pattern, lit_of, is_off, row_words, is_right_row, init_of, control_of}
-use Rattle.design_flatten.specs.declared.model.Piece.TheVariants.{Names, Latch, Inst}
-use Rattle.design_netlist.specs.declared.netlist_data.Lit.{Lit}
-use Rattle.design_blif.specs.Seen.{Seen}
-use Rattle.design_blif.specs.Faults.{IsNew, placed_fault, line_fault, row_fault, same_bool}
 use Rattle.design_blif.specs.Steps.{State, after_head, new_latch, new_inst, closed_pieces}
 use Rattle.design_blif.specs.Grammar.{Statement, kind_of, signals, statement_signals, names_of, port_of, inputs_on, outputs_on, clocks_on, pair_from, cover_of, lists_off, inputs_of, outputs_of, clocks_of, parts_of, is_end, ended_by, last_cover, latch_control_on, control_by, is_some_statement, seen_by, statements_of}
 use Rattle.design_blif.proofs.NamesLemmas.{numbers_are, names_after-extends}

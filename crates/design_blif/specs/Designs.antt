@@ -1,16 +1,11 @@
 -- What the text of a design is; and beside it, which fault of a text that is none comes first.
 use Rattle.std.specs.Prelude.{ℕ, ◌≡◌, ◌<◌, ◌≤◌, true, List, Err, length}
 use Rattle.base_text.specs.Lines.{logical_lines}
-use Rattle.design_netlist.specs.declared.netlist_data.NetlistData.{NetlistData}
-use Rattle.design_netlist.specs.declared.fault.DesignKind.{DesignKind}
-use Rattle.design_netlist.specs.declared.fault.DesignKind.TheVariants.{Limit}
-use Rattle.design_netlist.specs.declared.fault.DesignFault.{DesignFault}
-use Rattle.design_netlist.specs.declared.fault.DesignFault.TheVariants.{At, Memory}
+use Rattle.design_netlist.specs.declared.{netlist_data.NetlistData.NetlistData, fault.DesignKind.DesignKind, fault.DesignFault.DesignFault}
+use Rattle.design_netlist.specs.declared.fault.{DesignKind.TheVariants.Limit, DesignFault.TheVariants.At, DesignFault.TheVariants.Memory}
 use Rattle.design_netlist.specs.Checks.{IsChecked}
-use Rattle.design_flatten.specs.declared.model.Model.{Model}
-use Rattle.design_flatten.specs.Vocabulary.{IsNetlistOf, IsModelsFault}
-use Rattle.design_blif.specs.Grammar.{AreModels}
-use Rattle.design_blif.specs.Faults.{reading}
+use Rattle.design_flatten.specs.{declared.model.Model.Model, Vocabulary.IsNetlistOf, Vocabulary.IsModelsFault}
+use Rattle.design_blif.specs.{Grammar.AreModels, Faults.reading}
 
 -- the bytes are the text of models, and the draft is the netlist of their substituted design, which is sound
 pub record IsDesign (bytes : List ℕ) (draft : NetlistData) : Type 0 where

@@ -1,21 +1,15 @@
 -- The fault of a line, by what stands above it, and the first fault of a text.
-use Rattle.design_netlist.specs.declared.netlist_data.Cover.{Cover}
+use Rattle.design_netlist.specs.declared.{netlist_data.Cover.Cover, fault.DesignKind.DesignKind}
 use Rattle.std.specs.Prelude.{ℕ, ◌==◌, Bool, true, false, not, ◌&&◌, ◌||◌, nat_lt, nat_le, codes, if◌then◌else◌, List, [], ◌∷◌, ◌++◌}
 use Rattle.std.specs.Prelude.{Option, Some, None, Result, Ok, Err, length, map, drop}
-use Rattle.std.specs.List.{list_any, list_all}
-use Rattle.std.specs.Option.{option_or}
-use Rattle.std.specs.Str.{bytes_eq}
+use Rattle.std.specs.{List.list_any, List.list_all, Option.option_or, Str.bytes_eq}
 use Rattle.base_text.specs.Lines.{LogicalLine, is_bad_line}
-use Rattle.design_netlist.specs.declared.fault.DesignKind.{DesignKind}
 use Rattle.design_netlist.specs.declared.fault.DesignKind.TheVariants as kind
-use Rattle.design_blif.specs.declared.head.Head.{Head}
+use Rattle.design_blif.specs.{declared.head.Head.Head, Heads.head_of, Names.limit_at}
 use Rattle.design_blif.specs.declared.head.Head.TheVariants as head
-use Rattle.design_blif.specs.Heads.{head_of}
-use Rattle.design_blif.specs.Names.{limit_at}
-use Rattle.design_blif.specs.Seen.{Seen, Above}
+use Rattle.design_blif.specs.{Seen.Seen, Seen.Above, Grammar.above_by, Grammar.models_of, Grammar.is_some_model, Grammar.spelled_model}
 use Rattle.design_blif.specs.Parts.{nth_word, is_pair, actual_of, row_words, is_right_row, is_off, is_init, has_type, has_init, init_word}
 use Rattle.design_blif.specs.Parts.{control_of}
-use Rattle.design_blif.specs.Grammar.{above_by, models_of, is_some_model, spelled_model}
 use Rattle.design_flatten.specs.declared.model.Model.{Model}
 
 -- of the words of a row for this many inputs

@@ -1,23 +1,14 @@
 -- What a text says, by its list of lines.
-use Rattle.design_flatten.specs.declared.model.Model.{Model}
-use Rattle.design_flatten.specs.declared.model.PairDef.{PairDef}
-use Rattle.design_flatten.specs.declared.model.Piece.{Piece}
-use Rattle.design_netlist.specs.declared.netlist_data.Cover.{Cover}
+use Rattle.design_flatten.specs.declared.model.{Model.Model, Piece.Piece}
+use Rattle.design_flatten.specs.declared.model.{PairDef.PairDef, Piece.TheVariants.Names, Piece.TheVariants.Latch, Piece.TheVariants.Inst}
+use Rattle.design_netlist.specs.declared.netlist_data.{Cover.Cover, PortDef.PortDef, LatchDef.LatchDef}
 use Rattle.std.specs.Prelude.{option_map, ℕ, ◌-◌, ◌≡◌, Bool, true, false, List, [], ◌∷◌, ◌++◌, Option, Some, None, length, map, take, drop}
-use Rattle.std.specs.Prelude.{slice_index}
-use Rattle.std.specs.List.{flat_map}
-use Rattle.std.specs.Option.{option_or, option_to_list}
+use Rattle.std.specs.{Prelude.slice_index, List.flat_map, Option.option_or, Option.option_to_list}
 use Rattle.base_text.specs.Lines.{LogicalLine, logical_lines}
-use Rattle.design_netlist.specs.declared.netlist_data.PortDef.{PortDef}
-use Rattle.design_netlist.specs.declared.netlist_data.LatchDef.{LatchDef}
-use Rattle.design_blif.specs.declared.head.Head.{Head}
+use Rattle.design_blif.specs.{declared.head.Head.Head, Names.names_after, Names.name_number, Seen.Seen, Seen.Above, Right.IsRightLine}
 use Rattle.design_blif.specs.declared.head.Head.TheVariants as head
 use Rattle.design_blif.specs.Heads.{head_of}
-use Rattle.design_blif.specs.Names.{names_after, name_number}
 use Rattle.design_blif.specs.Parts.{formal_of, actual_of, nth_word, lit_of, pattern, is_off, init_of, control_of}
-use Rattle.design_flatten.specs.declared.model.Piece.TheVariants.{Names, Latch, Inst}
-use Rattle.design_blif.specs.Seen.{Seen, Above}
-use Rattle.design_blif.specs.Right.{IsRightLine}
 
 -- ---- statements
 

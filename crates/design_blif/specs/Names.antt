@@ -1,9 +1,7 @@
 -- Names and their numbers.
 use Rattle.std.specs.Prelude.{ℕ, nat_lt, ◌||◌, List, [], ◌∷◌, ◌++◌, Option, Some, None, if◌then◌else◌, fold, length, Bool}
-use Rattle.std.specs.List.{list_any, position_or_len}
-use Rattle.std.specs.Str.{bytes_eq}
-use Rattle.design_netlist.specs.declared.fault.DesignKind.{DesignKind}
-use Rattle.design_netlist.specs.declared.fault.DesignKind.TheVariants.{Limit}
+use Rattle.std.specs.{List.list_any, List.position_or_len, Str.bytes_eq}
+use Rattle.design_netlist.specs.declared.fault.DesignKind.{DesignKind, TheVariants.Limit}
 
 -- the names after one more stands: a new one goes last
 abbrev pub with_name : List (List ℕ) → List ℕ → List (List ℕ)

@@ -1,12 +1,9 @@
 -- The words of lines, and what they make.
 use Rattle.std.specs.Prelude.{ℕ, ◌-◌, ◌==◌, Bool, false, not, ◌&&◌, ◌||◌, nat_lt, codes, if◌then◌else◌, List, [], ◌∷◌, ◌++◌, Option, Some}
-use Rattle.std.specs.Prelude.{None, length, map, take, slice_index, slice_index_or}
+use Rattle.std.specs.{Prelude.None, Prelude.length, Prelude.map, Prelude.take, Prelude.slice_index, Prelude.slice_index_or, Str.bytes_eq}
 use Rattle.std.specs.List.{list_all, before_first, after_first}
-use Rattle.std.specs.Str.{bytes_eq}
-use Rattle.design_netlist.specs.declared.netlist_data.Lit.{Lit}
-use Rattle.design_netlist.specs.declared.netlist_data.Lit.TheVariants.{Zero, One, Any}
-use Rattle.design_netlist.specs.declared.netlist_data.Cover.{Cover}
-use Rattle.design_netlist.specs.declared.netlist_data.PortDef.{PortDef}
+use Rattle.design_netlist.specs.declared.netlist_data.{Lit.Lit, Cover.Cover}
+use Rattle.design_netlist.specs.declared.netlist_data.{Lit.TheVariants.Zero, Lit.TheVariants.One, Lit.TheVariants.Any, PortDef.PortDef}
 use Rattle.design_flatten.specs.declared.model.PairDef.{PairDef}
 use Rattle.design_blif.specs.Names.{numbers}
 

@@ -1,9 +1,7 @@
 -- What a refusal says.
 use Rattle.std.specs.Prelude.{ℕ, ◌≡◌, Option, Some}
-use Rattle.design_netlist.specs.declared.fault.DesignKind.{DesignKind}
-use Rattle.design_blif.specs.declared.kind.Refusal.{Refusal}
-use Rattle.design_blif.specs.declared.kind.Refusal.TheVariants.{Memory, Kind}
-use Rattle.design_netlist.specs.declared.fault.DesignFault.{DesignFault}
+use Rattle.design_netlist.specs.declared.fault.{DesignKind.DesignKind, DesignFault.DesignFault}
+use Rattle.design_blif.specs.declared.kind.Refusal.{Refusal, TheVariants.Memory, TheVariants.Kind}
 use Rattle.design_netlist.specs.declared.fault.DesignFault.TheVariants as fault
 
 -- it is for this fault; of a lack of memory nothing is said

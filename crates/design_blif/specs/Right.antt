@@ -3,11 +3,8 @@ use Rattle.std.specs.Prelude.{ℕ, ◌≡◌, ◌<◌, ◌≤◌, true, false, c
 use Rattle.std.specs.List.{All, list_all}
 use Rattle.base_text.specs.Lines.{LogicalLine, is_bad_line}
 use Rattle.design_netlist.specs.declared.netlist_data.Cover.{Cover}
-use Rattle.design_blif.specs.declared.head.Head.{Head}
+use Rattle.design_blif.specs.{declared.head.Head.Head, Heads.head_of, Names.names_after, Seen.Seen, Seen.Above}
 use Rattle.design_blif.specs.declared.head.Head.TheVariants as head
-use Rattle.design_blif.specs.Heads.{head_of}
-use Rattle.design_blif.specs.Names.{names_after}
-use Rattle.design_blif.specs.Seen.{Seen, Above}
 use Rattle.design_blif.specs.Parts.{nth_word, is_pair, actual_of, row_words, is_right_row, is_off, is_init, has_type, has_init, init_word}
 use Rattle.design_blif.specs.Parts.{control_of}
 

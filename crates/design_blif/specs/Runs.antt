@@ -1,18 +1,12 @@
 -- The lines read one after another.
 use Rattle.std.specs.Prelude.{ℕ, ◌≡◌, false, if◌then◌else◌, List, [], ◌∷◌, ◌++◌, Option, Some, None, Result, Ok, Err}
 use Rattle.base_text.specs.Lines.{LogicalLine}
-use Rattle.design_netlist.specs.declared.fault.DesignKind.{DesignKind}
-use Rattle.design_netlist.specs.declared.fault.DesignKind.TheVariants.{NoModel}
-use Rattle.design_netlist.specs.declared.fault.DesignFault.{DesignFault}
-use Rattle.design_netlist.specs.declared.fault.DesignFault.TheVariants.{Memory, At}
+use Rattle.design_netlist.specs.declared.fault.{DesignKind.DesignKind, DesignFault.DesignFault}
+use Rattle.design_netlist.specs.declared.fault.{DesignKind.TheVariants.NoModel, DesignFault.TheVariants.Memory, DesignFault.TheVariants.At}
 use Rattle.design_flatten.specs.declared.model.Model.{Model}
-use Rattle.design_blif.specs.declared.head.Head.{Head}
+use Rattle.design_blif.specs.{declared.head.Head.Head, Parts.nth_word, Faults.fault_of, Steps.State, Steps.after_head, Steps.closed_pieces}
 use Rattle.design_blif.specs.declared.head.Head.TheVariants as head
-use Rattle.design_blif.specs.Heads.{head_of}
-use Rattle.design_blif.specs.Parts.{nth_word}
-use Rattle.design_blif.specs.Seen.{Above}
-use Rattle.design_blif.specs.Faults.{fault_of}
-use Rattle.design_blif.specs.Steps.{State, after_head, closed_pieces}
+use Rattle.design_blif.specs.{Heads.head_of, Seen.Above}
 
 -- what a call answered is what reading gives, unless memory ran out
 abbrev pub IsFaultAs : {Y : Type 0} → DesignFault → Result Y (ℕ × DesignKind) → Type 0

@@ -1,7 +1,6 @@
 -- What a reader holds, as plain lists.
 use Rattle.std.specs.Prelude.{map, option_copied}
-use Rattle.design_blif.specs.declared.reader.Reader.{Reader}
-use Rattle.design_blif.specs.Steps.{State}
+use Rattle.design_blif.specs.{declared.reader.Reader.Reader, Steps.State}
 
 abbrev pub state_of : Reader → State
 state_of r = record {

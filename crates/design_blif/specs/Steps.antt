@@ -1,20 +1,13 @@
 -- What the reader holds after a line.
-use Rattle.design_flatten.specs.declared.model.Piece.{Piece}
+use Rattle.design_flatten.specs.declared.model.Piece.{Piece, TheVariants.Names, TheVariants.Latch, TheVariants.Inst}
 use Rattle.std.specs.Prelude.{ℕ, true, ◌≡◌, List, [], ◌∷◌, ◌++◌, Option, Some, None, Result, Ok, Err, drop, slice_index, option_map, map}
 use Rattle.std.specs.Option.{option_or, option_to_list}
 use Rattle.base_text.specs.Lines.{LogicalLine}
-use Rattle.design_netlist.specs.declared.fault.DesignKind.{DesignKind}
-use Rattle.design_blif.specs.declared.kind.Refusal.{Refusal}
-use Rattle.design_blif.specs.declared.head.Head.{Head}
+use Rattle.design_netlist.specs.declared.{fault.DesignKind.DesignKind, netlist_data.PortDef.PortDef, netlist_data.LatchDef.LatchDef}
+use Rattle.design_blif.specs.{declared.kind.Refusal.Refusal, declared.head.Head.Head, Heads.head_of, Names.names_after, Names.numbers}
 use Rattle.design_blif.specs.declared.head.Head.TheVariants as head
-use Rattle.design_netlist.specs.declared.netlist_data.PortDef.{PortDef}
-use Rattle.design_netlist.specs.declared.netlist_data.LatchDef.{LatchDef}
-use Rattle.design_blif.specs.Heads.{head_of}
-use Rattle.design_blif.specs.Names.{names_after, numbers}
-use Rattle.design_blif.specs.Refusals.{IsRefusedAs}
+use Rattle.design_blif.specs.{Refusals.IsRefusedAs, Seen.Seen}
 use Rattle.design_blif.specs.Parts.{nth_word, formal_of, actual_of, pairs_of, port_defs, new_sum, with_row, control_of, init_of}
-use Rattle.design_flatten.specs.declared.model.Piece.TheVariants.{Names, Latch, Inst}
-use Rattle.design_blif.specs.Seen.{Seen}
 
 pub record State : Type 0 where
   pub seen : Seen

@@ -1,8 +1,7 @@
 -- Valuations of a graph: for each vector and each state of its latches there is one.
 use Rattle.std.proofs.Common.{◌≡◌, ℕ, zero, suc, ◌+◌, ◌*◌, ◌/◌, ◌%◌, ◌<◌, ◌&&◌, ◌==◌, Bool, false, List, [], ◌∷◌, ◌++◌, length, get_or, refl, sym, ap, ◌∙◌, arith, not, if◌then◌else◌}
-use Rattle.std.proofs.lemmas.List.{get_or_append_left, get_or-append-add, length-append}
+use Rattle.design_equal.proofs.Vocabulary.{get_or_append_left, get_or-append-add, length-append, Graph}
 use Rattle.design_equal.specs.declared.graph.And.{And}
-use Rattle.design_equal.specs.declared.graph.Graph.{Graph}
 use Rattle.design_equal.specs.Graphs.{first_and, first_latch, literal_in, node_of, IsGraph, IsValued}
 
 abbrev pub bit_of : List Bool → ℕ → Bool

@@ -5,3 +5,4 @@ mod RowLemmas
 mod PinLemmas
 mod PlanLemmas
 mod ProductLemmas
+mod Vocabulary

@@ -1,13 +1,9 @@
 -- Pins: the lane and the pass that spell given bits.
 use Rattle.std.proofs.Common.{◌≡◌, ◌⊎◌, ℕ, zero, suc, ◌+◌, ◌-◌, ◌*◌, ◌^◌, ◌<◌, ◌≤◌, ◌==◌, Bool, true, false, List, length, nat_lt, refl, sym, ap, ◌∙◌, inl, inr, arith, if◌then◌else◌}
 use native.Mathlib.Numerals.{unary_clauses}
-use Rattle.std.proofs.lemmas.Bool.{cases_lt, le-ltb}
+use Rattle.design_equal.proofs.Vocabulary.{cases_lt, le-ltb, is_bit, number_at, Graph, IsValued, pin_bit, AreAt}
 use Rattle.std.proofs.lemmas.Nat.Bits.{bit_at-suc, bit_at_lowest}
-use Rattle.design_netlist.specs.Vocabulary.{is_bit, number_at}
 use Rattle.design_netlist.proofs.BitLemmas.{halved, lowest}
-use Rattle.design_equal.specs.declared.graph.Graph.{Graph}
-use Rattle.design_equal.specs.Graphs.{IsValued}
-use Rattle.design_equal.specs.Plans.{pin_bit, AreAt}
 
 -- the number whose first bits are these
 abbrev spelled_by : (ℕ → Bool) → ℕ → ℕ

@@ -1,16 +1,10 @@
 -- The words of steps, and the word of a cover.
 use Rattle.std.proofs.Common.{◌≡◌, ◌⊎◌, ℕ, ◌+◌, ◌%◌, ◌<◌, ◌&&◌, ◌==◌, Bool, List, length, sym, ap, subst, ◌∙◌, inl, inr, arith, get_or-set_same, get_or-set_other, not, if◌then◌else◌, slice_set}
-use Rattle.std.proofs.lemmas.Bool.{cases_eq}
+use Rattle.design_equal.proofs.Vocabulary.{cases_eq, lane-at, Graph, Step, and_at, literal_in, node_of, label_at, signal_bits}
 use Rattle.design_netlist.specs.declared.netlist_data.Cover.{Cover}
 use Rattle.design_netlist.specs.Vocabulary.{truth, is_bit, lane_bits, number_at, bit_at}
-use Rattle.design_netlist.proofs.LaneLemmas.{lane-at}
 use Rattle.design_netlist.proofs.ValuationLemmas.{same_truth}
-use Rattle.design_equal.specs.declared.graph.Graph.{Graph}
-use Rattle.design_equal.specs.declared.plan.Plan.{Plan}
-use Rattle.design_equal.specs.declared.plan.Source.TheVariants.{Gate}
-use Rattle.design_equal.specs.declared.plan.Step.{Step}
-use Rattle.design_equal.specs.Graphs.{and_at, literal_in, node_of}
-use Rattle.design_equal.specs.Labels.{label_at, signal_bits}
+use Rattle.design_equal.specs.declared.plan.{Plan.Plan, Source.TheVariants.Gate}
 use Rattle.design_equal.specs.Plans.{step_node, StandsFor, IsFrom, AreAt, HaveInputs, HaveWords, IsMetIn, IsPlan}
 
 -- the bit of a step's literal

@@ -1,12 +1,8 @@
 -- Products of literals and sums of them.
 use Rattle.std.proofs.Common.{◌≡◌, ℕ, ◌+◌, ◌<◌, ◌&&◌, ◌||◌, Bool, true, false, List, [], ◌∷◌, length, take, drop, get_or, refl, sym, ap, ◌∙◌, not}
-use Rattle.std.specs.List.{list_all, list_any}
-use Rattle.std.specs.List.Sorted.{IsPermutation}
-use Rattle.std.proofs.lemmas.List.{take-append-drop}
-use Rattle.std.proofs.lemmas.List.Folds.{list_all-append, list_all_more}
-use Rattle.std.proofs.lemmas.List.Sorted.{list_any-IsPermutation}
-use Rattle.design_equal.specs.Graphs.{literal_in}
-use Rattle.design_equal.specs.Products.{holds}
+use Rattle.std.specs.List.{list_all, list_any, Sorted.IsPermutation}
+use Rattle.design_equal.proofs.Vocabulary.{take-append-drop, literal_in, holds}
+use Rattle.std.proofs.lemmas.List.{Folds.list_all-append, Folds.list_all_more, Sorted.list_any-IsPermutation}
 
 all_is : {X : Type 0} (p : X → Bool) (xs : List X) → list_all p xs ≡ not (list_any (λ x. not (p x)) xs)
 all_is p [] = refl

@@ -1,15 +1,11 @@
 -- A design that is labelled by a graph has the graph's rows.
 use Rattle.std.proofs.Common.{◌≡◌, ◌⊎◌, ℕ, suc, ◌+◌, ◌<◌, ◌≤◌, ◌==◌, Bool, false, List, [], ◌∷◌, length, map, replicate, get_or, refl, sym, ap, subst, ◌∙◌, inl, inr, arith, ◌↔◌}
-use Rattle.std.proofs.lemmas.Bool.{cases_lt}
+use Rattle.design_equal.proofs.Vocabulary.{cases_lt, Graph, IsValued, first_latch, literal_in}
 use Rattle.std.proofs.lemmas.List.{get_or-map, length-map, length-replicate, get_or_past}
-use Rattle.design_netlist.specs.declared.netlist_data.NetlistData.{NetlistData}
-use Rattle.design_netlist.specs.declared.netlist_data.LatchDef.{LatchDef}
-use Rattle.design_netlist.specs.declared.netlist_data.PortDef.{PortDef}
+use Rattle.design_netlist.specs.declared.netlist_data.{NetlistData.NetlistData, LatchDef.LatchDef, PortDef.PortDef}
 use Rattle.design_netlist.specs.Vocabulary.{IsChecked, word, signal_at, IsDriven, IsRightValuation, RowsFrom, AreRows, outputs_in, next_state, first_state}
 use Rattle.design_netlist.proofs.RightLemmas.{map_each, map_is, right_agrees}
-use Rattle.design_equal.specs.declared.graph.Graph.{Graph}
 use Rattle.design_equal.specs.declared.graph.GraphLatch.{GraphLatch}
-use Rattle.design_equal.specs.Graphs.{IsValued, first_latch, literal_in}
 use Rattle.design_equal.specs.Labels.{label_at, signal_bits, IsLatchAt, IsConstantLatch, IsLatchOf, IsLabelled, DoAgree, output_labels}
 use Rattle.design_equal.proofs.GraphLemmas.{bit_of, even_literal, constant_literal, node_bits, bits_valued, input_bit, latch_bit}
 

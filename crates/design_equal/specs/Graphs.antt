@@ -1,9 +1,7 @@
 -- Graphs of ANDs. Node 0 is the constant 0, then come the inputs, the latches and the ANDs, each in order. A literal is twice the
 -- number of a node, or one more, which negates it.
 use Rattle.std.specs.Prelude.{ℕ, ◌≡◌, ◌==◌, ◌<◌, ◌+◌, ◌/◌, ◌%◌, ◌&&◌, not, Bool, false, length, if◌then◌else◌, slice_index_or}
-use Rattle.design_equal.specs.declared.graph.And.{And}
-use Rattle.design_equal.specs.declared.graph.Graph.{Graph}
-use Rattle.design_equal.specs.declared.graph.GraphLatch.{GraphLatch}
+use Rattle.design_equal.specs.declared.graph.{And.And, Graph.Graph, GraphLatch.GraphLatch}
 
 abbrev pub and_at : Graph → ℕ → And
 and_at g k = slice_index_or g.ands k (record { left = 0; right = 0 })

@@ -1,7 +1,6 @@
 -- Designs whose signals are labelled by literals of a graph.
 use Rattle.std.specs.Prelude.{ℕ, ◌≡◌, ◌⊎◌, ◌==◌, ◌<◌, ◌+◌, ◌*◌, List, Bool, length, map, slice_index_or}
-use Rattle.design_netlist.specs.declared.netlist_data.NetlistData.{NetlistData}
-use Rattle.design_netlist.specs.declared.netlist_data.LatchDef.{LatchDef}
+use Rattle.design_netlist.specs.declared.netlist_data.{NetlistData.NetlistData, LatchDef.LatchDef}
 use Rattle.design_netlist.specs.Vocabulary.{cover_at, truth, signal_at, IsDriven, latch_at}
 use Rattle.design_equal.specs.declared.graph.Graph.{Graph}
 use Rattle.design_equal.specs.Graphs.{IsGraph, IsValued, first_latch, graph_latch_at, literal_in, node_count, node_of}

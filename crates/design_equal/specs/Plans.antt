@@ -1,14 +1,9 @@
 -- How the word of a cover's output follows from those of its inputs: steps, each of which has the word of a node.
 use Rattle.std.specs.Prelude.{ℕ, ◌≡◌, ◌<◌, ◌≤◌, ◌+◌, ◌-◌, ◌%◌, List, Bool, length, slice_index_or, if◌then◌else◌, nat_lt}
-use Rattle.design_netlist.specs.declared.netlist_data.Cover.{Cover}
-use Rattle.design_netlist.specs.Vocabulary.{truth, is_bit, number_at}
-use Rattle.design_equal.specs.declared.graph.Graph.{Graph}
-use Rattle.design_equal.specs.declared.plan.Plan.{Plan}
-use Rattle.design_equal.specs.declared.plan.Source.{Source}
-use Rattle.design_equal.specs.declared.plan.Source.TheVariants.{Zero, Pin, Gate}
-use Rattle.design_equal.specs.declared.plan.Step.{Step}
-use Rattle.design_equal.specs.Graphs.{IsValued, and_at, first_and, literal_in, node_of}
-use Rattle.design_equal.specs.Labels.{label_at, signal_bits}
+use Rattle.design_netlist.specs.{declared.netlist_data.Cover.Cover, Vocabulary.truth, Vocabulary.is_bit, Vocabulary.number_at}
+use Rattle.design_equal.specs.{declared.graph.Graph.Graph, declared.plan.Step.Step, Labels.label_at, Labels.signal_bits}
+use Rattle.design_equal.specs.{declared.plan.Plan.Plan, Graphs.IsValued, Graphs.and_at, Graphs.first_and, Graphs.literal_in, Graphs.node_of}
+use Rattle.design_equal.specs.declared.plan.Source.{Source, TheVariants.Zero, TheVariants.Pin, TheVariants.Gate}
 
 abbrev pub step_at : List Step → ℕ → Step
 step_at steps k = slice_index_or steps k (record { node = 0; from = Zero })

@@ -1,11 +1,8 @@
 -- Products of literals, sums of them, and sums that are not yet multiplied out.
 use Rattle.std.specs.Prelude.{ℕ, ◌≡◌, ◌<◌, ◌+◌, ◌&&◌, ◌||◌, List, Option, None, Some, Bool, false, length, not, if◌then◌else◌}
 use Rattle.std.specs.List.{list_all, list_any}
-use Rattle.design_equal.specs.declared.expand.Pending.{Pending}
-use Rattle.design_equal.specs.declared.expand.Work.{Work}
-use Rattle.design_equal.specs.declared.graph.And.{And}
-use Rattle.design_equal.specs.declared.graph.Graph.{Graph}
-use Rattle.design_equal.specs.Graphs.{and_at, first_and, literal_in}
+use Rattle.design_equal.specs.{declared.expand.Pending.Pending, declared.graph.And.And, Graphs.and_at, Graphs.first_and, Graphs.literal_in}
+use Rattle.design_equal.specs.declared.{expand.Work.Work, graph.Graph.Graph}
 
 -- whether all literals of a product are 1
 abbrev pub holds : (ℕ → Bool) → List ℕ → Bool

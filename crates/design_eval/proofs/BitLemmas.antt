@@ -1,8 +1,7 @@
 -- Bits that are written at signals, and read again.
 use Rattle.std.proofs.Common.{◌≡◌, ℕ, zero, suc, ◌+◌, ◌<◌, Bool, false, List, [], ◌∷◌, ◌++◌, length, take, get_or, map, refl, sym, ap, ◌∙◌, arith, get_or-set_same, get_or-set_other, slice_set}
 use Rattle.std.proofs.lemmas.List.{length-set, set-set, set_comm, set-get_or, length-append, get_or-map, get_or_append_left, get_or-append-add}
-use Rattle.design_netlist.specs.Valuations.{bit_at}
-use Rattle.design_eval.specs.Bits.{bits_put, AreApart, AreBelow}
+use Rattle.design_eval.proofs.Vocabulary.{bit_at, bits_put, AreApart, AreBelow}
 
 pub length-put : (values : List Bool) (ss : List ℕ) (bs : List Bool) → length (bits_put values ss bs) ≡ length values
 unfolding bits_put

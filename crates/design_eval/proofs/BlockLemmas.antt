@@ -1,17 +1,9 @@
 -- Vectors that are evaluated at once.
 use Rattle.std.proofs.Common.{◌≡◌, ◌⊎◌, ℕ, ◌+◌, ◌<◌, ◌≤◌, Bool, List, [], ◌∷◌, length, map, replicate, refl, sym, ap, subst, ◌∙◌, inl, inr, arith}
-use Rattle.std.proofs.lemmas.Bool.{cases_lt}
-use Rattle.std.proofs.lemmas.List.{length-replicate, get_or-replicate, get_or_past}
-use Rattle.std.proofs.lemmas.Simd.{map-map}
-use Rattle.design_netlist.specs.declared.netlist_data.Cover.{Cover}
-use Rattle.design_netlist.specs.declared.netlist_data.NetlistData.{NetlistData}
-use Rattle.design_netlist.specs.declared.netlist_data.LatchDef.{LatchDef}
-use Rattle.design_netlist.specs.declared.netlist_data.PortDef.{PortDef}
+use Rattle.design_eval.proofs.Vocabulary.{cases_lt, length-replicate, get_or-replicate, get_or_past, map-map, Cover, NetlistData, LatchDef}
+use Rattle.design_eval.proofs.Vocabulary.{PortDef, cover_place, cover_signal, lane-at, no-bit}
 use Rattle.design_netlist.specs.Vocabulary.{IsChecked, IsDriven, number_at, bit_at, IsSettled, is_bit, lane_bits}
-use Rattle.design_netlist.proofs.CheckLemmas.{cover_place, cover_signal}
-use Rattle.design_eval.specs.declared.block.Block.{Block}
-use Rattle.design_eval.specs.Blocks.{HaveKept, IsBlock, IsRowOf}
-use Rattle.design_netlist.proofs.LaneLemmas.{lane-at, no-bit}
+use Rattle.design_eval.specs.{declared.block.Block.Block, Blocks.HaveKept, Blocks.IsBlock, Blocks.IsRowOf}
 use Rattle.design_eval.proofs.RunLemmas.{signals, input-driven}
 
 zero-word : (n s : ℕ) → number_at (replicate n 0) s ≡ 0

@@ -1,12 +1,7 @@
 -- Latches that give what has changed.
 use Rattle.std.proofs.Common.{◌≡◌, ◌⊎◌, ℕ, ◌+◌, ◌*◌, ◌<◌, ◌≤◌, Bool, false, List, length, map, refl, sym, ap, subst, ◌∙◌, inl, inr, arith, get_or-set_same, get_or-set_other, slice_set}
-use Rattle.std.proofs.lemmas.Bool.{cases_eq, cases_lt}
-use Rattle.std.proofs.lemmas.List.{length-set, length-map, get_or-map, ext_get_or}
-use Rattle.design_netlist.specs.Valuations.{number_at, bit_at}
-use Rattle.design_eval.specs.declared.readers.Readers.{Readers}
-use Rattle.design_eval.specs.Bits.{bits_put, AreApart, AreBelow}
-use Rattle.design_eval.specs.Latches.{HaveBits, HavePut}
-use Rattle.design_eval.specs.Marks.{HasGiven, AreTaken}
+use Rattle.design_eval.proofs.Vocabulary.{cases_eq, cases_lt, length-set, length-map, get_or-map, ext_get_or, number_at, bit_at, Readers}
+use Rattle.design_eval.proofs.Vocabulary.{bits_put, AreApart, AreBelow, HaveBits, HavePut, HasGiven, AreTaken}
 use Rattle.design_eval.proofs.BitLemmas.{put-over, put-same, put-has}
 use Rattle.design_eval.proofs.MarkLemmas.{keeps-give, given-taken, taken-none, taken-both, clear-kept}
 

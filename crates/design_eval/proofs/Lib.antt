@@ -9,3 +9,4 @@ mod MarkLemmas
 mod LatchLemmas
 mod BlockLemmas
 mod TableWordLemmas
+mod Vocabulary

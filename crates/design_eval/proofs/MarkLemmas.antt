@@ -1,14 +1,8 @@
 -- Covers that are marked where an input changes.
 use Rattle.std.proofs.Common.{◌≡◌, ◌⊎◌, ℕ, ◌+◌, ◌<◌, ◌≤◌, Bool, true, false, List, [], length, take, refl, sym, ap, subst, ◌∙◌, inl, inr, arith, get_or-set_same, get_or-set_other, slice_set, replicate}
-use Rattle.std.proofs.lemmas.Bool.{cases_eq, cases_lt}
+use Rattle.design_eval.proofs.Vocabulary.{cases_eq, cases_lt, Cover, cover_at, truth, number_at, bit_at, IsOrder, IsSettled, same_truth}
+use Rattle.design_eval.proofs.Vocabulary.{Readers, IsListed, AreReaders, ins_at, Turn, turn_at, places, AreTurns}
 use Rattle.std.proofs.lemmas.List.{set-get_or, get_or-take, length-take, length-take-le, take_all, get_or-replicate}
-use Rattle.design_netlist.specs.declared.netlist_data.Cover.{Cover}
-use Rattle.design_netlist.specs.Vocabulary.{cover_at, truth, number_at, bit_at, IsOrder, IsSettled}
-use Rattle.design_netlist.proofs.ValuationLemmas.{same_truth}
-use Rattle.design_eval.specs.declared.readers.Readers.{Readers}
-use Rattle.design_eval.specs.Readers.{IsListed, AreReaders, ins_at}
-use Rattle.design_eval.specs.declared.turns.Turn.{Turn}
-use Rattle.design_eval.specs.Turns.{turn_at, places, AreTurns}
 use Rattle.design_eval.proofs.TurnLemmas.{turns-size, out-is, truth-is, place-within}
 use Rattle.design_eval.specs.Marks.{HoldsAt, AreKept, AreOthersSame, HaveMarked, HasGiven, StillKept, StillTaken}
 

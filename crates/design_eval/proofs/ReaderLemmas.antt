@@ -1,17 +1,10 @@
 -- The readers of signals, found by sorted keys.
 use Rattle.std.proofs.Common.{◌≡◌, ◌⊎◌, ℕ, ◌+◌, ◌*◌, ◌%◌, ◌<◌, ◌≤◌, List, [], ◌∷◌, ◌++◌, length, take, map, refl, sym, ap, subst, ◌∙◌, inl, inr, arith}
-use Rattle.std.specs.List.{Contains}
-use Rattle.std.specs.List.Sorted.{IsPermutation, IsSorted}
-use Rattle.std.specs.Ordering.{nat_cmp}
-use Rattle.std.proofs.lemmas.Bool.{cases_lt, cases_eq}
-use Rattle.std.proofs.lemmas.Grind.{get_or_default_zero}
-use Rattle.std.proofs.Math.Seq.{get_or-append_seam}
+use Rattle.design_eval.proofs.Vocabulary.{Contains, cases_lt, cases_eq, get_or_default_zero, get_or-append_seam, Cover, number_at, Readers}
+use Rattle.std.specs.{List.Sorted.IsPermutation, List.Sorted.IsSorted, Ordering.nat_cmp}
 use Rattle.std.proofs.lemmas.List.{get_or-map, get_or-take, length-map, length-take, length-take-le, get_or_append_left}
 use Rattle.std.proofs.lemmas.List.Elements.{Contains-append_left, Contains-append_right}
 use Rattle.std.proofs.lemmas.List.Sorted.{Contains-permutation, IsNonDecreasingBy-from_sort}
-use Rattle.design_netlist.specs.declared.netlist_data.Cover.{Cover}
-use Rattle.design_netlist.specs.Valuations.{number_at}
-use Rattle.design_eval.specs.declared.readers.Readers.{Readers}
 use Rattle.design_eval.specs.Readers.{reader_key, HaveKeys, AreListed, ins_at, AreKeys, AreInOrder, IsFrom, Splits, AreStarts, AreReaders}
 
 pub keys-none : (covers : List Cover) (order keys : List ℕ) → AreKeys covers order 0 keys

@@ -1,31 +1,16 @@
 -- A vector and a state, written and settled, give a right valuation.
 use Rattle.std.proofs.Common.{◌≡◌, ◌⊎◌, ℕ, ◌+◌, ◌<◌, ◌≤◌, Bool, true, false, List, ◌++◌, length, take, get_or, map, sym, ap, subst, ◌∙◌, inl, inr, arith, replicate}
-use Rattle.std.proofs.Math.Seq.{take-append_seam}
-use Rattle.std.proofs.lemmas.Bool.{cases_lt}
-use Rattle.std.specs.List.{flat_map}
+use Rattle.design_eval.proofs.Vocabulary.{take-append_seam, cases_lt, flat_map, map-map, Cover, NetlistData, LatchDef, PortDef, map_same}
+use Rattle.design_eval.proofs.Vocabulary.{Turn, AreQuick, AreTurns, places, AreListed, AreReaders, AreFree, HaveBits}
 use Rattle.std.proofs.lemmas.List.{length-append, length-map, length-replicate, map-append, get_or-map, get_or_append_left, get_or-append-add, get_or-replicate, get_or_past}
-use Rattle.std.proofs.lemmas.Simd.{map-map}
-use Rattle.design_netlist.specs.declared.netlist_data.Cover.{Cover}
-use Rattle.design_netlist.specs.declared.netlist_data.NetlistData.{NetlistData}
-use Rattle.design_netlist.specs.declared.netlist_data.LatchDef.{LatchDef}
-use Rattle.design_netlist.specs.declared.netlist_data.PortDef.{PortDef}
 use Rattle.design_netlist.specs.Vocabulary.{no_cover, cover_at, IsCoverOver, word, signal_at, cover_drive, latch_drive, cover_reads, latch_read, drive_words, reads_of, IsDriven, number_at, bit_at, IsOrder, IsSettled, IsChecked, IsRightValuation}
 use Rattle.design_netlist.proofs.ListLemmas.{few_numbers}
 use Rattle.design_netlist.proofs.RightLemmas.{settled_is_right}
-use Rattle.design_netlist.proofs.ValuationLemmas.{map_same}
-use Rattle.design_eval.specs.declared.plan.Plan.{Plan}
-use Rattle.design_eval.specs.declared.turns.Turn.{Turn}
-use Rattle.design_eval.specs.Bits.{bits_put, AreApart, AreBelow, AreReady, IsWiring}
-use Rattle.design_eval.specs.Smalls.{AreQuick}
-use Rattle.design_eval.specs.Turns.{AreTurns, places}
-use Rattle.design_eval.specs.Readers.{AreListed, AreReaders}
-use Rattle.design_eval.specs.Plans.{IsPlan, IsMarked, IsHeld}
+use Rattle.design_eval.specs.{declared.plan.Plan.Plan, Bits.bits_put, Bits.AreApart, Bits.AreBelow, Bits.AreReady, Bits.IsWiring}
+use Rattle.design_eval.specs.{Plans.IsPlan, Plans.IsMarked, Plans.IsHeld, Evals.IsStep}
 use Rattle.design_eval.proofs.TurnLemmas.{turns-size}
 use Rattle.design_eval.proofs.MarkLemmas.{fresh-kept}
 use Rattle.design_eval.proofs.LatchLemmas.{bits-put}
-use Rattle.design_eval.specs.Evals.{IsStep}
-use Rattle.design_eval.specs.Marks.{AreFree}
-use Rattle.design_eval.specs.Latches.{HaveBits}
 use Rattle.design_eval.proofs.BitLemmas.{length-put, put-other, put-read, apart-left, apart-right, apart-both, below-left, below-right}
 
 abbrev pub signals : List PortDef → List ℕ

@@ -1,15 +1,8 @@
 -- Covers of at most four inputs as tables.
 use Rattle.std.proofs.Common.{◌≡◌, ◌⊎◌, ℕ, zero, suc, ◌+◌, ◌-◌, ◌/◌, ◌%◌, ◌==◌, ◌<◌, ◌≤◌, Bool, false, List, [], ◌∷◌, length, take, get_or, map, refl, sym, ap, subst, ◌∙◌, inl, inr, arith, get_or-set_same, get_or-set_other, slice_set}
-use Rattle.std.proofs.lemmas.Bool.{cases_eq}
-use Rattle.std.proofs.lemmas.List.{take-map, get_or-take, length-take-le}
-use Rattle.design_netlist.specs.declared.netlist_data.Cover.{Cover}
-use Rattle.design_eval.specs.Tables.{truth_at, address, six_bits, AreCells, AreWires}
-use Rattle.design_eval.specs.declared.readers.Readers.{Readers}
-use Rattle.design_eval.specs.declared.turns.Turn.{Turn}
+use Rattle.design_eval.proofs.Vocabulary.{cases_eq, take-map, get_or-take, length-take-le, Cover, truth_at, address, six_bits, AreCells}
+use Rattle.design_eval.proofs.Vocabulary.{AreWires, Readers, Turn, turn_at, AreTurns, HasGiven, quick_at, IsSmall, AreQuick}
 use Rattle.design_eval.specs.declared.smalls.Quick.{Quick}
-use Rattle.design_eval.specs.Turns.{turn_at, AreTurns}
-use Rattle.design_eval.specs.Marks.{HasGiven}
-use Rattle.design_eval.specs.Smalls.{quick_at, IsSmall, AreQuick}
 use Rattle.design_eval.proofs.TableLemmas.{address-half, address-low, address-sixteen, wires-below}
 
 four-of : (given : ℕ → Bool) (a b c d : ℕ) → six_bits (address given (a ∷ b ∷ c ∷ d ∷ [])) ≡ given a ∷ given b ∷ given c ∷ given d ∷ (address given [] % 2 == 1) ∷ (address given [] / 2 % 2 == 1) ∷ []

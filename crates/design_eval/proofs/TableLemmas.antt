@@ -1,15 +1,11 @@
 -- Covers as tables.
 use Rattle.std.proofs.Common.{◌≡◌, ◌⊎◌, ℕ, zero, suc, ◌+◌, ◌-◌, ◌*◌, ◌/◌, ◌%◌, ◌==◌, ◌<◌, ◌≤◌, Bool, true, false, List, [], ◌∷◌, ◌++◌, length, take, drop, get_or, map, refl, sym, ap, subst, ◌∙◌, inl, inr, arith, if◌then◌else◌, slice_set, get_or-set_same, get_or-set_other}
-use Rattle.std.proofs.lemmas.Bool.{cases_lt, cases_eq}
+use Rattle.design_eval.proofs.Vocabulary.{cases_lt, cases_eq, Cover, no_cover, cover_at, truth, IsCoverOver, cover_of, bit_at, AreBelow}
+use Rattle.design_eval.proofs.Vocabulary.{addresses, truth_at, address, six_bits, AreCells, AreWires, IsTable}
 use Rattle.std.specs.Int.{from_bool}
 use Rattle.std.proofs.lemmas.List.{take-map, get_or-take, length-take, drop_more, drop_all, length-drop, take_more, take_more_set, get_or_default}
-use Rattle.design_netlist.specs.declared.netlist_data.Cover.{Cover}
 use Rattle.design_netlist.specs.declared.netlist_data.Lit.{Lit}
-use Rattle.design_netlist.specs.Vocabulary.{no_cover, cover_at, truth, IsCoverOver, cover_of, bit_at}
 use Rattle.design_netlist.proofs.BitLemmas.{halved, lowest}
-use Rattle.design_eval.specs.Bits.{AreBelow}
-use Rattle.design_eval.specs.Lanes.{addresses}
-use Rattle.design_eval.specs.Tables.{truth_at, address, six_bits, AreCells, AreWires, IsTable}
 
 pub address-half : (given : ℕ → Bool) (s : ℕ) (ss : List ℕ) → address given (s ∷ ss) / 2 ≡ address given ss
 unfolding address

@@ -1,17 +1,9 @@
 -- Tables in all lanes at once.
 use Rattle.std.proofs.Common.{◌≡◌, ℕ, zero, suc, ◌+◌, ◌-◌, ◌*◌, ◌<◌, ◌≤◌, ◌&&◌, ◌||◌, Bool, true, false, List, [], ◌∷◌, length, take, drop, get_or, refl, sym, ap, subst, ◌∙◌, arith, not, if◌then◌else◌}
 use Rattle.std.proofs.Math.Dec.{eqb}
-use Rattle.std.proofs.lemmas.Bool.{eqb-true, eq-eqb}
-use Rattle.std.proofs.lemmas.List.{drop_more}
-use Rattle.std.proofs.lemmas.Grind.{get_or_default_zero}
-use Rattle.design_netlist.specs.declared.netlist_data.Cover.{Cover}
-use Rattle.design_netlist.specs.Vocabulary.{cover_at, truth, number_at}
-use Rattle.design_netlist.proofs.ValuationLemmas.{same_truth}
+use Rattle.design_eval.proofs.Vocabulary.{eqb-true, eq-eqb, drop_more, get_or_default_zero, Cover, cover_at, truth, number_at, same_truth}
+use Rattle.design_eval.proofs.Vocabulary.{Turn, addresses, address, IsTable, turn_at, places, AreTurns}
 use Rattle.design_eval.specs.declared.tables.Table.{Table}
-use Rattle.design_eval.specs.declared.turns.Turn.{Turn}
-use Rattle.design_eval.specs.Lanes.{addresses}
-use Rattle.design_eval.specs.Tables.{address, IsTable}
-use Rattle.design_eval.specs.Turns.{turn_at, places, AreTurns}
 use Rattle.design_eval.proofs.TableLemmas.{address-nil, address-more}
 use Rattle.design_eval.proofs.TurnLemmas.{turns-size, turn-place}
 

@@ -1,12 +1,9 @@
 -- Covers in their turns.
 use Rattle.std.proofs.Common.{◌≡◌, ℕ, ◌+◌, ◌<◌, ◌≤◌, Bool, List, [], ◌∷◌, ◌++◌, None, length, take, map, sym, ap, subst, ◌∙◌, arith, slice_set}
 use Rattle.std.proofs.lemmas.List.{length-map, map-append, get_or-map, take_more, take_all}
-use Rattle.design_netlist.specs.declared.netlist_data.Cover.{Cover}
+use Rattle.design_eval.proofs.Vocabulary.{Cover, few_covers, Turn, turn_at, places, IsTurn, AreTurns}
 use Rattle.design_netlist.specs.Vocabulary.{no_cover, cover_at, truth, IsCoverOver, number_at, bit_at, IsOrder, IsSettled, IsSettledTo}
 use Rattle.design_netlist.proofs.EvalLemmas.{settle_more, settle_all}
-use Rattle.design_netlist.proofs.CheckLemmas.{few_covers}
-use Rattle.design_eval.specs.declared.turns.Turn.{Turn}
-use Rattle.design_eval.specs.Turns.{turn_at, places, IsTurn, AreTurns}
 
 pub places-more : (turns : List Turn) (t : Turn) (order : List ℕ) (k : ℕ) → places turns ≡ take k order → t.place ≡ number_at order k → k < length order → places (turns ++ t ∷ []) ≡ take (k + 1) order
 places-more turns t order k e i lk =

@@ -1,7 +1,6 @@
 -- Bits of signals, in a list by their numbers, and what is kept of a design between two vectors.
 use Rattle.std.specs.Prelude.{◌≡◌, ℕ, ◌<◌, List, [], ◌∷◌, Bool, false, length, map, slice_set, slice_index_or}
-use Rattle.design_netlist.specs.declared.netlist_data.NetlistData.{NetlistData}
-use Rattle.design_netlist.specs.Vocabulary.{IsDriven, bit_at}
+use Rattle.design_netlist.specs.{declared.netlist_data.NetlistData.NetlistData, Vocabulary.IsDriven, Vocabulary.bit_at}
 use Rattle.design_eval.specs.declared.wiring.Wiring.{Wiring}
 
 -- the list with these bits at these signals

@@ -2,9 +2,7 @@
 use Rattle.std.specs.Prelude.{◌≡◌, ℕ, ◌<◌, ◌≤◌, List, Bool, false, length}
 use Rattle.design_netlist.specs.declared.netlist_data.NetlistData.{NetlistData}
 use Rattle.design_netlist.specs.Vocabulary.{IsDriven, number_at, bit_at, lane_bits}
-use Rattle.design_eval.specs.declared.block.Block.{Block}
-use Rattle.design_eval.specs.Evals.{EvalState, IsStep}
-use Rattle.design_eval.specs.Plans.{AllHold}
+use Rattle.design_eval.specs.{declared.block.Block.Block, Evals.EvalState, Evals.IsStep, Plans.AllHold}
 
 -- the words of all signals but these are as they were
 abbrev pub HaveKept : List ℕ → List ℕ → List ℕ → Type 0

@@ -1,9 +1,7 @@
 -- What latches give, and what they gave last.
 use Rattle.std.specs.Prelude.{◌≡◌, ℕ, ◌<◌, List, Bool, length}
 use Rattle.design_netlist.specs.Valuations.{number_at, bit_at}
-use Rattle.design_eval.specs.declared.readers.Readers.{Readers}
-use Rattle.design_eval.specs.Bits.{bits_put}
-use Rattle.design_eval.specs.Marks.{StillKept, StillTaken}
+use Rattle.design_eval.specs.{declared.readers.Readers.Readers, Bits.bits_put, Marks.StillKept, Marks.StillTaken}
 
 -- signals have these bits
 abbrev pub HaveBits : List ℕ → List Bool → List Bool → Type 0

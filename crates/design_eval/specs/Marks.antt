@@ -2,8 +2,7 @@
 use Rattle.std.specs.Prelude.{◌≡◌, ℕ, ◌+◌, ◌<◌, ◌≤◌, List, Bool, false, true, length, slice_set}
 use Rattle.design_netlist.specs.declared.netlist_data.Cover.{Cover}
 use Rattle.design_netlist.specs.Vocabulary.{cover_at, truth, number_at, bit_at}
-use Rattle.design_eval.specs.declared.readers.Readers.{Readers}
-use Rattle.design_eval.specs.Readers.{IsListed, AreListed, AreReaders}
+use Rattle.design_eval.specs.{declared.readers.Readers.Readers, Readers.IsListed, Readers.AreListed, Readers.AreReaders}
 
 -- the cover in a turn has the truth of its inputs' bits
 abbrev pub HoldsAt : List Cover → List ℕ → (ℕ → Bool) → ℕ → Type 0

@@ -1,14 +1,8 @@
 -- What is known of a design before it is run, and what is kept of its covers.
 use Rattle.std.specs.Prelude.{◌≡◌, ℕ, ◌+◌, ◌<◌, ◌≤◌, List, Bool, length}
-use Rattle.design_netlist.specs.declared.netlist_data.NetlistData.{NetlistData}
-use Rattle.design_netlist.specs.Vocabulary.{cover_at, truth, bit_at}
-use Rattle.design_eval.specs.declared.plan.Plan.{Plan}
-use Rattle.design_eval.specs.Bits.{IsWiring}
-use Rattle.design_eval.specs.Turns.{AreTurns, places}
-use Rattle.design_eval.specs.Smalls.{AreQuick}
-use Rattle.design_eval.specs.Readers.{AreListed, AreReaders}
-use Rattle.design_eval.specs.Marks.{AreKept, AreTaken}
-use Rattle.design_eval.specs.Latches.{HaveBits}
+use Rattle.design_netlist.specs.{declared.netlist_data.NetlistData.NetlistData, Vocabulary.cover_at, Vocabulary.truth, Vocabulary.bit_at}
+use Rattle.design_eval.specs.{declared.plan.Plan.Plan, Bits.IsWiring, Smalls.AreQuick, Latches.HaveBits}
+use Rattle.design_eval.specs.{Turns.AreTurns, Turns.places, Readers.AreListed, Readers.AreReaders, Marks.AreKept, Marks.AreTaken}
 
 -- what is known of a design
 pub record IsPlan (d : NetlistData) (p : Plan) : Type 0 where

@@ -1,8 +1,7 @@
 -- For each signal the turns of the covers that read it.
 use Rattle.std.specs.Prelude.{◌≡◌, ℕ, ◌+◌, ◌*◌, ◌%◌, ◌<◌, ◌≤◌, List, length}
 use Rattle.std.specs.List.{Contains}
-use Rattle.design_netlist.specs.declared.netlist_data.Cover.{Cover}
-use Rattle.design_netlist.specs.Vocabulary.{cover_at, number_at}
+use Rattle.design_netlist.specs.{declared.netlist_data.Cover.Cover, Vocabulary.cover_at, Vocabulary.number_at}
 use Rattle.design_eval.specs.declared.readers.Readers.{Readers}
 
 -- a signal and a turn as one number

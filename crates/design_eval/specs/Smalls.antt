@@ -1,13 +1,8 @@
 -- Covers as tables of 16 cells, looked up by the bits of at most four inputs.
 use Rattle.std.specs.Prelude.{◌≡◌, ◌<◌, ℕ, List, Bool, false, Option, None, Some, length, slice_index_or}
-use Rattle.design_netlist.specs.declared.netlist_data.Cover.{Cover}
-use Rattle.design_netlist.specs.Covers.{cover_at, truth, IsCoverOver}
-use Rattle.design_eval.specs.declared.smalls.Small.{Small}
-use Rattle.design_eval.specs.declared.smalls.Quick.{Quick}
-use Rattle.design_eval.specs.declared.turns.Turn.{Turn}
-use Rattle.design_eval.specs.Bits.{AreBelow}
-use Rattle.design_eval.specs.Tables.{address}
-use Rattle.design_eval.specs.Turns.{turn_at}
+use Rattle.design_netlist.specs.{declared.netlist_data.Cover.Cover, Covers.cover_at, Covers.truth, Covers.IsCoverOver}
+use Rattle.design_eval.specs.{declared.smalls.Small.Small, declared.smalls.Quick.Quick, declared.turns.Turn.Turn, Tables.address}
+use Rattle.design_eval.specs.{Bits.AreBelow, Turns.turn_at}
 
 -- the cell at the signals' address is the cover's truth, whatever bits the signals have
 pub record IsSmall (t : Small) (c : Cover) : Type 0 where

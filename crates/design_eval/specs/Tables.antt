@@ -1,10 +1,8 @@
 -- Covers as tables of 64 cells, looked up by the bits of at most six inputs.
 use Rattle.std.specs.Prelude.{◌≡◌, ℕ, ◌+◌, ◌*◌, ◌/◌, ◌%◌, ◌==◌, ◌<◌, ◌≤◌, List, [], ◌∷◌, Bool, false, Option, None, Some, if◌then◌else◌}
 use Rattle.std.specs.Prelude.{not, length, take, slice_index_or}
-use Rattle.design_netlist.specs.declared.netlist_data.Cover.{Cover}
-use Rattle.design_netlist.specs.Covers.{some_matches, truth, IsCoverOver}
-use Rattle.design_eval.specs.declared.tables.Table.{Table}
-use Rattle.design_eval.specs.Bits.{AreBelow}
+use Rattle.design_netlist.specs.{declared.netlist_data.Cover.Cover, Covers.some_matches, Covers.truth, Covers.IsCoverOver}
+use Rattle.design_eval.specs.{declared.tables.Table.Table, Bits.AreBelow}
 
 -- a cover's truth, by the bits of its inputs
 abbrev pub truth_at : Cover → List Bool → Bool

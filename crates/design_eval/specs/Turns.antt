@@ -1,9 +1,7 @@
 -- The covers in the order in which they are evaluated.
 use Rattle.std.specs.Prelude.{◌≡◌, ℕ, ◌<◌, List, None, length, map, slice_index_or}
-use Rattle.design_netlist.specs.declared.netlist_data.Cover.{Cover}
-use Rattle.design_netlist.specs.Vocabulary.{cover_at, IsOrder}
-use Rattle.design_eval.specs.declared.turns.Turn.{Turn}
-use Rattle.design_eval.specs.Tables.{IsTableOf}
+use Rattle.design_netlist.specs.{declared.netlist_data.Cover.Cover, Vocabulary.cover_at, Vocabulary.IsOrder}
+use Rattle.design_eval.specs.{declared.turns.Turn.Turn, Tables.IsTableOf}
 
 abbrev pub turn_at : List Turn → ℕ → Turn
 turn_at turns k = slice_index_or turns k (record { out = 0; place = 0; table = None })

@@ -1,14 +1,7 @@
 -- The lines of models, as they are kept.
 use Rattle.std.proofs.Common.{◌≡◌, ℕ, true, false, cond, Bool, List, [], ◌∷◌, ◌++◌, Option, Some, None, is_some, map, refl, ap, sym, ◌∙◌, subst, ◌||◌}
-use Rattle.std.specs.Borrow.{Bor}
-use Rattle.std.specs.List.{filter}
-use Rattle.std.specs.Option.{option_copied, unwrap_or}
-use Rattle.std.specs.Str.{bytes_eq}
-use Rattle.design_flatten.specs.declared.model.Model.{Model}
-use Rattle.design_flatten.specs.declared.model.PairDef.{PairDef}
-use Rattle.design_flatten.specs.declared.bodies.Body.{Body}
+use Rattle.design_flatten.proofs.Vocabulary.{Bor, filter, option_copied, unwrap_or, bytes_eq, Model, PairDef, Body, Lean}
 use Rattle.design_flatten.specs.declared.bodies.Bodies.{Bodies}
-use Rattle.design_flatten.specs.declared.bodies.Lean.{Lean}
 use Rattle.design_flatten.specs.Vocabulary.{no_model, Pair, Part, InputPart, OutputPart, CoverPart, LatchPart, UsePart, is_use, pair_of, part_in, line_in, names_within, needed_defs, model_named, is_among, names_of, with_pairs, lean_in, body_at, IsBodyOf, IsBodyAt, AreBodies}
 use Rattle.design_flatten.proofs.NameLemmas.{name_is}
 use Rattle.design_flatten.proofs.UseLemmas.{known_named, new_named, none_named, name_push, swapped}

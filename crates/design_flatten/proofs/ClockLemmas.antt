@@ -1,19 +1,10 @@
 -- Controls of latches.
 use Rattle.std.proofs.Common.{◌≡◌, ℕ, ◌+◌, ◌<◌, ◌||◌, Bool, true, false, cond, not, nat_lt, List, [], ◌∷◌, ◌++◌, Option, Some, None, length, length-append, refl, ap, sym, ◌∙◌, subst, arith, inl, inr, ◌⊎◌, is_some, get_or}
-use Rattle.std.proofs.Math.Dec.{eqb}
-use Rattle.std.proofs.Math.Seq.{get_or-append_seam}
-use Rattle.std.proofs.lemmas.Bool.{eqb-true, cases_eq, cases_lt, and_parts}
-use Rattle.std.proofs.lemmas.List.{get_or_append_left}
-use Rattle.std.specs.List.{list_any, position_or_len}
-use Rattle.std.specs.Option.{option_or}
-use Rattle.std.specs.Str.{bytes_eq}
-use Rattle.design_netlist.specs.Orders.{IsBefore, IsFirst, is_sooner}
-use Rattle.design_netlist.proofs.OrderLemmas.{first_more, first_all}
-use Rattle.design_flatten.specs.declared.model.Signal.{Signal}
-use Rattle.design_flatten.specs.declared.clocks.Clock.{Clock}
-use Rattle.design_flatten.specs.declared.clocks.Clocks.{Clocks}
+use Rattle.std.proofs.{Math.Dec.eqb, lemmas.Bool.eqb-true, lemmas.Bool.cases_eq, lemmas.Bool.cases_lt, lemmas.Bool.and_parts}
+use Rattle.design_flatten.proofs.Vocabulary.{get_or-append_seam, get_or_append_left, list_any, position_or_len, option_or, bytes_eq}
+use Rattle.design_flatten.proofs.Vocabulary.{IsBefore, IsFirst, is_sooner, first_more, first_all, Signal}
+use Rattle.design_flatten.specs.{declared.clocks.Clock.Clock, declared.clocks.Clocks.Clocks, Clocks.number_in}
 use Rattle.design_flatten.specs.Vocabulary.{Control, GivenControl, NamedControl, same_signal, Clocked, no_control, control_is, control_at, AreOneControl, IsOtherControl, IsFirstOther, same_control, clocked_in, control_in, place_in, at_name, IsUnlike, IsFirstUnlike, IsFirstClock, AreFirstClocks, AreClocks, nearer_line, other_with, earlier_clock, IsControlAnswer}
-use Rattle.design_flatten.specs.Clocks.{number_in}
 use Rattle.design_flatten.proofs.FirstLemmas.{before_before, before_to, first_to}
 use Rattle.design_flatten.proofs.KnownLemmas.{same_self, place_stays}
 use Rattle.design_flatten.proofs.NameLemmas.{name_is, same_name}

@@ -1,15 +1,8 @@
 -- How often words have a signal, which no order changes.
 use Rattle.std.proofs.Common.{◌≡◌, ℕ, zero, suc, ◌+◌, ◌<◌, ◌≤◌, cond, eqb, List, [], ◌∷◌, ◌++◌, length, map, refl, sym, ap, ◌∙◌, arith, inl, inr, ◌⊎◌}
-use Rattle.std.specs.List.{flat_map}
+use Rattle.design_flatten.proofs.Vocabulary.{flat_map, NetlistData, Cover, LatchDef, PortDef, not_itself, Signal, Model}
 use Rattle.std.proofs.lemmas.Bool.{cases_eq, cases_lt, eq-eqb, ne_eqb}
-use Rattle.design_netlist.specs.declared.netlist_data.NetlistData.{NetlistData}
-use Rattle.design_netlist.specs.declared.netlist_data.Cover.{Cover}
-use Rattle.design_netlist.specs.declared.netlist_data.LatchDef.{LatchDef}
-use Rattle.design_netlist.specs.declared.netlist_data.PortDef.{PortDef}
 use Rattle.design_netlist.specs.Vocabulary.{IsBefore, word, signal_at, line_at, cover_drive, latch_drive, cover_reads, latch_read, drive_words, reads_of, IsDoubledIn}
-use Rattle.design_netlist.proofs.OrderLemmas.{not_itself}
-use Rattle.design_flatten.specs.declared.model.Signal.{Signal}
-use Rattle.design_flatten.specs.declared.model.Model.{Model}
 use Rattle.design_flatten.specs.Vocabulary.{Part, InputPart, OutputPart, CoverPart, LatchPart, UsePart, Line, signal_number, signals_of, input_on, output_on, cover_on, latch_on, IsReadFrom, drive_on, read_on, drives_in, reads_in, IsUndrivenIn}
 
 abbrev has : ℕ → PortDef → ℕ

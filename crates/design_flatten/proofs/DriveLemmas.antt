@@ -2,11 +2,8 @@
 use Rattle.std.proofs.Common.{◌≡◌, ℕ, zero, suc, ◌+◌, ◌<◌, ◌≤◌, ◌==◌, ◌&&◌, nat_lt, cond, eqb, Bool, true, false, List, [], ◌∷◌, ◌++◌, Option, None, Some, length, length-append, refl, sym, ap, subst, ◌∙◌, arith, inl, inr, ◌⊎◌, set, option_map}
 use Rattle.std.proofs.lemmas.Bool.{cases_eq, cases_lt, ltb-true, ltb-false, eqb-true, eq-eqb, or_parts, or_cases, and_parts}
 use Rattle.std.proofs.lemmas.List.{get_or_append_left, get_or-set_same, get_or-set_other}
-use Rattle.std.proofs.Math.Seq.{get_or-append_seam}
-use Rattle.design_netlist.specs.declared.netlist_data.PortDef.{PortDef}
+use Rattle.design_flatten.proofs.Vocabulary.{get_or-append_seam, PortDef, not_itself, first_more, first_all, Driver}
 use Rattle.design_netlist.specs.Vocabulary.{IsBefore, IsFirst, is_sooner, word, word_at, signal_at, line_at, IsDoubledIn, place_at, AreFirstWords}
-use Rattle.design_netlist.proofs.OrderLemmas.{not_itself, first_more, first_all}
-use Rattle.design_flatten.specs.declared.drives.Driver.{Driver}
 use Rattle.design_flatten.specs.declared.drives.Drives.{Drives}
 use Rattle.design_flatten.specs.Drives.{IsFirstWord, first_at, AreDrives, places_of, is_nearer, nearest, first_with, doubled_with}
 use Rattle.design_flatten.proofs.FirstLemmas.{Comes, comes_comes, before_to, before_from, first_to}

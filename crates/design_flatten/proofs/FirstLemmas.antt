@@ -1,6 +1,5 @@
 -- The first place with a property, in a list and in a longer one.
-use Rattle.std.proofs.Common.{◌≡◌, ℕ, ◌<◌, Option, None, Some, subst, sym, arith, inl, inr, ◌⊎◌}
-use Rattle.design_netlist.specs.Orders.{IsBefore, IsFirst}
+use Rattle.design_flatten.proofs.Vocabulary.{◌≡◌, ℕ, ◌<◌, Option, None, Some, subst, sym, arith, inl, inr, ◌⊎◌, IsBefore, IsFirst}
 
 module _ (line : ℕ → ℕ) where
   pub before_before : (i j k : ℕ) → IsBefore line i j → IsBefore line j k → IsBefore line i k

@@ -1,13 +1,8 @@
 -- Rows stay as long as their cover's inputs, and the outputs are those of the first model.
 use Rattle.std.proofs.Common.{◌≡◌, ℕ, zero, suc, ◌+◌, ◌<◌, Bool, true, false, cond, nat_lt, List, [], ◌∷◌, ◌++◌, length, map, get_or, refl, sym, ap, ◌∙◌, subst, arith}
-use Rattle.std.proofs.lemmas.List.{length-map}
-use Rattle.std.specs.Str.{bytes_eq}
+use Rattle.design_flatten.proofs.Vocabulary.{length-map, bytes_eq, PortDef, Model, Piece, Signal}
 use Rattle.design_netlist.specs.declared.netlist_data.Lit.{Lit}
-use Rattle.design_netlist.specs.declared.netlist_data.PortDef.{PortDef}
-use Rattle.design_flatten.specs.declared.model.Model.{Model}
-use Rattle.design_flatten.specs.declared.model.Piece.{Piece}
 use Rattle.design_flatten.specs.declared.model.Piece.TheVariants as piece
-use Rattle.design_flatten.specs.declared.model.Signal.{Signal}
 use Rattle.design_flatten.specs.Vocabulary.{put_in_order, in_order, Part, InputPart, OutputPart, CoverPart, LatchPart, UsePart, Line, input_line, output_line, piece_line, ordered_lines, number_of_line, with_place, next_place, with_places, lines_of_model, is_port, RowsFit, PiecesFit, HaveRightRows, ModelPlace, given, becomes, through, part_through, lines_at, without_ports, first_model, model_named, replace, replace_first, at_first, after}
 use Rattle.design_flatten.proofs.OrderLemmas.{Each, each_in_order}
 

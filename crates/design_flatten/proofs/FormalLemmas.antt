@@ -1,13 +1,7 @@
 -- What the lines that use models give.
 use Rattle.std.proofs.Common.{◌≡◌, ℕ, ◌+◌, ◌<◌, true, false, not, cond, List, [], ◌∷◌, ◌++◌, Some, None, length, map, refl, ap, ◌∙◌, ◌||◌, get_or, take, drop, add-one}
-use Rattle.std.specs.Str.{bytes_eq}
-use Rattle.std.specs.Option.{option_or}
-use Rattle.std.proofs.Math.Seq.{drop-cons}
-use Rattle.std.proofs.Math.Bool.{or_comm}
-use Rattle.design_flatten.specs.declared.model.PairDef.{PairDef}
+use Rattle.design_flatten.proofs.Vocabulary.{bytes_eq, option_or, drop-cons, or_comm, PairDef, Model, take_more, map-append}
 use Rattle.design_flatten.specs.Vocabulary.{pair_of, is_among, port_names, input_names, first_wrong, first_missing, with_name, with_names, formals_in}
-use Rattle.design_flatten.specs.declared.model.Model.{Model}
-use Rattle.std.proofs.lemmas.List.{take_more, map-append}
 use Rattle.design_flatten.proofs.NameLemmas.{among-push, among_set, with_names-append}
 
 -- lists with the same names have the same wrong formal

@@ -1,15 +1,9 @@
 -- The lines of a model without its ports.
 use Rattle.std.proofs.Common.{◌≡◌, ℕ, ◌≤◌, Bool, true, false, cond, nat_lt, List, [], ◌∷◌, ◌++◌, map, refl, ap, sym, ◌∙◌, arith, ◌+◌, append_assoc, inl, inr, Some, None}
-use Rattle.design_flatten.specs.declared.given.Given.{Given}
-use Rattle.design_flatten.specs.Given.{looked_up}
+use Rattle.design_flatten.specs.{declared.given.Given.Given, Given.looked_up}
 use Rattle.design_flatten.specs.Vocabulary.{place_of, put_in_order, in_order, Part, InputPart, OutputPart, CoverPart, LatchPart, UsePart, Line, is_port, input_line, output_line, piece_line, ordered_lines, number_of_line, with_places, ModelPlace, through, lines_at, without_ports, first_model, at_first}
-use Rattle.std.specs.List.{slice_get}
-use Rattle.std.proofs.lemmas.Bool.{cases_Bool, cond-true, cond-false, ltb-false, le-ltb}
-use Rattle.design_netlist.specs.declared.netlist_data.PortDef.{PortDef}
-use Rattle.design_flatten.specs.declared.model.Model.{Model}
-use Rattle.design_flatten.specs.declared.model.Piece.{Piece}
+use Rattle.design_flatten.proofs.Vocabulary.{slice_get, cases_Bool, cond-true, cond-false, ltb-false, le-ltb, PortDef, Model, Piece, Signal}
 use Rattle.design_flatten.specs.declared.model.Piece.TheVariants as piece
-use Rattle.design_flatten.specs.declared.model.Signal.{Signal}
 use Rattle.design_flatten.proofs.OrderLemmas.{Rises, AreAtLeast, Rises-in_order}
 
 abbrev no_ports : List (Line ℕ) → List (Line ℕ)

@@ -1,14 +1,7 @@
 -- The signals that stand on lines have numbers.
 use Rattle.std.proofs.Common.{◌≡◌, ◌+◌, ◌<◌, Bool, true, false, not, cond, ◌||◌, List, [], ◌∷◌, ◌++◌, length, map, refl, ap, ◌∙◌, arith}
-use Rattle.std.specs.List.{list_any, flat_map, position_or_len, All}
-use Rattle.std.proofs.lemmas.Bool.{eq-eqb, and_from}
-use Rattle.std.proofs.Math.Bool.{or-true}
-use Rattle.std.proofs.lemmas.List.Elements.{All-nil, All-cons}
-use Rattle.std.proofs.lemmas.List.Folds.{list_any-append}
-use Rattle.design_flatten.specs.declared.model.Signal.{Signal}
-use Rattle.std.proofs.lemmas.List.{append-nil}
-use Rattle.std.proofs.lemmas.List.Concat.{flat_map-append}
-use Rattle.design_netlist.specs.Drafts.{word}
+use Rattle.design_flatten.proofs.Vocabulary.{list_any, flat_map, position_or_len, All, eq-eqb, and_from, or-true, All-nil, All-cons}
+use Rattle.design_flatten.proofs.Vocabulary.{list_any-append, Signal, append-nil, flat_map-append, word}
 use Rattle.design_flatten.specs.Vocabulary.{Part, InputPart, OutputPart, CoverPart, LatchPart, UsePart, Line, same_signal, with_signal, with_signals, signal_number, words_in, words_on, signals_of, drive_on, drives_in}
 use Rattle.design_flatten.proofs.SignalsLemmas.{signals_one}
 

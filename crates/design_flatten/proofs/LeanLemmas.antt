@@ -1,19 +1,8 @@
 -- Models of which each line gives no more than is needed have the same substituted design.
 use Rattle.std.proofs.Common.{◌≡◌, ℕ, zero, suc, ◌+◌, Bool, true, false, cond, List, [], ◌∷◌, ◌++◌, Option, Some, None, option_map, map, refl, ap, sym, ◌∙◌, subst, ◌||◌, get_or}
-use Rattle.std.specs.List.{filter, flat_map}
-use Rattle.std.specs.Option.{option_or, unwrap_or}
-use Rattle.std.specs.Str.{bytes_eq}
-use Rattle.std.proofs.lemmas.List.{map-append}
-use Rattle.std.proofs.Math.Bool.{or-true}
-use Rattle.design_netlist.specs.declared.netlist_data.PortDef.{PortDef}
-use Rattle.design_flatten.specs.declared.model.Signal.{Signal}
-use Rattle.design_flatten.specs.declared.model.PairDef.{PairDef}
-use Rattle.design_flatten.specs.declared.model.Model.{Model}
-use Rattle.design_flatten.specs.declared.model.Piece.{Piece}
+use Rattle.design_flatten.proofs.Vocabulary.{filter, flat_map, option_or, unwrap_or, bytes_eq, map-append, or-true, PortDef, Signal}
+use Rattle.design_flatten.proofs.Vocabulary.{PairDef, Model, Piece, Refusal, Memory, Limit, Substituted}
 use Rattle.design_flatten.specs.declared.model.Piece.TheVariants as piece
-use Rattle.design_flatten.specs.declared.refusal.Refusal.{Refusal}
-use Rattle.design_flatten.specs.declared.refusal.Refusal.TheVariants.{Memory, Limit}
-use Rattle.design_flatten.specs.declared.work.Substituted.{Substituted}
 use Rattle.design_flatten.specs.declared.work.Origin.{Origin as Kept}
 use Rattle.design_flatten.specs.Vocabulary.{in_order, Control, GivenControl, NamedControl, Pair, Part, InputPart, OutputPart, CoverPart, LatchPart, UsePart, Line, is_use, pair_of, input_line, output_line, piece_line, ordered_lines, number_of_line, with_place, next_place, with_places, given, ModelPlace, becomes, control_becomes, pair_through, through, part_through, lines_at, at_first, first_model, without_ports, model_named, replace_first, after, is_left, is_among, Origin, first_use, origin_of, way_to, IsSink, IsOrigin, replaced_in, IsSubstitution, IsRefused, names_on, names_within, is_needed, lean_part, lean_line, lean_piece, lean_model, lean_models}
 use Rattle.design_flatten.proofs.NameLemmas.{name_is, same_name}

@@ -24,3 +24,4 @@ mod DriveLemmas
 mod SinkLemmas
 mod WordLemmas
 mod MadeLemmas
+mod Vocabulary

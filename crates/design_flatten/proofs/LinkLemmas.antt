@@ -1,18 +1,12 @@
 -- Models that use one another, as covers that read one another.
 use Rattle.std.proofs.Common.{◌≡◌, ℕ, suc, ◌+◌, ◌<◌, ◌||◌, Bool, true, false, not, cond, List, [], ◌∷◌, ◌++◌, Option, length, get_or, set, map, refl, sym, ap, ◌∙◌, subst, arith, inl, inr, get_or-set_same, get_or-set_other}
-use Rattle.std.specs.List.{Contains}
-use Rattle.std.specs.Str.{bytes_eq}
-use Rattle.std.proofs.lemmas.Bool.{cases_eq}
+use Rattle.design_flatten.proofs.Vocabulary.{Contains, bytes_eq, cases_eq, Cover, first_same, Model, number_in}
 use Rattle.std.proofs.lemmas.List.{length-set, get_or_append_left, get_or_push, length_push}
 use Rattle.std.proofs.lemmas.List.Elements.{Contains-get_or, Contains-push, Contains-push_cases, Contains-append_left}
-use Rattle.design_netlist.specs.declared.netlist_data.Cover.{Cover}
 use Rattle.design_netlist.specs.Vocabulary.{no_cover, cover_at, Reads, Reaches as Leads, here as at_once, onward as through, AreGroups}
-use Rattle.design_netlist.proofs.OrderLemmas.{first_same}
-use Rattle.design_flatten.specs.declared.model.Model.{Model}
 use Rattle.design_flatten.specs.Vocabulary.{Use, use_at, uses_of, is_among, LeadsToModel, here, onward, IsRecursive, IsFirstUse, use_in, listed, IsFirstListed, with_name, HaveNames, AreBare, with_input, AreLinked, group_at}
 use Rattle.design_flatten.specs.declared.uses.UseLine.{UseLine}
 use Rattle.design_flatten.proofs.UseLemmas.{listed_is}
-use Rattle.design_flatten.specs.NameSets.{number_in}
 use Rattle.design_flatten.proofs.NameLemmas.{name_is, still_among, now_among}
 
 -- ---- numbers of names

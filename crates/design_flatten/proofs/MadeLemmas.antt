@@ -1,18 +1,9 @@
 -- The netlist that is read from the substituted design is well made.
 use Rattle.std.proofs.Common.{◌≡◌, ℕ, ◌+◌, ◌<◌, ◌≤◌, false, List, [], ◌∷◌, length, map, refl, sym, ap, ◌∙◌, subst, arith, sum_by, nat_lt}
-use Rattle.std.specs.List.{All, flat_map}
-use Rattle.std.proofs.lemmas.Bool.{or_parts, ltb-false}
-use Rattle.std.proofs.lemmas.List.{length-map}
-use Rattle.std.proofs.lemmas.List.Elements.{All-nil, All-cons, All-append}
-use Rattle.std.proofs.lemmas.List.Sums.{sum_by-cons}
-use Rattle.design_netlist.specs.declared.netlist_data.NetlistData.{NetlistData}
-use Rattle.design_netlist.specs.declared.netlist_data.Cover.{Cover}
-use Rattle.design_netlist.specs.declared.netlist_data.LatchDef.{LatchDef}
-use Rattle.design_netlist.specs.declared.netlist_data.PortDef.{PortDef}
+use Rattle.design_flatten.proofs.Vocabulary.{All, flat_map, or_parts, ltb-false, length-map, All-nil, All-cons, All-append, sum_by-cons}
+use Rattle.design_flatten.proofs.Vocabulary.{NetlistData, Cover, LatchDef, PortDef, Model, Signal}
 use Rattle.design_netlist.specs.Vocabulary.{cover_at, no_cover, IsCoverOver, word, word_at, cover_characters, IsWellMade, latch_at}
 use Rattle.design_netlist.proofs.MadeLemmas.{made_of}
-use Rattle.design_flatten.specs.declared.model.Model.{Model}
-use Rattle.design_flatten.specs.declared.model.Signal.{Signal}
 use Rattle.design_flatten.specs.Vocabulary.{Part, InputPart, OutputPart, CoverPart, LatchPart, UsePart, Line, HaveRightRows, first_model, signal_number, words_in, words_on, signals_of, size_in, size_of, is_over, printed, input_on, output_on, cover_on, latch_on, IsReadFrom, IsWithin, drive_on, read_on, drives_in, reads_in}
 use Rattle.design_flatten.proofs.KnownLemmas.{IsKnown, AreKnown, number_below, lines_known, known_split, numbers_below}
 use Rattle.design_flatten.proofs.FitLemmas.{PartFits, LinesFit, lines_fit, rows_at, count_outputs, outputs_are}

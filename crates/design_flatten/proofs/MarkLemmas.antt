@@ -1,11 +1,7 @@
 -- Names that are added with marks.
 use Rattle.std.proofs.Common.{◌≡◌, ℕ, ◌+◌, ◌<◌, Bool, true, false, eqb, List, [], ◌∷◌, ◌++◌, map, take, length, get_or, set, refl, sym, ap, subst, ◌∙◌, arith, Result, Ok, Err, OnOk}
-use Rattle.std.specs.List.{flat_map}
-use Rattle.std.proofs.lemmas.List.{map-append, append-nil, get_or-set_other}
-use Rattle.std.proofs.lemmas.Grind.{flat_map-append}
-use Rattle.std.proofs.lemmas.Bool.{eqb-true, eqb-false}
-use Rattle.design_flatten.specs.declared.needs.Marked.{Marked}
-use Rattle.design_flatten.specs.Vocabulary.{is_among, with_name, with_names, AreRightMarks, HasTaken}
+use Rattle.design_flatten.proofs.Vocabulary.{flat_map, map-append, append-nil, get_or-set_other, flat_map-append, eqb-true, eqb-false}
+use Rattle.design_flatten.proofs.Vocabulary.{Marked, is_among, with_name, with_names, AreRightMarks, HasTaken}
 use Rattle.design_flatten.proofs.NameLemmas.{with_names-append, still_among, now_among}
 
 pub known_taken : (m : Marked) (place : ℕ) → get_or m.marks.items place false ≡ true → HasTaken m (get_or m.names.now place [] ∷ []) m

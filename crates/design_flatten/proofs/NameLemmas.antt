@@ -1,15 +1,7 @@
 -- Sets of names.
 use Rattle.std.proofs.Common.{◌≡◌, ℕ, ◌+◌, ◌<◌, Bool, true, false, not, cond, List, [], ◌∷◌, ◌++◌, Some, None, position, length, map, refl, sym, ap, ◌∙◌, ◌||◌, nat_lt, arith, inl, inr, ◌⊎◌}
-use Rattle.std.specs.Borrow.{Bor}
-use Rattle.std.specs.List.{list_any, position_or_len}
-use Rattle.std.specs.Str.{bytes_eq}
-use Rattle.std.proofs.lemmas.Bool.{ltb-false, or_cases}
-use Rattle.std.proofs.Math.Bool.{or-true, or-false, or_assoc}
-use Rattle.std.proofs.lemmas.List.{map_push}
-use Rattle.std.proofs.lemmas.List.Folds.{list_any-append}
-use Rattle.std.proofs.lemmas.Slice.Eq.{bytes_eq-Decides}
-use Rattle.design_flatten.specs.Uses.{is_among}
-use Rattle.design_flatten.specs.NameSets.{with_name, with_names, number_in}
+use Rattle.design_flatten.proofs.Vocabulary.{Bor, list_any, position_or_len, bytes_eq, ltb-false, or_cases, or-true, or-false, or_assoc}
+use Rattle.design_flatten.proofs.Vocabulary.{map_push, list_any-append, bytes_eq-Decides, is_among, with_name, with_names, number_in}
 
 abbrev pub now : Bor (List ℕ) → List ℕ
 now k = k.now

@@ -2,9 +2,7 @@
 use Rattle.std.proofs.Common.{◌≡◌, ℕ, zero, suc, ◌+◌, ◌<◌, Bool, true, false, not, cond, ◌||◌, ◌&&◌, ◌==◌, List, [], ◌∷◌, Option, Some, None, length, refl, sym, ap, subst, ◌∙◌, arith}
 use Rattle.std.specs.List.{list_any, IsDistinct, AllByRecursion, position_or_len, slice_get}
 use Rattle.std.proofs.lemmas.Map.Keys.{IsDistinct-head, IsDistinct-tail}
-use Rattle.std.proofs.Math.Bool.{or-true}
-use Rattle.design_flatten.specs.declared.model.Signal.{Signal}
-use Rattle.design_flatten.specs.Signals.{same_signal, signal_number}
+use Rattle.design_flatten.proofs.Vocabulary.{or-true, Signal, same_signal, signal_number}
 
 -- the list without repeats has the signal at this place
 pub record StandsAt (signals : List Signal) (place : ℕ) (s : Signal) : Type 0 where

@@ -1,7 +1,6 @@
 -- A stable sort by number puts a list in order.
 use Rattle.std.proofs.Common.{◌≡◌, ℕ, zero, suc, ◌<◌, ◌≤◌, Bool, true, false, cond, List, [], ◌∷◌, length, get_or, filter, map, nat_cmp, is_lt, nat_lt, refl, sym, ap, ◌∙◌, arith, inl, inr, suc-le-suc, zero-le}
-use Rattle.std.proofs.lemmas.Bool.{cond-true, cond-false, cases_Bool, ltb-true, ltb-false}
-use Rattle.std.proofs.lemmas.Bool.Decides.{nat_tests}
+use Rattle.std.proofs.lemmas.Bool.{cond-true, cond-false, cases_Bool, ltb-true, ltb-false, Decides.nat_tests}
 use Rattle.std.specs.List.Sorted.{ties, IsNonDecreasingBy, IsStableByKey}
 use Rattle.design_flatten.specs.InOrder.{put_in_order, in_order}
 

@@ -1,12 +1,8 @@
 -- Printed names.
 use Rattle.std.proofs.Common.{◌≡◌, ℕ, zero, suc, ◌<◌, ◌||◌, false, List, [], ◌∷◌, ◌++◌, length, map, get_or, refl, ap, sym, ◌∙◌, inl, inr, arith, append_assoc, ◌+◌, ◌-◌}
-use Rattle.std.proofs.lemmas.Bool.{cases_eq, cases_lt}
+use Rattle.design_flatten.proofs.Vocabulary.{cases_eq, cases_lt, flat_map-append, whole, Model, Signal}
 use Rattle.std.proofs.lemmas.List.{get_or_push, get_or_append_left, get_or_past, append-nil}
-use Rattle.std.proofs.lemmas.List.Concat.{flat_map-append}
-use Rattle.design_netlist.specs.Names.{whole}
 use Rattle.std.specs.Fmt.{decimal}
-use Rattle.design_flatten.specs.declared.model.Model.{Model}
-use Rattle.design_flatten.specs.declared.model.Signal.{Signal}
 use Rattle.design_flatten.specs.declared.work.Origin.{Origin as Kept}
 use Rattle.design_flatten.specs.Vocabulary.{Part, InputPart, OutputPart, CoverPart, LatchPart, UsePart, Line, is_use, first_model, after, is_left, IsSubstituted, first_use, origin_of, printed, printed_way, way_to, IsOrigin, AreOrigins, AreAllOrigins, AreWays, step_to, shared_as}
 use Rattle.design_flatten.proofs.SubstitutionLemmas.{stays_after}

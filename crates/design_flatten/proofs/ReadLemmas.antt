@@ -1,15 +1,10 @@
 -- The netlist that is read, and refusals.
 use Rattle.std.proofs.Common.{◌≡◌, ℕ, ◌+◌, ◌≤◌, true, false, List, [], Some, None, Result, Ok, Err, length, refl, sym, ap, ◌∙◌, subst, arith, nat_lt, IfOk, IfErr, MatchResult, slice_index_or}
-use Rattle.std.proofs.lemmas.Bool.{le-ltb}
-use Rattle.design_netlist.specs.declared.netlist_data.Cover.{Cover}
-use Rattle.design_netlist.specs.declared.netlist_data.NetlistData.{NetlistData}
+use Rattle.design_flatten.proofs.Vocabulary.{le-ltb, Cover, NetlistData, Model, Signal, Substituted}
 use Rattle.design_netlist.specs.declared.fault.DesignFault.{DesignFault}
 use Rattle.design_netlist.specs.declared.fault.DesignFault.TheVariants as fault
 use Rattle.design_netlist.specs.declared.fault.DesignKind.TheVariants as kind
 use Rattle.design_netlist.specs.Vocabulary.{cover_at, cover_line, IsOnCycle, drive_words, reads_of, signal_at, line_at, IsWellMade, IsChecked, IsRefusalOf, IsFirst}
-use Rattle.design_flatten.specs.declared.model.Model.{Model}
-use Rattle.design_flatten.specs.declared.model.Signal.{Signal}
-use Rattle.design_flatten.specs.declared.work.Substituted.{Substituted}
 use Rattle.design_flatten.specs.Vocabulary.{Line, HaveRightRows, first_model, signals_of, size_of, is_over, Clocked, controls_of, AreOneControl, IsWithin, IsReadFrom, IsNetlistOf, drives_in, reads_in, covers_in, IsFirstDoubled, IsFirstUndriven, IsReading, IsControlAnswer, name_in, IsClean, IsTooMuch, IsModelsFault, IsRefusalOfModels, IsSubstitution, replaced_in, lines_of}
 use Rattle.design_flatten.proofs.SubstitutionLemmas.{one_design, one_netlist}
 use Rattle.design_flatten.proofs.CountLemmas.{swapped, none_doubled, none_undriven, drives_as_many, reads_as_many}

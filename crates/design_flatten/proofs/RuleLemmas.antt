@@ -1,13 +1,8 @@
 -- The rules on lines that use models are kept exactly where no line has a fault.
 use Rattle.std.proofs.Common.{◌≡◌, ℕ, suc, Bool, true, false, not, cond, ◌||◌, List, [], ◌∷◌, Option, Some, None, map, refl, sym, arith, IsSome}
-use Rattle.std.specs.List.{All, AllPairs}
-use Rattle.std.specs.Option.{option_or}
-use Rattle.std.specs.Str.{bytes_eq}
-use Rattle.std.proofs.lemmas.Bool.{or_parts, not-false, true_from_ne_false}
-use Rattle.std.proofs.lemmas.List.Elements.{All-nil, All-cons, All-head, All-tail}
+use Rattle.design_flatten.proofs.Vocabulary.{All, AllPairs, option_or, bytes_eq, or_parts, not-false, true_from_ne_false, All-nil, All-cons}
+use Rattle.design_flatten.proofs.Vocabulary.{All-head, All-tail, bytes_eq-Decides, Model}
 use Rattle.std.proofs.lemmas.List.Kept.{AllPairs-cons}
-use Rattle.std.proofs.lemmas.Slice.Eq.{bytes_eq-Decides}
-use Rattle.design_flatten.specs.declared.model.Model.{Model}
 use Rattle.design_flatten.specs.Vocabulary.{Pair, model_named, use_at, is_among, input_names, port_names, formals_of, IsRightlyGiven, IsRecursive, KeepsRules, IsUnknown, first_wrong, first_missing, formal_fault, wrong_formal, IsWronglyGiven, IsFirstUse}
 
 abbrev Differ : List ℕ → List ℕ → Type 0

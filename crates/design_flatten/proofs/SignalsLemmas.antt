@@ -1,13 +1,7 @@
 -- Signals by first appearance.
 use Rattle.std.proofs.Common.{◌≡◌, ℕ, ◌+◌, ◌<◌, ◌≤◌, Bool, true, false, cond, nat_lt, List, [], ◌∷◌, ◌++◌, length, refl, sym, ap, ◌∙◌, arith, append_assoc, zero-add, length-append, inl, inr, not, Some, None, position}
-use Rattle.std.specs.List.{list_any, flat_map}
-use Rattle.std.proofs.lemmas.List.{append-nil}
-use Rattle.std.proofs.lemmas.List.Sums.{sum_by-append}
+use Rattle.design_flatten.proofs.Vocabulary.{list_any, flat_map, append-nil, sum_by-append, or-true, Signal, Refusal, Memory, Limit}
 use Rattle.std.proofs.lemmas.Bool.{lt-ltb, ltb-true, ltb-false, or_cases}
-use Rattle.std.proofs.Math.Bool.{or-true}
-use Rattle.design_flatten.specs.declared.model.Signal.{Signal}
-use Rattle.design_flatten.specs.declared.refusal.Refusal.{Refusal}
-use Rattle.design_flatten.specs.declared.refusal.Refusal.TheVariants.{Memory, Limit}
 use Rattle.design_flatten.specs.Vocabulary.{Line, IsPast, IsOver, same_signal, with_signal, with_signals, words_on, signals_of, size_in, size_of, is_over, signal_number}
 
 with_signal-longer : (signals : List Signal) (s : Signal) → length signals ≤ length (with_signal signals s)

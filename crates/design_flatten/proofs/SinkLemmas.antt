@@ -1,12 +1,6 @@
 -- What is known of the lines, with a line more.
 use Rattle.std.proofs.Common.{◌≡◌, ℕ, ◌+◌, ◌<◌, ◌||◌, false, List, [], ◌∷◌, ◌++◌, None, map, refl, sym, ap, ◌∙◌, subst, arith}
-use Rattle.std.specs.List.{flat_map}
-use Rattle.std.proofs.lemmas.List.{map_push}
-use Rattle.design_netlist.specs.declared.netlist_data.PortDef.{PortDef}
-use Rattle.design_flatten.specs.declared.model.Signal.{Signal}
-use Rattle.design_flatten.specs.declared.placed.Placed.{Placed}
-use Rattle.design_flatten.specs.declared.refusal.Refusal.{Refusal}
-use Rattle.design_flatten.specs.declared.refusal.Refusal.TheVariants.{Memory, Limit}
+use Rattle.design_flatten.proofs.Vocabulary.{flat_map, map_push, PortDef, Signal, Placed, Refusal, Memory, Limit}
 use Rattle.design_flatten.specs.declared.sink.Sink.{Sink}
 use Rattle.design_flatten.specs.Vocabulary.{Line, Clocked, control_on, part_of, placed_line, with_signals, words_in, words_on, size_in, signals_of, size_of, drive_on, drives_in, AreClocks, AreDrives, IsPast, IsPut, IsOverWith}
 use Rattle.design_flatten.proofs.SignalsLemmas.{signals_one, size_one, past_size, past_line}

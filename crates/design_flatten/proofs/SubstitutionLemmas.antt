@@ -1,9 +1,6 @@
 -- There is one substituted design, and one netlist that is read from it.
 use Rattle.std.proofs.Common.{◌≡◌, ℕ, zero, suc, ◌+◌, ◌-◌, false, ◌||◌, List, [], ◌∷◌, refl, sym, ap, ◌∙◌, subst, arith, inl, inr}
-use Rattle.std.proofs.lemmas.Bool.{cases_lt}
-use Rattle.design_netlist.specs.declared.netlist_data.NetlistData.{NetlistData}
-use Rattle.design_flatten.specs.declared.model.Model.{Model}
-use Rattle.design_flatten.specs.declared.model.Signal.{Signal}
+use Rattle.design_flatten.proofs.Vocabulary.{cases_lt, NetlistData, Model, Signal}
 use Rattle.design_flatten.specs.Vocabulary.{Part, InputPart, OutputPart, CoverPart, LatchPart, UsePart, Line, is_use, replace, replace_first, after, is_left, IsSubstituted, IsReadFrom, IsNetlistOf}
 
 -- where no line uses a model nothing changes

@@ -1,14 +1,7 @@
 -- Lines that use models as they are listed, and what is kept of the models.
 use Rattle.std.proofs.Common.{◌≡◌, ℕ, ◌<◌, Bool, true, false, cond, List, [], ◌∷◌, ◌++◌, Option, Some, None, is_some, IsSome, rules, length, map, refl, sym, ap, ◌∙◌, ◌||◌, get_or, subst, arith}
-use Rattle.std.specs.Borrow.{Bor}
-use Rattle.std.specs.Option.{option_or}
-use Rattle.std.specs.Str.{bytes_eq}
-use Rattle.std.proofs.lemmas.List.{get_or-map, map-append, length-map}
-use Rattle.design_netlist.specs.Orders.{IsFirst}
-use Rattle.design_netlist.proofs.OrderLemmas.{first_all}
-use Rattle.design_flatten.specs.declared.model.Model.{Model}
-use Rattle.design_flatten.specs.declared.uses.UseLine.{UseLine}
-use Rattle.design_flatten.specs.declared.catalog.Known.{Known}
+use Rattle.design_flatten.proofs.Vocabulary.{Bor, option_or, bytes_eq, get_or-map, map-append, length-map, IsFirst, first_all, Model}
+use Rattle.design_flatten.specs.declared.{uses.UseLine.UseLine, catalog.Known.Known}
 use Rattle.design_flatten.specs.Vocabulary.{no_model, model_named, Use, no_use, is_among, use_in, listed, number_at, shown, IsFirstListed, names_of, known_of, IsKnown}
 use Rattle.design_flatten.proofs.NameLemmas.{among-push, name_is, same_name}
 

@@ -1,14 +1,9 @@
 -- Words that nothing drives.
 use Rattle.std.proofs.Common.{◌≡◌, ℕ, ◌<◌, true, not, List, Option, None, Some, refl, sym, ap, ◌∙◌, arith, inl, inr, length, fold, is_some}
-use Rattle.std.specs.List.{All}
-use Rattle.std.proofs.lemmas.Bool.{cases_lt}
+use Rattle.design_flatten.proofs.Vocabulary.{All, cases_lt, NetlistData, PortDef, not_itself, first_same, IsUndrivenIn}
 use Rattle.std.proofs.lemmas.List.{take_all}
-use Rattle.design_netlist.specs.declared.netlist_data.NetlistData.{NetlistData}
-use Rattle.design_netlist.specs.declared.netlist_data.PortDef.{PortDef}
 use Rattle.design_netlist.specs.Vocabulary.{IsBefore, IsFirst, word, word_at, signal_at, line_at, drive_words, reads_of, IsChecked, place_at, AreFirstWords, sooner}
-use Rattle.design_netlist.proofs.OrderLemmas.{not_itself, first_same}
 use Rattle.design_netlist.proofs.WordLemmas.{IsFree, place, place_first, at_place, fold_place}
-use Rattle.design_flatten.specs.Words.{IsUndrivenIn}
 use Rattle.design_flatten.proofs.CountLemmas.{NoneDoubled, NoneUndriven}
 
 -- ---- words that nothing drives

@@ -1,22 +1,11 @@
 -- Frames and the lines that are left.
 use Rattle.std.proofs.Common.{◌≡◌, ℕ, zero, suc, ◌+◌, ◌-◌, ◌<◌, ◌≤◌, ◌||◌, Bool, true, false, cond, List, [], ◌∷◌, ◌++◌, Option, Some, None, length, map, refl, ap, sym, ◌∙◌, subst, arith, append_assoc, length-append, drop, get_or, take, add-one, inl, inr}
-use Rattle.std.specs.Borrow.{Bor}
-use Rattle.std.specs.Option.{option_or}
-use Rattle.std.specs.Str.{bytes_eq}
-use Rattle.std.proofs.Math.Seq.{drop-cons, get_or-append_seam}
-use Rattle.std.proofs.lemmas.Bool.{cases_lt, or_parts}
+use Rattle.design_flatten.proofs.Vocabulary.{Bor, option_or, bytes_eq, drop-cons, get_or-append_seam, cases_lt, or_parts, Signal, PairDef}
+use Rattle.design_flatten.proofs.Vocabulary.{Model, Lean, Refusal, Memory, Limit}
 use Rattle.std.proofs.lemmas.List.{length-map, map_push, take_more, append-nil, drop-map, get_or_append_left}
-use Rattle.design_flatten.specs.declared.model.Signal.{Signal}
-use Rattle.design_flatten.specs.declared.model.PairDef.{PairDef}
-use Rattle.design_flatten.specs.declared.model.Model.{Model}
-use Rattle.design_flatten.specs.declared.placed.PlacedPart.{PlacedPart}
+use Rattle.design_flatten.specs.declared.{placed.PlacedPart.PlacedPart, frames.Frame.Frame, frames.Found.Found}
 use Rattle.design_flatten.specs.declared.placed.PlacedPart.TheVariants as placed
-use Rattle.design_flatten.specs.declared.frames.Frame.{Frame}
-use Rattle.design_flatten.specs.declared.frames.Found.{Found}
 use Rattle.design_flatten.specs.declared.work.Origin.{Origin as Kept}
-use Rattle.design_flatten.specs.declared.bodies.Lean.{Lean}
-use Rattle.design_flatten.specs.declared.refusal.Refusal.{Refusal}
-use Rattle.design_flatten.specs.declared.refusal.Refusal.TheVariants.{Memory, Limit}
 use Rattle.design_flatten.specs.Vocabulary.{Pair, Part, InputPart, OutputPart, CoverPart, LatchPart, UsePart, Line, is_use, pair_of, with_place, next_place, with_places, line_in, lean_in, place_of, part_of, IsOver, is_over, given, ModelPlace, becomes, pair_through, through, part_through, lines_at, at_first, first_model, without_ports, model_named, replace, replace_first, after, is_left, IsSubstituted, first_use, origin_of, way_to, left_from, left_in, left_of, AreFrames, use_line, IsPlaced, IsOverIn, IsOrigin, AreOrigins, IsRefused}
 use Rattle.design_flatten.specs.Given.{looked_up}
 use Rattle.design_flatten.proofs.SignalsLemmas.{over_more}

@@ -1,18 +1,10 @@
 -- The lines of models, as they are kept for all uses.
 use Rattle.std.specs.Prelude.{ℕ, ◌≡◌, true, false, List, [], ◌∷◌, ◌++◌, map, Option, Some, None}
-use Rattle.std.specs.HashMap.{get_by}
-use Rattle.std.specs.Str.{bytes_eq}
-use Rattle.design_flatten.specs.declared.model.Model.{Model}
-use Rattle.design_flatten.specs.declared.bodies.Lean.{Lean}
-use Rattle.design_flatten.specs.declared.bodies.Body.{Body}
-use Rattle.design_flatten.specs.declared.bodies.Bodies.{Bodies}
+use Rattle.std.specs.{HashMap.get_by, Str.bytes_eq}
+use Rattle.design_flatten.specs.{declared.model.Model.Model, declared.bodies.Lean.Lean, declared.bodies.Body.Body, InOrder.in_order}
+use Rattle.design_flatten.specs.{declared.bodies.Bodies.Bodies, Substitution.first_model, Substitution.model_named, UseLines.names_of}
 use Rattle.design_flatten.specs.Lines.{no_model, Pair, Part, UsePart, Line, pair_of, piece_line, ordered_lines, number_of_line}
-use Rattle.design_flatten.specs.InOrder.{in_order}
-use Rattle.design_flatten.specs.Ordered.{part_in}
-use Rattle.design_flatten.specs.Substitution.{first_model, model_named}
-use Rattle.design_flatten.specs.Uses.{is_among}
-use Rattle.design_flatten.specs.UseLines.{names_of}
-use Rattle.design_flatten.specs.Needs.{lean_line}
+use Rattle.design_flatten.specs.{Ordered.part_in, Uses.is_among, Needs.lean_line}
 
 -- a use gives these pairs
 abbrev pub with_pairs : {S : Type 0} → List (Pair S) → Part S → Part S

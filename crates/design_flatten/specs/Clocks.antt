@@ -1,18 +1,11 @@
 -- Controls of latches, and whether they are one.
 use Rattle.std.specs.Prelude.{ℕ, ◌≡◌, Bool, false, nat_lt, List, [], Option, Some, None, length, slice_index_or, if◌then◌else◌}
-use Rattle.std.specs.List.{list_any, position_or_len}
-use Rattle.std.specs.HashMap.{get_by}
-use Rattle.std.specs.Str.{bytes_eq}
-use Rattle.design_flatten.specs.declared.model.Signal.{Signal}
+use Rattle.std.specs.{List.list_any, List.position_or_len, HashMap.get_by, Str.bytes_eq}
+use Rattle.design_flatten.specs.declared.{model.Signal.Signal, clocks.Clock.Clock, clocks.Places.Places}
 use Rattle.design_netlist.specs.Orders.{IsFirst}
-use Rattle.design_flatten.specs.declared.clocks.Clock.{Clock}
-use Rattle.design_flatten.specs.declared.clocks.Clocks.{Clocks}
-use Rattle.design_flatten.specs.declared.clocks.Places.{Places}
-use Rattle.design_flatten.specs.Lines.{Control, GivenControl, NamedControl}
-use Rattle.design_flatten.specs.Signals.{same_signal}
+use Rattle.design_flatten.specs.{declared.clocks.Clocks.Clocks, Lines.Control, Lines.GivenControl, Lines.NamedControl, Signals.same_signal}
 use Rattle.design_flatten.specs.Placed.{control_of}
-use Rattle.design_flatten.specs.Netlists.{Clocked, no_control, control_at, AreOneControl}
-use Rattle.design_flatten.specs.Faults.{IsFirstOther}
+use Rattle.design_flatten.specs.{Netlists.Clocked, Netlists.no_control, Netlists.control_at, Netlists.AreOneControl, Faults.IsFirstOther}
 
 abbrev pub same_control : Control Signal → Control Signal → Bool
 same_control (GivenControl s) (GivenControl t) = same_signal s t

@@ -3,8 +3,7 @@ use Rattle.std.specs.Prelude.{ℕ, ◌≡◌, Bool, ◌==◌, ◌&&◌, ◌||◌
 use Rattle.std.specs.Prelude.{if◌then◌else◌}
 use Rattle.design_netlist.specs.declared.netlist_data.PortDef.{PortDef}
 use Rattle.design_netlist.specs.Vocabulary.{IsFirst, word_at, signal_at, line_at, IsDoubledIn}
-use Rattle.design_flatten.specs.declared.drives.Driver.{Driver}
-use Rattle.design_flatten.specs.declared.drives.Drives.{Drives}
+use Rattle.design_flatten.specs.declared.drives.{Driver.Driver, Drives.Drives}
 
 -- the first of the words with a property, and its place; or none has it
 abbrev pub IsFirstWord : List PortDef → (ℕ → Type 0) → Option Driver → Type 0

@@ -1,17 +1,12 @@
 -- Which fault of a list of models comes first.
 use Rattle.std.specs.Prelude.{ℕ, ◌≡◌, ◌<◌, ◌≤◌, true, List, [], length, map, Option, Some, None, slice_index_or}
-use Rattle.design_netlist.specs.declared.fault.DesignKind.{DesignKind}
+use Rattle.design_netlist.specs.declared.fault.{DesignKind.DesignKind, DesignFault.DesignFault}
 use Rattle.design_netlist.specs.declared.fault.DesignKind.TheVariants as kind
-use Rattle.design_netlist.specs.declared.fault.DesignFault.{DesignFault}
 use Rattle.design_netlist.specs.declared.fault.DesignFault.TheVariants as fault
 use Rattle.design_netlist.specs.Vocabulary.{IsBefore, IsFirst, cover_at, cover_line, signal_at, line_at}
-use Rattle.design_flatten.specs.declared.model.Model.{Model}
-use Rattle.design_flatten.specs.declared.model.Signal.{Signal}
-use Rattle.design_flatten.specs.Lines.{Line}
-use Rattle.design_flatten.specs.Substitution.{IsSubstituted}
-use Rattle.design_flatten.specs.Signals.{signals_of, is_over}
-use Rattle.design_flatten.specs.Uses.{use_at, IsRecursive, KeepsRules}
-use Rattle.design_flatten.specs.UseFaults.{IsUnknown, wrong_formal, IsWronglyGiven, IsFirstUse}
+use Rattle.design_flatten.specs.{declared.model.Model.Model, declared.model.Signal.Signal, Substitution.IsSubstituted}
+use Rattle.design_flatten.specs.{Lines.Line, UseFaults.IsUnknown, UseFaults.wrong_formal, UseFaults.IsWronglyGiven, UseFaults.IsFirstUse}
+use Rattle.design_flatten.specs.{Signals.signals_of, Signals.is_over, Uses.use_at, Uses.IsRecursive, Uses.KeepsRules}
 use Rattle.design_flatten.specs.Netlists.{Clocked, no_control, control_at, controls_of, AreOneControl, IsWithin, printed}
 use Rattle.design_flatten.specs.Words.{drives_in, reads_in, covers_in, IsFirstDoubled, IsFirstUndriven, IsFirstCyclic}
 

@@ -1,19 +1,10 @@
 -- Frames of the work list, as lines that are left.
 use Rattle.std.specs.Prelude.{ℕ, ◌≡◌, ◌≤◌, ◌+◌, false, true, Option, Some, None, List, [], ◌∷◌, ◌++◌, map, drop}
-use Rattle.design_flatten.specs.declared.model.Model.{Model}
-use Rattle.design_flatten.specs.declared.model.Signal.{Signal}
-use Rattle.design_flatten.specs.declared.frames.Frame.{Frame}
-use Rattle.design_flatten.specs.declared.frames.Found.{Found}
-use Rattle.design_flatten.specs.declared.sink.Sink.{Sink}
-use Rattle.design_flatten.specs.declared.refusal.Refusal.{Refusal}
-use Rattle.design_flatten.specs.declared.refusal.Refusal.TheVariants.{Memory, Limit}
-use Rattle.design_flatten.specs.Lines.{Pair, UsePart, Line, with_places}
-use Rattle.design_flatten.specs.Bodies.{lean_in}
-use Rattle.design_flatten.specs.Given.{looked_up, place_of}
-use Rattle.design_flatten.specs.Signals.{is_over}
-use Rattle.design_flatten.specs.Substitution.{given, through, is_left}
-use Rattle.design_flatten.specs.Netlists.{origin_of}
-use Rattle.design_flatten.specs.Sinks.{IsSink}
+use Rattle.design_flatten.specs.declared.{model.Model.Model, frames.Frame.Frame, frames.Found.Found, sink.Sink.Sink}
+use Rattle.design_flatten.specs.declared.{model.Signal.Signal, refusal.Refusal.TheVariants.Memory, refusal.Refusal.TheVariants.Limit}
+use Rattle.design_flatten.specs.{declared.refusal.Refusal.Refusal, Substitution.given, Substitution.through, Substitution.is_left}
+use Rattle.design_flatten.specs.{Lines.Pair, Lines.UsePart, Lines.Line, Lines.with_places, Given.looked_up, Given.place_of, Signals.is_over}
+use Rattle.design_flatten.specs.{Bodies.lean_in, Netlists.origin_of, Sinks.IsSink}
 
 -- the way to the model that replaced a line
 abbrev pub way_to : List Model → ℕ → List ℕ

@@ -1,10 +1,6 @@
 -- What is given, as a function of the name.
-use Rattle.std.specs.Prelude.{List, ℕ, Option}
-use Rattle.std.specs.Str.{bytes_eq}
-use Rattle.std.specs.HashMap.{get_by}
-use Rattle.design_flatten.specs.declared.model.Signal.{Signal}
-use Rattle.design_flatten.specs.declared.given.Given.{Given}
-use Rattle.design_flatten.specs.Substitution.{ModelPlace}
+use Rattle.std.specs.{Prelude.List, Prelude.ℕ, Prelude.Option, Str.bytes_eq, HashMap.get_by}
+use Rattle.design_flatten.specs.{declared.model.Signal.Signal, declared.given.Given.Given, Substitution.ModelPlace}
 
 abbrev pub looked_up : Given → List ℕ → Option Signal
 looked_up g w = get_by (λ k. bytes_eq w k.now) g.map

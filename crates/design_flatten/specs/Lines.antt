@@ -1,12 +1,8 @@
 -- The lines of models and of the substituted design.
 use Rattle.std.specs.Prelude.{ℕ, ◌+◌, ◌≡◌, length, Bool, true, false, List, [], ◌∷◌, ◌++◌, map, Option, option_map}
-use Rattle.design_netlist.specs.declared.netlist_data.Lit.{Lit}
-use Rattle.design_netlist.specs.declared.netlist_data.PortDef.{PortDef}
-use Rattle.design_flatten.specs.declared.model.PairDef.{PairDef}
-use Rattle.design_flatten.specs.declared.model.Piece.{Piece}
+use Rattle.design_netlist.specs.declared.netlist_data.{Lit.Lit, PortDef.PortDef}
+use Rattle.design_flatten.specs.{declared.model.PairDef.PairDef, declared.model.Piece.Piece, declared.model.Model.Model, InOrder.in_order}
 use Rattle.design_flatten.specs.declared.model.Piece.TheVariants as piece
-use Rattle.design_flatten.specs.declared.model.Model.{Model}
-use Rattle.design_flatten.specs.InOrder.{in_order}
 
 abbrev pub no_model : Model
 no_model = record { name = []; names = []; inputs = []; outputs = []; clocks = []; pieces = [] }

@@ -1,11 +1,8 @@
 -- Names of models as covers, each of which reads those of the models that are used in models of its name.
 use Rattle.std.specs.Prelude.{ℕ, ◌≡◌, ◌<◌, ◌↔◌, true, List, [], ◌∷◌, ◌++◌, length, slice_index_or}
 use Rattle.std.specs.List.{Contains}
-use Rattle.design_netlist.specs.declared.netlist_data.Cover.{Cover}
-use Rattle.design_netlist.specs.Covers.{cover_at}
-use Rattle.design_flatten.specs.Uses.{Use, is_among}
-use Rattle.design_flatten.specs.NameSets.{number_in}
-use Rattle.design_flatten.specs.UseLines.{listed}
+use Rattle.design_netlist.specs.{declared.netlist_data.Cover.Cover, Covers.cover_at}
+use Rattle.design_flatten.specs.{Uses.Use, Uses.is_among, NameSets.number_in, UseLines.listed}
 
 -- the names of the first n lines are among these
 abbrev pub HaveNames : List (List ℕ) → List Use → ℕ → Type 0

@@ -1,10 +1,8 @@
 -- The lists of a netlist, as far as they have come.
 use Rattle.std.specs.Prelude.{◌≡◌, List, ◌++◌}
 use Rattle.std.specs.List.{flat_map}
-use Rattle.design_flatten.specs.declared.model.Signal.{Signal}
-use Rattle.design_flatten.specs.declared.lists.Lists.{Lists}
-use Rattle.design_flatten.specs.Lines.{Line}
-use Rattle.design_flatten.specs.Netlists.{input_on, output_on, cover_on, latch_on}
+use Rattle.design_flatten.specs.{declared.model.Signal.Signal, Netlists.input_on, Netlists.output_on, Netlists.cover_on, Netlists.latch_on}
+use Rattle.design_flatten.specs.{declared.lists.Lists.Lists, Lines.Line}
 
 -- they grow by what the line says
 pub record Adds (signals : List Signal) (l : Line Signal) (old new : Lists) : Type 0 where

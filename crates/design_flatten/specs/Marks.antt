@@ -1,8 +1,6 @@
 -- Names that were added, with marks of the signals that have theirs among them.
 use Rattle.std.specs.Prelude.{ℕ, ◌≡◌, true, false, List, [], slice_index_or}
-use Rattle.design_flatten.specs.declared.needs.Marked.{Marked}
-use Rattle.design_flatten.specs.Uses.{is_among}
-use Rattle.design_flatten.specs.NameSets.{with_names}
+use Rattle.design_flatten.specs.{declared.needs.Marked.Marked, Uses.is_among, NameSets.with_names}
 
 -- a marked signal has its name in the set
 abbrev pub AreRightMarks : Marked → Type 0

@@ -1,7 +1,6 @@
 -- Names, each once.
 use Rattle.std.specs.Prelude.{ℕ, List, [], ◌∷◌, ◌++◌, if◌then◌else◌, fold}
-use Rattle.std.specs.List.{position_or_len}
-use Rattle.std.specs.Str.{bytes_eq}
+use Rattle.std.specs.{List.position_or_len, Str.bytes_eq}
 use Rattle.design_flatten.specs.Uses.{is_among}
 
 -- a new one goes last

@@ -1,14 +1,9 @@
 -- Of what lines give that use models, what stands on the lines of these models.
 use Rattle.std.specs.Prelude.{ℕ, Bool, List, [], ◌∷◌, map, slice_index_or}
-use Rattle.std.specs.List.{filter, flat_map}
-use Rattle.std.specs.Option.{option_to_list}
-use Rattle.design_flatten.specs.declared.model.PairDef.{PairDef}
-use Rattle.design_flatten.specs.declared.model.Piece.{Piece}
+use Rattle.std.specs.{List.filter, List.flat_map, Option.option_to_list}
+use Rattle.design_flatten.specs.{declared.model.PairDef.PairDef, declared.model.Model.Model, Lines.Part, Lines.UsePart, Lines.Line}
+use Rattle.design_flatten.specs.{declared.model.Piece.Piece, Substitution.model_named, Uses.is_among}
 use Rattle.design_flatten.specs.declared.model.Piece.TheVariants as piece
-use Rattle.design_flatten.specs.declared.model.Model.{Model}
-use Rattle.design_flatten.specs.Lines.{Part, UsePart, Line}
-use Rattle.design_flatten.specs.Substitution.{model_named}
-use Rattle.design_flatten.specs.Uses.{is_among}
 
 -- the names on a piece: those of its signals and of a latch's control
 abbrev pub names_on : List (List ℕ) → Piece → List (List ℕ)

@@ -1,19 +1,11 @@
 -- The netlist that is read from the substituted design.
 use Rattle.std.specs.Prelude.{ℕ, zero, suc, ◌≡◌, ◌<◌, ◌≤◌, false, List, [], ◌∷◌, ◌++◌, map, length, Option, Some, None, if◌then◌else◌}
-use Rattle.std.specs.Prelude.{slice_index_or}
-use Rattle.std.specs.List.{flat_map, list_any, position_or_len}
-use Rattle.std.specs.Str.{bytes_eq}
-use Rattle.std.specs.Fmt.{decimal}
-use Rattle.design_netlist.specs.declared.netlist_data.NetlistData.{NetlistData}
-use Rattle.design_netlist.specs.declared.netlist_data.Cover.{Cover}
-use Rattle.design_netlist.specs.declared.netlist_data.LatchDef.{LatchDef}
-use Rattle.design_netlist.specs.declared.netlist_data.PortDef.{PortDef}
+use Rattle.std.specs.{Prelude.slice_index_or, List.flat_map, List.list_any, List.position_or_len, Str.bytes_eq, Fmt.decimal}
+use Rattle.design_netlist.specs.declared.netlist_data.{NetlistData.NetlistData, Cover.Cover, LatchDef.LatchDef, PortDef.PortDef}
 use Rattle.design_flatten.specs.declared.model.Model.{Model}
-use Rattle.design_flatten.specs.declared.model.Signal.{Signal}
+use Rattle.design_flatten.specs.{declared.model.Signal.Signal, Signals.signal_number, Signals.signals_of, Signals.is_over, Uses.KeepsRules}
 use Rattle.design_flatten.specs.Lines.{Control, GivenControl, NamedControl, Part, InputPart, OutputPart, CoverPart, LatchPart, UsePart, Line}
 use Rattle.design_flatten.specs.Substitution.{after, first_model, model_named, IsSubstituted}
-use Rattle.design_flatten.specs.Signals.{signal_number, signals_of, is_over}
-use Rattle.design_flatten.specs.Uses.{KeepsRules}
 
 -- ---- printed names
 

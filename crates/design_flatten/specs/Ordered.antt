@@ -1,9 +1,8 @@
 -- The lines that a list of borrowed lines holds.
 use Rattle.std.specs.Prelude.{ℕ}
 use Rattle.design_flatten.specs.declared.ordered.Ordered.{Ordered}
-use Rattle.design_flatten.specs.declared.ordered.Said.{Said}
+use Rattle.design_flatten.specs.{declared.ordered.Said.Said, Lines.Part, Lines.InputPart, Lines.OutputPart, Lines.Line, Lines.piece_line}
 use Rattle.design_flatten.specs.declared.ordered.Said.TheVariants as said
-use Rattle.design_flatten.specs.Lines.{Part, InputPart, OutputPart, Line, piece_line}
 
 abbrev pub part_in : Said → Part ℕ
 part_in (said.Input s) = InputPart s

@@ -2,18 +2,10 @@
 use Rattle.std.specs.Prelude.{ℕ, zero, suc, ◌≡◌, ◌<◌, ◌≤◌, ◌+◌, ◌-◌, List, [], ◌∷◌, ◌++◌, Some, length, slice_index_or}
 use Rattle.std.specs.Fmt.{decimal}
 use Rattle.design_netlist.specs.declared.shared.Shared.{Shared}
-use Rattle.design_flatten.specs.declared.model.Model.{Model}
-use Rattle.design_flatten.specs.declared.model.Signal.{Signal}
-use Rattle.design_flatten.specs.Lines.{Line}
-use Rattle.design_flatten.specs.declared.refusal.Refusal.{Refusal}
-use Rattle.design_flatten.specs.declared.refusal.Refusal.TheVariants.{Memory, Limit}
-use Rattle.design_flatten.specs.declared.work.Origin.{Origin}
-use Rattle.design_flatten.specs.declared.work.Substituted.{Substituted}
-use Rattle.design_flatten.specs.Substitution.{first_model, after, IsSubstituted}
-use Rattle.design_flatten.specs.Netlists.{origin_of, printed_way}
-use Rattle.design_flatten.specs.Faults.{IsTooMuch}
-use Rattle.design_flatten.specs.Frames.{way_to}
-use Rattle.design_flatten.specs.Sinks.{IsSink}
+use Rattle.design_flatten.specs.{declared.model.Model.Model, Lines.Line, declared.work.Origin.Origin, Frames.way_to, Sinks.IsSink}
+use Rattle.design_flatten.specs.declared.{model.Signal.Signal, refusal.Refusal.TheVariants.Memory, refusal.Refusal.TheVariants.Limit}
+use Rattle.design_flatten.specs.{declared.refusal.Refusal.Refusal, Substitution.first_model, Substitution.after, Substitution.IsSubstituted}
+use Rattle.design_flatten.specs.{declared.work.Substituted.Substituted, Netlists.origin_of, Netlists.printed_way, Faults.IsTooMuch}
 
 -- the names of the model that replaced line k; its way is that of the replaced line in whose model line k stood, and its place there
 abbrev pub IsOrigin : List Model → ℕ → Origin → Type 0

@@ -1,15 +1,11 @@
 -- Lines of the substituted design, as they are kept.
 use Rattle.std.specs.Prelude.{ℕ, ◌≡◌, true, List, [], Option, Some, None, option_map}
-use Rattle.design_flatten.specs.declared.model.Signal.{Signal}
-use Rattle.design_flatten.specs.declared.given.Given.{Given}
+use Rattle.design_flatten.specs.declared.{model.Signal.Signal, given.Given.Given, placed.Placed.Placed}
 use Rattle.design_flatten.specs.declared.placed.Control.{Control as KeptControl}
 use Rattle.design_flatten.specs.declared.placed.Control.TheVariants as control
-use Rattle.design_flatten.specs.declared.placed.PlacedPart.{PlacedPart}
+use Rattle.design_flatten.specs.{declared.placed.PlacedPart.PlacedPart, Given.place_of, Substitution.becomes, Substitution.part_through}
 use Rattle.design_flatten.specs.declared.placed.PlacedPart.TheVariants as placed
-use Rattle.design_flatten.specs.declared.placed.Placed.{Placed}
 use Rattle.design_flatten.specs.Lines.{Control, GivenControl, NamedControl, Part, InputPart, OutputPart, CoverPart, LatchPart, Line, is_use}
-use Rattle.design_flatten.specs.Given.{place_of}
-use Rattle.design_flatten.specs.Substitution.{becomes, part_through}
 
 abbrev pub control_of : KeptControl → Control Signal
 control_of (control.Given s) = GivenControl s

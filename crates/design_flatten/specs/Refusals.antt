@@ -1,10 +1,7 @@
 -- Which limits are passed.
 use Rattle.std.specs.Prelude.{◌≡◌, ◌<◌, true, List, length}
-use Rattle.design_flatten.specs.declared.model.Signal.{Signal}
-use Rattle.design_flatten.specs.declared.refusal.Refusal.{Refusal}
-use Rattle.design_flatten.specs.declared.refusal.Refusal.TheVariants.{Memory, Limit}
-use Rattle.design_flatten.specs.Lines.{Line}
-use Rattle.design_flatten.specs.Signals.{is_over}
+use Rattle.design_flatten.specs.{declared.model.Signal.Signal, Lines.Line, Signals.is_over}
+use Rattle.design_flatten.specs.declared.refusal.Refusal.{Refusal, TheVariants.Memory, TheVariants.Limit}
 
 -- more signals than are allowed. Lack of memory says nothing
 abbrev pub IsPast : List Signal → Refusal → Type 0

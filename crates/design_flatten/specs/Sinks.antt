@@ -1,18 +1,9 @@
 -- What is known of the lines so far.
 use Rattle.std.specs.Prelude.{ℕ, ◌≡◌, ◌+◌, false, List, [], ◌∷◌, ◌++◌, None, map}
 use Rattle.std.specs.List.{flat_map}
-use Rattle.design_flatten.specs.declared.model.Signal.{Signal}
-use Rattle.design_flatten.specs.declared.refusal.Refusal.{Refusal}
-use Rattle.design_flatten.specs.declared.sink.Sink.{Sink}
-use Rattle.design_flatten.specs.Lines.{Line}
-use Rattle.design_flatten.specs.Netlists.{control_on}
-use Rattle.design_flatten.specs.Placed.{placed_line}
-use Rattle.design_flatten.specs.Signals.{signals_of, size_of}
-use Rattle.design_flatten.specs.Substitution.{is_left}
-use Rattle.design_flatten.specs.Words.{drives_in}
-use Rattle.design_flatten.specs.Clocks.{AreClocks}
-use Rattle.design_flatten.specs.Drives.{AreDrives}
-use Rattle.design_flatten.specs.Refusals.{IsOver}
+use Rattle.design_flatten.specs.{declared.model.Signal.Signal, declared.refusal.Refusal.Refusal, Signals.signals_of, Signals.size_of}
+use Rattle.design_flatten.specs.{declared.sink.Sink.Sink, Netlists.control_on, Placed.placed_line, Substitution.is_left, Clocks.AreClocks}
+use Rattle.design_flatten.specs.{Lines.Line, Words.drives_in, Drives.AreDrives, Refusals.IsOver}
 
 -- of these lines, where names are those of the first model; they are held while no signal is driven twice
 pub record IsSink (names : List (List ℕ)) (lines : List (Line Signal)) (s : Sink) : Type 0 where

@@ -1,11 +1,7 @@
 -- The substituted design.
 use Rattle.std.specs.Prelude.{ℕ, zero, suc, Bool, false, ◌≡◌, List, [], ◌∷◌, ◌++◌, map, Option, Some, None, option_map, if◌then◌else◌}
-use Rattle.std.specs.Prelude.{slice_index_or}
-use Rattle.std.specs.List.{list_any}
-use Rattle.std.specs.Option.{option_or, unwrap_or}
-use Rattle.std.specs.Str.{bytes_eq}
-use Rattle.design_flatten.specs.declared.model.Model.{Model}
-use Rattle.design_flatten.specs.declared.model.Signal.{Signal}
+use Rattle.std.specs.{Prelude.slice_index_or, List.list_any, Option.option_or, Option.unwrap_or, Str.bytes_eq}
+use Rattle.design_flatten.specs.declared.model.{Model.Model, Signal.Signal}
 use Rattle.design_flatten.specs.Lines.{Pair, Control, GivenControl, NamedControl, Part, InputPart, OutputPart, CoverPart, LatchPart, UsePart, Line}
 use Rattle.design_flatten.specs.Lines.{no_model, lines_of_model, is_port, is_use}
 

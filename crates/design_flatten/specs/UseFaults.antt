@@ -2,10 +2,8 @@
 use Rattle.std.specs.Prelude.{ℕ, ◌≡◌, false, not, ◌||◌, List, [], ◌∷◌, map, length, Option, Some, None, IsSome, if◌then◌else◌}
 use Rattle.std.specs.Option.{option_or}
 use Rattle.design_netlist.specs.Orders.{IsFirst}
-use Rattle.design_flatten.specs.declared.model.Model.{Model}
-use Rattle.design_flatten.specs.Lines.{Pair}
-use Rattle.design_flatten.specs.Substitution.{model_named}
-use Rattle.design_flatten.specs.Uses.{uses_of, use_at, is_among, input_names, port_names}
+use Rattle.design_flatten.specs.{declared.model.Model.Model, Uses.uses_of, Uses.use_at, Uses.is_among, Uses.input_names, Uses.port_names}
+use Rattle.design_flatten.specs.{Lines.Pair, Substitution.model_named}
 
 -- no model has the name
 abbrev pub IsUnknown : List Model → ℕ → Type 0

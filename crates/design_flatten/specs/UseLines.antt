@@ -1,20 +1,10 @@
 -- The lines that use models as they are listed, and what is kept of the models.
 use Rattle.std.specs.Prelude.{ℕ, ◌≡◌, true, false, List, [], map, length, Option, Some, None, option_map, slice_index_or, if◌then◌else◌}
-use Rattle.std.specs.Borrow.{Bor}
-use Rattle.std.specs.Option.{option_or}
-use Rattle.std.specs.HashMap.{get_by}
-use Rattle.std.specs.Str.{bytes_eq}
+use Rattle.std.specs.{Borrow.Bor, Option.option_or, HashMap.get_by, Str.bytes_eq}
 use Rattle.design_netlist.specs.Orders.{IsFirst}
-use Rattle.design_flatten.specs.declared.model.Model.{Model}
-use Rattle.design_flatten.specs.declared.model.PairDef.{PairDef}
-use Rattle.design_flatten.specs.declared.uses.UseLine.{UseLine}
-use Rattle.design_flatten.specs.declared.catalog.Known.{Known}
-use Rattle.design_flatten.specs.declared.catalog.Catalog.{Catalog}
-use Rattle.design_flatten.specs.Lines.{pair_of}
-use Rattle.design_flatten.specs.Substitution.{model_named}
-use Rattle.design_flatten.specs.Uses.{Use, no_use, is_among, port_names}
-use Rattle.design_flatten.specs.NameSets.{with_names}
-use Rattle.design_flatten.specs.Needs.{names_within}
+use Rattle.design_flatten.specs.declared.{model.Model.Model, model.PairDef.PairDef, uses.UseLine.UseLine, catalog.Known.Known}
+use Rattle.design_flatten.specs.{declared.catalog.Catalog.Catalog, Lines.pair_of, Uses.Use, Uses.no_use, Uses.is_among, Uses.port_names}
+use Rattle.design_flatten.specs.{Substitution.model_named, NameSets.with_names, Needs.names_within}
 
 abbrev pub use_in : UseLine → Use
 use_in u = record { number = u.number; own = u.own.now; model = u.model.now; pairs = map pair_of u.pairs.now }

@@ -1,11 +1,8 @@
 -- The lines that use models, and the rules that they keep.
 use Rattle.std.specs.Prelude.{ℕ, ◌≡◌, ◌<◌, Bool, true, List, [], ◌∷◌, ◌++◌, map, length, slice_index_or}
-use Rattle.std.specs.List.{All, AllPairs, flat_map, list_any}
-use Rattle.std.specs.Str.{bytes_eq}
-use Rattle.design_flatten.specs.declared.model.Model.{Model}
-use Rattle.design_flatten.specs.declared.model.Piece.{Piece}
+use Rattle.std.specs.{List.All, List.AllPairs, List.flat_map, List.list_any, Str.bytes_eq}
+use Rattle.design_flatten.specs.{declared.model.Model.Model, declared.model.Piece.Piece, Lines.Pair, Lines.pair_of}
 use Rattle.design_flatten.specs.declared.model.Piece.TheVariants as piece
-use Rattle.design_flatten.specs.Lines.{Pair, pair_of}
 use Rattle.design_flatten.specs.Substitution.{model_named}
 
 -- a line that uses a model: its number, the name of the model in which it stands, that of the model it uses, and what it gives

@@ -1,13 +1,10 @@
 -- The words of the substituted design that drive signals and those that read them, and which of them comes first.
 use Rattle.std.specs.Prelude.{ℕ, ◌≡◌, ◌<◌, List, [], ◌∷◌, map, length, Option}
 use Rattle.std.specs.List.{flat_map}
-use Rattle.design_netlist.specs.declared.netlist_data.Cover.{Cover}
-use Rattle.design_netlist.specs.declared.netlist_data.PortDef.{PortDef}
+use Rattle.design_netlist.specs.declared.netlist_data.{Cover.Cover, PortDef.PortDef}
 use Rattle.design_netlist.specs.Vocabulary.{IsFirst, cover_line, IsOnCycle, word, signal_at, line_at, IsDoubledIn}
-use Rattle.design_flatten.specs.declared.model.Signal.{Signal}
+use Rattle.design_flatten.specs.{declared.model.Signal.Signal, Signals.signal_number, Signals.signals_of, Netlists.cover_on}
 use Rattle.design_flatten.specs.Lines.{Part, InputPart, OutputPart, CoverPart, LatchPart, UsePart, Line}
-use Rattle.design_flatten.specs.Signals.{signal_number, signals_of}
-use Rattle.design_flatten.specs.Netlists.{cover_on}
 
 -- signals by their numbers
 module _ (signals : List Signal) where

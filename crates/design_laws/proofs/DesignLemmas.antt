@@ -1,11 +1,8 @@
 -- A text of one model that uses no other.
 use Rattle.std.proofs.Common.{◌≡◌, ℕ, true, List, [], ◌∷◌, map, refl, sym, ap, ◌∙◌, subst, ◌↔◌}
-use Rattle.base_text.specs.Lines.{LogicalLine, logical_lines}
-use Rattle.design_netlist.specs.declared.netlist_data.NetlistData.{NetlistData}
-use Rattle.design_flatten.specs.Netlists.{IsNetlistOf}
+use Rattle.design_laws.proofs.Vocabulary.{LogicalLine, logical_lines, NetlistData, IsNetlistOf, AreOfOneModel, IsShortDesign}
 use Rattle.design_blif.specs.Grammar.{Statement, ModelText, statements_of, names_of, inputs_of, outputs_of, clocks_of, parts_of, models_of, model_lines, name_of, spelled_model, is_some_model, kind_of, AreRight}
 use Rattle.design_blif.specs.Designs.{IsDesign}
-use Rattle.design_laws.specs.ShortDesigns.{AreOfOneModel, IsShortDesign}
 use Rattle.design_laws.proofs.AscendingLemmas.{Ascend, statement_number, lines_ascend, statements_ascend}
 use Rattle.design_laws.proofs.OrderedLemmas.{Each}
 use Rattle.design_laws.proofs.LineLemmas.{IsFine, KeepsTo}

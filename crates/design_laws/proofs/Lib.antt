@@ -6,3 +6,4 @@ mod LineLemmas
 mod TextLemmas
 mod ModelLemmas
 mod DesignLemmas
+mod Vocabulary

@@ -1,16 +1,10 @@
 -- What the lines of one statement say.
 use Rattle.std.proofs.Common.{option_map, ◌≡◌, ℕ, ◌-◌, ◌<◌, Bool, false, List, [], ◌∷◌, ◌++◌, Option, Some, None, length, map, take, drop, refl, ap, ◌∙◌, arith, suc, zero, slice_index}
-use Rattle.std.specs.List.{flat_map}
-use Rattle.std.specs.Option.{option_to_list}
-use Rattle.std.proofs.lemmas.List.{append-nil}
-use Rattle.design_flatten.specs.declared.model.Signal.{Signal}
+use Rattle.design_laws.proofs.Vocabulary.{flat_map, option_to_list, append-nil, Signal, Head, latches_on}
 use Rattle.design_flatten.specs.Vocabulary.{NamedControl, InputPart, OutputPart, LatchPart, Line, input_line, output_line, piece_line, is_use, through, at_first, words_on, signal_number, Clocked, control_is, control_on, input_on, output_on, cover_on, latch_on}
-use Rattle.design_blif.specs.declared.head.Head.{Head}
 use Rattle.design_blif.specs.declared.head.Head.TheVariants as head
-use Rattle.design_blif.specs.Names.{name_number}
-use Rattle.design_blif.specs.Parts.{nth_word, control_of, lit_of, pattern}
+use Rattle.design_blif.specs.{Names.name_number, Parts.nth_word, Parts.control_of, Parts.lit_of, Parts.pattern}
 use Rattle.design_blif.specs.Grammar.{Statement, port_of, inputs_on, outputs_on, cover_of, lists_off, latch_of, part_on, signals}
-use Rattle.design_laws.specs.ShortDesigns.{latches_on}
 use Rattle.design_laws.proofs.OrderedLemmas.{Each, each-append}
 use Rattle.design_laws.proofs.NumberLemmas.{Has, sig, sig_number}
 

@@ -1,21 +1,13 @@
 -- A model that uses no other is the netlist of its lines.
 use Rattle.std.proofs.Common.{◌≡◌, ℕ, zero, suc, zero-add, ◌+◌, ◌<◌, ◌≤◌, Bool, true, false, ◌||◌, nat_lt, List, [], ◌∷◌, ◌++◌, length, map, refl, sym, ap, ◌∙◌, subst, arith}
-use Rattle.std.specs.List.{flat_map, sum_by}
-use Rattle.std.specs.Option.{option_to_list}
-use Rattle.std.proofs.lemmas.Bool.{ltb-false, le-ltb}
+use Rattle.design_laws.proofs.Vocabulary.{flat_map, sum_by, option_to_list, ltb-false, le-ltb, sum_by-append, map-append, length-map}
+use Rattle.design_laws.proofs.Vocabulary.{NetlistData, Model, Signal, Head, covers_of, latches_on, latches_of, rows_size, IsSpelledBy}
 use Rattle.std.proofs.lemmas.Grind.{flat_map-append}
-use Rattle.std.proofs.lemmas.List.Sums.{sum_by-append}
-use Rattle.std.proofs.lemmas.List.{map-append, length-map}
-use Rattle.design_netlist.specs.declared.netlist_data.NetlistData.{NetlistData}
 use Rattle.design_netlist.specs.declared.netlist_data.Cover.{Cover}
-use Rattle.design_flatten.specs.declared.model.Model.{Model}
-use Rattle.design_flatten.specs.declared.model.Signal.{Signal}
 use Rattle.design_flatten.specs.Vocabulary.{Part, InputPart, OutputPart, CoverPart, LatchPart, UsePart, Line, NamedControl, input_line, output_line, piece_line, number_of_line, ordered_lines, with_place, with_places, next_place, lines_of_model, is_use, in_order, through, at_first, after, is_left, IsSubstituted, words_on, signals_of, with_signals, size_in, size_of, is_over, Use, use_on, uses_of, KeepsRules, Clocked, control_at, control_on, control_is, controls_of, AreOneControl, input_on, output_on, cover_on, latch_on, printed, IsReadFrom, IsNetlistOf}
 use Rattle.design_flatten.proofs.SubstitutionLemmas.{one_design}
-use Rattle.design_blif.specs.declared.head.Head.{Head}
 use Rattle.design_blif.specs.declared.head.Head.TheVariants as head
 use Rattle.design_blif.specs.Grammar.{Statement, kind_of, statement_signals, names_of, inputs_on, outputs_on, inputs_of, outputs_of, clocks_of, cover_of, part_on, parts_of}
-use Rattle.design_laws.specs.ShortDesigns.{covers_of, latches_on, latches_of, rows_size, IsSpelledBy}
 use Rattle.design_laws.proofs.AscendingLemmas.{Ascend, statement_number}
 use Rattle.design_laws.proofs.OrderedLemmas.{Each, each-append, sum-cons, in_turn}
 use Rattle.design_laws.proofs.NumberLemmas.{Has, has_words, sig, with_sigs, printed_names}

@@ -1,14 +1,8 @@
 -- Signals that have the numbers of names.
 use Rattle.std.proofs.Common.{◌≡◌, ℕ, suc, ◌+◌, Bool, true, false, cond, not, ◌||◌, ◌==◌, List, [], ◌∷◌, ◌++◌, map, refl, sym, ap, ◌∙◌, arith, inl, inr, slice_index_or}
-use Rattle.std.specs.List.{list_any}
+use Rattle.design_laws.proofs.Vocabulary.{list_any, cases_Bool, eq-eqb, eqb-true, map_push, Model, Signal}
 use Rattle.std.specs.Str.{bytes_eq}
-use Rattle.std.proofs.lemmas.Bool.{cases_Bool, eq-eqb, eqb-true}
-use Rattle.std.proofs.Math.Bool.{or-true}
-use Rattle.std.proofs.lemmas.List.{map_push}
-use Rattle.std.proofs.lemmas.List.Folds.{list_any-append}
-use Rattle.std.proofs.lemmas.Slice.Eq.{bytes_eq-Decides}
-use Rattle.design_flatten.specs.declared.model.Model.{Model}
-use Rattle.design_flatten.specs.declared.model.Signal.{Signal}
+use Rattle.std.proofs.{Math.Bool.or-true, lemmas.List.Folds.list_any-append, lemmas.Slice.Eq.bytes_eq-Decides}
 use Rattle.design_flatten.specs.Vocabulary.{same_signal, with_signal, with_signals, signal_number, printed}
 use Rattle.design_blif.specs.Names.{with_name, names_after, name_number}
 use Rattle.design_laws.proofs.OrderedLemmas.{Each, each-append, each-map}

@@ -1,9 +1,6 @@
 -- What is put in order by line numbers stands as the statements do.
 use Rattle.std.proofs.Common.{◌≡◌, ℕ, ◌+◌, ◌≤◌, Bool, true, false, cond, nat_lt, List, [], ◌∷◌, ◌++◌, refl, sym, ap, ◌∙◌, arith, append_assoc, zero-add}
-use Rattle.std.specs.List.{flat_map, sum_by}
-use Rattle.std.proofs.lemmas.List.Sums.{sum_by-append}
-use Rattle.std.proofs.lemmas.Bool.{lt-ltb, le-ltb}
-use Rattle.design_flatten.specs.InOrder.{put_in_order, in_order}
+use Rattle.design_laws.proofs.Vocabulary.{flat_map, sum_by, sum_by-append, lt-ltb, le-ltb, put_in_order, in_order}
 use Rattle.design_laws.proofs.AscendingLemmas.{Ascend}
 
 -- each element is so

@@ -1,16 +1,9 @@
 -- Right lines of a text of one model.
 use Rattle.std.proofs.Common.{◌≡◌, ℕ, ◌+◌, Bool, true, false, cond, ◌||◌, List, [], ◌∷◌, ◌++◌, Option, Some, None, refl, sym, ap, ◌∙◌, subst, arith, append_assoc}
-use Rattle.std.specs.List.{list_any, count_by}
-use Rattle.std.specs.Option.{option_or}
-use Rattle.std.proofs.lemmas.List.{length-drop}
-use Rattle.std.proofs.lemmas.List.Sums.{sum_by-append}
-use Rattle.base_text.specs.Lines.{LogicalLine}
-use Rattle.design_blif.specs.declared.head.Head.{Head}
+use Rattle.design_laws.proofs.Vocabulary.{list_any, count_by, option_or, length-drop, sum_by-append, LogicalLine, Head, is_model, is_subckt}
 use Rattle.design_blif.specs.declared.head.Head.TheVariants as head
-use Rattle.design_blif.specs.Right.{IsSame, AreRightWords}
-use Rattle.design_blif.specs.Parts.{control_of}
+use Rattle.design_blif.specs.{Right.IsSame, Right.AreRightWords, Parts.control_of}
 use Rattle.design_blif.specs.Grammar.{Grouped, kind_of, grouped_behind, grouped, statements_of, latch_control_on, control_by, ModelText, onto, parted, models_of, model_lines, above_by, AreRight}
-use Rattle.design_laws.specs.ShortDesigns.{is_model, is_subckt}
 use Rattle.design_laws.proofs.OrderedLemmas.{Each, sum-cons}
 use Rattle.design_laws.proofs.LineLemmas.{IsFine, IsThis, KeepsTo}
 

@@ -1,11 +1,8 @@
 -- The design of a text of one model that uses no other: what the lines say one by one.
 use Rattle.std.specs.Prelude.{ℕ, ◌≡◌, ◌+◌, ◌≤◌, Bool, true, false, List, [], ◌∷◌, length}
-use Rattle.std.specs.List.{list_any, flat_map, sum_by, count_by}
-use Rattle.std.specs.Option.{option_to_list}
+use Rattle.std.specs.{List.list_any, List.flat_map, List.sum_by, List.count_by, Option.option_to_list}
 use Rattle.base_text.specs.Lines.{LogicalLine, logical_lines}
-use Rattle.design_netlist.specs.declared.netlist_data.NetlistData.{NetlistData}
-use Rattle.design_netlist.specs.declared.netlist_data.Cover.{Cover}
-use Rattle.design_netlist.specs.declared.netlist_data.LatchDef.{LatchDef}
+use Rattle.design_netlist.specs.declared.netlist_data.{NetlistData.NetlistData, Cover.Cover, LatchDef.LatchDef}
 use Rattle.design_netlist.specs.Checks.{IsChecked}
 use Rattle.design_blif.specs.declared.head.Head.{Head}
 use Rattle.design_blif.specs.declared.head.Head.TheVariants as head

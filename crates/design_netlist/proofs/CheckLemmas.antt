@@ -1,10 +1,7 @@
 -- What the steps of the check find.
 use Rattle.std.proofs.Common.{◌≡◌, ℕ, ◌+◌, ◌<◌, ◌≤◌, true, not, List, ◌++◌, Option, None, Some, refl, sym, ap, subst, ◌∙◌, arith, inl, inr, ◌⊎◌, length, get_or, map, fold, is_some}
-use Rattle.std.proofs.lemmas.Bool.{cases_lt}
+use Rattle.design_netlist.proofs.Vocabulary.{cases_lt, Cover, NetlistData, PortDef}
 use Rattle.std.proofs.lemmas.List.{get_or-map, get_or_append_left, get_or-append-add, length-map, length-append, take_all}
-use Rattle.design_netlist.specs.declared.netlist_data.Cover.{Cover}
-use Rattle.design_netlist.specs.declared.netlist_data.NetlistData.{NetlistData}
-use Rattle.design_netlist.specs.declared.netlist_data.PortDef.{PortDef}
 use Rattle.design_netlist.specs.declared.checks.Found.TheVariants.{Undriven, Cyclic}
 use Rattle.design_netlist.specs.Vocabulary.{IsBefore, IsFirst, cover_at, no_cover, word, word_at, signal_at, line_at, cover_drive, latch_drive, drive_words, reads_of, IsDriven, IsWellMade, IsChecked, IsDoubledIn, IsUndriven, IsFirstDoubled, IsFirstUndriven, place_at, AreFirstWords, sooner, IsDrivenOnce, IsFoundIn}
 use Rattle.design_netlist.proofs.ListLemmas.{few_numbers}

@@ -1,10 +1,6 @@
 -- Numbers tell which covers are on a cycle.
 use Rattle.std.proofs.Common.{◌≡◌, ℕ, ◌<◌, ◌≤◌, List, Option, Some, length, refl, sym, ap, ◌∙◌, inl, inr, arith}
-use Rattle.std.proofs.lemmas.Bool.{cases_lt}
-use Rattle.std.proofs.lemmas.List.{length-map, get_or-map}
-use Rattle.design_netlist.specs.declared.netlist_data.Cover.{Cover}
-use Rattle.design_netlist.specs.declared.search.State.{State}
-use Rattle.design_netlist.specs.declared.search.State.TheVariants.{New, Done}
+use Rattle.design_netlist.proofs.Vocabulary.{cases_lt, length-map, get_or-map, Cover, State, New, Done}
 use Rattle.design_netlist.specs.Vocabulary.{cover_at, Reads, Reaches, here, onward, IsOnCycle, driver_at, AreDrivers, number_at, IsOrder, state_at, search_number, AreNumbered, IsListed, AreGroups, numbers_of}
 use Rattle.design_netlist.proofs.StepLemmas.{reads_driver, read_at, driver_of}
 

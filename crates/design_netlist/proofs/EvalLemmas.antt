@@ -1,11 +1,6 @@
 -- Rows that match, and covers that are evaluated in order.
 use Rattle.std.proofs.Common.{◌≡◌, ℕ, zero, suc, ◌+◌, ◌<◌, ◌≤◌, ◌&&◌, Bool, true, false, List, [], ◌∷◌, length, get_or, map, refl, sym, ap, subst, ◌∙◌, inl, inr, arith, get_or-set_same, get_or-set_other, not, if◌then◌else◌, slice_set}
-use Rattle.std.proofs.lemmas.Bool.{cases_eq}
-use Rattle.std.proofs.lemmas.Grind.{get_or_default_zero}
-use Rattle.std.proofs.lemmas.List.{length-set}
-use Rattle.design_netlist.specs.declared.netlist_data.Cover.{Cover}
-use Rattle.design_netlist.specs.declared.netlist_data.Lit.{Lit}
-use Rattle.design_netlist.specs.declared.netlist_data.Lit.TheVariants.{Zero}
+use Rattle.design_netlist.proofs.Vocabulary.{cases_eq, get_or_default_zero, length-set, Cover, Lit, Zero}
 use Rattle.design_netlist.specs.Vocabulary.{cover_at, fits, matches, some_matches, truth, number_at, bit_at, IsOrder, IsSettled, IsSettledTo}
 use Rattle.design_netlist.proofs.ValuationLemmas.{same_truth}
 

@@ -1,16 +1,10 @@
 -- Bits of words, lane by lane.
 use Rattle.std.proofs.Common.{◌≡◌, ℕ, zero, suc, ◌<◌, ◌^◌, ◌-◌, ◌&&◌, ◌||◌, ◌==◌, min, max, Bool, true, false, List, [], ◌∷◌, length, take, get_or, map, refl, sym, ap, subst, ◌∙◌, arith, not, if◌then◌else◌, slice_set}
-use Rattle.std.specs.Int.{w64, bit_not}
-use Rattle.std.specs.List.{range_with_len}
-use Rattle.std.specs.Int.Bits.{bit_and}
-use Rattle.std.specs.Int.RustNames.{bit_or}
-use Rattle.std.proofs.lemmas.List.{map-set}
-use Rattle.std.proofs.lemmas.List.FromFn.{get_or-map-range_with_len}
-use Rattle.std.proofs.Math.ListN.{get_or-map}
+use Rattle.std.specs.Int.{w64, bit_not, Bits.bit_and, RustNames.bit_or}
+use Rattle.design_netlist.proofs.Vocabulary.{range_with_len, map-set, Lit, Zero}
+use Rattle.std.proofs.{lemmas.List.FromFn.get_or-map-range_with_len, Math.ListN.get_or-map}
 use Rattle.std.proofs.lemmas.Nat.Bits.{bit_at_and, bit_at_or, bit_at_not, bit_at_ones, bit_at-zero, bit_at-lt}
 use Rattle.design_netlist.proofs.BitLemmas.{two_bits, six_places}
-use Rattle.design_netlist.specs.declared.netlist_data.Lit.{Lit}
-use Rattle.design_netlist.specs.declared.netlist_data.Lit.TheVariants.{Zero}
 use Rattle.design_netlist.specs.Vocabulary.{fits, matches, some_matches, number_at, bit_at, is_bit, lane_bits}
 
 pub lane-set : (words : List ℕ) (s word j : ℕ) → lane_bits (slice_set words s word) j ≡ slice_set (lane_bits words j) s (is_bit word j)

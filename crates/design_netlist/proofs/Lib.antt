@@ -15,3 +15,4 @@ mod SearchLemmas
 mod StepLemmas
 mod CycleLemmas
 mod NameLemmas
+mod Vocabulary

@@ -1,11 +1,7 @@
 -- A design is well made when its parts are.
 use Rattle.std.proofs.Common.{◌⊎◌, ℕ, suc, ◌-◌, ◌<◌, ◌≤◌, List, [], ◌∷◌, ◌++◌, length, get_or, map, sym, subst, inl, inr, arith, sum_by, refl, false}
-use Rattle.std.specs.List.{flat_map}
-use Rattle.std.proofs.lemmas.Bool.{cases_lt}
+use Rattle.design_netlist.proofs.Vocabulary.{flat_map, cases_lt, Cover, NetlistData, PortDef}
 use Rattle.std.proofs.lemmas.List.{get_or-map, get_or_append_left, get_or-append_right, length-map, length-append}
-use Rattle.design_netlist.specs.declared.netlist_data.Cover.{Cover}
-use Rattle.design_netlist.specs.declared.netlist_data.NetlistData.{NetlistData}
-use Rattle.design_netlist.specs.declared.netlist_data.PortDef.{PortDef}
 use Rattle.design_netlist.specs.Vocabulary.{cover_at, no_cover, IsCoverOver, word, signal_at, cover_drive, latch_drive, cover_reads, latch_read, cover_characters, IsWellMade, AreWithin, AreLatchesBelow}
 use Rattle.design_netlist.proofs.WordLemmas.{within_right}
 

@@ -1,7 +1,6 @@
 -- The first place with a property, found so far.
 use Rattle.std.proofs.Common.{◌≡◌, ℕ, ◌+◌, ◌<◌, ◌≤◌, ◌&&◌, Bool, true, false, cond, Option, None, Some, refl, sym, subst, arith, inl, inr, ◌⊎◌}
-use Rattle.std.proofs.lemmas.Bool.{ltb-true, ltb-false, cases_eq, cases_lt}
-use Rattle.design_netlist.specs.Orders.{IsBefore, IsFirst, is_sooner}
+use Rattle.design_netlist.proofs.Vocabulary.{ltb-true, ltb-false, cases_eq, cases_lt, IsBefore, IsFirst, is_sooner}
 
 module _ (line : ℕ → ℕ) where
   after_sooner : (i j k : ℕ) → line i < line j → (k ≡ j) ⊎ IsBefore line j k → IsBefore line i k

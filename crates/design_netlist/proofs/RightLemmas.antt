@@ -1,13 +1,7 @@
 -- A checked design has exactly one right valuation for each state and vector, and so exactly one list of rows.
 use Rattle.std.proofs.Common.{◌≡◌, ◌⊎◌, ℕ, zero, suc, ◌+◌, ◌-◌, ◌<◌, ◌≤◌, Bool, false, cond, List, [], ◌∷◌, ◌++◌, length, get_or, map, refl, sym, ap, subst, ◌∙◌, inl, inr, arith}
-use Rattle.std.specs.List.{All, Contains}
-use Rattle.std.proofs.Math.Dec.{eqb}
-use Rattle.std.proofs.lemmas.Bool.{cases_lt, eq-eqb}
+use Rattle.design_netlist.proofs.Vocabulary.{All, Contains, eqb, cases_lt, eq-eqb, Cover, NetlistData, LatchDef, PortDef}
 use Rattle.std.proofs.lemmas.List.{get_or-map, get_or_append_left, get_or-append-add, length-map, length-append}
-use Rattle.design_netlist.specs.declared.netlist_data.Cover.{Cover}
-use Rattle.design_netlist.specs.declared.netlist_data.NetlistData.{NetlistData}
-use Rattle.design_netlist.specs.declared.netlist_data.LatchDef.{LatchDef}
-use Rattle.design_netlist.specs.declared.netlist_data.PortDef.{PortDef}
 use Rattle.design_netlist.specs.Vocabulary.{cover_at, word, signal_at, cover_drive, latch_drive, drive_words, IsDriven, IsSettled, IsChecked, IsRightValuation, HasOneRight, RowsFrom, outputs_in, next_state}
 use Rattle.design_netlist.proofs.ListLemmas.{not_equal, stands_or}
 use Rattle.design_netlist.proofs.CheckLemmas.{cover_place, cover_signal, outs_apart}

@@ -1,10 +1,6 @@
 -- Each step of the search keeps what it knows.
 use Rattle.std.proofs.Common.{◌≡◌, ℕ, ◌+◌, ◌-◌, ◌<◌, ◌≤◌, ◌⊎◌, List, length, refl, sym, ap, subst, ◌∙◌, inl, inr, arith}
-use Rattle.std.proofs.lemmas.Bool.{cases_eq, cases_lt}
-use Rattle.design_netlist.specs.declared.netlist_data.Cover.{Cover}
-use Rattle.design_netlist.specs.declared.search.State.{State}
-use Rattle.design_netlist.specs.declared.search.State.TheVariants.{New, Open, Done}
-use Rattle.design_netlist.specs.declared.search.Group.{Group}
+use Rattle.design_netlist.proofs.Vocabulary.{cases_eq, cases_lt, Cover, State, New, Open, Done, Group}
 use Rattle.design_netlist.specs.Vocabulary.{Reads, Reaches, here, onward, number_at, state_at, start_at, waits_at, LeadsTo, IsHandled, is_done, is_open, is_waiting, is_spare, IsSource, IsSearch, AreHandled, IsListed, IsJoinedOn, IsOpened, IsFront, IsClosed, IsKept, cost}
 
 pub and_on : {covers : List Cover} {i j k : ℕ} → Reaches covers i j → Reaches covers j k → Reaches covers i k

@@ -1,12 +1,8 @@
 -- What the steps of the search write, and what is left to do.
 use Rattle.std.proofs.Common.{◌≡◌, ℕ, zero, suc, ◌+◌, ◌-◌, ◌<◌, ◌≤◌, List, [], ◌∷◌, ◌++◌, Option, None, Some, length, get_or, take, refl, sym, ap, subst, ◌∙◌, arith, get_or-set_same, append_assoc, append-nil, replicate, slice_set}
-use Rattle.std.proofs.lemmas.Grind.{get_or_default_zero}
+use Rattle.design_netlist.proofs.Vocabulary.{get_or_default_zero, Cover, State, New, Open, Done, Group}
 use Rattle.std.proofs.lemmas.List.{get_or-take, get_or-set_other, length-append, length-set, length-take, length-replicate, get_or_append_left, get_or-append-add, take_more}
 use Rattle.std.proofs.Math.Seq.{get_or-append_seam}
-use Rattle.design_netlist.specs.declared.netlist_data.Cover.{Cover}
-use Rattle.design_netlist.specs.declared.search.State.{State}
-use Rattle.design_netlist.specs.declared.search.State.TheVariants.{New, Open, Done}
-use Rattle.design_netlist.specs.declared.search.Group.{Group}
 use Rattle.design_netlist.specs.Vocabulary.{cover_at, Reads, driver_at, IsDriver, AreDrivers, number_at, state_at, start_at, waits_at, and_target, targets, cost, work, IsClosed, IsOpened, IsFront, IsSearch, AreHandled, IsListed, IsJoinedOn, LeadsTo, AreNumbered}
 use Rattle.design_netlist.proofs.SearchLemmas.{closed_keeps, closed_handled, closed_costs, closed_seen, closed_listed, opened_listed, opened_seen, opened_keeps, opened_handled}
 

@@ -1,9 +1,6 @@
 -- Covers without a cycle have exactly one valuation.
 use Rattle.std.proofs.Common.{◌≡◌, ◌≤◌, ℕ, zero, suc, ◌<◌, Bool, true, false, cond, List, [], ◌∷◌, Option, None, Some, length, get_or, map, refl, sym, ap, subst, ◌∙◌, inl, inr, arith, not, if◌then◌else◌}
-use Rattle.std.proofs.Math.Dec.{eqb}
-use Rattle.std.proofs.lemmas.Bool.{cases_eq, eqb-true, eq-eqb}
-use Rattle.std.proofs.lemmas.Grind.{get_or_default_zero}
-use Rattle.design_netlist.specs.declared.netlist_data.Cover.{Cover}
+use Rattle.design_netlist.proofs.Vocabulary.{eqb, cases_eq, eqb-true, eq-eqb, get_or_default_zero, Cover}
 use Rattle.design_netlist.specs.Vocabulary.{cover_at, Reads, some_matches, truth, IsOnCycle, IsDriver, IsDriverBelow, number_at, IsSettled, HasOneValuation}
 use Rattle.design_netlist.proofs.WalkLemmas.{IsLow, low_all}
 

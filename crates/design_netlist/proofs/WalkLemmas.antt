@@ -1,9 +1,6 @@
 -- Without a cycle the walks from cover to cover are short.
 use Rattle.std.proofs.Common.{◌≡◌, ℕ, zero, suc, ◌+◌, ◌-◌, ◌<◌, ◌≤◌, ◌⊎◌, List, [], ◌∷◌, refl, sym, subst, arith, inl, inr, length, get_or}
-use Rattle.std.specs.List.{Contains}
-use Rattle.std.proofs.lemmas.Bool.{cases_eq, cases_lt}
-use Rattle.design_netlist.specs.declared.netlist_data.Cover.{Cover}
-use Rattle.design_netlist.specs.Covers.{cover_at, Reads, Reaches, here, onward, IsOnCycle}
+use Rattle.design_netlist.proofs.Vocabulary.{Contains, cases_eq, cases_lt, Cover, cover_at, Reads, Reaches, here, onward, IsOnCycle}
 use Rattle.design_netlist.proofs.ListLemmas.{few_numbers, apart_or, stands_or}
 
 module _ (covers : List Cover) where

@@ -1,10 +1,7 @@
 -- Words that drive, words that read, and the table of the first word of each signal.
 use Rattle.std.proofs.Common.{◌≡◌, ℕ, zero, suc, ◌+◌, ◌<◌, ◌≤◌, ◌&&◌, Bool, true, false, not, cond, List, [], ◌∷◌, ◌++◌, Option, None, Some, refl, sym, ap, subst, ◌∙◌, arith, inl, inr, length, get_or, map, take, fold, is_some, nat_lt, if◌then◌else◌}
-use Rattle.std.specs.List.{flat_map}
-use Rattle.std.proofs.lemmas.List.{get_or-map, get_or-append-add, length-map, length-append}
+use Rattle.design_netlist.proofs.Vocabulary.{flat_map, get_or-map, get_or-append-add, length-map, length-append, LatchDef, PortDef}
 use Rattle.std.proofs.lemmas.List.Sums.{fold-append, fold_more}
-use Rattle.design_netlist.specs.declared.netlist_data.LatchDef.{LatchDef}
-use Rattle.design_netlist.specs.declared.netlist_data.PortDef.{PortDef}
 use Rattle.design_netlist.specs.Vocabulary.{IsBefore, IsFirst, is_sooner, word, word_at, signal_at, line_at, latch_read, IsDoubledIn, place_at, AreFirstWords, AreWithin, nearer, sooner}
 use Rattle.design_netlist.proofs.OrderLemmas.{not_both, not_itself, first_more}
 

@@ -1,13 +1,9 @@
 -- When a design is checked, and which fault of one that is not comes first.
 use Rattle.std.specs.Prelude.{ℕ, ◌≡◌, ◌<◌, List, Option, None, Some, length}
-use Rattle.design_netlist.specs.declared.netlist_data.NetlistData.{NetlistData}
-use Rattle.design_netlist.specs.declared.netlist_data.PortDef.{PortDef}
-use Rattle.design_netlist.specs.declared.fault.DesignKind.{DesignKind}
-use Rattle.design_netlist.specs.declared.fault.DesignKind.TheVariants.{Doubled, Undriven, Cyclic}
-use Rattle.design_netlist.specs.declared.fault.DesignFault.{DesignFault}
-use Rattle.design_netlist.specs.declared.fault.DesignFault.TheVariants.{At, Memory}
-use Rattle.design_netlist.specs.Orders.{IsBefore, IsFirst}
-use Rattle.design_netlist.specs.Covers.{cover_at, cover_line, IsOnCycle}
+use Rattle.design_netlist.specs.declared.netlist_data.{NetlistData.NetlistData, PortDef.PortDef}
+use Rattle.design_netlist.specs.declared.fault.DesignKind.{DesignKind, TheVariants.Doubled, TheVariants.Undriven, TheVariants.Cyclic}
+use Rattle.design_netlist.specs.declared.fault.DesignFault.{DesignFault, TheVariants.At, TheVariants.Memory}
+use Rattle.design_netlist.specs.{Orders.IsBefore, Orders.IsFirst, Covers.cover_at, Covers.cover_line, Covers.IsOnCycle}
 use Rattle.design_netlist.specs.Drafts.{drive_words, reads_of, signal_at, line_at, IsDriven, name_at, IsWellMade}
 
 -- none is driven twice, each signal that is read is driven, and no cover is on a cycle

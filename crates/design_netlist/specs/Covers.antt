@@ -1,9 +1,7 @@
 -- Covers, those that read one another, and those on a cycle.
 use Rattle.std.specs.Prelude.{ℕ, ◌≡◌, ◌<◌, ◌&&◌, not, List, [], ◌∷◌, Bool, true, false, map, length, if◌then◌else◌, slice_index_or}
 use Rattle.std.specs.List.{Contains}
-use Rattle.design_netlist.specs.declared.netlist_data.Cover.{Cover}
-use Rattle.design_netlist.specs.declared.netlist_data.Lit.{Lit}
-use Rattle.design_netlist.specs.declared.netlist_data.Lit.TheVariants.{Zero, One, Any}
+use Rattle.design_netlist.specs.declared.netlist_data.{Cover.Cover, Lit.Lit, Lit.TheVariants.Zero, Lit.TheVariants.One, Lit.TheVariants.Any}
 
 abbrev pub no_cover : Cover
 no_cover = record { out = 0; ins = []; rows = []; off = false; line = 0 }

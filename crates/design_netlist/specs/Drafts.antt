@@ -1,12 +1,8 @@
 -- The words of a design that drive signals and those that read them, and when a design is well made.
 use Rattle.std.specs.Prelude.{ℕ, ◌≡◌, ◌<◌, ◌≤◌, ◌+◌, ◌++◌, List, [], slice_index_or, length, map, sum_by}
 use Rattle.std.specs.List.{flat_map}
-use Rattle.design_netlist.specs.declared.netlist_data.Cover.{Cover}
-use Rattle.design_netlist.specs.declared.netlist_data.NetlistData.{NetlistData}
-use Rattle.design_netlist.specs.declared.netlist_data.LatchDef.{LatchDef}
-use Rattle.design_netlist.specs.declared.netlist_data.PortDef.{PortDef}
-use Rattle.design_netlist.specs.declared.netlist_data.Lit.{Lit}
-use Rattle.design_netlist.specs.Covers.{cover_at, IsCoverOver}
+use Rattle.design_netlist.specs.declared.netlist_data.{Cover.Cover, LatchDef.LatchDef, PortDef.PortDef, Lit.Lit}
+use Rattle.design_netlist.specs.{declared.netlist_data.NetlistData.NetlistData, Covers.cover_at, Covers.IsCoverOver}
 
 -- a word of a line that names a signal
 abbrev pub word : ℕ → ℕ → PortDef

@@ -1,7 +1,6 @@
 -- The table of the covers that drive the signals.
 use Rattle.std.specs.Prelude.{ℕ, ◌≡◌, ◌<◌, List, Option, None, Some, slice_index_or, length}
-use Rattle.design_netlist.specs.declared.netlist_data.Cover.{Cover}
-use Rattle.design_netlist.specs.Covers.{cover_at}
+use Rattle.design_netlist.specs.{declared.netlist_data.Cover.Cover, Covers.cover_at}
 
 abbrev pub driver_at : List (Option ℕ) → ℕ → Option ℕ
 driver_at drivers s = slice_index_or drivers s None

@@ -1,9 +1,6 @@
 -- Groups of covers that reach one another.
 use Rattle.std.specs.Prelude.{ℕ, ◌≡◌, ◌<◌, ◌↔◌, List, map, length}
-use Rattle.design_netlist.specs.declared.netlist_data.Cover.{Cover}
-use Rattle.design_netlist.specs.declared.search.State.{State}
-use Rattle.design_netlist.specs.Covers.{Reaches}
-use Rattle.design_netlist.specs.Searches.{search_number}
+use Rattle.design_netlist.specs.{declared.netlist_data.Cover.Cover, declared.search.State.State, Covers.Reaches, Searches.search_number}
 use Rattle.design_netlist.specs.Valuations.{number_at}
 
 -- two covers have the same number exactly where each reaches the other

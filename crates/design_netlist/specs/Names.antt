@@ -1,7 +1,6 @@
 -- Names that share beginnings.
 use Rattle.std.specs.Prelude.{ℕ, List, [], ◌∷◌, ◌++◌, Option, None, Some, fold, slice_index_or}
-use Rattle.design_netlist.specs.declared.shared.Beginning.{Beginning}
-use Rattle.design_netlist.specs.declared.shared.Shared.{Shared}
+use Rattle.design_netlist.specs.declared.shared.{Beginning.Beginning, Shared.Shared}
 
 -- one more beginning, behind the whole of the one in front of it, where that is earlier
 abbrev pub with_text : List (List ℕ) → Beginning → List (List ℕ)

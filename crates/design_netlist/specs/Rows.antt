@@ -1,8 +1,6 @@
 -- What a checked design does: the right valuations, and the rows that follow from them.
 use Rattle.std.specs.Prelude.{ℕ, ◌≡◌, ◌<◌, List, [], ◌∷◌, Bool, false, map, length}
-use Rattle.design_netlist.specs.declared.netlist_data.NetlistData.{NetlistData}
-use Rattle.design_netlist.specs.Covers.{cover_at, truth}
-use Rattle.design_netlist.specs.Drafts.{IsDriven}
+use Rattle.design_netlist.specs.{declared.netlist_data.NetlistData.NetlistData, Covers.cover_at, Covers.truth, Drafts.IsDriven}
 
 -- inputs have the vector, outputs of latches the state, outputs of covers their truths, and what nothing drives is 0
 pub record IsRightValuation (d : NetlistData) (state vector : List Bool) (given : ℕ → Bool) : Type 0 where

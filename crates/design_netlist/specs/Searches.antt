@@ -1,12 +1,8 @@
 -- What the search for cycles keeps.
 use Rattle.std.specs.Prelude.{ℕ, ◌≡◌, ◌<◌, ◌≤◌, ◌+◌, ◌⊎◌, List, [], ◌∷◌, Option, None, Some, slice_index_or, length, ◌-◌}
-use Rattle.design_netlist.specs.declared.netlist_data.Cover.{Cover}
-use Rattle.design_netlist.specs.declared.search.State.{State}
-use Rattle.design_netlist.specs.declared.search.State.TheVariants.{New, Open, Done}
-use Rattle.design_netlist.specs.declared.search.Group.{Group}
-use Rattle.design_netlist.specs.Drivers.{driver_at}
-use Rattle.design_netlist.specs.Covers.{Reads, Reaches}
-use Rattle.design_netlist.specs.Valuations.{number_at}
+use Rattle.design_netlist.specs.{declared.netlist_data.Cover.Cover, declared.search.State.State, Covers.Reads, Covers.Reaches}
+use Rattle.design_netlist.specs.declared.search.{State.TheVariants.New, State.TheVariants.Open, State.TheVariants.Done, Group.Group}
+use Rattle.design_netlist.specs.{Drivers.driver_at, Valuations.number_at}
 
 abbrev pub state_at : List State → ℕ → State
 state_at states u = slice_index_or states u New

@@ -1,11 +1,7 @@
 -- What the search for cycles finds.
 use Rattle.std.specs.Prelude.{List, None, Some, length}
-use Rattle.design_netlist.specs.declared.netlist_data.Cover.{Cover}
-use Rattle.design_netlist.specs.declared.cycles.Sorted.{Sorted}
-use Rattle.design_netlist.specs.declared.cycles.Sorted.TheVariants.{Order, Cyclic}
-use Rattle.design_netlist.specs.Orders.{IsFirst}
-use Rattle.design_netlist.specs.Covers.{cover_line, IsOnCycle}
-use Rattle.design_netlist.specs.Valuations.{IsOrder}
+use Rattle.design_netlist.specs.declared.{netlist_data.Cover.Cover, cycles.Sorted.TheVariants.Order, cycles.Sorted.TheVariants.Cyclic}
+use Rattle.design_netlist.specs.{declared.cycles.Sorted.Sorted, Orders.IsFirst, Covers.cover_line, Covers.IsOnCycle, Valuations.IsOrder}
 
 -- no cover is on a cycle, and each stands after those that it reads; or the first cover on a cycle
 abbrev pub AreSorted : List Cover → Sorted → Type 0

@@ -1,11 +1,8 @@
 -- The search's state, as the code has it.
 use Rattle.std.specs.Prelude.{ℕ, ◌≡◌, ◌<◌, ◌≤◌, ◌+◌, ◌-◌, List, length}
-use Rattle.design_netlist.specs.declared.netlist_data.Cover.{Cover}
-use Rattle.design_netlist.specs.declared.search.Group.{Group}
-use Rattle.design_netlist.specs.declared.search.Search.{Search}
+use Rattle.design_netlist.specs.declared.{netlist_data.Cover.Cover, search.Group.Group, search.Search.Search}
 use Rattle.design_netlist.specs.Searches.{IsSearch, AreHandled, IsListed, work, start_at, waits_at}
-use Rattle.design_netlist.specs.Valuations.{number_at}
-use Rattle.design_netlist.specs.Covers.{Reads}
+use Rattle.design_netlist.specs.{Valuations.number_at, Covers.Reads}
 
 pub record IsSearching (covers : List Cover) (s : Search) (spare : ℕ) : Type 0 where
   pub keeps : IsSearch covers s.states.items s.path.items s.groups.items s.waiting.items (length s.order.items)

@@ -1,7 +1,6 @@
 -- Valuations of covers, and the orders in which they can be found.
 use Rattle.std.specs.Prelude.{ℕ, ◌≡◌, ◌<◌, List, Bool, false, length, slice_index_or}
-use Rattle.design_netlist.specs.declared.netlist_data.Cover.{Cover}
-use Rattle.design_netlist.specs.Covers.{cover_at, truth, Reads}
+use Rattle.design_netlist.specs.{declared.netlist_data.Cover.Cover, Covers.cover_at, Covers.truth, Covers.Reads}
 
 abbrev pub number_at : List ℕ → ℕ → ℕ
 number_at xs k = slice_index_or xs k 0

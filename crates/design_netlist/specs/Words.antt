@@ -1,15 +1,10 @@
 -- The tables of the words that drive, and what is found with them.
 use Rattle.std.specs.Prelude.{ℕ, ◌≡◌, ◌<◌, List, Option, None, Some, false, length, slice_index_or, is_some, if◌then◌else◌, nat_lt}
-use Rattle.design_netlist.specs.declared.netlist_data.NetlistData.{NetlistData}
-use Rattle.design_netlist.specs.declared.netlist_data.LatchDef.{LatchDef}
-use Rattle.design_netlist.specs.declared.netlist_data.PortDef.{PortDef}
-use Rattle.design_netlist.specs.declared.checks.Found.{Found}
+use Rattle.design_netlist.specs.declared.{netlist_data.NetlistData.NetlistData, netlist_data.LatchDef.LatchDef, checks.Found.Found}
+use Rattle.design_netlist.specs.{declared.netlist_data.PortDef.PortDef, Checks.IsFirstDoubled, Checks.IsFirstUndriven, Checks.IsFirstCyclic}
 use Rattle.design_netlist.specs.declared.checks.Found.TheVariants.{Doubled, Undriven, Cyclic, Order}
-use Rattle.design_netlist.specs.Orders.{IsFirst}
-use Rattle.design_netlist.specs.Covers.{cover_at}
+use Rattle.design_netlist.specs.{Orders.IsFirst, Covers.cover_at, Valuations.IsOrder}
 use Rattle.design_netlist.specs.Drafts.{signal_at, line_at, word_at, drive_words, reads_of, cover_drive, IsDriven, IsWellMade}
-use Rattle.design_netlist.specs.Checks.{IsFirstDoubled, IsFirstUndriven, IsFirstCyclic}
-use Rattle.design_netlist.specs.Valuations.{IsOrder}
 
 abbrev pub place_at : List (Option ℕ) → ℕ → Option ℕ
 place_at firsts s = slice_index_or firsts s None

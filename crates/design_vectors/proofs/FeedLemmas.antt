@@ -1,8 +1,7 @@
 -- Bytes that a store gives are the next ones of its file.
 use Rattle.std.proofs.Common.{◌≡◌, ℕ, ◌+◌, ◌≤◌, List, ◌++◌, length, take, drop, Option, None, Some, IfSome, option_map, refl, sym, ap, ◌∙◌, arith, option_and_then}
-use Rattle.std.proofs.lemmas.List.{take-take, take-append-le, take-append-drop, drop-drop}
+use Rattle.design_vectors.proofs.Vocabulary.{take-take, take-append-le, take-append-drop, drop-drop, bytes_ahead}
 use Rattle.base_io.specs.Vocabulary.{Told, bytes_of, StoreState, StorePlace, AreNext, moved, rest_of}
-use Rattle.design_vectors.specs.Readings.{bytes_ahead}
 
 told-moved : (told : Option (List ℕ)) (at n : ℕ) → option_map (λ bytes. drop (at + n) bytes) told ≡ option_map (λ (bytes : List ℕ). drop n bytes) (option_map (λ bytes. drop at bytes) told)
 told-moved None at n = refl

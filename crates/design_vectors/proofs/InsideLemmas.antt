@@ -1,12 +1,8 @@
 -- The fields of a line that is read.
 use Rattle.std.proofs.Common.{◌≡◌, ℕ, List, [], ◌∷◌, ◌++◌, length, take, refl, subst, arith, true}
 use Rattle.std.specs.List.{list_all}
-use Rattle.std.proofs.lemmas.Bool.{and_parts, and_from}
-use Rattle.std.proofs.lemmas.List.{length-take-le}
+use Rattle.design_vectors.proofs.Vocabulary.{and_parts, and_from, length-take-le, is_vector_byte, PartLine, IsSound, part_line, IsPartLine}
 use Rattle.design_vectors.specs.declared.line.Line.TheInside.{Inside}
-use Rattle.design_vectors.specs.Vectors.{is_vector_byte}
-use Rattle.design_vectors.specs.Lines.{PartLine, IsSound}
-use Rattle.design_vectors.specs.Inside.{part_line, IsPartLine}
 use Rattle.design_vectors.proofs.TextLemmas.{AreRight}
 
 pub IsSound-inside : (l : Inside) (p : PartLine) → IsPartLine l → part_line l ≡ p → IsSound p

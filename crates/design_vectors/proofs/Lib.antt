@@ -7,3 +7,4 @@ mod FeedLemmas
 mod ReadLemmas
 -- ---- cited above
 pub mod OpenLemmas
+mod Vocabulary

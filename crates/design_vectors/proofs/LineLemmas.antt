@@ -1,10 +1,6 @@
 -- What a line that is read says, one byte on and at its end.
 use Rattle.std.proofs.Common.{◌≡◌, ◌⊎◌, ℕ, ◌+◌, ◌<◌, ◌≤◌, ◌&&◌, Bool, true, false, List, [], ◌∷◌, ◌++◌, length, refl, sym, ap, ◌∙◌, inl, inr, arith, append_assoc, if◌then◌else◌, nat_lt, Option, None, Some}
-use Rattle.std.proofs.lemmas.Bool.{lt-ltb, le-ltb}
-use Rattle.std.proofs.lemmas.List.{append-nil}
-use Rattle.design_vectors.specs.declared.vectors.VectorKind.{VectorKind}
-use Rattle.design_vectors.specs.declared.vectors.VectorKind.TheVariants.{Char, Width, Limit}
-use Rattle.design_vectors.specs.declared.line.Step.TheVariants.{Onward, Vector, Fault}
+use Rattle.design_vectors.proofs.Vocabulary.{lt-ltb, le-ltb, append-nil, VectorKind, Char, Width, Limit, Onward, Vector, Fault}
 use Rattle.design_vectors.specs.Vectors.{is_row_blank, is_comment_mark, is_line_feed, is_vector_byte, vector_size, PhysicalLine, put_before, numbered_lines, shown, byte_fault, end_fault, fault_or, line_fault, line_says, lines_say, bits_of, SaidVectors, fault_said, with_vector, nothing_said}
 use Rattle.design_vectors.specs.Lines.{PartLine, IsSound, front_of, begun, says_on, SaysStep, HasRead}
 use Rattle.design_vectors.proofs.TextLemmas.{lines-limit, lines-feed, lines-more, lines-end, put_before-twice, put_before-nil, first-line, shown-nil, shown-right, shown-comment, shown-blank, shown-other, unmarked, no_byte_fault, char_fault, width_fault}

@@ -1,10 +1,8 @@
 -- Bytes that end no vector's line: each vector that is still to come ends its line behind them.
 use Rattle.std.proofs.Common.{◌≡◌, ℕ, ◌+◌, ◌≤◌, Bool, true, false, List, [], ◌∷◌, ◌++◌, length, get_or, refl, sym, ap, subst, ◌∙◌, arith, append_assoc, nat_le, Option, None, Some, if◌then◌else◌}
 use Rattle.std.specs.List.{AllByRecursion}
-use Rattle.std.proofs.lemmas.List.{append-nil}
-use Rattle.design_vectors.specs.declared.vectors.VectorKind.{VectorKind}
+use Rattle.design_vectors.proofs.Vocabulary.{append-nil, VectorKind, VectorReading, says_next, AreOpen}
 use Rattle.design_vectors.specs.Vectors.{PhysicalLine, numbered_lines, put_before, shown, is_line_feed, byte_fault, end_fault, fault_or, line_fault, line_says, lines_say, bits_of, SaidVectors, VectorLine, nothing_said}
-use Rattle.design_vectors.specs.Readings.{VectorReading, says_next, AreOpen}
 use Rattle.design_vectors.proofs.TextLemmas.{put_before-twice, put_before-nil, shown-nil}
 
 pub all-more : {X : Type 0} (P Q : X → Type 0) (xs : List X) → ((x : X) → P x → Q x) → AllByRecursion P xs → AllByRecursion Q xs

@@ -2,16 +2,12 @@
 use Rattle.std.proofs.Common.{◌≡◌, ◌⊎◌, ℕ, ◌+◌, ◌-◌, ◌<◌, ◌≤◌, Bool, true, false, List, [], ◌++◌, length, take, drop, Option, None, Some, IfSome, option_map, refl, sym, ap, subst, ◌∙◌, inl, inr, arith, append_assoc, Err, IsSome}
 use Rattle.std.specs.Option.{option_map_or}
 use Rattle.std.proofs.Math.Seq.{take-add, take-append-add, take-append_seam}
-use Rattle.std.proofs.lemmas.List.{length-drop, append-nil, drop-append-le, drop-drop, length-append, length-take-le}
+use Rattle.design_vectors.proofs.Vocabulary.{length-drop, append-nil, drop-append-le, drop-drop, length-append, length-take-le, VectorKind}
+use Rattle.design_vectors.proofs.Vocabulary.{Step, Onward, Vector, Fault, PartLine, IsSound, front_of, begun, says_on, EndsAs, EndSays}
 use Rattle.base_io.specs.Store.{StoreState, StorePlace, moved, place_of, rest_of}
-use Rattle.design_vectors.specs.declared.vectors.VectorKind.{VectorKind}
-use Rattle.design_vectors.specs.declared.vectors.VectorsFail.{VectorsFail}
-use Rattle.design_vectors.specs.declared.vectors.VectorsFail.TheVariants.{Text, Failed}
-use Rattle.design_vectors.specs.declared.line.Step.{Step}
-use Rattle.design_vectors.specs.declared.line.Step.TheVariants.{Onward, Vector, Fault}
+use Rattle.design_vectors.specs.declared.vectors.VectorsFail.{VectorsFail, TheVariants.Text, TheVariants.Failed}
 use Rattle.design_vectors.specs.Vectors.{PhysicalLine, numbered_lines, put_before, shown, byte_fault, lines_say, SaidVectors, nothing_said, with_vector, bits_of, vector_size}
 use Rattle.design_vectors.specs.Readings.{bytes_ahead, says_next, said_ahead, NextGives, NextFails, HasMoved, AreOpen, AskedOpen, HasAsked, StaysWithin, GivesUnread, IsFaultOf}
-use Rattle.design_vectors.specs.Lines.{PartLine, IsSound, front_of, begun, says_on, EndsAs, EndSays}
 use Rattle.design_vectors.specs.Steps.{reading_of, IsRefilled, IsStoreFail, HasReadOn, answer_of, LineGives, LineFails, HasAnswered, IsWaiting, GoesOn}
 use Rattle.design_vectors.proofs.FeedLemmas.{rest-moved}
 use Rattle.design_vectors.proofs.TextLemmas.{put_before-nil, no_byte_fault}

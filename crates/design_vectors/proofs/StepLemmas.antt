@@ -1,10 +1,7 @@
 -- Bytes that are read one after the other, and blocks that are read one after the other.
 use Rattle.std.proofs.Common.{◌≡◌, ℕ, ◌+◌, ◌<◌, ◌≤◌, List, [], ◌∷◌, ◌++◌, length, drop, get_or, refl, sym, ap, subst, ◌∙◌, arith}
-use Rattle.std.proofs.lemmas.List.{drop_more, drop_all}
-use Rattle.design_vectors.specs.declared.line.Step.{Step}
-use Rattle.design_vectors.specs.declared.line.Step.TheVariants.{Onward, Vector, Fault}
+use Rattle.design_vectors.proofs.Vocabulary.{drop_more, drop_all, Step, Onward, Vector, Fault, HasReadOn}
 use Rattle.design_vectors.specs.Lines.{PartLine, says_on, SaysStep, IsStepTo, HasRead}
-use Rattle.design_vectors.specs.Steps.{HasReadOn}
 
 pub none-read : (bytes : List ℕ) (line : PartLine) → HasRead Onward bytes 0 line line
 none-read bytes line = record { width = refl; limit = refl; within = omega arith; at = omega arith; room = λ _ some. absurd (omega arith); whole = λ same. absurd (cc); full = tt; says = λ rest. refl }

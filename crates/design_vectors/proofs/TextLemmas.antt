@@ -1,10 +1,8 @@
 -- Physical lines of a text, and what is shown of one that begins with bytes of a vector.
 use Rattle.std.proofs.Common.{◌≡◌, ℕ, ◌+◌, ◌<◌, ◌≤◌, ◌||◌, ◌==◌, Bool, true, false, List, [], ◌∷◌, ◌++◌, length, refl, sym, ap, subst, ◌∙◌, arith, append_assoc, not, cond, if◌then◌else◌, nat_le, filter, take_while, None, Some}
 use Rattle.std.specs.List.{list_all, before_first}
-use Rattle.std.proofs.lemmas.Bool.{le-leb, lt-leb, eqb-true, lt-ltb, le-ltb, and_parts}
-use Rattle.std.proofs.lemmas.List.{length-append, append-nil}
+use Rattle.design_vectors.proofs.Vocabulary.{le-leb, lt-leb, eqb-true, lt-ltb, le-ltb, and_parts, length-append, append-nil, Char, Width}
 use Rattle.std.proofs.lemmas.List.Sums.{take_while-cons}
-use Rattle.design_vectors.specs.declared.vectors.VectorKind.TheVariants.{Char, Width}
 use Rattle.design_vectors.specs.Vectors.{is_row_blank, is_comment_mark, is_line_feed, is_vector_byte, vector_size, PhysicalLine, put_before, numbered_lines, shown, byte_fault}
 
 -- physical lines

@@ -1,9 +1,7 @@
 -- The fields of a line that is read, and what they mean.
 use Rattle.std.specs.Prelude.{◌≡◌, ◌+◌, ◌-◌, ◌^◌, ◌<◌, ◌≤◌, true, length, take}
 use Rattle.std.specs.List.{list_all}
-use Rattle.design_vectors.specs.declared.line.Line.TheInside.{Inside}
-use Rattle.design_vectors.specs.Lines.{PartLine}
-use Rattle.design_vectors.specs.Vectors.{is_vector_byte, vector_size}
+use Rattle.design_vectors.specs.{declared.line.Line.TheInside.Inside, Lines.PartLine, Vectors.is_vector_byte, Vectors.vector_size}
 
 abbrev pub part_line : Inside → PartLine
 part_line l = record {

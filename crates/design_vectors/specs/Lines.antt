@@ -1,8 +1,7 @@
 -- A physical line that is being read byte by byte.
 use Rattle.std.specs.Prelude.{◌≡◌, ℕ, ◌+◌, ◌<◌, ◌≤◌, List, [], ◌∷◌, ◌++◌, length, drop, Bool, true, false, if◌then◌else◌}
 use Rattle.std.specs.List.{list_all}
-use Rattle.design_vectors.specs.declared.line.Step.{Step}
-use Rattle.design_vectors.specs.declared.line.Step.TheVariants.{Onward, Vector, Fault}
+use Rattle.design_vectors.specs.declared.line.Step.{Step, TheVariants.Onward, TheVariants.Vector, TheVariants.Fault}
 use Rattle.design_vectors.specs.Vectors.{numbered_lines, lines_say, put_before, SaidVectors, nothing_said, fault_said, with_vector, bits_of}
 use Rattle.design_vectors.specs.Vectors.{is_vector_byte, vector_size}
 use Rattle.design_vectors.specs.declared.vectors.VectorKind.TheVariants.{Width}

@@ -2,8 +2,7 @@
 use Rattle.std.specs.Prelude.{◌≡◌, ◌⊎◌, ℕ, ◌+◌, ◌-◌, ◌<◌, ◌≤◌, List, [], ◌++◌, length, take, drop, Bool, true, false, Option, None}
 use Rattle.std.specs.Prelude.{IfSome, option_map}
 use Rattle.base_io.specs.Store.{StoreState, IsFailure, moved, place_of, rest_of}
-use Rattle.design_vectors.specs.declared.vectors.VectorsFail.{VectorsFail}
-use Rattle.design_vectors.specs.declared.vectors.VectorsFail.TheVariants.{Text, Failed}
+use Rattle.design_vectors.specs.declared.vectors.VectorsFail.{VectorsFail, TheVariants.Text, TheVariants.Failed}
 use Rattle.design_vectors.specs.declared.vectors.VectorKind.{VectorKind}
 use Rattle.design_vectors.specs.Vectors.{numbered_lines, put_before, shown, byte_fault, lines_say, SaidVectors, nothing_said, fault_said}
 use Rattle.design_vectors.specs.Vectors.{with_vector}

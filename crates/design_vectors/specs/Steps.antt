@@ -2,10 +2,8 @@
 use Rattle.std.specs.Prelude.{◌≡◌, ◌⊎◌, ℕ, ◌+◌, ◌<◌, ◌≤◌, List, [], ◌++◌, length, take, drop, Bool, true, false, Result, Ok, Err, IfSome}
 use Rattle.std.specs.Prelude.{IsSome, IfOk, IfErr, OnOk, option_map}
 use Rattle.base_io.specs.Store.{StoreState, IsFailure, moved, place_of, rest_of}
-use Rattle.design_vectors.specs.declared.vectors.VectorsFail.{VectorsFail}
-use Rattle.design_vectors.specs.declared.vectors.VectorsFail.TheVariants.{Text, Failed}
-use Rattle.design_vectors.specs.declared.line.Step.{Step}
-use Rattle.design_vectors.specs.declared.line.Step.TheVariants.{Onward, Vector, Fault}
+use Rattle.design_vectors.specs.declared.vectors.VectorsFail.{VectorsFail, TheVariants.Text, TheVariants.Failed}
+use Rattle.design_vectors.specs.declared.line.Step.{Step, TheVariants.Onward, TheVariants.Vector, TheVariants.Fault}
 use Rattle.design_vectors.specs.Vectors.{nothing_said, with_vector, bits_of, vector_size}
 use Rattle.design_vectors.specs.Readings.{VectorReading, bytes_ahead, IsFaultOf, HasMoved, AskedOpen, HasAsked, GoesFurther, StopsWithin}
 use Rattle.design_vectors.specs.Lines.{PartLine, front_of, begun, says_on, SaysStep, IsStepTo, IsFull}

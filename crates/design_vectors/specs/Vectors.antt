@@ -2,8 +2,7 @@
 use Rattle.std.specs.Prelude.{ℕ, ◌+◌, Bool, true, false, not, ◌&&◌, ◌||◌, ◌==◌, nat_lt, nat_le, max, if◌then◌else◌, List, [], ◌∷◌, ◌++◌}
 use Rattle.std.specs.Prelude.{length, map, filter, take_while, Option, None, Some}
 use Rattle.std.specs.List.{before_first}
-use Rattle.design_vectors.specs.declared.vectors.VectorKind.{VectorKind}
-use Rattle.design_vectors.specs.declared.vectors.VectorKind.TheVariants.{Char, Width, Limit}
+use Rattle.design_vectors.specs.declared.vectors.VectorKind.{VectorKind, TheVariants.Char, TheVariants.Width, TheVariants.Limit}
 
 -- space, tab and carriage return
 abbrev pub is_row_blank : ℕ → Bool

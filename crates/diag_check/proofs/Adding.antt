@@ -1,13 +1,6 @@
 -- The wires that an image uses, as they are marked.
 use Rattle.std.proofs.Common.{◌≡◌, ◌⊎◌, ℕ, ◌+◌, ◌<◌, Bool, true, Some, List, length, refl, sym, ap, ◌∙◌, subst, inl, inr, arith, slice_get}
-use Rattle.std.proofs.Math.ListN.{set}
-use Rattle.std.proofs.lemmas.List.{length-set}
-use Rattle.machine_shape.specs.declared.Shape.{Shape}
-use Rattle.machine_shape.specs.declared.Cross.{Cross}
-use Rattle.machine_shape.specs.declared.Table.{Table}
-use Rattle.machine_shape.specs.Shape.{ends_of}
-use Rattle.diag_known.proofs.Getting.{below_or}
-use Rattle.diag_known.proofs.Places.{some_same}
+use Rattle.diag_check.proofs.Vocabulary.{set, length-set, Shape, Cross, Table, ends_of, below_or, some_same}
 use Rattle.diag_check.specs.Marks.{Adds, IsAmongFirst, IsEndAmong, tap_among, line_among, IsPinOfTable, IsTablePinAmong}
 use Rattle.diag_check.proofs.Marking.{adds_none, adds_one, adds_more}
 

@@ -1,26 +1,12 @@
 -- The field of an image has its skeleton, and no more than so much.
 use Rattle.std.proofs.Common.{◌≡◌, ◌≢◌, ℕ, zero, suc, ◌*◌, ◌<◌, ◌≤◌, if◌then◌else◌, Bool, true, false, Some, None, Option, List, [], ◌∷◌, All, length, get_or, refl, sym, ap, ◌∙◌, subst, arith, slice_get, ◌==◌}
-use Rattle.std.specs.List.{count_by}
-use Rattle.std.proofs.lemmas.Option.{slice_get_within, slice_get-get_or}
-use Rattle.base_bits.specs.Numbers.{has_number, size_of}
-use Rattle.machine_shape.specs.declared.Shape.{Shape}
-use Rattle.machine_shape.specs.declared.Cross.{Cross}
-use Rattle.machine_shape.specs.declared.Wire.{Wire}
+use Rattle.diag_check.proofs.Vocabulary.{count_by, slice_get_within, slice_get-get_or, has_number, size_of, Shape, Cross, Wire, is_closed}
+use Rattle.diag_check.proofs.Vocabulary.{ImageValue, Uses, IsInvolved, by_wire, IsWideEnough, Field, Gets, width_of, IsAmong, IsOfSide}
+use Rattle.diag_check.proofs.Vocabulary.{HasFirstTwo, IsPickedAt, ArePickedUpTo, IsMet, AreMet, IsOwn, own_pin, own_port, HasSkeleton}
+use Rattle.diag_check.proofs.Vocabulary.{AreUsed, AreInvolved, Frame, Picks, Own, Lines, to_set, marked_within}
 use Rattle.machine_shape.specs.Vocabulary.{IsTree, HasMeetings, HasParents, HasSites, wires_of, nodes_of, node_of, parent_of, IsLine, IsPort, IsTap, tap_pin, tap_port, tap_child, itself, below}
-use Rattle.machine_config.specs.Configuration.{is_closed}
-use Rattle.machine_image.specs.Vocabulary.{ImageValue, Uses, IsInvolved, by_wire, IsWideEnough}
-use Rattle.diag_known.specs.declared.field.Field.{Field}
-use Rattle.diag_known.specs.Gains.{Gets}
 use Rattle.diag_check.specs.Fields.{IsFewFor, IsCrossBefore, IsBetween, IsPicksOf, ArePicksOf, of_own, of_lines, IsPickOf, IsJointOf, own_joint, up_joint, OfMarked, IsCrossOf, IsHungAt, on_line, on_port, IsHungOn}
-use Rattle.diag_check.specs.Picked.{width_of, IsAmong, IsOfSide, HasFirstTwo, IsPickedAt, ArePickedUpTo}
-use Rattle.diag_check.specs.Skeleton.{IsMet, AreMet, IsOwn, own_pin, own_port, HasSkeleton}
-use Rattle.diag_check.specs.Used.{AreUsed, AreInvolved}
-use Rattle.diag_check.specs.declared.picks.Frame.{Frame}
-use Rattle.diag_check.specs.declared.picks.Picks.{Picks}
-use Rattle.diag_check.specs.declared.picks.Side.TheVariants.{Own, Lines}
-use Rattle.machine_image.proofs.Keyed.{to_set}
 use Rattle.diag_check.proofs.Counting.{list_fits}
-use Rattle.diag_known.proofs.Getting.{marked_within}
 use Rattle.diag_check.proofs.Wholly.{involved_too}
 
 -- the numbers of the first two wires of a list

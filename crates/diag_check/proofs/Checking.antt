@@ -1,31 +1,15 @@
 -- The test of an image, step by step.
 use Rattle.std.proofs.Common.{◌≡◌, ℕ, ◌+◌, ◌*◌, ◌≤◌, Bool, true, false, Some, None, Option, List, length, refl, sym, ap, ◌∙◌, subst, arith, ◌==◌, ◌&&◌, not, if◌then◌else◌, is_some, IsTrue}
-use Rattle.std.specs.List.{count_by}
-use Rattle.std.proofs.lemmas.Bool.{false≢true}
-use Rattle.std.proofs.lemmas.List.Sums.{count_by-le-length}
-use Rattle.base_bits.specs.Numbers.{has_number, size_of}
-use Rattle.machine_shape.specs.declared.Table.{Table}
+use Rattle.diag_check.proofs.Vocabulary.{count_by, false≢true, count_by-le-length, has_number, size_of, Table, IsNumbered, table_wire}
+use Rattle.diag_check.proofs.Vocabulary.{setting_of, ImageValue, IsImage, IsWideEnough, at_table, Kept, HoldsFor, IsMore, holds_untried}
+use Rattle.diag_check.proofs.Vocabulary.{IsFieldOf, ClosedIf, SeatedAreKept, fresh_tables, keeps_table, Field, VerifiedWire, IsFewFor}
+use Rattle.diag_check.proofs.Vocabulary.{AreSurroundings, HasSkeleton, AreUsed, AreInvolved, of_set, to_set}
 use Rattle.machine_meaning.specs.Faults.{Faults}
-use Rattle.machine_shape.specs.Vocabulary.{IsNumbered, table_wire}
-use Rattle.machine_config.specs.Configuration.{setting_of}
-use Rattle.machine_image.specs.Vocabulary.{ImageValue, IsImage, IsWideEnough, at_table}
-use Rattle.diag_evidence.specs.Kept.{Kept, HoldsFor, IsMore}
-use Rattle.diag_evidence.proofs.Keeping.{holds_untried}
-use Rattle.diag_known.specs.Field.{IsFieldOf, ClosedIf}
-use Rattle.diag_growth.specs.Tables.{SeatedAreKept, fresh_tables, keeps_table}
-use Rattle.diag_known.specs.declared.field.Field.{Field}
-use Rattle.diag_known.specs.declared.verified_wire.VerifiedWire.{VerifiedWire}
 use Rattle.diag_known.proofs.Counting.{many_more, many_size}
-use Rattle.diag_sweep.specs.Marks.{undecided}
-use Rattle.diag_sweep.specs.declared.defect_marks.DefectMarks.{DefectMarks}
-use Rattle.diag_check.specs.Fields.{IsFewFor}
+use Rattle.diag_sweep.specs.{Marks.undecided, declared.defect_marks.DefectMarks.DefectMarks}
 use Rattle.diag_check.specs.Looks.{AreRoutesKnown, KeepsTableOf, AreSeated, RoutesIf, TablesIf, FieldIf, WholeIf, FewerIf, TakesForTables, TakesInField, TakesAtMost, TakesAround, HasClosed, HasTablesOn}
-use Rattle.diag_check.specs.Near.{AreSurroundings}
-use Rattle.diag_check.specs.Skeleton.{HasSkeleton}
 use Rattle.diag_check.specs.Soundly.{KeepsRoutesInSet, KeepsTables, KeepsParts, SoundIf, YesIf, FewIf, IsSoundUnder, IsUnharmed, StandsBySurroundings, HasSurroundings}
-use Rattle.diag_check.specs.Used.{AreUsed, AreInvolved}
 use Rattle.diag_check.proofs.Covering.{on_within, used_within}
-use Rattle.machine_image.proofs.Keyed.{of_set, to_set}
 use Rattle.diag_check.proofs.Counting.{list_fits, list_marks, marks_fit, for_parts}
 use Rattle.diag_check.proofs.Looking.{routes_kept, routes_stay, tables_kept, tests_keep}
 use Rattle.diag_check.proofs.Wholly.{AreLaws, routes_known, seated}

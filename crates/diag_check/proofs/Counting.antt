@@ -1,22 +1,12 @@
 -- How many numbers are marked, or stand in a list, that are all in another list.
 use Rattle.std.proofs.Common.{◌≡◌, ◌≢◌, ◌⊎◌, ℕ, zero, suc, ◌+◌, ◌*◌, ◌<◌, ◌≤◌, ◌==◌, ◌||◌, eqb, if◌then◌else◌, Bool, true, false, cond, List, [], ◌∷◌, length, map, refl, sym, ap, ◌∙◌, subst, inl, inr, arith, Contains, slice_index_or}
-use Rattle.std.specs.List.{count_by, AllByRecursion, IsDistinct}
+use Rattle.diag_check.proofs.Vocabulary.{count_by, AllByRecursion, IsDistinct, set, cases_eq, false≢true, get_or-set_same, get_or-set_other}
+use Rattle.diag_check.proofs.Vocabulary.{length-map, sum_by-cons, list_any-from_Contains, has_number, size_of, ImageValue, Part, WirePart}
+use Rattle.diag_check.proofs.Vocabulary.{CrossPart, TablePart, TakesAtMost, TakesAround, AreUsed, AreInvolved, marked_within}
 use Rattle.std.specs.Set.{is_member}
-use Rattle.std.proofs.Math.ListN.{set}
-use Rattle.std.proofs.lemmas.Bool.{cases_eq, false≢true}
-use Rattle.std.proofs.lemmas.Bool.Decides.{nat_tests}
-use Rattle.std.proofs.lemmas.Cmp.{nat_eq_equiv}
-use Rattle.std.proofs.lemmas.List.{get_or-set_same, get_or-set_other, length-map}
-use Rattle.std.proofs.lemmas.List.Sums.{sum_by-cons}
-use Rattle.std.proofs.lemmas.Map.Made.{length-le_from_is_member}
-use Rattle.std.proofs.lemmas.Map.Views.{list_any-from_Contains}
-use Rattle.base_bits.specs.Numbers.{has_number, size_of}
+use Rattle.std.proofs.lemmas.{Bool.Decides.nat_tests, Cmp.nat_eq_equiv, Map.Made.length-le_from_is_member}
 use Rattle.base_bits.proofs.NumbersLemmas.{size_of-taken}
-use Rattle.machine_image.specs.Vocabulary.{ImageValue, Part, WirePart, CrossPart, TablePart}
-use Rattle.diag_check.specs.Looks.{TakesAtMost, TakesAround}
 use Rattle.diag_check.specs.Soundly.{AreAllOf, HasSurroundings, TakesForParts, TakesForWays}
-use Rattle.diag_check.specs.Used.{AreUsed, AreInvolved}
-use Rattle.diag_known.proofs.Getting.{marked_within}
 
 -- ---- marks
 

@@ -1,28 +1,16 @@
 -- A list of all that an image doesn't use covers the faults, where its parts are kept.
 use Rattle.std.proofs.Common.{◌≡◌, ◌≢◌, ◌⊎◌, ℕ, ◌+◌, ◌<◌, ◌≤◌, ◌++◌, ◌&&◌, Bool, true, false, not, Some, None, Option, List, length, get_or, refl, sym, ap, ◌∙◌, subst, inl, inr, arith, ◌==◌, IsSome, is_some}
-use Rattle.std.specs.List.{range_with_len, filter}
+use Rattle.diag_check.proofs.Vocabulary.{range_with_len, filter, nat_cmp, cases_eq, cases_lt, false≢true, get_or_past, any-filter_same}
+use Rattle.diag_check.proofs.Vocabulary.{has_number, Shape, is_closed, setting_of, Kept, HoldsFor, KeepsParts, AreUsed, marked_within}
 use Rattle.std.specs.FinMap as map
 use Rattle.std.specs.FinSet as set
-use Rattle.std.specs.Ordering.{nat_cmp}
-use Rattle.std.proofs.lemmas.Bool.{cases_eq, cases_lt, false≢true}
 use Rattle.std.proofs.lemmas.Bool.Decides.{nat_tests}
-use Rattle.std.proofs.lemmas.List.{get_or_past}
-use Rattle.std.proofs.lemmas.List.Elements.{Contains-get_or}
-use Rattle.std.proofs.lemmas.List.Folds.{list_any_at}
-use Rattle.std.proofs.lemmas.List.FromFn.{get_or-range_with_len, length-range_with_len}
-use Rattle.std.proofs.lemmas.Map.Views.{any-filter_same}
-use Rattle.base_bits.specs.Numbers.{has_number}
-use Rattle.machine_shape.specs.declared.Shape.{Shape}
+use Rattle.std.proofs.lemmas.List.{Elements.Contains-get_or, Folds.list_any_at, FromFn.get_or-range_with_len, FromFn.length-range_with_len}
 use Rattle.machine_shape.specs.Shape.{wires_of, crosses_of, tables_of}
 use Rattle.machine_meaning.specs.Vocabulary.{Faults, stuck_register, Shorted, Defects, Covers, IsClear, IsFreeWire, IsFreeCross, IsFreeTable}
 use Rattle.machine_config.specs.declared.Setting.{Setting}
-use Rattle.machine_config.specs.Configuration.{is_closed, setting_of}
 use Rattle.machine_image.specs.Vocabulary.{ImageValue, IsImage, IsFreeImage, Uses, at_pin, at_tap, at_line, at_table}
 use Rattle.machine_history.specs.Tenants.{LeavesAlone}
-use Rattle.diag_evidence.specs.Kept.{Kept, HoldsFor}
-use Rattle.diag_check.specs.Soundly.{KeepsParts}
-use Rattle.diag_check.specs.Used.{AreUsed}
-use Rattle.diag_known.proofs.Getting.{marked_within}
 
 -- the numbers below n that are bad
 abbrev listed : (ℕ → Bool) → ℕ → set.FinSet nat_cmp

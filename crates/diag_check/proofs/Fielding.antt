@@ -1,23 +1,11 @@
 -- The field of an image, as it is marked.
 use Rattle.std.proofs.Common.{◌≡◌, ◌≢◌, ◌⊎◌, ℕ, ◌+◌, ◌*◌, ◌<◌, ◌≤◌, Bool, true, false, Some, None, List, All, length, take, sym, ap, ◌∙◌, subst, inl, inr, arith, slice_get}
-use Rattle.std.proofs.Math.ListN.{set}
+use Rattle.diag_check.proofs.Vocabulary.{set, false≢true, count_by_more_yes, count_by_more_no, slice_get_within, get_or_from_slice_get}
+use Rattle.diag_check.proofs.Vocabulary.{has_number, size_of, Shape, Cross, Wire, HasCrosses, crosses_of, ends_of, node_of, parent_of}
+use Rattle.diag_check.proofs.Vocabulary.{IsFieldOf, Gets, IsWireBefore, Field, IsAmong, Frame, Picks, some_same}
 use Rattle.std.proofs.Math.Nat.{mul-le-mul_left, mul-le-mul_right}
-use Rattle.std.proofs.lemmas.Bool.{false≢true}
-use Rattle.std.proofs.lemmas.List.Sums.{count_by_more_yes, count_by_more_no}
-use Rattle.std.proofs.lemmas.Option.{slice_get_within, get_or_from_slice_get}
-use Rattle.base_bits.specs.Numbers.{has_number, size_of}
-use Rattle.machine_shape.specs.declared.Shape.{Shape}
-use Rattle.machine_shape.specs.declared.Cross.{Cross}
-use Rattle.machine_shape.specs.declared.Wire.{Wire}
-use Rattle.machine_shape.specs.Vocabulary.{HasCrosses, crosses_of, ends_of, node_of, parent_of}
-use Rattle.diag_known.specs.Vocabulary.{IsFieldOf, Gets, IsWireBefore}
-use Rattle.diag_known.specs.declared.field.Field.{Field}
 use Rattle.diag_check.specs.Fields.{IsCrossOf, IsBetween, IsCrossBefore, IsPicksOf, IsOfEither, of_own, of_lines, IsPickOf, IsJointOf, own_joint, up_joint, OfMarked, IsHungAt, IsHungOn}
-use Rattle.diag_check.specs.Picked.{IsAmong}
-use Rattle.diag_check.specs.declared.picks.Frame.{Frame}
-use Rattle.diag_check.specs.declared.picks.Picks.{Picks}
 use Rattle.diag_known.proofs.Getting.{below_or, gets_none, gets_one, gets_more, gets_fewer}
-use Rattle.diag_known.proofs.Places.{some_same}
 
 -- what holds of each element holds of that at a place
 pub all_at : {A : Type 0} (P : A → Type 0) (xs : List A) (i : ℕ) (x : A) → All P xs → slice_get xs i ≡ Some x → P x

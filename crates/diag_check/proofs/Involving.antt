@@ -1,16 +1,9 @@
 -- The nodes that an image involves, as they are marked.
 use Rattle.std.proofs.Common.{◌≡◌, ◌≢◌, ◌⊎◌, ℕ, ◌+◌, ◌<◌, ◌≤◌, Bool, true, false, Some, None, List, length, refl, sym, ap, ◌∙◌, subst, inl, inr, arith, replicate}
-use Rattle.std.proofs.Math.ListN.{set}
-use Rattle.std.proofs.lemmas.Bool.{cases_eq, false≢true}
-use Rattle.std.proofs.lemmas.List.{length-set, length-replicate}
-use Rattle.base_bits.specs.Numbers.{has_number}
-use Rattle.machine_shape.specs.declared.Shape.{Shape}
+use Rattle.diag_check.proofs.Vocabulary.{set, cases_eq, false≢true, length-set, length-replicate, has_number, Shape, ImageValue, IsImage}
+use Rattle.diag_check.proofs.Vocabulary.{IsInvolved, by_wire, by_cross, Uses, at_line, Adds, IsNodeAmong, Rises, AreUsed, AreInvolved}
+use Rattle.diag_check.proofs.Vocabulary.{below_or, marked_within, marked_here, marked_still, marked_from, none_marked, some_same}
 use Rattle.machine_shape.specs.Vocabulary.{IsTree, HasMeetings, HasParents, wires_of, nodes_of, node_of, node_of_cross, parent_of, ends_of, IsAbove, itself, below}
-use Rattle.machine_image.specs.Vocabulary.{ImageValue, IsImage, IsInvolved, by_wire, by_cross, Uses, at_line}
-use Rattle.diag_check.specs.Marks.{Adds, IsNodeAmong, Rises}
-use Rattle.diag_check.specs.Used.{AreUsed, AreInvolved}
-use Rattle.diag_known.proofs.Getting.{below_or, marked_within, marked_here, marked_still, marked_from, none_marked}
-use Rattle.diag_known.proofs.Places.{some_same}
 use Rattle.diag_check.proofs.Marking.{adds_none, adds_one, adds_same}
 
 module _ (m : Shape) where

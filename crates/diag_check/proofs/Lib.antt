@@ -13,3 +13,4 @@ mod Ways
 mod Surrounding
 mod Counting
 mod Checking
+mod Vocabulary

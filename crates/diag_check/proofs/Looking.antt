@@ -1,17 +1,9 @@
 -- What the looks at an image say.
 use Rattle.std.proofs.Common.{◌≡◌, ℕ, true, Some, Option, List, All, get_or, ap, subst, is_some}
-use Rattle.std.proofs.lemmas.Option.{slice_get-get_or}
-use Rattle.machine_shape.specs.declared.Table.{Table}
-use Rattle.machine_shape.specs.declared.Shape.{Shape}
+use Rattle.diag_check.proofs.Vocabulary.{slice_get-get_or, Table, Shape, setting_of, ImageValue, Kept, HoldsFor, IsMore, keeps_wire}
+use Rattle.diag_check.proofs.Vocabulary.{KnownWires, HasWire, IsKnown, SeatedAreKept, VerifiedWire, KeepsTableOf, AreSeated}
 use Rattle.machine_meaning.specs.Vocabulary.{Faults, IsSoundTable, IsRightTable}
-use Rattle.machine_config.specs.Configuration.{setting_of}
-use Rattle.machine_image.specs.Images.{ImageValue}
-use Rattle.diag_evidence.specs.Kept.{Kept, HoldsFor, IsMore, keeps_wire}
-use Rattle.diag_known.specs.Known.{KnownWires, HasWire, IsKnown}
-use Rattle.diag_growth.specs.Tables.{SeatedAreKept}
-use Rattle.diag_known.specs.declared.verified_wire.VerifiedWire.{VerifiedWire}
 use Rattle.diag_growth.specs.Seats.{KeepsTable}
-use Rattle.diag_check.specs.Looks.{KeepsTableOf, AreSeated}
 use Rattle.diag_evidence.proofs.KeptLemmas.{pair_apart}
 use Rattle.diag_check.specs.Soundly.{KeepsRoutes, KeepsRoutesInSet, KeepsTables, PartsAreSound}
 

@@ -1,10 +1,6 @@
 -- Marks of which each is told.
 use Rattle.std.proofs.Common.{◌≡◌, ◌⊎◌, ℕ, ◌<◌, Bool, true, List, length, refl, sym, ap, ◌∙◌, subst, inl, inr}
-use Rattle.std.proofs.Math.ListN.{set}
-use Rattle.std.proofs.lemmas.List.{length-set}
-use Rattle.base_bits.specs.Numbers.{has_number}
-use Rattle.diag_check.specs.Marks.{Adds}
-use Rattle.diag_known.proofs.Getting.{marked_here, marked_still, marked_from}
+use Rattle.diag_check.proofs.Vocabulary.{set, length-set, has_number, Adds, marked_here, marked_still, marked_from}
 
 pub adds_none : {P : ℕ → Type 0} {marks : List Bool} → ((x : ℕ) → P x → ⊥) → Adds P marks marks
 adds_none never = record { len = refl; stays = λ x h. h; all = λ x p. absurd (never x p); only = λ x h. inl h }

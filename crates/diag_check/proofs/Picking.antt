@@ -1,17 +1,9 @@
 -- Wires that are picked of the two sides of a node's crossbar.
 use Rattle.std.proofs.Common.{◌≡◌, ◌≢◌, ◌⊎◌, ℕ, zero, suc, ◌+◌, ◌<◌, ◌≤◌, Bool, if◌then◌else◌, Some, Option, List, [], ◌∷◌, ◌++◌, length, refl, sym, ap, ◌∙◌, subst, inl, inr, arith, slice_get, IfSome, IfNone}
-use Rattle.std.proofs.lemmas.Bool.{cases_eq}
-use Rattle.std.proofs.lemmas.List.{length-append}
-use Rattle.std.proofs.lemmas.Option.{slice_get_within}
-use Rattle.base_bits.specs.Numbers.{has_number}
-use Rattle.machine_shape.specs.declared.Shape.{Shape}
-use Rattle.machine_shape.specs.declared.Wire.{Wire}
-use Rattle.machine_shape.specs.Vocabulary.{IsNumbered, HasSites}
+use Rattle.diag_check.proofs.Vocabulary.{cases_eq, length-append, slice_get_within, has_number, Shape, Wire, IsNumbered, HasSites, Own}
+use Rattle.diag_check.proofs.Vocabulary.{Lines, Picks, get_pushed, some_same}
 use Rattle.diag_check.specs.Picked.{width_of, side_wire, IsAmong, IsOfSide, AreOfSide, HasFirstTwo, ArePicked, IsPickedAt, ArePickedUpTo}
 use Rattle.diag_check.specs.declared.picks.Side.{Side}
-use Rattle.diag_check.specs.declared.picks.Side.TheVariants.{Own, Lines}
-use Rattle.diag_check.specs.declared.picks.Picks.{Picks}
-use Rattle.diag_known.proofs.Places.{get_pushed, some_same}
 
 -- ---- the two sides
 

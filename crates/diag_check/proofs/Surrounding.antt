@@ -1,17 +1,10 @@
 -- The surroundings of an image, as they are marked.
 use Rattle.std.proofs.Common.{◌≡◌, ◌⊎◌, ℕ, zero, suc, ◌+◌, ◌<◌, ◌&&◌, Bool, true, false, List, length, refl, sym, ap, ◌∙◌, subst, inl, inr, arith, replicate}
-use Rattle.std.proofs.Math.ListN.{set}
-use Rattle.std.proofs.lemmas.Bool.{false≢true}
-use Rattle.base_bits.specs.Numbers.{has_number}
-use Rattle.machine_shape.specs.declared.Shape.{Shape}
+use Rattle.diag_check.proofs.Vocabulary.{set, false≢true, has_number, Shape, below_or, marked_within, none_marked, OfMarked, Adds}
+use Rattle.diag_check.proofs.Vocabulary.{IsNearCross, IsNearBefore, AreUsed, AreInvolved, Own, Lines}
 use Rattle.machine_shape.specs.Vocabulary.{HasMeetings, HasSites, nodes_of, crosses_of, own_ports_of, port_at, ends_of, node_of_cross, IsLine, IsPort}
 use Rattle.machine_image.specs.Vocabulary.{ImageValue, IsInvolved, IsSurroundingWire, used_wire, node_line, node_port, root_pin, IsSurroundingCross}
-use Rattle.diag_known.proofs.Getting.{below_or, marked_within, none_marked}
-use Rattle.diag_check.specs.Fields.{OfMarked}
-use Rattle.diag_check.specs.Marks.{Adds, IsNearCross, IsNearBefore}
 use Rattle.diag_check.specs.Near.{IsOnSide, IsOfNode, on_own, on_lines, AreSurroundings}
-use Rattle.diag_check.specs.Used.{AreUsed, AreInvolved}
-use Rattle.diag_check.specs.declared.picks.Side.TheVariants.{Own, Lines}
 use Rattle.diag_check.proofs.Marking.{adds_none, adds_one, adds_more, adds_same}
 
 and_left : (a b : Bool) → (a && b) ≡ true → a ≡ true

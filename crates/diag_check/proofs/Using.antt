@@ -1,22 +1,13 @@
 -- The marks of an image's used wires are right.
 use Rattle.std.proofs.Common.{◌≡◌, ◌⊎◌, ℕ, ◌+◌, ◌<◌, if◌then◌else◌, Bool, true, false, List, All, length, get_or, refl, sym, ap, ◌∙◌, subst, inl, inr, arith, ◌==◌, slice_get, replicate, Contains, is_some}
-use Rattle.std.specs.List.{count_by}
+use Rattle.diag_check.proofs.Vocabulary.{count_by, slice_get-get_or, has_number, Shape, Cross, Table, Configuration, is_closed, setting_of}
+use Rattle.diag_check.proofs.Vocabulary.{ImageValue, IsImage, Uses, at_pin, at_tap, at_line, at_table, AreUsed, of_set, to_set, none_marked}
 use Rattle.std.proofs.lemmas.List.{get_or_append_left, get_or-append-add, get_or_default, length-append, length-replicate}
 use Rattle.std.proofs.lemmas.List.Elements.{Contains-get_or, Contains-append_left, Contains-append_right, Contains-append_cases}
-use Rattle.std.proofs.lemmas.Option.{slice_get-get_or}
-use Rattle.base_bits.specs.Numbers.{has_number}
-use Rattle.machine_shape.specs.declared.Shape.{Shape}
-use Rattle.machine_shape.specs.declared.Cross.{Cross}
-use Rattle.machine_shape.specs.declared.Table.{Table}
 use Rattle.machine_shape.specs.Shape.{wires_of, pins_of, crosses_of, tables_of, pin_wire, table_wire, ends_of}
-use Rattle.machine_config.specs.Configuration.{Configuration, is_closed, setting_of}
-use Rattle.machine_image.specs.Vocabulary.{ImageValue, IsImage, Uses, at_pin, at_tap, at_line, at_table}
 use Rattle.diag_check.specs.Marks.{Adds, IsPinAmong, IsEndAmong, tap_among, line_among, IsTablePinAmong}
-use Rattle.diag_check.specs.Used.{AreUsed}
-use Rattle.machine_image.proofs.Keyed.{of_set, to_set}
 use Rattle.diag_check.proofs.Covering.{on_within}
 use Rattle.diag_check.proofs.Fielding.{all_at}
-use Rattle.diag_known.proofs.Getting.{none_marked}
 
 module _ (i : ImageValue) (closed : List Cross) (tables : List Table)
     (closed_counts : (x : ℕ) → count_by (λ (y : Cross). y.0 == x) closed ≡ (if is_closed i.config x then 1 else 0))

@@ -1,20 +1,12 @@
 -- What stands by an image's surroundings is known, and its tables are seated.
 use Rattle.std.proofs.Common.{◌≡◌, ◌⊎◌, ℕ, ◌<◌, true, List, refl, sym, subst, inl, inr, IsSome}
-use Rattle.machine_shape.specs.declared.Shape.{Shape}
-use Rattle.machine_shape.specs.Vocabulary.{crosses_of, pin_wire, ends_of, itself, Ends, in_order, turned}
+use Rattle.diag_check.proofs.Vocabulary.{Shape, crosses_of, pin_wire, ends_of, itself, Ends, in_order, turned, is_closed, setting_of, Kept}
+use Rattle.diag_check.proofs.Vocabulary.{keeps_cross, IsClosed, HasWire, IsKeptCrossOf, Field, VerifiedWire, known_or, AreRoutesKnown}
+use Rattle.diag_check.proofs.Vocabulary.{AreSurroundings, IsSoundNear, StandsNear, StandsBySurroundings}
 use Rattle.machine_meaning.specs.Vocabulary.{Faults, IsSoundWire, IsSeated, IsAlone, pin_stands, on_two, two}
 use Rattle.machine_meaning.proofs.Clear.{clear_of_sound}
 use Rattle.machine_meaning.proofs.Seats.{seated_also}
-use Rattle.machine_config.specs.Configuration.{is_closed, setting_of}
 use Rattle.machine_image.specs.Vocabulary.{ImageValue, IsImage, at_tap, at_line, by_cross, IsSurroundingCross, used_wire}
-use Rattle.diag_evidence.specs.Kept.{Kept, keeps_cross}
-use Rattle.diag_known.specs.Vocabulary.{IsClosed, HasWire, IsKeptCrossOf}
-use Rattle.diag_known.specs.declared.field.Field.{Field}
-use Rattle.diag_known.specs.declared.verified_wire.VerifiedWire.{VerifiedWire}
-use Rattle.diag_growth.proofs.Decided.{known_or}
-use Rattle.diag_check.specs.Looks.{AreRoutesKnown}
-use Rattle.diag_check.specs.Near.{AreSurroundings}
-use Rattle.diag_check.specs.Soundly.{IsSoundNear, StandsNear, StandsBySurroundings}
 use Rattle.diag_check.proofs.Wholly.{IsClosedOver, closed_over}
 
 module _ (i : ImageValue) (right : IsImage i) (f : Faults) (stands : StandsBySurroundings f i) (a : Field) (around : AreSurroundings i a)

@@ -2,22 +2,12 @@
 use Rattle.std.proofs.Common.{◌≡◌, ◌≢◌, ◌⊎◌, ℕ, zero, suc, ◌<◌, true, Some, None, List, refl, sym, ap, ◌∙◌, subst, inl, inr, arith, IsSome}
 use Rattle.std.specs.FinMap as map
 use Rattle.std.specs.FinSet as set
-use Rattle.std.specs.Ordering.{nat_cmp}
-use Rattle.base_bits.specs.Numbers.{has_number}
-use Rattle.machine_shape.specs.declared.Shape.{Shape}
+use Rattle.diag_check.proofs.Vocabulary.{nat_cmp, has_number, Shape, setting_of, Kept, keeps_cross, IsFieldOf, IsClosed, HasWire}
+use Rattle.diag_check.proofs.Vocabulary.{IsKeptCrossOf, Field, VerifiedWire, AreRoutesKnown, IsUnharmed, marked_within, known_or}
 use Rattle.machine_shape.specs.Vocabulary.{IsNumbered, IsTree, HasMeetings, HasParents, wires_of, crosses_of, nodes_of, pins_of, tables_of, pin_wire, table_wire, ends_of, node_of, parent_of, hextant_of, IsLine, IsPort, IsTap, tap_table, IsAbove, itself, below, Ends, in_order, turned, HasHomes}
 use Rattle.machine_meaning.specs.Vocabulary.{Faults, IsFaultless, stuck_cross, stuck_wire, pair_cmp, IsSoundWire, IsSoundTable, IsServed, IsClear, StandsBy, pin_stands, on_two, IsOutside, Meets, IsSeated, HasStandingParts, IsAlone, HasFeet, two}
-use Rattle.machine_config.specs.Configuration.{setting_of}
 use Rattle.machine_image.specs.Vocabulary.{ImageValue, Uses, at_tap, at_line, at_table, IsInvolved, by_wire, by_cross, IsSurroundingWire, used_wire, node_line, node_port, root_pin}
-use Rattle.diag_evidence.specs.Kept.{Kept, keeps_cross}
-use Rattle.diag_known.specs.Vocabulary.{IsFieldOf, IsClosed, HasWire, IsKeptCrossOf}
-use Rattle.diag_known.specs.declared.field.Field.{Field}
-use Rattle.diag_known.specs.declared.verified_wire.VerifiedWire.{VerifiedWire}
-use Rattle.diag_check.specs.Looks.{AreRoutesKnown}
 use Rattle.diag_check.specs.Skeleton.{IsMet, IsOwn, own_pin, own_port, HasSkeleton}
-use Rattle.diag_check.specs.Soundly.{IsUnharmed}
-use Rattle.diag_known.proofs.Getting.{marked_within}
-use Rattle.diag_growth.proofs.Decided.{known_or}
 
 -- what is above a node is above those below it
 pub above_too : {m : Shape} {k n c : ℕ} → IsAbove m k n → IsAbove m n c → IsAbove m k c

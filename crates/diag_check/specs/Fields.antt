@@ -1,16 +1,12 @@
 -- What a field gets, by steps.
 use Rattle.std.specs.Prelude.{◌≡◌, ℕ, ◌+◌, ◌*◌, ◌<◌, ◌≤◌, Bool, true, Some, List, All, length, slice_get, Contains}
 use Rattle.base_bits.specs.Numbers.{has_number, size_of}
-use Rattle.machine_shape.specs.declared.Shape.{Shape}
-use Rattle.machine_shape.specs.declared.Cross.{Cross}
-use Rattle.machine_shape.specs.declared.Wire.{Wire}
+use Rattle.machine_shape.specs.declared.{Shape.Shape, Cross.Cross, Wire.Wire}
 use Rattle.machine_shape.specs.Shape.{wires_of, crosses_of, nodes_of, ends_of, node_of, parent_of}
 use Rattle.machine_config.specs.Configuration.{is_closed}
 use Rattle.machine_image.specs.Images.{ImageValue}
 use Rattle.diag_known.specs.declared.field.Field.{Field}
-use Rattle.diag_check.specs.Picked.{IsAmong}
-use Rattle.diag_check.specs.declared.picks.Frame.{Frame}
-use Rattle.diag_check.specs.declared.picks.Picks.{Picks}
+use Rattle.diag_check.specs.{Picked.IsAmong, declared.picks.Frame.Frame, declared.picks.Picks.Picks}
 
 -- a crosspoint of this tap and this line
 pub record IsCrossOf (m : Shape) (t l x : ℕ) : Type 0 where

@@ -2,15 +2,12 @@
 use Rattle.std.specs.Prelude.{◌≡◌, ℕ, ◌+◌, ◌*◌, ◌<◌, ◌≤◌, Bool, true, Option, Some, IsSome, IsTrue, List, length, Contains}
 use Rattle.base_bits.specs.Numbers.{size_of}
 use Rattle.machine_meaning.specs.Vocabulary.{Faults, IsSeated}
-use Rattle.machine_config.specs.declared.Setting.{Setting}
-use Rattle.machine_config.specs.Configuration.{is_closed, setting_of}
+use Rattle.machine_config.specs.{declared.Setting.Setting, Configuration.is_closed, Configuration.setting_of}
 use Rattle.machine_image.specs.Vocabulary.{ImageValue, Uses}
 use Rattle.diag_evidence.specs.Kept.{Kept, HoldsFor, keeps_cross, keeps_cell, keeps_register}
-use Rattle.diag_known.specs.Known.{HasWire, IsKeptCrossOf}
+use Rattle.diag_known.specs.{Known.HasWire, Known.IsKeptCrossOf, declared.verified_wire.VerifiedWire.VerifiedWire}
 use Rattle.diag_known.specs.declared.field.Field.{Field}
-use Rattle.diag_known.specs.declared.verified_wire.VerifiedWire.{VerifiedWire}
-use Rattle.diag_check.specs.Near.{AreSurroundings}
-use Rattle.diag_check.specs.Skeleton.{HasSkeleton}
+use Rattle.diag_check.specs.{Near.AreSurroundings, Skeleton.HasSkeleton}
 use Rattle.diag_check.specs.Soundly.{PartsAreSound, IsUnharmed, StandsBySurroundings, HasSurroundings}
 
 -- the used wires are known, and the closed crosspoints kept

@@ -1,9 +1,7 @@
 -- Marks that are added to others.
 use Rattle.std.specs.Prelude.{◌≡◌, ◌⊎◌, ℕ, ◌<◌, ◌≤◌, Bool, true, Some, List, length, slice_index, slice_get}
 use Rattle.base_bits.specs.Numbers.{has_number}
-use Rattle.machine_shape.specs.declared.Shape.{Shape}
-use Rattle.machine_shape.specs.declared.Cross.{Cross}
-use Rattle.machine_shape.specs.declared.Table.{Table}
+use Rattle.machine_shape.specs.declared.{Shape.Shape, Cross.Cross, Table.Table}
 use Rattle.machine_shape.specs.Shape.{pin_wire, table_wire, ends_of, node_of, node_of_cross, parent_of, IsAbove}
 
 -- what was marked still is, and so is each of these numbers; and nothing else is

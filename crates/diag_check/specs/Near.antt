@@ -4,10 +4,8 @@ use Rattle.base_bits.specs.Numbers.{has_number}
 use Rattle.machine_shape.specs.declared.Shape.{Shape}
 use Rattle.machine_image.specs.Vocabulary.{ImageValue, IsSurroundingWire, IsSurroundingCross}
 use Rattle.diag_known.specs.declared.field.Field.{Field}
-use Rattle.diag_check.specs.Marks.{IsAmongFirst}
-use Rattle.diag_check.specs.Picked.{side_wire, width_of}
-use Rattle.diag_check.specs.declared.picks.Side.{Side}
-use Rattle.diag_check.specs.declared.picks.Side.TheVariants.{Own, Lines}
+use Rattle.diag_check.specs.{Marks.IsAmongFirst, declared.picks.Side.Side}
+use Rattle.diag_check.specs.{Picked.side_wire, Picked.width_of, declared.picks.Side.TheVariants.Own, declared.picks.Side.TheVariants.Lines}
 
 -- a wire of a side of the node
 abbrev pub IsOnSide : Shape → Side → ℕ → ℕ → Type 0

@@ -1,12 +1,9 @@
 -- Some wires of the two sides of a node's crossbar.
 use Rattle.std.specs.Prelude.{◌≡◌, ◌≢◌, ℕ, zero, suc, ◌<◌, ◌≤◌, Bool, if◌then◌else◌, Some, List, length, slice_get}
 use Rattle.base_bits.specs.Numbers.{has_number}
-use Rattle.machine_shape.specs.declared.Shape.{Shape}
-use Rattle.machine_shape.specs.declared.Wire.{Wire}
+use Rattle.machine_shape.specs.declared.{Shape.Shape, Wire.Wire}
 use Rattle.machine_shape.specs.Shape.{wires_of, pins_of, own_ports_of, lines_of, pin_wire, port_at, line_at}
-use Rattle.diag_check.specs.declared.picks.Side.{Side}
-use Rattle.diag_check.specs.declared.picks.Side.TheVariants.{Own, Lines}
-use Rattle.diag_check.specs.declared.picks.Picks.{Picks}
+use Rattle.diag_check.specs.declared.picks.{Side.Side, Side.TheVariants.Own, Side.TheVariants.Lines, Picks.Picks}
 
 -- how many wires a node has on a side: its lines, or its own ports, for which the root has the pins of the machine
 abbrev pub width_of : Shape → Side → ℕ → ℕ

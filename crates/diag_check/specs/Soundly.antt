@@ -1,8 +1,7 @@
 -- When an image runs soundly, what has to be kept for that, and how many loads that takes.
 use Rattle.std.specs.Prelude.{◌≡◌, ◌≢◌, ℕ, ◌+◌, ◌*◌, ◌<◌, ◌≤◌, Bool, true, List, map, length, Option, Some, IsSome, IsTrue, Contains}
 use Rattle.machine_meaning.specs.Vocabulary.{Pins, Faults, IsFaultless, IsSoundWire, IsSoundCross, IsSoundTable, StandsBy, IsSeated}
-use Rattle.machine_config.specs.declared.Setting.{Setting}
-use Rattle.machine_config.specs.Vocabulary.{is_closed, setting_of, IsRun}
+use Rattle.machine_config.specs.{declared.Setting.Setting, Vocabulary.is_closed, Vocabulary.setting_of, Vocabulary.IsRun}
 use Rattle.machine_image.specs.Vocabulary.{ImageValue, drive_of, image_row, Uses, Part, IsPartOf, IsInvolved, IsWideEnough}
 use Rattle.machine_image.specs.Vocabulary.{IsSurroundingWire, IsSurroundingCross}
 use Rattle.machine_history.specs.Tenants.{LeavesAlone}

@@ -1,16 +1,9 @@
 -- Drives for the addresses of tables.
 use Rattle.std.proofs.Common.{◌≡◌, ◌≢◌, ℕ, zero, suc, ◌<◌, ◌+◌, Bool, true, false, Some, None, List, [], ◌∷◌, ◌++◌, length, get_or, set, refl, sym, ap, ◌∙◌, subst, arith, ◌==◌, All, replicate, slice_set}
-use Rattle.std.specs.Int.{bit_at}
+use Rattle.diag_evidence.proofs.Vocabulary.{bit_at, nat_tests, Cross, Table, Pins, table_wire, crosses_of, among, cross_numbers}
 use Rattle.std.proofs.lemmas.Bool.{false≢true, or_left, or_right}
-use Rattle.std.proofs.lemmas.Bool.Decides.{nat_tests}
 use Rattle.std.proofs.lemmas.List.{get_or-set_same, get_or-set_other, get_or-replicate, get_or_past, length-replicate, length-append}
 use native.Mathlib.Decide.{ℕ_discrete, dec_lt}
-use Rattle.machine_shape.specs.declared.Cross.{Cross}
-use Rattle.machine_shape.specs.declared.Table.{Table}
-use Rattle.machine_meaning.specs.Circuit.{Pins}
-use Rattle.machine_shape.specs.Shape.{table_wire, crosses_of}
-use Rattle.machine_config.specs.Groups.{among}
-use Rattle.diag_tests.specs.Routes.{cross_numbers}
 use Rattle.diag_evidence.specs.Vocabulary.{Trees, HangsOn, IsForest, pin_of, AreAddressesOf, AreTableDrives, HasAddress, HasInputs, HaveWidth, IsPinOf, AreAddressDrives, AreTablesOn, IsInputPin, is_one_of}
 use Rattle.diag_evidence.proofs.Planted.{same_pin}
 

@@ -1,15 +1,10 @@
 -- What is kept after a test is true.
 use Rattle.std.proofs.Common.{◌≡◌, ◌≢◌, ◌≤◌, ℕ, Bool, true, false, Some, Option, List, refl, sym, ◌∙◌, subst, arith, ◌==◌}
 use mathlib.Core.Bool.{beq}
-use Rattle.std.proofs.lemmas.Bool.Decides.{nat_tests}
-use Rattle.machine_shape.specs.Shape.{pin_wire}
+use Rattle.diag_evidence.proofs.Vocabulary.{nat_tests, pin_wire, Setting, conducting, swing_clears, closed_cross_shows, cell_shows}
+use Rattle.diag_evidence.proofs.Vocabulary.{register_shows, Walk, RigState, Explains, Narrows, Tells}
 use Rattle.machine_meaning.specs.Vocabulary.{Pins, Faults, stuck_cross, Net, Joined, here, then, crossed, IsClear, net_of}
-use Rattle.machine_config.specs.declared.Setting.{Setting}
 use Rattle.machine_config.specs.Vocabulary.{Configuration, is_closed, with_open, with_setting, with_cell, with_init, among, LeadsTo, ends, goes}
-use Rattle.machine_config.proofs.Readings.{conducting, swing_clears}
-use Rattle.machine_config.proofs.Toggles.{closed_cross_shows, cell_shows, register_shows}
-use Rattle.diag_tests.specs.Routes.{Walk}
-use Rattle.rig.specs.Rig.{RigState, Explains, Narrows, Tells}
 use Rattle.diag_evidence.specs.Vocabulary.{Kept, HoldsFor, Gain, Gains, Advances, FewCycles, one_cross, one_cell, one_register, these_wires, Reads, ReadsTwice, IsReady}
 use Rattle.diag_evidence.proofs.KeptLemmas.{GainHoldsFor, more_by_gain, holds_by_gain, cross_holds, cell_holds, register_holds, wires_hold}
 use Rattle.diag_evidence.proofs.Shown.{differ, differ_turned}

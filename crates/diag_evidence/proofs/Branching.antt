@@ -1,25 +1,13 @@
 -- What a look at walks that branch from a forest shows of their crosspoints.
 use Rattle.std.proofs.Common.{◌≡◌, ◌≢◌, ◌⊎◌, inl, inr, ℕ, ◌<◌, ◌+◌, Bool, true, false, not, ◌&&◌, ◌||◌, Some, None, Option, List, [], ◌∷◌, ◌++◌, length, get_or, refl, sym, ap, ◌∙◌, subst, arith, ◌==◌, is_some}
 use Rattle.std.specs.List.{list_any, filter, IsDistinct}
-use Rattle.std.specs.Option.{option_map_or}
-use Rattle.std.proofs.lemmas.Bool.{false≢true, and_parts, or_cases, or_left, or_right}
-use Rattle.std.proofs.lemmas.Bool.Decides.{nat_tests}
-use Rattle.std.proofs.lemmas.List.Elements.{filter-append}
-use Rattle.std.proofs.lemmas.List.Folds.{list_any-append, list_any_at}
-use Rattle.std.proofs.lemmas.Map.Views.{any-filter_same}
+use Rattle.diag_evidence.proofs.Vocabulary.{option_map_or, nat_tests, filter-append, list_any-append, list_any_at, Shape, ends_of, pin_wire}
+use Rattle.diag_evidence.proofs.Vocabulary.{pins_of, Joined-sym, Joined-trans, closed_already, LeadsTo-within, LeadsTo-start, LeadsTo-end}
+use Rattle.diag_evidence.proofs.Vocabulary.{closed_before, quiet_load, left_low, right_high, conducting, cross_toggled, Lead}
+use Rattle.std.proofs.lemmas.{Bool.false≢true, Bool.and_parts, Bool.or_cases, Bool.or_left, Bool.or_right, Map.Views.any-filter_same}
 use native.Mathlib.Decide.{ℕ_discrete}
-use Rattle.machine_shape.specs.declared.Shape.{Shape}
-use Rattle.machine_shape.specs.Shape.{ends_of, pin_wire, pins_of}
 use Rattle.machine_meaning.specs.Vocabulary.{Pins, Outputs, Faults, stuck_cross, Joined, here, Shorted, net_of, IsClear}
-use Rattle.machine_meaning.proofs.JoinedLemmas.{Joined-sym, Joined-trans}
 use Rattle.machine_config.specs.Vocabulary.{Configuration, is_closed, with_open, circuit_of, IsRun, among, IsWithin, AreGroups, LeadsTo, ends, Runs, Cycles, none, cycle, at_load}
-use Rattle.machine_config.proofs.Changes.{closed_already}
-use Rattle.machine_config.proofs.Grouped.{LeadsTo-within, LeadsTo-start, LeadsTo-end}
-use Rattle.machine_config.proofs.Loops.{closed_before}
-use Rattle.machine_config.proofs.Passing.{quiet_load, left_low, right_high}
-use Rattle.machine_config.proofs.Readings.{conducting}
-use Rattle.machine_config.proofs.Toggles.{cross_toggled}
-use Rattle.diag_evidence.specs.declared.leads.Lead.{Lead}
 use Rattle.diag_evidence.specs.Vocabulary.{Kept, HoldsFor, Trees, HangsOn, pin_of, is_hung, is_laid, IsForest, IsOfTree, IsLook, one_driven, differ, parts, BranchFrom, IsLead, KnowsLeads, closes_along, crosses_along, crosses_of_leads, is_met, loose_along, wires_along, wires_of_leads}
 use Rattle.diag_evidence.proofs.Advancing.{joined_along}
 use Rattle.diag_evidence.proofs.Footing.{pin_below}

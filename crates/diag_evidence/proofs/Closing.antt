@@ -1,19 +1,10 @@
 -- Closing a forest's crosspoints and those of walks.
 use Rattle.std.proofs.Common.{◌≡◌, ◌<◌, ◌+◌, ℕ, Bool, true, false, ◌||◌, None, Option, List, [], ◌++◌, All, length, get_or, take, refl, sym, ap, ◌∙◌, arith, ◌==◌, replicate}
-use Rattle.std.proofs.lemmas.Bool.Decides.{nat_tests}
+use Rattle.diag_evidence.proofs.Vocabulary.{nat_tests, list_any-append, list_any_at, contains-empty, nat_cmp, Shape, Cross, crosses_of}
+use Rattle.diag_evidence.proofs.Vocabulary.{tables_of, Setting, LeadsTo-below, Closes, cross_numbers, Lead}
 use Rattle.std.proofs.lemmas.List.{get_or-map, length-map, get_or-replicate, get_or_past, length-replicate, take_more, flat_map_more}
-use Rattle.std.proofs.lemmas.List.Folds.{list_any-append, list_any_at}
-use Rattle.std.specs.FinSet.{contains-empty}
-use Rattle.std.specs.Ordering.{nat_cmp}
 use native.Mathlib.Decide.{dec_lt}
-use Rattle.machine_shape.specs.declared.Shape.{Shape}
-use Rattle.machine_shape.specs.declared.Cross.{Cross}
-use Rattle.machine_shape.specs.Shape.{crosses_of, tables_of}
-use Rattle.machine_config.specs.declared.Setting.{Setting}
 use Rattle.machine_config.specs.Vocabulary.{Configuration, is_closed, cleared, among}
-use Rattle.machine_config.proofs.Grouped.{LeadsTo-below}
-use Rattle.diag_tests.specs.Vocabulary.{Closes, cross_numbers}
-use Rattle.diag_evidence.specs.declared.leads.Lead.{Lead}
 use Rattle.diag_evidence.specs.Vocabulary.{Trees, is_laid, IsForest, BranchFrom, ClosesAlong, IsLeadOf, crosses_along, crosses_of_leads}
 use Rattle.diag_evidence.proofs.Footing.{pin_below}
 

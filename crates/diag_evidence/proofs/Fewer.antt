@@ -1,15 +1,9 @@
 -- Few cycles for each load.
 use Rattle.std.proofs.Common.{◌≡◌, ◌∙◌, ◌⊎◌, ⊎_elim, ℕ, ◌+◌, ◌*◌, ◌^◌, ◌-◌, ◌<◌, ◌≤◌, min, max, Option, None, Some, option_map, Result, Ok, Err, OnOk, OnErr, refl, sym, ap, subst, arith}
-use Rattle.std.specs.Option.{option_map_or}
-use Rattle.std.proofs.lemmas.Bool.{cases_lt}
-use Rattle.std.proofs.Math.Nat.{min-eq_left, min-eq_right, le-max_left, mul-add}
-use Rattle.std.proofs.lemmas.Option.{none-some}
-use Rattle.machine_shape.specs.declared.Shape.{Shape}
-use Rattle.machine_shape.specs.Shape.{pins_of}
+use Rattle.diag_evidence.proofs.Vocabulary.{option_map_or, cases_lt, min-eq_left, min-eq_right, le-max_left, mul-add, none-some, Shape}
+use Rattle.diag_evidence.proofs.Vocabulary.{pins_of, Asked, Machine, RigState, cycles_made, FewCycles, HasFew, TakesFewCycles, most_cycles}
 use Rattle.base_io.specs.Counts.{next_count}
-use Rattle.rig.specs.Rig.{Asked, Machine, RigState, cycles_made}
 use Rattle.rig.specs.declared.rig.RigFail.{RigFail}
-use Rattle.diag_evidence.specs.Kept.{FewCycles, HasFew, TakesFewCycles, most_cycles}
 
 -- a count that has room to grow has grown by one
 grown : (n k : ℕ) → k ≡ next_count n → k + 1 < 2 ^ 64 → k ≡ n + 1

@@ -1,17 +1,9 @@
 -- Feet, and what is closed at them.
 use Rattle.std.proofs.Common.{◌≡◌, ◌<◌, ℕ, Bool, true, false, ◌||◌, Some, None, Option, List, [], ◌∷◌, All, length, get_or, unwrap_or, refl, sym, ap, ◌∙◌, subst, arith, ◌==◌, map, replicate}
-use Rattle.std.proofs.lemmas.Bool.Decides.{nat_tests}
+use Rattle.diag_evidence.proofs.Vocabulary.{nat_tests, list_any_at, contains-empty, nat_cmp, Shape, Cross, pins_of, crosses_of, tables_of}
+use Rattle.diag_evidence.proofs.Vocabulary.{Setting, Configuration, is_closed, cleared, among, Closes, cross_numbers}
 use Rattle.std.proofs.lemmas.List.{get_or-map, length-map, get_or-replicate, get_or_past, length-replicate}
-use Rattle.std.proofs.lemmas.List.Folds.{list_any_at}
-use Rattle.std.specs.FinSet.{contains-empty}
-use Rattle.std.specs.Ordering.{nat_cmp}
 use native.Mathlib.Decide.{dec_lt}
-use Rattle.machine_shape.specs.declared.Shape.{Shape}
-use Rattle.machine_shape.specs.declared.Cross.{Cross}
-use Rattle.machine_shape.specs.Shape.{pins_of, crosses_of, tables_of}
-use Rattle.machine_config.specs.declared.Setting.{Setting}
-use Rattle.machine_config.specs.Vocabulary.{Configuration, is_closed, cleared, among}
-use Rattle.diag_tests.specs.Vocabulary.{Closes, cross_numbers}
 use Rattle.diag_evidence.specs.Vocabulary.{Trees, HangsOn, pin_of, is_laid, IsForest, Foot, IsFoot, ClosesJust, closes, feet_crosses, pin_at}
 
 -- a wire hangs on a pin of the machine

@@ -1,7 +1,6 @@
 -- What is found in a list of which some element passes a test.
 use Rattle.std.proofs.Common.{◌≡◌, ◌⊎◌, inl, inr, ℕ, suc, ◌<◌, Bool, true, List, [], ◌∷◌, length, get_or, arith}
-use Rattle.std.specs.List.{list_any}
-use Rattle.std.proofs.lemmas.Bool.{false≢true, or_cases}
+use Rattle.diag_evidence.proofs.Vocabulary.{list_any, false≢true, or_cases}
 
 -- the element of which a test holds
 pub record IsSome_of {A : Type 0} (p : A → Bool) (xs : List A) : Type 0 where

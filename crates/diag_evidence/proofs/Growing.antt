@@ -1,15 +1,10 @@
 -- What grows on a forest leaves it one.
 use Rattle.std.proofs.Common.{◌≡◌, ◌≢◌, ◌⊎◌, inl, inr, ℕ, ◌<◌, Bool, true, false, Some, None, Option, is_some, List, [], ◌∷◌, ◌++◌, length, get_or, set, refl, sym, ap, ◌∙◌, subst, arith, ◌||◌, ◌==◌, map}
 use Rattle.std.proofs.lemmas.Bool.{false≢true, or_cases, or_left, or_right}
-use Rattle.std.proofs.lemmas.Bool.Decides.{nat_tests}
+use Rattle.diag_evidence.proofs.Vocabulary.{nat_tests, list_any-append, Cross, among, LeadsTo, ends, goes, LeadsTo-push, cross_numbers}
 use Rattle.std.proofs.lemmas.List.{get_or-set_same, get_or-set_other, length-set, map-append, get_or_past, set-get_or}
-use Rattle.std.proofs.lemmas.List.Folds.{list_any-append}
 use native.Mathlib.Decide.{ℕ_discrete, dec_lt}
-use Rattle.machine_shape.specs.declared.Cross.{Cross}
 use Rattle.machine_shape.specs.Vocabulary.{Ends, in_order, turned, ends_of, pin_wire, pins_of, wires_of, crosses_of, IsNumbered}
-use Rattle.machine_config.specs.Vocabulary.{among, LeadsTo, ends, goes}
-use Rattle.machine_config.proofs.Grouped.{LeadsTo-push}
-use Rattle.diag_tests.specs.Routes.{cross_numbers}
 use Rattle.diag_evidence.specs.Vocabulary.{Kept, keeps_cross, Trees, HangsOn, pin_of, is_hung, is_laid, IsOfTree, IsLedOver, IsForest, CanLay, KeepsForest, bare, with_planted, with_laid}
 
 some_injective : {a b : ℕ} → ◌≡◌ {A = Option ℕ} (Some a) (Some b) → a ≡ b

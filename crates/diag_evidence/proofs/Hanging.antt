@@ -1,20 +1,12 @@
 -- What the three looks of a test of hangs show is true.
 use Rattle.std.proofs.Common.{◌≡◌, ◌≢◌, ◌⊎◌, inl, inr, ℕ, zero, suc, ◌<◌, ◌+◌, ◌++◌, Bool, true, false, ◌&&◌, ◌||◌, Some, None, Option, List, [], ◌∷◌, All, length, get_or, refl, sym, ap, ◌∙◌, subst, arith, ◌==◌, map, filter, cond}
-use Rattle.std.specs.List.{list_any, list_all, IsDistinct}
+use Rattle.diag_evidence.proofs.Vocabulary.{list_any, list_all, IsDistinct, nat_tests, get_or-map, length-map, map-append, list_any-append}
+use Rattle.diag_evidence.proofs.Vocabulary.{All-map, All-filter, All-append, Shape, Ends, ends_of, pin_wire, pins_of, crosses_of}
+use Rattle.diag_evidence.proofs.Vocabulary.{Joined-sym, Joined-trans, Configuration, is_closed, OpensFarFrom, among, other_end, WireTest}
 use Rattle.std.proofs.lemmas.Bool.{false≢true, and_parts, or_cases, or_left, or_right}
-use Rattle.std.proofs.lemmas.Bool.Decides.{nat_tests}
-use Rattle.std.proofs.lemmas.List.{get_or-map, length-map, map-append}
-use Rattle.std.proofs.lemmas.List.Folds.{list_any-append}
-use Rattle.std.proofs.lemmas.List.Elements.{All-map, All-filter, All-append}
 use native.Mathlib.Decide.{ℕ_discrete}
-use Rattle.machine_shape.specs.declared.Shape.{Shape}
-use Rattle.machine_shape.specs.Shape.{Ends, ends_of, pin_wire, pins_of, crosses_of}
 use Rattle.machine_meaning.specs.Vocabulary.{Pins, Faults, stuck_cross, Joined, Shorted, net_of}
-use Rattle.machine_meaning.proofs.JoinedLemmas.{Joined-sym, Joined-trans}
-use Rattle.machine_config.specs.Vocabulary.{Configuration, is_closed, OpensFarFrom, among}
 use Rattle.machine_config.proofs.Distance.{change_at_a_distance}
-use Rattle.diag_tests.specs.Routes.{other_end}
-use Rattle.diag_evidence.specs.declared.hangs.WireTest.{WireTest}
 use Rattle.diag_evidence.specs.Vocabulary.{Kept, HoldsFor, Trees, HangsOn, is_laid, IsForest, KeepsForest, KnowsForest, IsLook, differ, parts, read_under, Foot, IsFoot, AreHangs, over_of, turned, overs, others, all_feet, closes, pin_at, pin_p, pin_q, feet_crosses, others_part_from, is_shown, shown, seen_on}
 use Rattle.diag_evidence.proofs.KeptLemmas.{GainHoldsFor}
 use Rattle.diag_evidence.proofs.Rows.{differ_so}

@@ -1,21 +1,14 @@
 -- That wires join the set, as three looks show it, is true.
 use Rattle.std.proofs.Common.{◌≡◌, ◌≢◌, ◌⊎◌, inl, inr, ℕ, ◌<◌, ◌+◌, Bool, true, false, not, ◌&&◌, ◌||◌, Some, None, Option, List, All, length, get_or, refl, sym, ap, ◌∙◌, subst, arith, ◌==◌, map, is_some}
-use Rattle.std.specs.List.{list_any, list_all, range_with_len, IsDistinct}
-use Rattle.std.proofs.lemmas.Bool.{false≢true, and_parts, or_right}
-use Rattle.std.proofs.lemmas.Bool.Decides.{nat_tests}
+use Rattle.diag_evidence.proofs.Vocabulary.{list_any, list_all, range_with_len, IsDistinct, false≢true, and_parts, or_right, nat_tests}
+use Rattle.diag_evidence.proofs.Vocabulary.{pin_wire, pins_of, Joined-sym, is_closed, among, other_end, WireTest, has_number}
 use Rattle.std.proofs.lemmas.List.{get_or-map, length-map, length-append, get_or_append_left, get_or-append-add}
 use native.Mathlib.Decide.{ℕ_discrete}
-use Rattle.machine_shape.specs.Shape.{pin_wire, pins_of}
 use Rattle.machine_meaning.specs.Vocabulary.{Pins, Faults, stuck_cross, Joined, Shorted, net_of}
-use Rattle.machine_meaning.proofs.JoinedLemmas.{Joined-sym}
-use Rattle.machine_config.specs.Vocabulary.{is_closed, among}
-use Rattle.diag_tests.specs.Routes.{other_end}
-use Rattle.diag_evidence.specs.declared.hangs.WireTest.{WireTest}
 use Rattle.diag_evidence.specs.Vocabulary.{Kept, is_apart, HoldsFor, Gains, Trees, HangsOn, pin_of, is_hung, is_laid, IsForest, KeepsForest, IsLook, parts, swings, Foot, IsFoot, AreHangs, over_of, turned, overs, others, all_feet, closes, pin_at, pin_p, pin_q, feet_crosses, is_shown, shown, seen_on, parts_from_hung, all_hang, joins, joined_by}
 use Rattle.diag_evidence.proofs.Found.{IsSome_of, some_of}
 use Rattle.diag_evidence.proofs.Growing.{hung_by}
 use Rattle.diag_evidence.proofs.Rows.{of_every}
-use Rattle.base_bits.specs.Numbers.{has_number}
 use Rattle.diag_evidence.proofs.KeptLemmas.{GainHoldsFor, holds_by_gain, has_apart, gains_apart}
 use Rattle.diag_evidence.proofs.Seeing.{g, standing, standing_on, foot_inside, pin_inside, part_unshorted, all_hang_so}
 use Rattle.diag_evidence.proofs.Unfitting.{one_place, root_hangs}

@@ -1,10 +1,7 @@
 -- What stays as more is kept.
 use Rattle.std.proofs.Common.{◌≡◌, ◌≢◌, ◌⊎◌, inl, inr, ◌<◌, ◌+◌, ◌*◌, ℕ, Bool, true, false, not, ◌&&◌, ◌||◌, Some, None, Option, List, length, refl, sym, ap, ◌∙◌, subst, arith, ◌==◌, nat_lt, slice_set, unwrap_or}
-use Rattle.std.proofs.lemmas.Bool.{false≢true, and_parts, or_cases, or_right}
-use Rattle.std.proofs.lemmas.Bool.Decides.{nat_tests}
-use Rattle.base_bits.specs.Numbers.{has_number}
+use Rattle.diag_evidence.proofs.Vocabulary.{false≢true, and_parts, or_cases, or_right, nat_tests, has_number, RigState}
 use Rattle.machine_meaning.specs.Vocabulary.{IsClear, Shorted, Faults, stuck_cross, wrong_cell, stuck_register}
-use Rattle.rig.specs.Rig.{RigState}
 use Rattle.diag_evidence.specs.Kept.{Kept, keeps_cross, keeps_wire, is_apart, on_trial, in_row, keeps_pair, keeps_cell, keeps_register, untried, HoldsFor, HoldsUntried, KeepsNothing, IsMore, Gain, Gains, KeepsTrial, Advances, AdvancesButPairs, IsButPairs, IsMoreButPairs, CanSettle, HasSettled, HasRetaken, with_trial}
 use Rattle.diag_evidence.proofs.KeptLemmas.{more_itself, IsPair, of_set, of_row, of_other, pair_of, pair_is, pair_differs, pair_apart, has_apart, mark_set, tried_is, tried_only, tried_none, same_trial, no_mark}
 

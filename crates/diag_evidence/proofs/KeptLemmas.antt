@@ -1,18 +1,9 @@
 -- What is kept after a gain.
 use Rattle.std.proofs.Common.{◌≡◌, ◌≢◌, ◌<◌, ◌≤◌, ◌+◌, ◌*◌, ℕ, Bool, true, false, not, ◌&&◌, inl, inr, ◌⊎◌, Some, None, Option, List, [], ◌∷◌, length, get_or, set, take, replicate, refl, sym, ap, ◌∙◌, subst, arith, ◌==◌, ◌||◌, nat_lt, slice_set, slice_get}
-use Rattle.std.proofs.lemmas.Option.{gets}
-use Rattle.std.proofs.lemmas.List.Folds.{list_any_more}
+use Rattle.diag_evidence.proofs.Vocabulary.{gets, list_any_more, nat_tests, option_map_or, and_parts, false≢true, has_number, Shape}
+use Rattle.diag_evidence.proofs.Vocabulary.{tables_of, Faults, stuck_cross, wrong_cell, stuck_register, Shorted, IsClear, among, Joined-sym}
 use native.Mathlib.Decide.{dec_lt}
-use Rattle.std.proofs.lemmas.Bool.Decides.{nat_tests}
 use Rattle.std.proofs.lemmas.List.{get_or-set_same, get_or-set_other, get_or-replicate, get_or_past, length-replicate}
-use Rattle.std.specs.Option.{option_map_or}
-use Rattle.std.proofs.lemmas.Bool.{and_parts, false≢true}
-use Rattle.base_bits.specs.Numbers.{has_number}
-use Rattle.machine_shape.specs.declared.Shape.{Shape}
-use Rattle.machine_shape.specs.Shape.{tables_of}
-use Rattle.machine_meaning.specs.Vocabulary.{Faults, stuck_cross, wrong_cell, stuck_register, Shorted, IsClear}
-use Rattle.machine_config.specs.Groups.{among}
-use Rattle.machine_meaning.proofs.JoinedLemmas.{Joined-sym}
 use Rattle.diag_evidence.specs.Kept.{Kept, keeps_cross, keeps_wire, is_apart, on_trial, in_row, keeps_pair, keeps_cell, keeps_register, HoldsFor, IsMore, KeepsNothing, Gain, one_cross, these_wires, row_over, one_cell, one_register, nothing, Gains}
 
 -- a mark that is set

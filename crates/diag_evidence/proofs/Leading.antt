@@ -1,14 +1,8 @@
 -- Lists of walks, and a walk that is cut.
 use Rattle.std.proofs.Common.{◌≡◌, ◌≢◌, ◌⊎◌, inl, inr, ℕ, zero, suc, ◌<◌, Bool, true, false, not, Some, None, Option, List, [], ◌∷◌, ◌++◌, length, get_or, refl, sym, ap, ◌∙◌, subst, arith, ◌==◌, flat_map, if◌then◌else◌}
-use Rattle.std.specs.List.{AllByRecursion, IsDistinct}
-use Rattle.std.proofs.lemmas.Bool.{false≢true, or_cases, or_left, or_right}
-use Rattle.std.proofs.lemmas.Bool.Decides.{nat_tests}
-use Rattle.std.proofs.lemmas.List.Folds.{list_any-append}
+use Rattle.diag_evidence.proofs.Vocabulary.{AllByRecursion, IsDistinct, false≢true, or_cases, or_left, or_right, nat_tests, list_any-append}
+use Rattle.diag_evidence.proofs.Vocabulary.{Shape, Configuration, is_closed, with_open, among, LeadsTo, ends, goes, is_closed-open, Lead}
 use native.Mathlib.Decide.{ℕ_discrete, dec_lt}
-use Rattle.machine_shape.specs.declared.Shape.{Shape}
-use Rattle.machine_config.specs.Vocabulary.{Configuration, is_closed, with_open, among, LeadsTo, ends, goes}
-use Rattle.machine_config.proofs.Changes.{is_closed-open}
-use Rattle.diag_evidence.specs.declared.leads.Lead.{Lead}
 
 pub first_or_more : (y x : ℕ) (xs : List ℕ) → among (y ∷ xs) x ≡ true → (y ≡ x) ⊎ (among xs x ≡ true)
 first_or_more y x xs is = by (ℕ_discrete y x)

@@ -1,11 +1,7 @@
 -- What walks gain and mark, one walk after the other, and that it is true.
 use Rattle.std.proofs.Common.{◌≡◌, ◌≢◌, ◌⊎◌, inl, inr, ℕ, ◌<◌, ◌+◌, Bool, true, false, not, ◌&&◌, ◌||◌, Some, None, Option, List, [], ◌∷◌, length, get_or, take, refl, sym, ap, ◌∙◌, subst, arith, ◌==◌, slice_set}
 use Rattle.std.proofs.lemmas.Bool.{false≢true, and_parts, or_cases}
-use Rattle.std.proofs.lemmas.List.Folds.{list_any_more}
-use Rattle.base_bits.specs.Numbers.{has_number}
-use Rattle.machine_meaning.specs.Vocabulary.{Pins, Faults, stuck_cross}
-use Rattle.machine_config.specs.Vocabulary.{among}
-use Rattle.diag_evidence.specs.declared.leads.Lead.{Lead}
+use Rattle.diag_evidence.proofs.Vocabulary.{list_any_more, has_number, Pins, Faults, stuck_cross, among, Lead}
 use Rattle.diag_evidence.specs.Vocabulary.{Kept, Gains, HoldsFor, keeps_cross, Trees, IsForest, IsLook, parts, BranchFrom, KnowsLeads, MarksStuck, StuckIf, arrives, closes_along, crosses_along, led_over, held_up_at, is_only_unkept, these_crosses}
 use Rattle.diag_evidence.proofs.KeptLemmas.{GainHoldsFor, held_before, mark_set, or_swapped}
 use Rattle.diag_evidence.proofs.Found.{IsSome_of, some_of}

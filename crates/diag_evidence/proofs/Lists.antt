@@ -1,16 +1,9 @@
 -- What is closed by lists makes groups and loops.
 use Rattle.std.proofs.Common.{◌≡◌, ◌≢◌, ◌⊎◌, ℕ, Bool, true, false, None, Option, List, [], ◌∷◌, ◌++◌, refl, sym, ◌∙◌, subst, inl, inr, arith, ◌||◌, ◌==◌, if◌then◌else◌}
-use Rattle.std.specs.List.{AllByRecursion}
-use Rattle.std.proofs.lemmas.Bool.{false≢true}
-use Rattle.std.proofs.lemmas.Bool.Decides.{nat_tests}
-use Rattle.machine_shape.specs.declared.Shape.{Shape}
+use Rattle.diag_evidence.proofs.Vocabulary.{AllByRecursion, false≢true, nat_tests, Shape, Pins, Faults, stuck_cross, here, is_closed-open}
+use Rattle.diag_evidence.proofs.Vocabulary.{LeadsTo-within, LeadsTo-start, LeadsTo-then, closed_before, driven_in}
 use Rattle.machine_shape.specs.Shape.{Ends, in_order, turned, ends_of, pin_wire}
-use Rattle.machine_meaning.specs.Vocabulary.{Pins, Faults, stuck_cross, here}
 use Rattle.machine_config.specs.Vocabulary.{among, IsWithin, AreGroups, LeadsTo, Configuration, is_closed, with_open, IsLed, IsLoop, IsDrivenAlone, AreReleased}
-use Rattle.machine_config.proofs.Changes.{is_closed-open}
-use Rattle.machine_config.proofs.Grouped.{LeadsTo-within, LeadsTo-start, LeadsTo-then}
-use Rattle.machine_config.proofs.Loops.{closed_before}
-use Rattle.machine_config.proofs.Passing.{driven_in}
 use Rattle.diag_tests.specs.Vocabulary.{Walk, IsRoute, IsLoopConfig, is_laid}
 use Rattle.diag_evidence.specs.Vocabulary.{Kept, keeps_cross, CrossPasses, SwingPasses, AreTied, IsLoopBy, LoopPasses, RoutePasses}
 use Rattle.diag_evidence.proofs.Keeping.{untried_crosses}

@@ -1,12 +1,8 @@
 -- What new sessions of the log show.
 use Rattle.std.proofs.Common.{◌≡◌, ◌≢◌, ℕ, Bool, true, false, Some, None, Option, List, [], ◌∷◌, ◌++◌, get_or, refl, sym, ap, ◌∙◌, All, append_assoc}
 use Rattle.std.specs.Prelude.{◌↔◌, IsTrue, option_map}
-use Rattle.std.specs.Option.{option_map_or}
-use Rattle.std.proofs.lemmas.Bool.{false≢true}
-use Rattle.machine_meaning.specs.Vocabulary.{Pins}
-use Rattle.machine_config.specs.Vocabulary.{Configuration}
+use Rattle.diag_evidence.proofs.Vocabulary.{option_map_or, false≢true, Pins, Configuration, Walk}
 use Rattle.rig.specs.Rig.{RigState, Session, Past, Exchange, Begins, GoesOn, GoesOnBy, log_of, standing}
-use Rattle.diag_tests.specs.Routes.{Walk}
 use Rattle.diag_evidence.specs.Logged.{one_cycle, two_cycles, HasLogged, LogsBit, LogsRows, LogsTwice, ShowsApart, ShowsSwing, ShowsFromAll}
 
 -- a session with this configuration and these cycles

@@ -1,10 +1,7 @@
 -- Marks are true.
 use Rattle.std.proofs.Common.{◌≡◌, ◌⊎◌, inl, inr, ℕ, ◌<◌, Bool, true, false, ◌&&◌, ◌||◌, Some, Option, List, All, length, get_or, refl, sym, ap, ◌∙◌, subst, arith, ◌==◌, map}
-use Rattle.std.specs.List.{IsDistinct, list_any}
+use Rattle.diag_evidence.proofs.Vocabulary.{IsDistinct, list_any, nat_tests, Pins, Faults, Shorted, IsClear, IsAlone, has_number}
 use Rattle.std.proofs.lemmas.Bool.{false≢true, and_parts, or_cases, or_right}
-use Rattle.std.proofs.lemmas.Bool.Decides.{nat_tests}
-use Rattle.machine_meaning.specs.Vocabulary.{Pins, Faults, Shorted, IsClear, IsAlone}
-use Rattle.base_bits.specs.Numbers.{has_number}
 use Rattle.diag_evidence.specs.Vocabulary.{Kept, HoldsFor, IsMore, Trees, IsForest, KnowsForest, is_hung, IsLook, Foot, IsFoot, closes, pin_at, others_part, reads_oddly, reads_alike, shows_unfit, shows_unclear, is_unfit_in, is_unclear_in, MarksUnfit, MarksUnclear, UnfitIf, UnclearIf, AreAllOf, StayMarked, HasMarked}
 use Rattle.diag_evidence.proofs.Found.{IsSome_of, some_of}
 use Rattle.diag_evidence.proofs.Unfitting.{not_odd, not_alike}

@@ -1,9 +1,6 @@
 -- Marks set one after the other.
 use Rattle.std.proofs.Common.{◌≡◌, ℕ, ◌<◌, ◌+◌, Bool, true, false, ◌&&◌, ◌||◌, List, length, get_or, set, take, refl, sym, ap, ◌∙◌, ◌==◌}
-use Rattle.std.specs.List.{list_any, range_with_len}
-use Rattle.std.proofs.lemmas.List.Folds.{list_any_more}
-use Rattle.base_bits.specs.Numbers.{has_number}
-use Rattle.machine_config.specs.Groups.{among}
+use Rattle.diag_evidence.proofs.Vocabulary.{list_any, range_with_len, list_any_more, has_number, among}
 use Rattle.diag_evidence.proofs.KeptLemmas.{mark_set}
 use Rattle.diag_evidence.proofs.Rows.{any_number}
 

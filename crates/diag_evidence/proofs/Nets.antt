@@ -1,18 +1,11 @@
 -- Wires that hang on pins: what each is joined to, and what it reads while tables that are latched hang on them.
 use Rattle.std.proofs.Common.{◌≡◌, ◌≢◌, ℕ, zero, suc, ◌<◌, Bool, true, false, not, Some, None, Option, List, [], ◌∷◌, length, get_or, refl, sym, ap, ◌∙◌, subst, inl, inr, ◌⊎◌, arith, ◌==◌, if◌then◌else◌, unwrap_or, map}
-use Rattle.std.specs.List.{range_with_len}
-use Rattle.std.proofs.lemmas.Bool.{false≢true}
-use Rattle.std.proofs.lemmas.Bool.Decides.{nat_tests}
+use Rattle.diag_evidence.proofs.Vocabulary.{range_with_len, false≢true, nat_tests, ends_of, pin_wire, table_wire, pins_of, Joined-sym}
+use Rattle.diag_evidence.proofs.Vocabulary.{Setting, left_unstuck, left_apart, low_value, high_value, pin_value}
 use native.Mathlib.Decide.{ℕ_discrete}
-use Rattle.machine_shape.specs.Shape.{ends_of, pin_wire, table_wire, pins_of}
 use Rattle.machine_meaning.specs.Vocabulary.{Faults, stuck_wire, stuck_register, wrong_cell, Joined, Shorted, net_of, IsClear, Circuit, Table, Outputs, Pins, Pulls, by_pin, by_table, IsValue, IsPulled, AreValues}
-use Rattle.machine_meaning.proofs.JoinedLemmas.{Joined-sym}
 use Rattle.machine_meaning.proofs.Values.{IsValue-unique}
-use Rattle.machine_config.specs.declared.Setting.{Setting}
 use Rattle.machine_config.specs.Vocabulary.{Configuration, is_closed, setting_of, cell_of, circuit_of, table_of, table_or_off, held_by, IsRun, IsWithin, AreGroups, Ticks, unticked, tick, Cycle, Cycles, none, cycle, tick_output, edge_output, first_output, number_of, address_at}
-use Rattle.machine_config.proofs.Grouped.{left_unstuck, left_apart}
-use Rattle.machine_config.proofs.Passing.{low_value, high_value}
-use Rattle.machine_config.proofs.Readings.{pin_value}
 
 abbrev hangs_at : Option ℕ → ℕ → Bool
 hangs_at None p = false

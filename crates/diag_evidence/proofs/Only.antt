@@ -1,15 +1,9 @@
 -- The only crosspoint of a walk that isn't kept, and what walks gain one after the other.
 use Rattle.std.proofs.Common.{◌≡◌, ◌≢◌, ◌⊎◌, inl, inr, ℕ, zero, suc, ◌<◌, ◌+◌, Bool, true, false, not, ◌&&◌, ◌||◌, Some, None, Option, List, [], ◌∷◌, length, get_or, take, refl, sym, ap, ◌∙◌, subst, arith, ◌==◌, slice_get, IfSome}
-use Rattle.machine_shape.specs.declared.Cross.{Cross}
-use Rattle.std.specs.List.{list_any, list_all}
+use Rattle.diag_evidence.proofs.Vocabulary.{Cross, list_any, list_all, false≢true, and_parts, or_cases, nat_tests, list_any_more, gets}
+use Rattle.diag_evidence.proofs.Vocabulary.{among, Kept, Gains, nothing, one_cross, keeps_cross, is_only_unkept, these_crosses}
 use Rattle.std.proofs.Math.Bool.{or_comm}
-use Rattle.std.proofs.lemmas.Bool.{false≢true, and_parts, or_cases}
-use Rattle.std.proofs.lemmas.Bool.Decides.{nat_tests}
-use Rattle.std.proofs.lemmas.List.Folds.{list_any_more}
-use Rattle.std.proofs.lemmas.Option.{gets}
 use native.Mathlib.Decide.{ℕ_discrete}
-use Rattle.machine_config.specs.Groups.{among}
-use Rattle.diag_evidence.specs.Vocabulary.{Kept, Gains, nothing, one_cross, keeps_cross, is_only_unkept, these_crosses}
 use Rattle.diag_evidence.proofs.Leading.{first_or_more}
 
 -- in words: it is among them, isn't kept, and each other one is

@@ -1,9 +1,6 @@
 -- Which pins are behind a walk of an ordered list: that of its last wire, and those at which later walks end that begin at one of them.
 use Rattle.std.proofs.Common.{◌≡◌, ◌≢◌, ℕ, zero, suc, ◌<◌, Bool, true, false, List, [], ◌∷◌, length, get_or, refl, sym, ◌∙◌, arith, ◌==◌, if◌then◌else◌}
-use Rattle.std.proofs.lemmas.Bool.{or_parts}
-use Rattle.std.proofs.lemmas.Bool.Decides.{nat_tests}
-use Rattle.diag_evidence.specs.declared.leads.Lead.{Lead}
-use Rattle.diag_evidence.specs.Vocabulary.{ends_on}
+use Rattle.diag_evidence.proofs.Vocabulary.{or_parts, nat_tests, Lead, ends_on}
 
 -- no walk ends at the pin of its first wire, or at one at which an earlier walk begins or ends
 pub record IsOrdered (ls : List Lead) : Type 0 where

@@ -1,13 +1,9 @@
 -- The net of a forest that is closed.
-use Rattle.std.proofs.Common.{◌≡◌, ℕ, ◌<◌, true, Some, List, ◌∷◌, sym, ap, ◌∙◌, subst, arith}
-use Rattle.std.proofs.lemmas.Bool.Decides.{nat_tests}
+use Rattle.diag_evidence.proofs.Vocabulary.{◌≡◌, ℕ, ◌<◌, true, Some, List, ◌∷◌, sym, ap, ◌∙◌, subst, arith, nat_tests, IsClear, Faults}
+use Rattle.diag_evidence.proofs.Vocabulary.{stuck_cross, here, Shorted, Joined-sym, Configuration, is_closed, among, LeadsTo, ends, goes}
+use Rattle.diag_evidence.proofs.Vocabulary.{LeadsTo-end, conducting, Trees, IsForest, IsOfTree, KnowsForest, is_laid, pin_of, Kept}
+use Rattle.diag_evidence.proofs.Vocabulary.{HoldsFor}
 use Rattle.machine_shape.specs.Shape.{Ends, in_order, turned, ends_of, pin_wire, pins_of}
-use Rattle.machine_meaning.specs.Vocabulary.{IsClear, Faults, stuck_cross, here, Shorted}
-use Rattle.machine_meaning.proofs.JoinedLemmas.{Joined-sym}
-use Rattle.machine_config.specs.Vocabulary.{Configuration, is_closed, among, LeadsTo, ends, goes}
-use Rattle.machine_config.proofs.Grouped.{LeadsTo-end}
-use Rattle.machine_config.proofs.Readings.{conducting}
-use Rattle.diag_evidence.specs.Vocabulary.{Trees, IsForest, IsOfTree, KnowsForest, is_laid, pin_of, Kept, HoldsFor}
 use Rattle.diag_evidence.proofs.Advancing.{joined_along}
 use Rattle.diag_evidence.proofs.Nets.{IsNet}
 

@@ -1,12 +1,6 @@
 -- What two loads of a sheet show.
 use Rattle.std.proofs.Common.{◌≡◌, ℕ, Bool, true, not, ◌&&◌, ◌||◌, Some, Option, List, [], ◌∷◌, sym, ap, ◌∙◌, subst}
-use Rattle.base_bits.specs.Numbers.{has_number}
-use Rattle.machine_shape.specs.declared.Table.{Table}
-use Rattle.machine_meaning.specs.Faults.{Faults}
-use Rattle.machine_meaning.specs.Circuit.{Pins}
-use Rattle.machine_config.specs.Configuration.{Configuration}
-use Rattle.machine_config.specs.declared.Setting.{Setting}
-use Rattle.rig.specs.Rig.{RigState, Past, log_of}
+use Rattle.diag_evidence.proofs.Vocabulary.{has_number, Table, Faults, Pins, Configuration, Setting, RigState, Past, log_of}
 use Rattle.diag_evidence.specs.declared.sheets.Sheet.{Sheet}
 use Rattle.diag_evidence.specs.Vocabulary.{HasCycled, Trees, KnowsForest, Kept, Gains, HoldsFor, IsReadyFor, IsReadTwice, LogsSheet, ShowsTabled, AreOpposite, AreTablesOn, HasTabled, IsTableConfig, IsTableLoad, MarksWrong, WrongIf, is_one_of, is_right_before, output_pin, right_parts}
 use Rattle.diag_evidence.proofs.KeptLemmas.{GainHoldsFor}

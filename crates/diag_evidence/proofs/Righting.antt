@@ -1,11 +1,7 @@
 -- What is kept and marked of tables, one after the other.
 use Rattle.std.proofs.Common.{◌≡◌, ℕ, zero, suc, ◌<◌, ◌+◌, Bool, true, false, not, ◌&&◌, ◌||◌, Some, List, length, take, refl, sym, ap, ◌∙◌, subst, arith, ◌==◌, nat_lt, slice_get, slice_set}
-use Rattle.std.proofs.lemmas.Bool.Decides.{nat_tests}
+use Rattle.diag_evidence.proofs.Vocabulary.{nat_tests, has_number, Table, Pins, Setting}
 use native.Mathlib.Decide.{ℕ_discrete}
-use Rattle.base_bits.specs.Numbers.{has_number}
-use Rattle.machine_shape.specs.declared.Table.{Table}
-use Rattle.machine_meaning.specs.Circuit.{Pins}
-use Rattle.machine_config.specs.declared.Setting.{Setting}
 use Rattle.diag_evidence.specs.Vocabulary.{Trees, Kept, Gain, Gains, nothing, one_register, keeps_cross, keeps_wire, is_apart, in_row, keeps_cell, keeps_register, right_cells, is_one_of, is_right_before, is_right_in, output_pin, right_parts}
 use Rattle.diag_evidence.proofs.KeptLemmas.{mark_set}
 use Rattle.diag_evidence.proofs.Settings.{one_more}

@@ -2,15 +2,11 @@
 use Rattle.std.proofs.Common.{◌≡◌, ◌≢◌, ℕ, zero, suc, ◌<◌, ◌+◌, ◌++◌, ◌∷◌, All, Bool, true, false, not, Some, List, [], length, get_or, set, take, drop, refl, sym, ap, ◌∙◌, subst, arith, slice_get, ◌||◌, ◌&&◌, map}
 use native.Mathlib.Decide.{ℕ_discrete}
 use mathlib.Core.Bool.{beq}
-use Rattle.std.specs.List.{list_any, list_all, range_with_len}
-use Rattle.std.proofs.lemmas.Bool.{false≢true}
+use Rattle.diag_evidence.proofs.Vocabulary.{list_any, list_all, range_with_len, false≢true, gets, All-map, Pins}
 use Rattle.std.proofs.lemmas.List.Folds.{list_any_more, list_any_at, list_any-append, list_all_more, list_all_at, list_all-append}
-use Rattle.std.proofs.lemmas.Option.{gets}
 use Rattle.std.proofs.lemmas.List.{append-nil, take_all, length-map, length-replicate, length-set, get_or-map}
 use Rattle.std.proofs.lemmas.List.FromFn.{length-range_with_len, length-map-range_with_len, map-range_with_len_more, get_or-range_with_len}
-use Rattle.std.proofs.lemmas.List.Elements.{All-map}
 use Rattle.std.proofs.Math.ListN.{drop_of_length-le}
-use Rattle.machine_meaning.specs.Circuit.{Pins}
 use Rattle.diag_evidence.specs.Looks.{differ, look_drives, none_driven, one_driven, parts}
 use Rattle.diag_evidence.proofs.Found.{IsSome_of, some_of}
 

@@ -1,26 +1,15 @@
 -- What a look shows is true.
 use Rattle.std.proofs.Common.{◌≡◌, ◌≢◌, ◌⊎◌, inl, inr, ℕ, zero, suc, ◌<◌, ◌+◌, Bool, true, false, not, ◌&&◌, ◌||◌, Some, None, Option, List, [], ◌∷◌, All, length, get_or, refl, sym, ap, ◌∙◌, subst, arith, ◌==◌, slice_get, map}
-use Rattle.std.specs.List.{list_any, list_all, range_with_len}
-use Rattle.std.specs.Option.{option_map_or}
-use Rattle.std.proofs.lemmas.Bool.{false≢true, and_parts, or_left, or_right}
-use Rattle.std.proofs.lemmas.Bool.Decides.{nat_tests}
+use Rattle.diag_evidence.proofs.Vocabulary.{list_any, list_all, range_with_len, option_map_or, false≢true, and_parts, or_left, or_right}
+use Rattle.diag_evidence.proofs.Vocabulary.{nat_tests, slice_get-get_or, Shape, get_or_past, has_number, Ends, ends_of, pin_wire, pins_of}
+use Rattle.diag_evidence.proofs.Vocabulary.{wires_of, Joined-sym, Joined-trans, Joined-Shorted, Ends-swap, LeadsTo-end, conducting}
+use Rattle.diag_evidence.proofs.Vocabulary.{pin_value, reads_apart, Cycles-length, RigState, other_end}
 use Rattle.std.proofs.lemmas.List.FromFn.{get_or-map-range_with_len}
-use Rattle.std.proofs.lemmas.Option.{slice_get-get_or}
-use Rattle.machine_shape.specs.declared.Shape.{Shape}
 use native.Mathlib.Decide.{dec_lt}
-use Rattle.std.proofs.lemmas.List.{get_or_past}
-use Rattle.base_bits.specs.Numbers.{has_number}
-use Rattle.machine_shape.specs.Shape.{Ends, ends_of, pin_wire, pins_of, wires_of}
 use Rattle.machine_meaning.specs.Vocabulary.{Circuit, Pins, Outputs, IsValue, IsHeld, Faults, stuck_cross, stuck_wire, Net, Joined, here, then, crossed, Shorted, net_of, IsClear}
-use Rattle.machine_meaning.proofs.JoinedLemmas.{Joined-sym, Joined-trans, Joined-Shorted, Ends-swap}
 use Rattle.machine_meaning.proofs.Values.{swings as two_values}
 use Rattle.machine_config.specs.Vocabulary.{Configuration, is_closed, circuit_of, IsRun, among, Runs, Cycles, none, cycle, at_load, LeadsTo}
 use Rattle.machine_config.proofs.Distance.{cycles_alike}
-use Rattle.machine_config.proofs.Grouped.{LeadsTo-end}
-use Rattle.machine_config.proofs.Readings.{conducting, pin_value, reads_apart}
-use Rattle.machine_config.proofs.Runs.{Cycles-length}
-use Rattle.rig.specs.Rig.{RigState}
-use Rattle.diag_tests.specs.Routes.{other_end}
 use Rattle.diag_evidence.specs.Vocabulary.{Kept, is_apart, HoldsFor, Gain, Trees, HangsOn, pin_of, is_hung, is_laid, IsForest, KeepsForest, IsLook, LogsLook, look_drives, one_driven, none_driven, differ, parts, swings, reads_somewhere, hangs_swinging, parts_from_others, joins_alone, read_at, seen_in, Foot, IsFoot, closes, pin_at, feet_crosses, seen_on, is_swinging_on, all_hang}
 use Rattle.diag_evidence.proofs.Advancing.{joined_along}
 use Rattle.diag_evidence.proofs.Found.{IsSome_of, some_of}

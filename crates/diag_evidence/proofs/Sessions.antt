@@ -1,10 +1,6 @@
 -- The readings of a session.
 use Rattle.std.proofs.Common.{◌≡◌, ℕ, Bool, true, Some, List, [], ◌∷◌, ◌++◌, get_or, ap, ◌∙◌, subst, arith, Result, Ok, Err, OnOk, slice_get}
-use Rattle.std.proofs.lemmas.Option.{gets}
-use Rattle.machine_meaning.specs.Vocabulary.{Pins, Faults}
-use Rattle.machine_config.specs.Vocabulary.{Configuration, IsRun}
-use Rattle.diag_evidence.specs.Readings.{HasCycled, ReadsOnce}
-use Rattle.diag_evidence.specs.Looks.{ReadsEach}
+use Rattle.diag_evidence.proofs.Vocabulary.{gets, Pins, Faults, Configuration, IsRun, HasCycled, ReadsOnce, ReadsEach}
 use Rattle.rig.specs.Rig.{RigState, Exchange, Begins, GoesOn, GoesOnBy, Explains, ForEach, config_of, cycles_of, drives_of, readings_of}
 use Rattle.rig.proofs.Narrowing.{session_run}
 use Rattle.diag_evidence.proofs.Keeping.{of_told}

@@ -1,21 +1,11 @@
 -- Settings of tables, one table after the other, and what they are in a load.
 use Rattle.std.proofs.Common.{◌≡◌, ◌≢◌, ◌⊎◌, inl, inr, ℕ, ◌<◌, ◌≤◌, ◌+◌, ◌%◌, Bool, true, false, not, ◌||◌, Some, None, Option, List, length, get_or, take, set, refl, sym, ap, ◌∙◌, subst, arith, ◌==◌, bit_xor, All, slice_get, slice_set, replicate}
-use Rattle.std.specs.Int.{bit_at}
-use Rattle.std.specs.Ordering.{nat_cmp}
-use Rattle.std.specs.FinSet.{contains-empty}
-use Rattle.std.proofs.lemmas.Bool.{false≢true, or_cases}
-use Rattle.std.proofs.lemmas.Bool.Decides.{nat_tests}
+use Rattle.diag_evidence.proofs.Vocabulary.{bit_at, nat_cmp, contains-empty, false≢true, or_cases, nat_tests, list_any_more, list_any_at}
+use Rattle.diag_evidence.proofs.Vocabulary.{gets, Table, tables_of, Setting, Configuration, cleared, is_closed, with_setting, Closes}
+use Rattle.diag_evidence.proofs.Vocabulary.{cross_numbers, Trees, is_laid, SwitchesOn, AreOpposite, IsTableConfig, is_one_of}
 use Rattle.std.proofs.lemmas.List.{get_or-set_same, get_or-set_other, get_or-replicate, get_or_past, length-replicate}
-use Rattle.std.proofs.lemmas.List.Folds.{list_any_more, list_any_at}
 use Rattle.std.proofs.lemmas.Nat.Bits.{bit_at_xor, bit_at_ones, bit_at-lt}
-use Rattle.std.proofs.lemmas.Option.{gets}
 use native.Mathlib.Decide.{ℕ_discrete, dec_lt}
-use Rattle.machine_shape.specs.declared.Table.{Table}
-use Rattle.machine_shape.specs.Shape.{tables_of}
-use Rattle.machine_config.specs.declared.Setting.{Setting}
-use Rattle.machine_config.specs.Configuration.{Configuration, cleared, is_closed, with_setting}
-use Rattle.diag_tests.specs.Vocabulary.{Closes, cross_numbers}
-use Rattle.diag_evidence.specs.Vocabulary.{Trees, is_laid, SwitchesOn, AreOpposite, IsTableConfig, is_one_of}
 
 turned_bit : (n : ℕ) → n < 2 → ((n + 1) % 2 == 1) ≡ not (n == 1)
 turned_bit n h = by (n == 1) refl

@@ -1,15 +1,8 @@
 -- One route against several.
 use Rattle.std.proofs.Common.{◌≡◌, ◌≢◌, ◌⊎◌, ◌<◌, ◌+◌, ℕ, zero, suc, Bool, true, false, ◌&&◌, Some, Option, List, [], ◌∷◌, ◌++◌, length, get_or, take, refl, sym, ap, ◌∙◌, subst, inl, inr, arith, ◌==◌, ◌||◌, All}
 use Rattle.std.proofs.lemmas.Bool.{false≢true, or_cases, or_left, or_right}
-use Rattle.std.proofs.lemmas.List.{take_more, flat_map_more}
-use Rattle.std.proofs.lemmas.List.Folds.{list_any-append}
-use Rattle.machine_shape.specs.Shape.{pins_of}
-use Rattle.machine_meaning.specs.Vocabulary.{Pins, Faults, Shorted}
-use Rattle.machine_config.specs.Vocabulary.{Configuration, circuit_of, IsRun, among}
-use Rattle.machine_config.proofs.Passing.{apart_passes}
-use Rattle.machine_config.proofs.Readings.{apart_separates}
-use Rattle.machine_config.proofs.Runs.{Runs-unique}
-use Rattle.diag_tests.specs.Routes.{Walk}
+use Rattle.diag_evidence.proofs.Vocabulary.{take_more, flat_map_more, list_any-append, pins_of, Pins, Faults, Shorted, Configuration}
+use Rattle.diag_evidence.proofs.Vocabulary.{circuit_of, IsRun, among, apart_passes, apart_separates, Runs-unique, Walk}
 use Rattle.diag_evidence.specs.Vocabulary.{Kept, HoldsFor, row_over, ReadsOnce, TellsFromAll, AllApartPasses, IsReady, wires_over}
 use Rattle.diag_evidence.proofs.Advancing.{ready_joined}
 use Rattle.diag_evidence.proofs.KeptLemmas.{GainHoldsFor, or_swapped, row_holds}

@@ -1,12 +1,7 @@
 -- What readings show.
 use Rattle.std.proofs.Common.{◌≡◌, ◌≢◌, ◌<◌, ℕ, Bool, true, false, Some, Option, List, [], ◌∷◌, get_or, refl, sym, ap, ◌∙◌}
-use Rattle.std.proofs.lemmas.Bool.{false≢true}
-use Rattle.machine_meaning.specs.Vocabulary.{Pins, Faults}
+use Rattle.diag_evidence.proofs.Vocabulary.{false≢true, Pins, Faults, Runs-unique, loop_toggles, swing_passes, pins_of}
 use Rattle.machine_config.specs.Vocabulary.{Configuration, with_open, circuit_of, IsRun}
-use Rattle.machine_config.proofs.Runs.{Runs-unique}
-use Rattle.machine_config.proofs.Loops.{loop_toggles}
-use Rattle.machine_config.proofs.Passing.{swing_passes}
-use Rattle.machine_shape.specs.Shape.{pins_of}
 use Rattle.diag_evidence.specs.Readings.{Reads, ReadsTwice, TellsApart, TellsSwing, CrossPasses, SwingPasses}
 
 first_of : {r q : Pins} {rs qs : List Pins} → ◌≡◌ {A = List Pins} (r ∷ rs) (q ∷ qs) → r ≡ q

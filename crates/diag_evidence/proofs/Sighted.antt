@@ -1,8 +1,5 @@
 -- What is seen of wires that hang.
-use Rattle.std.proofs.Common.{◌≡◌, ℕ, Bool, ◌||◌, List, refl}
-use Rattle.base_bits.specs.Numbers.{has_number}
-use Rattle.machine_config.specs.Groups.{among}
-use Rattle.machine_meaning.specs.Circuit.{Pins}
+use Rattle.diag_evidence.proofs.Vocabulary.{◌≡◌, ℕ, Bool, ◌||◌, List, refl, has_number, among, Pins}
 use Rattle.diag_evidence.specs.Vocabulary.{Trees, Kept, Gains, keeps_cross, keeps_wire, is_apart, in_row, keeps_cell, keeps_register, hangs_swinging, seen_in, Foot, feet_crosses, seen_on, is_swinging_on}
 
 -- marks in place are gains

@@ -1,14 +1,9 @@
 -- What is closed by lists makes tests of tables.
 use Rattle.std.proofs.Common.{◌≡◌, ◌⊎◌, ℕ, Bool, true, false, Some, None, Option, List, refl, sym, ◌∙◌, subst, inl, inr}
-use Rattle.machine_shape.specs.declared.Shape.{Shape}
-use Rattle.machine_shape.specs.Shape.{pin_wire, table_wire}
+use Rattle.diag_evidence.proofs.Vocabulary.{Shape, pin_wire, table_wire, Joined-sym, Setting, LeadsTo-within, LeadsTo-start, LeadsTo-end}
+use Rattle.diag_evidence.proofs.Vocabulary.{conducting, Walk, IsRoute, IsCellConfig, cell_setting}
 use Rattle.machine_meaning.specs.Vocabulary.{Pins, Faults, stuck_cross, stuck_register, Joined, here, net_of}
-use Rattle.machine_meaning.proofs.JoinedLemmas.{Joined-sym}
 use Rattle.machine_config.specs.Vocabulary.{among, IsWithin, AreGroups, Configuration, is_closed, with_setting, IsCellTest, IsDrivenAlone, IsLoose, IsRegisterTest}
-use Rattle.machine_config.specs.declared.Setting.{Setting}
-use Rattle.machine_config.proofs.Grouped.{LeadsTo-within, LeadsTo-start, LeadsTo-end}
-use Rattle.machine_config.proofs.Readings.{conducting}
-use Rattle.diag_tests.specs.Vocabulary.{Walk, IsRoute, IsCellConfig, cell_setting}
 use Rattle.diag_evidence.specs.Vocabulary.{Kept, keeps_cross, CellPasses, RegisterPasses, IsTied, IsTableBy, IsCellBy, CellPassesBy, RegisterPassesBy}
 use Rattle.diag_evidence.proofs.Advancing.{joined_along}
 use Rattle.diag_evidence.proofs.Keeping.{untried_crosses}

@@ -2,14 +2,11 @@
 use Rattle.std.proofs.Common.{◌≡◌, ◌≢◌, ◌<◌, ◌≤◌, ℕ, Bool, true, false, Some, None, Option, length, set, sym, ap, ◌∙◌, subst, arith, if◌then◌else◌, unwrap_or}
 use Rattle.std.proofs.lemmas.List.{get_or-set_same, get_or-set_other, get_or_past, set-set, set-get_or}
 use native.Mathlib.Decide.{dec_lt}
-use Rattle.machine_shape.specs.Shape.{pins_of}
-use Rattle.machine_meaning.specs.Vocabulary.{Pins, Faults}
-use Rattle.machine_config.specs.declared.Setting.{Setting}
+use Rattle.diag_evidence.proofs.Vocabulary.{pins_of, Pins, Faults, Setting, Reads, CellPasses, RegisterPasses}
 use Rattle.machine_config.specs.Vocabulary.{Configuration, setting_of, with_setting, cell_of, with_cell, with_init, IsCellTest, IsRegisterTest, IsDrivenAlone}
 use Rattle.machine_config.proofs.Cells.{cell_reads}
 use Rattle.machine_config.proofs.FirstReadings.{register_reads}
 use Rattle.machine_config.proofs.Marks.{bit_after, tested_same}
-use Rattle.diag_evidence.specs.Readings.{Reads, CellPasses, RegisterPasses}
 use Rattle.diag_evidence.proofs.Shown.{low_and_high}
 
 -- the settings once one is changed

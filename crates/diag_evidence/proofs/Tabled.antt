@@ -1,17 +1,10 @@
 -- What the readings of tables show of their cells and registers.
 use Rattle.std.proofs.Common.{◌≡◌, ◌≢◌, ◌⊎◌, inl, inr, ℕ, zero, suc, ◌<◌, Bool, true, false, not, ◌&&◌, ◌||◌, Some, None, Option, List, [], ◌∷◌, length, get_or, refl, sym, ap, ◌∙◌, subst, arith, ◌==◌, nat_lt, if◌then◌else◌, unwrap_or, map}
-use Rattle.std.specs.Int.{bit_at}
-use Rattle.std.specs.List.{range_with_len}
-use Rattle.std.proofs.lemmas.Bool.{false≢true, and_parts, or_cases}
-use Rattle.std.proofs.lemmas.Bool.Decides.{nat_tests}
+use Rattle.diag_evidence.proofs.Vocabulary.{bit_at, range_with_len, false≢true, and_parts, or_cases, nat_tests, has_number, Table}
+use Rattle.diag_evidence.proofs.Vocabulary.{table_wire, Setting, Configuration, cell_of, IsRun, number_of}
 use Rattle.std.proofs.lemmas.Nat.Bits.{bit_at-lt}
 use native.Mathlib.Decide.{ℕ_discrete}
-use Rattle.base_bits.specs.Numbers.{has_number}
-use Rattle.machine_shape.specs.declared.Table.{Table}
-use Rattle.machine_shape.specs.Shape.{table_wire}
 use Rattle.machine_meaning.specs.Vocabulary.{Pins, Faults, stuck_register, wrong_cell, IsRightTable}
-use Rattle.machine_config.specs.declared.Setting.{Setting}
-use Rattle.machine_config.specs.Vocabulary.{Configuration, cell_of, IsRun, number_of}
 use Rattle.diag_evidence.specs.Vocabulary.{Trees, IsForest, KnowsForest, pin_of, Kept, Gains, HoldsFor, AreTablesOn, AreAddressDrives, AreOpposite, IsTableConfig, IsTableLoad, MarksWrong, WrongIf, is_one_of, is_right_before, is_right_in, output_pin, right_parts, read_at}
 use Rattle.diag_evidence.proofs.KeptLemmas.{GainHoldsFor, held_before}
 use Rattle.diag_evidence.proofs.Nets.{IsNet, AreHung, IsInputDrive, shown, shows, address_of}

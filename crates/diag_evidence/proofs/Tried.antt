@@ -1,10 +1,6 @@
 -- What a test of hangs leaves.
 use Rattle.std.proofs.Common.{◌≡◌, ◌≤◌, ◌+◌, ◌⊎◌, inl, inr, ℕ, Bool, true, false, Some, Option, List, [], ◌∷◌, All, refl, subst, ◌∙◌, map}
-use Rattle.std.proofs.lemmas.List.Elements.{All-map}
-use Rattle.machine_meaning.specs.Faults.{Faults}
-use Rattle.machine_meaning.specs.Circuit.{Pins}
-use Rattle.rig.specs.Rig.{RigState, Explains, Narrows, Tells, log_of}
-use Rattle.diag_evidence.specs.declared.hangs.WireTest.{WireTest}
+use Rattle.diag_evidence.proofs.Vocabulary.{All-map, Faults, Pins, RigState, Explains, Narrows, Tells, log_of, WireTest}
 use Rattle.diag_evidence.specs.declared.hangs.Views.{Views}
 use Rattle.diag_evidence.specs.Vocabulary.{Kept, HoldsFor, IsMore, Gains, Advances, FewCycles, Trees, IsForest, KnowsForest, Foot, IsFoot, IsLook, LogsLook, LogsThree, LogsViews, ShowsTried, all_feet, closes, AreHangs, AreAllOf, MarksUnfit, MarksUnclear, UnfitIf, UnclearIf, StayMarked, HasTried, silent, answered, over_of, turned, overs, others, shown, seen_on, joined_by, HasViewed, HasLearnt}
 use Rattle.diag_evidence.proofs.Keeping.{more_then}

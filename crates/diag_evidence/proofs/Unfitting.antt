@@ -1,20 +1,14 @@
 -- What a look shows of wires that aren't fit is true.
 use Rattle.std.proofs.Common.{◌≡◌, ◌≢◌, ◌⊎◌, inl, inr, ℕ, zero, suc, ◌<◌, ◌+◌, Bool, true, false, not, ◌&&◌, ◌||◌, Some, None, Option, List, [], ◌∷◌, All, length, get_or, refl, sym, ap, ◌∙◌, subst, arith, ◌==◌, is_some, map, unwrap_or}
-use Rattle.std.specs.List.{list_any, list_all, range_with_len, IsDistinct}
-use Rattle.std.specs.Option.{option_map_or}
-use Rattle.std.proofs.lemmas.Bool.{false≢true, and_parts, or_cases, or_left, or_right}
-use Rattle.std.proofs.lemmas.Bool.Decides.{nat_tests}
+use Rattle.diag_evidence.proofs.Vocabulary.{list_any, list_all, range_with_len, IsDistinct, option_map_or, false≢true, and_parts, or_cases}
+use Rattle.diag_evidence.proofs.Vocabulary.{or_left, or_right, nat_tests, Shape, Joined-sym, Joined-trans, groups_turned, left_unstuck}
+use Rattle.diag_evidence.proofs.Vocabulary.{left_apart, quiet_load, reads_low, reads_high, other_end}
 use Rattle.std.proofs.lemmas.List.{get_or-set_same, get_or-set_other, get_or-replicate, get_or_past, length-replicate, length-set}
 use Rattle.std.proofs.lemmas.List.FromFn.{get_or-range_with_len, length-range_with_len}
 use native.Mathlib.Decide.{ℕ_discrete, dec_lt}
-use Rattle.machine_shape.specs.declared.Shape.{Shape}
 use Rattle.machine_shape.specs.Vocabulary.{IsNumbered, Ends, in_order, turned, ends_of, pin_wire, pins_of}
 use Rattle.machine_meaning.specs.Vocabulary.{Pins, Outputs, Faults, stuck_cross, stuck_wire, Net, Linked, Joined, here, then, crossed, bridged, Shorted, net_of, IsClear, IsAlone}
-use Rattle.machine_meaning.proofs.JoinedLemmas.{Joined-sym, Joined-trans}
 use Rattle.machine_config.specs.Vocabulary.{Configuration, is_closed, circuit_of, IsRun, among, IsWithin, AreGroups, LeadsTo, ends, goes, Runs, Cycles, none, cycle, at_load}
-use Rattle.machine_config.proofs.Grouped.{groups_turned, left_unstuck, left_apart}
-use Rattle.machine_config.proofs.Passing.{quiet_load, reads_low, reads_high}
-use Rattle.diag_tests.specs.Routes.{other_end}
 use Rattle.diag_evidence.specs.Vocabulary.{Kept, HoldsFor, keeps_wire, keeps_pair, Trees, HangsOn, pin_of, is_hung, is_laid, IsOfTree, IsLedOver, IsForest, KnowsForest, IsLook, one_driven, none_driven, differ, parts, read_free, read_under, Foot, IsFoot, closes, pin_at, feet_crosses, others_part, falls_with_others, reads_oddly, reads_alike}
 use Rattle.diag_evidence.proofs.Growing.{hung_by}
 use Rattle.diag_evidence.proofs.Leading.{of_each}

@@ -3,8 +3,7 @@ use Rattle.std.specs.Prelude.{◌≡◌, ◌≢◌, ℕ, ◌<◌, Bool, true, Op
 use Rattle.std.specs.Prelude.{slice_index_or, slice_set, refl}
 use Rattle.std.specs.Coded.{Coded, code_by, coded×, coded_ℕ, coded_list, coded_option}
 use Rattle.machine_shape.specs.contracts.Shape as shape
-use Rattle.machine_shape.specs.declared.Shape.{Shape}
-use Rattle.machine_shape.specs.declared.Cross.{Cross}
+use Rattle.machine_shape.specs.declared.{Shape.Shape, Cross.Cross}
 use Rattle.machine_shape.specs.Shape.{Ends, ends_of, pin_wire, pins_of, wires_of, crosses_of}
 use Rattle.machine_config.specs.Vocabulary.{among, LeadsTo}
 use Rattle.diag_tests.specs.Routes.{cross_numbers}

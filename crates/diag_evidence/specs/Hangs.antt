@@ -4,16 +4,13 @@ use Rattle.std.specs.Prelude.{◌++◌, All, length, map, filter, unwrap_or}
 use Rattle.std.specs.List.{list_any, list_all, range_with_len, IsDistinct}
 use Rattle.machine_meaning.specs.Vocabulary.{Pins, Faults, IsClear, IsAlone}
 use Rattle.machine_shape.specs.Shape.{Ends, ends_of, pin_wire, pins_of, wires_of, crosses_of}
-use Rattle.machine_shape.specs.declared.Cross.{Cross}
-use Rattle.machine_shape.specs.declared.Wire.{Wire}
+use Rattle.machine_shape.specs.declared.{Cross.Cross, Wire.Wire}
 use Rattle.machine_config.specs.Vocabulary.{among, Configuration, is_closed, AreOff}
 use Rattle.base_bits.specs.Numbers.{has_number}
 use Rattle.diag_tests.specs.Routes.{other_end}
-use Rattle.diag_evidence.specs.declared.hangs.WireTest.{WireTest}
-use Rattle.diag_evidence.specs.Forests.{Trees, HangsOn, pin_of, is_hung, is_laid}
-use Rattle.diag_evidence.specs.Kept.{Kept, HoldsFor, Gain, Gains, nothing}
+use Rattle.diag_evidence.specs.{declared.hangs.WireTest.WireTest, Kept.Kept, Kept.HoldsFor, Kept.Gain, Kept.Gains, Kept.nothing}
+use Rattle.diag_evidence.specs.{Forests.Trees, Forests.HangsOn, Forests.pin_of, Forests.is_hung, Forests.is_laid, Logged.HasLogged}
 use Rattle.rig.specs.Rig.{RigState, Past}
-use Rattle.diag_evidence.specs.Logged.{HasLogged}
 use Rattle.diag_evidence.specs.Looks.{IsLook, IsLookOf, LogsLook, differ, swings, parts, read_free, read_under}
 
 -- a wire, and a crosspoint from it to a wire that hangs

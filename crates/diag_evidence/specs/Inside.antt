@@ -1,6 +1,5 @@
 -- How the facts about one rig's faults are kept.
-use Rattle.diag_evidence.specs.Kept.{Kept}
-use Rattle.diag_evidence.specs.declared.facts.Facts.TheInside.{Inside}
+use Rattle.diag_evidence.specs.{Kept.Kept, declared.facts.Facts.TheInside.Inside}
 
 abbrev pub kept_in : Inside → Kept
 kept_in p = record {

@@ -5,9 +5,8 @@ use Rattle.std.specs.Option.{option_map_or}
 use Rattle.std.specs.Coded.{Coded, code_by, coded×, coded_ℕ, coded_bool, coded_list, coded_option}
 use Rattle.base_bits.specs.Numbers.{has_number}
 use Rattle.machine_shape.specs.contracts.Shape as shape
-use Rattle.machine_shape.specs.declared.Shape.{Shape}
+use Rattle.machine_shape.specs.{declared.Shape.Shape, Shape.crosses_of, Shape.wires_of, Shape.tables_of, Shape.pins_of}
 use Rattle.machine_meaning.specs.Vocabulary.{Faults, stuck_cross, wrong_cell, stuck_register, Shorted, IsClear}
-use Rattle.machine_shape.specs.Shape.{crosses_of, wires_of, tables_of, pins_of}
 use Rattle.machine_config.specs.Groups.{among}
 use Rattle.rig.specs.Rig.{Asked, Machine, RigState, Explains, Narrows, Tells, cycles_made}
 

@@ -2,16 +2,14 @@
 use Rattle.std.specs.Prelude.{◌≡◌, ◌≢◌, ℕ, ◌<◌, ◌==◌, Bool, true, false, ◌&&◌, ◌||◌, not, Option, Some, None, List, [], ◌∷◌, ◌++◌, All}
 use Rattle.std.specs.Prelude.{map, flat_map, length, slice_index_or}
 use Rattle.std.specs.List.{list_any, list_all, filter, IsDistinct}
-use Rattle.machine_shape.specs.declared.Shape.{Shape}
-use Rattle.machine_shape.specs.Shape.{pins_of, crosses_of}
+use Rattle.machine_shape.specs.{declared.Shape.Shape, Shape.pins_of, Shape.crosses_of}
 use Rattle.machine_meaning.specs.Vocabulary.{Pins, Faults, stuck_cross}
 use Rattle.machine_config.specs.Vocabulary.{Configuration, is_closed, among, AreOff, LeadsTo}
 use Rattle.base_bits.specs.Numbers.{has_number}
 use Rattle.diag_tests.specs.Routes.{cross_numbers}
-use Rattle.diag_evidence.specs.declared.leads.Lead.{Lead}
+use Rattle.diag_evidence.specs.{declared.leads.Lead.Lead, Looks.IsLook, Looks.LogsLook, Looks.parts}
 use Rattle.diag_evidence.specs.Kept.{Kept, Gain, Gains, HoldsFor, nothing, keeps_cross, keeps_wire, keeps_pair}
 use Rattle.diag_evidence.specs.Forests.{Trees, HangsOn, KeepsForest, pin_of, is_hung, is_laid}
-use Rattle.diag_evidence.specs.Looks.{IsLook, LogsLook, parts}
 use Rattle.rig.specs.Rig.{RigState}
 
 -- the wires of a walk, in order, and its crosspoints

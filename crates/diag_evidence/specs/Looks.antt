@@ -2,18 +2,14 @@
 use Rattle.std.specs.Prelude.{◌≡◌, ◌⊎◌, ℕ, ◌+◌, ◌^◌, ◌<◌, ◌==◌, Bool, true, false, not, ◌&&◌, ◌||◌, if◌then◌else◌}
 use Rattle.std.specs.Prelude.{Option, Some, None, List, [], ◌∷◌}
 use Rattle.std.specs.Prelude.{map, length, All, replicate, slice_index_or, slice_set, refl}
-use Rattle.std.specs.List.{list_any, list_all, range_with_len}
-use Rattle.std.specs.Option.{option_map_or}
+use Rattle.std.specs.{List.list_any, List.list_all, List.range_with_len, Option.option_map_or}
 use Rattle.std.specs.Coded.{Coded, code_by, coded×, coded_ℕ, coded_bool, coded_list}
-use Rattle.machine_shape.specs.declared.Shape.{Shape}
+use Rattle.machine_shape.specs.{declared.Shape.Shape, Shape.pin_wire, Shape.pins_of, Shape.wires_of}
 use Rattle.machine_meaning.specs.Vocabulary.{Pins, Faults}
-use Rattle.machine_shape.specs.Shape.{pin_wire, pins_of, wires_of}
 use Rattle.machine_config.specs.Vocabulary.{Configuration, is_closed, IsRun, AreOff}
 use Rattle.rig.specs.Rig.{RigState, Past, drives_of, readings_of}
-use Rattle.diag_evidence.specs.Forests.{Trees, pin_of, is_hung, is_laid}
+use Rattle.diag_evidence.specs.{Forests.Trees, Forests.pin_of, Forests.is_hung, Forests.is_laid, Readings.HasCycled, Logged.HasLogged}
 use Rattle.diag_evidence.specs.Kept.{Kept, Gain, Gains, nothing}
-use Rattle.diag_evidence.specs.Readings.{HasCycled}
-use Rattle.diag_evidence.specs.Logged.{HasLogged}
 
 -- what so many pins read in each cycle of a look
 pub record Sights : Type 0 where

@@ -1,8 +1,7 @@
 -- Tests by lists: what is closed is two routes and the ties, one of which is toggled.
 use Rattle.std.specs.Prelude.{◌≡◌, ◌≢◌, ◌⊎◌, ℕ, Bool, true, IsTrue, Option, Some, None, List}
 use Rattle.std.specs.List.{AllByRecursion}
-use Rattle.machine_shape.specs.declared.Shape.{Shape}
-use Rattle.machine_shape.specs.Shape.{Ends, ends_of}
+use Rattle.machine_shape.specs.{declared.Shape.Shape, Shape.Ends, Shape.ends_of}
 use Rattle.machine_meaning.specs.Faults.{Faults, stuck_cross}
 use Rattle.machine_config.specs.Vocabulary.{among, AreClear, AreUnshorted, IsWithin, LeadsTo}
 use Rattle.diag_tests.specs.Routes.{Walk}

@@ -1,15 +1,11 @@
 -- The three looks of a test of hangs.
 use Rattle.std.specs.Prelude.{◌≡◌, ℕ, Bool, true, false, Option, List, map}
 use Rattle.machine_meaning.specs.Vocabulary.{Faults, Pins}
-use Rattle.diag_evidence.specs.declared.hangs.WireTest.{WireTest}
-use Rattle.diag_evidence.specs.declared.hangs.Plan.{Plan}
-use Rattle.diag_evidence.specs.declared.hangs.Views.{Views}
-use Rattle.diag_evidence.specs.Forests.{Trees}
-use Rattle.diag_evidence.specs.Kept.{Kept, Gains}
+use Rattle.diag_evidence.specs.{declared.hangs.WireTest.WireTest, Kept.Kept, Kept.Gains, Looks.IsLook, Looks.LogsLook, Looks.look_drives}
+use Rattle.diag_evidence.specs.{declared.hangs.Plan.Plan, declared.hangs.Views.Views, Forests.Trees}
 use Rattle.rig.specs.Rig.{RigState}
 use Rattle.diag_evidence.specs.Hangs.{Foot, turned, overs, others, all_feet, closes, some_answers, shown, seen_on, joined_by}
 use Rattle.diag_evidence.specs.Hangs.{HasMarked, LogsThree}
-use Rattle.diag_evidence.specs.Looks.{IsLook, LogsLook, look_drives}
 
 -- what is closed in the looks, and how they are driven
 pub record IsPlan (hs : List WireTest) (pins : ℕ) (plan : Plan) : Type 0 where

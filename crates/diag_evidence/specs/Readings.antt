@@ -7,8 +7,7 @@ use Rattle.machine_shape.specs.Shape.{pin_wire}
 use Rattle.machine_config.specs.declared.Setting.{Setting}
 use Rattle.machine_config.specs.Vocabulary.{Configuration, is_closed, IsRun, AreGroups, among, AreOff, IsLoop, IsCellTest, IsRegisterTest}
 use Rattle.machine_config.specs.Vocabulary.{IsDrivenAlone, IsDrivenIn, AreReleased}
-use Rattle.rig.specs.Rig.{RigState, Narrows, Tells, config_of, cycles_of, drives_of}
-use Rattle.rig.specs.declared.rig.RigFail.{RigFail}
+use Rattle.rig.specs.{Rig.RigState, Rig.Narrows, Rig.Tells, Rig.config_of, Rig.cycles_of, Rig.drives_of, declared.rig.RigFail.RigFail}
 use Rattle.rig.specs.declared.rig.RigFail.TheVariants as work
 use Rattle.diag_tests.specs.Routes.{Walk, IsRoute}
 use Rattle.diag_evidence.specs.Kept.{Kept, keeps_cross}

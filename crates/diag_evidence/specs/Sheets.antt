@@ -1,18 +1,11 @@
 -- What a test of many tables has at hand.
 use Rattle.std.specs.Prelude.{◌≡◌, ℕ, suc, ◌<◌, ◌==◌, ◌&&◌, nat_lt, true, false, Option, Some, List, [], All, length, slice_index_or}
 use Rattle.std.specs.Int.{bit_at}
-use Rattle.machine_shape.specs.declared.Shape.{Shape}
-use Rattle.machine_shape.specs.declared.Table.{Table}
+use Rattle.machine_shape.specs.{declared.Shape.Shape, declared.Table.Table, Shape.table_wire, Shape.tables_of, Shape.pins_of}
 use Rattle.machine_meaning.specs.Vocabulary.{Pins, Faults}
-use Rattle.machine_shape.specs.Shape.{table_wire, tables_of, pins_of}
-use Rattle.machine_config.specs.declared.Setting.{Setting}
-use Rattle.machine_config.specs.Configuration.{Configuration, setting_of}
-use Rattle.diag_evidence.specs.declared.sheets.Sheet.{Sheet}
-use Rattle.diag_evidence.specs.Forests.{Trees, HangsOn, IsForest}
-use Rattle.diag_evidence.specs.Kept.{Gain, nothing}
-use Rattle.diag_evidence.specs.Logged.{LogsRows}
-use Rattle.diag_evidence.specs.Looks.{ReadsEach}
-use Rattle.diag_evidence.specs.Readings.{HasCycled}
+use Rattle.machine_config.specs.{declared.Setting.Setting, Configuration.Configuration, Configuration.setting_of}
+use Rattle.diag_evidence.specs.{declared.sheets.Sheet.Sheet, Forests.Trees, Forests.HangsOn, Forests.IsForest, Kept.Gain, Kept.nothing}
+use Rattle.diag_evidence.specs.{Logged.LogsRows, Looks.ReadsEach, Readings.HasCycled}
 use Rattle.diag_evidence.specs.TableRows.{AreAddressDrives, AreOpposite, IsTableConfig, is_one_of, is_right_in}
 use Rattle.rig.specs.Rig.{RigState}
 

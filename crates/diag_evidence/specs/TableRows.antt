@@ -1,20 +1,15 @@
 -- Tables, many at once: two loads of 65 cycles, in which all of them are latched.
 use Rattle.std.specs.Prelude.{◌≡◌, ℕ, zero, suc, ◌<◌, ◌==◌, nat_lt, Bool, true, false, ◌&&◌, ◌||◌, not, if◌then◌else◌, Option, Some, None}
 use Rattle.std.specs.Prelude.{List, [], ◌∷◌, All, length, unwrap_or, slice_index_or}
-use Rattle.std.specs.Int.{bit_at}
-use Rattle.std.specs.List.{list_any}
+use Rattle.std.specs.{Int.bit_at, List.list_any}
 use Rattle.base_bits.specs.Numbers.{has_number}
-use Rattle.machine_shape.specs.declared.Table.{Table}
+use Rattle.machine_shape.specs.{declared.Table.Table, Shape.table_wire, Shape.tables_of}
 use Rattle.machine_meaning.specs.Vocabulary.{Pins, Faults, IsRightTable}
-use Rattle.machine_shape.specs.Shape.{table_wire, tables_of}
 use Rattle.machine_config.specs.declared.Setting.{Setting}
 use Rattle.machine_config.specs.Vocabulary.{Configuration, is_closed, setting_of, cell_of, IsRun}
 use Rattle.rig.specs.Rig.{RigState, Past, drives_of, readings_of}
-use Rattle.diag_evidence.specs.Forests.{Trees, HangsOn, pin_of, is_laid}
-use Rattle.diag_evidence.specs.Kept.{Kept, Gain, Gains, HoldsFor, nothing}
-use Rattle.diag_evidence.specs.Logged.{HasLogged}
-use Rattle.diag_evidence.specs.Looks.{read_at}
-use Rattle.diag_evidence.specs.Readings.{HasCycled}
+use Rattle.diag_evidence.specs.{Forests.Trees, Forests.HangsOn, Forests.pin_of, Forests.is_laid, Looks.read_at}
+use Rattle.diag_evidence.specs.{Kept.Kept, Kept.Gain, Kept.Gains, Kept.HoldsFor, Kept.nothing, Logged.HasLogged, Readings.HasCycled}
 
 -- one of these tables has the number
 abbrev pub is_one_of : List Table → ℕ → Bool

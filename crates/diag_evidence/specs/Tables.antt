@@ -2,8 +2,7 @@
 -- of the table.
 use Rattle.std.specs.Prelude.{◌≡◌, ◌⊎◌, ℕ, ◌<◌, Bool, true, false, IsTrue, Option, Some, None, List, map}
 use Rattle.std.specs.List.{range_with_len}
-use Rattle.machine_shape.specs.declared.Shape.{Shape}
-use Rattle.machine_shape.specs.Shape.{table_wire}
+use Rattle.machine_shape.specs.{declared.Shape.Shape, Shape.table_wire}
 use Rattle.machine_meaning.specs.Faults.{Faults, stuck_cross, wrong_cell, stuck_register}
 use Rattle.machine_config.specs.Vocabulary.{among, AreClear, AreUnshorted, IsWithin, LeadsTo, number_of, IsLoose}
 use Rattle.diag_tests.specs.Routes.{Walk}

@@ -1,20 +1,11 @@
 -- What a search for a place of a table chooses from, and what is chosen.
 use Rattle.std.proofs.Common.{◌≡◌, ◌≢◌, ◌⊎◌, ℕ, ◌+◌, ◌<◌, ◌≤◌, Some, None, Option, List, [], ◌∷◌, ◌++◌, length, refl, sym, ap, ◌∙◌, subst, inl, inr, arith, slice_get, IfSome, IfNone}
-use Rattle.std.proofs.lemmas.List.{length_push}
+use Rattle.diag_growth.proofs.Vocabulary.{length_push, Cross, Shape, Wire, Kept, VerifiedWire, get_before, get_last, get_pushed, IsArmTo}
+use Rattle.diag_growth.proofs.Vocabulary.{IsFreeArm, IsFarPort, IsMeeting, IsPlaceAt, Arms, Out, Arm}
 use native.Mathlib.Decide.{ℕ_discrete}
-use Rattle.machine_shape.specs.declared.Cross.{Cross}
-use Rattle.machine_shape.specs.declared.Shape.{Shape}
-use Rattle.machine_shape.specs.declared.Wire.{Wire}
 use Rattle.machine_shape.specs.Vocabulary.{IsTree, lines_of, line_at, table_wire, hextant_of, IsLine, IsPort, HasSites}
-use Rattle.diag_evidence.specs.Kept.{Kept}
-use Rattle.diag_known.specs.declared.verified_wire.VerifiedWire.{VerifiedWire}
-use Rattle.diag_known.proofs.Places.{get_before, get_last, get_pushed}
 use Rattle.diag_growth.specs.Choices.{AreArmsOf, AreInputArms, AreFarsOf, IsOut, AreOuts, IsOutLine, IsTold}
-use Rattle.diag_growth.specs.Seating.{IsArmTo, IsFreeArm, IsFarPort, IsMeeting, IsPlaceAt}
-use Rattle.diag_growth.specs.declared.choices.Arms.{Arms}
 use Rattle.diag_growth.specs.declared.choices.Fars.{Fars}
-use Rattle.diag_growth.specs.declared.seats.Out.{Out}
-use Rattle.diag_growth.specs.declared.seat.Arm.{Arm}
 
 -- a line of the table's hextant, by what its shape says of the machine's
 pub line_there_is : {m n : Shape} {h l : ℕ} (t i : ℕ) → m ≡ n → h ≡ hextant_of m t → l ≡ line_at m h i → l ≡ line_at n (hextant_of n t) i

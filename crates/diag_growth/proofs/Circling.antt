@@ -1,24 +1,13 @@
 -- Growth from pin to pin.
 use Rattle.std.proofs.Common.{◌≡◌, ◌⊎◌, ℕ, ◌+◌, ◌*◌, ◌<◌, ◌≤◌, Bool, true, false, Some, Option, List, length, sym, ap, ◌∙◌, subst, inl, inr, arith, replicate, slice_set}
-use Rattle.std.proofs.lemmas.List.{length-replicate}
+use Rattle.diag_growth.proofs.Vocabulary.{length-replicate, has_number, size_of, Shape, Faults, Kept, HoldsFor, IsMore, IsGrown, IsOneMore}
+use Rattle.diag_growth.proofs.Vocabulary.{Field, Near, Marks, VerifiedWire, none_has, set_has, by_three, few_then, spends_then, has_later}
 use native.Mathlib.Decide.{ℕ_discrete}
-use Rattle.base_bits.specs.Numbers.{has_number, size_of}
-use Rattle.machine_shape.specs.declared.Shape.{Shape}
-use Rattle.machine_meaning.specs.Faults.{Faults}
 use Rattle.machine_shape.specs.Vocabulary.{IsTree, HasMeetings, pins_of, wires_of, crosses_of, pin_wire}
-use Rattle.diag_evidence.specs.Kept.{Kept, HoldsFor, IsMore}
 use Rattle.diag_known.specs.Vocabulary.{IsFieldOf, ClosedIf, GrowsIn, TakesFew, fresh, pins_in, AreLinks, KnownWires, HasWire, IsKnown, KnowsAll, AreOutside, is_spent, AreMarks, AreMarksOver, Spends, SpendsFew}
-use Rattle.diag_growth.specs.Grown.{IsGrown, IsOneMore}
 use Rattle.diag_growth.specs.Looks.{AreAllMarks, AreTried, Grows, IsLinking}
-use Rattle.diag_known.specs.declared.field.Field.{Field}
-use Rattle.diag_known.specs.declared.links.Near.{Near}
-use Rattle.diag_known.specs.declared.marks.Marks.{Marks}
-use Rattle.diag_known.specs.declared.verified_wire.VerifiedWire.{VerifiedWire}
-use Rattle.diag_known.proofs.Counting.{none_has, set_has}
 use Rattle.diag_growth.proofs.Ending.{closed, grows_in}
 use Rattle.diag_growth.proofs.Leaving.{all_later}
-use Rattle.diag_known.proofs.Marking.{by_three, few_then, spends_then}
-use Rattle.diag_known.proofs.Places.{has_later}
 use Rattle.diag_growth.proofs.Stages.{grows_one, grows_then, tried_then}
 use Rattle.diag_growth.proofs.Taken.{takes_most, takes_few}
 

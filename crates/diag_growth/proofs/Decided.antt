@@ -1,8 +1,6 @@
 -- Whether a wire is known.
 use Rattle.std.proofs.Common.{◌≡◌, ◌⊎◌, ℕ, zero, suc, Some, List, [], ◌∷◌, refl, ap, ◌∙◌, inl, inr, slice_get}
-use Rattle.std.proofs.lemmas.Bool.{cases_eq}
-use Rattle.diag_known.specs.Known.{HasWire}
-use Rattle.diag_known.specs.declared.verified_wire.VerifiedWire.{VerifiedWire}
+use Rattle.diag_growth.proofs.Vocabulary.{cases_eq, HasWire, VerifiedWire}
 
 pub known_or : (ss : List VerifiedWire) (w : ℕ) → HasWire ss w ⊎ (HasWire ss w → ⊥)
 known_or [] w = inr (λ h. let e = h.at.here in cc)

@@ -1,20 +1,10 @@
 -- When growth has come to its end, what is known is closed in the field.
 use Rattle.std.proofs.Common.{◌≡◌, ◌≢◌, ◌⊎◌, ℕ, ◌<◌, Bool, true, false, Some, None, Option, List, length, refl, sym, ◌∙◌, subst, inl, inr, slice_get}
-use Rattle.std.proofs.lemmas.Bool.{false≢true}
-use Rattle.std.proofs.lemmas.Option.{slice_get_within}
-use Rattle.base_bits.specs.Numbers.{has_number}
-use Rattle.machine_shape.specs.declared.Shape.{Shape}
+use Rattle.diag_growth.proofs.Vocabulary.{false≢true, slice_get_within, has_number, Shape, Kept, HoldsUntried, keeps_cross, IsGrown}
+use Rattle.diag_growth.proofs.Vocabulary.{AreTried, Grows, Field, Near, VerifiedWire, number_within, at_within, has_later}
 use Rattle.machine_shape.specs.Vocabulary.{IsTree, HasMeetings, Ends, in_order, ends_of, crosses_of, pins_of, pin_wire, IsTap, IsLine, IsPort, tap_pin, tap_port, tap_child, tap_table}
 use Rattle.machine_meaning.specs.Vocabulary.{Faults, stuck_cross, IsClear, IsAlone, HasFeet, two}
-use Rattle.diag_evidence.specs.Kept.{Kept, HoldsUntried, keeps_cross}
 use Rattle.diag_known.specs.Vocabulary.{IsFieldOf, IsClosed, ClosedIf, GrowsIn, Links, AreLinks, KnownWires, IsBefore, HasWire, AreOutside, AreLost, IsFit, IsTried}
-use Rattle.diag_growth.specs.Grown.{IsGrown}
-use Rattle.diag_growth.specs.Looks.{AreTried, Grows}
-use Rattle.diag_known.specs.declared.field.Field.{Field}
-use Rattle.diag_known.specs.declared.links.Near.{Near}
-use Rattle.diag_known.specs.declared.verified_wire.VerifiedWire.{VerifiedWire}
-use Rattle.diag_known.proofs.Counting.{number_within}
-use Rattle.diag_known.proofs.Places.{at_within, has_later}
 
 -- a crosspoint's two ends are different wires
 pub ends_apart : {m : Shape} → IsTree m → HasMeetings m → (x : ℕ) → x < crosses_of m → (ends_of m x).0 ≢ (ends_of m x).1

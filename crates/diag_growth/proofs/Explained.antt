@@ -1,13 +1,7 @@
 -- What explains the log, taken as told faults.
 use Rattle.std.proofs.Common.{◌≡◌, ℕ, Bool, true, false, Some, List, IsTrue, IfOk, OnOk, Result, Ok, Err}
-use Rattle.machine_meaning.specs.Faults.{Faults}
-use Rattle.rig.specs.Rig.{RigState, Explains}
-use Rattle.diag_evidence.specs.Kept.{Kept, HoldsFor, Advances, keeps_cross}
-use Rattle.diag_evidence.proofs.Keeping.{of_told}
-use Rattle.diag_known.specs.Vocabulary.{HasWire, IsFaulty, IsLinkTo, IsLost, IsSecondMark}
-use Rattle.diag_known.specs.declared.verified_wire.Support.{Support}
-use Rattle.diag_known.specs.declared.verified_wire.VerifiedWire.{VerifiedWire}
-use Rattle.diag_known.proofs.Settling.{lost_faulty, second_mark_by}
+use Rattle.diag_growth.proofs.Vocabulary.{Faults, RigState, Explains, Kept, HoldsFor, Advances, keeps_cross, of_told, HasWire, IsFaulty}
+use Rattle.diag_growth.proofs.Vocabulary.{IsLinkTo, IsLost, IsSecondMark, Support, VerifiedWire, lost_faulty, second_mark_by}
 
 -- what tests keep is true of what explains the log after them, if what was kept is
 pub held : {a b : RigState} {k l : Kept} {f : Faults} → Advances a b k l → Explains f b → (h : Faults) → Some f ≡ Some h → HoldsFor k h → HoldsFor l h

@@ -1,14 +1,8 @@
 -- Tables that are kept, and those that aren't.
 use Rattle.std.proofs.Common.{◌≡◌, ℕ, ◌+◌, ◌*◌, ◌<◌, ◌≤◌, Bool, true, false, List, length, take, get_or, refl, sym, ap, ◌∙◌, arith, not, ◌==◌, ◌&&◌, if◌then◌else◌}
-use Rattle.std.specs.List.{count_by}
-use Rattle.std.proofs.lemmas.Bool.{false≢true}
-use Rattle.std.proofs.lemmas.Bool.Decides.{nat_tests}
+use Rattle.diag_growth.proofs.Vocabulary.{count_by, false≢true, nat_tests, Table, Kept, IsMore, keeps_cell, keeps_register, how_many}
+use Rattle.diag_growth.proofs.Vocabulary.{many_all, many_less, many_more, many_so, keeps_table, fresh_tables, TakesForTable}
 use Rattle.std.proofs.lemmas.List.Sums.{count_by_more_no, count_by_more_yes, sum_by-take-le}
-use Rattle.machine_shape.specs.declared.Table.{Table}
-use Rattle.diag_evidence.specs.Kept.{Kept, IsMore, keeps_cell, keeps_register}
-use Rattle.diag_known.specs.Field.{how_many}
-use Rattle.diag_known.proofs.Counting.{many_all, many_less, many_more, many_so}
-use Rattle.diag_growth.specs.Tables.{keeps_table, fresh_tables, TakesForTable}
 
 -- a cell isn't kept
 pub cell_fresh : (k : Kept) (t a : ℕ) → a < 64 → keeps_cell k t a ≡ false → keeps_table k t ≡ false

@@ -1,17 +1,9 @@
 -- What growth has found stays found, and grows from one known wire to the next.
 use Rattle.std.proofs.Common.{◌≡◌, ◌≢◌, ◌⊎◌, ℕ, zero, suc, ◌+◌, ◌<◌, ◌≤◌, Bool, true, Some, Option, List, [], ◌∷◌, ◌++◌, length, sym, ◌∙◌, subst, inl, inr, arith, slice_get}
 use native.Mathlib.Decide.{ℕ_discrete}
-use Rattle.base_bits.specs.Numbers.{has_number}
-use Rattle.machine_shape.specs.declared.Shape.{Shape}
-use Rattle.machine_meaning.specs.Faults.{Faults}
-use Rattle.diag_evidence.specs.Kept.{Kept, IsMore}
+use Rattle.diag_growth.proofs.Vocabulary.{has_number, Shape, Faults, Kept, IsMore, IsGrown, IsLooked, StayBarred, Near, VerifiedWire}
+use Rattle.diag_growth.proofs.Vocabulary.{at_one, has_later, lost_later, lost_turned, kept_later}
 use Rattle.diag_known.specs.Vocabulary.{Links, AreLinked, IsAt, IsBefore, HasWire, AreLost, IsKeptUnlessStuck}
-use Rattle.diag_growth.specs.Grown.{IsGrown}
-use Rattle.diag_growth.specs.Looks.{IsLooked, StayBarred}
-use Rattle.diag_known.specs.declared.links.Near.{Near}
-use Rattle.diag_known.specs.declared.verified_wire.VerifiedWire.{VerifiedWire}
-use Rattle.diag_known.proofs.Places.{at_one, has_later}
-use Rattle.diag_known.proofs.Losing.{lost_later, lost_turned, kept_later}
 
 get_old : {A : Type 0} (xs ys : List A) (i : ℕ) (x : A) → i < length xs → slice_get (xs ++ ys) i ≡ Some x → slice_get xs i ≡ Some x
 get_old [] ys i x h e = absurd (let no : ⊥ = omega (arith, h) in no)

@@ -1,22 +1,10 @@
 -- One more wire is known, or none.
 use Rattle.std.proofs.Common.{◌≡◌, ◌⊎◌, ◌==◌, ◌||◌, ℕ, Bool, true, false, Option, Some, List, [], ◌∷◌, length, refl, sym, ap, ◌∙◌, subst, inl, inr, arith, IsTrue, slice_set}
-use Rattle.std.proofs.lemmas.Bool.{or_cases, or_left}
-use Rattle.std.proofs.lemmas.Bool.Decides.{nat_tests}
-use Rattle.base_bits.specs.Numbers.{has_number}
-use Rattle.machine_meaning.specs.Faults.{Faults}
-use Rattle.diag_evidence.specs.Vocabulary.{Kept, IsMore, CanSettle, HasSettled, is_apart}
-use Rattle.diag_growth.specs.Grown.{IsLearnt, IsOneMore}
+use Rattle.diag_growth.proofs.Vocabulary.{or_cases, or_left, nat_tests, has_number, Faults, Kept, IsMore, CanSettle, HasSettled, is_apart}
+use Rattle.diag_growth.proofs.Vocabulary.{IsLearnt, IsOneMore, IsParted, Marks, Offer, VerifiedWire, good_of, known_later, stands_later}
+use Rattle.diag_growth.proofs.Vocabulary.{learnt, get_last, has_later, offer_still, marks_later}
 use Rattle.diag_growth.specs.Looks.{IsReady}
-use Rattle.diag_growth.specs.Partings.{IsParted}
 use Rattle.diag_known.specs.Vocabulary.{KnownWires, HasWire, IsKnown, KnowsAll, Stands, AreMarks, AreMarksOver, OffersOnly}
-use Rattle.diag_known.specs.declared.marks.Marks.{Marks}
-use Rattle.diag_known.specs.declared.offers.Offer.{Offer}
-use Rattle.diag_known.specs.declared.verified_wire.VerifiedWire.{VerifiedWire}
-use Rattle.diag_known.proofs.Apart.{good_of}
-use Rattle.diag_known.proofs.Later.{known_later, stands_later, learnt}
-use Rattle.diag_known.proofs.Places.{get_last, has_later}
-use Rattle.diag_known.proofs.Seconds.{offer_still}
-use Rattle.diag_known.proofs.Settling.{marks_later}
 
 pub none_more : {a b : KnownWires} (w : ℕ) → b ≡ a → IsOneMore a b w
 none_more {a} w same = subst (λ known. IsOneMore a known w) (sym same) (record { shape = refl; steps = inl refl })

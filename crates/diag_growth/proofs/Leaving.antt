@@ -1,27 +1,13 @@
 -- What a look leaves behind: what it found, and the marks.
 use Rattle.std.proofs.Common.{◌≡◌, ◌⊎◌, ℕ, ◌+◌, ◌<◌, ◌≤◌, Bool, true, Some, None, Option, List, length, sym, ap, ◌∙◌, subst, inl, inr, arith, slice_get, slice_set}
-use Rattle.std.proofs.lemmas.Option.{slice_get_within}
+use Rattle.diag_growth.proofs.Vocabulary.{slice_get_within, has_number, Shape, IsNumbered, Ends, ends_of, crosses_of, Faults, Ends-swap}
+use Rattle.diag_growth.proofs.Vocabulary.{Kept, IsMore, Near, Look, Marks, Offer, Support, VerifiedWire, set_has, few_none, few_between}
+use Rattle.diag_growth.proofs.Vocabulary.{spends_none, spends_between, at_within, at_later, before_has, one_place, some_same, ends_same}
 use native.Mathlib.Decide.{ℕ_discrete}
-use Rattle.base_bits.specs.Numbers.{has_number}
-use Rattle.machine_shape.specs.declared.Shape.{Shape}
-use Rattle.machine_shape.specs.Vocabulary.{IsNumbered, Ends, ends_of, crosses_of}
-use Rattle.machine_meaning.specs.Faults.{Faults}
-use Rattle.machine_meaning.proofs.JoinedLemmas.{Ends-swap}
-use Rattle.diag_evidence.specs.Kept.{Kept, IsMore}
 use Rattle.diag_known.specs.Vocabulary.{Links, AreLinked, list_at, KnownWires, IsAt, IsBefore, HasWire, IsKnown, AreMarks, AreMarksOver, Spends, SpendsFew, IsOfOffer, JoinsAtMost, OffersOnly, HasTried, barred, lost}
 use Rattle.diag_growth.specs.Looks.{IsLook, IsLookAt, IsLooked, IsLookedOver, IsOfferOf, IsOfferedMark, AreAllMarks, AreTried, Grows, IsLinking}
-use Rattle.diag_known.specs.declared.links.Near.{Near}
-use Rattle.diag_growth.specs.declared.look.Look.{Look}
-use Rattle.diag_known.specs.declared.marks.Marks.{Marks}
-use Rattle.diag_known.specs.declared.offers.Offer.{Offer}
-use Rattle.diag_known.specs.declared.verified_wire.Support.{Support}
-use Rattle.diag_known.specs.declared.verified_wire.VerifiedWire.{VerifiedWire}
-use Rattle.diag_known.proofs.Counting.{set_has}
 use Rattle.diag_growth.proofs.Growing.{before_old}
 use Rattle.diag_growth.proofs.Looking.{look_within, look_ends, looked_barred, looked_lost}
-use Rattle.diag_known.proofs.Marking.{few_none, few_between, spends_none, spends_between}
-use Rattle.diag_known.proofs.Places.{at_within, at_later, before_has, one_place, some_same}
-use Rattle.diag_known.proofs.Settling.{ends_same}
 use Rattle.diag_growth.proofs.Stages.{tried_none, tried_one, looked_on}
 
 -- a look in plain words

@@ -22,3 +22,4 @@ mod SoFar
 -- What is cited above.
 pub mod Decided
 pub mod Explained
+mod Vocabulary

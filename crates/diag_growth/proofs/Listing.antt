@@ -1,20 +1,8 @@
 -- Lists that loops make, place by place.
 use Rattle.std.proofs.Common.{◌≡◌, ◌≢◌, ◌⊎◌, ℕ, ◌+◌, ◌<◌, true, false, Some, List, [], ◌∷◌, ◌++◌, length, sym, ap, ◌∙◌, inl, inr, arith, slice_get, slice_index_or, slice_set}
-use Rattle.std.proofs.lemmas.List.{get_or-set_same, get_or-set_other}
+use Rattle.diag_growth.proofs.Vocabulary.{get_or-set_same, get_or-set_other, Wire, Pins, Walk, Support, InFirst, get_before, get_last}
+use Rattle.diag_growth.proofs.Vocabulary.{some_same, crosses_of, among, Kept, InSome, IsOn, IsParting, VerifiedWire, false≢true}
 use native.Mathlib.Decide.{ℕ_discrete}
-use Rattle.machine_shape.specs.declared.Wire.{Wire}
-use Rattle.machine_meaning.specs.Circuit.{Pins}
-use Rattle.diag_tests.specs.Routes.{Walk}
-use Rattle.diag_known.specs.declared.verified_wire.Support.{Support}
-use Rattle.diag_known.proofs.Adding.{InFirst}
-use Rattle.diag_known.proofs.Places.{get_before, get_last, some_same}
-use Rattle.machine_shape.specs.Shape.{crosses_of}
-use Rattle.machine_config.specs.Groups.{among}
-use Rattle.diag_evidence.specs.Kept.{Kept}
-use Rattle.diag_known.specs.Offers.{InSome, IsOn}
-use Rattle.diag_growth.specs.Partings.{IsParting}
-use Rattle.diag_known.specs.declared.verified_wire.VerifiedWire.{VerifiedWire}
-use Rattle.std.proofs.lemmas.Bool.{false≢true}
 
 -- the known ends of links
 pub ends_next : (links : List Support) (ends new : List Wire) (k : ℕ) (link : Support) → length ends ≡ k → ((j : ℕ) (a : Support) → j < k → slice_get links j ≡ Some a → slice_get ends j ≡ Some a.wire) →

@@ -1,20 +1,10 @@
 -- Looks over links, and what they find.
 use Rattle.std.proofs.Common.{◌≡◌, ◌⊎◌, ℕ, ◌+◌, ◌<◌, ◌≤◌, Bool, true, Some, None, Option, List, [], ◌∷◌, ◌++◌, length, refl, sym, ap, ◌∙◌, subst, inl, inr, arith, slice_get, slice_set}
-use Rattle.std.proofs.lemmas.Option.{slice_get_within}
+use Rattle.diag_growth.proofs.Vocabulary.{slice_get_within, has_number, Shape, IsNumbered, Ends, ends_of, wires_of, crosses_of, Faults}
+use Rattle.diag_growth.proofs.Vocabulary.{Ends-swap, Kept, keeps_cross, Near, Look, Offer, Support, VerifiedWire}
 use native.Mathlib.Decide.{ℕ_discrete}
-use Rattle.base_bits.specs.Numbers.{has_number}
-use Rattle.machine_shape.specs.declared.Shape.{Shape}
-use Rattle.machine_shape.specs.Vocabulary.{IsNumbered, Ends, ends_of, wires_of, crosses_of}
-use Rattle.machine_meaning.specs.Faults.{Faults}
-use Rattle.machine_meaning.proofs.JoinedLemmas.{Ends-swap}
-use Rattle.diag_evidence.specs.Kept.{Kept, keeps_cross}
 use Rattle.diag_known.specs.Vocabulary.{Links, AreLinked, list_at, KnownWires, IsAt, IsBefore, HasWire, IsKnown, IsOffer, IsPlaced, AreLost, HasNoSecond, IsKeptUnlessStuck}
 use Rattle.diag_growth.specs.Looks.{IsLook, IsOfferOf, IsLooked, AreEarlier, AreEarlierUpTo, TakesEarlier}
-use Rattle.diag_known.specs.declared.links.Near.{Near}
-use Rattle.diag_growth.specs.declared.look.Look.{Look}
-use Rattle.diag_known.specs.declared.offers.Offer.{Offer}
-use Rattle.diag_known.specs.declared.verified_wire.Support.{Support}
-use Rattle.diag_known.specs.declared.verified_wire.VerifiedWire.{VerifiedWire}
 use Rattle.diag_growth.proofs.Growing.{before_old}
 use Rattle.diag_known.proofs.Places.{get_before, get_last, get_pushed, some_same, one_place, before_has}
 

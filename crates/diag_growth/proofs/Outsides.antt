@@ -1,15 +1,10 @@
 -- Wires outside a hextant, and the set of those that are known.
 use Rattle.std.proofs.Common.{◌≡◌, ◌≢◌, ◌⊎◌, ℕ, ◌+◌, ◌<◌, ◌≤◌, Bool, true, false, List, length, replicate, refl, sym, ap, ◌∙◌, subst, inl, inr, arith, set}
-use Rattle.std.proofs.lemmas.Bool.{false≢true}
+use Rattle.diag_growth.proofs.Vocabulary.{false≢true, has_number, at_one, at_within, PutsOutside, Shape, IsOutside}
 use Rattle.std.proofs.lemmas.List.{length-set, get_or-set_same, get_or-set_other, get_or-replicate, get_or_past, length-replicate}
 use native.Mathlib.Decide.{dec_lt, ℕ_discrete}
-use Rattle.base_bits.specs.Numbers.{has_number}
 use Rattle.diag_known.specs.Known.{KnownWires, IsAt, HasWire, InSet}
-use Rattle.diag_known.proofs.Places.{at_one, at_within}
-use Rattle.diag_growth.specs.Seating.{PutsOutside}
-use Rattle.machine_shape.specs.declared.Shape.{Shape}
 use Rattle.machine_shape.specs.Vocabulary.{Meaning, Pin, Line, Port, TablePin, Means, is_line, is_table_pin, hextant_of, IsLine, HasMeanings}
-use Rattle.machine_meaning.specs.Standing.{IsOutside}
 
 -- what a wire of the hextant's lines and of its tables' pins isn't
 abbrev pub IsElsewhere : Shape → ℕ → Meaning → Type 0

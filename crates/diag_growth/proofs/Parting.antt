@@ -1,28 +1,18 @@
 -- Swings and partings of a wire that isn't known pass, where it is clear and shorted to no known wire.
 use Rattle.std.proofs.Common.{◌≡◌, ◌≢◌, ◌⊎◌, ℕ, ◌+◌, ◌<◌, ◌≤◌, Bool, true, false, Some, None, Option, All, List, [], length, refl, sym, ap, ◌∙◌, subst, inl, inr, arith, slice_get, slice_index_or, ◌==◌, ◌||◌, ◌&&◌}
 use Rattle.std.specs.Option.{option_map_or}
-use Rattle.std.proofs.lemmas.Bool.{false≢true}
-use Rattle.std.proofs.lemmas.Bool.Decides.{nat_tests}
-use Rattle.std.proofs.lemmas.Option.{slice_get-get_or}
+use Rattle.diag_growth.proofs.Vocabulary.{false≢true, nat_tests, slice_get-get_or, Shape, Wire, pin_wire, Pins, Faults, Shorted, IsClear}
+use Rattle.diag_growth.proofs.Vocabulary.{Configuration, is_closed, among, IsWithin, AreGroups, IsDrivenAlone, Walk, IsLoopConfig}
+use Rattle.diag_growth.proofs.Vocabulary.{holds_earlier, trial_by_gain, trial_pair, grown, laid_cases, or_first, or_third, IsListed}
+use Rattle.diag_growth.proofs.Vocabulary.{AreLeft, LeavesAt, IsParting, IsParted, IsApartBeside, VerifiedWire, at_within}
 use native.Mathlib.Decide.{ℕ_discrete}
-use Rattle.machine_shape.specs.declared.Shape.{Shape}
-use Rattle.machine_shape.specs.declared.Wire.{Wire}
-use Rattle.machine_shape.specs.Shape.{pin_wire}
-use Rattle.machine_meaning.specs.Vocabulary.{Pins, Faults, Shorted, IsClear}
-use Rattle.machine_config.specs.Vocabulary.{Configuration, is_closed, among, IsWithin, AreGroups, IsDrivenAlone}
 use Rattle.machine_config.proofs.Grouped.{LeadsTo-start, LeadsTo-end, LeadsTo-within}
-use Rattle.diag_tests.specs.Vocabulary.{Walk, IsLoopConfig}
 use Rattle.diag_evidence.specs.Vocabulary.{Kept, HoldsUntried, IsMore, KeepsSet, KeepsTrial, Gains, these_wires, row_over, keeps_wire, keeps_pair, in_row, RoutePasses, AllApartPasses, IsReady, wires_over}
 use Rattle.diag_evidence.proofs.KeptLemmas.{IsPair, of_set, of_row, of_other, pair_is, pair_of, tried_is, tried_only}
-use Rattle.diag_evidence.proofs.Keeping.{holds_earlier, trial_by_gain, trial_pair}
-use Rattle.diag_evidence.proofs.Lists.{grown, laid_cases, or_first, or_third}
 use Rattle.diag_known.specs.Vocabulary.{KnownWires, IsAt, HasWire, IsKnown, KnowsAll, InSome, IsOn, IsReached, IsOnWalk, IsFit, IsBad, IsWay, AreWays}
-use Rattle.diag_growth.specs.Partings.{IsListed, AreLeft, LeavesAt, IsParting, IsParted, IsApartBeside}
-use Rattle.diag_known.specs.declared.verified_wire.VerifiedWire.{VerifiedWire}
 use Rattle.diag_known.proofs.Besides.{beside}
 use Rattle.diag_known.proofs.Hung.{over_at, at_over, reached_known, reached_off}
 use Rattle.diag_known.proofs.Passing.{rests_known, known_clear, known_unshorted}
-use Rattle.diag_known.proofs.Places.{at_within}
 use Rattle.diag_known.proofs.Rising.{not_true}
 
 -- what holds of each element by its place

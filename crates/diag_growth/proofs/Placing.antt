@@ -1,23 +1,12 @@
 -- A place where a table can be tested is a seat, and a seated table has one.
 use Rattle.std.proofs.Common.{◌≡◌, ◌≢◌, ◌⊎◌, ℕ, zero, suc, ◌+◌, ◌<◌, Bool, true, false, Some, List, [], ◌∷◌, ◌++◌, map, refl, sym, ap, ◌∙◌, subst, inl, inr, arith, slice_get, ◌==◌, ◌||◌}
-use Rattle.std.proofs.lemmas.Bool.Decides.{nat_tests}
-use Rattle.std.proofs.lemmas.Bool.{false≢true}
-use Rattle.machine_shape.specs.declared.Shape.{Shape}
-use Rattle.machine_shape.specs.declared.Table.{Table}
+use Rattle.diag_growth.proofs.Vocabulary.{nat_tests, false≢true, Shape, Table, StandsWithout, IsSeated, among, Walk, IsRoute, Extends, Kept}
+use Rattle.diag_growth.proofs.Vocabulary.{keeps_cross, keeps_wire, untried, keeps_pair, IsPlaceFor, IsMeeting, IsPlaceAt, IsPlace}
+use Rattle.diag_growth.proofs.Vocabulary.{IsWithout, VerifiedWire, untried_two, Arm, Seat, near_wires, far_wires, IsKeptBetween, IsSeat}
 use Rattle.machine_shape.specs.Vocabulary.{Ends, in_order, turned, table_wire, tables_of, hextant_of, ends_of, IsLine, IsPort, IsNumbered, IsTree}
-use Rattle.machine_meaning.specs.Standing.{StandsWithout, IsSeated}
-use Rattle.machine_config.specs.Groups.{among}
-use Rattle.diag_tests.specs.Routes.{Walk, IsRoute, Extends}
 use Rattle.diag_tests.proofs.Longer.{among_both}
-use Rattle.diag_evidence.specs.Kept.{Kept, keeps_cross, keeps_wire, untried, keeps_pair}
 use Rattle.diag_known.specs.Vocabulary.{KnownWires, HasWire, IsKnown, IsKeptCrossOf, AreRoutesTo, IsKnownRoute}
-use Rattle.diag_growth.specs.Seating.{IsPlaceFor, IsMeeting, IsPlaceAt, IsPlace, IsWithout}
 use Rattle.diag_growth.specs.declared.seats.Place.{Place}
-use Rattle.diag_known.specs.declared.verified_wire.VerifiedWire.{VerifiedWire}
-use Rattle.diag_evidence.proofs.Keeping.{untried_two}
-use Rattle.diag_growth.specs.declared.seat.Arm.{Arm}
-use Rattle.diag_growth.specs.declared.seat.Seat.{Seat}
-use Rattle.diag_growth.specs.Seats.{near_wires, far_wires, IsKeptBetween, IsSeat}
 
 -- over its near port and its line a seated table can be tested
 pub seated_place : {k : Kept} {ss without : List VerifiedWire} {t : ℕ} → ((w : ℕ) → StandsWithout k.shape (HasWire ss) (IsKeptCrossOf k) (hextant_of k.shape t) w → HasWire without w) → (s : IsSeated k.shape (HasWire ss) (IsKeptCrossOf k) t) → IsPlaceAt k ss without t s.near s.line

@@ -1,16 +1,9 @@
 -- The search of a place where a table can be tested.
 use Rattle.std.proofs.Common.{◌≡◌, ◌≢◌, ◌⊎◌, ℕ, ◌+◌, ◌<◌, ◌≤◌, true, false, Some, None, List, [], ◌∷◌, ◌++◌, length, refl, sym, ap, ◌∙◌, subst, inl, inr, arith, slice_get}
-use Rattle.std.proofs.lemmas.Bool.{false≢true}
-use Rattle.std.proofs.lemmas.List.{length_push}
-use Rattle.machine_shape.specs.declared.Shape.{Shape}
+use Rattle.diag_growth.proofs.Vocabulary.{false≢true, length_push, Shape, Meets, Kept, keeps_cross, VerifiedWire, get_pushed, Arm}
 use Rattle.machine_shape.specs.Vocabulary.{ends_of, crosses_of, nodes_of, lines_of, own_ports_of, line_at, port_at, table_wire, hextant_of, IsLine, IsPort, HasCrosses, HasSites}
-use Rattle.machine_meaning.specs.Standing.{Meets}
-use Rattle.diag_evidence.specs.Kept.{Kept, keeps_cross}
 use Rattle.diag_known.specs.Known.{HasWire, IsKeptCrossOf}
 use Rattle.diag_growth.specs.Seating.{IsMeeting, JoinsTaps, IsFreeArm, IsArmTo, AreArmsTo, MissesArm, IsFarPort, IsPlaceAt}
-use Rattle.diag_known.specs.declared.verified_wire.VerifiedWire.{VerifiedWire}
-use Rattle.diag_known.proofs.Places.{get_pushed}
-use Rattle.diag_growth.specs.declared.seat.Arm.{Arm}
 
 -- what a shape says of the machine's
 pub at_shape : (f : Shape → ℕ) {m n : Shape} {l : ℕ} → m ≡ n → l ≡ f m → l ≡ f n

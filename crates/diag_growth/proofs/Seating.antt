@@ -1,20 +1,13 @@
 -- Over a seat the tests of a right table pass.
 use Rattle.std.proofs.Common.{◌≡◌, ◌≢◌, ◌⊎◌, ◌<◌, ◌/◌, ◌%◌, ◌++◌, ℕ, zero, suc, Bool, true, false, if◌then◌else◌, Some, None, Option, List, [], ◌∷◌, map, length, refl, sym, ap, ◌∙◌, subst, inl, inr, arith, ◌==◌, ◌||◌, unwrap_or, slice_get}
-use Rattle.std.specs.List.{range_with_len}
-use Rattle.std.proofs.lemmas.Bool.{false≢true, or_cases, or_left, or_right}
-use Rattle.std.proofs.lemmas.Bool.Decides.{nat_tests}
+use Rattle.diag_growth.proofs.Vocabulary.{range_with_len, false≢true, or_cases, or_left, or_right, nat_tests, Shape, Ends, in_order, turned}
+use Rattle.diag_growth.proofs.Vocabulary.{ends_of, table_wire, untried_crosses, untried_wires, Arm, Seat, near_wires, far_wires}
+use Rattle.diag_growth.proofs.Vocabulary.{IsKeptBetween, IsSeat, bit_of, IsSeatTie, to_output, on_arm, AreSeatTies}
 use Rattle.std.proofs.lemmas.List.Folds.{list_any-append}
-use Rattle.machine_shape.specs.declared.Shape.{Shape}
-use Rattle.machine_shape.specs.Shape.{Ends, in_order, turned, ends_of, table_wire}
 use Rattle.machine_meaning.specs.Vocabulary.{Shorted, IsClear, Faults, wrong_cell, stuck_cross}
 use Rattle.machine_config.specs.Vocabulary.{among, both, IsWithin, AreClear, AreUnshorted, ends, goes, number_of, IsLoose}
 use Rattle.machine_config.proofs.Grouped.{LeadsTo-end}
 use Rattle.diag_evidence.specs.Vocabulary.{Kept, HoldsUntried, untried, keeps_wire, keeps_pair, IsTied, IsTableBy, IsCellBy}
-use Rattle.diag_evidence.proofs.Keeping.{untried_crosses, untried_wires}
-use Rattle.diag_growth.specs.declared.seat.Arm.{Arm}
-use Rattle.diag_growth.specs.declared.seat.Seat.{Seat}
-use Rattle.diag_growth.specs.Seats.{near_wires, far_wires, IsKeptBetween, IsSeat}
-use Rattle.diag_growth.specs.Ties.{bit_of, IsSeatTie, to_output, on_arm, AreSeatTies}
 use Rattle.diag_growth.proofs.Tying.{in_one, one_in}
 
 bit_value : (n : ℕ) → (if n % 2 == 1 then 1 else 0) ≡ n % 2

@@ -1,15 +1,7 @@
 -- What tests over the rig have found, and what they took, so far.
-use Rattle.std.proofs.Common.{◌≡◌, ℕ, ◌+◌, ◌<◌, ◌≤◌, Some, List, slice_get}
-use Rattle.rig.specs.Rig.{RigState, ForEach}
-use Rattle.diag_evidence.specs.Kept.{Kept, Advances, KeepsTrial}
+use Rattle.diag_growth.proofs.Vocabulary.{◌≡◌, ℕ, ◌+◌, ◌<◌, ◌≤◌, Some, List, slice_get, RigState, ForEach, Kept, Advances, KeepsTrial}
+use Rattle.diag_growth.proofs.Vocabulary.{Field, Near, Support, VerifiedWire, Marks, Offer, AreAllMarks, AreTried, Grows, IsLinking}
 use Rattle.diag_known.specs.Vocabulary.{KnownWires, AreMarks, AreMarksOver, Spends, SpendsFew, SpendsOn, AreLost}
-use Rattle.diag_known.specs.declared.field.Field.{Field}
-use Rattle.diag_known.specs.declared.links.Near.{Near}
-use Rattle.diag_known.specs.declared.verified_wire.Support.{Support}
-use Rattle.diag_known.specs.declared.verified_wire.VerifiedWire.{VerifiedWire}
-use Rattle.diag_known.specs.declared.marks.Marks.{Marks}
-use Rattle.diag_known.specs.declared.offers.Offer.{Offer}
-use Rattle.diag_growth.specs.Looks.{AreAllMarks, AreTried, Grows, IsLinking}
 use Rattle.diag_growth.proofs.Circling.{HasSpread, IsGrowing}
 
 -- the first n pins were tried

@@ -1,20 +1,10 @@
 -- Growth, one part after the other.
 use Rattle.std.proofs.Common.{◌≡◌, ◌≢◌, ◌⊎◌, ℕ, ◌+◌, ◌<◌, ◌≤◌, Bool, true, false, Some, Option, List, [], ◌∷◌, ◌++◌, length, refl, sym, ap, ◌∙◌, subst, inl, inr, arith, append_assoc, slice_get, slice_set}
-use Rattle.std.proofs.lemmas.Bool.{false≢true}
+use Rattle.diag_growth.proofs.Vocabulary.{false≢true, has_number, Faults, Kept, IsMore, IsGrown, IsOneMore, IsLooked, StayBarred, AreTried}
+use Rattle.diag_growth.proofs.Vocabulary.{Grows, Near, VerifiedWire, set_only, set_stays, tried_later, known_later, get_pushed}
 use Rattle.std.proofs.lemmas.List.{append-nil, length-append, length-set}
-use Rattle.base_bits.specs.Numbers.{has_number}
-use Rattle.machine_meaning.specs.Faults.{Faults}
-use Rattle.diag_evidence.specs.Kept.{Kept, IsMore}
-use Rattle.diag_growth.specs.Grown.{IsGrown, IsOneMore}
 use Rattle.diag_known.specs.Vocabulary.{IsTried, KnownWires, HasWire, IsKnown, KnowsAll, BarsAtMost}
-use Rattle.diag_growth.specs.Looks.{IsLooked, StayBarred, AreTried, Grows}
-use Rattle.diag_known.specs.declared.links.Near.{Near}
-use Rattle.diag_known.specs.declared.verified_wire.VerifiedWire.{VerifiedWire}
-use Rattle.diag_known.proofs.Counting.{set_only, set_stays}
 use Rattle.diag_growth.proofs.Growing.{grown_later, looked_later}
-use Rattle.diag_known.proofs.Losing.{tried_later}
-use Rattle.diag_known.proofs.Later.{known_later}
-use Rattle.diag_known.proofs.Places.{get_pushed}
 
 -- what was barred without a cause, and with one
 pub tried_none : {told : Option Faults} {k : Kept} {ss : List VerifiedWire} {old new : List Bool} → new ≡ old → AreTried told k ss old new

@@ -1,19 +1,10 @@
 -- The loads of growth in a field.
 use Rattle.std.proofs.Common.{◌≡◌, ◌⊎◌, ℕ, ◌+◌, ◌*◌, ◌-◌, ◌<◌, ◌≤◌, Bool, true, false, Option, List, refl, sym, ap, ◌∙◌, subst, inl, inr, arith, not, ◌&&◌}
-use Rattle.std.proofs.lemmas.Bool.{false≢true}
-use Rattle.base_bits.specs.Numbers.{has_number, size_of}
-use Rattle.machine_shape.specs.declared.Shape.{Shape}
-use Rattle.machine_shape.specs.Shape.{pin_wire, pins_of, wires_of, crosses_of}
-use Rattle.machine_meaning.specs.Faults.{Faults}
+use Rattle.diag_growth.proofs.Vocabulary.{false≢true, has_number, size_of, Shape, pin_wire, pins_of, wires_of, crosses_of, Faults, Kept}
+use Rattle.diag_growth.proofs.Vocabulary.{keeps_cross, IsLinking, Field, Near, Marks, first_of, second_of, third_of}
 use Rattle.machine_shape.proofs.Totals.{pins_are}
-use Rattle.diag_evidence.specs.Kept.{Kept, keeps_cross}
 use Rattle.diag_known.specs.Vocabulary.{IsFieldOf, TakesFew, fresh, how_many, pins_in, AreLinks, AreOutside, barred_pins, is_spent, Spends, SpendsFew}
-use Rattle.diag_growth.specs.Looks.{IsLinking}
-use Rattle.diag_known.specs.declared.field.Field.{Field}
-use Rattle.diag_known.specs.declared.links.Near.{Near}
-use Rattle.diag_known.specs.declared.marks.Marks.{Marks}
 use Rattle.diag_known.proofs.Counting.{many_all, many_both, many_either, many_long, many_more, many_size, many_up}
-use Rattle.diag_known.proofs.Marking.{first_of, second_of, third_of}
 
 -- the pins of the machine are wires
 wires_rest : (m : Shape) → pins_of m + (wires_of m - pins_of m) ≡ wires_of m

@@ -1,17 +1,8 @@
 -- What tests over a seat leave.
 use Rattle.std.proofs.Common.{◌≡◌, ◌⊎◌, ◌<◌, ◌≤◌, ◌+◌, ◌*◌, ℕ, zero, suc, Bool, true, false, ◌&&◌, ◌||◌, Some, None, Option, List, [], ◌∷◌, refl, sym, ◌∙◌, subst, inl, inr, arith, ◌==◌, ◌≢◌, All, IsTrue, length, slice_index_or}
-use Rattle.std.proofs.lemmas.Bool.Decides.{nat_tests}
-use Rattle.machine_shape.specs.declared.Cross.{Cross}
-use Rattle.machine_shape.specs.declared.Shape.{Shape}
-use Rattle.machine_shape.specs.Shape.{crosses_of, table_wire, tables_of}
-use Rattle.machine_meaning.specs.Faults.{Faults, wrong_cell}
-use Rattle.machine_config.specs.Groups.{among}
-use Rattle.diag_tests.specs.Routes.{Walk, cross_numbers}
-use Rattle.rig.specs.Rig.{RigState, ForEach}
+use Rattle.diag_growth.proofs.Vocabulary.{nat_tests, Cross, Shape, crosses_of, table_wire, tables_of, Faults, wrong_cell, among, Walk}
+use Rattle.diag_growth.proofs.Vocabulary.{cross_numbers, RigState, ForEach, untried_later, Arm, Seat}
 use Rattle.diag_evidence.specs.Kept.{Kept, HoldsFor, IsMore, Advances, Gains, untried, one_cell, one_register, keeps_wire, keeps_pair, keeps_cell, keeps_register}
-use Rattle.diag_evidence.proofs.Keeping.{untried_later}
-use Rattle.diag_growth.specs.declared.seat.Arm.{Arm}
-use Rattle.diag_growth.specs.declared.seat.Seat.{Seat}
 use Rattle.diag_growth.specs.Seats.{near_wires, far_wires, IsKeptBetween, IsKeptWalk, IsArm, IsSeat, TableIf, AddsOnlyTableFacts}
 use Rattle.diag_growth.proofs.Tying.{lt_or}
 use Rattle.diag_growth.specs.Ties.{IsSeatTie, to_output, on_arm, AreSeatTies, CellIf, CellsIf, RegisterIf}

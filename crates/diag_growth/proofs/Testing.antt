@@ -1,20 +1,12 @@
 -- What the tests of tables keep, table by table.
 use Rattle.std.proofs.Common.{◌≡◌, ℕ, zero, suc, ◌+◌, ◌<◌, ◌≤◌, Bool, Some, Option, List, [], ◌∷◌, length, get_or, refl, sym, ap, ◌∙◌, subst, arith, All, slice_get}
-use Rattle.std.proofs.lemmas.Option.{slice_get_within}
+use Rattle.diag_growth.proofs.Vocabulary.{slice_get_within, Shape, Table, crosses_of, tables_of, hextant_of, IsLine, IsPort, Faults}
+use Rattle.diag_growth.proofs.Vocabulary.{StandsBy, IsOutside, StandsWithout, IsSeated, IsRightTable, Kept, HoldsFor, IsMore, KnownWires}
+use Rattle.diag_growth.proofs.Vocabulary.{HasWire, IsKnown, IsKeptCrossOf, InSet, AreAllWithout, IsPlaceAt, IsWithout, SeatedIsKept}
+use Rattle.diag_growth.proofs.Vocabulary.{SeatedAreKept, VerifiedWire, known_later, KeepsTable, TableIf, AddsOnlyTableFacts}
 use native.Mathlib.Decide.{ℕ_discrete}
-use Rattle.machine_shape.specs.declared.Shape.{Shape}
-use Rattle.machine_shape.specs.declared.Table.{Table}
-use Rattle.machine_shape.specs.Shape.{crosses_of, tables_of, hextant_of, IsLine, IsPort}
-use Rattle.machine_meaning.specs.Vocabulary.{Faults, StandsBy, IsOutside, StandsWithout, IsSeated, IsRightTable}
 use Rattle.machine_meaning.proofs.Seats.{stands_also, seated_also}
-use Rattle.diag_evidence.specs.Kept.{Kept, HoldsFor, IsMore}
-use Rattle.diag_known.specs.Known.{KnownWires, HasWire, IsKnown, IsKeptCrossOf, InSet}
-use Rattle.diag_growth.specs.Seating.{AreAllWithout, IsPlaceAt, IsWithout}
-use Rattle.diag_growth.specs.Tables.{SeatedIsKept, SeatedAreKept}
-use Rattle.diag_known.specs.declared.verified_wire.VerifiedWire.{VerifiedWire}
-use Rattle.diag_known.proofs.Later.{known_later}
 use Rattle.diag_growth.proofs.Placing.{seated_place}
-use Rattle.diag_growth.specs.Seats.{KeepsTable, TableIf, AddsOnlyTableFacts}
 
 -- what stands without the hextant stands by the known wires outside it
 pub stands_within : (k : Kept) (ss : List VerifiedWire) (h : ℕ) (set : List Bool) → ((w : ℕ) → HasWire ss w → IsOutside k.shape h w → InSet set w) →

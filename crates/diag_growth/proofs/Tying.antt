@@ -1,13 +1,7 @@
 -- What is closed besides the routes.
 use Rattle.std.proofs.Common.{◌≡◌, ◌⊎◌, ◌<◌, ◌+◌, ◌++◌, ◌%◌, ◌/◌, ℕ, zero, suc, Bool, true, false, Some, Option, List, [], ◌∷◌, length, get_or, refl, sym, ap, ◌∙◌, subst, inl, inr, arith, ◌==◌, ◌||◌, unwrap_or, slice_get}
-use Rattle.std.proofs.lemmas.Bool.{false≢true, or_cases, or_left, or_right}
-use Rattle.std.proofs.lemmas.Bool.Decides.{nat_tests}
+use Rattle.diag_growth.proofs.Vocabulary.{false≢true, or_cases, or_left, or_right, nat_tests, Cross, among, cross_numbers, Arm, Seat}
 use native.Mathlib.Decide.{dec_lt}
-use Rattle.machine_shape.specs.declared.Cross.{Cross}
-use Rattle.machine_config.specs.Groups.{among}
-use Rattle.diag_tests.specs.Routes.{cross_numbers}
-use Rattle.diag_growth.specs.declared.seat.Arm.{Arm}
-use Rattle.diag_growth.specs.declared.seat.Seat.{Seat}
 use Rattle.diag_growth.specs.Ties.{halves, bit_of, IsSeatTie, to_output, on_arm, AreSeatTies}
 
 pub in_one : (x w : ℕ) → among (x ∷ []) w ≡ true → x ≡ w

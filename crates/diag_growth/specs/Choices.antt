@@ -2,12 +2,9 @@
 use Rattle.std.specs.Prelude.{◌≡◌, ◌⊎◌, ℕ, Some, List, IfSome, IfNone, length, slice_get}
 use Rattle.machine_shape.specs.Shape.{table_wire, hextant_of, IsLine}
 use Rattle.diag_evidence.specs.Kept.{Kept}
-use Rattle.diag_known.specs.Known.{HasWire}
-use Rattle.diag_known.specs.declared.verified_wire.VerifiedWire.{VerifiedWire}
+use Rattle.diag_known.specs.{Known.HasWire, declared.verified_wire.VerifiedWire.VerifiedWire}
 use Rattle.diag_growth.specs.Seating.{IsArmTo, IsFreeArm, IsFarPort, IsMeeting, IsPlaceAt}
-use Rattle.diag_growth.specs.declared.choices.Arms.{Arms}
-use Rattle.diag_growth.specs.declared.choices.Fars.{Fars}
-use Rattle.diag_growth.specs.declared.seats.Out.{Out}
+use Rattle.diag_growth.specs.declared.{choices.Arms.Arms, choices.Fars.Fars, seats.Out.Out}
 
 -- An arm from the port to the input, and another one over a different line; or none is over a different line.
 pub record AreArmsOf (k : Kept) (ss : List VerifiedWire) (h near input : ℕ) (a : Arms) : Type 0 where

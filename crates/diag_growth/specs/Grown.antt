@@ -4,8 +4,7 @@ use Rattle.base_bits.specs.Numbers.{has_number}
 use Rattle.machine_meaning.specs.Faults.{Faults}
 use Rattle.diag_evidence.specs.Kept.{Kept}
 use Rattle.diag_known.specs.Vocabulary.{KnownWires, IsBefore, HasWire, AreLost, IsKeptUnlessStuck, Links}
-use Rattle.diag_known.specs.declared.links.Near.{Near}
-use Rattle.diag_known.specs.declared.verified_wire.VerifiedWire.{VerifiedWire}
+use Rattle.diag_known.specs.declared.{links.Near.Near, verified_wire.VerifiedWire.VerifiedWire}
 
 -- one more wire is known, this one
 pub record IsLearnt (old new : KnownWires) (s : VerifiedWire) : Type 0 where

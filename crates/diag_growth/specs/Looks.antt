@@ -2,17 +2,13 @@
 use Rattle.std.specs.Prelude.{◌≡◌, ◌⊎◌, ℕ, ◌<◌, ◌++◌, Bool, true, false, Option, Some, List, length, slice_get}
 use Rattle.base_bits.specs.Numbers.{has_number}
 use Rattle.machine_meaning.specs.Faults.{Faults}
-use Rattle.machine_shape.specs.declared.Shape.{Shape}
-use Rattle.machine_shape.specs.Shape.{Ends, ends_of, crosses_of}
+use Rattle.machine_shape.specs.{declared.Shape.Shape, Shape.Ends, Shape.ends_of, Shape.crosses_of}
 use Rattle.diag_evidence.specs.Kept.{Kept}
 use Rattle.diag_known.specs.Vocabulary.{Links, list_at, KnownWires, IsKnown, KnowsAll, IsAt, IsBefore, HasWire, AreMarks, AreMarksOver}
 use Rattle.diag_known.specs.Vocabulary.{IsOffer, IsPlaced, AreLost, IsKeptUnlessStuck, IsTried}
-use Rattle.diag_known.specs.declared.links.Near.{Near}
+use Rattle.diag_known.specs.declared.{links.Near.Near, marks.Marks.Marks}
 use Rattle.diag_growth.specs.declared.look.Look.{Look}
-use Rattle.diag_known.specs.declared.marks.Marks.{Marks}
-use Rattle.diag_known.specs.declared.offers.Offer.{Offer}
-use Rattle.diag_known.specs.declared.verified_wire.Support.{Support}
-use Rattle.diag_known.specs.declared.verified_wire.VerifiedWire.{VerifiedWire}
+use Rattle.diag_known.specs.declared.{offers.Offer.Offer, verified_wire.Support.Support, verified_wire.VerifiedWire.VerifiedWire}
 
 -- the wire stands at this place, and this is a link from it
 pub record IsLook (near : List Near) (ss : List VerifiedWire) (l : Look) : Type 0 where

@@ -5,9 +5,8 @@ use Rattle.machine_config.specs.Groups.{among}
 use Rattle.diag_tests.specs.Routes.{Walk}
 use Rattle.diag_evidence.specs.Kept.{CanSettle, Kept, keeps_pair, keeps_wire}
 use Rattle.diag_known.specs.Vocabulary.{IsAt, HasWire, Adds, InSome, IsOn, reach_at, IsReached, AreTrees, AreWalks, ReachesAll}
-use Rattle.diag_known.specs.declared.beside.Reach.{Reach}
+use Rattle.diag_known.specs.declared.{beside.Reach.Reach, verified_wire.VerifiedWire.VerifiedWire}
 use Rattle.diag_known.specs.declared.beside.Reach.TheVariants as reach
-use Rattle.diag_known.specs.declared.verified_wire.VerifiedWire.{VerifiedWire}
 
 -- the wire is one of these
 pub record IsListed (ends : List Wire) (u : ℕ) : Type 0 where

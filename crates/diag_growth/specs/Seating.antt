@@ -1,13 +1,11 @@
 -- Where a table can be tested over known wires, as it is searched.
 use Rattle.std.specs.Prelude.{◌≡◌, ◌≢◌, ◌⊎◌, ℕ, ◌<◌, Bool, Some, List, length, slice_get}
-use Rattle.machine_shape.specs.declared.Shape.{Shape}
-use Rattle.machine_shape.specs.Shape.{ends_of, table_wire, hextant_of, IsLine, IsPort}
+use Rattle.machine_shape.specs.{declared.Shape.Shape, Shape.ends_of, Shape.table_wire, Shape.hextant_of, Shape.IsLine, Shape.IsPort}
 use Rattle.machine_meaning.specs.Standing.{IsOutside, Meets, StandsWithout}
 use Rattle.diag_evidence.specs.Kept.{Kept}
 use Rattle.diag_known.specs.Known.{KnownWires, IsAt, HasWire, IsKeptCrossOf, InSet, IsKnown}
-use Rattle.diag_growth.specs.declared.seats.Place.{Place}
+use Rattle.diag_growth.specs.declared.{seats.Place.Place, seat.Arm.Arm}
 use Rattle.diag_known.specs.declared.verified_wire.VerifiedWire.{VerifiedWire}
-use Rattle.diag_growth.specs.declared.seat.Arm.{Arm}
 
 -- the crosspoint of the tap and the line is kept
 pub record IsMeeting (k : Kept) (tap line x : ℕ) : Type 0 where

@@ -1,13 +1,11 @@
 -- Where a table is tested, and what its test keeps.
 use Rattle.std.specs.Prelude.{◌≡◌, ◌≢◌, ◌<◌, ◌++◌, ℕ, true, Some, Option, List, [], ◌∷◌, map, length, slice_get}
-use Rattle.machine_shape.specs.declared.Shape.{Shape}
-use Rattle.machine_shape.specs.Shape.{Ends, ends_of, table_wire, crosses_of, tables_of}
+use Rattle.machine_shape.specs.{declared.Shape.Shape, Shape.Ends, Shape.ends_of, Shape.table_wire, Shape.crosses_of, Shape.tables_of}
 use Rattle.machine_meaning.specs.Vocabulary.{Faults, IsRightTable}
 use Rattle.machine_config.specs.Groups.{among}
 use Rattle.diag_tests.specs.Routes.{Walk, IsRoute}
 use Rattle.diag_evidence.specs.Kept.{Kept, KeepsSet, HoldsFor, untried, keeps_cross, keeps_wire, keeps_pair, keeps_cell, keeps_register}
-use Rattle.diag_growth.specs.declared.seat.Arm.{Arm}
-use Rattle.diag_growth.specs.declared.seat.Seat.{Seat}
+use Rattle.diag_growth.specs.declared.seat.{Arm.Arm, Seat.Seat}
 
 -- the wires of the near route, and the lines of the arms
 abbrev pub near_wires : Seat → List ℕ

@@ -5,8 +5,7 @@ use Rattle.machine_meaning.specs.Faults.{Faults, wrong_cell, stuck_register}
 use Rattle.machine_config.specs.Vocabulary.{Configuration, among}
 use Rattle.diag_tests.specs.Configs.{IsCellConfig}
 use Rattle.diag_evidence.specs.Kept.{Kept, HoldsFor, keeps_cell, keeps_register}
-use Rattle.diag_growth.specs.declared.seat.Arm.{Arm}
-use Rattle.diag_growth.specs.declared.seat.Seat.{Seat}
+use Rattle.diag_growth.specs.declared.seat.{Arm.Arm, Seat.Seat}
 
 -- what is left of an address behind its first j bits, and bit j
 abbrev pub halves : ℕ → ℕ → ℕ

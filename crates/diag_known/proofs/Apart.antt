@@ -3,10 +3,7 @@ use Rattle.std.proofs.Common.{◌≡◌, ◌≢◌, ℕ, ◌<◌, Bool, true, Li
 use native.Mathlib.Decide.{dec_lt}
 use Rattle.diag_known.specs.Known.{KnownWires, IsAt, HasWire, IsKnown, IsGood, InSet, AreApart}
 use Rattle.diag_known.proofs.Places.{at_one}
-use Rattle.machine_shape.specs.Shape.{wires_of}
-use Rattle.diag_evidence.specs.Kept.{Kept, is_apart, keeps_wire, keeps_pair}
-use Rattle.diag_evidence.proofs.Keeping.{pair_turned}
-use Rattle.diag_evidence.proofs.KeptLemmas.{pair_apart}
+use Rattle.diag_known.proofs.Vocabulary.{wires_of, Kept, is_apart, keeps_wire, keeps_pair, pair_turned, pair_apart}
 
 pub known_pair : {k : Kept} {known : KnownWires} → IsKnown k known → (w u : ℕ) → HasWire known.steps w → HasWire known.steps u → u ≢ w → keeps_pair k u w ≡ true
 known_pair {k} {known} is w u a b differ = by (dec_lt b.place a.place) (dec_lt a.place b.place)

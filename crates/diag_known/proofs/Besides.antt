@@ -1,14 +1,9 @@
 -- Beside one of the two ways to a wire every other known wire is reached.
 use Rattle.std.proofs.Common.{◌≡◌, ◌≢◌, ◌⊎◌, ℕ, zero, suc, ◌<◌, Bool, true, false, Some, List, refl, sym, ap, ◌∙◌, subst, inl, inr, arith, slice_get}
 use native.Mathlib.Decide.{ℕ_discrete}
-use Rattle.machine_config.specs.Groups.{among}
-use Rattle.diag_tests.specs.Routes.{Walk}
-use Rattle.diag_evidence.specs.Kept.{Kept}
+use Rattle.diag_known.proofs.Vocabulary.{among, Walk, Kept, Support, SupportedBy, VerifiedWire}
 use Rattle.diag_known.specs.Vocabulary.{KnownWires, IsAt, IsFoot, HasWire, Stands, on_feet, IsKnown, IsPin, is_pin, HasFootOn, first, second, IsWay, AreWays, ReachesAll}
-use Rattle.diag_known.specs.declared.verified_wire.Support.{Support}
-use Rattle.diag_known.specs.declared.verified_wire.SupportedBy.{SupportedBy}
 use Rattle.diag_known.specs.declared.verified_wire.SupportedBy.TheVariants as stand
-use Rattle.diag_known.specs.declared.verified_wire.VerifiedWire.{VerifiedWire}
 use Rattle.diag_known.proofs.Places.{one_place, some_same}
 use Rattle.diag_known.proofs.Rising.{not_true}
 

@@ -1,11 +1,8 @@
 -- How many numbers are so, and sets to which one is added.
 use Rattle.std.proofs.Common.{◌≡◌, ◌≢◌, ◌⊎◌, ℕ, zero, suc, ◌+◌, ◌<◌, ◌≤◌, Bool, true, false, List, [], ◌∷◌, length, refl, sym, ap, ◌∙◌, subst, inl, inr, arith, slice_set, replicate, if◌then◌else◌}
-use Rattle.std.proofs.lemmas.Bool.{false≢true}
-use Rattle.std.proofs.lemmas.List.Sums.{sum_by-cons}
+use Rattle.diag_known.proofs.Vocabulary.{false≢true, sum_by-cons, has_number, size_of, how_many}
 use Rattle.std.proofs.lemmas.List.{get_or-set_same, get_or-set_other, get_or-replicate, get_or_past, length-replicate}
 use native.Mathlib.Decide.{dec_lt, ℕ_discrete}
-use Rattle.base_bits.specs.Numbers.{has_number, size_of}
-use Rattle.diag_known.specs.Field.{how_many}
 
 bit_more : (a b : Bool) → (a ≡ true → b ≡ true) → (if a then 1 else 0) ≤ (if b then 1 else 0)
 bit_more true true h = omega arith

@@ -1,12 +1,8 @@
 -- Marks that are put in one by one, and how many they are.
 use Rattle.std.proofs.Common.{◌≡◌, ◌⊎◌, ℕ, ◌+◌, ◌<◌, ◌≤◌, Bool, true, false, Some, cond, List, length, get_or, refl, sym, ap, ◌∙◌, inl, inr, arith, replicate, slice_get}
 use Rattle.std.proofs.Math.ListN.{set}
-use Rattle.std.proofs.lemmas.Bool.{cases_eq, cases_lt, false≢true}
+use Rattle.diag_known.proofs.Vocabulary.{cases_eq, cases_lt, false≢true, sum_by-set, slice_get-get_or, has_number, size_of, Wire}
 use Rattle.std.proofs.lemmas.List.{get_or-set_same, get_or-set_other, get_or-replicate, get_or_past, length-replicate, length-set}
-use Rattle.std.proofs.lemmas.List.Sums.{sum_by-set}
-use Rattle.std.proofs.lemmas.Option.{slice_get-get_or}
-use Rattle.base_bits.specs.Numbers.{has_number, size_of}
-use Rattle.machine_shape.specs.declared.Wire.{Wire}
 use Rattle.diag_known.specs.Gains.{Gets, IsWireBefore}
 use Rattle.diag_known.proofs.Places.{some_same}
 

@@ -1,19 +1,13 @@
 -- What stands by kept crosspoints, wire by wire.
 use Rattle.std.proofs.Common.{◌≡◌, ◌≢◌, ◌⊎◌, ℕ, zero, suc, ◌+◌, ◌<◌, ◌≤◌, Bool, true, false, Some, None, Option, List, [], ◌∷◌, ◌++◌, length, refl, sym, ap, ◌∙◌, subst, inl, inr, arith, set, slice_get, replicate}
-use Rattle.std.proofs.lemmas.Bool.{false≢true}
+use Rattle.diag_known.proofs.Vocabulary.{false≢true, slice_get_within, has_number, Ends, in_order, turned, ends_of, pin_wire, pins_of}
+use Rattle.diag_known.proofs.Vocabulary.{crosses_of, wires_of, Kept, keeps_cross, keeps_pair, Near, Support, VerifiedWire}
 use Rattle.std.proofs.lemmas.List.{length-set, length_push, get_or-set_same, get_or-set_other, get_or-replicate, get_or_past, length-replicate}
-use Rattle.std.proofs.lemmas.Option.{slice_get_within}
 use native.Mathlib.Decide.{dec_lt, ℕ_discrete}
-use Rattle.base_bits.specs.Numbers.{has_number}
 use Rattle.base_bits.proofs.NumbersLemmas.{size_of-taken}
-use Rattle.machine_shape.specs.Shape.{Ends, in_order, turned, ends_of, pin_wire, pins_of, crosses_of, wires_of}
-use Rattle.diag_evidence.specs.Kept.{Kept, keeps_cross, keeps_pair}
 use Rattle.diag_known.specs.Vocabulary.{KnownWires, IsAt, HasWire, IsFoot, Stands, IsKnown, IsKeptCrossOf, InSet, AreApart, IsGood, list_at, HasLink, IsBetween, AreAllLinks, foot_at, IsFootTo, IsGround, IsSettled, Founds, AreSettled}
 use Rattle.machine_meaning.specs.Standing.{StandsBy, pin_stands, on_two}
-use Rattle.diag_known.specs.declared.links.Near.{Near}
-use Rattle.diag_known.specs.declared.verified_wire.Support.{Support}
 use Rattle.diag_known.specs.declared.verified_wire.SupportedBy.TheVariants as stand
-use Rattle.diag_known.specs.declared.verified_wire.VerifiedWire.{VerifiedWire}
 use Rattle.diag_known.proofs.Places.{at_later, has_later, get_pushed, get_last, at_one, some_same, at_within}
 use Rattle.diag_known.proofs.Later.{learnt}
 

@@ -1,26 +1,13 @@
 -- A wire that hangs on what is reached beside a way: a toggle of a crosspoint from it to the way's end passes.
 use Rattle.std.proofs.Common.{◌≡◌, ◌≢◌, ◌⊎◌, ℕ, zero, suc, ◌<◌, Bool, true, false, Some, None, Option, List, [], ◌∷◌, ◌++◌, refl, sym, ap, ◌∙◌, subst, inl, inr, arith, slice_get, slice_index_or, ◌==◌, ◌||◌}
-use Rattle.std.proofs.lemmas.Bool.{false≢true}
-use Rattle.std.proofs.lemmas.Bool.Decides.{nat_tests}
-use Rattle.std.proofs.lemmas.List.Folds.{list_any-append}
-use Rattle.machine_shape.specs.declared.Cross.{Cross}
-use Rattle.machine_shape.specs.declared.Shape.{Shape}
-use Rattle.machine_shape.specs.Shape.{Ends, ends_of, pin_wire, crosses_of}
-use Rattle.machine_meaning.specs.Vocabulary.{Pins, Faults, stuck_cross, Shorted, IsClear}
-use Rattle.machine_meaning.proofs.JoinedLemmas.{Ends-swap}
-use Rattle.machine_config.specs.Vocabulary.{Configuration, among, IsWithin, LeadsTo, ends, goes, IsLoop, IsDrivenIn}
-use Rattle.machine_config.proofs.Grouped.{LeadsTo-start, LeadsTo-end, LeadsTo-within}
+use Rattle.diag_known.proofs.Vocabulary.{false≢true, nat_tests, list_any-append, Cross, Shape, Ends, ends_of, pin_wire, crosses_of, Pins}
+use Rattle.diag_known.proofs.Vocabulary.{Faults, stuck_cross, Shorted, IsClear, Ends-swap, Configuration, among, IsWithin, LeadsTo, ends}
+use Rattle.diag_known.proofs.Vocabulary.{goes, IsLoop, IsDrivenIn, LeadsTo-start, LeadsTo-end, LeadsTo-within, among_both, holds_earlier}
+use Rattle.diag_known.proofs.Vocabulary.{untried_crosses, grown, loop_of_lists, Reach, Offer, Support, VerifiedWire}
 use Rattle.diag_tests.specs.Vocabulary.{Walk, IsRoute, cross_numbers, IsLoopConfig}
-use Rattle.diag_tests.proofs.Longer.{among_both}
 use Rattle.diag_evidence.specs.Vocabulary.{Kept, HoldsUntried, IsMore, IsLoopBy, CrossPasses, wires_over}
-use Rattle.diag_evidence.proofs.Keeping.{holds_earlier, untried_crosses}
-use Rattle.diag_evidence.proofs.Lists.{grown, loop_of_lists}
 use Rattle.diag_known.specs.Vocabulary.{KnownWires, HasWire, IsKnown, IsOffer, IsHanging, InSome, IsOn, IsHung, HangsNot, ArePulled, HasNoneBeside, reach_at, IsReached, AreTrees, IsTreeWalk, IsOnWalk, IsLinkTo, IsFit, IsFaulty, IsWay}
-use Rattle.diag_known.specs.declared.beside.Reach.{Reach}
 use Rattle.diag_known.specs.declared.beside.Reach.TheVariants as reach
-use Rattle.diag_known.specs.declared.offers.Offer.{Offer}
-use Rattle.diag_known.specs.declared.verified_wire.Support.{Support}
-use Rattle.diag_known.specs.declared.verified_wire.VerifiedWire.{VerifiedWire}
 use Rattle.diag_known.proofs.Adding.{later_one}
 use Rattle.diag_known.proofs.Marking.{fit_faultless}
 use Rattle.diag_known.proofs.Passing.{rests_known, among_last, among_before, two_ends, both_within, known_clear, known_unshorted}

@@ -1,19 +1,10 @@
 -- Known wires stay known, and one more is known.
 use Rattle.std.proofs.Common.{◌≡◌, ◌⊎◌, ℕ, ◌+◌, ◌<◌, ◌&&◌, Bool, Some, List, [], ◌∷◌, ◌++◌, length, refl, sym, ap, ◌∙◌, subst, true, inl, inr, arith, slice_get}
-use Rattle.std.proofs.lemmas.Bool.{and_parts}
-use Rattle.base_bits.specs.Numbers.{has_number}
-use Rattle.std.proofs.lemmas.Option.{slice_get_within}
-use Rattle.machine_shape.specs.declared.Shape.{Shape}
-use Rattle.machine_shape.specs.Shape.{Ends, ends_of, pin_wire, pins_of, crosses_of}
-use Rattle.diag_evidence.specs.Kept.{Kept, keeps_cross, keeps_wire, is_apart, IsMore, KeepsSet, HasRetaken}
-use Rattle.diag_evidence.proofs.Keeping.{retaken_shape, retaken_cross, retaken_wire}
-use Rattle.diag_evidence.proofs.KeptLemmas.{pair_apart, pair_differs}
+use Rattle.diag_known.proofs.Vocabulary.{and_parts, has_number, slice_get_within, Shape, Ends, ends_of, pin_wire, pins_of, crosses_of, Kept}
+use Rattle.diag_known.proofs.Vocabulary.{keeps_cross, keeps_wire, is_apart, IsMore, KeepsSet, HasRetaken, retaken_shape, retaken_cross}
+use Rattle.diag_known.proofs.Vocabulary.{retaken_wire, pair_apart, pair_differs, Support, SupportedBy, VerifiedWire, Walk, IsRoute}
 use Rattle.diag_known.specs.Vocabulary.{KnownWires, HasWire, IsBefore, IsFoot, Stands, on_pin, on_feet, IsKnownStep, IsKnown, IsGood, KnowsAll, IsWay, AreWays}
-use Rattle.diag_known.specs.declared.verified_wire.Support.{Support}
-use Rattle.diag_known.specs.declared.verified_wire.SupportedBy.{SupportedBy}
-use Rattle.diag_known.specs.declared.verified_wire.VerifiedWire.{VerifiedWire}
 use Rattle.diag_known.proofs.Places.{get_pushed, before_later, before_has}
-use Rattle.diag_tests.specs.Routes.{Walk, IsRoute}
 
 -- What is known stays so where the crosspoints and wires that were kept are, and the known wires are of the set.
 module _ {k l : Kept} (shape : l.shape ≡ k.shape) (crosses : (x : ℕ) → keeps_cross k x ≡ true → keeps_cross l x ≡ true) where

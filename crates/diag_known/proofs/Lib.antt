@@ -24,3 +24,4 @@ mod Once
 mod TwoWays
 mod Reaching
 mod Touring
+mod Vocabulary

@@ -1,17 +1,10 @@
 -- Links, crosspoint by crosspoint.
 use Rattle.std.proofs.Common.{◌≡◌, ◌≢◌, ◌⊎◌, ℕ, zero, suc, ◌+◌, ◌<◌, ◌≤◌, true, false, Some, None, Option, List, [], ◌∷◌, ◌++◌, length, set, get_or, refl, sym, ap, ◌∙◌, subst, inl, inr, arith, slice_get, nat_lt}
-use Rattle.std.proofs.lemmas.Bool.{false≢true}
-use Rattle.std.proofs.lemmas.Bool.Decides.{nat_tests}
-use Rattle.std.proofs.lemmas.Option.{slice_get_read, slice_get_past}
+use Rattle.diag_known.proofs.Vocabulary.{false≢true, nat_tests, slice_get_read, slice_get_past, has_number, Shape, Ends-swap, Near, Support}
 use native.Mathlib.Decide.{dec_lt, ℕ_discrete}
-use Rattle.base_bits.specs.Numbers.{has_number}
-use Rattle.machine_shape.specs.declared.Shape.{Shape}
 use Rattle.machine_shape.specs.Shape.{Ends, in_order, turned, ends_of, crosses_of}
-use Rattle.machine_meaning.proofs.JoinedLemmas.{Ends-swap}
 use Rattle.diag_known.specs.Vocabulary.{IsInField, HasLink, AreLinksUpTo, AreLinks, AddsLink, Links, AreLinked, list_at, AreAllLinks}
 use Rattle.diag_known.specs.declared.field.Field.{Field}
-use Rattle.diag_known.specs.declared.links.Near.{Near}
-use Rattle.diag_known.specs.declared.verified_wire.Support.{Support}
 use Rattle.diag_known.proofs.Places.{get_before, get_last, get_pushed, some_same}
 
 pub list_at_some : (near : List Near) (w : ℕ) (v : Near) → slice_get near w ≡ Some v → list_at near w ≡ v.links.items

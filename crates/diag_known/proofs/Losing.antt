@@ -1,11 +1,6 @@
 -- What is lost, tried or kept unless it is stuck stays so, as further wires are known.
-use Rattle.std.proofs.Common.{◌≡◌, ℕ, ◌+◌, Option, List, ◌++◌, subst, inl, inr}
-use Rattle.machine_shape.specs.declared.Shape.{Shape}
-use Rattle.machine_meaning.specs.Faults.{Faults}
-use Rattle.diag_evidence.specs.Kept.{Kept, IsMore}
-use Rattle.diag_evidence.proofs.Keeping.{holds_earlier}
-use Rattle.diag_known.specs.Vocabulary.{AreLost, IsFit, IsLost, IsKeptUnlessStuck, IsTried}
-use Rattle.diag_known.specs.declared.verified_wire.VerifiedWire.{VerifiedWire}
+use Rattle.diag_known.proofs.Vocabulary.{◌≡◌, ℕ, ◌+◌, Option, List, ◌++◌, subst, inl, inr, Shape, Faults, Kept, IsMore, holds_earlier}
+use Rattle.diag_known.proofs.Vocabulary.{AreLost, IsFit, IsLost, IsKeptUnlessStuck, IsTried, VerifiedWire}
 use Rattle.diag_known.proofs.Places.{has_later}
 
 pub kept_later : {told : Option Faults} {k l : Kept} {x : ℕ} → IsMore k l → IsKeptUnlessStuck told k x → IsKeptUnlessStuck told l x

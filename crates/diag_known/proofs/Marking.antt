@@ -1,18 +1,11 @@
 -- Marks, and the loads that they stand for.
 use Rattle.std.proofs.Common.{◌≡◌, ◌≢◌, ◌⊎◌, ℕ, ◌+◌, ◌*◌, ◌<◌, ◌≤◌, Bool, true, false, Some, Option, List, length, refl, sym, ap, ◌∙◌, subst, inl, inr, arith, ◌||◌, slice_get, slice_set}
-use Rattle.std.proofs.lemmas.Bool.{false≢true}
+use Rattle.diag_known.proofs.Vocabulary.{false≢true, has_number, Shape, pin_wire, pins_of, wires_of, crosses_of, Faults, IsFaultless, Kept}
+use Rattle.diag_known.proofs.Vocabulary.{HoldsFor, IsMore, keeps_cross, holds_untried, Marks, VerifiedWire}
 use native.Mathlib.Decide.{dec_lt}
-use Rattle.base_bits.specs.Numbers.{has_number}
-use Rattle.machine_shape.specs.declared.Shape.{Shape}
-use Rattle.machine_shape.specs.Shape.{pin_wire, pins_of, wires_of, crosses_of}
-use Rattle.machine_meaning.specs.Faults.{Faults, IsFaultless}
 use Rattle.machine_meaning.proofs.Clear.{clear_of_sound}
 use Rattle.machine_meaning.proofs.Faultless.{all_sound}
-use Rattle.diag_evidence.specs.Kept.{Kept, HoldsFor, IsMore, keeps_cross}
-use Rattle.diag_evidence.proofs.Keeping.{holds_untried}
 use Rattle.diag_known.specs.Vocabulary.{how_many, HasWire, is_spent, most_loads, few_loads, barred_pins, TakesForWire, Spends, SpendsFew, AreMarks, AreMarksOver, IsFit}
-use Rattle.diag_known.specs.declared.marks.Marks.{Marks}
-use Rattle.diag_known.specs.declared.verified_wire.VerifiedWire.{VerifiedWire}
 use Rattle.diag_known.proofs.Counting.{many_one, set_below, set_has, set_most, set_only, set_stays, set_one}
 
 -- without faults each wire that isn't known is fit

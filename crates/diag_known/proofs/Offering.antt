@@ -1,17 +1,8 @@
 -- What an offer spends, one trial after the other.
 use Rattle.std.proofs.Common.{◌≡◌, ◌≢◌, ◌⊎◌, ℕ, ◌+◌, ◌<◌, ◌≤◌, true, false, Some, Option, List, refl, sym, ap, ◌∙◌, subst, inl, inr, arith, slice_get, slice_set}
-use Rattle.std.proofs.lemmas.Bool.{false≢true}
-use Rattle.std.proofs.lemmas.List.{set-set}
-use Rattle.base_bits.specs.Numbers.{has_number}
-use Rattle.machine_shape.specs.declared.Shape.{Shape}
-use Rattle.machine_meaning.specs.Faults.{Faults}
+use Rattle.diag_known.proofs.Vocabulary.{false≢true, set-set, has_number, Shape, Faults, holds_untried, Marks, Offer, Support, VerifiedWire}
 use Rattle.diag_evidence.specs.Kept.{Kept, HoldsFor, IsMore, keeps_cross}
-use Rattle.diag_evidence.proofs.Keeping.{holds_untried}
 use Rattle.diag_known.specs.Vocabulary.{barred_pins, is_spent, AreMarks, AreMarksOver, IsOfOffer, OffersAtMost, OffersOnly, SpendsFew, SpendsOn, IsOffer, IsPlaced}
-use Rattle.diag_known.specs.declared.marks.Marks.{Marks}
-use Rattle.diag_known.specs.declared.offers.Offer.{Offer}
-use Rattle.diag_known.specs.declared.verified_wire.Support.{Support}
-use Rattle.diag_known.specs.declared.verified_wire.VerifiedWire.{VerifiedWire}
 use Rattle.diag_known.proofs.Counting.{set_only}
 use Rattle.diag_known.proofs.Marking.{MarksOne, offered_one, spends_none, spends_then, spends_offered, spends_second, most_offered, few_none, few_then, few_offered, few_second}
 

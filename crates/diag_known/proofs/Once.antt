@@ -1,9 +1,7 @@
 -- Wires that stand in a list once.
 use Rattle.std.proofs.Common.{◌≡◌, ◌≢◌, ℕ, zero, suc, ◌<◌, Bool, true, false, List, [], ◌∷◌, ◌++◌, length, get_or, sym, ◌∙◌, subst, arith, AllPairs}
-use Rattle.std.proofs.lemmas.Bool.{false≢true}
-use Rattle.std.proofs.lemmas.Bool.Decides.{nat_tests}
+use Rattle.diag_known.proofs.Vocabulary.{false≢true, nat_tests, among}
 use Rattle.std.proofs.lemmas.List.Quantifiers.{all_pairs_push}
-use Rattle.machine_config.specs.Groups.{among}
 
 at_in : (ws : List ℕ) (i d : ℕ) → i < length ws → among ws (get_or ws i d) ≡ true
 at_in [] i d h = absurd (omega arith)

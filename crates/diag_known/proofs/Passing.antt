@@ -1,20 +1,12 @@
 -- Toggles over routes of known wires pass.
 use Rattle.std.proofs.Common.{◌≡◌, ◌≢◌, ℕ, ◌<◌, Bool, true, false, None, Option, List, [], ◌∷◌, ◌++◌, refl, sym, ap, ◌∙◌, subst, inr, arith, slice_get, ◌==◌, ◌||◌}
-use Rattle.std.proofs.lemmas.Bool.{false≢true}
-use Rattle.std.proofs.lemmas.Bool.Decides.{nat_tests}
+use Rattle.diag_known.proofs.Vocabulary.{false≢true, nat_tests, Shape, Ends, in_order, turned, ends_of, crosses_of, Faults, stuck_cross}
+use Rattle.diag_known.proofs.Vocabulary.{Shorted, IsClear, Joined-sym, among, IsWithin, ends, goes, LeadsTo-end, Walk, among-push}
+use Rattle.diag_known.proofs.Vocabulary.{among_both, pair_turned, holds_earlier, untried_crosses, untried_wires, untried_pairs}
+use Rattle.diag_known.proofs.Vocabulary.{VerifiedWire}
 use native.Mathlib.Decide.{dec_lt}
-use Rattle.machine_shape.specs.declared.Shape.{Shape}
-use Rattle.machine_shape.specs.Shape.{Ends, in_order, turned, ends_of, crosses_of}
-use Rattle.machine_meaning.specs.Vocabulary.{Faults, stuck_cross, Shorted, IsClear}
-use Rattle.machine_meaning.proofs.JoinedLemmas.{Joined-sym}
-use Rattle.machine_config.specs.Vocabulary.{among, IsWithin, ends, goes}
-use Rattle.machine_config.proofs.Grouped.{LeadsTo-end}
-use Rattle.diag_tests.specs.Routes.{Walk}
-use Rattle.diag_tests.proofs.Longer.{among-push, among_both}
 use Rattle.diag_evidence.specs.Vocabulary.{Kept, HoldsUntried, IsMore, keeps_cross, keeps_wire, keeps_pair, IsLoopBy, LoopPasses}
-use Rattle.diag_evidence.proofs.Keeping.{pair_turned, holds_earlier, untried_crosses, untried_wires, untried_pairs}
 use Rattle.diag_known.specs.Vocabulary.{KnownWires, IsAt, HasWire, IsKnown, RestsOn, IsKnownRoute, AreRoutesTo, IsKeptRoute, IsFit, IsKeptUnlessStuck, IsLost}
-use Rattle.diag_known.specs.declared.verified_wire.VerifiedWire.{VerifiedWire}
 use Rattle.diag_known.proofs.Places.{at_one}
 use Rattle.diag_known.proofs.Rising.{among_one}
 

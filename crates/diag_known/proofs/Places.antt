@@ -1,15 +1,9 @@
 -- Places of known wires.
 use Rattle.std.proofs.Common.{◌≡◌, ◌≢◌, ◌⊎◌, ℕ, zero, suc, ◌+◌, ◌<◌, Bool, true, false, Some, List, [], ◌∷◌, ◌++◌, length, refl, sym, ap, ◌∙◌, subst, inl, inr, arith, slice_get}
-use Rattle.std.proofs.lemmas.Bool.{false≢true}
+use Rattle.diag_known.proofs.Vocabulary.{false≢true, Kept, keeps_pair, no_pair_itself, Down, Support, SupportedBy, VerifiedWire}
 use Rattle.std.proofs.lemmas.Option.{slice_get_within}
-use Rattle.diag_evidence.specs.Kept.{Kept, keeps_pair}
-use Rattle.diag_evidence.proofs.Keeping.{no_pair_itself}
 use Rattle.diag_known.specs.Vocabulary.{KnownWires, IsAt, IsBefore, HasWire, IsFoot, IsKnown, Stands, on_pin, on_feet, AreTwo, IsPinAt, IsPinHere, Stays, StepsDown, StepsAlong, IsPin}
-use Rattle.diag_known.specs.declared.descents.Down.{Down}
-use Rattle.diag_known.specs.declared.verified_wire.Support.{Support}
-use Rattle.diag_known.specs.declared.verified_wire.SupportedBy.{SupportedBy}
 use Rattle.diag_known.specs.declared.verified_wire.SupportedBy.TheVariants as stand
-use Rattle.diag_known.specs.declared.verified_wire.VerifiedWire.{VerifiedWire}
 use native.Mathlib.Decide.{dec_lt}
 use native.Mathlib.Decide.{ℕ_discrete}
 

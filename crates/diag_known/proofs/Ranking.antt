@@ -2,17 +2,10 @@
 use Rattle.std.proofs.Common.{◌≡◌, ◌≢◌, ◌⊎◌, ℕ, ◌+◌, ◌*◌, ◌<◌, ◌≤◌, Bool, true, false, Some, None, Option, List, [], ◌∷◌, ◌++◌, ◌||◌, length, refl, sym, ap, ◌∙◌, subst, inl, inr, arith, set, get_or, slice_get, replicate, IfNone, is_some, if◌then◌else◌, ◌==◌}
 use Rattle.std.proofs.lemmas.List.{get_or-set_same, get_or-set_other, get_or-replicate, get_or_past, length-replicate, length-set, length-append}
 use Rattle.std.specs.List.{count_by}
-use Rattle.std.proofs.lemmas.List.Sums.{sum_by-set, count_by-le-length}
-use Rattle.std.proofs.lemmas.List.Folds.{sum_by-replicate}
-use Rattle.std.proofs.lemmas.Bool.Decides.{nat_tests}
-use Rattle.std.proofs.lemmas.Bool.{false≢true}
+use Rattle.diag_known.proofs.Vocabulary.{sum_by-set, count_by-le-length, sum_by-replicate, nat_tests, false≢true, has_number, wires_of}
+use Rattle.diag_known.proofs.Vocabulary.{mark_set, no_mark, KnownWires, IsAt, HasWire, rank_in, AreRanks, VerifiedWire}
 use native.Mathlib.Decide.{dec_lt, ℕ_discrete}
-use Rattle.base_bits.specs.Numbers.{has_number}
-use Rattle.machine_shape.specs.Shape.{wires_of}
-use Rattle.diag_evidence.proofs.KeptLemmas.{mark_set, no_mark}
-use Rattle.diag_known.specs.Vocabulary.{KnownWires, IsAt, HasWire, rank_in, AreRanks}
 use Rattle.diag_known.specs.declared.known.Known.TheInside.{Inside}
-use Rattle.diag_known.specs.declared.verified_wire.VerifiedWire.{VerifiedWire}
 use Rattle.diag_known.proofs.Places.{get_before, get_last, get_pushed, some_same}
 
 -- these are the places of these wires

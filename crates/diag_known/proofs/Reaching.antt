@@ -1,21 +1,13 @@
 -- What is reached beside a route, one known wire after the other.
 use Rattle.std.proofs.Common.{◌≡◌, ◌≢◌, ◌⊎◌, ℕ, ◌+◌, ◌<◌, ◌≤◌, Bool, true, false, Some, List, length, refl, sym, ap, ◌∙◌, subst, inl, inr, arith, set, take, slice_get, replicate, ◌==◌, ◌||◌}
-use Rattle.std.proofs.lemmas.Bool.{false≢true}
-use Rattle.std.proofs.lemmas.Bool.Decides.{nat_tests}
+use Rattle.diag_known.proofs.Vocabulary.{false≢true, nat_tests, among, Walk, Kept, Reach, Support, SupportedBy, VerifiedWire}
 use Rattle.diag_tests.proofs.Closings.{among_at, more_among}
 use Rattle.std.proofs.lemmas.List.{length-set, take_all, get_or-set_same, get_or-set_other, get_or-replicate, get_or_past, length-replicate}
 use Rattle.std.proofs.lemmas.Option.{slice_get_within}
 use native.Mathlib.Decide.{dec_lt, ℕ_discrete}
-use Rattle.machine_config.specs.Groups.{among}
-use Rattle.diag_tests.specs.Routes.{Walk}
-use Rattle.diag_evidence.specs.Kept.{Kept}
 use Rattle.diag_known.specs.Vocabulary.{KnownWires, IsAt, IsBefore, IsKnown, IsPin, HasFootOn, first, second, ReachesAll, reach_at, IsFrom, IsReached, HangsOn, own, by_first, by_second, AreTrees}
-use Rattle.diag_known.specs.declared.beside.Reach.{Reach}
 use Rattle.diag_known.specs.declared.beside.Reach.TheVariants as reach
-use Rattle.diag_known.specs.declared.verified_wire.Support.{Support}
-use Rattle.diag_known.specs.declared.verified_wire.SupportedBy.{SupportedBy}
 use Rattle.diag_known.specs.declared.verified_wire.SupportedBy.TheVariants as stand
-use Rattle.diag_known.specs.declared.verified_wire.VerifiedWire.{VerifiedWire}
 use Rattle.diag_known.proofs.Places.{one_place, some_same, before_has, feet_here, at_one}
 
 -- what is found of the first n known wires

@@ -1,20 +1,10 @@
 -- Routes from two pins up along a descent.
 use Rattle.std.proofs.Common.{◌≡◌, ◌≢◌, ◌⊎◌, ℕ, ◌+◌, ◌<◌, Bool, true, false, Some, List, [], ◌∷◌, ◌++◌, refl, sym, ap, ◌∙◌, subst, inl, inr, arith, slice_get, ◌==◌, AllPairs}
-use Rattle.std.proofs.lemmas.Bool.{false≢true}
-use Rattle.std.proofs.lemmas.Bool.Decides.{nat_tests}
-use Rattle.machine_shape.specs.declared.Shape.{Shape}
+use Rattle.diag_known.proofs.Vocabulary.{false≢true, nat_tests, Shape, among, LeadsTo-end, Walk, IsRoute, other_end, Extends, at_pin}
+use Rattle.diag_known.proofs.Vocabulary.{among-push, among_both, at_pin_is, Kept, keeps_cross, Down, Support, SupportedBy, VerifiedWire}
 use Rattle.machine_shape.specs.Shape.{Ends, in_order, turned, ends_of, pin_wire, crosses_of, wires_of}
-use Rattle.machine_config.specs.Groups.{among}
-use Rattle.machine_config.proofs.Grouped.{LeadsTo-end}
-use Rattle.diag_tests.specs.Routes.{Walk, IsRoute, other_end, Extends, at_pin}
-use Rattle.diag_tests.proofs.Longer.{among-push, among_both, at_pin_is}
-use Rattle.diag_evidence.specs.Kept.{Kept, keeps_cross}
 use Rattle.diag_known.specs.Vocabulary.{KnownWires, IsAt, IsKnown, IsPin, is_pin, HasFootOn, first, second, RestsOn, IsEarly, IsKnownRoute, AreRoutes, AreRoutesTo, StepsDown, Goes, Descends, DescendsTo, IsPinAt}
-use Rattle.diag_known.specs.declared.descents.Down.{Down}
-use Rattle.diag_known.specs.declared.verified_wire.Support.{Support}
-use Rattle.diag_known.specs.declared.verified_wire.SupportedBy.{SupportedBy}
 use Rattle.diag_known.specs.declared.verified_wire.SupportedBy.TheVariants as stand
-use Rattle.diag_known.specs.declared.verified_wire.VerifiedWire.{VerifiedWire}
 use Rattle.diag_known.proofs.Once.{once_alone, once_more}
 use Rattle.diag_known.proofs.Places.{one_place, some_same, at_one}
 

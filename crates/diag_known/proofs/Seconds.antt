@@ -1,16 +1,9 @@
 -- Two feet for a wire, or none.
 use Rattle.std.proofs.Common.{◌≡◌, ◌⊎◌, ℕ, ◌+◌, ◌<◌, true, Some, Option, List, length, sym, ap, ◌∙◌, subst, inl, inr, arith, slice_get}
 use native.Mathlib.Decide.{ℕ_discrete}
-use Rattle.machine_shape.specs.declared.Shape.{Shape}
-use Rattle.machine_meaning.specs.Faults.{Faults}
-use Rattle.diag_tests.specs.Routes.{Walk}
-use Rattle.diag_evidence.specs.Kept.{Kept, IsMore, keeps_cross}
-use Rattle.diag_evidence.proofs.Keeping.{holds_earlier}
+use Rattle.diag_known.proofs.Vocabulary.{Shape, Faults, Walk, Kept, IsMore, keeps_cross, holds_earlier, Offer, Support, VerifiedWire}
 use Rattle.diag_known.specs.Vocabulary.{KnownWires, IsFoot, IsKnown, Stands, on_feet, IsOffer, IsSecond, AreLost, HasNoSecond, HasNoneBeside, IsReached, IsFit, IsLinkTo, IsLost, AreWays, AreFeetOf}
-use Rattle.diag_known.specs.declared.offers.Offer.{Offer}
-use Rattle.diag_known.specs.declared.verified_wire.Support.{Support}
 use Rattle.diag_known.specs.declared.verified_wire.SupportedBy.TheVariants as stand
-use Rattle.diag_known.specs.declared.verified_wire.VerifiedWire.{VerifiedWire}
 use Rattle.diag_known.proofs.Besides.{beside}
 use Rattle.diag_known.proofs.Places.{at_within, some_same}
 

@@ -1,19 +1,10 @@
 -- Marks stay right, while more is kept and known, and where one is set.
 use Rattle.std.proofs.Common.{◌≡◌, ◌≢◌, ◌⊎◌, ℕ, ◌+◌, ◌<◌, Bool, true, false, Some, Option, List, [], ◌++◌, refl, sym, ◌∙◌, subst, inl, inr, slice_get, slice_set, Result, Ok, Err, IfOk, OnOk, IsTrue, arith, ◌==◌}
-use Rattle.std.proofs.lemmas.Bool.{false≢true, or_left}
-use Rattle.std.proofs.lemmas.Bool.Decides.{nat_tests}
-use Rattle.std.proofs.lemmas.List.{length-set, append-nil}
+use Rattle.diag_known.proofs.Vocabulary.{false≢true, or_left, nat_tests, length-set, append-nil, has_number, Shape, Ends, in_order, turned}
+use Rattle.diag_known.proofs.Vocabulary.{ends_of, crosses_of, Faults, IsFaultless, holds_earlier, Marks, Support, VerifiedWire}
 use native.Mathlib.Decide.{ℕ_discrete}
-use Rattle.base_bits.specs.Numbers.{has_number}
-use Rattle.machine_shape.specs.declared.Shape.{Shape}
-use Rattle.machine_shape.specs.Shape.{Ends, in_order, turned, ends_of, crosses_of}
-use Rattle.machine_meaning.specs.Faults.{Faults, IsFaultless}
 use Rattle.diag_evidence.specs.Kept.{Kept, HoldsUntried, IsMore, Gains, one_cross, keeps_cross}
-use Rattle.diag_evidence.proofs.Keeping.{holds_earlier}
 use Rattle.diag_known.specs.Vocabulary.{HasWire, is_spent, IsSecondMark, AreMarks, AreMarksOver, OffersAtMost, IsLost, IsLinkTo, IsKeptUnlessStuck, IsFaulty}
-use Rattle.diag_known.specs.declared.marks.Marks.{Marks}
-use Rattle.diag_known.specs.declared.verified_wire.Support.{Support}
-use Rattle.diag_known.specs.declared.verified_wire.VerifiedWire.{VerifiedWire}
 use Rattle.diag_known.proofs.Counting.{set_only}
 use Rattle.diag_known.proofs.Losing.{kept_later, lost_one_later}
 use Rattle.diag_known.proofs.Marking.{MarksOne, offered_one, second_one, between_one, fit_faultless}

@@ -1,17 +1,10 @@
 -- One more wire stands.
 use Rattle.std.proofs.Common.{◌≡◌, ◌≢◌, ◌⊎◌, ℕ, ◌+◌, ◌<◌, ◌≤◌, Bool, true, false, Option, Some, None, List, [], ◌∷◌, ◌++◌, length, get_or, sym, ap, ◌∙◌, subst, inl, inr, arith, set, slice_get}
-use Rattle.std.proofs.lemmas.Bool.{false≢true}
-use Rattle.std.proofs.lemmas.List.{get_or_past, get_or_read}
+use Rattle.diag_known.proofs.Vocabulary.{false≢true, get_or_past, get_or_read, has_number, Shape, Kept, Near, Support, VerifiedWire}
 use native.Mathlib.Decide.{dec_lt}
-use Rattle.base_bits.specs.Numbers.{has_number}
-use Rattle.machine_shape.specs.declared.Shape.{Shape}
 use Rattle.machine_shape.specs.Vocabulary.{pin_wire, pins_of, wires_of, IsNumbered}
-use Rattle.diag_evidence.specs.Kept.{Kept}
 use Rattle.diag_known.specs.Vocabulary.{KnownWires, IsAt, HasWire, Stands, on_pin, on_feet, InSet, IsBetween, foot_at, IsFootTo, IsGround, IsSettled, Founds, AreSettled}
-use Rattle.diag_known.specs.declared.links.Near.{Near}
-use Rattle.diag_known.specs.declared.verified_wire.Support.{Support}
 use Rattle.diag_known.specs.declared.verified_wire.SupportedBy.TheVariants as stand
-use Rattle.diag_known.specs.declared.verified_wire.VerifiedWire.{VerifiedWire}
 use Rattle.diag_known.proofs.Grounding.{ground_then, ground_foot, founds_foot, settled_foot, founds_one, taken_now, foot_is}
 
 has_within : (left : List Bool) (w : ℕ) → has_number left w ≡ true → w < length left

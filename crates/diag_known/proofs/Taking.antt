@@ -1,9 +1,6 @@
 -- Loads for what isn't kept are loads for all.
 use Rattle.std.proofs.Common.{◌≡◌, ℕ, ◌+◌, ◌*◌, ◌≤◌, Bool, true, false, Some, Option, length, refl, subst, arith, not, ◌&&◌}
-use Rattle.base_bits.specs.Numbers.{has_number, size_of}
-use Rattle.machine_meaning.specs.Faults.{Faults, IsFaultless}
-use Rattle.diag_evidence.specs.Kept.{Kept, HoldsFor, keeps_cross}
-use Rattle.diag_known.specs.Field.{fresh, pins_in, TakesFew}
+use Rattle.diag_known.proofs.Vocabulary.{has_number, size_of, Faults, IsFaultless, Kept, HoldsFor, keeps_cross, fresh, pins_in, TakesFew}
 use Rattle.diag_known.specs.declared.field.Field.{Field}
 use Rattle.diag_known.proofs.Counting.{many_more, many_size}
 

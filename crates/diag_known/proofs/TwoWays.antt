@@ -1,17 +1,9 @@
 -- Two ways to a wire, from two routes to its feet.
 use Rattle.std.proofs.Common.{◌≡◌, ◌≢◌, ◌⊎◌, ℕ, true, false, Some, List, [], ◌∷◌, ◌++◌, refl, sym, ap, ◌∙◌, subst, inl, inr, slice_get}
-use Rattle.std.proofs.lemmas.Bool.{false≢true}
-use Rattle.machine_shape.specs.declared.Shape.{Shape}
-use Rattle.machine_shape.specs.Shape.{Ends, ends_of, pin_wire}
-use Rattle.machine_config.specs.Groups.{among}
-use Rattle.diag_tests.specs.Routes.{Walk, IsRoute, Extends, at_pin, other_end}
-use Rattle.diag_tests.proofs.Longer.{among_both, among-push}
-use Rattle.diag_evidence.specs.Kept.{Kept, keeps_cross}
+use Rattle.diag_known.proofs.Vocabulary.{false≢true, Shape, Ends, ends_of, pin_wire, among, Walk, IsRoute, Extends, at_pin, other_end}
+use Rattle.diag_known.proofs.Vocabulary.{among_both, among-push, Kept, keeps_cross, Support, SupportedBy, VerifiedWire}
 use Rattle.diag_known.specs.Vocabulary.{KnownWires, IsAt, IsFoot, HasWire, IsKnown, IsPin, HasFootOn, first, second, RestsOn, IsEarly, AreRoutesTo, IsWay, AreWays, AreFeetOf}
-use Rattle.diag_known.specs.declared.verified_wire.Support.{Support}
-use Rattle.diag_known.specs.declared.verified_wire.SupportedBy.{SupportedBy}
 use Rattle.diag_known.specs.declared.verified_wire.SupportedBy.TheVariants as stand
-use Rattle.diag_known.specs.declared.verified_wire.VerifiedWire.{VerifiedWire}
 use Rattle.diag_known.proofs.Places.{at_one, before_has, feet_here, StandsOn}
 use Rattle.diag_known.proofs.Rising.{foot_end, among_one, not_early, routes_to_turned}
 

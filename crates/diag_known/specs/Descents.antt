@@ -3,12 +3,9 @@
 use Rattle.std.specs.Prelude.{◌≡◌, ◌≢◌, ◌⊎◌, ℕ, ◌<◌, true, false, Some, List, [], ◌∷◌, slice_get}
 use Rattle.machine_shape.specs.Shape.{pin_wire, pins_of}
 use Rattle.diag_evidence.specs.Kept.{Kept}
-use Rattle.diag_known.specs.Known.{IsAt, IsFoot}
-use Rattle.diag_known.specs.Routes.{IsPin}
-use Rattle.diag_known.specs.declared.verified_wire.Support.{Support}
+use Rattle.diag_known.specs.{Known.IsAt, Known.IsFoot, declared.verified_wire.VerifiedWire.VerifiedWire, declared.descents.Down.Down}
+use Rattle.diag_known.specs.{Routes.IsPin, declared.verified_wire.Support.Support}
 use Rattle.diag_known.specs.declared.verified_wire.SupportedBy.TheVariants as stand
-use Rattle.diag_known.specs.declared.verified_wire.VerifiedWire.{VerifiedWire}
-use Rattle.diag_known.specs.declared.descents.Down.{Down}
 
 -- The wire at the one place has this foot, at which the wire at the other place doesn't stand; and that one is a pin or
 -- came before.

@@ -2,13 +2,10 @@
 use Rattle.std.specs.Prelude.{◌≡◌, ◌⊎◌, ℕ, zero, suc, ◌+◌, ◌*◌, ◌<◌, ◌≤◌, Bool, true, not, ◌&&◌, Option, Some, None, List, length}
 use Rattle.std.specs.Prelude.{if◌then◌else◌}
 use Rattle.base_bits.specs.Numbers.{has_number, size_of}
-use Rattle.machine_shape.specs.declared.Shape.{Shape}
-use Rattle.machine_shape.specs.Shape.{wires_of, crosses_of, pins_of, pin_wire, ends_of}
+use Rattle.machine_shape.specs.{declared.Shape.Shape, Shape.wires_of, Shape.crosses_of, Shape.pins_of, Shape.pin_wire, Shape.ends_of}
 use Rattle.machine_meaning.specs.Vocabulary.{Faults, IsFaultless, stuck_cross, IsClear, IsAlone, HasFeet}
 use Rattle.diag_evidence.specs.Kept.{Kept, HoldsFor, HoldsUntried, keeps_cross}
-use Rattle.diag_known.specs.Known.{HasWire}
-use Rattle.diag_known.specs.declared.verified_wire.VerifiedWire.{VerifiedWire}
-use Rattle.diag_known.specs.declared.field.Field.{Field}
+use Rattle.diag_known.specs.{Known.HasWire, declared.verified_wire.VerifiedWire.VerifiedWire, declared.field.Field.Field}
 
 -- a field of this shape: marks of wires and of crosspoints
 pub record IsFieldOf (m : Shape) (a : Field) : Type 0 where

@@ -2,14 +2,11 @@
 use Rattle.std.specs.Prelude.{◌≡◌, ◌≢◌, ◌⊎◌, ℕ, ◌+◌, ◌<◌, ◌≤◌, Bool, true, false, Option, Some, None, List}
 use Rattle.std.specs.Prelude.{length, slice_get, slice_index_or}
 use Rattle.base_bits.specs.Numbers.{has_number, size_of}
-use Rattle.machine_shape.specs.declared.Shape.{Shape}
-use Rattle.machine_shape.specs.Shape.{Ends, ends_of, crosses_of, wires_of}
+use Rattle.machine_shape.specs.{declared.Shape.Shape, Shape.Ends, Shape.ends_of, Shape.crosses_of, Shape.wires_of}
 use Rattle.diag_evidence.specs.Kept.{Kept, is_apart, keeps_cross, keeps_wire, keeps_pair}
 use Rattle.diag_known.specs.Known.{KnownWires, IsAt, IsBefore, HasWire, IsKnown, InSet}
-use Rattle.diag_known.specs.Linked.{list_at, HasLink}
-use Rattle.diag_known.specs.declared.links.Near.{Near}
+use Rattle.diag_known.specs.{Linked.list_at, Linked.HasLink, declared.links.Near.Near, declared.verified_wire.VerifiedWire.VerifiedWire}
 use Rattle.diag_known.specs.declared.verified_wire.Support.{Support}
-use Rattle.diag_known.specs.declared.verified_wire.VerifiedWire.{VerifiedWire}
 
 -- the crosspoint leads from the one wire to the other
 pub record IsBetween (m : Shape) (x u w : ℕ) : Type 0 where

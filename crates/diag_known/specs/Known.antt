@@ -5,10 +5,8 @@ use Rattle.base_bits.specs.Numbers.{has_number}
 use Rattle.machine_shape.specs.declared.Shape.{Shape}
 use Rattle.machine_shape.specs.Shape.{Ends, ends_of, pin_wire, pins_of, crosses_of, wires_of}
 use Rattle.diag_evidence.specs.Kept.{Kept, is_apart, keeps_cross, keeps_wire, keeps_pair}
-use Rattle.diag_known.specs.declared.verified_wire.Support.{Support}
-use Rattle.diag_known.specs.declared.verified_wire.SupportedBy.{SupportedBy}
+use Rattle.diag_known.specs.declared.verified_wire.{Support.Support, SupportedBy.SupportedBy, VerifiedWire.VerifiedWire}
 use Rattle.diag_known.specs.declared.verified_wire.SupportedBy.TheVariants as stand
-use Rattle.diag_known.specs.declared.verified_wire.VerifiedWire.{VerifiedWire}
 
 -- wires of a machine, in the order in which they came
 pub record KnownWires : Type 0 where

@@ -1,11 +1,8 @@
 -- The links of a field: crosspoints to each wire, with their other ends.
 use Rattle.std.specs.Prelude.{◌≡◌, ◌≢◌, ℕ, ◌<◌, true, Some, List, [], ◌∷◌, ◌++◌, zero, suc, slice_get}
 use Rattle.base_bits.specs.Numbers.{has_number}
-use Rattle.machine_shape.specs.declared.Shape.{Shape}
-use Rattle.machine_shape.specs.Shape.{Ends, ends_of, crosses_of}
-use Rattle.diag_known.specs.declared.field.Field.{Field}
-use Rattle.diag_known.specs.declared.links.Near.{Near}
-use Rattle.diag_known.specs.declared.verified_wire.Support.{Support}
+use Rattle.machine_shape.specs.{declared.Shape.Shape, Shape.Ends, Shape.ends_of, Shape.crosses_of}
+use Rattle.diag_known.specs.declared.{field.Field.Field, links.Near.Near, verified_wire.Support.Support}
 
 -- a crosspoint of the field leads from the one wire to the other
 pub record IsInField (m : Shape) (a : Field) (x u w : ℕ) : Type 0 where

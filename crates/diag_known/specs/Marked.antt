@@ -5,13 +5,9 @@ use Rattle.machine_shape.specs.declared.Shape.{Shape}
 use Rattle.machine_shape.specs.Shape.{Ends, ends_of, pin_wire, pins_of, wires_of, crosses_of}
 use Rattle.machine_meaning.specs.Faults.{Faults, IsFaultless}
 use Rattle.diag_evidence.specs.Kept.{Kept, HoldsFor, HoldsUntried, keeps_cross}
-use Rattle.diag_known.specs.Field.{how_many}
+use Rattle.diag_known.specs.{Field.how_many, Offers.InSome, Offers.HasNoSecond, Trials.IsKeptUnlessStuck, Trials.IsLost, Trials.IsTried}
 use Rattle.diag_known.specs.Known.{HasWire}
-use Rattle.diag_known.specs.Offers.{InSome, HasNoSecond}
-use Rattle.diag_known.specs.Trials.{IsKeptUnlessStuck, IsLost, IsTried}
-use Rattle.diag_known.specs.declared.marks.Marks.{Marks}
-use Rattle.diag_known.specs.declared.offers.Offer.{Offer}
-use Rattle.diag_known.specs.declared.verified_wire.VerifiedWire.{VerifiedWire}
+use Rattle.diag_known.specs.declared.{marks.Marks.Marks, offers.Offer.Offer, verified_wire.VerifiedWire.VerifiedWire}
 
 -- the crosspoint was toggled
 abbrev pub is_spent : Marks → ℕ → Bool

@@ -1,21 +1,14 @@
 -- Offers of a crosspoint: from a known wire to one that isn't known, to which others lead from other known wires.
 use Rattle.std.specs.Prelude.{◌≡◌, ◌≢◌, ◌⊎◌, ℕ, ◌<◌, true, false, Option, Some, None, List, [], ◌∷◌, slice_get, slice_index_or}
-use Rattle.machine_shape.specs.declared.Shape.{Shape}
-use Rattle.machine_shape.specs.declared.Wire.{Wire}
-use Rattle.machine_shape.specs.Shape.{wires_of}
+use Rattle.machine_shape.specs.{declared.Shape.Shape, declared.Wire.Wire, Shape.wires_of}
 use Rattle.machine_meaning.specs.Vocabulary.{Pins, Faults, stuck_cross}
 use Rattle.machine_config.specs.Groups.{among}
 use Rattle.diag_tests.specs.Routes.{Walk}
 use Rattle.diag_evidence.specs.Kept.{Kept, HoldsUntried, keeps_cross}
-use Rattle.diag_known.specs.Known.{HasWire}
-use Rattle.diag_known.specs.Reaches.{reach_at, IsReached, AreTrees, AreWalks}
-use Rattle.diag_known.specs.Trials.{IsLinkTo, IsFit}
-use Rattle.diag_known.specs.Ways.{ReachesAll}
-use Rattle.diag_known.specs.declared.beside.Reach.{Reach}
+use Rattle.diag_known.specs.{Known.HasWire, Ways.ReachesAll, declared.offers.Offer.Offer}
+use Rattle.diag_known.specs.{Reaches.reach_at, Reaches.IsReached, Reaches.AreTrees, Reaches.AreWalks, Trials.IsLinkTo, Trials.IsFit}
+use Rattle.diag_known.specs.declared.{beside.Reach.Reach, verified_wire.Support.Support, verified_wire.VerifiedWire.VerifiedWire}
 use Rattle.diag_known.specs.declared.beside.Reach.TheVariants as reach
-use Rattle.diag_known.specs.declared.offers.Offer.{Offer}
-use Rattle.diag_known.specs.declared.verified_wire.Support.{Support}
-use Rattle.diag_known.specs.declared.verified_wire.VerifiedWire.{VerifiedWire}
 
 -- The wire isn't known. The crosspoint leads to it from a known one, and the others from other known ones.
 pub record IsOffer (m : Shape) (ss : List VerifiedWire) (o : Offer) : Type 0 where

@@ -3,8 +3,7 @@ use Rattle.std.specs.Prelude.{◌≡◌, ℕ, Option, Some, None, length, List, 
 use Rattle.std.specs.List.{count_by}
 use Rattle.base_bits.specs.Numbers.{has_number}
 use Rattle.machine_shape.specs.Shape.{wires_of}
-use Rattle.diag_known.specs.Known.{IsAt}
-use Rattle.diag_known.specs.declared.known.Known.TheInside.{Inside}
+use Rattle.diag_known.specs.{Known.IsAt, declared.known.Known.TheInside.Inside}
 
 -- a wire's place, if it is known
 abbrev pub rank_in : List (Option ℕ) → ℕ → Option ℕ

@@ -1,18 +1,14 @@
 -- What is reached beside a route from the machine's pins: trees, in which each wire that is no pin hangs on a foot.
 use Rattle.std.specs.Prelude.{◌≡◌, ◌<◌, ℕ, true, false, Some, List, [], ◌∷◌, slice_get, slice_index_or}
-use Rattle.machine_shape.specs.declared.Wire.{Wire}
-use Rattle.machine_shape.specs.Shape.{Ends, ends_of, crosses_of}
+use Rattle.machine_shape.specs.{declared.Wire.Wire, Shape.Ends, Shape.ends_of, Shape.crosses_of}
 use Rattle.machine_config.specs.Groups.{among}
 use Rattle.diag_tests.specs.Routes.{Walk, IsRoute}
 use Rattle.diag_evidence.specs.Kept.{Kept, keeps_cross}
-use Rattle.diag_known.specs.Known.{IsAt, HasWire, IsBefore}
-use Rattle.diag_known.specs.declared.beside.Reach.{Reach}
+use Rattle.diag_known.specs.{Known.IsAt, Known.HasWire, Known.IsBefore, declared.verified_wire.VerifiedWire.VerifiedWire}
+use Rattle.diag_known.specs.declared.{beside.Reach.Reach, verified_wire.Support.Support, verified_wire.SupportedBy.SupportedBy}
 use Rattle.diag_known.specs.declared.beside.Reach.TheVariants as reach
 use Rattle.diag_known.specs.declared.descents.Down.{Down}
-use Rattle.diag_known.specs.declared.verified_wire.Support.{Support}
-use Rattle.diag_known.specs.declared.verified_wire.SupportedBy.{SupportedBy}
 use Rattle.diag_known.specs.declared.verified_wire.SupportedBy.TheVariants as stand
-use Rattle.diag_known.specs.declared.verified_wire.VerifiedWire.{VerifiedWire}
 
 -- how a wire stands to the route
 abbrev pub reach_at : List Reach → ℕ → Reach

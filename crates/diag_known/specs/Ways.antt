@@ -3,10 +3,8 @@ use Rattle.std.specs.Prelude.{◌≡◌, ◌≢◌, ◌⊎◌, ℕ, true, false,
 use Rattle.machine_config.specs.Groups.{among}
 use Rattle.diag_tests.specs.Routes.{Walk, IsRoute}
 use Rattle.diag_evidence.specs.Kept.{Kept, keeps_cross}
-use Rattle.diag_known.specs.Known.{IsFoot}
-use Rattle.diag_known.specs.Routes.{IsPin, HasFootOn, RestsOn, IsEarly}
-use Rattle.diag_known.specs.declared.verified_wire.Support.{Support}
-use Rattle.diag_known.specs.declared.verified_wire.VerifiedWire.{VerifiedWire}
+use Rattle.diag_known.specs.{Known.IsFoot, declared.verified_wire.VerifiedWire.VerifiedWire}
+use Rattle.diag_known.specs.{Routes.IsPin, Routes.HasFootOn, Routes.RestsOn, Routes.IsEarly, declared.verified_wire.Support.Support}
 
 -- A route to the wire by kept crosspoints. Each wire on it but this one is known, and a pin or on a foot that is on the route
 -- and isn't this one.

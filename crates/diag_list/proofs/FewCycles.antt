@@ -1,6 +1,5 @@
 -- Few cycles for each load, from where the machine was attached.
-use Rattle.std.proofs.Common.{◌≡◌, ℕ, ◌+◌, ◌*◌, ◌≤◌, ap, arith, inl, inr, refl, sym}
-use Rattle.rig.specs.Rig.{RigState, Machine, cycles_made}
+use Rattle.diag_list.proofs.Vocabulary.{◌≡◌, ℕ, ◌+◌, ◌*◌, ◌≤◌, ap, arith, inl, inr, refl, sym, RigState, Machine, cycles_made}
 use Rattle.diag_evidence.specs.Kept.{TakesFewCycles, most_cycles}
 use Rattle.diag_list.specs.Possible.{MakesFewCycles}
 

@@ -1,14 +1,8 @@
 -- A course in which a list is made and written: it ends there, or the rest follows.
-use Rattle.std.proofs.Common.{◌≡◌, ◌∙◌, ℕ, List, [], refl, inl, inr, Result, Ok, Err}
-use Rattle.base_io.specs.Vocabulary.{StoreState, SinkState}
-use Rattle.machine_shape.specs.declared.Shape.{Shape}
+use Rattle.diag_list.proofs.Vocabulary.{◌≡◌, ◌∙◌, ℕ, List, [], refl, inl, inr, Result, Ok, Err, StoreState, SinkState, Shape, RigState}
+use Rattle.diag_list.proofs.Vocabulary.{Outside, outside, Course, after, write, Follows, Stop, step-stops, step-gives, line-stops}
+use Rattle.diag_list.proofs.Vocabulary.{line-gives, narrows_by, Listed, IsListed, lists, lists_now, Makes, WritesList}
 use Rattle.machine_defects.specs.Vocabulary.{DefectList, text_of}
-use Rattle.rig.specs.Rig.{RigState}
-use Rattle.cmd_steps.specs.Vocabulary.{Outside, outside, Course, after, write, Follows}
-use Rattle.cmd_steps.specs.declared.refusal.Stop.{Stop}
-use Rattle.cmd_steps.proofs.Taking.{step-stops, step-gives, line-stops, line-gives}
-use Rattle.cmd_steps.proofs.Logs.{narrows_by}
-use Rattle.diag_list.specs.Lists.{Listed, IsListed, lists, lists_now, Makes, WritesList}
 use Rattle.diag_list.proofs.ListedLemmas.{listed-on, few-stops}
 
 -- `near` holds while the list is made, and `here` while it is written. So many loads were made before it, and `names` are asked for behind it

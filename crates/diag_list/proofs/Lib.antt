@@ -7,3 +7,4 @@ pub mod WrongWords
 pub mod FewCycles
 -- For the proofs of this crate alone.
 mod MachineListed
+mod Vocabulary

@@ -1,19 +1,13 @@
 -- The list as a step.
 use Rattle.std.proofs.Common.{◌≡◌, ◌∙◌, ℕ, ◌+◌, ◌*◌, ◌≤◌, List, [], Some, option_map, refl, sym, ap, arith, append-nil, Ok, Err}
-use Rattle.base_io.specs.Vocabulary.{Rose, StoreState, SinkState}
-use Rattle.machine_shape.specs.declared.Shape.{Shape}
+use Rattle.diag_list.proofs.Vocabulary.{Rose, StoreState, SinkState, Shape, DefectList, IsDefectList, outside, IsLater, IsCounted}
+use Rattle.diag_list.proofs.Vocabulary.{StepStops, stop_of_rig, Took, Stop, IsListed, Listed, lists, lists_now, log_kept}
 use Rattle.machine_shape.specs.Shape.{wires_of, crosses_of, tables_of}
-use Rattle.machine_defects.specs.Lists.{DefectList, IsDefectList}
-use Rattle.rig.specs.Rig.{RigState, Machine, Asked, ForEach, Narrows, Tells, shape_of}
-use Rattle.rig.specs.declared.rig.RigFail.{RigFail}
+use Rattle.rig.specs.{Rig.RigState, Rig.Machine, Rig.Asked, Rig.ForEach, Rig.Narrows, Rig.Tells, Rig.shape_of, declared.rig.RigFail.RigFail}
 use Rattle.rig.specs.declared.rig.RigFail.TheVariants.{Failed, Memory}
 use Rattle.diag_machine.specs.Diagnosis.{IsDiagnosis, TakesFewLoads}
 use Rattle.diag_list.specs.Possible.{IsDiagnosisOn, TakesFewLoadsOn}
-use Rattle.cmd_steps.specs.Vocabulary.{outside, IsLater, IsCounted, StepStops, stop_of_rig, Took}
-use Rattle.cmd_steps.specs.declared.refusal.Stop.{Stop}
 use Rattle.cmd_steps.specs.declared.refusal.Stop.TheVariants.{Refused, Sink}
-use Rattle.diag_list.specs.Lists.{IsListed, Listed, lists, lists_now}
-use Rattle.cmd_steps.proofs.Logs.{log_kept}
 
 -- the shape that is attached
 pub attached-shape : (rig : RigState) (m : Shape) (name : List ℕ) → rig.machine.attached ≡ Some (record { shape = m; name = name }) → shape_of rig ≡ Some m

@@ -1,15 +1,10 @@
 -- A machine that is read, attached and listed, as one step.
-use Rattle.std.proofs.Common.{◌≡◌, ◌∙◌, ℕ, List, [], ◌∷◌, Some, refl, sym, ap, subst, Result, Ok, Err}
-use Rattle.base_io.specs.Vocabulary.{StoreState, SinkState, Told, IfTold}
-use Rattle.machine_shape.specs.declared.Shape.{Shape}
-use Rattle.machine_defects.specs.Lists.{DefectList}
-use Rattle.rig.specs.Rig.{RigState, Machine, Asked}
+use Rattle.diag_list.proofs.Vocabulary.{◌≡◌, ◌∙◌, ℕ, List, [], ◌∷◌, Some, refl, sym, ap, subst, Result, Ok, Err, StoreState, SinkState}
+use Rattle.diag_list.proofs.Vocabulary.{Told, IfTold, Shape, DefectList, RigState, Machine, Asked, Stop, later-later, stands-then}
 use Rattle.cmd_steps.specs.Vocabulary.{Step, Outside, outside, StepStops, AsksMachine, IsMachineText, attaches, reads_machine, Took}
-use Rattle.cmd_steps.specs.declared.refusal.Stop.{Stop}
 use Rattle.cmd_steps.specs.declared.refusal.Stop.TheVariants.{Refused, Sink}
 use Rattle.cmd_steps.proofs.Counting.{counted-after}
 use Rattle.cmd_steps.proofs.Machines.{named}
-use Rattle.cmd_steps.proofs.Taking.{later-later, stands-then}
 use Rattle.cmd_steps.proofs.WriteLemmas.{asks-after}
 use Rattle.diag_list.specs.Lists.{IsListed, ListsMachine, unread, unattached, unlisted, lists_machine, lists_now}
 

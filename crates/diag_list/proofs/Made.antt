@@ -1,13 +1,7 @@
 -- A course in which a list is made and not written: it ends there, or the rest follows.
-use Rattle.std.proofs.Common.{◌≡◌, ℕ, List, [], Some, Result, Ok, Err}
-use Rattle.machine_shape.specs.declared.Shape.{Shape}
-use Rattle.machine_defects.specs.Lists.{DefectList}
-use Rattle.rig.specs.Rig.{RigState, shape_of}
-use Rattle.cmd_steps.specs.Vocabulary.{Outside, Course, after, attaches, Took, Follows}
-use Rattle.cmd_steps.specs.declared.refusal.Stop.{Stop}
+use Rattle.diag_list.proofs.Vocabulary.{◌≡◌, ℕ, List, [], Some, Result, Ok, Err, Shape, DefectList, RigState, shape_of, Outside, Course}
+use Rattle.diag_list.proofs.Vocabulary.{after, attaches, Took, Follows, Stop, narrows_by, Listed, lists, lists_now}
 use Rattle.cmd_steps.proofs.Keeping.{kept-stops, kept-gives}
-use Rattle.cmd_steps.proofs.Logs.{narrows_by}
-use Rattle.diag_list.specs.Lists.{Listed, lists, lists_now}
 use Rattle.diag_list.proofs.ListedLemmas.{attached-shape, list-shape, listed-on, few-stops}
 
 abbrev made : DefectList → RigState → Listed

@@ -1,14 +1,12 @@
 -- No text of a list goes on as another list does with the line `outputs` behind it.
 use Rattle.std.proofs.Common.{◌≡◌, ℕ, ◌+◌, ◌<◌, ◌≤◌, slice_index_or, List, [], ◌++◌, length, refl, sym, ap, inr, ◌∙◌, arith, length-append}
-use Rattle.machine_shape.specs.declared.Shape.{Shape}
-use Rattle.machine_shape.specs.declared.Counts.{Counts}
-use Rattle.machine_shape.specs.Laws.{HasNames, HasCrosses, IsNumbered}
+use Rattle.diag_list.proofs.Vocabulary.{Shape, outputs_line}
+use Rattle.machine_shape.specs.{declared.Counts.Counts, Laws.HasNames, Laws.HasCrosses, Laws.IsNumbered}
 use Rattle.machine_text.specs.Machine.{IsMachine}
 use Rattle.machine_text.specs.declared.head.Head.TheVariants as head
 use Rattle.machine_defects.specs.Vocabulary.{DefectList, IsDefectList, text_of, counts_of, rows_of, AreCounts, IsFaultBehind}
 use Rattle.machine_defects.specs.declared.kind.DefectsKind.TheVariants.{After}
 use Rattle.machine_defects.proofs.Only.{IsTold, no_fault}
-use Rattle.cmd_steps.specs.Lines.{outputs_line}
 
 -- the counts of a text of a machine are small
 small-counts : (bytes : List ℕ) (c : Counts) → IsMachine bytes c → AreCounts (counts_of c)

@@ -6,8 +6,7 @@ use Rattle.machine_defects.specs.Vocabulary.{DefectList, IsDefectList, text_of}
 use Rattle.rig.specs.Rig.{RigState}
 use Rattle.diag_list.specs.Possible.{IsDiagnosisOn, TakesFewLoadsOn}
 use Rattle.cmd_steps.specs.Vocabulary.{Step, Around, Outside, outside, FailsOnRig, IsMachineText, NoMachine, NotAttached, Took, Puts}
-use Rattle.cmd_steps.specs.declared.refusal.Refusal.{Refusal}
-use Rattle.cmd_steps.specs.declared.refusal.Stop.{Stop}
+use Rattle.cmd_steps.specs.declared.refusal.{Refusal.Refusal, Stop.Stop}
 
 -- a list of a machine's defects, and how many loads the rig counted when it was made
 pub record Listed : Type 0 where

@@ -1,7 +1,6 @@
 -- What a list of defects is of a machine, by all that was read of it.
 use Rattle.std.specs.Prelude.{◌≡◌, ◌⊎◌, ℕ, ◌+◌, ◌*◌, ◌^◌, ◌<◌, ◌≤◌}
-use Rattle.machine_shape.specs.declared.Shape.{Shape}
-use Rattle.machine_shape.specs.Shape.{wires_of, crosses_of, tables_of}
+use Rattle.machine_shape.specs.{declared.Shape.Shape, Shape.wires_of, Shape.crosses_of, Shape.tables_of}
 use Rattle.machine_meaning.specs.Vocabulary.{Faults, IsFaultless, Defects, Covers, IsFair, IsTight}
 use Rattle.rig.specs.Rig.{RigState, Explains, cycles_made}
 use Rattle.diag_evidence.specs.Kept.{most_cycles}

@@ -1,10 +1,6 @@
 -- What choices have made so far of what a diagnosis has at hand.
-use Rattle.std.proofs.Common.{◌≡◌, ◌≤◌}
-use Rattle.rig.specs.Rig.{RigState, ForEach}
-use Rattle.diag_evidence.specs.Kept.{Kept, AdvancesButPairs}
+use Rattle.diag_machine.proofs.Vocabulary.{◌≡◌, ◌≤◌, RigState, ForEach, Kept, AdvancesButPairs, AreMarksFor, TrueIf, worth, DefectMarks}
 use Rattle.diag_known.specs.Known.{KnownWires, IsKnown, KnowsAll}
-use Rattle.diag_sweep.specs.Marks.{AreMarksFor, TrueIf, worth}
-use Rattle.diag_sweep.specs.declared.defect_marks.DefectMarks.{DefectMarks}
 use Rattle.diag_machine.specs.declared.whole.DiagnosisState.{DiagnosisState}
 
 pub record HasChosen (first now : RigState) (j k : Kept) (those : KnownWires) (was is : DefectMarks) (old new : DiagnosisState) : Type 0 where

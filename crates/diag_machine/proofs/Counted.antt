@@ -1,11 +1,6 @@
 -- How many loads a diagnosis takes.
 use Rattle.std.proofs.Common.{◌≡◌, ◌≤◌, ℕ, ◌+◌, ◌*◌, Bool, List, length, ap, ◌∙◌, subst, arith}
-use Rattle.std.proofs.lemmas.List.Sums.{count_by-le-length}
-use Rattle.base_bits.specs.Numbers.{size_of}
-use Rattle.machine_shape.specs.declared.Shape.{Shape}
-use Rattle.machine_shape.specs.Shape.{wires_of}
-use Rattle.diag_known.specs.Field.{IsFieldOf, pins_in}
-use Rattle.diag_known.specs.declared.field.Field.{Field}
+use Rattle.diag_machine.proofs.Vocabulary.{count_by-le-length, size_of, Shape, wires_of, IsFieldOf, pins_in, Field}
 
 pub size_most : (set : List Bool) (n : ℕ) → length set ≡ n → size_of set ≤ n
 size_most set n len = subst (λ (m : ℕ). size_of set ≤ m) len (count_by-le-length (λ b. b) set)

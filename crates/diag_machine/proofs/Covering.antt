@@ -1,17 +1,12 @@
 -- A list of what isn't known or kept covers, and is tight: nothing on it both works and can be reached over what is free.
 use Rattle.std.proofs.Common.{◌≡◌, ◌≢◌, ◌⊎◌, ◌<◌, ℕ, Bool, true, false, None, refl, sym, ◌∙◌, subst, inl, inr, arith, nat_eq}
 use Rattle.std.specs.FinSet as set
-use Rattle.std.proofs.lemmas.Bool.{false≢true}
-use Rattle.std.proofs.lemmas.Bool.Decides.{nat_tests}
+use Rattle.diag_machine.proofs.Vocabulary.{false≢true, nat_tests, Kept, HoldsFor, IsMore, KnownWires, HasWire, IsKnown, IsKeptCrossOf}
+use Rattle.diag_machine.proofs.Vocabulary.{AddsOnlyTableFacts, KeepsTable, IsListOf, IsReached}
 use Rattle.machine_shape.specs.Vocabulary.{in_order, turned, ends_of, pin_wire, crosses_of, tables_of, IsNumbered}
 use Rattle.machine_meaning.specs.Vocabulary.{Faults, stuck_cross, Shorted, Defects, Covers, IsSeated, IsFreeWireOf, IsFreeCrossOf, IsAlone, HasFeet, two, HasFreeFeet, IsRightTable, IsTight}
 use Rattle.machine_meaning.proofs.Seats.{seated_also}
-use Rattle.diag_evidence.specs.Kept.{Kept, HoldsFor, IsMore}
 use Rattle.diag_evidence.proofs.KeptLemmas.{pair_apart}
-use Rattle.diag_known.specs.Known.{KnownWires, HasWire, IsKnown, IsKeptCrossOf}
-use Rattle.diag_growth.specs.Seats.{AddsOnlyTableFacts, KeepsTable}
-use Rattle.diag_machine.specs.Listing.{IsListOf}
-use Rattle.diag_machine.specs.Stages.{IsReached}
 use Rattle.diag_machine.proofs.Knowing.{known_wire, known_within}
 
 same_or_not : (w u : ℕ) → (w ≡ u) ⊎ (w ≢ u)

@@ -1,8 +1,6 @@
 -- What is known of known wires.
-use Rattle.std.proofs.Common.{◌≡◌, ℕ, ◌<◌, true, sym, subst}
-use Rattle.machine_shape.specs.Vocabulary.{IsNumbered, wires_of}
+use Rattle.diag_machine.proofs.Vocabulary.{◌≡◌, ℕ, ◌<◌, true, sym, subst, IsNumbered, wires_of, Kept, keeps_wire}
 use Rattle.machine_meaning.proofs.JoinedLemmas.{Ends-swap}
-use Rattle.diag_evidence.specs.Kept.{Kept, keeps_wire}
 use Rattle.diag_known.specs.Known.{KnownWires, HasWire, IsKnown, Stands, on_pin, on_feet}
 use Rattle.diag_known.specs.declared.verified_wire.SupportedBy.{SupportedBy}
 

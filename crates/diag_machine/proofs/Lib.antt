@@ -6,3 +6,4 @@ mod Stepping
 mod Sweeping
 mod Choosing
 mod Counted
+mod Vocabulary

@@ -1,20 +1,12 @@
 -- A list of what isn't known or kept, one entry at a time.
 use Rattle.std.proofs.Common.{◌≡◌, ◌⊎◌, ◌<◌, ◌+◌, ℕ, zero, suc, List, Bool, true, false, not, ◌&&◌, if◌then◌else◌, refl, sym, ap, ◌∙◌, subst, inl, inr, arith, ◌==◌}
 use Rattle.std.specs.FinSet as set
-use Rattle.std.proofs.lemmas.Bool.{false≢true}
-use Rattle.std.proofs.lemmas.Bool.Decides.{nat_tests}
-use Rattle.std.specs.FinSet.{contains-empty}
-use Rattle.std.specs.Ordering.{nat_cmp}
-use Rattle.machine_shape.specs.declared.Shape.{Shape}
-use Rattle.machine_shape.specs.Shape.{ends_of, table_wire, wires_of, crosses_of, tables_of}
+use Rattle.diag_machine.proofs.Vocabulary.{false≢true, nat_tests, Shape, ends_of, table_wire, wires_of, crosses_of, tables_of, Kept}
+use Rattle.diag_machine.proofs.Vocabulary.{keeps_cross, keeps_cell, keeps_register, HasWire, VerifiedWire, KeepsTable, IsListing, IsListOf}
+use Rattle.std.specs.{FinSet.contains-empty, Ordering.nat_cmp}
 use Rattle.machine_meaning.specs.Defects.{IsFreeWire, IsFreeTable}
 use Rattle.machine_defects.specs.Lists.{DefectList, IsDefectList, IsWithWire, no_defects, with_cross, with_table, has_free_ends, has_free_pins, all_below}
 use Rattle.base_bits.proofs.SetsLemmas.{contains_more}
-use Rattle.diag_evidence.specs.Kept.{Kept, keeps_cross, keeps_cell, keeps_register}
-use Rattle.diag_known.specs.Known.{HasWire}
-use Rattle.diag_known.specs.declared.verified_wire.VerifiedWire.{VerifiedWire}
-use Rattle.diag_growth.specs.Seats.{KeepsTable}
-use Rattle.diag_machine.specs.Listing.{IsListing, IsListOf}
 
 clash : {b : Bool} → b ≡ true → b ≡ false → ⊥
 clash e d = false≢true (sym d ∙ e)

@@ -1,13 +1,6 @@
 -- Wires that are left out.
-use Rattle.std.proofs.Common.{◌<◌, ℕ, Option, List, ap, subst}
-use Rattle.machine_shape.specs.Shape.{turned, wires_of}
-use Rattle.machine_meaning.specs.Vocabulary.{Faults, IsFaultless, two}
-use Rattle.machine_meaning.proofs.Faultless.{all_sound}
-use Rattle.diag_evidence.specs.Kept.{Kept, IsMoreButPairs}
-use Rattle.diag_known.specs.Known.{HasWire}
-use Rattle.diag_known.specs.declared.verified_wire.VerifiedWire.{VerifiedWire}
-use Rattle.diag_machine.specs.Choice.{AreLeftOut, IsLeftOut}
-use Rattle.diag_machine.specs.Stages.{IfFaultless, IsReached, ReachedIf}
+use Rattle.diag_machine.proofs.Vocabulary.{◌<◌, ℕ, Option, List, ap, subst, turned, wires_of, Faults, IsFaultless, two, all_sound, Kept}
+use Rattle.diag_machine.proofs.Vocabulary.{IsMoreButPairs, HasWire, VerifiedWire, AreLeftOut, IsLeftOut, IfFaultless, IsReached, ReachedIf}
 
 -- Without faults no wire is left out.
 pub none_left_out : {k : Kept} {f : Faults} {ss : List VerifiedWire} {w : ℕ} → IsFaultless f → IsReached k f (HasWire ss) → w < wires_of k.shape → IsLeftOut k ss w → ⊥

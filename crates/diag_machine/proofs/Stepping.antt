@@ -2,24 +2,13 @@
 use Rattle.std.proofs.Common.{◌≡◌, ◌<◌, ◌+◌, ℕ, zero, suc, true, Some, Option, List, [], ◌∷◌, ◌++◌, length, refl, sym, ap, subst, All, slice_get}
 use Rattle.std.specs.Option.{option_map_or}
 use Rattle.std.proofs.lemmas.List.Elements.{All-push}
-use Rattle.base_bits.specs.Numbers.{has_number}
-use Rattle.machine_shape.specs.declared.Shape.{Shape}
-use Rattle.machine_shape.specs.declared.Table.{Table}
-use Rattle.machine_shape.specs.Vocabulary.{IsNumbered, pin_wire, wires_of, crosses_of, tables_of}
-use Rattle.machine_meaning.specs.Vocabulary.{Faults, Defects, Covers, IsFair, HasFeet, two, IsTight}
-use Rattle.rig.specs.Rig.{RigState, Explains, ForEach}
+use Rattle.diag_machine.proofs.Vocabulary.{has_number, Shape, Table, IsNumbered, pin_wire, wires_of, crosses_of, tables_of, Faults, Defects}
+use Rattle.diag_machine.proofs.Vocabulary.{Covers, IsFair, HasFeet, two, IsTight, RigState, Explains, ForEach, advances_rest, holds_untried}
+use Rattle.diag_machine.proofs.Vocabulary.{of_told, ClosedIf, GrowsIn, KnownWires, HasWire, IsKnown, Field, VerifiedWire}
+use Rattle.diag_machine.proofs.Vocabulary.{AddsOnlyTableFacts, IsListOf, HasTable, TrueIf, DefectMarks, IsReached, ReachedIf, TablesIf}
 use Rattle.diag_evidence.specs.Kept.{Kept, HoldsFor, IsMoreButPairs, Advances, AdvancesButPairs}
-use Rattle.diag_evidence.proofs.Keeping.{advances_rest, holds_untried, of_told}
-use Rattle.diag_known.specs.Vocabulary.{ClosedIf, GrowsIn, KnownWires, HasWire, IsKnown}
-use Rattle.diag_known.specs.declared.field.Field.{Field}
-use Rattle.diag_known.specs.declared.verified_wire.VerifiedWire.{VerifiedWire}
-use Rattle.diag_growth.specs.Seats.{AddsOnlyTableFacts}
 use Rattle.diag_machine.specs.Diagnosis.{IsDiagnosis}
-use Rattle.diag_machine.specs.Listing.{IsListOf}
-use Rattle.diag_sweep.specs.Marks.{HasTable, TrueIf}
-use Rattle.diag_sweep.specs.declared.defect_marks.DefectMarks.{DefectMarks}
 use Rattle.diag_sweep.proofs.Marking.{true_later}
-use Rattle.diag_machine.specs.Stages.{IsReached, ReachedIf, TablesIf}
 use Rattle.diag_machine.proofs.Covering.{covers, tight}
 use Rattle.diag_machine.proofs.Losing.{reached_later}
 

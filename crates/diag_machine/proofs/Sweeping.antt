@@ -1,25 +1,13 @@
 -- A sweep of the whole machine, and growth behind it.
 use Rattle.std.proofs.Common.{◌≡◌, ◌⊎◌, ◌≤◌, ◌<◌, ◌+◌, ◌*◌, ℕ, Bool, true, false, Option, Some, List, [], ◌∷◌, ◌++◌, length, replicate, length-append, refl, sym, ap, ◌∙◌, subst, inl, inr, arith, All, not, slice_set}
-use Rattle.std.proofs.lemmas.Bool.{false≢true}
-use Rattle.std.proofs.lemmas.List.Sums.{count_by-le-length}
+use Rattle.diag_machine.proofs.Vocabulary.{false≢true, count_by-le-length, has_number, Shape, Table, tables_of, Faults, IsFaultless}
+use Rattle.diag_machine.proofs.Vocabulary.{all_sound, RigState, ForEach, Narrows, Kept, HoldsFor, IsMoreButPairs, IsFieldOf, HasWire, Field}
+use Rattle.diag_machine.proofs.Vocabulary.{VerifiedWire, AreMarksFor, HasTable, MarksIn, TrueIf, DefectMarks, IfFaultless, IsWhole}
+use Rattle.diag_machine.proofs.Vocabulary.{TablesIf}
 use native.Mathlib.Decide.{dec_lt}
-use Rattle.base_bits.specs.Numbers.{has_number}
-use Rattle.machine_shape.specs.declared.Shape.{Shape}
-use Rattle.machine_shape.specs.declared.Table.{Table}
-use Rattle.machine_shape.specs.Shape.{tables_of}
-use Rattle.machine_meaning.specs.Faults.{Faults, IsFaultless}
-use Rattle.machine_meaning.proofs.Faultless.{all_sound}
-use Rattle.rig.specs.Rig.{RigState, ForEach, Narrows}
-use Rattle.diag_evidence.specs.Kept.{Kept, HoldsFor, IsMoreButPairs}
-use Rattle.diag_known.specs.Vocabulary.{IsFieldOf, HasWire}
 use Rattle.diag_known.proofs.Counting.{none_has, set_only}
-use Rattle.diag_known.specs.declared.field.Field.{Field}
-use Rattle.diag_known.specs.declared.verified_wire.VerifiedWire.{VerifiedWire}
 use Rattle.diag_growth.specs.Tables.{SeatedIsKept, SeatedAreKept, fresh_tables, keeps_table}
-use Rattle.diag_sweep.specs.Marks.{AreMarksFor, HasTable, MarksIn, TrueIf}
-use Rattle.diag_sweep.specs.declared.defect_marks.DefectMarks.{DefectMarks}
 use Rattle.diag_sweep.proofs.Marking.{marks_for}
-use Rattle.diag_machine.specs.Stages.{IfFaultless, IsWhole, TablesIf}
 use Rattle.diag_machine.proofs.Stepping.{has_before, has_last}
 
 pub always : {told : Option Faults} {k : Kept} {P : Type 0} → P → IfFaultless told k P

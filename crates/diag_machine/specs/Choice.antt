@@ -3,8 +3,7 @@ use Rattle.std.specs.Prelude.{◌≡◌, ℕ, ◌<◌, true, List}
 use Rattle.machine_shape.specs.Shape.{wires_of}
 use Rattle.machine_meaning.specs.Vocabulary.{HasTwo, Meets}
 use Rattle.diag_evidence.specs.Kept.{Kept, keeps_wire}
-use Rattle.diag_known.specs.Known.{HasWire, IsKeptCrossOf}
-use Rattle.diag_known.specs.declared.verified_wire.VerifiedWire.{VerifiedWire}
+use Rattle.diag_known.specs.{Known.HasWire, Known.IsKeptCrossOf, declared.verified_wire.VerifiedWire.VerifiedWire}
 
 -- the pin is joined by a kept crosspoint to a known line
 pub record IsKnownFoot (k : Kept) (ss : List VerifiedWire) (pin line : ℕ) : Type 0 where

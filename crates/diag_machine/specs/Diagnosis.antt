@@ -1,7 +1,6 @@
 -- What a diagnosis is, and how many loads it takes.
 use Rattle.std.specs.Prelude.{◌≡◌, ℕ, ◌+◌, ◌*◌, ◌≤◌, Option, Some}
-use Rattle.machine_shape.specs.declared.Shape.{Shape}
-use Rattle.machine_shape.specs.Shape.{wires_of, crosses_of, tables_of}
+use Rattle.machine_shape.specs.{declared.Shape.Shape, Shape.wires_of, Shape.crosses_of, Shape.tables_of}
 use Rattle.machine_meaning.specs.Vocabulary.{Faults, IsFaultless, Defects, Covers, IsFair, IsTight}
 
 -- where the faults are told, the list covers them, is fair to them, and is tight to them: nothing on it both works and

@@ -1,13 +1,11 @@
 -- The list that is made of what a proof keeps, and of wires that are known.
 use Rattle.std.specs.Prelude.{◌≡◌, ℕ, ◌<◌, true, false, List}
 use Rattle.std.specs.FinSet as set
-use Rattle.machine_shape.specs.declared.Shape.{Shape}
-use Rattle.machine_shape.specs.Shape.{table_wire, ends_of, wires_of, crosses_of, tables_of}
+use Rattle.machine_shape.specs.{declared.Shape.Shape, Shape.table_wire, Shape.ends_of, Shape.wires_of, Shape.crosses_of, Shape.tables_of}
 use Rattle.machine_meaning.specs.Defects.{Defects, IsFreeWire, IsFreeCross, IsFreeTable}
 use Rattle.machine_defects.specs.Lists.{DefectList, has_free_ends, has_free_pins}
 use Rattle.diag_evidence.specs.Kept.{Kept, keeps_cross}
-use Rattle.diag_known.specs.Known.{HasWire}
-use Rattle.diag_known.specs.declared.verified_wire.VerifiedWire.{VerifiedWire}
+use Rattle.diag_known.specs.{Known.HasWire, declared.verified_wire.VerifiedWire.VerifiedWire}
 use Rattle.diag_growth.specs.Seats.{KeepsTable}
 
 -- The list has each wire that isn't known, and, where their wires aren't listed, each crosspoint and each table that isn't kept.

@@ -5,10 +5,8 @@ use Rattle.machine_shape.specs.declared.Shape.{Shape}
 use Rattle.machine_shape.specs.Shape.{pins_of, pin_wire, wires_of, crosses_of, tables_of, ends_of}
 use Rattle.machine_meaning.specs.Vocabulary.{Faults, IsFaultless, stuck_cross, IsClear, IsAlone, HasFeet}
 use Rattle.diag_evidence.specs.Kept.{Kept, HoldsFor, keeps_cross}
-use Rattle.diag_known.specs.Known.{HasWire}
+use Rattle.diag_known.specs.{Known.HasWire, declared.field.Field.Field, declared.verified_wire.VerifiedWire.VerifiedWire}
 use Rattle.diag_growth.specs.Tables.{SeatedIsKept}
-use Rattle.diag_known.specs.declared.field.Field.{Field}
-use Rattle.diag_known.specs.declared.verified_wire.VerifiedWire.{VerifiedWire}
 
 -- All is known that can be reached: each wire that is clear and shorted to no known one, and is a pin of the machine or has feet;
 -- and each crosspoint between known wires that isn't stuck is kept.

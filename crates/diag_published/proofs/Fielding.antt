@@ -1,21 +1,10 @@
 -- The field that is a crossbar, as it is marked.
 use Rattle.std.proofs.Common.{◌≡◌, ◌≢◌, ◌⊎◌, ℕ, zero, suc, ◌+◌, ◌*◌, ◌-◌, ◌<◌, ◌≤◌, Bool, true, false, List, [], ◌∷◌, All, length, refl, sym, ap, ◌∙◌, subst, inl, inr, arith, ◌==◌, slice_get}
-use Rattle.std.proofs.Math.ListN.{set}
-use Rattle.std.proofs.Math.Nat.{mul_comm, suc-mul}
-use Rattle.std.proofs.lemmas.Bool.{false≢true, or_cases}
-use Rattle.std.proofs.lemmas.Bool.Decides.{nat_tests}
-use Rattle.std.proofs.lemmas.Nat.{mul-add-lt}
-use Rattle.base_bits.specs.Numbers.{has_number, size_of}
-use Rattle.machine_shape.specs.declared.Shape.{Shape}
-use Rattle.machine_shape.specs.declared.Wire.{Wire}
+use Rattle.std.proofs.{Math.ListN.set, Math.Nat.mul_comm, Math.Nat.suc-mul, lemmas.Bool.Decides.nat_tests, lemmas.Nat.mul-add-lt}
+use Rattle.diag_published.proofs.Vocabulary.{false≢true, or_cases, has_number, size_of, Shape, Wire, among, Gets, IsWireBefore, Field}
+use Rattle.diag_published.proofs.Vocabulary.{IsListOf, IsAtOneOf, AreBarOf, IsFrom, IsCrossOfNode, IsBarField, wire_numbers, AreLaws}
 use Rattle.machine_shape.specs.Vocabulary.{HasRows, first_cross_of, crosses_of, wires_of, nodes_of, taps_of, lines_of, own_ports_of, tap_at, line_at, port_at, cross_at, tap_position, line_position, IsTap, IsLine, IsPort}
-use Rattle.machine_config.specs.Groups.{among}
-use Rattle.diag_known.specs.Gains.{Gets, IsWireBefore}
-use Rattle.diag_known.specs.declared.field.Field.{Field}
 use Rattle.diag_known.proofs.Getting.{below_or, gets_none, gets_one, gets_fewer}
-use Rattle.diag_published.specs.Bars.{IsListOf, IsAtOneOf, AreBarOf, IsFrom, IsCrossOfNode, IsBarField}
-use Rattle.diag_published.specs.Held.{wire_numbers}
-use Rattle.diag_published.specs.Laws.{AreLaws}
 use Rattle.diag_published.proofs.Listing.{list_same}
 
 -- ---- ranges

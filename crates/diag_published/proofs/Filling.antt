@@ -1,22 +1,12 @@
 -- Where all that can be known of a crossbar is known, what is known of it is full.
 use Rattle.std.proofs.Common.{◌≡◌, ◌≢◌, ◌⊎◌, ℕ, ◌+◌, ◌*◌, ◌<◌, ◌≤◌, true, None, Some, Option, refl, sym, ap, ◌∙◌, subst, inl, inr, arith, IsSome}
-use Rattle.base_bits.specs.Numbers.{has_number, size_of}
-use Rattle.machine_shape.specs.declared.Shape.{Shape}
+use Rattle.diag_published.proofs.Vocabulary.{has_number, size_of, Shape, clear_of_sound, among, LeadsTo-end, holds_untried, Kept, HoldsFor}
+use Rattle.diag_published.proofs.Vocabulary.{keeps_cross, few_wide, takes_wide, Field, IsOpenOf, IsBarField, HasKnown, AreLaws, known_or}
 use Rattle.machine_shape.specs.Shape.{in_order, turned, ends_of, crosses_of, nodes_of, node_of_cross, taps_of, IsLine, IsTap, itself}
 use Rattle.machine_meaning.specs.Vocabulary.{Faults, stuck_cross, IsSoundWire, IsSoundCross, IsWholeLine, HasTwo, IsServed, IsOfUse, HasFeet, two}
-use Rattle.machine_meaning.proofs.Clear.{clear_of_sound}
-use Rattle.machine_config.specs.Groups.{among}
-use Rattle.machine_config.proofs.Grouped.{LeadsTo-end}
-use Rattle.diag_evidence.proofs.Keeping.{holds_untried}
-use Rattle.diag_evidence.specs.Kept.{Kept, HoldsFor, keeps_cross}
 use Rattle.diag_known.specs.Vocabulary.{IsClosed, ClosedIf, TakesFew, fresh, pins_in, KnownWires, HasWire}
-use Rattle.diag_known.proofs.Taking.{few_wide, takes_wide}
-use Rattle.diag_known.specs.declared.field.Field.{Field}
-use Rattle.diag_published.specs.Bars.{IsOpenOf, IsBarField, HasKnown}
 use Rattle.diag_published.specs.Held.{Findings, IsTrunkEnd, IsHeld, HasAll, FullIf, LoadsForBar, FewLoadsForBar}
-use Rattle.diag_published.specs.Laws.{AreLaws}
 use Rattle.diag_published.proofs.Holding.{end_tap}
-use Rattle.diag_growth.proofs.Decided.{known_or}
 use Rattle.diag_published.proofs.Trunking.{sound_alone}
 
 module _ (k : Kept) (f : Faults) (known : KnownWires) (laws : AreLaws k.shape) (a : Field) (t : Findings) (bar : IsBarField k.shape t.node a) (closed : IsClosed k f a (HasWire known.steps)) (held : IsHeld k known t) (all : HasKnown k known t)

@@ -1,21 +1,12 @@
 -- What is known of a crossbar is held.
 use Rattle.std.proofs.Common.{◌≡◌, ◌≢◌, ◌⊎◌, ℕ, ◌<◌, true, Some, None, Option, List, refl, sym, ap, ◌∙◌, subst, inl, inr, arith, IfSome, IfNone, IsSome, slice_get}
-use Rattle.machine_shape.specs.declared.Shape.{Shape}
-use Rattle.machine_shape.specs.declared.Wire.{Wire}
+use Rattle.diag_published.proofs.Vocabulary.{Shape, Wire, HasTwo, among, LeadsTo-end, Walk, Kept, keeps_cross, keeps_pair, pair_turned}
+use Rattle.diag_published.proofs.Vocabulary.{IsListOf, IsKnownOf, IsOpenOf, AreTwoOf, AreBarOf, HasKnown, AreLaws}
 use Rattle.machine_shape.specs.Shape.{Ends, in_order, turned, ends_of, crosses_of, nodes_of, node_of_cross, IsLine, IsTap, tap_pin, tap_port}
-use Rattle.machine_meaning.specs.Sound.{HasTwo}
-use Rattle.machine_config.specs.Groups.{among}
-use Rattle.machine_config.proofs.Grouped.{LeadsTo-end}
-use Rattle.diag_tests.specs.Routes.{Walk}
-use Rattle.diag_evidence.specs.Kept.{Kept, keeps_cross, keeps_pair}
-use Rattle.diag_evidence.proofs.Keeping.{pair_turned}
 use Rattle.diag_known.specs.Known.{KnownWires, HasWire, IsAt, IsFoot, IsKnown, Stands, on_pin, on_feet}
-use Rattle.diag_known.specs.declared.verified_wire.Support.{Support}
-use Rattle.diag_known.specs.declared.verified_wire.SupportedBy.{SupportedBy}
+use Rattle.diag_known.specs.declared.verified_wire.{Support.Support, SupportedBy.SupportedBy}
 use Rattle.diag_known.proofs.Places.{at_one, before_has}
-use Rattle.diag_published.specs.Bars.{IsListOf, IsKnownOf, IsOpenOf, AreTwoOf, AreBarOf, HasKnown}
 use Rattle.diag_published.specs.Held.{Findings, IsTrunkEnd, at_pin, at_port, IsHeldRoute, IsHeldTrunk, IsHeld, IsOpenPair, IsWireOf, of_tap, of_line, of_left, of_right, pair_numbers}
-use Rattle.diag_published.specs.Laws.{AreLaws}
 use native.Mathlib.Decide.{dec_lt}
 
 -- the end of a trunk is a tap of its node

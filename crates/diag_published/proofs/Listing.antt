@@ -1,15 +1,10 @@
 -- Lists of wires, as they are made.
 use Rattle.std.proofs.Common.{◌≡◌, ◌≢◌, ◌⊎◌, ℕ, zero, suc, ◌+◌, ◌<◌, ◌≤◌, true, false, List, All, [], ◌∷◌, ◌++◌, length, take, get_or, refl, sym, ap, ◌∙◌, subst, inl, inr, arith, ◌==◌}
-use Rattle.std.proofs.lemmas.Bool.{false≢true, or_left, or_right}
-use Rattle.std.proofs.lemmas.Bool.Decides.{nat_tests}
-use Rattle.std.proofs.lemmas.List.{take_more, take_all, map-append, length-append}
+use Rattle.diag_published.proofs.Vocabulary.{false≢true, or_left, or_right, Wire, among, IsListOf, IsAtOneOf, wire_numbers}
+use Rattle.std.proofs.lemmas.{Bool.Decides.nat_tests, List.take_more, List.take_all, List.map-append, List.length-append}
 use Rattle.std.proofs.lemmas.List.Elements.{All-push}
-use Rattle.machine_shape.specs.declared.Wire.{Wire}
-use Rattle.machine_config.specs.Groups.{among}
 use Rattle.diag_tests.proofs.Longer.{among-push, among_both}
 use Rattle.diag_known.proofs.Getting.{below_or}
-use Rattle.diag_published.specs.Bars.{IsListOf, IsAtOneOf}
-use Rattle.diag_published.specs.Held.{wire_numbers}
 
 -- ---- what is among a list with one more
 

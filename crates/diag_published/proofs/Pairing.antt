@@ -1,14 +1,7 @@
 -- Lines whose crosspoints to all taps are kept.
 use Rattle.std.proofs.Common.{◌≡◌, ◌⊎◌, ◌↔◌, ℕ, ◌+◌, ◌<◌, ◌≤◌, Bool, true, false, List, [], length, take, get_or, refl, sym, ◌∙◌, subst, inl, inr}
-use Rattle.std.proofs.lemmas.Bool.{false≢true}
-use Rattle.machine_shape.specs.declared.Shape.{Shape}
-use Rattle.machine_shape.specs.declared.Wire.{Wire}
+use Rattle.diag_published.proofs.Vocabulary.{false≢true, Shape, Wire, among, Kept, keeps_cross, KeepsAll, wire_numbers, AreLaws}
 use Rattle.machine_shape.specs.Shape.{ends_of, crosses_of}
-use Rattle.machine_config.specs.Groups.{among}
-use Rattle.diag_evidence.specs.Kept.{Kept, keeps_cross}
-use Rattle.diag_published.specs.Bars.{KeepsAll}
-use Rattle.diag_published.specs.Held.{wire_numbers}
-use Rattle.diag_published.specs.Laws.{AreLaws}
 use Rattle.diag_published.proofs.Listing.{taken_from, wire_at, numbers_all}
 
 -- the crosspoints of a tap and a line are kept, of which there is one or none

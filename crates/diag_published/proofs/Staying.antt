@@ -1,11 +1,7 @@
 -- What is held stays so as more is kept and known.
 use Rattle.std.proofs.Common.{◌≡◌, ◌⊎◌, ◌<◌, ℕ, true, Some, None, Option, sym, subst, IfSome}
-use Rattle.machine_shape.specs.Shape.{ends_of, crosses_of, node_of_cross, IsTap, IsLine}
-use Rattle.machine_meaning.specs.Vocabulary.{IsOfUse, HasTwo, IsServed, IsSoundWire, IsSoundCross, Faults}
-use Rattle.machine_config.specs.Groups.{among}
-use Rattle.diag_tests.specs.Routes.{Walk}
-use Rattle.diag_evidence.specs.Kept.{Kept, keeps_cross, IsMore}
-use Rattle.diag_known.specs.Known.{KnownWires}
+use Rattle.diag_published.proofs.Vocabulary.{ends_of, crosses_of, node_of_cross, IsTap, IsLine, IsOfUse, HasTwo, IsServed, IsSoundWire}
+use Rattle.diag_published.proofs.Vocabulary.{IsSoundCross, Faults, among, Walk, Kept, keeps_cross, IsMore, KnownWires}
 use Rattle.diag_published.specs.Held.{Findings, IsHeldRoute, IsHeldTrunk, IsHeld, IsFull, HasAll, IsLater}
 
 module _ {k l : Kept} {old new : KnownWires} (later : IsLater k l old new) where

@@ -1,26 +1,13 @@
 -- Trunks over known wires, and when there is none.
 use Rattle.std.proofs.Common.{◌≡◌, ◌≢◌, ◌⊎◌, ℕ, ◌+◌, ◌*◌, ◌<◌, ◌≤◌, Bool, true, false, Some, None, Option, Result, Ok, Err, IfOk, List, length, refl, sym, ap, ◌∙◌, subst, inl, inr, arith, AllPairs, IfSome}
-use Rattle.std.proofs.lemmas.Bool.{cases_eq, false≢true}
-use Rattle.base_bits.specs.Numbers.{has_number, size_of}
-use Rattle.machine_shape.specs.declared.Shape.{Shape}
-use Rattle.machine_shape.specs.declared.Wire.{Wire}
+use Rattle.diag_published.proofs.Vocabulary.{cases_eq, false≢true, has_number, size_of, Shape, Wire, clear_of_sound, among, LeadsTo-start}
+use Rattle.diag_published.proofs.Vocabulary.{Walk, Trunk, holds_untried, Kept, HoldsFor, few_wide, Field, known_or, AreLaws}
 use Rattle.machine_shape.specs.Shape.{pin_wire, pins_of, parent_of, node_of, port_at, own_ports_of, IsPort, tap_child, itself}
 use Rattle.machine_meaning.specs.Vocabulary.{Faults, IsFaultless, IsSoundWire, HasTwo, IsClear, IsAlone}
-use Rattle.machine_meaning.proofs.Clear.{clear_of_sound}
-use Rattle.machine_config.specs.Groups.{among}
-use Rattle.machine_config.proofs.Grouped.{LeadsTo-start}
-use Rattle.diag_tests.specs.Routes.{Walk}
-use Rattle.diag_tests.specs.declared.trunk.Trunk.{Trunk}
-use Rattle.diag_evidence.proofs.Keeping.{holds_untried}
-use Rattle.diag_evidence.specs.Kept.{Kept, HoldsFor}
 use Rattle.diag_known.specs.Vocabulary.{IsClosed, ClosedIf, TakesFew, Gets, IsWireBefore, KnownWires, HasWire, IsKnownRoute, AreRoutesTo}
-use Rattle.diag_known.proofs.Taking.{few_wide}
-use Rattle.diag_known.specs.declared.field.Field.{Field}
 use Rattle.diag_known.specs.declared.verified_wire.VerifiedWire.{VerifiedWire}
-use Rattle.diag_growth.proofs.Decided.{known_or}
 use Rattle.diag_published.specs.Bars.{IsListOf, IsAtOneOf, IsKnownOf, IsTrunkTo, IsTrunkOf, AreTwoOf, FewPins, SoundPinsAreKnown}
 use Rattle.diag_published.specs.Held.{Findings, IsTrunkEnd, at_pin, at_port, IsHeldRoute, IsHeldTrunk, IsHeld, IsUnserved, LoadsAtMost, UnservedIf, wire_numbers}
-use Rattle.diag_published.specs.Laws.{AreLaws}
 use Rattle.diag_published.proofs.Fielding.{before_of, ports_are}
 
 -- ---- trunks

@@ -7,8 +7,7 @@ use Rattle.machine_meaning.specs.Vocabulary.{Faults, IsSoundWire, HasTwo}
 use Rattle.machine_config.specs.Groups.{among}
 use Rattle.diag_tests.specs.Routes.{Walk}
 use Rattle.diag_evidence.specs.Kept.{Kept, HoldsFor, keeps_cross}
-use Rattle.diag_known.specs.Vocabulary.{IsFieldOf, KnownWires, HasWire}
-use Rattle.diag_known.specs.declared.field.Field.{Field}
+use Rattle.diag_known.specs.{Vocabulary.IsFieldOf, Vocabulary.KnownWires, Vocabulary.HasWire, declared.field.Field.Field}
 use Rattle.diag_published.specs.Held.{Findings, IsTrunkEnd, IsHeldTrunk}
 
 -- these are the wires with P

@@ -2,8 +2,7 @@
 use Rattle.std.specs.Prelude.{◌≡◌, ◌≢◌, ◌⊎◌, ℕ, ◌+◌, ◌*◌, ◌<◌, ◌≤◌, true, false, Option, Some, IfSome, IsSome, List, AllPairs, slice_get}
 use Rattle.std.specs.Prelude.{map, option_map, refl}
 use Rattle.std.specs.Coded.{Coded, code_by, coded×, coded_ℕ, coded_list, coded_option}
-use Rattle.machine_shape.specs.declared.Shape.{Shape}
-use Rattle.machine_shape.specs.declared.Wire.{Wire}
+use Rattle.machine_shape.specs.declared.{Shape.Shape, Wire.Wire}
 use Rattle.machine_shape.specs.Shape.{ends_of, pin_wire, pins_of, crosses_of, nodes_of, node_of_cross, taps_of, lines_of, IsTap, IsLine}
 use Rattle.machine_shape.specs.Shape.{IsPort}
 use Rattle.machine_meaning.specs.Vocabulary.{Faults, IsFaultless, IsSoundWire, IsSoundCross, HasTwo, IsServed, IsOfUse}

@@ -1,17 +1,14 @@
 -- What stays of a list while the session of its last test ends.
 use Rattle.std.proofs.Common.{◌≡◌, ◌≢◌, ◌∙◌, ◌⊎◌, ℕ, ◌+◌, ◌*◌, ◌^◌, ◌-◌, ◌<◌, ◌≤◌, min, [], refl, sym, ap, subst, inl, inr, arith, Ok, Err}
-use Rattle.std.proofs.lemmas.Bool.{cases_lt}
-use Rattle.std.proofs.Math.Nat.{min-le_left}
+use Rattle.std.proofs.{lemmas.Bool.cases_lt, Math.Nat.min-le_left}
 use Rattle.base_io.specs.Vocabulary.{StoreState, SinkState}
 use Rattle.machine_shape.specs.declared.Shape.{Shape}
 use Rattle.machine_defects.specs.Lists.{DefectList}
-use Rattle.rig.specs.Rig.{RigState, Machine, LoadFails, Narrows, Tells, cycles_made}
-use Rattle.rig.specs.declared.rig.RigFail.{RigFail}
+use Rattle.rig.specs.{Rig.RigState, Rig.Machine, Rig.LoadFails, Rig.Narrows, Rig.Tells, Rig.cycles_made, declared.rig.RigFail.RigFail}
 use Rattle.rig.specs.declared.rig.RigFail.TheVariants as work
 use Rattle.diag_evidence.specs.Kept.{FewCycles, HasFew, TakesFewCycles, most_cycles}
 use Rattle.diag_evidence.proofs.Fewer.{few_load, few_still}
-use Rattle.diag_list.specs.Lists.{lists_now}
-use Rattle.diag_list.specs.Possible.{TakesFewLoadsOn}
+use Rattle.diag_list.specs.{Lists.lists_now, Possible.TakesFewLoadsOn}
 use Rattle.diag_list.proofs.ListedLemmas.{listed-on}
 use Rattle.cmd_steps.specs.Vocabulary.{outside, IsLater, IsCounted, LoadsOnce, StepStops, stop_of_rig, Took}
 use Rattle.cmd_steps.proofs.Logs.{log_kept}

@@ -1,7 +1,6 @@
 -- When a list has a load left.
 use Rattle.std.specs.Prelude.{◌≢◌, ℕ, ◌+◌, ◌*◌, ◌<◌}
-use Rattle.machine_shape.specs.declared.Shape.{Shape}
-use Rattle.machine_shape.specs.Shape.{wires_of, crosses_of, tables_of}
+use Rattle.machine_shape.specs.{declared.Shape.Shape, Shape.wires_of, Shape.crosses_of, Shape.tables_of}
 
 -- A list that was begun when the rig counted so many loads has one left, when it counts so many: it took fewer than it may take, and not
 -- just as many as it may take of a machine without faults

@@ -1,19 +1,10 @@
 -- What a purse holds at first, and as it is settled.
 use Rattle.std.proofs.Common.{◌≡◌, ◌≢◌, ℕ, ◌+◌, ◌*◌, ◌<◌, ◌≤◌, Bool, true, false, not, ◌&&◌, List, length, refl, sym, ap, ◌∙◌, subst, arith, slice_set}
-use Rattle.std.proofs.lemmas.Bool.{false≢true, and_parts}
-use Rattle.std.proofs.lemmas.List.{get_or-set_other, get_or_past, length-set}
+use Rattle.diag_sweep.proofs.Vocabulary.{false≢true, and_parts, get_or-set_other, get_or_past, length-set, has_number, size_of, crosses_of}
+use Rattle.diag_sweep.proofs.Vocabulary.{Kept, keeps_cross, how_many, pins_in, KnownWires, Field, many_more, many_size, Pays, is_undecided}
+use Rattle.diag_sweep.proofs.Vocabulary.{undecided, IsFunded, IsHand, Settles, in_hand, DefectMarks, LoadBudget}
 use native.Mathlib.Decide.{ℕ_discrete, dec_lt}
-use Rattle.base_bits.specs.Numbers.{has_number, size_of}
 use Rattle.base_bits.proofs.NumbersLemmas.{size_of-taken}
-use Rattle.machine_shape.specs.Shape.{crosses_of}
-use Rattle.diag_evidence.specs.Kept.{Kept, keeps_cross}
-use Rattle.diag_known.specs.Vocabulary.{how_many, pins_in, KnownWires}
-use Rattle.diag_known.specs.declared.field.Field.{Field}
-use Rattle.diag_known.proofs.Counting.{many_more, many_size}
-use Rattle.diag_sweep.specs.Marks.{Pays, is_undecided, undecided}
-use Rattle.diag_sweep.specs.Stages.{IsFunded, IsHand, Settles, in_hand}
-use Rattle.diag_sweep.specs.declared.defect_marks.DefectMarks.{DefectMarks}
-use Rattle.diag_sweep.specs.declared.budget.LoadBudget.{LoadBudget}
 
 pub size_undecided : (k : Kept) (b : DefectMarks) (a : Field) (set : List Bool) → length set ≡ length a.crosses → ((x : ℕ) → has_number set x ≡ (has_number a.crosses x && is_undecided k b x)) → size_of set ≡ undecided k b a
 size_undecided k b a set len has = sym (many_size set) ∙ ap (how_many (has_number set)) len ∙ same (length a.crosses)

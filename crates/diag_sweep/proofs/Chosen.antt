@@ -1,18 +1,9 @@
 -- What a choice leaves: of what is known some gives way, and what is left to spend.
 use Rattle.std.proofs.Common.{◌≡◌, ◌⊎◌, inl, inr, ℕ, ◌+◌, ◌≤◌, Bool, true, false, not, ◌&&◌, Option, List, [], length, replicate, refl, sym, ap, ◌∙◌, subst, arith, slice_set}
-use Rattle.std.proofs.lemmas.Bool.{false≢true, and_parts}
-use Rattle.base_bits.specs.Numbers.{has_number, size_of}
-use Rattle.machine_shape.specs.declared.Shape.{Shape}
-use Rattle.machine_meaning.specs.Faults.{Faults}
-use Rattle.diag_evidence.specs.Kept.{Kept, keeps_cross}
-use Rattle.diag_known.specs.Vocabulary.{how_many, HasWire, InSet, KnownWires}
-use Rattle.diag_known.specs.declared.field.Field.{Field}
-use Rattle.diag_known.specs.declared.verified_wire.VerifiedWire.{VerifiedWire}
+use Rattle.diag_sweep.proofs.Vocabulary.{false≢true, and_parts, has_number, size_of, Shape, Faults, Kept, keeps_cross, how_many, HasWire}
+use Rattle.diag_sweep.proofs.Vocabulary.{InSet, KnownWires, Field, VerifiedWire, IsFunded, IsHand, in_hand, DefectMarks, LoadBudget}
 use Rattle.diag_known.proofs.Counting.{many_more, many_size, none_has, set_only}
 use Rattle.diag_sweep.specs.Marks.{AreMarksFor, HasTable, MarksButUnfit, MarksIn, MarksSome, TrueIf, is_undecided, undecided, worth}
-use Rattle.diag_sweep.specs.Stages.{IsFunded, IsHand, in_hand}
-use Rattle.diag_sweep.specs.declared.defect_marks.DefectMarks.{DefectMarks}
-use Rattle.diag_sweep.specs.declared.budget.LoadBudget.{LoadBudget}
 use Rattle.diag_sweep.proofs.Budgets.{size_undecided}
 
 -- a purse of what is left

@@ -1,25 +1,14 @@
 -- Walks that are looked at, one question after the other.
 use Rattle.std.proofs.Common.{◌≡◌, ◌≢◌, ◌⊎◌, inl, inr, ℕ, zero, suc, ◌+◌, ◌-◌, ◌<◌, ◌≤◌, Bool, true, false, ◌||◌, Option, Some, None, List, [], ◌∷◌, ◌++◌, length, take, get_or, refl, sym, ap, ◌∙◌, subst, arith, ◌==◌, All, flat_map, is_some, slice_get, slice_set}
-use Rattle.std.specs.List.{filter}
-use Rattle.std.proofs.lemmas.Bool.{false≢true, or_cases}
-use Rattle.std.proofs.lemmas.Bool.Decides.{nat_tests}
+use Rattle.diag_sweep.proofs.Vocabulary.{filter, false≢true, or_cases, nat_tests, All-push, filter-append, list_any-append, gets}
+use Rattle.diag_sweep.proofs.Vocabulary.{has_number, Shape, Lead, KnownWires, HasWire, IsKnown, known_pair, set_has, set_other, AreLoose}
 use Rattle.std.proofs.lemmas.List.{append-nil, take_all, take_more, flat_map_more, get_or_past, length-set}
-use Rattle.std.proofs.lemmas.List.Elements.{All-push, filter-append}
-use Rattle.std.proofs.lemmas.List.Folds.{list_any-append}
-use Rattle.std.proofs.lemmas.Option.{gets}
 use native.Mathlib.Decide.{ℕ_discrete, dec_lt}
-use Rattle.base_bits.specs.Numbers.{has_number}
-use Rattle.machine_shape.specs.declared.Shape.{Shape}
 use Rattle.machine_shape.specs.Shape.{Ends, ends_of, crosses_of, wires_of}
 use Rattle.machine_config.specs.Vocabulary.{among, LeadsTo, ends as at_rest}
 use Rattle.machine_config.proofs.Grouped.{LeadsTo-push}
 use Rattle.diag_tests.proofs.Closings.{more_among}
-use Rattle.diag_evidence.specs.declared.leads.Lead.{Lead}
 use Rattle.diag_evidence.specs.Vocabulary.{Kept, keeps_wire, Trees, HangsOn, pin_of, is_hung, IsForest, KnowsForest, IsLead, KnowsLeads, crosses_along, ends_on, is_met, wires_along, wires_of_leads}
-use Rattle.diag_known.specs.Known.{KnownWires, HasWire, IsKnown}
-use Rattle.diag_known.proofs.Apart.{known_pair}
-use Rattle.diag_known.proofs.Counting.{set_has, set_other}
-use Rattle.diag_sweep.specs.Courses.{AreLoose}
 use Rattle.diag_sweep.proofs.Footed.{one_more}
 
 -- one number more of a list

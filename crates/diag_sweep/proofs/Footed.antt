@@ -1,16 +1,8 @@
 -- Wires that may be hung on a forest.
 use Rattle.std.proofs.Common.{◌≡◌, ℕ, zero, suc, ◌+◌, ◌<◌, Bool, true, false, Option, Some, None, List, [], ◌∷◌, ◌++◌, length, take, get_or, refl, sym, ap, ◌∙◌, subst, append_assoc, arith, All, IfSome, ◌==◌, is_some, map, slice_get, unwrap_or}
-use Rattle.std.specs.List.{IsDistinct}
-use Rattle.std.proofs.lemmas.Bool.{false≢true}
-use Rattle.std.proofs.lemmas.List.{take_more, map-append}
-use Rattle.std.proofs.lemmas.List.Elements.{All-push}
-use Rattle.std.proofs.lemmas.Option.{gets}
-use Rattle.machine_shape.specs.declared.Cross.{Cross}
-use Rattle.machine_shape.specs.declared.Wire.{Wire}
-use Rattle.machine_shape.specs.Shape.{Ends, ends_of, wires_of, crosses_of}
-use Rattle.diag_tests.specs.Routes.{other_end}
+use Rattle.diag_sweep.proofs.Vocabulary.{IsDistinct, false≢true, take_more, map-append, All-push, gets, Cross, other_end, WireTest}
+use Rattle.machine_shape.specs.{declared.Wire.Wire, Shape.Ends, Shape.ends_of, Shape.wires_of, Shape.crosses_of}
 use Rattle.diag_evidence.specs.Vocabulary.{Trees, pin_of, AreHangs, Foot, IsFoot, all_feet, others, over_of, overs, pin_at, turned}
-use Rattle.diag_evidence.specs.declared.hangs.WireTest.{WireTest}
 
 -- the pin was found over the other end
 pub over_end : (trees : Trees) (foot : Wire × Cross) (e : ℕ) (found : Option ℕ) → foot.0.0 < wires_of trees.shape → foot.1.0 < crosses_of trees.shape → is_some (pin_of trees foot.0.0) ≡ false →

@@ -1,13 +1,8 @@
 -- Forests whose crosspoints are kept, and whose wires are known.
 use Rattle.std.proofs.Common.{◌≡◌, ◌≢◌, ℕ, ◌+◌, ◌<◌, ◌≤◌, Bool, true, false, Option, Some, None, List, [], length, refl, sym, ap, ◌∙◌, subst, arith, is_some}
-use Rattle.std.proofs.lemmas.Bool.{false≢true}
-use Rattle.std.proofs.lemmas.List.{get_or_past}
+use Rattle.diag_sweep.proofs.Vocabulary.{false≢true, get_or_past, Shape, wires_of, KnownWires, HasWire, IsKnown, known_pair}
 use native.Mathlib.Decide.{dec_lt}
-use Rattle.machine_shape.specs.declared.Shape.{Shape}
-use Rattle.machine_shape.specs.Shape.{wires_of}
 use Rattle.diag_evidence.specs.Vocabulary.{Kept, keeps_wire, keeps_pair, Trees, IsForest, KeepsForest, KnowsForest, HangsOn, bare, is_hung, pin_of, with_planted}
-use Rattle.diag_known.specs.Known.{KnownWires, HasWire, IsKnown}
-use Rattle.diag_known.proofs.Apart.{known_pair}
 
 pub keeps_bare : {k : Kept} {trees : Trees} → trees ≡ bare k.shape → KeepsForest k trees
 keeps_bare {k} same = subst (KeepsForest k) (sym same) (record { shape = refl; crosses = λ x on. absurd (false≢true on) })

@@ -1,20 +1,11 @@
 -- Steps of a sweep, one after the other.
 use Rattle.std.proofs.Common.{◌≡◌, ◌⊎◌, ℕ, ◌+◌, ◌≤◌, Bool, true, Result, Ok, Err, OnOk, OnErr, List, [], sym, ap, ◌∙◌, subst, inl, inr, arith}
-use Rattle.base_bits.specs.Numbers.{has_number}
-use Rattle.machine_shape.specs.declared.Table.{Table}
-use Rattle.machine_shape.specs.Shape.{crosses_of}
-use Rattle.diag_evidence.specs.Kept.{Kept, IsMore, Advances, HasRetaken, KeepsSet, is_apart}
+use Rattle.diag_sweep.proofs.Vocabulary.{has_number, Table, crosses_of, Kept, IsMore, Advances, HasRetaken, KeepsSet, is_apart, RigState}
+use Rattle.diag_sweep.proofs.Vocabulary.{ForEach, Narrows, Field, VerifiedWire, known_later, known_retaken, retaken_all, HasTable, MarksIn}
+use Rattle.diag_sweep.proofs.Vocabulary.{TrueIf, Hand, Goes, GoesYet, IsHand, IsHandYet, Settles, in_hand, DefectMarks, LoadBudget}
 use Rattle.diag_evidence.proofs.Keeping.{advances_itself, advances_then, holds_retaken, retaken_cross, retaken_shape, retaken_still}
 use Rattle.diag_evidence.proofs.KeptLemmas.{more_itself}
-use Rattle.rig.specs.Rig.{RigState, ForEach, Narrows}
 use Rattle.diag_known.specs.Vocabulary.{KnownWires, HasWire, IsKnown, KnowsAll, IsFieldOf, GrowsIn}
-use Rattle.diag_known.specs.declared.field.Field.{Field}
-use Rattle.diag_known.specs.declared.verified_wire.VerifiedWire.{VerifiedWire}
-use Rattle.diag_known.proofs.Later.{known_later, known_retaken, retaken_all}
-use Rattle.diag_sweep.specs.Marks.{HasTable, MarksIn, TrueIf}
-use Rattle.diag_sweep.specs.Stages.{Hand, Goes, GoesYet, IsHand, IsHandYet, Settles, in_hand}
-use Rattle.diag_sweep.specs.declared.defect_marks.DefectMarks.{DefectMarks}
-use Rattle.diag_sweep.specs.declared.budget.LoadBudget.{LoadBudget}
 use Rattle.diag_sweep.proofs.Marking.{marks_itself, marks_then, marks_for, true_later, true_back}
 use Rattle.diag_sweep.proofs.Paying.{funded_test, funded_back}
 

@@ -1,16 +1,9 @@
 -- The forest that stays from load to load.
 use Rattle.std.proofs.Common.{◌≡◌, ℕ, ◌<◌, ◌≤◌, ◌+◌, ◌&&◌, true, Some, List, [], ◌∷◌, length, take, nat_eq, refl, ap, sym, ◌∙◌, subst, slice_get, arith}
-use Rattle.std.specs.Cmp.Lexicographic.{pointwise}
-use Rattle.std.specs.Option.{option_map}
-use Rattle.std.proofs.lemmas.Bool.{false≢true, and_parts}
-use Rattle.std.proofs.lemmas.Bool.Decides.{nat_tests}
-use Rattle.std.proofs.lemmas.List.{length-map}
+use Rattle.std.specs.{Cmp.Lexicographic.pointwise, Option.option_map}
+use Rattle.diag_sweep.proofs.Vocabulary.{false≢true, and_parts, nat_tests, length-map, Cross, among, cross_numbers, Kept, keeps_cross}
 use Rattle.std.proofs.lemmas.Option.{slice_get-map, slice_get_within}
 use Rattle.machine_shape.specs.declared.Counts.{Counts}
-use Rattle.machine_shape.specs.declared.Cross.{Cross}
-use Rattle.machine_config.specs.Vocabulary.{among}
-use Rattle.diag_tests.specs.Routes.{cross_numbers}
-use Rattle.diag_evidence.specs.Kept.{Kept, keeps_cross}
 use Rattle.diag_sweep.proofs.Coursing.{each_more, each_whole}
 
 -- what the test of numbers and lists of them shows

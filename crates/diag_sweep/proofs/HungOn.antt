@@ -1,24 +1,10 @@
 -- What a load of hangs leaves.
 use Rattle.std.proofs.Common.{◌≡◌, ◌≢◌, ◌⊎◌, ℕ, zero, suc, ◌+◌, ◌<◌, ◌≤◌, Bool, true, false, ◌&&◌, Result, Ok, Err, Some, List, [], ◌∷◌, length, get_or, refl, sym, ap, ◌∙◌, subst, inl, inr, arith, All, OnOk, OnErr, ◌==◌, map, slice_get}
-use Rattle.std.specs.List.{list_any}
+use Rattle.diag_sweep.proofs.Vocabulary.{list_any, nat_tests, has_number, Table, crosses_of, Faults, RigState, Explains, ForEach, of_told}
+use Rattle.diag_sweep.proofs.Vocabulary.{WireTest, IsFieldOf, KnownWires, HasWire, Field, VerifiedWire, known_later, MarksIn, MarksSome}
+use Rattle.diag_sweep.proofs.Vocabulary.{TrueIf, GoesYet, IsHand, in_hand, DefectMarks, LoadBudget}
 use Rattle.std.proofs.lemmas.Bool.{false≢true, or_cases, and_parts, or_left, or_right}
-use Rattle.std.proofs.lemmas.Bool.Decides.{nat_tests}
-use Rattle.base_bits.specs.Numbers.{has_number}
-use Rattle.machine_shape.specs.declared.Table.{Table}
-use Rattle.machine_shape.specs.Shape.{crosses_of}
-use Rattle.machine_meaning.specs.Faults.{Faults}
-use Rattle.rig.specs.Rig.{RigState, Explains, ForEach}
 use Rattle.diag_evidence.specs.Vocabulary.{Trees, Foot, HasMarked, ShowsTried, StayMarked, UnfitIf, UnclearIf, is_unfit_in, is_unclear_in, overs, turned, Kept, HoldsFor, IsMore}
-use Rattle.diag_evidence.proofs.Keeping.{of_told}
-use Rattle.diag_evidence.specs.declared.hangs.WireTest.{WireTest}
-use Rattle.diag_known.specs.Vocabulary.{IsFieldOf, KnownWires, HasWire}
-use Rattle.diag_known.specs.declared.field.Field.{Field}
-use Rattle.diag_known.specs.declared.verified_wire.VerifiedWire.{VerifiedWire}
-use Rattle.diag_known.proofs.Later.{known_later}
-use Rattle.diag_sweep.specs.Marks.{MarksIn, MarksSome, TrueIf}
-use Rattle.diag_sweep.specs.Stages.{GoesYet, IsHand, in_hand}
-use Rattle.diag_sweep.specs.declared.defect_marks.DefectMarks.{DefectMarks}
-use Rattle.diag_sweep.specs.declared.budget.LoadBudget.{LoadBudget}
 use Rattle.diag_sweep.proofs.Going.{grows_itself, goes_tested}
 use Rattle.diag_sweep.proofs.Marking.{marks_for, marks_itself, some_itself, true_later}
 use Rattle.diag_sweep.proofs.Paying.{funded_test}

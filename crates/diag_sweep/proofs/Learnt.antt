@@ -1,14 +1,9 @@
 -- Wires that come to be known.
 use Rattle.std.proofs.Common.{◌≡◌, ◌≢◌, ◌⊎◌, ℕ, ◌<◌, true, List, [], ◌∷◌, ◌++◌, length, refl, sym, ap, ◌∙◌, subst, inl, inr, slice_get, Some, Result, Ok, Err, OnOk, OnErr}
-use Rattle.base_bits.specs.Numbers.{has_number}
-use Rattle.machine_shape.specs.Shape.{pins_of, pin_wire}
-use Rattle.diag_evidence.specs.Kept.{Kept}
+use Rattle.diag_sweep.proofs.Vocabulary.{has_number, pins_of, pin_wire, Kept, Field, VerifiedWire, learnt}
 use Rattle.diag_known.specs.Vocabulary.{KnownWires, HasWire, IsFoot, IsGood, IsKnown, Stands, on_pin, on_feet, GrowsIn}
-use Rattle.diag_known.specs.declared.field.Field.{Field}
 use Rattle.diag_known.specs.declared.verified_wire.Support.{Support}
 use Rattle.diag_known.specs.declared.verified_wire.SupportedBy.TheVariants as stand
-use Rattle.diag_known.specs.declared.verified_wire.VerifiedWire.{VerifiedWire}
-use Rattle.diag_known.proofs.Later.{learnt}
 use Rattle.diag_known.proofs.Places.{get_pushed, has_later}
 use Rattle.diag_sweep.proofs.Going.{grows_itself}
 

@@ -1,21 +1,13 @@
 -- Fields without what is marked bad: what is closed there, and what a sweep and a growth take together.
 use Rattle.std.proofs.Common.{◌≡◌, ◌≢◌, ◌⊎◌, ℕ, zero, suc, ◌+◌, ◌*◌, ◌<◌, ◌≤◌, Bool, true, false, None, Option, List, length, replicate, set, refl, sym, ap, ◌∙◌, subst, inl, inr, arith, not, ◌&&◌, if◌then◌else◌}
-use Rattle.std.proofs.lemmas.Bool.{false≢true}
+use Rattle.diag_sweep.proofs.Vocabulary.{false≢true, has_number, size_of, Shape, Faults, stuck_cross, IsClear, IsAlone, HasFeet, two, Table}
+use Rattle.diag_sweep.proofs.Vocabulary.{Kept, IsMore, keeps_cross, Field, VerifiedWire, many_all, many_more, many_size, DefectMarks}
 use Rattle.std.proofs.lemmas.List.{get_or-set_same, get_or-set_other, get_or-replicate, get_or_past, length-replicate, length-set}
 use native.Mathlib.Decide.{dec_lt, ℕ_discrete}
-use Rattle.base_bits.specs.Numbers.{has_number, size_of}
-use Rattle.machine_shape.specs.declared.Shape.{Shape}
 use Rattle.machine_shape.specs.Vocabulary.{IsNumbered, crosses_of, pin_wire, pins_of, wires_of}
-use Rattle.machine_meaning.specs.Vocabulary.{Faults, stuck_cross, IsClear, IsAlone, HasFeet, two}
-use Rattle.machine_shape.specs.declared.Table.{Table}
-use Rattle.diag_evidence.specs.Kept.{Kept, IsMore, keeps_cross}
 use Rattle.diag_known.specs.Vocabulary.{ClosedIf, IsClosed, IsFieldOf, fresh, how_many, pins_in, HasWire}
-use Rattle.diag_known.specs.declared.field.Field.{Field}
-use Rattle.diag_known.specs.declared.verified_wire.VerifiedWire.{VerifiedWire}
-use Rattle.diag_known.proofs.Counting.{many_all, many_more, many_size}
 use Rattle.diag_sweep.specs.Marks.{AreTrueMarks, MarksIn, Pays, TrueIf, is_undecided, undecided}
 use Rattle.diag_sweep.specs.Without.{AreWithout, IsWithout}
-use Rattle.diag_sweep.specs.declared.defect_marks.DefectMarks.{DefectMarks}
 use Rattle.diag_sweep.proofs.Paying.{neither}
 
 none_on : (n i : ℕ) → has_number (replicate n false) i ≡ false

@@ -1,23 +1,10 @@
 -- What a load of walks leaves.
 use Rattle.std.proofs.Common.{◌≡◌, ◌⊎◌, inl, inr, ℕ, ◌+◌, ◌≤◌, Bool, true, false, not, ◌&&◌, ◌||◌, Result, Ok, Err, List, [], ◌∷◌, length, refl, sym, ap, ◌∙◌, subst, ◌==◌, OnOk, OnErr}
-use Rattle.std.proofs.lemmas.Bool.{false≢true, or_cases, and_parts, or_left, or_right}
+use Rattle.diag_sweep.proofs.Vocabulary.{false≢true, or_cases, and_parts, or_left, or_right, list_any-append, has_number, Pins, among}
+use Rattle.diag_sweep.proofs.Vocabulary.{Faults, Explains, RigState, ForEach, Lead, of_told, trial_by_gain, KnownWires, Field, CanLead}
+use Rattle.diag_sweep.proofs.Vocabulary.{MarksSome, MarksIn, TrueIf, GoesYet, IsHand, in_hand, DefectMarks, LoadBudget}
 use Rattle.std.proofs.lemmas.List.Concat.{flat_map-cons}
-use Rattle.std.proofs.lemmas.List.Folds.{list_any-append}
-use Rattle.base_bits.specs.Numbers.{has_number}
-use Rattle.machine_meaning.specs.Vocabulary.{Pins}
-use Rattle.machine_config.specs.Vocabulary.{among}
-use Rattle.machine_meaning.specs.Faults.{Faults}
-use Rattle.rig.specs.Rig.{Explains, RigState, ForEach}
 use Rattle.diag_evidence.specs.Vocabulary.{Kept, HoldsFor, IsMore, KeepsSet, keeps_cross, ShowsLed, StuckIf, Trees, arrives, held_up_at, is_only_unkept, crosses_along, crosses_of_leads, led_over, these_crosses}
-use Rattle.diag_evidence.specs.declared.leads.Lead.{Lead}
-use Rattle.diag_evidence.proofs.Keeping.{of_told, trial_by_gain}
-use Rattle.diag_known.specs.Known.{KnownWires}
-use Rattle.diag_known.specs.declared.field.Field.{Field}
-use Rattle.diag_sweep.specs.Courses.{CanLead}
-use Rattle.diag_sweep.specs.Marks.{MarksSome, MarksIn, TrueIf}
-use Rattle.diag_sweep.specs.Stages.{GoesYet, IsHand, in_hand}
-use Rattle.diag_sweep.specs.declared.defect_marks.DefectMarks.{DefectMarks}
-use Rattle.diag_sweep.specs.declared.budget.LoadBudget.{LoadBudget}
 use Rattle.diag_sweep.proofs.Going.{goes_tested}
 use Rattle.diag_sweep.proofs.Marking.{true_later, some_itself}
 

@@ -17,3 +17,4 @@ mod Sheeted
 mod Tabled
 mod Viewing
 mod Chosen
+mod Vocabulary

@@ -1,16 +1,7 @@
 -- Marks stay true as more is kept and more is known.
-use Rattle.std.proofs.Common.{◌≡◌, ◌⊎◌, ℕ, Bool, true, Option, Some, List, refl, sym, ap, ◌∙◌, subst, inl, inr}
-use Rattle.base_bits.specs.Numbers.{has_number}
-use Rattle.machine_shape.specs.declared.Shape.{Shape}
-use Rattle.machine_shape.specs.declared.Table.{Table}
-use Rattle.machine_meaning.specs.Faults.{Faults}
-use Rattle.machine_shape.specs.Shape.{wires_of, crosses_of, tables_of}
-use Rattle.diag_evidence.specs.Kept.{Kept, IsMore, HoldsFor}
-use Rattle.diag_known.specs.Known.{HasWire}
-use Rattle.diag_known.specs.declared.field.Field.{Field}
-use Rattle.diag_known.specs.declared.verified_wire.VerifiedWire.{VerifiedWire}
-use Rattle.diag_sweep.specs.Marks.{AreMarksFor, AreTrueMarks, HasTable, MarksIn, MarksSome, TrueIf}
-use Rattle.diag_sweep.specs.declared.defect_marks.DefectMarks.{DefectMarks}
+use Rattle.diag_sweep.proofs.Vocabulary.{◌≡◌, ◌⊎◌, ℕ, Bool, true, Option, Some, List, refl, sym, ap, ◌∙◌, subst, inl, inr, has_number}
+use Rattle.diag_sweep.proofs.Vocabulary.{Shape, Table, Faults, wires_of, crosses_of, tables_of, Kept, IsMore, HoldsFor, HasWire, Field}
+use Rattle.diag_sweep.proofs.Vocabulary.{VerifiedWire, AreMarksFor, AreTrueMarks, HasTable, MarksIn, MarksSome, TrueIf, DefectMarks}
 
 pub some_itself : (these : ℕ → Type 0) (was : List Bool) → MarksSome these was was
 some_itself these was = record { len = refl; stays = λ i on. on; within = λ i on. inl on }

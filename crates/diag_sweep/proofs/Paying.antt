@@ -1,14 +1,7 @@
 -- Tests are paid for.
 use Rattle.std.proofs.Common.{◌≡◌, ℕ, ◌+◌, ◌*◌, ◌≤◌, Bool, true, false, not, ◌&&◌, List, refl, sym, ap, ◌∙◌, subst, arith}
-use Rattle.std.proofs.lemmas.Bool.{false≢true}
-use Rattle.base_bits.specs.Numbers.{has_number}
-use Rattle.diag_evidence.specs.Kept.{Kept, IsMore, keeps_cross}
-use Rattle.diag_known.specs.Known.{KnownWires}
-use Rattle.diag_known.specs.declared.field.Field.{Field}
-use Rattle.diag_sweep.specs.Marks.{is_undecided}
-use Rattle.diag_sweep.specs.Stages.{IsFunded, in_hand}
-use Rattle.diag_sweep.specs.declared.defect_marks.DefectMarks.{DefectMarks}
-use Rattle.diag_sweep.specs.declared.budget.LoadBudget.{LoadBudget}
+use Rattle.diag_sweep.proofs.Vocabulary.{false≢true, has_number, Kept, IsMore, keeps_cross, KnownWires, Field, is_undecided, IsFunded}
+use Rattle.diag_sweep.proofs.Vocabulary.{in_hand, DefectMarks, LoadBudget}
 
 -- if neither of two is so, neither is what they follow from
 pub neither : (a b c d : Bool) → (a ≡ true → c ≡ true) → (b ≡ true → d ≡ true) → (not c && not d) ≡ true → (not a && not b) ≡ true

@@ -1,16 +1,10 @@
 -- What hangs of tables, from lists of pins.
 use Rattle.std.proofs.Common.{◌≡◌, ◌≢◌, ◌⊎◌, inl, inr, ℕ, zero, suc, ◌<◌, ◌≤◌, ◌+◌, Bool, true, false, ◌||◌, Some, None, Option, List, [], ◌∷◌, ◌++◌, length, get_or, take, refl, sym, ap, ◌∙◌, subst, arith, ◌==◌, All, map, slice_get, slice_index_or}
-use Rattle.std.specs.List.{list_any, IsDistinct}
-use Rattle.std.proofs.lemmas.Bool.{false≢true, or_cases}
-use Rattle.std.proofs.lemmas.Bool.Decides.{nat_tests}
-use Rattle.std.proofs.lemmas.List.{take_all, map-append}
+use Rattle.diag_sweep.proofs.Vocabulary.{list_any, IsDistinct, false≢true, or_cases, nat_tests, take_all, map-append, Table, table_wire}
+use Rattle.diag_sweep.proofs.Vocabulary.{tables_of, AreOn, InputsOn, OutputOn, Seen, SeesMore}
 use Rattle.std.proofs.lemmas.Map.Keys.{apart_from_distinct}
 use native.Mathlib.Decide.{ℕ_discrete, dec_lt}
-use Rattle.machine_shape.specs.declared.Table.{Table}
-use Rattle.machine_shape.specs.Shape.{table_wire, tables_of}
 use Rattle.diag_evidence.specs.Vocabulary.{Trees, HangsOn, AreTablesOn, is_one_of, output_pin}
-use Rattle.diag_sweep.specs.Sheets.{AreOn, InputsOn, OutputOn}
-use Rattle.diag_sweep.specs.Sights.{Seen, SeesMore}
 use Rattle.diag_sweep.proofs.Footed.{one_more}
 
 same_number : (n : ℕ) → (n == n) ≡ true

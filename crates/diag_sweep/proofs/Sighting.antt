@@ -1,15 +1,8 @@
 -- Numbers that are seen one after the other.
 use Rattle.std.proofs.Common.{◌≡◌, ◌≢◌, ◌⊎◌, ℕ, zero, suc, ◌+◌, ◌<◌, ◌≤◌, Bool, true, false, Some, List, [], ◌∷◌, ◌++◌, length, take, get_or, refl, sym, ap, ◌∙◌, subst, inl, inr, arith, ◌==◌, slice_set, slice_get}
-use Rattle.std.specs.List.{AllByRecursion, list_any, IsDistinct}
-use Rattle.std.proofs.lemmas.Bool.{false≢true, or_cases, or_parts, or_left, or_right}
-use Rattle.std.proofs.lemmas.Bool.Decides.{nat_tests}
-use Rattle.std.proofs.lemmas.List.{take_more}
-use Rattle.std.proofs.lemmas.Option.{gets}
+use Rattle.diag_sweep.proofs.Vocabulary.{AllByRecursion, list_any, IsDistinct, false≢true, or_cases, or_parts, or_left, or_right, nat_tests}
+use Rattle.diag_sweep.proofs.Vocabulary.{take_more, gets, has_number, among, set_has, set_other, Seen, SeesMore}
 use native.Mathlib.Decide.{ℕ_discrete}
-use Rattle.base_bits.specs.Numbers.{has_number}
-use Rattle.machine_config.specs.Groups.{among}
-use Rattle.diag_known.proofs.Counting.{set_has, set_other}
-use Rattle.diag_sweep.specs.Sights.{Seen, SeesMore}
 
 pub seen_first : (marks : List Bool) → Seen marks []
 unfolding IsDistinct

@@ -1,19 +1,10 @@
 -- What a load of tables leaves.
 use Rattle.std.proofs.Common.{◌≡◌, ◌⊎◌, inl, inr, ℕ, suc, ◌≤◌, ◌+◌, Bool, true, false, not, ◌&&◌, Result, Ok, Err, List, [], ◌∷◌, length, refl, sym, ◌∙◌, subst, arith, All, OnOk, OnErr, ◌==◌}
-use Rattle.std.proofs.lemmas.Bool.{false≢true, or_cases, and_parts, or_right}
-use Rattle.std.proofs.lemmas.Bool.Decides.{nat_tests}
-use Rattle.base_bits.specs.Numbers.{has_number}
-use Rattle.machine_shape.specs.declared.Table.{Table}
-use Rattle.machine_meaning.specs.Faults.{Faults}
-use Rattle.rig.specs.Rig.{Explains, RigState, ForEach}
+use Rattle.diag_sweep.proofs.Vocabulary.{false≢true, or_cases, and_parts, or_right, nat_tests, has_number, Table, Faults, Explains}
+use Rattle.diag_sweep.proofs.Vocabulary.{RigState, ForEach, advances_itself, advances_then, of_told, trial_by_gain, KnownWires, Field}
+use Rattle.diag_sweep.proofs.Vocabulary.{HasTable, MarksSome, MarksIn, TrueIf, Goes, GoesYet, Hand, IsHand, in_hand, DefectMarks}
+use Rattle.diag_sweep.proofs.Vocabulary.{LoadBudget}
 use Rattle.diag_evidence.specs.Vocabulary.{Trees, Kept, Advances, HoldsFor, IsMore, KeepsSet, ShowsTabled, WrongIf, is_one_of, is_right_before, output_pin, right_parts}
-use Rattle.diag_evidence.proofs.Keeping.{advances_itself, advances_then, of_told, trial_by_gain}
-use Rattle.diag_known.specs.Known.{KnownWires}
-use Rattle.diag_known.specs.declared.field.Field.{Field}
-use Rattle.diag_sweep.specs.Marks.{HasTable, MarksSome, MarksIn, TrueIf}
-use Rattle.diag_sweep.specs.Stages.{Goes, GoesYet, Hand, IsHand, in_hand}
-use Rattle.diag_sweep.specs.declared.defect_marks.DefectMarks.{DefectMarks}
-use Rattle.diag_sweep.specs.declared.budget.LoadBudget.{LoadBudget}
 use Rattle.diag_sweep.proofs.Going.{goes_itself, goes_on, goes_tested}
 use Rattle.diag_sweep.proofs.Marking.{true_later, some_itself}
 

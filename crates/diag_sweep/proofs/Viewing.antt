@@ -1,11 +1,7 @@
 -- What a look leaves in which wires hang over one crosspoint each.
 use Rattle.std.proofs.Common.{◌≡◌, ◌⊎◌, ℕ, suc, Bool, true, false, ◌&&◌, Result, Ok, Err, List, [], ◌∷◌, length, sym, ◌∙◌, subst, inl, inr, arith, All, OnOk, OnErr, ◌==◌, map}
-use Rattle.std.specs.List.{IsDistinct, list_any}
-use Rattle.std.proofs.lemmas.Bool.{false≢true, or_cases, and_parts}
-use Rattle.base_bits.specs.Numbers.{has_number}
+use Rattle.diag_sweep.proofs.Vocabulary.{IsDistinct, list_any, false≢true, or_cases, and_parts, has_number, Field, MarksSome}
 use Rattle.diag_evidence.specs.Vocabulary.{Trees, AreFeet, Foot, HasMarked, IsFoot, StayMarked, is_unfit_in, is_unclear_in, pin_at}
-use Rattle.diag_known.specs.declared.field.Field.{Field}
-use Rattle.diag_sweep.specs.Marks.{MarksSome}
 use Rattle.diag_sweep.proofs.HungOn.{IsNewOf, equal, new_same}
 
 -- wires that are of a field

@@ -1,14 +1,11 @@
 -- Marks of what tests have found bad, when they are true, and what finding them may cost.
 use Rattle.std.specs.Prelude.{◌≡◌, ◌≢◌, ◌⊎◌, ℕ, ◌+◌, ◌*◌, ◌≤◌, Bool, true, not, ◌&&◌, Option, Some, None, List, [], length, slice_get}
 use Rattle.base_bits.specs.Numbers.{has_number}
-use Rattle.machine_shape.specs.declared.Shape.{Shape}
-use Rattle.machine_shape.specs.declared.Table.{Table}
-use Rattle.machine_shape.specs.Shape.{wires_of, crosses_of, tables_of}
+use Rattle.machine_shape.specs.{declared.Shape.Shape, declared.Table.Table, Shape.wires_of, Shape.crosses_of, Shape.tables_of}
 use Rattle.machine_meaning.specs.Vocabulary.{Faults, stuck_cross, IsClear, IsAlone, IsRightTable}
 use Rattle.diag_evidence.specs.Kept.{Kept, HoldsFor, keeps_cross}
-use Rattle.diag_known.specs.Vocabulary.{HasWire, how_many, pins_in}
+use Rattle.diag_known.specs.{Vocabulary.HasWire, Vocabulary.how_many, Vocabulary.pins_in, declared.verified_wire.VerifiedWire.VerifiedWire}
 use Rattle.diag_known.specs.declared.field.Field.{Field}
-use Rattle.diag_known.specs.declared.verified_wire.VerifiedWire.{VerifiedWire}
 use Rattle.diag_sweep.specs.declared.defect_marks.DefectMarks.{DefectMarks}
 
 -- there is a mark for each crosspoint, wire and table of the machine

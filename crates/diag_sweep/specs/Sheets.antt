@@ -1,8 +1,7 @@
 -- Tables that are to be tested in one load.
 use Rattle.std.specs.Prelude.{◌≡◌, ℕ, ◌<◌, ◌==◌, List, ◌++◌, ◌∷◌, [], All, length, map, slice_index_or}
 use Rattle.std.specs.List.{IsDistinct}
-use Rattle.machine_shape.specs.declared.Table.{Table}
-use Rattle.machine_shape.specs.Shape.{table_wire, tables_of}
+use Rattle.machine_shape.specs.{declared.Table.Table, Shape.table_wire, Shape.tables_of}
 use Rattle.diag_evidence.specs.Vocabulary.{Trees, HangsOn, output_pin}
 
 -- input j of the table hangs on the j-th of these pins

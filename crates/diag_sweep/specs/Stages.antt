@@ -1,15 +1,13 @@
 -- What a sweep has in hand from one test to the next.
 use Rattle.std.specs.Prelude.{◌≡◌, ℕ, ◌+◌, ◌*◌, ◌≤◌, true, List, length}
 use Rattle.base_bits.specs.Numbers.{has_number, size_of}
-use Rattle.machine_shape.specs.declared.Table.{Table}
-use Rattle.machine_shape.specs.Shape.{crosses_of}
+use Rattle.machine_shape.specs.{declared.Table.Table, Shape.crosses_of}
 use Rattle.rig.specs.Rig.{RigState, ForEach}
 use Rattle.diag_evidence.specs.Kept.{Kept}
 use Rattle.diag_known.specs.Vocabulary.{KnownWires, IsKnown, KnowsAll, IsFieldOf, GrowsIn}
 use Rattle.diag_known.specs.declared.field.Field.{Field}
-use Rattle.diag_sweep.specs.Marks.{AreMarksFor, MarksIn, TrueIf, is_undecided}
+use Rattle.diag_sweep.specs.{Marks.AreMarksFor, Marks.MarksIn, Marks.TrueIf, Marks.is_undecided, declared.budget.LoadBudget.LoadBudget}
 use Rattle.diag_sweep.specs.declared.defect_marks.DefectMarks.{DefectMarks}
-use Rattle.diag_sweep.specs.declared.budget.LoadBudget.{LoadBudget}
 
 -- what is kept, known and found bad, the purse, and the loads so far
 pub record Hand : Type 0 where

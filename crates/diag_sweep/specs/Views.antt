@@ -3,9 +3,7 @@ use Rattle.std.specs.Prelude.{◌≡◌, ℕ, true, List, All}
 use Rattle.base_bits.specs.Numbers.{has_number}
 use Rattle.machine_shape.specs.Shape.{pins_of}
 use Rattle.diag_evidence.specs.Vocabulary.{KnowsForest, Trees, is_hung, AreFeet, Kept}
-use Rattle.diag_known.specs.Known.{HasWire}
-use Rattle.diag_known.specs.declared.field.Field.{Field}
-use Rattle.diag_known.specs.declared.verified_wire.VerifiedWire.{VerifiedWire}
+use Rattle.diag_known.specs.{Known.HasWire, declared.field.Field.Field, declared.verified_wire.VerifiedWire.VerifiedWire}
 use Rattle.diag_sweep.specs.declared.telling.View.{View}
 
 -- The look may be made: what hangs on the forest is kept and known, the feet may be hung on it together, and their wires are of the field.

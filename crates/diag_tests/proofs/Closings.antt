@@ -1,17 +1,12 @@
 -- Closing crosspoints one by one.
 use Rattle.std.proofs.Common.{◌≡◌, ℕ, Bool, true, false, List, refl, ap, ◌∙◌, arith, ◌+◌, ◌<◌, length, take, get_or, Some, None, Option, ◌≤◌, ◌==◌, ◌||◌, slice_get, replicate}
 use native.Mathlib.Decide.{dec_lt}
-use Rattle.machine_config.specs.Vocabulary.{among, Configuration, is_closed, with_closed, cleared}
+use Rattle.diag_tests.proofs.Vocabulary.{among, Configuration, is_closed, with_closed, cleared, Closes, IsLoopConfig, Walk, nat_tests, gets}
+use Rattle.diag_tests.proofs.Vocabulary.{get_or-replicate, get_or_past, length-replicate, Shape}
 use Rattle.machine_config.specs.declared.Setting.{Setting}
-use Rattle.diag_tests.specs.Vocabulary.{Closes, IsLoopConfig, Walk}
-use Rattle.std.proofs.lemmas.Bool.Decides.{nat_tests}
 use Rattle.std.proofs.lemmas.List.Folds.{list_any_more, list_any_at}
 use Rattle.machine_config.proofs.Changes.{is_closed-closed}
-use Rattle.std.proofs.lemmas.Option.{gets}
-use Rattle.std.proofs.lemmas.List.{get_or-replicate, get_or_past, length-replicate}
-use Rattle.std.specs.FinSet.{contains-empty}
-use Rattle.std.specs.Ordering.{nat_cmp}
-use Rattle.machine_shape.specs.declared.Shape.{Shape}
+use Rattle.std.specs.{FinSet.contains-empty, Ordering.nat_cmp}
 use Rattle.machine_shape.specs.Shape.{tables_of}
 
 one_more : (t u n b c : Bool) → u ≡ (t || n) → (n ≡ true → b ≡ true) → (n ≡ false → b ≡ (t || c)) → b ≡ (u || c)

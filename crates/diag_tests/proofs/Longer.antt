@@ -1,11 +1,8 @@
 -- Routes that go on.
 use Rattle.std.proofs.Common.{◌≡◌, ◌<◌, ℕ, Bool, true, false, List, [], ◌∷◌, ◌++◌, refl, sym, ◌∙◌, subst, inl, inr, arith, ◌==◌, ◌||◌}
-use Rattle.std.proofs.lemmas.Bool.Decides.{nat_tests}
-use Rattle.machine_shape.specs.declared.Shape.{Shape}
+use Rattle.diag_tests.proofs.Vocabulary.{nat_tests, Shape, among, ends, Walk, IsRoute, HasEnd, other_end, Extends, at_pin}
 use Rattle.machine_shape.specs.Shape.{Ends, in_order, turned, ends_of, pin_wire, pins_of, crosses_of, wires_of}
-use Rattle.machine_config.specs.Vocabulary.{among, ends}
 use Rattle.machine_config.proofs.Grouped.{LeadsTo-push}
-use Rattle.diag_tests.specs.Routes.{Walk, IsRoute, HasEnd, other_end, Extends, at_pin}
 
 -- what is among a list with one more
 pub among-push : (xs : List ℕ) (x y : ℕ) → among (xs ++ x ∷ []) y ≡ (among xs y || x == y)

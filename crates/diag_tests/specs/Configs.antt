@@ -1,7 +1,6 @@
 -- The configurations of tests: two routes and further crosspoints, the ties, and at most one table.
 use Rattle.std.specs.Prelude.{◌≡◌, ◌≢◌, ℕ, Bool, true, false, ◌||◌, Some, None, List, replicate, slice_set}
-use Rattle.machine_shape.specs.declared.Shape.{Shape}
-use Rattle.machine_shape.specs.Shape.{tables_of}
+use Rattle.machine_shape.specs.{declared.Shape.Shape, Shape.tables_of}
 use Rattle.machine_config.specs.declared.Setting.{Setting}
 use Rattle.machine_config.specs.Vocabulary.{Configuration, is_closed, setting_of, among, AreOff}
 use Rattle.diag_tests.specs.Routes.{Walk}

@@ -1,7 +1,6 @@
 -- A rig that is asked step by step.
 use Rattle.std.specs.Prelude.{◌≡◌, Bool, true, Some, IsSome}
-use Rattle.machine_shape.specs.declared.Shape.{Shape}
-use Rattle.machine_shape.specs.Shape.{pins_of}
+use Rattle.machine_shape.specs.{declared.Shape.Shape, Shape.pins_of}
 use Rattle.rig.specs.Rig.{RigState, shape_of, width_of}
 
 -- the rig, and the shape of what is set

@@ -1,22 +1,16 @@
 -- Tested crossbars stay as more is kept, and one more is found.
 use Rattle.std.proofs.Common.{All, ◌≡◌, ◌<◌, ◌≤◌, ◌+◌, ℕ, true, false, Option, None, Result, Ok, Err, IfOk, IfNone, List, [], ◌∷◌, ◌++◌, length, get_or, Some, arith, subst, sym, ap, ◌∙◌, slice_get}
 use native.Mathlib.Decide.{dec_lt}
-use Rattle.std.proofs.lemmas.Bool.{false≢true}
-use Rattle.std.proofs.lemmas.List.{get_or_append_left, length-append}
+use Rattle.example_parts.proofs.Vocabulary.{false≢true, get_or_append_left, length-append, Shape, Walk, Kept, HoldsFor, is_apart, more_then}
+use Rattle.example_parts.proofs.Vocabulary.{of_told, known_none, IsFoundAt, AreFound}
 use Rattle.std.proofs.Math.Seq.{get_or-append_seam}
-use Rattle.machine_shape.specs.declared.Shape.{Shape}
 use Rattle.machine_shape.specs.Vocabulary.{nodes_of, node_of, parent_of, HasParents}
 use Rattle.machine_meaning.specs.Faults.{Faults}
 use Rattle.rig.specs.Rig.{RigState, Explains, Narrows, ForEach}
-use Rattle.diag_tests.specs.Routes.{Walk}
 use Rattle.diag_tests.specs.declared.trunk.Trunk.{Trunk}
-use Rattle.diag_evidence.specs.Kept.{Kept, HoldsFor, is_apart}
-use Rattle.diag_evidence.proofs.Keeping.{more_then, of_told}
 use Rattle.diag_known.specs.Known.{KnownWires, IsKnown, KnowsAll}
-use Rattle.diag_known.proofs.Later.{known_none}
 use Rattle.diag_published.specs.Held.{Findings, IsHeld, IsHeldTrunk, FullIf, IsLater, UnservedIf}
 use Rattle.diag_published.proofs.Staying.{held_later, full_later}
-use Rattle.example_parts.specs.Found.{IsFoundAt, AreFound}
 
 -- nothing is known and found at first
 pub none_found : (rig : RigState) (k : Kept) (known : KnownWires) (found : List Findings) → known.shape ≡ k.shape → known.steps ≡ [] → found ≡ [] → ((w : ℕ) → is_apart k w ≡ false) → ((f : Faults) → HoldsFor k f) → AreFound rig k known found

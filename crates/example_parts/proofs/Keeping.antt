@@ -1,9 +1,7 @@
 -- Crosspoints that are kept, one after the other.
 use Rattle.std.proofs.Common.{◌≡◌, ◌<◌, ◌+◌, ℕ, Bool, true, false, Some, List, length, take, refl, subst, arith, ◌==◌, slice_get}
 use Rattle.std.proofs.lemmas.Bool.Decides.{nat_tests}
-use Rattle.machine_config.specs.Groups.{among}
-use Rattle.diag_evidence.specs.Kept.{Kept, keeps_cross}
-use Rattle.diag_tests.proofs.Closings.{more_among}
+use Rattle.example_parts.proofs.Vocabulary.{among, Kept, keeps_cross, more_among}
 
 -- where the first of a list are kept, and the next one is
 pub kept_next : (k : Kept) (xs : List ℕ) (i x : ℕ) → i < length xs → slice_get xs i ≡ Some x → ((y : ℕ) → among (take i xs) y ≡ true → keeps_cross k y ≡ true) → keeps_cross k x ≡ true →

@@ -1,9 +1,6 @@
 -- What is closed where two routes and more are.
-use Rattle.std.proofs.Common.{◌≡◌, ℕ, List, ◌∙◌}
-use Rattle.std.proofs.lemmas.Bool.{or_left, or_right}
-use Rattle.machine_shape.specs.declared.Shape.{Shape}
+use Rattle.example_parts.proofs.Vocabulary.{◌≡◌, ℕ, List, ◌∙◌, or_left, or_right, Shape, IsLoopConfig, IsCellConfig, is_laid, Walk, IsRoute}
 use Rattle.machine_config.specs.Vocabulary.{Configuration, is_closed, among}
-use Rattle.diag_tests.specs.Vocabulary.{IsLoopConfig, IsCellConfig, is_laid, Walk, IsRoute}
 use Rattle.example_parts.specs.Laid.{IsLaid}
 
 -- the crosspoints of both routes are closed where these are closed

@@ -1,3 +1,4 @@
 mod Keeping
 mod Laying
 mod Finding
+mod Vocabulary

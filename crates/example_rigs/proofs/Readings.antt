@@ -1,11 +1,9 @@
 -- A reading that is turned.
 use Rattle.std.proofs.Common.{◌≡◌, ◌⊎◌, inl, inr, ℕ, zero, suc, ◌+◌, ◌<◌, Option, None, Some, IfSome, List, [], ◌∷◌, ◌++◌, length, get_or, set, map, refl, sym, ap, ◌∙◌, subst, arith, option_map, IsSome, Result, Ok, Err, OnOk}
 use Rattle.std.specs.Option.{option_map_or}
-use Rattle.std.proofs.lemmas.List.{length-map, length-append, map-append, flat_map_more}
-use Rattle.std.proofs.lemmas.Bool.{false≢true}
+use Rattle.std.proofs.lemmas.{List.length-map, List.length-append, List.map-append, List.flat_map_more, Bool.false≢true}
 use Rattle.machine_meaning.specs.Circuit.{Pins}
-use Rattle.machine_shape.specs.declared.Shape.{Shape}
-use Rattle.machine_shape.specs.Shape.{pins_of}
+use Rattle.machine_shape.specs.{declared.Shape.Shape, Shape.pins_of}
 use Rattle.machine_config.specs.Configuration.{Configuration}
 use Rattle.rig.specs.Names.{SpellsFaults}
 use Rattle.rig.specs.Rig.{Asked, Attaches, RigState, Session, Past, Exchange, GoesOn, GoesOnBy, CycleFails, CyclesFail, config_of, width_of, cycles_of, drives_of, readings_of, standing}

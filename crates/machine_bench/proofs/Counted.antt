@@ -1,10 +1,8 @@
 -- A machine has wires, crosspoints and tables.
-use Rattle.std.proofs.Common.{ℕ, suc, ◌*◌, ◌<◌, [], ◌∷◌, length, arith}
+use Rattle.machine_bench.proofs.Vocabulary.{ℕ, suc, ◌*◌, ◌<◌, [], ◌∷◌, length, arith, Shape, crosses_are, tables_are, pins_are, four_levels}
 use Rattle.std.proofs.Math.Nat.{le-mul_of_pos_right}
-use Rattle.machine_shape.specs.declared.Shape.{Shape}
 use Rattle.machine_shape.specs.Vocabulary.{AreFull, Levels, size, tables_in, crosses_in, taps_in, levels_of, wires_of, crosses_of, tables_of}
 use Rattle.machine_shape.proofs.Sites.{full_of}
-use Rattle.machine_shape.proofs.Totals.{crosses_are, tables_are, pins_are, four_levels}
 
 -- a product of two numbers that aren't 0 isn't 0
 some_product : (a b : ℕ) → 0 < a → 0 < b → 0 < a * b

@@ -1,10 +1,8 @@
 -- Which wires may be hit, by what they are.
 use Rattle.std.proofs.Common.{◌↔◌, ℕ, ◌≤◌, IsTrue, true, false, nat_le, nat_lt, if◌then◌else◌, subst}
-use Rattle.std.proofs.lemmas.Bool.{leb-true, le-leb}
-use Rattle.machine_shape.specs.declared.Shape.{Shape}
+use Rattle.machine_bench.proofs.Vocabulary.{leb-true, le-leb, Shape, IsHittable, MayBeHit}
 use Rattle.machine_shape.specs.Vocabulary.{Meaning, Means, HasMeanings}
 use Rattle.machine_faults.specs.Adding.{lower_first}
-use Rattle.machine_bench.specs.Faults.{IsHittable, MayBeHit}
 
 pub hit_by_meaning : (m : Shape) (w : ℕ) (x : Meaning) → HasMeanings m → Means m w x → MayBeHit m w ↔ IsHittable m x
 hit_by_meaning m w x all means = (

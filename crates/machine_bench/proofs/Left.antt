@@ -2,18 +2,11 @@
 use Rattle.std.proofs.Common.{◌≡◌, ℕ, ◌<◌, ◌≤◌, Bool, true, false, Option, Some, None, cond, refl, sym, ap, ◌∙◌, subst, arith, unwrap_or}
 use Rattle.std.specs.FinMap as maps
 use Rattle.std.specs.FinSet as set
-use Rattle.std.specs.Cmp.{IsTotalOrder, nat_cmp_total}
-use Rattle.std.specs.Ordering.{nat_cmp, eq_by_cmp}
-use Rattle.std.specs.declared.cmp.Ordering.{Ordering}
-use Rattle.std.proofs.lemmas.Bool.{false≢true}
-use Rattle.std.proofs.lemmas.Option.{none-some}
-use Rattle.std.proofs.lemmas.Map.Lookups.{CmpEqualImpliesEq, exact_unsigned}
-use Rattle.std.proofs.lemmas.Map.Views.{tells_apart}
-use Rattle.machine_shape.specs.declared.Shape.{Shape}
+use Rattle.std.specs.{Cmp.IsTotalOrder, Cmp.nat_cmp_total, Ordering.nat_cmp, Ordering.eq_by_cmp, declared.cmp.Ordering.Ordering}
+use Rattle.machine_bench.proofs.Vocabulary.{false≢true, none-some, Shape, ports_within, Fault}
+use Rattle.std.proofs.lemmas.Map.{Lookups.CmpEqualImpliesEq, Lookups.exact_unsigned, Views.tells_apart}
 use Rattle.machine_shape.specs.Vocabulary.{HasMeanings, in_order, turned, Line, Pin, Port, TablePin, is_pin, is_line, is_port, is_table_pin, ends_of, pin_wire, table_wire, line_at, port_at, pins_of, lines_of, own_ports_of, nodes_of, tables_of}
 use Rattle.machine_meaning.specs.Vocabulary.{Faults, pair_cmp, stuck_wire, stuck_cross, wrong_cell, stuck_register, is_bridge, Linked, crossed, bridged, here, then, net_of, Shorted, IsSoundWire, IsSoundTable, IsWholeLine}
-use Rattle.machine_shape.proofs.Totals.{ports_within}
-use Rattle.machine_faults.specs.declared.fault.Fault.{Fault}
 use Rattle.machine_faults.specs.declared.fault.Fault.TheVariants.{Stuck, CrossStuck, Cell, Register, Bridge}
 use Rattle.machine_faults.specs.Adding.{no_faults, with_fault, lower_first}
 use Rattle.machine_meaning.proofs.Pairs.{pairs_total, pairs_exact}

@@ -2,3 +2,4 @@ mod Counted
 mod Hitting
 mod Left
 mod Turns
+mod Vocabulary

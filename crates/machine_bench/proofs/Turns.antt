@@ -1,9 +1,6 @@
 -- One more turn.
-use Rattle.std.proofs.Common.{◌≡◌, ℕ, suc, ◌+◌, refl, sym, ap, ◌∙◌, subst, arith}
-use Rattle.std.proofs.lemmas.Option.{none-some}
-use Rattle.machine_shape.specs.declared.Shape.{Shape}
+use Rattle.machine_bench.proofs.Vocabulary.{◌≡◌, ℕ, suc, ◌+◌, refl, sym, ap, ◌∙◌, subst, arith, none-some, Shape, Fault}
 use Rattle.machine_meaning.specs.Faults.{Faults}
-use Rattle.machine_faults.specs.declared.fault.Fault.{Fault}
 use Rattle.machine_bench.specs.Faults.{IsOneMore, added, refused, Takes, allowed, not_allowed, fault_of_turn, state_of_turn, turn_state, AfterTurns, none, turn}
 
 module _ (m : Shape) (n turns s : ℕ) (is : s ≡ turn_state n turns) where

@@ -5,8 +5,7 @@ use Rattle.machine_shape.specs.Shape.{wires_of, crosses_of, tables_of, ends_of, 
 use Rattle.machine_meaning.specs.Faults.{Faults}
 use Rattle.machine_faults.specs.declared.fault.Fault.{Fault}
 use Rattle.machine_faults.specs.declared.fault.Fault.TheVariants.{Stuck, CrossStuck, Cell, Register, Bridge}
-use Rattle.machine_faults.specs.declared.fault.AddFault.{AddFault}
-use Rattle.machine_faults.specs.Adding.{no_faults, with_fault, refusal_of}
+use Rattle.machine_faults.specs.{declared.fault.AddFault.AddFault, Adding.no_faults, Adding.with_fault, Adding.refusal_of}
 use Rattle.base_random.specs.Draws.{state_after, nth_draw}
 
 -- the position of a table in its hextant: hextants have as many tables each, and are numbered one after the other

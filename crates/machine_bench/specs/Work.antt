@@ -1,7 +1,6 @@
 -- A machine, and a design for it.
 use Rattle.std.specs.Prelude.{ℕ, ◌+◌, List, [], ◌∷◌, ◌++◌, codes}
-use Rattle.std.specs.List.{flat_map, range_with_len}
-use Rattle.std.specs.Fmt.{decimal}
+use Rattle.std.specs.{List.flat_map, List.range_with_len, Fmt.decimal}
 use Rattle.machine_shape.specs.declared.Counts.{Counts}
 
 abbrev pub bench_counts : Counts

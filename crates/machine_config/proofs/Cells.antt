@@ -1,17 +1,13 @@
 -- What the test of a cell reads, where its wires are as they should be.
 use Rattle.std.proofs.Common.{◌≡◌, ◌≢◌, ◌⊎◌, ℕ, ◌<◌, Bool, true, false, Some, None, Option, [], ◌∷◌, get_or, refl, sym, ap, ◌∙◌, subst, inl, inr, arith, ◌||◌}
-use Rattle.std.proofs.lemmas.Bool.{false≢true}
+use Rattle.machine_config.proofs.Vocabulary.{false≢true, pin_wire, table_wire, pins_of, IsValue-unique, Setting, nat_tests}
 use native.Mathlib.Decide.{ℕ_discrete}
-use Rattle.machine_shape.specs.Shape.{pin_wire, table_wire, pins_of}
 use Rattle.machine_meaning.specs.Vocabulary.{Faults, Joined, net_of, Circuit, Table, Outputs, Pins, Pulls, by_pin, by_table, IsValue, IsPulled, AreValues}
 use Rattle.machine_config.specs.Vocabulary.{Ticks, unticked, tick, Cycles, none, cycle, at_load, after_tick, tick_output, first_output, number_of, address_at, among, both, IsWithin, AreGroups, Configuration, is_closed, cell_of, circuit_of, table_of, table_or_off, IsRun, IsDrivenAlone, IsCellTest, IsLoose}
-use Rattle.machine_meaning.proofs.Values.{IsValue-unique}
 use Rattle.machine_config.proofs.Grouped.{groups_turned, left_unstuck, left_apart}
 use Rattle.machine_config.proofs.Parts.{clear_both, clear_one, unshorted_one, unshorted_right}
-use Rattle.machine_config.specs.declared.Setting.{Setting}
 use Rattle.machine_config.proofs.Readings.{pin_value}
 use Rattle.machine_config.proofs.Passing.{low_value, high_value}
-use Rattle.std.proofs.lemmas.Bool.Decides.{nat_tests}
 
 itself_in : (w : ℕ) → among (w ∷ []) w ≡ true
 itself_in w = grind (arith, nat_tests)

@@ -1,15 +1,9 @@
 -- Configurations after a change.
 use Rattle.std.proofs.Common.{◌≡◌, ℕ, ◌<◌, Bool, true, false, not, ◌||◌, ◌&&◌, None, refl, sym, ap, ◌∙◌, subst, arith, ◌==◌, if◌then◌else◌}
-use Rattle.std.specs.Ordering.{nat_cmp, eq_by_cmp}
-use Rattle.std.specs.Cmp.{nat_cmp_total, Equal-is}
+use Rattle.machine_config.proofs.Vocabulary.{nat_cmp, eq_by_cmp, nat_cmp_total, Equal-is, false≢true, length-replicate, All-replicate}
+use Rattle.machine_config.proofs.Vocabulary.{contains_more, contains_less, Shape, tables_of}
 use Rattle.std.specs.FinSet as set_
 use Rattle.std.specs.FinSet.{contains-insert, contains-remove, contains-empty, same_set, nat_cmp-IsAntisymmetric}
-use Rattle.std.proofs.lemmas.Bool.{false≢true}
-use Rattle.std.proofs.lemmas.List.{length-replicate}
-use Rattle.std.proofs.lemmas.List.Elements.{All-replicate}
-use Rattle.base_bits.proofs.SetsLemmas.{contains_more, contains_less}
-use Rattle.machine_shape.specs.declared.Shape.{Shape}
-use Rattle.machine_shape.specs.Shape.{tables_of}
 use Rattle.machine_shape.proofs.HighLimits.{high_limits}
 use Rattle.machine_config.specs.Configuration.{Configuration, CellsFit, IsConfiguration, is_closed, cleared, with_closed, with_open}
 

@@ -1,12 +1,8 @@
 -- A change at a distance: what a pin reads changes only by what is joined to it.
 use Rattle.std.proofs.Common.{◌≡◌, ◌≢◌, ◌⊎◌, inl, inr, ℕ, ◌<◌, Bool, true, false, Some, None, Option, List, [], ◌∷◌, zero, suc, get_or, refl, sym, ap, ◌∙◌, subst, slice_get, unwrap_or}
-use Rattle.std.proofs.Math.Path.{fun_ext}
-use Rattle.std.proofs.lemmas.Bool.{false≢true}
+use Rattle.machine_config.proofs.Vocabulary.{fun_ext, false≢true, Ends, ends_of, pin_wire, pins_of, Joined-mono, Ends-swap, IsValue-unique}
 use native.Mathlib.Decide.{ℕ_discrete}
-use Rattle.machine_shape.specs.Shape.{Ends, ends_of, pin_wire, pins_of}
 use Rattle.machine_meaning.specs.Vocabulary.{Circuit, Table, Outputs, Pins, Faults, stuck_cross, stuck_wire, Linked, crossed, bridged, Joined, here, then, net_of, Pulls, by_pin, by_table, IsValue, held_0, held_1, pulled, released, IsHeld, IsPulled}
-use Rattle.machine_meaning.proofs.JoinedLemmas.{Joined-mono, Ends-swap}
-use Rattle.machine_meaning.proofs.Values.{IsValue-unique}
 use Rattle.machine_config.specs.Vocabulary.{Configuration, is_closed, setting_of, circuit_of, table_or_off, IsRun, Ticks, unticked, tick, Cycle, Cycles, none, cycle, at_load, tick_output, OpensFarFrom, AreOff}
 use Rattle.machine_config.proofs.Passing.{quiet_after, quiet_load}
 use Rattle.machine_config.proofs.Readings.{pin_value}

@@ -1,7 +1,6 @@
 -- A configuration of a machine has a run under each list of drives.
 use Rattle.std.proofs.Common.{◌≡◌, ℕ, zero, suc, ◌<◌, ◌≤◌, Bool, true, Option, Some, None, List, [], ◌∷◌, refl, ap, subst, arith, unwrap_or}
-use Rattle.std.proofs.lemmas.List.{get_or_past}
-use Rattle.machine_shape.specs.Shape.{in_order, turned, wires_of, crosses_of, tables_of}
+use Rattle.machine_config.proofs.Vocabulary.{get_or_past, in_order, turned, wires_of, crosses_of, tables_of}
 use Rattle.machine_meaning.specs.Vocabulary.{Linked, crossed, bridged, Faults, AreFaultsOf, stuck_cross, Circuit, Table, Outputs, Pins, IsFinite}
 use Rattle.machine_shape.proofs.Crossings.{first_below}
 use Rattle.machine_meaning.proofs.ValuesExist.{values_exist}

@@ -1,11 +1,8 @@
 -- What a table that is alone on and latched gives at first, and what a pin reads there.
 use Rattle.std.proofs.Common.{◌≡◌, ◌≢◌, ◌<◌, ℕ, Bool, true, false, Some, None, Option, [], ◌∷◌, get_or, refl, sym, ap, ◌∙◌, subst, if◌then◌else◌, unwrap_or}
-use Rattle.std.proofs.lemmas.Bool.{false≢true}
+use Rattle.machine_config.proofs.Vocabulary.{false≢true, pin_wire, table_wire, pins_of, IsValue-unique, Setting}
 use native.Mathlib.Decide.{ℕ_discrete}
-use Rattle.machine_shape.specs.Shape.{pin_wire, table_wire, pins_of}
 use Rattle.machine_meaning.specs.Vocabulary.{Faults, stuck_register, Joined, net_of, Circuit, Table, Outputs, Pins, Pulls, by_pin, by_table, IsValue, IsPulled}
-use Rattle.machine_meaning.proofs.Values.{IsValue-unique}
-use Rattle.machine_config.specs.declared.Setting.{Setting}
 use Rattle.machine_config.specs.Vocabulary.{Configuration, is_closed, held_by, table_of, table_or_off, circuit_of, IsRun, Ticks, unticked, tick, Cycles, none, cycle, at_load, first_output, tick_output, IsRegisterTest}
 use Rattle.machine_config.proofs.Grouped.{groups_turned, left_unstuck, left_apart}
 use Rattle.machine_config.proofs.Passing.{low_value, high_value}

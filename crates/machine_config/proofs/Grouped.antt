@@ -1,12 +1,8 @@
 -- What wires of two groups are joined to, and walks within a group.
 use Rattle.std.proofs.Common.{◌≡◌, ◌⊎◌, ◌<◌, ℕ, Bool, true, false, Some, None, Option, List, [], ◌∷◌, ◌++◌, refl, sym, subst, inl, inr, arith, ◌==◌}
-use Rattle.std.specs.List.{AllByRecursion}
-use Rattle.std.proofs.lemmas.Bool.Decides.{nat_tests}
-use Rattle.machine_shape.specs.declared.Shape.{Shape}
-use Rattle.machine_shape.specs.Shape.{Ends, in_order, turned, ends_of, crosses_of}
+use Rattle.machine_config.proofs.Vocabulary.{AllByRecursion, nat_tests, Shape, Ends, in_order, turned, ends_of, crosses_of, among, IsWithin}
+use Rattle.machine_config.proofs.Vocabulary.{AreGroups, LeadsTo, ends, goes, Ends-swap, Joined-sym, Joined-trans}
 use Rattle.machine_meaning.specs.Vocabulary.{Faults, stuck_cross, stuck_wire, Net, Linked, crossed, bridged, Joined, here, then, Shorted, net_of}
-use Rattle.machine_config.specs.Vocabulary.{among, IsWithin, AreGroups, LeadsTo, ends, goes}
-use Rattle.machine_meaning.proofs.JoinedLemmas.{Ends-swap, Joined-sym, Joined-trans}
 
 -- the two ends of a crosspoint within a group
 within_near : {m : Shape} {group : ℕ → Bool} {x a b : ℕ} → IsWithin m group x → Ends (ends_of m x) a b → group a ≡ true

@@ -15,3 +15,4 @@ pub mod Distance
 -- For the proofs of this crate alone.
 mod Finite
 mod Registers
+mod Vocabulary

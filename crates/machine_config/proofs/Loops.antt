@@ -1,14 +1,10 @@
 -- A crosspoint between two groups of wires, closed and open.
 use Rattle.std.proofs.Common.{◌≡◌, ◌⊎◌, ℕ, ◌<◌, Bool, true, false, not, ◌||◌, ◌&&◌, None, List, [], ◌∷◌, get_or, refl, sym, ◌∙◌, subst, inl, inr}
 use Rattle.std.specs.FinSet.{contains, contains-remove}
-use Rattle.std.specs.Cmp.{nat_cmp_total}
-use Rattle.std.specs.Ordering.{nat_cmp, eq_by_cmp}
-use Rattle.std.proofs.lemmas.Bool.{false≢true, or_left, or_right, or_cases}
-use Rattle.machine_shape.specs.declared.Shape.{Shape}
-use Rattle.machine_shape.specs.Shape.{Ends, in_order, turned, ends_of, pin_wire, pins_of}
+use Rattle.machine_config.proofs.Vocabulary.{nat_cmp_total, nat_cmp, eq_by_cmp, false≢true, or_left, or_right, or_cases, Shape, Ends}
+use Rattle.machine_config.proofs.Vocabulary.{in_order, turned, ends_of, pin_wire, pins_of, Ends-swap, Joined-trans, Joined-sym, Joined-mono}
 use Rattle.machine_meaning.specs.Vocabulary.{Faults, stuck_cross, Joined, then, crossed, Shorted, net_of, Outputs, Pins, IsClear}
 use Rattle.machine_config.specs.Vocabulary.{Cycles, none, cycle, at_load, among, IsWithin, AreGroups, LeadsTo, Configuration, is_closed, with_open, circuit_of, IsRun, AreOff, IsDrivenIn, IsLed, IsLoop}
-use Rattle.machine_meaning.proofs.JoinedLemmas.{Ends-swap, Joined-trans, Joined-sym, Joined-mono}
 use Rattle.machine_config.proofs.Grouped.{left_unstuck, LeadsTo-joined, LeadsTo-within}
 use Rattle.machine_config.proofs.Readings.{all_conduct, conducting}
 use Rattle.machine_config.proofs.Changes.{same_number}

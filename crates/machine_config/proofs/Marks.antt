@@ -1,11 +1,9 @@
 -- A number with one bit set, and marks with one set.
 use Rattle.std.proofs.Common.{◌≡◌, ◌≢◌, ℕ, ◌+◌, ◌%◌, ◌^◌, ◌<◌, Bool, true, false, List, length, set, refl, sym, ap, ◌∙◌, arith, bit_xor, ◌==◌, if◌then◌else◌}
 use Rattle.std.specs.Int.{bit_at}
-use Rattle.std.proofs.lemmas.List.{get_or-set_same, get_or-set_other}
-use Rattle.std.proofs.lemmas.Bool.Decides.{nat_tests}
+use Rattle.machine_config.proofs.Vocabulary.{get_or-set_same, get_or-set_other, nat_tests, with_bit, has_mark}
 use Rattle.std.proofs.lemmas.Nat.Bits.{bit_at_xor, bit_at-pow_other, bit_at-pow_same, bit_at-lt}
 use native.Mathlib.Decide.{ℕ_discrete}
-use Rattle.machine_config.specs.Vocabulary.{with_bit, has_mark}
 
 -- with one bit turned, the others are alike
 pub bit_alike : (n a y : ℕ) → y ≢ a → bit_at (bit_xor n (2 ^ a)) y ≡ bit_at n y

@@ -1,22 +1,15 @@
 -- Lists in which each member stands once.
 use Rattle.std.proofs.Common.{◌≡◌, ℕ, suc, ◌+◌, All, ◌<◌, ◌≤◌, Bool, true, false, ◌||◌, Some, None, Option, List, [], ◌∷◌, ◌++◌, map, length, get_or, set, refl, sym, ap, ◌∙◌, subst, replicate, eqb-true, arith, ◌==◌, if◌then◌else◌, is_some, count_by}
-use Rattle.std.specs.List.{list_any, swap_remove}
-use Rattle.std.specs.Ordering.{nat_cmp}
-use Rattle.std.specs.Cmp.{nat_cmp_total}
+use Rattle.machine_config.proofs.Vocabulary.{list_any, swap_remove, nat_cmp, nat_cmp_total, nat_tests, false≢true, contains_more}
+use Rattle.machine_config.proofs.Vocabulary.{contains_less, Setting, set_of, times, times_on, once_if, has_mark, AreMarked, AreListed}
 use Rattle.std.specs.FinSet as set_
 use Rattle.std.specs.FinSet.{len-empty, len-insert, contains-from_list_nat, same_set, nat_cmp-IsAntisymmetric}
 use Rattle.std.proofs.lemmas.List.{get_or_default, get_or-set_same, get_or-set_other, get_or_past, length-set, ext_get_or, length-replicate, get_or-replicate}
 use Rattle.std.proofs.lemmas.List.Sums.{sum_by-cons, sum_by_push, sum_by-swap_remove, sum_by-set, count_by-le-length}
 use Rattle.std.proofs.lemmas.List.Folds.{sum_by-replicate}
-use Rattle.std.proofs.lemmas.Bool.Decides.{nat_tests}
-use Rattle.std.proofs.lemmas.Bool.{false≢true}
 use native.Mathlib.Decide.{ℕ_discrete, dec_lt}
-use Rattle.base_bits.proofs.SetsLemmas.{contains_more, contains_less}
-use Rattle.machine_shape.specs.declared.Cross.{Cross}
-use Rattle.machine_shape.specs.declared.Table.{Table}
-use Rattle.machine_config.specs.declared.Setting.{Setting}
+use Rattle.machine_shape.specs.declared.{Cross.Cross, Table.Table}
 use Rattle.machine_config.proofs.Marks.{mark_after}
-use Rattle.machine_config.specs.Kept.{set_of, times, times_on, once_if, has_mark, AreMarked, AreListed}
 
 -- a member more, and a member less
 pub added : (n c q : ℕ) (m k : Bool) → n ≡ once_if m → (q ≡ c → m ≡ false) → k ≡ (if q == c then true else m) → n + once_if (c == q) ≡ once_if k

@@ -1,12 +1,8 @@
 -- Groups of wires that are clear and unshorted, part by part.
 use Rattle.std.proofs.Common.{◌≡◌, ◌⊎◌, ℕ, Bool, true, false, [], ◌∷◌, subst, inl, inr, arith}
-use Rattle.std.proofs.lemmas.Bool.Decides.{nat_tests}
-use Rattle.std.proofs.lemmas.Bool.{or_cases}
-use Rattle.machine_shape.specs.declared.Shape.{Shape}
+use Rattle.machine_config.proofs.Vocabulary.{nat_tests, or_cases, Shape, among, both, AreClear, AreUnshorted, IsLoose, Joined-sym}
 use Rattle.machine_meaning.specs.Vocabulary.{Faults, Shorted, IsClear, IsSoundWire}
 use Rattle.machine_meaning.proofs.Clear.{clear_of_sound, unshorted_of_sound}
-use Rattle.machine_config.specs.Vocabulary.{among, both, AreClear, AreUnshorted, IsLoose}
-use Rattle.machine_meaning.proofs.JoinedLemmas.{Joined-sym}
 
 in_one : (x w : ℕ) → among (x ∷ []) w ≡ true → x ≡ w
 in_one x w e = grind (arith, nat_tests)

@@ -1,11 +1,8 @@
 -- Which readings a test takes, where its wires are as they should be.
 use Rattle.std.proofs.Common.{◌≡◌, ℕ, ◌<◌, Bool, true, false, Some, None, Option, [], ◌∷◌, get_or, refl, sym, ap, ◌∙◌, subst}
-use Rattle.std.proofs.lemmas.Bool.{false≢true}
-use Rattle.machine_shape.specs.declared.Shape.{Shape}
-use Rattle.machine_shape.specs.Shape.{pin_wire, pins_of}
+use Rattle.machine_config.proofs.Vocabulary.{false≢true, Shape, pin_wire, pins_of, IsValue-unique}
 use Rattle.machine_meaning.specs.Vocabulary.{Faults, stuck_wire, Joined, here, net_of, Circuit, Table, Outputs, Pins, Pulls, by_pin, by_table, IsValue, IsHeld, IsPulled, pulled, released}
 use Rattle.machine_config.specs.Vocabulary.{Ticks, unticked, tick, Cycle, Cycles, none, cycle, at_load, tick_output, edge_output, first_output, AreGroups, Configuration, is_closed, circuit_of, table_or_off, IsRun, AreOff, IsDrivenAlone, IsDrivenIn, AreReleased}
-use Rattle.machine_meaning.proofs.Values.{IsValue-unique}
 use Rattle.machine_config.proofs.Grouped.{groups_turned, left_unstuck, left_apart}
 use Rattle.machine_config.proofs.Readings.{pin_value}
 

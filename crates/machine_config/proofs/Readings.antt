@@ -1,11 +1,8 @@
 -- What readings show of the wires that a pin is joined to.
 use Rattle.std.proofs.Common.{◌≡◌, ◌≢◌, ℕ, ◌<◌, Bool, true, false, Some, None, Option, List, [], ◌∷◌, get_or, refl, sym, ap, ◌∙◌, subst, arith, unwrap_or}
-use Rattle.std.specs.List.{AllByRecursion}
+use Rattle.machine_config.proofs.Vocabulary.{AllByRecursion, pin_wire, pins_of, Joined-trans, Joined-sym, Joined-Shorted, swings, apart}
 use Rattle.std.proofs.lemmas.List.FromFn.{get_or-map-range_with_len}
-use Rattle.machine_shape.specs.Shape.{pin_wire, pins_of}
 use Rattle.machine_meaning.specs.Vocabulary.{Faults, stuck_cross, Net, Joined, here, then, crossed, Shorted, net_of, Circuit, Outputs, Pins, IsValue, IsHeld, IsClear}
-use Rattle.machine_meaning.proofs.JoinedLemmas.{Joined-trans, Joined-sym, Joined-Shorted}
-use Rattle.machine_meaning.proofs.Values.{swings, apart}
 use Rattle.machine_config.specs.Vocabulary.{Cycle, Cycles, none, cycle, LeadsTo, ends, goes, Configuration, is_closed, IsRun}
 
 module _ {c : Circuit} {before after : Outputs} {drive read : Pins} where

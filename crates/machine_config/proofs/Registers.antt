@@ -1,11 +1,9 @@
 -- Stuck registers over time.
 use Rattle.std.proofs.Common.{◌≡◌, ℕ, Bool, true, false, Option, Some, None, List, refl, sym, ap, ◌∙◌, subst, unwrap_or, if◌then◌else◌}
-use Rattle.std.proofs.Math.Path.{fun_ext}
-use Rattle.std.specs.Ordering.{nat_cmp}
+use Rattle.machine_config.proofs.Vocabulary.{fun_ext, nat_cmp, Setting}
 use Rattle.std.specs.FinSet as set
 use Rattle.std.specs.FinMap as map
 use Rattle.machine_meaning.specs.Vocabulary.{Faults, pair_cmp, stuck_register, Circuit, Table, Outputs, Pins}
-use Rattle.machine_config.specs.declared.Setting.{Setting}
 use Rattle.machine_config.specs.Vocabulary.{Configuration, is_closed, setting_of, cell_of, first_output, tick_output, edge_output, at_load, Ticks, unticked, tick, Cycles, none, cycle, Runs, held_by, table_of, table_or_off, circuit_of, IsRun}
 
 -- a table that holds its value

@@ -1,10 +1,8 @@
 -- Laws of runs.
 use Rattle.std.proofs.Common.{◌≡◌, ℕ, suc, Bool, List, [], ◌∷◌, ◌++◌, length, take, refl, sym, ap, ◌∙◌, subst}
-use Rattle.std.specs.List.{AllByRecursion}
+use Rattle.machine_config.proofs.Vocabulary.{AllByRecursion, pin_wire, pins_of, AreValues-unique}
 use Rattle.std.proofs.lemmas.List.FromFn.{length-map-range_with_len}
-use Rattle.machine_shape.specs.Shape.{pin_wire, pins_of}
 use Rattle.machine_meaning.specs.Vocabulary.{Circuit, Outputs, Pins, AreValues}
-use Rattle.machine_meaning.proofs.Values.{AreValues-unique}
 use Rattle.machine_config.specs.Run.{pins_read, after_tick, after_edge, Ticks, unticked, tick, Cycle, Cycles, none, cycle, Runs}
 
 module _ (c : Circuit) where

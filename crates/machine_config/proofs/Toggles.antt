@@ -1,13 +1,10 @@
 -- What is stuck acts alike, however it is set.
 use Rattle.std.proofs.Common.{◌≡◌, ◌≢◌, ℕ, ◌<◌, ◌≤◌, Bool, true, false, not, ◌||◌, ◌&&◌, Some, None, Option, List, length, get_or, set, refl, sym, ap, ◌∙◌, subst, arith, unwrap_or, if◌then◌else◌}
-use Rattle.std.proofs.Math.Path.{fun_ext}
+use Rattle.machine_config.proofs.Vocabulary.{fun_ext, nat_cmp_total, nat_cmp, eq_by_cmp, Setting}
 use Rattle.std.proofs.lemmas.List.{get_or-set_same, get_or-set_other, get_or_past, length-set}
 use native.Mathlib.Decide.{ℕ_discrete, dec_lt}
 use Rattle.std.specs.FinSet.{contains, contains-insert, contains-remove}
-use Rattle.std.specs.Cmp.{nat_cmp_total}
-use Rattle.std.specs.Ordering.{nat_cmp, eq_by_cmp}
 use Rattle.machine_meaning.specs.Vocabulary.{Faults, stuck_cross, wrong_cell, stuck_register, stuck_wire, is_bridge, Circuit, Table, Pins}
-use Rattle.machine_config.specs.declared.Setting.{Setting}
 use Rattle.machine_config.specs.Vocabulary.{Configuration, is_closed, setting_of, with_closed, with_open, with_setting, cell_of, with_cell, with_init, held_by, table_of, table_or_off, circuit_of, IsRun, Runs}
 use Rattle.machine_config.proofs.Runs.{Runs-unique}
 use Rattle.machine_config.proofs.Marks.{bit_after, tested_other}

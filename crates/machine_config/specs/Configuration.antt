@@ -1,14 +1,11 @@
 -- A configuration: what is set on a machine.
 use Rattle.std.specs.Prelude.{◌≡◌, ℕ, ◌^◌, ◌<◌, ◌≤◌, Bool, true, false, ◌==◌, Option, None, List, All, IfSome, length, if◌then◌else◌}
-use Rattle.std.specs.Prelude.{slice_index_or, slice_set, bit_xor, replicate, refl}
+use Rattle.std.specs.{Prelude.slice_index_or, Prelude.slice_set, Prelude.bit_xor, Prelude.replicate, Prelude.refl, Ordering.nat_cmp}
 use Rattle.std.specs.Int.{bit_at}
-use Rattle.std.specs.Ordering.{nat_cmp}
 use Rattle.std.specs.FinSet as set
 use Rattle.std.specs.Coded.{Coded, code_by, coded×, coded_ℕ, coded_bool, coded_list, coded_option}
 use Rattle.machine_shape.specs.contracts.Shape as shape
-use Rattle.machine_shape.specs.declared.Shape.{Shape}
-use Rattle.machine_shape.specs.Bounds.{most_ticks}
-use Rattle.machine_shape.specs.Shape.{crosses_of, tables_of}
+use Rattle.machine_shape.specs.{declared.Shape.Shape, Bounds.most_ticks, Shape.crosses_of, Shape.tables_of}
 use Rattle.machine_config.specs.declared.Setting.{Setting}
 
 -- the closed crosspoints, what each table does that is switched on, by the table's number, and how

@@ -1,9 +1,8 @@
 -- The circuit that a configuration makes of a machine with faults, and its run.
 use Rattle.std.specs.Prelude.{ℕ, Bool, Option, Some, None, if◌then◌else◌, unwrap_or, List}
 use Rattle.machine_meaning.specs.Vocabulary.{Faults, stuck_wire, wrong_cell, stuck_register, net_of, Circuit, Table, Pins}
-use Rattle.machine_config.specs.declared.Setting.{Setting}
+use Rattle.machine_config.specs.{declared.Setting.Setting, Run.Runs}
 use Rattle.machine_config.specs.Configuration.{Configuration, is_closed, setting_of, cell_of}
-use Rattle.machine_config.specs.Run.{Runs}
 
 -- what the register of a table always holds, if it is stuck. A combinational table uses none.
 abbrev pub held_by : Faults → ℕ → Setting → Option Bool

@@ -1,8 +1,7 @@
 -- Groups of wires, by tests, that faults and closed crosspoints keep apart.
 use Rattle.std.specs.Prelude.{◌≡◌, ◌⊎◌, ℕ, Bool, true, ◌||◌, ◌==◌, List}
 use Rattle.std.specs.List.{list_any}
-use Rattle.machine_shape.specs.declared.Shape.{Shape}
-use Rattle.machine_shape.specs.Shape.{ends_of}
+use Rattle.machine_shape.specs.{declared.Shape.Shape, Shape.ends_of}
 use Rattle.machine_meaning.specs.Vocabulary.{Faults, Shorted, IsClear}
 
 -- these wires

@@ -1,16 +1,11 @@
 -- How a configuration is kept: its closed crosspoints as marks and as a list, its tables in place and,
 -- those that are on, as a list.
 use Rattle.std.specs.Prelude.{◌≡◌, ℕ, ◌≤◌, Bool, false, ◌==◌, Option, None, List, length, map, if◌then◌else◌, slice_index_or, is_some}
-use Rattle.std.specs.Prelude.{vec_len, count_by}
-use Rattle.std.specs.Vec.{vec_capacity}
-use Rattle.std.specs.Ordering.{nat_cmp}
+use Rattle.std.specs.{Prelude.vec_len, Prelude.count_by, Vec.vec_capacity, Ordering.nat_cmp}
 use Rattle.std.specs.FinSet as set
-use Rattle.machine_shape.specs.declared.Cross.{Cross}
-use Rattle.machine_shape.specs.declared.Table.{Table}
-use Rattle.machine_shape.specs.Shape.{crosses_of, tables_of}
+use Rattle.machine_shape.specs.{declared.Cross.Cross, declared.Table.Table, Shape.crosses_of, Shape.tables_of}
 use Rattle.machine_config.specs.declared.Setting.{Setting}
-use Rattle.machine_config.specs.declared.Config.TheInside.{Inside}
-use Rattle.machine_config.specs.Configuration.{Configuration, IsConfiguration}
+use Rattle.machine_config.specs.{declared.Config.TheInside.Inside, Configuration.Configuration, Configuration.IsConfiguration}
 
 abbrev pub set_of : List Cross → set.FinSet nat_cmp
 set_of xs = set.from_list (map (λ x. x.0) xs)

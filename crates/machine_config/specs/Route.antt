@@ -1,7 +1,6 @@
 -- Walks over crosspoints, as a test makes them.
 use Rattle.std.specs.Prelude.{ℕ, ◌<◌, List, [], ◌∷◌}
-use Rattle.machine_shape.specs.declared.Shape.{Shape}
-use Rattle.machine_shape.specs.Shape.{Ends, ends_of, crosses_of}
+use Rattle.machine_shape.specs.{declared.Shape.Shape, Shape.Ends, Shape.ends_of, Shape.crosses_of}
 
 -- these crosspoints of the machine lead from a over these wires to e, a and e among them
 pub data LeadsTo (m : Shape) : ℕ → List ℕ → List ℕ → ℕ → Type 0 where

@@ -1,13 +1,9 @@
 -- What the configurations and drives of tests are.
 use Rattle.std.specs.Prelude.{◌≡◌, ◌≢◌, ◌⊎◌, ℕ, ◌<◌, Bool, true, false, Some, None, List, map, slice_index_or}
 use Rattle.std.specs.List.{AllByRecursion, range_with_len}
-use Rattle.machine_shape.specs.Shape.{Ends, ends_of, pin_wire, table_wire, pins_of}
+use Rattle.machine_shape.specs.{Shape.Ends, Shape.ends_of, Shape.pin_wire, Shape.table_wire, Shape.pins_of, declared.Shape.Shape}
 use Rattle.machine_meaning.specs.Vocabulary.{Faults, stuck_cross, wrong_cell, stuck_register, Joined, Shorted, net_of, IsClear, Pins}
-use Rattle.machine_config.specs.Run.{number_of}
-use Rattle.machine_shape.specs.declared.Shape.{Shape}
-use Rattle.machine_config.specs.declared.Setting.{Setting}
-use Rattle.machine_config.specs.Groups.{AreGroups}
-use Rattle.machine_config.specs.Route.{LeadsTo}
+use Rattle.machine_config.specs.{Run.number_of, declared.Setting.Setting, Groups.AreGroups, Route.LeadsTo}
 use Rattle.machine_config.specs.Configuration.{Configuration, is_closed, with_open, setting_of}
 
 -- no table is on

@@ -1,20 +1,10 @@
 -- The entries of a list, in order.
 use Rattle.std.proofs.Common.{◌≡◌, ◌≢◌, ◌⊎◌, inl, inr, ℕ, zero, suc, ◌<◌, ◌≤◌, Bool, true, false, not, ◌&&◌, ◌||◌, if◌then◌else◌, nat_lt, Option, Some, None, List, [], ◌∷◌, ◌++◌, map, refl, sym, ap, ◌∙◌, subst, arith, append_assoc, append-nil, eqb-true, ltb-true, lt-ltb, ◌==◌}
-use Rattle.std.specs.List.{AllByRecursion}
+use Rattle.machine_defects.proofs.Vocabulary.{AllByRecursion, contains-empty, nat_cmp, map-append, eq-eqb, and_parts, nat_tests, or_more}
+use Rattle.machine_defects.proofs.Vocabulary.{Shape, wires_of, crosses_of, tables_of, Entry, Wire, Cross, Table, IsFreeCross, IsFreeTable}
 use Rattle.std.specs.FinSet as sets
-use Rattle.std.specs.FinSet.{contains-empty}
-use Rattle.std.specs.Ordering.{nat_cmp}
-use Rattle.std.proofs.lemmas.List.{map-append}
-use Rattle.std.proofs.lemmas.Bool.{eq-eqb, and_parts}
-use Rattle.std.proofs.lemmas.Bool.Decides.{nat_tests}
 use native.Mathlib.Decide.{ℕ_discrete, dec_lt}
-use Rattle.base_bits.proofs.SetsLemmas.{or_more}
-use Rattle.machine_shape.specs.declared.Shape.{Shape}
-use Rattle.machine_shape.specs.Shape.{wires_of, crosses_of, tables_of}
-use Rattle.machine_defects.specs.declared.entry.Entry.{Entry}
-use Rattle.machine_defects.specs.declared.entry.Entry.TheVariants.{Wire, Cross, Table}
 use Rattle.machine_defects.specs.Vocabulary.{DefectList, IsDefectList, IsWithWire, no_defects, those, touches_cross, touches_table, with_cross, with_table, has_free_ends, has_free_pins, IsEntryOf, IsFreeEntry, kind_of, entry_number, is_before, as_wire, as_cross, as_table, entries_of, is_listed, is_same, is_behind, IsLast, IsBeyond, IsAdded}
-use Rattle.machine_meaning.specs.Defects.{IsFreeCross, IsFreeTable}
 use Rattle.machine_defects.proofs.Telling.{cross_tells, table_tells}
 
 -- ---- numbers that pass a test

@@ -1,8 +1,6 @@
 -- The forms of lines, by their bytes.
 use Rattle.std.proofs.Common.{◌≡◌, ◌≢◌, ℕ, List, [], ◌∷◌, ◌++◌, drop, get_or, sym, ap, ◌∙◌, subst, arith, append-nil}
-use Rattle.base_text.specs.Written.{spaced}
-use Rattle.machine_defects.specs.Faults.{IsWord, IsEntryForm}
-use Rattle.machine_defects.specs.Faults.IsEntryForm.{wire_form, cross_form, table_form}
+use Rattle.machine_defects.proofs.Vocabulary.{spaced, IsWord, IsEntryForm, wire_form, cross_form, table_form}
 
 abbrev wire_text : List ℕ → List ℕ
 wire_text w = 119 ∷ 105 ∷ 114 ∷ 101 ∷ 32 ∷ w

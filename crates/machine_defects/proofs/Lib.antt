@@ -20,3 +20,4 @@ mod Forms
 mod Entries
 mod Reading
 mod Writing
+mod Vocabulary

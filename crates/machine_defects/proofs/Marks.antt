@@ -1,19 +1,11 @@
 -- Marks and the set of the numbers that have one.
 use Rattle.std.proofs.Common.{◌≡◌, ℕ, zero, suc, ◌<◌, ◌≤◌, Bool, true, false, ◌&&◌, ◌||◌, if◌then◌else◌, List, [], ◌∷◌, length, set, replicate, refl, sym, ap, ◌∙◌, arith, ◌==◌}
-use Rattle.std.specs.List.{list_any}
-use Rattle.std.specs.Ordering.{nat_cmp}
-use Rattle.std.specs.Cmp.{nat_cmp_total}
+use Rattle.machine_defects.proofs.Vocabulary.{list_any, nat_cmp, nat_cmp_total, list_any-append, nat_tests, or-false, and_parts, has_number}
+use Rattle.machine_defects.proofs.Vocabulary.{contains_more, marked, those, all_below}
 use Rattle.std.specs.FinSet as sets
 use Rattle.std.specs.FinSet.{contains-from_list_nat, contains-empty, same_set, nat_cmp-IsAntisymmetric}
 use Rattle.std.proofs.lemmas.List.{get_or-set_same, get_or-set_other, get_or_past, get_or-replicate, length-replicate}
-use Rattle.std.proofs.lemmas.List.Folds.{list_any-append}
-use Rattle.std.proofs.lemmas.Bool.Decides.{nat_tests}
-use Rattle.std.proofs.Math.Bool.{or-false}
-use Rattle.std.proofs.lemmas.Bool.{and_parts}
 use native.Mathlib.Decide.{ℕ_discrete, dec_lt}
-use Rattle.base_bits.specs.Numbers.{has_number}
-use Rattle.base_bits.proofs.SetsLemmas.{contains_more}
-use Rattle.machine_defects.specs.Vocabulary.{marked, those, all_below}
 
 -- ---- what a list of numbers contains
 

@@ -1,9 +1,7 @@
 -- At first nothing is listed.
 use Rattle.std.proofs.Common.{◌≡◌, ℕ, ◌<◌, Bool, true, false, not, ◌&&◌, ◌||◌, Option, List, length, replicate, sym, ap, ◌∙◌, arith, ◌==◌}
-use Rattle.std.proofs.lemmas.List.{get_or-replicate, get_or_past, length-replicate}
+use Rattle.machine_defects.proofs.Vocabulary.{get_or-replicate, get_or_past, length-replicate, has_number, Shape}
 use native.Mathlib.Decide.{dec_lt}
-use Rattle.base_bits.specs.Numbers.{has_number}
-use Rattle.machine_shape.specs.declared.Shape.{Shape}
 use Rattle.machine_shape.specs.declared.Table.{Table}
 use Rattle.machine_shape.specs.Shape.{wires_of, crosses_of, tables_of, nodes_of, pins_of, ends_of, table_wire, pin_wire}
 use Rattle.machine_defects.specs.Vocabulary.{no_defects, Marks, AreRight, AreOwners, AreRecounted, listed_by, count_at, is_lost, is_barred}

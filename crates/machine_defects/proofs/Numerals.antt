@@ -1,11 +1,7 @@
 -- Numerals, each behind a space.
 use Rattle.std.proofs.Common.{◌≡◌, ◌≢◌, inl, inr, ℕ, zero, suc, ◌+◌, ◌<◌, ◌≤◌, true, false, Option, Some, None, drop, List, [], ◌∷◌, ◌++◌, length, take, set, refl, sym, ap, ◌∙◌, subst, arith, append_assoc, append-nil, length-append, eqb-true, ◌==◌, MatchOption, take_all}
-use Rattle.std.specs.Fmt.{decimal}
-use Rattle.std.specs.List.{AllByRecursion}
-use Rattle.std.proofs.lemmas.List.{length-take-le, length-set}
+use Rattle.machine_defects.proofs.Vocabulary.{decimal, AllByRecursion, length-take-le, length-set, flat_map-map, spaced}
 use Rattle.std.proofs.lemmas.Fmt.{decimal_injective}
-use Rattle.std.proofs.lemmas.List.Folds.{flat_map-map}
-use Rattle.base_text.specs.Written.{spaced}
 use Rattle.machine_defects.specs.Vocabulary.{shape_row, AreCounts, without, numerals}
 use Rattle.machine_defects.proofs.Splits.{one_run, Starts}
 use Rattle.machine_defects.proofs.Rows.{IsClean, clean_word}

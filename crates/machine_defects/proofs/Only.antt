@@ -1,23 +1,12 @@
 -- The text of a list has no fault, and is that of no other list.
 use Rattle.std.proofs.Common.{◌≡◌, ◌≢◌, inl, inr, ℕ, ◌≤◌, Bool, true, false, List, [], ◌∷◌, ◌++◌, length, map, drop, get_or, refl, sym, ap, ◌∙◌, subst, arith, append_assoc, append-nil, length-append, Result, Ok, Err, IfOk, IfErr}
-use Rattle.std.specs.Fmt.{decimal}
+use Rattle.machine_defects.proofs.Vocabulary.{decimal, AllByRecursion, both_ways, Shape, HasNames, HasCrosses, IsNumbered, ends_of}
+use Rattle.machine_defects.proofs.Vocabulary.{table_wire, IsFreeWire, spaced, written, written_line, Entry, Wire, Cross, Table, DefectsKind}
+use Rattle.machine_defects.proofs.Vocabulary.{first_form, shape_form, entry_form, end_form, wire_form, cross_form, table_form, formless}
+use Rattle.machine_defects.proofs.Vocabulary.{other_machine, nameless, earlier, again, nothing, begun, listed}
 use Rattle.std.specs.FinSet as sets
-use Rattle.std.specs.List.{AllByRecursion}
-use Rattle.std.specs.Cmp.{both_ways}
-use Rattle.machine_shape.specs.declared.Shape.{Shape}
-use Rattle.machine_shape.specs.Vocabulary.{HasNames, HasCrosses, IsNumbered, ends_of, table_wire}
-use Rattle.machine_meaning.specs.Defects.{IsFreeWire}
-use Rattle.base_text.specs.Written.{spaced, written, written_line}
-use Rattle.machine_defects.specs.declared.entry.Entry.{Entry}
-use Rattle.machine_defects.specs.declared.entry.Entry.TheVariants.{Wire, Cross, Table}
-use Rattle.machine_defects.specs.declared.kind.DefectsKind.{DefectsKind}
-use Rattle.machine_defects.specs.declared.kind.DefectsFault.{DefectsFault}
-use Rattle.machine_defects.specs.declared.kind.DefectsFault.TheVariants.{At, Memory}
+use Rattle.machine_defects.specs.declared.kind.DefectsFault.{DefectsFault, TheVariants.At, TheVariants.Memory}
 use Rattle.machine_defects.specs.Vocabulary.{DefectList, IsDefectList, IsEntryOf, IsFreeEntry, entry_words, is_before, entries_of, counts_of, first_row, shape_row, end_row, rows_of, text_of, IsEntryForm, AreCounts, IsBeforeLast, IsLineFault, AreAbove, IsFaultBehind, IsFirstFault, IsText, GivesOrLacks, is_listed, IsFirst}
-use Rattle.machine_defects.specs.Faults.IsForm.{first_form, shape_form, entry_form, end_form}
-use Rattle.machine_defects.specs.Faults.IsEntryForm.{wire_form, cross_form, table_form}
-use Rattle.machine_defects.specs.Faults.IsLineFault.{formless, other_machine, nameless, earlier, again}
-use Rattle.machine_defects.specs.Faults.AreAbove.{nothing, begun, listed}
 use Rattle.machine_defects.proofs.Marks.{same_members}
 use Rattle.machine_defects.proofs.Rows.{IsCleanRow, AreCleanRows, first_rows, front, clean_append}
 use Rattle.machine_defects.proofs.Plain.{wire_is_word, table_is_word}

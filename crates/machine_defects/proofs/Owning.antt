@@ -2,10 +2,8 @@
 use Rattle.std.proofs.Common.{◌≡◌, ◌≢◌, ℕ, ◌+◌, ◌<◌, ◌≤◌, Option, Some, None, List, length, get_or, set, replicate, sym, ap, ◌∙◌, subst, arith}
 use Rattle.std.proofs.lemmas.List.{get_or-set_same, get_or-set_other, get_or_past, length-set, get_or-replicate, length-replicate}
 use native.Mathlib.Decide.{ℕ_discrete, dec_lt}
-use Rattle.machine_shape.specs.declared.Shape.{Shape}
+use Rattle.machine_defects.proofs.Vocabulary.{Shape, IsNumbered, wires_of, tables_of, table_wire, AreOwners, AreOwnersBefore}
 use Rattle.machine_shape.specs.declared.Table.{Table}
-use Rattle.machine_shape.specs.Vocabulary.{IsNumbered, wires_of, tables_of, table_wire}
-use Rattle.machine_defects.specs.Kept.{AreOwners, AreOwnersBefore}
 
 abbrev table : ℕ → Table
 table t = record { 0 = t }

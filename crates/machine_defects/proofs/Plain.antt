@@ -1,12 +1,7 @@
 -- Names and numerals are words: they have bytes, and none of these is a space or ends a line.
-use Rattle.std.proofs.Common.{◌≡◌, ◌<◌, ◌^◌, ℕ, true, List, [], ◌∷◌, refl, arith, ◌&&◌}
-use Rattle.std.specs.Fmt.{decimal}
-use Rattle.std.specs.List.{list_all}
-use Rattle.std.proofs.lemmas.Bool.Decides.{nat_tests}
-use Rattle.machine_shape.specs.declared.Shape.{Shape}
-use Rattle.machine_shape.specs.Vocabulary.{wires_of, tables_of, wire_name, table_name}
+use Rattle.machine_defects.proofs.Vocabulary.{◌≡◌, ◌<◌, ◌^◌, ℕ, true, List, [], ◌∷◌, refl, arith, ◌&&◌, decimal, list_all, nat_tests, Shape}
+use Rattle.machine_defects.proofs.Vocabulary.{wires_of, tables_of, wire_name, table_name, is_inner, IsWord}
 use Rattle.machine_shape.proofs.PlainNames.{AllPlain, plain-decimal, wire_word, table_word}
-use Rattle.machine_defects.specs.Faults.{is_inner, IsWord}
 
 plain_inner : (b : ℕ) → 35 < b → is_inner b ≡ true
 plain_inner b p = grind (arith, nat_tests)

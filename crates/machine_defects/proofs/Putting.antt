@@ -1,16 +1,10 @@
 -- A table or a crosspoint more is listed.
 use Rattle.std.proofs.Common.{◌≡◌, ◌≢◌, ℕ, ◌+◌, ◌-◌, ◌<◌, ◌≤◌, Bool, true, false, not, ◌&&◌, ◌||◌, if◌then◌else◌, List, length, set, refl, sym, ap, ◌∙◌, subst, arith, eqb-true, ◌==◌}
 use Rattle.std.specs.FinSet as sets
-use Rattle.std.proofs.lemmas.List.{length-set}
+use Rattle.machine_defects.proofs.Vocabulary.{length-set, nat_tests, has_number, Shape, crosses_are, Line, is_line}
 use Rattle.std.proofs.lemmas.Bool.{eq-eqb, or_parts, not-false}
-use Rattle.std.proofs.lemmas.Bool.Decides.{nat_tests}
 use native.Mathlib.Decide.{ℕ_discrete}
-use Rattle.base_bits.specs.Numbers.{has_number}
-use Rattle.machine_shape.specs.declared.Shape.{Shape}
 use Rattle.machine_shape.specs.Vocabulary.{HasCrosses, HasMeanings, levels_of, wires_of, crosses_of, tables_of, nodes_of, lines_of, ends_of, node_of_cross, line_position, line_at, table_wire}
-use Rattle.machine_shape.proofs.Totals.{crosses_are}
-use Rattle.machine_shape.specs.Shape.Meaning.{Line}
-use Rattle.machine_shape.specs.Shape.Means.{is_line}
 use Rattle.machine_defects.specs.Vocabulary.{all_below, is_free_wire, has_free_ends, has_free_pins, with_cross, with_table, Marks, IsWide, AreRight, AreShutBy, listed_by, marked, is_barred, is_lost, is_clear_line, count_at, shut_at, clear_lines_at}
 use Rattle.machine_defects.proofs.Marks.{in_marked, marked_more, put_again, all_each, all_same}
 use Rattle.machine_defects.proofs.Counting.{how_many_less, how_many_same, how_many_some, how_many_at_most}

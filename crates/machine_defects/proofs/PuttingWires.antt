@@ -1,16 +1,10 @@
 -- A wire more is listed.
 use Rattle.std.proofs.Common.{◌≡◌, ◌≢◌, ◌⊎◌, inl, inr, ℕ, zero, suc, ◌+◌, ◌<◌, ◌≤◌, Bool, true, false, not, ◌&&◌, ◌||◌, if◌then◌else◌, Option, Some, None, List, length, get_or, set, refl, sym, ap, ◌∙◌, subst, arith, eqb-true, ◌==◌, IfSome}
 use Rattle.std.proofs.lemmas.List.{length-set, get_or_default}
-use Rattle.std.proofs.lemmas.Bool.{eq-eqb, false_from_ne_true}
-use Rattle.std.proofs.lemmas.Bool.Decides.{nat_tests}
-use Rattle.std.proofs.Math.Bool.{and-false, or-true}
+use Rattle.machine_defects.proofs.Vocabulary.{eq-eqb, false_from_ne_true, nat_tests, and-false, or-true, has_number, Shape, Line, is_line}
 use native.Mathlib.Decide.{ℕ_discrete, dec_lt}
-use Rattle.base_bits.specs.Numbers.{has_number}
-use Rattle.machine_shape.specs.declared.Shape.{Shape}
 use Rattle.machine_shape.specs.declared.Table.{Table}
 use Rattle.machine_shape.specs.Vocabulary.{HasCrosses, HasTaps, HasParents, HasMeanings, IsTree, wires_of, crosses_of, tables_of, nodes_of, lines_of, own_ports_of, ends_of, node_of, parent_of, node_of_cross, line_at, port_at, table_wire, IsLine, IsPort}
-use Rattle.machine_shape.specs.Shape.Meaning.{Line}
-use Rattle.machine_shape.specs.Shape.Means.{is_line}
 use Rattle.machine_defects.specs.Vocabulary.{IsWithWire, how_many, all_below, touches_cross, touches_table, Marks, AreRight, IsSwept, IsRecounted, IsItOrAbove, Loses, listed_by, marked, is_barred, is_lost, is_clear_line, count_at, shut_at, clear_lines_at, free_ports_at, free_pins_in}
 use Rattle.machine_defects.proofs.Marks.{in_marked, marked_more, put_again, all_each, each_all, all_same, unmarked_beyond, has_below}
 use Rattle.machine_defects.proofs.Counting.{how_many_less, how_many_same, how_many_some}

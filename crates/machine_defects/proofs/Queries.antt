@@ -1,9 +1,7 @@
 -- What is kept tells what is free.
 use Rattle.std.proofs.Common.{◌≡◌, ℕ, ◌<◌, Bool, true, false, not, ◌&&◌, ◌||◌, refl, sym, ap, ◌∙◌, subst, eqb-true, ◌==◌, ◌↔◌}
-use Rattle.std.proofs.lemmas.Bool.{eq-eqb, false_from_ne_true, and_parts}
+use Rattle.machine_defects.proofs.Vocabulary.{eq-eqb, false_from_ne_true, and_parts, both_ways, has_number}
 use Rattle.std.specs.FinSet as sets
-use Rattle.std.specs.Cmp.{both_ways}
-use Rattle.base_bits.specs.Numbers.{has_number}
 use Rattle.machine_shape.specs.Shape.{wires_of, crosses_of, tables_of, nodes_of, lines_of, pins_of, ends_of, table_wire, line_at}
 use Rattle.machine_meaning.specs.Defects.{Defects, IsFreeWire, IsFreeCross, IsFreeTable, IsOpenLine}
 use Rattle.machine_defects.specs.declared.kept.Kept.{Kept}

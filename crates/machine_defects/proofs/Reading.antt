@@ -1,24 +1,13 @@
 -- What reading a text line by line makes of it.
 use Rattle.std.proofs.Common.{◌≡◌, ◌≢◌, inl, inr, ℕ, ◌+◌, ◌<◌, ◌≤◌, true, false, Option, Some, None, List, [], ◌∷◌, ◌++◌, length, map, drop, get_or, refl, sym, ap, ◌∙◌, subst, arith, append_assoc, append-nil, length-append}
 use Rattle.std.specs.FinSet as sets
-use Rattle.std.specs.FinSet.{contains-empty}
-use Rattle.std.specs.Ordering.{nat_cmp}
-use Rattle.std.specs.Fmt.{decimal}
-use Rattle.std.specs.List.{AllByRecursion}
-use Rattle.std.proofs.lemmas.List.{map-append}
-use Rattle.machine_shape.specs.declared.Shape.{Shape}
+use Rattle.machine_defects.proofs.Vocabulary.{contains-empty, nat_cmp, decimal, AllByRecursion, map-append, Shape, spaced, written}
+use Rattle.machine_defects.proofs.Vocabulary.{written_line, Entry, Wire, Cross, Table, DefectsKind, first_form, shape_form, entry_form}
+use Rattle.machine_defects.proofs.Vocabulary.{end_form, wire_form, cross_form, table_form, formless, nothing, begun, listed}
 use Rattle.machine_shape.specs.Vocabulary.{HasNames, IsNumbered, wires_of, crosses_of, ends_of, wire_name}
 use Rattle.machine_shape.specs.Shape.Ends.{in_order, turned}
-use Rattle.base_text.specs.Written.{spaced, written, written_line}
-use Rattle.machine_defects.specs.declared.entry.Entry.{Entry}
-use Rattle.machine_defects.specs.declared.entry.Entry.TheVariants.{Wire, Cross, Table}
-use Rattle.machine_defects.specs.declared.kind.DefectsKind.{DefectsKind}
 use Rattle.machine_defects.specs.declared.kind.DefectsKind.TheVariants as kinds
 use Rattle.machine_defects.specs.Vocabulary.{DefectList, IsDefectList, no_defects, IsEntryOf, entry_words, is_before, entries_of, counts_of, first_row, shape_row, end_row, rows_of, text_of, IsForm, IsEntryForm, AreCounts, IsBeforeLast, IsLineFault, IsFirstFault, IsText, without, is_behind, IsLast, IsReadTo}
-use Rattle.machine_defects.specs.Faults.IsForm.{first_form, shape_form, entry_form, end_form}
-use Rattle.machine_defects.specs.Faults.IsEntryForm.{wire_form, cross_form, table_form}
-use Rattle.machine_defects.specs.Faults.IsLineFault.{formless}
-use Rattle.machine_defects.specs.Faults.AreAbove.{nothing, begun, listed}
 use Rattle.machine_defects.proofs.Rows.{IsCleanRow, AreClean, from_word, same_line, whole_line, rows_short}
 use Rattle.machine_defects.proofs.Numerals.{clean_decimal}
 use Rattle.machine_defects.proofs.Entries.{none_listed}

@@ -1,8 +1,6 @@
 -- Lines tell their words.
 use Rattle.std.proofs.Common.{◌≡◌, ◌≢◌, inl, inr, ℕ, ◌≤◌, Bool, true, false, not, ◌&&◌, List, [], ◌∷◌, ◌++◌, length, refl, sym, ap, ◌∙◌, arith, append_assoc, length-append, ◌==◌}
-use Rattle.std.specs.List.{list_all, flat_map}
-use Rattle.base_text.specs.Written.{spaced, written, written_line}
-use Rattle.machine_defects.specs.Vocabulary.{is_inner, IsWord, without}
+use Rattle.machine_defects.proofs.Vocabulary.{list_all, flat_map, spaced, written, written_line, is_inner, IsWord, without}
 use Rattle.machine_defects.proofs.Splits.{without_append, one_split, one_run, Starts}
 
 -- a word has neither spaces nor ends of lines

@@ -1,8 +1,6 @@
 -- The lines and ports of a node, by their numbers.
-use Rattle.std.proofs.Common.{◌≡◌, ℕ, ◌+◌, ◌<◌, refl, arith}
-use Rattle.machine_shape.specs.declared.Shape.{Shape}
+use Rattle.machine_defects.proofs.Vocabulary.{◌≡◌, ℕ, ◌+◌, ◌<◌, refl, arith, Shape, wires_are, ports_within}
 use Rattle.machine_shape.specs.Vocabulary.{HasMeanings, HasRows, wires_of, nodes_of, lines_of, own_ports_of, line_at, port_at, Line, Port, is_line, is_port}
-use Rattle.machine_shape.proofs.Totals.{wires_are, ports_within}
 
 module _ (m : Shape) (rows : HasRows m) (n first i : ℕ) where
   pub line_step : first ≡ line_at m n 0 → first + i ≡ line_at m n i

@@ -1,9 +1,6 @@
 -- A list is split at a byte.
 use Rattle.std.proofs.Common.{◌≡◌, ◌≢◌, ◌⊎◌, inl, inr, ℕ, suc, ◌+◌, ◌<◌, ◌≤◌, Bool, true, false, not, ◌&&◌, List, [], ◌∷◌, ◌++◌, length, take, drop, refl, sym, ap, ◌∙◌, subst, arith, eqb-true, length-append, ◌==◌}
-use Rattle.std.specs.Str.{bytes_eq}
-use Rattle.std.specs.List.{position_or_len}
-use Rattle.machine_defects.specs.Steps.{without}
-use Rattle.std.proofs.lemmas.Bool.{eq-eqb, false≢true, and_parts}
+use Rattle.machine_defects.proofs.Vocabulary.{bytes_eq, position_or_len, without, eq-eqb, false≢true, and_parts}
 
 pub without_head : (s b : ℕ) (bs : List ℕ) → without s (b ∷ bs) ≡ true → (b ≢ s) × (without s bs ≡ true)
 without_head s b bs h =

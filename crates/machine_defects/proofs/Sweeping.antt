@@ -1,14 +1,9 @@
 -- The crosspoints of a wire are barred one by one.
 use Rattle.std.proofs.Common.{◌≡◌, ◌≢◌, ◌⊎◌, ℕ, ◌+◌, ◌-◌, ◌<◌, ◌≤◌, Bool, true, false, ◌&&◌, ◌||◌, if◌then◌else◌, Option, Some, None, List, length, set, refl, sym, ap, ◌∙◌, subst, arith, eqb-true, inl, inr, ◌==◌}
 use Rattle.std.proofs.lemmas.List.{get_or-set_same, get_or-set_other, length-set}
-use Rattle.std.proofs.lemmas.Bool.{eq-eqb}
-use Rattle.std.proofs.lemmas.Bool.Decides.{nat_tests}
-use Rattle.std.proofs.Math.Bool.{and-false}
+use Rattle.machine_defects.proofs.Vocabulary.{eq-eqb, nat_tests, and-false, has_number, Shape, tap_pin, tap_port, tap_child, tap_table}
 use native.Mathlib.Decide.{ℕ_discrete}
-use Rattle.base_bits.specs.Numbers.{has_number}
-use Rattle.machine_shape.specs.declared.Shape.{Shape}
 use Rattle.machine_shape.specs.Vocabulary.{HasCrosses, HasTaps, HasParents, IsTree, wires_of, crosses_of, nodes_of, lines_of, taps_of, ends_of, node_of, parent_of, node_of_cross, tap_position, line_position, tap_at, line_at, cross_at, IsLine, IsTap}
-use Rattle.machine_shape.specs.Shape.IsTap.{tap_pin, tap_port, tap_child, tap_table}
 use Rattle.machine_defects.specs.Vocabulary.{touches_cross, IsSwept, AreShutBy, count_at, shut_at}
 use Rattle.machine_defects.proofs.Counting.{how_many_less, how_many_same, how_many_some}
 

@@ -1,10 +1,8 @@
 -- The crosspoints of a wire at a node, by their numbers.
 use Rattle.std.proofs.Common.{◌≡◌, ◌≢◌, ℕ, ◌+◌, ◌-◌, ◌*◌, ◌<◌, ◌≤◌, Bool, List, length, sym, ap, ◌∙◌, subst, arith}
-use Rattle.machine_shape.specs.declared.Shape.{Shape}
+use Rattle.machine_defects.proofs.Vocabulary.{Shape, crosses_are, wires_are, IsSwept, AreShutBy}
 use Rattle.machine_shape.specs.Vocabulary.{HasCrosses, first_cross_of, HasRows, wires_of, crosses_of, nodes_of, lines_of, taps_of, ends_of, node_of_cross, tap_position, line_position, tap_at, line_at, cross_at}
 use Rattle.machine_shape.proofs.Crossings.{lines_differ, ends_below}
-use Rattle.machine_shape.proofs.Totals.{crosses_are, wires_are}
-use Rattle.machine_defects.specs.Kept.{IsSwept, AreShutBy}
 use Rattle.machine_defects.proofs.Sweeping.{sweep_none, swept_by, ends_are, OnLine}
 
 module _ (m : Shape) (crosses : HasCrosses m) (rows : HasRows m) (n w : ℕ) (ln : n < nodes_of m) (line : ℕ) (at : line ≡ line_at m n 0) where

@@ -1,9 +1,7 @@
 -- The tests tell what is free.
 use Rattle.std.proofs.Common.{◌≡◌, ℕ, Bool, true, false, not, ◌&&◌, ◌||◌, refl, eqb-true, ◌==◌, ◌↔◌}
-use Rattle.std.proofs.lemmas.Bool.{not-true, eq-eqb, and_parts, not_from_false}
+use Rattle.machine_defects.proofs.Vocabulary.{not-true, eq-eqb, and_parts, not_from_false, Shape, crosses_of, ends_of, table_wire}
 use Rattle.std.specs.FinSet as sets
-use Rattle.machine_shape.specs.declared.Shape.{Shape}
-use Rattle.machine_shape.specs.Shape.{crosses_of, ends_of, table_wire}
 use Rattle.machine_meaning.specs.Defects.{Defects, IsFreeWire, IsFreeCross, IsFreeTable, IsOpenLine}
 use Rattle.machine_defects.specs.Lists.{is_free_wire, is_free_cross, is_free_table, is_open_line, leaves_open, has_free_ends, has_free_pins}
 use Rattle.machine_defects.proofs.Marks.{all_each, each_all}

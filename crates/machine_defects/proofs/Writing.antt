@@ -1,11 +1,7 @@
 -- The lines that are written.
 use Rattle.std.proofs.Common.{◌≡◌, ℕ, suc, ◌+◌, Bool, true, false, if◌then◌else◌, List, [], ◌∷◌, ◌++◌, map, refl, sym, ap, ◌∙◌, arith, append_assoc, append-nil}
 use Rattle.std.specs.FinSet as sets
-use Rattle.machine_shape.specs.Shape.{wires_of, crosses_of, tables_of}
-use Rattle.std.proofs.lemmas.List.{map-append}
-use Rattle.machine_shape.specs.declared.Shape.{Shape}
-use Rattle.base_text.specs.Written.{written, written_line}
-use Rattle.machine_defects.specs.declared.entry.Entry.{Entry}
+use Rattle.machine_defects.proofs.Vocabulary.{wires_of, crosses_of, tables_of, map-append, Shape, written, written_line, Entry}
 use Rattle.machine_defects.specs.Vocabulary.{DefectList, those, numerals, entry_words, as_wire, as_cross, as_table, entries_of, counts_of, first_row, shape_row, end_row, text_of}
 use Rattle.machine_defects.proofs.Numerals.{shape_spaced}
 

@@ -1,16 +1,12 @@
 -- Which fault a text has, and where.
 use Rattle.std.specs.Prelude.{◌≡◌, ◌≢◌, ◌⊎◌, ℕ, ◌+◌, ◌<◌, ◌≤◌, ◌==◌, Bool, true, not, ◌&&◌, List, [], ◌∷◌, ◌++◌, length, codes, Result, Ok}
-use Rattle.std.specs.Prelude.{Err}
-use Rattle.std.specs.List.{list_all, AllByRecursion}
-use Rattle.machine_shape.specs.declared.Shape.{Shape}
-use Rattle.machine_shape.specs.Vocabulary.{most_text}
+use Rattle.std.specs.{Prelude.Err, List.list_all, List.AllByRecursion}
+use Rattle.machine_shape.specs.{declared.Shape.Shape, Vocabulary.most_text}
 use Rattle.base_text.specs.Vocabulary.{written, written_line}
 use Rattle.machine_defects.specs.declared.entry.Entry.{Entry}
-use Rattle.machine_defects.specs.declared.kind.DefectsKind.{DefectsKind}
+use Rattle.machine_defects.specs.{declared.kind.DefectsKind.DefectsKind, Lists.DefectList, Lists.IsDefectList, Lists.no_defects}
 use Rattle.machine_defects.specs.declared.kind.DefectsKind.TheVariants.{Word, Order, Name, WrongMachine, Doubled, After, Limit}
-use Rattle.machine_defects.specs.declared.kind.DefectsFault.{DefectsFault}
-use Rattle.machine_defects.specs.declared.kind.DefectsFault.TheVariants.{At, Memory}
-use Rattle.machine_defects.specs.Lists.{DefectList, IsDefectList, no_defects}
+use Rattle.machine_defects.specs.declared.kind.DefectsFault.{DefectsFault, TheVariants.At, TheVariants.Memory}
 use Rattle.machine_defects.specs.Text.{IsEntryOf, IsFreeEntry, entry_words, is_before, entries_of, counts_of, first_row, shape_row, end_row}
 use Rattle.machine_defects.specs.Text.{rows_of, text_of}
 

@@ -1,11 +1,9 @@
 -- How a list of defects is kept: by marks and counts.
 use Rattle.std.specs.Prelude.{◌≡◌, ◌⊎◌, ℕ, ◌+◌, ◌<◌, ◌==◌, if◌then◌else◌, slice_set, Bool, true, false, not, ◌&&◌, ◌||◌, Option, Some, None}
-use Rattle.std.specs.Prelude.{List, length, slice_index_or}
+use Rattle.std.specs.{Prelude.List, Prelude.length, Prelude.slice_index_or, Ordering.nat_cmp}
 use Rattle.std.specs.FinSet as set
-use Rattle.std.specs.Ordering.{nat_cmp}
 use Rattle.base_bits.specs.Numbers.{has_number}
-use Rattle.machine_shape.specs.declared.Shape.{Shape}
-use Rattle.machine_shape.specs.declared.Table.{Table}
+use Rattle.machine_shape.specs.declared.{Shape.Shape, Table.Table}
 use Rattle.machine_shape.specs.Shape.{wires_of, crosses_of, tables_of, nodes_of, lines_of, own_ports_of, pins_of, ends_of, table_wire, line_at}
 use Rattle.machine_shape.specs.Shape.{port_at, pin_wire, parent_of}
 use Rattle.machine_defects.specs.declared.kept.Kept.{Kept}

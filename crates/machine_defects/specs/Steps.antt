@@ -1,21 +1,15 @@
 -- What the steps of reading a text give.
 use Rattle.std.specs.Prelude.{◌≡◌, ℕ, ◌≤◌, ◌==◌, Bool, true, false, not, ◌&&◌, ◌||◌, Option, Some, None, List, [], ◌∷◌, ◌++◌, codes}
-use Rattle.std.specs.List.{list_all, flat_map}
-use Rattle.std.specs.Fmt.{decimal}
+use Rattle.std.specs.{List.list_all, List.flat_map, Fmt.decimal}
 use Rattle.std.specs.FinSet as set
 use Rattle.machine_shape.specs.declared.Shape.{Shape}
 use Rattle.base_text.specs.Written.{written, written_line}
-use Rattle.machine_defects.specs.declared.entry.Entry.{Entry}
-use Rattle.machine_defects.specs.declared.entry.Entry.TheVariants.{Wire, Cross, Table}
-use Rattle.machine_defects.specs.declared.form.Form.{Form}
+use Rattle.machine_defects.specs.declared.entry.Entry.{Entry, TheVariants.Wire, TheVariants.Cross, TheVariants.Table}
+use Rattle.machine_defects.specs.{declared.form.Form.Form, Lists.DefectList, Lists.IsDefectList, Faults.IsLineFault, Faults.IsFirstFault}
 use Rattle.machine_defects.specs.declared.form.Form.TheVariants as form
-use Rattle.machine_defects.specs.declared.kind.DefectsFault.{DefectsFault}
-use Rattle.machine_defects.specs.declared.kind.DefectsFault.TheVariants.{At, Memory}
-use Rattle.machine_defects.specs.declared.read.Step.{Step}
-use Rattle.machine_defects.specs.declared.read.Step.TheVariants.{Further, End, Refused}
-use Rattle.machine_defects.specs.Lists.{DefectList, IsDefectList}
+use Rattle.machine_defects.specs.declared.kind.DefectsFault.{DefectsFault, TheVariants.At, TheVariants.Memory}
+use Rattle.machine_defects.specs.declared.read.Step.{Step, TheVariants.Further, TheVariants.End, TheVariants.Refused}
 use Rattle.machine_defects.specs.Text.{entry_words, kind_of, entry_number, is_before, entries_of, end_row, rows_of}
-use Rattle.machine_defects.specs.Faults.{IsLineFault, IsFirstFault}
 
 -- the byte doesn't stand among the bytes
 abbrev pub without : ℕ → List ℕ → Bool

@@ -2,13 +2,11 @@
 use Rattle.std.specs.Prelude.{ℕ, ◌<◌, ◌==◌, Bool, ◌&&◌, ◌||◌, nat_lt, List, [], ◌∷◌, ◌++◌, map, codes, slice_index_or}
 use Rattle.std.specs.Fmt.{decimal}
 use Rattle.std.specs.FinSet as set
-use Rattle.machine_shape.specs.declared.Counts.{Counts}
-use Rattle.machine_shape.specs.declared.Shape.{Shape}
+use Rattle.machine_shape.specs.declared.{Counts.Counts, Shape.Shape}
 use Rattle.machine_shape.specs.Vocabulary.{wires_of, crosses_of, tables_of, ends_of, wire_name, table_name}
 use Rattle.machine_meaning.specs.Defects.{IsFreeWire, IsFreeCross, IsFreeTable}
 use Rattle.base_text.specs.Written.{written, written_line}
-use Rattle.machine_defects.specs.declared.entry.Entry.{Entry}
-use Rattle.machine_defects.specs.declared.entry.Entry.TheVariants.{Wire, Cross, Table}
+use Rattle.machine_defects.specs.declared.entry.Entry.{Entry, TheVariants.Wire, TheVariants.Cross, TheVariants.Table}
 use Rattle.machine_defects.specs.Lists.{DefectList, those}
 
 -- the entry is of this machine

@@ -1,19 +1,11 @@
 -- What stays true of a fault set to which a fault is added.
 use Rattle.std.proofs.Common.{◌≡◌, ◌≢◌, ◌<◌, ◌≤◌, ℕ, ◌+◌, ◌==◌, Bool, true, false, Option, Some, None, IsSome, if◌then◌else◌, nat_lt, refl, sym, ap, ◌∙◌, arith, ltb-true, ltb-false}
-use Rattle.std.proofs.lemmas.Bool.{eqb-false}
+use Rattle.machine_faults.proofs.Vocabulary.{eqb-false, nat_cmp_total, nat_cmp, exact_unsigned, Shape, wires_of, crosses_of, tables_of}
+use Rattle.machine_faults.proofs.Vocabulary.{most_faults, Faults, AreFaultsOf, pair_cmp, is_bridge, Fault, Stuck, CrossStuck, Cell}
+use Rattle.machine_faults.proofs.Vocabulary.{Register, Bridge, Same, Limit, pairs_total, pairs_exact}
 use Rattle.std.specs.FinMap as maps
 use Rattle.std.specs.FinSet as set
-use Rattle.std.specs.Cmp.{nat_cmp_total}
-use Rattle.std.specs.Ordering.{nat_cmp}
-use Rattle.std.proofs.lemmas.Map.Lookups.{exact_unsigned}
-use Rattle.machine_shape.specs.declared.Shape.{Shape}
-use Rattle.machine_shape.specs.Vocabulary.{wires_of, crosses_of, tables_of, most_faults}
-use Rattle.machine_meaning.specs.Faults.{Faults, AreFaultsOf, pair_cmp, is_bridge}
-use Rattle.machine_faults.specs.declared.fault.Fault.{Fault}
-use Rattle.machine_faults.specs.declared.fault.Fault.TheVariants.{Stuck, CrossStuck, Cell, Register, Bridge}
-use Rattle.machine_faults.specs.declared.fault.AddFault.TheVariants.{Same, Limit}
 use Rattle.machine_faults.specs.Adding.{Faulty, IsFaultSet, CanHave, no_faults, with_fault, value_at, value_of, is_loop, lower_first, refusal_at, refusal_of, count_of}
-use Rattle.machine_meaning.proofs.Pairs.{pairs_total, pairs_exact}
 use Rattle.machine_faults.proofs.Keeping.{all_put, all_added, len_put, len_added}
 
 -- ---- what it is not to be refused

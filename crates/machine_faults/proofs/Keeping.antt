@@ -1,21 +1,11 @@
 -- What the code's maps and sets are as values.
 use Rattle.std.proofs.Common.{◌≡◌, ℕ, ◌+◌, Bool, true, false, cond, ◌||◌, Some, None, IsSome, List, [], ◌∷◌, ◌++◌, map, refl, sym, ap, ◌∙◌, subst, length-append, is_some}
 use Rattle.std.specs.FinMap as maps
-use Rattle.std.specs.FinMap.{find}
+use Rattle.std.specs.{FinMap.find, BTreeMap.is_at}
 use Rattle.std.specs.FinSet as set
-use Rattle.std.specs.List.{list_any}
-use Rattle.std.specs.Map.{lookup}
-use Rattle.std.specs.BTreeMap.{is_at}
-use Rattle.std.specs.Cmp.{IsTotalOrder, eq_by_cmp_equiv}
-use Rattle.std.specs.Ordering.{eq_by_cmp}
-use Rattle.std.specs.declared.cmp.Ordering.{Ordering}
-use Rattle.std.proofs.lemmas.Map.Lookups.{CmpEqualImpliesEq}
-use Rattle.std.proofs.lemmas.Map.Views.{tells_apart}
-use Rattle.std.proofs.lemmas.List.{map-append}
+use Rattle.machine_faults.proofs.Vocabulary.{list_any, lookup, IsTotalOrder, eq_by_cmp_equiv, eq_by_cmp, Ordering, CmpEqualImpliesEq}
+use Rattle.machine_faults.proofs.Vocabulary.{tells_apart, map-append, pair_cmp, pairs_total, pairs_exact, Lists, pair_of}
 use Rattle.machine_shape.specs.declared.Wire.{Wire}
-use Rattle.machine_meaning.specs.Faults.{pair_cmp}
-use Rattle.machine_meaning.proofs.Pairs.{pairs_total, pairs_exact}
-use Rattle.machine_faults.specs.Stored.{Lists, pair_of}
 
 module _ {K X : Type 0} {R : K → K → Ordering} (o : IsTotalOrder R) where
   find_is : (es : List (K × X)) (q : K) → find R q es ≡ lookup (is_at (R q)) es

@@ -1,19 +1,11 @@
 -- How long the lines of a text are at most.
 use Rattle.std.proofs.Common.{◌≡◌, ◌<◌, ◌≤◌, ◌+◌, ◌*◌, ℕ, Bool, true, false, List, [], ◌∷◌, length, map, arith, length-append, if◌then◌else◌, refl}
-use Rattle.std.specs.List.{AllByRecursion, flat_map}
+use Rattle.machine_faults.proofs.Vocabulary.{AllByRecursion, flat_map, length-decimal-le, Shape, ends_of, wire_name, table_name, is_small}
+use Rattle.machine_faults.proofs.Vocabulary.{most_faults, most_text, spaced, written, written_line, Fault, Stuck, CrossStuck, Cell}
+use Rattle.machine_faults.proofs.Vocabulary.{Register, Bridge, Head, CanHave, word_of, bit_word, head_of, rest_of, fault_words}
 use Rattle.std.specs.Fmt.{decimal}
-use Rattle.std.proofs.lemmas.Fmt.{length-decimal-le}
-use Rattle.machine_shape.specs.declared.Shape.{Shape}
-use Rattle.machine_shape.specs.Vocabulary.{ends_of, wire_name, table_name, is_small, most_faults, most_text}
 use Rattle.machine_shape.proofs.ShortNames.{short_wire_name, short_table_name}
-use Rattle.base_text.specs.Written.{spaced, written, written_line}
-use Rattle.machine_faults.specs.declared.fault.Fault.{Fault}
-use Rattle.machine_faults.specs.declared.fault.Fault.TheVariants.{Stuck, CrossStuck, Cell, Register, Bridge}
-use Rattle.machine_faults.specs.declared.head.Head.{Head}
 use Rattle.machine_faults.specs.declared.head.Head.TheVariants as head
-use Rattle.machine_faults.specs.Adding.{CanHave}
-use Rattle.machine_faults.specs.Heads.{word_of}
-use Rattle.machine_faults.specs.Text.{bit_word, head_of, rest_of, fault_words}
 use Rattle.machine_faults.proofs.Words.{IsTold, tap_in, line_in}
 
 short_bit : (b : Bool) → length (bit_word b) ≤ 1

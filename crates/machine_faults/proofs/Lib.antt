@@ -8,3 +8,4 @@ mod Parts
 mod Reading
 mod Words
 mod Writing
+mod Vocabulary

@@ -1,20 +1,10 @@
 -- The words of an entry are words of a line: they have bytes, and none of these is a blank, a bad byte, the end of a
 -- line or the beginning of a comment.
 use Rattle.std.proofs.Common.{◌≡◌, ◌<◌, ◌-◌, ℕ, Bool, true, false, List, [], ◌∷◌, refl, arith, nat_lt, ◌&&◌, ◌||◌, ltb-true, le-ltb, ne_eqb, not, ◌==◌}
-use Rattle.std.specs.List.{list_all, list_any}
-use Rattle.std.proofs.lemmas.Fmt.{decimal_nonempty}
-use Rattle.std.proofs.lemmas.Bool.{and_parts}
-use Rattle.machine_shape.specs.declared.Shape.{Shape}
-use Rattle.machine_shape.specs.Shape.{ends_of}
-use Rattle.machine_shape.proofs.PlainNames.{AllPlain, IsPlainWord, plain-decimal, wire_word, table_word}
-use Rattle.base_text.specs.Bytes.{is_bad, is_blank}
-use Rattle.machine_faults.specs.declared.fault.Fault.{Fault}
-use Rattle.machine_faults.specs.declared.fault.Fault.TheVariants.{Stuck, CrossStuck, Cell, Register, Bridge}
-use Rattle.machine_faults.specs.declared.head.Head.{Head}
+use Rattle.machine_faults.proofs.Vocabulary.{list_all, list_any, decimal_nonempty, and_parts, Shape, ends_of, AllPlain, IsPlainWord}
+use Rattle.machine_faults.proofs.Vocabulary.{plain-decimal, wire_word, table_word, is_bad, is_blank, Fault, Stuck, CrossStuck, Cell}
+use Rattle.machine_faults.proofs.Vocabulary.{Register, Bridge, Head, CanHave, word_of, bit_word, head_of, rest_of, fault_words}
 use Rattle.machine_faults.specs.declared.head.Head.TheVariants as head
-use Rattle.machine_faults.specs.Adding.{CanHave}
-use Rattle.machine_faults.specs.Heads.{word_of}
-use Rattle.machine_faults.specs.Text.{bit_word, head_of, rest_of, fault_words}
 use Rattle.machine_faults.proofs.Words.{IsTold, tap_in, line_in}
 
 plain_byte : ℕ → Bool

@@ -2,15 +2,9 @@
 use Rattle.std.proofs.Common.{◌≡◌, Bool, true, false, cond, not, ◌||◌, Option, Some, None, List, [], ◌∷◌, filter, refl, sym, ap, ◌∙◌, subst, is_some}
 use Rattle.std.specs.FinMap as maps
 use Rattle.std.specs.FinSet as set
-use Rattle.std.specs.List.{list_any, AllByRecursion}
-use Rattle.std.specs.Map.{keys_of}
+use Rattle.machine_faults.proofs.Vocabulary.{list_any, AllByRecursion, keys_of, eq_by_cmp, is_eq, Ordering, CmpEqualImpliesEq, tells_apart}
 use Rattle.std.specs.List.Sorted.{IsStrictlySortedBy}
-use Rattle.std.specs.Cmp.{IsTotalOrder, eq_by_cmp_equiv, tied_itself}
-use Rattle.std.specs.Ordering.{eq_by_cmp, is_eq}
-use Rattle.std.specs.declared.cmp.Ordering.{Ordering}
-use Rattle.std.specs.declared.cmp.Ordering.TheVariants.{Less}
-use Rattle.std.proofs.lemmas.Map.Lookups.{CmpEqualImpliesEq}
-use Rattle.std.proofs.lemmas.Map.Views.{tells_apart}
+use Rattle.std.specs.{Cmp.IsTotalOrder, Cmp.eq_by_cmp_equiv, Cmp.tied_itself, declared.cmp.Ordering.TheVariants.Less}
 use Rattle.std.proofs.Math.Bool.{or_assoc, or-false}
 
 both_some : {X : Type 0} (x : Option X) (v u : X) → x ≡ Some v → x ≡ Some u → v ≡ u

@@ -1,30 +1,19 @@
 -- What reading a text line by line makes of it.
 use Rattle.std.proofs.Common.{◌≡◌, ◌≢◌, ◌<◌, ℕ, true, false, None, Some, Option, Result, Ok, Err, List, [], ◌∷◌, ◌++◌, length, map, get_or, refl, sym, ap, ◌∙◌, subst, append_assoc, append-nil, MatchOption, MatchResult, IfSome, IfNone, IfOk, IfErr}
-use Rattle.std.specs.List.{list_any}
-use Rattle.std.proofs.lemmas.List.{map-append}
-use Rattle.machine_shape.specs.declared.Shape.{Shape}
+use Rattle.machine_faults.proofs.Vocabulary.{list_any, map-append, Shape, ends_of, wires_of, crosses_of, wire_name, HasNames, IsNumbered}
+use Rattle.machine_faults.proofs.Vocabulary.{Faults, in_order, turned, Fault, Stuck, CrossStuck, Cell, Register, Bridge, Head, Faulty}
+use Rattle.machine_faults.proofs.Vocabulary.{CanHave, IsRefusal, no_faults, with_fault, refusal_of, word_of, follow_of, has_wires}
+use Rattle.machine_faults.proofs.Vocabulary.{has_cross, end_names, head_of, rest_of, fault_words, with_all, AreAdded, IsFaultText}
 use Rattle.machine_shape.specs.declared.Cross.{Cross}
-use Rattle.machine_shape.specs.Vocabulary.{ends_of, wires_of, crosses_of, wire_name, HasNames, IsNumbered}
-use Rattle.machine_meaning.specs.Faults.{Faults}
-use Rattle.machine_shape.specs.Shape.Ends.{in_order, turned}
 use Rattle.base_text.specs.declared.lines.LineFault.{LineFault}
 use Rattle.base_text.specs.declared.lines.LineFault.TheVariants as line
 use Rattle.base_text.specs.Vocabulary.{IsFaultAt as IsFaultAtLine, LogicalLine, logical_lines, is_bad_line, is_bad}
-use Rattle.machine_faults.specs.declared.fault.Fault.{Fault}
-use Rattle.machine_faults.specs.declared.fault.Fault.TheVariants.{Stuck, CrossStuck, Cell, Register, Bridge}
-use Rattle.machine_faults.specs.declared.fault.AddFault.{AddFault}
+use Rattle.machine_faults.specs.declared.{fault.AddFault.AddFault, kind.FaultsKind.FaultsKind}
 use Rattle.machine_faults.specs.declared.fault.AddFault.TheVariants as add
-use Rattle.machine_faults.specs.declared.head.Head.{Head}
-use Rattle.machine_faults.specs.declared.kind.FaultsKind.{FaultsKind}
 use Rattle.machine_faults.specs.declared.kind.FaultsKind.TheVariants as kind
-use Rattle.machine_faults.specs.declared.kind.FaultsFault.{FaultsFault}
-use Rattle.machine_faults.specs.declared.kind.FaultsFault.TheVariants.{At, Memory}
-use Rattle.machine_faults.specs.Adding.{Faulty, CanHave, IsRefusal, no_faults, with_fault, refusal_of}
-use Rattle.machine_faults.specs.Heads.{word_of, follow_of, has_wires, has_cross}
-use Rattle.machine_faults.specs.Text.{end_names, head_of, rest_of, fault_words, with_all, AreAdded, IsFaultText}
+use Rattle.machine_faults.specs.declared.kind.FaultsFault.{FaultsFault, TheVariants.At, TheVariants.Memory}
 use Rattle.machine_faults.specs.Refusals.{IsRestFault, IsNoEntry, IsLineFault, IsFirstFault, IsFirst, GivesOrLacks, Takes, told_of, line_told, AreWireNames}
-use Rattle.machine_faults.specs.Refusals.IsNoEntry.{formless, formed}
-use Rattle.machine_faults.specs.Refusals.IsLineFault.{bad, no_entry, refused}
+use Rattle.machine_faults.specs.Refusals.{IsNoEntry.formless, IsNoEntry.formed, IsLineFault.bad, IsLineFault.no_entry, IsLineFault.refused}
 use Rattle.machine_faults.proofs.Words.{one_head, one_fault, right_size, tap_in, line_in, IsTold}
 use Rattle.machine_faults.proofs.Names.{good_entry}
 

@@ -1,18 +1,10 @@
 -- The words of entries tell the entries apart.
 use Rattle.std.proofs.Common.{◌≡◌, ◌<◌, ℕ, Bool, true, false, List, [], ◌∷◌, length, map, get_or, refl, sym, ap, ◌∙◌, arith}
-use Rattle.std.specs.List.{position_or_len}
+use Rattle.machine_faults.proofs.Vocabulary.{position_or_len, decimal_injective, Shape, in_order, turned, Fault, Stuck, CrossStuck, Cell}
+use Rattle.machine_faults.proofs.Vocabulary.{Register, Bridge, Head, CanHave, word_of, follow_of, bit_word, head_of, rest_of, fault_words}
 use Rattle.std.specs.Str.{bytes_eq}
-use Rattle.std.proofs.lemmas.Fmt.{decimal_injective}
-use Rattle.machine_shape.specs.declared.Shape.{Shape}
 use Rattle.machine_shape.specs.Vocabulary.{ends_of, wires_of, crosses_of, HasNames, HasCrosses, IsNumbered}
-use Rattle.machine_shape.specs.Shape.Ends.{in_order, turned}
-use Rattle.machine_faults.specs.declared.fault.Fault.{Fault}
-use Rattle.machine_faults.specs.declared.fault.Fault.TheVariants.{Stuck, CrossStuck, Cell, Register, Bridge}
-use Rattle.machine_faults.specs.declared.head.Head.{Head}
 use Rattle.machine_faults.specs.declared.head.Head.TheVariants as head
-use Rattle.machine_faults.specs.Adding.{CanHave}
-use Rattle.machine_faults.specs.Heads.{word_of, follow_of}
-use Rattle.machine_faults.specs.Text.{bit_word, head_of, rest_of, fault_words}
 
 -- ---- first words
 

@@ -3,22 +3,14 @@ use Rattle.std.proofs.Common.{◌≡◌, ◌<◌, ◌≤◌, ◌+◌, ℕ, zero,
 use Rattle.std.specs.FinMap as maps
 use Rattle.std.specs.FinSet as set
 use Rattle.std.specs.List.{AllByRecursion, All, list_all}
-use Rattle.std.specs.Cmp.{nat_cmp_total}
-use Rattle.std.proofs.lemmas.Map.Lookups.{exact_unsigned}
-use Rattle.machine_shape.specs.declared.Shape.{Shape}
-use Rattle.machine_shape.specs.Vocabulary.{wires_of, crosses_of, tables_of, most_faults, most_text}
-use Rattle.machine_meaning.specs.Faults.{Faults}
-use Rattle.base_text.specs.Vocabulary.{logical_lines, is_graphic, written, numbered}
+use Rattle.machine_faults.proofs.Vocabulary.{nat_cmp_total, exact_unsigned, Shape, wires_of, crosses_of, tables_of, most_faults, most_text}
+use Rattle.machine_faults.proofs.Vocabulary.{Faults, logical_lines, is_graphic, written, numbered, Fault, Same, Limit, fault_words}
+use Rattle.machine_faults.proofs.Vocabulary.{with_all, AreAdded, IsFaultText, pairs_total, pairs_exact, AllPlain}
 use Rattle.base_text.specs.Written as text
 use Rattle.base_text.proofs.WrittenLemmas.{lines_back}
-use Rattle.machine_faults.specs.declared.fault.Fault.{Fault}
-use Rattle.machine_faults.specs.declared.fault.AddFault.TheVariants.{Same, Limit}
 use Rattle.machine_faults.specs.Adding.{IsFaultSet, CanHave, no_faults, with_fault, value_at, value_of, is_loop, lower_first, refusal_at, refusal_of, count_of}
-use Rattle.machine_faults.specs.Text.{fault_words, with_all, AreAdded, IsFaultText}
 use Rattle.machine_faults.specs.Written.{Kinds, AreAscending, AreInOrder, grouped, faults_of, stuck_wire_at, stuck_cross_at, wrong_cell_at, stuck_register_at, bridge_of}
 use Rattle.machine_faults.proofs.Adding.{count_more, count_none}
-use Rattle.machine_meaning.proofs.Pairs.{pairs_total, pairs_exact}
-use Rattle.machine_shape.proofs.PlainNames.{AllPlain}
 use Rattle.machine_faults.proofs.Names.{AreWords, entry_words}
 use Rattle.machine_faults.proofs.Words.{IsTold}
 use Rattle.machine_faults.proofs.Lengths.{short_text, enough_bytes}

@@ -8,9 +8,8 @@ use Rattle.machine_shape.specs.contracts.Shape as shape
 use Rattle.machine_shape.specs.declared.Shape.{Shape}
 use Rattle.machine_shape.specs.Vocabulary.{wires_of, crosses_of, tables_of, most_faults}
 use Rattle.machine_meaning.specs.Faults.{Faults, pair_cmp, stuck_wire, stuck_cross, wrong_cell, stuck_register, is_bridge, AreFaultsOf}
-use Rattle.machine_faults.specs.declared.fault.Fault.{Fault}
+use Rattle.machine_faults.specs.declared.fault.{Fault.Fault, AddFault.AddFault}
 use Rattle.machine_faults.specs.declared.fault.Fault.TheVariants.{Stuck, CrossStuck, Cell, Register, Bridge}
-use Rattle.machine_faults.specs.declared.fault.AddFault.{AddFault}
 use Rattle.machine_faults.specs.declared.fault.AddFault.TheVariants.{Same, Doubled, Against, Limit, Memory}
 
 -- the faults of a machine of this shape

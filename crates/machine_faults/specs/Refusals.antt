@@ -3,22 +3,17 @@ use Rattle.std.specs.Prelude.{ℕ, ◌≡◌, ◌≢◌, ◌⊎◌, ◌<◌, ◌
 use Rattle.machine_shape.specs.declared.Shape.{Shape}
 use Rattle.machine_shape.specs.Vocabulary.{wires_of, crosses_of, wire_name, most_text}
 use Rattle.machine_meaning.specs.Faults.{Faults}
-use Rattle.base_text.specs.declared.lines.LineFault.{LineFault}
+use Rattle.base_text.specs.{declared.lines.LineFault.LineFault, Vocabulary.LogicalLine, Vocabulary.logical_lines, Vocabulary.is_bad_line}
 use Rattle.base_text.specs.declared.lines.LineFault.TheVariants as line
-use Rattle.base_text.specs.Vocabulary.{LogicalLine, logical_lines, is_bad_line}
-use Rattle.machine_faults.specs.declared.fault.Fault.{Fault}
-use Rattle.machine_faults.specs.declared.fault.AddFault.{AddFault}
+use Rattle.machine_faults.specs.declared.{fault.Fault.Fault, head.Head.Head}
+use Rattle.machine_faults.specs.declared.{fault.AddFault.AddFault, kind.FaultsFault.TheVariants.At, kind.FaultsFault.TheVariants.Memory}
 use Rattle.machine_faults.specs.declared.fault.AddFault.TheVariants as add
-use Rattle.machine_faults.specs.declared.head.Head.{Head}
 use Rattle.machine_faults.specs.declared.head.Head.TheVariants as head
-use Rattle.machine_faults.specs.declared.kind.FaultsKind.{FaultsKind}
+use Rattle.machine_faults.specs.{declared.kind.FaultsKind.FaultsKind, Text.end_names, Text.fault_words, Text.with_all, Text.AreAdded}
 use Rattle.machine_faults.specs.declared.kind.FaultsKind.TheVariants.{Byte, Word, Wire, Cross, Cell, Register, Same, Doubled, Against}
 use Rattle.machine_faults.specs.declared.kind.FaultsKind.TheVariants.{Limit}
-use Rattle.machine_faults.specs.declared.kind.FaultsFault.{FaultsFault}
-use Rattle.machine_faults.specs.declared.kind.FaultsFault.TheVariants.{At, Memory}
+use Rattle.machine_faults.specs.{declared.kind.FaultsFault.FaultsFault, Heads.word_of, Heads.follow_of, Heads.has_wires, Heads.has_cross}
 use Rattle.machine_faults.specs.Adding.{Faulty, no_faults, with_fault, refusal_of, CanHave}
-use Rattle.machine_faults.specs.Heads.{word_of, follow_of, has_wires, has_cross}
-use Rattle.machine_faults.specs.Text.{end_names, fault_words, with_all, AreAdded}
 
 abbrev pub IsWireName : Shape → List ℕ → Type 0
 IsWireName m word = (w : ℕ) × (w < wires_of m) × (wire_name m w ≡ word)

@@ -4,8 +4,7 @@ use Rattle.std.specs.FinMap as maps
 use Rattle.std.specs.FinSet as set
 use Rattle.machine_shape.specs.declared.Wire.{Wire}
 use Rattle.machine_meaning.specs.Faults.{Faults, pair_cmp}
-use Rattle.machine_faults.specs.declared.entries.Entries.{Entries}
-use Rattle.machine_faults.specs.Written.{Kinds}
+use Rattle.machine_faults.specs.{declared.entries.Entries.Entries, Written.Kinds}
 
 -- the faults that the entries are
 abbrev pub faults_in : Entries → Faults

@@ -1,16 +1,13 @@
 -- The text of faults: one entry a line.
 use Rattle.std.specs.Prelude.{ℕ, ◌≡◌, Bool, true, false, codes, None, List, [], ◌∷◌, map}
 use Rattle.std.specs.Fmt.{decimal}
-use Rattle.machine_shape.specs.declared.Shape.{Shape}
-use Rattle.machine_shape.specs.Vocabulary.{ends_of, wire_name, table_name}
+use Rattle.machine_shape.specs.{declared.Shape.Shape, Vocabulary.ends_of, Vocabulary.wire_name, Vocabulary.table_name}
 use Rattle.machine_meaning.specs.Faults.{Faults}
 use Rattle.base_text.specs.Lines.{logical_lines}
-use Rattle.machine_faults.specs.declared.fault.Fault.{Fault}
+use Rattle.machine_faults.specs.{declared.fault.Fault.Fault, Adding.no_faults, Adding.with_fault, Adding.refusal_of, Adding.CanHave}
 use Rattle.machine_faults.specs.declared.fault.Fault.TheVariants.{Stuck, CrossStuck, Cell, Register, Bridge}
-use Rattle.machine_faults.specs.declared.head.Head.{Head}
+use Rattle.machine_faults.specs.{declared.head.Head.Head, Heads.word_of}
 use Rattle.machine_faults.specs.declared.head.Head.TheVariants as head
-use Rattle.machine_faults.specs.Adding.{no_faults, with_fault, refusal_of, CanHave}
-use Rattle.machine_faults.specs.Heads.{word_of}
 
 abbrev pub bit_word : Bool → List ℕ
 bit_word false = codes "0"

@@ -2,15 +2,12 @@
 use Rattle.std.specs.Prelude.{ℕ, ◌≡◌, Bool, not, List, ◌++◌, map, filter}
 use Rattle.std.specs.FinMap as maps
 use Rattle.std.specs.FinSet as set
-use Rattle.std.specs.Map.{keys_of}
-use Rattle.std.specs.Ordering.{nat_cmp}
-use Rattle.std.specs.List.Sorted.{IsStrictlySortedBy}
+use Rattle.std.specs.{Map.keys_of, Ordering.nat_cmp, List.Sorted.IsStrictlySortedBy}
 use Rattle.machine_shape.specs.declared.Shape.{Shape}
 use Rattle.machine_meaning.specs.Faults.{Faults, pair_cmp}
 use Rattle.base_text.specs.Written.{written}
-use Rattle.machine_faults.specs.declared.fault.Fault.{Fault}
+use Rattle.machine_faults.specs.{declared.fault.Fault.Fault, Text.fault_words}
 use Rattle.machine_faults.specs.declared.fault.Fault.TheVariants.{Stuck, CrossStuck, Cell, Register, Bridge}
-use Rattle.machine_faults.specs.Text.{fault_words}
 
 abbrev pub stuck_wire_at : ℕ × Bool → Fault
 stuck_wire_at e = Stuck (record { 0 = e.0 }) e.1

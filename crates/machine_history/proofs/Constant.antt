@@ -1,8 +1,6 @@
 -- Where the faults are the same at each instant, a run over the history is a run under them.
 use Rattle.std.proofs.Common.{◌≡◌, ℕ, suc, Bool, true, false, Option, Some, None, List, refl, sym, ap, ◌∙◌, subst, unwrap_or, if◌then◌else◌}
-use Rattle.std.proofs.Math.Path.{fun_ext}
-use Rattle.machine_meaning.specs.Vocabulary.{Faults, Circuit, Table, Outputs, Pins, AreValues}
-use Rattle.machine_config.specs.declared.Setting.{Setting}
+use Rattle.machine_history.proofs.Vocabulary.{fun_ext, Faults, Circuit, Table, Outputs, Pins, AreValues, Setting}
 use Rattle.machine_config.specs.Vocabulary.{Configuration, setting_of, held_by, table_or_off, circuit_of, IsRun, first_output, tick_output, edge_output, at_load, after_tick, after_edge, Ticks, unticked, tick, Cycle, Cycles, none, cycle}
 use Rattle.machine_history.specs.Vocabulary.{History, IsConstant, settled, settled_output, TicksOver, unticked_over, tick_over, CycleOver, CyclesOver, none_over, cycle_over, IsRunOver}
 

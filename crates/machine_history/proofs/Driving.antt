@@ -1,15 +1,10 @@
 -- What is driven for a tenant, in the whole and by itself.
 use Rattle.std.proofs.Common.{◌≡◌, ℕ, zero, suc, ◌+◌, ◌<◌, Bool, true, false, cond, eqb, List, [], ◌∷◌, length, get_or, map, refl, sym, ap, ◌∙◌, arith}
-use Rattle.std.specs.List.{Contains, range_with_len}
-use Rattle.std.proofs.lemmas.Bool.{eqb-true, eq-eqb}
+use Rattle.machine_history.proofs.Vocabulary.{Contains, range_with_len, eqb-true, eq-eqb, Contains-append_left, get_or-map-range_with_len}
+use Rattle.machine_history.proofs.Vocabulary.{length-map-range_with_len, pins_of, Pins, IsDriveFor, drive_alone}
 use Rattle.std.proofs.lemmas.List.{get_or-map, get_or_default, get_or_append_left, get_or-append-add, ext_get_or, length-append}
-use Rattle.std.proofs.lemmas.List.Elements.{Contains-append_left}
-use Rattle.std.proofs.lemmas.List.FromFn.{get_or-map-range_with_len, length-map-range_with_len}
-use Rattle.machine_shape.specs.Shape.{pins_of}
-use Rattle.machine_meaning.specs.Vocabulary.{Pins}
 use Rattle.machine_image.specs.Vocabulary.{ImageValue, IsImage, bit_for, row_at, drive_of}
 use Rattle.machine_image.proofs.Driven.{drive_low}
-use Rattle.machine_history.specs.Vocabulary.{IsDriveFor, drive_alone}
 
 -- truth values of which each is false where the other is
 pub same_lows : (a b : Bool) → (a ≡ false → b ≡ false) → (b ≡ false → a ≡ false) → a ≡ b

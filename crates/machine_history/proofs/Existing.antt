@@ -1,9 +1,7 @@
 -- A configuration of a machine has a run over each history, under each list of drives.
 use Rattle.std.proofs.Common.{◌≡◌, ℕ, zero, suc, ◌<◌, ◌≤◌, Bool, true, Option, Some, None, List, [], ◌∷◌, refl, ap, ◌∙◌, subst, arith, unwrap_or}
-use Rattle.std.proofs.lemmas.List.{get_or_past}
-use Rattle.machine_shape.specs.Shape.{in_order, turned, wires_of, crosses_of, tables_of}
+use Rattle.machine_history.proofs.Vocabulary.{get_or_past, in_order, turned, wires_of, crosses_of, tables_of, first_below}
 use Rattle.machine_meaning.specs.Vocabulary.{Linked, crossed, bridged, Faults, AreFaultsOf, stuck_cross, Table, Outputs, Pins, IsFinite}
-use Rattle.machine_shape.proofs.Crossings.{first_below}
 use Rattle.machine_meaning.proofs.ValuesExist.{values_exist}
 use Rattle.machine_config.specs.Vocabulary.{Configuration, IsConfiguration, is_closed, pins_read, first_output, tick_output, edge_output, at_load, after_tick, after_edge, table_or_off, circuit_of}
 use Rattle.machine_history.specs.Vocabulary.{History, IsHistoryOf, settled, settled_output, TicksOver, unticked_over, tick_over, CycleOver, CyclesOver, none_over, cycle_over, IsRunOver}

@@ -1,9 +1,6 @@
 -- An image that is left alone in itself.
 use Rattle.std.proofs.Common.{◌≡◌, ℕ, Bool, List, [], ◌∷◌, length, map, take, refl, sym, ap, ◌∙◌, subst, arith}
-use Rattle.std.proofs.lemmas.List.{take_all}
-use Rattle.std.proofs.lemmas.List.Elements.{All-map}
-use Rattle.machine_meaning.specs.Vocabulary.{Faults, IsFaultless, Pins}
-use Rattle.machine_config.specs.Vocabulary.{IsRun, circuit_of}
+use Rattle.machine_history.proofs.Vocabulary.{take_all, All-map, Faults, IsFaultless, Pins, IsRun, circuit_of}
 use Rattle.machine_config.proofs.Runs.{Cycles-length}
 use Rattle.machine_image.specs.Vocabulary.{ImageValue, IsImage, drive_of, image_row}
 use Rattle.machine_history.specs.Vocabulary.{History, IsRunOver, LeavesAlone, LeavesAloneFor, IsDriveFor, drive_alone}

@@ -1,18 +1,11 @@
 -- A tenant that is left alone at an instant has the values that it has by itself.
 use Rattle.std.proofs.Common.{◌≡◌, ◌⊎◌, ℕ, ◌<◌, Bool, true, false, Some, None, Option, List, ◌++◌, length, get_or, map, refl, sym, ap, ◌∙◌, subst, arith, if◌then◌else◌, unwrap_or, IsSome, inl, inr}
-use Rattle.std.specs.List.{Contains, range_with_len}
-use Rattle.std.specs.Ordering.{nat_cmp}
+use Rattle.machine_history.proofs.Vocabulary.{Contains, range_with_len, nat_cmp, fun_ext, false≢true, get_or-map, ext_get_or, length-map}
+use Rattle.machine_history.proofs.Vocabulary.{get_or_default, get_or-map-range_with_len, Shape, IsValue-unique, Setting}
 use Rattle.std.specs.FinSet as set
-use Rattle.std.proofs.Math.Path.{fun_ext}
-use Rattle.std.proofs.lemmas.Bool.{false≢true}
-use Rattle.std.proofs.lemmas.List.{get_or-map, ext_get_or, length-map, get_or_default}
 use Rattle.std.proofs.lemmas.List.Elements.{All-contains, Contains-append_cases, Contains-append_right}
-use Rattle.std.proofs.lemmas.List.FromFn.{get_or-map-range_with_len}
-use Rattle.machine_shape.specs.declared.Shape.{Shape}
 use Rattle.machine_shape.specs.Shape.{Ends, in_order, turned, ends_of, pin_wire, table_wire, pins_of}
 use Rattle.machine_meaning.specs.Vocabulary.{Faults, IsFaultless, stuck_cross, stuck_register, wrong_cell, net_of, plain_net, Circuit, Outputs, Pins, Pulls, by_pin, by_table, IsValue, AreValues}
-use Rattle.machine_meaning.proofs.Values.{IsValue-unique}
-use Rattle.machine_config.specs.declared.Setting.{Setting}
 use Rattle.machine_config.specs.Vocabulary.{Configuration, is_closed, setting_of, cell_of, circuit_of, table_of, table_or_off, held_by, number_of, address_at, pins_read, first_output, tick_output, edge_output, at_load, after_tick, after_edge}
 use Rattle.machine_image.specs.Vocabulary.{ImageValue, IsImage, image_row, Uses, at_pin, at_tap, at_line, at_table}
 use Rattle.machine_image.proofs.Driven.{number_below, same_map, tick_of}

@@ -1,11 +1,7 @@
 -- A tenant that is left alone for some cycles reads in them what it reads by itself.
 use Rattle.std.proofs.Common.{◌≡◌, ℕ, zero, suc, ◌+◌, ◌<◌, ◌≤◌, Option, List, [], ◌∷◌, map, take, refl, sym, ap, ◌∙◌, subst, arith}
-use Rattle.std.specs.List.{All, AllByRecursion}
-use Rattle.std.specs.Ordering.{nat_cmp}
+use Rattle.machine_history.proofs.Vocabulary.{All, AllByRecursion, nat_cmp, recursion_from_All, Faults, IsFaultless, Outputs, Pins, Setting}
 use Rattle.std.specs.FinSet as set
-use Rattle.std.proofs.lemmas.List.Elements.{recursion_from_All}
-use Rattle.machine_meaning.specs.Vocabulary.{Faults, IsFaultless, Outputs, Pins}
-use Rattle.machine_config.specs.declared.Setting.{Setting}
 use Rattle.machine_config.specs.Vocabulary.{circuit_of, IsRun, after_tick, after_edge, Ticks, unticked, tick, Cycle, Cycles, none, cycle}
 use Rattle.machine_image.specs.Vocabulary.{ImageValue, IsImage, image_row}
 use Rattle.machine_history.specs.Vocabulary.{History, settled, TicksOver, unticked_over, tick_over, CycleOver, CyclesOver, none_over, cycle_over, IsRunOver, IsTenantOf, LeavesAlone, LeavesAloneFor, IsDriveFor, drive_alone}

@@ -1,17 +1,11 @@
 -- What leaves a tenant alone.
 use Rattle.std.proofs.Common.{◌≡◌, ℕ, ◌<◌, Bool, true, false, Some, None, Option, ◌++◌, refl, sym, unwrap_or, IsSome}
-use Rattle.std.proofs.lemmas.Bool.{false≢true}
-use Rattle.std.proofs.lemmas.List.Elements.{All-contains}
-use Rattle.machine_shape.specs.Shape.{in_order, turned, pin_wire, pins_of, tables_of, wires_of}
-use Rattle.machine_shape.specs.Laws.{IsNumbered}
-use Rattle.machine_shape.specs.declared.Shape.{Shape}
+use Rattle.machine_history.proofs.Vocabulary.{false≢true, All-contains, in_order, turned, pin_wire, pins_of, tables_of, wires_of}
+use Rattle.machine_history.proofs.Vocabulary.{IsNumbered, Shape, setting_of, on_below, true_some, LeavesAlone, AreAmong}
 use Rattle.machine_meaning.specs.Vocabulary.{Faults, IsFaultless, stuck_wire, stuck_cross, here, then, crossed, bridged, Shorted, Defects, Covers, IsFreeWire}
 use Rattle.machine_meaning.proofs.Clear.{clear_of_sound}
 use Rattle.machine_meaning.proofs.Faultless.{all_sound}
-use Rattle.machine_config.specs.Vocabulary.{setting_of}
 use Rattle.machine_image.specs.Vocabulary.{ImageValue, IsImage, IsFreeImage, Uses, at_pin, at_tap, at_line, at_table}
-use Rattle.machine_image.proofs.Touching.{on_below, true_some}
-use Rattle.machine_history.specs.Vocabulary.{LeavesAlone, AreAmong}
 
 not_open : {o : Option Bool} → o ≡ None → o ≡ Some false → ⊥
 not_open e f = cc

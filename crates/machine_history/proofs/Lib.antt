@@ -12,3 +12,4 @@ mod Constant
 mod Reaching
 mod Instants
 mod Within
+mod Vocabulary

@@ -1,7 +1,6 @@
 -- What is used of a whole by a tenant that faults leave alone.
 use Rattle.std.proofs.Common.{◌≡◌, ℕ, Bool, true, Some, None, Option, refl, sym, subst}
-use Rattle.machine_shape.specs.declared.Shape.{Shape}
-use Rattle.machine_shape.specs.Shape.{Ends, ends_of}
+use Rattle.machine_history.proofs.Vocabulary.{Shape, Ends, ends_of}
 use Rattle.machine_meaning.specs.Vocabulary.{Faults, stuck_cross, stuck_wire, Linked, crossed, bridged, Joined, here, then, Shorted, net_of, plain_net, IsClear, Circuit, Table, Outputs, Pins, Pulls, IsHeld, IsValue, held_0, held_1, pulled, released}
 
 -- v is shorted to a wire of the tenant that its own crosspoints join to w

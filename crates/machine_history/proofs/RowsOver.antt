@@ -1,14 +1,9 @@
 -- The rows of what is left alone are those of a machine without faults.
 use Rattle.std.proofs.Common.{◌≡◌, ℕ, Bool, Some, None, Option, List, length, map, take, sym, ap, ◌∙◌, subst, refl, IsSome}
-use Rattle.std.specs.List.{All}
-use Rattle.std.specs.Ordering.{nat_cmp}
+use Rattle.machine_history.proofs.Vocabulary.{All, nat_cmp, false≢true, take-map, Shape, Configuration, IsConfiguration, IsRun}
 use Rattle.std.specs.FinMap as finmap
 use Rattle.std.specs.FinSet as set
-use Rattle.std.proofs.lemmas.Bool.{false≢true}
-use Rattle.std.proofs.lemmas.List.{take-map}
-use Rattle.machine_shape.specs.declared.Shape.{Shape}
 use Rattle.machine_meaning.specs.Vocabulary.{Faults, AreFaultsOf, IsFaultless, pair_cmp, Defects, Covers, Pins}
-use Rattle.machine_config.specs.Vocabulary.{Configuration, IsConfiguration, IsRun}
 use Rattle.machine_image.specs.Vocabulary.{ImageValue, IsImage, IsFreeImage, drive_of, image_row}
 use Rattle.machine_history.specs.Vocabulary.{History, IsHistoryOf, IsRunOver, IsTenantOf, LeavesAloneFor, IsDriveFor, drive_alone}
 use Rattle.machine_history.proofs.Constant.{run_of}

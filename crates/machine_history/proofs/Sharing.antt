@@ -1,11 +1,7 @@
 -- What a tenant shares with its whole.
 use Rattle.std.proofs.Common.{◌≡◌, ℕ, Some, None, Option, refl, ap, ◌∙◌, IsSome}
-use Rattle.std.proofs.lemmas.Bool.{false≢true}
-use Rattle.machine_shape.specs.Shape.{ends_of, pin_wire, table_wire}
-use Rattle.machine_config.specs.declared.Setting.{Setting}
-use Rattle.machine_config.specs.Vocabulary.{setting_of}
+use Rattle.machine_history.proofs.Vocabulary.{false≢true, ends_of, pin_wire, table_wire, Setting, setting_of, IsTenantOf}
 use Rattle.machine_image.specs.Vocabulary.{ImageValue, Uses, at_pin, at_tap, at_line, at_table}
-use Rattle.machine_history.specs.Vocabulary.{IsTenantOf}
 
 pub tenant_of_itself : (i : ImageValue) → IsTenantOf i i
 tenant_of_itself i = record {

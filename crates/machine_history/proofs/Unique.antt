@@ -1,11 +1,7 @@
 -- A run over a history is one, and its first cycles are one.
 use Rattle.std.proofs.Common.{◌≡◌, ℕ, suc, Bool, List, [], ◌∷◌, ◌++◌, length, take, refl, sym, ap, ◌∙◌, subst}
-use Rattle.std.specs.List.{AllByRecursion}
-use Rattle.std.proofs.lemmas.List.FromFn.{length-map-range_with_len}
-use Rattle.machine_shape.specs.Shape.{pin_wire, pins_of}
-use Rattle.machine_meaning.specs.Vocabulary.{Faults, Outputs, Pins, AreValues}
-use Rattle.machine_meaning.proofs.Values.{AreValues-unique}
-use Rattle.machine_config.specs.Vocabulary.{Configuration, circuit_of, pins_read, after_tick, after_edge}
+use Rattle.machine_history.proofs.Vocabulary.{AllByRecursion, length-map-range_with_len, pin_wire, pins_of, Faults, Outputs, Pins}
+use Rattle.machine_history.proofs.Vocabulary.{AreValues, AreValues-unique, Configuration, circuit_of, pins_read, after_tick, after_edge}
 use Rattle.machine_history.specs.Vocabulary.{History, settled, TicksOver, unticked_over, tick_over, CycleOver, CyclesOver, none_over, cycle_over, IsRunOver}
 
 module _ (g : Configuration) where

@@ -1,16 +1,10 @@
 -- What a list covers is left alone, of faults of the machine.
 use Rattle.std.proofs.Common.{◌≡◌, ◌⊎◌, ℕ, ◌<◌, ◌≤◌, Bool, true, false, Some, None, Option, ◌++◌, refl, sym, subst, arith, inl, inr, unwrap_or, IsSome}
-use Rattle.std.proofs.lemmas.Bool.{false≢true, cases_lt}
-use Rattle.std.proofs.lemmas.List.Elements.{All-contains}
-use Rattle.machine_shape.specs.declared.Shape.{Shape}
-use Rattle.machine_shape.specs.Shape.{in_order, turned, pin_wire, wires_of, crosses_of, tables_of}
-use Rattle.machine_shape.proofs.Crossings.{first_below}
+use Rattle.machine_history.proofs.Vocabulary.{false≢true, cases_lt, All-contains, Shape, in_order, turned, pin_wire, wires_of, crosses_of}
+use Rattle.machine_history.proofs.Vocabulary.{tables_of, first_below, is_closed, setting_of, on_below, true_some, LeavesAlone}
 use Rattle.machine_meaning.specs.Vocabulary.{Faults, AreFaultsOf, stuck_wire, stuck_cross, Linked, here, then, crossed, bridged, net_of, Shorted, IsClear, Defects, Covers, IsFreeWire}
 use Rattle.machine_meaning.proofs.JoinedLemmas.{Joined-sym}
-use Rattle.machine_config.specs.Vocabulary.{is_closed, setting_of}
 use Rattle.machine_image.specs.Vocabulary.{ImageValue, IsImage, IsFreeImage, Uses, at_pin, at_tap, at_line, at_table}
-use Rattle.machine_image.proofs.Touching.{on_below, true_some}
-use Rattle.machine_history.specs.Vocabulary.{LeavesAlone}
 
 -- no fault is beyond the machine's wires
 module _ (m : Shape) (f : Faults) (faults : AreFaultsOf m f) where

@@ -3,8 +3,7 @@ use Rattle.std.specs.Prelude.{◌≡◌, ◌≢◌, ℕ, ◌<◌, ◌≤◌, Boo
 use Rattle.machine_shape.specs.Shape.{ends_of, pin_wire, table_wire}
 use Rattle.machine_meaning.specs.Vocabulary.{Faults, stuck_wire, stuck_cross, wrong_cell, stuck_register, is_bridge, Shorted, IsClear}
 use Rattle.machine_meaning.specs.Vocabulary.{Pins}
-use Rattle.machine_config.specs.declared.Setting.{Setting}
-use Rattle.machine_config.specs.Vocabulary.{is_closed, setting_of}
+use Rattle.machine_config.specs.{declared.Setting.Setting, Vocabulary.is_closed, Vocabulary.setting_of}
 use Rattle.machine_image.specs.Vocabulary.{ImageValue, Uses, drive_of, row_at}
 use Rattle.machine_history.specs.Histories.{History}
 

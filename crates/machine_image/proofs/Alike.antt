@@ -1,16 +1,12 @@
 -- An image on free parts runs alike under all fault sets that the list covers.
 use Rattle.std.proofs.Common.{◌≡◌, ℕ, ◌+◌, ◌<◌, Bool, true, false, Some, None, Option, List, [], ◌∷◌, ◌++◌, length, get_or, map, refl, sym, ap, ◌∙◌, subst, arith, IsSome}
-use Rattle.std.specs.List.{range_with_len}
+use Rattle.machine_image.proofs.Vocabulary.{range_with_len, false≢true, get_or-map-range_with_len, pin_wire, table_wire, pins_of, tables_of}
+use Rattle.machine_image.proofs.Vocabulary.{crosses_of, IsNumbered, Setting, ImageValue, IsImage, drive_of, image_row, IsFreeImage}
 use Rattle.std.proofs.Math.Path.{fun_ext}
-use Rattle.std.proofs.lemmas.Bool.{false≢true}
 use Rattle.std.proofs.lemmas.List.{get_or_append_left, get_or-append-add, get_or-map, ext_get_or, length-append, length-map}
-use Rattle.std.proofs.lemmas.List.FromFn.{get_or-map-range_with_len}
-use Rattle.machine_shape.specs.Vocabulary.{pin_wire, table_wire, pins_of, tables_of, crosses_of, IsNumbered}
 use Rattle.machine_meaning.specs.Vocabulary.{Faults, Joined, plain_net, Outputs, Pins, Pulls, by_pin, by_table, IsHeld, IsValue, held_0, held_1, pulled, released, AreValues, Defects, IsFreeWire, IsFreeCross, Covers}
 use Rattle.machine_meaning.proofs.Covered.{none_stuck, joined_plainly}
-use Rattle.machine_config.specs.declared.Setting.{Setting}
 use Rattle.machine_config.specs.Vocabulary.{Configuration, is_closed, setting_of, circuit_of, table_or_off, IsRun, number_of, address_at, pins_read, tick_output, edge_output, at_load, after_tick, after_edge, Ticks, unticked, tick, Cycles, none, cycle}
-use Rattle.machine_image.specs.Vocabulary.{ImageValue, IsImage, drive_of, image_row, IsFreeImage}
 use Rattle.machine_image.proofs.Driven.{drive_low, number_below, same_map, tick_of, edge_of, first_of}
 use Rattle.machine_image.proofs.FreeWires.{IsGood, IsOff, joined_too}
 use Rattle.machine_image.proofs.Touching.{on_below, true_some}

@@ -1,11 +1,9 @@
 -- Numbers in bytes, the highest first.
 use Rattle.std.proofs.Common.{◌≡◌, ℕ, zero, suc, ◌+◌, ◌-◌, ◌^◌, ◌<◌, ◌≤◌, List, [], ◌∷◌, ◌++◌, length, drop, get_or, refl, sym, ap, ◌∙◌, arith}
 use Rattle.std.specs.Int.{w64, from_be_bytes, bytes_high_first}
-use Rattle.std.proofs.lemmas.List.{drop_more, drop_at, drop-drop, length-append, length-drop}
+use Rattle.machine_image.proofs.Vocabulary.{drop_more, drop_at, drop-drop, length-append, length-drop, big_bytes, big_from, Stands}
 use Rattle.std.proofs.lemmas.Nat.{be_bytes_8}
-use Rattle.byteorder.specs.Endian.{big_bytes, big_from}
 use Rattle.byteorder.specs.Numbers.{big_number-reads_back, length-bytes_high_first}
-use Rattle.machine_image.specs.Faults.{Stands}
 
 next : (xs : List ℕ) (i j : ℕ) → i < length xs → j ≡ i + 1 → drop i xs ≡ get_or xs i 0 ∷ drop j xs
 next xs i j h e = drop_more xs i 0 h ∙ ap (λ k. get_or xs i 0 ∷ drop k xs) (sym e)

@@ -1,21 +1,10 @@
 -- How many closed crosspoints there are, and how many tables that are on.
 use Rattle.std.proofs.Common.{◌≡◌, ℕ, zero, suc, ◌+◌, ◌<◌, ◌≤◌, List, [], ◌∷◌, ◌++◌, Bool, true, false, not, ◌&&◌, nat_eq, Option, None, Some, IsSome, is_some, Contains, length, refl, sym, ap, ◌∙◌, subst, inl, inr, ◌⊎◌, arith, ◌==◌, if◌then◌else◌, le_trans}
-use Rattle.std.specs.List.{flat_map, range_with_len}
-use Rattle.std.specs.Ordering.{nat_cmp}
-use Rattle.std.specs.Cmp.{nat_cmp_total, unsigned_tied}
+use Rattle.machine_image.proofs.Vocabulary.{flat_map, range_with_len, nat_cmp, nat_cmp_total, unsigned_tied, cases_lt, list_any_at}
+use Rattle.machine_image.proofs.Vocabulary.{Contains-append_left, Contains-append_right, nat_tests, Shape, is_small, levels_of, tables_of}
+use Rattle.machine_image.proofs.Vocabulary.{most_ticks, small_is, Setting, Configuration, setting_of, insert-remove, on_at, tables_on}
 use Rattle.std.specs.FinSet as set_
 use Rattle.std.specs.FinSet.{len-empty, len-insert, contains-remove, contains-from_list_nat}
-use Rattle.std.proofs.lemmas.Bool.{cases_lt}
-use Rattle.std.proofs.lemmas.List.Folds.{list_any_at}
-use Rattle.std.proofs.lemmas.List.Elements.{Contains-append_left, Contains-append_right}
-use Rattle.std.proofs.lemmas.Bool.Decides.{nat_tests}
-use Rattle.machine_shape.specs.declared.Shape.{Shape}
-use Rattle.machine_shape.specs.Vocabulary.{is_small, levels_of, tables_of, most_ticks}
-use Rattle.machine_shape.proofs.HighLimits.{small_is}
-use Rattle.machine_config.specs.declared.Setting.{Setting}
-use Rattle.machine_config.specs.Configuration.{Configuration, setting_of}
-use Rattle.machine_config.proofs.Changes.{insert-remove}
-use Rattle.machine_image.specs.Images.{on_at, tables_on}
 
 unequal : (x y : ℕ) → y < x → (x == y) ≡ false
 unequal x y h = grind (arith, nat_tests, h)

@@ -1,14 +1,10 @@
 -- What a vector drives, and what a table with no fault does.
 use Rattle.std.proofs.Common.{◌≡◌, ◌⊎◌, ℕ, zero, suc, ◌+◌, ◌*◌, ◌^◌, ◌<◌, ◌≤◌, Bool, true, false, cond, eqb, Some, None, Option, List, [], ◌∷◌, length, get_or, map, refl, sym, ◌∙◌, inl, inr, arith, if◌then◌else◌}
-use Rattle.std.specs.List.{range_with_len}
-use Rattle.std.proofs.lemmas.Bool.{false≢true, eqb-true, ne_eqb, eq-eqb, cases_lt}
-use Rattle.std.proofs.lemmas.List.{get_or_past}
-use Rattle.std.proofs.lemmas.List.FromFn.{get_or-map-range_with_len, length-map-range_with_len, fill_by_all}
+use Rattle.machine_image.proofs.Vocabulary.{range_with_len, false≢true, eqb-true, ne_eqb, eq-eqb, cases_lt, get_or_past}
+use Rattle.machine_image.proofs.Vocabulary.{get_or-map-range_with_len, length-map-range_with_len, fill_by_all, Setting, bit_for, drive_on}
 use Rattle.std.proofs.Math.Nat.{pow-succ'}
 use Rattle.machine_meaning.specs.Faults.{Faults, wrong_cell, stuck_register}
-use Rattle.machine_config.specs.declared.Setting.{Setting}
 use Rattle.machine_config.specs.Vocabulary.{cell_of, table_or_off, number_of, first_output, tick_output, edge_output}
-use Rattle.machine_image.specs.Images.{bit_for, drive_on}
 
 -- ---- pins
 

@@ -1,15 +1,10 @@
 -- What stands behind the pins, and the whole.
 use Rattle.std.proofs.Common.{◌≡◌, ℕ, ◌+◌, ◌<◌, ◌≤◌, List, [], ◌++◌, length, take, drop, inr, refl, sym, ap, ◌∙◌, subst, arith, codes}
-use Rattle.std.specs.List.{flat_map}
+use Rattle.machine_image.proofs.Vocabulary.{flat_map, Shape, Configuration, cleared, with_ticks, ImageKind, ImageFault, At, Memory}
 use Rattle.std.specs.FinSet as set_
 use Rattle.std.proofs.lemmas.List.{append_assoc, append-nil, drop_all, take-append-drop, length-take-le, length-drop}
-use Rattle.machine_shape.specs.declared.Shape.{Shape}
 use Rattle.machine_shape.specs.Vocabulary.{tables_of, crosses_of, most_ticks, most_closed}
-use Rattle.machine_config.specs.Configuration.{Configuration, cleared, with_ticks}
-use Rattle.machine_image.specs.declared.kind.ImageKind.{ImageKind}
 use Rattle.machine_image.specs.declared.kind.ImageKind.TheVariants as kind
-use Rattle.machine_image.specs.declared.kind.ImageFault.{ImageFault}
-use Rattle.machine_image.specs.declared.kind.ImageFault.TheVariants.{At, Memory}
 use Rattle.machine_image.specs.declared.read.Head.{Head}
 use Rattle.machine_image.specs.Vocabulary.{counts_of, most_fault, closed_fault, InEnd, InCrosses, InTables, InPins, InImage, IsField, IsRefusedField, FaultIn, Passed, IsImage, two, four, table_bytes, tables_on, closed_in, image_bytes, IsFirstImageFault, IsRefusedAs, Reads, IsHead, ArePins, TablesRead, CrossesRead, AreSettings, Bounds, head_bytes, settings_bytes}
 use Rattle.machine_image.proofs.Wrong.{closed_right, most_right}

@@ -1,17 +1,9 @@
 -- The bytes of an image have no fault.
 use Rattle.std.proofs.Common.{◌≡◌, ℕ, zero, suc, ◌+◌, ◌^◌, ◌<◌, ◌≤◌, List, [], ◌∷◌, ◌++◌, Bool, true, false, Option, Some, None, length, drop, get_or, All, refl, sym, ap, ◌∙◌, subst, arith, ◌≢◌, ◌==◌, if◌then◌else◌}
-use Rattle.std.specs.List.{flat_map, range_with_len, list_any, AllPairs}
-use Rattle.std.proofs.lemmas.Bool.Decides.{nat_tests}
-use Rattle.std.proofs.lemmas.List.{append_assoc, append-nil, length-append, length-drop}
-use Rattle.std.proofs.Math.ListN.{get_or-append}
+use Rattle.machine_image.proofs.Vocabulary.{flat_map, range_with_len, list_any, AllPairs, nat_tests, append_assoc, append-nil}
+use Rattle.machine_image.proofs.Vocabulary.{length-append, length-drop, get_or-append, list_any_none, big_bytes, Shape, pins_of, tables_of}
+use Rattle.machine_image.proofs.Vocabulary.{crosses_of, most_ticks, most_closed, Setting, CellsFit, is_closed, setting_of, ImageKind}
 use Rattle.std.proofs.Math.Seq.{get_or-append_seam}
-use Rattle.std.proofs.lemmas.List.Folds.{list_any_none}
-use Rattle.byteorder.specs.Endian.{big_bytes}
-use Rattle.machine_shape.specs.declared.Shape.{Shape}
-use Rattle.machine_shape.specs.Vocabulary.{pins_of, tables_of, crosses_of, most_ticks, most_closed}
-use Rattle.machine_config.specs.declared.Setting.{Setting}
-use Rattle.machine_config.specs.Configuration.{CellsFit, is_closed, setting_of}
-use Rattle.machine_image.specs.declared.kind.ImageKind.{ImageKind}
 use Rattle.machine_image.specs.Vocabulary.{counts_of, magic, count_fault, ticks_fault, most_fault, closed_fault, pin_fault, above_fault, flags_fault, InField, InEnd, InCrosses, InTables, InPins, InTicks, InCounts, InImage, ImageValue, two, four, on_at, tables_on, closed_in, flags_of, table_bytes, IsImage, image_bytes, Bounds}
 use Rattle.machine_image.proofs.Bytes.{behind_number, number_within, same_number}
 use Rattle.machine_image.proofs.Whole.{Each, each_of, Small, Fits, few_flags, few_pins, few_on, few_closed, on_within, closed_within, closed_few, tail}

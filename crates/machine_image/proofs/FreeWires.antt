@@ -1,10 +1,7 @@
 -- Free wires, and walks over closed crosspoints.
 use Rattle.std.proofs.Common.{◌≡◌, ℕ, ◌<◌, Bool, true, None, Option, unwrap_or}
-use Rattle.std.proofs.lemmas.Bool.{false≢true}
-use Rattle.machine_shape.specs.declared.Shape.{Shape}
-use Rattle.machine_shape.specs.Shape.{Ends, ends_of, wires_of, crosses_of}
+use Rattle.machine_image.proofs.Vocabulary.{false≢true, Shape, Ends, ends_of, wires_of, crosses_of, Configuration, setting_of}
 use Rattle.machine_meaning.specs.Vocabulary.{Faults, stuck_cross, crossed, bridged, Joined, here, then, net_of, plain_net, Outputs, Defects, IsFreeWire, IsFreeCross, Covers}
-use Rattle.machine_config.specs.Configuration.{Configuration, setting_of}
 
 conducting : (o : Option Bool) (b : Bool) → b ≡ true → o ≡ None → unwrap_or o b ≡ true
 conducting o b is free = rw free is

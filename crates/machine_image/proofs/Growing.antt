@@ -1,14 +1,8 @@
 -- Lists over a range of numbers, and how they grow.
 use Rattle.std.proofs.Common.{◌≡◌, ℕ, zero, suc, ◌+◌, ◌<◌, ◌≤◌, List, [], ◌∷◌, ◌++◌, true, false, Some, None, length, refl, sym, ap, ◌∙◌, arith, inl, inr, ◌⊎◌, ◌≢◌, ◌==◌, if◌then◌else◌}
-use Rattle.std.specs.List.{flat_map, range_with_len}
-use Rattle.std.proofs.lemmas.Bool.{cases_lt}
-use Rattle.std.proofs.lemmas.Bool.Decides.{nat_tests}
-use Rattle.std.proofs.lemmas.List.{append_assoc, append-nil, get_or-set_same, get_or-set_other}
-use Rattle.machine_shape.specs.Shape.{tables_of, crosses_of}
-use Rattle.machine_config.specs.declared.Setting.{Setting}
+use Rattle.machine_image.proofs.Vocabulary.{flat_map, range_with_len, cases_lt, nat_tests, append_assoc, append-nil, get_or-set_same}
+use Rattle.machine_image.proofs.Vocabulary.{get_or-set_other, tables_of, crosses_of, Setting, is_closed-closed, on_at, tables_on, closed_in}
 use Rattle.machine_config.specs.Configuration.{Configuration, is_closed, setting_of, with_closed, with_setting}
-use Rattle.machine_config.proofs.Changes.{is_closed-closed}
-use Rattle.machine_image.specs.Images.{on_at, tables_on, closed_in}
 
 module _ {A : Type 0} where
   pub none_flat : (f : ℕ → List A) (a n : ℕ) → ((y : ℕ) → a ≤ y → f y ≡ []) → flat_map f (range_with_len a n) ≡ []

@@ -1,12 +1,7 @@
 -- What stands before the pins, and a table.
 use Rattle.std.proofs.Common.{◌≡◌, ℕ, zero, suc, ◌+◌, ◌≤◌, ◌%◌, List, [], ◌∷◌, ◌++◌, length, get_or, refl, sym, ap, ◌∙◌, subst, arith, ◌==◌, codes, nat_le, if◌then◌else◌}
-use Rattle.std.specs.List.{flat_map}
-use Rattle.byteorder.specs.Endian.{big_bytes}
-use Rattle.machine_shape.specs.declared.Shape.{Shape}
+use Rattle.machine_image.proofs.Vocabulary.{flat_map, big_bytes, Shape, tables_of, most_ticks, ImageKind, ImageFault}
 use Rattle.machine_shape.specs.declared.Counts.{Counts}
-use Rattle.machine_shape.specs.Vocabulary.{tables_of, most_ticks}
-use Rattle.machine_image.specs.declared.kind.ImageKind.{ImageKind}
-use Rattle.machine_image.specs.declared.kind.ImageFault.{ImageFault}
 use Rattle.machine_image.specs.Vocabulary.{Stands, counts_of, no_fault, magic_fault, ticks_fault, above_fault, flags_fault, InField, InTicks, InCounts, InPins, InTables, InImage, IsCut, IsField, IsRefusedField, FaultIn, Passed, two, IsHead, IsTable}
 use Rattle.machine_image.proofs.Wrong.{magic_right, ticks_right, above_right, most_right}
 use Rattle.machine_image.proofs.Passing.{refused_in, passed_in, pass_field, pass_both}

@@ -16,3 +16,4 @@ mod Faultless
 mod Ends
 mod Written
 mod Alike
+mod Vocabulary

@@ -1,13 +1,7 @@
 -- From field to field.
 use Rattle.std.proofs.Common.{◌≡◌, ℕ, ◌+◌, ◌≤◌, List, [], ◌∷◌, ◌++◌, length, drop, Option, refl, sym, ap, ◌∙◌, subst}
-use Rattle.std.specs.List.{flat_map}
-use Rattle.std.proofs.lemmas.List.{append_assoc, append-nil}
-use Rattle.std.proofs.lemmas.Grind.{flat_map-append}
-use Rattle.byteorder.specs.Endian.{big_bytes}
-use Rattle.machine_image.specs.declared.kind.ImageKind.{ImageKind}
-use Rattle.machine_image.specs.declared.kind.ImageFault.{ImageFault}
-use Rattle.machine_image.specs.declared.kind.ImageFault.TheVariants.{At, Memory}
-use Rattle.machine_image.specs.Vocabulary.{InField, IsField, IsRefusedField, FaultIn, Passed}
+use Rattle.machine_image.proofs.Vocabulary.{flat_map, append_assoc, append-nil, flat_map-append, big_bytes, ImageKind, ImageFault, At}
+use Rattle.machine_image.proofs.Vocabulary.{Memory, InField, IsField, IsRefusedField, FaultIn, Passed}
 
 -- a refused field is the first fault
 pub refused_in : {size : ℕ} {fault_of : ℕ → Option ImageKind} {bytes : List ℕ} {at : ℕ} (B : ℕ → ImageKind → ℕ → Type 0) (f : ImageFault) →

@@ -1,21 +1,12 @@
 -- The steps of reading.
 use Rattle.std.proofs.Common.{◌≡◌, ℕ, suc, ◌+◌, ◌<◌, ◌≤◌, List, [], ◌∷◌, ◌++◌, Bool, true, false, ◌||◌, Some, None, length, take, drop, get_or, set, refl, sym, ap, ◌∙◌, subst, arith, ◌≢◌, ◌==◌, if◌then◌else◌}
-use Rattle.std.specs.List.{flat_map, list_any}
-use Rattle.std.specs.Cmp.{nat_cmp_total}
+use Rattle.machine_image.proofs.Vocabulary.{flat_map, list_any, nat_cmp_total, len-insert, nat_tests, All-push, list_any-append}
+use Rattle.machine_image.proofs.Vocabulary.{list_any_at, Shape, tables_of, crosses_of, pins_of, Setting, ImageFault}
 use Rattle.std.specs.FinSet as set_
-use Rattle.std.specs.FinSet.{len-insert}
-use Rattle.std.proofs.Math.Bool.{or-false, or-true}
-use Rattle.std.proofs.lemmas.Bool.Decides.{nat_tests}
+use Rattle.std.proofs.{Math.Bool.or-false, Math.Bool.or-true, lemmas.List.Quantifiers.all_pairs_push}
 use Rattle.std.proofs.lemmas.List.{drop_more, take_more, take_all, drop_all, length-append, length-set, get_or-set_same, get_or-set_other}
-use Rattle.std.proofs.lemmas.List.Elements.{All-push}
-use Rattle.std.proofs.lemmas.List.Folds.{list_any-append, list_any_at}
-use Rattle.std.proofs.lemmas.List.Quantifiers.{all_pairs_push}
 use native.Mathlib.Decide.{ℕ_discrete}
-use Rattle.machine_shape.specs.declared.Shape.{Shape}
-use Rattle.machine_shape.specs.Shape.{tables_of, crosses_of, pins_of}
-use Rattle.machine_config.specs.declared.Setting.{Setting}
 use Rattle.machine_config.specs.Configuration.{Configuration, is_closed, setting_of, with_closed, with_setting}
-use Rattle.machine_image.specs.declared.kind.ImageFault.{ImageFault}
 use Rattle.machine_image.specs.Vocabulary.{count_fault, pin_fault, above_fault, InTicks, InCounts, InPins, InTables, InCrosses, IsField, IsRefusedField, FaultIn, Passed, AreMarks, two, four, table_bytes, tables_on, closed_in, on_at, ArePins, AreTables, AreCrosses, TablesRead, CrossesRead, IsTable}
 use Rattle.machine_image.proofs.Wrong.{count_right, pin_right, above_right}
 use Rattle.machine_image.proofs.Passing.{refused_in, passed_in, pass_field, pass_none, pass_item}

@@ -1,15 +1,8 @@
 -- What an image touches.
 use Rattle.std.proofs.Common.{◌≡◌, ℕ, ◌+◌, ◌<◌, ◌≤◌, List, ◌++◌, true, false, Option, Some, None, length, All, refl, sym, ap, ◌∙◌, subst, arith, inl, inr, ◌⊎◌, IsSome, is_some}
-use Rattle.std.proofs.lemmas.Bool.{false≢true, cases_lt}
-use Rattle.std.proofs.lemmas.List.{length-append, get_or-append-add, get_or_past}
-use Rattle.std.proofs.Math.ListN.{get_or-append}
-use Rattle.std.proofs.lemmas.List.Elements.{All-append}
-use Rattle.machine_shape.specs.declared.Shape.{Shape}
-use Rattle.machine_shape.specs.Shape.{pins_of, tables_of, pin_wire}
-use Rattle.machine_meaning.specs.Defects.{Defects, IsFreeWire, IsFreeCross, IsFreeTable}
-use Rattle.machine_config.specs.declared.Setting.{Setting}
-use Rattle.machine_config.specs.Configuration.{Configuration, IsConfiguration, is_closed, setting_of}
-use Rattle.machine_image.specs.Vocabulary.{ImageValue, IsImage, IsFreeImage}
+use Rattle.machine_image.proofs.Vocabulary.{false≢true, cases_lt, length-append, get_or-append-add, get_or_past, get_or-append, All-append}
+use Rattle.machine_image.proofs.Vocabulary.{Shape, pins_of, tables_of, pin_wire, Defects, IsFreeWire, IsFreeCross, IsFreeTable, Setting}
+use Rattle.machine_image.proofs.Vocabulary.{Configuration, IsConfiguration, is_closed, setting_of, ImageValue, IsImage, IsFreeImage}
 
 -- ---- the whole
 

@@ -1,19 +1,12 @@
 -- An image has one spelling, and what is an image's has no fault.
 use Rattle.std.proofs.Common.{◌≡◌, ℕ, zero, suc, ◌+◌, ◌^◌, ◌<◌, ◌≤◌, List, [], ◌∷◌, ◌++◌, Bool, true, false, ◌||◌, Option, Some, None, length, take, drop, All, refl, sym, ap, ◌∙◌, subst, arith, inl, inr, ◌⊎◌, ◌≢◌, ◌==◌, codes, if◌then◌else◌}
-use Rattle.std.specs.List.{flat_map, range_with_len, list_any, AllPairs}
-use Rattle.std.specs.Cmp.{nat_cmp_total}
+use Rattle.machine_image.proofs.Vocabulary.{flat_map, range_with_len, list_any, AllPairs, nat_cmp_total, same_set, nat_cmp-IsAntisymmetric}
+use Rattle.machine_image.proofs.Vocabulary.{false≢true, cases_lt, nat_tests, Decides-eqb, big_bytes, big_from, pins_of, tables_of}
+use Rattle.machine_image.proofs.Vocabulary.{crosses_of, Setting, CellsFit, is_closed, setting_of}
 use Rattle.std.specs.FinSet as set_
-use Rattle.std.specs.FinSet.{same_set, nat_cmp-IsAntisymmetric}
-use Rattle.std.proofs.lemmas.Bool.{false≢true, cases_lt}
-use Rattle.std.proofs.lemmas.Bool.Decides.{nat_tests, Decides-eqb}
-use Rattle.std.proofs.lemmas.Map.Steps.{length-le_from_distinct_below}
-use Rattle.std.proofs.lemmas.Map.Made.{IsDistinct-from_AllPairs}
+use Rattle.std.proofs.lemmas.Map.{Steps.length-le_from_distinct_below, Made.IsDistinct-from_AllPairs}
 use Rattle.std.proofs.lemmas.List.{append_assoc, append-nil, drop_at, take_at, length-append, ext_get_or}
-use Rattle.byteorder.specs.Endian.{big_bytes, big_from}
 use Rattle.byteorder.specs.Numbers.{big_number-reads_back, length-bytes_high_first}
-use Rattle.machine_shape.specs.Shape.{pins_of, tables_of, crosses_of}
-use Rattle.machine_config.specs.declared.Setting.{Setting}
-use Rattle.machine_config.specs.Configuration.{CellsFit, is_closed, setting_of}
 use Rattle.machine_image.specs.Vocabulary.{counts_of, ImageValue, two, four, on_at, tables_on, closed_in, flags_of, table_bytes, IsImage, image_bytes, Bounds}
 use Rattle.machine_image.proofs.Counted.{at_most_len}
 

@@ -1,12 +1,7 @@
 -- The steps of writing.
 use Rattle.std.proofs.Common.{◌≡◌, ℕ, zero, suc, ◌+◌, ◌<◌, ◌≤◌, List, ◌++◌, length, take, get_or, All, sym, ap, ◌∙◌, arith, codes}
-use Rattle.std.specs.List.{flat_map, range_with_len}
+use Rattle.machine_image.proofs.Vocabulary.{flat_map, range_with_len, get_or-append, flat_map-append, Shape, pins_of, Configuration}
 use Rattle.std.proofs.lemmas.List.{append_assoc, append-nil, take_more, length-append, flat_map_more, get_or-append-add}
-use Rattle.std.proofs.Math.ListN.{get_or-append}
-use Rattle.std.proofs.lemmas.Grind.{flat_map-append}
-use Rattle.machine_shape.specs.declared.Shape.{Shape}
-use Rattle.machine_shape.specs.Shape.{pins_of}
-use Rattle.machine_config.specs.Configuration.{Configuration}
 use Rattle.machine_image.specs.Vocabulary.{counts_of, ImageValue, IsImage, two, image_bytes, head_bytes, settings_bytes}
 use Rattle.machine_image.proofs.Whole.{few_apart}
 

@@ -1,7 +1,5 @@
 -- Which numbers are wrong in a field.
-use Rattle.std.proofs.Common.{◌≡◌, ℕ, List, ◌<◌, ◌≤◌, true, false, Some, None, arith, ◌≢◌, ◌==◌}
-use Rattle.std.proofs.lemmas.Bool.Decides.{nat_tests}
-use Rattle.std.specs.List.{list_any}
+use Rattle.machine_image.proofs.Vocabulary.{◌≡◌, ℕ, List, ◌<◌, ◌≤◌, true, false, Some, None, arith, ◌≢◌, ◌==◌, nat_tests, list_any}
 use Rattle.machine_image.specs.Faults.{pin_fault, magic_fault, count_fault, ticks_fault, most_fault, closed_fault, above_fault}
 use Rattle.machine_image.specs.declared.kind.ImageKind.TheVariants as kind
 

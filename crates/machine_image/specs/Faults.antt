@@ -1,8 +1,7 @@
 -- The first fault of the bytes of an image. The fields stand in order; each is faulty, or it is right and
 -- what is behind it is looked at.
 use Rattle.std.specs.Prelude.{◌≡◌, ℕ, zero, suc, ◌+◌, ◌^◌, ◌<◌, ◌==◌, ◌&&◌, nat_lt, nat_le, if◌then◌else◌, List, [], ◌∷◌, ◌++◌, length}
-use Rattle.std.specs.Prelude.{drop, codes, Option, Some, None}
-use Rattle.std.specs.List.{list_any}
+use Rattle.std.specs.{Prelude.drop, Prelude.codes, Prelude.Option, Prelude.Some, Prelude.None, List.list_any}
 use Rattle.byteorder.specs.Endian.{big_bytes, big_number}
 use Rattle.machine_shape.specs.declared.Shape.{Shape}
 use Rattle.machine_shape.specs.Vocabulary.{pins_of, tables_of, crosses_of, most_ticks, most_closed}

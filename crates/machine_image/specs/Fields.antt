@@ -1,11 +1,9 @@
 -- What is known when fields were read.
 use Rattle.std.specs.Prelude.{◌≡◌, ℕ, ◌+◌, ◌<◌, ◌≤◌, ◌==◌, Bool, false, Option, Some, None, List, ◌++◌, length, drop, slice_index_or}
 use Rattle.std.specs.List.{list_any}
-use Rattle.machine_image.specs.declared.kind.ImageKind.{ImageKind}
+use Rattle.machine_image.specs.{declared.kind.ImageKind.ImageKind, Faults.Stands}
 use Rattle.machine_image.specs.declared.kind.ImageKind.TheVariants as kind
-use Rattle.machine_image.specs.declared.kind.ImageFault.{ImageFault}
-use Rattle.machine_image.specs.declared.kind.ImageFault.TheVariants.{At, Memory}
-use Rattle.machine_image.specs.Faults.{Stands}
+use Rattle.machine_image.specs.declared.kind.ImageFault.{ImageFault, TheVariants.At, TheVariants.Memory}
 
 -- so many bytes don't stand at a place
 abbrev pub IsCut : ℕ → List ℕ → ℕ → ImageFault → Type 0

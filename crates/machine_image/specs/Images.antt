@@ -10,11 +10,8 @@ use Rattle.machine_shape.specs.Vocabulary.{pins_of, tables_of, crosses_of, most_
 use Rattle.machine_meaning.specs.Circuit.{Pins}
 use Rattle.machine_config.specs.declared.Setting.{Setting}
 use Rattle.machine_config.specs.Configuration.{Configuration, IsConfiguration, coded_configuration, is_closed, setting_of}
-use Rattle.machine_image.specs.declared.kind.ImageKind.{ImageKind}
-use Rattle.machine_image.specs.declared.kind.ImageKind.TheVariants.{Limit}
-use Rattle.machine_image.specs.declared.kind.ImageFault.{ImageFault}
-use Rattle.machine_image.specs.declared.kind.ImageFault.TheVariants.{At, Memory}
-use Rattle.machine_image.specs.Faults.{counts_of, InImage}
+use Rattle.machine_image.specs.{declared.kind.ImageKind.ImageKind, declared.kind.ImageFault.ImageFault, Faults.counts_of, Faults.InImage}
+use Rattle.machine_image.specs.declared.kind.{ImageKind.TheVariants.Limit, ImageFault.TheVariants.At, ImageFault.TheVariants.Memory}
 
 pub record ImageValue : Type 0 where
   pub config : Configuration

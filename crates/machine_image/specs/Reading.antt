@@ -4,12 +4,9 @@ use Rattle.std.specs.List.{flat_map}
 use Rattle.std.specs.FinSet as set
 use Rattle.machine_shape.specs.declared.Shape.{Shape}
 use Rattle.machine_shape.specs.Vocabulary.{pins_of, tables_of, crosses_of, most_ticks, most_closed}
-use Rattle.machine_config.specs.declared.Setting.{Setting}
-use Rattle.machine_config.specs.Configuration.{Configuration, is_closed, setting_of}
-use Rattle.machine_image.specs.declared.read.Head.{Head}
-use Rattle.machine_image.specs.Faults.{counts_of, InPins, InTables, InCrosses, InImage}
-use Rattle.machine_image.specs.Fields.{Passed}
-use Rattle.machine_image.specs.Images.{two, four, table_bytes, tables_on, closed_in}
+use Rattle.machine_config.specs.{declared.Setting.Setting, Configuration.Configuration, Configuration.is_closed, Configuration.setting_of}
+use Rattle.machine_image.specs.{declared.read.Head.Head, Faults.counts_of, Faults.InPins, Faults.InTables, Faults.InCrosses, Faults.InImage}
+use Rattle.machine_image.specs.{Fields.Passed, Images.two, Images.four, Images.table_bytes, Images.tables_on, Images.closed_in}
 
 -- what stands before the pins
 abbrev pub head_bytes : Shape → (ticks inputs outputs : ℕ) → List ℕ

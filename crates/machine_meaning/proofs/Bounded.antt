@@ -1,6 +1,5 @@
 -- What sound wires are joined to.
-use Rattle.std.proofs.Common.{◌≡◌, ℕ, Bool, true, Some, None, Option, refl}
-use Rattle.machine_shape.specs.declared.Shape.{Shape}
+use Rattle.machine_meaning.proofs.Vocabulary.{◌≡◌, ℕ, Bool, true, Some, None, Option, refl, Shape}
 use Rattle.machine_shape.specs.Shape.{Ends, ends_of}
 use Rattle.machine_meaning.specs.Vocabulary.{Faults, stuck_cross, Linked, crossed, bridged, Joined, here, then, net_of, IsSoundWire}
 

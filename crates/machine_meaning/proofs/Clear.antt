@@ -1,7 +1,5 @@
 -- A sound wire is shorted to no stuck wire, and to no other wire.
-use Rattle.std.proofs.Common.{◌≡◌, ◌≢◌, ℕ, None, sym, subst}
-use Rattle.machine_shape.specs.declared.Shape.{Shape}
-use Rattle.machine_meaning.specs.Vocabulary.{Faults, stuck_wire, Shorted, IsClear, IsSoundWire}
+use Rattle.machine_meaning.proofs.Vocabulary.{◌≡◌, ◌≢◌, ℕ, None, sym, subst, Shape, Faults, stuck_wire, Shorted, IsClear, IsSoundWire}
 
 pub clear_of_sound : {m : Shape} {f : Faults} {w : ℕ} → IsSoundWire m f w → IsClear m f w
 clear_of_sound {f = f} s u j = subst (λ v. stuck_wire f v ≡ None) (sym (s.alone u j)) s.not_stuck

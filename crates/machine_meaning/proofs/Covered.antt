@@ -1,6 +1,5 @@
 -- What free wires are joined to, over free crosspoints, where a list covers the faults.
-use Rattle.std.proofs.Common.{◌≡◌, ℕ, ◌<◌, Bool, true, Some, None, Option, refl, subst}
-use Rattle.machine_shape.specs.declared.Shape.{Shape}
+use Rattle.machine_meaning.proofs.Vocabulary.{◌≡◌, ℕ, ◌<◌, Bool, true, Some, None, Option, refl, subst, Shape}
 use Rattle.machine_shape.specs.Shape.{Ends, in_order, turned, ends_of, wires_of, crosses_of}
 use Rattle.machine_meaning.specs.Vocabulary.{Faults, stuck_cross, stuck_wire, Linked, crossed, bridged, Joined, here, then, Shorted, net_of, plain_net, Defects, IsFreeWire, IsFreeCross, Covers}
 use Rattle.machine_meaning.proofs.JoinedLemmas.{Ends-swap}

@@ -1,6 +1,5 @@
 -- What a fair list leaves free of served nodes.
-use Rattle.std.proofs.Common.{◌≡◌, ℕ, ◌<◌, sym, subst}
-use Rattle.machine_shape.specs.declared.Shape.{Shape}
+use Rattle.machine_meaning.proofs.Vocabulary.{◌≡◌, ℕ, ◌<◌, sym, subst, Shape}
 use Rattle.machine_shape.specs.Vocabulary.{IsNumbered, IsTree, HasMeanings, HasCrosses, HasParents, ends_of, pin_wire, table_wire, pins_of, wires_of, crosses_of, tables_of, node_of, hextant_of, IsLine, IsPort, is_line, is_port, HasHomes}
 use Rattle.machine_meaning.specs.Vocabulary.{Faults, IsSoundWire, IsSoundCross, IsSoundTable, IsWholeLine, HasTwo, IsServed, Defects, IsFreeWire, IsFreeTable, IsOpenLine, IsOfUse, IsFair, IsEmptyOf, HasServed}
 

@@ -1,7 +1,5 @@
 -- Without faults every wire is sound.
-use Rattle.std.proofs.Common.{◌≡◌, ℕ, false, refl, sym, ap, ◌∙◌, unwrap_or}
-use Rattle.std.proofs.lemmas.Bool.{false≢true}
-use Rattle.machine_shape.specs.declared.Shape.{Shape}
+use Rattle.machine_meaning.proofs.Vocabulary.{◌≡◌, ℕ, false, refl, sym, ap, ◌∙◌, unwrap_or, false≢true, Shape}
 use Rattle.machine_meaning.specs.Vocabulary.{Faults, IsFaultless, here, then, crossed, bridged, Shorted, IsSoundWire, Defects, Covers}
 use Rattle.machine_meaning.proofs.Clear.{clear_of_sound}
 

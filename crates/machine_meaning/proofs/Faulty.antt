@@ -1,7 +1,5 @@
 -- What a list that covers the faults has to list.
-use Rattle.std.proofs.Common.{◌≡◌, ◌≢◌, ℕ, ◌<◌, true, Option, None, refl, subst, IsSome}
-use Rattle.std.proofs.lemmas.Bool.{false≢true}
-use Rattle.machine_shape.specs.declared.Shape.{Shape}
+use Rattle.machine_meaning.proofs.Vocabulary.{◌≡◌, ◌≢◌, ℕ, ◌<◌, true, Option, None, refl, subst, IsSome, false≢true, Shape}
 use Rattle.machine_shape.specs.Shape.{in_order, wires_of, crosses_of, tables_of}
 use Rattle.machine_meaning.specs.Vocabulary.{Faults, stuck_wire, stuck_cross, wrong_cell, stuck_register, is_bridge, here, then, bridged, Defects, Covers, IsFreeWire, IsFreeCross, IsFreeTable}
 

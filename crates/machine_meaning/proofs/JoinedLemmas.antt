@@ -1,7 +1,5 @@
 -- Laws of joined wires.
-use Rattle.std.proofs.Common.{◌≡◌, ℕ, Bool, true, false, Some, None, Option, unwrap_or}
-use Rattle.std.proofs.lemmas.Bool.{false≢true}
-use Rattle.machine_shape.specs.declared.Shape.{Shape}
+use Rattle.machine_meaning.proofs.Vocabulary.{◌≡◌, ℕ, Bool, true, false, Some, None, Option, unwrap_or, false≢true, Shape}
 use Rattle.machine_shape.specs.Shape.{Ends, in_order, turned}
 use Rattle.machine_meaning.specs.Vocabulary.{Faults, stuck_cross, Net, Linked, crossed, bridged, Joined, here, then, net_of, Shorted}
 

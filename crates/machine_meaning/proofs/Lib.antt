@@ -13,3 +13,4 @@ mod Fairness
 mod Faulty
 mod Standing
 mod Tightness
+mod Vocabulary

@@ -1,6 +1,5 @@
 -- With more wires and crosspoints more stands, and more tables are seated.
-use Rattle.std.proofs.Common.{ℕ, ap, arith}
-use Rattle.machine_shape.specs.declared.Shape.{Shape}
+use Rattle.machine_meaning.proofs.Vocabulary.{ℕ, ap, arith, Shape}
 use Rattle.machine_shape.specs.Shape.{Ends, in_order, ends_of, table_wire, hextant_of}
 use Rattle.machine_meaning.specs.Standing.{StandsBy, pin_stands, on_two, StandsWithout, Meets, IsSeated}
 

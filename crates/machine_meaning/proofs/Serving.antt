@@ -1,6 +1,5 @@
 -- What is so in served nodes, and on machines without faults.
-use Rattle.std.proofs.Common.{◌≡◌, ◌≢◌, ◌⊎◌, ℕ, zero, suc, ◌<◌, Some, refl, sym, ap, ◌∙◌, subst, inl, inr, arith}
-use Rattle.machine_shape.specs.declared.Shape.{Shape}
+use Rattle.machine_meaning.proofs.Vocabulary.{◌≡◌, ◌≢◌, ◌⊎◌, ℕ, zero, suc, ◌<◌, Some, refl, sym, ap, ◌∙◌, subst, inl, inr, arith, Shape}
 use Rattle.machine_shape.specs.Vocabulary.{IsNumbered, IsTree, HasMeanings, HasCrosses, HasParents, HasMeetings, HasSites, ends_of, pin_wire, pins_of, wires_of, crosses_of, nodes_of, lines_of, own_ports_of, line_at, port_at, node_of, node_of_cross, parent_of, IsLine, IsTap, tap_pin, tap_port, IsAbove, itself, below, IsAmple}
 use Rattle.machine_meaning.specs.Vocabulary.{Faults, IsFaultless, IsSoundWire, IsSoundCross, IsWholeLine, HasTwo, IsServed, Defects, IsOfUse, IsFair, IsEmptyOf, HasServed}
 use Rattle.machine_shape.proofs.Ample.{two_of, two_pins}

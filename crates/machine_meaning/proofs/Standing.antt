@@ -1,6 +1,5 @@
 -- Parts of served nodes stand, and their tables are seated.
-use Rattle.std.proofs.Common.{◌≡◌, ◌≢◌, ◌⊎◌, ℕ, zero, suc, ◌<◌, Some, refl, sym, ap, ◌∙◌, subst, inl, inr, arith}
-use Rattle.machine_shape.specs.declared.Shape.{Shape}
+use Rattle.machine_meaning.proofs.Vocabulary.{◌≡◌, ◌≢◌, ◌⊎◌, ℕ, zero, suc, ◌<◌, Some, refl, sym, ap, ◌∙◌, subst, inl, inr, arith, Shape}
 use Rattle.machine_shape.specs.Vocabulary.{IsNumbered, IsTree, HasCrosses, HasParents, HasMeetings, Ends, in_order, ends_of, pin_wire, table_wire, pins_of, crosses_of, tables_of, nodes_of, hextant_of, parent_of, IsLine, IsPort, IsTap, tap_pin, tap_port, tap_child, tap_table, itself, HasHomes}
 use Rattle.machine_meaning.specs.Vocabulary.{Faults, IsSoundWire, IsSoundCross, IsSoundTable, IsWholeLine, HasTwo, IsServed, IsOfUse, HasServed, StandsBy, pin_stands, on_two, IsOutside, StandsWithout, Meets, IsSeated, IsSoundCrossOf, IsStanding, HasStandingParts}
 use Rattle.machine_meaning.proofs.JoinedLemmas.{Ends-swap}

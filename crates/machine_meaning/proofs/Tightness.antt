@@ -1,9 +1,8 @@
 -- What a tight list leaves free, and that nothing that could stand can be taken off it.
 use Rattle.std.proofs.Common.{◌≡◌, ◌⊎◌, ℕ, ◌<◌, Bool, true, false, Option, Some, None, refl, sym, ◌∙◌, subst, inl, inr, IsSome, unwrap_or}
-use Rattle.std.proofs.lemmas.Bool.{false≢true}
+use Rattle.machine_meaning.proofs.Vocabulary.{false≢true, Shape}
 use Rattle.std.specs.FinSet as set
 use native.Mathlib.Decide.{dec_lt}
-use Rattle.machine_shape.specs.declared.Shape.{Shape}
 use Rattle.machine_shape.specs.Vocabulary.{IsNumbered, Ends, in_order, turned, ends_of, pin_wire, table_wire, wires_of, crosses_of, tables_of, node_of, IsLine, IsTap, HasHomes}
 use Rattle.machine_meaning.specs.Vocabulary.{Faults, AreFaultsOf, stuck_cross, Linked, crossed, bridged, Joined, here, Shorted, net_of, IsSoundWire, IsSoundTable, IsServed, Defects, IsFreeWire, IsFreeCross, IsFreeTable, IsClear, IsOfUse, IsFair, Covers, AreDefectsOf, pin_stands, on_two, IsSeated, IsSoundCrossOf, IsStanding, HasStandingParts, IsFreeWireOf, IsFreeCrossOf, IsAlone, two, IsTight, CouldStand, as_pin, on_feet, IsTakenOff, IsLeast, HasOneFree}
 use Rattle.machine_meaning.proofs.JoinedLemmas.{Ends-swap, Joined-sym, Joined-trans}

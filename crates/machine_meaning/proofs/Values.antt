@@ -1,7 +1,6 @@
 -- Laws of the value of a wire.
-use Rattle.std.proofs.Common.{◌≡◌, ℕ, Bool, true, false, refl}
+use Rattle.machine_meaning.proofs.Vocabulary.{◌≡◌, ℕ, Bool, true, false, refl, false≢true}
 use Rattle.std.proofs.Math.Path.{fun_ext}
-use Rattle.std.proofs.lemmas.Bool.{false≢true}
 use Rattle.machine_meaning.specs.Vocabulary.{Joined, Circuit, Outputs, Pins, IsHeld, IsPulled, IsValue, held_0, held_1, pulled, released, AreValues}
 use Rattle.machine_meaning.proofs.JoinedLemmas.{Joined-trans, Joined-sym}
 

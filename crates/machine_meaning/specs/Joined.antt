@@ -1,7 +1,6 @@
 -- Which wires are joined, and which are shorted.
 use Rattle.std.specs.Prelude.{◌≡◌, ℕ, Bool, true, false, List, [], ◌∷◌, unwrap_or}
-use Rattle.machine_shape.specs.declared.Shape.{Shape}
-use Rattle.machine_shape.specs.Shape.{Ends, ends_of}
+use Rattle.machine_shape.specs.{declared.Shape.Shape, Shape.Ends, Shape.ends_of}
 use Rattle.machine_meaning.specs.Faults.{Faults, stuck_cross, is_bridge}
 
 -- how the wires hang together: which crosspoints conduct, and which pairs of wires are bridges

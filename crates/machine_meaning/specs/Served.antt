@@ -3,8 +3,7 @@ use Rattle.std.specs.Prelude.{◌≡◌, ℕ, ◌<◌, Some, false}
 use Rattle.std.specs.FinSet as set
 use Rattle.machine_shape.specs.declared.Shape.{Shape}
 use Rattle.machine_shape.specs.Vocabulary.{IsAmple, wires_of, crosses_of, tables_of, nodes_of, parent_of, IsLine, IsTap}
-use Rattle.machine_meaning.specs.Faults.{Faults, IsFaultless}
-use Rattle.machine_meaning.specs.Sound.{IsSoundWire, IsWholeLine, HasTwo, IsServed}
+use Rattle.machine_meaning.specs.{Faults.Faults, Faults.IsFaultless, Sound.IsSoundWire, Sound.IsWholeLine, Sound.HasTwo, Sound.IsServed}
 use Rattle.machine_meaning.specs.Defects.{Defects, IsOfUse, IsFair}
 
 -- nothing of the machine is listed

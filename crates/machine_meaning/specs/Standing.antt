@@ -2,9 +2,8 @@
 use Rattle.std.specs.Prelude.{◌≡◌, ◌≢◌, ℕ, ◌<◌}
 use Rattle.machine_shape.specs.declared.Shape.{Shape}
 use Rattle.machine_shape.specs.Shape.{Ends, ends_of, pin_wire, table_wire, pins_of, crosses_of, tables_of, hextant_of, IsLine, IsPort, IsTap}
-use Rattle.machine_meaning.specs.Faults.{Faults}
+use Rattle.machine_meaning.specs.{Faults.Faults, Defects.IsOfUse}
 use Rattle.machine_meaning.specs.Sound.{IsSoundWire, IsSoundCross, IsSoundTable, IsWholeLine, IsServed}
-use Rattle.machine_meaning.specs.Defects.{IsOfUse}
 
 -- Of these wires, those that stand by these crosspoints: the pins of the machine, and each wire that two of these crosspoints
 -- lead from to two different wires that stand.

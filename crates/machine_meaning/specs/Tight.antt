@@ -3,10 +3,8 @@ use Rattle.std.specs.Prelude.{◌≡◌, ◌≢◌, ℕ, ◌<◌, true, None}
 use Rattle.std.specs.FinSet as set
 use Rattle.machine_shape.specs.declared.Shape.{Shape}
 use Rattle.machine_shape.specs.Shape.{Ends, ends_of, pin_wire, pins_of, wires_of, crosses_of, tables_of}
-use Rattle.machine_meaning.specs.Faults.{Faults, stuck_cross, wrong_cell, stuck_register}
-use Rattle.machine_meaning.specs.Joined.{Shorted}
-use Rattle.machine_meaning.specs.Defects.{Defects, IsFreeWire, IsFreeCross, IsClear, Covers}
-use Rattle.machine_meaning.specs.Standing.{IsSeated}
+use Rattle.machine_meaning.specs.{Faults.Faults, Faults.stuck_cross, Faults.wrong_cell, Faults.stuck_register, Standing.IsSeated}
+use Rattle.machine_meaning.specs.{Joined.Shorted, Defects.Defects, Defects.IsFreeWire, Defects.IsFreeCross, Defects.IsClear, Defects.Covers}
 
 -- the free wires and crosspoints of the machine
 abbrev pub IsFreeWireOf : Shape → Defects → ℕ → Type 0

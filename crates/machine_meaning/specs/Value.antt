@@ -1,8 +1,7 @@
 -- The value of a wire.
 use Rattle.std.specs.Prelude.{◌≡◌, ℕ, ◌<◌, ◌≤◌, Bool, true, false, Some, None, slice_index_or}
 use Rattle.machine_shape.specs.Shape.{pin_wire, table_wire, pins_of, wires_of, crosses_of, tables_of}
-use Rattle.machine_meaning.specs.Joined.{Linked, Joined}
-use Rattle.machine_meaning.specs.Circuit.{Circuit, Outputs, Pins}
+use Rattle.machine_meaning.specs.{Joined.Linked, Joined.Joined, Circuit.Circuit, Circuit.Outputs, Circuit.Pins}
 
 -- a pin of the machine that is driven 0, or the output pin of a table that gives 0
 pub data Pulls (c : Circuit) (drive : Pins) (outputs : Outputs) (w : ℕ) : Type 0 where

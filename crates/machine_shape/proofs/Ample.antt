@@ -1,6 +1,5 @@
 -- A machine with two pins, and two ports and two lines at each level.
-use Rattle.std.proofs.Common.{ℕ, suc, ◌<◌, [], ◌∷◌, arith}
-use Rattle.machine_shape.specs.declared.Shape.{Shape}
+use Rattle.machine_shape.proofs.Vocabulary.{ℕ, suc, ◌<◌, [], ◌∷◌, arith, Shape}
 use Rattle.machine_shape.specs.Vocabulary.{AreAmple, IsAmple, Levels, Path, rest, IsSpot, stop, step, ports_in, lines_in, levels_of, nodes_of, pins_of, lines_of, ports_of}
 use Rattle.machine_shape.proofs.Ways.{IsNode}
 use Rattle.machine_shape.proofs.Numbering.{way_is, root_is_node}

@@ -1,10 +1,7 @@
 -- Crossbars as the code keeps them.
 use Rattle.std.proofs.Common.{◌≡◌, ℕ, suc, ◌+◌, ◌*◌, ◌/◌, ◌%◌, ◌-◌, ◌<◌, ◌≤◌, ◌^◌, ltb, [], ◌∷◌, length, drop, refl, sym, ap, ◌∙◌, subst, arith}
-use Rattle.std.proofs.Math.Logic.{⊎_elim}
-use Rattle.std.proofs.lemmas.Bool.{cases_lt, lt-ltb, le-ltb, cond-true, cond-false}
+use Rattle.machine_shape.proofs.Vocabulary.{⊎_elim, cases_lt, lt-ltb, le-ltb, cond-true, cond-false, Shape, Crossbar}
 use Rattle.std.proofs.lemmas.Nat.{div-mul-add, mod-mul-add, div-add-mod', div_below, mod_below, row_fits}
-use Rattle.machine_shape.specs.declared.Shape.{Shape}
-use Rattle.machine_shape.specs.declared.way.Crossbar.{Crossbar}
 use Rattle.machine_shape.specs.Vocabulary.{AreFull, IsBarAt, IsBarFrom, IsNodeBar, FitsBelow, tap_by, Levels, Path, rest, IsSpot, stop, step, size, start, next, children_in, ports_in, lines_in, wires_in, taps_in, nodes_in, tap_in, levels_of, wires_of, nodes_of, way_to, ports_of, lines_of, taps_of, tap_at, line_at, port_at}
 use Rattle.machine_shape.proofs.Taps.{positive_from, ports_in_size, tap_in-own, tap_in-below}
 use Rattle.machine_shape.proofs.Ways.{start_more}

@@ -1,10 +1,6 @@
 -- Names and numbers are one to one.
 use Rattle.std.proofs.Common.{◌≡◌, ◌≢◌, ◌⊎◌, ℕ, suc, ◌+◌, ◌-◌, ◌^◌, ◌<◌, ◌≤◌, Bool, true, false, Option, Some, None, List, [], ◌∷◌, ◌++◌, length, take, drop, get_or, refl, sym, ap, ◌∙◌, subst, arith, inl, inr, append_assoc, All, ◌==◌, nat_lt, if◌then◌else◌, IfNone}
-use Rattle.std.specs.Fmt.{decimal}
-use Rattle.std.specs.List.{position_or_len}
-use Rattle.std.proofs.Math.Seq.{take-append_seam, drop-append_seam}
-use Rattle.std.proofs.lemmas.Fmt.{decimal_injective}
-use Rattle.machine_shape.specs.declared.Shape.{Shape}
+use Rattle.machine_shape.proofs.Vocabulary.{decimal, position_or_len, take-append_seam, drop-append_seam, decimal_injective, Shape}
 use Rattle.machine_shape.specs.Vocabulary.{Levels, Path, Place, IsPlaceOf, IsSpot, step, rest, start, wires_in, levels_of, wires_of, place_of, numbered, steps_name, inner_letters, way_name, part_name, place_name, wire_name, NoDot, way_text, IsRead, IsReadable}
 use Rattle.machine_shape.proofs.Walks.{place_from}
 use Rattle.machine_shape.proofs.Running.{own_small, place_own}

@@ -1,8 +1,6 @@
 -- The names of tables.
 use Rattle.std.proofs.Common.{◌≡◌, ℕ, suc, ◌+◌, ◌*◌, ◌<◌, List, [], ◌∷◌, ◌++◌, length, drop, get_or, refl, sym, ap, ◌∙◌, subst, arith, length-append}
-use Rattle.std.proofs.lemmas.List.{append-nil}
-use Rattle.machine_shape.specs.declared.Level.{Level}
-use Rattle.machine_shape.specs.declared.Shape.{Shape}
+use Rattle.machine_shape.proofs.Vocabulary.{append-nil, Level, Shape}
 use Rattle.machine_shape.specs.Vocabulary.{Levels, Path, IsSpot, stop, step, rest, next, size, start, trunk, children_in, tables_in, levels_of, tables_of, way_to_table, numbered, way_name, table_name, NoDot, way_text, IsRead, IsReadable}
 use Rattle.machine_shape.proofs.Ways.{step_more, start_more, trunk_last, trunk_is_spot}
 use Rattle.machine_shape.proofs.Numbering.{table_way_is, root_is_node}

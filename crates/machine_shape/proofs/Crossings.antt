@@ -1,10 +1,6 @@
 -- Crosspoints, taps and lines.
-use Rattle.std.proofs.Common.{◌≡◌, ℕ, ◌+◌, ◌*◌, ◌/◌, ◌%◌, ◌<◌, refl, sym, ap, ◌∙◌, subst, arith}
-use Rattle.std.proofs.Math.Logic.{⊎_elim}
-use Rattle.std.proofs.Math.Nat.{mul_comm}
-use Rattle.std.proofs.lemmas.Bool.{cases_order}
-use Rattle.std.proofs.lemmas.Nat.{div-mul-add, mod-mul-add, mul-add-lt, div-add-mod', div_below, mod_below}
-use Rattle.machine_shape.specs.declared.Shape.{Shape}
+use Rattle.machine_shape.proofs.Vocabulary.{◌≡◌, ℕ, ◌+◌, ◌*◌, ◌/◌, ◌%◌, ◌<◌, refl, sym, ap, ◌∙◌, subst, arith, ⊎_elim, mul_comm}
+use Rattle.machine_shape.proofs.Vocabulary.{cases_order, div-mul-add, mod-mul-add, mul-add-lt, div-add-mod', div_below, mod_below, Shape}
 use Rattle.machine_shape.specs.Vocabulary.{rest, start, IsPlaceOf, lines_in, wires_in, taps_in, crosses_in, Ends, in_order, turned, levels_of, wires_of, crosses_of, nodes_of, way_to, node_at, place_of_cross, ports_of, lines_of, taps_of, line_at, tap_at, cross_at, node_of_cross, tap_position, line_position, ends_of}
 use Rattle.machine_shape.proofs.Walks.{place_from, placed}
 use Rattle.machine_shape.proofs.Ways.{place_unique, node_has}

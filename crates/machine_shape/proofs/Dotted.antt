@@ -1,14 +1,8 @@
 -- Words between dots.
 use Rattle.std.proofs.Common.{◌≡◌, ◌≢◌, ℕ, ◌+◌, ◌%◌, ◌^◌, ◌<◌, ◌≤◌, Bool, true, false, Some, None, ltb, List, [], ◌∷◌, ◌++◌, length, take, drop, refl, sym, ap, ◌∙◌, subst, arith, append_assoc, length-append, ◌==◌}
-use Rattle.std.specs.List.{position, position_or_len}
-use Rattle.std.specs.Fmt.{decimal}
-use Rattle.std.proofs.lemmas.Bool.Decides.{nat_tests}
-use Rattle.std.proofs.Math.Logic.{⊎_elim}
-use Rattle.std.proofs.Math.Seq.{take-append_seam, drop-append_seam}
-use Rattle.std.proofs.lemmas.Bool.{cases_lt, lt-ltb, le-ltb, cond-true, cond-false}
+use Rattle.machine_shape.proofs.Vocabulary.{position, position_or_len, decimal, nat_tests, ⊎_elim, take-append_seam, drop-append_seam}
+use Rattle.machine_shape.proofs.Vocabulary.{cases_lt, lt-ltb, le-ltb, cond-true, cond-false, decimal_by_steps, numbered, NoDot}
 use Rattle.std.proofs.lemmas.List.Sums.{split_at_first, passes_at_first}
-use Rattle.std.proofs.lemmas.Fmt.{decimal_by_steps}
-use Rattle.machine_shape.specs.Vocabulary.{numbered, NoDot}
 
 abbrev pub is_dot : ℕ → Bool
 is_dot b = b == 46

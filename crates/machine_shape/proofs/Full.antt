@@ -1,9 +1,6 @@
 -- Counts without a 0.
 use Rattle.std.proofs.Common.{◌≡◌, ℕ, zero, suc, ◌<◌, ◌≤◌, false, nat_eq, List, [], ◌∷◌, length, get_or, arith}
-use Rattle.std.proofs.lemmas.Bool.Decides.{nat_tests}
-use Rattle.std.proofs.Math.Nat.{mul-le-mul_left}
-use Rattle.machine_shape.specs.declared.Counts.{Counts}
-use Rattle.machine_shape.specs.declared.Level.{Level}
+use Rattle.machine_shape.proofs.Vocabulary.{nat_tests, mul-le-mul_left, Counts, Level}
 use Rattle.machine_shape.specs.declared.Field.{Field}
 use Rattle.machine_shape.specs.declared.Field.TheVariants.{Modules, Chips, Hextants, Tables, Ports, Lines, Pins}
 use Rattle.machine_shape.specs.Vocabulary.{levels_from, AreFull, IsFull, HasZero, Levels, size, wires_in, nodes_in}

@@ -1,7 +1,6 @@
 -- Hextants are below the root.
 use Rattle.std.proofs.Common.{◌≡◌, ◌≢◌, ℕ, ◌<◌, [], ◌∷◌, length, length-append, refl, ap, ◌∙◌, arith}
-use Rattle.machine_shape.specs.declared.Shape.{Shape}
-use Rattle.machine_shape.specs.Vocabulary.{trunk, levels_of, tables_of, hextant_of, way_to, way_to_table}
+use Rattle.machine_shape.proofs.Vocabulary.{Shape, trunk, levels_of, tables_of, hextant_of, way_to, way_to_table}
 use Rattle.machine_shape.proofs.Ways.{trunk_last, trunk_is_spot}
 use Rattle.machine_shape.proofs.Numbering.{way-node, table_way_is, way_to-root, root_is_node, trunk_in}
 use Rattle.machine_shape.proofs.Tapped.{hextant_of-way}

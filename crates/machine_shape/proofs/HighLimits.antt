@@ -1,11 +1,8 @@
 -- What a small shape keeps, and how high the limits are that go by the shape.
 use Rattle.std.proofs.Common.{◌≡◌, ℕ, ◌≤◌, ◌&&◌, Bool, true, false, if◌then◌else◌, nat_le, arith}
-use Rattle.std.proofs.lemmas.Bool.{and_parts, and_from, leb-true, le-leb, cases_Bool}
-use Rattle.std.proofs.Math.Logic.{⊎_elim}
-use Rattle.machine_shape.specs.declared.Counts.{Counts}
+use Rattle.machine_shape.proofs.Vocabulary.{and_parts, and_from, leb-true, le-leb, cases_Bool, ⊎_elim, Counts, Shape}
 use Rattle.machine_shape.specs.declared.LimitedCount.{LimitedCount}
 use Rattle.machine_shape.specs.declared.LimitedCount.TheVariants as which
-use Rattle.machine_shape.specs.declared.Shape.{Shape}
 use Rattle.machine_shape.specs.Vocabulary.{HasHighLimits, amount_of, most_of_large, most_of_small, is_small, levels_from, most_closed, most_faults, most_repaired, most_text, most_ticks}
 use Rattle.machine_shape.proofs.Taps.{ports_in_size}
 

@@ -1,6 +1,5 @@
 -- Each wire is a tap or a line of its node, and none is both.
-use Rattle.std.proofs.Common.{◌≡◌, ◌⊎◌, ℕ, ◌<◌, sym, ap, ◌∙◌, subst, inl, inr, arith}
-use Rattle.machine_shape.specs.declared.Shape.{Shape}
+use Rattle.machine_shape.proofs.Vocabulary.{◌≡◌, ◌⊎◌, ℕ, ◌<◌, sym, ap, ◌∙◌, subst, inl, inr, arith, Shape}
 use Rattle.machine_shape.specs.Vocabulary.{IsTree, HasHomes, HasMeanings, HasParents, HasMeetings, ends_of, wires_of, crosses_of, nodes_of, node_of, node_of_cross, IsLine, IsPort, IsTap, tap_pin, tap_port, tap_child, tap_table, Meaning, Means, is_pin, is_line, is_port, is_table_pin}
 use Rattle.machine_shape.proofs.Meanings.{IsLine-at, IsPort-at}
 use Rattle.machine_shape.proofs.Totals.{nodes_are}

@@ -1,6 +1,5 @@
 -- Crosspoints stand in rows.
-use Rattle.std.proofs.Common.{◌≡◌, ℕ, ◌+◌, ◌*◌, ◌<◌, refl, sym, ap, ◌∙◌, subst, arith}
-use Rattle.machine_shape.specs.declared.Shape.{Shape}
+use Rattle.machine_shape.proofs.Vocabulary.{◌≡◌, ℕ, ◌+◌, ◌*◌, ◌<◌, refl, sym, ap, ◌∙◌, subst, arith, Shape}
 use Rattle.machine_shape.specs.Vocabulary.{start, crosses_in, levels_of, way_to, crosses_of, lines_of, line_at, port_at, cross_at, node_of_cross, ends_of, first_cross_of, HasRows}
 use Rattle.machine_shape.proofs.Crossings as crossings
 

@@ -35,3 +35,4 @@ mod OneName
 mod TapsAndLines
 mod PartNames
 mod Sums
+mod Vocabulary

@@ -1,8 +1,6 @@
 -- Each wire has one meaning.
 use Rattle.std.proofs.Common.{◌≡◌, ◌≢◌, ℕ, ◌+◌, ◌-◌, ◌<◌, ◌≤◌, [], ◌∷◌, length, refl, sym, ap, ◌∙◌, subst, arith}
-use Rattle.std.proofs.Math.Logic.{⊎_elim}
-use Rattle.std.proofs.lemmas.Bool.{cases_lt}
-use Rattle.machine_shape.specs.declared.Shape.{Shape}
+use Rattle.machine_shape.proofs.Vocabulary.{⊎_elim, cases_lt, Shape}
 use Rattle.machine_shape.specs.Vocabulary.{Path, rest, IsSpot, start, Place, IsPlaceOf, ports_in, lines_in, wires_in, tables_in, levels_of, wires_of, nodes_of, tables_of, pins_of, way_to, way_to_table, node_at, ports_of, lines_of, pin_wire, table_wire, port_at, line_at, IsLine, IsPort, Meaning, Pin, Line, Port, TablePin, Means, is_pin, is_line, is_port, is_table_pin}
 use Rattle.machine_shape.proofs.Walks.{placed}
 use Rattle.machine_shape.proofs.Ways.{IsNode, way_table, ends_at, below_the_root, place_unique}

@@ -1,7 +1,6 @@
 -- A tap and a line that meet, as the code finds their crosspoint.
 use Rattle.std.proofs.Common.{◌≡◌, ℕ, ◌+◌, ◌*◌, ◌/◌, ◌%◌, ◌-◌, ◌<◌, ◌≤◌, [], ◌∷◌, refl, sym, ap, ◌∙◌, subst, arith}
-use Rattle.machine_shape.specs.declared.Shape.{Shape}
-use Rattle.machine_shape.specs.declared.way.Crossbar.{Crossbar}
+use Rattle.machine_shape.proofs.Vocabulary.{Shape, Crossbar}
 use Rattle.machine_shape.specs.Vocabulary.{AreFull, IsBarAt, IsNodeBar, FitsBelow, tap_by, Levels, rest, start, size, next, lines_in, wires_in, crosses_in, levels_of, wires_of, crosses_of, nodes_of, way_to, node_at, place_of, place_of_cross, ports_of, lines_of, taps_of, tap_at, line_at, cross_at, node_of_cross, tap_position, line_position, ends_of}
 use Rattle.machine_shape.proofs.Walks.{place_from}
 use Rattle.machine_shape.proofs.Ways.{node_has}

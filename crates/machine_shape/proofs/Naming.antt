@@ -1,7 +1,6 @@
 -- Names, of which every number has at most seven digits.
 use Rattle.std.proofs.Common.{◌≡◌, ℕ, zero, suc, ◌<◌, ◌≤◌, List, [], ◌∷◌, ◌++◌, length, get_or, refl, sym, ap, ◌∙◌, arith, append_assoc, All}
-use Rattle.std.proofs.Math.Nat.{le-mul_of_pos_right}
-use Rattle.machine_shape.specs.declared.Shape.{Shape}
+use Rattle.machine_shape.proofs.Vocabulary.{le-mul_of_pos_right, Shape}
 use Rattle.machine_shape.specs.Vocabulary.{AreFull, Levels, Path, IsSpot, stop, step, rest, size, start, wires_in, levels_of, wires_of, nodes_of, tables_of, way_to, way_to_table, place_of, way_name, port_letter, part_name, place_name, node_name, table_name, wire_name}
 use Rattle.machine_shape.proofs.Running.{start_small}
 use Rattle.machine_shape.proofs.Sites.{full_of}

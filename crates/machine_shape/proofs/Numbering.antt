@@ -1,8 +1,6 @@
 -- The numbering of wires and nodes is sound.
 use Rattle.std.proofs.Common.{◌≡◌, ℕ, zero, suc, ◌+◌, ◌<◌, ltb, [], ◌∷◌, length, Some, None, refl, sym, ap, ◌∙◌, subst, arith}
-use Rattle.std.proofs.Math.Logic.{⊎_elim}
-use Rattle.std.proofs.lemmas.Bool.{cases_lt, lt-ltb, le-ltb, cond-true, cond-false}
-use Rattle.machine_shape.specs.declared.Shape.{Shape}
+use Rattle.machine_shape.proofs.Vocabulary.{⊎_elim, cases_lt, lt-ltb, le-ltb, cond-true, cond-false, Shape}
 use Rattle.machine_shape.specs.Vocabulary.{levels_from, Path, rest, IsSpot, stop, start, place_in, Place, IsPlaceOf, above, trunk, ports_in, wires_in, tables_in, levels_of, wires_of, nodes_of, tables_of, pins_of, way_to, way_to_table, node_at, place_of, ports_of, lines_of, pin_wire, table_wire, port_at, line_at, node_of, IsLine, IsPort, parent_in, parent_of, IsAbove, itself, below}
 use Rattle.machine_shape.proofs.Walks.{place_from, placed}
 use Rattle.machine_shape.proofs.Ways.{IsNode, node_way, way_node, table_way, no_table_is_node, place_unique, trunk-node, trunk_is_spot, trunk_is_node, above_is_spot, above_is_node, length-above}

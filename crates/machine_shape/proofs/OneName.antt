@@ -1,11 +1,7 @@
 -- What wires are called, and that names tell numbers apart.
 use Rattle.std.proofs.Common.{◌≡◌, ◌≢◌, ℕ, ◌+◌, ◌-◌, ◌^◌, ◌<◌, ◌≤◌, Bool, true, false, ltb, List, [], ◌∷◌, ◌++◌, length, get_or, refl, sym, ap, ◌∙◌, arith, ◌==◌}
-use Rattle.std.specs.Fmt.{decimal}
-use Rattle.std.proofs.Math.Logic.{⊎_elim}
+use Rattle.machine_shape.proofs.Vocabulary.{decimal, ⊎_elim, nat_tests, decimal_injective, Shape}
 use Rattle.std.proofs.lemmas.Bool.{cases_lt, lt-ltb, le-ltb, cond-true, cond-false}
-use Rattle.std.proofs.lemmas.Bool.Decides.{nat_tests}
-use Rattle.std.proofs.lemmas.Fmt.{decimal_injective}
-use Rattle.machine_shape.specs.declared.Shape.{Shape}
 use Rattle.machine_shape.specs.Vocabulary.{Levels, Path, Place, IsPlaceOf, IsSpot, rest, start, ports_in, wires_in, nodes_in, tables_in, levels_of, wires_of, nodes_of, tables_of, pins_of, way_to, way_to_table, place_of, ports_of, lines_of, pin_wire, table_wire, port_at, line_at, node_at, numbered, way_name, port_letter, part_name, place_name, node_name, table_name, wire_name, NoDot}
 use Rattle.machine_shape.proofs.Walks.{place_from}
 use Rattle.machine_shape.proofs.Numbering.{way_is, table_way_is, way_to-root, node_at-root, line_is, port_is, pin_is, table_pin_is}

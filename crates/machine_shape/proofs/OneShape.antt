@@ -1,8 +1,6 @@
 -- A shape is what its counts are.
-use Rattle.std.proofs.Common.{◌≡◌, ◌≤◌, false, ap, subst}
+use Rattle.machine_shape.proofs.Vocabulary.{◌≡◌, ◌≤◌, false, ap, subst, Counts, Shape}
 use Rattle.std.proofs.Math.Bridge.{le_prop}
-use Rattle.machine_shape.specs.declared.Counts.{Counts}
-use Rattle.machine_shape.specs.declared.Shape.{Shape}
 use Rattle.machine_shape.specs.Vocabulary.{levels_from, IsFull, is_small, size, tables_in, wires_in, crosses_in, nodes_in}
 
 -- what holds of the counts of a shape

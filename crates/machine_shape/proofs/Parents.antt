@@ -1,6 +1,5 @@
 -- The nodes above nodes, and the nodes of tables and pins.
-use Rattle.std.proofs.Common.{◌≡◌, ℕ, ◌<◌, [], ◌∷◌, ◌++◌, Some, None, refl, sym, ap, ◌∙◌, subst, arith}
-use Rattle.machine_shape.specs.declared.Shape.{Shape}
+use Rattle.machine_shape.proofs.Vocabulary.{◌≡◌, ℕ, ◌<◌, [], ◌∷◌, ◌++◌, Some, None, refl, sym, ap, ◌∙◌, subst, arith, Shape}
 use Rattle.machine_shape.specs.Vocabulary.{Path, IsSpot, stop, start, above, nodes_in, levels_of, nodes_of, tables_of, pins_of, way_to, way_to_table, node_at, pin_wire, table_wire, parent_in, parent_of, node_of, hextant_of}
 use Rattle.machine_shape.proofs.Ways.{above_is_spot, above_is_node, start_more, trunk_is_spot, trunk-node}
 use Rattle.machine_shape.proofs.Numbering.{way_is, way-node, table_way_is, way_to-root, node_at-root, root_is_node, trunk_in, node_of-place, pin_is, table_pin_is}

@@ -1,10 +1,7 @@
 -- The names of nodes and tables by the names above them.
 use Rattle.std.proofs.Common.{◌≡◌, ℕ, ◌+◌, ◌*◌, ◌/◌, ◌%◌, ◌<◌, Some, List, [], ◌∷◌, ◌++◌, length, refl, sym, ap, ◌∙◌, subst, arith, append_assoc, length-append}
-use Rattle.std.proofs.lemmas.List.{append-nil}
-use Rattle.std.proofs.lemmas.Nat.{mod-mul-add, div-mul-add}
-use Rattle.std.proofs.Math.Nat.{mul_assoc}
-use Rattle.std.proofs.Math.ListN.{drop_of_length-le}
-use Rattle.machine_shape.specs.declared.Shape.{Shape}
+use Rattle.machine_shape.proofs.Vocabulary.{append-nil, mod-mul-add, div-mul-add, Shape}
+use Rattle.std.proofs.Math.{Nat.mul_assoc, ListN.drop_of_length-le}
 use Rattle.machine_shape.specs.Vocabulary.{levels_from, Levels, Path, IsSpot, stop, step, rest, next, size, start, trunk, children_in, nodes_in, tables_in, numbered, way_name, node_name, table_name, child_at, HasPartNames, levels_of, tables_of, way_to, way_to_table, node_at, hextant_of, parent_of}
 use Rattle.machine_shape.proofs.Ways.{step_more, start_more, trunk_last, trunk_is_spot}
 use Rattle.machine_shape.proofs.Numbering.{way_is, way-node, table_way_is, way_to-root, root_is_node, trunk_in}

@@ -1,9 +1,7 @@
 -- Names are words: they have bytes, and none of these is a blank, a bad byte, the end of a line or the beginning of a
 -- comment.
 use Rattle.std.proofs.Common.{◌<◌, ◌^◌, ◌-◌, ◌+◌, ◌%◌, ℕ, Bool, true, false, List, [], ◌∷◌, ◌++◌, length, sym, subst, arith, if◌then◌else◌, nat_lt, length-append, suc, All, ◌==◌}
-use Rattle.std.specs.Fmt.{decimal}
-use Rattle.std.proofs.lemmas.Fmt.{decimal_by_steps}
-use Rattle.machine_shape.specs.declared.Shape.{Shape}
+use Rattle.machine_shape.proofs.Vocabulary.{decimal, decimal_by_steps, Shape}
 use Rattle.machine_shape.specs.Vocabulary.{levels_of, place_of, way_to_table, wires_of, tables_of, numbered, inner_letters, steps_name, way_name, port_letter, part_name, wire_name, table_name, Levels, Path, rest}
 use Rattle.machine_shape.proofs.Naming.{wire_steps, table_steps, wire_name-place, table_name-way}
 

@@ -1,7 +1,6 @@
 -- Reading the words of a way one by one.
 use Rattle.std.proofs.Common.{◌≡◌, ℕ, ◌+◌, ◌^◌, ◌<◌, ◌≤◌, List, [], ◌∷◌, ◌++◌, length, take, drop, get_or, sym, ap, ◌∙◌, subst, arith}
-use Rattle.std.proofs.lemmas.List.{length-drop, drop-drop}
-use Rattle.machine_shape.specs.declared.Level.{Level}
+use Rattle.machine_shape.proofs.Vocabulary.{length-drop, drop-drop, Level}
 use Rattle.machine_shape.specs.Vocabulary.{Levels, Path, IsSpot, step, numbered, NoDot, way_text, IsRead, IsReadable}
 use Rattle.machine_shape.proofs.Running.{after_first, after_first-cons}
 use Rattle.machine_shape.proofs.Dotted.{IsDotAt, no_dot-numbered, not_both, dot_after}

@@ -1,8 +1,6 @@
 -- The levels below the first, as the code reaches them.
 use Rattle.std.proofs.Common.{◌≡◌, ℕ, zero, suc, ◌+◌, ◌-◌, ◌<◌, ◌≤◌, List, [], ◌∷◌, length, take, drop, get_or, refl, ap, ◌∙◌, arith}
-use Rattle.std.proofs.Math.Nat.{le-mul_of_pos_right}
-use Rattle.std.proofs.Math.Seq.{take-length}
-use Rattle.std.proofs.lemmas.Nat.{row_fits}
+use Rattle.machine_shape.proofs.Vocabulary.{le-mul_of_pos_right, take-length, row_fits}
 use Rattle.machine_shape.specs.Vocabulary.{AreFull, Levels, Path, Own, IsSpot, stop, step, size, start, place_in, taps_in, crosses_in}
 use Rattle.machine_shape.proofs.Walks.{first_place}
 

@@ -1,10 +1,6 @@
 -- How long the names of wires and tables are at most: what has many digits at one step has few at the others.
 use Rattle.std.proofs.Common.{◌≡◌, ℕ, zero, suc, ◌+◌, ◌-◌, ◌*◌, ◌^◌, ◌<◌, ◌≤◌, ◌==◌, Bool, true, false, nat_lt, if◌then◌else◌, List, [], ◌∷◌, ◌++◌, length, get_or, refl, sym, ap, ◌∙◌, subst, inl, inr, ◌⊎◌, arith, length-append, le_trans, lt_trans, le_refl, mul-le-mul, mul_assoc, one-mul, le_of_eq, pow-add, All}
-use Rattle.std.specs.Fmt.{decimal}
-use Rattle.std.proofs.lemmas.Fmt.{decimal_nonempty, length-decimal-le}
-use Rattle.std.proofs.lemmas.Bool.{cases_lt}
-use Rattle.std.proofs.Math.Nat.{pow-le-pow_right}
-use Rattle.machine_shape.specs.declared.Shape.{Shape}
+use Rattle.machine_shape.proofs.Vocabulary.{decimal, decimal_nonempty, length-decimal-le, cases_lt, pow-le-pow_right, Shape}
 use Rattle.machine_shape.specs.Vocabulary.{Levels, Path, IsSpot, stop, step, rest, size, wires_in, levels_of, wires_of, tables_of, way_to_table, place_of, numbered, inner_letters, steps_name, way_name, port_letter, part_name, wire_name, table_name}
 use Rattle.machine_shape.proofs.Numbering.{table_way_is}
 use Rattle.machine_shape.proofs.Whereabouts.{wire_placed}

@@ -1,9 +1,6 @@
 -- What the levels of a shape are, and where its numbers are.
-use Rattle.std.proofs.Common.{◌<◌, ◌^◌, arith}
-use Rattle.machine_shape.specs.declared.Shape.{Shape}
-use Rattle.machine_shape.specs.declared.way.Kind.{Kind}
+use Rattle.machine_shape.proofs.Vocabulary.{◌<◌, ◌^◌, arith, Shape, Kind, AreFull, numbers_in, size, levels_of}
 use Rattle.machine_shape.specs.declared.way.Kind.TheVariants.{Wires, Nodes, Tables, Crosses}
-use Rattle.machine_shape.specs.Vocabulary.{AreFull, numbers_in, size, levels_of}
 
 pub full_of : (m : Shape) → AreFull (levels_of m)
 unfolding levels_of

@@ -1,7 +1,6 @@
 -- What all crossbars have together.
 use Rattle.std.proofs.Common.{◌≡◌, ℕ, zero, suc, ◌+◌, ◌*◌, ◌<◌, ◌≤◌, [], ◌∷◌, refl, sym, ap, ◌∙◌, arith}
-use Rattle.std.proofs.Math.Nat.{mul-le-mul_left}
-use Rattle.machine_shape.specs.declared.Shape.{Shape}
+use Rattle.machine_shape.proofs.Vocabulary.{mul-le-mul_left, Shape}
 use Rattle.machine_shape.specs.Vocabulary.{Levels, Own, step, rest, size, place_in, Place, under, ports_in, lines_in, taps_in, crosses_in, nodes_in, wires_in, AreAmple, IsAmple, levels_of, wires_of, crosses_of, nodes_of, pins_of, taps_of, lines_of, way_to, sum_below, HasSums}
 use Rattle.machine_shape.proofs.Walks.{placed, place_from}
 

@@ -1,8 +1,6 @@
 -- The taps of a crossbar are the machine's pins at the root, its ports, those of its children, and the pins of its tables.
 use Rattle.std.proofs.Common.{◌≡◌, ℕ, zero, suc, ◌+◌, ◌<◌, ltb, [], ◌∷◌, ◌++◌, Some, None, refl, sym, ap, ◌∙◌, subst, arith}
-use Rattle.std.proofs.Math.Logic.{⊎_elim}
-use Rattle.std.proofs.lemmas.Bool.{cases_lt, lt-ltb, le-ltb, cond-true, cond-false}
-use Rattle.machine_shape.specs.declared.Shape.{Shape}
+use Rattle.machine_shape.proofs.Vocabulary.{⊎_elim, cases_lt, lt-ltb, le-ltb, cond-true, cond-false, Shape}
 use Rattle.machine_shape.specs.Vocabulary.{Path, rest, IsSpot, start, above, trunk, next, children_in, ports_in, wires_in, nodes_in, levels_of, nodes_of, tables_of, pins_of, way_to, way_to_table, node_at, ports_of, taps_of, pin_wire, table_wire, port_at, tap_at, IsPort, parent_in, parent_of, hextant_of, IsTap, tap_pin, tap_port, tap_child, tap_table}
 use Rattle.machine_shape.proofs.Ways.{ends_at, step_more, trunk-more, trunk_is_spot, above-more, above_is_spot, above_is_node, last_step, trunk_last, trunk_is_node}
 use Rattle.machine_shape.proofs.Taps as taps

@@ -1,7 +1,6 @@
 -- The taps of a crossbar, in ascending order.
 use Rattle.std.proofs.Common.{◌≡◌, ℕ, ◌+◌, ◌*◌, ◌/◌, ◌%◌, ◌-◌, ◌<◌, ◌≤◌, ltb, [], ◌∷◌, ◌++◌, sym, ap, ◌∙◌, subst, arith}
-use Rattle.std.proofs.Math.Logic.{⊎_elim}
-use Rattle.std.proofs.lemmas.Bool.{cases_lt, cases_order, lt-ltb, le-ltb, cond-true, cond-false}
+use Rattle.machine_shape.proofs.Vocabulary.{⊎_elim, cases_lt, cases_order, lt-ltb, le-ltb, cond-true, cond-false}
 use Rattle.std.proofs.lemmas.Nat.{div-mul-add, mod-mul-add, div-add-mod', div_below, mod_below, row_fits}
 use Rattle.machine_shape.specs.Walk.{Levels, Path, rest, IsSpot, size, start, next, children_in, ports_in, wires_in, nodes_in, taps_in, child_port, tap_in}
 use Rattle.machine_shape.proofs.Walks.{number_below}

@@ -1,6 +1,5 @@
 -- Crosspoints by their taps and lines.
-use Rattle.std.proofs.Common.{◌≡◌, ℕ, ◌<◌, sym, ap, ◌∙◌, subst}
-use Rattle.machine_shape.specs.declared.Shape.{Shape}
+use Rattle.machine_shape.proofs.Vocabulary.{◌≡◌, ℕ, ◌<◌, sym, ap, ◌∙◌, subst, Shape}
 use Rattle.machine_shape.specs.Vocabulary.{crosses_of, nodes_of, ends_of, node_of_cross, tap_position, line_position, cross_at, tap_at, line_at, IsLine, IsPort, IsTap, HasTaps, HasCrosses, HasMeetings}
 use Rattle.machine_shape.proofs.Meanings.{IsLine-at}
 

@@ -1,6 +1,5 @@
 -- How many there are of each.
-use Rattle.std.proofs.Common.{◌≡◌, ◌≢◌, ℕ, zero, suc, ◌<◌, ◌≤◌, [], ◌∷◌, length, take, refl, arith}
-use Rattle.machine_shape.specs.declared.Shape.{Shape}
+use Rattle.machine_shape.proofs.Vocabulary.{◌≡◌, ◌≢◌, ℕ, zero, suc, ◌<◌, ◌≤◌, [], ◌∷◌, length, take, refl, arith, Shape}
 use Rattle.machine_shape.specs.Vocabulary.{levels_from, Levels, Path, size, trunk, wires_in, nodes_in, tables_in, crosses_in, levels_of, wires_of, crosses_of, tables_of, nodes_of, pins_of, ports_of, own_ports_of}
 use Rattle.machine_shape.proofs.HighLimits.{pins_few}
 use Rattle.machine_shape.proofs.Taps.{ports_in_size}

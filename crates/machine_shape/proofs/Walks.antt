@@ -1,9 +1,7 @@
 -- Each number of a walk has one place.
 use Rattle.std.proofs.Common.{◌≡◌, ℕ, ◌+◌, ◌*◌, ◌/◌, ◌%◌, ◌-◌, ◌<◌, ◌≤◌, ltb, [], ◌∷◌, sym, ap, ◌∙◌, subst, ⊎_elim, arith}
-use Rattle.std.proofs.lemmas.Bool.{cases_lt, lt-ltb, le-ltb, cond-true, cond-false}
+use Rattle.machine_shape.proofs.Vocabulary.{cases_lt, lt-ltb, le-ltb, cond-true, cond-false, mul_comm, Level}
 use Rattle.std.proofs.lemmas.Nat.{div-mul-add, mod-mul-add, mul-add-lt, div-add-mod', div_below, mod_below}
-use Rattle.std.proofs.Math.Nat.{mul_comm}
-use Rattle.machine_shape.specs.declared.Level.{Level}
 use Rattle.machine_shape.specs.Walk.{Levels, Path, rest, IsSpot, stop, step, Own, size, start, Place, IsPlaceOf, under, place_in}
 
 module _ (own : Own) where

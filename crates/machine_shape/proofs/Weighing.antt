@@ -1,12 +1,7 @@
 -- The walk by weights is the walk by levels.
 use Rattle.std.proofs.Common.{◌≡◌, ℕ, zero, suc, ◌+◌, ◌*◌, ◌/◌, ◌%◌, ◌-◌, ◌<◌, ◌≤◌, ◌^◌, if◌then◌else◌, ltb, List, [], ◌∷◌, length, drop, refl, sym, ap, ◌∙◌, subst, arith, slice_index_or}
-use Rattle.std.proofs.lemmas.Nat.{div-mul-add, mod-mul-add, div_below, mod_below, row_fits}
-use Rattle.machine_shape.specs.declared.Level.{Level}
-use Rattle.machine_shape.specs.declared.Shape.{Shape}
-use Rattle.machine_shape.specs.declared.way.Crossbar.{Crossbar}
-use Rattle.machine_shape.specs.declared.way.Kind.{Kind}
-use Rattle.machine_shape.specs.declared.way.Weight.{Weight}
-use Rattle.machine_shape.specs.declared.way.Weights.{Weights}
+use Rattle.machine_shape.proofs.Vocabulary.{div-mul-add, mod-mul-add, div_below, mod_below, row_fits, Level, Shape, Crossbar, Kind}
+use Rattle.machine_shape.specs.declared.way.{Weight.Weight, Weights.Weights}
 use Rattle.machine_shape.specs.Vocabulary.{FitsBelow, numbers_in, levels_of, Levels, Path, Place, Own, IsSpot, stop, step, rest, next, size, start, under, place_in, wires_in, Fits, IsStep, last, further, weights_in, weights_at, place_by, start_by, each_by}
 use Rattle.machine_shape.proofs.Barred.{rest-drop}
 use Rattle.machine_shape.proofs.Running.{own_small, start_small}

@@ -1,7 +1,6 @@
 -- A node's crossbar as the code keeps it.
 use Rattle.std.specs.Prelude.{◌≡◌, ℕ, ◌+◌, ◌*◌, ◌/◌, ◌%◌, ◌-◌, ◌<◌, ◌≤◌, if◌then◌else◌, nat_lt}
-use Rattle.machine_shape.specs.declared.Shape.{Shape}
-use Rattle.machine_shape.specs.declared.way.Crossbar.{Crossbar}
+use Rattle.machine_shape.specs.declared.{Shape.Shape, way.Crossbar.Crossbar}
 use Rattle.machine_shape.specs.Shape.{wires_of, ports_of, lines_of, taps_of, line_at, port_at, tap_at}
 use Rattle.machine_shape.specs.Walk.{Levels, Path, rest, next, start, size, children_in, ports_in, lines_in, wires_in}
 

@@ -1,7 +1,6 @@
 -- The limits that go by the shape.
 use Rattle.std.specs.Prelude.{ℕ, ◌≤◌, if◌then◌else◌}
-use Rattle.machine_shape.specs.declared.Shape.{Shape}
-use Rattle.machine_shape.specs.Limits.{is_small}
+use Rattle.machine_shape.specs.{declared.Shape.Shape, Limits.is_small}
 
 -- ticks of a cycle, and tables that an image switches on
 unfoldable pub most_ticks : Shape → ℕ

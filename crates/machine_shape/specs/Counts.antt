@@ -1,8 +1,6 @@
 -- The levels of a machine by its counts.
 use Rattle.std.specs.Prelude.{◌<◌, [], ◌∷◌, slice_index_or, All}
-use Rattle.machine_shape.specs.declared.Counts.{Counts}
-use Rattle.machine_shape.specs.declared.Level.{Level}
-use Rattle.machine_shape.specs.Walk.{Levels}
+use Rattle.machine_shape.specs.{declared.Counts.Counts, declared.Level.Level, Walk.Levels}
 
 -- root, modules, chips, hextants; the pins of the machine are the root's ports here
 unfoldable pub levels_from : Counts → Levels

@@ -1,9 +1,7 @@
 -- The kinds of numbers that the code walks by, and the ways that it walks.
 use Rattle.std.specs.Prelude.{take}
-use Rattle.machine_shape.specs.declared.way.Kind.{Kind}
-use Rattle.machine_shape.specs.declared.way.Kind.TheVariants.{Wires, Nodes, Tables, Crosses}
-use Rattle.machine_shape.specs.declared.way.Way.{Way}
-use Rattle.machine_shape.specs.Walk.{Own, Path, wires_in, nodes_in, tables_in, crosses_in}
+use Rattle.machine_shape.specs.declared.way.Kind.{Kind, TheVariants.Wires, TheVariants.Nodes, TheVariants.Tables, TheVariants.Crosses}
+use Rattle.machine_shape.specs.{declared.way.Way.Way, Walk.Own, Walk.Path, Walk.wires_in, Walk.nodes_in, Walk.tables_in, Walk.crosses_in}
 
 -- how many numbers of the kind a node or table has of its own
 abbrev pub numbers_in : Kind → Own

@@ -1,8 +1,7 @@
 -- What later crates rest on, of the numbering.
 use Rattle.std.specs.Prelude.{◌≡◌, ◌≢◌, ◌⊎◌, ℕ, suc, ◌<◌, Some, None, [], ◌∷◌, ◌++◌}
 use Rattle.machine_shape.specs.declared.Shape.{Shape}
-use Rattle.machine_shape.specs.declared.Counts.{Counts}
-use Rattle.machine_shape.specs.Names.{numbered, node_name, table_name, wire_name}
+use Rattle.machine_shape.specs.{declared.Counts.Counts, Names.numbered, Names.node_name, Names.table_name, Names.wire_name}
 use Rattle.machine_shape.specs.Shape.{Ends, ends_of, pin_wire, table_wire, wires_of, crosses_of, nodes_of, tables_of, pins_of, node_of}
 use Rattle.machine_shape.specs.Shape.{parent_of, IsLine, IsPort, IsAbove, Meaning, Means, IsTap, taps_of, lines_of, ports_of, tap_at, line_at}
 use Rattle.machine_shape.specs.Shape.{cross_at, node_of_cross, tap_position, line_position, port_at, hextant_of}

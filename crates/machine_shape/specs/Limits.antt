@@ -1,14 +1,10 @@
 -- Which counts make a shape, and what is wrong with the others.
 use Rattle.std.specs.Prelude.{◌≡◌, ℕ, ◌<◌, ◌≤◌, ◌&&◌, Bool, false, nat_le, Contains}
-use Rattle.machine_shape.specs.declared.Counts.{Counts}
-use Rattle.machine_shape.specs.declared.Field.{Field}
+use Rattle.machine_shape.specs.declared.{Counts.Counts, ShapeFault.ShapeFault}
+use Rattle.machine_shape.specs.declared.{Field.Field, LimitedCount.LimitedCount, ShapeFault.TheVariants.Zero, ShapeFault.TheVariants.Limit}
 use Rattle.machine_shape.specs.declared.Field.TheVariants.{Modules, Chips, Hextants, Tables, Ports, Lines, Pins}
-use Rattle.machine_shape.specs.declared.LimitedCount.{LimitedCount}
 use Rattle.machine_shape.specs.declared.LimitedCount.TheVariants as which
-use Rattle.machine_shape.specs.declared.ShapeFault.{ShapeFault}
-use Rattle.machine_shape.specs.declared.ShapeFault.TheVariants.{Zero, Limit}
-use Rattle.machine_shape.specs.Counts.{levels_from, IsFull}
-use Rattle.machine_shape.specs.Walk.{size, wires_in, crosses_in, tables_in}
+use Rattle.machine_shape.specs.{Counts.levels_from, Counts.IsFull, Walk.size, Walk.wires_in, Walk.crosses_in, Walk.tables_in}
 
 -- a count of this field is 0
 abbrev pub HasZero : Counts → Field → Type 0

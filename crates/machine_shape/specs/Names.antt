@@ -1,9 +1,8 @@
 -- How the nodes, tables and wires of a machine are called.
 use Rattle.std.specs.Prelude.{ℕ, ◌-◌, ◌==◌, nat_lt, if◌then◌else◌, List, [], ◌∷◌, ◌++◌}
 use Rattle.std.specs.Fmt.{decimal}
-use Rattle.machine_shape.specs.declared.Shape.{Shape}
+use Rattle.machine_shape.specs.{declared.Shape.Shape, Shape.levels_of, Shape.way_to, Shape.way_to_table, Shape.place_of}
 use Rattle.machine_shape.specs.Walk.{Levels, Path, Place, rest}
-use Rattle.machine_shape.specs.Shape.{levels_of, way_to, way_to_table, place_of}
 
 -- a letter and a number, as `c1`
 abbrev pub numbered : ℕ → ℕ → List ℕ

@@ -1,9 +1,7 @@
 -- How the names of nodes and tables are made of the names above them.
 use Rattle.std.specs.Prelude.{◌≡◌, ℕ, ◌+◌, ◌*◌, ◌%◌, ◌<◌, Some, ◌∷◌, ◌++◌}
-use Rattle.machine_shape.specs.declared.Shape.{Shape}
-use Rattle.machine_shape.specs.Walk.{size, rest, next, nodes_in}
-use Rattle.machine_shape.specs.Names.{numbered, node_name, table_name}
-use Rattle.machine_shape.specs.Shape.{levels_of, tables_of, way_to, hextant_of, parent_of}
+use Rattle.machine_shape.specs.{declared.Shape.Shape, Shape.levels_of, Shape.tables_of, Shape.way_to, Shape.hextant_of, Shape.parent_of}
+use Rattle.machine_shape.specs.{Walk.size, Walk.rest, Walk.next, Walk.nodes_in, Names.numbered, Names.node_name, Names.table_name}
 
 -- the child of a node at a position: the children follow their node one by one, each with all nodes below it
 unfoldable pub child_at : Shape → ℕ → ℕ → ℕ

@@ -1,7 +1,6 @@
 -- What it is to read a name from its front.
 use Rattle.std.specs.Prelude.{◌≡◌, ◌≢◌, ℕ, ◌≤◌, List, [], ◌∷◌, ◌++◌, length, drop}
-use Rattle.machine_shape.specs.Walk.{Levels, Path, IsSpot}
-use Rattle.machine_shape.specs.Names.{numbered}
+use Rattle.machine_shape.specs.{Walk.Levels, Walk.Path, Walk.IsSpot, Names.numbered}
 
 -- no byte is a dot
 abbrev pub NoDot : List ℕ → Type 0

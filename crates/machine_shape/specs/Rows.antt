@@ -1,7 +1,6 @@
 -- The crosspoints of a node stand in rows: one row for each tap, and in it one crosspoint for each line.
 use Rattle.std.specs.Prelude.{◌≡◌, ℕ, ◌+◌, ◌*◌, ◌<◌}
-use Rattle.machine_shape.specs.declared.Shape.{Shape}
-use Rattle.machine_shape.specs.Walk.{start, crosses_in}
+use Rattle.machine_shape.specs.{declared.Shape.Shape, Walk.start, Walk.crosses_in}
 use Rattle.machine_shape.specs.Shape.{levels_of, way_to, crosses_of, nodes_of, lines_of, taps_of, tap_at, line_at, port_at, cross_at}
 use Rattle.machine_shape.specs.Shape.{node_of_cross, ends_of}
 

@@ -2,8 +2,7 @@
 -- numbering: beside this crate, only the proof of the built-in bench machine opens these words by
 -- `unfolding`, to count what is in it.
 use Rattle.std.specs.Prelude.{◌≡◌, ℕ, zero, suc, ◌+◌, ◌*◌, ◌/◌, ◌%◌, ◌<◌, Option, Some, None, if◌then◌else◌, nat_lt, [], ◌∷◌}
-use Rattle.machine_shape.specs.declared.Shape.{Shape}
-use Rattle.machine_shape.specs.Counts.{levels_from}
+use Rattle.machine_shape.specs.{declared.Shape.Shape, Counts.levels_from}
 use Rattle.machine_shape.specs.Walk.{Levels, Path, Place, rest, size, start, place_in, above, ports_in, lines_in, wires_in, taps_in, crosses_in}
 use Rattle.machine_shape.specs.Walk.{nodes_in, tables_in, trunk, tap_in}
 

@@ -1,7 +1,6 @@
 -- What all crossbars have together.
 use Rattle.std.specs.Prelude.{◌≡◌, ℕ, zero, suc, ◌+◌, ◌*◌, ◌≤◌}
-use Rattle.machine_shape.specs.declared.Shape.{Shape}
-use Rattle.machine_shape.specs.Counts.{IsAmple}
+use Rattle.machine_shape.specs.{declared.Shape.Shape, Counts.IsAmple}
 use Rattle.machine_shape.specs.Shape.{wires_of, crosses_of, nodes_of, pins_of, taps_of, lines_of}
 
 -- the sum of f over the numbers below n

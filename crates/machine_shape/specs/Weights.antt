@@ -1,12 +1,8 @@
 -- The weights of the depths, and the walk by them.
 use Rattle.std.specs.Prelude.{◌≡◌, ℕ, zero, suc, ◌+◌, ◌*◌, ◌/◌, ◌%◌, ◌-◌, ◌<◌, ◌≤◌, ◌^◌, if◌then◌else◌, nat_lt, List, [], ◌∷◌}
-use Rattle.machine_shape.specs.declared.way.Kind.{Kind}
-use Rattle.machine_shape.specs.declared.way.Site.{Site}
-use Rattle.machine_shape.specs.declared.way.Weight.{Weight}
-use Rattle.machine_shape.specs.declared.way.Weights.{Weights}
+use Rattle.machine_shape.specs.declared.way.{Kind.Kind, Site.Site, Weight.Weight, Weights.Weights}
 use Rattle.machine_shape.specs.Counts.{AreFull}
-use Rattle.machine_shape.specs.Kinds.{numbers_in, path_of}
-use Rattle.machine_shape.specs.Walk.{Levels, Own, Path, Place, size, under}
+use Rattle.machine_shape.specs.{Kinds.numbers_in, Kinds.path_of, Walk.Levels, Walk.Own, Walk.Path, Walk.Place, Walk.size, Walk.under}
 
 -- no count is 0, and the numbers of the kind are few
 pub record Fits (kind : Kind) (ls : Levels) : Type 0 where

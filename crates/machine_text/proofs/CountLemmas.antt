@@ -1,33 +1,21 @@
 -- Which words are counts, and which counts make a shape.
 use Rattle.std.proofs.Common.{◌≡◌, ℕ, zero, suc, get_or, ◌+◌, ◌<◌, ◌≤◌, ◌^◌, Bool, true, false, not, ◌==◌, ◌&&◌, nat_lt, nat_le, List, [], ◌∷◌, Option, Some, None, length, map, refl, sym, ap, ◌∙◌, arith, inl, inr, ◌⊎◌, if◌then◌else◌, Bor, take, take_all}
-use Rattle.std.proofs.Math.ListN.{set}
+use Rattle.machine_text.proofs.Vocabulary.{set, decimal, list_all, All, bytes_eq, bytes_eq-Decides, MachineKind, Said, PassesLimit, IsForm}
+use Rattle.machine_text.proofs.Vocabulary.{KeepsLimits, Counts, small_within, within_small}
 use Rattle.std.proofs.lemmas.Bool.{cases_eq, cases_Bool, and_parts, and_cases, and_from, or_cases, or_left, or_right, or_parts, false≢true}
 use Rattle.std.proofs.lemmas.Bool.{ltb-true, lt-ltb, leb-true, leb-false, le-leb, eq-eqb, eqb-true, ne_eqb, not-true, not-false, not_from_false}
 use Rattle.std.proofs.lemmas.Grind.{same_number_lists, get_or_default_zero}
-use Rattle.std.proofs.lemmas.List.{length-map, get_or-map, get_or-set_same, get_or-set_other}
-use Rattle.std.proofs.lemmas.List.Folds.{list_all_at, list_all_more}
+use Rattle.std.proofs.lemmas.List.{length-map, get_or-map, get_or-set_same, get_or-set_other, Folds.list_all_at, Folds.list_all_more}
 use Rattle.std.specs.Bool.{Decides}
-use Rattle.std.specs.Fmt.{decimal}
-use Rattle.std.specs.List.{list_all, All}
-use Rattle.std.specs.Str.{bytes_eq}
 use Rattle.std.proofs.lemmas.Bool.Decides.{Decides-and, Decides-ltb, Decides-by_and}
-use Rattle.std.proofs.lemmas.Slice.Eq.{bytes_eq-Decides}
 use Rattle.base_text.proofs.NumberLemmas.{read_on-decimal}
-use Rattle.machine_text.specs.declared.kind.MachineKind.{MachineKind}
 use Rattle.machine_text.specs.declared.kind.MachineKind.TheVariants as kind
-use Rattle.machine_text.specs.declared.said.Said.{Said}
-use Rattle.machine_text.specs.Faults.{PassesLimit}
-use Rattle.machine_text.specs.Machine.{IsForm, KeepsLimits}
 use Rattle.machine_text.specs.Reading.{value_of, is_count, is_form, counts_fault, form_fault, is_full, is_within, is_shape, keeps_large}
-use Rattle.machine_shape.specs.declared.Counts.{Counts}
-use Rattle.machine_shape.specs.declared.Field.{Field}
+use Rattle.machine_shape.specs.declared.{Field.Field, LimitedCount.LimitedCount, ShapeFault.TheVariants.Zero, ShapeFault.TheVariants.Limit}
 use Rattle.machine_shape.specs.declared.Field.TheVariants as field
-use Rattle.machine_shape.specs.declared.LimitedCount.{LimitedCount}
 use Rattle.machine_shape.specs.declared.LimitedCount.TheVariants as which
 use Rattle.machine_shape.specs.declared.ShapeFault.{ShapeFault}
-use Rattle.machine_shape.specs.declared.ShapeFault.TheVariants.{Zero, Limit}
 use Rattle.machine_shape.specs.Limits.{HasZero, IsShapeFault, IsSmallFault, MakeShape, MakeSmall, amount_of, is_small, most_of_large}
-use Rattle.machine_shape.proofs.HighLimits.{small_within, within_small}
 
 abbrev IsCount : List ℕ → Type 0
 IsCount w = (w ≡ decimal (value_of w)) × ((0 < value_of w) × (value_of w < 65536))

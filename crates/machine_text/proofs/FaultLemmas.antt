@@ -1,21 +1,13 @@
 -- The fault that reading comes to is the first of the text.
 use Rattle.std.proofs.Common.{◌≡◌, ℕ, zero, suc, ◌++◌, length-append, ◌<◌, ◌≤◌, ◌==◌, Bool, true, false, not, nat_lt, List, [], ◌∷◌, Option, Some, None, Result, Ok, Err, length, map, drop, take, get_or, refl, sym, ap, ◌∙◌, subst, arith, inl, inr, ◌⊎◌, if◌then◌else◌}
-use Rattle.std.specs.Fmt.{decimal}
-use Rattle.std.specs.List.{list_all, All, AllByRecursion}
+use Rattle.machine_text.proofs.Vocabulary.{decimal, list_all, All, AllByRecursion, LogicalLine, logical_lines, is_bad_line, most_bytes}
+use Rattle.machine_text.proofs.Vocabulary.{Head, MachineKind, MachineFault, At, Memory, heads, word_of, place_of, follow_of, head_of, Said}
+use Rattle.machine_text.proofs.Vocabulary.{IsForm, KeepsLimits, numbers_of, count_row, IsReadFault}
 use Rattle.std.proofs.lemmas.Bool.{ltb-true, ltb-false, eq-eqb, eqb-true, not-true, not-false, false≢true}
 use Rattle.std.proofs.lemmas.List.{nil_from_length, take_more, map-append, append-nil, append_assoc}
-use Rattle.base_text.specs.Vocabulary.{LogicalLine, logical_lines, is_bad_line, most_bytes}
-use Rattle.machine_text.specs.declared.head.Head.{Head}
 use Rattle.machine_text.specs.declared.head.Head.TheVariants as head
-use Rattle.machine_text.specs.declared.kind.MachineKind.{MachineKind}
 use Rattle.machine_text.specs.declared.kind.MachineKind.TheVariants as kind
-use Rattle.machine_text.specs.declared.kind.MachineFault.{MachineFault}
-use Rattle.machine_text.specs.declared.kind.MachineFault.TheVariants.{At, Memory}
 use Rattle.machine_text.specs.Faults.{AreCounts, HasCounts, AreFirstLines, PassesLimit, IsRestFault, size, format, number, limit, IsWordsFault, over, unknown, not_due, due, IsLineFault, bad, words, IsFirstFault, at_line, at_end, IsRefusedAs}
-use Rattle.machine_text.specs.Heads.{heads, word_of, place_of, follow_of, head_of}
-use Rattle.machine_text.specs.declared.said.Said.{Said}
-use Rattle.machine_text.specs.Machine.{IsForm, KeepsLimits, numbers_of, count_row}
-use Rattle.machine_text.specs.Readers.{IsReadFault}
 use Rattle.machine_text.specs.Reading.{State, start, is_count, is_form, counts_fault, words_fault, head_fault, said_fault, fault_of, with_numbers, after, if_sound, reading, is_shape}
 use Rattle.machine_text.proofs.CountLemmas.{form_word, made, passed}
 use Rattle.machine_text.proofs.GrammarLemmas.{at_place-place_of, one_place, place_below, word_first, head_of-word_of, moved, some_counts, only_number, Sound, sound_line}

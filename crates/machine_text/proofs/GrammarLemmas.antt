@@ -1,30 +1,16 @@
 -- What is read without a fault is the text of a machine, and the text of a machine is read.
 use Rattle.std.proofs.Common.{◌≡◌, ℕ, zero, suc, ◌+◌, ◌*◌, ◌++◌, length-append, ◌<◌, ◌≤◌, ◌==◌, Bool, true, false, not, nat_lt, List, [], ◌∷◌, Option, Some, None, Result, Ok, Err, length, map, drop, get_or, refl, sym, ap, ◌∙◌, subst, arith, inl, inr, if◌then◌else◌, find, take, Contains, ◌&&◌}
-use Rattle.std.specs.Fmt.{decimal}
-use Rattle.std.specs.List.{list_all, flat_map, All}
-use Rattle.std.specs.Str.{bytes_eq}
+use Rattle.machine_text.proofs.Vocabulary.{decimal, list_all, flat_map, All, bytes_eq, nil_from_length, length-map, get_or-map, take_more}
+use Rattle.machine_text.proofs.Vocabulary.{map-append, append-nil, bytes_eq-Decides, Counts, MachineFault, At, Memory, GivesOrLacks}
+use Rattle.machine_text.proofs.Vocabulary.{IsReadFault, IsReadShape, Head, MachineKind, heads, word_of, place_of, follow_of, head_of, Said}
 use Rattle.std.proofs.lemmas.Bool.{cases_Bool, and_parts, and_from, ltb-true, eqb-true, eq-eqb, not-false, false≢true, lt-ltb}
-use Rattle.std.proofs.lemmas.List.Elements.{All-append}
+use Rattle.std.proofs.lemmas.{List.Elements.All-append, Grind.flat_map-append, Grind.get_or_default_zero, Fmt.length-decimal-le}
 use Rattle.machine_shape.specs.declared.Field.TheVariants as field
-use Rattle.std.proofs.lemmas.Grind.{flat_map-append, get_or_default_zero}
-use Rattle.std.proofs.lemmas.List.{nil_from_length, length-map, get_or-map, take_more, map-append, append-nil}
-use Rattle.std.proofs.lemmas.Fmt.{length-decimal-le}
-use Rattle.std.proofs.lemmas.Slice.Eq.{bytes_eq-Decides}
-use Rattle.machine_shape.specs.declared.Counts.{Counts}
-use Rattle.machine_shape.specs.Limits.{MakeShape, is_small}
+use Rattle.machine_shape.specs.{Limits.MakeShape, Limits.is_small, declared.Shape.Shape}
 use Rattle.base_text.specs.Vocabulary.{LogicalLine, logical_lines, is_bad_line, has_bad_byte, IsWord, AreRows, numbered, written, written_line, spaced, most_bytes}
 use Rattle.base_text.proofs.WrittenLemmas.{decimal_word, sound_words, lines_back}
-use Rattle.machine_shape.specs.declared.Shape.{Shape}
-use Rattle.machine_text.specs.declared.kind.MachineFault.{MachineFault}
-use Rattle.machine_text.specs.declared.kind.MachineFault.TheVariants.{At, Memory}
-use Rattle.machine_text.specs.Faults.{GivesOrLacks}
-use Rattle.machine_text.specs.Readers.{IsReadFault, IsReadShape}
-use Rattle.machine_text.specs.declared.head.Head.{Head}
 use Rattle.machine_text.specs.declared.head.Head.TheVariants as head
-use Rattle.machine_text.specs.declared.kind.MachineKind.{MachineKind}
 use Rattle.machine_text.specs.declared.kind.MachineKind.TheVariants as kind
-use Rattle.machine_text.specs.Heads.{heads, word_of, place_of, follow_of, head_of}
-use Rattle.machine_text.specs.declared.said.Said.{Said}
 use Rattle.machine_text.specs.Machine.{IsForm, KeepsLimits, said_in, form_of, numbers_of, count_row, count_rows, text_of, IsMachine}
 use Rattle.machine_text.specs.Reading.{State, start, value_of, is_count, is_form, counts_fault, words_fault, head_fault, said_fault, fault_of, with_numbers, with_line, after, if_sound, reading, is_shape}
 use Rattle.machine_text.proofs.CountLemmas.{count_parts, few_form, form_parts, form_word, is_count-decimal, value-decimal, is_shape-made}

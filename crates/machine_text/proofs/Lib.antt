@@ -2,3 +2,4 @@ mod CountLemmas
 mod GrammarLemmas
 mod FaultLemmas
 mod OneFault
+mod Vocabulary

@@ -1,18 +1,12 @@
 -- A text has one first fault: reading comes to it.
 use Rattle.std.proofs.Common.{◌≡◌, ◌≢◌, ℕ, zero, suc, ◌+◌, ◌++◌, ◌<◌, ◌==◌, true, false, not, nat_lt, List, [], ◌∷◌, Option, Some, None, Ok, Err, length, map, drop, take, get_or, refl, sym, ap, ◌∙◌, subst, arith, inl, inr, ◌⊎◌, if◌then◌else◌}
-use Rattle.std.specs.Fmt.{decimal}
-use Rattle.std.specs.List.{list_all, AllByRecursion}
+use Rattle.machine_text.proofs.Vocabulary.{decimal, list_all, AllByRecursion, LogicalLine, Head, MachineKind, heads, word_of, place_of}
+use Rattle.machine_text.proofs.Vocabulary.{follow_of, head_of, Said, IsForm, KeepsLimits, numbers_of, count_row}
 use Rattle.std.proofs.lemmas.Bool.{cases_Bool, ltb-true, ltb-false, lt-ltb, eq-eqb, eqb-true, false≢true}
 use Rattle.std.proofs.lemmas.List.{nil_from_length, length-map, append-nil, take-take}
-use Rattle.base_text.specs.Lines.{LogicalLine}
-use Rattle.machine_text.specs.declared.head.Head.{Head}
 use Rattle.machine_text.specs.declared.head.Head.TheVariants as head
-use Rattle.machine_text.specs.declared.kind.MachineKind.{MachineKind}
 use Rattle.machine_text.specs.declared.kind.MachineKind.TheVariants as kind
 use Rattle.machine_text.specs.Faults.{AreCounts, HasCounts, AreFirstLines, PassesLimit, IsRestFault, size, format, number, limit, IsWordsFault, over, unknown, not_due, due, IsLineFault, bad, words, IsFirstFault, at_line, at_end}
-use Rattle.machine_text.specs.Heads.{heads, word_of, place_of, follow_of, head_of}
-use Rattle.machine_text.specs.declared.said.Said.{Said}
-use Rattle.machine_text.specs.Machine.{IsForm, KeepsLimits, numbers_of, count_row}
 use Rattle.machine_text.specs.Reading.{State, start, is_count, is_form, words_fault, said_fault, fault_of, after, if_sound, reading, is_shape}
 use Rattle.machine_text.proofs.CountLemmas.{form_parts, is_shape-made, no_shape}
 use Rattle.machine_text.proofs.GrammarLemmas.{place_below, word_first, head_of-word_of, moved, IsReady, not_past, row_sound, after_row, counts_are, one_word}

@@ -1,21 +1,15 @@
 -- Which fault a text has, and where.
 use Rattle.std.specs.Prelude.{ℕ, ◌≡◌, ◌≢◌, ◌<◌, ◌≤◌, ◌⊎◌, true, false, List, [], ◌∷◌, ◌++◌, Result, Ok, Err, length, map, take, All}
-use Rattle.std.specs.Fmt.{decimal}
-use Rattle.std.specs.List.{AllByRecursion}
-use Rattle.machine_shape.specs.declared.Counts.{Counts}
-use Rattle.machine_shape.specs.declared.Shape.{Shape}
-use Rattle.machine_shape.specs.declared.LimitedCount.{LimitedCount}
-use Rattle.machine_shape.specs.Limits.{amount_of, is_small, most_of_large}
+use Rattle.std.specs.{Fmt.decimal, List.AllByRecursion}
+use Rattle.machine_shape.specs.declared.{Counts.Counts, Shape.Shape}
+use Rattle.machine_shape.specs.{declared.LimitedCount.LimitedCount, Limits.amount_of, Limits.is_small, Limits.most_of_large}
 use Rattle.base_text.specs.Vocabulary.{LogicalLine, logical_lines, is_bad_line, most_bytes}
-use Rattle.machine_text.specs.declared.head.Head.{Head}
+use Rattle.machine_text.specs.{declared.head.Head.Head, Machine.IsForm, Machine.KeepsLimits, Machine.numbers_of, Machine.count_row}
 use Rattle.machine_text.specs.declared.head.Head.TheVariants as head
-use Rattle.machine_text.specs.declared.kind.MachineKind.{MachineKind}
+use Rattle.machine_text.specs.declared.kind.{MachineKind.MachineKind, MachineFault.TheVariants.At, MachineFault.TheVariants.Memory}
 use Rattle.machine_text.specs.declared.kind.MachineKind.TheVariants.{Byte, Word, Order, Number, Missing, Limit, After}
-use Rattle.machine_text.specs.declared.kind.MachineFault.{MachineFault}
-use Rattle.machine_text.specs.declared.kind.MachineFault.TheVariants.{At, Memory}
-use Rattle.machine_text.specs.Heads.{heads, word_of, place_of, follow_of}
+use Rattle.machine_text.specs.{declared.kind.MachineFault.MachineFault, Heads.heads, Heads.word_of, Heads.place_of, Heads.follow_of}
 use Rattle.machine_text.specs.declared.said.Said.{Said}
-use Rattle.machine_text.specs.Machine.{IsForm, KeepsLimits, numbers_of, count_row}
 
 abbrev pub AreCounts : List ℕ → Type 0
 AreCounts ns = All (λ n. (0 < n) × (n ≤ 65535)) ns

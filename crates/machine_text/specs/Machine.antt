@@ -1,13 +1,10 @@
 -- The text of a machine.
 use Rattle.std.specs.Prelude.{ℕ, ◌≡◌, ◌⊎◌, ◌<◌, ◌≤◌, true, false, if◌then◌else◌, List, [], ◌∷◌, length, map, All}
 use Rattle.std.specs.Fmt.{decimal}
-use Rattle.machine_shape.specs.declared.Counts.{Counts}
-use Rattle.machine_shape.specs.Limits.{MakeShape, is_small}
+use Rattle.machine_shape.specs.{declared.Counts.Counts, Limits.MakeShape, Limits.is_small}
 use Rattle.base_text.specs.Vocabulary.{logical_lines, written}
-use Rattle.machine_text.specs.declared.head.Head.{Head}
+use Rattle.machine_text.specs.{declared.head.Head.Head, declared.said.Said.Said, Heads.heads, Heads.word_of}
 use Rattle.machine_text.specs.declared.head.Head.TheVariants as head
-use Rattle.machine_text.specs.declared.said.Said.{Said}
-use Rattle.machine_text.specs.Heads.{heads, word_of}
 
 -- the forms of a text
 abbrev pub IsForm : ℕ → Type 0

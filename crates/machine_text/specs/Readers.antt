@@ -1,13 +1,10 @@
 -- What a reader holds, and the fault that it comes to.
 use Rattle.std.specs.Prelude.{◌≡◌, ◌<◌, List, Ok, Err, MatchOption}
 use Rattle.machine_shape.specs.declared.Shape.{Shape}
-use Rattle.machine_text.specs.declared.reader.Reader.{Reader}
-use Rattle.machine_text.specs.declared.said.Said.{Said}
+use Rattle.machine_text.specs.{declared.reader.Reader.Reader, declared.said.Said.Said, Reading.State, Reading.start, Reading.reading}
 use Rattle.base_text.specs.Lines.{LogicalLine}
-use Rattle.machine_text.specs.declared.kind.MachineFault.{MachineFault}
-use Rattle.machine_text.specs.declared.kind.MachineFault.TheVariants.{At, Memory}
+use Rattle.machine_text.specs.declared.kind.MachineFault.{MachineFault, TheVariants.At, TheVariants.Memory}
 use Rattle.machine_text.specs.Machine.{KeepsLimits}
-use Rattle.machine_text.specs.Reading.{State, start, reading}
 
 abbrev pub state_of : Reader → State
 state_of r = record { read = r.read; said = r.said }

@@ -1,20 +1,15 @@
 -- The reader line by line: the state after the lines above, and what it makes of the next. What a text and its first
 -- fault are stands in Machine and Faults.
 use Rattle.std.specs.Prelude.{ℕ, ◌+◌, ◌==◌, Bool, not, ◌&&◌, ◌||◌, nat_lt, nat_le, if◌then◌else◌, List, [], ◌∷◌, Option, Some, None, Result, Ok}
-use Rattle.std.specs.Prelude.{Err, length, map, drop, slice_index, slice_index_or}
-use Rattle.std.specs.List.{list_all}
-use Rattle.std.specs.Str.{bytes_eq}
-use Rattle.std.specs.Fmt.{decimal}
-use Rattle.machine_shape.specs.declared.Counts.{Counts}
+use Rattle.std.specs.{Prelude.Err, Prelude.length, Prelude.map, Prelude.drop, Prelude.slice_index, Prelude.slice_index_or, List.list_all}
+use Rattle.std.specs.{Str.bytes_eq, Fmt.decimal}
+use Rattle.machine_shape.specs.{declared.Counts.Counts, Limits.amount_of, Limits.is_small}
 use Rattle.machine_shape.specs.declared.LimitedCount.TheVariants.{Tables, Wires, Crosspoints, Pins}
-use Rattle.machine_shape.specs.Limits.{amount_of, is_small}
 use Rattle.base_text.specs.Vocabulary.{LogicalLine, is_bad_line, read_on}
-use Rattle.machine_text.specs.declared.head.Head.{Head}
+use Rattle.machine_text.specs.declared.{head.Head.Head, said.Said.Said}
 use Rattle.machine_text.specs.declared.head.Head.TheVariants as head
-use Rattle.machine_text.specs.declared.kind.MachineKind.{MachineKind}
+use Rattle.machine_text.specs.{declared.kind.MachineKind.MachineKind, Heads.head_of, Heads.place_of, Heads.follow_of}
 use Rattle.machine_text.specs.declared.kind.MachineKind.TheVariants as kind
-use Rattle.machine_text.specs.declared.said.Said.{Said}
-use Rattle.machine_text.specs.Heads.{head_of, place_of, follow_of}
 
 -- what the lines above say: how many they are, the form, and the counts that they give
 pub record State : Type 0 where

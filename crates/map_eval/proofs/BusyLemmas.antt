@@ -1,20 +1,10 @@
 -- Cycles in which all tables are evaluated, in order.
 use Rattle.std.proofs.Common.{◌≡◌, ◌⊎◌, Bool, ℕ, zero, suc, ◌+◌, ◌*◌, ◌<◌, ◌≤◌, List, [], ◌∷◌, ◌++◌, true, false, length, map, get_or, set, nat_lt, refl, sym, ap, subst, ◌∙◌, inl, inr, arith, slice_index_or, if◌then◌else◌}
-use Rattle.std.specs.List.{range_with_len, Contains}
-use Rattle.std.proofs.lemmas.Bool.{cases_eq, cases_lt}
-use Rattle.std.proofs.lemmas.Bool.Decides.{nat_tests}
+use Rattle.map_eval.proofs.Vocabulary.{range_with_len, Contains, cases_eq, cases_lt, Source, Input, Table, NetTable, Network, Plan, State}
+use Rattle.map_eval.proofs.Vocabulary.{signal_of, source_at, AreInRange, number_at, value_in, pin_bit, IsLower, IsOrdered, IsPlan, IsKept}
+use Rattle.std.proofs.lemmas.{Bool.Decides.nat_tests, List.FromFn.get_or-map-range_with_len, List.FromFn.length-map-range_with_len}
 use Rattle.std.proofs.lemmas.List.{ext_get_or, get_or-map, get_or_default, get_or_past, get_or-set_same, get_or-set_other, get_or_append_left, get_or_push, length-map, length_push, length-set}
-use Rattle.std.proofs.lemmas.List.FromFn.{get_or-map-range_with_len, length-map-range_with_len}
-use Rattle.map_network.specs.declared.source.Source.{Source}
-use Rattle.map_network.specs.declared.source.Source.TheVariants.{Input, Table}
-use Rattle.map_network.specs.declared.network.NetTable.{NetTable}
-use Rattle.map_network.specs.declared.network.Network.{Network}
 use Rattle.map_network.specs.Vocabulary.{no_table, table_at, IsSourceOf, IsCombinational, IsLatched, bit_of, cell_at, number_of, pins_of, truth, outputs_in, next_state, RowsFrom, IsNetworkValuation}
-use Rattle.map_eval.specs.declared.plan.Plan.{Plan}
-use Rattle.map_eval.specs.declared.state.State.{State}
-use Rattle.map_eval.specs.Pins.{signal_of, source_at, AreInRange}
-use Rattle.map_eval.specs.Marks.{number_at}
-use Rattle.map_eval.specs.States.{value_in, pin_bit, IsLower, IsOrdered, IsPlan, IsKept}
 use Rattle.map_eval.specs.Wires.{wire_at, one_of, ArePushed, AreWires, bits_at, HaveInputs, AreTrueTo, AreLatchedSame, AreTablesIn, HaveTakenTo, IsShaped}
 use Rattle.map_eval.proofs.PinLemmas.{signal_low}
 use Rattle.map_eval.proofs.RunLemmas.{same_rows}

@@ -1,16 +1,9 @@
 -- Latched tables that take what they read.
 use Rattle.std.proofs.Common.{◌≡◌, ◌⊎◌, Bool, ℕ, zero, suc, ◌+◌, ◌*◌, ◌/◌, ◌%◌, ◌-◌, ◌<◌, ◌≤◌, ◌&&◌, List, true, false, length, get_or, set, refl, sym, ap, subst, ◌∙◌, inl, inr, arith, bit_and, not}
-use Rattle.std.proofs.lemmas.Bool.{cases_eq, cases_lt}
-use Rattle.std.proofs.lemmas.List.{get_or-set_same, get_or-set_other, get_or_past}
-use Rattle.map_network.specs.declared.network.Network.{Network}
+use Rattle.map_eval.proofs.Vocabulary.{cases_eq, cases_lt, get_or-set_same, get_or-set_other, get_or_past, Network, cell_and, cell_not}
+use Rattle.map_eval.proofs.Vocabulary.{cell_zero, Plan, State, number_at, is_marked, differs, value_in, IsPlan, IsKept, differs_in}
+use Rattle.map_eval.proofs.Vocabulary.{IsTurnedAt, AreDueIn, AreDue, AreTurnedBy, HaveTaken}
 use Rattle.map_network.specs.Vocabulary.{table_at, IsCombinational, IsLatched, cell_at, flip}
-use Rattle.map_network.proofs.CellLemmas.{cell_and, cell_not, cell_zero}
-use Rattle.map_eval.specs.declared.plan.Plan.{Plan}
-use Rattle.map_eval.specs.declared.state.State.{State}
-use Rattle.map_eval.specs.Marks.{number_at, is_marked, differs}
-use Rattle.map_eval.specs.States.{value_in, IsPlan, IsKept}
-use Rattle.map_eval.specs.Changes.{differs_in, IsTurnedAt}
-use Rattle.map_eval.specs.Latching.{AreDueIn, AreDue, AreTurnedBy, HaveTaken}
 
 -- of the bits that are due, those that aren't left had their tables turned
 pub record IsTurning (plan : Plan) (old state : State) (word due left : ℕ) : Type 0 where

@@ -9,3 +9,4 @@ mod SettleLemmas
 mod StartLemmas
 mod PlaceLemmas
 mod BusyLemmas
+mod Vocabulary

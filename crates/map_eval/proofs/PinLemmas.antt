@@ -1,16 +1,9 @@
 -- The pins that signals lead to.
 use Rattle.std.proofs.Common.{◌≡◌, ◌⊎◌, Bool, ℕ, zero, suc, ◌+◌, ◌*◌, ◌%◌, ◌^◌, ◌<◌, ◌≤◌, List, [], ◌∷◌, ◌++◌, true, false, length, get_or, set, refl, sym, ap, subst, ◌∙◌, inl, inr, arith}
-use Rattle.std.specs.List.{Contains}
-use Rattle.std.proofs.lemmas.Bool.{cases_eq, cases_lt}
-use Rattle.std.proofs.lemmas.Nat.{pow_below}
+use Rattle.map_eval.proofs.Vocabulary.{Contains, cases_eq, cases_lt, pow_below, Source, Input, Table, Network, Pin, ArePinsIn}
 use Rattle.std.proofs.lemmas.List.{get_or-set_same, get_or-set_other, length-set, get_or_append_left, get_or_push, length_push, get_or_default}
-use Rattle.map_network.specs.declared.source.Source.{Source}
-use Rattle.map_network.specs.declared.source.Source.TheVariants.{Input, Table}
-use Rattle.map_network.specs.declared.network.Network.{Network}
 use Rattle.map_network.specs.Vocabulary.{table_at, IsSourceOf, Reads}
-use Rattle.map_eval.specs.declared.pins.Pin.{Pin}
 use Rattle.map_eval.specs.Pins.{signal_of, source_at, signal_at, AreInRange, pin_of, no_pin, pin_at, pins_at, IsAmong, AreApart, IsBefore, ReadsSignal, ArePinsTo, ArePins}
-use Rattle.map_eval.specs.Turns.{ArePinsIn}
 use Rattle.map_eval.proofs.WordLemmas.{pow_same}
 
 pub same_table : (t p u q : ℕ) → pin_of t p ≡ pin_of u q → t ≡ u

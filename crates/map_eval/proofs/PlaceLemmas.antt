@@ -1,13 +1,8 @@
 -- Tables that are numbered anew, and their order.
 use Rattle.std.proofs.Common.{◌≡◌, ◌⊎◌, Bool, ℕ, zero, suc, ◌+◌, ◌<◌, ◌≤◌, List, [], ◌∷◌, ◌++◌, true, false, length, map, get_or, refl, sym, ap, subst, ◌∙◌, inl, inr, arith}
-use Rattle.std.proofs.lemmas.Bool.{cases_eq, cases_lt}
+use Rattle.map_eval.proofs.Vocabulary.{cases_eq, cases_lt, Source, Input, Table, NetTable, Network, AreInverse, ArePlaced, IsPlaced}
 use Rattle.std.proofs.lemmas.List.{get_or_default, get_or_append_left, get_or_push, length_push, length-map}
-use Rattle.map_network.specs.declared.source.Source.{Source}
-use Rattle.map_network.specs.declared.source.Source.TheVariants.{Input, Table}
-use Rattle.map_network.specs.declared.network.NetTable.{NetTable}
-use Rattle.map_network.specs.declared.network.Network.{Network}
 use Rattle.map_network.specs.Vocabulary.{no_table, table_at, IsNetwork, IsSourceOf, IsCombinational, source_at, AreSourcesIn, IsSourceIn, named_by, renamed, renamed_table}
-use Rattle.map_eval.specs.Placing.{AreInverse, ArePlaced, IsPlaced}
 
 -- one more table of the order
 pub placed_more : (n : Network) (places order : List ℕ) (m : ℕ) (old : List NetTable) (t : NetTable) → t ≡ renamed_table (named_by places) (table_at n (named_by order m)) → ArePlaced n places order m old → ArePlaced n places order (m + 1) (old ++ t ∷ [])

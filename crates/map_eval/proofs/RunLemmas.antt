@@ -1,25 +1,11 @@
 -- One cycle, and the rows that follow.
 use Rattle.std.proofs.Common.{◌≡◌, ◌⊎◌, Bool, ℕ, zero, suc, ◌+◌, ◌*◌, ◌/◌, ◌%◌, ◌<◌, ◌≤◌, ◌&&◌, List, [], ◌∷◌, true, false, length, map, get_or, set, refl, sym, ap, subst, ◌∙◌, inl, inr, arith, bit_and, slice_index_or}
-use Rattle.std.specs.List.{range_with_len, All}
-use Rattle.std.proofs.lemmas.Bool.{cases_eq, cases_lt}
-use Rattle.std.proofs.lemmas.List.{ext_get_or, get_or-map, get_or_default, get_or_past, length-map}
-use Rattle.map_network.specs.declared.source.Source.{Source}
-use Rattle.map_network.specs.declared.source.Source.TheVariants.{Input, Table}
-use Rattle.map_network.specs.declared.network.NetTable.{NetTable}
-use Rattle.map_network.specs.declared.network.Network.{Network}
+use Rattle.map_eval.proofs.Vocabulary.{range_with_len, All, cases_eq, cases_lt, ext_get_or, get_or-map, get_or_default, get_or_past}
+use Rattle.map_eval.proofs.Vocabulary.{length-map, Source, Input, Table, NetTable, Network, cell_and, cell_zero, Plan, State, source_at}
+use Rattle.map_eval.proofs.Vocabulary.{AreInRange, number_at, is_marked, value_in, IsLower, IsOrdered, IsPlan, IsKept, differs_in}
+use Rattle.map_eval.proofs.Vocabulary.{AreGivenBefore, AreSettled, AreClear, HaveTaken, IsPlaced, IsStandIn, NetworkState, IsFirst}
+use Rattle.map_eval.proofs.Vocabulary.{first_values}
 use Rattle.map_network.specs.Vocabulary.{no_table, table_at, IsSourceOf, IsCombinational, IsLatched, IsNetwork, number_of, cell_at, bit_of, truth, IsNetworkValuation, outputs_in, next_state, first_state, RowsFrom, AreRows, flip, named_by, renamed, renamed_table}
-use Rattle.map_network.proofs.CellLemmas.{cell_and, cell_zero}
-use Rattle.map_eval.specs.declared.plan.Plan.{Plan}
-use Rattle.map_eval.specs.declared.state.State.{State}
-use Rattle.map_eval.specs.Pins.{source_at, AreInRange}
-use Rattle.map_eval.specs.Marks.{number_at, is_marked}
-use Rattle.map_eval.specs.States.{value_in, IsLower, IsOrdered, IsPlan, IsKept}
-use Rattle.map_eval.specs.Changes.{differs_in}
-use Rattle.map_eval.specs.Settling.{AreGivenBefore, AreSettled, AreClear}
-use Rattle.map_eval.specs.Latching.{HaveTaken}
-use Rattle.map_eval.specs.Placing.{IsPlaced, IsStandIn}
-use Rattle.map_eval.specs.Evals.{NetworkState, IsFirst}
-use Rattle.map_eval.specs.Starting.{first_values}
 use Rattle.map_eval.proofs.StateLemmas.{gives_truth, takes_truth}
 use Rattle.map_network.proofs.CompactLemmas.{rows_between}
 

@@ -1,20 +1,8 @@
 -- Combinational tables that are evaluated.
 use Rattle.std.proofs.Common.{◌≡◌, ◌⊎◌, Bool, ℕ, ◌+◌, ◌*◌, ◌/◌, ◌%◌, ◌<◌, ◌≤◌, ◌&&◌, ◌||◌, ◌==◌, List, true, false, length, get_or, refl, sym, ap, subst, ◌∙◌, inl, inr, arith, bit_and, bit_or, nat_eq, not}
-use Rattle.std.proofs.lemmas.Bool.{cases_eq, eqb-true}
-use Rattle.std.proofs.lemmas.List.{get_or_default}
-use Rattle.std.proofs.lemmas.Nat.{le_or_l, le_or_r}
-use Rattle.map_network.specs.declared.source.Source.{Source}
-use Rattle.map_network.specs.declared.source.Source.TheVariants.{Input, Table}
-use Rattle.map_network.specs.declared.network.Network.{Network}
-use Rattle.map_network.specs.Vocabulary.{table_at, no_table, IsCombinational, IsLatched, cell_at, Reads}
-use Rattle.map_network.proofs.CellLemmas.{cell_and}
-use Rattle.map_eval.specs.declared.plan.Plan.{Plan}
-use Rattle.map_eval.specs.declared.state.State.{State}
-use Rattle.map_eval.specs.Pins.{source_at}
-use Rattle.map_eval.specs.Marks.{number_at, is_marked}
-use Rattle.map_eval.specs.States.{value_in, IsLower, IsOrdered, AreGates, IsPlan}
-use Rattle.map_eval.specs.Changes.{differs_in, IsEvaluated}
-use Rattle.map_eval.specs.Settling.{AreGivenBefore}
+use Rattle.map_eval.proofs.Vocabulary.{cases_eq, eqb-true, get_or_default, le_or_l, le_or_r, Source, Input, Table, Network, table_at}
+use Rattle.map_eval.proofs.Vocabulary.{no_table, IsCombinational, IsLatched, cell_at, Reads, cell_and, Plan, State, source_at, number_at}
+use Rattle.map_eval.proofs.Vocabulary.{is_marked, value_in, IsLower, IsOrdered, AreGates, IsPlan, differs_in, IsEvaluated, AreGivenBefore}
 
 no_both : true ≡ false → ⊥
 no_both e = cc

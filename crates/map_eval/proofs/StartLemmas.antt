@@ -1,18 +1,9 @@
 -- What is kept of a network at its first cycle, and vectors and rows.
 use Rattle.std.proofs.Common.{◌≡◌, ◌⊎◌, Bool, ℕ, zero, suc, ◌+◌, ◌*◌, ◌/◌, ◌%◌, ◌^◌, ◌<◌, ◌≤◌, List, [], ◌∷◌, ◌++◌, take, true, false, length, map, get_or, set, refl, sym, ap, subst, ◌∙◌, inl, inr, arith, not}
-use Rattle.std.proofs.lemmas.Bool.{cases_eq, cases_lt}
+use Rattle.map_eval.proofs.Vocabulary.{cases_eq, cases_lt, pow_below, six_places, Source, Input, Table, NetTable, Network, AreInRange}
+use Rattle.map_eval.proofs.Vocabulary.{number_at, value_in, pin_bit, HavePins, HaveMasks, IsAddress, HaveMasksTo, HaveAddressesTo}
 use Rattle.std.proofs.lemmas.List.{ext_get_or, get_or-map, get_or_default, get_or_past, get_or-set_same, get_or-set_other, get_or_append_left, get_or_push, length-map, length_push, length-set}
-use Rattle.std.proofs.lemmas.Nat.{pow_below}
-use Rattle.design_netlist.proofs.BitLemmas.{six_places}
-use Rattle.map_network.specs.declared.source.Source.{Source}
-use Rattle.map_network.specs.declared.source.Source.TheVariants.{Input, Table}
-use Rattle.map_network.specs.declared.network.NetTable.{NetTable}
-use Rattle.map_network.specs.declared.network.Network.{Network}
 use Rattle.map_network.specs.Vocabulary.{no_table, table_at, bit_of, cell_at, flip}
-use Rattle.map_eval.specs.Pins.{AreInRange}
-use Rattle.map_eval.specs.Marks.{number_at}
-use Rattle.map_eval.specs.States.{value_in, pin_bit, HavePins, HaveMasks}
-use Rattle.map_eval.specs.Starting.{IsAddress, HaveMasksTo, HaveAddressesTo}
 
 -- a row that is made bit by bit
 pub show_more : (f : Source → Bool) (outputs : List Source) (row : List Bool) (k : ℕ) (x : Bool) → k < length row → x ≡ f (get_or outputs k (Input 0)) → ((j : ℕ) → j < k → get_or row j true ≡ f (get_or outputs j (Input 0))) → (j : ℕ) → j < k + 1 → get_or (set row k x) j true ≡ f (get_or outputs j (Input 0))

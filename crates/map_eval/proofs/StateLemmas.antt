@@ -1,27 +1,15 @@
 -- Addresses and masks while signals change.
 use Rattle.std.proofs.Common.{◌≡◌, ◌⊎◌, Bool, ℕ, zero, suc, ◌+◌, ◌*◌, ◌-◌, ◌<◌, ◌≤◌, ◌==◌, List, ◌++◌, take, drop, true, false, length, map, get_or, set, refl, sym, ap, subst, ◌∙◌, inl, inr, arith, not, slice_index_or}
-use Rattle.std.specs.Int.{bit_at}
-use Rattle.std.specs.Vec.{with_items}
+use Rattle.map_eval.proofs.Vocabulary.{bit_at, with_items, range_with_len, Contains, cases_eq, cases_lt, same_from_bits_below, bit_at-lt}
+use Rattle.map_eval.proofs.Vocabulary.{Source, Input, Table, Network, cell_not, cell_of_number, number_of_six, bit_of_cell, Pin, Plan}
+use Rattle.map_eval.proofs.Vocabulary.{State, number_at, is_marked, differs, AreMarked, AreLow, ArePinsIn, AreTurned, value_in, pin_bit}
+use Rattle.map_eval.proofs.Vocabulary.{HavePins, HaveMasks, IsPlan, IsKept, differs_in, AreOthersAsBefore, IsTurnedAt, IsEvaluated}
 use Rattle.std.specs.Global.{Vec}
 use Rattle.std.proofs.Math.Seq.{take-append_seam}
-use Rattle.std.specs.List.{range_with_len, Contains}
-use Rattle.std.proofs.lemmas.Bool.{cases_eq, cases_lt}
 use Rattle.std.proofs.lemmas.List.{get_or-set_same, get_or-set_other, length-set, get_or-map, get_or_default, get_or_past, length-map}
 use Rattle.std.proofs.lemmas.List.FromFn.{get_or-map-range_with_len, length-map-range_with_len}
-use Rattle.std.proofs.lemmas.Nat.Bits.{same_from_bits_below, bit_at-lt}
-use Rattle.map_network.specs.declared.source.Source.{Source}
-use Rattle.map_network.specs.declared.source.Source.TheVariants.{Input, Table}
-use Rattle.map_network.specs.declared.network.Network.{Network}
 use Rattle.map_network.specs.Vocabulary.{table_at, IsSourceOf, IsCombinational, IsLatched, bit_of, cell_at, number_of, pins_of, truth, flip, Reads}
-use Rattle.map_network.proofs.CellLemmas.{cell_not, cell_of_number, number_of_six, bit_of_cell}
-use Rattle.map_eval.specs.declared.pins.Pin.{Pin}
-use Rattle.map_eval.specs.declared.plan.Plan.{Plan}
-use Rattle.map_eval.specs.declared.state.State.{State}
 use Rattle.map_eval.specs.Pins.{signal_of, source_at, signal_at, AreInRange, pins_at, IsAmong, AreApart, ArePins}
-use Rattle.map_eval.specs.Marks.{number_at, is_marked, differs, AreMarked}
-use Rattle.map_eval.specs.Turns.{AreLow, ArePinsIn, AreTurned}
-use Rattle.map_eval.specs.States.{value_in, pin_bit, HavePins, HaveMasks, IsPlan, IsKept}
-use Rattle.map_eval.specs.Changes.{differs_in, AreOthersAsBefore, IsTurnedAt, IsEvaluated}
 use Rattle.map_eval.proofs.PinLemmas.{pins_in, is_listed, is_read, reads_of}
 
 -- the source gives the other bit exactly where the signal is its own

@@ -1,13 +1,7 @@
 -- Pins that are turned, one after the other.
 use Rattle.std.proofs.Common.{◌≡◌, ◌⊎◌, Bool, ℕ, zero, suc, ◌+◌, ◌^◌, ◌<◌, ◌≤◌, ◌==◌, List, true, false, length, get_or, set, refl, sym, ap, subst, ◌∙◌, inl, inr, arith, not}
-use Rattle.std.specs.Int.{bit_at}
-use Rattle.std.proofs.lemmas.Bool.{cases_eq}
-use Rattle.std.proofs.lemmas.List.{get_or-set_same, get_or-set_other, length-set}
-use Rattle.map_network.specs.Vocabulary.{cell_at, flip}
-use Rattle.map_eval.specs.declared.pins.Pin.{Pin}
-use Rattle.map_eval.specs.Pins.{pin_at, pin_of, IsAmong, AreApart}
-use Rattle.map_eval.specs.Marks.{number_at, is_marked, differs, AreMarked}
-use Rattle.map_eval.specs.Turns.{AreLow, ArePinsIn, AreTurned}
+use Rattle.map_eval.proofs.Vocabulary.{bit_at, cases_eq, get_or-set_same, get_or-set_other, length-set, cell_at, flip, Pin, pin_at, pin_of}
+use Rattle.map_eval.proofs.Vocabulary.{IsAmong, AreApart, number_at, is_marked, differs, AreMarked, AreLow, ArePinsIn, AreTurned}
 use Rattle.map_eval.proofs.WordLemmas.{pow_same}
 
 pub turn_none : (pins : List Pin) (old : List ℕ) → AreLow old → AreTurned pins 0 old old

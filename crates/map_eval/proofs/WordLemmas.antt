@@ -1,14 +1,9 @@
 -- Bits of words and addresses.
 use Rattle.std.proofs.Common.{◌≡◌, ◌⊎◌, Bool, ℕ, zero, suc, ◌+◌, ◌*◌, ◌/◌, ◌%◌, ◌^◌, ◌<◌, ◌≤◌, ◌-◌, ◌==◌, ◌||◌, ◌&&◌, List, true, false, length, set, refl, sym, ap, ◌∙◌, inl, inr, arith, bit_and, bit_or, not, bit_xor}
-use Rattle.std.specs.Int.{bit_at}
-use Rattle.std.proofs.lemmas.Nat.{and_le_l, xor_lt, pow_below}
-use Rattle.std.proofs.lemmas.Bool.{cases_eq, cases_lt}
-use Rattle.std.proofs.lemmas.List.{get_or-set_same, get_or-set_other, get_or_past}
-use Rattle.std.proofs.lemmas.Nat.Bits.{bit_at_xor, bit_at-pow_same, bit_at-pow_other, bit_at-lt}
-use Rattle.map_network.specs.Vocabulary.{cell_at, flip}
-use Rattle.map_network.proofs.CellLemmas.{bit_of_cell, cell_or, cell_and, cell_not, cell_zero}
-use Rattle.design_netlist.proofs.BitLemmas.{two_bits}
-use Rattle.map_eval.specs.Marks.{number_at, is_marked, differs, AreMarked, AreMarkedTo}
+use Rattle.map_eval.proofs.Vocabulary.{bit_at, and_le_l, xor_lt, pow_below, cases_eq, cases_lt, get_or-set_same, get_or-set_other}
+use Rattle.map_eval.proofs.Vocabulary.{get_or_past, bit_at_xor, bit_at-pow_same, bit_at-pow_other, bit_at-lt, cell_at, flip, bit_of_cell}
+use Rattle.map_eval.proofs.Vocabulary.{cell_or, cell_and, cell_not, cell_zero, two_bits, number_at, is_marked, differs, AreMarked}
+use Rattle.map_eval.proofs.Vocabulary.{AreMarkedTo}
 
 -- one word takes the place of another, from which it differs at one bit at most
 module _ (marks : List ℕ) (t word : ℕ) (within : t < 64 * length marks) where

@@ -1,10 +1,7 @@
 -- What one change changes.
 use Rattle.std.specs.Prelude.{◌≡◌, ℕ, Bool, not, false, slice_set}
-use Rattle.map_network.specs.declared.network.Network.{Network}
-use Rattle.map_network.specs.Merging.{Reads}
-use Rattle.map_eval.specs.declared.state.State.{State}
-use Rattle.map_eval.specs.Marks.{differs}
-use Rattle.map_eval.specs.States.{value_in}
+use Rattle.map_network.specs.{declared.network.Network.Network, Merging.Reads}
+use Rattle.map_eval.specs.{declared.state.State.State, Marks.differs, States.value_in}
 
 -- whether a table differs from what it gives
 abbrev pub differs_in : State → ℕ → Bool

@@ -1,7 +1,6 @@
 -- A network that is run, vector by vector.
 use Rattle.std.specs.Prelude.{◌≡◌, ◌<◌, ◌⊎◌, ℕ, List, Bool, length}
-use Rattle.map_network.specs.declared.network.Network.{Network}
-use Rattle.map_network.specs.Rows.{RowsFrom, AreRows}
+use Rattle.map_network.specs.{declared.network.Network.Network, Rows.RowsFrom, Rows.AreRows}
 use Rattle.map_eval.specs.States.{value_in, IsOrdered}
 
 -- a network, and what its tables give next

@@ -1,12 +1,8 @@
 -- Latched tables that take what they read.
 use Rattle.std.specs.Prelude.{◌≡◌, ◌+◌, ◌*◌, ◌<◌, ℕ, List, true, false, length}
-use Rattle.map_network.specs.declared.network.Network.{Network}
-use Rattle.map_network.specs.Vocabulary.{IsLatched, cell_at, flip}
-use Rattle.map_eval.specs.declared.plan.Plan.{Plan}
-use Rattle.map_eval.specs.declared.state.State.{State}
-use Rattle.map_eval.specs.Marks.{number_at, is_marked}
+use Rattle.map_network.specs.{declared.network.Network.Network, Vocabulary.IsLatched, Vocabulary.cell_at, Vocabulary.flip}
+use Rattle.map_eval.specs.{declared.plan.Plan.Plan, declared.state.State.State, Marks.number_at, Marks.is_marked, Changes.differs_in}
 use Rattle.map_eval.specs.States.{value_in}
-use Rattle.map_eval.specs.Changes.{differs_in}
 
 -- the bits of a word: a table is due if it is latched and differs from what it gives
 pub record AreDueIn (plan : Plan) (state : State) (word due : ℕ) : Type 0 where

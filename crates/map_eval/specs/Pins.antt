@@ -1,9 +1,7 @@
 -- Which pins each signal leads to.
 use Rattle.std.specs.Prelude.{◌≡◌, ◌+◌, ◌^◌, ◌<◌, ◌≤◌, ◌⊎◌, ◌∷◌, ℕ, List, [], length, slice_index_or}
-use Rattle.map_network.specs.declared.source.Source.{Source}
-use Rattle.map_network.specs.declared.source.Source.TheVariants.{Input, Table}
-use Rattle.map_network.specs.declared.network.Network.{Network}
-use Rattle.map_network.specs.Networks.{table_at, IsSourceOf}
+use Rattle.map_network.specs.{declared.source.Source.Source, Networks.table_at, Networks.IsSourceOf}
+use Rattle.map_network.specs.declared.{source.Source.TheVariants.Input, source.Source.TheVariants.Table, network.Network.Network}
 use Rattle.map_eval.specs.declared.pins.Pin.{Pin}
 
 -- signals are the tables, and then the inputs

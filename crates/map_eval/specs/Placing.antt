@@ -1,10 +1,8 @@
 -- A network whose tables are numbered anew.
 use Rattle.std.specs.Prelude.{◌≡◌, ◌<◌, ◌≤◌, ℕ, List, Bool, length, map, slice_index_or}
-use Rattle.map_network.specs.declared.network.NetTable.{NetTable}
-use Rattle.map_network.specs.declared.network.Network.{Network}
+use Rattle.map_network.specs.declared.network.{NetTable.NetTable, Network.Network}
 use Rattle.map_network.specs.Vocabulary.{no_table, table_at, IsSourceOf, AreRows, named_by, renamed, renamed_table}
-use Rattle.map_eval.specs.Pins.{source_at, AreInRange}
-use Rattle.map_eval.specs.States.{IsLower, IsOrdered}
+use Rattle.map_eval.specs.{Pins.source_at, Pins.AreInRange, States.IsLower, States.IsOrdered}
 
 -- each table stands at its place in the order
 abbrev pub AreInverse : (places order : List ℕ) → Type 0

@@ -1,10 +1,8 @@
 -- A network that is run by changes, or table by table.
 use Rattle.std.specs.Prelude.{◌≡◌, false, length}
 use Rattle.map_network.specs.declared.network.Network.{Network}
-use Rattle.map_eval.specs.declared.running.Running.{Running}
+use Rattle.map_eval.specs.{declared.running.Running.Running, States.IsPlan, States.IsKept, Wires.IsBusy, Wires.IsShaped}
 use Rattle.map_eval.specs.Starting.{first_values}
-use Rattle.map_eval.specs.States.{IsPlan, IsKept}
-use Rattle.map_eval.specs.Wires.{IsBusy, IsShaped}
 
 -- addresses, masks and marks are right, unless they are those of an earlier cycle
 pub record IsRunning (run : Running) : Type 0 where

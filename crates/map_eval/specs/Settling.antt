@@ -1,11 +1,7 @@
 -- Combinational tables that have the cells of their addresses.
 use Rattle.std.specs.Prelude.{◌≡◌, ◌<◌, ℕ, List, false, true}
-use Rattle.map_network.specs.declared.network.Network.{Network}
-use Rattle.map_network.specs.Networks.{IsCombinational, IsLatched}
-use Rattle.map_eval.specs.declared.state.State.{State}
-use Rattle.map_eval.specs.Marks.{is_marked}
-use Rattle.map_eval.specs.States.{value_in}
-use Rattle.map_eval.specs.Changes.{differs_in}
+use Rattle.map_network.specs.{declared.network.Network.Network, Networks.IsCombinational, Networks.IsLatched}
+use Rattle.map_eval.specs.{declared.state.State.State, Marks.is_marked, States.value_in, Changes.differs_in}
 
 -- inputs and latched tables give what they gave
 pub record AreGivenBefore (n : Network) (old new : State) : Type 0 where

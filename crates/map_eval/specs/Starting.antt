@@ -1,11 +1,8 @@
 -- What is kept of a network at its first cycle.
 use Rattle.std.specs.Prelude.{◌≡◌, ◌<◌, ◌≤◌, ℕ, List, Bool, true, length, map, slice_index_or}
-use Rattle.map_network.specs.declared.source.Source.{Source}
-use Rattle.map_network.specs.declared.network.NetTable.{NetTable}
-use Rattle.map_network.specs.declared.network.Network.{Network}
+use Rattle.map_network.specs.declared.{source.Source.Source, network.NetTable.NetTable, network.Network.Network}
 use Rattle.map_network.specs.Vocabulary.{no_table, table_at, bit_of, cell_at, flip}
-use Rattle.map_eval.specs.Marks.{number_at}
-use Rattle.map_eval.specs.States.{value_in}
+use Rattle.map_eval.specs.{Marks.number_at, States.value_in}
 
 abbrev pub first_values : List NetTable → List Bool
 first_values tables = map (λ t. t.init) tables

@@ -1,14 +1,10 @@
 -- What is kept of a network between changes.
 use Rattle.std.specs.Prelude.{◌≡◌, ◌+◌, ◌/◌, ◌<◌, ◌≤◌, ◌⊎◌, ℕ, List, Bool, true, false, length, map, slice_index_or}
 use Rattle.map_network.specs.declared.source.Source.{Source}
-use Rattle.map_network.specs.declared.source.Source.TheVariants.{Input, Table}
-use Rattle.map_network.specs.declared.network.Network.{Network}
+use Rattle.map_network.specs.declared.{source.Source.TheVariants.Input, source.Source.TheVariants.Table, network.Network.Network}
 use Rattle.map_network.specs.Vocabulary.{table_at, IsCombinational, IsLatched, bit_of, cell_at, flip}
-use Rattle.map_eval.specs.declared.plan.Plan.{Plan}
-use Rattle.map_eval.specs.declared.state.State.{State}
-use Rattle.map_eval.specs.Pins.{source_at, AreInRange, ArePins}
-use Rattle.map_eval.specs.Marks.{number_at, is_marked, AreMarked}
-use Rattle.map_eval.specs.Turns.{AreLow}
+use Rattle.map_eval.specs.declared.{plan.Plan.Plan, state.State.State}
+use Rattle.map_eval.specs.{Pins.source_at, Pins.AreInRange, Pins.ArePins, Marks.number_at, Marks.is_marked, Marks.AreMarked, Turns.AreLow}
 
 -- what a table gives, by a list of bits
 abbrev pub value_in : List Bool → ℕ → Bool

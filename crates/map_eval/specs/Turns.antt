@@ -1,9 +1,7 @@
 -- Addresses in which pins are turned.
 use Rattle.std.specs.Prelude.{◌≡◌, ◌<◌, ℕ, List, Bool, not, length}
 use Rattle.map_network.specs.Rows.{cell_at}
-use Rattle.map_eval.specs.declared.pins.Pin.{Pin}
-use Rattle.map_eval.specs.Pins.{pin_at, pin_of, IsAmong}
-use Rattle.map_eval.specs.Marks.{number_at}
+use Rattle.map_eval.specs.{declared.pins.Pin.Pin, Pins.pin_at, Pins.pin_of, Pins.IsAmong, Marks.number_at}
 
 -- addresses of six bits
 abbrev pub AreLow : List ℕ → Type 0

@@ -1,16 +1,10 @@
 -- Tables by the numbers of the signals that their pins read.
 use Rattle.std.specs.Prelude.{◌≡◌, ◌+◌, ◌*◌, ◌<◌, ℕ, List, Bool, true, nat_lt, map, length, slice_index_or, if◌then◌else◌}
 use Rattle.std.specs.List.{range_with_len}
-use Rattle.map_network.specs.declared.source.Source.{Source}
-use Rattle.map_network.specs.declared.source.Source.TheVariants.{Input}
-use Rattle.map_network.specs.declared.network.Network.{Network}
+use Rattle.map_network.specs.declared.{source.Source.Source, source.Source.TheVariants.Input, network.Network.Network}
 use Rattle.map_network.specs.Vocabulary.{table_at, IsCombinational, IsLatched, truth}
-use Rattle.map_eval.specs.declared.busy.Busy.{Busy}
-use Rattle.map_eval.specs.declared.plan.Plan.{Plan}
-use Rattle.map_eval.specs.declared.state.State.{State}
+use Rattle.map_eval.specs.{declared.busy.Busy.Busy, declared.plan.Plan.Plan, declared.state.State.State, Marks.number_at, States.value_in}
 use Rattle.map_eval.specs.Pins.{signal_of}
-use Rattle.map_eval.specs.Marks.{number_at}
-use Rattle.map_eval.specs.States.{value_in}
 
 -- the signal of a pin. A pin without an input reads the signal that is 1
 abbrev pub wire_at : (tables one : ℕ) → List Source → ℕ → ℕ

@@ -1,11 +1,8 @@
 -- Numbers from their bits, the highest first, and the different sources of two lists.
 use Rattle.std.proofs.Common.{◌≡◌, Bool, ℕ, suc, ◌+◌, ◌*◌, ◌-◌, ◌^◌, ◌<◌, ◌≤◌, List, [], ◌∷◌, ◌++◌, Option, None, Some, true, false, length, map, get_or, take, drop, sym, ap, subst, ◌∙◌, arith, if◌then◌else◌, not, ◌==◌, MatchOption}
-use Rattle.std.specs.List.{range_with_len}
-use Rattle.std.proofs.Math.Nat.{pow-le-pow_right}
+use Rattle.map_network.proofs.Vocabulary.{range_with_len, pow-le-pow_right, filter-append, number_of, cell_at, six_bits, distinct, is_among}
 use Rattle.std.proofs.lemmas.List.{append-nil, take_more, take-append-drop, length_push}
-use Rattle.std.proofs.lemmas.List.Elements.{filter-append}
 use Rattle.std.proofs.lemmas.List.FromFn.{get_or-map-range_with_len, length-map-range_with_len}
-use Rattle.map_network.specs.Vocabulary.{number_of, cell_at, six_bits, distinct, is_among}
 use Rattle.map_network.proofs.CellLemmas.{number_fits}
 use Rattle.map_network.proofs.NameLemmas.{after, distinct_le, without, without_same, without_other}
 

@@ -1,18 +1,9 @@
 -- What the tables of a cover read: what the cover reads, or earlier ones of them.
 use Rattle.std.proofs.Common.{◌≡◌, ◌⊎◌, Bool, ℕ, zero, suc, ◌+◌, ◌*◌, ◌-◌, ◌/◌, ◌<◌, ◌≤◌, List, [], ◌∷◌, ◌++◌, true, false, length, drop, take, map, get_or, refl, sym, ap, subst, ◌∙◌, inl, inr, arith, slice_index_or}
-use Rattle.std.specs.List.{Contains}
-use Rattle.std.proofs.lemmas.Bool.{cases_lt}
+use Rattle.map_network.proofs.Vocabulary.{Contains, cases_lt, Cover, Lit, Zero, One, Any, Source, Input, Table, Want, Gate, NetTable}
 use Rattle.std.proofs.lemmas.List.{length-append, length-map, length-take, length-drop, get_or-map, get_or_default, get_or_append_left, get_or-append_right, get_or-take, get_or-drop, drop-drop}
 use Rattle.std.proofs.lemmas.List.FromFn.{get_or-map-range_with_len}
-use Rattle.design_netlist.specs.declared.netlist_data.Cover.{Cover}
-use Rattle.design_netlist.specs.declared.netlist_data.Lit.{Lit}
-use Rattle.design_netlist.specs.declared.netlist_data.Lit.TheVariants.{Zero, One, Any}
-use Rattle.map_network.specs.declared.source.Source.{Source}
-use Rattle.map_network.specs.declared.source.Source.TheVariants.{Input, Table}
-use Rattle.map_network.specs.declared.want.Want.{Want}
-use Rattle.map_network.specs.declared.want.Gate.{Gate}
 use Rattle.map_network.specs.declared.want.Gate.TheVariants as gate
-use Rattle.map_network.specs.declared.network.NetTable.{NetTable}
 use Rattle.map_network.specs.Vocabulary.{no_table, groups, sixes, want_table, wants_from, gate_table, levels, tree, trees, tree_ends, row_wants, rows_wants, narrow_table, is_narrow, cover_tables, distinct}
 use Rattle.map_network.proofs.TreeLemmas.{length-groups, length-wants_from, tree_size_some, length-tree, levels_low, levels_high, nat_lt_true}
 use Rattle.map_network.proofs.PlainLemmas.{narrow_tables, wide_are, true_or}

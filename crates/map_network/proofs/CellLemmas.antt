@@ -2,17 +2,13 @@
 use Rattle.std.proofs.Common.{◌≡◌, Bool, ℕ, zero, suc, ◌+◌, ◌-◌, ◌*◌, ◌^◌, ◌<◌, ◌≤◌, ◌&&◌, ◌||◌, List, [], ◌∷◌, true, false, length, drop, map, get_or, refl, sym, ap, subst, ◌∙◌, arith, bit_and, bit_or, w64, not, if◌then◌else◌, ◌==◌}
 use Rattle.std.specs.Int.{bit_at}
 use native.Mathlib.Numerals.{unary_clauses}
-use Rattle.std.specs.List.{range_with_len}
+use Rattle.map_network.proofs.Vocabulary.{range_with_len, drop_more, drop_all, ext_get_or, length-map, get_or-map}
+use Rattle.map_network.proofs.Vocabulary.{get_or-map-range_with_len, length-map-range_with_len, nat_tests, Lit, fits, matches, some_matches}
+use Rattle.map_network.proofs.Vocabulary.{Want}
 use Rattle.std.proofs.lemmas.Nat.Bits.{bit_at_not, bit_at_ones, bit_at-lt, bit_at-zero, bit_at-suc, bit_at_lowest, same_from_bits_below}
-use Rattle.std.proofs.lemmas.List.{drop_more, drop_all, ext_get_or, length-map, get_or-map}
-use Rattle.std.proofs.lemmas.List.FromFn.{get_or-map-range_with_len, length-map-range_with_len}
-use Rattle.std.proofs.lemmas.Bool.Decides.{nat_tests}
 use Rattle.std.proofs.Math.Bool.{and_assoc, and-true, or_assoc, or-false}
-use Rattle.design_netlist.specs.declared.netlist_data.Lit.{Lit}
-use Rattle.design_netlist.specs.Covers.{fits, matches, some_matches}
 use Rattle.design_netlist.proofs.BitLemmas.{halved, lowest, two_bits}
 use Rattle.design_netlist.proofs.LaneLemmas.{and-bit, or-bit}
-use Rattle.map_network.specs.declared.want.Want.{Want}
 use Rattle.map_network.specs.Vocabulary.{number_of, cell_at, six_bits, cells_where, every, any, met, pin_named, Give, masks_at}
 
 -- one bit

@@ -2,12 +2,7 @@
 use Rattle.std.proofs.Common.{◌≡◌, Bool, ℕ, zero, suc, ◌+◌, ◌<◌, ◌≤◌, List, [], ◌∷◌, ◌++◌, true, false, length, map, get_or, set, drop, replicate, refl, sym, ap, subst, ◌∙◌, inl, inr, arith, slice_index_or, if◌then◌else◌}
 use Rattle.std.specs.List.{range_with_len, Contains, All}
 use Rattle.std.proofs.lemmas.List.{get_or-map, ext_get_or, length-map, get_or_default, length_push, drop_more, get_or_push, get_or_append_left, get_or-set_same, get_or-set_other, get_or-replicate, length-replicate, length-set, get_or_past}
-use Rattle.std.proofs.lemmas.Bool.{cases_eq, cases_lt}
-use Rattle.std.proofs.lemmas.List.Elements.{Contains-get_or}
-use Rattle.map_network.specs.declared.source.Source.{Source}
-use Rattle.map_network.specs.declared.source.Source.TheVariants.{Input, Table}
-use Rattle.map_network.specs.declared.network.NetTable.{NetTable}
-use Rattle.map_network.specs.declared.network.Network.{Network}
+use Rattle.map_network.proofs.Vocabulary.{cases_eq, cases_lt, Contains-get_or, Source, Input, Table, NetTable, Network}
 use Rattle.map_network.specs.Vocabulary.{no_table, table_at, IsSourceOf, IsCombinational, IsLatched, IsPath, alone, onward, IsNetwork, number_of, cell_at, bit_of, truth, IsNetworkValuation, outputs_in, next_state, first_state, RowsFrom, AreRows, is_dropped, rank, renamed, renamed_table, kept_tables, compacted, named_by, AreRanks, AreKept, IsKept, IsClosed, IsCompacted, DoesSame, IsReduced, IsUnread, Reads, AllLead, LeadsToOutput, is_read, is_shown}
 use Rattle.map_network.proofs.ValuationLemmas.{one_rows}
 

@@ -1,9 +1,7 @@
 -- What is chosen among cells pin by pin.
 use Rattle.std.proofs.Common.{◌≡◌, ℕ, zero, suc, ◌+◌, ◌-◌, ◌*◌, ◌^◌, ◌<◌, ◌≤◌, ◌&&◌, ◌||◌, Bool, true, false, List, [], ◌∷◌, map, length, drop, get_or, zero-add, refl, sym, ap, ◌∙◌, arith, not, if◌then◌else◌}
-use Rattle.std.specs.List.{range_with_len}
+use Rattle.map_network.proofs.Vocabulary.{range_with_len, drop_more, number_of}
 use native.Mathlib.Numerals.{unary_clauses}
-use Rattle.std.proofs.lemmas.List.{drop_more}
-use Rattle.map_network.specs.Rows.{number_of}
 
 pub sizes_are : (n d : ℕ) → n ≤ 6 → get_or (1 ∷ 2 ∷ 4 ∷ 8 ∷ 16 ∷ 32 ∷ 64 ∷ []) n d ≡ 2 ^ n
 sizes_are zero d h = refl

@@ -1,14 +1,8 @@
 -- The loops that add the tables of rows and covers.
 use Rattle.std.proofs.Common.{◌≡◌, ℕ, zero, suc, ◌+◌, ◌-◌, ◌<◌, ◌≤◌, List, [], ◌∷◌, ◌++◌, false, length, drop, take, get_or, sym, ap, ◌∙◌, arith, sum_by, All, not, ◌==◌}
 use Rattle.std.proofs.lemmas.List.{append_assoc, append-nil, length-append, length-map, drop_more, drop_all, get_or-map, get_or_default}
-use Rattle.std.proofs.lemmas.List.Elements.{All-filter}
-use Rattle.std.proofs.lemmas.List.Sums.{sum_by-drop_more, sum_by_more}
-use Rattle.design_netlist.specs.declared.netlist_data.Cover.{Cover}
-use Rattle.design_netlist.specs.declared.netlist_data.Lit.{Lit}
-use Rattle.map_network.specs.declared.source.Source.{Source}
-use Rattle.map_network.specs.declared.want.Want.{Want}
+use Rattle.map_network.proofs.Vocabulary.{All-filter, sum_by-drop_more, sum_by_more, Cover, Lit, Source, Want, NetTable}
 use Rattle.map_network.specs.declared.want.Gate.TheVariants as gate
-use Rattle.map_network.specs.declared.network.NetTable.{NetTable}
 use Rattle.map_network.specs.Vocabulary.{tree, trees, tree_ends, row_wants, rows_wants, cover_tables, cover_size, covers_tables, distinct, want_table, tree_size, row_size, rows_size}
 use Rattle.map_network.proofs.PlainLemmas.{AreRowsOf, length-row_wants, length-cover}
 

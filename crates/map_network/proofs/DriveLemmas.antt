@@ -1,18 +1,11 @@
 -- What gives each signal of a checked design.
 use Rattle.std.proofs.Common.{◌≡◌, ◌⊎◌, ℕ, suc, ◌+◌, ◌*◌, ◌-◌, ◌<◌, ◌≤◌, List, [], ◌∷◌, ◌++◌, length, drop, map, get_or, refl, sym, ap, subst, ◌∙◌, inl, inr, arith, sum_by, replicate, get_or-set_same, get_or-set_other, if◌then◌else◌, slice_set, ◌==◌}
-use Rattle.std.specs.List.{range_with_len}
+use Rattle.map_network.proofs.Vocabulary.{range_with_len, sum_by-cons, Cover, NetlistData, LatchDef, PortDef, Source, Input, Table}
 use Rattle.std.proofs.lemmas.Bool.{cases_lt, cases_eq}
 use Rattle.std.proofs.lemmas.List.{length-append, length-map, length-set, length-replicate, get_or-replicate, get_or_past, map-append, get_or-map}
-use Rattle.std.proofs.lemmas.List.Sums.{sum_by-cons}
-use Rattle.design_netlist.specs.declared.netlist_data.Cover.{Cover}
-use Rattle.design_netlist.specs.declared.netlist_data.NetlistData.{NetlistData}
-use Rattle.design_netlist.specs.declared.netlist_data.LatchDef.{LatchDef}
-use Rattle.design_netlist.specs.declared.netlist_data.PortDef.{PortDef}
 use Rattle.design_netlist.specs.Vocabulary.{cover_at, word, signal_at, cover_drive, latch_drive, drive_words, cover_characters, IsChecked}
 use Rattle.design_netlist.proofs.ListLemmas.{few_numbers}
 use Rattle.design_netlist.proofs.MadeLemmas as made
-use Rattle.map_network.specs.declared.source.Source.{Source}
-use Rattle.map_network.specs.declared.source.Source.TheVariants.{Input, Table}
 use Rattle.map_network.specs.Vocabulary.{cover_size, cover_ends, sources_of, source_among, source_of, Drive, input_drives, cover_drives, latch_drives, all_drives, written, source_in, AreCovers, AreLatches, ArePorts}
 use Rattle.map_network.proofs.CellLemmas.{eqb_true, eqb_false}
 use Rattle.map_network.proofs.PlainLemmas.{AreRowsOf, size_few}

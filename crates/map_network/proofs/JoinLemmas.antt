@@ -1,13 +1,7 @@
 -- A table is put into its reader: the network has the same rows.
 use Rattle.std.proofs.Common.{◌≡◌, ◌⊎◌, Bool, ℕ, ◌<◌, ◌≤◌, List, [], ◌∷◌, ◌++◌, true, length, map, get_or, refl, sym, ap, subst, ◌∙◌, inl, inr, arith}
-use Rattle.std.specs.List.{range_with_len, Contains}
-use Rattle.std.proofs.lemmas.Bool.{cases_eq}
-use Rattle.std.proofs.lemmas.List.{get_or-map, ext_get_or, length-map}
-use Rattle.std.proofs.lemmas.List.Elements.{Contains-get_or, Contains-append_left, Contains-append_right}
-use Rattle.map_network.specs.declared.source.Source.{Source}
-use Rattle.map_network.specs.declared.source.Source.TheVariants.{Input, Table}
-use Rattle.map_network.specs.declared.network.NetTable.{NetTable}
-use Rattle.map_network.specs.declared.network.Network.{Network}
+use Rattle.map_network.proofs.Vocabulary.{range_with_len, Contains, cases_eq, get_or-map, ext_get_or, length-map, Contains-get_or}
+use Rattle.map_network.proofs.Vocabulary.{Contains-append_left, Contains-append_right, Source, Input, Table, NetTable, Network}
 use Rattle.map_network.specs.Vocabulary.{number_of, cell_at, bit_of, pins_of, truth, IsNetworkValuation, next_state, first_state, RowsFrom, AreRows, pin_named, number, bit_with, address_by, joined_truth, IsJoined}
 use Rattle.map_network.proofs.CellLemmas.{gives_of}
 use Rattle.map_network.proofs.ValueLemmas.{pin_at, length-pins}

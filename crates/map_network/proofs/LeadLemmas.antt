@@ -1,13 +1,7 @@
 -- What leads to an output still does where tables are put into readers.
 use Rattle.std.proofs.Common.{◌≡◌, ◌⊎◌, Bool, ℕ, ◌<◌, List, ◌++◌, true, false, length, get_or, sym, ap, subst, ◌∙◌, inl, inr, arith}
-use Rattle.std.specs.List.{Contains}
-use Rattle.std.proofs.lemmas.Bool.{cases_eq}
-use Rattle.std.proofs.lemmas.List.{get_or-set_same, get_or-set_other}
+use Rattle.map_network.proofs.Vocabulary.{Contains, cases_eq, get_or-set_same, get_or-set_other, Source, Table, NetTable, Network}
 use Rattle.std.proofs.lemmas.List.Elements.{Contains-append_left, Contains-append_right}
-use Rattle.map_network.specs.declared.source.Source.{Source}
-use Rattle.map_network.specs.declared.source.Source.TheVariants.{Table}
-use Rattle.map_network.specs.declared.network.NetTable.{NetTable}
-use Rattle.map_network.specs.declared.network.Network.{Network}
 use Rattle.map_network.specs.Vocabulary.{Reads, in_tables, IsPut, IsPutOn, Puts, none, more, is_dropped, LeadsToOutput, is_read, is_shown}
 use Rattle.map_network.proofs.SourceLemmas.{has_both, of_among}
 use Rattle.map_network.proofs.PutLemmas.{net, at_reader, at_other, same_length, same_marks, same_tables}

@@ -24,3 +24,4 @@ mod LeadLemmas
 mod ReducedLemmas
 mod PruneLemmas
 mod SpreadLemmas
+mod Vocabulary

@@ -1,13 +1,8 @@
 -- Tables that were put into readers, where nothing that stands reads one of them: each had one reader.
 use Rattle.std.proofs.Common.{◌≡◌, ◌⊎◌, Bool, ℕ, zero, suc, ◌<◌, ◌≤◌, List, [], ◌∷◌, ◌++◌, true, false, length, get_or, set, replicate, refl, sym, ap, subst, ◌∙◌, inl, inr, arith}
-use Rattle.std.specs.List.{Contains}
-use Rattle.std.proofs.lemmas.Bool.{cases_eq, cases_lt}
+use Rattle.map_network.proofs.Vocabulary.{Contains, cases_eq, cases_lt, Source, Table, NetTable, Network}
 use Rattle.std.proofs.lemmas.List.{get_or-set_same, get_or-set_other, get_or-replicate, length-replicate, get_or_past}
 use Rattle.std.proofs.lemmas.List.Elements.{Contains-append_left, Contains-append_right}
-use Rattle.map_network.specs.declared.source.Source.{Source}
-use Rattle.map_network.specs.declared.source.Source.TheVariants.{Table}
-use Rattle.map_network.specs.declared.network.NetTable.{NetTable}
-use Rattle.map_network.specs.declared.network.Network.{Network}
 use Rattle.map_network.specs.Vocabulary.{IsNetwork, Reads, in_tables, IsPutOn, Puts, none, more, is_dropped, IsClosed, StillReads, IsMerge, Merges, merges}
 use Rattle.map_network.proofs.SourceLemmas.{has_both, of_among}
 use Rattle.map_network.proofs.CompactLemmas.{kept_of}

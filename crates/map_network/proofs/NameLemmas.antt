@@ -1,14 +1,8 @@
 -- Distinct names, and how many tables a cover has.
 use Rattle.std.proofs.Common.{◌≡◌, ◌⊎◌, Bool, ℕ, zero, suc, ◌+◌, ◌<◌, ◌≤◌, ◌||◌, List, [], ◌∷◌, ◌++◌, true, false, length, drop, take, get_or, refl, sym, ap, ◌∙◌, inl, inr, arith, cond, nat_lt, not, ◌==◌}
-use Rattle.std.specs.List.{filter}
-use Rattle.std.proofs.lemmas.Bool.{cases_eq, lt-ltb}
+use Rattle.map_network.proofs.Vocabulary.{filter, cases_eq, lt-ltb, filter-append, sum_by-cons, length-filter, count_by-le-length, Lit}
+use Rattle.map_network.proofs.Vocabulary.{Zero, One, Any, row_characters, distinct, is_among, is_wanted, wants_in, row_size}
 use Rattle.std.proofs.lemmas.List.{append_assoc, append-nil, drop_more, drop_all, take_more, take-append-drop, length_push}
-use Rattle.std.proofs.lemmas.List.Elements.{filter-append}
-use Rattle.std.proofs.lemmas.List.Sums.{sum_by-cons, length-filter, count_by-le-length}
-use Rattle.design_netlist.specs.declared.netlist_data.Lit.{Lit}
-use Rattle.design_netlist.specs.declared.netlist_data.Lit.TheVariants.{Zero, One, Any}
-use Rattle.design_netlist.specs.Drafts.{row_characters}
-use Rattle.map_network.specs.Vocabulary.{distinct, is_among, is_wanted, wants_in, row_size}
 use Rattle.map_network.proofs.TreeLemmas.{tree_size_few}
 use Rattle.map_network.proofs.CellLemmas.{eqb_true, eqb_false}
 

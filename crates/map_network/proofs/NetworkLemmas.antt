@@ -1,18 +1,10 @@
 -- A plain network is a network: what it reads is in range, and its paths are short.
 use Rattle.std.proofs.Common.{◌≡◌, ◌⊎◌, ℕ, zero, suc, ◌+◌, ◌*◌, ◌-◌, ◌<◌, ◌≤◌, [], ◌∷◌, ◌++◌, true, false, length, map, get_or, refl, sym, ap, subst, ◌∙◌, inl, inr, arith, sum_by, slice_index_or}
-use Rattle.std.specs.List.{Contains}
-use Rattle.std.proofs.lemmas.Bool.{cases_lt}
+use Rattle.map_network.proofs.Vocabulary.{Contains, cases_lt, suc-mul, NetlistData, LatchDef, PortDef, Source, Input, Table, NetTable}
 use Rattle.std.proofs.lemmas.List.{length-append, length-map, get_or-map, get_or_default, get_or_append_left, get_or-append-add}
 use Rattle.std.proofs.lemmas.List.Elements.{Contains-get_or}
-use Rattle.std.proofs.Math.Nat.{suc-mul}
-use Rattle.design_netlist.specs.declared.netlist_data.NetlistData.{NetlistData}
-use Rattle.design_netlist.specs.declared.netlist_data.LatchDef.{LatchDef}
-use Rattle.design_netlist.specs.declared.netlist_data.PortDef.{PortDef}
 use Rattle.design_netlist.specs.Vocabulary.{cover_at, Reads, word, signal_at, IsDriven, IsChecked}
 use Rattle.design_netlist.proofs.WalkLemmas.{IsLow, low_all}
-use Rattle.map_network.specs.declared.source.Source.{Source}
-use Rattle.map_network.specs.declared.source.Source.TheVariants.{Input, Table}
-use Rattle.map_network.specs.declared.network.NetTable.{NetTable}
 use Rattle.map_network.specs.Vocabulary.{no_table, table_at, IsSourceOf, IsCombinational, IsPath, alone, onward, IsDeepest, IsNetwork, cover_tables, covers_tables, cover_size, latch_table, source_of, plain_network, latch_at, no_latch}
 use Rattle.map_network.proofs.PathLemmas.{last_is}
 use Rattle.map_network.proofs.BlockLemmas.{table_in, Block, block_cover}

@@ -1,18 +1,11 @@
 -- Where the tables of a plain network stand, and what gives each signal.
 use Rattle.std.proofs.Common.{◌≡◌, ◌⊎◌, ℕ, zero, suc, ◌+◌, ◌-◌, ◌<◌, ◌≤◌, List, [], ◌∷◌, ◌++◌, length, take, map, get_or, refl, sym, ap, subst, ◌∙◌, inl, inr, arith, sum_by, slice_index_or}
-use Rattle.std.specs.List.{range_with_len, Contains, flat_map}
-use Rattle.std.proofs.lemmas.Bool.{cases_lt}
+use Rattle.map_network.proofs.Vocabulary.{range_with_len, Contains, flat_map, cases_lt, sum_by-cons, sum_by_more, sum_by-take-le}
+use Rattle.map_network.proofs.Vocabulary.{Contains-append_left, Contains-append_right, Cover, NetlistData, PortDef, Source, Input, Table}
 use Rattle.std.proofs.lemmas.List.{length-append, length-map, get_or-map, get_or_default, get_or_append_left, get_or-append-add}
 use Rattle.std.proofs.lemmas.List.FromFn.{get_or-map-range_with_len, length-map-range_with_len}
-use Rattle.std.proofs.lemmas.List.Sums.{sum_by-cons, sum_by_more, sum_by-take-le}
-use Rattle.std.proofs.lemmas.List.Elements.{Contains-append_left, Contains-append_right}
-use Rattle.design_netlist.specs.declared.netlist_data.Cover.{Cover}
-use Rattle.design_netlist.specs.declared.netlist_data.NetlistData.{NetlistData}
-use Rattle.design_netlist.specs.declared.netlist_data.PortDef.{PortDef}
 use Rattle.design_netlist.specs.Vocabulary.{cover_at, no_cover, word, word_at, signal_at, cover_drive, latch_drive, drive_words, cover_reads, latch_read, reads_of, IsDriven, IsChecked}
 use Rattle.design_netlist.proofs.CheckLemmas.{cover_place, cover_signal}
-use Rattle.map_network.specs.declared.source.Source.{Source}
-use Rattle.map_network.specs.declared.source.Source.TheVariants.{Input, Table}
 use Rattle.map_network.specs.Vocabulary.{cover_tables, covers_tables, cover_size, cover_ends, sources_of, source_of, Drive, all_drives, latch_at, no_latch}
 use Rattle.map_network.proofs.PlainLemmas.{AreRowsOf, length-cover}
 use Rattle.map_network.proofs.BlockLemmas.{table_in, at_left, at_right}

@@ -1,10 +1,6 @@
 -- Paths and levels of tables.
-use Rattle.std.proofs.Common.{◌≡◌, ℕ, zero, suc, ◌+◌, ◌<◌, ◌≤◌, refl, sym, ap, inl, inr, arith}
-use Rattle.std.specs.List.{Contains}
-use Rattle.std.proofs.lemmas.Bool.{cases_eq}
-use Rattle.map_network.specs.declared.source.Source.TheVariants.{Table}
-use Rattle.map_network.specs.declared.network.Network.{Network}
-use Rattle.map_network.specs.Vocabulary.{IsCombinational, IsPath, alone, onward, IsDeepest, table_at, IsMost}
+use Rattle.map_network.proofs.Vocabulary.{◌≡◌, ℕ, zero, suc, ◌+◌, ◌<◌, ◌≤◌, refl, sym, ap, inl, inr, arith, Contains, cases_eq, Table}
+use Rattle.map_network.proofs.Vocabulary.{Network, IsCombinational, IsPath, alone, onward, IsDeepest, table_at, IsMost}
 
 pub last_is : {n : Network} {j k : ℕ} → IsPath n j k → IsCombinational n j
 last_is (alone is) = is

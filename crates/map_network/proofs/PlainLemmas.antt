@@ -1,16 +1,8 @@
 -- The tables of covers: how many they are.
 use Rattle.std.proofs.Common.{◌≡◌, ◌⊎◌, Bool, ℕ, suc, ◌+◌, ◌*◌, ◌<◌, ◌≤◌, List, [], ◌∷◌, ◌++◌, true, false, length, map, refl, sym, ap, ◌∙◌, inl, inr, arith, sum_by, if◌then◌else◌, slice_index_or}
-use Rattle.std.proofs.lemmas.List.{length-append, length-map}
-use Rattle.std.proofs.lemmas.List.Sums.{sum_by-cons, sum_by-le-sum_by}
-use Rattle.design_netlist.specs.declared.netlist_data.Cover.{Cover}
-use Rattle.design_netlist.specs.declared.netlist_data.Lit.{Lit}
-use Rattle.design_netlist.specs.declared.netlist_data.Lit.TheVariants.{Zero, One, Any}
-use Rattle.design_netlist.specs.Drafts.{row_characters, cover_characters}
-use Rattle.map_network.specs.declared.source.Source.{Source}
-use Rattle.map_network.specs.declared.source.Source.TheVariants.{Input}
-use Rattle.map_network.specs.declared.want.Want.{Want}
+use Rattle.map_network.proofs.Vocabulary.{length-append, length-map, sum_by-cons, sum_by-le-sum_by, Cover, Lit, Zero, One, Any}
+use Rattle.map_network.proofs.Vocabulary.{row_characters, cover_characters, Source, Input, Want, NetTable}
 use Rattle.map_network.specs.declared.want.Gate.TheVariants.{All, Some}
-use Rattle.map_network.specs.declared.network.NetTable.{NetTable}
 use Rattle.map_network.specs.Vocabulary.{tree, trees, tree_ends, row_wants, rows_wants, wide_tables, narrow_table, is_narrow, cover_tables, cover_size, is_wanted, wants_in, tree_size, row_size, rows_size}
 use Rattle.map_network.proofs.TreeLemmas.{length-tree, tree_size_some, tree_size_few}
 use Rattle.map_network.proofs.NameLemmas.{row_size_few}

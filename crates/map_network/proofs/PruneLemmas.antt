@@ -1,14 +1,8 @@
 -- The search for the tables that lead to an output.
 use Rattle.std.proofs.Common.{◌≡◌, ◌⊎◌, Bool, ℕ, zero, suc, ◌+◌, ◌<◌, List, [], ◌∷◌, ◌++◌, true, false, length, get_or, set, replicate, refl, sym, ap, subst, ◌∙◌, inl, inr, arith}
-use Rattle.std.specs.List.{Contains}
-use Rattle.std.proofs.lemmas.Bool.{cases_eq, cases_lt}
+use Rattle.map_network.proofs.Vocabulary.{Contains, cases_eq, cases_lt, sum_by-set, Source, Input, Table, NetTable, Network}
 use Rattle.std.proofs.lemmas.List.{get_or_default, get_or-replicate, get_or-set_same, get_or-set_other, get_or_past, length-replicate, length-set, length_push}
 use Rattle.std.proofs.lemmas.List.Elements.{Contains-append_left, Contains-append_right, Contains-append_cases, Contains-get_or}
-use Rattle.std.proofs.lemmas.List.Sums.{sum_by-set}
-use Rattle.map_network.specs.declared.source.Source.{Source}
-use Rattle.map_network.specs.declared.source.Source.TheVariants.{Input, Table}
-use Rattle.map_network.specs.declared.network.NetTable.{NetTable}
-use Rattle.map_network.specs.declared.network.Network.{Network}
 use Rattle.map_network.specs.Vocabulary.{IsNetwork, no_table, table_at, is_dropped, IsClosed, IsCompacted, IsKept, AreKept, AreUseless, LeadsToOutput, is_read, is_shown, prunes, AreUsed, IsUsed, IsFollowing, IsPruned, if_marked, marked_in}
 use Rattle.map_network.proofs.CompactLemmas.{compacted_leads, compacted_reduced, kept_of, reduced_same, same_none}
 

@@ -1,13 +1,7 @@
 -- The network with a table put into its reader.
 use Rattle.std.proofs.Common.{◌≡◌, ◌⊎◌, ◌↔◌, Bool, ℕ, suc, ◌<◌, ◌≤◌, List, [], true, length, get_or, refl, sym, ap, subst, ◌∙◌, inl, inr, arith}
-use Rattle.std.specs.List.{Contains, All}
-use Rattle.std.proofs.lemmas.Bool.{cases_eq}
+use Rattle.map_network.proofs.Vocabulary.{Contains, All, cases_eq, Contains-get_or, All-set, Source, Input, Table, NetTable, Network}
 use Rattle.std.proofs.lemmas.List.{length-set, get_or-set_same, get_or-set_other}
-use Rattle.std.proofs.lemmas.List.Elements.{Contains-get_or, All-set}
-use Rattle.map_network.specs.declared.source.Source.{Source}
-use Rattle.map_network.specs.declared.source.Source.TheVariants.{Input, Table}
-use Rattle.map_network.specs.declared.network.NetTable.{NetTable}
-use Rattle.map_network.specs.declared.network.Network.{Network}
 use Rattle.map_network.specs.Vocabulary.{no_table, IsSourceOf, IsCombinational, IsLatched, IsPath, alone, onward, IsNetwork, IsNoDeeper, truth, IsNetworkValuation, AreRows, Reads, CanJoin, in_tables, IsPut, Puts, none, more, IsUnread}
 use Rattle.map_network.proofs.PathLemmas.{no_loop}
 use Rattle.map_network.proofs.SourceLemmas.{not_itself, from_both}

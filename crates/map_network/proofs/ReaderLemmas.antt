@@ -1,13 +1,7 @@
 -- Who reads a table, by the counts.
 use Rattle.std.proofs.Common.{◌≡◌, ◌⊎◌, ℕ, zero, suc, ◌+◌, ◌<◌, ◌≤◌, ◌&&◌, List, [], ◌∷◌, Option, None, Some, true, false, length, get_or, set, replicate, refl, sym, ap, subst, ◌∙◌, inl, inr, arith, slice_index_or, nat_lt, ◌==◌, if◌then◌else◌, is_some, MatchOption}
-use Rattle.std.specs.List.{Contains}
-use Rattle.std.proofs.lemmas.Bool.{cases_eq, cases_lt, false≢true}
-use Rattle.std.proofs.lemmas.Bool.Decides.{nat_tests}
+use Rattle.map_network.proofs.Vocabulary.{Contains, cases_eq, cases_lt, false≢true, nat_tests, Source, Input, Table, NetTable, Network}
 use Rattle.std.proofs.lemmas.List.{length-set, get_or-set_same, get_or-set_other, get_or-replicate, length-replicate}
-use Rattle.map_network.specs.declared.source.Source.{Source}
-use Rattle.map_network.specs.declared.source.Source.TheVariants.{Input, Table}
-use Rattle.map_network.specs.declared.network.NetTable.{NetTable}
-use Rattle.map_network.specs.declared.network.Network.{Network}
 use Rattle.map_network.specs.declared.readers.Readers.{Readers}
 use Rattle.map_network.specs.Vocabulary.{no_table, table_at, IsSourceOf, IsCombinational, IsNetwork, IsSourceIn, AreSourcesIn, Reads, CanJoin, MayPut, unread, readers_at, one_more, with_reader, noted_one, noted, noted_tables, all_readers}
 use Rattle.map_network.proofs.CellLemmas.{eqb_true, eqb_false}

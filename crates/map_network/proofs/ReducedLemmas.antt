@@ -1,13 +1,8 @@
 -- A network with tables put into their readers and left out.
 use Rattle.std.proofs.Common.{◌≡◌, Bool, ℕ, ◌<◌, List, Result, Ok, Err, IfOk, false, true, length, set, replicate, refl, sym, ap, subst, ◌∙◌, arith}
-use Rattle.std.proofs.lemmas.List.{length-map, length-replicate}
-use Rattle.design_netlist.specs.declared.netlist_data.NetlistData.{NetlistData}
-use Rattle.design_netlist.specs.declared.netlist_data.PortDef.{PortDef}
-use Rattle.map_network.specs.declared.network.NetTable.{NetTable}
-use Rattle.map_network.specs.declared.network.Network.{Network}
-use Rattle.map_network.specs.declared.merge.Found.{Found}
+use Rattle.map_network.proofs.Vocabulary.{length-map, length-replicate, NetlistData, PortDef, NetTable, Network}
+use Rattle.map_network.specs.{declared.merge.Found.Found, Merges.begins}
 use Rattle.map_network.specs.Vocabulary.{IsNetwork, HasRowsOf, plain_network, source_of, CanJoin, MayPut, IsPutOn, Puts, none, more, IsReduced, is_dropped, IsClosed, IsCompacted, none_gone, drops, IsFound, IsPruned, IsSmaller, IsMergedOf}
-use Rattle.map_network.specs.Merges.{begins}
 use Rattle.map_network.proofs.PutLemmas.{net, IsAfter, after_puts, puts_on, same_tables, unread_now}
 use Rattle.map_network.proofs.CompactLemmas.{compacted_leads, compacted_reduced, one_dropped, reduced_same, same_then}
 use Rattle.map_network.proofs.LeadLemmas.{puts_lead}

@@ -1,18 +1,11 @@
 -- The rows of a plain network are those of its netlist.
 use Rattle.std.proofs.Common.{◌≡◌, ◌⊎◌, ℕ, zero, suc, ◌+◌, ◌<◌, ◌||◌, Bool, true, false, List, [], ◌∷◌, length, get_or, map, refl, sym, ap, subst, ◌∙◌, inl, inr, arith, sum_by, if◌then◌else◌, slice_index_or, ◌==◌}
-use Rattle.std.proofs.lemmas.Bool.{cases_eq}
-use Rattle.std.specs.List.{All}
-use Rattle.std.proofs.lemmas.List.{get_or-map, ext_get_or, length-map}
-use Rattle.design_netlist.specs.declared.netlist_data.NetlistData.{NetlistData}
-use Rattle.design_netlist.specs.declared.netlist_data.LatchDef.{LatchDef}
-use Rattle.design_netlist.specs.declared.netlist_data.PortDef.{PortDef}
+use Rattle.map_network.proofs.Vocabulary.{cases_eq, All, get_or-map, ext_get_or, length-map, NetlistData, LatchDef, PortDef, Input, Network}
 use Rattle.design_netlist.specs.Covers as cover
 use Rattle.design_netlist.specs.Vocabulary.{cover_at, word, signal_at, drive_words, IsDriven, IsChecked}
 use Rattle.design_netlist.specs.Rows as netlist
 use Rattle.design_netlist.proofs.ValuationLemmas as valuation
 use Rattle.design_netlist.proofs.RightLemmas as right
-use Rattle.map_network.specs.declared.source.Source.TheVariants.{Input}
-use Rattle.map_network.specs.declared.network.Network.{Network}
 use Rattle.map_network.specs.Vocabulary.{bit_of, pins_of, truth, IsNetworkValuation, outputs_in, next_state, first_state, RowsFrom, AreRows, HasRowsOf, cover_size, latch_table, source_of, plain_network, is_among, latch_at, no_latch}
 use Rattle.map_network.proofs.CellLemmas.{gives_of}
 use Rattle.map_network.proofs.NameLemmas.{among_same, among_other, no_both}

@@ -1,16 +1,9 @@
 -- Each step of the search for the depth keeps what it knows.
 use Rattle.std.proofs.Common.{◌≡◌, ◌⊎◌, Bool, ℕ, suc, ◌+◌, ◌-◌, ◌<◌, ◌≤◌, List, [], ◌∷◌, ◌++◌, None, Some, true, false, length, take, get_or, refl, sym, ap, subst, ◌∙◌, inl, inr, arith, slice_set}
-use Rattle.std.specs.List.{Contains}
-use Rattle.std.proofs.lemmas.Bool.{cases_lt, cases_eq}
+use Rattle.map_network.proofs.Vocabulary.{Contains, cases_lt, cases_eq, sum_by-set, sum_by-cons, Source, Input, Table, NetTable, Network}
 use Rattle.std.proofs.lemmas.List.{length-set, get_or-set_same, get_or-set_other, get_or_append_left, get_or_at, length_push, get_or-take, length-take-le, get_or_past, get_or_default}
-use Rattle.std.proofs.lemmas.List.Sums.{sum_by-set, sum_by-cons}
 use Rattle.design_netlist.specs.Valuations.{number_at}
-use Rattle.map_network.specs.declared.source.Source.{Source}
-use Rattle.map_network.specs.declared.source.Source.TheVariants.{Input, Table}
-use Rattle.map_network.specs.declared.network.NetTable.{NetTable}
-use Rattle.map_network.specs.declared.network.Network.{Network}
-use Rattle.map_network.specs.declared.longest.Mark.{Mark}
-use Rattle.map_network.specs.declared.longest.Mark.TheVariants.{New, Open, Done}
+use Rattle.map_network.specs.declared.longest.Mark.{Mark, TheVariants.New, TheVariants.Open, TheVariants.Done}
 use Rattle.map_network.specs.Vocabulary.{no_table, table_at, IsCombinational, IsPath, alone, onward, IsNetwork, IsSourceOf, IsDepth, mark_at, source_at, IsLevel, cost, work_of, is_done, done_in, IsSearch, AreMarks, StaysSeen, IsLastOf, IsReadByLast, level_of, level_in, source_level, level_at, IsMost, IsDoneIn, new_table, if_new}
 use Rattle.map_network.proofs.PathLemmas.{last_is, no_loop}
 

@@ -1,10 +1,6 @@
 -- Sources by their numbers, and the sources of a table that is put into its reader.
 use Rattle.std.proofs.Common.{◌≡◌, ◌⊎◌, Bool, ℕ, zero, suc, ◌+◌, ◌*◌, ◌<◌, ◌≤◌, ◌||◌, List, [], ◌∷◌, ◌++◌, true, false, length, map, get_or, refl, sym, ap, ◌∙◌, inl, inr, arith, slice_index_or, ◌==◌, if◌then◌else◌}
-use Rattle.std.specs.List.{Contains}
-use Rattle.std.proofs.lemmas.Bool.{cases_eq}
-use Rattle.std.proofs.lemmas.List.Elements.{Contains-append_cases}
-use Rattle.map_network.specs.declared.source.Source.{Source}
-use Rattle.map_network.specs.declared.source.Source.TheVariants.{Input, Table}
+use Rattle.map_network.proofs.Vocabulary.{Contains, cases_eq, Contains-append_cases, Source, Input, Table}
 use Rattle.map_network.specs.Vocabulary.{distinct, pin_named, is_among, number, numbers_without, bit_with}
 use Rattle.map_network.proofs.CellLemmas.{eqb_true, eqb_false, named_here, named_skip}
 use Rattle.map_network.proofs.NameLemmas.{among_same, among_other, among_without, without, without_same, without_other, no_both}

@@ -1,10 +1,7 @@
 -- Tables that were put into all their readers.
 use Rattle.std.proofs.Common.{◌≡◌, Bool, ℕ, ◌<◌, ◌≤◌, List, [], true, length, set, refl, sym, ap, subst, ◌∙◌, arith}
-use Rattle.map_network.specs.declared.source.Source.{Source}
-use Rattle.map_network.specs.declared.network.NetTable.{NetTable}
-use Rattle.map_network.specs.declared.network.Network.{Network}
+use Rattle.map_network.proofs.Vocabulary.{Source, NetTable, Network, begins}
 use Rattle.map_network.specs.Vocabulary.{IsNetwork, in_tables, MayPut, IsPut, IsJoined, DoesSame, is_dropped, IsClosed, IsCompacted, IsPruned, Spreads, puts}
-use Rattle.map_network.specs.Spreading.{begins}
 use Rattle.map_network.proofs.PutLemmas.{net, IsAfter, after_none, after_put, same_length}
 use Rattle.map_network.proofs.CompactLemmas.{compacted_reduced, reduced_same, same_then}
 

@@ -1,13 +1,8 @@
 -- Groups, levels and trees, and how many tables these have.
 use Rattle.std.proofs.Common.{◌≡◌, ◌⊎◌, Bool, ℕ, zero, suc, ◌+◌, ◌-◌, ◌*◌, ◌/◌, ◌<◌, ◌≤◌, List, [], ◌∷◌, ◌++◌, true, false, length, drop, take, map, refl, sym, ap, ◌∙◌, inl, inr, arith, min, if◌then◌else◌, nat_lt}
-use Rattle.std.proofs.lemmas.Bool.{cases_lt}
-use Rattle.std.proofs.lemmas.Bool.Decides.{nat_tests}
+use Rattle.map_network.proofs.Vocabulary.{cases_lt, nat_tests, length-map-range_with_len, map-range_with_len_more, Want, Gate, NetTable}
 use Rattle.std.proofs.lemmas.List.{append_assoc, length-append, length-map, length-drop, map_push, take_min, drop-drop}
-use Rattle.std.proofs.lemmas.List.FromFn.{length-map-range_with_len, map-range_with_len_more}
 use native.Mathlib.Numerals.{unary_clauses}
-use Rattle.map_network.specs.declared.want.Want.{Want}
-use Rattle.map_network.specs.declared.want.Gate.{Gate}
-use Rattle.map_network.specs.declared.network.NetTable.{NetTable}
 use Rattle.map_network.specs.Vocabulary.{groups, sixes, want_table, wants_from, gate_table, levels, tree, levels_size, tree_size}
 
 pub lt_true : (m n : ℕ) → m < n → nat_lt m n ≡ true

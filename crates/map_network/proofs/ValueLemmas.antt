@@ -1,22 +1,13 @@
 -- What the last table of a cover gives: the cover's truth.
 use Rattle.std.proofs.Common.{◌≡◌, ◌⊎◌, Bool, ℕ, zero, suc, ◌+◌, ◌*◌, ◌-◌, ◌/◌, ◌<◌, ◌≤◌, ◌&&◌, ◌||◌, List, [], ◌∷◌, ◌++◌, true, false, length, drop, take, map, get_or, refl, sym, ap, subst, ◌∙◌, inl, inr, arith, if◌then◌else◌, slice_index_or}
-use Rattle.std.proofs.lemmas.Bool.{cases_lt, cases_eq}
+use Rattle.map_network.proofs.Vocabulary.{cases_lt, cases_eq, get_or-map-range_with_len, length-map-range_with_len, Cover, Lit, Zero, One}
+use Rattle.map_network.proofs.Vocabulary.{Any, fits, matches, some_matches, Source, Input, Want, Gate, NetTable}
 use Rattle.std.proofs.lemmas.List.{length-append, length-map, length-drop, length-take, get_or-map, ext_get_or, take-append-drop, map-append}
-use Rattle.std.proofs.lemmas.List.FromFn.{get_or-map-range_with_len, length-map-range_with_len}
 use Rattle.std.proofs.Math.Bool.{and_assoc, or_assoc}
 use native.Mathlib.Numerals.{unary_clauses}
-use Rattle.design_netlist.specs.declared.netlist_data.Cover.{Cover}
-use Rattle.design_netlist.specs.declared.netlist_data.Lit.{Lit}
-use Rattle.design_netlist.specs.declared.netlist_data.Lit.TheVariants.{Zero, One, Any}
-use Rattle.design_netlist.specs.Covers.{fits, matches, some_matches}
 use Rattle.design_netlist.specs.Covers as cover
 use Rattle.design_netlist.proofs.ValuationLemmas.{same_truth}
-use Rattle.map_network.specs.declared.source.Source.{Source}
-use Rattle.map_network.specs.declared.source.Source.TheVariants.{Input}
-use Rattle.map_network.specs.declared.want.Want.{Want}
-use Rattle.map_network.specs.declared.want.Gate.{Gate}
 use Rattle.map_network.specs.declared.want.Gate.TheVariants as gate
-use Rattle.map_network.specs.declared.network.NetTable.{NetTable}
 use Rattle.map_network.specs.Vocabulary.{no_table, bit_of, pins_of, truth, flip, every, any, together, met, groups, sixes, want_table, wants_from, gate_table, levels, tree, trees, tree_ends, row_wants, rows_wants, wide_tables, narrow_table, is_narrow, cover_tables, cover_size, distinct, pin_named, is_among}
 use Rattle.map_network.proofs.CellLemmas.{gives_of, eqb_true, eqb_false, if_or}
 use Rattle.map_network.proofs.NameLemmas.{among_distinct, among_other, no_both}

@@ -1,8 +1,6 @@
 -- What the parts of a plain network need of a design.
 use Rattle.std.specs.Prelude.{◌<◌, ◌≤◌, ℕ, List, false, length, sum_by, slice_index_or}
-use Rattle.design_netlist.specs.declared.netlist_data.Cover.{Cover}
-use Rattle.design_netlist.specs.declared.netlist_data.LatchDef.{LatchDef}
-use Rattle.design_netlist.specs.declared.netlist_data.PortDef.{PortDef}
+use Rattle.design_netlist.specs.declared.netlist_data.{Cover.Cover, LatchDef.LatchDef, PortDef.PortDef}
 use Rattle.design_netlist.specs.Vocabulary.{cover_at, IsCoverOver, cover_characters, word}
 use Rattle.map_network.specs.Plain.{cover_size}
 

@@ -1,10 +1,7 @@
 -- A network without some of its tables.
 use Rattle.std.specs.Prelude.{◌≡◌, ◌<◌, ℕ, zero, suc, List, [], ◌∷◌, Bool, true, false, map, length, slice_index_or}
-use Rattle.map_network.specs.declared.source.Source.{Source}
-use Rattle.map_network.specs.declared.source.Source.TheVariants.{Input, Table}
-use Rattle.map_network.specs.declared.network.NetTable.{NetTable}
-use Rattle.map_network.specs.declared.network.Network.{Network}
-use Rattle.map_network.specs.Joining.{in_tables}
+use Rattle.map_network.specs.{declared.source.Source.Source, declared.network.Network.Network, Joining.in_tables}
+use Rattle.map_network.specs.declared.{source.Source.TheVariants.Input, source.Source.TheVariants.Table, network.NetTable.NetTable}
 
 abbrev pub is_dropped : List Bool → ℕ → Bool
 is_dropped dropped j = slice_index_or dropped j false

@@ -1,7 +1,6 @@
 -- The depth of a network.
 use Rattle.std.specs.Prelude.{◌≡◌, ◌⊎◌, ℕ}
-use Rattle.map_network.specs.declared.network.Network.{Network}
-use Rattle.map_network.specs.Networks.{IsPath, IsDeepest}
+use Rattle.map_network.specs.{declared.network.Network.Network, Networks.IsPath, Networks.IsDeepest}
 
 -- the greatest number of combinational tables on a path
 pub record IsDepth (n : Network) (depth : ℕ) : Type 0 where

@@ -1,11 +1,7 @@
 -- What gives the signals, word by word.
 use Rattle.std.specs.Prelude.{◌+◌, ◌-◌, ◌++◌, ℕ, List, [], ◌∷◌, sum_by, slice_set, slice_index_or}
-use Rattle.design_netlist.specs.declared.netlist_data.Cover.{Cover}
-use Rattle.design_netlist.specs.declared.netlist_data.NetlistData.{NetlistData}
-use Rattle.design_netlist.specs.declared.netlist_data.LatchDef.{LatchDef}
-use Rattle.design_netlist.specs.declared.netlist_data.PortDef.{PortDef}
-use Rattle.map_network.specs.declared.source.Source.{Source}
-use Rattle.map_network.specs.declared.source.Source.TheVariants.{Input, Table}
+use Rattle.design_netlist.specs.declared.netlist_data.{Cover.Cover, NetlistData.NetlistData, LatchDef.LatchDef, PortDef.PortDef}
+use Rattle.map_network.specs.declared.source.Source.{Source, TheVariants.Input, TheVariants.Table}
 use Rattle.map_network.specs.Plain.{cover_size}
 
 -- a signal and what gives it

@@ -2,15 +2,10 @@
 use Rattle.std.specs.Prelude.{◌≡◌, ◌+◌, ◌*◌, ◌<◌, ◌≤◌, ◌==◌, ◌&&◌, ◌↔◌, replicate, ℕ, List, [], ◌∷◌, Bool, true, false, map, nat_lt, length}
 use Rattle.std.specs.Prelude.{slice_set, slice_index_or, if◌then◌else◌}
 use Rattle.std.specs.List.{range_with_len, Contains}
-use Rattle.map_network.specs.declared.source.Source.{Source}
-use Rattle.map_network.specs.declared.source.Source.TheVariants.{Input, Table}
-use Rattle.map_network.specs.declared.network.NetTable.{NetTable}
-use Rattle.map_network.specs.declared.network.Network.{Network}
-use Rattle.map_network.specs.declared.readers.Readers.{Readers}
-use Rattle.map_network.specs.Networks.{no_table, IsNetwork, IsNoDeeper}
-use Rattle.map_network.specs.Plain.{distinct, pin_named, cells_where}
-use Rattle.map_network.specs.Rows.{number_of, cell_at, AreRows}
-use Rattle.map_network.specs.Merging.{number, numbers_without, Reads}
+use Rattle.map_network.specs.declared.{source.Source.Source, network.Network.Network, readers.Readers.Readers}
+use Rattle.map_network.specs.declared.{source.Source.TheVariants.Input, source.Source.TheVariants.Table, network.NetTable.NetTable}
+use Rattle.map_network.specs.{Networks.no_table, Networks.IsNetwork, Networks.IsNoDeeper, Rows.number_of, Rows.cell_at, Rows.AreRows}
+use Rattle.map_network.specs.{Plain.distinct, Plain.pin_named, Plain.cells_where, Merging.number, Merging.numbers_without, Merging.Reads}
 
 -- the bit of a source, by the pins of the inputs with these numbers. The table j has a given bit
 abbrev pub bit_with : List ℕ → List Bool → ℕ → Bool → Source → Bool

@@ -1,10 +1,8 @@
 -- Which tables an output needs.
 use Rattle.std.specs.Prelude.{◌≡◌, ◌<◌, ℕ, List, Bool, false, length}
 use Rattle.std.specs.List.{Contains}
-use Rattle.map_network.specs.declared.source.Source.TheVariants.{Table}
-use Rattle.map_network.specs.declared.network.Network.{Network}
+use Rattle.map_network.specs.{declared.source.Source.TheVariants.Table, declared.network.Network.Network, Compacting.is_dropped}
 use Rattle.map_network.specs.Merging.{Reads}
-use Rattle.map_network.specs.Compacting.{is_dropped}
 
 -- an output shows the table, or a table reads it that leads to an output
 pub data LeadsToOutput (n : Network) : ℕ → Type 0 where

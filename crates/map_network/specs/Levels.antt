@@ -2,13 +2,9 @@
 use Rattle.std.specs.Prelude.{◌≡◌, ◌<◌, ◌≤◌, ◌⊎◌, ◌-◌, ℕ, suc, List, Option, None, Some, true, false, length, slice_index_or, sum_by}
 use Rattle.std.specs.List.{Contains}
 use Rattle.design_netlist.specs.Valuations.{number_at}
-use Rattle.map_network.specs.declared.source.Source.{Source}
-use Rattle.map_network.specs.declared.source.Source.TheVariants.{Input, Table}
-use Rattle.map_network.specs.declared.network.NetTable.{NetTable}
-use Rattle.map_network.specs.declared.network.Network.{Network}
-use Rattle.map_network.specs.declared.longest.Mark.{Mark}
-use Rattle.map_network.specs.declared.longest.Mark.TheVariants.{New, Open, Done}
-use Rattle.map_network.specs.declared.longest.Search.{Search}
+use Rattle.map_network.specs.declared.{source.Source.Source, network.Network.Network}
+use Rattle.map_network.specs.declared.{source.Source.TheVariants.Input, source.Source.TheVariants.Table, network.NetTable.NetTable}
+use Rattle.map_network.specs.declared.longest.{Mark.Mark, Mark.TheVariants.New, Mark.TheVariants.Open, Mark.TheVariants.Done, Search.Search}
 use Rattle.map_network.specs.Networks.{no_table, table_at, IsCombinational, IsPath}
 
 abbrev pub mark_at : List Mark → ℕ → Mark

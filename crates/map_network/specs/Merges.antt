@@ -2,14 +2,9 @@
 -- those that lead to no output.
 use Rattle.std.specs.Prelude.{◌≡◌, ◌≤◌, ℕ, List, Bool, false, true, length, replicate, slice_set}
 use Rattle.std.specs.List.{Contains}
-use Rattle.map_network.specs.declared.source.Source.TheVariants.{Table}
-use Rattle.map_network.specs.declared.network.NetTable.{NetTable}
-use Rattle.map_network.specs.declared.network.Network.{Network}
-use Rattle.map_network.specs.Networks.{table_at, IsCombinational}
-use Rattle.map_network.specs.Merging.{sources_together, Reads}
-use Rattle.map_network.specs.Joining.{IsJoined}
-use Rattle.map_network.specs.Compacting.{is_dropped, IsCompacted}
-use Rattle.map_network.specs.Leading.{AreUseless}
+use Rattle.map_network.specs.{declared.source.Source.TheVariants.Table, Merging.sources_together, Merging.Reads, Leading.AreUseless}
+use Rattle.map_network.specs.declared.network.{NetTable.NetTable, Network.Network}
+use Rattle.map_network.specs.{Networks.table_at, Networks.IsCombinational, Joining.IsJoined, Compacting.is_dropped, Compacting.IsCompacted}
 
 -- A table is gone once it was put into its reader, though it stays in the list until it is dropped. Table r isn't gone, and
 -- reads table j

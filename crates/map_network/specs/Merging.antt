@@ -1,11 +1,8 @@
 -- Which tables can be put into their readers.
 use Rattle.std.specs.Prelude.{◌≡◌, ◌+◌, ◌*◌, ◌<◌, ◌≤◌, ◌==◌, ◌++◌, ℕ, List, not, map, length}
 use Rattle.std.specs.List.{Contains, filter}
-use Rattle.map_network.specs.declared.source.Source.{Source}
-use Rattle.map_network.specs.declared.source.Source.TheVariants.{Input, Table}
-use Rattle.map_network.specs.declared.network.Network.{Network}
-use Rattle.map_network.specs.Networks.{table_at, IsCombinational}
-use Rattle.map_network.specs.Plain.{distinct}
+use Rattle.map_network.specs.{declared.source.Source.Source, Networks.table_at, Networks.IsCombinational, Plain.distinct}
+use Rattle.map_network.specs.declared.{source.Source.TheVariants.Input, source.Source.TheVariants.Table, network.Network.Network}
 
 -- a number for each source, so that different sources have different ones
 abbrev pub number : Source → ℕ

@@ -1,10 +1,8 @@
 -- Networks of tables, and the paths of combinational tables through them.
 use Rattle.std.specs.Prelude.{◌≡◌, ◌<◌, ◌≤◌, ℕ, suc, [], true, false, All, length, slice_index_or}
 use Rattle.std.specs.List.{Contains}
-use Rattle.map_network.specs.declared.source.Source.{Source}
-use Rattle.map_network.specs.declared.source.Source.TheVariants.{Input, Table}
-use Rattle.map_network.specs.declared.network.NetTable.{NetTable}
-use Rattle.map_network.specs.declared.network.Network.{Network}
+use Rattle.map_network.specs.declared.{source.Source.Source, network.Network.Network}
+use Rattle.map_network.specs.declared.{source.Source.TheVariants.Input, source.Source.TheVariants.Table, network.NetTable.NetTable}
 
 abbrev pub no_table : NetTable
 no_table = record { ins = []; cells = 0; latched = false; init = false }

@@ -1,12 +1,8 @@
 -- What the passes of merging keep.
 use Rattle.std.specs.Prelude.{◌≡◌, ℕ, List, true}
-use Rattle.map_network.specs.declared.network.NetTable.{NetTable}
-use Rattle.map_network.specs.declared.network.Network.{Network}
-use Rattle.map_network.specs.declared.merge.Found.{Found}
-use Rattle.map_network.specs.Joining.{DoesSame, IsReduced, Puts}
-use Rattle.map_network.specs.Compacting.{is_dropped, IsClosed}
-use Rattle.map_network.specs.Merges.{none_gone, IsMergedFrom}
-use Rattle.map_network.specs.Leading.{AllLead}
+use Rattle.map_network.specs.{declared.network.NetTable.NetTable, declared.network.Network.Network, Merges.none_gone, Merges.IsMergedFrom}
+use Rattle.map_network.specs.{declared.merge.Found.Found, Leading.AllLead}
+use Rattle.map_network.specs.{Joining.DoesSame, Joining.IsReduced, Joining.Puts, Compacting.is_dropped, Compacting.IsClosed}
 
 -- tables were put into readers, the given one among them, and nothing that stands reads one of these
 pub record IsFound (n : Network) (j : ℕ) (found : Found) : Type 0 where

@@ -2,21 +2,12 @@
 use Rattle.std.specs.Prelude.{◌≡◌, ◌+◌, ◌-◌, ◌/◌, ◌==◌, ◌++◌, ◌&&◌, ◌||◌, ℕ, zero, suc, List, [], ◌∷◌, Bool, true, false, not, nat_lt, map}
 use Rattle.std.specs.Prelude.{length, take, drop, sum_by, slice_index_or, if◌then◌else◌}
 use Rattle.std.specs.List.{range_with_len, filter}
-use Rattle.design_netlist.specs.declared.netlist_data.Cover.{Cover}
-use Rattle.design_netlist.specs.declared.netlist_data.NetlistData.{NetlistData}
-use Rattle.design_netlist.specs.declared.netlist_data.LatchDef.{LatchDef}
-use Rattle.design_netlist.specs.declared.netlist_data.PortDef.{PortDef}
-use Rattle.design_netlist.specs.declared.netlist_data.Lit.{Lit}
-use Rattle.design_netlist.specs.declared.netlist_data.Lit.TheVariants.{One, Any}
-use Rattle.design_netlist.specs.Vocabulary.{fits, truth, drive_words}
-use Rattle.map_network.specs.declared.source.Source.{Source}
-use Rattle.map_network.specs.declared.source.Source.TheVariants.{Input, Table}
-use Rattle.map_network.specs.declared.want.Want.{Want}
-use Rattle.map_network.specs.declared.want.Gate.{Gate}
-use Rattle.map_network.specs.declared.want.Gate.TheVariants.{All, Some}
-use Rattle.map_network.specs.declared.network.NetTable.{NetTable}
-use Rattle.map_network.specs.declared.network.Network.{Network}
-use Rattle.map_network.specs.Rows.{number_of, cell_at}
+use Rattle.design_netlist.specs.declared.netlist_data.{Cover.Cover, Lit.Lit}
+use Rattle.design_netlist.specs.declared.netlist_data.{NetlistData.NetlistData, LatchDef.LatchDef, Lit.TheVariants.One, Lit.TheVariants.Any}
+use Rattle.design_netlist.specs.{declared.netlist_data.PortDef.PortDef, Vocabulary.fits, Vocabulary.truth, Vocabulary.drive_words}
+use Rattle.map_network.specs.declared.{source.Source.Source, want.Want.Want, want.Gate.Gate, network.Network.Network}
+use Rattle.map_network.specs.declared.{source.Source.TheVariants.Input, source.Source.TheVariants.Table, network.NetTable.NetTable}
+use Rattle.map_network.specs.{declared.want.Gate.TheVariants.All, declared.want.Gate.TheVariants.Some, Rows.number_of, Rows.cell_at}
 
 -- the six bits of an address, the lowest first: what the pins read at this address
 unfoldable pub six_bits : ℕ → List Bool

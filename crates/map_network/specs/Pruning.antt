@@ -1,14 +1,9 @@
 -- What the search for the tables that lead to an output keeps.
 use Rattle.std.specs.Prelude.{◌≡◌, ◌+◌, ◌<◌, ◌⊎◌, ◌++◌, ℕ, List, [], ◌∷◌, Bool, true, false, length, slice_set, slice_index_or, sum_by}
 use Rattle.std.specs.List.{Contains}
-use Rattle.map_network.specs.declared.source.Source.{Source}
-use Rattle.map_network.specs.declared.source.Source.TheVariants.{Input, Table}
-use Rattle.map_network.specs.declared.network.Network.{Network}
-use Rattle.map_network.specs.Networks.{table_at}
-use Rattle.map_network.specs.Joining.{DoesSame}
-use Rattle.map_network.specs.Compacting.{is_dropped, AreKept, IsKept}
-use Rattle.map_network.specs.Merges.{IsMergedFrom}
-use Rattle.map_network.specs.Leading.{AllLead, LeadsToOutput}
+use Rattle.map_network.specs.{declared.source.Source.Source, Networks.table_at, Joining.DoesSame, Merges.IsMergedFrom}
+use Rattle.map_network.specs.declared.{source.Source.TheVariants.Input, source.Source.TheVariants.Table, network.Network.Network}
+use Rattle.map_network.specs.{Compacting.is_dropped, Compacting.AreKept, Compacting.IsKept, Leading.AllLead, Leading.LeadsToOutput}
 
 abbrev pub if_marked : Bool → ℕ
 if_marked true = 1

@@ -1,9 +1,7 @@
 -- How many tables a cover has.
 use Rattle.std.specs.Prelude.{◌+◌, ◌/◌, ℕ, zero, suc, List, [], ◌∷◌, nat_lt, sum_by, if◌then◌else◌}
-use Rattle.design_netlist.specs.declared.netlist_data.Lit.{Lit}
-use Rattle.design_netlist.specs.declared.netlist_data.Lit.TheVariants.{Any}
-use Rattle.map_network.specs.declared.source.Source.{Source}
-use Rattle.map_network.specs.declared.want.Want.{Want}
+use Rattle.design_netlist.specs.declared.netlist_data.Lit.{Lit, TheVariants.Any}
+use Rattle.map_network.specs.declared.{source.Source.Source, want.Want.Want}
 
 abbrev pub is_wanted : Lit → ℕ
 is_wanted Any = 0

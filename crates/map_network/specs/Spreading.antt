@@ -1,7 +1,6 @@
 -- Tables that are put into all their readers.
 use Rattle.std.specs.Prelude.{ℕ, List}
-use Rattle.map_network.specs.declared.network.NetTable.{NetTable}
-use Rattle.map_network.specs.Joining.{IsPut}
+use Rattle.map_network.specs.{declared.network.NetTable.NetTable, Joining.IsPut}
 
 -- tables are put into readers, one after the other, and stay in the list
 pub data Spreads (old : List NetTable) : List NetTable → Type 0 where

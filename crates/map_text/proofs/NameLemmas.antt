@@ -1,12 +1,9 @@
 -- Lists of names and of covers that are gone through.
 use Rattle.std.proofs.Common.{◌≡◌, ◌∙◌, ℕ, zero, suc, ◌<◌, ◌≤◌, List, [], ◌∷◌, Bool, not, true, length, map, IsTrue, arith, refl, ap, ◌==◌, nat_lt}
 use Rattle.std.specs.List.{All, filter, count_by}
-use Rattle.std.proofs.lemmas.Bool.{lt-ltb}
-use Rattle.std.proofs.lemmas.List.Sums.{length-filter, count_by-le-length}
-use Rattle.design_netlist.specs.declared.netlist_data.Cover.{Cover}
-use Rattle.design_netlist.specs.declared.netlist_data.NetlistData.{NetlistData}
-use Rattle.design_netlist.specs.declared.netlist_data.PortDef.{PortDef}
-use Rattle.design_netlist.specs.Vocabulary.{cover_at, name_at, signal_at}
+use Rattle.std.proofs.lemmas.{Bool.lt-ltb, List.Sums.length-filter, List.Sums.count_by-le-length}
+use Rattle.design_netlist.specs.declared.netlist_data.{Cover.Cover, NetlistData.NetlistData}
+use Rattle.design_netlist.specs.{declared.netlist_data.PortDef.PortDef, Vocabulary.cover_at, Vocabulary.name_at, Vocabulary.signal_at}
 use Rattle.map_network.specs.Plain.{distinct, is_narrow}
 use Rattle.map_text.specs.Remapped.{names_of}
 

@@ -3,13 +3,11 @@ use Rattle.std.specs.Prelude.{ℕ, ◌≡◌, ◌≤◌, ◌⊎◌, ◌↔◌, L
 use Rattle.std.specs.List.{All}
 use Rattle.base_text.specs.Size.{most_bytes}
 use Rattle.machine_defects.specs.Lists.{DefectList}
-use Rattle.design_netlist.specs.declared.netlist_data.NetlistData.{NetlistData}
+use Rattle.design_netlist.specs.{declared.netlist_data.NetlistData.NetlistData, Vocabulary.name_at, Vocabulary.AreRows}
 use Rattle.design_netlist.specs.declared.netlist_data.PortDef.{PortDef}
-use Rattle.design_netlist.specs.Vocabulary.{name_at, AreRows}
 use Rattle.design_blif.specs.Designs.{IsDesign}
 use Rattle.map_network.specs.Plain.{is_narrow, plain_network}
-use Rattle.place_plan.specs.declared.plan.Plan.{Plan}
-use Rattle.place_plan.specs.Plans.{FitsInOrder}
+use Rattle.place_plan.specs.{declared.plan.Plan.Plan, Plans.FitsInOrder}
 use Rattle.map_text.specs.declared.text.Remapped.{Remapped}
 
 -- the names of these words of a design, in their order

@@ -1,12 +1,6 @@
 -- What a search found, with fewer crossings than so many.
-use Rattle.std.proofs.Common.{◌≡◌, ℕ, ◌<◌, ◌≤◌, Option, None, Some, IfSome, subst}
-use Rattle.machine_shape.specs.declared.Shape.{Shape}
-use Rattle.machine_meaning.specs.Defects.{Defects}
-use Rattle.map_network.specs.declared.network.Network.{Network}
-use Rattle.place_plan.specs.declared.plan.Plan.{Plan}
-use Rattle.place_anneal.specs.declared.better.Better.{Better}
-use Rattle.place_anneal.specs.Better.{IsBetterBy, IsBetterLaid}
-use Rattle.place_anneal.specs.Crossings.{HasCrossings}
+use Rattle.place_anneal.proofs.Vocabulary.{◌≡◌, ℕ, ◌<◌, ◌≤◌, Option, None, Some, IfSome, subst, Shape, Defects, Network, Plan}
+use Rattle.place_anneal.specs.{declared.better.Better.Better, Better.IsBetterBy, Better.IsBetterLaid, Crossings.HasCrossings}
 
 -- what a search found for at most so many, of a plan that has no fewer
 abbrev pub IsFound : Shape → Defects → Network → Plan → ℕ → Option Better → Type 0

@@ -1,10 +1,5 @@
 -- The nets that cross nodes, by the terminals of a plan.
-use Rattle.std.proofs.Common.{ℕ, List, [], length, slice_index_or, subst}
-use Rattle.machine_shape.specs.declared.Shape.{Shape}
-use Rattle.machine_shape.specs.Shape.{nodes_of}
-use Rattle.machine_meaning.specs.Defects.{Defects}
-use Rattle.map_network.specs.declared.network.Network.{Network}
-use Rattle.place_plan.specs.declared.plan.Plan.{Plan}
+use Rattle.place_anneal.proofs.Vocabulary.{ℕ, List, [], length, slice_index_or, subst, Shape, nodes_of, Defects, Network, Plan}
 use Rattle.place_plan.specs.Vocabulary.{AreLists, AreThose, IsTerminal, nets_in, CrossesAt, HasTerminal, ArePlanNets}
 use Rattle.place_plan.proofs.Transfer.{those_on}
 use Rattle.place_anneal.specs.Crossings.{AreCrossings}

@@ -1,3 +1,4 @@
 mod Seating
 mod Counted
 mod BetterLemmas
+mod Vocabulary

@@ -1,22 +1,13 @@
 -- Seats stay free and different.
 use Rattle.std.proofs.Common.{◌≡◌, ◌≢◌, ℕ, Bool, true, false, ◌<◌, ◌≤◌, ◌+◌, ◌==◌, List, [], ◌∷◌, ◌++◌, get_or, map, take, length, sym, ap, ◌∙◌, subst, arith, length-take}
-use Rattle.std.specs.List.{All, AllPairs}
+use Rattle.place_anneal.proofs.Vocabulary.{All, AllPairs, All-permutation, IsPermutation-map, Shape, tables_of, pins_of, pin_wire, Defects}
+use Rattle.place_anneal.proofs.Vocabulary.{IsFreeTable, IsFreeWire, Network, Plan, IsFreeTableOf, IsPlan, number_of, places, Seat}
 use Rattle.std.specs.List.Sorted.{IsPermutation}
 use Rattle.std.proofs.lemmas.Bool.Decides.{Decides-eqb}
-use Rattle.std.proofs.lemmas.List.{get_or-map, get_or-take, length-map, map-append, take-map, take_more}
+use Rattle.std.proofs.lemmas.List.{get_or-map, get_or-take, length-map, map-append, take-map, take_more, Quantifiers.all_pairs_push}
 use Rattle.std.proofs.lemmas.List.Elements.{All-map, All-more, All-push, All-take, All-weaker}
-use Rattle.std.proofs.lemmas.List.Quantifiers.{all_pairs_push}
-use Rattle.std.proofs.lemmas.List.Sorted.{All-permutation, IsPermutation-map}
-use Rattle.std.proofs.lemmas.Map.Keys.{IsDistinct-IsPermutation}
-use Rattle.std.proofs.lemmas.Map.Made.{AllPairs-from_IsDistinct, IsDistinct-from_AllPairs}
-use Rattle.machine_shape.specs.declared.Shape.{Shape}
-use Rattle.machine_shape.specs.Shape.{tables_of, pins_of, pin_wire}
+use Rattle.std.proofs.lemmas.Map.{Keys.IsDistinct-IsPermutation, Made.AllPairs-from_IsDistinct, Made.IsDistinct-from_AllPairs}
 use Rattle.machine_shape.specs.declared.Table.{Table}
-use Rattle.machine_meaning.specs.Defects.{Defects, IsFreeTable, IsFreeWire}
-use Rattle.map_network.specs.declared.network.Network.{Network}
-use Rattle.place_plan.specs.declared.plan.Plan.{Plan}
-use Rattle.place_plan.specs.Plans.{IsFreeTableOf, IsPlan, number_of, places}
-use Rattle.place_anneal.specs.declared.seats.Seat.{Seat}
 use Rattle.place_anneal.specs.Seats.{AreFreeTables, AreMarked, HasMark, number_at}
 
 -- the number at the end of the numbers

@@ -3,11 +3,8 @@ use Rattle.std.specs.Prelude.{ℕ, ◌<◌}
 use Rattle.machine_shape.specs.declared.Shape.{Shape}
 use Rattle.machine_meaning.specs.Defects.{Defects}
 use Rattle.map_network.specs.declared.network.Network.{Network}
-use Rattle.place_plan.specs.declared.layout.Placed.{Placed}
-use Rattle.place_plan.specs.declared.plan.Plan.{Plan}
-use Rattle.place_plan.specs.Laying.{IsLayout}
-use Rattle.place_anneal.specs.declared.better.Better.{Better}
-use Rattle.place_anneal.specs.Crossings.{IsBetter}
+use Rattle.place_plan.specs.{declared.layout.Placed.Placed, declared.plan.Plan.Plan, Laying.IsLayout}
+use Rattle.place_anneal.specs.{declared.better.Better.Better, Crossings.IsBetter}
 
 -- the plan is better than the first one, and this is a layout of it
 pub record IsBetterLaid (m : Shape) (d : Defects) (n : Network) (old : Plan) (new : Placed) : Type 0 where

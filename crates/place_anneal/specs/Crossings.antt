@@ -1,8 +1,7 @@
 -- How often nets cross nodes.
 use Rattle.std.specs.Prelude.{◌≡◌, ℕ, ◌<◌, ◌≤◌, List, length}
 use Rattle.std.specs.List.{sum_by}
-use Rattle.machine_shape.specs.declared.Shape.{Shape}
-use Rattle.machine_shape.specs.Shape.{nodes_of}
+use Rattle.machine_shape.specs.{declared.Shape.Shape, Shape.nodes_of}
 use Rattle.machine_meaning.specs.Defects.{Defects}
 use Rattle.map_network.specs.declared.network.Network.{Network}
 use Rattle.place_plan.specs.declared.plan.Plan.{Plan}

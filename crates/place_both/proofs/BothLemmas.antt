@@ -1,31 +1,19 @@
 -- Where two designs are laid, and where they aren't.
 use Rattle.std.proofs.Common.{◌≡◌, ◌≤◌, ◌⊎◌, ◌+◌, ℕ, arith, [], map, length, ◌∙◌, subst, refl, inl, inr, length-append, Result, Ok, Err, IfOk, IfErr}
-use Rattle.std.specs.List.{All}
-use Rattle.machine_meaning.specs.Vocabulary.{Covers, Faults}
-use Rattle.machine_defects.specs.Lists.{DefectList}
-use Rattle.design_netlist.specs.declared.netlist_data.NetlistData.{NetlistData}
-use Rattle.map_network.specs.declared.network.Network.{Network}
+use Rattle.place_both.proofs.Vocabulary.{All, Covers, Faults, DefectList, NetlistData, Network, IsRightImage, ReadsRows, joint_network}
+use Rattle.place_both.proofs.Vocabulary.{AreTenants, HasPinsOf, StandApart, IsLeanFor, plain-for}
 use Rattle.map_network.specs.Vocabulary.{IsPlainNetwork, HasRowsOf, plain_network}
 use Rattle.machine_image.specs.Vocabulary.{ImageValue, IsImage, image_row, IsFreeImage}
-use Rattle.place_route.specs.Vocabulary.{IsRightImage, ReadsRows}
 use Rattle.place_pair.specs.JointNetworks as joint
-use Rattle.place_pair.specs.JointNetworks.{joint_network}
-use Rattle.place_pair.specs.Tenants.{AreTenants, HasPinsOf, StandApart}
 use Rattle.cmd_steps.specs.Vocabulary.{Around, Outside, StepStops, IsCounted, ShortPlace, status_of, Took, IsExcused}
-use Rattle.cmd_steps.specs.declared.refusal.Refusal.{Refusal}
+use Rattle.cmd_steps.specs.declared.refusal.{Refusal.Refusal, Stop.Stop, Stop.TheVariants.Refused}
 use Rattle.cmd_steps.specs.declared.refusal.Refusal.TheVariants as refused
-use Rattle.cmd_steps.specs.declared.refusal.Stop.{Stop}
-use Rattle.cmd_steps.specs.declared.refusal.Stop.TheVariants.{Refused}
 use Rattle.cmd_steps.proofs.Taking.{took-stop, took-value}
 use Rattle.place_design.specs.Wants.{PlanStops}
-use Rattle.place_design.specs.Smaller.{IsLeanFor}
-use Rattle.place_design.proofs.Fewer.{plain-for}
 use Rattle.place_design.proofs.Rooms.{AreDecided}
-use Rattle.place_plan.specs.declared.plan.Plan.{Plan}
-use Rattle.place_plan.specs.Plans.{FitsInOrder}
-use Rattle.place_both.specs.declared.networks.TwoNetworks.{TwoNetworks}
+use Rattle.place_plan.specs.{declared.plan.Plan.Plan, Plans.FitsInOrder}
+use Rattle.place_both.specs.{declared.networks.TwoNetworks.TwoNetworks, Smaller.AreFor, Smaller.AreLeanFor, Smaller.ArePlainFor}
 use Rattle.place_both.specs.Both.{AreLean, ArePlainInOrder, BothHaveRoom, BothLackRoom, IsImageForBoth, IsNoRoomForBoth, IsRoutedForBoth, NotBothLaid, joint_of, lays_both}
-use Rattle.place_both.specs.Smaller.{AreFor, AreLeanFor, ArePlainFor}
 use Rattle.place_both.proofs.RowsOfBoth.{both-rows}
 
 -- ---- what is laid

@@ -1,21 +1,14 @@
 -- Parts that are room enough for two designs, whatever else is wrong with a machine.
-use Rattle.std.proofs.Common.{◌≡◌, ℕ, ◌+◌, ◌<◌, ◌≤◌, length, arith, subst}
-use Rattle.machine_shape.specs.declared.Shape.{Shape}
-use Rattle.machine_shape.specs.Vocabulary.{tables_of}
+use Rattle.place_both.proofs.Vocabulary.{◌≡◌, ℕ, ◌+◌, ◌<◌, ◌≤◌, length, arith, subst, Faults, Defects, IsTight, DefectList, NetlistData}
+use Rattle.place_both.proofs.Vocabulary.{IsChecked, Network, joint_network, IsNoRoomForBoth, joint_of}
+use Rattle.machine_shape.specs.{declared.Shape.Shape, Vocabulary.tables_of}
 use Rattle.machine_shape.proofs.Totals.{tables_are}
-use Rattle.machine_meaning.specs.Vocabulary.{Faults, Defects, IsTight}
-use Rattle.machine_defects.specs.Lists.{DefectList}
-use Rattle.design_netlist.specs.declared.netlist_data.NetlistData.{NetlistData}
-use Rattle.design_netlist.specs.Checks.{IsChecked}
 use Rattle.design_netlist.proofs.ListLemmas.{few_numbers}
-use Rattle.map_network.specs.declared.network.Network.{Network}
 use Rattle.map_network.specs.Vocabulary.{IsNetwork, plain_network}
 use Rattle.place_plan.specs.declared.short.Short.{Short}
 use Rattle.place_plan.specs.Vocabulary.{AtLeast, HasStandingRoom, IsShortInOrder, IsStandingTableOf}
-use Rattle.place_pair.specs.JointNetworks.{joint_network}
 use Rattle.place_pair.proofs.Sounding.{joint_sound, long_tables}
 use Rattle.cmd_steps.specs.Vocabulary.{ShortPlace}
-use Rattle.place_both.specs.Both.{IsNoRoomForBoth, joint_of}
 
 -- standing parts enough and a want of room on a tight list exclude each other
 abbrev pub AreSure : Type 0

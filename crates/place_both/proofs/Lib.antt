@@ -4,3 +4,4 @@ pub mod Certain
 pub mod WhileAlone
 -- For the proofs of this crate alone.
 mod RowsOfBoth
+mod Vocabulary

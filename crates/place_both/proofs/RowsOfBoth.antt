@@ -1,14 +1,10 @@
 -- Rows of two networks side by side are the rows of the two designs.
 use Rattle.std.proofs.Common.{◌≡◌, ◌∙◌, ◌+◌, ℕ, Bool, List, [], ◌∷◌, ◌++◌, map, length, take, drop, refl, sym, ap, subst, arith, take_all}
-use Rattle.std.specs.List.{All, AllByRecursion}
-use Rattle.std.proofs.lemmas.List.{take-append-drop, length-drop}
-use Rattle.std.proofs.lemmas.List.Elements.{recursion_from_All}
-use Rattle.design_netlist.specs.declared.netlist_data.NetlistData.{NetlistData}
+use Rattle.place_both.proofs.Vocabulary.{All, AllByRecursion, NetlistData, Network, side_by_side, AreBothRows}
+use Rattle.std.proofs.lemmas.List.{take-append-drop, length-drop, Elements.recursion_from_All}
 use Rattle.design_netlist.specs.Rows as netlist
-use Rattle.map_network.specs.declared.network.Network.{Network}
 use Rattle.map_network.specs.Rows.{HasRowsOf}
 use Rattle.place_pair.specs.JointNetworks as joint
-use Rattle.place_both.specs.Both.{side_by_side, AreBothRows}
 
 -- what is left behind a first part is all the rest
 rest-is : (n k : ℕ) (bits : List Bool) → length bits ≡ n + k → take k (drop n bits) ≡ drop n bits

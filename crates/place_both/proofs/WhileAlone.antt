@@ -1,22 +1,14 @@
 -- Of two designs each has its rows as long as its own part of the image is left alone.
 use Rattle.std.proofs.Common.{◌≡◌, ◌+◌, ◌≤◌, ℕ, Bool, List, [], ◌∷◌, ◌++◌, map, length, take, drop, get_or, refl, sym, ap, ◌∙◌, subst, arith}
-use Rattle.std.specs.List.{All}
+use Rattle.place_both.proofs.Vocabulary.{All, Pins, DefectList, NetlistData, AreRows, IsRightImage, part, RunsAsAloneOver, IsImageForBoth}
 use Rattle.std.proofs.lemmas.List.{take-map, map-append, take_at, drop_at, length-map, length-append, length-take-le, length-drop}
 use Rattle.std.proofs.lemmas.List.Elements.{All-map, recursion_from_All}
-use Rattle.machine_meaning.specs.Vocabulary.{Pins}
 use Rattle.machine_config.specs.Vocabulary.{IsConfiguration}
-use Rattle.machine_defects.specs.Lists.{DefectList}
 use Rattle.machine_image.specs.Images.{ImageValue, drive_of, image_row, row_at}
 use Rattle.machine_history.specs.Vocabulary.{History, IsRunOver}
 use Rattle.machine_history.proofs.RowsOver.{clean, clean_faultless, clean_run}
-use Rattle.design_netlist.specs.declared.netlist_data.NetlistData.{NetlistData}
-use Rattle.design_netlist.specs.Rows.{AreRows}
-use Rattle.place_route.specs.RightImages.{IsRightImage}
-use Rattle.place_pair.specs.JointNetworks.{part}
-use Rattle.place_pair.specs.Tenants.{RunsAsAloneOver}
 use Rattle.place_pair.proofs.Lonely.{first_alone, second_alone}
 use Rattle.rig.specs.Rig.{RigState, cycles_of, drives_of, readings_of}
-use Rattle.place_both.specs.Both.{IsImageForBoth}
 use Rattle.place_both.specs.Alone.{AreRightWhileAlone}
 use Rattle.place_both.proofs.RowsOfBoth.{rests-are}
 

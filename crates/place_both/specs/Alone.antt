@@ -1,7 +1,6 @@
 -- What each of two designs reads as long as its own part of the image is left alone.
 use Rattle.std.specs.Prelude.{◌≡◌, ℕ, Bool, List, take}
-use Rattle.design_netlist.specs.declared.netlist_data.NetlistData.{NetlistData}
-use Rattle.design_netlist.specs.Rows.{AreRows}
+use Rattle.design_netlist.specs.{declared.netlist_data.NetlistData.NetlistData, Rows.AreRows}
 use Rattle.machine_image.specs.Images.{ImageValue}
 use Rattle.machine_history.specs.Vocabulary.{History, IsRunOver, LeavesAloneFor}
 use Rattle.rig.specs.Rig.{RigState, cycles_of, drives_of, readings_of}

@@ -2,20 +2,15 @@
 use Rattle.std.specs.Prelude.{◌≡◌, ◌⊎◌, ◌+◌, ◌<◌, ◌≤◌, Bool, List, [], ◌∷◌, ◌++◌, map, length, take, drop}
 use Rattle.machine_meaning.specs.Vocabulary.{Covers, Faults}
 use Rattle.machine_defects.specs.Lists.{DefectList}
-use Rattle.design_netlist.specs.declared.netlist_data.NetlistData.{NetlistData}
-use Rattle.design_netlist.specs.Rows.{AreRows}
+use Rattle.design_netlist.specs.{declared.netlist_data.NetlistData.NetlistData, Rows.AreRows}
 use Rattle.map_network.specs.declared.network.Network.{Network}
 use Rattle.map_network.specs.Vocabulary.{AllLead, HasRowsOf, IsNetwork, IsNoDeeper, IsPlainNetwork, plain_network}
 use Rattle.place_anneal.specs.Crossings.{HasNoMore}
-use Rattle.place_plan.specs.declared.plan.Plan.{Plan}
-use Rattle.place_plan.specs.declared.short.Short.{Short}
-use Rattle.place_plan.specs.Plans.{FitsInOrder, IsInOrder, IsShortInOrder}
+use Rattle.place_plan.specs.{declared.plan.Plan.Plan, declared.short.Short.Short, Plans.FitsInOrder, Plans.IsInOrder, Plans.IsShortInOrder}
 use Rattle.machine_image.specs.Vocabulary.{ImageValue, IsImage, IsFreeImage}
 use Rattle.place_route.specs.Vocabulary.{IsRightImage, ReadsRows, IsRoutedFor}
-use Rattle.place_pair.specs.JointNetworks.{joint_network}
-use Rattle.place_pair.specs.Tenants.{AreTenants, HaveRoom, StandApart}
-use Rattle.cmd_steps.specs.Vocabulary.{Step, ShortPlace}
-use Rattle.cmd_steps.specs.declared.refusal.Refusal.{Refusal}
+use Rattle.place_pair.specs.{JointNetworks.joint_network, Tenants.AreTenants, Tenants.HaveRoom, Tenants.StandApart}
+use Rattle.cmd_steps.specs.{Vocabulary.Step, Vocabulary.ShortPlace, declared.refusal.Refusal.Refusal}
 use Rattle.cmd_steps.specs.declared.refusal.Refusal.TheVariants as refused
 
 -- ---- rows

@@ -5,9 +5,7 @@ use Rattle.map_network.specs.Vocabulary.{IsNetwork, IsPlainNetwork, HasRowsOf}
 use Rattle.place_plan.specs.Vocabulary.{Fits, IsPlan}
 use Rattle.place_pair.specs.JointNetworks.{joint_network}
 use Rattle.place_design.specs.Smaller.{IsFor, IsLeanFor}
-use Rattle.place_both.specs.Both.{AreLean, CanBeNumbered}
-use Rattle.place_both.specs.declared.networks.TwoNetworks.{TwoNetworks}
-use Rattle.place_both.specs.declared.smaller.Smaller.{Smaller}
+use Rattle.place_both.specs.{Both.AreLean, Both.CanBeNumbered, declared.networks.TwoNetworks.TwoNetworks, declared.smaller.Smaller.Smaller}
 
 -- each network is for its design, and both can be numbered together
 pub record AreFor (first second : NetlistData) (networks : TwoNetworks) : Type 0 where

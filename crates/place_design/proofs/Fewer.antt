@@ -1,16 +1,9 @@
 -- Networks with no more tables than the plain one, and plans with no more crossings.
 use Rattle.std.proofs.Common.{◌≡◌, ◌≤◌, ◌⊎◌, ◌↔◌, Bool, ℕ, List, Option, Some, IfSome, length, inl, inr, sym, subst, arith, ◌∙◌}
-use Rattle.machine_shape.specs.declared.Shape.{Shape}
-use Rattle.machine_meaning.specs.Defects.{Defects}
-use Rattle.design_netlist.specs.declared.netlist_data.NetlistData.{NetlistData}
-use Rattle.map_network.specs.declared.network.Network.{Network}
+use Rattle.place_design.proofs.Vocabulary.{Shape, Defects, NetlistData, Network, IsBetterLaid, Plan, Fits, IsFor, IsLeanFor}
 use Rattle.map_network.specs.Vocabulary.{AllLead, IsNetwork, IsNoDeeper, AreRows, HasRowsOf, IsPlainNetwork, plain_network}
-use Rattle.place_anneal.specs.Better.{IsBetterLaid}
 use Rattle.place_anneal.specs.Crossings.{HasCrossings, HasFewer, HasNoMore}
 use Rattle.place_plan.specs.declared.layout.Placed.{Placed}
-use Rattle.place_plan.specs.declared.plan.Plan.{Plan}
-use Rattle.place_plan.specs.Plans.{Fits}
-use Rattle.place_design.specs.Smaller.{IsFor, IsLeanFor}
 use Rattle.place_design.proofs.PlainWidths.{plain-inputs, plain-outputs}
 
 -- the network with fewer tables has the design's rows

@@ -1,24 +1,15 @@
 -- Where a design is laid, and where it isn't.
-use Rattle.std.proofs.Common.{◌≡◌, ◌<◌, [], Result, Ok, Err, IfOk, IfErr}
-use Rattle.machine_shape.specs.declared.Shape.{Shape}
+use Rattle.place_design.proofs.Vocabulary.{◌≡◌, ◌<◌, [], Result, Ok, Err, IfOk, IfErr, Shape, DefectList, NetlistData, Network}
+use Rattle.place_design.proofs.Vocabulary.{IsPlainNetwork, Short, InOrderIsShort, IsShortInOrder, lays}
 use Rattle.machine_shape.specs.Shape.{nodes_of}
 use Rattle.machine_shape.proofs.Totals.{nodes_are}
-use Rattle.machine_defects.specs.Lists.{DefectList}
-use Rattle.design_netlist.specs.declared.netlist_data.NetlistData.{NetlistData}
-use Rattle.map_network.specs.declared.network.Network.{Network}
-use Rattle.map_network.specs.Vocabulary.{IsPlainNetwork}
 use Rattle.place_plan.specs.declared.short.Need.{Need}
-use Rattle.place_plan.specs.declared.short.Short.{Short}
-use Rattle.place_plan.specs.declared.short.Resource.{Resource}
-use Rattle.place_plan.specs.declared.short.Resource.TheVariants.{Tables, Pins, Ports, Lines}
-use Rattle.place_plan.specs.Plans.{InOrderIsShort, IsShortInOrder}
+use Rattle.place_plan.specs.declared.short.Resource.{Resource, TheVariants.Tables, TheVariants.Pins, TheVariants.Ports, TheVariants.Lines}
 use Rattle.machine_image.specs.Images.{ImageValue}
-use Rattle.cmd_steps.specs.Vocabulary.{Outside, StepStops, IsCounted, Took}
+use Rattle.cmd_steps.specs.{Vocabulary.Outside, Vocabulary.StepStops, Vocabulary.IsCounted, Vocabulary.Took, declared.refusal.Stop.Stop}
 use Rattle.cmd_steps.specs.declared.refusal.Refusal.TheVariants as refused
-use Rattle.cmd_steps.specs.declared.refusal.Stop.{Stop}
 use Rattle.cmd_steps.specs.declared.refusal.Stop.TheVariants.{Refused}
 use Rattle.cmd_steps.proofs.Taking.{took-stop, took-value}
-use Rattle.place_design.specs.Laying.{lays}
 use Rattle.place_design.specs.Wants.{IsRefusedFor, PlanStops}
 
 -- what is short is short at a node of the machine

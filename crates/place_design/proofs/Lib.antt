@@ -4,3 +4,4 @@ pub mod Rooms
 pub mod Fewer
 -- For the proofs of this crate alone.
 mod LayLemmas
+mod Vocabulary

@@ -1,10 +1,7 @@
 -- How many inputs and outputs a plain network has.
-use Rattle.std.proofs.Common.{◌≡◌, ◌∙◌, length, ap}
+use Rattle.place_design.proofs.Vocabulary.{◌≡◌, ◌∙◌, length, ap, NetlistData, Network, IsPlainNetwork, plain_network, source_of}
 use Rattle.std.proofs.lemmas.List.{length-map}
-use Rattle.design_netlist.specs.declared.netlist_data.NetlistData.{NetlistData}
 use Rattle.design_netlist.specs.declared.netlist_data.PortDef.{PortDef}
-use Rattle.map_network.specs.declared.network.Network.{Network}
-use Rattle.map_network.specs.Plain.{IsPlainNetwork, plain_network, source_of}
 
 -- the plain network has the design's inputs and outputs
 pub plain-inputs : (draft : NetlistData) (n : Network) → IsPlainNetwork draft n → n.inputs ≡ length draft.inputs

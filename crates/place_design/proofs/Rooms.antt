@@ -1,18 +1,9 @@
 -- A design has room on a list or lacks it, and never both.
-use Rattle.std.proofs.Common.{◌≡◌, ◌⊎◌, ◌∙◌, sym, subst, refl, inl, inr}
-use Rattle.machine_shape.specs.declared.Shape.{Shape}
-use Rattle.machine_meaning.specs.Defects.{Defects}
-use Rattle.machine_defects.specs.Lists.{DefectList}
-use Rattle.design_netlist.specs.declared.netlist_data.NetlistData.{NetlistData}
-use Rattle.map_network.specs.declared.network.Network.{Network}
-use Rattle.map_network.specs.Plain.{IsPlainNetwork}
-use Rattle.place_plan.specs.declared.plan.Plan.{Plan}
-use Rattle.place_plan.specs.declared.short.Short.{Short}
-use Rattle.place_plan.specs.Plans.{FitsInOrder, IsShortInOrder}
+use Rattle.place_design.proofs.Vocabulary.{◌≡◌, ◌⊎◌, ◌∙◌, sym, subst, refl, inl, inr, Shape, Defects, DefectList, NetlistData, Network}
+use Rattle.place_design.proofs.Vocabulary.{IsPlainNetwork, Plan, Short, FitsInOrder, IsShortInOrder, HasRoom, LacksRoom, IsNoRoom, NotLaid}
 use Rattle.cmd_steps.specs.Vocabulary.{ShortPlace, Around, status_of, IsExcused}
 use Rattle.cmd_steps.specs.declared.refusal.Refusal.{Refusal}
 use Rattle.cmd_steps.specs.declared.refusal.Refusal.TheVariants as refused
-use Rattle.place_design.specs.Laying.{HasRoom, LacksRoom, IsNoRoom, NotLaid}
 
 -- a plan and a want of room exclude each other
 abbrev pub AreDecided : Type 0

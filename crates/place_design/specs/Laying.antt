@@ -7,13 +7,11 @@ use Rattle.design_netlist.specs.declared.netlist_data.NetlistData.{NetlistData}
 use Rattle.map_network.specs.declared.network.Network.{Network}
 use Rattle.map_network.specs.Vocabulary.{AllLead, IsNetwork, IsNoDeeper, IsPlainNetwork, plain_network, HasRowsOf}
 use Rattle.place_plan.specs.declared.plan.Plan.{Plan}
-use Rattle.place_plan.specs.declared.short.Short.{Short}
-use Rattle.place_plan.specs.Plans.{Fits, FitsInOrder, IsInOrder, IsShortInOrder}
+use Rattle.place_plan.specs.{declared.short.Short.Short, Plans.Fits, Plans.FitsInOrder, Plans.IsInOrder, Plans.IsShortInOrder}
 use Rattle.place_anneal.specs.Crossings.{HasNoMore}
 use Rattle.machine_image.specs.Vocabulary.{ImageValue, IsImage, IsFreeImage}
 use Rattle.place_route.specs.Vocabulary.{IsRightImage, IsRoutedFor}
-use Rattle.cmd_steps.specs.Vocabulary.{Step, ShortPlace}
-use Rattle.cmd_steps.specs.declared.refusal.Refusal.{Refusal}
+use Rattle.cmd_steps.specs.{Vocabulary.Step, Vocabulary.ShortPlace, declared.refusal.Refusal.Refusal}
 use Rattle.cmd_steps.specs.declared.refusal.Refusal.TheVariants as refused
 
 -- the in-order plan of the design's plain network fits the list

@@ -4,12 +4,9 @@ use Rattle.machine_defects.specs.Lists.{DefectList}
 use Rattle.design_netlist.specs.declared.netlist_data.NetlistData.{NetlistData}
 use Rattle.map_network.specs.declared.network.Network.{Network}
 use Rattle.map_network.specs.Vocabulary.{AllLead, IsNetwork, IsNoDeeper, plain_network, HasRowsOf}
-use Rattle.place_plan.specs.declared.plan.Plan.{Plan}
-use Rattle.place_plan.specs.Vocabulary.{IsLayout, Fits, IsInOrder, IsPlan}
+use Rattle.place_plan.specs.{declared.plan.Plan.Plan, Vocabulary.IsLayout, Vocabulary.Fits, Vocabulary.IsInOrder, Vocabulary.IsPlan}
 use Rattle.place_anneal.specs.Crossings.{HasNoMore}
-use Rattle.place_design.specs.Laying.{IsLean}
-use Rattle.place_design.specs.declared.smaller.Improved.{Improved}
-use Rattle.place_design.specs.declared.smaller.Smaller.{Smaller}
+use Rattle.place_design.specs.{Laying.IsLean, declared.smaller.Improved.Improved, declared.smaller.Smaller.Smaller}
 
 -- the network has the design's rows, inputs and outputs, and no more tables than its plain network
 pub record IsFor (draft : NetlistData) (n : Network) : Type 0 where

@@ -3,11 +3,9 @@ use Rattle.std.specs.Prelude.{◌≡◌}
 use Rattle.machine_shape.specs.declared.Shape.{Shape}
 use Rattle.machine_defects.specs.Lists.{DefectList}
 use Rattle.map_network.specs.declared.network.Network.{Network}
-use Rattle.place_plan.specs.declared.short.Short.{Short}
-use Rattle.place_plan.specs.Plans.{IsShortInOrder}
+use Rattle.place_plan.specs.{declared.short.Short.Short, Plans.IsShortInOrder}
 use Rattle.cmd_steps.specs.declared.refusal.Refusal.TheVariants as refused
-use Rattle.cmd_steps.specs.declared.refusal.Stop.{Stop}
-use Rattle.cmd_steps.specs.declared.refusal.Stop.TheVariants.{Refused}
+use Rattle.cmd_steps.specs.declared.refusal.Stop.{Stop, TheVariants.Refused}
 
 -- want of room is refused, or there was no memory for its line
 abbrev pub IsRefusedFor : Shape → Short → Stop → Type 0

@@ -1,15 +1,8 @@
 -- A network does in a joint one what it does alone.
 use Rattle.std.proofs.Common.{◌≡◌, ℕ, suc, ◌+◌, ◌<◌, Bool, true, List, [], ◌∷◌, length, get_or, map, refl, sym, ap, ◌∙◌, subst, arith}
 use Rattle.std.specs.List.{All, Contains, range_with_len}
-use Rattle.std.proofs.lemmas.List.{get_or-map}
-use Rattle.map_network.specs.declared.source.Source.{Source}
-use Rattle.map_network.specs.declared.source.Source.TheVariants.{Input, Table}
-use Rattle.map_network.specs.declared.network.NetTable.{NetTable}
-use Rattle.map_network.specs.declared.network.Network.{Network}
+use Rattle.place_pair.proofs.Vocabulary.{get_or-map, Source, Input, Table, NetTable, Network, Site, part, moved, moved_table, StandsIn}
 use Rattle.map_network.specs.Vocabulary.{no_table, table_at, IsCombinational, IsLatched, IsSourceOf, IsPath, alone, onward, IsDeepest, IsNetwork, number_of, cell_at, bit_of, truth, IsNetworkValuation, outputs_in, next_state, first_state, RowsFrom, AreRows}
-use Rattle.place_pair.specs.declared.site.Site.{Site}
-use Rattle.place_pair.specs.JointNetworks.{part, moved, moved_table}
-use Rattle.place_pair.specs.Sites.{StandsIn}
 use Rattle.place_pair.proofs.Lists.{nth_part, length_part, map_part, contains_map}
 
 module _ (s : Site) (n joint : Network) (stands : StandsIn s n joint) (net : IsNetwork n) where

@@ -1,10 +1,6 @@
 -- The pins of a tenant are pins of the machine, each named once.
 use Rattle.std.proofs.Common.{◌≡◌, ◌≢◌, ℕ, ◌+◌, ◌<◌, ◌≤◌, ◌++◌, List, length, sym, subst}
-use Rattle.std.specs.List.{All, AllPairs}
-use Rattle.machine_shape.specs.declared.Shape.{Shape}
-use Rattle.machine_shape.specs.Shape.{pins_of}
-use Rattle.machine_image.specs.Images.{ImageValue, IsImage}
-use Rattle.place_pair.specs.JointNetworks.{part}
+use Rattle.place_pair.proofs.Vocabulary.{All, AllPairs, Shape, pins_of, ImageValue, IsImage, part}
 use Rattle.place_pair.proofs.Lists.{all_pins, pairs_pins}
 
 module _ (a b c e : ℕ) (w : ImageValue) (image : IsImage w) (left : a + b ≤ length w.inputs) (right : c + e ≤ length w.outputs)

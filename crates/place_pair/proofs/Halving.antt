@@ -1,24 +1,10 @@
 -- A whole and its two tenants.
 use Rattle.std.proofs.Common.{◌≡◌, ◌⊎◌, ℕ, ◌+◌, ◌-◌, ◌<◌, ◌≤◌, ◌++◌, Bool, true, Some, Option, List, [], ◌∷◌, length, get_or, map, refl, sym, ap, ◌∙◌, subst, inl, inr, arith, ◌↔◌, IsSome}
-use Rattle.std.specs.List.{All}
-use Rattle.std.proofs.lemmas.Bool.{cases_lt}
-use Rattle.std.proofs.lemmas.List.{length-map}
-use Rattle.machine_shape.specs.declared.Shape.{Shape}
-use Rattle.machine_shape.specs.Shape.{table_wire}
-use Rattle.machine_meaning.specs.Vocabulary.{Pins, Faults, Defects, Covers}
-use Rattle.machine_config.specs.declared.Setting.{Setting}
-use Rattle.machine_config.specs.Configuration.{is_closed, setting_of}
-use Rattle.machine_image.specs.Vocabulary.{ImageValue, image_row, IsFreeImage}
-use Rattle.map_network.specs.declared.network.Network.{Network}
-use Rattle.map_network.specs.Vocabulary.{IsNetwork, AreRows, HasOneRows}
-use Rattle.place_plan.specs.declared.layout.Layout.{Layout}
-use Rattle.place_plan.specs.declared.plan.Plan.{Plan}
-use Rattle.place_plan.specs.Plans.{nets_in, place_of}
+use Rattle.place_pair.proofs.Vocabulary.{All, cases_lt, length-map, Shape, table_wire, Pins, Faults, Defects, Covers, Setting, is_closed}
+use Rattle.place_pair.proofs.Vocabulary.{setting_of, ImageValue, image_row, IsFreeImage, Network, IsNetwork, AreRows, HasOneRows, Layout}
+use Rattle.place_pair.proofs.Vocabulary.{Plan, nets_in, place_of, Site, AreBothRows, joint_network, part, AreTenants, RunsAsAlone}
+use Rattle.place_pair.proofs.Vocabulary.{StandApart, first_site, second_site, IsTenant, IsSplit, Owns, StandsIn}
 use Rattle.place_route.specs.RightImages.{IsRightForNetwork, ReadsRows}
-use Rattle.place_pair.specs.declared.site.Site.{Site}
-use Rattle.place_pair.specs.JointNetworks.{AreBothRows, joint_network, part}
-use Rattle.place_pair.specs.Tenants.{AreTenants, RunsAsAlone, StandApart}
-use Rattle.place_pair.specs.Sites.{first_site, second_site, IsTenant, IsSplit, Owns, StandsIn}
 use Rattle.place_pair.proofs.Lists.{all_map, both_parts, length_part, map_part}
 use Rattle.place_pair.proofs.Sounding.{long_tables, long_outputs}
 use Rattle.place_pair.proofs.Standing.{first_stands, second_stands}

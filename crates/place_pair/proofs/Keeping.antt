@@ -1,26 +1,16 @@
 -- Of a whole's crosspoints those of one network.
 use Rattle.std.proofs.Common.{◌≡◌, ◌⊎◌, ℕ, zero, suc, ◌+◌, ◌-◌, ◌<◌, ◌≤◌, Bool, true, false, not, cond, ◌||◌, ◌&&◌, None, Option, List, [], ◌∷◌, ◌++◌, length, get_or, refl, sym, ap, ◌∙◌, subst, inl, inr, arith, ◌==◌, ◌↔◌, if◌then◌else◌, count_by, IsSome}
-use Rattle.std.specs.List.{Contains, list_any}
-use Rattle.std.specs.Ordering.{nat_cmp, eq_by_cmp}
-use Rattle.std.specs.Cmp.{nat_cmp_total, unsigned_tied}
+use Rattle.place_pair.proofs.Vocabulary.{Contains, list_any, false≢true, Contains-append_left, Contains-push, Contains-push_cases, Shape}
+use Rattle.place_pair.proofs.Vocabulary.{Cross, ends_of, Setting, Network, Closes, SwitchesOn, none_at, Site, IsHeldBy, IsHeldAmong}
+use Rattle.place_pair.proofs.Vocabulary.{IsShare}
+use Rattle.std.specs.{Ordering.nat_cmp, Ordering.eq_by_cmp, Cmp.nat_cmp_total, Cmp.unsigned_tied}
 use Rattle.std.specs.FinSet as set_
 use Rattle.std.specs.FinSet.{contains-empty, contains-items, contains-remove, len-remove, same_set, empty_of_len, nat_cmp-IsAntisymmetric}
-use Rattle.std.proofs.lemmas.Bool.{false≢true}
 use Rattle.std.proofs.lemmas.Bool.Decides.{nat_tests}
-use Rattle.std.proofs.lemmas.List.Elements.{Contains-append_left, Contains-push, Contains-push_cases}
-use Rattle.machine_shape.specs.declared.Shape.{Shape}
-use Rattle.machine_shape.specs.declared.Cross.{Cross}
 use Rattle.machine_shape.specs.declared.Table.{Table}
-use Rattle.machine_shape.specs.Shape.{ends_of}
-use Rattle.machine_config.specs.declared.Setting.{Setting}
 use Rattle.machine_config.specs.Configuration.{Configuration, is_closed, setting_of, cleared, with_closed, with_ticks}
 use Rattle.machine_image.proofs.Keyed.{listed, of_list}
-use Rattle.map_network.specs.declared.network.Network.{Network}
-use Rattle.place_route.specs.Closing.{Closes, SwitchesOn}
 use Rattle.place_route.proofs.Joining.{closes_none, closes_then, closes_same, closes_one}
-use Rattle.place_route.proofs.Whole.{none_at}
-use Rattle.place_pair.specs.declared.site.Site.{Site}
-use Rattle.place_pair.specs.Sites.{IsHeldBy, IsHeldAmong, IsShare}
 
 -- ---- a set is no larger than one that has all of it
 

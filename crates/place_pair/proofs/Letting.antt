@@ -1,35 +1,19 @@
 -- What a tenant has of a routed whole: a plan and a layout of its own network.
 use Rattle.std.proofs.Common.{◌≡◌, ◌≢◌, ◌⊎◌, ℕ, ◌+◌, ◌-◌, ◌<◌, ◌≤◌, ◌++◌, true, Some, None, Option, List, length, get_or, refl, sym, ap, ◌∙◌, subst, inl, inr, arith, IsSome}
-use Rattle.std.specs.List.{All, AllPairs, Contains}
-use Rattle.std.proofs.lemmas.Bool.{cases_lt}
+use Rattle.place_pair.proofs.Vocabulary.{All, AllPairs, Contains, cases_lt, All-contains, Shape, Faults, Defects, IsFreeWire, IsFreeCross}
+use Rattle.place_pair.proofs.Vocabulary.{IsFreeTable, Covers, is_closed, setting_of, ImageValue, IsFreeImage, Uses, at_pin, at_tap, at_line}
+use Rattle.place_pair.proofs.Vocabulary.{at_table, Input, Table, NetTable, Network, table_at, IsNetwork, IsDeepest, Layout, Plan, Port}
+use Rattle.place_pair.proofs.Vocabulary.{different_at, ticks_enough, Site, part, moved, HasPinsOf, StandsIn, Owns, IsTenant}
 use Rattle.std.proofs.lemmas.List.{get_or-map, get_or_append_left, get_or-append_right, get_or_default, length-append, length-map}
-use Rattle.std.proofs.lemmas.List.Elements.{All-contains}
-use Rattle.machine_shape.specs.declared.Shape.{Shape}
 use Rattle.machine_shape.specs.declared.Table as hierarchy
 use Rattle.machine_shape.specs.Vocabulary.{nodes_of, tables_of, pins_of, crosses_of, ends_of, pin_wire, table_wire, IsLine, IsPort, IsNumbered, IsTree}
-use Rattle.machine_meaning.specs.Vocabulary.{Faults, Defects, IsFreeWire, IsFreeCross, IsFreeTable, Covers}
-use Rattle.machine_config.specs.Configuration.{is_closed, setting_of}
-use Rattle.machine_image.specs.Vocabulary.{ImageValue, IsFreeImage, Uses, at_pin, at_tap, at_line, at_table}
-use Rattle.map_network.specs.declared.source.Source.TheVariants.{Input, Table}
-use Rattle.map_network.specs.declared.network.NetTable.{NetTable}
-use Rattle.map_network.specs.declared.network.Network.{Network}
-use Rattle.map_network.specs.Networks.{table_at, IsNetwork, IsDeepest}
-use Rattle.place_plan.specs.declared.layout.Layout.{Layout}
-use Rattle.place_plan.specs.declared.plan.Plan.{Plan}
-use Rattle.place_plan.specs.declared.short.Port.{Port}
 use Rattle.place_plan.specs.declared.short.Visit.{Visit}
 use Rattle.place_plan.specs.Vocabulary.{IsLayout, AreHeld, nth_of, number_of, places, place_of, nets_in, IsTerminal, drives, reads, shows, IsPlan, HasPort, CrossesAt, VisitsAt, Serves, Crosses, Visits, port_for, visit_for}
-use Rattle.place_plan.proofs.Those.{different_at}
 use Rattle.place_route.specs.Vocabulary.{no_seat, IsSet, image_at, setting_in, AreOwners, Holds, HasLine, IsRightForNetwork, HasPortIn, IsRouteOf, IsNetTap, by_terminal, by_child, by_port, IsLaidOnTree, IsOfNet, as_terminal, as_line, as_port}
 use Rattle.place_route.proofs.OnTree.{nets_apart}
 use Rattle.place_route.proofs.Ported.{same_port}
-use Rattle.place_route.proofs.Reading.{ticks_enough}
 use Rattle.place_route.proofs.Routed.{set_is_free, tree_reads_rows}
 use Rattle.place_route.proofs.Terminals.{plan_terminals, no_idle_terminal}
-use Rattle.place_pair.specs.declared.site.Site.{Site}
-use Rattle.place_pair.specs.JointNetworks.{part, moved}
-use Rattle.place_pair.specs.Tenants.{HasPinsOf}
-use Rattle.place_pair.specs.Sites.{StandsIn, Owns, IsTenant}
 use Rattle.place_pair.proofs.Lists.{length_part, map_part, all_part, pairs_part, all_pins, pairs_pins}
 use Rattle.place_pair.proofs.Behaving.{table_there, within_there, deep_there}
 use Rattle.place_pair.proofs.Owning.{plan_of, IsNet, net_one, one_net_of, owns_net, net_owned, seat, terminal_there, terminal_back}

@@ -14,3 +14,4 @@ mod Halving
 mod Seating
 mod Cutting
 mod Sharing
+mod Vocabulary

@@ -1,20 +1,10 @@
 -- The image of one of two networks is within the limits of its machine.
 use Rattle.std.proofs.Common.{◌≡◌, ℕ, ◌+◌, ◌<◌, ◌≤◌, List, IsSome, length, get_or, map, sym, ◌∙◌, subst, Option, arith}
-use Rattle.std.specs.List.{Contains}
+use Rattle.place_pair.proofs.Vocabulary.{Contains, get_or-map, length-map, most_closed, most_ticks, Configuration, setting_of, tables_on}
+use Rattle.place_pair.proofs.Vocabulary.{Network, Plan, number_of, no_seat, Site, part, IsShare}
 use Rattle.std.specs.FinSet as set
-use Rattle.std.proofs.lemmas.List.{get_or-map, length-map}
 use Rattle.machine_shape.specs.declared.Table.{Table}
-use Rattle.machine_shape.specs.Bounds.{most_closed, most_ticks}
-use Rattle.machine_config.specs.Configuration.{Configuration, setting_of}
-use Rattle.machine_image.specs.Images.{tables_on}
 use Rattle.machine_image.proofs.Counted.{on_few}
-use Rattle.map_network.specs.declared.network.Network.{Network}
-use Rattle.place_plan.specs.declared.plan.Plan.{Plan}
-use Rattle.place_plan.specs.Plans.{number_of}
-use Rattle.place_route.specs.Vocabulary.{no_seat}
-use Rattle.place_pair.specs.declared.site.Site.{Site}
-use Rattle.place_pair.specs.JointNetworks.{part}
-use Rattle.place_pair.specs.Sites.{IsShare}
 use Rattle.place_pair.proofs.Lists.{length_part}
 
 module _ (s : Site) (n : Network) (p : Plan) (owners : List (Option ℕ)) (whole g : Configuration) (share : IsShare s n owners (part s.table (length n.tables) p.tables) whole g) where

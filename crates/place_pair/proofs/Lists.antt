@@ -1,9 +1,7 @@
 -- Parts of lists.
 use Rattle.std.proofs.Common.{◌≡◌, ◌≢◌, ◌⊎◌, ℕ, ◌+◌, ◌-◌, ◌<◌, ◌≤◌, List, [], ◌∷◌, ◌++◌, length, get_or, map, take, drop, refl, sym, ap, ◌∙◌, subst, inl, inr, arith}
-use Rattle.std.specs.List.{All, AllPairs, Contains}
-use Rattle.std.proofs.lemmas.Bool.{cases_lt}
+use Rattle.place_pair.proofs.Vocabulary.{All, AllPairs, Contains, cases_lt, part}
 use Rattle.std.proofs.lemmas.List.{get_or-take, get_or-drop, get_or-map, get_or_append_left, get_or-append_right, get_or-append-add, length-take-le, length-drop, length-append, length-map, take-map, drop-map, take_all, take-append-drop, get_or_default}
-use Rattle.place_pair.specs.JointNetworks.{part}
 
 pub nth_part : {A : Type 0} (a b : ℕ) (xs : List A) (k : ℕ) (d : A) → k < b → get_or (part a b xs) k d ≡ get_or xs (a + k) d
 nth_part a b xs k d h = get_or-take b (drop a xs) k d h ∙ get_or-drop a xs k d

@@ -1,20 +1,14 @@
 -- A tenant that is left alone reads for its part of the vectors what it reads by itself.
 use Rattle.std.proofs.Common.{◌≡◌, ℕ, ◌+◌, ◌<◌, ◌≤◌, Bool, true, false, List, [], ◌∷◌, ◌++◌, length, get_or, map, take, refl, sym, ap, ◌∙◌, subst, arith}
-use Rattle.std.specs.List.{All, Contains, range_with_len}
+use Rattle.place_pair.proofs.Vocabulary.{All, Contains, range_with_len, pins_of, Faults, IsFaultless, Pins, IsRun, ImageValue, IsImage}
+use Rattle.place_pair.proofs.Vocabulary.{bit_for, row_at, drive_of, different_at, part, AreTenants, RunsAsAloneOver}
 use Rattle.std.proofs.lemmas.List.{get_or_append_left, get_or_default, ext_get_or, length-append, take_at, drop_at, take_all}
 use Rattle.std.proofs.lemmas.List.Elements.{All-map, Contains-append_left, Contains-append_right}
 use Rattle.std.proofs.lemmas.List.FromFn.{length-map-range_with_len}
-use Rattle.machine_shape.specs.Shape.{pins_of}
-use Rattle.machine_meaning.specs.Vocabulary.{Faults, IsFaultless, Pins}
-use Rattle.machine_config.specs.Vocabulary.{IsRun}
-use Rattle.machine_image.specs.Vocabulary.{ImageValue, IsImage, bit_for, row_at, drive_of}
 use Rattle.machine_image.proofs.Driven.{drive_pin, drive_low}
 use Rattle.machine_history.specs.Vocabulary.{History, IsTenantOf, LeavesAloneFor, IsDriveFor, drive_alone}
 use Rattle.machine_history.proofs.Driving.{same_lows, low_there, low_here, drives_itself}
 use Rattle.machine_history.proofs.Lasting.{tenant_runs_alone}
-use Rattle.place_plan.proofs.Those.{different_at}
-use Rattle.place_pair.specs.JointNetworks.{part}
-use Rattle.place_pair.specs.Tenants.{AreTenants, RunsAsAloneOver}
 use Rattle.place_pair.proofs.Lists.{nth_part}
 use Rattle.place_pair.proofs.Sharing.{first_is_tenant, second_is_tenant}
 

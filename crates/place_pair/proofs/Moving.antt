@@ -1,14 +1,7 @@
 -- Sources, tables and outputs behind others.
 use Rattle.std.proofs.Common.{◌≡◌, ℕ, ◌+◌, ◌<◌, ◌≤◌, ◌++◌, List, [], ◌∷◌, length, map, take, get_or, refl, sym, ap, ◌∙◌, arith}
-use Rattle.std.specs.List.{All}
-use Rattle.std.proofs.lemmas.List.{append_assoc, map_more}
-use Rattle.map_network.specs.declared.source.Source.{Source}
-use Rattle.map_network.specs.declared.source.Source.TheVariants.{Input, Table}
-use Rattle.map_network.specs.declared.network.NetTable.{NetTable}
-use Rattle.map_network.specs.declared.network.Network.{Network}
-use Rattle.map_network.specs.Networks.{IsNetwork, IsSourceOf}
-use Rattle.place_pair.specs.JointNetworks.{moved, moved_table, joint_network}
-use Rattle.place_pair.specs.Sites.{IsMovable}
+use Rattle.place_pair.proofs.Vocabulary.{All, append_assoc, map_more, Source, Input, Table, NetTable, Network, IsNetwork, IsSourceOf, moved}
+use Rattle.place_pair.proofs.Vocabulary.{moved_table, joint_network, IsMovable}
 
 -- behind nothing all stays
 stays : (x : Source) → moved 0 0 x ≡ x

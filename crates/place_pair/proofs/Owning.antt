@@ -1,21 +1,9 @@
 -- The nets and the terminals of a network that stands in a joint one.
 use Rattle.std.proofs.Common.{◌≡◌, ◌⊎◌, ℕ, ◌+◌, ◌-◌, ◌<◌, ◌≤◌, length, get_or, refl, sym, ap, ◌∙◌, subst, inl, inr, arith}
-use Rattle.std.proofs.lemmas.Bool.{cases_lt}
-use Rattle.std.proofs.lemmas.List.{get_or-map, get_or_default, length-map}
-use Rattle.machine_shape.specs.declared.Shape.{Shape}
-use Rattle.machine_shape.specs.Shape.{pin_wire, table_wire}
-use Rattle.machine_meaning.specs.Defects.{Defects}
-use Rattle.map_network.specs.declared.source.Source.{Source}
-use Rattle.map_network.specs.declared.source.Source.TheVariants.{Input, Table}
-use Rattle.map_network.specs.declared.network.NetTable.{NetTable}
-use Rattle.map_network.specs.declared.network.Network.{Network}
-use Rattle.map_network.specs.Networks.{no_table, table_at, IsSourceOf, IsNetwork}
-use Rattle.place_plan.specs.declared.plan.Plan.{Plan}
-use Rattle.place_plan.specs.Lists.{nth_of}
+use Rattle.place_pair.proofs.Vocabulary.{cases_lt, get_or-map, get_or_default, length-map, Shape, pin_wire, table_wire, Defects, Source}
+use Rattle.place_pair.proofs.Vocabulary.{Input, Table, NetTable, Network, no_table, table_at, IsSourceOf, IsNetwork, Plan, nth_of, Site}
+use Rattle.place_pair.proofs.Vocabulary.{part, moved, moved_table, IsFrom, IsOwnSource, StandsIn, Owns}
 use Rattle.place_plan.specs.Plans.{number_of, places, place_of, net_of, nets_in, IsTerminal, drives, reads, shows}
-use Rattle.place_pair.specs.declared.site.Site.{Site}
-use Rattle.place_pair.specs.JointNetworks.{part, moved, moved_table}
-use Rattle.place_pair.specs.Sites.{IsFrom, IsOwnSource, StandsIn, Owns}
 use Rattle.place_pair.proofs.Lists.{nth_part, map_part}
 use Rattle.place_pair.proofs.Behaving.{table_there, within_there}
 

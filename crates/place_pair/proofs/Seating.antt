@@ -1,23 +1,10 @@
 -- What a plan of a joint network gives to each of the two.
 use Rattle.std.proofs.Common.{◌≡◌, ◌≢◌, ℕ, ◌+◌, ◌<◌, ◌≤◌, List, Option, length, get_or, sym, ap, ◌∙◌, subst, arith}
-use Rattle.std.specs.List.{All, AllPairs}
-use Rattle.std.proofs.lemmas.List.{get_or-map, length-map}
-use Rattle.machine_shape.specs.declared.Shape.{Shape}
+use Rattle.place_pair.proofs.Vocabulary.{All, AllPairs, get_or-map, length-map, Shape, Defects, ImageValue, Network, IsNetwork, Layout}
+use Rattle.place_pair.proofs.Vocabulary.{Plan, Port, AreOwners, AreWiresOf, IsRouteOf, numbering, laid_by, wires_are, Site, StandsIn}
 use Rattle.machine_shape.specs.declared.Table.{Table}
 use Rattle.machine_shape.specs.Vocabulary.{tables_of, wires_of, IsNumbered, IsTree, HasParents, HasTaps, HasCrosses, HasMeanings, HasSites}
-use Rattle.machine_meaning.specs.Defects.{Defects}
-use Rattle.machine_image.specs.Images.{ImageValue}
-use Rattle.map_network.specs.declared.network.Network.{Network}
-use Rattle.map_network.specs.Networks.{IsNetwork}
-use Rattle.place_plan.specs.declared.layout.Layout.{Layout}
-use Rattle.place_plan.specs.declared.plan.Plan.{Plan}
-use Rattle.place_plan.specs.declared.short.Port.{Port}
 use Rattle.place_plan.specs.Vocabulary.{IsLayout, number_of, places, IsPlan}
-use Rattle.place_route.specs.Vocabulary.{AreOwners, AreWiresOf, IsRouteOf}
-use Rattle.place_route.proofs.Making.{numbering, laid_by}
-use Rattle.place_route.proofs.Whole.{wires_are}
-use Rattle.place_pair.specs.declared.site.Site.{Site}
-use Rattle.place_pair.specs.Sites.{StandsIn}
 
 module _ (m : Shape) (d : Defects) (joint : Network) (p : Plan) (plan : IsPlan m d joint p) where
   seat_is : (j : ℕ) (t : Table) → j < length p.tables → get_or (places p) j 0 ≡ (get_or p.tables j t).0

@@ -1,14 +1,9 @@
 -- Each of two tenants is a tenant of the whole.
 use Rattle.std.proofs.Common.{◌≡◌, ◌⊎◌, ◌↔◌, ℕ, ◌<◌, ◌++◌, true, Some, None, Option, List, refl, sym, ap, ◌∙◌, subst, inl, inr, arith, IsSome}
-use Rattle.std.specs.List.{Contains}
-use Rattle.std.proofs.lemmas.Bool.{false≢true}
+use Rattle.place_pair.proofs.Vocabulary.{Contains, false≢true, ends_of, pin_wire, table_wire, Setting, is_closed, setting_of, AreTenants}
 use Rattle.std.proofs.lemmas.List.Elements.{Contains-append_cases, Contains-append_left, Contains-append_right}
-use Rattle.machine_shape.specs.Shape.{ends_of, pin_wire, table_wire}
-use Rattle.machine_config.specs.declared.Setting.{Setting}
-use Rattle.machine_config.specs.Vocabulary.{is_closed, setting_of}
 use Rattle.machine_image.specs.Vocabulary.{ImageValue, Uses, at_pin, at_tap, at_line, at_table}
 use Rattle.machine_history.specs.Vocabulary.{IsTenantOf}
-use Rattle.place_pair.specs.Tenants.{AreTenants}
 
 on_of : {o : Option Setting} {s : Setting} → o ≡ Some s → IsSome o
 on_of e = rw e refl

@@ -1,14 +1,8 @@
 -- The joint network of two networks is a network.
 use Rattle.std.proofs.Common.{◌≡◌, ◌⊎◌, ℕ, suc, ◌+◌, ◌-◌, ◌<◌, ◌≤◌, false, length, get_or, map, sym, ap, ◌∙◌, subst, inl, inr, arith}
-use Rattle.std.specs.List.{All, Contains}
-use Rattle.std.proofs.lemmas.Bool.{cases_lt}
-use Rattle.std.proofs.lemmas.List.{get_or-map, get_or_append_left, get_or-append-add, length-append, length-map}
-use Rattle.map_network.specs.declared.source.Source.{Source}
-use Rattle.map_network.specs.declared.source.Source.TheVariants.{Input, Table}
-use Rattle.map_network.specs.declared.network.NetTable.{NetTable}
-use Rattle.map_network.specs.declared.network.Network.{Network}
+use Rattle.place_pair.proofs.Vocabulary.{All, Contains, cases_lt, get_or-map, get_or_append_left, get_or-append-add, length-append}
+use Rattle.place_pair.proofs.Vocabulary.{length-map, Source, Input, Table, NetTable, Network, moved, moved_table, joint_network}
 use Rattle.map_network.specs.Networks.{no_table, table_at, IsCombinational, IsSourceOf, IsPath, alone, onward, IsDeepest, IsNetwork}
-use Rattle.place_pair.specs.JointNetworks.{moved, moved_table, joint_network}
 use Rattle.place_pair.proofs.Lists.{all_append, all_map, contains_unmap, all_has}
 
 module _ (n o : Network) where

@@ -1,15 +1,8 @@
 -- Each of two networks stands in their joint network.
 use Rattle.std.proofs.Common.{◌≡◌, ◌⊎◌, ℕ, ◌+◌, ◌-◌, ◌<◌, ◌≤◌, ◌++◌, List, length, get_or, map, take, refl, sym, ap, ◌∙◌, subst, inl, inr, arith}
-use Rattle.std.specs.List.{Contains}
-use Rattle.std.proofs.lemmas.Bool.{cases_lt}
+use Rattle.place_pair.proofs.Vocabulary.{Contains, cases_lt, Source, Input, Table, NetTable, Network, no_table, table_at, IsSourceOf}
+use Rattle.place_pair.proofs.Vocabulary.{IsNetwork, part, moved, moved_table, joint_network, IsFrom, IsOwnSource, StandsIn}
 use Rattle.std.proofs.lemmas.List.{get_or_append_left, get_or-append_right, get_or-map, length-map, take_at, drop_at, take_all}
-use Rattle.map_network.specs.declared.source.Source.{Source}
-use Rattle.map_network.specs.declared.source.Source.TheVariants.{Input, Table}
-use Rattle.map_network.specs.declared.network.NetTable.{NetTable}
-use Rattle.map_network.specs.declared.network.Network.{Network}
-use Rattle.map_network.specs.Networks.{no_table, table_at, IsSourceOf, IsNetwork}
-use Rattle.place_pair.specs.JointNetworks.{part, moved, moved_table, joint_network}
-use Rattle.place_pair.specs.Sites.{IsFrom, IsOwnSource, StandsIn}
 use Rattle.place_pair.proofs.Lists.{contains_unmap, all_has}
 use Rattle.place_pair.proofs.Moving.{sources_stay, tables_stay}
 use Rattle.place_pair.proofs.Sounding.{long_tables, long_outputs, first_table, second_table}

@@ -1,11 +1,8 @@
 -- Two networks as one.
 use Rattle.std.specs.Prelude.{◌≡◌, ℕ, ◌+◌, ◌<◌, ◌++◌, List, Bool, map, length, take, drop}
 use Rattle.std.specs.List.{All}
-use Rattle.map_network.specs.declared.source.Source.{Source}
-use Rattle.map_network.specs.declared.source.Source.TheVariants.{Input, Table}
-use Rattle.map_network.specs.declared.network.NetTable.{NetTable}
-use Rattle.map_network.specs.declared.network.Network.{Network}
-use Rattle.map_network.specs.Vocabulary.{IsNetwork, AreRows}
+use Rattle.map_network.specs.{declared.source.Source.Source, declared.network.Network.Network, Vocabulary.IsNetwork, Vocabulary.AreRows}
+use Rattle.map_network.specs.declared.{source.Source.TheVariants.Input, source.Source.TheVariants.Table, network.NetTable.NetTable}
 
 -- so many elements of a list, from a place on
 abbrev pub part : {A : Type 0} → ℕ → ℕ → List A → List A

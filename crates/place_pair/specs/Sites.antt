@@ -2,22 +2,17 @@
 use Rattle.std.specs.Prelude.{◌≡◌, ◌⊎◌, ℕ, ◌+◌, ◌<◌, ◌≤◌, true, Some, IsSome, List, Option, map, length, slice_index_or}
 use Rattle.std.specs.List.{Contains}
 use Rattle.std.specs.FinSet as set
-use Rattle.machine_shape.specs.declared.Shape.{Shape}
-use Rattle.machine_shape.specs.declared.Cross.{Cross}
+use Rattle.machine_shape.specs.{declared.Shape.Shape, declared.Cross.Cross, Shape.ends_of}
 use Rattle.machine_shape.specs.declared.Table as hierarchy
-use Rattle.machine_shape.specs.Shape.{ends_of}
 use Rattle.machine_meaning.specs.Vocabulary.{Defects, Covers, Faults}
 use Rattle.machine_config.specs.Configuration.{Configuration, is_closed, setting_of}
 use Rattle.machine_image.specs.Vocabulary.{ImageValue, IsFreeImage}
-use Rattle.map_network.specs.declared.source.Source.{Source}
-use Rattle.map_network.specs.declared.source.Source.TheVariants.{Input, Table}
-use Rattle.map_network.specs.declared.network.Network.{Network}
-use Rattle.map_network.specs.Networks.{table_at}
+use Rattle.map_network.specs.{declared.source.Source.Source, Networks.table_at}
+use Rattle.map_network.specs.declared.{source.Source.TheVariants.Input, source.Source.TheVariants.Table, network.Network.Network}
 use Rattle.place_plan.specs.declared.plan.Plan.{Plan}
 use Rattle.place_route.specs.Vocabulary.{no_seat, setting_in, owner_at, IsRightForNetwork, ReadsRows}
-use Rattle.place_pair.specs.declared.site.Site.{Site}
+use Rattle.place_pair.specs.{declared.site.Site.Site, Tenants.AreTenants, Tenants.HasPinsOf, Tenants.StandApart}
 use Rattle.place_pair.specs.JointNetworks.{AreBothRows, part, moved, moved_table}
-use Rattle.place_pair.specs.Tenants.{AreTenants, HasPinsOf, StandApart}
 
 -- the first of two networks stands in their joint network from the start on, and the second behind it
 abbrev pub first_site : Network → Network → Site

@@ -3,13 +3,11 @@ use Rattle.std.specs.Prelude.{◌≡◌, ◌⊎◌, ◌↔◌, ℕ, ◌++◌, Bo
 use Rattle.std.specs.List.{All}
 use Rattle.machine_shape.specs.declared.Shape.{Shape}
 use Rattle.machine_meaning.specs.Vocabulary.{Pins, Defects, Faults, IsFaultless}
-use Rattle.machine_config.specs.declared.Setting.{Setting}
-use Rattle.machine_config.specs.Vocabulary.{is_closed, setting_of, IsRun}
+use Rattle.machine_config.specs.{declared.Setting.Setting, Vocabulary.is_closed, Vocabulary.setting_of, Vocabulary.IsRun}
 use Rattle.machine_image.specs.Vocabulary.{ImageValue, drive_of, image_row, Uses}
 use Rattle.machine_history.specs.Vocabulary.{History, IsRunOver}
 use Rattle.map_network.specs.declared.network.Network.{Network}
-use Rattle.place_plan.specs.declared.plan.Plan.{Plan}
-use Rattle.place_plan.specs.Plans.{FitsInOrder}
+use Rattle.place_plan.specs.{declared.plan.Plan.Plan, Plans.FitsInOrder}
 use Rattle.place_pair.specs.JointNetworks.{part, joint_network}
 
 -- The closed crosspoints of the whole, its switched-on tables with their settings, its input pins and its output pins are those

@@ -1,18 +1,10 @@
 -- The list of terminals has the terminals.
 use Rattle.std.proofs.Common.{◌≡◌, ◌⊎◌, ℕ, ◌<◌, List, [], ◌∷◌, ◌++◌, map, length, get_or, refl, sym, ap, ◌∙◌, subst, inl, inr, arith, ◌↔◌}
-use Rattle.std.specs.List.{Contains, flat_map, range_with_len}
-use Rattle.std.proofs.lemmas.List.{get_or_default}
-use Rattle.std.proofs.lemmas.List.Elements.{Contains-append_left, Contains-append_right, Contains-append_cases}
+use Rattle.place_plan.proofs.Vocabulary.{Contains, flat_map, range_with_len, get_or_default, Contains-append_left, Contains-append_right}
+use Rattle.place_plan.proofs.Vocabulary.{Contains-append_cases, Shape, Terminal, Plan, Network, table_at, pin_wire, table_wire, net_of}
 use Rattle.std.proofs.lemmas.List.FromFn.{get_or-map-range_with_len, length-map-range_with_len}
-use Rattle.machine_shape.specs.declared.Shape.{Shape}
 use Rattle.map_network.specs.declared.source.Source.TheVariants as source
-use Rattle.place_plan.specs.declared.terminals.Terminal.{Terminal}
-use Rattle.place_plan.specs.declared.plan.Plan.{Plan}
-use Rattle.map_network.specs.declared.network.Network.{Network}
-use Rattle.map_network.specs.Networks.{table_at}
-use Rattle.machine_shape.specs.Shape.{pin_wire, table_wire}
 use Rattle.place_plan.specs.Vocabulary.{nth_of, places, place_of, IsTerminal, drives, reads, shows, first_input, drive_by, give_by, read_by, show_by, drive_terminals, gives_of, reads_at, reads_to, shows_of, all_terminals, terminal_for}
-use Rattle.place_plan.specs.Plans.{net_of}
 use Rattle.place_plan.proofs.Ranges.{in_range, range_below}
 
 module _ {X : Type 0} where

@@ -1,9 +1,6 @@
 -- Those who are reached are among those who ask.
 use Rattle.std.proofs.Common.{ℕ, ◌<◌, List, [], ◌∷◌, ◌++◌, length, inl, inr, sym, subst, arith}
-use Rattle.std.proofs.lemmas.List.{length_push}
-use Rattle.std.proofs.lemmas.Bool.{cases_eq}
-use Rattle.place_plan.specs.declared.search.Step.{Step}
-use Rattle.place_plan.specs.Search.{step_at, AskWithin}
+use Rattle.place_plan.proofs.Vocabulary.{length_push, cases_eq, Step, step_at, AskWithin}
 use Rattle.place_plan.proofs.Trails.{at_old, at_new}
 
 pub push_asks : (count : ℕ) (steps : List Step) (x : Step) → AskWithin count steps → x.ask < count → AskWithin count (steps ++ x ∷ [])

@@ -1,7 +1,5 @@
 -- Those who ask at a node are the nets that visit it, with their taps.
-use Rattle.std.proofs.Common.{ℕ, ◌≤◌, List, length}
-use Rattle.machine_shape.specs.declared.Shape.{Shape}
-use Rattle.place_plan.specs.declared.search.Ask.{Ask}
+use Rattle.place_plan.proofs.Vocabulary.{ℕ, ◌≤◌, List, length, Shape, Ask}
 use Rattle.place_plan.specs.Vocabulary.{AreThose, HasTerminal, VisitsAt, VisitsIn, AreAsksOf, AreAsks, TouchesOf}
 use Rattle.place_plan.proofs.Places.{visits_inside}
 use Rattle.place_plan.proofs.Sieves.{elements_end}

@@ -1,20 +1,10 @@
 -- What a board comes to, and what is found at one node.
 use Rattle.std.proofs.Common.{◌≡◌, ℕ, ◌<◌, ◌≤◌, Bool, true, List, [], ◌∷◌, ◌++◌, length, get_or, map, ◌⊎◌, inl, inr, refl, sym, ap, ◌∙◌, subst}
-use Rattle.std.specs.List.{All, Contains, range_with_len}
-use Rattle.std.proofs.lemmas.List.Elements.{All-contains, All-weaker, All-get_or, All-contains_itself}
-use Rattle.std.proofs.lemmas.List.{get_or_past, get_or_read}
-use Rattle.std.proofs.lemmas.Bool.{cases_lt}
+use Rattle.place_plan.proofs.Vocabulary.{All, Contains, range_with_len, All-contains, All-weaker, All-get_or, All-contains_itself}
+use Rattle.place_plan.proofs.Vocabulary.{get_or_past, get_or_read, cases_lt, Shape, wires_of, nodes_of, tap_port, IsPort, HasTaps}
+use Rattle.place_plan.proofs.Vocabulary.{HasParents, Defects, DefectList, Ask, Hold, Visit, Own, Child, Outside}
 use Rattle.place_plan.proofs.Those.{not_in_nil}
-use Rattle.machine_shape.specs.declared.Shape.{Shape}
-use Rattle.machine_shape.specs.Vocabulary.{wires_of, nodes_of, tap_port, IsPort, HasTaps, HasParents}
-use Rattle.machine_meaning.specs.Defects.{Defects}
-use Rattle.machine_defects.specs.Lists.{DefectList}
-use Rattle.place_plan.specs.declared.board.Board.{Board}
-use Rattle.place_plan.specs.declared.search.Ask.{Ask}
-use Rattle.place_plan.specs.declared.search.Assigned.{Assigned}
-use Rattle.place_plan.specs.declared.search.Hold.{Hold}
-use Rattle.place_plan.specs.declared.short.Visit.{Visit}
-use Rattle.place_plan.specs.declared.tree.NetSide.TheVariants.{Own, Child, Outside}
+use Rattle.place_plan.specs.declared.{board.Board.Board, search.Assigned.Assigned}
 use Rattle.place_plan.specs.Vocabulary.{AreWires, IsAnswer, IsSite, IsAssignment, IsShort, serves_by, IsBoardOf, visit_of, visit_by, pick_of, GoOn, AreThose, AreLists, HasTerminal, at_own, at_child, IsBoard, AreAsks, IsAskOf, IsHeld, IsTapFor, AreAscending, IsFreeLine, list_at}
 use Rattle.place_plan.proofs.Ranges.{range_below}
 use Rattle.place_plan.proofs.Serving.{choice}

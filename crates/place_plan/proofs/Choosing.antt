@@ -1,15 +1,8 @@
 -- The ports and lines that were found are a choice.
 use Rattle.std.proofs.Common.{◌≡◌, ℕ, ◌<◌, ◌≤◌, Bool, true, false, ◌==◌, ◌&&◌, List, [], ◌∷◌, zero, suc, length, get_or, Some, if◌then◌else◌, ◌⊎◌, inl, inr, refl, sym, ap, ◌∙◌, subst, arith, eq-eqb}
-use Rattle.std.specs.List.{AllPairs, Contains}
-use Rattle.std.proofs.lemmas.List.Elements.{All-contains, All-weaker, Contains-append_right}
-use Rattle.std.proofs.lemmas.Bool.{cases_order, and_parts}
-use Rattle.machine_shape.specs.declared.Shape.{Shape}
+use Rattle.place_plan.proofs.Vocabulary.{AllPairs, Contains, All-contains, All-weaker, Contains-append_right, cases_order, and_parts, Shape}
+use Rattle.place_plan.proofs.Vocabulary.{Defects, IsFreeWire, Port, Visit, NetSide, Own, Child, Outside}
 use Rattle.machine_shape.specs.Vocabulary.{wires_of, nodes_of, ends_of, node_of, parent_of, cross_at, IsLine, IsTap, tap_port, tap_child, IsTree, HasParents, HasTaps, HasCrosses, HasSites}
-use Rattle.machine_meaning.specs.Defects.{Defects, IsFreeWire}
-use Rattle.place_plan.specs.declared.short.Port.{Port}
-use Rattle.place_plan.specs.declared.short.Visit.{Visit}
-use Rattle.place_plan.specs.declared.tree.NetSide.{NetSide}
-use Rattle.place_plan.specs.declared.tree.NetSide.TheVariants.{Own, Child, Outside}
 use Rattle.place_plan.specs.Vocabulary.{IsNth, nth_of, IsInside, IsAt, at_own, at_child, at_outside, Crosses, tap_of, CrossesAt, VisitsAt, IsFreePort, HasPort, IsTapOf, by_terminal, by_child, by_port, Serves, AreVisits, AreHeld, port_in, HasFreeCross, IsChoice, port_for}
 use Rattle.place_plan.proofs.Places.{IsAt-unique, visits_inside}
 use Rattle.place_plan.proofs.Spreads.{above_le, decide_inside}

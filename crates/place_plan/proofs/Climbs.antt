@@ -1,9 +1,6 @@
 -- The way up the tree from a wire's node.
-use Rattle.std.proofs.Common.{◌≡◌, ◌≢◌, ℕ, ◌<◌, Some, None, refl, subst, arith}
-use Rattle.machine_shape.specs.declared.Shape.{Shape}
-use Rattle.machine_shape.specs.Vocabulary.{wires_of, nodes_of, node_of, parent_of, IsAbove, itself, below, HasParents}
-use Rattle.place_plan.specs.declared.tree.NetSide.TheVariants.{Child, Outside}
-use Rattle.place_plan.specs.Vocabulary.{IsAt, at_child, at_outside, IsClimb}
+use Rattle.place_plan.proofs.Vocabulary.{◌≡◌, ◌≢◌, ℕ, ◌<◌, Some, None, refl, subst, arith, Shape, wires_of, nodes_of, node_of, parent_of}
+use Rattle.place_plan.proofs.Vocabulary.{IsAbove, itself, below, HasParents, Child, Outside, IsAt, at_child, at_outside, IsClimb}
 use Rattle.place_plan.proofs.Upward.{higher}
 
 module _ (m : Shape) where

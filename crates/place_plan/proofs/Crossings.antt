@@ -1,11 +1,8 @@
 -- The nets that cross a node, of those that have a terminal inside.
 use Rattle.std.proofs.Common.{ℕ, ◌<◌, ◌≤◌, Bool, true, false, List, [], ◌∷◌, ◌++◌, if◌then◌else◌, length, sym, subst, arith}
-use Rattle.std.specs.List.{All}
-use Rattle.std.proofs.lemmas.List.Elements.{All-contains, All-push}
-use Rattle.machine_shape.specs.declared.Shape.{Shape}
+use Rattle.place_plan.proofs.Vocabulary.{All, All-contains, All-push, Shape, Defects, IsFreeWire}
 use Rattle.place_plan.specs.Vocabulary.{AreThose, IsAmongFirst, nth_of, IsInside, HasTerminal, IsAmong, CrossesIn, CrossesAt, IsFreePort, list_at, Touches, TouchesOf, AreWires, IsFreeLine}
 use Rattle.machine_shape.specs.Vocabulary.{wires_of, nodes_of, lines_of, own_ports_of, line_at, port_at, IsLine, IsPort, HasSites}
-use Rattle.machine_meaning.specs.Defects.{Defects, IsFreeWire}
 use Rattle.place_plan.proofs.Sieves.{elements_end}
 use Rattle.place_plan.proofs.Those.{those_same}
 

@@ -1,16 +1,8 @@
 -- What suffices isn't short, and one resource is the first to be short.
 use Rattle.std.proofs.Common.{◌≡◌, ◌≢◌, ℕ, zero, suc, ◌<◌, ◌≤◌, List, [], ◌∷◌, length, get_or, ◌⊎◌, inl, inr, refl, sym, ap, ◌∙◌, subst, arith}
-use Rattle.std.specs.List.{All, AllPairs, Contains}
-use Rattle.std.proofs.lemmas.List.{get_or_default}
-use Rattle.std.proofs.lemmas.List.Elements.{All-head, All-tail, All-contains, Contains-get_or}
-use Rattle.std.proofs.lemmas.Bool.{cases_eq, cases_order}
-use Rattle.machine_shape.specs.declared.Shape.{Shape}
-use Rattle.machine_meaning.specs.Defects.{Defects}
-use Rattle.place_plan.specs.declared.short.Need.{Need}
+use Rattle.place_plan.proofs.Vocabulary.{All, AllPairs, Contains, get_or_default, All-head, All-tail, All-contains, Contains-get_or}
+use Rattle.place_plan.proofs.Vocabulary.{cases_eq, cases_order, Shape, Defects, Need, Resource, Tables, Pins, Ports, Lines, Short}
 use Rattle.place_plan.specs.Room.{Pick, CrossesAt, VisitsAt, IsFreePort, Serves, ArePorts, PortsSuffice, PortsAreShort, IsChoiceAt, AreShort, NodeSuffices, IsMet, IsUnmet, IsShortOf, Suffices}
-use Rattle.place_plan.specs.declared.short.Resource.{Resource}
-use Rattle.place_plan.specs.declared.short.Resource.TheVariants.{Tables, Pins, Ports, Lines}
-use Rattle.place_plan.specs.declared.short.Short.{Short}
 use Rattle.place_plan.proofs.Counting.{pigeon}
 use Rattle.place_plan.proofs.Those.{those_unique}
 

@@ -1,15 +1,7 @@
 -- The in-order plan is determined, so that it doesn't both fit and fall short.
 use Rattle.std.proofs.Common.{◌≡◌, ℕ, suc, List, [], ◌∷◌, map, length, take, drop, get_or, min, refl, sym, ap, ◌∙◌, subst, arith}
-use Rattle.machine_shape.specs.declared.Shape.{Shape}
+use Rattle.place_plan.proofs.Vocabulary.{Shape, most_ticks, Defects, Network, Plan, Need, Resource, Tables, Pins, Ports, Lines, Short}
 use Rattle.machine_shape.specs.declared.Table.{Table}
-use Rattle.machine_shape.specs.Bounds.{most_ticks}
-use Rattle.machine_meaning.specs.Defects.{Defects}
-use Rattle.map_network.specs.declared.network.Network.{Network}
-use Rattle.place_plan.specs.declared.plan.Plan.{Plan}
-use Rattle.place_plan.specs.declared.short.Need.{Need}
-use Rattle.place_plan.specs.declared.short.Resource.{Resource}
-use Rattle.place_plan.specs.declared.short.Resource.TheVariants.{Tables, Pins, Ports, Lines}
-use Rattle.place_plan.specs.declared.short.Short.{Short}
 use Rattle.place_plan.specs.Vocabulary.{number_of, nets_in, IsTerminal, IsFreeTableOf, IsFreePinOf, AreNeeds, IsInOrder, InOrderIsShort, IsShortInOrder, FitsInOrder, IsShortOf, Suffices}
 use Rattle.place_plan.proofs.Decided.{never_both}
 use Rattle.place_plan.proofs.Those.{those_unique}

@@ -1,27 +1,17 @@
 -- Enough free parts are room for the in-order plan.
 use Rattle.std.proofs.Common.{◌≡◌, ℕ, zero, suc, ◌+◌, ◌<◌, ◌≤◌, false, None, List, [], ◌∷◌, length, get_or, min, refl, sym, ap, subst, arith}
 use Rattle.std.specs.FinSet as set
-use Rattle.std.specs.List.{All, AllPairs, Contains}
-use Rattle.std.proofs.lemmas.Bool.{false_from_ne_true}
-use Rattle.std.proofs.lemmas.List.{length-map}
-use Rattle.std.proofs.lemmas.List.Elements.{All-weaker, Contains-get_or}
-use Rattle.machine_shape.specs.declared.Shape.{Shape}
+use Rattle.place_plan.proofs.Vocabulary.{All, AllPairs, Contains, false_from_ne_true, length-map, All-weaker, Contains-get_or, Shape}
+use Rattle.place_plan.proofs.Vocabulary.{Network, Plan, Need, Resource, Tables, Pins, Ports, Lines, Short, All-left, All-right}
 use Rattle.machine_shape.specs.Vocabulary.{nodes_of, tables_of, pins_of, crosses_of, hextant_of, pin_wire, table_wire, IsLine, IsPort, IsNumbered, IsTree, HasParents, HasTaps, HasCrosses, HasSites, most_ticks}
 use Rattle.machine_meaning.specs.Vocabulary.{Faults, stuck_cross, IsSoundWire, IsSoundTable, IsWholeLine, IsServed, Defects, IsFreeWire, IsFreeTable, IsOpenLine, IsTight, pin_stands, IsSeated, IsSoundCrossOf, IsStanding, HasStandingParts}
 use Rattle.design_netlist.proofs.ListLemmas.{few_numbers}
-use Rattle.map_network.specs.declared.network.Network.{Network}
 use Rattle.map_network.specs.declared.source.Source.TheVariants as source
 use Rattle.map_network.specs.Networks.{table_at, no_table, IsNetwork}
-use Rattle.place_plan.specs.declared.plan.Plan.{Plan}
-use Rattle.place_plan.specs.declared.short.Need.{Need}
-use Rattle.place_plan.specs.declared.short.Resource.{Resource}
-use Rattle.place_plan.specs.declared.short.Resource.TheVariants.{Tables, Pins, Ports, Lines}
-use Rattle.place_plan.specs.declared.short.Short.{Short}
 use Rattle.place_plan.specs.Vocabulary.{AreThose, nth_of, Crosses, HasPort, IsTapOf, by_terminal, by_child, by_port, IsFreePort, CrossesAt, VisitsAt, Serves, ArePorts, AreShort, IsUnmet, IsPlan, IsInOrder, IsTerminal, drives, reads, shows, nets_in, number_of, place_of, IsFreeTableOf, IsFreePinOf, AreNeeds, InOrderIsShort, IsShortInOrder, AtLeast, IsOpenLineOf, HasEnough, IsSoundTableOf, IsSoundPinOf, IsWholeLineOf, IsSoundPort, HasSoundParts, IsStandingTableOf, IsStandingLineOf, IsStandingPort, HasStandingRoom}
 use Rattle.place_plan.proofs.Counting.{pigeon}
 use Rattle.place_plan.proofs.FewNets.{few-on}
 use Rattle.place_plan.proofs.Fitting.{plan_is}
-use Rattle.machine_shape.proofs.Halves.{All-left, All-right}
 use Rattle.place_plan.proofs.PlanNets.{terminal_within}
 
 -- ---- counts

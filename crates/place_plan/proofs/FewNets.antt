@@ -1,17 +1,10 @@
 -- Where each node has lines and ports for as many nets as a network has, its tables are no more than may be on.
 use Rattle.std.proofs.Common.{◌≡◌, ◌≢◌, ◌⊎◌, ℕ, ◌+◌, ◌*◌, ◌<◌, ◌≤◌, Bool, true, false, Some, length, get_or, map, refl, sym, ap, ◌∙◌, inl, inr, arith, if◌then◌else◌}
-use Rattle.std.proofs.Math.Nat.{mul-le-mul_right}
-use Rattle.std.specs.List.{Contains, range_with_len}
-use Rattle.std.proofs.lemmas.Bool.{cases_lt}
-use Rattle.std.proofs.lemmas.List.{get_or-map, length-map}
-use Rattle.std.proofs.lemmas.List.Elements.{All-weaker}
-use Rattle.std.proofs.lemmas.List.FromFn.{get_or-range_with_len, length-range_with_len}
-use Rattle.machine_shape.specs.declared.Shape.{Shape}
+use Rattle.std.proofs.{Math.Nat.mul-le-mul_right, lemmas.List.FromFn.get_or-range_with_len, lemmas.List.FromFn.length-range_with_len}
+use Rattle.place_plan.proofs.Vocabulary.{Contains, range_with_len, cases_lt, get_or-map, length-map, All-weaker, Shape, Defects, Network}
 use Rattle.machine_shape.specs.Vocabulary.{most_ticks, is_small, levels_of, levels_from, nodes_of, lines_of, taps_of, tables_of, cross_at, line_at, tap_at, parent_of, tap_child, HasParents, HasTaps, HasCrosses, HasSites}
 use Rattle.machine_shape.proofs.HighLimits.{small_is}
 use Rattle.machine_shape.proofs.Totals.{nodes_are, crosses_are}
-use Rattle.machine_meaning.specs.Vocabulary.{Defects}
-use Rattle.map_network.specs.declared.network.Network.{Network}
 use Rattle.place_plan.specs.Vocabulary.{AtLeast, HasEnough, IsFreePort, IsFreeTableOf, IsOpenLineOf, nets_in}
 use Rattle.place_plan.proofs.Counting.{pigeon}
 use Rattle.place_plan.proofs.PlanNets.{few_below}

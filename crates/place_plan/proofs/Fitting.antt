@@ -1,23 +1,11 @@
 -- A plan's room, and the in-order plan.
 use Rattle.std.proofs.Common.{◌≡◌, ◌≢◌, ℕ, ◌+◌, ◌<◌, ◌≤◌, List, ◌++◌, length, get_or, take, drop, min, refl, sym, ap, ◌∙◌, subst, arith, length-take, length-drop}
-use Rattle.std.specs.List.{All, AllPairs}
-use Rattle.std.proofs.lemmas.List.{length-map, get_or-take, drop-take, take-append-drop, take-take}
-use Rattle.std.proofs.lemmas.List.Elements.{All-take, All-weaker}
-use Rattle.machine_shape.specs.declared.Shape.{Shape}
-use Rattle.machine_shape.specs.Bounds.{most_ticks}
+use Rattle.place_plan.proofs.Vocabulary.{All, AllPairs, length-map, get_or-take, drop-take, take-append-drop, take-take, All-take}
+use Rattle.place_plan.proofs.Vocabulary.{All-weaker, Shape, most_ticks, Defects, IsFreeWire, IsFreeTable, All-left, All-right, Network}
+use Rattle.place_plan.proofs.Vocabulary.{table_at, no_table, IsNetwork, Plan, Need, Port, Resource, Tables, Pins, Ports, Lines, Short}
+use Rattle.place_plan.proofs.Vocabulary.{Visit}
 use Rattle.machine_shape.specs.Vocabulary.{nodes_of, tables_of, pins_of, node_of, pin_wire, table_wire, IsTap, tap_pin, tap_table, IsNumbered, IsTree, HasParents, HasTaps, HasCrosses, HasSites}
-use Rattle.machine_meaning.specs.Defects.{Defects, IsFreeWire, IsFreeTable}
-use Rattle.machine_shape.proofs.Halves.{All-left, All-right}
-use Rattle.map_network.specs.declared.network.Network.{Network}
 use Rattle.map_network.specs.declared.source.Source.TheVariants as source
-use Rattle.map_network.specs.Networks.{table_at, no_table, IsNetwork}
-use Rattle.place_plan.specs.declared.plan.Plan.{Plan}
-use Rattle.place_plan.specs.declared.short.Need.{Need}
-use Rattle.place_plan.specs.declared.short.Port.{Port}
-use Rattle.place_plan.specs.declared.short.Resource.{Resource}
-use Rattle.place_plan.specs.declared.short.Resource.TheVariants.{Tables, Pins, Ports, Lines}
-use Rattle.place_plan.specs.declared.short.Short.{Short}
-use Rattle.place_plan.specs.declared.short.Visit.{Visit}
 use Rattle.place_plan.specs.Vocabulary.{IsChoice, AreHeld, AreVisits, AreThose, nth_of, IsPlan, IsTerminal, drives, reads, shows, nets_in, number_of, place_of, IsFreeTableOf, IsFreePinOf, AreNeeds, IsInOrder, IsInOrderOf, Fits, InOrderIsShort, HasTerminal, Suffices, IsShortOf, IsFirstShort, ArePlanNets}
 use Rattle.place_plan.proofs.Choosing.{choice_is}
 use Rattle.place_plan.proofs.Decided.{never_both}

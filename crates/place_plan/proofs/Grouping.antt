@@ -1,11 +1,8 @@
 -- Terminals by their nets.
 use Rattle.std.proofs.Common.{◌≡◌, ℕ, ◌<◌, ◌≤◌, List, [], ◌∷◌, ◌++◌, length, set, replicate, inl, inr, sym, ap, ◌∙◌, subst, arith}
-use Rattle.std.specs.List.{Contains}
+use Rattle.place_plan.proofs.Vocabulary.{Contains, cases_eq, cases_lt, Terminal, HasTerminal, AreGrouped, list_at, terminal_for}
 use Rattle.std.proofs.lemmas.List.{length-set, length-replicate, get_or-replicate, get_or_past}
 use Rattle.std.proofs.lemmas.List.Elements.{Contains-push, Contains-push_cases, Contains-append_left}
-use Rattle.std.proofs.lemmas.Bool.{cases_eq, cases_lt}
-use Rattle.place_plan.specs.declared.terminals.Terminal.{Terminal}
-use Rattle.place_plan.specs.Vocabulary.{HasTerminal, AreGrouped, list_at, terminal_for}
 use Rattle.place_plan.proofs.Spreads.{at_set, at_other}
 use Rattle.place_plan.proofs.Those.{not_in_nil}
 

@@ -1,14 +1,7 @@
 -- What is short at a node, and what is the first to be short.
 use Rattle.std.proofs.Common.{◌≡◌, ℕ, ◌<◌, ◌≤◌, List, length, refl, sym, subst, arith}
-use Rattle.machine_shape.specs.declared.Shape.{Shape}
-use Rattle.machine_shape.specs.Shape.{nodes_of}
-use Rattle.machine_meaning.specs.Defects.{Defects}
-use Rattle.place_plan.specs.declared.short.Need.{Need}
-use Rattle.place_plan.specs.declared.short.Resource.{Resource}
-use Rattle.place_plan.specs.declared.short.Resource.TheVariants.{Tables, Pins, Ports, Lines}
-use Rattle.place_plan.specs.declared.short.Room.{Room}
-use Rattle.place_plan.specs.declared.short.Room.TheVariants.{Enough, Lacks}
-use Rattle.place_plan.specs.declared.short.Short.{Short}
+use Rattle.place_plan.proofs.Vocabulary.{Shape, nodes_of, Defects, Need, Resource, Tables, Pins, Ports, Lines, Short}
+use Rattle.place_plan.specs.declared.short.Room.{Room, TheVariants.Enough, TheVariants.Lacks}
 use Rattle.place_plan.specs.Vocabulary.{AreThose, CrossesAt, IsFreePort, ArePorts, PortsSuffice, AreShort, IsMet, IsShortOf, IsLackOf, LinesAreShort, NodeIsShort, NodeIsShortOf, SufficeBefore, IsFirstLack, IsNodesRoom, IsRoom}
 
 module _ (m : Shape) (d : Defects) (count : ℕ) (terminal : ℕ → ℕ → Type 0) where

@@ -34,3 +34,4 @@ mod Determined
 mod FewNets
 mod Seated
 mod Enough
+mod Vocabulary

@@ -1,11 +1,8 @@
 -- What writes to the owners of lines keep true.
 use Rattle.std.proofs.Common.{◌≡◌, ◌≢◌, ℕ, ◌<◌, Bool, true, List, [], ◌∷◌, ◌++◌, length, set, Option, Some, None, ◌⊎◌, inl, inr, refl, sym, ap, ◌∙◌, subst, arith}
-use Rattle.std.specs.List.{Contains}
+use Rattle.place_plan.proofs.Vocabulary.{Contains, cases_eq, cases_lt, Step, owner_at, line_at, step_at, IsPartial, IsShifting}
 use Rattle.std.proofs.lemmas.List.{length-set, get_or-set_same, get_or-set_other, get_or_past}
 use Rattle.std.proofs.lemmas.List.Elements.{All-push, All-weaker, Contains-push, Contains-append_left}
-use Rattle.std.proofs.lemmas.Bool.{cases_eq, cases_lt}
-use Rattle.place_plan.specs.declared.search.Step.{Step}
-use Rattle.place_plan.specs.Search.{owner_at, line_at, step_at, IsPartial, IsShifting}
 
 pub owner-here : (os : List (Option ℕ)) (b : ℕ) (v : Option ℕ) → b < length os → owner_at (set os b v) b ≡ v
 owner-here os b v lt = get_or-set_same os b v None lt

@@ -1,11 +1,7 @@
 -- The picks of a whole list of owners are an assignment.
 use Rattle.std.proofs.Common.{◌≡◌, ◌≢◌, ℕ, ◌+◌, ◌<◌, Bool, true, List, [], ◌∷◌, ◌++◌, length, get_or, Option, Some, None, inl, inr, refl, sym, ap, ◌∙◌, subst, arith}
-use Rattle.std.specs.List.{AllPairs, Contains}
-use Rattle.std.proofs.lemmas.List.Elements.{All-push, All-weaker, Contains-get_or, Contains-push, Contains-append_left}
-use Rattle.std.proofs.lemmas.List.Quantifiers.{all_pairs_push}
-use Rattle.std.proofs.lemmas.Bool.{cases_eq}
-use Rattle.place_plan.specs.declared.search.Hold.{Hold}
-use Rattle.place_plan.specs.Vocabulary.{IsAssignment, owner_at, line_at, IsPartial, ArePicks}
+use Rattle.place_plan.proofs.Vocabulary.{AllPairs, Contains, All-push, All-weaker, Contains-get_or, Contains-push, Contains-append_left}
+use Rattle.place_plan.proofs.Vocabulary.{all_pairs_push, cases_eq, Hold, IsAssignment, owner_at, line_at, IsPartial, ArePicks}
 use Rattle.place_plan.proofs.Moves.{owned_within}
 
 abbrev Is : List ℕ → List (Option ℕ) → ℕ → Hold → Type 0

@@ -1,11 +1,6 @@
 -- A wire is at one place, seen from a node, and what a net's terminals say of it.
 use Rattle.std.proofs.Common.{◌≡◌, ◌≢◌, ℕ, List, length, refl, sym, ap, ◌∙◌, subst, arith}
-use Rattle.std.specs.List.{All}
-use Rattle.std.proofs.lemmas.List.Elements.{All-contains}
-use Rattle.machine_shape.specs.declared.Shape.{Shape}
-use Rattle.machine_shape.specs.Vocabulary.{node_of, IsAbove, itself, IsTree}
-use Rattle.place_plan.specs.declared.tree.NetSide.{NetSide}
-use Rattle.place_plan.specs.declared.tree.NetSide.TheVariants.{Own, Child, Outside}
+use Rattle.place_plan.proofs.Vocabulary.{All, All-contains, Shape, node_of, IsAbove, itself, IsTree, NetSide, Own, Child, Outside}
 use Rattle.place_plan.specs.Vocabulary.{IsInside, IsAt, at_own, at_child, at_outside, IsStrand, Visits, IsAmong}
 use Rattle.place_plan.proofs.Upward.{higher, not_in_child, one_child}
 

@@ -1,21 +1,12 @@
 -- The terminals of a plan's nets are wires, and their numbers are small.
 use Rattle.std.proofs.Common.{◌≡◌, ◌≢◌, ℕ, ◌+◌, ◌^◌, ◌<◌, ◌≤◌, List, [], ◌++◌, length, get_or, sym, ◌∙◌, subst, arith, length-append, ◌↔◌}
-use Rattle.std.specs.List.{All, AllPairs, Contains, range_with_len}
-use Rattle.std.proofs.lemmas.List.{get_or_default, length-map}
+use Rattle.place_plan.proofs.Vocabulary.{All, AllPairs, Contains, range_with_len, get_or_default, length-map, Shape, Defects, All-left}
+use Rattle.place_plan.proofs.Vocabulary.{All-right, Network, Source, table_at, no_table, IsNetwork, IsSourceOf, Plan, Terminal, net_of}
 use Rattle.std.proofs.lemmas.List.Elements.{All-weaker, All-contains_itself, Contains-get_or}
 use Rattle.std.proofs.lemmas.List.FromFn.{length-range_with_len}
-use Rattle.machine_shape.specs.declared.Shape.{Shape}
 use Rattle.machine_shape.specs.Vocabulary.{wires_of, tables_of, pins_of, pin_wire, table_wire, IsNumbered}
-use Rattle.machine_meaning.specs.Defects.{Defects}
-use Rattle.machine_shape.proofs.Halves.{All-left, All-right}
-use Rattle.map_network.specs.declared.network.Network.{Network}
-use Rattle.map_network.specs.declared.source.Source.{Source}
 use Rattle.map_network.specs.declared.source.Source.TheVariants as source
-use Rattle.map_network.specs.Networks.{table_at, no_table, IsNetwork, IsSourceOf}
-use Rattle.place_plan.specs.declared.plan.Plan.{Plan}
-use Rattle.place_plan.specs.declared.terminals.Terminal.{Terminal}
 use Rattle.place_plan.specs.Vocabulary.{nth_of, IsPlan, IsTerminal, drives, reads, shows, net_by, nets_in, number_of, place_of, places, HasTerminal, AreGrouped, ArePlanNets, IsSized, all_terminals, terminal_for}
-use Rattle.place_plan.specs.Plans.{net_of}
 use Rattle.place_plan.proofs.AllTerminals.{all_are}
 use Rattle.place_plan.proofs.Counting.{pigeon}
 use Rattle.place_plan.proofs.Ranges.{in_range}

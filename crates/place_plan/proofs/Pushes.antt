@@ -1,10 +1,8 @@
 -- One more element of a list that a function of the index makes.
 use Rattle.std.proofs.Common.{◌≡◌, ℕ, ◌+◌, ◌<◌, ◌++◌, List, [], ◌∷◌, map, length, get_or, append_assoc, sym, ap, ◌∙◌, subst, arith}
-use Rattle.std.specs.List.{All, flat_map, range_with_len}
-use Rattle.std.proofs.lemmas.List.{flat_map_more, get_or-map, length-map}
+use Rattle.place_plan.proofs.Vocabulary.{All, flat_map, range_with_len, flat_map_more, get_or-map, length-map, number_of, nth_of}
 use Rattle.std.proofs.lemmas.List.FromFn.{map-range_with_len_more}
 use Rattle.machine_shape.specs.declared.Table.{Table}
-use Rattle.place_plan.specs.Vocabulary.{number_of, nth_of}
 use Rattle.place_plan.proofs.Ranges.{range_push}
 
 pub map_next : {X : Type 0} (f : ℕ → X) (old cur new : List X) (j : ℕ) (x : X) → cur ≡ old ++ map f (range_with_len 0 j) → new ≡ cur ++ x ∷ [] → x ≡ f j → new ≡ old ++ map f (range_with_len 0 (j + 1))

@@ -1,12 +1,6 @@
 -- The in-order plan, once there are tables and pins for it.
-use Rattle.std.proofs.Common.{◌≡◌, ◌≤◌, ◌+◌, ℕ, List, length, min, ap, ◌∙◌, subst, arith}
-use Rattle.machine_shape.specs.declared.Shape.{Shape}
-use Rattle.machine_shape.specs.Bounds.{most_ticks}
-use Rattle.machine_meaning.specs.Defects.{Defects}
-use Rattle.map_network.specs.declared.network.Network.{Network}
-use Rattle.place_plan.specs.declared.plan.Plan.{Plan}
-use Rattle.place_plan.specs.declared.short.Need.{Need}
-use Rattle.place_plan.specs.Vocabulary.{AreThose, AreNeeds, IsFreeTableOf, IsFreePinOf, IsInOrder, IsInOrderOf, IsPlan}
+use Rattle.place_plan.proofs.Vocabulary.{◌≡◌, ◌≤◌, ◌+◌, ℕ, List, length, min, ap, ◌∙◌, subst, arith, Shape, most_ticks, Defects, Network}
+use Rattle.place_plan.proofs.Vocabulary.{Plan, Need, AreThose, AreNeeds, IsFreeTableOf, IsFreePinOf, IsInOrder, IsInOrderOf, IsPlan}
 use Rattle.place_plan.proofs.Fitting.{needs_are, have_is, in_order_is, plan_is}
 
 -- what is known once tables and pins suffice

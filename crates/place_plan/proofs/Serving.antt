@@ -1,19 +1,10 @@
 -- What the search says of those who ask is what the definitions say of the nets that visit the node.
 use Rattle.std.proofs.Common.{◌≡◌, ℕ, ◌<◌, Bool, true, false, not, List, length, get_or, map, Some, ◌⊎◌, inl, inr, refl, sym, ap, ◌∙◌, subst, arith}
-use Rattle.std.specs.List.{Contains, filter, list_any, range_with_len}
-use Rattle.std.proofs.lemmas.List.{length-map, get_or-map, get_or_default}
+use Rattle.place_plan.proofs.Vocabulary.{Contains, filter, list_any, range_with_len, length-map, get_or-map, get_or_default, length-filter}
+use Rattle.place_plan.proofs.Vocabulary.{AllPairs-filter, Any-from_list_any, list_any-from_Any, cases_order, false_from_ne_true, Shape}
+use Rattle.place_plan.proofs.Vocabulary.{Defects, IsFreeCross, DefectList, is_free_cross, Ask, Hold, Own, Child, Outside}
 use Rattle.std.proofs.lemmas.List.Elements.{All-contains, All-map, All-get_or, All-weaker, All-filter, filter_passes, All-contains_itself, Contains-get_or}
-use Rattle.std.proofs.lemmas.List.Sums.{length-filter}
-use Rattle.std.proofs.lemmas.List.Kept.{AllPairs-filter}
-use Rattle.std.proofs.lemmas.List.Folds.{Any-from_list_any, list_any-from_Any}
-use Rattle.std.proofs.lemmas.Bool.{cases_order, false_from_ne_true}
-use Rattle.machine_shape.specs.declared.Shape.{Shape}
 use Rattle.machine_shape.specs.Shape.{nodes_of, crosses_of, ends_of, node_of, parent_of}
-use Rattle.machine_meaning.specs.Defects.{Defects, IsFreeCross}
-use Rattle.machine_defects.specs.Lists.{DefectList, is_free_cross}
-use Rattle.place_plan.specs.declared.search.Ask.{Ask}
-use Rattle.place_plan.specs.declared.search.Hold.{Hold}
-use Rattle.place_plan.specs.declared.tree.NetSide.TheVariants.{Own, Child, Outside}
 use Rattle.place_plan.specs.Vocabulary.{AreThose, IsNth, at_own, at_child, at_outside, Crosses, pick_of, net_in, IsAssignment, IsShort, serves_any, serves_by, ask_at, no_ask, is_shut, HasTerminal, CrossesAt, VisitsAt, IsFreePort, HasPort, IsTapOf, by_terminal, by_child, by_port, Serves, IsChoiceAt, AreShort, IsHeld, IsTapAmong, IsBoard, AreAsks, IsAskOf, IsFreeLine, list_at}
 use Rattle.place_plan.specs.Taps.{net_of}
 use Rattle.place_plan.proofs.Ranges.{range_below, in_range}

@@ -1,17 +1,11 @@
 -- Whether a crosspoint of a tap and a line isn't free.
 use Rattle.std.proofs.Common.{◌≡◌, ◌≢◌, ℕ, ◌+◌, ◌<◌, get_or, Bool, true, false, ◌==◌, ◌&&◌, not, sym, ap, ◌∙◌, subst, arith, eq-eqb, eqb→eq, ◌↔◌}
-use Rattle.std.proofs.Math.Dec.{T}
-use Rattle.std.specs.List.{range_with_len}
-use Rattle.std.proofs.lemmas.List.Folds.{Any-from_list_any, list_any-from_Any}
+use Rattle.place_plan.proofs.Vocabulary.{T, range_with_len, Any-from_list_any, list_any-from_Any, and_parts, not-true, not_from_false}
+use Rattle.place_plan.proofs.Vocabulary.{false_from_ne_true, Shape, crosses_of, ends_of, HasCrosses, Defects, IsFreeCross, DefectList}
+use Rattle.place_plan.proofs.Vocabulary.{is_free_cross, is_free_wire, has_free_ends, is_shut, is_shut_cross}
 use Rattle.std.proofs.lemmas.List.FromFn.{get_or-range_with_len, length-range_with_len}
 use Rattle.std.specs.FinSet as set
-use Rattle.std.proofs.lemmas.Bool.{and_parts, not-true, not_from_false, false_from_ne_true}
 use Rattle.std.specs.Cmp.{both_ways}
-use Rattle.machine_shape.specs.declared.Shape.{Shape}
-use Rattle.machine_shape.specs.Vocabulary.{crosses_of, ends_of, HasCrosses}
-use Rattle.machine_meaning.specs.Defects.{Defects, IsFreeCross}
-use Rattle.machine_defects.specs.Lists.{DefectList, is_free_cross, is_free_wire, has_free_ends}
-use Rattle.place_plan.specs.Choices.{is_shut, is_shut_cross}
 
 pub eq_from : (a b : ℕ) → (a == b) ≡ true → a ≡ b
 eq_from a b e = eqb→eq a b (subst T (sym e) tt)

@@ -1,10 +1,7 @@
 -- Of ascending numbers those that have a property, one after the other.
 use Rattle.std.proofs.Common.{◌≡◌, ℕ, ◌+◌, ◌<◌, ◌≤◌, Bool, true, false, List, [], ◌∷◌, ◌++◌, length, get_or, if◌then◌else◌, inl, inr, refl, sym, ap, ◌∙◌, subst, arith, ◌↔◌}
-use Rattle.std.specs.List.{AllPairs}
+use Rattle.place_plan.proofs.Vocabulary.{AllPairs, cases_eq, Defects, IsFreeWire, AreThose, AreLists, IsAmongFirst, nth_of, same_number}
 use Rattle.std.proofs.lemmas.List.{length_push, get_or_push, get_or_append_left, get_or_default}
-use Rattle.std.proofs.lemmas.Bool.{cases_eq}
-use Rattle.machine_meaning.specs.Defects.{Defects, IsFreeWire}
-use Rattle.place_plan.specs.Lists.{AreThose, AreLists, IsAmongFirst, nth_of, same_number}
 use Rattle.place_plan.proofs.Those.{those_same, those_none, those_push}
 
 none_below : (k : ℕ) → k < 0 → ⊥

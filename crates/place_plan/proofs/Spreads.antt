@@ -1,11 +1,8 @@
 -- A net is put at the end of the lists of the nodes that have a wire inside.
 use Rattle.std.proofs.Common.{◌≡◌, ◌≢◌, ℕ, zero, suc, ◌+◌, ◌-◌, ◌<◌, ◌≤◌, Bool, true, false, ◌==◌, ◌&&◌, List, [], ◌∷◌, ◌++◌, length, get_or, set, replicate, Some, if◌then◌else◌, ◌⊎◌, inl, inr, refl, sym, ap, ◌∙◌, subst, arith, eq-eqb, eqb→eq, nat_lt}
-use Rattle.std.proofs.Math.Dec.{T}
-use Rattle.std.specs.List.{All, Contains}
+use Rattle.place_plan.proofs.Vocabulary.{T, All, Contains, cases_eq, lt-ltb, and_parts, Shape}
 use Rattle.std.proofs.lemmas.List.{length-set, get_or-set_same, get_or-set_other, get_or_default, length_push, get_or_push, length-replicate, get_or-replicate}
 use Rattle.std.proofs.lemmas.List.Elements.{All-head, All-tail, Contains-push, Contains-append_right, Contains-push_cases, Contains-append_left}
-use Rattle.std.proofs.lemmas.Bool.{cases_eq, lt-ltb, and_parts}
-use Rattle.machine_shape.specs.declared.Shape.{Shape}
 use Rattle.machine_shape.specs.Vocabulary.{wires_of, nodes_of, node_of, parent_of, IsAbove, itself, below, HasParents}
 use Rattle.place_plan.specs.Vocabulary.{AreThose, IsInside, HasTerminal, list_at, Touches, is_last, with_last, IsSpread, IsSpreadUp, AreTouched}
 use Rattle.place_plan.proofs.Upward.{higher}

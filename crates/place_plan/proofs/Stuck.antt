@@ -1,13 +1,8 @@
 -- That a search that comes to no free line shows a short set.
 use Rattle.std.proofs.Common.{◌≡◌, ◌≢◌, ℕ, zero, suc, ◌<◌, ◌≤◌, Bool, true, false, ◌==◌, List, [], ◌∷◌, ◌++◌, length, map, get_or, count_by, Option, Some, refl, sym, ap, ◌∙◌, subst, arith, eq-eqb, eqb→eq, cond}
-use Rattle.std.proofs.Math.Dec.{T}
-use Rattle.std.specs.List.{All, AllPairs, Contains, filter, list_any}
-use Rattle.std.proofs.lemmas.List.{length-map, get_or-map, get_or_default}
+use Rattle.place_plan.proofs.Vocabulary.{T, All, AllPairs, Contains, filter, list_any, length-map, get_or-map, get_or_default}
+use Rattle.place_plan.proofs.Vocabulary.{AllPairs-filter, length-filter, Any-from_list_any, list_any-from_Any, Step}
 use Rattle.std.proofs.lemmas.List.Elements.{Contains-get_or, All-filter, filter_passes, All-contains, All-contains_itself, Contains-push, Contains-append_left}
-use Rattle.std.proofs.lemmas.List.Kept.{AllPairs-filter}
-use Rattle.std.proofs.lemmas.List.Sums.{length-filter}
-use Rattle.std.proofs.lemmas.List.Folds.{Any-from_list_any, list_any-from_Any}
-use Rattle.place_plan.specs.declared.search.Step.{Step}
 use Rattle.place_plan.specs.Vocabulary.{serves_any, IsShort, line_at, step_at, no_step, IsPartial, IsTrail, AreSeen, AreScanned, IsStuck, IsDeadEnd}
 use Rattle.place_plan.proofs.Counting.{pigeon}
 

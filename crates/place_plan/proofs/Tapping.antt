@@ -1,12 +1,7 @@
 -- The taps by which a net comes to a node.
 use Rattle.std.proofs.Common.{◌≡◌, ℕ, ◌+◌, ◌<◌, ◌≤◌, Bool, true, false, List, [], ◌∷◌, ◌++◌, length, get_or, map, Option, Some, None, IfSome, IfNone, ◌⊎◌, inl, inr, refl, sym, ap, ◌∙◌, subst, arith}
-use Rattle.std.specs.List.{AllPairs, Contains}
-use Rattle.std.proofs.lemmas.List.{map-append}
+use Rattle.place_plan.proofs.Vocabulary.{AllPairs, Contains, map-append, Shape, IsTree, Ask, NetSide}
 use Rattle.std.proofs.lemmas.List.Elements.{All-push, Contains-push, Contains-push_cases, Contains-append_left}
-use Rattle.machine_shape.specs.declared.Shape.{Shape}
-use Rattle.machine_shape.specs.Laws.{IsTree}
-use Rattle.place_plan.specs.declared.search.Ask.{Ask}
-use Rattle.place_plan.specs.declared.tree.NetSide.{NetSide}
 use Rattle.place_plan.specs.Vocabulary.{AreThose, IsNth, IsAmongFirst, nth_of, IsAt, list_at, is_last, with_last, IsHeld, IsTapBy, IsTapFor, IsFound, AreTaps, with_option, VisitsIn, IsAskOf, AreAsksOf}
 use Rattle.place_plan.specs.Taps.{net_of}
 use Rattle.place_plan.proofs.Places.{IsAt-unique}

@@ -1,10 +1,7 @@
 -- Ascending lists of just those numbers that have a property.
 use Rattle.std.proofs.Common.{◌≡◌, ◌≢◌, ℕ, zero, suc, ◌<◌, List, [], ◌∷◌, ◌++◌, length, get_or, ◌⊎◌, inl, inr, refl, sym, ◌∙◌, subst, arith}
-use Rattle.std.specs.List.{AllPairs, Contains}
-use Rattle.std.proofs.lemmas.Bool.{cases_order}
+use Rattle.place_plan.proofs.Vocabulary.{AllPairs, Contains, cases_order, all_pairs_push, AreThose, IsNth}
 use Rattle.std.proofs.lemmas.List.Elements.{All-push, All-weaker, All-contains, All-nil, Contains-push, Contains-append_left}
-use Rattle.std.proofs.lemmas.List.Quantifiers.{all_pairs_push}
-use Rattle.place_plan.specs.Lists.{AreThose, IsNth}
 
 pub not_in_nil : (x : ℕ) → Contains [] x → ⊥
 not_in_nil x has = none has.0 has.1

@@ -1,9 +1,7 @@
 -- What a search's next step keeps true.
 use Rattle.std.proofs.Common.{◌≡◌, ◌≢◌, ℕ, zero, suc, ◌+◌, ◌<◌, Bool, true, false, cond, not, List, [], ◌∷◌, ◌++◌, length, set, count_by, Option, Some, inl, inr, refl, sym, ap, ◌∙◌, subst, arith}
 use Rattle.std.proofs.lemmas.List.{length-set, length_push, get_or-set_same, get_or-set_other, get_or_append_left, get_or_push}
-use Rattle.std.proofs.lemmas.List.Sums.{sum_by-cons}
-use Rattle.std.proofs.lemmas.Bool.{cases_eq}
-use Rattle.place_plan.specs.declared.search.Step.{Step}
+use Rattle.place_plan.proofs.Vocabulary.{sum_by-cons, cases_eq, Step}
 use Rattle.place_plan.specs.Search.{owner_at, line_at, step_at, no_step, is_seen, IsTrail, AreSeen, GoesOn, AreScanned, IsScanning}
 
 pub at_old : (steps : List Step) (x : Step) (h : ℕ) → h < length steps → step_at (steps ++ x ∷ []) h ≡ step_at steps h

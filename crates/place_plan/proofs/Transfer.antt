@@ -1,17 +1,7 @@
 -- Nets with the same terminals have the same room.
-use Rattle.std.proofs.Common.{ℕ, ◌<◌, List}
-use Rattle.std.specs.List.{Contains}
-use Rattle.std.proofs.lemmas.List.Elements.{All-weaker}
-use Rattle.machine_shape.specs.declared.Shape.{Shape}
-use Rattle.machine_meaning.specs.Defects.{Defects}
-use Rattle.place_plan.specs.declared.short.Need.{Need}
+use Rattle.place_plan.proofs.Vocabulary.{ℕ, ◌<◌, List, Contains, All-weaker, Shape, Defects, Need, Port, Resource, Short, Visit, NetSide}
 use Rattle.place_plan.specs.Vocabulary.{Pick, AreThose, IsStrand, Crosses, Visits, CrossesAt, VisitsAt, HasPort, IsTapOf, by_terminal, by_child, by_port, Serves, ArePorts, PortsSuffice, IsChoiceAt, AreShort, NodeSuffices, IsShortOf, Suffices, AreVisits, AreHeld}
-use Rattle.place_plan.specs.declared.short.Port.{Port}
-use Rattle.place_plan.specs.declared.short.Resource.{Resource}
 use Rattle.place_plan.specs.declared.short.Resource.TheVariants.{Tables, Pins, Ports, Lines}
-use Rattle.place_plan.specs.declared.short.Short.{Short}
-use Rattle.place_plan.specs.declared.short.Visit.{Visit}
-use Rattle.place_plan.specs.declared.tree.NetSide.{NetSide}
 use Rattle.place_plan.proofs.Those.{those_same}
 
 module _ (m : Shape) (A B : ℕ → ℕ → Type 0) (to : (k w : ℕ) → A k w → B k w) where

@@ -1,8 +1,6 @@
 -- The nodes above a node, from the lower one upwards.
 use Rattle.std.proofs.Common.{◌≡◌, ℕ, suc, ◌≤◌, Some, refl, sym, ap, ◌∙◌, subst, arith}
-use Rattle.machine_shape.specs.declared.Shape.{Shape}
-use Rattle.machine_shape.specs.Vocabulary.{node_of, parent_of, IsAbove, itself, below, IsTree}
-use Rattle.place_plan.specs.Strands.{IsInside}
+use Rattle.place_plan.proofs.Vocabulary.{Shape, node_of, parent_of, IsAbove, itself, below, IsTree, IsInside}
 
 -- the same as to be above, from the lower node upwards
 pub data IsUp (m : Shape) (h : ℕ) : ℕ → Type 0 where

@@ -1,14 +1,9 @@
 -- The ports and lines of one more node.
 use Rattle.std.proofs.Common.{◌≡◌, ◌≢◌, ℕ, ◌+◌, ◌-◌, ◌<◌, ◌≤◌, List, [], ◌++◌, length, map, get_or, inl, inr, refl, sym, ap, ◌∙◌, subst, arith, length-append}
-use Rattle.std.specs.List.{All, AllPairs, Contains, range_with_len}
+use Rattle.place_plan.proofs.Vocabulary.{All, AllPairs, Contains, range_with_len, cases_eq, cases_lt, Shape, Defects, Port, Visit}
 use Rattle.std.proofs.lemmas.List.{length-map, get_or-map, get_or_append_left, get_or-append_right, get_or_default}
 use Rattle.std.proofs.lemmas.List.Elements.{All-nil, All-append, All-map, All-weaker, Contains-append_left, Contains-append_right}
-use Rattle.std.proofs.lemmas.Bool.{cases_eq, cases_lt}
-use Rattle.machine_shape.specs.declared.Shape.{Shape}
-use Rattle.machine_meaning.specs.Defects.{Defects}
 use Rattle.place_plan.specs.Vocabulary.{Pick, AreThose, nth_of, CrossesAt, VisitsAt, HasPort, IsFreePort, Serves, NodeSuffices, AreVisits, AreHeld, GoOn, HoldOn, IsEnough, IsRoomAt, visit_of, port_by, visit_for, port_for}
-use Rattle.place_plan.specs.declared.short.Port.{Port}
-use Rattle.place_plan.specs.declared.short.Visit.{Visit}
 use Rattle.place_plan.proofs.Ranges.{in_range, range_all}
 use Rattle.place_plan.proofs.Serving.{contains_map}
 

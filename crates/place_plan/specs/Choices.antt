@@ -3,14 +3,11 @@
 -- Who asks goes by a number; `serves i w` says whether the line w serves i.
 use Rattle.std.specs.Prelude.{◌≡◌, ◌≢◌, ℕ, ◌<◌, Bool, true, List, [], ◌==◌, ◌&&◌, not, length, count_by, slice_index_or}
 use Rattle.std.specs.List.{All, AllPairs, Contains, list_any, range_with_len}
-use Rattle.machine_shape.specs.declared.Shape.{Shape}
-use Rattle.machine_shape.specs.Shape.{wires_of, crosses_of, ends_of}
+use Rattle.machine_shape.specs.{declared.Shape.Shape, Shape.wires_of, Shape.crosses_of, Shape.ends_of}
 use Rattle.machine_meaning.specs.Defects.{Defects}
 use Rattle.machine_defects.specs.Lists.{DefectList, is_free_cross}
 use Rattle.place_plan.specs.declared.search.Ask.{Ask}
-use Rattle.place_plan.specs.declared.search.Hold.{Hold}
-use Rattle.place_plan.specs.declared.search.Assigned.{Assigned}
-use Rattle.place_plan.specs.declared.search.Assigned.TheVariants.{Given, Lacking}
+use Rattle.place_plan.specs.declared.search.{Hold.Hold, Assigned.Assigned, Assigned.TheVariants.Given, Assigned.TheVariants.Lacking}
 
 -- each has a line that serves it, and no line is of two
 pub record IsAssignment (serves : ℕ → ℕ → Bool) (nets lines : List ℕ) (picks : List Hold) : Type 0 where

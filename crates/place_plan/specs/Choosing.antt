@@ -1,14 +1,10 @@
 -- A choice of ports and lines for nets, as it is laid on the tree of crossbars.
 use Rattle.std.specs.Prelude.{◌≡◌, ◌≢◌, ℕ, ◌<◌, ◌==◌, ◌&&◌, List, [], ◌∷◌, if◌then◌else◌}
 use Rattle.std.specs.List.{All, AllPairs, Contains}
-use Rattle.machine_shape.specs.declared.Shape.{Shape}
-use Rattle.machine_shape.specs.Shape.{crosses_of, ends_of, IsLine, IsPort}
+use Rattle.machine_shape.specs.{declared.Shape.Shape, Shape.crosses_of, Shape.ends_of, Shape.IsLine, Shape.IsPort}
 use Rattle.machine_meaning.specs.Defects.{Defects, IsFreeWire, IsFreeCross}
-use Rattle.place_plan.specs.declared.short.Port.{Port}
-use Rattle.place_plan.specs.declared.short.Visit.{Visit}
-use Rattle.place_plan.specs.declared.tree.NetSide.{NetSide}
-use Rattle.place_plan.specs.Strands.{IsAt, tap_of}
-use Rattle.place_plan.specs.Room.{CrossesAt, VisitsAt, HasPort, visit_for}
+use Rattle.place_plan.specs.declared.{short.Port.Port, short.Visit.Visit, tree.NetSide.NetSide}
+use Rattle.place_plan.specs.{Strands.IsAt, Strands.tap_of, Room.CrossesAt, Room.VisitsAt, Room.HasPort, Room.visit_for}
 
 -- the port of a net at a node, by a list
 abbrev pub port_in : List Port → ℕ → ℕ → ℕ

@@ -6,8 +6,7 @@ use Rattle.machine_shape.specs.Shape.{nodes_of, tables_of, pins_of, pin_wire, Is
 use Rattle.machine_meaning.specs.Vocabulary.{Faults, IsSoundWire, IsSoundTable, IsWholeLine, IsServed, Defects, IsOpenLine, IsSeated}
 use Rattle.machine_meaning.specs.Vocabulary.{IsSoundCrossOf, IsStanding}
 use Rattle.map_network.specs.declared.network.Network.{Network}
-use Rattle.place_plan.specs.Plans.{IsFreeTableOf, IsFreePinOf, nets_in}
-use Rattle.place_plan.specs.Room.{IsFreePort}
+use Rattle.place_plan.specs.{Plans.IsFreeTableOf, Plans.IsFreePinOf, Plans.nets_in, Room.IsFreePort}
 
 -- so many different numbers have P
 pub record AtLeast (P : ℕ → Type 0) (count : ℕ) : Type 0 where

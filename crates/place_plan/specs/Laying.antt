@@ -1,20 +1,12 @@
 -- A plan laid out: which net has which terminals, ports and lines.
 use Rattle.std.specs.Prelude.{◌≤◌, length}
-use Rattle.machine_shape.specs.declared.Shape.{Shape}
-use Rattle.machine_shape.specs.Bounds.{most_ticks}
-use Rattle.machine_shape.specs.Shape.{nodes_of}
+use Rattle.machine_shape.specs.{declared.Shape.Shape, Bounds.most_ticks, Shape.nodes_of}
 use Rattle.machine_meaning.specs.Defects.{Defects}
 use Rattle.map_network.specs.declared.network.Network.{Network}
-use Rattle.place_plan.specs.declared.layout.Laid.{Laid}
+use Rattle.place_plan.specs.{declared.layout.Laid.Laid, declared.plan.Plan.Plan, declared.short.Need.Need, Room.IsFirstShort, Room.Suffices}
 use Rattle.place_plan.specs.declared.layout.Laid.TheVariants as laid
-use Rattle.place_plan.specs.declared.layout.Layout.{Layout}
-use Rattle.place_plan.specs.declared.plan.Plan.{Plan}
-use Rattle.place_plan.specs.declared.short.Need.{Need}
-use Rattle.place_plan.specs.Choosing.{IsChoice}
-use Rattle.place_plan.specs.Layouts.{AreHeld, AreVisits}
-use Rattle.place_plan.specs.Plans.{Fits, IsTerminal, nets_in}
-use Rattle.place_plan.specs.Room.{IsFirstShort, Suffices}
-use Rattle.place_plan.specs.Terminals.{ArePlanNets}
+use Rattle.place_plan.specs.{declared.layout.Layout.Layout, Layouts.AreHeld, Layouts.AreVisits, Plans.Fits, Plans.IsTerminal, Plans.nets_in}
+use Rattle.place_plan.specs.{Choosing.IsChoice, Terminals.ArePlanNets}
 
 -- The layout has the terminals of the plan's nets, the port of each net that crosses a node, and the line of each that visits
 -- one; so laid, the nets are a choice on the tree of crossbars. There are no more tables than may be on.

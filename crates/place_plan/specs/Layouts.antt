@@ -1,26 +1,16 @@
 -- Which net has which port and which line at each node.
 use Rattle.std.specs.Prelude.{◌≡◌, ◌≢◌, ℕ, ◌<◌, ◌≤◌, ◌++◌, List, [], map, length}
 use Rattle.std.specs.List.{All, AllPairs, Contains, range_with_len}
-use Rattle.machine_shape.specs.declared.Shape.{Shape}
-use Rattle.machine_shape.specs.Shape.{nodes_of}
+use Rattle.machine_shape.specs.{declared.Shape.Shape, Shape.nodes_of}
 use Rattle.machine_meaning.specs.Defects.{Defects}
 use Rattle.machine_defects.specs.Lists.{DefectList}
-use Rattle.place_plan.specs.declared.board.Board.{Board}
-use Rattle.place_plan.specs.declared.search.Ask.{Ask}
-use Rattle.place_plan.specs.declared.search.Hold.{Hold}
-use Rattle.place_plan.specs.declared.short.Need.{Need}
+use Rattle.place_plan.specs.declared.{board.Board.Board, short.Room.TheVariants.Enough, short.Room.TheVariants.Lacks, short.Short.Short}
+use Rattle.place_plan.specs.declared.{search.Ask.Ask, short.Need.Need, short.Port.Port, short.Room.Room}
+use Rattle.place_plan.specs.{declared.search.Hold.Hold, declared.short.Visit.Visit, Lists.AreThose, Lists.AreLists, Lists.nth_of}
 use Rattle.place_plan.specs.Room.{Pick, HasTerminal, CrossesAt, VisitsAt, HasPort, Serves, IsChoiceAt, PortsSuffice, PortsAreShort}
 use Rattle.place_plan.specs.Room.{AreShort, NodeSuffices, Suffices, IsFirstShort, IsFreePort, port_for, visit_for}
-use Rattle.place_plan.specs.declared.short.Port.{Port}
-use Rattle.place_plan.specs.declared.short.Resource.{Resource}
-use Rattle.place_plan.specs.declared.short.Resource.TheVariants.{Tables, Pins, Ports, Lines}
-use Rattle.place_plan.specs.declared.short.Room.{Room}
-use Rattle.place_plan.specs.declared.short.Room.TheVariants.{Enough, Lacks}
-use Rattle.place_plan.specs.declared.short.Short.{Short}
-use Rattle.place_plan.specs.declared.short.Visit.{Visit}
-use Rattle.place_plan.specs.Choices.{ask_at}
-use Rattle.place_plan.specs.Lists.{AreThose, AreLists, nth_of}
-use Rattle.place_plan.specs.Touches.{AreTouched}
+use Rattle.place_plan.specs.declared.short.Resource.{Resource, TheVariants.Tables, TheVariants.Pins, TheVariants.Ports, TheVariants.Lines}
+use Rattle.place_plan.specs.{Choices.ask_at, Touches.AreTouched}
 
 -- the net that gets a line, by the place of its ask
 abbrev pub pick_of : List Ask → Hold → Pick

@@ -1,24 +1,15 @@
 -- Where a network sits on a machine: the terminals of its nets, the in-order plan, and when a plan fits.
 use Rattle.std.specs.Prelude.{◌≡◌, ◌≢◌, ℕ, ◌+◌, ◌<◌, ◌≤◌, ◌++◌, List, map, length, take, drop, min, slice_index_or}
 use Rattle.std.specs.List.{All, AllPairs}
-use Rattle.machine_shape.specs.declared.Shape.{Shape}
+use Rattle.machine_shape.specs.{declared.Shape.Shape, Bounds.most_ticks, Shape.tables_of, Shape.pins_of, Shape.pin_wire, Shape.table_wire}
 use Rattle.machine_shape.specs.declared.Table.{Table}
-use Rattle.machine_shape.specs.Bounds.{most_ticks}
-use Rattle.machine_shape.specs.Shape.{tables_of, pins_of, pin_wire, table_wire}
 use Rattle.machine_meaning.specs.Defects.{Defects, IsFreeWire, IsFreeTable}
-use Rattle.map_network.specs.declared.network.Network.{Network}
-use Rattle.map_network.specs.declared.source.Source.{Source}
+use Rattle.map_network.specs.{declared.network.Network.Network, declared.source.Source.Source, Networks.table_at, Networks.IsSourceOf}
 use Rattle.map_network.specs.declared.source.Source.TheVariants as source
-use Rattle.map_network.specs.Networks.{table_at, IsSourceOf}
-use Rattle.place_plan.specs.declared.plan.Plan.{Plan}
-use Rattle.place_plan.specs.declared.short.Need.{Need}
-use Rattle.place_plan.specs.declared.short.PlaceFail.{PlaceFail}
+use Rattle.place_plan.specs.{declared.plan.Plan.Plan, Lists.AreThose, Lists.nth_of, Room.IsMet, Room.IsUnmet, Room.IsShortOf, Room.Suffices}
+use Rattle.place_plan.specs.declared.short.{Need.Need, PlaceFail.PlaceFail, Short.Short}
 use Rattle.place_plan.specs.declared.short.PlaceFail.TheVariants as fail
-use Rattle.place_plan.specs.declared.short.Resource.{Resource}
-use Rattle.place_plan.specs.declared.short.Resource.TheVariants.{Tables, Pins, Ports, Lines}
-use Rattle.place_plan.specs.declared.short.Short.{Short}
-use Rattle.place_plan.specs.Lists.{AreThose, nth_of}
-use Rattle.place_plan.specs.Room.{IsMet, IsUnmet, IsShortOf, Suffices}
+use Rattle.place_plan.specs.declared.short.Resource.{Resource, TheVariants.Tables, TheVariants.Pins, TheVariants.Ports, TheVariants.Lines}
 
 abbrev pub number_of : Table → ℕ
 number_of t = t.0

@@ -6,14 +6,9 @@ use Rattle.std.specs.List.{All, AllPairs, Contains}
 use Rattle.machine_shape.specs.declared.Shape.{Shape}
 use Rattle.machine_shape.specs.Shape.{nodes_of, crosses_of, ends_of, node_of, parent_of, IsLine, IsPort}
 use Rattle.machine_meaning.specs.Defects.{Defects, IsFreeWire, IsFreeCross}
-use Rattle.place_plan.specs.declared.short.Need.{Need}
-use Rattle.place_plan.specs.declared.short.Port.{Port}
-use Rattle.place_plan.specs.declared.short.Resource.{Resource}
-use Rattle.place_plan.specs.declared.short.Resource.TheVariants.{Tables, Pins, Ports, Lines}
-use Rattle.place_plan.specs.declared.short.Short.{Short}
-use Rattle.place_plan.specs.declared.short.Visit.{Visit}
-use Rattle.place_plan.specs.Lists.{AreThose, IsNth}
-use Rattle.place_plan.specs.Strands.{Crosses, Visits}
+use Rattle.place_plan.specs.declared.short.{Need.Need, Port.Port, Visit.Visit}
+use Rattle.place_plan.specs.declared.short.Resource.{Resource, TheVariants.Tables, TheVariants.Pins, TheVariants.Ports, TheVariants.Lines}
+use Rattle.place_plan.specs.{declared.short.Short.Short, Lists.AreThose, Lists.IsNth, Strands.Crosses, Strands.Visits}
 
 -- a net and the line that it gets
 pub record Pick : Type 0 where

@@ -1,9 +1,7 @@
 -- What the search for lines keeps true.
 use Rattle.std.specs.Prelude.{◌≡◌, ◌≢◌, ℕ, suc, ◌+◌, ◌<◌, Bool, true, false, not, List, [], ◌∷◌, ◌++◌, length, count_by, slice_index_or}
-use Rattle.std.specs.Prelude.{Option, Some, None}
-use Rattle.std.specs.List.{All, AllPairs, Contains}
-use Rattle.place_plan.specs.declared.search.Step.{Step}
-use Rattle.place_plan.specs.declared.search.Hold.{Hold}
+use Rattle.std.specs.{Prelude.Option, Prelude.Some, Prelude.None, List.All, List.AllPairs, List.Contains}
+use Rattle.place_plan.specs.declared.search.{Step.Step, Hold.Hold}
 
 -- the net that has the j-th line
 abbrev pub owner_at : List (Option ℕ) → ℕ → Option ℕ

@@ -1,9 +1,7 @@
 -- Where a wire is, seen from a node, and which nodes a net visits and crosses.
 use Rattle.std.specs.Prelude.{◌≡◌, ◌≢◌, ℕ, Some}
-use Rattle.machine_shape.specs.declared.Shape.{Shape}
-use Rattle.machine_shape.specs.Shape.{node_of, parent_of, IsAbove}
-use Rattle.place_plan.specs.declared.tree.NetSide.{NetSide}
-use Rattle.place_plan.specs.declared.tree.NetSide.TheVariants.{Own, Child, Outside}
+use Rattle.machine_shape.specs.{declared.Shape.Shape, Shape.node_of, Shape.parent_of, Shape.IsAbove}
+use Rattle.place_plan.specs.declared.tree.NetSide.{NetSide, TheVariants.Own, TheVariants.Child, TheVariants.Outside}
 
 -- the wire is of the node, or of one below it
 abbrev pub IsInside : Shape → ℕ → ℕ → Type 0

@@ -1,16 +1,12 @@
 -- The taps by which nets come to a node, by lists of the nets that cross and of free ports.
 use Rattle.std.specs.Prelude.{◌≡◌, ◌↔◌, ℕ, ◌<◌, List, Option, Some, None, map, length}
 use Rattle.std.specs.List.{All, AllPairs, Contains}
-use Rattle.machine_shape.specs.declared.Shape.{Shape}
-use Rattle.machine_shape.specs.Shape.{nodes_of, IsLine}
+use Rattle.machine_shape.specs.{declared.Shape.Shape, Shape.nodes_of, Shape.IsLine}
 use Rattle.machine_meaning.specs.Defects.{Defects, IsFreeWire}
 use Rattle.place_plan.specs.declared.search.Ask.{Ask}
-use Rattle.place_plan.specs.declared.tree.NetSide.{NetSide}
-use Rattle.place_plan.specs.declared.tree.NetSide.TheVariants.{Own, Child, Outside}
-use Rattle.place_plan.specs.Lists.{AreThose, AreLists, IsNth, IsAmongFirst, nth_of}
-use Rattle.place_plan.specs.Strands.{IsAt, Visits}
-use Rattle.place_plan.specs.Room.{HasTerminal, CrossesAt, VisitsAt, IsFreePort}
-use Rattle.place_plan.specs.Touches.{list_at, with_last}
+use Rattle.place_plan.specs.declared.tree.NetSide.{NetSide, TheVariants.Own, TheVariants.Child, TheVariants.Outside}
+use Rattle.place_plan.specs.{Lists.AreThose, Lists.AreLists, Lists.IsNth, Lists.IsAmongFirst, Lists.nth_of, Strands.IsAt, Strands.Visits}
+use Rattle.place_plan.specs.{Room.HasTerminal, Room.CrossesAt, Room.VisitsAt, Room.IsFreePort, Touches.list_at, Touches.with_last}
 
 -- the j-th net that crosses node c is net k, and t is the j-th free port of it
 abbrev pub IsHeld : List (List ℕ) → List (List ℕ) → ℕ → ℕ → ℕ → Type 0

@@ -1,18 +1,11 @@
 -- The terminals of a network's nets, as lists.
 use Rattle.std.specs.Prelude.{◌≡◌, ◌↔◌, ℕ, ◌+◌, ◌<◌, ◌^◌, List, length, map, ◌++◌, slice_index_or}
 use Rattle.std.specs.List.{All, Contains, flat_map, range_with_len}
-use Rattle.machine_shape.specs.declared.Shape.{Shape}
-use Rattle.machine_shape.specs.Shape.{tables_of, pins_of, pin_wire, table_wire}
-use Rattle.map_network.specs.declared.network.Network.{Network}
-use Rattle.map_network.specs.declared.source.Source.{Source}
+use Rattle.machine_shape.specs.{declared.Shape.Shape, Shape.tables_of, Shape.pins_of, Shape.pin_wire, Shape.table_wire}
+use Rattle.map_network.specs.{declared.network.Network.Network, declared.source.Source.Source, Networks.table_at}
 use Rattle.map_network.specs.declared.source.Source.TheVariants as source
-use Rattle.map_network.specs.Networks.{table_at}
-use Rattle.place_plan.specs.declared.plan.Plan.{Plan}
-use Rattle.place_plan.specs.declared.terminals.Terminal.{Terminal}
-use Rattle.place_plan.specs.Choices.{AreWires}
-use Rattle.place_plan.specs.Lists.{nth_of}
-use Rattle.place_plan.specs.Plans.{IsTerminal, net_by, nets_in, places}
-use Rattle.place_plan.specs.Room.{HasTerminal}
+use Rattle.place_plan.specs.{declared.plan.Plan.Plan, Choices.AreWires, Lists.nth_of, Room.HasTerminal}
+use Rattle.place_plan.specs.{declared.terminals.Terminal.Terminal, Plans.IsTerminal, Plans.net_by, Plans.nets_in, Plans.places}
 
 -- the wire w as a terminal of net k
 abbrev pub terminal_for : ℕ → ℕ → Terminal

@@ -1,11 +1,8 @@
 -- Which nets have a terminal inside each node, as lists.
 use Rattle.std.specs.Prelude.{◌≡◌, ◌≢◌, ℕ, ◌-◌, ◌<◌, ◌==◌, ◌&&◌, ◌++◌, List, [], ◌∷◌, Bool, nat_lt, if◌then◌else◌, length, slice_index_or}
 use Rattle.std.specs.List.{Contains}
-use Rattle.machine_shape.specs.declared.Shape.{Shape}
-use Rattle.machine_shape.specs.Shape.{nodes_of, IsAbove}
-use Rattle.place_plan.specs.Lists.{AreLists}
-use Rattle.place_plan.specs.Strands.{IsInside}
-use Rattle.place_plan.specs.Room.{HasTerminal}
+use Rattle.machine_shape.specs.{declared.Shape.Shape, Shape.nodes_of, Shape.IsAbove}
+use Rattle.place_plan.specs.{Lists.AreLists, Strands.IsInside, Room.HasTerminal}
 
 -- the list of a node
 abbrev pub list_at : List (List ℕ) → ℕ → List ℕ

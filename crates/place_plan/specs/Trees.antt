@@ -1,7 +1,6 @@
 -- The nodes of wires and the nodes above nodes, as lists.
 use Rattle.std.specs.Prelude.{◌≡◌, ◌≢◌, ℕ, ◌<◌, Some, List, length, slice_index_or}
-use Rattle.machine_shape.specs.declared.Shape.{Shape}
-use Rattle.machine_shape.specs.Shape.{nodes_of, node_of, parent_of, IsAbove}
+use Rattle.machine_shape.specs.{declared.Shape.Shape, Shape.nodes_of, Shape.node_of, Shape.parent_of, Shape.IsAbove}
 
 -- the nodes of the first wires
 pub record AreHomes (m : Shape) (count : ℕ) (homes : List ℕ) : Type 0 where

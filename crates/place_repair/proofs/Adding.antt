@@ -1,20 +1,10 @@
 -- Terminals are added to nets.
 use Rattle.std.proofs.Common.{◌≡◌, ◌≢◌, ◌⊎◌, ℕ, ◌+◌, ◌<◌, ◌≤◌, List, [], ◌∷◌, ◌++◌, length, get_or, set, replicate, refl, sym, ap, ◌∙◌, subst, inl, inr, arith, is_some, ◌==◌, if◌then◌else◌, count_by}
-use Rattle.std.specs.List.{Contains}
-use Rattle.std.proofs.lemmas.Bool.{cases_eq, cases_lt}
+use Rattle.place_repair.proofs.Vocabulary.{Contains, cases_eq, cases_lt, Table, pin_wire, table_wire, Configuration, setting_of, ImageValue}
+use Rattle.place_repair.proofs.Vocabulary.{nth_of, HasTerminal, not_in_nil, Plan, HasMark, HasWire, listed}
 use Rattle.std.proofs.lemmas.List.{get_or-set_same, get_or-set_other, get_or_past, get_or-replicate, get_or_default, length-set, length-replicate}
 use Rattle.std.proofs.lemmas.List.Elements.{Contains-append_left, Contains-push, Contains-push_cases, Contains-get_or, Contains-append_right, Contains-append_cases}
-use Rattle.machine_shape.specs.declared.Table.{Table}
-use Rattle.machine_shape.specs.Shape.{pin_wire, table_wire}
-use Rattle.machine_config.specs.Configuration.{Configuration, setting_of}
-use Rattle.machine_image.specs.Images.{ImageValue}
-use Rattle.place_plan.specs.Vocabulary.{nth_of, HasTerminal}
-use Rattle.place_plan.proofs.Those.{not_in_nil}
-use Rattle.place_repair.specs.declared.plan.Plan.{Plan}
-use Rattle.place_repair.specs.Marks.{HasMark}
-use Rattle.place_repair.specs.Nets.{HasWire}
 use Rattle.place_repair.specs.Making.{IsAdded, IsNetWire, IsMovedTo, IsPinTerminal, IsFirstPinTerminal, IsTablePinTerminal, IsFirstTableTerminal, IsTableTerminal, AreTerminalsOf, no_table}
-use Rattle.machine_image.proofs.Keyed.{listed}
 use Rattle.place_repair.proofs.Using.{is_on, listed_on}
 
 pub added_none : (claims : ℕ → ℕ → Type 0) (lists : List (List ℕ)) → ((k w : ℕ) → claims k w → ⊥) → IsAdded claims lists lists

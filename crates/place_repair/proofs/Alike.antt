@@ -1,16 +1,12 @@
 -- Two images, each on free parts, whose pins and tables stand at different places but hang together alike, read the same rows.
 use Rattle.std.proofs.Common.{◌≡◌, ℕ, ◌+◌, ◌<◌, Bool, true, false, Some, None, Option, List, [], ◌∷◌, ◌++◌, length, get_or, map, refl, sym, ap, ◌∙◌, subst, arith, IsSome, if◌then◌else◌}
-use Rattle.std.specs.List.{range_with_len}
+use Rattle.place_repair.proofs.Vocabulary.{range_with_len, get_or-map-range_with_len, Setting, IsGood, IsOff, different_at}
 use Rattle.std.proofs.lemmas.List.{get_or_append_left, get_or-append-add, get_or-map, ext_get_or, length-append, length-map}
-use Rattle.std.proofs.lemmas.List.FromFn.{get_or-map-range_with_len}
 use Rattle.machine_shape.specs.Vocabulary.{pin_wire, table_wire, pins_of, tables_of, IsNumbered}
 use Rattle.machine_meaning.specs.Vocabulary.{Faults, Joined, plain_net, Outputs, Pins, Pulls, by_pin, by_table, IsValue, AreValues, Defects, Covers}
-use Rattle.machine_config.specs.declared.Setting.{Setting}
 use Rattle.machine_config.specs.Vocabulary.{is_closed, setting_of, cell_of, circuit_of, table_or_off, IsRun, number_of, address_at, pins_read, tick_output, edge_output, at_load, after_tick, after_edge, Ticks, unticked, tick, Cycles, none, cycle}
 use Rattle.machine_image.specs.Vocabulary.{ImageValue, IsImage, drive_of, image_row, IsFreeImage}
 use Rattle.machine_image.proofs.Driven.{drive_pin, drive_low, number_below, same_map, tick_of, edge_of, first_of}
-use Rattle.machine_image.proofs.FreeWires.{IsGood, IsOff}
-use Rattle.place_plan.proofs.Those.{different_at}
 use Rattle.place_repair.proofs.Pulled.{good_pin_at, good_pin, table_on, low_pulled, pulled_low}
 
 -- an image on free parts, under faults that a list covers

@@ -1,23 +1,11 @@
 -- An image has one repair plan for a list of defects.
 use Rattle.std.proofs.Common.{◌≡◌, ℕ, ◌<◌, Bool, true, false, List, length, get_or, refl, sym, ◌∙◌, subst, arith}
-use Rattle.std.specs.Cmp.{nat_cmp_total}
+use Rattle.place_repair.proofs.Vocabulary.{nat_cmp_total, same_set, nat_cmp-IsAntisymmetric, false≢true, ext_get_or, Shape, ends_of}
+use Rattle.place_repair.proofs.Vocabulary.{Defects, IsFreeWire, ImageValue, Need, Resource, Short, those_unique, Seats, HasWire, IsLowest}
 use Rattle.std.specs.FinSet as set
-use Rattle.std.specs.FinSet.{same_set, nat_cmp-IsAntisymmetric}
-use Rattle.std.proofs.lemmas.Bool.{false≢true}
-use Rattle.std.proofs.lemmas.List.{ext_get_or}
-use Rattle.machine_shape.specs.declared.Shape.{Shape}
-use Rattle.machine_shape.specs.Shape.{ends_of}
-use Rattle.machine_meaning.specs.Defects.{Defects, IsFreeWire}
-use Rattle.machine_image.specs.Images.{ImageValue}
-use Rattle.place_plan.specs.declared.short.Need.{Need}
-use Rattle.place_plan.specs.declared.short.Resource.{Resource}
 use Rattle.place_plan.specs.declared.short.Resource.TheVariants.{Tables, Pins, Ports, Lines}
-use Rattle.place_plan.specs.declared.short.Short.{Short}
 use Rattle.place_plan.specs.Room.{HasTerminal, IsFirstShort, IsMet, IsUnmet, IsShortOf, Suffices}
-use Rattle.place_plan.proofs.Those.{those_unique}
 use Rattle.place_plan.proofs.Transfer.{first_on}
-use Rattle.place_repair.specs.declared.seats.Seats.{Seats}
-use Rattle.place_repair.specs.Nets.{HasWire, IsLowest}
 use Rattle.place_repair.specs.Plans.{AreSeats, AreNets, AreMoves, IsTerminal, IsKeptWire, IsGoneTable, IsSpareTable, IsSparePin, HasRoom, IsShortPlan, IsFirstShortBy, IsShortHere, Nets, need_of}
 
 pub seats_unique : (d : Defects) (i : ImageValue) (s r : Seats) → AreSeats d i s → AreSeats d i r → s ≡ r

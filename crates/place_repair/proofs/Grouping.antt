@@ -1,13 +1,10 @@
 -- Groups of wires: roots are found and united.
 use Rattle.std.proofs.Common.{◌≡◌, ◌≢◌, ◌⊎◌, ℕ, ◌+◌, ◌<◌, ◌≤◌, true, cond, eqb, List, [], ◌∷◌, ◌++◌, length, get_or, set, map, refl, sym, ap, ◌∙◌, subst, inl, inr, arith}
-use Rattle.std.specs.List.{range_with_len}
-use Rattle.std.proofs.lemmas.Bool.{cases_eq, ne_eqb, eq-eqb}
+use Rattle.place_repair.proofs.Vocabulary.{range_with_len, cases_eq, ne_eqb, eq-eqb, Joined-trans, Joined-sym, Configuration, is_closed}
 use Rattle.std.proofs.lemmas.List.{get_or-set_same, get_or-set_other, length-set, length_push, get_or_push, get_or_append_left}
 use Rattle.std.proofs.lemmas.List.FromFn.{map-range_with_len_more, length-range_with_len, get_or-range_with_len}
 use Rattle.machine_shape.specs.Vocabulary.{in_order, turned, wires_of, crosses_of, ends_of, IsNumbered}
 use Rattle.machine_meaning.specs.Joined.{Net, Joined, here, then, crossed, plain_net}
-use Rattle.machine_meaning.proofs.JoinedLemmas.{Joined-trans, Joined-sym}
-use Rattle.machine_config.specs.Configuration.{Configuration, is_closed}
 use Rattle.place_repair.specs.Groups.{parent_at, AreLow, HasRoots, AreJoined, IsFound, IsMerged, IsUnited, HasJoined, IsForest, AreRootsTo, AreRootsOf, AreLowest}
 
 -- ---- on the way up

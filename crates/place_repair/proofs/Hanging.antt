@@ -3,17 +3,10 @@ use Rattle.std.proofs.Common.{◌≡◌, ◌≢◌, ◌⊎◌, ℕ, ◌<◌, ◌
 use Rattle.std.specs.List.{All, Contains}
 use Rattle.machine_shape.specs.Vocabulary.{Ends, in_order, turned, ends_of, wires_of, IsNumbered}
 use Rattle.machine_meaning.specs.Joined.{here, then, crossed, bridged}
-use Rattle.machine_meaning.proofs.JoinedLemmas.{Joined-trans, Joined-sym}
-use Rattle.std.proofs.lemmas.Bool.{false≢true}
-use Rattle.std.proofs.lemmas.List.{get_or_default, get_or_read}
-use Rattle.machine_config.specs.Configuration.{Configuration, IsConfiguration, is_closed}
-use Rattle.machine_image.proofs.FreeWires.{keeps}
-use Rattle.place_plan.specs.Lists.{AreThose, nth_of}
+use Rattle.place_repair.proofs.Vocabulary.{Joined-trans, Joined-sym, false≢true, get_or_default, get_or_read, Configuration}
+use Rattle.place_repair.proofs.Vocabulary.{IsConfiguration, is_closed, keeps, AreThose, nth_of, same_place, parent_at, AreLowest, AreNetsOf}
 use Rattle.place_plan.proofs.PlanNets.{few_below}
-use Rattle.place_plan.proofs.Those.{same_place}
-use Rattle.place_repair.specs.Groups.{parent_at, AreLowest}
 use Rattle.place_repair.specs.Nets.{HangTogether, IsEnd, as_tap, as_line, IsLowest, HasWire, AreNumbered}
-use Rattle.place_repair.specs.Making.{AreNetsOf}
 use Rattle.place_repair.specs.declared.nets.NetList.{NetList}
 
 -- a walk that leads elsewhere ends at a closed crosspoint

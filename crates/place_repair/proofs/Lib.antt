@@ -20,3 +20,4 @@ mod Owning
 mod Redrawing
 mod Repaired
 mod Decided
+mod Vocabulary

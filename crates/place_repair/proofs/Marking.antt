@@ -1,9 +1,7 @@
 -- Giving marks to numbers.
 use Rattle.std.proofs.Common.{◌≡◌, ◌≢◌, ◌⊎◌, ℕ, ◌+◌, ◌<◌, ◌≤◌, Bool, true, false, List, length, get_or, set, replicate, refl, sym, ◌∙◌, subst, inl, inr, arith, ◌==◌, if◌then◌else◌, count_by}
-use Rattle.std.proofs.lemmas.Bool.{cases_eq, cases_lt, false≢true}
+use Rattle.place_repair.proofs.Vocabulary.{cases_eq, cases_lt, false≢true, of_list, listed, HasMark, IsMarked, AreMarks, IsThis, IsOfFirst}
 use Rattle.std.proofs.lemmas.List.{get_or-set_same, get_or-set_other, get_or_past, get_or-replicate, length-set, length-replicate}
-use Rattle.machine_image.proofs.Keyed.{of_list, listed}
-use Rattle.place_repair.specs.Marks.{HasMark, IsMarked, AreMarks, IsThis, IsOfFirst}
 
 pub marked_none : (claims : ℕ → Type 0) (marks : List Bool) → ((w : ℕ) → claims w → ⊥) → IsMarked claims marks marks
 marked_none claims marks never = record { sized = refl; only = λ w e. inl e; each = λ w c. absurd (never w c); kept = λ w e. e }

@@ -1,9 +1,6 @@
 -- Numbers of ascending wires.
 use Rattle.std.proofs.Common.{◌≡◌, ◌≢◌, ◌⊎◌, ℕ, ◌+◌, ◌<◌, All, AllPairs, List, length, get_or, set, sym, ap, ◌∙◌, inl, inr, arith}
-use Rattle.std.proofs.lemmas.Bool.{cases_eq}
-use Rattle.std.proofs.lemmas.List.{get_or-set_same, get_or-set_other, length-set}
-use Rattle.place_plan.specs.Lists.{nth_of}
-use Rattle.place_repair.specs.Making.{AreNumbersTo}
+use Rattle.place_repair.proofs.Vocabulary.{cases_eq, get_or-set_same, get_or-set_other, length-set, nth_of, AreNumbersTo}
 
 pub numbers_none : (ws ns : List ℕ) → AreNumbersTo 0 ws ns
 numbers_none ws ns = record { each = λ k l. absurd (none k l) }

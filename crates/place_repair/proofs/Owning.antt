@@ -2,28 +2,18 @@
 use Rattle.std.proofs.Common.{◌≡◌, ◌⊎◌, ℕ, ◌<◌, Bool, true, false, List, ◌++◌, length, get_or, refl, sym, ap, ◌∙◌, subst, inl, inr, IsSome}
 use Rattle.std.specs.List.{All, Contains}
 use Rattle.std.specs.FinSet as set
-use Rattle.std.proofs.lemmas.Bool.{false≢true, cases_Bool}
-use Rattle.std.proofs.lemmas.List.Elements.{All-contains}
-use Rattle.machine_shape.specs.declared.Shape.{Shape}
+use Rattle.place_repair.proofs.Vocabulary.{false≢true, cases_Bool, All-contains, Shape, Joined-trans, Joined-sym, Configuration, is_closed}
+use Rattle.place_repair.proofs.Vocabulary.{setting_of, ImageValue, IsImage, Uses, at_tap, at_line, keeps, Port, Visit, AreWires, AreHeld}
+use Rattle.place_repair.proofs.Vocabulary.{AreVisits, HasTerminal, IsTapOf, Crosses, visit_for, crossed_within, Seats, IsKeptNets, IsOnLine}
 use Rattle.machine_shape.specs.Shape.{Ends, in_order, turned, ends_of, wires_of, nodes_of, tables_of, pins_of, pin_wire, table_wire, node_of, IsLine, IsPort, IsTap, tap_pin, tap_table}
 use Rattle.machine_meaning.specs.Vocabulary.{Joined, here, then, crossed, bridged, plain_net, Defects, IsFreeWire, IsFreeCross}
-use Rattle.machine_meaning.proofs.JoinedLemmas.{Joined-trans, Joined-sym}
-use Rattle.machine_config.specs.Configuration.{Configuration, is_closed, setting_of}
-use Rattle.machine_image.specs.Vocabulary.{ImageValue, IsImage, Uses, at_tap, at_line}
-use Rattle.machine_image.proofs.FreeWires.{keeps}
-use Rattle.place_plan.specs.declared.short.Port.{Port}
-use Rattle.place_plan.specs.declared.short.Visit.{Visit}
-use Rattle.place_plan.specs.Vocabulary.{AreWires, AreHeld, AreVisits, HasTerminal, IsTapOf, Crosses, visit_for}
 use Rattle.place_plan.specs.Room as room
 use Rattle.place_plan.proofs.Upward.{up_of}
 use Rattle.place_route.specs.Vocabulary.{HasLine, IsJoined, HasPortIn, AreWiresOf, IsNetTap, by_terminal, by_child, by_port, IsLaidOnTree, IsOfNet, as_terminal, as_line, as_port, AreTerminals}
 use Rattle.place_route.proofs.Drawn.{Numbering, IsDrawnBy, drawn_wires, drawn_laid, drawn_free, visit, held}
-use Rattle.place_route.proofs.Ported.{crossed_within}
 use Rattle.place_route.proofs.OnTree.{one_net, net_joined, nets_apart, to_port}
-use Rattle.place_repair.specs.declared.seats.Seats.{Seats}
 use Rattle.place_repair.specs.Nets.{HangTogether, IsEnd, as_tap, as_line as line_end, HasWire, IsKept}
 use Rattle.place_repair.specs.Plans.{Nets, AreSeats, AreNets, PinSits, TableSits, IsTerminal, at_pin, at_table, IsMoving, IsStaying, IsKeptWire}
-use Rattle.place_repair.specs.Repairs.{IsKeptNets, IsOnLine}
 use Rattle.place_repair.proofs.Placed.{on_within}
 use Rattle.place_repair.proofs.Hanging.{has_end, one_net_has, walk_end}
 use Rattle.place_repair.proofs.Seating.{one_table_place, one_table_owner, one_pin_place, one_pin_owner, table_place_free, pin_place_free, table_stays_or, pin_stays_or, free_table_stays, free_pin_stays}

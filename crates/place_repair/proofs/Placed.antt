@@ -1,10 +1,6 @@
 -- A switched-on table is one of the machine.
 use Rattle.std.proofs.Common.{◌≡◌, ◌⊎◌, ℕ, zero, suc, ◌<◌, ◌≤◌, Option, None, length, get_or, replicate, refl, subst, inl, inr, IsSome}
-use Rattle.std.proofs.lemmas.Bool.{cases_lt}
-use Rattle.std.proofs.lemmas.List.{get_or_past}
-use Rattle.machine_shape.specs.Shape.{tables_of}
-use Rattle.machine_config.specs.declared.Setting.{Setting}
-use Rattle.machine_config.specs.Configuration.{Configuration, IsConfiguration, setting_of}
+use Rattle.place_repair.proofs.Vocabulary.{cases_lt, get_or_past, tables_of, Setting, Configuration, IsConfiguration, setting_of}
 
 pub some_none : {o : Option Setting} → IsSome o → o ≡ None → ⊥
 some_none is e = cc

@@ -1,12 +1,8 @@
 -- Places are given to what goes, one after the other.
 use Rattle.std.proofs.Common.{◌≡◌, ◌≢◌, ◌⊎◌, ℕ, ◌+◌, ◌<◌, Bool, true, false, cond, All, AllPairs, List, [], ◌∷◌, ◌++◌, length, get_or, set, take, map, refl, sym, ap, ◌∙◌, inl, inr, arith, if◌then◌else◌}
-use Rattle.std.specs.List.{filter, range_with_len}
-use Rattle.std.proofs.lemmas.Bool.{cases_eq}
+use Rattle.place_repair.proofs.Vocabulary.{filter, range_with_len, cases_eq, nth_of, Moves, IsPut, ArePlaces}
 use Rattle.std.proofs.lemmas.List.{get_or-set_same, get_or-set_other, length-set, take_more, append_assoc, append-nil, map-append}
 use Rattle.std.proofs.lemmas.List.FromFn.{length-range_with_len, get_or-range_with_len}
-use Rattle.place_plan.specs.Lists.{nth_of}
-use Rattle.place_repair.specs.declared.seats.Moves.{Moves}
-use Rattle.place_repair.specs.Making.{IsPut, ArePlaces}
 
 pub put_none : (gone spare places : List ℕ) → IsPut gone spare 0 places places
 put_none gone spare places = record { sized = refl; put = λ k l. absurd (none k l); others = λ t ne. refl }

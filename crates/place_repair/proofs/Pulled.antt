@@ -1,15 +1,12 @@
 -- When a wire of an image on free parts is 0: where closed crosspoints alone join it to what pulls.
 use Rattle.std.proofs.Common.{◌≡◌, ℕ, ◌<◌, Bool, true, false, Some, None, Option, List, ◌++◌, length, get_or, refl, sym, ap, ◌∙◌, subst, arith, IsSome}
-use Rattle.std.proofs.lemmas.Bool.{false≢true}
-use Rattle.std.proofs.lemmas.List.{get_or_append_left, length-append}
+use Rattle.place_repair.proofs.Vocabulary.{false≢true, get_or_append_left, length-append, Setting, IsGood, IsOff, joined_too}
 use Rattle.machine_shape.specs.Vocabulary.{pin_wire, table_wire, pins_of, tables_of, crosses_of, IsNumbered}
 use Rattle.machine_meaning.specs.Vocabulary.{Faults, Joined, plain_net, Outputs, Pulls, by_pin, by_table, IsHeld, IsValue, held_0, held_1, pulled, released, Defects, IsFreeCross, Covers}
 use Rattle.machine_meaning.proofs.Covered.{none_stuck, joined_plainly}
-use Rattle.machine_config.specs.declared.Setting.{Setting}
 use Rattle.machine_config.specs.Vocabulary.{Configuration, is_closed, setting_of, circuit_of}
 use Rattle.machine_image.specs.Vocabulary.{ImageValue, IsImage, drive_of, IsFreeImage}
 use Rattle.machine_image.proofs.Driven.{drive_low}
-use Rattle.machine_image.proofs.FreeWires.{IsGood, IsOff, joined_too}
 
 module _ (d : Defects) (i : ImageValue) (numbered : IsNumbered i.config.shape) (is : IsImage i) (free : IsFreeImage d i) (on_within : (t : ℕ) → IsSome (setting_of i.config t) → t < tables_of i.config.shape) where
   abbrev g : Configuration

@@ -1,25 +1,12 @@
 -- What stays is closed again, and tables are switched on where they stand.
 use Rattle.std.proofs.Common.{◌≡◌, ◌≢◌, ◌⊎◌, ℕ, ◌+◌, ◌<◌, ◌≤◌, Bool, true, false, not, ◌&&◌, Option, None, List, [], ◌∷◌, length, get_or, set, refl, sym, ap, ◌∙◌, subst, inl, inr, arith, IsSome, ◌==◌, if◌then◌else◌, count_by}
-use Rattle.std.specs.Cmp.{nat_cmp_total, unsigned_tied}
-use Rattle.std.specs.Ordering.{nat_cmp}
+use Rattle.place_repair.proofs.Vocabulary.{nat_cmp_total, unsigned_tied, nat_cmp, len-insert, contains-remove, cases_eq, get_or-set_same}
+use Rattle.place_repair.proofs.Vocabulary.{get_or-set_other, length-set, Cross, ends_of, Setting, Configuration, is_closed, setting_of}
+use Rattle.place_repair.proofs.Vocabulary.{with_setting, Closes, closes_then, closes_same, nth_of, Plan, HasStayingWire, IsKeptCross}
+use Rattle.place_repair.proofs.Vocabulary.{IsKeptCrossOf, AreSeated, no_cross, IsOfFirst, of_list, listed}
 use Rattle.std.specs.FinSet as sets
-use Rattle.std.specs.FinSet.{len-insert, contains-remove}
-use Rattle.std.proofs.lemmas.Bool.{cases_eq}
-use Rattle.std.proofs.lemmas.Bool.Decides.{nat_tests}
-use Rattle.std.proofs.lemmas.List.{get_or-set_same, get_or-set_other, length-set}
-use Rattle.std.proofs.lemmas.List.Sums.{sum_by-cons}
-use Rattle.machine_shape.specs.declared.Cross.{Cross}
-use Rattle.machine_shape.specs.Shape.{ends_of}
-use Rattle.machine_config.specs.declared.Setting.{Setting}
-use Rattle.machine_config.specs.Configuration.{Configuration, is_closed, setting_of, with_setting}
+use Rattle.std.proofs.lemmas.{Bool.Decides.nat_tests, List.Sums.sum_by-cons}
 use Rattle.machine_config.proofs.Changes.{insert-remove}
-use Rattle.place_route.specs.Closing.{Closes}
-use Rattle.place_route.proofs.Joining.{closes_then, closes_same}
-use Rattle.place_plan.specs.Lists.{nth_of}
-use Rattle.place_repair.specs.declared.plan.Plan.{Plan}
-use Rattle.place_repair.specs.Making.{HasStayingWire, IsKeptCross, IsKeptCrossOf, AreSeated, no_cross}
-use Rattle.place_repair.specs.Marks.{IsOfFirst}
-use Rattle.machine_image.proofs.Keyed.{of_list, listed}
 use Rattle.place_repair.proofs.Marking.{first_more, first_before, first_last}
 
 -- ---- how many are closed

@@ -1,21 +1,13 @@
 -- What an image asks of a configuration and pins that follow a plan.
 use Rattle.std.proofs.Common.{◌≡◌, ◌≢◌, ◌⊎◌, ℕ, ◌+◌, ◌*◌, ◌<◌, ◌≤◌, Bool, true, false, None, IsSome, Contains, All, AllPairs, List, ◌++◌, length, get_or, map, refl, sym, ap, ◌∙◌, subst, inl, inr, arith, if◌then◌else◌}
-use Rattle.std.specs.Ordering.{nat_cmp}
+use Rattle.place_repair.proofs.Vocabulary.{nat_cmp, len-empty, get_or-map, length-map, map-append, Shape, ImageValue, IsImage, tables_on}
+use Rattle.place_repair.proofs.Vocabulary.{Port, Visit, nth_of, Plan, AreSizedFor, ArePinsApart, IsDrawn}
 use Rattle.std.specs.FinSet as set
-use Rattle.std.specs.FinSet.{len-empty}
-use Rattle.std.proofs.lemmas.List.{get_or-map, length-map, map-append}
-use Rattle.machine_shape.specs.declared.Shape.{Shape}
 use Rattle.machine_shape.specs.Vocabulary.{is_small, levels_of, pins_of, wires_of, tables_of, most_closed, most_repaired, most_ticks}
 use Rattle.machine_shape.proofs.HighLimits.{small_is}
 use Rattle.machine_shape.proofs.Totals.{wires_are}
 use Rattle.machine_config.specs.Configuration.{Configuration, IsConfiguration, setting_of}
-use Rattle.machine_image.specs.Images.{ImageValue, IsImage, tables_on}
 use Rattle.machine_image.proofs.Counted.{on_few, on_list, on_list_len, on_listed}
-use Rattle.place_plan.specs.declared.short.Port.{Port}
-use Rattle.place_plan.specs.declared.short.Visit.{Visit}
-use Rattle.place_plan.specs.Lists.{nth_of}
-use Rattle.place_repair.specs.declared.plan.Plan.{Plan}
-use Rattle.place_repair.specs.Making.{AreSizedFor, ArePinsApart, IsDrawn}
 use Rattle.place_repair.proofs.Placed.{off_at, on_within, some_none}
 
 -- pins that were moved by equal places, out of an equal list

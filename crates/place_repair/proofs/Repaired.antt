@@ -2,33 +2,19 @@
 use Rattle.std.proofs.Common.{◌≡◌, ◌≢◌, ◌⊎◌, ℕ, zero, suc, ◌<◌, ◌≤◌, true, Option, None, List, [], ◌++◌, length, get_or, map, replicate, refl, sym, ap, ◌∙◌, subst, inl, inr, arith, IsSome, ◌↔◌}
 use Rattle.std.specs.List.{All, Contains}
 use Rattle.std.specs.FinSet as set
-use Rattle.std.proofs.lemmas.List.{get_or-map, get_or_default, length-map, map-append}
+use Rattle.place_repair.proofs.Vocabulary.{get_or-map, get_or_default, length-map, map-append, Shape, DefectList, is_free_table, no_defects}
+use Rattle.place_repair.proofs.Vocabulary.{Setting, Configuration, is_closed, setting_of, cleared, with_ticks, ImageValue, IsImage}
+use Rattle.place_repair.proofs.Vocabulary.{IsFreeImage, Need, Port, Resource, Short, Visit, different_at, AreWiresOf, same_port, Plan}
+use Rattle.place_repair.proofs.Vocabulary.{Seats, HangTogether, HasSameRows, ArePinsAt, IsPortAt, IsRepair}
 use Rattle.std.proofs.lemmas.List.Elements.{All-contains, Contains-get_or, Contains-append_left, Contains-append_right}
-use Rattle.machine_shape.specs.declared.Shape.{Shape}
 use Rattle.machine_shape.specs.Vocabulary.{ends_of, wires_of, nodes_of, tables_of, pins_of, pin_wire, table_wire, IsNumbered}
 use Rattle.machine_meaning.specs.Vocabulary.{Joined, plain_net, Defects, IsFreeWire, IsFreeCross, IsFreeTable, Covers}
 use Rattle.machine_meaning.proofs.Faultless.{covers_none}
-use Rattle.machine_defects.specs.Lists.{DefectList, is_free_table, no_defects}
-use Rattle.machine_config.specs.declared.Setting.{Setting}
-use Rattle.machine_config.specs.Configuration.{Configuration, is_closed, setting_of, cleared, with_ticks}
-use Rattle.machine_image.specs.Vocabulary.{ImageValue, IsImage, IsFreeImage}
-use Rattle.place_plan.specs.declared.short.Need.{Need}
-use Rattle.place_plan.specs.declared.short.Port.{Port}
-use Rattle.place_plan.specs.declared.short.Resource.{Resource}
 use Rattle.place_plan.specs.declared.short.Resource.TheVariants.{Tables, Pins as PinsShort, Ports, Lines}
-use Rattle.place_plan.specs.declared.short.Short.{Short}
-use Rattle.place_plan.specs.declared.short.Visit.{Visit}
 use Rattle.place_plan.specs.Vocabulary.{AreWires, AreHeld, AreVisits, IsRoom, nth_of, HasTerminal, CrossesAt, Suffices, IsShortOf, IsFirstShort, IsMet}
 use Rattle.place_plan.specs.declared.short.Room.{Room}
-use Rattle.place_plan.proofs.Those.{different_at}
-use Rattle.place_route.specs.Routed.{AreWiresOf}
 use Rattle.place_route.proofs.Drawn.{Numbering, held}
-use Rattle.place_route.proofs.Ported.{same_port}
-use Rattle.place_repair.specs.declared.plan.Plan.{Plan}
-use Rattle.place_repair.specs.declared.seats.Seats.{Seats}
-use Rattle.place_repair.specs.Nets.{HangTogether}
 use Rattle.place_repair.specs.Plans.{Nets, AreSeats, AreNets, PinSits, TableSits, at_pin, at_table, IsTerminal, IsMoving, IsKeptWire, HasRoom, need_of, IsFirstShortBy, IsShortPlan}
-use Rattle.place_repair.specs.Repairs.{HasSameRows, ArePinsAt, IsPortAt, IsRepair}
 use Rattle.place_repair.specs.Making.{IsPlanOf, AreTerminalsOf, IsPinTerminal, IsTableTerminal, IsRestOf, HasStayingWire, IsKeptCross, IsRedrawn, AreSizedFor, AreApart, ArePinsApart}
 use Rattle.place_repair.proofs.Alike.{Moved, pin_at, table_at, Correspond, run_alike}
 use Rattle.place_repair.proofs.Hanging.{are_numbered}

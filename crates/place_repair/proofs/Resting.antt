@@ -1,16 +1,12 @@
 -- What a list of defects and the nets that stay leave free, listed one after the other.
 use Rattle.std.proofs.Common.{◌≡◌, ◌≢◌, ◌⊎◌, ℕ, ◌+◌, ◌<◌, Bool, true, false, not, ◌&&◌, ◌||◌, refl, sym, ap, ◌∙◌, subst, inl, inr, arith, ◌↔◌, if◌then◌else◌}
-use Rattle.std.specs.Cmp.{nat_cmp_total, unsigned_tied}
-use Rattle.std.specs.Ordering.{nat_cmp, eq_by_cmp}
+use Rattle.place_repair.proofs.Vocabulary.{nat_cmp_total, unsigned_tied, nat_cmp, eq_by_cmp, false≢true, cases_eq, or_cases, eq-eqb}
+use Rattle.place_repair.proofs.Vocabulary.{Defects, AreDefectsOf, IsFreeWire, IsFreeCross, Configuration, IsConfiguration, Plan}
 use Rattle.std.specs.FinSet as set
 use Rattle.std.specs.FinSet.{contains-insert, contains-empty, same_set, nat_cmp-IsAntisymmetric}
-use Rattle.std.proofs.lemmas.Bool.{false≢true, cases_eq, or_cases, eq-eqb}
 use Rattle.machine_shape.specs.Vocabulary.{ends_of, wires_of, crosses_of, IsNumbered}
-use Rattle.machine_meaning.specs.Defects.{Defects, AreDefectsOf, IsFreeWire, IsFreeCross}
 use Rattle.machine_defects.specs.Lists.{DefectList, IsWithWire, no_defects, is_free_wire, has_free_ends, with_cross}
-use Rattle.machine_config.specs.Configuration.{Configuration, IsConfiguration}
 use Rattle.machine_config.proofs.Changes.{same_number}
-use Rattle.place_repair.specs.declared.plan.Plan.{Plan}
 use Rattle.place_repair.specs.Making.{AreNetsOf, HasStayingWire, IsTaken, IsWireRest, IsCrossRest, IsRestOf}
 use Rattle.place_repair.proofs.Hanging.{has_within}
 

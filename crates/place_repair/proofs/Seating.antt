@@ -2,23 +2,11 @@
 use Rattle.std.proofs.Common.{◌≡◌, ◌≢◌, ◌⊎◌, ℕ, zero, suc, ◌<◌, ◌≤◌, Bool, true, false, cond, not, List, [], ◌∷◌, ◌++◌, length, get_or, All, refl, sym, ap, ◌∙◌, subst, inl, inr, arith, IsSome, None, Option, ◌↔◌}
 use Rattle.std.specs.List.{AllPairs, Contains, filter}
 use Rattle.std.specs.FinSet as set
-use Rattle.std.proofs.lemmas.Bool.{false≢true, cases_eq}
-use Rattle.std.proofs.lemmas.List.{get_or_default}
-use Rattle.std.proofs.lemmas.List.Elements.{All-filter, filter_passes}
+use Rattle.place_repair.proofs.Vocabulary.{false≢true, cases_eq, get_or_default, All-filter, filter_passes, Shape, pin_wire, table_wire}
+use Rattle.place_repair.proofs.Vocabulary.{pins_of, tables_of, Defects, IsFreeTable, is_free_table, Setting, setting_of, ImageValue}
+use Rattle.place_repair.proofs.Vocabulary.{IsImage, Uses, at_pin, nth_of, IsFreePin, different_at, same_place, Moves, Seats, ArePlaces}
 use Rattle.std.proofs.lemmas.List.Kept.{AllPairs-filter}
-use Rattle.machine_shape.specs.declared.Shape.{Shape}
-use Rattle.machine_shape.specs.Shape.{pin_wire, table_wire, pins_of, tables_of}
-use Rattle.machine_meaning.specs.Defects.{Defects, IsFreeTable}
-use Rattle.machine_defects.specs.Lists.{is_free_table}
-use Rattle.machine_config.specs.declared.Setting.{Setting}
-use Rattle.machine_config.specs.Configuration.{setting_of}
-use Rattle.machine_image.specs.Vocabulary.{ImageValue, IsImage, Uses, at_pin}
-use Rattle.place_plan.specs.Vocabulary.{nth_of, IsFreePin}
-use Rattle.place_plan.proofs.Those.{different_at, same_place}
-use Rattle.place_repair.specs.declared.seats.Moves.{Moves}
-use Rattle.place_repair.specs.declared.seats.Seats.{Seats}
 use Rattle.place_repair.specs.Plans.{is_gone_pin, AreSeats, SitsAt, stays, goes, TableSits, PinSits}
-use Rattle.place_repair.specs.Making.{ArePlaces}
 use Rattle.place_repair.proofs.Placed.{on_within}
 
 -- what is known of those that go and of the places for them: `old` are all, of which some go

@@ -1,8 +1,6 @@
 -- Of all numbers those that have a property, one after the other.
 use Rattle.std.proofs.Common.{◌≡◌, ℕ, ◌+◌, ◌<◌, Bool, true, false, List, [], ◌∷◌, ◌++◌, if◌then◌else◌, sym, ◌∙◌, subst, refl, inl, inr, arith, ◌↔◌}
-use Rattle.std.proofs.lemmas.Bool.{false≢true, cases_eq}
-use Rattle.place_plan.specs.Lists.{AreThose, IsAmongFirst, same_number}
-use Rattle.place_plan.proofs.Those.{those_same, those_none, those_push}
+use Rattle.place_repair.proofs.Vocabulary.{false≢true, cases_eq, AreThose, IsAmongFirst, same_number, those_same, those_none, those_push}
 
 none_below : (k : ℕ) → k < 0 → ⊥
 none_below k lt = omega arith

@@ -1,12 +1,7 @@
 -- Which tables and pins are spare, by marks on the wires that are used.
 use Rattle.std.proofs.Common.{◌≡◌, ◌≢◌, ◌⊎◌, ℕ, ◌+◌, Bool, true, false, Option, Some, None, List, get_or, refl, sym, ap, ◌∙◌, inl, inr, arith, is_some}
 use Rattle.std.proofs.lemmas.Bool.{false≢true, cases_eq}
-use Rattle.machine_shape.specs.declared.Shape.{Shape}
-use Rattle.machine_shape.specs.Shape.{table_wire, wires_of}
-use Rattle.machine_config.specs.declared.Setting.{Setting}
-use Rattle.machine_image.specs.Vocabulary.{ImageValue, Uses}
-use Rattle.place_repair.specs.Making.{IsUnusedTo}
-use Rattle.place_repair.specs.Marks.{AreMarks}
+use Rattle.place_repair.proofs.Vocabulary.{Shape, table_wire, wires_of, Setting, ImageValue, Uses, IsUnusedTo, AreMarks}
 
 -- a table that isn't on is off
 pub off_is : (o : Option Setting) → is_some o ≡ false → o ≡ None

@@ -1,9 +1,7 @@
 -- A wire is listed where it isn't free.
 use Rattle.std.proofs.Common.{◌≡◌, ℕ, Bool, true, false, not, refl, sym, ap, ◌∙◌, ◌↔◌}
 use Rattle.std.specs.FinSet as set
-use Rattle.std.proofs.lemmas.Bool.{false≢true}
-use Rattle.machine_meaning.specs.Defects.{Defects, IsFreeWire}
-use Rattle.machine_defects.specs.Lists.{is_free_wire}
+use Rattle.place_repair.proofs.Vocabulary.{false≢true, Defects, IsFreeWire, is_free_wire}
 
 pub unfree_listed : (d : Defects) (w : ℕ) (free : Bool) → (free ≡ true) ↔ IsFreeWire d w → free ≡ false → set.contains d.wires w ≡ true
 unfree_listed d w free tells off = by (set.contains d.wires w) refl

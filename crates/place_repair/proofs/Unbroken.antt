@@ -1,18 +1,10 @@
 -- Which nets are kept: those without a closed crosspoint and a table that isn't free.
 use Rattle.std.proofs.Common.{◌≡◌, ◌≢◌, ◌⊎◌, ℕ, ◌+◌, ◌<◌, ◌≤◌, Bool, true, false, List, length, get_or, refl, sym, ◌∙◌, subst, inl, inr, arith, IsSome, is_some, ◌↔◌, ◌==◌, if◌then◌else◌, count_by}
-use Rattle.std.proofs.lemmas.Bool.{false≢true, cases_eq}
-use Rattle.machine_shape.specs.declared.Cross.{Cross}
-use Rattle.machine_shape.specs.declared.Table.{Table}
+use Rattle.place_repair.proofs.Vocabulary.{false≢true, cases_eq, Cross, Table, Defects, IsFreeWire, IsFreeCross, IsFreeTable, is_free_cross}
+use Rattle.place_repair.proofs.Vocabulary.{is_free_table, Configuration, is_closed, setting_of, ImageValue, IsImage, AreThose, IsEnd}
+use Rattle.place_repair.proofs.Vocabulary.{as_tap, as_line, IsLowest, HasWire, IsKept, AreMoves, AreMarks, IsMarked, IsOfFirst}
 use Rattle.machine_shape.specs.Vocabulary.{ends_of, table_wire, pin_wire, IsNumbered}
-use Rattle.machine_meaning.specs.Defects.{Defects, IsFreeWire, IsFreeCross, IsFreeTable}
-use Rattle.machine_defects.specs.Lists.{is_free_cross, is_free_table}
-use Rattle.machine_config.specs.Configuration.{Configuration, is_closed, setting_of}
-use Rattle.machine_image.specs.Images.{ImageValue, IsImage}
-use Rattle.place_plan.specs.Lists.{AreThose}
-use Rattle.place_repair.specs.Nets.{IsEnd, as_tap, as_line, IsLowest, HasWire, IsKept}
-use Rattle.place_repair.specs.Plans.{AreMoves}
 use Rattle.place_repair.specs.Making.{IsUnfreeCross, IsUnfreeCrossOf, IsUnfreeTable, IsBrokenBy, IsBrokenHere, IsBroken, no_cross, no_table}
-use Rattle.place_repair.specs.Marks.{AreMarks, IsMarked, IsOfFirst}
 use Rattle.place_repair.proofs.Hanging.{has_end, line_to_tap}
 use Rattle.place_repair.proofs.Marking.{marked_same, marked_then, first_all, all_first}
 use Rattle.place_repair.proofs.Using.{on_is, is_on}

@@ -1,19 +1,11 @@
 -- Which wires are used, by lists of what uses them.
 use Rattle.std.proofs.Common.{◌≡◌, ◌≢◌, ◌⊎◌, ℕ, ◌+◌, ◌<◌, ◌≤◌, Bool, true, false, Some, None, Option, List, ◌++◌, length, get_or, refl, sym, ap, ◌∙◌, subst, inl, inr, arith, IsSome, is_some, ◌==◌, if◌then◌else◌, count_by}
-use Rattle.std.proofs.lemmas.Bool.{cases_eq, false≢true}
-use Rattle.std.proofs.lemmas.List.{get_or_default}
+use Rattle.place_repair.proofs.Vocabulary.{cases_eq, false≢true, get_or_default, Cross, Shape, Table, pin_wire, table_wire, tables_of}
+use Rattle.place_repair.proofs.Vocabulary.{wires_of, Setting, of_list, AreMarks, IsMarked, IsThis, IsOfFirst, IsEnd, as_tap, as_line}
 use Rattle.std.proofs.lemmas.List.Elements.{Contains-get_or, Contains-append_left, Contains-append_right, Contains-append_cases}
-use Rattle.machine_shape.specs.declared.Cross.{Cross}
-use Rattle.machine_shape.specs.declared.Shape.{Shape}
-use Rattle.machine_shape.specs.declared.Table.{Table}
-use Rattle.machine_shape.specs.Shape.{pin_wire, table_wire, tables_of, wires_of}
-use Rattle.machine_config.specs.declared.Setting.{Setting}
 use Rattle.machine_config.specs.Configuration.{Configuration, IsConfiguration, is_closed, setting_of}
 use Rattle.machine_image.specs.Vocabulary.{ImageValue, Uses, at_pin, at_tap, at_line, at_table}
-use Rattle.machine_image.proofs.Keyed.{of_list}
 use Rattle.place_repair.specs.Making.{IsEndOf, IsPinOf, IsTablePin, IsOnPin, IsSeatPin, no_cross, no_table}
-use Rattle.place_repair.specs.Marks.{AreMarks, IsMarked, IsThis, IsOfFirst}
-use Rattle.place_repair.specs.Nets.{IsEnd, as_tap, as_line}
 use Rattle.place_repair.proofs.Placed.{on_within}
 use Rattle.place_repair.proofs.Marking.{marked_same, marked_then, marked_both, more_marks, first_all, all_first}
 

@@ -2,25 +2,17 @@
 use Rattle.std.specs.Prelude.{◌≡◌, ◌≢◌, ◌⊎◌, ◌↔◌, ℕ, ◌<◌, ◌≤◌, Bool, true, false, List, ◌++◌, length, map, IsSome, slice_index_or}
 use Rattle.std.specs.List.{Contains, AllPairs}
 use Rattle.std.specs.FinSet as set
-use Rattle.machine_shape.specs.declared.Cross.{Cross}
-use Rattle.machine_shape.specs.declared.Shape.{Shape}
-use Rattle.machine_shape.specs.declared.Table.{Table}
+use Rattle.machine_shape.specs.declared.{Cross.Cross, Shape.Shape, Table.Table}
 use Rattle.machine_shape.specs.Shape.{ends_of, wires_of, pins_of, pin_wire, table_wire, tables_of}
 use Rattle.machine_meaning.specs.Defects.{Defects, IsFreeCross, IsFreeTable, IsFreeWire}
 use Rattle.machine_defects.specs.Lists.{DefectList}
 use Rattle.machine_config.specs.Configuration.{Configuration, is_closed, setting_of, with_ticks}
 use Rattle.machine_image.specs.Images.{ImageValue, IsImage}
 use Rattle.place_plan.specs.declared.short.Port.{Port}
-use Rattle.place_plan.specs.declared.short.Visit.{Visit}
-use Rattle.place_plan.specs.Vocabulary.{AreThose, nth_of, HasTerminal}
+use Rattle.place_plan.specs.{declared.short.Visit.Visit, Vocabulary.AreThose, Vocabulary.nth_of, Vocabulary.HasTerminal}
 use Rattle.place_route.specs.Vocabulary.{Closes, IsJoined}
-use Rattle.place_repair.specs.declared.nets.NetList.{NetList}
-use Rattle.place_repair.specs.declared.plan.Plan.{Plan}
-use Rattle.place_repair.specs.declared.seats.Moves.{Moves}
-use Rattle.place_repair.specs.declared.seats.Seats.{Seats}
-use Rattle.place_repair.specs.Groups.{AreLowest}
-use Rattle.place_repair.specs.Marks.{AreMarks, HasMark}
-use Rattle.place_repair.specs.Nets.{HasWire, IsEnd, IsLowest}
+use Rattle.place_repair.specs.{declared.nets.NetList.NetList, Marks.AreMarks, Marks.HasMark, Nets.HasWire, Nets.IsEnd, Nets.IsLowest}
+use Rattle.place_repair.specs.{declared.plan.Plan.Plan, declared.seats.Moves.Moves, declared.seats.Seats.Seats, Groups.AreLowest}
 use Rattle.place_repair.specs.Plans.{AreMoves}
 
 -- ---- wires that are used

@@ -2,20 +2,15 @@
 use Rattle.std.specs.Prelude.{◌≡◌, ◌↔◌, ℕ, ◌<◌, Bool, true, false, not, List, length, ◌++◌, IsSome, None, slice_index_or}
 use Rattle.std.specs.List.{Contains, filter}
 use Rattle.std.specs.FinSet as set
-use Rattle.machine_shape.specs.declared.Shape.{Shape}
-use Rattle.machine_shape.specs.Shape.{ends_of, pin_wire, table_wire, pins_of, tables_of}
+use Rattle.machine_shape.specs.{declared.Shape.Shape, Shape.ends_of, Shape.pin_wire, Shape.table_wire, Shape.pins_of, Shape.tables_of}
 use Rattle.machine_meaning.specs.Defects.{Defects, IsFreeWire, IsFreeTable}
 use Rattle.machine_defects.specs.Lists.{is_free_wire}
 use Rattle.machine_config.specs.Configuration.{setting_of}
 use Rattle.machine_image.specs.Vocabulary.{ImageValue, Uses}
-use Rattle.place_plan.specs.declared.short.Need.{Need}
-use Rattle.place_plan.specs.declared.short.Resource.{Resource}
-use Rattle.place_plan.specs.declared.short.Resource.TheVariants.{Tables, Pins, Ports, Lines}
-use Rattle.place_plan.specs.declared.short.Short.{Short}
+use Rattle.place_plan.specs.declared.short.{Need.Need, Short.Short}
+use Rattle.place_plan.specs.declared.short.Resource.{Resource, TheVariants.Tables, TheVariants.Pins, TheVariants.Ports, TheVariants.Lines}
 use Rattle.place_plan.specs.Vocabulary.{AreThose, IsNth, IsFreePin, HasTerminal, IsMet, IsUnmet, IsShortOf, Suffices}
-use Rattle.place_repair.specs.declared.seats.Moves.{Moves}
-use Rattle.place_repair.specs.declared.seats.Seats.{Seats}
-use Rattle.place_repair.specs.Nets.{HasWire, AreNumbered, IsKept}
+use Rattle.place_repair.specs.{declared.seats.Moves.Moves, declared.seats.Seats.Seats, Nets.HasWire, Nets.AreNumbered, Nets.IsKept}
 
 -- ---- tables and pins
 

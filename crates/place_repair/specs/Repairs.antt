@@ -5,12 +5,10 @@ use Rattle.machine_shape.specs.Shape.{ends_of, nodes_of, IsPort}
 use Rattle.machine_meaning.specs.Vocabulary.{Faults, IsFaultless, Pins, Defects, Covers}
 use Rattle.machine_config.specs.Vocabulary.{is_closed, setting_of, IsRun}
 use Rattle.machine_image.specs.Images.{ImageValue, drive_of, image_row}
-use Rattle.place_plan.specs.declared.short.PlaceFail.{PlaceFail}
+use Rattle.place_plan.specs.declared.short.{PlaceFail.PlaceFail, Visit.Visit}
 use Rattle.place_plan.specs.declared.short.PlaceFail.TheVariants as fail
-use Rattle.place_plan.specs.declared.short.Visit.{Visit}
 use Rattle.place_plan.specs.Vocabulary.{AreVisits, nth_of, HasTerminal, CrossesAt, HasPort, IsTapOf}
-use Rattle.place_repair.specs.declared.seats.Seats.{Seats}
-use Rattle.place_repair.specs.Nets.{HangTogether, HasWire}
+use Rattle.place_repair.specs.{declared.seats.Seats.Seats, Nets.HangTogether, Nets.HasWire}
 use Rattle.place_repair.specs.Plans.{AreSeats, AreNets, HasRoom, IsKeptWire, IsShortPlan, IsStaying, Nets, PinSits, TableSits}
 
 -- Under all faults that the list covers, the new image reads at its output pins what the old one reads without faults at its own, each

@@ -1,11 +1,7 @@
 -- A path of tables passes none twice, so a network is no deeper than it has tables.
 use Rattle.std.proofs.Common.{◌≡◌, ◌≢◌, ◌⊎◌, ℕ, zero, suc, ◌+◌, ◌<◌, ◌≤◌, List, [], ◌∷◌, length, get_or, refl, sym, ◌∙◌, subst, inl, inr, arith}
-use Rattle.std.specs.List.{All, AllPairs, Contains}
-use Rattle.std.proofs.lemmas.List.{get_or_default}
-use Rattle.map_network.specs.declared.source.Source.TheVariants.{Table}
-use Rattle.map_network.specs.declared.network.Network.{Network}
+use Rattle.place_route.proofs.Vocabulary.{All, AllPairs, Contains, get_or_default, Table, Network, few_below}
 use Rattle.map_network.specs.Vocabulary.{IsCombinational, IsPath, alone, onward, IsDeepest, table_at, IsDepth}
-use Rattle.place_plan.proofs.PlanNets.{few_below}
 
 module _ (n : Network) where
   -- the tables of a path, from its end

@@ -1,20 +1,10 @@
 -- Nets of lists, with ports and lines, are laid on the tree by the crosspoints that are closed for them.
 use Rattle.std.proofs.Common.{◌≡◌, ◌≢◌, ◌⊎◌, ℕ, ◌*◌, ◌<◌, ◌≤◌, true, Some, None, Option, IsSome, List, length, get_or, refl, sym, ap, ◌∙◌, subst, inl, inr, arith, ◌↔◌}
-use Rattle.std.specs.List.{All}
-use Rattle.std.specs.BTreeMap.{BTreeMap}
+use Rattle.place_route.proofs.Vocabulary.{All, BTreeMap, contains-empty, nat_cmp, false≢true, cases_lt, get_or_past, All-contains, Shape}
+use Rattle.place_route.proofs.Vocabulary.{Defects, IsFreeCross, Configuration, is_closed, cleared, Port, Visit}
 use Rattle.std.specs.FinSet as set
-use Rattle.std.specs.FinSet.{contains-empty}
-use Rattle.std.specs.Ordering.{nat_cmp}
-use Rattle.std.proofs.lemmas.Bool.{false≢true, cases_lt}
-use Rattle.std.proofs.lemmas.List.{get_or_past}
-use Rattle.std.proofs.lemmas.List.Elements.{All-contains}
-use Rattle.machine_shape.specs.declared.Shape.{Shape}
 use Rattle.machine_shape.specs.Shape as meaning
 use Rattle.machine_shape.specs.Vocabulary.{wires_of, crosses_of, nodes_of, node_of, parent_of, ends_of, IsLine, IsPort, IsTap, tap_pin, tap_port, tap_child, tap_table, IsNumbered, IsTree, HasParents, HasTaps, HasCrosses, HasMeanings, HasSites}
-use Rattle.machine_meaning.specs.Defects.{Defects, IsFreeCross}
-use Rattle.machine_config.specs.Configuration.{Configuration, is_closed, cleared}
-use Rattle.place_plan.specs.declared.short.Port.{Port}
-use Rattle.place_plan.specs.declared.short.Visit.{Visit}
 use Rattle.place_plan.specs.Vocabulary.{AreWires, AreHeld, AreVisits, HasTerminal, CrossesAt, VisitsAt, HasPort, Serves, Crosses, Visits, visit_for, port_for}
 use Rattle.place_plan.specs.Room as room
 use Rattle.place_route.specs.Vocabulary.{IsNetTap, by_terminal, by_child, by_port, IsLaidOnTree, AreTerminals, owner_at, AreOwners, Holds, HasLine, AreLines, line_in, Closes, IsJoint, IsNear, IsOwnedJoint, AreWiresOf, IsJoined, HasPortIn}

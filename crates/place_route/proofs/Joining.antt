@@ -1,15 +1,10 @@
 -- What closing crosspoints one after another comes to.
 use Rattle.std.proofs.Common.{◌≡◌, ◌≢◌, ◌⊎◌, ℕ, ◌+◌, ◌*◌, ◌<◌, ◌≤◌, Bool, true, false, cond, Some, None, Option, List, refl, sym, ap, ◌∙◌, subst, inl, inr, arith}
-use Rattle.std.specs.BTreeMap.{BTreeMap}
+use Rattle.place_route.proofs.Vocabulary.{BTreeMap, contains, contains-insert, len-insert, nat_cmp-IsAntisymmetric, nat_cmp_total, Equal-is}
+use Rattle.place_route.proofs.Vocabulary.{unsigned_tied, nat_cmp, eq_by_cmp, or_cases, eq-eqb, cases_eq, Shape, crosses_of, ends_of}
+use Rattle.place_route.proofs.Vocabulary.{node_of, parent_of, HasCrosses, Configuration, is_closed, with_closed}
 use Rattle.std.specs.FinSet as set
-use Rattle.std.specs.FinSet.{contains, contains-insert, len-insert, nat_cmp-IsAntisymmetric}
-use Rattle.std.specs.Cmp.{nat_cmp_total, Equal-is, unsigned_tied}
-use Rattle.std.specs.Ordering.{nat_cmp, eq_by_cmp}
 use Rattle.std.proofs.Math.Bool.{or-true}
-use Rattle.std.proofs.lemmas.Bool.{or_cases, eq-eqb, cases_eq}
-use Rattle.machine_shape.specs.declared.Shape.{Shape}
-use Rattle.machine_shape.specs.Vocabulary.{crosses_of, ends_of, node_of, parent_of, HasCrosses}
-use Rattle.machine_config.specs.Configuration.{Configuration, is_closed, with_closed}
 use Rattle.place_route.specs.Vocabulary.{owner_at, line_in, Closes, IsJoint, IsNear, IsWireJoint, IsJointAt, IsOwnedJoint}
 
 module _ (g : Configuration) (x : ℕ) where

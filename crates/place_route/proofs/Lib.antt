@@ -17,3 +17,4 @@ mod Limits
 mod Lining
 mod Seats
 mod Deep
+mod Vocabulary

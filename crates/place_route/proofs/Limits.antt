@@ -1,23 +1,11 @@
 -- The image of a route is within the limits of its machine.
 use Rattle.std.proofs.Common.{◌≡◌, ◌⊎◌, ℕ, ◌*◌, ◌<◌, ◌≤◌, Bool, true, false, if◌then◌else◌, IsSome, length, sym, ◌∙◌, subst, inl, inr, arith, List}
-use Rattle.std.specs.List.{Contains}
+use Rattle.place_route.proofs.Vocabulary.{Contains, false≢true, cases_Bool, get_or_default, length-map, Shape, is_small, levels_of}
+use Rattle.place_route.proofs.Vocabulary.{most_closed, most_ticks, wires_of, small_is, Defects, Configuration, setting_of, tables_on}
+use Rattle.place_route.proofs.Vocabulary.{Network, Plan, Port, Visit, IsPlan, places, place_of, number_of, IsRouted}
 use Rattle.std.specs.FinSet as set
-use Rattle.std.proofs.lemmas.Bool.{false≢true, cases_Bool}
-use Rattle.std.proofs.lemmas.List.{get_or_default, length-map}
-use Rattle.machine_shape.specs.declared.Shape.{Shape}
-use Rattle.machine_shape.specs.Vocabulary.{is_small, levels_of, most_closed, most_ticks, wires_of}
-use Rattle.machine_shape.proofs.HighLimits.{small_is}
 use Rattle.machine_shape.proofs.Totals.{wires_are}
-use Rattle.machine_meaning.specs.Defects.{Defects}
-use Rattle.machine_config.specs.Configuration.{Configuration, setting_of}
-use Rattle.machine_image.specs.Images.{tables_on}
 use Rattle.machine_image.proofs.Counted.{on_few}
-use Rattle.map_network.specs.declared.network.Network.{Network}
-use Rattle.place_plan.specs.declared.plan.Plan.{Plan}
-use Rattle.place_plan.specs.declared.short.Port.{Port}
-use Rattle.place_plan.specs.declared.short.Visit.{Visit}
-use Rattle.place_plan.specs.Plans.{IsPlan, places, place_of, number_of}
-use Rattle.place_route.specs.Vocabulary.{IsRouted}
 
 small_wires : (m : Shape) → is_small m.counts ≡ true → wires_of m ≤ 16384
 unfolding wires_of levels_of

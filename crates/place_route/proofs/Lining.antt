@@ -1,17 +1,12 @@
 -- The map of lines, one visit after another.
 use Rattle.std.proofs.Common.{◌≡◌, ◌⊎◌, ℕ, Bool, true, false, cond, Some, None, Option, IsSome, List, [], ◌∷◌, ◌++◌, refl, sym, ap, ◌∙◌, subst, inl, inr, arith}
-use Rattle.std.specs.List.{Contains}
+use Rattle.place_route.proofs.Vocabulary.{Contains, BTreeMap, is_at, eq_by_cmp_equiv, Visit, visit_for, line_in, HasLine, AreLines, IsPut}
 use Rattle.std.specs.Map.{lookup}
 use Rattle.std.specs.BTreeMap as tree
-use Rattle.std.specs.BTreeMap.{BTreeMap, is_at}
-use Rattle.std.specs.Cmp.{eq_by_cmp_equiv}
 use Rattle.std.proofs.lemmas.List.Elements.{Contains-append_left, Contains-push, Contains-push_cases}
 use Rattle.std.proofs.lemmas.Map.Views.{tells_apart}
 use Rattle.machine_meaning.specs.Faults.{pair_cmp}
 use Rattle.machine_meaning.proofs.Pairs.{pairs_total, pairs_exact}
-use Rattle.place_plan.specs.declared.short.Visit.{Visit}
-use Rattle.place_plan.specs.Room.{visit_for}
-use Rattle.place_route.specs.Owners.{line_in, HasLine, AreLines, IsPut}
 
 abbrev Lines : Type 0
 Lines = BTreeMap (ℕ × ℕ) ℕ

@@ -1,13 +1,7 @@
 -- What a search for room gives to a route.
-use Rattle.std.proofs.Common.{◌≡◌, refl, subst, Option, None, Some, IfNone, IfSome, IsSome}
-use Rattle.machine_shape.specs.declared.Shape.{Shape}
-use Rattle.machine_shape.specs.Vocabulary.{IsNumbered, IsTree, HasParents, HasTaps, HasCrosses, HasMeanings, HasSites}
-use Rattle.machine_meaning.specs.Defects.{Defects}
-use Rattle.map_network.specs.declared.network.Network.{Network}
-use Rattle.place_plan.specs.declared.layout.Layout.{Layout}
-use Rattle.place_plan.specs.declared.plan.Plan.{Plan}
-use Rattle.place_plan.specs.Laying.{FitsWith, IsLayout}
-use Rattle.place_route.specs.Routed.{IsLaidBy}
+use Rattle.place_route.proofs.Vocabulary.{◌≡◌, refl, subst, Option, None, Some, IfNone, IfSome, IsSome, Shape, IsNumbered, IsTree}
+use Rattle.place_route.proofs.Vocabulary.{HasParents, HasTaps, HasCrosses, HasMeanings, HasSites, Defects, Network, Plan, IsLaidBy}
+use Rattle.place_plan.specs.{declared.layout.Layout.Layout, Laying.FitsWith, Laying.IsLayout}
 use Rattle.place_route.proofs.Drawn.{Numbering}
 
 pub numbering : ((m : Shape) → IsNumbered m) → ((m : Shape) → IsTree m) → ((m : Shape) → HasParents m) → ((m : Shape) → HasMeanings m) → ((m : Shape) → HasTaps m) → ((m : Shape) → HasCrosses m) → ((m : Shape) → HasSites m) → (m : Shape) → Numbering m

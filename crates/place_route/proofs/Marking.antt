@@ -1,14 +1,8 @@
 -- Giving wires to nets.
 use Rattle.std.proofs.Common.{◌≡◌, ◌≢◌, ◌⊎◌, ℕ, ◌+◌, ◌<◌, ◌≤◌, Some, None, Option, List, [], ◌∷◌, ◌++◌, length, get_or, set, replicate, refl, sym, ap, ◌∙◌, subst, inl, inr, arith}
-use Rattle.std.specs.List.{Contains}
-use Rattle.std.proofs.lemmas.Bool.{cases_eq, cases_lt}
+use Rattle.place_route.proofs.Vocabulary.{Contains, cases_eq, cases_lt, Shape, wires_of, Port, HasTerminal, port_for, not_in_nil}
 use Rattle.std.proofs.lemmas.List.{get_or-set_same, get_or-set_other, get_or_past, get_or-replicate, length-set, length-replicate}
 use Rattle.std.proofs.lemmas.List.Elements.{Contains-append_left, Contains-push, Contains-push_cases}
-use Rattle.machine_shape.specs.declared.Shape.{Shape}
-use Rattle.machine_shape.specs.Shape.{wires_of}
-use Rattle.place_plan.specs.declared.short.Port.{Port}
-use Rattle.place_plan.specs.Room.{HasTerminal, port_for}
-use Rattle.place_plan.proofs.Those.{not_in_nil}
 use Rattle.place_route.specs.Owners.{owner_at, IsMarked, IsClaimedBy, HoldsPort, Holds, AreOwners}
 
 pub marked_none : (claims : ℕ → ℕ → Type 0) (owners : List (Option ℕ)) → ((k w : ℕ) → claims k w → ⊥) → IsMarked claims owners owners

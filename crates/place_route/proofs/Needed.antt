@@ -1,17 +1,8 @@
 -- A route closes and switches on nothing idle, where its plan fits.
-use Rattle.std.proofs.Common.{◌≡◌, ℕ, ◌<◌, true, subst}
-use Rattle.std.proofs.lemmas.List.Elements.{All-contains}
-use Rattle.machine_shape.specs.declared.Shape.{Shape}
-use Rattle.machine_shape.specs.Vocabulary.{nodes_of, ends_of, IsNumbered, HasParents}
-use Rattle.machine_meaning.specs.Defects.{Defects}
-use Rattle.machine_config.specs.Configuration.{is_closed}
-use Rattle.machine_image.specs.Images.{ImageValue}
-use Rattle.map_network.specs.declared.network.Network.{Network}
-use Rattle.map_network.specs.Networks.{IsNetwork}
-use Rattle.place_plan.specs.declared.plan.Plan.{Plan}
+use Rattle.place_route.proofs.Vocabulary.{◌≡◌, ℕ, ◌<◌, true, subst, All-contains, Shape, nodes_of, ends_of, IsNumbered, HasParents, Defects}
+use Rattle.place_route.proofs.Vocabulary.{is_closed, ImageValue, Network, IsNetwork, Plan, terminal_within}
 use Rattle.place_plan.specs.Vocabulary.{Fits, IsPlan, IsTerminal, nets_in, CrossesAt, HasPort, port_for}
 use Rattle.place_plan.specs.Room as room
-use Rattle.place_plan.proofs.PlanNets.{terminal_within}
 use Rattle.place_route.specs.Vocabulary.{IsNetTap, by_terminal, by_child, by_port, HasLine, HasPortIn, IsRouteOf, IsRoutedFor}
 use Rattle.place_route.proofs.Ported.{same_port, crossed_within}
 

@@ -1,12 +1,8 @@
 -- Nets that are laid on the tree stay apart, and each hangs together.
-use Rattle.std.proofs.Common.{◌≡◌, ◌≢◌, ℕ, Bool, true, Some, refl, sym, ap, ◌∙◌, subst}
+use Rattle.place_route.proofs.Vocabulary.{◌≡◌, ◌≢◌, ℕ, Bool, true, Some, refl, sym, ap, ◌∙◌, subst, Shape, in_order, ends_of, node_of}
+use Rattle.place_route.proofs.Vocabulary.{parent_of, IsTree, Joined, here, then, crossed, plain_net, NetSide, Own, Child, Outside}
 use native.Mathlib.Decide.{ℕ_discrete}
-use Rattle.machine_shape.specs.declared.Shape.{Shape}
-use Rattle.machine_shape.specs.Vocabulary.{in_order, ends_of, node_of, parent_of, IsTree}
-use Rattle.machine_meaning.specs.Joined.{Joined, here, then, crossed, plain_net}
 use Rattle.machine_meaning.proofs.JoinedLemmas.{Joined-trans, Joined-sym}
-use Rattle.place_plan.specs.declared.tree.NetSide.{NetSide}
-use Rattle.place_plan.specs.declared.tree.NetSide.TheVariants.{Own, Child, Outside}
 use Rattle.place_plan.specs.Strands.{IsInside, IsAt, at_own, at_child, at_outside, Crosses, IsStrand}
 use Rattle.place_plan.proofs.Upward.{IsUp, stay, up, up_of, higher, above_of, not_in_child, one_child}
 use Rattle.place_route.specs.Trees.{IsNetTap, by_terminal, by_child, by_port, IsLaidOnTree, IsOfNet, as_terminal, as_line, as_port, AreTerminals}

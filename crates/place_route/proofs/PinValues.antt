@@ -1,21 +1,14 @@
 -- What pins read, where nets are laid on free parts.
 use Rattle.std.proofs.Common.{◌≡◌, ◌⊎◌, ℕ, ◌+◌, ◌<◌, Bool, true, false, Some, None, Option, List, length, get_or, refl, sym, ap, ◌∙◌, subst, inl, inr, arith}
-use Rattle.std.proofs.lemmas.Bool.{false≢true, cases_Bool}
+use Rattle.place_route.proofs.Vocabulary.{false≢true, cases_Bool, drive_on, drive_pin, drive_low, Source, Input, Table, Network, IsNetwork}
+use Rattle.place_route.proofs.Vocabulary.{IsSourceOf, bit_of, Plan, net_of, place_of, places, number_of, driver_of, drives}
 use Rattle.std.proofs.lemmas.List.{get_or_append_left, get_or-append-add, length-append, length-map}
 use Rattle.machine_shape.specs.Vocabulary.{Ends, in_order, turned, ends_of, pin_wire, table_wire, pins_of, tables_of, crosses_of, IsNumbered}
 use Rattle.machine_meaning.specs.Vocabulary.{Faults, Joined, here, plain_net, Outputs, Pulls, by_pin, by_table, IsHeld, IsPulled, IsValue, held_0, held_1, pulled, released, Defects, IsFreeWire, IsFreeCross, IsFreeTable, Covers}
 use Rattle.machine_meaning.proofs.Values.{IsValue-along}
 use Rattle.machine_meaning.proofs.Covered.{none_stuck, joined_plainly}
 use Rattle.machine_config.specs.Vocabulary.{Configuration, is_closed, setting_of, circuit_of}
-use Rattle.machine_image.specs.Images.{drive_on}
-use Rattle.machine_image.proofs.Driven.{drive_pin, drive_low}
 use Rattle.machine_image.proofs.FreeWires.{IsGood, IsOff, joined_too, keeps}
-use Rattle.map_network.specs.declared.source.Source.{Source}
-use Rattle.map_network.specs.declared.source.Source.TheVariants.{Input, Table}
-use Rattle.map_network.specs.declared.network.Network.{Network}
-use Rattle.map_network.specs.Vocabulary.{IsNetwork, IsSourceOf, bit_of}
-use Rattle.place_plan.specs.declared.plan.Plan.{Plan}
-use Rattle.place_plan.specs.Plans.{net_of, place_of, places, number_of, driver_of, drives}
 use Rattle.place_route.specs.Layouts.{reader_of, IsLaidOut}
 
 -- sources of one net are one

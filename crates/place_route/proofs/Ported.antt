@@ -1,17 +1,9 @@
 -- Ports and lines of nets, by their lists.
 use Rattle.std.proofs.Common.{◌≡◌, ◌≢◌, ◌⊎◌, ℕ, ◌<◌, List, length, get_or, refl, sym, ap, ◌∙◌, subst, inl, inr, arith}
-use Rattle.std.specs.List.{AllPairs, Contains}
-use Rattle.std.proofs.lemmas.Bool.{cases_order}
-use Rattle.std.proofs.lemmas.List.{get_or_default}
-use Rattle.machine_shape.specs.declared.Shape.{Shape}
+use Rattle.place_route.proofs.Vocabulary.{AllPairs, Contains, cases_order, get_or_default, Shape, Defects, Visit, NetSide, Own, Child}
+use Rattle.place_route.proofs.Vocabulary.{Outside, those_unique, same_place, HasLine}
 use Rattle.machine_shape.specs.Vocabulary.{wires_of, crosses_of, nodes_of, ends_of, node_of_cross, tap_position, line_position, tap_at, line_at, cross_at, IsLine, IsPort, IsTap, IsAbove, itself, below, IsTree, HasParents, HasTaps, HasCrosses, HasSites}
-use Rattle.machine_meaning.specs.Defects.{Defects}
-use Rattle.place_plan.specs.declared.short.Visit.{Visit}
-use Rattle.place_plan.specs.declared.tree.NetSide.{NetSide}
-use Rattle.place_plan.specs.declared.tree.NetSide.TheVariants.{Own, Child, Outside}
 use Rattle.place_plan.specs.Vocabulary.{IsNth, IsAt, at_own, at_child, at_outside, Crosses, Visits, CrossesAt, IsFreePort, HasPort, visit_for}
-use Rattle.place_plan.proofs.Those.{those_unique, same_place}
-use Rattle.place_route.specs.Owners.{HasLine}
 
 module _ (m : Shape) (d : Defects) (count : ℕ) (terminal : ℕ → ℕ → Type 0) where
   -- the ports of a node and the nets that cross it are the same each time

@@ -1,16 +1,9 @@
 -- What an image does that is made of a plan.
 use Rattle.std.proofs.Common.{◌≡◌, ◌⊎◌, ℕ, ◌<◌, ◌≤◌, Bool, true, false, map, if◌then◌else◌, nat_lt, refl, sym, ◌∙◌, subst, inl, inr, arith}
-use Rattle.std.proofs.lemmas.Bool.{cases_lt, false≢true, lt-ltb}
-use Rattle.machine_shape.specs.declared.Shape.{Shape}
-use Rattle.machine_shape.specs.Laws.{IsNumbered, IsTree}
-use Rattle.machine_meaning.specs.Vocabulary.{Faults, Defects, Covers}
+use Rattle.place_route.proofs.Vocabulary.{cases_lt, false≢true, lt-ltb, Shape, IsNumbered, IsTree, Faults, Defects, Covers, is_closed}
+use Rattle.place_route.proofs.Vocabulary.{Network, IsNetwork, IsDeepest, AreRows, HasRowsOf, Plan, IsPlan, IsTerminal}
 use Rattle.design_netlist.specs.declared.netlist_data.NetlistData.{NetlistData}
-use Rattle.machine_config.specs.Configuration.{is_closed}
 use Rattle.machine_image.specs.Vocabulary.{ImageValue, image_row, IsFreeImage}
-use Rattle.map_network.specs.declared.network.Network.{Network}
-use Rattle.map_network.specs.Vocabulary.{IsNetwork, IsDeepest, AreRows, HasRowsOf}
-use Rattle.place_plan.specs.declared.plan.Plan.{Plan}
-use Rattle.place_plan.specs.Plans.{IsPlan, IsTerminal}
 use Rattle.place_route.specs.Vocabulary.{IsRightImage, ReadsRows, image_at, HasLine, IsLaidOnTree, AreTicks, HasPortIn, IsRouteOf}
 use Rattle.place_route.proofs.Routed.{set_is_free, tree_reads_rows}
 

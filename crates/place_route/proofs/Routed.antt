@@ -1,15 +1,8 @@
 -- Nets of a network that are laid on the tree read its rows.
-use Rattle.std.proofs.Common.{◌≡◌, ℕ, ◌<◌, ◌≤◌, length, refl, subst, arith}
-use Rattle.std.proofs.lemmas.List.{length-map}
-use Rattle.machine_shape.specs.Vocabulary.{IsLine, IsPort, IsNumbered, IsTree}
-use Rattle.machine_meaning.specs.Vocabulary.{Faults, Defects, IsFreeTable, Covers}
-use Rattle.machine_config.specs.Configuration.{Configuration, is_closed}
-use Rattle.machine_image.specs.Parts.{IsFreeImage}
-use Rattle.map_network.specs.declared.network.Network.{Network}
-use Rattle.map_network.specs.Vocabulary.{IsNetwork, IsDeepest, table_at, AreRows}
-use Rattle.place_plan.specs.declared.plan.Plan.{Plan}
+use Rattle.place_route.proofs.Vocabulary.{◌≡◌, ℕ, ◌<◌, ◌≤◌, length, refl, subst, arith, length-map, IsLine, IsPort, IsNumbered, IsTree}
+use Rattle.place_route.proofs.Vocabulary.{Faults, Defects, IsFreeTable, Covers, Configuration, is_closed, IsFreeImage, Network, IsNetwork}
+use Rattle.place_route.proofs.Vocabulary.{IsDeepest, table_at, AreRows, Plan, place_of, places, number_of, IsTerminal, IsPlan}
 use Rattle.place_route.specs.Vocabulary.{ReadsRows, reader_of, IsSet, IsWired, image_at, IsLaidOnTree, IsOfNet, as_terminal, as_line, as_port}
-use Rattle.place_plan.specs.Plans.{place_of, places, number_of, IsTerminal, IsPlan}
 use Rattle.place_route.proofs.Terminals.{plan_terminals, no_idle_terminal}
 use Rattle.place_route.proofs.OnTree.{net_joined, nets_apart, one_net}
 use Rattle.place_route.proofs.Turns.{route_reads_rows}

@@ -1,12 +1,6 @@
 -- The terminals of a plan's nets are taps of their nodes.
-use Rattle.std.proofs.Common.{◌≡◌, ℕ, sym, ap, ◌∙◌, inl, inr}
-use Rattle.machine_shape.specs.declared.Shape.{Shape}
+use Rattle.place_route.proofs.Vocabulary.{◌≡◌, ℕ, sym, ap, ◌∙◌, inl, inr, Shape, Defects, Network, IsNetwork, Plan, IsPlan, IsTerminal}
 use Rattle.machine_shape.specs.Vocabulary.{node_of, IsTap, tap_pin, tap_table, IsNumbered, IsTree, HasParents}
-use Rattle.machine_meaning.specs.Defects.{Defects}
-use Rattle.map_network.specs.declared.network.Network.{Network}
-use Rattle.map_network.specs.Networks.{IsNetwork}
-use Rattle.place_plan.specs.declared.plan.Plan.{Plan}
-use Rattle.place_plan.specs.Plans.{IsPlan, IsTerminal}
 use Rattle.place_route.proofs.Terminals.{Wired, is_wired}
 
 module _ (m : Shape) (d : Defects) (n : Network) (p : Plan) (numbered : IsNumbered m) (tree : IsTree m) (parents : HasParents m) (network : IsNetwork n) (plan : IsPlan m d n p) where

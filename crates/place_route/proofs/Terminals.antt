@@ -1,19 +1,10 @@
 -- The terminals of a network's nets on a plan.
 use Rattle.std.proofs.Common.{◌≡◌, ◌⊎◌, ℕ, ◌+◌, ◌<◌, ◌≤◌, cond, eqb, List, ◌++◌, length, get_or, map, refl, sym, ap, ◌∙◌, subst, inl, inr, arith}
-use Rattle.std.specs.List.{range_with_len}
-use Rattle.std.proofs.lemmas.Bool.{ne_eqb}
+use Rattle.place_route.proofs.Vocabulary.{range_with_len, ne_eqb, get_or-map-range_with_len, length-map-range_with_len, Shape, Defects}
+use Rattle.place_route.proofs.Vocabulary.{Input, Table, Network, IsNetwork, no_table, table_at, Plan, different_at, reader_of, AreTerminals}
 use Rattle.std.proofs.lemmas.List.{get_or_append_left, get_or-append-add, length-append, length-map, get_or_default}
-use Rattle.std.proofs.lemmas.List.FromFn.{get_or-map-range_with_len, length-map-range_with_len}
-use Rattle.machine_shape.specs.declared.Shape.{Shape}
 use Rattle.machine_shape.specs.Vocabulary.{pin_wire, table_wire, pins_of, tables_of, wires_of, IsLine, IsPort, IsNumbered, IsTree}
-use Rattle.machine_meaning.specs.Defects.{Defects}
-use Rattle.map_network.specs.declared.source.Source.TheVariants.{Input, Table}
-use Rattle.map_network.specs.declared.network.Network.{Network}
-use Rattle.map_network.specs.Networks.{IsNetwork, no_table, table_at}
-use Rattle.place_plan.specs.declared.plan.Plan.{Plan}
 use Rattle.place_plan.specs.Plans.{net_of, place_of, places, number_of, IsTerminal, drives, reads, shows, IsPlan}
-use Rattle.place_plan.proofs.Those.{different_at}
-use Rattle.place_route.specs.Vocabulary.{reader_of, AreTerminals}
 
 -- the wire is a pin of the machine, or one of a table's pins
 abbrev pub Wired : Shape → ℕ → Type 0

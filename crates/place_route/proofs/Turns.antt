@@ -1,24 +1,15 @@
 -- What an image's tables give, tick by tick and cycle by cycle, where its nets are laid on free parts.
 use Rattle.std.proofs.Common.{◌≡◌, ◌⊎◌, ℕ, suc, ◌+◌, ◌*◌, ◌^◌, ◌<◌, ◌≤◌, Bool, true, false, None, List, [], ◌∷◌, length, get_or, map, refl, sym, ap, ◌∙◌, subst, inl, inr, arith, if◌then◌else◌}
-use Rattle.std.specs.List.{All, range_with_len, Contains}
-use Rattle.std.proofs.lemmas.Bool.{cases_lt, cases_Bool}
-use Rattle.std.proofs.lemmas.List.{get_or_past, get_or_default, get_or-map, ext_get_or, length-map}
-use Rattle.std.proofs.lemmas.List.Elements.{Contains-get_or}
-use Rattle.std.proofs.lemmas.List.FromFn.{get_or-map-range_with_len}
-use Rattle.machine_shape.specs.Vocabulary.{pin_wire, pins_of, IsNumbered}
+use Rattle.place_route.proofs.Vocabulary.{All, range_with_len, Contains, cases_lt, cases_Bool, get_or_past, get_or_default, get_or-map}
+use Rattle.place_route.proofs.Vocabulary.{ext_get_or, length-map, Contains-get_or, get_or-map-range_with_len, pin_wire, pins_of, IsNumbered}
+use Rattle.place_route.proofs.Vocabulary.{drive_on, row_at, number_below, same_map, tick_of, edge_of, first_of, Source, Input, Table}
+use Rattle.place_route.proofs.Vocabulary.{Network, Plan, net_of, place_of, IsTerminal, drives, reads, shows}
 use Rattle.machine_meaning.specs.Vocabulary.{Faults, wrong_cell, stuck_register, Outputs, Pins, IsValue, AreValues, Defects, Covers}
 use Rattle.machine_config.specs.Vocabulary.{number_of, address_at, pins_read, tick_output, edge_output, after_tick, after_edge, Ticks, unticked, tick, Cycles, none, cycle, Configuration, setting_of, circuit_of, table_or_off}
-use Rattle.machine_image.specs.Images.{drive_on, row_at}
-use Rattle.machine_image.proofs.Driven.{number_below, same_map, tick_of, edge_of, first_of}
 use Rattle.machine_image.proofs.FreeWires.{IsOff}
-use Rattle.map_network.specs.declared.source.Source.{Source}
-use Rattle.map_network.specs.declared.source.Source.TheVariants.{Input, Table}
-use Rattle.map_network.specs.declared.network.Network.{Network}
 use Rattle.map_network.specs.Vocabulary.{IsNetwork, IsSourceOf, IsCombinational, IsLatched, IsPath, alone, onward, IsDeepest, no_table, table_at, RowsFrom, AreRows, bit_of, cell_at, next_state, first_state, pins_of as net_pins, truth}
 use Rattle.map_network.specs.Rows as network
-use Rattle.place_plan.specs.declared.plan.Plan.{Plan}
 use Rattle.place_route.specs.Vocabulary.{ReadsRows, reader_of, shower_of, IsLaidOut, setting_in, image_at}
-use Rattle.place_plan.specs.Plans.{net_of, place_of, IsTerminal, drives, reads, shows}
 use Rattle.place_route.proofs.PinValues.{given, output_within, table_on, table_within, pin_good, read_value, idle_value}
 
 -- the two numbers of bits are one

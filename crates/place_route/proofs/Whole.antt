@@ -1,26 +1,12 @@
 -- The steps of a route together.
 use Rattle.std.proofs.Common.{◌≡◌, ◌≢◌, ◌⊎◌, ℕ, zero, suc, ◌*◌, ◌<◌, ◌≤◌, true, Some, None, Option, IsSome, List, replicate, length, get_or, max, refl, sym, ap, ◌∙◌, subst, inl, inr, arith}
-use Rattle.std.specs.List.{All, AllPairs}
-use Rattle.std.specs.BTreeMap.{BTreeMap}
+use Rattle.place_route.proofs.Vocabulary.{All, AllPairs, BTreeMap, len-empty, nat_cmp, get_or-map, length-map, Shape, most_ticks, pins_of}
+use Rattle.place_route.proofs.Vocabulary.{wires_of, crosses_of, tables_of, high_limits, Defects, IsFreeCross, Configuration, is_closed}
+use Rattle.place_route.proofs.Vocabulary.{setting_of, cleared, with_ticks, Network, IsNetwork, Plan, Port, Visit, IsPlan, IsTerminal}
+use Rattle.place_route.proofs.Vocabulary.{nets_in, places, place_of, number_of, terminal_within, terminal_net, sized_is}
 use Rattle.std.specs.FinSet as set
-use Rattle.std.specs.FinSet.{len-empty}
-use Rattle.std.specs.Ordering.{nat_cmp}
-use Rattle.std.proofs.lemmas.List.{get_or-map, length-map}
-use Rattle.machine_shape.specs.declared.Shape.{Shape}
 use Rattle.machine_shape.specs.declared.Table.{Table}
-use Rattle.machine_shape.specs.Bounds.{most_ticks}
-use Rattle.machine_shape.specs.Shape.{pins_of, wires_of, crosses_of, tables_of}
-use Rattle.machine_shape.proofs.HighLimits.{high_limits}
-use Rattle.machine_meaning.specs.Defects.{Defects, IsFreeCross}
 use Rattle.machine_config.specs.declared.Setting.{Setting}
-use Rattle.machine_config.specs.Configuration.{Configuration, is_closed, setting_of, cleared, with_ticks}
-use Rattle.map_network.specs.declared.network.Network.{Network}
-use Rattle.map_network.specs.Networks.{IsNetwork}
-use Rattle.place_plan.specs.declared.plan.Plan.{Plan}
-use Rattle.place_plan.specs.declared.short.Port.{Port}
-use Rattle.place_plan.specs.declared.short.Visit.{Visit}
-use Rattle.place_plan.specs.Plans.{IsPlan, IsTerminal, nets_in, places, place_of, number_of}
-use Rattle.place_plan.proofs.PlanNets.{terminal_within, terminal_net, sized_is}
 use Rattle.place_route.specs.Vocabulary.{IsSet, IsLaidOnTree, AreTerminals, AreOwners, HasLine, AreLines, Closes, IsOwnedJoint, SwitchesOn, no_seat, IsLaidBy, AreWiresOf, IsJoined, HasPortIn, IsRouted}
 use Rattle.place_route.proofs.Terminals.{plan_terminals}
 use Rattle.place_route.proofs.Seats.{terminal_tap}

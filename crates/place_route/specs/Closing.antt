@@ -2,14 +2,11 @@
 use Rattle.std.specs.Prelude.{◌≡◌, ◌⊎◌, ℕ, ◌+◌, ◌<◌, ◌≤◌, true, List, length, Option, Some, IsSome, slice_index_or}
 use Rattle.std.specs.FinSet as set
 use Rattle.std.specs.BTreeMap.{BTreeMap}
-use Rattle.machine_shape.specs.declared.Shape.{Shape}
+use Rattle.machine_shape.specs.{declared.Shape.Shape, Shape.wires_of, Shape.crosses_of, Shape.ends_of, Shape.node_of, Shape.parent_of}
 use Rattle.machine_shape.specs.declared.Table.{Table}
-use Rattle.machine_shape.specs.Shape.{wires_of, crosses_of, ends_of, node_of, parent_of}
 use Rattle.machine_config.specs.Configuration.{Configuration, is_closed, setting_of}
-use Rattle.map_network.specs.declared.network.NetTable.{NetTable}
-use Rattle.map_network.specs.Networks.{no_table}
-use Rattle.place_route.specs.Layouts.{setting_in}
-use Rattle.place_route.specs.Owners.{owner_at, line_in}
+use Rattle.map_network.specs.{declared.network.NetTable.NetTable, Networks.no_table}
+use Rattle.place_route.specs.{Layouts.setting_in, Owners.owner_at, Owners.line_in}
 
 abbrev pub no_seat : Table
 no_seat = record { 0 = 0 }

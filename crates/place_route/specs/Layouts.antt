@@ -1,16 +1,11 @@
 -- When the nets of a network that sits on a machine are laid on free parts of it.
 use Rattle.std.specs.Prelude.{◌≡◌, ℕ, ◌<◌, ◌≤◌, true, Some, IsSome, length}
-use Rattle.machine_shape.specs.Shape.{ends_of, crosses_of, pin_wire, table_wire}
+use Rattle.machine_shape.specs.{Shape.ends_of, Shape.crosses_of, Shape.pin_wire, Shape.table_wire, declared.Shape.Shape}
 use Rattle.machine_meaning.specs.Vocabulary.{Joined, plain_net, Defects, IsFreeCross}
-use Rattle.machine_config.specs.declared.Setting.{Setting}
-use Rattle.machine_config.specs.Configuration.{Configuration, is_closed, setting_of}
+use Rattle.machine_config.specs.{declared.Setting.Setting, Configuration.Configuration, Configuration.is_closed, Configuration.setting_of}
 use Rattle.machine_image.specs.Images.{ImageValue}
-use Rattle.map_network.specs.declared.network.NetTable.{NetTable}
-use Rattle.map_network.specs.declared.network.Network.{Network}
-use Rattle.map_network.specs.Networks.{table_at}
-use Rattle.place_plan.specs.declared.plan.Plan.{Plan}
-use Rattle.machine_shape.specs.declared.Shape.{Shape}
-use Rattle.place_plan.specs.Vocabulary.{nth_of, place_of, IsTerminal, IsPlan}
+use Rattle.map_network.specs.{declared.network.NetTable.NetTable, declared.network.Network.Network, Networks.table_at}
+use Rattle.place_plan.specs.{declared.plan.Plan.Plan, Vocabulary.nth_of, Vocabulary.place_of, Vocabulary.IsTerminal, Vocabulary.IsPlan}
 
 -- what a table of the machine does for a table of the network
 abbrev pub setting_in : NetTable → Setting

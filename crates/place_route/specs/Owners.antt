@@ -1,14 +1,10 @@
 -- Which net has a wire, and which line a net has at a node, as the code keeps them.
 use Rattle.std.specs.Prelude.{◌≡◌, ◌⊎◌, ℕ, List, length, slice_index_or, Option, Some, None, IsSome}
-use Rattle.std.specs.List.{Contains}
+use Rattle.std.specs.{List.Contains, BTreeMap.BTreeMap}
 use Rattle.std.specs.BTreeMap as tree
-use Rattle.std.specs.BTreeMap.{BTreeMap}
-use Rattle.machine_shape.specs.declared.Shape.{Shape}
-use Rattle.machine_shape.specs.Shape.{wires_of}
+use Rattle.machine_shape.specs.{declared.Shape.Shape, Shape.wires_of}
 use Rattle.machine_meaning.specs.Faults.{pair_cmp}
-use Rattle.place_plan.specs.declared.short.Port.{Port}
-use Rattle.place_plan.specs.declared.short.Visit.{Visit}
-use Rattle.place_plan.specs.Room.{HasTerminal, port_for, visit_for}
+use Rattle.place_plan.specs.{declared.short.Port.Port, declared.short.Visit.Visit, Room.HasTerminal, Room.port_for, Room.visit_for}
 
 -- the net that has the wire
 abbrev pub owner_at : List (Option ℕ) → ℕ → Option ℕ

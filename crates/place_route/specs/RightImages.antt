@@ -6,8 +6,7 @@ use Rattle.machine_config.specs.Faulty.{IsRun}
 use Rattle.machine_image.specs.Images.{ImageValue, drive_of, image_row}
 use Rattle.design_netlist.specs.declared.netlist_data.NetlistData.{NetlistData}
 use Rattle.design_netlist.specs.Rows as netlist
-use Rattle.map_network.specs.declared.network.Network.{Network}
-use Rattle.map_network.specs.Rows.{AreRows}
+use Rattle.map_network.specs.{declared.network.Network.Network, Rows.AreRows}
 
 -- Under the faults, the run with each vector on the input pins, and 1 on all others, reads at the output pins rows that
 -- the relation allows for the vectors.

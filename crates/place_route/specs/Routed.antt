@@ -1,24 +1,16 @@
 -- A network that sits on a machine, with a layout of its nets, and the configuration that is made of it.
 use Rattle.std.specs.Prelude.{◌≡◌, ℕ, ◌*◌, ◌<◌, ◌≤◌, List, Option, length}
-use Rattle.std.specs.BTreeMap.{BTreeMap}
-use Rattle.std.specs.List.{All, Contains}
+use Rattle.std.specs.{BTreeMap.BTreeMap, List.All, List.Contains}
 use Rattle.std.specs.FinSet as set
-use Rattle.machine_shape.specs.declared.Shape.{Shape}
-use Rattle.machine_shape.specs.Bounds.{most_ticks}
-use Rattle.machine_shape.specs.Shape.{nodes_of, wires_of}
+use Rattle.machine_shape.specs.{declared.Shape.Shape, Bounds.most_ticks, Shape.nodes_of, Shape.wires_of}
 use Rattle.machine_meaning.specs.Defects.{Defects}
 use Rattle.machine_config.specs.Configuration.{Configuration, is_closed, cleared}
 use Rattle.machine_image.specs.Images.{ImageValue}
 use Rattle.map_network.specs.declared.network.Network.{Network}
-use Rattle.place_plan.specs.declared.plan.Plan.{Plan}
-use Rattle.place_plan.specs.declared.short.Port.{Port}
-use Rattle.place_plan.specs.declared.short.Visit.{Visit}
+use Rattle.place_plan.specs.declared.{plan.Plan.Plan, short.Port.Port, short.Visit.Visit}
 use Rattle.place_plan.specs.Vocabulary.{AreWires, AreHeld, AreVisits, IsTerminal, nets_in, ArePlanNets, port_for}
-use Rattle.place_route.specs.Layouts.{IsSet}
-use Rattle.place_route.specs.Closing.{Closes, IsOwnedJoint}
-use Rattle.place_route.specs.Owners.{HasLine, AreLines, AreOwners}
-use Rattle.place_route.specs.Ticks.{AreTicks}
-use Rattle.place_route.specs.Trees.{IsLaidOnTree}
+use Rattle.place_route.specs.{Layouts.IsSet, Ticks.AreTicks}
+use Rattle.place_route.specs.{Closing.Closes, Closing.IsOwnedJoint, Owners.HasLine, Owners.AreLines, Owners.AreOwners, Trees.IsLaidOnTree}
 
 -- the terminals of the plan's nets, and the ports and the lines of the nets; no more tables than may be on
 pub record IsLaidBy (m : Shape) (d : Defects) (n : Network) (p : Plan) (nets : List (List ℕ)) (ports : List Port)

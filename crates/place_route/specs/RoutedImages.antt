@@ -1,17 +1,13 @@
 -- When an image is routed: it closes and switches on what its network needs on a plan, and nothing else.
 use Rattle.std.specs.Prelude.{◌≡◌, ℕ, ◌<◌, true, List, Some, IsSome, length}
-use Rattle.machine_shape.specs.declared.Shape.{Shape}
-use Rattle.machine_shape.specs.Shape.{nodes_of, ends_of}
+use Rattle.machine_shape.specs.{declared.Shape.Shape, Shape.nodes_of, Shape.ends_of}
 use Rattle.machine_meaning.specs.Defects.{Defects}
 use Rattle.machine_config.specs.Configuration.{is_closed, setting_of}
 use Rattle.machine_image.specs.Images.{ImageValue}
-use Rattle.map_network.specs.declared.network.Network.{Network}
-use Rattle.map_network.specs.Networks.{table_at}
-use Rattle.place_plan.specs.declared.plan.Plan.{Plan}
-use Rattle.place_plan.specs.declared.short.Visit.{Visit}
+use Rattle.map_network.specs.{declared.network.Network.Network, Networks.table_at}
+use Rattle.place_plan.specs.declared.{plan.Plan.Plan, short.Visit.Visit}
 use Rattle.place_plan.specs.Vocabulary.{HasLine, AreVisits, Fits, FitsInOrder, IsPlan, IsTerminal, nets_in, place_of, IsTapOf}
-use Rattle.place_route.specs.Layouts.{setting_in}
-use Rattle.place_route.specs.Ticks.{AreTicks}
+use Rattle.place_route.specs.{Layouts.setting_in, Ticks.AreTicks}
 
 -- The image is routed for the network on the plan and the list. So each closed crosspoint lies on the way between two terminals of
 -- one net

@@ -1,7 +1,6 @@
 -- How many ticks a network takes.
 use Rattle.std.specs.Prelude.{◌≡◌, ℕ, nat_lt, if◌then◌else◌}
-use Rattle.map_network.specs.declared.network.Network.{Network}
-use Rattle.map_network.specs.Depths.{IsDepth}
+use Rattle.map_network.specs.{declared.network.Network.Network, Depths.IsDepth}
 
 -- its depth, and at least 1
 abbrev pub AreTicks : Network → ℕ → Type 0

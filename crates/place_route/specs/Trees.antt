@@ -3,8 +3,7 @@
 -- `terminal k w` says that w is a terminal of net k, `line n k w` that net k has the line w at node n, and `port n k w`
 -- that it has the port w of node n.
 use Rattle.std.specs.Prelude.{◌≡◌, ℕ, Bool, true, Some}
-use Rattle.machine_shape.specs.declared.Shape.{Shape}
-use Rattle.machine_shape.specs.Shape.{ends_of, node_of, parent_of, IsLine, IsPort}
+use Rattle.machine_shape.specs.{declared.Shape.Shape, Shape.ends_of, Shape.node_of, Shape.parent_of, Shape.IsLine, Shape.IsPort}
 use Rattle.place_plan.specs.Strands.{IsInside, Crosses, Visits}
 
 -- the taps of a net at a node: its terminals there, its ports of the node's children, and its ports of the node

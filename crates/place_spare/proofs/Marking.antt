@@ -1,15 +1,10 @@
 -- So many numbers, of which a few are taken away.
 use Rattle.std.proofs.Common.{◌≡◌, ◌≢◌, ◌∙◌, ℕ, ◌+◌, ◌<◌, ◌≤◌, Bool, true, false, not, List, map, length, get_or, refl, sym, ap, subst, arith}
 use Rattle.std.specs.List.{All, AllPairs, Contains, filter, list_any, range_with_len}
-use Rattle.std.specs.Ordering.{eq_by_cmp, nat_cmp}
-use Rattle.std.specs.Cmp.{eq_by_cmp_equiv, nat_cmp_total}
-use Rattle.std.proofs.lemmas.Bool.{false≢true}
-use Rattle.std.proofs.lemmas.List.Elements.{All-filter, filter_passes}
-use Rattle.std.proofs.lemmas.List.Filters.{length-filter_both}
-use Rattle.std.proofs.lemmas.List.FromFn.{get_or-map-range_with_len, length-map-range_with_len}
-use Rattle.std.proofs.lemmas.List.Kept.{AllPairs-filter}
-use Rattle.std.proofs.lemmas.Map.Lookups.{exact_unsigned}
-use Rattle.std.proofs.lemmas.Map.Views.{tells_apart, Contains-from_any, list_any-from_Contains}
+use Rattle.std.specs.{Ordering.eq_by_cmp, Ordering.nat_cmp, Cmp.eq_by_cmp_equiv, Cmp.nat_cmp_total}
+use Rattle.std.proofs.lemmas.{Bool.false≢true, List.Elements.All-filter, List.Elements.filter_passes, List.Kept.AllPairs-filter}
+use Rattle.std.proofs.lemmas.List.{Filters.length-filter_both, FromFn.get_or-map-range_with_len, FromFn.length-map-range_with_len}
+use Rattle.std.proofs.lemmas.Map.{Lookups.exact_unsigned, Views.tells_apart, Views.Contains-from_any, Views.list_any-from_Contains}
 use Rattle.place_plan.specs.Enough.{AtLeast}
 use Rattle.place_plan.proofs.Counting.{pigeon}
 

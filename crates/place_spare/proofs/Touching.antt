@@ -2,14 +2,9 @@
 use Rattle.std.proofs.Common.{◌≡◌, ◌≢◌, ◌∙◌, ◌⊎◌, ℕ, zero, suc, ◌+◌, ◌-◌, ◌*◌, ◌<◌, ◌||◌, ◌&&◌, not, cond, Bool, true, false, Option, Some, None, List, [], ◌∷◌, ◌++◌, map, length, length-append, nat_lt, unwrap_or, is_some, inl, inr, refl, sym, ap, subst, arith}
 use Rattle.std.specs.FinMap as maps
 use Rattle.std.specs.FinSet as set
-use Rattle.std.specs.Cmp.{tied_itself}
-use Rattle.std.specs.List.{Contains, list_any}
-use Rattle.std.specs.Ordering.{eq_by_cmp, is_eq}
-use Rattle.std.specs.declared.cmp.Ordering.{Ordering}
-use Rattle.std.proofs.lemmas.Bool.{false≢true, ltb-true, lt-ltb}
-use Rattle.std.proofs.lemmas.List.{length-map}
-use Rattle.std.proofs.lemmas.List.Elements.{Contains-append_left, Contains-append_right}
-use Rattle.std.proofs.lemmas.Map.Lookups.{CmpEqualImpliesEq, exact_unsigned}
+use Rattle.std.specs.{Cmp.tied_itself, List.Contains, List.list_any, Ordering.eq_by_cmp, Ordering.is_eq, declared.cmp.Ordering.Ordering}
+use Rattle.std.proofs.lemmas.{Bool.false≢true, Bool.ltb-true, Bool.lt-ltb, Map.Lookups.CmpEqualImpliesEq, Map.Lookups.exact_unsigned}
+use Rattle.std.proofs.lemmas.List.{length-map, Elements.Contains-append_left, Elements.Contains-append_right}
 use Rattle.std.proofs.lemmas.Map.Views.{tells_apart, Contains-from_any}
 use Rattle.machine_shape.specs.declared.Shape.{Shape}
 use Rattle.machine_shape.specs.Vocabulary.{Ends, in_order, turned, Meaning, Means, Pin, Line, Port, TablePin, is_table_pin, HasMeanings, IsNumbered, ends_of, table_wire, wires_of, crosses_of, tables_of}

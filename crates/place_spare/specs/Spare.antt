@@ -1,7 +1,6 @@
 -- A machine that has parts to spare for a network, and for so many faults.
 use Rattle.std.specs.Prelude.{ℕ, ◌+◌, ◌*◌, ◌<◌, ◌≤◌, length}
-use Rattle.machine_shape.specs.declared.Shape.{Shape}
-use Rattle.machine_shape.specs.Shape.{nodes_of, tables_of, pins_of, lines_of, own_ports_of}
+use Rattle.machine_shape.specs.{declared.Shape.Shape, Shape.nodes_of, Shape.tables_of, Shape.pins_of, Shape.lines_of, Shape.own_ports_of}
 use Rattle.map_network.specs.declared.network.Network.{Network}
 use Rattle.place_plan.specs.Plans.{nets_in}
 

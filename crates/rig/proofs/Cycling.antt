@@ -1,9 +1,7 @@
 -- How many cycles the calls of a rig make.
 use Rattle.std.proofs.Common.{◌≡◌, ◌∙◌, ℕ, ◌+◌, ◌≤◌, List, [], ◌∷◌, ◌++◌, length, map, length-append, Option, Some, None, Result, Ok, Err, OnOk, OnErr, IfErr, refl, sym, ap, arith}
-use Rattle.std.specs.List.{sum_by}
-use Rattle.std.specs.Option.{option_map_or}
-use Rattle.std.proofs.lemmas.List.{length-map}
-use Rattle.std.proofs.lemmas.List.Sums.{sum_by-append, sum_by-cons}
+use Rattle.std.specs.{List.sum_by, Option.option_map_or}
+use Rattle.std.proofs.lemmas.List.{length-map, Sums.sum_by-append, Sums.sum_by-cons}
 use Rattle.machine_meaning.specs.Vocabulary.{Pins}
 use Rattle.machine_config.specs.Vocabulary.{Configuration}
 use Rattle.rig.specs.Rig.{RigState, Session, Past, Exchange, drives_of, standing, log_of, cycles_of, cycles_made, Begins, GoesOn, GoesOnBy, CycleFails, CyclesFail}

@@ -1,8 +1,6 @@
 -- A log only grows, so what explains it explained it before.
 use Rattle.std.proofs.Common.{◌≡◌, ℕ, Some, None, Option, List, [], ◌∷◌, ◌++◌, length, refl, sym, ap, subst, ◌∙◌, Result, Ok, Err, OnOk, OnErr}
-use Rattle.std.specs.List.{AllByRecursion}
-use Rattle.std.specs.Prelude.{option_map, IfSome, IsSomeAnd, IfErr}
-use Rattle.std.specs.Option.{option_map_or}
+use Rattle.std.specs.{List.AllByRecursion, Prelude.option_map, Prelude.IfSome, Prelude.IsSomeAnd, Prelude.IfErr, Option.option_map_or}
 use Rattle.machine_meaning.specs.Vocabulary.{Pins, Faults, AreFaultsOf}
 use Rattle.machine_config.specs.Vocabulary.{Configuration, Cycles, none, cycle, at_load, circuit_of, IsRun}
 use Rattle.rig.specs.declared.rig.RigFail.{RigFail}

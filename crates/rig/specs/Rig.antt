@@ -1,24 +1,16 @@
 -- A rig: a machine that is attached by name, loaded and driven.
 use Rattle.std.specs.Prelude.{◌≡◌, ℕ, ◌+◌, ◌<◌, ◌≤◌, List, [], ◌∷◌, ◌++◌, map, length, All, Option, None, Some}
-use Rattle.std.specs.Prelude.{IfSome, IsSomeAnd, option_map}
-use Rattle.std.specs.List.{AllByRecursion, sum_by}
-use Rattle.std.specs.Option.{option_map_or}
-use Rattle.machine_shape.specs.declared.Shape.{Shape}
-use Rattle.machine_shape.specs.Bounds.{most_text}
-use Rattle.machine_shape.specs.Shape.{pins_of}
+use Rattle.std.specs.{Prelude.IfSome, Prelude.IsSomeAnd, Prelude.option_map, List.AllByRecursion, List.sum_by, Option.option_map_or}
+use Rattle.machine_shape.specs.{declared.Shape.Shape, Bounds.most_text, Shape.pins_of}
 use Rattle.machine_meaning.specs.Vocabulary.{Pins, Faults, AreFaultsOf}
 use Rattle.machine_config.specs.Vocabulary.{Configuration, IsRun}
-use Rattle.machine_faults.specs.declared.kind.FaultsKind.{FaultsKind}
-use Rattle.machine_faults.specs.declared.kind.FaultsFault.{FaultsFault}
+use Rattle.machine_faults.specs.{declared.kind.FaultsKind.FaultsKind, declared.kind.FaultsFault.FaultsFault, Refusals.IsFaultAt}
 use Rattle.machine_faults.specs.declared.kind.FaultsFault.TheVariants as text
 use Rattle.machine_faults.specs.Text.{IsFaultText}
-use Rattle.machine_faults.specs.Refusals.{IsFaultAt}
-use Rattle.rig.specs.declared.rig.AttachFail.{AttachFail}
+use Rattle.rig.specs.{declared.rig.AttachFail.AttachFail, declared.rig.RigFail.RigFail, Names.SpellsFaults}
 use Rattle.rig.specs.declared.rig.AttachFail.TheVariants as attach
-use Rattle.rig.specs.declared.rig.RigFail.{RigFail}
 use Rattle.rig.specs.declared.rig.RigFail.TheVariants as work
 use Rattle.base_io.specs.Counts.{Rose, next_count}
-use Rattle.rig.specs.Names.{SpellsFaults}
 
 -- a machine as it was asked for
 pub record Asked : Type 0 where

@@ -1,16 +1,9 @@
 -- What is kept goes with the board after several cycles.
 use Rattle.std.proofs.Common.{◌≡◌, ℕ, suc, zero, ◌+◌, ◌≤◌, ◌<◌, true, List, [], ◌∷◌, ◌++◌, map, length, get_or, All, Option, None, Some, refl, sym, ap, ◌∙◌, arith, subst, IfSome, option_map, Result, Ok, Err, OnOk, is_err, false}
-use Rattle.std.specs.Option.{ForSome}
-use Rattle.machine_shape.specs.declared.Shape.{Shape}
-use Rattle.machine_shape.specs.Shape.{pins_of}
-use Rattle.machine_meaning.specs.Vocabulary.{Pins, Faults, AreFaultsOf}
-use Rattle.machine_config.specs.Vocabulary.{Configuration, IsRun}
+use Rattle.rig_board.proofs.Vocabulary.{ForSome, Shape, pins_of, Pins, Faults, AreFaultsOf, Configuration, IsRun, Kept, BoardState}
+use Rattle.rig_board.proofs.Vocabulary.{HasCycled, HasCycledAll, session_of, HasAdded, AreBlank}
 use Rattle.rig.specs.Rig.{Exchange, Session, RigState, GoesOn, GoesOnBy, KeepLengths, cycles_of, drives_of, readings_of}
-use Rattle.rig_board.specs.declared.kept.Kept.{Kept}
 use Rattle.rig_board.specs.Device.{Device, faults_told, IsInSession, HasRunSession, GoesOnWith, WhereTold}
-use Rattle.rig_board.specs.Boards.{BoardState, HasCycled, HasCycledAll}
-use Rattle.rig_board.specs.Kept.{session_of, HasAdded}
-use Rattle.rig_board.specs.Rows.{AreBlank}
 use Rattle.rig_board.specs.Linked.{IsLinked, IsAlongside}
 
 abbrev pair : Pins → Pins → Exchange

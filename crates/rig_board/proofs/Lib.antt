@@ -2,3 +2,4 @@ pub mod Driven
 mod Logging
 pub mod OneByOne
 mod SameSets
+mod Vocabulary

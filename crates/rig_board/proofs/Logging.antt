@@ -1,16 +1,12 @@
 -- What is logged is what each machine that a board may be has read.
 use Rattle.std.proofs.Common.{◌≡◌, List, [], ◌∷◌, ◌++◌, map, Option, None, Some, refl, sym, ap, ◌∙◌, subst, IfSome, IsSomeAnd, option_map}
 use Rattle.std.specs.List.{AllByRecursion}
-use Rattle.std.specs.Option.{ForSome}
+use Rattle.rig_board.proofs.Vocabulary.{ForSome, Shape, Pins, Faults, AreFaultsOf, Kept, HasAdded, past_of, session_of}
 use Rattle.std.proofs.lemmas.Grind.{merely}
 use mathlib.Core.Logic.{∥∥₁_map}
-use Rattle.machine_shape.specs.declared.Shape.{Shape}
-use Rattle.machine_meaning.specs.Vocabulary.{Pins, Faults, AreFaultsOf}
 use Rattle.machine_config.specs.Vocabulary.{Configuration, IsRun, circuit_of, none, at_load}
 use Rattle.rig.specs.Rig.{Asked, Exchange, Past, RigState, Session, IsRunOf, Explains, shape_of, drives_of, readings_of, standing}
 use Rattle.rig_board.specs.Device.{Device, IsInSession, HasRunSession}
-use Rattle.rig_board.specs.declared.kept.Kept.{Kept}
-use Rattle.rig_board.specs.Kept.{HasAdded, past_of, session_of}
 use Rattle.rig_board.specs.Machines.{Narrows, EachWas, GoesOnBy, AreLogged}
 use Rattle.rig_board.proofs.Driven.{same_pairs}
 

@@ -1,12 +1,9 @@
 -- Several cycles, made one after the other.
 use Rattle.std.proofs.Common.{◌≡◌, ℕ, suc, zero, ◌+◌, ◌<◌, List, [], ◌∷◌, ◌++◌, map, length, take, get_or, set, All, Option, None, Some, refl, sym, ap, ◌∙◌, arith, subst}
-use Rattle.std.proofs.lemmas.List.{append_assoc}
-use Rattle.std.proofs.Math.Seq.{take-suc, take-suc-set}
-use Rattle.machine_meaning.specs.Circuit.{Pins}
-use Rattle.machine_config.specs.Configuration.{Configuration}
+use Rattle.std.proofs.{lemmas.List.append_assoc, Math.Seq.take-suc, Math.Seq.take-suc-set}
+use Rattle.rig_board.proofs.Vocabulary.{Pins, Configuration, BoardState, HasCycled, HasCycledAll}
 use Rattle.rig.specs.Rig.{Exchange, KeepLengths, drives_of, readings_of}
 use Rattle.rig_board.specs.Device.{Device, IsInSession, GoesOnWith, WhereTold}
-use Rattle.rig_board.specs.Boards.{BoardState, HasCycled, HasCycledAll}
 
 -- what holds of the lengths of rows holds of those of rows that keep them
 pub lengths_kept : (P : ℕ → Type 0) (old new : List Pins) → KeepLengths old new → All (λ row. P (length row)) old → All (λ row. P (length row)) new

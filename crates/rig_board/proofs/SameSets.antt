@@ -1,9 +1,7 @@
 -- The closed crosspoints that are kept are those that were loaded.
-use Rattle.std.proofs.Common.{◌≡◌, ℕ, List, cond, eqb, count_by}
-use Rattle.std.specs.FinSet.{same_set, nat_cmp-IsAntisymmetric}
-use Rattle.std.specs.Cmp.{nat_cmp_total}
+use Rattle.rig_board.proofs.Vocabulary.{◌≡◌, ℕ, List, cond, eqb, count_by, Configuration, is_closed, set_of}
+use Rattle.std.specs.{FinSet.same_set, FinSet.nat_cmp-IsAntisymmetric, Cmp.nat_cmp_total}
 use Rattle.machine_shape.specs.declared.Cross.{Cross}
-use Rattle.machine_config.specs.Vocabulary.{Configuration, is_closed, set_of}
 use Rattle.machine_config.proofs.Members.{contains_times}
 
 pub closed_is : (g : Configuration) (closed : List Cross) → ((x : ℕ) → count_by (λ c. eqb c.0 x) closed ≡ cond (is_closed g x) 1 0) → set_of closed ≡ g.closed

@@ -1,11 +1,9 @@
 -- A board: a machine that is found by name, set up and driven.
 use Rattle.std.specs.Prelude.{◌≡◌, ℕ, Bool, true, List, [], All, length, Option, Some, IfSome, option_map}
-use Rattle.machine_shape.specs.declared.Shape.{Shape}
-use Rattle.machine_shape.specs.Shape.{pins_of}
+use Rattle.machine_shape.specs.{declared.Shape.Shape, Shape.pins_of}
 use Rattle.machine_meaning.specs.Vocabulary.{Pins, AreFaultsOf}
 use Rattle.machine_config.specs.Configuration.{Configuration}
-use Rattle.rig.specs.Rig.{Exchange, drives_of, readings_of}
-use Rattle.rig.specs.declared.rig.RigFail.{RigFail}
+use Rattle.rig.specs.{Rig.Exchange, Rig.drives_of, Rig.readings_of, declared.rig.RigFail.RigFail}
 use Rattle.rig.specs.declared.rig.RigFail.TheVariants as work
 use Rattle.base_io.specs.Counts.{Rose}
 use Rattle.rig_board.specs.Device.{Device, IsInSession, GoesOnWith, WhereTold}

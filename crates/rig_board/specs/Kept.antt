@@ -4,8 +4,7 @@ use Rattle.std.specs.Vec.{vec_capacity}
 use Rattle.machine_config.specs.Kept.{set_of}
 use Rattle.machine_meaning.specs.Circuit.{Pins}
 use Rattle.rig.specs.Rig.{Exchange, Past, Session, drives_of, readings_of}
-use Rattle.rig_board.specs.declared.kept.Row.{Row}
-use Rattle.rig_board.specs.declared.kept.Kept.{Kept}
+use Rattle.rig_board.specs.declared.kept.{Row.Row, Kept.Kept}
 
 abbrev pub exchange_of : Row → Exchange
 exchange_of r = record { drive = r.drive; reading = r.reading }

@@ -1,14 +1,9 @@
 -- What is kept beside a board.
 use Rattle.std.specs.Prelude.{◌≡◌, true, Option, Some}
 use Rattle.std.specs.Option.{ForSome}
-use Rattle.machine_shape.specs.declared.Shape.{Shape}
-use Rattle.machine_shape.specs.Shape.{pins_of}
+use Rattle.machine_shape.specs.{declared.Shape.Shape, Shape.pins_of}
 use Rattle.machine_meaning.specs.Faults.{AreFaultsOf}
-use Rattle.rig_board.specs.Boards.{BoardState}
-use Rattle.rig_board.specs.Device.{IsInSession}
-use Rattle.rig_board.specs.declared.kept.Kept.{Kept}
-use Rattle.rig_board.specs.Kept.{session_of}
-use Rattle.rig_board.specs.Rows.{AreBlank}
+use Rattle.rig_board.specs.{Boards.BoardState, Device.IsInSession, declared.kept.Kept.Kept, Kept.session_of, Rows.AreBlank}
 
 -- the session that is kept is the board's, and the rows that are kept for it are as wide as the machine
 pub record IsAlongside (b : BoardState) (k : Kept) : Type 0 where

@@ -1,7 +1,6 @@
 -- The machines that a board may be, by what it was answered, told or not.
 use Rattle.std.specs.Prelude.{◌≡◌, List, ◌++◌, Option}
-use Rattle.std.specs.List.{AllByRecursion}
-use Rattle.std.specs.Option.{ForSome}
+use Rattle.std.specs.{List.AllByRecursion, Option.ForSome}
 use Rattle.machine_meaning.specs.Circuit.{Pins}
 use Rattle.rig.specs.Rig.{Exchange, Past, Session, IsRunOf, drives_of, readings_of, standing}
 use Rattle.rig_board.specs.Device.{Device, IsInSession, GoesOnWith}

@@ -1,13 +1,9 @@
 -- A configuration once more.
 use Rattle.std.proofs.Common.{◌≡◌, ℕ, zero, suc, ◌+◌, ◌<◌, Bool, true, false, cond, eqb, List, [], ◌∷◌, ◌++◌, length, take, drop, get_or, set, map, refl, ap, ◌∙◌, arith, count_by, if◌then◌else◌, ◌==◌}
 use Rattle.std.specs.FinSet as set_
-use Rattle.std.specs.FinSet.{same_set, nat_cmp-IsAntisymmetric, from_list_push}
-use Rattle.std.specs.Cmp.{nat_cmp_total}
-use Rattle.std.proofs.lemmas.List.{map-append}
-use Rattle.std.proofs.lemmas.List.Sums.{sum_by-cons}
-use Rattle.std.proofs.lemmas.Bool.Decides.{nat_tests}
-use Rattle.machine_shape.specs.declared.Cross.{Cross}
-use Rattle.machine_config.specs.Vocabulary.{Configuration, is_closed, set_of}
+use Rattle.std.specs.{FinSet.same_set, FinSet.nat_cmp-IsAntisymmetric, FinSet.from_list_push, Cmp.nat_cmp_total}
+use Rattle.rig_doubled.proofs.Vocabulary.{map-append, Cross, Configuration, is_closed, set_of}
+use Rattle.std.proofs.lemmas.{List.Sums.sum_by-cons, Bool.Decides.nat_tests}
 use Rattle.machine_config.proofs.Members.{contains_times}
 
 -- the closed crosspoints are a set by their counts

@@ -1,17 +1,8 @@
 -- Sessions that have ended, and what explains them.
 use Rattle.std.proofs.Common.{◌≡◌, ◌≤◌, Bool, true, false, ℕ, Option, None, Some, IfSome, List, [], ◌∷◌, ◌++◌, inr, refl, sym, ap, ◌∙◌, subst, option_map, IsSome, is_some, if◌then◌else◌}
-use Rattle.std.proofs.lemmas.Bool.{false≢true}
-use Rattle.std.specs.List.{AllByRecursion}
-use Rattle.std.specs.Option.{option_map_or}
-use Rattle.std.proofs.lemmas.List.{flat_map_more}
-use Rattle.machine_shape.specs.Shape.{pins_of}
-use Rattle.machine_meaning.specs.Vocabulary.{Faults}
-use Rattle.machine_config.specs.Vocabulary.{Configuration}
+use Rattle.rig_doubled.proofs.Vocabulary.{false≢true, AllByRecursion, option_map_or, flat_map_more, pins_of, Faults, Configuration}
+use Rattle.rig_doubled.proofs.Vocabulary.{standing_runs, runs_more, Pair, Kept, Repeated, IsRepeating, ended_in, repeat_state}
 use Rattle.rig.specs.Rig.{Asked, RigState, Session, Past, IsRunOf, Explains, Narrows, standing}
-use Rattle.rig.proofs.Narrowing.{standing_runs, runs_more}
-use Rattle.rig_doubled.specs.declared.pairs.Pair.{Pair}
-use Rattle.rig_doubled.specs.declared.kept.Kept.{Kept}
-use Rattle.rig_doubled.specs.Repeats.{Repeated, IsRepeating, ended_in, repeat_state}
 use Rattle.rig_doubled.specs.Twins.{Twins, IsOfMachine, ArePaired, IsTwinned, session_with, twin_state}
 
 -- one more that has ended

@@ -2,12 +2,7 @@
 use Rattle.std.proofs.Common.{◌≡◌, ℕ, zero, suc, ◌+◌, ◌<◌, ◌≤◌, List, [], ◌∷◌, ◌++◌, map, length, take, drop, set, sym, ap, ◌∙◌, subst, arith}
 use Rattle.std.proofs.lemmas.List.{take_more_set, take-append-le, take_all, length-set, length-append, length-map, map-append, take-append-drop}
 use Rattle.std.proofs.lemmas.List.Elements.{All-set}
-use Rattle.machine_meaning.specs.Circuit.{Pins}
-use Rattle.machine_shape.specs.Shape.{pins_of}
-use Rattle.machine_config.specs.Configuration.{Roomy}
-use Rattle.rig.specs.Rig.{KeepLengths}
-use Rattle.rig_doubled.specs.declared.kept.Kept.{Kept}
-use Rattle.rig_doubled.specs.Repeats.{HaveWidth, IsRoomy, IsKept}
+use Rattle.rig_doubled.proofs.Vocabulary.{Pins, pins_of, Roomy, KeepLengths, Kept, HaveWidth, IsRoomy, IsKept}
 
 -- one row more of those that were made, of so many that were asked for
 module _ (rows : List Pins) (made : ℕ) (row : Pins) (all : List Pins) where

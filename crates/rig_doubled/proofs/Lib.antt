@@ -5,3 +5,4 @@ mod Pairing
 mod Repeating
 mod Sameness
 mod Twinning
+mod Vocabulary

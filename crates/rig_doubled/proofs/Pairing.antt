@@ -1,19 +1,11 @@
 -- Two rigs side by side.
 use Rattle.std.proofs.Common.{◌≡◌, ℕ, ◌+◌, ◌<◌, ◌≤◌, Option, None, Some, IfSome, List, [], ◌∷◌, ◌++◌, length, refl, sym, ap, ◌∙◌, subst, arith, option_map, IsSome, Result, Ok, Err, OnOk, IsOk}
-use Rattle.std.specs.Option.{option_map_or}
-use Rattle.std.proofs.lemmas.List.{map-append, append_cancel_left}
-use Rattle.std.proofs.lemmas.Bool.{false≢true}
-use Rattle.machine_meaning.specs.Vocabulary.{Pins, Faults}
-use Rattle.machine_shape.specs.Shape.{pins_of}
-use Rattle.machine_config.specs.Vocabulary.{Configuration, circuit_of, IsRun}
+use Rattle.rig_doubled.proofs.Vocabulary.{option_map_or, map-append, append_cancel_left, false≢true, Pins, Faults, pins_of, Configuration}
+use Rattle.rig_doubled.proofs.Vocabulary.{circuit_of, IsRun, Rose, session_run, Pair, HaveWidth}
 use Rattle.machine_config.proofs.Runs.{Runs-unique}
-use Rattle.base_io.specs.Counts.{Rose}
 use Rattle.rig.specs.declared.rig.RigFail.{RigFail}
 use Rattle.rig.specs.declared.rig.RigFail.TheVariants as work
-use Rattle.rig.proofs.Narrowing.{session_run}
 use Rattle.rig.specs.Rig.{RigState, Session, Exchange, Explains, GoesOn, GoesOnBy, CycleFails, CyclesFail, IsTold, config_of, cycles_of, spare_of, drives_of, readings_of}
-use Rattle.rig_doubled.specs.declared.pairs.Pair.{Pair}
-use Rattle.rig_doubled.specs.Repeats.{HaveWidth}
 use Rattle.rig_doubled.specs.Twins.{ArePaired, BothGoOn, BothGoOnBy, paired, session_with}
 
 -- a refusal where there is room is a failure

@@ -1,18 +1,11 @@
 -- A session that is asked again.
 use Rattle.std.proofs.Common.{◌≡◌, ◌⊎◌, inl, inr, Bool, true, false, ℕ, ◌≤◌, Option, None, Some, IfSome, List, [], ◌∷◌, ◌++◌, length, take, drop, get_or, refl, sym, ap, ◌∙◌, subst, arith, option_map, IsSome, is_some, if◌then◌else◌}
-use Rattle.std.specs.Option.{option_map_or}
-use Rattle.std.proofs.lemmas.List.{take-append-drop, length-take-le, map-append}
-use Rattle.std.proofs.lemmas.Bool.{false≢true}
-use Rattle.machine_meaning.specs.Vocabulary.{Pins, Faults}
-use Rattle.machine_shape.specs.Shape.{pins_of}
-use Rattle.machine_config.specs.Vocabulary.{Configuration, Roomy, circuit_of, IsRun, Cycles, at_load}
+use Rattle.rig_doubled.proofs.Vocabulary.{option_map_or, take-append-drop, length-take-le, map-append, false≢true, Pins, Faults, pins_of}
+use Rattle.rig_doubled.proofs.Vocabulary.{Configuration, Roomy, circuit_of, IsRun, Cycles, at_load, AllByRecursion, session_run, Kept}
+use Rattle.rig_doubled.proofs.Vocabulary.{HaveWidth, IsKept, IsOfSession, IsRunUnder, IsRepeating, KeepsFor, StillKeeps}
 use Rattle.machine_config.specs.Run.{Cycles.none}
 use Rattle.machine_config.proofs.Runs.{Runs-unique, Cycles-split}
-use Rattle.std.specs.List.{AllByRecursion}
 use Rattle.rig.specs.Rig.{RigState, Machine, Session, Past, Exchange, IsRunOf, Explains, ForEach, AreRows, GoesOn, GoesOnBy, Begins, shape_of, config_of, cycles_of, drives_of, readings_of}
-use Rattle.rig.proofs.Narrowing.{session_run}
-use Rattle.rig_doubled.specs.declared.kept.Kept.{Kept}
-use Rattle.rig_doubled.specs.Repeats.{HaveWidth, IsKept, IsOfSession, IsRunUnder, IsRepeating, KeepsFor, StillKeeps}
 
 -- the front of a run is one
 front_run : (f : Faults) (g : Configuration) (n : ℕ) (ds rs : List Pins) → n ≤ length ds → IsRun f g ds rs → IsRun f g (take n ds) (take n rs)

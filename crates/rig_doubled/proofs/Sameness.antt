@@ -1,7 +1,5 @@
 -- Rows that are the same.
-use Rattle.std.proofs.Common.{◌≡◌, Bool, true, false, List, [], ◌∷◌, refl, ap}
-use Rattle.std.proofs.Math.Bool.{beq}
-use Rattle.std.proofs.lemmas.Bool.{false≢true}
+use Rattle.rig_doubled.proofs.Vocabulary.{◌≡◌, Bool, true, false, List, [], ◌∷◌, refl, ap, beq, false≢true}
 use lib.Pointwise.{pointwise}
 
 pub same_bits : (xs ys : List Bool) → pointwise beq xs ys ≡ true → xs ≡ ys

@@ -1,12 +1,7 @@
 -- Two rigs side by side, and the sessions of both that have ended.
 use Rattle.std.proofs.Common.{◌≡◌, ℕ, Bool, true, Option, None, Some, IfSome, List, ◌++◌, length, refl, sym, ap, ◌∙◌, subst, arith, option_map, IsSome, is_some, if◌then◌else◌}
-use Rattle.std.proofs.lemmas.Bool.{false≢true}
-use Rattle.machine_shape.specs.Shape.{pins_of}
-use Rattle.machine_config.specs.Vocabulary.{Configuration}
+use Rattle.rig_doubled.proofs.Vocabulary.{false≢true, pins_of, Configuration, Pair, HaveWidth, ArePaired, IsTwinned, session_with}
 use Rattle.rig.specs.Rig.{Asked, Machine, RigState, Session, Past, Begins, Narrows, shape_of, standing}
-use Rattle.rig_doubled.specs.declared.pairs.Pair.{Pair}
-use Rattle.rig_doubled.specs.Repeats.{HaveWidth}
-use Rattle.rig_doubled.specs.Twins.{ArePaired, IsTwinned, session_with}
 use Rattle.rig_doubled.proofs.Endings.{ended_explains, second_ended}
 
 -- what is attached to both stays so

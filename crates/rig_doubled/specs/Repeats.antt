@@ -2,9 +2,8 @@
 use Rattle.std.specs.Prelude.{◌≡◌, ◌⊎◌, ℕ, ◌-◌, ◌^◌, ◌≤◌, ◌<◌, min, Bool, true, ◌&&◌, ◌==◌, if◌then◌else◌, List, [], ◌∷◌, length, take, All}
 use Rattle.std.specs.Prelude.{flat_map}
 use Rattle.std.specs.Prelude.{Option, None, Some, IfSome, is_some, nat_le}
-use Rattle.machine_shape.specs.declared.Cross.{Cross}
+use Rattle.machine_shape.specs.{declared.Cross.Cross, Shape.pins_of}
 use Rattle.machine_meaning.specs.Vocabulary.{Pins, Faults}
-use Rattle.machine_shape.specs.Shape.{pins_of}
 use Rattle.machine_config.specs.Vocabulary.{Configuration, IsRun, set_of}
 use Rattle.std.specs.List.{AllByRecursion}
 use Rattle.rig.specs.Rig.{RigState, Past, shape_of, config_of, cycles_of, drives_of, readings_of}

@@ -6,8 +6,7 @@ use Rattle.rig.specs.Rig.{Asked, Session, Past, Refused, RigState, shape_of, con
 use Rattle.rig.specs.Rig.{IsRunOf, Explains, Attaches, AttachFails, IsDetached}
 use Rattle.rig.specs.declared.rig.AttachFail.{AttachFail}
 use Rattle.rig.specs.declared.rig.AttachFail.TheVariants as attach
-use Rattle.rig_doubled.specs.Repeats.{HaveWidth}
-use Rattle.rig_doubled.specs.declared.pairs.Pair.{Pair}
+use Rattle.rig_doubled.specs.{Repeats.HaveWidth, declared.pairs.Pair.Pair}
 
 -- two rigs side by side, and what is their own of both
 pub record Twins (A B : Type 0) : Type 0 where

@@ -1,25 +1,12 @@
 -- Over a told machine nothing is taken for a failure but a failure of the port.
 use Rattle.std.proofs.Common.{◌≡◌, ℕ, suc, ◌≤◌, ◌<◌, ◌^◌, ◌+◌, Bool, true, false, List, [], ◌∷◌, ◌++◌, map, length, All, Option, None, Some, refl, sym, ap, ◌∙◌, arith, subst, IfSome, IsSome, is_some, option_map}
-use Rattle.std.proofs.lemmas.Bool.{false≢true}
-use Rattle.std.specs.Option.{option_map_or}
-use Rattle.machine_shape.specs.declared.Shape.{Shape}
-use Rattle.machine_shape.specs.Shape.{pins_of}
-use Rattle.machine_meaning.specs.Circuit.{Pins}
-use Rattle.machine_config.specs.Configuration.{Configuration}
-use Rattle.base_io.specs.Counts.{Rose}
+use Rattle.rig_port.proofs.Vocabulary.{false≢true, option_map_or, Shape, pins_of, Pins, Configuration, Rose, Device, HasRunSession}
+use Rattle.rig_port.proofs.Vocabulary.{WhereTold, Check, fresh_check, after, line_of, reading_line, counts_line, Answers, Reads, Drives}
+use Rattle.rig_port.proofs.Vocabulary.{PortState, AskFails, Link, IsLinked, told_with, IsRequest}
 use Rattle.rig.specs.Rig.{Exchange, Session, KeepLengths, drives_of, readings_of}
-use Rattle.rig_board.specs.Device.{Device, HasRunSession, WhereTold}
-use Rattle.rig_port.specs.declared.check.Check.{Check}
-use Rattle.rig_port.specs.Checks.{fresh_check, after}
-use Rattle.rig_port.specs.Lines.{line_of, reading_line, counts_line}
 use Rattle.rig_port.specs.Requests.{IsEditOf, AreWide, attach_body, attach_line, drives_text, led_drives, load_body, load_line}
-use Rattle.rig_port.specs.Answers.{Answers, Reads, Drives}
-use Rattle.rig_port.specs.Ports.{PortState, AskFails}
-use Rattle.rig_port.specs.declared.link.Link.{Link}
 use Rattle.rig_port.specs.declared.port.PortFail.{PortFail}
 use Rattle.rig_port.specs.declared.port.PortFail.TheVariants as port
-use Rattle.rig_port.specs.Linked.{IsLinked, told_with}
-use Rattle.rig_port.specs.Boards.{IsRequest}
 use Rattle.rig_port.proofs.Readings.{AreOf}
 
 -- a count that rose later rose

@@ -1,22 +1,12 @@
 -- What a rig answers as the other end of a port.
 use Rattle.std.proofs.Common.{◌≡◌, ℕ, suc, zero, ◌+◌, ◌^◌, ◌<◌, ◌≤◌, Bool, true, false, List, [], ◌∷◌, ◌++◌, length, map, All, Option, None, Some, refl, sym, ap, ◌∙◌, arith, subst, IfSome, IsSome, option_map, if◌then◌else◌}
-use Rattle.std.proofs.lemmas.Bool.{false≢true}
-use Rattle.std.proofs.lemmas.List.{length-map}
-use Rattle.std.specs.Option.{option_map_or}
-use Rattle.machine_shape.specs.declared.Shape.{Shape}
-use Rattle.machine_shape.specs.Shape.{pins_of}
-use Rattle.machine_meaning.specs.Vocabulary.{Pins, Faults}
+use Rattle.rig_port.proofs.Vocabulary.{false≢true, length-map, option_map_or, Shape, pins_of, Pins, Faults, lengths_kept, Device}
+use Rattle.rig_port.proofs.Vocabulary.{IsInSession, HasRunSession, WhereTold, Check, fresh_check, after, line_of, counts_body, counts_line}
+use Rattle.rig_port.proofs.Vocabulary.{reading_body, reading_line, Answers, Reads, IsFresh, Loads, Drives, start_of}
 use Rattle.machine_config.specs.Vocabulary.{Configuration, cleared, IsRun}
 use Rattle.rig.specs.Rig.{RigState, Exchange, Session, Asked, GoesOnBy, shape_of, config_of, cycles_of, drives_of, readings_of, IsTold, KeepLengths}
-use Rattle.rig_board.proofs.OneByOne.{lengths_kept}
-use Rattle.rig_board.specs.Device.{Device, IsInSession, HasRunSession, WhereTold}
-use Rattle.rig_port.specs.declared.check.Check.{Check}
-use Rattle.rig_port.specs.Checks.{fresh_check, after}
-use Rattle.rig_port.specs.Lines.{line_of, counts_body, counts_line, reading_body, reading_line}
 use Rattle.rig_port.specs.Requests.{Edit, edited, IsEditOf, AreWide, AreDrivesOf, attach_body, load_body, drives_text, attach_line, load_line, drives_line}
-use Rattle.rig_port.specs.Answers.{Answers, Reads, IsFresh, Loads, Drives, start_of}
-use Rattle.rig_port.specs.declared.wanted.Change.{Change}
-use Rattle.rig_port.specs.declared.wanted.Wanted.{Wanted}
+use Rattle.rig_port.specs.declared.wanted.{Change.Change, Wanted.Wanted}
 use Rattle.rig_port.specs.RigPorts.{IsNoRequest, IsShort, asks_counts, asks_load, asks_cycles, IsWantedOf, edit_of, edits_of, wanted_body, wanted_line, rig_device, IsDriven, IsAnswered, IsReady, start_from}
 use Rattle.rig_port.proofs.Room.{length_line}
 use Rattle.rig_port.proofs.Requested.{AreEditsOf, IsSameLoad, attach_no_load, attach_no_drives, load_no_drives, one_number, one_load, one_drives_line}

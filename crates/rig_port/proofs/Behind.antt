@@ -1,12 +1,6 @@
 -- Which machines may stand behind what was said.
 use Rattle.std.proofs.Common.{◌≡◌, ℕ, List, [], ◌∷◌, ◌++◌, refl, sym, ap, ◌∙◌, subst, Option, Some, Bool, true, false}
-use Rattle.std.proofs.lemmas.List.{append_assoc, append-nil}
-use Rattle.machine_shape.specs.declared.Shape.{Shape}
-use Rattle.machine_meaning.specs.Faults.{Faults}
-use Rattle.rig_board.specs.Device.{Device}
-use Rattle.rig_port.specs.declared.check.Check.{Check}
-use Rattle.rig_port.specs.Answers.{Answers}
-use Rattle.rig_port.specs.Said.{Said}
+use Rattle.rig_port.proofs.Vocabulary.{append_assoc, append-nil, Shape, Faults, Device, Check, Answers, Said}
 use Rattle.rig_port.specs.Transcripts.{and_said, HasSaid, MayStand, Behind, IsAmong, neither, both, passed, GoOn}
 
 -- the device between two parts of what was said

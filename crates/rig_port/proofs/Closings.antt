@@ -1,12 +1,7 @@
 -- What is closed after what is gone was opened and what is new was closed.
 use Rattle.std.proofs.Common.{◌≡◌, ℕ, suc, zero, ◌+◌, ◌≤◌, ◌<◌, Bool, true, false, List, [], ◌∷◌, ◌++◌, take, drop, length, get_or, refl, sym, ap, ◌∙◌, arith, subst, All, ◌==◌, if◌then◌else◌, count_by}
-use Rattle.std.proofs.lemmas.Bool.{false≢true}
-use Rattle.std.proofs.lemmas.Bool.Decides.{nat_tests}
-use Rattle.std.proofs.lemmas.List.Sums.{sum_by-cons, sum_by_push}
-use Rattle.std.proofs.lemmas.List.Elements.{All-append}
-use Rattle.std.proofs.Math.Seq.{take-suc}
-use Rattle.std.specs.FinSet.{same_set, nat_cmp-IsAntisymmetric}
-use Rattle.std.specs.Cmp.{nat_cmp_total}
+use Rattle.rig_port.proofs.Vocabulary.{false≢true, nat_tests, sum_by-cons, sum_by_push, All-append, take-suc}
+use Rattle.std.specs.{FinSet.same_set, FinSet.nat_cmp-IsAntisymmetric, Cmp.nat_cmp_total}
 use Rattle.machine_shape.specs.declared.Cross.{Cross}
 use Rattle.machine_config.specs.Configuration.{Configuration, is_closed, with_closed, with_open}
 use Rattle.machine_config.proofs.Changes.{is_closed-closed, is_closed-open}

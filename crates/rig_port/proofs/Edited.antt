@@ -1,12 +1,7 @@
 -- Edits one after another.
 use Rattle.std.proofs.Common.{◌≡◌, ℕ, zero, suc, arith, List, [], ◌∷◌, ◌++◌, All, refl, sym, ap, ◌∙◌, subst}
-use Rattle.std.proofs.lemmas.List.{append-nil, append_assoc}
-use Rattle.std.proofs.lemmas.List.Elements.{All-append}
-use Rattle.std.proofs.lemmas.Grind.{flat_map-append}
-use Rattle.std.proofs.lemmas.List.Sums.{fold-append}
-use Rattle.machine_config.specs.Configuration.{Configuration}
+use Rattle.rig_port.proofs.Vocabulary.{append-nil, append_assoc, All-append, flat_map-append, fold-append, Configuration, AreEdited}
 use Rattle.rig_port.specs.Requests.{Edit, edited, edited_by, edit_text, edits_text, IsEditOf}
-use Rattle.rig_port.specs.Linked.{AreEdited}
 
 abbrev pub spelled : Edit → List ℕ
 spelled e = edit_text e ++ 32 ∷ []

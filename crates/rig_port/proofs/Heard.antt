@@ -1,8 +1,6 @@
 -- What was read before a reply.
 use Rattle.std.proofs.Common.{◌≡◌, ◌⊎◌, inl, inr, ℕ, ◌+◌, ◌-◌, ◌^◌, ◌≤◌, min, Bool, true, false, List, [], ◌++◌, length, Option, None, Some, refl, sym, ap, ◌∙◌, arith, subst, Result, Ok, Err, IfOk}
-use Rattle.std.proofs.lemmas.List.{append_assoc, length-append}
-use Rattle.std.specs.Io.KnownBytes.{Consumes}
-use Rattle.rig_port.specs.FilePorts.{AsksWhatItIs, HasHeard}
+use Rattle.rig_port.proofs.Vocabulary.{append_assoc, length-append, Consumes, AsksWhatItIs, HasHeard}
 
 -- so far these bytes were read and dropped
 pub record HasDropped (was_cut is_cut : Bool) (request : List ℕ) (old new : Option (List ℕ)) (count : ℕ) : Type 0 where

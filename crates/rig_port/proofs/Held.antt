@@ -1,29 +1,14 @@
 -- What is kept of a machine goes with it.
 use Rattle.std.proofs.Common.{◌≡◌, ℕ, suc, zero, ◌+◌, ◌-◌, ◌≤◌, Bool, true, false, List, [], ◌∷◌, ◌++◌, map, take, drop, length, get_or, All, Option, None, Some, refl, sym, ap, ◌∙◌, arith, subst, IfSome, IsSome, Result, Ok, Err, OnOk}
-use Rattle.std.proofs.lemmas.Bool.{false≢true}
+use Rattle.rig_port.proofs.Vocabulary.{false≢true, All-append, fold-append, flat_map-append, take-append_seam, option_map_or, vec_capacity}
+use Rattle.rig_port.proofs.Vocabulary.{Shape, pins_of, Pins, Exchange, KeepLengths, drives_of, readings_of, Device, HasRunSession}
+use Rattle.rig_port.proofs.Vocabulary.{GoesOnWith, WhereTold, told_more, drives_more, readings_more, Link, turn_room, start_of, PortState}
+use Rattle.rig_port.proofs.Vocabulary.{AreEdited, IsPosted, IsLinked, HasTurned, told_with, IsHeld}
 use Rattle.std.proofs.lemmas.List.{append-nil, append_assoc, map-append, length-map, length-drop, length-take, length-take-le, take_all, take-append-drop}
-use Rattle.std.proofs.lemmas.List.Elements.{All-append}
 use Rattle.std.proofs.lemmas.Slice.{take-put_mid}
-use Rattle.std.proofs.lemmas.List.Sums.{fold-append}
-use Rattle.std.proofs.lemmas.Grind.{flat_map-append}
-use Rattle.std.proofs.Math.Seq.{take-append_seam}
-use Rattle.std.specs.Option.{option_map_or}
-use Rattle.std.specs.Vec.{vec_capacity}
-use Rattle.machine_shape.specs.declared.Shape.{Shape}
-use Rattle.machine_shape.specs.Shape.{pins_of}
-use Rattle.machine_meaning.specs.Circuit.{Pins}
 use Rattle.machine_config.specs.Vocabulary.{Configuration, cleared, circuit_of, none, at_load}
-use Rattle.rig.specs.Rig.{Exchange, KeepLengths, drives_of, readings_of}
 use borrow.Rule.Slice.PartMut.{mid_of, post_of, put_mid, put_same}
-use Rattle.rig_board.specs.Device.{Device, HasRunSession, GoesOnWith, WhereTold}
-use Rattle.rig_board.proofs.OneByOne.{told_more, drives_more, readings_more}
-use Rattle.rig_port.specs.declared.link.Link.{Link}
-use Rattle.rig_port.specs.Lines.{turn_room}
 use Rattle.rig_port.specs.Requests.{edited, edited_by, edits_text, start_text, IsEditOf}
-use Rattle.rig_port.specs.Answers.{start_of}
-use Rattle.rig_port.specs.Ports.{PortState}
-use Rattle.rig_port.specs.Linked.{AreEdited, IsPosted, IsLinked, HasTurned, told_with}
-use Rattle.rig_port.specs.Boards.{IsHeld}
 use Rattle.rig_port.proofs.Alarm.{told_here}
 use Rattle.rig_port.proofs.Edited.{spelled}
 

@@ -17,3 +17,4 @@ mod Standing
 mod Taken
 mod Telling
 mod Turned
+mod Vocabulary

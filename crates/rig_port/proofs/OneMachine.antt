@@ -1,20 +1,11 @@
 -- A line of counts is that of one machine.
 use Rattle.std.proofs.Common.{◌≡◌, ℕ, suc, zero, ◌+◌, ◌^◌, ◌<◌, ◌≤◌, List, [], ◌∷◌, ◌++◌, drop, map, length, get_or, All, Option, None, Some, refl, sym, ap, ◌∙◌, arith, subst, flat_map, decimal, codes, IfSome, IsSome, is_some}
-use Rattle.std.proofs.lemmas.Bool.{false≢true}
-use Rattle.std.proofs.lemmas.List.{append_assoc, ext_get_or}
+use Rattle.rig_port.proofs.Vocabulary.{false≢true, append_assoc, ext_get_or, join_by, Shape, cleared, Device, WhereTold, Answers, Check}
+use Rattle.rig_port.proofs.Vocabulary.{fresh_check, after, attach_body, attach_line, numbers_of, AreCounts, counts_body, counts_line}
 use Rattle.std.proofs.lemmas.Fmt.{decimal_injective, decimal_digit, decimal-digits_of}
-use Rattle.std.specs.List.{join_by}
 use Rattle.std.specs.Int.Digits.{digits_of}
 use Rattle.machine_shape.specs.declared.Counts.{Counts}
-use Rattle.machine_shape.specs.declared.Shape.{Shape}
 use Rattle.machine_shape.proofs.OneShape.{same-shape}
-use Rattle.machine_config.specs.Configuration.{cleared}
-use Rattle.rig_board.specs.Device.{Device, WhereTold}
-use Rattle.rig_port.specs.Answers.{Answers}
-use Rattle.rig_port.specs.declared.check.Check.{Check}
-use Rattle.rig_port.specs.Checks.{fresh_check, after}
-use Rattle.rig_port.specs.Requests.{attach_body, attach_line}
-use Rattle.rig_port.specs.Lines.{numbers_of, AreCounts, counts_body, counts_line}
 use Rattle.rig_port.proofs.Spelled.{led}
 use Rattle.rig_port.proofs.Readings.{cut, sealed, sealed_line}
 

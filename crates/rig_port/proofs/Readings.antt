@@ -1,13 +1,7 @@
 -- A line of readings has one reading.
 use Rattle.std.proofs.Common.{◌≡◌, ℕ, suc, zero, ◌+◌, ◌*◌, ◌/◌, ◌%◌, ◌<◌, ◌≤◌, Bool, true, false, List, [], ◌∷◌, ◌++◌, length, get_or, drop, All, refl, sym, ap, ◌∙◌, arith, subst, flat_map, Ok, ◌==◌}
-use Rattle.std.proofs.lemmas.Bool.Decides.{nat_tests}
-use Rattle.std.proofs.lemmas.List.{append_assoc, ext_get_or}
-use Rattle.std.specs.Int.{div_ceil}
-use Rattle.hex.specs.Hex.{encode_lower, decode_of, lower_digits, IsBytes}
-use Rattle.hex.proofs.HexLemmas.{decode_of-encode_lower, length-encode_with}
-use Rattle.machine_meaning.specs.Circuit.{Pins}
-use Rattle.rig_port.specs.declared.check.Check.{Check}
-use Rattle.rig_port.specs.Checks.{after, check_bytes}
+use Rattle.rig_port.proofs.Vocabulary.{nat_tests, append_assoc, ext_get_or, div_ceil, encode_lower, decode_of, lower_digits, IsBytes}
+use Rattle.rig_port.proofs.Vocabulary.{decode_of-encode_lower, length-encode_with, Pins, Check, after, check_bytes}
 use Rattle.rig_port.specs.Lines.{line_of, pin_bit, bit_of, octet_at, octets_below, pin_text, reading_body, reading_line}
 use Rattle.rig_port.proofs.Spelled.{led}
 

@@ -1,11 +1,7 @@
 -- Lines of a recorded talk.
 use Rattle.std.proofs.Common.{◌≡◌, ◌≢◌, ℕ, suc, ◌+◌, ◌-◌, ◌^◌, ◌≤◌, ◌<◌, min, List, [], ◌∷◌, ◌++◌, take, drop, length, get_or, All, refl, sym, ap, ◌∙◌, arith, subst}
 use Rattle.std.proofs.lemmas.List.{append-nil, append_assoc, drop-drop, length-append, length-drop, length-take-le, take-append-drop, take_all}
-use Rattle.rig_port.specs.FilePorts.{IsLine}
-use Rattle.rig_port.specs.Replays.{HasReplayed, IsDue, BeginsWith, recorded_of}
-use Rattle.rig_port.specs.Said.{Said}
-use Rattle.rig_port.specs.Transcripts.{and_said}
-use Rattle.std.proofs.lemmas.Grind.{flat_map-append}
+use Rattle.rig_port.proofs.Vocabulary.{IsLine, HasReplayed, IsDue, BeginsWith, recorded_of, Said, and_said, flat_map-append}
 
 abbrev AreInner : List ℕ → Type 0
 AreInner bytes = All (λ byte. byte ≢ 10) bytes

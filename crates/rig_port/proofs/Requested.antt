@@ -1,20 +1,10 @@
 -- A line of a request is that of one request.
 use Rattle.std.proofs.Common.{◌≡◌, ℕ, suc, zero, ◌+◌, ◌*◌, ◌^◌, ◌<◌, ◌≤◌, Bool, true, false, List, [], ◌∷◌, ◌++◌, length, map, drop, get_or, All, refl, sym, ap, ◌∙◌, arith, subst, flat_map, decimal, codes, Ok}
-use Rattle.std.proofs.lemmas.List.{append_assoc}
-use Rattle.std.proofs.lemmas.Fmt.{decimal_injective}
-use Rattle.std.proofs.lemmas.Nat.{from_be_bytes-to_be_bytes_8}
-use Rattle.std.specs.List.{join_by}
-use Rattle.std.specs.Int.{byte_at, bytes_high_first, to_be_bytes, from_be_bytes, w64, div_ceil}
-use Rattle.hex.specs.Hex.{encode_lower, decode_of, lower_digits, IsBytes}
-use Rattle.hex.proofs.HexLemmas.{decode_of-encode_lower, length-encode_with}
-use Rattle.machine_shape.specs.declared.Shape.{Shape}
+use Rattle.rig_port.proofs.Vocabulary.{append_assoc, join_by, byte_at, bytes_high_first, to_be_bytes, from_be_bytes, w64, div_ceil}
+use Rattle.rig_port.proofs.Vocabulary.{encode_lower, decode_of, lower_digits, IsBytes, decode_of-encode_lower, length-encode_with, Shape}
+use Rattle.rig_port.proofs.Vocabulary.{crosses_of, tables_of, pins_of, levels_of, Pins, Setting, Check, fresh_check, pin_bit, pin_text}
+use Rattle.std.proofs.lemmas.{Fmt.decimal_injective, Nat.from_be_bytes-to_be_bytes_8}
 use Rattle.machine_shape.proofs.HighLimits.{high_limits}
-use Rattle.machine_shape.specs.Shape.{crosses_of, tables_of, pins_of, levels_of}
-use Rattle.machine_meaning.specs.Circuit.{Pins}
-use Rattle.machine_config.specs.declared.Setting.{Setting}
-use Rattle.rig_port.specs.declared.check.Check.{Check}
-use Rattle.rig_port.specs.Checks.{fresh_check}
-use Rattle.rig_port.specs.Lines.{pin_bit, pin_text}
 use Rattle.rig_port.specs.Requests.{Edit, Close, Open, On, Off, Tick, IsEditOf, flag_digit, edit_text, edits_text, drives_text, led_drives, AreWide, AreDrivesOf, start_text, attach_body, load_body, attach_line, load_line, drives_line}
 use Rattle.rig_port.proofs.Spelled.{led}
 use Rattle.rig_port.proofs.Settings.{same_setting}

@@ -2,32 +2,14 @@
 use Rattle.std.proofs.Common.{◌≡◌, get_or, ℕ, suc, zero, ◌+◌, ◌≤◌, ◌<◌, Bool, true, false, List, [], ◌∷◌, ◌++◌, length, take, set, All, Option, None, Some, refl, sym, ap, ◌∙◌, arith, subst, IfSome, is_some, option_map, Result, Ok, Err, OnOk, OnErr, ◌⊎◌, inl, inr, ◌-◌}
 use Rattle.std.proofs.Math.Bool.{beq}
 use lib.Pointwise.{pointwise}
-use Rattle.std.proofs.lemmas.Bool.{false≢true}
-use Rattle.std.proofs.lemmas.List.{length-map, length-take-le, take_more_set, length-set}
-use Rattle.std.proofs.lemmas.List.Elements.{All-set}
-use Rattle.rig_board.proofs.OneByOne.{lengths_kept}
-use Rattle.machine_shape.specs.declared.Shape.{Shape}
-use Rattle.machine_shape.specs.Shape.{pins_of}
-use Rattle.machine_meaning.specs.Vocabulary.{Pins, Faults}
-use Rattle.machine_config.specs.Configuration.{Configuration, cleared}
-use Rattle.base_io.specs.Counts.{Rose}
+use Rattle.rig_port.proofs.Vocabulary.{false≢true, length-map, length-take-le, take_more_set, length-set, All-set, lengths_kept, Shape}
+use Rattle.rig_port.proofs.Vocabulary.{pins_of, Pins, Faults, Configuration, cleared, Rose, Exchange, KeepLengths, drives_of, readings_of}
+use Rattle.rig_port.proofs.Vocabulary.{Device, IsInSession, HasRunSession, GoesOnWith, WhereTold, Again, Link, edited, IsEditOf, AreWide}
+use Rattle.rig_port.proofs.Vocabulary.{edits_text, AllStandUp, StandsTold, option_map_or, vec_len, vec_capacity, AreCounts, turn_room}
+use Rattle.rig_port.proofs.Vocabulary.{IsHeld, IsUp, start_of, PortState, AreEdited, IsPosted, IsLinked, HasTurned, told_with}
 use Rattle.rig.specs.Flaky.{both_counts}
-use Rattle.rig.specs.Rig.{Exchange, KeepLengths, drives_of, readings_of}
-use Rattle.rig_board.specs.Device.{Device, IsInSession, HasRunSession, GoesOnWith, WhereTold}
 use Rattle.rig_board.proofs.Driven.{same_pairs}
-use Rattle.rig_port.specs.declared.again.Again.{Again}
-use Rattle.rig_port.specs.declared.link.Link.{Link}
-use Rattle.rig_port.specs.Requests.{edited, IsEditOf, AreWide, edits_text}
-use Rattle.rig_port.specs.Stands.{AllStandUp, StandsTold}
 use Rattle.rig_port.specs.Turns.{CanTurn}
-use Rattle.std.specs.Option.{option_map_or}
-use Rattle.std.specs.Prelude.{vec_len}
-use Rattle.std.specs.Vec.{vec_capacity}
-use Rattle.rig_port.specs.Lines.{AreCounts, turn_room}
-use Rattle.rig_port.specs.Boards.{IsHeld, IsUp}
-use Rattle.rig_port.specs.Answers.{start_of}
-use Rattle.rig_port.specs.Ports.{PortState}
-use Rattle.rig_port.specs.Linked.{AreEdited, IsPosted, IsLinked, HasTurned, told_with}
 use Rattle.rig_port.specs.Sessions.{SetsAnew, HasRows, CanResume, HasMade, IsOf, KeepsSession, kept_drives, kept_reads, kept_pairs, paired}
 use Rattle.rig_port.proofs.Alarm.{told_map}
 use Rattle.rig_port.proofs.Turned.{drives_paired, readings_paired, length_drives}

@@ -1,15 +1,8 @@
 -- That lines have room.
 use Rattle.std.proofs.Common.{◌≡◌, ℕ, suc, ◌+◌, ◌*◌, ◌/◌, ◌<◌, ◌≤◌, List, [], ◌∷◌, ◌++◌, take, drop, length, get_or, refl, sym, ap, ◌∙◌, arith, flat_map}
 use Rattle.std.proofs.Math.Nat.{zero-mul, suc-mul, mul-suc, div-mul-le_self, le-mul_of_pos_right, mul-le-mul_right}
-use Rattle.std.proofs.Math.Seq.{take-suc}
-use Rattle.std.proofs.lemmas.List.{length-take, length-append}
-use Rattle.std.proofs.lemmas.List.Sums.{sum_by-cons, sum_by_push, sum_by-take-le}
-use Rattle.std.specs.Int.{div_ceil}
-use Rattle.std.specs.List.{sum_by}
-use Rattle.hex.specs.Hex.{encode_with}
-use Rattle.machine_meaning.specs.Circuit.{Pins}
-use Rattle.rig_port.specs.declared.check.Check.{Check}
-use Rattle.rig_port.specs.Lines.{line_of, word_room, turn_room, pin_text, reading_body}
+use Rattle.rig_port.proofs.Vocabulary.{take-suc, length-take, length-append, sum_by-cons, sum_by_push, sum_by-take-le, div_ceil, sum_by}
+use Rattle.rig_port.proofs.Vocabulary.{encode_with, Pins, Check, line_of, word_room, turn_room, pin_text, reading_body}
 use Rattle.rig_port.proofs.Spelled.{led}
 use Rattle.rig_port.proofs.Readings.{AreOf, sealed, sealed_line, length_text}
 

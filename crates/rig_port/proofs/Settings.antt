@@ -1,9 +1,7 @@
 -- Tables one after another.
 use Rattle.std.proofs.Common.{◌≡◌, ◌≢◌, ℕ, ◌+◌, ◌<◌, Bool, true, false, Option, None, length, set, refl, sym, ap, ◌∙◌, arith, ◌==◌}
-use Rattle.std.proofs.lemmas.Bool.Decides.{nat_tests}
+use Rattle.rig_port.proofs.Vocabulary.{nat_tests, Setting, Configuration, setting_of, with_setting}
 use Rattle.std.proofs.lemmas.List.{get_or-set_same, get_or-set_other, set-get_or, ext_get_or, length-set}
-use Rattle.machine_config.specs.declared.Setting.{Setting}
-use Rattle.machine_config.specs.Configuration.{Configuration, setting_of, with_setting}
 
 -- a table that has its setting
 pub same_given : (g : Configuration) (t : ℕ) (s : Option Setting) → setting_of g t ≡ s → g ≡ with_setting g t s

@@ -1,11 +1,6 @@
 -- How lines are put together.
 use Rattle.std.proofs.Common.{◌≡◌, ℕ, suc, zero, ◌+◌, ◌-◌, ◌*◌, ◌<◌, List, [], ◌∷◌, ◌++◌, take, length, get_or, sym, ap, ◌∙◌, arith, flat_map}
-use Rattle.std.proofs.lemmas.List.{append-nil, append_assoc}
-use Rattle.std.proofs.lemmas.Grind.{flat_map-append}
-use Rattle.std.proofs.Math.Seq.{take-suc}
-use Rattle.std.specs.List.{join_by}
-use Rattle.hex.specs.Hex.{encode_lower, encode_with}
-use Rattle.machine_meaning.specs.Circuit.{Pins}
+use Rattle.rig_port.proofs.Vocabulary.{append-nil, append_assoc, flat_map-append, take-suc, join_by, encode_lower, encode_with, Pins}
 use Rattle.rig_port.specs.Lines.{gap, octet_at, octets_below}
 
 pub octets_step : (text : List ℕ) (byte : ℕ) (bytes : List ℕ) → text ++ encode_lower (byte ∷ []) ++ encode_lower bytes ≡ text ++ encode_lower (byte ∷ bytes)

@@ -1,32 +1,13 @@
 -- What is kept of a machine goes with each that may stand behind what was said.
 use Rattle.std.proofs.Common.{◌≡◌, ℕ, ◌+◌, ◌<◌, ◌≤◌, ◌^◌, ◌-◌, Bool, true, false, List, [], ◌∷◌, ◌++◌, take, drop, get_or, length, Option, None, Some, refl, sym, ap, ◌∙◌, subst, IfSome, is_some, option_map, Result, OnOk, OnErr}
-use Rattle.std.proofs.lemmas.Bool.{false≢true}
-use Rattle.std.specs.Prelude.{vec_len}
-use Rattle.std.specs.Vec.{vec_capacity}
-use Rattle.machine_shape.specs.declared.Shape.{Shape}
-use Rattle.machine_shape.specs.Shape.{pins_of}
-use Rattle.machine_meaning.specs.Circuit.{Pins}
-use Rattle.machine_meaning.specs.Faults.{Faults, AreFaultsOf}
-use Rattle.machine_config.specs.Configuration.{Configuration, cleared}
-use Rattle.rig.specs.Rig.{Exchange, RigState, Explains, KeepLengths}
+use Rattle.rig_port.proofs.Vocabulary.{false≢true, vec_len, vec_capacity, Shape, pins_of, Pins, Faults, AreFaultsOf, Configuration, cleared}
+use Rattle.rig_port.proofs.Vocabulary.{Exchange, RigState, Explains, KeepLengths, Device, IsInSession, GoesOnWith, WhereTold, Narrows}
+use Rattle.rig_port.proofs.Vocabulary.{EachWas, GoesOnBy, Again, Check, Link, Answers, IsHeld, IsKeptUp, IsUp, state_of, option_map_or}
+use Rattle.rig_port.proofs.Vocabulary.{fresh_check, after, AreCounts, counts_body, turn_room, PortState, machine_told, attach_body}
+use Rattle.rig_port.proofs.Vocabulary.{attach_line, Said, HasRows, CanResume, KeepsSession, paired, MayStand, Behind, GoOn}
 use borrow.Rule.Slice.PartMut.{put_mid}
-use Rattle.rig_board.specs.Device.{Device, IsInSession, GoesOnWith, WhereTold}
-use Rattle.rig_board.specs.Machines.{Narrows, EachWas, GoesOnBy}
-use Rattle.rig_port.specs.declared.again.Again.{Again}
-use Rattle.rig_port.specs.declared.check.Check.{Check}
-use Rattle.rig_port.specs.declared.link.Link.{Link}
-use Rattle.rig_port.specs.Answers.{Answers}
-use Rattle.rig_port.specs.Boards.{IsHeld, IsKeptUp, IsUp, state_of}
-use Rattle.std.specs.Option.{option_map_or}
-use Rattle.rig_port.specs.Checks.{fresh_check, after}
-use Rattle.rig_port.specs.Lines.{AreCounts, counts_body, turn_room}
 use Rattle.rig_port.specs.Linked.{IsPosted, IsLinked, HasTurned, PortBoardState, told_with, waiting}
-use Rattle.rig_port.specs.Ports.{PortState, machine_told}
-use Rattle.rig_port.specs.Requests.{attach_body, attach_line}
-use Rattle.rig_port.specs.Said.{Said}
-use Rattle.rig_port.specs.Sessions.{HasRows, CanResume, KeepsSession, paired}
 use Rattle.rig_port.specs.Stands.{StandsTold, StandsUp, AllStandUp, Finds, Turns, Makes, TurnsAgain, GoesOn, as_told, MayBe}
-use Rattle.rig_port.specs.Transcripts.{MayStand, Behind, GoOn}
 use Rattle.rig_port.proofs.Behind.{SameMachine, Anyhow, behind_all, machine_of, said_none, stands_faults, stands_shape}
 use Rattle.rig_port.proofs.Held.{cycled_one, fresh_held, not_turned, turned_next, whole_turned}
 use Rattle.rig_port.proofs.Resumed.{HasShape, fresh_resumes, made_first, made_more, in_session, posted_held, still_shaped, turned_again}

@@ -1,16 +1,9 @@
 -- What is read of a line of readings.
 use Rattle.std.proofs.Common.{◌≡◌, ℕ, zero, suc, ◌+◌, ◌-◌, ◌*◌, ◌/◌, ◌%◌, ◌^◌, ◌<◌, ◌≤◌, Bool, true, false, List, [], ◌∷◌, ◌++◌, map, take, drop, length, get_or, set, refl, sym, ap, ◌∙◌, arith, subst, flat_map, ◌==◌, Result, Ok, MatchResult}
-use Rattle.std.proofs.lemmas.Bool.Decides.{nat_tests}
+use Rattle.rig_port.proofs.Vocabulary.{nat_tests, get_or-set_at, take-suc, drop-append_seam, drop-nil, div_ceil, encode_lower, encode_with}
+use Rattle.rig_port.proofs.Vocabulary.{decode_sized, IsBytes, decode_sized-encode_lower, Pins, KeepLengths, Check}
 use Rattle.std.proofs.lemmas.List.{append_assoc, drop_more, get_or-drop, get_or-set_other, length-drop, length-map, length-append, take_more_set, ext_get_or}
-use Rattle.std.proofs.lemmas.Grind.{get_or-set_at}
-use Rattle.std.proofs.Math.Seq.{take-suc, drop-append_seam, drop-nil}
-use Rattle.std.specs.Int.{div_ceil}
-use Rattle.hex.specs.Hex.{encode_lower, encode_with, decode_sized, IsBytes}
 use Rattle.hex.specs.declared.error.FromHexError.{FromHexError}
-use Rattle.hex.proofs.HexLemmas.{decode_sized-encode_lower}
-use Rattle.machine_meaning.specs.Circuit.{Pins}
-use Rattle.rig.specs.Rig.{KeepLengths}
-use Rattle.rig_port.specs.declared.check.Check.{Check}
 use Rattle.rig_port.specs.Lines.{pin_bit, bit_of, octet_at, octets_below, pin_text, reading_body, reading_line}
 use Rattle.rig_port.proofs.Spelled.{led}
 use Rattle.rig_port.proofs.Readings.{few, octet_small, length_octets, length_text, sealed, sealed_line}

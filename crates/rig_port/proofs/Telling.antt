@@ -1,22 +1,8 @@
 -- The machine that a port tells stands behind what was said.
 use Rattle.std.proofs.Common.{◌≡◌, ℕ, ◌^◌, ◌<◌, Bool, true, false, List, [], ◌∷◌, ◌++◌, Option, None, Some, refl, sym, ap, ◌∙◌, subst, IfSome, option_map, is_some}
-use Rattle.std.proofs.lemmas.Bool.{false≢true}
-use Rattle.machine_shape.specs.declared.Shape.{Shape}
-use Rattle.machine_meaning.specs.Faults.{Faults}
-use Rattle.machine_config.specs.Configuration.{Configuration}
-use Rattle.rig_board.specs.Device.{Device, WhereTold}
-use Rattle.rig_port.specs.declared.again.Again.{Again}
-use Rattle.rig_port.specs.declared.check.Check.{Check}
-use Rattle.rig_port.specs.declared.link.Link.{Link}
-use Rattle.rig_port.specs.Answers.{Answers, IsFresh}
-use Rattle.rig_port.specs.Boards.{IsUp, IsHeld, state_of}
-use Rattle.rig_port.specs.Linked.{PortBoardState, told_with, waiting}
-use Rattle.rig_port.specs.Ports.{PortState, machine_told}
-use Rattle.rig_port.specs.Requests.{attach_line}
-use Rattle.rig_port.specs.Said.{Said}
-use Rattle.rig_port.specs.Sessions.{CanResume}
-use Rattle.rig_port.specs.Stands.{AllStandUp, HasStood, StandsTold, MayBe, as_told}
-use Rattle.rig_port.specs.Transcripts.{and_said, HasSaid, MayStand}
+use Rattle.rig_port.proofs.Vocabulary.{false≢true, Shape, Faults, Configuration, Device, WhereTold, Again, Check, Link, Answers, IsFresh}
+use Rattle.rig_port.proofs.Vocabulary.{IsUp, IsHeld, state_of, PortBoardState, told_with, waiting, PortState, machine_told, attach_line}
+use Rattle.rig_port.proofs.Vocabulary.{Said, CanResume, AllStandUp, HasStood, StandsTold, MayBe, as_told, and_said, HasSaid, MayStand}
 use Rattle.rig_port.proofs.Answered.{attach_answers}
 use Rattle.rig_port.proofs.Behind.{stands_faults, stands_shape}
 use Rattle.rig_port.proofs.Resumed.{HasShape}

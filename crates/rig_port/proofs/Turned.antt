@@ -1,20 +1,10 @@
 -- What a turn makes of the machine is what is kept of it.
 use Rattle.std.proofs.Common.{◌≡◌, ℕ, suc, Bool, true, false, List, [], ◌∷◌, ◌++◌, length, All, Option, None, Some, refl, sym, ap, ◌∙◌, arith, subst, IfSome, IsSome, is_some, option_map}
-use Rattle.std.proofs.lemmas.Bool.{false≢true}
-use Rattle.machine_shape.specs.declared.Shape.{Shape}
-use Rattle.machine_shape.specs.Shape.{pins_of}
-use Rattle.machine_meaning.specs.Circuit.{Pins}
-use Rattle.machine_config.specs.Configuration.{Configuration}
-use Rattle.rig.specs.Rig.{Exchange, Session, drives_of, readings_of}
-use Rattle.rig_board.specs.Device.{Device, HasRunSession, GoesOnWith, WhereTold}
+use Rattle.rig_port.proofs.Vocabulary.{false≢true, Shape, pins_of, Pins, Configuration, Exchange, Session, drives_of, readings_of, Device}
+use Rattle.rig_port.proofs.Vocabulary.{HasRunSession, GoesOnWith, WhereTold, Check, after, line_of, reading_body, reading_line, Answers}
+use Rattle.rig_port.proofs.Vocabulary.{Reads, Loads, Drives, start_of, IsLinked, HasTurned, told_with, paired}
 use Rattle.rig_board.proofs.Driven.{same_pairs}
-use Rattle.rig_port.specs.declared.check.Check.{Check}
-use Rattle.rig_port.specs.Checks.{after}
-use Rattle.rig_port.specs.Lines.{line_of, reading_body, reading_line}
 use Rattle.rig_port.specs.Requests.{edited, IsEditOf, AreWide, drives_text, led_drives, load_body, load_line}
-use Rattle.rig_port.specs.Answers.{Answers, Reads, Loads, Drives, start_of}
-use Rattle.rig_port.specs.Linked.{IsLinked, HasTurned, told_with}
-use Rattle.rig_port.specs.Sessions.{paired}
 use Rattle.rig_port.proofs.Alarm.{IsAsked}
 use Rattle.rig_port.proofs.Readings.{AreOf, one_reading}
 

@@ -1,14 +1,12 @@
 -- What a machine behind a port answers, and how it then stands.
 use Rattle.std.specs.Prelude.{◌≡◌, ℕ, ◌^◌, ◌<◌, Bool, true, false, List, [], ◌++◌, None, All, IfSome, length}
-use Rattle.machine_shape.specs.declared.Shape.{Shape}
-use Rattle.machine_shape.specs.Shape.{pins_of}
+use Rattle.machine_shape.specs.{declared.Shape.Shape, Shape.pins_of}
 use Rattle.machine_meaning.specs.Circuit.{Pins}
 use Rattle.machine_config.specs.Configuration.{Configuration, cleared}
 use Rattle.rig.specs.Rig.{Exchange, drives_of, readings_of}
 use Rattle.rig_board.specs.Device.{Device, IsInSession, HasRunSession}
 use Rattle.rig_port.specs.declared.check.Check.{Check}
-use Rattle.rig_port.specs.Checks.{fresh_check, after}
-use Rattle.rig_port.specs.Lines.{counts_body, counts_line, reading_body, reading_line}
+use Rattle.rig_port.specs.{Checks.fresh_check, Checks.after, Lines.counts_body, Lines.counts_line, Lines.reading_body, Lines.reading_line}
 use Rattle.rig_port.specs.Requests.{Edit, edited, IsEditOf, AreWide, AreDrivesOf, attach_body, load_body, drives_text}
 use Rattle.rig_port.specs.Requests.{attach_line, load_line, drives_line}
 

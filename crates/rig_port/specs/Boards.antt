@@ -1,20 +1,11 @@
 -- What a board over a port means, by what it keeps.
 use Rattle.std.specs.Prelude.{◌≡◌, ℕ, ◌+◌, ◌≤◌, true, false, List, vec_len, Option, None, Some, IfSome, IsSome, is_some}
-use Rattle.std.specs.Vec.{vec_capacity}
-use Rattle.std.specs.Option.{option_map_or}
-use Rattle.machine_shape.specs.declared.Shape.{Shape}
-use Rattle.machine_shape.specs.Shape.{pins_of}
+use Rattle.std.specs.{Vec.vec_capacity, Option.option_map_or}
+use Rattle.machine_shape.specs.{declared.Shape.Shape, Shape.pins_of}
 use Rattle.rig.specs.Flaky.{both_counts}
-use Rattle.rig_port.specs.declared.link.Link.{Link}
-use Rattle.rig_port.specs.declared.check.Check.{Check}
-use Rattle.rig_port.specs.Checks.{after}
-use Rattle.rig_port.specs.Lines.{line_of, turn_room}
-use Rattle.rig_port.specs.Ports.{PortState}
-use Rattle.rig_port.specs.Linked.{PortBoardState, IsLinked, told_with, waiting}
-use Rattle.rig_port.specs.declared.again.Again.{Again}
-use Rattle.rig_port.specs.Said.{Said}
-use Rattle.rig_port.specs.Sessions.{CanResume}
-use Rattle.rig_port.specs.Stands.{AllStandUp, StandsTold}
+use Rattle.rig_port.specs.{declared.link.Link.Link, declared.check.Check.Check, Lines.line_of, Lines.turn_room, declared.again.Again.Again}
+use Rattle.rig_port.specs.{Checks.after, Ports.PortState, Said.Said, Sessions.CanResume}
+use Rattle.rig_port.specs.{Linked.PortBoardState, Linked.IsLinked, Linked.told_with, Linked.waiting, Stands.AllStandUp, Stands.StandsTold}
 
 -- its count of failures is the port's and its own together
 abbrev pub state_of : PortState → Option Shape → Option Link → List Said → ℕ → ℕ → PortBoardState

@@ -7,10 +7,8 @@ use Rattle.machine_meaning.specs.Faults.{Faults}
 use Rattle.machine_config.specs.Configuration.{Configuration, coded_configuration}
 use Rattle.machine_faults.specs.Adding.{coded_faults}
 use Rattle.rig.specs.Rig.{Exchange, Session}
-use Rattle.rig_board.specs.Codes.{coded_exchange}
-use Rattle.rig_board.specs.Device.{Device}
-use Rattle.rig_port.specs.Linked.{PortBoardState}
-use Rattle.rig_port.specs.Said.{Said, coded_talk}
+use Rattle.rig_board.specs.{Codes.coded_exchange, Device.Device}
+use Rattle.rig_port.specs.{Linked.PortBoardState, Said.Said, Said.coded_talk}
 
 abbrev pub coded_session : Coded Session
 coded_session = code_by (Configuration × (List Exchange × ℕ)) (coded× coded_configuration (coded× (coded_list coded_exchange) coded_ℕ))

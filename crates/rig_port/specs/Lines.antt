@@ -1,13 +1,11 @@
 -- How bits, counts and checks are spelled in the lines between the tool and a machine behind a port.
 use Rattle.std.specs.Prelude.{◌≡◌, ◌<◌, ◌^◌, All, ℕ, zero, suc, ◌+◌, ◌*◌, Bool}
 use Rattle.std.specs.Prelude.{true, false, List, [], ◌∷◌, ◌++◌, length, get_or, decimal, codes, slice_index_or}
-use Rattle.std.specs.Int.{div_ceil}
-use Rattle.std.specs.List.{join_by}
+use Rattle.std.specs.{Int.div_ceil, List.join_by}
 use Rattle.hex.specs.Hex.{encode_lower}
 use Rattle.machine_shape.specs.declared.Counts.{Counts}
 use Rattle.machine_meaning.specs.Circuit.{Pins}
-use Rattle.rig_port.specs.declared.check.Check.{Check}
-use Rattle.rig_port.specs.Checks.{after, check_bytes}
+use Rattle.rig_port.specs.{declared.check.Check.Check, Checks.after, Checks.check_bytes}
 
 -- a body with the check behind it, as it stands then
 abbrev pub line_of : Check → List ℕ → List ℕ

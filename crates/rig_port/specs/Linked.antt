@@ -4,10 +4,8 @@ use Rattle.machine_shape.specs.declared.Shape.{Shape}
 use Rattle.machine_meaning.specs.Circuit.{Pins}
 use Rattle.machine_config.specs.Configuration.{Configuration}
 use Rattle.rig.specs.Rig.{Exchange, drives_of, readings_of}
-use Rattle.rig_board.specs.Boards.{BoardState}
-use Rattle.rig_board.specs.Device.{Device, HasRunSession, GoesOnWith, WhereTold}
-use Rattle.rig_port.specs.Requests.{Edit, edited, IsEditOf, edits_text, start_text}
-use Rattle.rig_port.specs.Answers.{start_of}
+use Rattle.rig_board.specs.{Boards.BoardState, Device.Device, Device.HasRunSession, Device.GoesOnWith, Device.WhereTold}
+use Rattle.rig_port.specs.{Requests.Edit, Requests.edited, Requests.IsEditOf, Requests.edits_text, Requests.start_text, Answers.start_of}
 use Rattle.rig_port.specs.Said.{Said}
 
 -- what it means

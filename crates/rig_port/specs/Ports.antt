@@ -4,10 +4,7 @@ use Rattle.machine_shape.specs.declared.Shape.{Shape}
 use Rattle.machine_meaning.specs.Faults.{Faults, AreFaultsOf}
 use Rattle.base_io.specs.Counts.{Rose}
 use Rattle.rig_board.specs.Device.{Device}
-use Rattle.rig_port.specs.Lines.{AreCounts}
-use Rattle.rig_port.specs.Said.{Said}
-use Rattle.rig_port.specs.declared.check.Check.{Check}
-use Rattle.rig_port.specs.declared.port.PortFail.{PortFail}
+use Rattle.rig_port.specs.{Lines.AreCounts, Said.Said, declared.check.Check.Check, declared.port.PortFail.PortFail}
 use Rattle.rig_port.specs.declared.port.PortFail.TheVariants as port
 
 -- what a port means

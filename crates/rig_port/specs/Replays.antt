@@ -1,7 +1,6 @@
 -- A recorded talk as a port.
 use Rattle.std.specs.Prelude.{◌≡◌, ℕ, ◌≤◌, List, ◌++◌, length, drop, flat_map}
-use Rattle.rig_port.specs.FilePorts.{IsLine}
-use Rattle.rig_port.specs.Said.{Said}
+use Rattle.rig_port.specs.{FilePorts.IsLine, Said.Said}
 
 -- a request stood in front of all that was left of a recording, and then a line; what is left now stood behind them
 pub record HasReplayed (old new request line : List ℕ) : Type 0 where

@@ -1,18 +1,13 @@
 -- What is asked of a machine behind a port.
 use Rattle.std.specs.Prelude.{◌≡◌, ℕ, ◌+◌, ◌*◌, ◌^◌, ◌<◌, ◌≤◌, Bool, true, false}
 use Rattle.std.specs.Prelude.{List, [], ◌∷◌, ◌++◌, Some, None, All, fold, flat_map, length, decimal, codes}
-use Rattle.std.specs.Int.{to_be_bytes, w64}
-use Rattle.std.specs.List.{join_by}
+use Rattle.std.specs.{Int.to_be_bytes, Int.w64, List.join_by}
 use Rattle.hex.specs.Hex.{encode_lower}
-use Rattle.machine_shape.specs.declared.Shape.{Shape}
-use Rattle.machine_shape.specs.Bounds.{most_ticks}
-use Rattle.machine_shape.specs.Shape.{crosses_of, tables_of, pins_of}
+use Rattle.machine_shape.specs.{declared.Shape.Shape, Bounds.most_ticks, Shape.crosses_of, Shape.tables_of, Shape.pins_of}
 use Rattle.machine_meaning.specs.Circuit.{Pins}
 use Rattle.machine_config.specs.declared.Setting.{Setting}
 use Rattle.machine_config.specs.Configuration.{Configuration, with_closed, with_open, with_setting, with_ticks}
-use Rattle.rig_port.specs.declared.check.Check.{Check}
-use Rattle.rig_port.specs.Checks.{fresh_check}
-use Rattle.rig_port.specs.Lines.{line_of, pin_bit, pin_text}
+use Rattle.rig_port.specs.{declared.check.Check.Check, Checks.fresh_check, Lines.line_of, Lines.pin_bit, Lines.pin_text}
 
 -- a change of what is set
 pub data Edit : Type 0 where

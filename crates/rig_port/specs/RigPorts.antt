@@ -7,17 +7,12 @@ use Rattle.machine_meaning.specs.Circuit.{Pins}
 use Rattle.machine_config.specs.Configuration.{Configuration, cleared}
 use Rattle.rig.specs.Rig.{RigState, Exchange, shape_of, config_of, cycles_of, drives_of, readings_of, IsTold, KeepLengths}
 use Rattle.rig_board.specs.Device.{Device, WhereTold}
-use Rattle.rig_port.specs.Answers.{Answers}
-use Rattle.rig_port.specs.declared.check.Check.{Check}
-use Rattle.rig_port.specs.Checks.{after}
-use Rattle.rig_port.specs.Lines.{line_of, counts_body, reading_body, reading_line}
+use Rattle.rig_port.specs.{Answers.Answers, declared.check.Check.Check, Checks.after, Ports.PortState, declared.wanted.Wanted.Wanted}
+use Rattle.rig_port.specs.{Lines.line_of, Lines.counts_body, Lines.reading_body, Lines.reading_line, declared.wanted.Change.Change}
 use Rattle.rig_port.specs.Requests.{Edit, Close, Open, On, Off, Tick, IsEditOf, AreWide, AreDrivesOf}
 use Rattle.rig_port.specs.Requests.{load_body, drives_text, attach_line, load_line, drives_line}
 use Rattle.rig_port.specs.Said.{Said}
-use Rattle.rig_port.specs.Ports.{PortState}
-use Rattle.rig_port.specs.declared.wanted.Change.{Change}
 use Rattle.rig_port.specs.declared.wanted.Change.TheVariants as change
-use Rattle.rig_port.specs.declared.wanted.Wanted.{Wanted}
 
 -- a change as an edit
 abbrev pub edit_of : Change → Edit

@@ -5,10 +5,8 @@ use Rattle.machine_meaning.specs.Circuit.{Pins}
 use Rattle.machine_config.specs.Configuration.{Configuration, cleared}
 use Rattle.rig.specs.Rig.{Exchange}
 use Rattle.rig_board.specs.Device.{Device, IsInSession, HasRunSession}
-use Rattle.rig_port.specs.declared.again.Again.{Again}
-use Rattle.rig_port.specs.declared.link.Link.{Link}
-use Rattle.rig_port.specs.Requests.{Edit, edited, IsEditOf, edits_text, start_text}
-use Rattle.rig_port.specs.Linked.{told_with}
+use Rattle.rig_port.specs.declared.{again.Again.Again, link.Link.Link}
+use Rattle.rig_port.specs.{Requests.Edit, Requests.edited, Requests.IsEditOf, Requests.edits_text, Requests.start_text, Linked.told_with}
 
 -- these words clear all, and then set this configuration
 pub record SetsAnew (set : Configuration) (whole : List ℕ) : Type 0 where

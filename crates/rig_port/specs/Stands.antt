@@ -1,19 +1,12 @@
 -- What is kept of a machine goes with each that may stand behind what was said.
 use Rattle.std.specs.Prelude.{◌≡◌, false, List, [], Option, None, Some, IfSome}
 use Rattle.machine_shape.specs.declared.Shape.{Shape}
-use Rattle.machine_meaning.specs.Circuit.{Pins}
-use Rattle.machine_meaning.specs.Faults.{Faults}
+use Rattle.machine_meaning.specs.{Circuit.Pins, Faults.Faults}
 use Rattle.machine_config.specs.Configuration.{Configuration, cleared}
 use Rattle.rig.specs.Rig.{Exchange}
 use Rattle.rig_board.specs.Device.{Device}
-use Rattle.rig_port.specs.declared.again.Again.{Again}
-use Rattle.rig_port.specs.declared.check.Check.{Check}
-use Rattle.rig_port.specs.declared.link.Link.{Link}
-use Rattle.rig_port.specs.Linked.{PortBoardState, IsLinked, HasTurned}
-use Rattle.rig_port.specs.Ports.{PortState}
-use Rattle.rig_port.specs.Said.{Said}
-use Rattle.rig_port.specs.Sessions.{CanResume, HasMade}
-use Rattle.rig_port.specs.Transcripts.{MayStand}
+use Rattle.rig_port.specs.{declared.again.Again.Again, declared.check.Check.Check, declared.link.Link.Link, Said.Said, Transcripts.MayStand}
+use Rattle.rig_port.specs.{Linked.PortBoardState, Linked.IsLinked, Linked.HasTurned, Ports.PortState, Sessions.CanResume, Sessions.HasMade}
 
 -- what is kept goes with this machine, and so does its check
 pub record GoesWith (l : Link) (e : Device) (k : Check) : Type 0 where

@@ -3,9 +3,7 @@ use Rattle.std.specs.Prelude.{◌≡◌, ℕ, List, [], ◌∷◌, ◌++◌}
 use Rattle.machine_shape.specs.declared.Shape.{Shape}
 use Rattle.machine_meaning.specs.Faults.{Faults, AreFaultsOf}
 use Rattle.rig_board.specs.Device.{Device}
-use Rattle.rig_port.specs.declared.check.Check.{Check}
-use Rattle.rig_port.specs.Answers.{Answers}
-use Rattle.rig_port.specs.Said.{Said}
+use Rattle.rig_port.specs.{declared.check.Check.Check, Answers.Answers, Said.Said}
 
 -- a transcript with one more behind
 abbrev pub and_said : List Said → List ℕ → List ℕ → List Said

@@ -3,13 +3,8 @@ use Rattle.std.specs.Prelude.{◌≡◌, ℕ, true, List, length, IfSome, IsSome
 use Rattle.machine_shape.specs.Shape.{pins_of}
 use Rattle.machine_meaning.specs.Circuit.{Pins}
 use Rattle.machine_config.specs.Configuration.{Configuration}
-use Rattle.rig_port.specs.declared.again.Again.{Again}
-use Rattle.rig_port.specs.declared.link.Link.{Link}
-use Rattle.rig_port.specs.Requests.{AreWide}
-use Rattle.rig_port.specs.Ports.{PortState}
-use Rattle.rig_port.specs.Linked.{IsLinked, HasTurned}
-use Rattle.rig_port.specs.Boards.{IsKeptUp, HasRoom}
-use Rattle.rig_port.specs.Sessions.{SetsAnew, HasRows, KeepsSession}
+use Rattle.rig_port.specs.{declared.again.Again.Again, declared.link.Link.Link, Ports.PortState, Boards.IsKeptUp, Boards.HasRoom}
+use Rattle.rig_port.specs.{Requests.AreWide, Linked.IsLinked, Linked.HasTurned, Sessions.SetsAnew, Sessions.HasRows, Sessions.KeepsSession}
 
 -- these cycles can be asked for: a session runs, what is kept goes with the machine, and lines have room
 pub record CanTurn (port : PortState) (l : Link) (drives : List Pins) : Type 0 where

@@ -1,14 +1,9 @@
 -- The classes before any crosspoint is closed.
 use Rattle.std.proofs.Common.{◌≡◌, ◌≢◌, ◌⊎◌, ⊎_elim, ℕ, ◌<◌, ◌≤◌, Bool, true, false, Option, Some, None, IsSome, List, [], length, refl, sym, ap, ◌∙◌, subst, arith}
-use Rattle.std.proofs.lemmas.Bool.{false≢true, cases_lt}
-use Rattle.std.proofs.lemmas.List.{get_or_past}
+use Rattle.rig_simulated.proofs.Vocabulary.{false≢true, cases_lt, get_or_past, Shape, wires_of, ClassNode, bridged_net}
 use Rattle.std.specs.FinSet as set
-use Rattle.machine_shape.specs.declared.Shape.{Shape}
-use Rattle.machine_shape.specs.Shape.{wires_of}
 use Rattle.machine_meaning.specs.Vocabulary.{Faults, AreFaultsOf, stuck_wire, pair_cmp, Linked, crossed, bridged, Joined, here, then}
-use Rattle.rig_simulated.specs.declared.classes.ClassNode.{ClassNode}
 use Rattle.rig_simulated.specs.Classes.{knot_at, HasRoots, IsHeldAs, AreTied}
-use Rattle.rig_simulated.specs.Building.{bridged_net}
 
 -- a knot of its own
 abbrev pub lone : (ℕ → Option Bool) → ℕ → ClassNode

@@ -1,8 +1,7 @@
 -- The pins of a class are found one after the other.
 use Rattle.std.proofs.Common.{◌≡◌, ◌≢◌, ◌⊎◌, inl, inr, ⊎_elim, ℕ, ◌+◌, ◌-◌, ◌<◌, ◌≤◌, Bool, true, List, length, get_or, set, sym, ap, ◌∙◌, subst, arith, slice_index}
-use Rattle.std.proofs.lemmas.Bool.{cases_eq, cases_lt}
+use Rattle.rig_simulated.proofs.Vocabulary.{cases_eq, cases_lt, IsLast, AreChained, AreWithin}
 use Rattle.std.proofs.lemmas.List.{get_or-set_same, get_or-set_other, get_or_past}
-use Rattle.rig_simulated.specs.Chains.{IsLast, AreChained, AreWithin}
 
 -- what was found so far: the pins from a place on, and the one before them
 pub record IsOnWay (pins : List ℕ) (class at : ℕ) (Done : ℕ → Type 0) : Type 0 where

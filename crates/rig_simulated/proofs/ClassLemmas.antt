@@ -1,9 +1,7 @@
 -- Classes: what one more link makes of them.
 use Rattle.std.proofs.Common.{◌≡◌, ◌≢◌, ◌⊎◌, inl, inr, ℕ, ◌+◌, ◌<◌, ◌≤◌, None, List, length, get_or, refl, sym, ap, ◌∙◌, subst, arith, cond, eqb}
 use Rattle.std.proofs.lemmas.Bool.{cases_eq, eq-eqb, ne_eqb, cond-true, cond-false}
-use Rattle.std.proofs.lemmas.List.{get_or_default}
-use Rattle.rig_simulated.specs.declared.classes.ClassNode.{ClassNode}
-use Rattle.rig_simulated.specs.Classes.{knot_at, HasRoots, IsHung}
+use Rattle.rig_simulated.proofs.Vocabulary.{get_or_default, ClassNode, knot_at, HasRoots, IsHung}
 
 -- within the list the default has no say
 pub knot_is : (knots : List ClassNode) (w : ℕ) (d : ClassNode) → w < length knots → get_or knots w d ≡ knot_at knots w

@@ -1,14 +1,9 @@
 -- Lists in which each number of a set stands once.
 use Rattle.std.proofs.Common.{◌≡◌, ◌≢◌, ◌⊎◌, ⊎_elim, ℕ, zero, suc, ◌+◌, ◌<◌, ◌≤◌, Bool, true, false, cond, eqb, None, IsSome, List, [], ◌∷◌, length, get_or, refl, sym, ap, ◌∙◌, arith, is_some, count_by}
 use Rattle.std.specs.List.{list_any, All}
-use Rattle.std.proofs.lemmas.Bool.{false≢true, cases_Bool, cases_lt, or_left, eq-eqb, eqb-true}
-use Rattle.std.proofs.lemmas.List.{get_or_past}
+use Rattle.rig_simulated.proofs.Vocabulary.{false≢true, cases_Bool, cases_lt, or_left, eq-eqb, eqb-true, get_or_past, Cross, Table}
+use Rattle.rig_simulated.proofs.Vocabulary.{tables_of, crosses_of, Configuration, IsConfiguration, is_closed, setting_of, is_among}
 use Rattle.std.proofs.lemmas.List.Sums.{sum_by-cons}
-use Rattle.machine_shape.specs.declared.Cross.{Cross}
-use Rattle.machine_shape.specs.declared.Table.{Table}
-use Rattle.machine_shape.specs.Shape.{tables_of, crosses_of}
-use Rattle.machine_config.specs.Configuration.{Configuration, IsConfiguration, is_closed, setting_of}
-use Rattle.rig_simulated.specs.Building.{is_among}
 
 module _ {X : Type 0} (p : X → Bool) where
   count_cons : (x : X) (xs : List X) → count_by p (x ∷ xs) ≡ cond (p x) 1 0 + count_by p xs

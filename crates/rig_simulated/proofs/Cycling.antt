@@ -1,11 +1,6 @@
 -- A whole cycle.
-use Rattle.std.proofs.Common.{◌≡◌, ℕ, Bool, List, sym, subst}
-use Rattle.machine_meaning.specs.Vocabulary.{Outputs, Pins, Faults}
-use Rattle.machine_config.specs.Configuration.{Configuration}
-use Rattle.rig_simulated.specs.declared.classes.ClassNode.{ClassNode}
-use Rattle.rig_simulated.specs.declared.gates.Gate.{Gate}
-use Rattle.rig_simulated.specs.Gates.{IsClear, AreOutputs}
-use Rattle.rig_simulated.specs.Cycles.{IsWired, AreDriven, HaveTicked, IsEdge, HasTicked, HasCycled}
+use Rattle.rig_simulated.proofs.Vocabulary.{◌≡◌, ℕ, Bool, List, sym, subst, Outputs, Pins, Faults, Configuration, ClassNode, Gate, IsClear}
+use Rattle.rig_simulated.proofs.Vocabulary.{AreOutputs, IsWired, AreDriven, HaveTicked, IsEdge, HasTicked, HasCycled}
 use Rattle.rig_simulated.proofs.Levels.{has_ticked, edge_cycle}
 
 -- ticks and a clock edge are a cycle

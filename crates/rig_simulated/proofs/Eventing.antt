@@ -1,22 +1,11 @@
 -- The tables whose inputs changed are evaluated, and no others.
 use Rattle.std.proofs.Common.{◌≡◌, ◌≢◌, ◌⊎◌, inl, inr, ⊎_elim, ℕ, ◌+◌, ◌<◌, Bool, true, false, ◌||◌, cond, List, length, get_or, set, map, replicate, refl, sym, ap, ◌∙◌, subst, arith, slice_index}
 use Rattle.std.specs.List.{All, Contains}
-use Rattle.std.proofs.lemmas.Bool.{false≢true, cases_eq, cases_Bool, false_from_ne_true}
+use Rattle.rig_simulated.proofs.Vocabulary.{false≢true, cases_eq, cases_Bool, false_from_ne_true, Faults, number_of, ClassNode, Gate, Queue}
+use Rattle.rig_simulated.proofs.Vocabulary.{Flip, Events, knot_at, is_low, Fits, level_of, level_at, address_by, cell_by, ticked, IsTick}
+use Rattle.rig_simulated.proofs.Vocabulary.{AreCounted, giving, HasGiven, is_marked, IsDue, IsQueue, KeepsMarks, StartsAt, AreReaders}
 use Rattle.std.proofs.lemmas.List.{get_or-set_other, get_or-set_same, length-set, get_or_default, get_or-map, length-map, same_lists}
-use Rattle.machine_meaning.specs.Faults.{Faults}
-use Rattle.machine_config.specs.Run.{number_of}
-use Rattle.rig_simulated.specs.declared.classes.ClassNode.{ClassNode}
-use Rattle.rig_simulated.specs.declared.gates.Gate.{Gate}
-use Rattle.rig_simulated.specs.declared.queue.Queue.{Queue}
 use Rattle.rig_simulated.specs.declared.readers.Readers.{Readers}
-use Rattle.rig_simulated.specs.declared.events.Flip.{Flip}
-use Rattle.rig_simulated.specs.declared.events.Events.{Events}
-use Rattle.rig_simulated.specs.Classes.{knot_at}
-use Rattle.rig_simulated.specs.Gates.{is_low, Fits, level_of, level_at, address_by, cell_by, ticked}
-use Rattle.rig_simulated.specs.Cycles.{IsTick}
-use Rattle.rig_simulated.specs.Pulls.{AreCounted, giving, HasGiven}
-use Rattle.rig_simulated.specs.Queues.{is_marked, IsDue, IsQueue, KeepsMarks}
-use Rattle.rig_simulated.specs.Readers.{StartsAt, AreReaders}
 use Rattle.rig_simulated.specs.Events.{IsStill, AreStill, AreFlips, HasFlip, HaveFlips, AreAlike, ArePut, PutFlips, InputsKept, IsSound, AreEvents}
 use Rattle.rig_simulated.proofs.Levels.{no_gate, six_alike}
 use Rattle.rig_simulated.proofs.Twins.{twin_is}

@@ -1,20 +1,10 @@
 -- A session goes on.
 use Rattle.std.proofs.Common.{◌≡◌, ℕ, ◌+◌, Bool, true, false, cond, Some, None, List, [], ◌∷◌, ◌++◌, length, refl, sym, ap, ◌∙◌, subst, arith, option_map}
-use Rattle.std.proofs.lemmas.List.{length_push}
-use Rattle.std.proofs.lemmas.List.FromFn.{length-map-range_with_len}
-use Rattle.machine_shape.specs.Shape.{tables_of, pins_of}
-use Rattle.machine_meaning.specs.Circuit.{Outputs, Pins}
-use Rattle.machine_config.specs.Configuration.{Configuration}
+use Rattle.rig_simulated.proofs.Vocabulary.{length_push, length-map-range_with_len, tables_of, pins_of, Outputs, Pins, Configuration}
+use Rattle.rig_simulated.proofs.Vocabulary.{Session, Board, IsLoaded, AreFitting, AreOutputs, SimState, GoesOnFrom, HasGoneOn, GivesCycle}
 use Rattle.machine_faults.specs.Adding.{Faulty}
-use Rattle.rig.specs.Rig.{Session}
-use Rattle.rig_simulated.specs.declared.board.Board.{Board}
-use Rattle.rig_simulated.specs.declared.sim.Sim.TheInside.{Inside}
-use Rattle.rig_simulated.specs.Boards.{IsLoaded, AreFitting}
-use Rattle.rig_simulated.specs.Gates.{AreOutputs}
-use Rattle.rig_simulated.specs.States.{SimState, GoesOnFrom, HasGoneOn}
-use Rattle.rig_simulated.specs.Stored.{setting_in, config_in, cycles_in}
+use Rattle.rig_simulated.specs.{declared.sim.Sim.TheInside.Inside, Stored.setting_in, Stored.config_in, Stored.cycles_in}
 use Rattle.rig_simulated.specs.Sims.{config_of_sim, cycles_of_sim, state_of_sim, IsRunning, IsSim}
-use Rattle.rig_simulated.specs.Tracks.{GivesCycle}
 use Rattle.rig_simulated.proofs.Sessions.{has_session, config_is, cycles_more, run_more}
 
 module _ (a : Inside) (s : SimState) (view : state_of_sim a ≡ s) (n : ℕ) (width : option_map (λ (t : Session). pins_of t.config.shape) s.session ≡ Some n) where

@@ -1,10 +1,7 @@
 -- What classes are once two of them are joined.
 use Rattle.std.proofs.Common.{◌≡◌, ◌≢◌, ◌⊎◌, inl, inr, ⊎_elim, ℕ, ◌+◌, ◌<◌, ◌≤◌, Bool, true, false, Option, Some, None, List, length, refl, sym, ap, ◌∙◌, arith}
-use Rattle.std.proofs.lemmas.Bool.{cases_eq}
-use Rattle.machine_shape.specs.Shape.{Ends, in_order, turned}
-use Rattle.machine_meaning.specs.Joined.{Net, Linked, Joined, here, then}
+use Rattle.rig_simulated.proofs.Vocabulary.{cases_eq, Ends, in_order, turned, Net, Linked, Joined, here, then, ClassNode}
 use Rattle.machine_meaning.proofs.JoinedLemmas.{Joined-trans, Joined-sym}
-use Rattle.rig_simulated.specs.declared.classes.ClassNode.{ClassNode}
 use Rattle.rig_simulated.specs.Classes.{knot_at, HasRoots, AreClasses, HoldsAt, IsHeldAs, AreKnots, AreTied, HasLink, HaveSameLinks, stronger, IsHung}
 use Rattle.rig_simulated.proofs.ClassLemmas.{merged, merged-low, merged-other, merged-same, hung_roots}
 

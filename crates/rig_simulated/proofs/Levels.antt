@@ -1,17 +1,11 @@
 -- What the classes are is what the wires are.
 use Rattle.std.proofs.Common.{◌≡◌, ⊎_elim, ℕ, suc, ◌<◌, Bool, true, false, ◌||◌, cond, Option, Some, None, IsSome, List, [], length, get_or, map, refl, sym, ap, ◌∙◌, subst, arith, unwrap_or}
-use Rattle.std.specs.List.{range_with_len}
+use Rattle.rig_simulated.proofs.Vocabulary.{range_with_len, get_or-map, length-map, All-map, All-weaker, get_or-map-range_with_len}
+use Rattle.rig_simulated.proofs.Vocabulary.{fill_by_all, pin_wire, table_wire, pins_of, Setting, ClassNode, Gate, AreClasses, HoldsAt}
+use Rattle.rig_simulated.proofs.Vocabulary.{IsHeldAs}
 use Rattle.std.proofs.lemmas.Bool.{false≢true, or_cases, or_left, or_right}
-use Rattle.std.proofs.lemmas.List.{get_or-map, length-map}
-use Rattle.std.proofs.lemmas.List.Elements.{All-map, All-weaker}
-use Rattle.std.proofs.lemmas.List.FromFn.{get_or-map-range_with_len, fill_by_all}
-use Rattle.machine_shape.specs.Shape.{pin_wire, table_wire, pins_of}
 use Rattle.machine_meaning.specs.Vocabulary.{Outputs, Pins, Pulls, by_pin, by_table, IsHeld, IsPulled, IsValue, held_0, held_1, pulled, released, AreValues, Faults, stuck_wire}
-use Rattle.machine_config.specs.declared.Setting.{Setting}
 use Rattle.machine_config.specs.Vocabulary.{Configuration, setting_of, circuit_of, table_or_off, table_of, number_of, address_at, pins_read, tick_output, edge_output, after_tick, after_edge, unticked, tick}
-use Rattle.rig_simulated.specs.declared.classes.ClassNode.{ClassNode}
-use Rattle.rig_simulated.specs.declared.gates.Gate.{Gate}
-use Rattle.rig_simulated.specs.Classes.{AreClasses, HoldsAt, IsHeldAs}
 use Rattle.rig_simulated.specs.Gates.{is_low, IsClear, level_of, level_at, address_by, cell_by, ticked, clocked, IsGate, Stands, AreGates, AreOutputs, IsPulledBy, IsDrivenBy, AreMarkedToo}
 use Rattle.rig_simulated.specs.Cycles.{IsWired, AreDriven, IsTick, HaveTicked, not_yet, once_more, IsEdge, HasTicked, HasCycled}
 

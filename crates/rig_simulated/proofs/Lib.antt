@@ -22,3 +22,4 @@ mod Eventing
 mod Periods
 mod SoFar
 mod Turns
+mod Vocabulary

@@ -1,23 +1,16 @@
 -- Which links a net has, crosspoint by crosspoint and bridge by bridge.
 use Rattle.std.proofs.Common.{◌≡◌, ◌≢◌, ◌⊎◌, inl, inr, ⊎_elim, ℕ, ◌+◌, ◌<◌, ◌≤◌, Bool, true, false, ◌||◌, ◌&&◌, Option, Some, None, IsSome, List, [], ◌∷◌, map, length, get_or, take, refl, sym, ap, ◌∙◌, subst, arith, eqb, ltb, unwrap_or}
 use Rattle.std.specs.FinSet as set
-use Rattle.std.proofs.Math.Bool.{and-false, or-false}
+use Rattle.rig_simulated.proofs.Vocabulary.{and-false, or-false, take_more, map-append, get_or-map, length-map, Shape, Cross, Ends}
+use Rattle.rig_simulated.proofs.Vocabulary.{in_order, ends_of, crosses_of, HasLink, HaveSameLinks, bridged_net, stuck_net, closed_net}
+use Rattle.rig_simulated.proofs.Vocabulary.{is_among}
 use Rattle.std.proofs.lemmas.Bool.{false≢true, cases_eq, cases_lt, ne_eqb, or_cases, or_left, or_right, eqb-true, eq-eqb, ltb-true, lt-ltb, le-ltb, and_parts, and_from}
-use Rattle.std.proofs.lemmas.List.{take_more, map-append, get_or-map, length-map}
-use Rattle.std.proofs.lemmas.List.Folds.{list_any_more, list_any_at}
-use Rattle.std.specs.BTreeMap.{is_at}
-use Rattle.std.specs.Ordering.{eq_by_cmp}
-use Rattle.std.specs.Cmp.{eq_by_cmp_equiv}
-use Rattle.std.proofs.lemmas.Map.Views.{tells_apart}
-use Rattle.machine_shape.specs.declared.Shape.{Shape}
-use Rattle.machine_shape.specs.declared.Cross.{Cross}
+use Rattle.std.proofs.lemmas.{List.Folds.list_any_more, List.Folds.list_any_at, Map.Views.tells_apart}
+use Rattle.std.specs.{BTreeMap.is_at, Ordering.eq_by_cmp, Cmp.eq_by_cmp_equiv}
 use Rattle.machine_shape.specs.declared.Wire.{Wire}
-use Rattle.machine_shape.specs.Shape.{Ends, in_order, ends_of, crosses_of}
 use Rattle.machine_meaning.specs.Vocabulary.{Faults, AreFaultsOf, stuck_cross, is_bridge, pair_cmp, Net, Linked, crossed, bridged}
 use Rattle.machine_faults.specs.Stored.{pair_of}
 use Rattle.machine_meaning.proofs.Pairs.{pairs_total, pairs_exact}
-use Rattle.rig_simulated.specs.Classes.{HasLink, HaveSameLinks}
-use Rattle.rig_simulated.specs.Building.{bridged_net, stuck_net, closed_net, is_among}
 
 abbrev net_by : Shape → (ℕ → Bool) → (ℕ × ℕ → Bool) → Net
 net_by m c b = record { shape = m; conducts = c; is_bridge = b }

@@ -1,17 +1,9 @@
 -- What a load leaves.
 use Rattle.std.proofs.Common.{◌≡◌, ℕ, ◌<◌, List, length, sym, ap, ◌∙◌, subst, slice_index}
 use Rattle.std.proofs.Math.Path.{fun_ext}
-use Rattle.machine_shape.specs.declared.Shape.{Shape}
-use Rattle.machine_shape.specs.declared.Cross.{Cross}
-use Rattle.machine_shape.specs.Shape.{pins_of, pin_wire}
-use Rattle.machine_meaning.specs.Vocabulary.{Faults, stuck_wire, net_of}
-use Rattle.machine_config.specs.Vocabulary.{Configuration, is_closed, circuit_of}
-use Rattle.rig_simulated.specs.declared.classes.ClassNode.{ClassNode}
-use Rattle.rig_simulated.specs.declared.gates.Gate.{Gate}
-use Rattle.rig_simulated.specs.Classes.{HasRoots, AreKnots, AreTied}
-use Rattle.rig_simulated.specs.Building.{closed_net, is_among}
-use Rattle.rig_simulated.specs.Gates.{AreGates}
-use Rattle.rig_simulated.specs.Cycles.{IsWired}
+use Rattle.rig_simulated.proofs.Vocabulary.{Shape, Cross, pins_of, pin_wire, Faults, stuck_wire, net_of, Configuration, is_closed}
+use Rattle.rig_simulated.proofs.Vocabulary.{circuit_of, ClassNode, Gate, HasRoots, AreKnots, AreTied, closed_net, is_among, AreGates}
+use Rattle.rig_simulated.proofs.Vocabulary.{IsWired}
 
 pub circuit_net : (m : Shape) (f : Faults) (g : Configuration) (closed : List Cross) → g.shape ≡ m → ((x : ℕ) → is_among closed x ≡ is_closed g x) → closed_net m f closed ≡ (circuit_of f g).net
 circuit_net m f g closed e same = ap (λ c. net_of m f c) (fun_ext same) ∙ ap (λ s. net_of s f (is_closed g)) (sym e)

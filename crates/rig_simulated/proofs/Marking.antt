@@ -1,9 +1,8 @@
 -- Marks that are set and taken away in a loop.
 use Rattle.std.proofs.Common.{◌≡◌, ◌≢◌, ◌⊎◌, inl, inr, ⊎_elim, ℕ, ◌+◌, ◌<◌, ◌≤◌, Bool, true, false, List, length, get_or, set, refl, sym, ap, ◌∙◌, arith}
-use Rattle.std.proofs.lemmas.Bool.{false≢true, cases_eq, cases_lt, false_from_ne_true}
-use Rattle.std.proofs.lemmas.List.{get_or-set_other, get_or-set_same, length-set, get_or_default}
-use Rattle.rig_simulated.specs.declared.gates.Gate.{Gate}
-use Rattle.rig_simulated.specs.Gates.{is_low, IsClear, IsPulledBy, IsOutputOf, IsPinOf, AreMarkedToo}
+use Rattle.rig_simulated.proofs.Vocabulary.{false≢true, cases_eq, cases_lt, false_from_ne_true, get_or-set_other, get_or-set_same}
+use Rattle.rig_simulated.proofs.Vocabulary.{length-set, get_or_default, Gate, is_low, IsClear, IsPulledBy, IsOutputOf, IsPinOf}
+use Rattle.rig_simulated.proofs.Vocabulary.{AreMarkedToo}
 
 -- no mark yet
 pub none_marked : (old : List Bool) (P : ℕ → Type 0) → ((r : ℕ) → ¬ P r) → AreMarkedToo old old P

@@ -1,20 +1,12 @@
 -- Names and their faults.
 use Rattle.std.proofs.Common.{◌≡◌, ◌⊎◌, ⊎_elim, ℕ, ◌≤◌, Bool, true, false, cond, leb, ◌&&◌, Some, None, Option, List, length, refl, sym, ap, ◌∙◌, subst, arith, IfSome, bytes_eq}
 use Rattle.std.specs.Fmt.{decimal}
-use Rattle.std.proofs.lemmas.Option.{none-some}
-use Rattle.std.proofs.lemmas.Bool.{cases_lt, le-leb, leb-true, and_parts}
-use Rattle.std.proofs.lemmas.Slice.Eq.{bytes_eq-Decides}
-use Rattle.std.proofs.lemmas.Fmt.{digits_value-decimal}
-use Rattle.machine_shape.specs.declared.Shape.{Shape}
-use Rattle.machine_shape.specs.Bounds.{most_text}
-use Rattle.machine_meaning.specs.Faults.{Faults}
+use Rattle.rig_simulated.proofs.Vocabulary.{none-some, cases_lt, le-leb, leb-true, and_parts, Shape, most_text, Faults, IsNoText}
+use Rattle.std.proofs.lemmas.{Slice.Eq.bytes_eq-Decides, Fmt.digits_value-decimal}
 use Rattle.base_text.specs.Vocabulary.{read_on}
 use Rattle.base_text.proofs.NumberLemmas.{own}
-use Rattle.machine_faults.specs.Text.{IsFaultText}
-use Rattle.machine_faults.specs.Refusals.{IsFaultAt}
-use Rattle.machine_faults.specs.declared.kind.FaultsKind.{FaultsKind}
+use Rattle.machine_faults.specs.{Text.IsFaultText, Refusals.IsFaultAt, declared.kind.FaultsKind.FaultsKind}
 use Rattle.base_io.specs.Told.{Told, untold, absent, holds, bytes_of, IfTold}
-use Rattle.rig.specs.Rig.{IsNoText}
 use Rattle.rig.specs.Names.{generated_of, number_of_word, SpellsFaults}
 use Rattle.rig_simulated.specs.Named.{text_by, texts_of, AreNamed}
 

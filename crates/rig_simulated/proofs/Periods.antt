@@ -1,16 +1,10 @@
 -- Ticks that lead back are made over and over.
 use Rattle.std.proofs.Common.{◌≡◌, ◌⊎◌, inl, inr, ℕ, zero, suc, ◌+◌, ◌-◌, ◌*◌, ◌/◌, ◌%◌, ◌<◌, ◌≤◌, Bool, List, length, get_or, set, map, refl, sym, ap, ◌∙◌, subst, add-one, arith}
 use Rattle.std.proofs.Math.Nat.{mod-add-div'}
-use Rattle.std.proofs.lemmas.Bool.{cases_eq}
+use Rattle.rig_simulated.proofs.Vocabulary.{cases_eq, Faults, ClassNode, Gate, level_at, ticked, IsTick, HaveTicked, not_yet, once_more}
+use Rattle.rig_simulated.proofs.Vocabulary.{AreAlike, given_by, AreGiven, HasCome, HasComeIfKept, KeepsPast, SkipsTicks}
 use Rattle.std.proofs.lemmas.List.{get_or-map, get_or_default, get_or-set_same, get_or-set_other, length-map, length-set, same_lists}
-use Rattle.machine_meaning.specs.Faults.{Faults}
-use Rattle.rig_simulated.specs.declared.classes.ClassNode.{ClassNode}
-use Rattle.rig_simulated.specs.declared.gates.Gate.{Gate}
 use Rattle.rig_simulated.specs.declared.past.Past.{Past}
-use Rattle.rig_simulated.specs.Gates.{level_at, ticked}
-use Rattle.rig_simulated.specs.Cycles.{IsTick, HaveTicked, not_yet, once_more}
-use Rattle.rig_simulated.specs.Events.{AreAlike}
-use Rattle.rig_simulated.specs.Pasts.{given_by, AreGiven, HasCome, HasComeIfKept, KeepsPast, SkipsTicks}
 use Rattle.rig_simulated.proofs.Eventing.{alike_same, alike_on, alike_map}
 use Rattle.rig_simulated.proofs.Levels.{no_gate}
 use Rattle.rig_simulated.proofs.Twins.{all_further, twin_is}

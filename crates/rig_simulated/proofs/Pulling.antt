@@ -1,15 +1,12 @@
 -- The tables that pull each class are counted.
 use Rattle.std.proofs.Common.{◌≡◌, ◌≢◌, ◌⊎◌, inl, inr, ⊎_elim, ℕ, zero, suc, ◌+◌, ◌<◌, ◌≤◌, Bool, true, false, not, ◌&&◌, cond, nat_lt, None, List, [], length, get_or, set, take, replicate, refl, sym, ap, ◌∙◌, subst, arith, add-one}
-use Rattle.std.proofs.Math.Dec.{eqb}
-use Rattle.std.proofs.Math.Bool.{beq, and-false}
+use Rattle.std.proofs.{Math.Dec.eqb, lemmas.Bool.Decides.eqb_tells}
+use Rattle.rig_simulated.proofs.Vocabulary.{beq, and-false, Gate, pulls_to, AreCounted, giving, HasGiven}
 use Rattle.std.specs.List.{count_by, All}
 use Rattle.std.proofs.lemmas.Bool.{false≢true, cases_eq, cases_lt, cases_Bool, eq-eqb, eqb-true, leb-true, le-leb, and_parts, not-true}
-use Rattle.std.proofs.lemmas.Bool.Decides.{eqb_tells}
 use Rattle.std.proofs.lemmas.List.{get_or-set_other, get_or-set_same, length-set, get_or_default, get_or_past, get_or-replicate, length-replicate, set-get_or, take_all, length-take-le}
 use Rattle.std.proofs.lemmas.List.Sums.{sum_by-set, sum_by-take-le, count_by-le-length, count_by_more_no, count_by_more_yes}
-use Rattle.rig_simulated.specs.declared.gates.Gate.{Gate}
 use Rattle.rig_simulated.specs.Gates.{is_low, IsClear, IsPulledBy, IsOutputOf, AreMarkedToo}
-use Rattle.rig_simulated.specs.Pulls.{pulls_to, AreCounted, giving, HasGiven}
 use Rattle.rig_simulated.proofs.Levels.{no_gate}
 
 -- what a read beyond the list would give

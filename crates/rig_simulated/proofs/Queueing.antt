@@ -1,11 +1,9 @@
 -- Places are listed, each once.
 use Rattle.std.proofs.Common.{◌≡◌, ◌⊎◌, inl, inr, ⊎_elim, ℕ, ◌+◌, ◌*◌, ◌<◌, ◌≤◌, Bool, true, false, cond, List, length, get_or, set, sym, ap, ◌∙◌, subst, arith}
 use Rattle.std.specs.List.{count_by}
-use Rattle.std.proofs.lemmas.Bool.{false≢true, cases_eq, cases_lt, false_from_ne_true}
-use Rattle.std.proofs.lemmas.List.{get_or-set_other, get_or-set_same, length-set, get_or_default}
+use Rattle.rig_simulated.proofs.Vocabulary.{false≢true, cases_eq, cases_lt, false_from_ne_true, get_or-set_other, get_or-set_same}
+use Rattle.rig_simulated.proofs.Vocabulary.{length-set, get_or_default, Queue, is_marked, IsDue, IsQueue, KeepsMarks}
 use Rattle.std.proofs.lemmas.List.Sums.{sum_by-set, sum_by-le, count_by-le-length}
-use Rattle.rig_simulated.specs.declared.queue.Queue.{Queue}
-use Rattle.rig_simulated.specs.Queues.{is_marked, IsDue, IsQueue, KeepsMarks}
 
 abbrev counted : Bool → ℕ
 counted b = cond b 1 0

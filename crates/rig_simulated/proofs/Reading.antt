@@ -1,15 +1,9 @@
 -- The readers of a class, found by their order.
 use Rattle.std.proofs.Common.{◌≡◌, ◌⊎◌, inl, inr, ℕ, ◌+◌, ◌<◌, ◌≤◌, Bool, true, List, [], ◌∷◌, ◌++◌, length, get_or, sym, ap, ◌∙◌, subst, arith, slice_index}
 use Rattle.std.specs.List.{Contains, All}
-use Rattle.std.specs.List.Sorted.{IsNonDecreasingBy, IsPermutation}
-use Rattle.std.proofs.lemmas.Bool.{cases_eq, cases_lt}
-use Rattle.std.proofs.lemmas.List.{get_or_default, get_or_append_left, get_or_push}
-use Rattle.std.proofs.lemmas.List.Elements.{All-push, Contains-push, Contains-append_left}
-use Rattle.std.proofs.lemmas.List.Sorted.{Contains-permutation}
-use Rattle.rig_simulated.specs.declared.gates.Gate.{Gate}
-use Rattle.rig_simulated.specs.declared.readers.Reader.{Reader}
-use Rattle.rig_simulated.specs.Queues.{is_marked}
-use Rattle.rig_simulated.specs.Readers.{reader_at, AreListed, StartsAt, AreStarts, HaveGrown}
+use Rattle.rig_simulated.proofs.Vocabulary.{IsNonDecreasingBy, IsPermutation, cases_eq, cases_lt, get_or_default, get_or_append_left}
+use Rattle.rig_simulated.proofs.Vocabulary.{get_or_push, All-push, Contains-push, Contains-append_left, Contains-permutation, Gate, Reader}
+use Rattle.rig_simulated.proofs.Vocabulary.{is_marked, reader_at, AreListed, StartsAt, AreStarts, HaveGrown}
 
 -- a table was added to the readers of the classes of its first n inputs
 pub record HaveGrownBy (gate : Gate) (place n : ℕ) (old new : List Reader) : Type 0 where

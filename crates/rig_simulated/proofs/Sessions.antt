@@ -1,28 +1,14 @@
 -- What is kept of a session is the session.
 use Rattle.std.proofs.Common.{◌≡◌, ◌⊎◌, inl, inr, ⊎_elim, ℕ, zero, suc, ◌<◌, Bool, true, false, cond, eqb, Option, Some, None, List, [], ◌∷◌, ◌++◌, length, get_or, map, refl, sym, ap, ◌∙◌, subst, arith, is_some, count_by, option_map}
-use Rattle.std.specs.List.{range_with_len}
-use Rattle.std.proofs.lemmas.Bool.{cases_Bool, eqb-true, eq-eqb}
-use Rattle.std.proofs.lemmas.List.{map-append}
-use Rattle.std.proofs.lemmas.List.FromFn.{fill_by_all}
+use Rattle.rig_simulated.proofs.Vocabulary.{range_with_len, cases_Bool, eqb-true, eq-eqb, map-append, fill_by_all, Shape, Cross, tables_of}
+use Rattle.rig_simulated.proofs.Vocabulary.{Faults, Pins, Setting, Exchange, Session, drives_of, readings_of, Gate, Board, Stands, AreGates}
+use Rattle.rig_simulated.proofs.Vocabulary.{AreOutputs, IsLoaded, setting_in, config_in, cycles_in, GivesCycle, HasRun}
 use Rattle.std.specs.FinSet as set_
-use Rattle.std.specs.FinSet.{same_set, nat_cmp-IsAntisymmetric}
-use Rattle.std.specs.Cmp.{nat_cmp_total}
-use Rattle.machine_shape.specs.declared.Shape.{Shape}
-use Rattle.machine_shape.specs.declared.Cross.{Cross}
-use Rattle.machine_shape.specs.Shape.{tables_of}
-use Rattle.machine_meaning.specs.Vocabulary.{Faults, Pins}
-use Rattle.machine_config.specs.declared.Setting.{Setting}
+use Rattle.std.specs.{FinSet.same_set, FinSet.nat_cmp-IsAntisymmetric, Cmp.nat_cmp_total}
 use Rattle.machine_config.specs.Vocabulary.{Configuration, is_closed, setting_of, set_of, circuit_of, at_load, none}
 use Rattle.machine_config.proofs.Members.{contains_times}
 use Rattle.machine_config.proofs.Runs.{Cycles-push}
-use Rattle.rig.specs.Rig.{Exchange, Session, drives_of, readings_of}
-use Rattle.rig_simulated.specs.declared.gates.Gate.{Gate}
-use Rattle.rig_simulated.specs.declared.board.Board.{Board}
-use Rattle.rig_simulated.specs.Gates.{Stands, AreGates, AreOutputs}
-use Rattle.rig_simulated.specs.Boards.{IsLoaded}
 use Rattle.rig_simulated.specs.Sims.{IsRunning}
-use Rattle.rig_simulated.specs.Stored.{setting_in, config_in, cycles_in}
-use Rattle.rig_simulated.specs.Tracks.{GivesCycle, HasRun}
 
 -- the first table of a number
 here_is : (x : Gate) (xs : List Gate) (t : ℕ) → x.table.0 ≡ t → setting_in (x ∷ xs) t ≡ Some x.setting

@@ -1,13 +1,7 @@
 -- What ticks have left so far.
-use Rattle.std.proofs.Common.{◌≡◌, ◌∙◌, ℕ, ◌+◌, Bool, List, length, refl}
+use Rattle.rig_simulated.proofs.Vocabulary.{◌≡◌, ◌∙◌, ℕ, ◌+◌, Bool, List, length, refl, Faults, ClassNode, Gate, Events, Fits, IsClear}
+use Rattle.rig_simulated.proofs.Vocabulary.{level_at, IsTick, HaveTicked, not_yet, AreStill, IsSound}
 use Rattle.std.specs.List.{All}
-use Rattle.machine_meaning.specs.Faults.{Faults}
-use Rattle.rig_simulated.specs.declared.classes.ClassNode.{ClassNode}
-use Rattle.rig_simulated.specs.declared.gates.Gate.{Gate}
-use Rattle.rig_simulated.specs.declared.events.Events.{Events}
-use Rattle.rig_simulated.specs.Gates.{Fits, IsClear, level_at}
-use Rattle.rig_simulated.specs.Cycles.{IsTick, HaveTicked, not_yet}
-use Rattle.rig_simulated.specs.Events.{AreStill, IsSound}
 use Rattle.rig_simulated.proofs.Periods.{ticked_more}
 
 -- n ticks, each of which evaluated all tables

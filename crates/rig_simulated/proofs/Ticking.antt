@@ -1,11 +1,7 @@
 -- What a tick leaves of the marks.
 use Rattle.std.proofs.Common.{◌≡◌, ◌⊎◌, ⊎_elim, ℕ, ◌<◌, Bool, true, false, List, length, get_or, map, sym, ap, ◌∙◌, subst, arith}
 use Rattle.std.specs.List.{All}
-use Rattle.std.proofs.lemmas.Bool.{false≢true}
-use Rattle.std.proofs.lemmas.List.{get_or-map, length-map}
-use Rattle.std.proofs.lemmas.List.Elements.{All-map, All-weaker}
-use Rattle.rig_simulated.specs.declared.gates.Gate.{Gate}
-use Rattle.machine_meaning.specs.Faults.{Faults}
+use Rattle.rig_simulated.proofs.Vocabulary.{false≢true, get_or-map, length-map, All-map, All-weaker, Gate, Faults}
 use Rattle.rig_simulated.specs.Gates.{is_low, IsClear, Fits, ticked, clocked, IsPulledBy, IsOutputOf, AreMarkedToo}
 
 pub outs_fit : (t n : ℕ) (gates : List Gate) → All (Fits t n) gates → All (λ x. x.out < n) gates

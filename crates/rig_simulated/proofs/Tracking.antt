@@ -1,20 +1,11 @@
 -- What is kept of the pins once one is driven anew, and what they read.
 use Rattle.std.proofs.Common.{◌≡◌, ◌≢◌, ◌⊎◌, inl, inr, ⊎_elim, ℕ, ◌+◌, ◌<◌, ◌≤◌, Bool, true, false, ◌||◌, List, length, get_or, set, map, replicate, sym, ap, ◌∙◌, subst, arith, slice_index}
-use Rattle.std.proofs.Math.Bool.{or-false}
+use Rattle.rig_simulated.proofs.Vocabulary.{or-false, Shape, wires_of, pins_of, Pins, ClassNode, Gate, knot_at, AreDriven, HasPins}
+use Rattle.rig_simulated.proofs.Vocabulary.{AreWithin, level_by, AreShown, AreAlikeBelow, IsTracked}
 use Rattle.std.proofs.lemmas.Bool.{false≢true, cases_eq, cases_lt, cases_Bool, false_from_ne_true}
 use Rattle.std.proofs.lemmas.List.{get_or-set_other, get_or_default, get_or_past, get_or-replicate, length-replicate, get_or-map, length-map, same_lists}
-use Rattle.machine_shape.specs.declared.Shape.{Shape}
-use Rattle.machine_shape.specs.Shape.{wires_of, pins_of}
-use Rattle.machine_meaning.specs.Circuit.{Pins}
-use Rattle.rig_simulated.specs.declared.classes.ClassNode.{ClassNode}
 use Rattle.rig_simulated.specs.declared.driving.KeptPins.{KeptPins}
-use Rattle.rig_simulated.specs.declared.gates.Gate.{Gate}
-use Rattle.rig_simulated.specs.Classes.{knot_at}
 use Rattle.rig_simulated.specs.Gates.{is_low, IsClear, level_of, level_at, IsDrivenBy, IsPinOf, IsOutputOf}
-use Rattle.rig_simulated.specs.Cycles.{AreDriven}
-use Rattle.rig_simulated.specs.Boards.{HasPins}
-use Rattle.rig_simulated.specs.Chains.{AreWithin}
-use Rattle.rig_simulated.specs.Tracked.{level_by, AreShown, AreAlikeBelow, IsTracked}
 
 -- nothing is driven
 pub driven_none : (pins : List ℕ) (drive : Pins) (low : List Bool) (n : ℕ) → IsClear low → drive ≡ replicate n true → AreDriven pins drive low

@@ -1,13 +1,8 @@
 -- Several cycles, one after the other.
 use Rattle.std.proofs.Common.{◌≡◌, ℕ, ◌+◌, ◌<◌, ◌≤◌, Option, Some, None, IsSome, IfSome, List, [], ◌∷◌, ◌++◌, length, refl, sym, ap, ◌∙◌, subst, arith, append-nil, append_assoc, Bool, true, false, Result, Ok, Err, OnOk, is_err, option_map, map, get_or, All}
-use Rattle.std.proofs.lemmas.List.{map-append, length-append}
+use Rattle.rig_simulated.proofs.Vocabulary.{map-append, length-append, All-get_or, pins_of, Pins, Faults, IsRun, Past, Exchange, Session}
+use Rattle.rig_simulated.proofs.Vocabulary.{Machine, GoesOnBy, drives_of, readings_of, GoesOnFrom, HasRoomFrom, GoesOnByFrom}
 use Rattle.std.proofs.Math.ListN.{get_or-map}
-use Rattle.std.proofs.lemmas.List.Elements.{All-get_or}
-use Rattle.machine_shape.specs.Shape.{pins_of}
-use Rattle.machine_meaning.specs.Vocabulary.{Pins, Faults}
-use Rattle.machine_config.specs.Faulty.{IsRun}
-use Rattle.rig.specs.Rig.{Past, Exchange, Session, Machine, GoesOnBy, drives_of, readings_of}
-use Rattle.rig_simulated.specs.States.{GoesOnFrom, HasRoomFrom, GoesOnByFrom}
 
 module _ (f : Faults) (count : ℕ) where
   -- the session went on by these cycles, and there is room for the others

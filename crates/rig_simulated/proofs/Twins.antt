@@ -1,19 +1,10 @@
 -- Lists of tables that differ in what they give alone, and what ticks make of them.
 use Rattle.std.proofs.Common.{◌≡◌, ◌⊎◌, inl, inr, ⊎_elim, ℕ, zero, suc, ◌+◌, ◌<◌, ◌≤◌, Bool, true, false, not, ◌||◌, cond, List, ◌++◌, length, get_or, map, set, take, drop, refl, sym, ap, ◌∙◌, subst, arith}
-use Rattle.std.proofs.Math.Bool.{beq}
+use Rattle.rig_simulated.proofs.Vocabulary.{beq, false≢true, cases_Bool, cases_eq, not-false, All-map, map_over_more, same_bits, Faults}
+use Rattle.rig_simulated.proofs.Vocabulary.{number_of, ClassNode, Gate, knot_at, IsTick, HaveTicked, not_yet, once_more}
 use Rattle.std.specs.List.{All}
-use Rattle.std.proofs.lemmas.Bool.{false≢true, cases_Bool, cases_eq, not-false}
 use Rattle.std.proofs.lemmas.List.{get_or-map, length-map, length-set, get_or-set_other, get_or-set_same, get_or_default, set-get_or, same_lists}
-use Rattle.std.proofs.lemmas.List.Elements.{All-map}
-use Rattle.std.proofs.lemmas.List.Edits.{map_over_more}
-use Rattle.base_bits.proofs.SetsLemmas.{same_bits}
-use Rattle.machine_meaning.specs.Faults.{Faults}
-use Rattle.machine_config.specs.Run.{number_of}
-use Rattle.rig_simulated.specs.declared.classes.ClassNode.{ClassNode}
-use Rattle.rig_simulated.specs.declared.gates.Gate.{Gate}
-use Rattle.rig_simulated.specs.Classes.{knot_at}
 use Rattle.rig_simulated.specs.Gates.{is_low, IsClear, Fits, level_of, level_at, address_by, cell_by, ticked, clocked, IsPulledBy, IsOutputOf, AreMarkedToo}
-use Rattle.rig_simulated.specs.Cycles.{IsTick, HaveTicked, not_yet, once_more}
 use Rattle.rig_simulated.specs.Settling.{IsRankedOrLatched, Settles, IsTwin, AreTwins, IsLatched, IsWithin, AreAtOutputs}
 use Rattle.rig_simulated.proofs.Levels.{no_gate, six_alike}
 use Rattle.rig_simulated.proofs.Marking.{none_marked, no_pull, marked_more, marked_same, pull_here, pull_kept, pull_last, pull_not}

@@ -2,14 +2,8 @@
 use Rattle.std.proofs.Common.{◌≡◌, ◌≢◌, ◌⊎◌, inl, inr, ⊎_elim, ℕ, ◌+◌, ◌-◌, ◌<◌, ◌≤◌, Bool, true, false, Option, Some, None, List, [], ◌∷◌, ◌++◌, length, map, take, get_or, cond, ltb, refl, sym, ap, ◌∙◌, subst, arith, is_some}
 use Rattle.std.proofs.lemmas.Bool.{false≢true, cases_eq, cases_lt, cond-true, cond-false, lt-ltb, le-ltb}
 use Rattle.std.proofs.lemmas.List.{same_lists, length_push, take_all, take-take, length-take-le, take-append-le, get_or_push, get_or_append_left, map_push}
-use Rattle.machine_shape.specs.declared.Shape.{Shape}
-use Rattle.machine_shape.specs.declared.Cross.{Cross}
-use Rattle.machine_shape.specs.Shape.{wires_of, ends_of}
-use Rattle.machine_meaning.specs.Vocabulary.{Faults, stuck_wire, stuck_cross, Net}
-use Rattle.rig_simulated.specs.declared.classes.ClassNode.{ClassNode}
-use Rattle.rig_simulated.specs.declared.classes.Tie.{Tie}
-use Rattle.rig_simulated.specs.declared.classes.Closed.{Closed}
-use Rattle.rig_simulated.specs.declared.classes.Classes.{Classes}
+use Rattle.rig_simulated.proofs.Vocabulary.{Shape, Cross, wires_of, ends_of, Faults, stuck_wire, stuck_cross, Net, ClassNode, Closed}
+use Rattle.rig_simulated.specs.declared.classes.{Tie.Tie, Classes.Classes}
 use Rattle.rig_simulated.specs.Classes.{knot_at, HasRoots, AreTied, HasLink, HaveSameLinks, IsHung, IsTieOf, IsUntied, IsWithinKnots, IsOpenedBy}
 use Rattle.rig_simulated.specs.Building.{closed_net, base_most, AreBase, AreOpenable, cross_of, AreClosedBy, HasClosed}
 use Rattle.rig_simulated.proofs.ClassLemmas.{knot_is}

@@ -1,22 +1,11 @@
 -- A machine that is prepared, and one that is loaded.
 use Rattle.std.specs.Prelude.{◌≡◌, ℕ, ◌<◌, Bool, true, List, length, slice_index, All}
-use Rattle.machine_shape.specs.declared.Shape.{Shape}
-use Rattle.machine_shape.specs.Shape.{wires_of, tables_of, pins_of, pin_wire}
+use Rattle.machine_shape.specs.{declared.Shape.Shape, Shape.wires_of, Shape.tables_of, Shape.pins_of, Shape.pin_wire}
 use Rattle.machine_meaning.specs.Faults.{Faults}
 use Rattle.machine_config.specs.Configuration.{Configuration}
-use Rattle.rig_simulated.specs.declared.board.Board.{Board}
-use Rattle.rig_simulated.specs.declared.classes.ClassNode.{ClassNode}
-use Rattle.rig_simulated.specs.declared.driving.KeptPins.{KeptPins}
-use Rattle.rig_simulated.specs.Classes.{HasRoots}
-use Rattle.rig_simulated.specs.Building.{AreClosedBy}
-use Rattle.rig_simulated.specs.Stuck.{AreStuck}
-use Rattle.rig_simulated.specs.Gates.{IsClear, Fits}
-use Rattle.rig_simulated.specs.Cycles.{IsWired, AreDriven}
-use Rattle.rig_simulated.specs.Chains.{AreWithin}
-use Rattle.rig_simulated.specs.Tracked.{IsTracked}
-use Rattle.rig_simulated.specs.Settling.{Settles}
-use Rattle.rig_simulated.specs.Pulls.{AreZero}
-use Rattle.rig_simulated.specs.Events.{AreEvents}
+use Rattle.rig_simulated.specs.{declared.board.Board.Board, declared.driving.KeptPins.KeptPins, Building.AreClosedBy, Tracked.IsTracked}
+use Rattle.rig_simulated.specs.{declared.classes.ClassNode.ClassNode, Gates.IsClear, Gates.Fits, Cycles.IsWired, Cycles.AreDriven}
+use Rattle.rig_simulated.specs.{Classes.HasRoots, Stuck.AreStuck, Chains.AreWithin, Settling.Settles, Pulls.AreZero, Events.AreEvents}
 
 -- there is room for what the pins are driven, and the marks are those of it
 pub record HasPins (m : Shape) (pins : List ℕ) (low : List Bool) (kept : KeptPins) : Type 0 where

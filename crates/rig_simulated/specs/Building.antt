@@ -1,18 +1,12 @@
 -- How the classes of a machine are built, link by link.
 use Rattle.std.specs.Prelude.{◌≡◌, ℕ, ◌+◌, ◌<◌, ◌≤◌, Bool, false, ◌==◌, ◌&&◌, nat_lt, Option, List, [], ◌∷◌, ◌++◌, length, map}
-use Rattle.std.specs.Prelude.{take, slice_index_or, unwrap_or}
-use Rattle.std.specs.List.{list_any}
+use Rattle.std.specs.{Prelude.take, Prelude.slice_index_or, Prelude.unwrap_or, List.list_any}
 use Rattle.std.specs.FinSet as set
-use Rattle.machine_shape.specs.declared.Shape.{Shape}
-use Rattle.machine_shape.specs.declared.Cross.{Cross}
-use Rattle.machine_shape.specs.declared.Wire.{Wire}
-use Rattle.machine_shape.specs.Shape.{wires_of}
+use Rattle.machine_shape.specs.{declared.Shape.Shape, declared.Cross.Cross, declared.Wire.Wire, Shape.wires_of}
 use Rattle.machine_meaning.specs.Vocabulary.{Faults, stuck_wire, stuck_cross, is_bridge, pair_cmp, Net, net_of}
 use Rattle.machine_faults.specs.Stored.{pair_of}
-use Rattle.rig_simulated.specs.declared.classes.ClassNode.{ClassNode}
-use Rattle.rig_simulated.specs.declared.classes.Closed.{Closed}
-use Rattle.rig_simulated.specs.declared.classes.Classes.{Classes}
-use Rattle.rig_simulated.specs.Classes.{AreTied, HasLink, IsOpenedBy}
+use Rattle.rig_simulated.specs.{declared.classes.ClassNode.ClassNode, Classes.AreTied, Classes.HasLink, Classes.IsOpenedBy}
+use Rattle.rig_simulated.specs.declared.classes.{Closed.Closed, Classes.Classes}
 
 -- nothing is linked but by these bridges
 abbrev pub bridged_net : Shape → List (Wire × Wire) → Net

@@ -2,8 +2,7 @@
 use Rattle.std.specs.Prelude.{◌≡◌, ◌≢◌, ◌⊎◌, ℕ, ◌+◌, ◌^◌, ◌<◌, ◌≤◌, Bool, true, false, Option, Some, None, List, length, slice_index_or}
 use Rattle.machine_shape.specs.Shape.{Ends}
 use Rattle.machine_meaning.specs.Joined.{Net, Linked, Joined}
-use Rattle.rig_simulated.specs.declared.classes.ClassNode.{ClassNode}
-use Rattle.rig_simulated.specs.declared.classes.Tie.{Tie}
+use Rattle.rig_simulated.specs.declared.classes.{ClassNode.ClassNode, Tie.Tie}
 
 -- the knot of a wire; beyond the list each wire is alone
 abbrev pub knot_at : List ClassNode → ℕ → ClassNode

@@ -3,9 +3,7 @@ use Rattle.std.specs.Prelude.{◌≡◌, ℕ, zero, suc, ◌<◌, Bool, true, Li
 use Rattle.machine_shape.specs.Shape.{pin_wire, pins_of}
 use Rattle.machine_meaning.specs.Vocabulary.{Outputs, Pins, Faults, stuck_wire}
 use Rattle.machine_config.specs.Vocabulary.{Configuration, circuit_of, Ticks, Cycle}
-use Rattle.rig_simulated.specs.declared.classes.ClassNode.{ClassNode}
-use Rattle.rig_simulated.specs.declared.gates.Gate.{Gate}
-use Rattle.rig_simulated.specs.Classes.{AreKnots}
+use Rattle.rig_simulated.specs.{declared.classes.ClassNode.ClassNode, declared.gates.Gate.Gate, Classes.AreKnots}
 use Rattle.rig_simulated.specs.Gates.{is_low, IsClear, level_at, ticked, clocked, AreGates, AreOutputs, IsPulledBy, IsDrivenBy}
 use Rattle.rig_simulated.specs.Gates.{AreMarkedToo}
 

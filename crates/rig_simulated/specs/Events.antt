@@ -1,15 +1,9 @@
 -- Ticks that evaluate the tables whose inputs changed, and no others.
 use Rattle.std.specs.Prelude.{◌≡◌, ◌⊎◌, ℕ, ◌<◌, Bool, false, List, length, slice_index, slice_index_or, All}
 use Rattle.machine_meaning.specs.Faults.{Faults}
-use Rattle.rig_simulated.specs.declared.gates.Gate.{Gate}
-use Rattle.rig_simulated.specs.declared.queue.Queue.{Queue}
-use Rattle.rig_simulated.specs.declared.readers.Readers.{Readers}
-use Rattle.rig_simulated.specs.declared.events.Flip.{Flip}
-use Rattle.rig_simulated.specs.declared.events.Events.{Events}
-use Rattle.rig_simulated.specs.Gates.{ticked}
-use Rattle.rig_simulated.specs.Pulls.{AreCounted, giving}
-use Rattle.rig_simulated.specs.Queues.{is_marked, IsDue, IsQueue}
-use Rattle.rig_simulated.specs.Readers.{AreReaders}
+use Rattle.rig_simulated.specs.declared.{gates.Gate.Gate, readers.Readers.Readers, events.Flip.Flip, events.Events.Events}
+use Rattle.rig_simulated.specs.{declared.queue.Queue.Queue, Pulls.AreCounted, Pulls.giving, Queues.is_marked, Queues.IsDue, Queues.IsQueue}
+use Rattle.rig_simulated.specs.{Gates.ticked, Readers.AreReaders}
 
 -- a table gives already what a tick makes of it
 abbrev pub IsStill : Faults → (ℕ → Bool) → Gate → Type 0

@@ -1,13 +1,10 @@
 -- The switched-on tables of a loaded machine, and what its wires are at a tick.
 use Rattle.std.specs.Prelude.{◌≡◌, ◌⊎◌, ℕ, ◌<◌, ◌≤◌, Bool, true, false, not, ◌||◌, if◌then◌else◌, Option, Some, None, IsSome, List, length}
-use Rattle.std.specs.Prelude.{map, slice_index, slice_index_or, unwrap_or, All}
-use Rattle.std.specs.List.{range_with_len}
+use Rattle.std.specs.{Prelude.map, Prelude.slice_index, Prelude.slice_index_or, Prelude.unwrap_or, Prelude.All, List.range_with_len}
 use Rattle.machine_shape.specs.Shape.{table_wire, tables_of}
 use Rattle.machine_meaning.specs.Vocabulary.{Outputs, Pins, Faults, wrong_cell}
 use Rattle.machine_config.specs.Vocabulary.{Configuration, setting_of, cell_of, held_by, number_of}
-use Rattle.rig_simulated.specs.declared.classes.ClassNode.{ClassNode}
-use Rattle.rig_simulated.specs.declared.gates.Gate.{Gate}
-use Rattle.rig_simulated.specs.Classes.{knot_at}
+use Rattle.rig_simulated.specs.{declared.classes.ClassNode.ClassNode, declared.gates.Gate.Gate, Classes.knot_at}
 
 -- whether a wire has a mark
 abbrev pub is_low : List Bool → ℕ → Bool

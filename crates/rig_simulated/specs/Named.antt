@@ -1,15 +1,12 @@
 -- The faults that a name stands for.
 use Rattle.std.specs.Prelude.{◌≡◌, ◌⊎◌, ℕ, ◌≤◌, Option, Some, None, IfSome, List, [], ◌∷◌, ◌++◌, length}
-use Rattle.machine_shape.specs.declared.Shape.{Shape}
-use Rattle.machine_shape.specs.Bounds.{most_text}
+use Rattle.machine_shape.specs.{declared.Shape.Shape, Bounds.most_text}
 use Rattle.machine_meaning.specs.Faults.{Faults}
 use Rattle.base_io.specs.Vocabulary.{Rose, Told, bytes_of, IfTold, StoreState}
 use Rattle.machine_faults.specs.Text.{IsFaultText}
 use Rattle.machine_faults.specs.declared.kind.FaultsFault.TheVariants as text
 use Rattle.machine_bench.specs.Faults.{AreBenchFaults}
-use Rattle.rig.specs.Names.{generated_of}
-use Rattle.rig.specs.Rig.{IsNoText}
-use Rattle.rig.specs.declared.rig.AttachFail.{AttachFail}
+use Rattle.rig.specs.{Names.generated_of, Rig.IsNoText, declared.rig.AttachFail.AttachFail}
 use Rattle.rig.specs.declared.rig.AttachFail.TheVariants as attach
 
 -- the fault text of a name by its number, if it has one: that of generated faults is empty

@@ -1,10 +1,7 @@
 -- What tables gave some ticks before, and give again.
 use Rattle.std.specs.Prelude.{◌≡◌, ℕ, ◌+◌, ◌<◌, Bool, List, length, map, slice_index_or}
 use Rattle.machine_meaning.specs.Faults.{Faults}
-use Rattle.rig_simulated.specs.declared.classes.ClassNode.{ClassNode}
-use Rattle.rig_simulated.specs.declared.gates.Gate.{Gate}
-use Rattle.rig_simulated.specs.declared.past.Past.{Past}
-use Rattle.rig_simulated.specs.Cycles.{HaveTicked}
+use Rattle.rig_simulated.specs.{declared.classes.ClassNode.ClassNode, declared.gates.Gate.Gate, declared.past.Past.Past, Cycles.HaveTicked}
 
 abbrev pub given_by : Gate → Bool
 given_by gate = gate.output

@@ -1,8 +1,7 @@
 -- How many tables pull each class.
 use Rattle.std.specs.Prelude.{◌≡◌, ℕ, ◌<◌, Bool, not, ◌==◌, ◌&&◌, nat_lt, List, length, slice_index, slice_index_or, slice_set}
 use Rattle.std.specs.List.{count_by}
-use Rattle.rig_simulated.specs.declared.gates.Gate.{Gate}
-use Rattle.rig_simulated.specs.Gates.{is_low}
+use Rattle.rig_simulated.specs.{declared.gates.Gate.Gate, Gates.is_low}
 
 -- whether a table gives 0 to a class
 abbrev pub pulls_to : ℕ → Gate → Bool

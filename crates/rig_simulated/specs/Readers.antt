@@ -1,10 +1,7 @@
 -- For each class the tables that read it.
 use Rattle.std.specs.Prelude.{◌≡◌, ℕ, ◌<◌, List, length, slice_index, slice_index_or, All}
-use Rattle.std.specs.List.{Contains}
-use Rattle.std.specs.List.Sorted.{IsNonDecreasingBy}
-use Rattle.rig_simulated.specs.declared.gates.Gate.{Gate}
-use Rattle.rig_simulated.specs.declared.readers.Reader.{Reader}
-use Rattle.rig_simulated.specs.declared.readers.Readers.{Readers}
+use Rattle.std.specs.List.{Contains, Sorted.IsNonDecreasingBy}
+use Rattle.rig_simulated.specs.declared.{gates.Gate.Gate, readers.Reader.Reader, readers.Readers.Readers}
 
 -- what a table reads at an input
 abbrev pub reader_at : List Gate → ℕ → ℕ → Gate → Reader

@@ -1,7 +1,6 @@
 -- When what the combinational tables gave before doesn't matter after some ticks.
 use Rattle.std.specs.Prelude.{◌≡◌, ℕ, ◌<◌, ◌≤◌, Bool, true, false, List, length, slice_index, slice_index_or, All}
-use Rattle.rig_simulated.specs.declared.gates.Gate.{Gate}
-use Rattle.rig_simulated.specs.Gates.{is_low, IsOutputOf}
+use Rattle.rig_simulated.specs.{declared.gates.Gate.Gate, Gates.is_low, Gates.IsOutputOf}
 
 -- what a table reads has a lower rank than what it gives, which has the highest at most
 pub record IsRanked (rank : ℕ → ℕ) (most : ℕ) (gate : Gate) : Type 0 where

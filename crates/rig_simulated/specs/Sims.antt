@@ -3,12 +3,8 @@ use Rattle.std.specs.Prelude.{◌≡◌, true, if◌then◌else◌, Option, Some
 use Rattle.machine_meaning.specs.Faults.{Faults, AreFaultsOf}
 use Rattle.machine_config.specs.Configuration.{Configuration}
 use Rattle.rig.specs.Rig.{Exchange, Session, drives_of, readings_of}
-use Rattle.rig_simulated.specs.declared.board.Board.{Board}
-use Rattle.rig_simulated.specs.declared.sim.Sim.TheInside.{Inside}
-use Rattle.rig_simulated.specs.Boards.{IsPrepared, IsLoaded}
-use Rattle.rig_simulated.specs.States.{SimState}
-use Rattle.rig_simulated.specs.Stored.{config_in, cycles_in}
-use Rattle.rig_simulated.specs.Tracks.{HasRun}
+use Rattle.rig_simulated.specs.{declared.board.Board.Board, States.SimState, Tracks.HasRun}
+use Rattle.rig_simulated.specs.{declared.sim.Sim.TheInside.Inside, Boards.IsPrepared, Boards.IsLoaded, Stored.config_in, Stored.cycles_in}
 
 -- the configuration and the cycles that are kept
 abbrev pub config_of_sim : Inside → Configuration

@@ -1,12 +1,9 @@
 -- What is kept of a session.
 use Rattle.std.specs.Prelude.{ℕ, ◌==◌, Option, List, [], ◌∷◌, map, find, option_map}
 use Rattle.std.specs.List.{range_with_len}
-use Rattle.machine_shape.specs.declared.Shape.{Shape}
-use Rattle.machine_shape.specs.declared.Cross.{Cross}
-use Rattle.machine_shape.specs.Shape.{tables_of}
+use Rattle.machine_shape.specs.{declared.Shape.Shape, declared.Cross.Cross, Shape.tables_of}
 use Rattle.machine_meaning.specs.Vocabulary.{Pins}
-use Rattle.machine_config.specs.declared.Setting.{Setting}
-use Rattle.machine_config.specs.Vocabulary.{Configuration, set_of}
+use Rattle.machine_config.specs.{declared.Setting.Setting, Vocabulary.Configuration, Vocabulary.set_of}
 use Rattle.rig.specs.Rig.{Exchange}
 use Rattle.rig_simulated.specs.declared.gates.Gate.{Gate}
 

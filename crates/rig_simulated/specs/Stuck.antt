@@ -1,7 +1,6 @@
 -- The crosspoints that are stuck.
 use Rattle.std.specs.Prelude.{◌≡◌, ℕ, ◌<◌, Bool, is_some, List, length}
-use Rattle.machine_shape.specs.declared.Shape.{Shape}
-use Rattle.machine_shape.specs.Shape.{crosses_of}
+use Rattle.machine_shape.specs.{declared.Shape.Shape, Shape.crosses_of}
 use Rattle.machine_meaning.specs.Faults.{Faults, stuck_cross}
 use Rattle.base_bits.specs.Numbers.{has_number}
 

@@ -1,12 +1,8 @@
 -- What is kept of the pins from cycle to cycle.
 use Rattle.std.specs.Prelude.{◌≡◌, ℕ, ◌<◌, true, List, Bool, length, slice_index, slice_index_or, All}
 use Rattle.machine_meaning.specs.Vocabulary.{Pins}
-use Rattle.rig_simulated.specs.declared.classes.ClassNode.{ClassNode}
-use Rattle.rig_simulated.specs.declared.driving.KeptPins.{KeptPins}
-use Rattle.rig_simulated.specs.Classes.{knot_at}
-use Rattle.rig_simulated.specs.Gates.{is_low, level_of}
-use Rattle.rig_simulated.specs.Cycles.{AreDriven}
-use Rattle.rig_simulated.specs.Chains.{AreChained, AreWithin}
+use Rattle.rig_simulated.specs.{declared.classes.ClassNode.ClassNode, Gates.is_low, Gates.level_of, Chains.AreChained, Chains.AreWithin}
+use Rattle.rig_simulated.specs.{declared.driving.KeptPins.KeptPins, Classes.knot_at, Cycles.AreDriven}
 
 -- what a class is while no table pulls it
 abbrev pub level_by : List ClassNode → List Bool → ℕ → Bool

@@ -2,8 +2,7 @@
 use Rattle.std.specs.Prelude.{List}
 use Rattle.machine_meaning.specs.Vocabulary.{Outputs, Pins, Faults}
 use Rattle.machine_config.specs.Vocabulary.{Configuration, circuit_of, Cycle, Cycles, at_load}
-use Rattle.rig_simulated.specs.declared.gates.Gate.{Gate}
-use Rattle.rig_simulated.specs.Gates.{AreOutputs}
+use Rattle.rig_simulated.specs.{declared.gates.Gate.Gate, Gates.AreOutputs}
 
 -- one cycle led to what the tables give
 pub record GivesCycle (f : Faults) (g : Configuration) (before : Outputs) (drive read : Pins) (gates : List Gate) : Type 0 where

@@ -1,11 +1,8 @@
 -- Rows of bits that stand one behind the other.
 use Rattle.std.proofs.Common.{◌≡◌, ℕ, zero, suc, ◌+◌, ◌-◌, ◌*◌, ◌<◌, ◌≤◌, Bool, List, [], ◌∷◌, ◌++◌, length, map, flat_map, take, drop, get_or, arith, refl, sym, ap, subst, ◌∙◌}
-use Rattle.std.specs.List.{AllByRecursion}
+use Rattle.run_image.proofs.Vocabulary.{AllByRecursion, take-append_seam, drop-append_seam, Pins, rows_in}
 use Rattle.std.proofs.Math.Nat.{suc-mul, zero-mul, mul-le-mul_right}
-use Rattle.std.proofs.Math.Seq.{take-append_seam, drop-append_seam}
 use Rattle.std.proofs.lemmas.List.{take-append-le, drop-append-le, take-append-drop, take_all, length-take-le, length-drop, drop-drop}
-use Rattle.machine_meaning.specs.Circuit.{Pins}
-use Rattle.run_image.specs.Batches.{rows_in}
 
 -- plain numbers
 behind-wide : (a w len : ℕ) → len ≡ a + w → w ≤ len

@@ -1,13 +1,8 @@
 -- The bodies of the commands, up to the list: a machine is read and attached, and designs are read. A lemma for each place where one
 -- ends, and for each where it goes on.
 use Rattle.std.proofs.Common.{◌≡◌, ◌≤◌, ℕ, List, [], ◌∷◌, refl, Result, Ok, Err}
-use Rattle.base_io.specs.Vocabulary.{StoreState, SinkState}
-use Rattle.machine_shape.specs.declared.Shape.{Shape}
-use Rattle.design_netlist.specs.declared.netlist_data.NetlistData.{NetlistData}
-use Rattle.rig.specs.Rig.{RigState}
+use Rattle.run_image.proofs.Vocabulary.{StoreState, SinkState, Shape, NetlistData, RigState, DesignFile, Stop}
 use Rattle.cmd_steps.specs.Vocabulary.{Around, Outside, outside, around, Course, after, Unloaded, machine_attached, Took, Follows, reads_machine, reads_design, attaches, MayAsk}
-use Rattle.cmd_steps.specs.declared.design_file.DesignFile.{DesignFile}
-use Rattle.cmd_steps.specs.declared.refusal.Stop.{Stop}
 use Rattle.cmd_steps.proofs.Machines.{named, AsksNamed, machine-stops, attach-stops, attached-gives}
 use Rattle.cmd_steps.proofs.Reading.{HasRead, none-read, more-read, read-stops, read-gives}
 

@@ -1,10 +1,7 @@
 -- Bits that are repeated for each copy, and the halves of what two copies read.
 use Rattle.std.proofs.Common.{◌≡◌, ◌⊎◌, ◌+◌, ◌++◌, ◌↔◌, ◌∙◌, ℕ, Bool, true, false, IsTrue, List, [], ◌∷◌, map, length, take, drop, get_or, refl, sym, ap, inl, inr, arith, length-append}
-use Rattle.std.specs.List.{AllByRecursion}
+use Rattle.run_image.proofs.Vocabulary.{AllByRecursion, share, times, repeated, all_repeated, AreShared, IsApart, Copies, One, Two}
 use Rattle.std.proofs.lemmas.List.{map-append, length-map, take-append-drop, length-take-le, length-drop}
-use Rattle.run_image.specs.Copying.{share, times, repeated, all_repeated, AreShared, IsApart}
-use Rattle.run_image.specs.declared.copies.Copies.{Copies}
-use Rattle.run_image.specs.declared.copies.Copies.TheVariants.{One, Two}
 
 pub repeated-cons : (c : Copies) (row : List Bool) (rows : List (List Bool)) → all_repeated c (row ∷ rows) ≡ repeated c row ∷ all_repeated c rows
 repeated-cons One row rows = refl

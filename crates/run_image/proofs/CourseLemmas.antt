@@ -1,12 +1,9 @@
 -- What the course of an image comes to, whoever's rows they are.
-use Rattle.std.proofs.Common.{◌≡◌, ℕ, ◌≤◌, Bool, List, ◌++◌, length, None, inl, inr, subst, arith}
-use Rattle.base_io.specs.Vocabulary.{next_count, holds}
+use Rattle.run_image.proofs.Vocabulary.{◌≡◌, ℕ, ◌≤◌, Bool, List, ◌++◌, length, None, inl, inr, subst, arith, next_count, holds, after-leads}
+use Rattle.run_image.proofs.Vocabulary.{rig-excused, most_rows, RowsBegin, IsAtOutputs, image_course, loaded_course, loads}
 use Rattle.cmd_steps.specs.Vocabulary.{says_at, vectors_at, AreAll, IsNearNext, outputs_line, output_text, Around, StandsIn, RowWork, Next, all_rows, HasRows, HasReadRows, IsBeforeRow, ends, refuses, writes, Leads, EndsWell}
 use Rattle.cmd_steps.specs.declared.refusal.Refusal.TheVariants as refused
-use Rattle.cmd_steps.proofs.Leading.{after-leads}
-use Rattle.cmd_steps.proofs.Excused.{rig-excused}
 use Rattle.cmd_steps.proofs.OpenedLaws.{opened-well, opened-lacks, opened-ends}
-use Rattle.run_image.specs.Rows.{most_rows, RowsBegin, IsAtOutputs, image_course, loaded_course, loads}
 
 -- ---- rows of which more is known
 

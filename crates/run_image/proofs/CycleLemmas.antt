@@ -1,25 +1,13 @@
 -- Vectors that are read together and driven, and the rows of what was read.
 use Rattle.std.proofs.Common.{◌≡◌, ◌⊎◌, ◌∙◌, ◌≤◌, ◌<◌, ◌+◌, ◌-◌, ◌*◌, ◌==◌, ℕ, zero, suc, min, if◌then◌else◌, Bool, true, false, List, [], ◌∷◌, ◌++◌, map, take, drop, get_or, length, refl, sym, ap, subst, inl, inr, arith, length-append, Result, Err, Ok, OnOk, IfErr}
-use Rattle.std.proofs.lemmas.Bool.{eqb-true, eqb-false}
-use Rattle.std.proofs.lemmas.List.{map-append, take_all, take_more, take-append-drop, at_drop_more}
-use Rattle.base_io.specs.Vocabulary.{Rose, SinkState, StoreState}
-use Rattle.rig.specs.Rig.{RigState, CyclesFail}
-use Rattle.rig.specs.declared.rig.RigFail.{RigFail}
-use Rattle.rig.specs.declared.rig.RigFail.TheVariants.{Failed, Memory}
-use Rattle.design_vectors.specs.Readings.{VectorReading, GivesUnread}
-use Rattle.design_vectors.specs.Rows.{row_line}
+use Rattle.run_image.proofs.Vocabulary.{eqb-true, eqb-false, map-append, take_all, take_more, take-append-drop, at_drop_more, Rose}
+use Rattle.run_image.proofs.Vocabulary.{SinkState, StoreState, RigState, CyclesFail, RigFail, Failed, Memory, VectorReading, GivesUnread}
+use Rattle.run_image.proofs.Vocabulary.{row_line, Stop, most_together, rows_in, repeated, times, IsApart, Copies, Running, ImageValue}
 use Rattle.cmd_steps.specs.Vocabulary.{most_vector_bytes, IsRead, IsReadAfter, IsPutOut, RowsAt, rows_at, stop_of_rig, Puts, WaitsOrPuts}
-use Rattle.cmd_steps.specs.NextVectors.{WaitingRows}
+use Rattle.cmd_steps.specs.{NextVectors.WaitingRows, declared.refusal.Stop.TheVariants.Refused, declared.refusal.Stop.TheVariants.Sink}
 use Rattle.cmd_steps.specs.declared.refusal.Refusal.TheVariants as refused
-use Rattle.cmd_steps.specs.declared.refusal.Stop.{Stop}
-use Rattle.cmd_steps.specs.declared.refusal.Stop.TheVariants.{Refused, Sink}
 use Rattle.cmd_steps.proofs.WrittenRows.{held-up}
-use Rattle.run_image.specs.Batches.{most_together, rows_in}
-use Rattle.run_image.specs.Copying.{repeated, times, IsApart}
-use Rattle.run_image.specs.declared.copies.Copies.{Copies}
 use Rattle.run_image.specs.Running.{IsFitting, IsSameRun, together_of, AreKept, ReadsOn, ReadsMore, HasBatch, BatchGives, HasOrFailed, DriveStops, CompareStops, HasAddedOne, HasAddedAll, AddStops, AddsStop, DrivesTo, MakesRows, MakesStop, readings_in, at_rows}
-use Rattle.run_image.specs.declared.image.Running.{Running}
-use Rattle.machine_image.specs.Images.{ImageValue}
 use Rattle.run_image.proofs.BatchLemmas.{rows-put, rows-count, row-fits, row-in}
 use Rattle.run_image.proofs.Copied.{repeated-long}
 

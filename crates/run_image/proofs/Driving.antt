@@ -1,14 +1,9 @@
 -- The session of an image that is loaded, cycle by cycle.
 use Rattle.std.proofs.Common.{◌≡◌, ℕ, ◌+◌, ◌≤◌, Bool, List, [], ◌∷◌, ◌++◌, length, map, Some, arith, refl, sym, ap, ◌∙◌, subst, length-append}
-use Rattle.std.proofs.lemmas.List.{length-map, map-append}
-use Rattle.machine_meaning.specs.Faults.{Faults}
-use Rattle.machine_meaning.specs.Circuit.{Pins}
+use Rattle.run_image.proofs.Vocabulary.{length-map, map-append, Faults, Pins, ImageValue, drive_of, image_row, pins_in, RunsRow, RunsRows}
 use Rattle.machine_config.specs.Vocabulary.{Configuration, Cycles, none, cycle, IsRun}
-use Rattle.machine_image.specs.Images.{ImageValue, drive_of, image_row}
 use Rattle.rig.specs.Rig.{RigState, Explains, Exchange, Begins, config_of, cycles_of, drives_of, readings_of, spare_of}
 use Rattle.rig.proofs.Narrowing.{session_run}
-use Rattle.run_image.specs.Pins.{pins_in}
-use Rattle.run_image.specs.Run.{RunsRow, RunsRows}
 
 -- the image is loaded with room for so many rows, these vectors were driven, and these rows were read
 pub record HasDriven (room : ℕ) (i : ImageValue) (vectors rows : List (List Bool)) (rig : RigState) : Type 0 where

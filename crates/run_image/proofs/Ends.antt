@@ -1,22 +1,12 @@
 -- What the course of such a command leads to, where its files are right.
 use Rattle.std.proofs.Common.{◌≡◌, ◌⊎◌, ◌∙◌, ℕ, ◌≤◌, Bool, List, [], ◌++◌, length, None, refl, sym, ap, subst, inl, inr, append-nil}
-use Rattle.base_io.specs.Told.{holds}
-use Rattle.machine_shape.specs.declared.Shape.{Shape}
-use Rattle.machine_text.specs.Machine.{IsMachine}
-use Rattle.machine_defects.specs.Vocabulary.{DefectList, text_of}
-use Rattle.machine_image.specs.Images.{ImageValue}
+use Rattle.run_image.proofs.Vocabulary.{holds, Shape, IsMachine, DefectList, text_of, ImageValue, Refusal, step-leads, rig-excused, Listed}
+use Rattle.run_image.proofs.Vocabulary.{IsListed, lists, most_rows, RowsBegin, DiffersBehind, Laid, rows_work, HasOutputs, machine_listed}
 use Rattle.cmd_steps.specs.Vocabulary.{AreRightVectors, says_at, vectors_at, Around, Next, RowWork, refuses, status_of, reads_machine, Fronts, Leads, IsExcused, EndsWell, EndsShort}
-use Rattle.cmd_steps.specs.declared.refusal.Refusal.{Refusal}
 use Rattle.cmd_steps.specs.declared.refusal.Refusal.TheVariants as refused
-use Rattle.cmd_steps.proofs.Leading.{step-leads}
-use Rattle.cmd_steps.proofs.Excused.{rig-excused}
 use Rattle.cmd_steps.proofs.ShapeLemmas.{one-machine}
-use Rattle.diag_list.specs.Lists.{Listed, IsListed, lists}
 use Rattle.diag_list.proofs.Texts.{AreNamed, told-of, never-empty, never-alone}
-use Rattle.run_image.specs.Rows.{most_rows, RowsBegin, DiffersBehind}
 use Rattle.run_image.proofs.CourseLemmas.{image-well, image-few}
-use Rattle.run_image.specs.Laid.{Laid, rows_work}
-use Rattle.run_image.specs.Runs.{HasOutputs, machine_listed}
 use Rattle.run_image.proofs.Scripts.{AreLaidOn, Words, IsRight, begin-at, run-course, run-leads}
 
 module _ (w : Words) (old new : Around) where

@@ -1,25 +1,13 @@
 -- How the steps follow one another: a lemma for each place where the body ends, over plain states.
 use Rattle.std.proofs.Common.{◌≡◌, ℕ, List, [], ◌∷◌, Bool, refl, sym, subst, Result, Ok, Err}
-use Rattle.base_io.specs.Vocabulary.{StoreState, SinkState}
-use Rattle.machine_shape.specs.declared.Shape.{Shape}
-use Rattle.machine_meaning.specs.Vocabulary.{Covers, Faults}
-use Rattle.machine_defects.specs.Lists.{DefectList}
-use Rattle.machine_image.specs.Images.{ImageValue}
-use Rattle.place_route.specs.RightImages.{ReadsRows}
-use Rattle.rig.specs.Rig.{RigState, Explains}
-use Rattle.cmd_steps.specs.Vocabulary.{Outside, StandsIn, outside, around, Took, Follows}
-use Rattle.cmd_steps.specs.declared.refusal.Stop.{Stop}
+use Rattle.run_image.proofs.Vocabulary.{StoreState, SinkState, Shape, Covers, Faults, DefectList, ImageValue, ReadsRows, RigState, Explains}
+use Rattle.run_image.proofs.Vocabulary.{Outside, StandsIn, outside, around, Took, Follows, Stop, step-stops, step-gives, Listed, IsListed}
+use Rattle.run_image.proofs.Vocabulary.{WritesList, all_repeated, Copies, RowsBegin, AreRunRows, AreRowsOf, copied_rows, image_course, Laid}
+use Rattle.run_image.proofs.Vocabulary.{IsLaidOn, AreLaidRows, RunBegin, HasStayed, machine_listed, laid_run, image_run}
 use Rattle.cmd_steps.proofs.Following.{course-map}
 use Rattle.cmd_steps.proofs.Logs.{narrows_by}
-use Rattle.cmd_steps.proofs.Taking.{step-stops, step-gives}
-use Rattle.diag_list.specs.Lists.{Listed, IsListed, WritesList}
 use Rattle.diag_list.proofs.Following.{list-ends, list-goes}
-use Rattle.run_image.specs.Copying.{all_repeated}
-use Rattle.run_image.specs.declared.copies.Copies.{Copies}
-use Rattle.run_image.specs.Rows.{RowsBegin, AreRunRows, AreRowsOf, copied_rows, image_course}
 use Rattle.run_image.proofs.CourseLemmas.{rows-also}
-use Rattle.run_image.specs.Laid.{Laid, IsLaidOn, AreLaidRows}
-use Rattle.run_image.specs.Runs.{RunBegin, HasStayed, machine_listed, laid_run, image_run}
 
 -- ---- rows of an image that are those of what was laid
 

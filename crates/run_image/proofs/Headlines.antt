@@ -1,28 +1,16 @@
 -- What such a command has done, from where its course stands.
 use Rattle.std.proofs.Common.{◌≡◌, ◌∙◌, ℕ, All, List, [], ◌∷◌, ◌++◌, Bool, refl, sym, ap, subst, inl, inr, append_assoc, length, Some, Result}
-use Rattle.base_io.specs.Vocabulary.{next_count, IfTold, Wrote}
-use Rattle.machine_shape.specs.declared.Shape.{Shape}
-use Rattle.machine_meaning.specs.Vocabulary.{Faults, Covers}
+use Rattle.run_image.proofs.Vocabulary.{next_count, IfTold, Wrote, Shape, Faults, Covers, text_of, ImageValue, ReadsRows, Explains}
+use Rattle.run_image.proofs.Vocabulary.{cycles_of, drives_of, readings_of, Refusal, Stop, stopped, Adds, Standing, stands-done, Listed}
+use Rattle.run_image.proofs.Vocabulary.{IsListed, MadeFewLoads, unloaded, few, lists, all_repeated, loads, RowsBegin, Laid, rows_work}
+use Rattle.run_image.proofs.Vocabulary.{image_run, machine_listed, BeginsWithList, none, part, whole, IsWrittenWhole, UsesNothingListed}
+use Rattle.run_image.proofs.Vocabulary.{IsAsRead}
 use Rattle.machine_meaning.proofs.Faultless.{covers_none}
-use Rattle.machine_defects.specs.Text.{text_of}
-use Rattle.machine_image.specs.Images.{ImageValue}
 use Rattle.machine_history.specs.Vocabulary.{History, IsHistoryOf, IsRunOver}
 use Rattle.machine_history.proofs.RowsOver.{clean, clean_faultless, covered_rows}
-use Rattle.place_route.specs.RightImages.{ReadsRows}
-use Rattle.rig.specs.Rig.{Explains, cycles_of, drives_of, readings_of}
 use Rattle.cmd_steps.specs.Vocabulary.{AreAll, Outside, around, Course, Next, ends, refuses, writes, IsWritten, IsMachineText, LoadsOnce, reads_machine}
-use Rattle.cmd_steps.specs.declared.refusal.Refusal.{Refusal}
-use Rattle.cmd_steps.specs.declared.refusal.Stop.{Stop}
-use Rattle.cmd_steps.proofs.Leading.{stopped}
-use Rattle.cmd_steps.proofs.Standing.{Adds, Standing, stands-done}
-use Rattle.diag_list.specs.Lists.{Listed, IsListed, MadeFewLoads, unloaded, few, lists}
-use Rattle.run_image.specs.Copying.{all_repeated}
 use Rattle.run_image.proofs.Copied.{repeated-count}
-use Rattle.run_image.specs.Rows.{loads, RowsBegin}
 use Rattle.run_image.proofs.CourseLemmas.{image-ends}
-use Rattle.run_image.specs.Laid.{Laid, rows_work}
-use Rattle.run_image.specs.Runs.{image_run, machine_listed}
-use Rattle.run_image.specs.Headline.{BeginsWithList, none, part, whole, IsWrittenWhole, UsesNothingListed, IsAsRead}
 use Rattle.run_image.proofs.Scripts.{AreLaidOn, Words, AreRead, begin-at, run-course, run-leads}
 
 module _ (w : Words) (old new : Outside) where

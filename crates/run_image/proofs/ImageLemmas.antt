@@ -1,19 +1,10 @@
 -- How the steps of an image's rows follow one another.
-use Rattle.std.proofs.Common.{◌≡◌, ℕ, ◌≤◌, List, [], ◌∷◌, refl, sym, ap, ◌∙◌, inl, Result, Ok, Err}
-use Rattle.base_io.specs.Vocabulary.{next_count, Told, StoreState, SinkState}
-use Rattle.rig.specs.Rig.{RigState, LoadFails, Narrows, Tells}
-use Rattle.rig.specs.declared.rig.RigFail.{RigFail}
-use Rattle.rig.specs.declared.rig.RigFail.TheVariants.{Failed, Memory}
-use Rattle.machine_image.specs.Images.{ImageValue}
+use Rattle.run_image.proofs.Vocabulary.{◌≡◌, ℕ, ◌≤◌, List, [], ◌∷◌, refl, sym, ap, ◌∙◌, inl, Result, Ok, Err, next_count, Told, StoreState}
+use Rattle.run_image.proofs.Vocabulary.{SinkState, RigState, LoadFails, Narrows, Tells, RigFail, Failed, Memory, ImageValue, Stop, rig-took}
+use Rattle.run_image.proofs.Vocabulary.{rig-stopped, step-stops, step-gives, Copies, prepares, Running}
 use Rattle.cmd_steps.specs.Vocabulary.{outputs_line, Outside, outside, around, StandsIn, Course, RowWork, all_rows, stop_of_rig, opens, Took, Puts, Follows}
-use Rattle.cmd_steps.specs.declared.refusal.Stop.{Stop}
-use Rattle.cmd_steps.proofs.Making.{rig-took, rig-stopped}
 use Rattle.cmd_steps.proofs.OpenedRows.{opening-stops, outputs-stops, rows-then}
-use Rattle.cmd_steps.proofs.Taking.{step-stops, step-gives}
 use Rattle.run_image.specs.Rows.{RowsBegin, IsAtOutputs, copied_rows, image_course, loaded_course, loads}
-use Rattle.run_image.specs.declared.copies.Copies.{Copies}
-use Rattle.run_image.specs.Running.{prepares}
-use Rattle.run_image.specs.declared.image.Running.{Running}
 
 -- ---- the load as a step
 

@@ -15,3 +15,4 @@ mod ImageLemmas
 mod RowLemmas
 mod CycleLemmas
 mod Following
+mod Vocabulary

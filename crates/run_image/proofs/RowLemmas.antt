@@ -2,43 +2,23 @@
 use Rattle.std.proofs.Common.{◌≡◌, ◌⊎◌, ℕ, zero, suc, ◌+◌, ◌-◌, ◌<◌, ◌≤◌, Bool, false, List, [], ◌∷◌, ◌++◌, length, map, take, drop, flat_map, Some, arith, refl, sym, ap, subst, inl, inr, ◌∙◌, append-nil, append_assoc, length-append, option_map, OnOk, IfErr, Result, Ok, Err}
 use Rattle.std.specs.List.{All, AllByRecursion}
 use Rattle.std.proofs.lemmas.List.{get_or_append_left, length-map, map-append, take-append-drop, take-map, length-take-le}
-use Rattle.std.proofs.Math.Seq.{take-append_seam}
-use Rattle.std.proofs.lemmas.List.Elements.{All-append}
-use Rattle.base_io.specs.Sink.{SinkState}
-use Rattle.base_io.specs.Store.{StoreState}
-use Rattle.base_io.specs.Told.{Told}
-use Rattle.base_io.specs.Counts.{Rose}
-use Rattle.machine_meaning.specs.Vocabulary.{Pins, Faults}
-use Rattle.machine_config.specs.Vocabulary.{Configuration, IsRun}
-use Rattle.machine_shape.specs.Shape.{pins_of}
-use Rattle.rig.specs.Rig.{RigState, Exchange, Narrows, Tells, width_of, cycles_of, readings_of, spare_of}
-use Rattle.machine_image.specs.Images.{ImageValue, drive_of, image_row}
-use Rattle.run_image.specs.Batches.{most_together, rows_in}
-use Rattle.run_image.specs.Pins.{pins_in}
-use Rattle.run_image.specs.Run.{RunsRows}
+use Rattle.run_image.proofs.Vocabulary.{take-append_seam, All-append, SinkState, StoreState, Told, Rose, Pins, Faults, Configuration, IsRun}
+use Rattle.run_image.proofs.Vocabulary.{pins_of, RigState, Exchange, Narrows, Tells, width_of, cycles_of, readings_of, spare_of, ImageValue}
+use Rattle.run_image.proofs.Vocabulary.{drive_of, image_row, most_together, rows_in, pins_in, RunsRows, VectorReading, row_line, Refusal}
+use Rattle.run_image.proofs.Vocabulary.{Stop, later-same, share, times, repeated, all_repeated, IsApart, Copies, One, Two, most_rows}
+use Rattle.run_image.proofs.Vocabulary.{copied_rows, AreRunRows, AreRowsOf, IsSession, DiffersBehind, Running}
 use Rattle.run_image.proofs.BatchLemmas.{rows-fit, rows-wide}
 use Rattle.run_image.proofs.Copied.{repeated-both, repeated-cons, repeated-map, repeated-count, repeated-none, AllShared, all_alike, first_apart, all-shared}
 use Rattle.run_image.proofs.CycleLemmas.{together-within, few-together}
 use Rattle.run_image.proofs.Driving.{HasDriven, driven-start, driven-all, run-less, explained-run}
-use Rattle.design_vectors.specs.declared.vectors.VectorsFail.{VectorsFail}
-use Rattle.design_vectors.specs.declared.vectors.VectorsFail.TheVariants.{Text, Failed}
-use Rattle.design_vectors.specs.Readings.{VectorReading}
-use Rattle.design_vectors.specs.Rows.{row_line}
+use Rattle.design_vectors.specs.declared.vectors.VectorsFail.{VectorsFail, TheVariants.Text, TheVariants.Failed}
 use Rattle.cmd_steps.specs.Vocabulary.{file_of, AreFirst, IsBegun, IsNearEnd, IsNearNext, NoRowWaits, EndsFile, IsNotRead, IsPutOut, IsHeldUp, NextOf, NextStops, RowsAt, StaysOpen, Outside, outside, IsLater, RowWork, all_rows, HasRows, refuses, IsCounted, stop_of_vectors, Follows}
-use Rattle.cmd_steps.specs.declared.refusal.Refusal.{Refusal}
 use Rattle.cmd_steps.specs.declared.refusal.Refusal.TheVariants as refused
-use Rattle.cmd_steps.specs.declared.refusal.Stop.{Stop}
 use Rattle.cmd_steps.specs.declared.refusal.Stop.TheVariants.{Refused, Sink}
 use Rattle.cmd_steps.proofs.Prompt.{waits-fewer, prompt-now}
-use Rattle.cmd_steps.proofs.Taking.{later-same}
 use Rattle.cmd_steps.proofs.VectorLemmas.{taken-first, taken-all, taken-near-end, near-end-of}
 use Rattle.cmd_steps.proofs.WrittenRows.{AreWritten, none-written, row-later, put-few, put-out, after-put, read-after, was-read, all-written, added, not-added, some-lines, stays-same, takes-more, rig-moved, waits-more, first-of-taken, has-rows, rows-follow, vectors-follow, end-follows, held-follows}
-use Rattle.run_image.specs.Copying.{share, times, repeated, all_repeated, IsApart}
-use Rattle.run_image.specs.declared.copies.Copies.{Copies}
-use Rattle.run_image.specs.declared.copies.Copies.TheVariants.{One, Two}
-use Rattle.run_image.specs.Rows.{most_rows, copied_rows, AreRunRows, AreRowsOf, IsSession, DiffersBehind}
 use Rattle.run_image.specs.Running.{IsFitting, IsLoaded, IsSameBut, IsSameRun, ReadsOn, BatchGives, HasBatch, DrivesTo, HasOrFailed, DriveStops, HasAddedAll, AddStops, AddsStop, MakesStop, EndsSent, together_of, at_rows}
-use Rattle.run_image.specs.declared.image.Running.{Running}
 
 -- the vector has a bit for each input pin
 abbrev pub HasWidth : ImageValue → List Bool → Type 0

@@ -1,21 +1,10 @@
 -- What such a command reads behind its machine, and where its course stands.
-use Rattle.std.proofs.Common.{◌≡◌, ℕ, List, [], ◌∷◌, Some, subst, inl, inr}
-use Rattle.base_io.specs.Told.{Told}
-use Rattle.machine_shape.specs.declared.Shape.{Shape}
-use Rattle.machine_text.specs.Machine.{IsMachine}
-use Rattle.machine_defects.specs.Lists.{DefectList}
-use Rattle.design_netlist.specs.declared.netlist_data.NetlistData.{NetlistData}
+use Rattle.run_image.proofs.Vocabulary.{◌≡◌, ℕ, List, [], ◌∷◌, Some, subst, inl, inr, Told, Shape, IsMachine, DefectList, NetlistData}
+use Rattle.run_image.proofs.Vocabulary.{ImageValue, Asked, DesignFile, Refusal, stopped, Laid, IsLaidOn, RunBegin, machine_listed}
 use Rattle.design_blif.specs.Designs.{IsDesign}
-use Rattle.machine_image.specs.Images.{ImageValue}
-use Rattle.rig.specs.Rig.{Asked}
 use Rattle.cmd_steps.specs.Vocabulary.{Around, Course, Next, after, refuses, Unloaded, machine_attached, IsRightFile, reads_machine, reads_design, attaches, NoMachine, NoDesign, IsExcused}
-use Rattle.cmd_steps.specs.declared.design_file.DesignFile.{DesignFile}
-use Rattle.cmd_steps.specs.declared.refusal.Refusal.{Refusal}
-use Rattle.cmd_steps.proofs.Leading.{stopped}
 use Rattle.cmd_steps.proofs.Excused.{machine-excused, design-excused, attach-excused}
 use Rattle.cmd_steps.proofs.ShapeLemmas.{one-machine, one-design}
-use Rattle.run_image.specs.Laid.{Laid, IsLaidOn}
-use Rattle.run_image.specs.Runs.{RunBegin, machine_listed}
 
 -- each image of it is right
 abbrev pub AreLaidOn : Laid → Type 0

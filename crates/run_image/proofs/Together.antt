@@ -1,13 +1,7 @@
 -- Vectors that are driven by one call of the rig, and what is read then.
 use Rattle.std.proofs.Common.{◌≡◌, ◌≢◌, ◌∙◌, ℕ, zero, suc, ◌+◌, ◌-◌, ◌*◌, ◌<◌, ◌≤◌, Bool, true, false, Some, Option, List, [], ◌∷◌, ◌++◌, length, map, flat_map, take, drop, get_or, replicate, slice_set, slice_index_or, All, AllPairs, refl, sym, ap, subst, arith, append_assoc, append-nil, length-append, take_all, drop_of_length-le}
 use Rattle.std.proofs.lemmas.List.{get_or_append_left, length-map, length-set, length-take-le, map-append, take-append-drop, take_more, take_more_set}
-use Rattle.machine_meaning.specs.Circuit.{Pins}
-use Rattle.machine_image.specs.Images.{drive_on, row_at}
-use Rattle.rig.specs.Rig.{RigState, GoesOnBy}
-use Rattle.run_image.specs.Batches.{rows_in, HaveRows}
-use Rattle.run_image.specs.Driven.{driven}
-use Rattle.run_image.specs.Pins.{Rows}
-use Rattle.run_image.specs.Run.{RunsRows}
+use Rattle.run_image.proofs.Vocabulary.{Pins, drive_on, row_at, RigState, GoesOnBy, rows_in, HaveRows, driven, Rows, RunsRows}
 use Rattle.run_image.proofs.BatchLemmas.{row-in, rows-count, rows-flat, rows-take}
 use Rattle.run_image.proofs.Vectors.{driven_is}
 

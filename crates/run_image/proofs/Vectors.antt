@@ -1,12 +1,8 @@
 -- A vector on distinct pins, pin by pin.
 use Rattle.std.proofs.Common.{◌≡◌, ◌≢◌, ℕ, suc, ◌<◌, Bool, true, List, [], ◌∷◌, length, replicate, get_or, refl, sym, ap, ◌∙◌, subst, arith, All, AllPairs, ◌==◌, if◌then◌else◌, slice_set}
 use Rattle.std.proofs.Math.Logic.{⊎_elim}
-use Rattle.std.proofs.lemmas.Bool.{cases_eq, eq-eqb, ne_eqb}
-use Rattle.std.proofs.lemmas.List.{get_or-replicate, get_or-set_same, get_or-set_other, length-set, length-replicate}
-use Rattle.std.proofs.lemmas.List.FromFn.{fill_by_all}
-use Rattle.machine_meaning.specs.Circuit.{Pins}
-use Rattle.machine_image.specs.Images.{bit_for, drive_on}
-use Rattle.run_image.specs.Driven.{driven}
+use Rattle.run_image.proofs.Vocabulary.{cases_eq, eq-eqb, ne_eqb, Pins, bit_for, drive_on, driven}
+use Rattle.std.proofs.lemmas.List.{get_or-replicate, get_or-set_same, get_or-set_other, length-set, length-replicate, FromFn.fill_by_all}
 
 -- the bit that a vector gives to a pin, and another to one that is no input
 abbrev bit_or : Bool → List ℕ → List Bool → ℕ → Bool

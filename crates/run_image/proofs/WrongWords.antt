@@ -1,10 +1,7 @@
 -- Behind wrong words as much of the line of a refusal stands, and nothing else.
-use Rattle.std.proofs.Common.{◌∙◌, ℕ, List, ◌++◌, ap, subst}
-use Rattle.base_io.specs.Sink.{Wrote}
+use Rattle.run_image.proofs.Vocabulary.{◌∙◌, ℕ, List, ◌++◌, ap, subst, Wrote, Adds, stands-end, BeginsWithList, none}
 use Rattle.cmd_steps.specs.Vocabulary.{Outside, around, Next, refuses, wrong_words, Ended}
 use Rattle.cmd_steps.specs.declared.refusal.Refusal.TheVariants.{Words}
-use Rattle.cmd_steps.proofs.Standing.{Adds, stands-end}
-use Rattle.run_image.specs.Headline.{BeginsWithList, none}
 
 pub wrong-begins : {status : ℕ} (machine name : List ℕ) (old new : Outside) → Ended (Unit {0}) wrong_words old new status
     → BeginsWithList machine name old new

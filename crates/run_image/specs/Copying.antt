@@ -1,8 +1,7 @@
 -- Copies of what an image lays, that are driven with the same bits, and what they read.
 use Rattle.std.specs.Prelude.{◌≡◌, ◌≢◌, ◌+◌, ◌/◌, ◌++◌, ℕ, Bool, true, false, List, map, length}
 use Rattle.machine_image.specs.Images.{ImageValue}
-use Rattle.run_image.specs.declared.copies.Copies.{Copies}
-use Rattle.run_image.specs.declared.copies.Copies.TheVariants.{One, Two}
+use Rattle.run_image.specs.declared.copies.Copies.{Copies, TheVariants.One, TheVariants.Two}
 
 -- of so many pins, those of one copy
 abbrev pub share : Copies → ℕ → ℕ

@@ -8,8 +8,7 @@ use Rattle.place_route.specs.RightImages.{ReadsRows}
 use Rattle.rig.specs.Rig.{RigState, Explains}
 use Rattle.cmd_steps.specs.Courses.{Step, RowWork}
 use Rattle.run_image.specs.Copying.{share, all_repeated, AreEqualShares}
-use Rattle.run_image.specs.Rows.{most_rows, AreRowsOf, IsSession, DiffersBehind}
-use Rattle.run_image.specs.declared.copies.Copies.{Copies}
+use Rattle.run_image.specs.{Rows.most_rows, Rows.AreRowsOf, Rows.IsSession, Rows.DiffersBehind, declared.copies.Copies.Copies}
 
 -- how it is laid on what a list leaves free, how many copies there are that are driven alike, how many bits a vector of one copy has,
 -- and what the rows of all copies are

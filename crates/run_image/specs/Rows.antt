@@ -10,8 +10,7 @@ use Rattle.cmd_steps.specs.Vocabulary.{AreFirst, outputs_line, Around, StandsIn,
 use Rattle.cmd_steps.specs.Vocabulary.{RowWork, after, write, all_rows, opens, FailsOnRig}
 use Rattle.cmd_steps.specs.Vocabulary.{LoadsOnce}
 use Rattle.run_image.specs.Copying.{share, all_repeated, HalvesDiffer}
-use Rattle.run_image.specs.declared.copies.Copies.{Copies}
-use Rattle.run_image.specs.declared.copies.Copies.TheVariants.{One, Two}
+use Rattle.run_image.specs.declared.copies.Copies.{Copies, TheVariants.One, TheVariants.Two}
 
 -- for how many rows the rig is asked for room
 abbrev pub most_rows : ℕ

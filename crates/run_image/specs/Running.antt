@@ -1,22 +1,16 @@
 -- What the steps of a run say.
 use Rattle.std.specs.Prelude.{◌≡◌, ◌⊎◌, ◌+◌, ◌*◌, ◌==◌, ℕ, if◌then◌else◌, min, List, [], ◌∷◌, ◌++◌, Bool, false, length, map, Err, Ok}
-use Rattle.run_image.specs.Copying.{share, repeated, AreEqualShares, IsApart}
-use Rattle.run_image.specs.declared.copies.Copies.{Copies}
+use Rattle.run_image.specs.{Copying.share, Copying.repeated, Copying.AreEqualShares, Copying.IsApart, Rows.most_rows, Rows.loads}
+use Rattle.run_image.specs.{declared.copies.Copies.Copies, Batches.most_together, Batches.rows_in, declared.image.Running.Running}
 use Rattle.base_io.specs.Vocabulary.{Rose, StoreState, SinkState}
 use Rattle.rig.specs.Rig.{RigState, Begins, CyclesFail}
 use Rattle.rig.specs.declared.rig.RigFail.TheVariants as work
-use Rattle.run_image.specs.Batches.{most_together, rows_in}
-use Rattle.run_image.specs.Pins.{pins_in}
-use Rattle.run_image.specs.Run.{RunsRows}
-use Rattle.design_vectors.specs.Readings.{VectorReading, new_reading}
-use Rattle.design_vectors.specs.Rows.{row_line}
+use Rattle.run_image.specs.{Pins.pins_in, Run.RunsRows}
+use Rattle.design_vectors.specs.{Readings.VectorReading, Readings.new_reading, Rows.row_line}
 use Rattle.cmd_steps.specs.Vocabulary.{most_vector_bytes, IsRead, IsReadAfter, RowsAt, rows_at, IsPutOut, IsHeldUp, NextOf}
 use Rattle.cmd_steps.specs.Vocabulary.{WaitsOrPuts, Step}
 use Rattle.cmd_steps.specs.declared.refusal.Refusal.TheVariants as refused
-use Rattle.cmd_steps.specs.declared.refusal.Stop.{Stop}
-use Rattle.cmd_steps.specs.declared.refusal.Stop.TheVariants.{Refused, Sink}
-use Rattle.run_image.specs.Rows.{most_rows, loads}
-use Rattle.run_image.specs.declared.image.Running.{Running}
+use Rattle.cmd_steps.specs.declared.refusal.Stop.{Stop, TheVariants.Refused, TheVariants.Sink}
 
 -- for how many vectors the rig is asked together, where there is room for so many rows: one where there is none
 abbrev pub together_of : (left : ℕ) → ℕ

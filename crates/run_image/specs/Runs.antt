@@ -6,8 +6,7 @@ use Rattle.machine_defects.specs.Vocabulary.{DefectList, IsDefectList, text_of}
 use Rattle.machine_image.specs.Images.{ImageValue}
 use Rattle.cmd_steps.specs.Vocabulary.{outputs_line, Around, StandsIn, Course, after, write}
 use Rattle.diag_list.specs.Lists.{Listed, lists}
-use Rattle.run_image.specs.Rows.{image_course}
-use Rattle.run_image.specs.Laid.{Laid, rows_work}
+use Rattle.run_image.specs.{Rows.image_course, Laid.Laid, Laid.rows_work}
 
 -- where the list is made: the store as the command began, and how often the rig had failed then, the files that were read since,
 -- the last first, and the file of vectors

@@ -1,6 +1,4 @@
-use Rattle.std.proofs.Common.{sym, arith}
-use Rattle.std.proofs.lemmas.List.Sums.{position_or_len_is}
-use Rattle.base_text.specs.Bytes.{is_blank}
+use Rattle.base_text.proofs.Vocabulary.{sym, arith, position_or_len_is, is_blank}
 use Rattle.base_text.proofs.bytes.blank_place.Goals as goal
 
 pub returns-else-not-is_blank-clause-place : goal.returns-else-not-is_blank-clause-place

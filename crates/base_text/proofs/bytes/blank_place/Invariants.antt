@@ -1,5 +1,4 @@
-use Rattle.std.proofs.Common.{◌≡◌, ℕ, ◌<◌, ◌≤◌, ◌-◌, false, get_or, length}
-use Rattle.base_text.specs.Bytes.{is_blank}
+use Rattle.base_text.proofs.Vocabulary.{◌≡◌, ℕ, ◌<◌, ◌≤◌, ◌-◌, false, get_or, length, is_blank}
 use Rattle.base_text.proofs.bytes.blank_place.Given as goal
 
 abbrev pub invariant-loop-place : goal.invariant-loop-place

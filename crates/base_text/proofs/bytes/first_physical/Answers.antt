@@ -1,6 +1,4 @@
-use Rattle.std.proofs.Common.{arith, ◌<◌, length, ◌==◌}
-use Rattle.std.specs.List.{position_or_len}
-use Rattle.base_text.specs.Bytes.{physical_lines}
+use Rattle.base_text.proofs.Vocabulary.{arith, ◌<◌, length, ◌==◌, position_or_len, physical_lines}
 use Rattle.base_text.proofs.BytesLemmas.{physical_first, physical_last}
 use Rattle.base_text.proofs.bytes.first_physical.Goals as goal
 

@@ -1,6 +1,4 @@
-use Rattle.std.proofs.Common.{◌≡◌, ◌+◌, ◌≤◌, length, take}
-use Rattle.std.specs.List.{suffix_len}
-use Rattle.base_text.specs.Bytes.{is_blank}
+use Rattle.base_text.proofs.Vocabulary.{◌≡◌, ◌+◌, ◌≤◌, length, take, suffix_len, is_blank}
 use Rattle.base_text.proofs.bytes.joining_part.Given as goal
 
 abbrev pub invariant-loop-end : goal.invariant-loop-end

@@ -1,6 +1,4 @@
-use Rattle.std.proofs.Common.{sym, arith, ◌==◌}
-use Rattle.std.proofs.lemmas.List.Sums.{position_or_len_is}
-use Rattle.std.proofs.lemmas.Bool.{eq-eqb}
+use Rattle.base_text.proofs.Vocabulary.{sym, arith, ◌==◌, position_or_len_is, eq-eqb}
 use Rattle.base_text.proofs.bytes.place_of.Goals as goal
 
 pub returns-else-bytes-place-clause-place : goal.returns-else-bytes-place-clause-place

@@ -1,6 +1,4 @@
-use Rattle.std.proofs.Common.{◌<◌, ◌∙◌, length, map, arith}
-use Rattle.std.specs.List.{position_or_len}
-use Rattle.base_text.specs.Bytes.{is_blank}
+use Rattle.base_text.proofs.Vocabulary.{◌<◌, ◌∙◌, length, map, arith, position_or_len, is_blank}
 use Rattle.base_text.proofs.BytesLemmas.{words_more, words_end}
 use Rattle.base_text.proofs.bytes.push_words.Goals as goal
 

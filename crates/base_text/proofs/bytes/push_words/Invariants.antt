@@ -1,5 +1,4 @@
-use Rattle.std.proofs.Common.{◌≡◌, ◌++◌, length, map}
-use Rattle.base_text.specs.Bytes.{words_of}
+use Rattle.base_text.proofs.Vocabulary.{◌≡◌, ◌++◌, length, map, words_of}
 use Rattle.base_text.proofs.bytes.push_words.Given as goal
 
 abbrev pub invariant-loop-rest : goal.invariant-loop-rest

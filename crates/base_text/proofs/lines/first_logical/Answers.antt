@@ -1,7 +1,4 @@
-use Rattle.std.proofs.Common.{◌≡◌, [], ◌∙◌, map, arith, sym}
-use Rattle.std.proofs.lemmas.Bool.{eqb-true}
-use Rattle.std.proofs.lemmas.List.{nil_from_length}
-use Rattle.base_text.specs.Bytes.{physical_lines}
+use Rattle.base_text.proofs.Vocabulary.{◌≡◌, [], ◌∙◌, map, arith, sym, eqb-true, nil_from_length, physical_lines}
 use Rattle.base_text.proofs.LinesLemmas.{first_line, goes_on, ends, at_end}
 use Rattle.base_text.proofs.lines.first_logical.Goals as goal
 

@@ -1,5 +1,4 @@
-use Rattle.std.proofs.Common.{◌≡◌, ◌+◌, ◌≤◌, length, map}
-use Rattle.base_text.specs.Vocabulary.{physical_lines, line_of, texts_of}
+use Rattle.base_text.proofs.Vocabulary.{◌≡◌, ◌+◌, ◌≤◌, length, map, physical_lines, line_of, texts_of}
 use Rattle.base_text.proofs.LinesLemmas.{with_front}
 use Rattle.base_text.proofs.lines.first_logical.Given as goal
 

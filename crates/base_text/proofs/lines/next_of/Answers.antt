@@ -1,6 +1,4 @@
-use Rattle.std.proofs.Common.{◌≡◌, ◌∙◌, [], sym}
-use Rattle.std.proofs.lemmas.Bool.{eqb-true}
-use Rattle.std.proofs.lemmas.List.{nil_from_length}
+use Rattle.base_text.proofs.Vocabulary.{◌≡◌, ◌∙◌, [], sym, eqb-true, nil_from_length}
 use Rattle.base_text.proofs.LinesLemmas.{no_lines}
 use Rattle.base_text.proofs.lines.next_of.Goals as goal
 

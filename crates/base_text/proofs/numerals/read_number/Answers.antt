@@ -1,5 +1,4 @@
-use Rattle.std.proofs.Common.{arith, refl}
-use Rattle.std.proofs.lemmas.Bool.{false≢true}
+use Rattle.base_text.proofs.Vocabulary.{arith, refl, false≢true}
 use Rattle.base_text.proofs.NumberLemmas.{not_plain, some_is, none_is}
 use Rattle.base_text.proofs.numerals.read_number.Goals as goal
 

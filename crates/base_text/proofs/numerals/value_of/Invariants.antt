@@ -1,6 +1,4 @@
-use Rattle.std.proofs.Common.{◌≡◌, ◌≤◌, drop}
-use Rattle.std.specs.Str.{all_ascii_digits}
-use Rattle.base_text.specs.Number.{read_on}
+use Rattle.base_text.proofs.Vocabulary.{◌≡◌, ◌≤◌, drop, all_ascii_digits, read_on}
 use Rattle.base_text.proofs.numerals.value_of.Given as goal
 
 abbrev pub invariant-digits : goal.invariant-digits

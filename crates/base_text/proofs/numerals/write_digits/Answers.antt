@@ -1,5 +1,4 @@
-use Rattle.std.proofs.Common.{arith}
-use Rattle.std.proofs.Math.ListN.{length-set}
+use Rattle.base_text.proofs.Vocabulary.{arith, length-set}
 use Rattle.base_text.proofs.NumberLemmas.{starts, room_before, last_digit, more_digits, less_room}
 use Rattle.base_text.proofs.numerals.write_digits.Goals as goal
 

@@ -1,5 +1,4 @@
-use Rattle.std.proofs.Common.{◌≡◌, ◌++◌, ◌≤◌, drop, length}
-use Rattle.std.specs.Fmt.{decimal}
+use Rattle.base_text.proofs.Vocabulary.{◌≡◌, ◌++◌, ◌≤◌, drop, length, decimal}
 use Rattle.base_text.proofs.numerals.write_digits.Given as goal
 
 abbrev pub invariant-digits : goal.invariant-digits

@@ -1,5 +1,4 @@
-use Rattle.cmd_bench.proofs.BenchLaws.{bench-lawful}
-use Rattle.cmd_bench.proofs.Headlines.{benched-done}
+use Rattle.cmd_bench.proofs.{BenchLaws.bench-lawful, Headlines.benched-done}
 use Rattle.cmd_bench.proofs.command.bench.Goals as goal
 
 pub returns-clause-lawful : goal.returns-clause-lawful

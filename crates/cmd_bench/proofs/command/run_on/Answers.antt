@@ -1,9 +1,5 @@
-use Rattle.std.proofs.Common.{◌∙◌, length, Some, refl, sym, ap}
-use Rattle.std.proofs.lemmas.Result.{err_from_is_err_and}
-use Rattle.machine_shape.specs.declared.Shape.{Shape}
-use Rattle.design_netlist.specs.declared.netlist_data.NetlistData.{NetlistData}
+use Rattle.cmd_bench.proofs.Vocabulary.{◌∙◌, length, Some, refl, sym, ap, err_from_is_err_and, Shape, NetlistData, nothing}
 use Rattle.cmd_steps.proofs.Keeping.{kept-stops, kept-gives, line-kept}
-use Rattle.cmd_steps.proofs.Making.{nothing}
 use Rattle.cmd_bench.proofs.Headlines.{summary-is}
 use Rattle.cmd_bench.proofs.command.run_on.Goals as goal
 

@@ -1,8 +1,6 @@
-use Rattle.std.proofs.Common.{◌∙◌, refl}
-use Rattle.std.proofs.lemmas.Result.{err_from_is_err_and}
+use Rattle.cmd_bench.proofs.Vocabulary.{◌∙◌, refl, err_from_is_err_and, nothing}
 use Rattle.diag_list.proofs.Made.{list-stops, list-gives, shape-attached, shape-listed}
 use Rattle.cmd_steps.proofs.Keeping.{kept-stops, kept-gives}
-use Rattle.cmd_steps.proofs.Making.{nothing}
 use Rattle.cmd_bench.proofs.Following.{unnamed, unattached, attached}
 use Rattle.cmd_bench.proofs.command.work.Goals as goal
 

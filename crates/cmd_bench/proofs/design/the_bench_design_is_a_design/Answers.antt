@@ -1,10 +1,5 @@
-use Rattle.cmd_bench.proofs.Text.{bench_model, text_is, short}
-use Rattle.std.proofs.Common.{[], ◌∷◌}
-use Rattle.design_blif.specs.Designs.{IsDesign}
-use Rattle.machine_bench.specs.Work.{bench_design}
-use Rattle.cmd_bench.specs.Design.{bench_draft}
-use Rattle.cmd_bench.proofs.Netlist.{is_netlist}
-use Rattle.cmd_bench.proofs.Checked.{is_checked}
+use Rattle.cmd_bench.proofs.{Text.bench_model, Text.text_is, Text.short, Netlist.is_netlist, Checked.is_checked}
+use Rattle.cmd_bench.proofs.Vocabulary.{[], ◌∷◌, IsDesign, bench_design, bench_draft}
 use Rattle.cmd_bench.proofs.design.the_bench_design_is_a_design.Goals as goal
 
 is_design : IsDesign bench_design bench_draft

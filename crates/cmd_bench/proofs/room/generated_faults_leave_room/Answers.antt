@@ -1,5 +1,4 @@
-use Rattle.std.proofs.Common.{sym, subst}
-use Rattle.machine_shape.specs.declared.Counts.{Counts}
+use Rattle.cmd_bench.proofs.Vocabulary.{sym, subst, Counts}
 use Rattle.machine_shape.specs.Counts.{IsAmple}
 use Rattle.cmd_bench.proofs.Parts.{tables_are, nets_are, sound_parts}
 use Rattle.cmd_bench.proofs.room.generated_faults_leave_room.Goals as goal

@@ -1,8 +1,4 @@
-use Rattle.std.proofs.Common.{◌∙◌, [], refl, ap, length, arith}
-use Rattle.std.proofs.lemmas.Result.{err_from_is_err_and}
-use Rattle.run_image.specs.Pins.{Rows}
-use Rattle.run_image.proofs.Driving.{driven-start}
-use Rattle.cmd_bench.specs.Bench.{bench_rows}
+use Rattle.cmd_bench.proofs.Vocabulary.{◌∙◌, [], refl, ap, length, arith, err_from_is_err_and, Rows, driven-start, bench_rows}
 use Rattle.cmd_bench.proofs.RunLemmas.{running-more, running-width, run-done, load-stopped, row-stopped}
 use Rattle.cmd_bench.proofs.work.run_work.Goals as goal
 

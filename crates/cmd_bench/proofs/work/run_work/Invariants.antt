@@ -1,5 +1,4 @@
-use Rattle.std.proofs.Common.{◌≡◌}
-use Rattle.run_image.specs.Pins.{pins_in}
+use Rattle.cmd_bench.proofs.Vocabulary.{◌≡◌, pins_in}
 use Rattle.cmd_bench.proofs.RunLemmas.{IsRunning}
 use Rattle.cmd_bench.proofs.work.run_work.Given as goal
 

@@ -1,14 +1,8 @@
-use Rattle.std.proofs.Common.{ℕ, ◌<◌, ◌++◌, None, IsSome, length, refl, subst, ⊎_elim}
-use Rattle.std.proofs.lemmas.Bool.{false≢true, cases_lt}
-use Rattle.std.proofs.lemmas.List.{get_or_past}
-use Rattle.std.proofs.lemmas.List.Elements.{Contains-get_or}
-use Rattle.machine_shape.specs.declared.Shape.{Shape}
-use Rattle.machine_meaning.specs.Vocabulary.{Faults, Covers, IsTight}
+use Rattle.cmd_check.proofs.Vocabulary.{ℕ, ◌<◌, ◌++◌, None, IsSome, length, refl, subst, ⊎_elim, false≢true, cases_lt, Shape, Faults}
+use Rattle.cmd_check.proofs.Vocabulary.{Covers, IsTight, Configuration, setting_of, at_pin, at_tap, at_line, at_table, Answer}
+use Rattle.std.proofs.lemmas.List.{get_or_past, Elements.Contains-get_or}
 use Rattle.machine_defects.proofs.Marks.{has_below}
-use Rattle.machine_config.specs.Configuration.{Configuration, setting_of}
-use Rattle.machine_image.specs.Parts.{at_pin, at_tap, at_line, at_table}
 use Rattle.cmd_check.specs.Answers.{IsOfMachine, IsByList, WiresAreFree, CrossesAreFree, IsTrueUnder, IsAnswer}
-use Rattle.cmd_check.specs.declared.answer.Answer.{Answer}
 use Rattle.cmd_check.specs.declared.answer.Answer.TheVariants as answer
 use Rattle.cmd_check.proofs.answering.answer_of.Goals as goal
 use Rattle.cmd_check.proofs.answering.answer_of.Goals.{In_ok-used, In_default, In_default-first_cross}

@@ -1,6 +1,4 @@
-use Rattle.std.proofs.Common.{◌<◌, ℕ, IsSome}
-use Rattle.machine_meaning.specs.Defects.{IsFreeTable}
-use Rattle.machine_config.specs.Configuration.{setting_of}
+use Rattle.cmd_check.proofs.Vocabulary.{◌<◌, ℕ, IsSome, IsFreeTable, setting_of}
 use Rattle.cmd_check.proofs.answering.first_table.Given as goal
 
 abbrev pub invariant-tables : goal.invariant-tables

@@ -1,6 +1,4 @@
-use Rattle.std.proofs.Common.{◌≡◌, ◌<◌, ℕ, true}
-use Rattle.base_bits.specs.Numbers.{has_number}
-use Rattle.machine_meaning.specs.Defects.{IsFreeWire}
+use Rattle.cmd_check.proofs.Vocabulary.{◌≡◌, ◌<◌, ℕ, true, has_number, IsFreeWire}
 use Rattle.cmd_check.proofs.answering.first_wire.Given as goal
 
 abbrev pub invariant-wires : goal.invariant-wires

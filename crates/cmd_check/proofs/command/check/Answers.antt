@@ -1,12 +1,8 @@
-use Rattle.std.proofs.Common.{◌∷◌, [], refl}
-use Rattle.cmd_steps.specs.Texts.{reads_image}
+use Rattle.cmd_check.proofs.Vocabulary.{◌∷◌, [], refl, reads_image, err-is, nothing}
 use Rattle.cmd_steps.proofs.AttachedReads.{file-unread, file-read}
-use Rattle.cmd_steps.proofs.Exits.{err-is}
 use Rattle.cmd_steps.proofs.Machines.{machine-stops, attach-stops}
-use Rattle.cmd_steps.proofs.Making.{nothing}
 use Rattle.diag_list.proofs.ListedLemmas.{attached-shape}
-use Rattle.cmd_check.proofs.CheckLaws.{check-lawful}
-use Rattle.cmd_check.proofs.Following.{tested-since}
+use Rattle.cmd_check.proofs.{CheckLaws.check-lawful, Following.tested-since}
 use Rattle.cmd_check.proofs.command.check.Goals as goal
 
 pub returns-in_err-shape : goal.returns-in_err-shape

@@ -1,8 +1,4 @@
-use Rattle.std.proofs.Common.{◌∙◌, true, false, sym, refl}
-use Rattle.cmd_steps.proofs.Exits.{err-is}
-use Rattle.cmd_steps.proofs.Keeping.{kept-gives, line-kept}
-use Rattle.cmd_steps.proofs.Making.{nothing}
-use Rattle.cmd_steps.proofs.RigFails.{kept-refuses}
+use Rattle.cmd_check.proofs.Vocabulary.{◌∙◌, true, false, sym, refl, err-is, kept-gives, line-kept, nothing, kept-refuses}
 use Rattle.cmd_check.proofs.Following.{tested-then}
 use Rattle.cmd_check.proofs.command.judge.Goals as goal
 

@@ -1,9 +1,4 @@
-use Rattle.std.proofs.Common.{refl}
-use Rattle.cmd_steps.proofs.Exits.{err-is}
-use Rattle.cmd_steps.proofs.Keeping.{kept-gives, line-kept}
-use Rattle.cmd_steps.proofs.RigFails.{kept-lacks}
-use Rattle.cmd_steps.proofs.Taking.{took-value}
-use Rattle.cmd_check.specs.Check.{answers}
+use Rattle.cmd_check.proofs.Vocabulary.{refl, err-is, kept-gives, line-kept, kept-lacks, took-value, answers}
 use Rattle.cmd_check.proofs.command.look_and_write.Goals as goal
 
 pub returns-in_err-answer : goal.returns-in_err-answer

@@ -1,6 +1,4 @@
-use Rattle.std.proofs.Common.{refl}
-use Rattle.cmd_steps.proofs.Making.{rig-took}
-use Rattle.cmd_steps.proofs.RigFails.{rig-fails}
+use Rattle.cmd_check.proofs.Vocabulary.{refl, rig-took, rig-fails}
 use Rattle.cmd_check.proofs.Following.{fewer-under, sound-under, ways-under, whole-under}
 use Rattle.cmd_check.proofs.testing.test.Goals as goal
 

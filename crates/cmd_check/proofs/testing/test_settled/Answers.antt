@@ -1,9 +1,5 @@
-use Rattle.std.proofs.Common.{◌*◌, ◌-◌, ◌<◌, refl, inl, inr, subst}
+use Rattle.cmd_check.proofs.Vocabulary.{◌*◌, ◌-◌, ◌<◌, refl, inl, inr, subst, took-lacks, Settles, size_of, HasTestLeft, tests_now}
 use Rattle.std.proofs.lemmas.Result.{err_from_is_err_and}
-use Rattle.cmd_steps.proofs.Taking.{took-lacks}
-use Rattle.diag_settled.proofs.Settling.{Settles}
-use Rattle.base_bits.specs.Numbers.{size_of}
-use Rattle.cmd_check.specs.Testing.{HasTestLeft, tests_now}
 use Rattle.cmd_check.proofs.Settling.{test-left, test-settled, test-unsettled}
 use Rattle.cmd_check.proofs.testing.test_settled.Goals as goal
 

@@ -1,6 +1,5 @@
-use Rattle.std.proofs.Common.{refl}
+use Rattle.cmd_diagnose.proofs.Vocabulary.{refl, few-listed}
 use Rattle.std.proofs.lemmas.Result.{err_from_is_err_and}
-use Rattle.diag_list.proofs.FewCycles.{few-listed}
 use Rattle.diag_list.proofs.ListedLemmas.{attached-shape}
 use Rattle.cmd_diagnose.proofs.Following.{no-machine, unattached, unlisted, listed}
 use Rattle.cmd_diagnose.proofs.command.work.Goals as goal

@@ -1,9 +1,5 @@
-use Rattle.std.proofs.Common.{◌≡◌, [], ◌∷◌, refl}
-use Rattle.std.proofs.lemmas.Result.{err_from_is_err_and}
-use Rattle.cmd_steps.specs.Texts.{reads_design}
-use Rattle.cmd_steps.specs.declared.design_file.DesignFile.TheVariants.{Design}
+use Rattle.cmd_eval.proofs.Vocabulary.{◌≡◌, [], ◌∷◌, refl, err_from_is_err_and, reads_design, Design, design_evaluated}
 use Rattle.cmd_steps.proofs.Reading.{none-read, file-stops, file-gives}
-use Rattle.cmd_eval.specs.Eval.{design_evaluated}
 use Rattle.cmd_eval.proofs.EvalLaws.{eval-lawful}
 use Rattle.cmd_eval.proofs.evaluation.eval.Goals as goal
 

@@ -1,6 +1,4 @@
-use Rattle.std.proofs.Common.{refl, ap}
-use Rattle.std.proofs.lemmas.Result.{err_from_is_err_and}
-use Rattle.cmd_steps.proofs.OpenedRows.{opening-lacks}
+use Rattle.cmd_eval.proofs.Vocabulary.{refl, ap, err_from_is_err_and, opening-lacks}
 use Rattle.cmd_eval.proofs.evaluation.evaluate.Goals as goal
 
 pub returns-in_err-rows : goal.returns-in_err-rows

@@ -1,7 +1,4 @@
-use Rattle.std.proofs.Common.{◌∙◌, refl, ap}
-use Rattle.std.proofs.lemmas.Result.{err_from_is_err_and}
-use Rattle.cmd_steps.proofs.Making.{nothing}
-use Rattle.cmd_steps.proofs.OpenedRows.{opening-stops, outputs-stops, rows-then}
+use Rattle.cmd_eval.proofs.Vocabulary.{◌∙◌, refl, ap, err_from_is_err_and, nothing, opening-stops, outputs-stops, rows-then}
 use Rattle.cmd_steps.proofs.StartLemmas.{begun-file}
 use Rattle.cmd_eval.proofs.evaluation.open_and_write.Goals as goal
 

@@ -1,6 +1,4 @@
-use Rattle.std.proofs.Common.{refl}
-use Rattle.std.proofs.lemmas.Result.{err_from_is_err_and}
-use Rattle.cmd_steps.proofs.Making.{nothing}
+use Rattle.cmd_eval.proofs.Vocabulary.{refl, err_from_is_err_and, nothing}
 use Rattle.cmd_eval.proofs.RowLemmas.{running-start, running-more, read-stops, row-stops, file-ends}
 use Rattle.cmd_eval.proofs.evaluation.write_rows.Goals as goal
 

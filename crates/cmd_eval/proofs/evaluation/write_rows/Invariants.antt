@@ -1,5 +1,4 @@
-use Rattle.std.proofs.Common.{◌-◌}
-use Rattle.cmd_steps.specs.Files.{most_vector_bytes}
+use Rattle.cmd_eval.proofs.Vocabulary.{◌-◌, most_vector_bytes}
 use Rattle.cmd_eval.proofs.RowLemmas.{IsRunning}
 use Rattle.cmd_eval.proofs.evaluation.write_rows.Given as goal
 

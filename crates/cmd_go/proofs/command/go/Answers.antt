@@ -1,6 +1,5 @@
 use Rattle.run_image.proofs.Headlines.{begins-done}
-use Rattle.cmd_go.proofs.GoLaws.{words, go-lawful}
-use Rattle.cmd_go.proofs.Headlines.{gone-done}
+use Rattle.cmd_go.proofs.{GoLaws.words, GoLaws.go-lawful, Headlines.gone-done}
 use Rattle.cmd_go.proofs.command.go.Goals as goal
 
 pub returns-clause-lawful : goal.returns-clause-lawful

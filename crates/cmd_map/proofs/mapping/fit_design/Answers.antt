@@ -1,12 +1,6 @@
-use Rattle.std.proofs.lemmas.Result.{err_from_is_err_and}
+use Rattle.cmd_map.proofs.Vocabulary.{err_from_is_err_and, Shape, Step, reads_text, third_files, DesignText, Design, nothing, design_fitted}
 use Rattle.base_io.specs.Told.{Told}
-use Rattle.machine_shape.specs.declared.Shape.{Shape}
-use Rattle.cmd_steps.specs.Vocabulary.{Step, reads_text, third_files}
-use Rattle.cmd_steps.specs.declared.design.DesignText.{DesignText}
-use Rattle.cmd_steps.specs.declared.design_file.DesignFile.TheVariants.{Design}
 use Rattle.cmd_steps.proofs.ListFiles.{no-machine, no-list, no-third, all-read}
-use Rattle.cmd_steps.proofs.Making.{nothing}
-use Rattle.cmd_map.specs.Maps.{design_fitted}
 use Rattle.cmd_map.proofs.MapLaws.{fit-lawful}
 use Rattle.cmd_map.proofs.mapping.fit_design.Goals as goal
 

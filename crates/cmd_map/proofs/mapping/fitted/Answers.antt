@@ -1,6 +1,4 @@
-use Rattle.map_network.specs.Plain.{plain_network}
-use Rattle.cmd_steps.proofs.Taking.{took-value}
-use Rattle.cmd_map.specs.Maps.{maps_within}
+use Rattle.cmd_map.proofs.Vocabulary.{plain_network, took-value, maps_within}
 use Rattle.cmd_map.proofs.MapLemmas.{room-of, fit-took}
 use Rattle.cmd_map.proofs.mapping.fitted.Goals as goal
 

@@ -1,6 +1,4 @@
-use Rattle.std.proofs.lemmas.Result.{err_from_is_err_and}
-use Rattle.cmd_steps.proofs.Reading.{line-last}
-use Rattle.cmd_steps.proofs.Values.{value-stops, value-gives}
+use Rattle.cmd_map.proofs.Vocabulary.{err_from_is_err_and, line-last, value-stops, value-gives}
 use Rattle.cmd_map.proofs.mapping.map_and_write.Goals as goal
 
 pub returns-in_err-text : goal.returns-in_err-text

@@ -1,11 +1,5 @@
-use Rattle.std.proofs.Common.{◌≡◌, [], ◌∷◌, refl}
-use Rattle.std.proofs.lemmas.Result.{err_from_is_err_and}
-use Rattle.cmd_steps.specs.Outside.{plain_file}
-use Rattle.cmd_steps.specs.Texts.{reads_text}
-use Rattle.cmd_steps.specs.declared.design_file.DesignFile.TheVariants.{Design}
-use Rattle.cmd_steps.proofs.Making.{nothing}
+use Rattle.cmd_map.proofs.Vocabulary.{◌≡◌, [], ◌∷◌, refl, err_from_is_err_and, plain_file, reads_text, Design, nothing, design_mapped}
 use Rattle.cmd_steps.proofs.Reading.{none-read, file-stops, file-gives}
-use Rattle.cmd_map.specs.Maps.{design_mapped}
 use Rattle.cmd_map.proofs.MapLaws.{map-lawful}
 use Rattle.cmd_map.proofs.mapping.map_design.Goals as goal
 

@@ -1,6 +1,4 @@
-use Rattle.std.proofs.Common.{ap, Err}
-use Rattle.cmd_steps.proofs.Taking.{took-nothing, took-value}
-use Rattle.cmd_map.specs.Maps.{maps}
+use Rattle.cmd_map.proofs.Vocabulary.{ap, Err, took-nothing, took-value, maps}
 use Rattle.cmd_map.proofs.mapping.mapped.Goals as goal
 
 pub returns-in-Ok : goal.returns-in-Ok

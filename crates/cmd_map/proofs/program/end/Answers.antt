@@ -1,6 +1,5 @@
-use Rattle.std.proofs.Common.{map, string_bytes}
+use Rattle.cmd_map.proofs.Vocabulary.{map, string_bytes, ends-so}
 use Rattle.cmd_map.specs.Words.{asked_by}
-use Rattle.cmd_steps.proofs.AskedLemmas.{ends-so}
 use Rattle.cmd_map.proofs.program.end.Goals as goal
 
 pub returns : goal.returns

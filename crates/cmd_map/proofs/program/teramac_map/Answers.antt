@@ -1,7 +1,4 @@
-use Rattle.std.proofs.Common.{map, string_bytes, [], ◌∷◌, refl, arith}
-use Rattle.cmd_steps.specs.Outside.{outside, around}
-use Rattle.cmd_steps.proofs.Done.{done-as}
-use Rattle.cmd_steps.proofs.Making.{nothing}
+use Rattle.cmd_map.proofs.Vocabulary.{map, string_bytes, [], ◌∷◌, refl, arith, outside, around, done-as, nothing}
 use Rattle.cmd_map.proofs.Headlines.{mapped, fitted}
 use Rattle.cmd_map.proofs.Fronts.{ended-as, right-files, is-status, never-differs, rig-rests, complete-so}
 use Rattle.cmd_map.proofs.program.teramac_map.Goals as goal

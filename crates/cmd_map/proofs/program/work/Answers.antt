@@ -1,8 +1,6 @@
 use Rattle.std.proofs.Common.{◌≡◌, ◌∙◌, List, length, map, string_bytes, Bool, false, sym, subst, arith, Global}
-use Rattle.std.specs.List.{list_any}
+use Rattle.cmd_map.proofs.Vocabulary.{list_any, outside, Asked, DoesAsked, is_dashed, does-none, does-job, list_any-map}
 use Rattle.std.proofs.lemmas.List.{length-map}
-use Rattle.cmd_steps.specs.Vocabulary.{outside, Asked, DoesAsked, is_dashed}
-use Rattle.cmd_steps.proofs.AskedLemmas.{does-none, does-job, list_any-map}
 use Rattle.cmd_map.proofs.Fronts.{one-asked, three-asked, none-asked}
 use Rattle.cmd_map.proofs.program.work.Goals as goal
 

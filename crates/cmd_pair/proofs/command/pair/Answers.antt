@@ -1,6 +1,5 @@
 use Rattle.run_image.proofs.Headlines.{begins-done}
-use Rattle.cmd_pair.proofs.PairLaws.{words, pair-lawful}
-use Rattle.cmd_pair.proofs.Headlines.{paired-done}
+use Rattle.cmd_pair.proofs.{PairLaws.words, PairLaws.pair-lawful, Headlines.paired-done}
 use Rattle.cmd_pair.proofs.command.pair.Goals as goal
 
 pub returns-clause-lawful : goal.returns-clause-lawful

@@ -1,10 +1,5 @@
-use Rattle.std.proofs.Common.{◌∙◌, ◌∷◌, refl, sym}
-use Rattle.std.proofs.lemmas.Result.{err_from_is_err_and}
-use Rattle.base_io.specs.Told.{Told}
-use Rattle.cmd_steps.specs.Vocabulary.{StandsAmong, plain_file, reads_image}
-use Rattle.cmd_steps.proofs.Making.{nothing}
-use Rattle.cmd_steps.proofs.Reading.{HasReadAmong, more-among, stops-among, gives-among}
-use Rattle.cmd_repair.specs.Repair.{image_taken}
+use Rattle.cmd_repair.proofs.Vocabulary.{◌∙◌, ◌∷◌, refl, sym, err_from_is_err_and, Told, StandsAmong, plain_file, reads_image, nothing}
+use Rattle.cmd_repair.proofs.Vocabulary.{HasReadAmong, more-among, stops-among, gives-among, image_taken}
 use Rattle.cmd_repair.proofs.command.read_and_repair.Goals as goal
 
 pub repair_and_write-requires : goal.repair_and_write-requires

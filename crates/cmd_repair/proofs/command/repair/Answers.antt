@@ -1,11 +1,6 @@
-use Rattle.std.proofs.Common.{[], ◌∷◌, refl}
-use Rattle.std.proofs.lemmas.Result.{err_from_is_err_and}
-use Rattle.base_io.specs.Told.{Told}
+use Rattle.cmd_repair.proofs.Vocabulary.{[], ◌∷◌, refl, err_from_is_err_and, Told, nothing, none-read, more-among, gives-among, image_taken}
 use Rattle.cmd_steps.specs.Vocabulary.{StandsAmong, list_file, plain_file, reads_machine, reads_defects, reads_image, behind_list, behind_machine, list_files}
 use Rattle.cmd_steps.proofs.ListFiles.{no-machine, no-list}
-use Rattle.cmd_steps.proofs.Making.{nothing}
-use Rattle.cmd_steps.proofs.Reading.{none-read, more-among, gives-among}
-use Rattle.cmd_repair.specs.Repair.{image_taken}
 use Rattle.cmd_repair.proofs.RepairLaws.{repair-lawful}
 use Rattle.cmd_repair.proofs.command.repair.Goals as goal
 

@@ -1,6 +1,4 @@
-use Rattle.std.proofs.lemmas.Result.{err_from_is_err_and}
-use Rattle.cmd_steps.proofs.Making.{nothing}
-use Rattle.cmd_steps.proofs.Reading.{line-last}
+use Rattle.cmd_repair.proofs.Vocabulary.{err_from_is_err_and, nothing, line-last}
 use Rattle.cmd_steps.proofs.Values.{value-stops, value-lacks, value-gives}
 use Rattle.cmd_repair.proofs.command.repair_and_write.Goals as goal
 

@@ -1,18 +1,10 @@
-use Rattle.std.proofs.Common.{◌≡◌, ◌∙◌, ◌<◌, List, Bool, All, map, length, sym, subst}
+use Rattle.cmd_repair.proofs.Vocabulary.{◌≡◌, ◌∙◌, ◌<◌, List, Bool, All, map, length, sym, subst, Shape, nodes_of, Defects, Covers, Faults}
+use Rattle.cmd_repair.proofs.Vocabulary.{AreFaultsOf, IsFaultless, ImageValue, drive_of, Short, Seats, took-value, repairs}
 use Rattle.std.proofs.lemmas.Bool.{false≢true}
-use Rattle.machine_shape.specs.declared.Shape.{Shape}
-use Rattle.machine_shape.specs.Shape.{nodes_of}
-use Rattle.machine_meaning.specs.Vocabulary.{Defects, Covers, Faults, AreFaultsOf, IsFaultless}
 use Rattle.machine_shape.proofs.Totals.{nodes_are}
 use Rattle.design_netlist.specs.Rows.{AreRows}
-use Rattle.machine_image.specs.Images.{ImageValue, drive_of}
-use Rattle.place_plan.specs.declared.short.Short.{Short}
-use Rattle.place_plan.specs.declared.short.Resource.{Resource}
-use Rattle.place_plan.specs.declared.short.Resource.TheVariants.{Tables, Pins, Ports, Lines}
+use Rattle.place_plan.specs.declared.short.Resource.{Resource, TheVariants.Tables, TheVariants.Pins, TheVariants.Ports, TheVariants.Lines}
 use Rattle.place_repair.specs.Plans.{IsFirstShortBy}
-use Rattle.place_repair.specs.declared.seats.Seats.{Seats}
-use Rattle.cmd_steps.proofs.Taking.{took-value}
-use Rattle.cmd_repair.specs.Repairing.{repairs}
 use Rattle.cmd_repair.proofs.repairing.repaired.Goals as goal
 
 -- no faults are faults of each machine

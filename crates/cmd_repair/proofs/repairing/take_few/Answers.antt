@@ -1,9 +1,5 @@
-use Rattle.std.proofs.Common.{◌≡◌, ◌∙◌, refl, ap, arith}
-use Rattle.machine_shape.specs.declared.Shape.{Shape}
-use Rattle.machine_shape.specs.Vocabulary.{most_repaired}
+use Rattle.cmd_repair.proofs.Vocabulary.{◌≡◌, ◌∙◌, refl, ap, arith, Shape, most_repaired, took-stop, took-value, takes_few}
 use Rattle.machine_config.specs.Configuration.{Configuration}
-use Rattle.cmd_steps.proofs.Taking.{took-stop, took-value}
-use Rattle.cmd_repair.specs.Repairing.{takes_few}
 use Rattle.cmd_repair.proofs.Counting.{counted}
 use Rattle.cmd_repair.proofs.repairing.take_few.Goals as goal
 

@@ -1,9 +1,7 @@
-use Rattle.std.proofs.Common.{[], ◌∷◌, refl}
+use Rattle.cmd_run.proofs.Vocabulary.{[], ◌∷◌, refl, machine-stops, attach-stops}
 use Rattle.std.proofs.lemmas.Result.{err_from_is_err_and}
-use Rattle.cmd_steps.proofs.Machines.{machine-stops, attach-stops}
 use Rattle.cmd_steps.proofs.Making.{nothing}
-use Rattle.cmd_run.proofs.Following.{attached-shape, no-image, rows-follow}
-use Rattle.cmd_run.proofs.RunLaws.{run-lawful}
+use Rattle.cmd_run.proofs.{Following.attached-shape, Following.no-image, Following.rows-follow, RunLaws.run-lawful}
 use Rattle.cmd_run.proofs.command.run.Goals as goal
 
 pub returns-clause-lawful : goal.returns-clause-lawful

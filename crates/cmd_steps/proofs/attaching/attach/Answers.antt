@@ -1,5 +1,4 @@
-use Rattle.std.proofs.Common.{inr}
-use Rattle.std.proofs.lemmas.Result.{err_from_is_err_and}
+use Rattle.cmd_steps.proofs.Vocabulary.{inr, err_from_is_err_and}
 use Rattle.rig.proofs.Narrowing.{tells_attach}
 use Rattle.cmd_steps.proofs.AttachLemmas.{attach-asks, attach-took, attach-taken, none-made}
 use Rattle.cmd_steps.proofs.Logs.{log_asked}

@@ -1,6 +1,4 @@
-use Rattle.std.proofs.Common.{sym}
-use Rattle.base_io.specs.Told.{holds}
-use Rattle.cmd_steps.specs.Texts.{reads_defects}
+use Rattle.cmd_steps.proofs.Vocabulary.{sym, holds, reads_defects}
 use Rattle.cmd_steps.proofs.Taking.{took-stop, took-value}
 use Rattle.cmd_steps.proofs.defects.list_of_text.Goals as goal
 

@@ -1,8 +1,5 @@
-use Rattle.std.proofs.Common.{arith}
-use Rattle.std.proofs.lemmas.Result.{err_from_is_err_and}
+use Rattle.cmd_steps.proofs.Vocabulary.{arith, err_from_is_err_and, reads_defects, list_file}
 use Rattle.machine_shape.proofs.HighLimits.{high_limits}
-use Rattle.cmd_steps.specs.Texts.{reads_defects}
-use Rattle.cmd_steps.specs.Vocabulary.{list_file}
 use Rattle.cmd_steps.proofs.TextLemmas.{of-defects, long-defects}
 use Rattle.cmd_steps.proofs.TookLemmas.{file-fails, file-text, file-long}
 use Rattle.cmd_steps.proofs.defects.read_list.Goals as goal

@@ -1,9 +1,6 @@
-use Rattle.std.proofs.Common.{sym}
-use Rattle.base_io.specs.Told.{holds}
+use Rattle.cmd_steps.proofs.Vocabulary.{sym, holds, reads_design}
 use Rattle.design_blif.proofs.DesignLemmas.{one_design}
-use Rattle.cmd_steps.specs.Texts.{reads_design}
-use Rattle.cmd_steps.proofs.Taking.{took-stop, took-value}
-use Rattle.cmd_steps.proofs.TextLemmas.{design-refused, design-counted}
+use Rattle.cmd_steps.proofs.{Taking.took-stop, Taking.took-value, TextLemmas.design-refused, TextLemmas.design-counted}
 use Rattle.cmd_steps.proofs.design.netlist_of.Goals as goal
 
 pub returns-in-Ok : goal.returns-in-Ok

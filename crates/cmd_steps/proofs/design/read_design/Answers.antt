@@ -1,7 +1,4 @@
-use Rattle.std.proofs.lemmas.Result.{err_from_is_err_and}
-use Rattle.design_netlist.specs.declared.fault.DesignKind.TheVariants.{Limit}
-use Rattle.cmd_steps.specs.Texts.{reads_design}
-use Rattle.cmd_steps.specs.Vocabulary.{plain_file}
+use Rattle.cmd_steps.proofs.Vocabulary.{err_from_is_err_and, Limit, reads_design, plain_file}
 use Rattle.cmd_steps.proofs.TextLemmas.{of-design, long-design, design-counted}
 use Rattle.cmd_steps.proofs.TookLemmas.{file-fails, file-text, file-long}
 use Rattle.cmd_steps.proofs.design.read_design.Goals as goal

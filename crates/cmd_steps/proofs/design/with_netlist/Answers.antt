@@ -1,8 +1,5 @@
-use Rattle.std.proofs.Common.{refl}
-use Rattle.base_io.specs.Told.{holds}
-use Rattle.cmd_steps.specs.Texts.{reads_text}
-use Rattle.cmd_steps.proofs.Taking.{took-stop, took-value}
-use Rattle.cmd_steps.proofs.TextLemmas.{text-stops}
+use Rattle.cmd_steps.proofs.Vocabulary.{refl, holds, reads_text}
+use Rattle.cmd_steps.proofs.{Taking.took-stop, Taking.took-value, TextLemmas.text-stops}
 use Rattle.cmd_steps.proofs.design.with_netlist.Goals as goal
 
 pub returns-in-Ok : goal.returns-in-Ok

@@ -1,5 +1,4 @@
-use Rattle.base_io.specs.Told.{holds}
-use Rattle.cmd_steps.specs.Texts.{reads_image}
+use Rattle.cmd_steps.proofs.Vocabulary.{holds, reads_image}
 use Rattle.cmd_steps.proofs.Taking.{took-stop, took-value}
 use Rattle.cmd_steps.proofs.image.image_of_text.Goals as goal
 

@@ -1,8 +1,5 @@
-use Rattle.std.proofs.lemmas.Result.{err_from_is_err_and}
-use Rattle.cmd_steps.specs.Texts.{reads_image}
-use Rattle.cmd_steps.specs.Vocabulary.{plain_file}
-use Rattle.cmd_steps.proofs.TextLemmas.{of-image, long-image}
-use Rattle.cmd_steps.proofs.TookLemmas.{file-fails, file-text, file-long}
+use Rattle.cmd_steps.proofs.Vocabulary.{err_from_is_err_and, reads_image, plain_file}
+use Rattle.cmd_steps.proofs.{TextLemmas.of-image, TextLemmas.long-image, TookLemmas.file-fails, TookLemmas.file-text, TookLemmas.file-long}
 use Rattle.cmd_steps.proofs.image.read_image_file.Goals as goal
 
 pub returns-in_err-text : goal.returns-in_err-text

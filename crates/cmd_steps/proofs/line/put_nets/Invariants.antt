@@ -1,5 +1,4 @@
-use Rattle.std.proofs.Common.{◌≡◌, ◌++◌, take}
-use Rattle.cmd_steps.specs.Lines.{nets_text}
+use Rattle.cmd_steps.proofs.Vocabulary.{◌≡◌, ◌++◌, take, nets_text}
 use Rattle.cmd_steps.proofs.line.put_nets.Given as goal
 
 abbrev pub invariant-nets : goal.invariant-nets

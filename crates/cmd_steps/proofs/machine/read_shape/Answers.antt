@@ -1,6 +1,4 @@
-use Rattle.std.proofs.lemmas.Result.{err_from_is_err_and}
-use Rattle.cmd_steps.specs.Texts.{reads_machine}
-use Rattle.cmd_steps.specs.Vocabulary.{plain_file}
+use Rattle.cmd_steps.proofs.Vocabulary.{err_from_is_err_and, reads_machine, plain_file}
 use Rattle.cmd_steps.proofs.TextLemmas.{of-machine, long-machine}
 use Rattle.cmd_steps.proofs.TookLemmas.{file-fails, file-text, file-long}
 use Rattle.cmd_steps.proofs.machine.read_shape.Goals as goal

@@ -1,6 +1,4 @@
-use Rattle.std.proofs.Common.{sym}
-use Rattle.base_io.specs.Told.{holds}
-use Rattle.cmd_steps.specs.Texts.{reads_machine}
+use Rattle.cmd_steps.proofs.Vocabulary.{sym, holds, reads_machine}
 use Rattle.cmd_steps.proofs.Taking.{took-stop, took-value}
 use Rattle.cmd_steps.proofs.machine.shape_of_text.Goals as goal
 

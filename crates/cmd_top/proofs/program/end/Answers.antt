@@ -1,6 +1,4 @@
-use Rattle.std.proofs.Common.{map, string_bytes}
-use Rattle.cmd_top.specs.Words.{asked_by}
-use Rattle.cmd_steps.proofs.AskedLemmas.{ends-so}
+use Rattle.cmd_top.proofs.Vocabulary.{map, string_bytes, asked_by, ends-so}
 use Rattle.cmd_top.proofs.program.end.Goals as goal
 
 pub returns : goal.returns

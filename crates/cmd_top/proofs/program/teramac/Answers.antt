@@ -1,6 +1,4 @@
-use Rattle.std.proofs.Common.{map, string_bytes, refl, sym, ap, arith}
-use Rattle.std.specs.Fmt.{decimal}
-use Rattle.cmd_steps.specs.Outside.{outside, around}
+use Rattle.cmd_top.proofs.Vocabulary.{map, string_bytes, refl, sym, ap, arith, decimal, outside, around, bench_job, of_number}
 use Rattle.cmd_eval.proofs.Promising.{eval-promises}
 use Rattle.cmd_compile.proofs.Promising.{compile-promises}
 use Rattle.cmd_run.proofs.Promising.{run-promises}
@@ -11,11 +9,7 @@ use Rattle.cmd_check.proofs.Promising.{check-promises}
 use Rattle.cmd_repair.proofs.Promising.{repair-promises}
 use Rattle.cmd_pair.proofs.Promising.{pair-promises}
 use Rattle.cmd_twice.proofs.Promising.{twice-promises}
-use Rattle.cmd_bench.specs.Bench.{bench_job}
-use Rattle.cmd_top.specs.Words.{of_number}
-use Rattle.cmd_top.proofs.WordLemmas.{some_number}
-use Rattle.cmd_top.proofs.DoneLemmas.{ended-as}
-use Rattle.cmd_top.proofs.Alike.{only-twice}
+use Rattle.cmd_top.proofs.{WordLemmas.some_number, DoneLemmas.ended-as, Alike.only-twice}
 use Rattle.cmd_top.proofs.program.teramac.Goals as goal
 
 pub returns-clause-statuses : goal.returns-clause-statuses

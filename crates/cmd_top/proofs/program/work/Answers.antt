@@ -1,6 +1,4 @@
-use Rattle.std.proofs.Common.{string_bytes, Global}
-use Rattle.cmd_steps.specs.Words.{is_dashed}
-use Rattle.cmd_steps.proofs.AskedLemmas.{does-none, list_any-map}
+use Rattle.cmd_top.proofs.Vocabulary.{string_bytes, Global, is_dashed, does-none, list_any-map}
 use Rattle.cmd_top.proofs.program.work.Goals as goal
 
 pub returns-then-some_begins_dashed : goal.returns-then-some_begins_dashed

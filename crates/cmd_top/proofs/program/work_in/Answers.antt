@@ -1,6 +1,5 @@
-use Rattle.std.proofs.Common.{◌∙◌, map, string_bytes, sym, codes}
+use Rattle.cmd_top.proofs.Vocabulary.{◌∙◌, map, string_bytes, sym, codes, does-none, does-job}
 use Rattle.cmd_top.proofs.WordLemmas.{begun}
-use Rattle.cmd_steps.proofs.AskedLemmas.{does-none, does-job}
 use Rattle.cmd_top.proofs.program.work_in.Goals as goal
 
 pub returns-then-begins : goal.returns-then-begins

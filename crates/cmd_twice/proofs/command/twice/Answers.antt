@@ -1,6 +1,5 @@
 use Rattle.run_image.proofs.Headlines.{begins-done}
-use Rattle.cmd_twice.proofs.TwiceLaws.{words, twice-lawful}
-use Rattle.cmd_twice.proofs.Headlines.{done-twice}
+use Rattle.cmd_twice.proofs.{TwiceLaws.words, TwiceLaws.twice-lawful, Headlines.done-twice}
 use Rattle.cmd_twice.proofs.command.twice.Goals as goal
 
 pub returns-clause-lawful : goal.returns-clause-lawful

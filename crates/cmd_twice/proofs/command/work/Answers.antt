@@ -1,6 +1,5 @@
-use Rattle.std.proofs.Common.{[], ◌∷◌, refl}
+use Rattle.cmd_twice.proofs.Vocabulary.{[], ◌∷◌, refl, Design}
 use Rattle.std.proofs.lemmas.Result.{err_from_is_err_and}
-use Rattle.cmd_steps.specs.declared.design_file.DesignFile.TheVariants.{Design}
 use Rattle.diag_list.proofs.ListedLemmas.{attached-shape}
 use Rattle.run_image.proofs.Bodies.{unread, unattached, attached-then, undrawn, drawn-then}
 use Rattle.cmd_twice.proofs.command.work.Goals as goal

@@ -1,5 +1,4 @@
-use Rattle.std.proofs.Common.{◌≡◌, ◌++◌, map, drop}
-use Rattle.design_blif.specs.Parts.{pairs_of}
+use Rattle.design_blif.proofs.Vocabulary.{◌≡◌, ◌++◌, map, drop, pairs_of}
 use Rattle.design_blif.proofs.lines.pair_defs.Given as goal
 
 abbrev pub invariant-formals : goal.invariant-formals

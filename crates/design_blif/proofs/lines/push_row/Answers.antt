@@ -1,13 +1,7 @@
 use Rattle.std.proofs.Common.{ℕ, ◌≡◌, ◌==◌, Bool, true, false, not, cond, List, Option, Some, None, length, map}
-use Rattle.std.proofs.lemmas.Result.{err_from_is_err_and}
-use Rattle.design_netlist.specs.declared.netlist_data.Cover.{Cover}
-use Rattle.design_netlist.specs.declared.fault.DesignKind.{DesignKind}
+use Rattle.design_blif.proofs.Vocabulary.{err_from_is_err_and, Cover, DesignKind, Refusal, Memory, Kind, IsRefusedAs, row_words}
+use Rattle.design_blif.proofs.Vocabulary.{is_right_row, row_fault, row_shape_fault}
 use Rattle.design_netlist.specs.declared.fault.DesignKind.TheVariants as kind
-use Rattle.design_blif.specs.declared.kind.Refusal.{Refusal}
-use Rattle.design_blif.specs.declared.kind.Refusal.TheVariants.{Memory, Kind}
-use Rattle.design_blif.specs.Refusals.{IsRefusedAs}
-use Rattle.design_blif.specs.Parts.{row_words, is_right_row}
-use Rattle.design_blif.specs.Faults.{row_fault, row_shape_fault}
 use Rattle.design_blif.proofs.lines.push_row.Goals as goal
 
 by_shape : (k : DesignKind) (later : Option DesignKind) (a b : Bool) → cond a (Some kind.Word) (cond b (Some kind.Row) None) ≡ Some k → cond a (Some kind.Word) (cond b (Some kind.Row) later) ≡ Some k

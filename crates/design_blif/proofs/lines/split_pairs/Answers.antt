@@ -1,6 +1,4 @@
-use Rattle.std.proofs.Common.{◌≡◌, ◌∙◌, ◌+◌, false, ap, map, take, drop, refl}
-use Rattle.std.specs.List.{list_all}
-use Rattle.design_blif.specs.Parts.{is_pair}
+use Rattle.design_blif.proofs.Vocabulary.{◌≡◌, ◌∙◌, ◌+◌, false, ap, map, take, drop, refl, list_all, is_pair}
 use Rattle.design_blif.proofs.NamesLemmas.{words_split, some_wrong}
 use Rattle.design_blif.proofs.lines.split_pairs.Goals as goal
 

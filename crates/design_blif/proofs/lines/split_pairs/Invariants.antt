@@ -1,6 +1,4 @@
-use Rattle.std.proofs.Common.{◌≡◌, true, map, take, vec_len}
-use Rattle.std.specs.List.{list_all}
-use Rattle.design_blif.specs.Parts.{formal_of, actual_of, is_pair}
+use Rattle.design_blif.proofs.Vocabulary.{◌≡◌, true, map, take, vec_len, list_all, formal_of, actual_of, is_pair}
 use Rattle.design_blif.proofs.lines.split_pairs.Given as goal
 
 abbrev pub invariant-words : goal.invariant-words

@@ -1,5 +1,4 @@
-use Rattle.std.proofs.Common.{◌≤◌, length, arith}
-use Rattle.std.proofs.lemmas.Result.{err_from_is_err_and}
+use Rattle.design_blif.proofs.Vocabulary.{◌≤◌, length, arith, err_from_is_err_and}
 use Rattle.design_blif.proofs.DesignLemmas.{design_refused, only_memory}
 use Rattle.design_blif.proofs.read.read_blif.Goals as goal
 

@@ -1,7 +1,5 @@
-use Rattle.std.proofs.Common.{◌≡◌, true, length}
-use Rattle.base_text.specs.Lines.{logical_lines}
+use Rattle.design_blif.proofs.Vocabulary.{◌≡◌, true, length, logical_lines, run, text_start}
 use Rattle.design_blif.specs.Texts.{text_of}
-use Rattle.design_blif.specs.Runs.{run, text_start}
 use Rattle.design_blif.proofs.read.read_lines.Given as goal
 
 abbrev pub invariant-lines : goal.invariant-lines

@@ -1,9 +1,5 @@
-use Rattle.std.proofs.Common.{◌∙◌, true, subst}
-use Rattle.base_text.specs.Lines.{logical_lines}
-use Rattle.design_blif.specs.Runs.{Gives}
-use Rattle.design_blif.proofs.RunLemmas.{whole_is, are_read, found_are}
-use Rattle.design_blif.proofs.RowLemmas.{right_rows}
-use Rattle.design_blif.proofs.SizeLemmas.{few_outputs}
+use Rattle.design_blif.proofs.Vocabulary.{◌∙◌, true, subst, logical_lines, Gives}
+use Rattle.design_blif.proofs.{RunLemmas.whole_is, RunLemmas.are_read, RunLemmas.found_are, RowLemmas.right_rows, SizeLemmas.few_outputs}
 use Rattle.design_blif.proofs.read.read_models.Goals as goal
 
 pub returns-clause-found : goal.returns-clause-found

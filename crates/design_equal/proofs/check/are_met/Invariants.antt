@@ -1,6 +1,4 @@
-use Rattle.std.proofs.Common.{◌≡◌, ◌<◌, ℕ, length}
-use Rattle.design_netlist.specs.Covers.{cover_at}
-use Rattle.design_equal.specs.Plans.{IsMet}
+use Rattle.design_equal.proofs.Vocabulary.{◌≡◌, ◌<◌, ℕ, length, cover_at, IsMet}
 use Rattle.design_equal.proofs.check.are_met.Given as goal
 
 abbrev pub invariant-covers : goal.invariant-covers

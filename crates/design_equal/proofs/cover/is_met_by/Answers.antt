@@ -1,6 +1,4 @@
-use Rattle.std.proofs.Common.{◌≡◌, ℕ, ◌-◌, ◌^◌, List, length, ap, subst, sym, ◌∙◌, refl, inl, inr, arith}
-use Rattle.std.proofs.lemmas.Bool.{cases_eq}
-use Rattle.design_equal.specs.Plans.{IsMetIn}
+use Rattle.design_equal.proofs.Vocabulary.{◌≡◌, ℕ, ◌-◌, ◌^◌, List, length, ap, subst, sym, ◌∙◌, refl, inl, inr, arith, cases_eq, IsMetIn}
 use Rattle.design_equal.proofs.PinLemmas.{some_lane}
 use Rattle.design_equal.proofs.cover.is_met_by.Goals as goal
 

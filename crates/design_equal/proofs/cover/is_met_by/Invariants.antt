@@ -1,6 +1,4 @@
-use Rattle.std.proofs.Common.{◌≡◌, ◌<◌, ℕ, List, length}
-use Rattle.design_equal.specs.declared.graph.Graph.{Graph}
-use Rattle.design_equal.specs.Plans.{IsMetIn, IsPlan}
+use Rattle.design_equal.proofs.Vocabulary.{◌≡◌, ◌<◌, ℕ, List, length, Graph, IsMetIn, IsPlan}
 use Rattle.design_equal.proofs.cover.is_met_by.Given as goal
 
 abbrev pub invariant-passes : goal.invariant-passes

@@ -1,7 +1,4 @@
-use Rattle.std.proofs.Common.{ℕ, List, length, ap, subst, sym, ◌∙◌}
-use Rattle.std.proofs.lemmas.Bool.{eqb-true}
-use Rattle.design_netlist.specs.Vocabulary.{truth, lane_bits, bit_at}
-use Rattle.design_equal.specs.declared.plan.Step.{Step}
+use Rattle.design_equal.proofs.Vocabulary.{ℕ, List, length, ap, subst, sym, ◌∙◌, eqb-true, truth, lane_bits, bit_at, Step}
 use Rattle.design_equal.specs.Plans.{AreInputs, AreSteps, HaveInputs, HaveWords}
 use Rattle.design_equal.proofs.PlanLemmas.{local_bit, met_in}
 use Rattle.design_equal.proofs.cover.is_met_in.Goals as goal

@@ -1,6 +1,4 @@
-use Rattle.std.proofs.Common.{◌≡◌, ℕ, Bool}
-use Rattle.design_equal.specs.Graphs.{IsValued, literal_in}
-use Rattle.design_equal.specs.Products.{work_holds}
+use Rattle.design_equal.proofs.Vocabulary.{◌≡◌, ℕ, Bool, IsValued, literal_in, work_holds}
 use Rattle.design_equal.proofs.expand.expand_literal.Given as goal
 
 abbrev pub invariant-steps : goal.invariant-steps

@@ -1,6 +1,4 @@
-use Rattle.std.proofs.Common.{◌&&◌, ◌||◌, Bool, ap, sym, ◌∙◌, not, if◌then◌else◌}
-use Rattle.design_equal.specs.Graphs.{literal_in}
-use Rattle.design_equal.specs.Products.{holds, work_holds}
+use Rattle.design_equal.proofs.Vocabulary.{◌&&◌, ◌||◌, Bool, ap, sym, ◌∙◌, not, if◌then◌else◌, literal_in, holds, work_holds}
 use Rattle.design_equal.proofs.ProductLemmas.{either_not}
 use Rattle.design_equal.proofs.expand.open_gate.Goals as goal
 

@@ -1,5 +1,4 @@
-use Rattle.std.proofs.Common.{◌<◌, ◌+◌, ℕ}
-use Rattle.design_equal.specs.Graphs.{and_at, first_and, node_of}
+use Rattle.design_equal.proofs.Vocabulary.{◌<◌, ◌+◌, ℕ, and_at, first_and, node_of}
 use Rattle.design_equal.proofs.nodes.are_ordered.Given as goal
 
 abbrev pub invariant-ands : goal.invariant-ands

@@ -1,5 +1,4 @@
-use Rattle.std.proofs.Common.{◌<◌, ℕ}
-use Rattle.design_equal.specs.Graphs.{graph_latch_at, node_count, node_of}
+use Rattle.design_equal.proofs.Vocabulary.{◌<◌, ℕ, graph_latch_at, node_count, node_of}
 use Rattle.design_equal.proofs.nodes.have_nexts.Given as goal
 
 abbrev pub invariant-latches : goal.invariant-latches

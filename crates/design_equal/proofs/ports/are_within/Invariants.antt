@@ -1,6 +1,4 @@
-use Rattle.std.proofs.Common.{◌<◌, ℕ}
-use Rattle.design_equal.specs.Graphs.{node_of}
-use Rattle.design_equal.specs.Labels.{label_at}
+use Rattle.design_equal.proofs.Vocabulary.{◌<◌, ℕ, node_of, label_at}
 use Rattle.design_equal.proofs.ports.are_within.Given as goal
 
 abbrev pub invariant-labels : goal.invariant-labels

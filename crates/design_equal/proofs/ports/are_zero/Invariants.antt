@@ -1,6 +1,4 @@
-use Rattle.std.proofs.Common.{◌≡◌, ◌<◌, ℕ, true}
-use Rattle.design_netlist.specs.Valuations.{bit_at}
-use Rattle.design_equal.specs.Labels.{label_at}
+use Rattle.design_equal.proofs.Vocabulary.{◌≡◌, ◌<◌, ℕ, true, bit_at, label_at}
 use Rattle.design_equal.proofs.ports.are_zero.Given as goal
 
 abbrev pub invariant-signals : goal.invariant-signals

@@ -1,6 +1,4 @@
-use Rattle.std.proofs.Common.{◌≡◌, ◌<◌, ◌+◌, ◌*◌, ℕ}
-use Rattle.design_netlist.specs.Drafts.{signal_at}
-use Rattle.design_equal.specs.Labels.{label_at}
+use Rattle.design_equal.proofs.Vocabulary.{◌≡◌, ◌<◌, ◌+◌, ◌*◌, ℕ, signal_at, label_at}
 use Rattle.design_equal.proofs.ports.have_inputs.Given as goal
 
 abbrev pub invariant-inputs : goal.invariant-inputs

@@ -1,6 +1,4 @@
-use Rattle.std.proofs.Common.{◌<◌, ℕ}
-use Rattle.design_netlist.specs.Words.{latch_at}
-use Rattle.design_equal.specs.Labels.{IsLatchOf}
+use Rattle.design_equal.proofs.Vocabulary.{◌<◌, ℕ, latch_at, IsLatchOf}
 use Rattle.design_equal.proofs.ports.have_latches.Given as goal
 
 abbrev pub invariant-latches : goal.invariant-latches

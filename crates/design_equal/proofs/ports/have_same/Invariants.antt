@@ -1,5 +1,4 @@
-use Rattle.std.proofs.Common.{◌≡◌, map, take}
-use Rattle.design_equal.specs.Labels.{label_at}
+use Rattle.design_equal.proofs.Vocabulary.{◌≡◌, map, take, label_at}
 use Rattle.design_equal.proofs.ports.have_same.Given as goal
 
 abbrev pub invariant-outputs : goal.invariant-outputs

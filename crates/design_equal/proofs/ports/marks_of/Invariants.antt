@@ -1,5 +1,4 @@
-use Rattle.std.proofs.Common.{◌≡◌, ◌<◌, ℕ, length, true}
-use Rattle.design_netlist.specs.Vocabulary.{signal_at, bit_at}
+use Rattle.design_equal.proofs.Vocabulary.{◌≡◌, ◌<◌, ℕ, length, true, signal_at, bit_at}
 use Rattle.design_equal.proofs.ports.marks_of.Given as goal
 
 abbrev pub invariant-words : goal.invariant-words

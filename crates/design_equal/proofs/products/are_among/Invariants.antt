@@ -1,5 +1,4 @@
-use Rattle.std.proofs.Common.{◌≡◌, ℕ, Bool, true, take}
-use Rattle.design_equal.specs.Products.{some_holds}
+use Rattle.design_equal.proofs.Vocabulary.{◌≡◌, ℕ, Bool, true, take, some_holds}
 use Rattle.design_equal.proofs.products.are_among.Given as goal
 
 abbrev pub invariant-products : goal.invariant-products

@@ -1,6 +1,4 @@
-use Rattle.std.proofs.Common.{◌≡◌, ◌&&◌, Bool, false, take, get_or, sym, ap, ◌∙◌, arith}
-use Rattle.design_equal.specs.Graphs.{literal_in}
-use Rattle.design_equal.specs.Products.{holds}
+use Rattle.design_equal.proofs.Vocabulary.{◌≡◌, ◌&&◌, Bool, false, take, get_or, sym, ap, ◌∙◌, arith, literal_in, holds}
 use Rattle.design_equal.proofs.ProductLemmas.{never}
 use Rattle.design_equal.proofs.products.product_of.Goals as goal
 

@@ -1,5 +1,4 @@
-use Rattle.std.proofs.Common.{◌≡◌, ℕ, Bool, false, take}
-use Rattle.design_equal.specs.Products.{holds}
+use Rattle.design_equal.proofs.Vocabulary.{◌≡◌, ℕ, Bool, false, take, holds}
 use Rattle.design_equal.proofs.products.product_of.Given as goal
 
 abbrev pub invariant-literals : goal.invariant-literals

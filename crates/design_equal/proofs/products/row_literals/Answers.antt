@@ -1,9 +1,6 @@
 use Rattle.std.proofs.Common.{ℕ, ◌&&◌, Bool, get_or, ap, sym, ◌∙◌, add-one, map, take}
 use Rattle.design_netlist.specs.declared.netlist_data.Lit.TheVariants.{Zero}
-use Rattle.design_netlist.specs.Covers.{fits, matches}
-use Rattle.design_netlist.proofs.LaneLemmas.{matches-more}
-use Rattle.design_equal.specs.Graphs.{literal_in}
-use Rattle.design_equal.specs.Labels.{signal_bits}
+use Rattle.design_equal.proofs.Vocabulary.{fits, matches, matches-more, literal_in, signal_bits}
 use Rattle.design_equal.proofs.products.row_literals.Goals as goal
 
 pub places-preserved : goal.places-preserved

@@ -1,7 +1,4 @@
-use Rattle.std.proofs.Common.{◌≡◌, ℕ, Bool, take, map}
-use Rattle.design_netlist.specs.Covers.{matches}
-use Rattle.design_equal.specs.Labels.{signal_bits}
-use Rattle.design_equal.specs.Products.{holds}
+use Rattle.design_equal.proofs.Vocabulary.{◌≡◌, ℕ, Bool, take, map, matches, signal_bits, holds}
 use Rattle.design_equal.proofs.products.row_literals.Given as goal
 
 abbrev pub invariant-places : goal.invariant-places

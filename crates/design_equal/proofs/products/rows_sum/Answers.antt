@@ -1,10 +1,6 @@
 use Rattle.std.proofs.Common.{◌||◌, Bool, List, [], ap, sym, ◌∙◌, add-one, map, take}
-use Rattle.std.proofs.lemmas.List.{get_or_default}
+use Rattle.design_equal.proofs.Vocabulary.{get_or_default, matches, some_matches, some-more, signal_bits, found_holds}
 use Rattle.design_netlist.specs.declared.netlist_data.Lit.{Lit}
-use Rattle.design_netlist.specs.Covers.{matches, some_matches}
-use Rattle.design_netlist.proofs.LaneLemmas.{some-more}
-use Rattle.design_equal.specs.Labels.{signal_bits}
-use Rattle.design_equal.specs.Products.{found_holds}
 use Rattle.design_equal.proofs.products.rows_sum.Goals as goal
 
 pub rows-preserved : goal.rows-preserved

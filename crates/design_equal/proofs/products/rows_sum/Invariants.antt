@@ -1,7 +1,4 @@
-use Rattle.std.proofs.Common.{◌≡◌, ℕ, Bool, false, take, map}
-use Rattle.design_netlist.specs.Covers.{some_matches}
-use Rattle.design_equal.specs.Labels.{signal_bits}
-use Rattle.design_equal.specs.Products.{some_holds}
+use Rattle.design_equal.proofs.Vocabulary.{◌≡◌, ℕ, Bool, false, take, map, some_matches, signal_bits, some_holds}
 use Rattle.design_equal.proofs.products.rows_sum.Given as goal
 
 abbrev pub invariant-rows : goal.invariant-rows

@@ -1,7 +1,4 @@
-use Rattle.std.proofs.Common.{◌<◌, ℕ, length}
-use Rattle.design_netlist.specs.Valuations.{number_at}
-use Rattle.design_equal.specs.Labels.{label_at}
-use Rattle.design_equal.specs.Plans.{StandsFor}
+use Rattle.design_equal.proofs.Vocabulary.{◌<◌, ℕ, length, number_at, label_at, StandsFor}
 use Rattle.design_equal.proofs.steps.are_inputs.Given as goal
 
 abbrev pub invariant-ins : goal.invariant-ins

@@ -1,5 +1,4 @@
-use Rattle.std.proofs.Common.{◌<◌, ℕ}
-use Rattle.design_equal.specs.Plans.{IsFrom, step_at}
+use Rattle.design_equal.proofs.Vocabulary.{◌<◌, ℕ, IsFrom, step_at}
 use Rattle.design_equal.proofs.steps.are_steps.Given as goal
 
 abbrev pub invariant-steps : goal.invariant-steps

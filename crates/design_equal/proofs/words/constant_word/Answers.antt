@@ -1,5 +1,4 @@
-use Rattle.std.proofs.Common.{sym, ◌∙◌}
-use Rattle.design_netlist.proofs.LaneLemmas.{all-bits}
+use Rattle.design_equal.proofs.Vocabulary.{sym, ◌∙◌, all-bits}
 use Rattle.design_equal.proofs.words.constant_word.Goals as goal
 
 pub returns-then-bit : goal.returns-then-bit

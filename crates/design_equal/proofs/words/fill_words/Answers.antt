@@ -1,6 +1,4 @@
-use Rattle.std.proofs.Common.{ℕ, List, subst, sym, ◌∙◌, arith}
-use Rattle.std.proofs.lemmas.List.{length-set}
-use Rattle.design_equal.specs.Plans.{HaveWords}
+use Rattle.design_equal.proofs.Vocabulary.{ℕ, List, subst, sym, ◌∙◌, arith, length-set, HaveWords}
 use Rattle.design_equal.proofs.PlanLemmas.{more_words}
 use Rattle.design_equal.proofs.words.fill_words.Goals as goal
 

@@ -1,6 +1,4 @@
-use Rattle.std.proofs.Common.{◌≡◌, ◌≤◌, ℕ, List, length}
-use Rattle.design_equal.specs.declared.graph.Graph.{Graph}
-use Rattle.design_equal.specs.Plans.{AreSteps, HaveWords}
+use Rattle.design_equal.proofs.Vocabulary.{◌≡◌, ◌≤◌, ℕ, List, length, Graph, AreSteps, HaveWords}
 use Rattle.design_equal.proofs.words.fill_words.Given as goal
 
 abbrev pub invariant-steps : goal.invariant-steps

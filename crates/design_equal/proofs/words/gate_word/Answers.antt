@@ -1,6 +1,4 @@
-use Rattle.std.proofs.Common.{Bool, ◌&&◌, ap, ◌∙◌}
-use Rattle.design_netlist.specs.Lanes.{is_bit}
-use Rattle.design_netlist.proofs.LaneLemmas.{and-bit}
+use Rattle.design_equal.proofs.Vocabulary.{Bool, ◌&&◌, ap, ◌∙◌, is_bit, and-bit}
 use Rattle.design_equal.proofs.PlanLemmas.{local_bit}
 use Rattle.design_equal.proofs.words.gate_word.Goals as goal
 

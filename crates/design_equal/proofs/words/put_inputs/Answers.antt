@@ -1,7 +1,4 @@
-use Rattle.std.proofs.Common.{ℕ, length, ap, ◌∙◌, arith}
-use Rattle.std.proofs.lemmas.List.{length-set}
-use Rattle.design_netlist.specs.Valuations.{number_at}
-use Rattle.design_equal.specs.Labels.{label_at}
+use Rattle.design_equal.proofs.Vocabulary.{ℕ, length, ap, ◌∙◌, arith, length-set, number_at, label_at}
 use Rattle.design_equal.proofs.PlanLemmas.{local_bit, more_inputs, stands}
 use Rattle.design_equal.proofs.words.put_inputs.Goals as goal
 

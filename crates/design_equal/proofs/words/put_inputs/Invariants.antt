@@ -1,7 +1,4 @@
-use Rattle.std.proofs.Common.{◌≡◌, ℕ, List, length}
-use Rattle.design_equal.specs.declared.graph.Graph.{Graph}
-use Rattle.design_equal.specs.declared.plan.Step.{Step}
-use Rattle.design_equal.specs.Plans.{AreInputs, HaveInputs, HaveWords}
+use Rattle.design_equal.proofs.Vocabulary.{◌≡◌, ℕ, List, length, Graph, Step, AreInputs, HaveInputs, HaveWords}
 use Rattle.design_equal.proofs.words.put_inputs.Given as goal
 
 abbrev pub invariant-ins : goal.invariant-ins

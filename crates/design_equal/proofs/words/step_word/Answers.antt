@@ -1,5 +1,4 @@
-use Rattle.std.proofs.Common.{subst, ◌∙◌}
-use Rattle.design_equal.specs.Plans.{IsFrom}
+use Rattle.design_equal.proofs.Vocabulary.{subst, ◌∙◌, IsFrom}
 use Rattle.design_equal.proofs.PlanLemmas.{gate_is}
 use Rattle.design_equal.proofs.words.step_word.Goals as goal
 

@@ -1,5 +1,4 @@
-use Rattle.std.proofs.Common.{◌≡◌, take}
-use Rattle.design_eval.specs.Bits.{bits_put}
+use Rattle.design_eval.proofs.Vocabulary.{◌≡◌, take, bits_put}
 use Rattle.design_eval.proofs.bits.put_bits.Given as goal
 
 abbrev pub invariant-signals : goal.invariant-signals

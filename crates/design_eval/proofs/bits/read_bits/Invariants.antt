@@ -1,5 +1,4 @@
-use Rattle.std.proofs.Common.{◌≡◌, take, map}
-use Rattle.design_netlist.specs.Valuations.{bit_at}
+use Rattle.design_eval.proofs.Vocabulary.{◌≡◌, take, map, bit_at}
 use Rattle.design_eval.proofs.bits.read_bits.Given as goal
 
 abbrev pub invariant-signals : goal.invariant-signals

@@ -1,6 +1,5 @@
 use Rattle.std.proofs.Common.{arith, ap, ◌∙◌}
-use Rattle.design_eval.proofs.BlockLemmas.{block-filled}
-use Rattle.design_eval.proofs.RunLemmas.{below-at, inputs-below}
+use Rattle.design_eval.proofs.{BlockLemmas.block-filled, RunLemmas.below-at, RunLemmas.inputs-below}
 use Rattle.design_eval.proofs.block.fill_lanes.Goals as goal
 
 pub put_columns-requires-clause-within : goal.put_columns-requires-clause-within

@@ -1,7 +1,5 @@
-use Rattle.std.proofs.Common.{◌≡◌, ℕ, List, map, length, refl, ap, subst, ◌∙◌}
-use Rattle.design_netlist.specs.Vocabulary.{bit_at, lane_bits}
-use Rattle.design_eval.proofs.BlockLemmas.{row-of-lane}
-use Rattle.design_eval.proofs.RunLemmas.{below-at, inputs-below, outputs-below}
+use Rattle.design_eval.proofs.Vocabulary.{◌≡◌, ℕ, List, map, length, refl, ap, subst, ◌∙◌, bit_at, lane_bits}
+use Rattle.design_eval.proofs.{BlockLemmas.row-of-lane, RunLemmas.below-at, RunLemmas.inputs-below, RunLemmas.outputs-below}
 use Rattle.design_eval.proofs.block.give_lane.Goals as goal
 
 pub stand_in-requires-clause-within : goal.stand_in-requires-clause-within

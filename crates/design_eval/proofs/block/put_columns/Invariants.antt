@@ -1,5 +1,4 @@
-use Rattle.std.proofs.Common.{◌≡◌, ◌<◌, ℕ, length}
-use Rattle.design_netlist.specs.Valuations.{number_at}
+use Rattle.design_eval.proofs.Vocabulary.{◌≡◌, ◌<◌, ℕ, length, number_at}
 use Rattle.design_eval.proofs.block.put_columns.Given as goal
 
 abbrev pub invariant-signals : goal.invariant-signals

@@ -1,5 +1,4 @@
-use Rattle.std.proofs.Common.{map, ap, ◌∙◌}
-use Rattle.design_netlist.specs.Valuations.{bit_at}
+use Rattle.design_eval.proofs.Vocabulary.{map, ap, ◌∙◌, bit_at}
 use Rattle.design_eval.proofs.RunLemmas.{step-is, ready-is, below-at, covers-made, inputs-below, latches-below, outputs-below, froms-below, settled-as, given-put, given-settled}
 use Rattle.design_eval.proofs.eval.run.Goals as goal
 

@@ -1,10 +1,7 @@
 use Rattle.std.proofs.Common.{◌≡◌, ℕ, ◌+◌, ◌≤◌, List, length, map, ap, sym, subst, ◌∙◌, arith}
-use Rattle.design_netlist.specs.Valuations.{bit_at}
+use Rattle.design_eval.proofs.Vocabulary.{bit_at, places, AreFree, AreTaken}
 use Rattle.design_eval.proofs.RunLemmas.{step-is, ready-is, below-at, covers-made, inputs-below, latches-below, outputs-below, froms-below, settled-as, inputs-free, latches-free, drives-apart-at, given-inputs, given-settled}
-use Rattle.design_eval.specs.Turns.{places}
-use Rattle.design_eval.specs.Marks.{AreFree, AreTaken}
-use Rattle.design_eval.proofs.MarkLemmas.{settled-kept}
-use Rattle.design_eval.proofs.SmallLemmas.{quick-covers}
+use Rattle.design_eval.proofs.{MarkLemmas.settled-kept, SmallLemmas.quick-covers}
 use Rattle.design_eval.proofs.eval.run_marked.Goals as goal
 
 pub put_marked-requires-clause-within : goal.put_marked-requires-clause-within

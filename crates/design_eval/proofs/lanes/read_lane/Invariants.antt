@@ -1,5 +1,4 @@
-use Rattle.std.proofs.Common.{◌≡◌, take, map}
-use Rattle.design_netlist.specs.Vocabulary.{bit_at, lane_bits}
+use Rattle.design_eval.proofs.Vocabulary.{◌≡◌, take, map, bit_at, lane_bits}
 use Rattle.design_eval.proofs.lanes.read_lane.Given as goal
 
 abbrev pub invariant-signals : goal.invariant-signals

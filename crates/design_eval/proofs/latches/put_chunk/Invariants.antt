@@ -1,6 +1,4 @@
-use Rattle.std.proofs.Common.{◌≡◌, ℕ, ◌<◌, ◌≤◌, length}
-use Rattle.design_netlist.specs.Valuations.{bit_at}
-use Rattle.design_eval.specs.Latches.{HavePut}
+use Rattle.design_eval.proofs.Vocabulary.{◌≡◌, ℕ, ◌<◌, ◌≤◌, length, bit_at, HavePut}
 use Rattle.design_eval.proofs.latches.put_chunk.Given as goal
 
 abbrev pub invariant-latches : goal.invariant-latches

@@ -1,5 +1,4 @@
-use Rattle.std.proofs.Common.{◌≡◌, length}
-use Rattle.design_eval.specs.Marks.{AreTaken}
+use Rattle.design_eval.proofs.Vocabulary.{◌≡◌, length, AreTaken}
 use Rattle.design_eval.proofs.latches.take_changed.Given as goal
 
 abbrev pub invariant-words : goal.invariant-words

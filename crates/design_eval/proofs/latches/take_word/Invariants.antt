@@ -1,5 +1,4 @@
-use Rattle.std.proofs.Common.{◌≡◌, length}
-use Rattle.design_eval.specs.Marks.{AreTaken}
+use Rattle.design_eval.proofs.Vocabulary.{◌≡◌, length, AreTaken}
 use Rattle.design_eval.proofs.latches.take_word.Given as goal
 
 abbrev pub invariant-bits : goal.invariant-bits

@@ -1,5 +1,4 @@
-use Rattle.std.proofs.Common.{◌≡◌, ℕ, ◌<◌, ◌≤◌, false}
-use Rattle.design_netlist.specs.Valuations.{bit_at}
+use Rattle.design_eval.proofs.Vocabulary.{◌≡◌, ℕ, ◌<◌, ◌≤◌, false, bit_at}
 use Rattle.design_eval.proofs.marks.is_one_marked.Given as goal
 
 abbrev pub invariant-marks : goal.invariant-marks

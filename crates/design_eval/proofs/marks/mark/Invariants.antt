@@ -1,5 +1,4 @@
-use Rattle.std.proofs.Common.{◌≡◌, ℕ, ◌<◌, ◌≤◌, ◌%◌, true, false, length}
-use Rattle.design_netlist.specs.Valuations.{number_at, bit_at}
+use Rattle.design_eval.proofs.Vocabulary.{◌≡◌, ℕ, ◌<◌, ◌≤◌, ◌%◌, true, false, length, number_at, bit_at}
 use Rattle.design_eval.proofs.marks.mark.Given as goal
 
 abbrev pub invariant-keys : goal.invariant-keys

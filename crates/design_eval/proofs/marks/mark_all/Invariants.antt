@@ -1,5 +1,4 @@
-use Rattle.std.proofs.Common.{◌≡◌, ℕ, ◌<◌, true, length}
-use Rattle.design_netlist.specs.Valuations.{bit_at}
+use Rattle.design_eval.proofs.Vocabulary.{◌≡◌, ℕ, ◌<◌, true, length, bit_at}
 use Rattle.design_eval.proofs.marks.mark_all.Given as goal
 
 abbrev pub invariant-marks : goal.invariant-marks

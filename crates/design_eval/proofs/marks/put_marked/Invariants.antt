@@ -1,6 +1,4 @@
-use Rattle.std.proofs.Common.{◌≡◌, take, length}
-use Rattle.design_eval.specs.Bits.{bits_put}
-use Rattle.design_eval.specs.Marks.{StillKept, StillTaken}
+use Rattle.design_eval.proofs.Vocabulary.{◌≡◌, take, length, bits_put, StillKept, StillTaken}
 use Rattle.design_eval.proofs.marks.put_marked.Given as goal
 
 abbrev pub invariant-signals : goal.invariant-signals

@@ -1,7 +1,5 @@
-use Rattle.std.proofs.Common.{length, refl, arith, ◌∙◌}
-use Rattle.design_eval.specs.Turns.{places}
-use Rattle.design_eval.proofs.TurnLemmas.{turns-size}
-use Rattle.design_eval.proofs.MarkLemmas.{settled-of, others-more, taken-both}
+use Rattle.design_eval.proofs.Vocabulary.{length, refl, arith, ◌∙◌, places}
+use Rattle.design_eval.proofs.{TurnLemmas.turns-size, MarkLemmas.settled-of, MarkLemmas.others-more, MarkLemmas.taken-both}
 use Rattle.design_eval.proofs.marks.settle_marked.Goals as goal
 
 pub returns-else-is_one_marked-clause-settled : goal.returns-else-is_one_marked-clause-settled

@@ -1,6 +1,4 @@
-use Rattle.std.proofs.Common.{◌≡◌, ◌≤◌, ◌*◌, length}
-use Rattle.design_eval.specs.Turns.{places}
-use Rattle.design_eval.specs.Marks.{AreKept, AreOthersSame, StillTaken}
+use Rattle.design_eval.proofs.Vocabulary.{◌≡◌, ◌≤◌, ◌*◌, length, places, AreKept, AreOthersSame, StillTaken}
 use Rattle.design_eval.proofs.marks.settle_marked.Given as goal
 
 abbrev pub invariant-words : goal.invariant-words

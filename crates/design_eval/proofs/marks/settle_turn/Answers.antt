@@ -1,8 +1,6 @@
-use Rattle.std.proofs.Common.{length, arith}
-use Rattle.design_eval.proofs.TurnLemmas.{place-within, out-below}
-use Rattle.design_eval.specs.Turns.{turn_at}
+use Rattle.design_eval.proofs.Vocabulary.{length, arith, turn_at}
+use Rattle.design_eval.proofs.{TurnLemmas.place-within, TurnLemmas.out-below, SmallLemmas.quick-out, SmallLemmas.given-out}
 use Rattle.design_eval.proofs.MarkLemmas.{marked-keeps, marked-others, marked-taken}
-use Rattle.design_eval.proofs.SmallLemmas.{quick-out, given-out}
 use Rattle.design_eval.proofs.marks.settle_turn.Goals as goal
 
 pub quick_value-bit-requires-clause-within : goal.quick_value-bit-requires-clause-within

@@ -1,5 +1,4 @@
-use Rattle.std.proofs.Common.{length, ◌∙◌}
-use Rattle.std.proofs.lemmas.List.{length-set}
+use Rattle.design_eval.proofs.Vocabulary.{length, ◌∙◌, length-set}
 use Rattle.design_eval.proofs.MarkLemmas.{others-more, taken-both}
 use Rattle.design_eval.proofs.marks.settle_word.Goals as goal
 

@@ -1,9 +1,4 @@
-use Rattle.std.proofs.Common.{ℕ, List, length, map, ap, refl, arith, ◌∙◌, subst}
-use Rattle.std.proofs.lemmas.List.{length-map}
-use Rattle.design_netlist.specs.Valuations.{IsOrder}
-use Rattle.design_eval.specs.declared.turns.Turn.{Turn}
-use Rattle.design_eval.specs.Turns.{places}
-use Rattle.design_eval.specs.Smalls.{AreQuick}
+use Rattle.design_eval.proofs.Vocabulary.{ℕ, List, length, map, ap, refl, arith, ◌∙◌, subst, length-map, IsOrder, Turn, places, AreQuick}
 use Rattle.design_eval.proofs.TurnLemmas.{turns-size}
 use Rattle.design_eval.proofs.RunLemmas.{covers-made, plan-is, room-is, froms-below, below-at}
 use Rattle.design_eval.proofs.plan.plan_of.Goals as goal

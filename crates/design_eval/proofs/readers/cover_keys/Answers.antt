@@ -1,11 +1,6 @@
 use Rattle.std.proofs.Common.{◌≡◌, ℕ, arith, subst, sym, ap, ◌∙◌}
-use Rattle.std.proofs.lemmas.List.{get_or_default}
-use Rattle.design_netlist.specs.declared.netlist_data.Cover.{Cover}
-use Rattle.design_netlist.specs.Covers.{cover_at, no_cover}
-use Rattle.design_eval.specs.Bits.{AreBelow}
-use Rattle.design_eval.specs.Turns.{turn_at, places}
-use Rattle.design_eval.proofs.TurnLemmas.{place-within, cover-is}
-use Rattle.design_eval.proofs.ReaderLemmas.{keys-more}
+use Rattle.design_eval.proofs.Vocabulary.{get_or_default, Cover, cover_at, no_cover, AreBelow, turn_at, places}
+use Rattle.design_eval.proofs.{TurnLemmas.place-within, TurnLemmas.cover-is, ReaderLemmas.keys-more}
 use Rattle.design_eval.proofs.readers.cover_keys.Goals as goal
 
 pub bounds-covers-turns : goal.bounds-covers-turns

@@ -1,5 +1,4 @@
-use Rattle.design_eval.specs.Turns.{places}
-use Rattle.design_eval.specs.Readers.{AreKeys}
+use Rattle.design_eval.proofs.Vocabulary.{places, AreKeys}
 use Rattle.design_eval.proofs.readers.cover_keys.Given as goal
 
 abbrev pub invariant-turns : goal.invariant-turns

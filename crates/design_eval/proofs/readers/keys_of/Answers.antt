@@ -1,5 +1,4 @@
-use Rattle.std.proofs.Common.{length}
-use Rattle.design_eval.specs.Turns.{places}
+use Rattle.design_eval.proofs.Vocabulary.{length, places}
 use Rattle.design_eval.proofs.ReaderLemmas.{keys-sorted, latches-sorted, in-order}
 use Rattle.design_eval.proofs.readers.keys_of.Goals as goal
 

@@ -1,5 +1,4 @@
-use Rattle.std.proofs.Common.{◌≡◌, ◌++◌, take, map}
-use Rattle.design_eval.specs.Readers.{reader_key}
+use Rattle.design_eval.proofs.Vocabulary.{◌≡◌, ◌++◌, take, map, reader_key}
 use Rattle.design_eval.proofs.readers.push_keys.Given as goal
 
 abbrev pub invariant-ins : goal.invariant-ins

@@ -1,8 +1,5 @@
-use Rattle.std.proofs.Common.{◌+◌, ℕ, List, take, sym, subst, refl, arith}
-use Rattle.std.specs.List.{Contains}
-use Rattle.std.proofs.lemmas.List.{take_all}
+use Rattle.design_eval.proofs.Vocabulary.{◌+◌, ℕ, List, take, sym, subst, refl, arith, Contains, take_all, HaveKeys}
 use Rattle.std.proofs.lemmas.List.Elements.{Contains-append_left}
-use Rattle.design_eval.specs.Readers.{HaveKeys}
 use Rattle.design_eval.proofs.ReaderLemmas.{latches-more}
 use Rattle.design_eval.proofs.readers.push_latches.Goals as goal
 

@@ -1,6 +1,4 @@
-use Rattle.std.proofs.Common.{ℕ, take}
-use Rattle.std.specs.List.{Contains}
-use Rattle.design_eval.specs.Readers.{HaveKeys}
+use Rattle.design_eval.proofs.Vocabulary.{ℕ, take, Contains, HaveKeys}
 use Rattle.design_eval.proofs.readers.push_latches.Given as goal
 
 abbrev pub invariant-reads : goal.invariant-reads

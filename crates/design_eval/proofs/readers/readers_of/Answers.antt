@@ -1,9 +1,5 @@
-use Rattle.std.proofs.Common.{◌+◌, ℕ, List, length, arith, subst, sym, refl}
-use Rattle.design_netlist.specs.Valuations.{number_at}
-use Rattle.design_eval.specs.Turns.{places}
-use Rattle.design_eval.specs.Readers.{AreKeys, AreStarts}
-use Rattle.design_eval.proofs.TurnLemmas.{turns-size}
-use Rattle.design_eval.proofs.ReaderLemmas.{readers-are, latches-are}
+use Rattle.design_eval.proofs.Vocabulary.{◌+◌, ℕ, List, length, arith, subst, sym, refl, number_at, places, AreKeys, AreStarts}
+use Rattle.design_eval.proofs.{TurnLemmas.turns-size, ReaderLemmas.readers-are, ReaderLemmas.latches-are}
 use Rattle.design_eval.proofs.readers.readers_of.Goals as goal
 
 pub returns-clause-covers : goal.returns-clause-covers

@@ -1,5 +1,4 @@
-use Rattle.std.proofs.Common.{get_or, false, ◌∙◌}
-use Rattle.std.proofs.lemmas.List.{length-set}
+use Rattle.design_eval.proofs.Vocabulary.{get_or, false, ◌∙◌, length-set}
 use Rattle.design_eval.proofs.SmallLemmas.{cells-copied}
 use Rattle.design_eval.proofs.smalls.first_cells.Goals as goal
 

@@ -1,7 +1,4 @@
-use Rattle.std.proofs.Common.{◌≡◌, ◌<◌, ℕ, length}
-use Rattle.design_netlist.specs.Covers.{cover_at}
-use Rattle.design_eval.specs.Turns.{turn_at}
-use Rattle.design_eval.specs.Smalls.{quick_at, IsQuick}
+use Rattle.design_eval.proofs.Vocabulary.{◌≡◌, ◌<◌, ℕ, length, cover_at, turn_at, quick_at, IsQuick}
 use Rattle.design_eval.proofs.smalls.quick_turns.Given as goal
 
 abbrev pub invariant-turns : goal.invariant-turns

@@ -1,5 +1,4 @@
-use Rattle.std.proofs.Common.{◌≡◌, ◌<◌, ◌≤◌, ℕ}
-use Rattle.design_netlist.specs.Valuations.{number_at}
+use Rattle.design_eval.proofs.Vocabulary.{◌≡◌, ◌<◌, ◌≤◌, ℕ, number_at}
 use Rattle.design_eval.proofs.table_word.are_out.Given as goal
 
 abbrev pub invariant-wires : goal.invariant-wires

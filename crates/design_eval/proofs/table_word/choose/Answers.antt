@@ -1,6 +1,4 @@
-use Rattle.std.proofs.Common.{ℕ, ◌-◌, ◌&&◌, ◌||◌, Bool, ap, ◌∙◌, bit_and, not}
-use Rattle.design_netlist.specs.Lanes.{is_bit}
-use Rattle.design_netlist.proofs.LaneLemmas.{and-bit, or-bit, not-bit}
+use Rattle.design_eval.proofs.Vocabulary.{ℕ, ◌-◌, ◌&&◌, ◌||◌, Bool, ap, ◌∙◌, bit_and, not, is_bit, and-bit, or-bit, not-bit}
 use Rattle.design_eval.proofs.TableWordLemmas.{choice-is}
 use Rattle.design_eval.proofs.table_word.choose.Goals as goal
 

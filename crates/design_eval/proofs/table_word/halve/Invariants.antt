@@ -1,6 +1,4 @@
-use Rattle.std.proofs.Common.{◌≡◌, ◌+◌, ◌*◌, ◌<◌, ◌≤◌, ℕ}
-use Rattle.design_netlist.specs.Vocabulary.{number_at, is_bit}
-use Rattle.design_eval.specs.Lanes.{chosen}
+use Rattle.design_eval.proofs.Vocabulary.{◌≡◌, ◌+◌, ◌*◌, ◌<◌, ◌≤◌, ℕ, number_at, is_bit, chosen}
 use Rattle.design_eval.proofs.table_word.halve.Given as goal
 
 abbrev pub invariant-parts : goal.invariant-parts

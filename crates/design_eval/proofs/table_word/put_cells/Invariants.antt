@@ -1,5 +1,4 @@
-use Rattle.std.proofs.Common.{◌≡◌, ◌<◌, ℕ, get_or, false}
-use Rattle.design_netlist.specs.Vocabulary.{number_at, is_bit}
+use Rattle.design_eval.proofs.Vocabulary.{◌≡◌, ◌<◌, ℕ, get_or, false, number_at, is_bit}
 use Rattle.design_eval.proofs.table_word.put_cells.Given as goal
 
 abbrev pub invariant-cells : goal.invariant-cells

@@ -1,9 +1,6 @@
 use Rattle.std.proofs.Common.{◌≡◌, ℕ, ◌+◌, ◌-◌, ◌/◌, ◌<◌, ◌≤◌, Bool, false, List, [], length, take, drop, get_or, arith, ap, subst, sym, ◌∙◌}
 use Rattle.std.proofs.lemmas.List.{length-take-le, length-drop, get_or-take, drop_all}
-use Rattle.design_netlist.specs.Vocabulary.{number_at, bit_at, is_bit, lane_bits}
-use Rattle.design_eval.specs.Lanes.{addresses}
-use Rattle.design_eval.specs.Tables.{address}
-use Rattle.design_netlist.proofs.LaneLemmas.{lane-at}
+use Rattle.design_eval.proofs.Vocabulary.{number_at, bit_at, is_bit, lane_bits, addresses, address, lane-at}
 use Rattle.design_eval.proofs.TableLemmas.{address-nil, address-below}
 use Rattle.design_eval.proofs.TableWordLemmas.{few-addresses, half-addresses, part-kept}
 use Rattle.design_eval.proofs.table_word.table_word.Goals as goal

@@ -1,7 +1,5 @@
 use Rattle.std.proofs.Common.{◌≡◌, ◌-◌, ◌<◌, ℕ, get_or, take, drop, false}
-use Rattle.design_netlist.specs.Vocabulary.{number_at, bit_at, is_bit, lane_bits}
-use Rattle.design_eval.specs.Lanes.{addresses}
-use Rattle.design_eval.specs.Tables.{address}
+use Rattle.design_eval.proofs.Vocabulary.{number_at, bit_at, is_bit, lane_bits, addresses, address}
 use Rattle.design_eval.proofs.table_word.table_word.Given as goal
 
 abbrev pub invariant-inputs : goal.invariant-inputs

@@ -1,5 +1,4 @@
-use Rattle.std.proofs.Common.{sym, ◌∙◌}
-use Rattle.design_netlist.proofs.LaneLemmas.{all-bits, no-bit}
+use Rattle.design_eval.proofs.Vocabulary.{sym, ◌∙◌, all-bits, no-bit}
 use Rattle.design_eval.proofs.table_word.whole_word.Goals as goal
 
 pub returns-then-bit : goal.returns-then-bit

@@ -1,5 +1,4 @@
-use Rattle.std.proofs.Common.{arith, get_or, ◌-◌}
-use Rattle.design_netlist.specs.Valuations.{bit_at}
+use Rattle.design_eval.proofs.Vocabulary.{arith, get_or, ◌-◌, bit_at}
 use Rattle.design_eval.proofs.TableLemmas.{address-start, address-part, address-step, bool-small}
 use Rattle.design_eval.proofs.tables.address_of.Goals as goal
 

@@ -1,6 +1,4 @@
-use Rattle.std.proofs.Common.{◌≡◌, ◌-◌, drop}
-use Rattle.design_netlist.specs.Valuations.{bit_at}
-use Rattle.design_eval.specs.Tables.{address}
+use Rattle.design_eval.proofs.Vocabulary.{◌≡◌, ◌-◌, drop, bit_at, address}
 use Rattle.design_eval.proofs.tables.address_of.Given as goal
 
 abbrev pub invariant-wires : goal.invariant-wires

@@ -1,5 +1,4 @@
-use Rattle.std.proofs.Common.{arith, refl, ◌∙◌}
-use Rattle.std.proofs.lemmas.List.{length-set}
+use Rattle.design_eval.proofs.Vocabulary.{arith, refl, ◌∙◌, length-set}
 use Rattle.design_eval.proofs.TableLemmas.{cell-is, cells-more}
 use Rattle.design_eval.proofs.tables.cells_of.Goals as goal
 

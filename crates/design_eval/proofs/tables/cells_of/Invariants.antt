@@ -1,5 +1,4 @@
-use Rattle.std.proofs.Common.{◌≡◌, ℕ, ◌<◌, take, get_or, length, false}
-use Rattle.design_eval.specs.Tables.{truth_at, six_bits}
+use Rattle.design_eval.proofs.Vocabulary.{◌≡◌, ℕ, ◌<◌, take, get_or, length, false, truth_at, six_bits}
 use Rattle.design_eval.proofs.tables.cells_of.Given as goal
 
 abbrev pub invariant-cells : goal.invariant-cells

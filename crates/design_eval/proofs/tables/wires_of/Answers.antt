@@ -1,5 +1,4 @@
-use Rattle.std.proofs.Common.{◌≡◌, ℕ, List, take, length, get_or, arith, ap, subst, ◌∙◌}
-use Rattle.std.proofs.lemmas.List.{length-set, take_all}
+use Rattle.design_eval.proofs.Vocabulary.{◌≡◌, ℕ, List, take, length, get_or, arith, ap, subst, ◌∙◌, length-set, take_all}
 use Rattle.design_eval.proofs.TableLemmas.{wires-more, rest-more}
 use Rattle.design_eval.proofs.tables.wires_of.Goals as goal
 

@@ -1,6 +1,4 @@
-use Rattle.std.proofs.Common.{length, arith, subst, sym}
-use Rattle.design_netlist.specs.Covers.{cover_at, IsCoverOver}
-use Rattle.design_eval.specs.Turns.{turn_at}
+use Rattle.design_eval.proofs.Vocabulary.{length, arith, subst, sym, cover_at, IsCoverOver, turn_at}
 use Rattle.design_eval.proofs.TurnLemmas.{place-within, out-below, turn-settles, turns-settle}
 use Rattle.design_eval.proofs.turns.settle.Goals as goal
 

@@ -1,5 +1,4 @@
-use Rattle.design_netlist.specs.Valuations.{IsSettledTo}
-use Rattle.design_eval.specs.Turns.{places}
+use Rattle.design_eval.proofs.Vocabulary.{IsSettledTo, places}
 use Rattle.design_eval.proofs.turns.settle.Given as goal
 
 abbrev pub invariant-turns : goal.invariant-turns

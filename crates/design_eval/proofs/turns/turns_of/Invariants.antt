@@ -1,5 +1,4 @@
-use Rattle.std.proofs.Common.{◌≡◌, ◌<◌, ℕ, take, length}
-use Rattle.design_eval.specs.Turns.{turn_at, places, IsTurn}
+use Rattle.design_eval.proofs.Vocabulary.{◌≡◌, ◌<◌, ℕ, take, length, turn_at, places, IsTurn}
 use Rattle.design_eval.proofs.turns.turns_of.Given as goal
 
 abbrev pub invariant-order : goal.invariant-order

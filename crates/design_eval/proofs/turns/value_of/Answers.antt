@@ -1,5 +1,4 @@
-use Rattle.std.proofs.Common.{arith}
-use Rattle.design_netlist.specs.Valuations.{bit_at}
+use Rattle.design_eval.proofs.Vocabulary.{arith, bit_at}
 use Rattle.design_eval.proofs.TableLemmas.{address-small}
 use Rattle.design_eval.proofs.turns.value_of.Goals as goal
 

@@ -1,9 +1,5 @@
-use Rattle.std.proofs.Common.{ℕ, ◌+◌, List, length, arith, ap, subst, sym, ◌∙◌}
-use Rattle.std.proofs.lemmas.List.{length-map, length-set}
-use Rattle.design_netlist.specs.declared.netlist_data.Cover.{Cover}
-use Rattle.design_netlist.specs.Vocabulary.{cover_at, truth, IsCoverOver, bit_at, IsSettledTo, is_bit, lane_bits}
-use Rattle.design_eval.specs.Turns.{turn_at, places}
-use Rattle.design_netlist.proofs.LaneLemmas.{lane-set}
+use Rattle.design_eval.proofs.Vocabulary.{ℕ, ◌+◌, List, length, arith, ap, subst, sym, ◌∙◌, length-map, length-set, Cover, cover_at, truth}
+use Rattle.design_eval.proofs.Vocabulary.{IsCoverOver, bit_at, IsSettledTo, is_bit, lane_bits, turn_at, places, lane-set}
 use Rattle.design_eval.proofs.TableWordLemmas.{not-own}
 use Rattle.design_eval.proofs.TurnLemmas.{place-within, out-below, turn-settles, turns-settle}
 use Rattle.design_eval.proofs.word_truth.settle_words.Goals as goal

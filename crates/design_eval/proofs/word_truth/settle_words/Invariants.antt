@@ -1,6 +1,4 @@
-use Rattle.std.proofs.Common.{◌≡◌, ◌<◌, ℕ, length}
-use Rattle.design_netlist.specs.Vocabulary.{IsSettledTo, lane_bits}
-use Rattle.design_eval.specs.Turns.{places}
+use Rattle.design_eval.proofs.Vocabulary.{◌≡◌, ◌<◌, ℕ, length, IsSettledTo, lane_bits, places}
 use Rattle.design_eval.proofs.word_truth.settle_words.Given as goal
 
 abbrev pub invariant-turns : goal.invariant-turns

@@ -1,5 +1,4 @@
-use Rattle.std.proofs.Common.{length, sym, refl, ◌∙◌}
-use Rattle.design_netlist.specs.Vocabulary.{bit_at, lane_bits}
+use Rattle.design_eval.proofs.Vocabulary.{length, sym, refl, ◌∙◌, bit_at, lane_bits}
 use Rattle.design_eval.proofs.TableWordLemmas.{table-truth}
 use Rattle.design_eval.proofs.word_truth.short_word.Goals as goal
 

@@ -1,5 +1,4 @@
-use Rattle.std.proofs.Common.{◌∙◌, ap, map}
-use Rattle.design_flatten.specs.Vocabulary.{line_in, lean_line}
+use Rattle.design_flatten.proofs.Vocabulary.{◌∙◌, ap, map, line_in, lean_line}
 use Rattle.design_flatten.proofs.bodies.body_of.Goals as goal
 
 pub returns : goal.returns

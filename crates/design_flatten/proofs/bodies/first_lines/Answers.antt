@@ -1,5 +1,4 @@
-use Rattle.std.proofs.Common.{◌≡◌, sym, subst, map, IfOk}
-use Rattle.design_flatten.specs.Vocabulary.{ordered_lines, line_in}
+use Rattle.design_flatten.proofs.Vocabulary.{◌≡◌, sym, subst, map, IfOk, ordered_lines, line_in}
 use Rattle.design_flatten.proofs.FrameLemmas.{first_found}
 use Rattle.design_flatten.proofs.bodies.first_lines.Goals as goal
 

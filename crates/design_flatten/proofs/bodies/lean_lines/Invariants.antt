@@ -1,5 +1,4 @@
-use Rattle.std.proofs.Common.{◌≡◌, map, take}
-use Rattle.design_flatten.specs.Vocabulary.{line_in, lean_line, lean_in}
+use Rattle.design_flatten.proofs.Vocabulary.{◌≡◌, map, take, line_in, lean_line, lean_in}
 use Rattle.design_flatten.proofs.bodies.lean_lines.Given as goal
 
 abbrev pub invariant-lines : goal.invariant-lines

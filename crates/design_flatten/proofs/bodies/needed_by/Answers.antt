@@ -1,12 +1,6 @@
-use Rattle.std.proofs.Common.{◌≡◌, ◌∙◌, ap, sym, subst, map, false, Some, None, List, ℕ, IfOk}
-use Rattle.std.specs.List.{filter}
-use Rattle.std.specs.Option.{option_copied}
-use Rattle.design_flatten.specs.declared.model.PairDef.{PairDef}
-use Rattle.design_flatten.specs.Vocabulary.{is_among, names_of, IsKnown, names_within, is_needed}
-use Rattle.design_flatten.specs.UseLines.{looked_up}
-use Rattle.design_flatten.proofs.NameLemmas.{among_set}
-use Rattle.design_flatten.proofs.UseLemmas.{none_named}
-use Rattle.design_flatten.proofs.BodyLemmas.{none_needed}
+use Rattle.design_flatten.proofs.Vocabulary.{◌≡◌, ◌∙◌, ap, sym, subst, map, false, Some, None, List, ℕ, IfOk, filter, option_copied}
+use Rattle.design_flatten.proofs.Vocabulary.{PairDef, is_among, names_of, IsKnown, names_within, is_needed, looked_up}
+use Rattle.design_flatten.proofs.{NameLemmas.among_set, UseLemmas.none_named, BodyLemmas.none_needed}
 use Rattle.design_flatten.proofs.bodies.needed_by.Goals as goal
 
 pub returns-in-Some : goal.returns-in-Some

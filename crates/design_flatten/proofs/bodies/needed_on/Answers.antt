@@ -1,7 +1,6 @@
 use Rattle.std.proofs.Common.{◌≡◌, ◌∙◌, ap, sym, map, false, []}
 use Rattle.design_flatten.specs.Vocabulary.{UsePart, is_use, pair_of, part_in, lean_part, is_needed, with_pairs}
-use Rattle.design_flatten.proofs.LeanLemmas.{filter-defs, lean_plain_part}
-use Rattle.design_flatten.proofs.BodyLemmas.{plain_pairs, pairs_of}
+use Rattle.design_flatten.proofs.{LeanLemmas.filter-defs, LeanLemmas.lean_plain_part, BodyLemmas.plain_pairs, BodyLemmas.pairs_of}
 use Rattle.design_flatten.proofs.bodies.needed_on.Goals as goal
 
 pub returns-in_default : goal.returns-in_default

@@ -1,6 +1,4 @@
-use Rattle.std.proofs.Common.{◌≡◌, map, take}
-use Rattle.std.specs.List.{filter}
-use Rattle.design_flatten.specs.Uses.{is_among}
+use Rattle.design_flatten.proofs.Vocabulary.{◌≡◌, map, take, filter, is_among}
 use Rattle.design_flatten.proofs.bodies.pairs_among.Given as goal
 
 abbrev pub invariant-pairs : goal.invariant-pairs

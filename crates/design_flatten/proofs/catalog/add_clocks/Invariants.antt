@@ -1,5 +1,4 @@
-use Rattle.std.proofs.Common.{◌≡◌, take}
-use Rattle.design_flatten.specs.NameSets.{with_names}
+use Rattle.design_flatten.proofs.Vocabulary.{◌≡◌, take, with_names}
 use Rattle.design_flatten.proofs.catalog.add_clocks.Given as goal
 
 abbrev pub invariant-clocks : goal.invariant-clocks

@@ -1,5 +1,4 @@
-use Rattle.std.proofs.Common.{◌≡◌, map, take, [], get_or}
-use Rattle.design_flatten.specs.NameSets.{with_names}
+use Rattle.design_flatten.proofs.Vocabulary.{◌≡◌, map, take, [], get_or, with_names}
 use Rattle.design_flatten.proofs.catalog.add_ports.Given as goal
 
 abbrev pub invariant-ports : goal.invariant-ports

@@ -1,5 +1,4 @@
-use Rattle.std.proofs.Common.{◌++◌, ◌∷◌, [], Some, subst, sym}
-use Rattle.design_flatten.specs.Clocks.{clocked_in, AreFirstClocks, other_with}
+use Rattle.design_flatten.proofs.Vocabulary.{◌++◌, ◌∷◌, [], Some, subst, sym, clocked_in, AreFirstClocks, other_with}
 use Rattle.design_flatten.proofs.ClockLemmas.{clock_more}
 use Rattle.design_flatten.proofs.clocks.add_clock.Goals as goal
 

@@ -1,5 +1,4 @@
-use Rattle.std.proofs.Common.{◌≡◌, None, sym, ◌∙◌}
-use Rattle.design_flatten.specs.Clocks.{at_name}
+use Rattle.design_flatten.proofs.Vocabulary.{◌≡◌, None, sym, ◌∙◌, at_name}
 use Rattle.design_flatten.proofs.ClockLemmas.{added_place, absent_place}
 use Rattle.design_flatten.proofs.clocks.add_name.Goals as goal
 

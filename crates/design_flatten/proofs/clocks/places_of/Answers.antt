@@ -1,8 +1,5 @@
 use Rattle.std.proofs.Common.{◌≡◌, ◌∙◌, ◌+◌, ◌++◌, ◌∷◌, [], ap, sym, take, length, arith, Some, None, cond}
-use Rattle.std.proofs.lemmas.List.{take_more, length-take-le}
-use Rattle.std.specs.Option.{option_or}
-use Rattle.std.specs.Str.{bytes_eq}
-use Rattle.design_flatten.specs.Clocks.{place_in}
+use Rattle.design_flatten.proofs.Vocabulary.{take_more, length-take-le, option_or, bytes_eq, place_in}
 use Rattle.design_flatten.proofs.ClockLemmas.{place_push}
 use Rattle.design_flatten.proofs.clocks.places_of.Goals as goal
 

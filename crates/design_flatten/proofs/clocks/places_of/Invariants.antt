@@ -1,5 +1,4 @@
-use Rattle.std.proofs.Common.{◌≡◌, ℕ, List, take}
-use Rattle.design_flatten.specs.Clocks.{at_name, place_in}
+use Rattle.design_flatten.proofs.Vocabulary.{◌≡◌, ℕ, List, take, at_name, place_in}
 use Rattle.design_flatten.proofs.clocks.places_of.Given as goal
 
 abbrev pub invariant-names : goal.invariant-names

@@ -1,5 +1,4 @@
-use Rattle.std.proofs.Common.{◌≡◌, ◌∙◌, None, Some, ap, sym, subst}
-use Rattle.design_flatten.specs.Vocabulary.{control_of, control_is, place_in}
+use Rattle.design_flatten.proofs.Vocabulary.{◌≡◌, ◌∙◌, None, Some, ap, sym, subst, control_of, control_is, place_in}
 use Rattle.design_flatten.proofs.ClockLemmas.{named_is}
 use Rattle.design_flatten.proofs.clocks.resolve_control.Goals as goal
 

@@ -1,6 +1,4 @@
-use Rattle.std.proofs.Common.{sym, subst}
-use Rattle.std.proofs.lemmas.Result.{err_from_is_err_and}
-use Rattle.design_flatten.specs.Vocabulary.{IsNetlistOf, IsReading}
+use Rattle.design_flatten.proofs.Vocabulary.{sym, subst, err_from_is_err_and, IsNetlistOf, IsReading}
 use Rattle.design_flatten.proofs.ReadLemmas.{found_is, refused_is, only_is}
 use Rattle.design_flatten.proofs.design.flatten.Goals as goal
 

@@ -1,5 +1,4 @@
-use Rattle.std.proofs.Common.{◌≡◌, ℕ, vec_len}
-use Rattle.design_flatten.specs.Drives.{first_at}
+use Rattle.design_flatten.proofs.Vocabulary.{◌≡◌, ℕ, vec_len, first_at}
 use Rattle.design_flatten.proofs.drives.make_room.Given as goal
 
 abbrev pub invariant-room : goal.invariant-room

@@ -1,7 +1,5 @@
-use Rattle.std.proofs.Common.{◌≡◌, ◌∙◌, ap, sym, subst, map, false, None}
-use Rattle.std.specs.Option.{option_copied}
+use Rattle.design_flatten.proofs.Vocabulary.{◌≡◌, ◌∙◌, ap, sym, subst, map, false, None, option_copied, looked_up}
 use Rattle.design_flatten.specs.Vocabulary.{pair_of, is_among, formal_fault, names_of, IsKnown}
-use Rattle.design_flatten.specs.UseLines.{looked_up}
 use Rattle.design_flatten.proofs.UseLemmas.{none_named}
 use Rattle.design_flatten.proofs.formals.fault_of.Goals as goal
 

@@ -1,5 +1,4 @@
-use Rattle.std.proofs.Common.{◌≡◌, map, drop, get_or, []}
-use Rattle.design_flatten.specs.UseFaults.{first_missing}
+use Rattle.design_flatten.proofs.Vocabulary.{◌≡◌, map, drop, get_or, [], first_missing}
 use Rattle.design_flatten.proofs.formals.first_missing.Given as goal
 
 abbrev pub invariant-inputs : goal.invariant-inputs

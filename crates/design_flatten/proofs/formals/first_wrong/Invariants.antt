@@ -1,5 +1,4 @@
-use Rattle.std.proofs.Common.{◌≡◌, take, drop, []}
-use Rattle.design_flatten.specs.Vocabulary.{first_wrong, with_names, formals_in}
+use Rattle.design_flatten.proofs.Vocabulary.{◌≡◌, take, drop, [], first_wrong, with_names, formals_in}
 use Rattle.design_flatten.proofs.formals.first_wrong.Given as goal
 
 abbrev pub invariant-pairs : goal.invariant-pairs

@@ -1,5 +1,4 @@
-use Rattle.std.proofs.Common.{◌≡◌, ◌∙◌, ap, sym, subst, map, IsSome}
-use Rattle.design_netlist.proofs.OrderLemmas.{first_more}
+use Rattle.design_flatten.proofs.Vocabulary.{◌≡◌, ◌∙◌, ap, sym, subst, map, IsSome, first_more}
 use Rattle.design_flatten.specs.Vocabulary.{model_named, Use, formal_fault, use_in, listed, number_at, shown}
 use Rattle.design_flatten.proofs.UseLemmas.{listed_is, some_shown, shown_some}
 use Rattle.design_flatten.proofs.formals.first_wrongly_given.Goals as goal

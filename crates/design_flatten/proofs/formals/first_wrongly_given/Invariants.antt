@@ -1,6 +1,4 @@
-use Rattle.std.proofs.Common.{map, IsSome}
-use Rattle.design_netlist.specs.Orders.{IsFirst}
-use Rattle.design_flatten.specs.Vocabulary.{model_named, formal_fault, use_in, listed, number_at}
+use Rattle.design_flatten.proofs.Vocabulary.{map, IsSome, IsFirst, model_named, formal_fault, use_in, listed, number_at}
 use Rattle.design_flatten.proofs.formals.first_wrongly_given.Given as goal
 
 abbrev pub invariant-uses : goal.invariant-uses

@@ -1,5 +1,4 @@
-use Rattle.std.proofs.Common.{◌∙◌}
-use Rattle.design_flatten.specs.UseLines.{formals_in}
+use Rattle.design_flatten.proofs.Vocabulary.{◌∙◌, formals_in}
 use Rattle.design_flatten.proofs.FormalLemmas.{fault_wrong, fault_missing}
 use Rattle.design_flatten.proofs.formals.formal_fault.Goals as goal
 

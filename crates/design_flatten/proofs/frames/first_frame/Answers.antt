@@ -1,8 +1,5 @@
-use Rattle.std.proofs.Common.{◌∙◌, ap, sym, map}
-use Rattle.design_flatten.specs.declared.model.Model.{Model}
-use Rattle.design_flatten.specs.Vocabulary.{with_places, through, lines_at, at_first, first_model, lean_in}
-use Rattle.design_flatten.proofs.FrameLemmas.{place_is}
-use Rattle.design_flatten.proofs.LeanLemmas.{lean_first, ordered_lean}
+use Rattle.design_flatten.proofs.Vocabulary.{◌∙◌, ap, sym, map, Model, with_places, through, lines_at, at_first, first_model, lean_in}
+use Rattle.design_flatten.proofs.{FrameLemmas.place_is, LeanLemmas.lean_first, LeanLemmas.ordered_lean}
 use Rattle.design_flatten.proofs.frames.first_frame.Goals as goal
 
 pub returns-clause-names : goal.returns-clause-names

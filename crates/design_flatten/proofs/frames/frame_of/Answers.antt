@@ -1,8 +1,6 @@
-use Rattle.std.proofs.Common.{◌∙◌, ap, sym, map}
-use Rattle.design_flatten.specs.declared.model.Model.{Model}
+use Rattle.design_flatten.proofs.Vocabulary.{◌∙◌, ap, sym, map, Model}
 use Rattle.design_flatten.specs.Vocabulary.{place_of, with_places, through, lines_at, without_ports, model_named, lean_model, lean_in}
-use Rattle.design_flatten.proofs.FrameLemmas.{pieces_at}
-use Rattle.design_flatten.proofs.LeanLemmas.{lean_named, pieces_lean}
+use Rattle.design_flatten.proofs.{FrameLemmas.pieces_at, LeanLemmas.lean_named, LeanLemmas.pieces_lean}
 use Rattle.design_flatten.proofs.frames.frame_of.Goals as goal
 
 pub returns-clause-names : goal.returns-clause-names

@@ -1,5 +1,4 @@
-use Rattle.std.proofs.Common.{◌<◌, ◌∙◌, length, arith, []}
-use Rattle.design_flatten.specs.Vocabulary.{place_of, becomes}
+use Rattle.design_flatten.proofs.Vocabulary.{◌<◌, ◌∙◌, length, arith, [], place_of, becomes}
 use Rattle.design_flatten.proofs.WorkLemmas.{given_more}
 use Rattle.design_flatten.proofs.frames.given_by.Goals as goal
 

@@ -1,6 +1,5 @@
-use Rattle.std.proofs.Common.{◌≡◌, ℕ, List, [], map, take}
+use Rattle.design_flatten.proofs.Vocabulary.{◌≡◌, ℕ, List, [], map, take, place_of, pair_of, becomes, pair_through, given}
 use Rattle.design_flatten.specs.Given.{looked_up}
-use Rattle.design_flatten.specs.Vocabulary.{place_of, pair_of, becomes, pair_through, given}
 use Rattle.design_flatten.proofs.frames.given_by.Given as goal
 
 abbrev pub invariant-pairs : goal.invariant-pairs

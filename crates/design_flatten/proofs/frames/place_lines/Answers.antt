@@ -1,6 +1,5 @@
 use Rattle.std.proofs.Common.{◌≡◌, ◌<◌, ◌≤◌, ◌∙◌, ap, refl, sym, map, arith, ◌++◌, ◌∷◌, [], ◌+◌, length, append_assoc, false, get_or}
-use Rattle.std.proofs.lemmas.List.{append-nil}
-use Rattle.std.proofs.lemmas.Result.{err_from_is_err_and}
+use Rattle.design_flatten.proofs.Vocabulary.{append-nil, err_from_is_err_and}
 use Rattle.design_flatten.specs.Vocabulary.{place_of, is_use, pair_of, UsePart, line_in, part_in, with_pairs, lean_in, left_from, left_in, becomes, pair_through, through}
 use Rattle.design_flatten.proofs.WorkLemmas.{nothing_left, next_plain, next_use, plain_through, refused_line}
 use Rattle.design_flatten.proofs.frames.place_lines.Goals as goal

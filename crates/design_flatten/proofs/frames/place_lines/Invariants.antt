@@ -1,6 +1,4 @@
-use Rattle.std.proofs.Common.{◌≡◌, ◌++◌, ℕ, List}
-use Rattle.design_flatten.specs.declared.model.Signal.{Signal}
-use Rattle.design_flatten.specs.Vocabulary.{Line, left_from, left_in, IsSink}
+use Rattle.design_flatten.proofs.Vocabulary.{◌≡◌, ◌++◌, ℕ, List, Signal, Line, left_from, left_in, IsSink}
 use Rattle.design_flatten.proofs.frames.place_lines.Given as goal
 
 abbrev pub invariant-lines : goal.invariant-lines

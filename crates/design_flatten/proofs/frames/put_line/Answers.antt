@@ -1,5 +1,4 @@
-use Rattle.std.proofs.Common.{◌≡◌, subst, IfErr, OnOk}
-use Rattle.design_flatten.specs.Vocabulary.{place_of, line_in, placed_line, IsPut, IsOverWith, through}
+use Rattle.design_flatten.proofs.Vocabulary.{◌≡◌, subst, IfErr, OnOk, place_of, line_in, placed_line, IsPut, IsOverWith, through}
 use Rattle.design_flatten.proofs.frames.put_line.Goals as goal
 
 pub returns-in-Some-clause-ok : goal.returns-in-Some-clause-ok

@@ -1,9 +1,5 @@
 use Rattle.std.proofs.Common.{◌≡◌, ◌∙◌, ap, sym, map, take, ◌++◌, ◌∷◌, [], List, length, get_or, ◌<◌, ◌+◌, ℕ}
-use Rattle.std.specs.List.{flat_map}
-use Rattle.std.proofs.lemmas.List.{map_push, take_more, append-nil}
-use Rattle.std.proofs.lemmas.List.Concat.{flat_map-append}
-use Rattle.design_flatten.specs.declared.model.Signal.{Signal}
-use Rattle.design_flatten.specs.declared.placed.Placed.{Placed}
+use Rattle.design_flatten.proofs.Vocabulary.{flat_map, map_push, take_more, append-nil, flat_map-append, Signal, Placed}
 use Rattle.design_flatten.specs.Vocabulary.{Line, input_on, output_on, cover_on, latch_on, placed_line}
 use Rattle.design_flatten.proofs.lists.lists_of.Goals as goal
 

@@ -1,5 +1,4 @@
-use Rattle.std.proofs.Common.{map, take}
-use Rattle.design_flatten.specs.Vocabulary.{AreLists, placed_line}
+use Rattle.design_flatten.proofs.Vocabulary.{map, take, AreLists, placed_line}
 use Rattle.design_flatten.proofs.lists.lists_of.Given as goal
 
 abbrev pub invariant-placed : goal.invariant-placed

@@ -1,6 +1,4 @@
-use Rattle.std.proofs.Common.{◌∙◌, ap, sym, map, take, ◌++◌, ◌∷◌, []}
-use Rattle.std.proofs.lemmas.List.{map_push, take_more}
-use Rattle.design_flatten.specs.Signals.{signal_number}
+use Rattle.design_flatten.proofs.Vocabulary.{◌∙◌, ap, sym, map, take, ◌++◌, ◌∷◌, [], map_push, take_more, signal_number}
 use Rattle.design_flatten.proofs.lists.numbers.Goals as goal
 
 pub words-preserved : goal.words-preserved

@@ -1,5 +1,4 @@
-use Rattle.std.proofs.Common.{◌≡◌, map, take}
-use Rattle.design_flatten.specs.Signals.{signal_number}
+use Rattle.design_flatten.proofs.Vocabulary.{◌≡◌, map, take, signal_number}
 use Rattle.design_flatten.proofs.lists.numbers.Given as goal
 
 abbrev pub invariant-words : goal.invariant-words

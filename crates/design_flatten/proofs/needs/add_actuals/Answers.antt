@@ -1,5 +1,4 @@
-use Rattle.std.proofs.Common.{◌∙◌, ◌++◌, ◌∷◌, [], ap, sym, take, get_or}
-use Rattle.std.proofs.lemmas.List.{take_more}
+use Rattle.design_flatten.proofs.Vocabulary.{◌∙◌, ◌++◌, ◌∷◌, [], ap, sym, take, get_or, take_more}
 use Rattle.design_flatten.proofs.MarkLemmas.{taken_next}
 use Rattle.design_flatten.proofs.needs.add_actuals.Goals as goal
 

@@ -1,6 +1,4 @@
-use Rattle.std.proofs.Common.{◌∙◌, refl, ap}
-use Rattle.design_flatten.specs.declared.needs.Marked.{Marked}
-use Rattle.design_flatten.specs.NameSets.{with_name}
+use Rattle.design_flatten.proofs.Vocabulary.{◌∙◌, refl, ap, Marked, with_name}
 use Rattle.design_flatten.proofs.MarkLemmas.{new_taken}
 use Rattle.design_flatten.proofs.needs.add_signal.Goals as goal
 

@@ -1,5 +1,4 @@
-use Rattle.std.proofs.Common.{get_or, []}
-use Rattle.std.proofs.lemmas.List.{take_more}
+use Rattle.design_flatten.proofs.Vocabulary.{get_or, [], take_more}
 use Rattle.design_flatten.proofs.MarkLemmas.{taken_next}
 use Rattle.design_flatten.proofs.needs.add_signals.Goals as goal
 

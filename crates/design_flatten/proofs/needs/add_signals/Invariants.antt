@@ -1,5 +1,4 @@
-use Rattle.std.proofs.Common.{map, take, [], get_or}
-use Rattle.design_flatten.specs.Marks.{HasTaken}
+use Rattle.design_flatten.proofs.Vocabulary.{map, take, [], get_or, HasTaken}
 use Rattle.design_flatten.proofs.needs.add_signals.Given as goal
 
 abbrev pub invariant-signals : goal.invariant-signals

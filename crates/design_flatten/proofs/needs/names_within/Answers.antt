@@ -1,6 +1,4 @@
-use Rattle.std.proofs.Common.{◌∙◌, ◌++◌, ◌∷◌, [], ap, sym, take}
-use Rattle.std.proofs.lemmas.List.{take_more}
-use Rattle.design_flatten.specs.Needs.{names_on}
+use Rattle.design_flatten.proofs.Vocabulary.{◌∙◌, ◌++◌, ◌∷◌, [], ap, sym, take, take_more, names_on}
 use Rattle.design_flatten.proofs.MarkLemmas.{all_taken}
 use Rattle.design_flatten.proofs.needs.names_within.Goals as goal
 

@@ -1,6 +1,4 @@
-use Rattle.std.proofs.Common.{◌≡◌, [], take}
-use Rattle.std.specs.List.{flat_map}
-use Rattle.design_flatten.specs.Vocabulary.{with_names, names_on, AreRightMarks}
+use Rattle.design_flatten.proofs.Vocabulary.{◌≡◌, [], take, flat_map, with_names, names_on, AreRightMarks}
 use Rattle.design_flatten.proofs.needs.names_within.Given as goal
 
 abbrev pub invariant-pieces : goal.invariant-pieces

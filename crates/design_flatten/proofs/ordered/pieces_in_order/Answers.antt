@@ -1,5 +1,4 @@
-use Rattle.std.proofs.Common.{◌≡◌, ◌∙◌, ap, refl, map}
-use Rattle.design_flatten.specs.Vocabulary.{number_of_line, piece_line, in_order, line_in}
+use Rattle.design_flatten.proofs.Vocabulary.{◌≡◌, ◌∙◌, ap, refl, map, number_of_line, piece_line, in_order, line_in}
 use Rattle.design_flatten.proofs.ordered.pieces_in_order.Goals as goal
 
 pub returns : goal.returns

@@ -1,5 +1,4 @@
-use Rattle.std.proofs.Common.{◌≡◌, ◌++◌, map, take}
-use Rattle.design_flatten.specs.Vocabulary.{input_line, line_in}
+use Rattle.design_flatten.proofs.Vocabulary.{◌≡◌, ◌++◌, map, take, input_line, line_in}
 use Rattle.design_flatten.proofs.ordered.push_inputs.Given as goal
 
 abbrev pub invariant-ports : goal.invariant-ports

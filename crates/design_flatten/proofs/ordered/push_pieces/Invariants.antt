@@ -1,5 +1,4 @@
-use Rattle.std.proofs.Common.{◌≡◌, ◌++◌, map, take}
-use Rattle.design_flatten.specs.Vocabulary.{piece_line, line_in}
+use Rattle.design_flatten.proofs.Vocabulary.{◌≡◌, ◌++◌, map, take, piece_line, line_in}
 use Rattle.design_flatten.proofs.ordered.push_pieces.Given as goal
 
 abbrev pub invariant-pieces : goal.invariant-pieces

@@ -1,6 +1,5 @@
-use Rattle.std.proofs.Common.{◌∙◌, ap, refl, rules, map}
+use Rattle.design_flatten.proofs.Vocabulary.{◌∙◌, ap, refl, rules, map, number_of_line, line_in}
 use Rattle.std.proofs.lemmas.List.Sorted.{answers_always, IsNonDecreasingBy-from_sort}
-use Rattle.design_flatten.specs.Vocabulary.{number_of_line, line_in}
 use Rattle.design_flatten.proofs.OrderLemmas.{in_order-from_sort, in_order-map}
 use Rattle.design_flatten.proofs.ordered.sort.Goals as goal
 

@@ -1,5 +1,4 @@
-use Rattle.std.proofs.Common.{◌≡◌, [], map, take}
-use Rattle.design_flatten.specs.Vocabulary.{place_of, becomes}
+use Rattle.design_flatten.proofs.Vocabulary.{◌≡◌, [], map, take, place_of, becomes}
 use Rattle.design_flatten.proofs.placed.signals_of.Given as goal
 
 abbrev pub invariant-signals : goal.invariant-signals

@@ -1,6 +1,4 @@
-use Rattle.std.proofs.Common.{◌∙◌, ◌++◌, ◌∷◌, [], ap, sym, map, take}
-use Rattle.std.proofs.lemmas.List.{map_push, take_more}
-use Rattle.design_flatten.specs.Origins.{shared_as}
+use Rattle.design_flatten.proofs.Vocabulary.{◌∙◌, ◌++◌, ◌∷◌, [], ap, sym, map, take, map_push, take_more, shared_as}
 use Rattle.design_flatten.proofs.printed.all_shared.Goals as goal
 
 pub signals-preserved : goal.signals-preserved

@@ -1,6 +1,4 @@
-use Rattle.std.proofs.Common.{◌≡◌, List, map, take}
-use Rattle.design_flatten.specs.declared.model.Model.{Model}
-use Rattle.design_flatten.specs.Vocabulary.{first_model, AreAllOrigins, shared_as}
+use Rattle.design_flatten.proofs.Vocabulary.{◌≡◌, List, map, take, Model, first_model, AreAllOrigins, shared_as}
 use Rattle.design_flatten.proofs.printed.all_shared.Given as goal
 
 abbrev pub invariant-signals : goal.invariant-signals

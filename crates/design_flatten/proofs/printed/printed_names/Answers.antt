@@ -1,5 +1,4 @@
-use Rattle.std.proofs.Common.{◌∙◌, ap, map}
-use Rattle.design_netlist.specs.Names.{texts_of, whole}
+use Rattle.design_flatten.proofs.Vocabulary.{◌∙◌, ap, map, texts_of, whole}
 use Rattle.design_flatten.proofs.PrintLemmas.{all_ways, names_are}
 use Rattle.design_flatten.proofs.printed.printed_names.Goals as goal
 

@@ -1,8 +1,5 @@
 use Rattle.std.proofs.Common.{◌≡◌, ◌+◌, ◌∙◌, ◌++◌, ◌∷◌, [], ap, sym, subst, length, get_or}
-use Rattle.std.proofs.lemmas.List.{length_push}
-use Rattle.std.proofs.lemmas.List.Sums.{fold-append}
-use Rattle.design_netlist.specs.Names.{with_text, texts_of}
-use Rattle.design_flatten.specs.Origins.{IsOrigin, AreWays, step_to}
+use Rattle.design_flatten.proofs.Vocabulary.{length_push, fold-append, with_text, texts_of, IsOrigin, AreWays, step_to}
 use Rattle.design_flatten.proofs.PrintLemmas.{ways_more}
 use Rattle.design_flatten.proofs.printed.ways_of.Goals as goal
 

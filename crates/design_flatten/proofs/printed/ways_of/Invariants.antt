@@ -1,7 +1,4 @@
-use Rattle.std.proofs.Common.{◌≡◌, List, length}
-use Rattle.design_netlist.specs.Names.{texts_of}
-use Rattle.design_flatten.specs.declared.model.Model.{Model}
-use Rattle.design_flatten.specs.Origins.{AreOrigins, AreWays}
+use Rattle.design_flatten.proofs.Vocabulary.{◌≡◌, List, length, texts_of, Model, AreOrigins, AreWays}
 use Rattle.design_flatten.proofs.printed.ways_of.Given as goal
 
 abbrev pub invariant-origins : goal.invariant-origins

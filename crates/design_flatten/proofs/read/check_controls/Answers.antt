@@ -1,7 +1,5 @@
-use Rattle.std.proofs.Common.{Some, subst}
-use Rattle.design_flatten.specs.Vocabulary.{controls_of, IsControlAnswer, lines_of}
-use Rattle.design_flatten.proofs.ClockLemmas.{answer_is}
-use Rattle.design_flatten.proofs.ReadLemmas.{not_other}
+use Rattle.design_flatten.proofs.Vocabulary.{Some, subst, controls_of, IsControlAnswer, lines_of}
+use Rattle.design_flatten.proofs.{ClockLemmas.answer_is, ReadLemmas.not_other}
 use Rattle.design_flatten.proofs.read.check_controls.Goals as goal
 
 pub returns-in-None-clause-ok : goal.returns-in-None-clause-ok

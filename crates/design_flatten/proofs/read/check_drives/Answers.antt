@@ -1,10 +1,6 @@
-use Rattle.std.proofs.Common.{◌<◌, ◌∙◌, ap, arith, length, Some, [], get_or, subst}
-use Rattle.std.proofs.lemmas.List.{length-map}
-use Rattle.design_netlist.specs.declared.netlist_data.PortDef.{PortDef}
-use Rattle.design_netlist.specs.Vocabulary.{word, signal_at, IsDoubledIn}
-use Rattle.design_flatten.specs.Vocabulary.{printed, IsFirstWord, signals_of, lines_of, drives_in, name_in}
-use Rattle.design_flatten.proofs.MadeLemmas.{drives_below}
-use Rattle.design_flatten.proofs.ReadLemmas.{word_fault}
+use Rattle.design_flatten.proofs.Vocabulary.{◌<◌, ◌∙◌, ap, arith, length, Some, [], get_or, subst, length-map, PortDef, word, signal_at}
+use Rattle.design_flatten.proofs.Vocabulary.{IsDoubledIn, printed, IsFirstWord, signals_of, lines_of, drives_in, name_in}
+use Rattle.design_flatten.proofs.{MadeLemmas.drives_below, ReadLemmas.word_fault}
 use Rattle.design_flatten.proofs.read.check_drives.Goals as goal
 
 pub returns-in_default-clause-undoubled : goal.returns-in_default-clause-undoubled

@@ -1,13 +1,8 @@
 use Rattle.std.proofs.Common.{◌≡◌, ◌<◌, ◌∙◌, ap, sym, arith, length, map, fold, None, [], get_or}
-use Rattle.std.specs.List.{flat_map}
-use Rattle.std.proofs.lemmas.List.{length-map}
-use Rattle.design_netlist.specs.declared.netlist_data.PortDef.{PortDef}
-use Rattle.design_netlist.specs.Vocabulary.{word, signal_at, sooner}
+use Rattle.design_flatten.proofs.Vocabulary.{flat_map, length-map, PortDef, word, signal_at, sooner}
 use Rattle.design_flatten.specs.Vocabulary.{printed, places_of, placed_line, signals_of, lines_of, read_on, drives_in, reads_in, name_in}
-use Rattle.design_flatten.proofs.MadeLemmas.{reads_below}
-use Rattle.design_flatten.proofs.WordLemmas.{undriven_word, none_undriven}
+use Rattle.design_flatten.proofs.{MadeLemmas.reads_below, WordLemmas.undriven_word, WordLemmas.none_undriven, ReadLemmas.read_fault}
 use Rattle.design_flatten.proofs.DriveLemmas.{table_is}
-use Rattle.design_flatten.proofs.ReadLemmas.{read_fault}
 use Rattle.design_flatten.proofs.read.check_reads.Goals as goal
 
 pub returns-in_default-clause-driven : goal.returns-in_default-clause-driven

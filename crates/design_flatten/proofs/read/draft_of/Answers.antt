@@ -1,5 +1,4 @@
-use Rattle.std.proofs.Common.{◌≡◌, ◌∙◌, ap, map}
-use Rattle.std.specs.List.{flat_map}
+use Rattle.design_flatten.proofs.Vocabulary.{◌≡◌, ◌∙◌, ap, map, flat_map}
 use Rattle.design_flatten.specs.Vocabulary.{placed_line, signals_of, lines_of, input_on, output_on, cover_on, latch_on}
 use Rattle.design_flatten.proofs.read.draft_of.Goals as goal
 

@@ -1,5 +1,4 @@
-use Rattle.std.proofs.Common.{◌∙◌, ap, sym, subst, map}
-use Rattle.design_flatten.specs.Vocabulary.{printed, AreAllOrigins, replaced_in, lines_of}
+use Rattle.design_flatten.proofs.Vocabulary.{◌∙◌, ap, sym, subst, map, printed, AreAllOrigins, replaced_in, lines_of}
 use Rattle.design_flatten.proofs.PrintLemmas.{all_origins}
 use Rattle.design_flatten.proofs.read.names_of.Goals as goal
 

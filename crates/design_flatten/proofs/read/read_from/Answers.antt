@@ -1,5 +1,4 @@
-use Rattle.std.proofs.lemmas.Result.{err_from_is_err_and}
-use Rattle.design_flatten.specs.Origins.{lines_of}
+use Rattle.design_flatten.proofs.Vocabulary.{err_from_is_err_and, lines_of}
 use Rattle.design_flatten.proofs.ReadLemmas.{within_is, its_controls, clean_words, readings_are, made_are}
 use Rattle.design_flatten.proofs.read.read_from.Goals as goal
 

@@ -1,6 +1,4 @@
-use Rattle.std.proofs.Common.{◌≡◌, ◌∙◌, length, map, set, subst, arith}
-use Rattle.design_netlist.specs.Covers.{cover_at}
-use Rattle.design_flatten.specs.Vocabulary.{AreLinked, with_input, use_in}
+use Rattle.design_flatten.proofs.Vocabulary.{◌≡◌, ◌∙◌, length, map, set, subst, arith, cover_at, AreLinked, with_input, use_in}
 use Rattle.design_flatten.proofs.LinkLemmas.{both_less, linked_here}
 use Rattle.design_flatten.proofs.recursion.covers_of.Goals as goal
 

@@ -1,5 +1,4 @@
-use Rattle.std.proofs.Common.{map}
-use Rattle.design_flatten.specs.Vocabulary.{AreLinked, use_in}
+use Rattle.design_flatten.proofs.Vocabulary.{map, AreLinked, use_in}
 use Rattle.design_flatten.proofs.recursion.covers_of.Given as goal
 
 abbrev pub invariant-uses : goal.invariant-uses

@@ -1,6 +1,4 @@
-use Rattle.std.proofs.Common.{◌≡◌, length, map, sym, subst, arith}
-use Rattle.std.proofs.lemmas.List.{length-map}
-use Rattle.design_netlist.specs.Groups.{AreGroups}
+use Rattle.design_flatten.proofs.Vocabulary.{◌≡◌, length, map, sym, subst, arith, length-map, AreGroups}
 use Rattle.design_flatten.specs.Vocabulary.{AreLinked, group_at, use_in, listed, IsFirstListed}
 use Rattle.design_flatten.proofs.LinkLemmas.{inputs_less, first_found}
 use Rattle.design_flatten.proofs.recursion.first_again.Goals as goal

@@ -1,7 +1,4 @@
-use Rattle.std.proofs.Common.{◌≡◌, ◌∙◌, sym, ap, map, eqb}
-use Rattle.std.proofs.lemmas.Bool.{eqb-true, eq-eqb}
-use Rattle.design_netlist.proofs.OrderLemmas.{first_more}
-use Rattle.design_flatten.specs.Vocabulary.{group_at, use_in, listed, number_at}
+use Rattle.design_flatten.proofs.Vocabulary.{◌≡◌, ◌∙◌, sym, ap, map, eqb, eqb-true, eq-eqb, first_more, group_at, use_in, listed, number_at}
 use Rattle.design_flatten.proofs.UseLemmas.{listed_is}
 use Rattle.design_flatten.proofs.recursion.first_in_group.Goals as goal
 

@@ -1,6 +1,4 @@
-use Rattle.std.proofs.Common.{map, ◌≡◌}
-use Rattle.design_netlist.specs.Orders.{IsFirst}
-use Rattle.design_flatten.specs.Vocabulary.{group_at, use_in, listed, number_at}
+use Rattle.design_flatten.proofs.Vocabulary.{map, ◌≡◌, IsFirst, group_at, use_in, listed, number_at}
 use Rattle.design_flatten.proofs.recursion.first_in_group.Given as goal
 
 abbrev pub invariant-uses : goal.invariant-uses

@@ -1,5 +1,4 @@
-use Rattle.std.proofs.Common.{◌∙◌, ap}
-use Rattle.design_flatten.specs.NameSets.{with_name}
+use Rattle.design_flatten.proofs.Vocabulary.{◌∙◌, ap, with_name}
 use Rattle.design_flatten.proofs.LinkLemmas.{names_here}
 use Rattle.design_flatten.proofs.recursion.names_in.Goals as goal
 

@@ -1,5 +1,4 @@
-use Rattle.std.proofs.Common.{map}
-use Rattle.design_flatten.specs.Vocabulary.{HaveNames, use_in}
+use Rattle.design_flatten.proofs.Vocabulary.{map, HaveNames, use_in}
 use Rattle.design_flatten.proofs.recursion.names_in.Given as goal
 
 abbrev pub invariant-uses : goal.invariant-uses

@@ -1,6 +1,5 @@
-use Rattle.std.proofs.Common.{◌≡◌, ◌+◌, ◌≤◌, drop}
+use Rattle.design_flatten.proofs.Vocabulary.{◌≡◌, ◌+◌, ◌≤◌, drop, row_size}
 use Rattle.std.specs.List.{sum_by}
-use Rattle.design_flatten.specs.Signals.{row_size}
 use Rattle.design_flatten.proofs.sink.rows_within.Given as goal
 
 abbrev pub invariant-rows : goal.invariant-rows

@@ -1,5 +1,4 @@
-use Rattle.std.proofs.Common.{◌≡◌, ℕ, List, map, false}
-use Rattle.design_flatten.specs.Vocabulary.{Use, uses_of, is_among, use_in, listed, names_of}
+use Rattle.design_flatten.proofs.Vocabulary.{◌≡◌, ℕ, List, map, false, Use, uses_of, is_among, use_in, listed, names_of}
 use Rattle.design_flatten.proofs.UseLemmas.{no_first}
 use Rattle.design_flatten.proofs.uses.check_names.Goals as goal
 

@@ -1,6 +1,4 @@
-use Rattle.std.proofs.Common.{subst, sym, None}
-use Rattle.std.proofs.lemmas.Result.{err_from_is_err_and}
-use Rattle.design_flatten.specs.UseFaults.{IsUnknown, IsWronglyGiven, IsFirstUse}
+use Rattle.design_flatten.proofs.Vocabulary.{subst, sym, None, err_from_is_err_and, IsUnknown, IsWronglyGiven, IsFirstUse}
 use Rattle.design_flatten.proofs.RuleLemmas.{keeps, all_known, all_given}
 use Rattle.design_flatten.proofs.uses.check_uses.Goals as goal
 

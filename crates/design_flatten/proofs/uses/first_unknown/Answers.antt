@@ -1,6 +1,4 @@
-use Rattle.std.proofs.Common.{◌≡◌, ◌∙◌, ap, sym, map, false}
-use Rattle.design_netlist.proofs.OrderLemmas.{first_more}
-use Rattle.design_flatten.specs.Vocabulary.{is_among, use_in, listed, number_at, names_of}
+use Rattle.design_flatten.proofs.Vocabulary.{◌≡◌, ◌∙◌, ap, sym, map, false, first_more, is_among, use_in, listed, number_at, names_of}
 use Rattle.design_flatten.proofs.UseLemmas.{listed_is}
 use Rattle.design_flatten.proofs.uses.first_unknown.Goals as goal
 

@@ -1,6 +1,4 @@
-use Rattle.std.proofs.Common.{◌≡◌, map, false}
-use Rattle.design_netlist.specs.Orders.{IsFirst}
-use Rattle.design_flatten.specs.Vocabulary.{is_among, use_in, listed, number_at, names_of}
+use Rattle.design_flatten.proofs.Vocabulary.{◌≡◌, map, false, IsFirst, is_among, use_in, listed, number_at, names_of}
 use Rattle.design_flatten.proofs.uses.first_unknown.Given as goal
 
 abbrev pub invariant-uses : goal.invariant-uses

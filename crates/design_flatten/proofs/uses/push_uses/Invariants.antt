@@ -1,6 +1,4 @@
-use Rattle.std.proofs.Common.{◌≡◌, ◌++◌, map, take}
-use Rattle.std.specs.List.{flat_map}
-use Rattle.design_flatten.specs.Vocabulary.{use_on, use_in}
+use Rattle.design_flatten.proofs.Vocabulary.{◌≡◌, ◌++◌, map, take, flat_map, use_on, use_in}
 use Rattle.design_flatten.proofs.uses.push_uses.Given as goal
 
 abbrev pub invariant-pieces : goal.invariant-pieces

@@ -1,6 +1,4 @@
-use Rattle.std.proofs.Common.{◌≡◌, map, take}
-use Rattle.std.specs.List.{flat_map}
-use Rattle.design_flatten.specs.Vocabulary.{uses_in, use_in}
+use Rattle.design_flatten.proofs.Vocabulary.{◌≡◌, map, take, flat_map, uses_in, use_in}
 use Rattle.design_flatten.proofs.uses.uses_of.Given as goal
 
 abbrev pub invariant-models : goal.invariant-models

@@ -1,7 +1,4 @@
-use Rattle.std.proofs.Common.{◌∙◌, sym}
-use Rattle.std.proofs.lemmas.List.Sums.{fold_more}
-use Rattle.design_netlist.specs.Vocabulary.{word, sooner}
-use Rattle.design_flatten.specs.Vocabulary.{places_of, signal_number}
+use Rattle.design_flatten.proofs.Vocabulary.{◌∙◌, sym, fold_more, word, sooner, places_of, signal_number}
 use Rattle.design_flatten.proofs.words.among_inputs.Goals as goal
 
 pub ins-preserved : goal.ins-preserved

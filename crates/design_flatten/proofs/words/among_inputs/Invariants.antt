@@ -1,6 +1,4 @@
-use Rattle.std.proofs.Common.{◌≡◌, take, fold}
-use Rattle.design_netlist.specs.Vocabulary.{word, sooner}
-use Rattle.design_flatten.specs.Vocabulary.{places_of, signal_number}
+use Rattle.design_flatten.proofs.Vocabulary.{◌≡◌, take, fold, word, sooner, places_of, signal_number}
 use Rattle.design_flatten.proofs.words.among_inputs.Given as goal
 
 abbrev pub invariant-ins : goal.invariant-ins

@@ -1,9 +1,6 @@
-use Rattle.std.proofs.Common.{◌∙◌, None, ap, sym, arith, fold}
+use Rattle.design_flatten.proofs.Vocabulary.{◌∙◌, None, ap, sym, arith, fold, flat_map-map, sooner, places_of, placed_line, read_on}
 use Rattle.std.proofs.lemmas.List.{take_all}
-use Rattle.std.proofs.lemmas.List.Folds.{flat_map-map}
-use Rattle.design_netlist.specs.Words.{sooner}
 use Rattle.design_netlist.proofs.WordLemmas.{fold-flat_map}
-use Rattle.design_flatten.specs.Vocabulary.{places_of, placed_line, read_on}
 use Rattle.design_flatten.proofs.words.first_undriven.Goals as goal
 
 pub returns : goal.returns

@@ -1,6 +1,4 @@
-use Rattle.std.proofs.Common.{◌≡◌, None, take, fold}
-use Rattle.design_netlist.specs.Words.{sooner}
-use Rattle.design_flatten.specs.Vocabulary.{places_of, placed_line, read_on}
+use Rattle.design_flatten.proofs.Vocabulary.{◌≡◌, None, take, fold, sooner, places_of, placed_line, read_on}
 use Rattle.design_flatten.proofs.words.first_undriven.Given as goal
 
 abbrev pub invariant-placed : goal.invariant-placed

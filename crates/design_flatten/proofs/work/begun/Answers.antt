@@ -1,8 +1,5 @@
-use Rattle.std.proofs.Common.{◌≡◌, ◌∙◌, [], refl, ap, sym, subst}
-use Rattle.design_flatten.specs.declared.model.Model.{Model}
-use Rattle.design_flatten.specs.Vocabulary.{IsSink, first_model, lean_models}
-use Rattle.design_flatten.proofs.LeanLemmas.{lean_first}
-use Rattle.design_flatten.proofs.WorkLemmas.{first_origin}
+use Rattle.design_flatten.proofs.Vocabulary.{◌≡◌, ◌∙◌, [], refl, ap, sym, subst, Model, IsSink, first_model, lean_models}
+use Rattle.design_flatten.proofs.{LeanLemmas.lean_first, WorkLemmas.first_origin}
 use Rattle.design_flatten.proofs.work.begun.Goals as goal
 
 pub returns-clause-sink : goal.returns-clause-sink

@@ -1,7 +1,6 @@
 use Rattle.std.proofs.Common.{◌≡◌, ◌∙◌, ◌+◌, ◌-◌, ◌++◌, ◌∷◌, [], refl, ℕ, List, ap, sym, length, length-append, arith, subst, true}
-use Rattle.std.proofs.lemmas.Result.{err_from_is_err_and}
+use Rattle.design_flatten.proofs.Vocabulary.{err_from_is_err_and, Limit}
 use Rattle.design_flatten.specs.Vocabulary.{IsSink, after, first_model, is_left, model_named, lines_at, without_ports, at_first, place_of, lean_models, way_to, left_in}
-use Rattle.design_flatten.specs.declared.refusal.Refusal.TheVariants.{Limit}
 use Rattle.design_flatten.proofs.WorkLemmas.{starts, ended, refused, is_left_now, origin_is, replaced_more, all_placed, placed_none, placed_some, not_within, frames_push, frames_pop, frames_more, first_origin, origins_push}
 use Rattle.design_flatten.proofs.LeanLemmas.{whole_design, whole_refused}
 use Rattle.design_flatten.proofs.work.replace_all.Goals as goal

@@ -1,5 +1,4 @@
-use Rattle.std.proofs.Common.{◌≡◌, ◌≤◌, ◌++◌, ◌+◌, ◌*◌, ◌-◌, List, length, vec_len}
-use Rattle.design_flatten.specs.declared.model.Signal.{Signal}
+use Rattle.design_flatten.proofs.Vocabulary.{◌≡◌, ◌≤◌, ◌++◌, ◌+◌, ◌*◌, ◌-◌, List, length, vec_len, Signal}
 use Rattle.design_flatten.specs.Vocabulary.{Line, after, first_model, lean_models, left_of, AreFrames, AreOrigins, IsSink}
 use Rattle.design_flatten.proofs.work.replace_all.Given as goal
 

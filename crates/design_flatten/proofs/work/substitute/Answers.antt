@@ -1,5 +1,4 @@
-use Rattle.std.proofs.Common.{sym, subst, IfOk, IfErr}
-use Rattle.design_flatten.specs.Vocabulary.{AreBodies, IsSubstitution, IsRefused}
+use Rattle.design_flatten.proofs.Vocabulary.{sym, subst, IfOk, IfErr, AreBodies, IsSubstitution, IsRefused}
 use Rattle.design_flatten.proofs.work.substitute.Goals as goal
 
 pub substituted_of-requires : goal.substituted_of-requires

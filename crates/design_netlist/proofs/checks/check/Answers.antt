@@ -1,5 +1,4 @@
-use Rattle.std.proofs.Common.{subst}
-use Rattle.design_netlist.specs.Words.{IsFoundIn}
+use Rattle.design_netlist.proofs.Vocabulary.{subst, IsFoundIn}
 use Rattle.design_netlist.proofs.CheckLemmas.{not_checked}
 use Rattle.design_netlist.proofs.checks.check.Goals as goal
 

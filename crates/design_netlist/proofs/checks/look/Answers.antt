@@ -1,6 +1,4 @@
-use Rattle.std.proofs.Common.{◌<◌, ◌∙◌, None, ap, length, arith, fold}
-use Rattle.std.proofs.lemmas.List.{get_or_default}
-use Rattle.design_netlist.specs.Vocabulary.{word, word_at, reads_of, sooner}
+use Rattle.design_netlist.proofs.Vocabulary.{◌<◌, ◌∙◌, None, ap, length, arith, fold, get_or_default, word, word_at, reads_of, sooner}
 use Rattle.design_netlist.proofs.CheckLemmas.{found_doubled, none_doubled, found_undriven, driven_once}
 use Rattle.design_netlist.proofs.checks.look.Goals as goal
 

@@ -1,6 +1,4 @@
-use Rattle.std.proofs.Common.{◌≤◌, length, List, arith, ap, subst}
-use Rattle.design_netlist.specs.declared.netlist_data.Cover.{Cover}
-use Rattle.design_netlist.specs.Sorts.{AreSorted}
+use Rattle.design_netlist.proofs.Vocabulary.{◌≤◌, length, List, arith, ap, subst, Cover, AreSorted}
 use Rattle.design_netlist.specs.declared.cycles.Sorted.TheVariants.{Order}
 use Rattle.design_netlist.proofs.CheckLemmas.{few_covers, outs_apart}
 use Rattle.design_netlist.proofs.checks.sort.Goals as goal

@@ -1,5 +1,4 @@
-use Rattle.std.proofs.Common.{length, arith}
-use Rattle.design_netlist.specs.Covers.{cover_line, IsOnCycle}
+use Rattle.design_netlist.proofs.Vocabulary.{length, arith, cover_line, IsOnCycle}
 use Rattle.design_netlist.proofs.OrderLemmas.{first_more, first_all}
 use Rattle.design_netlist.proofs.cycles.first_on_cycle.Goals as goal
 

@@ -1,8 +1,5 @@
 use Rattle.std.proofs.Common.{◌≡◌, ◌∙◌, ap, sym, subst, refl, length, Some, arith}
-use Rattle.std.proofs.lemmas.Bool.{false≢true}
-use Rattle.std.proofs.lemmas.List.{get_or_default}
-use Rattle.design_netlist.specs.declared.netlist_data.Cover.{Cover}
-use Rattle.design_netlist.specs.Vocabulary.{driver_at, no_cover, number_at}
+use Rattle.design_netlist.proofs.Vocabulary.{false≢true, get_or_default, Cover, driver_at, no_cover, number_at}
 use Rattle.design_netlist.proofs.CycleLemmas.{one_of_all, none_of_all}
 use Rattle.design_netlist.proofs.cycles.is_on_cycle.Goals as goal
 

@@ -1,5 +1,4 @@
-use Rattle.std.proofs.Common.{◌≡◌, ◌<◌, ℕ, Some}
-use Rattle.design_netlist.specs.Vocabulary.{cover_at, driver_at, number_at, search_number, state_at}
+use Rattle.design_netlist.proofs.Vocabulary.{◌≡◌, ◌<◌, ℕ, Some, cover_at, driver_at, number_at, search_number, state_at}
 use Rattle.design_netlist.proofs.cycles.is_on_cycle.Given as goal
 
 abbrev pub invariant-ins : goal.invariant-ins

@@ -1,5 +1,4 @@
-use Rattle.std.proofs.Common.{◌≡◌, length}
-use Rattle.design_netlist.specs.Drivers.{AreDriversBelow}
+use Rattle.design_netlist.proofs.Vocabulary.{◌≡◌, length, AreDriversBelow}
 use Rattle.design_netlist.proofs.drives.drivers_of.Given as goal
 
 abbrev pub invariant-covers : goal.invariant-covers

@@ -1,7 +1,5 @@
-use Rattle.std.proofs.Common.{◌<◌, length, arith, refl, not}
-use Rattle.design_netlist.specs.Vocabulary.{line_at, signal_at, IsDoubledIn}
-use Rattle.design_netlist.proofs.OrderLemmas.{first_more, first_all}
-use Rattle.design_netlist.proofs.WordLemmas.{doubled_when, when_doubled}
+use Rattle.design_netlist.proofs.Vocabulary.{◌<◌, length, arith, refl, not, line_at, signal_at, IsDoubledIn}
+use Rattle.design_netlist.proofs.{OrderLemmas.first_more, OrderLemmas.first_all, WordLemmas.doubled_when, WordLemmas.when_doubled}
 use Rattle.design_netlist.proofs.drives.first_doubled.Goals as goal
 
 pub returns : goal.returns

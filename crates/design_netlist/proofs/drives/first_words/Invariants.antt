@@ -1,5 +1,4 @@
-use Rattle.std.proofs.Common.{◌≡◌, length}
-use Rattle.design_netlist.specs.Words.{AreFirstWords}
+use Rattle.design_netlist.proofs.Vocabulary.{◌≡◌, length, AreFirstWords}
 use Rattle.design_netlist.proofs.drives.first_words.Given as goal
 
 abbrev pub invariant-words : goal.invariant-words

@@ -1,5 +1,4 @@
-use Rattle.std.proofs.Common.{◌≡◌, ◌++◌, take, map}
-use Rattle.design_netlist.specs.Drafts.{cover_drive}
+use Rattle.design_netlist.proofs.Vocabulary.{◌≡◌, ◌++◌, take, map, cover_drive}
 use Rattle.design_netlist.proofs.drives.push_covers.Given as goal
 
 abbrev pub invariant-covers : goal.invariant-covers

@@ -1,5 +1,4 @@
-use Rattle.std.proofs.Common.{◌≡◌, ◌++◌, take, map}
-use Rattle.design_netlist.specs.Drafts.{latch_drive}
+use Rattle.design_netlist.proofs.Vocabulary.{◌≡◌, ◌++◌, take, map, latch_drive}
 use Rattle.design_netlist.proofs.drives.push_latches.Given as goal
 
 abbrev pub invariant-latches : goal.invariant-latches

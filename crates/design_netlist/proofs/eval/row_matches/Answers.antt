@@ -1,5 +1,4 @@
-use Rattle.std.proofs.Common.{sym, arith}
-use Rattle.design_netlist.specs.Valuations.{bit_at}
+use Rattle.design_netlist.proofs.Vocabulary.{sym, arith, bit_at}
 use Rattle.design_netlist.proofs.EvalLemmas.{all_fit, one_misses}
 use Rattle.design_netlist.proofs.eval.row_matches.Goals as goal
 

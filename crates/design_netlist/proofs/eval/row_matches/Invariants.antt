@@ -1,6 +1,4 @@
-use Rattle.std.proofs.Common.{◌≡◌, ◌<◌, ℕ, get_or, true}
-use Rattle.design_netlist.specs.declared.netlist_data.Lit.TheVariants.{Zero}
-use Rattle.design_netlist.specs.Vocabulary.{fits, bit_at}
+use Rattle.design_netlist.proofs.Vocabulary.{◌≡◌, ◌<◌, ℕ, get_or, true, Zero, fits, bit_at}
 use Rattle.design_netlist.proofs.eval.row_matches.Given as goal
 
 abbrev pub invariant-places : goal.invariant-places

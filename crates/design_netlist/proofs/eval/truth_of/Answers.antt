@@ -1,7 +1,4 @@
-use Rattle.std.proofs.Common.{ap, sym, arith, ◌∙◌, map, List, []}
-use Rattle.std.proofs.lemmas.List.{get_or_default}
-use Rattle.design_netlist.specs.declared.netlist_data.Lit.{Lit}
-use Rattle.design_netlist.specs.Vocabulary.{matches, cover_of, bit_at}
+use Rattle.design_netlist.proofs.Vocabulary.{ap, sym, arith, ◌∙◌, map, List, [], get_or_default, Lit, matches, cover_of, bit_at}
 use Rattle.design_netlist.proofs.EvalLemmas.{some_row, no_row, when_some, when_none}
 use Rattle.design_netlist.proofs.eval.truth_of.Goals as goal
 

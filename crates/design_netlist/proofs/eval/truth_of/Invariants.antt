@@ -1,5 +1,4 @@
-use Rattle.std.proofs.Common.{◌≡◌, ◌<◌, ℕ, get_or, false, map, []}
-use Rattle.design_netlist.specs.Vocabulary.{matches, bit_at}
+use Rattle.design_netlist.proofs.Vocabulary.{◌≡◌, ◌<◌, ℕ, get_or, false, map, [], matches, bit_at}
 use Rattle.design_netlist.proofs.eval.truth_of.Given as goal
 
 abbrev pub invariant-rows : goal.invariant-rows

@@ -1,5 +1,4 @@
-use Rattle.std.proofs.Common.{sym, subst}
-use Rattle.design_netlist.specs.Groups.{AreGroups}
+use Rattle.design_netlist.proofs.Vocabulary.{sym, subst, AreGroups}
 use Rattle.design_netlist.proofs.CycleLemmas.{are_groups}
 use Rattle.design_netlist.proofs.groups.groups_of.Goals as goal
 

@@ -1,6 +1,4 @@
-use Rattle.std.proofs.lemmas.List.{length-map}
-use Rattle.design_netlist.specs.declared.netlist_data.LatchDef.{LatchDef}
-use Rattle.design_netlist.specs.Rows.{first_state}
+use Rattle.design_netlist.proofs.Vocabulary.{length-map, LatchDef, first_state}
 use Rattle.design_netlist.proofs.RightLemmas.{one_rows}
 use Rattle.design_netlist.proofs.laws.designs_have_one_list_of_rows.Goals as goal
 

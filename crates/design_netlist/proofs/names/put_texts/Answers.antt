@@ -1,5 +1,4 @@
-use Rattle.std.proofs.Common.{◌∙◌, ap, ◌++◌}
-use Rattle.design_netlist.specs.Names.{joined}
+use Rattle.design_netlist.proofs.Vocabulary.{◌∙◌, ap, ◌++◌, joined}
 use Rattle.design_netlist.proofs.NameLemmas.{put_more}
 use Rattle.design_netlist.proofs.names.put_texts.Goals as goal
 

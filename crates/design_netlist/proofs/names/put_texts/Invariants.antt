@@ -1,5 +1,4 @@
-use Rattle.std.proofs.Common.{◌≡◌, ◌++◌, vec_len}
-use Rattle.design_netlist.specs.Names.{joined}
+use Rattle.design_netlist.proofs.Vocabulary.{◌≡◌, ◌++◌, vec_len, joined}
 use Rattle.design_netlist.proofs.names.put_texts.Given as goal
 
 abbrev pub invariant-places : goal.invariant-places

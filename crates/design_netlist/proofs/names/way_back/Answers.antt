@@ -1,6 +1,4 @@
-use Rattle.std.proofs.Common.{◌++◌, ◌∙◌, ap, sym}
-use Rattle.std.proofs.lemmas.List.{append-nil}
-use Rattle.design_netlist.specs.Names.{texts_of, joined, front}
+use Rattle.design_netlist.proofs.Vocabulary.{◌++◌, ◌∙◌, ap, sym, append-nil, texts_of, joined, front}
 use Rattle.design_netlist.proofs.NameLemmas.{back_step, text_past}
 use Rattle.design_netlist.proofs.names.way_back.Goals as goal
 

@@ -1,5 +1,4 @@
-use Rattle.std.proofs.Common.{◌≡◌, ◌++◌}
-use Rattle.design_netlist.specs.Names.{texts_of, joined, front}
+use Rattle.design_netlist.proofs.Vocabulary.{◌≡◌, ◌++◌, texts_of, joined, front}
 use Rattle.design_netlist.proofs.NameLemmas.{measure}
 use Rattle.design_netlist.proofs.names.way_back.Given as goal
 

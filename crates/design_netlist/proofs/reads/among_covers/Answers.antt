@@ -1,6 +1,4 @@
-use Rattle.std.proofs.Common.{◌∙◌, ap, sym, arith, fold}
-use Rattle.std.proofs.lemmas.List.{take_all}
-use Rattle.design_netlist.specs.Vocabulary.{cover_reads, sooner}
+use Rattle.design_netlist.proofs.Vocabulary.{◌∙◌, ap, sym, arith, fold, take_all, cover_reads, sooner}
 use Rattle.design_netlist.proofs.WordLemmas.{fold-flat_map}
 use Rattle.design_netlist.proofs.reads.among_covers.Goals as goal
 

@@ -1,5 +1,4 @@
-use Rattle.std.proofs.Common.{◌≡◌, take, fold}
-use Rattle.design_netlist.specs.Vocabulary.{cover_reads, sooner}
+use Rattle.design_netlist.proofs.Vocabulary.{◌≡◌, take, fold, cover_reads, sooner}
 use Rattle.design_netlist.proofs.reads.among_covers.Given as goal
 
 abbrev pub invariant-covers : goal.invariant-covers

@@ -1,5 +1,4 @@
-use Rattle.std.proofs.Common.{◌≡◌, take, fold}
-use Rattle.design_netlist.specs.Vocabulary.{word, sooner}
+use Rattle.design_netlist.proofs.Vocabulary.{◌≡◌, take, fold, word, sooner}
 use Rattle.design_netlist.proofs.reads.among_inputs.Given as goal
 
 abbrev pub invariant-ins : goal.invariant-ins

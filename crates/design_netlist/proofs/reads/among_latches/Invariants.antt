@@ -1,5 +1,4 @@
-use Rattle.std.proofs.Common.{◌≡◌, take, fold}
-use Rattle.design_netlist.specs.Vocabulary.{latch_read, sooner}
+use Rattle.design_netlist.proofs.Vocabulary.{◌≡◌, take, fold, latch_read, sooner}
 use Rattle.design_netlist.proofs.reads.among_latches.Given as goal
 
 abbrev pub invariant-latches : goal.invariant-latches

@@ -1,5 +1,4 @@
-use Rattle.std.proofs.Common.{◌≡◌, take, fold}
-use Rattle.design_netlist.specs.Words.{sooner}
+use Rattle.design_netlist.proofs.Vocabulary.{◌≡◌, take, fold, sooner}
 use Rattle.design_netlist.proofs.reads.among_ports.Given as goal
 
 abbrev pub invariant-ports : goal.invariant-ports

@@ -1,6 +1,4 @@
-use Rattle.std.proofs.Common.{◌++◌, length, map, subst, sym}
-use Rattle.std.specs.List.{flat_map}
-use Rattle.design_netlist.specs.Vocabulary.{cover_reads, latch_read, AreWithin}
+use Rattle.design_netlist.proofs.Vocabulary.{◌++◌, length, map, subst, sym, flat_map, cover_reads, latch_read, AreWithin}
 use Rattle.design_netlist.proofs.WordLemmas.{within_right}
 use Rattle.design_netlist.proofs.reads.first_undriven.Goals as goal
 

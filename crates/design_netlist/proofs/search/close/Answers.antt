@@ -1,5 +1,4 @@
-use Rattle.std.proofs.Common.{◌≤◌, ◌-◌, ap, length, arith, subst, refl}
-use Rattle.design_netlist.specs.Searches.{waits_at, IsClosed, IsJoinedOn}
+use Rattle.design_netlist.proofs.Vocabulary.{◌≤◌, ◌-◌, ap, length, arith, subst, refl, waits_at, IsClosed, IsJoinedOn}
 use Rattle.design_netlist.proofs.StepLemmas.{close_keeps, close_handled, close_listed, close_less, close_seen}
 use Rattle.design_netlist.proofs.search.close.Goals as goal
 

@@ -1,5 +1,4 @@
-use Rattle.std.proofs.Common.{◌<◌, ◌≤◌, ℕ, length}
-use Rattle.design_netlist.specs.Searches.{start_at}
+use Rattle.design_netlist.proofs.Vocabulary.{◌<◌, ◌≤◌, ℕ, length, start_at}
 use Rattle.design_netlist.proofs.search.kept.Given as goal
 
 abbrev pub invariant-back : goal.invariant-back

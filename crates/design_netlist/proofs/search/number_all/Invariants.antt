@@ -1,5 +1,4 @@
-use Rattle.std.proofs.Common.{◌≡◌, length}
-use Rattle.design_netlist.specs.Searches.{IsClosed, IsJoinedOn}
+use Rattle.design_netlist.proofs.Vocabulary.{◌≡◌, length, IsClosed, IsJoinedOn}
 use Rattle.design_netlist.proofs.search.number_all.Given as goal
 
 abbrev pub invariant-places : goal.invariant-places

@@ -1,6 +1,4 @@
-use Rattle.std.proofs.Common.{◌≡◌, ◌<◌, ℕ, length, []}
-use Rattle.design_netlist.specs.declared.search.State.TheVariants.{New}
-use Rattle.design_netlist.specs.Vocabulary.{state_at, IsSearching}
+use Rattle.design_netlist.proofs.Vocabulary.{◌≡◌, ◌<◌, ℕ, length, [], New, state_at, IsSearching}
 use Rattle.design_netlist.proofs.search.number_covers.Given as goal
 
 abbrev pub invariant-roots : goal.invariant-roots

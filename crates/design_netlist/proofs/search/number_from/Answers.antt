@@ -1,6 +1,5 @@
 use Rattle.std.proofs.Common.{length}
-use Rattle.design_netlist.proofs.SearchLemmas.{any_spare}
-use Rattle.design_netlist.proofs.StepLemmas.{no_one_leads}
+use Rattle.design_netlist.proofs.{SearchLemmas.any_spare, StepLemmas.no_one_leads}
 use Rattle.design_netlist.proofs.search.number_from.Goals as goal
 
 pub open-requires-clause-searching : goal.open-requires-clause-searching

@@ -1,6 +1,4 @@
-use Rattle.std.proofs.Common.{get_or, arith}
-use Rattle.std.proofs.lemmas.List.{get_or_default}
-use Rattle.design_netlist.specs.Covers.{no_cover}
+use Rattle.design_netlist.proofs.Vocabulary.{get_or, arith, get_or_default, no_cover}
 use Rattle.design_netlist.proofs.StepLemmas.{has_opened}
 use Rattle.design_netlist.proofs.search.open.Goals as goal
 

@@ -1,5 +1,4 @@
-use Rattle.std.proofs.Common.{◌≡◌, ◌++◌, take}
-use Rattle.design_netlist.specs.Searches.{targets}
+use Rattle.design_netlist.proofs.Vocabulary.{◌≡◌, ◌++◌, take, targets}
 use Rattle.design_netlist.proofs.search.push_targets.Given as goal
 
 abbrev pub invariant-ins : goal.invariant-ins

@@ -1,5 +1,4 @@
-use Rattle.std.proofs.Common.{length}
-use Rattle.design_netlist.specs.Vocabulary.{StaysSeen, IsSearching, left_of}
+use Rattle.design_netlist.proofs.Vocabulary.{length, StaysSeen, IsSearching, left_of}
 use Rattle.design_netlist.proofs.search.run.Given as goal
 
 abbrev pub invariant-steps : goal.invariant-steps

@@ -1,5 +1,4 @@
-use Rattle.std.proofs.Common.{◌≤◌, ◌-◌, length, arith}
-use Rattle.design_netlist.specs.Searches.{waits_at}
+use Rattle.design_netlist.proofs.Vocabulary.{◌≤◌, ◌-◌, length, arith, waits_at}
 use Rattle.design_netlist.proofs.SearchLemmas.{taken, taken_handled, taken_source}
 use Rattle.design_netlist.proofs.search.step.Goals as goal
 

@@ -1,5 +1,4 @@
-use Rattle.std.proofs.Common.{sym, subst, length}
-use Rattle.design_netlist.specs.Searches.{IsKept, IsFront}
+use Rattle.design_netlist.proofs.Vocabulary.{sym, subst, length, IsKept, IsFront}
 use Rattle.design_netlist.proofs.SearchLemmas.{to_read, joined, joined_handled, skip}
 use Rattle.design_netlist.proofs.StepLemmas.{front_take}
 use Rattle.design_netlist.proofs.search.visit.Goals as goal

@@ -1,5 +1,4 @@
-use Rattle.std.proofs.Common.{ℕ, ◌<◌}
-use Rattle.design_netlist.specs.Covers.{cover_at, IsCoverOver}
+use Rattle.design_netlist.proofs.Vocabulary.{ℕ, ◌<◌, cover_at, IsCoverOver}
 use Rattle.design_netlist.proofs.well_made.are_covers_over.Given as goal
 
 abbrev pub invariant-covers : goal.invariant-covers

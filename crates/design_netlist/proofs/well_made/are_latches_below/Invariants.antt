@@ -1,5 +1,4 @@
-use Rattle.std.proofs.Common.{ℕ, ◌<◌}
-use Rattle.design_netlist.specs.Words.{latch_at}
+use Rattle.design_netlist.proofs.Vocabulary.{ℕ, ◌<◌, latch_at}
 use Rattle.design_netlist.proofs.well_made.are_latches_below.Given as goal
 
 abbrev pub invariant-latches : goal.invariant-latches

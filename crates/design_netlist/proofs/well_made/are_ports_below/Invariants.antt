@@ -1,5 +1,4 @@
-use Rattle.std.proofs.Common.{ℕ, ◌<◌}
-use Rattle.design_netlist.specs.Drafts.{signal_at}
+use Rattle.design_netlist.proofs.Vocabulary.{ℕ, ◌<◌, signal_at}
 use Rattle.design_netlist.proofs.well_made.are_ports_below.Given as goal
 
 abbrev pub invariant-ports : goal.invariant-ports

@@ -1,5 +1,4 @@
-use Rattle.std.proofs.Common.{◌≡◌, ◌+◌, take, sum_by}
-use Rattle.design_netlist.specs.Drafts.{cover_characters}
+use Rattle.design_netlist.proofs.Vocabulary.{◌≡◌, ◌+◌, take, sum_by, cover_characters}
 use Rattle.design_netlist.proofs.well_made.have_few_characters.Given as goal
 
 abbrev pub invariant-covers : goal.invariant-covers

@@ -1,6 +1,5 @@
 use Rattle.std.proofs.Common.{◌&&◌, Bool, get_or, ap, sym, ◌∙◌, add-one, map, take}
-use Rattle.design_netlist.specs.declared.netlist_data.Lit.TheVariants.{Zero}
-use Rattle.design_netlist.specs.Vocabulary.{fits, matches, bit_at, is_bit, lane_bits}
+use Rattle.design_netlist.proofs.Vocabulary.{Zero, fits, matches, bit_at, is_bit, lane_bits}
 use Rattle.design_netlist.proofs.LaneLemmas.{all-bits, and-bit, lane-at, matches-more}
 use Rattle.design_netlist.proofs.word_truth.row_word.Goals as goal
 

@@ -1,5 +1,4 @@
-use Rattle.std.proofs.Common.{◌≡◌, ◌<◌, ℕ, take, map}
-use Rattle.design_netlist.specs.Vocabulary.{matches, bit_at, is_bit, lane_bits}
+use Rattle.design_netlist.proofs.Vocabulary.{◌≡◌, ◌<◌, ℕ, take, map, matches, bit_at, is_bit, lane_bits}
 use Rattle.design_netlist.proofs.word_truth.row_word.Given as goal
 
 abbrev pub invariant-places : goal.invariant-places

@@ -1,7 +1,5 @@
 use Rattle.std.proofs.Common.{◌||◌, Bool, List, [], ap, sym, ◌∙◌, add-one, map, take}
-use Rattle.std.proofs.lemmas.List.{get_or_default}
-use Rattle.design_netlist.specs.declared.netlist_data.Lit.{Lit}
-use Rattle.design_netlist.specs.Vocabulary.{matches, some_matches, bit_at, is_bit, lane_bits}
+use Rattle.design_netlist.proofs.Vocabulary.{get_or_default, Lit, matches, some_matches, bit_at, is_bit, lane_bits}
 use Rattle.design_netlist.proofs.LaneLemmas.{or-bit, some-more}
 use Rattle.design_netlist.proofs.word_truth.rows_word.Goals as goal
 

@@ -1,5 +1,4 @@
-use Rattle.std.proofs.Common.{◌≡◌, ◌<◌, ℕ, take, map}
-use Rattle.design_netlist.specs.Vocabulary.{some_matches, bit_at, is_bit, lane_bits}
+use Rattle.design_netlist.proofs.Vocabulary.{◌≡◌, ◌<◌, ℕ, take, map, some_matches, bit_at, is_bit, lane_bits}
 use Rattle.design_netlist.proofs.word_truth.rows_word.Given as goal
 
 abbrev pub invariant-rows : goal.invariant-rows

@@ -1,6 +1,4 @@
-use Rattle.std.proofs.Common.{◌≡◌, ℕ, length, refl, subst, arith}
-use Rattle.design_vectors.specs.declared.line.Step.TheVariants.{Onward}
-use Rattle.design_vectors.specs.Lines.{HasRead}
+use Rattle.design_vectors.proofs.Vocabulary.{◌≡◌, ℕ, length, refl, subst, arith, Onward, HasRead}
 use Rattle.design_vectors.proofs.StepLemmas.{none-read, one-more}
 use Rattle.design_vectors.proofs.line.read_bytes.Goals as goal
 

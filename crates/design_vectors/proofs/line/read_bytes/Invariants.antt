@@ -1,5 +1,4 @@
-use Rattle.design_vectors.specs.declared.line.Step.TheVariants.{Onward}
-use Rattle.design_vectors.specs.Lines.{HasRead}
+use Rattle.design_vectors.proofs.Vocabulary.{Onward, HasRead}
 use Rattle.design_vectors.proofs.line.read_bytes.Given as goal
 
 abbrev pub invariant-bytes : goal.invariant-bytes

@@ -1,7 +1,4 @@
-use Rattle.std.proofs.Common.{◌≡◌, ℕ, List, ap, subst, refl, ◌∙◌}
-use Rattle.design_vectors.specs.declared.line.Step.{Step}
-use Rattle.design_vectors.specs.declared.line.Step.TheVariants.{Vector}
-use Rattle.design_vectors.specs.Lines.{PartLine, HasRead}
+use Rattle.design_vectors.proofs.Vocabulary.{◌≡◌, ℕ, List, ap, subst, refl, ◌∙◌, Step, Vector, PartLine, HasRead}
 use Rattle.design_vectors.proofs.StepLemmas.{read-on}
 use Rattle.design_vectors.proofs.reading.read_here.Goals as goal
 

@@ -1,5 +1,4 @@
-use Rattle.std.proofs.Common.{ℕ, List, length, ap, subst, ◌∙◌}
-use Rattle.design_vectors.specs.Lines.{HasRead}
+use Rattle.design_vectors.proofs.Vocabulary.{ℕ, List, length, ap, subst, ◌∙◌, HasRead}
 use Rattle.design_vectors.proofs.StepLemmas.{read-on}
 use Rattle.design_vectors.proofs.reading.read_unread.Goals as goal
 

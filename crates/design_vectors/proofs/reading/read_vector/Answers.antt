@@ -1,7 +1,5 @@
-use Rattle.std.proofs.Common.{Bool, Result, subst, sym, ◌∙◌, ap}
-use Rattle.std.proofs.lemmas.Result.{err_from_is_err_and}
+use Rattle.design_vectors.proofs.Vocabulary.{Bool, Result, subst, sym, ◌∙◌, ap, err_from_is_err_and, IsRefilled, HasAnswered, answer_of}
 use Rattle.design_vectors.specs.declared.vectors.VectorsFail.{VectorsFail}
-use Rattle.design_vectors.specs.Steps.{IsRefilled, HasAnswered, answer_of}
 use Rattle.design_vectors.proofs.ReadLemmas.{goes-start, goes-on, answers-read, answers-end, answers-failed}
 use Rattle.design_vectors.proofs.reading.read_vector.Goals as goal
 

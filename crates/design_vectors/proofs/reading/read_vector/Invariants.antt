@@ -1,5 +1,4 @@
-use Rattle.std.proofs.Common.{◌-◌}
-use Rattle.design_vectors.specs.Steps.{GoesOn}
+use Rattle.design_vectors.proofs.Vocabulary.{◌-◌, GoesOn}
 use Rattle.design_vectors.proofs.reading.read_vector.Given as goal
 
 abbrev pub invariant-pieces : goal.invariant-pieces

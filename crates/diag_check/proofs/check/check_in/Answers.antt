@@ -1,9 +1,5 @@
-use Rattle.std.proofs.Common.{◌≡◌, true, false, rules}
-use Rattle.std.proofs.lemmas.Bool.{false≢true}
-use Rattle.diag_known.proofs.Later.{all_still, known_later}
-use Rattle.diag_known.proofs.Settling.{if_ok_so}
+use Rattle.diag_check.proofs.Vocabulary.{◌≡◌, true, false, rules, false≢true, all_still, known_later, if_ok_so, held}
 use Rattle.diag_check.proofs.Checking.{parts_found, field_found, field_lost, loads_field, loads_grown}
-use Rattle.diag_growth.proofs.Explained.{held}
 use Rattle.diag_check.proofs.check.check_in.Goals as goal
 
 pub returns-clause-known : goal.returns-clause-known

@@ -1,6 +1,4 @@
-use Rattle.std.proofs.Common.{◌∙◌, sym}
-use Rattle.std.proofs.lemmas.Bool.{false≢true}
-use Rattle.diag_known.proofs.Later.{known_none}
+use Rattle.diag_check.proofs.Vocabulary.{◌∙◌, sym, false≢true, known_none}
 use Rattle.diag_check.proofs.check.check_in_both.Goals as goal
 
 pub check_over-requires-clause-all : goal.check_over-requires-clause-all

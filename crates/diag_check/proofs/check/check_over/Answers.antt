@@ -1,8 +1,5 @@
-use Rattle.std.proofs.Common.{◌≡◌, false, rules}
+use Rattle.diag_check.proofs.Vocabulary.{◌≡◌, false, rules, held, if_ok_so, advances_then}
 use Rattle.diag_check.proofs.Checking.{fewer_one, fewer_then, loads_around, loads_more, loads_one, loads_two, whole_always, whole_then}
-use Rattle.diag_growth.proofs.Explained.{held}
-use Rattle.diag_known.proofs.Settling.{if_ok_so}
-use Rattle.diag_evidence.proofs.Keeping.{advances_then}
 use Rattle.diag_check.proofs.check.check_over.Goals as goal
 
 pub returns-in-Ok-true-clause-loads : goal.returns-in-Ok-true-clause-loads

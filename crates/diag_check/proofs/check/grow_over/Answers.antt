@@ -1,9 +1,6 @@
-use Rattle.std.proofs.Common.{sym, ◌∙◌, subst}
-use Rattle.machine_shape.specs.declared.Shape.{Shape}
-use Rattle.diag_known.specs.Field.{IsFieldOf}
+use Rattle.diag_check.proofs.Vocabulary.{sym, ◌∙◌, subst, Shape, IsFieldOf, held}
 use Rattle.diag_known.proofs.Taking.{takes_wide}
 use Rattle.diag_check.proofs.Checking.{routes_if}
-use Rattle.diag_growth.proofs.Explained.{held}
 use Rattle.diag_check.proofs.check.grow_over.Goals as goal
 
 pub keeps_routes-requires-clause-shape : goal.keeps_routes-requires-clause-shape

@@ -1,6 +1,5 @@
 use Rattle.std.proofs.Common.{sym, ◌∙◌}
-use Rattle.diag_check.proofs.Checking.{loads_tables, tables_if}
-use Rattle.diag_check.proofs.Using.{table_counts, tables_within}
+use Rattle.diag_check.proofs.{Checking.loads_tables, Checking.tables_if, Using.table_counts, Using.tables_within}
 use Rattle.diag_check.proofs.check.look_at_tables.Goals as goal
 
 pub test_tables-requires-clause-tables : goal.test_tables-requires-clause-tables

@@ -1,8 +1,5 @@
-use Rattle.std.proofs.Common.{sym, ◌∙◌}
-use Rattle.diag_check.proofs.Checking.{few_if, sound_if, yes_if}
-use Rattle.diag_check.proofs.Counting.{for_ways}
-use Rattle.diag_growth.proofs.Explained.{held}
-use Rattle.diag_known.proofs.Settling.{if_ok_so}
+use Rattle.diag_check.proofs.Vocabulary.{sym, ◌∙◌, held, if_ok_so}
+use Rattle.diag_check.proofs.{Checking.few_if, Checking.sound_if, Checking.yes_if, Counting.for_ways}
 use Rattle.diag_check.proofs.check.quick_check.Goals as goal
 
 pub returns-clause-sound_each : goal.returns-clause-sound_each

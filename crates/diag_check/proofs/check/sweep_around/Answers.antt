@@ -1,6 +1,4 @@
-use Rattle.std.proofs.Common.{refl, subst}
-use Rattle.machine_shape.specs.declared.Shape.{Shape}
-use Rattle.diag_known.specs.Field.{IsFieldOf}
+use Rattle.diag_check.proofs.Vocabulary.{refl, subst, Shape, IsFieldOf}
 use Rattle.diag_check.proofs.Checking.{loads_swept}
 use Rattle.diag_check.proofs.check.sweep_around.Goals as goal
 

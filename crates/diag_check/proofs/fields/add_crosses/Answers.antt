@@ -1,6 +1,4 @@
-use Rattle.std.proofs.Common.{◌<◌, length, arith, slice_index_or}
-use Rattle.std.proofs.lemmas.Option.{slice_get-get_or}
-use Rattle.machine_shape.specs.declared.Cross.{Cross}
+use Rattle.diag_check.proofs.Vocabulary.{◌<◌, length, arith, slice_index_or, slice_get-get_or, Cross}
 use Rattle.diag_check.proofs.Fielding.{crosses_next}
 use Rattle.diag_check.proofs.fields.add_crosses.Goals as goal
 

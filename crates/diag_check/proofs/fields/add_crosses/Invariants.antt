@@ -1,5 +1,4 @@
-use Rattle.diag_known.specs.Gains.{Gets}
-use Rattle.diag_check.specs.Fields.{IsCrossBefore}
+use Rattle.diag_check.proofs.Vocabulary.{Gets, IsCrossBefore}
 use Rattle.diag_check.proofs.fields.add_crosses.Given as goal
 
 abbrev pub invariant-crosses : goal.invariant-crosses

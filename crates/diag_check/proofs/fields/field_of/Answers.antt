@@ -1,7 +1,4 @@
-use Rattle.std.proofs.Common.{◌<◌, All, sym, ap, ◌∙◌, subst}
-use Rattle.machine_shape.specs.declared.Cross.{Cross}
-use Rattle.machine_config.specs.Configuration.{Configuration}
-use Rattle.diag_known.specs.declared.field.Field.{Field}
+use Rattle.diag_check.proofs.Vocabulary.{◌<◌, All, sym, ap, ◌∙◌, subst, Cross, Configuration, Field}
 use Rattle.diag_check.proofs.Building.{picks_few, picked_over, built_of, built_few, built_skeleton}
 use Rattle.diag_check.proofs.Using.{closed_counts, closed_within}
 use Rattle.diag_check.proofs.fields.field_of.Goals as goal

@@ -1,5 +1,4 @@
-use Rattle.std.proofs.Common.{◌*◌, ◌≡◌}
-use Rattle.diag_check.specs.Fields.{IsHungOn}
+use Rattle.diag_check.proofs.Vocabulary.{◌*◌, ◌≡◌, IsHungOn}
 use Rattle.diag_check.proofs.Fielding.{HasMarked}
 use Rattle.diag_check.proofs.fields.hang_used.Given as goal
 

@@ -1,5 +1,4 @@
-use Rattle.std.proofs.Common.{◌≡◌, ◌<◌, Some, length, subst, arith, slice_get}
-use Rattle.diag_known.proofs.Getting.{at_index}
+use Rattle.diag_check.proofs.Vocabulary.{◌≡◌, ◌<◌, Some, length, subst, arith, slice_get, at_index}
 use Rattle.diag_check.proofs.Fielding.{hung_on}
 use Rattle.diag_check.proofs.fields.hang_wire.Goals as goal
 

@@ -1,5 +1,4 @@
-use Rattle.std.proofs.Common.{◌<◌, length, arith}
-use Rattle.diag_known.proofs.Getting.{at_index}
+use Rattle.diag_check.proofs.Vocabulary.{◌<◌, length, arith, at_index}
 use Rattle.diag_check.proofs.Fielding.{pick_wires, root_joints, up_joints}
 use Rattle.diag_check.proofs.fields.join_node.Goals as goal
 

@@ -1,5 +1,4 @@
-use Rattle.std.proofs.Common.{◌*◌}
-use Rattle.diag_check.specs.Fields.{IsJointOf, IsPickOf}
+use Rattle.diag_check.proofs.Vocabulary.{◌*◌, IsJointOf, IsPickOf}
 use Rattle.diag_check.proofs.Fielding.{HasMarked}
 use Rattle.diag_check.proofs.fields.join_nodes.Given as goal
 

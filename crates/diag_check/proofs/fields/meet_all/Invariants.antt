@@ -1,6 +1,4 @@
-use Rattle.std.proofs.Common.{◌*◌, length}
-use Rattle.diag_known.specs.Gains.{Gets}
-use Rattle.diag_check.specs.Fields.{IsBetween}
+use Rattle.diag_check.proofs.Vocabulary.{◌*◌, length, Gets, IsBetween}
 use Rattle.diag_check.proofs.fields.meet_all.Given as goal
 
 abbrev pub invariant-taps : goal.invariant-taps

@@ -1,5 +1,4 @@
-use Rattle.diag_known.specs.Gains.{Gets}
-use Rattle.diag_check.specs.Fields.{IsOnLines}
+use Rattle.diag_check.proofs.Vocabulary.{Gets, IsOnLines}
 use Rattle.diag_check.proofs.fields.meet_lines.Given as goal
 
 abbrev pub invariant-lines : goal.invariant-lines

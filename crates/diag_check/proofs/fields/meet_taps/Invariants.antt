@@ -1,5 +1,4 @@
-use Rattle.diag_known.specs.Gains.{Gets}
-use Rattle.diag_check.specs.Fields.{IsOnTaps}
+use Rattle.diag_check.proofs.Vocabulary.{Gets, IsOnTaps}
 use Rattle.diag_check.proofs.fields.meet_taps.Given as goal
 
 abbrev pub invariant-taps : goal.invariant-taps

@@ -1,5 +1,4 @@
-use Rattle.std.proofs.Common.{refl, map}
-use Rattle.machine_image.specs.Images.{drive_of}
+use Rattle.diag_check.proofs.Vocabulary.{refl, map, drive_of}
 use Rattle.diag_check.proofs.Covering.{others, image_free, no_registers, others_cover, same_registers, left_alone}
 use Rattle.diag_check.proofs.laws.kept_images_run_soundly.Goals as goal
 

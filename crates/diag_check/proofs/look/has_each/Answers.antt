@@ -1,5 +1,4 @@
-use Rattle.std.proofs.Common.{◌<◌, arith, refl}
-use Rattle.diag_known.proofs.Getting.{marked_within}
+use Rattle.diag_check.proofs.Vocabulary.{◌<◌, arith, refl, marked_within}
 use Rattle.diag_check.proofs.look.has_each.Goals as goal
 
 pub returns : goal.returns

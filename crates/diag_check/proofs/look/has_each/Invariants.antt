@@ -1,7 +1,4 @@
-use Rattle.std.proofs.Common.{◌≡◌, ◌<◌, ℕ, true}
-use Rattle.base_bits.specs.Numbers.{has_number}
-use Rattle.diag_evidence.specs.Kept.{keeps_wire}
-use Rattle.diag_known.specs.Known.{HasWire}
+use Rattle.diag_check.proofs.Vocabulary.{◌≡◌, ◌<◌, ℕ, true, has_number, keeps_wire, HasWire}
 use Rattle.diag_check.proofs.look.has_each.Given as goal
 
 abbrev pub invariant-wires : goal.invariant-wires

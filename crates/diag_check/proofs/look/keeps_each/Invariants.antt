@@ -1,6 +1,4 @@
-use Rattle.std.proofs.Common.{◌<◌, ℕ, get_or}
-use Rattle.machine_shape.specs.declared.Table.{Table}
-use Rattle.diag_check.specs.Looks.{KeepsTableOf}
+use Rattle.diag_check.proofs.Vocabulary.{◌<◌, ℕ, get_or, Table, KeepsTableOf}
 use Rattle.diag_check.proofs.look.keeps_each.Given as goal
 
 abbrev pub invariant-tables : goal.invariant-tables

@@ -1,10 +1,5 @@
-use Rattle.std.proofs.Common.{◌≡◌, true, sym, ◌∙◌}
-use Rattle.machine_shape.specs.declared.Cross.{Cross}
-use Rattle.machine_config.specs.Configuration.{is_closed}
-use Rattle.diag_evidence.specs.Kept.{keeps_cross}
-use Rattle.machine_image.proofs.Keyed.{of_set, to_set}
-use Rattle.diag_check.proofs.Looking.{wire_kept}
-use Rattle.diag_check.proofs.Using.{closed_counts, closed_within}
+use Rattle.diag_check.proofs.Vocabulary.{◌≡◌, true, sym, ◌∙◌, Cross, is_closed, keeps_cross, of_set, to_set}
+use Rattle.diag_check.proofs.{Looking.wire_kept, Using.closed_counts, Using.closed_within}
 use Rattle.diag_check.proofs.look.keeps_routes.Goals as goal
 
 pub returns-then-not-has_wires-clause-all : goal.returns-then-not-has_wires-clause-all

@@ -1,10 +1,5 @@
-use Rattle.std.proofs.Common.{sym, is_some}
-use Rattle.machine_shape.specs.declared.Table.{Table}
-use Rattle.machine_config.specs.Configuration.{setting_of}
-use Rattle.diag_check.specs.Looks.{KeepsTableOf}
-use Rattle.machine_image.proofs.Keyed.{of_set, to_set}
-use Rattle.diag_check.proofs.Looking.{tables_each, tables_kept}
-use Rattle.diag_check.proofs.Using.{table_counts, tables_within}
+use Rattle.diag_check.proofs.Vocabulary.{sym, is_some, Table, setting_of, KeepsTableOf, of_set, to_set}
+use Rattle.diag_check.proofs.{Looking.tables_each, Looking.tables_kept, Using.table_counts, Using.tables_within}
 use Rattle.diag_check.proofs.look.keeps_tables.Goals as goal
 
 pub keeps_each-requires-clause-tables : goal.keeps_each-requires-clause-tables

@@ -1,6 +1,4 @@
-use Rattle.std.proofs.Common.{false, replicate, ap, ◌∙◌}
-use Rattle.machine_shape.specs.Shape.{nodes_of}
-use Rattle.machine_config.specs.Configuration.{Configuration}
+use Rattle.diag_check.proofs.Vocabulary.{false, replicate, ap, ◌∙◌, nodes_of, Configuration}
 use Rattle.diag_check.proofs.Involving.{involved_of}
 use Rattle.diag_check.proofs.marks.involved_nodes.Goals as goal
 

@@ -1,6 +1,4 @@
-use Rattle.std.proofs.Common.{◌≡◌, ◌-◌, ◌+◌, subst, arith}
-use Rattle.machine_shape.specs.Shape.{nodes_of}
-use Rattle.diag_check.specs.Marks.{Rises}
+use Rattle.diag_check.proofs.Vocabulary.{◌≡◌, ◌-◌, ◌+◌, subst, arith, nodes_of, Rises}
 use Rattle.diag_check.proofs.Involving.{rises_first}
 use Rattle.diag_check.proofs.marks.mark_above.Goals as goal
 

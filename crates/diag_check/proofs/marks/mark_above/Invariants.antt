@@ -1,5 +1,4 @@
-use Rattle.std.proofs.Common.{◌-◌}
-use Rattle.diag_check.specs.Marks.{Rises}
+use Rattle.diag_check.proofs.Vocabulary.{◌-◌, Rises}
 use Rattle.diag_check.proofs.marks.mark_above.Given as goal
 
 abbrev pub invariant-nodes : goal.invariant-nodes

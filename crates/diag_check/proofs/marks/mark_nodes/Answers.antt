@@ -1,6 +1,4 @@
-use Rattle.std.proofs.Common.{◌≡◌, ◌<◌, length, subst, sym, ◌∙◌, arith}
-use Rattle.machine_shape.specs.Shape.{wires_of}
-use Rattle.diag_check.specs.Marks.{Adds, IsNodeAmong}
+use Rattle.diag_check.proofs.Vocabulary.{◌≡◌, ◌<◌, length, subst, sym, ◌∙◌, arith, wires_of, Adds, IsNodeAmong}
 use Rattle.diag_check.proofs.Involving.{nodes_none, nodes_next, nodes_pass}
 use Rattle.diag_check.proofs.marks.mark_nodes.Goals as goal
 

@@ -1,6 +1,4 @@
-use Rattle.std.proofs.Common.{◌≡◌, ◌<◌, length, subst, sym, ◌∙◌, arith}
-use Rattle.machine_shape.specs.Shape.{crosses_of}
-use Rattle.diag_check.specs.Marks.{Adds, IsNearBefore}
+use Rattle.diag_check.proofs.Vocabulary.{◌≡◌, ◌<◌, length, subst, sym, ◌∙◌, arith, crosses_of, Adds, IsNearBefore}
 use Rattle.diag_check.proofs.Surrounding.{near_none, near_next, near_pass}
 use Rattle.diag_check.proofs.near.mark_between.Goals as goal
 

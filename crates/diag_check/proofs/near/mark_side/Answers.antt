@@ -1,6 +1,4 @@
-use Rattle.std.proofs.Common.{◌≡◌, ◌<◌, length, subst, arith}
-use Rattle.diag_check.specs.Marks.{Adds, IsAmongFirst}
-use Rattle.diag_check.specs.Picked.{side_wire, width_of}
+use Rattle.diag_check.proofs.Vocabulary.{◌≡◌, ◌<◌, length, subst, arith, Adds, IsAmongFirst, side_wire, width_of}
 use Rattle.diag_check.proofs.Adding.{first_none, first_next}
 use Rattle.diag_check.proofs.near.mark_side.Goals as goal
 

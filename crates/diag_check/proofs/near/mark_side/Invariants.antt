@@ -1,5 +1,4 @@
-use Rattle.diag_check.specs.Marks.{Adds, IsAmongFirst}
-use Rattle.diag_check.specs.Picked.{side_wire}
+use Rattle.diag_check.proofs.Vocabulary.{Adds, IsAmongFirst, side_wire}
 use Rattle.diag_check.proofs.near.mark_side.Given as goal
 
 abbrev pub invariant-positions : goal.invariant-positions

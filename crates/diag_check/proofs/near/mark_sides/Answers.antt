@@ -1,8 +1,4 @@
-use Rattle.std.proofs.Common.{◌≡◌, subst, sym, ◌∙◌, arith}
-use Rattle.machine_shape.specs.Shape.{nodes_of}
-use Rattle.diag_check.specs.Fields.{OfMarked}
-use Rattle.diag_check.specs.Marks.{Adds}
-use Rattle.diag_check.specs.Near.{IsOfNode}
+use Rattle.diag_check.proofs.Vocabulary.{◌≡◌, subst, sym, ◌∙◌, arith, nodes_of, OfMarked, Adds, IsOfNode}
 use Rattle.diag_check.proofs.Surrounding.{sides_none, sides_next, sides_pass}
 use Rattle.diag_check.proofs.near.mark_sides.Goals as goal
 

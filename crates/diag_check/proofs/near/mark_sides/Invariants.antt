@@ -1,6 +1,4 @@
-use Rattle.diag_check.specs.Fields.{OfMarked}
-use Rattle.diag_check.specs.Marks.{Adds}
-use Rattle.diag_check.specs.Near.{IsOfNode}
+use Rattle.diag_check.proofs.Vocabulary.{OfMarked, Adds, IsOfNode}
 use Rattle.diag_check.proofs.near.mark_sides.Given as goal
 
 abbrev pub invariant-nodes : goal.invariant-nodes

@@ -1,7 +1,4 @@
-use Rattle.std.proofs.Common.{false, length, replicate, ap, ◌∙◌}
-use Rattle.std.proofs.lemmas.List.{length-replicate}
-use Rattle.machine_shape.specs.Shape.{crosses_of}
-use Rattle.machine_config.specs.Configuration.{Configuration}
+use Rattle.diag_check.proofs.Vocabulary.{false, length, replicate, ap, ◌∙◌, length-replicate, crosses_of, Configuration}
 use Rattle.diag_check.proofs.Surrounding.{surroundings_over}
 use Rattle.diag_check.proofs.near.surroundings_of.Goals as goal
 

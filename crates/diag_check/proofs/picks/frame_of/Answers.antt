@@ -1,5 +1,4 @@
-use Rattle.std.proofs.Common.{subst}
-use Rattle.diag_check.specs.Picked.{IsPickedAt}
+use Rattle.diag_check.proofs.Vocabulary.{subst, IsPickedAt}
 use Rattle.diag_check.proofs.Picking.{picks_pushed}
 use Rattle.diag_check.proofs.picks.frame_of.Goals as goal
 

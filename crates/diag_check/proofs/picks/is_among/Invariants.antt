@@ -1,5 +1,4 @@
-use Rattle.std.proofs.Common.{◌≢◌, ℕ, ◌<◌, ◌≡◌, Some, slice_get}
-use Rattle.machine_shape.specs.declared.Wire.{Wire}
+use Rattle.diag_check.proofs.Vocabulary.{◌≢◌, ℕ, ◌<◌, ◌≡◌, Some, slice_get, Wire}
 use Rattle.diag_check.proofs.picks.is_among.Given as goal
 
 abbrev pub invariant-wires : goal.invariant-wires

@@ -1,5 +1,4 @@
-use Rattle.std.proofs.Common.{◌≡◌, ◌≤◌, ◌∷◌, [], length, ap, arith}
-use Rattle.std.proofs.lemmas.List.{length-append}
+use Rattle.diag_check.proofs.Vocabulary.{◌≡◌, ◌≤◌, ◌∷◌, [], length, ap, arith, length-append}
 use Rattle.diag_check.proofs.Picking.{side_pushed, picked_full, picked_all}
 use Rattle.diag_check.proofs.picks.pick.Goals as goal
 

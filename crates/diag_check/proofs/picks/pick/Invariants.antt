@@ -1,5 +1,4 @@
-use Rattle.std.proofs.Common.{◌≡◌, length}
-use Rattle.diag_check.specs.Picked.{AreOfSide}
+use Rattle.diag_check.proofs.Vocabulary.{◌≡◌, length, AreOfSide}
 use Rattle.diag_check.proofs.picks.pick.Given as goal
 
 abbrev pub invariant-picks : goal.invariant-picks

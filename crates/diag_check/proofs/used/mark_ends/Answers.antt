@@ -1,7 +1,5 @@
 use Rattle.std.proofs.Common.{◌≡◌, ◌<◌, Some, length, subst, arith, slice_get, slice_index_or}
-use Rattle.std.proofs.lemmas.Option.{slice_get-get_or}
-use Rattle.machine_shape.specs.declared.Cross.{Cross}
-use Rattle.diag_check.specs.Marks.{Adds, IsEndAmong}
+use Rattle.diag_check.proofs.Vocabulary.{slice_get-get_or, Cross, Adds, IsEndAmong}
 use Rattle.diag_check.proofs.Adding.{ends_none, ends_next}
 use Rattle.diag_check.proofs.used.mark_ends.Goals as goal
 

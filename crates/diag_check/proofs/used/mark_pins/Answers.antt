@@ -1,6 +1,4 @@
-use Rattle.std.proofs.Common.{◌≡◌, ◌<◌, length, subst, arith, slice_index}
-use Rattle.machine_shape.specs.Shape.{pin_wire}
-use Rattle.diag_check.specs.Marks.{Adds, IsPinAmong}
+use Rattle.diag_check.proofs.Vocabulary.{◌≡◌, ◌<◌, length, subst, arith, slice_index, pin_wire, Adds, IsPinAmong}
 use Rattle.diag_check.proofs.Adding.{first_none, first_next}
 use Rattle.diag_check.proofs.used.mark_pins.Goals as goal
 

@@ -1,6 +1,4 @@
-use Rattle.std.proofs.Common.{◌≡◌, ◌<◌, length, subst, arith}
-use Rattle.machine_shape.specs.Shape.{table_wire}
-use Rattle.diag_check.specs.Marks.{Adds, IsPinOfTable}
+use Rattle.diag_check.proofs.Vocabulary.{◌≡◌, ◌<◌, length, subst, arith, table_wire, Adds, IsPinOfTable}
 use Rattle.diag_check.proofs.Adding.{first_none, first_next}
 use Rattle.diag_check.proofs.used.mark_table.Goals as goal
 

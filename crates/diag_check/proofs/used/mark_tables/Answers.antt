@@ -1,7 +1,5 @@
 use Rattle.std.proofs.Common.{◌≡◌, Some, length, subst, arith, slice_get, slice_index_or}
-use Rattle.std.proofs.lemmas.Option.{slice_get-get_or}
-use Rattle.machine_shape.specs.declared.Table.{Table}
-use Rattle.diag_check.specs.Marks.{Adds, IsTablePinAmong}
+use Rattle.diag_check.proofs.Vocabulary.{slice_get-get_or, Table, Adds, IsTablePinAmong}
 use Rattle.diag_check.proofs.Adding.{tables_next}
 use Rattle.diag_check.proofs.used.mark_tables.Goals as goal
 

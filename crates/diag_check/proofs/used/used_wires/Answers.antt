@@ -1,6 +1,4 @@
-use Rattle.std.proofs.Common.{false, replicate, ap, ◌∙◌}
-use Rattle.machine_shape.specs.Shape.{wires_of}
-use Rattle.machine_config.specs.Configuration.{Configuration}
+use Rattle.diag_check.proofs.Vocabulary.{false, replicate, ap, ◌∙◌, wires_of, Configuration}
 use Rattle.diag_check.proofs.Using.{closed_counts, closed_within, table_counts, tables_within, first_pins, last_pins, used_of}
 use Rattle.diag_check.proofs.used.used_wires.Goals as goal
 

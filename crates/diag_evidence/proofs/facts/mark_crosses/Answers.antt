@@ -1,8 +1,5 @@
 use Rattle.std.proofs.Common.{◌≡◌, ◌<◌, ◌+◌, ◌||◌, ◌∙◌, ℕ, Bool, List, length, get_or, take, sym, ap, subst, arith}
-use Rattle.std.proofs.lemmas.List.{length-set, length-map, get_or-map}
-use Rattle.base_bits.specs.Numbers.{has_number}
-use Rattle.machine_config.specs.Groups.{among}
-use Rattle.diag_evidence.specs.Hangs.{Foot, feet_crosses}
+use Rattle.diag_evidence.proofs.Vocabulary.{length-set, length-map, get_or-map, has_number, among, Foot, feet_crosses}
 use Rattle.diag_evidence.proofs.Marking.{next_marked}
 use Rattle.diag_evidence.proofs.facts.mark_crosses.Goals as goal
 

@@ -1,9 +1,4 @@
-use Rattle.std.proofs.Common.{◌≡◌, ◌∙◌, ◌||◌, true, take, ap, subst, arith}
-use Rattle.std.proofs.lemmas.List.{take_all}
-use Rattle.base_bits.specs.Numbers.{has_number}
-use Rattle.machine_config.specs.Groups.{among}
-use Rattle.diag_tests.specs.Routes.{Walk}
-use Rattle.diag_evidence.specs.Readings.{wires_over}
+use Rattle.diag_evidence.proofs.Vocabulary.{◌≡◌, ◌∙◌, ◌||◌, true, take, ap, subst, arith, take_all, has_number, among, Walk, wires_over}
 use Rattle.diag_evidence.proofs.Several.{gathered_next}
 use Rattle.diag_evidence.proofs.facts.mark_routes.Goals as goal
 

@@ -1,7 +1,4 @@
-use Rattle.std.proofs.Common.{◌≡◌, ◌||◌, ℕ, length, take}
-use Rattle.base_bits.specs.Numbers.{has_number}
-use Rattle.machine_config.specs.Groups.{among}
-use Rattle.diag_evidence.specs.Readings.{wires_over}
+use Rattle.diag_evidence.proofs.Vocabulary.{◌≡◌, ◌||◌, ℕ, length, take, has_number, among, wires_over}
 use Rattle.diag_evidence.proofs.facts.mark_routes.Given as goal
 
 abbrev pub invariant-routes : goal.invariant-routes

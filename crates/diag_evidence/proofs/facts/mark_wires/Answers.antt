@@ -1,8 +1,5 @@
 use Rattle.std.proofs.Common.{◌≡◌, ◌<◌, ◌+◌, ◌∙◌, length, take, ap, arith, ◌||◌}
-use Rattle.base_bits.specs.Numbers.{has_number}
-use Rattle.machine_config.specs.Groups.{among}
-use Rattle.std.proofs.lemmas.List.{length-set, take_all}
-use Rattle.diag_tests.proofs.Closings.{among_at}
+use Rattle.diag_evidence.proofs.Vocabulary.{has_number, among, length-set, take_all, among_at}
 use Rattle.diag_evidence.proofs.KeptLemmas.{mark_next}
 use Rattle.diag_evidence.proofs.facts.mark_wires.Goals as goal
 

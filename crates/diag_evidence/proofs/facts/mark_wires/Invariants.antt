@@ -1,6 +1,4 @@
-use Rattle.std.proofs.Common.{◌≡◌, ℕ, length, take, ◌||◌}
-use Rattle.base_bits.specs.Numbers.{has_number}
-use Rattle.machine_config.specs.Groups.{among}
+use Rattle.diag_evidence.proofs.Vocabulary.{◌≡◌, ℕ, length, take, ◌||◌, has_number, among}
 use Rattle.diag_evidence.proofs.facts.mark_wires.Given as goal
 
 abbrev pub invariant-wires : goal.invariant-wires

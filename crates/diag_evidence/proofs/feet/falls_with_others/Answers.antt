@@ -1,7 +1,5 @@
 use Rattle.std.proofs.Common.{◌≡◌, ◌&&◌, ◌<◌, not, true, false, Bool, ℕ, refl, sym, ap, ◌∙◌, arith, ◌==◌, is_some}
-use Rattle.std.proofs.lemmas.Bool.Decides.{nat_tests}
-use Rattle.machine_shape.specs.Shape.{pin_wire, pins_of}
-use Rattle.diag_evidence.specs.Vocabulary.{pin_of, is_hung, read_under}
+use Rattle.diag_evidence.proofs.Vocabulary.{nat_tests, pin_wire, pins_of, pin_of, is_hung, read_under}
 use Rattle.diag_evidence.proofs.Rows.{number_not_yet, number_shown, and_not, and_neither, and_last, and_all}
 use Rattle.diag_evidence.proofs.feet.falls_with_others.Goals as goal
 

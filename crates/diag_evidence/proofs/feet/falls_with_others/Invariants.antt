@@ -1,7 +1,4 @@
-use Rattle.std.proofs.Common.{◌≡◌, ◌&&◌, not, false, ◌==◌}
-use Rattle.std.specs.List.{list_any, range_with_len}
-use Rattle.machine_shape.specs.Shape.{pin_wire}
-use Rattle.diag_evidence.specs.Vocabulary.{is_hung, read_under}
+use Rattle.diag_evidence.proofs.Vocabulary.{◌≡◌, ◌&&◌, not, false, ◌==◌, list_any, range_with_len, pin_wire, is_hung, read_under}
 use Rattle.diag_evidence.proofs.feet.falls_with_others.Given as goal
 
 abbrev pub invariant-pins : goal.invariant-pins

@@ -1,11 +1,8 @@
 use Rattle.std.proofs.Common.{◌≡◌, ◌<◌, ◌+◌, ◌&&◌, ◌||◌, ◌∙◌, ℕ, Bool, List, true, false, not, length, get_or, take, refl, sym, ap, subst, arith, ◌==◌}
 use mathlib.Core.Bool.{beq}
-use Rattle.std.specs.List.{list_any}
-use Rattle.std.proofs.lemmas.List.{length-set, get_or_default}
-use Rattle.base_bits.specs.Numbers.{has_number}
+use Rattle.diag_evidence.proofs.Vocabulary.{list_any, length-set, get_or_default, has_number}
 use Rattle.diag_evidence.specs.Vocabulary.{Foot, pin_at, others_part, reads_oddly, reads_alike, shows_unfit, shows_unclear, differ, read_under, read_free}
-use Rattle.diag_evidence.proofs.Marking.{marked_on, marked_not}
-use Rattle.diag_evidence.proofs.Rows.{not_at_second, all_three, differ_by, not_not}
+use Rattle.diag_evidence.proofs.{Marking.marked_on, Marking.marked_not, Rows.not_at_second, Rows.all_three, Rows.differ_by, Rows.not_not}
 use Rattle.diag_evidence.proofs.feet.mark_unfit.Goals as goal
 use Rattle.diag_evidence.proofs.feet.mark_unfit.Goals.{then-read_under-read_free, else-read_under-read_free}
 

@@ -1,7 +1,4 @@
-use Rattle.std.proofs.Common.{◌≡◌, ◌&&◌, ◌||◌, ℕ, length, take, ◌==◌}
-use Rattle.std.specs.List.{list_any}
-use Rattle.base_bits.specs.Numbers.{has_number}
-use Rattle.diag_evidence.specs.Hangs.{shows_unfit, shows_unclear}
+use Rattle.diag_evidence.proofs.Vocabulary.{◌≡◌, ◌&&◌, ◌||◌, ℕ, length, take, ◌==◌, list_any, has_number, shows_unfit, shows_unclear}
 use Rattle.diag_evidence.proofs.feet.mark_unfit.Given as goal
 
 abbrev pub invariant-feet : goal.invariant-feet

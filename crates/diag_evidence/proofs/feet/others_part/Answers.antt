@@ -1,7 +1,5 @@
-use Rattle.std.proofs.lemmas.List.{get_or_default}
+use Rattle.diag_evidence.proofs.Vocabulary.{get_or_default, nat_tests, Foot, pin_at, parts}
 use Rattle.std.proofs.Common.{◌≡◌, ◌||◌, ◌<◌, true, false, get_or, refl, sym, ap, ◌∙◌, arith, ◌==◌}
-use Rattle.std.proofs.lemmas.Bool.Decides.{nat_tests}
-use Rattle.diag_evidence.specs.Vocabulary.{Foot, pin_at, parts}
 use Rattle.diag_evidence.proofs.Rows.{not_all}
 use Rattle.diag_evidence.proofs.feet.others_part.Goals as goal
 

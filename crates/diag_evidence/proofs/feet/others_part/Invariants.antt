@@ -1,6 +1,4 @@
-use Rattle.std.proofs.Common.{◌≡◌, ◌||◌, true, take, ◌==◌}
-use Rattle.std.specs.List.{list_all}
-use Rattle.diag_evidence.specs.Vocabulary.{pin_at, parts}
+use Rattle.diag_evidence.proofs.Vocabulary.{◌≡◌, ◌||◌, true, take, ◌==◌, list_all, pin_at, parts}
 use Rattle.diag_evidence.proofs.feet.others_part.Given as goal
 
 abbrev pub invariant-feet : goal.invariant-feet

@@ -1,7 +1,4 @@
-use Rattle.std.proofs.Common.{◌≡◌, ◌<◌, ◌∙◌, Some, unwrap_or, subst, sym, ap, refl, arith}
-use Rattle.machine_shape.specs.Shape.{pins_of}
-use Rattle.diag_tests.specs.Routes.{other_end}
-use Rattle.diag_evidence.specs.Vocabulary.{pin_of, pin_at}
+use Rattle.diag_evidence.proofs.Vocabulary.{◌≡◌, ◌<◌, ◌∙◌, Some, unwrap_or, subst, sym, ap, refl, arith, pins_of, other_end, pin_of, pin_at}
 use Rattle.diag_evidence.proofs.Footing.{foot_below}
 use Rattle.diag_evidence.proofs.feet.pin_at.Goals as goal
 

@@ -1,5 +1,4 @@
-use Rattle.std.proofs.Common.{◌<◌, ◌≤◌, ℕ}
-use Rattle.machine_shape.specs.Shape.{pin_wire}
+use Rattle.diag_evidence.proofs.Vocabulary.{◌<◌, ◌≤◌, ℕ, pin_wire}
 use Rattle.diag_evidence.proofs.forest.last_pin.Given as goal
 
 abbrev pub invariant-pins : goal.invariant-pins

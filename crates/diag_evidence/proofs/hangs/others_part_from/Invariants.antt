@@ -1,5 +1,4 @@
-use Rattle.std.proofs.Common.{◌≡◌, true, take}
-use Rattle.diag_evidence.specs.Hangs.{others_part_from}
+use Rattle.diag_evidence.proofs.Vocabulary.{◌≡◌, true, take, others_part_from}
 use Rattle.diag_evidence.proofs.hangs.others_part_from.Given as goal
 
 abbrev pub invariant-hangs : goal.invariant-hangs

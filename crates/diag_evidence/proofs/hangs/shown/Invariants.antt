@@ -1,5 +1,4 @@
-use Rattle.std.proofs.Common.{◌≡◌, take, filter}
-use Rattle.diag_evidence.specs.Hangs.{overs, is_shown}
+use Rattle.diag_evidence.proofs.Vocabulary.{◌≡◌, take, filter, overs, is_shown}
 use Rattle.diag_evidence.proofs.hangs.shown.Given as goal
 
 abbrev pub invariant-hangs : goal.invariant-hangs

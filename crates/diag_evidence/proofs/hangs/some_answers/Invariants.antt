@@ -1,5 +1,4 @@
-use Rattle.std.proofs.Common.{◌≡◌, false, take}
-use Rattle.diag_evidence.specs.Hangs.{some_answers}
+use Rattle.diag_evidence.proofs.Vocabulary.{◌≡◌, false, take, some_answers}
 use Rattle.diag_evidence.proofs.hangs.some_answers.Given as goal
 
 abbrev pub invariant-hangs : goal.invariant-hangs

@@ -1,5 +1,4 @@
-use Rattle.std.proofs.Common.{◌≡◌, take, map}
-use Rattle.diag_evidence.specs.Hangs.{turned}
+use Rattle.diag_evidence.proofs.Vocabulary.{◌≡◌, take, map, turned}
 use Rattle.diag_evidence.proofs.hangs.turn_hangs.Given as goal
 
 abbrev pub invariant-hangs : goal.invariant-hangs

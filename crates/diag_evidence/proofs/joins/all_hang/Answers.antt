@@ -1,7 +1,4 @@
-use Rattle.std.proofs.Common.{◌≡◌, ◌||◌, not, true, false, sym, ap, ◌∙◌, arith, is_some}
-use Rattle.base_bits.specs.Numbers.{has_number}
-use Rattle.machine_shape.specs.Shape.{wires_of}
-use Rattle.diag_evidence.specs.Vocabulary.{is_hung}
+use Rattle.diag_evidence.proofs.Vocabulary.{◌≡◌, ◌||◌, not, true, false, sym, ap, ◌∙◌, arith, is_some, has_number, wires_of, is_hung}
 use Rattle.diag_evidence.proofs.Rows.{every_yet, not_every, or_first, or_second, or_neither}
 use Rattle.diag_evidence.proofs.joins.all_hang.Goals as goal
 

@@ -1,7 +1,4 @@
-use Rattle.std.proofs.Common.{◌≡◌, ◌||◌, not, true}
-use Rattle.std.specs.List.{list_all, range_with_len}
-use Rattle.base_bits.specs.Numbers.{has_number}
-use Rattle.diag_evidence.specs.Vocabulary.{is_hung}
+use Rattle.diag_evidence.proofs.Vocabulary.{◌≡◌, ◌||◌, not, true, list_all, range_with_len, has_number, is_hung}
 use Rattle.diag_evidence.proofs.joins.all_hang.Given as goal
 
 abbrev pub invariant-wires : goal.invariant-wires

@@ -1,8 +1,5 @@
 use Rattle.std.proofs.Common.{◌≡◌, ◌&&◌, Bool, true, false, List, All, map, sym, ap, subst, ◌∙◌}
-use Rattle.std.proofs.lemmas.List.Elements.{All-map}
-use Rattle.diag_evidence.specs.declared.hangs.WireTest.{WireTest}
-use Rattle.diag_evidence.specs.Vocabulary.{swings}
-use Rattle.diag_evidence.specs.Hangs.{IsFoot, over_of, is_shown, turned, pin_p, pin_q, parts_from_hung}
+use Rattle.diag_evidence.proofs.Vocabulary.{All-map, WireTest, swings, IsFoot, over_of, is_shown, turned, pin_p, pin_q, parts_from_hung}
 use Rattle.diag_evidence.proofs.Rows.{not_at_first, not_at_second, and_rest}
 use Rattle.diag_evidence.proofs.joins.joins.Goals as goal
 

@@ -1,6 +1,5 @@
 use Rattle.std.proofs.Common.{◌≡◌, not, true, false, sym, ap, ◌∙◌, is_some}
-use Rattle.machine_shape.specs.Shape.{pin_wire}
-use Rattle.diag_evidence.specs.Vocabulary.{pin_of, is_hung, swings, parts_from_others}
+use Rattle.diag_evidence.proofs.Vocabulary.{pin_wire, pin_of, is_hung, swings, parts_from_others}
 use Rattle.diag_evidence.proofs.Rows.{not_at_first, and_neither, and_rest}
 use Rattle.diag_evidence.proofs.joins.joins_alone.Goals as goal
 

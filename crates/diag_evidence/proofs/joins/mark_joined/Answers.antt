@@ -1,11 +1,6 @@
 use Rattle.std.proofs.Common.{◌≡◌, ◌<◌, ◌+◌, ◌&&◌, ◌||◌, true, false, ℕ, List, Bool, length, get_or, set, take, refl, sym, ap, subst, ◌∙◌, arith, ◌==◌}
-use Rattle.std.specs.List.{list_any}
-use Rattle.std.proofs.lemmas.List.{length-set, get_or_default}
-use Rattle.base_bits.specs.Numbers.{has_number}
-use Rattle.diag_evidence.specs.declared.hangs.WireTest.{WireTest}
-use Rattle.diag_evidence.specs.Hangs.{joins}
-use Rattle.diag_evidence.proofs.Hanging.{some_hang}
-use Rattle.diag_evidence.proofs.Marking.{marked_on, marked_not}
+use Rattle.diag_evidence.proofs.Vocabulary.{list_any, length-set, get_or_default, has_number, WireTest, joins}
+use Rattle.diag_evidence.proofs.{Hanging.some_hang, Marking.marked_on, Marking.marked_not}
 use Rattle.diag_evidence.proofs.joins.mark_joined.Goals as goal
 
 pub hangs-preserved-then-not-joins : goal.hangs-preserved-then-not-joins

@@ -1,7 +1,4 @@
-use Rattle.std.proofs.Common.{◌≡◌, ◌&&◌, ◌||◌, ℕ, length, take, ◌==◌}
-use Rattle.std.specs.List.{list_any}
-use Rattle.base_bits.specs.Numbers.{has_number}
-use Rattle.diag_evidence.specs.Vocabulary.{joins}
+use Rattle.diag_evidence.proofs.Vocabulary.{◌≡◌, ◌&&◌, ◌||◌, ℕ, length, take, ◌==◌, list_any, has_number, joins}
 use Rattle.diag_evidence.proofs.joins.mark_joined.Given as goal
 
 abbrev pub invariant-hangs : goal.invariant-hangs

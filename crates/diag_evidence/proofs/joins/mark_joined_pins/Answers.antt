@@ -1,9 +1,5 @@
 use Rattle.std.proofs.Common.{◌≡◌, ◌<◌, ◌+◌, ◌&&◌, ◌||◌, true, false, ℕ, List, Bool, length, set, sym, ap, subst, ◌∙◌, arith, ◌==◌}
-use Rattle.std.specs.List.{list_any, range_with_len}
-use Rattle.std.proofs.lemmas.List.{length-set}
-use Rattle.base_bits.specs.Numbers.{has_number}
-use Rattle.machine_shape.specs.Shape.{pin_wire, wires_of}
-use Rattle.diag_evidence.specs.Vocabulary.{joins_alone}
+use Rattle.diag_evidence.proofs.Vocabulary.{list_any, range_with_len, length-set, has_number, pin_wire, wires_of, joins_alone}
 use Rattle.diag_evidence.proofs.Marking.{counted_on, counted_not}
 use Rattle.diag_evidence.proofs.joins.mark_joined_pins.Goals as goal
 

@@ -1,8 +1,4 @@
-use Rattle.std.proofs.Common.{◌≡◌, ◌&&◌, ◌||◌, ℕ, length, ◌==◌}
-use Rattle.std.specs.List.{list_any, range_with_len}
-use Rattle.base_bits.specs.Numbers.{has_number}
-use Rattle.machine_shape.specs.Shape.{pin_wire}
-use Rattle.diag_evidence.specs.Vocabulary.{joins_alone}
+use Rattle.diag_evidence.proofs.Vocabulary.{◌≡◌, ◌&&◌, ◌||◌, ℕ, length, ◌==◌, list_any, range_with_len, has_number, pin_wire, joins_alone}
 use Rattle.diag_evidence.proofs.joins.mark_joined_pins.Given as goal
 
 abbrev pub invariant-pins : goal.invariant-pins

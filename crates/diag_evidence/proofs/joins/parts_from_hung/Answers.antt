@@ -1,7 +1,5 @@
 use Rattle.std.proofs.Common.{◌≡◌, ◌||◌, ℕ, not, true, false, sym, ap, ◌∙◌, arith, ◌==◌, is_some}
-use Rattle.std.proofs.lemmas.Bool.Decides.{nat_tests}
-use Rattle.machine_shape.specs.Shape.{pin_wire, pins_of}
-use Rattle.diag_evidence.specs.Vocabulary.{pin_of, is_hung, parts}
+use Rattle.diag_evidence.proofs.Vocabulary.{nat_tests, pin_wire, pins_of, pin_of, is_hung, parts}
 use Rattle.diag_evidence.proofs.Rows.{every_yet, not_every, or_first, or_second, or_neither}
 use Rattle.diag_evidence.proofs.joins.parts_from_hung.Goals as goal
 

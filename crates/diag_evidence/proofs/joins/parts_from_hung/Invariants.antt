@@ -1,7 +1,4 @@
-use Rattle.std.proofs.Common.{◌≡◌, ◌||◌, not, true, ◌==◌}
-use Rattle.std.specs.List.{list_all, range_with_len}
-use Rattle.machine_shape.specs.Shape.{pin_wire}
-use Rattle.diag_evidence.specs.Vocabulary.{is_hung, parts}
+use Rattle.diag_evidence.proofs.Vocabulary.{◌≡◌, ◌||◌, not, true, ◌==◌, list_all, range_with_len, pin_wire, is_hung, parts}
 use Rattle.diag_evidence.proofs.joins.parts_from_hung.Given as goal
 
 abbrev pub invariant-pins : goal.invariant-pins

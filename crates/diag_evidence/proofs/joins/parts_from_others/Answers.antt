@@ -1,10 +1,6 @@
 use Rattle.std.proofs.Common.{◌≡◌, ◌||◌, true, false, ℕ, Option, sym, ap, ◌∙◌, arith, ◌==◌}
-use Rattle.std.specs.Option.{option_map_or}
-use Rattle.std.proofs.lemmas.Bool.Decides.{nat_tests}
-use Rattle.machine_shape.specs.Shape.{wires_of}
-use Rattle.diag_evidence.specs.Vocabulary.{pin_of, parts}
-use Rattle.diag_evidence.proofs.Rows.{every_yet, not_every, or_first, or_second, or_neither}
-use Rattle.diag_evidence.proofs.Footing.{pin_below}
+use Rattle.diag_evidence.proofs.Vocabulary.{option_map_or, nat_tests, wires_of, pin_of, parts}
+use Rattle.diag_evidence.proofs.{Rows.every_yet, Rows.not_every, Rows.or_first, Rows.or_second, Rows.or_neither, Footing.pin_below}
 use Rattle.diag_evidence.proofs.joins.parts_from_others.Goals as goal
 
 pub parts-requires-clause-a : goal.parts-requires-clause-a

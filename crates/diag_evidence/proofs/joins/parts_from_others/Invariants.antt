@@ -1,7 +1,4 @@
-use Rattle.std.proofs.Common.{◌≡◌, ◌||◌, true, ◌==◌}
-use Rattle.std.specs.List.{list_all, range_with_len}
-use Rattle.std.specs.Option.{option_map_or}
-use Rattle.diag_evidence.specs.Vocabulary.{parts, pin_of}
+use Rattle.diag_evidence.proofs.Vocabulary.{◌≡◌, ◌||◌, true, ◌==◌, list_all, range_with_len, option_map_or, parts, pin_of}
 use Rattle.diag_evidence.proofs.joins.parts_from_others.Given as goal
 
 abbrev pub invariant-wires : goal.invariant-wires

@@ -1,5 +1,4 @@
-use Rattle.std.proofs.Common.{subst, sym, arith}
-use Rattle.diag_evidence.specs.Leads.{IsLeadOf}
+use Rattle.diag_evidence.proofs.Vocabulary.{subst, sym, arith, IsLeadOf}
 use Rattle.diag_evidence.proofs.Closing.{closes_more, crosses_below}
 use Rattle.diag_evidence.proofs.leads.close_walks.Goals as goal
 

@@ -1,6 +1,4 @@
-use Rattle.std.proofs.Common.{take}
-use Rattle.diag_tests.specs.Configs.{Closes}
-use Rattle.diag_evidence.specs.Leads.{crosses_of_leads}
+use Rattle.diag_evidence.proofs.Vocabulary.{take, Closes, crosses_of_leads}
 use Rattle.diag_evidence.proofs.leads.close_walks.Given as goal
 
 abbrev pub invariant-leads : goal.invariant-leads

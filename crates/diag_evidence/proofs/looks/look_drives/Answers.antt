@@ -1,8 +1,6 @@
 use Rattle.std.proofs.Common.{◌≡◌, List, [], ◌∷◌, ◌++◌, false, set, sym, ap, ◌∙◌, arith, map}
-use Rattle.std.specs.List.{range_with_len}
-use Rattle.machine_meaning.specs.Circuit.{Pins}
+use Rattle.diag_evidence.proofs.Vocabulary.{range_with_len, Pins, none_driven, one_driven}
 use Rattle.std.proofs.lemmas.List.FromFn.{map-range_with_len_more}
-use Rattle.diag_evidence.specs.Looks.{none_driven, one_driven}
 use Rattle.diag_evidence.proofs.looks.look_drives.Goals as goal
 
 pub pins-preserved : goal.pins-preserved

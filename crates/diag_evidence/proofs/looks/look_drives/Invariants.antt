@@ -1,6 +1,4 @@
-use Rattle.std.proofs.Common.{◌≡◌, ◌∷◌, map}
-use Rattle.std.specs.List.{range_with_len}
-use Rattle.diag_evidence.specs.Looks.{none_driven, one_driven}
+use Rattle.diag_evidence.proofs.Vocabulary.{◌≡◌, ◌∷◌, map, range_with_len, none_driven, one_driven}
 use Rattle.diag_evidence.proofs.looks.look_drives.Given as goal
 
 abbrev pub invariant-pins : goal.invariant-pins

@@ -1,5 +1,4 @@
-use Rattle.std.proofs.Common.{◌≡◌, true, get_or, sym, ap, ◌∙◌, arith}
-use Rattle.diag_evidence.specs.Looks.{differ}
+use Rattle.diag_evidence.proofs.Vocabulary.{◌≡◌, true, get_or, sym, ap, ◌∙◌, arith, differ}
 use Rattle.diag_evidence.proofs.Rows.{differ_at, shown_at, not_yet}
 use Rattle.diag_evidence.proofs.looks.parts.Goals as goal
 

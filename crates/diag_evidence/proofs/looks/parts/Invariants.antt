@@ -1,5 +1,4 @@
-use Rattle.std.proofs.Common.{◌≡◌, false, take}
-use Rattle.diag_evidence.specs.Looks.{parts}
+use Rattle.diag_evidence.proofs.Vocabulary.{◌≡◌, false, take, parts}
 use Rattle.diag_evidence.proofs.looks.parts.Given as goal
 
 abbrev pub invariant-rows : goal.invariant-rows

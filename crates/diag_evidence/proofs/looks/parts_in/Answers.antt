@@ -1,5 +1,4 @@
-use Rattle.std.proofs.Common.{true, get_or, ◌∙◌}
-use Rattle.diag_evidence.specs.Looks.{differ}
+use Rattle.diag_evidence.proofs.Vocabulary.{true, get_or, ◌∙◌, differ}
 use Rattle.diag_evidence.proofs.Rows.{differ_at, shown_at}
 use Rattle.diag_evidence.proofs.looks.parts_in.Goals as goal
 

@@ -1,5 +1,4 @@
-use Rattle.std.proofs.Common.{◌≡◌, true, not, get_or, sym, ap, ◌∙◌, arith}
-use Rattle.diag_evidence.specs.Looks.{differ}
+use Rattle.diag_evidence.proofs.Vocabulary.{◌≡◌, true, not, get_or, sym, ap, ◌∙◌, arith, differ}
 use Rattle.diag_evidence.proofs.Rows.{same_at, shown_at, not_yet}
 use Rattle.diag_evidence.proofs.looks.reads_bit.Goals as goal
 

@@ -1,5 +1,4 @@
-use Rattle.std.proofs.Common.{◌≡◌, false, take}
-use Rattle.diag_evidence.specs.Looks.{reads_somewhere}
+use Rattle.diag_evidence.proofs.Vocabulary.{◌≡◌, false, take, reads_somewhere}
 use Rattle.diag_evidence.proofs.looks.reads_bit.Given as goal
 
 abbrev pub invariant-rows : goal.invariant-rows

@@ -1,5 +1,4 @@
-use Rattle.std.proofs.Common.{◌≢◌, ◌<◌, ℕ, true, get_or}
-use Rattle.diag_tests.specs.Routes.{Walk}
+use Rattle.diag_evidence.proofs.Vocabulary.{◌≢◌, ◌<◌, ℕ, true, get_or, Walk}
 use Rattle.diag_evidence.proofs.readings.all_differ.Given as goal
 
 abbrev pub invariant-routes : goal.invariant-routes

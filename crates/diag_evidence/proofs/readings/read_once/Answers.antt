@@ -1,7 +1,6 @@
-use Rattle.diag_evidence.proofs.Sessions.{on_ok, cycled_once, once_each}
+use Rattle.diag_evidence.proofs.{Sessions.on_ok, Sessions.cycled_once, Sessions.once_each, Fewer.few_load, Fewer.most_two}
 use Rattle.diag_evidence.proofs.Logging.{logs_once}
 use Rattle.std.proofs.Common.{◌∙◌, arith}
-use Rattle.diag_evidence.proofs.Fewer.{few_load, most_two}
 use Rattle.diag_evidence.proofs.readings.read_once.Goals as goal
 
 pub returns-clause-few : goal.returns-clause-few

@@ -1,7 +1,5 @@
-use Rattle.diag_evidence.proofs.Sessions.{on_ok, rows_each}
+use Rattle.diag_evidence.proofs.{Sessions.on_ok, Sessions.rows_each, Fewer.few_load, Fewer.most_look, Logging.logs_rows}
 use Rattle.std.proofs.Common.{◌∙◌, length, arith}
-use Rattle.diag_evidence.proofs.Fewer.{few_load, most_look}
-use Rattle.diag_evidence.proofs.Logging.{logs_rows}
 use Rattle.diag_evidence.proofs.readings.read_rows.Goals as goal
 
 pub returns-clause-few : goal.returns-clause-few

@@ -1,7 +1,6 @@
 use Rattle.std.proofs.Common.{◌∙◌, ap, arith}
-use Rattle.diag_evidence.proofs.Sessions.{cycled_twice, twice_run, got}
+use Rattle.diag_evidence.proofs.{Sessions.cycled_twice, Sessions.twice_run, Sessions.got, Fewer.few_load, Fewer.most_two}
 use Rattle.diag_evidence.proofs.Logging.{logs_twice}
-use Rattle.diag_evidence.proofs.Fewer.{few_load, most_two}
 use Rattle.diag_evidence.proofs.readings.read_twice.Goals as goal
 
 pub returns-in_err-cycle-clause-few : goal.returns-in_err-cycle-clause-few

@@ -1,5 +1,4 @@
-use Rattle.std.proofs.Common.{◌≡◌, length}
-use Rattle.diag_evidence.specs.Sheets.{HaveWidth}
+use Rattle.diag_evidence.proofs.Vocabulary.{◌≡◌, length, HaveWidth}
 use Rattle.diag_evidence.proofs.sheets.blank_rows.Given as goal
 
 abbrev pub invariant-rows : goal.invariant-rows

@@ -1,6 +1,4 @@
-use Rattle.std.proofs.Common.{◌∙◌, ◌+◌, arith}
-use Rattle.std.proofs.Math.Nat.{le-max_left}
-use Rattle.machine_shape.specs.Shape.{pins_of}
+use Rattle.diag_evidence.proofs.Vocabulary.{◌∙◌, ◌+◌, arith, le-max_left, pins_of}
 use Rattle.diag_evidence.proofs.Rows.{as_many, as_wide}
 use Rattle.diag_evidence.proofs.sheets.read_load.Goals as goal
 

@@ -1,12 +1,6 @@
 use Rattle.std.proofs.Common.{◌≡◌, ◌∙◌, ◌++◌, Some, List, sym, ap, subst, refl, length, take, drop}
-use Rattle.machine_shape.specs.Shape.{pins_of}
-use Rattle.machine_meaning.specs.Circuit.{Pins}
-use Rattle.diag_evidence.specs.Looks.{ReadsEach}
-use Rattle.diag_evidence.specs.Sheets.{HaveWidth}
-use Rattle.diag_evidence.proofs.Sessions.{on_ok, on_ok_both}
-use Rattle.diag_evidence.proofs.Logging.{logs_as}
-use Rattle.diag_evidence.proofs.Rows.{whole_again}
-use Rattle.diag_evidence.proofs.ReadTwice.{cycled_under}
+use Rattle.diag_evidence.proofs.Vocabulary.{pins_of, Pins, ReadsEach, HaveWidth}
+use Rattle.diag_evidence.proofs.{Sessions.on_ok, Sessions.on_ok_both, Logging.logs_as, Rows.whole_again, ReadTwice.cycled_under}
 use Rattle.diag_evidence.proofs.sheets.read_tables.Goals as goal
 
 pub returns-clause-whole : goal.returns-clause-whole

@@ -1,7 +1,4 @@
-use Rattle.std.proofs.Common.{◌≡◌, ◌<◌, length, sym, ap, ◌∙◌, arith}
-use Rattle.std.proofs.lemmas.List.{length-set}
-use Rattle.machine_shape.specs.Shape.{table_wire}
-use Rattle.diag_evidence.specs.Forests.{HangsOn, pin_of}
+use Rattle.diag_evidence.proofs.Vocabulary.{◌≡◌, ◌<◌, length, sym, ap, ◌∙◌, arith, length-set, table_wire, HangsOn, pin_of}
 use Rattle.diag_evidence.proofs.Addresses.{input_set, input_loose}
 use Rattle.diag_evidence.proofs.sheets.set_address.Goals as goal
 use Rattle.diag_evidence.proofs.sheets.set_address.Goals.{in-Some, in_default}

@@ -1,5 +1,4 @@
-use Rattle.std.proofs.Common.{◌≡◌, length}
-use Rattle.diag_evidence.specs.Sheets.{HasAddress}
+use Rattle.diag_evidence.proofs.Vocabulary.{◌≡◌, length, HasAddress}
 use Rattle.diag_evidence.proofs.sheets.set_address.Given as goal
 
 abbrev pub invariant-inputs : goal.invariant-inputs

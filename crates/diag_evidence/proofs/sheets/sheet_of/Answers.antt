@@ -1,8 +1,5 @@
-use Rattle.std.proofs.Common.{◌≡◌, refl, subst, ap, ◌∙◌}
-use Rattle.machine_shape.specs.Shape.{pins_of}
-use Rattle.diag_evidence.specs.Sheets.{HaveWidth}
-use Rattle.diag_evidence.proofs.Settings.{is_one_at, within_at}
-use Rattle.diag_evidence.proofs.Addresses.{drives_of_all}
+use Rattle.diag_evidence.proofs.Vocabulary.{◌≡◌, refl, subst, ap, ◌∙◌, pins_of, HaveWidth}
+use Rattle.diag_evidence.proofs.{Settings.is_one_at, Settings.within_at, Addresses.drives_of_all}
 use Rattle.diag_evidence.proofs.sheets.sheet_of.Goals as goal
 
 pub table_drives-requires : goal.table_drives-requires

@@ -1,6 +1,4 @@
-use Rattle.std.proofs.Common.{◌<◌, length, ◌∙◌, arith}
-use Rattle.std.proofs.lemmas.List.{length-set}
-use Rattle.machine_shape.specs.Shape.{tables_of}
+use Rattle.diag_evidence.proofs.Vocabulary.{◌<◌, length, ◌∙◌, arith, length-set, tables_of}
 use Rattle.diag_evidence.proofs.Settings.{switches_more, within_at}
 use Rattle.diag_evidence.proofs.sheets.switch_all.Goals as goal
 

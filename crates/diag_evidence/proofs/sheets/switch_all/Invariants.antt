@@ -1,6 +1,4 @@
-use Rattle.std.proofs.Common.{◌≡◌, length, take}
-use Rattle.machine_shape.specs.Shape.{tables_of}
-use Rattle.diag_evidence.specs.Sheets.{SwitchesOn}
+use Rattle.diag_evidence.proofs.Vocabulary.{◌≡◌, length, take, tables_of, SwitchesOn}
 use Rattle.diag_evidence.proofs.sheets.switch_all.Given as goal
 
 abbrev pub invariant-tables : goal.invariant-tables

@@ -1,10 +1,6 @@
 use Rattle.std.proofs.Common.{◌<◌, List, All, sym, subst, ◌∙◌, ap}
-use Rattle.machine_shape.specs.declared.Cross.{Cross}
-use Rattle.machine_shape.specs.Shape.{crosses_of}
-use Rattle.machine_config.specs.Configuration.{Configuration, cleared}
-use Rattle.diag_tests.specs.Vocabulary.{Closes, cross_numbers}
-use Rattle.diag_evidence.proofs.Addresses.{laid_below}
-use Rattle.diag_evidence.proofs.Settings.{laid_tables}
+use Rattle.diag_evidence.proofs.Vocabulary.{Cross, crosses_of, Configuration, cleared, Closes, cross_numbers}
+use Rattle.diag_evidence.proofs.{Addresses.laid_below, Settings.laid_tables}
 use Rattle.diag_evidence.proofs.sheets.table_config.Goals as goal
 
 pub close_all-requires : goal.close_all-requires

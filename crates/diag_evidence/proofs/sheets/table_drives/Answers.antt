@@ -1,6 +1,4 @@
-use Rattle.std.proofs.Common.{length, ap, ◌∙◌, arith}
-use Rattle.std.proofs.lemmas.List.{length-replicate}
-use Rattle.machine_shape.specs.Shape.{pins_of}
+use Rattle.diag_evidence.proofs.Vocabulary.{length, ap, ◌∙◌, arith, length-replicate, pins_of}
 use Rattle.diag_evidence.proofs.Addresses.{all_drives, released_at, width_more}
 use Rattle.diag_evidence.proofs.sheets.table_drives.Goals as goal
 

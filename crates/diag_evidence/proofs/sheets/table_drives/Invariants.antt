@@ -1,5 +1,4 @@
-use Rattle.machine_shape.specs.Shape.{pins_of}
-use Rattle.diag_evidence.specs.Sheets.{AreAddressesOf, HaveWidth}
+use Rattle.diag_evidence.proofs.Vocabulary.{pins_of, AreAddressesOf, HaveWidth}
 use Rattle.diag_evidence.proofs.sheets.table_drives.Given as goal
 
 abbrev pub invariant-addresses : goal.invariant-addresses

@@ -1,9 +1,5 @@
-use Rattle.std.proofs.Common.{◌<◌, length, arith}
-use Rattle.std.proofs.lemmas.List.{get_or-map, length-map}
-use Rattle.machine_shape.specs.declared.Cross.{Cross}
+use Rattle.diag_evidence.proofs.Vocabulary.{◌<◌, length, arith, get_or-map, length-map, Cross, closes_next, Foot, feet_crosses}
 use Rattle.machine_shape.specs.declared.Wire.{Wire}
-use Rattle.diag_tests.proofs.Closings.{closes_next}
-use Rattle.diag_evidence.specs.Hangs.{Foot, feet_crosses}
 use Rattle.diag_evidence.proofs.sights.close_feet.Goals as goal
 
 pub feet-preserved : goal.feet-preserved

@@ -1,6 +1,4 @@
-use Rattle.std.proofs.Common.{take}
-use Rattle.diag_tests.specs.Configs.{Closes}
-use Rattle.diag_evidence.specs.Hangs.{feet_crosses}
+use Rattle.diag_evidence.proofs.Vocabulary.{take, Closes, feet_crosses}
 use Rattle.diag_evidence.proofs.sights.close_feet.Given as goal
 
 abbrev pub invariant-feet : goal.invariant-feet

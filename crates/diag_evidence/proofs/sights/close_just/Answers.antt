@@ -1,9 +1,5 @@
-use Rattle.std.proofs.Common.{◌≡◌, ◌<◌, ◌∙◌, List, All, ap, subst, sym}
-use Rattle.machine_shape.specs.declared.Cross.{Cross}
-use Rattle.machine_shape.specs.Shape.{crosses_of}
-use Rattle.diag_tests.specs.Vocabulary.{cross_numbers, Closes}
-use Rattle.diag_evidence.proofs.Footing.{laid_below, closed_just}
-use Rattle.diag_evidence.proofs.Sessions.{on_ok}
+use Rattle.diag_evidence.proofs.Vocabulary.{◌≡◌, ◌<◌, ◌∙◌, List, All, ap, subst, sym, Cross, crosses_of, cross_numbers, Closes}
+use Rattle.diag_evidence.proofs.{Footing.laid_below, Footing.closed_just, Sessions.on_ok}
 use Rattle.diag_evidence.proofs.sights.close_just.Goals as goal
 
 pub close_all-requires : goal.close_all-requires

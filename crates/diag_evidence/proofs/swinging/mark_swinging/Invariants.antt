@@ -1,6 +1,4 @@
-use Rattle.std.proofs.Common.{◌≡◌, ◌&&◌, ◌||◌, ℕ, length, nat_lt}
-use Rattle.base_bits.specs.Numbers.{has_number}
-use Rattle.diag_evidence.specs.Looks.{hangs_swinging}
+use Rattle.diag_evidence.proofs.Vocabulary.{◌≡◌, ◌&&◌, ◌||◌, ℕ, length, nat_lt, has_number, hangs_swinging}
 use Rattle.diag_evidence.proofs.swinging.mark_swinging.Given as goal
 
 abbrev pub invariant-wires : goal.invariant-wires

@@ -1,5 +1,4 @@
-use Rattle.std.proofs.Common.{◌≡◌, true, sym, subst, ◌∙◌, arith}
-use Rattle.diag_evidence.specs.TableRows.{is_right_before}
+use Rattle.diag_evidence.proofs.Vocabulary.{◌≡◌, true, sym, subst, ◌∙◌, arith, is_right_before}
 use Rattle.diag_evidence.proofs.Righting.{right_none, right_more, wrong_before}
 use Rattle.diag_evidence.proofs.table_rows.is_right.Goals as goal
 

@@ -1,5 +1,4 @@
-use Rattle.std.proofs.Common.{◌≡◌, true}
-use Rattle.diag_evidence.specs.TableRows.{is_right_before}
+use Rattle.diag_evidence.proofs.Vocabulary.{◌≡◌, true, is_right_before}
 use Rattle.diag_evidence.proofs.table_rows.is_right.Given as goal
 
 abbrev pub invariant-cycles : goal.invariant-cycles

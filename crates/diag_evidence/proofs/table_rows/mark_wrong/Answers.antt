@@ -1,9 +1,6 @@
 use Rattle.std.proofs.Common.{◌≡◌, ◌<◌, ℕ, true, false, not, ◌&&◌, ◌||◌, length, take, sym, ap, ◌∙◌, arith}
-use Rattle.std.proofs.lemmas.List.{length-set, take_all}
-use Rattle.base_bits.specs.Numbers.{has_number}
-use Rattle.diag_evidence.specs.TableRows.{is_one_of, is_right_before, output_pin}
-use Rattle.diag_evidence.proofs.Righting.{mark_left, mark_made}
-use Rattle.diag_evidence.proofs.Settings.{is_one_at, within_at}
+use Rattle.diag_evidence.proofs.Vocabulary.{length-set, take_all, has_number, is_one_of, is_right_before, output_pin}
+use Rattle.diag_evidence.proofs.{Righting.mark_left, Righting.mark_made, Settings.is_one_at, Settings.within_at}
 use Rattle.diag_evidence.proofs.table_rows.mark_wrong.Goals as goal
 use Rattle.diag_evidence.proofs.table_rows.mark_wrong.Goals.{then-not-is_right, else-not-is_right}
 

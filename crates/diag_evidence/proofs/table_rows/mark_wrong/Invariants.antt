@@ -1,6 +1,4 @@
-use Rattle.std.proofs.Common.{◌≡◌, ℕ, not, ◌&&◌, ◌||◌, length, take}
-use Rattle.base_bits.specs.Numbers.{has_number}
-use Rattle.diag_evidence.specs.TableRows.{is_one_of, is_right_before, output_pin}
+use Rattle.diag_evidence.proofs.Vocabulary.{◌≡◌, ℕ, not, ◌&&◌, ◌||◌, length, take, has_number, is_one_of, is_right_before, output_pin}
 use Rattle.diag_evidence.proofs.table_rows.mark_wrong.Given as goal
 
 abbrev pub invariant-tables : goal.invariant-tables

@@ -1,6 +1,4 @@
-use Rattle.std.proofs.Common.{◌≡◌, ◌<◌, ℕ, Some, Option, sym, ap, ◌∙◌, subst, unwrap_or}
-use Rattle.machine_shape.specs.Shape.{pins_of, table_wire}
-use Rattle.diag_evidence.specs.Forests.{pin_of}
+use Rattle.diag_evidence.proofs.Vocabulary.{◌≡◌, ◌<◌, ℕ, Some, Option, sym, ap, ◌∙◌, subst, unwrap_or, pins_of, table_wire, pin_of}
 use Rattle.diag_evidence.proofs.table_rows.output_of.Goals as goal
 
 pub returns-clause-within : goal.returns-clause-within

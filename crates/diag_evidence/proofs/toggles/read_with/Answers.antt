@@ -1,5 +1,4 @@
-use Rattle.std.proofs.Common.{◌∙◌, ap, sym, Some}
-use Rattle.machine_config.specs.Configuration.{Roomy, with_setting}
+use Rattle.diag_evidence.proofs.Vocabulary.{◌∙◌, ap, sym, Some, Roomy, with_setting}
 use Rattle.diag_evidence.proofs.TableTests.{set_back}
 use Rattle.diag_evidence.proofs.toggles.read_with.Goals as goal
 

@@ -1,6 +1,4 @@
-use Rattle.std.proofs.Common.{◌≡◌, ◌<◌, ◌∙◌, ap, arith, Result, Ok, Err, OnOk, is_ok, true}
-use Rattle.machine_config.specs.Configuration.{with_closed}
-use Rattle.machine_config.proofs.Changes.{closed_again}
+use Rattle.diag_evidence.proofs.Vocabulary.{◌≡◌, ◌<◌, ◌∙◌, ap, arith, Result, Ok, Err, OnOk, is_ok, true, with_closed, closed_again}
 use Rattle.diag_evidence.proofs.toggles.read_without.Goals as goal
 
 of_ok : {T E P : Type 0} (r : Result T E) → is_ok r ≡ true → OnOk r P → P

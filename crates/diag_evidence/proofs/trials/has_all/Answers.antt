@@ -1,8 +1,5 @@
-use Rattle.std.proofs.Common.{◌≡◌, ◌≢◌, ℕ, true, false, sym, ◌∙◌, arith}
-use Rattle.std.proofs.lemmas.Bool.{false≢true}
-use Rattle.base_bits.specs.Numbers.{has_number}
-use Rattle.diag_evidence.proofs.KeptLemmas.{number_below}
-use Rattle.diag_evidence.proofs.Rows.{below_next}
+use Rattle.diag_evidence.proofs.Vocabulary.{◌≡◌, ◌≢◌, ℕ, true, false, sym, ◌∙◌, arith, false≢true, has_number}
+use Rattle.diag_evidence.proofs.{KeptLemmas.number_below, Rows.below_next}
 use Rattle.diag_evidence.proofs.trials.has_all.Goals as goal
 
 pub wires-preserved-then-w-wire : goal.wires-preserved-then-w-wire

@@ -1,5 +1,4 @@
-use Rattle.std.proofs.Common.{◌≡◌, ◌≢◌, ◌<◌, ℕ, true}
-use Rattle.base_bits.specs.Numbers.{has_number}
+use Rattle.diag_evidence.proofs.Vocabulary.{◌≡◌, ◌≢◌, ◌<◌, ℕ, true, has_number}
 use Rattle.diag_evidence.proofs.trials.has_all.Given as goal
 
 abbrev pub invariant-wires : goal.invariant-wires

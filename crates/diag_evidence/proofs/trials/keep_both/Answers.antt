@@ -1,8 +1,6 @@
 use Rattle.std.proofs.Common.{◌≡◌, ◌<◌, ◌≤◌, ◌+◌, ◌&&◌, ℕ, Bool, true, false, length, set, sym, ap, ◌∙◌, arith}
-use Rattle.std.proofs.lemmas.List.{get_or-set_same, get_or-set_other, length-set}
-use Rattle.base_bits.specs.Numbers.{has_number}
-use Rattle.diag_evidence.proofs.KeptLemmas.{both_all}
-use Rattle.diag_evidence.proofs.Rows.{below_next}
+use Rattle.diag_evidence.proofs.Vocabulary.{get_or-set_same, get_or-set_other, length-set, has_number}
+use Rattle.diag_evidence.proofs.{KeptLemmas.both_all, Rows.below_next}
 use Rattle.diag_evidence.proofs.trials.keep_both.Goals as goal
 
 pub wires-preserved-then-has : goal.wires-preserved-then-has

@@ -1,5 +1,4 @@
-use Rattle.std.proofs.Common.{◌≡◌, ◌≤◌, ◌<◌, ◌&&◌, ℕ, length}
-use Rattle.base_bits.specs.Numbers.{has_number}
+use Rattle.diag_evidence.proofs.Vocabulary.{◌≡◌, ◌≤◌, ◌<◌, ◌&&◌, ℕ, length, has_number}
 use Rattle.diag_evidence.proofs.trials.keep_both.Given as goal
 
 abbrev pub invariant-wires : goal.invariant-wires

@@ -1,11 +1,6 @@
-use Rattle.std.proofs.Common.{ℕ, List, sym, subst}
-use Rattle.machine_shape.specs.declared.Cross.{Cross}
-use Rattle.machine_config.specs.Groups.{among}
+use Rattle.diag_growth.proofs.Vocabulary.{ℕ, List, sym, subst, Cross, among, holds_untried, bit_of, AreSeatTies}
 use Rattle.diag_tests.specs.Vocabulary.{cross_numbers, IsCellConfig}
-use Rattle.diag_evidence.proofs.Keeping.{holds_untried}
-use Rattle.diag_growth.specs.Ties.{bit_of, AreSeatTies}
-use Rattle.diag_growth.proofs.Seating.{cell_by, number_is}
-use Rattle.diag_growth.proofs.Tested.{ties_below, gained_cell}
+use Rattle.diag_growth.proofs.{Seating.cell_by, Seating.number_is, Tested.ties_below, Tested.gained_cell}
 use Rattle.diag_growth.proofs.cells.test_cell.Goals as goal
 
 pub config_of-requires-clause-ties : goal.config_of-requires-clause-ties

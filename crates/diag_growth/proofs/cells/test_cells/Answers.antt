@@ -1,7 +1,5 @@
-use Rattle.std.proofs.Common.{arith}
-use Rattle.diag_evidence.proofs.Keeping.{advances_then}
-use Rattle.diag_growth.proofs.Tested.{seat_later, only_then, cells_end, cells_next}
-use Rattle.diag_growth.proofs.Explained.{held}
+use Rattle.diag_growth.proofs.Vocabulary.{arith, advances_then}
+use Rattle.diag_growth.proofs.{Tested.seat_later, Tested.only_then, Tested.cells_end, Tested.cells_next, Explained.held}
 use Rattle.diag_growth.proofs.cells.test_cells.Goals as goal
 
 pub test_cell-requires-clause-seat : goal.test_cell-requires-clause-seat

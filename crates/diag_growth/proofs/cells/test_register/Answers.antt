@@ -1,12 +1,7 @@
 use Rattle.std.proofs.Common.{true, false, List, refl, sym, ap, subst}
-use Rattle.machine_shape.specs.declared.Cross.{Cross}
+use Rattle.diag_growth.proofs.Vocabulary.{Cross, among, cross_numbers, IsCellConfig, holds_untried, AreSeatTies}
 use Rattle.machine_config.specs.declared.Setting.{Setting}
-use Rattle.machine_config.specs.Groups.{among}
-use Rattle.diag_tests.specs.Vocabulary.{cross_numbers, IsCellConfig}
-use Rattle.diag_evidence.proofs.Keeping.{holds_untried}
-use Rattle.diag_growth.specs.Ties.{AreSeatTies}
-use Rattle.diag_growth.proofs.Seating.{table_by}
-use Rattle.diag_growth.proofs.Tested.{ties_below, gained_register}
+use Rattle.diag_growth.proofs.{Seating.table_by, Tested.ties_below, Tested.gained_register}
 use Rattle.diag_growth.proofs.cells.test_register.Goals as goal
 
 pub config_of-requires-clause-ties : goal.config_of-requires-clause-ties

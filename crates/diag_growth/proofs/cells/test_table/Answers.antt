@@ -1,6 +1,5 @@
 use Rattle.std.proofs.Common.{Result, Ok, Err, OnOk}
-use Rattle.diag_growth.proofs.Tested.{seat_later, table_next}
-use Rattle.diag_growth.proofs.Explained.{held}
+use Rattle.diag_growth.proofs.{Tested.seat_later, Tested.table_next, Explained.held}
 use Rattle.diag_growth.proofs.cells.test_table.Goals as goal
 
 on_ok : {T E P Q : Type 0} (r : Result T E) → OnOk r P → (P → Q) → OnOk r Q

@@ -1,9 +1,5 @@
-use Rattle.std.proofs.Common.{◌≡◌, ◌<◌, List, length, sym, subst, arith}
-use Rattle.diag_known.proofs.Getting.{at_index}
-use Rattle.diag_growth.specs.Seating.{AreArmsTo}
-use Rattle.diag_growth.proofs.Choosing.{arm_chosen}
-use Rattle.diag_growth.proofs.Searching.{arms_first, arms_next}
-use Rattle.diag_growth.specs.declared.seat.Arm.{Arm}
+use Rattle.diag_growth.proofs.Vocabulary.{◌≡◌, ◌<◌, List, length, sym, subst, arith, at_index, AreArmsTo, Arm}
+use Rattle.diag_growth.proofs.{Choosing.arm_chosen, Searching.arms_first, Searching.arms_next}
 use Rattle.diag_growth.proofs.choices.arms_beside.Goals as goal
 
 pub inputs-init : goal.inputs-init

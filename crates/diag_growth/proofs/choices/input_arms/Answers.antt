@@ -1,10 +1,5 @@
-use Rattle.std.proofs.Common.{◌≡◌, List, sym, subst, arith}
-use Rattle.machine_shape.specs.declared.Shape.{Shape}
-use Rattle.machine_shape.specs.Shape.{hextant_of, table_wire, IsPort}
-use Rattle.diag_growth.specs.Choices.{AreInputArms}
-use Rattle.diag_growth.specs.declared.choices.Arms.{Arms}
-use Rattle.diag_growth.proofs.Choosing.{input_first, input_next, arms_named}
-use Rattle.diag_growth.proofs.Searching.{misses_at}
+use Rattle.diag_growth.proofs.Vocabulary.{◌≡◌, List, sym, subst, arith, Shape, hextant_of, table_wire, IsPort, AreInputArms, Arms}
+use Rattle.diag_growth.proofs.{Choosing.input_first, Choosing.input_next, Choosing.arms_named, Searching.misses_at}
 use Rattle.diag_growth.proofs.choices.input_arms.Goals as goal
 
 pub inputs-init : goal.inputs-init

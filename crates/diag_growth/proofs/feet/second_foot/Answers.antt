@@ -1,10 +1,5 @@
-use Rattle.std.proofs.Common.{◌≡◌, List, Some, subst, slice_get}
-use Rattle.diag_known.specs.declared.verified_wire.Support.{Support}
-use Rattle.diag_known.proofs.Marking.{few_then}
-use Rattle.diag_known.proofs.Offering.{spends_on_then}
-use Rattle.diag_growth.proofs.Explained.{held}
-use Rattle.diag_growth.proofs.Learning.{ready_later}
-use Rattle.diag_known.proofs.Settling.{if_ok_so, on_ok_so}
+use Rattle.diag_growth.proofs.Vocabulary.{◌≡◌, List, Some, subst, slice_get, Support, few_then, spends_on_then, if_ok_so, on_ok_so}
+use Rattle.diag_growth.proofs.{Explained.held, Learning.ready_later}
 use Rattle.diag_growth.proofs.feet.second_foot.Goals as goal
 
 pub try_others-requires-clause-ready : goal.try_others-requires-clause-ready

@@ -1,9 +1,6 @@
-use Rattle.std.proofs.Common.{◌∙◌, refl, sym, subst, ◌<◌}
-use Rattle.diag_known.proofs.Marking.{few_none}
+use Rattle.diag_growth.proofs.Vocabulary.{◌∙◌, refl, sym, subst, ◌<◌, few_none, lost_one, more_itself}
 use Rattle.diag_known.proofs.Offering.{few_other, spends_on_none, spends_other}
-use Rattle.diag_known.proofs.Seconds.{lost_one}
 use Rattle.diag_known.proofs.Settling.{second_lost, marks_second, link_still, on_both, if_ok_so, kept_each, over_later, over_second}
-use Rattle.diag_evidence.proofs.KeptLemmas.{more_itself}
 use Rattle.diag_growth.proofs.Explained.{second_each, faulty_each}
 use Rattle.diag_growth.proofs.feet.try_other.Goals as goal
 

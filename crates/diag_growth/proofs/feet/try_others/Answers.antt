@@ -1,11 +1,7 @@
 use Rattle.std.proofs.Common.{◌≡◌, Some, length, refl, arith, slice_get}
-use Rattle.std.proofs.lemmas.Option.{slice_get_within, slice_get_read}
+use Rattle.diag_growth.proofs.Vocabulary.{slice_get_within, slice_get_read, few_none, few_then, spends_on_none, spends_on_then, lost_next}
 use Rattle.diag_evidence.proofs.Keeping.{advances_itself, advances_then, trial_itself, trial_then}
-use Rattle.diag_known.proofs.Marking.{few_none, few_then}
-use Rattle.diag_known.proofs.Offering.{spends_on_none, spends_on_then}
-use Rattle.diag_known.proofs.Seconds.{lost_next}
-use Rattle.diag_growth.proofs.Explained.{held}
-use Rattle.diag_growth.proofs.Learning.{ready_later}
+use Rattle.diag_growth.proofs.{Explained.held, Learning.ready_later}
 use Rattle.diag_growth.proofs.feet.try_others.Goals as goal
 
 pub others-init : goal.others-init

@@ -1,7 +1,4 @@
-use Rattle.std.proofs.Common.{◌∙◌, refl, sym}
-use Rattle.diag_known.proofs.Marking.{few_none}
-use Rattle.diag_known.proofs.Offering.{few_own, spends_on_none, spends_own}
-use Rattle.diag_known.proofs.Seconds.{lost_all}
+use Rattle.diag_growth.proofs.Vocabulary.{◌∙◌, refl, sym, few_none, few_own, spends_on_none, spends_own, lost_all}
 use Rattle.diag_known.proofs.Settling.{marks_offered, lost_faulty, over_later, over_offered}
 use Rattle.diag_growth.proofs.feet.try_over.Goals as goal
 

@@ -1,8 +1,5 @@
 use Rattle.std.proofs.Common.{◌≡◌, ◌≢◌, ◌<◌, ℕ, sym, subst, arith}
-use Rattle.machine_shape.specs.declared.Shape.{Shape}
-use Rattle.machine_shape.specs.Shape.{pins_of, pin_wire, wires_of}
-use Rattle.diag_known.proofs.Marking.{takes_two, takes_three}
-use Rattle.diag_known.proofs.Seconds.{offer_feet}
+use Rattle.diag_growth.proofs.Vocabulary.{Shape, pins_of, pin_wire, wires_of, takes_two, takes_three, offer_feet}
 use Rattle.diag_growth.proofs.learn.is_good_over.Goals as goal
 
 pub machine_pin-requires : goal.machine_pin-requires

@@ -1,5 +1,4 @@
-use Rattle.std.proofs.Common.{◌≡◌}
-use Rattle.machine_shape.specs.Shape.{Pin, Line, Port, TablePin, is_pin}
+use Rattle.diag_growth.proofs.Vocabulary.{◌≡◌, Pin, Line, Port, TablePin, is_pin}
 use Rattle.diag_growth.proofs.learn.machine_pin.Goals as goal
 
 pub returns-in-Line-clause-none : goal.returns-in-Line-clause-none

@@ -1,10 +1,6 @@
-use Rattle.std.proofs.Common.{◌<◌, refl, sym, subst, inl, inr}
-use Rattle.diag_known.specs.Known.{KnownWires, IsKnown, KnowsAll}
-use Rattle.diag_known.proofs.Later.{all_still, known_later, stands_later}
-use Rattle.diag_evidence.proofs.Keeping.{more_then}
+use Rattle.diag_growth.proofs.Vocabulary.{◌<◌, refl, sym, subst, inl, inr, KnownWires, IsKnown, KnowsAll, all_still, known_later}
+use Rattle.diag_growth.proofs.Vocabulary.{stands_later, more_then, offer_stands, marks_barred, marks_still, over_barred, over_later}
 use Rattle.diag_growth.proofs.Learning.{none_more, learnt_more, learnt_has, settled_known, settled_all, learnt_marks}
-use Rattle.diag_known.proofs.Seconds.{offer_stands}
-use Rattle.diag_known.proofs.Settling.{marks_barred, marks_still, over_barred, over_later}
 use Rattle.diag_growth.proofs.learn.try_feet.Goals as goal
 
 pub bar-requires : goal.bar-requires

@@ -1,13 +1,6 @@
-use Rattle.std.proofs.Common.{◌∙◌, ◌<◌, refl, sym, ap, subst, inl, inr}
-use Rattle.base_bits.specs.Numbers.{has_number}
-use Rattle.machine_shape.specs.declared.Shape.{Shape}
-use Rattle.machine_shape.specs.Shape.{wires_of}
-use Rattle.diag_known.specs.Vocabulary.{barred, lost}
-use Rattle.diag_known.proofs.Later.{all_still, known_later}
-use Rattle.diag_growth.proofs.Explained.{held}
-use Rattle.diag_growth.proofs.Learning.{none_more, offers_barred, barred_twice, ready_later}
-use Rattle.diag_known.proofs.Marking.{few_then, few_barred, spends_then, spends_barred}
-use Rattle.diag_known.proofs.Settling.{on_ok_so}
+use Rattle.diag_growth.proofs.Vocabulary.{◌∙◌, ◌<◌, refl, sym, ap, subst, inl, inr, has_number, Shape, wires_of, barred, lost, all_still}
+use Rattle.diag_growth.proofs.Vocabulary.{known_later, few_then, few_barred, spends_then, spends_barred, on_ok_so}
+use Rattle.diag_growth.proofs.{Explained.held, Learning.none_more, Learning.offers_barred, Learning.barred_twice, Learning.ready_later}
 use Rattle.diag_growth.proofs.learn.try_offer.Goals as goal
 
 pub returns-in_err-second-clause-known : goal.returns-in_err-second-clause-known

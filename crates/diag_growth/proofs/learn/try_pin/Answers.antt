@@ -1,12 +1,7 @@
-use Rattle.std.proofs.Common.{◌≡◌, ◌<◌, ◌∙◌, true, refl, sym, ap, subst, inl, inr, slice_set}
-use Rattle.machine_shape.specs.declared.Shape.{Shape}
-use Rattle.machine_shape.specs.Shape.{pin_wire, wires_of}
-use Rattle.diag_known.specs.Vocabulary.{KnownWires, HasWire, IsKnown, KnowsAll, on_pin, IsBad}
-use Rattle.diag_growth.specs.Grown.{IsOneMore}
-use Rattle.diag_known.proofs.Later.{all_still, known_later, stands_later}
-use Rattle.diag_evidence.proofs.Keeping.{more_then}
+use Rattle.diag_growth.proofs.Vocabulary.{◌≡◌, ◌<◌, ◌∙◌, true, refl, sym, ap, subst, inl, inr, slice_set, Shape, pin_wire, wires_of}
+use Rattle.diag_growth.proofs.Vocabulary.{KnownWires, HasWire, IsKnown, KnowsAll, on_pin, IsBad, IsOneMore, all_still, known_later}
+use Rattle.diag_growth.proofs.Vocabulary.{stands_later, more_then, marks_barred, marks_still, over_barred, over_later}
 use Rattle.diag_growth.proofs.Learning.{none_more, learnt_more, learnt_has, settled_known, settled_all, learnt_marks}
-use Rattle.diag_known.proofs.Settling.{marks_barred, marks_still, over_barred, over_later}
 use Rattle.diag_growth.proofs.learn.try_pin.Goals as goal
 
 pub bar-requires : goal.bar-requires

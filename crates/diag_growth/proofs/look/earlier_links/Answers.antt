@@ -1,8 +1,4 @@
-use Rattle.std.proofs.Common.{List, sym, subst, ◌∙◌, ◌<◌, arith}
-use Rattle.machine_shape.specs.declared.Shape.{Shape}
-use Rattle.machine_shape.specs.Shape.{wires_of}
-use Rattle.diag_growth.specs.Looks.{AreEarlierUpTo}
-use Rattle.diag_known.specs.declared.verified_wire.Support.{Support}
+use Rattle.diag_growth.proofs.Vocabulary.{List, sym, subst, ◌∙◌, ◌<◌, arith, Shape, wires_of, AreEarlierUpTo, Support}
 use Rattle.diag_growth.proofs.Looking.{earlier_none, earlier_past, earlier_next, earlier_all, link_leads, link_wire}
 use Rattle.diag_growth.proofs.look.earlier_links.Goals as goal
 

@@ -1,13 +1,6 @@
-use Rattle.std.proofs.Common.{◌∙◌, refl, sym, subst, arith}
-use Rattle.machine_shape.specs.declared.Shape.{Shape}
-use Rattle.diag_evidence.proofs.Keeping.{advances_itself, advances_then}
-use Rattle.diag_evidence.proofs.KeptLemmas.{more_itself}
-use Rattle.diag_known.specs.Vocabulary.{AreLinked, IsAt}
-use Rattle.diag_growth.proofs.Growing.{grown_next}
-use Rattle.diag_growth.proofs.Leaving.{looks_next, looks_past, looks_all}
-use Rattle.diag_growth.proofs.Looking.{link_leads}
-use Rattle.diag_known.proofs.Marking.{few_none, few_then, spends_none, spends_then}
-use Rattle.diag_known.proofs.Places.{at_later}
+use Rattle.diag_growth.proofs.Vocabulary.{◌∙◌, refl, sym, subst, arith, Shape, advances_itself, advances_then, more_itself, AreLinked, IsAt}
+use Rattle.diag_growth.proofs.Vocabulary.{few_none, few_then, spends_none, spends_then, at_later}
+use Rattle.diag_growth.proofs.{Growing.grown_next, Leaving.looks_next, Leaving.looks_past, Leaving.looks_all, Looking.link_leads}
 use Rattle.diag_growth.proofs.Stages.{grows_itself, grows_then, grown_on, longer, tried_none, tried_then}
 use Rattle.diag_growth.proofs.Explained.{held}
 use Rattle.diag_growth.proofs.look.look_at.Goals as goal

@@ -1,9 +1,5 @@
-use Rattle.std.proofs.Common.{◌≡◌, ◌<◌, ℕ, Some, slice_get}
-use Rattle.diag_known.specs.Linked.{list_at}
-use Rattle.diag_growth.specs.Looks.{AreAllMarks, IsLooked}
-use Rattle.diag_known.specs.declared.verified_wire.Support.{Support}
+use Rattle.diag_growth.proofs.Vocabulary.{◌≡◌, ◌<◌, ℕ, Some, slice_get, list_at, AreAllMarks, IsLooked, Support, ForEach}
 use Rattle.diag_growth.proofs.SoFar.{HasLooked}
-use Rattle.rig.specs.Rig.{ForEach}
 use Rattle.diag_growth.proofs.look.look_at.Given as goal
 
 abbrev pub invariant-links : goal.invariant-links

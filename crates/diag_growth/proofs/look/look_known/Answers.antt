@@ -1,7 +1,5 @@
-use Rattle.std.proofs.Common.{◌∙◌, ◌<◌, sym, subst, inr, arith}
-use Rattle.diag_known.specs.Known.{IsBefore}
+use Rattle.diag_growth.proofs.Vocabulary.{◌∙◌, ◌<◌, sym, subst, inr, arith, IsBefore, marks_between, on_ok_so, over_between, over_later}
 use Rattle.diag_growth.proofs.Looking.{kept_already, not_earlier}
-use Rattle.diag_known.proofs.Settling.{marks_between, on_ok_so, over_between, over_later}
 use Rattle.diag_growth.proofs.look.look_known.Goals as goal
 
 pub returns-then-keeps_cross-clause-kept_each : goal.returns-then-keeps_cross-clause-kept_each

@@ -1,13 +1,7 @@
-use Rattle.std.proofs.Common.{◌∙◌, ◌<◌, refl, sym, ap, subst}
-use Rattle.base_bits.specs.Numbers.{has_number}
-use Rattle.machine_shape.specs.declared.Shape.{Shape}
-use Rattle.diag_evidence.proofs.KeptLemmas.{more_itself}
-use Rattle.diag_known.specs.Linked.{AreLinked}
+use Rattle.diag_growth.proofs.Vocabulary.{◌∙◌, ◌<◌, refl, sym, ap, subst, has_number, Shape, more_itself, AreLinked, on_both, on_ok_so}
 use Rattle.diag_growth.proofs.Leaving.{look_plain, looked_offered, looked_tried, tried_tried, offered_marks, offer_links}
-use Rattle.diag_growth.proofs.Looking.{look_within, look_other}
+use Rattle.diag_growth.proofs.{Looking.look_within, Looking.look_other, Stages.grows_itself, Stages.grows_one, Stages.tried_none}
 use Rattle.diag_known.proofs.Marking.{few_none, spends_in, spends_none}
-use Rattle.diag_known.proofs.Settling.{on_both, on_ok_so}
-use Rattle.diag_growth.proofs.Stages.{grows_itself, grows_one, tried_none}
 use Rattle.diag_growth.proofs.look.look_new.Goals as goal
 
 pub has-requires : goal.has-requires

@@ -1,15 +1,8 @@
 use Rattle.std.proofs.Common.{◌∙◌, ◌<◌, refl, sym, ap, subst, inl, arith}
-use Rattle.base_bits.specs.Numbers.{has_number}
-use Rattle.machine_shape.specs.declared.Shape.{Shape}
-use Rattle.machine_shape.specs.Shape.{wires_of}
-use Rattle.diag_evidence.proofs.KeptLemmas.{more_itself}
-use Rattle.diag_known.proofs.Later.{all_still}
+use Rattle.diag_growth.proofs.Vocabulary.{has_number, Shape, wires_of, more_itself, all_still, before_has, on_ok_so, few_none, spends_none}
 use Rattle.diag_growth.proofs.Leaving.{look_plain, all_later, joins_few, joins_spent, joins_barred, joins_offered}
 use Rattle.diag_growth.proofs.Looking.{look_within, look_other, looked_barred, looked_known, not_earlier}
-use Rattle.diag_known.proofs.Places.{before_has}
 use Rattle.diag_growth.proofs.Stages.{grows_itself, tried_none}
-use Rattle.diag_known.proofs.Settling.{on_ok_so}
-use Rattle.diag_known.proofs.Marking.{few_none, spends_none}
 use Rattle.diag_growth.proofs.look.look_over.Goals as goal
 
 pub place_of-requires : goal.place_of-requires

@@ -1,6 +1,5 @@
-use Rattle.std.proofs.Common.{arith}
+use Rattle.diag_growth.proofs.Vocabulary.{arith, before_has}
 use Rattle.diag_growth.proofs.Looking.{takes_none, takes_one, not_earlier}
-use Rattle.diag_known.proofs.Places.{before_has}
 use Rattle.diag_growth.proofs.look.put_earlier.Goals as goal
 
 pub returns-in_default : goal.returns-in_default

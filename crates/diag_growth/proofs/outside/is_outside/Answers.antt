@@ -1,6 +1,4 @@
-use Rattle.std.proofs.Common.{◌≡◌, ◌≢◌, sym, ◌∙◌, arith}
-use Rattle.std.proofs.lemmas.Bool.Decides.{nat_tests}
-use Rattle.machine_shape.specs.Shape.{Pin, Line, Port, TablePin}
+use Rattle.diag_growth.proofs.Vocabulary.{◌≡◌, ◌≢◌, sym, ◌∙◌, arith, nat_tests, Pin, Line, Port, TablePin}
 use Rattle.diag_growth.proofs.Outsides.{means_outside, outside_line, outside_pin}
 use Rattle.diag_growth.proofs.outside.is_outside.Goals as goal
 

@@ -1,6 +1,4 @@
-use Rattle.std.proofs.Common.{◌∙◌, ap, length, arith}
-use Rattle.std.proofs.lemmas.List.{length-replicate}
-use Rattle.machine_shape.specs.Shape.{wires_of}
+use Rattle.diag_growth.proofs.Vocabulary.{◌∙◌, ap, length, arith, length-replicate, wires_of}
 use Rattle.diag_growth.proofs.Outsides.{outside_first, outside_next, outside_all}
 use Rattle.diag_growth.proofs.outside.outside_of.Goals as goal
 

@@ -1,5 +1,4 @@
-use Rattle.std.proofs.Common.{◌≡◌, length}
-use Rattle.machine_shape.specs.Shape.{wires_of}
+use Rattle.diag_growth.proofs.Vocabulary.{◌≡◌, length, wires_of}
 use Rattle.diag_growth.proofs.Outsides.{AreOutsideUpTo}
 use Rattle.diag_growth.proofs.outside.outside_of.Given as goal
 

@@ -1,6 +1,4 @@
-use Rattle.std.proofs.Common.{◌<◌, length, subst, arith}
-use Rattle.machine_shape.specs.declared.Shape.{Shape}
-use Rattle.machine_meaning.specs.Standing.{IsOutside}
+use Rattle.diag_growth.proofs.Vocabulary.{◌<◌, length, subst, arith, Shape, IsOutside}
 use Rattle.diag_growth.proofs.Outsides.{puts_none, puts_one}
 use Rattle.diag_growth.proofs.outside.put_outside.Goals as goal
 

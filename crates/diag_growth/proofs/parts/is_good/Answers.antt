@@ -1,8 +1,4 @@
-use Rattle.std.proofs.Common.{◌∙◌, ap}
-use Rattle.std.proofs.lemmas.Result.{IfOk-weaker}
-use Rattle.diag_evidence.specs.Kept.{Kept}
-use Rattle.diag_evidence.proofs.Keeping.{begun_apart}
-use Rattle.diag_known.proofs.Later.{known_later, ways_later}
+use Rattle.diag_growth.proofs.Vocabulary.{◌∙◌, ap, IfOk-weaker, Kept, begun_apart, known_later, ways_later}
 use Rattle.diag_growth.proofs.Parting.{apart_later, end_on, parted_both}
 use Rattle.diag_growth.proofs.parts.is_good.Goals as goal
 

@@ -1,11 +1,5 @@
 use Rattle.std.proofs.Common.{◌<◌, ◌∙◌, ℕ, sym, ap, subst}
-use Rattle.std.proofs.lemmas.Result.{IfOk-weaker}
-use Rattle.machine_shape.specs.declared.Shape.{Shape}
-use Rattle.machine_shape.specs.Shape.{pins_of}
-use Rattle.diag_known.specs.Vocabulary.{AreWays}
-use Rattle.diag_known.proofs.Later.{known_later, ways_later}
-use Rattle.diag_evidence.specs.Kept.{Kept}
-use Rattle.diag_evidence.proofs.Keeping.{begun_apart}
+use Rattle.diag_growth.proofs.Vocabulary.{IfOk-weaker, Shape, pins_of, AreWays, known_later, ways_later, Kept, begun_apart}
 use Rattle.diag_growth.proofs.Parting.{end_on, parted_both}
 use Rattle.diag_growth.proofs.parts.is_good_pin.Goals as goal
 

@@ -1,5 +1,4 @@
-use Rattle.std.proofs.Common.{◌<◌, ℕ}
-use Rattle.diag_growth.specs.Partings.{LeavesAt}
+use Rattle.diag_growth.proofs.Vocabulary.{◌<◌, ℕ, LeavesAt}
 use Rattle.diag_growth.proofs.parts.left_of.Given as goal
 
 abbrev pub invariant-places : goal.invariant-places

@@ -1,9 +1,5 @@
 use Rattle.std.proofs.Common.{◌≡◌, ◌∙◌, List, sym, subst, arith, vec_len}
-use Rattle.std.proofs.lemmas.Bool.Decides.{nat_tests}
-use Rattle.std.proofs.lemmas.List.{nil_from_length}
-use Rattle.diag_evidence.proofs.Keeping.{trial_itself}
-use Rattle.diag_tests.specs.Routes.{Walk, cross_numbers}
-use Rattle.diag_growth.specs.Partings.{IsParting}
+use Rattle.diag_growth.proofs.Vocabulary.{nat_tests, nil_from_length, trial_itself, Walk, cross_numbers, IsParting}
 use Rattle.diag_growth.proofs.Parting.{none_left, end_on}
 use Rattle.diag_growth.proofs.parts.part.Goals as goal
 

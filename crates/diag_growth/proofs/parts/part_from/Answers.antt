@@ -1,14 +1,8 @@
-use Rattle.std.proofs.Common.{◌≡◌, ◌<◌, ◌∙◌, true, All, List, sym, subst}
-use Rattle.std.proofs.lemmas.Result.{IfOk-weaker}
-use Rattle.machine_shape.specs.declared.Cross.{Cross}
-use Rattle.machine_shape.specs.Shape.{crosses_of}
-use Rattle.machine_config.specs.Vocabulary.{among, IsDrivenAlone}
-use Rattle.diag_tests.specs.Vocabulary.{IsLoopConfig, Walk, cross_numbers}
+use Rattle.diag_growth.proofs.Vocabulary.{◌≡◌, ◌<◌, ◌∙◌, true, All, List, sym, subst, IfOk-weaker, Cross, crosses_of, among, IsDrivenAlone}
+use Rattle.diag_growth.proofs.Vocabulary.{IsLoopConfig, Walk, cross_numbers, all_numbers, if_ok_so}
 use Rattle.diag_evidence.specs.Vocabulary.{Kept, IsMore, KeepsTrial, Gains, row_over, IsReady, wires_over}
-use Rattle.diag_known.proofs.Adding.{all_numbers}
 use Rattle.diag_growth.proofs.Listing.{parting_within}
 use Rattle.diag_growth.proofs.Parting.{walk_off, walks_ready, way_ready, parted, part_bad}
-use Rattle.diag_known.proofs.Settling.{if_ok_so}
 use Rattle.diag_growth.proofs.parts.part_from.Goals as goal
 
 pub laid-requires-clause-ties : goal.laid-requires-clause-ties

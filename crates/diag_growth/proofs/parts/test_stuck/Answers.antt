@@ -1,11 +1,6 @@
-use Rattle.std.proofs.Common.{◌∙◌, [], subst}
-use Rattle.std.proofs.lemmas.Result.{IfOk-weaker}
-use Rattle.machine_config.specs.Tests.{IsDrivenAlone}
-use Rattle.diag_tests.specs.Configs.{IsLoopConfig}
+use Rattle.diag_growth.proofs.Vocabulary.{◌∙◌, [], subst, IfOk-weaker, IsDrivenAlone, IsLoopConfig, route_passes, if_ok_so}
 use Rattle.diag_evidence.specs.Kept.{Kept, IsMore, KeepsTrial, Gains, these_wires}
-use Rattle.diag_evidence.proofs.Lists.{route_passes}
 use Rattle.diag_growth.proofs.Parting.{end_on, swing_kept, swing_bad}
-use Rattle.diag_known.proofs.Settling.{if_ok_so}
 use Rattle.diag_growth.proofs.parts.test_stuck.Goals as goal
 
 pub keeps_wire-requires : goal.keeps_wire-requires

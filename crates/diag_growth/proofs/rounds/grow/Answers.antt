@@ -1,13 +1,7 @@
 use Rattle.std.proofs.Common.{◌≡◌, ◌∙◌, refl, sym, ap, subst, arith}
-use Rattle.machine_shape.specs.declared.Shape.{Shape}
-use Rattle.machine_shape.specs.Shape.{pins_of}
-use Rattle.diag_evidence.proofs.Keeping.{advances_then}
-use Rattle.diag_known.specs.Vocabulary.{IsFieldOf, AreLinked, AreLinks}
+use Rattle.diag_growth.proofs.Vocabulary.{Shape, pins_of, advances_then, IsFieldOf, AreLinked, AreLinks, linked_of}
 use Rattle.diag_growth.proofs.Circling.{first_marks, first_over, first_unspent, grows_nothing, growing_next, growing_closed, growing_few, growing_start, spread_first, spread_in, spread_most, spread_next}
-use Rattle.diag_growth.proofs.Ending.{grows_in}
-use Rattle.diag_known.proofs.Linking.{linked_of}
-use Rattle.diag_growth.proofs.Taken.{no_loads, takes_none, takes_most, takes_few}
-use Rattle.diag_growth.proofs.Explained.{held}
+use Rattle.diag_growth.proofs.{Ending.grows_in, Taken.no_loads, Taken.takes_none, Taken.takes_most, Taken.takes_few, Explained.held}
 use Rattle.diag_growth.proofs.rounds.grow.Goals as goal
 
 pub links_of-requires : goal.links_of-requires

@@ -1,15 +1,8 @@
 use Rattle.std.proofs.Common.{◌∙◌, ◌<◌, refl, sym, ap, subst, inl, inr, arith}
-use Rattle.base_bits.specs.Numbers.{has_number}
-use Rattle.machine_shape.specs.declared.Shape.{Shape}
-use Rattle.machine_shape.specs.Shape.{pin_wire, wires_of}
-use Rattle.diag_evidence.proofs.KeptLemmas.{more_itself}
-use Rattle.diag_known.specs.Vocabulary.{AreLinked, HasWire}
-use Rattle.diag_known.specs.declared.marks.Marks.{Marks}
-use Rattle.diag_growth.proofs.Circling.{grown_at, pin_grows, pin_marks, pin_has}
+use Rattle.diag_growth.proofs.Vocabulary.{has_number, Shape, pin_wire, wires_of, more_itself, AreLinked, HasWire, Marks, on_ok_so}
+use Rattle.diag_growth.proofs.{Circling.grown_at, Circling.pin_grows, Circling.pin_marks, Circling.pin_has, Explained.held}
 use Rattle.diag_known.proofs.Marking.{few_none, few_then, few_barred, spends_none, spends_then, spends_barred, takes_two}
 use Rattle.diag_growth.proofs.Stages.{grows_itself, grows_then, grown_on, longer, tried_none, tried_one, tried_then}
-use Rattle.diag_growth.proofs.Explained.{held}
-use Rattle.diag_known.proofs.Settling.{on_ok_so}
 use Rattle.diag_growth.proofs.rounds.grow_pin.Goals as goal
 
 pub has-requires : goal.has-requires

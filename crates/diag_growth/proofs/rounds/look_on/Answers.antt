@@ -1,13 +1,7 @@
-use Rattle.std.proofs.Common.{◌≡◌, length, refl, sym, ap, subst, arith}
-use Rattle.machine_shape.specs.declared.Shape.{Shape}
-use Rattle.machine_shape.specs.Shape.{wires_of}
-use Rattle.diag_evidence.proofs.Keeping.{advances_itself, advances_then}
-use Rattle.diag_evidence.proofs.KeptLemmas.{more_itself}
-use Rattle.diag_known.specs.Linked.{AreLinked}
+use Rattle.diag_growth.proofs.Vocabulary.{◌≡◌, length, refl, sym, ap, subst, arith, Shape, wires_of, advances_itself, advances_then}
+use Rattle.diag_growth.proofs.Vocabulary.{more_itself, AreLinked, few_none, few_then, spends_none, spends_then}
 use Rattle.diag_growth.proofs.Circling.{grown_at}
-use Rattle.diag_known.proofs.Marking.{few_none, few_then, spends_none, spends_then}
-use Rattle.diag_growth.proofs.Stages.{grows_itself, grows_then, longer, tried_none, tried_then}
-use Rattle.diag_growth.proofs.Explained.{held}
+use Rattle.diag_growth.proofs.{Stages.grows_itself, Stages.grows_then, Stages.longer, Stages.tried_none, Stages.tried_then, Explained.held}
 use Rattle.diag_growth.proofs.rounds.look_on.Goals as goal
 
 pub places-init : goal.places-init

@@ -1,9 +1,5 @@
-use Rattle.std.proofs.Common.{◌≤◌, ◌-◌, length}
-use Rattle.machine_shape.specs.Shape.{wires_of}
-use Rattle.diag_growth.specs.Grown.{IsGrown}
+use Rattle.diag_growth.proofs.Vocabulary.{◌≤◌, ◌-◌, length, wires_of, IsGrown, ForEach, AreAllMarks}
 use Rattle.diag_growth.proofs.SoFar.{HasLooked}
-use Rattle.rig.specs.Rig.{ForEach}
-use Rattle.diag_growth.specs.Looks.{AreAllMarks}
 use Rattle.diag_growth.proofs.rounds.look_on.Given as goal
 
 abbrev pub invariant-places : goal.invariant-places

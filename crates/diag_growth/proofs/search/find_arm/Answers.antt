@@ -1,8 +1,4 @@
-use Rattle.std.proofs.Common.{◌≡◌, ◌≢◌, ◌∙◌, sym, subst, arith, rules}
-use Rattle.machine_shape.specs.declared.Shape.{Shape}
-use Rattle.machine_shape.specs.Shape.{line_at, lines_of}
-use Rattle.diag_growth.specs.Seating.{IsFreeArm}
-use Rattle.diag_known.proofs.Places.{one_more}
+use Rattle.diag_growth.proofs.Vocabulary.{◌≡◌, ◌≢◌, ◌∙◌, sym, subst, arith, rules, Shape, line_at, lines_of, IsFreeArm, one_more}
 use Rattle.diag_growth.proofs.Searching.{at_shape, no_line_of, line_there, arm_there, no_arm_beside, no_arm_over}
 use Rattle.diag_growth.proofs.search.find_arm.Goals as goal
 

@@ -1,6 +1,4 @@
-use Rattle.std.proofs.Common.{◌<◌, ℕ}
-use Rattle.machine_shape.specs.Shape.{line_at}
-use Rattle.diag_growth.specs.Seating.{IsFreeArm}
+use Rattle.diag_growth.proofs.Vocabulary.{◌<◌, ℕ, line_at, IsFreeArm}
 use Rattle.diag_growth.proofs.search.find_arm.Given as goal
 
 abbrev pub invariant-lines : goal.invariant-lines

@@ -1,8 +1,4 @@
-use Rattle.std.proofs.Common.{◌≡◌, ◌≢◌, ◌∙◌, sym, subst, arith, rules}
-use Rattle.machine_shape.specs.declared.Shape.{Shape}
-use Rattle.machine_shape.specs.Shape.{port_at, own_ports_of}
-use Rattle.diag_growth.specs.Seating.{IsFarPort}
-use Rattle.diag_known.proofs.Places.{one_more}
+use Rattle.diag_growth.proofs.Vocabulary.{◌≡◌, ◌≢◌, ◌∙◌, sym, subst, arith, rules, Shape, port_at, own_ports_of, IsFarPort, one_more}
 use Rattle.diag_growth.proofs.Searching.{at_shape, no_port_of, port_there, far_there, no_far_near, no_far_out, no_far_apart}
 use Rattle.diag_growth.proofs.search.find_far.Goals as goal
 

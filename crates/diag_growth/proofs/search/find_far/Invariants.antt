@@ -1,6 +1,4 @@
-use Rattle.std.proofs.Common.{◌<◌, ℕ}
-use Rattle.machine_shape.specs.Shape.{port_at}
-use Rattle.diag_growth.specs.Seating.{IsFarPort}
+use Rattle.diag_growth.proofs.Vocabulary.{◌<◌, ℕ, port_at, IsFarPort}
 use Rattle.diag_growth.proofs.search.find_far.Given as goal
 
 abbrev pub invariant-ports : goal.invariant-ports

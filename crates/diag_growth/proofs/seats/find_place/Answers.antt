@@ -1,11 +1,6 @@
-use Rattle.std.proofs.Common.{◌≡◌, ◌∙◌, ℕ, sym, ap, subst, arith}
-use Rattle.machine_shape.specs.declared.Shape.{Shape}
+use Rattle.diag_growth.proofs.Vocabulary.{◌≡◌, ◌∙◌, ℕ, sym, ap, subst, arith, Shape, HasWire, IsPlaceAt, one_more}
 use Rattle.machine_shape.specs.Shape.{hextant_of, port_at, own_ports_of, IsLine}
-use Rattle.diag_known.specs.Known.{HasWire}
-use Rattle.diag_growth.specs.Seating.{IsPlaceAt}
-use Rattle.diag_known.proofs.Places.{one_more}
-use Rattle.diag_growth.proofs.Choosing.{none_near}
-use Rattle.diag_growth.proofs.Searching.{no_port_of, port_of}
+use Rattle.diag_growth.proofs.{Choosing.none_near, Searching.no_port_of, Searching.port_of}
 use Rattle.diag_growth.proofs.seats.find_place.Goals as goal
 
 pub place_near-requires-clause-port : goal.place_near-requires-clause-port

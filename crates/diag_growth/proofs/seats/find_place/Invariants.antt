@@ -1,7 +1,4 @@
-use Rattle.std.proofs.Common.{◌<◌, ℕ}
-use Rattle.machine_shape.specs.Shape.{port_at, hextant_of, IsLine}
-use Rattle.diag_known.specs.Known.{HasWire}
-use Rattle.diag_growth.specs.Seating.{IsPlaceAt}
+use Rattle.diag_growth.proofs.Vocabulary.{◌<◌, ℕ, port_at, hextant_of, IsLine, HasWire, IsPlaceAt}
 use Rattle.diag_growth.proofs.seats.find_place.Given as goal
 
 abbrev pub invariant-ports : goal.invariant-ports

@@ -1,6 +1,4 @@
-use Rattle.std.proofs.Common.{◌≡◌, sym, subst}
-use Rattle.machine_shape.specs.declared.Shape.{Shape}
-use Rattle.machine_shape.specs.Shape.{hextant_of, table_wire, IsLine}
+use Rattle.diag_growth.proofs.Vocabulary.{◌≡◌, sym, subst, Shape, hextant_of, table_wire, IsLine}
 use Rattle.diag_growth.proofs.Choosing.{fars_named}
 use Rattle.diag_growth.proofs.Searching.{no_place_unknown, no_place_output, no_place_far, meeting_of}
 use Rattle.diag_growth.proofs.seats.out_over.Goals as goal

@@ -1,10 +1,5 @@
 use Rattle.std.proofs.Common.{◌≡◌, ◌∙◌, List, sym, ap, inr, subst, arith}
-use Rattle.machine_shape.specs.declared.Shape.{Shape}
-use Rattle.machine_shape.specs.Shape.{hextant_of, line_at, lines_of}
-use Rattle.diag_known.proofs.Places.{one_more}
-use Rattle.diag_growth.specs.Choices.{AreOuts, IsTold}
-use Rattle.diag_growth.specs.Seating.{IsPlaceAt}
-use Rattle.diag_growth.specs.declared.seats.Out.{Out}
+use Rattle.diag_growth.proofs.Vocabulary.{Shape, hextant_of, line_at, lines_of, one_more, AreOuts, IsTold, IsPlaceAt, Out}
 use Rattle.diag_growth.proofs.Choosing.{line_there_is, outs_first, outs_next, told_next, all_lines}
 use Rattle.diag_growth.proofs.Searching.{line_of}
 use Rattle.diag_growth.proofs.seats.outs_of.Goals as goal

@@ -1,6 +1,4 @@
-use Rattle.std.proofs.Common.{◌<◌, ℕ}
-use Rattle.machine_shape.specs.Shape.{line_at, hextant_of}
-use Rattle.diag_growth.specs.Choices.{AreOuts, IsTold}
+use Rattle.diag_growth.proofs.Vocabulary.{◌<◌, ℕ, line_at, hextant_of, AreOuts, IsTold}
 use Rattle.diag_growth.proofs.seats.outs_of.Given as goal
 
 abbrev pub invariant-lines : goal.invariant-lines

@@ -1,9 +1,5 @@
 use Rattle.std.proofs.Common.{◌≡◌, ◌<◌, ◌≤◌, ◌∙◌, Some, length, sym, subst, arith, rules, slice_get}
-use Rattle.std.proofs.lemmas.Option.{slice_get_within}
-use Rattle.diag_known.proofs.Getting.{at_index}
-use Rattle.diag_known.proofs.Places.{one_more, some_same}
-use Rattle.diag_growth.specs.Seating.{IsPlaceAt}
-use Rattle.diag_growth.specs.declared.seats.Out.{Out}
+use Rattle.diag_growth.proofs.Vocabulary.{slice_get_within, at_index, one_more, some_same, IsPlaceAt, Out}
 use Rattle.diag_growth.proofs.seats.place_from.Goals as goal
 
 pub lines-init : goal.lines-init

@@ -1,6 +1,4 @@
-use Rattle.std.proofs.Common.{◌≡◌, ◌<◌, ℕ, Some, slice_get}
-use Rattle.diag_growth.specs.Seating.{IsPlaceAt}
-use Rattle.diag_growth.specs.declared.seats.Out.{Out}
+use Rattle.diag_growth.proofs.Vocabulary.{◌≡◌, ◌<◌, ℕ, Some, slice_get, IsPlaceAt, Out}
 use Rattle.diag_growth.proofs.seats.place_from.Given as goal
 
 abbrev pub invariant-lines : goal.invariant-lines

@@ -1,6 +1,5 @@
 use Rattle.std.proofs.Common.{refl}
-use Rattle.diag_growth.proofs.Choosing.{far_chosen}
-use Rattle.diag_growth.proofs.Searching.{no_place_far, no_place_arms}
+use Rattle.diag_growth.proofs.{Choosing.far_chosen, Searching.no_place_far, Searching.no_place_arms}
 use Rattle.diag_growth.proofs.seats.place_over.Goals as goal
 
 pub returns-in_default-clause-none : goal.returns-in_default-clause-none

@@ -1,8 +1,4 @@
-use Rattle.std.proofs.Common.{◌<◌, ◌∙◌, refl, sym, subst}
-use Rattle.machine_shape.specs.declared.Shape.{Shape}
-use Rattle.machine_shape.specs.Shape.{Ends, ends_of, crosses_of}
-use Rattle.diag_tests.specs.Routes.{IsRoute, Extends}
-use Rattle.diag_known.specs.Known.{HasWire}
+use Rattle.diag_growth.proofs.Vocabulary.{◌<◌, ◌∙◌, refl, sym, subst, Shape, Ends, ends_of, crosses_of, IsRoute, Extends, HasWire}
 use Rattle.diag_growth.proofs.Placing.{seat_over, far_end}
 use Rattle.diag_growth.proofs.seats.seat_of.Goals as goal
 

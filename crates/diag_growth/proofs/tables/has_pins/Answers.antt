@@ -1,8 +1,4 @@
-use Rattle.std.proofs.Common.{◌≡◌, sym, subst, arith}
-use Rattle.machine_shape.specs.declared.Shape.{Shape}
-use Rattle.machine_shape.specs.Shape.{table_wire}
-use Rattle.diag_known.specs.Known.{HasWire}
-use Rattle.diag_known.proofs.Places.{one_more}
+use Rattle.diag_growth.proofs.Vocabulary.{◌≡◌, sym, subst, arith, Shape, table_wire, HasWire, one_more}
 use Rattle.diag_growth.proofs.tables.has_pins.Goals as goal
 
 pub pins-init : goal.pins-init

@@ -1,6 +1,4 @@
-use Rattle.std.proofs.Common.{◌<◌, ℕ}
-use Rattle.machine_shape.specs.Shape.{table_wire}
-use Rattle.diag_known.specs.Known.{HasWire}
+use Rattle.diag_growth.proofs.Vocabulary.{◌<◌, ℕ, table_wire, HasWire}
 use Rattle.diag_growth.proofs.tables.has_pins.Given as goal
 
 abbrev pub invariant-pins : goal.invariant-pins

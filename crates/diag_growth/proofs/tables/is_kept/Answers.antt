@@ -1,6 +1,4 @@
-use Rattle.std.proofs.Common.{◌≡◌, ◌∙◌, true, sym, arith}
-use Rattle.diag_evidence.specs.Kept.{keeps_cell}
-use Rattle.diag_known.proofs.Places.{one_more}
+use Rattle.diag_growth.proofs.Vocabulary.{◌≡◌, ◌∙◌, true, sym, arith, keeps_cell, one_more}
 use Rattle.diag_growth.proofs.Fresh.{cell_fresh, cells_kept}
 use Rattle.diag_growth.proofs.tables.is_kept.Goals as goal
 

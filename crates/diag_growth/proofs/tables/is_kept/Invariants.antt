@@ -1,5 +1,4 @@
-use Rattle.std.proofs.Common.{◌≡◌, ◌<◌, ℕ, true}
-use Rattle.diag_evidence.specs.Kept.{keeps_cell}
+use Rattle.diag_growth.proofs.Vocabulary.{◌≡◌, ◌<◌, ℕ, true, keeps_cell}
 use Rattle.diag_growth.proofs.tables.is_kept.Given as goal
 
 abbrev pub invariant-cells : goal.invariant-cells

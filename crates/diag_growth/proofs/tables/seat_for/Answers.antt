@@ -1,7 +1,4 @@
-use Rattle.std.proofs.Common.{◌<◌, ◌∙◌, ℕ, sym, subst}
-use Rattle.machine_shape.specs.declared.Shape.{Shape}
-use Rattle.machine_shape.specs.Shape.{table_wire}
-use Rattle.diag_known.specs.Known.{HasWire}
+use Rattle.diag_growth.proofs.Vocabulary.{◌<◌, ◌∙◌, ℕ, sym, subst, Shape, table_wire, HasWire}
 use Rattle.diag_growth.proofs.Testing.{no_seat, without_at, hextant_is}
 use Rattle.diag_growth.proofs.tables.seat_for.Goals as goal
 

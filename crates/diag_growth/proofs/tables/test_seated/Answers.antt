@@ -1,7 +1,5 @@
-use Rattle.std.proofs.Common.{◌∙◌, refl, sym}
-use Rattle.diag_growth.proofs.Fresh.{takes_kept, takes_fresh}
-use Rattle.diag_growth.proofs.Testing.{kept_over, kept_unseated, only_none}
-use Rattle.diag_known.proofs.Settling.{on_ok_so}
+use Rattle.diag_growth.proofs.Vocabulary.{◌∙◌, refl, sym, on_ok_so}
+use Rattle.diag_growth.proofs.{Fresh.takes_kept, Fresh.takes_fresh, Testing.kept_over, Testing.kept_unseated, Testing.only_none}
 use Rattle.diag_growth.proofs.tables.test_seated.Goals as goal
 
 pub returns-then-is_kept-clause-table_each : goal.returns-then-is_kept-clause-table_each

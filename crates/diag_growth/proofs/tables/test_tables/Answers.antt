@@ -1,10 +1,6 @@
-use Rattle.std.proofs.Common.{◌∙◌, ◌+◌, get_or, refl, sym, arith}
-use Rattle.diag_evidence.proofs.Keeping.{advances_itself, advances_then}
-use Rattle.diag_known.proofs.Later.{known_later}
-use Rattle.diag_growth.proofs.Fresh.{takes_all, takes_more}
+use Rattle.diag_growth.proofs.Vocabulary.{◌∙◌, ◌+◌, get_or, refl, sym, arith, advances_itself, advances_then, known_later, links_same}
+use Rattle.diag_growth.proofs.{Fresh.takes_all, Fresh.takes_more, Explained.held}
 use Rattle.diag_growth.proofs.Testing.{tested_first, tested_all, table_at, only_none, only_then, without_at, without_later, tested_on}
-use Rattle.diag_known.proofs.Linking.{links_same}
-use Rattle.diag_growth.proofs.Explained.{held}
 use Rattle.diag_growth.proofs.tables.test_tables.Goals as goal
 
 pub returns-in_default-clause-only : goal.returns-in_default-clause-only

@@ -1,10 +1,5 @@
-use Rattle.std.proofs.Common.{◌≤◌, ◌+◌, ◌*◌, take}
-use Rattle.diag_evidence.specs.Kept.{Advances}
-use Rattle.diag_growth.specs.Seats.{AddsOnlyTableFacts}
-use Rattle.diag_growth.specs.Seating.{AreAllWithout}
-use Rattle.diag_growth.specs.Tables.{fresh_tables}
+use Rattle.diag_growth.proofs.Vocabulary.{◌≤◌, ◌+◌, ◌*◌, take, Advances, AddsOnlyTableFacts, AreAllWithout, fresh_tables, ForEach}
 use Rattle.diag_growth.proofs.Testing.{AreTested}
-use Rattle.rig.specs.Rig.{ForEach}
 use Rattle.diag_growth.proofs.tables.test_tables.Given as goal
 
 abbrev pub invariant-tables : goal.invariant-tables

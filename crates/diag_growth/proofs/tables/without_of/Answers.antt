@@ -1,6 +1,4 @@
-use Rattle.std.proofs.Common.{◌∙◌, ap}
-use Rattle.machine_shape.specs.Shape.{wires_of}
-use Rattle.diag_known.proofs.Apart.{known_apart}
+use Rattle.diag_growth.proofs.Vocabulary.{◌∙◌, ap, wires_of, known_apart}
 use Rattle.diag_growth.proofs.Testing.{all_without}
 use Rattle.diag_growth.proofs.tables.without_of.Goals as goal
 

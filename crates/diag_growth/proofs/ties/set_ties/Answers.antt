@@ -1,7 +1,4 @@
-use Rattle.std.proofs.Common.{◌/◌, ◌∙◌, refl, ap, sym, subst, arith}
-use Rattle.machine_config.specs.Groups.{among}
-use Rattle.diag_tests.specs.Routes.{cross_numbers}
-use Rattle.diag_growth.specs.Ties.{bit_of, AreSeatTies}
+use Rattle.diag_growth.proofs.Vocabulary.{◌/◌, ◌∙◌, refl, ap, sym, subst, arith, among, cross_numbers, bit_of, AreSeatTies}
 use Rattle.diag_growth.proofs.Tying.{first_of, ties_next, halves_next, read_at}
 use Rattle.diag_growth.proofs.ties.set_ties.Goals as goal
 

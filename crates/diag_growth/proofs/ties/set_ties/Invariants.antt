@@ -1,7 +1,4 @@
-use Rattle.std.proofs.Common.{◌≡◌}
-use Rattle.machine_config.specs.Groups.{among}
-use Rattle.diag_tests.specs.Routes.{cross_numbers}
-use Rattle.diag_growth.specs.Ties.{halves, bit_of, AreSeatTies}
+use Rattle.diag_growth.proofs.Vocabulary.{◌≡◌, among, cross_numbers, halves, bit_of, AreSeatTies}
 use Rattle.diag_growth.proofs.ties.set_ties.Given as goal
 
 abbrev pub invariant-inputs : goal.invariant-inputs

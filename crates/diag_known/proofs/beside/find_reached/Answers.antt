@@ -1,6 +1,4 @@
-use Rattle.std.proofs.Common.{◌≡◌, ◌<◌, ◌∙◌, length, ap, arith}
-use Rattle.std.proofs.lemmas.List.{length-replicate}
-use Rattle.machine_shape.specs.Shape.{wires_of}
+use Rattle.diag_known.proofs.Vocabulary.{◌≡◌, ◌<◌, ◌∙◌, length, ap, arith, length-replicate, wires_of}
 use Rattle.diag_known.specs.declared.beside.Reach.TheVariants as reach
 use Rattle.diag_known.proofs.Reaching.{reaching_none, reaching_more, put_length, trees_reached, all_reached}
 use Rattle.diag_known.proofs.beside.find_reached.Goals as goal

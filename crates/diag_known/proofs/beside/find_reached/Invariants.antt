@@ -1,5 +1,4 @@
-use Rattle.std.proofs.Common.{◌≡◌, length}
-use Rattle.machine_shape.specs.Shape.{wires_of}
+use Rattle.diag_known.proofs.Vocabulary.{◌≡◌, length, wires_of}
 use Rattle.diag_known.proofs.Reaching.{IsReaching}
 use Rattle.diag_known.proofs.beside.find_reached.Given as goal
 

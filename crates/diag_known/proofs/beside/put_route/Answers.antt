@@ -1,5 +1,4 @@
-use Rattle.std.proofs.Common.{◌<◌, ◌≤◌, ◌+◌, ◌∙◌, length, arith}
-use Rattle.std.proofs.lemmas.List.{length-set}
+use Rattle.diag_known.proofs.Vocabulary.{◌<◌, ◌≤◌, ◌+◌, ◌∙◌, length, arith, length-set}
 use Rattle.diag_known.proofs.Reaching.{wire_within, marked, unmarked, all_taken}
 use Rattle.diag_known.specs.declared.beside.Reach.TheVariants as reach
 use Rattle.diag_known.proofs.beside.put_route.Goals as goal

@@ -1,6 +1,4 @@
-use Rattle.std.proofs.Common.{◌≡◌, ℕ, length, take, true, false}
-use Rattle.machine_config.specs.Groups.{among}
-use Rattle.diag_known.specs.Reaches.{reach_at}
+use Rattle.diag_known.proofs.Vocabulary.{◌≡◌, ℕ, length, take, true, false, among, reach_at}
 use Rattle.diag_known.specs.declared.beside.Reach.TheVariants as reach
 use Rattle.diag_known.proofs.beside.put_route.Given as goal
 

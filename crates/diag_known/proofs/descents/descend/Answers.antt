@@ -1,6 +1,4 @@
-use Rattle.std.proofs.Common.{List, sym, subst}
-use Rattle.diag_known.specs.Descents.{Descends}
-use Rattle.diag_known.specs.declared.descents.Down.{Down}
+use Rattle.diag_known.proofs.Vocabulary.{List, sym, subst, Descends, Down}
 use Rattle.diag_known.proofs.Rising.{descends_more}
 use Rattle.diag_known.proofs.descents.descend.Goals as goal
 

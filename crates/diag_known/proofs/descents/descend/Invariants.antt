@@ -1,5 +1,4 @@
-use Rattle.std.proofs.Common.{◌+◌}
-use Rattle.diag_known.specs.Vocabulary.{AreTwo, Descends}
+use Rattle.diag_known.proofs.Vocabulary.{◌+◌, AreTwo, Descends}
 use Rattle.diag_known.proofs.descents.descend.Given as goal
 
 abbrev pub invariant-down : goal.invariant-down

@@ -1,5 +1,4 @@
-use Rattle.std.proofs.Common.{◌⊎◌, ◌<◌, inl, inr, sym, subst, arith}
-use Rattle.diag_known.specs.Routes.{IsPin, is_pin}
+use Rattle.diag_known.proofs.Vocabulary.{◌⊎◌, ◌<◌, inl, inr, sym, subst, arith, IsPin, is_pin}
 use Rattle.diag_known.proofs.Places.{feet_here, steps_down}
 use Rattle.diag_known.proofs.descents.foot_down.Goals as goal
 use Rattle.diag_known.proofs.descents.foot_down.Goals.{else-i-j-via-then-i-j+else-not-is_pin, else-i-j-via-else-i-j}

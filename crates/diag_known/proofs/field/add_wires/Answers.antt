@@ -1,5 +1,4 @@
-use Rattle.std.proofs.Common.{◌<◌, length, sym, subst, arith, rules}
-use Rattle.machine_shape.specs.declared.Wire.{Wire}
+use Rattle.diag_known.proofs.Vocabulary.{◌<◌, length, sym, subst, arith, rules, Wire}
 use Rattle.diag_known.proofs.Getting.{at_index, wires_next}
 use Rattle.diag_known.proofs.field.add_wires.Goals as goal
 

@@ -1,5 +1,4 @@
-use Rattle.std.proofs.Common.{◌≡◌, ◌<◌, ℕ, length, true}
-use Rattle.base_bits.specs.Numbers.{has_number}
+use Rattle.diag_known.proofs.Vocabulary.{◌≡◌, ◌<◌, ℕ, length, true, has_number}
 use Rattle.diag_known.proofs.field.all_below.Given as goal
 
 abbrev pub invariant-numbers : goal.invariant-numbers

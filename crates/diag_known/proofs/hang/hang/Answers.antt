@@ -1,6 +1,5 @@
 use Rattle.std.proofs.Common.{◌∙◌, sym, inr}
-use Rattle.diag_known.proofs.Settling.{kept_each, marks_offered, on_ok_so}
-use Rattle.diag_known.proofs.Hung.{none_hung}
+use Rattle.diag_known.proofs.{Settling.kept_each, Settling.marks_offered, Settling.on_ok_so, Hung.none_hung}
 use Rattle.diag_known.proofs.hang.hang.Goals as goal
 
 pub returns-in_default-found-clause-lost_each : goal.returns-in_default-found-clause-lost_each

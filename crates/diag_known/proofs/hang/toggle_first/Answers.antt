@@ -1,8 +1,6 @@
-use Rattle.diag_evidence.specs.Kept.{HoldsFor}
-use Rattle.diag_evidence.proofs.Keeping.{of_told}
-use Rattle.diag_known.proofs.Later.{known_later, ways_later}
+use Rattle.diag_known.proofs.Vocabulary.{HoldsFor, of_told}
+use Rattle.diag_known.proofs.{Later.known_later, Later.ways_later, Seconds.both_lost, Seconds.offer_still}
 use Rattle.diag_known.proofs.Offering.{few_first, few_both, spends_first, spends_both}
-use Rattle.diag_known.proofs.Seconds.{both_lost, offer_still}
 use Rattle.diag_known.proofs.Settling.{if_ok_so, on_ok_so, over_later, over_offers}
 use Rattle.diag_known.proofs.hang.toggle_first.Goals as goal
 

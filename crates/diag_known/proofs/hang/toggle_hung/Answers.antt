@@ -1,13 +1,7 @@
 use Rattle.std.proofs.Common.{◌≡◌, ◌<◌, ◌∙◌, true, Some, List, sym, subst, slice_get}
-use Rattle.machine_shape.specs.declared.Cross.{Cross}
-use Rattle.machine_shape.specs.Shape.{pins_of, crosses_of}
-use Rattle.machine_config.specs.Groups.{among}
-use Rattle.diag_tests.specs.Routes.{Walk, cross_numbers}
-use Rattle.diag_evidence.specs.Kept.{Kept, IsMore}
-use Rattle.diag_evidence.proofs.Lists.{or_third}
-use Rattle.diag_known.proofs.Adding.{all_numbers}
+use Rattle.diag_known.proofs.Vocabulary.{Cross, pins_of, crosses_of, among, Walk, cross_numbers, Kept, IsMore, or_third}
+use Rattle.diag_known.proofs.{Adding.all_numbers, Settling.if_ok_so, Settling.kept_cross}
 use Rattle.diag_known.proofs.Hung.{laid_as, pulled_as, hung_within, hung_tied, hung_lost, hung_sound}
-use Rattle.diag_known.proofs.Settling.{if_ok_so, kept_cross}
 use Rattle.diag_known.proofs.hang.toggle_hung.Goals as goal
 
 pub laid-requires-clause-ties : goal.laid-requires-clause-ties

@@ -1,7 +1,4 @@
-use Rattle.std.proofs.Common.{◌≡◌, ◌∙◌, List, [], Some, None, sym, ap, subst, slice_get}
-use Rattle.diag_known.specs.Linked.{list_at}
-use Rattle.diag_known.specs.declared.links.Near.{Near}
-use Rattle.diag_known.specs.declared.verified_wire.Support.{Support}
+use Rattle.diag_known.proofs.Vocabulary.{◌≡◌, ◌∙◌, List, [], Some, None, sym, ap, subst, slice_get, list_at, Near, Support}
 use Rattle.diag_known.proofs.Linking.{item_read, item_past, list_at_some, list_at_none}
 use Rattle.diag_known.proofs.links.link_at.Goals as goal
 

@@ -1,7 +1,4 @@
-use Rattle.std.proofs.Common.{◌≡◌, List, [], length, sym, ap, subst, arith}
-use Rattle.diag_known.specs.Linked.{list_at}
-use Rattle.diag_known.specs.declared.links.Near.{Near}
-use Rattle.diag_known.specs.declared.verified_wire.Support.{Support}
+use Rattle.diag_known.proofs.Vocabulary.{◌≡◌, List, [], length, sym, ap, subst, arith, list_at, Near, Support}
 use Rattle.diag_known.proofs.Linking.{item_read, item_past, list_at_some, list_at_none}
 use Rattle.diag_known.proofs.links.link_count.Goals as goal
 

@@ -1,6 +1,4 @@
-use Rattle.std.proofs.Common.{◌≡◌, length}
-use Rattle.machine_shape.specs.Shape.{wires_of}
-use Rattle.diag_known.specs.Linked.{AreLinksUpTo}
+use Rattle.diag_known.proofs.Vocabulary.{◌≡◌, length, wires_of, AreLinksUpTo}
 use Rattle.diag_known.proofs.links.links_of.Given as goal
 
 abbrev pub invariant-crosses : goal.invariant-crosses

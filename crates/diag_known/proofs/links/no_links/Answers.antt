@@ -1,7 +1,4 @@
-use Rattle.std.proofs.Common.{◌≡◌, ◌∙◌, List, [], ◌∷◌, length, sym, ap, subst, arith}
-use Rattle.std.proofs.lemmas.List.{length-append}
-use Rattle.diag_known.specs.Linked.{list_at}
-use Rattle.diag_known.specs.declared.links.Near.{Near}
+use Rattle.diag_known.proofs.Vocabulary.{◌≡◌, ◌∙◌, List, [], ◌∷◌, length, sym, ap, subst, arith, length-append, list_at, Near}
 use Rattle.diag_known.proofs.Linking.{none_pushed}
 use Rattle.diag_known.proofs.links.no_links.Goals as goal
 

@@ -1,5 +1,4 @@
-use Rattle.std.proofs.Common.{◌≡◌, ℕ, [], length}
-use Rattle.diag_known.specs.Linked.{list_at}
+use Rattle.diag_known.proofs.Vocabulary.{◌≡◌, ℕ, [], length, list_at}
 use Rattle.diag_known.proofs.links.no_links.Given as goal
 
 abbrev pub invariant-wires : goal.invariant-wires

@@ -1,5 +1,4 @@
-use Rattle.std.proofs.Common.{◌≡◌, ◌<◌, ◌≤◌, ℕ, length, not, false}
-use Rattle.base_bits.specs.Numbers.{has_number}
+use Rattle.diag_known.proofs.Vocabulary.{◌≡◌, ◌<◌, ◌≤◌, ℕ, length, not, false, has_number}
 use Rattle.diag_known.proofs.marks.wires_outside.Given as goal
 
 abbrev pub invariant-wires : goal.invariant-wires

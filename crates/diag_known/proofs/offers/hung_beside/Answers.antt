@@ -1,6 +1,4 @@
-use Rattle.std.proofs.Common.{List, refl, subst}
-use Rattle.diag_known.specs.Offers.{HangsOnNone}
-use Rattle.diag_known.specs.declared.verified_wire.Support.{Support}
+use Rattle.diag_known.proofs.Vocabulary.{List, refl, subst, HangsOnNone, Support}
 use Rattle.diag_known.proofs.offers.hung_beside.Goals as goal
 
 pub returns-then-not-is_hung-clause-none : goal.returns-then-not-is_hung-clause-none

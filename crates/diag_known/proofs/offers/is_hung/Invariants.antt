@@ -1,6 +1,4 @@
-use Rattle.std.proofs.Common.{◌≡◌, ◌<◌, ℕ, Some, slice_get}
-use Rattle.diag_known.specs.Reaches.{IsReached}
-use Rattle.diag_known.specs.declared.verified_wire.Support.{Support}
+use Rattle.diag_known.proofs.Vocabulary.{◌≡◌, ◌<◌, ℕ, Some, slice_get, IsReached, Support}
 use Rattle.diag_known.proofs.offers.is_hung.Given as goal
 
 abbrev pub invariant-links : goal.invariant-links

@@ -1,5 +1,4 @@
-use Rattle.std.proofs.Common.{◌≡◌, ◌<◌, ℕ, Some, length, slice_get}
-use Rattle.diag_known.specs.declared.verified_wire.Support.{Support}
+use Rattle.diag_known.proofs.Vocabulary.{◌≡◌, ◌<◌, ℕ, Some, length, slice_get, Support}
 use Rattle.diag_known.proofs.offers.known_ends.Given as goal
 
 abbrev pub invariant-links : goal.invariant-links

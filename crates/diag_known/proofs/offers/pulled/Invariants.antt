@@ -1,6 +1,4 @@
-use Rattle.std.proofs.Common.{◌≡◌, ◌<◌, ℕ, Some, length, true, false, slice_get, slice_index_or}
-use Rattle.machine_shape.specs.Shape.{pins_of}
-use Rattle.diag_tests.specs.Routes.{Walk}
+use Rattle.diag_known.proofs.Vocabulary.{◌≡◌, ◌<◌, ℕ, Some, length, true, false, slice_get, slice_index_or, pins_of, Walk}
 use Rattle.diag_known.proofs.Adding.{InFirst}
 use Rattle.diag_known.proofs.offers.pulled.Given as goal
 

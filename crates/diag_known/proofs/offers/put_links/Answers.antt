@@ -1,6 +1,4 @@
-use Rattle.std.proofs.Common.{arith}
-use Rattle.std.proofs.lemmas.Option.{slice_get-get_or}
-use Rattle.diag_known.specs.Offers.{IsHung}
+use Rattle.diag_known.proofs.Vocabulary.{arith, slice_get-get_or, IsHung}
 use Rattle.diag_known.proofs.Adding.{adds_next, adds_all}
 use Rattle.diag_known.proofs.offers.put_links.Goals as goal
 

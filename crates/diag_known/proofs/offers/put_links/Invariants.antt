@@ -1,5 +1,4 @@
-use Rattle.diag_tests.specs.Routes.{cross_numbers}
-use Rattle.diag_known.specs.Offers.{Adds, IsHung}
+use Rattle.diag_known.proofs.Vocabulary.{cross_numbers, Adds, IsHung}
 use Rattle.diag_known.proofs.Adding.{InFirst}
 use Rattle.diag_known.proofs.offers.put_links.Given as goal
 

@@ -1,6 +1,4 @@
-use Rattle.std.proofs.Common.{◌≡◌}
-use Rattle.diag_tests.specs.Routes.{cross_numbers}
-use Rattle.diag_known.specs.Offers.{Adds}
+use Rattle.diag_known.proofs.Vocabulary.{◌≡◌, cross_numbers, Adds}
 use Rattle.diag_known.proofs.Adding.{InFirst}
 use Rattle.diag_known.proofs.offers.put_steps.Given as goal
 

@@ -1,6 +1,4 @@
-use Rattle.std.proofs.Common.{length, refl, arith}
-use Rattle.std.proofs.lemmas.Option.{slice_get_read}
-use Rattle.diag_known.specs.Offers.{IsOn}
+use Rattle.diag_known.proofs.Vocabulary.{length, refl, arith, slice_get_read, IsOn}
 use Rattle.diag_known.proofs.Adding.{adds_next, adds_all}
 use Rattle.diag_known.proofs.offers.put_walks.Goals as goal
 

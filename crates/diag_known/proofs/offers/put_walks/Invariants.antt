@@ -1,5 +1,4 @@
-use Rattle.diag_tests.specs.Routes.{cross_numbers}
-use Rattle.diag_known.specs.Offers.{Adds, IsOn}
+use Rattle.diag_known.proofs.Vocabulary.{cross_numbers, Adds, IsOn}
 use Rattle.diag_known.proofs.Adding.{InFirst}
 use Rattle.diag_known.proofs.offers.put_walks.Given as goal
 

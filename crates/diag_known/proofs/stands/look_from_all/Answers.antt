@@ -1,6 +1,5 @@
 use Rattle.std.proofs.Common.{arith}
-use Rattle.diag_known.proofs.Grounding.{founds_none, founds_then, settled_none}
-use Rattle.diag_known.proofs.Stood.{settled_at_all}
+use Rattle.diag_known.proofs.{Grounding.founds_none, Grounding.founds_then, Grounding.settled_none, Stood.settled_at_all}
 use Rattle.diag_known.proofs.stands.look_from_all.Goals as goal
 
 pub places-init : goal.places-init

@@ -1,6 +1,4 @@
-use Rattle.std.proofs.Common.{◌+◌, ◌-◌, ◌*◌, length}
-use Rattle.base_bits.specs.Numbers.{size_of}
-use Rattle.diag_known.specs.Grounds.{IsGround, Founds, AreSettled}
+use Rattle.diag_known.proofs.Vocabulary.{◌+◌, ◌-◌, ◌*◌, length, size_of, IsGround, Founds, AreSettled}
 use Rattle.diag_known.proofs.stands.look_from_all.Given as goal
 
 abbrev pub invariant-places : goal.invariant-places

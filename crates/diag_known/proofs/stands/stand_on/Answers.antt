@@ -1,5 +1,4 @@
-use Rattle.std.proofs.Common.{◌∙◌, ap}
-use Rattle.machine_shape.specs.Shape.{wires_of}
+use Rattle.diag_known.proofs.Vocabulary.{◌∙◌, ap, wires_of}
 use Rattle.diag_known.proofs.Grounding.{ground_none, founds_then, stands_all, out_still}
 use Rattle.diag_known.proofs.Stood.{all_from, no_wire}
 use Rattle.diag_known.proofs.stands.stand_on.Goals as goal

@@ -1,6 +1,4 @@
-use Rattle.std.proofs.Common.{◌≡◌, ◌∙◌, sym, subst}
-use Rattle.machine_shape.specs.declared.Shape.{Shape}
-use Rattle.machine_shape.specs.Shape.{pin_wire}
+use Rattle.diag_known.proofs.Vocabulary.{◌≡◌, ◌∙◌, sym, subst, Shape, pin_wire}
 use Rattle.diag_known.proofs.Stood.{stood_ground, stood_founds, pin_stands_so}
 use Rattle.diag_known.proofs.stands.take_pin.Goals as goal
 

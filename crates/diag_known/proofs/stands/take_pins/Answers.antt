@@ -1,8 +1,5 @@
-use Rattle.std.proofs.Common.{◌≡◌, ◌∙◌, false, ap, arith}
-use Rattle.base_bits.specs.Numbers.{has_number}
-use Rattle.machine_shape.specs.Shape.{pin_wire, pins_of}
-use Rattle.diag_known.proofs.Grounding.{founds_none, founds_then, out_still}
-use Rattle.diag_known.proofs.Places.{one_more}
+use Rattle.diag_known.proofs.Vocabulary.{◌≡◌, ◌∙◌, false, ap, arith, has_number, pin_wire, pins_of}
+use Rattle.diag_known.proofs.{Grounding.founds_none, Grounding.founds_then, Grounding.out_still, Places.one_more}
 use Rattle.diag_known.proofs.stands.take_pins.Goals as goal
 
 pub pins-init : goal.pins-init

@@ -1,7 +1,4 @@
-use Rattle.std.proofs.Common.{◌≡◌, ◌<◌, ℕ, false}
-use Rattle.base_bits.specs.Numbers.{has_number}
-use Rattle.machine_shape.specs.Shape.{pin_wire}
-use Rattle.diag_known.specs.Grounds.{IsGround, Founds}
+use Rattle.diag_known.proofs.Vocabulary.{◌≡◌, ◌<◌, ℕ, false, has_number, pin_wire, IsGround, Founds}
 use Rattle.diag_known.proofs.stands.take_pins.Given as goal
 
 abbrev pub invariant-pins : goal.invariant-pins

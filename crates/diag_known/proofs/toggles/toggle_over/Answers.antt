@@ -1,5 +1,4 @@
-use Rattle.diag_known.proofs.Passing.{over_lost}
-use Rattle.diag_known.proofs.Settling.{if_ok_so}
+use Rattle.diag_known.proofs.{Passing.over_lost, Settling.if_ok_so}
 use Rattle.diag_known.proofs.toggles.toggle_over.Goals as goal
 
 pub returns-clause-lost_each : goal.returns-clause-lost_each

@@ -1,5 +1,4 @@
-use Rattle.std.proofs.Common.{sym, subst, inl}
-use Rattle.diag_known.specs.Routes.{IsPin, is_pin}
+use Rattle.diag_known.proofs.Vocabulary.{sym, subst, inl, IsPin, is_pin}
 use Rattle.diag_known.proofs.Touring.{hangs_on, hangs_at, from_here}
 use Rattle.diag_known.proofs.tour.foot_below.Goals as goal
 

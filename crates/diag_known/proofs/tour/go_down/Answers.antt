@@ -1,9 +1,5 @@
-use Rattle.std.proofs.Common.{◌≡◌, ℕ, true, sym, subst}
-use Rattle.machine_shape.specs.declared.Shape.{Shape}
-use Rattle.diag_tests.specs.Routes.{IsRoute, Extends}
-use Rattle.diag_known.specs.Vocabulary.{HasWire, IsFromAt}
-use Rattle.diag_known.proofs.Places.{at_within}
-use Rattle.diag_known.proofs.Touring.{walk_known, left_from, went_down}
+use Rattle.diag_known.proofs.Vocabulary.{◌≡◌, ℕ, true, sym, subst, Shape, IsRoute, Extends, HasWire, IsFromAt}
+use Rattle.diag_known.proofs.{Places.at_within, Touring.walk_known, Touring.left_from, Touring.went_down}
 use Rattle.diag_known.proofs.tour.go_down.Goals as goal
 
 pub place-from-requires : goal.place-from-requires

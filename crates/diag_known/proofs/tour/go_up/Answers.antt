@@ -1,8 +1,4 @@
-use Rattle.std.proofs.Common.{◌<◌, sym, subst, arith}
-use Rattle.std.proofs.lemmas.List.{nil_from_length}
-use Rattle.machine_shape.specs.declared.Shape.{Shape}
-use Rattle.machine_shape.specs.Shape.{Ends, ends_of, crosses_of}
-use Rattle.diag_tests.specs.Routes.{IsRoute, Extends}
+use Rattle.diag_known.proofs.Vocabulary.{◌<◌, sym, subst, arith, nil_from_length, Shape, Ends, ends_of, crosses_of, IsRoute, Extends}
 use Rattle.diag_known.proofs.Touring.{up_within, up_ends, went_up, up_all}
 use Rattle.diag_known.proofs.tour.go_up.Goals as goal
 

@@ -1,9 +1,5 @@
 use Rattle.std.proofs.Common.{◌≡◌, ◌-◌, ◌<◌, List, length, sym, ◌∙◌, refl, subst, arith, slice_get, vec_len, Some}
-use Rattle.std.proofs.lemmas.Bool.Decides.{nat_tests}
-use Rattle.std.proofs.lemmas.List.{nil_from_length}
-use Rattle.std.proofs.lemmas.Option.{slice_get_read}
-use Rattle.diag_known.specs.Reaches.{upper_of}
-use Rattle.diag_known.specs.declared.verified_wire.Support.{Support}
+use Rattle.diag_known.proofs.Vocabulary.{nat_tests, nil_from_length, slice_get_read, upper_of, Support}
 use Rattle.diag_known.proofs.Touring.{upper_last}
 use Rattle.diag_known.proofs.tour.upper.Goals as goal
 

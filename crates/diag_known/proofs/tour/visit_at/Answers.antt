@@ -1,9 +1,6 @@
 use Rattle.std.proofs.Common.{◌≡◌, ◌<◌, ◌∙◌, Some, length, refl, sym, ap, subst, arith, slice_get}
-use Rattle.std.proofs.lemmas.Option.{slice_get-get_or}
-use Rattle.diag_tests.specs.Routes.{Walk}
-use Rattle.diag_known.proofs.Places.{some_same}
-use Rattle.diag_known.specs.Reaches.{IsFrom}
-use Rattle.diag_known.proofs.Touring.{walks_set, stay_set, on_set}
+use Rattle.diag_known.proofs.Vocabulary.{slice_get-get_or, Walk, IsFrom}
+use Rattle.diag_known.proofs.{Places.some_same, Touring.walks_set, Touring.stay_set, Touring.on_set}
 use Rattle.diag_known.proofs.tour.visit_at.Goals as goal
 
 pub visit-requires-clause-walk : goal.visit-requires-clause-walk

@@ -1,8 +1,4 @@
-use Rattle.std.proofs.Common.{◌≡◌, ◌<◌, sym, subst}
-use Rattle.machine_shape.specs.declared.Shape.{Shape}
-use Rattle.machine_shape.specs.Shape.{pins_of}
-use Rattle.diag_tests.specs.Routes.{IsRoute, at_pin}
-use Rattle.diag_known.specs.Reaches.{IsFrom}
+use Rattle.diag_known.proofs.Vocabulary.{◌≡◌, ◌<◌, sym, subst, Shape, pins_of, IsRoute, at_pin, IsFrom}
 use Rattle.diag_known.proofs.Touring.{root, root_walk}
 use Rattle.diag_known.proofs.tour.walk_to.Goals as goal
 

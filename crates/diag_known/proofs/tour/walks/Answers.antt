@@ -1,6 +1,4 @@
-use Rattle.std.proofs.Common.{◌<◌, length, arith}
-use Rattle.std.proofs.lemmas.Option.{slice_get_within}
-use Rattle.diag_known.specs.Reaches.{IsFrom, IsOnWalk}
+use Rattle.diag_known.proofs.Vocabulary.{◌<◌, length, arith, slice_get_within, IsFrom, IsOnWalk}
 use Rattle.diag_known.proofs.Touring.{wanted_more}
 use Rattle.diag_known.proofs.tour.walks.Goals as goal
 

@@ -1,6 +1,4 @@
-use Rattle.std.proofs.Common.{◌≡◌, ◌<◌, ℕ, Some, slice_get}
-use Rattle.machine_shape.specs.declared.Wire.{Wire}
-use Rattle.diag_known.specs.Reaches.{IsFrom, IsOnWalk, AreTreeWalks}
+use Rattle.diag_known.proofs.Vocabulary.{◌≡◌, ◌<◌, ℕ, Some, slice_get, Wire, IsFrom, IsOnWalk, AreTreeWalks}
 use Rattle.diag_known.proofs.tour.walks.Given as goal
 
 abbrev pub invariant-wanted : goal.invariant-wanted

@@ -1,9 +1,6 @@
-use Rattle.std.proofs.lemmas.Result.{err_from_is_err_and}
-use Rattle.cmd_steps.specs.Texts.{reads_machine}
+use Rattle.diag_list.proofs.Vocabulary.{err_from_is_err_and, reads_machine, asks-machine}
 use Rattle.cmd_steps.proofs.Making.{nothing}
-use Rattle.cmd_steps.proofs.Taking.{asks-machine}
-use Rattle.diag_list.proofs.ListedLemmas.{attached-shape}
-use Rattle.diag_list.proofs.FewCycles.{few-unasked, few-unloaded, few-listed}
+use Rattle.diag_list.proofs.{ListedLemmas.attached-shape, FewCycles.few-unasked, FewCycles.few-unloaded, FewCycles.few-listed}
 use Rattle.diag_list.proofs.MachineListed.{asked-on, not-read, not-attached, then-listed}
 use Rattle.diag_list.proofs.listing.list_machine.Goals as goal
 

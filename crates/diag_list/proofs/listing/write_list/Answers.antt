@@ -1,7 +1,4 @@
-use Rattle.std.proofs.Common.{inl, inr}
-use Rattle.std.proofs.lemmas.Result.{err_from_is_err_and}
-use Rattle.cmd_steps.proofs.Taking.{took-lacks}
-use Rattle.diag_list.specs.Lists.{lists_now}
+use Rattle.diag_list.proofs.Vocabulary.{inl, inr, err_from_is_err_and, took-lacks, lists_now}
 use Rattle.diag_list.proofs.listing.write_list.Goals as goal
 
 pub returns-in_err-list-clause-written : goal.returns-in_err-list-clause-written

@@ -1,5 +1,4 @@
-use Rattle.machine_shape.specs.Shape.{wires_of}
-use Rattle.diag_machine.specs.Listing.{IsListing}
+use Rattle.diag_machine.proofs.Vocabulary.{wires_of, IsListing}
 use Rattle.diag_machine.proofs.list.list_crosses.Given as goal
 
 abbrev pub invariant-crosses : goal.invariant-crosses

@@ -1,5 +1,4 @@
-use Rattle.machine_shape.specs.Shape.{wires_of, crosses_of}
-use Rattle.diag_machine.specs.Listing.{IsListing}
+use Rattle.diag_machine.proofs.Vocabulary.{wires_of, crosses_of, IsListing}
 use Rattle.diag_machine.proofs.list.list_tables.Given as goal
 
 abbrev pub invariant-tables : goal.invariant-tables

@@ -1,6 +1,4 @@
-use Rattle.std.proofs.Common.{subst, IfSome}
-use Rattle.machine_shape.specs.declared.Wire.{Wire}
-use Rattle.diag_machine.specs.Choice.{IsKnownFoot}
+use Rattle.diag_machine.proofs.Vocabulary.{subst, IfSome, Wire, IsKnownFoot}
 use Rattle.diag_machine.proofs.lost.has_feet.Goals as goal
 
 pub returns-then-other-line : goal.returns-then-other-line

@@ -1,6 +1,4 @@
-use Rattle.std.specs.Prelude.{IfSome}
-use Rattle.machine_shape.specs.declared.Wire.{Wire}
-use Rattle.diag_machine.specs.Choice.{IsKnownFoot}
+use Rattle.diag_machine.proofs.Vocabulary.{IfSome, Wire, IsKnownFoot}
 use Rattle.diag_machine.proofs.lost.has_feet.Given as goal
 
 abbrev pub invariant-lines : goal.invariant-lines

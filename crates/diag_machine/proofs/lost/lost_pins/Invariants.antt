@@ -1,5 +1,4 @@
-use Rattle.std.proofs.Common.{◌≡◌, true, length}
-use Rattle.diag_machine.specs.Choice.{AreLeftOut}
+use Rattle.diag_machine.proofs.Vocabulary.{◌≡◌, true, length, AreLeftOut}
 use Rattle.diag_machine.proofs.lost.lost_pins.Given as goal
 
 abbrev pub invariant-wires : goal.invariant-wires

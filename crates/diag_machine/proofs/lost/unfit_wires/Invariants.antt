@@ -1,6 +1,4 @@
-use Rattle.std.proofs.Common.{◌≡◌, ℕ, true, length}
-use Rattle.base_bits.specs.Numbers.{has_number}
-use Rattle.diag_known.specs.Known.{HasWire}
+use Rattle.diag_machine.proofs.Vocabulary.{◌≡◌, ℕ, true, length, has_number, HasWire}
 use Rattle.diag_machine.proofs.lost.unfit_wires.Given as goal
 
 abbrev pub invariant-wires : goal.invariant-wires

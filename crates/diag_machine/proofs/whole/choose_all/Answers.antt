@@ -1,7 +1,4 @@
-use Rattle.std.proofs.Common.{◌∙◌, ap, refl, sym, subst, arith}
-use Rattle.diag_evidence.proofs.Keeping.{rest_itself, rest_then}
-use Rattle.diag_known.specs.Field.{IsFieldOf}
-use Rattle.diag_known.specs.declared.field.Field.{Field}
+use Rattle.diag_machine.proofs.Vocabulary.{◌∙◌, ap, refl, sym, subst, arith, rest_itself, rest_then, IsFieldOf, Field}
 use Rattle.diag_machine.proofs.Sweeping.{at_most, field_later, marks_back, marks_on}
 use Rattle.diag_machine.proofs.whole.choose_all.Goals as goal
 

@@ -1,6 +1,5 @@
-use Rattle.std.proofs.Common.{◌∙◌}
+use Rattle.diag_machine.proofs.Vocabulary.{◌∙◌, advances_rest, rest_then}
 use Rattle.diag_machine.proofs.Sweeping.{at_most, field_later, marks_each, marks_of, marks_on}
-use Rattle.diag_evidence.proofs.Keeping.{advances_rest, rest_then}
 use Rattle.diag_machine.proofs.whole.choose_once.Goals as goal
 
 pub sweep_with-requires-clause-field : goal.sweep_with-requires-clause-field

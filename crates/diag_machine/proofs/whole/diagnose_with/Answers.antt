@@ -1,5 +1,4 @@
-use Rattle.diag_machine.proofs.Stepping.{diagnosed_each}
-use Rattle.diag_machine.proofs.Sweeping.{marks_of_none}
+use Rattle.diag_machine.proofs.{Stepping.diagnosed_each, Sweeping.marks_of_none}
 use Rattle.diag_machine.proofs.whole.diagnose_with.Goals as goal
 
 pub returns-in-Ok-list_of-clause-right_each : goal.returns-in-Ok-list_of-clause-right_each

@@ -1,8 +1,5 @@
-use Rattle.std.proofs.Common.{sym, arith}
-use Rattle.std.proofs.lemmas.Result.{on_ok_weaker}
-use Rattle.diag_evidence.proofs.Keeping.{advances_rest, rest_itself}
-use Rattle.diag_machine.proofs.Stepping.{grown_true, reached_if}
-use Rattle.diag_machine.proofs.Sweeping.{always, few_when}
+use Rattle.diag_machine.proofs.Vocabulary.{sym, arith, on_ok_weaker, advances_rest, rest_itself}
+use Rattle.diag_machine.proofs.{Stepping.grown_true, Stepping.reached_if, Sweeping.always, Sweeping.few_when}
 use Rattle.diag_machine.proofs.whole.grow_whole.Goals as goal
 
 pub returns-in_default-clause-loads : goal.returns-in_default-clause-loads

@@ -1,10 +1,4 @@
-use Rattle.std.proofs.Common.{◌∙◌, ap, sym, subst}
-use Rattle.machine_shape.specs.Shape.{crosses_of, wires_of}
-use Rattle.base_bits.specs.Numbers.{size_of}
-use Rattle.diag_known.specs.Field.{IsFieldOf}
-use Rattle.diag_known.specs.declared.field.Field.{Field}
-use Rattle.diag_machine.specs.Stages.{IsWhole}
-use Rattle.diag_evidence.proofs.Keeping.{rest_then}
+use Rattle.diag_machine.proofs.Vocabulary.{◌∙◌, ap, sym, subst, crosses_of, wires_of, size_of, IsFieldOf, Field, IsWhole, rest_then}
 use Rattle.diag_machine.proofs.Counted.{grown_few, grown_most, known_few, known_most, pins_same, size_most, swept_few, swept_most, wires_most}
 use Rattle.diag_machine.proofs.Stepping.{holds_each}
 use Rattle.diag_machine.proofs.Sweeping.{always, at_most, at_once, few_when, field_later, marks_back, marks_on, whole_later}

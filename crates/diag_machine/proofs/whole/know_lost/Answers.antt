@@ -1,14 +1,8 @@
 use Rattle.std.proofs.Common.{◌∙◌, ap, sym, subst, arith, IfSome}
-use Rattle.machine_shape.specs.Shape.{crosses_of, wires_of}
-use Rattle.diag_known.specs.Field.{IsFieldOf}
-use Rattle.diag_known.specs.declared.field.Field.{Field}
-use Rattle.diag_machine.specs.Choice.{AreLeftOut}
-use Rattle.diag_machine.specs.Stages.{IsWhole}
-use Rattle.diag_machine.proofs.Counted.{again_most, lost_most, size_most, wires_most}
+use Rattle.diag_machine.proofs.Vocabulary.{crosses_of, wires_of, IsFieldOf, Field, AreLeftOut, IsWhole, rest_then}
+use Rattle.diag_machine.proofs.{Counted.again_most, Counted.lost_most, Counted.size_most, Counted.wires_most, Stepping.reached_then}
 use Rattle.diag_machine.proofs.Losing.{out_never}
-use Rattle.diag_machine.proofs.Stepping.{reached_then}
 use Rattle.diag_machine.proofs.Sweeping.{always, at_most, at_once, field_later, marks_on, whole_later}
-use Rattle.diag_evidence.proofs.Keeping.{rest_then}
 use Rattle.diag_machine.proofs.whole.know_lost.Goals as goal
 
 pub returns-in_default-clause-loads : goal.returns-in_default-clause-loads

@@ -1,5 +1,4 @@
-use Rattle.std.proofs.Common.{◌≡◌, ◌∙◌, true, false, sym}
-use Rattle.std.proofs.lemmas.Bool.{false≢true}
+use Rattle.diag_machine.proofs.Vocabulary.{◌≡◌, ◌∙◌, true, false, sym, false≢true}
 use Rattle.diag_known.proofs.Later.{known_none}
 use Rattle.diag_machine.proofs.whole.known_wires.Goals as goal
 

@@ -1,7 +1,5 @@
-use Rattle.std.proofs.Common.{◌∙◌, ap, length, refl, arith}
-use Rattle.base_bits.specs.Numbers.{size_of}
+use Rattle.diag_machine.proofs.Vocabulary.{◌∙◌, ap, length, refl, arith, size_of, advances_rest, more_rest, rest_itself, rest_then}
 use Rattle.diag_machine.proofs.Sweeping.{always, few_when, field_later, marks_back, marks_each, marks_of, marks_on, none_unfit}
-use Rattle.diag_evidence.proofs.Keeping.{advances_rest, more_rest, rest_itself, rest_then}
 use Rattle.diag_machine.proofs.whole.sweep_whole.Goals as goal
 
 pub choose_all-requires-clause-field : goal.choose_all-requires-clause-field

@@ -1,6 +1,5 @@
 use Rattle.std.proofs.Common.{◌+◌, refl}
-use Rattle.diag_machine.proofs.Stepping.{tables_within}
-use Rattle.diag_machine.proofs.Sweeping.{left_count, left_kept, left_out}
+use Rattle.diag_machine.proofs.{Stepping.tables_within, Sweeping.left_count, Sweeping.left_kept, Sweeping.left_out}
 use Rattle.diag_machine.proofs.whole.tables_left.Goals as goal
 
 pub tables-preserved : goal.tables-preserved

@@ -1,8 +1,4 @@
-use Rattle.std.proofs.Common.{◌≡◌, ◌⊎◌, ◌<◌, ◌≤◌, ℕ, true, length, All}
-use Rattle.base_bits.specs.Numbers.{has_number}
-use Rattle.machine_shape.specs.declared.Table.{Table}
-use Rattle.machine_shape.specs.Shape.{tables_of}
-use Rattle.diag_sweep.specs.Marks.{HasTable}
+use Rattle.diag_machine.proofs.Vocabulary.{◌≡◌, ◌⊎◌, ◌<◌, ◌≤◌, ℕ, true, length, All, has_number, Table, tables_of, HasTable}
 use Rattle.diag_machine.proofs.whole.tables_left.Given as goal
 
 abbrev pub invariant-tables : goal.invariant-tables

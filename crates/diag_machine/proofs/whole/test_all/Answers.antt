@@ -1,6 +1,4 @@
-use Rattle.std.proofs.Common.{ap, subst, ◌≤◌, length, ℕ}
-use Rattle.std.proofs.lemmas.Result.{on_ok_weaker}
-use Rattle.machine_shape.specs.Shape.{tables_of}
+use Rattle.diag_machine.proofs.Vocabulary.{ap, subst, ◌≤◌, length, ℕ, on_ok_weaker, tables_of}
 use Rattle.diag_machine.proofs.Sweeping.{tables_left_if, tables_left_most}
 use Rattle.diag_machine.proofs.whole.test_all.Goals as goal
 

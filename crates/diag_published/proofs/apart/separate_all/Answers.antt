@@ -1,6 +1,5 @@
-use Rattle.std.proofs.Common.{subst}
+use Rattle.diag_published.proofs.Vocabulary.{subst, IsHeld}
 use Rattle.std.proofs.lemmas.Option.{slice_get_within, get_or_from_slice_get}
-use Rattle.diag_published.specs.Held.{IsHeld}
 use Rattle.diag_published.proofs.Holding.{kept_pair, wire_known}
 use Rattle.diag_published.proofs.apart.separate_all.Goals as goal
 

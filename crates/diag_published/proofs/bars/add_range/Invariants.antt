@@ -1,6 +1,4 @@
-use Rattle.std.proofs.Common.{◌≤◌, ◌-◌}
-use Rattle.diag_known.specs.Gains.{Gets}
-use Rattle.diag_published.specs.Bars.{IsFrom}
+use Rattle.diag_published.proofs.Vocabulary.{◌≤◌, ◌-◌, Gets, IsFrom}
 use Rattle.diag_published.proofs.bars.add_range.Given as goal
 
 abbrev pub invariant-numbers : goal.invariant-numbers

@@ -1,9 +1,4 @@
-use Rattle.std.proofs.Common.{◌<◌, All, subst}
-use Rattle.machine_shape.specs.declared.Shape.{Shape}
-use Rattle.machine_shape.specs.declared.Wire.{Wire}
-use Rattle.machine_shape.specs.Shape.{wires_of}
-use Rattle.diag_published.specs.Bars.{AreBarOf, IsBarField}
-use Rattle.diag_published.specs.Held.{wire_numbers}
+use Rattle.diag_published.proofs.Vocabulary.{◌<◌, All, subst, Shape, Wire, wires_of, AreBarOf, IsBarField, wire_numbers}
 use Rattle.diag_published.proofs.crossbar.ground_of.Goals as goal
 
 pub returns-clause-bar : goal.returns-clause-bar

@@ -1,7 +1,4 @@
-use Rattle.std.proofs.Common.{◌<◌, sym, subst}
-use Rattle.machine_shape.specs.declared.Shape.{Shape}
-use Rattle.machine_shape.specs.Shape.{wires_of}
-use Rattle.machine_config.proofs.Grouped.{LeadsTo-end}
+use Rattle.diag_published.proofs.Vocabulary.{◌<◌, sym, subst, Shape, wires_of, LeadsTo-end}
 use Rattle.diag_published.proofs.crossbar.test_crossbar.Goals as goal
 
 pub node_of-node-requires : goal.node_of-node-requires

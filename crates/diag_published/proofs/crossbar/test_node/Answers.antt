@@ -1,12 +1,6 @@
-use Rattle.std.proofs.Common.{◌<◌, All, sym, subst}
-use Rattle.machine_shape.specs.declared.Shape.{Shape}
-use Rattle.machine_shape.specs.declared.Wire.{Wire}
-use Rattle.machine_shape.specs.Shape.{nodes_of, wires_of}
-use Rattle.diag_published.specs.Bars.{AreBarOf}
-use Rattle.diag_published.specs.Held.{wire_numbers}
+use Rattle.diag_published.proofs.Vocabulary.{◌<◌, All, sym, subst, Shape, Wire, nodes_of, wires_of, AreBarOf, wire_numbers, held}
 use Rattle.diag_published.proofs.Filling.{bar_at, full_is, bar_loads, bar_few, no_few, trunk_node, trunk_taps}
 use Rattle.diag_published.proofs.Staying.{trunk_later}
-use Rattle.diag_growth.proofs.Explained.{held}
 use Rattle.diag_published.proofs.crossbar.test_node.Goals as goal
 
 pub ground_of-requires-clause-node : goal.ground_of-requires-clause-node

@@ -1,6 +1,4 @@
-use Rattle.std.proofs.Common.{◌≡◌, ℕ, true, take}
-use Rattle.machine_config.specs.Groups.{among}
-use Rattle.diag_published.specs.Held.{wire_numbers}
+use Rattle.diag_published.proofs.Vocabulary.{◌≡◌, ℕ, true, take, among, wire_numbers}
 use Rattle.diag_published.proofs.lists.another.Given as goal
 
 abbrev pub invariant-wires : goal.invariant-wires

@@ -1,6 +1,4 @@
-use Rattle.std.proofs.Common.{refl}
-use Rattle.machine_shape.specs.Shape.{wires_of}
-use Rattle.diag_known.specs.Known.{HasWire}
+use Rattle.diag_published.proofs.Vocabulary.{refl, wires_of, HasWire}
 use Rattle.diag_published.proofs.Listing.{some_none, some_pushed, some_same, none_within, pushed_within}
 use Rattle.diag_published.proofs.lists.known_of.Goals as goal
 

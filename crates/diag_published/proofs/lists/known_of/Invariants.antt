@@ -1,7 +1,4 @@
-use Rattle.std.proofs.Common.{◌<◌, All, take}
-use Rattle.machine_shape.specs.Shape.{wires_of}
-use Rattle.diag_published.specs.Bars.{IsKnownOf, IsListOf}
-use Rattle.diag_published.specs.Held.{wire_numbers}
+use Rattle.diag_published.proofs.Vocabulary.{◌<◌, All, take, wires_of, IsKnownOf, IsListOf, wire_numbers}
 use Rattle.diag_published.proofs.lists.known_of.Given as goal
 
 abbrev pub invariant-wires : goal.invariant-wires

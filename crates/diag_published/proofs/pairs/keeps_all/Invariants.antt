@@ -1,6 +1,4 @@
-use Rattle.std.proofs.Common.{take}
-use Rattle.diag_published.specs.Bars.{KeepsAll}
-use Rattle.diag_published.specs.Held.{wire_numbers}
+use Rattle.diag_published.proofs.Vocabulary.{take, KeepsAll, wire_numbers}
 use Rattle.diag_published.proofs.pairs.keeps_all.Given as goal
 
 abbrev pub invariant-taps : goal.invariant-taps

@@ -1,6 +1,4 @@
-use Rattle.std.proofs.Common.{refl}
-use Rattle.diag_published.specs.Bars.{KeepsAll}
-use Rattle.diag_published.specs.Held.{wire_numbers}
+use Rattle.diag_published.proofs.Vocabulary.{refl, KeepsAll, wire_numbers}
 use Rattle.diag_published.proofs.Listing.{some_none, some_pushed, some_same}
 use Rattle.diag_published.proofs.pairs.open_lines.Goals as goal
 

@@ -1,6 +1,4 @@
-use Rattle.std.proofs.Common.{take}
-use Rattle.diag_published.specs.Bars.{IsListOf, IsOpenOf}
-use Rattle.diag_published.specs.Held.{wire_numbers}
+use Rattle.diag_published.proofs.Vocabulary.{take, IsListOf, IsOpenOf, wire_numbers}
 use Rattle.diag_published.proofs.pairs.open_lines.Given as goal
 
 abbrev pub invariant-lines : goal.invariant-lines

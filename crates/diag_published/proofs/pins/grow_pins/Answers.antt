@@ -1,10 +1,5 @@
-use Rattle.std.proofs.Common.{◌≡◌, length, subst, ap, ◌∙◌}
-use Rattle.machine_shape.specs.declared.Shape.{Shape}
-use Rattle.machine_shape.specs.Shape.{wires_of, crosses_of}
-use Rattle.diag_published.proofs.Fielding.{within_marks}
-use Rattle.diag_published.proofs.Laid.{on_ok}
-use Rattle.diag_published.proofs.Trunking.{pins_grown, few_loads}
-use Rattle.diag_growth.proofs.Explained.{held}
+use Rattle.diag_published.proofs.Vocabulary.{◌≡◌, length, subst, ap, ◌∙◌, Shape, wires_of, crosses_of, held}
+use Rattle.diag_published.proofs.{Fielding.within_marks, Laid.on_ok, Trunking.pins_grown, Trunking.few_loads}
 use Rattle.diag_published.proofs.pins.grow_pins.Goals as goal
 
 pub add_wires-requires : goal.add_wires-requires

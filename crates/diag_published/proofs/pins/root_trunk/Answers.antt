@@ -1,8 +1,5 @@
-use Rattle.std.proofs.Common.{ap, ◌∙◌}
-use Rattle.machine_shape.specs.Shape.{pins_of}
-use Rattle.diag_published.proofs.Laid.{if_ok, if_none}
-use Rattle.diag_published.proofs.Trunking.{at_most_six, root_by, unserved_by}
-use Rattle.diag_growth.proofs.Explained.{held}
+use Rattle.diag_published.proofs.Vocabulary.{ap, ◌∙◌, pins_of, held}
+use Rattle.diag_published.proofs.{Laid.if_ok, Laid.if_none, Trunking.at_most_six, Trunking.root_by, Trunking.unserved_by}
 use Rattle.diag_published.proofs.pins.root_trunk.Goals as goal
 
 pub returns-in_err-found-clause-loads_each : goal.returns-in_err-found-clause-loads_each

@@ -1,8 +1,4 @@
-use Rattle.std.proofs.Common.{◌<◌, All, sym, subst}
-use Rattle.machine_shape.specs.declared.Shape.{Shape}
-use Rattle.machine_shape.specs.declared.Wire.{Wire}
-use Rattle.machine_shape.specs.Shape.{wires_of}
-use Rattle.diag_published.specs.Held.{wire_numbers}
+use Rattle.diag_published.proofs.Vocabulary.{◌<◌, All, sym, subst, Shape, Wire, wires_of, wire_numbers}
 use Rattle.diag_published.proofs.Trunking.{trunk_of_those, one_known}
 use Rattle.diag_published.proofs.pins.trunk_of.Goals as goal
 

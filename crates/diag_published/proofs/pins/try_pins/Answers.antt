@@ -1,12 +1,6 @@
-use Rattle.std.proofs.Common.{◌<◌, All, sym, subst, ◌∙◌}
-use Rattle.machine_shape.specs.declared.Shape.{Shape}
-use Rattle.machine_shape.specs.declared.Wire.{Wire}
-use Rattle.machine_shape.specs.Shape.{pin_wire, wires_of}
-use Rattle.diag_tests.specs.declared.trunk.Trunk.{Trunk}
+use Rattle.diag_published.proofs.Vocabulary.{◌<◌, All, sym, subst, ◌∙◌, Shape, Wire, pin_wire, wires_of, Trunk, wire_numbers}
 use Rattle.diag_published.specs.Bars.{IsAtOneOf, IsListOf, IsTrunkOf}
-use Rattle.diag_published.specs.Held.{wire_numbers}
-use Rattle.diag_published.proofs.Laid.{if_some, if_none}
-use Rattle.diag_published.proofs.Trunking.{pin_end, few_pins}
+use Rattle.diag_published.proofs.{Laid.if_some, Laid.if_none, Trunking.pin_end, Trunking.few_pins}
 use Rattle.diag_published.proofs.pins.try_pins.Goals as goal
 
 pub grow_pins-requires-clause-pins : goal.grow_pins-requires-clause-pins

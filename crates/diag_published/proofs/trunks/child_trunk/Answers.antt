@@ -1,12 +1,5 @@
-use Rattle.std.proofs.Common.{◌<◌, All, subst, sym}
-use Rattle.machine_shape.specs.declared.Shape.{Shape}
-use Rattle.machine_shape.specs.declared.Wire.{Wire}
-use Rattle.machine_shape.specs.Shape.{nodes_of, wires_of}
-use Rattle.diag_tests.specs.declared.trunk.Trunk.{Trunk}
-use Rattle.diag_published.specs.Bars.{IsTrunkOf}
-use Rattle.diag_published.specs.Held.{wire_numbers}
-use Rattle.diag_published.proofs.Laid.{if_some, if_none}
-use Rattle.diag_published.proofs.Trunking.{child_ports, port_end, unserved_child}
+use Rattle.diag_published.proofs.Vocabulary.{◌<◌, All, subst, sym, Shape, Wire, nodes_of, wires_of, Trunk, IsTrunkOf, wire_numbers}
+use Rattle.diag_published.proofs.{Laid.if_some, Laid.if_none, Trunking.child_ports, Trunking.port_end, Trunking.unserved_child}
 use Rattle.diag_published.proofs.trunks.child_trunk.Goals as goal
 
 pub ports_in-requires : goal.ports_in-requires

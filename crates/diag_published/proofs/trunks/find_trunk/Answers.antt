@@ -1,7 +1,5 @@
-use Rattle.std.proofs.Common.{◌≡◌, ℕ, Some, refl, sym, subst, arith}
-use Rattle.diag_published.proofs.Trunking.{trunks_end}
-use Rattle.diag_published.specs.Held.{FullIf, UnservedIf}
-use Rattle.diag_published.proofs.Laid.{if_ok, if_none, of_some}
+use Rattle.diag_published.proofs.Vocabulary.{◌≡◌, ℕ, Some, refl, sym, subst, arith, FullIf, UnservedIf}
+use Rattle.diag_published.proofs.{Trunking.trunks_end, Laid.if_ok, Laid.if_none, Laid.of_some}
 use Rattle.diag_published.proofs.trunks.find_trunk.Goals as goal
 
 pub returns-in-None-clause-held : goal.returns-in-None-clause-held

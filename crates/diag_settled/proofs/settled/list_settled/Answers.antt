@@ -1,5 +1,4 @@
-use Rattle.std.proofs.Common.{refl, inl, inr, subst}
-use Rattle.std.proofs.lemmas.Result.{err_from_is_err_and}
+use Rattle.std.proofs.{Common.refl, Common.inl, Common.inr, Common.subst, lemmas.Result.err_from_is_err_and}
 use Rattle.diag_settled.specs.Settled.{HasLoadLeft}
 use Rattle.diag_settled.proofs.Settling.{Settles, cycles-settled, few-settled, list-settled, list-unsettled}
 use Rattle.diag_settled.proofs.settled.list_settled.Goals as goal

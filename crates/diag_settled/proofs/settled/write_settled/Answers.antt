@@ -1,5 +1,4 @@
-use Rattle.std.proofs.Common.{inl, inr}
-use Rattle.std.proofs.lemmas.Result.{err_from_is_err_and}
+use Rattle.std.proofs.{Common.inl, Common.inr, lemmas.Result.err_from_is_err_and}
 use Rattle.cmd_steps.proofs.Taking.{took-lacks}
 use Rattle.diag_list.specs.Lists.{lists_now}
 use Rattle.diag_settled.proofs.settled.write_settled.Goals as goal

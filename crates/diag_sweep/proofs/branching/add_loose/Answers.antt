@@ -1,7 +1,5 @@
 use Rattle.std.proofs.Common.{◌≡◌, ◌∙◌, ◌++◌, ◌∷◌, [], List, ℕ, not, ap, sym, append_assoc, arith, take}
-use Rattle.std.specs.List.{filter}
-use Rattle.std.proofs.lemmas.List.{append-nil, take_all}
-use Rattle.diag_evidence.specs.Vocabulary.{is_hung, wires_along}
+use Rattle.diag_sweep.proofs.Vocabulary.{filter, append-nil, take_all, is_hung, wires_along}
 use Rattle.diag_sweep.proofs.Coursing.{filter_off, filter_on}
 use Rattle.diag_sweep.proofs.branching.add_loose.Goals as goal
 

@@ -1,6 +1,4 @@
-use Rattle.std.proofs.Common.{◌≡◌, ◌++◌, not, take}
-use Rattle.std.specs.List.{filter}
-use Rattle.diag_evidence.specs.Vocabulary.{is_hung, wires_along}
+use Rattle.diag_sweep.proofs.Vocabulary.{◌≡◌, ◌++◌, not, take, filter, is_hung, wires_along}
 use Rattle.diag_sweep.proofs.branching.add_loose.Given as goal
 
 abbrev pub invariant-places : goal.invariant-places

@@ -1,5 +1,4 @@
-use Rattle.std.proofs.Common.{◌==◌, List, ℕ, subst}
-use Rattle.std.specs.List.{IsDistinct}
+use Rattle.diag_sweep.proofs.Vocabulary.{◌==◌, List, ℕ, subst, IsDistinct}
 use Rattle.diag_sweep.proofs.branching.are_once.Goals as goal
 
 pub returns : goal.returns

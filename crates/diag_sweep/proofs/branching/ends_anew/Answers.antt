@@ -1,5 +1,4 @@
-use Rattle.std.proofs.Common.{◌∙◌, sym, arith}
-use Rattle.std.proofs.lemmas.Bool.Decides.{nat_tests}
+use Rattle.diag_sweep.proofs.Vocabulary.{◌∙◌, sym, arith, nat_tests}
 use Rattle.diag_sweep.proofs.Coursing.{has_both, stays_both, still_within}
 use Rattle.diag_sweep.proofs.branching.ends_anew.Goals as goal
 

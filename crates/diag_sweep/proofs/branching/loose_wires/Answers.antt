@@ -1,7 +1,4 @@
-use Rattle.std.proofs.Common.{◌≡◌, ◌∙◌, ◌++◌, List, ap, flat_map, sym, arith}
-use Rattle.std.proofs.lemmas.List.{take_all}
-use Rattle.diag_evidence.specs.declared.leads.Lead.{Lead}
-use Rattle.diag_evidence.specs.Vocabulary.{loose_along}
+use Rattle.diag_sweep.proofs.Vocabulary.{◌≡◌, ◌∙◌, ◌++◌, List, ap, flat_map, sym, arith, take_all, Lead, loose_along}
 use Rattle.diag_sweep.proofs.Coursing.{part_next}
 use Rattle.diag_sweep.proofs.branching.loose_wires.Goals as goal
 

@@ -1,5 +1,4 @@
-use Rattle.std.proofs.Common.{◌≡◌, flat_map, take}
-use Rattle.diag_evidence.specs.Vocabulary.{loose_along}
+use Rattle.diag_sweep.proofs.Vocabulary.{◌≡◌, flat_map, take, loose_along}
 use Rattle.diag_sweep.proofs.branching.loose_wires.Given as goal
 
 abbrev pub invariant-leads : goal.invariant-leads

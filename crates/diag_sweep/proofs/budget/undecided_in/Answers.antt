@@ -1,7 +1,5 @@
 use Rattle.std.proofs.Common.{◌≡◌, ◌≤◌, ◌∙◌, ◌&&◌, length, sym, arith}
-use Rattle.std.proofs.lemmas.List.{get_or-replicate, length-replicate}
-use Rattle.base_bits.specs.Numbers.{has_number}
-use Rattle.diag_sweep.specs.Marks.{is_undecided}
+use Rattle.diag_sweep.proofs.Vocabulary.{get_or-replicate, length-replicate, has_number, is_undecided}
 use Rattle.diag_sweep.proofs.Budgets.{made_next, rest_next, made_all}
 use Rattle.diag_sweep.proofs.budget.undecided_in.Goals as goal
 

@@ -1,7 +1,4 @@
-use Rattle.std.proofs.Common.{◌≡◌, ℕ, ◌<◌, ◌≤◌, ◌&&◌, false, length}
-use Rattle.base_bits.specs.Numbers.{has_number}
-use Rattle.machine_shape.specs.Shape.{crosses_of}
-use Rattle.diag_sweep.specs.Marks.{is_undecided}
+use Rattle.diag_sweep.proofs.Vocabulary.{◌≡◌, ℕ, ◌<◌, ◌≤◌, ◌&&◌, false, length, has_number, crosses_of, is_undecided}
 use Rattle.diag_sweep.proofs.budget.undecided_in.Given as goal
 
 abbrev pub invariant-crosses : goal.invariant-crosses

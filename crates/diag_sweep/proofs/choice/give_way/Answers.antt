@@ -1,11 +1,6 @@
-use Rattle.std.proofs.Common.{◌∙◌, ap, length}
-use Rattle.std.proofs.lemmas.List.{length-replicate}
-use Rattle.machine_shape.specs.Shape.{wires_of}
+use Rattle.diag_sweep.proofs.Vocabulary.{◌∙◌, ap, length, length-replicate, wires_of, known_apart, known_retaken, retaken_all}
 use Rattle.diag_evidence.proofs.Keeping.{holds_retaken, retaken_but, retaken_shape}
-use Rattle.diag_known.proofs.Apart.{known_apart}
-use Rattle.diag_known.proofs.Later.{known_retaken, retaken_all}
-use Rattle.diag_sweep.proofs.Chosen.{marks_cleared, none_unfit, true_of_any, unfit_none}
-use Rattle.diag_sweep.proofs.Marking.{true_back}
+use Rattle.diag_sweep.proofs.{Chosen.marks_cleared, Chosen.none_unfit, Chosen.true_of_any, Chosen.unfit_none, Marking.true_back}
 use Rattle.diag_sweep.proofs.choice.give_way.Goals as goal
 
 pub standing-requires : goal.standing-requires

@@ -1,7 +1,4 @@
-use Rattle.std.proofs.Common.{◌<◌, ◌∙◌, length, sym, subst, ap, ℕ}
-use Rattle.std.proofs.lemmas.List.{length-replicate, length-set}
-use Rattle.machine_shape.specs.Shape.{wires_of}
-use Rattle.diag_known.specs.Known.{HasWire}
+use Rattle.diag_sweep.proofs.Vocabulary.{◌<◌, ◌∙◌, length, sym, subst, ap, ℕ, length-replicate, length-set, wires_of, HasWire}
 use Rattle.diag_sweep.proofs.Chosen.{among_next, among_none}
 use Rattle.diag_sweep.proofs.choice.known_among.Goals as goal
 

@@ -1,6 +1,4 @@
-use Rattle.std.proofs.Common.{◌≡◌, ℕ, length}
-use Rattle.machine_shape.specs.Shape.{wires_of}
-use Rattle.diag_known.specs.Known.{HasWire, InSet}
+use Rattle.diag_sweep.proofs.Vocabulary.{◌≡◌, ℕ, length, wires_of, HasWire, InSet}
 use Rattle.diag_sweep.proofs.choice.known_among.Given as goal
 
 abbrev pub invariant-places : goal.invariant-places

@@ -1,7 +1,4 @@
-use Rattle.std.proofs.Common.{◌<◌, ◌≤◌, length, refl, subst, arith, All}
-use Rattle.std.proofs.lemmas.List.{take_all}
-use Rattle.machine_shape.specs.declared.Table.{Table}
-use Rattle.diag_sweep.specs.Marks.{HasTable}
+use Rattle.diag_sweep.proofs.Vocabulary.{◌<◌, ◌≤◌, length, refl, subst, arith, All, take_all, Table, HasTable}
 use Rattle.diag_sweep.proofs.Footed.{all_more}
 use Rattle.diag_sweep.proofs.fits.are_given.Goals as goal
 

@@ -1,6 +1,4 @@
-use Rattle.std.proofs.Common.{take, All}
-use Rattle.machine_shape.specs.declared.Table.{Table}
-use Rattle.diag_sweep.specs.Marks.{HasTable}
+use Rattle.diag_sweep.proofs.Vocabulary.{take, All, Table, HasTable}
 use Rattle.diag_sweep.proofs.fits.are_given.Given as goal
 
 abbrev pub invariant-tables : goal.invariant-tables

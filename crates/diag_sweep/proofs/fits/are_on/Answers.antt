@@ -1,11 +1,6 @@
 use Rattle.std.proofs.Common.{◌≡◌, ◌<◌, ◌≤◌, ◌++◌, ◌∙◌, [], length, refl, sym, ap, subst, arith, All}
-use Rattle.std.proofs.lemmas.List.{take_all}
-use Rattle.machine_shape.specs.declared.Table.{Table}
-use Rattle.machine_shape.specs.Shape.{tables_of}
-use Rattle.diag_sweep.specs.Sheets.{AreOn, InputsOn, OutputOn}
-use Rattle.diag_sweep.specs.Sights.{Seen}
-use Rattle.diag_sweep.proofs.Footed.{all_more}
-use Rattle.diag_sweep.proofs.Sheeted.{outs_more, seen_alone, on_all}
+use Rattle.diag_sweep.proofs.Vocabulary.{take_all, Table, tables_of, AreOn, InputsOn, OutputOn, Seen}
+use Rattle.diag_sweep.proofs.{Footed.all_more, Sheeted.outs_more, Sheeted.seen_alone, Sheeted.on_all}
 use Rattle.diag_sweep.proofs.fits.are_on.Goals as goal
 
 pub tables-init : goal.tables-init

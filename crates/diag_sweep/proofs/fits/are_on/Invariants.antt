@@ -1,9 +1,5 @@
-use Rattle.std.proofs.Common.{◌≡◌, ◌<◌, ◌++◌, length, take, All, map}
-use Rattle.machine_shape.specs.declared.Table.{Table}
-use Rattle.machine_shape.specs.Shape.{pins_of, tables_of}
+use Rattle.diag_sweep.proofs.Vocabulary.{◌≡◌, ◌<◌, ◌++◌, length, take, All, map, Table, pins_of, tables_of, InputsOn, OutputOn, Seen}
 use Rattle.diag_evidence.specs.TableRows.{output_pin}
-use Rattle.diag_sweep.specs.Sheets.{InputsOn, OutputOn}
-use Rattle.diag_sweep.specs.Sights.{Seen}
 use Rattle.diag_sweep.proofs.fits.are_on.Given as goal
 
 abbrev pub invariant-tables : goal.invariant-tables

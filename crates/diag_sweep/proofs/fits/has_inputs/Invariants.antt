@@ -1,6 +1,4 @@
-use Rattle.std.proofs.Common.{ℕ, ◌<◌, slice_index_or}
-use Rattle.machine_shape.specs.Shape.{table_wire}
-use Rattle.diag_evidence.specs.Forests.{HangsOn}
+use Rattle.diag_sweep.proofs.Vocabulary.{ℕ, ◌<◌, slice_index_or, table_wire, HangsOn}
 use Rattle.diag_sweep.proofs.fits.has_inputs.Given as goal
 
 abbrev pub invariant-inputs : goal.invariant-inputs

@@ -1,6 +1,4 @@
-use Rattle.std.proofs.Common.{◌≡◌, ℕ, List, refl, subst, ◌==◌, All, map}
-use Rattle.std.specs.List.{IsDistinct}
-use Rattle.diag_evidence.specs.Hangs.{IsFoot, pin_at}
+use Rattle.diag_sweep.proofs.Vocabulary.{◌≡◌, ℕ, List, refl, subst, ◌==◌, All, map, IsDistinct, IsFoot, pin_at}
 use Rattle.diag_sweep.proofs.Footed.{fits, of_some}
 use Rattle.diag_sweep.proofs.footing.are_fit.Goals as goal
 

@@ -1,6 +1,4 @@
-use Rattle.std.proofs.Common.{◌≡◌, true, take, All}
-use Rattle.base_bits.specs.Numbers.{has_number}
-use Rattle.diag_evidence.specs.declared.hangs.WireTest.{WireTest}
+use Rattle.diag_sweep.proofs.Vocabulary.{◌≡◌, true, take, All, has_number, WireTest}
 use Rattle.diag_sweep.proofs.footing.are_of_field.Given as goal
 
 abbrev pub invariant-hangs : goal.invariant-hangs

@@ -1,5 +1,4 @@
-use Rattle.std.proofs.Common.{◌<◌, ◌∙◌, length, arith}
-use Rattle.diag_evidence.specs.Hangs.{overs}
+use Rattle.diag_sweep.proofs.Vocabulary.{◌<◌, ◌∙◌, length, arith, overs}
 use Rattle.diag_sweep.proofs.Footed.{others_more}
 use Rattle.diag_sweep.proofs.footing.feet_of.Goals as goal
 

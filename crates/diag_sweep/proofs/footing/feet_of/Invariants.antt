@@ -1,5 +1,4 @@
-use Rattle.std.proofs.Common.{◌≡◌, ◌++◌, take}
-use Rattle.diag_evidence.specs.Hangs.{others, overs}
+use Rattle.diag_sweep.proofs.Vocabulary.{◌≡◌, ◌++◌, take, others, overs}
 use Rattle.diag_sweep.proofs.footing.feet_of.Given as goal
 
 abbrev pub invariant-hangs : goal.invariant-hangs

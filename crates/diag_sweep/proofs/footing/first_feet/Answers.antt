@@ -1,5 +1,4 @@
-use Rattle.std.proofs.Common.{◌<◌, ◌∙◌, length, refl, arith}
-use Rattle.diag_evidence.specs.Hangs.{over_of}
+use Rattle.diag_sweep.proofs.Vocabulary.{◌<◌, ◌∙◌, length, refl, arith, over_of}
 use Rattle.diag_sweep.proofs.Footed.{map_more}
 use Rattle.diag_sweep.proofs.footing.first_feet.Goals as goal
 

@@ -1,5 +1,4 @@
-use Rattle.std.proofs.Common.{◌≡◌, take}
-use Rattle.diag_evidence.specs.Hangs.{overs}
+use Rattle.diag_sweep.proofs.Vocabulary.{◌≡◌, take, overs}
 use Rattle.diag_sweep.proofs.footing.first_feet.Given as goal
 
 abbrev pub invariant-hangs : goal.invariant-hangs

@@ -1,5 +1,4 @@
-use Rattle.std.proofs.Common.{◌<◌, ◌∙◌, length, arith}
-use Rattle.diag_evidence.specs.Hangs.{IsFoot, pin_at}
+use Rattle.diag_sweep.proofs.Vocabulary.{◌<◌, ◌∙◌, length, arith, IsFoot, pin_at}
 use Rattle.diag_sweep.proofs.Footed.{all_more, map_more}
 use Rattle.diag_sweep.proofs.footing.pins_over.Goals as goal
 

@@ -1,5 +1,4 @@
-use Rattle.std.proofs.Common.{◌≡◌, take, All, map}
-use Rattle.diag_evidence.specs.Hangs.{IsFoot, pin_at}
+use Rattle.diag_sweep.proofs.Vocabulary.{◌≡◌, take, All, map, IsFoot, pin_at}
 use Rattle.diag_sweep.proofs.footing.pins_over.Given as goal
 
 abbrev pub invariant-feet : goal.invariant-feet

@@ -1,5 +1,4 @@
-use Rattle.std.proofs.Common.{◌<◌, ◌∙◌, length, refl, arith}
-use Rattle.diag_evidence.specs.declared.hangs.WireTest.{WireTest}
+use Rattle.diag_sweep.proofs.Vocabulary.{◌<◌, ◌∙◌, length, refl, arith, WireTest}
 use Rattle.diag_sweep.proofs.Footed.{map_more}
 use Rattle.diag_sweep.proofs.footing.wires_of_hangs.Goals as goal
 

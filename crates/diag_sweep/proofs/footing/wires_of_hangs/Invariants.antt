@@ -1,5 +1,4 @@
-use Rattle.std.proofs.Common.{◌≡◌, take, map}
-use Rattle.diag_evidence.specs.declared.hangs.WireTest.{WireTest}
+use Rattle.diag_sweep.proofs.Vocabulary.{◌≡◌, take, map, WireTest}
 use Rattle.diag_sweep.proofs.footing.wires_of_hangs.Given as goal
 
 abbrev pub invariant-hangs : goal.invariant-hangs

@@ -1,6 +1,5 @@
 use Rattle.std.proofs.Common.{refl}
-use Rattle.diag_sweep.proofs.Going.{yet_itself}
-use Rattle.diag_sweep.proofs.HungOn.{hang_goes, is_step, step_has, unfit_marks, unclear_marks}
+use Rattle.diag_sweep.proofs.{Going.yet_itself, HungOn.hang_goes, HungOn.is_step, HungOn.step_has, HungOn.unfit_marks, HungOn.unclear_marks}
 use Rattle.diag_sweep.proofs.hanging.hang_load.Goals as goal
 
 pub returns-clause-goes : goal.returns-clause-goes

@@ -1,6 +1,5 @@
 use Rattle.std.proofs.Common.{refl}
-use Rattle.diag_sweep.proofs.Going.{yet_itself}
-use Rattle.diag_sweep.proofs.HungOn.{plain_goes}
+use Rattle.diag_sweep.proofs.{Going.yet_itself, HungOn.plain_goes}
 use Rattle.diag_sweep.proofs.hanging.pin_load.Goals as goal
 
 pub returns-clause-goes : goal.returns-clause-goes

@@ -1,5 +1,4 @@
-use Rattle.std.proofs.Common.{refl, arith}
-use Rattle.std.proofs.lemmas.Bool.{false≢true}
+use Rattle.diag_sweep.proofs.Vocabulary.{refl, arith, false≢true}
 use Rattle.diag_sweep.proofs.Holding.{kept_more, kept_whole}
 use Rattle.diag_sweep.proofs.held.are_kept.Goals as goal
 

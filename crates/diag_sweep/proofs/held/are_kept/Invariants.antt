@@ -1,5 +1,4 @@
-use Rattle.std.proofs.Common.{take}
-use Rattle.diag_tests.specs.Routes.{cross_numbers}
+use Rattle.diag_sweep.proofs.Vocabulary.{take, cross_numbers}
 use Rattle.diag_sweep.proofs.Holding.{AreKept}
 use Rattle.diag_sweep.proofs.held.are_kept.Given as goal
 

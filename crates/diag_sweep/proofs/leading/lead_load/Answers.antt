@@ -1,9 +1,5 @@
-use Rattle.std.proofs.Common.{List, refl, sym, subst}
-use Rattle.diag_evidence.specs.declared.leads.Lead.{Lead}
-use Rattle.diag_known.proofs.Later.{all_still}
-use Rattle.diag_sweep.specs.Courses.{CanLead}
-use Rattle.diag_sweep.proofs.Going.{goes_whole, set_by}
-use Rattle.diag_sweep.proofs.Led.{lead_goes, led_set, where_done}
+use Rattle.diag_sweep.proofs.Vocabulary.{List, refl, sym, subst, Lead, all_still, CanLead}
+use Rattle.diag_sweep.proofs.{Going.goes_whole, Going.set_by, Led.lead_goes, Led.led_set, Led.where_done}
 use Rattle.diag_sweep.proofs.leading.lead_load.Goals as goal
 
 pub test_paths-requires-clause-knows : goal.test_paths-requires-clause-knows

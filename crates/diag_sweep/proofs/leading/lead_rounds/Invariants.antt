@@ -1,5 +1,4 @@
-use Rattle.std.proofs.Common.{[]}
-use Rattle.diag_sweep.specs.Stages.{in_hand}
+use Rattle.diag_sweep.proofs.Vocabulary.{[], in_hand}
 use Rattle.diag_sweep.proofs.Going.{HasGone}
 use Rattle.diag_sweep.proofs.leading.lead_rounds.Given as goal
 

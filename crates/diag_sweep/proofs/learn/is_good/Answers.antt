@@ -1,5 +1,4 @@
-use Rattle.std.proofs.Common.{◌∙◌, sym}
-use Rattle.diag_known.proofs.Apart.{good_of}
+use Rattle.diag_sweep.proofs.Vocabulary.{◌∙◌, sym, good_of}
 use Rattle.diag_sweep.proofs.learn.is_good.Goals as goal
 
 pub returns : goal.returns

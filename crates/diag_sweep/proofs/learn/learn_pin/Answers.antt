@@ -1,6 +1,4 @@
-use Rattle.std.proofs.Common.{◌∙◌, ap, refl}
-use Rattle.machine_shape.specs.declared.Shape.{Shape}
-use Rattle.machine_shape.specs.Shape.{pin_wire}
+use Rattle.diag_sweep.proofs.Vocabulary.{◌∙◌, ap, refl, Shape, pin_wire}
 use Rattle.diag_known.specs.declared.verified_wire.SupportedBy.TheVariants as stand
 use Rattle.diag_sweep.proofs.Learnt.{learnt_known, learnt_grows, stands_on_pin}
 use Rattle.diag_sweep.proofs.learn.learn_pin.Goals as goal

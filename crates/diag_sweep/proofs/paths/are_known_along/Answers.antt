@@ -1,7 +1,4 @@
-use Rattle.std.proofs.Common.{refl, arith}
-use Rattle.std.proofs.lemmas.Bool.{false≢true}
-use Rattle.diag_evidence.specs.Vocabulary.{wires_along}
-use Rattle.diag_known.specs.Known.{HasWire}
+use Rattle.diag_sweep.proofs.Vocabulary.{refl, arith, false≢true, wires_along, HasWire}
 use Rattle.diag_sweep.proofs.Coursing.{each_all, each_next}
 use Rattle.diag_sweep.proofs.paths.are_known_along.Goals as goal
 

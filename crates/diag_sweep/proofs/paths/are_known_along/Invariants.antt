@@ -1,7 +1,4 @@
-use Rattle.std.proofs.Common.{◌≡◌, ℕ, true, take}
-use Rattle.machine_config.specs.Vocabulary.{among}
-use Rattle.diag_evidence.specs.Vocabulary.{wires_of_leads}
-use Rattle.diag_known.specs.Known.{HasWire}
+use Rattle.diag_sweep.proofs.Vocabulary.{◌≡◌, ℕ, true, take, among, wires_of_leads, HasWire}
 use Rattle.diag_sweep.proofs.paths.are_known_along.Given as goal
 
 abbrev pub invariant-leads : goal.invariant-leads

@@ -1,6 +1,4 @@
-use Rattle.std.proofs.Common.{◌≤◌, length, arith, subst, refl, All}
-use Rattle.std.proofs.lemmas.List.{take_all}
-use Rattle.diag_evidence.specs.Vocabulary.{IsLead}
+use Rattle.diag_sweep.proofs.Vocabulary.{◌≤◌, length, arith, subst, refl, All, take_all, IsLead}
 use Rattle.diag_sweep.proofs.Coursing.{all_next}
 use Rattle.diag_sweep.proofs.paths.are_leads.Goals as goal
 

@@ -1,5 +1,4 @@
-use Rattle.std.proofs.Common.{◌≡◌, ◌<◌, ℕ, None, get_or}
-use Rattle.diag_evidence.specs.Vocabulary.{pin_of, wires_along}
+use Rattle.diag_sweep.proofs.Vocabulary.{◌≡◌, ◌<◌, ℕ, None, get_or, pin_of, wires_along}
 use Rattle.diag_sweep.proofs.paths.are_loose.Given as goal
 
 abbrev pub invariant-places : goal.invariant-places

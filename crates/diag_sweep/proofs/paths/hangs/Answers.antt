@@ -1,5 +1,4 @@
-use Rattle.std.proofs.Common.{◌≤◌, ap, arith}
-use Rattle.machine_shape.specs.Shape.{wires_of}
+use Rattle.diag_sweep.proofs.Vocabulary.{◌≤◌, ap, arith, wires_of}
 use Rattle.diag_sweep.proofs.Coursing.{hung_past}
 use Rattle.diag_sweep.proofs.paths.hangs.Goals as goal
 

@@ -1,6 +1,4 @@
-use Rattle.std.proofs.Common.{◌≡◌, ◌<◌, get_or, length, refl, sym, subst, arith}
-use Rattle.machine_config.specs.Vocabulary.{LeadsTo}
-use Rattle.diag_evidence.specs.Vocabulary.{HangsOn, crosses_along, wires_along}
+use Rattle.diag_sweep.proofs.Vocabulary.{◌≡◌, ◌<◌, get_or, length, refl, sym, subst, arith, LeadsTo, HangsOn, crosses_along, wires_along}
 use Rattle.diag_sweep.proofs.Coursing.{is_lead, number_at}
 use Rattle.diag_sweep.proofs.paths.is_lead.Goals as goal
 

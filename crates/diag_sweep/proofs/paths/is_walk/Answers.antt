@@ -1,6 +1,4 @@
-use Rattle.std.proofs.Common.{◌≡◌, ◌<◌, ◌+◌, ℕ, length, refl, arith}
-use Rattle.std.proofs.lemmas.Bool.Decides.{nat_tests}
-use Rattle.diag_evidence.specs.Vocabulary.{crosses_along, wires_along}
+use Rattle.diag_sweep.proofs.Vocabulary.{◌≡◌, ◌<◌, ◌+◌, ℕ, length, refl, arith, nat_tests, crosses_along, wires_along}
 use Rattle.diag_sweep.proofs.Coursing.{walk_first, walk_more, walk_whole}
 use Rattle.diag_sweep.proofs.paths.is_walk.Goals as goal
 

@@ -1,6 +1,4 @@
-use Rattle.std.proofs.Common.{◌+◌, ◌≤◌, get_or, length, take}
-use Rattle.machine_config.specs.Vocabulary.{LeadsTo}
-use Rattle.diag_evidence.specs.Vocabulary.{crosses_along, wires_along}
+use Rattle.diag_sweep.proofs.Vocabulary.{◌+◌, ◌≤◌, get_or, length, take, LeadsTo, crosses_along, wires_along}
 use Rattle.diag_sweep.proofs.paths.is_walk.Given as goal
 
 abbrev pub invariant-steps : goal.invariant-steps

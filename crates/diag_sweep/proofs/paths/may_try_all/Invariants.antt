@@ -1,7 +1,4 @@
-use Rattle.std.proofs.Common.{◌≡◌, ℕ, true, take}
-use Rattle.machine_config.specs.Vocabulary.{among}
-use Rattle.diag_evidence.specs.Vocabulary.{crosses_of_leads}
-use Rattle.diag_sweep.specs.Courses.{MayTry}
+use Rattle.diag_sweep.proofs.Vocabulary.{◌≡◌, ℕ, true, take, among, crosses_of_leads, MayTry}
 use Rattle.diag_sweep.proofs.paths.may_try_all.Given as goal
 
 abbrev pub invariant-leads : goal.invariant-leads

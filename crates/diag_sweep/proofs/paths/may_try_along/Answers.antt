@@ -1,7 +1,4 @@
-use Rattle.std.proofs.Common.{refl, arith}
-use Rattle.std.proofs.lemmas.Bool.{false≢true}
-use Rattle.diag_evidence.specs.Vocabulary.{crosses_along}
-use Rattle.diag_sweep.specs.Courses.{MayTry}
+use Rattle.diag_sweep.proofs.Vocabulary.{refl, arith, false≢true, crosses_along, MayTry}
 use Rattle.diag_sweep.proofs.Coursing.{each_more, each_whole}
 use Rattle.diag_sweep.proofs.paths.may_try_along.Goals as goal
 

@@ -1,7 +1,4 @@
-use Rattle.std.proofs.Common.{◌≡◌, ℕ, true, take}
-use Rattle.machine_config.specs.Vocabulary.{among}
-use Rattle.diag_evidence.specs.Vocabulary.{crosses_along}
-use Rattle.diag_sweep.specs.Courses.{MayTry}
+use Rattle.diag_sweep.proofs.Vocabulary.{◌≡◌, ℕ, true, take, among, crosses_along, MayTry}
 use Rattle.diag_sweep.proofs.paths.may_try_along.Given as goal
 
 abbrev pub invariant-places : goal.invariant-places

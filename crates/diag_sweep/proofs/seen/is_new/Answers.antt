@@ -1,5 +1,4 @@
-use Rattle.std.proofs.Common.{◌∷◌, [], ◌∙◌, sym, subst}
-use Rattle.diag_sweep.specs.Sights.{SeesMore}
+use Rattle.diag_sweep.proofs.Vocabulary.{◌∷◌, [], ◌∙◌, sym, subst, SeesMore}
 use Rattle.diag_sweep.proofs.Sighting.{sees_one}
 use Rattle.diag_sweep.proofs.seen.is_new.Goals as goal
 

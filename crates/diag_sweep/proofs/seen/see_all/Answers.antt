@@ -1,5 +1,4 @@
-use Rattle.std.proofs.Common.{◌≡◌, ◌<◌, ◌∙◌, length, refl, arith}
-use Rattle.std.proofs.lemmas.List.{length-replicate}
+use Rattle.diag_sweep.proofs.Vocabulary.{◌≡◌, ◌<◌, ◌∙◌, length, refl, arith, length-replicate}
 use Rattle.diag_sweep.proofs.Sighting.{seen_first, numbers_more}
 use Rattle.diag_sweep.proofs.seen.see_all.Goals as goal
 

@@ -1,5 +1,4 @@
-use Rattle.std.proofs.Common.{◌≡◌, length, take}
-use Rattle.diag_sweep.specs.Sights.{Seen}
+use Rattle.diag_sweep.proofs.Vocabulary.{◌≡◌, length, take, Seen}
 use Rattle.diag_sweep.proofs.seen.see_all.Given as goal
 
 abbrev pub invariant-numbers : goal.invariant-numbers

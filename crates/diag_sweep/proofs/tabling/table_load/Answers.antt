@@ -1,8 +1,5 @@
-use Rattle.std.proofs.Common.{refl}
-use Rattle.diag_known.proofs.Later.{all_still}
-use Rattle.diag_sweep.proofs.Going.{goes_whole, set_by}
-use Rattle.diag_sweep.proofs.Led.{where_done}
-use Rattle.diag_sweep.proofs.Tabled.{table_goes, tabled_set, wrong_marks}
+use Rattle.diag_sweep.proofs.Vocabulary.{refl, all_still}
+use Rattle.diag_sweep.proofs.{Going.goes_whole, Going.set_by, Led.where_done, Tabled.table_goes, Tabled.tabled_set, Tabled.wrong_marks}
 use Rattle.diag_sweep.proofs.tabling.table_load.Goals as goal
 
 pub returns-clause-goes : goal.returns-clause-goes

@@ -1,8 +1,5 @@
-use Rattle.std.proofs.Common.{◌≡◌, ℕ, List, refl, subst, ◌==◌, All, map}
-use Rattle.std.specs.List.{IsDistinct}
-use Rattle.diag_evidence.specs.Hangs.{IsFoot, pin_at}
-use Rattle.diag_sweep.proofs.Footed.{of_some}
-use Rattle.diag_sweep.proofs.Viewing.{feet_fit}
+use Rattle.diag_sweep.proofs.Vocabulary.{◌≡◌, ℕ, List, refl, subst, ◌==◌, All, map, IsDistinct, IsFoot, pin_at}
+use Rattle.diag_sweep.proofs.{Footed.of_some, Viewing.feet_fit}
 use Rattle.diag_sweep.proofs.telling.are_feet.Goals as goal
 
 pub returns : goal.returns

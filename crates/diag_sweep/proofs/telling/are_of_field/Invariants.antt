@@ -1,6 +1,4 @@
-use Rattle.std.proofs.Common.{◌≡◌, true, take, All}
-use Rattle.base_bits.specs.Numbers.{has_number}
-use Rattle.diag_evidence.specs.Hangs.{Foot}
+use Rattle.diag_sweep.proofs.Vocabulary.{◌≡◌, true, take, All, has_number, Foot}
 use Rattle.diag_sweep.proofs.telling.are_of_field.Given as goal
 
 abbrev pub invariant-feet : goal.invariant-feet

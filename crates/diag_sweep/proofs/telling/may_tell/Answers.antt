@@ -1,5 +1,4 @@
-use Rattle.std.proofs.Common.{◌∙◌, ap, refl}
-use Rattle.machine_shape.specs.Shape.{pins_of}
+use Rattle.diag_sweep.proofs.Vocabulary.{◌∙◌, ap, refl, pins_of}
 use Rattle.diag_sweep.proofs.telling.may_tell.Goals as goal
 
 pub returns : goal.returns

@@ -1,7 +1,5 @@
-use Rattle.std.proofs.Common.{refl}
-use Rattle.diag_known.proofs.Later.{all_still}
-use Rattle.diag_sweep.proofs.Going.{goes_itself, goes_whole, set_of}
-use Rattle.diag_sweep.proofs.HungOn.{hang_goes, is_step, step_has}
+use Rattle.diag_sweep.proofs.Vocabulary.{refl, all_still}
+use Rattle.diag_sweep.proofs.{Going.goes_itself, Going.goes_whole, Going.set_of, HungOn.hang_goes, HungOn.is_step, HungOn.step_has}
 use Rattle.diag_sweep.proofs.Viewing.{told_unclear, told_unfit}
 use Rattle.diag_sweep.proofs.telling.tell_turn.Goals as goal
 

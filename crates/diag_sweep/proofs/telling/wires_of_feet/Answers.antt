@@ -1,5 +1,4 @@
-use Rattle.std.proofs.Common.{◌<◌, ◌∙◌, length, refl, arith}
-use Rattle.diag_evidence.specs.Hangs.{Foot}
+use Rattle.diag_sweep.proofs.Vocabulary.{◌<◌, ◌∙◌, length, refl, arith, Foot}
 use Rattle.diag_sweep.proofs.Footed.{map_more}
 use Rattle.diag_sweep.proofs.telling.wires_of_feet.Goals as goal
 

@@ -1,5 +1,4 @@
-use Rattle.std.proofs.Common.{◌≡◌, take, map}
-use Rattle.diag_evidence.specs.Hangs.{Foot}
+use Rattle.diag_sweep.proofs.Vocabulary.{◌≡◌, take, map, Foot}
 use Rattle.diag_sweep.proofs.telling.wires_of_feet.Given as goal
 
 abbrev pub invariant-feet : goal.invariant-feet

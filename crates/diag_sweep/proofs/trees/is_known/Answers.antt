@@ -1,5 +1,4 @@
-use Rattle.std.proofs.Common.{◌≡◌, ◌≤◌, ap, arith}
-use Rattle.machine_shape.specs.Shape.{wires_of}
+use Rattle.diag_sweep.proofs.Vocabulary.{◌≡◌, ◌≤◌, ap, arith, wires_of}
 use Rattle.diag_sweep.proofs.Forested.{all_hung, knows}
 use Rattle.diag_sweep.proofs.trees.is_known.Goals as goal
 

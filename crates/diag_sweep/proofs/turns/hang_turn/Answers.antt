@@ -1,5 +1,4 @@
-use Rattle.std.proofs.Common.{◌∙◌, ap}
-use Rattle.machine_shape.specs.Shape.{wires_of}
+use Rattle.diag_sweep.proofs.Vocabulary.{◌∙◌, ap, wires_of}
 use Rattle.diag_sweep.proofs.Going.{advances_back, goes_back}
 use Rattle.diag_sweep.proofs.turns.hang_turn.Goals as goal
 

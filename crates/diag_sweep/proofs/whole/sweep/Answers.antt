@@ -1,7 +1,4 @@
-use Rattle.std.proofs.Common.{List, length, ◌∙◌, ap, subst}
-use Rattle.machine_shape.specs.declared.Table.{Table}
-use Rattle.diag_sweep.specs.Marks.{MarksIn}
-use Rattle.diag_sweep.specs.declared.budget.LoadBudget.{LoadBudget}
+use Rattle.diag_sweep.proofs.Vocabulary.{List, length, ◌∙◌, ap, subst, Table, MarksIn, LoadBudget}
 use Rattle.diag_sweep.proofs.Budgets.{funded_by, pays}
 use Rattle.diag_sweep.proofs.whole.sweep.Goals as goal
 

@@ -1,7 +1,5 @@
-use Rattle.std.proofs.Common.{◌<◌, length, arith}
-use Rattle.std.proofs.lemmas.List.{get_or-map, length-map}
+use Rattle.diag_tests.proofs.Vocabulary.{◌<◌, length, arith, get_or-map, length-map, cross_numbers}
 use Rattle.machine_shape.specs.declared.Cross.{Cross}
-use Rattle.diag_tests.specs.Routes.{cross_numbers}
 use Rattle.diag_tests.proofs.Closings.{closes_next}
 use Rattle.diag_tests.proofs.configs.close_all.Goals as goal
 

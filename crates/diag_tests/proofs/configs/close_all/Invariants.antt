@@ -1,5 +1,4 @@
-use Rattle.std.proofs.Common.{take}
-use Rattle.diag_tests.specs.Vocabulary.{cross_numbers, Closes}
+use Rattle.diag_tests.proofs.Vocabulary.{take, cross_numbers, Closes}
 use Rattle.diag_tests.proofs.configs.close_all.Given as goal
 
 abbrev pub invariant-ties : goal.invariant-ties

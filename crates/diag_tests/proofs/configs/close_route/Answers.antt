@@ -1,5 +1,4 @@
-use Rattle.std.proofs.Common.{◌≡◌, ◌<◌, length, get_or, arith}
-use Rattle.std.proofs.lemmas.Option.{gets}
+use Rattle.diag_tests.proofs.Vocabulary.{◌≡◌, ◌<◌, length, get_or, arith, gets}
 use Rattle.diag_tests.proofs.Closings.{closes_next, among_at}
 use Rattle.diag_tests.proofs.configs.close_route.Goals as goal
 

@@ -1,5 +1,4 @@
-use Rattle.std.proofs.Common.{take}
-use Rattle.diag_tests.specs.Configs.{Closes}
+use Rattle.diag_tests.proofs.Vocabulary.{take, Closes}
 use Rattle.diag_tests.proofs.configs.close_route.Given as goal
 
 abbrev pub invariant-steps : goal.invariant-steps

@@ -1,5 +1,4 @@
-use Rattle.std.proofs.Common.{◌∙◌, sym, ap, subst}
-use Rattle.machine_bench.specs.Faults.{AfterTurns, none}
+use Rattle.machine_bench.proofs.Vocabulary.{◌∙◌, sym, ap, subst, AfterTurns, none}
 use Rattle.machine_bench.proofs.Turns.{state_more, turn_more}
 use Rattle.machine_bench.proofs.faults.bench_faults.Goals as goal
 

@@ -1,5 +1,4 @@
-use Rattle.std.proofs.Common.{◌≡◌}
-use Rattle.machine_bench.specs.Faults.{turn_state, AfterTurns}
+use Rattle.machine_bench.proofs.Vocabulary.{◌≡◌, turn_state, AfterTurns}
 use Rattle.machine_bench.proofs.faults.bench_faults.Given as goal
 
 abbrev pub invariant-turns : goal.invariant-turns

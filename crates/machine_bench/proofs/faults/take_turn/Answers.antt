@@ -1,6 +1,4 @@
-use Rattle.std.proofs.Common.{refl, sym, ◌∙◌, subst}
-use Rattle.std.proofs.lemmas.Bool.{false≢true}
-use Rattle.machine_bench.specs.Faults.{not_allowed, IsAllowed}
+use Rattle.machine_bench.proofs.Vocabulary.{refl, sym, ◌∙◌, subst, false≢true, not_allowed, IsAllowed}
 use Rattle.machine_bench.proofs.faults.take_turn.Goals as goal
 
 pub returns-then-not-is_allowed-clause-taken : goal.returns-then-not-is_allowed-clause-taken

@@ -1,8 +1,6 @@
 use Rattle.std.proofs.Common.{rules, ◌≡◌, ◌+◌, ◌-◌, ◌≤◌, None, ap, ◌∙◌, sym, subst, length, replicate, vec_len, arith, count_by, is_some}
 use Rattle.std.specs.FinSet as set
-use Rattle.std.specs.Vec.{vec_capacity}
-use Rattle.base_bits.proofs.SetsLemmas.{items_after}
-use Rattle.machine_shape.specs.Shape.{crosses_of, tables_of}
+use Rattle.machine_config.proofs.Vocabulary.{vec_capacity, items_after, crosses_of, tables_of}
 use Rattle.machine_config.specs.Vocabulary.{IsConfiguration, set_of, AreMarked, AreListed}
 use Rattle.machine_config.proofs.Members.{AreMarked-none, AreListed-none, none_on, all_within, len-set_of}
 use Rattle.machine_config.proofs.Changes.{IsConfiguration-cleared}

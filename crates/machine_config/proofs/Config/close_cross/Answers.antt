@@ -1,11 +1,7 @@
 use Rattle.std.proofs.Common.{◌≡◌, ◌<◌, true, ap, ◌∙◌, sym, subst, length, arith}
-use Rattle.std.proofs.lemmas.Bool.{false≢true}
-use Rattle.std.proofs.lemmas.List.{length-set}
+use Rattle.machine_config.proofs.Vocabulary.{false≢true, length-set, crosses_of, is_closed, with_closed, set_of}
 use Rattle.std.specs.FinSet as set
-use Rattle.machine_shape.specs.Shape.{crosses_of}
-use Rattle.machine_config.specs.Vocabulary.{is_closed, with_closed, set_of}
-use Rattle.machine_config.proofs.Members.{contains_marked, closing}
-use Rattle.machine_config.proofs.Changes.{insert_within, closed_already}
+use Rattle.machine_config.proofs.{Members.contains_marked, Members.closing, Changes.insert_within, Changes.closed_already}
 use Rattle.machine_config.proofs.Config.close_cross.Goals as goal
 
 -- a crosspoint with no mark isn't closed

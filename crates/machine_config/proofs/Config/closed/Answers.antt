@@ -1,5 +1,4 @@
-use Rattle.std.proofs.Common.{ap, ◌∙◌, sym}
-use Rattle.machine_config.specs.Vocabulary.{is_closed, times, once_if}
+use Rattle.machine_config.proofs.Vocabulary.{ap, ◌∙◌, sym, is_closed, times, once_if}
 use Rattle.machine_config.proofs.Members.{contains_marked}
 use Rattle.machine_config.proofs.Config.closed.Goals as goal
 

@@ -1,5 +1,4 @@
-use Rattle.std.proofs.Common.{ap, ◌∙◌, sym}
-use Rattle.machine_config.specs.Configuration.{is_closed}
+use Rattle.machine_config.proofs.Vocabulary.{ap, ◌∙◌, sym, is_closed}
 use Rattle.machine_config.proofs.Members.{contains_marked}
 use Rattle.machine_config.proofs.Config.has_cross.Goals as goal
 

@@ -1,11 +1,7 @@
 use Rattle.std.proofs.Common.{◌≡◌, ◌<◌, true, false, ap, ◌∙◌, sym, subst, length, get_or, arith, ◌==◌}
-use Rattle.std.proofs.lemmas.Bool.{false≢true}
-use Rattle.std.proofs.lemmas.List.{length-set}
+use Rattle.machine_config.proofs.Vocabulary.{false≢true, length-set, crosses_of, is_closed, with_open, set_of}
 use Rattle.std.specs.FinSet as set
-use Rattle.machine_shape.specs.Shape.{crosses_of}
-use Rattle.machine_config.specs.Vocabulary.{is_closed, with_open, set_of}
-use Rattle.machine_config.proofs.Members.{contains_marked, opening, unlisted}
-use Rattle.machine_config.proofs.Changes.{remove_within, open_already}
+use Rattle.machine_config.proofs.{Members.contains_marked, Members.opening, Members.unlisted, Changes.remove_within, Changes.open_already}
 use Rattle.machine_config.proofs.Config.open_cross.Goals as goal
 
 pub invariant_of-self : goal.invariant_of-self

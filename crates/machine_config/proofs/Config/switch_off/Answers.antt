@@ -1,8 +1,5 @@
 use Rattle.std.proofs.Common.{◌≡◌, ◌<◌, ◌+◌, ℕ, true, false, None, ap, ◌∙◌, sym, subst, length, get_or, eqb-true, arith, ◌==◌, is_some}
-use Rattle.std.proofs.lemmas.List.{length-set}
-use Rattle.std.proofs.lemmas.List.Elements.{All-set}
-use Rattle.machine_shape.specs.Shape.{tables_of}
-use Rattle.machine_config.specs.Vocabulary.{CellsFit, times_on, once_if}
+use Rattle.machine_config.proofs.Vocabulary.{length-set, All-set, tables_of, CellsFit, times_on, once_if}
 use Rattle.machine_config.proofs.Members.{AreListed-less, counted_after, some_read, times_on-swap_remove, unlisted_on}
 use Rattle.machine_config.proofs.Config.switch_off.Goals as goal
 

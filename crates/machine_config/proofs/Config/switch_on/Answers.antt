@@ -1,9 +1,5 @@
 use Rattle.std.proofs.Common.{rules, ◌≡◌, ◌<◌, true, false, None, Some, ap, ◌∙◌, sym, subst, length, get_or, set, arith, is_some}
-use Rattle.std.specs.Vec.{with_item}
-use Rattle.std.proofs.lemmas.List.{length-set}
-use Rattle.std.proofs.lemmas.List.Elements.{All-set}
-use Rattle.machine_shape.specs.Shape.{tables_of}
-use Rattle.machine_config.specs.Vocabulary.{CellsFit, IsKept, AreListed, once_if}
+use Rattle.machine_config.proofs.Vocabulary.{with_item, length-set, All-set, tables_of, CellsFit, IsKept, AreListed, once_if}
 use Rattle.machine_config.proofs.Members.{AreListed-push, AreListed-same, counted_after, some_off, some_read}
 use Rattle.machine_config.proofs.Config.switch_on.Goals as goal
 use Rattle.machine_config.proofs.Config.switch_on.Goals.{then-is_none, else-is_none}

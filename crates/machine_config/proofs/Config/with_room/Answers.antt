@@ -1,7 +1,5 @@
 use Rattle.std.proofs.Common.{rules, ◌≡◌, [], false, None, ap, ◌∙◌, sym, subst, length, replicate, arith, count_by, is_some}
-use Rattle.std.proofs.lemmas.List.{length-replicate}
-use Rattle.machine_shape.specs.Shape.{tables_of}
-use Rattle.machine_config.specs.Vocabulary.{IsConfiguration, set_of, AreMarked, AreListed}
+use Rattle.machine_config.proofs.Vocabulary.{length-replicate, tables_of, IsConfiguration, set_of, AreMarked, AreListed}
 use Rattle.machine_config.proofs.Members.{AreMarked-none, AreListed-none, none_on, unmarked}
 use Rattle.machine_config.proofs.Changes.{IsConfiguration-cleared}
 use Rattle.machine_config.proofs.Config.with_room.Goals as goal

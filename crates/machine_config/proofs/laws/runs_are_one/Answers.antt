@@ -1,6 +1,5 @@
 use Rattle.machine_config.specs.Faulty.{circuit_of}
-use Rattle.machine_config.proofs.Finite.{run_exists}
-use Rattle.machine_config.proofs.Runs.{Runs-unique, Cycles-length, Cycles-pins}
+use Rattle.machine_config.proofs.{Finite.run_exists, Runs.Runs-unique, Runs.Cycles-length, Runs.Cycles-pins}
 use Rattle.machine_config.proofs.laws.runs_are_one.Goals as goal
 
 pub returns : goal.returns

@@ -1,6 +1,4 @@
-use Rattle.std.proofs.Common.{None, ap, ◌∙◌}
-use Rattle.std.proofs.lemmas.List.{set-set, set-get_or}
-use Rattle.machine_config.specs.Configuration.{setting_of}
+use Rattle.machine_config.proofs.Vocabulary.{None, ap, ◌∙◌, set-set, set-get_or, setting_of}
 use Rattle.machine_config.proofs.laws.settings_are_exact.Goals as goal
 
 pub returns-clause-over : goal.returns-clause-over

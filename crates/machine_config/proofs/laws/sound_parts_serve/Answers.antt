@@ -1,5 +1,4 @@
-use Rattle.machine_config.proofs.Parts.{loose_of_sound}
-use Rattle.machine_config.proofs.Passing.{driven_in}
+use Rattle.machine_config.proofs.{Parts.loose_of_sound, Passing.driven_in}
 use Rattle.machine_config.proofs.laws.sound_parts_serve.Goals as goal
 
 pub returns : goal.returns

@@ -1,7 +1,5 @@
-use Rattle.machine_config.proofs.Passing.{apart_passes, swing_passes}
-use Rattle.machine_config.proofs.Loops.{loop_toggles}
+use Rattle.machine_config.proofs.{Passing.apart_passes, Passing.swing_passes, Loops.loop_toggles, FirstReadings.register_reads}
 use Rattle.machine_config.proofs.Cells.{cell_reads}
-use Rattle.machine_config.proofs.FirstReadings.{register_reads}
 use Rattle.machine_config.proofs.laws.tests_pass.Goals as goal
 
 pub returns : goal.returns

@@ -1,6 +1,4 @@
-use Rattle.std.proofs.Common.{◌≡◌, ◌<◌, length, All}
-use Rattle.std.specs.Vec.{vec_capacity}
-use Rattle.machine_config.specs.Kept.{AreMarked}
+use Rattle.machine_config.proofs.Vocabulary.{◌≡◌, ◌<◌, length, All, vec_capacity, AreMarked}
 use Rattle.machine_config.proofs.lists.open_all.Given as goal
 
 abbrev pub invariant-loop-c : goal.invariant-loop-c

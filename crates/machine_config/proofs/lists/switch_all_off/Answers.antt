@@ -1,5 +1,4 @@
-use Rattle.std.proofs.Common.{rules, ◌≡◌, [], subst, ◌∙◌, ap, replicate, None}
-use Rattle.machine_config.specs.Kept.{AreListed}
+use Rattle.machine_config.proofs.Vocabulary.{rules, ◌≡◌, [], subst, ◌∙◌, ap, replicate, None, AreListed}
 use Rattle.machine_config.proofs.Members.{listed_below, all_off}
 use Rattle.machine_config.proofs.lists.switch_all_off.Goals as goal
 

@@ -1,6 +1,4 @@
-use Rattle.std.proofs.Common.{◌≡◌}
-use Rattle.std.specs.Vec.{vec_capacity}
-use Rattle.machine_config.specs.Kept.{AreListed}
+use Rattle.machine_config.proofs.Vocabulary.{◌≡◌, vec_capacity, AreListed}
 use Rattle.machine_config.proofs.lists.switch_all_off.Given as goal
 
 abbrev pub invariant-loop-t : goal.invariant-loop-t

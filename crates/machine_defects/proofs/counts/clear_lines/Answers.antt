@@ -1,8 +1,5 @@
-use Rattle.std.proofs.Common.{◌≡◌, ◌∙◌, ap, arith}
-use Rattle.machine_shape.specs.Shape.{lines_of, line_at}
-use Rattle.machine_defects.specs.Vocabulary.{is_clear_line, how_many}
-use Rattle.machine_defects.proofs.Counting.{count_at_most, how_many_same}
-use Rattle.machine_defects.proofs.SitesInRows.{line_step, line_below}
+use Rattle.machine_defects.proofs.Vocabulary.{◌≡◌, ◌∙◌, ap, arith, lines_of, line_at, is_clear_line, how_many}
+use Rattle.machine_defects.proofs.{Counting.count_at_most, Counting.how_many_same, SitesInRows.line_step, SitesInRows.line_below}
 use Rattle.machine_defects.proofs.counts.clear_lines.Goals as goal
 
 pub overflow_add-line : goal.overflow_add-line

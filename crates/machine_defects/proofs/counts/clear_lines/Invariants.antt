@@ -1,5 +1,4 @@
-use Rattle.std.proofs.Common.{◌≡◌, ◌+◌}
-use Rattle.machine_defects.specs.Vocabulary.{is_clear_line, how_many}
+use Rattle.machine_defects.proofs.Vocabulary.{◌≡◌, ◌+◌, is_clear_line, how_many}
 use Rattle.machine_defects.proofs.counts.clear_lines.Given as goal
 
 abbrev pub invariant-lines : goal.invariant-lines

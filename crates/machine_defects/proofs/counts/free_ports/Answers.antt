@@ -1,9 +1,5 @@
-use Rattle.std.proofs.Common.{◌≡◌, ◌∙◌, ap, not, arith}
-use Rattle.base_bits.specs.Numbers.{has_number}
-use Rattle.machine_shape.specs.Shape.{own_ports_of, port_at}
-use Rattle.machine_defects.specs.Lists.{how_many}
-use Rattle.machine_defects.proofs.Counting.{count_at_most, how_many_same}
-use Rattle.machine_defects.proofs.SitesInRows.{port_step, port_below}
+use Rattle.machine_defects.proofs.Vocabulary.{◌≡◌, ◌∙◌, ap, not, arith, has_number, own_ports_of, port_at, how_many}
+use Rattle.machine_defects.proofs.{Counting.count_at_most, Counting.how_many_same, SitesInRows.port_step, SitesInRows.port_below}
 use Rattle.machine_defects.proofs.counts.free_ports.Goals as goal
 
 pub overflow_add-port : goal.overflow_add-port

@@ -1,6 +1,4 @@
-use Rattle.std.proofs.Common.{◌≡◌, ◌+◌, not}
-use Rattle.base_bits.specs.Numbers.{has_number}
-use Rattle.machine_defects.specs.Lists.{how_many}
+use Rattle.machine_defects.proofs.Vocabulary.{◌≡◌, ◌+◌, not, has_number, how_many}
 use Rattle.machine_defects.proofs.counts.free_ports.Given as goal
 
 abbrev pub invariant-ports : goal.invariant-ports

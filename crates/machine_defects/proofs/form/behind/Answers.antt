@@ -1,7 +1,5 @@
-use Rattle.std.proofs.Common.{◌≡◌, ◌∙◌, length, take, ap}
-use Rattle.std.specs.Str.{bytes_eq}
+use Rattle.machine_defects.proofs.Vocabulary.{◌≡◌, ◌∙◌, length, take, ap, bytes_eq, false≢true}
 use Rattle.std.proofs.Math.Seq.{take-append_seam}
-use Rattle.std.proofs.lemmas.Bool.{false≢true}
 use Rattle.machine_defects.proofs.Splits.{bytes_same}
 use Rattle.machine_defects.proofs.form.behind.Goals as goal
 

@@ -1,5 +1,4 @@
-use Rattle.std.proofs.Common.{◌≤◌, ◌∙◌, ◌+◌, ◌++◌, ◌∷◌, take, length, ap, sym, subst}
-use Rattle.std.proofs.lemmas.List.{take_rest}
+use Rattle.machine_defects.proofs.Vocabulary.{◌≤◌, ◌∙◌, ◌+◌, ◌++◌, ◌∷◌, take, length, ap, sym, subst, take_rest}
 use Rattle.machine_defects.proofs.Splits.{found_at, not_found}
 use Rattle.machine_defects.proofs.form.cut.Goals as goal
 

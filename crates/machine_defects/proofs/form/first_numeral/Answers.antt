@@ -1,7 +1,5 @@
-use Rattle.std.proofs.Common.{◌∙◌, sym, ap, subst}
-use Rattle.machine_defects.specs.Steps.{without}
-use Rattle.machine_defects.proofs.Splits.{run_parts, Starts}
-use Rattle.machine_defects.proofs.Numerals.{one_numeral, one_number}
+use Rattle.machine_defects.proofs.Vocabulary.{◌∙◌, sym, ap, subst, without}
+use Rattle.machine_defects.proofs.{Splits.run_parts, Splits.Starts, Numerals.one_numeral, Numerals.one_number}
 use Rattle.machine_defects.proofs.form.first_numeral.Goals as goal
 
 pub returns-in-Some-read_number-clause-one : goal.returns-in-Some-read_number-clause-one

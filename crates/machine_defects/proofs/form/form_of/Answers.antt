@@ -1,5 +1,4 @@
-use Rattle.std.proofs.Common.{sym, subst}
-use Rattle.machine_defects.specs.Faults.{IsWord}
+use Rattle.machine_defects.proofs.Vocabulary.{sym, subst, IsWord}
 use Rattle.machine_defects.proofs.Forms.{no_form, is_wire, is_cross, is_table}
 use Rattle.machine_defects.proofs.form.form_of.Goals as goal
 

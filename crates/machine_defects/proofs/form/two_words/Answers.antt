@@ -1,7 +1,5 @@
-use Rattle.std.proofs.Common.{◌∙◌, sym, subst}
-use Rattle.machine_defects.specs.Faults.{IsWord}
-use Rattle.machine_defects.proofs.Splits.{one_split}
-use Rattle.machine_defects.proofs.Rows.{from_word}
+use Rattle.machine_defects.proofs.Vocabulary.{◌∙◌, sym, subst, IsWord}
+use Rattle.machine_defects.proofs.{Splits.one_split, Rows.from_word}
 use Rattle.machine_defects.proofs.form.two_words.Goals as goal
 
 pub returns-in-None-word-2-clause-none : goal.returns-in-None-word-2-clause-none

@@ -1,8 +1,5 @@
 use Rattle.std.proofs.Common.{rules, ◌≡◌, ◌∙◌, ℕ, List, length, replicate, sym, ap, subst}
-use Rattle.std.proofs.lemmas.List.{length-replicate}
-use Rattle.machine_shape.specs.Shape.{nodes_of}
-use Rattle.machine_defects.specs.Vocabulary.{AreRecounted}
-use Rattle.base_bits.proofs.SetsLemmas.{items_after}
+use Rattle.machine_defects.proofs.Vocabulary.{length-replicate, nodes_of, AreRecounted, items_after}
 use Rattle.machine_defects.proofs.kept.counts_of.Goals as goal
 
 pub returns-clause-shut : goal.returns-clause-shut

@@ -1,7 +1,5 @@
-use Rattle.std.proofs.Common.{◌≡◌, ◌∙◌, ℕ, Bool, false, List, [], length, replicate, sym, ap, subst}
-use Rattle.std.proofs.lemmas.List.{length-replicate}
-use Rattle.machine_shape.specs.Shape.{wires_of, crosses_of, tables_of, nodes_of}
-use Rattle.machine_defects.specs.Vocabulary.{AreRight, AreRecounted, marked, DefectList}
+use Rattle.machine_defects.proofs.Vocabulary.{◌≡◌, ◌∙◌, ℕ, Bool, false, List, [], length, replicate, sym, ap, subst, length-replicate}
+use Rattle.machine_defects.proofs.Vocabulary.{wires_of, crosses_of, tables_of, nodes_of, AreRight, AreRecounted, marked, DefectList}
 use Rattle.machine_defects.proofs.Nothing.{empty_right, empty_listed}
 use Rattle.machine_defects.proofs.kept.nothing.Goals as goal
 

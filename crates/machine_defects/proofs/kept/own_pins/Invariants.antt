@@ -1,6 +1,4 @@
-use Rattle.std.proofs.Common.{◌≡◌, length}
-use Rattle.machine_shape.specs.Shape.{wires_of}
-use Rattle.machine_defects.specs.Kept.{AreOwnersBefore}
+use Rattle.machine_defects.proofs.Vocabulary.{◌≡◌, length, wires_of, AreOwnersBefore}
 use Rattle.machine_defects.proofs.kept.own_pins.Given as goal
 
 abbrev pub invariant-pins : goal.invariant-pins

@@ -1,8 +1,5 @@
 use Rattle.std.proofs.Common.{rules, ◌≡◌, ◌∙◌, None, length, replicate, sym, ap, subst}
-use Rattle.std.specs.Vec.{with_items}
-use Rattle.std.proofs.lemmas.List.{length-replicate}
-use Rattle.machine_defects.specs.Vocabulary.{AreOwners}
-use Rattle.base_bits.proofs.SetsLemmas.{items_after}
+use Rattle.machine_defects.proofs.Vocabulary.{with_items, length-replicate, AreOwners, items_after}
 use Rattle.machine_defects.proofs.kept.owners_of.Goals as goal
 
 pub returns-clause-wide : goal.returns-clause-wide

@@ -1,8 +1,5 @@
 use Rattle.std.proofs.Common.{◌≡◌, ◌<◌, ◌+◌, ◌-◌, ℕ, Bool, List, ◌∙◌, length, set, if◌then◌else◌, sym, ap, subst, arith, ◌==◌}
-use Rattle.std.specs.Vec.{with_items}
-use Rattle.machine_shape.specs.Shape.{ends_of, node_of_cross}
-use Rattle.machine_defects.specs.Kept.{AreRight, listed_by, marks_in, count_at}
-use Rattle.base_bits.proofs.SetsLemmas.{items_after}
+use Rattle.machine_defects.proofs.Vocabulary.{with_items, ends_of, node_of_cross, AreRight, listed_by, marks_in, count_at, items_after}
 use Rattle.machine_defects.proofs.Putting.{cross_as_it_is, cross_right, cross_listed, few_shut, few_crosses, some_open}
 use Rattle.machine_defects.proofs.kept.put_cross.Goals as goal
 use Rattle.machine_defects.proofs.kept.put_cross.Goals.{After-insert-2}

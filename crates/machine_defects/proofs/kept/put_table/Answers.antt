@@ -1,5 +1,4 @@
-use Rattle.std.proofs.Common.{◌∙◌, sym, ap, subst, Bool, List, ◌-◌}
-use Rattle.machine_defects.specs.Kept.{AreRight, listed_by, marks_in}
+use Rattle.machine_defects.proofs.Vocabulary.{◌∙◌, sym, ap, subst, Bool, List, ◌-◌, AreRight, listed_by, marks_in}
 use Rattle.machine_defects.proofs.Putting.{table_as_it_is, table_counted, table_right, table_listed}
 use Rattle.machine_defects.proofs.kept.put_table.Goals as goal
 

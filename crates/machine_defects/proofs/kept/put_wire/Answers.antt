@@ -1,7 +1,5 @@
-use Rattle.std.proofs.Common.{◌≡◌, ◌∙◌, ℕ, Bool, true, List, sym, ap, subst}
-use Rattle.std.specs.Vec.{with_items}
+use Rattle.machine_defects.proofs.Vocabulary.{◌≡◌, ◌∙◌, ℕ, Bool, true, List, sym, ap, subst, with_items, items_after}
 use Rattle.machine_defects.specs.Vocabulary.{AreRight, marks_in, listed_by, free_pins_in, IsWithWire}
-use Rattle.base_bits.proofs.SetsLemmas.{items_after}
 use Rattle.machine_defects.proofs.PuttingWires.{wire_as_it_is, owner_read, owner_low, owner_free, recounted_as, wire_right, wire_listed}
 use Rattle.machine_defects.proofs.kept.put_wire.Goals as goal
 

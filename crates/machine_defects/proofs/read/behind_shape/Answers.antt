@@ -1,12 +1,7 @@
-use Rattle.std.proofs.Common.{◌≡◌, ◌∙◌, ◌++◌, sym, ap, refl}
-use Rattle.std.specs.Str.{bytes_eq}
-use Rattle.std.proofs.lemmas.Bool.{false≢true}
-use Rattle.base_text.specs.Written.{written_line}
+use Rattle.machine_defects.proofs.Vocabulary.{◌≡◌, ◌∙◌, ◌++◌, sym, ap, refl, bytes_eq, false≢true, written_line, other_machine}
 use Rattle.machine_defects.specs.Text.{counts_of, shape_row}
-use Rattle.machine_defects.specs.Faults.IsLineFault.{other_machine}
-use Rattle.machine_defects.proofs.Splits.{bytes_same, same_bytes}
+use Rattle.machine_defects.proofs.{Splits.bytes_same, Splits.same_bytes, Reading.no_line, Reading.other_line, Reading.no_shape}
 use Rattle.machine_defects.proofs.Rows.{whole_line}
-use Rattle.machine_defects.proofs.Reading.{no_line, other_line, no_shape}
 use Rattle.machine_defects.proofs.read.behind_shape.Goals as goal
 
 pub returns-in_default : goal.returns-in_default

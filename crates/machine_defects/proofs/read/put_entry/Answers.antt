@@ -1,5 +1,4 @@
-use Rattle.std.proofs.Common.{sym, subst}
-use Rattle.machine_defects.specs.Vocabulary.{IsAdded, IsBeyond, IsFreeEntry}
+use Rattle.machine_defects.proofs.Vocabulary.{sym, subst, IsAdded, IsBeyond, IsFreeEntry}
 use Rattle.machine_defects.proofs.Entries.{added_wire, added_cross, added_table, free_ends, free_pins}
 use Rattle.machine_defects.proofs.read.put_entry.Goals as goal
 

@@ -1,7 +1,6 @@
-use Rattle.std.proofs.Common.{subst, arith}
+use Rattle.machine_defects.proofs.Vocabulary.{subst, arith, counts_of, AreCounts}
 use Rattle.machine_shape.proofs.HighLimits.{high_limits}
 use Rattle.machine_shape.specs.declared.Counts.{Counts}
-use Rattle.machine_defects.specs.Vocabulary.{counts_of, AreCounts}
 use Rattle.machine_defects.proofs.Only.{IsTold, only_is}
 use Rattle.machine_defects.proofs.read.read_defects.Goals as goal
 

@@ -1,5 +1,4 @@
-use Rattle.std.proofs.Common.{◌+◌, ◌∙◌, sym, ap, subst, arith}
-use Rattle.machine_defects.specs.Faults.{IsText}
+use Rattle.machine_defects.proofs.Vocabulary.{◌+◌, ◌∙◌, sym, ap, subst, arith, IsText}
 use Rattle.machine_defects.proofs.Numerals.{empty_is, some_length}
 use Rattle.machine_defects.proofs.Reading.{reads_on, one_row_more, rows_within, ends_here, ends_early, stops, two_rows}
 use Rattle.machine_defects.proofs.read.read_entries.Goals as goal

@@ -1,5 +1,4 @@
-use Rattle.std.proofs.Common.{◌≡◌, ◌+◌, length}
-use Rattle.machine_defects.specs.Vocabulary.{rows_of, IsReadTo}
+use Rattle.machine_defects.proofs.Vocabulary.{◌≡◌, ◌+◌, length, rows_of, IsReadTo}
 use Rattle.machine_defects.proofs.read.read_entries.Given as goal
 
 abbrev pub invariant-lines : goal.invariant-lines

@@ -1,6 +1,4 @@
-use Rattle.std.proofs.Common.{None, sym, ap, subst}
-use Rattle.machine_shape.specs.declared.Shape.{Shape}
-use Rattle.machine_defects.specs.Vocabulary.{DefectList, IsDefectList, IsReadTo}
+use Rattle.machine_defects.proofs.Vocabulary.{None, sym, ap, subst, Shape, DefectList, IsDefectList, IsReadTo}
 use Rattle.machine_defects.proofs.Reading.{no_start, no_second, reads_from, none_right}
 use Rattle.machine_defects.proofs.read.read_within.Goals as goal
 

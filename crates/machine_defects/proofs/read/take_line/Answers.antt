@@ -1,11 +1,6 @@
-use Rattle.std.proofs.Common.{◌≡◌, ◌∙◌, sym, subst}
-use Rattle.std.specs.Str.{bytes_eq}
-use Rattle.std.proofs.lemmas.Bool.{false≢true}
-use Rattle.machine_shape.specs.declared.Shape.{Shape}
+use Rattle.machine_defects.proofs.Vocabulary.{◌≡◌, ◌∙◌, sym, subst, bytes_eq, false≢true, Shape, nameless, earlier, again}
 use Rattle.machine_defects.specs.Vocabulary.{IsEntryOf, entry_words, row_of}
-use Rattle.machine_defects.specs.Faults.IsLineFault.{nameless, earlier, again}
-use Rattle.machine_defects.proofs.Entries.{beyond_all, free_unlisted}
-use Rattle.machine_defects.proofs.Rows.{whole_line}
+use Rattle.machine_defects.proofs.{Entries.beyond_all, Entries.free_unlisted, Rows.whole_line}
 use Rattle.machine_defects.proofs.Reading.{no_line, other_line, no_later, before_last, not_before_last, entry_here}
 use Rattle.machine_defects.proofs.read.take_line.Goals as goal
 

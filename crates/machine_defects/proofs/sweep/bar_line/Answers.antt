@@ -1,5 +1,4 @@
-use Rattle.std.proofs.Common.{refl, ◌<◌, arith}
-use Rattle.machine_shape.specs.Shape.{taps_of}
+use Rattle.machine_defects.proofs.Vocabulary.{refl, ◌<◌, arith, taps_of}
 use Rattle.machine_defects.proofs.Sweeping.{sweep_none, line_some, line_more, lines_done}
 use Rattle.machine_defects.proofs.SweptRows.{at_distance, few_at_distance, not_a_line}
 use Rattle.machine_defects.proofs.sweep.bar_line.Goals as goal

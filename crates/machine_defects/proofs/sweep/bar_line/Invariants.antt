@@ -1,6 +1,4 @@
-use Rattle.std.proofs.Common.{◌≡◌, ◌<◌}
-use Rattle.machine_shape.specs.Shape.{ends_of, node_of_cross, tap_position}
-use Rattle.machine_defects.specs.Kept.{IsSwept}
+use Rattle.machine_defects.proofs.Vocabulary.{◌≡◌, ◌<◌, ends_of, node_of_cross, tap_position, IsSwept}
 use Rattle.machine_defects.proofs.sweep.bar_line.Given as goal
 
 abbrev pub invariant-taps : goal.invariant-taps

@@ -1,5 +1,4 @@
-use Rattle.std.proofs.Common.{◌<◌, arith}
-use Rattle.machine_shape.specs.Shape.{lines_of}
+use Rattle.machine_defects.proofs.Vocabulary.{◌<◌, arith, lines_of}
 use Rattle.machine_defects.proofs.Sweeping.{sweep_none, tap_some, tap_more, taps_done, no_tap}
 use Rattle.machine_defects.proofs.SweptRows.{in_row, line_within, few_in_row}
 use Rattle.machine_defects.proofs.sweep.bar_tap.Goals as goal

@@ -1,6 +1,4 @@
-use Rattle.std.proofs.Common.{◌≡◌, ◌<◌}
-use Rattle.machine_shape.specs.Shape.{ends_of, node_of_cross, line_position}
-use Rattle.machine_defects.specs.Kept.{IsSwept}
+use Rattle.machine_defects.proofs.Vocabulary.{◌≡◌, ◌<◌, ends_of, node_of_cross, line_position, IsSwept}
 use Rattle.machine_defects.proofs.sweep.bar_tap.Given as goal
 
 abbrev pub invariant-lines : goal.invariant-lines

@@ -1,8 +1,7 @@
 use Rattle.std.proofs.Common.{◌≡◌, refl}
 use Rattle.machine_defects.specs.Text.{text_of}
-use Rattle.machine_defects.proofs.Writing.{text_is}
+use Rattle.machine_defects.proofs.{Writing.text_is, write.defects_text.Goals.In_ok-extend_from_slice}
 use Rattle.machine_defects.proofs.write.defects_text.Goals as goal
-use Rattle.machine_defects.proofs.write.defects_text.Goals.{In_ok-extend_from_slice}
 
 spelled : (c : In_ok-extend_from_slice) → c.extend_from_slice.new.self.items ≡ text_of c.args.list.now
 spelled c = text_is c.args.list.now c.shape-shape.result c.new-text.result.items c.put_heads.new.text.items c.put_wires.new.text.items c.put_crosses.new.text.items c.put_tables.new.text.items c.extend_from_slice.new.self.items

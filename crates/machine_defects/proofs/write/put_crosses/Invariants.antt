@@ -1,7 +1,5 @@
-use Rattle.std.proofs.Common.{◌≡◌, ◌++◌, map}
+use Rattle.machine_defects.proofs.Vocabulary.{◌≡◌, ◌++◌, map, written, those, entry_words, as_cross}
 use Rattle.std.specs.FinSet as set
-use Rattle.base_text.specs.Written.{written}
-use Rattle.machine_defects.specs.Vocabulary.{those, entry_words, as_cross}
 use Rattle.machine_defects.proofs.write.put_crosses.Given as goal
 
 abbrev pub invariant-crosses : goal.invariant-crosses

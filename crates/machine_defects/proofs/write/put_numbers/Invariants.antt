@@ -1,5 +1,4 @@
-use Rattle.std.proofs.Common.{◌≡◌, ◌++◌, take}
-use Rattle.machine_defects.specs.Steps.{numerals}
+use Rattle.machine_defects.proofs.Vocabulary.{◌≡◌, ◌++◌, take, numerals}
 use Rattle.machine_defects.proofs.write.put_numbers.Given as goal
 
 abbrev pub invariant-numbers : goal.invariant-numbers

@@ -1,7 +1,5 @@
-use Rattle.std.proofs.Common.{◌≡◌, ◌++◌, map}
+use Rattle.machine_defects.proofs.Vocabulary.{◌≡◌, ◌++◌, map, written, those, entry_words, as_wire}
 use Rattle.std.specs.FinSet as set
-use Rattle.base_text.specs.Written.{written}
-use Rattle.machine_defects.specs.Vocabulary.{those, entry_words, as_wire}
 use Rattle.machine_defects.proofs.write.put_wires.Given as goal
 
 abbrev pub invariant-wires : goal.invariant-wires

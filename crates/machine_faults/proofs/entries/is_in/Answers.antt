@@ -1,5 +1,4 @@
-use Rattle.std.proofs.Common.{◌∙◌, sym}
-use Rattle.machine_meaning.proofs.Pairs.{pairs_total}
+use Rattle.machine_faults.proofs.Vocabulary.{◌∙◌, sym, pairs_total}
 use Rattle.machine_faults.proofs.Keeping.{contains_is}
 use Rattle.machine_faults.proofs.entries.is_in.Goals as goal
 

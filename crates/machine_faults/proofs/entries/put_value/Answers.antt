@@ -1,5 +1,4 @@
-use Rattle.std.specs.Cmp.{nat_cmp_total}
-use Rattle.std.proofs.lemmas.Map.Lookups.{exact_unsigned}
+use Rattle.machine_faults.proofs.Vocabulary.{nat_cmp_total, exact_unsigned}
 use Rattle.machine_faults.proofs.Keeping.{one_put}
 use Rattle.machine_faults.proofs.entries.put_value.Goals as goal
 

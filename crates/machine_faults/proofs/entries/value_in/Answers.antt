@@ -1,5 +1,4 @@
-use Rattle.std.proofs.Common.{◌∙◌, sym}
-use Rattle.std.specs.Cmp.{nat_cmp_total}
+use Rattle.machine_faults.proofs.Vocabulary.{◌∙◌, sym, nat_cmp_total}
 use Rattle.machine_faults.proofs.Keeping.{get_is}
 use Rattle.machine_faults.proofs.entries.value_in.Goals as goal
 

@@ -1,5 +1,4 @@
-use Rattle.std.proofs.Common.{◌∙◌, List, ℕ, Bor, arith}
-use Rattle.std.proofs.lemmas.List.{length-map}
+use Rattle.machine_faults.proofs.Vocabulary.{◌∙◌, List, ℕ, Bor, arith, length-map}
 use Rattle.machine_faults.proofs.Reading.{headless, too_short, read_form}
 use Rattle.machine_faults.proofs.line.entry_of.Goals as goal
 

@@ -1,5 +1,4 @@
-use Rattle.std.proofs.Common.{subst, sym, false}
-use Rattle.base_text.specs.Lines.{logical_lines}
+use Rattle.machine_faults.proofs.Vocabulary.{subst, sym, false, logical_lines}
 use Rattle.machine_faults.specs.Refusals.{IsFirst}
 use Rattle.machine_faults.proofs.Reading.{begins, goes_on, stops_at}
 use Rattle.machine_faults.proofs.read.read_lines.Goals as goal

@@ -1,5 +1,4 @@
-use Rattle.std.proofs.Common.{false, length}
-use Rattle.base_text.specs.Lines.{logical_lines}
+use Rattle.machine_faults.proofs.Vocabulary.{false, length, logical_lines}
 use Rattle.machine_faults.proofs.Reading.{IsReadTo}
 use Rattle.machine_faults.proofs.read.read_lines.Given as goal
 

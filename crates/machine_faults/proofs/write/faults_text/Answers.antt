@@ -1,12 +1,7 @@
-use Rattle.std.proofs.Common.{◌≡◌, ◌++◌, ◌∙◌, map, sym, subst, All}
-use Rattle.machine_shape.specs.declared.Shape.{Shape}
-use Rattle.base_text.specs.Written.{written}
-use Rattle.machine_faults.specs.Adding.{CanHave}
-use Rattle.machine_faults.specs.Text.{fault_words}
+use Rattle.machine_faults.proofs.Vocabulary.{◌≡◌, ◌++◌, ◌∙◌, map, sym, subst, All, Shape, written, CanHave, fault_words}
 use Rattle.machine_faults.proofs.Words.{IsTold}
-use Rattle.machine_faults.proofs.Writing.{each_of_shape, text_is, few_bytes}
+use Rattle.machine_faults.proofs.{Writing.each_of_shape, Writing.text_is, Writing.few_bytes, write.faults_text.Goals.After-drop-faults-2}
 use Rattle.machine_faults.proofs.write.faults_text.Goals as goal
-use Rattle.machine_faults.proofs.write.faults_text.Goals.{After-drop-faults-2}
 
 pub put_faults-requires : goal.put_faults-requires
 put_faults-requires c =

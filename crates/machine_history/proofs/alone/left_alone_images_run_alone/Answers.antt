@@ -1,5 +1,4 @@
-use Rattle.machine_history.proofs.Images.{image_runs_alone, always_alone}
-use Rattle.machine_history.proofs.Leaving.{covered_alone}
+use Rattle.machine_history.proofs.{Images.image_runs_alone, Images.always_alone, Leaving.covered_alone}
 use Rattle.machine_history.proofs.alone.left_alone_images_run_alone.Goals as goal
 
 pub returns : goal.returns

@@ -1,5 +1,4 @@
-use Rattle.machine_history.proofs.Existing.{run_over_exists}
-use Rattle.machine_history.proofs.Unique.{run_over_unique, CyclesOver-length, CyclesOver-pins}
+use Rattle.machine_history.proofs.{Existing.run_over_exists, Unique.run_over_unique, Unique.CyclesOver-length, Unique.CyclesOver-pins}
 use Rattle.machine_history.proofs.over.runs_over_are_one.Goals as goal
 
 pub returns : goal.returns

@@ -1,6 +1,5 @@
-use Rattle.std.proofs.Common.{arith}
+use Rattle.machine_image.proofs.Vocabulary.{arith, IsRefusedField}
 use Rattle.machine_image.specs.declared.kind.ImageKind.TheVariants as kind
-use Rattle.machine_image.specs.Fields.{IsRefusedField}
 use Rattle.machine_image.proofs.Wrong.{many_closed, too_many_closed}
 use Rattle.machine_image.proofs.check.how_many_closed.Goals as goal
 

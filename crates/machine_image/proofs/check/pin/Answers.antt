@@ -1,6 +1,5 @@
-use Rattle.std.proofs.Common.{arith, sym, ◌∙◌}
+use Rattle.machine_image.proofs.Vocabulary.{arith, sym, ◌∙◌, IsRefusedField}
 use Rattle.machine_image.specs.declared.kind.ImageKind.TheVariants as kind
-use Rattle.machine_image.specs.Fields.{IsRefusedField}
 use Rattle.machine_image.proofs.Wrong.{no_pin, pin_again}
 use Rattle.machine_image.proofs.check.pin.Goals as goal
 

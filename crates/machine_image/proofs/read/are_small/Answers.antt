@@ -1,5 +1,4 @@
-use Rattle.std.proofs.Common.{arith}
-use Rattle.std.proofs.lemmas.List.{get_or_default}
+use Rattle.machine_image.proofs.Vocabulary.{arith, get_or_default}
 use Rattle.machine_image.proofs.read.are_small.Goals as goal
 
 pub returns : goal.returns

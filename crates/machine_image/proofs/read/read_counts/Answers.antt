@@ -1,5 +1,4 @@
-use Rattle.std.proofs.Common.{◌+◌, refl, subst, ap, length, get_or, arith}
-use Rattle.machine_image.specs.Vocabulary.{counts_of, count_fault, IsField, IsRefusedField}
+use Rattle.machine_image.proofs.Vocabulary.{◌+◌, refl, subst, ap, length, get_or, arith, counts_of, count_fault, IsField, IsRefusedField}
 use Rattle.machine_image.proofs.Steps.{count_step, count_refused, counts_done}
 use Rattle.machine_image.proofs.read.read_counts.Goals as goal
 

@@ -1,5 +1,4 @@
-use Rattle.std.proofs.Common.{◌≡◌}
-use Rattle.machine_image.specs.Faults.{counts_of}
+use Rattle.machine_image.proofs.Vocabulary.{◌≡◌, counts_of}
 use Rattle.machine_image.proofs.Steps.{CountsSoFar}
 use Rattle.machine_image.proofs.read.read_counts.Given as goal
 

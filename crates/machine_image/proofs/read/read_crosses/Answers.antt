@@ -1,6 +1,4 @@
-use Rattle.std.proofs.Common.{◌≡◌, ◌+◌, ◌-◌, refl, subst, sym, ap, ◌∙◌, arith}
-use Rattle.machine_shape.specs.Shape.{crosses_of}
-use Rattle.machine_config.specs.Configuration.{with_closed}
+use Rattle.machine_image.proofs.Vocabulary.{◌≡◌, ◌+◌, ◌-◌, refl, subst, sym, ap, ◌∙◌, arith, crosses_of, with_closed}
 use Rattle.machine_image.specs.Vocabulary.{above_fault, IsField, IsRefusedField, AreCrosses}
 use Rattle.machine_image.proofs.Steps.{crosses_start, cross_refused, cross_step, crosses_done}
 use Rattle.machine_image.proofs.read.read_crosses.Goals as goal

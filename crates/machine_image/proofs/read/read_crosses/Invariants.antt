@@ -1,5 +1,4 @@
-use Rattle.std.proofs.Common.{◌≡◌, ◌-◌}
-use Rattle.machine_image.specs.Reading.{AreCrosses}
+use Rattle.machine_image.proofs.Vocabulary.{◌≡◌, ◌-◌, AreCrosses}
 use Rattle.machine_image.proofs.read.read_crosses.Given as goal
 
 abbrev pub invariant-crosses : goal.invariant-crosses

@@ -1,5 +1,4 @@
-use Rattle.std.proofs.Common.{subst}
-use Rattle.machine_image.specs.Vocabulary.{ticks_fault, IsField, IsRefusedField}
+use Rattle.machine_image.proofs.Vocabulary.{subst, ticks_fault, IsField, IsRefusedField}
 use Rattle.machine_image.proofs.Heads.{any_field, magic_refused, counts_refused, ticks_refused, inputs_refused, outputs_refused, head_read}
 use Rattle.machine_image.proofs.read.read_head.Goals as goal
 

@@ -1,5 +1,4 @@
-use Rattle.std.proofs.Common.{◌+◌, refl, subst, sym, arith}
-use Rattle.machine_image.specs.Images.{IsImage, Reads}
+use Rattle.machine_image.proofs.Vocabulary.{◌+◌, refl, subst, sym, arith, IsImage, Reads}
 use Rattle.machine_image.proofs.Ends.{refused_as, pins_refused, settings_refused, image_read}
 use Rattle.machine_image.proofs.read.read_image.Goals as goal
 

@@ -1,8 +1,6 @@
 use Rattle.std.proofs.Common.{◌≡◌, ◌+◌, ◌-◌, ◌∷◌, [], ◌++◌, true, length, set, refl, subst, sym, arith}
-use Rattle.machine_shape.specs.Shape.{pins_of}
-use Rattle.machine_image.specs.Vocabulary.{pin_fault, IsField, IsRefusedField, AreMarks, ArePins}
-use Rattle.machine_image.proofs.Wrong.{pin_right}
-use Rattle.machine_image.proofs.Steps.{pin_refused, pin_step, marks_step}
+use Rattle.machine_image.proofs.Vocabulary.{pins_of, pin_fault, IsField, IsRefusedField, AreMarks, ArePins}
+use Rattle.machine_image.proofs.{Wrong.pin_right, Steps.pin_refused, Steps.pin_step, Steps.marks_step}
 use Rattle.machine_image.proofs.read.read_pins.Goals as goal
 
 pub returns-in-Err-clause-refused : goal.returns-in-Err-clause-refused

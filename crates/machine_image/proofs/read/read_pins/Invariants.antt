@@ -1,6 +1,4 @@
-use Rattle.std.proofs.Common.{◌-◌}
-use Rattle.machine_shape.specs.Shape.{pins_of}
-use Rattle.machine_image.specs.Vocabulary.{AreMarks, ArePins}
+use Rattle.machine_image.proofs.Vocabulary.{◌-◌, pins_of, AreMarks, ArePins}
 use Rattle.machine_image.proofs.read.read_pins.Given as goal
 
 abbrev pub invariant-pins : goal.invariant-pins

@@ -1,10 +1,6 @@
-use Rattle.std.proofs.Common.{◌≡◌, ◌≤◌, subst, sym, ap, ◌∙◌, arith}
-use Rattle.std.specs.Ordering.{nat_cmp}
+use Rattle.machine_image.proofs.Vocabulary.{◌≡◌, ◌≤◌, subst, sym, ap, ◌∙◌, arith, nat_cmp, contains-empty, len-empty, Configuration}
+use Rattle.machine_image.proofs.Vocabulary.{cleared, with_ticks, most_closed, most_ticks, most_fault, closed_fault, IsField, IsRefusedField}
 use Rattle.std.specs.FinSet as set_
-use Rattle.std.specs.FinSet.{contains-empty, len-empty}
-use Rattle.machine_config.specs.Configuration.{Configuration, cleared, with_ticks}
-use Rattle.machine_shape.specs.Vocabulary.{most_closed, most_ticks}
-use Rattle.machine_image.specs.Vocabulary.{most_fault, closed_fault, IsField, IsRefusedField}
 use Rattle.machine_image.proofs.Ends.{field_as, many_refused, tables_refused, closed_refused, crosses_refused, end_refused, settings_read}
 use Rattle.machine_image.proofs.read.read_settings.Goals as goal
 

@@ -1,5 +1,4 @@
-use Rattle.std.proofs.Common.{subst}
-use Rattle.machine_image.specs.Vocabulary.{above_fault, IsField, IsRefusedField}
+use Rattle.machine_image.proofs.Vocabulary.{subst, above_fault, IsField, IsRefusedField}
 use Rattle.machine_image.proofs.Heads.{any_field, table_number_refused, flags_refused, cells_refused, table_read}
 use Rattle.machine_image.proofs.read.read_table.Goals as goal
 

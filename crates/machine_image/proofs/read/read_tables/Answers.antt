@@ -1,8 +1,5 @@
 use Rattle.std.proofs.Common.{◌≡◌, ◌+◌, ◌-◌, ◌<◌, suc, Some, refl, subst, sym, ap, ◌∙◌, length, arith}
-use Rattle.std.proofs.lemmas.List.{length-set}
-use Rattle.machine_shape.specs.Shape.{tables_of}
-use Rattle.machine_config.specs.Configuration.{with_setting}
-use Rattle.machine_image.specs.Vocabulary.{InTables, FaultIn, AreTables, IsTable}
+use Rattle.machine_image.proofs.Vocabulary.{length-set, tables_of, with_setting, InTables, FaultIn, AreTables, IsTable}
 use Rattle.machine_image.proofs.Steps.{tables_start, table_refused, table_step, tables_done}
 use Rattle.machine_image.proofs.read.read_tables.Goals as goal
 

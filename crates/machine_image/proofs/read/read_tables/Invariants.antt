@@ -1,6 +1,4 @@
-use Rattle.std.proofs.Common.{◌≡◌, ◌-◌, length}
-use Rattle.machine_shape.specs.Shape.{tables_of}
-use Rattle.machine_image.specs.Reading.{AreTables}
+use Rattle.machine_image.proofs.Vocabulary.{◌≡◌, ◌-◌, length, tables_of, AreTables}
 use Rattle.machine_image.proofs.read.read_tables.Given as goal
 
 abbrev pub invariant-tables : goal.invariant-tables

@@ -1,8 +1,4 @@
-use Rattle.std.proofs.Common.{◌<◌, subst, sym, ap, ◌∙◌}
-use Rattle.machine_shape.specs.declared.Cross.{Cross}
-use Rattle.machine_shape.specs.Shape.{crosses_of}
-use Rattle.machine_meaning.specs.Defects.{IsFreeCross}
-use Rattle.machine_config.specs.Configuration.{is_closed}
+use Rattle.machine_image.proofs.Vocabulary.{◌<◌, subst, sym, ap, ◌∙◌, Cross, crosses_of, IsFreeCross, is_closed}
 use Rattle.machine_image.proofs.Keyed.{of_set, to_set}
 use Rattle.machine_image.proofs.touch.crosses_are_free.Goals as goal
 

@@ -1,6 +1,4 @@
-use Rattle.std.proofs.Common.{◌<◌, ℕ, get_or}
-use Rattle.machine_shape.specs.declared.Cross.{Cross}
-use Rattle.machine_meaning.specs.Defects.{IsFreeCross}
+use Rattle.machine_image.proofs.Vocabulary.{◌<◌, ℕ, get_or, Cross, IsFreeCross}
 use Rattle.machine_image.proofs.touch.free_crosses.Given as goal
 
 abbrev pub invariant-crosses : goal.invariant-crosses

@@ -1,6 +1,4 @@
-use Rattle.std.proofs.Common.{◌<◌, ℕ, get_or}
-use Rattle.machine_shape.specs.Shape.{pin_wire}
-use Rattle.machine_meaning.specs.Defects.{IsFreeWire}
+use Rattle.machine_image.proofs.Vocabulary.{◌<◌, ℕ, get_or, pin_wire, IsFreeWire}
 use Rattle.machine_image.proofs.touch.free_pins.Given as goal
 
 abbrev pub invariant-pins : goal.invariant-pins

@@ -1,6 +1,4 @@
-use Rattle.std.proofs.Common.{◌<◌, ℕ, get_or}
-use Rattle.machine_shape.specs.declared.Table.{Table}
-use Rattle.machine_meaning.specs.Defects.{IsFreeTable}
+use Rattle.machine_image.proofs.Vocabulary.{◌<◌, ℕ, get_or, Table, IsFreeTable}
 use Rattle.machine_image.proofs.touch.free_tables.Given as goal
 
 abbrev pub invariant-tables : goal.invariant-tables

@@ -1,10 +1,5 @@
-use Rattle.std.proofs.Common.{◌<◌, subst, sym, ap, ◌∙◌, is_some}
-use Rattle.machine_shape.specs.declared.Table.{Table}
-use Rattle.machine_shape.specs.Shape.{tables_of}
-use Rattle.machine_meaning.specs.Defects.{IsFreeTable}
-use Rattle.machine_config.specs.Configuration.{setting_of}
-use Rattle.machine_image.proofs.Keyed.{of_set, to_set}
-use Rattle.machine_image.proofs.Touching.{on_below}
+use Rattle.machine_image.proofs.Vocabulary.{◌<◌, subst, sym, ap, ◌∙◌, is_some, Table, tables_of, IsFreeTable, setting_of}
+use Rattle.machine_image.proofs.{Keyed.of_set, Keyed.to_set, Touching.on_below}
 use Rattle.machine_image.proofs.touch.tables_are_free.Goals as goal
 
 pub free_tables-requires : goal.free_tables-requires

@@ -1,5 +1,4 @@
-use Rattle.std.proofs.Common.{sym, ◌∙◌}
-use Rattle.std.proofs.lemmas.Bool.{false≢true}
+use Rattle.machine_image.proofs.Vocabulary.{sym, ◌∙◌, false≢true}
 use Rattle.machine_image.proofs.Touching.{all_free, inputs_of_free, outputs_of_free, outputs_within}
 use Rattle.machine_image.proofs.touch.touches_none.Goals as goal
 

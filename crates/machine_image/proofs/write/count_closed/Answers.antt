@@ -1,5 +1,4 @@
-use Rattle.std.proofs.Common.{◌+◌, [], ◌∷◌, refl, ap, arith, if◌then◌else◌}
-use Rattle.machine_config.specs.Configuration.{is_closed}
+use Rattle.machine_image.proofs.Vocabulary.{◌+◌, [], ◌∷◌, refl, ap, arith, if◌then◌else◌, is_closed}
 use Rattle.machine_image.proofs.Written.{count_step}
 use Rattle.machine_image.proofs.write.count_closed.Goals as goal
 

@@ -1,6 +1,4 @@
-use Rattle.std.proofs.Common.{◌≡◌, ◌≤◌, [], ◌∷◌, length, if◌then◌else◌}
-use Rattle.std.specs.List.{flat_map, range_with_len}
-use Rattle.machine_config.specs.Configuration.{is_closed}
+use Rattle.machine_image.proofs.Vocabulary.{◌≡◌, ◌≤◌, [], ◌∷◌, length, if◌then◌else◌, flat_map, range_with_len, is_closed}
 use Rattle.machine_image.proofs.write.count_closed.Given as goal
 
 abbrev pub invariant-crosses : goal.invariant-crosses

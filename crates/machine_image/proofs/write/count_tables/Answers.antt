@@ -1,6 +1,4 @@
-use Rattle.std.proofs.Common.{◌+◌, refl, ap, arith}
-use Rattle.machine_config.specs.Configuration.{setting_of}
-use Rattle.machine_image.specs.Images.{on_at}
+use Rattle.machine_image.proofs.Vocabulary.{◌+◌, refl, ap, arith, setting_of, on_at}
 use Rattle.machine_image.proofs.Written.{count_step}
 use Rattle.machine_image.proofs.write.count_tables.Goals as goal
 

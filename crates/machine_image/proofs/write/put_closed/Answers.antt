@@ -1,6 +1,4 @@
-use Rattle.std.proofs.Common.{◌+◌, [], ◌∷◌, refl, if◌then◌else◌}
-use Rattle.machine_config.specs.Configuration.{is_closed}
-use Rattle.machine_image.specs.Images.{four}
+use Rattle.machine_image.proofs.Vocabulary.{◌+◌, [], ◌∷◌, refl, if◌then◌else◌, is_closed, four}
 use Rattle.machine_image.proofs.Written.{put_piece}
 use Rattle.machine_image.proofs.write.put_closed.Goals as goal
 

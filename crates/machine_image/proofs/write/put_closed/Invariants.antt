@@ -1,7 +1,4 @@
-use Rattle.std.proofs.Common.{◌≡◌, ◌++◌, [], ◌∷◌, if◌then◌else◌}
-use Rattle.std.specs.List.{flat_map, range_with_len}
-use Rattle.machine_config.specs.Configuration.{is_closed}
-use Rattle.machine_image.specs.Images.{four}
+use Rattle.machine_image.proofs.Vocabulary.{◌≡◌, ◌++◌, [], ◌∷◌, if◌then◌else◌, flat_map, range_with_len, is_closed, four}
 use Rattle.machine_image.proofs.write.put_closed.Given as goal
 
 abbrev pub invariant-crosses : goal.invariant-crosses

@@ -1,6 +1,4 @@
-use Rattle.std.proofs.Common.{◌++◌, ap, ◌∙◌, codes}
-use Rattle.std.specs.List.{flat_map}
-use Rattle.machine_image.specs.Vocabulary.{counts_of, two}
+use Rattle.machine_image.proofs.Vocabulary.{◌++◌, ap, ◌∙◌, codes, flat_map, counts_of, two}
 use Rattle.machine_image.proofs.Written.{both_put}
 use Rattle.machine_image.proofs.write.put_head.Goals as goal
 

@@ -1,6 +1,4 @@
-use Rattle.std.proofs.Common.{◌≡◌, ◌++◌, take}
-use Rattle.std.specs.List.{flat_map}
-use Rattle.machine_image.specs.Images.{two}
+use Rattle.machine_image.proofs.Vocabulary.{◌≡◌, ◌++◌, take, flat_map, two}
 use Rattle.machine_image.proofs.write.put_pins.Given as goal
 
 abbrev pub invariant-pins : goal.invariant-pins

@@ -1,6 +1,4 @@
-use Rattle.std.proofs.Common.{◌++◌, ap, ◌∙◌}
-use Rattle.byteorder.specs.Endian.{big_bytes}
-use Rattle.machine_image.specs.Images.{two, flags_of}
+use Rattle.machine_image.proofs.Vocabulary.{◌++◌, ap, ◌∙◌, big_bytes, two, flags_of}
 use Rattle.machine_image.proofs.Written.{both_put}
 use Rattle.machine_image.proofs.write.put_setting.Goals as goal
 

@@ -1,6 +1,4 @@
-use Rattle.std.proofs.Common.{◌++◌, length, ap, ◌∙◌}
-use Rattle.std.specs.List.{flat_map}
-use Rattle.machine_image.specs.Images.{two, four, table_bytes, tables_on, closed_in}
+use Rattle.machine_image.proofs.Vocabulary.{◌++◌, length, ap, ◌∙◌, flat_map, two, four, table_bytes, tables_on, closed_in}
 use Rattle.machine_image.proofs.Written.{both_put}
 use Rattle.machine_image.proofs.write.put_settings.Goals as goal
 

@@ -1,6 +1,4 @@
-use Rattle.std.proofs.Common.{◌+◌, refl}
-use Rattle.machine_config.specs.Configuration.{setting_of}
-use Rattle.machine_image.specs.Images.{table_bytes, on_at}
+use Rattle.machine_image.proofs.Vocabulary.{◌+◌, refl, setting_of, table_bytes, on_at}
 use Rattle.machine_image.proofs.Written.{put_piece}
 use Rattle.machine_image.proofs.write.put_tables.Goals as goal
 

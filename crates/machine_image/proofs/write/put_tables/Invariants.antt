@@ -1,7 +1,4 @@
-use Rattle.std.proofs.Common.{◌≡◌, ◌++◌}
-use Rattle.std.specs.List.{flat_map, range_with_len}
-use Rattle.machine_config.specs.Configuration.{setting_of}
-use Rattle.machine_image.specs.Images.{table_bytes, on_at}
+use Rattle.machine_image.proofs.Vocabulary.{◌≡◌, ◌++◌, flat_map, range_with_len, setting_of, table_bytes, on_at}
 use Rattle.machine_image.proofs.write.put_tables.Given as goal
 
 abbrev pub invariant-tables : goal.invariant-tables

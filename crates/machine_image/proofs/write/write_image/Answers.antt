@@ -1,9 +1,5 @@
-use Rattle.std.proofs.Common.{[], ◌<◌, ◌≤◌, ◌++◌, All, length, subst, sym, ap, ◌∙◌, arith}
-use Rattle.std.specs.List.{flat_map}
-use Rattle.machine_shape.specs.Vocabulary.{pins_of, most_ticks}
-use Rattle.machine_shape.proofs.HighLimits.{high_limits}
-use Rattle.machine_config.specs.Configuration.{Configuration}
-use Rattle.machine_image.specs.Vocabulary.{two, tables_on, head_bytes, settings_bytes}
+use Rattle.machine_image.proofs.Vocabulary.{[], ◌<◌, ◌≤◌, ◌++◌, All, length, subst, sym, ap, ◌∙◌, arith, flat_map, pins_of, most_ticks}
+use Rattle.machine_image.proofs.Vocabulary.{high_limits, Configuration, two, tables_on, head_bytes, settings_bytes}
 use Rattle.machine_image.proofs.Written.{both_put, image_written, few_pins_in, small_inputs, small_outputs}
 use Rattle.machine_image.proofs.write.write_image.Goals as goal
 

@@ -1,5 +1,4 @@
-use Rattle.machine_meaning.proofs.JoinedLemmas.{Joined-sym}
-use Rattle.machine_meaning.proofs.Values.{IsValue-unique, IsValue-along}
+use Rattle.machine_meaning.proofs.{JoinedLemmas.Joined-sym, Values.IsValue-unique, Values.IsValue-along}
 use Rattle.machine_meaning.proofs.joining.values_are_unique.Goals as goal
 
 pub returns : goal.returns

@@ -1,6 +1,5 @@
 use Rattle.std.proofs.Common.{arith}
-use Rattle.machine_shape.proofs.Meeting.{meeting, met_at}
-use Rattle.machine_shape.proofs.Totals.{crosses_are}
+use Rattle.machine_shape.proofs.{Meeting.meeting, Meeting.met_at, Totals.crosses_are}
 use Rattle.machine_shape.proofs.Shape.cross.Goals as goal
 
 pub returns-then-place-bar-clause-none : goal.returns-then-place-bar-clause-none

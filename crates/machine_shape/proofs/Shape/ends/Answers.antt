@@ -1,5 +1,4 @@
-use Rattle.std.proofs.Common.{◌<◌, ◌+◌, ◌%◌, ◌∙◌, sym, ap, subst}
-use Rattle.machine_shape.specs.Shape.{wires_of, ends_of}
+use Rattle.machine_shape.proofs.Vocabulary.{◌<◌, ◌+◌, ◌%◌, ◌∙◌, sym, ap, subst, wires_of, ends_of}
 use Rattle.machine_shape.proofs.Meeting.{ends_found}
 use Rattle.machine_shape.proofs.Shape.ends.Goals as goal
 

@@ -1,7 +1,5 @@
-use Rattle.std.proofs.Common.{sym, ap, ◌∙◌, subst}
-use Rattle.machine_shape.specs.Vocabulary.{levels_of, IsSpot, start, crosses_in}
-use Rattle.machine_shape.proofs.InRows.{first_cross_is}
-use Rattle.machine_shape.proofs.Numbering.{way_is}
+use Rattle.machine_shape.proofs.Vocabulary.{sym, ap, ◌∙◌, subst, levels_of, IsSpot, start, crosses_in}
+use Rattle.machine_shape.proofs.{InRows.first_cross_is, Numbering.way_is}
 use Rattle.machine_shape.proofs.Shape.first_cross.Goals as goal
 
 pub first_cross-requires : goal.first_cross-requires

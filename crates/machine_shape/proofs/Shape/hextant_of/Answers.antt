@@ -1,5 +1,4 @@
-use Rattle.std.proofs.Common.{◌<◌, ◌∙◌, sym, ap, subst, take}
-use Rattle.machine_shape.specs.Vocabulary.{levels_of, node_at, nodes_of, IsSpot}
+use Rattle.machine_shape.proofs.Vocabulary.{◌<◌, ◌∙◌, sym, ap, subst, take, levels_of, node_at, nodes_of, IsSpot}
 use Rattle.machine_shape.proofs.Whereabouts.{hextant_leads}
 use Rattle.machine_shape.proofs.Shape.hextant_of.Goals as goal
 

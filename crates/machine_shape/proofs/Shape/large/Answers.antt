@@ -1,7 +1,5 @@
-use Rattle.std.proofs.Common.{refl, arith}
-use Rattle.machine_shape.specs.Counts.{levels_from}
-use Rattle.machine_shape.proofs.Full.{fewer_nodes}
-use Rattle.machine_shape.proofs.HighLimits.{counts_within}
+use Rattle.machine_shape.proofs.Vocabulary.{refl, arith, levels_from}
+use Rattle.machine_shape.proofs.{Full.fewer_nodes, HighLimits.counts_within}
 use Rattle.machine_shape.proofs.Shape.large.Goals as goal
 
 pub invariant_of-result : goal.invariant_of-result

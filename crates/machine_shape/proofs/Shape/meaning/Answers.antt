@@ -1,5 +1,4 @@
-use Rattle.std.proofs.Common.{◌∙◌, sym, ap, subst, arith}
-use Rattle.machine_shape.specs.Vocabulary.{levels_of, Means, meaning_of, IsSpot, rest, start, wires_in}
+use Rattle.machine_shape.proofs.Vocabulary.{◌∙◌, sym, ap, subst, arith, levels_of, Means, meaning_of, IsSpot, rest, start, wires_in}
 use Rattle.machine_shape.proofs.Whereabouts.{wire_placed}
 use Rattle.machine_shape.proofs.Shape.meaning.Goals as goal
 

@@ -1,8 +1,5 @@
-use Rattle.std.proofs.Common.{refl, arith}
-use Rattle.std.proofs.lemmas.Bool.{both_ways}
-use Rattle.machine_shape.specs.Counts.{levels_from}
-use Rattle.machine_shape.proofs.Full.{fewer_nodes}
-use Rattle.machine_shape.proofs.HighLimits.{small_from, small_within}
+use Rattle.machine_shape.proofs.Vocabulary.{refl, arith, both_ways, levels_from}
+use Rattle.machine_shape.proofs.{Full.fewer_nodes, HighLimits.small_from, HighLimits.small_within}
 use Rattle.machine_shape.proofs.Shape.new.Goals as goal
 
 pub invariant_of-result : goal.invariant_of-result

@@ -1,5 +1,4 @@
-use Rattle.std.proofs.Common.{◌<◌, ◌∙◌, sym, ap, subst, All}
-use Rattle.machine_shape.specs.Names.{way_name}
+use Rattle.machine_shape.proofs.Vocabulary.{◌<◌, ◌∙◌, sym, ap, subst, All, way_name}
 use Rattle.machine_shape.proofs.Naming.{node_steps, node_name-way}
 use Rattle.machine_shape.proofs.Shape.node_name.Goals as goal
 

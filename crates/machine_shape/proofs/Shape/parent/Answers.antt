@@ -1,7 +1,5 @@
-use Rattle.std.proofs.Common.{◌<◌, ◌∙◌, Some, sym, ap, subst, arith}
-use Rattle.machine_shape.specs.Vocabulary.{levels_of, node_at, nodes_of, parent_of, IsSpot, above}
-use Rattle.machine_shape.proofs.Parents.{parent_of-root}
-use Rattle.machine_shape.proofs.Whereabouts.{parent_leads}
+use Rattle.machine_shape.proofs.Vocabulary.{◌<◌, ◌∙◌, Some, sym, ap, subst, arith, levels_of, node_at, nodes_of, parent_of, IsSpot, above}
+use Rattle.machine_shape.proofs.{Parents.parent_of-root, Whereabouts.parent_leads}
 use Rattle.machine_shape.proofs.Shape.parent.Goals as goal
 
 pub node_number-requires : goal.node_number-requires

@@ -1,5 +1,4 @@
-use Rattle.std.proofs.Common.{refl, arith}
-use Rattle.machine_shape.specs.Shape.{pin_wire}
+use Rattle.machine_shape.proofs.Vocabulary.{refl, arith, pin_wire}
 use Rattle.machine_shape.proofs.Totals.{pins_are}
 use Rattle.machine_shape.proofs.Shape.pin.Goals as goal
 

@@ -1,7 +1,5 @@
-use Rattle.std.proofs.Common.{◌∙◌, refl, sym, ap, subst, arith}
-use Rattle.machine_shape.specs.Vocabulary.{levels_of, way_to_table, IsSpot, start, wires_in}
-use Rattle.machine_shape.proofs.Numbering.{table_way_is, wire_below, table_pin_is}
-use Rattle.machine_shape.proofs.Meanings.{table_wire-way}
+use Rattle.machine_shape.proofs.Vocabulary.{◌∙◌, refl, sym, ap, subst, arith, levels_of, way_to_table, IsSpot, start, wires_in}
+use Rattle.machine_shape.proofs.{Numbering.table_way_is, Numbering.wire_below, Numbering.table_pin_is, Meanings.table_wire-way}
 use Rattle.machine_shape.proofs.Totals.{wires_are}
 use Rattle.machine_shape.proofs.Shape.pin_of.Goals as goal
 

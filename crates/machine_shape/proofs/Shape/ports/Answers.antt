@@ -1,5 +1,4 @@
-use Rattle.std.proofs.Common.{sym, ◌∙◌, ap}
-use Rattle.machine_shape.specs.Shape.{own_ports_of}
+use Rattle.machine_shape.proofs.Vocabulary.{sym, ◌∙◌, ap, own_ports_of}
 use Rattle.machine_shape.proofs.Totals.{root_ports, other_ports}
 use Rattle.machine_shape.proofs.Shape.ports.Goals as goal
 

@@ -1,8 +1,6 @@
-use Rattle.std.proofs.Common.{◌≡◌, ◌<◌, ◌+◌, ◌∙◌, length, sym, ap, subst, arith}
-use Rattle.machine_shape.specs.declared.Level.{Level}
+use Rattle.machine_shape.proofs.Vocabulary.{◌≡◌, ◌<◌, ◌+◌, ◌∙◌, length, sym, ap, subst, arith, Level}
 use Rattle.machine_shape.specs.Vocabulary.{path_of, levels_of, tables_of, start, tables_in, table_name, IsRead, IsReadable}
-use Rattle.machine_shape.proofs.Totals.{tables_are}
-use Rattle.machine_shape.proofs.Called.{letters}
+use Rattle.machine_shape.proofs.{Totals.tables_are, Called.letters}
 use Rattle.machine_shape.proofs.CalledTables.{children_at, table_readable, table_read, table_named}
 use Rattle.machine_shape.proofs.Shape.table_of.Goals as goal
 

@@ -1,5 +1,4 @@
-use Rattle.std.proofs.Common.{◌<◌, ◌∙◌, sym, subst}
-use Rattle.machine_shape.specs.Shape.{wires_of}
+use Rattle.machine_shape.proofs.Vocabulary.{◌<◌, ◌∙◌, sym, subst, wires_of}
 use Rattle.machine_shape.proofs.Crossings.{tap_below}
 use Rattle.machine_shape.proofs.Shape.tap.Goals as goal
 

@@ -1,8 +1,5 @@
-use Rattle.std.proofs.Common.{◌<◌, ◌∙◌, length, drop, sym, ap, subst, arith, All}
-use Rattle.machine_shape.specs.Vocabulary.{levels_of, IsSpot}
-use Rattle.machine_shape.proofs.Barred.{rest-drop}
-use Rattle.machine_shape.proofs.Naming.{wire_steps, wire_named}
-use Rattle.machine_shape.proofs.Whereabouts.{wire_placed}
+use Rattle.machine_shape.proofs.Vocabulary.{◌<◌, ◌∙◌, length, drop, sym, ap, subst, arith, All, levels_of, IsSpot}
+use Rattle.machine_shape.proofs.{Barred.rest-drop, Naming.wire_steps, Naming.wire_named, Whereabouts.wire_placed}
 use Rattle.machine_shape.proofs.Shape.wire_name.Goals as goal
 
 pub name_of_way-name-requires-clause-short : goal.name_of_way-name-requires-clause-short

@@ -1,9 +1,7 @@
-use Rattle.std.proofs.Common.{length, drop, sym, ap, ◌∙◌, arith}
+use Rattle.machine_shape.proofs.Vocabulary.{length, drop, sym, ap, ◌∙◌, arith, levels_of, Levels, next, size, wires_in}
 use Rattle.machine_shape.specs.declared.way.Kind.TheVariants.{Wires}
-use Rattle.machine_shape.specs.Vocabulary.{levels_of, Levels, next, size, wires_in}
 use Rattle.machine_shape.proofs.Barred.{spot_short, bar_at, fits_bar, wires-size}
-use Rattle.machine_shape.proofs.Sites.{small_of}
-use Rattle.machine_shape.proofs.Weighing.{levels_fit, start_here, small_here, each_here}
+use Rattle.machine_shape.proofs.{Sites.small_of, Weighing.levels_fit, Weighing.start_here, Weighing.small_here, Weighing.each_here}
 use Rattle.machine_shape.proofs.bars.bar_of.Goals as goal
 
 pub weights_of-weights-requires : goal.weights_of-weights-requires

@@ -1,7 +1,5 @@
-use Rattle.std.proofs.Common.{◌∙◌, sym, subst}
-use Rattle.machine_shape.specs.Vocabulary.{IsBarAt, levels_of, IsSpot}
-use Rattle.machine_shape.proofs.Crossings.{cross_placed}
-use Rattle.machine_shape.proofs.Meeting.{cross_bar}
+use Rattle.machine_shape.proofs.Vocabulary.{◌∙◌, sym, subst, IsBarAt, levels_of, IsSpot}
+use Rattle.machine_shape.proofs.{Crossings.cross_placed, Meeting.cross_bar}
 use Rattle.machine_shape.proofs.ends.crossing_of.Goals as goal
 
 pub bar_of-requires : goal.bar_of-requires

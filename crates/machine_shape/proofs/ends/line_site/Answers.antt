@@ -1,8 +1,5 @@
-use Rattle.std.proofs.Common.{◌∙◌, sym, ap, subst}
-use Rattle.machine_shape.specs.Vocabulary.{IsBarAt, levels_of, IsSpot, start, crosses_in}
-use Rattle.machine_shape.proofs.Barred.{few_wires}
-use Rattle.machine_shape.proofs.Meeting.{positive_step}
-use Rattle.machine_shape.proofs.Whereabouts.{wire_placed}
+use Rattle.machine_shape.proofs.Vocabulary.{◌∙◌, sym, ap, subst, IsBarAt, levels_of, IsSpot, start, crosses_in}
+use Rattle.machine_shape.proofs.{Barred.few_wires, Meeting.positive_step, Whereabouts.wire_placed}
 use Rattle.machine_shape.proofs.ends.line_site.Goals as goal
 
 pub bar_of-requires : goal.bar_of-requires

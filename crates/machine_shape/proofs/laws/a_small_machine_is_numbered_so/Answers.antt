@@ -1,6 +1,5 @@
-use Rattle.std.proofs.Common.{◌≡◌, ◌≤◌, false, refl, sym, subst}
+use Rattle.machine_shape.proofs.Vocabulary.{◌≡◌, ◌≤◌, false, refl, sym, subst, Counts}
 use Rattle.machine_shape.specs.Vocabulary.{levels_from, IsFull, is_small, size, wires_in, nodes_in, crosses_in, tables_in, IsNumberedAsTiny, tiny, levels_of, wires_of, crosses_of, nodes_of, tables_of, pins_of, way_to, way_to_table, node_at, place_of, place_of_cross, ports_of, lines_of, taps_of, pin_wire, table_wire, port_at, line_at, tap_at, cross_at, node_of_cross, tap_position, line_position, ends_of, node_of, hextant_of, parent_of}
-use Rattle.machine_shape.specs.declared.Counts.{Counts}
 use Rattle.machine_shape.proofs.laws.a_small_machine_is_numbered_so.Goals as goal
 
 -- that the counts make a shape, and its numbers

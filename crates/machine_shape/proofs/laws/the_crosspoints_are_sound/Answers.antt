@@ -1,7 +1,6 @@
 use Rattle.machine_shape.proofs.Crossings as crossings
 use Rattle.machine_shape.proofs.Tapped as tapped
-use Rattle.machine_shape.specs.declared.Shape.{Shape}
-use Rattle.machine_shape.specs.Laws.{HasTaps, HasCrosses}
+use Rattle.machine_shape.proofs.Vocabulary.{Shape, HasTaps, HasCrosses}
 use Rattle.machine_shape.proofs.TapsAndLines.{has_meetings}
 use Rattle.machine_shape.proofs.laws.the_crosspoints_are_sound.Goals as goal
 

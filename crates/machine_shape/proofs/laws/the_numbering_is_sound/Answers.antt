@@ -1,5 +1,4 @@
-use Rattle.std.proofs.Common.{length, refl}
-use Rattle.machine_shape.specs.Shape.{way_to}
+use Rattle.machine_shape.proofs.Vocabulary.{length, refl, way_to}
 use Rattle.machine_shape.proofs.Numbering as wires
 use Rattle.machine_shape.proofs.Crossings as crossings
 use Rattle.machine_shape.proofs.Tapped as tapped

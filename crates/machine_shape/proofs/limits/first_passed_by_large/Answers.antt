@@ -1,5 +1,4 @@
-use Rattle.std.proofs.Common.{◌∙◌, sym, arith}
-use Rattle.std.proofs.lemmas.Bool.{both_ways}
+use Rattle.machine_shape.proofs.Vocabulary.{◌∙◌, sym, arith, both_ways}
 use Rattle.machine_shape.proofs.HighLimits.{small_is}
 use Rattle.machine_shape.proofs.limits.first_passed_by_large.Goals as goal
 

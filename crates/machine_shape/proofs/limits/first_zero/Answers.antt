@@ -1,8 +1,6 @@
-use Rattle.std.proofs.Common.{arith}
-use Rattle.machine_shape.specs.Counts.{IsFull}
-use Rattle.machine_shape.proofs.Full.{positive, full_from, no_zero}
+use Rattle.machine_shape.proofs.Vocabulary.{arith, IsFull}
+use Rattle.machine_shape.proofs.{Full.positive, Full.full_from, Full.no_zero, limits.first_zero.Goals.Else-counts-eq0-5}
 use Rattle.machine_shape.proofs.limits.first_zero.Goals as goal
-use Rattle.machine_shape.proofs.limits.first_zero.Goals.{Else-counts-eq0-5}
 
 full_here : (c : Else-counts-eq0-5) → IsFull c.args.counts
 full_here c = full_from c.args.counts (omega arith) (omega arith) (omega arith) (omega arith)

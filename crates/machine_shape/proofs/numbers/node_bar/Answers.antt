@@ -1,7 +1,5 @@
-use Rattle.std.proofs.Common.{sym, ◌∙◌, subst}
-use Rattle.machine_shape.specs.Vocabulary.{levels_of, IsBarAt, IsSpot}
-use Rattle.machine_shape.proofs.Numbering.{way_is}
-use Rattle.machine_shape.proofs.Barred.{bar_is}
+use Rattle.machine_shape.proofs.Vocabulary.{sym, ◌∙◌, subst, levels_of, IsBarAt, IsSpot}
+use Rattle.machine_shape.proofs.{Numbering.way_is, Barred.bar_is}
 use Rattle.machine_shape.proofs.numbers.node_bar.Goals as goal
 
 pub bar_of-requires : goal.bar_of-requires

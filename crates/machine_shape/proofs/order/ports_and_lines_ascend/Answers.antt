@@ -1,5 +1,4 @@
-use Rattle.std.proofs.Common.{◌≡◌, ℕ, zero, suc, ◌<◌, refl, arith}
-use Rattle.machine_shape.specs.declared.Shape.{Shape}
+use Rattle.machine_shape.proofs.Vocabulary.{◌≡◌, ℕ, zero, suc, ◌<◌, refl, arith, Shape}
 use Rattle.machine_shape.specs.Shape.{nodes_of, lines_of, own_ports_of, line_at, port_at, IsLine, IsPort}
 use Rattle.machine_shape.proofs.order.ports_and_lines_ascend.Goals as goal
 

@@ -1,7 +1,5 @@
-use Rattle.std.proofs.Common.{◌∙◌}
-use Rattle.machine_shape.specs.Vocabulary.{numbers_in, levels_of}
-use Rattle.machine_shape.proofs.Sites.{small_of}
-use Rattle.machine_shape.proofs.Weighing.{levels_fit, start_here, small_here}
+use Rattle.machine_shape.proofs.Vocabulary.{◌∙◌, numbers_in, levels_of}
+use Rattle.machine_shape.proofs.{Sites.small_of, Weighing.levels_fit, Weighing.start_here, Weighing.small_here}
 use Rattle.machine_shape.proofs.places.first_by.Goals as goal
 
 pub weights_of-requires : goal.weights_of-requires

@@ -1,5 +1,4 @@
-use Rattle.std.proofs.Common.{ap, ◌∙◌}
-use Rattle.machine_shape.specs.Vocabulary.{numbers_in, levels_of, Place}
+use Rattle.machine_shape.proofs.Vocabulary.{ap, ◌∙◌, numbers_in, levels_of, Place}
 use Rattle.machine_shape.proofs.Weighing.{levels_fit, steps_here, place_here}
 use Rattle.machine_shape.proofs.places.place_by.Goals as goal
 

@@ -1,8 +1,5 @@
-use Rattle.std.proofs.Common.{◌∙◌, refl, sym, ◌+◌, subst, arith}
-use Rattle.machine_shape.specs.declared.Level.{Level}
-use Rattle.machine_shape.specs.Vocabulary.{stop, path_of, IsRead, IsReadable}
-use Rattle.machine_shape.proofs.Running.{after_first}
-use Rattle.machine_shape.proofs.Dotted.{dot_found, dot_missing, not_both}
+use Rattle.machine_shape.proofs.Vocabulary.{◌∙◌, refl, sym, ◌+◌, subst, arith, Level, stop, path_of, IsRead, IsReadable}
+use Rattle.machine_shape.proofs.{Running.after_first, Dotted.dot_found, Dotted.dot_missing, Dotted.not_both}
 use Rattle.machine_shape.proofs.Readable.{ends_without_levels, ends_without_letters, step_of, read_step}
 use Rattle.machine_shape.proofs.reads.+read_steps.Goals as goal
 

@@ -1,5 +1,4 @@
-use Rattle.std.proofs.Common.{◌≡◌, ◌≢◌, ◌+◌, ◌<◌, ◌^◌, ◌∙◌, length, sym, ap, subst, arith}
-use Rattle.std.proofs.Math.Logic.{⊎_elim}
+use Rattle.machine_shape.proofs.Vocabulary.{◌≡◌, ◌≢◌, ◌+◌, ◌<◌, ◌^◌, ◌∙◌, length, sym, ap, subst, arith, ⊎_elim}
 use Rattle.machine_shape.specs.Vocabulary.{path_of, levels_of, wires_of, place_of, start, wires_in, part_name, wire_name, IsRead, IsReadable}
 use Rattle.machine_shape.proofs.Totals.{wires_are}
 use Rattle.machine_shape.proofs.Called.{letters, readable, read_one, named_below, empty_of, below_is, small_own}

@@ -1,8 +1,5 @@
-use Rattle.std.proofs.Common.{◌<◌, ◌∙◌, sym, ap, subst, arith}
-use Rattle.machine_shape.specs.Vocabulary.{levels_of, wires_in, part_name}
-use Rattle.machine_shape.proofs.Running.{own_small}
-use Rattle.machine_shape.proofs.Totals.{wires_are}
-use Rattle.machine_shape.proofs.Called.{root_named, root_unnamed}
+use Rattle.machine_shape.proofs.Vocabulary.{◌<◌, ◌∙◌, sym, ap, subst, arith, levels_of, wires_in, part_name}
+use Rattle.machine_shape.proofs.{Running.own_small, Totals.wires_are, Called.root_named, Called.root_unnamed}
 use Rattle.machine_shape.proofs.reads.root_wire.Goals as goal
 
 pub read_part-requires-clause-small : goal.read_part-requires-clause-small

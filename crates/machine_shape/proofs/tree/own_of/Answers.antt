@@ -1,7 +1,5 @@
-use Rattle.std.proofs.Common.{◌<◌, ◌^◌, subst, arith}
-use Rattle.machine_shape.specs.Vocabulary.{numbers_in, crosses_in}
-use Rattle.machine_shape.proofs.Running.{taps_small}
-use Rattle.machine_shape.proofs.Weighing.{own_fits}
+use Rattle.machine_shape.proofs.Vocabulary.{◌<◌, ◌^◌, subst, arith, numbers_in, crosses_in}
+use Rattle.machine_shape.proofs.{Running.taps_small, Weighing.own_fits}
 use Rattle.machine_shape.proofs.tree.own_of.Goals as goal
 
 pub taps_from-requires : goal.taps_from-requires

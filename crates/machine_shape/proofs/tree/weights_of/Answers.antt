@@ -1,5 +1,4 @@
-use Rattle.std.proofs.Common.{sym, subst}
-use Rattle.machine_shape.specs.Weights.{Fits}
+use Rattle.machine_shape.proofs.Vocabulary.{sym, subst, Fits}
 use Rattle.machine_shape.proofs.Weighing.{fits_drop}
 use Rattle.machine_shape.proofs.tree.weights_of.Goals as goal
 

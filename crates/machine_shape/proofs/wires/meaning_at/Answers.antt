@@ -1,9 +1,7 @@
-use Rattle.std.proofs.Common.{◌≡◌, ◌<◌, ◌≤◌, [], ◌∷◌, length, drop, refl, sym, ap, ◌∙◌, subst, arith, slice_index_or}
-use Rattle.machine_shape.specs.declared.Level.{Level}
+use Rattle.machine_shape.proofs.Vocabulary.{◌≡◌, ◌<◌, ◌≤◌, [], ◌∷◌, length, drop, refl, sym, ap, ◌∙◌, subst, arith, slice_index_or, Level}
 use Rattle.machine_shape.specs.Walk.{Levels, ports_in, nodes_in}
 use Rattle.machine_shape.proofs.Barred.{rest-drop, spot_short}
-use Rattle.machine_shape.proofs.Called.{empty_of}
-use Rattle.machine_shape.proofs.Meanings.{as_table, as_line, as_pin, as_port}
+use Rattle.machine_shape.proofs.{Called.empty_of, Meanings.as_table, Meanings.as_line, Meanings.as_pin, Meanings.as_port}
 use Rattle.machine_shape.proofs.wires.meaning_at.Goals as goal
 
 head_ports : (xs : Levels) (d : Level) → 1 ≤ length xs → (slice_index_or xs 0 d).ports ≡ ports_in xs

@@ -1,6 +1,4 @@
-use Rattle.std.proofs.Common.{◌≡◌, false, length}
-use Rattle.base_text.specs.Lines.{logical_lines}
-use Rattle.machine_text.specs.Readers.{state_of, IsReader}
+use Rattle.machine_text.proofs.Vocabulary.{◌≡◌, false, length, logical_lines, state_of, IsReader}
 use Rattle.machine_text.specs.Reading.{reading, start}
 use Rattle.machine_text.proofs.read.read_lines.Given as goal
 

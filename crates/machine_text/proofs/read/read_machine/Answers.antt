@@ -1,6 +1,5 @@
 use Rattle.std.proofs.Common.{arith}
-use Rattle.machine_text.proofs.GrammarLemmas.{found_is, only_is, none_is}
-use Rattle.machine_text.proofs.FaultLemmas.{refused_is}
+use Rattle.machine_text.proofs.{GrammarLemmas.found_is, GrammarLemmas.only_is, GrammarLemmas.none_is, FaultLemmas.refused_is}
 use Rattle.machine_text.proofs.read.read_machine.Goals as goal
 
 pub returns-in-Ok-clause-found : goal.returns-in-Ok-clause-found

@@ -1,6 +1,4 @@
-use Rattle.std.proofs.Common.{◌≡◌, ℕ, List, length, map, arith, Bor, ◌∙◌, sym}
-use Rattle.std.proofs.Math.ListN.{length-set}
-use Rattle.std.proofs.lemmas.List.{length-map}
+use Rattle.machine_text.proofs.Vocabulary.{◌≡◌, ℕ, List, length, map, arith, Bor, ◌∙◌, sym, length-set, length-map}
 use Rattle.machine_text.proofs.CountLemmas.{fault_at, sound_more, values_more, values_all, sound_all}
 use Rattle.machine_text.proofs.reader.read_counts.Goals as goal
 

@@ -1,5 +1,4 @@
-use Rattle.std.proofs.Common.{◌≡◌, ℕ, ◌<◌, true, [], length, map, take, get_or}
-use Rattle.std.specs.List.{list_all}
+use Rattle.machine_text.proofs.Vocabulary.{◌≡◌, ℕ, ◌<◌, true, [], length, map, take, get_or, list_all}
 use Rattle.machine_text.specs.Reading.{value_of, is_count}
 use Rattle.machine_text.proofs.reader.read_counts.Given as goal
 

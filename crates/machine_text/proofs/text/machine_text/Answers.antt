@@ -1,16 +1,10 @@
 use Rattle.std.proofs.Common.{arith, ◌++◌, ◌<◌, ◌≤◌, ◌≡◌, All, List, ℕ, length, subst, sym, ap, ◌∙◌}
-use Rattle.machine_shape.specs.declared.Counts.{Counts}
+use Rattle.machine_text.proofs.Vocabulary.{Counts, large_within, written, most_bytes, heads, Said}
 use Rattle.machine_shape.specs.Limits.{MakeShape}
 use Rattle.machine_shape.proofs.Full.{no_zero}
-use Rattle.machine_shape.proofs.HighLimits.{large_within}
-use Rattle.base_text.specs.Vocabulary.{written}
-use Rattle.base_text.specs.Size.{most_bytes}
-use Rattle.machine_text.specs.Heads.{heads}
-use Rattle.machine_text.specs.declared.said.Said.{Said}
 use Rattle.machine_text.specs.Machine.{IsMachine, count_rows, form_of, numbers_of, said_in, text_of}
-use Rattle.machine_text.proofs.GrammarLemmas.{shape_written}
+use Rattle.machine_text.proofs.{GrammarLemmas.shape_written, text.machine_text.Goals.In_ok-put_lines}
 use Rattle.machine_text.proofs.text.machine_text.Goals as goal
-use Rattle.machine_text.proofs.text.machine_text.Goals.{In_ok-put_lines}
 
 same_counts : (c : In_ok-put_lines) → c.counts.result ≡ c.args.shape.now.counts
 same_counts c = c.counts.ensures

@@ -1,9 +1,6 @@
 use Rattle.std.proofs.Common.{◌<◌, ◌∙◌, ap, ◌++◌, sym, append_assoc, take, take_all, map, get_or, subst, ◌≡◌}
-use Rattle.std.specs.List.{All}
-use Rattle.base_text.specs.Written.{written, written_line}
+use Rattle.machine_text.proofs.Vocabulary.{All, written, written_line, heads, count_row, numbers_of}
 use Rattle.machine_text.specs.declared.head.Head.TheVariants.{Teramac}
-use Rattle.machine_text.specs.Heads.{heads}
-use Rattle.machine_text.specs.Machine.{count_row, numbers_of}
 use Rattle.machine_text.proofs.GrammarLemmas.{written_more, all_more}
 use Rattle.machine_text.proofs.text.put_lines.Goals as goal
 

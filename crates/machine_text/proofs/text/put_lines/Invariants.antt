@@ -1,8 +1,4 @@
-use Rattle.std.proofs.Common.{◌≡◌, ◌++◌, ◌<◌, map, take}
-use Rattle.std.specs.List.{All}
-use Rattle.base_text.specs.Written.{written}
-use Rattle.machine_text.specs.Heads.{heads}
-use Rattle.machine_text.specs.Machine.{count_row, numbers_of}
+use Rattle.machine_text.proofs.Vocabulary.{◌≡◌, ◌++◌, ◌<◌, map, take, All, written, heads, count_row, numbers_of}
 use Rattle.machine_text.proofs.text.put_lines.Given as goal
 
 abbrev pub invariant-heads : goal.invariant-heads

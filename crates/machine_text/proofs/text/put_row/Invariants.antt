@@ -1,6 +1,4 @@
-use Rattle.std.proofs.Common.{◌≡◌, ◌++◌, ◌∷◌, map, take}
-use Rattle.std.specs.List.{flat_map}
-use Rattle.std.specs.Fmt.{decimal}
+use Rattle.machine_text.proofs.Vocabulary.{◌≡◌, ◌++◌, ◌∷◌, map, take, flat_map, decimal}
 use Rattle.machine_text.proofs.text.put_row.Given as goal
 
 abbrev pub invariant-numbers : goal.invariant-numbers

@@ -1,5 +1,4 @@
-use Rattle.std.proofs.Common.{◌≡◌, ◌<◌, ◌≤◌, ℕ, length}
-use Rattle.map_eval.specs.States.{value_in}
+use Rattle.map_eval.proofs.Vocabulary.{◌≡◌, ◌<◌, ◌≤◌, ℕ, length, value_in}
 use Rattle.map_eval.proofs.busy.load_values.Given as goal
 
 abbrev pub invariant-tables : goal.invariant-tables

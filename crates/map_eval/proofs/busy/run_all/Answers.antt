@@ -1,6 +1,4 @@
-use Rattle.std.proofs.Common.{◌∙◌, List, Bool, ap}
-use Rattle.map_network.specs.Rows.{outputs_in}
-use Rattle.map_eval.specs.States.{value_in}
+use Rattle.map_eval.proofs.Vocabulary.{◌∙◌, List, Bool, ap, outputs_in, value_in}
 use Rattle.map_eval.proofs.BusyLemmas.{busy_cycle}
 use Rattle.map_eval.proofs.busy.run_all.Goals as goal
 

@@ -1,6 +1,4 @@
-use Rattle.std.proofs.Common.{◌∙◌, sym, ap, length, arith}
-use Rattle.map_network.specs.declared.network.NetTable.{NetTable}
-use Rattle.map_network.specs.Networks.{IsCombinational}
+use Rattle.map_eval.proofs.Vocabulary.{◌∙◌, sym, ap, length, arith, NetTable, IsCombinational}
 use Rattle.map_eval.proofs.BusyLemmas.{gives_truth_of, table_read, true_more}
 use Rattle.map_eval.proofs.busy.settle_bit.Goals as goal
 

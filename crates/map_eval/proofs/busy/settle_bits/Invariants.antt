@@ -1,5 +1,4 @@
-use Rattle.std.proofs.Common.{◌≡◌, List, Bool, length}
-use Rattle.map_eval.specs.Wires.{AreLatchedSame, AreTrueTo, HaveInputs}
+use Rattle.map_eval.proofs.Vocabulary.{◌≡◌, List, Bool, length, AreLatchedSame, AreTrueTo, HaveInputs}
 use Rattle.map_eval.proofs.busy.settle_bits.Given as goal
 
 abbrev pub invariant-tables : goal.invariant-tables

@@ -1,6 +1,4 @@
-use Rattle.std.proofs.Common.{◌∙◌, List, Bool, sym, ap, length, subst}
-use Rattle.map_eval.specs.States.{value_in}
-use Rattle.map_eval.specs.Wires.{one_of, HaveInputs, AreTrueTo}
+use Rattle.map_eval.proofs.Vocabulary.{◌∙◌, List, Bool, sym, ap, length, subst, value_in, one_of, HaveInputs, AreTrueTo}
 use Rattle.map_eval.proofs.StateLemmas.{whole_items}
 use Rattle.map_eval.proofs.busy.settle_busy.Goals as goal
 

@@ -1,7 +1,5 @@
-use Rattle.std.proofs.Common.{◌∙◌, List, Bool, refl, sym, ap, length, arith}
-use Rattle.map_eval.specs.States.{value_in}
-use Rattle.map_eval.proofs.BusyLemmas.{shaped_by}
-use Rattle.map_eval.proofs.StateLemmas.{whole_items}
+use Rattle.map_eval.proofs.Vocabulary.{◌∙◌, List, Bool, refl, sym, ap, length, arith, value_in}
+use Rattle.map_eval.proofs.{BusyLemmas.shaped_by, StateLemmas.whole_items}
 use Rattle.map_eval.proofs.busy.store.Goals as goal
 
 pub returns-clause-shaped : goal.returns-clause-shaped

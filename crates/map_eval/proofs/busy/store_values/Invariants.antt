@@ -1,5 +1,4 @@
-use Rattle.std.proofs.Common.{◌≡◌, length}
-use Rattle.map_eval.specs.Wires.{AreTablesIn}
+use Rattle.map_eval.proofs.Vocabulary.{◌≡◌, length, AreTablesIn}
 use Rattle.map_eval.proofs.busy.store_values.Given as goal
 
 abbrev pub invariant-tables : goal.invariant-tables

@@ -1,5 +1,4 @@
-use Rattle.std.proofs.Common.{◌∙◌, ap, length, arith}
-use Rattle.map_network.specs.declared.network.NetTable.{NetTable}
+use Rattle.map_eval.proofs.Vocabulary.{◌∙◌, ap, length, arith, NetTable}
 use Rattle.map_eval.proofs.BusyLemmas.{gives_truth_of, table_read, taken_one_more}
 use Rattle.map_eval.proofs.busy.take_bit.Goals as goal
 

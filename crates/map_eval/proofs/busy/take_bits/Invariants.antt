@@ -1,5 +1,4 @@
-use Rattle.std.proofs.Common.{◌≡◌, List, Bool, length}
-use Rattle.map_eval.specs.Wires.{HaveInputs, HaveTakenTo}
+use Rattle.map_eval.proofs.Vocabulary.{◌≡◌, List, Bool, length, HaveInputs, HaveTakenTo}
 use Rattle.map_eval.proofs.busy.take_bits.Given as goal
 
 abbrev pub invariant-tables : goal.invariant-tables

@@ -1,7 +1,5 @@
-use Rattle.std.proofs.Common.{◌∙◌, List, Bool, refl, sym, ap, length, subst}
-use Rattle.map_eval.specs.Wires.{HaveInputs, HaveTakenTo}
-use Rattle.map_eval.proofs.BusyLemmas.{shaped_by}
-use Rattle.map_eval.proofs.StateLemmas.{whole_items}
+use Rattle.map_eval.proofs.Vocabulary.{◌∙◌, List, Bool, refl, sym, ap, length, subst, HaveInputs, HaveTakenTo}
+use Rattle.map_eval.proofs.{BusyLemmas.shaped_by, StateLemmas.whole_items}
 use Rattle.map_eval.proofs.busy.take_busy.Goals as goal
 
 pub returns-clause-shaped : goal.returns-clause-shaped

@@ -1,5 +1,4 @@
-use Rattle.std.proofs.Common.{◌-◌, ◌∙◌, arith, bit_and}
-use Rattle.std.proofs.lemmas.List.{length-set, get_or_default}
+use Rattle.map_eval.proofs.Vocabulary.{◌-◌, ◌∙◌, arith, bit_and, length-set, get_or_default}
 use Rattle.map_eval.proofs.LatchLemmas.{due_more, due_of}
 use Rattle.map_eval.proofs.latching.find_due.Goals as goal
 

@@ -1,5 +1,4 @@
-use Rattle.std.proofs.Common.{◌≡◌, length}
-use Rattle.map_eval.specs.Latching.{AreDue}
+use Rattle.map_eval.proofs.Vocabulary.{◌≡◌, length, AreDue}
 use Rattle.map_eval.proofs.latching.find_due.Given as goal
 
 abbrev pub invariant-words : goal.invariant-words

@@ -1,5 +1,4 @@
-use Rattle.std.proofs.Common.{subst, arith}
-use Rattle.map_eval.specs.Latching.{AreDue}
+use Rattle.map_eval.proofs.Vocabulary.{subst, arith, AreDue}
 use Rattle.map_eval.proofs.LatchLemmas.{taken_more, taken_all}
 use Rattle.map_eval.proofs.latching.take.Goals as goal
 

@@ -1,10 +1,5 @@
 use Rattle.std.proofs.Common.{◌≡◌, ◌∙◌, ◌<◌, ℕ, List, length, get_or, sym, ap, subst, arith}
-use Rattle.std.proofs.lemmas.List.{get_or_default}
-use Rattle.map_network.specs.declared.source.Source.{Source}
-use Rattle.map_network.specs.declared.source.Source.TheVariants.{Input}
-use Rattle.map_network.specs.declared.network.NetTable.{NetTable}
-use Rattle.map_network.specs.Networks.{no_table, table_at}
-use Rattle.map_eval.specs.Pins.{signal_of}
+use Rattle.map_eval.proofs.Vocabulary.{get_or_default, Source, Input, NetTable, no_table, table_at, signal_of}
 use Rattle.map_eval.proofs.PinLemmas.{pins_added, pin_bit}
 use Rattle.map_eval.proofs.pins.add_pins.Goals as goal
 

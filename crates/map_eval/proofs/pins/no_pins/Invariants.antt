@@ -1,5 +1,4 @@
-use Rattle.std.proofs.Common.{◌≡◌, ℕ, [], length}
-use Rattle.map_eval.specs.Pins.{pins_at}
+use Rattle.map_eval.proofs.Vocabulary.{◌≡◌, ℕ, [], length, pins_at}
 use Rattle.map_eval.proofs.pins.no_pins.Given as goal
 
 abbrev pub invariant-signals : goal.invariant-signals

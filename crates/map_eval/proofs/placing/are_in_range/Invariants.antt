@@ -1,5 +1,4 @@
-use Rattle.std.proofs.Common.{◌<◌, ℕ}
-use Rattle.map_eval.specs.Placing.{AreInsInRange}
+use Rattle.map_eval.proofs.Vocabulary.{◌<◌, ℕ, AreInsInRange}
 use Rattle.map_eval.proofs.placing.are_in_range.Given as goal
 
 abbrev pub invariant-tables : goal.invariant-tables

@@ -1,6 +1,4 @@
-use Rattle.std.proofs.Common.{◌<◌, ℕ}
-use Rattle.map_network.specs.Networks.{IsSourceOf}
-use Rattle.map_eval.specs.Pins.{source_at}
+use Rattle.map_eval.proofs.Vocabulary.{◌<◌, ℕ, IsSourceOf, source_at}
 use Rattle.map_eval.proofs.placing.are_ins_in_range.Given as goal
 
 abbrev pub invariant-ins : goal.invariant-ins

@@ -1,6 +1,4 @@
-use Rattle.std.proofs.Common.{◌<◌, ℕ}
-use Rattle.map_eval.specs.Pins.{source_at}
-use Rattle.map_eval.specs.States.{IsLower}
+use Rattle.map_eval.proofs.Vocabulary.{◌<◌, ℕ, source_at, IsLower}
 use Rattle.map_eval.proofs.placing.are_ins_lower.Given as goal
 
 abbrev pub invariant-ins : goal.invariant-ins

@@ -1,5 +1,4 @@
-use Rattle.std.proofs.Common.{◌≡◌, ◌<◌, ℕ, length}
-use Rattle.map_network.specs.Compacting.{named_by}
+use Rattle.map_eval.proofs.Vocabulary.{◌≡◌, ◌<◌, ℕ, length, named_by}
 use Rattle.map_eval.proofs.placing.are_inverse.Given as goal
 
 abbrev pub invariant-tables : goal.invariant-tables

@@ -1,6 +1,4 @@
-use Rattle.std.proofs.Common.{◌≡◌, ◌<◌, ℕ, false}
-use Rattle.map_network.specs.Joining.{in_tables}
-use Rattle.map_eval.specs.Placing.{AreInsLower}
+use Rattle.map_eval.proofs.Vocabulary.{◌≡◌, ◌<◌, ℕ, false, in_tables, AreInsLower}
 use Rattle.map_eval.proofs.placing.is_ordered.Given as goal
 
 abbrev pub invariant-tables : goal.invariant-tables

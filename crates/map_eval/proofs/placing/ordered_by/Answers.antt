@@ -1,6 +1,4 @@
-use Rattle.std.proofs.Common.{Option, IfSome, subst}
-use Rattle.map_network.specs.declared.network.Network.{Network}
-use Rattle.map_eval.specs.Placing.{IsPlaced}
+use Rattle.map_eval.proofs.Vocabulary.{Option, IfSome, subst, Network, IsPlaced}
 use Rattle.map_eval.proofs.RunLemmas.{stands_in}
 use Rattle.map_eval.proofs.placing.ordered_by.Goals as goal
 

@@ -1,11 +1,6 @@
 use Rattle.std.proofs.Common.{◌≡◌, ◌∙◌, ◌+◌, ◌||◌, ◌==◌, length, get_or, sym, ap, subst, arith}
-use Rattle.std.proofs.lemmas.List.{get_or_default}
-use Rattle.map_network.specs.declared.network.NetTable.{NetTable}
-use Rattle.map_network.specs.Networks.{no_table}
-use Rattle.map_eval.specs.Marks.{is_marked}
-use Rattle.map_eval.specs.States.{AreGates}
-use Rattle.map_eval.proofs.StateLemmas.{whole_items}
-use Rattle.map_eval.proofs.SettleLemmas.{gates_more}
+use Rattle.map_eval.proofs.Vocabulary.{get_or_default, NetTable, no_table, is_marked, AreGates}
+use Rattle.map_eval.proofs.{StateLemmas.whole_items, SettleLemmas.gates_more}
 use Rattle.map_eval.proofs.plan.gates_of.Goals as goal
 
 pub tables-preserved : goal.tables-preserved

@@ -1,6 +1,4 @@
-use Rattle.std.proofs.Common.{ap, ◌∙◌, sym, arith}
-use Rattle.map_network.specs.Vocabulary.{flip, cell_at}
-use Rattle.map_network.proofs.CellLemmas.{cell_not}
+use Rattle.map_eval.proofs.Vocabulary.{ap, ◌∙◌, sym, arith, flip, cell_at, cell_not}
 use Rattle.map_eval.proofs.refreshing.mask_of.Goals as goal
 
 pub returns-then-value : goal.returns-then-value

@@ -1,6 +1,4 @@
-use Rattle.std.proofs.Common.{◌∙◌, List, ℕ, sym, ap, length, subst, arith}
-use Rattle.map_eval.specs.Marks.{is_marked, differs}
-use Rattle.map_eval.specs.Turns.{AreLow}
+use Rattle.map_eval.proofs.Vocabulary.{◌∙◌, List, ℕ, sym, ap, length, subst, arith, is_marked, differs, AreLow}
 use Rattle.map_eval.proofs.StateLemmas.{whole_items}
 use Rattle.map_eval.proofs.refreshing.refresh_marks.Goals as goal
 

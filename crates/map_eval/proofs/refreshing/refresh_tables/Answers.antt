@@ -1,8 +1,5 @@
-use Rattle.std.proofs.Common.{◌∙◌, List, Bool, sym, ap, length, subst}
-use Rattle.map_network.specs.declared.network.NetTable.{NetTable}
-use Rattle.map_eval.specs.Starting.{HaveMasksTo, HaveAddressesTo}
-use Rattle.map_eval.proofs.StartLemmas.{set_pins, set_masks}
-use Rattle.map_eval.proofs.StateLemmas.{whole_items}
+use Rattle.map_eval.proofs.Vocabulary.{◌∙◌, List, Bool, sym, ap, length, subst, NetTable, HaveMasksTo, HaveAddressesTo}
+use Rattle.map_eval.proofs.{StartLemmas.set_pins, StartLemmas.set_masks, StateLemmas.whole_items}
 use Rattle.map_eval.proofs.refreshing.refresh_tables.Goals as goal
 
 pub returns-clause-sized : goal.returns-clause-sized

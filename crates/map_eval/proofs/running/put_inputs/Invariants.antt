@@ -1,5 +1,4 @@
-use Rattle.std.proofs.Common.{◌≡◌, ◌<◌, ℕ, false, get_or}
-use Rattle.map_eval.specs.States.{IsKept}
+use Rattle.map_eval.proofs.Vocabulary.{◌≡◌, ◌<◌, ℕ, false, get_or, IsKept}
 use Rattle.map_eval.proofs.running.put_inputs.Given as goal
 
 abbrev pub invariant-inputs : goal.invariant-inputs

@@ -1,8 +1,5 @@
-use Rattle.std.proofs.Common.{◌∙◌, ◌∷◌, List, Bool, ap, length, subst}
-use Rattle.map_network.specs.Rows.{RowsFrom}
-use Rattle.map_eval.specs.States.{value_in}
-use Rattle.map_eval.proofs.BusyLemmas.{kept_shaped}
-use Rattle.map_eval.proofs.StateLemmas.{whole_items}
+use Rattle.map_eval.proofs.Vocabulary.{◌∙◌, ◌∷◌, List, Bool, ap, length, subst, RowsFrom, value_in}
+use Rattle.map_eval.proofs.{BusyLemmas.kept_shaped, StateLemmas.whole_items}
 use Rattle.map_eval.proofs.running.run_changes.Goals as goal
 
 pub returns-clause-run : goal.returns-clause-run

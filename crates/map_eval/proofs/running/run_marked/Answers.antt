@@ -1,5 +1,4 @@
-use Rattle.std.proofs.Common.{◌∙◌, ap}
-use Rattle.map_eval.specs.States.{value_in}
+use Rattle.map_eval.proofs.Vocabulary.{◌∙◌, ap, value_in}
 use Rattle.map_eval.proofs.RunLemmas.{one_cycle}
 use Rattle.map_eval.proofs.running.run_marked.Goals as goal
 

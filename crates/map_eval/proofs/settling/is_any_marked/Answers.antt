@@ -1,6 +1,5 @@
 use Rattle.std.proofs.Common.{◌∙◌, ap, arith}
-use Rattle.map_eval.proofs.RunLemmas.{clear_all}
-use Rattle.map_eval.proofs.SettleLemmas.{clear_more, zero_of}
+use Rattle.map_eval.proofs.{RunLemmas.clear_all, SettleLemmas.clear_more, SettleLemmas.zero_of}
 use Rattle.map_eval.proofs.settling.is_any_marked.Goals as goal
 
 pub words-preserved : goal.words-preserved

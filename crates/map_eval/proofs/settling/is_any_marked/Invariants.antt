@@ -1,5 +1,4 @@
-use Rattle.std.proofs.Common.{◌≡◌, ◌<◌, ℕ, bit_and}
-use Rattle.map_eval.specs.Marks.{number_at}
+use Rattle.map_eval.proofs.Vocabulary.{◌≡◌, ◌<◌, ℕ, bit_and, number_at}
 use Rattle.map_eval.proofs.settling.is_any_marked.Given as goal
 
 abbrev pub invariant-words : goal.invariant-words

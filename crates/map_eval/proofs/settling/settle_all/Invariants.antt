@@ -1,8 +1,4 @@
-use Rattle.std.proofs.Common.{◌≡◌, ◌<◌, ℕ, false}
-use Rattle.map_network.specs.Networks.{IsCombinational}
-use Rattle.map_eval.specs.Changes.{differs_in}
-use Rattle.map_eval.specs.Settling.{AreGivenBefore}
-use Rattle.map_eval.specs.States.{IsKept}
+use Rattle.map_eval.proofs.Vocabulary.{◌≡◌, ◌<◌, ℕ, false, IsCombinational, differs_in, AreGivenBefore, IsKept}
 use Rattle.map_eval.proofs.settling.settle_all.Given as goal
 
 abbrev pub invariant-tables : goal.invariant-tables

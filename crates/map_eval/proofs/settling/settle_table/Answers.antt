@@ -1,7 +1,4 @@
-use Rattle.std.proofs.Common.{◌∙◌, length, get_or, sym, ap, arith}
-use Rattle.std.proofs.lemmas.List.{get_or_default}
-use Rattle.map_network.specs.declared.network.NetTable.{NetTable}
-use Rattle.map_network.specs.Networks.{no_table}
+use Rattle.map_eval.proofs.Vocabulary.{◌∙◌, length, get_or, sym, ap, arith, get_or_default, NetTable, no_table}
 use Rattle.map_eval.proofs.SettleLemmas.{evaluated_this, evaluated_lower}
 use Rattle.map_eval.proofs.settling.settle_table.Goals as goal
 

@@ -1,6 +1,5 @@
 use Rattle.std.proofs.Common.{arith}
-use Rattle.map_eval.proofs.RunLemmas.{before_then}
-use Rattle.map_eval.proofs.SettleLemmas.{gate_at, evaluated_before}
+use Rattle.map_eval.proofs.{RunLemmas.before_then, SettleLemmas.gate_at, SettleLemmas.evaluated_before}
 use Rattle.map_eval.proofs.settling.settle_word.Goals as goal
 
 pub overflow_mul-word : goal.overflow_mul-word

@@ -1,5 +1,4 @@
-use Rattle.map_eval.specs.Settling.{AreGivenBefore}
-use Rattle.map_eval.specs.States.{IsKept}
+use Rattle.map_eval.proofs.Vocabulary.{AreGivenBefore, IsKept}
 use Rattle.map_eval.proofs.settling.sweep.Given as goal
 
 abbrev pub invariant-words : goal.invariant-words

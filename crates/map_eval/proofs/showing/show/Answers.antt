@@ -1,6 +1,4 @@
-use Rattle.std.proofs.Common.{◌∙◌, ap, length, arith}
-use Rattle.map_network.specs.Rows.{bit_of}
-use Rattle.map_eval.specs.States.{value_in}
+use Rattle.map_eval.proofs.Vocabulary.{◌∙◌, ap, length, arith, bit_of, value_in}
 use Rattle.map_eval.proofs.StartLemmas.{show_all}
 use Rattle.map_eval.proofs.showing.show.Goals as goal
 

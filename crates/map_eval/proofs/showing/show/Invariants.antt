@@ -1,7 +1,4 @@
-use Rattle.std.proofs.Common.{◌≡◌, ◌<◌, ℕ, true, length, get_or}
-use Rattle.map_network.specs.declared.source.Source.TheVariants.{Input}
-use Rattle.map_network.specs.Rows.{bit_of}
-use Rattle.map_eval.specs.States.{value_in}
+use Rattle.map_eval.proofs.Vocabulary.{◌≡◌, ◌<◌, ℕ, true, length, get_or, Input, bit_of, value_in}
 use Rattle.map_eval.proofs.showing.show.Given as goal
 
 abbrev pub invariant-outputs : goal.invariant-outputs

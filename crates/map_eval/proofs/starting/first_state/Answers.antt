@@ -1,7 +1,4 @@
-use Rattle.std.proofs.Common.{◌≡◌, ◌∙◌, false, length, ap, arith}
-use Rattle.std.proofs.lemmas.List.{length-replicate, length-map}
-use Rattle.map_network.specs.declared.network.NetTable.{NetTable}
-use Rattle.map_eval.specs.Starting.{first_values}
+use Rattle.map_eval.proofs.Vocabulary.{◌≡◌, ◌∙◌, false, length, ap, arith, length-replicate, length-map, NetTable, first_values}
 use Rattle.map_eval.proofs.starting.first_state.Goals as goal
 
 pub refresh-requires-clause-shaped : goal.refresh-requires-clause-shaped

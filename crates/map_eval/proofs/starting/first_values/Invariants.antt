@@ -1,5 +1,4 @@
-use Rattle.std.proofs.Common.{◌≡◌, take}
-use Rattle.map_eval.specs.Starting.{first_values}
+use Rattle.map_eval.proofs.Vocabulary.{◌≡◌, take, first_values}
 use Rattle.map_eval.proofs.starting.first_values.Given as goal
 
 abbrev pub invariant-tables : goal.invariant-tables

@@ -1,5 +1,4 @@
-use Rattle.std.proofs.Common.{◌∙◌, arith}
-use Rattle.std.proofs.lemmas.List.{get_or_default}
+use Rattle.map_eval.proofs.Vocabulary.{◌∙◌, arith, get_or_default}
 use Rattle.map_eval.proofs.StateLemmas.{evaluated_by}
 use Rattle.map_eval.proofs.state.evaluate.Goals as goal
 

@@ -1,6 +1,4 @@
-use Rattle.std.proofs.Common.{◌≡◌, ◌+◌, ◌∙◌, ℕ, [], length, refl, ap, arith, false}
-use Rattle.std.proofs.lemmas.List.{get_or_default}
-use Rattle.map_eval.specs.Pins.{pins_at}
+use Rattle.map_eval.proofs.Vocabulary.{◌≡◌, ◌+◌, ◌∙◌, ℕ, [], length, refl, ap, arith, false, get_or_default, pins_at}
 use Rattle.map_eval.proofs.StateLemmas.{pins_ready, pins_apart, whole_items, input_kept}
 use Rattle.map_eval.proofs.state.turn_input.Goals as goal
 

@@ -1,6 +1,4 @@
-use Rattle.std.proofs.Common.{◌≡◌, length}
-use Rattle.map_eval.specs.Turns.{AreTurned}
-use Rattle.map_eval.specs.Marks.{AreMarked}
+use Rattle.map_eval.proofs.Vocabulary.{◌≡◌, length, AreTurned, AreMarked}
 use Rattle.map_eval.proofs.state.turn_pins.Given as goal
 
 abbrev pub invariant-pins : goal.invariant-pins

@@ -1,9 +1,5 @@
 use Rattle.std.proofs.Common.{◌≡◌, ◌<◌, ◌∙◌, ℕ, [], length, refl, sym, ap, subst, arith, false, not}
-use Rattle.std.specs.Vec.{with_items}
-use Rattle.std.proofs.lemmas.List.{get_or_default}
-use Rattle.map_eval.specs.Marks.{number_at, is_marked, AreMarked}
-use Rattle.map_eval.specs.Pins.{pins_at}
-use Rattle.map_eval.specs.States.{value_in}
+use Rattle.map_eval.proofs.Vocabulary.{with_items, get_or_default, number_at, is_marked, AreMarked, pins_at, value_in}
 use Rattle.map_eval.proofs.StateLemmas.{pins_ready, pins_apart, whole_items, table_kept, table_turned_at}
 use Rattle.map_eval.proofs.state.turn_table.Goals as goal
 

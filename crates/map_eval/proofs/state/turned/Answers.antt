@@ -1,5 +1,4 @@
-use Rattle.std.proofs.Common.{◌<◌, ◌≡◌, ◌∙◌, ap, sym, subst, arith, bit_xor}
-use Rattle.map_network.specs.Rows.{cell_at}
+use Rattle.map_eval.proofs.Vocabulary.{◌<◌, ◌≡◌, ◌∙◌, ap, sym, subst, arith, bit_xor, cell_at}
 use Rattle.map_eval.proofs.WordLemmas.{xor_low, xor_this, xor_other}
 use Rattle.map_eval.proofs.state.turned.Goals as goal
 

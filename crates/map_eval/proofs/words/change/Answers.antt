@@ -1,7 +1,4 @@
-use Rattle.std.proofs.Common.{◌≡◌, ◌<◌, ◌==◌, ◌∙◌, ℕ, Bool, sym, ap, subst, bit_xor}
-use Rattle.std.specs.Int.{bit_at}
-use Rattle.std.proofs.lemmas.Nat.Bits.{bit_at-lt}
-use Rattle.map_network.specs.Vocabulary.{cell_at, flip}
+use Rattle.map_eval.proofs.Vocabulary.{◌≡◌, ◌<◌, ◌==◌, ◌∙◌, ℕ, Bool, sym, ap, subst, bit_xor, bit_at, bit_at-lt, cell_at, flip}
 use Rattle.map_eval.proofs.WordLemmas.{change_few, change_turns}
 use Rattle.map_eval.proofs.words.change.Goals as goal
 

@@ -1,5 +1,4 @@
-use Rattle.std.proofs.Common.{◌∙◌, arith}
-use Rattle.std.proofs.lemmas.List.{length-set}
+use Rattle.map_eval.proofs.Vocabulary.{◌∙◌, arith, length-set}
 use Rattle.map_eval.proofs.WordLemmas.{clear_next, clear_done}
 use Rattle.map_eval.proofs.words.clear.Goals as goal
 

@@ -1,5 +1,4 @@
-use Rattle.std.proofs.Common.{◌≡◌, ◌/◌, ◌<◌, ℕ, false, length}
-use Rattle.map_eval.specs.Marks.{is_marked}
+use Rattle.map_eval.proofs.Vocabulary.{◌≡◌, ◌/◌, ◌<◌, ℕ, false, length, is_marked}
 use Rattle.map_eval.proofs.words.clear.Given as goal
 
 abbrev pub invariant-words : goal.invariant-words

@@ -1,5 +1,4 @@
-use Rattle.std.proofs.Common.{ap, arith, w64, ◌==◌}
-use Rattle.std.proofs.lemmas.Nat.Bits.{bit_at-trailing_zeros}
+use Rattle.map_eval.proofs.Vocabulary.{ap, arith, w64, ◌==◌, bit_at-trailing_zeros}
 use Rattle.map_eval.proofs.words.lowest.Goals as goal
 
 pub returns : goal.returns

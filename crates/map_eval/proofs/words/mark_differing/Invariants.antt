@@ -1,5 +1,4 @@
-use Rattle.std.proofs.Common.{◌≡◌, length}
-use Rattle.map_eval.specs.Marks.{AreMarkedTo}
+use Rattle.map_eval.proofs.Vocabulary.{◌≡◌, length, AreMarkedTo}
 use Rattle.map_eval.proofs.words.mark_differing.Given as goal
 
 abbrev pub invariant-tables : goal.invariant-tables

@@ -1,5 +1,4 @@
-use Rattle.std.proofs.Common.{◌≡◌, ◌∙◌, ◌++◌, ℕ, map, ap, sym, subst, length, arith}
-use Rattle.design_netlist.specs.declared.netlist_data.PortDef.{PortDef}
+use Rattle.map_network.proofs.Vocabulary.{◌≡◌, ◌∙◌, ◌++◌, ℕ, map, ap, sym, subst, length, arith, PortDef}
 use Rattle.map_network.specs.Vocabulary.{covers_tables, latch_table, source_of, plain_network, source_in, AreCovers, AreLatches, ArePorts}
 use Rattle.map_network.proofs.DriveLemmas.{covers_are, few_inputs, outputs_are, latches_are}
 use Rattle.map_network.proofs.build.build.Goals as goal

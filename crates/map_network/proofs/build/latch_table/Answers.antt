@@ -1,6 +1,4 @@
-use Rattle.std.proofs.Common.{◌∷◌, [], ◌∙◌, ap, get_or, true}
-use Rattle.map_network.specs.declared.source.Source.TheVariants.{Input}
-use Rattle.map_network.specs.Plain.{latch_table}
+use Rattle.map_network.proofs.Vocabulary.{◌∷◌, [], ◌∙◌, ap, get_or, true, Input, latch_table}
 use Rattle.map_network.proofs.build.latch_table.Goals as goal
 
 pub returns : goal.returns

@@ -1,6 +1,4 @@
-use Rattle.std.proofs.Common.{◌≡◌, map, take}
-use Rattle.design_netlist.specs.declared.netlist_data.PortDef.{PortDef}
-use Rattle.map_network.specs.Drives.{source_in}
+use Rattle.map_network.proofs.Vocabulary.{◌≡◌, map, take, PortDef, source_in}
 use Rattle.map_network.proofs.build.outputs_of.Given as goal
 
 abbrev pub invariant-outputs : goal.invariant-outputs

@@ -1,7 +1,5 @@
-use Rattle.std.proofs.Common.{◌≡◌, ◌∙◌, ap, sym, subst}
-use Rattle.map_network.specs.Vocabulary.{IsNetwork, plain_network}
-use Rattle.map_network.proofs.NetworkLemmas.{network}
-use Rattle.map_network.proofs.RowLemmas.{has_rows}
+use Rattle.map_network.proofs.Vocabulary.{◌≡◌, ◌∙◌, ap, sym, subst, IsNetwork, plain_network}
+use Rattle.map_network.proofs.{NetworkLemmas.network, RowLemmas.has_rows}
 use Rattle.map_network.proofs.build.plain.Goals as goal
 
 pub returns-clause-network : goal.returns-clause-network

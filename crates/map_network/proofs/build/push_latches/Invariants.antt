@@ -1,5 +1,4 @@
-use Rattle.std.proofs.Common.{◌≡◌, ◌++◌, map, take}
-use Rattle.map_network.specs.Vocabulary.{latch_table, source_in}
+use Rattle.map_network.proofs.Vocabulary.{◌≡◌, ◌++◌, map, take, latch_table, source_in}
 use Rattle.map_network.proofs.build.push_latches.Given as goal
 
 abbrev pub invariant-latches : goal.invariant-latches

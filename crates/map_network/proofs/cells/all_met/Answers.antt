@@ -1,5 +1,4 @@
-use Rattle.std.proofs.Common.{◌&&◌, ap}
-use Rattle.map_network.specs.Plain.{every, met, six_bits}
+use Rattle.map_network.proofs.Vocabulary.{◌&&◌, ap, every, met, six_bits}
 use Rattle.map_network.proofs.CellLemmas.{all_more, all_ends, cell_ones}
 use Rattle.map_network.proofs.cells.all_met.Goals as goal
 

@@ -1,5 +1,4 @@
-use Rattle.std.proofs.Common.{◌≡◌, ◌<◌, ◌&&◌, ℕ, drop}
-use Rattle.map_network.specs.Vocabulary.{cell_at, every, met, six_bits}
+use Rattle.map_network.proofs.Vocabulary.{◌≡◌, ◌<◌, ◌&&◌, ℕ, drop, cell_at, every, met, six_bits}
 use Rattle.map_network.proofs.cells.all_met.Given as goal
 
 abbrev pub invariant-wants : goal.invariant-wants

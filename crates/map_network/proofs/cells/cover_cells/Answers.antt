@@ -1,6 +1,5 @@
-use Rattle.std.proofs.Common.{ap, ◌∙◌, arith}
+use Rattle.map_network.proofs.Vocabulary.{ap, ◌∙◌, arith, flip, pin_named, masks_at}
 use Rattle.design_netlist.specs.Covers.{truth, some_matches}
-use Rattle.map_network.specs.Vocabulary.{flip, pin_named, masks_at}
 use Rattle.map_network.proofs.CellLemmas.{cells_are}
 use Rattle.map_network.proofs.cells.cover_cells.Goals as goal
 

@@ -1,5 +1,4 @@
-use Rattle.std.proofs.Common.{ap, ◌∙◌, sym, arith}
-use Rattle.map_network.specs.Vocabulary.{flip, cell_at}
+use Rattle.map_network.proofs.Vocabulary.{ap, ◌∙◌, sym, arith, flip, cell_at}
 use Rattle.map_network.proofs.CellLemmas.{cell_not}
 use Rattle.map_network.proofs.cells.flipped.Goals as goal
 

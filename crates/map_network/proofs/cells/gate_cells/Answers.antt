@@ -1,5 +1,4 @@
-use Rattle.std.proofs.Common.{ap, ◌∙◌, sym, arith}
-use Rattle.map_network.specs.Plain.{flip, together, met, six_bits}
+use Rattle.map_network.proofs.Vocabulary.{ap, ◌∙◌, sym, arith, flip, together, met, six_bits}
 use Rattle.map_network.proofs.CellLemmas.{cells_are}
 use Rattle.map_network.proofs.cells.gate_cells.Goals as goal
 

@@ -1,6 +1,4 @@
-use Rattle.std.proofs.Common.{ap, ◌∙◌, sym, arith}
-use Rattle.design_netlist.specs.Covers.{fits}
-use Rattle.map_network.specs.Rows.{cell_at}
+use Rattle.map_network.proofs.Vocabulary.{ap, ◌∙◌, sym, arith, fits, cell_at}
 use Rattle.map_network.proofs.CellLemmas.{cell_not, cell_ones}
 use Rattle.map_network.proofs.cells.lit_mask.Goals as goal
 

@@ -1,5 +1,4 @@
-use Rattle.std.proofs.Common.{◌≡◌, ◌<◌, ℕ, take, map, length}
-use Rattle.map_network.specs.Vocabulary.{pin_named, six_bits, masks_at}
+use Rattle.map_network.proofs.Vocabulary.{◌≡◌, ◌<◌, ℕ, take, map, length, pin_named, six_bits, masks_at}
 use Rattle.map_network.proofs.cells.masks_of.Given as goal
 
 abbrev pub invariant-ins : goal.invariant-ins

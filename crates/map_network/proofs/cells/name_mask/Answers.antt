@@ -1,5 +1,4 @@
-use Rattle.std.proofs.Common.{◌∙◌, arith}
-use Rattle.map_network.specs.Plain.{six_bits}
+use Rattle.map_network.proofs.Vocabulary.{◌∙◌, arith, six_bits}
 use Rattle.map_network.proofs.CellLemmas.{name_skip, name_here, name_ends, cell_ones, length_six}
 use Rattle.map_network.proofs.cells.name_mask.Goals as goal
 

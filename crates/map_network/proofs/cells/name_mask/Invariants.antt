@@ -1,5 +1,4 @@
-use Rattle.std.proofs.Common.{◌≡◌, ◌<◌, ℕ, drop}
-use Rattle.map_network.specs.Plain.{pin_named, six_bits}
+use Rattle.map_network.proofs.Vocabulary.{◌≡◌, ◌<◌, ℕ, drop, pin_named, six_bits}
 use Rattle.map_network.proofs.cells.name_mask.Given as goal
 
 abbrev pub invariant-names : goal.invariant-names

@@ -1,6 +1,4 @@
-use Rattle.std.proofs.Common.{◌&&◌, ap}
-use Rattle.design_netlist.specs.Covers.{matches}
-use Rattle.map_network.specs.Cells.{masks_at}
+use Rattle.map_network.proofs.Vocabulary.{◌&&◌, ap, matches, masks_at}
 use Rattle.map_network.proofs.CellLemmas.{row_more, row_ends, cell_ones}
 use Rattle.map_network.proofs.cells.row_mask.Goals as goal
 

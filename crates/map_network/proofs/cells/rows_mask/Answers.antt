@@ -1,6 +1,4 @@
-use Rattle.std.proofs.Common.{ap, ◌∙◌}
-use Rattle.design_netlist.specs.Covers.{matches}
-use Rattle.map_network.specs.Cells.{masks_at}
+use Rattle.map_network.proofs.Vocabulary.{ap, ◌∙◌, matches, masks_at}
 use Rattle.map_network.proofs.CellLemmas.{rows_more, rows_end}
 use Rattle.map_network.proofs.cells.rows_mask.Goals as goal
 

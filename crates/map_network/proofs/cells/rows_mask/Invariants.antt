@@ -1,6 +1,4 @@
-use Rattle.std.proofs.Common.{◌≡◌, ◌<◌, ◌||◌, ℕ, drop}
-use Rattle.design_netlist.specs.Covers.{some_matches}
-use Rattle.map_network.specs.Vocabulary.{cell_at, masks_at}
+use Rattle.map_network.proofs.Vocabulary.{◌≡◌, ◌<◌, ◌||◌, ℕ, drop, some_matches, cell_at, masks_at}
 use Rattle.map_network.proofs.cells.rows_mask.Given as goal
 
 abbrev pub invariant-rows : goal.invariant-rows

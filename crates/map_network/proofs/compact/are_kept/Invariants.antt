@@ -1,6 +1,4 @@
-use Rattle.std.proofs.Common.{ℕ, ◌<◌, get_or}
-use Rattle.map_network.specs.declared.source.Source.TheVariants.{Input}
-use Rattle.map_network.specs.Compacting.{IsKept}
+use Rattle.map_network.proofs.Vocabulary.{ℕ, ◌<◌, get_or, Input, IsKept}
 use Rattle.map_network.proofs.compact.are_kept.Given as goal
 
 abbrev pub invariant-sources : goal.invariant-sources

@@ -1,5 +1,4 @@
-use Rattle.std.proofs.Common.{ℕ, ◌<◌, ◌≡◌, false}
-use Rattle.map_network.specs.Vocabulary.{in_tables, is_dropped, AreKept}
+use Rattle.map_network.proofs.Vocabulary.{ℕ, ◌<◌, ◌≡◌, false, in_tables, is_dropped, AreKept}
 use Rattle.map_network.proofs.compact.is_closed.Given as goal
 
 abbrev pub invariant-tables : goal.invariant-tables

@@ -1,7 +1,5 @@
-use Rattle.std.proofs.Common.{◌≡◌, ◌<◌, ◌+◌, ◌∙◌, ◌++◌, ◌∷◌, [], ap, sym, drop, length, subst, arith}
-use Rattle.std.proofs.lemmas.List.{get_or_default, append_assoc}
-use Rattle.map_network.specs.declared.network.NetTable.{NetTable}
-use Rattle.map_network.specs.Vocabulary.{no_table, AreSourcesIn, in_tables, kept_tables, named_by, renamed_table}
+use Rattle.map_network.proofs.Vocabulary.{◌≡◌, ◌<◌, ◌+◌, ◌∙◌, ◌++◌, ◌∷◌, [], ap, sym, drop, length, subst, arith, get_or_default}
+use Rattle.map_network.proofs.Vocabulary.{append_assoc, NetTable, no_table, AreSourcesIn, in_tables, kept_tables, named_by, renamed_table}
 use Rattle.map_network.proofs.CompactLemmas.{kept_skip, kept_more}
 use Rattle.map_network.proofs.compact.kept_tables.Goals as goal
 

@@ -1,5 +1,4 @@
-use Rattle.std.proofs.Common.{◌≡◌, ◌++◌, drop}
-use Rattle.map_network.specs.Compacting.{named_by, kept_tables}
+use Rattle.map_network.proofs.Vocabulary.{◌≡◌, ◌++◌, drop, named_by, kept_tables}
 use Rattle.map_network.proofs.compact.kept_tables.Given as goal
 
 abbrev pub invariant-tables : goal.invariant-tables

@@ -1,5 +1,4 @@
-use Rattle.std.proofs.Common.{◌+◌, ◌∙◌, ap, sym, get_or, false, arith}
-use Rattle.map_network.specs.Compacting.{rank}
+use Rattle.map_network.proofs.Vocabulary.{◌+◌, ◌∙◌, ap, sym, get_or, false, arith, rank}
 use Rattle.map_network.proofs.CompactLemmas.{ranks_none, ranks_more, rank_step, rank_zero, one_unless_le}
 use Rattle.map_network.proofs.compact.ranks_of.Goals as goal
 

@@ -1,5 +1,4 @@
-use Rattle.std.proofs.Common.{◌≡◌, ◌≤◌}
-use Rattle.map_network.specs.Compacting.{rank, AreRanks}
+use Rattle.map_network.proofs.Vocabulary.{◌≡◌, ◌≤◌, rank, AreRanks}
 use Rattle.map_network.proofs.compact.ranks_of.Given as goal
 
 abbrev pub invariant-tables : goal.invariant-tables

@@ -1,5 +1,4 @@
-use Rattle.std.proofs.Common.{◌≡◌, map, take}
-use Rattle.map_network.specs.Compacting.{named_by, renamed}
+use Rattle.map_network.proofs.Vocabulary.{◌≡◌, map, take, named_by, renamed}
 use Rattle.map_network.proofs.compact.renamed_outputs.Given as goal
 
 abbrev pub invariant-outputs : goal.invariant-outputs

@@ -1,7 +1,5 @@
-use Rattle.std.proofs.Common.{ℕ, ◌-◌, ◌&&◌, ◌||◌, Bool, ap, ◌∙◌, bit_and, not}
-use Rattle.map_network.specs.Rows.{cell_at}
-use Rattle.map_network.proofs.CellLemmas.{cell_and, cell_or, cell_not}
-use Rattle.map_network.proofs.ComposeLemmas.{choice_is}
+use Rattle.map_network.proofs.Vocabulary.{ℕ, ◌-◌, ◌&&◌, ◌||◌, Bool, ap, ◌∙◌, bit_and, not, cell_at}
+use Rattle.map_network.proofs.{CellLemmas.cell_and, CellLemmas.cell_or, CellLemmas.cell_not, ComposeLemmas.choice_is}
 use Rattle.map_network.proofs.composing.choose.Goals as goal
 
 pub returns : goal.returns

@@ -1,6 +1,5 @@
 use Rattle.std.proofs.Common.{◌≡◌, ◌+◌, ◌-◌, ◌/◌, ◌^◌, ◌<◌, ℕ, Bool, true, List, [], length, drop, slice_index, sym, ap, subst, ◌∙◌, arith}
-use Rattle.std.proofs.lemmas.List.{get_or-map, length-map, length-drop, drop_all}
-use Rattle.map_network.specs.Vocabulary.{cell_at, number_of, masks_at}
+use Rattle.map_network.proofs.Vocabulary.{get_or-map, length-map, length-drop, drop_all, cell_at, number_of, masks_at}
 use Rattle.map_network.proofs.CellLemmas.{number_fits}
 use Rattle.map_network.proofs.ComposeLemmas.{sizes_are, size_within, half_size, part_kept, with_ones}
 use Rattle.map_network.proofs.composing.compose_cells.Goals as goal

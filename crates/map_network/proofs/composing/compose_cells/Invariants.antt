@@ -1,5 +1,4 @@
-use Rattle.std.proofs.Common.{◌≡◌, ◌+◌, ◌-◌, ◌^◌, ◌<◌, ℕ, drop, length, slice_index}
-use Rattle.map_network.specs.Vocabulary.{cell_at, number_of, masks_at}
+use Rattle.map_network.proofs.Vocabulary.{◌≡◌, ◌+◌, ◌-◌, ◌^◌, ◌<◌, ℕ, drop, length, slice_index, cell_at, number_of, masks_at}
 use Rattle.map_network.proofs.composing.compose_cells.Given as goal
 
 abbrev pub invariant-pins : goal.invariant-pins

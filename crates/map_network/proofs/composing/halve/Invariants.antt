@@ -1,5 +1,4 @@
-use Rattle.std.proofs.Common.{◌≡◌, ◌+◌, ◌*◌, ◌<◌, ◌≤◌, ℕ, slice_index, if◌then◌else◌}
-use Rattle.map_network.specs.Rows.{cell_at}
+use Rattle.map_network.proofs.Vocabulary.{◌≡◌, ◌+◌, ◌*◌, ◌<◌, ◌≤◌, ℕ, slice_index, if◌then◌else◌, cell_at}
 use Rattle.map_network.proofs.composing.halve.Given as goal
 
 abbrev pub invariant-parts : goal.invariant-parts

@@ -1,5 +1,4 @@
-use Rattle.std.proofs.Common.{Bool, ap, ◌∙◌, map, arith}
-use Rattle.map_network.specs.Vocabulary.{cell_at, six_bits, number, address_by, bit_with, joined_truth}
+use Rattle.map_network.proofs.Vocabulary.{Bool, ap, ◌∙◌, map, arith, cell_at, six_bits, number, address_by, bit_with, joined_truth}
 use Rattle.map_network.proofs.CellLemmas.{cells_are, cell_ones}
 use Rattle.map_network.proofs.composing.joined_cells.Goals as goal
 

@@ -1,7 +1,4 @@
-use Rattle.std.proofs.Common.{◌<◌, ◌≤◌, ◌∙◌, sym, map, length, arith}
-use Rattle.std.proofs.lemmas.List.{get_or-map, length-map}
-use Rattle.map_network.specs.declared.source.Source.TheVariants.{Input}
-use Rattle.map_network.specs.Vocabulary.{six_bits, number}
+use Rattle.map_network.proofs.Vocabulary.{◌<◌, ◌≤◌, ◌∙◌, sym, map, length, arith, get_or-map, length-map, Input, six_bits, number}
 use Rattle.map_network.proofs.CellLemmas.{name_here, name_skip, name_ends, cell_ones, length_six}
 use Rattle.map_network.proofs.composing.pin_word.Goals as goal
 

@@ -1,5 +1,4 @@
-use Rattle.std.proofs.Common.{◌≡◌, ◌<◌, ℕ, drop, map}
-use Rattle.map_network.specs.Vocabulary.{pin_named, six_bits, number}
+use Rattle.map_network.proofs.Vocabulary.{◌≡◌, ◌<◌, ℕ, drop, map, pin_named, six_bits, number}
 use Rattle.map_network.proofs.composing.pin_word.Given as goal
 
 abbrev pub invariant-ins : goal.invariant-ins

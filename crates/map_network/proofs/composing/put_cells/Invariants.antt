@@ -1,5 +1,4 @@
-use Rattle.std.proofs.Common.{◌≡◌, ◌+◌, ◌<◌, ℕ, slice_index}
-use Rattle.map_network.specs.Rows.{cell_at}
+use Rattle.map_network.proofs.Vocabulary.{◌≡◌, ◌+◌, ◌<◌, ℕ, slice_index, cell_at}
 use Rattle.map_network.proofs.composing.put_cells.Given as goal
 
 abbrev pub invariant-cells : goal.invariant-cells

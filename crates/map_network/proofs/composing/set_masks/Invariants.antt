@@ -1,5 +1,4 @@
-use Rattle.std.proofs.Common.{◌≡◌, ◌<◌, ℕ, take, map}
-use Rattle.map_network.specs.Vocabulary.{cell_at, six_bits, masks_at, number, bit_with}
+use Rattle.map_network.proofs.Vocabulary.{◌≡◌, ◌<◌, ℕ, take, map, cell_at, six_bits, masks_at, number, bit_with}
 use Rattle.map_network.proofs.composing.set_masks.Given as goal
 
 abbrev pub invariant-read : goal.invariant-read

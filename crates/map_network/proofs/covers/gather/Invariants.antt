@@ -1,5 +1,4 @@
-use Rattle.std.proofs.Common.{◌≡◌, ◌++◌, drop}
-use Rattle.map_network.specs.Vocabulary.{row_wants, source_in}
+use Rattle.map_network.proofs.Vocabulary.{◌≡◌, ◌++◌, drop, row_wants, source_in}
 use Rattle.map_network.proofs.covers.gather.Given as goal
 
 abbrev pub invariant-places : goal.invariant-places

@@ -1,6 +1,5 @@
-use Rattle.std.proofs.Common.{◌≡◌, ◌<◌, ◌≤◌, ◌∙◌, ◌++◌, ap, sym, subst, length, arith}
+use Rattle.map_network.proofs.Vocabulary.{◌≡◌, ◌<◌, ◌≤◌, ◌∙◌, ◌++◌, ap, sym, subst, length, arith, distinct, source_in}
 use Rattle.std.specs.Option.{MatchOption}
-use Rattle.map_network.specs.Vocabulary.{distinct, source_in}
 use Rattle.map_network.proofs.TreeLemmas.{lt_true, lt_false}
 use Rattle.map_network.proofs.PlainLemmas.{narrow_tables, wide_are, wide_size}
 use Rattle.map_network.proofs.covers.push_cover.Goals as goal

@@ -1,9 +1,5 @@
-use Rattle.std.proofs.Common.{◌≡◌, ◌∙◌, sym, subst, length}
-use Rattle.std.proofs.lemmas.List.{get_or_default}
-use Rattle.design_netlist.specs.Covers.{no_cover, cover_at}
-use Rattle.map_network.specs.Drives.{source_in}
-use Rattle.map_network.proofs.PlainLemmas.{AreRowsOf}
-use Rattle.map_network.proofs.CoverLemmas.{cover_more, cover_room, covers_over}
+use Rattle.map_network.proofs.Vocabulary.{◌≡◌, ◌∙◌, sym, subst, length, get_or_default, no_cover, cover_at, source_in}
+use Rattle.map_network.proofs.{PlainLemmas.AreRowsOf, CoverLemmas.cover_more, CoverLemmas.cover_room, CoverLemmas.covers_over}
 use Rattle.map_network.proofs.covers.push_covers.Goals as goal
 
 pub covers-preserved : goal.covers-preserved

@@ -1,5 +1,4 @@
-use Rattle.std.proofs.Common.{◌≡◌, ◌++◌, drop, take, length, sum_by}
-use Rattle.map_network.specs.Vocabulary.{covers_tables, cover_size, source_in}
+use Rattle.map_network.proofs.Vocabulary.{◌≡◌, ◌++◌, drop, take, length, sum_by, covers_tables, cover_size, source_in}
 use Rattle.map_network.proofs.covers.push_covers.Given as goal
 
 abbrev pub invariant-covers : goal.invariant-covers

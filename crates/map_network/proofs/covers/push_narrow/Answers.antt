@@ -1,6 +1,4 @@
-use Rattle.std.proofs.Common.{◌<◌, sym, subst, length}
-use Rattle.std.proofs.lemmas.List.{get_or_default}
-use Rattle.map_network.specs.Bounds.{AreBelow}
+use Rattle.map_network.proofs.Vocabulary.{◌<◌, sym, subst, length, get_or_default, AreBelow}
 use Rattle.map_network.proofs.CoverLemmas.{distinct_all}
 use Rattle.map_network.proofs.covers.push_narrow.Goals as goal
 

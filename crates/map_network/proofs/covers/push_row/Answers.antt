@@ -1,7 +1,5 @@
-use Rattle.std.proofs.Common.{◌≡◌, ◌+◌, ◌∙◌, ap, length, false, arith}
-use Rattle.std.proofs.lemmas.List.{length-append}
+use Rattle.map_network.proofs.Vocabulary.{◌≡◌, ◌+◌, ◌∙◌, ap, length, false, arith, length-append, tree, tree_size}
 use Rattle.map_network.specs.declared.want.Gate.TheVariants.{All}
-use Rattle.map_network.specs.Vocabulary.{tree, tree_size}
 use Rattle.map_network.proofs.TreeLemmas.{length-tree, tree_size_some}
 use Rattle.map_network.proofs.covers.push_row.Goals as goal
 

@@ -1,9 +1,8 @@
 use Rattle.std.proofs.Common.{◌≡◌, ◌<◌, ◌≤◌, ◌+◌, ◌∙◌, ap, length, drop, arith, get_or}
 use Rattle.map_network.specs.Vocabulary.{row_wants, source_in, rows_size, tree_size}
 use Rattle.map_network.proofs.CoverLemmas.{row_tables, row_ends, row_room, rows_over, ends_over}
-use Rattle.map_network.proofs.PlainLemmas.{tree_length}
+use Rattle.map_network.proofs.{PlainLemmas.tree_length, covers.push_rows.Goals.In_ok-gather}
 use Rattle.map_network.proofs.covers.push_rows.Goals as goal
-use Rattle.map_network.proofs.covers.push_rows.Goals.{In_ok-gather}
 
 -- the row at hand, and what it wants
 module _ (c : In_ok-gather) where

@@ -1,5 +1,4 @@
-use Rattle.std.proofs.Common.{◌≡◌, ◌++◌, ◌+◌, drop, length}
-use Rattle.map_network.specs.Vocabulary.{rows_wants, trees, tree_ends, rows_size, source_in}
+use Rattle.map_network.proofs.Vocabulary.{◌≡◌, ◌++◌, ◌+◌, drop, length, rows_wants, trees, tree_ends, rows_size, source_in}
 use Rattle.map_network.proofs.covers.push_rows.Given as goal
 
 abbrev pub invariant-rows : goal.invariant-rows

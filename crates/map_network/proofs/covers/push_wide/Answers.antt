@@ -1,5 +1,4 @@
-use Rattle.std.proofs.Common.{◌≡◌, ◌+◌, ◌∙◌, ap, length, arith}
-use Rattle.std.proofs.lemmas.List.{length-append}
+use Rattle.map_network.proofs.Vocabulary.{◌≡◌, ◌+◌, ◌∙◌, ap, length, arith, length-append}
 use Rattle.map_network.specs.Vocabulary.{trees, rows_wants, tree_size, rows_size, source_in}
 use Rattle.map_network.proofs.PlainLemmas.{length-rows, length-ends}
 use Rattle.map_network.proofs.covers.push_wide.Goals as goal

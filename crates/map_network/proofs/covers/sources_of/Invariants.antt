@@ -1,5 +1,4 @@
-use Rattle.std.proofs.Common.{◌≡◌, map, take}
-use Rattle.map_network.specs.Drives.{source_in}
+use Rattle.map_network.proofs.Vocabulary.{◌≡◌, map, take, source_in}
 use Rattle.map_network.proofs.covers.sources_of.Given as goal
 
 abbrev pub invariant-names : goal.invariant-names

@@ -1,6 +1,4 @@
-use Rattle.std.proofs.Common.{◌≡◌, ◌∙◌, ℕ, ap, sym, subst, length, replicate, arith, sum_by}
-use Rattle.std.proofs.lemmas.List.{length-replicate}
-use Rattle.map_network.specs.declared.source.Source.TheVariants.{Input}
+use Rattle.map_network.proofs.Vocabulary.{◌≡◌, ◌∙◌, ℕ, ap, sym, subst, length, replicate, arith, sum_by, length-replicate, Input}
 use Rattle.map_network.specs.Vocabulary.{cover_size, written, input_drives, cover_drives, latch_drives, AreCovers, AreLatches, ArePorts}
 use Rattle.map_network.proofs.DriveLemmas.{length_inputs, length_covers, length_latches, all_written, covers_are, all_tables, few_inputs, inputs_are, latches_are}
 use Rattle.map_network.proofs.drives.origins_of.Goals as goal

@@ -1,6 +1,4 @@
-use Rattle.std.proofs.Common.{◌≡◌, ◌∙◌, sym, subst, arith}
-use Rattle.std.proofs.lemmas.List.{get_or_default}
-use Rattle.design_netlist.specs.Covers.{no_cover, cover_at}
+use Rattle.map_network.proofs.Vocabulary.{◌≡◌, ◌∙◌, sym, subst, arith, get_or_default, no_cover, cover_at}
 use Rattle.map_network.proofs.PlainLemmas.{AreRowsOf, size_some}
 use Rattle.map_network.proofs.drives.put_covers.Goals as goal
 

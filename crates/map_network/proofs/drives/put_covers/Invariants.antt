@@ -1,5 +1,4 @@
-use Rattle.std.proofs.Common.{◌≡◌, drop, take, length, sum_by}
-use Rattle.map_network.specs.Vocabulary.{cover_size, written, cover_drives}
+use Rattle.map_network.proofs.Vocabulary.{◌≡◌, drop, take, length, sum_by, cover_size, written, cover_drives}
 use Rattle.map_network.proofs.drives.put_covers.Given as goal
 
 abbrev pub invariant-covers : goal.invariant-covers

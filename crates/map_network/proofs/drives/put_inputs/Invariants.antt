@@ -1,5 +1,4 @@
-use Rattle.std.proofs.Common.{◌≡◌, drop, length}
-use Rattle.map_network.specs.Drives.{written, input_drives}
+use Rattle.map_network.proofs.Vocabulary.{◌≡◌, drop, length, written, input_drives}
 use Rattle.map_network.proofs.drives.put_inputs.Given as goal
 
 abbrev pub invariant-inputs : goal.invariant-inputs

@@ -1,5 +1,4 @@
-use Rattle.std.proofs.Common.{◌≡◌, ◌+◌, drop, length}
-use Rattle.map_network.specs.Drives.{written, latch_drives}
+use Rattle.map_network.proofs.Vocabulary.{◌≡◌, ◌+◌, drop, length, written, latch_drives}
 use Rattle.map_network.proofs.drives.put_latches.Given as goal
 
 abbrev pub invariant-latches : goal.invariant-latches

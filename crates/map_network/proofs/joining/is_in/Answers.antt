@@ -1,7 +1,4 @@
-use Rattle.std.proofs.Common.{◌<◌, ◌∙◌, sym, map, length, arith}
-use Rattle.std.proofs.lemmas.List.{get_or-map, length-map}
-use Rattle.map_network.specs.declared.source.Source.TheVariants.{Input}
-use Rattle.map_network.specs.Merging.{number}
+use Rattle.map_network.proofs.Vocabulary.{◌<◌, ◌∙◌, sym, map, length, arith, get_or-map, length-map, Input, number}
 use Rattle.map_network.proofs.NameLemmas.{among_here, among_skip}
 use Rattle.map_network.proofs.joining.is_in.Goals as goal
 

@@ -1,5 +1,4 @@
-use Rattle.std.proofs.Common.{◌≡◌, drop, map}
-use Rattle.map_network.specs.Vocabulary.{is_among, number}
+use Rattle.map_network.proofs.Vocabulary.{◌≡◌, drop, map, is_among, number}
 use Rattle.map_network.proofs.joining.is_in.Given as goal
 
 abbrev pub invariant-sources : goal.invariant-sources

@@ -1,12 +1,7 @@
 use Rattle.std.proofs.Common.{◌≡◌, ◌<◌, ◌∙◌, sym, ap, map, length, subst, arith, MatchOption}
-use Rattle.std.proofs.lemmas.Bool.{false≢true}
-use Rattle.std.proofs.lemmas.List.{get_or_default, length-map}
-use Rattle.std.specs.List.{Contains}
-use Rattle.map_network.specs.declared.source.Source.TheVariants.{Table}
-use Rattle.map_network.specs.declared.network.NetTable.{NetTable}
+use Rattle.map_network.proofs.Vocabulary.{false≢true, get_or_default, length-map, Contains, Table, NetTable}
 use Rattle.map_network.specs.Vocabulary.{no_table, distinct, is_among, number, numbers_without, in_tables, IsJoined, MayPut}
-use Rattle.map_network.proofs.AddressLemmas.{match_map}
-use Rattle.map_network.proofs.SourceLemmas.{among_of, of_among}
+use Rattle.map_network.proofs.{AddressLemmas.match_map, SourceLemmas.among_of, SourceLemmas.of_among}
 use Rattle.map_network.proofs.joining.joined_at.Goals as goal
 
 pub returns-then-not-is_in : goal.returns-then-not-is_in

@@ -1,8 +1,5 @@
 use Rattle.std.proofs.Common.{◌≡◌, ◌<◌, ◌+◌, ◌*◌, ◌++◌, ◌∷◌, [], ◌∙◌, ℕ, List, sym, ap, map, get_or, length, arith}
-use Rattle.std.proofs.lemmas.List.{get_or-map, length-map, length-append, length_push, map-append}
-use Rattle.map_network.specs.declared.source.Source.{Source}
-use Rattle.map_network.specs.declared.source.Source.TheVariants.{Input}
-use Rattle.map_network.specs.Vocabulary.{is_among, number}
+use Rattle.map_network.proofs.Vocabulary.{get_or-map, length-map, length-append, length_push, map-append, Source, Input, is_among, number}
 use Rattle.map_network.proofs.AddressLemmas.{table_skipped, name_kept, name_added, too_many_names}
 use Rattle.map_network.proofs.joining.together.Goals as goal
 

@@ -1,5 +1,4 @@
-use Rattle.std.proofs.Common.{◌≡◌, ◌≤◌, ◌+◌, ◌*◌, ◌++◌, take, map, length}
-use Rattle.map_network.specs.Vocabulary.{distinct, number}
+use Rattle.map_network.proofs.Vocabulary.{◌≡◌, ◌≤◌, ◌+◌, ◌*◌, ◌++◌, take, map, length, distinct, number}
 use Rattle.map_network.proofs.NameLemmas.{without}
 use Rattle.map_network.proofs.joining.together.Given as goal
 

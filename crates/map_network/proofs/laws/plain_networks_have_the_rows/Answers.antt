@@ -1,7 +1,5 @@
-use Rattle.std.proofs.Common.{refl}
-use Rattle.map_network.specs.Plain.{plain_network}
-use Rattle.map_network.proofs.NetworkLemmas.{network}
-use Rattle.map_network.proofs.RowLemmas.{has_rows}
+use Rattle.map_network.proofs.Vocabulary.{refl, plain_network}
+use Rattle.map_network.proofs.{NetworkLemmas.network, RowLemmas.has_rows}
 use Rattle.map_network.proofs.laws.plain_networks_have_the_rows.Goals as goal
 
 pub returns : goal.returns

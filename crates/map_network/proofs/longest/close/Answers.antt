@@ -1,5 +1,4 @@
-use Rattle.std.proofs.Common.{◌≡◌, ◌<◌, ◌+◌, ◌-◌, ◌∙◌, ap, take, length, subst, arith}
-use Rattle.map_network.specs.Vocabulary.{table_at, IsMost, source_level}
+use Rattle.map_network.proofs.Vocabulary.{◌≡◌, ◌<◌, ◌+◌, ◌-◌, ◌∙◌, ap, take, length, subst, arith, table_at, IsMost, source_level}
 use Rattle.map_network.proofs.SearchLemmas.{closed_to, level_fits, last_within}
 use Rattle.map_network.proofs.longest.close.Goals as goal
 

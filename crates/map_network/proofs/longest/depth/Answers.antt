@@ -1,5 +1,4 @@
-use Rattle.std.proofs.Common.{arith, ap, length, subst}
-use Rattle.map_network.specs.Levels.{IsMost, AreMarks, level_at}
+use Rattle.map_network.proofs.Vocabulary.{arith, ap, length, subst, IsMost, AreMarks, level_at}
 use Rattle.map_network.proofs.SearchLemmas.{no_path_yet, depth_is}
 use Rattle.map_network.proofs.longest.depth.Goals as goal
 

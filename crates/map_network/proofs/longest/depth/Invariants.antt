@@ -1,6 +1,5 @@
-use Rattle.std.proofs.Common.{ℕ, ◌≡◌, ◌<◌, []}
+use Rattle.map_network.proofs.Vocabulary.{ℕ, ◌≡◌, ◌<◌, [], IsSearching, mark_at}
 use Rattle.map_network.specs.declared.longest.Mark.TheVariants.{New}
-use Rattle.map_network.specs.Levels.{IsSearching, mark_at}
 use Rattle.map_network.proofs.longest.depth.Given as goal
 
 abbrev pub invariant-tables : goal.invariant-tables

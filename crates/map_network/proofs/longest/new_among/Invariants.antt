@@ -1,5 +1,4 @@
-use Rattle.std.proofs.Common.{ℕ, ◌≡◌, ◌<◌, None}
-use Rattle.map_network.specs.Levels.{new_table, source_at}
+use Rattle.map_network.proofs.Vocabulary.{ℕ, ◌≡◌, ◌<◌, None, new_table, source_at}
 use Rattle.map_network.proofs.longest.new_among.Given as goal
 
 abbrev pub invariant-ins : goal.invariant-ins

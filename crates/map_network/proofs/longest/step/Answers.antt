@@ -1,5 +1,4 @@
-use Rattle.std.proofs.Common.{None, subst, arith}
-use Rattle.map_network.specs.Vocabulary.{table_at, IsNewAmong}
+use Rattle.map_network.proofs.Vocabulary.{None, subst, arith, table_at, IsNewAmong}
 use Rattle.map_network.proofs.SearchLemmas.{all_done, last_within}
 use Rattle.map_network.proofs.longest.step.Goals as goal
 

@@ -1,6 +1,4 @@
-use Rattle.std.proofs.Common.{subst}
-use Rattle.map_network.specs.declared.network.Network.{Network}
-use Rattle.map_network.specs.Networks.{IsNoDeeper}
+use Rattle.map_network.proofs.Vocabulary.{subst, Network, IsNoDeeper}
 use Rattle.map_network.proofs.ReducedLemmas.{inputs_of, outputs_of}
 use Rattle.map_network.proofs.merge.merge_tables.Goals as goal
 

@@ -1,5 +1,4 @@
-use Rattle.std.proofs.Common.{length, MatchOption}
-use Rattle.map_network.specs.Vocabulary.{CanJoin, IsWhole, IsMergedOf}
+use Rattle.map_network.proofs.Vocabulary.{length, MatchOption, CanJoin, IsWhole, IsMergedOf}
 use Rattle.map_network.proofs.merge.merged_whole.Given as goal
 
 abbrev pub invariant-passes : goal.invariant-passes

@@ -1,5 +1,4 @@
-use Rattle.std.proofs.Common.{List, Bool, length, ap, ◌∙◌, subst}
-use Rattle.map_network.specs.Compacting.{IsCompacted}
+use Rattle.map_network.proofs.Vocabulary.{List, Bool, length, ap, ◌∙◌, subst, IsCompacted}
 use Rattle.map_network.proofs.ReducedLemmas.{found_network, found_marks, found_smaller}
 use Rattle.map_network.proofs.merge.reduce_from.Goals as goal
 

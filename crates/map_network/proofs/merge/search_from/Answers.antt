@@ -1,5 +1,4 @@
-use Rattle.std.proofs.Common.{◌≡◌, List, Bool, true, length, ap, subst, arith}
-use Rattle.map_network.specs.Vocabulary.{is_dropped, IsClosed, Puts, none_gone}
+use Rattle.map_network.proofs.Vocabulary.{◌≡◌, List, Bool, true, length, ap, subst, arith, is_dropped, IsClosed, Puts, none_gone}
 use Rattle.map_network.proofs.PutLemmas.{same_tables}
 use Rattle.map_network.proofs.ReducedLemmas.{puts_from, puts_network, puts_within, puts_found}
 use Rattle.map_network.proofs.merge.search_from.Goals as goal

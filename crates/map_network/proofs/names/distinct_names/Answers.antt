@@ -1,6 +1,4 @@
-use Rattle.std.proofs.Common.{◌≡◌, ◌≤◌, ◌∙◌, ap, sym, get_or, length, arith}
-use Rattle.std.proofs.lemmas.List.{length_push}
-use Rattle.map_network.specs.Cells.{is_among}
+use Rattle.map_network.proofs.Vocabulary.{◌≡◌, ◌≤◌, ◌∙◌, ap, sym, get_or, length, arith, length_push, is_among}
 use Rattle.map_network.proofs.NameLemmas.{names_kept, names_more, too_many}
 use Rattle.map_network.proofs.names.distinct_names.Goals as goal
 

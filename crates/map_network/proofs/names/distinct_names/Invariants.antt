@@ -1,5 +1,4 @@
-use Rattle.std.proofs.Common.{◌≡◌, ◌≤◌, take, length}
-use Rattle.map_network.specs.Plain.{distinct}
+use Rattle.map_network.proofs.Vocabulary.{◌≡◌, ◌≤◌, take, length, distinct}
 use Rattle.map_network.proofs.names.distinct_names.Given as goal
 
 abbrev pub invariant-ins : goal.invariant-ins

@@ -1,5 +1,4 @@
-use Rattle.std.proofs.Common.{◌≡◌, drop}
-use Rattle.map_network.specs.Cells.{is_among}
+use Rattle.map_network.proofs.Vocabulary.{◌≡◌, drop, is_among}
 use Rattle.map_network.proofs.names.is_among.Given as goal
 
 abbrev pub invariant-names : goal.invariant-names

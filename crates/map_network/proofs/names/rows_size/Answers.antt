@@ -1,7 +1,5 @@
 use Rattle.std.proofs.Common.{◌≡◌, ◌+◌, ◌∙◌, ap, sym, get_or, arith}
-use Rattle.std.proofs.lemmas.List.Sums.{sum_by_more, sum_by-take-le}
-use Rattle.design_netlist.specs.Drafts.{row_characters}
-use Rattle.map_network.specs.Sizes.{tree_size, row_size, wants_in}
+use Rattle.map_network.proofs.Vocabulary.{sum_by_more, sum_by-take-le, row_characters, tree_size, row_size, wants_in}
 use Rattle.map_network.proofs.NameLemmas.{row_size_few, wants_few}
 use Rattle.map_network.proofs.names.rows_size.Goals as goal
 

@@ -1,6 +1,4 @@
-use Rattle.std.proofs.Common.{◌≡◌, ◌≤◌, take, sum_by}
-use Rattle.design_netlist.specs.Drafts.{row_characters}
-use Rattle.map_network.specs.Sizes.{rows_size}
+use Rattle.map_network.proofs.Vocabulary.{◌≡◌, ◌≤◌, take, sum_by, row_characters, rows_size}
 use Rattle.map_network.proofs.names.rows_size.Given as goal
 
 abbrev pub invariant-rows : goal.invariant-rows

@@ -1,5 +1,4 @@
-use Rattle.std.proofs.Common.{◌≡◌, ◌+◌, ◌∙◌, ap, sym, true, false, length, nat_lt}
-use Rattle.map_network.specs.Vocabulary.{distinct, is_narrow, rows_size, tree_size}
+use Rattle.map_network.proofs.Vocabulary.{◌≡◌, ◌+◌, ◌∙◌, ap, sym, true, false, length, nat_lt, distinct, is_narrow, rows_size, tree_size}
 use Rattle.map_network.proofs.PlainLemmas.{narrow_size, wide_size}
 use Rattle.map_network.proofs.names.size_of.Goals as goal
 

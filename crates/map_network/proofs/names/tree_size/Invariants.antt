@@ -1,5 +1,4 @@
-use Rattle.std.proofs.Common.{◌≡◌, ◌≤◌, ◌+◌}
-use Rattle.map_network.specs.Sizes.{tree_size}
+use Rattle.map_network.proofs.Vocabulary.{◌≡◌, ◌≤◌, ◌+◌, tree_size}
 use Rattle.map_network.proofs.names.tree_size.Given as goal
 
 abbrev pub invariant-levels : goal.invariant-levels

@@ -1,5 +1,4 @@
-use Rattle.std.proofs.Common.{◌≡◌, ◌≤◌, take}
-use Rattle.map_network.specs.Sizes.{wants_in}
+use Rattle.map_network.proofs.Vocabulary.{◌≡◌, ◌≤◌, take, wants_in}
 use Rattle.map_network.proofs.names.wants_in.Given as goal
 
 abbrev pub invariant-places : goal.invariant-places

@@ -1,10 +1,5 @@
-use Rattle.std.proofs.Common.{length, arith}
-use Rattle.std.proofs.lemmas.List.Sums.{sum_by-le-sum_by}
-use Rattle.design_netlist.specs.Drafts.{row_characters}
-use Rattle.map_network.specs.Sizes.{row_size}
-use Rattle.map_network.proofs.TreeLemmas.{tree_size_few}
-use Rattle.map_network.proofs.NameLemmas.{row_size_few}
-use Rattle.map_network.proofs.PlainLemmas.{rows_few}
+use Rattle.map_network.proofs.Vocabulary.{length, arith, sum_by-le-sum_by, row_characters, row_size}
+use Rattle.map_network.proofs.{TreeLemmas.tree_size_few, NameLemmas.row_size_few, PlainLemmas.rows_few}
 use Rattle.map_network.proofs.names.wide_size.Goals as goal
 
 pub tree_size-requires : goal.tree_size-requires

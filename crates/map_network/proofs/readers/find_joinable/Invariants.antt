@@ -1,5 +1,4 @@
-use Rattle.std.proofs.Common.{ℕ, ◌<◌}
-use Rattle.map_network.specs.Merging.{CanJoin}
+use Rattle.map_network.proofs.Vocabulary.{ℕ, ◌<◌, CanJoin}
 use Rattle.map_network.proofs.readers.find_joinable.Given as goal
 
 abbrev pub invariant-tables : goal.invariant-tables

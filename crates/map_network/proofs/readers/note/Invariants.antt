@@ -1,5 +1,4 @@
-use Rattle.std.proofs.Common.{◌≡◌, drop, length}
-use Rattle.map_network.specs.Joining.{noted}
+use Rattle.map_network.proofs.Vocabulary.{◌≡◌, drop, length, noted}
 use Rattle.map_network.proofs.readers.note.Given as goal
 
 abbrev pub invariant-ins : goal.invariant-ins

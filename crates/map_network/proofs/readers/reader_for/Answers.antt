@@ -1,5 +1,4 @@
-use Rattle.std.proofs.Common.{ℕ, ◌≡◌, ◌∙◌, ap, sym, length, subst, arith, MatchOption}
-use Rattle.map_network.specs.Vocabulary.{CanJoin, all_readers, readers_at, MayPut}
+use Rattle.map_network.proofs.Vocabulary.{ℕ, ◌≡◌, ◌∙◌, ap, sym, length, subst, arith, MatchOption, CanJoin, all_readers, readers_at, MayPut}
 use Rattle.map_network.proofs.ReaderLemmas.{joins, not_one, not_put, length_all}
 use Rattle.map_network.proofs.readers.reader_for.Goals as goal
 use Rattle.map_network.proofs.readers.reader_for.Goals.{in-Some, in-None}

@@ -1,6 +1,4 @@
-use Rattle.std.proofs.Common.{◌≤◌, ◌∙◌, ap, sym, length, subst, arith}
-use Rattle.std.proofs.lemmas.List.{get_or_default, drop_all}
-use Rattle.map_network.specs.declared.network.NetTable.{NetTable}
+use Rattle.map_network.proofs.Vocabulary.{◌≤◌, ◌∙◌, ap, sym, length, subst, arith, get_or_default, drop_all, NetTable}
 use Rattle.map_network.specs.Vocabulary.{no_table, AreSourcesIn, all_readers, noted, noted_tables}
 use Rattle.map_network.proofs.readers.readers_of.Goals as goal
 

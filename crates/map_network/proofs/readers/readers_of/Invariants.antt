@@ -1,5 +1,4 @@
-use Rattle.std.proofs.Common.{◌≡◌, drop, length, replicate}
-use Rattle.map_network.specs.Joining.{noted_tables, unread}
+use Rattle.map_network.proofs.Vocabulary.{◌≡◌, drop, length, replicate, noted_tables, unread}
 use Rattle.map_network.proofs.readers.readers_of.Given as goal
 
 abbrev pub invariant-tables : goal.invariant-tables

@@ -1,5 +1,4 @@
-use Rattle.std.proofs.Common.{◌≡◌, take, sum_by}
-use Rattle.map_network.specs.Plain.{cover_size}
+use Rattle.map_network.proofs.Vocabulary.{◌≡◌, take, sum_by, cover_size}
 use Rattle.map_network.proofs.size.covers_size.Given as goal
 
 abbrev pub invariant-covers : goal.invariant-covers

@@ -1,8 +1,5 @@
-use Rattle.std.proofs.Common.{◌≡◌, ◌∙◌, ◌+◌, sym, subst, ap, length, sum_by, arith}
-use Rattle.design_netlist.specs.declared.netlist_data.NetlistData.{NetlistData}
-use Rattle.map_network.specs.Vocabulary.{cover_size, AreCovers}
-use Rattle.map_network.proofs.DriveLemmas.{all_tables, covers_are}
-use Rattle.map_network.proofs.NetworkLemmas.{length_tables}
+use Rattle.map_network.proofs.Vocabulary.{◌≡◌, ◌∙◌, ◌+◌, sym, subst, ap, length, sum_by, arith, NetlistData, cover_size, AreCovers}
+use Rattle.map_network.proofs.{DriveLemmas.all_tables, DriveLemmas.covers_are, NetworkLemmas.length_tables}
 use Rattle.map_network.proofs.size.plain_size.Goals as goal
 
 pub covers_size-requires : goal.covers_size-requires

@@ -1,7 +1,4 @@
-use Rattle.std.proofs.Common.{subst}
-use Rattle.map_network.specs.declared.network.Network.{Network}
-use Rattle.map_network.specs.Networks.{IsNoDeeper}
-use Rattle.map_network.specs.Joining.{DoesSame}
+use Rattle.map_network.proofs.Vocabulary.{subst, Network, IsNoDeeper, DoesSame}
 use Rattle.map_network.proofs.spread.spread_of.Goals as goal
 
 pub returns-clause-shallow : goal.returns-clause-shallow

@@ -1,9 +1,5 @@
-use Rattle.std.proofs.Common.{◌∙◌}
-use Rattle.map_network.specs.Joining.{DoesSame}
-use Rattle.map_network.proofs.PutLemmas.{net}
-use Rattle.map_network.proofs.ReducedLemmas.{if_ok_map}
-use Rattle.map_network.proofs.CompactLemmas.{same_then}
-use Rattle.map_network.proofs.SpreadLemmas.{spread_changed}
+use Rattle.map_network.proofs.Vocabulary.{◌∙◌, DoesSame}
+use Rattle.map_network.proofs.{PutLemmas.net, ReducedLemmas.if_ok_map, CompactLemmas.same_then, SpreadLemmas.spread_changed}
 use Rattle.map_network.proofs.spread.spread_once.Goals as goal
 
 pub without-requires : goal.without-requires

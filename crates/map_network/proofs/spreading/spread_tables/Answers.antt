@@ -1,5 +1,4 @@
-use Rattle.std.proofs.Common.{◌∙◌, sym, subst, arith}
-use Rattle.map_network.specs.Spreading.{Spreads, begins}
+use Rattle.map_network.proofs.Vocabulary.{◌∙◌, sym, subst, arith, Spreads, begins}
 use Rattle.map_network.proofs.SpreadLemmas.{spreads_on, spreads_length}
 use Rattle.map_network.proofs.spreading.spread_tables.Goals as goal
 

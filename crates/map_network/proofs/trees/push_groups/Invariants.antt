@@ -1,5 +1,4 @@
-use Rattle.std.proofs.Common.{◌≡◌, ◌++◌, map, false}
-use Rattle.map_network.specs.Plain.{gate_table, groups}
+use Rattle.map_network.proofs.Vocabulary.{◌≡◌, ◌++◌, map, false, gate_table, groups}
 use Rattle.map_network.proofs.trees.push_groups.Given as goal
 
 abbrev pub invariant-groups : goal.invariant-groups

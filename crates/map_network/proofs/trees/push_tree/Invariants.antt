@@ -1,5 +1,4 @@
-use Rattle.std.proofs.Common.{◌≡◌, ◌<◌, ◌+◌, ◌++◌, length}
-use Rattle.map_network.specs.Vocabulary.{tree, tree_size}
+use Rattle.map_network.proofs.Vocabulary.{◌≡◌, ◌<◌, ◌+◌, ◌++◌, length, tree, tree_size}
 use Rattle.map_network.proofs.trees.push_tree.Given as goal
 
 abbrev pub invariant-levels : goal.invariant-levels

@@ -1,5 +1,4 @@
-use Rattle.std.proofs.Common.{◌≡◌, map, take}
-use Rattle.map_network.specs.declared.want.Want.{Want}
+use Rattle.map_network.proofs.Vocabulary.{◌≡◌, map, take, Want}
 use Rattle.map_network.proofs.trees.sources_of.Given as goal
 
 abbrev pub invariant-wants : goal.invariant-wants

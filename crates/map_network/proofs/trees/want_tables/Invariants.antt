@@ -1,5 +1,4 @@
-use Rattle.std.proofs.Common.{◌≡◌}
-use Rattle.map_network.specs.Plain.{wants_from}
+use Rattle.map_network.proofs.Vocabulary.{◌≡◌, wants_from}
 use Rattle.map_network.proofs.trees.want_tables.Given as goal
 
 abbrev pub invariant-tables : goal.invariant-tables

@@ -1,5 +1,4 @@
-use Rattle.std.proofs.Common.{◌++◌, ◌∷◌, [], List, ℕ, subst, arith}
-use Rattle.map_network.specs.Vocabulary.{IsFollowing}
+use Rattle.map_network.proofs.Vocabulary.{◌++◌, ◌∷◌, [], List, ℕ, subst, arith, IsFollowing}
 use Rattle.map_network.proofs.PruneLemmas.{follow_step, follow_end}
 use Rattle.map_network.proofs.useless.follow.Goals as goal
 

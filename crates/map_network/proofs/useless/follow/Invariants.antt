@@ -1,5 +1,4 @@
-use Rattle.std.proofs.Common.{◌+◌, vec_len}
-use Rattle.map_network.specs.Vocabulary.{IsFollowing, marked_in}
+use Rattle.map_network.proofs.Vocabulary.{◌+◌, vec_len, IsFollowing, marked_in}
 use Rattle.map_network.proofs.useless.follow.Given as goal
 
 abbrev pub invariant-tables : goal.invariant-tables

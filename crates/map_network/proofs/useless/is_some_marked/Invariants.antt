@@ -1,5 +1,4 @@
-use Rattle.std.proofs.Common.{◌≡◌, ◌<◌, ℕ, false}
-use Rattle.map_network.specs.Compacting.{is_dropped}
+use Rattle.map_network.proofs.Vocabulary.{◌≡◌, ◌<◌, ℕ, false, is_dropped}
 use Rattle.map_network.proofs.useless.is_some_marked.Given as goal
 
 abbrev pub invariant-marks : goal.invariant-marks

@@ -1,5 +1,4 @@
-use Rattle.std.proofs.Common.{List, Bool}
-use Rattle.map_network.specs.Vocabulary.{IsCompacted}
+use Rattle.map_network.proofs.Vocabulary.{List, Bool, IsCompacted}
 use Rattle.map_network.proofs.PruneLemmas.{pruned_some}
 use Rattle.map_network.proofs.useless.without_useless.Goals as goal
 

@@ -1,7 +1,6 @@
 use Rattle.std.proofs.Common.{◌≤◌, length, IsTrue, get_or}
 use Rattle.std.specs.List.{All}
-use Rattle.std.proofs.lemmas.List.{take_all}
-use Rattle.std.proofs.lemmas.List.Elements.{All-more}
+use Rattle.std.proofs.lemmas.List.{take_all, Elements.All-more}
 use Rattle.design_netlist.specs.declared.netlist_data.Cover.{Cover}
 use Rattle.map_network.specs.Plain.{is_narrow}
 use Rattle.map_text.proofs.NameLemmas.{few-narrow}

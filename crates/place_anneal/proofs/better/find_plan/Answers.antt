@@ -1,6 +1,4 @@
-use Rattle.std.proofs.Common.{◌≡◌, ◌≤◌, ◌∙◌, ℕ, List, ap, length, length-take, take, arith}
-use Rattle.std.proofs.lemmas.List.Sorted.{length_permutation}
-use Rattle.place_anneal.specs.declared.seats.Seat.{Seat}
+use Rattle.place_anneal.proofs.Vocabulary.{◌≡◌, ◌≤◌, ◌∙◌, ℕ, List, ap, length, length-take, take, arith, length_permutation, Seat}
 use Rattle.place_anneal.proofs.Seating.{found_is}
 use Rattle.place_anneal.proofs.better.find_plan.Goals as goal
 

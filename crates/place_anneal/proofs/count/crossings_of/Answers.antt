@@ -1,7 +1,4 @@
-use Rattle.std.proofs.Common.{◌∙◌, ℕ, List, length, ap, subst}
-use Rattle.std.specs.List.{sum_by}
-use Rattle.machine_shape.specs.Shape.{nodes_of}
-use Rattle.place_plan.specs.Vocabulary.{AreLists, CrossesAt, HasTerminal}
+use Rattle.place_anneal.proofs.Vocabulary.{◌∙◌, ℕ, List, length, ap, subst, sum_by, nodes_of, AreLists, CrossesAt, HasTerminal}
 use Rattle.place_anneal.proofs.Counted.{crossings_are}
 use Rattle.place_anneal.proofs.count.crossings_of.Goals as goal
 

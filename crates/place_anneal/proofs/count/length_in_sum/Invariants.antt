@@ -1,5 +1,4 @@
-use Rattle.std.proofs.Common.{◌≡◌, ◌≤◌, ◌*◌, length, take}
-use Rattle.std.specs.List.{sum_by}
+use Rattle.place_anneal.proofs.Vocabulary.{◌≡◌, ◌≤◌, ◌*◌, length, take, sum_by}
 use Rattle.place_anneal.proofs.count.length_in_sum.Given as goal
 
 abbrev pub invariant-loop-list : goal.invariant-loop-list

@@ -1,5 +1,4 @@
-use Rattle.std.proofs.Common.{◌∙◌, ap, get_or, refl, subst, sym, true}
-use Rattle.place_anneal.specs.Seats.{AreMarked, HasMark}
+use Rattle.place_anneal.proofs.Vocabulary.{◌∙◌, ap, get_or, refl, subst, sym, true, AreMarked, HasMark}
 use Rattle.place_anneal.proofs.Seating.{marked_more, others_more, unmarked}
 use Rattle.place_anneal.proofs.seats.add_other.Goals as goal
 

@@ -1,5 +1,4 @@
-use Rattle.std.proofs.Common.{◌≤◌, length, map}
-use Rattle.place_anneal.specs.Seats.{AreFreeTables, AreMarked, number_at}
+use Rattle.place_anneal.proofs.Vocabulary.{◌≤◌, length, map, AreFreeTables, AreMarked, number_at}
 use Rattle.place_anneal.proofs.seats.add_others.Given as goal
 
 abbrev pub invariant-loop-t : goal.invariant-loop-t

@@ -1,5 +1,4 @@
-use Rattle.std.proofs.Common.{take}
-use Rattle.place_anneal.specs.Seats.{AreMarked}
+use Rattle.place_anneal.proofs.Vocabulary.{take, AreMarked}
 use Rattle.place_anneal.proofs.seats.marks_of.Given as goal
 
 abbrev pub invariant-loop-seat : goal.invariant-loop-seat

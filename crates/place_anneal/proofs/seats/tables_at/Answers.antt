@@ -1,6 +1,4 @@
-use Rattle.std.proofs.Common.{refl}
-use Rattle.place_plan.specs.Plans.{number_of}
-use Rattle.place_anneal.specs.Seats.{number_at}
+use Rattle.place_anneal.proofs.Vocabulary.{refl, number_of, number_at}
 use Rattle.place_anneal.proofs.Seating.{mapped_more}
 use Rattle.place_anneal.proofs.seats.tables_at.Goals as goal
 

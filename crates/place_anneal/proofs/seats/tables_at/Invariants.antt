@@ -1,6 +1,4 @@
-use Rattle.std.proofs.Common.{◌≡◌, map, take}
-use Rattle.place_plan.specs.Plans.{number_of}
-use Rattle.place_anneal.specs.Seats.{number_at}
+use Rattle.place_anneal.proofs.Vocabulary.{◌≡◌, map, take, number_of, number_at}
 use Rattle.place_anneal.proofs.seats.tables_at.Given as goal
 
 abbrev pub invariant-loop-seat : goal.invariant-loop-seat

@@ -1,5 +1,4 @@
-use Rattle.place_plan.specs.Plans.{number_of}
-use Rattle.place_anneal.specs.Seats.{number_at}
+use Rattle.place_anneal.proofs.Vocabulary.{number_of, number_at}
 use Rattle.place_anneal.proofs.Seating.{mapped_more}
 use Rattle.place_anneal.proofs.seats.taken_seats.Goals as goal
 

@@ -1,5 +1,4 @@
-use Rattle.place_design.proofs.Fewer.{of_some}
-use Rattle.place_both.specs.Both.{IsImageForBoth}
+use Rattle.place_both.proofs.Vocabulary.{of_some, IsImageForBoth}
 use Rattle.place_both.proofs.BothLemmas.{have-room, plain-are, plain-choice}
 use Rattle.place_both.proofs.laying.image_of.Goals as goal
 

@@ -1,7 +1,5 @@
-use Rattle.std.proofs.Common.{IfOk, subst}
+use Rattle.place_both.proofs.Vocabulary.{IfOk, subst, Network, IsImproved}
 use Rattle.std.specs.Prelude.{IfSome}
-use Rattle.map_network.specs.declared.network.Network.{Network}
-use Rattle.place_design.specs.Smaller.{IsImproved}
 use Rattle.place_both.proofs.smaller.improved_for.Goals as goal
 
 pub returns : goal.returns

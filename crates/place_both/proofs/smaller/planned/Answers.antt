@@ -1,6 +1,4 @@
-use Rattle.place_pair.specs.JointNetworks.{joint_network}
-use Rattle.place_design.specs.Smaller.{IsImproved}
-use Rattle.place_design.proofs.Fewer.{of_some}
+use Rattle.place_both.proofs.Vocabulary.{joint_network, IsImproved, of_some}
 use Rattle.place_both.proofs.smaller.planned.Goals as goal
 
 pub improved_for-requires : goal.improved_for-requires

@@ -1,6 +1,5 @@
 use Rattle.std.proofs.Common.{inl}
-use Rattle.place_design.proofs.Fewer.{just-as-many}
-use Rattle.place_design.proofs.PlainWidths.{plain-inputs, plain-outputs}
+use Rattle.place_design.proofs.{Fewer.just-as-many, PlainWidths.plain-inputs, PlainWidths.plain-outputs}
 use Rattle.place_design.proofs.laying.drawn_in_order.Goals as goal
 
 pub drawn-requires-clause-inputs : goal.drawn-requires-clause-inputs

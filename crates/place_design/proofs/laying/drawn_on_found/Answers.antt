@@ -1,7 +1,5 @@
-use Rattle.std.proofs.Common.{inr}
-use Rattle.place_design.specs.Smaller.{IsImproved}
-use Rattle.place_design.proofs.Fewer.{just-as-many, of_some}
-use Rattle.place_design.proofs.PlainWidths.{plain-inputs, plain-outputs}
+use Rattle.place_design.proofs.Vocabulary.{inr, IsImproved}
+use Rattle.place_design.proofs.{Fewer.just-as-many, Fewer.of_some, PlainWidths.plain-inputs, PlainWidths.plain-outputs}
 use Rattle.place_design.proofs.laying.drawn_on_found.Goals as goal
 
 pub drawn-requires-clause-inputs : goal.drawn-requires-clause-inputs

@@ -1,5 +1,4 @@
-use Rattle.place_anneal.specs.Better.{IsBetterLaid}
-use Rattle.place_plan.specs.Vocabulary.{IsInOrder}
+use Rattle.place_design.proofs.Vocabulary.{IsBetterLaid, IsInOrder}
 use Rattle.place_design.proofs.Fewer.{no-more-from, of_some}
 use Rattle.place_design.proofs.smaller.found_plan.Goals as goal
 

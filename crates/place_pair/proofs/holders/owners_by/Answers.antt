@@ -1,10 +1,4 @@
-use Rattle.std.proofs.Common.{ℕ, ◌<◌, ◌^◌, List, length, sym, subst, IfOk}
-use Rattle.std.specs.List.{All}
-use Rattle.machine_shape.specs.declared.Shape.{Shape}
-use Rattle.machine_shape.specs.Shape.{wires_of}
-use Rattle.place_plan.specs.declared.short.Port.{Port}
-use Rattle.place_plan.specs.Choices.{AreWires}
-use Rattle.place_route.specs.Owners.{AreOwners}
+use Rattle.place_pair.proofs.Vocabulary.{ℕ, ◌<◌, ◌^◌, List, length, sym, subst, IfOk, All, Shape, wires_of, Port, AreWires, AreOwners}
 use Rattle.place_pair.proofs.holders.owners_by.Goals as goal
 
 pub owners_of-requires-clause-few : goal.owners_of-requires-clause-few

@@ -1,8 +1,5 @@
-use Rattle.std.proofs.Common.{◌++◌, length, map, refl, sym, ap, ◌∙◌, subst}
-use Rattle.map_network.specs.Networks.{IsNetwork}
-use Rattle.place_pair.specs.JointNetworks.{moved, moved_table}
-use Rattle.place_pair.proofs.Moving.{joint_is}
-use Rattle.place_pair.proofs.Sounding.{joint_sound}
+use Rattle.place_pair.proofs.Vocabulary.{◌++◌, length, map, refl, sym, ap, ◌∙◌, subst, IsNetwork, moved, moved_table}
+use Rattle.place_pair.proofs.{Moving.joint_is, Sounding.joint_sound}
 use Rattle.place_pair.proofs.joining.joint.Goals as goal
 
 pub returns-clause-joint : goal.returns-clause-joint

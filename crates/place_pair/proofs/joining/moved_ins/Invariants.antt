@@ -1,5 +1,4 @@
-use Rattle.std.proofs.Common.{◌≡◌, map, take}
-use Rattle.place_pair.specs.JointNetworks.{moved}
+use Rattle.place_pair.proofs.Vocabulary.{◌≡◌, map, take, moved}
 use Rattle.place_pair.proofs.joining.moved_ins.Given as goal
 
 abbrev pub invariant-ins : goal.invariant-ins

@@ -1,5 +1,4 @@
-use Rattle.std.proofs.Common.{◌≡◌, ◌++◌, map, take}
-use Rattle.place_pair.specs.JointNetworks.{moved}
+use Rattle.place_pair.proofs.Vocabulary.{◌≡◌, ◌++◌, map, take, moved}
 use Rattle.place_pair.proofs.joining.push_outputs.Given as goal
 
 abbrev pub invariant-outputs : goal.invariant-outputs

@@ -1,5 +1,4 @@
-use Rattle.std.proofs.Common.{◌≡◌, ◌++◌, map, take}
-use Rattle.place_pair.specs.JointNetworks.{moved_table}
+use Rattle.place_pair.proofs.Vocabulary.{◌≡◌, ◌++◌, map, take, moved_table}
 use Rattle.place_pair.proofs.joining.push_tables.Given as goal
 
 abbrev pub invariant-tables : goal.invariant-tables

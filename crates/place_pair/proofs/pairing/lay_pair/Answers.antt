@@ -1,8 +1,4 @@
-use Rattle.std.proofs.Common.{subst}
-use Rattle.map_network.specs.declared.network.Network.{Network}
-use Rattle.place_plan.specs.Plans.{FitsInOrder}
-use Rattle.place_route.specs.Vocabulary.{IsRoutedFor}
-use Rattle.place_route.proofs.Reading.{right_image}
+use Rattle.place_pair.proofs.Vocabulary.{subst, Network, FitsInOrder, IsRoutedFor, right_image}
 use Rattle.place_pair.proofs.pairing.lay_pair.Goals as goal
 
 pub split-requires-clause-pair : goal.split-requires-clause-pair

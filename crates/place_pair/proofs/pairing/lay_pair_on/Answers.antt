@@ -1,9 +1,4 @@
-use Rattle.std.proofs.Common.{sym, subst}
-use Rattle.map_network.specs.declared.network.Network.{Network}
-use Rattle.place_plan.specs.Vocabulary.{Fits, IsPlan}
-use Rattle.place_route.specs.Vocabulary.{IsRoutedFor}
-use Rattle.place_route.proofs.Making.{layout_of, some_layout}
-use Rattle.place_route.proofs.Reading.{right_image}
+use Rattle.place_pair.proofs.Vocabulary.{sym, subst, Network, Fits, IsPlan, IsRoutedFor, layout_of, some_layout, right_image}
 use Rattle.place_pair.proofs.pairing.lay_pair_on.Goals as goal
 
 pub lay_out-requires-clause-plan : goal.lay_out-requires-clause-plan

@@ -1,13 +1,7 @@
 use Rattle.std.proofs.Common.{◌≡◌, ℕ, ◌<◌, ◌≤◌, List, Option, length, sym, subst, arith}
-use Rattle.std.specs.List.{All}
-use Rattle.machine_shape.specs.declared.Shape.{Shape}
+use Rattle.place_pair.proofs.Vocabulary.{All, Shape, most_ticks, tables_of, wires_of, Site, first_site, second_site, IsTenant}
 use Rattle.machine_shape.specs.declared.Table.{Table}
-use Rattle.machine_shape.specs.Bounds.{most_ticks}
-use Rattle.machine_shape.specs.Shape.{tables_of, wires_of}
-use Rattle.place_pair.specs.declared.site.Site.{Site}
-use Rattle.place_pair.specs.Sites.{first_site, second_site, IsTenant}
-use Rattle.place_pair.proofs.Halving.{first_in, second_in, split_of}
-use Rattle.place_pair.proofs.Letting.{Ground}
+use Rattle.place_pair.proofs.{Halving.first_in, Halving.second_in, Halving.split_of, Letting.Ground}
 use Rattle.place_pair.proofs.Seating.{layout_wires, seats_for, inputs_for, outputs_for, seats_within, seats_apart, owners_for}
 use Rattle.place_pair.proofs.pairing.split.Goals as goal
 

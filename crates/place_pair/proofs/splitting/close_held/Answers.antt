@@ -1,9 +1,4 @@
-use Rattle.std.proofs.Common.{◌≡◌, ℕ, get_or, take, ap, ◌∙◌, subst, true, ◌↔◌}
-use Rattle.std.proofs.lemmas.List.{take_more}
-use Rattle.machine_shape.specs.declared.Cross.{Cross}
-use Rattle.machine_shape.specs.declared.Shape.{Shape}
-use Rattle.machine_shape.specs.Shape.{ends_of}
-use Rattle.place_pair.specs.Sites.{IsHeldBy}
+use Rattle.place_pair.proofs.Vocabulary.{◌≡◌, ℕ, get_or, take, ap, ◌∙◌, subst, true, ◌↔◌, take_more, Cross, Shape, ends_of, IsHeldBy}
 use Rattle.place_pair.proofs.Keeping.{held_none, held_more}
 use Rattle.place_pair.proofs.splitting.close_held.Goals as goal
 

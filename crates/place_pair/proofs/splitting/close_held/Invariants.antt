@@ -1,6 +1,4 @@
-use Rattle.std.proofs.Common.{take}
-use Rattle.place_route.specs.Closing.{Closes}
-use Rattle.place_pair.specs.Sites.{IsHeldAmong}
+use Rattle.place_pair.proofs.Vocabulary.{take, Closes, IsHeldAmong}
 use Rattle.place_pair.proofs.splitting.close_held.Given as goal
 
 abbrev pub invariant-loop-cross : goal.invariant-loop-cross

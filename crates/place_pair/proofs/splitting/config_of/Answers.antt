@@ -1,11 +1,5 @@
-use Rattle.std.proofs.Common.{◌≡◌, ◌<◌, ◌≤◌, List, length, get_or, sym, ap, ◌∙◌, subst}
-use Rattle.machine_shape.specs.declared.Shape.{Shape}
-use Rattle.machine_shape.specs.Bounds.{most_ticks}
-use Rattle.machine_shape.specs.Shape.{crosses_of}
-use Rattle.machine_config.specs.Configuration.{Configuration, cleared, is_closed, with_ticks}
-use Rattle.map_network.specs.declared.network.NetTable.{NetTable}
-use Rattle.place_route.specs.Closing.{Closes, SwitchesOn}
-use Rattle.place_pair.specs.Sites.{IsHeldAmong, IsShare}
+use Rattle.place_pair.proofs.Vocabulary.{◌≡◌, ◌<◌, ◌≤◌, List, length, get_or, sym, ap, ◌∙◌, subst, Shape, most_ticks, crosses_of}
+use Rattle.place_pair.proofs.Vocabulary.{Configuration, cleared, is_closed, with_ticks, NetTable, Closes, SwitchesOn, IsHeldAmong, IsShare}
 use Rattle.place_pair.proofs.Keeping.{from_list, share_of}
 use Rattle.place_pair.proofs.splitting.config_of.Goals as goal
 

@@ -1,9 +1,5 @@
-use Rattle.std.proofs.Common.{◌≡◌, length, sym, ap, ◌∙◌, subst}
-use Rattle.machine_config.specs.Configuration.{Configuration}
-use Rattle.place_pair.specs.JointNetworks.{part}
-use Rattle.place_pair.specs.Sites.{IsShare, IsTenant}
-use Rattle.place_pair.proofs.Cutting.{cut_within, cut_apart}
-use Rattle.place_pair.proofs.Limits.{closed_fit, on_fit}
+use Rattle.place_pair.proofs.Vocabulary.{◌≡◌, length, sym, ap, ◌∙◌, subst, Configuration, part, IsShare, IsTenant}
+use Rattle.place_pair.proofs.{Cutting.cut_within, Cutting.cut_apart, Limits.closed_fit, Limits.on_fit}
 use Rattle.place_pair.proofs.splitting.tenant.Goals as goal
 
 pub new-requires-clause-within : goal.new-requires-clause-within

@@ -1,8 +1,5 @@
-use Rattle.std.proofs.Common.{◌≡◌, ℕ, List, Option, length, sym, subst}
-use Rattle.std.specs.List.{range_with_len}
-use Rattle.place_plan.specs.Vocabulary.{serves_by, IsPartial, ArePicks}
-use Rattle.place_plan.proofs.Given.{at_some}
-use Rattle.place_plan.proofs.Picked.{picked}
+use Rattle.place_plan.proofs.Vocabulary.{◌≡◌, ℕ, List, Option, length, sym, subst, range_with_len, serves_by, IsPartial, ArePicks}
+use Rattle.place_plan.proofs.{Given.at_some, Picked.picked}
 use Rattle.place_plan.proofs.assign.assign.Goals as goal
 
 pub holds-requires : goal.holds-requires

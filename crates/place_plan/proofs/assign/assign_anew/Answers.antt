@@ -1,12 +1,8 @@
-use Rattle.std.proofs.Common.{◌≡◌, ◌++◌, [], ◌∷◌, ◌+◌, ◌<◌, ℕ, List, Option, Some, length, sym, subst, arith}
-use Rattle.std.specs.List.{range_with_len}
-use Rattle.std.proofs.lemmas.Grind.{common_steps}
-use Rattle.std.proofs.lemmas.List.{take_at}
+use Rattle.place_plan.proofs.Vocabulary.{◌≡◌, ◌++◌, [], ◌∷◌, ◌+◌, ◌<◌, ℕ, List, Option, Some, length, sym, subst, arith, range_with_len}
+use Rattle.place_plan.proofs.Vocabulary.{common_steps, take_at, serves_by, IsAnswer, owner_at, IsPartial, IsDeadEnd, ArePicks}
 use Rattle.std.proofs.lemmas.Result.{IfOk-weaker}
-use Rattle.place_plan.specs.Vocabulary.{serves_by, IsAnswer, owner_at, IsPartial, IsDeadEnd, ArePicks}
-use Rattle.place_plan.proofs.Given.{at_none, at_some}
+use Rattle.place_plan.proofs.{Given.at_none, Given.at_some, Ranges.range_push, Ranges.range_within, Ranges.not_in_range, Ranges.range_below}
 use Rattle.place_plan.proofs.Picked.{picked}
-use Rattle.place_plan.proofs.Ranges.{range_push, range_within, not_in_range, range_below}
 use Rattle.place_plan.proofs.assign.assign_anew.Goals as goal
 
 pub give-requires-clause-own : goal.give-requires-clause-own

@@ -1,5 +1,4 @@
-use Rattle.std.specs.List.{range_with_len}
-use Rattle.place_plan.specs.Vocabulary.{serves_by, IsPartial}
+use Rattle.place_plan.proofs.Vocabulary.{range_with_len, serves_by, IsPartial}
 use Rattle.place_plan.proofs.assign.assign_anew.Given as goal
 
 abbrev pub invariant-loop-k : goal.invariant-loop-k

@@ -1,6 +1,4 @@
-use Rattle.std.proofs.Common.{◌+◌, ℕ, sym, ap, ◌∙◌}
-use Rattle.std.proofs.lemmas.List.Sums.{count_by_more_yes, count_by_more_no}
-use Rattle.place_plan.specs.Choices.{serves_any, serves_by}
+use Rattle.place_plan.proofs.Vocabulary.{◌+◌, ℕ, sym, ap, ◌∙◌, count_by_more_yes, count_by_more_no, serves_any, serves_by}
 use Rattle.place_plan.proofs.assign.count_served.Goals as goal
 use Rattle.place_plan.proofs.assign.count_served.Goals.{then-serves_some, else-serves_some}
 

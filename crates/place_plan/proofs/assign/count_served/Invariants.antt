@@ -1,5 +1,4 @@
-use Rattle.std.proofs.Common.{◌≡◌, take, count_by}
-use Rattle.place_plan.specs.Choices.{serves_any, serves_by}
+use Rattle.place_plan.proofs.Vocabulary.{◌≡◌, take, count_by, serves_any, serves_by}
 use Rattle.place_plan.proofs.assign.count_served.Given as goal
 
 abbrev pub invariant-loop-line : goal.invariant-loop-line

@@ -1,7 +1,5 @@
-use Rattle.std.proofs.Common.{◌≡◌, ◌++◌, [], ◌∷◌, ap, ◌∙◌}
-use Rattle.place_plan.specs.Search.{line_at}
-use Rattle.place_plan.proofs.Moves.{none_of}
-use Rattle.place_plan.proofs.Picked.{pick_none, pick_some}
+use Rattle.place_plan.proofs.Vocabulary.{◌≡◌, ◌++◌, [], ◌∷◌, ap, ◌∙◌, line_at}
+use Rattle.place_plan.proofs.{Moves.none_of, Picked.pick_none, Picked.pick_some}
 use Rattle.place_plan.proofs.assign.holds.Goals as goal
 use Rattle.place_plan.proofs.assign.holds.Goals.{in-Some+in_ok-push, in_default}
 

@@ -1,9 +1,6 @@
 use Rattle.std.proofs.Common.{◌≡◌, ◌==◌, ◌<◌, length, count_by, sym, subst, ap, ◌∙◌, rules}
-use Rattle.std.proofs.lemmas.List.Elements.{All-filter}
-use Rattle.std.specs.List.{All, filter, list_any, range_with_len}
-use Rattle.place_plan.specs.Choices.{serves_by, serves_any}
-use Rattle.place_plan.proofs.Ranges.{range_up, range_all}
-use Rattle.place_plan.proofs.Stuck.{short_set}
+use Rattle.place_plan.proofs.Vocabulary.{All-filter, All, filter, list_any, range_with_len, serves_by, serves_any}
+use Rattle.place_plan.proofs.{Ranges.range_up, Ranges.range_all, Stuck.short_set}
 use Rattle.place_plan.proofs.assign.lacking.Goals as goal
 
 pub count_served-have-requires-clause-set : goal.count_served-have-requires-clause-set

@@ -1,5 +1,4 @@
-use Rattle.std.proofs.Common.{◌==◌, ◌++◌, ℕ, List, [], ◌∷◌, sym, ap, ◌∙◌}
-use Rattle.std.specs.List.{list_any}
+use Rattle.place_plan.proofs.Vocabulary.{◌==◌, ◌++◌, ℕ, List, [], ◌∷◌, sym, ap, ◌∙◌, list_any}
 use Rattle.place_plan.proofs.Ranges.{filter_yes, filter_not}
 use Rattle.place_plan.proofs.assign.reached_asks.Goals as goal
 use Rattle.place_plan.proofs.assign.reached_asks.Goals.{then-is_reached+in_ok-push, else-is_reached}

@@ -1,5 +1,4 @@
-use Rattle.std.proofs.Common.{◌≡◌, ◌==◌}
-use Rattle.std.specs.List.{filter, list_any, range_with_len}
+use Rattle.place_plan.proofs.Vocabulary.{◌≡◌, ◌==◌, filter, list_any, range_with_len}
 use Rattle.place_plan.proofs.assign.reached_asks.Given as goal
 
 abbrev pub invariant-loop-k : goal.invariant-loop-k

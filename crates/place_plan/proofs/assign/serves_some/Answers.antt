@@ -1,6 +1,4 @@
-use Rattle.std.proofs.Common.{◌≡◌, ◌||◌, ℕ, Bool, false, sym, ◌∙◌}
-use Rattle.std.proofs.lemmas.List.Folds.{list_any_more}
-use Rattle.place_plan.specs.Choices.{serves_by}
+use Rattle.place_plan.proofs.Vocabulary.{◌≡◌, ◌||◌, ℕ, Bool, false, sym, ◌∙◌, list_any_more, serves_by}
 use Rattle.place_plan.proofs.assign.serves_some.Goals as goal
 
 neither : (a b : Bool) → a ≡ false → b ≡ false → (a || b) ≡ false

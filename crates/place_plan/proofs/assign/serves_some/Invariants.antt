@@ -1,5 +1,4 @@
-use Rattle.std.proofs.Common.{◌≡◌, false, take}
-use Rattle.place_plan.specs.Choices.{serves_any, serves_by}
+use Rattle.place_plan.proofs.Vocabulary.{◌≡◌, false, take, serves_any, serves_by}
 use Rattle.place_plan.proofs.assign.serves_some.Given as goal
 
 abbrev pub invariant-loop-k : goal.invariant-loop-k

@@ -1,9 +1,6 @@
-use Rattle.std.proofs.Common.{◌≡◌, ℕ, List, length, sym, ap, ◌∙◌, subst, arith}
-use Rattle.machine_shape.specs.Bounds.{most_ticks}
+use Rattle.place_plan.proofs.Vocabulary.{◌≡◌, ℕ, List, length, sym, ap, ◌∙◌, subst, arith, most_ticks, IsLaid}
 use Rattle.place_plan.specs.declared.layout.Laid.TheVariants as laid
-use Rattle.place_plan.specs.Vocabulary.{IsLaid}
-use Rattle.place_plan.proofs.Fitting.{few_tables}
-use Rattle.place_plan.proofs.Seated.{Known, known}
+use Rattle.place_plan.proofs.{Fitting.few_tables, Seated.Known, Seated.known}
 use Rattle.place_plan.proofs.fit.in_order_laid.Goals as goal
 
 pub laid-requires-clause-plan : goal.laid-requires-clause-plan

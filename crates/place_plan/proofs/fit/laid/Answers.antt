@@ -1,9 +1,5 @@
-use Rattle.std.proofs.Common.{◌≡◌, ◌<◌, ◌^◌, ℕ, List, length, sym, subst}
-use Rattle.machine_shape.specs.declared.Shape.{Shape}
-use Rattle.machine_meaning.specs.Defects.{Defects}
-use Rattle.place_plan.specs.declared.short.Need.{Need}
+use Rattle.place_plan.proofs.Vocabulary.{◌≡◌, ◌<◌, ◌^◌, ℕ, List, length, sym, subst, Shape, Defects, Need, IsRoom, HasTerminal, ArePlanNets}
 use Rattle.place_plan.specs.declared.short.Room.{Room}
-use Rattle.place_plan.specs.Vocabulary.{IsRoom, HasTerminal, ArePlanNets}
 use Rattle.place_plan.proofs.Fitting.{plan_suffices, plan_first, plan_held, plan_visited, plan_choice}
 use Rattle.place_plan.proofs.fit.laid.Goals as goal
 

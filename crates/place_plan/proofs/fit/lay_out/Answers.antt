@@ -1,6 +1,4 @@
-use Rattle.std.proofs.Common.{◌≡◌, ℕ, ◌+◌, List, length, ap, ◌∙◌, subst}
-use Rattle.machine_shape.specs.Bounds.{most_ticks}
-use Rattle.place_plan.specs.declared.short.Need.{Need}
+use Rattle.place_plan.proofs.Vocabulary.{◌≡◌, ℕ, ◌+◌, List, length, ap, ◌∙◌, subst, most_ticks, Need}
 use Rattle.place_plan.specs.Vocabulary.{IsLaid, AreThose, AreNeeds, IsTerminal, nets_in, IsFreeTableOf, IsFreePinOf, IsFirstShort}
 use Rattle.place_plan.proofs.Fitting.{needs_are, have_is, few_tables, never_fits}
 use Rattle.place_plan.proofs.fit.lay_out.Goals as goal

@@ -1,8 +1,5 @@
-use Rattle.std.proofs.Common.{◌≡◌, ℕ, List, Option, None, length, subst, arith}
-use Rattle.std.specs.List.{range_with_len}
-use Rattle.place_plan.specs.Vocabulary.{serves_by, owner_at, IsPartial}
-use Rattle.place_plan.proofs.Moves.{place}
-use Rattle.place_plan.proofs.Ranges.{range_push, not_in_range}
+use Rattle.place_plan.proofs.Vocabulary.{◌≡◌, ℕ, List, Option, None, length, subst, arith, range_with_len, serves_by, owner_at, IsPartial}
+use Rattle.place_plan.proofs.{Moves.place, Ranges.range_push, Ranges.not_in_range}
 use Rattle.place_plan.proofs.keeping.owners_by.Goals as goal
 
 pub asks-preserved : goal.asks-preserved

@@ -1,5 +1,4 @@
-use Rattle.std.specs.List.{range_with_len}
-use Rattle.place_plan.specs.Vocabulary.{serves_by, IsPartial}
+use Rattle.place_plan.proofs.Vocabulary.{range_with_len, serves_by, IsPartial}
 use Rattle.place_plan.proofs.keeping.owners_by.Given as goal
 
 abbrev pub invariant-asks : goal.invariant-asks

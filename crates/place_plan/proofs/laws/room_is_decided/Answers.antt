@@ -1,5 +1,4 @@
-use Rattle.std.proofs.Common.{length}
-use Rattle.place_plan.specs.Room.{HasTerminal}
+use Rattle.place_plan.proofs.Vocabulary.{length, HasTerminal}
 use Rattle.place_plan.proofs.Decided.{never_both, one_first}
 use Rattle.place_plan.proofs.laws.room_is_decided.Goals as goal
 

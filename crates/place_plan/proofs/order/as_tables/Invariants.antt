@@ -1,5 +1,4 @@
-use Rattle.std.proofs.Common.{◌≡◌, map, take}
-use Rattle.place_plan.specs.Plans.{number_of}
+use Rattle.place_plan.proofs.Vocabulary.{◌≡◌, map, take, number_of}
 use Rattle.place_plan.proofs.order.as_tables.Given as goal
 
 abbrev pub invariant-loop-number : goal.invariant-loop-number

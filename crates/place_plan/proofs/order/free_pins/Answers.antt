@@ -1,8 +1,5 @@
 use Rattle.std.proofs.Common.{◌≡◌, ℕ, true, refl, ap, ◌∙◌, subst, arith, ◌↔◌}
-use Rattle.machine_shape.specs.declared.Shape.{Shape}
-use Rattle.machine_meaning.specs.Defects.{IsFreeWire}
-use Rattle.machine_shape.specs.Shape.{pins_of, pin_wire}
-use Rattle.place_plan.specs.Vocabulary.{same_number, IsFreePin}
+use Rattle.place_plan.proofs.Vocabulary.{Shape, IsFreeWire, pins_of, pin_wire, same_number, IsFreePin}
 use Rattle.place_plan.proofs.Sieves.{tested_step, sieve_end}
 use Rattle.place_plan.proofs.order.free_pins.Goals as goal
 

@@ -1,7 +1,4 @@
-use Rattle.std.proofs.Common.{ℕ, refl, ap, ◌∙◌, arith}
-use Rattle.machine_meaning.specs.Defects.{IsFreeTable}
-use Rattle.machine_shape.specs.Shape.{tables_of}
-use Rattle.place_plan.specs.Lists.{same_number}
+use Rattle.place_plan.proofs.Vocabulary.{ℕ, refl, ap, ◌∙◌, arith, IsFreeTable, tables_of, same_number}
 use Rattle.place_plan.proofs.Sieves.{tested_step, sieve_end}
 use Rattle.place_plan.proofs.order.free_tables.Goals as goal
 

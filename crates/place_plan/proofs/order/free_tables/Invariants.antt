@@ -1,5 +1,4 @@
-use Rattle.machine_meaning.specs.Defects.{IsFreeTable}
-use Rattle.place_plan.specs.Lists.{AreThose, IsAmongFirst, same_number}
+use Rattle.place_plan.proofs.Vocabulary.{IsFreeTable, AreThose, IsAmongFirst, same_number}
 use Rattle.place_plan.proofs.order.free_tables.Given as goal
 
 abbrev pub invariant-loop-t : goal.invariant-loop-t

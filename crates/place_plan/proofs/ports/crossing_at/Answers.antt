@@ -1,9 +1,6 @@
 use Rattle.std.proofs.Common.{◌≡◌, ◌+◌, ◌++◌, ℕ, List, [], ◌∷◌, Bool, length, get_or, if◌then◌else◌, sym, ◌∙◌, subst, arith}
-use Rattle.std.specs.List.{All}
-use Rattle.std.proofs.lemmas.List.{get_or_read}
-use Rattle.place_plan.specs.Vocabulary.{AreThose, IsAmongFirst, nth_of, IsInside, CrossesIn, IsAmong, list_at, TouchesOf}
-use Rattle.place_plan.proofs.Crossings.{crosses_by, never_crosses, crossing_end}
-use Rattle.place_plan.proofs.Sieves.{elements_step}
+use Rattle.place_plan.proofs.Vocabulary.{All, get_or_read, AreThose, IsAmongFirst, nth_of, IsInside, CrossesIn, IsAmong, list_at, TouchesOf}
+use Rattle.place_plan.proofs.{Crossings.crosses_by, Crossings.never_crosses, Crossings.crossing_end, Sieves.elements_step}
 use Rattle.place_plan.proofs.ports.crossing_at.Goals as goal
 
 pub loop-k-preserved : goal.loop-k-preserved

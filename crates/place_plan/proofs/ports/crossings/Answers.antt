@@ -1,7 +1,5 @@
 use Rattle.std.proofs.Common.{◌≡◌, ◌<◌, ◌+◌, ◌++◌, ℕ, List, [], ◌∷◌, length, sym, ◌∙◌, subst}
-use Rattle.std.proofs.lemmas.List.{get_or_read}
-use Rattle.machine_shape.specs.Shape.{nodes_of}
-use Rattle.place_plan.specs.Vocabulary.{AreThose, AreLists, CrossesAt, HasTerminal, list_at, TouchesOf}
+use Rattle.place_plan.proofs.Vocabulary.{get_or_read, nodes_of, AreThose, AreLists, CrossesAt, HasTerminal, list_at, TouchesOf}
 use Rattle.place_plan.proofs.Sieves.{lists_push}
 use Rattle.place_plan.proofs.ports.crossings.Goals as goal
 

@@ -1,5 +1,4 @@
-use Rattle.std.proofs.Common.{length}
-use Rattle.place_plan.specs.Vocabulary.{AreLists, CrossesAt, HasTerminal}
+use Rattle.place_plan.proofs.Vocabulary.{length, AreLists, CrossesAt, HasTerminal}
 use Rattle.place_plan.proofs.ports.crossings.Given as goal
 
 abbrev pub invariant-loop-n : goal.invariant-loop-n

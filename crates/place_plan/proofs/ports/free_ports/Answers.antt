@@ -1,6 +1,4 @@
-use Rattle.std.proofs.Common.{◌≡◌, ◌+◌, ◌++◌, [], ◌∷◌, sym, ap, ◌∙◌, subst, arith}
-use Rattle.machine_shape.specs.Shape.{nodes_of}
-use Rattle.place_plan.specs.Vocabulary.{AreThose, AreLists, IsFreePort}
+use Rattle.place_plan.proofs.Vocabulary.{◌≡◌, ◌+◌, ◌++◌, [], ◌∷◌, sym, ap, ◌∙◌, subst, arith, nodes_of, AreThose, AreLists, IsFreePort}
 use Rattle.place_plan.proofs.Sieves.{lists_push}
 use Rattle.place_plan.proofs.ports.free_ports.Goals as goal
 

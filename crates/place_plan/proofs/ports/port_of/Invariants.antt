@@ -1,5 +1,4 @@
-use Rattle.std.proofs.Common.{◌≤◌, ◌<◌, ℕ, length}
-use Rattle.place_plan.specs.Lists.{IsNth}
+use Rattle.place_plan.proofs.Vocabulary.{◌≤◌, ◌<◌, ℕ, length, IsNth}
 use Rattle.place_plan.proofs.ports.port_of.Given as goal
 
 abbrev pub invariant-loop-k : goal.invariant-loop-k

@@ -1,7 +1,5 @@
-use Rattle.std.proofs.Common.{◌≡◌, ◌≤◌, ap, ◌∙◌, subst}
-use Rattle.machine_shape.specs.Shape.{port_at, own_ports_of}
-use Rattle.place_plan.proofs.Crossings.{ports_end}
-use Rattle.place_plan.proofs.Sieves.{tested_wire}
+use Rattle.place_plan.proofs.Vocabulary.{◌≡◌, ◌≤◌, ap, ◌∙◌, subst, port_at, own_ports_of}
+use Rattle.place_plan.proofs.{Crossings.ports_end, Sieves.tested_wire}
 use Rattle.place_plan.proofs.ports.ports_at.Goals as goal
 
 pub loop-k-preserved : goal.loop-k-preserved

@@ -1,6 +1,4 @@
-use Rattle.machine_shape.specs.Shape.{port_at}
-use Rattle.machine_meaning.specs.Defects.{IsFreeWire}
-use Rattle.place_plan.specs.Lists.{AreThose, IsAmongFirst}
+use Rattle.place_plan.proofs.Vocabulary.{port_at, IsFreeWire, AreThose, IsAmongFirst}
 use Rattle.place_plan.proofs.ports.ports_at.Given as goal
 
 abbrev pub invariant-loop-k : goal.invariant-loop-k

@@ -1,9 +1,4 @@
-use Rattle.std.proofs.Common.{◌≡◌, ◌<◌, ◌++◌, ℕ, List, map, length, refl, sym, ap, ◌∙◌, subst}
-use Rattle.std.specs.List.{All}
-use Rattle.machine_shape.specs.declared.Shape.{Shape}
-use Rattle.machine_shape.specs.Shape.{nodes_of}
-use Rattle.place_plan.specs.declared.search.Ask.{Ask}
-use Rattle.place_plan.specs.declared.search.Hold.{Hold}
+use Rattle.place_plan.proofs.Vocabulary.{◌≡◌, ◌<◌, ◌++◌, ℕ, List, map, length, refl, sym, ap, ◌∙◌, subst, All, Shape, nodes_of, Ask, Hold}
 use Rattle.place_plan.specs.Vocabulary.{AreWires, IsSite, serves_by, net_in, visit_by, AreThose, HasTerminal, AreShort, CrossesAt, AreAsks, AreAscending, TouchesOf}
 use Rattle.place_plan.proofs.Boards.{answer_on, board_is, lists_ascend, asks_on, those_at, site_of, holds_within, set_within, goes_on}
 use Rattle.place_plan.proofs.Serving.{shortage}

@@ -1,5 +1,4 @@
-use Rattle.std.proofs.Common.{◌≡◌, map, take}
-use Rattle.place_plan.specs.Layouts.{net_in}
+use Rattle.place_plan.proofs.Vocabulary.{◌≡◌, map, take, net_in}
 use Rattle.place_plan.proofs.room.nets_of.Given as goal
 
 abbrev pub invariant-loop-i : goal.invariant-loop-i

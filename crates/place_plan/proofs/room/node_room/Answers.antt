@@ -1,9 +1,7 @@
 use Rattle.std.proofs.Common.{◌≤◌, ℕ, List, length, Option, Some, None, IfSome, IfNone}
 use Rattle.std.proofs.lemmas.Option.{IfSome_then}
 use Rattle.place_plan.specs.Vocabulary.{AreThose, CrossesAt, HasTerminal, IsFreePort, GoOn, LinesAreShort}
-use Rattle.place_plan.proofs.Boards.{those_at}
-use Rattle.place_plan.proofs.Given.{at_none}
-use Rattle.place_plan.proofs.Lacks.{lack_is, lines_lack, ports_do}
+use Rattle.place_plan.proofs.{Boards.those_at, Given.at_none, Lacks.lack_is, Lacks.lines_lack, Lacks.ports_do}
 use Rattle.place_plan.proofs.room.node_room.Goals as goal
 
 pub returns-in-Some-clause-short : goal.returns-in-Some-clause-short

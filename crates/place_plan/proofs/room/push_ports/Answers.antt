@@ -1,7 +1,5 @@
-use Rattle.std.proofs.Common.{◌++◌, ℕ, [], ◌∷◌, map, append_assoc, sym, ap, ◌∙◌, arith}
-use Rattle.std.specs.List.{range_with_len}
+use Rattle.place_plan.proofs.Vocabulary.{◌++◌, ℕ, [], ◌∷◌, map, append_assoc, sym, ap, ◌∙◌, arith, range_with_len, port_by}
 use Rattle.std.proofs.lemmas.List.FromFn.{map-range_with_len_more}
-use Rattle.place_plan.specs.Layouts.{port_by}
 use Rattle.place_plan.proofs.room.push_ports.Goals as goal
 
 pub loop-j-preserved : goal.loop-j-preserved

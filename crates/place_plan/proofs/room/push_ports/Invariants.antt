@@ -1,6 +1,4 @@
-use Rattle.std.proofs.Common.{◌≡◌, ◌++◌, map}
-use Rattle.std.specs.List.{range_with_len}
-use Rattle.place_plan.specs.Layouts.{port_by}
+use Rattle.place_plan.proofs.Vocabulary.{◌≡◌, ◌++◌, map, range_with_len, port_by}
 use Rattle.place_plan.proofs.room.push_ports.Given as goal
 
 abbrev pub invariant-loop-j : goal.invariant-loop-j

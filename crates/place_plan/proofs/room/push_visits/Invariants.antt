@@ -1,5 +1,4 @@
-use Rattle.std.proofs.Common.{◌≡◌, ◌++◌, map, take}
-use Rattle.place_plan.specs.Layouts.{visit_by}
+use Rattle.place_plan.proofs.Vocabulary.{◌≡◌, ◌++◌, map, take, visit_by}
 use Rattle.place_plan.proofs.room.push_visits.Given as goal
 
 abbrev pub invariant-loop-hold : goal.invariant-loop-hold

@@ -1,9 +1,6 @@
 use Rattle.std.proofs.Common.{◌≡◌, ◌<◌, ℕ, List, length, IfSome, IfNone, ap, ◌∙◌, subst, arith}
-use Rattle.machine_shape.specs.Shape.{nodes_of}
-use Rattle.place_plan.specs.Vocabulary.{HasTerminal, IsEnough, IsRoomAt, NodeIsShort}
-use Rattle.place_plan.proofs.Given.{at_none, at_some}
-use Rattle.place_plan.proofs.Lacks.{first_lack}
-use Rattle.place_plan.proofs.VisitsMore.{enough_more}
+use Rattle.place_plan.proofs.Vocabulary.{nodes_of, HasTerminal, IsEnough, IsRoomAt, NodeIsShort}
+use Rattle.place_plan.proofs.{Given.at_none, Given.at_some, Lacks.first_lack, VisitsMore.enough_more}
 use Rattle.place_plan.proofs.room.rooms.Goals as goal
 
 pub returns-in-Some : goal.returns-in-Some

@@ -1,5 +1,4 @@
-use Rattle.std.proofs.Common.{length}
-use Rattle.place_plan.specs.Vocabulary.{IsEnough, HasTerminal}
+use Rattle.place_plan.proofs.Vocabulary.{length, IsEnough, HasTerminal}
 use Rattle.place_plan.proofs.room.rooms.Given as goal
 
 abbrev pub invariant-loop-n : goal.invariant-loop-n

@@ -1,5 +1,4 @@
-use Rattle.std.proofs.Common.{◌≡◌, ◌++◌, ℕ, [], ◌∷◌, None, Option, MatchOption, sym, subst, rules}
-use Rattle.std.specs.List.{Contains}
+use Rattle.place_plan.proofs.Vocabulary.{◌≡◌, ◌++◌, ℕ, [], ◌∷◌, None, Option, MatchOption, sym, subst, rules, Contains}
 use Rattle.place_plan.specs.Vocabulary.{serves_by, owner_at, step_at, IsPartial, IsTrail, IsFree, IsStuck, IsShifted}
 use Rattle.place_plan.proofs.Moves.{place}
 use Rattle.place_plan.proofs.search.give.Goals as goal

@@ -1,6 +1,4 @@
-use Rattle.std.proofs.Common.{◌≡◌, ◌≢◌, ◌<◌, ℕ, subst}
-use Rattle.machine_shape.specs.declared.Shape.{Shape}
-use Rattle.machine_shape.specs.Shape.{crosses_of, ends_of}
+use Rattle.place_plan.proofs.Vocabulary.{◌≡◌, ◌≢◌, ◌<◌, ℕ, subst, Shape, crosses_of, ends_of}
 use Rattle.place_plan.proofs.Shut.{shut_some, shut_none}
 use Rattle.place_plan.proofs.search.is_shut.Goals as goal
 

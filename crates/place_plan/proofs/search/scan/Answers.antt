@@ -1,8 +1,5 @@
-use Rattle.std.proofs.Common.{◌≡◌, ◌++◌, [], ◌∷◌, length, sym, ap, ◌∙◌, subst}
-use Rattle.std.proofs.lemmas.Bool.{false≢true}
-use Rattle.place_plan.specs.Search.{AskWithin}
-use Rattle.place_plan.proofs.Asking.{push_asks}
-use Rattle.place_plan.proofs.Trails.{scan_push, scan_skip}
+use Rattle.place_plan.proofs.Vocabulary.{◌≡◌, ◌++◌, [], ◌∷◌, length, sym, ap, ◌∙◌, subst, false≢true, AskWithin}
+use Rattle.place_plan.proofs.{Asking.push_asks, Trails.scan_push, Trails.scan_skip}
 use Rattle.place_plan.proofs.search.scan.Goals as goal
 use Rattle.place_plan.proofs.search.scan.Goals.{then-not-seen-j+then-serves_at+in-Some+in_ok-push-in-Some, else-not-seen-j, else-not-seen-j-via-then-not-seen-j+else-serves_at, else-not-seen-j-via-else-not-seen-j}
 

@@ -1,5 +1,4 @@
-use Rattle.std.proofs.Common.{length}
-use Rattle.place_plan.specs.Vocabulary.{serves_by, IsScanning, AskWithin}
+use Rattle.place_plan.proofs.Vocabulary.{length, serves_by, IsScanning, AskWithin}
 use Rattle.place_plan.proofs.search.scan.Given as goal
 
 abbrev pub invariant-loop-j : goal.invariant-loop-j

@@ -1,5 +1,4 @@
-use Rattle.std.proofs.Common.{◌≤◌, length, arith}
-use Rattle.std.proofs.lemmas.Grind.{common_steps}
+use Rattle.place_plan.proofs.Vocabulary.{◌≤◌, length, arith, common_steps}
 use Rattle.place_plan.proofs.Stuck.{stuck}
 use Rattle.place_plan.proofs.search.search.Goals as goal
 

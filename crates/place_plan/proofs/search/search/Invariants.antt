@@ -1,5 +1,4 @@
-use Rattle.std.proofs.Common.{◌≡◌, ◌-◌, suc, length}
-use Rattle.place_plan.specs.Vocabulary.{serves_by, step_at, IsTrail, AreSeen, AreScanned, AskWithin}
+use Rattle.place_plan.proofs.Vocabulary.{◌≡◌, ◌-◌, suc, length, serves_by, step_at, IsTrail, AreSeen, AreScanned, AskWithin}
 use Rattle.place_plan.proofs.search.search.Given as goal
 
 abbrev pub invariant-loop-h : goal.invariant-loop-h

@@ -1,6 +1,4 @@
-use Rattle.std.proofs.Common.{◌≡◌, false, take}
-use Rattle.std.specs.List.{list_any}
-use Rattle.place_plan.specs.Choices.{is_shut}
+use Rattle.place_plan.proofs.Vocabulary.{◌≡◌, false, take, list_any, is_shut}
 use Rattle.place_plan.proofs.search.serves.Given as goal
 
 abbrev pub invariant-loop-tap : goal.invariant-loop-tap

@@ -1,6 +1,5 @@
 use Rattle.std.proofs.Common.{◌≡◌, ◌<◌, ℕ, true, Some, None, length, set, ◌∙◌, subst, arith}
-use Rattle.std.proofs.lemmas.List.{length-set}
-use Rattle.place_plan.specs.Search.{step_at, line_at, IsShiftingFor}
+use Rattle.place_plan.proofs.Vocabulary.{length-set, step_at, line_at, IsShiftingFor}
 use Rattle.place_plan.proofs.Moves.{owned_within, shift_step, place}
 use Rattle.place_plan.proofs.search.shift.Goals as goal
 

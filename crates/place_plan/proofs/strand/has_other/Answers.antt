@@ -1,8 +1,4 @@
-use Rattle.std.proofs.Common.{◌≡◌, ℕ, get_or, subst, arith, rules}
-use Rattle.std.specs.List.{All}
-use Rattle.std.proofs.lemmas.List.{take_all}
-use Rattle.std.proofs.lemmas.List.Elements.{All-more}
-use Rattle.place_plan.specs.Strands.{IsAt}
+use Rattle.place_plan.proofs.Vocabulary.{◌≡◌, ℕ, get_or, subst, arith, rules, All, take_all, All-more, IsAt}
 use Rattle.place_plan.proofs.strand.has_other.Goals as goal
 
 pub loop-wire-preserved : goal.loop-wire-preserved

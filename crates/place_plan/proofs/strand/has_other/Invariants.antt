@@ -1,6 +1,4 @@
-use Rattle.std.proofs.Common.{take}
-use Rattle.std.specs.List.{All}
-use Rattle.place_plan.specs.Strands.{IsAt}
+use Rattle.place_plan.proofs.Vocabulary.{take, All, IsAt}
 use Rattle.place_plan.proofs.strand.has_other.Given as goal
 
 abbrev pub invariant-loop-wire : goal.invariant-loop-wire

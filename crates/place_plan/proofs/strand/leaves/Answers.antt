@@ -1,9 +1,4 @@
-use Rattle.std.proofs.Common.{◌≢◌, subst, arith, rules}
-use Rattle.std.specs.List.{All}
-use Rattle.std.proofs.lemmas.List.{take_all}
-use Rattle.std.proofs.lemmas.List.Elements.{All-more}
-use Rattle.place_plan.specs.declared.tree.NetSide.TheVariants.{Outside}
-use Rattle.place_plan.specs.Strands.{IsInside}
+use Rattle.place_plan.proofs.Vocabulary.{◌≢◌, subst, arith, rules, All, take_all, All-more, Outside, IsInside}
 use Rattle.place_plan.proofs.Places.{inside_is}
 use Rattle.place_plan.proofs.strand.leaves.Goals as goal
 

@@ -1,7 +1,5 @@
 use Rattle.std.proofs.Common.{◌≡◌, ◌<◌, Some, get_or, length, sym, ap, ◌∙◌, subst, arith}
-use Rattle.std.proofs.lemmas.List.{get_or_read}
-use Rattle.machine_shape.specs.Shape.{node_of, parent_of}
-use Rattle.place_plan.specs.Vocabulary.{at_own, IsClimb}
+use Rattle.place_plan.proofs.Vocabulary.{get_or_read, node_of, parent_of, at_own, IsClimb}
 use Rattle.place_plan.proofs.Climbs.{climb_begins, climb_on, climb_ends, climb_meets}
 use Rattle.place_plan.proofs.strand.strand_at.Goals as goal
 

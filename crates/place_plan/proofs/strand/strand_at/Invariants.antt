@@ -1,5 +1,4 @@
-use Rattle.machine_shape.specs.Shape.{node_of}
-use Rattle.place_plan.specs.Trees.{IsClimb}
+use Rattle.place_plan.proofs.Vocabulary.{node_of, IsClimb}
 use Rattle.place_plan.proofs.strand.strand_at.Given as goal
 
 abbrev pub invariant-loop-at : goal.invariant-loop-at

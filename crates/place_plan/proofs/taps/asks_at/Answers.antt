@@ -1,8 +1,6 @@
 use Rattle.std.proofs.Common.{◌≡◌, ◌+◌, ◌++◌, ℕ, List, [], ◌∷◌, length, get_or, ap, sym, ◌∙◌, subst, arith}
-use Rattle.std.proofs.lemmas.List.{get_or_read}
-use Rattle.place_plan.specs.Vocabulary.{IsAmong, Visits, AreTaps, AreAsksOf, list_at, TouchesOf}
-use Rattle.place_plan.proofs.Tapping.{asks_more, asks_same}
-use Rattle.place_plan.proofs.Asks.{asks_end}
+use Rattle.place_plan.proofs.Vocabulary.{get_or_read, IsAmong, Visits, AreTaps, AreAsksOf, list_at, TouchesOf}
+use Rattle.place_plan.proofs.{Tapping.asks_more, Tapping.asks_same, Asks.asks_end}
 use Rattle.place_plan.proofs.taps.asks_at.Goals as goal
 use Rattle.place_plan.proofs.taps.asks_at.Goals.{then-visits+in_ok-taps+in_ok-push, else-visits}
 

@@ -1,9 +1,6 @@
-use Rattle.std.proofs.Common.{◌≡◌, ◌<◌, ◌≤◌, sym, ap, ◌∙◌, subst}
-use Rattle.machine_shape.specs.declared.Shape.{Shape}
+use Rattle.place_plan.proofs.Vocabulary.{◌≡◌, ◌<◌, ◌≤◌, sym, ap, ◌∙◌, subst, Shape, AreWires}
 use Rattle.machine_shape.specs.Shape.{line_at, lines_of, wires_of}
-use Rattle.place_plan.specs.Choices.{AreWires}
-use Rattle.place_plan.proofs.Sieves.{tested_wire}
-use Rattle.place_plan.proofs.Crossings.{lines_end, wires_step}
+use Rattle.place_plan.proofs.{Sieves.tested_wire, Crossings.lines_end, Crossings.wires_step}
 use Rattle.place_plan.proofs.taps.free_lines.Goals as goal
 
 pub loop-k-preserved : goal.loop-k-preserved

@@ -1,6 +1,5 @@
 use Rattle.machine_shape.specs.Shape.{line_at}
-use Rattle.machine_meaning.specs.Defects.{IsFreeWire}
-use Rattle.place_plan.specs.Vocabulary.{AreWires, AreThose, IsAmongFirst}
+use Rattle.place_plan.proofs.Vocabulary.{IsFreeWire, AreWires, AreThose, IsAmongFirst}
 use Rattle.place_plan.proofs.taps.free_lines.Given as goal
 
 abbrev pub invariant-loop-k : goal.invariant-loop-k

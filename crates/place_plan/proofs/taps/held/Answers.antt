@@ -1,6 +1,4 @@
-use Rattle.std.proofs.Common.{◌≡◌, ◌≤◌, ℕ, List, [], length, IfSome, IfNone, ◌∙◌}
-use Rattle.std.proofs.lemmas.List.{get_or_read}
-use Rattle.place_plan.specs.Vocabulary.{IsNth, list_at}
+use Rattle.place_plan.proofs.Vocabulary.{◌≡◌, ◌≤◌, ℕ, List, [], length, IfSome, IfNone, ◌∙◌, get_or_read, IsNth, list_at}
 use Rattle.place_plan.proofs.Tapping.{held_found}
 use Rattle.place_plan.proofs.taps.held.Goals as goal
 

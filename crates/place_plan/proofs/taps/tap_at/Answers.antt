@@ -1,8 +1,5 @@
-use Rattle.std.proofs.Common.{◌<◌, sym, subst}
-use Rattle.place_plan.specs.declared.tree.NetSide.TheVariants.{Own, Child, Outside}
-use Rattle.place_plan.specs.Vocabulary.{IsAt, IsHeld, IsTapFor}
-use Rattle.place_plan.proofs.Climbs.{child_within}
-use Rattle.place_plan.proofs.Tapping.{found_same, tap_for}
+use Rattle.place_plan.proofs.Vocabulary.{◌<◌, sym, subst, Own, Child, Outside, IsAt, IsHeld, IsTapFor}
+use Rattle.place_plan.proofs.{Climbs.child_within, Tapping.found_same, Tapping.tap_for}
 use Rattle.place_plan.proofs.taps.tap_at.Goals as goal
 
 pub held-requires-clause-crossing : goal.held-requires-clause-crossing

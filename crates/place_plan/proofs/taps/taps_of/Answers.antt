@@ -1,5 +1,4 @@
-use Rattle.std.proofs.Common.{◌≡◌, ◌++◌, ℕ, [], ◌∷◌, take, get_or, sym, subst, arith}
-use Rattle.std.proofs.lemmas.List.{take_more, take_all}
+use Rattle.place_plan.proofs.Vocabulary.{◌≡◌, ◌++◌, ℕ, [], ◌∷◌, take, get_or, sym, subst, arith, take_more, take_all}
 use Rattle.place_plan.specs.Taps.{AreTaps, IsFound, IsTapFor, with_option}
 use Rattle.place_plan.proofs.Tapping.{taps_more}
 use Rattle.place_plan.proofs.taps.taps_of.Goals as goal

@@ -1,8 +1,5 @@
 use Rattle.std.proofs.Common.{◌≡◌, ◌<◌, ◌+◌, ◌++◌, ℕ, List, [], ◌∷◌, take, set, get_or, length, sym, ap, ◌∙◌, subst, arith}
-use Rattle.std.proofs.lemmas.Grind.{common_steps}
-use Rattle.std.proofs.lemmas.List.{take_more, take_at}
-use Rattle.place_plan.specs.declared.terminals.Terminal.{Terminal}
-use Rattle.place_plan.specs.Vocabulary.{AreGrouped, list_at, terminal_for}
+use Rattle.place_plan.proofs.Vocabulary.{common_steps, take_more, take_at, Terminal, AreGrouped, list_at, terminal_for}
 use Rattle.place_plan.proofs.Grouping.{more_grouped}
 use Rattle.place_plan.proofs.terminals.grouped.Goals as goal
 

@@ -1,5 +1,4 @@
-use Rattle.std.proofs.Common.{take}
-use Rattle.place_plan.specs.Terminals.{AreGrouped}
+use Rattle.place_plan.proofs.Vocabulary.{take, AreGrouped}
 use Rattle.place_plan.proofs.terminals.grouped.Given as goal
 
 abbrev pub invariant-loop-terminal : goal.invariant-loop-terminal

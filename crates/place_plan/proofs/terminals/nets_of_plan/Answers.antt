@@ -1,14 +1,5 @@
-use Rattle.std.proofs.Common.{◌≡◌, ◌<◌, ◌≤◌, ◌+◌, ◌^◌, List, length, sym, ap, ◌∙◌, subst, arith}
-use Rattle.std.specs.List.{All}
-use Rattle.machine_shape.specs.declared.Shape.{Shape}
-use Rattle.machine_shape.specs.Shape.{tables_of, pins_of}
-use Rattle.machine_defects.specs.Lists.{DefectList}
-use Rattle.map_network.specs.declared.network.Network.{Network}
-use Rattle.map_network.specs.declared.network.NetTable.{NetTable}
-use Rattle.map_network.specs.Networks.{IsNetwork}
-use Rattle.place_plan.specs.declared.plan.Plan.{Plan}
-use Rattle.place_plan.specs.declared.terminals.Terminal.{Terminal}
-use Rattle.place_plan.specs.Vocabulary.{IsPlan, nets_in, IsSized, all_terminals}
+use Rattle.place_plan.proofs.Vocabulary.{◌≡◌, ◌<◌, ◌≤◌, ◌+◌, ◌^◌, List, length, sym, ap, ◌∙◌, subst, arith, All, Shape, tables_of, pins_of}
+use Rattle.place_plan.proofs.Vocabulary.{DefectList, Network, NetTable, IsNetwork, Plan, Terminal, IsPlan, nets_in, IsSized, all_terminals}
 use Rattle.place_plan.proofs.PlanNets.{sized_is, nets_small, plan_nets}
 use Rattle.place_plan.proofs.terminals.nets_of_plan.Goals as goal
 

@@ -1,10 +1,5 @@
 use Rattle.std.proofs.Common.{◌≡◌, ◌<◌, ℕ, List, map, length, get_or, sym, ap, ◌∙◌, subst}
-use Rattle.std.proofs.lemmas.List.{get_or_read}
-use Rattle.machine_shape.specs.Shape.{tables_of}
-use Rattle.map_network.specs.declared.network.NetTable.{NetTable}
-use Rattle.map_network.specs.declared.source.Source.{Source}
-use Rattle.map_network.specs.Networks.{table_at, no_table}
-use Rattle.place_plan.specs.Vocabulary.{number_of, reads_of, reads_at}
+use Rattle.place_plan.proofs.Vocabulary.{get_or_read, tables_of, NetTable, Source, table_at, no_table, number_of, reads_of, reads_at}
 use Rattle.place_plan.proofs.Pushes.{flat_next, place_at, place_below}
 use Rattle.place_plan.proofs.terminals.push_all_reads.Goals as goal
 

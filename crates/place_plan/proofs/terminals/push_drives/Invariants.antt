@@ -1,5 +1,4 @@
-use Rattle.std.proofs.Common.{◌≡◌, ◌++◌}
-use Rattle.place_plan.specs.Terminals.{drive_terminals}
+use Rattle.place_plan.proofs.Vocabulary.{◌≡◌, ◌++◌, drive_terminals}
 use Rattle.place_plan.proofs.terminals.push_drives.Given as goal
 
 abbrev pub invariant-loop-k : goal.invariant-loop-k

@@ -1,6 +1,4 @@
-use Rattle.std.proofs.Common.{◌≡◌, ◌+◌, ℕ, map, sym, ap, ◌∙◌}
-use Rattle.machine_shape.specs.Shape.{tables_of, table_wire}
-use Rattle.place_plan.specs.Vocabulary.{number_of, nth_of, give_by, terminal_for}
+use Rattle.place_plan.proofs.Vocabulary.{◌≡◌, ◌+◌, ℕ, map, sym, ap, ◌∙◌, tables_of, table_wire, number_of, nth_of, give_by, terminal_for}
 use Rattle.place_plan.proofs.Pushes.{map_next, place_at, place_below}
 use Rattle.place_plan.proofs.terminals.push_gives.Goals as goal
 

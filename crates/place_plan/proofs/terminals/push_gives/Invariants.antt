@@ -1,5 +1,4 @@
-use Rattle.std.proofs.Common.{◌≡◌, ◌++◌, map}
-use Rattle.place_plan.specs.Vocabulary.{number_of, gives_of}
+use Rattle.place_plan.proofs.Vocabulary.{◌≡◌, ◌++◌, map, number_of, gives_of}
 use Rattle.place_plan.proofs.terminals.push_gives.Given as goal
 
 abbrev pub invariant-loop-j : goal.invariant-loop-j

@@ -1,5 +1,4 @@
-use Rattle.std.proofs.Common.{◌≡◌, ◌++◌}
-use Rattle.place_plan.specs.Terminals.{reads_of}
+use Rattle.place_plan.proofs.Vocabulary.{◌≡◌, ◌++◌, reads_of}
 use Rattle.place_plan.proofs.terminals.push_reads.Given as goal
 
 abbrev pub invariant-loop-k : goal.invariant-loop-k

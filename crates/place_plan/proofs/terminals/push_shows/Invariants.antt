@@ -1,5 +1,4 @@
-use Rattle.std.proofs.Common.{◌≡◌, ◌++◌}
-use Rattle.place_plan.specs.Terminals.{shows_of}
+use Rattle.place_plan.proofs.Vocabulary.{◌≡◌, ◌++◌, shows_of}
 use Rattle.place_plan.proofs.terminals.push_shows.Given as goal
 
 abbrev pub invariant-loop-o : goal.invariant-loop-o

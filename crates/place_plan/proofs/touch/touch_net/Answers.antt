@@ -1,8 +1,4 @@
-use Rattle.std.proofs.Common.{◌<◌, ℕ, [], ◌∷◌, take, get_or}
-use Rattle.std.proofs.lemmas.List.{take_more}
-use Rattle.std.proofs.lemmas.List.Elements.{All-take, All-get_or}
-use Rattle.machine_shape.specs.Shape.{wires_of}
-use Rattle.place_plan.specs.Touches.{IsSpread}
+use Rattle.place_plan.proofs.Vocabulary.{◌<◌, ℕ, [], ◌∷◌, take, get_or, take_more, All-take, All-get_or, wires_of, IsSpread}
 use Rattle.place_plan.proofs.Spreads.{spread_more}
 use Rattle.place_plan.proofs.touch.touch_net.Goals as goal
 

@@ -1,5 +1,4 @@
-use Rattle.std.proofs.Common.{take}
-use Rattle.place_plan.specs.Touches.{IsSpread}
+use Rattle.place_plan.proofs.Vocabulary.{take, IsSpread}
 use Rattle.place_plan.proofs.touch.touch_net.Given as goal
 
 abbrev pub invariant-loop-wire : goal.invariant-loop-wire

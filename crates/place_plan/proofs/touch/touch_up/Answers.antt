@@ -1,7 +1,5 @@
 use Rattle.std.proofs.Common.{◌≡◌, ◌<◌, ℕ, List, Some, length, get_or, set, sym, ap, ◌∙◌, subst, arith}
-use Rattle.std.proofs.lemmas.List.{get_or_read}
-use Rattle.machine_shape.specs.Shape.{node_of, parent_of, nodes_of}
-use Rattle.place_plan.specs.Touches.{list_at, with_last}
+use Rattle.place_plan.proofs.Vocabulary.{get_or_read, node_of, parent_of, nodes_of, list_at, with_last}
 use Rattle.place_plan.proofs.Spreads.{spread_begins, spread_on, spread_ends}
 use Rattle.place_plan.proofs.touch.touch_up.Goals as goal
 

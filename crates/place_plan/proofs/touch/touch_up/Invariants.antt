@@ -1,5 +1,4 @@
-use Rattle.machine_shape.specs.Shape.{node_of}
-use Rattle.place_plan.specs.Touches.{IsSpreadUp}
+use Rattle.place_plan.proofs.Vocabulary.{node_of, IsSpreadUp}
 use Rattle.place_plan.proofs.touch.touch_up.Given as goal
 
 abbrev pub invariant-loop-at : goal.invariant-loop-at

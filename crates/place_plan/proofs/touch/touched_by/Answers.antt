@@ -1,10 +1,5 @@
 use Rattle.std.proofs.Common.{◌≡◌, ◌<◌, ◌+◌, ℕ, List, [], length, sym, ◌∙◌, subst, arith}
-use Rattle.std.specs.List.{All}
-use Rattle.std.proofs.lemmas.Grind.{common_steps}
-use Rattle.std.proofs.lemmas.List.{get_or_read, take_at}
-use Rattle.std.proofs.lemmas.List.Elements.{All-get_or}
-use Rattle.machine_shape.specs.Shape.{wires_of}
-use Rattle.place_plan.specs.Touches.{AreTouched, IsSpread, list_at}
+use Rattle.place_plan.proofs.Vocabulary.{All, common_steps, get_or_read, take_at, All-get_or, wires_of, AreTouched, IsSpread, list_at}
 use Rattle.place_plan.proofs.Spreads.{touched_more}
 use Rattle.place_plan.proofs.touch.touched_by.Goals as goal
 

@@ -1,8 +1,5 @@
-use Rattle.std.proofs.Common.{◌≡◌, ◌≤◌, sym, ap, ◌∙◌, subst}
-use Rattle.machine_shape.specs.declared.Shape.{Shape}
+use Rattle.place_repair.proofs.Vocabulary.{◌≡◌, ◌≤◌, sym, ap, ◌∙◌, subst, Shape, Configuration, with_ticks, AreWiresOf, IsJoined}
 use Rattle.machine_shape.specs.Vocabulary.{most_ticks}
-use Rattle.machine_config.specs.Configuration.{Configuration, with_ticks}
-use Rattle.place_route.specs.Routed.{AreWiresOf, IsJoined}
 use Rattle.place_repair.proofs.drawing.draw.Goals as goal
 
 pub join_nets-requires-clause-wires : goal.join_nets-requires-clause-wires

@@ -1,10 +1,5 @@
 use Rattle.std.proofs.Common.{◌≡◌, ℕ, refl, sym, ap, ◌∙◌, subst}
-use Rattle.std.proofs.lemmas.Bool.{false≢true}
-use Rattle.std.proofs.lemmas.Result.{on_ok_weaker}
-use Rattle.machine_shape.specs.declared.Shape.{Shape}
-use Rattle.machine_shape.specs.Shape.{ends_of}
-use Rattle.place_route.proofs.Joining.{closes_none, closes_one}
-use Rattle.place_repair.specs.Making.{HasStayingWire, IsKeptCrossOf}
+use Rattle.place_repair.proofs.Vocabulary.{false≢true, on_ok_weaker, Shape, ends_of, closes_none, closes_one, HasStayingWire, IsKeptCrossOf}
 use Rattle.place_repair.proofs.drawing.keep_cross.Goals as goal
 
 pub returns-then-not-stays : goal.returns-then-not-stays

@@ -1,12 +1,6 @@
-use Rattle.std.proofs.Common.{get_or, ap, ◌∙◌, arith}
-use Rattle.machine_shape.specs.declared.Cross.{Cross}
+use Rattle.place_repair.proofs.Vocabulary.{get_or, ap, ◌∙◌, arith, Cross, closes_none, IsKeptCrossOf, no_cross, IsOfFirst, of_list}
 use Rattle.machine_config.specs.Configuration.{Configuration, is_closed}
-use Rattle.place_route.proofs.Joining.{closes_none}
-use Rattle.place_repair.specs.Making.{IsKeptCrossOf, no_cross}
-use Rattle.place_repair.specs.Marks.{IsOfFirst}
-use Rattle.place_repair.proofs.Redone.{kept_more, kept_all}
-use Rattle.machine_image.proofs.Keyed.{of_list}
-use Rattle.place_repair.proofs.Marking.{first_none}
+use Rattle.place_repair.proofs.{Redone.kept_more, Redone.kept_all, Marking.first_none}
 use Rattle.place_repair.proofs.drawing.keep_crosses.Goals as goal
 
 pub keep_cross-requires-clause-shape : goal.keep_cross-requires-clause-shape

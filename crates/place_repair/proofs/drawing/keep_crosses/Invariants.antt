@@ -1,6 +1,4 @@
-use Rattle.place_route.specs.Closing.{Closes}
-use Rattle.place_repair.specs.Making.{IsKeptCrossOf, no_cross}
-use Rattle.place_repair.specs.Marks.{IsOfFirst}
+use Rattle.place_repair.proofs.Vocabulary.{Closes, IsKeptCrossOf, no_cross, IsOfFirst}
 use Rattle.place_repair.proofs.drawing.keep_crosses.Given as goal
 
 abbrev pub invariant-loop-k : goal.invariant-loop-k

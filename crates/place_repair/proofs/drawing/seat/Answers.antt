@@ -1,9 +1,5 @@
 use Rattle.std.proofs.Common.{◌≡◌, ◌<◌, ℕ, length, sym, ap, ◌∙◌, subst, arith}
-use Rattle.std.proofs.lemmas.List.{get_or_read}
-use Rattle.machine_shape.specs.Shape.{tables_of}
-use Rattle.machine_shape.specs.declared.Shape.{Shape}
-use Rattle.machine_config.specs.Configuration.{with_setting}
-use Rattle.place_plan.specs.Lists.{nth_of}
+use Rattle.place_repair.proofs.Vocabulary.{get_or_read, tables_of, Shape, with_setting, nth_of}
 use Rattle.place_repair.proofs.Placed.{some_none}
 use Rattle.place_repair.proofs.drawing.seat.Goals as goal
 

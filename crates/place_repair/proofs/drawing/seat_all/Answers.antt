@@ -1,10 +1,5 @@
 use Rattle.std.proofs.Common.{◌≡◌, ◌<◌, ◌+◌, ℕ, get_or, length, inl, inr, refl, sym, ap, ◌∙◌, subst, arith, is_some}
-use Rattle.machine_shape.specs.declared.Table.{Table}
-use Rattle.machine_shape.specs.Shape.{tables_of}
-use Rattle.machine_config.specs.Configuration.{Configuration, setting_of}
-use Rattle.place_plan.specs.Lists.{nth_of}
-use Rattle.place_repair.specs.Making.{IsOn, IsTable, no_table}
-use Rattle.place_repair.specs.Marks.{IsOfFirst}
+use Rattle.place_repair.proofs.Vocabulary.{Table, tables_of, Configuration, setting_of, nth_of, IsOn, IsTable, no_table, IsOfFirst}
 use Rattle.place_repair.proofs.Redone.{seated_none, seated_more, seated_same}
 use Rattle.place_repair.proofs.Marking.{first_none, first_more, first_before, first_last, first_all, all_first}
 use Rattle.place_repair.proofs.Using.{listed_on, listed_within, on_is, is_on}

@@ -1,5 +1,4 @@
-use Rattle.place_repair.specs.Making.{AreSeated, IsTable, no_table}
-use Rattle.place_repair.specs.Marks.{IsOfFirst}
+use Rattle.place_repair.proofs.Vocabulary.{AreSeated, IsTable, no_table, IsOfFirst}
 use Rattle.place_repair.proofs.drawing.seat_all.Given as goal
 
 abbrev pub invariant-loop-k : goal.invariant-loop-k

@@ -1,5 +1,4 @@
-use Rattle.std.proofs.Common.{ℕ, ◌<◌, sym, subst}
-use Rattle.place_repair.specs.Groups.{IsUnited}
+use Rattle.place_repair.proofs.Vocabulary.{ℕ, ◌<◌, sym, subst, IsUnited}
 use Rattle.place_repair.proofs.groups.join.Goals as goal
 
 pub unite-requires-clause-a : goal.unite-requires-clause-a

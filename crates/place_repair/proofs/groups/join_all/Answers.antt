@@ -1,13 +1,6 @@
-use Rattle.std.proofs.Common.{◌≡◌, ◌+◌, ◌<◌, ℕ, true, get_or, inl, inr, refl, sym, ap, ◌∙◌, subst, arith}
-use Rattle.machine_shape.specs.declared.Cross.{Cross}
-use Rattle.machine_shape.specs.declared.Shape.{Shape}
-use Rattle.machine_shape.specs.Shape.{wires_of, crosses_of, ends_of}
-use Rattle.machine_config.specs.Configuration.{is_closed}
-use Rattle.place_repair.specs.Groups.{IsUnited}
-use Rattle.place_repair.specs.Making.{IsCross, no_cross}
-use Rattle.place_repair.specs.Marks.{IsOfFirst}
+use Rattle.place_repair.proofs.Vocabulary.{◌≡◌, ◌+◌, ◌<◌, ℕ, true, get_or, inl, inr, refl, sym, ap, ◌∙◌, subst, arith, Cross, Shape}
+use Rattle.place_repair.proofs.Vocabulary.{wires_of, crosses_of, ends_of, is_closed, IsUnited, IsCross, no_cross, IsOfFirst, of_list}
 use Rattle.place_repair.proofs.Grouping.{joined_none, joined_more, joined_same, range_alone}
-use Rattle.machine_image.proofs.Keyed.{of_list}
 use Rattle.place_repair.proofs.Marking.{first_none, first_more, all_first}
 use Rattle.place_repair.proofs.groups.join_all.Goals as goal
 

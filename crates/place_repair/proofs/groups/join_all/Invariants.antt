@@ -1,6 +1,4 @@
-use Rattle.place_repair.specs.Groups.{HasJoined}
-use Rattle.place_repair.specs.Making.{IsCross, no_cross}
-use Rattle.place_repair.specs.Marks.{IsOfFirst}
+use Rattle.place_repair.proofs.Vocabulary.{HasJoined, IsCross, no_cross, IsOfFirst}
 use Rattle.place_repair.proofs.groups.join_all.Given as goal
 
 abbrev pub invariant-loop-k : goal.invariant-loop-k

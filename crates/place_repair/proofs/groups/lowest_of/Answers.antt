@@ -1,10 +1,5 @@
-use Rattle.std.proofs.Common.{◌≡◌, ℕ, List, length, sym, ap, ◌∙◌, subst}
-use Rattle.std.specs.List.{range_with_len}
-use Rattle.std.proofs.lemmas.List.{take_at}
-use Rattle.std.proofs.lemmas.List.FromFn.{length-range_with_len}
-use Rattle.std.proofs.lemmas.Result.{IfOk-weaker}
-use Rattle.machine_shape.specs.Shape.{wires_of}
-use Rattle.place_repair.specs.Groups.{AreLow, AreLowest, AreRootsOf}
+use Rattle.place_repair.proofs.Vocabulary.{◌≡◌, ℕ, List, length, sym, ap, ◌∙◌, subst, range_with_len, take_at, length-range_with_len}
+use Rattle.place_repair.proofs.Vocabulary.{IfOk-weaker, wires_of, AreLow, AreLowest, AreRootsOf}
 use Rattle.place_repair.proofs.Grouping.{lowest_are}
 use Rattle.place_repair.proofs.groups.lowest_of.Goals as goal
 

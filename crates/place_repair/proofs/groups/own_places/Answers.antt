@@ -1,5 +1,4 @@
-use Rattle.std.proofs.Common.{◌≡◌, ◌++◌, ◌∷◌, [], sym, ap, ◌∙◌, arith}
-use Rattle.std.specs.List.{range_with_len}
+use Rattle.place_repair.proofs.Vocabulary.{◌≡◌, ◌++◌, ◌∷◌, [], sym, ap, ◌∙◌, arith, range_with_len}
 use Rattle.place_repair.proofs.Grouping.{range_more}
 use Rattle.place_repair.proofs.groups.own_places.Goals as goal
 

@@ -1,5 +1,4 @@
-use Rattle.std.proofs.Common.{◌≡◌}
-use Rattle.std.specs.List.{range_with_len}
+use Rattle.place_repair.proofs.Vocabulary.{◌≡◌, range_with_len}
 use Rattle.place_repair.proofs.groups.own_places.Given as goal
 
 abbrev pub invariant-loop-wire : goal.invariant-loop-wire

@@ -1,5 +1,4 @@
-use Rattle.std.proofs.Common.{◌≡◌}
-use Rattle.place_repair.specs.Groups.{IsFound, parent_at}
+use Rattle.place_repair.proofs.Vocabulary.{◌≡◌, IsFound, parent_at}
 use Rattle.place_repair.proofs.groups.root_of.Given as goal
 
 abbrev pub invariant-up : goal.invariant-up

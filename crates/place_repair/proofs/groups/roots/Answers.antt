@@ -1,5 +1,4 @@
-use Rattle.std.proofs.Common.{◌≡◌, ◌+◌, ◌++◌, ◌∷◌, [], length, sym, ap, ◌∙◌, subst, arith}
-use Rattle.place_repair.specs.Groups.{AreRootsTo}
+use Rattle.place_repair.proofs.Vocabulary.{◌≡◌, ◌+◌, ◌++◌, ◌∷◌, [], length, sym, ap, ◌∙◌, subst, arith, AreRootsTo}
 use Rattle.place_repair.proofs.Grouping.{roots_none}
 use Rattle.place_repair.proofs.groups.roots.Goals as goal
 

@@ -1,5 +1,4 @@
-use Rattle.std.proofs.Common.{◌∙◌}
-use Rattle.place_repair.specs.Making.{IsUnfreeCross, IsUnfreeTable}
+use Rattle.place_repair.proofs.Vocabulary.{◌∙◌, IsUnfreeCross, IsUnfreeTable}
 use Rattle.place_repair.proofs.Marking.{marked_both}
 use Rattle.place_repair.proofs.keeping.mark_broken.Goals as goal
 

@@ -1,11 +1,5 @@
-use Rattle.std.proofs.Common.{◌≡◌, ℕ, sym, ap, ◌∙◌, subst}
-use Rattle.machine_shape.specs.declared.Shape.{Shape}
-use Rattle.machine_shape.specs.Shape.{ends_of}
-use Rattle.machine_meaning.specs.Defects.{IsFreeCross}
-use Rattle.place_repair.specs.Making.{IsUnfreeCrossOf}
-use Rattle.place_repair.specs.Nets.{HasWire}
-use Rattle.place_repair.proofs.Marking.{marked_none, marked_same}
-use Rattle.place_repair.proofs.Using.{not_true_and}
+use Rattle.place_repair.proofs.Vocabulary.{◌≡◌, ℕ, sym, ap, ◌∙◌, subst, Shape, ends_of, IsFreeCross, IsUnfreeCrossOf, HasWire}
+use Rattle.place_repair.proofs.{Marking.marked_none, Marking.marked_same, Using.not_true_and}
 use Rattle.place_repair.proofs.keeping.mark_cross.Goals as goal
 
 pub returns-then-free_cross : goal.returns-then-free_cross

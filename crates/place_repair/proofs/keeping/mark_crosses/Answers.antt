@@ -1,10 +1,5 @@
-use Rattle.std.proofs.Common.{get_or, ◌∙◌, arith}
-use Rattle.machine_shape.specs.declared.Cross.{Cross}
-use Rattle.machine_config.specs.Configuration.{is_closed}
-use Rattle.place_repair.specs.Making.{IsUnfreeCrossOf, no_cross}
-use Rattle.place_repair.proofs.Unbroken.{crosses_first}
-use Rattle.machine_image.proofs.Keyed.{of_list}
-use Rattle.place_repair.proofs.Marking.{marked_none, marked_more, first_none}
+use Rattle.place_repair.proofs.Vocabulary.{get_or, ◌∙◌, arith, Cross, is_closed, IsUnfreeCrossOf, no_cross, of_list}
+use Rattle.place_repair.proofs.{Unbroken.crosses_first, Marking.marked_none, Marking.marked_more, Marking.first_none}
 use Rattle.place_repair.proofs.keeping.mark_crosses.Goals as goal
 
 pub mark_cross-requires-clause-sized : goal.mark_cross-requires-clause-sized

@@ -1,5 +1,4 @@
-use Rattle.place_repair.specs.Making.{IsUnfreeCrossOf, no_cross}
-use Rattle.place_repair.specs.Marks.{IsMarked, IsOfFirst}
+use Rattle.place_repair.proofs.Vocabulary.{IsUnfreeCrossOf, no_cross, IsMarked, IsOfFirst}
 use Rattle.place_repair.proofs.keeping.mark_crosses.Given as goal
 
 abbrev pub invariant-loop-k : goal.invariant-loop-k

@@ -1,8 +1,5 @@
-use Rattle.std.proofs.Common.{◌<◌, sym, subst}
-use Rattle.place_repair.specs.Marks.{IsThis}
-use Rattle.place_repair.specs.Nets.{HasWire}
-use Rattle.place_repair.proofs.Hanging.{has_end, one_net_has}
-use Rattle.place_repair.proofs.Marking.{marked_none, marked_same}
+use Rattle.place_repair.proofs.Vocabulary.{◌<◌, sym, subst, IsThis, HasWire}
+use Rattle.place_repair.proofs.{Hanging.has_end, Hanging.one_net_has, Marking.marked_none, Marking.marked_same}
 use Rattle.place_repair.proofs.keeping.mark_net.Goals as goal
 
 pub mark-requires : goal.mark-requires

@@ -1,11 +1,6 @@
 use Rattle.std.proofs.Common.{◌≡◌, ◌<◌, sym, ap, ◌∙◌, subst, arith}
-use Rattle.machine_shape.specs.declared.Shape.{Shape}
-use Rattle.machine_shape.specs.Shape.{table_wire, wires_of, tables_of}
-use Rattle.place_repair.specs.Making.{IsBrokenBy}
-use Rattle.place_repair.specs.Marks.{IsMarked}
-use Rattle.place_repair.specs.Nets.{HasWire}
-use Rattle.place_repair.proofs.Unbroken.{broken_more}
-use Rattle.place_repair.proofs.Marking.{marked_none, none_below}
+use Rattle.place_repair.proofs.Vocabulary.{Shape, table_wire, wires_of, tables_of, IsBrokenBy, IsMarked, HasWire}
+use Rattle.place_repair.proofs.{Unbroken.broken_more, Marking.marked_none, Marking.none_below}
 use Rattle.place_repair.proofs.keeping.mark_pins.Goals as goal
 
 pub pin_of-requires-clause-table : goal.pin_of-requires-clause-table

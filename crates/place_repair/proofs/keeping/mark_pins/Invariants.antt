@@ -1,5 +1,4 @@
-use Rattle.place_repair.specs.Making.{IsBrokenBy}
-use Rattle.place_repair.specs.Marks.{IsMarked}
+use Rattle.place_repair.proofs.Vocabulary.{IsBrokenBy, IsMarked}
 use Rattle.place_repair.proofs.keeping.mark_pins.Given as goal
 
 abbrev pub invariant-loop-j : goal.invariant-loop-j

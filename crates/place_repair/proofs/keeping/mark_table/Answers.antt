@@ -1,9 +1,5 @@
-use Rattle.std.proofs.Common.{sym, subst}
-use Rattle.machine_shape.specs.declared.Shape.{Shape}
-use Rattle.machine_meaning.specs.Defects.{IsFreeTable}
-use Rattle.place_repair.specs.Making.{IsBrokenBy, IsBrokenHere}
-use Rattle.place_repair.proofs.Marking.{marked_none, marked_same}
-use Rattle.place_repair.proofs.Using.{not_true_and}
+use Rattle.place_repair.proofs.Vocabulary.{sym, subst, Shape, IsFreeTable, IsBrokenBy, IsBrokenHere}
+use Rattle.place_repair.proofs.{Marking.marked_none, Marking.marked_same, Using.not_true_and}
 use Rattle.place_repair.proofs.keeping.mark_table.Goals as goal
 
 pub returns-then-free_table : goal.returns-then-free_table

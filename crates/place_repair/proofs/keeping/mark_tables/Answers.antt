@@ -1,9 +1,5 @@
-use Rattle.std.proofs.Common.{◌∙◌, arith}
-use Rattle.machine_shape.specs.declared.Table.{Table}
-use Rattle.place_repair.specs.Making.{IsBrokenHere, no_table}
-use Rattle.place_repair.proofs.Unbroken.{tables_first}
-use Rattle.place_repair.proofs.Marking.{marked_none, marked_more, first_none}
-use Rattle.place_repair.proofs.Using.{listed_within}
+use Rattle.place_repair.proofs.Vocabulary.{◌∙◌, arith, Table, IsBrokenHere, no_table}
+use Rattle.place_repair.proofs.{Unbroken.tables_first, Marking.marked_none, Marking.marked_more, Marking.first_none, Using.listed_within}
 use Rattle.place_repair.proofs.keeping.mark_tables.Goals as goal
 
 pub mark_table-requires-clause-sized : goal.mark_table-requires-clause-sized

@@ -1,5 +1,4 @@
-use Rattle.place_repair.specs.Making.{IsBrokenHere, no_table}
-use Rattle.place_repair.specs.Marks.{IsMarked, IsOfFirst}
+use Rattle.place_repair.proofs.Vocabulary.{IsBrokenHere, no_table, IsMarked, IsOfFirst}
 use Rattle.place_repair.proofs.keeping.mark_tables.Given as goal
 
 abbrev pub invariant-loop-k : goal.invariant-loop-k

@@ -1,11 +1,6 @@
 use Rattle.std.proofs.Common.{◌≡◌, ℕ, Bool, false, List, length, replicate, sym, ap, ◌∙◌, subst}
-use Rattle.std.proofs.lemmas.List.{take_at, length-replicate}
-use Rattle.machine_config.specs.Configuration.{Configuration}
-use Rattle.place_repair.specs.Making.{AreNetsOf, IsBroken}
-use Rattle.place_repair.specs.Marks.{AreMarks, IsMarked}
-use Rattle.place_repair.specs.Plans.{AreMoves}
-use Rattle.place_repair.proofs.Unbroken.{broken_moves}
-use Rattle.place_repair.proofs.Marking.{all_marks}
+use Rattle.place_repair.proofs.Vocabulary.{take_at, length-replicate, Configuration, AreNetsOf, IsBroken, AreMarks, IsMarked, AreMoves}
+use Rattle.place_repair.proofs.{Unbroken.broken_moves, Marking.all_marks}
 use Rattle.place_repair.proofs.keeping.moving.Goals as goal
 
 pub mark_broken-requires-clause-nets : goal.mark_broken-requires-clause-nets

@@ -1,5 +1,4 @@
-use Rattle.std.proofs.Common.{◌<◌, sym, ◌∙◌, subst, refl}
-use Rattle.std.proofs.lemmas.Bool.{false≢true}
+use Rattle.place_repair.proofs.Vocabulary.{◌<◌, sym, ◌∙◌, subst, refl, false≢true}
 use Rattle.place_repair.proofs.Hanging.{is_lowest, lowest_is}
 use Rattle.place_repair.proofs.nets.is_lowest.Goals as goal
 

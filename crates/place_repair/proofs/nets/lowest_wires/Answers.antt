@@ -1,8 +1,5 @@
-use Rattle.std.proofs.Common.{◌≡◌, ◌<◌, sym, ap, ◌∙◌, subst, arith}
-use Rattle.machine_shape.specs.Shape.{wires_of}
-use Rattle.place_repair.specs.Nets.{IsLowest}
-use Rattle.place_repair.proofs.Sieving.{sieve_next, sieve_all}
-use Rattle.place_repair.proofs.Hanging.{wire_within}
+use Rattle.place_repair.proofs.Vocabulary.{◌≡◌, ◌<◌, sym, ap, ◌∙◌, subst, arith, wires_of, IsLowest}
+use Rattle.place_repair.proofs.{Sieving.sieve_next, Sieving.sieve_all, Hanging.wire_within}
 use Rattle.place_repair.proofs.nets.lowest_wires.Goals as goal
 
 pub is_lowest-is-requires-clause-within : goal.is_lowest-is-requires-clause-within

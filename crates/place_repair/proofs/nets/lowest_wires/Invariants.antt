@@ -1,5 +1,4 @@
-use Rattle.place_plan.specs.Lists.{AreThose, IsAmongFirst, same_number}
-use Rattle.place_repair.specs.Nets.{IsLowest}
+use Rattle.place_repair.proofs.Vocabulary.{AreThose, IsAmongFirst, same_number, IsLowest}
 use Rattle.place_repair.proofs.nets.lowest_wires.Given as goal
 
 abbrev pub invariant-loop-w : goal.invariant-loop-w

@@ -1,8 +1,5 @@
 use Rattle.std.proofs.Common.{◌≡◌, ◌<◌, ◌≤◌, ℕ, false, length, get_or, sym, ap, ◌∙◌, subst, arith}
-use Rattle.std.proofs.lemmas.Bool.{false≢true}
-use Rattle.std.proofs.lemmas.List.{get_or_read}
-use Rattle.machine_shape.specs.Shape.{wires_of}
-use Rattle.place_repair.specs.Nets.{HasWire, IsEnd}
+use Rattle.place_repair.proofs.Vocabulary.{false≢true, get_or_read, wires_of, HasWire, IsEnd}
 use Rattle.place_repair.proofs.Hanging.{number_has}
 use Rattle.place_repair.proofs.nets.net_of.Goals as goal
 

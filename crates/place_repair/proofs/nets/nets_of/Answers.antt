@@ -1,10 +1,5 @@
 use Rattle.std.proofs.Common.{◌≡◌, ◌<◌, ◌≤◌, ℕ, All, List, length, replicate, sym, ap, ◌∙◌, subst, rules, arith}
-use Rattle.std.proofs.lemmas.List.{take_at, length-replicate}
-use Rattle.machine_shape.specs.Shape.{wires_of}
-use Rattle.place_repair.specs.Groups.{AreLowest}
-use Rattle.place_repair.specs.Marks.{AreMarks}
-use Rattle.place_repair.specs.Nets.{IsEnd}
-use Rattle.place_repair.specs.Making.{AreNumbers}
+use Rattle.place_repair.proofs.Vocabulary.{take_at, length-replicate, wires_of, AreLowest, AreMarks, IsEnd, AreNumbers}
 use Rattle.place_repair.proofs.Hanging.{lowest_within, lowest_few}
 use Rattle.place_repair.proofs.nets.nets_of.Goals as goal
 

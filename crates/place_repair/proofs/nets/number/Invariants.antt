@@ -1,5 +1,4 @@
-use Rattle.std.proofs.Common.{◌≡◌, length}
-use Rattle.place_repair.specs.Making.{AreNumbersTo}
+use Rattle.place_repair.proofs.Vocabulary.{◌≡◌, length, AreNumbersTo}
 use Rattle.place_repair.proofs.nets.number.Given as goal
 
 abbrev pub invariant-loop-k : goal.invariant-loop-k

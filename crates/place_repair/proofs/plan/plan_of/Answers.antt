@@ -1,7 +1,4 @@
-use Rattle.std.proofs.Common.{◌≡◌, ◌<◌, All, sym, ap, ◌∙◌, subst}
-use Rattle.machine_shape.specs.Shape.{tables_of, pins_of}
-use Rattle.machine_config.specs.Configuration.{Configuration}
-use Rattle.place_repair.specs.Making.{AreNetsOf, ArePlaces}
+use Rattle.place_repair.proofs.Vocabulary.{◌≡◌, ◌<◌, All, sym, ap, ◌∙◌, subst, tables_of, pins_of, Configuration, AreNetsOf, ArePlaces}
 use Rattle.place_repair.proofs.Seating.{table_within, table_apart, pin_within, pin_apart}
 use Rattle.place_repair.proofs.plan.plan_of.Goals as goal
 

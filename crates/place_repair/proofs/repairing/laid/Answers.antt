@@ -1,10 +1,7 @@
 use Rattle.std.proofs.Common.{ℕ, All, List, length, refl, sym, ◌∙◌, subst}
-use Rattle.machine_shape.specs.declared.Shape.{Shape}
+use Rattle.place_repair.proofs.Vocabulary.{Shape, AreWires, IsRoom, HasTerminal, IsRedrawn, need_of}
 use Rattle.place_plan.specs.declared.short.Room.TheVariants.{Enough}
-use Rattle.place_plan.specs.Vocabulary.{AreWires, IsRoom, HasTerminal}
 use Rattle.place_route.proofs.Making.{numbering}
-use Rattle.place_repair.specs.Making.{IsRedrawn}
-use Rattle.place_repair.specs.Plans.{need_of}
 use Rattle.place_repair.proofs.Repaired.{sized_for, tables_apart, pins_apart, lists_within, few_lists, short_plan, redraw_wires, repaired, repaired_free, repaired_rows, room_as}
 use Rattle.place_repair.proofs.repairing.laid.Goals as goal
 

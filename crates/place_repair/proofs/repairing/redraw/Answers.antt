@@ -1,10 +1,5 @@
-use Rattle.std.proofs.Common.{◌≡◌, ◌<◌, All, length, refl, sym, ap, ◌∙◌, subst}
-use Rattle.machine_shape.specs.Shape.{pins_of}
-use Rattle.machine_config.specs.Configuration.{Configuration}
-use Rattle.machine_image.specs.Images.{ImageValue, IsImage}
-use Rattle.place_route.specs.Routed.{AreWiresOf}
-use Rattle.place_repair.specs.Making.{AreApart, AreSizedFor, IsDrawn, IsRedrawn}
-use Rattle.machine_image.proofs.Touching.{inputs_within, outputs_within}
+use Rattle.place_repair.proofs.Vocabulary.{◌≡◌, ◌<◌, All, length, refl, sym, ap, ◌∙◌, subst, pins_of, Configuration, ImageValue, IsImage}
+use Rattle.place_repair.proofs.Vocabulary.{AreWiresOf, AreApart, AreSizedFor, IsDrawn, IsRedrawn, inputs_within, outputs_within}
 use Rattle.place_repair.proofs.Redrawing.{moved_as, drawn_shape, places_within, places_apart, few_closed, few_on}
 use Rattle.place_repair.proofs.repairing.redraw.Goals as goal
 

@@ -1,5 +1,4 @@
-use Rattle.std.proofs.Common.{subst}
-use Rattle.place_plan.specs.Room.{IsMet}
+use Rattle.place_repair.proofs.Vocabulary.{subst, IsMet}
 use Rattle.place_repair.proofs.Repaired.{short_tables, short_pins}
 use Rattle.place_repair.proofs.repairing.repair.Goals as goal
 

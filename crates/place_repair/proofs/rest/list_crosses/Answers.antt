@@ -1,6 +1,4 @@
-use Rattle.std.proofs.Common.{◌≡◌, ◌<◌, sym, ap, ◌∙◌, subst, arith}
-use Rattle.machine_shape.specs.Shape.{crosses_of}
-use Rattle.place_repair.specs.Making.{IsCrossRest}
+use Rattle.place_repair.proofs.Vocabulary.{◌≡◌, ◌<◌, sym, ap, ◌∙◌, subst, arith, crosses_of, IsCrossRest}
 use Rattle.place_repair.proofs.Resting.{crosses_begin, crosses_more}
 use Rattle.place_repair.proofs.rest.list_crosses.Goals as goal
 

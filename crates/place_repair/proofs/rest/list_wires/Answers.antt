@@ -1,6 +1,4 @@
-use Rattle.std.proofs.Common.{◌≡◌, ◌<◌, sym, ap, ◌∙◌, subst, arith}
-use Rattle.machine_shape.specs.Shape.{wires_of}
-use Rattle.place_repair.specs.Making.{IsWireRest}
+use Rattle.place_repair.proofs.Vocabulary.{◌≡◌, ◌<◌, sym, ap, ◌∙◌, subst, arith, wires_of, IsWireRest}
 use Rattle.place_repair.proofs.Resting.{wires_begin, wires_more}
 use Rattle.place_repair.proofs.rest.list_wires.Goals as goal
 

@@ -1,9 +1,5 @@
 use Rattle.std.proofs.Common.{◌≡◌, sym, ap, ◌∙◌, subst}
-use Rattle.machine_shape.specs.declared.Shape.{Shape}
-use Rattle.machine_shape.specs.Shape.{wires_of}
-use Rattle.machine_defects.specs.Lists.{DefectList, no_defects}
-use Rattle.machine_config.specs.Configuration.{Configuration}
-use Rattle.place_repair.specs.Making.{AreSizedFor, IsWireRest}
+use Rattle.place_repair.proofs.Vocabulary.{Shape, wires_of, DefectList, no_defects, Configuration, AreSizedFor, IsWireRest}
 use Rattle.place_repair.proofs.Resting.{rest_made}
 use Rattle.place_repair.proofs.rest.rest_of.Goals as goal
 

@@ -1,5 +1,4 @@
-use Rattle.std.proofs.Common.{◌≡◌, ℕ, false, get_or, sym, ap, ◌∙◌, arith}
-use Rattle.std.proofs.lemmas.Bool.{false≢true, not-true, not_from_false}
+use Rattle.place_repair.proofs.Vocabulary.{◌≡◌, ℕ, false, get_or, sym, ap, ◌∙◌, arith, false≢true, not-true, not_from_false}
 use Rattle.place_repair.proofs.Hanging.{has_end, mark_read, mark_within, one_net_has}
 use Rattle.place_repair.proofs.rest.stays.Goals as goal
 

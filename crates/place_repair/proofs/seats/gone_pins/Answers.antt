@@ -1,7 +1,4 @@
-use Rattle.std.proofs.Common.{◌++◌, ap, ◌∙◌}
-use Rattle.std.specs.List.{filter}
-use Rattle.place_repair.specs.Plans.{is_gone_pin}
-use Rattle.machine_image.proofs.Touching.{inputs_within, outputs_within}
+use Rattle.place_repair.proofs.Vocabulary.{◌++◌, ap, ◌∙◌, filter, is_gone_pin, inputs_within, outputs_within}
 use Rattle.place_repair.proofs.Placing.{filter_both}
 use Rattle.place_repair.proofs.seats.gone_pins.Goals as goal
 

@@ -1,8 +1,5 @@
-use Rattle.std.proofs.Common.{◌≡◌, ◌<◌, sym, ap, ◌∙◌, subst, arith}
-use Rattle.machine_shape.specs.Shape.{tables_of}
-use Rattle.place_repair.specs.Plans.{IsGoneTable}
-use Rattle.place_repair.proofs.Placed.{on_within}
-use Rattle.place_repair.proofs.Sieving.{sieve_next, sieve_all}
+use Rattle.place_repair.proofs.Vocabulary.{◌≡◌, ◌<◌, sym, ap, ◌∙◌, subst, arith, tables_of, IsGoneTable}
+use Rattle.place_repair.proofs.{Placed.on_within, Sieving.sieve_next, Sieving.sieve_all}
 use Rattle.place_repair.proofs.seats.gone_tables.Goals as goal
 
 pub is_gone-goes-requires-clause-within : goal.is_gone-goes-requires-clause-within

@@ -1,5 +1,4 @@
-use Rattle.place_plan.specs.Lists.{AreThose, IsAmongFirst, same_number}
-use Rattle.place_repair.specs.Plans.{IsGoneTable}
+use Rattle.place_repair.proofs.Vocabulary.{AreThose, IsAmongFirst, same_number, IsGoneTable}
 use Rattle.place_repair.proofs.seats.gone_tables.Given as goal
 
 abbrev pub invariant-loop-t : goal.invariant-loop-t

@@ -1,8 +1,4 @@
-use Rattle.std.proofs.Common.{◌≡◌, sym, ap, ◌∙◌, subst, IsSome}
-use Rattle.std.proofs.lemmas.Bool.{false≢true}
-use Rattle.machine_shape.specs.declared.Shape.{Shape}
-use Rattle.machine_meaning.specs.Defects.{IsFreeTable}
-use Rattle.machine_config.specs.Configuration.{Configuration, setting_of}
+use Rattle.place_repair.proofs.Vocabulary.{◌≡◌, sym, ap, ◌∙◌, subst, IsSome, false≢true, Shape, IsFreeTable, Configuration, setting_of}
 use Rattle.place_repair.proofs.Using.{not_true_and, on_is, is_on}
 use Rattle.place_repair.proofs.seats.is_gone.Goals as goal
 

@@ -1,6 +1,4 @@
-use Rattle.std.proofs.Common.{◌≡◌, not, ap, ◌∙◌}
-use Rattle.machine_shape.specs.Shape.{pin_wire}
-use Rattle.machine_defects.specs.Lists.{is_free_wire}
+use Rattle.place_repair.proofs.Vocabulary.{◌≡◌, not, ap, ◌∙◌, pin_wire, is_free_wire}
 use Rattle.place_repair.proofs.Taking.{free_tested}
 use Rattle.place_repair.proofs.seats.is_gone_pin.Goals as goal
 

@@ -1,12 +1,6 @@
 use Rattle.std.proofs.Common.{◌≡◌, ℕ, sym, ap, ◌∙◌, subst}
-use Rattle.std.proofs.lemmas.Bool.{false≢true}
-use Rattle.machine_shape.specs.declared.Shape.{Shape}
-use Rattle.machine_shape.specs.Shape.{table_wire}
-use Rattle.machine_meaning.specs.Defects.{IsFreeTable}
-use Rattle.machine_config.specs.Configuration.{Configuration, setting_of}
-use Rattle.place_repair.specs.Making.{IsUnusedTo}
-use Rattle.place_repair.proofs.Sparing.{off_is, is_off, unused_of, of_unused}
-use Rattle.place_repair.proofs.Using.{not_true_and}
+use Rattle.place_repair.proofs.Vocabulary.{false≢true, Shape, table_wire, IsFreeTable, Configuration, setting_of, IsUnusedTo}
+use Rattle.place_repair.proofs.{Sparing.off_is, Sparing.is_off, Sparing.unused_of, Sparing.of_unused, Using.not_true_and}
 use Rattle.place_repair.proofs.seats.is_spare.Goals as goal
 
 pub returns-then-not-free_table : goal.returns-then-not-free_table

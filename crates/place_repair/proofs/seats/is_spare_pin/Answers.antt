@@ -1,10 +1,6 @@
 use Rattle.std.proofs.Common.{◌≡◌, false, get_or, sym, ap, ◌∙◌, subst}
-use Rattle.std.proofs.lemmas.Bool.{false≢true, not-true, not_from_false}
-use Rattle.machine_shape.specs.declared.Shape.{Shape}
-use Rattle.machine_shape.specs.Shape.{pin_wire}
-use Rattle.machine_meaning.specs.Defects.{IsFreeWire}
-use Rattle.place_repair.proofs.Sparing.{unused_of, of_unused}
-use Rattle.place_repair.proofs.Using.{not_true_and}
+use Rattle.place_repair.proofs.Vocabulary.{false≢true, not-true, not_from_false, Shape, pin_wire, IsFreeWire}
+use Rattle.place_repair.proofs.{Sparing.unused_of, Sparing.of_unused, Using.not_true_and}
 use Rattle.place_repair.proofs.seats.is_spare_pin.Goals as goal
 
 pub returns-then-not-free_wire : goal.returns-then-not-free_wire

@@ -1,6 +1,4 @@
-use Rattle.std.proofs.Common.{◌≡◌, false, get_or, sym, ap, ◌∙◌, subst, arith, refl}
-use Rattle.std.proofs.lemmas.Bool.{false≢true}
-use Rattle.place_repair.specs.Making.{IsUnusedTo}
+use Rattle.place_repair.proofs.Vocabulary.{◌≡◌, false, get_or, sym, ap, ◌∙◌, subst, arith, refl, false≢true, IsUnusedTo}
 use Rattle.place_repair.proofs.Sparing.{unused_none, unused_more}
 use Rattle.place_repair.proofs.seats.is_unused.Goals as goal
 

@@ -1,6 +1,4 @@
-use Rattle.std.proofs.Common.{map, ap, ◌∙◌, refl}
-use Rattle.std.proofs.lemmas.List.{take_all}
-use Rattle.place_plan.specs.Lists.{nth_of}
+use Rattle.place_repair.proofs.Vocabulary.{map, ap, ◌∙◌, refl, take_all, nth_of}
 use Rattle.place_repair.proofs.Placing.{map_more}
 use Rattle.place_repair.proofs.seats.moved.Goals as goal
 

@@ -1,5 +1,4 @@
-use Rattle.std.proofs.Common.{◌≡◌, map, take}
-use Rattle.place_plan.specs.Lists.{nth_of}
+use Rattle.place_repair.proofs.Vocabulary.{◌≡◌, map, take, nth_of}
 use Rattle.place_repair.proofs.seats.moved.Given as goal
 
 abbrev pub invariant-loop-i : goal.invariant-loop-i

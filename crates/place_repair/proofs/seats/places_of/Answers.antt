@@ -1,7 +1,5 @@
 use Rattle.std.proofs.Common.{◌≡◌, ◌≢◌, ◌<◌, ◌≤◌, ℕ, All, AllPairs, List, length, sym, ap, ◌∙◌, subst, arith}
-use Rattle.std.proofs.lemmas.List.{take_at}
-use Rattle.std.proofs.lemmas.List.FromFn.{length-range_with_len}
-use Rattle.place_repair.specs.Making.{ArePlaces, IsPut}
+use Rattle.place_repair.proofs.Vocabulary.{take_at, length-range_with_len, ArePlaces, IsPut}
 use Rattle.place_repair.proofs.Placing.{places_are}
 use Rattle.place_repair.proofs.seats.places_of.Goals as goal
 

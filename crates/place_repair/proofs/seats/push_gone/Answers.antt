@@ -1,7 +1,4 @@
-use Rattle.std.proofs.Common.{◌++◌, sym, ap, ◌∙◌}
-use Rattle.std.specs.List.{filter}
-use Rattle.std.proofs.lemmas.List.{append-nil, take_all}
-use Rattle.place_repair.specs.Plans.{is_gone_pin}
+use Rattle.place_repair.proofs.Vocabulary.{◌++◌, sym, ap, ◌∙◌, filter, append-nil, take_all, is_gone_pin}
 use Rattle.place_repair.proofs.Placing.{filter_more}
 use Rattle.place_repair.proofs.seats.push_gone.Goals as goal
 

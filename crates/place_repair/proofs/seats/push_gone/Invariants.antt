@@ -1,6 +1,4 @@
-use Rattle.std.proofs.Common.{◌≡◌, ◌++◌, take}
-use Rattle.std.specs.List.{filter}
-use Rattle.place_repair.specs.Plans.{is_gone_pin}
+use Rattle.place_repair.proofs.Vocabulary.{◌≡◌, ◌++◌, take, filter, is_gone_pin}
 use Rattle.place_repair.proofs.seats.push_gone.Given as goal
 
 abbrev pub invariant-loop-i : goal.invariant-loop-i

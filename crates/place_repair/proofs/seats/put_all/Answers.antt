@@ -1,5 +1,4 @@
-use Rattle.std.proofs.Common.{◌≡◌, ◌<◌, All, length, sym, subst, arith}
-use Rattle.place_repair.specs.Making.{IsPut}
+use Rattle.place_repair.proofs.Vocabulary.{◌≡◌, ◌<◌, All, length, sym, subst, arith, IsPut}
 use Rattle.place_repair.proofs.Placing.{put_none, put_more}
 use Rattle.place_repair.proofs.seats.put_all.Goals as goal
 

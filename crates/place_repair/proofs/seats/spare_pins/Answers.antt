@@ -1,6 +1,4 @@
-use Rattle.std.proofs.Common.{◌≡◌, ◌<◌, sym, ap, ◌∙◌, subst, arith}
-use Rattle.machine_shape.specs.Shape.{pins_of}
-use Rattle.place_repair.specs.Plans.{IsSparePin}
+use Rattle.place_repair.proofs.Vocabulary.{◌≡◌, ◌<◌, sym, ap, ◌∙◌, subst, arith, pins_of, IsSparePin}
 use Rattle.place_repair.proofs.Sieving.{sieve_next, sieve_all}
 use Rattle.place_repair.proofs.seats.spare_pins.Goals as goal
 

@@ -1,5 +1,4 @@
-use Rattle.place_plan.specs.Lists.{AreThose, IsAmongFirst, same_number}
-use Rattle.place_repair.specs.Plans.{IsSparePin}
+use Rattle.place_repair.proofs.Vocabulary.{AreThose, IsAmongFirst, same_number, IsSparePin}
 use Rattle.place_repair.proofs.seats.spare_pins.Given as goal
 
 abbrev pub invariant-loop-p : goal.invariant-loop-p

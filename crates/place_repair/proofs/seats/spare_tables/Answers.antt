@@ -1,6 +1,4 @@
-use Rattle.std.proofs.Common.{◌≡◌, ◌<◌, sym, ap, ◌∙◌, subst, arith}
-use Rattle.machine_shape.specs.Shape.{tables_of}
-use Rattle.place_repair.specs.Plans.{IsSpareTable}
+use Rattle.place_repair.proofs.Vocabulary.{◌≡◌, ◌<◌, sym, ap, ◌∙◌, subst, arith, tables_of, IsSpareTable}
 use Rattle.place_repair.proofs.Sieving.{sieve_next, sieve_all}
 use Rattle.place_repair.proofs.seats.spare_tables.Goals as goal
 

@@ -1,5 +1,4 @@
-use Rattle.place_plan.specs.Lists.{AreThose, IsAmongFirst, same_number}
-use Rattle.place_repair.specs.Plans.{IsSpareTable}
+use Rattle.place_repair.proofs.Vocabulary.{AreThose, IsAmongFirst, same_number, IsSpareTable}
 use Rattle.place_repair.proofs.seats.spare_tables.Given as goal
 
 abbrev pub invariant-loop-t : goal.invariant-loop-t

@@ -1,7 +1,5 @@
 use Rattle.std.proofs.Common.{◌≡◌, ◌<◌, false, get_or, sym, ap, ◌∙◌, subst, arith}
-use Rattle.std.proofs.lemmas.Bool.{false≢true}
-use Rattle.std.proofs.lemmas.Result.{on_ok_weaker}
-use Rattle.place_repair.specs.Making.{IsAdded, IsMovedTo}
+use Rattle.place_repair.proofs.Vocabulary.{false≢true, on_ok_weaker, IsAdded, IsMovedTo}
 use Rattle.place_repair.proofs.Hanging.{has_end, mark_read, mark_within, one_net_has}
 use Rattle.place_repair.proofs.Adding.{added_none, added_to}
 use Rattle.place_repair.proofs.terminals.add_moved.Goals as goal

@@ -1,9 +1,5 @@
 use Rattle.std.proofs.Common.{◌≡◌, ◌<◌, ℕ, length, get_or, sym, ap, ◌∙◌, subst, arith}
-use Rattle.std.proofs.lemmas.List.{get_or_read}
-use Rattle.machine_shape.specs.declared.Shape.{Shape}
-use Rattle.machine_shape.specs.Shape.{pin_wire, pins_of, wires_of}
-use Rattle.place_plan.specs.Lists.{nth_of}
-use Rattle.place_repair.specs.Making.{IsAdded, IsFirstPinTerminal, IsMovedTo}
+use Rattle.place_repair.proofs.Vocabulary.{get_or_read, Shape, pin_wire, pins_of, wires_of, nth_of, IsAdded, IsFirstPinTerminal, IsMovedTo}
 use Rattle.place_repair.proofs.Adding.{added_none, no_pins, pins_more, pins_all}
 use Rattle.place_repair.proofs.terminals.add_pins.Goals as goal
 

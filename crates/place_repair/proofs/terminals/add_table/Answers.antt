@@ -1,6 +1,4 @@
-use Rattle.std.proofs.Common.{◌≡◌, ◌<◌, sym, ap, ◌∙◌, subst, arith}
-use Rattle.machine_shape.specs.declared.Shape.{Shape}
-use Rattle.machine_shape.specs.Shape.{table_wire, tables_of, wires_of}
+use Rattle.place_repair.proofs.Vocabulary.{◌≡◌, ◌<◌, sym, ap, ◌∙◌, subst, arith, Shape, table_wire, tables_of, wires_of}
 use Rattle.place_repair.specs.Making.{IsAdded, IsTablePinTerminal, IsMovedTo}
 use Rattle.place_repair.proofs.Adding.{added_none, no_table_pins, table_pins_more}
 use Rattle.place_repair.proofs.terminals.add_table.Goals as goal

@@ -1,10 +1,6 @@
-use Rattle.std.proofs.Common.{◌≡◌, ◌<◌, ℕ, List, length, get_or, sym, ◌∙◌, subst, arith}
-use Rattle.std.proofs.lemmas.List.{get_or_read}
-use Rattle.machine_shape.specs.Shape.{tables_of}
-use Rattle.place_plan.specs.Lists.{nth_of}
+use Rattle.place_repair.proofs.Vocabulary.{◌≡◌, ◌<◌, ℕ, List, length, get_or, sym, ◌∙◌, subst, arith, get_or_read, tables_of, nth_of}
 use Rattle.place_repair.specs.Making.{IsAdded, IsFirstTableTerminal, IsTablePinTerminal, no_table}
-use Rattle.place_repair.proofs.Adding.{added_none, no_tables, tables_more, tables_all}
-use Rattle.place_repair.proofs.Using.{listed_within}
+use Rattle.place_repair.proofs.{Adding.added_none, Adding.no_tables, Adding.tables_more, Adding.tables_all, Using.listed_within}
 use Rattle.place_repair.proofs.terminals.add_tables.Goals as goal
 
 -- the place of a table of the machine

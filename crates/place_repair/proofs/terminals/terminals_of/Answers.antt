@@ -1,9 +1,7 @@
 use Rattle.std.proofs.Common.{◌≡◌, ℕ, [], List, length, replicate, sym, ap, ◌∙◌, subst}
-use Rattle.std.proofs.lemmas.List.{take_at, length-replicate}
-use Rattle.machine_config.specs.Configuration.{Configuration}
+use Rattle.place_repair.proofs.Vocabulary.{take_at, length-replicate, Configuration, inputs_within, outputs_within}
 use Rattle.place_repair.specs.Making.{AreSizedFor, AreTerminalsOf, IsAdded, IsPinTerminal, IsTableTerminal}
 use Rattle.place_repair.proofs.Adding.{terminals_made}
-use Rattle.machine_image.proofs.Touching.{inputs_within, outputs_within}
 use Rattle.place_repair.proofs.terminals.terminals_of.Goals as goal
 
 pub add_pins-requires-clause-plan : goal.add_pins-requires-clause-plan

@@ -1,8 +1,5 @@
 use Rattle.std.proofs.Common.{◌≡◌, ℕ, Bool, false, List, length, replicate, sym, ap, ◌∙◌, subst}
-use Rattle.std.proofs.lemmas.List.{take_at, length-replicate}
-use Rattle.machine_shape.specs.Shape.{wires_of}
-use Rattle.place_repair.specs.Marks.{AreMarks, IsMarked}
-use Rattle.place_repair.specs.Nets.{IsEnd}
+use Rattle.place_repair.proofs.Vocabulary.{take_at, length-replicate, wires_of, AreMarks, IsMarked, IsEnd}
 use Rattle.place_repair.proofs.Marking.{all_marks}
 use Rattle.place_repair.proofs.uses.ends_of.Goals as goal
 

@@ -1,5 +1,4 @@
-use Rattle.std.proofs.Common.{◌≡◌, ◌⊎◌, ◌<◌, ℕ, sym, ◌∙◌, subst}
-use Rattle.place_repair.specs.Marks.{IsMarked, IsThis}
+use Rattle.place_repair.proofs.Vocabulary.{◌≡◌, ◌⊎◌, ◌<◌, ℕ, sym, ◌∙◌, subst, IsMarked, IsThis}
 use Rattle.place_repair.proofs.Marking.{marked_both}
 use Rattle.place_repair.proofs.uses.mark_cross.Goals as goal
 

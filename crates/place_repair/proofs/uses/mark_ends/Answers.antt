@@ -1,13 +1,6 @@
 use Rattle.std.proofs.Common.{◌<◌, get_or, sym, ap, ◌∙◌, subst, arith}
-use Rattle.machine_shape.specs.declared.Cross.{Cross}
-use Rattle.machine_shape.specs.declared.Shape.{Shape}
-use Rattle.machine_shape.specs.Shape.{wires_of, crosses_of}
-use Rattle.machine_config.specs.Configuration.{is_closed}
-use Rattle.place_repair.specs.Making.{IsEndOf, no_cross}
-use Rattle.place_repair.specs.Marks.{IsOfFirst}
-use Rattle.machine_image.proofs.Keyed.{of_list}
-use Rattle.place_repair.proofs.Marking.{marked_none, marked_more, first_none}
-use Rattle.place_repair.proofs.Using.{ends_first}
+use Rattle.place_repair.proofs.Vocabulary.{Cross, Shape, wires_of, crosses_of, is_closed, IsEndOf, no_cross, IsOfFirst, of_list}
+use Rattle.place_repair.proofs.{Marking.marked_none, Marking.marked_more, Marking.first_none, Using.ends_first}
 use Rattle.place_repair.proofs.uses.mark_ends.Goals as goal
 
 pub mark_cross-requires-clause-sized : goal.mark_cross-requires-clause-sized

@@ -1,5 +1,4 @@
-use Rattle.place_repair.specs.Making.{IsEndOf, no_cross}
-use Rattle.place_repair.specs.Marks.{IsMarked, IsOfFirst}
+use Rattle.place_repair.proofs.Vocabulary.{IsEndOf, no_cross, IsMarked, IsOfFirst}
 use Rattle.place_repair.proofs.uses.mark_ends.Given as goal
 
 abbrev pub invariant-loop-k : goal.invariant-loop-k

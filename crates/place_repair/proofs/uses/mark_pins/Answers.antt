@@ -1,8 +1,5 @@
-use Rattle.std.proofs.Common.{◌≡◌, ◌<◌, sym, ◌∙◌, subst, arith}
-use Rattle.machine_shape.specs.Shape.{pin_wire}
-use Rattle.place_repair.specs.Marks.{IsMarked, IsOfFirst}
-use Rattle.place_repair.proofs.Marking.{marked_none, marked_more, first_none}
-use Rattle.place_repair.proofs.Using.{pins_first}
+use Rattle.place_repair.proofs.Vocabulary.{◌≡◌, ◌<◌, sym, ◌∙◌, subst, arith, pin_wire, IsMarked, IsOfFirst}
+use Rattle.place_repair.proofs.{Marking.marked_none, Marking.marked_more, Marking.first_none, Using.pins_first}
 use Rattle.place_repair.proofs.uses.mark_pins.Goals as goal
 
 pub mark-requires : goal.mark-requires

@@ -1,6 +1,4 @@
-use Rattle.std.proofs.Common.{◌≡◌}
-use Rattle.machine_shape.specs.Shape.{pin_wire}
-use Rattle.place_repair.specs.Marks.{IsMarked, IsOfFirst}
+use Rattle.place_repair.proofs.Vocabulary.{◌≡◌, pin_wire, IsMarked, IsOfFirst}
 use Rattle.place_repair.proofs.uses.mark_pins.Given as goal
 
 abbrev pub invariant-loop-i : goal.invariant-loop-i

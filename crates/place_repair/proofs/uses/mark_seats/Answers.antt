@@ -1,10 +1,6 @@
 use Rattle.std.proofs.Common.{◌≡◌, Bool, List, sym, ap, ◌∙◌, subst}
-use Rattle.machine_shape.specs.Shape.{wires_of}
-use Rattle.machine_config.specs.Configuration.{Configuration}
-use Rattle.place_repair.specs.Making.{IsOnPin, IsPinOf}
-use Rattle.place_repair.specs.Marks.{IsMarked}
+use Rattle.place_repair.proofs.Vocabulary.{wires_of, Configuration, IsOnPin, IsPinOf, IsMarked, inputs_within, outputs_within}
 use Rattle.place_repair.proofs.Using.{seats_marked}
-use Rattle.machine_image.proofs.Touching.{inputs_within, outputs_within}
 use Rattle.place_repair.proofs.uses.mark_seats.Goals as goal
 
 pub mark_pins-requires-clause-sized : goal.mark_pins-requires-clause-sized

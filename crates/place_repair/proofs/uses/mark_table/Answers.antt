@@ -1,8 +1,5 @@
-use Rattle.std.proofs.Common.{◌≡◌, ◌<◌, sym, ◌∙◌, subst, arith}
-use Rattle.place_repair.specs.Making.{IsTablePin}
-use Rattle.place_repair.specs.Marks.{IsMarked}
-use Rattle.place_repair.proofs.Marking.{marked_none, none_below}
-use Rattle.place_repair.proofs.Using.{table_more}
+use Rattle.place_repair.proofs.Vocabulary.{◌≡◌, ◌<◌, sym, ◌∙◌, subst, arith, IsTablePin, IsMarked}
+use Rattle.place_repair.proofs.{Marking.marked_none, Marking.none_below, Using.table_more}
 use Rattle.place_repair.proofs.uses.mark_table.Goals as goal
 
 pub mark-requires : goal.mark-requires

@@ -1,5 +1,4 @@
-use Rattle.place_repair.specs.Making.{IsTablePin}
-use Rattle.place_repair.specs.Marks.{IsMarked}
+use Rattle.place_repair.proofs.Vocabulary.{IsTablePin, IsMarked}
 use Rattle.place_repair.proofs.uses.mark_table.Given as goal
 
 abbrev pub invariant-loop-j : goal.invariant-loop-j

@@ -1,11 +1,6 @@
 use Rattle.std.proofs.Common.{◌<◌, get_or, sym, ap, ◌∙◌, subst, arith}
-use Rattle.machine_shape.specs.declared.Shape.{Shape}
-use Rattle.machine_shape.specs.declared.Table.{Table}
-use Rattle.machine_shape.specs.Shape.{wires_of, tables_of}
-use Rattle.place_repair.specs.Making.{IsTablePin, no_table}
-use Rattle.place_repair.specs.Marks.{IsOfFirst}
-use Rattle.place_repair.proofs.Marking.{marked_none, marked_more, first_none}
-use Rattle.place_repair.proofs.Using.{listed_within, on_first}
+use Rattle.place_repair.proofs.Vocabulary.{Shape, Table, wires_of, tables_of, IsTablePin, no_table, IsOfFirst}
+use Rattle.place_repair.proofs.{Marking.marked_none, Marking.marked_more, Marking.first_none, Using.listed_within, Using.on_first}
 use Rattle.place_repair.proofs.uses.mark_tables.Goals as goal
 
 pub mark_table-requires-clause-sized : goal.mark_table-requires-clause-sized

@@ -1,5 +1,4 @@
-use Rattle.place_repair.specs.Making.{IsTablePin, no_table}
-use Rattle.place_repair.specs.Marks.{IsMarked, IsOfFirst}
+use Rattle.place_repair.proofs.Vocabulary.{IsTablePin, no_table, IsMarked, IsOfFirst}
 use Rattle.place_repair.proofs.uses.mark_tables.Given as goal
 
 abbrev pub invariant-loop-k : goal.invariant-loop-k

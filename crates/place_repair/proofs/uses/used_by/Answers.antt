@@ -1,11 +1,5 @@
 use Rattle.std.proofs.Common.{◌≡◌, ℕ, Bool, List, length, sym, ap, ◌∙◌, subst}
-use Rattle.std.proofs.lemmas.List.{take_at}
-use Rattle.machine_shape.specs.Shape.{wires_of}
-use Rattle.machine_config.specs.Configuration.{Configuration}
-use Rattle.machine_image.specs.Parts.{Uses}
-use Rattle.place_repair.specs.Marks.{AreMarks, IsMarked}
-use Rattle.place_repair.specs.Making.{IsSeatPin}
-use Rattle.place_repair.specs.Nets.{IsEnd}
+use Rattle.place_repair.proofs.Vocabulary.{take_at, wires_of, Configuration, Uses, AreMarks, IsMarked, IsSeatPin, IsEnd}
 use Rattle.place_repair.proofs.Using.{uses_marked}
 use Rattle.place_repair.proofs.uses.used_by.Goals as goal
 

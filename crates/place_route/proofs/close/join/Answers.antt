@@ -1,5 +1,4 @@
-use Rattle.std.proofs.Common.{sym}
-use Rattle.std.proofs.lemmas.Result.{on_ok_weaker}
+use Rattle.std.proofs.{Common.sym, lemmas.Result.on_ok_weaker}
 use Rattle.place_route.proofs.Joining.{join_one}
 use Rattle.place_route.proofs.close.join.Goals as goal
 

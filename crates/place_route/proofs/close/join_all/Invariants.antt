@@ -1,5 +1,4 @@
-use Rattle.std.proofs.Common.{◌*◌}
-use Rattle.place_route.specs.Closing.{Closes, IsOwnedJoint}
+use Rattle.place_route.proofs.Vocabulary.{◌*◌, Closes, IsOwnedJoint}
 use Rattle.place_route.proofs.close.join_all.Given as goal
 
 abbrev pub invariant-loop-wire : goal.invariant-loop-wire

@@ -1,7 +1,4 @@
-use Rattle.std.proofs.Common.{take, get_or}
-use Rattle.std.proofs.lemmas.List.{take_more}
-use Rattle.place_plan.specs.declared.short.Visit.{Visit}
-use Rattle.place_plan.specs.Room.{visit_for}
+use Rattle.place_route.proofs.Vocabulary.{take, get_or, take_more, Visit, visit_for}
 use Rattle.place_route.proofs.Lining.{no_lines, lines_more}
 use Rattle.place_route.proofs.lines.lines_of.Goals as goal
 

@@ -1,5 +1,4 @@
-use Rattle.std.proofs.Common.{take}
-use Rattle.place_route.specs.Owners.{AreLines}
+use Rattle.place_route.proofs.Vocabulary.{take, AreLines}
 use Rattle.place_route.proofs.lines.lines_of.Given as goal
 
 abbrev pub invariant-loop-visit : goal.invariant-loop-visit

@@ -1,5 +1,4 @@
-use Rattle.std.proofs.Common.{ℕ, take, get_or, length, ◌<◌, arith}
-use Rattle.std.proofs.lemmas.List.{take_more}
+use Rattle.place_route.proofs.Vocabulary.{ℕ, take, get_or, length, ◌<◌, arith, take_more}
 use Rattle.place_route.proofs.Marking.{wire_more}
 use Rattle.place_route.proofs.owners.mark_net.Goals as goal
 

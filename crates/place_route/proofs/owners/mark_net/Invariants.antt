@@ -1,5 +1,4 @@
-use Rattle.std.proofs.Common.{take}
-use Rattle.place_route.specs.Owners.{IsClaimedBy, IsMarked}
+use Rattle.place_route.proofs.Vocabulary.{take, IsClaimedBy, IsMarked}
 use Rattle.place_route.proofs.owners.mark_net.Given as goal
 
 abbrev pub invariant-loop-wire : goal.invariant-loop-wire

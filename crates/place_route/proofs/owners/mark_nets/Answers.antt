@@ -1,6 +1,4 @@
-use Rattle.std.proofs.Common.{◌≡◌, ℕ, List, [], get_or, ◌∙◌, arith}
-use Rattle.std.proofs.lemmas.List.{get_or_read}
-use Rattle.place_route.specs.Owners.{IsMarked, IsClaimedBy}
+use Rattle.place_route.proofs.Vocabulary.{◌≡◌, ℕ, List, [], get_or, ◌∙◌, arith, get_or_read, IsMarked, IsClaimedBy}
 use Rattle.place_route.proofs.Marking.{net_more, nets_end}
 use Rattle.place_route.proofs.owners.mark_nets.Goals as goal
 

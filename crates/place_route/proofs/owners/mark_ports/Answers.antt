@@ -1,7 +1,4 @@
-use Rattle.std.proofs.Common.{take, get_or, length, ◌<◌, arith}
-use Rattle.std.proofs.lemmas.List.{take_more}
-use Rattle.place_plan.specs.declared.short.Port.{Port}
-use Rattle.place_plan.specs.Room.{port_for}
+use Rattle.place_route.proofs.Vocabulary.{take, get_or, length, ◌<◌, arith, take_more, Port, port_for}
 use Rattle.place_route.proofs.Marking.{port_more}
 use Rattle.place_route.proofs.owners.mark_ports.Goals as goal
 

@@ -1,5 +1,4 @@
-use Rattle.std.proofs.Common.{take}
-use Rattle.place_route.specs.Owners.{HoldsPort, IsMarked}
+use Rattle.place_route.proofs.Vocabulary.{take, HoldsPort, IsMarked}
 use Rattle.place_route.proofs.owners.mark_ports.Given as goal
 
 abbrev pub invariant-loop-port : goal.invariant-loop-port

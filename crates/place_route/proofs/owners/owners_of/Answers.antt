@@ -1,8 +1,5 @@
 use Rattle.std.proofs.Common.{◌≡◌, ℕ, List, Option, length, None, replicate, sym, ap, ◌∙◌, subst, rules}
-use Rattle.std.proofs.lemmas.List.{take_at}
-use Rattle.machine_shape.specs.Shape.{wires_of}
-use Rattle.place_plan.specs.Room.{HasTerminal}
-use Rattle.place_route.specs.Owners.{IsMarked, HoldsPort, AreOwners}
+use Rattle.place_route.proofs.Vocabulary.{take_at, wires_of, HasTerminal, IsMarked, HoldsPort, AreOwners}
 use Rattle.place_route.proofs.Marking.{owners_end}
 use Rattle.place_route.proofs.owners.owners_of.Goals as goal
 

@@ -1,10 +1,7 @@
 use Rattle.std.proofs.Common.{◌≡◌, ◌≢◌, ◌≤◌, ◌<◌, List, All, AllPairs, length, sym, ap, ◌∙◌, subst}
 use Rattle.machine_shape.specs.declared.Table.{Table}
-use Rattle.machine_shape.specs.Bounds.{most_ticks}
-use Rattle.machine_shape.specs.Shape.{tables_of, pins_of}
-use Rattle.machine_config.specs.Configuration.{Configuration}
+use Rattle.place_route.proofs.Vocabulary.{most_ticks, tables_of, pins_of, Configuration, SwitchesOn, AreWiresOf, IsJoined, IsRouted}
 use Rattle.map_network.specs.declared.network.NetTable.{NetTable}
-use Rattle.place_route.specs.Vocabulary.{SwitchesOn, AreWiresOf, IsJoined, IsRouted}
 use Rattle.place_route.proofs.Making.{numbering}
 use Rattle.place_route.proofs.Whole.{made_of, switched_shape, wires_are, nets_few, tables_few, ticks_few, seats_within, seats_apart}
 use Rattle.place_route.proofs.routing.configure.Goals as goal

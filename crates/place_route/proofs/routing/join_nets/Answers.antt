@@ -1,10 +1,5 @@
 use Rattle.std.proofs.Common.{◌<◌, ◌*◌, ◌^◌, ℕ, List, All, Option, length, sym, subst}
-use Rattle.machine_shape.specs.Shape.{wires_of}
-use Rattle.machine_config.specs.Configuration.{Configuration}
-use Rattle.place_plan.specs.declared.short.Port.{Port}
-use Rattle.place_plan.specs.declared.short.Visit.{Visit}
-use Rattle.place_plan.specs.Choices.{AreWires}
-use Rattle.place_route.specs.Vocabulary.{Closes, IsOwnedJoint, AreLines, AreOwners}
+use Rattle.place_route.proofs.Vocabulary.{wires_of, Configuration, Port, Visit, AreWires, Closes, IsOwnedJoint, AreLines, AreOwners}
 use Rattle.place_route.proofs.routing.join_nets.Goals as goal
 
 pub owners_of-requires-clause-few : goal.owners_of-requires-clause-few

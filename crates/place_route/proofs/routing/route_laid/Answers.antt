@@ -1,7 +1,5 @@
 use Rattle.std.proofs.lemmas.Result.{IfOk-weaker}
-use Rattle.place_route.proofs.Making.{laid_by}
-use Rattle.place_route.proofs.Needed.{nothing_idle}
-use Rattle.place_route.proofs.Reading.{route_is_free, route_reads, right_image}
+use Rattle.place_route.proofs.{Making.laid_by, Needed.nothing_idle, Reading.route_is_free, Reading.route_reads, Reading.right_image}
 use Rattle.place_route.proofs.routing.route_laid.Goals as goal
 
 pub draw-requires-clause-laid : goal.draw-requires-clause-laid

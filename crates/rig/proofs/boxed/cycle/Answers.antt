@@ -1,5 +1,4 @@
-use Rattle.rig.proofs.Narrowing.{narrows_cycle, tells_cycle}
-use Rattle.rig.proofs.Cycling.{cycle-made}
+use Rattle.rig.proofs.{Narrowing.narrows_cycle, Narrowing.tells_cycle, Cycling.cycle-made}
 use Rattle.rig.proofs.boxed.cycle.Goals as goal
 
 pub returns-clause-made : goal.returns-clause-made

@@ -1,5 +1,4 @@
-use Rattle.rig.proofs.Narrowing.{narrows_cycles, tells_cycles}
-use Rattle.rig.proofs.Cycling.{cycles-made}
+use Rattle.rig.proofs.{Narrowing.narrows_cycles, Narrowing.tells_cycles, Cycling.cycles-made}
 use Rattle.rig.proofs.boxed.cycles.Goals as goal
 
 pub returns-clause-made : goal.returns-clause-made

@@ -1,5 +1,4 @@
-use Rattle.rig.proofs.Narrowing.{narrows_load, tells_load}
-use Rattle.rig.proofs.Cycling.{load-made}
+use Rattle.rig.proofs.{Narrowing.narrows_load, Narrowing.tells_load, Cycling.load-made}
 use Rattle.rig.proofs.boxed.load.Goals as goal
 
 pub returns-clause-made : goal.returns-clause-made

@@ -1,5 +1,4 @@
-use Rattle.std.proofs.Common.{◌≡◌, length}
-use Rattle.rig_board.specs.Rows.{AreBlank}
+use Rattle.rig_board.proofs.Vocabulary.{◌≡◌, length, AreBlank}
 use Rattle.rig_board.proofs.keeping.blank_rows.Given as goal
 
 abbrev pub invariant-rows : goal.invariant-rows

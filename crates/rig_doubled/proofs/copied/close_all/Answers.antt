@@ -1,7 +1,4 @@
-use Rattle.std.proofs.Common.{◌∙◌, ap, take, get_or}
-use Rattle.std.proofs.lemmas.List.{take_more}
-use Rattle.machine_shape.specs.declared.Cross.{Cross}
-use Rattle.machine_config.specs.Configuration.{Configuration, with_closed}
+use Rattle.rig_doubled.proofs.Vocabulary.{◌∙◌, ap, take, get_or, take_more, Cross, Configuration, with_closed}
 use Rattle.rig_doubled.proofs.Copying.{set_more}
 use Rattle.rig_doubled.proofs.copied.close_all.Goals as goal
 

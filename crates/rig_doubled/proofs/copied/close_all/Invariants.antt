@@ -1,5 +1,4 @@
-use Rattle.std.proofs.Common.{◌≡◌, take}
-use Rattle.rig_doubled.specs.Repeats.{with_crosses}
+use Rattle.rig_doubled.proofs.Vocabulary.{◌≡◌, take, with_crosses}
 use Rattle.rig_doubled.proofs.copied.close_all.Given as goal
 
 abbrev pub invariant-closed : goal.invariant-closed

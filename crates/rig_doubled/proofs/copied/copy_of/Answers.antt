@@ -1,9 +1,6 @@
 use Rattle.std.proofs.Common.{◌≡◌, ◌<◌, ◌≤◌, ◌∙◌, ap, sym, subst, get_or}
 use Rattle.machine_shape.specs.declared.Shape.{Shape}
-use Rattle.machine_shape.specs.Bounds.{most_ticks}
-use Rattle.machine_shape.specs.Shape.{crosses_of}
-use Rattle.machine_config.specs.Configuration.{Configuration, Roomy, cleared, with_ticks}
-use Rattle.rig_doubled.specs.Repeats.{with_crosses}
+use Rattle.rig_doubled.proofs.Vocabulary.{most_ticks, crosses_of, Configuration, Roomy, cleared, with_ticks, with_crosses}
 use Rattle.rig_doubled.proofs.Copying.{closed_is, is_listed}
 use Rattle.rig_doubled.proofs.copied.copy_of.Goals as goal
 

@@ -1,7 +1,6 @@
 use Rattle.std.proofs.Common.{◌≡◌, ◌∙◌, ◌<◌, ◌++◌, List, Option, None, ap, sym, take, drop, set, length, arith}
-use Rattle.machine_shape.specs.Shape.{tables_of}
+use Rattle.rig_doubled.proofs.Vocabulary.{tables_of, Configuration, Roomy, with_setting}
 use Rattle.machine_config.specs.declared.Setting.{Setting}
-use Rattle.machine_config.specs.Configuration.{Configuration, Roomy, with_setting}
 use Rattle.rig_doubled.proofs.Copying.{seam}
 use Rattle.rig_doubled.proofs.copied.set_tables.Goals as goal
 

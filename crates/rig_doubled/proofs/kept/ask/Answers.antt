@@ -1,6 +1,4 @@
-use Rattle.std.proofs.Common.{◌∙◌, ap}
-use Rattle.rig.specs.Rig.{Machine}
-use Rattle.rig.proofs.Narrowing.{narrows_load, narrows_cycles}
+use Rattle.rig_doubled.proofs.Vocabulary.{◌∙◌, ap, Machine, narrows_load, narrows_cycles}
 use Rattle.rig_doubled.proofs.Repeating.{reads_again, explained_again}
 use Rattle.rig_doubled.proofs.kept.ask.Goals as goal
 

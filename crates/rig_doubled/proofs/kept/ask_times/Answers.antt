@@ -1,5 +1,4 @@
-use Rattle.std.proofs.Common.{◌∙◌, arith}
-use Rattle.machine_shape.specs.Shape.{pins_of}
+use Rattle.rig_doubled.proofs.Vocabulary.{◌∙◌, arith, pins_of}
 use Rattle.rig_doubled.proofs.Keeping.{wide_still, many_still}
 use Rattle.rig_doubled.proofs.kept.ask_times.Goals as goal
 

@@ -1,8 +1,4 @@
-use Rattle.std.proofs.Common.{◌≡◌, ◌+◌, ◌-◌, ◌^◌, ◌≤◌, min, length}
-use Rattle.machine_shape.specs.Shape.{pins_of}
-use Rattle.base_io.specs.Counts.{next_count}
-use Rattle.rig.specs.Rig.{Narrows}
-use Rattle.rig_doubled.specs.Repeats.{HaveWidth}
+use Rattle.rig_doubled.proofs.Vocabulary.{◌≡◌, ◌+◌, ◌-◌, ◌^◌, ◌≤◌, min, length, pins_of, next_count, Narrows, HaveWidth}
 use Rattle.rig_doubled.proofs.kept.ask_times.Given as goal
 
 abbrev pub invariant-times : goal.invariant-times

@@ -1,8 +1,5 @@
-use Rattle.std.proofs.Common.{rules, ◌≡◌, ◌∙◌, sym, ap}
-use Rattle.std.proofs.lemmas.Bool.{false≢true}
-use Rattle.rig.specs.Rig.{GoesOn, Machine}
+use Rattle.rig_doubled.proofs.Vocabulary.{rules, ◌≡◌, ◌∙◌, sym, ap, false≢true, GoesOn, Machine, narrows_cycle}
 use Rattle.rig_doubled.proofs.Pairing.{reads_alike, explained_reads}
-use Rattle.rig.proofs.Narrowing.{narrows_cycle}
 use Rattle.rig_doubled.proofs.pairs.drive_both.Goals as goal
 
 pub returns-clause-caused : goal.returns-clause-caused

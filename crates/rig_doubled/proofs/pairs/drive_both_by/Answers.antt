@@ -1,12 +1,7 @@
 use Rattle.std.proofs.Common.{rules, ◌≡◌, ◌∙◌, ◌++◌, List, refl, sym, ap, subst, length, take, drop, arith}
-use Rattle.std.proofs.lemmas.Bool.{false≢true}
-use Rattle.machine_meaning.specs.Circuit.{Pins}
-use Rattle.rig.specs.Rig.{GoesOnBy, Machine}
-use Rattle.rig_doubled.specs.Repeats.{HaveWidth}
+use Rattle.rig_doubled.proofs.Vocabulary.{false≢true, Pins, GoesOnBy, Machine, HaveWidth, narrows_cycles}
 use Rattle.rig_doubled.proofs.Keeping.{many_still, wide_still, refill}
-use Rattle.rig_doubled.proofs.Pairing.{read_alike_by, explained_reads_by, both_go_on_by}
-use Rattle.rig_doubled.proofs.pairs.drive_both_by.Given.{Over}
-use Rattle.rig.proofs.Narrowing.{narrows_cycles}
+use Rattle.rig_doubled.proofs.{Pairing.read_alike_by, Pairing.explained_reads_by, Pairing.both_go_on_by, pairs.drive_both_by.Given.Over}
 use Rattle.rig_doubled.proofs.pairs.drive_both_by.Goals as goal
 
 module _ (g : Over) (c : goal.After-are_same g) where

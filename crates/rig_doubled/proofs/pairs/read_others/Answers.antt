@@ -1,6 +1,5 @@
-use Rattle.std.proofs.Common.{length}
+use Rattle.rig_doubled.proofs.Vocabulary.{length, narrows_cycles}
 use Rattle.rig_doubled.proofs.Keeping.{keeps_front}
-use Rattle.rig.proofs.Narrowing.{narrows_cycles}
 use Rattle.rig_doubled.proofs.pairs.read_others.Goals as goal
 
 pub returns-clause-lengths : goal.returns-clause-lengths

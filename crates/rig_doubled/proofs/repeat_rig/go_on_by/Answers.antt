@@ -1,9 +1,5 @@
-use Rattle.std.proofs.Common.{Option, IfSome, subst}
-use Rattle.machine_shape.specs.Shape.{pins_of}
-use Rattle.rig_doubled.specs.declared.kept.Kept.{Kept}
-use Rattle.rig_doubled.specs.Repeats.{IsOfSession}
-use Rattle.rig_doubled.proofs.Keeping.{wide_still}
-use Rattle.rig_doubled.proofs.Repeating.{goes_kept_by, wide_rows}
+use Rattle.rig_doubled.proofs.Vocabulary.{Option, IfSome, subst, pins_of, Kept, IsOfSession}
+use Rattle.rig_doubled.proofs.{Keeping.wide_still, Repeating.goes_kept_by, Repeating.wide_rows}
 use Rattle.rig_doubled.proofs.repeat_rig.go_on_by.Goals as goal
 
 pub add_all-requires-clause-read_pins : goal.add_all-requires-clause-read_pins

@@ -1,6 +1,4 @@
-use Rattle.std.proofs.Common.{Option, IfSome, subst}
-use Rattle.rig_doubled.specs.declared.kept.Kept.{Kept}
-use Rattle.rig_doubled.specs.Repeats.{IsOfSession}
+use Rattle.rig_doubled.proofs.Vocabulary.{Option, IfSome, subst, Kept, IsOfSession}
 use Rattle.rig_doubled.proofs.Repeating.{run_under, explained_under}
 use Rattle.rig_doubled.proofs.repeat_rig.settle.Goals as goal
 

@@ -1,5 +1,4 @@
-use Rattle.std.proofs.Common.{◌≡◌, length}
-use Rattle.rig_doubled.specs.Repeats.{HaveWidth}
+use Rattle.rig_doubled.proofs.Vocabulary.{◌≡◌, length, HaveWidth}
 use Rattle.rig_doubled.proofs.rows.blank_rows.Given as goal
 
 abbrev pub invariant-rows : goal.invariant-rows

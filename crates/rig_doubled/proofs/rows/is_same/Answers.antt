@@ -1,5 +1,4 @@
-use Rattle.std.proofs.Common.{◌≡◌, ◌∙◌, true, sym, subst}
-use Rattle.std.proofs.Math.Bool.{beq}
+use Rattle.rig_doubled.proofs.Vocabulary.{◌≡◌, ◌∙◌, true, sym, subst, beq}
 use lib.Pointwise.{pointwise}
 use Rattle.rig_doubled.proofs.Sameness.{same_bits, bits_same}
 use Rattle.rig_doubled.proofs.rows.is_same.Goals as goal

@@ -1,7 +1,4 @@
-use Rattle.std.proofs.Common.{◌≡◌, ◌<◌, ◌≤◌, ◌∙◌, take, get_or, refl, sym, ap, subst, arith}
-use Rattle.std.proofs.Math.Seq.{take-length}
-use Rattle.machine_shape.specs.Shape.{crosses_of}
-use Rattle.machine_config.specs.Configuration.{is_closed}
+use Rattle.rig_port.proofs.Vocabulary.{◌≡◌, ◌<◌, ◌≤◌, ◌∙◌, take, get_or, refl, sym, ap, subst, arith, take-length, crosses_of, is_closed}
 use Rattle.rig_port.proofs.Edited.{more_edits}
 use Rattle.rig_port.proofs.Closings.{times, closed_at, only_more, closed_more, same_closed}
 use Rattle.rig_port.proofs.edits.close_new.Goals as goal

@@ -1,6 +1,5 @@
-use Rattle.std.proofs.Common.{◌∙◌, sym}
+use Rattle.rig_port.proofs.Vocabulary.{◌∙◌, sym, Close}
 use Rattle.machine_config.proofs.Changes.{closed_already}
-use Rattle.rig_port.specs.Requests.{Close}
 use Rattle.rig_port.proofs.Edited.{one_edit}
 use Rattle.rig_port.proofs.edits.close_once.Goals as goal
 

@@ -1,7 +1,5 @@
-use Rattle.std.proofs.Common.{◌∙◌, sym, ap}
-use Rattle.rig_port.specs.Requests.{On, Off}
-use Rattle.rig_port.proofs.Edited.{one_edit}
-use Rattle.rig_port.proofs.Settings.{same_given}
+use Rattle.rig_port.proofs.Vocabulary.{◌∙◌, sym, ap, On, Off}
+use Rattle.rig_port.proofs.{Edited.one_edit, Settings.same_given}
 use Rattle.rig_port.proofs.edits.give.Goals as goal
 
 pub returns-then-is_same-clause-given : goal.returns-then-is_same-clause-given

@@ -1,8 +1,5 @@
-use Rattle.std.proofs.Common.{◌≡◌, ◌∙◌, length, ap, arith}
-use Rattle.machine_shape.specs.Shape.{tables_of}
-use Rattle.machine_config.specs.Configuration.{setting_of}
-use Rattle.rig_port.proofs.Edited.{more_edits}
-use Rattle.rig_port.proofs.Settings.{given_next, given_length, all_given}
+use Rattle.rig_port.proofs.Vocabulary.{◌≡◌, ◌∙◌, length, ap, arith, tables_of, setting_of}
+use Rattle.rig_port.proofs.{Edited.more_edits, Settings.given_next, Settings.given_length, Settings.all_given}
 use Rattle.rig_port.proofs.edits.give_all.Goals as goal
 
 pub tables-preserved : goal.tables-preserved

@@ -1,6 +1,4 @@
-use Rattle.std.proofs.Common.{◌≡◌, ℕ, ◌<◌, length}
-use Rattle.machine_config.specs.Configuration.{setting_of}
-use Rattle.rig_port.specs.Linked.{AreEdited}
+use Rattle.rig_port.proofs.Vocabulary.{◌≡◌, ℕ, ◌<◌, length, setting_of, AreEdited}
 use Rattle.rig_port.proofs.edits.give_all.Given as goal
 
 abbrev pub invariant-tables : goal.invariant-tables

@@ -1,8 +1,4 @@
-use Rattle.std.proofs.Common.{◌∙◌, ◌≤◌, ◌++◌, ◌∷◌, [], ap, sym, subst, decimal}
-use Rattle.machine_shape.specs.declared.Shape.{Shape}
-use Rattle.machine_shape.specs.Bounds.{most_ticks}
-use Rattle.machine_config.specs.Configuration.{with_ticks}
-use Rattle.rig_port.specs.Requests.{Tick}
+use Rattle.rig_port.proofs.Vocabulary.{◌∙◌, ◌≤◌, ◌++◌, ◌∷◌, [], ap, sym, subst, decimal, Shape, most_ticks, with_ticks, Tick}
 use Rattle.rig_port.proofs.Edited.{one_edit}
 use Rattle.rig_port.proofs.edits.give_ticks.Goals as goal
 

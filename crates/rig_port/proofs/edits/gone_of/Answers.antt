@@ -1,5 +1,4 @@
-use Rattle.std.proofs.Common.{◌<◌, get_or, subst}
-use Rattle.machine_shape.specs.Shape.{crosses_of}
+use Rattle.rig_port.proofs.Vocabulary.{◌<◌, get_or, subst, crosses_of}
 use Rattle.rig_port.proofs.Closings.{closed_at, gone_next}
 use Rattle.rig_port.proofs.edits.gone_of.Goals as goal
 

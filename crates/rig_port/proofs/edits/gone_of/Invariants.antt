@@ -1,6 +1,4 @@
-use Rattle.std.proofs.Common.{◌≡◌, ℕ, ◌≤◌, ◌<◌, All, false, take, ◌==◌, count_by}
-use Rattle.machine_shape.specs.Shape.{crosses_of}
-use Rattle.machine_config.specs.Configuration.{is_closed}
+use Rattle.rig_port.proofs.Vocabulary.{◌≡◌, ℕ, ◌≤◌, ◌<◌, All, false, take, ◌==◌, count_by, crosses_of, is_closed}
 use Rattle.rig_port.proofs.edits.gone_of.Given as goal
 
 abbrev pub invariant-closed : goal.invariant-closed

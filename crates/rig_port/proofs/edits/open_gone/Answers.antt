@@ -1,7 +1,5 @@
-use Rattle.std.proofs.Common.{◌<◌, ◌∙◌, length, sym, ap, arith}
-use Rattle.machine_config.specs.Configuration.{is_closed}
-use Rattle.rig_port.proofs.Edited.{more_edits}
-use Rattle.rig_port.proofs.Closings.{opened}
+use Rattle.rig_port.proofs.Vocabulary.{◌<◌, ◌∙◌, length, sym, ap, arith, is_closed}
+use Rattle.rig_port.proofs.{Edited.more_edits, Closings.opened}
 use Rattle.rig_port.proofs.edits.open_gone.Goals as goal
 
 pub gone-preserved : goal.gone-preserved

@@ -1,6 +1,4 @@
-use Rattle.std.proofs.Common.{◌≡◌, ℕ, ◌≤◌, true, false, drop, ◌==◌, count_by}
-use Rattle.machine_config.specs.Configuration.{is_closed}
-use Rattle.rig_port.specs.Linked.{AreEdited}
+use Rattle.rig_port.proofs.Vocabulary.{◌≡◌, ℕ, ◌≤◌, true, false, drop, ◌==◌, count_by, is_closed, AreEdited}
 use Rattle.rig_port.proofs.edits.open_gone.Given as goal
 
 abbrev pub invariant-gone : goal.invariant-gone

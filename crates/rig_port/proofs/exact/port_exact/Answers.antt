@@ -1,7 +1,5 @@
-use Rattle.std.proofs.Common.{◌≡◌, ◌∙◌, sym, subst}
-use Rattle.machine_meaning.specs.Faults.{AreFaultsOf}
-use Rattle.rig_port.proofs.Behind.{stands_faults}
-use Rattle.rig_port.proofs.Standing.{explained_as, may_be, told_faults}
+use Rattle.rig_port.proofs.Vocabulary.{◌≡◌, ◌∙◌, sym, subst, AreFaultsOf}
+use Rattle.rig_port.proofs.{Behind.stands_faults, Standing.explained_as, Standing.may_be, Standing.told_faults}
 use Rattle.rig_port.proofs.exact.port_exact.Goals as goal
 
 pub returns : goal.returns

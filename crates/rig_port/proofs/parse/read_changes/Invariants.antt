@@ -1,6 +1,4 @@
-use Rattle.std.proofs.Common.{All}
-use Rattle.rig_port.specs.Requests.{IsEditOf}
-use Rattle.rig_port.specs.RigPorts.{edit_of}
+use Rattle.rig_port.proofs.Vocabulary.{All, IsEditOf, edit_of}
 use Rattle.rig_port.proofs.parse.read_changes.Given as goal
 
 abbrev pub invariant-words : goal.invariant-words

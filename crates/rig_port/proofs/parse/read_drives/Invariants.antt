@@ -1,5 +1,4 @@
-use Rattle.std.proofs.Common.{◌≡◌, ◌-◌, ◌<◌, length, All}
-use Rattle.machine_shape.specs.Shape.{pins_of}
+use Rattle.rig_port.proofs.Vocabulary.{◌≡◌, ◌-◌, ◌<◌, length, All, pins_of}
 use Rattle.rig_port.proofs.parse.read_drives.Given as goal
 
 abbrev pub invariant-words : goal.invariant-words

@@ -1,8 +1,4 @@
-use Rattle.std.proofs.Common.{◌≡◌, ◌∙◌, sym, subst, IfSome}
-use Rattle.machine_shape.specs.declared.Shape.{Shape}
-use Rattle.machine_config.specs.Configuration.{Configuration}
-use Rattle.rig_port.specs.Linked.{IsPosted}
-use Rattle.rig_port.specs.Sessions.{SetsAnew}
+use Rattle.rig_port.proofs.Vocabulary.{◌≡◌, ◌∙◌, sym, subst, IfSome, Shape, Configuration, IsPosted, SetsAnew}
 use Rattle.rig_port.proofs.port_board.post.Goals as goal
 
 pub shorten-requires : goal.shorten-requires

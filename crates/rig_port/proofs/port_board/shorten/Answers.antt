@@ -1,5 +1,4 @@
-use Rattle.std.proofs.Common.{◌∙◌, ◌++◌, sym, ap, subst, true}
-use Rattle.rig_port.specs.Linked.{IsPosted}
+use Rattle.rig_port.proofs.Vocabulary.{◌∙◌, ◌++◌, sym, ap, subst, true, IsPosted}
 use Rattle.rig_port.proofs.Resumed.{posted_whole}
 use Rattle.rig_port.proofs.port_board.shorten.Goals as goal
 

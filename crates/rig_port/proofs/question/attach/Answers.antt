@@ -1,11 +1,7 @@
-use Rattle.std.proofs.Common.{◌≡◌, ◌∙◌, take, length, sym, ap, arith, refl}
-use Rattle.rig_port.proofs.Alarm.{right_counts, for_any, rose_of}
-use Rattle.rig_port.proofs.Behind.{behind_one, said_maybe, said_none}
-use Rattle.rig_port.proofs.Held.{seam}
-use Rattle.rig_port.proofs.OneMachine.{attached, attached_check}
-use Rattle.rig_port.proofs.Standing.{found_one}
-use Rattle.rig_port.proofs.Telling.{attach_stands, attach_stood, stood_on}
-use Rattle.rig_port.specs.Transcripts.{and_said}
+use Rattle.rig_port.proofs.Vocabulary.{◌≡◌, ◌∙◌, take, length, sym, ap, arith, refl, and_said}
+use Rattle.rig_port.proofs.{Alarm.right_counts, Alarm.for_any, Alarm.rose_of, Telling.attach_stands, Telling.attach_stood, Telling.stood_on}
+use Rattle.rig_port.proofs.{Behind.behind_one, Behind.said_maybe, Behind.said_none, OneMachine.attached, OneMachine.attached_check}
+use Rattle.rig_port.proofs.{Held.seam, Standing.found_one}
 use Rattle.rig_port.proofs.question.attach.Goals as goal
 
 pub returns-in-Ok-clause-fresh : goal.returns-in-Ok-clause-fresh

@@ -1,8 +1,4 @@
-use Rattle.std.proofs.Common.{◌≡◌, ◌≤◌}
-use Rattle.rig_port.specs.Ports.{machine_told}
-use Rattle.rig_port.specs.Sessions.{KeepsSession, StaysPosted}
-use Rattle.rig_port.specs.Stands.{HasStood}
-use Rattle.rig_port.specs.Transcripts.{GoOn}
+use Rattle.rig_port.proofs.Vocabulary.{◌≡◌, ◌≤◌, machine_told, KeepsSession, StaysPosted, HasStood, GoOn}
 use Rattle.rig_port.proofs.Resumed.{HasCounts}
 use Rattle.rig_port.proofs.question.attach_again.Given as goal
 

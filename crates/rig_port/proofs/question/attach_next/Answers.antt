@@ -1,10 +1,5 @@
-use Rattle.std.proofs.Common.{◌∙◌, ap, subst}
-use Rattle.machine_shape.specs.declared.Shape.{Shape}
-use Rattle.rig_port.specs.Checks.{fresh_check, after}
-use Rattle.rig_port.specs.Lines.{counts_body, counts_line, AreCounts}
-use Rattle.rig_port.specs.Requests.{attach_body}
-use Rattle.rig_port.proofs.Behind.{nothing_said}
-use Rattle.rig_port.proofs.Resumed.{told_counts}
+use Rattle.rig_port.proofs.Vocabulary.{◌∙◌, ap, subst, Shape, fresh_check, after, counts_body, counts_line, AreCounts, attach_body}
+use Rattle.rig_port.proofs.{Behind.nothing_said, Resumed.told_counts}
 use Rattle.rig_port.proofs.question.attach_next.Goals as goal
 
 pub attach-requires-clause-expected : goal.attach-requires-clause-expected

@@ -1,11 +1,5 @@
 use Rattle.std.proofs.Common.{◌≡◌, ◌∙◌, ◌≤◌, inr, arith, sym, subst, IfSome}
-use Rattle.std.specs.Vec.{vec_capacity}
-use Rattle.machine_shape.specs.Shape.{pins_of}
-use Rattle.machine_config.specs.Configuration.{Roomy, cleared}
-use Rattle.base_io.specs.Counts.{Rose}
-use Rattle.rig_port.specs.Lines.{turn_room}
-use Rattle.rig_port.specs.Stands.{Finds}
-use Rattle.rig_port.specs.Transcripts.{Behind}
+use Rattle.rig_port.proofs.Vocabulary.{vec_capacity, pins_of, Roomy, cleared, Rose, turn_room, Finds, Behind}
 use Rattle.rig_port.proofs.Behind.{Anyhow, behind_all, behind_more, said_more}
 use Rattle.rig_port.proofs.Resumed.{HasCounts, still_counts, plain_counts, alarm_on}
 use Rattle.rig_port.proofs.question.attach_some.Goals as goal

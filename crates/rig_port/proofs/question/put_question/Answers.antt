@@ -1,7 +1,4 @@
-use Rattle.std.proofs.Common.{◌∙◌, ap}
-use Rattle.rig_port.specs.Checks.{fresh_check, after}
-use Rattle.rig_port.specs.Lines.{counts_body, counts_line}
-use Rattle.rig_port.specs.Requests.{attach_body}
+use Rattle.rig_port.proofs.Vocabulary.{◌∙◌, ap, fresh_check, after, counts_body, counts_line, attach_body}
 use Rattle.rig_port.proofs.question.put_question.Goals as goal
 
 pub returns-clause-expected : goal.returns-clause-expected

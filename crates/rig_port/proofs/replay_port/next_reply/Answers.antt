@@ -1,5 +1,4 @@
-use Rattle.std.proofs.Common.{◌≡◌, ◌∙◌, ◌++◌, take, drop, length, ap, sym, subst, arith}
-use Rattle.rig_port.specs.Replays.{IsDue}
+use Rattle.rig_port.proofs.Vocabulary.{◌≡◌, ◌∙◌, ◌++◌, take, drop, length, ap, sym, subst, arith, IsDue}
 use Rattle.rig_port.proofs.Replayed.{not_next, no_reply, replayed}
 use Rattle.rig_port.proofs.replay_port.next_reply.Goals as goal
 

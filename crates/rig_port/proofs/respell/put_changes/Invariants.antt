@@ -1,6 +1,4 @@
-use Rattle.std.proofs.Common.{◌≡◌, ◌++◌, take}
-use Rattle.rig_port.specs.Requests.{edits_text}
-use Rattle.rig_port.specs.RigPorts.{edits_of}
+use Rattle.rig_port.proofs.Vocabulary.{◌≡◌, ◌++◌, take, edits_text, edits_of}
 use Rattle.rig_port.proofs.respell.put_changes.Given as goal
 
 abbrev pub invariant-changes : goal.invariant-changes

@@ -1,6 +1,4 @@
-use Rattle.std.proofs.Common.{◌≡◌, take}
-use Rattle.std.specs.List.{sum_by}
-use Rattle.rig_port.specs.Lines.{word_room}
+use Rattle.rig_port.proofs.Vocabulary.{◌≡◌, take, sum_by, word_room}
 use Rattle.rig_port.proofs.respell.room_of.Given as goal
 
 abbrev pub invariant-rows : goal.invariant-rows

@@ -1,11 +1,5 @@
-use Rattle.std.proofs.Common.{◌≡◌, ◌∙◌, ◌++◌, arith, sym, subst, true, refl}
-use Rattle.machine_shape.specs.Shape.{pins_of}
-use Rattle.machine_config.specs.Configuration.{Configuration}
-use Rattle.rig_board.proofs.OneByOne.{lengths_kept}
-use Rattle.rig_port.specs.Requests.{AreWide}
-use Rattle.rig_port.specs.Sessions.{SetsAnew, HasRows, HasMade, kept_pairs, paired}
-use Rattle.rig_port.specs.Stands.{Makes}
-use Rattle.rig_port.specs.Transcripts.{Behind}
+use Rattle.rig_port.proofs.Vocabulary.{◌≡◌, ◌∙◌, ◌++◌, arith, sym, subst, true, refl, pins_of, Configuration, lengths_kept, AreWide}
+use Rattle.rig_port.proofs.Vocabulary.{SetsAnew, HasRows, HasMade, kept_pairs, paired, Makes, Behind}
 use Rattle.rig_port.proofs.Behind.{Anyhow, behind_all, behind_more, nothing_said, said_more}
 use Rattle.rig_port.proofs.Resumed.{HasShape, still_shaped, many_rows, same_pairs_kept}
 use Rattle.rig_port.proofs.resume.ask_again.Goals as goal

@@ -1,10 +1,4 @@
-use Rattle.std.proofs.Common.{◌≡◌, ◌≤◌}
-use Rattle.machine_shape.specs.Shape.{pins_of}
-use Rattle.rig.specs.Rig.{KeepLengths}
-use Rattle.rig_port.specs.Ports.{machine_told}
-use Rattle.rig_port.specs.Sessions.{HasRows, KeepsSession, StaysLoaded}
-use Rattle.rig_port.specs.Stands.{HasStood}
-use Rattle.rig_port.specs.Transcripts.{GoOn}
+use Rattle.rig_port.proofs.Vocabulary.{◌≡◌, ◌≤◌, pins_of, KeepLengths, machine_told, HasRows, KeepsSession, StaysLoaded, HasStood, GoOn}
 use Rattle.rig_port.proofs.Resumed.{HasShape}
 use Rattle.rig_port.proofs.resume.ask_again.Given as goal
 

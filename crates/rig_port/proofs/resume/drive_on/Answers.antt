@@ -1,13 +1,6 @@
 use Rattle.std.proofs.Common.{◌≡◌, ◌∙◌, All, length, ap, sym, subst, IfSome, Some}
-use Rattle.machine_shape.specs.Shape.{pins_of}
-use Rattle.machine_meaning.specs.Circuit.{Pins}
-use Rattle.machine_config.specs.Configuration.{Configuration}
-use Rattle.rig_board.specs.Device.{IsInSession}
-use Rattle.rig_board.proofs.OneByOne.{lengths_kept}
-use Rattle.rig_port.specs.Linked.{told_with}
-use Rattle.rig_port.specs.Sessions.{SetsAnew, HasRows, kept_pairs}
-use Rattle.rig_port.proofs.Behind.{behind_so}
-use Rattle.rig_port.proofs.Resumed.{many_rows, resumed}
+use Rattle.rig_port.proofs.Vocabulary.{pins_of, Pins, Configuration, IsInSession, lengths_kept, told_with, SetsAnew, HasRows, kept_pairs}
+use Rattle.rig_port.proofs.{Behind.behind_so, Resumed.many_rows, Resumed.resumed}
 use Rattle.rig_port.proofs.resume.drive_on.Goals as goal
 
 pub keep-requires-clause-rows : goal.keep-requires-clause-rows

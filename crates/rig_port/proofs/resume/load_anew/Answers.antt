@@ -1,5 +1,4 @@
-use Rattle.std.proofs.Common.{◌∙◌, ◌++◌, [], ap, refl, arith}
-use Rattle.machine_shape.specs.Shape.{pins_of}
+use Rattle.rig_port.proofs.Vocabulary.{◌∙◌, ◌++◌, [], ap, refl, arith, pins_of}
 use Rattle.rig_port.proofs.Resumed.{linked_whole}
 use Rattle.rig_port.proofs.resume.load_anew.Goals as goal
 

@@ -1,7 +1,4 @@
-use Rattle.std.proofs.Common.{◌∙◌, sym, subst}
-use Rattle.rig_port.specs.Linked.{HasTurned}
-use Rattle.rig_port.specs.Stands.{Turns}
-use Rattle.rig_port.specs.Transcripts.{Behind}
+use Rattle.rig_port.proofs.Vocabulary.{◌∙◌, sym, subst, HasTurned, Turns, Behind}
 use Rattle.rig_port.proofs.Resumed.{many_rows}
 use Rattle.rig_port.proofs.resume.redrive.Goals as goal
 

@@ -1,8 +1,4 @@
-use Rattle.std.proofs.Common.{◌≡◌, length, sym}
-use Rattle.std.proofs.lemmas.List.{length-take-le}
-use Rattle.std.proofs.lemmas.List.Elements.{All-take}
-use Rattle.machine_shape.specs.Shape.{pins_of}
-use Rattle.machine_meaning.specs.Circuit.{Pins}
+use Rattle.rig_port.proofs.Vocabulary.{◌≡◌, length, sym, length-take-le, All-take, pins_of, Pins}
 use Rattle.rig_port.proofs.Held.{front_lengths}
 use Rattle.rig_port.proofs.resume.redrive_first.Goals as goal
 

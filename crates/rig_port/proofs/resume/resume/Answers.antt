@@ -1,22 +1,8 @@
-use Rattle.std.proofs.Common.{◌≡◌, ◌∙◌, ◌≤◌, List, All, take, length, refl, arith, ap, sym, subst}
-use Rattle.std.proofs.lemmas.List.{length-take-le}
-use Rattle.std.proofs.lemmas.List.Elements.{All-take}
-use Rattle.std.specs.Vec.{vec_capacity}
-use Rattle.machine_shape.specs.Shape.{pins_of}
-use Rattle.machine_meaning.specs.Circuit.{Pins}
-use Rattle.machine_config.specs.Configuration.{Configuration, Roomy}
-use Rattle.rig_port.specs.Lines.{turn_room}
-use Rattle.rig_port.specs.Requests.{AreWide}
-use Rattle.rig_port.specs.Linked.{HasTurned}
-use Rattle.rig.specs.Rig.{KeepLengths}
-use Rattle.rig_port.specs.Sessions.{SetsAnew, HasMade, paired}
+use Rattle.rig_port.proofs.Vocabulary.{◌≡◌, ◌∙◌, ◌≤◌, List, All, take, length, refl, arith, ap, sym, subst, length-take-le, All-take}
+use Rattle.rig_port.proofs.Vocabulary.{vec_capacity, pins_of, Pins, Configuration, Roomy, turn_room, AreWide, HasTurned, KeepLengths}
+use Rattle.rig_port.proofs.Vocabulary.{SetsAnew, HasMade, paired, Said, Turns, Makes, HasStood, StandsTold, Behind, GoOn}
 use Rattle.rig_port.proofs.Resumed.{HasShape, shaped_counts, still_shaped, made_first, many_rows, rows_again, rows_stay}
-use Rattle.rig_port.specs.Said.{Said}
-use Rattle.rig_port.specs.Stands.{Turns, Makes, HasStood, StandsTold}
-use Rattle.rig_port.specs.Transcripts.{Behind, GoOn}
-use Rattle.rig_port.proofs.Behind.{behind_more, said_more}
-use Rattle.rig_port.proofs.Standing.{makes_first}
-use Rattle.rig_port.proofs.Held.{seam}
+use Rattle.rig_port.proofs.{Behind.behind_more, Behind.said_more, Standing.makes_first, Held.seam}
 use Rattle.rig_port.proofs.resume.resume.Goals as goal
 
 pub attach_next-requires-clause-told : goal.attach_next-requires-clause-told

@@ -1,11 +1,5 @@
-use Rattle.std.proofs.Common.{◌∙◌, sym, subst, arith}
-use Rattle.machine_config.specs.Configuration.{Configuration}
-use Rattle.rig_port.specs.Requests.{AreWide}
-use Rattle.rig_port.specs.Linked.{HasTurned}
-use Rattle.rig_port.specs.Sessions.{HasMade, kept_pairs}
-use Rattle.rig_port.proofs.Behind.{behind_more, said_more}
-use Rattle.rig_port.proofs.Standing.{makes_more}
-use Rattle.rig_port.proofs.Resumed.{made_more, in_session}
+use Rattle.rig_port.proofs.Vocabulary.{◌∙◌, sym, subst, arith, Configuration, AreWide, HasTurned, HasMade, kept_pairs}
+use Rattle.rig_port.proofs.{Behind.behind_more, Behind.said_more, Standing.makes_more, Resumed.made_more, Resumed.in_session}
 use Rattle.rig_port.proofs.resume.turn_again.Goals as goal
 
 pub returns-clause-made : goal.returns-clause-made

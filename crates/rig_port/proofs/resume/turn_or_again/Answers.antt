@@ -1,15 +1,6 @@
-use Rattle.std.proofs.Common.{◌≡◌, ◌∙◌, ◌++◌, refl, arith, sym, subst, inr}
-use Rattle.machine_shape.specs.Shape.{pins_of}
-use Rattle.machine_config.specs.Configuration.{Configuration}
-use Rattle.base_io.specs.Counts.{Rose}
-use Rattle.rig_board.proofs.OneByOne.{lengths_kept}
-use Rattle.rig_port.specs.Requests.{AreWide}
-use Rattle.rig_port.specs.Sessions.{SetsAnew, HasRows, HasMade, kept_pairs, paired}
-use Rattle.rig_board.specs.Device.{Device}
-use Rattle.rig_port.specs.Stands.{Makes}
-use Rattle.rig_port.specs.Transcripts.{Behind}
-use Rattle.rig_port.proofs.Behind.{Anyhow, behind_all, behind_more, behind_so, said_more}
-use Rattle.rig_port.proofs.Standing.{turns_again}
+use Rattle.rig_port.proofs.Vocabulary.{◌≡◌, ◌∙◌, ◌++◌, refl, arith, sym, subst, inr, pins_of, Configuration, Rose, lengths_kept, AreWide}
+use Rattle.rig_port.proofs.Vocabulary.{SetsAnew, HasRows, HasMade, kept_pairs, paired, Device, Makes, Behind}
+use Rattle.rig_port.proofs.{Behind.Anyhow, Behind.behind_all, Behind.behind_more, Behind.behind_so, Behind.said_more, Standing.turns_again}
 use Rattle.rig_port.proofs.Resumed.{HasShape, still_shaped, many_rows, rose_still, turned_again}
 use Rattle.rig_port.proofs.resume.turn_or_again.Goals as goal
 

@@ -1,7 +1,5 @@
-use Rattle.std.proofs.Common.{◌∙◌, ap}
+use Rattle.rig_port.proofs.Vocabulary.{◌∙◌, ap, after, counts_line, counts_body}
 use Rattle.rig_port.proofs.Answered.{attach_told, attach_fits}
-use Rattle.rig_port.specs.Checks.{after}
-use Rattle.rig_port.specs.Lines.{counts_line, counts_body}
 use Rattle.rig_port.proofs.rig_port.answer.Goals as goal
 
 pub returns-in-Some-clause-told : goal.returns-in-Some-clause-told

@@ -1,5 +1,4 @@
-use Rattle.std.proofs.Common.{◌∙◌, refl, ap}
-use Rattle.machine_shape.specs.Shape.{pins_of}
+use Rattle.rig_port.proofs.Vocabulary.{◌∙◌, refl, ap, pins_of}
 use Rattle.rig_port.proofs.Answered.{wanted_fits}
 use Rattle.rig_port.proofs.rig_port.answer_spelled.Goals as goal
 

@@ -1,9 +1,4 @@
-use Rattle.std.proofs.Common.{◌∙◌, refl, ap, subst}
-use Rattle.std.proofs.lemmas.Bool.{not-false}
-use Rattle.machine_shape.specs.Shape.{pins_of}
-use Rattle.rig.specs.Rig.{cycles_of}
-use Rattle.rig_port.specs.Checks.{after}
-use Rattle.rig_port.specs.RigPorts.{edits_of, IsDriven}
+use Rattle.rig_port.proofs.Vocabulary.{◌∙◌, refl, ap, subst, not-false, pins_of, cycles_of, after, edits_of, IsDriven}
 use Rattle.rig_port.proofs.Answered.{edits_all, body_loads, body_drives, line_loads, line_drives, load_told, drives_told, ready_on, are_drives}
 use Rattle.rig_port.proofs.rig_port.answer_wanted.Goals as goal
 

@@ -1,6 +1,4 @@
-use Rattle.std.proofs.Common.{◌≡◌}
-use Rattle.machine_shape.specs.Shape.{pins_of}
-use Rattle.rig_board.proofs.OneByOne.{lengths_kept}
+use Rattle.rig_port.proofs.Vocabulary.{◌≡◌, pins_of, lengths_kept}
 use Rattle.rig_port.proofs.Answered.{went_on}
 use Rattle.rig_port.proofs.rig_port.drive_rows.Goals as goal
 

@@ -1,6 +1,4 @@
-use Rattle.std.proofs.Common.{◌≡◌, ◌∙◌, ◌+◌, ◌*◌, ap, arith}
-use Rattle.std.proofs.lemmas.Bool.{leb-true}
-use Rattle.std.specs.Int.{div_ceil}
+use Rattle.rig_port.proofs.Vocabulary.{◌≡◌, ◌∙◌, ◌+◌, ◌*◌, ap, arith, leb-true, div_ceil}
 use Rattle.rig_port.proofs.Room.{line_fits, room_is, room_least}
 use Rattle.rig_port.proofs.rig_port.has_room.Goals as goal
 

@@ -1,7 +1,4 @@
-use Rattle.std.proofs.Common.{[], subst}
-use Rattle.machine_shape.specs.Shape.{pins_of}
-use Rattle.rig.specs.Rig.{cycles_of}
-use Rattle.rig_port.specs.RigPorts.{IsDriven}
+use Rattle.rig_port.proofs.Vocabulary.{[], subst, pins_of, cycles_of, IsDriven}
 use Rattle.rig_port.proofs.Answered.{first_driven}
 use Rattle.rig_port.proofs.rig_port.load_and_drive.Goals as goal
 

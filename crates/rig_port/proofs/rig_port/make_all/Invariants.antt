@@ -1,6 +1,4 @@
-use Rattle.std.proofs.Common.{◌≡◌, take}
-use Rattle.rig_port.specs.Requests.{edited}
-use Rattle.rig_port.specs.RigPorts.{edits_of}
+use Rattle.rig_port.proofs.Vocabulary.{◌≡◌, take, edited, edits_of}
 use Rattle.rig_port.proofs.rig_port.make_all.Given as goal
 
 abbrev pub invariant-changes : goal.invariant-changes

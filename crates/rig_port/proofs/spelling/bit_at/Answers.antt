@@ -1,7 +1,5 @@
-use Rattle.std.proofs.Common.{sym, ap, arith, false}
-use Rattle.std.proofs.lemmas.List.{get_or_past}
+use Rattle.rig_port.proofs.Vocabulary.{sym, ap, arith, false, get_or_past, pin_bit}
 use Rattle.std.proofs.lemmas.Option.{get_or_from_slice_get}
-use Rattle.rig_port.specs.Lines.{pin_bit}
 use Rattle.rig_port.proofs.spelling.bit_at.Goals as goal
 use Rattle.rig_port.proofs.spelling.bit_at.Goals.{else-k-from-via-then-k-from+else-get, else-k-from-via-else-k-from}
 

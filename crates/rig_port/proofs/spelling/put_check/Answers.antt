@@ -1,6 +1,4 @@
-use Rattle.std.proofs.Common.{◌∙◌, ◌++◌, ◌∷◌, [], ap}
-use Rattle.hex.specs.Hex.{encode_lower}
-use Rattle.rig_port.specs.Checks.{after, check_bytes}
+use Rattle.rig_port.proofs.Vocabulary.{◌∙◌, ◌++◌, ◌∷◌, [], ap, encode_lower, after, check_bytes}
 use Rattle.rig_port.proofs.Spelled.{octets_step}
 use Rattle.rig_port.proofs.spelling.put_check.Goals as goal
 

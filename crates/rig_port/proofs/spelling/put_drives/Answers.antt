@@ -1,8 +1,5 @@
-use Rattle.std.proofs.Common.{◌∙◌, ◌+◌, ◌++◌, ◌∷◌, [], length, ap, arith}
-use Rattle.std.proofs.lemmas.List.{append_assoc}
-use Rattle.rig_port.specs.Lines.{gap, pin_text}
-use Rattle.rig_port.proofs.Room.{one_word, words_within}
-use Rattle.rig_port.proofs.Spelled.{word_next}
+use Rattle.rig_port.proofs.Vocabulary.{◌∙◌, ◌+◌, ◌++◌, ◌∷◌, [], length, ap, arith, append_assoc, gap, pin_text}
+use Rattle.rig_port.proofs.{Room.one_word, Room.words_within, Spelled.word_next}
 use Rattle.rig_port.proofs.spelling.put_drives.Goals as goal
 
 pub put_gap-requires : goal.put_gap-requires

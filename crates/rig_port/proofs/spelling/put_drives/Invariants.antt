@@ -1,8 +1,4 @@
-use Rattle.std.proofs.Common.{◌≡◌, ◌+◌, ◌≤◌, ◌++◌, take, vec_len}
-use Rattle.std.specs.List.{sum_by}
-use Rattle.std.specs.Vec.{vec_capacity}
-use Rattle.rig_port.specs.Lines.{word_room}
-use Rattle.rig_port.specs.Requests.{drives_text}
+use Rattle.rig_port.proofs.Vocabulary.{◌≡◌, ◌+◌, ◌≤◌, ◌++◌, take, vec_len, sum_by, vec_capacity, word_room, drives_text}
 use Rattle.rig_port.proofs.spelling.put_drives.Given as goal
 
 abbrev pub invariant-drives : goal.invariant-drives

@@ -1,5 +1,4 @@
-use Rattle.std.proofs.Common.{◌≡◌, ◌++◌, ◌∷◌, [], take, decimal}
-use Rattle.std.specs.List.{join_by}
+use Rattle.rig_port.proofs.Vocabulary.{◌≡◌, ◌++◌, ◌∷◌, [], take, decimal, join_by}
 use Rattle.rig_port.proofs.spelling.put_numbers.Given as goal
 
 abbrev pub invariant-numbers : goal.invariant-numbers

@@ -1,7 +1,5 @@
 use Rattle.std.proofs.Common.{◌≡◌, ◌+◌, ◌-◌, ◌*◌, ◌++◌, ◌∙◌, length, sym, ap, arith}
-use Rattle.std.specs.Int.{div_ceil}
-use Rattle.hex.specs.Hex.{encode_lower}
-use Rattle.rig_port.specs.Lines.{octet_at, octets_below}
+use Rattle.rig_port.proofs.Vocabulary.{div_ceil, encode_lower, octet_at, octets_below}
 use Rattle.rig_port.proofs.Spelled.{octet_next, octets_none}
 use Rattle.rig_port.proofs.spelling.put_pins.Goals as goal
 

@@ -1,7 +1,4 @@
-use Rattle.std.proofs.Common.{◌≡◌, ◌+◌, ◌-◌, ◌*◌, ◌≤◌, ◌++◌, vec_len}
-use Rattle.std.specs.Vec.{vec_capacity}
-use Rattle.hex.specs.Hex.{encode_lower}
-use Rattle.rig_port.specs.Lines.{octets_below}
+use Rattle.rig_port.proofs.Vocabulary.{◌≡◌, ◌+◌, ◌-◌, ◌*◌, ◌≤◌, ◌++◌, vec_len, vec_capacity, encode_lower, octets_below}
 use Rattle.rig_port.proofs.spelling.put_pins.Given as goal
 
 abbrev pub invariant-octets : goal.invariant-octets

@@ -1,7 +1,5 @@
-use Rattle.std.proofs.Common.{◌∙◌, ◌+◌, ◌++◌, ◌∷◌, [], length, ap, arith}
-use Rattle.rig_port.specs.Lines.{pin_text}
-use Rattle.rig_port.proofs.Room.{one_word, words_within}
-use Rattle.rig_port.proofs.Spelled.{word_next}
+use Rattle.rig_port.proofs.Vocabulary.{◌∙◌, ◌+◌, ◌++◌, ◌∷◌, [], length, ap, arith, pin_text}
+use Rattle.rig_port.proofs.{Room.one_word, Room.words_within, Spelled.word_next}
 use Rattle.rig_port.proofs.spelling.put_readings.Goals as goal
 
 pub put_gap-requires : goal.put_gap-requires

@@ -1,7 +1,4 @@
-use Rattle.std.proofs.Common.{◌≡◌, ◌+◌, ◌≤◌, ◌∷◌, [], take, vec_len}
-use Rattle.std.specs.List.{join_by, sum_by}
-use Rattle.std.specs.Vec.{vec_capacity}
-use Rattle.rig_port.specs.Lines.{pin_text, word_room}
+use Rattle.rig_port.proofs.Vocabulary.{◌≡◌, ◌+◌, ◌≤◌, ◌∷◌, [], take, vec_len, join_by, sum_by, vec_capacity, pin_text, word_room}
 use Rattle.rig_port.proofs.spelling.put_readings.Given as goal
 
 abbrev pub invariant-reads : goal.invariant-reads

@@ -1,6 +1,4 @@
-use Rattle.std.proofs.Common.{◌≤◌, ◌∙◌, length, take, refl, arith}
-use Rattle.std.proofs.lemmas.List.{length-take-le}
-use Rattle.rig_port.specs.FilePorts.{IsLine, HasHeard, ahead}
+use Rattle.rig_port.proofs.Vocabulary.{◌≤◌, ◌∙◌, length, take, refl, arith, length-take-le, IsLine, HasHeard, ahead}
 use Rattle.rig_port.proofs.Heard.{dropped_more, heard, nothing_dropped, where_whole}
 use Rattle.rig_port.proofs.talk.listen.Goals as goal
 

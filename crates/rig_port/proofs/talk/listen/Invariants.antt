@@ -1,5 +1,4 @@
-use Rattle.std.proofs.Common.{◌≡◌, length}
-use Rattle.rig_port.specs.FilePorts.{ahead}
+use Rattle.rig_port.proofs.Vocabulary.{◌≡◌, length, ahead}
 use Rattle.rig_port.proofs.Heard.{HasDropped}
 use Rattle.rig_port.proofs.talk.listen.Given as goal
 

@@ -1,6 +1,4 @@
-use Rattle.std.proofs.Common.{◌≡◌, ◌≢◌, take, length, All}
-use Rattle.std.specs.Io.KnownBytes.{Consumes}
-use Rattle.rig_port.specs.FilePorts.{ahead}
+use Rattle.rig_port.proofs.Vocabulary.{◌≡◌, ◌≢◌, take, length, All, Consumes, ahead}
 use Rattle.rig_port.proofs.talk.read_line.Given as goal
 
 abbrev pub invariant-bytes : goal.invariant-bytes

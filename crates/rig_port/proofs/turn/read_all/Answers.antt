@@ -1,7 +1,4 @@
-use Rattle.std.proofs.Common.{◌≡◌, ◌∙◌, ◌+◌, ◌*◌, ◌≤◌, ◌<◌, length, refl, sym, ap, arith}
-use Rattle.std.specs.Int.{div_ceil}
-use Rattle.machine_meaning.specs.Circuit.{Pins}
-use Rattle.rig_board.proofs.OneByOne.{lengths_set}
+use Rattle.rig_port.proofs.Vocabulary.{◌≡◌, ◌∙◌, ◌+◌, ◌*◌, ◌≤◌, ◌<◌, length, refl, sym, ap, arith, div_ceil, Pins, lengths_set}
 use Rattle.rig_port.proofs.Taken.{any_default, read_next, rows_all, as_many}
 use Rattle.rig_port.proofs.turn.read_all.Goals as goal
 

@@ -1,8 +1,4 @@
-use Rattle.std.proofs.Common.{◌≡◌, List}
-use Rattle.machine_meaning.specs.Circuit.{Pins}
-use Rattle.rig.specs.Rig.{KeepLengths}
-use Rattle.rig_port.specs.declared.check.Check.{Check}
-use Rattle.rig_port.specs.Lines.{reading_line}
+use Rattle.rig_port.proofs.Vocabulary.{◌≡◌, List, Pins, KeepLengths, Check, reading_line}
 use Rattle.rig_port.proofs.Taken.{AreRead}
 use Rattle.rig_port.proofs.turn.read_all.Given as goal
 

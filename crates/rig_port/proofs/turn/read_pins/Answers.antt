@@ -1,7 +1,5 @@
 use Rattle.std.proofs.Common.{◌≡◌, ◌∙◌, ◌+◌, ◌-◌, ◌*◌, ◌/◌, ◌<◌, false, length, get_or, sym, ap, refl, subst, arith}
-use Rattle.std.proofs.lemmas.List.{length-set}
-use Rattle.std.specs.Int.{div_ceil}
-use Rattle.machine_meaning.specs.Circuit.{Pins}
+use Rattle.rig_port.proofs.Vocabulary.{length-set, div_ceil, Pins}
 use Rattle.rig_port.proofs.Taken.{pin_read, pins_more, pins_all}
 use Rattle.rig_port.proofs.turn.read_pins.Goals as goal
 

@@ -1,6 +1,4 @@
-use Rattle.std.proofs.Common.{◌≡◌, ℕ, ◌<◌, ◌++◌, List, false, length, drop, get_or}
-use Rattle.machine_meaning.specs.Circuit.{Pins}
-use Rattle.rig_port.specs.Lines.{pin_text}
+use Rattle.rig_port.proofs.Vocabulary.{◌≡◌, ℕ, ◌<◌, ◌++◌, List, false, length, drop, get_or, Pins, pin_text}
 use Rattle.rig_port.proofs.turn.read_pins.Given as goal
 
 abbrev pub invariant-pins : goal.invariant-pins

@@ -1,21 +1,9 @@
 use Rattle.std.proofs.Common.{arith, ◌≡◌, ◌∙◌, [], true, false, refl, sym, ap, length, take, subst, Option, Some}
-use Rattle.std.proofs.lemmas.List.{length-map}
-use Rattle.machine_shape.specs.Shape.{pins_of}
-use Rattle.rig_board.proofs.OneByOne.{lengths_kept}
-use Rattle.rig_board.specs.Device.{Device, WhereTold}
-use Rattle.rig_port.specs.declared.check.Check.{Check}
-use Rattle.rig_port.specs.Answers.{Answers}
-use Rattle.rig_port.specs.Transcripts.{and_said}
-use Rattle.rig_port.proofs.Behind.{behind_one, said_none, said_one, said_wrong}
-use Rattle.rig_port.specs.Checks.{after}
-use Rattle.rig_port.specs.Linked.{IsLinked}
+use Rattle.rig_port.proofs.Vocabulary.{length-map, pins_of, lengths_kept, Device, WhereTold, Check, Answers, and_said, after, IsLinked}
+use Rattle.rig_port.proofs.{Behind.behind_one, Behind.said_none, Behind.said_one, Behind.said_wrong, Room.same_room, turn.turn.Given.Over}
 use Rattle.rig_port.specs.Lines.{reading_body, reading_line}
-use Rattle.rig_port.proofs.Alarm.{IsAsked, own_answers, right_reply, keep_of}
-use Rattle.rig_port.proofs.Held.{seam}
-use Rattle.rig_port.proofs.Room.{same_room}
-use Rattle.rig_port.proofs.Turned.{StandsTurned, turn_stands}
-use Rattle.rig_port.proofs.turn.turn.Given.{Over}
-use Rattle.rig_port.proofs.Telling.{answer_stands, stood_of, stood_on}
+use Rattle.rig_port.proofs.{Alarm.IsAsked, Alarm.own_answers, Alarm.right_reply, Alarm.keep_of, Turned.StandsTurned, Turned.turn_stands}
+use Rattle.rig_port.proofs.{Held.seam, Telling.answer_stands, Telling.stood_of, Telling.stood_on}
 use Rattle.rig_port.proofs.turn.turn.Goals as goal
 
 module _ (g : Over) (c : goal.After-link-4-1 g) where

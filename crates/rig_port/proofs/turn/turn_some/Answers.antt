@@ -1,21 +1,10 @@
 use Rattle.std.proofs.Common.{◌+◌, ◌*◌, ◌≡◌, ◌∙◌, ◌-◌, ◌≤◌, take, drop, length, refl, sym, ap, subst, arith}
-use Rattle.std.proofs.lemmas.List.{length-take, length-drop}
-use Rattle.std.proofs.lemmas.List.Elements.{All-take, All-drop}
-use Rattle.machine_shape.specs.Shape.{pins_of}
-use Rattle.machine_meaning.specs.Circuit.{Pins}
-use Rattle.rig_board.proofs.OneByOne.{lengths_kept}
-use Rattle.rig_port.specs.Requests.{AreWide}
-use Rattle.rig_port.proofs.Held.{put_lengths, not_turned, turned_next, whole_turned, same_piece}
-use Rattle.rig_port.proofs.Resumed.{many_rows}
+use Rattle.rig_port.proofs.Vocabulary.{length-take, length-drop, All-take, All-drop, pins_of, Pins, lengths_kept, AreWide, div_ceil, sum_by}
+use Rattle.rig_port.proofs.Vocabulary.{Configuration, word_room, turn_room}
+use Rattle.rig_port.proofs.{Held.put_lengths, Held.not_turned, Held.turned_next, Held.whole_turned, Held.same_piece, Resumed.many_rows}
 use Rattle.rig_port.proofs.Behind.{behind_more, behind_none, behind_so, nothing_said, said_more}
-use Rattle.rig_port.proofs.Standing.{turns_next, turns_none, turns_whole}
-use Rattle.std.specs.Int.{div_ceil}
-use Rattle.std.specs.List.{sum_by}
-use Rattle.machine_config.specs.Configuration.{Configuration}
-use Rattle.rig_port.specs.Lines.{word_room, turn_room}
-use Rattle.rig_port.proofs.Alarm.{still_told, rose_later}
-use Rattle.rig_port.proofs.Room.{few_enough, piece_few}
-use Rattle.rig_port.proofs.Telling.{stood_of}
+use Rattle.rig_port.proofs.{Standing.turns_next, Standing.turns_none, Standing.turns_whole, Alarm.still_told, Alarm.rose_later}
+use Rattle.rig_port.proofs.{Room.few_enough, Room.piece_few, Telling.stood_of}
 use Rattle.rig_port.proofs.turn.turn_some.Goals as goal
 
 pub turn-requires-clause-few : goal.turn-requires-clause-few

@@ -1,10 +1,5 @@
 use Rattle.std.proofs.Common.{◌≡◌, ◌-◌, ◌<◌, ◌≤◌, false, take, length}
-use Rattle.rig.specs.Rig.{KeepLengths}
-use Rattle.rig_port.specs.Ports.{machine_told}
-use Rattle.rig_port.specs.Linked.{HasTurned}
-use Rattle.rig_port.specs.Boards.{IsKeptUp}
-use Rattle.rig_port.specs.Stands.{Turns, StandsTold}
-use Rattle.rig_port.specs.Transcripts.{Behind, GoOn}
+use Rattle.rig_port.proofs.Vocabulary.{KeepLengths, machine_told, HasTurned, IsKeptUp, Turns, StandsTold, Behind, GoOn}
 use Rattle.rig_port.proofs.turn.turn_some.Given as goal
 
 abbrev pub invariant-turns : goal.invariant-turns

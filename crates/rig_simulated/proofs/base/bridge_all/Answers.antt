@@ -1,11 +1,5 @@
-use Rattle.std.proofs.Common.{◌≡◌, ◌≤◌, take, subst, ◌∙◌, arith}
-use Rattle.std.proofs.lemmas.List.{take_all}
-use Rattle.machine_shape.proofs.HighLimits.{high_limits}
-use Rattle.machine_meaning.specs.Faults.{stuck_wire}
-use Rattle.rig_simulated.specs.Classes.{AreTied}
-use Rattle.rig_simulated.specs.Building.{bridged_net}
-use Rattle.rig_simulated.proofs.Joining.{tied_alike}
-use Rattle.rig_simulated.proofs.Links.{bridged_more, all_bridged, bridge_is}
+use Rattle.rig_simulated.proofs.Vocabulary.{◌≡◌, ◌≤◌, take, subst, ◌∙◌, arith, take_all, high_limits, stuck_wire, AreTied, bridged_net}
+use Rattle.rig_simulated.proofs.{Joining.tied_alike, Links.bridged_more, Links.all_bridged, Links.bridge_is}
 use Rattle.rig_simulated.proofs.base.bridge_all.Goals as goal
 
 pub join-requires-clause-a : goal.join-requires-clause-a

@@ -1,7 +1,4 @@
-use Rattle.std.proofs.Common.{◌≡◌, length, take}
-use Rattle.machine_meaning.specs.Faults.{stuck_wire}
-use Rattle.rig_simulated.specs.Classes.{AreTied}
-use Rattle.rig_simulated.specs.Building.{bridged_net}
+use Rattle.rig_simulated.proofs.Vocabulary.{◌≡◌, length, take, stuck_wire, AreTied, bridged_net}
 use Rattle.rig_simulated.proofs.base.bridge_all.Given as goal
 
 abbrev pub invariant-bridges : goal.invariant-bridges

@@ -1,6 +1,4 @@
-use Rattle.std.proofs.Common.{rules, ◌≡◌, sym, subst}
-use Rattle.std.proofs.lemmas.List.{with_items_is}
-use Rattle.std.specs.Vec.{with_items}
+use Rattle.rig_simulated.proofs.Vocabulary.{rules, ◌≡◌, sym, subst, with_items_is, with_items}
 use Rattle.rig_simulated.proofs.Undoing.{none_closed}
 use Rattle.rig_simulated.proofs.base.classes_of.Goals as goal
 

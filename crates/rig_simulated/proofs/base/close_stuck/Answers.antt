@@ -1,10 +1,6 @@
 use Rattle.std.proofs.Common.{◌≡◌, ◌≤◌, ◌+◌, ℕ, true, false, length, subst, ap, ◌∙◌, sym, arith, unwrap_or}
-use Rattle.machine_shape.specs.Shape.{crosses_of, ends_of}
-use Rattle.machine_meaning.specs.Faults.{stuck_wire}
-use Rattle.rig_simulated.specs.Classes.{AreTied, HasLink}
-use Rattle.rig_simulated.specs.Building.{stuck_net, base_most}
-use Rattle.rig_simulated.proofs.Joining.{tied_alike}
-use Rattle.rig_simulated.proofs.Links.{stuck_more, not_stuck_more, all_stuck}
+use Rattle.rig_simulated.proofs.Vocabulary.{crosses_of, ends_of, stuck_wire, AreTied, HasLink, stuck_net, base_most}
+use Rattle.rig_simulated.proofs.{Joining.tied_alike, Links.stuck_more, Links.not_stuck_more, Links.all_stuck}
 use Rattle.rig_simulated.proofs.base.close_stuck.Goals as goal
 use Rattle.rig_simulated.proofs.base.close_stuck.Goals.{then-unwrap_or, else-unwrap_or}
 

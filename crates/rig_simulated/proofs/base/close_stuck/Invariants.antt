@@ -1,7 +1,4 @@
-use Rattle.std.proofs.Common.{◌≡◌, ◌+◌, length}
-use Rattle.machine_meaning.specs.Faults.{stuck_wire}
-use Rattle.rig_simulated.specs.Classes.{AreTied}
-use Rattle.rig_simulated.specs.Building.{stuck_net}
+use Rattle.rig_simulated.proofs.Vocabulary.{◌≡◌, ◌+◌, length, stuck_wire, AreTied, stuck_net}
 use Rattle.rig_simulated.proofs.base.close_stuck.Given as goal
 
 abbrev pub invariant-crosses : goal.invariant-crosses

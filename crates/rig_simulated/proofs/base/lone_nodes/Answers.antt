@@ -1,5 +1,4 @@
-use Rattle.std.proofs.Common.{rules, ◌≡◌, length, arith}
-use Rattle.machine_shape.specs.Shape.{wires_of}
+use Rattle.rig_simulated.proofs.Vocabulary.{rules, ◌≡◌, length, arith, wires_of}
 use Rattle.rig_simulated.proofs.Bases.{all_alone}
 use Rattle.rig_simulated.proofs.base.lone_nodes.Goals as goal
 

@@ -1,6 +1,4 @@
-use Rattle.std.proofs.Common.{◌≡◌, ℕ, ◌<◌, vec_len}
-use Rattle.machine_meaning.specs.Faults.{stuck_wire}
-use Rattle.rig_simulated.specs.Classes.{knot_at}
+use Rattle.rig_simulated.proofs.Vocabulary.{◌≡◌, ℕ, ◌<◌, vec_len, stuck_wire, knot_at}
 use Rattle.rig_simulated.proofs.base.lone_nodes.Given as goal
 
 abbrev pub invariant-wires : goal.invariant-wires

@@ -1,12 +1,6 @@
 use Rattle.std.proofs.Common.{◌≡◌, ◌<◌, ◌+◌, ◌∙◌, All, Some, None, List, [], ◌∷◌, ◌++◌, map, take, length, get_or, sym, ap, subst, arith, is_some, unwrap_or}
 use Rattle.std.proofs.lemmas.List.{map-append, take_more, take_all, length-map, get_or-map}
-use Rattle.std.proofs.lemmas.List.Elements.{All-push}
-use Rattle.std.proofs.lemmas.Bool.{false≢true}
-use Rattle.machine_config.specs.Configuration.{setting_of}
-use Rattle.machine_shape.specs.Shape.{wires_of, tables_of}
-use Rattle.machine_shape.specs.declared.Table.{Table}
-use Rattle.rig_simulated.specs.declared.gates.Gate.{Gate}
-use Rattle.rig_simulated.specs.Gates.{Fits, IsGate}
+use Rattle.rig_simulated.proofs.Vocabulary.{All-push, false≢true, setting_of, wires_of, tables_of, Table, Gate, Fits, IsGate}
 use Rattle.rig_simulated.proofs.Counts.{on_below, on_is_some, stands_on}
 use Rattle.rig_simulated.proofs.board.fill_gates.Goals as goal
 use Rattle.rig_simulated.proofs.board.fill_gates.Goals.{in-Some+in_ok-push, in_default}

@@ -1,7 +1,4 @@
-use Rattle.std.proofs.Common.{◌≡◌, ℕ, All, map, take, unwrap_or}
-use Rattle.machine_shape.specs.Shape.{wires_of, tables_of}
-use Rattle.rig_simulated.specs.Classes.{HasRoots}
-use Rattle.rig_simulated.specs.Gates.{Fits, IsGate}
+use Rattle.rig_simulated.proofs.Vocabulary.{◌≡◌, ℕ, All, map, take, unwrap_or, wires_of, tables_of, HasRoots, Fits, IsGate}
 use Rattle.rig_simulated.proofs.board.fill_gates.Given as goal
 
 abbrev pub invariant-tables : goal.invariant-tables

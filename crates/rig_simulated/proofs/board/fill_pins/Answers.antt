@@ -1,8 +1,5 @@
 use Rattle.std.proofs.Common.{rules, ◌≡◌, ◌⊎◌, ⊎_elim, ◌<◌, ◌+◌, ◌∙◌, ℕ, List, All, [], ◌∷◌, ◌++◌, length, get_or, sym, ap, subst, arith}
-use Rattle.std.proofs.lemmas.Bool.{cases_lt}
-use Rattle.std.proofs.lemmas.List.{get_or_append_left, get_or_push}
-use Rattle.std.proofs.lemmas.List.Elements.{All-push}
-use Rattle.machine_shape.specs.Shape.{wires_of, pin_wire}
+use Rattle.rig_simulated.proofs.Vocabulary.{cases_lt, get_or_append_left, get_or_push, All-push, wires_of, pin_wire}
 use Rattle.rig_simulated.proofs.board.fill_pins.Goals as goal
 
 pub pins-preserved : goal.pins-preserved

@@ -1,6 +1,4 @@
-use Rattle.std.proofs.Common.{◌≡◌, ℕ, ◌<◌, vec_len, All, slice_index}
-use Rattle.machine_shape.specs.Shape.{wires_of, pin_wire}
-use Rattle.rig_simulated.specs.Classes.{HasRoots}
+use Rattle.rig_simulated.proofs.Vocabulary.{◌≡◌, ℕ, ◌<◌, vec_len, All, slice_index, wires_of, pin_wire, HasRoots}
 use Rattle.rig_simulated.proofs.board.fill_pins.Given as goal
 
 abbrev pub invariant-pins : goal.invariant-pins

@@ -1,22 +1,8 @@
-use Rattle.std.proofs.Common.{rules, ◌≡◌, ◌<◌, ◌+◌, ◌∙◌, ℕ, Bool, List, All, length, sym, ap, subst}
-use Rattle.std.specs.Vec.{with_items}
-use Rattle.std.proofs.lemmas.List.{with_items_is}
-use Rattle.machine_shape.specs.declared.Shape.{Shape}
-use Rattle.machine_shape.specs.declared.Cross.{Cross}
-use Rattle.machine_shape.specs.Shape.{wires_of, tables_of, crosses_of, pins_of}
-use Rattle.machine_meaning.specs.Faults.{stuck_wire}
-use Rattle.rig_simulated.specs.declared.classes.ClassNode.{ClassNode}
-use Rattle.rig_simulated.specs.declared.gates.Gate.{Gate}
-use Rattle.rig_simulated.specs.Building.{base_most, closed_net}
-use Rattle.rig_simulated.specs.Classes.{HasRoots, AreTied}
-use Rattle.rig_simulated.specs.Boards.{ArePinsOf}
-use Rattle.rig_simulated.specs.Gates.{Fits, AreGates}
-use Rattle.rig_simulated.specs.Settling.{Settles}
-use Rattle.rig_simulated.specs.Events.{AreEvents}
-use Rattle.rig_simulated.specs.Tracked.{IsTracked}
-use Rattle.rig_simulated.proofs.Counts.{closed_below, among_closed}
-use Rattle.rig_simulated.proofs.Loading.{wired_by}
-use Rattle.rig_simulated.proofs.Undoing.{closed_now}
+use Rattle.rig_simulated.proofs.Vocabulary.{rules, ◌≡◌, ◌<◌, ◌+◌, ◌∙◌, ℕ, Bool, List, All, length, sym, ap, subst, with_items}
+use Rattle.rig_simulated.proofs.Vocabulary.{with_items_is, Shape, Cross, wires_of, tables_of, crosses_of, pins_of, stuck_wire, ClassNode}
+use Rattle.rig_simulated.proofs.Vocabulary.{Gate, base_most, closed_net, HasRoots, AreTied, ArePinsOf, Fits, AreGates, Settles, AreEvents}
+use Rattle.rig_simulated.proofs.Vocabulary.{IsTracked}
+use Rattle.rig_simulated.proofs.{Counts.closed_below, Counts.among_closed, Loading.wired_by, Undoing.closed_now}
 use Rattle.rig_simulated.proofs.board.load.Goals as goal
 
 pub close_all-requires-clause-within : goal.close_all-requires-clause-within

@@ -1,5 +1,4 @@
-use Rattle.std.proofs.Common.{rules, ◌∙◌, ap, true, length}
-use Rattle.std.proofs.lemmas.List.{length-replicate}
+use Rattle.rig_simulated.proofs.Vocabulary.{rules, ◌∙◌, ap, true, length, length-replicate}
 use Rattle.rig_simulated.proofs.Tracking.{clear_all, driven_none}
 use Rattle.rig_simulated.proofs.board.prepare.Goals as goal
 

@@ -1,5 +1,4 @@
-use Rattle.std.proofs.Common.{◌≡◌, ℕ, length}
-use Rattle.rig_simulated.specs.Chains.{AreWithin}
+use Rattle.rig_simulated.proofs.Vocabulary.{◌≡◌, ℕ, length, AreWithin}
 use Rattle.rig_simulated.proofs.Chaining.{AreForgotten}
 use Rattle.rig_simulated.proofs.chains.forget_last.Given as goal
 

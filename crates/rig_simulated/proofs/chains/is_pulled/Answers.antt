@@ -1,6 +1,5 @@
 use Rattle.std.proofs.Common.{◌≡◌, ◌-◌, ◌<◌, ◌∙◌, ℕ, Bool, true, Some, List, length, get_or, sym, subst, arith, slice_index}
-use Rattle.std.proofs.lemmas.List.{get_or_default}
-use Rattle.std.proofs.lemmas.Option.{slice_get-get_or}
+use Rattle.rig_simulated.proofs.Vocabulary.{get_or_default, slice_get-get_or}
 use Rattle.rig_simulated.proofs.Chaining.{IsOnWay, way_on}
 use Rattle.rig_simulated.proofs.chains.is_pulled.Goals as goal
 

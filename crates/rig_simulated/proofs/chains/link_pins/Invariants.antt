@@ -1,5 +1,4 @@
-use Rattle.std.proofs.Common.{◌≡◌, length}
-use Rattle.rig_simulated.specs.Chains.{AreWithin}
+use Rattle.rig_simulated.proofs.Vocabulary.{◌≡◌, length, AreWithin}
 use Rattle.rig_simulated.proofs.Chaining.{AreLinked}
 use Rattle.rig_simulated.proofs.chains.link_pins.Given as goal
 

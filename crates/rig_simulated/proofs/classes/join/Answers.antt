@@ -1,6 +1,5 @@
 use Rattle.std.proofs.Common.{◌≢◌, ◌∙◌, sym}
-use Rattle.rig_simulated.proofs.Joining.{tied_roots, same_knots}
-use Rattle.rig_simulated.proofs.Undoing.{tie_hung}
+use Rattle.rig_simulated.proofs.{Joining.tied_roots, Joining.same_knots, Undoing.tie_hung}
 use Rattle.rig_simulated.proofs.classes.join.Goals as goal
 
 pub returns-then-root-other-clause-joined : goal.returns-then-root-other-clause-joined

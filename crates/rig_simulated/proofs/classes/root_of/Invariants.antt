@@ -1,5 +1,4 @@
-use Rattle.std.proofs.Common.{◌≡◌, ℕ, ◌-◌, ◌^◌, ◌<◌, length}
-use Rattle.rig_simulated.specs.Classes.{knot_at, HasRoots}
+use Rattle.rig_simulated.proofs.Vocabulary.{◌≡◌, ℕ, ◌-◌, ◌^◌, ◌<◌, length, knot_at, HasRoots}
 use Rattle.rig_simulated.proofs.classes.root_of.Given as goal
 
 abbrev pub invariant-up : goal.invariant-up

@@ -1,8 +1,5 @@
 use Rattle.std.proofs.Common.{rules, ◌≡◌, ◌<◌, List, ℕ, length, refl, sym, subst}
-use Rattle.std.proofs.lemmas.List.{with_items_is}
-use Rattle.std.specs.Vec.{with_items}
-use Rattle.rig_simulated.specs.declared.classes.ClassNode.{ClassNode}
-use Rattle.rig_simulated.specs.Classes.{knot_at, HasRoots, IsHung, IsTieOf, IsWithinKnots}
+use Rattle.rig_simulated.proofs.Vocabulary.{with_items_is, with_items, ClassNode, knot_at, HasRoots, IsHung, IsTieOf, IsWithinKnots}
 use Rattle.rig_simulated.proofs.Undoing.{closed_within, closed_tied}
 use Rattle.rig_simulated.proofs.closing.close.Goals as goal
 

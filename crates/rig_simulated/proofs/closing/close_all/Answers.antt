@@ -1,6 +1,4 @@
-use Rattle.std.proofs.Common.{◌≡◌, ◌∙◌, List, map, take, ap, subst}
-use Rattle.rig_simulated.specs.declared.classes.Closed.{Closed}
-use Rattle.rig_simulated.specs.Building.{cross_of}
+use Rattle.rig_simulated.proofs.Vocabulary.{◌≡◌, ◌∙◌, List, map, take, ap, subst, Closed, cross_of}
 use Rattle.rig_simulated.proofs.closing.close_all.Goals as goal
 
 pub crosses-init : goal.crosses-init

@@ -1,5 +1,4 @@
-use Rattle.std.proofs.Common.{◌≡◌, map, take}
-use Rattle.rig_simulated.specs.Building.{cross_of, AreClosedBy}
+use Rattle.rig_simulated.proofs.Vocabulary.{◌≡◌, map, take, cross_of, AreClosedBy}
 use Rattle.rig_simulated.proofs.closing.close_all.Given as goal
 
 abbrev pub invariant-crosses : goal.invariant-crosses

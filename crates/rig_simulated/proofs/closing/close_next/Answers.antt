@@ -1,8 +1,5 @@
 use Rattle.std.proofs.Common.{◌≡◌, ◌∙◌, ℕ, true, false, None, List, sym, ap, subst, is_some}
-use Rattle.machine_shape.specs.Shape.{ends_of}
-use Rattle.machine_meaning.specs.Faults.{stuck_cross}
-use Rattle.rig_simulated.specs.declared.classes.Closed.{Closed}
-use Rattle.rig_simulated.specs.Building.{AreClosedBy, HasClosed}
+use Rattle.rig_simulated.proofs.Vocabulary.{ends_of, stuck_cross, Closed, AreClosedBy, HasClosed}
 use Rattle.rig_simulated.proofs.Undoing.{closed_stuck, closed_joined, no_value}
 use Rattle.rig_simulated.proofs.closing.close_next.Goals as goal
 

@@ -1,5 +1,4 @@
-use Rattle.std.proofs.Common.{◌≡◌, map, take}
-use Rattle.rig_simulated.specs.Building.{cross_of}
+use Rattle.rig_simulated.proofs.Vocabulary.{◌≡◌, map, take, cross_of}
 use Rattle.rig_simulated.proofs.closing.count_alike.Given as goal
 
 abbrev pub invariant-places : goal.invariant-places

@@ -1,5 +1,4 @@
-use Rattle.std.proofs.Common.{◌≡◌, ◌≤◌, length, take}
-use Rattle.rig_simulated.specs.Building.{AreOpenable, StaysClosed}
+use Rattle.rig_simulated.proofs.Vocabulary.{◌≡◌, ◌≤◌, length, take, AreOpenable, StaysClosed}
 use Rattle.rig_simulated.proofs.closing.open_behind.Given as goal
 
 abbrev pub invariant-behind : goal.invariant-behind

@@ -1,10 +1,5 @@
 use Rattle.std.proofs.Common.{rules, ◌≡◌, ◌∷◌, ◌++◌, [], List, sym, subst}
-use Rattle.std.proofs.lemmas.List.{with_items_is}
-use Rattle.std.specs.Vec.{with_items}
-use Rattle.rig_simulated.specs.declared.classes.ClassNode.{ClassNode}
-use Rattle.rig_simulated.specs.declared.classes.Closed.{Closed}
-use Rattle.rig_simulated.specs.Classes.{IsOpenedBy}
-use Rattle.rig_simulated.specs.Building.{AreOpenable, AreClosedBy}
+use Rattle.rig_simulated.proofs.Vocabulary.{with_items_is, with_items, ClassNode, Closed, IsOpenedBy, AreOpenable, AreClosedBy}
 use Rattle.rig_simulated.proofs.Undoing.{last_back, opened, opened_is, opened_closed}
 use Rattle.rig_simulated.proofs.closing.open_last.Goals as goal
 

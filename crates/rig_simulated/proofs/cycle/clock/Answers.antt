@@ -1,6 +1,4 @@
-use Rattle.std.proofs.Common.{◌∙◌, length, sym, refl}
-use Rattle.machine_shape.specs.Shape.{tables_of}
-use Rattle.rig_simulated.specs.Gates.{level_at, clocked}
+use Rattle.rig_simulated.proofs.Vocabulary.{◌∙◌, length, sym, refl, tables_of, level_at, clocked}
 use Rattle.rig_simulated.proofs.Ticking.{stepped_outputs, stepped_fit, stepped_within, clocked_fits}
 use Rattle.rig_simulated.proofs.cycle.clock.Goals as goal
 

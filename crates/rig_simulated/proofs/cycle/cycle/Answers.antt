@@ -1,23 +1,9 @@
 use Rattle.std.proofs.Common.{rules, ◌≡◌, ◌∙◌, ℕ, Bool, true, List, All, length, refl, sym, ap, subst}
-use Rattle.std.specs.Vec.{with_items}
-use Rattle.std.proofs.lemmas.List.{with_items_is}
-use Rattle.machine_shape.specs.declared.Shape.{Shape}
-use Rattle.machine_shape.specs.Shape.{wires_of, tables_of}
-use Rattle.machine_meaning.specs.Circuit.{Outputs, Pins}
-use Rattle.machine_config.specs.Configuration.{Configuration}
-use Rattle.rig_simulated.specs.declared.gates.Gate.{Gate}
-use Rattle.rig_simulated.specs.declared.classes.ClassNode.{ClassNode}
-use Rattle.rig_simulated.specs.Gates.{Fits, IsClear, level_at, clocked, AreOutputs}
-use Rattle.rig_simulated.specs.Boards.{IsLoaded}
-use Rattle.rig_simulated.specs.Cycles.{IsWired, AreDriven, IsEdge, HaveTicked, HasCycled}
-use Rattle.rig_simulated.specs.Settling.{Settles}
-use Rattle.rig_simulated.specs.Events.{AreEvents}
-use Rattle.rig_simulated.specs.Tracks.{GivesCycle}
-use Rattle.rig_simulated.proofs.Eventing.{alike_map, events_stay}
-use Rattle.rig_simulated.specs.Tracked.{IsTracked}
-use Rattle.rig_simulated.proofs.Cycling.{whole_cycle}
+use Rattle.rig_simulated.proofs.Vocabulary.{with_items, with_items_is, Shape, wires_of, tables_of, Outputs, Pins, Configuration, Gate}
+use Rattle.rig_simulated.proofs.Vocabulary.{ClassNode, Fits, IsClear, level_at, clocked, AreOutputs, IsLoaded, IsWired, AreDriven, IsEdge}
+use Rattle.rig_simulated.proofs.Vocabulary.{HaveTicked, HasCycled, Settles, AreEvents, GivesCycle, IsTracked}
+use Rattle.rig_simulated.proofs.{Eventing.alike_map, Eventing.events_stay, Cycling.whole_cycle, Twins.settles_on, Twins.settles_clocked}
 use Rattle.rig_simulated.proofs.Tracking.{has_still}
-use Rattle.rig_simulated.proofs.Twins.{settles_on, settles_clocked}
 use Rattle.rig_simulated.proofs.cycle.cycle.Goals as goal
 
 module _ (c : goal.After-board-5-1) where

@@ -1,8 +1,5 @@
-use Rattle.std.proofs.Common.{◌<◌, ℕ, All, length, sym, subst, arith}
-use Rattle.machine_shape.specs.Shape.{tables_of}
-use Rattle.rig_simulated.specs.declared.gates.Gate.{Gate}
-use Rattle.rig_simulated.proofs.Ticking.{outs_fit}
-use Rattle.rig_simulated.proofs.Twins.{at_rest}
+use Rattle.rig_simulated.proofs.Vocabulary.{◌<◌, ℕ, All, length, sym, subst, arith, tables_of, Gate}
+use Rattle.rig_simulated.proofs.{Ticking.outs_fit, Twins.at_rest}
 use Rattle.rig_simulated.proofs.cycle.settle.Goals as goal
 
 pub returns-clause-ticked : goal.returns-clause-ticked

@@ -1,5 +1,4 @@
-use Rattle.rig_simulated.proofs.Periods.{ticked_when_same}
-use Rattle.rig_simulated.proofs.SoFar.{ticks_begin, ticks_more}
+use Rattle.rig_simulated.proofs.{Periods.ticked_when_same, SoFar.ticks_begin, SoFar.ticks_more}
 use Rattle.rig_simulated.proofs.cycle.tick_on.Goals as goal
 
 pub ticks-init : goal.ticks-init

@@ -1,5 +1,4 @@
-use Rattle.std.proofs.Common.{◌+◌, IfSome, refl, subst}
-use Rattle.rig_simulated.specs.Pasts.{SkipsTicks}
+use Rattle.rig_simulated.proofs.Vocabulary.{◌+◌, IfSome, refl, subst, SkipsTicks}
 use Rattle.rig_simulated.proofs.Periods.{past_none, past_kept, ticked_by_skip, ticked_when_same}
 use Rattle.rig_simulated.proofs.SoFar.{ticks_begin, ticks_more}
 use Rattle.rig_simulated.proofs.cycle.tick_times.Goals as goal

@@ -1,5 +1,4 @@
-use Rattle.machine_shape.specs.Shape.{tables_of}
-use Rattle.rig_simulated.specs.Pasts.{HasComeIfKept}
+use Rattle.rig_simulated.proofs.Vocabulary.{tables_of, HasComeIfKept}
 use Rattle.rig_simulated.proofs.SoFar.{AreTicked}
 use Rattle.rig_simulated.proofs.cycle.tick_times.Given as goal
 

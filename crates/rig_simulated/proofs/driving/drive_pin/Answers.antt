@@ -1,9 +1,5 @@
 use Rattle.std.proofs.Common.{◌≡◌, ◌≢◌, ◌<◌, ◌∙◌, ℕ, Bool, true, false, List, All, length, get_or, set, refl, sym, ap, subst, arith, slice_index}
-use Rattle.std.proofs.lemmas.List.{length-set, get_or-set_same, get_or-set_other}
-use Rattle.machine_meaning.specs.Circuit.{Pins}
-use Rattle.base_bits.proofs.SetsLemmas.{same_bits}
-use Rattle.rig_simulated.specs.Gates.{is_low, IsDrivenBy}
-use Rattle.rig_simulated.specs.Cycles.{AreDriven}
+use Rattle.rig_simulated.proofs.Vocabulary.{length-set, get_or-set_same, get_or-set_other, Pins, same_bits, is_low, IsDrivenBy, AreDriven}
 use Rattle.rig_simulated.proofs.Tracking.{driven_anew, shown_anew}
 use Rattle.rig_simulated.proofs.driving.drive_pin.Goals as goal
 

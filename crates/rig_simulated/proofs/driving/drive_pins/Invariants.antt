@@ -1,5 +1,4 @@
-use Rattle.std.proofs.Common.{◌-◌, ◌≤◌, length}
-use Rattle.rig_simulated.specs.Tracked.{AreAlikeBelow, IsTracked}
+use Rattle.rig_simulated.proofs.Vocabulary.{◌-◌, ◌≤◌, length, AreAlikeBelow, IsTracked}
 use Rattle.rig_simulated.proofs.driving.drive_pins.Given as goal
 
 abbrev pub invariant-further : goal.invariant-further

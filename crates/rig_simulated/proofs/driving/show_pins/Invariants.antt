@@ -1,5 +1,4 @@
-use Rattle.std.proofs.Common.{◌≡◌, ℕ, ◌<◌, true, length, get_or, slice_index}
-use Rattle.rig_simulated.specs.Tracked.{level_by}
+use Rattle.rig_simulated.proofs.Vocabulary.{◌≡◌, ℕ, ◌<◌, true, length, get_or, slice_index, level_by}
 use Rattle.rig_simulated.proofs.driving.show_pins.Given as goal
 
 abbrev pub invariant-pins : goal.invariant-pins

@@ -1,12 +1,7 @@
 use Rattle.std.proofs.Common.{◌≡◌, ◌<◌, ◌∙◌, length, get_or, refl, sym, ap, subst, arith}
-use Rattle.std.proofs.lemmas.List.{get_or_default, length-set}
-use Rattle.rig_simulated.specs.declared.gates.Gate.{Gate}
-use Rattle.rig_simulated.specs.Gates.{level_at, ticked}
-use Rattle.rig_simulated.specs.Events.{IsStill}
+use Rattle.rig_simulated.proofs.Vocabulary.{get_or_default, length-set, Gate, level_at, ticked, IsStill, same_bits}
 use Rattle.rig_simulated.proofs.Pulling.{plain}
-use Rattle.rig_simulated.proofs.Queueing.{count_within}
-use Rattle.base_bits.proofs.SetsLemmas.{same_bits}
-use Rattle.rig_simulated.proofs.Eventing.{due_still, due_flips, flips_more, still_if}
+use Rattle.rig_simulated.proofs.{Queueing.count_within, Eventing.due_still, Eventing.due_flips, Eventing.flips_more, Eventing.still_if}
 use Rattle.rig_simulated.proofs.events.evaluate.Goals as goal
 
 pub due-preserved-then-gate-gates : goal.due-preserved-then-gate-gates

@@ -1,6 +1,4 @@
-use Rattle.std.proofs.Common.{◌≡◌, ◌≤◌, length}
-use Rattle.rig_simulated.specs.Gates.{level_at}
-use Rattle.rig_simulated.specs.Events.{AreFlips, HaveFlips}
+use Rattle.rig_simulated.proofs.Vocabulary.{◌≡◌, ◌≤◌, length, level_at, AreFlips, HaveFlips}
 use Rattle.rig_simulated.proofs.events.evaluate.Given as goal
 
 abbrev pub invariant-due : goal.invariant-due

@@ -1,6 +1,4 @@
-use Rattle.std.proofs.Common.{◌<◌, ◌∙◌, length, sym, subst, arith}
-use Rattle.rig_simulated.specs.declared.events.Flip.{Flip}
-use Rattle.rig_simulated.specs.Gates.{level_at}
+use Rattle.rig_simulated.proofs.Vocabulary.{◌<◌, ◌∙◌, length, sym, subst, arith, Flip, level_at}
 use Rattle.rig_simulated.proofs.Eventing.{alike_on, alike_given, inputs_on, put_next}
 use Rattle.rig_simulated.proofs.events.flip_all.Goals as goal
 

@@ -1,6 +1,4 @@
-use Rattle.std.proofs.Common.{◌≡◌, length}
-use Rattle.rig_simulated.specs.Gates.{level_at}
-use Rattle.rig_simulated.specs.Events.{AreAlike, PutFlips, InputsKept, IsSound}
+use Rattle.rig_simulated.proofs.Vocabulary.{◌≡◌, length, level_at, AreAlike, PutFlips, InputsKept, IsSound}
 use Rattle.rig_simulated.proofs.events.flip_all.Given as goal
 
 abbrev pub invariant-flips : goal.invariant-flips

@@ -1,6 +1,5 @@
 use Rattle.std.proofs.Common.{refl}
-use Rattle.rig_simulated.proofs.Pulling.{plain}
-use Rattle.rig_simulated.proofs.Eventing.{sound_given, inputs_listed}
+use Rattle.rig_simulated.proofs.{Pulling.plain, Eventing.sound_given, Eventing.inputs_listed}
 use Rattle.rig_simulated.proofs.events.flip_one.Goals as goal
 
 pub returns-then-level_at-before-clause-sound : goal.returns-then-level_at-before-clause-sound

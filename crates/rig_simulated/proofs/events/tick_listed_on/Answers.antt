@@ -1,7 +1,5 @@
 use Rattle.std.proofs.Common.{◌∙◌, refl, arith}
-use Rattle.rig_simulated.proofs.Eventing.{tick_at_rest}
-use Rattle.rig_simulated.proofs.Periods.{ticked_at_rest}
-use Rattle.rig_simulated.proofs.SoFar.{listed_begin, listed_more}
+use Rattle.rig_simulated.proofs.{Eventing.tick_at_rest, Periods.ticked_at_rest, SoFar.listed_begin, SoFar.listed_more}
 use Rattle.rig_simulated.proofs.events.tick_listed_on.Goals as goal
 
 pub ticks-init : goal.ticks-init

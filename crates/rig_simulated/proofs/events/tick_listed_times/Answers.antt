@@ -1,8 +1,6 @@
-use Rattle.std.proofs.Common.{◌∙◌, ◌+◌, IfSome, refl, subst, arith}
-use Rattle.rig_simulated.specs.Pasts.{SkipsTicks}
-use Rattle.rig_simulated.proofs.Eventing.{tick_at_rest}
+use Rattle.rig_simulated.proofs.Vocabulary.{◌∙◌, ◌+◌, IfSome, refl, subst, arith, SkipsTicks}
+use Rattle.rig_simulated.proofs.{Eventing.tick_at_rest, SoFar.listed_begin, SoFar.listed_more}
 use Rattle.rig_simulated.proofs.Periods.{past_none, past_kept, ticked_at_rest, ticked_by_skip}
-use Rattle.rig_simulated.proofs.SoFar.{listed_begin, listed_more}
 use Rattle.rig_simulated.proofs.events.tick_listed_times.Goals as goal
 
 pub ticks-init : goal.ticks-init

@@ -1,5 +1,4 @@
-use Rattle.machine_shape.specs.Shape.{tables_of}
-use Rattle.rig_simulated.specs.Pasts.{HasComeIfKept}
+use Rattle.rig_simulated.proofs.Vocabulary.{tables_of, HasComeIfKept}
 use Rattle.rig_simulated.proofs.SoFar.{AreTickedListed}
 use Rattle.rig_simulated.proofs.events.tick_listed_times.Given as goal
 

@@ -1,8 +1,4 @@
-use Rattle.std.proofs.Common.{◌<◌, ◌∙◌, List, set, length, ap, arith}
-use Rattle.std.proofs.lemmas.List.{get_or_default}
-use Rattle.std.proofs.lemmas.List.Edits.{map_over_more}
-use Rattle.rig_simulated.specs.declared.gates.Gate.{Gate}
-use Rattle.rig_simulated.specs.Gates.{level_at, clocked}
+use Rattle.rig_simulated.proofs.Vocabulary.{◌<◌, ◌∙◌, List, set, length, ap, arith, get_or_default, map_over_more, Gate, level_at, clocked}
 use Rattle.rig_simulated.proofs.gates.clock_all.Goals as goal
 
 pub gates-preserved : goal.gates-preserved

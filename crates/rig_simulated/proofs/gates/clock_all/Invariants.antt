@@ -1,5 +1,4 @@
-use Rattle.std.proofs.Common.{◌≡◌, ◌++◌, map, take, drop}
-use Rattle.rig_simulated.specs.Gates.{level_at, clocked}
+use Rattle.rig_simulated.proofs.Vocabulary.{◌≡◌, ◌++◌, map, take, drop, level_at, clocked}
 use Rattle.rig_simulated.proofs.gates.clock_all.Given as goal
 
 abbrev pub invariant-gates : goal.invariant-gates

@@ -1,12 +1,7 @@
 use Rattle.std.proofs.Common.{◌<◌, ◌∙◌, List, set, length, sym, ap, refl, arith}
-use Rattle.std.proofs.lemmas.Bool.{false≢true}
-use Rattle.std.proofs.lemmas.List.{get_or_default}
-use Rattle.std.proofs.lemmas.List.Edits.{map_over_more}
-use Rattle.rig_simulated.specs.declared.gates.Gate.{Gate}
-use Rattle.rig_simulated.specs.Gates.{level_at, ticked}
-use Rattle.rig_simulated.proofs.Twins.{unwritten}
+use Rattle.rig_simulated.proofs.Vocabulary.{false≢true, get_or_default, map_over_more, Gate, level_at, ticked}
+use Rattle.rig_simulated.proofs.{Twins.unwritten, gates.tick_all.Goals.then-gate-gates, gates.tick_all.Goals.else-gate-gates}
 use Rattle.rig_simulated.proofs.gates.tick_all.Goals as goal
-use Rattle.rig_simulated.proofs.gates.tick_all.Goals.{then-gate-gates, else-gate-gates}
 
 pub gates-preserved : goal.gates-preserved
 gates-preserved c =

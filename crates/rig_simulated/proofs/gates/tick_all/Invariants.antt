@@ -1,5 +1,4 @@
-use Rattle.std.proofs.Common.{◌≡◌, ◌++◌, false, map, take, drop}
-use Rattle.rig_simulated.specs.Gates.{level_at, ticked}
+use Rattle.rig_simulated.proofs.Vocabulary.{◌≡◌, ◌++◌, false, map, take, drop, level_at, ticked}
 use Rattle.rig_simulated.proofs.gates.tick_all.Given as goal
 
 abbrev pub invariant-gates : goal.invariant-gates

@@ -1,5 +1,4 @@
-use Rattle.std.proofs.Common.{◌≡◌, ℕ, true, length}
-use Rattle.rig_simulated.specs.Gates.{is_low, IsPinOf}
+use Rattle.rig_simulated.proofs.Vocabulary.{◌≡◌, ℕ, true, length, is_low, IsPinOf}
 use Rattle.rig_simulated.proofs.marks.clear_pins.Given as goal
 
 abbrev pub invariant-pins : goal.invariant-pins

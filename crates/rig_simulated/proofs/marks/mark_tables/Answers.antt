@@ -1,6 +1,4 @@
-use Rattle.std.proofs.Common.{◌+◌, true, sym, subst}
-use Rattle.std.proofs.lemmas.Bool.{not-true, not-false}
-use Rattle.rig_simulated.specs.Gates.{IsPulledBy, AreMarkedToo}
+use Rattle.rig_simulated.proofs.Vocabulary.{◌+◌, true, sym, subst, not-true, not-false, IsPulledBy, AreMarkedToo}
 use Rattle.rig_simulated.proofs.Marking.{none_marked, no_pull, marked_more, marked_same, pull_here, pull_kept, pull_last, pull_not}
 use Rattle.rig_simulated.proofs.marks.mark_tables.Goals as goal
 use Rattle.rig_simulated.proofs.marks.mark_tables.Goals.{then-not-gate, else-not-gate}

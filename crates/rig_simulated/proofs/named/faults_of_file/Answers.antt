@@ -1,11 +1,6 @@
-use Rattle.std.proofs.Common.{◌≤◌, Err, Some, length, subst, arith}
+use Rattle.rig_simulated.proofs.Vocabulary.{◌≤◌, Err, Some, length, subst, arith, most_text, high_limits, Faults}
 use Rattle.base_io.specs.Whole.{IsWithin}
-use Rattle.machine_shape.specs.Bounds.{most_text}
-use Rattle.machine_shape.proofs.HighLimits.{high_limits}
-use Rattle.machine_meaning.specs.Faults.{Faults}
-use Rattle.machine_faults.specs.Text.{IsFaultText}
-use Rattle.machine_faults.specs.Refusals.{IsRefusedAs, GivesOrLacks}
-use Rattle.machine_faults.specs.declared.kind.FaultsFault.{FaultsFault}
+use Rattle.machine_faults.specs.{Text.IsFaultText, Refusals.IsRefusedAs, Refusals.GivesOrLacks, declared.kind.FaultsFault.FaultsFault}
 use Rattle.rig_simulated.proofs.Naming.{no_text}
 use Rattle.rig_simulated.proofs.named.faults_of_file.Goals as goal
 

@@ -1,7 +1,4 @@
-use Rattle.std.proofs.Common.{ℕ, sym, subst}
-use Rattle.std.proofs.lemmas.Bool.{not-false}
-use Rattle.base_bits.proofs.SetsLemmas.{same_bits}
-use Rattle.rig_simulated.specs.Pasts.{AreGiven}
+use Rattle.rig_simulated.proofs.Vocabulary.{ℕ, sym, subst, not-false, same_bits, AreGiven}
 use Rattle.rig_simulated.proofs.Periods.{given_none, given_more, given_all}
 use Rattle.rig_simulated.proofs.past.other_from.Goals as goal
 

@@ -1,5 +1,4 @@
-use Rattle.std.proofs.Common.{◌≡◌}
-use Rattle.rig_simulated.specs.Pasts.{AreGiven}
+use Rattle.rig_simulated.proofs.Vocabulary.{◌≡◌, AreGiven}
 use Rattle.rig_simulated.proofs.past.other_from.Given as goal
 
 abbrev pub invariant-gates : goal.invariant-gates

@@ -1,5 +1,4 @@
-use Rattle.std.proofs.Common.{◌≡◌, ◌<◌, ℕ, length, slice_index}
-use Rattle.rig_simulated.specs.Gates.{IsOutputOf}
+use Rattle.rig_simulated.proofs.Vocabulary.{◌≡◌, ◌<◌, ℕ, length, slice_index, IsOutputOf}
 use Rattle.rig_simulated.proofs.pulls.clear_pulls.Given as goal
 
 abbrev pub invariant-gates : goal.invariant-gates

@@ -1,5 +1,4 @@
-use Rattle.std.proofs.Common.{◌≡◌, ◌<◌, ◌∙◌, ℕ, true, length, get_or, arith}
-use Rattle.std.proofs.lemmas.List.{get_or_default, length-set}
+use Rattle.rig_simulated.proofs.Vocabulary.{◌≡◌, ◌<◌, ◌∙◌, ℕ, true, length, get_or, arith, get_or_default, length-set}
 use Rattle.rig_simulated.proofs.Pulling.{plain, few_counted, counted_next}
 use Rattle.rig_simulated.proofs.pulls.count_pulls.Goals as goal
 

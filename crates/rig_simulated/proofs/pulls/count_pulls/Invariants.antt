@@ -1,5 +1,4 @@
-use Rattle.std.proofs.Common.{◌≡◌, length, take}
-use Rattle.rig_simulated.specs.Pulls.{AreCounted}
+use Rattle.rig_simulated.proofs.Vocabulary.{◌≡◌, length, take, AreCounted}
 use Rattle.rig_simulated.proofs.pulls.count_pulls.Given as goal
 
 abbrev pub invariant-gates : goal.invariant-gates

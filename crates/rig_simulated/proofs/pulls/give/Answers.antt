@@ -1,5 +1,4 @@
-use Rattle.std.proofs.Common.{◌≡◌, ◌<◌, ◌∙◌, ℕ, length, get_or, arith}
-use Rattle.std.proofs.lemmas.List.{get_or_default}
+use Rattle.rig_simulated.proofs.Vocabulary.{◌≡◌, ◌<◌, ◌∙◌, ℕ, length, get_or, arith, get_or_default}
 use Rattle.rig_simulated.proofs.Pulling.{plain, differs_if, counted_now}
 use Rattle.rig_simulated.proofs.pulls.give.Goals as goal
 

@@ -1,5 +1,4 @@
-use Rattle.std.proofs.Common.{◌∙◌, false, sym, refl, arith}
-use Rattle.std.proofs.lemmas.List.{get_or_default}
+use Rattle.rig_simulated.proofs.Vocabulary.{◌∙◌, false, sym, refl, arith, get_or_default}
 use Rattle.rig_simulated.proofs.Queueing.{has_room, queue_more}
 use Rattle.rig_simulated.proofs.queue.add.Goals as goal
 

@@ -1,5 +1,4 @@
-use Rattle.std.proofs.Common.{◌≡◌, ◌<◌, ℕ, true, length}
-use Rattle.rig_simulated.specs.Queues.{is_marked, IsQueue}
+use Rattle.rig_simulated.proofs.Vocabulary.{◌≡◌, ◌<◌, ℕ, true, length, is_marked, IsQueue}
 use Rattle.rig_simulated.proofs.queue.add_all.Given as goal
 
 abbrev pub invariant-places : goal.invariant-places

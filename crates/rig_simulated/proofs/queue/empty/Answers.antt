@@ -1,5 +1,4 @@
-use Rattle.std.proofs.Common.{◌∙◌, get_or, ap, refl, arith}
-use Rattle.std.proofs.lemmas.List.{length-set}
+use Rattle.rig_simulated.proofs.Vocabulary.{◌∙◌, get_or, ap, refl, arith, length-set}
 use Rattle.rig_simulated.proofs.Queueing.{due_place, left_less, none_left, emptied}
 use Rattle.rig_simulated.proofs.queue.empty.Goals as goal
 

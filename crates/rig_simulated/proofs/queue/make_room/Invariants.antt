@@ -1,5 +1,4 @@
-use Rattle.std.proofs.Common.{◌≡◌, ℕ, false, length}
-use Rattle.rig_simulated.specs.Queues.{is_marked}
+use Rattle.rig_simulated.proofs.Vocabulary.{◌≡◌, ℕ, false, length, is_marked}
 use Rattle.rig_simulated.proofs.queue.make_room.Given as goal
 
 abbrev pub invariant-places : goal.invariant-places

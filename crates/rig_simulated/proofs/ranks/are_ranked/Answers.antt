@@ -1,8 +1,5 @@
-use Rattle.std.proofs.Common.{subst, slice_index}
+use Rattle.rig_simulated.proofs.Vocabulary.{subst, slice_index, take_all, All-more, IsRankedOrLatched}
 use Rattle.std.specs.List.{All}
-use Rattle.std.proofs.lemmas.List.{take_all}
-use Rattle.std.proofs.lemmas.List.Elements.{All-more}
-use Rattle.rig_simulated.specs.Settling.{IsRankedOrLatched}
 use Rattle.rig_simulated.proofs.ranks.are_ranked.Goals as goal
 
 pub gates-preserved : goal.gates-preserved

@@ -1,6 +1,5 @@
-use Rattle.std.proofs.Common.{take, slice_index}
+use Rattle.rig_simulated.proofs.Vocabulary.{take, slice_index, IsRankedOrLatched}
 use Rattle.std.specs.List.{All}
-use Rattle.rig_simulated.specs.Settling.{IsRankedOrLatched}
 use Rattle.rig_simulated.proofs.ranks.are_ranked.Given as goal
 
 abbrev pub invariant-gates : goal.invariant-gates

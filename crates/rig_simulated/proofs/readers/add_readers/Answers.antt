@@ -1,6 +1,4 @@
-use Rattle.std.proofs.Common.{◌<◌, ◌∙◌, ℕ, ap, subst}
-use Rattle.std.proofs.lemmas.List.{get_or_default}
-use Rattle.rig_simulated.specs.declared.readers.Reader.{Reader}
+use Rattle.rig_simulated.proofs.Vocabulary.{◌<◌, ◌∙◌, ℕ, ap, subst, get_or_default, Reader}
 use Rattle.rig_simulated.proofs.Reading.{reader_found}
 use Rattle.rig_simulated.proofs.readers.add_readers.Goals as goal
 

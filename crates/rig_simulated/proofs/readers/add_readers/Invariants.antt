@@ -1,6 +1,4 @@
-use Rattle.std.proofs.Common.{◌≡◌, ◌≤◌, ◌<◌, ℕ, true, length, get_or, slice_index}
-use Rattle.rig_simulated.specs.declared.readers.Reader.{Reader}
-use Rattle.rig_simulated.specs.Queues.{is_marked, IsQueue, KeepsMarks}
+use Rattle.rig_simulated.proofs.Vocabulary.{◌≡◌, ◌≤◌, ◌<◌, ℕ, true, length, get_or, slice_index, Reader, is_marked, IsQueue, KeepsMarks}
 use Rattle.rig_simulated.proofs.readers.add_readers.Given as goal
 
 abbrev pub invariant-readers : goal.invariant-readers

@@ -1,7 +1,5 @@
-use Rattle.std.proofs.Common.{◌<◌, length, rules, arith}
-use Rattle.std.proofs.lemmas.List.{get_or_default}
+use Rattle.rig_simulated.proofs.Vocabulary.{◌<◌, length, rules, arith, get_or_default, Reader}
 use Rattle.std.proofs.lemmas.List.Sorted.{IsNonDecreasingBy-from_sort_by_key, All-permutation}
-use Rattle.rig_simulated.specs.declared.readers.Reader.{Reader}
 use Rattle.rig_simulated.proofs.Reading.{listed_more, listed_sorted}
 use Rattle.rig_simulated.proofs.readers.fill_list.Goals as goal
 

@@ -1,6 +1,4 @@
-use Rattle.std.proofs.Common.{◌<◌, length, All}
-use Rattle.rig_simulated.specs.declared.readers.Reader.{Reader}
-use Rattle.rig_simulated.specs.Readers.{AreListed}
+use Rattle.rig_simulated.proofs.Vocabulary.{◌<◌, length, All, Reader, AreListed}
 use Rattle.rig_simulated.proofs.readers.fill_list.Given as goal
 
 abbrev pub invariant-gates : goal.invariant-gates

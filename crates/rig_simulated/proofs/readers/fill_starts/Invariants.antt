@@ -1,5 +1,4 @@
-use Rattle.std.proofs.Common.{◌≡◌, length}
-use Rattle.rig_simulated.specs.Readers.{AreStarts}
+use Rattle.rig_simulated.proofs.Vocabulary.{◌≡◌, length, AreStarts}
 use Rattle.rig_simulated.proofs.readers.fill_starts.Given as goal
 
 abbrev pub invariant-gates : goal.invariant-gates

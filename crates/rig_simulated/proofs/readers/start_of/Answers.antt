@@ -1,7 +1,5 @@
 use Rattle.std.proofs.Common.{suc, leb, leb-true, arith, rules}
-use Rattle.std.specs.List.Sorted.{IsNonDecreasingBy}
-use Rattle.std.proofs.lemmas.List.Sorted.{IsPartitionPoint-from_clause, IsPartitionedBy-leb}
-use Rattle.rig_simulated.specs.declared.readers.Reader.{Reader}
+use Rattle.rig_simulated.proofs.Vocabulary.{IsNonDecreasingBy, IsPartitionPoint-from_clause, IsPartitionedBy-leb, Reader}
 use Rattle.rig_simulated.proofs.readers.start_of.Goals as goal
 
 pub returns : goal.returns

@@ -1,6 +1,4 @@
-use Rattle.std.proofs.Common.{◌≡◌, ℕ, ◌<◌, ◌≤◌, false, length, is_some}
-use Rattle.machine_meaning.specs.Faults.{stuck_cross}
-use Rattle.machine_shape.specs.Shape.{crosses_of}
+use Rattle.rig_simulated.proofs.Vocabulary.{◌≡◌, ℕ, ◌<◌, ◌≤◌, false, length, is_some, stuck_cross, crosses_of}
 use Rattle.base_bits.specs.Numbers.{has_number}
 use Rattle.rig_simulated.proofs.stuck.stuck_marks.Given as goal
 

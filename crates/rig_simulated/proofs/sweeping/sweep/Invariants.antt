@@ -1,5 +1,4 @@
-use Rattle.std.proofs.Common.{◌≡◌, length}
-use Rattle.rig_simulated.specs.Settling.{IsLatched, AreTwins, AreAtOutputs}
+use Rattle.rig_simulated.proofs.Vocabulary.{◌≡◌, length, IsLatched, AreTwins, AreAtOutputs}
 use Rattle.rig_simulated.proofs.sweeping.sweep.Given as goal
 
 abbrev pub invariant-turns : goal.invariant-turns

@@ -1,10 +1,6 @@
 use Rattle.std.proofs.Common.{◌<◌, List, length, set, sym, ap, subst, arith}
-use Rattle.std.proofs.lemmas.List.{length-set, get_or-set_same}
-use Rattle.rig_simulated.specs.declared.gates.Gate.{Gate}
-use Rattle.rig_simulated.specs.Gates.{level_at}
-use Rattle.rig_simulated.specs.Settling.{IsLatched, AreTwins}
-use Rattle.rig_simulated.proofs.Levels.{no_gate}
-use Rattle.rig_simulated.proofs.Twins.{twins_set, outputs_beside, marked_at}
+use Rattle.rig_simulated.proofs.Vocabulary.{length-set, get_or-set_same, Gate, level_at, IsLatched, AreTwins}
+use Rattle.rig_simulated.proofs.{Levels.no_gate, Twins.twins_set, Twins.outputs_beside, Twins.marked_at}
 use Rattle.rig_simulated.proofs.sweeping.take_turn.Goals as goal
 
 pub returns-then-not-gate-clause-marks : goal.returns-then-not-gate-clause-marks

@@ -1,7 +1,5 @@
 use Rattle.std.proofs.Common.{◌≡◌, ◌∙◌, ◌+◌, ◌*◌, ◌<◌, length, refl, sym, subst, arith}
-use Rattle.std.proofs.lemmas.Result.{err_from_is_err_and}
-use Rattle.machine_image.specs.Images.{ImageValue}
-use Rattle.run_image.specs.Batches.{most_together}
+use Rattle.run_image.proofs.Vocabulary.{err_from_is_err_and, ImageValue, most_together}
 use Rattle.run_image.proofs.BatchLemmas.{next-from, row-fits}
 use Rattle.run_image.proofs.CycleLemmas.{add-next, stop-next, added-all}
 use Rattle.run_image.proofs.image.add_rows.Goals as goal

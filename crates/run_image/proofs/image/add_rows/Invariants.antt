@@ -1,5 +1,4 @@
-use Rattle.std.proofs.Common.{◌≡◌, ◌*◌, take, length}
-use Rattle.run_image.specs.Running.{IsFitting, IsSameRun, HasAddedAll, readings_in}
+use Rattle.run_image.proofs.Vocabulary.{◌≡◌, ◌*◌, take, length, IsFitting, IsSameRun, HasAddedAll, readings_in}
 use Rattle.run_image.proofs.image.add_rows.Given as goal
 
 abbrev pub invariant-rows : goal.invariant-rows

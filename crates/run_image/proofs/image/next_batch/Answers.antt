@@ -1,6 +1,4 @@
-use Rattle.std.proofs.Common.{◌≤◌, ◌∙◌, ℕ, inl, refl, sym, subst, arith}
-use Rattle.std.proofs.lemmas.Result.{err_from_is_err_and}
-use Rattle.run_image.specs.Running.{together_of}
+use Rattle.run_image.proofs.Vocabulary.{◌≤◌, ◌∙◌, ℕ, inl, refl, sym, subst, arith, err_from_is_err_and, together_of}
 use Rattle.run_image.proofs.CycleLemmas.{kept-first, read-batch}
 use Rattle.run_image.proofs.image.next_batch.Goals as goal
 

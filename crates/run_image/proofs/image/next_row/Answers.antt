@@ -1,5 +1,4 @@
-use Rattle.std.proofs.Common.{◌∙◌}
-use Rattle.std.proofs.lemmas.Result.{err_from_is_err_and}
+use Rattle.run_image.proofs.Vocabulary.{◌∙◌, err_from_is_err_and}
 use Rattle.run_image.proofs.CycleLemmas.{row-apart, row-added, row-stopped}
 use Rattle.run_image.proofs.image.next_row.Goals as goal
 

@@ -1,8 +1,4 @@
-use Rattle.std.proofs.Common.{refl, inl}
-use Rattle.std.proofs.lemmas.Result.{err_from_is_err_and}
-use Rattle.cmd_steps.specs.Outside.{outside}
-use Rattle.cmd_steps.proofs.Taking.{took-nothing}
-use Rattle.run_image.specs.Running.{prepares}
+use Rattle.run_image.proofs.Vocabulary.{refl, inl, err_from_is_err_and, outside, took-nothing, prepares}
 use Rattle.run_image.proofs.ImageLemmas.{load-took, load-stopped}
 use Rattle.run_image.proofs.image.prepare.Goals as goal
 

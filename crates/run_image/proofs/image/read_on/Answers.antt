@@ -1,7 +1,4 @@
-use Rattle.std.proofs.Common.{◌≡◌, ◌∙◌, ◌+◌, ◌*◌, ◌<◌, [], length, refl, sym, subst, arith}
-use Rattle.machine_image.specs.Images.{ImageValue}
-use Rattle.run_image.specs.Batches.{most_together}
-use Rattle.run_image.specs.Running.{ReadsMore}
+use Rattle.run_image.proofs.Vocabulary.{◌≡◌, ◌∙◌, ◌+◌, ◌*◌, ◌<◌, [], length, refl, sym, subst, arith, ImageValue, most_together, ReadsMore}
 use Rattle.run_image.proofs.BatchLemmas.{next-from, row-fits}
 use Rattle.run_image.proofs.CycleLemmas.{few-together, some-together, reads-on, reads-same}
 use Rattle.run_image.proofs.image.read_on.Goals as goal

@@ -1,5 +1,4 @@
-use Rattle.std.proofs.Common.{◌≡◌, ◌*◌, length}
-use Rattle.run_image.specs.Running.{IsFitting, IsSameRun, ReadsMore}
+use Rattle.run_image.proofs.Vocabulary.{◌≡◌, ◌*◌, length, IsFitting, IsSameRun, ReadsMore}
 use Rattle.run_image.proofs.image.read_on.Given as goal
 
 abbrev pub invariant-vectors : goal.invariant-vectors

@@ -1,11 +1,7 @@
-use Rattle.std.proofs.Common.{◌≤◌, [], refl, arith}
-use Rattle.std.proofs.lemmas.Result.{err_from_is_err_and}
-use Rattle.cmd_steps.proofs.Making.{nothing}
+use Rattle.run_image.proofs.Vocabulary.{◌≤◌, [], refl, arith, err_from_is_err_and, nothing, most_rows}
 use Rattle.cmd_steps.proofs.StartLemmas.{begun-file}
-use Rattle.run_image.proofs.Driving.{driven-start}
-use Rattle.run_image.specs.Rows.{most_rows}
+use Rattle.run_image.proofs.{Driving.driven-start, RowLemmas.session-is}
 use Rattle.run_image.proofs.ImageLemmas.{load-stops, open-stops, line-stops, rows-follow}
-use Rattle.run_image.proofs.RowLemmas.{session-is}
 use Rattle.run_image.proofs.image.run_copies.Goals as goal
 
 pub returns-in_err-rows : goal.returns-in_err-rows

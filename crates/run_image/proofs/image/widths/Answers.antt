@@ -1,6 +1,4 @@
-use Rattle.std.proofs.Common.{◌∙◌, ap, arith, length}
-use Rattle.machine_shape.specs.Shape.{pins_of}
-use Rattle.machine_config.specs.Configuration.{Configuration}
+use Rattle.run_image.proofs.Vocabulary.{◌∙◌, ap, arith, length, pins_of, Configuration}
 use Rattle.cmd_steps.proofs.InputLemmas.{pins-few}
 use Rattle.run_image.proofs.image.widths.Goals as goal
 

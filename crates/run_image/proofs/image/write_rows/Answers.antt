@@ -1,5 +1,4 @@
-use Rattle.std.proofs.Common.{refl, arith}
-use Rattle.std.proofs.lemmas.Result.{err_from_is_err_and}
+use Rattle.run_image.proofs.Vocabulary.{refl, arith, err_from_is_err_and}
 use Rattle.run_image.proofs.CycleLemmas.{batch-smaller, few-together}
 use Rattle.run_image.proofs.RowLemmas.{IsDriving-start, IsDriving-more, batch-of, end-of, pins-are, read-stops, makes-stop, ends-so}
 use Rattle.run_image.proofs.image.write_rows.Goals as goal

@@ -1,5 +1,4 @@
-use Rattle.std.proofs.Common.{◌-◌}
-use Rattle.cmd_steps.specs.Vocabulary.{most_vector_bytes, outside}
+use Rattle.run_image.proofs.Vocabulary.{◌-◌, most_vector_bytes, outside}
 use Rattle.run_image.proofs.RowLemmas.{IsDriving}
 use Rattle.run_image.proofs.image.write_rows.Given as goal
 

@@ -1,6 +1,4 @@
-use Rattle.std.proofs.Common.{◌∙◌, ap, sym, refl, Some, arith}
-use Rattle.std.proofs.lemmas.Result.{err_from_is_err_and}
-use Rattle.machine_shape.specs.declared.Shape.{Shape}
+use Rattle.run_image.proofs.Vocabulary.{◌∙◌, ap, sym, refl, Some, arith, err_from_is_err_and, Shape}
 use Rattle.diag_list.proofs.ListedLemmas.{list-shape}
 use Rattle.run_image.proofs.Following.{list-fails, lay-fails, laid-runs}
 use Rattle.run_image.proofs.laid.list_and_run.Goals as goal

@@ -1,5 +1,4 @@
-use Rattle.std.proofs.Common.{◌≡◌, ◌+◌, ◌<◌, length, get_or, true, slice_index_or, arith}
-use Rattle.std.proofs.lemmas.Option.{gets}
+use Rattle.run_image.proofs.Vocabulary.{◌≡◌, ◌+◌, ◌<◌, length, get_or, true, slice_index_or, arith, gets}
 use Rattle.run_image.proofs.Together.{put-read}
 use Rattle.run_image.proofs.run.put_pins.Goals as goal
 

@@ -1,5 +1,4 @@
-use Rattle.std.proofs.Common.{◌∙◌, ap}
-use Rattle.run_image.specs.Driven.{driven}
+use Rattle.run_image.proofs.Vocabulary.{◌∙◌, ap, driven}
 use Rattle.run_image.proofs.Vectors.{driven_is}
 use Rattle.run_image.proofs.run.put_vector.Goals as goal
 

@@ -1,9 +1,5 @@
-use Rattle.std.proofs.Common.{◌≡◌, ◌∙◌, ◌<◌, length, arith, refl}
-use Rattle.std.proofs.lemmas.List.{length-set}
-use Rattle.std.proofs.lemmas.List.Elements.{All-set}
-use Rattle.machine_meaning.specs.Circuit.{Pins}
-use Rattle.run_image.proofs.BatchLemmas.{next-from}
-use Rattle.run_image.proofs.Together.{drives-more, drives-all}
+use Rattle.run_image.proofs.Vocabulary.{◌≡◌, ◌∙◌, ◌<◌, length, arith, refl, length-set, All-set, Pins}
+use Rattle.run_image.proofs.{BatchLemmas.next-from, Together.drives-more, Together.drives-all}
 use Rattle.run_image.proofs.run.put_vectors.Goals as goal
 
 pub rows-preserved : goal.rows-preserved

@@ -1,6 +1,4 @@
-use Rattle.std.proofs.Common.{◌≡◌, ◌*◌, List, Bool, map, take, length, All}
-use Rattle.run_image.specs.Batches.{rows_in}
-use Rattle.run_image.specs.Driven.{driven}
+use Rattle.run_image.proofs.Vocabulary.{◌≡◌, ◌*◌, List, Bool, map, take, length, All, rows_in, driven}
 use Rattle.run_image.proofs.run.put_vectors.Given as goal
 
 abbrev pub invariant-rows : goal.invariant-rows

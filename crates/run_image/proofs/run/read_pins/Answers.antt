@@ -1,7 +1,5 @@
 use Rattle.std.proofs.Common.{◌≡◌, ◌<◌, length, get_or, true, slice_index_or, arith, add-one, refl}
-use Rattle.std.proofs.Math.Seq.{take-suc-set, take-suc}
-use Rattle.std.proofs.lemmas.Option.{gets}
-use Rattle.std.proofs.lemmas.List.{map-append}
+use Rattle.run_image.proofs.Vocabulary.{take-suc-set, take-suc, gets, map-append}
 use Rattle.run_image.proofs.run.read_pins.Goals as goal
 
 pub places-preserved : goal.places-preserved

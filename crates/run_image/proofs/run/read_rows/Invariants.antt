@@ -1,5 +1,4 @@
-use Rattle.std.proofs.Common.{◌≡◌, ◌*◌, take, flat_map, length}
-use Rattle.machine_image.specs.Images.{row_at}
+use Rattle.run_image.proofs.Vocabulary.{◌≡◌, ◌*◌, take, flat_map, length, row_at}
 use Rattle.run_image.proofs.run.read_rows.Given as goal
 
 abbrev pub invariant-rows : goal.invariant-rows

@@ -1,5 +1,4 @@
-use Rattle.std.proofs.Common.{◌≡◌, drop, length}
-use Rattle.run_image.specs.Driven.{driven}
+use Rattle.run_image.proofs.Vocabulary.{◌≡◌, drop, length, driven}
 use Rattle.run_image.proofs.run.set_pins.Given as goal
 
 abbrev pub invariant-places : goal.invariant-places

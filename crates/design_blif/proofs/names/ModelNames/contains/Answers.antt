@@ -1,5 +1,4 @@
-use Rattle.std.proofs.Common.{◌∙◌}
-use Rattle.design_flatten.proofs.NameLemmas.{any_view}
+use Rattle.design_blif.proofs.Vocabulary.{◌∙◌, any_view}
 use Rattle.design_blif.proofs.names.ModelNames.contains.Goals as goal
 
 pub returns-in-Some : goal.returns-in-Some

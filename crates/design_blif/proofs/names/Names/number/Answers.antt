@@ -1,5 +1,4 @@
-use Rattle.std.proofs.Common.{arith}
-use Rattle.design_flatten.proofs.NameLemmas.{inserted_key}
+use Rattle.design_blif.proofs.Vocabulary.{arith, inserted_key}
 use Rattle.design_blif.proofs.NamesLemmas.{known_number, known_name, new_number, full_name}
 use Rattle.design_blif.proofs.names.Names.number.Goals as goal
 

@@ -1,7 +1,5 @@
 use Rattle.std.proofs.Common.{◌∙◌, ◌+◌, ◌++◌, sym, ap, arith, map, drop, take}
-use Rattle.std.proofs.lemmas.Result.{err_from_is_err_and}
-use Rattle.std.specs.List.{list_any}
-use Rattle.design_blif.specs.Names.{numbers, names_after, is_long}
+use Rattle.design_blif.proofs.Vocabulary.{err_from_is_err_and, list_any, numbers, names_after, is_long}
 use Rattle.design_blif.proofs.NamesLemmas.{words_left, words_split, words_taken, full_after, short_more, numbers_more}
 use Rattle.design_blif.proofs.names.Names.numbers.Goals as goal
 

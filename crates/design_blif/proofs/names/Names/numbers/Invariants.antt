@@ -1,6 +1,4 @@
-use Rattle.std.proofs.Common.{◌≡◌, ◌++◌, ◌≤◌, length, map, drop, take, vec_len, false}
-use Rattle.std.specs.List.{list_any}
-use Rattle.design_blif.specs.Names.{numbers, names_after, is_long}
+use Rattle.design_blif.proofs.Vocabulary.{◌≡◌, ◌++◌, ◌≤◌, length, map, drop, take, vec_len, false, list_any, numbers, names_after, is_long}
 use Rattle.design_blif.proofs.names.Names.numbers.Given as goal
 
 abbrev pub invariant-words : goal.invariant-words

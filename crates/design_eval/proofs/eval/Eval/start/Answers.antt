@@ -1,5 +1,4 @@
-use Rattle.std.proofs.Common.{refl, ap, sym, ◌∙◌, length}
-use Rattle.std.proofs.lemmas.List.{length-map}
+use Rattle.design_eval.proofs.Vocabulary.{refl, ap, sym, ◌∙◌, length, length-map}
 use Rattle.design_eval.proofs.RunLemmas.{held-first, ready-first, marked-first}
 use Rattle.design_eval.proofs.eval.Eval.start.Goals as goal
 

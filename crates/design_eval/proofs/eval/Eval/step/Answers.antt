@@ -1,8 +1,5 @@
-use Rattle.std.proofs.Common.{length, drop, arith}
-use Rattle.design_eval.specs.Turns.{places}
-use Rattle.design_eval.proofs.MarkLemmas.{settled-kept}
-use Rattle.design_eval.proofs.LatchLemmas.{take-map}
-use Rattle.design_eval.proofs.RunLemmas.{taken}
+use Rattle.design_eval.proofs.Vocabulary.{length, drop, arith, places}
+use Rattle.design_eval.proofs.{MarkLemmas.settled-kept, LatchLemmas.take-map, RunLemmas.taken}
 use Rattle.design_eval.proofs.eval.Eval.step.Goals as goal
 
 pub invariant_of-self : goal.invariant_of-self

@@ -1,8 +1,6 @@
-use Rattle.std.proofs.Common.{◌≡◌, ◌∙◌, ◌++◌, ◌∷◌, [], None, Some, is_some, ap, sym, subst, cond}
-use Rattle.std.specs.Str.{bytes_eq}
+use Rattle.design_flatten.proofs.Vocabulary.{◌≡◌, ◌∙◌, ◌++◌, ◌∷◌, [], None, Some, is_some, ap, sym, subst, cond, bytes_eq}
 use Rattle.design_flatten.specs.Bodies.{body_at, IsBodyAt}
-use Rattle.design_flatten.proofs.UseLemmas.{absent_key}
-use Rattle.design_flatten.proofs.BodyLemmas.{body_stays, body_added, other_name}
+use Rattle.design_flatten.proofs.{UseLemmas.absent_key, BodyLemmas.body_stays, BodyLemmas.body_added, BodyLemmas.other_name}
 use Rattle.design_flatten.proofs.bodies.Bodies.add.Goals as goal
 
 pub returns-then-contains_key-clause-added : goal.returns-then-contains_key-clause-added

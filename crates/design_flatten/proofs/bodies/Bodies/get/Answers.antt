@@ -1,5 +1,4 @@
-use Rattle.std.proofs.Common.{refl, sym, subst}
-use Rattle.design_flatten.specs.Vocabulary.{model_named, IsBodyOf}
+use Rattle.design_flatten.proofs.Vocabulary.{refl, sym, subst, model_named, IsBodyOf}
 use Rattle.design_flatten.proofs.BodyLemmas.{body_found}
 use Rattle.design_flatten.proofs.bodies.Bodies.get.Goals as goal
 

@@ -1,7 +1,5 @@
 use Rattle.std.proofs.Common.{◌≡◌, ◌∙◌, ◌+◌, ◌++◌, ◌∷◌, [], ap, sym, subst, map, take, take_all, arith}
-use Rattle.std.proofs.lemmas.List.{take_more}
-use Rattle.design_flatten.specs.declared.bodies.Body.{Body}
-use Rattle.design_flatten.specs.Vocabulary.{no_model, IsCatalog, lean_in, body_at, IsBodyOf, IsBodyAt, IsBodyAdded}
+use Rattle.design_flatten.proofs.Vocabulary.{take_more, Body, no_model, IsCatalog, lean_in, body_at, IsBodyOf, IsBodyAt, IsBodyAdded}
 use Rattle.design_flatten.proofs.bodies.Bodies.new.Goals as goal
 
 pub lean_lines-requires : goal.lean_lines-requires

@@ -1,7 +1,5 @@
-use Rattle.design_flatten.specs.UseLines.{looked_up, known_of}
+use Rattle.design_flatten.proofs.Vocabulary.{looked_up, known_of, ◌≡◌, None, ap, sym, ◌∙◌, Some, cond, bytes_eq}
 use Rattle.design_flatten.proofs.UseLemmas.{added_lookup, absent_key}
-use Rattle.std.proofs.Common.{◌≡◌, None, ap, sym, ◌∙◌, Some, cond}
-use Rattle.std.specs.Str.{bytes_eq}
 use Rattle.design_flatten.proofs.catalog.Catalog.add.Goals as goal
 
 pub returns-clause-added : goal.returns-clause-added

@@ -1,6 +1,5 @@
 use Rattle.std.proofs.Common.{◌≡◌, ◌∙◌, ◌+◌, ◌++◌, ◌∷◌, [], ap, sym, subst, take, take_all, arith}
-use Rattle.std.proofs.lemmas.List.{take_more}
-use Rattle.design_flatten.specs.UseLines.{looked_up, IsKnown}
+use Rattle.design_flatten.proofs.Vocabulary.{take_more, looked_up, IsKnown}
 use Rattle.design_flatten.proofs.UseLemmas.{known_more}
 use Rattle.design_flatten.proofs.catalog.Catalog.new.Goals as goal
 

@@ -1,5 +1,4 @@
-use Rattle.std.proofs.Common.{◌≡◌, take}
-use Rattle.design_flatten.specs.UseLines.{IsCatalog}
+use Rattle.design_flatten.proofs.Vocabulary.{◌≡◌, take, IsCatalog}
 use Rattle.design_flatten.proofs.catalog.Catalog.new.Given as goal
 
 abbrev pub invariant-models : goal.invariant-models

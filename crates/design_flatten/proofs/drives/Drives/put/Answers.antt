@@ -1,6 +1,4 @@
-use Rattle.std.proofs.Common.{◌≡◌, ◌∙◌, ap, arith, cond, eqb, Some}
-use Rattle.design_flatten.specs.declared.drives.Driver.{Driver}
-use Rattle.design_flatten.specs.Drives.{first_at, nearest, first_with, doubled_with}
+use Rattle.design_flatten.proofs.Vocabulary.{◌≡◌, ◌∙◌, ap, arith, cond, eqb, Some, Driver, first_at, nearest, first_with, doubled_with}
 use Rattle.design_flatten.proofs.DriveLemmas.{drives_more, still_none}
 use Rattle.design_flatten.proofs.drives.Drives.put.Goals as goal
 

@@ -1,5 +1,4 @@
-use Rattle.std.proofs.Common.{◌∙◌, sym, ap, length}
-use Rattle.std.proofs.lemmas.List.{length-map}
+use Rattle.design_flatten.proofs.Vocabulary.{◌∙◌, sym, ap, length, length-map}
 use Rattle.design_flatten.proofs.name_set.NameSet.len.Goals as goal
 
 pub returns : goal.returns

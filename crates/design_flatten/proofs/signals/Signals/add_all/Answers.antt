@@ -1,6 +1,4 @@
-use Rattle.std.proofs.Common.{◌<◌, arith, length, drop}
-use Rattle.std.proofs.Math.Seq.{drop-cons}
-use Rattle.std.proofs.lemmas.Result.{err_from_is_err_and}
+use Rattle.design_flatten.proofs.Vocabulary.{◌<◌, arith, length, drop, drop-cons, err_from_is_err_and}
 use Rattle.design_flatten.proofs.SignalsLemmas.{past_more}
 use Rattle.design_flatten.proofs.signals.Signals.add_all.Goals as goal
 

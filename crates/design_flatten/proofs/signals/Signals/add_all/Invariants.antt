@@ -1,5 +1,4 @@
-use Rattle.std.proofs.Common.{◌≡◌, drop}
-use Rattle.design_flatten.specs.Signals.{with_signals}
+use Rattle.design_flatten.proofs.Vocabulary.{◌≡◌, drop, with_signals}
 use Rattle.design_flatten.proofs.signals.Signals.add_all.Given as goal
 
 abbrev pub invariant-signals : goal.invariant-signals

@@ -1,5 +1,4 @@
-use Rattle.std.proofs.Common.{◌∙◌, sym, ap}
-use Rattle.design_flatten.specs.Signals.{signal_number}
+use Rattle.design_flatten.proofs.Vocabulary.{◌∙◌, sym, ap, signal_number}
 use Rattle.design_flatten.proofs.SignalsLemmas.{absent_number}
 use Rattle.design_flatten.proofs.signals.Signals.number.Goals as goal
 

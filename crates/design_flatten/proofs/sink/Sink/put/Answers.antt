@@ -1,6 +1,4 @@
-use Rattle.std.proofs.Common.{arith}
-use Rattle.std.proofs.lemmas.Result.{err_from_is_err_and}
-use Rattle.design_flatten.specs.Placed.{placed_line}
+use Rattle.design_flatten.proofs.Vocabulary.{arith, err_from_is_err_and, placed_line}
 use Rattle.design_flatten.proofs.SinkLemmas.{put_is, over_memory}
 use Rattle.design_flatten.proofs.sink.Sink.put.Goals as goal
 

@@ -1,5 +1,4 @@
-use Rattle.std.proofs.Common.{length, arith, ap, refl}
-use Rattle.std.proofs.lemmas.Bool.{false≢true}
+use Rattle.design_netlist.proofs.Vocabulary.{length, arith, ap, refl, false≢true}
 use Rattle.design_netlist.proofs.MadeLemmas.{inputs_of, outputs_of, latches_of, made_of}
 use Rattle.design_netlist.proofs.netlist_data.NetlistData.is_well_made.Goals as goal
 

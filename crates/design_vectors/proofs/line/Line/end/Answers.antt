@@ -1,6 +1,4 @@
-use Rattle.std.proofs.Common.{◌≡◌, ◌<◌, [], length, subst, refl, arith}
-use Rattle.design_vectors.specs.Vectors.{vector_size}
-use Rattle.design_vectors.specs.Lines.{PartLine}
+use Rattle.design_vectors.proofs.Vocabulary.{◌≡◌, ◌<◌, [], length, subst, refl, arith, vector_size, PartLine}
 use Rattle.design_vectors.proofs.InsideLemmas.{IsSound-inside, shown_length}
 use Rattle.design_vectors.proofs.LineLemmas.{end-blank, end-vector, end-short}
 use Rattle.design_vectors.proofs.line.Line.end.Goals as goal

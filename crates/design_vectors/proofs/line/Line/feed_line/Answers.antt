@@ -1,7 +1,5 @@
-use Rattle.std.proofs.Common.{◌+◌, ap, false}
-use Rattle.design_vectors.specs.Lines.{PartLine}
-use Rattle.design_vectors.proofs.InsideLemmas.{IsSound-inside}
-use Rattle.design_vectors.proofs.LineLemmas.{feed-blank, feed-vector, feed-short}
+use Rattle.design_vectors.proofs.Vocabulary.{◌+◌, ap, false, PartLine}
+use Rattle.design_vectors.proofs.{InsideLemmas.IsSound-inside, LineLemmas.feed-blank, LineLemmas.feed-vector, LineLemmas.feed-short}
 use Rattle.design_vectors.proofs.line.Line.feed_line.Goals as goal
 
 pub returns-in-Onward : goal.returns-in-Onward

@@ -1,10 +1,6 @@
 use Rattle.std.proofs.Common.{◌≡◌, ℕ, ◌+◌, ◌<◌, List, [], ◌∷◌, ◌++◌, length, take, ap, sym, subst, ◌∙◌, arith, true, false, slice_set}
-use Rattle.std.proofs.lemmas.List.{length-take-le, take_more_set}
-use Rattle.design_vectors.specs.Vectors.{is_vector_byte, vector_size}
-use Rattle.design_vectors.specs.Lines.{PartLine}
-use Rattle.design_vectors.specs.Inside.{part_line}
-use Rattle.design_vectors.proofs.InsideLemmas.{IsSound-inside}
-use Rattle.design_vectors.proofs.LineLemmas.{on-byte, on-wrong, on-extra}
+use Rattle.design_vectors.proofs.Vocabulary.{length-take-le, take_more_set, is_vector_byte, vector_size, PartLine, part_line}
+use Rattle.design_vectors.proofs.{InsideLemmas.IsSound-inside, LineLemmas.on-byte, LineLemmas.on-wrong, LineLemmas.on-extra}
 use Rattle.design_vectors.proofs.line.Line.show.Goals as goal
 
 pub returns-then-not-is_vector_byte : goal.returns-then-not-is_vector_byte

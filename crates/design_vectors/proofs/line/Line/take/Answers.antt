@@ -1,11 +1,6 @@
 use Rattle.std.proofs.Common.{ℕ, ◌+◌, [], ◌∷◌, refl, sym, subst, ◌∙◌, inl, inr, true}
-use Rattle.std.proofs.lemmas.Bool.{ne_eqb}
-use Rattle.design_vectors.specs.declared.line.Step.TheVariants.{Onward, Fault}
-use Rattle.design_vectors.specs.declared.vectors.VectorKind.TheVariants.{Limit}
-use Rattle.design_vectors.specs.Lines.{PartLine, HasRead}
-use Rattle.design_vectors.specs.Inside.{part_line}
-use Rattle.design_vectors.proofs.InsideLemmas.{IsSound-of}
-use Rattle.design_vectors.proofs.LineLemmas.{on-limit, on-passed, on-mark}
+use Rattle.design_vectors.proofs.Vocabulary.{ne_eqb, Onward, Fault, Limit, PartLine, HasRead, part_line}
+use Rattle.design_vectors.proofs.{InsideLemmas.IsSound-of, LineLemmas.on-limit, LineLemmas.on-passed, LineLemmas.on-mark}
 use Rattle.design_vectors.proofs.line.Line.take.Goals as goal
 use Rattle.design_vectors.proofs.line.Line.take.Goals.{then-self-2-via-then-self-2, then-self-2-via-else-self-2+then-is_blank}
 

@@ -1,9 +1,5 @@
-use Rattle.std.proofs.Common.{◌≡◌, true, ◌∙◌, length, subst}
-use Rattle.std.proofs.lemmas.Result.{err_from_is_err_and}
-use Rattle.design_vectors.specs.Lines.{PartLine}
-use Rattle.design_vectors.specs.Vectors.{bits_of, vector_size}
-use Rattle.design_vectors.specs.Readings.{VectorReading, NextGives, NextFails}
-use Rattle.design_vectors.specs.Steps.{reading_of, LineGives, LineFails}
+use Rattle.design_vectors.proofs.Vocabulary.{◌≡◌, true, ◌∙◌, length, subst, err_from_is_err_and, PartLine, bits_of, vector_size}
+use Rattle.design_vectors.proofs.Vocabulary.{VectorReading, NextGives, NextFails, reading_of, LineGives, LineFails}
 use Rattle.design_vectors.proofs.ReadLemmas.{next-gives, next-fails}
 use Rattle.design_vectors.proofs.reading.VectorText.next.Goals as goal
 use Rattle.design_vectors.proofs.reading.VectorText.next.Goals.{then-more, else-more}

@@ -1,7 +1,4 @@
-use Rattle.std.proofs.Common.{◌≡◌, ◌∙◌, length, subst}
-use Rattle.design_vectors.specs.Vectors.{bits_of, vector_size}
-use Rattle.design_vectors.specs.Readings.{VectorReading, GivesUnread}
-use Rattle.design_vectors.specs.Steps.{reading_of}
+use Rattle.design_vectors.proofs.Vocabulary.{◌≡◌, ◌∙◌, length, subst, bits_of, vector_size, VectorReading, GivesUnread, reading_of}
 use Rattle.design_vectors.proofs.ReadLemmas.{gives-unread}
 use Rattle.design_vectors.proofs.reading.VectorText.next_unread.Goals as goal
 use Rattle.design_vectors.proofs.reading.VectorText.next_unread.Goals.{then-more, else-more}

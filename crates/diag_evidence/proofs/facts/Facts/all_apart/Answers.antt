@@ -1,9 +1,6 @@
-use Rattle.std.proofs.Common.{refl}
-use Rattle.diag_evidence.specs.Vocabulary.{Gains, row_over, wires_over}
-use Rattle.diag_evidence.proofs.Advancing.{advances_by}
-use Rattle.diag_evidence.proofs.Several.{tells_none, tells_all, all_pass, all_gain}
-use Rattle.diag_evidence.proofs.Logging.{shows_none, shows_all}
-use Rattle.diag_evidence.proofs.Keeping.{trial_by_gain}
+use Rattle.diag_evidence.proofs.Vocabulary.{refl, Gains, row_over, wires_over}
+use Rattle.diag_evidence.proofs.{Advancing.advances_by, Several.tells_none, Several.tells_all, Several.all_pass, Several.all_gain}
+use Rattle.diag_evidence.proofs.{Logging.shows_none, Logging.shows_all, Keeping.trial_by_gain}
 use Rattle.diag_evidence.proofs.facts.Facts.all_apart.Goals as goal
 
 pub all_differ-apart-requires-clause-pin : goal.all_differ-apart-requires-clause-pin

@@ -1,7 +1,4 @@
-use Rattle.std.proofs.Common.{◌≡◌, ◌<◌, ◌+◌, length, take, subst, sym, arith}
-use Rattle.machine_shape.specs.Shape.{crosses_of}
-use Rattle.diag_tests.proofs.Closings.{among_at}
-use Rattle.diag_evidence.specs.Leads.{crosses_along}
+use Rattle.diag_evidence.proofs.Vocabulary.{◌≡◌, ◌<◌, ◌+◌, length, take, subst, sym, arith, crosses_of, among_at, crosses_along}
 use Rattle.diag_evidence.proofs.Only.{gains_more}
 use Rattle.diag_evidence.proofs.facts.Facts.keep_crosses.Goals as goal
 

@@ -1,6 +1,4 @@
-use Rattle.std.proofs.Common.{take}
-use Rattle.machine_config.specs.Groups.{among}
-use Rattle.diag_evidence.specs.Vocabulary.{Gains, crosses_along, these_crosses}
+use Rattle.diag_evidence.proofs.Vocabulary.{take, among, Gains, crosses_along, these_crosses}
 use Rattle.diag_evidence.proofs.facts.Facts.keep_crosses.Given as goal
 
 abbrev pub invariant-crosses : goal.invariant-crosses

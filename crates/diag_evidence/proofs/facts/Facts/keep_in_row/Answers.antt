@@ -1,8 +1,5 @@
 use Rattle.std.proofs.Common.{◌≡◌, ◌<◌, ℕ, Option, All, true, false, sym, subst, ap, ◌∙◌, arith, get_or}
-use Rattle.std.specs.Option.{option_map_or}
-use Rattle.machine_shape.specs.Shape.{wires_of}
-use Rattle.machine_config.specs.Groups.{among}
-use Rattle.diag_evidence.specs.Readings.{wires_over}
+use Rattle.diag_evidence.proofs.Vocabulary.{option_map_or, wires_of, among, wires_over}
 use Rattle.diag_evidence.proofs.KeptLemmas.{gains_row, gains_no_row}
 use Rattle.diag_evidence.proofs.facts.Facts.keep_in_row.Goals as goal
 

@@ -1,9 +1,5 @@
-use Rattle.std.proofs.Common.{◌≡◌, ◌&&◌, ◌||◌, ℕ, Bool, true, false, sym, ap, ◌∙◌, ◌==◌}
-use Rattle.std.specs.List.{list_any}
-use Rattle.diag_evidence.specs.Hangs.{joins}
-use Rattle.diag_evidence.specs.declared.hangs.WireTest.{WireTest}
-use Rattle.diag_evidence.proofs.KeptLemmas.{gains_apart}
-use Rattle.diag_evidence.proofs.Joining.{none_joins, all_join}
+use Rattle.diag_evidence.proofs.Vocabulary.{◌≡◌, ◌&&◌, ◌||◌, ℕ, Bool, true, false, sym, ap, ◌∙◌, ◌==◌, list_any, joins, WireTest}
+use Rattle.diag_evidence.proofs.{KeptLemmas.gains_apart, Joining.none_joins, Joining.all_join}
 use Rattle.diag_evidence.proofs.facts.Facts.keep_joined.Goals as goal
 
 pub returns-then-not-all_hang : goal.returns-then-not-all_hang

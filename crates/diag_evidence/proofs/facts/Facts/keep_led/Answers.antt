@@ -1,6 +1,5 @@
 use Rattle.std.proofs.Common.{◌≡◌, ◌<◌, ◌+◌, true, false, Some, length, get_or, take, subst, sym, ◌∙◌, arith}
-use Rattle.diag_evidence.specs.Vocabulary.{Gains, these_crosses, led_over}
-use Rattle.diag_evidence.specs.Looks.{parts}
+use Rattle.diag_evidence.proofs.Vocabulary.{Gains, these_crosses, led_over, parts}
 use Rattle.diag_evidence.proofs.Led.{led_on, led_not}
 use Rattle.diag_evidence.proofs.facts.Facts.keep_led.Goals as goal
 use Rattle.diag_evidence.proofs.facts.Facts.keep_led.Goals.{then-not-parts, else-not-parts}

@@ -1,5 +1,4 @@
-use Rattle.std.proofs.Common.{take}
-use Rattle.diag_evidence.specs.Vocabulary.{Gains, these_crosses, led_over}
+use Rattle.diag_evidence.proofs.Vocabulary.{take, Gains, these_crosses, led_over}
 use Rattle.diag_evidence.proofs.facts.Facts.keep_led.Given as goal
 
 abbrev pub invariant-leads : goal.invariant-leads

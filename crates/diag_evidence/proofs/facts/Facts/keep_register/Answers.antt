@@ -1,6 +1,4 @@
-use Rattle.std.proofs.Common.{◌<◌, length, subst, sym, arith}
-use Rattle.machine_shape.specs.Shape.{tables_of}
-use Rattle.diag_evidence.specs.Kept.{Kept}
+use Rattle.diag_evidence.proofs.Vocabulary.{◌<◌, length, subst, sym, arith, tables_of, Kept}
 use Rattle.diag_evidence.proofs.KeptLemmas.{gains_register}
 use Rattle.diag_evidence.proofs.facts.Facts.keep_register.Goals as goal
 

@@ -1,7 +1,6 @@
 use Rattle.std.proofs.Common.{◌≡◌, ◌<◌, true, false, length, sym, subst, ap, ◌∙◌, arith}
 use Rattle.diag_evidence.specs.Vocabulary.{is_right_in, output_pin, Gains, right_cells}
-use Rattle.diag_evidence.proofs.Righting.{table_kept, table_left}
-use Rattle.diag_evidence.proofs.Settings.{is_one_at, within_at}
+use Rattle.diag_evidence.proofs.{Righting.table_kept, Righting.table_left, Settings.is_one_at, Settings.within_at}
 use Rattle.diag_evidence.proofs.facts.Facts.keep_right.Goals as goal
 use Rattle.diag_evidence.proofs.facts.Facts.keep_right.Goals.{then-is_right_in, else-is_right_in}
 

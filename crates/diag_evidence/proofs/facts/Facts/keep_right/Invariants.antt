@@ -1,5 +1,4 @@
-use Rattle.std.proofs.Common.{take}
-use Rattle.diag_evidence.specs.Vocabulary.{Gains, right_parts}
+use Rattle.diag_evidence.proofs.Vocabulary.{take, Gains, right_parts}
 use Rattle.diag_evidence.proofs.facts.Facts.keep_right.Given as goal
 
 abbrev pub invariant-tables : goal.invariant-tables

@@ -1,5 +1,4 @@
-use Rattle.std.proofs.Common.{◌≡◌, ◌≢◌, Some, true, false, sym, ap, ◌∙◌, arith, ◌==◌}
-use Rattle.std.proofs.lemmas.Bool.Decides.{nat_tests}
+use Rattle.diag_evidence.proofs.Vocabulary.{◌≡◌, ◌≢◌, Some, true, false, sym, ap, ◌∙◌, arith, ◌==◌, nat_tests}
 use Rattle.diag_evidence.proofs.KeptLemmas.{pair_set, pair_tried, pair_other, pair_none, tried_none, tried_other}
 use Rattle.diag_evidence.proofs.facts.Facts.keeps_pair.Goals as goal
 

@@ -1,6 +1,4 @@
-use Rattle.std.proofs.Common.{◌≡◌, ◌<◌, ◌∙◌, All, List, Bool, sym, ap, subst, map}
-use Rattle.std.proofs.lemmas.List.Elements.{All-map}
-use Rattle.diag_evidence.specs.declared.hangs.WireTest.{WireTest}
+use Rattle.diag_evidence.proofs.Vocabulary.{◌≡◌, ◌<◌, ◌∙◌, All, List, Bool, sym, ap, subst, map, All-map, WireTest}
 use Rattle.diag_evidence.specs.Vocabulary.{Kept, Gains, Foot, IsFoot, HasMarked, over_of, turned, overs, others, shown, seen_on, joined_by}
 use Rattle.diag_evidence.proofs.Hanging.{overs_feet, shown_feet}
 use Rattle.diag_evidence.proofs.facts.Facts.learn_hung.Goals as goal

@@ -1,7 +1,4 @@
-use Rattle.std.proofs.Common.{◌≡◌, ◌∙◌, List, ap, refl, subst, sym}
-use Rattle.machine_shape.specs.Shape.{pins_of}
-use Rattle.machine_config.specs.Faulty.{IsRun}
-use Rattle.diag_evidence.specs.Looks.{look_drives}
+use Rattle.diag_evidence.proofs.Vocabulary.{◌≡◌, ◌∙◌, List, ap, refl, subst, sym, pins_of, IsRun, look_drives}
 use Rattle.diag_evidence.proofs.Sessions.{on_ok}
 use Rattle.diag_evidence.proofs.facts.Facts.look.Goals as goal
 

@@ -1,7 +1,5 @@
-use Rattle.std.proofs.Common.{◌≡◌, subst, refl}
-use Rattle.diag_evidence.specs.Vocabulary.{Kept, Gains, seen_in}
-use Rattle.diag_evidence.proofs.Advancing.{advances_by}
-use Rattle.diag_evidence.proofs.Seeing.{look_holds, no_feet, no_feet_logged}
+use Rattle.diag_evidence.proofs.Vocabulary.{◌≡◌, subst, refl, Kept, Gains, seen_in}
+use Rattle.diag_evidence.proofs.{Advancing.advances_by, Seeing.look_holds, Seeing.no_feet, Seeing.no_feet_logged}
 use Rattle.diag_evidence.proofs.facts.Facts.look_each.Goals as goal
 
 pub returns-clause-seen_each : goal.returns-clause-seen_each

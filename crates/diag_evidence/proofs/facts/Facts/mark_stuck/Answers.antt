@@ -1,12 +1,8 @@
 use Rattle.std.proofs.Common.{◌≡◌, ◌<◌, ◌+◌, ℕ, true, false, Some, None, length, get_or, take, subst, sym, ap, ◌∙◌, arith, ◌||◌}
-use Rattle.std.proofs.lemmas.List.{length-set}
-use Rattle.base_bits.specs.Numbers.{has_number}
-use Rattle.diag_evidence.specs.Leads.{IsLeadOf, crosses_along, held_up_at, is_only_unkept}
-use Rattle.diag_evidence.proofs.Only.{only_of}
-use Rattle.diag_evidence.specs.Looks.{parts}
+use Rattle.diag_evidence.proofs.Vocabulary.{length-set, has_number, IsLeadOf, crosses_along, held_up_at, is_only_unkept, parts}
+use Rattle.diag_evidence.proofs.{Only.only_of, facts.Facts.mark_stuck.Goals.in-Some, facts.Facts.mark_stuck.Goals.in_default}
 use Rattle.diag_evidence.proofs.Led.{held_not, held_none, held_one}
 use Rattle.diag_evidence.proofs.facts.Facts.mark_stuck.Goals as goal
-use Rattle.diag_evidence.proofs.facts.Facts.mark_stuck.Goals.{in-Some, in_default}
 
 pub leads-preserved-then-not-parts : goal.leads-preserved-then-not-parts
 leads-preserved-then-not-parts c =

@@ -1,6 +1,4 @@
-use Rattle.std.proofs.Common.{◌≡◌, ℕ, length, take, ◌||◌}
-use Rattle.base_bits.specs.Numbers.{has_number}
-use Rattle.diag_evidence.specs.Leads.{held_up_at}
+use Rattle.diag_evidence.proofs.Vocabulary.{◌≡◌, ℕ, length, take, ◌||◌, has_number, held_up_at}
 use Rattle.diag_evidence.proofs.facts.Facts.mark_stuck.Given as goal
 
 abbrev pub invariant-leads : goal.invariant-leads

@@ -1,9 +1,5 @@
 use Rattle.std.proofs.Common.{◌≡◌, ◌≢◌, ◌<◌, ◌+◌, true, false, Option, Some, None, IfSome, length, take, sym, ap, ◌∙◌, subst, arith}
-use Rattle.std.proofs.lemmas.List.{take_all}
-use Rattle.std.proofs.lemmas.Bool.Decides.{nat_tests}
-use Rattle.machine_shape.specs.declared.Cross.{Cross}
-use Rattle.diag_tests.proofs.Closings.{among_at}
-use Rattle.diag_evidence.specs.Leads.{crosses_along, is_only_unkept}
+use Rattle.diag_evidence.proofs.Vocabulary.{take_all, nat_tests, Cross, among_at, crosses_along, is_only_unkept}
 use Rattle.diag_evidence.proofs.Only.{AllKept, none_kept, kept_more, none_only, found_more, only_again, only_this, only_of, no_only, among_front}
 use Rattle.diag_evidence.proofs.facts.Facts.only_unkept.Goals as goal
 use Rattle.diag_evidence.proofs.facts.Facts.only_unkept.Goals.{in-Some+else-other-cross, in_default}

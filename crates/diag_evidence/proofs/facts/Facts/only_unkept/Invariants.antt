@@ -1,5 +1,4 @@
-use Rattle.std.proofs.Common.{◌≡◌, true, None, IfSome, take}
-use Rattle.diag_evidence.specs.Leads.{crosses_along, is_only_unkept}
+use Rattle.diag_evidence.proofs.Vocabulary.{◌≡◌, true, None, IfSome, take, crosses_along, is_only_unkept}
 use Rattle.diag_evidence.proofs.Only.{AllKept}
 use Rattle.diag_evidence.proofs.facts.Facts.only_unkept.Given as goal
 

@@ -1,6 +1,4 @@
-use Rattle.std.proofs.Common.{◌≡◌, ◌∙◌, length, sym, ap}
-use Rattle.machine_shape.specs.Shape.{wires_of}
-use Rattle.diag_evidence.specs.Kept.{Kept}
+use Rattle.diag_evidence.proofs.Vocabulary.{◌≡◌, ◌∙◌, length, sym, ap, wires_of, Kept}
 use Rattle.diag_evidence.proofs.Keeping.{retakes, holds_retaken}
 use Rattle.diag_evidence.proofs.facts.Facts.retake.Goals as goal
 

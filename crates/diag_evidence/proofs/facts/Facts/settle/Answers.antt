@@ -1,5 +1,4 @@
-use Rattle.std.proofs.Common.{◌≡◌, ◌<◌, ℕ, Option, IfSome, length, subst, arith}
-use Rattle.machine_shape.specs.Shape.{wires_of}
+use Rattle.diag_evidence.proofs.Vocabulary.{◌≡◌, ◌<◌, ℕ, Option, IfSome, length, subst, arith, wires_of}
 use Rattle.diag_evidence.proofs.KeptLemmas.{more_itself}
 use Rattle.diag_evidence.proofs.Keeping.{settles, settles_not, settles_none, more_settled, holds_settled}
 use Rattle.diag_evidence.proofs.facts.Facts.settle.Goals as goal

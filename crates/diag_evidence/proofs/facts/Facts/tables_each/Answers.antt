@@ -1,6 +1,4 @@
-use Rattle.std.proofs.Common.{refl, sym, subst, ◌∙◌}
-use Rattle.diag_evidence.specs.Sheets.{IsSheet}
-use Rattle.diag_evidence.specs.Vocabulary.{Gains, right_parts}
+use Rattle.diag_evidence.proofs.Vocabulary.{refl, sym, subst, ◌∙◌, IsSheet, Gains, right_parts}
 use Rattle.diag_evidence.proofs.Advancing.{advances_by}
 use Rattle.diag_evidence.proofs.ReadTwice.{has_tabled, shows_tabled, holds_after, newly_after, wrong_after}
 use Rattle.diag_evidence.proofs.facts.Facts.tables_each.Goals as goal

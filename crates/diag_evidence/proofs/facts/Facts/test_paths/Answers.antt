@@ -1,9 +1,6 @@
-use Rattle.std.proofs.Common.{◌≡◌, ◌∙◌, ◌||◌, ℕ, All, ap, refl, subst, sym}
-use Rattle.base_bits.specs.Numbers.{has_number}
+use Rattle.diag_evidence.proofs.Vocabulary.{◌≡◌, ◌∙◌, ◌||◌, ℕ, All, ap, refl, subst, sym, has_number}
 use Rattle.diag_evidence.specs.Vocabulary.{IsLeadOf, Kept, Gains, held_up_at, led_over, these_crosses}
-use Rattle.diag_evidence.proofs.Advancing.{advances_by}
-use Rattle.diag_evidence.proofs.Closing.{leads_of}
-use Rattle.diag_evidence.proofs.Led.{led_holds, marked_stuck, newly_stuck}
+use Rattle.diag_evidence.proofs.{Advancing.advances_by, Closing.leads_of, Led.led_holds, Led.marked_stuck, Led.newly_stuck}
 use Rattle.diag_evidence.proofs.facts.Facts.test_paths.Goals as goal
 
 pub look_along-requires-clause-leads : goal.look_along-requires-clause-leads

@@ -1,10 +1,6 @@
-use Rattle.std.proofs.Common.{refl}
-use Rattle.diag_evidence.specs.Kept.{Gains, these_wires}
-use Rattle.diag_evidence.proofs.Shown.{swing_same, swing_apart, swing_shows}
-use Rattle.base_bits.proofs.SetsLemmas.{same_bits}
-use Rattle.diag_evidence.proofs.Advancing.{different_bits, advances_by, wires_gain}
-use Rattle.diag_evidence.proofs.Logging.{shows_still, shows_swing}
-use Rattle.diag_evidence.proofs.Keeping.{trial_by_gain}
+use Rattle.diag_evidence.proofs.Vocabulary.{refl, Gains, these_wires, same_bits}
+use Rattle.diag_evidence.proofs.{Shown.swing_same, Shown.swing_apart, Shown.swing_shows, Logging.shows_still, Logging.shows_swing}
+use Rattle.diag_evidence.proofs.{Advancing.different_bits, Advancing.advances_by, Advancing.wires_gain, Keeping.trial_by_gain}
 use Rattle.diag_evidence.proofs.facts.Facts.test_stuck.Goals as goal
 
 pub returns-then-first-second-clause-exact_each : goal.returns-then-first-second-clause-exact_each

@@ -1,5 +1,4 @@
-use Rattle.std.proofs.Common.{◌≡◌, refl, subst}
-use Rattle.diag_evidence.specs.Vocabulary.{Kept, HasLearnt}
+use Rattle.diag_evidence.proofs.Vocabulary.{◌≡◌, refl, subst, Kept, HasLearnt}
 use Rattle.diag_evidence.proofs.Tried.{are_hung, shows_silent, shows_hung, tried_silent, tried_answered, stay_unfit, stay_unclear, newly_unfit, newly_unclear, unfit_hung, unclear_hung, tried_holds, learnt_advances}
 use Rattle.diag_evidence.proofs.Marked.{unfit_none, unclear_none}
 use Rattle.diag_evidence.proofs.facts.Facts.test_wires.Goals as goal

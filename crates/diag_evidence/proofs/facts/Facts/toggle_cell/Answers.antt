@@ -1,11 +1,6 @@
-use Rattle.std.proofs.Common.{◌∙◌, arith, sym, refl}
-use Rattle.diag_evidence.specs.Kept.{Gains, one_cell}
-use Rattle.diag_evidence.proofs.Shown.{tells_same, tells_apart}
-use Rattle.diag_evidence.proofs.TableTests.{cell_shows}
-use Rattle.base_bits.proofs.SetsLemmas.{same_bits}
-use Rattle.diag_evidence.proofs.Advancing.{different_bits, advances_by, cell_gain}
-use Rattle.diag_evidence.proofs.Logging.{shows_same, shows_apart}
-use Rattle.diag_evidence.proofs.Keeping.{trial_by_gain}
+use Rattle.diag_evidence.proofs.Vocabulary.{◌∙◌, arith, sym, refl, Gains, one_cell, same_bits}
+use Rattle.diag_evidence.proofs.{Shown.tells_same, Shown.tells_apart, Advancing.different_bits, Advancing.advances_by, Advancing.cell_gain}
+use Rattle.diag_evidence.proofs.{TableTests.cell_shows, Logging.shows_same, Logging.shows_apart, Keeping.trial_by_gain}
 use Rattle.diag_evidence.proofs.facts.Facts.toggle_cell.Goals as goal
 
 pub returns-then-low-high-clause-exact_each : goal.returns-then-low-high-clause-exact_each

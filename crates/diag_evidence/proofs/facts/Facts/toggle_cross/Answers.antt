@@ -1,10 +1,6 @@
-use Rattle.std.proofs.Common.{◌∙◌, arith, refl}
-use Rattle.diag_evidence.specs.Kept.{Gains, one_cross}
-use Rattle.diag_evidence.proofs.Shown.{tells_same, tells_apart, loop_shows}
-use Rattle.base_bits.proofs.SetsLemmas.{same_bits}
-use Rattle.diag_evidence.proofs.Advancing.{different_bits, advances_by, cross_gain}
-use Rattle.diag_evidence.proofs.Logging.{shows_same, shows_apart}
-use Rattle.diag_evidence.proofs.Keeping.{trial_by_gain}
+use Rattle.diag_evidence.proofs.Vocabulary.{◌∙◌, arith, refl, Gains, one_cross, same_bits}
+use Rattle.diag_evidence.proofs.{Shown.tells_same, Shown.tells_apart, Shown.loop_shows, Logging.shows_same, Logging.shows_apart}
+use Rattle.diag_evidence.proofs.{Advancing.different_bits, Advancing.advances_by, Advancing.cross_gain, Keeping.trial_by_gain}
 use Rattle.diag_evidence.proofs.facts.Facts.toggle_cross.Goals as goal
 
 pub returns-then-closed-open-clause-exact_each : goal.returns-then-closed-open-clause-exact_each

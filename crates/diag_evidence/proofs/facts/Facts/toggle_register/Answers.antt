@@ -1,11 +1,6 @@
-use Rattle.std.proofs.Common.{◌∙◌, arith, sym, refl}
-use Rattle.diag_evidence.specs.Kept.{Gains, one_register}
-use Rattle.diag_evidence.proofs.Shown.{tells_same, tells_apart}
-use Rattle.diag_evidence.proofs.TableTests.{register_shows}
-use Rattle.base_bits.proofs.SetsLemmas.{same_bits}
-use Rattle.diag_evidence.proofs.Advancing.{different_bits, advances_by, register_gain}
-use Rattle.diag_evidence.proofs.Logging.{shows_same, shows_apart}
-use Rattle.diag_evidence.proofs.Keeping.{trial_by_gain}
+use Rattle.diag_evidence.proofs.Vocabulary.{◌∙◌, arith, sym, refl, Gains, one_register, same_bits}
+use Rattle.diag_evidence.proofs.{Shown.tells_same, Shown.tells_apart, Logging.shows_same, Logging.shows_apart, Keeping.trial_by_gain}
+use Rattle.diag_evidence.proofs.{TableTests.register_shows, Advancing.different_bits, Advancing.advances_by, Advancing.register_gain}
 use Rattle.diag_evidence.proofs.facts.Facts.toggle_register.Goals as goal
 
 pub returns-then-low-high-clause-exact_each : goal.returns-then-low-high-clause-exact_each

@@ -1,7 +1,4 @@
-use Rattle.std.proofs.Common.{◌≡◌, ◌<◌, ◌∙◌, All, List, sym, subst, map}
-use Rattle.std.proofs.lemmas.Bool.{false≢true}
-use Rattle.std.proofs.lemmas.List.Elements.{All-map}
-use Rattle.machine_shape.specs.Shape.{crosses_of}
+use Rattle.diag_evidence.proofs.Vocabulary.{◌≡◌, ◌<◌, ◌∙◌, All, List, sym, subst, map, false≢true, All-map, crosses_of}
 use Rattle.diag_evidence.specs.Hangs.{Foot, IsFoot, over_of, turned, overs, others, all_feet}
 use Rattle.diag_evidence.proofs.Hanging.{feet_below, all_are_feet, overs_feet}
 use Rattle.diag_evidence.proofs.Tried.{look_over, look_over_logged, three_looks}

@@ -1,8 +1,5 @@
 use Rattle.std.proofs.Common.{◌≡◌, ◌<◌, ◌∙◌, Some, None, Option, ℕ, List, true, subst, sym, ap, set, get_or, arith}
-use Rattle.std.proofs.lemmas.List.{get_or_default}
-use Rattle.machine_shape.specs.declared.Cross.{Cross}
-use Rattle.machine_shape.specs.Shape.{wires_of, crosses_of}
-use Rattle.diag_evidence.specs.Forests.{Trees, IsForest, CanLay, pin_of, with_laid}
+use Rattle.diag_evidence.proofs.Vocabulary.{get_or_default, Cross, wires_of, crosses_of, Trees, IsForest, CanLay, pin_of, with_laid}
 use Rattle.diag_evidence.proofs.Growing.{laid_forest, laid_kept}
 use Rattle.diag_evidence.proofs.forest.Forest.lay.Goals as goal
 

@@ -1,6 +1,4 @@
-use Rattle.std.proofs.Common.{◌≡◌, ◌<◌, ◌∙◌, Some, true, subst, sym, ap, set}
-use Rattle.machine_shape.specs.Shape.{pins_of, pin_wire}
-use Rattle.diag_evidence.specs.Forests.{Trees, IsForest, is_hung}
+use Rattle.diag_evidence.proofs.Vocabulary.{◌≡◌, ◌<◌, ◌∙◌, Some, true, subst, sym, ap, set, pins_of, pin_wire, Trees, IsForest, is_hung}
 use Rattle.diag_evidence.proofs.Growing.{planted_forest, planted_same}
 use Rattle.diag_evidence.proofs.forest.Forest.plant.Goals as goal
 

@@ -1,5 +1,4 @@
-use Rattle.std.proofs.Common.{◌∙◌, sym, ap}
-use Rattle.diag_evidence.specs.Looks.{parts}
+use Rattle.diag_evidence.proofs.Vocabulary.{◌∙◌, sym, ap, parts}
 use Rattle.diag_evidence.proofs.Rows.{parts_self}
 use Rattle.diag_evidence.proofs.looks.Looks.parts.Goals as goal
 

@@ -1,11 +1,7 @@
 use Rattle.std.proofs.Common.{◌≡◌, Some, ◌<◌, ◌+◌, ◌∙◌, All, List, ℕ, ◌≤◌, max, length, take, drop, subst, sym, ap, arith, map}
-use Rattle.std.proofs.Math.Nat.{le-max_right}
-use Rattle.machine_shape.specs.Shape.{pins_of}
-use Rattle.machine_meaning.specs.Circuit.{Pins}
-use Rattle.diag_evidence.specs.Looks.{Sights, AreSights, ReadsEach, look_drives}
-use Rattle.diag_evidence.proofs.Rows.{whole_again, as_many, as_wide, drives_count, drives_wide}
+use Rattle.diag_evidence.proofs.Vocabulary.{le-max_right, pins_of, Pins, Sights, AreSights, ReadsEach, look_drives}
+use Rattle.diag_evidence.proofs.{Rows.whole_again, Rows.as_many, Rows.as_wide, Rows.drives_count, Rows.drives_wide, Logging.logs_as}
 use Rattle.diag_evidence.proofs.Sessions.{on_ok}
-use Rattle.diag_evidence.proofs.Logging.{logs_as}
 use Rattle.diag_evidence.proofs.looks.Looks.take.Goals as goal
 
 pub read_rows-requires-clause-drives : goal.read_rows-requires-clause-drives

@@ -1,6 +1,4 @@
-use Rattle.std.proofs.Common.{◌<◌, length, refl, sym, subst, arith}
-use Rattle.machine_shape.specs.Shape.{wires_of}
-use Rattle.diag_known.specs.Known.{KnownWires, HasWire}
+use Rattle.diag_known.proofs.Vocabulary.{◌<◌, length, refl, sym, subst, arith, wires_of, KnownWires, HasWire}
 use Rattle.diag_known.proofs.Ranking.{ranks_same, ranks_then}
 use Rattle.diag_known.proofs.known.Known.learn.Goals as goal
 

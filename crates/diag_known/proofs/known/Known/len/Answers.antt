@@ -1,6 +1,4 @@
-use Rattle.std.proofs.Common.{◌≤◌, length, subst, arith}
-use Rattle.machine_shape.specs.Shape.{wires_of}
-use Rattle.diag_known.specs.Known.{KnownWires}
+use Rattle.diag_known.proofs.Vocabulary.{◌≤◌, length, subst, arith, wires_of, KnownWires}
 use Rattle.diag_known.proofs.Ranking.{ranks_few}
 use Rattle.diag_known.proofs.known.Known.len.Goals as goal
 

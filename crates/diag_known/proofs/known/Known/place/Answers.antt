@@ -1,5 +1,4 @@
-use Rattle.std.proofs.Common.{sym, subst, arith}
-use Rattle.diag_known.specs.Known.{KnownWires, HasWire}
+use Rattle.diag_known.proofs.Vocabulary.{sym, subst, arith, KnownWires, HasWire}
 use Rattle.diag_known.proofs.Ranking.{has_rank}
 use Rattle.diag_known.proofs.known.Known.place.Goals as goal
 

@@ -1,6 +1,4 @@
-use Rattle.std.proofs.Common.{◌<◌, length, sym, subst, arith}
-use Rattle.machine_shape.specs.Shape.{wires_of}
-use Rattle.diag_known.specs.Known.{KnownWires}
+use Rattle.diag_known.proofs.Vocabulary.{◌<◌, length, sym, subst, arith, wires_of, KnownWires}
 use Rattle.diag_known.proofs.Ranking.{no_rank}
 use Rattle.diag_known.proofs.known.Known.place_of.Goals as goal
 

@@ -1,8 +1,4 @@
-use Rattle.std.proofs.Common.{◌≡◌, ◌<◌, List, sym, ◌∙◌, subst}
-use Rattle.machine_shape.specs.declared.Shape.{Shape}
-use Rattle.machine_shape.specs.Shape.{Ends, ends_of, crosses_of}
-use Rattle.diag_tests.specs.Routes.{IsRoute, Extends}
-use Rattle.diag_known.specs.declared.descents.Down.{Down}
+use Rattle.diag_known.proofs.Vocabulary.{◌≡◌, ◌<◌, List, sym, ◌∙◌, subst, Shape, Ends, ends_of, crosses_of, IsRoute, Extends, Down}
 use Rattle.diag_known.proofs.Rising.{IsRising, rising_at, left_within, left_end, left_up, right_within, right_end, right_up}
 use Rattle.diag_known.proofs.known.Known.routes.Goals as goal
 

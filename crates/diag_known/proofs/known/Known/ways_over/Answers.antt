@@ -1,6 +1,4 @@
-use Rattle.std.proofs.Common.{◌≡◌, ◌∙◌, subst}
-use Rattle.machine_shape.specs.declared.Shape.{Shape}
-use Rattle.diag_tests.specs.Routes.{IsRoute, Extends}
+use Rattle.diag_known.proofs.Vocabulary.{◌≡◌, ◌∙◌, subst, Shape, IsRoute, Extends}
 use Rattle.diag_known.proofs.TwoWays.{ways_are}
 use Rattle.diag_known.proofs.known.Known.ways_over.Goals as goal
 

@@ -1,10 +1,6 @@
-use Rattle.std.proofs.Common.{◌≡◌, ◌<◌, ℕ, sym, subst}
+use Rattle.diag_known.proofs.Vocabulary.{◌≡◌, ◌<◌, ℕ, sym, subst, Shape, pins_of, pin_wire, AreWays}
 use Rattle.std.proofs.lemmas.Result.{IfOk-weaker}
-use Rattle.machine_shape.specs.declared.Shape.{Shape}
-use Rattle.machine_shape.specs.Shape.{pins_of, pin_wire}
-use Rattle.diag_known.specs.Ways.{AreWays}
-use Rattle.diag_known.proofs.Places.{at_one, pin_here}
-use Rattle.diag_known.proofs.TwoWays.{known_feet}
+use Rattle.diag_known.proofs.{Places.at_one, Places.pin_here, TwoWays.known_feet}
 use Rattle.diag_known.proofs.known.Known.ways_to.Goals as goal
 
 pub ways_at-requires : goal.ways_at-requires

@@ -1,7 +1,5 @@
 use Rattle.std.proofs.Common.{◌≡◌, ◌<◌, Some, length, refl, sym, subst, arith, slice_get}
-use Rattle.std.proofs.lemmas.Option.{slice_get_read}
-use Rattle.machine_shape.specs.Shape.{wires_of}
-use Rattle.diag_known.specs.Known.{KnownWires, HasWire}
+use Rattle.diag_known.proofs.Vocabulary.{slice_get_read, wires_of, KnownWires, HasWire}
 use Rattle.diag_known.proofs.Ranking.{has_rank}
 use Rattle.diag_known.proofs.known.Known.wire_at.Goals as goal
 

@@ -1,6 +1,4 @@
-use Rattle.std.proofs.Common.{◌≡◌, length, subst}
-use Rattle.machine_shape.specs.Shape.{wires_of}
-use Rattle.diag_known.specs.Known.{KnownWires}
+use Rattle.diag_known.proofs.Vocabulary.{◌≡◌, length, subst, wires_of, KnownWires}
 use Rattle.diag_known.proofs.Ranking.{marked_has, has_marked}
 use Rattle.diag_known.proofs.known.Known.wires.Goals as goal
 

@@ -1,5 +1,4 @@
-use Rattle.std.proofs.Common.{sym, subst}
-use Rattle.diag_known.specs.Routes.{IsPin, is_pin}
+use Rattle.diag_known.proofs.Vocabulary.{sym, subst, IsPin, is_pin}
 use Rattle.diag_known.proofs.verified_wire.VerifiedWire.is_pin.Goals as goal
 
 pub returns-in-Pin-clause-pin : goal.returns-in-Pin-clause-pin

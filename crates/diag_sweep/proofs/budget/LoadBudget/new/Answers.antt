@@ -1,6 +1,4 @@
-use Rattle.std.proofs.Common.{◌∙◌, ◌+◌, ◌≤◌, ap, sym, subst}
-use Rattle.machine_shape.specs.declared.Shape.{Shape}
-use Rattle.diag_known.specs.Field.{pins_in}
+use Rattle.diag_sweep.proofs.Vocabulary.{◌∙◌, ◌+◌, ◌≤◌, ap, sym, subst, Shape, pins_in}
 use Rattle.diag_sweep.proofs.Budgets.{funded_first}
 use Rattle.diag_sweep.proofs.budget.LoadBudget.new.Goals as goal
 

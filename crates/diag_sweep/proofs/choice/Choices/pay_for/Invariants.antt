@@ -1,5 +1,4 @@
-use Rattle.std.proofs.Common.{◌≡◌, ℕ, ◌+◌, ◌*◌, ◌≤◌, false, length}
-use Rattle.base_bits.specs.Numbers.{has_number, size_of}
+use Rattle.diag_sweep.proofs.Vocabulary.{◌≡◌, ℕ, ◌+◌, ◌*◌, ◌≤◌, false, length, has_number, size_of}
 use Rattle.diag_sweep.proofs.choice.Choices.pay_for.Given as goal
 
 abbrev pub invariant-wires : goal.invariant-wires

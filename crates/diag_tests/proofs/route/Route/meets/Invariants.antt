@@ -1,5 +1,4 @@
-use Rattle.std.proofs.Common.{◌≡◌, ℕ, take, true, false}
-use Rattle.machine_config.specs.Groups.{among}
+use Rattle.diag_tests.proofs.Vocabulary.{◌≡◌, ℕ, take, true, false, among}
 use Rattle.diag_tests.proofs.route.Route.meets.Given as goal
 
 abbrev pub invariant-wires : goal.invariant-wires

@@ -1,5 +1,4 @@
-use Rattle.std.proofs.Common.{◌∙◌, ap}
-use Rattle.diag_tests.specs.Routes.{other_end}
+use Rattle.diag_tests.proofs.Vocabulary.{◌∙◌, ap, other_end}
 use Rattle.diag_tests.proofs.Longer.{over_is, over_extends}
 use Rattle.diag_tests.proofs.route.Route.push.Goals as goal
 

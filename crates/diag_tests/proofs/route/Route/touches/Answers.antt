@@ -1,7 +1,5 @@
 use Rattle.std.proofs.Common.{◌≡◌, ◌<◌, ◌+◌, ◌∙◌, Bool, true, false, length, take, sym, ap, subst, refl, arith, ◌==◌, ◌||◌}
-use Rattle.std.proofs.lemmas.Bool.Decides.{nat_tests}
-use Rattle.std.proofs.lemmas.List.{take_all}
-use Rattle.machine_config.specs.Groups.{among}
+use Rattle.diag_tests.proofs.Vocabulary.{nat_tests, take_all, among}
 use Rattle.diag_tests.proofs.Closings.{among_at, more_among}
 use Rattle.diag_tests.proofs.route.Route.touches.Goals as goal
 

@@ -1,5 +1,4 @@
-use Rattle.std.proofs.Common.{◌≡◌, take, false}
-use Rattle.machine_config.specs.Groups.{among}
+use Rattle.diag_tests.proofs.Vocabulary.{◌≡◌, take, false, among}
 use Rattle.diag_tests.proofs.route.Route.touches.Given as goal
 
 abbrev pub invariant-wires : goal.invariant-wires

@@ -1,6 +1,4 @@
-use Rattle.std.proofs.Common.{◌≡◌, ◌<◌, ◌∙◌, true, length, sym, arith}
-use Rattle.diag_evidence.specs.Kept.{keeps_cross}
-use Rattle.diag_tests.proofs.Closings.{among_at}
+use Rattle.example_parts.proofs.Vocabulary.{◌≡◌, ◌<◌, ◌∙◌, true, length, sym, arith, keeps_cross, among_at}
 use Rattle.example_parts.proofs.Keeping.{kept_next}
 use Rattle.example_parts.proofs.crossbars.answers.keeps_route.Goals as goal
 

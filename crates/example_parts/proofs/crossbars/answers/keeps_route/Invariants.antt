@@ -1,6 +1,4 @@
-use Rattle.std.proofs.Common.{◌≡◌, ℕ, true, take}
-use Rattle.machine_config.specs.Groups.{among}
-use Rattle.diag_evidence.specs.Kept.{keeps_cross}
+use Rattle.example_parts.proofs.Vocabulary.{◌≡◌, ℕ, true, take, among, keeps_cross}
 use Rattle.example_parts.proofs.crossbars.answers.keeps_route.Given as goal
 
 abbrev pub invariant-steps : goal.invariant-steps

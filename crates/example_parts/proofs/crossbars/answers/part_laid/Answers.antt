@@ -1,12 +1,6 @@
-use Rattle.std.proofs.Common.{◌≡◌, ◌<◌, ◌∙◌, All, [], length, refl, sym, ap, subst, arith}
-use Rattle.std.proofs.lemmas.List.{append-nil}
+use Rattle.example_parts.proofs.Vocabulary.{◌≡◌, ◌<◌, ◌∙◌, All, [], length, refl, sym, ap, subst, arith, append-nil, Shape, among, Walk}
+use Rattle.example_parts.proofs.Vocabulary.{IsRoute, among_at, IsReady, advances_still, advances_then, begun_apart}
 use Rattle.std.proofs.lemmas.List.Elements.{All-push}
-use Rattle.machine_shape.specs.declared.Shape.{Shape}
-use Rattle.machine_config.specs.Groups.{among}
-use Rattle.diag_tests.specs.Routes.{Walk, IsRoute}
-use Rattle.diag_tests.proofs.Closings.{among_at}
-use Rattle.diag_evidence.specs.Readings.{IsReady}
-use Rattle.diag_evidence.proofs.Keeping.{advances_still, advances_then, begun_apart}
 use Rattle.example_parts.proofs.crossbars.answers.part_laid.Goals as goal
 
 pub begin-requires : goal.begin-requires

@@ -1,5 +1,4 @@
-use Rattle.std.proofs.Common.{◌∙◌, sym}
-use Rattle.diag_known.proofs.Later.{known_later}
+use Rattle.example_parts.proofs.Vocabulary.{◌∙◌, sym, known_later}
 use Rattle.example_parts.proofs.Finding.{found_later, all_held}
 use Rattle.example_parts.proofs.crossbars.lines.came_of.Goals as goal
 

@@ -1,5 +1,4 @@
-use Rattle.std.proofs.Common.{◌≡◌}
-use Rattle.example_parts.specs.Found.{AreFound}
+use Rattle.example_parts.proofs.Vocabulary.{◌≡◌, AreFound}
 use Rattle.example_parts.proofs.crossbars.lines.try_lines.Given as goal
 
 abbrev pub invariant-lines : goal.invariant-lines

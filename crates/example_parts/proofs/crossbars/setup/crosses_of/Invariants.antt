@@ -1,5 +1,4 @@
-use Rattle.std.proofs.Common.{◌<◌, All}
-use Rattle.machine_shape.specs.Shape.{crosses_of}
+use Rattle.example_parts.proofs.Vocabulary.{◌<◌, All, crosses_of}
 use Rattle.example_parts.proofs.crossbars.setup.crosses_of.Given as goal
 
 abbrev pub invariant-numbers : goal.invariant-numbers

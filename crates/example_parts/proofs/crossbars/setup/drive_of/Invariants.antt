@@ -1,5 +1,4 @@
-use Rattle.std.proofs.Common.{◌≡◌, length}
-use Rattle.machine_shape.specs.Shape.{pins_of}
+use Rattle.example_parts.proofs.Vocabulary.{◌≡◌, length, pins_of}
 use Rattle.example_parts.proofs.crossbars.setup.drive_of.Given as goal
 
 abbrev pub invariant-pins : goal.invariant-pins

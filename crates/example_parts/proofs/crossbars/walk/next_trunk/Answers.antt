@@ -1,7 +1,5 @@
-use Rattle.std.proofs.Common.{◌≡◌, ◌<◌, ◌≤◌, ℕ, Some, length, sym, subst, arith}
+use Rattle.example_parts.proofs.Vocabulary.{◌≡◌, ◌<◌, ◌≤◌, ℕ, Some, length, sym, subst, arith, Shape, nodes_of, parent_of}
 use Rattle.std.specs.Prelude.{⊤}
-use Rattle.machine_shape.specs.declared.Shape.{Shape}
-use Rattle.machine_shape.specs.Shape.{nodes_of, parent_of}
 use Rattle.diag_published.specs.Held.{Findings, FullIf}
 use Rattle.example_parts.proofs.Finding.{has_one_above, unserved_each}
 use Rattle.example_parts.proofs.crossbars.walk.next_trunk.Goals as goal

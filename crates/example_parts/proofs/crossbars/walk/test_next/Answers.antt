@@ -1,7 +1,4 @@
-use Rattle.std.proofs.Common.{◌∙◌, ap}
-use Rattle.machine_shape.specs.declared.Shape.{Shape}
-use Rattle.machine_shape.specs.Shape.{node_of}
-use Rattle.diag_evidence.proofs.Keeping.{advances_then}
+use Rattle.example_parts.proofs.Vocabulary.{◌∙◌, ap, Shape, node_of, advances_then}
 use Rattle.example_parts.proofs.Finding.{found_later, found_next, later_then, trunk_at, full_now}
 use Rattle.example_parts.proofs.crossbars.walk.test_next.Goals as goal
 

@@ -1,7 +1,5 @@
-use Rattle.std.proofs.Common.{◌<◌, sym, subst}
-use Rattle.machine_shape.specs.Shape.{crosses_of}
+use Rattle.machine_defects.proofs.Vocabulary.{◌<◌, sym, subst, crosses_of, DefectList}
 use Rattle.machine_defects.proofs.Queries.{free_cross_is}
-use Rattle.machine_defects.specs.Lists.{DefectList}
 use Rattle.machine_defects.proofs.list.Defects.free_cross.Goals as goal
 
 pub returns : goal.returns

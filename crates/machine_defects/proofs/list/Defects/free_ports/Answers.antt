@@ -1,8 +1,5 @@
-use Rattle.std.proofs.Common.{◌<◌, ◌∙◌, sym, subst}
-use Rattle.std.proofs.lemmas.Grind.{get_or_default_zero}
-use Rattle.machine_shape.specs.Shape.{nodes_of}
+use Rattle.machine_defects.proofs.Vocabulary.{◌<◌, ◌∙◌, sym, subst, get_or_default_zero, nodes_of, DefectList}
 use Rattle.machine_defects.proofs.Queries.{free_ports_are}
-use Rattle.machine_defects.specs.Lists.{DefectList}
 use Rattle.machine_defects.proofs.list.Defects.free_ports.Goals as goal
 
 pub returns : goal.returns

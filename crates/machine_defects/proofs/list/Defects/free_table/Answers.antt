@@ -1,7 +1,5 @@
-use Rattle.std.proofs.Common.{◌<◌, sym, subst}
-use Rattle.machine_shape.specs.Shape.{tables_of}
+use Rattle.machine_defects.proofs.Vocabulary.{◌<◌, sym, subst, tables_of, DefectList}
 use Rattle.machine_defects.proofs.Queries.{free_table_is}
-use Rattle.machine_defects.specs.Lists.{DefectList}
 use Rattle.machine_defects.proofs.list.Defects.free_table.Goals as goal
 
 pub returns : goal.returns

@@ -1,6 +1,5 @@
-use Rattle.std.proofs.Common.{◌∙◌, sym, ap}
+use Rattle.machine_defects.proofs.Vocabulary.{◌∙◌, sym, ap, DefectList}
 use Rattle.std.specs.FinSet as set
-use Rattle.machine_defects.specs.Lists.{DefectList}
 use Rattle.machine_defects.proofs.Marks.{in_marked}
 use Rattle.machine_defects.proofs.list.Defects.lists_wire.Goals as goal
 

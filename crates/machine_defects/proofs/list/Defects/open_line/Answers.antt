@@ -1,9 +1,6 @@
 use Rattle.std.proofs.Common.{◌≡◌, ◌<◌, ◌∙◌, sym, subst, ap, not, true, false, ◌&&◌, ◌==◌}
-use Rattle.std.proofs.lemmas.Grind.{get_or_default_zero}
-use Rattle.base_bits.specs.Numbers.{has_number}
-use Rattle.machine_shape.specs.Shape.{wires_of}
+use Rattle.machine_defects.proofs.Vocabulary.{get_or_default_zero, has_number, wires_of, count_at, DefectList}
 use Rattle.machine_defects.proofs.Queries.{open_line_is}
-use Rattle.machine_defects.specs.Vocabulary.{count_at, DefectList}
 use Rattle.machine_defects.proofs.list.Defects.open_line.Goals as goal
 
 pub returns-then-not-has : goal.returns-then-not-has

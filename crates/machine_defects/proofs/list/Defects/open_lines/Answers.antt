@@ -1,10 +1,5 @@
-use Rattle.std.proofs.Common.{◌<◌, ◌∙◌, sym, subst, refl}
-use Rattle.std.proofs.lemmas.Grind.{get_or_default_zero}
-use Rattle.machine_shape.specs.Shape.{nodes_of}
-use Rattle.machine_shape.specs.Shape.Meaning.{Line}
-use Rattle.machine_shape.specs.Shape.Means.{is_line}
+use Rattle.machine_defects.proofs.Vocabulary.{◌<◌, ◌∙◌, sym, subst, refl, get_or_default_zero, nodes_of, Line, is_line, DefectList}
 use Rattle.machine_defects.proofs.Queries.{open_lines_are}
-use Rattle.machine_defects.specs.Lists.{DefectList}
 use Rattle.machine_defects.proofs.list.Defects.open_lines.Goals as goal
 
 pub returns : goal.returns

@@ -1,8 +1,6 @@
-use Rattle.std.proofs.Common.{◌≡◌, ◌+◌, None, subst, sym, ap, ◌∙◌, arith}
+use Rattle.machine_faults.proofs.Vocabulary.{◌≡◌, ◌+◌, None, subst, sym, ap, ◌∙◌, arith, Faults, faults_in}
 use Rattle.machine_shape.proofs.HighLimits.{high_limits}
-use Rattle.machine_meaning.specs.Faults.{Faults}
 use Rattle.machine_faults.specs.Adding.{Faulty, IsFaultSet, CanHave, refusal_of, count_of}
-use Rattle.machine_faults.specs.Stored.{faults_in}
 use Rattle.machine_faults.proofs.Adding.{set_kept, count_more, free_from}
 use Rattle.machine_faults.proofs.set.FaultSet.add.Goals as goal
 

@@ -1,6 +1,4 @@
-use Rattle.std.proofs.Common.{subst, sym, ap, ◌∙◌}
-use Rattle.machine_meaning.specs.Faults.{Faults}
-use Rattle.machine_faults.specs.Adding.{IsFaultSet, count_of}
+use Rattle.machine_faults.proofs.Vocabulary.{subst, sym, ap, ◌∙◌, Faults, IsFaultSet, count_of}
 use Rattle.machine_faults.proofs.Adding.{none_kept, count_none}
 use Rattle.machine_faults.proofs.set.FaultSet.none.Goals as goal
 

@@ -1,5 +1,4 @@
-use Rattle.std.proofs.Common.{◌∷◌, [], ◌∙◌, length, ap, arith, length-append}
-use Rattle.std.specs.Fmt.{decimal}
+use Rattle.machine_shape.proofs.Vocabulary.{◌∷◌, [], ◌∙◌, length, ap, arith, length-append, decimal}
 use Rattle.machine_shape.proofs.Decimals.{seven_digits}
 use Rattle.machine_shape.proofs.part.PartName.push_numbered.Goals as goal
 

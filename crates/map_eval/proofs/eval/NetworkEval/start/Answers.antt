@@ -1,7 +1,4 @@
-use Rattle.std.proofs.Common.{subst, Option, MatchOption}
-use Rattle.map_network.specs.declared.network.Network.{Network}
-use Rattle.map_eval.specs.Placing.{IsStandIn}
-use Rattle.map_eval.specs.States.{IsOrdered}
+use Rattle.map_eval.proofs.Vocabulary.{subst, Option, MatchOption, Network, IsStandIn, IsOrdered}
 use Rattle.map_eval.proofs.RunLemmas.{first_of}
 use Rattle.map_eval.proofs.eval.NetworkEval.start.Goals as goal
 

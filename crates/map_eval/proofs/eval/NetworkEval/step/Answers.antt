@@ -1,8 +1,4 @@
-use Rattle.std.proofs.Common.{◌∷◌, List, Bool, subst}
-use Rattle.map_network.specs.declared.network.Network.{Network}
-use Rattle.map_network.specs.Rows.{RowsFrom}
-use Rattle.map_eval.specs.Evals.{NetworkState, RowsOn}
-use Rattle.map_eval.specs.States.{value_in}
+use Rattle.map_eval.proofs.Vocabulary.{◌∷◌, List, Bool, subst, Network, RowsFrom, NetworkState, RowsOn, value_in}
 use Rattle.map_eval.proofs.eval.NetworkEval.step.Goals as goal
 
 pub returns-clause-rows : goal.returns-clause-rows

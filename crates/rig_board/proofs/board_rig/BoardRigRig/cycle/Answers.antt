@@ -1,6 +1,4 @@
-use Rattle.std.proofs.Common.{[], ◌∷◌, ◌+◌, ◌≤◌, ◌∙◌, ap, arith, option_map, refl, subst, sym}
-use Rattle.machine_meaning.specs.Circuit.{Pins}
-use Rattle.rig_board.specs.Kept.{session_of}
+use Rattle.rig_board.proofs.Vocabulary.{[], ◌∷◌, ◌+◌, ◌≤◌, ◌∙◌, ap, arith, option_map, refl, subst, sym, Pins, session_of}
 use Rattle.rig_board.specs.Machines.{EachWas, GoesOnBy}
 use Rattle.rig_board.proofs.Driven.{added_pair, cycled_one, cycles_made, goes_on, goes_on_one}
 use Rattle.rig_board.proofs.Logging.{added_one, logged_ended, logged_more, logged_narrowed, past_more}

@@ -1,6 +1,4 @@
-use Rattle.std.proofs.Common.{rules, ◌≡◌, ◌∙◌, ◌≤◌, sym, ap, refl, arith, option_map}
-use Rattle.machine_shape.specs.Shape.{pins_of}
-use Rattle.rig_board.specs.Kept.{session_of}
+use Rattle.rig_board.proofs.Vocabulary.{rules, ◌≡◌, ◌∙◌, ◌≤◌, sym, ap, refl, arith, option_map, pins_of, session_of}
 use Rattle.rig_board.proofs.OneByOne.{lengths_kept}
 use Rattle.rig_board.proofs.Driven.{cycles_made, linked_after, linked_lost, goes_on, on_ok}
 use Rattle.rig_board.proofs.Logging.{added_from, logged_ended, logged_more, logged_narrowed, past_more}

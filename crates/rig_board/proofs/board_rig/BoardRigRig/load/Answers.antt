@@ -1,5 +1,4 @@
-use Rattle.std.proofs.Common.{ap, option_map}
-use Rattle.rig_board.specs.Kept.{session_of}
+use Rattle.rig_board.proofs.Vocabulary.{ap, option_map, session_of}
 use Rattle.rig_board.proofs.Logging.{logged_set}
 use Rattle.rig_board.proofs.board_rig.BoardRigRig.load.Goals as goal
 

@@ -1,8 +1,5 @@
-use Rattle.std.proofs.Common.{◌≡◌, ◌+◌, take, length, vec_len}
+use Rattle.rig_board.proofs.Vocabulary.{◌≡◌, ◌+◌, take, length, vec_len, pins_of, session_of, HasAdded, AreBlank}
 use Rattle.std.specs.Vec.{vec_capacity}
-use Rattle.machine_shape.specs.Shape.{pins_of}
-use Rattle.rig_board.specs.Kept.{session_of, HasAdded}
-use Rattle.rig_board.specs.Rows.{AreBlank}
 use Rattle.rig_board.proofs.kept.Kept.add_all.Given as goal
 
 abbrev pub invariant-pairs : goal.invariant-pairs

@@ -1,5 +1,4 @@
-use Rattle.std.proofs.Common.{◌≡◌, ◌++◌, ◌∙◌, ap}
-use Rattle.machine_config.specs.Kept.{set_of}
+use Rattle.rig_board.proofs.Vocabulary.{◌≡◌, ◌++◌, ◌∙◌, ap, set_of}
 use Rattle.rig_board.proofs.SameSets.{closed_is}
 use Rattle.rig_board.proofs.kept.Kept.new.Goals as goal
 

@@ -1,5 +1,4 @@
-use Rattle.std.proofs.Common.{◌≡◌, ◌∙◌, ◌<◌, ◌++◌, [], ◌∷◌, take, length, ◌+◌, ap, sym, append_assoc, arith}
-use Rattle.std.proofs.lemmas.List.{take_more}
+use Rattle.rig_doubled.proofs.Vocabulary.{◌≡◌, ◌∙◌, ◌<◌, ◌++◌, [], ◌∷◌, take, length, ◌+◌, ap, sym, append_assoc, arith, take_more}
 use Rattle.rig_doubled.proofs.kept.Kept.add_all.Goals as goal
 
 pub cycles-preserved : goal.cycles-preserved

@@ -1,6 +1,4 @@
-use Rattle.std.proofs.Common.{◌≡◌, List, ◌++◌, take}
-use Rattle.machine_meaning.specs.Circuit.{Pins}
-use Rattle.rig_doubled.specs.Repeats.{IsRoomy, IsKept}
+use Rattle.rig_doubled.proofs.Vocabulary.{◌≡◌, List, ◌++◌, take, Pins, IsRoomy, IsKept}
 use Rattle.rig_doubled.proofs.kept.Kept.add_all.Given as goal
 
 abbrev pub invariant-cycles : goal.invariant-cycles

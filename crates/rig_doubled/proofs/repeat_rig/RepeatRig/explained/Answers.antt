@@ -1,6 +1,4 @@
-use Rattle.std.proofs.Common.{subst}
-use Rattle.rig.specs.Rig.{RigState}
-use Rattle.rig_doubled.specs.Repeats.{IsRepeating, Repeated, ended_in}
+use Rattle.rig_doubled.proofs.Vocabulary.{subst, RigState, IsRepeating, Repeated, ended_in}
 use Rattle.rig_doubled.proofs.Endings.{repeat_explains}
 use Rattle.rig_doubled.proofs.repeat_rig.RepeatRig.explained.Goals as goal
 

@@ -1,9 +1,6 @@
 use Rattle.std.proofs.Common.{◌≡◌, ◌∙◌, ◌++◌, None, IsSome, if◌then◌else◌, sym, ap, subst, length}
-use Rattle.rig.specs.Rig.{Narrows, RigState, standing}
-use Rattle.rig.proofs.Narrowing.{narrows_cycle}
-use Rattle.rig_doubled.specs.Repeats.{Repeated, ended_in}
-use Rattle.rig_doubled.proofs.Endings.{ended_explains, ended_more, ends_own, width_session}
-use Rattle.rig_doubled.proofs.Repeating.{repeats_still}
+use Rattle.rig_doubled.proofs.Vocabulary.{Narrows, RigState, standing, narrows_cycle, Repeated, ended_in}
+use Rattle.rig_doubled.proofs.{Endings.ended_explains, Endings.ended_more, Endings.ends_own, Endings.width_session, Repeating.repeats_still}
 use Rattle.rig_doubled.proofs.repeat_rig.RepeatRigRig.cycle.Goals as goal
 
 pub invariant_of-self : goal.invariant_of-self

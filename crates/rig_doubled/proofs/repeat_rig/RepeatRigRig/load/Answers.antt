@@ -1,10 +1,6 @@
 use Rattle.std.proofs.Common.{◌≡◌, ◌∙◌, ◌+◌, ◌-◌, ◌^◌, min, if◌then◌else◌, Option, Some, ap, option_map, is_some}
-use Rattle.rig.specs.Rig.{Machine, Narrows, RigState, shape_of}
-use Rattle.rig.proofs.Narrowing.{narrows_load}
-use Rattle.rig_doubled.specs.declared.kept.Kept.{Kept}
-use Rattle.rig_doubled.specs.Repeats.{repeat_state, loads_taken, ended_in}
-use Rattle.rig_doubled.proofs.Endings.{ended_explains, repeat_ended}
-use Rattle.rig_doubled.proofs.Repeating.{repeats_on, taken}
+use Rattle.rig_doubled.proofs.Vocabulary.{Machine, Narrows, RigState, shape_of, narrows_load, Kept, repeat_state, loads_taken, ended_in}
+use Rattle.rig_doubled.proofs.{Endings.ended_explains, Endings.repeat_ended, Repeating.repeats_on, Repeating.taken}
 use Rattle.rig_doubled.proofs.repeat_rig.RepeatRigRig.load.Goals as goal
 
 pub invariant_of-self-2 : goal.invariant_of-self-2

@@ -1,7 +1,4 @@
-use Rattle.std.proofs.Common.{sym, ap, subst}
-use Rattle.rig.specs.Rig.{RigState}
-use Rattle.rig_doubled.specs.Repeats.{ended_in}
-use Rattle.rig_doubled.specs.Twins.{Twins, IsTwinned}
+use Rattle.rig_doubled.proofs.Vocabulary.{sym, ap, subst, RigState, ended_in, Twins, IsTwinned}
 use Rattle.rig_doubled.proofs.Endings.{first_explains, second_explains}
 use Rattle.rig_doubled.proofs.twin_rig.TwinRig.explained.Goals as goal
 

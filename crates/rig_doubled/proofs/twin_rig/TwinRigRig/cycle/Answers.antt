@@ -1,9 +1,5 @@
-use Rattle.std.proofs.Common.{◌≡◌, ◌∙◌, ◌++◌, ap, length}
-use Rattle.rig.specs.Rig.{RigState, standing}
-use Rattle.rig_doubled.specs.Repeats.{ended_in}
-use Rattle.rig_doubled.specs.Twins.{Twins, session_with}
-use Rattle.rig_doubled.proofs.Endings.{ended_more, width_session}
-use Rattle.rig_doubled.proofs.Twinning.{session_pair, twins_fail}
+use Rattle.rig_doubled.proofs.Vocabulary.{◌≡◌, ◌∙◌, ◌++◌, ap, length, RigState, standing, ended_in, Twins, session_with}
+use Rattle.rig_doubled.proofs.{Endings.ended_more, Endings.width_session, Twinning.session_pair, Twinning.twins_fail}
 use Rattle.rig_doubled.proofs.twin_rig.TwinRigRig.cycle.Goals as goal
 
 pub invariant_of-self-in-Err-Failed : goal.invariant_of-self-in-Err-Failed

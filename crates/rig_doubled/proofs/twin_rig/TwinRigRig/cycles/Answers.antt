@@ -1,9 +1,5 @@
-use Rattle.std.proofs.Common.{◌≡◌, ◌∙◌, ◌++◌, ap}
-use Rattle.rig.specs.Rig.{RigState, standing}
-use Rattle.rig_doubled.specs.Repeats.{ended_in}
-use Rattle.rig_doubled.specs.Twins.{Twins}
-use Rattle.rig_doubled.proofs.Endings.{ended_more}
-use Rattle.rig_doubled.proofs.Twinning.{session_pair, twins_fail}
+use Rattle.rig_doubled.proofs.Vocabulary.{◌≡◌, ◌∙◌, ◌++◌, ap, RigState, standing, ended_in, Twins}
+use Rattle.rig_doubled.proofs.{Endings.ended_more, Twinning.session_pair, Twinning.twins_fail}
 use Rattle.rig_doubled.proofs.twin_rig.TwinRigRig.cycles.Goals as goal
 
 pub invariant_of-self-in-Err-Failed : goal.invariant_of-self-in-Err-Failed

@@ -1,6 +1,4 @@
-use Rattle.std.proofs.Common.{None, Some, refl}
-use Rattle.rig.specs.Rig.{RigState}
-use Rattle.rig_doubled.specs.Repeats.{ended_in}
+use Rattle.rig_doubled.proofs.Vocabulary.{None, Some, refl, RigState, ended_in}
 use Rattle.rig_doubled.proofs.Twinning.{paired_at_load, twins_end}
 use Rattle.rig_doubled.proofs.twin_rig.TwinRigRig.load.Goals as goal
 

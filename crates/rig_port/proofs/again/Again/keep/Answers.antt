@@ -1,6 +1,5 @@
 use Rattle.std.proofs.Common.{◌≡◌, ◌∙◌, ◌<◌, ◌++◌, [], ◌∷◌, take, length, get_or, ◌+◌, ap, sym, append_assoc, subst, arith}
-use Rattle.std.proofs.lemmas.List.{take_more}
-use Rattle.rig_port.specs.Sessions.{HasRows}
+use Rattle.rig_port.proofs.Vocabulary.{take_more, HasRows}
 use Rattle.rig_port.proofs.again.Again.keep.Goals as goal
 
 pub cycles-preserved : goal.cycles-preserved

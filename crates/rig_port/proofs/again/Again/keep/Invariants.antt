@@ -1,6 +1,4 @@
-use Rattle.std.proofs.Common.{◌≡◌, List, ◌++◌, true, take}
-use Rattle.machine_meaning.specs.Circuit.{Pins}
-use Rattle.rig_port.specs.Sessions.{HasRows, IsOf}
+use Rattle.rig_port.proofs.Vocabulary.{◌≡◌, List, ◌++◌, true, take, Pins, HasRows, IsOf}
 use Rattle.rig_port.proofs.again.Again.keep.Given as goal
 
 abbrev pub invariant-cycles : goal.invariant-cycles

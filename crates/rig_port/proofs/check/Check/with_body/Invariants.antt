@@ -1,5 +1,4 @@
-use Rattle.std.proofs.Common.{◌≡◌, take}
-use Rattle.rig_port.specs.Checks.{after}
+use Rattle.rig_port.proofs.Vocabulary.{◌≡◌, take, after}
 use Rattle.rig_port.proofs.check.Check.with_body.Given as goal
 
 abbrev pub invariant-bytes : goal.invariant-bytes

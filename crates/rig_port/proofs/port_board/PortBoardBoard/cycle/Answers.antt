@@ -1,18 +1,9 @@
 use Rattle.std.proofs.Common.{◌≡◌, ap, subst, true, List, Some, ◌∙◌, sym, length, option_map}
-use Rattle.machine_shape.specs.Shape.{pins_of}
-use Rattle.rig_port.specs.Linked.{told_with}
-use Rattle.rig_port.proofs.Alarm.{told_alarm}
-use Rattle.rig_port.proofs.Held.{cycled_one, told_on}
-use Rattle.rig_port.specs.Boards.{state_of}
-use Rattle.rig_port.specs.Said.{Said}
-use Rattle.rig_board.specs.Machines.{EachWas, GoesOnBy}
-use Rattle.rig_port.specs.Stands.{MayBe}
-use Rattle.rig_port.specs.Transcripts.{GoOn}
+use Rattle.rig_port.proofs.Vocabulary.{pins_of, told_with, state_of, Said, EachWas, GoesOnBy, MayBe, GoOn}
+use Rattle.rig_port.proofs.{Alarm.told_alarm, Held.cycled_one, Held.told_on, Telling.tells_held, Telling.told_here}
 use Rattle.rig_port.proofs.Standing.{all_here, all_on, cycles_each, held_on, one_cycle, narrows_down, narrows_of, taken_down, talk_here}
-use Rattle.rig_port.proofs.port_board.PortBoardBoard.cycle.Given.{Over}
-use Rattle.rig_port.proofs.port_board.PortBoardBoard.cycle.Goals.{Joined-self}
+use Rattle.rig_port.proofs.port_board.PortBoardBoard.cycle.{Given.Over, Goals.Joined-self}
 use Rattle.rig_port.proofs.Resumed.{both_rose, held_here, running_here, ready_here, wide_here, one_row}
-use Rattle.rig_port.proofs.Telling.{tells_held, told_here}
 use Rattle.rig_port.proofs.port_board.PortBoardBoard.cycle.Goals as goal
 
 pub returns-clause-cycles : goal.returns-clause-cycles

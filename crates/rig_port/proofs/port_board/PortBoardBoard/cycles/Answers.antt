@@ -1,16 +1,8 @@
-use Rattle.std.proofs.Common.{◌≡◌, ap, subst, true, List, Some, ◌∙◌}
-use Rattle.rig_port.proofs.Alarm.{told_alarm}
-use Rattle.rig_port.proofs.Held.{told_on}
-use Rattle.rig_port.specs.Boards.{state_of}
-use Rattle.rig_port.specs.Said.{Said}
-use Rattle.rig_board.specs.Machines.{EachWas, GoesOnBy}
-use Rattle.rig_port.specs.Stands.{MayBe}
-use Rattle.rig_port.specs.Transcripts.{GoOn}
+use Rattle.rig_port.proofs.Vocabulary.{◌≡◌, ap, subst, true, List, Some, ◌∙◌, state_of, Said, EachWas, GoesOnBy, MayBe, GoOn}
+use Rattle.rig_port.proofs.{Alarm.told_alarm, port_board.PortBoardBoard.cycles.Goals.Joined-self, Telling.tells_held, Telling.told_here}
+use Rattle.rig_port.proofs.{Held.told_on, Resumed.both_rose, Resumed.held_here, Resumed.running_here, Resumed.ready_here, Resumed.wide_here}
 use Rattle.rig_port.proofs.Standing.{all_here, all_on, cycles_each, held_on, narrows_down, narrows_of, taken_down, talk_here}
 use Rattle.rig_port.proofs.port_board.PortBoardBoard.cycles.Given.{Over}
-use Rattle.rig_port.proofs.port_board.PortBoardBoard.cycles.Goals.{Joined-self}
-use Rattle.rig_port.proofs.Resumed.{both_rose, held_here, running_here, ready_here, wide_here}
-use Rattle.rig_port.proofs.Telling.{tells_held, told_here}
 use Rattle.rig_port.proofs.port_board.PortBoardBoard.cycles.Goals as goal
 
 pub returns-clause-cycles : goal.returns-clause-cycles

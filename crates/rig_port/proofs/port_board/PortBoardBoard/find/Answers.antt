@@ -1,19 +1,7 @@
-use Rattle.std.proofs.Common.{◌≡◌, ◌≤◌, ◌∙◌, arith, refl, sym, ap, subst, List, [], IfSome}
-use Rattle.machine_shape.specs.declared.Shape.{Shape}
-use Rattle.machine_config.specs.Configuration.{cleared}
-use Rattle.std.specs.Vec.{vec_capacity}
-use Rattle.machine_shape.specs.Shape.{pins_of}
-use Rattle.rig_port.specs.Lines.{AreCounts, turn_room}
-use Rattle.rig_port.specs.Sessions.{HasRows}
-use Rattle.rig_port.specs.Said.{Said}
-use Rattle.rig_port.specs.Stands.{Finds}
-use Rattle.rig_port.specs.Linked.{PortBoardState}
-use Rattle.rig_port.specs.Transcripts.{Behind, GoOn}
-use Rattle.rig_port.proofs.Behind.{heard_only, said_none}
-use Rattle.rig_port.proofs.Held.{fresh_held}
-use Rattle.rig_port.proofs.Standing.{all_found, finds_told}
-use Rattle.rig_port.proofs.Resumed.{both_rose, fresh_resumes}
-use Rattle.rig_port.proofs.Telling.{stood_first, tells_held}
+use Rattle.rig_port.proofs.Vocabulary.{◌≡◌, ◌≤◌, ◌∙◌, arith, refl, sym, ap, subst, List, [], IfSome, Shape, cleared, vec_capacity, pins_of}
+use Rattle.rig_port.proofs.Vocabulary.{AreCounts, turn_room, HasRows, Said, Finds, PortBoardState, Behind, GoOn}
+use Rattle.rig_port.proofs.{Behind.heard_only, Behind.said_none, Telling.stood_first, Telling.tells_held}
+use Rattle.rig_port.proofs.{Held.fresh_held, Standing.all_found, Standing.finds_told, Resumed.both_rose, Resumed.fresh_resumes}
 use Rattle.rig_port.proofs.port_board.PortBoardBoard.find.Goals as goal
 
 pub attach_some-requires-clause-counts : goal.attach_some-requires-clause-counts

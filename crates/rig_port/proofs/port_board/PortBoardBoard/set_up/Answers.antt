@@ -1,9 +1,6 @@
-use Rattle.std.proofs.Common.{List, ◌∙◌, subst, sym}
-use Rattle.rig_port.specs.Said.{Said}
-use Rattle.rig_port.specs.Stands.{StandsTold}
-use Rattle.rig_port.proofs.Resumed.{held_here, posted_held}
+use Rattle.rig_port.proofs.Vocabulary.{List, ◌∙◌, subst, sym, Said, StandsTold}
+use Rattle.rig_port.proofs.{Resumed.held_here, Resumed.posted_held, Telling.tells_held, Telling.told_here}
 use Rattle.rig_port.proofs.Standing.{all_here, all_posted, narrows_none, narrows_posted, set_all}
-use Rattle.rig_port.proofs.Telling.{tells_held, told_here}
 use Rattle.rig_port.proofs.port_board.PortBoardBoard.set_up.Goals.{in-Ok, in-Err}
 use Rattle.rig_port.proofs.port_board.PortBoardBoard.set_up.Goals as goal
 

@@ -1,5 +1,4 @@
-use Rattle.std.proofs.Common.{ℕ, List, take, drop, subst}
-use Rattle.rig_port.specs.Replays.{HasReplayed}
+use Rattle.rig_port.proofs.Vocabulary.{ℕ, List, take, drop, subst, HasReplayed}
 use Rattle.rig_port.proofs.Replayed.{begun_more}
 use Rattle.rig_port.proofs.replay_port.ReplayPortPort.ask.Goals as goal
 

@@ -1,5 +1,4 @@
-use Rattle.std.proofs.Common.{◌≡◌, ◌∙◌, length, IfSome, sym, ap, subst}
-use Rattle.rig_port.specs.RigPorts.{IsReady, IsShort}
+use Rattle.rig_port.proofs.Vocabulary.{◌≡◌, ◌∙◌, length, IfSome, sym, ap, subst, IsReady, IsShort}
 use Rattle.rig_port.proofs.rig_port.RigPortPort.ask.Goals as goal
 
 pub returns-in-Some-reply_to-clause-short : goal.returns-in-Some-reply_to-clause-short

@@ -1,11 +1,7 @@
 use Rattle.std.proofs.Common.{◌≡◌, ℕ, Some, ◌+◌, ◌<◌, ◌≤◌, ◌∙◌, ◌∷◌, ◌++◌, [], IsSome, IfSome, List, length, map, take, get_or, refl, sym, ap, subst, arith, option_map, slice_set}
-use Rattle.std.proofs.lemmas.List.{take_more, take_more_set, length-map}
+use Rattle.rig_simulated.proofs.Vocabulary.{take_more, take_more_set, length-map, pins_of, Pins, Faults, Session, GoesOnFrom, HasGoneOn}
 use Rattle.std.proofs.Math.Seq.{map-set_same}
-use Rattle.machine_shape.specs.Shape.{pins_of}
-use Rattle.machine_meaning.specs.Vocabulary.{Pins, Faults}
 use Rattle.machine_faults.specs.Adding.{Faulty}
-use Rattle.rig.specs.Rig.{Session}
-use Rattle.rig_simulated.specs.States.{GoesOnFrom, HasGoneOn}
 use Rattle.rig_simulated.proofs.Turns.{AreUnderWay, opens, turns, ok_of, same_width, row_at, kept_row_at}
 use Rattle.rig_simulated.proofs.sim.Sim.cycles.Goals as goal
 

@@ -1,5 +1,4 @@
-use Rattle.std.proofs.Common.{◌≡◌, IsSome, length, take}
-use Rattle.rig.specs.Rig.{KeepLengths}
+use Rattle.rig_simulated.proofs.Vocabulary.{◌≡◌, IsSome, length, take, KeepLengths}
 use Rattle.rig_simulated.proofs.Turns.{AreUnderWay}
 use Rattle.rig_simulated.proofs.sim.Sim.cycles.Given as goal
 

@@ -1,8 +1,4 @@
-use Rattle.std.proofs.Common.{rules, ◌≡◌, ◌∙◌, ◌++◌, List, sym, ap, arith}
-use Rattle.machine_shape.specs.declared.Cross.{Cross}
-use Rattle.machine_shape.specs.Shape.{tables_of}
-use Rattle.machine_config.specs.Vocabulary.{set_of}
-use Rattle.rig_simulated.specs.Stored.{config_in}
+use Rattle.rig_simulated.proofs.Vocabulary.{rules, ◌≡◌, ◌∙◌, ◌++◌, List, sym, ap, arith, Cross, tables_of, set_of, config_in}
 use Rattle.rig_simulated.proofs.Sessions.{config_is, closed_is, as_many_none, session_begun, running_begun}
 use Rattle.rig_simulated.proofs.sim.Sim.load.Goals as goal
 

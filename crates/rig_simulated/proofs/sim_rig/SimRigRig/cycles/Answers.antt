@@ -1,6 +1,5 @@
-use Rattle.std.proofs.Common.{◌≡◌, Option, Some, IfSome, ap, subst, option_and_then}
+use Rattle.rig_simulated.proofs.Vocabulary.{◌≡◌, Option, Some, IfSome, ap, subst, option_and_then, GoesOnByFrom}
 use Rattle.rig_simulated.specs.declared.sim_rig.Attached.{Attached}
-use Rattle.rig_simulated.specs.States.{GoesOnByFrom}
 use Rattle.rig_simulated.proofs.Turns.{rig_goes_on}
 use Rattle.rig_simulated.proofs.sim_rig.SimRigRig.cycles.Goals as goal
 

@@ -1,5 +1,4 @@
-use Rattle.std.proofs.Common.{◌<◌, length}
-use Rattle.machine_shape.proofs.Halves.{All-right}
+use Rattle.run_image.proofs.Vocabulary.{◌<◌, length, All-right}
 use Rattle.run_image.proofs.Together.{pairs-left}
 use Rattle.run_image.proofs.run.Run.row.Goals as goal
 

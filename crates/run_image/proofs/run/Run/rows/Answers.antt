@@ -1,9 +1,5 @@
 use Rattle.std.proofs.Common.{◌≡◌, ◌∙◌, ◌<◌, ◌≤◌, ◌*◌, ℕ, Bool, List, Some, map, length, sym, ap, subst, arith}
-use Rattle.machine_shape.proofs.Halves.{All-right}
-use Rattle.machine_meaning.specs.Circuit.{Pins}
-use Rattle.rig.specs.Rig.{AreRows, width_of}
-use Rattle.run_image.specs.Batches.{HaveRows}
-use Rattle.run_image.specs.Pins.{Rows}
+use Rattle.run_image.proofs.Vocabulary.{All-right, Pins, AreRows, width_of, HaveRows, Rows}
 use Rattle.run_image.proofs.Together.{have-still, pairs-left, pins-within, ran-rows, rows-of-rig, whole-again}
 use Rattle.run_image.proofs.run.Run.rows.Goals.{in-Ok, in-Err}
 use Rattle.run_image.proofs.run.Run.rows.Goals as goal
