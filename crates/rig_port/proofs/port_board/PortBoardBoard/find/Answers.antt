@@ -73,6 +73,15 @@ returns-then-not-attach_some-clause-taken g c =
     (subst (λ (t : List Sent). GoOn c.in-Ok-link_of.link.set.config.shape c.in-Ok-link_of.link.talk c.attach_some.new.link.talk t (g.P.Port.port_state c.attach_some.new.port).talk) c.open.ensures.talk
     c.attach_some.ensures.talks))))
 
+pub returns-clause-taken : goal.returns-clause-taken
+returns-clause-taken g c =
+    subst (λ (t : List Sent). GoOn c.args.shape.now [] c.attach_some.new.link.talk t (g.P.Port.port_state c.attach_some.new.port).talk) (ap (λ (s : PortBoardState). s.port_talk) c.self.view_is)
+    (subst (λ (t : List Said). GoOn c.args.shape.now t c.attach_some.new.link.talk (g.P.Port.port_state c.self.inside.port).talk (g.P.Port.port_state c.attach_some.new.port).talk) c.in-Ok-link_of.ensures.talk
+    (subst (λ (m : Shape). GoOn m c.in-Ok-link_of.link.talk c.attach_some.new.link.talk (g.P.Port.port_state c.self.inside.port).talk (g.P.Port.port_state c.attach_some.new.port).talk)
+    (ap (λ (s : Configuration). s.shape) c.in-Ok-link_of.ensures.set)
+    (subst (λ (t : List Sent). GoOn c.in-Ok-link_of.link.set.config.shape c.in-Ok-link_of.link.talk c.attach_some.new.link.talk t (g.P.Port.port_state c.attach_some.new.port).talk) c.open.ensures.talk
+    c.attach_some.ensures.talks)))
+
 pub returns-clause-found : goal.returns-clause-found
 returns-clause-found g c =
     let m = c.args.shape.now in record {
