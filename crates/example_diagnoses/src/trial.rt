@@ -98,6 +98,19 @@ fn try_whole(alloc: Global, rig: &mut Box<dyn Rig>, faults: &FaultSet) -> Result
     }
 }
 
+// The same, and then call by call.
+fn try_both(
+    alloc: Global,
+    rig: &mut Box<dyn Rig>,
+    draws: &mut Draws,
+    faults: &FaultSet,
+) -> Result<(), &'static str>
+    requires attached { shape_of (rig_state rig.old) ≡ Some faults.now.shape }
+{
+    try_whole(alloc, rig, faults)?;
+    try_calls(alloc, rig, draws, faults, Way::All)
+}
+
 // Tries the machine that is attached.
 fn try_attached(
     alloc: Global,
@@ -108,10 +121,10 @@ fn try_attached(
 ) -> Result<(), &'static str>
     requires attached { shape_of (rig_state rig.old) ≡ Some faults.now.shape }
 {
-    if let Way::All = way {
-        try_whole(alloc, rig, faults)?;
+    match way {
+        Way::Sweep => try_calls(alloc, rig, draws, faults, way),
+        Way::All => try_both(alloc, rig, draws, faults),
     }
-    try_calls(alloc, rig, draws, faults, way)
 }
 
 // Attaches the machine, and tries it.

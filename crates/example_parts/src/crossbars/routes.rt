@@ -18,10 +18,12 @@ fn longer(alloc: Global, shape: &Shape, route: &Route, c: Cross) -> Option<Route
     }
     let (tap, line) = shape.ends(c);
     if tap == route.end() {
-        return extend_route(alloc, shape, route, c).ok();
+        let route = extend_route(alloc, shape, route, c).ok()?;
+        return Some(route);
     }
     if line == route.end() {
-        return extend_route(alloc, shape, route, c).ok();
+        let route = extend_route(alloc, shape, route, c).ok()?;
+        return Some(route);
     }
     None
 }

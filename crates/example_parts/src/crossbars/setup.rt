@@ -103,10 +103,16 @@ fn go_on(shape: &Shape, route: &mut Route, c: Cross) -> bool
     }
     let (tap, line) = shape.ends(c);
     if tap == route.end() {
-        return route.push(shape, c).is_ok();
+        return match route.push(shape, c) {
+            Ok(()) => true,
+            Err(_) => false,
+        };
     }
     if line == route.end() {
-        return route.push(shape, c).is_ok();
+        return match route.push(shape, c) {
+            Ok(()) => true,
+            Err(_) => false,
+        };
     }
     false
 }
@@ -146,7 +152,10 @@ fn crosses_of(alloc: Global, shape: &Shape, numbers: &[u32]) -> Option<Vec<Cross
         if *x >= shape.crosses() {
             return None;
         }
-        crosses.push(Cross(*x)).ok()?;
+        match crosses.push(Cross(*x)) {
+            Ok(()) => {}
+            Err(_) => return None,
+        }
     }
     Some(crosses)
 }
@@ -166,7 +175,8 @@ fn config_of(
     ensures { IfSome result (λ g. IsLaid shape.now left.now right.now g.config) }
 {
     let Some((t, setting)) = table else {
-        return loop_config(alloc, shape, left, right, ties).ok();
+        let config = loop_config(alloc, shape, left, right, ties).ok()?;
+        return Some(config);
     };
     if t >= shape.tables() {
         return None;
