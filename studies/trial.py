@@ -20,8 +20,8 @@ from program import HERE, MAPPER, REPORT, add_program, call
 
 COLUMNS = (
     "machine crosspoints kind rate seed faults design list status refusal listed_wires listed_crosses listed_tables thrown_wires "
-    "thrown_crosses thrown_tables tables nets crossings closed seconds diagnose_seconds loads loads_sweep loads_growth loads_tables "
-    "cycles cycles_sweep cycles_growth cycles_tables spare spared pins written wrong_rows diagnose_processor"
+    "thrown_crosses thrown_tables tables nets crossings closed seconds diagnose_seconds diagnose_processor loads loads_sweep loads_growth loads_tables "
+    "cycles cycles_sweep cycles_growth cycles_tables spare spared pins written wrong_rows"
 ).split()
 AT_WORK = ("go", "twice")  # the faults come while the design runs
 LISTS = ("exact", "diagnosed", "mapped", "wires", "hextants", "none", "triplicated", "triplicated_pins", *AT_WORK, "told")
@@ -145,11 +145,10 @@ class Trial:
     def told_row(self):
         """What the program of reports tells of a diagnosis, whose list isn't looked at: a large machine has one of millions of lines."""
         answer = self.call(self.args.machine, self.fault_text, program=self.args.report)
-        text, more = answer.written.decode(), {}
-        if answer.status == 0:
-            listed = re.search(r"^listed wires (\d+) crosspoints (\d+) tables (\d+)$", text, re.MULTILINE)
-            more = {**told_costs(text), **dict(zip(COLUMNS[10:13], map(int, listed.groups()))), "diagnose_processor": round(answer.processor, 2)}
-        return self.row("", "told", None, answer, **more)
+        text = answer.written.decode()
+        told = re.search(r"^listed wires (\d+) crosspoints (\d+) tables (\d+)$", text, re.MULTILINE)
+        listed = dict(zip(COLUMNS[10:13], map(int, told.groups()))) if told else {}
+        return self.row("", "told", None, answer, **took_of(answer), **told_costs(text), **listed)
 
     def load_of_design(self):
         """The number of the load behind a diagnosis of the sound machine."""
@@ -203,8 +202,13 @@ class Trial:
             answer, more = (diagnosed, {}) if design is None or not listed else self.laid(listed, design, vectors)
             if answer is not diagnosed:
                 answer.seconds += diagnosed.seconds
-            took = {"diagnose_seconds": round(diagnosed.seconds, 3), "diagnose_processor": diagnosed.processor and round(diagnosed.processor, 2)}
-            yield self.row(name, "diagnosed", listed, answer, **took, **more, **loads)
+            yield self.row(name, "diagnosed", listed, answer, **took_of(diagnosed), **more, **loads)
+
+
+def took_of(diagnosed):
+    """What a diagnosis took, in columns: seconds by the clock, and those of the processor, which aren't told of one that was cut off."""
+    processor = {} if diagnosed.processor is None else {"diagnose_processor": round(diagnosed.processor, 2)}
+    return {"diagnose_seconds": round(diagnosed.seconds, 3), **processor}
 
 
 def told_costs(text):
