@@ -5,7 +5,9 @@ open: so many of 100 crosspoints are stuck open. mix: besides, a tenth as many a
 stuck, as many bridges join a wire and one of the next four, and one of 100 tables has a wrong cell. A row is about some machines,
 with faults made from the seeds 1, 2 and so on: shares are of all of them, other figures means. A wire is sound that is neither
 stuck nor shorted; a crosspoint or table that has no fault and sound wires alone; listed is what the list doesn't leave free. Loads
-are those that `teramac_report` tells, if it is named, in all and by part; of a further one those in all stand beside them.
+are those that `teramac_report` tells, if it is named, in all and by part; of a further one those in all stand beside them. With
+--write the faults are written into a folder, as mix1-1.faults of 1 % and seed 1, and nothing is run: of a machine that isn't small
+a row would take hours.
 """
 
 import argparse
@@ -95,6 +97,14 @@ def row(programs, machine, kind, rate, seeds):
     return f"| {kind} {rate:g} % | {count:,.0f} | {shares} | {told} | {beside if programs[2] else ''} | {last} |"
 
 
+def write_faults(folder, machine, rates, seeds):
+    """Writes the faults of each row into a folder."""
+    os.makedirs(folder, exist_ok=True)
+    for kind, rate in rates:
+        for seed in seeds:
+            texts.write_new(f"{folder}/{kind}{rate:g}-{seed}.faults", texts.faults_text(machine, faults_of(machine, kind, rate / 100, seed)))
+
+
 def main():
     parser = argparse.ArgumentParser(description=__doc__, formatter_class=argparse.RawDescriptionHelpFormatter)
     parser.add_argument("machine", nargs="?", help="the machine's file (default: the machine of the command bench)")
@@ -102,14 +112,18 @@ def main():
     rates = (0.5, 1, 2, 3, 5, 8, 10, 15, 20)
     parser.add_argument("--rates", nargs="+", type=lambda word: 100 * amount(word + "%"), default=rates, help="of 100: %(default)s")
     parser.add_argument("--machines", type=int, default=3, choices=range(1, 21), metavar="COUNT", help="for each row (default: 3)")
+    parser.add_argument("--write", metavar="FOLDER", help="write the faults there, and run nothing")
     add_program(parser)
     parser.add_argument("--report", help="the built teramac_report, for the loads")
     parser.add_argument("--beside", help="another teramac_report, as one that was built before, for the loads beside them")
     args = parser.parse_args()
     machine = texts.read_text(texts.read_machine, args.machine) if args.machine else texts.Machine(BENCH)
-    seeds = range(1, args.machines + 1)
+    seeds, rates = range(1, args.machines + 1), [(kind, rate) for kind in args.kinds for rate in args.rates]
+    if args.write:
+        write_faults(args.write, machine, rates, seeds)
+        return
     print(f"| {HEAD} |\n|{'---|' * (HEAD.count('|') + 1)}")
-    for kind, rate in [(kind, rate) for kind in args.kinds for rate in args.rates]:
+    for kind, rate in rates:
         try:
             print(row((args.program, args.report, args.beside), machine, kind, rate, seeds), flush=True)
         except ValueError as error:

@@ -1,13 +1,16 @@
 #!/usr/bin/env python3
 """Machines whose diagnosis has much to look at, for `teramac diagnose`.
 
-usage: shorts.py FOLDER random|closed|pins
+usage: shorts.py FOLDER random|closed|pins|lines|few|third
 
 FOLDER gets d.machine and d.faults.
 
 random  The machine of the command bench; of 400 pins of tables, drawn at random, each is joined to a line drawn at random.
 closed  A hextant of 200 tables and 200 lines; of each of the 1,400 pins one crosspoint, drawn at random, is stuck closed.
 pins    10,000 pins by 10 lines, sound.
+lines   A hextant of 500 tables and 256 lines, sound.
+few     The machine of the command bench with 4 pins, sound.
+third   The same, where each third crosspoint of its pins is open.
 """
 
 import os
@@ -23,6 +26,9 @@ MACHINES = {
     "random": (2, 2, 4, 8, 24, 24, 24, 32, 32, 32, 32, 28),
     "closed": (1, 1, 1, 200, 4, 4, 4, 8, 8, 8, 200, 8),
     "pins": (1, 1, 1, 1, 4, 4, 4, 10, 10, 10, 10, 10_000),
+    "lines": (1, 1, 1, 500, 16, 16, 16, 20, 20, 20, 256, 8),
+    "few": (2, 2, 4, 8, 24, 24, 24, 32, 32, 32, 32, 4),
+    "third": (2, 2, 4, 8, 24, 24, 24, 32, 32, 32, 32, 4),
 }
 
 
@@ -36,6 +42,9 @@ def faults_of(kind, machine):
         hextant = machine.nodes[-1]
         for pin in pins:
             faults.add("closed", machine.cross(pin, chance.choice(hextant.lines)))
+    if kind == "third":
+        for cross in range(0, len(machine.pins) * len(machine.nodes[0].lines), 3):
+            faults.add("open", cross)
     return faults
 
 

@@ -183,6 +183,18 @@ def add_one(places, kind, count, faults):
     raise ValueError(f"{kind}: {count} are too many for this machine")
 
 
+def add_crosspoints(places, kind, count, faults):
+    """As many calls of `add_one`, for crosspoints that may lie anywhere, of which millions may be wanted."""
+    draw, parts, own, against = places.chance.randrange, places.machine.sizes["cross"], faults[kind], faults[texts.AGAINST[kind]]
+    for _ in range(count):
+        for _ in range(TRIES):
+            if (at := draw(parts)) not in own and at not in against:
+                own[at] = 1
+                break
+        else:
+            raise ValueError(f"{kind}: {count} are too many for this machine")
+
+
 def make_faults(machine, amounts, seed, clustered=0, shape="spots"):
     """Faults of the kinds that `amounts` names; the same seed gives the same faults."""
     chance, faults = random.Random(seed), texts.Faults()
@@ -193,6 +205,9 @@ def make_faults(machine, amounts, seed, clustered=0, shape="spots"):
         if count > room:
             rate = f"; of {kind} {largest_rate(room, parts):.4f} is the largest rate that fits" if isinstance(wanted, float) else ""
             raise ValueError(f"{kind}: {count} faults, and a fault file holds at most {machine.limits.faults:,} in all{rate}")
+        if kind in ("open", "closed") and not clustered:
+            add_crosspoints(places, kind, count, faults)
+            continue
         opened = len(faults["open"])
         for _ in range(count):
             # Of breaks a rate says how many crosspoints are open, not how many wires break.

@@ -42,6 +42,7 @@ STYLES = {  # how each list is drawn, named, and modelled
     "triplicated_pins": ((0, (3, 1, 3, 1, 1, 1)), "P", "three copies, also of pins", "likewise; outputs are voted outside"),
     "go": ("-", "p", "one copy (go)", "go; the faults come while the design runs"),
     "twice": ((0, (5, 2)), "h", "two copies (twice)", "twice; the faults come while the design runs"),
+    "told": ("-", "X", "own diagnosis, as told", "what teramac_report tells of a diagnosis"),
 }
 
 
@@ -251,6 +252,25 @@ def loads(rows, per_second):
     return picture, ["part", *series, along, *columns], table
 
 
+def sizes(rows, _):
+    """How many crosspoints a load of a diagnosis decides, and the processor's seconds of the diagnosis, against the machine's crosspoints"""
+    rows, columns = diagnoses(rows, "loads"), ["kind", "rate", "machine", "crosspoints", "what", "mean", "low", "high", "diagnoses"]
+    if not rows:
+        return nothing("no loads were told: build crates/teramac_report (rt run there) or name it by TERAMAC_REPORT"), columns, []
+    picture, both = plt.subplots(1, 2, figsize=(12.8, 4.8), layout="constrained")
+    named = {"crosspoints a load": lambda row: row["crosspoints"] / row["loads"], "seconds": lambda row: row["diagnose_processor"]}
+    table = []
+    for axes, (what, value) in zip(both, named.items()):
+        timed = [row for row in rows if value(row) is not None]
+        for ((kind, rate), part), marker in zip(split(timed, "kind", "rate").items(), cycle("os^Dv")):
+            points = {names: mean([value(row) for row in of]) for names, of in split(part, "crosspoints", "machine").items()}
+            table += [[kind, rate, machine, size, what, *point] for (size, machine), point in points.items()]
+            curve(axes, [size for size, _ in points], points.values(), 0, ("-", marker), label=f"{kind}, rate {rate:g}" if rate else "sound")
+        axes.set(xscale="log", yscale="log", xlabel="crosspoints of the machine", ylabel=what)
+    both[0].legend(loc="upper left")
+    return picture, columns, table
+
+
 def redundancy(rows, _):
     """What share of the machines has room, against what is to spare; grey: the crosspoints paid, of those of the least machine"""
     spared = {row["spared"] for row in rows} - {"", "all"}
@@ -390,7 +410,7 @@ def borne(rows, _):
     return picture, ["design", "kind", "faults_are", "faults", "crosspoints", "room"], table
 
 
-FIGURES = {draw.__name__: draw for draw in (fits, machines, why, thrown, loads, redundancy, price, compare, pairs, borne, at_work)}
+FIGURES = {draw.__name__: draw for draw in (fits, machines, why, thrown, loads, sizes, redundancy, price, compare, pairs, borne, at_work)}
 
 
 def main():

@@ -24,10 +24,10 @@ UNDECIDED = ("cut off", "6")  # or no memory, which says nothing of room; counte
 
 
 class Answer:
-    """What a call wrote, its status (-1: cut off), and the seconds that it took."""
+    """What a call wrote, its status (-1: cut off), and the seconds that it took, by the clock and of the processor."""
 
-    def __init__(self, status, written, seconds):
-        self.status, self.written, self.seconds = status, written, seconds
+    def __init__(self, status, written, seconds, processor=None):
+        self.status, self.written, self.seconds, self.processor = status, written, seconds, processor
 
     @property
     def refusal(self):
@@ -53,17 +53,19 @@ def call(program, *words, seconds=None):
         for k, path in files.items():
             path.write_bytes(words[k])
         words = [str(files.get(k, word)) for k, word in enumerate(words)]
-        start = time.monotonic()
+        start, before = time.monotonic(), os.times()
         try:
             ran = subprocess.run([program, *words], capture_output=True, timeout=seconds, check=False)
         except subprocess.TimeoutExpired as cut:
             return Answer(-1, cut.stdout or b"", time.monotonic() - start)
         except OSError as error:
             sys.exit(f"{program}: {error.strerror}; build it by 'rt run' in crates/teramac, or name it by --program")
-        taken = time.monotonic() - start
+        taken, after = time.monotonic() - start, os.times()
     if ran.returncode < 0:
         sys.exit(f"{program} {' '.join(words)}: ended by signal {-ran.returncode}")
-    return Answer(ran.returncode, ran.stdout, taken)
+    # Other children of this process may not end meanwhile: a trial calls one program after the other.
+    processor = after.children_user + after.children_system - before.children_user - before.children_system
+    return Answer(ran.returncode, ran.stdout, taken, processor)
 
 
 def checked_design(program, path):

@@ -197,6 +197,8 @@ class Study:
         at_work = not {"go", "twice"}.isdisjoint(lists)
         if at_work and not PORT:
             sys.exit("go and twice want teramac_port: build it, or name it by TERAMAC_PORT")
+        if "told" in lists and not REPORT:
+            sys.exit("told wants teramac_report: build it, or name it by TERAMAC_REPORT")
         others = {"mapper": MAPPER if "mapped" in lists else "", "report": REPORT, "port": PORT if "loads" in self.figures or at_work else ""}
         called = {"program": self.program, **{name: path and from_here(path) for name, path in others.items()}}
         more = ["--lists", ",".join(lists), "--seconds", str(get("seconds", 600))]

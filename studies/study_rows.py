@@ -9,7 +9,7 @@ from program import UNDECIDED, fill_of, interval, student
 
 PARTS = {"": "", " of growth": "_growth", " of the sweep": "_sweep", " of tests of tables": "_tables"}
 COSTS = {cost + words: cost + name for cost in ("loads", "cycles") for words, name in PARTS.items()}
-NUMBERS = [*"crosspoints rate seed faults thrown_wires thrown_crosses thrown_tables tables closed spare pins written wrong_rows".split(), *COSTS.values()]
+NUMBERS = [*"crosspoints rate seed faults thrown_wires thrown_crosses thrown_tables tables closed spare pins written wrong_rows diagnose_processor".split(), *COSTS.values()]
 DECIDED = ("0", "3", "7", "wrong")  # 7: the copies of `twice` differ
 LEVELS = ("root", "module", "chip", "hextant")
 
@@ -84,7 +84,7 @@ def cause(row):
 
 def diagnoses(rows, column):
     """One row for each diagnosis of which something is told."""
-    told = [row for row in rows if row["list"] == "diagnosed" and row[column] is not None]
+    told = [row for row in rows if row["list"] in ("diagnosed", "told") and row[column] is not None]
     return [part[0] for part in split(told, "machine", "kind", "rate", "seed").values()]
 
 

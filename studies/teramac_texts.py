@@ -8,7 +8,7 @@ import os
 import re
 import socket
 import sys
-from bisect import bisect
+from bisect import bisect, bisect_left
 from collections import namedtuple
 from itertools import islice
 from types import SimpleNamespace as Node
@@ -257,11 +257,26 @@ def faults_text(machine, faults):
         if kind in ("cell", "register"):
             table, *address = at if kind == "cell" else (at,)
             return [machine.table_names[table], *address, value]
-        wires = at if kind == "bridge" else machine.wires_of("cross" if kind in ("open", "closed") else "wire", at)
-        return [machine.names[wire] for wire in wires]
+        return [machine.names[wire] for wire in (at if kind == "bridge" else (at,))]
 
-    lines = [[kind, *words(kind, at, value)] for kind in FAULT_WORDS for at, value in sorted(faults[kind].items())]
-    return "".join(" ".join(map(str, line)) + "\n" for line in lines)
+    def lines(kind):
+        if kind in ("open", "closed"):
+            return (f"{kind} {names}\n" for names in cross_names(machine, faults[kind]))
+        found = ([kind, *words(kind, at, value)] for at, value in sorted(faults[kind].items()))
+        return (" ".join(map(str, line)) + "\n" for line in found)
+
+    return "".join(line for kind in FAULT_WORDS for line in lines(kind))
+
+
+def cross_names(machine, crosses):
+    """The names of crosspoints by their numbers, node by node, since there may be millions."""
+    names, found = machine.names, sorted(crosses)
+    for node in machine.nodes:
+        width = len(node.lines)
+        low, high = (bisect_left(found, node.first + past) for past in (0, len(node.taps) * width))
+        for cross in found[low:high]:
+            tap, line = divmod(cross - node.first, width)
+            yield f"{names[node.taps[tap]]} {names[node.lines[line]]}"
 
 
 def short_groups(machine, faults):
@@ -337,7 +352,9 @@ def read_defects(machine, data):
 
 
 def defects_text(machine, defects):
-    entries = [f"{kind} {machine.name(kind, at)}\n" for kind in PARTS for at in sorted(defects[kind])]
+    parts = {kind: (machine.name(kind, at) for at in sorted(defects[kind])) for kind in ("wire", "table")}
+    parts |= {"cross": cross_names(machine, defects["cross"])}
+    entries = (f"{kind} {names}\n" for kind in PARTS for names in parts[kind])
     return "".join(["defects 1\nshape ", " ".join(map(str, machine.counts)), "\n", *entries, "end\n"])
 
 

@@ -15,7 +15,7 @@ import study_rows
 import teramac_texts as texts
 import trial
 from explain import explain
-from faults import KINDS, Places, largest_rate, make_faults
+from faults import KINDS, Places, add_one, largest_rate, make_faults
 from program import DEFAULT, HERE, MAPPER, call, interval, mcnemar, wilson
 from study import KNOWN, Study, names_of
 from test_studies import EXAMPLES, run
@@ -71,6 +71,22 @@ class Figures(unittest.TestCase):
             self.assertEqual((found.get("loads of the sweep"), found["loads"]), (swept and [4, 0.04], [6, 0.06]))
             self.assertEqual((picture.axes[0].get_xlabel(), len(picture.axes)), (label, 3))
             self.assertEqual(found["cycles of growth"], [1, ""])
+
+    def test_sizes(self):
+        """What a load decides and what a diagnosis takes, by the machine; a diagnosis that wasn't timed is in the first alone."""
+        rows = rows_of(list=["told"], machine=["m", "n"], rate=[0.0, 0.1], loads=[5.0], diagnose_processor=[2.0])
+        for row in rows:
+            row |= {"crosspoints": 100.0 if row["machine"] == "m" else 4000.0, "loads": 5.0 if row["rate"] else 2.0}
+        rows[0]["diagnose_processor"] = None
+        picture, columns, table = figures.sizes(rows, 0)
+        found = {tuple(line[1:5]): line[columns.index("mean")] for line in table}
+        self.assertEqual(found[0.0, "m", 100, "crosspoints a load"], 50)
+        self.assertEqual(found[0.1, "n", 4000, "crosspoints a load"], 800)
+        self.assertEqual([key for key in found if key[3] == "seconds"], [(0.0, "n", 4000, "seconds"), (0.1, "m", 100, "seconds"), (0.1, "n", 4000, "seconds")])
+        self.assertEqual(picture.axes[0].get_legend_handles_labels()[1], ["sound", "open, rate 0.1"])
+        self.assertEqual([axes.get_xscale() for axes in picture.axes], ["log", "log"])
+        picture, _, _ = figures.sizes(rows_of(list=["exact"]), 0)
+        self.assertIn("teramac_report", picture.axes[0].texts[0].get_text())
 
     def test_at_work(self):
         """Rows that are wrong and rows that were left out, of those that were due; a run that stopped is no failure to be drawn apart."""
@@ -203,6 +219,30 @@ class Kinds(unittest.TestCase):
         amounts = {"open": 0.001, "closed": 1, "wires": 1, "cells": 1, "registers": 1, "bridges": 1}
         found = texts.faults_text(machine, make_faults(machine, amounts, 3))
         self.assertEqual(found, Path(EXAMPLES, "uart.faults").read_text(encoding="utf-8"))
+
+    def test_many_crosspoints_are_drawn_as_one_by_one(self):
+        amounts, found = {"open": 0.1, "closed": 300, "wires": 5}, texts.Faults()
+        places = Places(SMALL, random.Random(4), 0, "spots")
+        for kind, wanted in amounts.items():
+            count = places.count(wanted, KINDS[kind][0])
+            for _ in range(count):
+                add_one(places, kind, count, found)
+        self.assertEqual(make_faults(SMALL, amounts, 4), found)
+        self.assertGreater(len(found["open"]), 800)
+        tiny = texts.Machine((1, 1, 1, 2, 4, 4, 4, 4, 4, 4, 4, 4))
+        with self.assertRaisesRegex(ValueError, "closed: 9 are too many for this machine"):
+            make_faults(tiny, {"open": 160, "closed": 9}, 1)
+
+    def test_a_machine_that_is_not_small(self):
+        """Names of crosspoints node by node are those one by one, of faults and of a list."""
+        machine = texts.Machine((4, 4, 16, 16, 64, 64, 48, 128, 96, 96, 80, 128))
+        faults = make_faults(machine, {"open": 2000, "closed": 50, "cells": 2, "bridges": 3, "wires": 4}, 1)
+        self.assertEqual(texts.read_faults(machine, texts.faults_text(machine, faults).encode()), faults)
+        lines = texts.faults_text(machine, faults).splitlines()
+        opened = [f"open {machine.name('cross', cross)}" for cross in sorted(faults["open"])]
+        self.assertEqual([line for line in lines if line.startswith("open")], opened)
+        listed = texts.exact_list(machine, faults)
+        self.assertEqual(texts.read_defects(machine, texts.defects_text(machine, listed).encode()), listed)
 
     def test_help_and_the_largest_rate(self):
         self.assertNotIn("%%", run("faults.py", "--help").stdout)

@@ -191,6 +191,19 @@ class Studies(unittest.TestCase):
         told = [("and", "diagnosed", "0", *"9405"), ("and", "exact", "0", *4 * [""])]
         self.assertEqual(found, told + [("counter", kind, "3", *loads) for _, kind, _, *loads in told])
 
+    def test_told(self):
+        """What a report tells of a diagnosis, whose list isn't read; without the program of reports nothing is run."""
+        report = ["listed wires 3 crosspoints 2 tables 1", "diagnosis loads 9", "part sweep loads 4", "part growth loads 0", "part tables loads 5"]
+        texts.write_new(self.out, "#!/bin/sh\nprintf '{}\n'\n".format("\\n".join(report)))
+        os.chmod(self.out, 0o755)
+        ran = run("trial.py", "tiny.machine", "--rate", "0.1", "--lists", "told", "--report", self.out)
+        names, values = (line.split(",") for line in ran.stdout.splitlines())
+        row = dict(zip(names, values))
+        wanted = {"list": "told", "status": "0", "loads": "9", "loads_sweep": "4", "loads_tables": "5", "listed_wires": "3", "listed_tables": "1"}
+        self.assertEqual({name: row[name] for name in wanted}, wanted)
+        self.assertGreaterEqual(float(row["diagnose_processor"]), 0)
+        self.assertIn("told wants teramac_report", run("trial.py", "tiny.machine", "--rate", "0.1", "--lists", "told", "--report=").stderr)
+
     @unittest.skipUnless(PORT and REPORT, "teramac_port or teramac_report isn't there")
     def test_cycles(self):
         ran = run("trial.py", "tiny.machine", "--rate", "0.0", "--lists", "diagnosed", "--port", PORT)

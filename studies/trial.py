@@ -20,11 +20,11 @@ from program import HERE, MAPPER, REPORT, add_program, call
 
 COLUMNS = (
     "machine crosspoints kind rate seed faults design list status refusal listed_wires listed_crosses listed_tables thrown_wires "
-    "thrown_crosses thrown_tables tables nets crossings closed seconds diagnose_seconds loads loads_sweep loads_growth loads_tables "
+    "thrown_crosses thrown_tables tables nets crossings closed seconds diagnose_seconds diagnose_processor loads loads_sweep loads_growth loads_tables "
     "cycles cycles_sweep cycles_growth cycles_tables spare spared pins written wrong_rows"
 ).split()
 AT_WORK = ("go", "twice")  # the faults come while the design runs
-LISTS = ("exact", "diagnosed", "mapped", "wires", "hextants", "none", "triplicated", "triplicated_pins", *AT_WORK)
+LISTS = ("exact", "diagnosed", "mapped", "wires", "hextants", "none", "triplicated", "triplicated_pins", *AT_WORK, "told")
 UNDIAGNOSED = ("none", "triplicated", "triplicated_pins")
 NO_RUN = (1, 2, 4, 5)  # which say nothing of room: wrong texts or words, a rig, a store or an output that failed
 
@@ -140,9 +140,15 @@ class Trial:
             return {}
         cost = [sys.executable, f"{HERE}/../ends/cost.py", self.args.port] if self.args.port else []
         answer = call(*cost, self.args.report, self.args.machine, self.fault_text, seconds=self.args.seconds)
-        told = re.findall(r"^(?:diagnosis|part( \w+)) loads (\d+)(?: cycles (\d+))?$", answer.written.decode(), re.MULTILINE)
-        costs = [(cost + part.replace(" ", "_"), many) for part, *counts in told for cost, many in zip(("loads", "cycles"), counts)]
-        return {name: int(many) for name, many in costs if many and name in COLUMNS} if answer.status == 0 else {}
+        return told_costs(answer.written.decode()) if answer.status == 0 else {}
+
+    def told_row(self):
+        """What the program of reports tells of a diagnosis, whose list isn't looked at: a large machine has one of millions of lines."""
+        answer = self.call(self.args.machine, self.fault_text, program=self.args.report)
+        text = answer.written.decode()
+        told = re.search(r"^listed wires (\d+) crosspoints (\d+) tables (\d+)$", text, re.MULTILINE)
+        listed = dict(zip(COLUMNS[10:13], map(int, told.groups()))) if told else {}
+        return self.row("", "told", None, answer, **took_of(answer), **told_costs(text), **listed)
 
     def load_of_design(self):
         """The number of the load behind a diagnosis of the sound machine."""
@@ -174,6 +180,9 @@ class Trial:
             if kind in AT_WORK:
                 yield from self.at_work_rows(kind)
                 continue
+            if kind == "told":
+                yield self.told_row()
+                continue
             listed = texts.defects_text(self.machine, self.LISTED.get(kind, lambda *_: texts.Defects())(self.machine, self.faults)).encode()
             for name, design, vectors in self.args.designs:
                 given = design
@@ -193,7 +202,20 @@ class Trial:
             answer, more = (diagnosed, {}) if design is None or not listed else self.laid(listed, design, vectors)
             if answer is not diagnosed:
                 answer.seconds += diagnosed.seconds
-            yield self.row(name, "diagnosed", listed, answer, diagnose_seconds=round(diagnosed.seconds, 3), **more, **loads)
+            yield self.row(name, "diagnosed", listed, answer, **took_of(diagnosed), **more, **loads)
+
+
+def took_of(diagnosed):
+    """What a diagnosis took, in columns: seconds by the clock, and those of the processor, which aren't told of one that was cut off."""
+    processor = {} if diagnosed.processor is None else {"diagnose_processor": round(diagnosed.processor, 2)}
+    return {"diagnose_seconds": round(diagnosed.seconds, 3), **processor}
+
+
+def told_costs(text):
+    """The loads of a report, in all and by part, and the cycles where they stand there."""
+    told = re.findall(r"^(?:diagnosis|part( \w+)) loads (\d+)(?: cycles (\d+))?$", text, re.MULTILINE)
+    costs = [(cost + part.replace(" ", "_"), many) for part, *counts in told for cost, many in zip(("loads", "cycles"), counts)]
+    return {name: int(many) for name, many in costs if many and name in COLUMNS}
 
 
 def named_pair(word):
@@ -231,6 +253,8 @@ def main():
     args.lists = args.lists.split(",")
     if not set(args.lists) <= set(LISTS if args.mapper else LISTS[:2] + LISTS[3:]):
         sys.exit(f"--lists: some of {', '.join(LISTS)}; mapped wants teramac_map, built or named by --mapper")
+    if "told" in args.lists and not args.report:
+        sys.exit("--lists: told wants teramac_report, built or named by --report")
     if not set(args.lists).isdisjoint(AT_WORK) and not args.port:
         sys.exit("--lists: go and twice want teramac_port, named by --port")
     try:
