@@ -4,15 +4,15 @@
 //! A text has a case in each line; its head says how they are written. Each is printed, with what the command wrote and its status.
 
 mod faults;
-mod late_board;
+pub mod late_board;
 mod lost;
 mod memory_board;
-mod spoiled_port;
+pub mod spoiled_port;
 mod spoiling;
 mod steps;
 mod table_port;
 mod talk;
-mod telling_rig;
+pub mod telling_rig;
 
 use crate::over::{over_files, over_late, over_port, over_told, over_turned, over_twin};
 use crate::rigs::faults::{fault_files, sim_of, sim_over};
