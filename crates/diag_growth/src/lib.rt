@@ -39,6 +39,7 @@
 
 mod cells;
 mod choices;
+mod complete;
 mod feet;
 mod learn;
 mod look;

@@ -10,6 +10,7 @@ ghost use Rattle.diag_known.specs.Vocabulary.{AreMarksOver, HasWire, Spends, Spe
 ghost use Rattle.diag_growth.specs.Grown.{IsGrown};
 ghost use Rattle.diag_growth.specs.Looks.{AreAllMarks, AreTried, Grows, IsLinking};
 
+use crate::complete::is_complete;
 use crate::learn::try_pin;
 use crate::look::look_at;
 use diag_evidence::Facts;
@@ -102,16 +103,8 @@ fn grow_pin(
     look_on(known, rig, facts, marks, near, from)
 }
 
-/// Known wires, which are all of the set, grow in a field: until each wire of it that is clear, is shorted to no known wire, and is a pin
-/// of the machine or has two crosspoints of the field that aren't stuck to two different known wires, is known, and each crosspoint of
-/// the field between two known wires is kept unless it is stuck. What was known stays known, and what is new is of the field. What is kept
-/// costs nothing again: it takes at most 8 loads for each crosspoint of the field that the proof doesn't keep and 3 for each of its
-/// wires, less one for each pin of the machine in it, and without faults 2 and 3, less one for each such pin, whatever it answers.
-///
-/// # Errors
-///
-/// `Failed` where a call of the rig failed, `Memory` where memory was lacking.
-pub fn grow(
+// Known wires grow so over a list of the field's crosspoints, by wires.
+fn grow_tried(
     rig: &mut Box<dyn Rig>,
     facts: &mut Facts,
     known: &mut Known,
@@ -146,4 +139,41 @@ pub fn grow(
         grow_pin(known, rig, facts, &mut marks, &near, pin)?;
     }
     Ok(())
+}
+
+/// Known wires, which are all of the set, grow in a field: until each wire of it that is clear, is shorted to no known wire, and is a pin
+/// of the machine or has two crosspoints of the field that aren't stuck to two different known wires, is known, and each crosspoint of
+/// the field between two known wires is kept unless it is stuck. What was known stays known, and what is new is of the field. What is kept
+/// costs nothing again: it takes at most 8 loads for each crosspoint of the field that the proof doesn't keep and 3 for each of its
+/// wires, less one for each pin of the machine in it, and without faults 2 and 3, less one for each such pin, whatever it answers. Where
+/// nothing is left to be found it makes no list of the field's crosspoints, which takes 16 bytes for each.
+///
+/// # Errors
+///
+/// `Failed` where a call of the rig failed, `Memory` where memory was lacking.
+pub fn grow(
+    rig: &mut Box<dyn Rig>,
+    facts: &mut Facts,
+    known: &mut Known,
+    field: &Field,
+) -> Result<(), RigFail>
+    requires attached { shape_of (rig_state rig.old) ≡ Some facts.old.shape }
+    requires known { IsKnown facts.old known.old }
+    requires all { KnowsAll facts.old known.old.steps }
+    requires field { IsFieldOf facts.old.shape field.now }
+    ensures known { IsKnown facts.new known.new }
+    ensures all { KnowsAll facts.new known.new.steps }
+    ensures grows { GrowsIn field.now known.old.steps known.new.steps }
+    ensures closed_each { OnOk result (ForEach (rig_state rig.new) (λ told. ClosedIf told facts.new field.now known.new.steps)) }
+    ensures loads { (rig_state rig.new).loads + pins_in facts.old.shape field.now
+        ≤ (rig_state rig.old).loads + (8 * fresh facts.old field.now + 3 * size_of field.now.wires) }
+    ensures few_each { ForEach (rig_state rig.new) (λ told. TakesFew told facts.old field.now (rig_state rig.old).loads (rig_state
+        rig.new).loads) }
+    ensures advances { Advances (rig_state rig.old) (rig_state rig.new) facts.old facts.new }
+    ensures cause { IsErrOf result RigFail.Failed → Rose (rig_state rig.old).failures (rig_state rig.new).failures }
+{
+    if is_complete(facts, known, field) {
+        return Ok(());
+    }
+    grow_tried(rig, facts, known, field)
 }

@@ -1,5 +1,5 @@
 use Rattle.diag_growth.proofs.SoFar.{HasGrown}
-use Rattle.diag_growth.proofs.rounds.grow.Given as goal
+use Rattle.diag_growth.proofs.rounds.grow_tried.Given as goal
 
 abbrev pub invariant-pins : goal.invariant-pins
 invariant-pins g l =
