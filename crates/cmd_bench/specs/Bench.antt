@@ -110,15 +110,16 @@ image_run n draft l begun here rig i = after (runs n i l.loads rig) here (ones_w
 abbrev pub design_laid : (n : ℕ) → NetlistData → (begun : ℕ) → (here : Type 0) → RigState → Listed → Course
 design_laid n draft begun here rig l = after (lays l.list draft) (here × (rig.loads ≡ l.loads)) (image_run n draft l begun here rig)
 
--- The defects of the machine are listed
-abbrev pub machine_listed : (n : ℕ) → Around → Around → Shape → NetlistData → Course
-machine_listed n old new m draft =
-    after (lists m old.rig.loads new.rig) (new.store ≡ old.store) (design_laid n draft old.rig.loads (new.store ≡ old.store) new.rig)
+-- The defects of the machine are listed, with so many loads made before
+abbrev pub list_made : (n begun : ℕ) → (here : Type 0) → RigState → Shape → NetlistData → Course
+list_made n begun here rig m draft = after (lists m begun rig) here (design_laid n draft begun here rig)
 
--- The design is made
+-- The design is made. No load is made before the list
+abbrev pub design_run : (n begun : ℕ) → (here : Type 0) → RigState → Shape → Course
+design_run n begun here rig m = after makes_design (here × (rig.loads ≡ begun)) (list_made n begun here rig m)
+
 abbrev pub design_made : (n : ℕ) → Around → Around → Shape → Course
-design_made n old new m =
-    after makes_design ((new.store ≡ old.store) × (new.rig.loads ≡ old.rig.loads)) (machine_listed n old new m)
+design_made n old new m = design_run n old.rig.loads (new.store ≡ old.store) new.rig m
 
 -- The machine is attached
 abbrev pub machine_attached : (n : ℕ) → Around → Around → Shape → Course

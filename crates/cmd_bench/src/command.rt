@@ -3,7 +3,7 @@ ghost use Rattle.std.specs.Prelude.{◌≡◌, [], Some, IfOk, OnOk, string_byte
 ghost use Rattle.machine_bench.specs.Work as work;
 ghost use Rattle.cmd_bench.specs.Design.{bench_draft};
 ghost use Rattle.cmd_steps.specs.Vocabulary.{StoreState, shape_of, outside, around, Follows, Does, IsLawful, AsksMachine};
-ghost use Rattle.cmd_bench.specs.Bench.{bench_course, bench_job, design_laid, generated_name};
+ghost use Rattle.cmd_bench.specs.Bench.{bench_course, bench_job, design_laid, design_run, generated_name, list_made};
 ghost use Rattle.cmd_bench.specs.Headline.{IsBenched};
 
 use crate::summary::summary;
@@ -13,6 +13,7 @@ use cmd_steps::{Stop, attach, write};
 use design_netlist::Netlist;
 use diag_list::list_of;
 use machine_defects::Defects;
+use machine_shape::Shape;
 use place_design::lay;
 use place_plan::sound_parts_are_room;
 use rig::Rig;
@@ -32,23 +33,23 @@ fn loads_of(rig: &Box<dyn Rig>) -> u64
     rig.loads()
 }
 
-// The design, and what it may not stand on.
+// The work of a number: its design, and how many loads the rig had made before.
 #[derive(Clone, Copy)]
 struct Task<'a> {
+    n: u32,
+    begun: u64,
     netlist: &'a Netlist,
-    list: &'a Defects,
 }
 
 // Runs the design on what the list leaves free, and writes the summary with the loads that were made since there were so many.
 fn run_on<K: Sink>(
     alloc: Global,
-    n: u32,
     task: &Task<'_>,
-    begun: u64,
+    list: &Defects,
     rig: &mut Box<dyn Rig>,
     sink: &mut K,
 ) -> Result<(), Stop>
-    requires shape { shape_of (rig_state rig.old) ≡ Some task.now.list.now.shape }
+    requires shape { shape_of (rig_state rig.old) ≡ Some list.now.shape }
     requires netlist { task.now.netlist.now ≡ bench_draft }
 
     // Whatever the store is: it isn't touched.
@@ -56,14 +57,63 @@ fn run_on<K: Sink>(
         let old = outside store (rig_state rig.old) (K.sink_state sink.old) in
         let new = outside store (rig_state rig.new) (K.sink_state sink.new) in
         Follows ⊥ [] (new.rig.machine ≡ old.rig.machine)
-        (design_laid n task.now.netlist.now begun (store ≡ store) new.rig
-        (record { list = task.now.list.now; loads = old.rig.loads })) result old new }
+        (design_laid task.now.n task.now.netlist.now task.now.begun (store ≡ store) new.rig
+        (record { list = list.now; loads = old.rig.loads })) result old new }
 {
     crate::generated_faults_leave_room();
-    let image = lay(alloc, task.netlist, task.list)?;
-    let ones = run_work(alloc, &image, n, rig)?;
-    let text = summary(n, ones, loads_of(rig).saturating_sub(begun));
+    let image = lay(alloc, task.netlist, list)?;
+    let ones = run_work(alloc, &image, task.n, rig)?;
+    let text = summary(task.n, ones, loads_of(rig).saturating_sub(task.begun));
     write(sink, text.as_bytes())
+}
+
+// Lists the defects of the machine that is attached, and runs the design on what the list leaves free.
+fn list_and_run<K: Sink>(
+    alloc: Global,
+    task: &Task<'_>,
+    shape: &Shape,
+    rig: &mut Box<dyn Rig>,
+    sink: &mut K,
+) -> Result<(), Stop>
+    requires shape { shape_of (rig_state rig.old) ≡ Some shape.now }
+    requires netlist { task.now.netlist.now ≡ bench_draft }
+
+    // Whatever the store is: it isn't touched.
+    ensures { (store : StoreState) →
+        let old = outside store (rig_state rig.old) (K.sink_state sink.old) in
+        let new = outside store (rig_state rig.new) (K.sink_state sink.new) in
+        old.rig.loads ≡ task.now.begun → Follows ⊥ [] (new.rig.machine ≡ old.rig.machine)
+        (list_made task.now.n task.now.begun (store ≡ store) new.rig shape.now task.now.netlist.now) result old new }
+{
+    let list = list_of(alloc, shape, rig)?;
+    run_on(alloc, task, &list, rig, sink)
+}
+
+// Makes the design for the machine that is attached, lists the defects, and runs the design.
+fn make_and_run<K: Sink>(
+    alloc: Global,
+    n: u32,
+    begun: u64,
+    shape: &Shape,
+    rig: &mut Box<dyn Rig>,
+    sink: &mut K,
+) -> Result<(), Stop>
+    requires shape { shape_of (rig_state rig.old) ≡ Some shape.now }
+
+    // Whatever the store is: it isn't touched.
+    ensures { (store : StoreState) →
+        let old = outside store (rig_state rig.old) (K.sink_state sink.old) in
+        let new = outside store (rig_state rig.new) (K.sink_state sink.new) in
+        old.rig.loads ≡ begun → Follows ⊥ [] (new.rig.machine ≡ old.rig.machine)
+        (design_run n begun (store ≡ store) new.rig shape.now) result old new }
+{
+    let netlist = bench_netlist(alloc)?;
+    let task = Task {
+        n,
+        begun,
+        netlist: &netlist,
+    };
+    list_and_run(alloc, &task, shape, rig, sink)
 }
 
 // Attaches the machine, lists its defects, and runs the design on what the list leaves free.
@@ -79,13 +129,7 @@ fn work<K: Sink>(alloc: Global, n: u32, rig: &mut Box<dyn Rig>, sink: &mut K) ->
     let shape = bench_shape();
     let name = name_of(alloc, n)?;
     attach(rig, &shape, name.as_str())?;
-    let netlist = bench_netlist(alloc)?;
-    let list = list_of(alloc, &shape, rig)?;
-    let task = Task {
-        netlist: &netlist,
-        list: &list,
-    };
-    run_on(alloc, n, &task, begun, rig, sink)
+    make_and_run(alloc, n, begun, &shape, rig, sink)
 }
 
 /// Attaches the machine that the number makes, lists its defects, lays the generated design on what the list leaves free,

@@ -7,7 +7,7 @@ use Rattle.machine_defects.specs.Vocabulary.{DefectList, IsText}
 use Rattle.design_netlist.specs.declared.netlist_data.NetlistData.{NetlistData}
 use Rattle.design_blif.specs.Designs.{IsDesign}
 use Rattle.machine_image.specs.Images.{ImageValue, image_bytes}
-use Rattle.cmd_steps.specs.Vocabulary.{ReadFile, StandsAmong, Course, after, write, done, listed_course, IsRightFile, IsRightList, reads_design, Job}
+use Rattle.cmd_steps.specs.Vocabulary.{ReadFile, StandsAmong, plain_file, Course, after, write, done, listed_course, IsRightFile, IsRightList, reads_design, Job}
 use Rattle.cmd_steps.specs.declared.design_file.DesignFile.TheVariants.{Design}
 use Rattle.place_design.specs.Laying.{lays, HasRoom, LacksRoom}
 
@@ -20,6 +20,12 @@ image_written files old new i = write (image_bytes i) (StandsAmong files old new
 -- The design is laid on what the list leaves free, and its image is written
 abbrev pub design_laid : (files : List ReadFile) → StoreState → StoreState → DefectList → NetlistData → Course
 design_laid files old new d draft = after (lays d draft) (StandsAmong files old new) (image_written files old new)
+
+-- The design is read and laid. These files were read before, the last first
+abbrev pub design_read : (design : List ℕ) → (files : List ReadFile) → StoreState → StoreState → DefectList → Course
+design_read design files old new d =
+    after (reads_design Design (old.contents design)) (StandsAmong (plain_file design ∷ files) old new)
+    (design_laid (plain_file design ∷ files) old new d)
 
 -- The machine is read, then the list and the design, which is laid
 abbrev pub compile_course : (machine defects design : List ℕ) → StoreState → StoreState → Course

@@ -47,6 +47,12 @@ abbrev pub map_course : (design : List ℕ) → StoreState → StoreState → Co
 map_course design old new =
     after (reads_text Design (old.contents design)) (StandsIn (design ∷ []) old new) (design_mapped (plain_file design ∷ []) old new)
 
+-- the design is read and remapped with room on a list. These files were read before, the last first
+abbrev pub text_fitted : (design : List ℕ) → (files : List ReadFile) → StoreState → StoreState → DefectList → Course
+text_fitted design files old new d =
+    after (reads_text Design (old.contents design)) (StandsAmong (plain_file design ∷ files) old new)
+    (design_fitted (plain_file design ∷ files) old new d)
+
 -- the machine is read, then the list and the design, which is remapped
 abbrev pub fit_course : (machine defects design : List ℕ) → StoreState → StoreState → Course
 fit_course machine defects design = listed_course (λ told m. reads_text Design told) design_fitted machine defects design

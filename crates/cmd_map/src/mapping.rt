@@ -1,7 +1,7 @@
 //! Designs that are remapped and written.
-ghost use Rattle.std.specs.Prelude.{List, [], ◌∷◌};
+ghost use Rattle.std.specs.Prelude.{◌≡◌, List, [], ◌∷◌};
 ghost use Rattle.cmd_steps.specs.Vocabulary.{StoreState, RigState, Outside, outside, ReadFile, StandsAmong, Does, IsLawful, Follows, Took, IsDesignText};
-ghost use Rattle.cmd_map.specs.Maps.{maps, maps_within, design_mapped, design_fitted, map_job, fit_job};
+ghost use Rattle.cmd_map.specs.Maps.{maps, maps_within, design_mapped, design_fitted, text_fitted, map_job, fit_job};
 
 use base_io::{Sink, Store};
 use cmd_steps::{DesignFile, DesignText, Stop, read_list, read_shape, read_text, write};
@@ -64,6 +64,25 @@ fn fit_and_write<K: Sink>(
     write(sink, text.text.as_slice())
 }
 
+// Reads a design, remaps it with room on a list, and writes the text.
+fn read_and_fit<S: Store, K: Sink>(
+    alloc: Global,
+    defects: &Defects,
+    design: &str,
+    store: &mut S,
+    sink: &mut K,
+) -> Result<(), Stop>
+    // Whatever the rig is, and whatever files were read before.
+    ensures { (begun : StoreState) (files : List ReadFile) (rig : RigState) →
+        let old = outside (S.store_state store.old) rig (K.sink_state sink.old) in
+        let new = outside (S.store_state store.new) rig (K.sink_state sink.new) in
+        old.store.contents ≡ begun.contents → StandsAmong files begun old.store →
+        Follows ⊥ (design.now ∷ []) (Unit {0}) (text_fitted design.now files begun new.store defects.now) result old new }
+{
+    let read = read_text(alloc, DesignFile::Design, store, design)?;
+    fit_and_write(alloc, &read, defects, sink)
+}
+
 /// Reads a design, and writes a text with the same rows and no more tables.
 ///
 /// # Errors
@@ -107,6 +126,5 @@ pub fn fit_design<S: Store, K: Sink>(
     in_order_plans_are_decided();
     let shape = read_shape(alloc, store, machine)?;
     let list = read_list(alloc, &shape, defects, store)?;
-    let read = read_text(alloc, DesignFile::Design, store, design)?;
-    fit_and_write(alloc, &read, &list, sink)
+    read_and_fit(alloc, &list, design, store, sink)
 }

@@ -4,10 +4,10 @@ ghost use Rattle.place_plan.specs.Vocabulary.{Fits, FitsInOrder, IsPlan};
 ghost use Rattle.place_pair.specs.JointNetworks.{joint_network};
 ghost use Rattle.cmd_steps.specs.Vocabulary.{Outside, Took, StepStops};
 ghost use Rattle.place_both.specs.Both.{AreLean, ArePlainInOrder, IsImageForBoth, lays_both};
-ghost use Rattle.place_both.specs.Smaller.{AreFor, ArePlainFor};
+ghost use Rattle.place_both.specs.Smaller.{AreFor, ArePlainFor, AreSmallerFor};
 
 use crate::networks::{TwoNetworks, plain_networks};
-use crate::smaller::smaller_for;
+use crate::smaller::{Smaller, smaller_for};
 use cmd_steps::{Refusal, Stop};
 use design_netlist::Netlist;
 use machine_defects::Defects;
@@ -60,6 +60,28 @@ fn drawn(
     Ok(pair.whole)
 }
 
+// The image of both designs by networks with fewer tables, on their plan.
+fn drawn_by(
+    alloc: Global,
+    first: &Netlist,
+    second: &Netlist,
+    smaller: &Smaller,
+    list: &Defects,
+) -> Result<Option<Image>, AllocError>
+    requires { AreSmallerFor list.now first.now second.now smaller.now }
+    ensures { IfOk result (λ o. IfSome o (IsImageForBoth list.now first.now second.now)) }
+{
+    let image = drawn(
+        alloc,
+        first,
+        second,
+        &smaller.networks,
+        &smaller.placed.plan,
+        list,
+    )?;
+    Ok(Some(image))
+}
+
 // The image of both designs by networks with fewer tables, if a plan of theirs fits.
 fn drawn_smaller(
     alloc: Global,
@@ -71,18 +93,29 @@ fn drawn_smaller(
     requires { ArePlainFor first.now second.now plain.now }
     ensures { IfOk result (λ o. IfSome o (IsImageForBoth list.now first.now second.now)) }
 {
-    let Some(smaller) = smaller_for(alloc, first, second, plain, list)? else {
-        return Ok(None);
-    };
-    let image = drawn(
-        alloc,
-        first,
-        second,
-        &smaller.networks,
-        &smaller.placed.plan,
-        list,
-    )?;
-    Ok(Some(image))
+    match smaller_for(alloc, first, second, plain, list)? {
+        Some(smaller) => drawn_by(alloc, first, second, &smaller, list),
+        None => Ok(None),
+    }
+}
+
+// The image of both designs, whose plain networks have this plan in order.
+fn image_by(
+    alloc: Global,
+    first: &Netlist,
+    second: &Netlist,
+    networks: &TwoNetworks,
+    plan: &Plan,
+    list: &Defects,
+) -> Result<Image, AllocError>
+    requires networks { ArePlainFor first.now second.now networks.now }
+    requires plan { FitsInOrder list.now.shape list.now.list (joint_network networks.now.first networks.now.second) plan.now }
+    ensures { IfOk result (IsImageForBoth list.now first.now second.now) }
+{
+    match drawn_smaller(alloc, first, second, networks, list)? {
+        Some(smaller) => Ok(smaller),
+        None => drawn(alloc, first, second, networks, plan, list),
+    }
 }
 
 // The image of both designs, of which these are the plain networks, or why there is none.
@@ -101,10 +134,7 @@ fn image_of(
         Ok(plan) => plan,
         Err(stop) => return Err(stop),
     };
-    if let Some(smaller) = drawn_smaller(alloc, first, second, networks, list)? {
-        return Ok(smaller);
-    }
-    let image = drawn(alloc, first, second, networks, &plan, list)?;
+    let image = image_by(alloc, first, second, networks, &plan, list)?;
     Ok(image)
 }
 

@@ -2,12 +2,13 @@
 ghost use Rattle.std.specs.Prelude.{◌≡◌, ◌≤◌, [], false, IfOk, IfErr, IfSome, length};
 ghost use Rattle.machine_shape.specs.Limits.{is_small};
 ghost use Rattle.map_network.specs.Vocabulary.{IsNetwork, IsPlainNetwork, plain_network, HasRowsOf};
-ghost use Rattle.place_plan.specs.Vocabulary.{IsLayout, Fits, FitsInOrder, IsPlan};
+ghost use Rattle.place_plan.specs.Vocabulary.{IsLayout, Fits, FitsInOrder, IsPlaceFail, IsPlan};
 ghost use Rattle.cmd_steps.specs.Vocabulary.{Outside, StepStops, Took};
 ghost use Rattle.place_design.specs.Laying.{lays, IsChosen, IsImageFor};
+ghost use Rattle.place_design.specs.Smaller.{IsImproved, IsSmallerFor};
 
 use crate::room::no_place;
-use crate::smaller::{found_plan, smaller_for};
+use crate::smaller::{Improved, Smaller, found_plan, smaller_for};
 use cmd_steps::{Refusal, Stop};
 use design_netlist::Netlist;
 use machine_defects::Defects;
@@ -42,6 +43,20 @@ fn drawn(
     Ok(image)
 }
 
+// An image of a design by a network with fewer tables, on its plan.
+fn drawn_by(
+    alloc: Global,
+    netlist: &Netlist,
+    smaller: &Smaller,
+    defects: &Defects,
+) -> Result<Option<Image>, AllocError>
+    requires { IsSmallerFor defects.now netlist.now smaller.now }
+    ensures { IfOk result (λ o. IfSome o (IsImageFor defects.now netlist.now)) }
+{
+    let image = drawn(alloc, netlist, &smaller.network, &smaller.placed, defects)?;
+    Ok(Some(image))
+}
+
 // An image of a design by a network with fewer tables, if one of them has a plan that fits.
 fn drawn_smaller(
     alloc: Global,
@@ -54,11 +69,10 @@ fn drawn_smaller(
     requires rows { HasRowsOf whole.now netlist.now }
     ensures { IfOk result (λ o. IfSome o (IsImageFor defects.now netlist.now)) }
 {
-    let Some(smaller) = smaller_for(alloc, netlist, whole, defects)? else {
-        return Ok(None);
-    };
-    let image = drawn(alloc, netlist, &smaller.network, &smaller.placed, defects)?;
-    Ok(Some(image))
+    match smaller_for(alloc, netlist, whole, defects)? {
+        Some(smaller) => drawn_by(alloc, netlist, &smaller, defects),
+        None => Ok(None),
+    }
 }
 
 // An image of a design whose network has a plan in order that fits.
@@ -82,6 +96,25 @@ fn drawn_in_order(
     }
 }
 
+// An image of a design on a plan that was found, on a machine that isn't small.
+fn drawn_found(
+    alloc: Global,
+    netlist: &Netlist,
+    whole: &Network,
+    found: &Improved,
+    defects: &Defects,
+) -> Result<Option<Image>, AllocError>
+    requires plain { IsPlainNetwork netlist.now whole.now }
+    requires network { IsNetwork whole.now }
+    requires rows { HasRowsOf whole.now netlist.now }
+    requires large { is_small defects.now.shape.counts ≡ false }
+    requires found { IsImproved defects.now whole.now found.now }
+    ensures { IfOk result (λ o. IfSome o (IsImageFor defects.now netlist.now)) }
+{
+    let image = drawn(alloc, netlist, whole, &found.placed, defects)?;
+    Ok(Some(image))
+}
+
 // An image of a design on a plan that was found, if one is, on a machine that isn't small.
 fn drawn_on_found(
     alloc: Global,
@@ -95,11 +128,10 @@ fn drawn_on_found(
     requires large { is_small defects.now.shape.counts ≡ false }
     ensures { IfOk result (λ o. IfSome o (IsImageFor defects.now netlist.now)) }
 {
-    let Some(found) = found_plan(alloc, whole, defects)? else {
-        return Ok(None);
-    };
-    let image = drawn(alloc, netlist, whole, &found.placed, defects)?;
-    Ok(Some(image))
+    match found_plan(alloc, whole, defects)? {
+        Some(found) => drawn_found(alloc, netlist, whole, &found, defects),
+        None => Ok(None),
+    }
 }
 
 // An image of a design whose network's plan in order doesn't fit, if the machine isn't small and another plan fits.
@@ -125,23 +157,74 @@ fn drawn_out_of_order(
     drawn_on_found(alloc, netlist, whole, defects)
 }
 
+// The image of a design whose network has a plan in order that fits.
+fn image_in_order(
+    alloc: Global,
+    netlist: &Netlist,
+    whole: &Network,
+    placed: &Placed,
+    defects: &Defects,
+) -> Result<Image, Stop>
+    requires plain { IsPlainNetwork netlist.now whole.now }
+    requires network { IsNetwork whole.now }
+    requires rows { HasRowsOf whole.now netlist.now }
+    requires fits { FitsInOrder defects.now.shape defects.now.list whole.now placed.now.plan }
+    requires layout { IsLayout defects.now.shape defects.now.list whole.now placed.now.plan placed.now.layout }
+    ensures found { IfOk result (lays defects.now netlist.now).gives }
+    ensures refused { IfErr result (StepStops (lays defects.now netlist.now)) }
+{
+    let image = drawn_in_order(alloc, netlist, whole, placed, defects)?;
+    Ok(image)
+}
+
+// The image of a design whose network's plan in order doesn't fit, or why there is none.
+fn image_out_of_order(
+    alloc: Global,
+    netlist: &Netlist,
+    whole: &Network,
+    defects: &Defects,
+    fail: PlaceFail,
+) -> Result<Image, Stop>
+    requires plain { IsPlainNetwork netlist.now whole.now }
+    requires network { IsNetwork whole.now }
+    requires rows { HasRowsOf whole.now netlist.now }
+    requires fail { IsPlaceFail defects.now.shape defects.now.list whole.now fail }
+    ensures found { IfOk result (lays defects.now netlist.now).gives }
+    ensures refused { IfErr result (StepStops (lays defects.now netlist.now)) }
+{
+    match drawn_out_of_order(alloc, netlist, whole, defects)? {
+        Some(image) => Ok(image),
+        None => Err(no_place(alloc, defects.shape(), fail)),
+    }
+}
+
+// The image of a design with this plain network, or why there is none.
+fn image_by(
+    alloc: Global,
+    netlist: &Netlist,
+    whole: &Network,
+    defects: &Defects,
+) -> Result<Image, Stop>
+    requires plain { IsPlainNetwork netlist.now whole.now }
+    requires network { IsNetwork whole.now }
+    requires rows { HasRowsOf whole.now netlist.now }
+    ensures found { IfOk result (lays defects.now netlist.now).gives }
+    ensures refused { IfErr result (StepStops (lays defects.now netlist.now)) }
+{
+    match in_order_laid(alloc, whole, defects) {
+        Ok(placed) => image_in_order(alloc, netlist, whole, &placed, defects),
+        Err(PlaceFail::Memory) => Err(Stop::Refused(Refusal::Memory)),
+        Err(fail) => image_out_of_order(alloc, netlist, whole, defects, fail),
+    }
+}
+
 // The image, or why there is none.
 fn image_for(alloc: Global, netlist: &Netlist, defects: &Defects) -> Result<Image, Stop>
     ensures found { IfOk result (lays defects.now netlist.now).gives }
     ensures refused { IfErr result (StepStops (lays defects.now netlist.now)) }
 {
     let network = plain(alloc, netlist)?;
-    match in_order_laid(alloc, &network, defects) {
-        Ok(placed) => {
-            let image = drawn_in_order(alloc, netlist, &network, &placed, defects)?;
-            Ok(image)
-        }
-        Err(PlaceFail::Memory) => Err(Stop::Refused(Refusal::Memory)),
-        Err(fail) => match drawn_out_of_order(alloc, netlist, &network, defects)? {
-            Some(image) => Ok(image),
-            None => Err(no_place(alloc, defects.shape(), fail)),
-        },
-    }
+    image_by(alloc, netlist, &network, defects)
 }
 
 /// An image of a design on what the list leaves free, where there is room for its plain network in order. It is that of a

@@ -1,5 +1,5 @@
 -- The steps of a repair together.
-use Rattle.std.proofs.Common.{◌≡◌, ◌≢◌, ◌⊎◌, ℕ, zero, suc, ◌<◌, ◌≤◌, true, Option, None, List, [], ◌++◌, length, get_or, map, replicate, refl, sym, ap, ◌∙◌, subst, inl, inr, arith, IsSome, ◌↔◌}
+use Rattle.std.proofs.Common.{◌≡◌, ◌≢◌, ◌⊎◌, Result, Ok, Err, IfErr, ℕ, zero, suc, ◌<◌, ◌≤◌, true, Option, None, List, [], ◌++◌, length, get_or, map, replicate, refl, sym, ap, ◌∙◌, subst, inl, inr, arith, IsSome, ◌↔◌}
 use Rattle.std.specs.List.{All, Contains}
 use Rattle.std.specs.FinSet as set
 use Rattle.place_repair.proofs.Vocabulary.{get_or-map, get_or_default, length-map, map-append, Shape, DefectList, is_free_table, no_defects}
@@ -12,10 +12,12 @@ use Rattle.machine_meaning.specs.Vocabulary.{Joined, plain_net, Defects, IsFreeW
 use Rattle.machine_meaning.proofs.Faultless.{covers_none}
 use Rattle.place_plan.specs.declared.short.Resource.TheVariants.{Tables, Pins as PinsShort, Ports, Lines}
 use Rattle.place_plan.specs.Vocabulary.{AreWires, AreHeld, AreVisits, IsRoom, nth_of, HasTerminal, CrossesAt, Suffices, IsShortOf, IsFirstShort, IsMet}
-use Rattle.place_plan.specs.declared.short.Room.{Room}
+use Rattle.place_plan.specs.declared.short.{PlaceFail.PlaceFail, Room.Room}
+use Rattle.place_plan.specs.declared.short.PlaceFail.TheVariants as refused
 use Rattle.place_route.proofs.Drawn.{Numbering, held}
 use Rattle.place_repair.specs.Plans.{Nets, AreSeats, AreNets, PinSits, TableSits, at_pin, at_table, IsTerminal, IsMoving, IsKeptWire, HasRoom, need_of, IsFirstShortBy, IsShortPlan}
-use Rattle.place_repair.specs.Making.{IsPlanOf, AreTerminalsOf, IsPinTerminal, IsTableTerminal, IsRestOf, HasStayingWire, IsKeptCross, IsRedrawn, AreSizedFor, AreApart, ArePinsApart}
+use Rattle.place_repair.specs.Repairs.{IsRepairFail}
+use Rattle.place_repair.specs.Making.{IsPlanOf, AreTerminalsOf, IsPinTerminal, IsTableTerminal, IsRestOf, HasStayingWire, IsKeptCross, IsRedrawn, IsRoomBeside, AreSizedFor, AreApart, ArePinsApart}
 use Rattle.place_repair.proofs.Alike.{Moved, pin_at, table_at, Correspond, run_alike}
 use Rattle.place_repair.proofs.Hanging.{are_numbered}
 use Rattle.place_repair.proofs.Placed.{on_within, off_at}
@@ -88,10 +90,7 @@ module _ (d : Defects) (i : ImageValue) (is : IsImage i) (laws : Numbering i.con
       let index = different_at (i.inputs ++ i.outputs) is.apart a b la lb same in
       absurd (omega (arith, index, l))
 
-  module _ (lists : List (List ℕ)) (terms : AreTerminalsOf i p lists) (rest : DefectList) (left : IsRestOf d g p rest) where
-    pub nets_in : Nets
-    nets_in = record { lowest = p.nets.lowest; moves = p.moves.items; terminals = lists; rest = rest.list }
-
+  module _ (lists : List (List ℕ)) (terms : AreTerminalsOf i p lists) where
     wire_in : (k w : ℕ) → HasTerminal lists k w → w < wires_of m
     wire_in k w t = by (terms.only k w t)
       where
@@ -102,6 +101,10 @@ module _ (d : Defects) (i : ImageValue) (is : IsImage i) (laws : Numbering i.con
     -- what the search for room asks for
     pub lists_within : All (AreWires m) lists
     lists_within k d l j e h = wire_in k (get_or (get_or lists k d) j e) (subst (λ xs. Contains xs (get_or (get_or lists k d) j e)) (get_or_default lists k d [] l) (Contains-get_or (get_or lists k d) j e h))
+
+  module _ (lists : List (List ℕ)) (terms : AreTerminalsOf i p lists) (rest : DefectList) (left : IsRestOf d g p rest) where
+    pub nets_in : Nets
+    nets_in = record { lowest = p.nets.lowest; moves = p.moves.items; terminals = lists; rest = rest.list }
 
     staying_kept : (w : ℕ) → HasStayingWire g p w → IsKeptWire i (record { lowest = p.nets.lowest; moves = p.moves.items; terminals = lists; rest = rest.list }) w
     staying_kept w (k, stays, wire) = (k, (wire.0, stays), wire)
@@ -336,17 +339,17 @@ module _ (d : Defects) (i : ImageValue) (is : IsImage i) (laws : Numbering i.con
       all_visited = subst (λ n. AreVisits m rest.list n (HasTerminal lists) (nodes_of m) visits) terms.sized visited
 
       pub redraw_wires : AreWiresOf m lists ports visits
-      redraw_wires = wires_are lists_within ports visits all_held all_visited
+      redraw_wires = wires_are (lists_within lists terms) ports visits all_held all_visited
 
       pub repaired : (new : ImageValue) → IsRedrawn i p lists ports visits new → IsRepair d i new
-      repaired new drawn = repair_is lists_within ports visits all_held all_visited new drawn.right drawn
+      repaired new drawn = repair_is (lists_within lists terms) ports visits all_held all_visited new drawn.right drawn
           (subst (λ n. Suffices m rest.list n (HasTerminal lists) (need_of s.tables) (need_of s.pins)) terms.sized enough)
 
       pub repaired_free : (new : ImageValue) → IsRedrawn i p lists ports visits new → IsFreeImage d new
-      repaired_free new drawn = free_image lists_within ports visits all_held all_visited new drawn.right drawn
+      repaired_free new drawn = free_image (lists_within lists terms) ports visits all_held all_visited new drawn.right drawn
 
       pub repaired_rows : (new : ImageValue) → IsRedrawn i p lists ports visits new → HasSameRows d i new
-      repaired_rows new drawn = same_rows lists_within ports visits all_held all_visited new drawn.right drawn
+      repaired_rows new drawn = same_rows (lists_within lists terms) ports visits all_held all_visited new drawn.right drawn
 
 -- the same room, by other names of its parts
 -- a machine of few wires has few nets
@@ -364,6 +367,15 @@ room_as m k d lists others tables more pins rest q r a b e f same is =
     (subst (λ z. IsRoom m d (length z) (HasTerminal z) more rest r) b
     (subst (λ z. IsRoom m d (length lists) (HasTerminal lists) z rest r) e
     (subst (λ z. IsRoom m d (length lists) (HasTerminal lists) tables z r) f (subst (IsRoom m d (length lists) (HasTerminal lists) tables pins) same is))))
+
+-- the same room beside what stays
+pub room_beside_as : (d : Defects) (g : Configuration) (p : Plan) (lists others : List (List ℕ)) (tables pins : Need) (q r : Room) → lists ≡ others → q ≡ r → IsRoomBeside d g p lists tables pins q → IsRoomBeside d g p others tables pins r
+room_beside_as d g p lists others tables pins q r same e is = subst (λ z. IsRoomBeside d g p z tables pins r) same (subst (IsRoomBeside d g p lists tables pins) e is)
+
+-- lack of memory is a refusal
+pub memory_fails : (d : Defects) (i : ImageValue) (r : Result ImageValue PlaceFail) → IfErr r (λ e. e ≡ refused.Memory) → IfErr r (IsRepairFail d i)
+memory_fails d i (Ok new) is = tt
+memory_fails d i (Err e) is = rw is tt
 
 -- ---- what is short before a net is looked at
 

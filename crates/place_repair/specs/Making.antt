@@ -8,8 +8,8 @@ use Rattle.machine_meaning.specs.Defects.{Defects, IsFreeCross, IsFreeTable, IsF
 use Rattle.machine_defects.specs.Lists.{DefectList}
 use Rattle.machine_config.specs.Configuration.{Configuration, is_closed, setting_of, with_ticks}
 use Rattle.machine_image.specs.Images.{ImageValue, IsImage}
-use Rattle.place_plan.specs.declared.short.Port.{Port}
-use Rattle.place_plan.specs.{declared.short.Visit.Visit, Vocabulary.AreThose, Vocabulary.nth_of, Vocabulary.HasTerminal}
+use Rattle.place_plan.specs.declared.short.{Need.Need, Port.Port, Room.Room, Visit.Visit}
+use Rattle.place_plan.specs.Vocabulary.{AreThose, nth_of, HasTerminal, IsRoom}
 use Rattle.place_route.specs.Vocabulary.{Closes, IsJoined}
 use Rattle.place_repair.specs.{declared.nets.NetList.NetList, Marks.AreMarks, Marks.HasMark, Nets.HasWire, Nets.IsEnd, Nets.IsLowest}
 use Rattle.place_repair.specs.{declared.plan.Plan.Plan, declared.seats.Moves.Moves, declared.seats.Seats.Seats, Groups.AreLowest}
@@ -176,6 +176,12 @@ pub record IsRestOf (d : Defects) (g : Configuration) (p : Plan) (rest : DefectL
   pub crosses : (x : ℕ) → (set.contains rest.list.crosses x ≡ true)
       ↔ ((set.contains d.crosses x ≡ true) × IsFreeWire rest.list (ends_of g.shape x).0 × IsFreeWire rest.list (ends_of g.shape x).1)
   pub tables : rest.list.tables ≡ set.empty
+
+-- there is room for these lists on what is left, or this is short
+pub record IsRoomBeside (d : Defects) (g : Configuration) (p : Plan) (lists : List (List ℕ)) (tables pins : Need) (room : Room) : Type 0 where
+  pub rest : DefectList
+  pub left : IsRestOf d g p rest
+  pub is : IsRoom g.shape rest.list (length lists) (HasTerminal lists) tables pins room
 
 -- ---- what is drawn
 

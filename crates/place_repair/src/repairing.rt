@@ -4,9 +4,10 @@ ghost use Rattle.std.specs.FinSet as set;
 ghost use Rattle.machine_shape.specs.Vocabulary.{most_repaired};
 ghost use Rattle.machine_image.specs.Parts.{IsFreeImage};
 ghost use Rattle.place_route.specs.Routed.{AreWiresOf};
-ghost use Rattle.place_repair.specs.Making.{AreApart, ArePinsApart, AreSizedFor, IsRedrawn};
+ghost use Rattle.place_repair.specs.Making.{AreApart, ArePinsApart, AreSizedFor, IsPlanOf, IsRedrawn, IsRoomBeside};
 ghost use Rattle.place_plan.specs.Choices.{AreWires};
 ghost use Rattle.place_plan.specs.Layouts.{IsRoom};
+ghost use Rattle.place_plan.specs.declared.short.PlaceFail.TheVariants as refused;
 ghost use Rattle.place_plan.specs.Room.{HasTerminal, IsMet};
 ghost use Rattle.place_repair.specs.Plans.{AreSeats, need_of};
 ghost use Rattle.place_repair.specs.Repairs.{HasSameRows, IsRepair, IsRepairFail};
@@ -40,6 +41,23 @@ fn redraw(alloc: Global, image: &Image, plan: &Plan, layout: &Layout) -> Result<
     Ok(Image::new(config, inputs, outputs))
 }
 
+// The same, with lack of memory as a refusal.
+fn redrawn(alloc: Global, image: &Image, plan: &Plan, layout: &Layout) -> Result<Image, PlaceFail>
+    requires few { set.len image.now.config.closed ≤ most_repaired image.now.config.shape }
+    requires plan { AreSizedFor image.now.config plan.now }
+    requires tables { AreApart image.now.config plan.now }
+    requires pins { ArePinsApart image.now plan.now }
+    requires nets { length layout.now.nets.items < 4294967296 }
+    requires wires { AreWiresOf image.now.config.shape layout.now.nets.items layout.now.ports.items layout.now.visits.items }
+    ensures drawn { IfOk result (IsRedrawn image.now plan.now layout.now.nets.items layout.now.ports.items layout.now.visits.items) }
+    ensures memory { IfErr result (λ e. e ≡ refused.Memory) }
+{
+    match redraw(alloc, image, plan, layout) {
+        Ok(repaired) => Ok(repaired),
+        Err(_) => Err(PlaceFail::Memory),
+    }
+}
+
 // Room for the nets with these terminals, where the lines that nets of the image have are tried first.
 fn room_for(
     alloc: Global,
@@ -57,13 +75,42 @@ fn room_for(
     look_for_room_keeping(alloc, rest, terminals, tables, pins, had)
 }
 
-// The repair of an image where there are tables and pins for all that go.
-fn laid(alloc: Global, image: &Image, defects: &Defects, seats: &Seats) -> Result<Image, PlaceFail>
+// Room for these terminals on what the list and the nets that stay leave free.
+fn room_beside(
+    alloc: Global,
+    image: &Image,
+    defects: &Defects,
+    seats: &Seats,
+    plan: &Plan,
+    terminals: &[Items<u32>],
+) -> Result<Room, AllocError>
+    requires plan { AreSizedFor image.now.config plan.now }
+    requires shape { defects.now.shape ≡ image.now.config.shape }
+    requires few { length terminals.now < 2 ^ 32 }
+    requires within { All (AreWires image.now.config.shape) terminals.now }
+    ensures { IfOk result (IsRoomBeside defects.now.list image.now.config plan.now terminals.now
+        (need_of seats.now.tables) (need_of seats.now.pins)) }
+{
+    let rest = rest_of(alloc, image, plan, defects)?;
+    let tables = need_of(&seats.tables);
+    let pins = need_of(&seats.pins);
+    room_for(alloc, &rest, &plan.nets, terminals, tables, pins)
+}
+
+// The repair of an image by its plan.
+fn laid_by(
+    alloc: Global,
+    image: &Image,
+    defects: &Defects,
+    seats: &Seats,
+    plan: &Plan,
+) -> Result<Image, PlaceFail>
     requires few { set.len image.now.config.closed ≤ most_repaired image.now.config.shape }
     requires shape { defects.now.shape ≡ image.now.config.shape }
     requires seats { AreSeats defects.now.list image.now seats.now }
     requires tables { IsMet (need_of seats.now.tables) }
     requires pins { IsMet (need_of seats.now.pins) }
+    requires plan { IsPlanOf defects.now.list image.now seats.now plan.now }
     ensures repair { IfOk result (IsRepair defects.now.list image.now) }
     ensures free { IfOk result (IsFreeImage defects.now.list) }
     ensures rows { IfOk result (HasSameRows defects.now.list image.now) }
@@ -76,17 +123,8 @@ fn laid(alloc: Global, image: &Image, defects: &Defects, seats: &Seats) -> Resul
     // Say that what is set is of the machine, and that it has few wires.
     let _config = image.config();
     let _wires = defects.shape().wires();
-    let plan = plan_of(alloc, image, defects, seats)?;
-    let terminals = terminals_of(alloc, image, &plan)?;
-    let rest = rest_of(alloc, image, &plan, defects)?;
-    let room = room_for(
-        alloc,
-        &rest,
-        &plan.nets,
-        &terminals,
-        need_of(&seats.tables),
-        need_of(&seats.pins),
-    )?;
+    let terminals = terminals_of(alloc, image, plan)?;
+    let room = room_beside(alloc, image, defects, seats, plan, &terminals)?;
     match room {
         Room::Lacks(short) => Err(PlaceFail::Short(short)),
         Room::Enough { ports, visits } => {
@@ -95,10 +133,25 @@ fn laid(alloc: Global, image: &Image, defects: &Defects, seats: &Seats) -> Resul
                 ports,
                 visits,
             };
-            let repaired = redraw(alloc, image, &plan, &layout)?;
-            Ok(repaired)
+            redrawn(alloc, image, plan, &layout)
         }
     }
+}
+
+// The repair of an image where there are tables and pins for all that go. It ends early only before it owns a plan.
+fn laid(alloc: Global, image: &Image, defects: &Defects, seats: &Seats) -> Result<Image, PlaceFail>
+    requires few { set.len image.now.config.closed ≤ most_repaired image.now.config.shape }
+    requires shape { defects.now.shape ≡ image.now.config.shape }
+    requires seats { AreSeats defects.now.list image.now seats.now }
+    requires tables { IsMet (need_of seats.now.tables) }
+    requires pins { IsMet (need_of seats.now.pins) }
+    ensures repair { IfOk result (IsRepair defects.now.list image.now) }
+    ensures free { IfOk result (IsFreeImage defects.now.list) }
+    ensures rows { IfOk result (HasSameRows defects.now.list image.now) }
+    ensures fail { IfErr result (IsRepairFail defects.now.list image.now) }
+{
+    let plan = plan_of(alloc, image, defects, seats)?;
+    laid_by(alloc, image, defects, seats, &plan)
 }
 
 /// Repairs an image for a list of defects: what touches nothing listed stays, and the rest is laid anew on what is free.

@@ -38,12 +38,16 @@ impl Kept {
         ensures kept { IfOk result (λ kept. IsKept kept [] []) }
     {
         let pins = config.shape().pins();
+        let drives = blank_rows(alloc, pins, room)?;
+        let readings = blank_rows(alloc, pins, room)?;
+        let again = blank_rows(alloc, pins, room)?;
+        let copy = copy_of(alloc, config)?;
         Ok(Kept {
-            config: copy_of(alloc, config)?,
-            drives: blank_rows(alloc, pins, room)?,
-            readings: blank_rows(alloc, pins, room)?,
+            config: copy,
+            drives,
+            readings,
             made: 0,
-            again: blank_rows(alloc, pins, room)?,
+            again,
         })
     }
 

@@ -38,11 +38,14 @@ impl Pair {
         ensures room { IfOk result (λ p. length p.others.items ≡ room) }
     {
         let pins = config.shape().pins();
+        let read = PinBits::new(alloc, pins)?;
+        let other = PinBits::new(alloc, pins)?;
+        let others = blank_rows(alloc, pins, room)?;
         Ok(Pair {
             spare: room,
-            read: PinBits::new(alloc, pins)?,
-            other: PinBits::new(alloc, pins)?,
-            others: blank_rows(alloc, pins, room)?,
+            read,
+            other,
+            others,
         })
     }
 }

@@ -149,19 +149,24 @@ pub fn prepare(alloc: Global, faults: &FaultSet) -> Result<Board, AllocError>
     let wires = shape.wires() as usize;
     let low_pins = vec![in alloc; false; wires]?;
     let low_tables = vec![in alloc; false; wires]?;
+    let ranks = vec![in alloc; 0; wires]?;
+    let events = new_events(alloc, wires)?;
+    let stuck = stuck_marks(alloc, faults)?;
+    let kept = keep_pins(alloc, wires, shape.pins())?;
+    let classes = classes_of(alloc, faults)?;
     Ok(Board {
-        classes: classes_of(alloc, faults)?,
+        classes,
+        stuck,
         gates: Vec::new(alloc),
         pins: Vec::new(alloc),
+        kept,
         low_pins,
         low_tables,
-        ranks: vec![in alloc; 0; wires]?,
+        ranks,
         turns: Vec::new(alloc),
         ranked: false,
-        events: new_events(alloc, wires)?,
+        events,
         past: no_past(alloc),
-        stuck: stuck_marks(alloc, faults)?,
-        kept: keep_pins(alloc, wires, shape.pins())?,
     })
 }
 

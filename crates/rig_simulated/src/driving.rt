@@ -34,10 +34,13 @@ pub fn keep_pins(alloc: Global, wires: usize, pins: u32) -> Result<KeptPins, All
     ensures drive { IfOk result (λ k. k.drive ≡ replicate pins true) }
     ensures levels { IfOk result (λ k. length k.levels ≡ pins) }
 {
+    let drive = PinBits::new(alloc, pins)?;
+    let levels = PinBits::new(alloc, pins)?;
+    let chains = new_chains(alloc, wires, pins as usize)?;
     Ok(KeptPins {
-        chains: new_chains(alloc, wires, pins as usize)?,
-        drive: PinBits::new(alloc, pins)?,
-        levels: PinBits::new(alloc, pins)?,
+        chains,
+        drive,
+        levels,
     })
 }
 

@@ -46,6 +46,7 @@ pub fn new_events(alloc: Global, wires: usize) -> Result<Events, AllocError>
     ensures len { IfOk result (λ e. length e.pulls.items ≡ wires) }
     ensures zero { IfOk result (λ e. AreZero e.pulls.items) }
 {
+    let pulls = vec![in alloc; 0; wires]?;
     Ok(Events {
         readers: Readers {
             list: Vec::new(alloc),
@@ -57,7 +58,7 @@ pub fn new_events(alloc: Global, wires: usize) -> Result<Events, AllocError>
             marks: Vec::new(alloc),
         },
         flips: Vec::new(alloc),
-        pulls: vec![in alloc; 0; wires]?,
+        pulls,
         listed: false,
     })
 }

@@ -22,7 +22,7 @@ are-laid w i rig right vectors rows are = record {
 -- ---- it is laid
 
 module _ {U : Type 0} (w : Laid) (d : DefectList) (b : RunBegin) where
-  lay-stops : (stop : Stop) (result : Result U Stop) (o : Outside) → result ≡ Err stop → Took [] (w.lays d) (Err stop) o o → StandsIn b.files b.begun o.store → Follows ⊥ (b.vectors ∷ []) (o.rig.machine ≡ o.rig.machine) (laid_run w b (around o) (record { list = d; loads = o.rig.loads })) result o o
+  pub lay-stops : (stop : Stop) (result : Result U Stop) (o : Outside) → result ≡ Err stop → Took [] (w.lays d) (Err stop) o o → StandsIn b.files b.begun o.store → Follows ⊥ (b.vectors ∷ []) (o.rig.machine ≡ o.rig.machine) (laid_run w b (around o) (record { list = d; loads = o.rig.loads })) result o o
   lay-stops stop result o is took at =
       let made : Listed = record { list = d; loads = o.rig.loads } in
       step-stops (w.lays d) (HasStayed b made (around o)) (image_run w b (around o) made) (w.lays d) [] (b.vectors ∷ []) _ stop result o o is took took.stops (at, refl) refl
@@ -39,6 +39,13 @@ module _ {U : Type 0} (w : Laid) (d : DefectList) (b : RunBegin) where
       step-gives (w.lays d) (HasStayed b made (around new)) (image_run w b (around new) made) (w.lays d) [] (b.vectors ∷ []) _ _ i i result old old new took took.gives
       (record { later = is.later; asked = is.asked; machines = is.machines; written = rw same at written; counted = is.counted }) is.machines
 
+  -- the same, by the copies that are driven
+  pub lay-runs : (m : Shape) (before : ℕ) (i : ImageValue) (c : Copies) (result : Result U Stop) (old new : Outside) → IsListed m before old.rig (record { list = d; loads = old.rig.loads }) → c ≡ w.copies → Took [] (w.lays d) (Ok i) old old → IsLaidOn w d i → old.store.contents ≡ b.begun.contents → Follows ⊥ (b.vectors ∷ []) (new.rig.machine ≡ old.rig.machine) (image_course (copied_rows c i (old.store.contents b.vectors) new.store b.failures new.rig) (record { image = i; vectors = b.vectors; files = b.files; begun = b.begun; before = old.rig.loads }) (around new)) result old new → Follows ⊥ (b.vectors ∷ []) (new.rig.machine ≡ old.rig.machine) (laid_run w b (around new) (record { list = d; loads = old.rig.loads })) result old new
+  lay-runs m before i c result old new list copies took on same is =
+      let at : RowsBegin = record { image = i; vectors = b.vectors; files = b.files; begun = b.begun; before = old.rig.loads } in
+      let follows : Copies → Type 0 = λ c. Follows ⊥ (b.vectors ∷ []) (new.rig.machine ≡ old.rig.machine) (image_course (copied_rows c i (old.store.contents b.vectors) new.store b.failures new.rig) at (around new)) result old new in
+      lay-gives m before i result old new list took on same (subst follows copies is)
+
 -- ---- the list is made and written
 
 module _ (w : Laid) (m : Shape) (before : ℕ) (b : RunBegin) (s : StoreState) (r0 r1 : RigState) (a k : SinkState) (loads : r0.loads ≡ before) (machine : r1.machine ≡ r0.machine) (at : StandsIn b.files b.begun s) where
@@ -48,17 +55,6 @@ module _ (w : Laid) (m : Shape) (before : ℕ) (b : RunBegin) (s : StoreState) (
       list-ends m before (StandsIn b.files b.begun s) (λ l. HasStayed b l end) (λ l. laid_run w b end l) (b.vectors ∷ []) s r0 r1 a k loads machine stop result is written at (λ l is. (at, sym is))
 
   module _ (d : DefectList) (written : WritesList m (Ok d) (outside s r0 a) (outside s r1 k)) where
-    listed-then : {U : Type 0} (result : Result U Stop) (new : Outside) → Follows ⊥ (b.vectors ∷ []) (new.rig.machine ≡ r1.machine) (laid_run w b (around new) (record { list = d; loads = r1.loads })) result (outside s r1 k) new → Follows ⊥ (b.vectors ∷ []) (new.rig.machine ≡ r0.machine) (machine_listed w m before b (around new)) result (outside s r0 a) new
+    pub listed-then : {U : Type 0} (result : Result U Stop) (new : Outside) → Follows ⊥ (b.vectors ∷ []) (new.rig.machine ≡ r1.machine) (laid_run w b (around new) (record { list = d; loads = r1.loads })) result (outside s r1 k) new → Follows ⊥ (b.vectors ∷ []) (new.rig.machine ≡ r0.machine) (machine_listed w m before b (around new)) result (outside s r0 a) new
     listed-then result new rest =
         list-goes m before (StandsIn b.files b.begun new.store) (λ l. HasStayed b l (around new)) (λ l. laid_run w b (around new) l) (b.vectors ∷ []) s r0 r1 a k loads machine d result new written rest
-
-    -- it isn't laid
-    pub lay-fails : {U : Type 0} (stop : Stop) (result : Result U Stop) → result ≡ Err stop → Took [] (w.lays d) (Err stop) (outside s r1 k) (outside s r1 k) → Follows ⊥ (b.vectors ∷ []) (r1.machine ≡ r0.machine) (machine_listed w m before b (around (outside s r1 k))) result (outside s r0 a) (outside s r1 k)
-    lay-fails stop result is took = listed-then result (outside s r1 k) (lay-stops w d b stop result (outside s r1 k) is took at)
-
-    -- or it is, and its image is run
-    pub laid-runs : {U : Type 0} (i : ImageValue) (c : Copies) (result : Result U Stop) (new : Outside) → c ≡ w.copies → s.contents ≡ b.begun.contents → Took [] (w.lays d) (Ok i) (outside s r1 k) (outside s r1 k) → IsLaidOn w d i → Follows ⊥ (b.vectors ∷ []) (new.rig.machine ≡ r1.machine) (image_course (copied_rows c i (s.contents b.vectors) new.store b.failures new.rig) (record { image = i; vectors = b.vectors; files = b.files; begun = b.begun; before = r1.loads }) (around new)) result (outside s r1 k) new → Follows ⊥ (b.vectors ∷ []) (new.rig.machine ≡ r0.machine) (machine_listed w m before b (around new)) result (outside s r0 a) new
-    laid-runs i c result new copies same took on is =
-        let at : RowsBegin = record { image = i; vectors = b.vectors; files = b.files; begun = b.begun; before = r1.loads } in
-        let follows : Copies → Type 0 = λ c. Follows ⊥ (b.vectors ∷ []) (new.rig.machine ≡ r1.machine) (image_course (copied_rows c i (s.contents b.vectors) new.store b.failures new.rig) at (around new)) result (outside s r1 k) new in
-        listed-then result new (lay-gives w d b m r0.loads i result (outside s r1 k) new written.0.gives took on same (subst follows copies is))

@@ -39,27 +39,39 @@ module _ (c : Copies) (i : ImageValue) (vectors : List ℕ) (files : List (List 
   abbrev course : Outside → Course
   course new = image_course (work new) begin (around new)
 
-  abbrev here : Outside → Type 0
-  here new = IsAtOutputs i vectors (around new)
-
   -- it isn't loaded
   pub load-stops : {U : Type 0} (stop : Stop) (result : Result U Stop) → result ≡ Err stop → mid.rig.machine ≡ old.rig.machine → Took [] (prepares old.rig mid.rig) (Err stop) old mid → Follows ⊥ (vectors ∷ []) (mid.rig.machine ≡ old.rig.machine) (course mid) result old mid
   load-stops stop result is machine took =
       step-stops (loads old.rig.loads mid.rig) (StandsIn files begun mid.store) (λ _. loaded_course (work mid) begin (around mid)) (prepares old.rig mid.rig) [] (vectors ∷ []) _ stop result old mid is took took.stops stands machine
 
-  module _ (rows : Running) (machine : mid.rig.machine ≡ old.rig.machine) (loaded : Took [] (prepares old.rig mid.rig) (Ok rows) old mid) where
-    -- the vectors aren't opened
-    pub open-stops : {U : Type 0} (stop : Stop) (result : Result U Stop) (new : Outside) → result ≡ Err stop → Took (vectors ∷ []) (opens (mid.store.contents vectors)) (Err stop) mid new → SameRig mid.rig new.rig → Follows ⊥ (vectors ∷ []) (new.rig.machine ≡ old.rig.machine) (course new) result old new
-    open-stops stop result new is took same =
-        loaded-then (work new) begin rows result old mid new loaded refl machine (opening-stops (mid.store.contents vectors) vectors files begun (here new) (all_rows (work new)) mid refl stands new _ stop result is took same)
+  -- or it is, and what follows is that of this image
+  pub load-gives : {U : Type 0} (rows : Running) (k : Copies) (j : ImageValue) (result : Result U Stop) (new : Outside) → mid.rig.machine ≡ old.rig.machine → Took [] (prepares old.rig mid.rig) (Ok rows) old mid → k ≡ c → j ≡ i → Follows ⊥ (vectors ∷ []) (SameRig mid.rig new.rig) (loaded_course (copied_rows k j (mid.store.contents vectors) new.store failures new.rig) (record { image = j; vectors = vectors; files = files; begun = begun; before = old.rig.loads }) (around new)) result mid new → Follows ⊥ (vectors ∷ []) (new.rig.machine ≡ old.rig.machine) (course new) result old new
+  load-gives rows k j result new machine loaded copies image rest_is =
+      loaded-then (work new) begin rows result old mid new loaded refl machine (rw (← copies, ← image) rest_is)
 
-    module _ (opened : Outside) (took : Took (vectors ∷ []) (opens (mid.store.contents vectors)) (Ok tt) mid opened) (same : SameRig mid.rig opened.rig) where
-      -- the line isn't written
-      pub line-stops : {U : Type 0} (stop : Stop) (result : Result U Stop) (sink : SinkState) → result ≡ Err stop → Puts {T = Unit {0}} outputs_line (Err stop) opened.sink sink → here opened → Follows ⊥ (vectors ∷ []) (opened.rig.machine ≡ old.rig.machine) (course opened) result old (outside opened.store opened.rig sink)
-      line-stops stop result sink is puts at =
-          loaded-then (work opened) begin rows result old mid (outside opened.store opened.rig sink) loaded refl machine (outputs-stops (mid.store.contents vectors) vectors files begun (here opened) (all_rows (work opened)) mid refl stands opened took _ stop result sink is puts at same)
+-- the image stands loaded
+module _ (c : Copies) (i : ImageValue) (vectors : List ℕ) (files : List (List ℕ)) (begun : StoreState) (failures before : ℕ) (mid : Outside) (stands : StandsIn files begun mid.store) where
+  abbrev rows_of : Outside → RowWork
+  rows_of new = copied_rows c i (mid.store.contents vectors) new.store failures new.rig
 
-      -- or it is, and the rows are followed: those of this image and this file
-      pub rows-follow : {U : Type 0} (k : Copies) (j : ImageValue) (told : Told) (result : Result U Stop) (sink : SinkState) (new : Outside) → k ≡ c → j ≡ i → told ≡ mid.store.contents vectors → Puts {T = Unit {0}} outputs_line (Ok tt) opened.sink sink → SameRig mid.rig new.rig → Follows ⊥ [] (SameRig opened.rig new.rig) (all_rows (copied_rows k j told new.store failures new.rig)) result (outside opened.store opened.rig sink) new → Follows ⊥ (vectors ∷ []) (new.rig.machine ≡ old.rig.machine) (course new) result old new
-      rows-follow k j told result sink new copies image file puts rigs rest_is =
-          loaded-then (work new) begin rows result old mid new loaded refl machine (rows-then (mid.store.contents vectors) vectors files begun (here new) (all_rows (work new)) mid refl stands opened took _ (SameRig opened.rig new.rig) _ result sink new puts (rw (← copies, ← image, ← file) rest_is) rigs)
+  abbrev rest : Outside → Course
+  rest new = loaded_course (rows_of new) (record { image = i; vectors = vectors; files = files; begun = begun; before = before }) (around new)
+
+  abbrev at_line : Outside → Type 0
+  at_line new = IsAtOutputs i vectors (around new)
+
+  -- the vectors aren't opened
+  pub open-stops : {U : Type 0} (stop : Stop) (result : Result U Stop) (new : Outside) → result ≡ Err stop → Took (vectors ∷ []) (opens (mid.store.contents vectors)) (Err stop) mid new → SameRig mid.rig new.rig → Follows ⊥ (vectors ∷ []) (SameRig mid.rig new.rig) (rest new) result mid new
+  open-stops stop result new is took same =
+      opening-stops (mid.store.contents vectors) vectors files begun (at_line new) (all_rows (rows_of new)) mid refl stands new _ stop result is took same
+
+  module _ (opened : Outside) (took : Took (vectors ∷ []) (opens (mid.store.contents vectors)) (Ok tt) mid opened) (same : SameRig mid.rig opened.rig) where
+    -- the line isn't written
+    pub line-stops : {U : Type 0} (stop : Stop) (result : Result U Stop) (sink : SinkState) → result ≡ Err stop → Puts {T = Unit {0}} outputs_line (Err stop) opened.sink sink → at_line opened → Follows ⊥ (vectors ∷ []) (SameRig mid.rig opened.rig) (rest opened) result mid (outside opened.store opened.rig sink)
+    line-stops stop result sink is puts at =
+        outputs-stops (mid.store.contents vectors) vectors files begun (at_line opened) (all_rows (rows_of opened)) mid refl stands opened took _ stop result sink is puts at same
+
+    -- or it is, and the rows are followed: those of this file
+    pub rows-follow : {U : Type 0} (told : Told) (result : Result U Stop) (sink : SinkState) (new : Outside) → told ≡ mid.store.contents vectors → Puts {T = Unit {0}} outputs_line (Ok tt) opened.sink sink → SameRig mid.rig new.rig → Follows ⊥ [] (SameRig opened.rig new.rig) (all_rows (copied_rows c i told new.store failures new.rig)) result (outside opened.store opened.rig sink) new → Follows ⊥ (vectors ∷ []) (SameRig mid.rig new.rig) (rest new) result mid new
+    rows-follow told result sink new file puts rigs rest_is =
+        rows-then (mid.store.contents vectors) vectors files begun (at_line new) (all_rows (rows_of new)) mid refl stands opened took _ (SameRig opened.rig new.rig) _ result sink new puts (rw (← file) rest_is) rigs

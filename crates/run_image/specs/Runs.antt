@@ -5,7 +5,8 @@ use Rattle.machine_shape.specs.declared.Shape.{Shape}
 use Rattle.machine_defects.specs.Vocabulary.{DefectList, IsDefectList, text_of}
 use Rattle.machine_image.specs.Images.{ImageValue}
 use Rattle.cmd_steps.specs.Vocabulary.{outputs_line, Around, StandsIn, Course, after, write}
-use Rattle.diag_list.specs.Lists.{Listed, lists}
+use Rattle.rig.specs.Rig.{RigState}
+use Rattle.diag_list.specs.Lists.{IsListed, Listed, lists}
 use Rattle.run_image.specs.{Rows.image_course, Laid.Laid, Laid.rows_work}
 
 -- where the list is made: the store as the command began, and how often the rig had failed then, the files that were read since,
@@ -25,6 +26,10 @@ abbrev pub image_run : Laid → RunBegin → (new : Around) → Listed → Image
 image_run w b new l i =
     image_course (rows_work w i (b.begun.contents b.vectors) new.store b.failures new.rig)
     (record { image = i; vectors = b.vectors; files = b.files; begun = b.begun; before = l.loads }) new
+
+-- the rig's machine is listed so, whatever its shape
+abbrev pub HasList : (before : ℕ) → RigState → Listed → Type 0
+HasList before rig l = (m : Shape) × IsListed m before rig l
 
 -- It is laid on what the list leaves free, and the image is run
 abbrev pub laid_run : Laid → RunBegin → (new : Around) → Listed → Course

@@ -12,7 +12,7 @@ ghost use Rattle.cmd_steps.specs.Vocabulary.{IsBegun, file_of, StoreState, SinkS
 ghost use Rattle.cmd_steps.specs.Vocabulary.{Follows, all_rows, most_vector_bytes, WaitsOrPuts, NextStops, StaysOpen};
 ghost use Rattle.cmd_steps.specs.declared.refusal.Refusal.TheVariants.{Rig};
 ghost use Rattle.cmd_steps.specs.declared.refusal.Stop.TheVariants.{Refused};
-ghost use Rattle.run_image.specs.Rows.{RowsBegin, copied_rows, image_rows, image_course};
+ghost use Rattle.run_image.specs.Rows.{RowsBegin, copied_rows, image_rows, image_course, loaded_course};
 ghost use Rattle.run_image.specs.Running.{IsFitting, IsLoaded, IsSameBut, IsSameRun, AreKept, ReadsMore, BatchGives, DrivesTo, readings_in};
 ghost use Rattle.run_image.specs.Running.{CompareStops, HasAddedOne, HasAddedAll, AddStops, AddsStop, MakesRows, MakesStop, EndsSent};
 ghost use Rattle.run_image.specs.Running.{together_of, prepares, at_rows};
@@ -479,6 +479,31 @@ fn write_rows<S: Store, K: Sink>(
     }
 }
 
+// Opens a file of vectors, and writes the line `outputs` and the rows of an image that is loaded.
+fn run_rows<S: Store, K: Sink>(
+    rows: &mut Running,
+    vectors: &str,
+    store: &mut S,
+    rig: &mut Box<dyn Rig>,
+    sink: &mut K,
+) -> Result<(), Stop>
+    requires { IsLoaded rows.old (rig_state rig.old) }
+
+    // Wherever the store stood as the command began, and however often the rig had loaded and failed.
+    ensures follows { let old = outside (S.store_state store.old) (rig_state rig.old) (K.sink_state sink.old) in
+        let new = outside (S.store_state store.new) (rig_state rig.new) (K.sink_state sink.new) in
+        (files : List (List ℕ)) (begun : StoreState) (failures before : ℕ) → StandsIn files begun old.store → failures ≤ old.rig.failures →
+        let image = rows.old.image in
+        let work = copied_rows rows.old.copies image (old.store.contents vectors.now) new.store failures new.rig in
+        let b : RowsBegin = record { image = image; vectors = vectors.now; files = files; begun = begun; before = before } in
+        Follows ⊥ (vectors.now ∷ []) ((new.rig.machine ≡ old.rig.machine) × (new.rig.loads ≡ old.rig.loads))
+        (loaded_course work b (around new)) result old new }
+{
+    open_vectors(store, vectors)?;
+    write(sink, b"outputs\n")?;
+    write_rows(rows, store, rig, sink)
+}
+
 /// Loads an image of one thing or of copies on the machine that is attached, and writes the line `outputs` and, for each vector of
 /// a file, what each copy's output pins read. A vector is driven on the input pins of each copy.
 ///
@@ -507,9 +532,7 @@ pub(crate) fn run_copies<S: Store, K: Sink>(
         Follows ⊥ (vectors.now ∷ []) (new.rig.machine ≡ old.rig.machine) (image_course rows b (around new)) result old new }
 {
     let mut rows = prepare(alloc, image, copies, rig)?;
-    open_vectors(store, vectors)?;
-    write(sink, b"outputs\n")?;
-    write_rows(&mut rows, store, rig, sink)
+    run_rows(&mut rows, vectors, store, rig, sink)
 }
 
 /// Loads an image on the machine that is attached, and writes the line `outputs` and, for each vector of a file, what

@@ -1,10 +1,11 @@
 //! What is laid on a machine, and run.
 ghost use Rattle.std.specs.Prelude.{◌≡◌, ◌≤◌, ℕ, List, ◌∷◌, [], Some};
 ghost use Rattle.machine_defects.specs.Lists.{DefectList};
+ghost use Rattle.diag_list.specs.Lists.{Listed};
 ghost use Rattle.machine_image.specs.Images.{ImageValue};
 ghost use Rattle.cmd_steps.specs.Vocabulary.{StoreState, shape_of, Outside, outside, around, StandsIn, Took, Follows};
 ghost use Rattle.run_image.specs.Laid.{Laid, IsLaidOn};
-ghost use Rattle.run_image.specs.Runs.{RunBegin, machine_listed};
+ghost use Rattle.run_image.specs.Runs.{HasList, RunBegin, laid_run, machine_listed};
 
 use crate::copies::Copies;
 use crate::image::run_copies;
@@ -40,6 +41,33 @@ pub trait Lays {
     ghost right: { (x : Self) (d : DefectList) (i : ImageValue) → ((laid x).lays d).gives i → IsLaidOn (laid x) d i };
 }
 
+// Lays what is given on what a list of the machine's defects leaves free, and runs it.
+fn lay_and_run<L: Lays, S: Store, K: Sink>(
+    alloc: Global,
+    list: &Defects,
+    what: &L,
+    vectors: &str,
+    store: &mut S,
+    rig: &mut Box<dyn Rig>,
+    sink: &mut K,
+) -> Result<(), Stop>
+    requires { shape_of (rig_state rig.old) ≡ Some list.now.shape }
+
+    // Wherever the store stood as the command began, however often the rig had failed, and whatever was read since.
+    ensures follows { let old = outside (S.store_state store.old) (rig_state rig.old) (K.sink_state sink.old) in
+        let new = outside (S.store_state store.new) (rig_state rig.new) (K.sink_state sink.new) in
+        let listed : Listed = record { list = list.now; loads = old.rig.loads } in
+        (before failures : ℕ) (files : List (List ℕ)) (begun : StoreState) →
+        HasList before old.rig listed → failures ≤ old.rig.failures →
+        StandsIn files begun old.store → old.store.contents ≡ begun.contents →
+        let b : RunBegin = record { begun = begun; failures = failures; files = files; vectors = vectors.now } in
+        Follows ⊥ (vectors.now ∷ []) (new.rig.machine ≡ old.rig.machine)
+        (laid_run (L.laid what.now) b (around new) listed) result old new }
+{
+    let image = what.lay(alloc, list)?;
+    run_copies(alloc, image, what.copies(), vectors, store, rig, sink)
+}
+
 /// Lists the defects of the machine that is attached and writes the list. Then lays what is given on what the list leaves free,
 /// loads its image, and writes the line `outputs` and a row for each vector. Of copies a row is what each of them read.
 ///
@@ -69,6 +97,5 @@ pub fn list_and_run<L: Lays, S: Store, K: Sink>(
         (machine_listed (L.laid what.now) shape.now before b (around new)) result old new }
 {
     let list = write_list(alloc, shape, rig, sink)?;
-    let image = what.lay(alloc, &list)?;
-    run_copies(alloc, image, what.copies(), vectors, store, rig, sink)
+    lay_and_run(alloc, &list, what, vectors, store, rig, sink)
 }

@@ -1,7 +1,7 @@
 //! The plans of a design: in order for its plain network, for two copies of it, for the one with fewer tables, and with fewer crossings.
 ghost use Rattle.std.specs.Prelude.{IfOk, IfSome};
 ghost use Rattle.map_network.specs.Networks.{IsNetwork};
-ghost use Rattle.place_plan.specs.Plans.{FitsInOrder};
+ghost use Rattle.place_plan.specs.Plans.{FitsInOrder, IsPlan};
 
 use crate::line::put_counts;
 use design_netlist::Netlist;
@@ -76,8 +76,25 @@ fn crossings(
     }
 }
 
+// Adds the line of the plan in order.
+fn put_plan(
+    alloc: Global,
+    text: &mut Vec<u8>,
+    name: &str,
+    network: &Network,
+    plan: Option<&Plan>,
+    list: &Defects,
+) -> Result<(), AllocError>
+    requires network { IsNetwork network.now }
+    requires plan { IfSome plan (λ p. FitsInOrder list.now.shape list.now.list network.now p.now) }
+{
+    let crossings = crossings(alloc, network, plan, list)?;
+    put_network(alloc, text, name, network)?;
+    put_crossings(text, crossings)
+}
+
 // Adds the line of the plan in order, and hands out the plan where it fits.
-fn put_in_order(
+fn put_and_hand_out(
     alloc: Global,
     text: &mut Vec<u8>,
     name: &str,
@@ -88,10 +105,26 @@ fn put_in_order(
     ensures { IfOk result (λ o. IfSome o (FitsInOrder list.now.shape list.now.list network.now)) }
 {
     let plan = fitting_plan(alloc, network, list)?;
-    let crossings = crossings(alloc, network, plan.as_ref(), list)?;
-    put_network(alloc, text, name, network)?;
-    put_crossings(text, crossings)?;
-    Ok(plan)
+    match put_plan(alloc, text, name, network, plan.as_ref(), list) {
+        Ok(()) => Ok(plan),
+        Err(fail) => Err(fail),
+    }
+}
+
+// The crossings of a plan, where it fits.
+fn fitting_crossings(
+    alloc: Global,
+    network: &Network,
+    plan: &Plan,
+    list: &Defects,
+) -> Result<Option<u128>, AllocError>
+    requires network { IsNetwork network.now }
+    requires plan { IsPlan list.now.shape list.now.list network.now plan.now }
+{
+    if !fits(alloc, network, plan, list)? {
+        return Ok(None);
+    }
+    Ok(Some(crossings_of(alloc, network, plan, list)?))
 }
 
 // The crossings of a plan with fewer of them, where it fits.
@@ -105,10 +138,7 @@ fn better_crossings(
     requires plan { FitsInOrder list.now.shape list.now.list network.now plan }
 {
     let better = improve(alloc, network, plan, list)?;
-    if !fits(alloc, network, &better, list)? {
-        return Ok(None);
-    }
-    Ok(Some(crossings_of(alloc, network, &better, list)?))
+    fitting_crossings(alloc, network, &better, list)
 }
 
 // Adds the line of the plan with fewer crossings.
@@ -125,6 +155,20 @@ fn put_improved(
     let crossings = better_crossings(alloc, network, plan, list)?;
     put_network(alloc, text, "plan improved", network)?;
     put_crossings(text, crossings)
+}
+
+// Adds the line of the plan in order of a network.
+fn put_in_order(
+    alloc: Global,
+    text: &mut Vec<u8>,
+    name: &str,
+    network: &Network,
+    list: &Defects,
+) -> Result<(), AllocError>
+    requires { IsNetwork network.now }
+{
+    let plan = fitting_plan(alloc, network, list)?;
+    put_plan(alloc, text, name, network, plan.as_ref(), list)
 }
 
 // Two copies can be counted in one network.
@@ -144,8 +188,57 @@ fn put_twice(
         return Ok(());
     }
     let both = joint(alloc, network, network)?;
-    put_in_order(alloc, text, "plan twice", &both, list)?;
-    Ok(())
+    put_in_order(alloc, text, "plan twice", &both, list)
+}
+
+// Adds the lines of the plain network and of two copies of it.
+fn put_plain(
+    alloc: Global,
+    text: &mut Vec<u8>,
+    network: &Network,
+    list: &Defects,
+) -> Result<(), AllocError>
+    requires { IsNetwork network.now }
+{
+    put_in_order(alloc, text, "plan plain", network, list)?;
+    put_twice(alloc, text, network, list)
+}
+
+// Adds the lines of the network with fewer tables.
+fn put_merged(
+    alloc: Global,
+    text: &mut Vec<u8>,
+    network: &Network,
+    list: &Defects,
+) -> Result<(), AllocError>
+    requires { IsNetwork network.now }
+{
+    match put_and_hand_out(alloc, text, "plan merged", network, list)? {
+        Some(plan) => put_improved(alloc, text, network, plan, list),
+        None => Ok(()),
+    }
+}
+
+// Makes the plain network, and adds its lines.
+fn put_plain_of(
+    alloc: Global,
+    text: &mut Vec<u8>,
+    netlist: &Netlist,
+    list: &Defects,
+) -> Result<(), AllocError> {
+    let network = plain(alloc, netlist)?;
+    put_plain(alloc, text, &network, list)
+}
+
+// Makes the network with fewer tables, and adds its lines.
+fn put_merged_of(
+    alloc: Global,
+    text: &mut Vec<u8>,
+    netlist: &Netlist,
+    list: &Defects,
+) -> Result<(), AllocError> {
+    let network = merge_tables(alloc, netlist)?;
+    put_merged(alloc, text, &network, list)
 }
 
 /// Adds a line for each of the four plans: the tables, nets and ticks of the network, and the crossings of the plan or that
@@ -160,12 +253,6 @@ pub fn put_plans(
     netlist: &Netlist,
     list: &Defects,
 ) -> Result<(), AllocError> {
-    let network = plain(alloc, netlist)?;
-    put_in_order(alloc, text, "plan plain", &network, list)?;
-    put_twice(alloc, text, &network, list)?;
-    let network = merge_tables(alloc, netlist)?;
-    if let Some(plan) = put_in_order(alloc, text, "plan merged", &network, list)? {
-        put_improved(alloc, text, &network, plan, list)?;
-    }
-    Ok(())
+    put_plain_of(alloc, text, netlist, list)?;
+    put_merged_of(alloc, text, netlist, list)
 }

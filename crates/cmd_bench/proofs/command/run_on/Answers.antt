@@ -30,4 +30,4 @@ returns g c = λ store.
     let puts = rw (c.as_bytes.ensures.value, c.deref.ensures.0, c.summary-text.ensures, c.saturating_sub.ensures, c.loads_of.ensures) at c.write.ensures.puts in
     kept-gives _ _ _ _ _ c.in_ok-image.image _ _ _ _ (c.in_ok-image.ensures.took _) (λ s. s) refl
     (kept-gives _ _ _ _ _ c.in_ok-ones.ones _ _ _ _ (e.took store _) (λ s. s) e.machine
-    (line-kept _ _ store _ _ _ _ (rw (summary-is laws.tables laws.nets c.args.n c.args.task.now.netlist.now c.in_ok-ones.ones _ c.requires.netlist) puts) refl))
+    (line-kept _ _ store _ _ _ _ (rw (summary-is laws.tables laws.nets c.args.task.now.n c.args.task.now.netlist.now c.in_ok-ones.ones _ c.requires.netlist) puts) refl))

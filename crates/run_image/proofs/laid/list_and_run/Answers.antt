@@ -1,6 +1,6 @@
-use Rattle.run_image.proofs.Vocabulary.{◌∙◌, ap, sym, refl, Some, arith, err_from_is_err_and, Shape}
+use Rattle.run_image.proofs.Vocabulary.{refl, arith, err_from_is_err_and}
 use Rattle.diag_list.proofs.ListedLemmas.{list-shape}
-use Rattle.run_image.proofs.Following.{list-fails, lay-fails, laid-runs}
+use Rattle.run_image.proofs.Following.{list-fails, listed-then}
 use Rattle.run_image.proofs.laid.list_and_run.Goals as goal
 
 pub returns-in_err-list : goal.returns-in_err-list
@@ -10,36 +10,21 @@ returns-in_err-list g c = record {
       rw (p.1, p.2) (list-fails (g.L.Lays.laid c.args.what.now) c.args.shape.now before (record { begun = begun; failures = failures; files = files; vectors = c.args.vectors.now }) _ _ _ _ _ loads c.in_err-list.ensures.machine at _ _ refl (c.in_err-list.ensures.written _));
 }
 
-pub returns-in_err-image : goal.returns-in_err-image
-returns-in_err-image g c = record {
-  follows = λ before failures files begun loads few at same.
-      let p = err_from_is_err_and c.from_residual-in_err-image.result c.from_residual-in_err-image.ensures.1 in
-      rw (p.1, p.2) (lay-fails (g.L.Lays.laid c.args.what.now) c.args.shape.now before (record { begun = begun; failures = failures; files = files; vectors = c.args.vectors.now }) _ _ _ _ _ loads c.in_ok-list.ensures.machine at c.in_ok-list.list (c.in_ok-list.ensures.written _) _ _ refl (c.in_err-image.ensures.took _));
-}
-
-pub run_copies-requires-clause-shape : goal.run_copies-requires-clause-shape
-run_copies-requires-clause-shape g c =
+pub lay_and_run-requires : goal.lay_and_run-requires
+lay_and_run-requires g c =
     let box0 = c.args.rig.now in
     let r0 = (goal.Rig-dyn g (box0.vtable, box0.value)).rig_state box0.value in
     let box1 = c.write_list.new.rig in
     let r1 = (goal.Rig-dyn g (box1.vtable, box1.value)).rig_state box1.value in
-    let s = g.S.Store.store_state c.args.store.now in
-    let on = g.met.L.Lays.right c.args.what.now c.in_ok-list.list c.in_ok-image.image (c.in_ok-image.ensures.took (record { store = s; rig = r1; sink = g.K.Sink.sink_state c.write_list.new.sink })).gives in
-    list-shape r0 r1 c.args.shape.now c.in_ok-list.list c.in_ok-list.ensures.machine (c.in_ok-list.ensures.written s).0.gives.shape c.requires ∙ ap (λ (m : Shape). Some m) (sym on.shape)
-
-pub run_copies-requires-clause-shares : goal.run_copies-requires-clause-shares
-run_copies-requires-clause-shares g c =
-    let box1 = c.write_list.new.rig in
-    let r1 = (goal.Rig-dyn g (box1.vtable, box1.value)).rig_state box1.value in
-    let s = g.S.Store.store_state c.args.store.now in
-    let on = g.met.L.Lays.right c.args.what.now c.in_ok-list.list c.in_ok-image.image (c.in_ok-image.ensures.took (record { store = s; rig = r1; sink = g.K.Sink.sink_state c.write_list.new.sink })).gives in
-    rw c.copies.ensures on.shares
+    let written = c.in_ok-list.ensures.written (g.S.Store.store_state c.args.store.now) in
+    list-shape r0 r1 c.args.shape.now c.in_ok-list.list c.in_ok-list.ensures.machine written.0.gives.shape c.requires
 
 pub returns : goal.returns
 returns g c = record {
   follows = λ before failures files begun loads few at same.
-      let took = c.in_ok-image.ensures.took _ in
-      let on = g.met.L.Lays.right c.args.what.now c.in_ok-list.list c.in_ok-image.image took.gives in
-      laid-runs (g.L.Lays.laid c.args.what.now) c.args.shape.now before (record { begun = begun; failures = failures; files = files; vectors = c.args.vectors.now }) _ _ _ _ _ loads c.in_ok-list.ensures.machine at c.in_ok-list.list (c.in_ok-list.ensures.written _) c.in_ok-image.image c.copies.result _ _ c.copies.ensures same took on
-      (c.run_copies.ensures.follows files begun failures at (omega (arith, few, (c.in_ok-list.ensures.written (g.S.Store.store_state c.args.store.now)).0.later.rig)));
+      let box0 = c.args.rig.now in
+      let r0 = (goal.Rig-dyn g (box0.vtable, box0.value)).rig_state box0.value in
+      let written = c.in_ok-list.ensures.written (g.S.Store.store_state c.args.store.now) in
+      listed-then (g.L.Lays.laid c.args.what.now) c.args.shape.now before (record { begun = begun; failures = failures; files = files; vectors = c.args.vectors.now }) _ _ _ _ _ loads c.in_ok-list.ensures.machine at c.in_ok-list.list written _ _
+      (c.lay_and_run.ensures.follows r0.loads failures files begun (c.args.shape.now, written.0.gives) (omega (arith, few, written.0.later.rig)) at same);
 }
