@@ -15,6 +15,7 @@ mod Looking
 mod Leaving
 mod Ending
 mod Taken
+mod Remaining
 mod Listing
 mod Circling
 mod Learning

@@ -1,6 +1,6 @@
 -- What the tests of tables keep, table by table.
-use Rattle.std.proofs.Common.{◌≡◌, ℕ, zero, suc, ◌+◌, ◌<◌, ◌≤◌, Bool, Some, Option, List, [], ◌∷◌, length, get_or, refl, sym, ap, ◌∙◌, subst, arith, All, slice_get}
-use Rattle.diag_growth.proofs.Vocabulary.{slice_get_within, Shape, Table, crosses_of, tables_of, hextant_of, IsLine, IsPort, Faults}
+use Rattle.std.proofs.Common.{◌≡◌, ℕ, zero, suc, ◌+◌, ◌<◌, ◌≤◌, Bool, true, false, not, Some, Option, List, [], ◌∷◌, length, get_or, refl, sym, ap, ◌∙◌, subst, arith, All, slice_get}
+use Rattle.diag_growth.proofs.Vocabulary.{false≢true, more_itself, slice_get_within, Shape, Table, crosses_of, tables_of, hextant_of, IsLine, IsPort, Faults}
 use Rattle.diag_growth.proofs.Vocabulary.{StandsBy, IsOutside, StandsWithout, IsSeated, IsRightTable, Kept, HoldsFor, IsMore, KnownWires}
 use Rattle.diag_growth.proofs.Vocabulary.{HasWire, IsKnown, IsKeptCrossOf, InSet, AreAllWithout, IsPlaceAt, IsWithout, SeatedIsKept}
 use Rattle.diag_growth.proofs.Vocabulary.{SeatedAreKept, VerifiedWire, known_later, KeepsTable, TableIf, AddsOnlyTableFacts}
@@ -62,6 +62,19 @@ tested_on {told} {k} {l} {n} {ss} {tables} {i} {t} later first only more this ol
 pub tested_all : {told : Option Faults} {k l : Kept} {ss : List VerifiedWire} {tables : List Table} {n : ℕ} → AreTested told k l ss tables n → length tables ≤ n → SeatedAreKept told k l ss tables
 tested_all {tables = tables} {n = n} are le = record { each = λ j t here. are.each j t (let low = slice_get_within tables j t here in omega (arith, low, le)) here }
 
+-- no facts are new
+pub only_none : {k : Kept} → AddsOnlyTableFacts k k
+only_none = record { crosses = λ x. refl; wires = λ w. refl; apart = λ w. refl }
+
+-- where no test is made
+pub tested_next : {told : Option Faults} {k : Kept} {ss : List VerifiedWire} {tables : List Table} {i : ℕ} {t : Table} → slice_get tables i ≡ Some t → AreTested told k k ss tables i → SeatedIsKept told k k ss t.0 →
+    AreTested told k k ss tables (i + 1)
+tested_next {k = k} this old new = tested_on (λ f is h. h) (more_itself k) only_none (more_itself k) this old new
+
+pub is_off : (b : Bool) → not b ≡ true → b ≡ false
+is_off true e = absurd (false≢true e)
+is_off false e = refl
+
 -- the table at a place
 pub table_at : (tables : List Table) (i : ℕ) (t d : Table) → i < length tables → t ≡ get_or tables i d → slice_get tables i ≡ Some t
 table_at [] i t d below e = absurd (let no : ⊥ = omega (arith, below) in no)
@@ -72,10 +85,7 @@ table_at (u ∷ tables) (suc i) t d below e = table_at tables i t d (omega (arit
 pub table_below : (k l : Kept) → l.shape ≡ k.shape → (tables : List Table) (i : ℕ) (d : Table) → i < length tables → All (λ (t : Table). t.0 < tables_of k.shape) tables → (get_or tables i d).0 < tables_of l.shape
 table_below k l e tables i d below all = subst (λ (m : Shape). (get_or tables i d).0 < tables_of m) (sym e) (all i d below)
 
--- no facts are new, and one after the other
-pub only_none : {k : Kept} → AddsOnlyTableFacts k k
-only_none = record { crosses = λ x. refl; wires = λ w. refl; apart = λ w. refl }
-
+-- .. and one after the other
 pub only_then : {k l n : Kept} → AddsOnlyTableFacts k l → AddsOnlyTableFacts l n → AddsOnlyTableFacts k n
 only_then f g = record { crosses = λ x. g.crosses x ∙ f.crosses x; wires = λ w. g.wires w ∙ f.wires w; apart = λ w. g.apart w ∙ f.apart w }
 

@@ -10,3 +10,4 @@ pub mod Choices
 pub mod Partings
 pub mod Grown
 pub mod Looks
+pub mod Rest

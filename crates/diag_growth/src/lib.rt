@@ -45,6 +45,7 @@ mod learn;
 mod look;
 mod outside;
 mod parts;
+mod rest;
 mod rounds;
 mod search;
 mod seat;

@@ -13,6 +13,7 @@ ghost use Rattle.diag_growth.specs.Looks.{AreAllMarks, AreTried, Grows, IsLinkin
 use crate::complete::is_complete;
 use crate::learn::try_pin;
 use crate::look::look_at;
+use crate::rest::rest_of;
 use diag_evidence::Facts;
 use diag_known::{Field, Known, Marks, Near, links_of};
 use machine_shape::{Pin, the_crosspoints_are_sound, the_numbering_is_sound};
@@ -145,8 +146,9 @@ fn grow_tried(
 /// of the machine or has two crosspoints of the field that aren't stuck to two different known wires, is known, and each crosspoint of
 /// the field between two known wires is kept unless it is stuck. What was known stays known, and what is new is of the field. What is kept
 /// costs nothing again: it takes at most 8 loads for each crosspoint of the field that the proof doesn't keep and 3 for each of its
-/// wires, less one for each pin of the machine in it, and without faults 2 and 3, less one for each such pin, whatever it answers. Where
-/// nothing is left to be found it makes no list of the field's crosspoints, which takes 16 bytes for each.
+/// wires, less one for each pin of the machine in it, and without faults 2 and 3, less one for each such pin, whatever it answers. Its
+/// list of crosspoints, 16 bytes or more for each, has those alone that aren't kept or have an end that isn't known; where nothing is
+/// left to be found it makes none.
 ///
 /// # Errors
 ///
@@ -175,5 +177,8 @@ pub fn grow(
     if is_complete(facts, known, field) {
         return Ok(());
     }
-    grow_tried(rig, facts, known, field)
+    let Ok(rest) = rest_of(facts, known, field) else {
+        return Err(RigFail::Memory);
+    };
+    grow_tried(rig, facts, known, &rest)
 }

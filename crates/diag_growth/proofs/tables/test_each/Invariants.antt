@@ -1,6 +1,6 @@
 use Rattle.diag_growth.proofs.Vocabulary.{◌≤◌, ◌+◌, ◌*◌, take, Advances, AddsOnlyTableFacts, AreAllWithout, fresh_tables, ForEach}
 use Rattle.diag_growth.proofs.Testing.{AreTested}
-use Rattle.diag_growth.proofs.tables.test_tables.Given as goal
+use Rattle.diag_growth.proofs.tables.test_each.Given as goal
 
 abbrev pub invariant-tables : goal.invariant-tables
 invariant-tables g l =
