@@ -4,7 +4,7 @@ use Rattle.diag_check.proofs.Vocabulary.{set, false≢true, count_by_more_yes, c
 use Rattle.diag_check.proofs.Vocabulary.{has_number, size_of, Shape, Cross, Wire, HasCrosses, crosses_of, ends_of, node_of, parent_of}
 use Rattle.diag_check.proofs.Vocabulary.{IsFieldOf, Gets, IsWireBefore, Field, IsAmong, Frame, Picks, some_same}
 use Rattle.std.proofs.Math.Nat.{mul-le-mul_left, mul-le-mul_right}
-use Rattle.diag_check.specs.Fields.{IsCrossOf, IsBetween, IsCrossBefore, IsPicksOf, IsOfEither, of_own, of_lines, IsPickOf, IsJointOf, own_joint, up_joint, OfMarked, IsHungAt, IsHungOn}
+use Rattle.diag_check.specs.Fields.{IsCrossOf, IsOnLines, IsBetween, IsCrossBefore, IsPicksOf, IsOfEither, of_own, of_lines, IsPickOf, IsJointOf, own_joint, up_joint, OfMarked, IsHungAt, IsHungOn}
 use Rattle.diag_known.proofs.Getting.{below_or, gets_none, gets_one, gets_more, gets_fewer}
 
 -- what holds of each element holds of that at a place
@@ -36,6 +36,18 @@ module _ (m : Shape) where
     where
       from : (y : ℕ) → IsCrossOf m t l y → ⊥ ⊎ (y ≡ c)
       from y p = inr (let at : ends_of m y ≡ (t, l) = λ j. (p.tap j, p.line j) in crosses.one y c p.within below (at ∙ sym e))
+
+  -- with one more tap, whose crosspoints with all lines were marked
+  pub between_next : (taps lines : List Wire) (n : ℕ) (t : Wire) {old mid new : List Bool} → Gets (IsBetween m taps lines n) (n * length lines) old mid → slice_get taps n ≡ Some t →
+      Gets (IsOnLines m t.0 lines (length lines)) (length lines) mid new → Gets (IsBetween m taps lines (n + 1)) ((n + 1) * length lines) old new
+  between_next taps lines n t g here h = gets_more g h from (omega arith)
+    where
+      from : (y : ℕ) → IsBetween m taps lines (n + 1) y → IsBetween m taps lines n y ⊎ IsOnLines m t.0 lines (length lines) y
+      from y p = by (below_or n p.place p.early)
+        where
+          by : (p.place < n) ⊎ (p.place ≡ n) → IsBetween m taps lines n y ⊎ IsOnLines m t.0 lines (length lines) y
+          by (inl l) = inl (record { place = p.place; tap = p.tap; early = l; here = p.here; cross = p.cross })
+          by (inr e) = inr (subst (λ (z : Wire). IsOnLines m z.0 lines (length lines) y) (some_same (sym p.here ∙ ap (slice_get taps) e ∙ here)) p.cross)
 
 -- ---- what is picked of a node
 

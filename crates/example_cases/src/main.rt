@@ -8,6 +8,7 @@
 #![tactic(auto)]
 
 mod commands;
+mod over;
 mod rigs;
 
 use example_kit::{verdict, words_of_part};

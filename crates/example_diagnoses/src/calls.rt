@@ -5,25 +5,104 @@ ghost use Rattle.machine_shape.specs.Shape.{tables_of};
 ghost use Rattle.diag_known.specs.Field.{IsFieldOf};
 ghost use Rattle.example_diagnoses.specs.Stages.{IsStageOf};
 
-use crate::choices::choose_once;
-use crate::fields::{Task, area_of, draw_part, whole};
-use crate::flags::Parts;
-use crate::judge::{Judge, judge_of};
-use crate::picture::{Marks, Picture, Stage};
-use crate::steps::{first_stage, grow_stage, sweep_stage, test_stage};
+use crate::fields::{Task, draw_part, whole};
+use crate::judge::{Call, Judge, Loads, judge_of};
+use crate::marked::sweep_is_right;
+use crate::picture::{Picture, Stage};
+use crate::steps::{
+    choices_of, choose_stage, first_stage, grow_stage, sweep_chosen, sweep_stage, test_stage,
+};
 use base_random::Draws;
+use diag_sweep::Choices;
 use machine_faults::FaultSet;
-use machine_shape::{Shape, Table};
+use machine_shape::Shape;
 use rig::Rig;
 use std::alloc::Global;
 
-// A sweep of a field and some tables.
+/// What is tried with a machine.
+#[derive(Clone, Copy)]
+pub enum Way {
+    /// A sweep of all of the machine of `marked`.
+    Sweep,
+    /// The whole, and all calls over a part of the machine and then over all of it.
+    All,
+}
+
+// Makes a call.
+fn make(
+    alloc: Global,
+    rig: &mut Box<dyn Rig>,
+    stage: &mut Stage,
+    task: &Task,
+    choices: &mut Choices,
+    call: Call,
+) -> Result<(), &'static str>
+    requires attached { shape_of (rig_state rig.old) ≡ Some stage.old.facts.shape }
+    requires stage { IsStageOf stage.old.facts.shape stage.old }
+    requires field { IsFieldOf stage.old.facts.shape task.now.field }
+    ensures attached { shape_of (rig_state rig.new) ≡ Some stage.old.facts.shape }
+    ensures stage { IsStageOf stage.old.facts.shape stage.new }
+{
+    match call {
+        Call::Sweep => sweep_stage(rig, stage, task),
+        Call::Choose => choose_stage(rig, stage, task, choices),
+        Call::SweepChosen => sweep_chosen(rig, stage, task, choices),
+        Call::Grow => grow_stage(alloc, rig, stage, task),
+        Call::Test => Err("tables are tested last"),
+    }
+}
+
+// Makes a call, and counts its loads.
+fn make_counted(
+    alloc: Global,
+    rig: &mut Box<dyn Rig>,
+    stage: &mut Stage,
+    task: &Task,
+    choices: &mut Choices,
+    call: Call,
+) -> Result<Loads, &'static str>
+    requires attached { shape_of (rig_state rig.old) ≡ Some stage.old.facts.shape }
+    requires stage { IsStageOf stage.old.facts.shape stage.old }
+    requires field { IsFieldOf stage.old.facts.shape task.now.field }
+    ensures attached { shape_of (rig_state rig.new) ≡ Some stage.old.facts.shape }
+    ensures stage { IsStageOf stage.old.facts.shape stage.new }
+{
+    let before = rig.loads().saturating_add(choices.left);
+    make(alloc, rig, stage, task, choices, call)?;
+    let after = rig.loads().saturating_add(choices.left);
+    Ok(Loads { before, after })
+}
+
+// Makes a call, and looks at what it leaves.
+fn once(
+    rig: &mut Box<dyn Rig>,
+    stage: &mut Stage,
+    judge: &Judge,
+    task: &Task,
+    choices: &mut Choices,
+    call: Call,
+) -> Result<(), &'static str>
+    requires attached { shape_of (rig_state rig.old) ≡ Some stage.old.facts.shape }
+    requires stage { IsStageOf stage.old.facts.shape stage.old }
+    requires field { IsFieldOf stage.old.facts.shape task.now.field }
+    ensures attached { shape_of (rig_state rig.new) ≡ Some stage.old.facts.shape }
+    ensures stage { IsStageOf stage.old.facts.shape stage.new }
+{
+    match judge.picture(stage) {
+        Ok(before) => {
+            let made = make_counted(judge.alloc, rig, stage, task, choices, call);
+            judge.hold_stage(call, &task.area, &before, stage, made)
+        }
+        Err(wrong) => Err(wrong),
+    }
+}
+
+// A sweep.
 fn sweep_once(
     rig: &mut Box<dyn Rig>,
     stage: &mut Stage,
     judge: &Judge,
     task: &Task,
-    area: &Parts,
 ) -> Result<(), &'static str>
     requires attached { shape_of (rig_state rig.old) ≡ Some stage.old.facts.shape }
     requires stage { IsStageOf stage.old.facts.shape stage.old }
@@ -31,56 +110,19 @@ fn sweep_once(
     ensures attached { shape_of (rig_state rig.new) ≡ Some stage.old.facts.shape }
     ensures stage { IsStageOf stage.old.facts.shape stage.new }
 {
-    let before = judge.picture(stage)?;
-    let loads = rig.loads();
-    sweep_stage(rig, stage, task)?;
-    let taken = rig.loads().saturating_sub(loads);
-    judge.hold_sweep(area, &before, stage, taken)
-}
-
-// The same, and what is marked behind it.
-fn sweep_task(
-    rig: &mut Box<dyn Rig>,
-    stage: &mut Stage,
-    judge: &Judge,
-    task: &Task,
-) -> Result<Marks, &'static str>
-    requires attached { shape_of (rig_state rig.old) ≡ Some stage.old.facts.shape }
-    requires stage { IsStageOf stage.old.facts.shape stage.old }
-    requires field { IsFieldOf stage.old.facts.shape task.now.field }
-{
-    let area = area_of(judge.alloc, &stage.facts.shape(), task)
-        .ok()
-        .ok_or("no memory")?;
-    sweep_once(rig, stage, judge, task, &area)?;
-    let picture = judge.picture(stage)?;
-    Ok(picture.marks)
-}
-
-// A sweep of all of the machine, and what is marked behind it.
-fn sweep_all(
-    rig: &mut Box<dyn Rig>,
-    stage: &mut Stage,
-    judge: &Judge,
-) -> Result<Marks, &'static str>
-    requires attached { shape_of (rig_state rig.old) ≡ Some stage.old.facts.shape }
-    requires stage { IsStageOf stage.old.facts.shape stage.old }
-{
-    let shape = stage.facts.shape();
-    let mut draws = Draws::new(0);
-    match whole(judge.alloc, &mut draws, &shape) {
-        Ok(all) => sweep_task(rig, stage, judge, &all),
-        Err(_) => Err("no memory"),
+    match choices_of(stage, task) {
+        Ok(mut choices) => once(rig, stage, judge, task, &mut choices, Call::Sweep),
+        Err(wrong) => Err(wrong),
     }
 }
 
-// A growth in what isn't marked of a field.
-fn grow_once(
+// A choice, the sweep behind it, and a growth in what isn't marked.
+fn choose_and_grow(
     rig: &mut Box<dyn Rig>,
     stage: &mut Stage,
     judge: &Judge,
     task: &Task,
-    area: &Parts,
+    choices: &mut Choices,
 ) -> Result<(), &'static str>
     requires attached { shape_of (rig_state rig.old) ≡ Some stage.old.facts.shape }
     requires stage { IsStageOf stage.old.facts.shape stage.old }
@@ -88,32 +130,12 @@ fn grow_once(
     ensures attached { shape_of (rig_state rig.new) ≡ Some stage.old.facts.shape }
     ensures stage { IsStageOf stage.old.facts.shape stage.new }
 {
-    let before = judge.picture(stage)?;
-    let loads = rig.loads();
-    grow_stage(judge.alloc, rig, stage, task)?;
-    let taken = rig.loads().saturating_sub(loads);
-    judge.hold_growth(area, &before, stage, taken)
+    once(rig, stage, judge, task, choices, Call::Choose)?;
+    once(rig, stage, judge, task, choices, Call::SweepChosen)?;
+    once(rig, stage, judge, task, choices, Call::Grow)
 }
 
-// The tests of these tables.
-fn test_once(
-    rig: &mut Box<dyn Rig>,
-    stage: &mut Stage,
-    judge: &Judge,
-    tables: &[Table],
-) -> Result<Picture, &'static str>
-    requires attached { shape_of (rig_state rig.old) ≡ Some stage.old.facts.shape }
-    requires stage { IsStageOf stage.old.facts.shape stage.old }
-    requires tables { All (λ t. t.0 < tables_of stage.old.facts.shape) tables.now }
-{
-    let before = judge.picture(stage)?;
-    let loads = rig.loads();
-    test_stage(rig, stage, tables)?;
-    let taken = rig.loads().saturating_sub(loads);
-    judge.hold_tables(&before, stage, taken)
-}
-
-// A sweep, a choice and a growth behind them.
+// All calls but the tests of tables.
 fn know_task(
     rig: &mut Box<dyn Rig>,
     stage: &mut Stage,
@@ -126,15 +148,50 @@ fn know_task(
     ensures attached { shape_of (rig_state rig.new) ≡ Some stage.old.facts.shape }
     ensures stage { IsStageOf stage.old.facts.shape stage.new }
 {
-    let area = area_of(judge.alloc, &stage.facts.shape(), task)
-        .ok()
-        .ok_or("no memory")?;
-    sweep_once(rig, stage, judge, task, &area)?;
-    choose_once(rig, stage, judge, task, &area)?;
-    grow_once(rig, stage, judge, task, &area)
+    sweep_once(rig, stage, judge, task)?;
+    match choices_of(stage, task) {
+        Ok(mut choices) => choose_and_grow(rig, stage, judge, task, &mut choices),
+        Err(wrong) => Err(wrong),
+    }
 }
 
-// A part of the machine first.
+// The tests of tables, and how many loads they took.
+fn test_counted(
+    rig: &mut Box<dyn Rig>,
+    stage: &mut Stage,
+    task: &Task,
+) -> Result<Loads, &'static str>
+    requires attached { shape_of (rig_state rig.old) ≡ Some stage.old.facts.shape }
+    requires stage { IsStageOf stage.old.facts.shape stage.old }
+    requires tables { All (λ t. t.0 < tables_of stage.old.facts.shape) task.now.tables.items }
+{
+    let before = rig.loads();
+    test_stage(rig, stage, &task.tables)?;
+    let after = rig.loads();
+    Ok(Loads { before, after })
+}
+
+// The tests of tables, and a look at what they leave.
+fn test_once(
+    rig: &mut Box<dyn Rig>,
+    stage: &mut Stage,
+    judge: &Judge,
+    task: &Task,
+) -> Result<(), &'static str>
+    requires attached { shape_of (rig_state rig.old) ≡ Some stage.old.facts.shape }
+    requires stage { IsStageOf stage.old.facts.shape stage.old }
+    requires tables { All (λ t. t.0 < tables_of stage.old.facts.shape) task.now.tables.items }
+{
+    match judge.picture(stage) {
+        Ok(before) => {
+            let made = test_counted(rig, stage, task);
+            judge.hold_stage(Call::Test, &task.area, &before, stage, made)
+        }
+        Err(wrong) => Err(wrong),
+    }
+}
+
+// All calls over a part of the machine.
 fn know_part(
     rig: &mut Box<dyn Rig>,
     stage: &mut Stage,
@@ -146,90 +203,92 @@ fn know_part(
     ensures attached { shape_of (rig_state rig.new) ≡ Some stage.old.facts.shape }
     ensures stage { IsStageOf stage.old.facts.shape stage.new }
 {
-    let Ok(part) = draw_part(judge.alloc, draws, &stage.facts.shape()) else {
-        return Err("no memory");
-    };
-    know_task(rig, stage, judge, &part)
+    match draw_part(judge.alloc, draws, &stage.facts.shape()) {
+        Ok(part) => know_task(rig, stage, judge, &part),
+        Err(_) => Err("no memory"),
+    }
 }
 
-// All of the machine, and then its tables.
+// A sweep of all of the machine, or first all calls over a part of it, and then all of them over all of it.
 fn know_whole(
     rig: &mut Box<dyn Rig>,
     stage: &mut Stage,
     judge: &Judge,
+    draws: &mut Draws,
     all: &Task,
-) -> Result<Picture, &'static str>
+    way: Way,
+) -> Result<(), &'static str>
     requires attached { shape_of (rig_state rig.old) ≡ Some stage.old.facts.shape }
     requires stage { IsStageOf stage.old.facts.shape stage.old }
     requires field { IsFieldOf stage.old.facts.shape all.now.field }
     requires tables { All (λ t. t.0 < tables_of stage.old.facts.shape) all.now.tables.items }
 {
-    know_task(rig, stage, judge, all)?;
-    test_once(rig, stage, judge, &all.tables)
+    match way {
+        Way::Sweep => sweep_once(rig, stage, judge, all),
+        Way::All => {
+            know_part(rig, stage, judge, draws)?;
+            know_task(rig, stage, judge, all)?;
+            test_once(rig, stage, judge, all)
+        }
+    }
 }
 
-// Both.
-fn know_all(
+// The same, and what is known behind it.
+fn know_stage(
     rig: &mut Box<dyn Rig>,
     stage: &mut Stage,
     judge: &Judge,
     draws: &mut Draws,
+    way: Way,
 ) -> Result<Picture, &'static str>
     requires attached { shape_of (rig_state rig.old) ≡ Some stage.old.facts.shape }
     requires stage { IsStageOf stage.old.facts.shape stage.old }
 {
-    know_part(rig, stage, judge, draws)?;
-    let Ok(all) = whole(judge.alloc, draws, &stage.facts.shape()) else {
-        return Err("no memory");
-    };
-    know_whole(rig, stage, judge, &all)
+    match whole(judge.alloc, draws, &stage.facts.shape()) {
+        Ok(all) => know_whole(rig, stage, judge, draws, &all, way)?,
+        Err(_) => return Err("no memory"),
+    }
+    judge.picture(stage)
 }
 
-// A sweep of all of a machine of which nothing is known, and what is marked behind it.
-fn sweep_anew(
-    alloc: Global,
-    rig: &mut Box<dyn Rig>,
-    judge: &Judge,
-    shape: &Shape,
-) -> Result<Marks, &'static str>
-    requires { shape_of (rig_state rig.old) ≡ Some shape.now }
-{
-    let mut stage = first_stage(alloc, shape)?;
-    sweep_all(rig, &mut stage, judge)
-}
-
-// A part of a machine of which nothing is known, then all of it, and then its tables.
+// The same of a machine of which nothing is known.
 fn know_anew(
-    alloc: Global,
     rig: &mut Box<dyn Rig>,
     judge: &Judge,
     draws: &mut Draws,
     shape: &Shape,
+    way: Way,
 ) -> Result<Picture, &'static str>
     requires { shape_of (rig_state rig.old) ≡ Some shape.now }
 {
-    let mut stage = first_stage(alloc, shape)?;
-    know_all(rig, &mut stage, judge, draws)
+    match first_stage(judge.alloc, shape) {
+        Ok(mut stage) => know_stage(rig, &mut stage, judge, draws, way),
+        Err(wrong) => Err(wrong),
+    }
 }
 
-/// Sweeps all of a machine of which nothing is known, looks at what that leaves, and gives the marks.
-///
-/// # Errors
-///
-/// What is wrong with facts and marks, or with the loads.
-pub fn marks_of_sweep(
-    alloc: Global,
+// The same, and a look at what is known at last.
+fn try_judged(
     rig: &mut Box<dyn Rig>,
+    judge: &Judge,
+    draws: &mut Draws,
     faults: &FaultSet,
-) -> Result<Marks, &'static str>
+    way: Way,
+) -> Result<(), &'static str>
     requires attached { shape_of (rig_state rig.old) ≡ Some faults.now.shape }
 {
-    let judge = judge_of(alloc, faults)?;
-    sweep_anew(alloc, rig, &judge, &faults.shape())
+    match know_anew(rig, judge, draws, &faults.shape(), way) {
+        Ok(last) => match way {
+            Way::Sweep => sweep_is_right(&last.marks),
+            Way::All => judge.tables_are_closed(faults, &last),
+        },
+        Err(wrong) => Err(wrong),
+    }
 }
 
 /// Sweeps, chooses and grows over a part of a machine and then over all of it, tests its tables, and looks at what each call leaves:
 /// facts and marks are true, loads are within their bounds, and what is known and kept is closed, tables that can be tested among it.
+/// Or it sweeps all of it, and looks at what that marks.
 ///
 /// # Errors
 ///
@@ -239,10 +298,12 @@ pub fn try_calls(
     rig: &mut Box<dyn Rig>,
     draws: &mut Draws,
     faults: &FaultSet,
+    way: Way,
 ) -> Result<(), &'static str>
     requires attached { shape_of (rig_state rig.old) ≡ Some faults.now.shape }
 {
-    let judge = judge_of(alloc, faults)?;
-    let last = know_anew(alloc, rig, &judge, draws, &faults.shape())?;
-    judge.tables_are_closed(faults, &last)
+    match judge_of(alloc, faults) {
+        Ok(judge) => try_judged(rig, &judge, draws, faults, way),
+        Err(wrong) => Err(wrong),
+    }
 }

@@ -25,6 +25,15 @@ fn say(feet: &mut [Feet], wires: &Flags, wire: u32, other: u32) {
     };
 }
 
+// Which lead to two.
+fn two_of(alloc: Global, feet: &[Feet]) -> Result<Flags, AllocError> {
+    let mut two = Vec::new(alloc);
+    'feet: for foot in feet {
+        two.push(*foot == Feet::Two)?;
+    }
+    Ok(Flags::new(two))
+}
+
 /// For each wire of as many as these, whether two of the crosspoints, each given by its tap and its line, lead from it to two
 /// different ones of these.
 pub fn on_two(alloc: Global, crosses: &[(u32, u32)], wires: &Flags) -> Result<Flags, AllocError> {
@@ -33,6 +42,5 @@ pub fn on_two(alloc: Global, crosses: &[(u32, u32)], wires: &Flags) -> Result<Fl
         say(&mut feet, wires, *tap, *line);
         say(&mut feet, wires, *line, *tap);
     }
-    let two = feet.iter().map(|f| *f == Feet::Two);
-    Ok(Flags::new(two.collect(alloc)?))
+    two_of(alloc, &feet)
 }

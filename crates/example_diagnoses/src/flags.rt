@@ -14,23 +14,28 @@ impl Flags {
         Flags(list)
     }
 
+    /// Of no numbers. Takes no memory.
+    pub fn empty(alloc: Global) -> Flags {
+        Flags(Vec::new(alloc))
+    }
+
     /// No marks, of so many numbers.
     pub fn none(alloc: Global, len: u32) -> Result<Flags, AllocError> {
         Ok(Flags(vec![in alloc; false; len as usize]?))
     }
 
-    /// The numbers of a set.
-    pub fn of_set(alloc: Global, set: &BitSet) -> Result<Flags, AllocError> {
-        let mut list = Vec::new(alloc);
-        'numbers: for i in 0..set.len() {
-            list.push(set.has(i))?;
-        }
-        Ok(Flags(list))
+    /// Adds a number behind the last, marked or not.
+    pub fn push(&mut self, marked: bool) -> Result<(), AllocError> {
+        self.0.push(marked)?;
+        Ok(())
     }
 
-    /// The same marks again.
-    pub fn copy(&self, alloc: Global) -> Result<Flags, AllocError> {
-        Ok(Flags(Vec::from_slice(alloc, &self.0)?))
+    /// Adds the numbers of a set.
+    pub fn add_set(&mut self, set: &BitSet) -> Result<(), AllocError> {
+        'numbers: for i in 0..set.len() {
+            self.0.push(set.has(i))?;
+        }
+        Ok(())
     }
 
     /// Each in turn.
@@ -43,11 +48,6 @@ impl Flags {
         self.0.len()
     }
 
-    /// How many are marked.
-    pub fn count(&self) -> u64 {
-        self.iter().filter(|marked| **marked).count() as u64
-    }
-
     /// Whether the number at a place is marked.
     pub fn at(&self, place: usize) -> bool {
         self.0.get(place) == Some(&true)
@@ -58,6 +58,16 @@ impl Flags {
         self.at(number as usize)
     }
 
+    /// Whether so many numbers are marked, from one on.
+    pub fn has_all(&self, first: usize, many: usize) -> bool {
+        'numbers: for place in first..first.saturating_add(many) {
+            if !self.at(place) {
+                return false;
+            }
+        }
+        true
+    }
+
     /// Marks a number, where it is one of these.
     pub fn mark(&mut self, number: u32) {
         let place = number as usize;
@@ -66,52 +76,60 @@ impl Flags {
         }
     }
 
-    /// What is marked here and not there.
-    pub fn without(&self, alloc: Global, out: &Flags) -> Result<Flags, AllocError> {
-        let mut rest = Vec::new(alloc);
-        'numbers: for (this, out) in self.iter().zip(out.iter()) {
-            rest.push(*this && !*out)?;
+    /// How many are marked, and in neither of two others.
+    pub fn count_outside(&self, one: &Flags, other: &Flags) -> u64 {
+        let mut count = 0u64;
+        'numbers: for place in 0..self.len() {
+            if self.at(place) && !one.at(place) && !other.at(place) {
+                count = count.saturating_add(1);
+            }
         }
-        Ok(Flags(rest))
+        count
+    }
+
+    /// Whether this number is marked and no other.
+    pub fn is_only(&self, number: u32) -> bool {
+        'numbers: for place in 0..self.len() {
+            if self.at(place) && place != number as usize {
+                return false;
+            }
+        }
+        self.has(number)
+    }
+
+    /// What is marked isn't marked there.
+    pub fn is_apart(&self, there: &Flags) -> bool {
+        'numbers: for place in 0..self.len() {
+            if self.at(place) && there.at(place) {
+                return false;
+            }
+        }
+        true
+    }
+
+    /// Whether none is marked.
+    pub fn is_blank(&self) -> bool {
+        self.is_apart(self)
+    }
+
+    /// What is marked is marked in one of two others.
+    pub fn is_within(&self, one: &Flags, other: &Flags) -> bool {
+        'numbers: for place in 0..self.len() {
+            if self.at(place) && !one.at(place) && !other.at(place) {
+                return false;
+            }
+        }
+        true
     }
 
     /// What was marked still is.
     pub fn stays(&self, after: &Flags) -> bool {
-        self.len() == after.len() && self.iter().zip(after.iter()).all(|(was, is)| !*was || *is)
+        self.len() == after.len() && self.is_within(after, after)
     }
 
     /// What is marked afterwards was so before, or is one of these.
     pub fn grows_in(&self, after: &Flags, these: &Flags) -> bool {
-        let both = self.iter().zip(after.iter());
-        both.zip(these.iter())
-            .all(|((was, is), this)| !*is || *was || *this)
-    }
-}
-
-/// Marks in rows.
-#[derive(Drop)]
-pub struct Rows(Vec<Flags>);
-
-impl Rows {
-    /// These rows.
-    pub fn new(rows: Vec<Flags>) -> Rows {
-        Rows(rows)
-    }
-
-    /// Each in turn.
-    pub fn iter(&self) -> Iter<'_, Flags> {
-        self.0.iter()
-    }
-
-    /// The row at a place. None where there are fewer.
-    pub fn get(&self, place: usize) -> Option<&Flags> {
-        self.0.get(place)
-    }
-
-    /// What was marked in each row still is.
-    pub fn stays(&self, after: &Rows) -> bool {
-        self.0.len() == after.0.len()
-            && self.iter().zip(after.iter()).all(|(was, is)| was.stays(is))
+        after.is_within(self, these)
     }
 }
 
@@ -121,4 +139,15 @@ pub struct Parts {
     pub wires: Flags,
     pub crosses: Flags,
     pub tables: Flags,
+}
+
+impl Parts {
+    /// Of none of them. Takes no memory.
+    pub fn empty(alloc: Global) -> Parts {
+        Parts {
+            wires: Flags::empty(alloc),
+            crosses: Flags::empty(alloc),
+            tables: Flags::empty(alloc),
+        }
+    }
 }

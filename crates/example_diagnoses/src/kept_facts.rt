@@ -1,74 +1,31 @@
 //! Whether what is kept and known is so.
 
-use crate::flags::Flags;
 use crate::picture::{KeptFacts, Picture};
-use crate::sight::{Sight, WireSeen, all_hold};
+use crate::sight::{Sight, all_hold};
+use crate::wrongs::Wrongs;
 use diag_known::{Support, SupportedBy, VerifiedWire};
-use machine_shape::Meaning;
 
-// A kept crosspoint isn't stuck.
-fn crosses_are_true(sight: &Sight, kept: &KeptFacts) -> bool {
-    let mut crosses = sight.crosses.iter().zip(kept.crosses.iter());
-    crosses.all(|(c, kept)| !*kept || !c.stuck)
-}
-
-// A kept wire is shorted to no stuck one.
-fn wires_are_true(sight: &Sight, kept: &KeptFacts) -> bool {
-    let mut wires = sight.wires.iter().zip(kept.wires.iter());
-    wires.all(|(w, kept)| !*kept || w.clear)
-}
-
-// The wires with which this one is a kept pair aren't shorted to it.
-fn pairs_with(sight: &Sight, wire: &WireSeen, kept: &Flags) -> bool {
-    sight
-        .wires
-        .iter()
-        .zip(kept.iter())
-        .all(|(w, kept)| !*kept || w.group != wire.group)
-}
-
-fn pairs_are_true(sight: &Sight, kept: &KeptFacts) -> bool {
-    sight
-        .wires
-        .iter()
-        .zip(kept.pairs.iter())
-        .all(|(w, kept)| pairs_with(sight, w, kept))
-}
-
-// No kept cell is wrong.
-fn cells_in(wrong: &Flags, kept: &Flags) -> bool {
-    wrong
-        .iter()
-        .zip(kept.iter())
-        .all(|(wrong, kept)| !*kept || !*wrong)
-}
-
-fn cells_are_true(sight: &Sight, kept: &KeptFacts) -> bool {
-    sight
-        .tables
-        .iter()
-        .zip(kept.cells.iter())
-        .all(|(t, kept)| cells_in(&t.cells, kept))
-}
-
-// A kept register isn't stuck.
-fn registers_are_true(sight: &Sight, kept: &KeptFacts) -> bool {
-    let mut tables = sight.tables.iter().zip(kept.registers.iter());
-    tables.all(|(t, kept)| !*kept || !t.register)
-}
-
-/// Each kept fact is true.
+/// Each kept fact is true: no crosspoint is stuck, no wire shorted to a stuck one, no pair shorted, no cell wrong, no register stuck.
 ///
 /// # Errors
 ///
 /// Which isn't.
-pub fn are_true(sight: &Sight, kept: &KeptFacts) -> Result<(), &'static str> {
+pub fn are_true(wrongs: &Wrongs, kept: &KeptFacts) -> Result<(), &'static str> {
     all_hold(&[
-        (crosses_are_true(sight, kept), "a kept crosspoint is stuck"),
-        (wires_are_true(sight, kept), "a kept wire isn't clear"),
-        (pairs_are_true(sight, kept), "a kept pair is shorted"),
-        (cells_are_true(sight, kept), "a kept cell is wrong"),
-        (registers_are_true(sight, kept), "a kept register is stuck"),
+        (
+            kept.crosses.is_apart(&wrongs.crosses),
+            "a kept crosspoint is stuck",
+        ),
+        (
+            kept.wires.is_apart(&wrongs.wires),
+            "a kept wire isn't clear",
+        ),
+        (kept.pairs.is_apart(&wrongs.pairs), "a kept pair is shorted"),
+        (kept.cells.is_apart(&wrongs.cells), "a kept cell is wrong"),
+        (
+            kept.registers.is_apart(&wrongs.registers),
+            "a kept register is stuck",
+        ),
     ])
 }
 
@@ -83,9 +40,19 @@ pub fn still_are(was: &KeptFacts, is: &KeptFacts) -> bool {
 // Whether two wires are a kept pair.
 fn are_pair(kept: &KeptFacts, a: u32, b: u32) -> bool {
     let (low, high) = if a < b { (a, b) } else { (b, a) };
-    kept.pairs
-        .get(high as usize)
-        .is_some_and(|row| row.has(low))
+    let high = high as usize;
+    let before = high.saturating_mul(high.saturating_sub(1)) / 2;
+    a != b && kept.pairs.at(before.saturating_add(low as usize))
+}
+
+// Whether one of these is the wire.
+fn has_wire(steps: &[VerifiedWire], wire: u32) -> bool {
+    'steps: for step in steps {
+        if step.wire.0 == wire {
+            return true;
+        }
+    }
+    false
 }
 
 // A kept crosspoint leads from the wire to one of these.
@@ -101,7 +68,25 @@ fn is_foot(
     };
     let other = foot.wire.0;
     let leads = cross.ends == (wire, other) || cross.ends == (other, wire);
-    leads && kept.crosses.has(foot.cross.0) && earlier.iter().any(|s| s.wire.0 == other)
+    leads && kept.crosses.has(foot.cross.0) && has_wire(earlier, other)
+}
+
+// Whether each of these is a kept pair with the wire.
+fn are_pairs(kept: &KeptFacts, earlier: &[VerifiedWire], wire: u32) -> bool {
+    'steps: for step in earlier {
+        if !are_pair(kept, step.wire.0, wire) {
+            return false;
+        }
+    }
+    true
+}
+
+// Whether a wire is a pin of the machine.
+fn is_pin(sight: &Sight, wire: u32) -> bool {
+    match sight.wires.get(wire as usize) {
+        Some(wire) => wire.is_pin(),
+        None => false,
+    }
 }
 
 // A known wire is a pin of the machine, or stands on two kept crosspoints to two different wires that came before it; it is kept, and
@@ -109,17 +94,14 @@ fn is_foot(
 fn stands(sight: &Sight, kept: &KeptFacts, earlier: &[VerifiedWire], step: &VerifiedWire) -> bool {
     let wire = step.wire.0;
     let on = match &step.stand {
-        SupportedBy::Pin(_) => sight
-            .wires
-            .get(wire as usize)
-            .is_some_and(|w| matches!(w.meaning, Meaning::Pin { .. })),
+        SupportedBy::Pin(_) => is_pin(sight, wire),
         SupportedBy::Feet(a, b) => {
             a.wire.0 != b.wire.0
                 && is_foot(sight, kept, earlier, wire, a)
                 && is_foot(sight, kept, earlier, wire, b)
         }
     };
-    on && kept.wires.has(wire) && earlier.iter().all(|s| are_pair(kept, s.wire.0, wire))
+    on && kept.wires.has(wire) && are_pairs(kept, earlier, wire)
 }
 
 /// What is known is known by what is kept.

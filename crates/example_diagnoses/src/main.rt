@@ -8,7 +8,6 @@
 
 mod budget;
 mod calls;
-mod choices;
 mod closed;
 mod counts;
 mod faults;
@@ -27,6 +26,7 @@ mod shorts;
 mod sight;
 mod steps;
 mod trial;
+mod wrongs;
 
 use example_kit::verdict;
 use program_main::texts;

@@ -1,12 +1,13 @@
 //! A machine whose faults are said, and what a sweep of all of it marks.
 
-use crate::calls::marks_of_sweep;
-use crate::flags::Flags;
-use crate::trial::rig_with;
+use crate::calls::Way;
+use crate::picture::Marks;
+use crate::sight::all_hold;
+use crate::trial::try_machine;
+use base_random::Draws;
 use example_kit::TINY;
 use machine_faults::read_faults;
 use machine_shape::Shape;
-use rig::Rig;
 use std::alloc::Global;
 use std::io;
 
@@ -19,33 +20,33 @@ const STUCK_LINE: u32 = 4;
 // The number of `r.p0 r.l1`: the crosspoint of the first pin with the first line alone is before it.
 const OPEN_CROSS: u32 = 1;
 
-// This number alone is marked.
-fn is_alone(flags: &Flags, number: u32) -> bool {
-    flags.count() == 1 && flags.has(number)
+/// The line is stuck, and a crosspoint of another line is open: a sweep of all marks these and no others.
+///
+/// # Errors
+///
+/// Which isn't so.
+pub fn sweep_is_right(marks: &Marks) -> Result<(), &'static str> {
+    all_hold(&[
+        (
+            marks.stuck.is_only(OPEN_CROSS),
+            "the open crosspoint isn't the one that is marked",
+        ),
+        (
+            marks.unfit.is_only(STUCK_LINE),
+            "the stuck line isn't the one that is marked",
+        ),
+        (marks.wrong.is_blank(), "a table is marked"),
+    ])
 }
 
-// The line is stuck, and a crosspoint of another line is open: a sweep of all marks these and no others.
 fn sweep_marks_tiny(alloc: Global) -> Result<(), &'static str> {
-    let shape = Shape::new(TINY).ok().ok_or("no shape")?;
-    let Ok(faults) = read_faults(alloc, &shape, FAULTS.as_bytes()) else {
-        return Err("no faults");
+    let Ok(shape) = Shape::new(TINY) else {
+        return Err("no shape");
     };
-    let store = rig_with(alloc, &faults).ok_or("no rig")?;
-    let mut rig: Box<dyn Rig> = Box::new(alloc, store).ok().ok_or("no rig")?;
-    if rig.attach(&shape, "m").is_err() {
-        return Err("no machine");
+    match read_faults(alloc, &shape, FAULTS.as_bytes()) {
+        Ok(faults) => try_machine(alloc, &mut Draws::new(0), &faults, Way::Sweep),
+        Err(_) => Err("no faults"),
     }
-    let marks = marks_of_sweep(alloc, &mut rig, &faults)?;
-    if !is_alone(&marks.stuck, OPEN_CROSS) {
-        return Err("the open crosspoint isn't the one that is marked");
-    }
-    if !is_alone(&marks.unfit, STUCK_LINE) {
-        return Err("the stuck line isn't the one that is marked");
-    }
-    if marks.wrong.count() != 0 {
-        return Err("a table is marked");
-    }
-    Ok(())
 }
 
 /// Tries the machine, and tells whether it is right.

@@ -3,39 +3,16 @@
 use crate::flags::Parts;
 use crate::picture::{Knowing, Marks};
 use crate::sight::{Sight, all_hold};
-
-// A crosspoint that is marked stuck is.
-fn stuck_are_true(sight: &Sight, marks: &Marks) -> bool {
-    sight
-        .crosses
-        .iter()
-        .zip(marks.stuck.iter())
-        .all(|(c, marked)| !*marked || c.stuck)
-}
+use crate::wrongs::Wrongs;
 
 // A wire that is marked unfit isn't clear, or is shorted to a known one.
 fn unfit_are_true(sight: &Sight, marks: &Marks, known: &Knowing) -> bool {
-    sight.wires.iter().zip(marks.unfit.iter()).all(|(w, marked)| !*marked
-        || !w.clear
-        || sight.shorted_to(w, &known.wires) > 0)
-}
-
-// A wire that is marked unclear isn't clear.
-fn unclear_are_true(sight: &Sight, marks: &Marks) -> bool {
-    sight
-        .wires
-        .iter()
-        .zip(marks.unclear.iter())
-        .all(|(w, marked)| !*marked || !w.clear)
-}
-
-// A table that is marked wrong is.
-fn wrong_are_true(sight: &Sight, marks: &Marks) -> bool {
-    sight
-        .tables
-        .iter()
-        .zip(marks.wrong.iter())
-        .all(|(t, marked)| !*marked || !t.is_right())
+    'wires: for w in sight.wires.iter() {
+        if marks.unfit.has(w.number) && w.clear && !sight.is_shorted_to(w, &known.wires) {
+            return false;
+        }
+    }
+    true
 }
 
 /// Each mark is true of these known wires.
@@ -43,10 +20,15 @@ fn wrong_are_true(sight: &Sight, marks: &Marks) -> bool {
 /// # Errors
 ///
 /// Which isn't.
-pub fn are_true(sight: &Sight, marks: &Marks, known: &Knowing) -> Result<(), &'static str> {
+pub fn are_true(
+    sight: &Sight,
+    wrongs: &Wrongs,
+    marks: &Marks,
+    known: &Knowing,
+) -> Result<(), &'static str> {
     all_hold(&[
         (
-            stuck_are_true(sight, marks),
+            marks.stuck.is_within(&wrongs.crosses, &wrongs.crosses),
             "a crosspoint is marked stuck that isn't",
         ),
         (
@@ -54,11 +36,11 @@ pub fn are_true(sight: &Sight, marks: &Marks, known: &Knowing) -> Result<(), &'s
             "a wire is marked unfit that is clear and shorted to no known one",
         ),
         (
-            unclear_are_true(sight, marks),
+            marks.unclear.is_within(&wrongs.wires, &wrongs.wires),
             "a wire is marked unclear that is clear",
         ),
         (
-            wrong_are_true(sight, marks),
+            marks.wrong.is_within(&wrongs.tables, &wrongs.tables),
             "a table is marked wrong that is right",
         ),
     ])

@@ -2,7 +2,7 @@
 ghost use Rattle.std.specs.Prelude.{◌<◌};
 ghost use Rattle.machine_shape.specs.Shape.{tables_of, wires_of};
 
-use crate::flags::{Flags, Rows};
+use crate::flags::Flags;
 use diag_evidence::Facts;
 use diag_known::{Known, VerifiedWire};
 use diag_sweep::DefectMarks;
@@ -17,13 +17,14 @@ pub struct Stage {
     pub bad: DefectMarks,
 }
 
-/// The facts that are kept: of a wire also with which wires of a lower number it is a kept pair, of a table its cells.
+/// The facts that are kept. Pairs stand in the order of their higher wires, and then of their lower ones; cells in that of their
+/// tables, 64 of each.
 #[derive(Drop)]
 pub struct KeptFacts {
     pub crosses: Flags,
     pub wires: Flags,
-    pub pairs: Rows,
-    pub cells: Rows,
+    pub pairs: Flags,
+    pub cells: Flags,
     pub registers: Flags,
 }
 
@@ -51,92 +52,141 @@ pub struct Picture {
     pub marks: Marks,
 }
 
-fn crosses_of(alloc: Global, facts: &Facts) -> Result<Flags, AllocError> {
-    let kept = (0..facts.shape().crosses()).map(|c| facts.keeps_cross(Cross(c)));
-    Ok(Flags::new(kept.collect(alloc)?))
+impl KeptFacts {
+    // Of nothing. Takes no memory.
+    fn empty(alloc: Global) -> KeptFacts {
+        KeptFacts {
+            crosses: Flags::empty(alloc),
+            wires: Flags::empty(alloc),
+            pairs: Flags::empty(alloc),
+            cells: Flags::empty(alloc),
+            registers: Flags::empty(alloc),
+        }
+    }
 }
 
-fn wires_of(alloc: Global, facts: &Facts) -> Result<Flags, AllocError> {
-    let kept = (0..facts.shape().wires()).map(|w| facts.keeps_wire(Wire(w)));
-    Ok(Flags::new(kept.collect(alloc)?))
+impl Marks {
+    // Of nothing. Takes no memory.
+    fn empty(alloc: Global) -> Marks {
+        Marks {
+            stuck: Flags::empty(alloc),
+            unfit: Flags::empty(alloc),
+            unclear: Flags::empty(alloc),
+            wrong: Flags::empty(alloc),
+        }
+    }
+}
+
+impl Picture {
+    // Of nothing. Takes no memory.
+    fn empty(alloc: Global) -> Picture {
+        Picture {
+            kept: KeptFacts::empty(alloc),
+            known: Knowing {
+                steps: Vec::new(alloc),
+                wires: Flags::empty(alloc),
+            },
+            marks: Marks::empty(alloc),
+        }
+    }
+}
+
+fn add_crosses(kept: &mut Flags, facts: &Facts) -> Result<(), AllocError> {
+    'crosses: for c in 0..facts.shape().crosses() {
+        kept.push(facts.keeps_cross(Cross(c)))?;
+    }
+    Ok(())
+}
+
+fn add_wires(kept: &mut Flags, facts: &Facts) -> Result<(), AllocError> {
+    'wires: for w in 0..facts.shape().wires() {
+        kept.push(facts.keeps_wire(Wire(w)))?;
+    }
+    Ok(())
 }
 
 // With which wires of a lower number a wire is a kept pair.
-fn pairs_with(alloc: Global, facts: &Facts, wire: u32) -> Result<Flags, AllocError>
+fn add_pairs_with(kept: &mut Flags, facts: &Facts, wire: u32) -> Result<(), AllocError>
     requires { wire < wires_of facts.now.shape }
 {
-    let mut kept = Vec::new(alloc);
     'wires: for w in 0..wire {
         kept.push(facts.keeps_pair(Wire(wire), Wire(w)))?;
     }
-    Ok(Flags::new(kept))
+    Ok(())
 }
 
-fn pairs_of(alloc: Global, facts: &Facts) -> Result<Rows, AllocError> {
-    let mut kept = Vec::new(alloc);
+fn add_pairs(kept: &mut Flags, facts: &Facts) -> Result<(), AllocError> {
     'wires: for w in 0..facts.shape().wires() {
-        kept.push(pairs_with(alloc, facts, w)?)?;
+        add_pairs_with(kept, facts, w)?;
     }
-    Ok(Rows::new(kept))
+    Ok(())
 }
 
 // Which cells of a table are kept.
-fn cells_in(alloc: Global, facts: &Facts, table: Table) -> Result<Flags, AllocError>
+fn add_cells_of(kept: &mut Flags, facts: &Facts, table: Table) -> Result<(), AllocError>
     requires { table.0 < tables_of facts.now.shape }
 {
-    let kept = (0..64).map(|address| facts.keeps_cell(table, address));
-    Ok(Flags::new(kept.collect(alloc)?))
-}
-
-fn cells_of(alloc: Global, facts: &Facts) -> Result<Rows, AllocError> {
-    let mut kept = Vec::new(alloc);
-    'tables: for t in 0..facts.shape().tables() {
-        kept.push(cells_in(alloc, facts, Table(t))?)?;
+    'cells: for address in 0..64u8 {
+        kept.push(facts.keeps_cell(table, address))?;
     }
-    Ok(Rows::new(kept))
+    Ok(())
 }
 
-fn registers_of(alloc: Global, facts: &Facts) -> Result<Flags, AllocError> {
-    let kept = (0..facts.shape().tables()).map(|t| facts.keeps_register(Table(t)));
-    Ok(Flags::new(kept.collect(alloc)?))
+fn add_cells(kept: &mut Flags, facts: &Facts) -> Result<(), AllocError> {
+    'tables: for t in 0..facts.shape().tables() {
+        add_cells_of(kept, facts, Table(t))?;
+    }
+    Ok(())
 }
 
-fn kept_of(alloc: Global, facts: &Facts) -> Result<KeptFacts, AllocError> {
-    Ok(KeptFacts {
-        crosses: crosses_of(alloc, facts)?,
-        wires: wires_of(alloc, facts)?,
-        pairs: pairs_of(alloc, facts)?,
-        cells: cells_of(alloc, facts)?,
-        registers: registers_of(alloc, facts)?,
-    })
+fn add_registers(kept: &mut Flags, facts: &Facts) -> Result<(), AllocError> {
+    'tables: for t in 0..facts.shape().tables() {
+        kept.push(facts.keeps_register(Table(t)))?;
+    }
+    Ok(())
 }
 
-fn steps_of(alloc: Global, known: &Known) -> Result<Vec<VerifiedWire>, AllocError> {
-    let mut steps = Vec::new(alloc);
+fn add_kept(kept: &mut KeptFacts, facts: &Facts) -> Result<(), AllocError> {
+    add_crosses(&mut kept.crosses, facts)?;
+    add_wires(&mut kept.wires, facts)?;
+    add_pairs(&mut kept.pairs, facts)?;
+    add_cells(&mut kept.cells, facts)?;
+    add_registers(&mut kept.registers, facts)
+}
+
+fn add_steps(steps: &mut Vec<VerifiedWire>, known: &Known) -> Result<(), AllocError> {
     'steps: for place in 0..known.len() {
         steps.push(known.step_at(place))?;
     }
-    Ok(steps)
+    Ok(())
 }
 
-fn known_of(alloc: Global, known: &Known) -> Result<Knowing, AllocError> {
-    let wires = (0..known.shape().wires()).map(|w| known.has(Wire(w)));
-    Ok(Knowing {
-        steps: steps_of(alloc, known)?,
-        wires: Flags::new(wires.collect(alloc)?),
-    })
+fn add_known(wires: &mut Flags, known: &Known) -> Result<(), AllocError> {
+    'wires: for w in 0..known.shape().wires() {
+        wires.push(known.has(Wire(w)))?;
+    }
+    Ok(())
+}
+
+fn add_marks(marks: &mut Marks, bad: &DefectMarks) -> Result<(), AllocError> {
+    marks.stuck.add_set(&bad.stuck)?;
+    marks.unfit.add_set(&bad.unfit)?;
+    marks.unclear.add_set(&bad.unclear)?;
+    marks.wrong.add_set(&bad.wrong)
+}
+
+fn fill(picture: &mut Picture, stage: &Stage) -> Result<(), AllocError> {
+    add_kept(&mut picture.kept, &stage.facts)?;
+    add_steps(&mut picture.known.steps, &stage.known)?;
+    add_known(&mut picture.known.wires, &stage.known)?;
+    add_marks(&mut picture.marks, &stage.bad)
 }
 
 /// What is kept, known and marked now.
 pub fn picture_of(alloc: Global, stage: &Stage) -> Result<Picture, AllocError> {
-    Ok(Picture {
-        kept: kept_of(alloc, &stage.facts)?,
-        known: known_of(alloc, &stage.known)?,
-        marks: Marks {
-            stuck: Flags::of_set(alloc, &stage.bad.stuck)?,
-            unfit: Flags::of_set(alloc, &stage.bad.unfit)?,
-            unclear: Flags::of_set(alloc, &stage.bad.unclear)?,
-            wrong: Flags::of_set(alloc, &stage.bad.wrong)?,
-        },
-    })
+    let mut picture = Picture::empty(alloc);
+    match fill(&mut picture, stage) {
+        Ok(()) => Ok(picture),
+        Err(e) => Err(e),
+    }
 }

@@ -1,5 +1,5 @@
 //! What is wrong and what is free of each wire, crosspoint and table, by number.
-ghost use Rattle.std.specs.Prelude.{◌≡◌, ◌<◌, IfOk};
+ghost use Rattle.std.specs.Prelude.{◌<◌};
 ghost use Rattle.machine_shape.specs.Shape.{tables_of};
 
 use crate::flags::{Flags, Parts};
@@ -17,7 +17,6 @@ pub struct WireSeen {
     pub node: Node,
     pub group: u32,
     pub free: bool,
-    pub stuck: bool,
     pub clear: bool,
 }
 
@@ -29,20 +28,12 @@ pub struct CrossSeen {
     pub stuck: bool,
 }
 
-/// A table, by its seven pins, the output last, which of its cells are wrong, and whether its register is stuck.
-#[derive(Drop)]
+/// A table, by its seven pins, the output last. It is right where none of its cells is wrong and its register isn't stuck.
+#[derive(Clone, Copy)]
 pub struct TableSeen {
-    pub pins: Vec<u32>,
-    pub cells: Flags,
-    pub register: bool,
+    pub pins: [u32; 7],
+    pub right: bool,
     pub free: bool,
-}
-
-impl TableSeen {
-    /// No cell is wrong, and the register isn't stuck.
-    pub fn is_right(&self) -> bool {
-        !self.register && self.cells.count() == 0
-    }
 }
 
 /// All of a machine.
@@ -53,125 +44,205 @@ pub struct Sight {
     pub tables: Vec<TableSeen>,
 }
 
-// The groups of shorted wires of which one is stuck.
-fn stuck_groups(alloc: Global, faults: &FaultSet, groups: &[u32]) -> Result<Flags, AllocError> {
-    let mut stuck = Flags::none(alloc, faults.shape().wires())?;
+// Marks the groups of shorted wires of which one is stuck.
+fn mark_stuck(stuck: &mut Flags, faults: &FaultSet, groups: &[u32]) {
     'wires: for w in 0..faults.shape().wires() {
-        if faults.stuck(Wire(w)).is_none() {
-            continue;
+        if faults.stuck(Wire(w)).is_some() {
+            stuck.mark(groups.get(w as usize).copied().unwrap_or(w));
         }
-        stuck.mark(groups.get(w as usize).copied().unwrap_or(w));
     }
-    Ok(stuck)
 }
 
-fn wires(alloc: Global, faults: &FaultSet, free: &Flags) -> Result<Vec<WireSeen>, AllocError> {
-    let shape = faults.shape();
-    let groups = groups_of(alloc, faults)?;
-    let stuck = stuck_groups(alloc, faults, &groups)?;
-    let mut seen = Vec::new(alloc);
+// The wires of these groups.
+fn add_wires(
+    wires: &mut Vec<WireSeen>,
+    shape: &Shape,
+    groups: &[u32],
+    stuck: &Flags,
+    free: &Flags,
+) -> Result<(), AllocError> {
     'wires: for w in 0..shape.wires() {
         let group = groups.get(w as usize).copied().unwrap_or(w);
-        seen.push(WireSeen {
+        wires.push(WireSeen {
             number: w,
             meaning: shape.meaning(Wire(w)),
             node: shape.node_of(Wire(w)),
             group,
             free: free.has(w),
-            stuck: faults.stuck(Wire(w)).is_some(),
             clear: !stuck.has(group),
         })?;
     }
-    Ok(seen)
+    Ok(())
 }
 
-fn crosses(alloc: Global, faults: &FaultSet, free: &Flags) -> Result<Vec<CrossSeen>, AllocError> {
+fn add_grouped(
+    alloc: Global,
+    wires: &mut Vec<WireSeen>,
+    faults: &FaultSet,
+    free: &Flags,
+) -> Result<(), AllocError> {
     let shape = faults.shape();
-    let mut seen = Vec::new(alloc);
+    let groups = groups_of(alloc, faults)?;
+    let mut stuck = Flags::none(alloc, shape.wires())?;
+    mark_stuck(&mut stuck, faults, &groups);
+    add_wires(wires, &shape, &groups, &stuck, free)
+}
+
+fn add_crosses(
+    crosses: &mut Vec<CrossSeen>,
+    faults: &FaultSet,
+    free: &Flags,
+) -> Result<(), AllocError> {
+    let shape = faults.shape();
     'crosses: for c in 0..shape.crosses() {
         let (tap, line) = shape.ends(Cross(c));
-        seen.push(CrossSeen {
+        crosses.push(CrossSeen {
             ends: (tap.0, line.0),
             free: free.has(c),
             stuck: faults.cross_stuck(Cross(c)).is_some(),
         })?;
     }
-    Ok(seen)
+    Ok(())
 }
 
-// Which cells of a table are wrong.
-fn wrong_cells(alloc: Global, faults: &FaultSet, t: Table) -> Result<Flags, AllocError>
+// Whether no cell of a table is wrong, and its register isn't stuck.
+fn is_right(faults: &FaultSet, t: Table) -> bool
     requires { t.0 < tables_of faults.now.shape }
 {
-    let wrong = (0..64).map(|address| faults.cell(t, address).is_some());
-    Ok(Flags::new(wrong.collect(alloc)?))
+    'cells: for address in 0..64u8 {
+        if faults.cell(t, address).is_some() {
+            return false;
+        }
+    }
+    faults.register(t).is_none()
 }
 
-fn tables(alloc: Global, faults: &FaultSet, free: &Flags) -> Result<Vec<TableSeen>, AllocError> {
+// The seven pins of a table.
+fn pins_of(shape: &Shape, t: Table) -> [u32; 7]
+    requires { t.0 < tables_of shape.now }
+{
+    [
+        shape.pin_of(t, 0).0,
+        shape.pin_of(t, 1).0,
+        shape.pin_of(t, 2).0,
+        shape.pin_of(t, 3).0,
+        shape.pin_of(t, 4).0,
+        shape.pin_of(t, 5).0,
+        shape.pin_of(t, 6).0,
+    ]
+}
+
+fn add_tables(
+    tables: &mut Vec<TableSeen>,
+    faults: &FaultSet,
+    free: &Flags,
+) -> Result<(), AllocError> {
     let shape = faults.shape();
-    let mut seen = Vec::new(alloc);
     'tables: for t in 0..shape.tables() {
-        seen.push(TableSeen {
-            pins: (0..7).map(|k| shape.pin_of(Table(t), k).0).collect(alloc)?,
-            cells: wrong_cells(alloc, faults, Table(t))?,
-            register: faults.register(Table(t)).is_some(),
+        tables.push(TableSeen {
+            pins: pins_of(&shape, Table(t)),
+            right: is_right(faults, Table(t)),
             free: free.has(t),
         })?;
     }
-    Ok(seen)
+    Ok(())
+}
+
+fn fill(
+    alloc: Global,
+    sight: &mut Sight,
+    faults: &FaultSet,
+    free: &Parts,
+) -> Result<(), AllocError> {
+    add_grouped(alloc, &mut sight.wires, faults, &free.wires)?;
+    add_crosses(&mut sight.crosses, faults, &free.crosses)?;
+    add_tables(&mut sight.tables, faults, &free.tables)
 }
 
 /// What these faults say of a machine of which so much is free.
 pub fn sight_of(alloc: Global, faults: &FaultSet, free: &Parts) -> Result<Sight, AllocError> {
-    Ok(Sight {
-        wires: wires(alloc, faults, &free.wires)?,
-        crosses: crosses(alloc, faults, &free.crosses)?,
-        tables: tables(alloc, faults, &free.tables)?,
-    })
+    let mut sight = Sight {
+        wires: Vec::new(alloc),
+        crosses: Vec::new(alloc),
+        tables: Vec::new(alloc),
+    };
+    match fill(alloc, &mut sight, faults, free) {
+        Ok(()) => Ok(sight),
+        Err(e) => Err(e),
+    }
+}
+
+fn add_free_wires(free: &mut Flags, list: &Defects) -> Result<(), AllocError> {
+    'wires: for w in 0..list.shape().wires() {
+        free.push(list.free_wire(Wire(w)))?;
+    }
+    Ok(())
+}
+
+fn add_free_crosses(free: &mut Flags, list: &Defects) -> Result<(), AllocError> {
+    'crosses: for c in 0..list.shape().crosses() {
+        free.push(list.free_cross(Cross(c)))?;
+    }
+    Ok(())
+}
+
+fn add_free_tables(free: &mut Flags, list: &Defects) -> Result<(), AllocError> {
+    'tables: for t in 0..list.shape().tables() {
+        free.push(list.free_table(Table(t)))?;
+    }
+    Ok(())
+}
+
+fn add_free(free: &mut Parts, list: &Defects) -> Result<(), AllocError> {
+    add_free_wires(&mut free.wires, list)?;
+    add_free_crosses(&mut free.crosses, list)?;
+    add_free_tables(&mut free.tables, list)
 }
 
 /// What a list leaves free.
 pub fn free_by_list(alloc: Global, list: &Defects) -> Result<Parts, AllocError> {
-    let shape = list.shape();
-    let wires = (0..shape.wires()).map(|w| list.free_wire(Wire(w)));
-    let crosses = (0..shape.crosses()).map(|c| list.free_cross(Cross(c)));
-    let tables = (0..shape.tables()).map(|t| list.free_table(Table(t)));
-    Ok(Parts {
-        wires: Flags::new(wires.collect(alloc)?),
-        crosses: Flags::new(crosses.collect(alloc)?),
-        tables: Flags::new(tables.collect(alloc)?),
-    })
+    let mut free = Parts::empty(alloc);
+    match add_free(&mut free, list) {
+        Ok(()) => Ok(free),
+        Err(e) => Err(e),
+    }
 }
 
-/// Nothing of a machine is free.
-pub fn free_nothing(alloc: Global, shape: &Shape) -> Result<Parts, AllocError> {
-    Ok(Parts {
-        wires: Flags::none(alloc, shape.wires())?,
-        crosses: Flags::none(alloc, shape.crosses())?,
-        tables: Flags::none(alloc, shape.tables())?,
-    })
+impl WireSeen {
+    /// Whether it is a pin of the machine.
+    pub fn is_pin(&self) -> bool {
+        matches!(self.meaning, Meaning::Pin { .. })
+    }
 }
 
 impl Sight {
     /// Whether a wire is free.
     pub fn has_free(&self, w: u32) -> bool {
-        self.wires.get(w as usize).is_some_and(|wire| wire.free)
+        match self.wires.get(w as usize) {
+            Some(wire) => wire.free,
+            None => false,
+        }
     }
 
-    /// To how many of these wires a wire is shorted, itself among them.
-    pub fn shorted_to(&self, wire: &WireSeen, wires: &Flags) -> usize {
-        self.wires
-            .iter()
-            .filter(|u| u.group == wire.group && wires.has(u.number))
-            .count()
+    /// Whether a wire is shorted to one of these, itself among them.
+    pub fn is_shorted_to(&self, wire: &WireSeen, wires: &Flags) -> bool {
+        'wires: for u in self.wires.iter() {
+            if u.group == wire.group && wires.has(u.number) {
+                return true;
+            }
+        }
+        false
     }
 
     /// To how many free wires a wire is shorted, itself among them.
-    pub fn free_with(&self, wire: &WireSeen) -> usize {
-        self.wires
-            .iter()
-            .filter(|u| u.group == wire.group && u.free)
-            .count()
+    pub fn free_with(&self, wire: &WireSeen) -> u32 {
+        let mut count = 0u32;
+        'wires: for u in self.wires.iter() {
+            if u.group == wire.group && u.free {
+                count = count.saturating_add(1);
+            }
+        }
+        count
     }
 }
 

@@ -11,7 +11,7 @@ use crate::fields::Task;
 use crate::picture::Stage;
 use diag_evidence::Facts;
 use diag_growth::{grow, test_tables};
-use diag_known::Known;
+use diag_known::{Field, Known};
 use diag_sweep::{Choices, DefectMarks, choose, sweep, sweep_with, without_bad};
 use machine_shape::{Shape, Table};
 use rig::Rig;
@@ -101,18 +101,22 @@ pub fn choices_of(stage: &Stage, task: &Task) -> Result<Choices, &'static str> {
         &task.field,
         &task.tables,
     );
-    let mut choices = choices.ok().ok_or("no memory")?;
-    choices.pay_for(&stage.bad.unfit);
-    Ok(choices)
+    match choices {
+        Ok(mut choices) => {
+            choices.pay_for(&stage.bad.unfit);
+            Ok(choices)
+        }
+        Err(_) => Err("no memory"),
+    }
 }
 
-/// A choice between shorted wires. Whether one was made.
+/// A choice between shorted wires.
 pub fn choose_stage(
     rig: &mut Box<dyn Rig>,
     stage: &mut Stage,
     task: &Task,
     choices: &mut Choices,
-) -> Result<bool, &'static str>
+) -> Result<(), &'static str>
     requires attached { shape_of (rig_state rig.old) ≡ Some stage.old.facts.shape }
     requires stage { IsStageOf stage.old.facts.shape stage.old }
     requires field { IsFieldOf stage.old.facts.shape task.now.field }
@@ -127,7 +131,10 @@ pub fn choose_stage(
         &task.field,
         choices,
     );
-    chosen.ok().ok_or("no choice")
+    match chosen {
+        Ok(_) => Ok(()),
+        Err(_) => Err("no choice"),
+    }
 }
 
 /// The sweep behind a choice.
@@ -154,6 +161,18 @@ pub fn sweep_chosen(
     swept.ok().ok_or("no sweep behind a choice")
 }
 
+// A growth in a field.
+fn grow_in(rig: &mut Box<dyn Rig>, stage: &mut Stage, field: &Field) -> Result<(), &'static str>
+    requires attached { shape_of (rig_state rig.old) ≡ Some stage.old.facts.shape }
+    requires stage { IsStageOf stage.old.facts.shape stage.old }
+    requires field { IsFieldOf stage.old.facts.shape field.now }
+    ensures attached { shape_of (rig_state rig.new) ≡ Some stage.old.facts.shape }
+    ensures stage { IsStageOf stage.old.facts.shape stage.new }
+{
+    let grown = grow(rig, &mut stage.facts, &mut stage.known, field);
+    grown.ok().ok_or("no growth")
+}
+
 /// A growth in what isn't marked of a field.
 pub fn grow_stage(
     alloc: Global,
@@ -167,11 +186,10 @@ pub fn grow_stage(
     ensures attached { shape_of (rig_state rig.new) ≡ Some stage.old.facts.shape }
     ensures stage { IsStageOf stage.old.facts.shape stage.new }
 {
-    let Ok(rest) = without_bad(alloc, &stage.bad, &task.field) else {
-        return Err("no memory");
-    };
-    let grown = grow(rig, &mut stage.facts, &mut stage.known, &rest);
-    grown.ok().ok_or("no growth")
+    match without_bad(alloc, &stage.bad, &task.field) {
+        Ok(rest) => grow_in(rig, stage, &rest),
+        Err(_) => Err("no memory"),
+    }
 }
 
 /// The tests of these tables.

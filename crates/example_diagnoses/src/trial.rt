@@ -2,11 +2,11 @@
 ghost use Rattle.std.specs.Prelude.{◌≡◌, Some};
 ghost use Rattle.rig.specs.Rig.{shape_of};
 
-use crate::calls::try_calls;
+use crate::calls::{Way, try_calls};
 use crate::counts::{Size, draw_counts};
 use crate::faults::{Kind, draw_faults};
 use crate::looks::{covers, is_tight};
-use crate::sight::{free_by_list, sight_of};
+use crate::sight::{Sight, free_by_list, sight_of};
 use base_io::{File, MemoryStore};
 use base_random::Draws;
 use diag_machine::diagnose;
@@ -26,13 +26,11 @@ pub struct Group {
     pub most: u32,
 }
 
-/// A rig whose machine `m` has the faults. None where memory was wanting.
-pub fn rig_with(alloc: Global, faults: &FaultSet) -> Option<SimRig<MemoryStore>> {
-    let file = File {
-        name: String::from_str(alloc, "m").ok()?,
-        bytes: faults_text(alloc, faults).ok()?,
-    };
-    let files = vec![in alloc; file].ok()?;
+// A rig whose machine `m` has the faults. None where memory was wanting.
+fn rig_with(alloc: Global, faults: &FaultSet) -> Option<SimRig<MemoryStore>> {
+    let bytes = faults_text(alloc, faults).ok()?;
+    let name = String::from_str(alloc, "m").ok()?;
+    let files = vec![in alloc; File { name, bytes }].ok()?;
     let store = MemoryStore::new(alloc, files, Vec::new(alloc));
     Some(SimRig::new(alloc, store))
 }
@@ -45,6 +43,34 @@ fn most_loads(shape: &Shape, cross: u64, wire: u64) -> u64 {
     crosses.saturating_add(wires).saturating_add(tables)
 }
 
+// Whether loads are within the bound.
+fn are_few(faults: &FaultSet, loads: u64) -> bool {
+    let (cross, wire) = if faults.count() == 0 {
+        (2, 3)
+    } else {
+        (16, 20)
+    };
+    loads <= most_loads(&faults.shape(), cross, wire)
+}
+
+// Looks at what a list leaves free, and at the loads that it took.
+fn look_at_sight(
+    alloc: Global,
+    faults: &FaultSet,
+    sight: &Sight,
+    loads: u64,
+) -> Result<(), &'static str> {
+    if !covers(sight) {
+        return Err("something wrong is free");
+    }
+    match is_tight(alloc, sight) {
+        Ok(true) if are_few(faults, loads) => Ok(()),
+        Ok(true) => Err("a diagnosis has too many loads"),
+        Ok(false) => Err("something is listed that could be free"),
+        Err(_) => Err("no memory"),
+    }
+}
+
 // Looks at a list, and at the loads that it took.
 fn look_at(
     alloc: Global,
@@ -52,35 +78,28 @@ fn look_at(
     list: &Defects,
     loads: u64,
 ) -> Result<(), &'static str> {
-    let free = free_by_list(alloc, list).ok().ok_or("no memory")?;
-    let sight = sight_of(alloc, faults, &free).ok().ok_or("no memory")?;
-    if !covers(&sight) {
-        return Err("something wrong is free");
-    }
-    if !is_tight(alloc, &sight).ok().ok_or("no memory")? {
-        return Err("something is listed that could be free");
-    }
-    let (cross, wire) = if faults.count() == 0 {
-        (2, 3)
-    } else {
-        (16, 20)
+    let Ok(free) = free_by_list(alloc, list) else {
+        return Err("no memory");
     };
-    if loads > most_loads(&faults.shape(), cross, wire) {
-        return Err("a diagnosis has too many loads");
+    match sight_of(alloc, faults, &free) {
+        Ok(sight) => look_at_sight(alloc, faults, &sight, loads),
+        Err(_) => Err("no memory"),
     }
-    Ok(())
 }
 
-// The list of the machine that is attached.
-fn list_of(alloc: Global, rig: &mut Box<dyn Rig>, shape: &Shape) -> Result<Defects, &'static str>
-    requires attached { shape_of (rig_state rig.old) ≡ Some shape.now }
-    ensures attached { shape_of (rig_state rig.new) ≡ Some shape.now }
+// Diagnoses the machine that is attached as a whole, and looks at the list that comes.
+fn try_whole(alloc: Global, rig: &mut Box<dyn Rig>, faults: &FaultSet) -> Result<(), &'static str>
+    requires attached { shape_of (rig_state rig.old) ≡ Some faults.now.shape }
+    ensures attached { shape_of (rig_state rig.new) ≡ Some faults.now.shape }
 {
-    diagnose(alloc, rig, shape).ok().ok_or("no list")
+    match diagnose(alloc, rig, &faults.shape()) {
+        Ok(list) => look_at(alloc, faults, &list, rig.loads()),
+        Err(_) => Err("no list"),
+    }
 }
 
-// Diagnoses the machine that is attached as a whole and call by call, and looks at what comes.
-fn try_attached(
+// The same, and then call by call.
+fn try_both(
     alloc: Global,
     rig: &mut Box<dyn Rig>,
     draws: &mut Draws,
@@ -88,19 +107,54 @@ fn try_attached(
 ) -> Result<(), &'static str>
     requires attached { shape_of (rig_state rig.old) ≡ Some faults.now.shape }
 {
-    let list = list_of(alloc, rig, &faults.shape())?;
-    look_at(alloc, faults, &list, rig.loads())?;
-    try_calls(alloc, rig, draws, faults)
+    try_whole(alloc, rig, faults)?;
+    try_calls(alloc, rig, draws, faults, Way::All)
 }
 
-// Attaches a machine with these faults, and tries it.
-fn try_machine(alloc: Global, draws: &mut Draws, faults: &FaultSet) -> Result<(), &'static str> {
-    let store = rig_with(alloc, faults).ok_or("no rig")?;
-    let mut rig: Box<dyn Rig> = Box::new(alloc, store).ok().ok_or("no rig")?;
+// Tries the machine that is attached.
+fn try_attached(
+    alloc: Global,
+    rig: &mut Box<dyn Rig>,
+    draws: &mut Draws,
+    faults: &FaultSet,
+    way: Way,
+) -> Result<(), &'static str>
+    requires attached { shape_of (rig_state rig.old) ≡ Some faults.now.shape }
+{
+    match way {
+        Way::Sweep => try_calls(alloc, rig, draws, faults, way),
+        Way::All => try_both(alloc, rig, draws, faults),
+    }
+}
+
+// Attaches the machine, and tries it.
+fn try_on(
+    alloc: Global,
+    rig: &mut Box<dyn Rig>,
+    draws: &mut Draws,
+    faults: &FaultSet,
+    way: Way,
+) -> Result<(), &'static str> {
     if rig.attach(&faults.shape(), "m").is_err() {
         return Err("no machine");
     }
-    try_attached(alloc, &mut rig, draws, faults)
+    try_attached(alloc, rig, draws, faults, way)
+}
+
+/// Makes a machine with these faults, and tries it.
+///
+/// # Errors
+///
+/// What is wrong with its list, its facts or its marks.
+pub fn try_machine(
+    alloc: Global,
+    draws: &mut Draws,
+    faults: &FaultSet,
+    way: Way,
+) -> Result<(), &'static str> {
+    let store = rig_with(alloc, faults).ok_or("no rig")?;
+    let mut rig: Box<dyn Rig> = Box::new(alloc, store).ok().ok_or("no rig")?;
+    try_on(alloc, &mut rig, draws, faults, way)
 }
 
 /// Makes the machine of a number in a group, and tries it.
@@ -110,11 +164,11 @@ fn try_machine(alloc: Global, draws: &mut Draws, faults: &FaultSet) -> Result<()
 /// What is wrong with its list, its facts or its marks.
 pub fn try_number(alloc: Global, group: &Group, number: u32) -> Result<(), &'static str> {
     let mut draws = Draws::new(u64::from(number));
-    let shape = Shape::new(draw_counts(&mut draws, group.size))
-        .ok()
-        .ok_or("no shape")?;
-    let faults = draw_faults(alloc, &mut draws, &shape, &group.kinds, group.most)
-        .ok()
-        .ok_or("no faults")?;
-    try_machine(alloc, &mut draws, &faults)
+    let Ok(shape) = Shape::new(draw_counts(&mut draws, group.size)) else {
+        return Err("no shape");
+    };
+    match draw_faults(alloc, &mut draws, &shape, &group.kinds, group.most) {
+        Ok(faults) => try_machine(alloc, &mut draws, &faults, Way::All),
+        Err(_) => Err("no faults"),
+    }
 }

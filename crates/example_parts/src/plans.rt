@@ -1,7 +1,7 @@
 //! Examples of plans, as texts: a machine, what of it is listed, a design, and what has to be seen of its plans.
 
 mod book;
-mod figures;
+pub mod figures;
 mod shares;
 mod texts;
 
@@ -32,21 +32,28 @@ pub fn try_texts(rt: &HostRuntime, names: &[String]) -> io::Result<bool> {
     Ok(right)
 }
 
-/// Prints what is to be seen of the plans of a design, and tells whether it has any.
-pub fn show(rt: &HostRuntime, machine: &str, defects: &str, design: &str) -> io::Result<bool> {
-    let texts = Texts {
-        machine: fs::read(rt, machine)?,
-        defects: fs::read(rt, defects)?,
-        designs: Designs {
-            first: fs::read(rt, design)?,
-            second: Vec::new(rt.alloc()),
-        },
-    };
-    let Some(figures) = figures_of(rt.alloc(), &texts) else {
+// Prints what is to be seen of plans, and tells whether there are any.
+fn show_texts(rt: &HostRuntime, texts: &Texts) -> io::Result<bool> {
+    let Some(figures) = figures_of(rt.alloc(), texts) else {
         println!(rt; "no plan")?;
         return Ok(false);
     };
     let line = figures.text(rt.alloc())?;
     println!(rt; "{line}")?;
     Ok(true)
+}
+
+/// Prints what is to be seen of the plans of a design, and tells whether it has any.
+pub fn show(rt: &HostRuntime, machine: &str, defects: &str, design: &str) -> io::Result<bool> {
+    let machine = fs::read(rt, machine)?;
+    let defects = fs::read(rt, defects)?;
+    let first = fs::read(rt, design)?;
+    let second = Vec::new(rt.alloc());
+    let designs = Designs { first, second };
+    let texts = Texts {
+        machine,
+        defects,
+        designs,
+    };
+    show_texts(rt, &texts)
 }

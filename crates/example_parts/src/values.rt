@@ -21,7 +21,7 @@ use std::io;
 type Value = (&'static str, Option<bool>);
 
 // How many there were, and how many were right.
-#[derive(Drop)]
+#[derive(Clone, Copy)]
 struct Tally {
     right: u32,
     all: u32,
@@ -49,7 +49,7 @@ impl Tally {
 }
 
 // Machines, and what they hold.
-fn of_machines(alloc: Global) -> [Value; 13] {
+fn of_machines(alloc: Global) -> [Value; 12] {
     [
         ("tiny-numbering", shapes::tiny_numbering()),
         ("names-both-ways", shapes::names_both_ways()),
@@ -61,7 +61,6 @@ fn of_machines(alloc: Global) -> [Value; 13] {
         ("machine-text-faults", texts::machine_text_of_tiny(alloc)),
         ("machine-two-forms", texts::machine_two_forms(alloc)),
         ("large-counts", texts::large_counts(alloc)),
-        ("large-pins", texts::large_pins(alloc)),
         ("fault-text-faults", texts::faults_text_in_order(alloc)),
         ("defects-text-in-order", texts::defects_text_in_order(alloc)),
     ]

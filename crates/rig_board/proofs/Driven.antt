@@ -4,7 +4,7 @@ use Rattle.rig_board.proofs.Vocabulary.{ForSome, Shape, pins_of, Pins, Faults, A
 use Rattle.rig_board.proofs.Vocabulary.{HasCycled, HasCycledAll, session_of, HasAdded, AreBlank}
 use Rattle.rig.specs.Rig.{Exchange, Session, RigState, GoesOn, GoesOnBy, KeepLengths, cycles_of, drives_of, readings_of}
 use Rattle.rig_board.specs.Device.{Device, faults_told, IsInSession, HasRunSession, GoesOnWith, WhereTold}
-use Rattle.rig_board.specs.Linked.{IsLinked, IsAlongside}
+use Rattle.rig_board.specs.{Linked.IsLinked, Linked.IsAlongside, declared.kept.Row.Row}
 
 abbrev pair : Pins → Pins → Exchange
 pair d r = record { drive = d; reading = r }
@@ -108,6 +108,17 @@ goes_on drives reads b kept more old new was now faults spare a past = record {
       → IfSome (faults_told device) (λ f. IsRun f (session_of more).config (drives_of (session_of more).cycles) (readings_of (session_of more).cycles))
   told None t = tt
   told (Some d) t = run_told d d.session (session_of more).config (session_of more).cycles (t d refl).0.config (t d refl).0.so_far (t d refl).1
+
+-- blank rows as wide as what is driven are as wide as the session's machine
+pub wide_rows : (found : Option Kept) (kept mid more : Kept) (pins n : ℕ) → Some kept ≡ found
+    → option_map (λ (g : Configuration). pins_of g.shape) (option_map (λ (s : Session). s.config) (option_map session_of found)) ≡ Some n
+    → pins ≡ n → more.shape ≡ kept.shape → more.blank.items ≡ mid.blank.items → AreBlank pins mid.blank.items → AreBlank (pins_of more.shape) more.blank.items
+wide_rows found kept mid more pins n is width same shape blank wide =
+    let both : Some (pins_of kept.shape) ≡ Some n =
+    ap (λ (k : Option Kept). option_map (λ (g : Configuration). pins_of g.shape) (option_map (λ (s : Session). s.config) (option_map session_of k))) is ∙ width in
+    let wide_kept : pins_of kept.shape ≡ n = cc in
+    let len : pins ≡ pins_of more.shape = same ∙ (sym wide_kept ∙ ap pins_of (sym shape)) in
+    subst (λ (rows : List Row). AreBlank (pins_of more.shape) rows) (sym blank) (subst (λ w. AreBlank w mid.blank.items) len wide)
 
 -- a failure leaves no session
 pub linked_lost : (old new : BoardState) (attached : Option Shape) (kept rest : Option Kept) → IsLinked old attached kept → new.found ≡ old.found

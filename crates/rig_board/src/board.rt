@@ -14,8 +14,8 @@ use rig::{PinBits, RigFail};
 ///
 /// Contracts see the shape that was found, whether a configuration was set up, the device that the board is where it tells
 /// one, and a count of failures, which is a `u64` and never falls. No code sees the device. Whether or not one is told, contracts see
-/// which machines the board may be, by what it was answered: no call makes these more, and each of them has the session that was set
-/// up, and made the cycles that were driven. Behind an `Ok` a machine that is told is one of them.
+/// which machines the board may be, by what it was answered: no call but `find`, which begins anew, makes these more, and each of them
+/// has the session that was set up, and made the cycles that were driven. Behind an `Ok` a machine that is told is one of them.
 pub trait Board: Drop {
     ghost board_state: { Self → BoardState };
 

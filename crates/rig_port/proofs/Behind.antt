@@ -1,7 +1,8 @@
 -- Which machines may stand behind what was said.
-use Rattle.std.proofs.Common.{◌≡◌, ℕ, List, [], ◌∷◌, ◌++◌, refl, sym, ap, ◌∙◌, subst, Option, Some, Bool, true, false}
-use Rattle.rig_port.proofs.Vocabulary.{append_assoc, append-nil, Shape, Faults, Device, Check, Answers, Said}
-use Rattle.rig_port.specs.Transcripts.{and_said, HasSaid, MayStand, Behind, IsAmong, neither, both, passed, GoOn}
+use Rattle.std.proofs.Common.{◌≡◌, ℕ, List, [], ◌∷◌, ◌++◌, All, refl, sym, ap, ◌∙◌, subst, Option, None, Some, Bool, true, false}
+use Rattle.rig_port.proofs.Vocabulary.{All-append, All-cons, All-nil, append_assoc, append-nil, flat_map-append, Shape, Faults, Device, Check}
+use Rattle.rig_port.proofs.Vocabulary.{Answers, IsRequestOf, Said, Sent, answered, said_if}
+use Rattle.rig_port.specs.Transcripts.{and_said, and_sent, HasSaid, MayStand, Behind, IsAmong, neither, both, passed, GoOn, GoOnFor}
 
 -- the device between two parts of what was said
 said_split : (xs ys : List Said) (d : Device) (c : Check) (e : Device) (k : Check) → HasSaid d c (xs ++ ys) e k
@@ -61,10 +62,13 @@ behind_none R talk to = λ m f e k s. (e, k, s, to e k)
 abbrev pub Anyhow : Device → Check → Device → Check → Type 0
 Anyhow d c e k = Unit {0}
 
-pub behind_all : (a b x y : List Said) → GoOn a b x y → Behind Anyhow a b
+pub behind_all : {m : Shape} (a b : List Said) (x y : List Sent) → GoOn m a b x y → Behind Anyhow a b
 behind_all a b x y g = λ m f e k s.
     let mid = stands_split m f a g.more e k (subst (λ t. MayStand m f t e k) g.taken_is s) in
     (mid.0, mid.1, mid.2, tt)
+
+pub behind_same : (a b : List Said) → b ≡ a → Behind Anyhow a b
+behind_same a b is = subst (λ (t : List Said). Behind Anyhow a t) (sym is) (behind_none Anyhow a (λ _ _. tt))
 
 -- what was said behind what was said
 pub behind_more : (R S T : Device → Check → Device → Check → Type 0) (a b z : List Said) → Behind R a b → Behind S b z
@@ -83,43 +87,73 @@ among_more neither q = q
 among_more (both s p) q = both s (among_more p q)
 among_more (passed s p) q = passed s (among_more p q)
 
-pub nothing_said : (a x : List Said) → GoOn a a x x
-nothing_said a x = record { more = []; all = []; taken_is = sym (append-nil a); heard_is = sym (append-nil x); among = neither }
+-- the requests to a machine of this shape
+abbrev pub AreRequestsOf : Shape → List Sent → Type 0
+AreRequestsOf m sent = All (λ s. IsRequestOf m s.request) sent
+
+none_sent : (m : Shape) → AreRequestsOf m []
+none_sent m = All-nil (λ (s : Sent). IsRequestOf m s.request)
+
+one_sent : (m : Shape) (s : Sent) → IsRequestOf m s.request → AreRequestsOf m (s ∷ [])
+one_sent m s is = All-cons (λ (s : Sent). IsRequestOf m s.request) s [] is (none_sent m)
+
+more_sent : (m : Shape) (xs ys : List Sent) → AreRequestsOf m xs → AreRequestsOf m ys → AreRequestsOf m (xs ++ ys)
+more_sent m xs ys p q = All-append (λ (s : Sent). IsRequestOf m s.request) xs ys p q
+
+pub answered_more : (xs ys : List Sent) → answered (xs ++ ys) ≡ answered xs ++ answered ys
+answered_more xs ys = flat_map-append (λ (s : Sent). said_if s.request s.line) xs ys
+
+pub nothing_said : (m : Shape) (a : List Said) (x : List Sent) → GoOn m a a x x
+nothing_said m a x = record { more = []; all = []; taken_is = sym (append-nil a); heard_is = sym (append-nil x); among = neither; requests = none_sent m }
 
 -- one that was taken
-pub said_one : (a b x y : List Said) (request line : List ℕ) → b ≡ and_said a request line → y ≡ and_said x request line → GoOn a b x y
-said_one a b x y request line is heard =
+pub said_one : (m : Shape) (a b : List Said) (x y : List Sent) (request line : List ℕ) → IsRequestOf m request → b ≡ and_said a request line → y ≡ and_sent x request (Some line) → GoOn m a b x y
+said_one m a b x y request line form is heard =
     let s : Said = record { request = request; line = line } in
-    record { more = s ∷ []; all = s ∷ []; taken_is = is; heard_is = heard; among = both s neither }
+    let t : Sent = record { request = request; line = Some line } in
+    record { more = s ∷ []; all = t ∷ []; taken_is = is; heard_is = heard; among = both s neither; requests = one_sent m t form }
 
 -- one that was heard, and not taken
-pub said_wrong : (a b x y : List Said) (request line : List ℕ) → b ≡ a → y ≡ and_said x request line → GoOn a b x y
-said_wrong a b x y request line is heard =
+pub said_wrong : (m : Shape) (a b : List Said) (x y : List Sent) (request line : List ℕ) → IsRequestOf m request → b ≡ a → y ≡ and_sent x request (Some line) → GoOn m a b x y
+said_wrong m a b x y request line form is heard =
     let s : Said = record { request = request; line = line } in
-    record { more = []; all = s ∷ []; taken_is = is ∙ sym (append-nil a); heard_is = heard; among = passed s neither }
+    let t : Sent = record { request = request; line = Some line } in
+    record { more = []; all = t ∷ []; taken_is = is ∙ sym (append-nil a); heard_is = heard; among = passed s neither; requests = one_sent m t form }
 
-pub said_none : (a b x y : List Said) → b ≡ a → y ≡ x → GoOn a b x y
-said_none a b x y is same = record { more = []; all = []; taken_is = is ∙ sym (append-nil a); heard_is = same ∙ sym (append-nil x); among = neither }
+-- one that nothing answered
+pub said_alone : (m : Shape) (a b : List Said) (x y : List Sent) (request : List ℕ) → IsRequestOf m request → b ≡ a → y ≡ and_sent x request None → GoOn m a b x y
+said_alone m a b x y request form is heard =
+    let t : Sent = record { request = request; line = None } in
+    record { more = []; all = t ∷ []; taken_is = is ∙ sym (append-nil a); heard_is = heard; among = neither; requests = one_sent m t form }
 
-pub said_more : (a b z x y w : List Said) → GoOn a b x y → GoOn b z y w → GoOn a z x w
-said_more a b z x y w p q = record {
+pub said_none : (m : Shape) (a b : List Said) (x y : List Sent) → b ≡ a → y ≡ x → GoOn m a b x y
+said_none m a b x y is same =
+    record { more = []; all = []; taken_is = is ∙ sym (append-nil a); heard_is = same ∙ sym (append-nil x); among = neither; requests = none_sent m }
+
+pub said_more : {m n : Shape} (a b z : List Said) (x y w : List Sent) → n ≡ m → GoOn m a b x y → GoOn n b z y w → GoOn m a z x w
+said_more {m} {n} a b z x y w same p q = record {
   more = p.more ++ q.more;
   all = p.all ++ q.all;
   taken_is = q.taken_is ∙ ap (λ t. t ++ q.more) p.taken_is ∙ append_assoc a p.more q.more;
   heard_is = q.heard_is ∙ ap (λ t. t ++ q.all) p.heard_is ∙ append_assoc x p.all q.all;
-  among = among_more p.among q.among;
+  among = subst (λ (t : List Said). IsAmong (p.more ++ q.more) t) (sym (answered_more p.all q.all)) (among_more p.among q.among);
+  requests = more_sent m p.all q.all p.requests (subst (λ (s : Shape). AreRequestsOf s q.all) same q.requests);
 }
 
 -- one that was heard, and taken or not
-pub said_maybe : (right : Bool) (a b x y : List Said) (request line taken : List ℕ) → (right ≡ true → line ≡ taken) → (right ≡ true → b ≡ and_said a request taken) → (right ≡ false → b ≡ a)
-    → y ≡ and_said x request line → GoOn a b x y
-said_maybe true a b x y request line taken same is left heard = said_one a b x y request line (is refl ∙ ap (and_said a request) (sym (same refl))) heard
-said_maybe false a b x y request line taken same is left heard = said_wrong a b x y request line (left refl) heard
+pub said_maybe : (right : Bool) (m : Shape) (a b : List Said) (x y : List Sent) (request line taken : List ℕ) → IsRequestOf m request → (right ≡ true → line ≡ taken)
+    → (right ≡ true → b ≡ and_said a request taken) → (right ≡ false → b ≡ a) → y ≡ and_sent x request (Some line) → GoOn m a b x y
+said_maybe true m a b x y request line taken form same is left heard = said_one m a b x y request line form (is refl ∙ ap (and_said a request) (sym (same refl))) heard
+said_maybe false m a b x y request line taken form same is left heard = said_wrong m a b x y request line form (left refl) heard
 
 none_among : (xs : List Said) → IsAmong [] xs
 none_among [] = neither
 none_among (x ∷ xs) = passed x (none_among xs)
 
 -- all was heard alone
-pub heard_only : (a b x y : List Said) → GoOn a b x y → GoOn [] [] x y
-heard_only a b x y g = record { more = []; all = g.all; taken_is = refl; heard_is = g.heard_is; among = none_among g.all }
+pub heard_only : (m : Shape) (a b : List Said) (x y : List Sent) → GoOn m a b x y → GoOn m [] [] x y
+heard_only m a b x y g = record { more = []; all = g.all; taken_is = refl; heard_is = g.heard_is; among = none_among (answered g.all); requests = g.requests }
+
+-- of the machine that was found
+pub said_found : (found : Option Shape) (m : Shape) (a b : List Said) (x y : List Sent) → found ≡ Some m → GoOn m a b x y → GoOnFor found a b x y
+said_found found m a b x y at g = subst (λ (o : Option Shape). GoOnFor o a b x y) (sym at) g

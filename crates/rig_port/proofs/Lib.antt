@@ -3,6 +3,7 @@ mod Answered
 mod Behind
 mod Closings
 mod Edited
+mod Forms
 mod Heard
 mod Held
 mod OneMachine

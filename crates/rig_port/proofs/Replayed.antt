@@ -1,7 +1,8 @@
 -- Lines of a recorded talk.
-use Rattle.std.proofs.Common.{◌≡◌, ◌≢◌, ℕ, suc, ◌+◌, ◌-◌, ◌^◌, ◌≤◌, ◌<◌, min, List, [], ◌∷◌, ◌++◌, take, drop, length, get_or, All, refl, sym, ap, ◌∙◌, arith, subst}
+use Rattle.std.proofs.Common.{◌≡◌, ◌≢◌, ℕ, suc, ◌+◌, ◌-◌, ◌^◌, ◌≤◌, ◌<◌, min, List, [], ◌∷◌, ◌++◌, take, drop, length, get_or, All, None, Some, refl, sym, ap, ◌∙◌, arith, subst}
 use Rattle.std.proofs.lemmas.List.{append-nil, append_assoc, drop-drop, length-append, length-drop, length-take-le, take-append-drop, take_all}
-use Rattle.rig_port.proofs.Vocabulary.{IsLine, HasReplayed, IsDue, BeginsWith, recorded_of, Said, and_said, flat_map-append}
+use Rattle.rig_port.proofs.Vocabulary.{IsLine, HasReplayed, IsDue, BeginsWith, recorded_of, Said, Sent, answered, and_said, and_sent, flat_map-append}
+use Rattle.rig_port.proofs.Behind.{answered_more}
 
 abbrev AreInner : List ℕ → Type 0
 AreInner bytes = All (λ byte. byte ≢ 10) bytes
@@ -101,8 +102,16 @@ recorded_more talk request line =
     ∙ ap (λ t. recorded_of talk ++ t) (append-nil (request ++ line))
 
 -- what was said of a recording is its beginning
-pub begun_more : (recorded : List ℕ) (at end : ℕ) (talk now : List Said) (request line : List ℕ) → HasReplayed (drop at recorded) (drop end recorded) request line → now ≡ and_said talk request line
-    → BeginsWith recorded at talk → BeginsWith recorded end now
+pub begun_more : (recorded : List ℕ) (at end : ℕ) (talk now : List Sent) (request line : List ℕ) → HasReplayed (drop at recorded) (drop end recorded) request line
+    → now ≡ and_sent talk request (Some line) → BeginsWith recorded at talk → BeginsWith recorded end now
 begun_more recorded at end talk now request line h is b =
-    b ∙ ap (λ t. recorded_of talk ++ t) h.left ∙ sym (append_assoc (recorded_of talk) (request ++ line) (drop end recorded))
-    ∙ ap (λ t. t ++ drop end recorded) (sym (recorded_more talk request line) ∙ ap recorded_of (sym is))
+    let said = answered talk in
+    let all : answered now ≡ and_said said request line = ap answered is ∙ answered_more talk (record { request = request; line = Some line } ∷ []) in
+    b ∙ ap (λ t. recorded_of said ++ t) h.left ∙ sym (append_assoc (recorded_of said) (request ++ line) (drop end recorded))
+    ∙ ap (λ t. t ++ drop end recorded) (sym (recorded_more said request line) ∙ ap recorded_of (sym all))
+
+-- a request that wasn't answered leaves it so
+pub begun_still : (recorded : List ℕ) (at : ℕ) (talk now : List Sent) (request : List ℕ) → now ≡ and_sent talk request None → BeginsWith recorded at talk → BeginsWith recorded at now
+begun_still recorded at talk now request is b =
+    let all : answered now ≡ answered talk = ap answered is ∙ answered_more talk (record { request = request; line = None } ∷ []) ∙ append-nil (answered talk) in
+    b ∙ ap (λ t. recorded_of t ++ drop at recorded) (sym all)

@@ -4,13 +4,13 @@ use Rattle.rig_port.proofs.Vocabulary.{false≢true, vec_len, vec_capacity, Shap
 use Rattle.rig_port.proofs.Vocabulary.{Exchange, RigState, Explains, KeepLengths, Device, IsInSession, GoesOnWith, WhereTold, Narrows}
 use Rattle.rig_port.proofs.Vocabulary.{EachWas, GoesOnBy, Again, Check, Link, Answers, IsHeld, IsKeptUp, IsUp, state_of, option_map_or}
 use Rattle.rig_port.proofs.Vocabulary.{fresh_check, after, AreCounts, counts_body, turn_room, PortState, machine_told, attach_body}
-use Rattle.rig_port.proofs.Vocabulary.{attach_line, Said, HasRows, CanResume, KeepsSession, paired, MayStand, Behind, GoOn}
+use Rattle.rig_port.proofs.Vocabulary.{attach_line, Said, HasRows, CanResume, KeepsSession, paired, MayStand, Behind, GoOn, GoOnFor, Sent}
 use borrow.Rule.Slice.PartMut.{put_mid}
 use Rattle.rig_port.specs.Linked.{IsPosted, IsLinked, HasTurned, PortBoardState, told_with, waiting}
 use Rattle.rig_port.specs.Stands.{StandsTold, StandsUp, AllStandUp, Finds, Turns, Makes, TurnsAgain, GoesOn, as_told, MayBe}
-use Rattle.rig_port.proofs.Behind.{SameMachine, Anyhow, behind_all, machine_of, said_none, stands_faults, stands_shape}
+use Rattle.rig_port.proofs.Behind.{SameMachine, Anyhow, behind_same, machine_of, said_found, stands_faults, stands_shape}
 use Rattle.rig_port.proofs.Held.{cycled_one, fresh_held, not_turned, turned_next, whole_turned}
-use Rattle.rig_port.proofs.Resumed.{HasShape, fresh_resumes, made_first, made_more, in_session, posted_held, still_shaped, turned_again}
+use Rattle.rig_port.proofs.Resumed.{HasShape, fresh_resumes, held_here, made_first, made_more, in_session, posted_held, still_shaped, turned_again}
 
 abbrev pub told_pair : Device → Shape × Faults
 told_pair d = (d.shape, d.faults)
@@ -134,9 +134,9 @@ each_was R T old new found behind to = λ x b.
       subst (T (as_told old.waits d.0)) (sym b.told) (to b.shape b.last.faults d.0 d.1 b.last b.check at d.2 d.3),
     )
 
-pub narrows : (old new : PortBoardState) → new.found ≡ old.found → GoOn old.talk new.talk old.port_talk new.port_talk → Narrows (MayBe old) (MayBe new)
-narrows old new found talks = λ x b.
-    let w = each_was Anyhow (λ _ _. Unit {0}) old new found (behind_all old.talk new.talk old.port_talk new.port_talk talks) (λ m f d c e k at st r. tt) x b in
+pub narrows : (old new : PortBoardState) → new.found ≡ old.found → Behind Anyhow old.talk new.talk → Narrows (MayBe old) (MayBe new)
+narrows old new found said = λ x b.
+    let w = each_was Anyhow (λ _ _. Unit {0}) old new found said (λ m f d c e k at st r. tt) x b in
     (w.0, w.1, w.2)
 
 -- a machine that was just found
@@ -219,17 +219,23 @@ cycles_each {o} port now found past past_now n n_now fs fs_now drives reads old 
 
 -- a board that went down
 pub narrows_down : {o : Option Link} (port now : PortState) (found : Option Shape) (x : Option Link) (past : List Said) (n n_now fs fs_now : ℕ) (old new : Link) → Some old ≡ o → x ≡ None
-    → GoOn old.talk new.talk port.talk now.talk → Narrows (MayBe (state_of port found o past n fs)) (MayBe (state_of now found x new.talk n_now fs_now))
-narrows_down {o} port now found x past n n_now fs fs_now old new there gone talks =
+    → Behind Anyhow old.talk new.talk → Narrows (MayBe (state_of port found o past n fs)) (MayBe (state_of now found x new.talk n_now fs_now))
+narrows_down {o} port now found x past n n_now fs fs_now old new there gone said =
     subst (λ (x : Option Link). Narrows (MayBe (state_of port found o past n fs)) (MayBe (state_of now found x new.talk n_now fs_now))) (sym gone)
     (subst (λ (o : Option Link). Narrows (MayBe (state_of port found o past n fs)) (MayBe (state_of now found None new.talk n_now fs_now))) there
-    (narrows (state_of port found (Some old) past n fs) (state_of now found None new.talk n_now fs_now) refl talks))
+    (narrows (state_of port found (Some old) past n fs) (state_of now found None new.talk n_now fs_now) refl said))
 
-pub taken_down : {o x : Option Link} (past : List Said) (old new : Link) (heard heard_now : List Said) → Some old ≡ o → x ≡ None → GoOn old.talk new.talk heard heard_now
-    → GoOn (option_map_or (λ (l : Link). l.talk) o past) (option_map_or (λ (l : Link). l.talk) x new.talk) heard heard_now
-taken_down {o} {x} past old new heard heard_now there gone talks =
-    subst (λ (x : Option Link). GoOn (option_map_or (λ (l : Link). l.talk) o past) (option_map_or (λ (l : Link). l.talk) x new.talk) heard heard_now) (sym gone)
-    (subst (λ (o : Option Link). GoOn (option_map_or (λ (l : Link). l.talk) o past) new.talk heard heard_now) there talks)
+pub taken_down : {o x : Option Link} (found : Option Shape) (past : List Said) (old new : Link) (heard heard_now : List Sent) → Some old ≡ o → x ≡ None → GoOnFor found old.talk new.talk heard heard_now
+    → GoOnFor found (option_map_or (λ (l : Link). l.talk) o past) (option_map_or (λ (l : Link). l.talk) x new.talk) heard heard_now
+taken_down {o} {x} found past old new heard heard_now there gone talks =
+    subst (λ (x : Option Link). GoOnFor found (option_map_or (λ (l : Link). l.talk) o past) (option_map_or (λ (l : Link). l.talk) x new.talk) heard heard_now) (sym gone)
+    (subst (λ (o : Option Link). GoOnFor found (option_map_or (λ (l : Link). l.talk) o past) new.talk heard heard_now) there talks)
+
+-- what was sent and taken while it was up
+pub sent_here : {o : Option Link} (port now : PortState) (found : Option Shape) (again : Again) (old new : Link) → Some old ≡ o → IsUp port found o again
+    → GoOn old.set.config.shape old.talk new.talk port.talk now.talk → GoOnFor found old.talk new.talk port.talk now.talk
+sent_here port now found again old new there up talks =
+    said_found found old.set.config.shape old.talk new.talk port.talk now.talk (held_here port found again there up).shape talks
 
 -- what is said of each is said of those that it was
 pub narrows_of : (T : Device → Device → Type 0) (old new : PortBoardState) → EachWas T (MayBe old) (MayBe new) → Narrows (MayBe old) (MayBe new)
@@ -245,13 +251,13 @@ all_here {l} port found again there up =
     every.2
 
 -- nothing was said
-pub narrows_same : (old new : PortBoardState) → new.found ≡ old.found → new.talk ≡ old.talk → new.port_talk ≡ old.port_talk → Narrows (MayBe old) (MayBe new)
-narrows_same old new found talk port_talk = narrows old new found (said_none old.talk new.talk old.port_talk new.port_talk talk port_talk)
+pub narrows_same : (old new : PortBoardState) → new.found ≡ old.found → new.talk ≡ old.talk → Narrows (MayBe old) (MayBe new)
+narrows_same old new found talk = narrows old new found (behind_same old.talk new.talk talk)
 
 -- a load that waits is the session of each
-pub set_each : (g : Configuration) (old new : PortBoardState) → new.found ≡ old.found → new.talk ≡ old.talk → new.port_talk ≡ old.port_talk → new.waits ≡ Some g → EachWas (λ o d. IsInSession g [] d) (MayBe old) (MayBe new)
-set_each g old new found talk port_talk waits =
-    each_was Anyhow (λ o d. IsInSession g [] d) old new found (behind_all old.talk new.talk old.port_talk new.port_talk (said_none old.talk new.talk old.port_talk new.port_talk talk port_talk))
+pub set_each : (g : Configuration) (old new : PortBoardState) → new.found ≡ old.found → new.talk ≡ old.talk → new.waits ≡ Some g → EachWas (λ o d. IsInSession g [] d) (MayBe old) (MayBe new)
+set_each g old new found talk waits =
+    each_was Anyhow (λ o d. IsInSession g [] d) old new found (behind_same old.talk new.talk talk)
     (λ m f d c e k at st r. subst (λ (w : Option Configuration). IsInSession g [] (as_told w e)) (sym waits) (record { config = refl; so_far = refl }))
 
 -- one cycle
@@ -269,7 +275,7 @@ pub narrows_none : {o : Option Link} (port : PortState) (found : Option Shape) (
 narrows_none {o} port found x past n fs fs_now there gone =
     subst (λ (x : Option Link). Narrows (MayBe (state_of port found o past n fs)) (MayBe (state_of port found x past n fs_now))) (sym gone)
     (subst (λ (o : Option Link). Narrows (MayBe (state_of port found o past n fs)) (MayBe (state_of port found None past n fs_now))) there
-    (narrows_same (state_of port found None past n fs) (state_of port found None past n fs_now) refl refl refl))
+    (narrows_same (state_of port found None past n fs) (state_of port found None past n fs_now) refl refl))
 
 waits_for : {due : Bool} {set config : Configuration} → due ≡ true → set ≡ config → waiting due set ≡ Some config
 waits_for {due} {set} {config} is same = ap (λ (b : Bool). waiting b set) is ∙ ap Some same
@@ -280,13 +286,13 @@ pub set_all : {o : Option Link} (port : PortState) (found : Option Shape) (past 
     → EachWas (λ o d. IsInSession config [] d) (MayBe (state_of port found o past n fs)) (MayBe (state_of port found (Some new) past n_now fs_now))
 set_all {o} port found past n n_now fs fs_now old new config there talk due set =
     subst (λ (o : Option Link). EachWas (λ o d. IsInSession config [] d) (MayBe (state_of port found o past n fs)) (MayBe (state_of port found (Some new) past n_now fs_now))) there
-    (set_each config (state_of port found (Some old) past n fs) (state_of port found (Some new) past n_now fs_now) refl talk refl (waits_for due set))
+    (set_each config (state_of port found (Some old) past n fs) (state_of port found (Some new) past n_now fs_now) refl talk (waits_for due set))
 
 pub narrows_posted : {o : Option Link} (port : PortState) (found : Option Shape) (past : List Said) (n n_now fs fs_now : ℕ) (old new : Link) → Some old ≡ o → new.talk ≡ old.talk
     → Narrows (MayBe (state_of port found o past n fs)) (MayBe (state_of port found (Some new) past n_now fs_now))
 narrows_posted {o} port found past n n_now fs fs_now old new there talk =
     subst (λ (o : Option Link). Narrows (MayBe (state_of port found o past n fs)) (MayBe (state_of port found (Some new) past n_now fs_now))) there
-    (narrows_same (state_of port found (Some old) past n fs) (state_of port found (Some new) past n_now fs_now) refl talk refl)
+    (narrows_same (state_of port found (Some old) past n fs) (state_of port found (Some new) past n_now fs_now) refl talk)
 
 -- a machine that was found and told is as it was told when the port was opened
 pub finds_told : (m : Shape) (due : Bool) (g : Configuration) (o w : Option Device) → due ≡ false → option_map told_pair w ≡ option_map told_pair o

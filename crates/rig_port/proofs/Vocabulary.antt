@@ -8,7 +8,7 @@ pub use Rattle.std.proofs.lemmas.Bool.Decides.{nat_tests}
 pub use Rattle.std.proofs.lemmas.Grind.{flat_map-append, get_or-set_at}
 pub use Rattle.std.proofs.lemmas.List.{append-nil, append_assoc, ext_get_or, get_or_past, length-append, length-drop, length-map}
 pub use Rattle.std.proofs.lemmas.List.{length-set, length-take, length-take-le, take_more, take_more_set}
-pub use Rattle.std.proofs.lemmas.List.Elements.{All-append, All-drop, All-set, All-take}
+pub use Rattle.std.proofs.lemmas.List.Elements.{All-append, All-cons, All-drop, All-nil, All-set, All-take}
 pub use Rattle.std.proofs.lemmas.List.Sums.{fold-append, sum_by-cons, sum_by-take-le, sum_by_push}
 pub use Rattle.hex.specs.Hex.{IsBytes, decode_of, decode_sized, encode_lower, lower_digits}
 unfoldable pub use Rattle.hex.specs.Hex.{encode_with}
@@ -39,10 +39,10 @@ pub use Rattle.rig_port.specs.Lines.{pin_text, reading_body, reading_line, turn_
 pub use Rattle.rig_port.specs.Linked.{AreEdited, HasTurned, IsLinked, IsPosted, PortBoardState, told_with, waiting}
 pub use Rattle.rig_port.specs.Ports.{AskFails, PortState, machine_told}
 pub use Rattle.rig_port.specs.Replays.{BeginsWith, HasReplayed, IsDue, recorded_of}
-pub use Rattle.rig_port.specs.Requests.{AreWide, Close, IsEditOf, Off, On, Tick, attach_body, attach_line, drives_text, edited, edits_text}
+pub use Rattle.rig_port.specs.Requests.{AreWide, Close, IsEditOf, IsRequestOf, Off, On, Tick, attach_body, attach_line, drives_text, edited, edits_text}
 pub use Rattle.rig_port.specs.RigPorts.{IsDriven, IsReady, IsShort, edit_of, edits_of}
-pub use Rattle.rig_port.specs.Said.{Said}
+pub use Rattle.rig_port.specs.Said.{Said, Sent, answered, said_if}
 pub use Rattle.rig_port.specs.Sessions.{CanResume, HasMade, HasRows, IsOf, KeepsSession, SetsAnew, StaysLoaded, StaysPosted, kept_pairs}
 pub use Rattle.rig_port.specs.Sessions.{paired}
 pub use Rattle.rig_port.specs.Stands.{AllStandUp, Finds, HasStood, Makes, MayBe, StandsTold, Turns, as_told}
-pub use Rattle.rig_port.specs.Transcripts.{Behind, GoOn, HasSaid, MayStand, and_said}
+pub use Rattle.rig_port.specs.Transcripts.{Behind, GoOn, GoOnFor, HasSaid, MayStand, and_said, and_sent}

@@ -8,7 +8,7 @@ use Rattle.machine_config.specs.Configuration.{Configuration, coded_configuratio
 use Rattle.machine_faults.specs.Adding.{coded_faults}
 use Rattle.rig.specs.Rig.{Exchange, Session}
 use Rattle.rig_board.specs.{Codes.coded_exchange, Device.Device}
-use Rattle.rig_port.specs.{Linked.PortBoardState, Said.Said, Said.coded_talk}
+use Rattle.rig_port.specs.{Linked.PortBoardState, Said.Said, Said.Sent, Said.coded_port_talk, Said.coded_talk}
 
 abbrev pub coded_session : Coded Session
 coded_session = code_by (Configuration × (List Exchange × ℕ)) (coded× coded_configuration (coded× (coded_list coded_exchange) coded_ℕ))
@@ -24,8 +24,8 @@ abbrev pub coded_told : Coded ((Option Device × Option Configuration) × (ℕ �
 coded_told = coded× (coded× (coded_option coded_device) (coded_option coded_configuration)) (coded× coded_ℕ (coded× coded_ℕ coded_ℕ))
 
 abbrev pub coded_board : Coded PortBoardState
-coded_board = code_by (((Option Shape × (Bool × (Bool × Bool))) × (List Said × List Said)) × ((Option Device × Option Configuration) × (ℕ × (ℕ × ℕ))))
-    (coded× (coded× (coded× (coded_option shape.the_row.coded) (coded× coded_bool (coded× coded_bool coded_bool))) (coded× coded_talk coded_talk)) coded_told)
+coded_board = code_by (((Option Shape × (Bool × (Bool × Bool))) × (List Said × List Sent)) × ((Option Device × Option Configuration) × (ℕ × (ℕ × ℕ))))
+    (coded× (coded× (coded× (coded_option shape.the_row.coded) (coded× coded_bool (coded× coded_bool coded_bool))) (coded× coded_talk coded_port_talk)) coded_told)
     (λ s. (((s.found, (s.is_up, (s.in_session, s.is_due))), (s.talk, s.port_talk)), ((s.device, s.waits), (s.number, (s.port_failures, s.failures)))))
     (λ p. record {
       found = p.0.0.0;

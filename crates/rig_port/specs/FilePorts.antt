@@ -1,10 +1,10 @@
 -- Files of the system as a port.
 use Rattle.std.specs.Prelude.{◌≡◌, ◌≢◌, ◌⊎◌, ℕ, ◌-◌, ◌^◌, ◌≤◌, Bool, true, List, [], ◌∷◌, ◌++◌, get_or, codes, min, length, All, Option, None, IfSome, IsNone, MatchOption}
 use Rattle.std.specs.Io.KnownBytes.{Appends, Consumes, prepend_known}
-use Rattle.rig_port.specs.{Checks.fresh_check, Said.Said, Ports.PortState, declared.talk.Ends.Ends}
+use Rattle.rig_port.specs.{Checks.fresh_check, Said.Sent, Ports.PortState, declared.talk.Ends.Ends}
 
 -- what they mean as a port: no machine is told
-abbrev pub file_port_state : Bool → List Said → ℕ → PortState
+abbrev pub file_port_state : Bool → List Sent → ℕ → PortState
 file_port_state is_open talk failures =
     record { is_open = is_open; device = None; check = fresh_check; talk = talk; failures = min failures (2 ^ 64 - 1) }
 

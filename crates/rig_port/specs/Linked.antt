@@ -6,7 +6,7 @@ use Rattle.machine_config.specs.Configuration.{Configuration}
 use Rattle.rig.specs.Rig.{Exchange, drives_of, readings_of}
 use Rattle.rig_board.specs.{Boards.BoardState, Device.Device, Device.HasRunSession, Device.GoesOnWith, Device.WhereTold}
 use Rattle.rig_port.specs.{Requests.Edit, Requests.edited, Requests.IsEditOf, Requests.edits_text, Requests.start_text, Answers.start_of}
-use Rattle.rig_port.specs.Said.{Said}
+use Rattle.rig_port.specs.Said.{Said, Sent}
 
 -- what it means
 pub record PortBoardState : Type 0 where
@@ -19,9 +19,9 @@ pub record PortBoardState : Type 0 where
   pub device : Option Device
   -- the load that waits to be sent
   pub waits : Option Configuration
-  -- what it took for answers since the last `find` began, and what its port was asked and answered
+  -- what it took for answers since the last `find` began, and all that its port was asked, and what answered
   pub talk : List Said
-  pub port_talk : List Said
+  pub port_talk : List Sent
   -- the number under which the machine was asked last what it is
   pub number : ℕ
   -- those of its port alone, and all

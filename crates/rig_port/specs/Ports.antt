@@ -4,7 +4,7 @@ use Rattle.machine_shape.specs.declared.Shape.{Shape}
 use Rattle.machine_meaning.specs.Faults.{Faults, AreFaultsOf}
 use Rattle.base_io.specs.Counts.{Rose}
 use Rattle.rig_board.specs.Device.{Device}
-use Rattle.rig_port.specs.{Lines.AreCounts, Said.Said, declared.check.Check.Check, declared.port.PortFail.PortFail}
+use Rattle.rig_port.specs.{Lines.AreCounts, Said.Sent, declared.check.Check.Check, declared.port.PortFail.PortFail}
 use Rattle.rig_port.specs.declared.port.PortFail.TheVariants as port
 
 -- what a port means
@@ -14,8 +14,8 @@ pub record PortState : Type 0 where
   pub device : Option Device
   -- and its running check
   pub check : Check
-  -- what it was asked and answered since it was made
-  pub talk : List Said
+  -- all that it was asked since it was made, and what answered
+  pub talk : List Sent
   -- a count that never falls
   pub failures : ℕ
 

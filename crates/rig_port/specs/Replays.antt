@@ -1,6 +1,6 @@
 -- A recorded talk as a port.
 use Rattle.std.specs.Prelude.{◌≡◌, ℕ, ◌≤◌, List, ◌++◌, length, drop, flat_map}
-use Rattle.rig_port.specs.{FilePorts.IsLine, Said.Said}
+use Rattle.rig_port.specs.{FilePorts.IsLine, Said.Said, Said.Sent, Said.answered}
 
 -- a request stood in front of all that was left of a recording, and then a line; what is left now stood behind them
 pub record HasReplayed (old new request line : List ℕ) : Type 0 where
@@ -21,6 +21,6 @@ pub record IsDue (left request : List ℕ) (room : ℕ) : Type 0 where
 abbrev pub recorded_of : List Said → List ℕ
 recorded_of talk = flat_map (λ s. s.request ++ s.line) talk
 
--- a recording begins with what was said, and the rest is left
-abbrev pub BeginsWith : List ℕ → ℕ → List Said → Type 0
-BeginsWith recorded at talk = recorded ≡ recorded_of talk ++ drop at recorded
+-- a recording begins with what was asked and answered, and the rest is left
+abbrev pub BeginsWith : List ℕ → ℕ → List Sent → Type 0
+BeginsWith recorded at talk = recorded ≡ recorded_of (answered talk) ++ drop at recorded

@@ -92,3 +92,11 @@ load_line c anew edits drives = line_of c (load_body anew edits drives)
 
 abbrev pub drives_line : Check → List Pins → List ℕ
 drives_line c drives = line_of c (drives_text drives)
+
+-- it is one of the four requests to a machine of this shape, and no byte more: its numbers are in range, its drives are as wide as the
+-- machine, and some check is behind it
+pub data IsRequestOf (m : Shape) (request : List ℕ) : Type 0 where
+  sends_attach : (n : ℕ) → n < 2 ^ 32 → request ≡ attach_line n → IsRequestOf m request
+  sends_load : (c : Check) (anew : Bool) (edits : List Edit) (drives : List Pins) → All (IsEditOf m) edits → AreWide m drives →
+      request ≡ load_line c anew edits drives → IsRequestOf m request
+  sends_drives : (c : Check) (drives : List Pins) → AreDrivesOf m drives → request ≡ drives_line c drives → IsRequestOf m request

@@ -11,7 +11,7 @@ use Rattle.rig_port.specs.{Answers.Answers, declared.check.Check.Check, Checks.a
 use Rattle.rig_port.specs.{Lines.line_of, Lines.counts_body, Lines.reading_body, Lines.reading_line, declared.wanted.Change.Change}
 use Rattle.rig_port.specs.Requests.{Edit, Close, Open, On, Off, Tick, IsEditOf, AreWide, AreDrivesOf}
 use Rattle.rig_port.specs.Requests.{load_body, drives_text, attach_line, load_line, drives_line}
-use Rattle.rig_port.specs.Said.{Said}
+use Rattle.rig_port.specs.Said.{Sent}
 use Rattle.rig_port.specs.declared.wanted.Change.TheVariants as change
 
 -- a change as an edit
@@ -38,7 +38,7 @@ pub record IsWantedOf (m : Shape) (w : Wanted) : Type 0 where
   pub drives : AreWide m w.drives.items
   pub some : w.loads ≡ false → 0 < length w.drives.items
 
--- a rig, the shape that it is to be, what is set while the port is open, whether that was loaded, the running check, what was said,
+-- a rig, the shape that it is to be, what is set while the port is open, whether that was loaded, the running check, what it was asked,
 -- and failures
 pub record RigEnd (I : Type 0) : Type 0 where
   pub inner : I
@@ -46,7 +46,7 @@ pub record RigEnd (I : Type 0) : Type 0 where
   pub set : Option Configuration
   pub running : Bool
   pub check : Check
-  pub talk : List Said
+  pub talk : List Sent
   pub failures : ℕ
 
 -- the machine that it tells

@@ -1,13 +1,17 @@
 -- What was said over a port, and which machines it can have come from.
-use Rattle.std.specs.Prelude.{◌≡◌, ℕ, List, [], ◌∷◌, ◌++◌}
+use Rattle.std.specs.Prelude.{◌≡◌, ℕ, List, [], ◌∷◌, ◌++◌, All, Option, None, Some}
 use Rattle.machine_shape.specs.declared.Shape.{Shape}
 use Rattle.machine_meaning.specs.Faults.{Faults, AreFaultsOf}
 use Rattle.rig_board.specs.Device.{Device}
-use Rattle.rig_port.specs.{declared.check.Check.Check, Answers.Answers, Said.Said}
+use Rattle.rig_port.specs.{declared.check.Check.Check, Answers.Answers, Requests.IsRequestOf, Said.Said, Said.Sent, Said.answered}
 
 -- a transcript with one more behind
 abbrev pub and_said : List Said → List ℕ → List ℕ → List Said
 and_said talk request line = talk ++ record { request = request; line = line } ∷ []
+
+-- what a port was asked, with one request more behind, and the line that answered it, if one did
+abbrev pub and_sent : List Sent → List ℕ → Option (List ℕ) → List Sent
+and_sent talk request line = talk ++ record { request = request; line = line } ∷ []
 
 -- from one device to another there are devices, one in front of each of these and one behind it, that answer so
 abbrev pub HasSaid : Device → Check → List Said → Device → Check → Type 0
@@ -40,10 +44,17 @@ pub data IsAmong : List Said → List Said → Type 0 where
   both : {xs ys : List Said} (s : Said) → IsAmong xs ys → IsAmong (s ∷ xs) (s ∷ ys)
   passed : {xs ys : List Said} (s : Said) → IsAmong xs ys → IsAmong xs (s ∷ ys)
 
--- two transcripts went on, and what came to the one is among what came to the other
-pub record GoOn (taken taken_now heard heard_now : List Said) : Type 0 where
+-- a board's transcript and what its port was asked went on: what came to the one is among what was answered of the other, and all that
+-- was sent are requests to a machine of this shape
+pub record GoOn (m : Shape) (taken taken_now : List Said) (heard heard_now : List Sent) : Type 0 where
   pub more : List Said
-  pub all : List Said
+  pub all : List Sent
   pub taken_is : taken_now ≡ taken ++ more
   pub heard_is : heard_now ≡ heard ++ all
-  pub among : IsAmong more all
+  pub among : IsAmong more (answered all)
+  pub requests : All (λ s. IsRequestOf m s.request) all
+
+-- the same to the machine that was found, and one was
+abbrev pub GoOnFor : Option Shape → List Said → List Said → List Sent → List Sent → Type 0
+GoOnFor None taken taken_now heard heard_now = ⊥
+GoOnFor (Some m) taken taken_now heard heard_now = GoOn m taken taken_now heard heard_now

@@ -1,14 +1,15 @@
 //! Files of the system as a port.
-ghost use Rattle.std.specs.Prelude.{◌≡◌, ◌^◌, ◌<◌, ◌≤◌, [], true, false, None, length, take, is_some, IfSome, IfOk, IfErr, OnOk, OnErr, IsErrOf};
+ghost use Rattle.std.specs.Prelude.{◌≡◌, ◌^◌, ◌<◌, ◌≤◌, [], true, false, None, Some, length, take, is_some, IfSome};
+ghost use Rattle.std.specs.Prelude.{IfOk, IfErr, OnOk, OnErr, IsErrOf};
 ghost use Rattle.base_io.specs.Counts.{Rose, next_count};
 ghost use Rattle.rig_board.specs.Device.{WhereTold};
 ghost use Rattle.rig_port.specs.Answers.{Answers};
 ghost use Rattle.rig_port.specs.Ports.{machine_told, Opens, AskFails};
 ghost use Rattle.rig_port.specs.FilePorts.{file_port_state, HaveTalked, HaveWritten};
-ghost use Rattle.rig_port.specs.Transcripts.{and_said};
+ghost use Rattle.rig_port.specs.Transcripts.{and_sent};
 
+use crate::port_log::PortLog;
 use crate::talk::{Ends, NoReply, Rest, talk};
-use crate::transcript::Transcript;
 use crate::{Port, PortFail};
 use std::alloc::{AllocError, Global};
 use std::fs::OpenOptions;
@@ -27,7 +28,7 @@ pub struct FilePort<R: Files + Drop> {
     ends: Option<Ends<R::File>>,
     /// How many requests there were, up to the last `u64`.
     pub asks: u64,
-    talk: Transcript,
+    talk: PortLog,
     failures: u64,
 }
 
@@ -81,7 +82,7 @@ impl<R: Files + Drop> FilePort<R> {
             rt,
             ends: None,
             asks: 0,
-            talk: Transcript::new(),
+            talk: PortLog::new(),
             failures: 0,
         }
     }
@@ -154,9 +155,10 @@ impl<R: Files + Drop> Port for FilePort<R> {
             ≡ machine_told (⟦<FilePort<R> as Port>⟧.port_state self.old) }
         ensures later { (⟦<FilePort<R> as Port>⟧.port_state self.old).failures ≤ (⟦<FilePort<R> as Port>⟧.port_state self.new).failures }
         ensures count { (⟦<FilePort<R> as Port>⟧.port_state self.new).failures < 2 ^ 64 }
-        ensures said { IfOk result (λ n. (⟦<FilePort<R> as Port>⟧.port_state self.new).talk ≡ and_said (⟦<FilePort<R> as Port>⟧.port_state self.old).talk request.now
-            (take n reply.new)) }
-        ensures unsaid { OnErr result ((⟦<FilePort<R> as Port>⟧.port_state self.new).talk ≡ (⟦<FilePort<R> as Port>⟧.port_state self.old).talk) }
+        ensures said { IfOk result (λ n. (⟦<FilePort<R> as Port>⟧.port_state self.new).talk
+            ≡ and_sent (⟦<FilePort<R> as Port>⟧.port_state self.old).talk request.now (Some (take n reply.new))) }
+        ensures unsaid { OnErr result ((⟦<FilePort<R> as Port>⟧.port_state self.new).talk
+            ≡ and_sent (⟦<FilePort<R> as Port>⟧.port_state self.old).talk request.now None) }
         ensures length { length reply.new ≡ length reply.old }
         ensures within { IfOk result (λ n. n ≤ length reply.new) }
         ensures stays { OnOk result ((⟦<FilePort<R> as Port>⟧.port_state self.new).is_open ≡ true) }
@@ -182,10 +184,12 @@ impl<R: Files + Drop> Port for FilePort<R> {
             }
             Err(NoReply::Wrong) => {
                 self.ends = Some(ends);
+                self.talk = self.talk.and_unanswered(request);
                 self.failures = self.failures.saturating_add(1);
                 Err(PortFail::Failed)
             }
             Err(NoReply::Ended) => {
+                self.talk = self.talk.and_unanswered(request);
                 self.failures = self.failures.saturating_add(1);
                 Err(PortFail::Failed)
             }

@@ -4,8 +4,8 @@ ghost use Rattle.std.specs.Option.{option_map_or};
 ghost use Rattle.rig_port.specs.FilePorts.{file_port_state};
 
 use crate::file_port::{FilePort, without_times};
+use crate::port_log::PortLog;
 use crate::replay_port::ReplayPort;
-use crate::transcript::Transcript;
 use crate::{Port, PortFail};
 use std::alloc::{AllocError, Global};
 use std::fs;
@@ -24,7 +24,7 @@ pub struct NamedPort<R: Files + Drop> {
     alloc: Global,
     files: FilePort<R>,
     replay: Option<ReplayPort>,
-    talk: Transcript,
+    talk: PortLog,
     failures: u64,
 }
 
@@ -107,7 +107,7 @@ impl<R: Files + Drop> NamedPort<R> {
             alloc,
             files: FilePort::new(alloc, rt),
             replay: None,
-            talk: Transcript::new(),
+            talk: PortLog::new(),
             failures: 0,
         }
     }
@@ -168,6 +168,7 @@ impl<R: Files + Drop> Port for NamedPort<R> {
                 Ok(count)
             }
             None => {
+                self.talk = self.talk.and_unanswered(request);
                 self.failures = failures.saturating_add(1);
                 Err(PortFail::Failed)
             }

@@ -1,10 +1,11 @@
 //! A port as a trait.
-ghost use Rattle.std.specs.Prelude.{◌≡◌, ◌^◌, ◌<◌, ◌≤◌, true, false, length, take, IfOk, IfErr, OnOk, OnErr, IsErrOf};
+ghost use Rattle.std.specs.Prelude.{◌≡◌, ◌^◌, ◌<◌, ◌≤◌, true, false, None, Some, length, take};
+ghost use Rattle.std.specs.Prelude.{IfOk, IfErr, OnOk, OnErr, IsErrOf};
 ghost use Rattle.base_io.specs.Counts.{Rose};
 ghost use Rattle.rig_board.specs.Device.{WhereTold};
 ghost use Rattle.rig_port.specs.Answers.{Answers};
 ghost use Rattle.rig_port.specs.Ports.{PortState, machine_told, Opens, AskFails};
-ghost use Rattle.rig_port.specs.Transcripts.{and_said};
+ghost use Rattle.rig_port.specs.Transcripts.{and_sent};
 
 /// Why a port isn't opened or gives no reply.
 #[derive(Clone, Copy, Debug, PartialEq, Eq)]
@@ -17,8 +18,9 @@ pub enum PortFail {
 
 /// A way to a machine: a request is sent, and a line comes back.
 ///
-/// Contracts see whether it is open, the device at the other end where the port tells one, the requests that were answered, each with
-/// the line that answered it, and a count of failures, which is a `u64` and never falls. No code sees the device or what was said.
+/// Contracts see whether it is open, the device at the other end where the port tells one, the requests that it was asked, each with
+/// the line that answered it, if one did, and a count of failures, which is a `u64` and never falls. No code sees the device or what was
+/// asked.
 pub trait Port: Drop {
     ghost port_state: { Self → PortState };
 
@@ -53,8 +55,9 @@ pub trait Port: Drop {
         ensures machine { machine_told (port_state self.new) ≡ machine_told (port_state self.old) }
         ensures later { (port_state self.old).failures ≤ (port_state self.new).failures }
         ensures count { (port_state self.new).failures < 2 ^ 64 }
-        ensures said { IfOk result (λ n. (port_state self.new).talk ≡ and_said (port_state self.old).talk request.now (take n reply.new)) }
-        ensures unsaid { OnErr result ((port_state self.new).talk ≡ (port_state self.old).talk) }
+        ensures said { IfOk result (λ n. (port_state self.new).talk ≡ and_sent (port_state self.old).talk request.now
+            (Some (take n reply.new))) }
+        ensures unsaid { OnErr result ((port_state self.new).talk ≡ and_sent (port_state self.old).talk request.now None) }
         ensures length { length reply.new ≡ length reply.old }
         ensures within { IfOk result (λ n. n ≤ length reply.new) }
         ensures stays { OnOk result ((port_state self.new).is_open ≡ true) }

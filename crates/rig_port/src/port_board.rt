@@ -13,7 +13,7 @@ ghost use Rattle.rig_board.specs.Machines.{EachWas, Narrows, GoesOnBy};
 ghost use Rattle.rig_port.specs.Lines.{turn_room};
 ghost use Rattle.rig_port.specs.Linked.{IsPosted, board_of};
 ghost use Rattle.rig_port.specs.Sessions.{SetsAnew, HasRows, CanResume};
-ghost use Rattle.rig_port.specs.Transcripts.{GoOn};
+ghost use Rattle.rig_port.specs.Transcripts.{GoOn, GoOnFor};
 ghost use Rattle.rig_port.specs.Stands.{MayBe};
 
 use crate::again::Again;
@@ -325,7 +325,7 @@ impl<P: Port> Board for PortBoard<P> {
             (⟦<PortBoard<P> as Board>⟧.board_state self.new).failures }
         ensures alarm { IsErrOf result RigFail.Failed → IfSome self.new.device (λ d. d.shape ≡ shape.now →
             Rose self.old.port_failures self.new.port_failures) }
-        ensures taken { GoOn [] self.new.talk self.old.port_talk self.new.port_talk }
+        ensures taken { GoOn shape.now [] self.new.talk self.old.port_talk self.new.port_talk }
         ensures up { OnOk result (self.new.is_up ≡ true) }
         ensures down { OnErr result (self.new.is_up ≡ false) }
         ensures again { OnOk result ((self.new.number ≡ 1) ⊎ Rose self.old.failures self.new.failures) }
@@ -433,7 +433,7 @@ impl<P: Port> Board for PortBoard<P> {
         ensures narrows { Narrows (⟦<PortBoard<P> as Board>⟧.may_be self.old)
             (⟦<PortBoard<P> as Board>⟧.may_be self.new) }
         ensures told { OnOk result (IfSome (⟦<PortBoard<P> as Board>⟧.board_state self.new).device (⟦<PortBoard<P> as Board>⟧.may_be self.new)) }
-        ensures taken { GoOn self.old.talk self.new.talk self.old.port_talk self.new.port_talk }
+        ensures taken { GoOnFor self.old.found self.old.talk self.new.talk self.old.port_talk self.new.port_talk }
         ensures alarm { OnErr result (IsSome self.old.device → Rose self.old.port_failures self.new.port_failures) }
         ensures up { OnOk result (self.new.is_up ≡ true) }
         ensures down { OnErr result (self.new.is_up ≡ false) }
@@ -489,7 +489,7 @@ impl<P: Port> Board for PortBoard<P> {
         ensures narrows { Narrows (⟦<PortBoard<P> as Board>⟧.may_be self.old)
             (⟦<PortBoard<P> as Board>⟧.may_be self.new) }
         ensures told { OnOk result (IfSome (⟦<PortBoard<P> as Board>⟧.board_state self.new).device (⟦<PortBoard<P> as Board>⟧.may_be self.new)) }
-        ensures taken { GoOn self.old.talk self.new.talk self.old.port_talk self.new.port_talk }
+        ensures taken { GoOnFor self.old.found self.old.talk self.new.talk self.old.port_talk self.new.port_talk }
         ensures alarm { OnErr result (IsSome self.old.device → Rose self.old.port_failures self.new.port_failures) }
         ensures up { OnOk result (self.new.is_up ≡ true) }
         ensures down { OnErr result (self.new.is_up ≡ false) }

@@ -95,7 +95,8 @@ pub fn attach<P: Port>(port: &mut P, number: u32, question: &[u8], link: &mut Li
 
     ensures machine { machine_told (P.port_state port.new) ≡ machine_told (P.port_state port.old) }
     ensures later { (P.port_state port.old).failures ≤ (P.port_state port.new).failures }
-    ensures talks { GoOn link.old.talk link.new.talk (P.port_state port.old).talk (P.port_state port.new).talk }
+    ensures talks { GoOn link.old.set.config.shape link.old.talk link.new.talk (P.port_state port.old).talk
+        (P.port_state port.new).talk }
     ensures stood { HasStood (P.port_state port.old) link.old.talk → HasStood (P.port_state port.new) link.new.talk }
     ensures stands { IsTrue result → HasStood (P.port_state port.old) link.old.talk → StandsTold (P.port_state port.new) link.new.talk }
     ensures open { IsTrue result → (P.port_state port.new).is_open ≡ true }
@@ -127,7 +128,8 @@ pub fn attach_next<P: Port>(
 
     ensures machine { machine_told (P.port_state port.new) ≡ machine_told (P.port_state port.old) }
     ensures later { (P.port_state port.old).failures ≤ (P.port_state port.new).failures }
-    ensures talks { GoOn link.old.talk link.new.talk (P.port_state port.old).talk (P.port_state port.new).talk }
+    ensures talks { GoOn link.old.set.config.shape link.old.talk link.new.talk (P.port_state port.old).talk
+        (P.port_state port.new).talk }
     ensures stood { HasStood (P.port_state port.old) link.old.talk → HasStood (P.port_state port.new) link.new.talk }
     ensures stands { IsTrue result → HasStood (P.port_state port.old) link.old.talk → StandsTold (P.port_state port.new) link.new.talk }
     ensures open { IsTrue result → (P.port_state port.new).is_open ≡ true }
@@ -158,7 +160,8 @@ fn attach_again<P: Port>(
 
     ensures machine { machine_told (P.port_state port.new) ≡ machine_told (P.port_state port.old) }
     ensures later { (P.port_state port.old).failures ≤ (P.port_state port.new).failures }
-    ensures talks { GoOn link.old.talk link.new.talk (P.port_state port.old).talk (P.port_state port.new).talk }
+    ensures talks { GoOn link.old.set.config.shape link.old.talk link.new.talk (P.port_state port.old).talk
+        (P.port_state port.new).talk }
     ensures stood { HasStood (P.port_state port.old) link.old.talk → HasStood (P.port_state port.new) link.new.talk }
     ensures stands { IsTrue result → HasStood (P.port_state port.old) link.old.talk → StandsTold (P.port_state port.new) link.new.talk }
     ensures open { IsTrue result → (P.port_state port.new).is_open ≡ true }
@@ -203,7 +206,8 @@ pub fn attach_some<P: Port>(
 
     ensures machine { machine_told (P.port_state port.new) ≡ machine_told (P.port_state port.old) }
     ensures later { (P.port_state port.old).failures ≤ (P.port_state port.new).failures }
-    ensures talks { GoOn link.old.talk link.new.talk (P.port_state port.old).talk (P.port_state port.new).talk }
+    ensures talks { GoOn link.old.set.config.shape link.old.talk link.new.talk (P.port_state port.old).talk
+        (P.port_state port.new).talk }
     ensures stood { HasStood (P.port_state port.old) link.old.talk → HasStood (P.port_state port.new) link.new.talk }
     ensures stands { IsTrue result → HasStood (P.port_state port.old) link.old.talk → StandsTold (P.port_state port.new) link.new.talk }
     ensures open { IsTrue result → (P.port_state port.new).is_open ≡ true }

@@ -1,16 +1,16 @@
 //! A recorded talk as a port.
 ghost use Rattle.std.specs.Prelude.{◌≡◌, ◌^◌, ◌<◌, ◌≤◌, ◌++◌, List, [], ℕ, true, false};
-ghost use Rattle.std.specs.Prelude.{length, take, drop, IfSome, IfNone, IfOk, IfErr, OnOk, OnErr, IsErrOf};
+ghost use Rattle.std.specs.Prelude.{None, Some, length, take, drop, IfSome, IfNone, IfOk, IfErr, OnOk, OnErr, IsErrOf};
 ghost use Rattle.base_io.specs.Counts.{Rose};
 ghost use Rattle.rig_board.specs.Device.{WhereTold};
 ghost use Rattle.rig_port.specs.Answers.{Answers};
 ghost use Rattle.rig_port.specs.Ports.{machine_told, Opens, AskFails};
 ghost use Rattle.rig_port.specs.FilePorts.{file_port_state, IsLine};
 ghost use Rattle.rig_port.specs.Replays.{BeginsWith, HasReplayed, IsDue};
-ghost use Rattle.rig_port.specs.Transcripts.{and_said};
+ghost use Rattle.rig_port.specs.Transcripts.{and_sent};
 
+use crate::port_log::PortLog;
 use crate::question::is_line;
-use crate::transcript::Transcript;
 use crate::{Port, PortFail};
 
 /// A recorded talk as a port: lines, by turns a request and its reply. A request is answered by the recorded reply, and only where it is,
@@ -20,7 +20,7 @@ pub struct ReplayPort {
     recorded: Vec<u8>,
     at: usize,
     is_open: bool,
-    talk: Transcript,
+    talk: PortLog,
     failures: u64,
 }
 
@@ -116,7 +116,7 @@ impl ReplayPort {
             recorded,
             at: 0,
             is_open: false,
-            talk: Transcript::new(),
+            talk: PortLog::new(),
             failures: 0,
         }
     }
@@ -133,7 +133,7 @@ impl ReplayPort {
             recorded,
             at: 0,
             is_open: true,
-            talk: Transcript::new(),
+            talk: PortLog::new(),
             failures: 0,
         }
     }
@@ -180,9 +180,10 @@ impl Port for ReplayPort {
             ≡ machine_told (⟦<ReplayPort as Port>⟧.port_state self.old) }
         ensures later { (⟦<ReplayPort as Port>⟧.port_state self.old).failures ≤ (⟦<ReplayPort as Port>⟧.port_state self.new).failures }
         ensures count { (⟦<ReplayPort as Port>⟧.port_state self.new).failures < 2 ^ 64 }
-        ensures said { IfOk result (λ n. (⟦<ReplayPort as Port>⟧.port_state self.new).talk ≡ and_said (⟦<ReplayPort as Port>⟧.port_state self.old).talk request.now
-            (take n reply.new)) }
-        ensures unsaid { OnErr result ((⟦<ReplayPort as Port>⟧.port_state self.new).talk ≡ (⟦<ReplayPort as Port>⟧.port_state self.old).talk) }
+        ensures said { IfOk result (λ n. (⟦<ReplayPort as Port>⟧.port_state self.new).talk
+            ≡ and_sent (⟦<ReplayPort as Port>⟧.port_state self.old).talk request.now (Some (take n reply.new))) }
+        ensures unsaid { OnErr result ((⟦<ReplayPort as Port>⟧.port_state self.new).talk
+            ≡ and_sent (⟦<ReplayPort as Port>⟧.port_state self.old).talk request.now None) }
         ensures length { length reply.new ≡ length reply.old }
         ensures within { IfOk result (λ n. n ≤ length reply.new) }
         ensures stays { OnOk result ((⟦<ReplayPort as Port>⟧.port_state self.new).is_open ≡ true) }
@@ -208,6 +209,7 @@ impl Port for ReplayPort {
                 Ok(replied.count)
             }
             None => {
+                self.talk = self.talk.and_unanswered(request);
                 self.failures = failures.saturating_add(1);
                 Err(PortFail::Failed)
             }

@@ -58,7 +58,8 @@ fn redrive<P: Port>(
     requires as_many_read { length readings.now ≡ length drives.now }
 
     ensures later { IsLater (P.port_state port.old) (P.port_state port.new) }
-    ensures talks { GoOn link.old.talk link.new.talk (P.port_state port.old).talk (P.port_state port.new).talk }
+    ensures talks { GoOn link.old.set.config.shape link.old.talk link.new.talk (P.port_state port.old).talk
+        (P.port_state port.new).talk }
     ensures stood { StandsTold (P.port_state port.old) link.old.talk → HasStood (P.port_state port.new) link.new.talk }
     ensures stands { IsTrue result → StandsTold (P.port_state port.old) link.old.talk → StandsTold (P.port_state port.new) link.new.talk }
     ensures lengths { KeepLengths spare.old spare.new }
@@ -87,7 +88,8 @@ fn redrive_first<P: Port>(
     requires as_many_read { length readings.now ≡ length drives.now }
 
     ensures later { IsLater (P.port_state port.old) (P.port_state port.new) }
-    ensures talks { GoOn link.old.talk link.new.talk (P.port_state port.old).talk (P.port_state port.new).talk }
+    ensures talks { GoOn link.old.set.config.shape link.old.talk link.new.talk (P.port_state port.old).talk
+        (P.port_state port.new).talk }
     ensures stood { StandsTold (P.port_state port.old) link.old.talk → HasStood (P.port_state port.new) link.new.talk }
     ensures stands { IsTrue result → StandsTold (P.port_state port.old) link.old.talk → StandsTold (P.port_state port.new) link.new.talk }
     ensures lengths { KeepLengths spare.old spare.new }
@@ -107,7 +109,8 @@ fn resume<P: Port>(port: &mut P, link: &mut Link, again: &mut Again) -> bool
     requires again { CanMakeAgain (P.port_state port.old) link.old again.old }
 
     ensures later { IsLater (P.port_state port.old) (P.port_state port.new) }
-    ensures talks { GoOn link.old.talk link.new.talk (P.port_state port.old).talk (P.port_state port.new).talk }
+    ensures talks { GoOn link.old.set.config.shape link.old.talk link.new.talk (P.port_state port.old).talk
+        (P.port_state port.new).talk }
     ensures stood { HasStood (P.port_state port.old) link.old.talk → HasStood (P.port_state port.new) link.new.talk }
     ensures stands { IsTrue result → HasStood (P.port_state port.old) link.old.talk → StandsTold (P.port_state port.new) link.new.talk }
     ensures stays { StaysLoaded link.old link.new }
@@ -146,7 +149,8 @@ fn turn_again<P: Port>(
     requires rows { AreRowsFor link.old.set.config drives.now reads.old }
 
     ensures later { IsLater (P.port_state port.old) (P.port_state port.new) }
-    ensures talks { GoOn link.old.talk link.new.talk (P.port_state port.old).talk (P.port_state port.new).talk }
+    ensures talks { GoOn link.old.set.config.shape link.old.talk link.new.talk (P.port_state port.old).talk
+        (P.port_state port.new).talk }
     ensures stood { HasStood (P.port_state port.old) link.old.talk → HasStood (P.port_state port.new) link.new.talk }
     ensures stands { IsTrue result → HasStood (P.port_state port.old) link.old.talk → StandsTold (P.port_state port.new) link.new.talk }
     ensures lengths { KeepLengths reads.old reads.new }
@@ -179,7 +183,8 @@ fn ask_again<P: Port>(
     requires rows { AreRowsFor link.old.set.config drives.now reads.old }
 
     ensures later { IsLater (P.port_state port.old) (P.port_state port.new) }
-    ensures talks { GoOn link.old.talk link.new.talk (P.port_state port.old).talk (P.port_state port.new).talk }
+    ensures talks { GoOn link.old.set.config.shape link.old.talk link.new.talk (P.port_state port.old).talk
+        (P.port_state port.new).talk }
     ensures stood { HasStood (P.port_state port.old) link.old.talk → HasStood (P.port_state port.new) link.new.talk }
     ensures stands { IsTrue result → HasStood (P.port_state port.old) link.old.talk → StandsTold (P.port_state port.new) link.new.talk }
     ensures lengths { KeepLengths reads.old reads.new }
@@ -224,7 +229,8 @@ fn turn_or_again<P: Port>(
     requires resumes { CanResume (P.port_state port.old).device link.old again.old }
 
     ensures later { IsLater (P.port_state port.old) (P.port_state port.new) }
-    ensures talks { GoOn link.old.talk link.new.talk (P.port_state port.old).talk (P.port_state port.new).talk }
+    ensures talks { GoOn link.old.set.config.shape link.old.talk link.new.talk (P.port_state port.old).talk
+        (P.port_state port.new).talk }
     ensures stands { IsTrue result → StandsTold (P.port_state port.old) link.old.talk → StandsTold (P.port_state port.new) link.new.talk }
     ensures lengths { KeepLengths reads.old reads.new }
     ensures kept { KeepsRows (pins_of link.old.set.config.shape) again.old again.new }
@@ -262,7 +268,8 @@ pub fn drive_on<P: Port>(
     requires resumes { CanResume (P.port_state port.old).device link.old again.old }
 
     ensures later { IsLater (P.port_state port.old) (P.port_state port.new) }
-    ensures talks { GoOn link.old.talk link.new.talk (P.port_state port.old).talk (P.port_state port.new).talk }
+    ensures talks { GoOn link.old.set.config.shape link.old.talk link.new.talk (P.port_state port.old).talk
+        (P.port_state port.new).talk }
     ensures stands { IsTrue result → StandsTold (P.port_state port.old) link.old.talk → StandsTold (P.port_state port.new) link.new.talk }
     ensures lengths { KeepLengths reads.old reads.new }
     ensures sent { IsTrue result → link.new.due ≡ false }

@@ -13,16 +13,16 @@ ghost use Rattle.rig_port.specs.Requests.{IsEditOf, edited, edited_by};
 ghost use Rattle.rig_port.specs.Answers.{Answers};
 ghost use Rattle.rig_port.specs.Ports.{machine_told, Opens, AskFails};
 ghost use Rattle.rig_port.specs.RigPorts.{edit_of, edits_of, wanted_body, wanted_line, IsWantedOf, rig_port_state, IsReady};
-ghost use Rattle.rig_port.specs.Transcripts.{and_said};
+ghost use Rattle.rig_port.specs.Transcripts.{and_sent};
 ghost use Rattle.rig_port.specs.RigPorts.{IsNoRequest, IsShort, IsDriven, IsAnswered, start_from};
 
 use crate::again::blank_rows;
 use crate::check::Check;
 use crate::parse::read_request;
 use crate::port::{Port, PortFail};
+use crate::port_log::PortLog;
 use crate::respell::{make_room, read_attach, spelled_check};
 use crate::spelling::{put_counts, put_readings};
-use crate::transcript::Transcript;
 use crate::wanted::{Asked, Change, Wanted};
 use machine_config::Config;
 use machine_shape::Shape;
@@ -44,7 +44,7 @@ pub struct RigPort<R: Rig> {
     set: Option<Config>,
     running: bool,
     check: Check,
-    talk: Transcript,
+    talk: PortLog,
     failures: u64,
 }
 
@@ -56,9 +56,9 @@ impl<R: Rig> Model for RigPort<R> {
 
     ghost use Rattle.std.specs.Coded.{codes};
     ghost use Rattle.machine_config.specs.Configuration.{coded_configuration};
-    ghost use Rattle.rig_port.specs.Said.{coded_talk};
+    ghost use Rattle.rig_port.specs.Said.{coded_port_talk};
 
-    ghost coded = { Prim.hlevel (codes, coded_configuration, coded_talk) };
+    ghost coded = { Prim.hlevel (codes, coded_configuration, coded_port_talk) };
 
     ghost view = { λ p. record {
       inner = p.inner;
@@ -478,7 +478,7 @@ impl<R: Rig> RigPort<R> {
             set: None,
             running: false,
             check: Check::new(),
-            talk: Transcript::new(),
+            talk: PortLog::new(),
             failures: 0,
         }
     }
@@ -539,9 +539,10 @@ impl<R: Rig> Port for RigPort<R> {
             ≡ machine_told (⟦<RigPort<R> as Port>⟧.port_state self.old) }
         ensures later { (⟦<RigPort<R> as Port>⟧.port_state self.old).failures ≤ (⟦<RigPort<R> as Port>⟧.port_state self.new).failures }
         ensures count { (⟦<RigPort<R> as Port>⟧.port_state self.new).failures < 2 ^ 64 }
-        ensures said { IfOk result (λ n. (⟦<RigPort<R> as Port>⟧.port_state self.new).talk ≡ and_said (⟦<RigPort<R> as Port>⟧.port_state self.old).talk request.now
-            (take n reply.new)) }
-        ensures unsaid { OnErr result ((⟦<RigPort<R> as Port>⟧.port_state self.new).talk ≡ (⟦<RigPort<R> as Port>⟧.port_state self.old).talk) }
+        ensures said { IfOk result (λ n. (⟦<RigPort<R> as Port>⟧.port_state self.new).talk
+            ≡ and_sent (⟦<RigPort<R> as Port>⟧.port_state self.old).talk request.now (Some (take n reply.new))) }
+        ensures unsaid { OnErr result ((⟦<RigPort<R> as Port>⟧.port_state self.new).talk
+            ≡ and_sent (⟦<RigPort<R> as Port>⟧.port_state self.old).talk request.now None) }
         ensures length { length reply.new ≡ length reply.old }
         ensures within { IfOk result (λ n. n ≤ length reply.new) }
         ensures stays { OnOk result ((⟦<RigPort<R> as Port>⟧.port_state self.new).is_open ≡ true) }
@@ -582,6 +583,7 @@ impl<R: Rig> Port for RigPort<R> {
                 Ok(replied.count)
             }
             None => {
+                self.talk = self.talk.and_unanswered(request);
                 self.failures = self.failures.saturating_add(1);
                 Err(PortFail::Failed)
             }

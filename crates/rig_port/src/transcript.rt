@@ -1,4 +1,4 @@
-//! What was said over a port. Proofs alone read it.
+//! What a board took for answers. Proofs alone read it.
 ghost use Rattle.std.specs.Prelude.{◌≡◌, []};
 ghost use Rattle.rig_port.specs.Transcripts.{and_said};
 
@@ -29,8 +29,8 @@ impl Model for Transcript {
     ghost view = { λ t. map (λ p. record { request = p.request.items; line = p.line.items }) t.pairs.items };
 }
 
-// These bytes.
-fn copied(bytes: &[u8]) -> Log<u8>
+/// These bytes.
+pub fn copied(bytes: &[u8]) -> Log<u8>
     ensures { result.items ≡ bytes.now }
 {
     let mut copy = Log::new();

@@ -185,7 +185,8 @@ pub fn turn<P: Port>(
     requires few { sum_by word_room drives.now + 8 ≤ turn_room (pins_of link.old.set.config.shape) }
 
     ensures later { IsLater (P.port_state port.old) (P.port_state port.new) }
-    ensures talks { GoOn link.old.talk link.new.talk (P.port_state port.old).talk (P.port_state port.new).talk }
+    ensures talks { GoOn link.old.set.config.shape link.old.talk link.new.talk (P.port_state port.old).talk
+        (P.port_state port.new).talk }
     ensures stood { StandsTold (P.port_state port.old) link.old.talk → HasStood (P.port_state port.new) link.new.talk }
     ensures stands { IsTrue result → StandsTold (P.port_state port.old) link.old.talk → StandsTold (P.port_state port.new) link.new.talk }
     ensures lengths { KeepLengths reads.old reads.new }
@@ -233,7 +234,8 @@ pub fn turn_some<P: Port>(
     requires rows { AreRowsFor link.old.set.config drives.now reads.old }
 
     ensures later { IsLater (P.port_state port.old) (P.port_state port.new) }
-    ensures talks { GoOn link.old.talk link.new.talk (P.port_state port.old).talk (P.port_state port.new).talk }
+    ensures talks { GoOn link.old.set.config.shape link.old.talk link.new.talk (P.port_state port.old).talk
+        (P.port_state port.new).talk }
     ensures stood { StandsTold (P.port_state port.old) link.old.talk → HasStood (P.port_state port.new) link.new.talk }
     ensures stands { IsTrue result → StandsTold (P.port_state port.old) link.old.talk → StandsTold (P.port_state port.new) link.new.talk }
     ensures lengths { KeepLengths reads.old reads.new }
@@ -271,7 +273,8 @@ pub fn turn_all<P: Port>(
     requires rows { AreRowsFor link.old.set.config drives.now reads.old }
 
     ensures later { IsLater (P.port_state port.old) (P.port_state port.new) }
-    ensures talks { GoOn link.old.talk link.new.talk (P.port_state port.old).talk (P.port_state port.new).talk }
+    ensures talks { GoOn link.old.set.config.shape link.old.talk link.new.talk (P.port_state port.old).talk
+        (P.port_state port.new).talk }
     ensures stood { StandsTold (P.port_state port.old) link.old.talk → HasStood (P.port_state port.new) link.new.talk }
     ensures stands { IsTrue result → StandsTold (P.port_state port.old) link.old.talk → StandsTold (P.port_state port.new) link.new.talk }
     ensures lengths { KeepLengths reads.old reads.new }

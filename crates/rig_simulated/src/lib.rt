@@ -6,7 +6,7 @@
 //! from n (`told`, `asks`, `asks_at_most`); it refuses a fault text only where it isn't in its grammar or is too long (`caused`).
 //! A file that its store tells to be absent is a failure (`missing`). The fault set of an attached machine is one of its shape.
 //! `load` and `cycle` leave the store as it is and never fail; the rig's count rises only where the store's does. A cycle takes
-//! no memory while there is room.
+//! no memory.
 #![tactic(auto)]
 
 mod base;

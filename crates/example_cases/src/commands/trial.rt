@@ -1,14 +1,12 @@
 //! A command over files, a rig and a sink in memory.
 
 use crate::commands::step::Call;
+use crate::over::{First, Sim, over_flaky, over_port};
 use base_io::{CutSink, File, MemorySink, MemoryStore, Sink};
 use cmd_map::teramac_map;
-use cmd_top::teramac;
 use example_kit::{Fails, TINY, Turn};
 use machine_shape::Shape;
-use rig::{FlakyRig, LogRig, Rig};
-use rig_board::BoardRig;
-use rig_port::{PortBoard, RigPort};
+use rig::FlakyRig;
 use rig_simulated::SimRig;
 use std::alloc::{AllocError, Global};
 
@@ -55,43 +53,55 @@ fn add_copies(alloc: Global, copies: &mut Vec<File>, files: &[File]) -> Result<(
     Ok(())
 }
 
-// The store of a command.
-fn store_of(
-    alloc: Global,
-    given: &Given<'_>,
-    fails: &Fails,
-    piece: Option<usize>,
-) -> Result<MemoryStore, AllocError> {
+// Files, and the numbers of the calls of their store that fail.
+#[derive(Drop)]
+struct Stored {
+    files: Vec<File>,
+    fails: Vec<u64>,
+}
+
+// What the store of a command has.
+fn stored_of(alloc: Global, given: &Given<'_>, fails: &Fails) -> Result<Stored, AllocError> {
     let mut files = Vec::new(alloc);
     add_copies(alloc, &mut files, given.files)?;
     add_copies(alloc, &mut files, given.texts)?;
     let fails = fails.of(alloc, Turn::Store)?;
-    Ok(match piece {
+    Ok(Stored { files, fails })
+}
+
+// What the store of a rig has.
+fn faults_of(alloc: Global, given: &Given<'_>, fails: &Fails) -> Result<Stored, AllocError> {
+    let mut files = Vec::new(alloc);
+    add_copies(alloc, &mut files, given.faults)?;
+    let fails = fails.of(alloc, Turn::Faults)?;
+    Ok(Stored { files, fails })
+}
+
+// The store of a command.
+fn store_of(alloc: Global, stored: Stored, piece: Option<usize>) -> MemoryStore {
+    let Stored { files, fails } = stored;
+    match piece {
         Some(most) if most > 0 => MemoryStore::in_pieces(alloc, files, fails, most),
         _ => MemoryStore::new(alloc, files, fails),
-    })
+    }
 }
 
 // A simulated rig over fault texts.
-fn sim_of(
-    alloc: Global,
-    faults: &[File],
-    fails: &Fails,
-) -> Result<SimRig<MemoryStore>, AllocError> {
-    let mut files = Vec::new(alloc);
-    add_copies(alloc, &mut files, faults)?;
-    let store = MemoryStore::new(alloc, files, fails.of(alloc, Turn::Faults)?);
-    Ok(SimRig::new(alloc, store))
+fn sim_of(alloc: Global, faults: Stored) -> Sim {
+    let Stored { files, fails } = faults;
+    SimRig::new(alloc, MemoryStore::new(alloc, files, fails))
 }
 
-// The rig of a command.
-fn flaky_of(
+// The status of the mapper over a sink.
+fn end_of_mapper<K: Sink>(
     alloc: Global,
-    faults: &[File],
-    fails: &Fails,
-) -> Result<FlakyRig<SimRig<MemoryStore>>, AllocError> {
-    let sim = sim_of(alloc, faults, fails)?;
-    Ok(FlakyRig::new(alloc, sim, fails.of(alloc, Turn::Rig)?))
+    manner: &Manner<'_>,
+    given: &Given<'_>,
+    sink: &mut K,
+) -> Result<(u8, u64), AllocError> {
+    let stored = stored_of(alloc, given, manner.fails)?;
+    let mut store = store_of(alloc, stored, manner.piece);
+    Ok((teramac_map(alloc, manner.words, &mut store, sink), 0))
 }
 
 // The status of a command over a sink, and how many loads it asked for, where a machine of the counts of `tiny` answers requests.
@@ -104,16 +114,53 @@ fn end_over_port<K: Sink>(
     let Ok(shape) = Shape::new(TINY) else {
         return Ok((NO_MACHINE, 0));
     };
-    let sim = sim_of(alloc, given.faults, manner.fails)?;
-    let board = PortBoard::new(alloc, RigPort::new(alloc, sim, shape));
-    let mut rig: Box<dyn Rig> = Box::new(alloc, BoardRig::new(alloc, board))?;
-    let mut store = store_of(alloc, given, manner.fails, manner.piece)?;
-    let status = teramac(alloc, manner.words, &mut store, &mut rig, sink);
-    Ok((status, rig.loads()))
+    let faults = faults_of(alloc, given, manner.fails)?;
+    let stored = stored_of(alloc, given, manner.fails)?;
+    let mut store = store_of(alloc, stored, manner.piece);
+    over_port(
+        alloc,
+        sim_of(alloc, faults),
+        shape,
+        manner.words,
+        &mut store,
+        sink,
+    )
 }
 
-// The status of a command over a sink, and by how much the loads rose. Where it doesn't end as it should have before, that
-// is the end.
+// What a command has where it is done a first time.
+fn first_of(alloc: Global, manner: &Manner<'_>, given: &Given<'_>) -> Result<First, AllocError> {
+    let stored = match manner.before {
+        Some(_) => stored_of(alloc, given, manner.fails)?,
+        None => Stored {
+            files: Vec::new(alloc),
+            fails: Vec::new(alloc),
+        },
+    };
+    Ok(First {
+        store: store_of(alloc, stored, manner.piece),
+        sink: MemorySink::new(alloc, Vec::new(alloc)),
+        status: manner.before,
+    })
+}
+
+// The status of a command over a sink, and by how much the loads rose, over a simulated rig. Where it doesn't end as it should have
+// before, that is the end.
+fn end_over_sim<K: Sink>(
+    alloc: Global,
+    manner: &Manner<'_>,
+    given: &Given<'_>,
+    sink: &mut K,
+) -> Result<(u8, u64), AllocError> {
+    let faults = faults_of(alloc, given, manner.fails)?;
+    let calls = manner.fails.of(alloc, Turn::Rig)?;
+    let stored = stored_of(alloc, given, manner.fails)?;
+    let mut first = first_of(alloc, manner, given)?;
+    let mut store = store_of(alloc, stored, manner.piece);
+    let rig = FlakyRig::new(alloc, sim_of(alloc, faults), calls);
+    over_flaky(alloc, rig, manner.words, &mut first, &mut store, sink)
+}
+
+// The status of a command over a sink, and how many loads it asked for.
 fn end_over<K: Sink>(
     alloc: Global,
     manner: &Manner<'_>,
@@ -121,26 +168,49 @@ fn end_over<K: Sink>(
     sink: &mut K,
 ) -> Result<(u8, u64), AllocError> {
     match manner.call {
-        Call::Mapper => {
-            let mut store = store_of(alloc, given, manner.fails, manner.piece)?;
-            return Ok((teramac_map(alloc, manner.words, &mut store, sink), 0));
-        }
-        Call::Port => return end_over_port(alloc, manner, given, sink),
-        Call::Commands => {}
+        Call::Mapper => end_of_mapper(alloc, manner, given, sink),
+        Call::Port => end_over_port(alloc, manner, given, sink),
+        Call::Commands => end_over_sim(alloc, manner, given, sink),
     }
-    let sim = flaky_of(alloc, given.faults, manner.fails)?;
-    let mut rig: Box<dyn Rig> = Box::new(alloc, LogRig::new(sim))?;
-    if let Some(before) = manner.before {
-        let mut store = store_of(alloc, given, manner.fails, manner.piece)?;
-        let mut first = MemorySink::new(alloc, Vec::new(alloc));
-        let status = teramac(alloc, manner.words, &mut store, &mut rig, &mut first);
-        if status != before {
-            return Ok((status, rig.loads()));
-        }
-    }
-    let mut store = store_of(alloc, given, manner.fails, manner.piece)?;
-    let status = teramac(alloc, manner.words, &mut store, &mut rig, sink);
-    Ok((status, rig.loads()))
+}
+
+// What came of a command, of its end and what was written.
+fn come(
+    alloc: Global,
+    ended: Result<(u8, u64), AllocError>,
+    bytes: &[u8],
+) -> Result<Outcome, AllocError> {
+    let (status, loads) = ended?;
+    let bytes = Vec::from_slice(alloc, bytes)?;
+    Ok(Outcome {
+        status,
+        bytes,
+        loads,
+    })
+}
+
+// Does a command over a sink that takes so many bytes.
+fn cut_outcome(
+    alloc: Global,
+    most: usize,
+    manner: &Manner<'_>,
+    given: &Given<'_>,
+) -> Result<Outcome, AllocError> {
+    let mut sink = CutSink::new(alloc, most)?;
+    let ended = end_over(alloc, manner, given, &mut sink);
+    come(alloc, ended, sink.bytes())
+}
+
+// Does a command over a sink of which chosen calls fail.
+fn whole_outcome(
+    alloc: Global,
+    manner: &Manner<'_>,
+    given: &Given<'_>,
+) -> Result<Outcome, AllocError> {
+    let fails = manner.fails.of(alloc, Turn::Sink)?;
+    let mut sink = MemorySink::new(alloc, fails);
+    let ended = end_over(alloc, manner, given, &mut sink);
+    come(alloc, ended, sink.bytes())
 }
 
 /// Does a command, and tells what came of it.
@@ -149,22 +219,8 @@ pub fn outcome_of(
     manner: &Manner<'_>,
     given: &Given<'_>,
 ) -> Result<Outcome, AllocError> {
-    if let Some(most) = manner.takes {
-        let mut sink = CutSink::new(alloc, most)?;
-        let (status, loads) = end_over(alloc, manner, given, &mut sink)?;
-        let bytes = Vec::from_slice(alloc, sink.bytes())?;
-        return Ok(Outcome {
-            status,
-            bytes,
-            loads,
-        });
+    match manner.takes {
+        Some(most) => cut_outcome(alloc, most, manner, given),
+        None => whole_outcome(alloc, manner, given),
     }
-    let mut sink = MemorySink::new(alloc, manner.fails.of(alloc, Turn::Sink)?);
-    let (status, loads) = end_over(alloc, manner, given, &mut sink)?;
-    let bytes = Vec::from_slice(alloc, sink.bytes())?;
-    Ok(Outcome {
-        status,
-        bytes,
-        loads,
-    })
 }

@@ -3,7 +3,7 @@ ghost use Rattle.std.specs.Prelude.{◌≡◌, ◌≤◌, length, None, IfSome};
 ghost use Rattle.rig_port.specs.Checks.{fresh_check};
 
 use base_io::MemoryStore;
-use rig_port::{Port, PortFail, RigPort, Transcript};
+use rig_port::{Port, PortFail, PortLog, RigPort};
 use rig_simulated::SimRig;
 use std::alloc::Global;
 use std::cell::Cell;
@@ -60,7 +60,7 @@ pub struct SpoiledPort {
     is_late: bool,
     is_down: bool,
     is_open: bool,
-    talk: Transcript,
+    talk: PortLog,
     failures: u64,
 }
 
@@ -117,7 +117,7 @@ impl SpoiledPort {
             is_late: false,
             is_down: false,
             is_open: false,
-            talk: Transcript::new(),
+            talk: PortLog::new(),
             failures: 0,
         }
     }
@@ -248,6 +248,7 @@ impl Port for SpoiledPort {
                 Ok(count)
             }
             None => {
+                self.talk = self.talk.and_unanswered(request);
                 self.failures = failures.saturating_add(1);
                 Err(PortFail::Failed)
             }

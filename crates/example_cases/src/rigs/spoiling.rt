@@ -1,15 +1,14 @@
 //! Commands over a machine behind a port of which chosen replies are spoilt.
 
+use crate::over::over_spoiled;
 use crate::rigs::faults::sim_of;
+use crate::rigs::number_of;
 use crate::rigs::spoiled_port::{Plan, Spoil, SpoiledPort};
 use base_io::{FileStore, MemorySink};
-use cmd_top::teramac;
 use example_kit::TINY;
 use machine_shape::Shape;
-use rig::Rig;
-use rig_board::BoardRig;
-use rig_port::{PortBoard, RigPort};
-use std::alloc::Global;
+use rig_port::RigPort;
+use std::alloc::{AllocError, Global};
 use std::cell::Cell;
 use std::io;
 use std::rc::Rc;
@@ -22,22 +21,34 @@ struct Outcome {
     asked: u64,
 }
 
+// What came of it, of the status and what was written.
+fn come(
+    alloc: Global,
+    ended: Result<u8, AllocError>,
+    bytes: &[u8],
+    asked: u64,
+) -> io::Result<Outcome> {
+    let status = ended?;
+    let bytes = Vec::from_slice(alloc, bytes)?;
+    Ok(Outcome {
+        status,
+        bytes,
+        asked,
+    })
+}
+
 // Does what the words of a command line say over a machine of this shape behind such a port.
 fn outcome_of(rt: &HostRuntime, shape: Shape, plan: Plan, words: &[String]) -> io::Result<Outcome> {
     let alloc: Global = rt.alloc();
     let asked = Rc::new(alloc, Cell::new(0u64))?;
     let counted = asked.clone()?;
-    let mut store = FileStore::new(alloc, rt.clone()?);
-    let mut sink = MemorySink::new(alloc, Vec::new(alloc));
+    let files = rt.clone()?;
     let end = RigPort::new(alloc, sim_of(rt)?, shape);
-    let board = PortBoard::new(alloc, SpoiledPort::new(alloc, end, plan, counted));
-    let mut rig: Box<dyn Rig> = Box::new(alloc, BoardRig::new(alloc, board))?;
-    let status = teramac(alloc, words, &mut store, &mut rig, &mut sink);
-    Ok(Outcome {
-        status,
-        bytes: Vec::from_slice(alloc, sink.bytes())?,
-        asked: asked.get(),
-    })
+    let port = SpoiledPort::new(alloc, end, plan, counted);
+    let mut store = FileStore::new(alloc, files);
+    let mut sink = MemorySink::new(alloc, Vec::new(alloc));
+    let ended = over_spoiled(alloc, port, words, &mut store, &mut sink);
+    come(alloc, ended, sink.bytes(), asked.get())
 }
 
 // How often a command came to what, with replies spoilt.
@@ -112,21 +123,19 @@ fn tally_of(
     Ok(tally)
 }
 
-/// With the replies to so many requests in a row spoilt so: from the first request on, then from a later one on, and so on. Prints whether
-/// the command always comes to what it comes to where nothing is spoilt, or is always refused.
-pub fn try_spoilt(
-    rt: &HostRuntime,
-    kind: &str,
-    every: u64,
-    count: u64,
-    words: &[String],
-) -> io::Result<bool> {
-    let Ok(shape) = Shape::new(TINY) else {
+/// The words are how replies are spoilt, two numbers, and a command. With the replies to so many requests in a row spoilt so as the second
+/// says: from the first request on, then from as many later as the first says, and so on. Prints whether the command always comes to what
+/// it comes to where nothing is spoilt, or is always refused.
+pub fn try_spoilt(rt: &HostRuntime, words: &[String]) -> io::Result<bool> {
+    let [kind, every, count, words @ ..] = words else {
         return Ok(false);
     };
-    let Some(spoil) = Spoil::named(kind) else {
+    let (Ok(shape), Some(spoil)) = (Shape::new(TINY), Spoil::named(kind.as_str())) else {
         return Ok(false);
     };
-    tally_of(rt, shape, spoil, every, count, words)?.tell(rt)?;
+    let every = number_of(every.as_str());
+    let count = number_of(count.as_str());
+    let tally = tally_of(rt, shape, spoil, every, count, words)?;
+    tally.tell(rt)?;
     Ok(true)
 }

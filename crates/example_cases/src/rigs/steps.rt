@@ -10,7 +10,7 @@ use machine_shape::{Counts, Shape};
 use rig::{Rig, RigFail};
 use rig_board::BoardRig;
 use rig_port::{Port, PortBoard, RigPort};
-use std::alloc::Global;
+use std::alloc::{AllocError, Global};
 use std::cell::Cell;
 use std::rc::Rc;
 use std::{fs, io};
@@ -105,16 +105,26 @@ fn shape_of(pins: &str) -> Option<Shape> {
     Shape::new(Counts { pins, ..TINY }).ok()
 }
 
+// Takes steps over a board in memory that these orders are said to.
+fn take_over_memory(
+    rt: &HostRuntime,
+    shape: Shape,
+    orders: &Rc<Orders>,
+    words: &[String],
+) -> io::Result<bool> {
+    let alloc: Global = rt.alloc();
+    let board = MemoryBoard::new(orders.clone()?);
+    let mut talk = Talk::new(alloc, BoardRig::new(alloc, board), shape)?;
+    take_steps(rt, &mut talk, orders, words)
+}
+
 /// Over a board in memory. False where a word says no step.
 pub fn try_board(rt: &HostRuntime, words: &[String]) -> io::Result<bool> {
-    let alloc: Global = rt.alloc();
     let Ok(shape) = Shape::new(TINY) else {
         return Ok(false);
     };
-    let orders = Rc::new(alloc, Orders::new())?;
-    let board = MemoryBoard::new(orders.clone()?);
-    let mut talk = Talk::new(alloc, BoardRig::new(alloc, board), shape)?;
-    let done = take_steps(rt, &mut talk, &orders, words)?;
+    let orders = Rc::new(rt.alloc(), Orders::new())?;
+    let done = take_over_memory(rt, shape, &orders, words)?;
     let failures = orders.failures();
     println!(rt; "the board counts {failures}")?;
     Ok(done)
@@ -126,48 +136,76 @@ fn table_in(rt: &HostRuntime, name: &str) -> io::Result<Vec<Exchange>> {
     Ok(exchanges_of(rt.alloc(), text.as_str())?)
 }
 
-// Takes steps over a board behind a port that answers the requests of a table. Says whether each word said a step, and how many requests
-// were asked.
-fn ask(
+// Takes steps over a board behind a port that answers the requests of a table, and tells there how many were asked.
+fn take_over_table(
     rt: &HostRuntime,
     shape: Shape,
-    table: Vec<Exchange>,
+    port: TablePort,
     words: &[String],
-) -> io::Result<(bool, usize)> {
+) -> io::Result<bool> {
     let alloc: Global = rt.alloc();
-    let asked = Rc::new(alloc, Cell::new(0usize))?;
-    let board = PortBoard::new(alloc, TablePort::new(table, asked.clone()?));
+    let board = PortBoard::new(alloc, port);
     let mut talk = Talk::new(alloc, BoardRig::new(alloc, board), shape)?;
-    let done = take_steps(rt, &mut talk, &Orders::new(), words)?;
-    Ok((done, asked.get()))
+    take_steps(rt, &mut talk, &Orders::new(), words)
 }
 
-/// Over a board of so many pins behind a port that answers the requests of a table. False where they aren't, byte by byte, what was
-/// asked, or a word says no step.
-pub fn try_asks(rt: &HostRuntime, pins: &str, table: &str, words: &[String]) -> io::Result<bool> {
-    let Some(shape) = shape_of(pins) else {
+/// The words are a number of pins, a table and steps: over a board of so many pins behind a port that answers the requests of the table.
+/// False where they aren't, byte by byte, what was asked, or a word says no step.
+pub fn try_asks(rt: &HostRuntime, words: &[String]) -> io::Result<bool> {
+    let [pins, table, words @ ..] = words else {
         return Ok(false);
     };
-    let table = table_in(rt, table)?;
+    let Some(shape) = shape_of(pins.as_str()) else {
+        return Ok(false);
+    };
+    let table = table_in(rt, table.as_str())?;
     let all = table.len();
-    let (done, count) = ask(rt, shape, table, words)?;
+    let asked = Rc::new(rt.alloc(), Cell::new(0usize))?;
+    let port = TablePort::new(table, asked.clone()?);
+    let done = take_over_table(rt, shape, port, words)?;
+    let count = asked.get();
     println!(rt; "asked {count} of {all} requests")?;
     Ok(done && count == all)
 }
 
-/// Asks a simulated rig of so many pins behind a port the requests of a table. False where a reply isn't, byte by byte, that of the table.
-pub fn try_answers(rt: &HostRuntime, pins: &str, table: &str) -> io::Result<bool> {
-    let alloc: Global = rt.alloc();
-    let Some(shape) = shape_of(pins) else {
+// Opens a port and asks it all requests of a table; `None` where it doesn't open.
+fn answers<P: Port>(
+    alloc: Global,
+    port: &mut P,
+    table: &[Exchange],
+) -> Result<Option<bool>, AllocError> {
+    match port.open("none") {
+        Ok(()) => Ok(Some(answers_all(alloc, port, table)?)),
+        Err(_) => Ok(None),
+    }
+}
+
+/// The words are a number of pins and a table: asks a simulated rig of so many pins behind a port the requests of the table. False where a
+/// reply isn't, byte by byte, that of the table.
+pub fn try_answers(rt: &HostRuntime, words: &[String]) -> io::Result<bool> {
+    let [pins, table] = words else {
         return Ok(false);
     };
-    let table = table_in(rt, table)?;
-    let all = table.len();
-    let mut port = RigPort::new(alloc, sim_of(rt)?, shape);
-    if port.open("none").is_err() {
+    let Some(shape) = shape_of(pins.as_str()) else {
         return Ok(false);
+    };
+    let table = table_in(rt, table.as_str())?;
+    let mut port = RigPort::new(rt.alloc(), sim_of(rt)?, shape);
+    let answered = answers(rt.alloc(), &mut port, &table);
+    tell_answers(rt, table.len(), answered)
+}
+
+// Prints whether all requests were answered.
+fn tell_answers(
+    rt: &HostRuntime,
+    all: usize,
+    answered: Result<Option<bool>, AllocError>,
+) -> io::Result<bool> {
+    match answered? {
+        Some(right) => {
+            println!(rt; "answers {all} requests: {right}")?;
+            Ok(right)
+        }
+        None => Ok(false),
     }
-    let right = answers_all(alloc, &mut port, &table)?;
-    println!(rt; "answers {all} requests: {right}")?;
-    Ok(right)
 }

@@ -2,7 +2,7 @@
 ghost use Rattle.std.specs.Prelude.{◌≡◌, ◌≤◌, true, length, None, IfSome};
 ghost use Rattle.rig_port.specs.Checks.{fresh_check};
 
-use rig_port::{Port, PortFail, Transcript};
+use rig_port::{Port, PortFail, PortLog};
 use std::alloc::{AllocError, Global};
 use std::cell::Cell;
 use std::rc::Rc;
@@ -50,7 +50,7 @@ pub struct TablePort {
     table: Vec<Exchange>,
     asked: Rc<Cell<usize>>,
     is_open: bool,
-    talk: Transcript,
+    talk: PortLog,
     failures: u64,
 }
 
@@ -61,7 +61,7 @@ impl TablePort {
             table,
             asked,
             is_open: false,
-            talk: Transcript::new(),
+            talk: PortLog::new(),
             failures: 0,
         }
     }
@@ -108,6 +108,7 @@ impl Port for TablePort {
             }
             None => {
                 self.is_open = false;
+                self.talk = self.talk.and_unanswered(request);
                 self.failures = failures.saturating_add(1);
                 Err(PortFail::Failed)
             }

@@ -7,7 +7,7 @@ ghost use Rattle.diag_tests.specs.Routes.{IsRoute};
 ghost use Rattle.diag_evidence.specs.Kept.{Advances, KeepsSet, keeps_cross};
 ghost use Rattle.example_parts.specs.Laid.{IsLaid};
 
-use crate::crossbars::setup::{Laid, Setup, lay};
+use crate::crossbars::setup::{Laid, Setup, laid_of};
 use diag_evidence::Facts;
 use diag_evidence::laws::tests_add_up;
 use diag_tests::Route;
@@ -40,40 +40,6 @@ fn toggle_laid(
     Ok(Some(yes))
 }
 
-// Toggles a closed crosspoint, and reads a pin.
-fn toggle_cross(
-    alloc: Global,
-    rig: &mut Box<dyn Rig>,
-    facts: &mut Facts,
-    setup: &Setup,
-    c: u32,
-    at: u32,
-) -> Result<Option<bool>, RigFail>
-    requires attached { shape_of (rig_state rig.old) ≡ Some facts.old.shape }
-    ensures advances { Advances (rig_state rig.old) (rig_state rig.new) facts.old facts.new }
-    ensures set { KeepsSet facts.old facts.new }
-{
-    tests_add_up();
-    let shape = facts.shape();
-    if c >= shape.crosses() {
-        return Ok(None);
-    }
-    if at >= shape.pins() {
-        return Ok(None);
-    }
-    match lay(alloc, &shape, setup)? {
-        Some(mut laid) => toggle_laid(rig, facts, &mut laid, Cross(c), at),
-        None => Ok(None),
-    }
-}
-
-// A cell of a table, each by its number.
-#[derive(Clone, Copy)]
-struct CellOf {
-    table: u32,
-    address: u8,
-}
-
 // Toggles a cell of a table of what is laid, if that is on, and reads a pin.
 fn toggle_laid_cell(
     rig: &mut Box<dyn Rig>,
@@ -98,37 +64,6 @@ fn toggle_laid_cell(
     }
     let yes = facts.toggle_cell(rig, &mut laid.config, t, address, &laid.drive, at)?;
     Ok(Some(yes))
-}
-
-// Toggles a cell of a table that is on, and reads a pin.
-fn toggle_cell(
-    alloc: Global,
-    rig: &mut Box<dyn Rig>,
-    facts: &mut Facts,
-    setup: &Setup,
-    cell: CellOf,
-    at: u32,
-) -> Result<Option<bool>, RigFail>
-    requires attached { shape_of (rig_state rig.old) ≡ Some facts.old.shape }
-    ensures advances { Advances (rig_state rig.old) (rig_state rig.new) facts.old facts.new }
-    ensures set { KeepsSet facts.old facts.new }
-{
-    tests_add_up();
-    let shape = facts.shape();
-    let CellOf { table: t, address } = cell;
-    if t >= shape.tables() {
-        return Ok(None);
-    }
-    if at >= shape.pins() {
-        return Ok(None);
-    }
-    if address >= 64 {
-        return Ok(None);
-    }
-    match lay(alloc, &shape, setup)? {
-        Some(mut laid) => toggle_laid_cell(rig, facts, &mut laid, Table(t), address, at),
-        None => Ok(None),
-    }
 }
 
 // Toggles the register of a table of what is laid, if that is on and latched, and reads a pin.
@@ -156,33 +91,6 @@ fn toggle_laid_register(
     }
     let yes = facts.toggle_register(rig, &mut laid.config, t, &laid.drive, at)?;
     Ok(Some(yes))
-}
-
-// Toggles the register of a table that is on and latched, and reads a pin.
-fn toggle_register(
-    alloc: Global,
-    rig: &mut Box<dyn Rig>,
-    facts: &mut Facts,
-    setup: &Setup,
-    t: u32,
-    at: u32,
-) -> Result<Option<bool>, RigFail>
-    requires attached { shape_of (rig_state rig.old) ≡ Some facts.old.shape }
-    ensures advances { Advances (rig_state rig.old) (rig_state rig.new) facts.old facts.new }
-    ensures set { KeepsSet facts.old facts.new }
-{
-    tests_add_up();
-    let shape = facts.shape();
-    if t >= shape.tables() {
-        return Ok(None);
-    }
-    if at >= shape.pins() {
-        return Ok(None);
-    }
-    match lay(alloc, &shape, setup)? {
-        Some(mut laid) => toggle_laid_register(rig, facts, &mut laid, Table(t), at),
-        None => Ok(None),
-    }
 }
 
 // Whether the crosspoints of a route are kept.
@@ -224,25 +132,6 @@ fn swing_laid(
     }
 }
 
-// Swings the left route.
-fn test_stuck(
-    alloc: Global,
-    rig: &mut Box<dyn Rig>,
-    facts: &mut Facts,
-    setup: &Setup,
-) -> Result<Option<bool>, RigFail>
-    requires attached { shape_of (rig_state rig.old) ≡ Some facts.old.shape }
-    ensures advances { Advances (rig_state rig.old) (rig_state rig.new) facts.old facts.new }
-    ensures set { KeepsSet facts.old facts.new }
-{
-    tests_add_up();
-    let shape = facts.shape();
-    match lay(alloc, &shape, setup)? {
-        Some(laid) => swing_laid(alloc, rig, facts, &laid),
-        None => Ok(None),
-    }
-}
-
 // Whether the two routes of what is laid are apart, if their crosspoints are kept and they don't meet. The last wire of the left one is
 // put on trial before.
 fn part_laid(
@@ -272,22 +161,71 @@ fn part_laid(
     Ok(Some(yes))
 }
 
-// Whether the two routes are apart.
-fn test_apart(
+/// What a machine is asked.
+#[derive(Clone, Copy)]
+enum Question {
+    Cross { cross: u32, at: u32 },
+    Cell { table: u32, address: u8, at: u32 },
+    Register { table: u32, at: u32 },
+    Swing,
+    Apart,
+}
+
+// What words ask, where they ask something.
+fn question_of(key: &str, numbers: &[u32]) -> Option<Question> {
+    match (key, numbers) {
+        ("toggle", [cross, at]) => Some(Question::Cross {
+            cross: *cross,
+            at: *at,
+        }),
+        ("cell", [table, address, at]) => match u8::try_from(*address) {
+            Ok(address) => Some(Question::Cell {
+                table: *table,
+                address,
+                at: *at,
+            }),
+            Err(_) => None,
+        },
+        ("register", [table, at]) => Some(Question::Register {
+            table: *table,
+            at: *at,
+        }),
+        ("swing", []) => Some(Question::Swing),
+        ("apart", []) => Some(Question::Apart),
+        _ => None,
+    }
+}
+
+// Asks about what is laid. None where the machine has no such part.
+fn ask(
     alloc: Global,
     rig: &mut Box<dyn Rig>,
     facts: &mut Facts,
-    setup: &Setup,
+    laid: &mut Laid,
+    question: Question,
 ) -> Result<Option<bool>, RigFail>
     requires attached { shape_of (rig_state rig.old) ≡ Some facts.old.shape }
+    requires laid { IsLaid facts.old.shape laid.old.left laid.old.right laid.old.config.config }
+    requires drive { length laid.old.drive ≡ pins_of facts.old.shape }
     ensures advances { Advances (rig_state rig.old) (rig_state rig.new) facts.old facts.new }
     ensures set { KeepsSet facts.old facts.new }
 {
     tests_add_up();
     let shape = facts.shape();
-    match lay(alloc, &shape, setup)? {
-        Some(laid) => part_laid(rig, facts, &laid),
-        None => Ok(None),
+    match question {
+        Question::Cross { cross, at } if cross < shape.crosses() && at < shape.pins() => {
+            toggle_laid(rig, facts, laid, Cross(cross), at)
+        }
+        Question::Cell { table, address, at }
+            if table < shape.tables() && address < 64 && at < shape.pins() => {
+            toggle_laid_cell(rig, facts, laid, Table(table), address, at)
+        }
+        Question::Register { table, at } if table < shape.tables() && at < shape.pins() => {
+            toggle_laid_register(rig, facts, laid, Table(table), at)
+        }
+        Question::Swing => swing_laid(alloc, rig, facts, laid),
+        Question::Apart => part_laid(rig, facts, laid),
+        _ => Ok(None),
     }
 }
 
@@ -305,19 +243,12 @@ pub fn answer(
     ensures set { KeepsSet facts.old facts.new }
 {
     tests_add_up();
-    match (key, numbers) {
-        ("toggle", [c, at]) => toggle_cross(alloc, rig, facts, setup, *c, *at),
-        ("cell", [t, address, at]) => match u8::try_from(*address) {
-            Ok(address) => {
-                let cell = CellOf { table: *t, address };
-                toggle_cell(alloc, rig, facts, setup, cell, *at)
-            }
-            Err(_) => Ok(None),
-        },
-        ("register", [t, at]) => toggle_register(alloc, rig, facts, setup, *t, *at),
-        ("swing", []) => test_stuck(alloc, rig, facts, setup),
-        ("apart", []) => test_apart(alloc, rig, facts, setup),
-        _ => Ok(None),
+    let Some(question) = question_of(key, numbers) else {
+        return Ok(None);
+    };
+    match laid_of(alloc, &facts.shape(), setup) {
+        Some(mut laid) => ask(alloc, rig, facts, &mut laid, question),
+        None => Ok(None),
     }
 }
 

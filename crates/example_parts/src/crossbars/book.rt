@@ -68,20 +68,24 @@ fn line_of(alloc: Global, number: u64, text: &str) -> Result<Line, AllocError> {
         Some((call, want)) => (call, want),
         None => (text, ""),
     };
+    let words = words_of(alloc, call)?;
+    let want = String::from_str(alloc, want)?;
     Ok(Line {
         number,
-        words: words_of(alloc, call)?,
-        want: String::from_str(alloc, want)?,
+        words,
+        want,
     })
 }
 
 impl Case {
     // A case with nothing said yet.
     fn new(alloc: Global, name: &str, shape: Shape) -> Result<Case, AllocError> {
+        let name = String::from_str(alloc, name)?;
+        let machine = String::from_str(alloc, "faults")?;
         Ok(Case {
-            name: String::from_str(alloc, name)?,
+            name,
             shape,
-            machine: String::from_str(alloc, "faults")?,
+            machine,
             faults: Vec::new(alloc),
             fails: Fails::new(alloc),
             lines: Vec::new(alloc),

@@ -1,5 +1,5 @@
 //! The lines of a case: what comes of each, and whether it is what has to come.
-ghost use Rattle.std.specs.Prelude.{◌≡◌, Some};
+ghost use Rattle.std.specs.Prelude.{◌≡◌, Some, IfSome, length};
 ghost use Rattle.rig.specs.Rig.{shape_of};
 ghost use Rattle.diag_evidence.specs.Kept.{Advances, KeepsNothing, KeepsSet};
 ghost use Rattle.example_parts.specs.Found.{AreFound};
@@ -142,6 +142,31 @@ fn asked(
     told(alloc, answer)
 }
 
+// The next node, where the words say it.
+fn next_node(words: &[String], found: &[Tested]) -> Option<Node>
+    ensures { IfSome result (λ node. node.0 ≡ length found.now) }
+{
+    let [node] = words else {
+        return None;
+    };
+    let node = node.as_str().parse::<u32>().ok()?;
+    if node as usize == found.len() {
+        Some(Node(node))
+    } else {
+        None
+    }
+}
+
+// Whether a crossbar was tested, in words.
+fn told_tested(alloc: Global, answer: Result<bool, RigFail>) -> Result<Option<String>, AllocError> {
+    match answer {
+        Ok(true) => word(alloc, "tested"),
+        Ok(false) => word(alloc, "none"),
+        Err(RigFail::Failed) => word(alloc, "failed"),
+        Err(RigFail::Memory) => Err(AllocError),
+    }
+}
+
 // What the next crossbar has, in words.
 fn next(
     alloc: Global,
@@ -157,23 +182,12 @@ fn next(
     ensures found { AreFound (rig_state rig.new) facts.new walk.new.known walk.new.found.items }
 {
     tests_add_up();
-    let [node] = words else {
+    let Some(node) = next_node(words, &walk.found) else {
         return Ok(None);
     };
-    let Ok(node) = node.as_str().parse::<u32>() else {
-        return Ok(None);
-    };
-    if node as usize != walk.found.len() {
-        return Ok(None);
-    }
-    let answer = test_next(alloc, rig, facts, walk, Node(node));
+    let answer = test_next(alloc, rig, facts, walk, node);
     bench.loads = walk.loads;
-    match answer {
-        Ok(true) => word(alloc, "tested"),
-        Ok(false) => word(alloc, "none"),
-        Err(RigFail::Failed) => word(alloc, "failed"),
-        Err(RigFail::Memory) => Err(AllocError),
-    }
+    told_tested(alloc, answer)
 }
 
 // Whether all questions up to here took no more loads than words say. None where they say no number.

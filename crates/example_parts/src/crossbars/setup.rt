@@ -1,5 +1,5 @@
 //! What is set before a machine is asked: routes, closed crosspoints, a table and driven pins.
-ghost use Rattle.std.specs.Prelude.{◌≡◌, ◌<◌, All, IfOk, IfSome, OnOk, length};
+ghost use Rattle.std.specs.Prelude.{◌≡◌, ◌<◌, All, IfSome, IsTrue, length};
 ghost use Rattle.machine_shape.specs.Shape.{crosses_of, pins_of};
 ghost use Rattle.diag_tests.specs.Routes.{IsRoute};
 ghost use Rattle.example_parts.specs.Laid.{IsLaid};
@@ -8,7 +8,7 @@ use diag_tests::{Route, cell_config, loop_config, route_at};
 use example_kit::numbers_of;
 use machine_config::{Config, Setting};
 use machine_shape::{Cross, Pin, Shape, Table};
-use rig::{PinBits, RigFail};
+use rig::PinBits;
 use std::alloc::{AllocError, Global};
 
 /// Two routes, each by its pin and its crosspoints.
@@ -94,73 +94,70 @@ impl Setup {
 }
 
 // Goes on over a crosspoint; false where that isn't at the route's end.
-fn go_on(shape: &Shape, route: &mut Route, c: Cross) -> Result<bool, AllocError>
+fn go_on(shape: &Shape, route: &mut Route, c: Cross) -> bool
     requires { IsRoute shape.now route.old }
-    ensures { OnOk result (IsRoute shape.now route.new) }
+    ensures { IsTrue result → IsRoute shape.now route.new }
 {
     if c.0 >= shape.crosses() {
-        return Ok(false);
+        return false;
     }
     let (tap, line) = shape.ends(c);
     if tap == route.end() {
-        route.push(shape, c)?;
-        return Ok(true);
+        return match route.push(shape, c) {
+            Ok(()) => true,
+            Err(_) => false,
+        };
     }
     if line == route.end() {
-        route.push(shape, c)?;
-        return Ok(true);
+        return match route.push(shape, c) {
+            Ok(()) => true,
+            Err(_) => false,
+        };
     }
-    Ok(false)
+    false
 }
 
 // The route of a pin and crosspoints, where they are one.
-fn route_over(
-    alloc: Global,
-    shape: &Shape,
-    pin: u32,
-    crosses: &[u32],
-) -> Result<Option<Route>, AllocError>
-    ensures { IfOk result (λ found. IfSome found (IsRoute shape.now)) }
+fn route_over(alloc: Global, shape: &Shape, pin: u32, crosses: &[u32]) -> Option<Route>
+    ensures { IfSome result (IsRoute shape.now) }
 {
     if pin >= shape.pins() {
-        return Ok(None);
+        return None;
     }
-    let mut route = route_at(alloc, shape, pin)?;
+    let mut route = route_at(alloc, shape, pin).ok()?;
     'crosses: for x in crosses {
-        let went = go_on(shape, &mut route, Cross(*x))?;
-        if !went {
-            return Ok(None);
+        if !go_on(shape, &mut route, Cross(*x)) {
+            return None;
         }
     }
-    Ok(Some(route))
+    Some(route)
 }
 
-/// The route of these numbers, where they are one.
-pub fn route_of(alloc: Global, shape: &Shape, numbers: &[u32]) -> Result<Option<Route>, AllocError>
-    ensures { IfOk result (λ found. IfSome found (IsRoute shape.now)) }
+/// The route of these numbers, where they are one and memory isn't lacking.
+pub fn route_of(alloc: Global, shape: &Shape, numbers: &[u32]) -> Option<Route>
+    ensures { IfSome result (IsRoute shape.now) }
 {
     match numbers {
         [pin, crosses @ ..] => route_over(alloc, shape, *pin, crosses),
-        [] => Ok(None),
+        [] => None,
     }
 }
 
 // The crosspoints of these numbers, where each is one.
-fn crosses_of(
-    alloc: Global,
-    shape: &Shape,
-    numbers: &[u32],
-) -> Result<Option<Vec<Cross>>, AllocError>
-    ensures { IfOk result (λ found. IfSome found (λ cs. All (λ c. c.0 < crosses_of shape.now) cs.items)) }
+fn crosses_of(alloc: Global, shape: &Shape, numbers: &[u32]) -> Option<Vec<Cross>>
+    ensures { IfSome result (λ cs. All (λ c. c.0 < crosses_of shape.now) cs.items) }
 {
     let mut crosses = Vec::new(alloc);
     'numbers: for x in numbers {
         if *x >= shape.crosses() {
-            return Ok(None);
+            return None;
         }
-        crosses.push(Cross(*x))?;
+        match crosses.push(Cross(*x)) {
+            Ok(()) => {}
+            Err(_) => return None,
+        }
     }
-    Ok(Some(crosses))
+    Some(crosses)
 }
 
 // The configuration that closes two routes and the ties, with the table on that is set.
@@ -171,73 +168,116 @@ fn config_of(
     right: &Route,
     ties: &[Cross],
     table: Option<(u32, Setting)>,
-) -> Result<Option<Config>, AllocError>
+) -> Option<Config>
     requires left { IsRoute shape.now left.now }
     requires right { IsRoute shape.now right.now }
     requires ties { All (λ c. c.0 < crosses_of shape.now) ties.now }
-    ensures { IfOk result (λ found. IfSome found (λ g. IsLaid shape.now left.now right.now g.config)) }
+    ensures { IfSome result (λ g. IsLaid shape.now left.now right.now g.config) }
 {
     let Some((t, setting)) = table else {
-        let config = loop_config(alloc, shape, left, right, ties)?;
-        return Ok(Some(config));
+        let config = loop_config(alloc, shape, left, right, ties).ok()?;
+        return Some(config);
     };
     if t >= shape.tables() {
-        return Ok(None);
+        return None;
     }
-    let mut config = cell_config(alloc, shape, left, right, ties, Table(t), setting.cells)?;
+    let mut config = cell_config(alloc, shape, left, right, ties, Table(t), setting.cells).ok()?;
     config.switch_on(Table(t), setting);
-    Ok(Some(config))
+    Some(config)
+}
+
+// The same with the ties that are set.
+fn tied_config(
+    alloc: Global,
+    shape: &Shape,
+    setup: &Setup,
+    left: &Route,
+    right: &Route,
+) -> Option<Config>
+    requires left { IsRoute shape.now left.now }
+    requires right { IsRoute shape.now right.now }
+    ensures { IfSome result (λ g. IsLaid shape.now left.now right.now g.config) }
+{
+    let ties = crosses_of(alloc, shape, &setup.closed)?;
+    config_of(alloc, shape, left, right, &ties, setup.table)
 }
 
 // Drives these pins 0, where each is one.
-fn drive_of(alloc: Global, shape: &Shape, low: &[u32]) -> Result<Option<PinBits>, AllocError>
-    ensures { IfOk result (λ found. IfSome found (λ drive. length drive ≡ pins_of shape.now)) }
+fn drive_of(alloc: Global, shape: &Shape, low: &[u32]) -> Option<PinBits>
+    ensures { IfSome result (λ drive. length drive ≡ pins_of shape.now) }
 {
-    let mut drive = PinBits::new(alloc, shape.pins())?;
+    let mut drive = PinBits::new(alloc, shape.pins()).ok()?;
     'pins: for pin in low {
         if *pin >= shape.pins() {
-            return Ok(None);
+            return None;
         }
         drive.set(Pin(*pin), false);
     }
-    Ok(Some(drive))
+    Some(drive)
 }
 
-/// What is set, where it is of the machine.
-pub fn laid_of(alloc: Global, shape: &Shape, setup: &Setup) -> Result<Option<Laid>, AllocError>
-    ensures laid { IfOk result (λ found. IfSome found (λ laid. IsLaid shape.now laid.left laid.right laid.config.config)) }
-    ensures drive { IfOk result (λ found. IfSome found (λ laid. length laid.drive ≡ pins_of shape.now)) }
+// What is set, with these routes and this drive.
+fn laid_over(
+    alloc: Global,
+    shape: &Shape,
+    setup: &Setup,
+    left: Route,
+    right: Route,
+    drive: PinBits,
+) -> Option<Laid>
+    requires left { IsRoute shape.now left }
+    requires right { IsRoute shape.now right }
+    requires drive { length drive ≡ pins_of shape.now }
+    ensures laid { IfSome result (λ laid. IsLaid shape.now laid.left laid.right laid.config.config) }
+    ensures drive { IfSome result (λ laid. length laid.drive ≡ pins_of shape.now) }
 {
-    let Some(left) = route_of(alloc, shape, &setup.routes.left)? else {
-        return Ok(None);
-    };
-    let Some(right) = route_of(alloc, shape, &setup.routes.right)? else {
-        return Ok(None);
-    };
-    let Some(ties) = crosses_of(alloc, shape, &setup.closed)? else {
-        return Ok(None);
-    };
-    let Some(config) = config_of(alloc, shape, &left, &right, &ties, setup.table)? else {
-        return Ok(None);
-    };
-    let Some(drive) = drive_of(alloc, shape, &setup.low)? else {
-        return Ok(None);
-    };
-    Ok(Some(Laid {
-        left,
-        right,
-        config,
-        drive,
-    }))
-}
-
-/// The same, for those who ask a rig.
-pub fn lay(alloc: Global, shape: &Shape, setup: &Setup) -> Result<Option<Laid>, RigFail>
-    ensures laid { IfOk result (λ found. IfSome found (λ laid. IsLaid shape.now laid.left laid.right laid.config.config)) }
-    ensures drive { IfOk result (λ found. IfSome found (λ laid. length laid.drive ≡ pins_of shape.now)) }
-{
-    match laid_of(alloc, shape, setup) {
-        Ok(laid) => Ok(laid),
-        Err(_) => Err(RigFail::Memory),
+    match tied_config(alloc, shape, setup, &left, &right) {
+        Some(config) => Some(Laid {
+            left,
+            right,
+            config,
+            drive,
+        }),
+        None => None,
     }
+}
+
+// What is set, with this drive and this left route.
+fn laid_right(
+    alloc: Global,
+    shape: &Shape,
+    setup: &Setup,
+    left: Route,
+    drive: PinBits,
+) -> Option<Laid>
+    requires left { IsRoute shape.now left }
+    requires drive { length drive ≡ pins_of shape.now }
+    ensures laid { IfSome result (λ laid. IsLaid shape.now laid.left laid.right laid.config.config) }
+    ensures drive { IfSome result (λ laid. length laid.drive ≡ pins_of shape.now) }
+{
+    match route_of(alloc, shape, &setup.routes.right) {
+        Some(right) => laid_over(alloc, shape, setup, left, right, drive),
+        None => None,
+    }
+}
+
+// What is set, with this drive.
+fn laid_left(alloc: Global, shape: &Shape, setup: &Setup, drive: PinBits) -> Option<Laid>
+    requires drive { length drive ≡ pins_of shape.now }
+    ensures laid { IfSome result (λ laid. IsLaid shape.now laid.left laid.right laid.config.config) }
+    ensures drive { IfSome result (λ laid. length laid.drive ≡ pins_of shape.now) }
+{
+    match route_of(alloc, shape, &setup.routes.left) {
+        Some(left) => laid_right(alloc, shape, setup, left, drive),
+        None => None,
+    }
+}
+
+/// What is set, where it is of the machine and memory isn't lacking.
+pub fn laid_of(alloc: Global, shape: &Shape, setup: &Setup) -> Option<Laid>
+    ensures laid { IfSome result (λ laid. IsLaid shape.now laid.left laid.right laid.config.config) }
+    ensures drive { IfSome result (λ laid. length laid.drive ≡ pins_of shape.now) }
+{
+    let drive = drive_of(alloc, shape, &setup.low)?;
+    laid_left(alloc, shape, setup, drive)
 }

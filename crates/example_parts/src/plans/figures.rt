@@ -67,10 +67,10 @@ fn closed_by(alloc: Global, network: &Network, plan: &Plan, defects: &Defects) -
     requires plan { IsPlan defects.now.shape defects.now.list network.now plan.now }
 {
     match fits(alloc, network, plan, defects) {
-        Ok(true) => {
-            let image = route(alloc, network, plan, defects).ok()?;
-            Some(image.config().closed().len())
-        }
+        Ok(true) => match route(alloc, network, plan, defects) {
+            Ok(image) => Some(image.config().closed().len()),
+            Err(_) => None,
+        },
         _ => None,
     }
 }
@@ -112,9 +112,14 @@ fn figures_on(alloc: Global, network: &Network, defects: &Defects) -> Option<Fig
     Some(Figures { in_order, improved })
 }
 
+// What is to be seen of both plans of a design.
+fn figures_by(alloc: Global, design: &[u8], defects: &Defects) -> Option<Figures> {
+    let network = network_of(alloc, design)?;
+    figures_on(alloc, &network, defects)
+}
+
 /// What is to be seen of both plans. None where a text can't be read, the plan in order doesn't fit, or memory is lacking.
 pub fn figures_of(alloc: Global, texts: &Texts) -> Option<Figures> {
     let defects = defects_of(alloc, texts)?;
-    let network = network_of(alloc, &texts.designs.first)?;
-    figures_on(alloc, &network, &defects)
+    figures_by(alloc, &texts.designs.first, &defects)
 }

@@ -61,11 +61,23 @@ fn shares_on(alloc: Global, first: &Network, second: &Network, defects: &Defects
     })
 }
 
+// What is to be seen of a network and of the second design.
+fn shares_with(alloc: Global, first: &Network, second: &[u8], defects: &Defects) -> Option<Shares>
+    requires { IsNetwork first.now }
+{
+    let second = network_of(alloc, second)?;
+    shares_on(alloc, first, &second, defects)
+}
+
+// What is to be seen of the two designs on a machine with this list.
+fn shares_by(alloc: Global, texts: &Texts, defects: &Defects) -> Option<Shares> {
+    let first = network_of(alloc, &texts.designs.first)?;
+    shares_with(alloc, &first, &texts.designs.second, defects)
+}
+
 /// What is to be seen of the two designs. None where a text can't be read, the plan in order of both doesn't fit, or memory is
 /// wanting.
 pub fn shares_of(alloc: Global, texts: &Texts) -> Option<Shares> {
     let defects = defects_of(alloc, texts)?;
-    let first = network_of(alloc, &texts.designs.first)?;
-    let second = network_of(alloc, &texts.designs.second)?;
-    shares_on(alloc, &first, &second, &defects)
+    shares_by(alloc, texts, &defects)
 }

@@ -44,15 +44,20 @@ fn switches(config: &mut Config) -> Option<bool> {
     Some(on && one && config.setting(Table(1)).is_none())
 }
 
-pub fn after_each_call(alloc: Global) -> Option<bool> {
-    let shape = Shape::new(TINY).ok()?;
-    let mut config = Config::with_room(alloc, shape, 1).ok()?;
-    let closed = closes(&mut config)?;
-    let switched = switches(&mut config)?;
+// Whether it is as it should be after each of its calls.
+fn is_right(config: &mut Config) -> Option<bool> {
+    let closed = closes(config)?;
+    let switched = switches(config)?;
     config.set_ticks(4096);
     let ticks = config.ticks() == 4096;
     config.clear();
     Some(closed && switched && ticks && config.closed().is_empty() && config.ticks() == 1)
+}
+
+pub fn after_each_call(alloc: Global) -> Option<bool> {
+    let shape = Shape::new(TINY).ok()?;
+    let mut config = Config::with_room(alloc, shape, 1).ok()?;
+    is_right(&mut config)
 }
 
 pub fn pin_bits(alloc: Global) -> Option<bool> {

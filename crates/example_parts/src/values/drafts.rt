@@ -3,7 +3,7 @@
 use base_lists::Items;
 use design_blif::read_blif;
 use design_netlist::{
-    Cover, Cube, DesignFault, DesignKind, Lit, Name, Names, Netlist, NetlistData, PortDef, check,
+    Cover, DesignFault, DesignKind, Lit, Names, Netlist, NetlistData, PortDef, check,
 };
 use map_search::{Head, design_text};
 use std::alloc::Global;
@@ -48,38 +48,21 @@ fn is_refused(found: &Result<Netlist, DesignFault>, line: u64, wrong: Wrong, nam
     }
 }
 
-/// The name that this text is.
-fn name_of(alloc: Global, text: &str) -> Option<Name> {
-    Some(Items::new(Vec::from_slice(alloc, text.as_bytes()).ok()?))
-}
-
-/// Ports on one line.
-fn ports_of(alloc: Global, signals: &[u32], line: u64) -> Option<Items<PortDef>> {
-    let mut ports = Items::empty(alloc);
-    'signals: for signal in signals {
-        let signal = *signal;
-        ports.push(PortDef { signal, line }).ok()?;
-    }
-    Some(ports)
-}
-
-// A row that wants so many inputs to be 1.
-fn ones(alloc: Global, count: usize) -> Option<Cube> {
-    let mut row = Items::empty(alloc);
-    'inputs: for _ in 0..count {
-        row.push(Lit::One).ok()?;
-    }
-    Some(row)
+// Adds a name.
+fn add_name(alloc: Global, names: &mut Names, text: &str) -> Option<()> {
+    let name = Vec::from_slice(alloc, text.as_bytes()).ok()?;
+    names.push(Items::new(name)).ok()
 }
 
 /// A gate as a cover on this line.
 fn cover_of(alloc: Global, gate: Gate, line: u64) -> Option<Cover> {
-    let mut rows = Items::empty(alloc);
-    rows.push(ones(alloc, gate.0.len())?).ok()?;
+    let ins = Vec::from_slice(alloc, gate.0).ok()?;
+    let row = vec![in alloc; Lit::One; gate.0.len()].ok()?;
+    let rows = vec![in alloc; Items::new(row)].ok()?;
     Some(Cover {
         out: gate.1,
-        ins: Items::new(Vec::from_slice(alloc, gate.0).ok()?),
-        rows,
+        ins: Items::new(ins),
+        rows: Items::new(rows),
         off: false,
         line,
     })
@@ -151,26 +134,52 @@ fn has_lists(alloc: Global, netlist: &Netlist, due: Gates) -> Option<bool> {
     )
 }
 
-// What comes of two signals of which `a` is shown, and gates that each stand on a line.
-fn checked(alloc: Global, gates: &[(Gate, u64)]) -> Option<Result<Netlist, DesignFault>> {
-    let mut names = Names::new(alloc);
-    names.push(name_of(alloc, "a")?).ok()?;
-    names.push(name_of(alloc, "b")?).ok()?;
-    let mut covers = Items::empty(alloc);
-    'gates: for (gate, line) in gates {
-        covers.push(cover_of(alloc, *gate, *line)?).ok()?;
-    }
-    let data = NetlistData {
-        names,
+/// A draft of nothing.
+pub fn empty_draft(alloc: Global) -> NetlistData {
+    NetlistData {
+        names: Names::new(alloc),
         inputs: Items::empty(alloc),
-        outputs: ports_of(alloc, &[0], 2)?,
-        covers,
+        outputs: Items::empty(alloc),
+        covers: Items::empty(alloc),
         latches: Items::empty(alloc),
-    };
-    if !data.is_well_made() {
-        return None;
     }
-    Some(check(alloc, data))
+}
+
+// Adds gates that each stand on a line.
+fn add_gates(alloc: Global, covers: &mut Items<Cover>, gates: &[(Gate, u64)]) -> Option<()> {
+    'gates: for (gate, line) in gates {
+        let cover = cover_of(alloc, *gate, *line)?;
+        covers.push(cover).ok()?;
+    }
+    Some(())
+}
+
+// Adds two signals, shows the first, and adds gates that each stand on a line.
+fn add_parts(alloc: Global, draft: &mut NetlistData, gates: &[(Gate, u64)]) -> Option<()> {
+    add_name(alloc, &mut draft.names, "a")?;
+    add_name(alloc, &mut draft.names, "b")?;
+    let shown = PortDef { signal: 0, line: 2 };
+    draft.outputs.push(shown).ok()?;
+    add_gates(alloc, &mut draft.covers, gates)
+}
+
+// Two signals of which `a` is shown, and gates that each stand on a line.
+fn draft_of(alloc: Global, gates: &[(Gate, u64)]) -> Option<NetlistData> {
+    let mut draft = empty_draft(alloc);
+    match add_parts(alloc, &mut draft, gates) {
+        Some(()) => Some(draft),
+        None => None,
+    }
+}
+
+// What comes of them.
+fn checked(alloc: Global, gates: &[(Gate, u64)]) -> Option<Result<Netlist, DesignFault>> {
+    let draft = draft_of(alloc, gates)?;
+    if draft.is_well_made() {
+        Some(check(alloc, draft))
+    } else {
+        None
+    }
 }
 
 // Whether gates that each stand on a line are refused at this line, for this, with this name.
@@ -181,7 +190,8 @@ fn are_refused(
     wrong: Wrong,
     name: &str,
 ) -> Option<bool> {
-    Some(is_refused(&checked(alloc, gates)?, line, wrong, name))
+    let found = checked(alloc, gates)?;
+    Some(is_refused(&found, line, wrong, name))
 }
 
 // `a` reads `b`, and `b` reads `a`, is driven by nothing, or isn't what is driven next; and `a` reads itself.

@@ -1,9 +1,10 @@
 //! Designs that are labelled by a graph, and designs that are not.
 
+use crate::values::drafts::empty_draft;
 use base_lists::Items;
 use design_blif::read_blif;
 use design_equal::{And, Graph, GraphLatch, agree, cells_at, is_labelled};
-use design_netlist::{Names, Netlist, NetlistData, check};
+use design_netlist::{Netlist, NetlistData, check};
 use std::alloc::Global;
 
 /// A graph: how many inputs it has, its latches and its ANDs.
@@ -42,35 +43,72 @@ fn xor_shape<'a>(ands: &'a [And]) -> Shape<'a> {
 }
 
 fn graph_of(alloc: Global, shape: Shape) -> Option<Graph> {
+    let latches = Vec::from_slice(alloc, shape.latches).ok()?;
+    let ands = Vec::from_slice(alloc, shape.ands).ok()?;
     Some(Graph {
         inputs: shape.inputs,
-        latches: Items::new(Vec::from_slice(alloc, shape.latches).ok()?),
-        ands: Items::new(Vec::from_slice(alloc, shape.ands).ok()?),
+        latches: Items::new(latches),
+        ands: Items::new(ands),
     })
 }
 
-fn are_right(alloc: Global, shape: Shape, side: Side) -> Option<bool> {
-    let graph = graph_of(alloc, shape)?;
+// Whether a design is labelled by a graph.
+fn is_right(alloc: Global, graph: &Graph, side: Side) -> Option<bool> {
     let netlist = read_blif(alloc, side.0).ok()?;
-    is_labelled(alloc, &graph, &netlist, side.1).ok()
+    is_labelled(alloc, graph, &netlist, side.1).ok()
+}
+
+// Whether of these designs just those are labelled of which it is said.
+fn are_labelled(alloc: Global, graph: &Graph, sides: &[(Side, bool)]) -> bool {
+    'sides: for (side, due) in sides {
+        if is_right(alloc, graph, *side) != Some(*due) {
+            return false;
+        }
+    }
+    true
+}
+
+fn are_right(alloc: Global, shape: Shape, sides: &[(Side, bool)]) -> Option<bool> {
+    let graph = graph_of(alloc, shape)?;
+    Some(are_labelled(alloc, &graph, sides))
+}
+
+// Whether a design and the text of another one agree by a graph.
+fn agrees_with(
+    alloc: Global,
+    graph: &Graph,
+    one: &Netlist,
+    labels: &[u32],
+    second: Side,
+) -> Option<bool> {
+    let other = read_blif(alloc, second.0).ok()?;
+    agree(alloc, graph, one, labels, &other, second.1).ok()
 }
 
 // Whether two designs agree by a graph.
 fn agree_by(alloc: Global, graph: &Graph, first: Side, second: Side) -> Option<bool> {
     let one = read_blif(alloc, first.0).ok()?;
-    let other = read_blif(alloc, second.0).ok()?;
-    agree(alloc, graph, &one, first.1, &other, second.1).ok()
+    agrees_with(alloc, graph, &one, first.1, second)
 }
 
-fn do_agree(alloc: Global, shape: Shape, first: Side, second: Side) -> Option<bool> {
+// Whether of these designs just those agree with the first of which it is said.
+fn agree_each(alloc: Global, graph: &Graph, first: Side, sides: &[(Side, bool)]) -> bool {
+    'sides: for (side, due) in sides {
+        if agree_by(alloc, graph, first, *side) != Some(*due) {
+            return false;
+        }
+    }
+    true
+}
+
+fn do_agree(alloc: Global, shape: Shape, first: Side, sides: &[(Side, bool)]) -> Option<bool> {
     let graph = graph_of(alloc, shape)?;
-    agree_by(alloc, &graph, first, second)
+    Some(agree_each(alloc, &graph, first, sides))
 }
 
 // One function by two lists of rows, by the rows where it is 0, and with a row changed.
 pub fn other_rows(alloc: Global) -> Option<bool> {
     let ands = XOR;
-    let shape = xor_shape(&ands);
     let on: Side = (
         b".model x\n.inputs a b\n.outputs y\n.names a b y\n10 1\n01 1\n.end\n",
         &[2, 4, 11],
@@ -87,17 +125,13 @@ pub fn other_rows(alloc: Global) -> Option<bool> {
         b".model x\n.inputs a b\n.outputs y\n.names a b y\n10 1\n11 1\n.end\n",
         &[2, 4, 11],
     );
-    Some(
-        do_agree(alloc, shape, on, parts)?
-            && do_agree(alloc, shape, on, off)?
-            && !do_agree(alloc, shape, on, changed)?,
-    )
+    let others = [(parts, true), (off, true), (changed, false)];
+    do_agree(alloc, xor_shape(&ands), on, &others)
 }
 
 // A signal that is read twice, and inputs that follow from others.
 pub fn dependent_inputs(alloc: Global) -> Option<bool> {
     let ands = BOTH;
-    let shape = xor_shape(&ands);
     let twice: Side = (
         b".model t\n.inputs a b\n.outputs y\n.names a b a y\n1-1 1\n.end\n",
         &[2, 4, 2],
@@ -110,11 +144,8 @@ pub fn dependent_inputs(alloc: Global) -> Option<bool> {
         b".model t\n.inputs a b\n.outputs y\n.names a b m\n11 1\n.names a b m y\n110 1\n--1 1\n.end\n",
         &[2, 4, 6, 6],
     );
-    Some(
-        are_right(alloc, shape, twice)?
-            && are_right(alloc, shape, opposite)?
-            && are_right(alloc, shape, both)?,
-    )
+    let sides = [(twice, true), (opposite, true), (both, true)];
+    are_right(alloc, xor_shape(&ands), &sides)
 }
 
 // Seven inputs: the first and the last, and one that is read with either value.
@@ -133,7 +164,7 @@ pub fn seven_inputs(alloc: Global) -> Option<bool> {
         b".model s\n.inputs a b c d e f g\n.outputs y\n.names a b c d e f g y\n1-1---1 1\n1-01--1 1\n.end\n",
         &[2, 4, 6, 8, 10, 12, 14, 16],
     );
-    Some(are_right(alloc, shape, right)? && !are_right(alloc, shape, wrong)?)
+    are_right(alloc, shape, &[(right, true), (wrong, false)])
 }
 
 // The labels of 40 inputs, and that of the output behind them.
@@ -177,10 +208,9 @@ pub fn forty_inputs(alloc: Global) -> Option<bool> {
     let labels = forty_labels(alloc, 95)?;
     let right = text_of_forty(alloc, "111-------------------------------------")?;
     let wrong = text_of_forty(alloc, "110-------------------------------------")?;
-    Some(
-        are_right(alloc, shape, (right.as_slice(), labels.as_slice()))?
-            && !are_right(alloc, shape, (wrong.as_slice(), labels.as_slice()))?,
-    )
+    let right: Side = (right.as_slice(), labels.as_slice());
+    let wrong: Side = (wrong.as_slice(), labels.as_slice());
+    are_right(alloc, shape, &[(right, true), (wrong, false)])
 }
 
 // A design whose one cover has 40 inputs and three rows, of which this is the first.
@@ -215,7 +245,7 @@ pub fn latch_labels(alloc: Global) -> Option<bool> {
         b".model l\n.inputs a\n.outputs q\n.latch q q 1\n.end\n",
         &[2, 1],
     );
-    Some(are_right(alloc, shape, two)? && are_right(alloc, shape, stays)?)
+    are_right(alloc, shape, &[(two, true), (stays, true)])
 }
 
 // Another initial bit, and labels of a latch's output that are no latch's.
@@ -232,65 +262,65 @@ pub fn wrong_latch_labels(alloc: Global) -> Option<bool> {
         b".model l\n.inputs a\n.outputs q\n.latch a q 1\n.end\n",
         &[2, 4],
     );
-    Some(
-        are_right(alloc, shape, (text, &[2, 4]))?
-            && !are_right(alloc, shape, begins)?
-            && !are_right(alloc, shape, (text, &[2, 6]))?
-            && !are_right(alloc, shape, (text, &[2, 2]))?
-            && !are_right(alloc, shape, (text, &[2, 5]))?,
-    )
+    let sides: [(Side, bool); 5] = [
+        ((text, &[2, 4]), true),
+        (begins, false),
+        ((text, &[2, 6]), false),
+        ((text, &[2, 2]), false),
+        ((text, &[2, 5]), false),
+    ];
+    are_right(alloc, shape, &sides)
 }
 
 // Outputs that are exchanged, and one more.
 pub fn other_outputs(alloc: Global) -> Option<bool> {
-    let shape = xor_shape(&[]);
     let first: Side = (b".model o\n.inputs a b\n.outputs a b\n.end\n", &[2, 4]);
     let exchanged: Side = (b".model o\n.inputs a b\n.outputs b a\n.end\n", &[2, 4]);
     let more: Side = (b".model o\n.inputs a b\n.outputs a b b\n.end\n", &[2, 4]);
-    Some(
-        do_agree(alloc, shape, first, first)?
-            && !do_agree(alloc, shape, first, exchanged)?
-            && !do_agree(alloc, shape, first, more)?,
-    )
+    let others = [(first, true), (exchanged, false), (more, false)];
+    do_agree(alloc, xor_shape(&[]), first, &others)
 }
 
 // A list with a label too few, and an AND that reads a higher node.
 pub fn unfit_lists(alloc: Global) -> Option<bool> {
     let ands = XOR;
-    let shape = xor_shape(&ands);
     let text: &[u8] = b".model x\n.inputs a b\n.outputs y\n.names a b y\n10 1\n01 1\n.end\n";
     let turned = [
         And { left: 9, right: 11 },
         And { left: 2, right: 5 },
         And { left: 3, right: 4 },
     ];
-    Some(
-        are_right(alloc, shape, (text, &[2, 4, 11]))?
-            && !are_right(alloc, shape, (text, &[2, 4]))?
-            && !are_right(alloc, xor_shape(&turned), (text, &[2, 4, 7]))?,
-    )
+    let sides: [(Side, bool); 2] = [((text, &[2, 4, 11]), true), ((text, &[2, 4]), false)];
+    let fits = are_right(alloc, xor_shape(&ands), &sides)?;
+    let reads_higher: [(Side, bool); 1] = [((text, &[2, 4, 7]), false)];
+    Some(fits && are_right(alloc, xor_shape(&turned), &reads_higher)?)
 }
 
 // A design of a signal that nothing drives and nothing reads.
 fn idle_signal(alloc: Global) -> Option<NetlistData> {
-    let mut names = Names::new(alloc);
-    names.push(Items::empty(alloc)).ok()?;
-    Some(NetlistData {
-        names,
-        inputs: Items::empty(alloc),
-        outputs: Items::empty(alloc),
-        covers: Items::empty(alloc),
-        latches: Items::empty(alloc),
-    })
+    let mut draft = empty_draft(alloc);
+    match draft.names.push(Items::empty(alloc)) {
+        Ok(()) => Some(draft),
+        Err(_) => None,
+    }
 }
 
 // What that design is checked to.
 fn idle_netlist(alloc: Global) -> Option<Netlist> {
     let draft = idle_signal(alloc)?;
-    if !draft.is_well_made() {
-        return None;
+    if draft.is_well_made() {
+        check(alloc, draft).ok()
+    } else {
+        None
     }
-    check(alloc, draft).ok()
+}
+
+// Whether a graph labels that design with 0 and not with 1.
+fn is_idle(alloc: Global, graph: &Graph) -> Option<bool> {
+    let netlist = idle_netlist(alloc)?;
+    let zero = is_labelled(alloc, graph, &netlist, &[0]).ok();
+    let one = is_labelled(alloc, graph, &netlist, &[1]).ok();
+    Some(zero == Some(true) && one == Some(false))
 }
 
 // A signal that nothing drives and nothing reads.
@@ -301,18 +331,22 @@ pub fn undriven_signal(alloc: Global) -> Option<bool> {
         ands: &[],
     };
     let graph = graph_of(alloc, shape)?;
-    let netlist = idle_netlist(alloc)?;
-    let zero = is_labelled(alloc, &graph, &netlist, &[0]).ok()?;
-    let one = is_labelled(alloc, &graph, &netlist, &[1]).ok()?;
-    Some(zero && !one)
+    is_idle(alloc, &graph)
+}
+
+// Whether these are the cells of the AND at these labels.
+fn are_cells(alloc: Global, graph: &Graph, labels: &[u32], due: Option<u64>) -> bool {
+    match cells_at(alloc, graph, labels, 6) {
+        Ok(cells) => cells == due,
+        Err(_) => false,
+    }
 }
 
 // The cells of an AND: of two inputs, of the second one's opposite and the first, and of two with a common node.
 pub fn cells_of_labels(alloc: Global) -> Option<bool> {
     let ands = BOTH;
     let graph = graph_of(alloc, xor_shape(&ands))?;
-    let plain = cells_at(alloc, &graph, &[2, 4], 6).ok()??;
-    let turned = cells_at(alloc, &graph, &[5, 2], 6).ok()??;
-    let none = cells_at(alloc, &graph, &[2], 6).ok()?;
-    Some(plain == 0x8888_8888_8888_8888 && turned == 0x4444_4444_4444_4444 && none.is_none())
+    let plain = are_cells(alloc, &graph, &[2, 4], Some(0x8888_8888_8888_8888));
+    let turned = are_cells(alloc, &graph, &[5, 2], Some(0x4444_4444_4444_4444));
+    Some(plain && turned && are_cells(alloc, &graph, &[2], None))
 }

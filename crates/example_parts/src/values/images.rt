@@ -18,6 +18,15 @@ const SAMPLE: &[u8] = b"TERAIMG1\
     \x00\x00\x00\x40\x00\x00\x00\x45\x00\x00\x00\x4a\x00\x00\x00\x50\x00\x00\x00\x55\x00\x00\x00\x5a\
     \x00\x00\x00\x60\x00\x00\x00\x65\x00\x00\x00\x6a\x00\x00\x00\x70\x00\x00\x00\x75\x00\x00\x00\x8a";
 
+// What writing an image says: none where these bytes come of it, or else `Memory`.
+fn written(alloc: Global, image: &Image, bytes: &[u8]) -> Result<Option<ImageFault>, AllocError> {
+    let written = write_image(alloc, image)?;
+    if written.as_slice() == bytes {
+        return Ok(None);
+    }
+    Ok(Some(ImageFault::Memory))
+}
+
 // What reading says: the fault, or none where the image is written back as these bytes. Otherwise it is `Memory`.
 fn read_and_written(
     alloc: Global,
@@ -25,14 +34,7 @@ fn read_and_written(
     bytes: &[u8],
 ) -> Result<Option<ImageFault>, AllocError> {
     match read_image(alloc, shape, bytes) {
-        Ok(image) => {
-            let written = write_image(alloc, &image)?;
-            Ok(if written.as_slice() == bytes {
-                None
-            } else {
-                Some(ImageFault::Memory)
-            })
-        }
+        Ok(image) => written(alloc, &image, bytes),
         Err(fault) => Ok(Some(fault)),
     }
 }
@@ -98,18 +100,12 @@ pub fn image_bytes(alloc: Global) -> Option<bool> {
     Some(right && after && order)
 }
 
-// An image of 4,097 ticks with nothing closed or on, for `tiny` and for a machine of 16,413 wires.
-const MANY_TICKS: &[u8] = b"TERAIMG1\
-    \x00\x01\x00\x01\x00\x01\x00\x02\x00\x04\x00\x04\x00\x04\x00\x04\x00\x04\x00\x04\x00\x04\x00\x04\
-    \x10\x01\x00\x00\x00\x00\x00\x00\x00\x00\x00\x00";
-
+// An image of 4,097 ticks with nothing closed or on, for a machine of 16,413 wires.
 const MANY_TICKS_OF_LARGE: &[u8] = b"TERAIMG1\
     \x00\x01\x00\x01\x00\x01\x00\x01\x00\x01\x00\x01\x00\x01\x00\x01\x00\x01\x00\x01\x23\x28\x1c\xe8\
     \x10\x01\x00\x00\x00\x00\x00\x00\x00\x00\x00\x00";
 
 pub fn large_ticks(alloc: Global) -> Option<bool> {
-    let shape = Shape::new(TINY).ok()?;
-    let range = is_refused(alloc, &shape, MANY_TICKS, 32, ImageKind::Range)?;
     let counts = Counts {
         modules: 1,
         chips: 1,
@@ -120,10 +116,8 @@ pub fn large_ticks(alloc: Global) -> Option<bool> {
         pins: 7_400,
     };
     let large = Shape::large(counts).ok()?;
-    let right = read_and_written(alloc, &large, MANY_TICKS_OF_LARGE)
-        .ok()?
-        .is_none();
-    Some(range && right)
+    let found = read_and_written(alloc, &large, MANY_TICKS_OF_LARGE).ok()?;
+    Some(found.is_none())
 }
 
 // The sample with the lowest bit of a byte changed.
@@ -173,7 +167,7 @@ pub fn touched_lists(alloc: Global) -> Option<bool> {
     let image = read_image(alloc, &shape, SAMPLE).ok()?;
     let mut right = true;
     'lists: for (which, free) in [(0u8, true), (1, false), (2, false), (3, false), (4, true)] {
-        right = right && is_free_of(alloc, &image, which)? == free;
+        right = right && is_free_of(alloc, &image, which) == Some(free);
     }
     Some(right)
 }

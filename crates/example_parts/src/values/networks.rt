@@ -1,8 +1,10 @@
 //! Plain networks and their depths.
 
+ghost use Rattle.map_network.specs.Networks.{IsNetwork};
+
+use crate::plans::figures::network_of;
 use design_blif::read_blif;
-use design_netlist::Netlist;
-use map_network::{Network, Source, depth, merge_tables, plain, spread_of};
+use map_network::{Network, Source, depth, merge_tables, spread_of};
 use std::alloc::Global;
 
 /// A table: its inputs, its cells, and whether it is latched.
@@ -24,12 +26,26 @@ fn has_tables(network: &Network, wanted: &[Wanted]) -> bool {
     right
 }
 
+// Whether a network has so many levels.
+fn has_levels(alloc: Global, network: &Network, levels: u32) -> bool
+    requires { IsNetwork network.now }
+{
+    match depth(alloc, network) {
+        Ok(found) => found == levels,
+        Err(_) => false,
+    }
+}
+
 // Whether the plain network of a design has these tables, and so many levels.
 fn is_plain(alloc: Global, text: &[u8], wanted: &[Wanted], levels: u32) -> Option<bool> {
+    let network = network_of(alloc, text)?;
+    Some(has_tables(&network, wanted) && has_levels(alloc, &network, levels))
+}
+
+// The merged network of a design.
+fn merged_of(alloc: Global, text: &[u8]) -> Option<Network> {
     let netlist = read_blif(alloc, text).ok()?;
-    let network = plain(alloc, &netlist).ok()?;
-    let found = depth(alloc, &network).ok()?;
-    Some(has_tables(&network, wanted) && found == levels)
+    merge_tables(alloc, &netlist).ok()
 }
 
 // The inputs of a design of seven.
@@ -83,8 +99,7 @@ pub fn toggling_latch(alloc: Global) -> Option<bool> {
 // The cover is put into the table of the latch, which reads itself then.
 pub fn merged_latch(alloc: Global) -> Option<bool> {
     let text = b".model t\n.outputs q\n.names q d\n0 1\n.latch d q\n.end\n";
-    let netlist = read_blif(alloc, text).ok()?;
-    let network = merge_tables(alloc, &netlist).ok()?;
+    let network = merged_of(alloc, text)?;
     let wanted: [Wanted; 1] = [(&[Source::Table(0)], 0x5555_5555_5555_5555, true)];
     let shown: &[Source] = &[Source::Table(0)];
     Some(has_tables(&network, &wanted) && network.outputs.as_slice() == shown)
@@ -131,17 +146,25 @@ fn has_both(network: &Network) -> bool {
     two && network.outputs.as_slice() == shown
 }
 
+// Whether a network has both where it is spread.
+fn has_both_spread(alloc: Global, network: &Network) -> bool
+    requires { IsNetwork network.now }
+{
+    match spread_of(alloc, network) {
+        Ok(spread) => has_both(&spread),
+        Err(_) => false,
+    }
+}
+
 // Whether the plain network of the design has three tables, and two where it is spread.
-fn spreads(alloc: Global, netlist: &Netlist) -> Option<bool> {
-    let network = plain(alloc, netlist).ok()?;
-    let spread = spread_of(alloc, &network).ok()?;
-    Some(has_readers(&network) && has_both(&spread))
+fn spreads(alloc: Global) -> Option<bool> {
+    let network = network_of(alloc, TWO_READERS)?;
+    Some(has_readers(&network) && has_both_spread(alloc, &network))
 }
 
 // The inverter is put into both tables that read it, which read `a` and `b` then, in either order.
 pub fn spread_two_readers(alloc: Global) -> Option<bool> {
-    let netlist = read_blif(alloc, TWO_READERS).ok()?;
-    let spread = spreads(alloc, &netlist)?;
-    let merged = merge_tables(alloc, &netlist).ok()?;
+    let spread = spreads(alloc)?;
+    let merged = merged_of(alloc, TWO_READERS)?;
     Some(spread && merged.tables.as_slice().len() == 3)
 }

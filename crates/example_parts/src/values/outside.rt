@@ -1,6 +1,7 @@
 //! The store of files of the system, and standard output.
 
 use base_io::{FileStore, Sink, StdSink, Store, StoreFail, read_within};
+use std::alloc::Global;
 use std::fs;
 
 /// Lies in the folder that the program runs in, for as long as it runs.
@@ -20,20 +21,32 @@ fn reads(store: &mut FileStore<HostRuntime>) -> Option<bool> {
     Some(three && four && folder && into == [3, 4, 5, 6])
 }
 
-pub fn file_store(rt: &HostRuntime) -> Option<bool> {
-    let alloc = rt.alloc();
+// Bytes that are more than a store reads at once.
+fn many_bytes(alloc: Global) -> Option<Vec<u8>> {
     let mut text = Vec::new(alloc);
-    for i in 0..40_000u32 {
+    'bytes: for i in 0..40_000u32 {
         text.push((i % 251) as u8).ok()?;
     }
-    fs::write(rt, PATH, text.as_slice()).ok()?;
-    let mut store = FileStore::new(alloc, rt.clone().ok()?);
-    let pieces = reads(&mut store)?;
-    let short = read_within(alloc, &mut store, PATH, 39_999).ok()?.is_none();
-    let whole = read_within(alloc, &mut store, PATH, 40_000).ok()??;
+    Some(text)
+}
+
+// Whether the store reads these bytes of the file in pieces and whole, within a limit, and not once the file is gone.
+fn is_right(rt: &HostRuntime, store: &mut FileStore<HostRuntime>, bytes: &[u8]) -> Option<bool> {
+    let alloc: Global = rt.alloc();
+    let pieces = reads(store)?;
+    let short = read_within(alloc, store, PATH, 39_999).ok()?.is_none();
+    let whole = read_within(alloc, store, PATH, 40_000).ok()??;
     fs::remove_file(rt, PATH).ok()?;
     let missing = store.start(PATH) == Err(StoreFail::Failed);
-    Some(pieces && short && whole.as_slice() == text.as_slice() && missing)
+    Some(pieces && short && whole.as_slice() == bytes && missing)
+}
+
+pub fn file_store(rt: &HostRuntime) -> Option<bool> {
+    let alloc: Global = rt.alloc();
+    let bytes = many_bytes(alloc)?;
+    fs::write(rt, PATH, bytes.as_slice()).ok()?;
+    let mut store = FileStore::new(alloc, rt.clone().ok()?);
+    is_right(rt, &mut store, &bytes)
 }
 
 pub fn std_sink(rt: &HostRuntime) -> Option<bool> {

@@ -2,9 +2,9 @@
 
 use example_kit::TINY;
 use machine_defects::{Defects, defects_text};
-use machine_faults::{AddFault, Fault, faults_text, read_faults};
+use machine_faults::{AddFault, Fault, FaultSet, faults_text, read_faults};
 use machine_shape::{Cross, Node, Shape, Table, Wire};
-use machine_text::{MachineFault, MachineKind, machine_text, read_machine};
+use machine_text::{machine_text, read_machine};
 use std::alloc::Global;
 
 pub fn machine_text_of_tiny(alloc: Global) -> Option<bool> {
@@ -17,14 +17,6 @@ pub fn machine_text_of_tiny(alloc: Global) -> Option<bool> {
     Some(shape.counts() == TINY && text.as_slice() == due.as_slice())
 }
 
-// Whether a text of a machine is refused so.
-fn is_refused(alloc: Global, text: &[u8], line: u64, kind: MachineKind) -> bool {
-    match read_machine(alloc, text) {
-        Ok(_) => false,
-        Err(fault) => fault == MachineFault::At { line, kind },
-    }
-}
-
 pub fn machine_two_forms(alloc: Global) -> Option<bool> {
     let due =
         b"teramac 1\nmodules 1\nchips 1\nhextants 1\ntables 2\nports 4 4 4\nlines 4 4 4 4\npins 4\nend\n";
@@ -32,37 +24,29 @@ pub fn machine_two_forms(alloc: Global) -> Option<bool> {
         b"teramac 2\nmodules 1\nchips 1\nhextants 1\ntables 2\nports 4 4 4\nlines 4 4 4 4\npins 4\nend\n";
     let shape = read_machine(alloc, other).ok()?;
     let text = machine_text(alloc, &shape).ok()?;
-    let read = shape.counts() == TINY && text.as_slice() == due.as_slice();
-    Some(read && is_refused(alloc, b"teramac 3\n", 1, MachineKind::Word))
+    Some(shape.counts() == TINY && text.as_slice() == due.as_slice())
 }
 
 pub fn large_counts(alloc: Global) -> Option<bool> {
-    let small =
-        b"teramac 1\nmodules 1\nchips 1\nhextants 1\ntables 1\nports 1 1 1\nlines 1 1 1 9000\npins 7400\nend\n";
     let due =
         b"teramac 2\nmodules 1\nchips 1\nhextants 1\ntables 1\nports 1 1 1\nlines 1 1 1 9000\npins 7400\nend\n";
-    let refused = is_refused(alloc, small, 9, MachineKind::Limit);
     let shape = read_machine(alloc, due).ok()?;
     let text = machine_text(alloc, &shape).ok()?;
     let large = !shape.is_small() && shape.wires() == 16_413;
-    Some(refused && large && text.as_slice() == due.as_slice())
+    Some(large && text.as_slice() == due.as_slice())
 }
 
-pub fn large_pins(alloc: Global) -> Option<bool> {
-    let text =
-        b"teramac 2\nmodules 1\nchips 1\nhextants 1\ntables 1\nports 1 1 1\nlines 1 1 1 9000\npins 8193\nend\n";
-    Some(is_refused(alloc, text, 9, MachineKind::Limit))
-}
-
-pub fn faults_text_in_order(alloc: Global) -> Option<bool> {
-    let shape = Shape::new(TINY).ok()?;
-    let given = b"stuck1 r.p0\nstuck0 r.l0\nbridge r.p0 r.l0\nbridge r.l0 r.p1\n";
-    let mut set = read_faults(alloc, &shape, given).ok()?;
-    let text = faults_text(alloc, &set).ok()?;
+// Whether these are written in order.
+fn writes_in_order(alloc: Global, set: &FaultSet) -> Option<bool> {
+    let text = faults_text(alloc, set).ok()?;
     let due = b"stuck0 r.l0\nstuck1 r.p0\nbridge r.p0 r.l0\nbridge r.p1 r.l0\n";
-    let written = text.as_slice() == due.as_slice();
+    Some(text.as_slice() == due.as_slice())
+}
+
+// Whether a bridge that is there is refused, and a stuck wire more is taken.
+fn adds(set: &mut FaultSet) -> bool {
     if set.shape().wires() <= 5 {
-        return None;
+        return false;
     }
     let bridge = Fault::Bridge {
         a: Wire(4),
@@ -70,13 +54,20 @@ pub fn faults_text_in_order(alloc: Global) -> Option<bool> {
     };
     let refused = set.add(bridge) == Err(AddFault::Doubled);
     if set.shape().wires() <= 5 {
-        return None;
+        return false;
     }
     let stuck = Fault::Stuck {
         wire: Wire(5),
         value: true,
     };
-    Some(written && refused && set.add(stuck) == Ok(()) && set.count() == 5)
+    refused && set.add(stuck) == Ok(()) && set.count() == 5
+}
+
+pub fn faults_text_in_order(alloc: Global) -> Option<bool> {
+    let shape = Shape::new(TINY).ok()?;
+    let given = b"stuck1 r.p0\nstuck0 r.l0\nbridge r.p0 r.l0\nbridge r.l0 r.p1\n";
+    let mut set = read_faults(alloc, &shape, given).ok()?;
+    Some(writes_in_order(alloc, &set) == Some(true) && adds(&mut set))
 }
 
 // Lists a line, a crosspoint that it touches, one that it doesn't, or a table.
@@ -110,7 +101,7 @@ fn is_right(alloc: Global, list: &Defects) -> Option<bool> {
 fn is_listed(alloc: Global, order: [u32; 4]) -> Option<bool> {
     let shape = Shape::new(TINY).ok()?;
     let mut list = Defects::none(alloc, shape).ok()?;
-    for which in order {
+    'parts: for which in order {
         list_one(&mut list, which);
     }
     is_right(alloc, &list)

@@ -1,5 +1,5 @@
 //! A limit on the bytes of a vector file.
-ghost use Rattle.std.specs.Prelude.{◌<◌, ◌-◌, ◌^◌};
+ghost use Rattle.std.specs.Prelude.{◌≡◌, ◌<◌, ◌-◌, ◌^◌, IsSome};
 
 use base_io::{File, MemoryStore, Store};
 use design_vectors::{RowText, VectorKind, VectorText, VectorsFail};
@@ -17,22 +17,54 @@ fn store_of(alloc: Global, bytes: &[u8]) -> Result<MemoryStore, AllocError> {
 }
 
 // The lines of the vectors of one bit, and what came behind the last.
-fn read_all(alloc: Global, bytes: &[u8], limit: u64) -> Option<Read>
-    requires { limit < 2 ^ 64 - 1 }
+fn read_rows(
+    alloc: Global,
+    store: &mut MemoryStore,
+    text: &mut VectorText,
+    line: &mut RowText,
+) -> Option<Read>
+    requires current { IsSome store.old.current }
+    requires width { text.old.width ≡ 1 }
+    requires line { line.old ≡ 1 }
 {
-    let mut store = store_of(alloc, bytes).ok()?;
-    store.start("v").ok()?;
-    let mut text = VectorText::with_limit(alloc, 1, limit).ok()?;
-    let mut line = RowText::new(alloc, 1).ok()?;
     let mut row = vec![in alloc; false; 1].ok()?;
     let mut lines = Vec::new(alloc);
     'vectors: for _ in 0..9 {
-        match text.next(&mut store, &mut row) {
+        match text.next(store, &mut row) {
             Ok(true) => lines.extend_from_slice(line.line(&row)).ok()?,
             end => return Some((lines, end)),
         }
     }
     None
+}
+
+// The same of a text that wasn't read before.
+fn read_text(alloc: Global, store: &mut MemoryStore, text: &mut VectorText) -> Option<Read>
+    requires current { IsSome store.old.current }
+    requires width { text.old.width ≡ 1 }
+{
+    let mut line = RowText::new(alloc, 1).ok()?;
+    read_rows(alloc, store, text, &mut line)
+}
+
+// The same of a store's file, with a limit on its bytes.
+fn read_store(alloc: Global, store: &mut MemoryStore, limit: u64) -> Option<Read>
+    requires current { IsSome store.old.current }
+    requires limit { limit < 2 ^ 64 - 1 }
+{
+    let mut text = VectorText::with_limit(alloc, 1, limit).ok()?;
+    read_text(alloc, store, &mut text)
+}
+
+// The same of these bytes.
+fn read_all(alloc: Global, bytes: &[u8], limit: u64) -> Option<Read>
+    requires { limit < 2 ^ 64 - 1 }
+{
+    let mut store = store_of(alloc, bytes).ok()?;
+    match store.start("v") {
+        Ok(()) => read_store(alloc, &mut store, limit),
+        Err(_) => None,
+    }
 }
 
 pub fn vector_limit(alloc: Global) -> Option<bool> {

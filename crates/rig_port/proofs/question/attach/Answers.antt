@@ -1,7 +1,8 @@
 use Rattle.rig_port.proofs.Vocabulary.{◌≡◌, ◌∙◌, take, length, sym, ap, arith, refl, and_said}
 use Rattle.rig_port.proofs.{Alarm.right_counts, Alarm.for_any, Alarm.rose_of, Telling.attach_stands, Telling.attach_stood, Telling.stood_on}
-use Rattle.rig_port.proofs.{Behind.behind_one, Behind.said_maybe, Behind.said_none, OneMachine.attached, OneMachine.attached_check}
+use Rattle.rig_port.proofs.{Behind.behind_one, Behind.said_maybe, Behind.said_alone, OneMachine.attached, OneMachine.attached_check}
 use Rattle.rig_port.proofs.{Held.seam, Standing.found_one}
+use Rattle.rig_port.specs.Requests.{sends_attach}
 use Rattle.rig_port.proofs.question.attach.Goals as goal
 
 pub returns-in-Ok-clause-fresh : goal.returns-in-Ok-clause-fresh
@@ -35,8 +36,9 @@ returns-in-Ok-clause-alarm g c = λ wrong.
 pub returns-in-Ok-clause-talks : goal.returns-in-Ok-clause-talks
 returns-in-Ok-clause-talks g c =
     let whole = seam c.ask.new.reply c.args.link.now.reply.items c.args.link.now.reply.len (c.ask.ensures.length ∙ ap length c.deref_mut.ensures.value) c.args.link.now.reply.ok.0 in
-    said_maybe c.take_counts.result c.args.link.now.talk c.take_counts.new.link.talk (g.P.Port.port_state c.args.port.now).talk (g.P.Port.port_state c.ask.new.self).talk c.args.question.now
-    (take c.in-Ok.count c.ask.new.reply) c.args.link.now.expected.items (λ right. ap (λ l. take c.in-Ok.count l) (sym whole) ∙ c.take_counts.ensures.right right) c.take_counts.ensures.taken c.take_counts.ensures.left c.in-Ok.ensures.said
+    said_maybe c.take_counts.result c.args.link.now.set.config.shape c.args.link.now.talk c.take_counts.new.link.talk (g.P.Port.port_state c.args.port.now).talk (g.P.Port.port_state c.ask.new.self).talk c.args.question.now
+    (take c.in-Ok.count c.ask.new.reply) c.args.link.now.expected.items (sends_attach c.args.number (omega arith) c.requires.line)
+    (λ right. ap (λ l. take c.in-Ok.count l) (sym whole) ∙ c.take_counts.ensures.right right) c.take_counts.ensures.taken c.take_counts.ensures.left c.in-Ok.ensures.said
 
 pub returns-in-Ok-clause-said : goal.returns-in-Ok-clause-said
 returns-in-Ok-clause-said g c = λ right.
@@ -46,7 +48,8 @@ returns-in-Ok-clause-said g c = λ right.
 
 pub returns-in-Err-clause-talks : goal.returns-in-Err-clause-talks
 returns-in-Err-clause-talks g c =
-    said_none c.args.link.now.talk c.args.link.now.talk (g.P.Port.port_state c.args.port.now).talk (g.P.Port.port_state c.ask.new.self).talk refl c.in-Err.ensures.unsaid
+    said_alone c.args.link.now.set.config.shape c.args.link.now.talk c.args.link.now.talk (g.P.Port.port_state c.args.port.now).talk (g.P.Port.port_state c.ask.new.self).talk c.args.question.now
+    (sends_attach c.args.number (omega arith) c.requires.line) refl c.in-Err.ensures.unsaid
 
 pub returns-in-Err-clause-alarm : goal.returns-in-Err-clause-alarm
 returns-in-Err-clause-alarm g c = λ _.

@@ -1,4 +1,4 @@
-use Rattle.std.proofs.Common.{◌≡◌, ◌∙◌, ◌≤◌, arith, sym, subst, refl, IfSome}
+use Rattle.std.proofs.Common.{◌≡◌, ◌∙◌, ◌≤◌, ap, arith, sym, subst, refl, IfSome}
 use Rattle.rig_port.proofs.Vocabulary.{vec_capacity, pins_of, Roomy, cleared, turn_room, Finds, Behind}
 use Rattle.rig_port.proofs.Behind.{Anyhow, behind_all, behind_more, nothing_said, said_more}
 use Rattle.rig_port.proofs.Resumed.{HasCounts, still_counts}
@@ -26,7 +26,7 @@ tries-preserved g c = record {
   };
   spare = c.tries.invariant.spare;
   talks = said_more c.args.link.now.talk c.tries.link.talk c.attach_next.new.link.talk (g.P.Port.port_state c.args.port.now).talk (g.P.Port.port_state c.tries.port).talk
-      (g.P.Port.port_state c.attach_next.new.port).talk c.tries.invariant.talks c.attach_next.ensures.talks;
+      (g.P.Port.port_state c.attach_next.new.port).talk (ap (λ (s : Roomy). s.config.shape) c.tries.invariant.stays.set) c.tries.invariant.talks c.attach_next.ensures.talks;
   stood = λ s. c.attach_next.ensures.stood (c.tries.invariant.stood s);
   count = omega (arith, c.tries.invariant.count, c.saturating_add.ensures);
 }
@@ -61,7 +61,7 @@ tries-init g c = record {
   stays = record { set = refl; line = refl; anew = refl; running = refl; due = refl; lost = refl };
   past = record { whole = refl; drives = refl; readings = refl; made = refl; covers = refl };
   spare = refl;
-  talks = nothing_said c.args.link.now.talk (g.P.Port.port_state c.args.port.now).talk;
+  talks = nothing_said c.args.link.now.set.config.shape c.args.link.now.talk (g.P.Port.port_state c.args.port.now).talk;
   stood = λ s. s;
   count = omega arith;
 }
@@ -69,7 +69,7 @@ tries-init g c = record {
 pub returns-then-attach_next-clause-talks : goal.returns-then-attach_next-clause-talks
 returns-then-attach_next-clause-talks g c =
     said_more c.args.link.now.talk c.tries.link.talk c.attach_next.new.link.talk (g.P.Port.port_state c.args.port.now).talk (g.P.Port.port_state c.tries.port).talk
-    (g.P.Port.port_state c.attach_next.new.port).talk c.tries.invariant.talks c.attach_next.ensures.talks
+    (g.P.Port.port_state c.attach_next.new.port).talk (ap (λ (s : Roomy). s.config.shape) c.tries.invariant.stays.set) c.tries.invariant.talks c.attach_next.ensures.talks
 
 pub returns-then-attach_next-clause-said : goal.returns-then-attach_next-clause-said
 returns-then-attach_next-clause-said g c = λ _.

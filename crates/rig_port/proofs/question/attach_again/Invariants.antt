@@ -10,7 +10,7 @@ invariant-tries g l = record {
   stays : StaysPosted l.initial.link l.link;
   past : KeepsSession l.initial.again l.again;
   spare : l.again.spare ≡ l.initial.again.spare;
-  talks : GoOn l.initial.link.talk l.link.talk (g.P.Port.port_state l.initial.port).talk (g.P.Port.port_state l.port).talk;
+  talks : GoOn l.initial.link.set.config.shape l.initial.link.talk l.link.talk (g.P.Port.port_state l.initial.port).talk (g.P.Port.port_state l.port).talk;
   stood : HasStood (g.P.Port.port_state l.initial.port) l.initial.link.talk → HasStood (g.P.Port.port_state l.port) l.link.talk;
   count : l.initial.failures ≤ l.failures;
 }

@@ -18,4 +18,4 @@ attach-requires-clause-told g c =
     told_counts c.args.link.now.set.config.shape (g.P.Port.port_state c.args.port.now).device (subst (λ (m : Shape). AreCounts m.counts) c.shape-shape.ensures.shape c.in-Ok.ensures.right) c.requires.told
 
 pub returns-in_default-clause-talks : goal.returns-in_default-clause-talks
-returns-in_default-clause-talks g c = nothing_said c.args.link.now.talk (g.P.Port.port_state c.args.port.now).talk
+returns-in_default-clause-talks g c = nothing_said c.args.link.now.set.config.shape c.args.link.now.talk (g.P.Port.port_state c.args.port.now).talk

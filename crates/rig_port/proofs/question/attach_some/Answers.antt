@@ -1,4 +1,4 @@
-use Rattle.std.proofs.Common.{◌≡◌, ◌∙◌, ◌≤◌, inr, arith, sym, subst, IfSome}
+use Rattle.std.proofs.Common.{◌≡◌, ◌∙◌, ◌≤◌, inr, ap, arith, sym, subst, IfSome}
 use Rattle.rig_port.proofs.Vocabulary.{vec_capacity, pins_of, Roomy, cleared, Rose, turn_room, Finds, Behind}
 use Rattle.rig_port.proofs.Behind.{Anyhow, behind_all, behind_more, said_more}
 use Rattle.rig_port.proofs.Resumed.{HasCounts, still_counts, plain_counts, alarm_on}
@@ -56,7 +56,7 @@ returns-clause-past g c = record {
 pub returns-clause-talks : goal.returns-clause-talks
 returns-clause-talks g c =
     said_more c.args.link.now.talk c.attach.new.link.talk c.attach_again.new.link.talk (g.P.Port.port_state c.args.port.now).talk (g.P.Port.port_state c.attach.new.port).talk
-    (g.P.Port.port_state c.attach_again.new.port).talk c.attach.ensures.talks c.attach_again.ensures.talks
+    (g.P.Port.port_state c.attach_again.new.port).talk (ap (λ (s : Roomy). s.config.shape) c.attach.ensures.stays.set) c.attach.ensures.talks c.attach_again.ensures.talks
 
 pub returns-clause-said : goal.returns-clause-said
 returns-clause-said g c = λ right.

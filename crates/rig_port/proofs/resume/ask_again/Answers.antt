@@ -1,4 +1,4 @@
-use Rattle.rig_port.proofs.Vocabulary.{◌≡◌, ◌∙◌, ◌++◌, arith, sym, subst, true, refl, pins_of, Configuration, lengths_kept, AreWide}
+use Rattle.rig_port.proofs.Vocabulary.{◌≡◌, ◌∙◌, ◌++◌, ap, arith, sym, subst, true, refl, pins_of, Configuration, lengths_kept, AreWide}
 use Rattle.rig_port.proofs.Vocabulary.{SetsAnew, HasRows, HasMade, kept_pairs, paired, Makes, Behind}
 use Rattle.rig_port.proofs.Behind.{Anyhow, behind_all, behind_more, nothing_said, said_more}
 use Rattle.rig_port.proofs.Resumed.{HasShape, still_shaped, many_rows, same_pairs_kept}
@@ -27,7 +27,7 @@ tries-preserved g c = record {
     covers = c.turn_again.ensures.kept.past.covers ∙ c.tries.invariant.past.covers;
   };
   talks = said_more c.args.link.now.talk c.tries.link.talk c.turn_again.new.link.talk (g.P.Port.port_state c.args.port.now).talk (g.P.Port.port_state c.tries.port).talk
-      (g.P.Port.port_state c.turn_again.new.port).talk c.tries.invariant.talks c.turn_again.ensures.talks;
+      (g.P.Port.port_state c.turn_again.new.port).talk (ap (λ (s : Configuration). s.shape) c.tries.invariant.stays.set) c.tries.invariant.talks c.turn_again.ensures.talks;
   stood = λ s. c.turn_again.ensures.stood (c.tries.invariant.stood s);
   count = omega (arith, c.tries.invariant.count, c.saturating_add.ensures);
 }
@@ -105,18 +105,18 @@ tries-init g c = record {
   stays = record { set = refl; lost = refl; running = refl };
   rows = c.requires.again.rows;
   past = record { whole = refl; drives = refl; readings = refl; made = refl; covers = refl };
-  talks = nothing_said c.args.link.now.talk (g.P.Port.port_state c.args.port.now).talk;
+  talks = nothing_said c.args.link.now.set.config.shape c.args.link.now.talk (g.P.Port.port_state c.args.port.now).talk;
   stood = λ s. s;
   count = omega arith;
 }
 
 pub returns-then-not-again-clause-talks : goal.returns-then-not-again-clause-talks
-returns-then-not-again-clause-talks g c = nothing_said c.args.link.now.talk (g.P.Port.port_state c.args.port.now).talk
+returns-then-not-again-clause-talks g c = nothing_said c.args.link.now.set.config.shape c.args.link.now.talk (g.P.Port.port_state c.args.port.now).talk
 
 pub returns-then-turn_again-clause-talks : goal.returns-then-turn_again-clause-talks
 returns-then-turn_again-clause-talks g c =
     said_more c.args.link.now.talk c.tries.link.talk c.turn_again.new.link.talk (g.P.Port.port_state c.args.port.now).talk (g.P.Port.port_state c.tries.port).talk
-    (g.P.Port.port_state c.turn_again.new.port).talk c.tries.invariant.talks c.turn_again.ensures.talks
+    (g.P.Port.port_state c.turn_again.new.port).talk (ap (λ (s : Configuration). s.shape) c.tries.invariant.stays.set) c.tries.invariant.talks c.turn_again.ensures.talks
 
 pub returns-then-turn_again-clause-said : goal.returns-then-turn_again-clause-said
 returns-then-turn_again-clause-said g c = λ _.

@@ -128,13 +128,14 @@ returns-in_default-clause-kept g c = record {
 pub returns-clause-talks : goal.returns-clause-talks
 returns-clause-talks g c =
     said_more c.args.link.now.talk c.attach_next.new.link.talk c.redrive_first.new.link.talk (g.P.Port.port_state c.args.port.now).talk (g.P.Port.port_state c.attach_next.new.port).talk
-    (g.P.Port.port_state c.redrive_first.new.port).talk c.attach_next.ensures.talks
-    (subst (λ (t : List Said). GoOn t c.redrive_first.new.link.talk (g.P.Port.port_state c.attach_next.new.port).talk (g.P.Port.port_state c.redrive_first.new.port).talk) c.load_anew.ensures.talk
+    (g.P.Port.port_state c.redrive_first.new.port).talk
+    (ap (λ (s : Configuration). s.shape) c.load_anew.ensures.stays.set ∙ ap (λ (s : Roomy). s.config.shape) c.attach_next.ensures.stays.set) c.attach_next.ensures.talks
+    (subst (λ (t : List Said). GoOn c.load_anew.new.link.set.config.shape t c.redrive_first.new.link.talk (g.P.Port.port_state c.attach_next.new.port).talk (g.P.Port.port_state c.redrive_first.new.port).talk) c.load_anew.ensures.talk
     c.redrive_first.ensures.talks)
 
 pub returns-in_default-clause-talks : goal.returns-in_default-clause-talks
 returns-in_default-clause-talks g c =
-    subst (λ (t : List Said). GoOn c.args.link.now.talk t (g.P.Port.port_state c.args.port.now).talk (g.P.Port.port_state c.attach_next.new.port).talk) (sym c.load_anew.ensures.talk)
+    subst (λ (t : List Said). GoOn c.args.link.now.set.config.shape c.args.link.now.talk t (g.P.Port.port_state c.args.port.now).talk (g.P.Port.port_state c.attach_next.new.port).talk) (sym c.load_anew.ensures.talk)
     c.attach_next.ensures.talks
 
 pub returns-clause-said : goal.returns-clause-said

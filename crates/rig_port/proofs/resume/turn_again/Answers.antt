@@ -1,4 +1,4 @@
-use Rattle.rig_port.proofs.Vocabulary.{◌∙◌, sym, subst, arith, Configuration, AreWide, HasTurned, HasMade, kept_pairs}
+use Rattle.rig_port.proofs.Vocabulary.{◌∙◌, ap, sym, subst, arith, Configuration, AreWide, HasTurned, HasMade, kept_pairs}
 use Rattle.rig_port.proofs.{Behind.behind_more, Behind.said_more, Standing.makes_more, Resumed.made_more, Resumed.in_session}
 use Rattle.rig_port.proofs.resume.turn_again.Goals as goal
 
@@ -60,7 +60,7 @@ returns-clause-later g c = record {
 pub returns-clause-talks : goal.returns-clause-talks
 returns-clause-talks g c =
     said_more c.args.link.now.talk c.resume.new.link.talk c.turn_all.new.link.talk (g.P.Port.port_state c.args.port.now).talk (g.P.Port.port_state c.resume.new.port).talk
-    (g.P.Port.port_state c.turn_all.new.port).talk c.resume.ensures.talks c.turn_all.ensures.talks
+    (g.P.Port.port_state c.turn_all.new.port).talk (ap (λ (s : Configuration). s.shape) c.resume.ensures.stays.set) c.resume.ensures.talks c.turn_all.ensures.talks
 
 pub returns-clause-said : goal.returns-clause-said
 returns-clause-said g c = λ right.

@@ -1,4 +1,4 @@
-use Rattle.rig_port.proofs.Vocabulary.{◌≡◌, ◌∙◌, ◌++◌, refl, arith, sym, subst, inr, pins_of, Configuration, Rose, lengths_kept, AreWide}
+use Rattle.rig_port.proofs.Vocabulary.{◌≡◌, ◌∙◌, ◌++◌, ap, refl, arith, sym, subst, inr, pins_of, Configuration, Rose, lengths_kept, AreWide}
 use Rattle.rig_port.proofs.Vocabulary.{SetsAnew, HasRows, HasMade, kept_pairs, paired, Device, Makes, Behind}
 use Rattle.rig_port.proofs.{Behind.Anyhow, Behind.behind_all, Behind.behind_more, Behind.behind_so, Behind.said_more, Standing.turns_again}
 use Rattle.rig_port.proofs.Resumed.{HasShape, still_shaped, many_rows, rose_still, turned_again}
@@ -80,7 +80,7 @@ returns-clause-number g c = inr (let rose : Rose c.args.failures.now c.ask_again
 pub returns-clause-talks : goal.returns-clause-talks
 returns-clause-talks g c =
     said_more c.args.link.now.talk c.turn_all.new.link.talk c.ask_again.new.link.talk (g.P.Port.port_state c.args.port.now).talk (g.P.Port.port_state c.turn_all.new.port).talk
-    (g.P.Port.port_state c.ask_again.new.port).talk c.turn_all.ensures.talks c.ask_again.ensures.talks
+    (g.P.Port.port_state c.ask_again.new.port).talk (ap (λ (s : Configuration). s.shape) c.turn_all.ensures.stays.set) c.turn_all.ensures.talks c.ask_again.ensures.talks
 
 pub returns-then-turn_all-clause-said : goal.returns-then-turn_all-clause-said
 returns-then-turn_all-clause-said g c = λ _.

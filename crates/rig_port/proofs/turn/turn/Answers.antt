@@ -1,6 +1,7 @@
 use Rattle.std.proofs.Common.{arith, ◌≡◌, ◌∙◌, [], true, false, refl, sym, ap, length, take, subst, Option, Some}
 use Rattle.rig_port.proofs.Vocabulary.{length-map, pins_of, lengths_kept, Device, WhereTold, Check, Answers, and_said, after, IsLinked}
-use Rattle.rig_port.proofs.{Behind.behind_one, Behind.said_none, Behind.said_one, Behind.said_wrong, Room.same_room, turn.turn.Given.Over}
+use Rattle.rig_port.proofs.{Behind.behind_one, Behind.said_alone, Behind.said_one, Behind.said_wrong, Forms.sent_form, Room.same_room}
+use Rattle.rig_port.proofs.turn.turn.Given.{Over}
 use Rattle.rig_port.specs.Lines.{reading_body, reading_line}
 use Rattle.rig_port.proofs.{Alarm.IsAsked, Alarm.own_answers, Alarm.right_reply, Alarm.keep_of, Turned.StandsTurned, Turned.turn_stands}
 use Rattle.rig_port.proofs.{Held.seam, Telling.answer_stands, Telling.stood_of, Telling.stood_on}
@@ -50,17 +51,33 @@ module _ (g : Over) (c : goal.After-link-4-1 g) where
 
 pub returns-clause-talks : goal.returns-clause-talks
 returns-clause-talks g c =
-    said_one c.args.link.now.talk c.and-link.result (g.P.Port.port_state c.args.port.now).talk (g.P.Port.port_state c.ask.new.self).talk c.deref.result.now (take c.in-Ok.count c.ask.new.reply)
+    said_one c.args.link.now.set.config.shape c.args.link.now.talk c.and-link.result (g.P.Port.port_state c.args.port.now).talk (g.P.Port.port_state c.ask.new.self).talk c.deref.result.now (take c.in-Ok.count c.ask.new.reply)
+    (sent_form (g.P.Port.port_state c.args.port.now).device c.args.link.now.check c.put_request-sent.result c.args.link.now.set.config c.args.link.now.anew c.args.link.now.running
+    c.args.link.now.due c.args.link.now.line.items c.deref.result.now c.args.drives.now c.requires.ready.linked (asked g c) c.requires.ready.running)
     (talk_is g c) c.in-Ok.ensures.said
 
 pub returns-in_default-clause-talks : goal.returns-in_default-clause-talks
 returns-in_default-clause-talks g c =
-    said_none c.args.link.now.talk c.args.link.now.talk (g.P.Port.port_state c.args.port.now).talk (g.P.Port.port_state c.ask.new.self).talk refl c.in_default.ensures.unsaid
+    said_alone c.args.link.now.set.config.shape c.args.link.now.talk c.args.link.now.talk (g.P.Port.port_state c.args.port.now).talk (g.P.Port.port_state c.ask.new.self).talk c.deref.result.now
+    (sent_form (g.P.Port.port_state c.args.port.now).device c.args.link.now.check c.put_request-sent.result c.args.link.now.set.config c.args.link.now.anew c.args.link.now.running
+    c.args.link.now.due c.args.link.now.line.items c.deref.result.now c.args.drives.now c.requires.ready.linked (record {
+      wide = c.requires.ready.wide;
+      some = c.requires.some;
+      loads = λ due. let r = c.put_request-sent.ensures.loads due in record { line_is = c.deref.ensures.value ∙ r.line_is; check = r.check };
+      goes = λ due none. let r = c.put_request-sent.ensures.drives due none in record { line_is = c.deref.ensures.value ∙ r.line_is; check = r.check };
+    }) c.requires.ready.running) refl c.in_default.ensures.unsaid
 
 pub returns-in_default-read_check-clause-talks : goal.returns-in_default-read_check-clause-talks
 returns-in_default-read_check-clause-talks g c =
-    said_wrong c.args.link.now.talk c.args.link.now.talk (g.P.Port.port_state c.args.port.now).talk (g.P.Port.port_state c.ask.new.self).talk c.deref.result.now
-    (take c.in-Ok.count c.ask.new.reply) refl c.in-Ok.ensures.said
+    said_wrong c.args.link.now.set.config.shape c.args.link.now.talk c.args.link.now.talk (g.P.Port.port_state c.args.port.now).talk (g.P.Port.port_state c.ask.new.self).talk c.deref.result.now
+    (take c.in-Ok.count c.ask.new.reply)
+    (sent_form (g.P.Port.port_state c.args.port.now).device c.args.link.now.check c.put_request-sent.result c.args.link.now.set.config c.args.link.now.anew c.args.link.now.running
+    c.args.link.now.due c.args.link.now.line.items c.deref.result.now c.args.drives.now c.requires.ready.linked (record {
+      wide = c.requires.ready.wide;
+      some = c.requires.some;
+      loads = λ due. let r = c.put_request-sent.ensures.loads due in record { line_is = c.deref.ensures.value ∙ r.line_is; check = r.check };
+      goes = λ due none. let r = c.put_request-sent.ensures.drives due none in record { line_is = c.deref.ensures.value ∙ r.line_is; check = r.check };
+    }) c.requires.ready.running) refl c.in-Ok.ensures.said
 
 pub returns-clause-said : goal.returns-clause-said
 returns-clause-said g c = λ _.

@@ -37,7 +37,7 @@ turns-init g c = (
   omega arith,
   λ some. absurd (omega (arith, some)),
   λ idle. idle,
-  nothing_said c.args.link.now.talk (g.P.Port.port_state c.args.port.now).talk,
+  nothing_said c.args.link.now.set.config.shape c.args.link.now.talk (g.P.Port.port_state c.args.port.now).talk,
   behind_none _ c.args.link.now.talk (turns_none c.args.link.now c.requires.ready.running),
   λ s. s,
 )
@@ -99,7 +99,7 @@ turns-preserved g c =
       λ _. c.turn.ensures.sent c.if-not-turn.false,
       λ _. c.turn.ensures.sent c.if-not-turn.false,
       said_more c.args.link.now.talk c.turns.link.talk c.turn.new.link.talk (g.P.Port.port_state c.args.port.now).talk (g.P.Port.port_state c.turns.port).talk
-          (g.P.Port.port_state c.turn.new.port).talk c.turns.invariant.8 c.turn.ensures.talks,
+          (g.P.Port.port_state c.turn.new.port).talk (ap (λ (s : Configuration). s.shape) c.turns.invariant.3.set) c.turns.invariant.8 c.turn.ensures.talks,
       behind_more _ _ _ c.args.link.now.talk c.turns.link.talk c.turn.new.link.talk c.turns.invariant.9 (c.turn.ensures.said c.if-not-turn.false)
           (λ d b e k x y _ _. turns_next c.args.link.now c.turns.link c.turn.new.link c.args.drives.now c.turns.reads c.turn.new.reads c.turns.at c.min-end.result c.turns.invariant.3.set le
           (omega (arith, within, c.requires.rows.as_many, c.turns.auto.reads)) c.turn.ensures.lengths d b e k x y),
@@ -139,7 +139,7 @@ returns-clause-turned g c = λ _.
 pub returns-then-not-turn-clause-talks : goal.returns-then-not-turn-clause-talks
 returns-then-not-turn-clause-talks g c =
     said_more c.args.link.now.talk c.turns.link.talk c.turn.new.link.talk (g.P.Port.port_state c.args.port.now).talk (g.P.Port.port_state c.turns.port).talk
-    (g.P.Port.port_state c.turn.new.port).talk c.turns.invariant.8 c.turn.ensures.talks
+    (g.P.Port.port_state c.turn.new.port).talk (ap (λ (s : Configuration). s.shape) c.turns.invariant.3.set) c.turns.invariant.8 c.turn.ensures.talks
 
 pub returns-clause-said : goal.returns-clause-said
 returns-clause-said g c = λ _.

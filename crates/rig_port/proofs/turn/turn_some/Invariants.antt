@@ -12,7 +12,7 @@ invariant-turns g l = (machine_told (g.P.Port.port_state l.port) ≡ machine_tol
     × (l.at ≤ length l.drives)
     × (0 < l.at → l.link.due ≡ false)
     × (l.initial.link.due ≡ false → l.link.due ≡ false)
-    × GoOn l.initial.link.talk l.link.talk (g.P.Port.port_state l.initial.port).talk (g.P.Port.port_state l.port).talk
+    × GoOn l.initial.link.set.config.shape l.initial.link.talk l.link.talk (g.P.Port.port_state l.initial.port).talk (g.P.Port.port_state l.port).talk
     × Behind (Turns (take l.at l.drives) (take l.at l.reads) l.initial.link l.link) l.initial.link.talk l.link.talk
     × (StandsTold (g.P.Port.port_state l.initial.port) l.initial.link.talk → StandsTold (g.P.Port.port_state l.port) l.link.talk)
 

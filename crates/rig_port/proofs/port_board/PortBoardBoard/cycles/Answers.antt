@@ -1,7 +1,8 @@
-use Rattle.rig_port.proofs.Vocabulary.{◌≡◌, ap, subst, true, List, Some, ◌∙◌, state_of, Said, EachWas, GoesOnBy, MayBe, GoOn}
+use Rattle.rig_port.proofs.Vocabulary.{◌≡◌, ap, subst, true, List, Some, ◌∙◌, state_of, Said, EachWas, GoesOnBy, MayBe, GoOnFor}
 use Rattle.rig_port.proofs.{Alarm.told_alarm, port_board.PortBoardBoard.cycles.Goals.Joined-self, Telling.tells_held, Telling.told_here}
 use Rattle.rig_port.proofs.{Held.told_on, Resumed.both_rose, Resumed.held_here, Resumed.running_here, Resumed.ready_here, Resumed.wide_here}
-use Rattle.rig_port.proofs.Standing.{all_here, all_on, cycles_each, held_on, narrows_down, narrows_of, taken_down, talk_here}
+use Rattle.rig_port.proofs.Standing.{all_here, all_on, cycles_each, held_on, narrows_down, narrows_of, sent_here, taken_down}
+use Rattle.rig_port.proofs.{Behind.behind_all, Standing.talk_here}
 use Rattle.rig_port.proofs.port_board.PortBoardBoard.cycles.Given.{Over}
 use Rattle.rig_port.proofs.port_board.PortBoardBoard.cycles.Goals as goal
 
@@ -72,19 +73,21 @@ returns-clause-narrows g c = rw (← c.self.view_is) (narrows_of (GoesOnBy c.arg
 
 pub returns-clause-taken : goal.returns-clause-taken
 returns-clause-taken g c =
-    rw (← c.self.view_is) (subst (λ (t : List Said). GoOn t c.drive_on.new.link.talk (g.P.Port.port_state c.self.inside.port).talk (g.P.Port.port_state c.drive_on.new.port).talk)
-    (talk_here c.self.inside.past c.in-Some.ensures.value) c.drive_on.ensures.talks)
+    rw (← c.self.view_is) (subst (λ (t : List Said). GoOnFor c.self.inside.found t c.drive_on.new.link.talk (g.P.Port.port_state c.self.inside.port).talk (g.P.Port.port_state c.drive_on.new.port).talk)
+    (talk_here c.self.inside.past c.in-Some.ensures.value) (sent_here (g.P.Port.port_state c.self.inside.port) (g.P.Port.port_state c.drive_on.new.port) c.self.inside.found c.self.inside.again c.in-Some.link
+    c.drive_on.new.link c.in-Some.ensures.value c.self.invariant c.drive_on.ensures.talks))
 
 pub returns-then-not-drive_on-clause-narrows : goal.returns-then-not-drive_on-clause-narrows
 returns-then-not-drive_on-clause-narrows g c =
     rw (← c.self.view_is) (narrows_down (g.P.Port.port_state c.self.inside.port) (g.P.Port.port_state c.drive_on.new.port) c.self.inside.found c.take.new.self c.self.inside.past
     c.self.inside.again.number c.drive_on.new.again.number c.self.inside.failures c.drive_on.new.failures c.in-Some.link c.drive_on.new.link c.in-Some.ensures.value c.take.ensures.after
-    c.drive_on.ensures.talks)
+    (behind_all c.in-Some.link.talk c.drive_on.new.link.talk (g.P.Port.port_state c.self.inside.port).talk (g.P.Port.port_state c.drive_on.new.port).talk c.drive_on.ensures.talks))
 
 pub returns-then-not-drive_on-clause-taken : goal.returns-then-not-drive_on-clause-taken
 returns-then-not-drive_on-clause-taken g c =
-    rw (← c.self.view_is) (taken_down c.self.inside.past c.in-Some.link c.drive_on.new.link (g.P.Port.port_state c.self.inside.port).talk (g.P.Port.port_state c.drive_on.new.port).talk
-    c.in-Some.ensures.value c.take.ensures.after c.drive_on.ensures.talks)
+    rw (← c.self.view_is) (taken_down c.self.inside.found c.self.inside.past c.in-Some.link c.drive_on.new.link (g.P.Port.port_state c.self.inside.port).talk (g.P.Port.port_state c.drive_on.new.port).talk
+    c.in-Some.ensures.value c.take.ensures.after (sent_here (g.P.Port.port_state c.self.inside.port) (g.P.Port.port_state c.drive_on.new.port) c.self.inside.found c.self.inside.again c.in-Some.link
+    c.drive_on.new.link c.in-Some.ensures.value c.self.invariant c.drive_on.ensures.talks))
 
 pub returns-clause-told : goal.returns-clause-told
 returns-clause-told g c =

@@ -1,5 +1,5 @@
 use Rattle.rig_port.proofs.Vocabulary.{◌≡◌, ◌≤◌, ◌∙◌, arith, refl, sym, ap, subst, List, [], IfSome, Shape, cleared, vec_capacity, pins_of}
-use Rattle.rig_port.proofs.Vocabulary.{AreCounts, turn_room, HasRows, Said, Finds, PortBoardState, Behind, GoOn}
+use Rattle.rig_port.proofs.Vocabulary.{AreCounts, turn_room, Configuration, HasRows, Said, Sent, Finds, PortBoardState, Behind, GoOn}
 use Rattle.rig_port.proofs.{Behind.heard_only, Behind.said_none, Telling.stood_first, Telling.tells_held}
 use Rattle.rig_port.proofs.{Held.fresh_held, Standing.all_found, Standing.finds_told, Resumed.both_rose, Resumed.fresh_resumes}
 use Rattle.rig_port.proofs.port_board.PortBoardBoard.find.Goals as goal
@@ -40,35 +40,47 @@ returns-clause-again g c =
 
 pub returns-in_default-clause-taken : goal.returns-in_default-clause-taken
 returns-in_default-clause-taken g c =
-    subst (λ (t : List Said). GoOn [] c.new-self-inside.result t (g.P.Port.port_state c.self.inside.port).talk) (ap (λ (s : PortBoardState). s.port_talk) c.self.view_is)
-    (said_none [] c.new-self-inside.result (g.P.Port.port_state c.self.inside.port).talk (g.P.Port.port_state c.self.inside.port).talk c.new-self-inside.ensures refl)
+    subst (λ (t : List Sent). GoOn c.args.shape.now [] c.new-self-inside.result t (g.P.Port.port_state c.self.inside.port).talk) (ap (λ (s : PortBoardState). s.port_talk) c.self.view_is)
+    (said_none c.args.shape.now [] c.new-self-inside.result (g.P.Port.port_state c.self.inside.port).talk (g.P.Port.port_state c.self.inside.port).talk c.new-self-inside.ensures refl)
 
 pub returns-in_default-link_of-clause-taken : goal.returns-in_default-link_of-clause-taken
 returns-in_default-link_of-clause-taken g c =
-    subst (λ (t : List Said). GoOn [] c.new-self-inside.result t (g.P.Port.port_state c.self.inside.port).talk) (ap (λ (s : PortBoardState). s.port_talk) c.self.view_is)
-    (said_none [] c.new-self-inside.result (g.P.Port.port_state c.self.inside.port).talk (g.P.Port.port_state c.self.inside.port).talk c.new-self-inside.ensures refl)
+    subst (λ (t : List Sent). GoOn c.args.shape.now [] c.new-self-inside.result t (g.P.Port.port_state c.self.inside.port).talk) (ap (λ (s : PortBoardState). s.port_talk) c.self.view_is)
+    (said_none c.args.shape.now [] c.new-self-inside.result (g.P.Port.port_state c.self.inside.port).talk (g.P.Port.port_state c.self.inside.port).talk c.new-self-inside.ensures refl)
 
 pub returns-in_default-put_question-clause-taken : goal.returns-in_default-put_question-clause-taken
 returns-in_default-put_question-clause-taken g c =
-    subst (λ (t : List Said). GoOn [] c.new-self-inside.result t (g.P.Port.port_state c.self.inside.port).talk) (ap (λ (s : PortBoardState). s.port_talk) c.self.view_is)
-    (said_none [] c.new-self-inside.result (g.P.Port.port_state c.self.inside.port).talk (g.P.Port.port_state c.self.inside.port).talk c.new-self-inside.ensures refl)
+    subst (λ (t : List Sent). GoOn c.args.shape.now [] c.new-self-inside.result t (g.P.Port.port_state c.self.inside.port).talk) (ap (λ (s : PortBoardState). s.port_talk) c.self.view_is)
+    (said_none c.args.shape.now [] c.new-self-inside.result (g.P.Port.port_state c.self.inside.port).talk (g.P.Port.port_state c.self.inside.port).talk c.new-self-inside.ensures refl)
 
 pub returns-in-Err-Memory-clause-taken : goal.returns-in-Err-Memory-clause-taken
 returns-in-Err-Memory-clause-taken g c =
-    subst (λ (t : List Said). GoOn [] c.new-self-inside.result t (g.P.Port.port_state c.open.new.self).talk) (ap (λ (s : PortBoardState). s.port_talk) c.self.view_is)
-    (said_none [] c.new-self-inside.result (g.P.Port.port_state c.self.inside.port).talk (g.P.Port.port_state c.open.new.self).talk c.new-self-inside.ensures c.open.ensures.talk)
+    subst (λ (t : List Sent). GoOn c.args.shape.now [] c.new-self-inside.result t (g.P.Port.port_state c.open.new.self).talk) (ap (λ (s : PortBoardState). s.port_talk) c.self.view_is)
+    (said_none c.args.shape.now [] c.new-self-inside.result (g.P.Port.port_state c.self.inside.port).talk (g.P.Port.port_state c.open.new.self).talk c.new-self-inside.ensures c.open.ensures.talk)
 
 pub returns-in-Err-Failed-clause-taken : goal.returns-in-Err-Failed-clause-taken
 returns-in-Err-Failed-clause-taken g c =
-    subst (λ (t : List Said). GoOn [] c.new-self-inside.result t (g.P.Port.port_state c.open.new.self).talk) (ap (λ (s : PortBoardState). s.port_talk) c.self.view_is)
-    (said_none [] c.new-self-inside.result (g.P.Port.port_state c.self.inside.port).talk (g.P.Port.port_state c.open.new.self).talk c.new-self-inside.ensures c.open.ensures.talk)
+    subst (λ (t : List Sent). GoOn c.args.shape.now [] c.new-self-inside.result t (g.P.Port.port_state c.open.new.self).talk) (ap (λ (s : PortBoardState). s.port_talk) c.self.view_is)
+    (said_none c.args.shape.now [] c.new-self-inside.result (g.P.Port.port_state c.self.inside.port).talk (g.P.Port.port_state c.open.new.self).talk c.new-self-inside.ensures c.open.ensures.talk)
 
 pub returns-then-not-attach_some-clause-taken : goal.returns-then-not-attach_some-clause-taken
 returns-then-not-attach_some-clause-taken g c =
-    subst (λ (t : List Said). GoOn [] c.new-self-inside.result t (g.P.Port.port_state c.attach_some.new.port).talk) (ap (λ (s : PortBoardState). s.port_talk) c.self.view_is)
-    (subst (λ (t : List Said). GoOn [] t (g.P.Port.port_state c.self.inside.port).talk (g.P.Port.port_state c.attach_some.new.port).talk) (sym c.new-self-inside.ensures)
-    (heard_only c.in-Ok-link_of.link.talk c.attach_some.new.link.talk (g.P.Port.port_state c.self.inside.port).talk (g.P.Port.port_state c.attach_some.new.port).talk
-    (subst (λ (t : List Said). GoOn c.in-Ok-link_of.link.talk c.attach_some.new.link.talk t (g.P.Port.port_state c.attach_some.new.port).talk) c.open.ensures.talk c.attach_some.ensures.talks)))
+    subst (λ (t : List Sent). GoOn c.args.shape.now [] c.new-self-inside.result t (g.P.Port.port_state c.attach_some.new.port).talk) (ap (λ (s : PortBoardState). s.port_talk) c.self.view_is)
+    (subst (λ (t : List Said). GoOn c.args.shape.now [] t (g.P.Port.port_state c.self.inside.port).talk (g.P.Port.port_state c.attach_some.new.port).talk) (sym c.new-self-inside.ensures)
+    (heard_only c.args.shape.now c.in-Ok-link_of.link.talk c.attach_some.new.link.talk (g.P.Port.port_state c.self.inside.port).talk (g.P.Port.port_state c.attach_some.new.port).talk
+    (subst (λ (m : Shape). GoOn m c.in-Ok-link_of.link.talk c.attach_some.new.link.talk (g.P.Port.port_state c.self.inside.port).talk (g.P.Port.port_state c.attach_some.new.port).talk)
+    (ap (λ (s : Configuration). s.shape) c.in-Ok-link_of.ensures.set)
+    (subst (λ (t : List Sent). GoOn c.in-Ok-link_of.link.set.config.shape c.in-Ok-link_of.link.talk c.attach_some.new.link.talk t (g.P.Port.port_state c.attach_some.new.port).talk) c.open.ensures.talk
+    c.attach_some.ensures.talks))))
+
+pub returns-clause-taken : goal.returns-clause-taken
+returns-clause-taken g c =
+    subst (λ (t : List Sent). GoOn c.args.shape.now [] c.attach_some.new.link.talk t (g.P.Port.port_state c.attach_some.new.port).talk) (ap (λ (s : PortBoardState). s.port_talk) c.self.view_is)
+    (subst (λ (t : List Said). GoOn c.args.shape.now t c.attach_some.new.link.talk (g.P.Port.port_state c.self.inside.port).talk (g.P.Port.port_state c.attach_some.new.port).talk) c.in-Ok-link_of.ensures.talk
+    (subst (λ (m : Shape). GoOn m c.in-Ok-link_of.link.talk c.attach_some.new.link.talk (g.P.Port.port_state c.self.inside.port).talk (g.P.Port.port_state c.attach_some.new.port).talk)
+    (ap (λ (s : Configuration). s.shape) c.in-Ok-link_of.ensures.set)
+    (subst (λ (t : List Sent). GoOn c.in-Ok-link_of.link.set.config.shape c.in-Ok-link_of.link.talk c.attach_some.new.link.talk t (g.P.Port.port_state c.attach_some.new.port).talk) c.open.ensures.talk
+    c.attach_some.ensures.talks)))
 
 pub returns-clause-found : goal.returns-clause-found
 returns-clause-found g c =
