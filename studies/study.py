@@ -27,7 +27,7 @@ from program import DEFAULT, HERE, MAPPER, PORT, REPORT, UNDECIDED, add_program,
 from size import TREES, best_machine, counts_for
 
 KNOWN = set("folder machines designs fill spares tree kinds rates seeds first_seed lists clustered shape seconds".split())
-KNOWN |= {"program", "figures", "loads_per_second", "width", "most_seeds", "pdf", "spared", "designs_a_fill"}
+KNOWN |= {"program", "figures", "loads_per_second", "width", "most_seeds", "pdf", "spared", "designs_a_fill", "sound"}
 # What decides about the rows of a trial, beside its words and files; and where cycles are counted, about these.
 SCRIPTS = [os.path.join(HERE, name + ".py") for name in ("trial", "faults", "teramac_texts", "program", "designs")]
 # What decides about machines, designs and figures besides.
@@ -113,12 +113,14 @@ class Study:
         self.folder = folder or self.settings["folder"]
         self.program = from_here(program or get("program", DEFAULT))
         self.figures = get("figures", ["fits", "thrown", "loads"])
-        named = [*get("machines", []), *(name for pair in get("designs", {}).items() for name in pair)]
+        machines = [*get("machines", []), *get("sound", [])]
+        named = [*machines, *(name for pair in get("designs", {}).items() for name in pair)]
         beside = {name: from_here(os.path.join(HERE, name)) for name in named}
         for name in [self.program, *beside.values()]:
             if not os.path.isfile(name):
                 sys.exit(f"{name}: isn't there, or is no file")
-        self.machines = names_of([beside[name] for name in get("machines", [])])
+        self.machines = names_of([beside[name] for name in machines])
+        self.sound = {beside[name] for name in get("sound", [])}
         vectors = {beside[name]: beside[file] for name, file in get("designs", {}).items()}
         self.designs = {name: [(blif, vectors[blif])] for name, blif in names_of(vectors).items()}
         self.places = list(self.on_machines())
@@ -220,7 +222,8 @@ class Study:
         end = begin + (self.settings.get("most_seeds", 20 * seeds) if "width" in self.settings else seeds)
         points, made, (words_by, scripts) = [], [], self.words_of()
         for place, kind, rate in product(self.places, self.settings["kinds"], self.settings["rates"]):
-            points.append(((place, kind, str(rate)), []))
+            if not (float(rate) and place.machine in self.sound):
+                points.append(((place, kind, str(rate)), []))
         while points and begin < end:
             # Seed by seed, so that one can see early how a study comes out. Without faults a machine is as the other, once for each design.
             for seed in range(begin, min(begin + seeds, end)):

@@ -352,9 +352,11 @@ def read_defects(machine, data):
 
 
 def defects_text(machine, defects):
-    parts = {kind: (machine.name(kind, at) for at in sorted(defects[kind])) for kind in ("wire", "table")}
-    parts |= {"cross": cross_names(machine, defects["cross"])}
-    entries = (f"{kind} {names}\n" for kind in PARTS for names in parts[kind])
+
+    def names(kind):
+        return cross_names(machine, defects[kind]) if kind == "cross" else (machine.name(kind, at) for at in sorted(defects[kind]))
+
+    entries = (f"{kind} {words}\n" for kind in PARTS for words in names(kind))
     return "".join(["defects 1\nshape ", " ".join(map(str, machine.counts)), "\n", *entries, "end\n"])
 
 

@@ -463,6 +463,11 @@ class Runs(unittest.TestCase):
         self.assertEqual(len(trials), 2)
         self.assertTrue(all(os.path.abspath(DEFAULT) in map(os.path.abspath, found.inputs) for found in trials.values()))
 
+    def test_a_machine_that_is_tried_sound_alone(self):
+        self.write(machines=f"[{self.folder}/tiny.machine]", rates='["0.0", "0.1"]', seeds="2", sound=f"[{EXAMPLES}/small.machine]")
+        trials = Study(str(self.settings), DEFAULT).trials
+        self.assertEqual([*trials], ["tiny-open-0.0-1", "tiny-open-0.1-1", "small-open-0.0-1", "tiny-open-0.1-2"])
+
     def test_settings_are_documented(self):
         text = Path(HERE, "README.md").read_text(encoding="utf-8")
         self.assertEqual([word for word in sorted(KNOWN) if f"`{word}`" not in text], [])
