@@ -1,11 +1,12 @@
 -- Closing a forest's crosspoints and those of walks.
-use Rattle.std.proofs.Common.{◌≡◌, ◌<◌, ◌+◌, ℕ, Bool, true, false, ◌||◌, None, Option, List, [], ◌++◌, All, length, get_or, take, refl, sym, ap, ◌∙◌, arith, ◌==◌, replicate}
-use Rattle.diag_evidence.proofs.Vocabulary.{nat_tests, list_any-append, list_any_at, contains-empty, nat_cmp, Shape, Cross, crosses_of}
-use Rattle.diag_evidence.proofs.Vocabulary.{tables_of, Setting, LeadsTo-below, Closes, cross_numbers, Lead}
-use Rattle.std.proofs.lemmas.List.{get_or-map, length-map, get_or-replicate, get_or_past, length-replicate, take_more, flat_map_more}
-use native.Mathlib.Decide.{dec_lt}
-use Rattle.machine_config.specs.Vocabulary.{Configuration, is_closed, cleared, among}
-use Rattle.diag_evidence.specs.Vocabulary.{Trees, is_laid, IsForest, BranchFrom, ClosesAlong, IsLeadOf, crosses_along, crosses_of_leads}
+use Rattle.std.proofs.Common.{◌≡◌, ◌<◌, ◌+◌, ℕ, Bool, true, false, ◌||◌, None, Option, List, [], ◌++◌, All, length, get_or, take, refl, sym, ap, ◌∙◌, arith, ◌==◌, if◌then◌else◌, count_by}
+use Rattle.diag_evidence.proofs.Vocabulary.{nat_tests, list_any-append, list_any_at, Shape, Cross, crosses_of}
+use Rattle.diag_evidence.proofs.Vocabulary.{Setting, LeadsTo-below, Closes, cross_numbers, Lead}
+use Rattle.std.proofs.lemmas.List.{get_or-map, length-map, take_more, flat_map_more}
+use Rattle.machine_config.specs.Vocabulary.{Configuration, is_closed, among}
+use Rattle.machine_config.proofs.Members.{contains_times}
+use Rattle.std.specs.FinSet.{contains-from_list_nat}
+use Rattle.diag_evidence.specs.Vocabulary.{Trees, is_laid, IsForest, BranchFrom, ClosesAlong, ClosesForest, IsLeadOf, crosses_along, crosses_of_leads}
 use Rattle.diag_evidence.proofs.Footing.{pin_below}
 
 -- closing nothing
@@ -40,30 +41,24 @@ crosses_below {m} {l} is k d below =
     let at : get_or (crosses_along l) k 0 ≡ (get_or l.crosses.items k d).0 = get_or-map (λ (c : Cross). c.0) l.crosses.items k d 0 below in
     is.crosses (get_or l.crosses.items k d).0 (list_any_at (λ y. y == (get_or l.crosses.items k d).0) (crosses_along l) k 0 (omega (arith, below, many)) (grind (arith, nat_tests, at)))
 
--- closing a forest's crosspoints and those of walks closes just these
-pub closed_along : (m : Shape) (trees : Trees) (ls : List Lead) (g h i : Configuration) → g ≡ cleared m → m ≡ trees.shape → Closes (cross_numbers trees.crosses) g h → Closes (crosses_of_leads ls) h i → ClosesAlong trees ls i
-closed_along m trees ls g h i e same p q = record {
-  shape = q.shape ∙ p.shape ∙ ap (λ g. g.shape) e ∙ same;
-  closed = λ x. q.closed x ∙ ap (λ t. among (crosses_of_leads ls) x || t) (p.closed x ∙ ap (λ t. is_laid trees x || t) (none x)) ∙ back (is_laid trees x) (among (crosses_of_leads ls) x);
-  off = λ t. ap (λ ts. get_or {A = Option Setting} ts t None) (q.tables ∙ p.tables ∙ ap (λ g. g.tables) e) ∙ all_off t;
-  ticks = q.ticks ∙ p.ticks ∙ ap (λ g. g.ticks) e;
+-- closing a forest's crosspoints and then those of walks closes just these
+pub closed_along : (trees : Trees) (ls : List Lead) (g h : Configuration) → ClosesForest trees g → Closes (crosses_of_leads ls) g h → ClosesAlong trees ls h
+closed_along trees ls g h p q = record {
+  shape = q.shape ∙ p.shape;
+  closed = λ x. q.closed x ∙ ap (λ t. among (crosses_of_leads ls) x || t) (p.closed x) ∙ turned (is_laid trees x) (among (crosses_of_leads ls) x);
+  off = λ t. ap (λ ts. get_or {A = Option Setting} ts t None) q.tables ∙ p.off t;
+  ticks = q.ticks ∙ p.ticks;
 }
   where
-    none : (x : ℕ) → is_closed g x ≡ false
-    none x = ap (λ g. is_closed g x) e ∙ contains-empty nat_cmp x
+    turned : (a b : Bool) → (b || a) ≡ (a || b)
+    turned true true = refl
+    turned true false = refl
+    turned false true = refl
+    turned false false = refl
 
-    back : (a b : Bool) → (b || (a || false)) ≡ (a || b)
-    back true true = refl
-    back true false = refl
-    back false true = refl
-    back false false = refl
-
-    all_off : (t : ℕ) → get_or {A = Option Setting} (replicate (tables_of m) None) t None ≡ None
-    all_off t = by_place (dec_lt t (tables_of m))
-      where
-        by_place : Dec (t < tables_of m) → get_or {A = Option Setting} (replicate (tables_of m) None) t None ≡ None
-        by_place (yes h) = get_or-replicate (tables_of m) t None None h
-        by_place (no n) = get_or_past (replicate (tables_of m) None) t None (let e = length-replicate {A = Option Setting} (tables_of m) None in omega (arith, n, e))
+-- where the closed crosspoints are listed once each, a crosspoint is closed exactly where it is among them
+pub listed_among : (xs : List Cross) (x : ℕ) (b : Bool) → count_by (λ (c : Cross). c.0 == x) xs ≡ (if b then 1 else 0) → b ≡ among (cross_numbers xs) x
+listed_among xs x b e = sym (contains_times xs x b e) ∙ contains-from_list_nat (cross_numbers xs) x
 
 -- walks that branch from a forest are walks of its machine
 pub leads_of : (trees : Trees) (ls : List Lead) → IsForest trees → BranchFrom trees ls → All (IsLeadOf trees.shape) ls

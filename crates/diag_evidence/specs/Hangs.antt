@@ -66,6 +66,13 @@ feet_crosses feet = map (λ foot. foot.1.0) feet
 abbrev pub closes : Trees → List Foot → ℕ → Bool
 closes trees feet x = is_laid trees x || among (feet_crosses feet) x
 
+-- just those of the forest are closed, nothing is on, and a cycle has one tick
+pub record ClosesForest (trees : Trees) (g : Configuration) : Type 0 where
+  pub shape : g.shape ≡ trees.shape
+  pub closed : (x : ℕ) → is_closed g x ≡ is_laid trees x
+  pub off : AreOff g
+  pub ticks : g.ticks ≡ 1
+
 -- just these are closed, nothing is on, and a cycle has one tick
 pub record ClosesJust (trees : Trees) (feet : List Foot) (g : Configuration) : Type 0 where
   pub shape : g.shape ≡ trees.shape

@@ -2,9 +2,9 @@
 use Rattle.std.specs.Prelude.{◌≡◌, ℕ, Bool, true, false, Option, List, map}
 use Rattle.machine_meaning.specs.Vocabulary.{Faults, Pins}
 use Rattle.diag_evidence.specs.{declared.hangs.WireTest.WireTest, Kept.Kept, Kept.Gains, Looks.IsLook, Looks.LogsLook, Looks.look_drives}
-use Rattle.diag_evidence.specs.{declared.hangs.Plan.Plan, declared.hangs.Views.Views, Forests.Trees}
+use Rattle.diag_evidence.specs.{declared.hangs.Plan.Plan, declared.hangs.Views.Views, declared.hangs.HangPins.HangPins, Forests.Trees}
 use Rattle.rig.specs.Rig.{RigState}
-use Rattle.diag_evidence.specs.Hangs.{Foot, turned, overs, others, all_feet, closes, some_answers, shown, seen_on, joined_by}
+use Rattle.diag_evidence.specs.Hangs.{Foot, turned, overs, others, all_feet, closes, pin_at, some_answers, shown, seen_on, joined_by}
 use Rattle.diag_evidence.specs.Hangs.{HasMarked, LogsThree}
 
 -- what is closed in the looks, and how they are driven
@@ -14,6 +14,11 @@ pub record IsPlan (hs : List WireTest) (pins : ℕ) (plan : Plan) : Type 0 where
   pub others_are : plan.others.items ≡ others hs
   pub all_are : plan.all.items ≡ all_feet hs
   pub drives_are : plan.drives.items ≡ look_drives pins
+
+-- the pins of the trees to which the crosspoints of hangs lead
+pub record ArePins (trees : Trees) (hs : List WireTest) (pins : HangPins) : Type 0 where
+  pub over : pins.over.items ≡ map (pin_at trees) (overs hs)
+  pub other : pins.other.items ≡ map (pin_at trees) (others hs)
 
 -- looks of a machine with so many pins
 pub record AreViews (pins : ℕ) (views : Views) : Type 0 where

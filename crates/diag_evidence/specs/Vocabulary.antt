@@ -18,7 +18,7 @@ pub use Rattle.diag_evidence.specs.Forests.{is_laid, pin_of, with_laid, with_pla
 pub use Rattle.diag_evidence.specs.Looks.{AreSights, IsLook, IsLookOf, LogsLook, ReadsEach, ShowsSeen, Sights, differ}
 pub use Rattle.diag_evidence.specs.Looks.{look_drives, none_driven, one_driven, parts, read_at, read_free, read_under, reads_somewhere}
 pub use Rattle.diag_evidence.specs.Looks.{hangs_swinging, joins_alone, parts_from_others, seen_in, swings}
-pub use Rattle.diag_evidence.specs.Hangs.{AreAllOf, AreFeet, AreHangs, ClosesJust, Foot, HasHungOn, HasMarked, HasTold, HasTried, IsFoot}
+pub use Rattle.diag_evidence.specs.Hangs.{AreAllOf, AreFeet, AreHangs, ClosesForest, ClosesJust, Foot, HasHungOn, HasMarked, HasTold, HasTried, IsFoot}
 pub use Rattle.diag_evidence.specs.Hangs.{MarksUnclear, MarksUnfit, StayMarked, UnclearIf, UnfitIf, all_feet, all_hang, answered}
 pub use Rattle.diag_evidence.specs.Hangs.{closes, falls_with_others, feet_crosses, is_shown, is_swinging_on, is_unclear_in, is_unfit_in}
 pub use Rattle.diag_evidence.specs.Hangs.{joined_by, joins, others, others_part, others_part_from, over_of, overs, parts_from_hung}

@@ -8,10 +8,10 @@ ghost use Rattle.machine_config.specs.Groups.{among};
 ghost use Rattle.diag_tests.specs.Routes.{IsRoute};
 ghost use Rattle.diag_evidence.specs.Kept.{KeepsNothing, Gains, keeps_cross, keeps_wire, keeps_pair, keeps_cell, keeps_register, one_cross};
 ghost use Rattle.diag_evidence.specs.Kept.{these_wires, row_over, one_cell, one_register, is_apart};
-ghost use Rattle.diag_evidence.specs.Plans.{AreViews};
+ghost use Rattle.diag_evidence.specs.Plans.{ArePins, AreViews};
 ghost use Rattle.diag_evidence.specs.Readings.{wires_over};
 
-use crate::hangs::{Views, WireTest};
+use crate::hangs::{HangPins, Views, WireTest};
 use crate::joins::{all_hang, mark_joined, mark_joined_pins};
 use crate::pins::Pins;
 use crate::swinging::{mark_swinging, mark_swinging_feet};
@@ -143,6 +143,16 @@ impl Facts {
         self.crosses.has(c.0)
     }
 
+    /// Whether a crosspoint is kept, whatever its number is.
+    pub fn has_kept(&self, c: Cross) -> bool
+        ensures { IsTrue result → keeps_cross self.now c.0 ≡ true }
+    {
+        if c.0 >= self.crosses.len() {
+            return false;
+        }
+        self.crosses.has(c.0)
+    }
+
     /// Whether a wire is kept.
     pub fn keeps_wire(&self, w: Wire) -> bool
         requires { w.0 < wires_of self.now.shape }
@@ -269,12 +279,14 @@ impl Facts {
         forest: &Forest,
         hangs: &[WireTest],
         swapped: &[WireTest],
+        pins: &HangPins,
         views: &Views,
     )
         requires forest { forest.now.shape ≡ self.old.shape }
         requires over { All (λ h. IsFoot forest.now (over_of h)) hangs.now }
         requires other { All (λ h. IsFoot forest.now (over_of (turned h))) hangs.now }
         requires swapped { swapped.now ≡ map turned hangs.now }
+        requires pins { ArePins forest.now hangs.now pins.now }
         requires views { AreViews (pins_of self.old.shape) views.now }
         ensures { Gains (joined_by self.old.apart forest.now hangs.now views.now.all.rows views.now.without_over.rows
             views.now.without_other.rows) self.old self.new }
@@ -282,7 +294,7 @@ impl Facts {
         if !all_hang(&self.apart, forest) {
             return;
         }
-        mark_joined(&mut self.apart, forest, hangs, swapped, views);
+        mark_joined(&mut self.apart, forest, hangs, swapped, pins, views);
     }
 }
 

@@ -1,5 +1,5 @@
 //! Feet: wires that hang nowhere, each with a crosspoint to a wire that hangs, and what a look shows of them.
-ghost use Rattle.std.specs.Prelude.{◌≡◌, ◌<◌, ◌≤◌, ◌||◌, ℕ, All, length, get_or};
+ghost use Rattle.std.specs.Prelude.{◌≡◌, ◌<◌, ◌≤◌, ◌||◌, ℕ, All, IfOk, Some, length, map, get_or, slice_get};
 ghost use Rattle.base_bits.specs.Numbers.{has_number};
 ghost use Rattle.machine_shape.specs.Shape.{crosses_of, pins_of, wires_of};
 ghost use Rattle.diag_tests.specs.Routes.{other_end};
@@ -8,6 +8,7 @@ ghost use Rattle.diag_evidence.specs.Hangs.{IsFoot, HasMarked, pin_at, others_pa
 use crate::{Forest, Looks};
 use base_bits::BitSet;
 use machine_shape::{Cross, Pin, Shape, Wire};
+use std::alloc::{AllocError, Global};
 
 // The end of the crosspoint of a foot that isn't its wire.
 fn far_end(shape: Shape, foot: (Wire, Cross)) -> Wire
@@ -32,9 +33,51 @@ pub(crate) fn pin_at(forest: &Forest, foot: (Wire, Cross)) -> u32
     forest.pin_of(end).unwrap_or(0)
 }
 
-// Whether the pin of each other foot parts from that of this one.
-fn others_part(forest: &Forest, feet: &[(Wire, Cross)], reads: &Looks, foot: (Wire, Cross)) -> bool
+// The pins of the trees to which feet lead.
+pub(crate) fn pins_at(
+    alloc: Global,
+    forest: &Forest,
+    feet: &[(Wire, Cross)],
+) -> Result<Vec<u32>, AllocError>
+    requires { All (IsFoot forest.now) feet.now }
+    ensures { IfOk result (λ pins. pins.items ≡ map (pin_at forest.now) feet.now) }
+{
+    let mut pins = Vec::new(alloc);
+    'feet: for k in 0..feet.len() {
+        pins.push(pin_at(forest, feet[k]))?;
+    }
+    Ok(pins)
+}
+
+// The pin of the tree to which the foot at a place leads, where those of all feet are listed.
+fn listed_pin(
+    pins: &[u32],
+    forest: &Forest,
+    feet: &[(Wire, Cross)],
+    k: usize,
+    foot: (Wire, Cross),
+) -> u32
     requires feet { All (IsFoot forest.now) feet.now }
+    requires pins { pins.now ≡ map (pin_at forest.now) feet.now }
+    requires place { slice_get feet.now k ≡ Some foot }
+    ensures pin { result ≡ pin_at forest.now foot }
+    ensures within { result < pins_of forest.now.shape }
+{
+    // What hangs in a forest hangs on pins of its machine.
+    let _crosses = forest.crosses();
+    pins[k]
+}
+
+// Whether the pin of each other foot parts from that of this one.
+fn others_part(
+    forest: &Forest,
+    feet: &[(Wire, Cross)],
+    pins: &[u32],
+    reads: &Looks,
+    foot: (Wire, Cross),
+) -> bool
+    requires feet { All (IsFoot forest.now) feet.now }
+    requires pins { pins.now ≡ map (pin_at forest.now) feet.now }
     requires foot { IsFoot forest.now foot }
     requires reads { reads.now.pins ≡ pins_of forest.now.shape }
     ensures { result ≡ others_part forest.now feet.now reads.now.rows foot }
@@ -45,7 +88,7 @@ fn others_part(forest: &Forest, feet: &[(Wire, Cross)], reads: &Looks, foot: (Wi
         if other.0.0 == foot.0.0 {
             continue;
         }
-        if !reads.parts(pin_at(forest, other), pin) {
+        if !reads.parts(listed_pin(pins, forest, feet, k, other), pin) {
             return false;
         }
     }
@@ -88,15 +131,18 @@ fn reads_oddly(forest: &Forest, reads: &Looks, pin: u32) -> bool
     falls_with_others(forest, reads, pin)
 }
 
-// Marks the wires of feet of which a look shows that they aren't fit, and of these the ones that aren't clear.
+// Marks the wires of feet of which a look shows that they aren't fit, and of these the ones that aren't clear. The pins of the trees to
+// which the feet lead are listed.
 pub(crate) fn mark_unfit(
     forest: &Forest,
     feet: &[(Wire, Cross)],
+    pins: &[u32],
     reads: &Looks,
     unfit: &mut BitSet,
     unclear: &mut BitSet,
 )
     requires feet { All (IsFoot forest.now) feet.now }
+    requires pins { pins.now ≡ map (pin_at forest.now) feet.now }
     requires reads { reads.now.pins ≡ pins_of forest.now.shape }
     requires unfit { length unfit.old ≡ wires_of forest.now.shape }
     requires unclear { length unclear.old ≡ wires_of forest.now.shape }
@@ -107,7 +153,7 @@ pub(crate) fn mark_unfit(
     'feet: for k in 0..feet.len() {
         let foot = feet[k];
         let pin = pin_at(forest, foot);
-        if !others_part(forest, feet, reads, foot) {
+        if !others_part(forest, feet, pins, reads, foot) {
             continue;
         }
         if !reads_oddly(forest, reads, pin) {

@@ -1,17 +1,17 @@
 //! Wires that hang on two trees each over a crosspoint that isn't known, tested many at a time.
-ghost use Rattle.std.specs.Prelude.{◌*◌, ◌≡◌, ◌≤◌, ◌<◌, ◌+◌, ◌++◌, ℕ, Bool, false, Some, All, map, length, IfOk, OnOk, OnErr, IsErrOf};
+ghost use Rattle.std.specs.Prelude.{◌*◌, ◌≡◌, ◌≤◌, ◌<◌, ◌+◌, ◌++◌, ℕ, Bool, false, Some, All, map, length, slice_get, IfOk, OnOk, OnErr, IsErrOf};
 ghost use Rattle.base_io.specs.Counts.{Rose};
 ghost use Rattle.machine_shape.specs.Shape.{wires_of, pins_of};
 ghost use Rattle.rig.specs.Rig.{ForEach, cycles_made, shape_of};
 ghost use Rattle.diag_evidence.specs.Kept.{FewCycles, Advances};
 ghost use Rattle.diag_evidence.specs.Forests.{KnowsForest};
 ghost use Rattle.diag_evidence.specs.Hangs.{AreHangs, AreAllOf, HasTried, MarksUnfit, MarksUnclear, UnfitIf, UnclearIf, StayMarked};
-ghost use Rattle.diag_evidence.specs.Hangs.{IsFoot, ShowsTried, over_of, turned, overs, is_shown, others_part_from, shown, some_answers};
+ghost use Rattle.diag_evidence.specs.Hangs.{IsFoot, ShowsTried, over_of, pin_at, turned, overs, others, is_shown, others_part_from, shown, some_answers};
 ghost use Rattle.diag_evidence.specs.Looks.{HasLooked, WantsRoom};
 ghost use Rattle.diag_evidence.specs.Readings.{LoadsUpTo};
-ghost use Rattle.diag_evidence.specs.Plans.{IsPlan, AreViews, HasViewed, HasLearnt, LogsViews};
+ghost use Rattle.diag_evidence.specs.Plans.{ArePins, IsPlan, AreViews, HasViewed, HasLearnt, LogsViews};
 
-use crate::feet::{mark_unfit, pin_at};
+use crate::feet::{mark_unfit, pin_at, pins_at};
 use crate::looks::look_drives;
 use crate::{Facts, Forest, Looks};
 use base_bits::BitSet;
@@ -44,6 +44,13 @@ pub(crate) struct Views {
     pub(crate) all: Looks,
     pub(crate) without_over: Looks,
     pub(crate) without_other: Looks,
+}
+
+// The pins of the trees to which hangs lead: over their first crosspoints, and over the others.
+#[derive(Drop)]
+pub(crate) struct HangPins {
+    pub(crate) over: Vec<u32>,
+    pub(crate) other: Vec<u32>,
 }
 
 // A hang whose crosspoints have changed places.
@@ -135,9 +142,48 @@ fn some_answers(forest: &Forest, hangs: &[WireTest], reads: &Looks) -> bool
     false
 }
 
-// Whether from this q the p of each other hang parts.
-fn others_part_from(forest: &Forest, hangs: &[WireTest], reads: &Looks, wire: Wire, q: u32) -> bool
+// The pins of the trees to which hangs lead.
+fn pins_of_hangs(
+    alloc: Global,
+    forest: &Forest,
+    hangs: &[WireTest],
+    plan: &Plan,
+) -> Result<HangPins, AllocError>
     requires over { All (λ h. IsFoot forest.now (over_of h)) hangs.now }
+    requires other { All (λ h. IsFoot forest.now (over_of (turned h))) hangs.now }
+    requires overs { plan.now.overs.items ≡ overs hangs.now }
+    requires others { plan.now.others.items ≡ others hangs.now }
+    ensures { IfOk result (ArePins forest.now hangs.now) }
+{
+    let over = pins_at(alloc, forest, &plan.overs)?;
+    let other = pins_at(alloc, forest, &plan.others)?;
+    Ok(HangPins { over, other })
+}
+
+// The p of the hang at a place, where those of all hangs are listed.
+fn listed_p(pins: &[u32], forest: &Forest, hangs: &[WireTest], k: usize, hang: WireTest) -> u32
+    requires over { All (λ h. IsFoot forest.now (over_of h)) hangs.now }
+    requires pins { pins.now ≡ map (pin_at forest.now) (overs hangs.now) }
+    requires place { slice_get hangs.now k ≡ Some hang }
+    ensures pin { result ≡ pin_at forest.now (over_of hang) }
+    ensures within { result < pins_of forest.now.shape }
+{
+    // What hangs in a forest hangs on pins of its machine.
+    let _crosses = forest.crosses();
+    pins[k]
+}
+
+// Whether from this q the p of each other hang parts.
+fn others_part_from(
+    forest: &Forest,
+    hangs: &[WireTest],
+    pins: &[u32],
+    reads: &Looks,
+    wire: Wire,
+    q: u32,
+) -> bool
+    requires over { All (λ h. IsFoot forest.now (over_of h)) hangs.now }
+    requires pins { pins.now ≡ map (pin_at forest.now) (overs hangs.now) }
     requires reads { reads.now.pins ≡ pins_of forest.now.shape }
     requires q { q < reads.now.pins }
     ensures { result ≡ others_part_from forest.now hangs.now reads.now.rows wire.0 q }
@@ -147,7 +193,7 @@ fn others_part_from(forest: &Forest, hangs: &[WireTest], reads: &Looks, wire: Wi
         if other.wire.0 == wire.0 {
             continue;
         }
-        if !reads.parts(pin_at(forest, (other.wire, other.over)), q) {
+        if !reads.parts(listed_p(pins, forest, hangs, k, other), q) {
             return false;
         }
     }
@@ -158,11 +204,13 @@ fn others_part_from(forest: &Forest, hangs: &[WireTest], reads: &Looks, wire: Wi
 pub(crate) fn is_shown(
     forest: &Forest,
     hangs: &[WireTest],
+    pins: &[u32],
     reads: &Looks,
     without: &Looks,
     hang: WireTest,
 ) -> bool
     requires over { All (λ h. IsFoot forest.now (over_of h)) hangs.now }
+    requires pins { pins.now ≡ map (pin_at forest.now) (overs hangs.now) }
     requires foot { IsFoot forest.now (over_of hang) }
     requires other { IsFoot forest.now (over_of (turned hang)) }
     requires reads { reads.now.pins ≡ pins_of forest.now.shape }
@@ -174,7 +222,7 @@ pub(crate) fn is_shown(
     if reads.read_under(p, q) == without.read_under(p, q) {
         return false;
     }
-    others_part_from(forest, hangs, reads, hang.wire, q)
+    others_part_from(forest, hangs, pins, reads, hang.wire, q)
 }
 
 // The feet over first crosspoints that are shown.
@@ -182,10 +230,12 @@ fn shown(
     alloc: Global,
     forest: &Forest,
     hangs: &[WireTest],
+    pins: &[u32],
     reads: &Looks,
     without: &Looks,
 ) -> Result<Vec<(Wire, Cross)>, AllocError>
     requires over { All (λ h. IsFoot forest.now (over_of h)) hangs.now }
+    requires pins { pins.now ≡ map (pin_at forest.now) (overs hangs.now) }
     requires other { All (λ h. IsFoot forest.now (over_of (turned h))) hangs.now }
     requires reads { reads.now.pins ≡ pins_of forest.now.shape }
     requires without { without.now.pins ≡ pins_of forest.now.shape }
@@ -194,7 +244,7 @@ fn shown(
     let mut feet = Vec::new(alloc);
     'hangs: for k in 0..hangs.len() {
         let hang = hangs[k];
-        if !is_shown(forest, hangs, reads, without, hang) {
+        if !is_shown(forest, hangs, pins, reads, without, hang) {
             continue;
         }
         feet.push((hang.wire, hang.over))?;
@@ -275,19 +325,42 @@ impl Facts {
         ensures marks { length unfit.new ≡ length unfit.old }
         ensures marks_too { length unclear.new ≡ length unclear.old }
     {
+        let pins = pins_of_hangs(self.alloc, forest, hangs, plan)?;
         let others = shown(
             self.alloc,
             forest,
             &plan.turned,
+            &pins.other,
             &views.all,
             &views.without_other,
         )?;
-        let overs = shown(self.alloc, forest, hangs, &views.all, &views.without_over)?;
-        mark_unfit(forest, &plan.others, &views.without_over, unfit, unclear);
-        mark_unfit(forest, &plan.overs, &views.without_other, unfit, unclear);
+        let overs = shown(
+            self.alloc,
+            forest,
+            hangs,
+            &pins.over,
+            &views.all,
+            &views.without_over,
+        )?;
+        mark_unfit(
+            forest,
+            &plan.others,
+            &pins.other,
+            &views.without_over,
+            unfit,
+            unclear,
+        );
+        mark_unfit(
+            forest,
+            &plan.overs,
+            &pins.over,
+            &views.without_other,
+            unfit,
+            unclear,
+        );
         self.keep_feet(forest, &others, &views.without_over);
         self.keep_feet(forest, &overs, &views.without_other);
-        self.keep_joined(forest, hangs, &plan.turned, views);
+        self.keep_joined(forest, hangs, &plan.turned, &pins, views);
         Ok(())
     }
 

@@ -5,10 +5,10 @@ ghost use Rattle.base_bits.specs.Numbers.{has_number};
 ghost use Rattle.machine_shape.specs.Shape.{pin_wire, pins_of, wires_of};
 ghost use Rattle.diag_evidence.specs.Looks.{joins_alone, parts_from_others};
 ghost use Rattle.diag_evidence.specs.Hangs.{IsFoot, all_hang, joins, over_of, parts_from_hung, turned};
-ghost use Rattle.diag_evidence.specs.Plans.{AreViews};
+ghost use Rattle.diag_evidence.specs.Plans.{ArePins, AreViews};
 
 use crate::feet::pin_at;
-use crate::hangs::{Views, WireTest, is_shown, turn};
+use crate::hangs::{HangPins, Views, WireTest, is_shown, turn};
 use crate::{Facts, Forest, Looks};
 use base_bits::BitSet;
 use machine_shape::{Pin, Wire};
@@ -117,23 +117,33 @@ fn joins(
     forest: &Forest,
     hangs: &[WireTest],
     swapped: &[WireTest],
+    pins: &HangPins,
     views: &Views,
     hang: WireTest,
 ) -> bool
     requires over { All (λ h. IsFoot forest.now (over_of h)) hangs.now }
     requires other { All (λ h. IsFoot forest.now (over_of (turned h))) hangs.now }
     requires swapped { swapped.now ≡ map turned hangs.now }
+    requires pins { ArePins forest.now hangs.now pins.now }
     requires views { AreViews (pins_of forest.now.shape) views.now }
     requires foot { IsFoot forest.now (over_of hang) }
     requires foot_too { IsFoot forest.now (over_of (turned hang)) }
     ensures { result ≡ joins forest.now hangs.now views.now.all.rows views.now.without_over.rows views.now.without_other.rows hang }
 {
-    if !is_shown(forest, hangs, &views.all, &views.without_over, hang) {
+    if !is_shown(
+        forest,
+        hangs,
+        &pins.over,
+        &views.all,
+        &views.without_over,
+        hang,
+    ) {
         return false;
     }
     if !is_shown(
         forest,
         swapped,
+        &pins.other,
         &views.all,
         &views.without_other,
         turn(hang),
@@ -157,12 +167,14 @@ pub(crate) fn mark_joined(
     forest: &Forest,
     hangs: &[WireTest],
     swapped: &[WireTest],
+    pins: &HangPins,
     views: &Views,
 )
     requires apart { length apart.old ≡ wires_of forest.now.shape }
     requires over { All (λ h. IsFoot forest.now (over_of h)) hangs.now }
     requires other { All (λ h. IsFoot forest.now (over_of (turned h))) hangs.now }
     requires swapped { swapped.now ≡ map turned hangs.now }
+    requires pins { ArePins forest.now hangs.now pins.now }
     requires views { AreViews (pins_of forest.now.shape) views.now }
     ensures marked { (w : ℕ) → has_number apart.new w ≡ (list_any (λ h. (h.wire.0 == w) && joins forest.now hangs.now
         views.now.all.rows views.now.without_over.rows views.now.without_other.rows h) hangs.now || has_number apart.old w) }
@@ -170,7 +182,7 @@ pub(crate) fn mark_joined(
 {
     'hangs: for k in 0..hangs.len() {
         let hang = hangs[k];
-        if !joins(forest, hangs, swapped, views, hang) {
+        if !joins(forest, hangs, swapped, pins, views, hang) {
             continue;
         }
         apart.insert(hang.wire.0);

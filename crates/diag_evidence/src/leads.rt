@@ -14,6 +14,7 @@ ghost use Rattle.diag_evidence.specs.Leads.{these_crosses, wires_along};
 ghost use Rattle.diag_evidence.specs.Looks.{HasLooked, IsLook, LogsLook, look_drives};
 ghost use Rattle.diag_evidence.specs.Readings.{LoadsUpTo, WantsBefore};
 
+use crate::forest_config::close_forest;
 use crate::looks::look_drives;
 use crate::{Facts, Forest, Looks};
 use base_bits::BitSet;
@@ -83,8 +84,7 @@ fn close_along(config: &mut Config, forest: &Forest, leads: &[Lead]) -> Result<(
     requires leads { All (IsLeadOf forest.now.shape) leads.now }
     ensures { OnOk result (ClosesAlong forest.now leads.now config.new.config) }
 {
-    config.clear();
-    close_all(config, forest.crosses())?;
+    close_forest(config, forest)?;
     close_walks(config, leads)
 }
 

@@ -40,6 +40,7 @@ mod again;
 mod facts;
 mod feet;
 mod forest;
+mod forest_config;
 mod hangs;
 mod joins;
 pub mod laws;

@@ -10,9 +10,9 @@ ghost use Rattle.diag_evidence.specs.Hangs.{ClosesJust, all_hang, feet_crosses, 
 ghost use Rattle.diag_evidence.specs.Looks.{HasLooked, HasSeen, IsLook, LogsLook, ShowsSeen, look_drives};
 ghost use Rattle.diag_evidence.specs.Readings.{LoadsUpTo, WantsBefore};
 
+use crate::forest_config::close_forest;
 use crate::looks::look_drives;
 use crate::{Facts, Forest, Looks};
-use diag_tests::close_all;
 use machine_config::Config;
 use machine_shape::{Cross, Wire};
 use rig::{PinBits, Rig, RigFail};
@@ -39,8 +39,7 @@ fn close_just(
     requires feet { All (λ foot. foot.1.0 < crosses_of forest.now.shape) feet.now }
     ensures { OnOk result (ClosesJust forest.now feet.now config.new.config) }
 {
-    config.clear();
-    close_all(config, forest.crosses())?;
+    close_forest(config, forest)?;
     close_feet(config, feet)
 }
 

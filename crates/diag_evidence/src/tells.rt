@@ -9,7 +9,7 @@ ghost use Rattle.diag_evidence.specs.Hangs.{AreFeet, AreAllOf, HasMarked, HasTol
 ghost use Rattle.diag_evidence.specs.Looks.{HasLooked, LogsLook};
 ghost use Rattle.diag_evidence.specs.Readings.{WantsBefore};
 
-use crate::feet::mark_unfit;
+use crate::feet::{mark_unfit, pins_at};
 use crate::looks::look_drives;
 use crate::{Facts, Forest, Looks};
 use base_bits::BitSet;
@@ -72,8 +72,9 @@ impl Facts {
         let drives = look_drives(self.alloc, shape.pins())?;
         // A look that is refused part of the way has changed some rows.
         let mut seen = Looks::new(self.alloc, &shape)?;
+        let pins = pins_at(self.alloc, forest, hangs)?;
         self.look(rig, forest, hangs, &drives, &mut seen)?;
-        mark_unfit(forest, hangs, &seen, unfit, unclear);
+        mark_unfit(forest, hangs, &pins, &seen, unfit, unclear);
         *reads = seen;
         Ok(())
     }

@@ -1,5 +1,5 @@
 use Rattle.std.proofs.Common.{◌≡◌, ◌&&◌, Bool, true, false, List, All, map, sym, ap, subst, ◌∙◌}
-use Rattle.diag_evidence.proofs.Vocabulary.{All-map, WireTest, swings, IsFoot, over_of, is_shown, turned, pin_p, pin_q, parts_from_hung}
+use Rattle.diag_evidence.proofs.Vocabulary.{All-map, WireTest, swings, IsFoot, over_of, overs, pin_at, is_shown, turned, pin_p, pin_q, parts_from_hung}
 use Rattle.diag_evidence.proofs.Rows.{not_at_first, not_at_second, and_rest}
 use Rattle.diag_evidence.proofs.joins.joins.Goals as goal
 
@@ -10,6 +10,9 @@ pub is_shown-requires-2-clause-over : goal.is_shown-requires-2-clause-over
 is_shown-requires-2-clause-over c =
     subst (λ (hs : List WireTest). All (λ h. IsFoot c.args.forest.now (over_of h)) hs) (sym c.requires.swapped)
     (All-map (λ h. IsFoot c.args.forest.now (over_of h)) turned c.args.hangs.now c.requires.other)
+
+pub is_shown-requires-2-clause-pins : goal.is_shown-requires-2-clause-pins
+is_shown-requires-2-clause-pins c = c.deref-2.ensures.value ∙ c.requires.pins.other ∙ ap (λ (hs : List WireTest). map (pin_at c.args.forest.now) (overs hs)) (sym c.requires.swapped)
 
 pub returns-then-not-is_shown-2 : goal.returns-then-not-is_shown-2
 returns-then-not-is_shown-2 c =

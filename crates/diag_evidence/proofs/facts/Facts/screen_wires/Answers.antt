@@ -1,6 +1,9 @@
 use Rattle.diag_evidence.proofs.Marked.{unfit_new, unclear_new, unfit_all, unclear_all, unfit_same, unclear_same}
 use Rattle.diag_evidence.proofs.facts.Facts.screen_wires.Goals as goal
 
+pub pins_at-requires : goal.pins_at-requires
+pins_at-requires g c = c.requires.hangs.each
+
 pub returns-clause-newly_each : goal.returns-clause-newly_each
 returns-clause-newly_each g c = λ f e.
     unfit_new _ c.args.self.now c.args.forest.now c.args.hangs.now c.look.new.reads.rows c.shape-shape.ensures.forest c.requires.forest c.requires.hangs.each c.requires.hangs.wires (c.in_ok-look.ensures.looked_each f e) c.mark_unfit.ensures.marked
