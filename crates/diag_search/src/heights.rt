@@ -302,8 +302,8 @@ impl Heights {
         }
     }
 
-    // The first crosspoint of a tap in a crossbar.
-    fn row(&self, tap: Wire, node: u32) -> Option<u32> {
+    /// The first crosspoint of a tap in a crossbar. From there on they are in the order of the lines.
+    pub(crate) fn row(&self, tap: Wire, node: u32) -> Option<u32> {
         let links = self.links.get(tap.0 as usize)?;
         if links.low.count > 0 && links.low.node == node {
             return Some(links.low.cross);
@@ -321,14 +321,6 @@ impl Heights {
             self.bars.get(node as usize),
         ) {
             (Some(links), Some(bar)) => links.low.cross.saturating_sub(bar.cross),
-            _ => 0,
-        }
-    }
-
-    /// The place of a tap among those of a crossbar.
-    pub(crate) fn tap_place(&self, tap: Wire, node: u32) -> u32 {
-        match (self.row(tap, node), self.bars.get(node as usize)) {
-            (Some(row), Some(bar)) => row.saturating_sub(bar.cross) / bar.lines.max(1),
             _ => 0,
         }
     }

@@ -65,8 +65,8 @@ fn spot_of(heights: &Heights, node: u32, c: Cross) -> Option<Spot> {
     })
 }
 
-// The place of the first crosspoint of a line, line by line.
-fn first_of_line(heights: &Heights, node: u32, place: u32) -> u32 {
+/// The place of the first crosspoint of a line, line by line.
+pub(crate) fn first_of_line(heights: &Heights, node: u32, place: u32) -> u32 {
     let before = place.saturating_mul(heights.bar_taps(node));
     heights.bar_cross(node).saturating_add(before)
 }
@@ -319,34 +319,17 @@ impl Pools {
         None
     }
 
-    /// The first crosspoints that are left of a tap, of those from one of its lines on and before another: the place of the line.
-    pub(crate) fn next_line(
-        &self,
-        heights: &Heights,
-        node: u32,
-        tap: Wire,
-        from: u32,
-        end: u32,
-    ) -> Option<u32> {
-        let lines = heights.bar_lines(node);
-        let row = heights.tap_place(tap, node).saturating_mul(lines);
-        let first = heights.bar_cross(node).saturating_add(row);
+    /// The first crosspoint that is left of a tap with this first crosspoint, of those from one of its lines on and before another: the
+    /// place of the line.
+    pub(crate) fn next_line(&self, first: u32, from: u32, end: u32) -> Option<u32> {
         let found = self
             .rows
             .first(first.saturating_add(from), first.saturating_add(end))?;
         Some(found.saturating_sub(first))
     }
 
-    /// The same of a line: the place of the tap.
-    pub(crate) fn next_tap(
-        &self,
-        heights: &Heights,
-        node: u32,
-        line: Wire,
-        from: u32,
-        end: u32,
-    ) -> Option<u32> {
-        let first = first_of_line(heights, node, heights.line_place(line, node));
+    /// The same of a line, by its first place line by line: the place of the tap.
+    pub(crate) fn next_tap(&self, first: u32, from: u32, end: u32) -> Option<u32> {
         let found = self
             .columns
             .first(first.saturating_add(from), first.saturating_add(end))?;

@@ -5,6 +5,7 @@
 //! or where most of the crosspoints are stuck.
 
 use crate::flags::set_flag;
+use crate::pools::first_of_line;
 use crate::search::Search;
 use crate::walk::Walk;
 use crate::walks::Trial;
@@ -106,12 +107,13 @@ impl Search {
         end: u32,
         most: usize,
     ) -> Result<(), AllocError> {
+        let first = first_of_line(&self.heights, node, self.heights.line_place(line, node));
         let mut from = begin;
         'taps: for _tap in begin..end {
             if self.walking.trials.len() >= most {
                 break;
             }
-            let Some(place) = self.pools.next_tap(&self.heights, node, line, from, end) else {
+            let Some(place) = self.pools.next_tap(first, from, end) else {
                 break;
             };
             from = place.saturating_add(1);

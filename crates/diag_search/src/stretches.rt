@@ -3,6 +3,7 @@
 use crate::climbs::Climb;
 use crate::feet::Support;
 use crate::landings::Ends;
+use crate::pools::first_of_line;
 use crate::search::Search;
 use crate::walk::Walk;
 use machine_shape::{Cross, Wire};
@@ -39,28 +40,34 @@ pub(crate) struct Course {
 }
 
 impl Search {
-    // Of the places of a tap's lines from one on and before another the first over which something is left to a line that isn't used.
-    fn line_within(&self, node: u32, tap: Wire, begin: u32, end: u32) -> Option<u32> {
+    // Of the places of a tap's lines from one on and before another the first over which something is left to a line that isn't used. The
+    // tap has this first crosspoint.
+    fn line_within(&self, node: u32, first: u32, begin: u32, end: u32) -> Option<Support> {
         let mut from = begin;
         'places: for _place in begin..end {
-            let place = self.pools.next_line(&self.heights, node, tap, from, end)?;
-            let line = self.heights.line_at(node, place)?;
-            if !self.board.is_used(line) {
-                return Some(place);
+            let place = self.pools.next_line(first, from, end)?;
+            let wire = self.heights.line_at(node, place)?;
+            if !self.board.is_used(wire) {
+                let cross = Cross(first.saturating_add(place));
+                return Some(Support { cross, wire });
             }
             from = place.saturating_add(1);
         }
         None
     }
 
-    // The same of a line and its taps.
-    fn tap_within(&self, node: u32, line: Wire, begin: u32, end: u32) -> Option<u32> {
+    // The same of a line, by its place, and its taps.
+    fn tap_within(&self, node: u32, line: u32, begin: u32, end: u32) -> Option<Support> {
+        let first = first_of_line(&self.heights, node, line);
         let mut from = begin;
         'places: for _place in begin..end {
-            let place = self.pools.next_tap(&self.heights, node, line, from, end)?;
-            let tap = self.heights.tap_at(node, place)?;
-            if !self.board.is_used(tap) {
-                return Some(place);
+            let place = self.pools.next_tap(first, from, end)?;
+            let wire = self.heights.tap_at(node, place)?;
+            if !self.board.is_used(wire) {
+                let within = place.saturating_mul(self.heights.bar_lines(node));
+                let row = self.heights.bar_cross(node).saturating_add(within);
+                let cross = Cross(row.saturating_add(line));
+                return Some(Support { cross, wire });
             }
             from = place.saturating_add(1);
         }
@@ -71,13 +78,11 @@ impl Search {
     fn untried_line(&mut self, node: u32, tap: Wire) -> Option<Support> {
         let count = self.heights.bar_lines(node);
         let begin = self.draws.draw_under(count);
-        let place = match self.line_within(node, tap, begin, count) {
-            Some(place) => place,
-            None => self.line_within(node, tap, 0, begin)?,
-        };
-        let wire = self.heights.line_at(node, place)?;
-        let cross = self.heights.cross_of(node, tap, wire)?;
-        Some(Support { cross, wire })
+        let first = self.heights.row(tap, node)?;
+        match self.line_within(node, first, begin, count) {
+            Some(step) => Some(step),
+            None => self.line_within(node, first, 0, begin),
+        }
     }
 
     // A crosspoint of a line that is left to be tried, to a tap that isn't used: a port of the node alone, where the crossbar is young.
@@ -88,13 +93,11 @@ impl Search {
             self.heights.bar_taps(node)
         };
         let begin = self.draws.draw_under(count);
-        let place = match self.tap_within(node, line, begin, count) {
-            Some(place) => place,
-            None => self.tap_within(node, line, 0, begin)?,
-        };
-        let wire = self.heights.tap_at(node, place)?;
-        let cross = self.heights.cross_of(node, wire, line)?;
-        Some(Support { cross, wire })
+        let place = self.heights.line_place(line, node);
+        match self.tap_within(node, place, begin, count) {
+            Some(step) => Some(step),
+            None => self.tap_within(node, place, 0, begin),
+        }
     }
 
     // A crosspoint of a wire that is left to be tried, to a wire that isn't used.

@@ -21,6 +21,14 @@ impl Walk {
         }
     }
 
+    /// No wire, and room for so many crosspoints.
+    pub(crate) fn with_room(alloc: Global, crosses: usize) -> Result<Walk, AllocError> {
+        Ok(Walk {
+            wires: Vec::with_capacity(alloc, crosses.saturating_add(1))?,
+            crosses: Vec::with_capacity(alloc, crosses)?,
+        })
+    }
+
     /// Goes on to a wire.
     pub(crate) fn push(&mut self, over: Cross, to: Wire) -> Result<(), AllocError> {
         self.wires.push(to)?;
@@ -81,7 +89,7 @@ impl Walk {
 
     /// The same walk from its last wire to its first.
     pub(crate) fn turned(&self, alloc: Global) -> Result<Walk, AllocError> {
-        let mut walk = Walk::new(alloc);
+        let mut walk = Walk::with_room(alloc, self.crosses.len())?;
         walk.wires.push(self.end())?;
         'crosses: for k in 0..self.crosses.len() {
             let at = self.crosses.len().saturating_sub(k).saturating_sub(1);
@@ -92,7 +100,8 @@ impl Walk {
 
     /// A stretch of it, from one of its crosspoints to another, which is left out.
     pub(crate) fn cut(&self, alloc: Global, begin: usize, end: usize) -> Result<Walk, AllocError> {
-        let mut stretch = Walk::new(alloc);
+        let room = end.min(self.crosses.len()).saturating_sub(begin);
+        let mut stretch = Walk::with_room(alloc, room)?;
         stretch.wires.push(self.wire(begin))?;
         'crosses: for at in begin..end.min(self.crosses.len()) {
             let foot = self.foot(at);

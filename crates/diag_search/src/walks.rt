@@ -25,6 +25,9 @@ const GROUPS_A_WALK: usize = 3;
 /// How often no walk may be found while no group is left.
 const MOST_DRY: u32 = 3;
 
+/// The most crosspoints of the climbs at both ends of a walk.
+const CLIMBS: usize = 6;
+
 /// More loads in a row than groups are missed before they are given up.
 const MOST_EMPTY: u32 = 64;
 
@@ -253,10 +256,13 @@ impl Search {
     // The walk of a course: from where the near climb ends to where the far one does.
     fn walk_of(&self, course: &Course) -> Result<Walk, AllocError> {
         let from = course.stretch.wire(0);
-        let near = course.near.walk(from, self)?;
-        let mut walk = near.turned(self.alloc)?;
-        walk.add_all(&course.stretch)?;
+        let near = course.near.walk(from, self)?.turned(self.alloc)?;
         let far = course.far.walk(course.stretch.end(), self)?;
+        let crosses = course.stretch.crosses.len().saturating_add(CLIMBS);
+        let mut walk = Walk::with_room(self.alloc, crosses)?;
+        walk.wires.push(near.wire(0))?;
+        walk.add_all(&near)?;
+        walk.add_all(&course.stretch)?;
         walk.add_all(&far)?;
         Ok(walk)
     }
