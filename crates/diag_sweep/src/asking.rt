@@ -10,10 +10,7 @@ use machine_shape::{Cross, Wire};
 pub(crate) fn keeps(facts: &Facts, c: Cross) -> bool
     ensures { IsTrue result → keeps_cross facts.now c.0 ≡ true }
 {
-    if c.0 < facts.shape().crosses() {
-        return facts.keeps_cross(c);
-    }
-    false
+    facts.has_kept(c)
 }
 
 /// Whether a wire is kept.

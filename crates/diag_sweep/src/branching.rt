@@ -1,4 +1,4 @@
-//! Walks of one load: the forest from which they branch, and whether the load may be made.
+//! Walks of one load, and whether the load may be made.
 ghost use Rattle.std.specs.Prelude.{◌≡◌, ◌≢◌, ◌==◌, ◌++◌, ◌<◌, ℕ, true, false, All, IfOk, IfSome, IsTrue, OnOk, flat_map, length};
 ghost use Rattle.std.specs.Prelude.{slice_index_or};
 ghost use Rattle.std.specs.List.{IsDistinct};
@@ -18,49 +18,34 @@ use diag_search::Trial;
 use machine_shape::Wire;
 use std::alloc::{AllocError, Global};
 
-/// Walks that are laid for one load, and the forest from which they branch.
-#[derive(Drop)]
-pub(crate) struct Course {
-    pub forest: Forest,
-    pub leads: Vec<Lead>,
-}
-
-// A wire at an end of a walk is planted, if it is a pin of the machine that hangs nowhere.
-fn plant_end(forest: &mut Forest, facts: &Facts, w: Wire)
+// A wire at an end of a walk is planted, if it is a pin of the machine that hangs nowhere. False where it hangs already.
+fn plant_end(forest: &mut Forest, facts: &Facts, w: Wire) -> bool
     requires { KeepsForest facts.now forest.old }
     ensures { KeepsForest facts.now forest.new }
 {
     if hangs(forest, w) {
-        return;
+        return false;
     }
     plant(forest, facts, w);
+    true
 }
 
-// The ends of walks that are pins of the machine are planted.
-fn plant_ends(forest: &mut Forest, facts: &Facts, trials: &Vec<Trial>)
+/// The ends of walks that are pins of the machine are planted. False where all ends hang already.
+pub(crate) fn plant_ends(forest: &mut Forest, facts: &Facts, trials: &Vec<Trial>) -> bool
     requires { KeepsForest facts.now forest.old }
     ensures { KeepsForest facts.now forest.new }
 {
+    let mut planted = false;
     'trials: for at in 0..trials.len() {
         let walk = &trials[at].walk;
-        plant_end(forest, facts, walk.wire(0));
-        plant_end(forest, facts, walk.wire(walk.crosses.len()));
+        if plant_end(forest, facts, walk.wire(0)) {
+            planted = true;
+        }
+        if plant_end(forest, facts, walk.wire(walk.crosses.len())) {
+            planted = true;
+        }
     }
-}
-
-// The forest of a load of walks: what is held, and the pins of the machine at ends of walks.
-fn walk_forest(
-    alloc: Global,
-    facts: &Facts,
-    held: &Forest,
-    trials: &Vec<Trial>,
-) -> Result<Forest, AllocError>
-    requires { KeepsForest facts.now held.now }
-    ensures { IfOk result (KeepsForest facts.now) }
-{
-    let mut forest = held.copied(alloc)?;
-    plant_ends(&mut forest, facts, trials);
-    Ok(forest)
+    planted
 }
 
 // The walks as the test takes them.
@@ -181,24 +166,22 @@ fn may_lead(
     Ok(are_in_order(&mut met, leads))
 }
 
-/// The walks that the search has chosen and their forest, if they may be led together.
+/// The walks that the search has chosen, if they may be led together from a forest.
 pub(crate) fn course_of(
     facts: &Facts,
     known: &Known,
     field: &Field,
-    held: &Forest,
+    forest: &Forest,
     trials: &Vec<Trial>,
-) -> Result<Option<Course>, AllocError>
+) -> Result<Option<Vec<Lead>>, AllocError>
     requires known { IsKnown facts.now known.now }
     requires field { IsFieldOf facts.now.shape field.now }
-    requires forest { KeepsForest facts.now held.now }
-    ensures { IfOk result (λ found. IfSome found (λ c. CanLead facts.now field.now c.forest c.leads.items)) }
+    requires forest { KeepsForest facts.now forest.now }
+    ensures { IfOk result (λ found. IfSome found (λ leads. CanLead facts.now field.now forest.now leads.items)) }
 {
-    let alloc = known.alloc();
-    let forest = walk_forest(alloc, facts, held, trials)?;
-    let leads = leads_of(alloc, &forest, trials)?;
-    if may_lead(facts, known, field, &forest, &leads)? {
-        return Ok(Some(Course { forest, leads }));
+    let leads = leads_of(known.alloc(), forest, trials)?;
+    if may_lead(facts, known, field, forest, &leads)? {
+        return Ok(Some(leads));
     }
     Ok(None)
 }

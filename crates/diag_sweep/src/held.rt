@@ -36,6 +36,13 @@ pub(crate) fn forget(held: &mut HeldForest) {
     held.round = 0;
 }
 
+/// The same, where something was planted besides.
+pub(crate) fn forget_where(held: &mut HeldForest, planted: bool) {
+    if planted {
+        forget(held);
+    }
+}
+
 // A crosspoint at a place.
 fn cross_at(crosses: &[Cross], place: usize) -> Cross
     requires { place < length crosses.now }

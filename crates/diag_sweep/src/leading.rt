@@ -8,10 +8,10 @@ ghost use Rattle.diag_evidence.specs.Forests.{KeepsForest};
 ghost use Rattle.diag_sweep.specs.Marks.{AreMarksFor};
 ghost use Rattle.diag_sweep.specs.Stages.{Goes, IsHand, Settles, in_hand};
 
-use crate::branching::course_of;
+use crate::branching::{course_of, plant_ends};
 use crate::budget::LoadBudget;
 use crate::defect_marks::DefectMarks;
-use crate::held::hold;
+use crate::held::{forget_where, hold};
 use crate::informing::note_walks;
 use crate::sweep_state::SweepState;
 use diag_evidence::Facts;
@@ -45,18 +45,18 @@ fn lead_load(
     ensures advances { Advances (rig_state rig.old) (rig_state rig.new) facts.old facts.new }
     ensures cause { IsErrOf result RigFail.Failed → Rose (rig_state rig.old).failures (rig_state rig.new).failures }
 {
-    let held = &state.held.forest;
+    let forest = &state.held.forest;
     let trials = &state.search.walking.trials;
-    let Ok(found) = course_of(facts, known, field, held, trials) else {
+    let Ok(found) = course_of(facts, known, field, forest, trials) else {
         return Err(RigFail::Memory);
     };
-    let Some(course) = found else {
+    let Some(leads) = found else {
         return Ok(());
     };
     if !state.budget.can_pay(rig, 1) {
         return Ok(());
     }
-    facts.test_paths(rig, &course.forest, &course.leads, &mut bad.stuck)
+    facts.test_paths(rig, forest, &leads, &mut bad.stuck)
 }
 
 // Takes loads in for the crosspoints of a walk that were undecided and aren't any more.
@@ -106,8 +106,11 @@ fn lead_turn(
     let Ok(()) = hold(&mut state.held, known.alloc(), facts, &state.search.forest) else {
         return Err(RigFail::Memory);
     };
+    let planted = plant_ends(&mut state.held.forest, facts, &state.search.walking.trials);
     let before = rig.loads();
     lead_load(rig, facts, known, bad, field, state)?;
+    // Pins are planted for the walks of one load: the next ones may lead over them.
+    forget_where(&mut state.held, planted);
     settle_walks(&mut state.budget, facts, bad, &state.search.walking.trials);
     if rig.loads() == before {
         return Ok(false);

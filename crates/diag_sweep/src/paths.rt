@@ -12,12 +12,13 @@ use diag_search::Trial;
 use machine_shape::{Cross, Shape, Wire};
 use std::alloc::{AllocError, Global};
 
-// Whether a crosspoint leads from one wire to another.
-fn leads_to(shape: &Shape, from: Wire, cross: Cross, to: Wire) -> bool
+// Whether a crosspoint, of so many, leads from one wire to another.
+fn leads_to(shape: &Shape, most: u32, from: Wire, cross: Cross, to: Wire) -> bool
+    requires { most ≡ crosses_of shape.now }
     ensures cross { IsTrue result → cross.0 < crosses_of shape.now }
     ensures ends { IsTrue result → Ends (ends_of shape.now cross.0) from.0 to.0 }
 {
-    if cross.0 >= shape.crosses() {
+    if cross.0 >= most {
         return false;
     }
     let (tap, line) = shape.ends(cross);
@@ -41,10 +42,11 @@ fn is_walk(shape: &Shape, lead: &Lead) -> bool
     if wires != crosses + 1 {
         return false;
     }
+    let most = shape.crosses();
     'steps: for k in 0..crosses {
         let from = lead.wire_at(k);
         let to = lead.wire_at(k + 1);
-        if !leads_to(shape, from, lead.cross_at(k), to) {
+        if !leads_to(shape, most, from, lead.cross_at(k), to) {
             return false;
         }
     }
@@ -162,12 +164,11 @@ fn may_try(facts: &Facts, field: &Field, c: Cross) -> bool
     requires { IsFieldOf facts.now.shape field.now }
     ensures { IsTrue result → MayTry facts.now field.now c.0 }
 {
-    let shape = facts.shape();
-    if c.0 >= shape.crosses() {
-        return false;
-    }
-    if facts.keeps_cross(c) {
+    if facts.has_kept(c) {
         return true;
+    }
+    if c.0 >= field.crosses.len() {
+        return false;
     }
     field.crosses.has(c.0)
 }
@@ -211,9 +212,9 @@ fn pin_under(forest: &Forest, w: Wire) -> u32 {
 
 /// A walk of the search as the test takes it.
 pub(crate) fn lead_of(alloc: Global, forest: &Forest, trial: &Trial) -> Result<Lead, AllocError> {
-    let mut wires = Vec::new(alloc);
-    let mut crosses = Vec::new(alloc);
     let count = trial.walk.crosses.len();
+    let mut wires = Vec::with_capacity(alloc, count.saturating_add(1))?;
+    let mut crosses = Vec::with_capacity(alloc, count)?;
     wires.push(trial.walk.wire(0))?;
     'places: for place in 0..count {
         let foot = trial.walk.foot(place);
