@@ -15,9 +15,11 @@ ghost use Rattle.machine_shape.specs.Shape.{crosses_of, tables_of};
 ghost use Rattle.machine_config.specs.Configuration.{IsConfiguration, cleared, is_closed, setting_of, with_closed, with_open, with_setting};
 ghost use Rattle.machine_config.specs.Configuration.{with_ticks, with_bit, with_cell};
 
+mod alike;
 pub mod laws;
 mod lists;
 
+pub use alike::{are_same, count_alike};
 use base_bits::BitSet;
 use lists::{open_all, place_of, switch_all_off};
 use machine_shape::{Cross, Shape, Table};

@@ -1,9 +1,9 @@
 -- A simulated machine and its session.
-use Rattle.std.specs.Prelude.{◌≡◌, true, if◌then◌else◌, Option, Some, None, List, length}
+use Rattle.std.specs.Prelude.{◌≡◌, true, if◌then◌else◌, Option, Some, None, List, length, map}
 use Rattle.machine_meaning.specs.Faults.{Faults, AreFaultsOf}
 use Rattle.machine_config.specs.Configuration.{Configuration}
 use Rattle.rig.specs.Rig.{Exchange, Session, drives_of, readings_of}
-use Rattle.rig_simulated.specs.{declared.board.Board.Board, States.SimState, Tracks.HasRun}
+use Rattle.rig_simulated.specs.{declared.board.Board.Board, Building.cross_of, States.SimState, Tracks.HasRun}
 use Rattle.rig_simulated.specs.{declared.sim.Sim.TheInside.Inside, Boards.IsPrepared, Boards.IsLoaded, Stored.config_in, Stored.cycles_in}
 
 -- the configuration and the cycles that are kept
@@ -29,4 +29,5 @@ pub record IsSim (a : Inside) : Type 0 where
   pub sound : AreFaultsOf a.faults.shape a.faults.faults
   pub prepared : IsPrepared a.faults.shape a.faults.faults a.board
   pub as_many : length a.drives.items ≡ length a.readings.items
+  pub listed : map cross_of a.board.classes.closed.items ≡ a.closed.items
   pub running : a.running ≡ true → IsRunning a.faults.faults (config_of_sim a) (cycles_of_sim a) a.board

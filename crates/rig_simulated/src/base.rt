@@ -64,6 +64,7 @@ fn close_stuck(knots: &mut [ClassNode], faults: &FaultSet)
 pub fn classes_of(alloc: Global, faults: &FaultSet) -> Result<Classes, AllocError>
     ensures closed { IfOk result (λ c. AreClosedBy faults.now.shape faults.now.faults c.closed.items c.knots.items) }
     ensures len { IfOk result (λ c. length c.knots.items ≡ wires_of faults.now.shape) }
+    ensures none { IfOk result (λ c. c.closed.items ≡ []) }
 {
     let mut knots = lone_nodes(alloc, faults)?;
     bridge_all(&mut knots, faults);

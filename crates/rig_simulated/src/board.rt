@@ -1,10 +1,11 @@
 //! A machine that is prepared for its faults, and loaded.
 
-ghost use Rattle.std.specs.Prelude.{◌≡◌, ℕ, ◌<◌, Some, None, OnOk, IfOk, length, All, unwrap_or};
+ghost use Rattle.std.specs.Prelude.{◌≡◌, ℕ, ◌<◌, Some, None, OnOk, IfOk, [], length, map, All, unwrap_or};
 ghost use Rattle.machine_shape.specs.Shape.{wires_of, tables_of, pins_of, table_wire};
-ghost use Rattle.machine_config.specs.Vocabulary.{Configuration, setting_of, circuit_of, at_load};
+ghost use Rattle.machine_config.specs.Vocabulary.{Configuration, setting_of, set_of, circuit_of, at_load};
 ghost use Rattle.rig_simulated.specs.Classes.{HasRoots, AreRooted};
 ghost use Rattle.rig_simulated.specs.Boards.{HasPins, ArePinsOf, IsPrepared, IsLoaded};
+ghost use Rattle.rig_simulated.specs.Building.{cross_of};
 ghost use Rattle.rig_simulated.specs.Gates.{Fits, IsGate, AreGates, AreOutputs};
 ghost use Rattle.rig_simulated.specs.Tracked.{IsTracked};
 
@@ -21,7 +22,7 @@ use crate::stuck::stuck_marks;
 use base_bits::BitSet;
 use machine_config::{Config, Setting};
 use machine_faults::FaultSet;
-use machine_shape::{Pin, Shape, Table};
+use machine_shape::{Cross, Pin, Shape, Table};
 use std::alloc::{AllocError, Global};
 
 /// What is kept of a machine: its wires in classes, which crosspoints are stuck, its tables that are on, its pins, and
@@ -143,7 +144,8 @@ fn fill_pins(pins: &mut Vec<u32>, knots: &[ClassNode], shape: Shape) -> Result<(
 
 /// A machine with these faults, with nothing loaded.
 pub fn prepare(alloc: Global, faults: &FaultSet) -> Result<Board, AllocError>
-    ensures { IfOk result (IsPrepared faults.now.shape faults.now.faults) }
+    ensures prepared { IfOk result (IsPrepared faults.now.shape faults.now.faults) }
+    ensures none { IfOk result (λ b. b.classes.closed.items ≡ []) }
 {
     let shape = faults.shape();
     let wires = shape.wires() as usize;
@@ -196,19 +198,33 @@ fn load_pins(
     Ok(())
 }
 
-/// Loads a configuration. Its cost grows with what is closed otherwise than before, with what is on, with the pins, and,
+/// Loads a configuration. `closed` lists what is closed. Its cost grows with what is closed otherwise than before, with what is on, with the pins, and,
 /// where there are more than two ticks, with the longest way through combinational tables. If that is longer than the
 /// ticks, what the tables read is sorted.
-pub fn load(board: &mut Board, faults: &FaultSet, config: &Config) -> Result<(), AllocError>
+pub fn load(
+    board: &mut Board,
+    closed: &mut Vec<Cross>,
+    faults: &FaultSet,
+    config: &Config,
+) -> Result<(), AllocError>
+    requires closed { map cross_of board.old.classes.closed.items ≡ closed.old.items }
     requires prepared { IsPrepared faults.now.shape faults.now.faults board.old }
     requires shape { config.now.config.shape ≡ faults.now.shape }
+    ensures closed { map cross_of board.new.classes.closed.items ≡ closed.new.items }
+    ensures set { OnOk result (set_of closed.new.items ≡ config.now.config.closed) }
     ensures prepared { IsPrepared faults.now.shape faults.now.faults board.new }
     ensures loaded { OnOk result (IsLoaded faults.now.faults config.now.config board.new) }
     ensures first { OnOk result (AreOutputs config.now.config board.new.gates.items
         (at_load (circuit_of faults.now.faults config.now.config))) }
 {
     let shape = config.shape();
-    close_all(&mut board.classes, &board.stuck, faults, config.closed())?;
+    close_all(
+        &mut board.classes,
+        closed,
+        &board.stuck,
+        faults,
+        config.closed(),
+    )?;
     fill_gates(&mut board.gates, faults, &board.classes.knots, config)?;
     load_pins(
         &mut board.kept,

@@ -8,24 +8,10 @@ ghost use Rattle.rig_simulated.specs.Stuck.{AreStuck};
 
 use crate::classes::{Classes, Closed, hang, part, root_of, tie_of};
 use base_bits::BitSet;
+use machine_config::count_alike;
 use machine_faults::FaultSet;
 use machine_shape::Cross;
 use std::alloc::AllocError;
-
-/// How many crosspoints come first in both.
-fn count_alike(closed: &[Closed], crosses: &[Cross]) -> usize
-    ensures closed { result ≤ length closed.now }
-    ensures crosses { result ≤ length crosses.now }
-    ensures alike { map cross_of (take result closed.now) ≡ take result crosses.now }
-{
-    let most = closed.len().min(crosses.len());
-    'places: for k in 0..most {
-        if closed[k].cross.0 != crosses[k].0 {
-            return k;
-        }
-    }
-    most
-}
 
 /// Opens what was closed last.
 fn open_last(classes: &mut Classes)
@@ -87,6 +73,7 @@ fn close_next(
     requires cross { cross.0 < crosses_of faults.now.shape }
     ensures closed { AreClosedBy faults.now.shape faults.now.faults classes.new.closed.items classes.new.knots.items }
     ensures more { OnOk result (map cross_of classes.new.closed.items ≡ map cross_of classes.old.closed.items ++ cross ∷ []) }
+    ensures kept { OnErr result (classes.new.closed.items ≡ classes.old.closed.items) }
 {
     if stuck.has(cross.0) {
         classes.closed.push(Closed { cross, tie: None })?;
@@ -97,26 +84,54 @@ fn close_next(
     Ok(())
 }
 
-/// Joins what these crosspoints join where they are closed and no others are. What was closed before is opened behind
-/// the crosspoints that come first in both lists.
+/// The same, with the list of what is closed.
+fn close_more(
+    classes: &mut Classes,
+    closed: &mut Vec<Cross>,
+    stuck: &BitSet,
+    faults: &FaultSet,
+    cross: Cross,
+) -> Result<(), AllocError>
+    requires closed { AreClosedBy faults.now.shape faults.now.faults classes.old.closed.items classes.old.knots.items }
+    requires same { map cross_of classes.old.closed.items ≡ closed.old.items }
+    requires stuck { AreStuck faults.now.shape faults.now.faults stuck.now }
+    requires cross { cross.0 < crosses_of faults.now.shape }
+    ensures closed { AreClosedBy faults.now.shape faults.now.faults classes.new.closed.items classes.new.knots.items }
+    ensures same { map cross_of classes.new.closed.items ≡ closed.new.items }
+    ensures more { OnOk result (closed.new.items ≡ closed.old.items ++ cross ∷ []) }
+{
+    closed.push(cross)?;
+    if close_next(classes, stuck, faults, cross).is_err() {
+        closed.pop();
+        return Err(AllocError);
+    }
+    Ok(())
+}
+
+/// Joins what these crosspoints join where they are closed and no others are, and lists them. What was closed and listed before is
+/// opened behind the crosspoints that come first in both lists.
 pub fn close_all(
     classes: &mut Classes,
+    closed: &mut Vec<Cross>,
     stuck: &BitSet,
     faults: &FaultSet,
     crosses: &[Cross],
 ) -> Result<(), AllocError>
     requires closed { AreClosedBy faults.now.shape faults.now.faults classes.old.closed.items classes.old.knots.items }
+    requires same { map cross_of classes.old.closed.items ≡ closed.old.items }
     requires stuck { AreStuck faults.now.shape faults.now.faults stuck.now }
     requires within { All (λ c. c.0 < crosses_of faults.now.shape) crosses.now }
     ensures closed { AreClosedBy faults.now.shape faults.now.faults classes.new.closed.items classes.new.knots.items }
-    ensures crosses { OnOk result (map cross_of classes.new.closed.items ≡ crosses.now) }
+    ensures same { map cross_of classes.new.closed.items ≡ closed.new.items }
+    ensures crosses { OnOk result (closed.new.items ≡ crosses.now) }
     ensures len { length classes.new.knots.items ≡ wires_of faults.now.shape }
     ensures rooted { AreRooted classes.new.knots.items }
 {
-    let count = count_alike(&classes.closed, crosses);
+    let count = count_alike(closed, crosses);
     open_behind(classes, count);
+    closed.truncate(count);
     'crosses: for i in count..crosses.len() {
-        close_next(classes, stuck, faults, crosses[i])?;
+        close_more(classes, closed, stuck, faults, crosses[i])?;
     }
     Ok(())
 }

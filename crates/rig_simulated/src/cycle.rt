@@ -184,6 +184,7 @@ pub fn cycle(board: &mut Board, faults: &FaultSet, ticks: u16, drive: &PinBits, 
     requires fitting { AreFitting faults.now.shape board.old }
     requires drive { length drive.now ≡ length board.old.pins.items }
     requires read { length read.old ≡ length board.old.pins.items }
+    ensures classes { board.new.classes ≡ board.old.classes }
     ensures prepared { IsPrepared faults.now.shape faults.now.faults board.new }
     ensures loaded { (g : Configuration) (before : Outputs) → g.shape ≡ faults.now.shape → g.ticks ≡ ticks →
         IsLoaded faults.now.faults g board.old → AreOutputs g board.old.gates.items before → IsLoaded faults.now.faults g board.new }

@@ -21,7 +21,7 @@ use std::marker::Model;
 pub struct Sim {
     faults: FaultSet,
     board: Board,
-    // The configuration, beside its tables, which the board has.
+    // The configuration, beside its tables, which the board has. What is closed stays listed from load to load.
     closed: Vec<Cross>,
     ticks: u16,
     // What was driven and read in each cycle, for proofs alone. So a cycle takes no memory.
@@ -80,9 +80,7 @@ impl Sim {
         self.running = false;
         self.drives = Log::new();
         self.readings = Log::new();
-        self.closed.clear();
-        load(&mut self.board, &self.faults, config)?;
-        self.closed.extend_from_slice(config.closed())?;
+        load(&mut self.board, &mut self.closed, &self.faults, config)?;
         self.room = u64::from(room);
         self.ticks = config.ticks();
         self.running = true;

@@ -1,7 +1,8 @@
 use Rattle.rig_simulated.proofs.Vocabulary.{rules, ◌≡◌, ◌<◌, ◌+◌, ◌∙◌, ℕ, Bool, List, All, length, sym, ap, subst, with_items}
 use Rattle.rig_simulated.proofs.Vocabulary.{with_items_is, Shape, Cross, wires_of, tables_of, crosses_of, pins_of, stuck_wire, ClassNode}
 use Rattle.rig_simulated.proofs.Vocabulary.{Gate, base_most, closed_net, HasRoots, AreTied, ArePinsOf, Fits, AreGates, Settles, AreEvents}
-use Rattle.rig_simulated.proofs.Vocabulary.{IsTracked}
+use Rattle.rig_simulated.proofs.Vocabulary.{IsTracked, set_of}
+use Rattle.rig_simulated.proofs.Sessions.{closed_is}
 use Rattle.rig_simulated.proofs.{Counts.closed_below, Counts.among_closed, Loading.wired_by, Undoing.closed_now}
 use Rattle.rig_simulated.proofs.board.load.Goals as goal
 
@@ -16,7 +17,7 @@ returns-clause-loaded c =
     let m : Shape = c.args.faults.now.shape in
     let knots : List ClassNode = c.close_all.new.classes.knots.items in
     let n : ℕ = base_most + length c.close_all.new.classes.closed.items in
-    let t = subst (λ (l : List Cross). AreTied (closed_net m f l) (stuck_wire f) knots n) c.in_ok-close_all.ensures.crosses (closed_now m f c.close_all.new.classes.closed.items knots c.close_all.ensures.closed) in
+    let t = subst (λ (l : List Cross). AreTied (closed_net m f l) (stuck_wire f) knots n) (c.close_all.ensures.same ∙ c.in_ok-close_all.ensures.crosses) (closed_now m f c.close_all.new.classes.closed.items knots c.close_all.ensures.closed) in
     let same : c.shape-shape.result ≡ m = c.shape-shape.ensures.shape ∙ c.requires.shape in
     let low_is : (with_items c.args.board.now.low_pins c.load_pins.new.low).items ≡ c.load_pins.new.low = with_items_is c.args.board.now.low_pins c.load_pins.new.low (search rules) in
     let gates_are = subst (λ (ks : List ClassNode). (most : ℕ) (root : ℕ → ℕ) → HasRoots ks most root → AreGates f g root c.fill_gates.new.gates.items) c.deref.ensures.value c.in_ok-fill_gates.ensures.gates in
@@ -33,3 +34,6 @@ returns-clause-loaded c =
           (c.in_ok-load_pins.ensures.len ∙ ap pins_of same) pins_are;
       settles = λ e. subst (λ (gs : List Gate). Settles gs g.ticks) c.deref-3.ensures.value (subst (λ (n : ℕ). Settles c.deref-3.result.now n) c.ticks.ensures (c.in_ok-board.ensures.settles e));
     }
+
+pub returns-clause-set : goal.returns-clause-set
+returns-clause-set c = ap set_of c.in_ok-close_all.ensures.crosses ∙ closed_is c.args.config.now.config c.closed.result.now c.closed.ensures

@@ -2,8 +2,8 @@ use Rattle.rig_simulated.proofs.Vocabulary.{rules, ◌∙◌, ap, true, length, 
 use Rattle.rig_simulated.proofs.Tracking.{clear_all, driven_none}
 use Rattle.rig_simulated.proofs.board.prepare.Goals as goal
 
-pub returns : goal.returns
-returns c = record {
+pub returns-clause-prepared : goal.returns-clause-prepared
+returns-clause-prepared c = record {
   closed = c.in_ok-classes.ensures.closed;
   knots = search rules;
   stuck = c.in_ok-stuck.ensures;

@@ -4,5 +4,6 @@ use Rattle.rig_simulated.proofs.closing.close_all.Given as goal
 abbrev pub invariant-crosses : goal.invariant-crosses
 invariant-crosses l = record {
   closed : AreClosedBy l.faults.shape l.faults.faults l.classes.closed.items l.classes.knots.items;
-  crosses : map cross_of l.classes.closed.items ≡ take l.i l.crosses;
+  same : map cross_of l.classes.closed.items ≡ l.closed.items;
+  crosses : l.closed.items ≡ take l.i l.crosses;
 }

@@ -1,4 +1,5 @@
-use Rattle.std.proofs.Common.{rules, length}
+use Rattle.std.proofs.Common.{rules, ◌∙◌, ap, length, map}
+use Rattle.rig_simulated.specs.{declared.classes.Classes.Classes, Building.cross_of}
 use Rattle.rig_simulated.proofs.Going.{is_running, pins_count, fitting, goes_on, as_many, went_on}
 use Rattle.rig_simulated.proofs.sim.Sim.cycle.Goals as goal
 
@@ -18,6 +19,7 @@ invariant_of-self c =
       sound = c.self.invariant.sound;
       prepared = c.cycle.ensures.prepared;
       as_many = as_many c.self.inside c.cycle.new.board c.args.drive.now c.cycle.new.read _ _ c.self.invariant running c.cycle.ensures.loaded c.cycle.ensures.cycled (search rules) (search rules);
+      listed = ap (λ (cs : Classes). map cross_of cs.closed.items) c.cycle.ensures.classes ∙ c.self.invariant.listed;
       running = λ _. goes_on c.self.inside c.cycle.new.board c.args.drive.now c.cycle.new.read _ _ c.self.invariant running c.cycle.ensures.loaded c.cycle.ensures.cycled (search rules) (search rules);
     }
 
