@@ -5,7 +5,7 @@ use Rattle.std.specs.Bool.{Decides}
 use Rattle.diag_evidence.proofs.Vocabulary.{Cross}
 use Rattle.diag_evidence.proofs.forest_config.are_same.Goals as goal
 
-numbered : ℕ → Cross
+abbrev numbered : ℕ → Cross
 numbered n = record { 0 = n }
 
 same_cross : (a b : Cross) → Decides (a.0 == b.0) (a ≡ b)
