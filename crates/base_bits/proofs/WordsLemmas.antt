@@ -1,8 +1,10 @@
 -- Bits of words, read and written.
-use Rattle.std.proofs.Common.{◌≡◌, ◌≢◌, ℕ, ◌+◌, ◌*◌, ◌/◌, ◌%◌, ◌<◌, ◌≤◌, ◌==◌, Bool, false, List, length, get_or, sym, ap, ◌∙◌, arith, replicate, inl, inr}
-use Rattle.std.proofs.{Math.ListN.set, Math.ListN.length-set, Math.ListN.get_or-eq_default, lemmas.Nat.Bits.bit_at-zero}
-use Rattle.std.specs.Int.{bit_at}
-use Rattle.std.proofs.lemmas.{Bool.cases_lt, Bool.cases_eq, List.FromFn.length-map-range_with_len, List.FromFn.get_or-map-range_with_len}
+use Rattle.std.proofs.Common.{◌≡◌, ◌≢◌, ℕ, ◌+◌, ◌*◌, ◌/◌, ◌%◌, ◌<◌, ◌≤◌, ◌^◌, ◌==◌, Bool, true, false, List, length, get_or, sym, ap, ◌∙◌, arith, replicate, inl, inr}
+use Rattle.std.proofs.{Math.ListN.set, Math.ListN.length-set, Math.ListN.get_or-eq_default}
+use Rattle.std.proofs.lemmas.Nat.Bits.{bit_at-zero, bit_at_and, bit_at_not}
+use Rattle.std.specs.Int.{bit_at, bit_not, w64}
+use lib.Bits.{bit_and}
+use Rattle.std.proofs.lemmas.{Bool.cases_lt, Bool.cases_eq, Bool.eqb-true, Bool.false≢true, List.FromFn.length-map-range_with_len, List.FromFn.get_or-map-range_with_len}
 use Rattle.std.proofs.lemmas.List.{same_lists, length-replicate, get_or-replicate, get_or-set_same, get_or-set_other}
 use Rattle.base_bits.specs.Words.{is_bit, is_bit_in, bits_of}
 
@@ -85,3 +87,26 @@ module _ (words : List ℕ) (i word : ℕ) (bit : Bool) (len : ℕ) (inside : i 
             ∙ sym (ap (λ j. get_or (set (bits_of len words) i bit) j d) e ∙ get_or-set_same (bits_of len words) i bit d (omega (arith, length-bits_of len words)))
         | inr differ ↦ other_bit k differ ∙ sym (get_or-set_other (bits_of len words) i k bit d differ ∙ get_or-bits_of len words k d within)
       ])
+
+-- a word has no bit that the other hasn't
+pub part_of : (word other k : ℕ) → other < 2 ^ 64 → (bit_and word (bit_not w64 other) == 0) ≡ true → k < 64 → is_bit word k ≡ true → is_bit other k ≡ true
+part_of word other k fits none within on =
+    let both = bit_at_and word (bit_not w64 other) k in
+    let turned = bit_at_not w64 other k fits within in
+    let zero = ap (λ n. bit_at n k) (eqb-true (bit_and word (bit_not w64 other)) 0 none) ∙ bit_at-zero k in
+    let one : bit_at word k ≡ 1 = eqb-true (bit_at word k) 1 on in
+    ap (λ n. n == 1) (let so : bit_at other k ≡ 1 = omega (arith, both, turned, zero, one) in so)
+
+-- .. of two lists of words, where that holds of the words at one place
+pub part_at : (words others : List ℕ) (i k : ℕ) → ((j : ℕ) → j < 64 → is_bit (get_or words k 0) j ≡ true → is_bit (get_or others k 0) j ≡ true) → i / 64 ≡ k → is_bit_in words i ≡ true → is_bit_in others i ≡ true
+part_at words others i k part at on =
+    ap (λ r. is_bit (get_or others r 0) (i % 64)) at
+    ∙ part (i % 64) (omega arith) (ap (λ r. is_bit (get_or words r 0) (i % 64)) (sym at) ∙ on)
+
+-- .. and of two lists of bits of one length
+pub part_in : (words others : List ℕ) (len i : ℕ) → (is_bit_in words i ≡ true → is_bit_in others i ≡ true) → get_or (bits_of len words) i false ≡ true → get_or (bits_of len others) i false ≡ true
+part_in words others len i part on =
+    elim (cases_lt i len) [
+      | inl within ↦ get_or-bits_of len others i false within ∙ part (sym (get_or-bits_of len words i false within) ∙ on)
+      | inr past ↦ absurd (false≢true (sym (get_or-eq_default (bits_of len words) false (omega (arith, past, length-bits_of len words))) ∙ on))
+    ]

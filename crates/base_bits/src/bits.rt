@@ -1,7 +1,7 @@
 //! A list of bits, 64 to a word.
 
-ghost use Rattle.std.specs.Prelude.{◌≡◌, ◌≢◌, ℕ, ◌*◌, ◌/◌, ◌%◌, ◌-◌, ◌+◌, ◌<◌, ◌≤◌, ◌==◌, false, Bool, List, length, replicate};
-ghost use Rattle.std.specs.Prelude.{IfOk, slice_set, slice_index, slice_index_or};
+ghost use Rattle.std.specs.Prelude.{◌≡◌, ◌≢◌, ℕ, ◌*◌, ◌/◌, ◌%◌, ◌-◌, ◌+◌, ◌<◌, ◌≤◌, ◌==◌, true, false, Bool, List, length, replicate};
+ghost use Rattle.std.specs.Prelude.{IfOk, IsTrue, slice_set, slice_index, slice_index_or};
 ghost use Rattle.base_bits.specs.Words.{is_bit, is_bit_in, bits_of};
 
 use std::alloc::{AllocError, Global};
@@ -60,7 +60,27 @@ fn bit_at(words: &[u64], i: u64) -> bool
     (word >> (i % WORD_BITS)) & 1 == 1
 }
 
-/// Clears some words.
+/// Whether a word has no bit that the other hasn't.
+fn is_part(word: u64, other: u64) -> bool
+    ensures { IsTrue result → (k : ℕ) → k < 64 → is_bit word k ≡ true → is_bit other k ≡ true }
+{
+    word & !other == 0
+}
+
+// Whether a word of some words has no bit that the same word of others hasn't.
+fn is_part_at(words: &[u64], others: &[u64], k: usize) -> bool
+    ensures { IsTrue result → (i : ℕ) → i / 64 ≡ k → is_bit_in words.now i ≡ true → is_bit_in others.now i ≡ true }
+{
+    if k >= words.len() {
+        return false;
+    }
+    if k >= others.len() {
+        return false;
+    }
+    is_part(words[k], others[k])
+}
+
+// Clears some words.
 fn clear_words(words: &mut [u64])
     ensures none { (k : ℕ) → slice_index words.new k ≡ 0 }
     ensures len { length words.new ≡ length words.old }
@@ -108,5 +128,23 @@ impl Bits {
         ensures { self.new ≡ replicate (length self.old) false }
     {
         clear_words(&mut self.words);
+    }
+    /// True only where each bit of a word that is set here is set in the other list, which has the same length.
+    pub fn is_word_within(&self, other: &Bits, k: usize) -> bool
+        requires { length other.now ≡ length self.now }
+        ensures { IsTrue result → (i : ℕ) → i / 64 ≡ k → slice_index_or self.now i false ≡ true → slice_index_or other.now i false ≡ true }
+    {
+        is_part_at(&self.words, &other.words, k)
+    }
+
+    /// The same bits once more. Wants memory.
+    pub fn copied(&self, alloc: Global) -> Result<Bits, AllocError>
+        ensures { IfOk result (λ bits. bits ≡ self.now) }
+    {
+        let words = Vec::from_slice(alloc, self.words.as_slice())?;
+        Ok(Bits {
+            len: self.len,
+            words,
+        })
     }
 }

@@ -418,21 +418,6 @@ number_below marks x is = by (dec_lt x (length marks))
     by (yes h) = h
     by (no h) = let past : length marks ≤ x = omega arith in absurd (false≢true (sym (get_or_past marks x false past) ∙ is))
 
--- of both are those that are so below the last number, and beyond it there is none
-pub both_all : (other old now : List Bool) (n : ℕ) → length old ≤ n → ((u : ℕ) → u < n → has_number now u ≡ (has_number other u && has_number old u)) →
-    ((u : ℕ) → n ≤ u → has_number now u ≡ has_number old u) → (u : ℕ) → has_number now u ≡ (has_number other u && has_number old u)
-both_all other old now n few done rest u = by (dec_lt u n)
-  where
-    none : (b : Bool) → (b && false) ≡ false
-    none true = refl
-    none false = refl
-
-    by : Dec (u < n) → has_number now u ≡ (has_number other u && has_number old u)
-    by (yes h) = done u h
-    by (no h) =
-        let off = get_or_past old u false (omega (arith, few, h)) in
-        rest u (omega (arith, h)) ∙ off ∙ sym (ap (λ t. has_number other u && t) off ∙ none (has_number other u))
-
 -- a table of the machine, whichever way the facts are read
 pub table_within : {k l : Kept} {t : ℕ} → k ≡ l → t < tables_of l.shape → t < tables_of k.shape
 table_within {t = t} same within = subst (λ (k : Kept). t < tables_of k.shape) (sym same) within

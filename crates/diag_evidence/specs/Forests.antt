@@ -2,6 +2,7 @@
 use Rattle.std.specs.Prelude.{◌≡◌, ◌≢◌, ℕ, ◌<◌, Bool, true, Option, Some, None, IsSome, is_some, List, [], ◌∷◌, ◌++◌, length, replicate}
 use Rattle.std.specs.Prelude.{slice_index_or, slice_set, refl}
 use Rattle.std.specs.Coded.{Coded, code_by, coded×, coded_ℕ, coded_list, coded_option}
+use Rattle.base_bits.specs.Numbers.{has_number}
 use Rattle.machine_shape.specs.contracts.Shape as shape
 use Rattle.machine_shape.specs.declared.{Shape.Shape, Cross.Cross}
 use Rattle.machine_shape.specs.Shape.{Ends, ends_of, pin_wire, pins_of, wires_of, crosses_of}
@@ -33,6 +34,11 @@ HangsOn trees w pin = pin_of trees w ≡ Some pin
 
 abbrev pub is_hung : Trees → ℕ → Bool
 is_hung trees w = is_some (pin_of trees w)
+
+-- marks of the wires that hang
+pub record MarksHung (trees : Trees) (marks : List Bool) : Type 0 where
+  pub len : length marks ≡ wires_of trees.shape
+  pub each : (w : ℕ) → has_number marks w ≡ is_hung trees w
 
 -- whether a crosspoint is one of the forest's
 abbrev pub is_laid : Trees → ℕ → Bool

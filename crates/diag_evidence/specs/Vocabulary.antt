@@ -13,8 +13,8 @@ pub use Rattle.diag_evidence.specs.Tables.{CellPassesBy, IsCellBy, IsTableBy, Is
 pub use Rattle.diag_evidence.specs.Leads.{BranchFrom, ClosesAlong, HasLed, IsLead, IsLeadOf, KnowsLeads, MarksStuck, ShowsLed, StuckIf}
 pub use Rattle.diag_evidence.specs.Leads.{arrives, closes_along, crosses_along, crosses_of_leads, ends_on, held_up_at, is_met, is_only_unkept}
 pub use Rattle.diag_evidence.specs.Leads.{led_over, loose_along, these_crosses, wires_along, wires_of_leads}
-pub use Rattle.diag_evidence.specs.Forests.{CanLay, HangsOn, IsForest, IsLedOver, IsOfTree, KeepsForest, KnowsForest, Trees, bare, is_hung}
-pub use Rattle.diag_evidence.specs.Forests.{is_laid, pin_of, with_laid, with_planted}
+pub use Rattle.diag_evidence.specs.Forests.{CanLay, HangsOn, IsForest, IsLedOver, IsOfTree, KeepsForest, KnowsForest, MarksHung, Trees, bare}
+pub use Rattle.diag_evidence.specs.Forests.{is_hung, is_laid, pin_of, with_laid, with_planted}
 pub use Rattle.diag_evidence.specs.Looks.{AreSights, IsLook, IsLookOf, LogsLook, ReadsEach, ShowsSeen, Sights, differ}
 pub use Rattle.diag_evidence.specs.Looks.{look_drives, none_driven, one_driven, parts, read_at, read_free, read_under, reads_somewhere}
 pub use Rattle.diag_evidence.specs.Looks.{hangs_swinging, joins_alone, parts_from_others, seen_in, swings}

@@ -1,9 +1,11 @@
 //! Wires that hang on pins of the machine.
-ghost use Rattle.std.specs.Prelude.{◌≡◌, ◌≢◌, ◌<◌, ◌≤◌, ℕ, true, false, IsTrue, IfOk, OnErr};
+ghost use Rattle.std.specs.Prelude.{◌≡◌, ◌≢◌, ◌<◌, ◌≤◌, ℕ, true, false, IsTrue, IfOk, OnErr, length};
+ghost use Rattle.base_bits.specs.Numbers.{has_number};
 ghost use Rattle.machine_shape.specs.Shape.{Ends, ends_of, pin_wire, crosses_of, wires_of, pins_of};
 ghost use Rattle.diag_evidence.specs.Forests.{IsForest, KeepsForest, CanLay, bare, with_planted, with_laid, pin_of, is_hung};
 
 use crate::Facts;
+use base_bits::BitSet;
 use machine_shape::{Cross, Pin, Shape, Wire, the_numbering_is_sound};
 use std::alloc::{AllocError, Global};
 use std::marker::Model;
@@ -69,12 +71,14 @@ pub struct Forest {
     // For each wire the pin on which it hangs.
     pins: Vec<Option<u32>>,
     crosses: Vec<Cross>,
+    // The wires that hang, so that a set is compared with them word by word.
+    hung: BitSet,
 }
 
 impl Model for Forest {
     ghost use Rattle.std.specs.Prelude.{ℕ, ◌<◌, ◌≤◌};
     ghost use Rattle.machine_shape.specs.Shape.{pins_of, pin_wire};
-    ghost use Rattle.diag_evidence.specs.Forests.{Trees, IsForest, coded_trees};
+    ghost use Rattle.diag_evidence.specs.Forests.{Trees, IsForest, MarksHung, coded_trees};
 
     ghost Value = { Trees };
 
@@ -83,7 +87,8 @@ impl Model for Forest {
     ghost view = { λ t. record { shape = t.shape; pins = t.pins.items; crosses = t.crosses.items } };
 
     ghost invariant = { λ t. IsForest (record { shape = t.shape; pins = t.pins.items; crosses = t.crosses.items })
-        × ((k : ℕ) → k < pins_of t.shape → pin_wire t.shape k ≤ t.last_pin) };
+        × ((k : ℕ) → k < pins_of t.shape → pin_wire t.shape k ≤ t.last_pin)
+        × MarksHung (record { shape = t.shape; pins = t.pins.items; crosses = t.crosses.items }) t.hung };
 }
 
 impl Forest {
@@ -91,11 +96,14 @@ impl Forest {
     pub fn new(alloc: Global, shape: &Shape) -> Result<Forest, AllocError>
         ensures { IfOk result (λ trees. trees ≡ bare shape.now) }
     {
+        let pins = vec![in alloc; None; shape.wires() as usize]?;
+        let hung = BitSet::new(alloc, shape.wires())?;
         Ok(Forest {
             shape: *shape,
             last_pin: last_pin(*shape),
-            pins: vec![in alloc; None; shape.wires() as usize]?,
+            pins,
             crosses: Vec::new(alloc),
+            hung,
         })
     }
 
@@ -116,6 +124,7 @@ impl Forest {
         the_numbering_is_sound();
         let wire = self.shape.pin(Pin(pin));
         self.pins[wire.0 as usize] = Some(pin);
+        self.hung.insert(wire.0);
     }
 
     // Whether `lay` would lay this.
@@ -168,6 +177,7 @@ impl Forest {
         }
         self.crosses.push(cross)?;
         self.pins[to.0 as usize] = self.pins[from.0 as usize];
+        self.hung.insert(to.0);
         Ok(true)
     }
 
@@ -185,12 +195,22 @@ impl Forest {
     {
         let crosses = Vec::from_slice(alloc, self.crosses.as_slice())?;
         let pins = Vec::from_slice(alloc, self.pins.as_slice())?;
+        let hung = self.hung.copied(alloc)?;
         Ok(Forest {
             shape: self.shape,
             last_pin: self.last_pin,
             pins,
             crosses,
+            hung,
         })
+    }
+
+    /// Which wires hang: a mark for each wire.
+    pub fn hung(&self) -> &BitSet
+        ensures len { length result.now ≡ wires_of self.now.shape }
+        ensures hung { (w : ℕ) → has_number result.now w ≡ is_hung self.now w }
+    {
+        &self.hung
     }
 
     /// The crosspoints of the forest.

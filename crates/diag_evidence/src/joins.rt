@@ -70,15 +70,7 @@ pub(crate) fn all_hang(set: &BitSet, forest: &Forest) -> bool
     requires { length set.now ≡ wires_of forest.now.shape }
     ensures { result ≡ all_hang set.now forest.now }
 {
-    'wires: for w in 0..forest.shape().wires() {
-        if !set.has(w) {
-            continue;
-        }
-        if forest.pin_of(Wire(w)).is_none() {
-            return false;
-        }
-    }
-    true
+    set.is_within(forest.hung())
 }
 
 impl Facts {

@@ -1,5 +1,5 @@
 //! The set of wires each two of which are a kept pair, and the wire on trial, with its row.
-ghost use Rattle.std.specs.Prelude.{◌≡◌, ◌≢◌, ◌<◌, ◌&&◌, ℕ, true, false, IsTrue, length};
+ghost use Rattle.std.specs.Prelude.{◌≡◌, ◌≢◌, ◌<◌, ℕ, true, false, IsTrue, length};
 ghost use Rattle.base_bits.specs.Numbers.{has_number};
 ghost use Rattle.machine_meaning.specs.Faults.{Faults};
 ghost use Rattle.machine_shape.specs.Shape.{wires_of};
@@ -27,20 +27,6 @@ fn has_all(row: &BitSet, set: &BitSet, wire: u32) -> bool
         }
     }
     true
-}
-
-// Takes out of a set what isn't in the other.
-fn keep_both(set: &mut BitSet, other: &BitSet)
-    requires { length other.now ≡ length set.old }
-    ensures both { (w : ℕ) → has_number set.new w ≡ (has_number other.now w && has_number set.old w) }
-    ensures len { length set.new ≡ length set.old }
-{
-    'wires: for w in 0..other.len() {
-        if other.has(w) {
-            continue;
-        }
-        set.remove(w);
-    }
 }
 
 impl Facts {
@@ -80,7 +66,7 @@ impl Facts {
         ensures retaken { HasRetaken wires.now self.old self.new }
         ensures explained { (f : Faults) → HoldsFor self.old f → HoldsFor self.new f }
     {
-        keep_both(&mut self.apart, wires);
+        self.apart.keep(wires);
         self.trial = None;
     }
 }

@@ -1,8 +1,7 @@
 -- Forests whose crosspoints are kept, and whose wires are known.
-use Rattle.std.proofs.Common.{◌≡◌, ◌≢◌, ℕ, ◌+◌, ◌<◌, ◌≤◌, Bool, true, false, Option, Some, None, List, [], length, refl, sym, ap, ◌∙◌, subst, arith, is_some}
-use Rattle.diag_sweep.proofs.Vocabulary.{false≢true, get_or_past, Shape, wires_of, KnownWires, HasWire, IsKnown, known_pair}
-use native.Mathlib.Decide.{dec_lt}
-use Rattle.diag_evidence.specs.Vocabulary.{Kept, keeps_wire, keeps_pair, Trees, IsForest, KeepsForest, KnowsForest, HangsOn, bare, is_hung, pin_of, with_planted}
+use Rattle.std.proofs.Common.{◌≡◌, ◌≢◌, ℕ, true, Option, Some, refl, sym, ap, subst, is_some}
+use Rattle.diag_sweep.proofs.Vocabulary.{false≢true, KnownWires, HasWire, IsKnown, known_pair}
+use Rattle.diag_evidence.specs.Vocabulary.{Kept, keeps_wire, keeps_pair, Trees, KeepsForest, KnowsForest, HangsOn, bare, is_hung, pin_of, with_planted}
 
 pub keeps_bare : {k : Kept} {trees : Trees} → trees ≡ bare k.shape → KeepsForest k trees
 keeps_bare {k} same = subst (KeepsForest k) (sym same) (record { shape = refl; crosses = λ x on. absurd (false≢true on) })
@@ -23,19 +22,3 @@ knows {k} {known} {trees} is keeps all = record {
   where
     kept : (w : ℕ) → HasWire known.steps w → keeps_wire k w ≡ true
     kept w h = subst (λ v. keeps_wire k v ≡ true) h.at.wire (is.steps h.place h.at.step h.at.here).kept
-
--- .. of all wires of the machine
-pub all_hung : {trees : Trees} {known : ℕ → Type 0} (n : ℕ) → IsForest trees → wires_of trees.shape ≤ n → ((w : ℕ) → w < n → is_hung trees w ≡ true → known w) → (w : ℕ) → is_hung trees w ≡ true → known w
-all_hung {trees} {known} n forest whole each w on = by (dec_lt w n)
-  where
-    by : Dec (w < n) → known w
-    by (yes h) = each w h on
-    by (no h) = absurd (false≢true (sym (ap is_some (get_or_past trees.pins w None (let len = forest.wires in omega (arith, h, whole, len)))) ∙ on))
-
--- one wire more was looked at
-pub one_hung : (trees : Trees) {known : ℕ → Type 0} (n : ℕ) → ((w : ℕ) → w < n → is_hung trees w ≡ true → known w) → (is_hung trees n ≡ true → known n) → (w : ℕ) → w < n + 1 → is_hung trees w ≡ true → known w
-one_hung trees {known} n each here w less on = by (dec_lt w n)
-  where
-    by : Dec (w < n) → known w
-    by (yes h) = each w h on
-    by (no h) = let same : n ≡ w = omega (arith, less, h) in subst known same (here (subst (λ i. is_hung trees i ≡ true) (sym same) on))

@@ -152,12 +152,5 @@ pub(crate) fn is_known(facts: &Facts, known: &Known, forest: &Forest) -> bool
     ensures knows { IsTrue result → KnowsForest facts.now forest.now }
     ensures all { IsTrue result → (w : ℕ) → is_hung forest.now w ≡ true → HasWire known.now.steps w }
 {
-    let shape = forest.shape();
-    let marks = known.wires();
-    'wires: for w in 0..shape.wires() {
-        if forest.pin_of(Wire(w)).is_some() && !marks.has(w) {
-            return false;
-        }
-    }
-    true
+    forest.hung().is_within(known.wires())
 }
