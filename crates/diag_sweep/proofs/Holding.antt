@@ -59,9 +59,9 @@ held_more more keeps = record { shape = keeps.shape ∙ sym more.shape; crosses 
 pub held_same : {k : Kept} {trees new : Trees} → new ≡ trees → KeepsForest k trees → KeepsForest k new
 held_same {k} same keeps = subst (KeepsForest k) (sym same) keeps
 
-pub held_retaken : {wires : List Bool} {k l : Kept} {trees : Trees} {T E : Type 0} (r : Result T E) → HasRetaken wires k l → OnOk r (KeepsForest k trees) → OnOk r (KeepsForest l trees)
-held_retaken (Ok v) ret keeps = record { shape = keeps.shape ∙ sym (retaken_shape ret); crosses = λ x on. retaken_cross ret x ∙ keeps.crosses x on }
-held_retaken (Err e) ret keeps = tt
+pub held_retaken : {wires : List Bool} (k l : Kept) (trees : Trees) {T E : Type 0} (r : Result T E) → HasRetaken wires k l → OnOk r (KeepsForest k trees) → OnOk r (KeepsForest l trees)
+held_retaken k l trees (Ok v) ret keeps = record { shape = keeps.shape ∙ sym (retaken_shape ret); crosses = λ x on. retaken_cross ret x ∙ keeps.crosses x on }
+held_retaken k l trees (Err e) ret keeps = tt
 
 pub held_tested : {k l : Kept} {trees : Trees} {T E : Type 0} (r : Result T E) → IsMore k l → KeepsForest k trees → OnOk r (KeepsForest l trees)
 held_tested (Ok v) more keeps = held_more more keeps

@@ -11,7 +11,7 @@ pub returns-then-loads-before-clause-goes : goal.returns-then-loads-before-claus
 returns-then-loads-before-clause-goes g c = let tested = c.lead_load.ensures.goes in goes_then tested (goes_settled tested.hand c.settle_walks.ensures)
 
 pub returns-clause-forest : goal.returns-clause-forest
-returns-clause-forest g c = held_same c.forget_where.ensures (held_more c.lead_load.ensures.advances.more c.plant_ends.ensures)
+returns-clause-forest g c = held_same c.forget_where.ensures (held_more c.lead_load.ensures.advances.more c.plant_ends-planted.ensures)
 
 pub returns-then-loads-before-clause-forest : goal.returns-then-loads-before-clause-forest
-returns-then-loads-before-clause-forest g c = held_same c.forget_where.ensures (held_more c.lead_load.ensures.advances.more c.plant_ends.ensures)
+returns-then-loads-before-clause-forest g c = held_same c.forget_where.ensures (held_more c.lead_load.ensures.advances.more c.plant_ends-planted.ensures)

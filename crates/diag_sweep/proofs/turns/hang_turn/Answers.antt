@@ -12,4 +12,4 @@ pub returns-clause-advances : goal.returns-clause-advances
 returns-clause-advances g c = advances_back c.requires.hand.all c.hang_test-tested.ensures.goes.grows c.wires.ensures.whole c.retake.ensures.retaken c.hang_test-tested.ensures.advances
 
 pub returns-clause-forest : goal.returns-clause-forest
-returns-clause-forest g c = held_retaken c.hang_test-tested.result c.retake.ensures.retaken c.hang_test-tested.ensures.forest
+returns-clause-forest g c = held_retaken _ _ _ c.hang_test-tested.result c.retake.ensures.retaken c.hang_test-tested.ensures.forest
